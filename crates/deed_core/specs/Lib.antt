@@ -1,0 +1,6 @@
+pub mod Extent
+pub mod Holding
+pub mod Tag
+pub mod Request
+pub mod Covering
+pub mod Weights

@@ -1,0 +1,53 @@
+//! Deeds that are numbers alone, for one thread.
+ghost use Rattle.std.specs.Prelude.{◌≡◌};
+ghost use Rattle.deed_core.specs.Extent.{IsRange};
+
+use crate::deeds::{Deed, Refused};
+use crate::ranges::Range;
+
+/// A deed that stands for a range by its numbers alone.
+pub struct PlainDeed {
+    root: u32,
+    range: Range,
+    ghost in_range: { IsRange range },
+}
+
+impl PlainDeed {
+    pub fn new(root: u32, range: Range) -> PlainDeed
+        ensures { ⟦<PlainDeed as Deed>⟧.holding result ≡ record { root = root; range = range } }
+    {
+        let _ = range.len();
+        PlainDeed { root, range }
+    }
+
+    /// Ends the deed.
+    pub fn close(self) -> Range
+        ensures { result ≡ (⟦<PlainDeed as Deed>⟧.holding self).range }
+    {
+        let PlainDeed { root: _, range } = self;
+        range
+    }
+}
+
+impl Deed for PlainDeed {
+    ghost holding = { λ d. record { root = d.root; range = d.range } };
+
+    fn root(&self) -> u32 {
+        self.root
+    }
+
+    fn range(&self) -> Range {
+        self.range
+    }
+
+    fn split(self, at: u64) -> Result<(PlainDeed, PlainDeed), Refused<PlainDeed>> {
+        let PlainDeed { root, range } = self;
+        let (low, high) = range.split_at(at);
+        Ok((PlainDeed::new(root, low), PlainDeed::new(root, high)))
+    }
+
+    fn join(self, next: PlainDeed) -> PlainDeed {
+        let PlainDeed { root, range } = self;
+        PlainDeed::new(root, range.join(next.close()))
+    }
+}
