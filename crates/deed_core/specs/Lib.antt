@@ -4,3 +4,4 @@ pub mod Tag
 pub mod Request
 pub mod Covering
 pub mod Weights
+pub mod Rows
