@@ -5,3 +5,4 @@ pub mod Request
 pub mod Covering
 pub mod Weights
 pub mod Rows
+pub mod Laws

@@ -1,6 +1,7 @@
 //! Deeds that are numbers alone, for one thread.
-ghost use Rattle.std.specs.Prelude.{◌≡◌};
-ghost use Rattle.deed_core.specs.Extent.{IsRange};
+ghost use Rattle.std.specs.Prelude.{◌≡◌, IsOk, IfOk, IfErr};
+ghost use Rattle.deed_core.specs.Extent.{IsRange, IsInside};
+ghost use Rattle.deed_core.specs.Holding.{low, high};
 
 use crate::deeds::{Deed, Refused};
 use crate::ranges::Range;
@@ -40,7 +41,13 @@ impl Deed for PlainDeed {
         self.range
     }
 
-    fn split(self, at: u64) -> Result<(PlainDeed, PlainDeed), Refused<PlainDeed>> {
+    /// A plain deed takes no memory, so its split is never refused.
+    fn split(self, at: u64) -> Result<(PlainDeed, PlainDeed), Refused<PlainDeed>>
+        requires { IsInside at (⟦<PlainDeed as Deed>⟧.holding self).range }
+        ensures ok { IfOk result (λ parts. (⟦<PlainDeed as Deed>⟧.holding parts.0 ≡ low at (⟦<PlainDeed as Deed>⟧.holding self)) × (⟦<PlainDeed as Deed>⟧.holding parts.1 ≡ high at (⟦<PlainDeed as Deed>⟧.holding self))) }
+        ensures err { IfErr result (λ refused. ⟦<PlainDeed as Deed>⟧.holding refused.deed ≡ ⟦<PlainDeed as Deed>⟧.holding self) }
+        ensures granted { IsOk result }
+    {
         let PlainDeed { root, range } = self;
         let (low, high) = range.split_at(at);
         Ok((PlainDeed::new(root, low), PlainDeed::new(root, high)))
