@@ -1,10 +1,8 @@
 -- Which ranges cover a unit.
-use Rattle.std.proofs.Common.{◌≡◌, ◌⊎◌, ℕ, ◌+◌, ◌-◌, ◌<◌, ◌≤◌, max, Bool, true, false, ◌&&◌, ltb, leb, sym, refl, ap, inl, inr, arith}
-use Rattle.std.specs.Prelude.{◌↔◌}
+use Rattle.std.proofs.Common.{◌≡◌, ◌⊎◌, ℕ, ◌+◌, ◌<◌, ◌≤◌, max, Bool, true, false, ltb, leb, refl, inl, inr, arith}
 use Rattle.std.proofs.lemmas.Bool.Decides.{nat_tests}
-use Rattle.deed_core.specs.Extent.{Extent, end_of, Covers, Overlap, IsInside, below, from, union}
-use Rattle.deed_core.specs.Covering.{covers, covers_held}
-use Rattle.deed_core.specs.Holding.{Holding, low, high, joined, GoesOn}
+use Rattle.deed_core.specs.Extent.{Extent, end_of, Overlap, below, from, union}
+use Rattle.deed_core.specs.Covering.{covers}
 use Rattle.deed_core.specs.Laws.{CountsTheUnit, OverlapCoversTwice, SplitKeepsUnits, JoinKeepsUnits}
 
 -- what the number says

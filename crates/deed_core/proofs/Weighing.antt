@@ -1,6 +1,6 @@
 -- What lists weigh.
-use Rattle.std.proofs.Common.{◌≡◌, ℕ, ◌+◌, ◌≤◌, Bool, true, false, List, [], ◌∷◌, sym, refl, ap, ◌∙◌, arith}
-use Rattle.std.specs.Prelude.{filter, sum_by, if◌then◌else◌}
+use Rattle.std.proofs.Common.{◌≡◌, ℕ, ◌≤◌, Bool, true, false, List, [], ◌∷◌, refl, arith}
+use Rattle.std.specs.Prelude.{filter, sum_by}
 use Rattle.std.proofs.lemmas.List.Sums.{sum_by-cons}
 use Rattle.deed_core.specs.Weights.{only}
 

@@ -1,6 +1,6 @@
 -- The laws of covering numbers and of weights that aren't std's own.
 use Rattle.std.specs.Prelude.{◌≡◌, ℕ, ◌+◌, ◌<◌, ◌≤◌, ◌↔◌, Bool, List, filter, sum_by}
-use Rattle.deed_core.specs.Extent.{Extent, end_of, Covers, Overlap, IsInside, below, from, union}
+use Rattle.deed_core.specs.Extent.{Extent, Covers, Overlap, IsInside}
 use Rattle.deed_core.specs.Covering.{covers, covers_held}
 use Rattle.deed_core.specs.Holding.{Holding, low, high, joined, GoesOn}
 use Rattle.deed_core.specs.Tag.{Tag}
