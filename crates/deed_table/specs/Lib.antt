@@ -1,0 +1,5 @@
+pub mod Name
+pub mod Piece
+pub mod View
+pub mod Rule
+pub mod Seated

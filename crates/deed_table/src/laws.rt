@@ -1,0 +1,22 @@
+//! What the rule of the table means, between any two steps.
+ghost use Rattle.deed_table.specs.Rule.{EachUnitOnce, OneSeatEach, LeftHasNoRange, SpentIsEmpty};
+
+/// From the opening of a root on, each of its units lies in one range of one view.
+pub fn each_unit_once()
+    ensures { EachUnitOnce }
+{}
+
+/// No unit lies in ranges of two seats.
+pub fn one_seat_each()
+    ensures { OneSeatEach }
+{}
+
+/// A number that is left is left to one seat, and has no range.
+pub fn left_has_no_range()
+    ensures { LeftHasNoRange }
+{}
+
+/// A seat that was joined into another covers nothing.
+pub fn spent_is_empty()
+    ensures { SpentIsEmpty }
+{}
