@@ -1,0 +1,4 @@
+pub mod Sums
+pub mod Covers
+pub mod Keeps
+pub mod Follows

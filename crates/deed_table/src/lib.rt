@@ -22,7 +22,6 @@ pub use names::Name;
 pub use openers::{Ground, Opener};
 pub use pairs::{Pair, apart};
 pub use roots::{Root, close};
-pub use views::{Piece, View};
 
 #[cfg(test)]
 mod tests;
