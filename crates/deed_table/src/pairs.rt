@@ -36,6 +36,38 @@ impl<N: Name> Model for Pair<N> {
 }
 
 impl<N: Name> Pair<N> {
+    // The two deeds, joined, which cover no unit twice.
+    pub(crate) fn new(first: SeatDeed<N>, second: SeatDeed<N>) -> Pair<N>
+        requires { first.root ≡ second.root }
+        ensures { result ≡ (first, second) }
+    {
+        let SeatDeed {
+            root,
+            range: first,
+            mut seat,
+            table,
+            name: _,
+        } = first;
+        let SeatDeed {
+            root: _,
+            range: second,
+            seat: other,
+            table: _,
+            name: _,
+        } = second;
+        put_beside(&table, &mut seat, other);
+        look_at_both(&table, &mut seat, root, &first, &second);
+        Pair {
+            root,
+            first,
+            second,
+            seat,
+            table,
+            name: PhantomData,
+        }
+    }
+
+    /// The root of both.
     pub fn root(&self) -> u32
         ensures first { result ≡ self.now.0.root }
         ensures second { result ≡ self.now.1.root }
@@ -43,16 +75,20 @@ impl<N: Name> Pair<N> {
         self.root
     }
 
+    /// The range of the first.
     pub fn first(&self) -> Range
         ensures value { result ≡ self.now.0.range }
         ensures range { IsRange result }
+        ensures apart { ¬ Overlap self.now.0.range self.now.1.range }
     {
         self.first
     }
 
+    /// The range of the second.
     pub fn second(&self) -> Range
         ensures value { result ≡ self.now.1.range }
         ensures range { IsRange result }
+        ensures apart { ¬ Overlap self.now.0.range self.now.1.range }
     {
         self.second
     }
@@ -104,31 +140,7 @@ pub fn apart<N: Name>(
     ensures err { IfErr result (λ pair. pair ≡ (first, second)) }
     ensures apart { ¬ Overlap first.range second.range }
 {
-    let SeatDeed {
-        root,
-        range: first,
-        mut seat,
-        table,
-        name: _,
-    } = first;
-    let SeatDeed {
-        root: _,
-        range: second,
-        seat: other,
-        table: _,
-        name: _,
-    } = second;
-    put_beside(&table, &mut seat, other);
-    look_at_both(&table, &mut seat, root, &first, &second);
-    let pair = Pair {
-        root,
-        first,
-        second,
-        seat,
-        table,
-        name: PhantomData,
-    };
-    pair.part()
+    Pair::new(first, second).part()
 }
 
 // Learns that two ranges of one root, which the seat covers beside each other, do not overlap.

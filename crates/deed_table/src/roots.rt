@@ -1,5 +1,5 @@
 //! Roots: whole ranges that were opened, and how they end.
-ghost use Rattle.std.specs.Prelude.{◌≡◌, ◌≢◌, IfOk, IfErr};
+ghost use Rattle.std.specs.Prelude.{◌≡◌, ◌↔◌, IsOk, IfOk, IfErr};
 ghost use Rattle.deed_core.specs.Extent.{IsRange};
 ghost use Rattle.deed_core.specs.Holding.{Holding};
 
@@ -40,8 +40,9 @@ impl<N: Name> Root<N> {
 
 /// Ends a root by the deed of the whole. At `Err` the deed is not that, and both come back.
 pub fn close<N: Name>(root: Root<N>, deed: SeatDeed<N>) -> Result<Range, (Root<N>, SeatDeed<N>)>
-    ensures whole { IfOk result (λ range. (deed ≡ root) × (range ≡ root.range)) }
-    ensures back { IfErr result (λ both. (deed ≢ root) × (both ≡ (root, deed))) }
+    ensures whole { IsOk result ↔ (deed ≡ root) }
+    ensures range { IfOk result (λ range. range ≡ root.range) }
+    ensures back { IfErr result (λ both. both ≡ (root, deed)) }
 {
     if deed.root != root.number || deed.range != root.range {
         return Err((root, deed));
