@@ -1,17 +1,19 @@
 -- Each step keeps the rule.
-use Rattle.std.proofs.Common.{◌≡◌, ℕ, ◌+◌, ◌-◌, ◌≤◌, ◌==◌, List, [], ◌∷◌, ◌++◌, set, sym, refl, ap, ◌∙◌, subst, arith, sum_by}
+use Rattle.std.proofs.Common.{◌≡◌, ℕ, ◌+◌, ◌≤◌, ◌==◌, List, [], ◌∷◌, ◌++◌, set, sym, refl, ap, ◌∙◌, subst, arith, sum_by}
 use mathlib.Core.Option.{some}
 use lib.ListN.{get_elem?}
 use Rattle.std.proofs.lemmas.List.Sums.{sum_by-cons, sum_by-append}
 use Rattle.atomic_table.proofs.Lists.{set_again}
+use Rattle.deed_core.proofs.Units.{covers_cut}
+use Rattle.deed_core.proofs.Weighing.{sum_by-smaller}
 use Rattle.deed_core.specs.Extent.{Extent}
 use Rattle.deed_table.specs.declared.views.Piece.{Piece}
 use Rattle.deed_table.specs.declared.views.View.{View}
 use Rattle.deed_table.specs.Piece.{covers_of, covering_of, is_of, count_of, first_piece, other_pieces, CutsFirst, CoverOnce}
-use Rattle.deed_table.specs.View.{spent, low_part, high_part, merged, beside, first_part, other_part, numbers_below, numbers_after, opened_at, AreJoinable, NoneLeft}
+use Rattle.deed_table.specs.View.{numbers_of, spent, low_part, high_part, merged, beside, first_part, other_part, numbers_below, numbers_after, opened_at, AreJoinable, NoneLeft}
 use Rattle.deed_table.specs.Rule.{is_left, CoversOnceEach}
-use Rattle.deed_table.proofs.Sums.{sum_by-set_at, sum_by-split, sum_by-join, le-sum_by, sum_by-mono}
-use Rattle.deed_table.proofs.Covers.{one_if, none_among, one_left, among_cut, covering_cut, covering_merged, covering_le}
+use Rattle.deed_table.proofs.Sums.{sum_by-set_at, sum_by-split, sum_by-join, le-sum_by}
+use Rattle.deed_table.proofs.Covers.{one_if, none_covered, one_covered, covering_cut, covering_merged, covering_le}
 
 -- the three numbers of a view that the rule adds up
 abbrev pub ranged : ℕ → ℕ → View → ℕ
@@ -37,7 +39,7 @@ keeps_split views i v low high k at e =
           let b = sum_by-split (rooted root unit) views i v low high at (omega (arith, e.roots root unit)) in
           a ∙ (k.each root unit ∙ sym b);
       one_place = λ root.
-          let a = sum_by-split (stood root) views i v low high at (let z = none_among root 0 0 refl in omega (arith, e.numbers root)) in
+          let a = sum_by-split (stood root) views i v low high at (let z = none_covered root (numbers_of spent) refl in omega (arith, e.numbers root)) in
           let b = k.one_place root in
           omega arith;
     }
@@ -71,9 +73,9 @@ even_merged v w can =
       roots = λ root unit. let c = sum_by-append (covers_of root unit) v.roots w.roots in omega arith;
       numbers = λ root.
           let a = sum_by-append (is_of root) v.roots w.roots in
-          let z = none_among root 0 0 refl in
-          let x = none_among root v.first v.left can.1 in
-          let y = none_among root w.first w.left can.2 in
+          let z = none_covered root (numbers_of spent) refl in
+          let x = none_covered root (numbers_of v) can.1 in
+          let y = none_covered root (numbers_of w) can.2 in
           omega arith;
     }
 
@@ -84,9 +86,9 @@ even_beside v w none =
       roots = λ root unit. let c = sum_by-append (covers_of root unit) v.roots w.roots in omega arith;
       numbers = λ root.
           let a = sum_by-append (is_of root) v.roots w.roots in
-          let z = none_among root 0 0 refl in
-          let x = none_among root v.first v.left none.0 in
-          let y = none_among root w.first w.left none.1 in
+          let z = none_covered root (numbers_of spent) refl in
+          let x = none_covered root (numbers_of v) none.0 in
+          let y = none_covered root (numbers_of w) none.1 in
           omega arith;
     }
 
@@ -109,14 +111,14 @@ even_share n v left =
       ranges = λ root unit. refl;
       roots = λ root unit. refl;
       numbers = λ root.
-          let c = among_cut root v.first n (v.first + n) (v.left - n) v.left refl (omega arith) in
-          let z = none_among root 0 0 refl in
+          let c = covers_cut root (numbers_of (numbers_below n v)) (numbers_of (numbers_after n v)) (numbers_of v) refl refl (omega arith) in
+          let z = none_covered root (numbers_of spent) refl in
           omega arith;
     }
 
 -- a unit that is opened belongs to a root that stands
 pub opened_le : (views : List View) (root unit : ℕ) → sum_by (rooted root unit) views ≤ sum_by (stood root) views
-opened_le views root unit = sum_by-mono (rooted root unit) (stood root) (λ w. let d = covering_le root unit w.roots in omega arith) views
+opened_le views root unit = sum_by-smaller (rooted root unit) (stood root) views (λ w. let d = covering_le root unit w.roots in omega arith)
 
 -- what one view covers is covered once
 pub looks : (views : List View) (i : ℕ) (v : View) → CoversOnceEach views → get_elem? views i ≡ some v → CoverOnce v.ranges
@@ -146,7 +148,7 @@ keeps_open views i v e k at no_ranges no_roots one =
           let a = sum_by-set_at (stood root) views i v w at in
           let b = k.one_place root in
           let x : count_of root v.roots ≡ 0 = ap (count_of root) no_roots in
-          let y = none_among root 0 0 refl in
-          let z : is_left root v ≡ one_if (root == v.first) = one_left root v.first v.left one in
+          let y = none_covered root (numbers_of spent) refl in
+          let z : is_left root v ≡ one_if (root == v.first) = one_covered root (numbers_of v) one in
           omega arith;
     }

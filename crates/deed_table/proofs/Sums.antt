@@ -26,10 +26,6 @@ module _ {X : Type 0} (f : X → ℕ) where
       → sum_by f (set (set xs i both) j rest) ≡ sum_by f xs
   sum_by-join xs i j x y both rest at too same = let a = sum_by-set_at xs i x both at in let b = sum_by-set_at (set xs i both) j y rest too in omega arith
 
-pub sum_by-mono : {X : Type 0} (f g : X → ℕ) → ((x : X) → f x ≤ g x) → (xs : List X) → sum_by f xs ≤ sum_by g xs
-sum_by-mono f g below [] = omega arith
-sum_by-mono f g below (x ∷ xs) = let a = below x in let b = sum_by-mono f g below xs in omega (arith, sum_by-cons f x xs, sum_by-cons g x xs)
-
 pub sum_by-add : {X : Type 0} (f g : X → ℕ) → (xs : List X) → sum_by (λ x. f x + g x) xs ≡ sum_by f xs + sum_by g xs
 sum_by-add f g [] = omega arith
 sum_by-add f g (x ∷ xs) = let r = sum_by-add f g xs in omega (arith, sum_by-cons f x xs, sum_by-cons g x xs, sum_by-cons (λ y. f y + g y) x xs)

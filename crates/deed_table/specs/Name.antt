@@ -1,5 +1,5 @@
 -- Which table a name stands for.
-use Rattle.std.specs.Prelude.{◌≡◌, ◌<◌, [], ℕ}
+use Rattle.std.specs.Prelude.{◌≡◌, ◌<◌, []}
 use Rattle.atomic_table.specs.Seated.{TableId}
 
 -- what `Brand` names where no call picks

@@ -1,5 +1,5 @@
 -- Ranges of roots, as a view has them, and how many of them cover a unit.
-use Rattle.std.specs.Prelude.{◌≡◌, ℕ, ◌+◌, ◌<◌, ◌≤◌, ◌==◌, Bool, ◌&&◌, nat_le, nat_lt, if◌then◌else◌, List, [], ◌∷◌, ◌++◌, sum_by}
+use Rattle.std.specs.Prelude.{ℕ, ◌≤◌, ◌==◌, if◌then◌else◌, List, [], ◌∷◌, ◌++◌, sum_by}
 use Rattle.deed_core.specs.Extent.{Extent, IsInside, below, from, union}
 use Rattle.deed_core.specs.Holding.{Holding, GoesOn}
 use Rattle.deed_core.specs.Covering.{covers}

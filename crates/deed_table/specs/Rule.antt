@@ -1,16 +1,17 @@
 -- The rule over all views of the table, and what follows from it.
 use mathlib.Core.Option.{some}
 use lib.ListN.{get_elem?}
-use Rattle.std.specs.Prelude.{◌≡◌, ◌≢◌, ◌⊎◌, ℕ, ◌+◌, ◌<◌, ◌≤◌, Bool, ◌&&◌, nat_le, nat_lt, if◌then◌else◌, List, sum_by}
+use Rattle.std.specs.Prelude.{◌≡◌, ◌≢◌, ◌⊎◌, ℕ, ◌+◌, ◌<◌, ◌≤◌, List, sum_by}
 use Rattle.atomic_table.specs.Table.{Me, Step}
 use Rattle.deed_core.specs.Extent.{Extent}
+use Rattle.deed_core.specs.Covering.{covers}
 use Rattle.deed_table.specs.declared.views.View.{View}
 use Rattle.deed_table.specs.Piece.{covering_of, count_of, CoverOnce}
-use Rattle.deed_table.specs.View.{opened_at, spent}
+use Rattle.deed_table.specs.View.{numbers_of, opened_at, spent}
 
--- 1 where the root number is one of those left, else 0
+-- 1 where the root number is one of those left to the seat, else 0
 abbrev pub is_left : ℕ → View → ℕ
-is_left root v = if nat_le v.first root && nat_lt root (v.first + v.left) then 1 else 0
+is_left root v = covers root (numbers_of v)
 
 -- how many ranges of all views cover the unit of the root
 abbrev pub covered : ℕ → ℕ → List View → ℕ

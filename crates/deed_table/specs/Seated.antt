@@ -1,10 +1,13 @@
 -- What a token of the table keeps of its seat.
-use Rattle.std.specs.Prelude.{◌≡◌, ℕ, ◌<◌, [], ◌∷◌}
+use mathlib.Core.Option.{some}
+use lib.ListN.{get_elem?}
+use Rattle.std.specs.Prelude.{◌≡◌, ◌≢◌, ℕ, ◌<◌, List, [], ◌∷◌}
 use Rattle.atomic_table.specs.Seated.{TableId}
-use Rattle.deed_core.specs.Extent.{Overlap}
+use Rattle.deed_core.specs.Extent.{IsRange, Overlap}
 use Rattle.deed_core.specs.Holding.{Holding}
+use Rattle.deed_table.specs.declared.views.View.{View}
 use Rattle.deed_table.specs.Piece.{piece_of}
-use Rattle.deed_table.specs.Rule.{Sitter}
+use Rattle.deed_table.specs.Rule.{Sitter, CoversOnceEach}
 
 -- the root numbers that are left to an opener
 pub record Numbers : Type 0 where
@@ -29,3 +32,8 @@ pub record SeatsTwo (first second : Holding) (me : Sitter) : Type 0 where
   pub none_left : me.0.left ≡ 0
   pub no_slot : me.1 ≡ []
   pub apart : ¬ Overlap first.range second.range
+
+-- two deeds of one root, at any two seats of the table, do not overlap
+abbrev pub NoTwoOverlap : Type 0
+NoTwoOverlap = (views : List View) → CoversOnceEach views → (i j : ℕ) (first second : Sitter) → get_elem? views i ≡ some first.0 → get_elem? views j ≡ some second.0 → j ≢ i
+    → (a b : Holding) → IsRange a.range → IsRange b.range → SeatsDeed a first → SeatsDeed b second → a.root ≡ b.root → ¬ Overlap a.range b.range

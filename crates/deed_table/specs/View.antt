@@ -1,9 +1,13 @@
 -- What a seat knows, and what is left of it when a seat is cut in two or two seats are made one.
-use Rattle.std.specs.Prelude.{◌≡◌, ℕ, ◌+◌, ◌-◌, ◌≤◌, List, [], ◌∷◌, ◌++◌}
+use Rattle.std.specs.Prelude.{◌≡◌, ℕ, ◌+◌, ◌-◌, List, [], ◌∷◌, ◌++◌}
 use Rattle.deed_core.specs.Extent.{Extent}
 use Rattle.deed_table.specs.declared.views.Piece.{Piece}
 use Rattle.deed_table.specs.declared.views.View.{View}
 use Rattle.deed_table.specs.Piece.{piece, low_pieces, high_pieces, merged_pieces, first_piece, other_pieces, Touch}
+
+-- the root numbers that are left
+abbrev pub numbers_of : View → Extent
+numbers_of v = record { base = v.first; len = v.left }
 
 -- no range, no root, and these numbers left
 abbrev pub opener : ℕ → ℕ → View
@@ -54,7 +58,6 @@ opened_at range v = holder (piece v.first range ∷ []) (piece v.first range ∷
 abbrev pub NoneLeft : View → View → Type 0
 NoneLeft v w = (v.left ≡ 0) × (w.left ≡ 0)
 
--- deeds' views that can become one range
+-- two views with no number left, whose first ranges can become one
 abbrev pub AreJoinable : View → View → Type 0
 AreJoinable v w = Touch v.ranges w.ranges × (v.left ≡ 0) × (w.left ≡ 0)
-

@@ -1,5 +1,4 @@
 //! Deeds that are seats of the table.
-ghost use Rattle.std.specs.Prelude.{◌≡◌, []};
 ghost use Rattle.std.specs.Arc.{arc_value};
 ghost use Rattle.deed_core.specs.Extent.{IsRange};
 ghost use Rattle.deed_core.specs.Holding.{Holding};
@@ -14,8 +13,11 @@ use std::alloc::Global;
 use std::marker::{Brand, Model, PhantomData};
 use std::sync::Arc;
 
-/// A deed of the table that `N` names, which may cross threads. It is never copied or dropped, and contracts see it
-/// as its root and its range. Only want of memory for a second hold on the table refuses a split.
+/// A deed of the table that `N` names, which may cross threads. It is never copied or dropped: it ends by `join` or
+/// by `close`. Contracts see it as its root and its range.
+///
+/// A split is refused where the table can't be held once more. Holding it takes no memory of today's `Arc`, so
+/// that arm is proved and has never run.
 pub struct SeatDeed<N: Name> {
     pub(crate) root: u32,
     pub(crate) range: Range,
@@ -29,7 +31,9 @@ impl<N: Name> Model for SeatDeed<N> {
 
     ghost view = { λ d. record { root = d.root; range = d.range } };
 
-    ghost invariant = { λ d. AreAt N.table d.seat.table_id (arc_value d.table).shared.table_id × IsRange d.range × SeatsDeed (record { root = d.root; range = d.range }) d.seat.me };
+    ghost invariant = { λ d. AreAt N.table d.seat.table_id (arc_value d.table).shared.table_id
+        × IsRange d.range
+        × SeatsDeed (record { root = d.root; range = d.range }) d.seat.me };
 }
 
 impl<N: Name> Deed for SeatDeed<N> {

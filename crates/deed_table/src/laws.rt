@@ -1,9 +1,15 @@
 //! What the rule of the table means, between any two steps.
 ghost use Rattle.deed_table.specs.Rule.{EachUnitOnce, OneSeatEach, LeftHasNoRange, SpentIsEmpty};
+ghost use Rattle.deed_table.specs.Seated.{NoTwoOverlap};
 
 /// From the opening of a root on, each of its units lies in one range of one view.
 pub fn each_unit_once()
     ensures { EachUnitOnce }
+{}
+
+/// Two deeds of one root, at any two seats, do not overlap. A `SeatDeed` keeps that its seat is such a deed's.
+pub fn no_two_overlap()
+    ensures { NoTwoOverlap }
 {}
 
 /// No unit lies in ranges of two seats.

@@ -1,8 +1,14 @@
-//! Deeds for running threads. A deed is a seat of one table with one word, whose value carries nothing, and the
-//! table's rule says that each unit of an opened root is covered once.
+//! Deeds for running threads: no two deeds of one root overlap, whatever threads run.
 //!
-//! `Ground` makes a table, `Opener` opens roots, `SeatDeed` is a deed, `apart` shows that two deeds of one root do
-//! not overlap, and `close` ends a root by the deed of the whole. `laws` says what the rule means.
+//! A deed is a seat of one table with one word, whose value carries nothing. What a seat knows, its view, is plain
+//! data that exists in the proofs alone: ranges with root numbers, the roots that it opened, and the root numbers
+//! left to it. The table's rule is over all views: each unit of an opened root lies in one range of one view.
+//!
+//! A caller makes a `Ground` and hands it to a function of its own over `N: Name`, which it calls with `Brand`, so that
+//! `N` stands for that table. There `Ground::start` gives the `Opener` of all numbers, `Opener::open_root` a root
+//! with the deed of the whole, and `close` ends the root. `apart` shows two deeds not to overlap.
+//!
+//! Begin with `specs/Rule.antt`, the rule, and `laws`, what it means; `rules` has the kinds of steps.
 #![tactic(auto)]
 
 mod choices;
@@ -17,7 +23,7 @@ mod steps;
 mod views;
 
 pub use deeds::SeatDeed;
-pub use laws::{each_unit_once, left_has_no_range, one_seat_each, spent_is_empty};
+pub use laws::{each_unit_once, left_has_no_range, no_two_overlap, one_seat_each, spent_is_empty};
 pub use names::Name;
 pub use openers::{Ground, Opener};
 pub use pairs::{Pair, apart};

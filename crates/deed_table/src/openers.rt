@@ -1,7 +1,6 @@
 //! Tables, and the root numbers that are left.
-ghost use Rattle.std.specs.Prelude.{◌≡◌, ℕ, ◌+◌, ◌-◌, ◌^◌, ◌<◌, ◌≤◌, [], IfOk, OnOk, OnErr};
+ghost use Rattle.std.specs.Prelude.{◌≡◌, ◌+◌, ◌-◌, ◌^◌, ◌<◌, ◌≤◌, [], IfOk, OnOk, OnErr};
 ghost use Rattle.std.specs.Arc.{arc_value};
-ghost use Rattle.deed_core.specs.Extent.{IsRange};
 ghost use Rattle.atomic_table.specs.Seated.{TableId, table_id_coded};
 ghost use Rattle.deed_table.specs.Seated.{AreAt, Numbers};
 ghost use Rattle.deed_table.specs.View.{opener};
@@ -17,10 +16,10 @@ use std::alloc::{AllocError, Global};
 use std::marker::{Brand, Model, PhantomData};
 use std::sync::Arc;
 
-/// How many root numbers a table has: all of type u32.
+/// How many root numbers a table has.
 const ROOTS: u64 = 1 << 32;
 
-/// A new table, which has no name yet. Contracts see it as the table's own number.
+/// A new table, which has no name yet. Contracts see which table it is.
 #[derive(Drop)]
 pub struct Ground {
     seat: Seat<(), View>,
@@ -34,7 +33,8 @@ impl Model for Ground {
 
     ghost view = { λ g. g.seat.table_id };
 
-    ghost invariant = { λ g. ((arc_value g.table).shared.table_id ≡ g.seat.table_id) × (0 < g.seat.table_id.words) × (g.seat.me ≡ (opener 0 (2 ^ 32), [])) };
+    ghost invariant = { λ g. AreAt g.seat.table_id g.seat.table_id (arc_value g.table).shared.table_id
+        × (g.seat.me ≡ (opener 0 (2 ^ 32), [])) };
 }
 
 impl Ground {
@@ -47,7 +47,7 @@ impl Ground {
         Ok(Ground { seat, table })
     }
 
-    /// The opener of all root numbers, under a name of the table. The caller picks the name with `Brand`.
+    /// The opener of all root numbers, which are those of type u32.
     pub fn start<N: Name>(self) -> Opener<N>
         requires { self ≡ N.table }
         ensures { result ≡ record { first = 0; left = 2 ^ 32 } }
@@ -79,7 +79,9 @@ impl<N: Name> Model for Opener<N> {
 
     ghost view = { λ o. record { first = o.first; left = o.left } };
 
-    ghost invariant = { λ o. AreAt N.table o.seat.table_id (arc_value o.table).shared.table_id × (o.seat.me ≡ (opener o.first o.left, [])) × (o.first + o.left ≤ 2 ^ 32) };
+    ghost invariant = { λ o. AreAt N.table o.seat.table_id (arc_value o.table).shared.table_id
+        × (o.seat.me ≡ (opener o.first o.left, []))
+        × (o.first + o.left ≤ 2 ^ 32) };
 }
 
 impl<N: Name> Opener<N> {
@@ -90,7 +92,7 @@ impl<N: Name> Opener<N> {
         self.left
     }
 
-    /// Gives the first `n` numbers away.
+    /// Gives the first `n` numbers away. It is refused only for want of memory, before any number moves.
     pub fn share(&mut self, n: u64) -> Result<Opener<N>, AllocError>
         requires { n ≤ self.old.left }
         ensures given { IfOk result (λ other. other ≡ record { first = self.old.first; left = n }) }
@@ -111,10 +113,12 @@ impl<N: Name> Opener<N> {
         })
     }
 
-    /// Opens the next number as a root of this range, and gives the deed of the whole.
+    /// Opens the next number as a root of this range, and gives the deed of the whole. It is refused only for want of
+    /// memory, before any number is used.
     pub fn open_root(&mut self, range: Range) -> Result<(Root<N>, SeatDeed<N>), AllocError>
         requires { 0 < self.old.left }
-        ensures opened { IfOk result (λ made. (made.0 ≡ record { root = self.old.first; range = range }) × (made.1 ≡ made.0)) }
+        ensures root { IfOk result (λ made. made.0 ≡ record { root = self.old.first; range = range }) }
+        ensures whole { IfOk result (λ made. made.1 ≡ made.0) }
         ensures kept { OnOk result (self.new ≡ record { first = self.old.first + 1; left = self.old.left - 1 }) }
         ensures err { OnErr result (self.new ≡ self.old) }
     {

@@ -1,5 +1,5 @@
 //! Two deeds of one root do not overlap.
-ghost use Rattle.std.specs.Prelude.{◌≡◌, ℕ, [], ◌∷◌, IfOk, IfErr};
+ghost use Rattle.std.specs.Prelude.{◌≡◌, [], ◌∷◌, IfOk, IfErr};
 ghost use Rattle.std.specs.Arc.{arc_value};
 ghost use Rattle.deed_core.specs.Extent.{IsRange, Overlap};
 ghost use Rattle.deed_core.specs.Holding.{Holding};
@@ -17,7 +17,8 @@ use std::alloc::Global;
 use std::marker::{Model, PhantomData};
 use std::sync::Arc;
 
-/// Two deeds of one root that are joined, since there was no memory to part them. Contracts see it as the two.
+/// Two deeds of one root that are still joined, since there was no memory to part them. It is never dropped: it ends
+/// by `part`. Contracts see it as the two deeds.
 pub struct Pair<N: Name> {
     root: u32,
     first: Range,
@@ -32,7 +33,10 @@ impl<N: Name> Model for Pair<N> {
 
     ghost view = { λ p. (record { root = p.root; range = p.first }, record { root = p.root; range = p.second }) };
 
-    ghost invariant = { λ p. AreAt N.table p.seat.table_id (arc_value p.table).shared.table_id × IsRange p.first × IsRange p.second × SeatsTwo (record { root = p.root; range = p.first }) (record { root = p.root; range = p.second }) p.seat.me };
+    ghost invariant = { λ p. AreAt N.table p.seat.table_id (arc_value p.table).shared.table_id
+        × IsRange p.first
+        × IsRange p.second
+        × SeatsTwo (record { root = p.root; range = p.first }) (record { root = p.root; range = p.second }) p.seat.me };
 }
 
 impl<N: Name> Pair<N> {
@@ -155,7 +159,8 @@ fn look_at_both(
     requires both { seat.old.me.0.ranges ≡ piece root first.now ∷ piece root second.now ∷ [] }
     requires first { IsRange first.now }
     requires second { IsRange second.now }
-    ensures same { (seat.new.table_id ≡ seat.old.table_id) × (seat.new.me ≡ seat.old.me) }
+    ensures table { seat.new.table_id ≡ seat.old.table_id }
+    ensures same { seat.new.me ≡ seat.old.me }
     ensures apart { ¬ Overlap first.now second.now }
 {
     let _ = root;

@@ -24,12 +24,14 @@ impl<N: Name> Model for Root<N> {
 }
 
 impl<N: Name> Root<N> {
+    /// The number that no other root of the table has.
     pub fn number(&self) -> u32
         ensures { result ≡ self.now.root }
     {
         self.number
     }
 
+    /// The units of the whole.
     pub fn range(&self) -> Range
         ensures value { result ≡ self.now.range }
         ensures range { IsRange result }
@@ -38,7 +40,8 @@ impl<N: Name> Root<N> {
     }
 }
 
-/// Ends a root by the deed of the whole. At `Err` the deed is not that, and both come back.
+/// Ends a root by the deed of the whole. At `Err` the deed is not that, and both come back. Its number is never
+/// opened again.
 pub fn close<N: Name>(root: Root<N>, deed: SeatDeed<N>) -> Result<Range, (Root<N>, SeatDeed<N>)>
     ensures whole { IsOk result ↔ (deed ≡ root) }
     ensures range { IfOk result (λ range. range ≡ root.range) }

@@ -1,8 +1,10 @@
-//! The steps on the word, each with what it does to the seats that take part.
-ghost use Rattle.std.specs.Prelude.{◌≡◌, ℕ, ◌<◌, ◌≤◌, []};
+//! The steps on the word, each with what it does to the seats that take part. A number or a range that a step is
+//! told of is for its contract alone, which ties it to the type that the step is taken with.
+ghost use Rattle.std.specs.Prelude.{◌≡◌, ◌≤◌, []};
 ghost use Rattle.deed_table.specs.Name.{SitsAt};
 ghost use Rattle.deed_table.specs.Piece.{CutsFirst, CoverOnce};
-ghost use Rattle.deed_table.specs.View.{AreJoinable, NoneLeft, low_part, high_part, merged, beside, first_part, other_part, numbers_below, numbers_after, opener, opened_at};
+ghost use Rattle.deed_table.specs.View.{AreJoinable, NoneLeft, low_part, high_part, merged, beside};
+ghost use Rattle.deed_table.specs.View.{first_part, other_part, numbers_below, numbers_after, opened_at};
 
 use crate::choices::{Chosen, Placed};
 use crate::rules::{Beside, CutAt, Look, Merge, OnceEach, Open, Part, Share};
@@ -22,8 +24,9 @@ pub(crate) fn cut<C: Chosen>(
     requires at { at ≡ C.number }
     requires seat { SitsAt seat.old.table_id table.now.shared.table_id }
     requires inside { CutsFirst at seat.old.me.0.ranges }
-    ensures low { (seat.new.table_id ≡ seat.old.table_id) × (seat.new.me ≡ (low_part at seat.old.me.0, seat.old.me.1)) }
-    ensures high { (result.table_id ≡ seat.old.table_id) × (result.me ≡ (high_part at seat.old.me.0, [])) }
+    ensures table { (seat.new.table_id ≡ seat.old.table_id) × (result.table_id ≡ seat.old.table_id) }
+    ensures low { seat.new.me ≡ (low_part at seat.old.me.0, seat.old.me.1) }
+    ensures high { result.me ≡ (high_part at seat.old.me.0, []) }
 {
     let _ = at;
     table.shared.split_seat::<CutAt<C>>(seat)
@@ -34,7 +37,8 @@ pub(crate) fn merge(table: &DeedTable, seat: &mut Seat<(), View>, other: Seat<()
     requires seat { SitsAt seat.old.table_id table.now.shared.table_id }
     requires other { (other.table_id ≡ table.now.shared.table_id) × (other.me.1 ≡ []) }
     requires meets { AreJoinable seat.old.me.0 other.me.0 }
-    ensures { (seat.new.table_id ≡ seat.old.table_id) × (seat.new.me ≡ (merged seat.old.me.0 other.me.0, seat.old.me.1)) }
+    ensures table { seat.new.table_id ≡ seat.old.table_id }
+    ensures view { seat.new.me ≡ (merged seat.old.me.0 other.me.0, seat.old.me.1) }
 {
     table.shared.join_seat::<Merge>(seat, other);
 }
@@ -44,7 +48,8 @@ pub(crate) fn put_beside(table: &DeedTable, seat: &mut Seat<(), View>, other: Se
     requires seat { SitsAt seat.old.table_id table.now.shared.table_id }
     requires other { (other.table_id ≡ table.now.shared.table_id) × (other.me.1 ≡ []) }
     requires numbers { NoneLeft seat.old.me.0 other.me.0 }
-    ensures { (seat.new.table_id ≡ seat.old.table_id) × (seat.new.me ≡ (beside seat.old.me.0 other.me.0, seat.old.me.1)) }
+    ensures table { seat.new.table_id ≡ seat.old.table_id }
+    ensures view { seat.new.me ≡ (beside seat.old.me.0 other.me.0, seat.old.me.1) }
 {
     table.shared.join_seat::<Beside>(seat, other);
 }
@@ -52,7 +57,8 @@ pub(crate) fn put_beside(table: &DeedTable, seat: &mut Seat<(), View>, other: Se
 // Learns that the view covers no unit twice.
 pub(crate) fn look(table: &DeedTable, seat: &mut Seat<(), View>)
     requires { SitsAt seat.old.table_id table.now.shared.table_id }
-    ensures same { (seat.new.table_id ≡ seat.old.table_id) × (seat.new.me ≡ seat.old.me) }
+    ensures table { seat.new.table_id ≡ seat.old.table_id }
+    ensures same { seat.new.me ≡ seat.old.me }
     ensures once { CoverOnce seat.old.me.0.ranges }
 {
     table.shared.load::<Look>(seat, 0);
@@ -61,8 +67,9 @@ pub(crate) fn look(table: &DeedTable, seat: &mut Seat<(), View>)
 // Keeps the first range, and gives the others to a new seat.
 pub(crate) fn part(table: &DeedTable, seat: &mut Seat<(), View>) -> Seat<(), View>
     requires { SitsAt seat.old.table_id table.now.shared.table_id }
-    ensures first { (seat.new.table_id ≡ seat.old.table_id) × (seat.new.me ≡ (first_part seat.old.me.0, seat.old.me.1)) }
-    ensures other { (result.table_id ≡ seat.old.table_id) × (result.me ≡ (other_part seat.old.me.0, [])) }
+    ensures table { (seat.new.table_id ≡ seat.old.table_id) × (result.table_id ≡ seat.old.table_id) }
+    ensures first { seat.new.me ≡ (first_part seat.old.me.0, seat.old.me.1) }
+    ensures other { result.me ≡ (other_part seat.old.me.0, []) }
 {
     table.shared.split_seat::<Part>(seat)
 }
@@ -76,8 +83,9 @@ pub(crate) fn share<C: Chosen>(
     requires number { n ≡ C.number }
     requires seat { SitsAt seat.old.table_id table.now.shared.table_id }
     requires left { n ≤ seat.old.me.0.left }
-    ensures kept { (seat.new.table_id ≡ seat.old.table_id) × (seat.new.me ≡ (numbers_after n seat.old.me.0, seat.old.me.1)) }
-    ensures given { (result.table_id ≡ seat.old.table_id) × (result.me ≡ (numbers_below n seat.old.me.0, [])) }
+    ensures table { (seat.new.table_id ≡ seat.old.table_id) × (result.table_id ≡ seat.old.table_id) }
+    ensures kept { seat.new.me ≡ (numbers_after n seat.old.me.0, seat.old.me.1) }
+    ensures given { result.me ≡ (numbers_below n seat.old.me.0, []) }
 {
     let _ = n;
     table.shared.split_seat::<Share<C>>(seat)
@@ -88,7 +96,8 @@ pub(crate) fn open<C: Placed>(table: &DeedTable, seat: &mut Seat<(), View>, rang
     requires place { range.now ≡ C.place }
     requires seat { SitsAt seat.old.table_id table.now.shared.table_id }
     requires new { (seat.old.me.0.ranges ≡ []) × (seat.old.me.0.roots ≡ []) × (seat.old.me.0.left ≡ 1) }
-    ensures { (seat.new.table_id ≡ seat.old.table_id) × (seat.new.me ≡ (opened_at range.now seat.old.me.0, seat.old.me.1)) }
+    ensures table { seat.new.table_id ≡ seat.old.table_id }
+    ensures view { seat.new.me ≡ (opened_at range.now seat.old.me.0, seat.old.me.1) }
 {
     let _ = range;
     table.shared.load::<Open<C>>(seat, 0);

@@ -1,9 +1,8 @@
 ghost use Rattle.std.specs.Prelude.{◌≡◌, ◌<◌};
-ghost use Rattle.deed_core.specs.Extent.{IsInside};
 ghost use Rattle.deed_core.specs.Holding.{GoesOn};
 
 use super::*;
-use deed_core::{Deed, Range, Refused};
+use deed_core::{Deed, Range, Refused, split_and_join};
 use std::alloc::{AllocError, Global};
 use std::marker::Brand;
 use std::process::Abort;
@@ -76,7 +75,10 @@ fn two_openers<N: Name, R: Abort>(rt: &R, ground: Ground) -> Result<(), Fail>
     let mut rest: Opener<N> = ground.start();
     assert_eq!(rt; rest.left(), 1 << 32);
     let mut shared = rest.share(1 << 16).expect(rt, "memory");
-    assert_eq!(rt; (shared.left(), rest.left()), (1 << 16, (1 << 32) - (1 << 16)));
+    assert_eq!(rt;
+        (shared.left(), rest.left()),
+        (1 << 16, (1 << 32) - (1 << 16))
+    );
     let (first, one) = opened(rt, &mut shared);
     let (second, other) = opened(rt, &mut rest);
     assert_eq!(rt; (first.number(), second.number()), (0, 1 << 16));
@@ -151,7 +153,7 @@ fn recut<D: Deed, R: Abort>(rt: &R, slot: &mut Option<D>) -> D {
     let range = deed.range();
     for at in range.base() + 1..range.end() {
         assert!(rt; deed.range().base() < at && at < deed.range().end());
-        deed = whole_again(deed, at);
+        deed = split_and_join(deed, at);
     }
     deed
 }
@@ -161,17 +163,6 @@ fn ended<D: Deed, R: Abort>(rt: &R, slot: Option<D>) {
     match slot {
         None => {}
         Some(deed) => stuck(rt, deed),
-    }
-}
-
-// Cuts a deed in two and joins the parts: it covers what it did.
-fn whole_again<D: Deed>(deed: D, at: u64) -> D
-    requires { IsInside at (D.holding deed).range }
-    ensures { D.holding result ≡ D.holding deed }
-{
-    match deed.split(at) {
-        Ok((low, high)) => low.join(high),
-        Err(Refused { deed }) => deed,
     }
 }
 

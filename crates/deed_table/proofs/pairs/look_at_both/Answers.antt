@@ -1,4 +1,4 @@
-use Rattle.std.proofs.Common.{subst, refl}
+use Rattle.std.proofs.Common.{subst}
 use Rattle.deed_table.specs.Piece.{CoverOnce}
 use Rattle.deed_table.proofs.Covers.{apart_once}
 use Rattle.deed_table.proofs.pairs.look_at_both.Goals as goal
