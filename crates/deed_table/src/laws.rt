@@ -1,5 +1,7 @@
-//! What the rule of the table means, between any two steps.
+//! What the rule of the table means, between any two steps. The functions do nothing: their contracts are the
+//! laws.
 ghost use Rattle.deed_table.specs.Rule.{EachUnitOnce, OneSeatEach, LeftHasNoRange, SpentIsEmpty};
+ghost use Rattle.deed_table.specs.Kinds.{RunsKeepRule, OpenedStaysCovered};
 ghost use Rattle.deed_table.specs.Seated.{NoTwoOverlap};
 
 /// From the opening of a root on, each of its units lies in one range of one view.
@@ -25,4 +27,14 @@ pub fn left_has_no_range()
 /// A seat that was joined into another covers nothing.
 pub fn spent_is_empty()
     ensures { SpentIsEmpty }
+{}
+
+/// From the first opener on, the rule holds after any number of steps.
+pub fn runs_keep_rule()
+    ensures { RunsKeepRule }
+{}
+
+/// Once a unit is opened, it is covered once after any number of steps.
+pub fn opened_stays_covered()
+    ensures { OpenedStaysCovered }
 {}

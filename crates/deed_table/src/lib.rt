@@ -8,7 +8,7 @@
 //! `N` stands for that table. There `Ground::start` gives the `Opener` of all numbers, `Opener::open_root` a root
 //! with the deed of the whole, and `close` ends the root. `apart` shows two deeds not to overlap.
 //!
-//! Begin with `specs/Rule.antt`, the rule, and `laws`, what it means; `rules` has the kinds of steps.
+//! Begin with `specs/Rule.antt`, the rule, `specs/Kinds.antt`, the kinds of step, and `laws`, what they mean.
 #![tactic(auto)]
 
 mod choices;
@@ -23,7 +23,10 @@ mod steps;
 mod views;
 
 pub use deeds::SeatDeed;
-pub use laws::{each_unit_once, left_has_no_range, no_two_overlap, one_seat_each, spent_is_empty};
+pub use laws::{
+    each_unit_once, left_has_no_range, no_two_overlap, one_seat_each, opened_stays_covered,
+    runs_keep_rule, spent_is_empty,
+};
 pub use names::Name;
 pub use openers::{Ground, Opener};
 pub use pairs::{Pair, apart};
