@@ -1,0 +1,5 @@
+pub mod ByteLemmas
+pub mod FrameLemmas
+pub mod WordLemmas
+pub mod GrammarLemmas
+pub mod ReplyLemmas

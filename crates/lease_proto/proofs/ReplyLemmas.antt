@@ -1,0 +1,156 @@
+-- What is written of a reply is read again.
+use Rattle.std.proofs.Common.{◌≡◌, ◌&&◌, ◌^◌, ℕ, ◌≤◌, ◌<◌, ◌+◌, Bool, true, false, List, [], ◌∷◌, ◌++◌, length, get_or, Ok, Err, refl, sym, ◌∙◌, ap, arith, decimal, codes, nat_le, lit≤}
+use Rattle.std.proofs.lemmas.List.{length-append}
+use Rattle.std.proofs.lemmas.Bool.{le-ltb, and_parts, and_from}
+use Rattle.std.specs.List.{list_all}
+use Rattle.lease_proto.specs.declared.faults.LineFault.{LineFault}
+use Rattle.lease_proto.specs.declared.faults.LineFault.TheVariants as faults
+use Rattle.lease_proto.specs.declared.replies.Reply.{Reply}
+use Rattle.lease_proto.specs.declared.replies.Reply.TheVariants.{Welcome, Granted, Released, Refused, Old, Stale, Gap, Again, Error}
+use Rattle.lease_proto.specs.declared.replies.OutOfTurn.{OutOfTurn}
+use Rattle.lease_proto.specs.declared.replies.Refusal.{Refusal}
+use Rattle.lease_proto.specs.declared.replies.Refusal.TheVariants.{NoFit, BadRequest, NoArena, NotYours, Leases}
+use Rattle.lease_proto.specs.Faults.{fault_word}
+use Rattle.lease_proto.specs.Words.{is_word, is_sentence}
+use Rattle.lease_proto.specs.Texts.{sentence}
+use Rattle.lease_proto.specs.Replies.{reply_of, reply_of_words, welcome_of, granted_of, released_of, refused_of, old_of, out_of_turn_of, again_of, error_of, refusal_in, refusal_word, fault_in, first_reply_word, reply_words, out_of_turn_words, reply_text, IsReply, IsOutOfTurn, ReplyIsRead}
+use Rattle.lease_proto.proofs.GrammarLemmas.{client_again, ordinal_again, quantity_again, decimal_word, decimal_short, name_short, parts_of-sentence}
+
+refusal_again : (refusal : Refusal) → refusal_in (refusal_word refusal) ≡ Ok refusal
+refusal_again NoFit = refl
+refusal_again BadRequest = refl
+refusal_again NoArena = refl
+refusal_again NotYours = refl
+refusal_again Leases = refl
+
+refusal_is_word : (refusal : Refusal) → is_word (refusal_word refusal) ≡ true
+refusal_is_word NoFit = refl
+refusal_is_word BadRequest = refl
+refusal_is_word NoArena = refl
+refusal_is_word NotYours = refl
+refusal_is_word Leases = refl
+
+refusal_short : (refusal : Refusal) → length (refusal_word refusal) ≤ 10
+refusal_short NoFit = lit≤ tt
+refusal_short BadRequest = lit≤ tt
+refusal_short NoArena = lit≤ tt
+refusal_short NotYours = lit≤ tt
+refusal_short Leases = lit≤ tt
+
+fault_again : (fault : LineFault) → fault_in (fault_word fault) ≡ Ok fault
+fault_again faults.TooLong = refl
+fault_again faults.BadLine = refl
+fault_again faults.Word = refl
+fault_again faults.Number = refl
+
+fault_is_word : (fault : LineFault) → is_word (fault_word fault) ≡ true
+fault_is_word faults.TooLong = refl
+fault_is_word faults.BadLine = refl
+fault_is_word faults.Word = refl
+fault_is_word faults.Number = refl
+
+fault_short : (fault : LineFault) → length (fault_word fault) ≤ 7
+fault_short faults.TooLong = lit≤ tt
+fault_short faults.BadLine = lit≤ tt
+fault_short faults.Word = lit≤ tt
+fault_short faults.Number = lit≤ tt
+
+words_again : (reply : Reply) → IsReply reply → reply_of_words (first_reply_word reply ∷ reply_words reply) ≡ Ok reply
+unfolding reply_of_words welcome_of granted_of released_of refused_of old_of out_of_turn_of again_of error_of
+words_again (Welcome w) is = rw (client_again w.client is.0.0 is.0.1, ordinal_again w.incarnation is.1.0 is.1.1) refl
+words_again (Granted g) is =
+    rw (is.3, client_again g.client is.0.0 is.0.1, ordinal_again g.incarnation is.1.0 is.1.1, ordinal_again g.number is.2.0 is.2.1,
+      quantity_again g.base is.4, quantity_again g.len is.5) refl
+words_again (Released r) is = rw (client_again r.client is.0.0 is.0.1, ordinal_again r.incarnation is.1.0 is.1.1, ordinal_again r.number is.2.0 is.2.1) refl
+words_again (Refused r) is =
+    rw (refusal_again r.refusal, client_again r.client is.0.0 is.0.1, ordinal_again r.incarnation is.1.0 is.1.1, ordinal_again r.number is.2.0 is.2.1) refl
+words_again (Old o) is = rw (client_again o.client is.0.0 is.0.1, quantity_again o.current is.1) refl
+words_again (Stale s) is =
+    rw (client_again s.client is.0.0 is.0.1, ordinal_again s.incarnation is.1.0 is.1.1, ordinal_again s.number is.2.0 is.2.1, quantity_again s.last is.3) refl
+words_again (Gap g) is =
+    rw (client_again g.client is.0.0 is.0.1, ordinal_again g.incarnation is.1.0 is.1.1, ordinal_again g.number is.2.0 is.2.1, quantity_again g.last is.3) refl
+words_again (Again a) is = rw (client_again a.client is.0.0 is.0.1, ordinal_again a.incarnation is.1.0 is.1.1, quantity_again a.number is.2) refl
+words_again (Error fault) is = rw (fault_again fault) refl
+
+out_of_turn_are_words : (r : OutOfTurn) → IsOutOfTurn r → list_all is_word (out_of_turn_words r) ≡ true
+out_of_turn_are_words r is =
+    rw (decimal_word r.client (omega arith), decimal_word r.incarnation is.1.1, decimal_word r.number is.2.1, decimal_word r.last is.3) refl
+
+are_words : (reply : Reply) → IsReply reply → list_all is_word (reply_words reply) ≡ true
+are_words (Welcome w) is = rw (decimal_word w.client (omega arith), decimal_word w.incarnation is.1.1) refl
+are_words (Granted g) is =
+    let name = and_parts (is_word g.arena) _ is.3 in
+    rw (decimal_word g.client (omega arith), decimal_word g.incarnation is.1.1, decimal_word g.number is.2.1, name.0, decimal_word g.base is.4, decimal_word g.len is.5) refl
+are_words (Released r) is = rw (decimal_word r.client (omega arith), decimal_word r.incarnation is.1.1, decimal_word r.number is.2.1) refl
+are_words (Refused r) is =
+    rw (decimal_word r.client (omega arith), decimal_word r.incarnation is.1.1, decimal_word r.number is.2.1, refusal_is_word r.refusal) refl
+are_words (Old o) is = rw (decimal_word o.client (omega arith), decimal_word o.current is.1) refl
+are_words (Stale s) is = out_of_turn_are_words s is
+are_words (Gap g) is = out_of_turn_are_words g is
+are_words (Again a) is = rw (decimal_word a.client (omega arith), decimal_word a.incarnation is.1.1, decimal_word a.number is.2) refl
+are_words (Error fault) is = rw (fault_is_word fault) refl
+
+out_of_turn_short : (first : List ℕ) (r : OutOfTurn) → length first ≤ 10 → IsOutOfTurn r → length (sentence first (out_of_turn_words r)) ≤ 255
+out_of_turn_short first r key is =
+    let c = decimal_short 5 r.client (omega arith) (omega arith) (omega arith) in
+    let i = decimal_short 19 r.incarnation (omega arith) (omega arith) is.1.1 in
+    let n = decimal_short 19 r.number (omega arith) (omega arith) is.2.1 in
+    let v = decimal_short 19 r.last (omega arith) (omega arith) is.3 in
+    simp length-append (omega arith)
+
+short : (reply : Reply) → IsReply reply → length (reply_text reply) ≤ 255
+short (Welcome w) is =
+    let c = decimal_short 5 w.client (omega arith) (omega arith) (omega arith) in
+    let i = decimal_short 19 w.incarnation (omega arith) (omega arith) is.1.1 in
+    simp length-append (omega arith)
+short (Granted g) is =
+    let c = decimal_short 5 g.client (omega arith) (omega arith) (omega arith) in
+    let i = decimal_short 19 g.incarnation (omega arith) (omega arith) is.1.1 in
+    let n = decimal_short 19 g.number (omega arith) (omega arith) is.2.1 in
+    let a = name_short g.arena is.3 in
+    let b = decimal_short 19 g.base (omega arith) (omega arith) is.4 in
+    let l = decimal_short 19 g.len (omega arith) (omega arith) is.5 in
+    simp length-append (omega arith)
+short (Released r) is =
+    let c = decimal_short 5 r.client (omega arith) (omega arith) (omega arith) in
+    let i = decimal_short 19 r.incarnation (omega arith) (omega arith) is.1.1 in
+    let n = decimal_short 19 r.number (omega arith) (omega arith) is.2.1 in
+    simp length-append (omega arith)
+short (Refused r) is =
+    let c = decimal_short 5 r.client (omega arith) (omega arith) (omega arith) in
+    let i = decimal_short 19 r.incarnation (omega arith) (omega arith) is.1.1 in
+    let n = decimal_short 19 r.number (omega arith) (omega arith) is.2.1 in
+    let w = refusal_short r.refusal in
+    simp length-append (omega arith)
+short (Old o) is =
+    let c = decimal_short 5 o.client (omega arith) (omega arith) (omega arith) in
+    let v = decimal_short 19 o.current (omega arith) (omega arith) is.1 in
+    simp length-append (omega arith)
+short (Stale s) is = out_of_turn_short (codes "stale") s (lit≤ tt) is
+short (Gap g) is = out_of_turn_short (codes "gap") g (lit≤ tt) is
+short (Again a) is =
+    let c = decimal_short 5 a.client (omega arith) (omega arith) (omega arith) in
+    let i = decimal_short 19 a.incarnation (omega arith) (omega arith) is.1.1 in
+    let n = decimal_short 19 a.number (omega arith) (omega arith) is.2 in
+    simp length-append (omega arith)
+short (Error fault) is =
+    let w = fault_short fault in
+    simp length-append (omega arith)
+
+first_is_word : (reply : Reply) → is_word (first_reply_word reply) ≡ true
+first_is_word (Welcome w) = refl
+first_is_word (Granted g) = refl
+first_is_word (Released r) = refl
+first_is_word (Refused r) = refl
+first_is_word (Old o) = refl
+first_is_word (Stale s) = refl
+first_is_word (Gap g) = refl
+first_is_word (Again a) = refl
+first_is_word (Error fault) = refl
+
+pub reply_is_read : ReplyIsRead
+unfolding reply_of
+reply_is_read reply is =
+    let parts = parts_of-sentence (first_reply_word reply) (reply_words reply) (first_is_word reply) (are_words reply is) in
+    let words : is_sentence (reply_text reply) ≡ true = ap (list_all is_word) parts ∙ and_from (is_word (first_reply_word reply)) _ (first_is_word reply) (are_words reply is) in
+    rw (le-ltb 255 (length (reply_text reply)) (short reply is), words, parts) (words_again reply is)

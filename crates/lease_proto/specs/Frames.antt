@@ -1,0 +1,79 @@
+-- How a stream of bytes falls into lines.
+use Rattle.std.specs.Prelude.{◌≡◌, ◌≢◌, ◌==◌, ℕ, nat_le, Bool, List, [], ◌∷◌, ◌++◌, length, take, map, if◌then◌else◌, Result, Ok, Err, Option, Some, None}
+use Rattle.std.specs.List.{flat_map, AllByRecursion}
+use Rattle.arrayvec.specs.ArrayVec.{ArrayVec}
+use Rattle.lease_proto.specs.declared.faults.LineFault.{LineFault}
+use Rattle.lease_proto.specs.declared.faults.LineFault.TheVariants.{TooLong, BadLine}
+
+-- what comes of one line: its bytes, or why it is refused unread
+abbrev pub Frame : Type 0
+Frame = Result (List ℕ) LineFault
+
+-- a line whose line feed has come: at most 255 bytes stand before it
+abbrev pub frame_of : List ℕ → Frame
+frame_of line = if nat_le (length line) 255 then Ok line else Err TooLong
+
+-- a rest with no line feed, at the end of the input
+abbrev pub last_of : List ℕ → List Frame
+last_of [] = []
+last_of (b ∷ bs) = (if nat_le (length (b ∷ bs)) 255 then Err BadLine else Err TooLong) ∷ []
+
+-- the frames that end in these bytes, where this much of a line stands before them
+abbrev pub frames_in : List ℕ → List ℕ → List Frame
+frames_in line [] = []
+frames_in line (b ∷ bs) = if b == 10 then frame_of line ∷ frames_in [] bs else frames_in (line ++ b ∷ []) bs
+
+-- the line that these bytes leave unended
+abbrev pub rest_in : List ℕ → List ℕ → List ℕ
+rest_in line [] = line
+rest_in line (b ∷ bs) = if b == 10 then rest_in [] bs else rest_in (line ++ b ∷ []) bs
+
+-- the frames of a whole input
+abbrev pub frames_of : List ℕ → List Frame
+frames_of input = frames_in [] input ++ last_of (rest_in [] input)
+
+-- a line with its line feed
+abbrev pub ended : List ℕ → List ℕ
+ended line = line ++ 10 ∷ []
+
+-- no line feed stands in it
+abbrev pub IsOneLine : List ℕ → Type 0
+IsOneLine line = AllByRecursion (λ b. b ≢ 10) line
+
+-- an input made of these lines and a rest with no line feed has the frames of these lines, and then that of the rest
+abbrev pub FramesAreLines : Type 0
+FramesAreLines = (lines : List (List ℕ)) (rest : List ℕ) → AllByRecursion IsOneLine lines → IsOneLine rest
+  → frames_of (flat_map ended lines ++ rest) ≡ map frame_of lines ++ last_of rest
+
+-- each input is made so
+abbrev pub InputIsLines : Type 0
+InputIsLines = (input : List ℕ) → (lines : List (List ℕ)) × (rest : List ℕ) × AllByRecursion IsOneLine lines × IsOneLine rest
+  × (input ≡ flat_map ended lines ++ rest)
+
+-- bytes in two parts: the frames of the first, and then of the second, behind the line that the first leaves unended
+abbrev pub PiecesAreOne : Type 0
+PiecesAreOne = (line xs ys : List ℕ)
+  → (frames_in line (xs ++ ys) ≡ frames_in line xs ++ frames_in (rest_in line xs) ys)
+  × (rest_in line (xs ++ ys) ≡ rest_in (rest_in line xs) ys)
+
+-- the first 256 bytes of the line begun tell the frames
+abbrev pub FrontIsEnough : Type 0
+FrontIsEnough = (line bytes : List ℕ)
+  → (frames_in (take 256 line) bytes ≡ frames_in line bytes)
+  × (take 256 (rest_in (take 256 line) bytes) ≡ take 256 (rest_in line bytes))
+  × (last_of (take 256 line) ≡ last_of line)
+
+-- what a line reader holds: the first 256 bytes of the line begun, and whether its line feed has come
+pub record Held : Type 0 where
+  pub line : List ℕ
+  pub whole : Bool
+
+-- a frame without where it lies in memory
+abbrev pub frame_view : Result (ArrayVec ℕ) LineFault → Frame
+frame_view (Ok line) = Ok line.items
+frame_view (Err fault) = Err fault
+
+-- the frames of a fault, if there is one
+abbrev pub faults_of : Option LineFault → List Frame
+faults_of None = []
+faults_of (Some fault) = Err fault ∷ []

@@ -1,0 +1,49 @@
+-- What the words of a line stand for, and the ranges of its values.
+use Rattle.std.specs.Prelude.{◌≡◌, ◌≤◌, ◌^◌, ◌&&◌, ℕ, nat_le, nat_lt, Bool, true, List, length, if◌then◌else◌, Option, Some, None, Result, Ok, Err}
+use Rattle.lease_proto.specs.declared.faults.LineFault.{LineFault}
+use Rattle.lease_proto.specs.declared.faults.LineFault.TheVariants.{TooLong, BadLine, Number}
+use Rattle.lease_proto.specs.Words.{is_name, is_sentence, parts_of, number_of}
+
+-- a number from low to high
+abbrev pub between : ℕ → ℕ → Option ℕ → Result ℕ LineFault
+between low high None = Err Number
+between low high (Some n) = if nat_le low n && nat_le n high then Ok n else Err Number
+
+-- any number
+abbrev pub number_in : List ℕ → Result ℕ LineFault
+number_in word = between 0 (2 ^ 62) (number_of word)
+
+-- a client
+abbrev pub client_in : List ℕ → Result ℕ LineFault
+client_in word = between 1 65536 (number_of word)
+
+-- an incarnation, or the number of a request
+abbrev pub ordinal_in : List ℕ → Result ℕ LineFault
+ordinal_in word = between 1 (2 ^ 62) (number_of word)
+
+-- a unit, a number of units, or one that may be 0
+abbrev pub quantity_in : List ℕ → Result ℕ LineFault
+quantity_in word = between 0 (2 ^ 62) (number_of word)
+
+-- a name
+abbrev pub name_in : List ℕ → Result (List ℕ) LineFault
+name_in word = if is_name word then Ok word else Err BadLine
+
+-- the words of a line: at most 255 bytes, words with one space between them
+abbrev pub words_of : List ℕ → Result (List (List ℕ)) LineFault
+words_of line =
+  if nat_lt 255 (length line) then Err TooLong
+  else if is_sentence line then Ok (parts_of line)
+  else Err BadLine
+
+-- what a client is
+abbrev pub IsClient : ℕ → Type 0
+IsClient n = (1 ≤ n) × (n ≤ 65536)
+
+-- what an incarnation and the number of a request is
+abbrev pub IsOrdinal : ℕ → Type 0
+IsOrdinal n = (1 ≤ n) × (n ≤ 2 ^ 62)
+
+-- what a quantity is
+abbrev pub IsQuantity : ℕ → Type 0
+IsQuantity n = n ≤ 2 ^ 62

@@ -1,0 +1,49 @@
+-- Words, numbers and names.
+use Rattle.std.specs.Prelude.{◌≡◌, ◌==◌, ◌&&◌, ◌||◌, ◌↔◌, ◌≤◌, ◌+◌, ◌-◌, ◌*◌, ◌^◌, ℕ, nat_le, Bool, true, false, List, [], ◌∷◌, length, if◌then◌else◌, Option, Some, None, not, decimal, slice_index}
+use Rattle.std.specs.Char.{is_ascii_digit}
+use denote.Ref.{Bor}
+use Rattle.std.specs.List.{list_all, slice_split}
+
+-- a to z
+abbrev pub is_letter : ℕ → Bool
+is_letter b = nat_le 97 b && nat_le b 122
+
+-- a letter or a digit
+abbrev pub is_word_byte : ℕ → Bool
+is_word_byte b = is_letter b || is_ascii_digit b
+
+-- one or more of the letters and digits
+abbrev pub is_word : List ℕ → Bool
+is_word word = nat_le 1 (length word) && list_all is_word_byte word
+
+-- the parts between spaces
+abbrev pub parts_of : List ℕ → List (List ℕ)
+parts_of line = slice_split (λ b. b == 32) line
+
+-- it is words with one space between them
+abbrev pub is_sentence : List ℕ → Bool
+is_sentence line = list_all is_word (parts_of line)
+
+-- a name is a word that begins with a letter and has at most 16 characters
+abbrev pub is_name : List ℕ → Bool
+is_name word = is_word word && (is_letter (slice_index word 0) && nat_le (length word) 16)
+
+-- the words that are left, where this much of a line is
+abbrev pub words_left : Option (Bor (List ℕ)) → List (List ℕ)
+words_left None = []
+words_left (Some rest) = parts_of rest.now
+
+-- the number that n's digits and these write, at most 2^62
+abbrev pub digits_from : ℕ → List ℕ → Option ℕ
+digits_from n [] = if nat_le n (2 ^ 62) then Some n else None
+digits_from n (b ∷ bs) = if is_ascii_digit b then digits_from (n * 10 + (b - 48)) bs else None
+
+-- the number that a word writes, without a leading zero
+abbrev pub number_of : List ℕ → Option ℕ
+number_of [] = None
+number_of (b ∷ []) = digits_from 0 (b ∷ [])
+number_of (b ∷ c ∷ bs) = if b == 48 then None else digits_from 0 (b ∷ c ∷ bs)
+
+-- a word writes a number just where it is its decimal digits
+abbrev pub NumbersAreDecimal : Type 0
+NumbersAreDecimal = (word : List ℕ) (n : ℕ) → (number_of word ≡ Some n) ↔ ((word ≡ decimal n) × (n ≤ 2 ^ 62))

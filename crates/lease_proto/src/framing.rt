@@ -1,0 +1,121 @@
+//! Lines out of a stream of bytes that comes in any pieces.
+ghost use Rattle.std.specs.Prelude.{◌≡◌, ◌≤◌, ◌<◌, [], ◌∷◌, ◌++◌, length, take, true, false, IfSome, IfNone};
+ghost use Rattle.lease_proto.specs.Frames.{Held, frame_of, last_of, frames_in, rest_in, FramesAreLines, InputIsLines, PiecesAreOne, FrontIsEnough, frame_view, faults_of};
+
+use crate::faults::LineFault;
+use arrayvec::ArrayVec;
+use memchr::memchr;
+use std::marker::Model;
+use std::mem;
+
+/// The longest line, in bytes before its line feed.
+pub const LONGEST_LINE: usize = 255;
+
+/// One byte more than the longest line, so that a line that is too long shows.
+const HELD: usize = 256;
+
+/// The bytes of a line, without its line feed: at most 255 where `next` gives them.
+pub type FramedLine = ArrayVec<u8, HELD>;
+
+/// Cuts a stream into lines. A contract sees the first 256 bytes of the line that has begun, and whether
+/// its line feed has come. It takes no memory, and looks at each byte that it is fed once, or twice where
+/// it keeps it.
+#[derive(Drop)]
+pub struct LineReader {
+    front: FramedLine,
+    ended: bool,
+}
+
+impl Model for LineReader {
+    ghost Value = { Held };
+
+    ghost view = { λ r. record { line = r.front.items; whole = r.ended } };
+}
+
+impl LineReader {
+    pub fn new() -> Self
+        ensures { result ≡ record { line = []; whole = false } }
+    {
+        LineReader {
+            front: ArrayVec::new(),
+            ended: false,
+        }
+    }
+
+    /// Takes bytes from the front of a piece, up to its first line feed or all, and says how many. Where
+    /// the line feed has come, `next` has the line, and the rest of the piece is fed after it.
+    pub fn feed(&mut self, piece: &[u8]) -> usize
+        requires { self.old.whole ≡ false }
+        ensures within { result ≤ length piece.now }
+        ensures part { self.new.whole ≡ false → (result ≡ length piece.now)
+            × (frames_in self.old.line piece.now ≡ [])
+            × (self.new.line ≡ take 256 (rest_in self.old.line piece.now)) }
+        ensures whole { self.new.whole ≡ true → (0 < result)
+            × (frames_in self.old.line (take result piece.now) ≡ frame_of self.new.line ∷ [])
+            × (rest_in self.old.line (take result piece.now) ≡ []) }
+    {
+        match memchr(b'\n', piece) {
+            Some(i) => {
+                hold(&mut self.front, &piece[..i]);
+                self.ended = true;
+                i + 1
+            }
+            None => {
+                hold(&mut self.front, piece);
+                self.ended = false;
+                piece.len()
+            }
+        }
+    }
+
+    /// The line that the last `feed` ended, or `TooLong`. The next line then begins.
+    pub fn next(&mut self) -> Option<Result<FramedLine, LineFault>>
+        ensures none { IfNone result ((self.old.whole ≡ false) × (self.new ≡ self.old)) }
+        ensures some { IfSome result (λ frame. (self.old.whole ≡ true) × (frame_view frame ≡ frame_of self.old.line)
+            × (self.new ≡ record { line = []; whole = false })) }
+    {
+        if !self.ended {
+            return None;
+        }
+        self.ended = false;
+        let line = mem::replace(&mut self.front, ArrayVec::new());
+        if line.len() <= LONGEST_LINE {
+            Some(Ok(line))
+        } else {
+            Some(Err(LineFault::TooLong))
+        }
+    }
+
+    /// At the end of the input, why the rest is refused: it has no line feed. An empty rest is no line.
+    pub fn at_end(&self) -> Option<LineFault>
+        requires { self.now.whole ≡ false }
+        ensures { faults_of result ≡ last_of self.now.line }
+    {
+        if self.front.is_empty() {
+            None
+        } else if self.front.len() <= LONGEST_LINE {
+            Some(LineFault::BadLine)
+        } else {
+            Some(LineFault::TooLong)
+        }
+    }
+}
+
+/// Appends as much of a text as there is room for.
+fn hold(front: &mut FramedLine, text: &[u8])
+    ensures { front.new.items ≡ take 256 (front.old.items ++ text.now) }
+{
+    let room = (HELD - front.len()).min(text.len());
+    front.try_extend_from_slice(&text[..room]).unwrap();
+}
+
+/// What the lines of an input are: it is lines with their line feeds and a rest, in one way, and its frames
+/// are those of these lines and the rest, however it was cut into pieces. Of a line that has begun, the first
+/// 256 bytes tell all.
+pub fn framing_law()
+    ensures framed { FramesAreLines }
+    ensures each { InputIsLines }
+    ensures pieces { PiecesAreOne }
+    ensures front { FrontIsEnough }
+{
+}

@@ -1,0 +1,448 @@
+//! The replies to a client's lines.
+ghost use Rattle.std.specs.Prelude.{◌≡◌, ◌++◌, OnOk, OnErr, ◌∷◌, ◌+◌, ◌≤◌, ℕ, List, vec_len, length};
+ghost use Rattle.lease_proto.specs.Frames.{ended};
+ghost use Rattle.lease_proto.specs.Replies.{reply_of, reply_text, first_reply_word, welcome_of, granted_of, released_of, refused_of, old_of, out_of_turn_of, again_of, error_of, welcome_words, granted_words, released_words, refused_words, old_words, out_of_turn_words, again_words, refusal_in, refusal_word, fault_in, ReplyIsRead};
+ghost use Rattle.std.specs.Vec.{vec_capacity};
+ghost use Rattle.lease_proto.specs.Texts.{spaced};
+
+use crate::faults::LineFault;
+use crate::framing::LONGEST_LINE;
+use crate::numbers::{client, ordinal, quantity};
+use crate::sentences::{Words, name};
+use crate::taking::{end, take, words};
+use crate::values::{ClientId, Name, Ordinal, Quantity};
+use crate::writing::{push_name, push_number, push_text, push_word};
+use std::alloc::AllocError;
+
+/// Why a request is refused, once and for all.
+#[derive(Clone, Copy, Debug, PartialEq, Eq)]
+pub enum Refusal {
+    /// No free segment of the arena meets the request.
+    NoFit,
+    /// The size and the options contradict each other or the arena's quantum.
+    BadRequest,
+    /// No arena has this name.
+    NoArena,
+    /// The client's incarnation has no lease of this arena and base.
+    NotYours,
+    /// The client has as many leases as one may have.
+    Leases,
+}
+
+impl Refusal {
+    fn read(word: &[u8]) -> Result<Self, LineFault>
+        ensures { result ≡ refusal_in word.now }
+    {
+        if word == b"nofit".as_slice() {
+            Ok(Refusal::NoFit)
+        } else if word == b"badrequest".as_slice() {
+            Ok(Refusal::BadRequest)
+        } else if word == b"noarena".as_slice() {
+            Ok(Refusal::NoArena)
+        } else if word == b"notyours".as_slice() {
+            Ok(Refusal::NotYours)
+        } else if word == b"leases".as_slice() {
+            Ok(Refusal::Leases)
+        } else {
+            Err(LineFault::BadLine)
+        }
+    }
+
+    /// The protocol's word.
+    pub fn word(self) -> &'static [u8]
+        ensures text { result.now ≡ refusal_word self }
+        ensures short { length result.now ≤ 10 }
+    {
+        match self {
+            Refusal::NoFit => b"nofit",
+            Refusal::BadRequest => b"badrequest",
+            Refusal::NoArena => b"noarena",
+            Refusal::NotYours => b"notyours",
+            Refusal::Leases => b"leases",
+        }
+    }
+}
+
+/// `welcome C I`: the client's incarnation is this one.
+#[derive(Clone, Copy, Debug, PartialEq, Eq)]
+pub struct Welcome {
+    pub client: ClientId,
+    pub incarnation: Ordinal,
+}
+
+impl Welcome {
+    #[tactic(auto, unfolding(crate::specs::Replies::welcome_of))]
+    fn read(words: &mut Words<'_>) -> Result<Self, LineFault>
+        ensures { result ≡ welcome_of words.old }
+    {
+        let client_word = take(words)?;
+        let incarnation = take(words)?;
+        end(words)?;
+        Ok(Welcome {
+            client: client(client_word)?,
+            incarnation: ordinal(incarnation)?,
+        })
+    }
+
+    fn push(&self, out: &mut Vec<u8>)
+        requires { vec_len out.old + 42 ≤ vec_capacity out.old }
+        ensures text { out.new.items ≡ out.old.items ++ spaced (welcome_words self.now) }
+        ensures len { vec_len out.new ≤ vec_len out.old + 42 }
+        ensures capacity { vec_capacity out.old ≤ vec_capacity out.new }
+    {
+        push_number(out, u64::from(self.client.get()));
+        push_number(out, self.incarnation.get());
+    }
+}
+
+/// `granted C I N NAME BASE LEN`: `len` units from `base` on are leased.
+#[derive(Clone, Copy, Debug, PartialEq, Eq)]
+pub struct Granted {
+    pub client: ClientId,
+    pub incarnation: Ordinal,
+    pub number: Ordinal,
+    pub arena: Name,
+    pub base: Quantity,
+    pub len: Quantity,
+}
+
+impl Granted {
+    #[tactic(auto, unfolding(crate::specs::Replies::granted_of))]
+    fn read(words: &mut Words<'_>) -> Result<Self, LineFault>
+        ensures { result ≡ granted_of words.old }
+    {
+        let client_word = take(words)?;
+        let incarnation = take(words)?;
+        let number = take(words)?;
+        let arena = name(take(words)?)?;
+        let base = take(words)?;
+        let len = take(words)?;
+        end(words)?;
+        Ok(Granted {
+            client: client(client_word)?,
+            incarnation: ordinal(incarnation)?,
+            number: ordinal(number)?,
+            arena,
+            base: quantity(base)?,
+            len: quantity(len)?,
+        })
+    }
+
+    fn push(&self, out: &mut Vec<u8>)
+        requires { vec_len out.old + 122 ≤ vec_capacity out.old }
+        ensures text { out.new.items ≡ out.old.items ++ spaced (granted_words self.now) }
+        ensures len { vec_len out.new ≤ vec_len out.old + 122 }
+        ensures capacity { vec_capacity out.old ≤ vec_capacity out.new }
+    {
+        push_number(out, u64::from(self.client.get()));
+        push_number(out, self.incarnation.get());
+        push_number(out, self.number.get());
+        push_name(out, &self.arena);
+        push_number(out, self.base.get());
+        push_number(out, self.len.get());
+    }
+}
+
+/// `released C I N`: the lease has ended.
+#[derive(Clone, Copy, Debug, PartialEq, Eq)]
+pub struct Released {
+    pub client: ClientId,
+    pub incarnation: Ordinal,
+    pub number: Ordinal,
+}
+
+impl Released {
+    #[tactic(auto, unfolding(crate::specs::Replies::released_of))]
+    fn read(words: &mut Words<'_>) -> Result<Self, LineFault>
+        ensures { result ≡ released_of words.old }
+    {
+        let client_word = take(words)?;
+        let incarnation = take(words)?;
+        let number = take(words)?;
+        end(words)?;
+        Ok(Released {
+            client: client(client_word)?,
+            incarnation: ordinal(incarnation)?,
+            number: ordinal(number)?,
+        })
+    }
+
+    fn push(&self, out: &mut Vec<u8>)
+        requires { vec_len out.old + 63 ≤ vec_capacity out.old }
+        ensures text { out.new.items ≡ out.old.items ++ spaced (released_words self.now) }
+        ensures len { vec_len out.new ≤ vec_len out.old + 63 }
+        ensures capacity { vec_capacity out.old ≤ vec_capacity out.new }
+    {
+        push_number(out, u64::from(self.client.get()));
+        push_number(out, self.incarnation.get());
+        push_number(out, self.number.get());
+    }
+}
+
+/// `refused C I N WORD`, with the refusal's word.
+#[derive(Clone, Copy, Debug, PartialEq, Eq)]
+pub struct Refused {
+    pub client: ClientId,
+    pub incarnation: Ordinal,
+    pub number: Ordinal,
+    pub refusal: Refusal,
+}
+
+impl Refused {
+    #[tactic(auto, unfolding(crate::specs::Replies::refused_of))]
+    fn read(words: &mut Words<'_>) -> Result<Self, LineFault>
+        ensures { result ≡ refused_of words.old }
+    {
+        let client_word = take(words)?;
+        let incarnation = take(words)?;
+        let number = take(words)?;
+        let refusal = Refusal::read(take(words)?)?;
+        end(words)?;
+        Ok(Refused {
+            client: client(client_word)?,
+            incarnation: ordinal(incarnation)?,
+            number: ordinal(number)?,
+            refusal,
+        })
+    }
+
+    fn push(&self, out: &mut Vec<u8>)
+        requires { vec_len out.old + 74 ≤ vec_capacity out.old }
+        ensures text { out.new.items ≡ out.old.items ++ spaced (refused_words self.now) }
+        ensures len { vec_len out.new ≤ vec_len out.old + 74 }
+        ensures capacity { vec_capacity out.old ≤ vec_capacity out.new }
+    {
+        push_number(out, u64::from(self.client.get()));
+        push_number(out, self.incarnation.get());
+        push_number(out, self.number.get());
+        push_word(out, self.refusal.word());
+    }
+}
+
+/// `old C V`: the client's incarnation is V, or 0 for a client that never said hello.
+#[derive(Clone, Copy, Debug, PartialEq, Eq)]
+pub struct Old {
+    pub client: ClientId,
+    pub current: Quantity,
+}
+
+impl Old {
+    #[tactic(auto, unfolding(crate::specs::Replies::old_of))]
+    fn read(words: &mut Words<'_>) -> Result<Self, LineFault>
+        ensures { result ≡ old_of words.old }
+    {
+        let client_word = take(words)?;
+        let current = take(words)?;
+        end(words)?;
+        Ok(Old {
+            client: client(client_word)?,
+            current: quantity(current)?,
+        })
+    }
+
+    fn push(&self, out: &mut Vec<u8>)
+        requires { vec_len out.old + 42 ≤ vec_capacity out.old }
+        ensures text { out.new.items ≡ out.old.items ++ spaced (old_words self.now) }
+        ensures len { vec_len out.new ≤ vec_len out.old + 42 }
+        ensures capacity { vec_capacity out.old ≤ vec_capacity out.new }
+    {
+        push_number(out, u64::from(self.client.get()));
+        push_number(out, self.current.get());
+    }
+}
+
+/// The number isn't the one after the last, nor the last: it is below it (`stale C I N V`) or above the
+/// next one (`gap C I N V`). V is the last number, or 0 before the first.
+#[derive(Clone, Copy, Debug, PartialEq, Eq)]
+pub struct OutOfTurn {
+    pub client: ClientId,
+    pub incarnation: Ordinal,
+    pub number: Ordinal,
+    pub last: Quantity,
+}
+
+impl OutOfTurn {
+    #[tactic(auto, unfolding(crate::specs::Replies::out_of_turn_of))]
+    fn read(words: &mut Words<'_>) -> Result<Self, LineFault>
+        ensures { result ≡ out_of_turn_of words.old }
+    {
+        let client_word = take(words)?;
+        let incarnation = take(words)?;
+        let number = take(words)?;
+        let last = take(words)?;
+        end(words)?;
+        Ok(OutOfTurn {
+            client: client(client_word)?,
+            incarnation: ordinal(incarnation)?,
+            number: ordinal(number)?,
+            last: quantity(last)?,
+        })
+    }
+
+    fn push(&self, out: &mut Vec<u8>)
+        requires { vec_len out.old + 84 ≤ vec_capacity out.old }
+        ensures text { out.new.items ≡ out.old.items ++ spaced (out_of_turn_words self.now) }
+        ensures len { vec_len out.new ≤ vec_len out.old + 84 }
+        ensures capacity { vec_capacity out.old ≤ vec_capacity out.new }
+    {
+        push_number(out, u64::from(self.client.get()));
+        push_number(out, self.incarnation.get());
+        push_number(out, self.number.get());
+        push_number(out, self.last.get());
+    }
+}
+
+/// `again C I N`: nothing came of the line for want of memory. N is 0 for a hello.
+#[derive(Clone, Copy, Debug, PartialEq, Eq)]
+pub struct Again {
+    pub client: ClientId,
+    pub incarnation: Ordinal,
+    pub number: Quantity,
+}
+
+impl Again {
+    #[tactic(auto, unfolding(crate::specs::Replies::again_of))]
+    fn read(words: &mut Words<'_>) -> Result<Self, LineFault>
+        ensures { result ≡ again_of words.old }
+    {
+        let client_word = take(words)?;
+        let incarnation = take(words)?;
+        let number = take(words)?;
+        end(words)?;
+        Ok(Again {
+            client: client(client_word)?,
+            incarnation: ordinal(incarnation)?,
+            number: quantity(number)?,
+        })
+    }
+
+    fn push(&self, out: &mut Vec<u8>)
+        requires { vec_len out.old + 63 ≤ vec_capacity out.old }
+        ensures text { out.new.items ≡ out.old.items ++ spaced (again_words self.now) }
+        ensures len { vec_len out.new ≤ vec_len out.old + 63 }
+        ensures capacity { vec_capacity out.old ≤ vec_capacity out.new }
+    {
+        push_number(out, u64::from(self.client.get()));
+        push_number(out, self.incarnation.get());
+        push_number(out, self.number.get());
+    }
+}
+
+/// A reply.
+#[derive(Clone, Copy, Debug, PartialEq, Eq)]
+pub enum Reply {
+    Welcome(Welcome),
+    Granted(Granted),
+    Released(Released),
+    Refused(Refused),
+    Old(Old),
+    Stale(OutOfTurn),
+    Gap(OutOfTurn),
+    Again(Again),
+    /// `error WORD`: the line was none that may stand there.
+    Error(LineFault),
+}
+
+impl Reply {
+    /// The reply that these bytes are, or the first reason why they are none, in the order of a line's
+    /// reasons. They are given without the line feed. It takes no memory.
+    #[tactic(auto, unfolding(crate::specs::Replies::reply_of, crate::specs::Replies::reply_of_words))]
+    pub fn read(bytes: &[u8]) -> Result<Reply, LineFault>
+        ensures { result ≡ reply_of bytes.now }
+    {
+        let mut words = words(bytes)?;
+        let Some(first) = words.next() else {
+            return Err(LineFault::Word);
+        };
+        if first == b"welcome".as_slice() {
+            Ok(Reply::Welcome(Welcome::read(&mut words)?))
+        } else if first == b"granted".as_slice() {
+            Ok(Reply::Granted(Granted::read(&mut words)?))
+        } else if first == b"released".as_slice() {
+            Ok(Reply::Released(Released::read(&mut words)?))
+        } else if first == b"refused".as_slice() {
+            Ok(Reply::Refused(Refused::read(&mut words)?))
+        } else if first == b"old".as_slice() {
+            Ok(Reply::Old(Old::read(&mut words)?))
+        } else if first == b"stale".as_slice() {
+            Ok(Reply::Stale(OutOfTurn::read(&mut words)?))
+        } else if first == b"gap".as_slice() {
+            Ok(Reply::Gap(OutOfTurn::read(&mut words)?))
+        } else if first == b"again".as_slice() {
+            Ok(Reply::Again(Again::read(&mut words)?))
+        } else if first == b"error".as_slice() {
+            Ok(Reply::Error(error(&mut words)?))
+        } else {
+            Err(LineFault::Word)
+        }
+    }
+
+    /// Appends the reply and a line feed.
+    pub fn write(&self, out: &mut Vec<u8>) -> Result<(), AllocError>
+        ensures ok { OnOk result (out.new.items ≡ out.old.items ++ ended (reply_text self.now)) }
+        ensures err { OnErr result (out.new.items ≡ out.old.items) }
+    {
+        out.reserve(LONGEST_LINE + 1)?;
+        push_text(out, self.keyword());
+        match self {
+            Reply::Welcome(welcome) => welcome.push(out),
+            Reply::Granted(granted) => granted.push(out),
+            Reply::Released(released) => released.push(out),
+            Reply::Refused(refused) => refused.push(out),
+            Reply::Old(old) => old.push(out),
+            Reply::Stale(stale) => stale.push(out),
+            Reply::Gap(gap) => gap.push(out),
+            Reply::Again(again) => again.push(out),
+            Reply::Error(fault) => push_word(out, fault.word()),
+        }
+        push_text(out, b"\n");
+        Ok(())
+    }
+
+    fn keyword(&self) -> &'static [u8]
+        ensures { result.now ≡ first_reply_word self.now }
+    {
+        match self {
+            Reply::Welcome(_) => b"welcome",
+            Reply::Granted(_) => b"granted",
+            Reply::Released(_) => b"released",
+            Reply::Refused(_) => b"refused",
+            Reply::Old(_) => b"old",
+            Reply::Stale(_) => b"stale",
+            Reply::Gap(_) => b"gap",
+            Reply::Again(_) => b"again",
+            Reply::Error(_) => b"error",
+        }
+    }
+}
+
+#[tactic(auto, unfolding(crate::specs::Replies::error_of))]
+fn error(words: &mut Words<'_>) -> Result<LineFault, LineFault>
+    ensures { result ≡ error_of words.old }
+{
+    let fault = fault(take(words)?)?;
+    end(words)?;
+    Ok(fault)
+}
+
+fn fault(word: &[u8]) -> Result<LineFault, LineFault>
+    ensures { result ≡ fault_in word.now }
+{
+    if word == b"toolong".as_slice() {
+        Ok(LineFault::TooLong)
+    } else if word == b"badline".as_slice() {
+        Ok(LineFault::BadLine)
+    } else if word == b"word".as_slice() {
+        Ok(LineFault::Word)
+    } else if word == b"number".as_slice() {
+        Ok(LineFault::Number)
+    } else {
+        Err(LineFault::BadLine)
+    }
+}
+
+/// What is written of a reply is read as the same reply.
+pub fn reply_law()
+    ensures { ReplyIsRead }
+{
+}

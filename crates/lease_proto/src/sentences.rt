@@ -1,0 +1,108 @@
+//! Words, and lines as words with one space between them.
+ghost use Rattle.std.specs.Prelude.{◌≡◌, ℕ, List, [], ◌∷◌, MatchOption};
+ghost use Rattle.lease_proto.specs.Values.{name_in};
+ghost use Rattle.lease_proto.specs.Words.{words_left, parts_of};
+ghost use Rattle.lease_proto.specs.Words as spec;
+
+use crate::faults::LineFault;
+use crate::values::{LONGEST_NAME, Name};
+use memchr::memchr;
+use std::marker::Model;
+
+fn is_letter(byte: u8) -> bool
+    ensures { result ≡ spec.is_letter byte }
+{
+    byte.is_ascii_lowercase()
+}
+
+fn is_word_byte(byte: u8) -> bool
+    ensures { result ≡ spec.is_word_byte byte }
+{
+    is_letter(byte) || byte.is_ascii_digit()
+}
+
+fn is_word(word: &[u8]) -> bool
+    ensures { result ≡ spec.is_word word.now }
+{
+    for byte in word {
+        if !is_word_byte(*byte) {
+            return false;
+        }
+    }
+    !word.is_empty()
+}
+
+/// Whether these bytes are a name.
+pub fn is_name(word: &[u8]) -> bool
+    ensures { result ≡ spec.is_name word.now }
+{
+    is_word(word) && is_letter(word[0]) && word.len() <= LONGEST_NAME
+}
+
+/// The name that a word is, or `BadLine` where it is none.
+pub fn name(word: &[u8]) -> Result<Name, LineFault>
+    ensures { result ≡ name_in word.now }
+{
+    match Name::new(word) {
+        Some(name) => Ok(name),
+        None => Err(LineFault::BadLine),
+    }
+}
+
+/// The words of a line that are left to read. A contract sees them as a list.
+#[derive(Drop)]
+pub struct Words<'a> {
+    rest: Option<&'a [u8]>,
+}
+
+impl<'a> Model for Words<'a> {
+    ghost Value = { List (List ℕ) };
+
+    ghost view = { λ w. words_left w.rest };
+}
+
+impl<'a> Words<'a> {
+    /// The parts of a line between its spaces.
+    pub fn new(line: &'a [u8]) -> Self
+        ensures { result ≡ parts_of line.now }
+    {
+        Words { rest: Some(line) }
+    }
+
+    /// The same words, to look ahead.
+    pub fn ahead(&self) -> Words<'a>
+        ensures { result ≡ self.now }
+    {
+        Words { rest: self.rest }
+    }
+
+    /// The next word.
+    pub fn next(&mut self) -> Option<&'a [u8]>
+        ensures { MatchOption result ((self.old ≡ []) × (self.new ≡ [])) (λ word. self.old ≡ word.now ∷ self.new) }
+    {
+        let rest = self.rest?;
+        match memchr(b' ', rest) {
+            Some(i) => {
+                self.rest = Some(&rest[i + 1..]);
+                Some(&rest[..i])
+            }
+            None => {
+                self.rest = None;
+                Some(rest)
+            }
+        }
+    }
+}
+
+/// Whether a line is words with one space between them.
+pub fn is_sentence(line: &[u8]) -> bool
+    ensures { result ≡ spec.is_sentence line.now }
+{
+    let mut words = Words::new(line);
+    while let Some(word) = words.next() {
+        if !is_word(word) {
+            return false;
+        }
+    }
+    true
+}

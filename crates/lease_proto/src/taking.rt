@@ -1,0 +1,71 @@
+//! The words of a line, taken one after another where the line has to have them.
+ghost use Rattle.std.specs.Prelude.{◌≡◌, Ok, Err, MatchResult};
+ghost use Rattle.std.specs.Option.{option_copied};
+ghost use Rattle.lease_proto.specs.Values.{words_of};
+ghost use Rattle.lease_proto.specs.Grammar.{option_at, word_at, end_of, quantity_or};
+
+use crate::faults::LineFault;
+use crate::framing::LONGEST_LINE;
+use crate::numbers::quantity;
+use crate::sentences::{Words, is_sentence};
+use crate::values::Quantity;
+
+/// The words of a line, given without its line feed: `TooLong` above 255 bytes, and `BadLine` where it is
+/// anything but words with one space between them.
+pub fn words(line: &[u8]) -> Result<Words<'_>, LineFault>
+    ensures { result ≡ words_of line.now }
+{
+    if line.len() > LONGEST_LINE {
+        return Err(LineFault::TooLong);
+    }
+    if !is_sentence(line) {
+        return Err(LineFault::BadLine);
+    }
+    Ok(Words::new(line))
+}
+
+/// The next word, which the line has to have.
+pub fn take<'a>(words: &mut Words<'a>) -> Result<&'a [u8], LineFault>
+    ensures { MatchResult result (λ word. word_at words.old ≡ Ok (word.now, words.new)) (λ fault. word_at words.old ≡ Err fault) }
+{
+    match words.next() {
+        Some(word) => Ok(word),
+        None => Err(LineFault::BadLine),
+    }
+}
+
+/// No word may be left.
+pub fn end(words: &mut Words<'_>) -> Result<(), LineFault>
+    ensures { result ≡ end_of words.old }
+{
+    match words.next() {
+        Some(_) => Err(LineFault::BadLine),
+        None => Ok(()),
+    }
+}
+
+/// The value of an option, where it is the next.
+pub fn option<'a>(words: &mut Words<'a>, key: &[u8]) -> Option<&'a [u8]>
+    ensures { option_at key.now words.old ≡ (option_copied result, words.new) }
+{
+    let mut ahead = words.ahead();
+    if ahead.next() != Some(key) {
+        return None;
+    }
+    let value = ahead.next()?;
+    *words = ahead;
+    Some(value)
+}
+
+/// The quantity that a word writes, or the default where there is none.
+pub fn quantity_or_default(
+    default: Quantity,
+    word: Option<&[u8]>,
+) -> Result<Quantity, LineFault>
+    ensures { result ≡ quantity_or default (option_copied word.entry) }
+{
+    match word {
+        Some(word) => quantity(word),
+        None => Ok(default),
+    }
+}

@@ -1,0 +1,164 @@
+//! The values that stand in lines. A value out of its range can't be made.
+ghost use Rattle.std.specs.Prelude.{◌≡◌, ◌≤◌, ◌^◌, ℕ, true};
+ghost use Rattle.std.specs.Option.{SomeIff};
+ghost use Rattle.lease_proto.specs.Words as spec;
+
+use crate::sentences::is_name;
+use std::marker::Model;
+
+/// The greatest number that a line may have: 2^62.
+pub const LARGEST: u64 = 1 << 62;
+
+/// The greatest client.
+pub const LAST_CLIENT: u32 = 65536;
+
+/// The longest name.
+pub const LONGEST_NAME: usize = 16;
+
+/// A client, 1 to 65,536.
+#[derive(Clone, Copy, Debug, PartialEq, Eq, PartialOrd, Ord, Hash)]
+pub struct ClientId(u32);
+
+impl Model for ClientId {
+    ghost Value = { ℕ };
+
+    ghost view = { λ c. c.0 };
+
+    ghost invariant = { λ c. (1 ≤ c.0) × (c.0 ≤ 65536) };
+
+    ghost inverse = { λ n. record { 0 = n } };
+}
+
+impl ClientId {
+    pub fn new(value: u32) -> Option<Self>
+        ensures { SomeIff result ((1 ≤ value) × (value ≤ 65536)) value }
+    {
+        if 1 <= value && value <= LAST_CLIENT {
+            Some(ClientId(value))
+        } else {
+            None
+        }
+    }
+
+    pub fn get(self) -> u32
+        ensures value { result ≡ self }
+        ensures range { (1 ≤ self) × (self ≤ 65536) }
+    {
+        self.0
+    }
+}
+
+/// An incarnation of a client, or the number of one of its requests: 1 to 2^62.
+#[derive(Clone, Copy, Debug, PartialEq, Eq, PartialOrd, Ord)]
+pub struct Ordinal(u64);
+
+impl Model for Ordinal {
+    ghost Value = { ℕ };
+
+    ghost view = { λ c. c.0 };
+
+    ghost invariant = { λ c. (1 ≤ c.0) × (c.0 ≤ 2 ^ 62) };
+
+    ghost inverse = { λ n. record { 0 = n } };
+}
+
+impl Ordinal {
+    pub fn new(value: u64) -> Option<Self>
+        ensures { SomeIff result ((1 ≤ value) × (value ≤ 2 ^ 62)) value }
+    {
+        if 1 <= value && value <= LARGEST {
+            Some(Ordinal(value))
+        } else {
+            None
+        }
+    }
+
+    pub fn get(self) -> u64
+        ensures value { result ≡ self }
+        ensures range { (1 ≤ self) × (self ≤ 2 ^ 62) }
+    {
+        self.0
+    }
+}
+
+/// A unit, a number of units or a bound on them, in units; or the last incarnation or number, with 0
+/// where there was none. 0 to 2^62.
+#[derive(Clone, Copy, Debug, PartialEq, Eq, PartialOrd, Ord)]
+pub struct Quantity(u64);
+
+impl Model for Quantity {
+    ghost Value = { ℕ };
+
+    ghost view = { λ c. c.0 };
+
+    ghost invariant = { λ c. c.0 ≤ 2 ^ 62 };
+
+    ghost inverse = { λ n. record { 0 = n } };
+}
+
+impl Quantity {
+    pub const ZERO: Quantity = Quantity(0);
+    pub const MOST: Quantity = Quantity(LARGEST);
+
+    pub fn new(value: u64) -> Option<Self>
+        ensures { SomeIff result (value ≤ 2 ^ 62) value }
+    {
+        if value <= LARGEST {
+            Some(Quantity(value))
+        } else {
+            None
+        }
+    }
+
+    pub fn get(self) -> u64
+        ensures value { result ≡ self }
+        ensures range { self ≤ 2 ^ 62 }
+    {
+        self.0
+    }
+}
+
+/// The name of an arena: 1 to 16 of the letters a to z and the digits, the first a letter.
+#[derive(Clone, Copy, Debug, PartialEq, Eq)]
+pub struct Name {
+    // The bytes past the name's are 0.
+    bytes: [u8; LONGEST_NAME],
+    len: usize,
+}
+
+impl Model for Name {
+    ghost use Rattle.std.specs.Prelude.{ℕ, List};
+
+    ghost Value = { List ℕ };
+
+    ghost use Rattle.lease_proto.specs.Names.{name_text, IsPadded, inside_of, inside_of-name_text};
+
+    ghost view = { name_text };
+
+    ghost invariant = { IsPadded };
+
+    ghost inverse = { inside_of };
+
+    ghost inverse_ok = { inside_of-name_text };
+}
+
+impl Name {
+    pub fn new(text: &[u8]) -> Option<Self>
+        ensures { SomeIff result (spec.is_name text.now ≡ true) text.now }
+    {
+        if !is_name(text) {
+            return None;
+        }
+        let mut bytes = [0; LONGEST_NAME];
+        let len = text.len();
+        bytes[..len].copy_from_slice(text);
+        Some(Name { bytes, len })
+    }
+
+    pub fn as_slice(&self) -> &[u8]
+        ensures value { result.now ≡ self.now }
+        ensures name { spec.is_name self.now ≡ true }
+    {
+        &self.bytes[..self.len]
+    }
+}

@@ -1,0 +1,66 @@
+//! Writing words into a buffer that has room for them.
+ghost use Rattle.std.specs.Prelude.{◌≡◌, ◌≤◌, ◌+◌, ◌∷◌, ◌++◌, length, decimal, vec_len};
+ghost use Rattle.std.specs.List.{flat_map};
+ghost use Rattle.std.specs.Vec.{vec_capacity};
+ghost use Rattle.lease_proto.specs.Texts.{option_words};
+
+use crate::values::{Name, Quantity};
+use itoa::Buffer;
+
+/// Text, as it is.
+pub fn push_text(out: &mut Vec<u8>, text: &[u8])
+    requires { vec_len out.old + length text.now ≤ vec_capacity out.old }
+    ensures text { out.new.items ≡ out.old.items ++ text.now }
+    ensures len { vec_len out.new ≡ vec_len out.old + length text.now }
+    ensures capacity { vec_capacity out.old ≤ vec_capacity out.new }
+{
+    match out.extend_from_slice(text) {
+        Ok(()) => {}
+        Err(_) => unreachable!(),
+    }
+}
+
+/// A space and a word.
+pub fn push_word(out: &mut Vec<u8>, word: &[u8])
+    requires { vec_len out.old + (length word.now + 1) ≤ vec_capacity out.old }
+    ensures text { out.new.items ≡ out.old.items ++ (32 ∷ word.now) }
+    ensures len { vec_len out.new ≡ vec_len out.old + (length word.now + 1) }
+    ensures capacity { vec_capacity out.old ≤ vec_capacity out.new }
+{
+    push_text(out, b" ");
+    push_text(out, word);
+}
+
+/// A space and a name.
+pub fn push_name(out: &mut Vec<u8>, name: &Name)
+    requires { vec_len out.old + 17 ≤ vec_capacity out.old }
+    ensures text { out.new.items ≡ out.old.items ++ (32 ∷ name.now) }
+    ensures len { vec_len out.new ≤ vec_len out.old + 17 }
+    ensures capacity { vec_capacity out.old ≤ vec_capacity out.new }
+{
+    push_word(out, name.as_slice());
+}
+
+/// A space and a number.
+pub fn push_number(out: &mut Vec<u8>, number: u64)
+    requires { vec_len out.old + 21 ≤ vec_capacity out.old }
+    ensures text { out.new.items ≡ out.old.items ++ (32 ∷ decimal number) }
+    ensures len { vec_len out.new ≤ vec_len out.old + 21 }
+    ensures capacity { vec_capacity out.old ≤ vec_capacity out.new }
+{
+    let mut buffer = Buffer::new();
+    push_word(out, buffer.format(number).as_bytes());
+}
+
+/// An option, which is left out at the value of no constraint.
+pub fn push_option(out: &mut Vec<u8>, key: &[u8], default: Quantity, value: Quantity)
+    requires { vec_len out.old + (length key.now + 22) ≤ vec_capacity out.old }
+    ensures text { out.new.items ≡ out.old.items ++ flat_map (λ word. 32 ∷ word) (option_words key.now default value) }
+    ensures len { vec_len out.new ≤ vec_len out.old + (length key.now + 22) }
+    ensures capacity { vec_capacity out.old ≤ vec_capacity out.new }
+{
+    if value.get() != default.get() {
+        push_word(out, key);
+        push_number(out, value.get());
+    }
+}
