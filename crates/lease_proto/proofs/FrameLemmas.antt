@@ -1,10 +1,10 @@
 -- Lemmas on how bytes fall into lines.
-use Rattle.std.proofs.Common.{◌≡◌, ◌≢◌, ◌==◌, ℕ, ◌≤◌, ◌<◌, ◌+◌, ◌-◌, nat_le, Bool, true, false, List, [], ◌∷◌, ◌++◌, length, map, take, drop, refl, sym, ◌∙◌, ap, subst, append_assoc, arith, cond, get_or, inl, inr, zero, suc, Err}
-use Rattle.std.proofs.lemmas.List.{append-nil, take-take, take_all, length-take, length-append, take_more, get_or-take}
-use Rattle.std.proofs.lemmas.Bool.{ne_eqb, eq-eqb, cond_both, cases_Bool, cases_eq, leb-true, leb-false, le-leb, lt-leb}
+use Rattle.std.proofs.Common.{◌≡◌, ◌≢◌, ◌==◌, ℕ, ◌≤◌, ◌<◌, ◌+◌, ◌-◌, nat_le, true, false, List, [], ◌∷◌, ◌++◌, length, take, refl, sym, ◌∙◌, ap, append_assoc, arith, cond, get_or, inl, inr, zero, suc, Err}
+use Rattle.std.proofs.lemmas.List.{append-nil, take-take, take_all, length-take, take_more, get_or-take}
+use Rattle.std.proofs.lemmas.Bool.{ne_eqb, cases_Bool, cases_eq, leb-true, leb-false, le-leb, lt-leb}
 use Rattle.std.proofs.Math.Seq.{take-append-add}
 use Rattle.std.specs.List.{flat_map, AllByRecursion}
-use Rattle.lease_proto.specs.Frames.{Frame, frame_of, last_of, frames_in, rest_in, frames_of, ended, IsOneLine, FramesAreLines, InputIsLines}
+use Rattle.lease_proto.specs.Frames.{frame_of, last_of, frames_in, rest_in, ended, IsOneLine, FramesAreLines, InputIsLines}
 use Rattle.lease_proto.specs.declared.faults.LineFault.TheVariants.{TooLong, BadLine}
 
 -- text with no line feed goes onto the line begun
@@ -23,8 +23,8 @@ pub frames_in-append : (line xs bs : List ℕ) → frames_in line (xs ++ bs) ≡
 frames_in-append line [] bs = refl
 frames_in-append line (x ∷ xs) bs =
     elim (x == 10) as (λ t. cond t (frame_of line ∷ frames_in [] (xs ++ bs)) (frames_in (line ++ x ∷ []) (xs ++ bs))
-        ≡ cond t (frame_of line ∷ frames_in [] xs) (frames_in (line ++ x ∷ []) xs)
-            ++ frames_in (cond t (rest_in [] xs) (rest_in (line ++ x ∷ []) xs)) bs) [
+    ≡ cond t (frame_of line ∷ frames_in [] xs) (frames_in (line ++ x ∷ []) xs)
+    ++ frames_in (cond t (rest_in [] xs) (rest_in (line ++ x ∷ []) xs)) bs) [
       | true ↦ ap (λ r. frame_of line ∷ r) (frames_in-append [] xs bs)
       | false ↦ frames_in-append (line ++ x ∷ []) xs bs
     ]
@@ -33,7 +33,7 @@ pub rest_in-append : (line xs bs : List ℕ) → rest_in line (xs ++ bs) ≡ res
 rest_in-append line [] bs = refl
 rest_in-append line (x ∷ xs) bs =
     elim (x == 10) as (λ t. cond t (rest_in [] (xs ++ bs)) (rest_in (line ++ x ∷ []) (xs ++ bs))
-        ≡ rest_in (cond t (rest_in [] xs) (rest_in (line ++ x ∷ []) xs)) bs) [
+    ≡ rest_in (cond t (rest_in [] xs) (rest_in (line ++ x ∷ []) xs)) bs) [
       | true ↦ rest_in-append [] xs bs
       | false ↦ rest_in-append (line ++ x ∷ []) xs bs
     ]
@@ -60,15 +60,15 @@ take-front (suc n) (x ∷ xs) ys = ap (λ r. x ∷ r) (take-front n xs ys)
 -- the first 256 bytes of a line tell its frame
 fits-take : (line : List ℕ) → nat_le (length (take 256 line)) 255 ≡ nat_le (length line) 255
 fits-take line = rw length-take (elim (cases_Bool (nat_le (length line) 255)) [
-      | inl fits ↦ rw fits (le-leb _ _ (omega (arith, leb-true _ _ fits)))
-      | inr over ↦ rw over (lt-leb _ _ (omega (arith, leb-false _ _ over)))
-    ])
+  | inl fits ↦ rw fits (le-leb _ _ (omega (arith, leb-true _ _ fits)))
+  | inr over ↦ rw over (lt-leb _ _ (omega (arith, leb-false _ _ over)))
+])
 
 pub frame_of-take : (line : List ℕ) → frame_of (take 256 line) ≡ frame_of line
 frame_of-take line = elim (cases_Bool (nat_le (length line) 255)) [
-      | inl fits ↦ let same : take 256 line ≡ line = take_all 256 line (omega (arith, leb-true _ _ fits)) in ap frame_of same
-      | inr over ↦ rw (fits-take line, over) refl
-    ]
+  | inl fits ↦ let same : take 256 line ≡ line = take_all 256 line (omega (arith, leb-true _ _ fits)) in ap frame_of same
+  | inr over ↦ rw (fits-take line, over) refl
+]
 
 pub last_of-take : (line : List ℕ) → last_of (take 256 line) ≡ last_of line
 last_of-take [] = refl
@@ -78,40 +78,41 @@ pub frames_in-take : (line bs : List ℕ) → frames_in (take 256 line) bs ≡ f
 frames_in-take line [] = refl
 frames_in-take line (b ∷ bs) =
     let same : frames_in (take 256 line ++ b ∷ []) bs ≡ frames_in (line ++ b ∷ []) bs =
-        sym (frames_in-take (take 256 line ++ b ∷ []) bs) ∙ ap (λ l. frames_in l bs) (take-front 256 line (b ∷ []))
-        ∙ frames_in-take (line ++ b ∷ []) bs in
+    sym (frames_in-take (take 256 line ++ b ∷ []) bs) ∙ ap (λ l. frames_in l bs) (take-front 256 line (b ∷ []))
+    ∙ frames_in-take (line ++ b ∷ []) bs in
     rw (frame_of-take line, same) refl
 
 pub rest_in-take : (line bs : List ℕ) → take 256 (rest_in (take 256 line) bs) ≡ take 256 (rest_in line bs)
 rest_in-take line [] = take-take 256 256 line (omega arith)
 rest_in-take line (b ∷ bs) =
     let same : take 256 (rest_in (take 256 line ++ b ∷ []) bs) ≡ take 256 (rest_in (line ++ b ∷ []) bs) =
-        sym (rest_in-take (take 256 line ++ b ∷ []) bs) ∙ ap (λ l. take 256 (rest_in l bs)) (take-front 256 line (b ∷ []))
-        ∙ rest_in-take (line ++ b ∷ []) bs in
+    sym (rest_in-take (take 256 line ++ b ∷ []) bs) ∙ ap (λ l. take 256 (rest_in l bs)) (take-front 256 line (b ∷ []))
+    ∙ rest_in-take (line ++ b ∷ []) bs in
     elim (b == 10) as (λ t. take 256 (cond t (rest_in [] bs) (rest_in (take 256 line ++ b ∷ []) bs))
-        ≡ take 256 (cond t (rest_in [] bs) (rest_in (line ++ b ∷ []) bs))) [ true ↦ refl | false ↦ same ]
+    ≡ take 256 (cond t (rest_in [] bs) (rest_in (line ++ b ∷ []) bs))) [ true ↦ refl | false ↦ same ]
 
 -- what follows one line that is ended
 one_more : (text bs : List ℕ) → IsOneLine text → (frames_in [] (ended text ++ bs) ≡ frame_of text ∷ frames_in [] bs) × (rest_in [] (ended text ++ bs) ≡ rest_in [] bs)
-one_more text bs one =
-    (frames_in-append [] (ended text) bs ∙ rw (frames_in-ended [] text one, rest_in-ended [] text one) refl,
-    rest_in-append [] (ended text) bs ∙ rw (rest_in-ended [] text one) refl)
+one_more text bs one = (
+  frames_in-append [] (ended text) bs ∙ rw (frames_in-ended [] text one, rest_in-ended [] text one) refl,
+  rest_in-append [] (ended text) bs ∙ rw (rest_in-ended [] text one) refl,
+)
 
 pub framed : FramesAreLines
 framed [] rest none one = rw (frames_in-none [] rest one, rest_in-none [] rest one) refl
 framed (line ∷ lines) rest each one =
     let step = one_more line (flat_map ended lines ++ rest) each.0 in
     rw (append_assoc (ended line) (flat_map ended lines) rest, step.0, step.1)
-        (ap (λ r. frame_of line ∷ r) (framed lines rest each.1 one))
+    (ap (λ r. frame_of line ∷ r) (framed lines rest each.1 one))
 
 -- an input that is made of lines and a rest
 abbrev InputIs : List ℕ → Type 0
 InputIs input = (lines : List (List ℕ)) × (rest : List ℕ) × AllByRecursion IsOneLine lines × IsOneLine rest
-  × (input ≡ flat_map ended lines ++ rest)
+    × (input ≡ flat_map ended lines ++ rest)
 
 -- a byte that is no line feed, in front of one
 onto : (b : ℕ) (bs : List ℕ) → b ≢ 10 → (lines : List (List ℕ)) (rest : List ℕ) → AllByRecursion IsOneLine lines → IsOneLine rest
-  → bs ≡ flat_map ended lines ++ rest → InputIs (b ∷ bs)
+    → bs ≡ flat_map ended lines ++ rest → InputIs (b ∷ bs)
 onto b bs other [] rest each one is = ([], b ∷ rest, tt, (other, one), ap (λ r. b ∷ r) is)
 onto b bs other (line ∷ lines) rest each one is = ((b ∷ line) ∷ lines, rest, ((other, each.0), each.1), one, ap (λ r. b ∷ r) is)
 
@@ -142,21 +143,22 @@ up_to piece i below is = take_more piece i 0 below ∙ ap (λ b. take i piece ++
 pub one_line_before : (piece : List ℕ) (i : ℕ) → i < length piece → ((k : ℕ) → k < i → get_or piece k 0 ≢ 10) → IsOneLine (take i piece)
 one_line_before piece i below none =
     one_line (take i piece) (λ k lt. let lower : k < i = omega (arith, length-take i piece) in
-        let same : get_or (take i piece) k 0 ≡ get_or piece k 0 = get_or-take i piece k 0 lower in rw same (none k lower))
+    let same : get_or (take i piece) k 0 ≡ get_or piece k 0 = get_or-take i piece k 0 lower in rw same (none k lower))
 
 -- a reader that takes a piece up to its first line feed
 pub ends_line : (line front piece : List ℕ) (i : ℕ) → i < length piece → get_or piece i 0 ≡ 10
-  → ((k : ℕ) → k < i → get_or piece k 0 ≢ 10) → front ≡ take 256 (line ++ take i piece)
-  → (frames_in line (take (i + 1) piece) ≡ frame_of front ∷ []) × (rest_in line (take (i + 1) piece) ≡ [])
+    → ((k : ℕ) → k < i → get_or piece k 0 ≢ 10) → front ≡ take 256 (line ++ take i piece)
+    → (frames_in line (take (i + 1) piece) ≡ frame_of front ∷ []) × (rest_in line (take (i + 1) piece) ≡ [])
 ends_line line front piece i below is none held =
     let one = one_line_before piece i below none in
-    let frame : frame_of front ≡ frame_of (line ++ take i piece) = ap frame_of held ∙ frame_of-take _ in
-    (ap (frames_in line) (up_to piece i below is) ∙ frames_in-ended line (take i piece) one ∙ ap (λ f. f ∷ []) (sym frame),
-    ap (rest_in line) (up_to piece i below is) ∙ rest_in-ended line (take i piece) one)
+    let frame : frame_of front ≡ frame_of (line ++ take i piece) = ap frame_of held ∙ frame_of-take _ in (
+      ap (frames_in line) (up_to piece i below is) ∙ frames_in-ended line (take i piece) one ∙ ap (λ f. f ∷ []) (sym frame),
+      ap (rest_in line) (up_to piece i below is) ∙ rest_in-ended line (take i piece) one,
+    )
 
 -- a reader that takes all of a piece
 pub goes_on : (line front piece : List ℕ) → ((k : ℕ) → k < length piece → get_or piece k 0 ≢ 10) → front ≡ take 256 (line ++ piece)
-  → (frames_in line piece ≡ []) × (front ≡ take 256 (rest_in line piece))
+    → (frames_in line piece ≡ []) × (front ≡ take 256 (rest_in line piece))
 goes_on line front piece none held =
     let one = one_line piece none in
     (frames_in-none line piece one, held ∙ ap (take 256) (sym (rest_in-none line piece one)))

@@ -1,28 +1,27 @@
 -- Lemmas on what is written and read.
-use Rattle.std.proofs.Common.{◌≡◌, ◌≢◌, ◌==◌, ◌&&◌, ◌||◌, ◌^◌, ℕ, ◌≤◌, ◌<◌, ◌+◌, ◌-◌, ◌*◌, Bool, true, false, cond, List, [], ◌∷◌, ◌++◌, length, take, drop, get_or, Option, Some, None, Result, Ok, Err, refl, sym, ◌∙◌, ap, subst, arith, zero, suc, inl, inr, append_assoc, decimal, rules, nat_le, nat_lt, codes}
+use Rattle.std.proofs.Common.{◌≡◌, ◌==◌, ◌||◌, ◌^◌, ℕ, ◌≤◌, ◌<◌, ◌+◌, true, false, cond, List, [], ◌∷◌, ◌++◌, length, get_or, Option, Some, None, Ok, refl, sym, ◌∙◌, ap, subst, arith, inl, inr, decimal, nat_le, codes}
 use Rattle.std.proofs.lemmas.List.{append-nil, length-append}
-use Rattle.std.proofs.lemmas.Bool.{lt-leb, le-leb, le-ltb, leb-true, leb-false, ne_eqb, eq-eqb, eqb-true, cases_Bool, and_parts, and_from, cases_eq}
+use Rattle.std.proofs.lemmas.Bool.{le-leb, le-ltb, leb-true, ne_eqb, eq-eqb, and_parts, and_from, cases_eq}
 use Rattle.std.proofs.lemmas.List.Elements.{All-from_recursion}
 use Rattle.std.proofs.lemmas.List.Splits.{slice_split_at, slice_split_none}
 use Rattle.std.proofs.lemmas.Fmt.{length-decimal-le, decimal_nonempty}
-use Rattle.std.specs.List.{All, AllByRecursion, slice_split, list_all, flat_map}
+use Rattle.std.specs.List.{All, AllByRecursion, list_all}
 use Rattle.std.specs.Str.{bytes_eq, all_ascii_digits}
 use Rattle.std.specs.Char.{is_ascii_digit}
 use Rattle.lease_proto.specs.declared.lines.Line.{Line}
 use Rattle.lease_proto.specs.declared.lines.Line.TheVariants.{Hello, Lease, Release}
-use Rattle.lease_proto.specs.declared.lines.LeaseOptions.{LeaseOptions}
-use Rattle.lease_proto.specs.Words.{number_of, parts_of, is_word, is_word_byte, is_letter, is_name, is_sentence}
-use Rattle.lease_proto.specs.Values.{client_in, ordinal_in, quantity_in, name_in, words_of, between, IsQuantity}
-use Rattle.lease_proto.specs.Grammar.{line_of, line_of_words, hello_of, lease_of, release_of, option_at, quantity_or, word_at, end_of}
-use Rattle.lease_proto.specs.Texts.{option_words, options_words, words_after, first_word, sentence, spaced, text_of, IsLine, AreOptions, LineIsRead}
+use Rattle.lease_proto.specs.Words.{parts_of, is_word, is_word_byte, is_letter, is_name, is_sentence}
+use Rattle.lease_proto.specs.Values.{client_in, ordinal_in, quantity_in}
+use Rattle.lease_proto.specs.Grammar.{line_of, line_of_words, hello_of, lease_of, release_of, option_at, quantity_or}
+use Rattle.lease_proto.specs.Texts.{option_words, words_after, first_word, sentence, spaced, text_of, IsLine, LineIsRead}
 use Rattle.lease_proto.proofs.WordLemmas.{numbers, decimal_is_digits}
 
 -- a byte of a word is no space
 no_space : (b : ℕ) → is_word_byte b ≡ true → (b == 32) ≡ false
 no_space b word = elim (cases_eq b 32) [
-      | inl is ↦ let bad : is_word_byte 32 ≡ true = subst (λ x. is_word_byte x ≡ true) is word in absurd (cc)
-      | inr other ↦ ne_eqb b 32 other
-    ]
+  | inl is ↦ let bad : is_word_byte 32 ≡ true = subst (λ x. is_word_byte x ≡ true) is word in absurd (cc)
+  | inr other ↦ ne_eqb b 32 other
+]
 
 no_spaces : (bs : List ℕ) → list_all is_word_byte bs ≡ true → AllByRecursion (λ x. (x == 32) ≡ false) bs
 no_spaces [] all = tt
@@ -34,7 +33,7 @@ word_clear word is = All-from_recursion _ word (no_spaces word (and_parts (nat_l
 
 -- a sentence has its words as its parts
 pub parts_of-sentence : (first : List ℕ) (words : List (List ℕ)) → is_word first ≡ true → list_all is_word words ≡ true
-  → parts_of (sentence first words) ≡ first ∷ words
+    → parts_of (sentence first words) ≡ first ∷ words
 parts_of-sentence first [] is all = ap parts_of (append-nil first) ∙ slice_split_none (λ b. b == 32) first (word_clear first is)
 parts_of-sentence first (word ∷ words) is all =
     let parts = and_parts (is_word word) (list_all is_word words) all in
@@ -47,13 +46,13 @@ digits_word [] all = refl
 digits_word (b ∷ bs) all =
     let parts = and_parts (is_ascii_digit b) (all_ascii_digits bs) all in
     and_from (is_word_byte b) (list_all is_word_byte bs) (rw parts.0 (elim (is_letter b) as (λ t. (t || true) ≡ true) [ true ↦ refl | false ↦ refl ]))
-      (digits_word bs parts.1)
+    (digits_word bs parts.1)
 
 pub decimal_word : (n : ℕ) → n ≤ 2 ^ 62 → is_word (decimal n) ≡ true
 decimal_word n low =
     let small : n < 2 ^ 64 = omega arith in
     and_from (nat_le 1 (length (decimal n))) (list_all is_word_byte (decimal n)) (le-leb _ _ (decimal_nonempty n small))
-      (digits_word (decimal n) (decimal_is_digits n small))
+    (digits_word (decimal n) (decimal_is_digits n small))
 
 -- what is written of a number is read as that number
 pub quantity_again : (n : ℕ) → n ≤ 2 ^ 62 → quantity_in (decimal n) ≡ Ok n
@@ -71,7 +70,7 @@ NotFirst key [] = Unit {0}
 NotFirst key (word ∷ words) = bytes_eq word key ≡ false
 
 not_first : (key other : List ℕ) (default value : ℕ) (rest : List (List ℕ)) → bytes_eq other key ≡ false → NotFirst key rest
-  → NotFirst key (option_words other default value ++ rest)
+    → NotFirst key (option_words other default value ++ rest)
 not_first key other default value rest differs none =
     elim (value == default) as (λ t. NotFirst key (cond t [] (other ∷ decimal value ∷ []) ++ rest)) [ true ↦ none | false ↦ differs ]
 
@@ -85,7 +84,7 @@ abbrev written : ℕ → ℕ → Option (List ℕ)
 written default value = cond (value == default) None (Some (decimal value))
 
 option_again : (key : List ℕ) (default value : ℕ) (rest : List (List ℕ)) → bytes_eq key key ≡ true → NotFirst key rest
-  → option_at key (option_words key default value ++ rest) ≡ (written default value, rest)
+    → option_at key (option_words key default value ++ rest) ≡ (written default value, rest)
 option_again key default value rest same none =
     elim (value == default) as (λ t. option_at key (cond t [] (key ∷ decimal value ∷ []) ++ rest) ≡ (cond t None (Some (decimal value)), rest)) [
       | true ↦ option_at-none key rest none
@@ -94,9 +93,9 @@ option_again key default value rest same none =
 
 written_again : (default value : ℕ) → value ≤ 2 ^ 62 → quantity_or default (written default value) ≡ Ok value
 written_again default value low = elim (cases_eq value default) [
-      | inl is ↦ rw (eq-eqb value default is) (ap Ok (sym is))
-      | inr other ↦ rw (ne_eqb value default other) (quantity_again value low)
-    ]
+  | inl is ↦ rw (eq-eqb value default is) (ap Ok (sym is))
+  | inr other ↦ rw (ne_eqb value default other) (quantity_again value low)
+]
 
 option_last : (key : List ℕ) (default value : ℕ) → bytes_eq key key ≡ true → option_at key (option_words key default value) ≡ (written default value, [])
 option_last key default value same =
@@ -118,24 +117,32 @@ words_again (Lease l) is =
     let nocross = option_words (codes "nocross") 0 q.nocross ++ min in
     let phase = option_words (codes "phase") 0 q.phase ++ nocross in
     let end_of_max : (key : List ℕ) → bytes_eq (codes "max") key ≡ false → NotFirst key max =
-      λ key differs. subst (NotFirst key) (append-nil max) (not_first key (codes "max") (2 ^ 62) q.max [] differs tt) in
+    λ key differs. subst (NotFirst key) (append-nil max) (not_first key (codes "max") (2 ^ 62) q.max [] differs tt) in
     let at_min : (key : List ℕ) → bytes_eq (codes "max") key ≡ false → bytes_eq (codes "min") key ≡ false → NotFirst key min =
-      λ key h m. not_first key (codes "min") 0 q.min max m (end_of_max key h) in
+    λ key h m. not_first key (codes "min") 0 q.min max m (end_of_max key h) in
     let at_nocross : (key : List ℕ) → bytes_eq (codes "max") key ≡ false → bytes_eq (codes "min") key ≡ false → bytes_eq (codes "nocross") key ≡ false → NotFirst key nocross =
-      λ key h m x. not_first key (codes "nocross") 0 q.nocross min x (at_min key h m) in
-    rw (is.3,
+    λ key h m x. not_first key (codes "nocross") 0 q.nocross min x (at_min key h m) in
+    rw (
+      is.3,
       option_again (codes "align") 0 q.align phase refl (not_first (codes "align") (codes "phase") 0 q.phase nocross refl (at_nocross (codes "align") refl refl refl)),
       option_again (codes "phase") 0 q.phase nocross refl (at_nocross (codes "phase") refl refl refl),
       option_again (codes "nocross") 0 q.nocross min refl (at_min (codes "nocross") refl refl),
       option_again (codes "min") 0 q.min max refl (end_of_max (codes "min") refl),
       option_last (codes "max") (2 ^ 62) q.max refl,
-      client_again l.client is.0.0 is.0.1, ordinal_again l.incarnation is.1.0 is.1.1, ordinal_again l.number is.2.0 is.2.1,
-      quantity_again l.size is.4, written_again 0 q.align is.5.0, written_again 0 q.phase is.5.1, written_again 0 q.nocross is.5.2, written_again 0 q.min is.5.3,
-      written_again (2 ^ 62) q.max is.5.4) refl
+      client_again l.client is.0.0 is.0.1,
+      ordinal_again l.incarnation is.1.0 is.1.1,
+      ordinal_again l.number is.2.0 is.2.1,
+      quantity_again l.size is.4,
+      written_again 0 q.align is.5.0,
+      written_again 0 q.phase is.5.1,
+      written_again 0 q.nocross is.5.2,
+      written_again 0 q.min is.5.3,
+      written_again (2 ^ 62) q.max is.5.4,
+    ) refl
 
 -- the words of a line are words
 option_is_words : (key : List ℕ) (default value : ℕ) (rest : List (List ℕ)) → is_word key ≡ true → value ≤ 2 ^ 62 → list_all is_word rest ≡ true
-  → list_all is_word (option_words key default value ++ rest) ≡ true
+    → list_all is_word (option_words key default value ++ rest) ≡ true
 option_is_words key default value rest word low all =
     elim (value == default) as (λ t. list_all is_word (cond t [] (key ∷ decimal value ∷ []) ++ rest) ≡ true) [
       | true ↦ all
@@ -151,13 +158,13 @@ are_words (Lease l) is =
     let name = and_parts (is_word l.arena) _ is.3 in
     let q = l.options in
     rw (decimal_word l.client (omega arith), decimal_word l.incarnation is.1.1, decimal_word l.number is.2.1, name.0, decimal_word l.size is.4)
-      (option_is_words (codes "align") 0 q.align _ refl is.5.0 (option_is_words (codes "phase") 0 q.phase _ refl is.5.1
-        (option_is_words (codes "nocross") 0 q.nocross _ refl is.5.2 (option_is_words (codes "min") 0 q.min _ refl is.5.3
-          (subst (λ ws. list_all is_word ws ≡ true) (append-nil (option_words (codes "max") (2 ^ 62) q.max)) (option_is_words (codes "max") (2 ^ 62) q.max [] refl is.5.4 refl))))))
+    (option_is_words (codes "align") 0 q.align _ refl is.5.0 (option_is_words (codes "phase") 0 q.phase _ refl is.5.1
+    (option_is_words (codes "nocross") 0 q.nocross _ refl is.5.2 (option_is_words (codes "min") 0 q.min _ refl is.5.3
+    (subst (λ ws. list_all is_word ws ≡ true) (append-nil (option_words (codes "max") (2 ^ 62) q.max)) (option_is_words (codes "max") (2 ^ 62) q.max [] refl is.5.4 refl))))))
 
 -- how many bytes words take behind the first
 length-option : (key : List ℕ) (default value : ℕ) (rest : List (List ℕ)) → value ≤ 2 ^ 62
-  → length (spaced (option_words key default value ++ rest)) ≤ length key + 21 + length (spaced rest)
+    → length (spaced (option_words key default value ++ rest)) ≤ length key + 21 + length (spaced rest)
 length-option key default value rest low =
     let digits : length (decimal value) ≤ 19 = length-decimal-le 19 value (omega arith) (omega arith) (omega arith) in
     elim (value == default) as (λ t. length (spaced (cond t [] (key ∷ decimal value ∷ []) ++ rest)) ≤ length key + 21 + length (spaced rest)) [
@@ -200,8 +207,8 @@ short (Lease l) is =
     let o3 = length-option (codes "nocross") 0 q.nocross min is.5.2 in
     let o4 = length-option (codes "min") 0 q.min max is.5.3 in
     let o5 : length (spaced max) ≤ length (codes "max") + 21 =
-      subst (λ ws. length (spaced ws) ≤ length (codes "max") + 21) (append-nil max)
-        (omega (arith, length-option (codes "max") (2 ^ 62) q.max [] is.5.4)) in
+    subst (λ ws. length (spaced ws) ≤ length (codes "max") + 21) (append-nil max)
+    (omega (arith, length-option (codes "max") (2 ^ 62) q.max [] is.5.4)) in
     simp length-append (omega arith)
 
 first_is_word : (line : Line) → is_word (first_word line) ≡ true

@@ -1,5 +1,5 @@
 -- What is written of a reply is read again.
-use Rattle.std.proofs.Common.{◌≡◌, ◌&&◌, ◌^◌, ℕ, ◌≤◌, ◌<◌, ◌+◌, Bool, true, false, List, [], ◌∷◌, ◌++◌, length, get_or, Ok, Err, refl, sym, ◌∙◌, ap, arith, decimal, codes, nat_le, lit≤}
+use Rattle.std.proofs.Common.{◌≡◌, ℕ, ◌≤◌, true, List, ◌∷◌, length, Ok, refl, ◌∙◌, ap, arith, codes, lit≤}
 use Rattle.std.proofs.lemmas.List.{length-append}
 use Rattle.std.proofs.lemmas.Bool.{le-ltb, and_parts, and_from}
 use Rattle.std.specs.List.{list_all}
@@ -59,8 +59,14 @@ words_again : (reply : Reply) → IsReply reply → reply_of_words (first_reply_
 unfolding reply_of_words welcome_of granted_of released_of refused_of old_of out_of_turn_of again_of error_of
 words_again (Welcome w) is = rw (client_again w.client is.0.0 is.0.1, ordinal_again w.incarnation is.1.0 is.1.1) refl
 words_again (Granted g) is =
-    rw (is.3, client_again g.client is.0.0 is.0.1, ordinal_again g.incarnation is.1.0 is.1.1, ordinal_again g.number is.2.0 is.2.1,
-      quantity_again g.base is.4, quantity_again g.len is.5) refl
+    rw (
+      is.3,
+      client_again g.client is.0.0 is.0.1,
+      ordinal_again g.incarnation is.1.0 is.1.1,
+      ordinal_again g.number is.2.0 is.2.1,
+      quantity_again g.base is.4,
+      quantity_again g.len is.5,
+    ) refl
 words_again (Released r) is = rw (client_again r.client is.0.0 is.0.1, ordinal_again r.incarnation is.1.0 is.1.1, ordinal_again r.number is.2.0 is.2.1) refl
 words_again (Refused r) is =
     rw (refusal_again r.refusal, client_again r.client is.0.0 is.0.1, ordinal_again r.incarnation is.1.0 is.1.1, ordinal_again r.number is.2.0 is.2.1) refl

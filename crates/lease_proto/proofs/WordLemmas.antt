@@ -1,10 +1,10 @@
 -- Lemmas on words and numbers.
-use Rattle.std.proofs.Common.{◌^◌, ◌≡◌, ◌≢◌, ◌==◌, ◌↔◌, ◌&&◌, ℕ, ◌≤◌, ◌<◌, ◌+◌, ◌-◌, ◌*◌, Bool, true, false, cond, List, [], ◌∷◌, ◌++◌, length, take, drop, get_or, Option, Some, None, refl, sym, ◌∙◌, ap, subst, arith, zero, suc, inl, inr, append_assoc, take-append-drop, decimal, rules, nat_le}
+use Rattle.std.proofs.Common.{◌^◌, ◌≡◌, ◌≢◌, ◌==◌, ℕ, ◌≤◌, ◌<◌, ◌+◌, ◌-◌, ◌*◌, true, false, cond, List, [], ◌∷◌, ◌++◌, length, take, drop, get_or, Some, None, refl, sym, ◌∙◌, ap, arith, zero, suc, inl, inr, take-append-drop, decimal, rules, nat_le}
 use Rattle.std.proofs.lemmas.List.{drop_more, take_rest, length-take, get_or-take}
-use Rattle.std.proofs.lemmas.Bool.{lt-leb, le-leb, leb-true, leb-false, ne_eqb, eq-eqb, cases_Bool, and_parts, cases_eq, and_from}
+use Rattle.std.proofs.lemmas.Bool.{lt-leb, le-leb, leb-true, ne_eqb, eq-eqb, cases_Bool, and_parts, cases_eq, and_from}
 use Rattle.std.proofs.lemmas.List.Elements.{All-from_recursion}
 use Rattle.std.proofs.lemmas.List.Splits.{slice_split_at, slice_split_none}
-use Rattle.std.specs.List.{All, AllByRecursion, slice_split}
+use Rattle.std.specs.List.{AllByRecursion}
 use Rattle.std.specs.Char.{is_ascii_digit}
 use Rattle.std.specs.Str.{all_ascii_digits}
 use Rattle.std.proofs.lemmas.Str.Parse.{IsNumeralModel, numerals_by_fold}
@@ -31,13 +31,13 @@ parts_of-one line none = slice_split_none (λ b. b == 32) line (All-from_recursi
 
 -- the part before the first space, and the others
 pub parts_of-first : (line : List ℕ) (i : ℕ) → i < length line → get_or line i 0 ≡ 32 → ((k : ℕ) → k < i → get_or line k 0 ≢ 32)
-  → parts_of line ≡ take i line ∷ parts_of (take (length line - (i + 1)) (drop (i + 1) line))
+    → parts_of line ≡ take i line ∷ parts_of (take (length line - (i + 1)) (drop (i + 1) line))
 parts_of-first line i below is none =
     let front = take i line in
     let cut : line ≡ front ++ 32 ∷ drop (i + 1) line =
-        sym (take-append-drop i line) ∙ ap (λ l. front ++ l) (drop_more line i 0 below ∙ ap (λ b. b ∷ drop (i + 1) line) is) in
+    sym (take-append-drop i line) ∙ ap (λ l. front ++ l) (drop_more line i 0 below ∙ ap (λ b. b ∷ drop (i + 1) line) is) in
     let clear = spaceless front (λ k lt. let lower : k < i = omega (arith, length-take i line) in
-        let same : get_or front k 0 ≡ get_or line k 0 = get_or-take i line k 0 lower in rw same (none k lower)) in
+    let same : get_or front k 0 ≡ get_or line k 0 = get_or-take i line k 0 lower in rw same (none k lower)) in
     ap parts_of cut ∙ slice_split_at (λ b. b == 32) front 32 (drop (i + 1) line) (All-from_recursion _ front clear) refl
     ∙ ap (λ l. front ∷ parts_of l) (sym (take_rest line (i + 1)))
 
@@ -52,15 +52,15 @@ own = numerals_by_fold _ (search rules) read_on (search rules)
 -- what a number that was read says of its digits
 digits_say : (m : ℕ) (bs : List ℕ) (n : ℕ) → digits_from m bs ≡ Some n → (all_ascii_digits bs ≡ true) × (read_on m bs ≡ n) × (n ≤ 2 ^ 62)
 digits_say m [] n e = elim (cases_Bool (nat_le m (2 ^ 62))) [
-      | inl low ↦ let is : m ≡ n = (let found : Some m ≡ Some n = rw low at e in cc) in (refl, is, rw (← is) (leb-true _ _ low))
-      | inr high ↦ let none : None ≡ Some n = rw high at e in absurd (cc)
-    ]
+  | inl low ↦ let is : m ≡ n = (let found : Some m ≡ Some n = rw low at e in cc) in (refl, is, rw (← is) (leb-true _ _ low))
+  | inr high ↦ let none : None ≡ Some n = rw high at e in absurd (cc)
+]
 digits_say m (b ∷ bs) n e = elim (cases_Bool (is_ascii_digit b)) [
-      | inl digit ↦
-        let rest = digits_say (m * 10 + (b - 48)) bs n (rw digit at e) in
-        (and_from (is_ascii_digit b) (all_ascii_digits bs) digit rest.0, rest.1, rest.2)
-      | inr other ↦ let none : None ≡ Some n = rw other at e in absurd (cc)
-    ]
+  | inl digit ↦
+      let rest = digits_say (m * 10 + (b - 48)) bs n (rw digit at e) in
+      (and_from (is_ascii_digit b) (all_ascii_digits bs) digit rest.0, rest.1, rest.2)
+  | inr other ↦ let none : None ≡ Some n = rw other at e in absurd (cc)
+]
 
 -- digits of a number that isn't too large are read
 digits_read : (m : ℕ) (bs : List ℕ) (n : ℕ) → all_ascii_digits bs ≡ true → read_on m bs ≡ n → n ≤ 2 ^ 62 → digits_from m bs ≡ Some n
@@ -74,23 +74,23 @@ abbrev HasPlainFront : List ℕ → Type 0
 HasPlainFront word = get_or word 0 0 ≡ 48 → length word ≡ 1
 
 number_says : (word : List ℕ) (n : ℕ) → number_of word ≡ Some n
-  → (all_ascii_digits word ≡ true) × (0 < length word) × HasPlainFront word × (read_on 0 word ≡ n) × (n ≤ 2 ^ 62)
+    → (all_ascii_digits word ≡ true) × (0 < length word) × HasPlainFront word × (read_on 0 word ≡ n) × (n ≤ 2 ^ 62)
 number_says [] n e = absurd (cc)
 number_says (b ∷ []) n e = let said = digits_say 0 (b ∷ []) n e in (said.0, omega arith, λ _. refl, said.1, said.2)
 number_says (b ∷ c ∷ bs) n e = elim (cases_eq b 48) [
-      | inl zeros ↦ let none : None ≡ Some n = rw (eq-eqb b 48 zeros) at e in absurd (cc)
-      | inr other ↦
-        let said = digits_say 0 (b ∷ c ∷ bs) n (rw (ne_eqb b 48 other) at e) in
-        (said.0, omega arith, λ is. absurd (other is), said.1, said.2)
-    ]
+  | inl zeros ↦ let none : None ≡ Some n = rw (eq-eqb b 48 zeros) at e in absurd (cc)
+  | inr other ↦
+      let said = digits_say 0 (b ∷ c ∷ bs) n (rw (ne_eqb b 48 other) at e) in
+      (said.0, omega arith, λ is. absurd (other is), said.1, said.2)
+]
 
 number_read : (word : List ℕ) (n : ℕ) → all_ascii_digits word ≡ true → 0 < length word → HasPlainFront word → read_on 0 word ≡ n → n ≤ 2 ^ 62
-  → number_of word ≡ Some n
+    → number_of word ≡ Some n
 number_read [] n all some front is low = absurd (omega arith)
 number_read (b ∷ []) n all some front is low = digits_read 0 (b ∷ []) n all is low
 number_read (b ∷ c ∷ bs) n all some front is low =
     rw (ne_eqb b 48 (λ zeros. let one : suc (suc (length bs)) ≡ 1 = front zeros in absurd (omega arith)))
-      (digits_read 0 (b ∷ c ∷ bs) n all is low)
+    (digits_read 0 (b ∷ c ∷ bs) n all is low)
 
 plain_decimal : (n : ℕ) → n < 2 ^ 64 → HasPlainFront (decimal n)
 plain_decimal zero small = λ _. ap length (decimal_digit 0 (omega arith))
@@ -98,13 +98,13 @@ plain_decimal (suc n) small = λ is. let above = first_decimal (suc n) (omega ar
 
 pub numbers : NumbersAreDecimal
 numbers word n = (
-    λ e. let said = number_says word n e in
+  λ e. let said = number_says word n e in
       (sym (decimal-digits_value own word said.0 said.1 said.2 (omega arith)) ∙ ap decimal said.3, said.4),
-    λ given.
+  λ given.
       let small : n < 2 ^ 64 = omega arith in
       ap number_of given.0 ∙ number_read (decimal n) n (digits_decimal own n small) (decimal_nonempty n small) (plain_decimal n small)
-        (digits_value-decimal own n small) given.1
-  )
+      (digits_value-decimal own n small) given.1,
+)
 
 pub decimal_is_digits : (n : ℕ) → n < 2 ^ 64 → all_ascii_digits (decimal n) ≡ true
 decimal_is_digits n small = digits_decimal own n small

@@ -43,25 +43,25 @@ IsOneLine line = AllByRecursion (λ b. b ≢ 10) line
 -- an input made of these lines and a rest with no line feed has the frames of these lines, and then that of the rest
 abbrev pub FramesAreLines : Type 0
 FramesAreLines = (lines : List (List ℕ)) (rest : List ℕ) → AllByRecursion IsOneLine lines → IsOneLine rest
-  → frames_of (flat_map ended lines ++ rest) ≡ map frame_of lines ++ last_of rest
+    → frames_of (flat_map ended lines ++ rest) ≡ map frame_of lines ++ last_of rest
 
 -- each input is made so
 abbrev pub InputIsLines : Type 0
 InputIsLines = (input : List ℕ) → (lines : List (List ℕ)) × (rest : List ℕ) × AllByRecursion IsOneLine lines × IsOneLine rest
-  × (input ≡ flat_map ended lines ++ rest)
+    × (input ≡ flat_map ended lines ++ rest)
 
 -- bytes in two parts: the frames of the first, and then of the second, behind the line that the first leaves unended
 abbrev pub PiecesAreOne : Type 0
 PiecesAreOne = (line xs ys : List ℕ)
-  → (frames_in line (xs ++ ys) ≡ frames_in line xs ++ frames_in (rest_in line xs) ys)
-  × (rest_in line (xs ++ ys) ≡ rest_in (rest_in line xs) ys)
+    → (frames_in line (xs ++ ys) ≡ frames_in line xs ++ frames_in (rest_in line xs) ys)
+    × (rest_in line (xs ++ ys) ≡ rest_in (rest_in line xs) ys)
 
 -- the first 256 bytes of the line begun tell the frames
 abbrev pub FrontIsEnough : Type 0
 FrontIsEnough = (line bytes : List ℕ)
-  → (frames_in (take 256 line) bytes ≡ frames_in line bytes)
-  × (take 256 (rest_in (take 256 line) bytes) ≡ take 256 (rest_in line bytes))
-  × (last_of (take 256 line) ≡ last_of line)
+    → (frames_in (take 256 line) bytes ≡ frames_in line bytes)
+    × (take 256 (rest_in (take 256 line) bytes) ≡ take 256 (rest_in line bytes))
+    × (last_of (take 256 line) ≡ last_of line)
 
 -- what a line reader holds: the first 256 bytes of the line begun, and whether its line feed has come
 pub record Held : Type 0 where

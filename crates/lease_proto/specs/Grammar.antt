@@ -93,10 +93,10 @@ lease_of words = do
 unfoldable pub line_of_words : List (List ℕ) → Result Line LineFault
 line_of_words [] = Err Word
 line_of_words (first ∷ words) =
-  if bytes_eq first (codes "hello") then (hello_of words >>= λ h. Ok (lines.Hello h))
-  else if bytes_eq first (codes "lease") then (lease_of words >>= λ l. Ok (lines.Lease l))
-  else if bytes_eq first (codes "release") then (release_of words >>= λ r. Ok (lines.Release r))
-  else Err Word
+    if bytes_eq first (codes "hello") then (hello_of words >>= λ h. Ok (lines.Hello h))
+    else if bytes_eq first (codes "lease") then (lease_of words >>= λ l. Ok (lines.Lease l))
+    else if bytes_eq first (codes "release") then (release_of words >>= λ r. Ok (lines.Release r))
+    else Err Word
 
 -- the line that bytes are, or the first reason why they are none
 unfoldable pub line_of : List ℕ → Result Line LineFault

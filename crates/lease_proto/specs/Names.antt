@@ -1,6 +1,6 @@
 -- How a name lies in its bytes: at their front, with 0 behind it.
-use Rattle.std.specs.Prelude.{◌≡◌, ◌-◌, ◌++◌, ℕ, List, true, take, length, replicate, refl}
-use Rattle.std.proofs.Common.{sym, ◌∙◌, ap}
+use Rattle.std.specs.Prelude.{◌≡◌, ◌-◌, ◌++◌, ℕ, List, true, take, length, replicate}
+use Rattle.std.proofs.Common.{◌∙◌, ap}
 use Rattle.lease_proto.specs.declared.values.Name.TheInside.{Inside}
 use Rattle.lease_proto.specs.Words.{is_name}
 

@@ -1,5 +1,5 @@
 -- Which bytes are a reply, and what a reply is written with.
-use Rattle.std.specs.Prelude.{◌≡◌, ◌≤◌, ℕ, Bool, true, List, [], ◌∷◌, if◌then◌else◌, Result, Ok, Err, codes, decimal}
+use Rattle.std.specs.Prelude.{◌≡◌, ℕ, true, List, [], ◌∷◌, if◌then◌else◌, Result, Ok, Err, codes, decimal}
 use Rattle.std.specs.Str.{bytes_eq}
 use Rattle.lease_proto.specs.declared.faults.LineFault.{LineFault}
 use Rattle.lease_proto.specs.declared.faults.LineFault.TheVariants as faults
@@ -30,21 +30,21 @@ refusal_word Leases = codes "leases"
 -- the refusal that a word is
 abbrev pub refusal_in : List ℕ → Result Refusal LineFault
 refusal_in word =
-  if bytes_eq word (codes "nofit") then Ok NoFit
-  else if bytes_eq word (codes "badrequest") then Ok BadRequest
-  else if bytes_eq word (codes "noarena") then Ok NoArena
-  else if bytes_eq word (codes "notyours") then Ok NotYours
-  else if bytes_eq word (codes "leases") then Ok Leases
-  else Err faults.BadLine
+    if bytes_eq word (codes "nofit") then Ok NoFit
+    else if bytes_eq word (codes "badrequest") then Ok BadRequest
+    else if bytes_eq word (codes "noarena") then Ok NoArena
+    else if bytes_eq word (codes "notyours") then Ok NotYours
+    else if bytes_eq word (codes "leases") then Ok Leases
+    else Err faults.BadLine
 
 -- the fault that a word is
 abbrev pub fault_in : List ℕ → Result LineFault LineFault
 fault_in word =
-  if bytes_eq word (codes "toolong") then Ok faults.TooLong
-  else if bytes_eq word (codes "badline") then Ok faults.BadLine
-  else if bytes_eq word (codes "word") then Ok faults.Word
-  else if bytes_eq word (codes "number") then Ok faults.Number
-  else Err faults.BadLine
+    if bytes_eq word (codes "toolong") then Ok faults.TooLong
+    else if bytes_eq word (codes "badline") then Ok faults.BadLine
+    else if bytes_eq word (codes "word") then Ok faults.Word
+    else if bytes_eq word (codes "number") then Ok faults.Number
+    else Err faults.BadLine
 
 -- `welcome C I`: the words after the first
 unfoldable pub welcome_of : List (List ℕ) → Result Welcome LineFault
@@ -148,16 +148,16 @@ error_of words = do
 unfoldable pub reply_of_words : List (List ℕ) → Result Reply LineFault
 reply_of_words [] = Err faults.Word
 reply_of_words (first ∷ words) =
-  if bytes_eq first (codes "welcome") then (welcome_of words >>= λ r. Ok (replies.Welcome r))
-  else if bytes_eq first (codes "granted") then (granted_of words >>= λ r. Ok (replies.Granted r))
-  else if bytes_eq first (codes "released") then (released_of words >>= λ r. Ok (replies.Released r))
-  else if bytes_eq first (codes "refused") then (refused_of words >>= λ r. Ok (replies.Refused r))
-  else if bytes_eq first (codes "old") then (old_of words >>= λ r. Ok (replies.Old r))
-  else if bytes_eq first (codes "stale") then (out_of_turn_of words >>= λ r. Ok (replies.Stale r))
-  else if bytes_eq first (codes "gap") then (out_of_turn_of words >>= λ r. Ok (replies.Gap r))
-  else if bytes_eq first (codes "again") then (again_of words >>= λ r. Ok (replies.Again r))
-  else if bytes_eq first (codes "error") then (error_of words >>= λ fault. Ok (replies.Error fault))
-  else Err faults.Word
+    if bytes_eq first (codes "welcome") then (welcome_of words >>= λ r. Ok (replies.Welcome r))
+    else if bytes_eq first (codes "granted") then (granted_of words >>= λ r. Ok (replies.Granted r))
+    else if bytes_eq first (codes "released") then (released_of words >>= λ r. Ok (replies.Released r))
+    else if bytes_eq first (codes "refused") then (refused_of words >>= λ r. Ok (replies.Refused r))
+    else if bytes_eq first (codes "old") then (old_of words >>= λ r. Ok (replies.Old r))
+    else if bytes_eq first (codes "stale") then (out_of_turn_of words >>= λ r. Ok (replies.Stale r))
+    else if bytes_eq first (codes "gap") then (out_of_turn_of words >>= λ r. Ok (replies.Gap r))
+    else if bytes_eq first (codes "again") then (again_of words >>= λ r. Ok (replies.Again r))
+    else if bytes_eq first (codes "error") then (error_of words >>= λ fault. Ok (replies.Error fault))
+    else Err faults.Word
 
 -- the reply that bytes are, or the first reason why they are none
 unfoldable pub reply_of : List ℕ → Result Reply LineFault

@@ -1,5 +1,5 @@
 -- The words that a line is written with.
-use Rattle.std.specs.Prelude.{◌≡◌, ◌==◌, ◌≤◌, ◌^◌, ℕ, List, [], ◌∷◌, ◌++◌, if◌then◌else◌, Ok, codes, decimal, true}
+use Rattle.std.specs.Prelude.{◌≡◌, ◌==◌, ◌^◌, ℕ, List, [], ◌∷◌, ◌++◌, if◌then◌else◌, Ok, codes, decimal, true}
 use Rattle.std.specs.List.{flat_map}
 use Rattle.lease_proto.specs.declared.lines.Line.{Line}
 use Rattle.lease_proto.specs.declared.lines.Line.TheVariants as lines
@@ -17,8 +17,8 @@ option_words key default value = if value == default then [] else key ∷ decima
 
 abbrev pub options_words : LeaseOptions → List (List ℕ)
 options_words o = option_words (codes "align") 0 o.align ++ (option_words (codes "phase") 0 o.phase
-  ++ (option_words (codes "nocross") 0 o.nocross ++ (option_words (codes "min") 0 o.min
-  ++ option_words (codes "max") (2 ^ 62) o.max)))
+    ++ (option_words (codes "nocross") 0 o.nocross ++ (option_words (codes "min") 0 o.min
+    ++ option_words (codes "max") (2 ^ 62) o.max)))
 
 -- the words after the first
 abbrev pub hello_words : Hello → List (List ℕ)
@@ -60,7 +60,7 @@ AreOptions o = IsQuantity o.align × IsQuantity o.phase × IsQuantity o.nocross 
 abbrev pub IsLine : Line → Type 0
 IsLine (lines.Hello h) = IsClient h.client × IsOrdinal h.incarnation
 IsLine (lines.Lease l) = IsClient l.client × IsOrdinal l.incarnation × IsOrdinal l.number × (is_name l.arena ≡ true)
-  × IsQuantity l.size × AreOptions l.options
+    × IsQuantity l.size × AreOptions l.options
 IsLine (lines.Release r) = IsClient r.client × IsOrdinal r.incarnation × IsOrdinal r.number × (is_name r.arena ≡ true) × IsQuantity r.base
 
 -- what is written is read as the same line

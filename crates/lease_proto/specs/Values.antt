@@ -1,5 +1,5 @@
 -- What the words of a line stand for, and the ranges of its values.
-use Rattle.std.specs.Prelude.{◌≡◌, ◌≤◌, ◌^◌, ◌&&◌, ℕ, nat_le, nat_lt, Bool, true, List, length, if◌then◌else◌, Option, Some, None, Result, Ok, Err}
+use Rattle.std.specs.Prelude.{◌≤◌, ◌^◌, ◌&&◌, ℕ, nat_le, nat_lt, List, length, if◌then◌else◌, Option, Some, None, Result, Ok, Err}
 use Rattle.lease_proto.specs.declared.faults.LineFault.{LineFault}
 use Rattle.lease_proto.specs.declared.faults.LineFault.TheVariants.{TooLong, BadLine, Number}
 use Rattle.lease_proto.specs.Words.{is_name, is_sentence, parts_of, number_of}
@@ -32,9 +32,9 @@ name_in word = if is_name word then Ok word else Err BadLine
 -- the words of a line: at most 255 bytes, words with one space between them
 abbrev pub words_of : List ℕ → Result (List (List ℕ)) LineFault
 words_of line =
-  if nat_lt 255 (length line) then Err TooLong
-  else if is_sentence line then Ok (parts_of line)
-  else Err BadLine
+    if nat_lt 255 (length line) then Err TooLong
+    else if is_sentence line then Ok (parts_of line)
+    else Err BadLine
 
 -- what a client is
 abbrev pub IsClient : ℕ → Type 0

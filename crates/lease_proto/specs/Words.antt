@@ -1,5 +1,5 @@
 -- Words, numbers and names.
-use Rattle.std.specs.Prelude.{◌≡◌, ◌==◌, ◌&&◌, ◌||◌, ◌↔◌, ◌≤◌, ◌+◌, ◌-◌, ◌*◌, ◌^◌, ℕ, nat_le, Bool, true, false, List, [], ◌∷◌, length, if◌then◌else◌, Option, Some, None, not, decimal, slice_index}
+use Rattle.std.specs.Prelude.{◌≡◌, ◌==◌, ◌&&◌, ◌||◌, ◌↔◌, ◌≤◌, ◌+◌, ◌-◌, ◌*◌, ◌^◌, ℕ, nat_le, Bool, List, [], ◌∷◌, length, if◌then◌else◌, Option, Some, None, decimal, slice_index}
 use Rattle.std.specs.Char.{is_ascii_digit}
 use denote.Ref.{Bor}
 use Rattle.std.specs.List.{list_all, slice_split}

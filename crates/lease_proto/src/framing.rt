@@ -117,5 +117,4 @@ pub fn framing_law()
     ensures each { InputIsLines }
     ensures pieces { PiecesAreOne }
     ensures front { FrontIsEnough }
-{
-}
+{}

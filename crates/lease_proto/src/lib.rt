@@ -20,7 +20,9 @@ pub use faults::LineFault;
 pub use framing::{FramedLine, LONGEST_LINE, LineReader, framing_law};
 pub use lines::{Hello, Lease, LeaseOptions, Line, Release, line_law};
 pub use numbers::{number, number_law};
-pub use replies::{Again, Granted, Old, OutOfTurn, Refusal, Refused, Released, Reply, Welcome, reply_law};
+pub use replies::{
+    Again, Granted, Old, OutOfTurn, Refusal, Refused, Released, Reply, Welcome, reply_law,
+};
 pub use sentences::{Words, name};
 pub use taking::words;
 pub use values::{ClientId, LARGEST, LAST_CLIENT, LONGEST_NAME, Name, Ordinal, Quantity};

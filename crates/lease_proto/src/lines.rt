@@ -243,5 +243,4 @@ impl Line {
 /// What is written of a line is read as the same line.
 pub fn line_law()
     ensures { LineIsRead }
-{
-}
+{}

@@ -71,5 +71,4 @@ pub fn quantity(word: &[u8]) -> Result<Quantity, LineFault>
 /// A word writes a number just where it is that number's decimal digits.
 pub fn number_law()
     ensures { NumbersAreDecimal }
-{
-}
+{}

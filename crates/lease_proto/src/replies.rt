@@ -444,5 +444,4 @@ fn fault(word: &[u8]) -> Result<LineFault, LineFault>
 /// What is written of a reply is read as the same reply.
 pub fn reply_law()
     ensures { ReplyIsRead }
-{
-}
+{}

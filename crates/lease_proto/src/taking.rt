@@ -58,10 +58,7 @@ pub fn option<'a>(words: &mut Words<'a>, key: &[u8]) -> Option<&'a [u8]>
 }
 
 /// The quantity that a word writes, or the default where there is none.
-pub fn quantity_or_default(
-    default: Quantity,
-    word: Option<&[u8]>,
-) -> Result<Quantity, LineFault>
+pub fn quantity_or_default(default: Quantity, word: Option<&[u8]>) -> Result<Quantity, LineFault>
     ensures { result ≡ quantity_or default (option_copied word.entry) }
 {
     match word {

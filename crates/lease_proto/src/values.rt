@@ -98,6 +98,7 @@ impl Model for Quantity {
 
 impl Quantity {
     pub const ZERO: Quantity = Quantity(0);
+
     pub const MOST: Quantity = Quantity(LARGEST);
 
     pub fn new(value: u64) -> Option<Self>

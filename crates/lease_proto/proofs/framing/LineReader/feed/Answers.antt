@@ -1,4 +1,4 @@
-use Rattle.std.proofs.Common.{◌≡◌, List, ℕ, arith, sym, refl, ◌∙◌, ap, ◌++◌, take, length}
+use Rattle.std.proofs.Common.{◌≡◌, arith, refl, ◌∙◌, ap, ◌++◌, take, length}
 use Rattle.lease_proto.proofs.ByteLemmas.{is_there, none_below}
 use Rattle.lease_proto.proofs.FrameLemmas.{ends_line, goes_on}
 use Rattle.lease_proto.proofs.framing.LineReader.feed.Goals as goal
@@ -9,7 +9,7 @@ returns-in-Some-clause-whole c =
     let i = c.in-Some.i in
     let line : c.self.inside.front.items ≡ c.args.self.now.line = ap (λ h. h.line) c.self.view_is in
     let ends = ends_line c.args.self.now.line c.hold.new.front.items piece i c.in-Some.ensures.0.high (is_there 10 piece i c.in-Some.ensures.1)
-        (none_below 10 piece i c.in-Some.ensures.0.before) (c.hold.ensures ∙ ap (λ l. take 256 (l ++ take i piece)) line) in
+    (none_below 10 piece i c.in-Some.ensures.0.before) (c.hold.ensures ∙ ap (λ l. take 256 (l ++ take i piece)) line) in
     λ _. (omega arith, ends.0, ends.1)
 
 pub returns-in-None-clause-part : goal.returns-in-None-clause-part
@@ -17,5 +17,5 @@ returns-in-None-clause-part c =
     let piece = c.args.piece.now in
     let line : c.self.inside.front.items ≡ c.args.self.now.line = ap (λ h. h.line) c.self.view_is in
     let on = goes_on c.args.self.now.line c.hold-in-None.new.front.items piece (none_below 10 piece (length piece) c.in-None.ensures)
-        (c.hold-in-None.ensures ∙ ap (λ l. take 256 (l ++ piece)) line) in
+    (c.hold-in-None.ensures ∙ ap (λ l. take 256 (l ++ piece)) line) in
     λ _. (refl, on.0, on.1)

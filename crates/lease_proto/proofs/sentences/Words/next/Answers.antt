@@ -1,4 +1,4 @@
-use Rattle.std.proofs.Common.{◌≡◌, ℕ, List, sym, ◌∙◌, ap, length}
+use Rattle.std.proofs.Common.{sym, ◌∙◌, ap, length}
 use Rattle.lease_proto.specs.Words.{words_left}
 use Rattle.lease_proto.proofs.ByteLemmas.{is_there, none_below}
 use Rattle.lease_proto.proofs.WordLemmas.{parts_of-first, parts_of-one}
