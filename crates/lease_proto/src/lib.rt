@@ -26,3 +26,6 @@ pub use replies::{
 pub use sentences::{Words, name};
 pub use taking::words;
 pub use values::{ClientId, LARGEST, LAST_CLIENT, LONGEST_NAME, Name, Ordinal, Quantity};
+
+#[cfg(test)]
+mod tests;

@@ -63,7 +63,7 @@ impl<'a> Model for Words<'a> {
 
 impl<'a> Words<'a> {
     /// The parts of a line between its spaces.
-    pub fn new(line: &'a [u8]) -> Self
+    pub(crate) fn new(line: &'a [u8]) -> Self
         ensures { result ≡ parts_of line.now }
     {
         Words { rest: Some(line) }
