@@ -3,4 +3,6 @@ pub mod FrameLemmas
 pub mod NameLemmas
 pub mod WordLemmas
 pub mod GrammarLemmas
+pub mod LineLemmas
+pub mod ReadLemmas
 pub mod ReplyLemmas

@@ -1,5 +1,5 @@
 -- What is written of a reply is read again.
-use Rattle.std.proofs.Common.{◌≡◌, ℕ, ◌≤◌, true, List, ◌∷◌, length, Ok, refl, ◌∙◌, ap, arith, codes, lit≤}
+use Rattle.std.proofs.Common.{◌≡◌, ℕ, ◌≤◌, true, if◌then◌else◌, List, [], ◌∷◌, length, Result, Ok, Err, refl, ◌∙◌, ap, subst, arith, inl, inr, codes, lit≤}
 use Rattle.std.proofs.lemmas.List.{length-append}
 use Rattle.std.proofs.lemmas.Bool.{le-ltb, and_parts, and_from}
 use Rattle.std.specs.List.{list_all}
@@ -13,7 +13,11 @@ use Rattle.lease_proto.specs.declared.replies.Refusal.TheVariants.{NoFit, BadReq
 use Rattle.lease_proto.specs.Faults.{fault_word}
 use Rattle.lease_proto.specs.Words.{is_word, is_sentence}
 use Rattle.lease_proto.specs.Texts.{sentence}
-use Rattle.lease_proto.specs.Replies.{reply_of, reply_of_words, welcome_of, granted_of, released_of, refused_of, old_of, out_of_turn_of, again_of, error_of, refusal_in, refusal_word, fault_in, first_reply_word, reply_words, out_of_turn_words, reply_text, IsReply, IsOutOfTurn, ReplyIsRead}
+use Rattle.lease_proto.specs.Replies.{reply_of, reply_of_words, welcome_of, granted_of, released_of, refused_of, old_of, out_of_turn_of, again_of, error_of, refusal_in, refusal_word, fault_in, first_reply_word, reply_words, out_of_turn_words, reply_text, IsReply, IsOutOfTurn, RepliesAreTexts}
+use Rattle.std.specs.Str.{bytes_eq}
+use Rattle.std.specs.List.{join_with_byte}
+use Rattle.lease_proto.specs.Grammar.{◌>>=◌}
+use Rattle.lease_proto.proofs.ReadLemmas.{step, told, words_step, join_with_byte-sentence, welcome_says, granted_says, released_says, refused_says, old_says, out_of_turn_says, again_says, error_says}
 use Rattle.lease_proto.proofs.GrammarLemmas.{client_again, ordinal_again, quantity_again, decimal_word, decimal_short, name_short, parts_of-sentence}
 
 refusal_again : (refusal : Refusal) → refusal_in (refusal_word refusal) ≡ Ok refusal
@@ -154,9 +158,81 @@ first_is_word (Gap g) = refl
 first_is_word (Again a) = refl
 first_is_word (Error fault) = refl
 
-pub reply_is_read : ReplyIsRead
+-- the texts of replies are read as these replies
+text_is_read : (reply : Reply) → IsReply reply → reply_of (reply_text reply) ≡ Ok reply
 unfolding reply_of
-reply_is_read reply is =
+text_is_read reply is =
     let parts = parts_of-sentence (first_reply_word reply) (reply_words reply) (first_is_word reply) (are_words reply is) in
     let words : is_sentence (reply_text reply) ≡ true = ap (list_all is_word) parts ∙ and_from (is_word (first_reply_word reply)) _ (first_is_word reply) (are_words reply is) in
     rw (le-ltb 255 (length (reply_text reply)) (short reply is), words, parts) (words_again reply is)
+
+-- what the words of a reply say of it
+abbrev Says : List ℕ → List (List ℕ) → Reply → Type 0
+Says first words reply = IsReply reply × (first ∷ words ≡ first_reply_word reply ∷ reply_words reply)
+
+-- one kind of reply was read
+kind : {A : Type 0} (make : A → Reply) (read : Result A LineFault) (first : List ℕ) (words : List (List ℕ)) (reply : Reply)
+    → ((r : A) → read ≡ Ok r → Says first words (make r)) → (read >>= λ r. Ok (make r)) ≡ Ok reply → Says first words reply
+kind make read first words reply says e =
+    let (r, is, made) = step read (λ r. Ok (make r)) reply e in
+    let same : make r ≡ reply = cc in
+    subst (Says first words) same (says r is)
+
+both : {first key : List ℕ} {words others : List (List ℕ)} → first ≡ key → words ≡ others → first ∷ words ≡ key ∷ others
+both is are = cc
+
+-- the replies that aren't kept
+abbrev other_reply : List ℕ → List (List ℕ) → Result Reply LineFault
+other_reply first words =
+    if bytes_eq first (codes "old") then (old_of words >>= λ r. Ok (Old r))
+    else if bytes_eq first (codes "stale") then (out_of_turn_of words >>= λ r. Ok (Stale r))
+    else if bytes_eq first (codes "gap") then (out_of_turn_of words >>= λ r. Ok (Gap r))
+    else if bytes_eq first (codes "again") then (again_of words >>= λ r. Ok (Again r))
+    else if bytes_eq first (codes "error") then (error_of words >>= λ fault. Ok (Error fault))
+    else Err faults.Word
+
+other_words_say : (first : List ℕ) (words : List (List ℕ)) (reply : Reply) → other_reply first words ≡ Ok reply → Says first words reply
+other_words_say first words reply e = elim (told first (codes "old") _ _ _ e) [
+  | inl p ↦ kind Old (old_of words) first words reply (λ r is. let said = old_says words r is in (said.0, both p.0 said.1)) p.1
+  | inr e1 ↦ elim (told first (codes "stale") _ _ _ e1) [
+    | inl p ↦ kind Stale (out_of_turn_of words) first words reply (λ r is. let said = out_of_turn_says words r is in (said.0, both p.0 said.1)) p.1
+    | inr e2 ↦ elim (told first (codes "gap") _ _ _ e2) [
+      | inl p ↦ kind Gap (out_of_turn_of words) first words reply (λ r is. let said = out_of_turn_says words r is in (said.0, both p.0 said.1)) p.1
+      | inr e3 ↦ elim (told first (codes "again") _ _ _ e3) [
+        | inl p ↦ kind Again (again_of words) first words reply (λ r is. let said = again_says words r is in (said.0, both p.0 said.1)) p.1
+        | inr e4 ↦ elim (told first (codes "error") _ _ _ e4) [
+          | inl p ↦ kind Error (error_of words) first words reply (λ r is. (tt, both p.0 (error_says words r is))) p.1
+          | inr none ↦ absurd (cc)
+        ]
+      ]
+    ]
+  ]
+]
+
+words_say : (words : List (List ℕ)) (reply : Reply) → reply_of_words words ≡ Ok reply
+    → IsReply reply × (words ≡ first_reply_word reply ∷ reply_words reply)
+unfolding reply_of_words
+words_say [] reply e = absurd (cc)
+words_say (first ∷ words) reply e = elim (told first (codes "welcome") _ _ _ e) [
+  | inl p ↦ kind Welcome (welcome_of words) first words reply (λ r is. let said = welcome_says words r is in (said.0, both p.0 said.1)) p.1
+  | inr e1 ↦ elim (told first (codes "granted") _ _ _ e1) [
+    | inl p ↦ kind Granted (granted_of words) first words reply (λ r is. let said = granted_says words r is in (said.0, both p.0 said.1)) p.1
+    | inr e2 ↦ elim (told first (codes "released") _ _ _ e2) [
+      | inl p ↦ kind Released (released_of words) first words reply (λ r is. let said = released_says words r is in (said.0, both p.0 said.1)) p.1
+      | inr e3 ↦ elim (told first (codes "refused") _ _ _ e3) [
+        | inl p ↦ kind Refused (refused_of words) first words reply (λ r is. let said = refused_says words r is in (said.0, both p.0 said.1)) p.1
+        | inr e4 ↦ other_words_say first words reply e4
+      ]
+    ]
+  ]
+]
+
+text_says : (bytes : List ℕ) (reply : Reply) → reply_of bytes ≡ Ok reply → IsReply reply × (bytes ≡ reply_text reply)
+unfolding reply_of
+text_says bytes reply e =
+    words_step bytes _ reply e (λ words is next.
+    let said = words_say words reply next in
+    (said.0, is ∙ ap (join_with_byte 32) said.1 ∙ join_with_byte-sentence (first_reply_word reply) (reply_words reply)))
+
+pub replies_are_texts : RepliesAreTexts
+replies_are_texts bytes reply = (text_says bytes reply, λ is. ap reply_of is.1 ∙ text_is_read reply is.0)

@@ -1,5 +1,5 @@
 -- Which bytes are a reply, and what a reply is written with.
-use Rattle.std.specs.Prelude.{◌≡◌, ℕ, true, List, [], ◌∷◌, if◌then◌else◌, Result, Ok, Err, codes, decimal}
+use Rattle.std.specs.Prelude.{◌↔◌, ◌≡◌, ℕ, true, List, [], ◌∷◌, if◌then◌else◌, Result, Ok, Err, codes, decimal}
 use Rattle.std.specs.Str.{bytes_eq}
 use Rattle.lease_proto.specs.declared.faults.LineFault.{LineFault}
 use Rattle.lease_proto.specs.declared.faults.LineFault.TheVariants as faults
@@ -227,6 +227,6 @@ IsReply (replies.Gap r) = IsOutOfTurn r
 IsReply (replies.Again r) = IsClient r.client × IsOrdinal r.incarnation × IsQuantity r.number
 IsReply (replies.Error fault) = Unit {0}
 
--- what is written is read as the same reply
-abbrev pub ReplyIsRead : Type 0
-ReplyIsRead = (reply : Reply) → IsReply reply → reply_of (reply_text reply) ≡ Ok reply
+-- bytes are read as a reply just where they are what is written of it
+abbrev pub RepliesAreTexts : Type 0
+RepliesAreTexts = (bytes : List ℕ) (reply : Reply) → (reply_of bytes ≡ Ok reply) ↔ (IsReply reply × (bytes ≡ reply_text reply))

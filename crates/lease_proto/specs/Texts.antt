@@ -1,5 +1,5 @@
 -- The words that a line is written with.
-use Rattle.std.specs.Prelude.{◌≡◌, ◌==◌, ◌^◌, ℕ, List, [], ◌∷◌, ◌++◌, if◌then◌else◌, Ok, codes, decimal, true}
+use Rattle.std.specs.Prelude.{◌⊎◌, ◌↔◌, ◌≡◌, ◌==◌, ◌^◌, ℕ, List, [], ◌∷◌, ◌++◌, if◌then◌else◌, Ok, codes, decimal, true}
 use Rattle.std.specs.List.{flat_map}
 use Rattle.lease_proto.specs.declared.lines.Line.{Line}
 use Rattle.lease_proto.specs.declared.lines.Line.TheVariants as lines
@@ -62,6 +62,33 @@ IsLine (lines.Hello h) = IsClient h.client × IsOrdinal h.incarnation
 IsLine (lines.Lease l) = IsClient l.client × IsOrdinal l.incarnation × IsOrdinal l.number × (is_name l.arena ≡ true)
     × IsQuantity l.size × AreOptions l.options
 IsLine (lines.Release r) = IsClient r.client × IsOrdinal r.incarnation × IsOrdinal r.number × (is_name r.arena ≡ true) × IsQuantity r.base
+
+-- the options of a lease in their order: the key, the value of no constraint, and the value
+abbrev pub options_of : LeaseOptions → List (List ℕ × ℕ × ℕ)
+options_of o = (codes "align", 0, o.align) ∷ (codes "phase", 0, o.phase) ∷ (codes "nocross", 0, o.nocross)
+    ∷ (codes "min", 0, o.min) ∷ (codes "max", 2 ^ 62, o.max) ∷ []
+
+-- these words give these options in this order; one may be left out where it has the value of no constraint
+abbrev pub GivesOptions : List (List ℕ × ℕ × ℕ) → List (List ℕ) → Type 0
+GivesOptions [] words = words ≡ []
+GivesOptions ((key, default, value) ∷ options) words =
+    ((rest : List (List ℕ)) × (words ≡ key ∷ decimal value ∷ rest) × GivesOptions options rest)
+    ⊎ ((value ≡ default) × GivesOptions options words)
+
+-- these words may stand behind the first word of the line
+abbrev pub MayFollow : Line → List (List ℕ) → Type 0
+MayFollow (lines.Hello h) words = words ≡ hello_words h
+MayFollow (lines.Lease l) words = (options : List (List ℕ)) × GivesOptions (options_of l.options) options
+    × (words ≡ decimal l.client ∷ decimal l.incarnation ∷ decimal l.number ∷ l.arena ∷ decimal l.size ∷ options)
+MayFollow (lines.Release r) words = words ≡ release_words r
+
+-- these bytes are the line: its words with one space between them
+abbrev pub IsTextOf : Line → List ℕ → Type 0
+IsTextOf line bytes = (words : List (List ℕ)) × MayFollow line words × (bytes ≡ sentence (first_word line) words)
+
+-- bytes are read as a line just where they are that line's text
+abbrev pub LinesAreTexts : Type 0
+LinesAreTexts = (bytes : List ℕ) (line : Line) → (line_of bytes ≡ Ok line) ↔ (IsLine line × IsTextOf line bytes)
 
 -- what is written is read as the same line
 abbrev pub LineIsRead : Type 0

@@ -2,7 +2,7 @@
 ghost use Rattle.std.specs.Prelude.{◌≡◌, ◌++◌, OnOk, OnErr, ◌∷◌, ◌+◌, ◌≤◌, ℕ, List, vec_len};
 ghost use Rattle.lease_proto.specs.Frames.{ended};
 ghost use Rattle.lease_proto.specs.Grammar.{line_of, hello_of, lease_of, release_of};
-ghost use Rattle.lease_proto.specs.Texts.{text_of, first_word, hello_words, lease_words, options_words, release_words, spaced, LineIsRead};
+ghost use Rattle.lease_proto.specs.Texts.{text_of, first_word, hello_words, lease_words, options_words, release_words, spaced, LinesAreTexts, LineIsRead};
 ghost use Rattle.std.specs.List.{flat_map};
 ghost use Rattle.std.specs.Vec.{vec_capacity};
 
@@ -240,7 +240,8 @@ impl Line {
     }
 }
 
-/// What is written of a line is read as the same line.
+/// Which bytes are a line: its words with one space between them, and among them what is written of it.
 pub fn line_law()
-    ensures { LineIsRead }
+    ensures exact { LinesAreTexts }
+    ensures written { LineIsRead }
 {}

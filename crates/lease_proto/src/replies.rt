@@ -1,7 +1,7 @@
 //! The replies to a client's lines.
 ghost use Rattle.std.specs.Prelude.{◌≡◌, ◌++◌, OnOk, OnErr, ◌∷◌, ◌+◌, ◌≤◌, ℕ, List, vec_len, length};
 ghost use Rattle.lease_proto.specs.Frames.{ended};
-ghost use Rattle.lease_proto.specs.Replies.{reply_of, reply_text, first_reply_word, welcome_of, granted_of, released_of, refused_of, old_of, out_of_turn_of, again_of, error_of, welcome_words, granted_words, released_words, refused_words, old_words, out_of_turn_words, again_words, refusal_in, refusal_word, fault_in, ReplyIsRead};
+ghost use Rattle.lease_proto.specs.Replies.{reply_of, reply_text, first_reply_word, welcome_of, granted_of, released_of, refused_of, old_of, out_of_turn_of, again_of, error_of, welcome_words, granted_words, released_words, refused_words, old_words, out_of_turn_words, again_words, refusal_in, refusal_word, fault_in, RepliesAreTexts};
 ghost use Rattle.std.specs.Vec.{vec_capacity};
 ghost use Rattle.lease_proto.specs.Texts.{spaced};
 
@@ -441,7 +441,7 @@ fn fault(word: &[u8]) -> Result<LineFault, LineFault>
     }
 }
 
-/// What is written of a reply is read as the same reply.
+/// What is written of a reply is read as the same reply, and nothing else is.
 pub fn reply_law()
-    ensures { ReplyIsRead }
+    ensures { RepliesAreTexts }
 {}

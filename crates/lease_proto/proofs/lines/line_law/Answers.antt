@@ -1,5 +1,8 @@
-use Rattle.lease_proto.proofs.GrammarLemmas.{line_is_read}
+use Rattle.lease_proto.proofs.LineLemmas.{line_is_read, lines_are_texts}
 use Rattle.lease_proto.proofs.lines.line_law.Goals as goal
 
-pub returns : goal.returns
-returns c = line_is_read
+pub returns-clause-exact : goal.returns-clause-exact
+returns-clause-exact c = lines_are_texts
+
+pub returns-clause-written : goal.returns-clause-written
+returns-clause-written c = line_is_read

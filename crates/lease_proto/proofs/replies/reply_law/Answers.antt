@@ -1,5 +1,5 @@
-use Rattle.lease_proto.proofs.ReplyLemmas.{reply_is_read}
+use Rattle.lease_proto.proofs.ReplyLemmas.{replies_are_texts}
 use Rattle.lease_proto.proofs.replies.reply_law.Goals as goal
 
 pub returns : goal.returns
-returns c = reply_is_read
+returns c = replies_are_texts

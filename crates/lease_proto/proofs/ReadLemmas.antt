@@ -1,0 +1,295 @@
+-- What was read says how it was written.
+use Rattle.std.proofs.Common.{◌≡◌, ◌&&◌, ◌^◌, ℕ, ◌≤◌, true, List, [], ◌∷◌, ◌++◌, Option, Some, None, Result, Ok, Err, refl, sym, ◌∙◌, ap, subst, cond, ◌⊎◌, inl, inr, decimal, nat_le, nat_lt, length}
+use Rattle.std.proofs.lemmas.Bool.{leb-true, cases_Bool, and_parts}
+use Rattle.lease_proto.specs.declared.faults.LineFault.{LineFault}
+use Rattle.lease_proto.specs.declared.faults.LineFault.TheVariants as faults
+use Rattle.lease_proto.specs.declared.lines.Hello.{Hello}
+use Rattle.lease_proto.specs.declared.lines.Release.{Release}
+use Rattle.lease_proto.specs.declared.replies.Welcome.{Welcome}
+use Rattle.lease_proto.specs.declared.replies.Granted.{Granted}
+use Rattle.lease_proto.specs.declared.replies.Released.{Released}
+use Rattle.lease_proto.specs.declared.replies.Refused.{Refused}
+use Rattle.lease_proto.specs.declared.replies.Old.{Old}
+use Rattle.lease_proto.specs.declared.replies.OutOfTurn.{OutOfTurn}
+use Rattle.lease_proto.specs.declared.replies.Again.{Again}
+use Rattle.lease_proto.specs.declared.replies.Refusal.{Refusal}
+use Rattle.lease_proto.specs.declared.replies.Refusal.TheVariants.{NoFit, BadRequest, NoArena, NotYours, Leases}
+use Rattle.lease_proto.specs.Words.{number_of, is_name, is_sentence, parts_of}
+use Rattle.lease_proto.specs.Values.{words_of, between, client_in, ordinal_in, quantity_in, name_in, IsClient, IsOrdinal, IsQuantity}
+use Rattle.lease_proto.specs.Grammar.{◌>>=◌, word_at, end_of, hello_of, release_of}
+use Rattle.lease_proto.specs.Texts.{hello_words, release_words, sentence}
+use Rattle.lease_proto.specs.Faults.{fault_word}
+use Rattle.lease_proto.specs.Replies.{welcome_of, granted_of, released_of, refused_of, old_of, out_of_turn_of, again_of, error_of, refusal_in, refusal_word, fault_in, welcome_words, granted_words, released_words, refused_words, old_words, out_of_turn_words, again_words, IsOutOfTurn}
+use Rattle.std.specs.Str.{bytes_eq}
+use Rattle.std.specs.List.{join_with_byte}
+use Rattle.std.proofs.lemmas.List.{append-nil}
+use Rattle.std.proofs.lemmas.List.Splits.{join_with_byte-slice_split}
+use Rattle.std.proofs.lemmas.Slice.Eq.{bytes_eq-Decides}
+use Rattle.lease_proto.proofs.WordLemmas.{numbers}
+
+-- a step that went well, and the next one
+pub step : {A B : Type 0} (r : Result A LineFault) (f : A → Result B LineFault) (b : B) → (r >>= f) ≡ Ok b → (a : A) × (r ≡ Ok a) × (f a ≡ Ok b)
+step (Ok a) f b e = (a, refl, e)
+step (Err fault) f b e = absurd (cc)
+
+between_says : (low high : ℕ) (o : Option ℕ) (n : ℕ) → between low high o ≡ Ok n → (o ≡ Some n) × (low ≤ n) × (n ≤ high)
+between_says low high None n e = absurd (cc)
+between_says low high (Some m) n e = elim (cases_Bool (nat_le low m && nat_le m high)) [
+  | inl fits ↦
+      let found : Ok m ≡ Ok n = rw fits at e in
+      let is : m ≡ n = cc in
+      let parts = and_parts (nat_le low m) (nat_le m high) fits in
+      (ap Some is, subst (λ k. low ≤ k) is (leb-true _ _ parts.0), subst (λ k. k ≤ high) is (leb-true _ _ parts.1))
+  | inr over ↦ let none : Err faults.Number ≡ Ok n = rw over at e in absurd (cc)
+]
+
+pub client_says : (word : List ℕ) (n : ℕ) → client_in word ≡ Ok n → (word ≡ decimal n) × IsClient n
+client_says word n e = let said = between_says 1 65536 (number_of word) n e in (((numbers word n).0 said.0).0, (said.1, said.2))
+
+pub ordinal_says : (word : List ℕ) (n : ℕ) → ordinal_in word ≡ Ok n → (word ≡ decimal n) × IsOrdinal n
+ordinal_says word n e = let said = between_says 1 (2 ^ 62) (number_of word) n e in (((numbers word n).0 said.0).0, (said.1, said.2))
+
+pub quantity_says : (word : List ℕ) (n : ℕ) → quantity_in word ≡ Ok n → (word ≡ decimal n) × IsQuantity n
+quantity_says word n e = let said = between_says 0 (2 ^ 62) (number_of word) n e in (((numbers word n).0 said.0).0, said.2)
+
+pub name_says : (word name : List ℕ) → name_in word ≡ Ok name → (word ≡ name) × (is_name name ≡ true)
+name_says word name e = elim (cases_Bool (is_name word)) [
+  | inl fits ↦ let found : Ok word ≡ Ok name = rw fits at e in let is : word ≡ name = cc in (is, ap is_name (sym is) ∙ fits)
+  | inr other ↦ let none : Err faults.BadLine ≡ Ok name = rw other at e in absurd (cc)
+]
+
+-- a word that a test tells from others
+pub told : {X : Type 0} (word key : List ℕ) (a b v : X) → cond (bytes_eq word key) a b ≡ v → ((word ≡ key) × (a ≡ v)) ⊎ (b ≡ v)
+told word key a b v e = elim (cases_Bool (bytes_eq word key)) [
+  | inl same ↦ inl ((bytes_eq-Decides word key).0 same, rw same at e)
+  | inr other ↦ inr (rw other at e)
+]
+
+-- the same, of a list of words that stand for values
+named : {X : Type 0} (text : X → List ℕ) (word : List ℕ) (x : X) (rest : Result X LineFault) (v : X)
+    → cond (bytes_eq word (text x)) (Ok x) rest ≡ Ok v → (word ≡ text v) ⊎ (rest ≡ Ok v)
+named text word x rest v e = elim (told word (text x) (Ok x) rest (Ok v) e) [
+  | inl p ↦ let found = p.1 in let is : x ≡ v = cc in inl (p.0 ∙ ap text is)
+  | inr other ↦ inr other
+]
+
+pub refusal_says : (word : List ℕ) (r : Refusal) → refusal_in word ≡ Ok r → word ≡ refusal_word r
+refusal_says word r e = elim (named refusal_word word NoFit _ r e) [
+  | inl is ↦ is
+  | inr e1 ↦ elim (named refusal_word word BadRequest _ r e1) [
+    | inl is ↦ is
+    | inr e2 ↦ elim (named refusal_word word NoArena _ r e2) [
+      | inl is ↦ is
+      | inr e3 ↦ elim (named refusal_word word NotYours _ r e3) [
+        | inl is ↦ is
+        | inr e4 ↦ elim (named refusal_word word Leases _ r e4) [ inl is ↦ is | inr none ↦ absurd (cc) ]
+      ]
+    ]
+  ]
+]
+
+pub fault_says : (word : List ℕ) (f : LineFault) → fault_in word ≡ Ok f → word ≡ fault_word f
+fault_says word f e = elim (named fault_word word faults.TooLong _ f e) [
+  | inl is ↦ is
+  | inr e1 ↦ elim (named fault_word word faults.BadLine _ f e1) [
+    | inl is ↦ is
+    | inr e2 ↦ elim (named fault_word word faults.Word _ f e2) [
+      | inl is ↦ is
+      | inr e3 ↦ elim (named fault_word word faults.Number _ f e3) [ inl is ↦ is | inr none ↦ absurd (cc) ]
+    ]
+  ]
+]
+
+-- a word is there, and so on
+pub word_step : {B P : Type 0} (words : List (List ℕ)) (f : List ℕ × List (List ℕ) → Result B LineFault) (b : B) → (word_at words >>= f) ≡ Ok b
+    → ((word : List ℕ) (rest : List (List ℕ)) → words ≡ word ∷ rest → f (word, rest) ≡ Ok b → P) → P
+word_step [] f b e k = absurd (cc)
+word_step (word ∷ rest) f b e k = k word rest refl e
+
+-- no word is left, and so on
+pub end_step : {B P : Type 0} (words : List (List ℕ)) (f : Unit {0} → Result B LineFault) (b : B) → (end_of words >>= f) ≡ Ok b
+    → (words ≡ [] → f tt ≡ Ok b → P) → P
+end_step [] f b e k = k refl e
+end_step (word ∷ rest) f b e k = absurd (cc)
+
+pub client_step : {B P : Type 0} (word : List ℕ) (f : ℕ → Result B LineFault) (b : B) → (client_in word >>= f) ≡ Ok b
+    → ((n : ℕ) → word ≡ decimal n → IsClient n → f n ≡ Ok b → P) → P
+client_step word f b e k = let (n, is, next) = step (client_in word) f b e in let said = client_says word n is in k n said.0 said.1 next
+
+pub ordinal_step : {B P : Type 0} (word : List ℕ) (f : ℕ → Result B LineFault) (b : B) → (ordinal_in word >>= f) ≡ Ok b
+    → ((n : ℕ) → word ≡ decimal n → IsOrdinal n → f n ≡ Ok b → P) → P
+ordinal_step word f b e k = let (n, is, next) = step (ordinal_in word) f b e in let said = ordinal_says word n is in k n said.0 said.1 next
+
+pub quantity_step : {B P : Type 0} (word : List ℕ) (f : ℕ → Result B LineFault) (b : B) → (quantity_in word >>= f) ≡ Ok b
+    → ((n : ℕ) → word ≡ decimal n → IsQuantity n → f n ≡ Ok b → P) → P
+quantity_step word f b e k = let (n, is, next) = step (quantity_in word) f b e in let said = quantity_says word n is in k n said.0 said.1 next
+
+pub name_step : {B P : Type 0} (word : List ℕ) (f : List ℕ → Result B LineFault) (b : B) → (name_in word >>= f) ≡ Ok b
+    → ((name : List ℕ) → word ≡ name → is_name name ≡ true → f name ≡ Ok b → P) → P
+name_step word f b e k = let (name, is, next) = step (name_in word) f b e in let said = name_says word name is in k name said.0 said.1 next
+
+refusal_step : {B P : Type 0} (word : List ℕ) (f : Refusal → Result B LineFault) (b : B) → (refusal_in word >>= f) ≡ Ok b
+    → ((r : Refusal) → word ≡ refusal_word r → f r ≡ Ok b → P) → P
+refusal_step word f b e k = let (r, is, next) = step (refusal_in word) f b e in k r (refusal_says word r is) next
+
+fault_step : {B P : Type 0} (word : List ℕ) (f : LineFault → Result B LineFault) (b : B) → (fault_in word >>= f) ≡ Ok b
+    → ((r : LineFault) → word ≡ fault_word r → f r ≡ Ok b → P) → P
+fault_step word f b e k = let (r, is, next) = step (fault_in word) f b e in k r (fault_says word r is) next
+
+pub error_says : (words : List (List ℕ)) (read : LineFault) → error_of words ≡ Ok read → words ≡ fault_word read ∷ []
+unfolding error_of
+error_says words read e =
+    word_step words _ read e (λ word w1 word_is e1.
+    fault_step word _ read e1 (λ fault fault_is e2.
+    end_step w1 _ read e2 (λ end_is e3.
+    let read_is : fault ≡ read = cc in
+    subst (λ (r : LineFault). words ≡ fault_word r ∷ []) read_is (cc))))
+
+-- words with one space between them
+pub join_with_byte-sentence : (first : List ℕ) (words : List (List ℕ)) → join_with_byte 32 (first ∷ words) ≡ sentence first words
+join_with_byte-sentence first [] = sym (append-nil first)
+join_with_byte-sentence first (word ∷ words) = ap (λ t. first ++ (32 ∷ t)) (join_with_byte-sentence word words)
+
+words_says : (bytes : List ℕ) (words : List (List ℕ)) → words_of bytes ≡ Ok words → bytes ≡ join_with_byte 32 words
+words_says bytes words e = elim (cases_Bool (nat_lt 255 (length bytes))) [
+  | inl long ↦ let bad : Err faults.TooLong ≡ Ok words = rw long at e in absurd (cc)
+  | inr short ↦
+      let e1 : cond (is_sentence bytes) (Ok (parts_of bytes)) (Err faults.BadLine) ≡ Ok words = rw short at e in
+      elim (cases_Bool (is_sentence bytes)) [
+        | inl good ↦
+            let found : Ok (parts_of bytes) ≡ Ok words = rw good at e1 in
+            let are : parts_of bytes ≡ words = cc in
+            sym (join_with_byte-slice_split 32 bytes) ∙ ap (join_with_byte 32) are
+        | inr other ↦ let bad : Err faults.BadLine ≡ Ok words = rw other at e1 in absurd (cc)
+      ]
+]
+
+-- the bytes are words, and so on
+pub words_step : {B P : Type 0} (bytes : List ℕ) (f : List (List ℕ) → Result B LineFault) (b : B) → (words_of bytes >>= f) ≡ Ok b
+    → ((words : List (List ℕ)) → bytes ≡ join_with_byte 32 words → f words ≡ Ok b → P) → P
+words_step bytes f b e k = let (words, is, next) = step (words_of bytes) f b e in k words (words_says bytes words is) next
+
+pub hello_says : (words : List (List ℕ)) (read : Hello) → hello_of words ≡ Ok read → (IsClient read.client × IsOrdinal read.incarnation) × (words ≡ hello_words read)
+unfolding hello_of
+hello_says words read e =
+    word_step words _ read e (λ client w1 client_is e1.
+    word_step w1 _ read e1 (λ incarnation w2 incarnation_is e2.
+    end_step w2 _ read e2 (λ end_is e3.
+    client_step client _ read e3 (λ c c_word c_in e4.
+    ordinal_step incarnation _ read e4 (λ i i_word i_in e5.
+    let read_is : record { client = c; incarnation = i } ≡ read = cc in
+    subst (λ (r : Hello). (IsClient r.client × IsOrdinal r.incarnation) × (words ≡ hello_words r)) read_is ((c_in, i_in), cc))))))
+
+pub release_says : (words : List (List ℕ)) (read : Release) → release_of words ≡ Ok read → (IsClient read.client × IsOrdinal read.incarnation × IsOrdinal read.number × (is_name read.arena ≡ true) × IsQuantity read.base) × (words ≡ release_words read)
+unfolding release_of
+release_says words read e =
+    word_step words _ read e (λ client w1 client_is e1.
+    word_step w1 _ read e1 (λ incarnation w2 incarnation_is e2.
+    word_step w2 _ read e2 (λ number w3 number_is e3.
+    word_step w3 _ read e3 (λ name w4 name_is e4.
+    name_step name _ read e4 (λ arena arena_word arena_in e5.
+    word_step w4 _ read e5 (λ base w5 base_is e6.
+    end_step w5 _ read e6 (λ end_is e7.
+    client_step client _ read e7 (λ c c_word c_in e8.
+    ordinal_step incarnation _ read e8 (λ i i_word i_in e9.
+    ordinal_step number _ read e9 (λ n n_word n_in e10.
+    quantity_step base _ read e10 (λ b b_word b_in e11.
+    let read_is : record { client = c; incarnation = i; number = n; arena = arena; base = b } ≡ read = cc in
+    subst (λ (r : Release). (IsClient r.client × IsOrdinal r.incarnation × IsOrdinal r.number × (is_name r.arena ≡ true) × IsQuantity r.base) × (words ≡ release_words r)) read_is ((c_in, i_in, n_in, arena_in, b_in), cc))))))))))))
+
+pub welcome_says : (words : List (List ℕ)) (read : Welcome) → welcome_of words ≡ Ok read → (IsClient read.client × IsOrdinal read.incarnation) × (words ≡ welcome_words read)
+unfolding welcome_of
+welcome_says words read e =
+    word_step words _ read e (λ client w1 client_is e1.
+    word_step w1 _ read e1 (λ incarnation w2 incarnation_is e2.
+    end_step w2 _ read e2 (λ end_is e3.
+    client_step client _ read e3 (λ c c_word c_in e4.
+    ordinal_step incarnation _ read e4 (λ i i_word i_in e5.
+    let read_is : record { client = c; incarnation = i } ≡ read = cc in
+    subst (λ (r : Welcome). (IsClient r.client × IsOrdinal r.incarnation) × (words ≡ welcome_words r)) read_is ((c_in, i_in), cc))))))
+
+pub granted_says : (words : List (List ℕ)) (read : Granted) → granted_of words ≡ Ok read → (IsClient read.client × IsOrdinal read.incarnation × IsOrdinal read.number × (is_name read.arena ≡ true) × IsQuantity read.base × IsQuantity read.len) × (words ≡ granted_words read)
+unfolding granted_of
+granted_says words read e =
+    word_step words _ read e (λ client w1 client_is e1.
+    word_step w1 _ read e1 (λ incarnation w2 incarnation_is e2.
+    word_step w2 _ read e2 (λ number w3 number_is e3.
+    word_step w3 _ read e3 (λ name w4 name_is e4.
+    name_step name _ read e4 (λ arena arena_word arena_in e5.
+    word_step w4 _ read e5 (λ base w5 base_is e6.
+    word_step w5 _ read e6 (λ len w6 len_is e7.
+    end_step w6 _ read e7 (λ end_is e8.
+    client_step client _ read e8 (λ c c_word c_in e9.
+    ordinal_step incarnation _ read e9 (λ i i_word i_in e10.
+    ordinal_step number _ read e10 (λ n n_word n_in e11.
+    quantity_step base _ read e11 (λ b b_word b_in e12.
+    quantity_step len _ read e12 (λ l l_word l_in e13.
+    let read_is : record { client = c; incarnation = i; number = n; arena = arena; base = b; len = l } ≡ read = cc in
+    subst (λ (r : Granted). (IsClient r.client × IsOrdinal r.incarnation × IsOrdinal r.number × (is_name r.arena ≡ true) × IsQuantity r.base × IsQuantity r.len) × (words ≡ granted_words r)) read_is ((c_in, i_in, n_in, arena_in, b_in, l_in), cc))))))))))))))
+
+pub released_says : (words : List (List ℕ)) (read : Released) → released_of words ≡ Ok read → (IsClient read.client × IsOrdinal read.incarnation × IsOrdinal read.number) × (words ≡ released_words read)
+unfolding released_of
+released_says words read e =
+    word_step words _ read e (λ client w1 client_is e1.
+    word_step w1 _ read e1 (λ incarnation w2 incarnation_is e2.
+    word_step w2 _ read e2 (λ number w3 number_is e3.
+    end_step w3 _ read e3 (λ end_is e4.
+    client_step client _ read e4 (λ c c_word c_in e5.
+    ordinal_step incarnation _ read e5 (λ i i_word i_in e6.
+    ordinal_step number _ read e6 (λ n n_word n_in e7.
+    let read_is : record { client = c; incarnation = i; number = n } ≡ read = cc in
+    subst (λ (r : Released). (IsClient r.client × IsOrdinal r.incarnation × IsOrdinal r.number) × (words ≡ released_words r)) read_is ((c_in, i_in, n_in), cc))))))))
+
+pub refused_says : (words : List (List ℕ)) (read : Refused) → refused_of words ≡ Ok read → (IsClient read.client × IsOrdinal read.incarnation × IsOrdinal read.number) × (words ≡ refused_words read)
+unfolding refused_of
+refused_says words read e =
+    word_step words _ read e (λ client w1 client_is e1.
+    word_step w1 _ read e1 (λ incarnation w2 incarnation_is e2.
+    word_step w2 _ read e2 (λ number w3 number_is e3.
+    word_step w3 _ read e3 (λ word w4 word_is e4.
+    refusal_step word _ read e4 (λ refusal refusal_word e5.
+    end_step w4 _ read e5 (λ end_is e6.
+    client_step client _ read e6 (λ c c_word c_in e7.
+    ordinal_step incarnation _ read e7 (λ i i_word i_in e8.
+    ordinal_step number _ read e8 (λ n n_word n_in e9.
+    let read_is : record { client = c; incarnation = i; number = n; refusal = refusal } ≡ read = cc in
+    subst (λ (r : Refused). (IsClient r.client × IsOrdinal r.incarnation × IsOrdinal r.number) × (words ≡ refused_words r)) read_is ((c_in, i_in, n_in), cc))))))))))
+
+pub old_says : (words : List (List ℕ)) (read : Old) → old_of words ≡ Ok read → (IsClient read.client × IsQuantity read.current) × (words ≡ old_words read)
+unfolding old_of
+old_says words read e =
+    word_step words _ read e (λ client w1 client_is e1.
+    word_step w1 _ read e1 (λ current w2 current_is e2.
+    end_step w2 _ read e2 (λ end_is e3.
+    client_step client _ read e3 (λ c c_word c_in e4.
+    quantity_step current _ read e4 (λ v v_word v_in e5.
+    let read_is : record { client = c; current = v } ≡ read = cc in
+    subst (λ (r : Old). (IsClient r.client × IsQuantity r.current) × (words ≡ old_words r)) read_is ((c_in, v_in), cc))))))
+
+pub out_of_turn_says : (words : List (List ℕ)) (read : OutOfTurn) → out_of_turn_of words ≡ Ok read → (IsOutOfTurn read) × (words ≡ out_of_turn_words read)
+unfolding out_of_turn_of
+out_of_turn_says words read e =
+    word_step words _ read e (λ client w1 client_is e1.
+    word_step w1 _ read e1 (λ incarnation w2 incarnation_is e2.
+    word_step w2 _ read e2 (λ number w3 number_is e3.
+    word_step w3 _ read e3 (λ last w4 last_is e4.
+    end_step w4 _ read e4 (λ end_is e5.
+    client_step client _ read e5 (λ c c_word c_in e6.
+    ordinal_step incarnation _ read e6 (λ i i_word i_in e7.
+    ordinal_step number _ read e7 (λ n n_word n_in e8.
+    quantity_step last _ read e8 (λ v v_word v_in e9.
+    let read_is : record { client = c; incarnation = i; number = n; last = v } ≡ read = cc in
+    subst (λ (r : OutOfTurn). (IsOutOfTurn r) × (words ≡ out_of_turn_words r)) read_is ((c_in, i_in, n_in, v_in), cc))))))))))
+
+pub again_says : (words : List (List ℕ)) (read : Again) → again_of words ≡ Ok read → (IsClient read.client × IsOrdinal read.incarnation × IsQuantity read.number) × (words ≡ again_words read)
+unfolding again_of
+again_says words read e =
+    word_step words _ read e (λ client w1 client_is e1.
+    word_step w1 _ read e1 (λ incarnation w2 incarnation_is e2.
+    word_step w2 _ read e2 (λ number w3 number_is e3.
+    end_step w3 _ read e3 (λ end_is e4.
+    client_step client _ read e4 (λ c c_word c_in e5.
+    ordinal_step incarnation _ read e5 (λ i i_word i_in e6.
+    quantity_step number _ read e6 (λ n n_word n_in e7.
+    let read_is : record { client = c; incarnation = i; number = n } ≡ read = cc in
+    subst (λ (r : Again). (IsClient r.client × IsOrdinal r.incarnation × IsQuantity r.number) × (words ≡ again_words r)) read_is ((c_in, i_in, n_in), cc))))))))
