@@ -1,0 +1,186 @@
+-- Lemmas on what is written for frames, one stretch after another.
+use Rattle.std.proofs.Common.{◌≡◌, ℕ, List, [], ◌∷◌, ◌++◌, take, refl, sym, ◌∙◌, ap, subst, append_assoc, arith, length, drop, ◌-◌, take-append-drop, Ok, Err, Option, Some, None, IfSome, Result, OnOk, OnErr}
+use Rattle.std.proofs.lemmas.List.{append-nil, take_all, take-take, take_rest}
+use Rattle.std.specs.Io.KnownBytes.{Appends, Consumes, IsAtEnd}
+use Rattle.std.proofs.KnownBytes.{Appends-nil, Appends-trans, Consumes-all, Consumes-trans}
+use Rattle.lease_proto.specs.Frames.{Frame, frames_in, rest_in, frames_of, last_of}
+use Rattle.lease_proto.specs.declared.faults.LineFault.{LineFault}
+use Rattle.lease_proto.specs.Faults.{error_line}
+use Rattle.lease_proto.proofs.FrameLemmas.{frames_in-take, rest_in-take, last_of-take, frames_in-append, rest_in-append}
+use Rattle.lease_server.specs.Serving.{SameFront, WritesFront, Serves, Answers, AnswersSome, Writes, Stops}
+
+module _ {S : Type 0} (may_answer : S → List ℕ → List ℕ → S → Type 0) where
+  -- one run after another
+  pub Serves-append : (fs gs : List Frame) (old mid new : S) (text more : List ℕ)
+      → Serves may_answer old fs text mid → Serves may_answer mid gs more new → Serves may_answer old (fs ++ gs) (text ++ more) new
+  Serves-append [] gs old mid new text more p q =
+      let joined : text ++ more ≡ more = ap (λ t. t ++ more) p.0 in
+      subst (λ t. Serves may_answer old gs t new) (sym joined) (subst (λ s. Serves may_answer s gs more new) p.1 q)
+  Serves-append (Ok line ∷ fs) gs old mid new text more p q =
+      (p.0, p.1 ++ more, p.2, p.3, ap (λ t. t ++ more) p.4 ∙ append_assoc p.0 p.1 more, Serves-append fs gs p.2 mid new p.1 more p.5 q)
+  Serves-append (Err fault ∷ fs) gs old mid new text more p q =
+      (p.0 ++ more, ap (λ t. t ++ more) p.1 ∙ append_assoc (error_line fault) p.0 more, Serves-append fs gs old mid new p.0 more p.2 q)
+
+  pub Writes-none : (old : S) (a : Option (List ℕ)) → Writes may_answer old [] a a old
+  Writes-none old a = ([], (refl, refl), Appends-nil a)
+
+  pub Writes-append : (fs gs : List Frame) (old mid new : S) (a b c : Option (List ℕ))
+      → Writes may_answer old fs a b mid → Writes may_answer mid gs b c new → Writes may_answer old (fs ++ gs) a c new
+  Writes-append fs gs old mid new a b c p q =
+      (p.0 ++ q.0, Serves-append fs gs old mid new p.0 q.0 p.1 q.1, Appends-trans a b c p.0 q.0 p.2 q.2)
+
+  pub Stops-after : (fs gs : List Frame) (old mid : S) (a b c : Option (List ℕ))
+      → Writes may_answer old fs a b mid → Stops may_answer mid gs b c → Stops may_answer old (fs ++ gs) a c
+  Stops-after fs gs old mid a b c p q =
+      let (served, later, parts, part) = q in
+      let (new, written, unwritten, serves, appends) = part in (
+        fs ++ served,
+        later,
+        ap (λ t. fs ++ t) parts ∙ sym (append_assoc fs served later),
+        (
+          new,
+          p.0 ++ written,
+          unwritten,
+          subst (λ t. Serves may_answer old (fs ++ served) t new) (sym (append_assoc p.0 written unwritten))
+              (Serves-append fs served old mid new p.0 (written ++ unwritten) p.1 serves),
+          Appends-trans a b c p.0 written p.2 appends,
+        ),
+      )
+
+  pub Stops-more : (fs gs : List Frame) (old : S) (a b : Option (List ℕ)) → Stops may_answer old fs a b → Stops may_answer old (fs ++ gs) a b
+  Stops-more fs gs old a b q =
+      (q.0, q.1 ++ gs, ap (λ t. t ++ gs) q.2 ∙ append_assoc q.0 q.1 gs, q.3)
+
+  -- nothing of the answers was written
+  pub Stops-at_once : (fs : List Frame) (old : S) (a : Option (List ℕ)) → Stops may_answer old fs a a
+  Stops-at_once fs old a = ([], fs, refl, (old, [], [], (refl, refl), Appends-nil a))
+
+  -- a front of the last answer was written
+  pub Stops-within : (fs : List Frame) (old new : S) (text : List ℕ) (a b : Option (List ℕ)) → Serves may_answer old fs text new
+      → WritesFront text a b → Stops may_answer old fs a b
+  Stops-within fs old new text a b p q =
+      (fs, [], sym (append-nil fs), (new, q.0, q.1, subst (λ t. Serves may_answer old fs t new) q.2 p, q.3))
+
+  -- what one line is answered
+  pub Serves-line : (old new : S) (line told reply text : List ℕ) → told ≡ line → text ≡ reply → may_answer old told reply new
+      → Serves may_answer old (Ok line ∷ []) text new
+  Serves-line old new line told reply text e f given =
+      (reply, [], new, subst (λ l. may_answer old l reply new) e given, f ∙ sym (append-nil reply), (refl, refl))
+
+  -- what a refused line is answered
+  pub Serves-fault : (old : S) (fault : LineFault) (text : List ℕ) → text ≡ error_line fault → Serves may_answer old (Err fault ∷ []) text old
+  Serves-fault old fault text e = ([], e ∙ sym (append-nil (error_line fault)), (refl, refl))
+
+  -- answers in a buffer, one stretch after another
+  pub Answers-none : (old : S) (a : List ℕ) → Answers may_answer old [] a a old
+  Answers-none old a = ([], (refl, refl), sym (append-nil a))
+
+  pub Answers-append : (fs gs : List Frame) (old mid new : S) (a b c : List ℕ)
+      → Answers may_answer old fs a b mid → Answers may_answer mid gs b c new → Answers may_answer old (fs ++ gs) a c new
+  Answers-append fs gs old mid new a b c p q =
+      (p.0 ++ q.0, Serves-append fs gs old mid new p.0 q.0 p.1 q.1, q.2 ∙ ap (λ t. t ++ q.0) p.2 ∙ append_assoc a p.0 q.0)
+
+  -- whether all were answered or not, the first of them were
+  pub Answers-some : {E : Type 0} (r : Result (Unit {0}) E) (fs : List Frame) (old new : S) (a b : List ℕ)
+      → OnOk r (Answers may_answer old fs a b new) → OnErr r (AnswersSome may_answer old fs a b) → AnswersSome may_answer old fs a b
+  Answers-some (Ok u) fs old new a b all some = (fs, [], new, sym (append-nil fs), all)
+  Answers-some (Err e) fs old new a b all some = some
+
+  -- what was answered into an empty buffer, and written
+  pub Writes-of_answers : (fs : List Frame) (old new : S) (bytes : List ℕ) (a b : Option (List ℕ))
+      → Answers may_answer old fs [] bytes new → Appends a b bytes → Writes may_answer old fs a b new
+  Writes-of_answers fs old new bytes a b p q = (p.0, p.1, subst (λ t. Appends a b t) p.2 q)
+
+  -- the same, written to a front of it
+  pub Stops-of_some : (fs : List Frame) (old : S) (bytes : List ℕ) (a b : Option (List ℕ))
+      → AnswersSome may_answer old fs [] bytes → WritesFront bytes a b → Stops may_answer old fs a b
+  Stops-of_some fs old bytes a b p q =
+      let (served, later, new, split, answers) = p in
+      let (text, serves, is) = answers in
+      let (written, unwritten, cut, appends) = q in
+      (served, later, split, (new, written, unwritten, subst (λ t. Serves may_answer old served t new) (sym is ∙ cut) serves, appends))
+
+-- all of it is a front of it
+pub WritesFront-all : (bytes : List ℕ) (a b : Option (List ℕ)) → Appends a b bytes → WritesFront bytes a b
+WritesFront-all bytes a b p = (bytes, [], sym (append-nil bytes), p)
+
+-- lines of which the same is known
+pub frames_in-same : (xs ys bs : List ℕ) → SameFront xs ys → frames_in xs bs ≡ frames_in ys bs
+frames_in-same xs ys bs e = sym (frames_in-take xs bs) ∙ ap (λ l. frames_in l bs) e ∙ frames_in-take ys bs
+
+pub rest_in-same : (xs ys bs : List ℕ) → SameFront xs ys → SameFront (rest_in xs bs) (rest_in ys bs)
+rest_in-same xs ys bs e = sym (rest_in-take xs bs) ∙ ap (λ l. take 256 (rest_in l bs)) e ∙ rest_in-take ys bs
+
+pub last_of-same : (xs ys : List ℕ) → SameFront xs ys → last_of xs ≡ last_of ys
+last_of-same xs ys e = sym (last_of-take xs) ∙ ap last_of e ∙ last_of-take ys
+
+-- a front of a list that stands behind another
+pub moves_front : (all done rest : List ℕ) (n : ℕ) → all ≡ done ++ rest → all ≡ (done ++ take n rest) ++ take (length rest - n) (drop n rest)
+moves_front all done rest n e =
+    e ∙ ap (λ l. done ++ l) (sym (take-append-drop n rest)) ∙ sym (append_assoc done (take n rest) (drop n rest))
+    ∙ ap (λ l. (done ++ take n rest) ++ l) (sym (take_rest rest n))
+
+-- the reader took all of the rest, and no line ended
+pub taken_on : (line cur new done rest : List ℕ) (n : ℕ) → SameFront cur (rest_in line done)
+    → (n ≡ length rest) × (frames_in cur rest ≡ []) × (new ≡ take 256 (rest_in cur rest))
+    → SameFront new (rest_in line (done ++ take n rest)) × (frames_in line (done ++ take n rest) ≡ frames_in line done)
+taken_on line cur new done rest n same (all, frames, held) =
+    let whole : take n rest ≡ rest = take_all n rest (omega arith) in
+    let on : SameFront (rest_in cur rest) (rest_in (rest_in line done) rest) = rest_in-same cur (rest_in line done) rest same in (
+      ap (take 256) held ∙ take-take 256 256 (rest_in cur rest) (omega arith) ∙ on
+          ∙ ap (take 256) (sym (rest_in-append line done rest) ∙ ap (λ t. rest_in line (done ++ t)) (sym whole)),
+      ap (λ t. frames_in line (done ++ t)) whole ∙ frames_in-append line done rest
+          ∙ ap (λ t. frames_in line done ++ t) (sym (frames_in-same cur (rest_in line done) rest same) ∙ frames) ∙ append-nil _,
+    )
+
+-- the reader took the rest up to a line feed
+pub taken_one : (line cur done rest : List ℕ) (n : ℕ) (frame : Frame) → SameFront cur (rest_in line done)
+    → (frames_in cur (take n rest) ≡ frame ∷ []) × (rest_in cur (take n rest) ≡ [])
+    → SameFront [] (rest_in line (done ++ take n rest)) × (frames_in line (done ++ take n rest) ≡ frames_in line done ++ frame ∷ [])
+taken_one line cur done rest n frame same (frames, none) = (
+  ap (take 256) (sym none) ∙ rest_in-same cur (rest_in line done) (take n rest) same ∙ ap (take 256) (sym (rest_in-append line done (take n rest))),
+  frames_in-append line done (take n rest)
+      ∙ ap (λ t. frames_in line done ++ t) (sym (frames_in-same cur (rest_in line done) (take n rest) same) ∙ frames),
+)
+
+-- what was taken tells the first frames of all
+pub first_frames : (line all done rest : List ℕ) (n : ℕ) → all ≡ done ++ rest
+    → frames_in line all ≡ frames_in line (done ++ take n rest) ++ frames_in (rest_in line (done ++ take n rest)) (drop n rest)
+first_frames line all done rest n e =
+    ap (frames_in line) (e ∙ ap (λ l. done ++ l) (sym (take-append-drop n rest)) ∙ sym (append_assoc done (take n rest) (drop n rest)))
+    ∙ frames_in-append line (done ++ take n rest) (drop n rest)
+
+known : (a : Option (List ℕ)) (input : List ℕ) (P : List ℕ → Type 0) → IfSome a (λ xs. input ≡ xs) → P input → IfSome a P
+known None input P e holds = tt
+known (Some xs) input P e holds = subst P e holds
+
+-- what holds of the bytes read holds of all that a reader at its end had
+pub of_all : (a b d : Option (List ℕ)) (input taken : List ℕ) (P : List ℕ → Type 0) → Consumes a b input → Consumes b d taken → taken ≡ []
+    → IsAtEnd d → P input → IfSome a P
+of_all a b d input taken P p q none end holds =
+    let all = Consumes-all a d (input ++ taken) [] (input ++ taken) (Consumes-trans a b d input taken p q) end refl in
+    known a (input ++ taken) P all (subst P (sym (ap (λ t. input ++ t) none ∙ append-nil input)) holds)
+
+-- what holds of the bytes read, however they go on, holds of all that the reader had
+pub of_front : (a b : Option (List ℕ)) (input : List ℕ) (P : List ℕ → Type 0) → Consumes a b input → ((left : List ℕ) → P (input ++ left)) → IfSome a P
+of_front None b input P p holds = tt
+of_front (Some xs) None input P p holds = absurd p
+of_front (Some xs) (Some ys) input P p holds = subst P (sym p) (holds ys)
+
+-- the frames of a front come first
+pub frames_of-append : (input left : List ℕ)
+    → frames_of (input ++ left) ≡ frames_in [] input ++ (frames_in (rest_in [] input) left ++ last_of (rest_in [] (input ++ left)))
+frames_of-append input left =
+    ap (λ f. f ++ last_of (rest_in [] (input ++ left))) (frames_in-append [] input left)
+    ∙ append_assoc (frames_in [] input) (frames_in (rest_in [] input) left) (last_of (rest_in [] (input ++ left)))
+
+-- one more piece of the input
+pub more_frames : (cur input piece : List ℕ) → SameFront cur (rest_in [] input)
+    → frames_in [] (input ++ piece) ≡ frames_in [] input ++ frames_in cur piece
+more_frames cur input piece same =
+    frames_in-append [] input piece ∙ ap (λ f. frames_in [] input ++ f) (sym (frames_in-same cur (rest_in [] input) piece same))
+
+pub more_rest : (new cur input piece : List ℕ) → SameFront cur (rest_in [] input) → SameFront new (rest_in cur piece)
+    → SameFront new (rest_in [] (input ++ piece))
+more_rest new cur input piece same held =
+    held ∙ rest_in-same cur (rest_in [] input) piece same ∙ ap (take 256) (sym (rest_in-append [] input piece))

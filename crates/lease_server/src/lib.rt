@@ -1,0 +1,18 @@
+//! Serves the lines of a stream: each line that comes in is given to a responder, and its answers go out,
+//! in order, however the input was cut.
+//!
+//! Begin at `serve` (serving). What answers lines is a `Responder`; what may go out for which lines is
+//! stated in specs/Serving.antt, over the frames of the crate `lease_proto`.
+#![tactic(auto)]
+
+mod faults;
+mod output;
+mod responders;
+mod serving;
+
+pub use faults::ServeFault;
+pub use responders::Responder;
+pub use serving::{serve, serve_after};
+
+#[cfg(test)]
+mod tests;

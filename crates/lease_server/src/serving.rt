@@ -1,0 +1,157 @@
+//! The server over any reader and writer.
+ghost use Rattle.std.specs.Prelude.{◌≡◌, ◌⊎◌, ℕ, List, [], ◌∷◌, ◌++◌, IfSome, OnOk, OnErr, IsErrOf, false};
+ghost use Rattle.std.specs.Io.KnownBytes.{Consumes};
+ghost use Rattle.lease_proto.specs.Frames.{frames_in, rest_in, frames_of, last_of, frame_view};
+ghost use Rattle.lease_server.specs.Serving.{SameFront, Answers, AnswersSome, Writes, Stops};
+
+use crate::faults::ServeFault;
+use crate::output::deliver;
+use crate::responders::Responder;
+use lease_proto::{FramedLine, LineFault, LineReader};
+use std::alloc::{AllocError, Global};
+use std::io::{ErrorKind, Read, Write};
+
+/// How many times one serving reads.
+const MOST_READS: u64 = 1 << 40;
+
+/// Serves the lines of a stream to its end. A line that is too long, and a last one without its line feed,
+/// is answered by its error line, and the responder never sees it. The answers to the lines of one read are
+/// written together and flushed before the next read, so that none waits while the input pauses. A read or
+/// a write that was interrupted is tried again. `Read` and `Write` come only where the reader or the writer
+/// fails, which no clause can say of any reader and writer.
+pub fn serve<R: Read, W: Write, P: Responder>(
+    alloc: Global,
+    reader: &mut R,
+    writer: &mut W,
+    responder: &mut P,
+) -> Result<(), ServeFault>
+    // All that the reader gives is answered.
+    ensures ok { OnOk result (IfSome (R.remaining reader.old) (λ input.
+        Writes P.may_answer responder.old (frames_of input) (W.contents writer.old) (W.contents writer.new) responder.new)) }
+    // After a read fault the whole lines that were read are answered.
+    ensures read { IsErrOf result ServeFault.Read ⊎ IsErrOf result ServeFault.Turns → (input : List ℕ)
+        × Consumes (R.remaining reader.old) (R.remaining reader.new) input
+        × Writes P.may_answer responder.old (frames_in [] input) (W.contents writer.old) (W.contents writer.new) responder.new }
+    // After another fault, what was written is a front of the answers.
+    ensures stop { IsErrOf result ServeFault.Write ⊎ IsErrOf result ServeFault.Memory → IfSome (R.remaining reader.old) (λ input.
+        Stops P.may_answer responder.old (frames_of input) (W.contents writer.old) (W.contents writer.new)) }
+{
+    serve_after(alloc, &[], reader, writer, responder)
+}
+
+/// Serves bytes that were read already, and then what the reader gives, as one stream: the same as `serve`,
+/// which has no such bytes.
+pub fn serve_after<R: Read, W: Write, P: Responder>(
+    alloc: Global,
+    front: &[u8],
+    reader: &mut R,
+    writer: &mut W,
+    responder: &mut P,
+) -> Result<(), ServeFault>
+    ensures ok { OnOk result (IfSome (R.remaining reader.old) (λ input.
+        Writes P.may_answer responder.old (frames_of (front.now ++ input)) (W.contents writer.old) (W.contents writer.new) responder.new)) }
+    ensures read { IsErrOf result ServeFault.Read ⊎ IsErrOf result ServeFault.Turns → (input : List ℕ)
+        × Consumes (R.remaining reader.old) (R.remaining reader.new) input
+        × Writes P.may_answer responder.old (frames_in [] (front.now ++ input)) (W.contents writer.old) (W.contents writer.new) responder.new }
+    ensures stop { IsErrOf result ServeFault.Write ⊎ IsErrOf result ServeFault.Memory → IfSome (R.remaining reader.old) (λ input.
+        Stops P.may_answer responder.old (frames_of (front.now ++ input)) (W.contents writer.old) (W.contents writer.new)) }
+{
+    let mut lines = LineReader::new();
+    let mut out = Vec::new(alloc);
+    serve_piece(&mut lines, front, &mut out, writer, responder)?;
+    let mut buffer = [0u8; 4096];
+    for _ in 0..MOST_READS {
+        match reader.read(&mut buffer) {
+            Ok(0) => return serve_last(&lines, writer, responder),
+            Ok(n) => serve_piece(&mut lines, &buffer[..n], &mut out, writer, responder)?,
+            Err(e) if e.kind() == ErrorKind::Interrupted => {}
+            Err(_) => return Err(ServeFault::Read),
+        }
+    }
+    Err(ServeFault::Turns)
+}
+
+/// Serves the lines that end in a piece: their answers are written together. Where memory was refused,
+/// those of the lines before it are.
+fn serve_piece<W: Write, P: Responder>(
+    lines: &mut LineReader,
+    piece: &[u8],
+    out: &mut Vec<u8>,
+    writer: &mut W,
+    responder: &mut P,
+) -> Result<(), ServeFault>
+    requires begun { lines.old.whole ≡ false }
+    requires empty { out.old.items ≡ [] }
+    ensures served { OnOk result (Writes P.may_answer responder.old (frames_in lines.old.line piece.now)
+        (W.contents writer.old) (W.contents writer.new) responder.new) }
+    ensures line { OnOk result ((lines.new.whole ≡ false) × SameFront lines.new.line (rest_in lines.old.line piece.now)) }
+    ensures empty { OnOk result (out.new.items ≡ []) }
+    ensures err { OnErr result (Stops P.may_answer responder.old (frames_in lines.old.line piece.now)
+        (W.contents writer.old) (W.contents writer.new)) }
+    ensures fault { OnErr result (IsErrOf result ServeFault.Write ⊎ IsErrOf result ServeFault.Memory) }
+{
+    let answered = answer_piece(lines, piece, out, responder);
+    deliver(writer, out.as_slice())?;
+    out.clear();
+    match answered {
+        Ok(()) => Ok(()),
+        Err(_) => Err(ServeFault::Memory),
+    }
+}
+
+/// Appends the answers to the lines that end in a piece.
+fn answer_piece<P: Responder>(
+    lines: &mut LineReader,
+    piece: &[u8],
+    out: &mut Vec<u8>,
+    responder: &mut P,
+) -> Result<(), AllocError>
+    requires { lines.old.whole ≡ false }
+    ensures ok { OnOk result (Answers P.may_answer responder.old (frames_in lines.old.line piece.now) out.old.items out.new.items responder.new) }
+    ensures line { OnOk result ((lines.new.whole ≡ false) × SameFront lines.new.line (rest_in lines.old.line piece.now)) }
+    ensures err { OnErr result (AnswersSome P.may_answer responder.old (frames_in lines.old.line piece.now) out.old.items out.new.items) }
+{
+    let mut rest = piece;
+    while !rest.is_empty() {
+        let taken = lines.feed(rest);
+        rest = &rest[taken..];
+        if let Some(frame) = lines.next() {
+            answer_frame(frame, out, responder)?;
+        }
+    }
+    Ok(())
+}
+
+/// Appends the answer to one frame.
+fn answer_frame<P: Responder>(
+    frame: Result<FramedLine, LineFault>,
+    out: &mut Vec<u8>,
+    responder: &mut P,
+) -> Result<(), AllocError>
+    ensures ok { OnOk result (Answers P.may_answer responder.old (frame_view frame ∷ []) out.old.items out.new.items responder.new) }
+    ensures err { OnErr result (out.new.items ≡ out.old.items) }
+{
+    match frame {
+        Ok(line) => responder.answer(line.as_slice(), out),
+        Err(fault) => out.extend_from_slice(fault.line()),
+    }
+}
+
+/// Writes the answer to a rest that no line feed ends.
+fn serve_last<W: Write, P: Responder>(
+    lines: &LineReader,
+    writer: &mut W,
+    responder: &mut P,
+) -> Result<(), ServeFault>
+    requires { lines.now.whole ≡ false }
+    ensures ok { OnOk result (Writes P.may_answer responder.old (last_of lines.now.line)
+        (W.contents writer.old) (W.contents writer.new) responder.new) }
+    ensures err { OnErr result (Stops P.may_answer responder.old (last_of lines.now.line)
+        (W.contents writer.old) (W.contents writer.new)) }
+    ensures fault { OnErr result (IsErrOf result ServeFault.Write ⊎ IsErrOf result ServeFault.Memory) }
+{
+    match lines.at_end() {
+        None => Ok(()),
+        Some(fault) => deliver(writer, fault.line()),
+    }
+}
