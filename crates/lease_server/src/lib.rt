@@ -9,10 +9,12 @@ mod faults;
 mod output;
 mod responders;
 mod serving;
+mod watching;
 
 pub use faults::ServeFault;
 pub use responders::Responder;
 pub use serving::{serve, serve_after};
+pub use watching::Watched;
 
 #[cfg(test)]
 mod tests;

@@ -1,40 +1,50 @@
 //! The server over any reader and writer.
-ghost use Rattle.std.specs.Prelude.{◌≡◌, ◌⊎◌, ℕ, List, [], ◌∷◌, ◌++◌, IfSome, OnOk, OnErr, IsErrOf, false};
+ghost use Rattle.std.specs.Prelude.{◌≡◌, ◌⊎◌, ℕ, List, [], ◌∷◌, ◌++◌, IfSome, OnOk, OnErr, IsErrOf, true, false};
 ghost use Rattle.std.specs.Io.KnownBytes.{Consumes};
 ghost use Rattle.lease_proto.specs.Frames.{frames_in, rest_in, frames_of, last_of, frame_view};
 ghost use Rattle.lease_server.specs.Serving.{SameFront, Answers, AnswersSome, Writes, Stops};
+ghost use Rattle.lease_server.specs.Watching.{inner_of, has_failed};
 
 use crate::faults::ServeFault;
 use crate::output::deliver;
 use crate::responders::Responder;
+use crate::watching::Watched;
 use lease_proto::{FramedLine, LineFault, LineReader};
 use std::alloc::{AllocError, Global};
-use std::io::{ErrorKind, Read, Write};
+use std::io::{Read, Write};
 
 /// How many times one serving reads.
 const MOST_READS: u64 = 1 << 40;
 
 /// Serves the lines of a stream to its end. A line that is too long, and a last one without its line feed,
 /// is answered by its error line, and the responder never sees it. The answers to the lines of one read are
-/// written together and flushed before the next read, so that none waits while the input pauses. A read or
-/// a write that was interrupted is tried again. `Read` and `Write` come only where the reader or the writer
-/// fails, which no clause can say of any reader and writer.
+/// written together and flushed before the next read, so that none waits while the input pauses.
 pub fn serve<R: Read, W: Write, P: Responder>(
     alloc: Global,
-    reader: &mut R,
-    writer: &mut W,
+    reader: &mut Watched<R>,
+    writer: &mut Watched<W>,
     responder: &mut P,
 ) -> Result<(), ServeFault>
+    requires reader { has_failed reader.old ≡ false }
+    requires writer { has_failed writer.old ≡ false }
+
     // All that the reader gives is answered.
-    ensures ok { OnOk result (IfSome (R.remaining reader.old) (λ input.
-        Writes P.may_answer responder.old (frames_of input) (W.contents writer.old) (W.contents writer.new) responder.new)) }
+    ensures ok { OnOk result (IfSome (R.remaining (inner_of reader.old)) (λ input.
+        Writes P.may_answer responder.old (frames_of input) (W.contents (inner_of writer.old)) (W.contents (inner_of writer.new)) responder.new)) }
+
     // After a read fault the whole lines that were read are answered.
     ensures read { IsErrOf result ServeFault.Read ⊎ IsErrOf result ServeFault.Turns → (input : List ℕ)
-        × Consumes (R.remaining reader.old) (R.remaining reader.new) input
-        × Writes P.may_answer responder.old (frames_in [] input) (W.contents writer.old) (W.contents writer.new) responder.new }
+        × Consumes (R.remaining (inner_of reader.old)) (R.remaining (inner_of reader.new)) input
+        × Writes P.may_answer responder.old (frames_in [] input) (W.contents (inner_of writer.old)) (W.contents (inner_of writer.new)) responder.new }
+
     // After another fault, what was written is a front of the answers.
-    ensures stop { IsErrOf result ServeFault.Write ⊎ IsErrOf result ServeFault.Memory → IfSome (R.remaining reader.old) (λ input.
-        Stops P.may_answer responder.old (frames_of input) (W.contents writer.old) (W.contents writer.new)) }
+    ensures stop { IsErrOf result ServeFault.Write ⊎ IsErrOf result ServeFault.Memory → IfSome (R.remaining (inner_of reader.old)) (λ input.
+        Stops P.may_answer responder.old (frames_of input) (W.contents (inner_of writer.old)) (W.contents (inner_of writer.new))) }
+
+    // Each fault is its own part's.
+    ensures works { OnOk result ((has_failed reader.new ≡ false) × (has_failed writer.new ≡ false)) }
+    ensures read_failed { IsErrOf result ServeFault.Read → has_failed reader.new ≡ true }
+    ensures write_failed { IsErrOf result ServeFault.Write → has_failed writer.new ≡ true }
 {
     serve_after(alloc, &[], reader, writer, responder)
 }
@@ -44,29 +54,34 @@ pub fn serve<R: Read, W: Write, P: Responder>(
 pub fn serve_after<R: Read, W: Write, P: Responder>(
     alloc: Global,
     front: &[u8],
-    reader: &mut R,
-    writer: &mut W,
+    reader: &mut Watched<R>,
+    writer: &mut Watched<W>,
     responder: &mut P,
 ) -> Result<(), ServeFault>
-    ensures ok { OnOk result (IfSome (R.remaining reader.old) (λ input.
-        Writes P.may_answer responder.old (frames_of (front.now ++ input)) (W.contents writer.old) (W.contents writer.new) responder.new)) }
+    requires reader { has_failed reader.old ≡ false }
+    requires writer { has_failed writer.old ≡ false }
+
+    ensures ok { OnOk result (IfSome (R.remaining (inner_of reader.old)) (λ input.
+        Writes P.may_answer responder.old (frames_of (front.now ++ input)) (W.contents (inner_of writer.old)) (W.contents (inner_of writer.new)) responder.new)) }
     ensures read { IsErrOf result ServeFault.Read ⊎ IsErrOf result ServeFault.Turns → (input : List ℕ)
-        × Consumes (R.remaining reader.old) (R.remaining reader.new) input
-        × Writes P.may_answer responder.old (frames_in [] (front.now ++ input)) (W.contents writer.old) (W.contents writer.new) responder.new }
-    ensures stop { IsErrOf result ServeFault.Write ⊎ IsErrOf result ServeFault.Memory → IfSome (R.remaining reader.old) (λ input.
-        Stops P.may_answer responder.old (frames_of (front.now ++ input)) (W.contents writer.old) (W.contents writer.new)) }
+        × Consumes (R.remaining (inner_of reader.old)) (R.remaining (inner_of reader.new)) input
+        × Writes P.may_answer responder.old (frames_in [] (front.now ++ input)) (W.contents (inner_of writer.old)) (W.contents (inner_of writer.new)) responder.new }
+    ensures stop { IsErrOf result ServeFault.Write ⊎ IsErrOf result ServeFault.Memory → IfSome (R.remaining (inner_of reader.old)) (λ input.
+        Stops P.may_answer responder.old (frames_of (front.now ++ input)) (W.contents (inner_of writer.old)) (W.contents (inner_of writer.new))) }
+    ensures works { OnOk result ((has_failed reader.new ≡ false) × (has_failed writer.new ≡ false)) }
+    ensures read_failed { IsErrOf result ServeFault.Read → has_failed reader.new ≡ true }
+    ensures write_failed { IsErrOf result ServeFault.Write → has_failed writer.new ≡ true }
 {
     let mut lines = LineReader::new();
     let mut out = Vec::new(alloc);
     serve_piece(&mut lines, front, &mut out, writer, responder)?;
     let mut buffer = [0u8; 4096];
     for _ in 0..MOST_READS {
-        match reader.read(&mut buffer) {
-            Ok(0) => return serve_last(&lines, writer, responder),
-            Ok(n) => serve_piece(&mut lines, &buffer[..n], &mut out, writer, responder)?,
-            Err(e) if e.kind() == ErrorKind::Interrupted => {}
-            Err(_) => return Err(ServeFault::Read),
+        let n = reader.read(&mut buffer)?;
+        if n == 0 {
+            return serve_last(&lines, writer, responder);
         }
+        serve_piece(&mut lines, &buffer[..n], &mut out, writer, responder)?;
     }
     Err(ServeFault::Turns)
 }
@@ -77,18 +92,20 @@ fn serve_piece<W: Write, P: Responder>(
     lines: &mut LineReader,
     piece: &[u8],
     out: &mut Vec<u8>,
-    writer: &mut W,
+    writer: &mut Watched<W>,
     responder: &mut P,
 ) -> Result<(), ServeFault>
     requires begun { lines.old.whole ≡ false }
     requires empty { out.old.items ≡ [] }
     ensures served { OnOk result (Writes P.may_answer responder.old (frames_in lines.old.line piece.now)
-        (W.contents writer.old) (W.contents writer.new) responder.new) }
+        (W.contents (inner_of writer.old)) (W.contents (inner_of writer.new)) responder.new) }
     ensures line { OnOk result ((lines.new.whole ≡ false) × SameFront lines.new.line (rest_in lines.old.line piece.now)) }
     ensures empty { OnOk result (out.new.items ≡ []) }
     ensures err { OnErr result (Stops P.may_answer responder.old (frames_in lines.old.line piece.now)
-        (W.contents writer.old) (W.contents writer.new)) }
+        (W.contents (inner_of writer.old)) (W.contents (inner_of writer.new))) }
     ensures fault { OnErr result (IsErrOf result ServeFault.Write ⊎ IsErrOf result ServeFault.Memory) }
+    ensures works { OnOk result (has_failed writer.new ≡ has_failed writer.old) }
+    ensures failed { IsErrOf result ServeFault.Write → has_failed writer.new ≡ true }
 {
     let answered = answer_piece(lines, piece, out, responder);
     deliver(writer, out.as_slice())?;
@@ -140,15 +157,17 @@ fn answer_frame<P: Responder>(
 /// Writes the answer to a rest that no line feed ends.
 fn serve_last<W: Write, P: Responder>(
     lines: &LineReader,
-    writer: &mut W,
+    writer: &mut Watched<W>,
     responder: &mut P,
 ) -> Result<(), ServeFault>
     requires { lines.now.whole ≡ false }
     ensures ok { OnOk result (Writes P.may_answer responder.old (last_of lines.now.line)
-        (W.contents writer.old) (W.contents writer.new) responder.new) }
+        (W.contents (inner_of writer.old)) (W.contents (inner_of writer.new)) responder.new) }
     ensures err { OnErr result (Stops P.may_answer responder.old (last_of lines.now.line)
-        (W.contents writer.old) (W.contents writer.new)) }
+        (W.contents (inner_of writer.old)) (W.contents (inner_of writer.new))) }
     ensures fault { OnErr result (IsErrOf result ServeFault.Write ⊎ IsErrOf result ServeFault.Memory) }
+    ensures works { OnOk result (has_failed writer.new ≡ has_failed writer.old) }
+    ensures failed { IsErrOf result ServeFault.Write → has_failed writer.new ≡ true }
 {
     match lines.at_end() {
         None => Ok(()),

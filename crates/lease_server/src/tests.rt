@@ -1,7 +1,7 @@
 //! Serving from readers and to writers that give and take little, that stop for a moment, and that fail.
 ghost use Rattle.std.specs.Prelude.{◌≡◌, ◌∷◌, [], ◌++◌};
 
-use crate::{Responder, ServeFault, serve, serve_after};
+use crate::{Responder, ServeFault, Watched, serve, serve_after};
 use std::alloc::{AllocError, Global};
 use std::io;
 use std::io::{ErrorKind, Read, Write};
@@ -127,16 +127,16 @@ fn outcome(
     writing: Mishap,
     taking: usize,
 ) -> (Result<(), ServeFault>, Sink) {
-    let mut reader = Pieces {
+    let mut reader = Watched::new(Pieces {
         rest: input,
         size,
         mishap: reading,
         reads: 0,
-    };
-    let mut writer = Sink::new(alloc, taking, writing);
+    });
+    let mut writer = Watched::new(Sink::new(alloc, taking, writing));
     let mut echo = NEVER;
     let result = serve(alloc, &mut reader, &mut writer, &mut echo);
-    (result, writer)
+    (result, writer.into_inner())
 }
 
 #[test]
@@ -175,17 +175,17 @@ fn each_line_is_answered_however_it_comes_and_goes(rt: HostRuntime) -> Result<()
 fn bytes_that_were_read_already_come_first(rt: HostRuntime) -> Result<(), Fail> {
     let alloc = rt.alloc();
     for cut in 0..=PLAIN.len() {
-        let mut reader = Pieces {
+        let mut reader = Watched::new(Pieces {
             rest: &PLAIN[cut..],
             size: 4,
             mishap: Mishap::None,
             reads: 0,
-        };
-        let mut writer = Sink::new(alloc, 100, Mishap::None);
+        });
+        let mut writer = Watched::new(Sink::new(alloc, 100, Mishap::None));
         let mut echo = NEVER;
         let result = serve_after(alloc, &PLAIN[..cut], &mut reader, &mut writer, &mut echo);
         assert_eq!(rt; result, Ok(()), "cut at {cut}");
-        assert_eq!(rt; writer.held.as_slice(), PLAIN, "cut at {cut}");
+        assert_eq!(rt; writer.into_inner().held.as_slice(), PLAIN, "cut at {cut}");
     }
     Ok(())
 }
@@ -275,19 +275,20 @@ fn want_of_memory_leaves_the_answers_before_it(rt: HostRuntime) {
         b"hello 1 1\n\nlease 1 1 1 m 8\n",
     ];
     for (i, front) in fronts.iter().enumerate() {
-        let mut reader = Pieces {
+        let mut reader = Watched::new(Pieces {
             rest: PLAIN,
             size: 7,
             mishap: Mishap::None,
             reads: 0,
-        };
-        let mut writer = Sink::new(alloc, 100, Mishap::None);
+        });
+        let mut writer = Watched::new(Sink::new(alloc, 100, Mishap::None));
         let mut echo = Echo {
             answered: 0,
             refused_at: i as u64 + 1,
         };
         let result = serve(alloc, &mut reader, &mut writer, &mut echo);
         assert_eq!(rt; result, Err(ServeFault::Memory), "at line {i}");
-        assert_eq!(rt; writer.held.as_slice(), *front, "at line {i}");
+        assert_eq!(rt; writer.has_failed(), false);
+        assert_eq!(rt; writer.into_inner().held.as_slice(), *front, "at line {i}");
     }
 }

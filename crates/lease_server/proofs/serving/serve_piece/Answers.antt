@@ -10,8 +10,8 @@ returns-in_err-deliver-clause-err g c =
     let p = err_from_is_err_and c.from_residual.result c.from_residual.ensures.1 in
     let may = g.P.Responder.may_answer in
     let frames = frames_in c.args.lines.now.line c.args.piece.now in
-    let before = g.W.Write.contents c.args.writer.now in
-    let after = g.W.Write.contents c.deliver.new.writer in
+    let before = g.W.Write.contents c.args.writer.now.inner in
+    let after = g.W.Write.contents c.deliver.new.writer.inner in
     let some = Answers-some may c.answer_piece-answered.result frames c.args.responder.now c.answer_piece-answered.new.responder
     c.args.out.now.items c.answer_piece-answered.new.out.items c.answer_piece-answered.ensures.ok c.answer_piece-answered.ensures.err in
     rw p.1 (Stops-of_some may frames c.args.responder.now c.answer_piece-answered.new.out.items before after
