@@ -1,9 +1,9 @@
 //! The server over any reader and writer.
-ghost use Rattle.std.specs.Prelude.{◌≡◌, ◌⊎◌, ℕ, List, [], ◌∷◌, ◌++◌, IfSome, OnOk, OnErr, IsErrOf, true, false};
+ghost use Rattle.std.specs.Prelude.{◌≡◌, ◌⊎◌, ℕ, List, [], ◌∷◌, ◌++◌, ◌≤◌, ◌^◌, IfSome, OnOk, OnErr, IsErrOf, true, false};
 ghost use Rattle.std.specs.Io.KnownBytes.{Consumes};
 ghost use Rattle.lease_proto.specs.Frames.{frames_in, rest_in, frames_of, last_of, frame_view};
 ghost use Rattle.lease_server.specs.Serving.{SameFront, Answers, AnswersSome, Writes, Stops};
-ghost use Rattle.lease_server.specs.Watching.{inner_of, has_failed};
+ghost use Rattle.lease_server.specs.Watching.{inner_of, has_failed, reads_of};
 
 use crate::faults::ServeFault;
 use crate::output::deliver;
@@ -45,6 +45,7 @@ pub fn serve<R: Read, W: Write, P: Responder>(
     ensures works { OnOk result ((has_failed reader.new ≡ false) × (has_failed writer.new ≡ false)) }
     ensures read_failed { IsErrOf result ServeFault.Read → has_failed reader.new ≡ true }
     ensures write_failed { IsErrOf result ServeFault.Write → has_failed writer.new ≡ true }
+    ensures turns { IsErrOf result ServeFault.Turns → 2 ^ 40 ≤ reads_of reader.new }
 {
     serve_after(alloc, &[], reader, writer, responder)
 }
@@ -71,6 +72,7 @@ pub fn serve_after<R: Read, W: Write, P: Responder>(
     ensures works { OnOk result ((has_failed reader.new ≡ false) × (has_failed writer.new ≡ false)) }
     ensures read_failed { IsErrOf result ServeFault.Read → has_failed reader.new ≡ true }
     ensures write_failed { IsErrOf result ServeFault.Write → has_failed writer.new ≡ true }
+    ensures turns { IsErrOf result ServeFault.Turns → 2 ^ 40 ≤ reads_of reader.new }
 {
     let mut lines = LineReader::new();
     let mut out = Vec::new(alloc);

@@ -1,27 +1,31 @@
 //! A reader or a writer, watched for its failure: so that a fault can be laid to it.
-ghost use Rattle.std.specs.Prelude.{◌≡◌, ◌≤◌, ◌<◌, length, take, true, false, IfOk, OnOk, OnErr, Err};
+ghost use Rattle.std.specs.Prelude.{◌≡◌, ◌≤◌, ◌<◌, ◌+◌, ◌-◌, ◌^◌, min, length, take, true, false, IfOk, OnOk, OnErr, Err};
 ghost use Rattle.std.specs.Io.KnownBytes.{Appends, Consumes, IsAtEnd, Keeps};
-ghost use Rattle.lease_server.specs.Watching.{has_failed, inner_of};
+ghost use Rattle.lease_server.specs.Watching.{has_failed, inner_of, reads_of};
 
 use crate::faults::ServeFault;
 use std::io::{ErrorKind, Read, Write};
 
-/// A reader or a writer, and whether it has failed: answered an error other than an interruption, took no
-/// byte of some, or was interrupted 2^64 - 1 times in a row. Only such a call makes it a failed one.
+/// A reader or a writer, how often it was read, and whether it has failed: answered an error other than an
+/// interruption, took no byte of some, or was interrupted 2^64 - 1 times in a row. Only such a call makes it
+/// a failed one. The count of reads stops at 2^64 - 1.
 #[derive(Drop)]
 pub struct Watched<T> {
     inner: T,
     failed: bool,
+    reads: u64,
 }
 
 impl<T> Watched<T> {
     pub fn new(inner: T) -> Watched<T>
         ensures inner { inner_of result ≡ inner }
         ensures failed { has_failed result ≡ false }
+        ensures reads { reads_of result ≡ 0 }
     {
         Watched {
             inner,
             failed: false,
+            reads: 0,
         }
     }
 
@@ -35,7 +39,11 @@ impl<T> Watched<T> {
     pub fn into_inner(self) -> T
         ensures { result ≡ inner_of self }
     {
-        let Watched { inner, failed: _ } = self;
+        let Watched {
+            inner,
+            failed: _,
+            reads: _,
+        } = self;
         inner
     }
 }
@@ -50,7 +58,9 @@ impl<R: Read> Watched<R> {
         ensures kept { OnErr result (Keeps (R.remaining (inner_of self.old)) (R.remaining (inner_of self.new))) }
         ensures failed { OnErr result (has_failed self.new ≡ true) }
         ensures fault { OnErr result (result ≡ Err ServeFault.Read) }
+        ensures counted { reads_of self.new ≡ min (reads_of self.old + 1) (2 ^ 64 - 1) }
     {
+        self.reads = self.reads.saturating_add(1);
         for _ in 0..u64::MAX {
             match self.inner.read(buf) {
                 Ok(n) => return Ok(n),

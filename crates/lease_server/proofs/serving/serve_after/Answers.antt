@@ -25,7 +25,7 @@ at_either {E} {Q} r d e q (inr is) = IfErr-at_err (λ _. Q) is q
 
 pub returns-then-n-eq0-clause-ok : goal.returns-then-n-eq0-clause-ok
 returns-then-n-eq0-clause-ok g c =
-    let (input, consumed, whole, same, empty, writes, reads_on, writes_on) = c.loop.invariant in
+    let (input, consumed, whole, same, empty, writes, reads_on, writes_on, counted) = c.loop.invariant in
     let may = g.P.Responder.may_answer in
     let front = c.args.front.now in
     let sofar = front ++ input in
@@ -45,7 +45,7 @@ returns-then-n-eq0-clause-ok g c =
 
 pub returns-then-n-eq0-clause-stop : goal.returns-then-n-eq0-clause-stop
 returns-then-n-eq0-clause-stop g c =
-    let (input, consumed, whole, same, empty, writes, reads_on, writes_on) = c.loop.invariant in
+    let (input, consumed, whole, same, empty, writes, reads_on, writes_on, counted) = c.loop.invariant in
     let may = g.P.Responder.may_answer in
     let front = c.args.front.now in
     let sofar = front ++ input in
@@ -76,7 +76,7 @@ returns-in_err-serve_piece-clause-stop g c =
 
 pub returns-in_err-serve_piece-2-clause-stop : goal.returns-in_err-serve_piece-2-clause-stop
 returns-in_err-serve_piece-2-clause-stop g c =
-    let (input, consumed, whole, same, empty, writes, reads_on, writes_on) = c.loop.invariant in
+    let (input, consumed, whole, same, empty, writes, reads_on, writes_on, counted) = c.loop.invariant in
     let may = g.P.Responder.may_answer in
     let front = c.args.front.now in
     let sofar = front ++ input in
@@ -96,7 +96,7 @@ returns-in_err-serve_piece-2-clause-stop g c =
 
 pub loop-preserved : goal.loop-preserved
 loop-preserved g c =
-    let (input, consumed, whole, same, empty, writes, reads_on, writes_on) = c.loop.invariant in
+    let (input, consumed, whole, same, empty, writes, reads_on, writes_on, counted) = c.loop.invariant in
     let may = g.P.Responder.may_answer in
     let front = c.args.front.now in
     let sofar = front ++ input in
@@ -116,4 +116,5 @@ loop-preserved g c =
           before (g.W.Write.contents c.loop.writer.inner) after writes c.in_ok-serve_piece-2.ensures.served),
       c.in_ok-n.ensures.works ∙ reads_on,
       c.in_ok-serve_piece-2.ensures.works ∙ writes_on,
+      omega (arith, c.in_ok-n.ensures.counted),
     )
