@@ -17,16 +17,18 @@ pub const LONGEST_NAME: usize = 16;
 
 /// A client, 1 to 65,536.
 #[derive(Clone, Copy, Debug, PartialEq, Eq, PartialOrd, Ord, Hash)]
-pub struct ClientId(u32);
+pub struct ClientId {
+    id: u32,
+}
 
 impl Model for ClientId {
     ghost Value = { ℕ };
 
-    ghost view = { λ c. c.0 };
+    ghost view = { λ c. c.id };
 
-    ghost invariant = { λ c. (1 ≤ c.0) × (c.0 ≤ 65536) };
+    ghost invariant = { λ c. (1 ≤ c.id) × (c.id ≤ 65536) };
 
-    ghost inverse = { λ n. record { 0 = n } };
+    ghost inverse = { λ n. record { id = n } };
 }
 
 impl ClientId {
@@ -34,7 +36,7 @@ impl ClientId {
         ensures { SomeIff result ((1 ≤ value) × (value ≤ 65536)) value }
     {
         if 1 <= value && value <= LAST_CLIENT {
-            Some(ClientId(value))
+            Some(ClientId { id: value })
         } else {
             None
         }
@@ -44,22 +46,24 @@ impl ClientId {
         ensures value { result ≡ self }
         ensures range { (1 ≤ self) × (self ≤ 65536) }
     {
-        self.0
+        self.id
     }
 }
 
 /// An incarnation of a client, or the number of one of its requests: 1 to 2^62.
 #[derive(Clone, Copy, Debug, PartialEq, Eq, PartialOrd, Ord)]
-pub struct Ordinal(u64);
+pub struct Ordinal {
+    place: u64,
+}
 
 impl Model for Ordinal {
     ghost Value = { ℕ };
 
-    ghost view = { λ c. c.0 };
+    ghost view = { λ c. c.place };
 
-    ghost invariant = { λ c. (1 ≤ c.0) × (c.0 ≤ 2 ^ 62) };
+    ghost invariant = { λ c. (1 ≤ c.place) × (c.place ≤ 2 ^ 62) };
 
-    ghost inverse = { λ n. record { 0 = n } };
+    ghost inverse = { λ n. record { place = n } };
 }
 
 impl Ordinal {
@@ -67,7 +71,7 @@ impl Ordinal {
         ensures { SomeIff result ((1 ≤ value) × (value ≤ 2 ^ 62)) value }
     {
         if 1 <= value && value <= LARGEST {
-            Some(Ordinal(value))
+            Some(Ordinal { place: value })
         } else {
             None
         }
@@ -77,35 +81,37 @@ impl Ordinal {
         ensures value { result ≡ self }
         ensures range { (1 ≤ self) × (self ≤ 2 ^ 62) }
     {
-        self.0
+        self.place
     }
 }
 
 /// A unit, a number of units or a bound on them, in units; or the last incarnation or number, with 0
 /// where there was none. 0 to 2^62.
 #[derive(Clone, Copy, Debug, PartialEq, Eq, PartialOrd, Ord)]
-pub struct Quantity(u64);
+pub struct Quantity {
+    units: u64,
+}
 
 impl Model for Quantity {
     ghost Value = { ℕ };
 
-    ghost view = { λ c. c.0 };
+    ghost view = { λ c. c.units };
 
-    ghost invariant = { λ c. c.0 ≤ 2 ^ 62 };
+    ghost invariant = { λ c. c.units ≤ 2 ^ 62 };
 
-    ghost inverse = { λ n. record { 0 = n } };
+    ghost inverse = { λ n. record { units = n } };
 }
 
 impl Quantity {
-    pub const ZERO: Quantity = Quantity(0);
+    pub const ZERO: Quantity = Quantity { units: 0 };
 
-    pub const MOST: Quantity = Quantity(LARGEST);
+    pub const MOST: Quantity = Quantity { units: LARGEST };
 
     pub fn new(value: u64) -> Option<Self>
         ensures { SomeIff result (value ≤ 2 ^ 62) value }
     {
         if value <= LARGEST {
-            Some(Quantity(value))
+            Some(Quantity { units: value })
         } else {
             None
         }
@@ -115,7 +121,7 @@ impl Quantity {
         ensures value { result ≡ self }
         ensures range { self ≤ 2 ^ 62 }
     {
-        self.0
+        self.units
     }
 }
 
