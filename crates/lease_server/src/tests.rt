@@ -14,6 +14,7 @@ enum Mishap {
     None,
     Fails { at: u64 },
     IsInterrupted { at: u64 },
+    FlushFails { at: u64 },
 }
 
 fn happens(mishap: Mishap, turn: u64) -> Option<ErrorKind> {
@@ -85,8 +86,15 @@ impl Write for Sink {
 
     fn flush(&mut self) -> io::Result<()> {
         self.flushes = self.flushes.saturating_add(1);
-        self.flushed = self.held.len();
-        Ok(())
+        match self.mishap {
+            Mishap::FlushFails { at } if at == self.flushes => {
+                Err(io::Error::from(ErrorKind::BrokenPipe))
+            }
+            _ => {
+                self.flushed = self.held.len();
+                Ok(())
+            }
+        }
     }
 }
 
@@ -263,6 +271,18 @@ fn a_write_that_fails_ends_the_writing(rt: HostRuntime) {
     }
     let (result, _sink) = outcome(alloc, PLAIN, 5, Mishap::None, Mishap::None, 0);
     assert_eq!(rt; result, Err(ServeFault::Write));
+}
+
+#[test]
+fn a_flush_that_fails_ends_the_serving(rt: HostRuntime) {
+    let alloc = rt.alloc();
+    let input = b"a\nb\nc\n";
+    for at in 1..=3 {
+        let mishap = Mishap::FlushFails { at };
+        let (result, sink) = outcome(alloc, input, 2, Mishap::None, mishap, 100);
+        assert_eq!(rt; result, Err(ServeFault::Write), "at {at}");
+        assert_eq!(rt; sink.writes, at);
+    }
 }
 
 #[test]
