@@ -87,6 +87,7 @@ impl<W: Write> Watched<W> {
         ensures kept { OnErr result (Keeps (W.contents (inner_of self.old)) (W.contents (inner_of self.new))) }
         ensures failed { OnErr result (has_failed self.new ≡ true) }
         ensures fault { OnErr result (result ≡ Err ServeFault.Write) }
+        ensures counted { reads_of self.new ≡ reads_of self.old }
     {
         for _ in 0..u64::MAX {
             match self.inner.write(bytes) {
@@ -112,6 +113,7 @@ impl<W: Write> Watched<W> {
         ensures works { OnOk result (has_failed self.new ≡ has_failed self.old) }
         ensures failed { OnErr result (has_failed self.new ≡ true) }
         ensures fault { OnErr result (result ≡ Err ServeFault.Write) }
+        ensures counted { reads_of self.new ≡ reads_of self.old }
     {
         match self.inner.flush() {
             Ok(()) => Ok(()),
