@@ -1,0 +1,4 @@
+pub mod PartLemmas
+pub mod RowLemmas
+pub mod PassingLemmas
+pub mod SlabLemmas

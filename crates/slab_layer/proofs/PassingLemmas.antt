@@ -1,0 +1,65 @@
+-- The chunks at home, and those that are out, whatever is counted.
+use Rattle.std.proofs.Common.{◌≡◌, ◌⊎◌, inl, inr, ℕ, zero, suc, ◌+◌, ◌-◌, ◌*◌, ◌<◌, ◌≤◌, Bool, true, false, not, cond, List, [], ◌∷◌, ◌++◌, length, get_or, set, All, Option, Some, None, refl, sym, ap, ◌∙◌, arith, subst, if◌then◌else◌}
+use Rattle.std.specs.Prelude.{sum_by, count_by, Contains}
+use Rattle.std.proofs.lemmas.List.Sums.{sum_by-cons}
+use Rattle.std.proofs.lemmas.List.Elements.{All-nil, All-cons, All-head, All-tail}
+use Rattle.deed_core.specs.Extent.{Extent, end_of}
+use Rattle.deed_core.specs.Holding.{Holding}
+use Rattle.deed_core.specs.Covering.{covers, covers_held, covering_held}
+use Rattle.slab_layer.specs.Slab.{passing, units}
+
+-- what a value counts, if it is there
+abbrev pub counted : Bool → ℕ → ℕ
+counted b n = if b then n else 0
+
+module _ {X : Type 0} where
+  head_sum : (g : X → ℕ) (b : Bool) (x : X) (xs : List X) → sum_by g (if b then x ∷ xs else xs) ≡ counted b (g x) + sum_by g xs
+  head_sum g true x xs = sum_by-cons g x xs
+  head_sum g false x xs = omega arith
+
+  pub sum_by-passing-cons : (g : X → ℕ) (test : Bool → Bool) (f : ℕ → X) (i : ℕ) (x : Bool) (xs : List Bool) → sum_by g (passing test f i (x ∷ xs)) ≡ counted (test x) (g (f i)) + sum_by g (passing test f (i + 1) xs)
+  sum_by-passing-cons g test f i x xs = head_sum g (test x) (f i) (passing test f (i + 1) xs)
+
+  -- one place changed
+  pub sum_by-passing-set : (g : X → ℕ) (test : Bool → Bool) (f : ℕ → X) (i : ℕ) (xs : List Bool) (j : ℕ) (y d : Bool) → j < length xs
+      → sum_by g (passing test f i (set xs j y)) + counted (test (get_or xs j d)) (g (f (i + j))) ≡ sum_by g (passing test f i xs) + counted (test y) (g (f (i + j)))
+  sum_by-passing-set g test f i [] j y d within = absurd (omega arith)
+  sum_by-passing-set g test f i (x ∷ xs) zero y d within =
+      let e : i + 0 ≡ i = omega arith in
+      rw e (omega (arith, sum_by-passing-cons g test f i x xs, sum_by-passing-cons g test f i y xs))
+  sum_by-passing-set g test f i (x ∷ xs) (suc j) y d within =
+      let e : i + suc j ≡ (i + 1) + j = omega arith in
+      let rest = sum_by-passing-set g test f (i + 1) xs j y d (omega arith) in
+      rw e (omega (arith, rest, sum_by-passing-cons g test f i x xs, sum_by-passing-cons g test f i x (set xs j y)))
+
+  -- none passes
+  pub passing_none : (test : Bool → Bool) (f : ℕ → X) (i : ℕ) (xs : List Bool) → All (λ b. test b ≡ false) xs → passing test f i xs ≡ []
+  passing_none test f i [] none = refl
+  passing_none test f i (x ∷ xs) none = rw (All-head (λ b. test b ≡ false) x xs none) (passing_none test f (i + 1) xs (All-tail (λ b. test b ≡ false) x xs none))
+
+  head_none : (b : Bool) (x : X) (xs : List X) → (if b then x ∷ xs else xs) ≡ [] → (b ≡ false) × (xs ≡ [])
+  head_none true x xs none = cc
+  head_none false x xs none = (refl, none)
+
+  pub none_passing : (test : Bool → Bool) (f : ℕ → X) (i : ℕ) (xs : List Bool) → passing test f i xs ≡ [] → All (λ b. test b ≡ false) xs
+  none_passing test f i [] none = All-nil (λ b. test b ≡ false)
+  none_passing test f i (x ∷ xs) none =
+      let t : (test x ≡ false) × (passing test f (i + 1) xs ≡ []) = head_none (test x) (f i) (passing test f (i + 1) xs) none in
+      All-cons (λ b. test b ≡ false) x xs t.0 (none_passing test f (i + 1) xs t.1)
+
+-- chunks of one length
+pub units-passing : (n : ℕ) (test : Bool → Bool) (f : ℕ → Holding) (i : ℕ) (xs : List Bool) → ((k : ℕ) → (f k).range.len ≡ n) → units (passing test f i xs) ≡ count_by test xs * n
+units-passing n test f i [] long = omega arith
+units-passing n test f i (x ∷ xs) long =
+    let rest = units-passing n test f (i + 1) xs long in
+    let head = sum_by-passing-cons (λ h. h.range.len) test f i x xs in
+    let count = sum_by-cons (λ b. cond (test b) 1 0) x xs in
+    let one : (b : Bool) → counted b n ≡ cond b 1 0 * n = λ b. elim b as (λ v. counted v n ≡ cond v 1 0 * n) [ true ↦ omega arith | false ↦ omega arith ] in
+    let here : counted (test x) (f i).range.len ≡ cond (test x) 1 0 * n = ap (counted (test x)) (long i) ∙ one (test x) in
+    omega (arith, rest, head, count, here)
+
+-- the chunks at home and those that are out cover what all of them do
+pub covering-passing : (u n : ℕ) (f : ℕ → Holding) (i : ℕ) (xs : List Bool) (b : ℕ) → ((k : ℕ) → (f k).range.len ≡ n) → ((k : ℕ) → (f (k + 1)).range.base ≡ (f k).range.base + n) → b ≡ (f i).range.base
+    → covering_held u (passing (λ y. y) f i xs) + covering_held u (passing not f i xs) ≡ covers u (record { base = b; len = length xs * n })
+covering-passing u n f i [] b long next at = ?
+covering-passing u n f i (x ∷ xs) b long next at = ?
