@@ -1,12 +1,14 @@
 -- The chunks at home, and those that are out, whatever is counted.
 use Rattle.std.proofs.Common.{◌≡◌, ◌⊎◌, inl, inr, ℕ, zero, suc, ◌+◌, ◌-◌, ◌*◌, ◌<◌, ◌≤◌, Bool, true, false, not, cond, List, [], ◌∷◌, ◌++◌, length, get_or, set, All, Option, Some, None, refl, sym, ap, ◌∙◌, arith, subst, if◌then◌else◌}
-use Rattle.std.specs.Prelude.{sum_by, count_by, Contains}
+use Rattle.std.specs.Prelude.{sum_by, count_by, Contains, MatchOption, is_some, ◌↔◌}
+use Rattle.std.proofs.lemmas.List.{get_or_default}
 use Rattle.std.proofs.lemmas.List.Sums.{sum_by-cons}
-use Rattle.std.proofs.lemmas.List.Elements.{All-nil, All-cons, All-head, All-tail}
+use Rattle.std.proofs.lemmas.List.Elements.{All-nil, All-cons, All-head, All-tail, All-contains}
 use Rattle.deed_core.specs.Extent.{Extent, end_of}
 use Rattle.deed_core.specs.Holding.{Holding}
 use Rattle.deed_core.specs.Covering.{covers, covers_held, covering_held}
-use Rattle.slab_layer.specs.Slab.{passing, units}
+use Rattle.deed_core.proofs.Units.{covers_is, covers_cut}
+use Rattle.slab_layer.specs.Slab.{passing, units, IsLowestIdle}
 
 -- what a value counts, if it is there
 abbrev pub counted : Bool → ℕ → ℕ
@@ -47,19 +49,59 @@ module _ {X : Type 0} where
       let t : (test x ≡ false) × (passing test f (i + 1) xs ≡ []) = head_none (test x) (f i) (passing test f (i + 1) xs) none in
       All-cons (λ b. test b ≡ false) x xs t.0 (none_passing test f (i + 1) xs t.1)
 
+times_if : (b : Bool) (n : ℕ) → counted b n ≡ cond b 1 0 * n
+times_if true n = omega arith
+times_if false n = omega arith
+
 -- chunks of one length
 pub units-passing : (n : ℕ) (test : Bool → Bool) (f : ℕ → Holding) (i : ℕ) (xs : List Bool) → ((k : ℕ) → (f k).range.len ≡ n) → units (passing test f i xs) ≡ count_by test xs * n
 units-passing n test f i [] long = omega arith
 units-passing n test f i (x ∷ xs) long =
     let rest = units-passing n test f (i + 1) xs long in
-    let head = sum_by-passing-cons (λ h. h.range.len) test f i x xs in
-    let count = sum_by-cons (λ b. cond (test b) 1 0) x xs in
-    let one : (b : Bool) → counted b n ≡ cond b 1 0 * n = λ b. elim b as (λ v. counted v n ≡ cond v 1 0 * n) [ true ↦ omega arith | false ↦ omega arith ] in
-    let here : counted (test x) (f i).range.len ≡ cond (test x) 1 0 * n = ap (counted (test x)) (long i) ∙ one (test x) in
-    omega (arith, rest, head, count, here)
+    let head : units (passing test f i (x ∷ xs)) ≡ counted (test x) (f i).range.len + units (passing test f (i + 1) xs) = sum_by-passing-cons (λ h. h.range.len) test f i x xs in
+    let count : count_by test (x ∷ xs) ≡ cond (test x) 1 0 + count_by test xs = sum_by-cons (λ b. cond (test b) 1 0) x xs in
+    let here : counted (test x) (f i).range.len ≡ cond (test x) 1 0 * n = ap (counted (test x)) (long i) ∙ times_if (test x) n in
+    let parts : (cond (test x) 1 0 + count_by test xs) * n ≡ cond (test x) 1 0 * n + count_by test xs * n = omega arith in
+    let all : count_by test (x ∷ xs) * n ≡ cond (test x) 1 0 * n + count_by test xs * n = ap (λ (k : ℕ). k * n) count ∙ parts in
+    omega (arith, rest, head, here, all)
+
+same_extent : (e : Extent) (b n : ℕ) → e.base ≡ b → e.len ≡ n → e ≡ record { base = b; len = n }
+same_extent e b n base len = λ i. record { base = base i; len = len i }
+
+either : (x : Bool) (n : ℕ) → counted x n + counted (not x) n ≡ n
+either true n = omega arith
+either false n = omega arith
+
+pub covers_nothing : (u b n : ℕ) → n ≡ 0 → covers u (record { base = b; len = n }) ≡ 0
+covers_nothing u b n none = grind (arith, covers_is u (record { base = b; len = n }))
 
 -- the chunks at home and those that are out cover what all of them do
 pub covering-passing : (u n : ℕ) (f : ℕ → Holding) (i : ℕ) (xs : List Bool) (b : ℕ) → ((k : ℕ) → (f k).range.len ≡ n) → ((k : ℕ) → (f (k + 1)).range.base ≡ (f k).range.base + n) → b ≡ (f i).range.base
     → covering_held u (passing (λ y. y) f i xs) + covering_held u (passing not f i xs) ≡ covers u (record { base = b; len = length xs * n })
-covering-passing u n f i [] b long next at = ?
-covering-passing u n f i (x ∷ xs) b long next at = ?
+covering-passing u n f i [] b long next at = sym (covers_nothing u b (0 * n) (omega arith))
+covering-passing u n f i (x ∷ xs) b long next at =
+    let rest = covering-passing u n f (i + 1) xs (b + n) long next (sym (next i ∙ ap (λ k. k + n) (sym at))) in
+    let idle = sum_by-passing-cons (covers_held u) (λ y. y) f i x xs in
+    let gone = sum_by-passing-cons (covers_held u) not f i x xs in
+    let one : covers_held u (f i) ≡ covers u (record { base = b; len = n }) = ap (covers u) (same_extent (f i).range b n (sym at) (long i)) in
+    let cut = covers_cut u (record { base = b; len = n }) (record { base = b + n; len = length xs * n }) (record { base = b; len = suc (length xs) * n }) refl refl (omega arith) in
+    let here : counted x (covers_held u (f i)) + counted (not x) (covers_held u (f i)) ≡ covers_held u (f i) = either x (covers_held u (f i)) in
+    omega (arith, rest, idle, gone, one, cut, here)
+
+-- two kinds of lists of places
+pub some_false : (xs : List Bool) → (All (λ b. b ≡ true) xs → ⊥) → Contains xs false
+some_false [] none = absurd (none (All-nil (λ b. b ≡ true)))
+some_false (false ∷ xs) none = (0, omega arith, refl)
+some_false (true ∷ xs) none =
+    let rest : Contains xs false = some_false xs (λ all. none (All-cons (λ b. b ≡ true) true xs refl all)) in
+    (suc rest.0, omega (arith, rest.1), rest.2)
+
+pub no_false : (xs : List Bool) → All (λ b. b ≡ true) xs → Contains xs false → ⊥
+no_false xs all has = let e : false ≡ true = All-contains (λ b. b ≡ true) xs false all has in cc
+
+pub no_true : (xs : List Bool) → All (λ b. b ≡ false) xs → Contains xs true → ⊥
+no_true xs all has = let e : true ≡ false = All-contains (λ b. b ≡ false) xs true all has in cc
+
+pub partial_is : (xs : List Bool) (o : Option ℕ) → (All (λ b. b ≡ true) xs → ⊥) → MatchOption o (All (λ b. b ≡ false) xs) (λ j. IsLowestIdle j xs) → (is_some o ≡ true) ↔ (Contains xs true × Contains xs false)
+partial_is xs None some out = (λ e. cc, λ has. absurd (no_true xs out has.0))
+partial_is xs (Some j) some idle = (λ e. ((j, idle.within, get_or_default xs j true false idle.within ∙ idle.idle), some_false xs some), λ has. refl)

@@ -1,15 +1,19 @@
 -- The deeds of a slab.
-use Rattle.std.proofs.Common.{◌≡◌, ℕ, ◌+◌, ◌-◌, ◌*◌, ◌/◌, ◌%◌, ◌<◌, ◌≤◌, Bool, true, false, min, List, [], ◌∷◌, ◌++◌, length, get_or, set, All, Option, Some, None, map, is_some, refl, sym, ap, ◌∙◌, arith, subst, if◌then◌else◌}
+use Rattle.std.proofs.Common.{◌≡◌, ℕ, ◌+◌, ◌-◌, ◌*◌, ◌/◌, ◌%◌, ◌<◌, ◌≤◌, Bool, true, false, not, min, List, [], ◌∷◌, ◌++◌, length, get_or, set, All, Option, Some, None, map, is_some, refl, sym, ap, ◌∙◌, arith, subst, if◌then◌else◌}
 use Rattle.std.proofs.Math.ListN.{replicate}
 use Rattle.std.proofs.Math.Nat.{mul-le-mul_right, mul-mod_left, mul-div_left}
+use Rattle.std.specs.Prelude.{count_by, MatchOption, ◌↔◌}
+use Rattle.std.specs.Option.{option_to_list}
 use Rattle.std.proofs.lemmas.Option.{same_Some}
+use Rattle.std.proofs.lemmas.List.Elements.{All-nil, All-cons, All-head, All-tail, All-same}
 use Rattle.std.proofs.lemmas.List.{length-map, length-set, length-replicate, map-set, get_or-map, get_or_default}
 use Rattle.deed_core.specs.Extent.{Extent}
 use Rattle.deed_core.specs.Holding.{Holding}
 use Rattle.slab_layer.specs.Parts.{piece, part, front, back, Follows, both, all, IsRow}
-use Rattle.slab_layer.specs.Slab.{SlabState, chunk_at, used, unused, gap_of, tail_of, stored, IsSlab, IsStored, IsComplete, fresh}
+use Rattle.slab_layer.specs.Slab.{SlabState, chunk_at, used, unused, gap_of, tail_of, idle_by, kept_of, units, stored, IsLowestIdle, IsSlab, IsStored, IsComplete, fresh}
 use Rattle.slab_layer.proofs.PartLemmas.{part_none, part_some, both_part, follows_part}
 use Rattle.slab_layer.proofs.RowLemmas.{entry, placed, get_or_from_start, stored_from_start, map-stored, all-stored, row-stored, all_true}
+use Rattle.slab_layer.proofs.PassingLemmas.{passing_none, none_passing, units-passing}
 
 abbrev pub state : Holding → ℕ → ℕ → List (Option Holding) → SlabState
 state span colour chunk row = record { span = span; colour = colour; chunk = chunk; home = map is_some row }
@@ -122,3 +126,63 @@ pub place_is : (s : SlabState) (j : ℕ) (h : Holding) → 0 < s.chunk → chunk
 place_is s j h some is = rw (place_back s j h is) (mul-div_left j some)
 
 pub ruleset places = (place_whole, place_is)
+
+is_none : (o : Option Holding) → is_some o ≡ false → o ≡ None
+is_none None e = refl
+is_none (Some h) e = cc
+
+not_false : (r : Bool) → false ≡ not r → r ≡ true
+not_false true e = refl
+not_false false e = cc
+
+-- a slab in which nothing lies
+none_none : (o : Option Holding) → option_to_list o ≡ [] → o ≡ None
+none_none None e = refl
+none_none (Some h) e = cc
+
+both_nil : (xs ys : List Holding) → xs ++ ys ≡ [] → (xs ≡ []) × (ys ≡ [])
+both_nil [] ys e = (refl, e)
+both_nil (x ∷ xs) ys e = cc
+
+pub record IsBare (s : SlabState) (first last : Option Holding) (row : List (Option Holding)) : Type 0 where
+  pub gap : first ≡ None
+  pub out : All (λ b. b ≡ false) s.home
+  pub tail : last ≡ None
+  pub row_out : All (λ o. o ≡ None) row
+
+stored_none : (f : ℕ → Holding) (i : ℕ) (xs : List Bool) → All (λ b. b ≡ false) xs → All (λ o. o ≡ None) (stored f i xs)
+stored_none f i [] none = All-nil (λ o. o ≡ None)
+stored_none f i (x ∷ xs) none =
+    let e : x ≡ false = All-head (λ b. b ≡ false) x xs none in
+    let here : entry f i x ≡ None = rw e refl in
+    All-cons (λ o. o ≡ None) (entry f i x) (stored f (i + 1) xs) here (stored_none f (i + 1) xs (All-tail (λ b. b ≡ false) x xs none))
+
+pub bare : (s : SlabState) (first last : Option Holding) (row : List (Option Holding)) → IsStored s first row last → kept_of s ≡ [] → IsBare s first last row
+bare s first last row held none =
+    let a = both_nil (option_to_list (gap_of s)) (idle_by (chunk_at s) s ++ option_to_list (tail_of s)) none in
+    let b = both_nil (idle_by (chunk_at s) s) (option_to_list (tail_of s)) a.1 in
+    let out : All (λ x. x ≡ false) s.home = none_passing (λ x. x) (chunk_at s) 0 s.home b.0 in
+    record {
+      gap = held.gap ∙ none_none (gap_of s) a.0;
+      out = out;
+      tail = held.tail ∙ none_none (tail_of s) b.1;
+      row_out = All-same (λ o. o ≡ None) row (stored (chunk_at s) 0 s.home) held.chunks (stored_none (chunk_at s) 0 s.home out);
+    }
+
+pub is_bare : (s : SlabState) (first last : Option Holding) (row : List (Option Holding)) → IsStored s first row last → first ≡ None → last ≡ None → All (λ b. b ≡ false) s.home → kept_of s ≡ []
+is_bare s first last row held none_before none_behind out =
+    let a : option_to_list (gap_of s) ≡ [] = ap option_to_list (sym held.gap ∙ none_before) in
+    let b : idle_by (chunk_at s) s ≡ [] = passing_none (λ x. x) (chunk_at s) 0 s.home out in
+    let t : option_to_list (tail_of s) ≡ [] = ap option_to_list (sym held.tail ∙ none_behind) in
+    rw (a, b, t) refl
+
+-- its idle units
+pub idle_units : (s : SlabState) → units (idle_by (chunk_at s) s) ≡ count_by (λ b. b) s.home * s.chunk
+idle_units s = units-passing s.chunk (λ b. b) (chunk_at s) 0 s.home (λ k. refl)
+
+pub empty_is : (s : SlabState) (first last : Option Holding) (row : List (Option Holding)) (o : Option ℕ) (r : Bool) → IsStored s first row last → is_some first ≡ false → is_some last ≡ false
+    → is_some o ≡ not r → MatchOption o (All (λ b. b ≡ false) s.home) (λ j. IsLowestIdle j s.home) → (r ≡ true) ↔ (kept_of s ≡ [])
+empty_is s first last row None r held a b e out = (λ is. is_bare s first last row held (is_none first a) (is_none last b) out, λ none. not_false r e)
+empty_is s first last row (Some j) r held a b e idle = (λ is. absurd (let f : not r ≡ false = ap not is in cc), λ none.
+    let o : get_or s.home j false ≡ false = (bare s first last row held none).out j false idle.within in
+    let t = idle.idle in absurd cc)

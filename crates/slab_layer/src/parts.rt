@@ -1,6 +1,7 @@
 //! Deeds that are missing where they would cover nothing: a colour gap of colour 0, a tail of no units.
 ghost use Rattle.std.specs.Prelude.{◌≡◌, IfOk, IfErr};
 ghost use Rattle.slab_layer.specs.Parts.{front, back, Follows, both};
+
 use deed_core::{Deed, Stored};
 
 /// What a cut gives: the first units, and those behind them.

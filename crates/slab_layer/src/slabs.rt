@@ -122,7 +122,10 @@ impl<D: Deed> Slab<D> {
     pub fn is_partial(&self) -> bool
         ensures { IsTrue result ↔ IsPartial self.now }
     {
-        self.first_idle().is_some() && !self.is_complete()
+        if self.is_complete() {
+            return false;
+        }
+        self.first_idle().is_some()
     }
 
     pub fn is_home(&self, j: usize) -> bool
@@ -206,7 +209,13 @@ impl<D: Deed> Slab<D> {
     pub fn is_empty(&self) -> bool
         ensures { IsTrue result ↔ (kept_of self.now ≡ []) }
     {
-        self.gap.is_none() && self.tail.is_none() && self.first_idle().is_none()
+        if self.gap.is_some() {
+            return false;
+        }
+        if self.tail.is_some() {
+            return false;
+        }
+        self.first_idle().is_none()
     }
 
     /// Ends a slab in which no deed lies.
