@@ -3,3 +3,8 @@ pub mod RowLemmas
 pub mod PassingLemmas
 pub mod SlabLemmas
 pub mod SearchLemmas
+pub mod ListLemmas
+pub mod SoundLemmas
+pub mod MoveLemmas
+pub mod MineLemmas
+pub mod ReportLemmas

@@ -1,0 +1,71 @@
+-- What a cache keeps, through its moves.
+use Rattle.std.proofs.Common.{◌≡◌, ℕ, zero, suc, ◌+◌, ◌-◌, ◌*◌, ◌/◌, ◌<◌, ◌≤◌, ◌^◌, Bool, true, false, cond, nat_le, List, [], ◌∷◌, ◌++◌, length, get_or, set, take, drop, All, AllPairs, insert, remove, refl, sym, ap, ◌∙◌, arith, subst, if◌then◌else◌}
+use Rattle.std.proofs.Math.Nat.{div-mul-le_self}
+use Rattle.std.proofs.Math.ListN.{replicate}
+use Rattle.std.proofs.lemmas.Bool.Decides.{nat_tests}
+use Rattle.std.proofs.lemmas.List.{length-set, length-replicate, get_or_default}
+use Rattle.std.proofs.lemmas.List.Elements.{All-set, All-get_or}
+use Rattle.std.proofs.lemmas.List.Quantifiers.{all_pairs_remove}
+use Rattle.deed_core.specs.Extent.{end_of}
+use Rattle.deed_core.specs.Holding.{Holding}
+use Rattle.deed_core.specs.Tag.{Tag}
+use Rattle.slab_layer.specs.Slab.{SlabState, fresh, IsSlab}
+use Rattle.slab_layer.specs.Cache.{CacheState, StandsAt, IsBelow, IsOfSize, IsSound, Takes, Puts, Adds, Reaps, chunk_of, spare_of, next_colour, with_slabs, with_chunk}
+use Rattle.slab_layer.proofs.ListLemmas.{pairs_set, pairs_insert, all_insert, all_remove}
+use Rattle.slab_layer.proofs.SearchLemmas.{next_stands}
+
+-- what holds of each slab holds of one that stands
+pub of_size : (c : CacheState) (i : ℕ) (s : SlabState) → IsSound c → StandsAt i s c.slabs → IsOfSize c.slab_size (chunk_of c) s
+of_size c i s sound stands = subst (λ (t : SlabState). IsOfSize c.slab_size (chunk_of c) t) stands.is (All-get_or (IsOfSize c.slab_size (chunk_of c)) c.slabs i s stands.within sound.slabs)
+
+-- a chunk moves
+pub sound_with : (c : CacheState) (i j : ℕ) (s : SlabState) (b : Bool) → IsSound c → StandsAt i s c.slabs → IsSound (with_slabs c (set c.slabs i (with_chunk s j b)))
+sound_with c i j s b sound stands =
+    let size : IsOfSize c.slab_size (chunk_of c) s = of_size c i s sound stands in
+    record {
+      some = sound.some;
+      room = sound.room;
+      colour = sound.colour;
+      slabs = All-set (IsOfSize c.slab_size (chunk_of c)) c.slabs i (with_chunk s j b) (record { size = size.size; chunk = size.chunk; count = length-set s.home j b ∙ size.count; colour = size.colour; end = size.end }) sound.slabs;
+      ascending = pairs_set IsBelow c.slabs i (with_chunk s j b) stands.within
+          (λ d t below. let e : get_or c.slabs i d ≡ s = get_or_default c.slabs i d s stands.within ∙ stands.is in subst (λ (r : SlabState). IsBelow r t) e below)
+          (λ d t below. let e : get_or c.slabs i d ≡ s = get_or_default c.slabs i d s stands.within ∙ stands.is in subst (λ (r : SlabState). IsBelow t r) e below)
+          sound.ascending;
+    }
+
+pub sound_takes : (i j : ℕ) (s : SlabState) (old new : CacheState) (t : Tag) → Takes i j s old new t → IsSound old → IsSound new
+sound_takes i j s old new t takes sound = subst IsSound (sym takes.after) (sound_with old i j s false sound (next_stands i s old.slabs takes.next))
+
+pub sound_puts : (i j : ℕ) (s : SlabState) (old new : CacheState) (t : Tag) → Puts i j s old new t → IsSound old → IsSound new
+sound_puts i j s old new t puts sound = subst IsSound (sym puts.after) (sound_with old i j s true sound puts.chunk.stands)
+
+-- a slab leaves
+pub sound_reaps : (i : ℕ) (s : SlabState) (old new : CacheState) (t : Tag) → Reaps i s old new t → IsSound old → IsSound new
+sound_reaps i s old new t reaps sound = subst IsSound (sym reaps.after) (record {
+  some = sound.some;
+  room = sound.room;
+  colour = sound.colour;
+  slabs = all_remove (IsOfSize old.slab_size (chunk_of old)) old.slabs i sound.slabs;
+  ascending = all_pairs_remove IsBelow old.slabs i reaps.lowest.stands.within sound.ascending;
+})
+
+-- the next colour leaves room
+pub next_fits : (c : CacheState) → next_colour c ≤ spare_of c.slab_size (chunk_of c)
+next_fits c = elim (nat_le (c.colour + c.quantum) (spare_of c.slab_size (chunk_of c))) as (λ b. nat_le (c.colour + c.quantum) (spare_of c.slab_size (chunk_of c)) ≡ b → (if b then c.colour + c.quantum else 0) ≤ spare_of c.slab_size (chunk_of c)) [
+  | true ↦ λ e. grind (arith, nat_tests)
+  | false ↦ λ e. omega arith
+] refl
+
+-- a slab comes
+pub sound_adds : (i : ℕ) (old new : CacheState) (span first : Tag) → Adds i old new span first → span.holding.range.len ≡ old.slab_size → end_of span.holding.range ≤ 2 ^ 62 → IsSound old → IsSound new
+sound_adds i old new span first adds size end sound =
+    let slab : SlabState = with_chunk (fresh span.holding old.colour (chunk_of old)) 0 false in
+    let count : length (set (replicate (span.holding.range.len / chunk_of old) true) 0 false) ≡ old.slab_size / chunk_of old =
+    length-set (replicate (span.holding.range.len / chunk_of old) true) 0 false ∙ length-replicate (span.holding.range.len / chunk_of old) true ∙ ap (λ n. n / chunk_of old) size in
+    subst IsSound (sym adds.after) (record {
+      some = sound.some;
+      room = sound.room;
+      colour = next_fits old;
+      slabs = all_insert (IsOfSize old.slab_size (chunk_of old)) old.slabs i slab sound.slabs (record { size = size; chunk = refl; count = count; colour = sound.colour; end = end });
+      ascending = pairs_insert IsBelow old.slabs i slab sound.ascending adds.below adds.above;
+    })
