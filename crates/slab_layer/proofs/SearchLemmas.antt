@@ -66,3 +66,14 @@ next_has_idle i s slabs next some out = elim next [
   | inl a ↦ no_true s.home out a.so.0
   | inr b ↦ let f : get_or s.home 0 false ≡ false = out 0 false some in let t : get_or s.home 0 false ≡ true = b.1.so 0 false some in cc
 ]
+
+pub not_all_out : (i j : ℕ) (s : SlabState) (slabs : List SlabState) → StandsAt i s slabs → IsLowestIdle j s.home → All IsAllOut slabs → ⊥
+not_all_out i j s slabs stands idle out =
+    let here : IsAllOut s = subst (λ (t : SlabState). IsAllOut t) stands.is (All-get_or IsAllOut slabs i s stands.within out) in
+    let f : get_or s.home j false ≡ false = here j false idle.within in
+    let t = idle.idle in
+    cc
+
+pub not_none_complete : (i : ℕ) (s : SlabState) (slabs : List SlabState) → IsLowest IsComplete i s slabs → All (λ t. IsComplete t → ⊥) slabs → ⊥
+not_none_complete i s slabs lowest none =
+    none i s lowest.stands.within (subst (λ (t : SlabState). IsComplete t) (sym lowest.stands.is) lowest.so)

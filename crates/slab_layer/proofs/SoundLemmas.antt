@@ -1,18 +1,18 @@
 -- What a cache keeps, through its moves.
 use Rattle.std.proofs.Common.{◌≡◌, ℕ, zero, suc, ◌+◌, ◌-◌, ◌*◌, ◌/◌, ◌<◌, ◌≤◌, ◌^◌, Bool, true, false, cond, nat_le, List, [], ◌∷◌, ◌++◌, length, get_or, set, take, drop, All, AllPairs, insert, remove, refl, sym, ap, ◌∙◌, arith, subst, if◌then◌else◌}
-use Rattle.std.proofs.Math.Nat.{div-mul-le_self}
+use Rattle.std.proofs.Math.Nat.{div-mul-le_self, div-eq-sub-div, mul-le-mul_right}
 use Rattle.std.proofs.Math.ListN.{replicate}
 use Rattle.std.proofs.lemmas.Bool.Decides.{nat_tests}
 use Rattle.std.proofs.lemmas.List.{length-set, length-replicate, get_or_default}
-use Rattle.std.proofs.lemmas.List.Elements.{All-set, All-get_or}
+use Rattle.std.proofs.lemmas.List.Elements.{All-set, All-get_or, All-nil, All-same, All-weaker}
 use Rattle.std.proofs.lemmas.List.Quantifiers.{all_pairs_remove}
 use Rattle.deed_core.specs.Extent.{end_of}
 use Rattle.deed_core.specs.Holding.{Holding}
 use Rattle.deed_core.specs.Tag.{Tag}
-use Rattle.slab_layer.specs.Slab.{SlabState, fresh, IsSlab}
-use Rattle.slab_layer.specs.Cache.{CacheState, StandsAt, IsBelow, IsOfSize, IsSound, Takes, Puts, Adds, Reaps, chunk_of, spare_of, next_colour, with_slabs, with_chunk}
+use Rattle.slab_layer.specs.Slab.{SlabState, fresh, IsSlab, IsComplete, IsLowestIdle}
+use Rattle.slab_layer.specs.Cache.{CacheState, StandsAt, IsChunk, IsLowest, IsNext, chunk_tag, span_tag, IsBelow, IsOfSize, IsSound, Takes, Puts, Adds, Reaps, chunk_of, spare_of, next_colour, with_slabs, with_chunk}
 use Rattle.slab_layer.proofs.ListLemmas.{pairs_set, pairs_insert, all_insert, all_remove}
-use Rattle.slab_layer.proofs.SearchLemmas.{next_stands}
+use Rattle.slab_layer.proofs.SearchLemmas.{next_stands, same_slab}
 
 -- what holds of each slab holds of one that stands
 pub of_size : (c : CacheState) (i : ℕ) (s : SlabState) → IsSound c → StandsAt i s c.slabs → IsOfSize c.slab_size (chunk_of c) s
@@ -69,3 +69,49 @@ sound_adds i old new span first adds size end sound =
       slabs = all_insert (IsOfSize old.slab_size (chunk_of old)) old.slabs i slab sound.slabs (record { size = size; chunk = refl; count = count; colour = sound.colour; end = end });
       ascending = pairs_insert IsBelow old.slabs i slab sound.ascending adds.below adds.above;
     })
+
+-- the moves, from what the calls on the slabs say: x is the cache as the code sees it, u the slab, and v what became of it
+pub made_takes : (i j : ℕ) (s u v : SlabState) (x old : CacheState) (t : Tag) → x ≡ old → IsNext i s x.slabs → IsLowestIdle j s.home → u ≡ get_or x.slabs i u → v ≡ with_chunk u j false → t ≡ chunk_tag x.arena x.k u j
+    → Takes i j s old (with_slabs x (set x.slabs i v)) t
+made_takes i j s u v x old t view next idle is after tag =
+    let same : u ≡ s = same_slab i s u x.slabs (next_stands i s x.slabs next) is in
+    let T : CacheState → Type 0 = λ c. Takes i j s c (with_slabs x (set x.slabs i v)) t in
+    subst T view (record {
+      next = next;
+      lowest = idle;
+      tag = tag ∙ ap (λ r. chunk_tag x.arena x.k r j) same;
+      after = ap (λ r. with_slabs x (set x.slabs i r)) (after ∙ ap (λ r. with_chunk r j false) same);
+    })
+
+pub made_puts : (i j : ℕ) (s u v : SlabState) (x old : CacheState) (t : Tag) → x ≡ old → IsChunk i j s false t x → u ≡ get_or x.slabs i u → v ≡ with_chunk u j true → Puts i j s old (with_slabs x (set x.slabs i v)) t
+made_puts i j s u v x old t view chunk is after =
+    let same : u ≡ s = same_slab i s u x.slabs chunk.stands is in
+    let T : CacheState → Type 0 = λ c. Puts i j s c (with_slabs x (set x.slabs i v)) t in
+    subst T view (record { chunk = chunk; after = ap (λ r. with_slabs x (set x.slabs i r)) (after ∙ ap (λ r. with_chunk r j true) same) })
+
+pub made_reaps : (i : ℕ) (s u : SlabState) (slabs : List SlabState) (x old : CacheState) (t : Tag) → x ≡ old → IsLowest IsComplete i s x.slabs → u ≡ get_or x.slabs i u → slabs ≡ remove x.slabs i → t ≡ span_tag x.arena u
+    → Reaps i s old (with_slabs x slabs) t
+made_reaps i s u slabs x old t view lowest is left tag =
+    let same : u ≡ s = same_slab i s u x.slabs lowest.stands is in
+    let T : CacheState → Type 0 = λ c. Reaps i s c (with_slabs x slabs) t in
+    subst T view (record { lowest = lowest; tag = tag ∙ ap (span_tag x.arena) same; after = ap (with_slabs x) left })
+
+-- an empty cache
+pub sound_empty : (arena k quantum slab_size : ℕ) (slabs : List SlabState) → slabs ≡ [] → 1 ≤ k → 1 ≤ quantum → k * quantum ≤ slab_size
+    → IsSound (record { arena = arena; k = k; quantum = quantum; slab_size = slab_size; slabs = slabs; colour = 0 })
+sound_empty arena k quantum slab_size slabs none some_k some_quantum room =
+    let least : 1 * quantum ≤ k * quantum = mul-le-mul_right quantum some_k in
+    record {
+      some = omega (arith, least);
+      room = room;
+      colour = omega arith;
+      slabs = All-same (IsOfSize slab_size (k * quantum)) slabs [] none (All-nil (IsOfSize slab_size (k * quantum)));
+      ascending = subst (λ (xs : List SlabState). AllPairs IsBelow xs) (sym none) (λ i j d before within. absurd (omega arith));
+    }
+
+-- there is a chunk in each slab
+pub some_chunk : (c : CacheState) → IsSound c → 0 < c.slab_size / chunk_of c
+some_chunk c sound = let e : c.slab_size / chunk_of c ≡ (c.slab_size - chunk_of c) / chunk_of c + 1 = div-eq-sub-div sound.some sound.room in omega arith
+
+pub all_some : (c : CacheState) → IsSound c → All (λ s. 0 < length s.home) c.slabs
+all_some c sound = All-weaker (IsOfSize c.slab_size (chunk_of c)) (λ s. 0 < length s.home) (λ s size. rw size.count (some_chunk c sound)) c.slabs sound.slabs

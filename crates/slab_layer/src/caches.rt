@@ -1,5 +1,5 @@
 //! Slab caches.
-ghost use Rattle.std.specs.Prelude.{◌≡◌, ℕ, ◌+◌, ◌*◌, ◌<◌, ◌≤◌, ◌≢◌, ◌↔◌, [], length, All, Any, Contains, IsOk, IsErrAnd, IsNone, IfOk, IfErr, IfNone, IfSome, OnErr, OnOk, OnSome};
+ghost use Rattle.std.specs.Prelude.{◌≡◌, ℕ, ◌+◌, ◌*◌, ◌<◌, ◌≤◌, ◌≢◌, ◌↔◌, [], length, All, Any, Contains, IsTrue, IsOk, IsErrAnd, IsNone, IfOk, IfErr, IfNone, IfSome, OnErr, OnOk, OnSome};
 ghost use Rattle.deed_core.specs.Extent.{Overlap};
 ghost use Rattle.deed_core.specs.Covering.{covering_held, covering_tags, covers_tag};
 ghost use Rattle.deed_core.specs.Weights.{Gains, Loses, WeighSame};
@@ -104,7 +104,7 @@ impl<D: Deed> SlabCache<D> {
         ensures kept { OnOk result (Gains (kept self.old) (kept self.new) segment.holding) }
         ensures spans { spans self.new ≡ spans self.old }
     {
-        if segment.arena() != self.arena || segment.route() != Route::Cached(self.k) {
+        if !self.is_routed_here(&segment) {
             return Err((segment, PutFault::NotMine));
         }
         let Some((i, j)) = find_chunk(&self.slabs, segment.root(), segment.range()) else {
@@ -161,11 +161,20 @@ impl<D: Deed> SlabCache<D> {
         Ok(Segment::new(self.arena, Route::Cached(self.k), first.into_deed()))
     }
 
+    // Whether a segment is of the arena, and came by this cache.
+    fn is_routed_here(&self, segment: &Segment<D>) -> bool
+        ensures { IsTrue result ↔ ((segment.now.arena ≡ self.now.arena) × (segment.now.route ≡ Route.Cached self.now.k)) }
+    {
+        segment.arena() == self.arena && segment.route() == Route::Cached(self.k)
+    }
+
     // The units of a chunk.
     fn chunk(&self) -> u64
         ensures value { result ≡ chunk_of self.now }
         ensures sound { IsSound self.now }
     {
+        // A chunk is no longer than a slab, so the product fits.
+        let _slab_size = self.slab_size;
         self.k as u64 * self.quantum
     }
 
