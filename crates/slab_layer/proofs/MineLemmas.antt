@@ -7,11 +7,13 @@ use Rattle.std.proofs.lemmas.List.{get_or_default}
 use Rattle.deed_core.specs.Extent.{Extent, end_of}
 use Rattle.deed_core.specs.Holding.{Holding}
 use Rattle.deed_core.specs.Tag.{Tag}
+use Rattle.deed_core.specs.declared.segments.Route.TheVariants.{Cached}
 use Rattle.slab_layer.specs.Slab.{SlabState, IsSlab, chunk_at, idle_by, out_by, passing}
 use Rattle.slab_layer.specs.Cache.{CacheState, StandsAt, IsChunk, IsBelow, IsSound, chunk_of, chunk_tag, idle, out}
 use Rattle.slab_layer.proofs.RowLemmas.{room_for}
 use Rattle.slab_layer.proofs.SlabLemmas.{place_is}
 use Rattle.slab_layer.proofs.ListLemmas.{contains_part, part_contains}
+use Rattle.slab_layer.proofs.SearchLemmas.{same_slab}
 use Rattle.slab_layer.proofs.SoundLemmas.{of_size}
 use Rattle.slab_layer.proofs.MoveLemmas.{slab_of_size}
 
@@ -165,3 +167,45 @@ never_both t c sound gone here =
     let home : get_or here.s.home here.j false ≡ true = get_or_default here.s.home here.j false true here.chunk.within ∙ here.chunk.home in
     let moved : get_or here.s.home here.j false ≡ get_or gone.s.home gone.j false = ap (λ (x : SlabState). get_or x.home here.j false) (sym s_is) ∙ ap (λ (n : ℕ). get_or gone.s.home n false) (sym j_is) in
     cc
+
+-- a segment of another arena or cache, or one that covers no chunk, is none of them
+pub record IsAbsent (t : Tag) (c : CacheState) : Type 0 where
+  pub not_out : Contains (out c) t → ⊥
+  pub not_idle : Contains (idle c) t → ⊥
+
+pub not_routed : (t : Tag) (c : CacheState) → ((t.arena ≡ c.arena) × (t.route ≡ Cached c.k) → ⊥) → IsAbsent t c
+not_routed t c other = record {
+  not_out = λ has. let some = out_is_chunk t c has in other (ap (λ (x : Tag). x.arena) some.chunk.tag, ap (λ (x : Tag). x.route) some.chunk.tag);
+  not_idle = λ has. let some = idle_is_chunk t c has in other (ap (λ (x : Tag). x.arena) some.chunk.tag, ap (λ (x : Tag). x.route) some.chunk.tag);
+}
+
+abbrev pub held : ℕ → Extent → Holding
+held r e = record { root = r; range = e }
+
+same_holding : (t : Tag) (r : ℕ) (e : Extent) → r ≡ t.holding.root → e ≡ t.holding.range → held r e ≡ t.holding
+same_holding t r e root range = λ i. record { root = root i; range = range i }
+
+found : (b : Bool) (t : Tag) (c : CacheState) (r : ℕ) (e : Extent) → r ≡ t.holding.root → e ≡ t.holding.range → All (λ s. (j : ℕ) → j < length s.home → chunk_at s j ≡ held r e → ⊥) c.slabs → SomeChunk b t c → ⊥
+found b t c r e root range none some =
+    let P : SlabState → Type 0 = λ s. (j : ℕ) → j < length s.home → chunk_at s j ≡ held r e → ⊥ in
+    let here : P some.s = subst P some.chunk.stands.is (none some.i some.s some.chunk.stands.within) in
+    here some.j some.chunk.within (ap (λ (x : Tag). x.holding) (sym some.chunk.tag) ∙ sym (same_holding t r e root range))
+
+pub not_found : (t : Tag) (x c : CacheState) (r : ℕ) (e : Extent) → x ≡ c → r ≡ t.holding.root → e ≡ t.holding.range → All (λ s. (j : ℕ) → j < length s.home → chunk_at s j ≡ held r e → ⊥) x.slabs → IsAbsent t c
+not_found t x c r e view root range none =
+    let all : All (λ s. (j : ℕ) → j < length s.home → chunk_at s j ≡ held r e → ⊥) c.slabs = subst (λ (y : CacheState). All (λ s. (j : ℕ) → j < length s.home → chunk_at s j ≡ held r e → ⊥) y.slabs) view none in
+    record { not_out = λ has. found false t c r e root range all (out_is_chunk t c has); not_idle = λ has. found true t c r e root range all (idle_is_chunk t c has) }
+
+-- the chunk that was found
+pub made_chunk : (i j : ℕ) (s u : SlabState) (b : Bool) (t : Tag) (r : ℕ) (e : Extent) (x c : CacheState) → x ≡ c → StandsAt i s x.slabs → j < length s.home → chunk_at s j ≡ held r e
+    → r ≡ t.holding.root → e ≡ t.holding.range → (t.arena ≡ c.arena) × (t.route ≡ Cached c.k) → u ≡ get_or x.slabs i u → get_or u.home j false ≡ b → IsChunk i j s b t c
+made_chunk i j s u b t r e x c view stands within chunk root range routed is home =
+    let same : u ≡ s = same_slab i s u x.slabs stands is in
+    let here : get_or s.home j false ≡ b = subst (λ (y : SlabState). get_or y.home j false ≡ b) same home in
+    let holding : t.holding ≡ chunk_at s j = sym (same_holding t r e root range) ∙ sym chunk in
+    record {
+      stands = subst (λ (y : CacheState). StandsAt i s y.slabs) view stands;
+      within = within;
+      home = get_or_default s.home j b false within ∙ here;
+      tag = λ n. record { arena = routed.0 n; route = routed.1 n; holding = holding n };
+    }

@@ -1,4 +1,4 @@
-use Rattle.std.proofs.Common.{◌≡◌, ◌∙◌, ap, sym, refl, subst}
+use Rattle.std.proofs.Common.{◌≡◌, ◌∙◌, All, ap, sym, refl, subst}
 use Rattle.deed_core.specs.Holding.{Holding}
 use Rattle.deed_core.specs.Tag.{Tag}
 use Rattle.deed_core.specs.declared.segments.Route.TheVariants.{Direct}
@@ -33,8 +33,9 @@ returns-clause-none g c =
 
 pub returns-in_default-clause-none : goal.returns-in_default-clause-none
 returns-in_default-clause-none g c =
-    let none = rw (← c.self.view_is, ← c.deref.ensures.value) c.in_default.ensures in
-    (λ e. none, λ all. refl)
+    let none = rw c.deref.ensures.value at c.in_default.ensures in
+    let here = subst (λ (x : CacheState). All (λ s. IsComplete s → ⊥) x.slabs) c.self.view_is none in
+    (λ e. here, λ all. refl)
 
 pub returns-clause-out : goal.returns-clause-out
 returns-clause-out g c = let reaps = returns-clause-some g c in reaps_out _ _ _ _ _ reaps.2
