@@ -196,7 +196,7 @@ reaps_spans i s old new t reaps f =
 fresh_complete : (h : Holding) (colour n : ℕ) → IsComplete (fresh h colour n)
 fresh_complete h colour n = All-replicate (λ b. b ≡ true) (h.range.len / n) true refl
 
-fresh_first : (h : Holding) (colour n : ℕ) → 0 < h.range.len / n → get_or (fresh h colour n).home 0 false ≡ true
+pub fresh_first : (h : Holding) (colour n : ℕ) → 0 < h.range.len / n → get_or (fresh h colour n).home 0 false ≡ true
 fresh_first h colour n some = get_or-replicate (h.range.len / n) 0 true false some
 
 fresh_within : (h : Holding) (colour n : ℕ) → 0 < h.range.len / n → 0 < length (fresh h colour n).home

@@ -1,17 +1,20 @@
 -- What a cache keeps, through its moves.
-use Rattle.std.proofs.Common.{◌≡◌, ℕ, zero, suc, ◌+◌, ◌-◌, ◌*◌, ◌/◌, ◌<◌, ◌≤◌, ◌^◌, Bool, true, false, cond, nat_le, List, [], ◌∷◌, ◌++◌, length, get_or, set, take, drop, All, AllPairs, insert, remove, refl, sym, ap, ◌∙◌, arith, subst, if◌then◌else◌}
+use Rattle.std.proofs.Common.{◌≡◌, inl, inr, ℕ, zero, suc, ◌+◌, ◌-◌, ◌*◌, ◌/◌, ◌<◌, ◌≤◌, ◌^◌, Bool, true, false, cond, nat_le, List, [], ◌∷◌, ◌++◌, length, get_or, set, take, drop, All, AllPairs, insert, remove, refl, sym, ap, ◌∙◌, arith, subst, if◌then◌else◌}
 use Rattle.std.proofs.Math.Nat.{div-mul-le_self, div-eq-sub-div, mul-le-mul_right}
 use Rattle.std.proofs.Math.ListN.{replicate}
 use Rattle.std.proofs.lemmas.Bool.Decides.{nat_tests}
-use Rattle.std.proofs.lemmas.List.{length-set, length-replicate, get_or_default}
+use Rattle.std.specs.Prelude.{Any}
+use Rattle.std.proofs.lemmas.Bool.{cases_lt}
+use Rattle.std.proofs.lemmas.List.{length-set, length-replicate, length-take, length-drop, get_or-take, get_or-drop, get_or_default}
 use Rattle.std.proofs.lemmas.List.Elements.{All-set, All-get_or, All-nil, All-same, All-weaker}
 use Rattle.std.proofs.lemmas.List.Quantifiers.{all_pairs_remove}
-use Rattle.deed_core.specs.Extent.{end_of}
+use Rattle.deed_core.specs.Extent.{Extent, Overlap, end_of}
 use Rattle.deed_core.specs.Holding.{Holding}
 use Rattle.deed_core.specs.Tag.{Tag}
 use Rattle.slab_layer.specs.Slab.{SlabState, fresh, IsSlab, IsComplete, IsLowestIdle}
 use Rattle.slab_layer.specs.Cache.{CacheState, StandsAt, IsChunk, IsLowest, IsNext, chunk_tag, span_tag, IsBelow, IsOfSize, IsSound, Takes, Puts, Adds, Reaps, chunk_of, spare_of, next_colour, with_slabs, with_chunk}
 use Rattle.slab_layer.proofs.ListLemmas.{pairs_set, pairs_insert, all_insert, all_remove}
+use Rattle.slab_layer.proofs.PartLemmas.{zero_or}
 use Rattle.slab_layer.proofs.SearchLemmas.{next_stands, same_slab}
 
 -- what holds of each slab holds of one that stands
@@ -115,3 +118,58 @@ some_chunk c sound = let e : c.slab_size / chunk_of c ≡ (c.slab_size - chunk_o
 
 pub all_some : (c : CacheState) → IsSound c → All (λ s. 0 < length s.home) c.slabs
 all_some c sound = All-weaker (IsOfSize c.slab_size (chunk_of c)) (λ s. 0 < length s.home) (λ s size. rw size.count (some_chunk c sound)) c.slabs sound.slabs
+
+-- a span that overlaps no slab stands between those below it and those above it
+pub record IsPlaced (i : ℕ) (e : Extent) (slabs : List SlabState) : Type 0 where
+  pub within : i ≤ length slabs
+  pub below : All (λ s. end_of s.span.range ≤ e.base) (take i slabs)
+  pub above : All (λ s. end_of e ≤ s.span.range.base) (drop i slabs)
+
+pub placed_at : (i : ℕ) (e : Extent) (c : CacheState) → IsSound c → 0 < e.len → (Any (λ s. Overlap s.span.range e) c.slabs → ⊥) → i ≤ length c.slabs
+    → ((k : ℕ) (d : SlabState) → k < i → (get_or c.slabs k d).span.range.base < e.base) → (i < length c.slabs → (d : SlabState) → e.base ≤ (get_or c.slabs i d).span.range.base) → IsPlaced i e c.slabs
+placed_at i e c sound some apart reach below above = record {
+  within = reach;
+  below = λ k d in_front.
+      let k_at : k < i = omega (arith, length-take i c.slabs) in
+      rw (get_or-take i c.slabs k d k_at) (
+      let s : SlabState = get_or c.slabs k d in
+      let low : s.span.range.base < e.base = below k d k_at in
+      elim (cases_lt e.base (end_of s.span.range)) [
+        | inl cross ↦ absurd (apart (k, s, omega arith, get_or_default c.slabs k s d (omega arith), (omega arith, cross)))
+        | inr clear ↦ clear
+      ]
+      );
+  above = λ k d in_back.
+      let in_slabs : i + k < length c.slabs = omega (arith, length-drop i c.slabs) in
+      rw (get_or-drop i c.slabs k d) (
+      let s : SlabState = get_or c.slabs (i + k) d in
+      let first : e.base ≤ (get_or c.slabs i d).span.range.base = above (omega arith) d in
+      let size : IsOfSize c.slab_size (chunk_of c) s = sound.slabs (i + k) d in_slabs in
+      let order : e.base ≤ s.span.range.base = elim (zero_or k) [
+        | inl none ↦ let same : i + k ≡ i = omega arith in rw same first
+        | inr more ↦ let up : IsBelow (get_or c.slabs i d) s = sound.ascending i (i + k) d (omega arith) in_slabs in omega (arith, up, first)
+      ] in
+      elim (cases_lt s.span.range.base (end_of e)) [
+        | inl cross ↦ absurd (apart (i + k, s, in_slabs, get_or_default c.slabs (i + k) s d in_slabs, (cross, omega (arith, size.size, sound.some, sound.room))))
+        | inr clear ↦ clear
+      ]
+      );
+}
+
+pub made_adds : (i next : ℕ) (slab : SlabState) (slabs : List SlabState) (x old : CacheState) (span first : Tag) (e : Extent) → x ≡ old → IsSound old → e ≡ span.holding.range → 0 < e.len
+    → (Any (λ s. Overlap s.span.range e) x.slabs → ⊥) → i ≤ length x.slabs → ((k : ℕ) (d : SlabState) → k < i → (get_or x.slabs k d).span.range.base < e.base)
+    → (i < length x.slabs → (d : SlabState) → e.base ≤ (get_or x.slabs i d).span.range.base)
+    → slab ≡ with_chunk (fresh span.holding x.colour (chunk_of x)) 0 false → slabs ≡ insert x.slabs i slab → next ≡ next_colour old → first ≡ chunk_tag x.arena x.k (fresh span.holding x.colour (chunk_of x)) 0
+    → Adds i old (record { arena = x.arena; k = x.k; quantum = x.quantum; slab_size = x.slab_size; slabs = slabs; colour = next }) span first
+made_adds i next slab slabs x old span first e view sound range some apart reach below above made put colour tag =
+    let placed : IsPlaced i e x.slabs = placed_at i e x (subst IsSound (sym view) sound) some apart reach below above in
+    let at : IsPlaced i span.holding.range x.slabs = subst (λ (r : Extent). IsPlaced i r x.slabs) range placed in
+    let T : CacheState → Type 0 = λ c. Adds i c (record { arena = x.arena; k = x.k; quantum = x.quantum; slab_size = x.slab_size; slabs = slabs; colour = next }) span first in
+    let next_is : next ≡ next_colour x = colour ∙ ap next_colour (sym view) in
+    subst T view (record {
+      within = at.within;
+      below = at.below;
+      above = at.above;
+      tag = tag;
+      after = λ n. record { arena = x.arena; k = x.k; quantum = x.quantum; slab_size = x.slab_size; slabs = (put ∙ ap (insert x.slabs i) made) n; colour = next_is n };
+    })

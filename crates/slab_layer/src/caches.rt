@@ -143,9 +143,9 @@ impl<D: Deed> SlabCache<D> {
         if overlaps(&self.slabs, range) {
             return Err((span, AddFault::Overlaps));
         }
-        if self.slabs.reserve(1).is_err() {
+        let Ok(()) = self.slabs.reserve(1) else {
             return Err((span, AddFault::NoMemory));
-        }
+        };
         let deed = Stored::new(span.into_deed());
         let mut slab = match Slab::new(self.alloc, deed, colour, chunk) {
             Ok(slab) => slab,
