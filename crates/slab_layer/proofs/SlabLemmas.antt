@@ -69,13 +69,15 @@ made_of h colour n count first last row some room gap chunks tail =
     let long : length (map is_some row) ≡ count = ap length home ∙ length-replicate count true in
     let units : length (map is_some row) * n ≡ count * n = ap (λ (k : ℕ). k * n) long in
     let less : min colour h.range.len ≡ colour = omega arith in
-    let left : h.range.len - colour - count * n ≡ h.range.len - (colour + count * n) = omega arith in
-    (home, record {
-      shape = record { some = some; room = omega arith };
-      gap = gap ∙ rw less refl;
-      chunks = chunks ∙ ap (stored (placed h.root (h.range.base + colour) n) 0) (sym home);
-      tail = rw units (tail ∙ rw left refl);
-    })
+    let left : h.range.len - colour - count * n ≡ h.range.len - (colour + count * n) = omega arith in (
+      home,
+      record {
+        shape = record { some = some; room = omega arith };
+        gap = gap ∙ rw less refl;
+        chunks = chunks ∙ ap (stored (placed h.root (h.range.base + colour) n) 0) (sym home);
+        tail = rw units (tail ∙ rw left refl);
+      },
+    )
 
 pub made : (h span r : Holding) (colour n count : ℕ) (first last : Option Holding) (row : List (Option Holding)) → span ≡ h → 0 < n → 0 < count → colour + count * n ≤ h.range.len
     → first ≡ front colour (Some h) → back colour (Some h) ≡ Some r
@@ -183,6 +185,9 @@ idle_units s = units-passing s.chunk (λ b. b) (chunk_at s) 0 s.home (λ k. refl
 pub empty_is : (s : SlabState) (first last : Option Holding) (row : List (Option Holding)) (o : Option ℕ) (r : Bool) → IsStored s first row last → is_some first ≡ false → is_some last ≡ false
     → is_some o ≡ not r → MatchOption o (All (λ b. b ≡ false) s.home) (λ j. IsLowestIdle j s.home) → (r ≡ true) ↔ (kept_of s ≡ [])
 empty_is s first last row None r held a b e out = (λ is. is_bare s first last row held (is_none first a) (is_none last b) out, λ none. not_false r e)
-empty_is s first last row (Some j) r held a b e idle = (λ is. absurd (let f : not r ≡ false = ap not is in cc), λ none.
-    let o : get_or s.home j false ≡ false = (bare s first last row held none).out j false idle.within in
-    let t = idle.idle in absurd cc)
+empty_is s first last row (Some j) r held a b e idle = (
+  λ is. absurd (let f : not r ≡ false = ap not is in cc),
+  λ none.
+      let o : get_or s.home j false ≡ false = (bare s first last row held none).out j false idle.within in
+      let t = idle.idle in absurd cc,
+)

@@ -115,13 +115,13 @@ pub record Adds (i : ℕ) (old new : CacheState) (span first : Tag) : Type 0 whe
   pub above : All (λ s. end_of span.holding.range ≤ s.span.range.base) (drop i old.slabs)
   pub tag : first ≡ chunk_tag old.arena old.k (fresh span.holding old.colour (chunk_of old)) 0
   pub after : new ≡ record {
-      arena = old.arena;
-      k = old.k;
-      quantum = old.quantum;
-      slab_size = old.slab_size;
-      slabs = insert old.slabs i (with_chunk (fresh span.holding old.colour (chunk_of old)) 0 false);
-      colour = next_colour old;
-    }
+    arena = old.arena;
+    k = old.k;
+    quantum = old.quantum;
+    slab_size = old.slab_size;
+    slabs = insert old.slabs i (with_chunk (fresh span.holding old.colour (chunk_of old)) 0 false);
+    colour = next_colour old;
+  }
 
 -- the lowest slab with all chunks at home left
 pub record Reaps (i : ℕ) (s : SlabState) (old new : CacheState) (t : Tag) : Type 0 where

@@ -7,10 +7,8 @@ ghost use Rattle.slab_layer.specs.Slab.{SlabState, IsAllOut, IsComplete, units};
 ghost use Rattle.slab_layer.specs.Cache.{IsSound, Adds, Puts, Reaps, Takes, chunk_of, next_colour as next_colour_of, idle, idle_deeds, gaps, tails, kept, out, spans};
 
 use crate::faults::{AddFault, PutFault};
-use crate::search::{
-    find_chunk, lowest_complete, next_chunk, overlaps, place_for,
-};
 use crate::reports::{SlabReport, are_empty, discard_all, total};
+use crate::search::{find_chunk, lowest_complete, next_chunk, overlaps, place_for};
 use crate::slabs::Slab;
 use deed_core::{Deed, Route, Segment, Stored, insert_reserved};
 use std::alloc::Global;

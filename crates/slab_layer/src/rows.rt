@@ -48,7 +48,10 @@ pub fn count_some<D: Deed>(row: &[Option<Stored<D>>]) -> usize
 }
 
 /// Joins a row of parts and what is behind it.
-pub fn unchop<D: Deed>(row: &mut Vec<Option<Stored<D>>>, rest: Option<Stored<D>>) -> Option<Stored<D>>
+pub fn unchop<D: Deed>(
+    row: &mut Vec<Option<Stored<D>>>,
+    rest: Option<Stored<D>>,
+) -> Option<Stored<D>>
     requires { IsRow row.old.items rest }
     ensures joined { result ≡ all row.old.items rest }
     ensures empty { row.new.items ≡ [] }

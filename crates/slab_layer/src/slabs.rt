@@ -35,7 +35,12 @@ impl<D: Deed> Model for Slab<D> {
 
 impl<D: Deed> Slab<D> {
     /// Cuts a span. Where memory runs out, the span is whole again.
-    pub fn new(alloc: Global, deed: Stored<D>, colour: u64, chunk: u64) -> Result<Slab<D>, Stored<D>>
+    pub fn new(
+        alloc: Global,
+        deed: Stored<D>,
+        colour: u64,
+        chunk: u64,
+    ) -> Result<Slab<D>, Stored<D>>
         requires some { 0 < chunk }
         requires chunks { 0 < deed.range.len / chunk }
         requires room { colour + deed.range.len / chunk * chunk ≤ deed.range.len }

@@ -1,5 +1,8 @@
+ghost use Rattle.std.specs.Prelude.{◌≡◌};
+
 use super::*;
 use deed_core::{PlainDeed, Range};
+use refusing_deed::RefusingDeed;
 use std::process::Abort;
 use std::test::Fail;
 
@@ -69,7 +72,7 @@ fn reaped(cache: &mut SlabCache<PlainDeed>) -> Option<(u64, u64)> {
 }
 
 // Ends a cache with nothing in it.
-fn close(rt: &impl Abort, cache: SlabCache<PlainDeed>) {
+fn close<D: Deed>(rt: &impl Abort, cache: SlabCache<D>) {
     match cache.close() {
         Ok(()) => {}
         Err(_) => panic!(rt; "a deed lies in the cache"),
@@ -89,12 +92,26 @@ fn colours(rt: HostRuntime) -> Result<(), Fail> {
 // Two slabs, of which the lower one goes again.
 fn first_slabs(rt: &impl Abort, cache: &mut SlabCache<PlainDeed>) {
     assert_eq!(rt; added(rt, cache, 0, 16), Ok((0, 5)));
-    assert_eq!(rt; cache.report(), SlabReport { idle: 10, gap: 0, tail: 1 });
+    assert_eq!(rt;
+        cache.report(),
+        SlabReport {
+            idle: 10,
+            gap: 0,
+            tail: 1
+        }
+    );
     assert_eq!(rt; taken(cache), Some((5, 5)));
     assert_eq!(rt; taken(cache), Some((10, 5)));
     assert_eq!(rt; taken(cache), None);
     assert_eq!(rt; added(rt, cache, 16, 16), Ok((17, 5)));
-    assert_eq!(rt; cache.report(), SlabReport { idle: 10, gap: 1, tail: 1 });
+    assert_eq!(rt;
+        cache.report(),
+        SlabReport {
+            idle: 10,
+            gap: 1,
+            tail: 1
+        }
+    );
     assert_eq!(rt; taken(cache), Some((22, 5)));
     assert_eq!(rt; taken(cache), Some((27, 5)));
     assert_eq!(rt; put(rt, cache, 5, 5), Ok(()));
@@ -116,4 +133,37 @@ fn second_slab_alone(rt: &impl Abort, cache: &mut SlabCache<PlainDeed>) {
     assert_eq!(rt; put(rt, cache, 5, 22), Ok(()));
     assert_eq!(rt; put(rt, cache, 5, 27), Ok(()));
     assert_eq!(rt; reaped(cache), Some((16, 16)));
+}
+
+// A slab of 16 takes three splits. Each may be refused, and the span is then whole again.
+#[test]
+fn refused_splits(rt: HostRuntime) -> Result<(), Fail> {
+    let range = Range::new(0, 16).ok_or("a range")?;
+    let mut cache: SlabCache<RefusingDeed> = SlabCache::new(rt.alloc(), 7, 5, 1, 16);
+    for splits_left in 0..3 {
+        let deed = RefusingDeed::new(0, range, splits_left);
+        let span = Segment::new(cache.arena(), Route::Direct, deed);
+        match cache.add(span) {
+            Ok(_) => panic!(rt; "a split is refused"),
+            Err((span, fault)) => {
+                assert_eq!(rt; span.into_deed().close(), range);
+                assert_eq!(rt; fault, AddFault::NoMemory);
+            }
+        }
+    }
+    let deed = RefusingDeed::new(0, range, 3);
+    let span = Segment::new(cache.arena(), Route::Direct, deed);
+    let first = match cache.add(span) {
+        Ok(first) => first,
+        Err(_) => panic!(rt; "no split is refused"),
+    };
+    assert_eq!(rt; first.range().len(), 5);
+    match cache.put(first) {
+        Ok(()) => {}
+        Err(_) => panic!(rt; "the chunk was out"),
+    }
+    let whole = cache.reap().expect(&rt, "all chunks are at home");
+    assert_eq!(rt; whole.into_deed().close(), range);
+    close(&rt, cache);
+    Ok(())
 }

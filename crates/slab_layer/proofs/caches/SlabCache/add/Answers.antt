@@ -48,9 +48,11 @@ returns-clause-ok g c =
     let above = rw (slabs, c.base.ensures.value) at c.place_for-place.ensures.above in
     let put = rw c.in-Ok.ensures.items at c.insert_reserved.ensures.items in
     let tag = c.new-2.ensures
-    ∙ ap (λ (h : Holding). let t : Tag = record { arena = c.self.inside.arena; route = Cached c.self.inside.k; holding = h } in t) (c.into_deed-2.ensures ∙ c.take-first.ensures.chunk ∙ ap (λ (s : SlabState). chunk_at s 0) slab) in
-    (c.place_for-place.result, made_adds c.place_for-place.result c.next_colour-next.result c.take-first.new.self c.insert_reserved.new.items.items _ _ c.args.span _ c.range-range.result c.self.view_is c.chunk-chunk.ensures.sound
-    c.range-range.ensures.value c.range-range.ensures.range.some apart within below above after put c.next_colour-next.ensures tag)
+    ∙ ap (λ (h : Holding). let t : Tag = record { arena = c.self.inside.arena; route = Cached c.self.inside.k; holding = h } in t) (c.into_deed-2.ensures ∙ c.take-first.ensures.chunk ∙ ap (λ (s : SlabState). chunk_at s 0) slab) in (
+      c.place_for-place.result,
+      made_adds c.place_for-place.result c.next_colour-next.result c.take-first.new.self c.insert_reserved.new.items.items _ _ c.args.span _ c.range-range.result c.self.view_is c.chunk-chunk.ensures.sound
+          c.range-range.ensures.value c.range-range.ensures.range.some apart within below above after put c.next_colour-next.ensures tag,
+    )
 
 pub invariant_of-self-2 : goal.invariant_of-self-2
 invariant_of-self-2 g c =

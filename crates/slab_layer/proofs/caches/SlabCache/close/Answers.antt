@@ -5,12 +5,14 @@ use Rattle.slab_layer.proofs.caches.SlabCache.close.Goals as goal
 
 pub returns-then-not-are_empty-clause-empty : goal.returns-then-not-are_empty-clause-empty
 returns-then-not-are_empty-clause-empty g c =
-    let said = rw c.deref.ensures.value at c.are_empty.ensures in
-    (λ e. cc, λ none.
-        let here = subst (λ (x : CacheState). kept x ≡ []) (sym c.self.view_is) none in
-        let e : c.are_empty.result ≡ true = said.1 (kept_none c.self.inside.slabs.items here) in
-        let f = c.if-not-are_empty.true in
-        cc)
+    let said = rw c.deref.ensures.value at c.are_empty.ensures in (
+      λ e. cc,
+      λ none.
+          let here = subst (λ (x : CacheState). kept x ≡ []) (sym c.self.view_is) none in
+          let e : c.are_empty.result ≡ true = said.1 (kept_none c.self.inside.slabs.items here) in
+          let f = c.if-not-are_empty.true in
+          cc,
+    )
 
 pub discard_all-requires : goal.discard_all-requires
 discard_all-requires g c =
