@@ -8,8 +8,8 @@ use Rattle.deed_core.specs.Extent.{Extent, end_of}
 use Rattle.deed_core.specs.Holding.{Holding}
 use Rattle.deed_core.specs.Tag.{Tag}
 use Rattle.deed_core.specs.declared.segments.Route.TheVariants.{Cached}
-use Rattle.slab_layer.specs.Slab.{SlabState, IsSlab, chunk_at, idle_by, out_by, passing}
-use Rattle.slab_layer.specs.Cache.{CacheState, StandsAt, IsChunk, IsBelow, IsSound, chunk_of, chunk_tag, idle, out}
+use Rattle.slab_layer.specs.Slab.{SlabState, IsSlab, chunk_at, idle_chunks_by, chunks_out_by, items_where}
+use Rattle.slab_layer.specs.Cache.{CacheState, StandsAt, IsChunk, IsBelow, IsSound, chunk_of, chunk_tag, idle_chunks, chunks_out}
 use Rattle.slab_layer.proofs.RowLemmas.{room_for}
 use Rattle.slab_layer.proofs.SlabLemmas.{place_is}
 use Rattle.slab_layer.proofs.ListLemmas.{contains_part, part_contains}
@@ -22,12 +22,12 @@ module _ {X : Type 0} where
   in_rest true y x ys has = (suc has.0, omega (arith, has.1), has.2)
   in_rest false y x ys has = has
 
-  pub contains_passing : (test : Bool → Bool) (f : ℕ → X) (i : ℕ) (xs : List Bool) (j : ℕ) (d : Bool) → j < length xs → test (get_or xs j d) ≡ true → Contains (passing test f i xs) (f (i + j))
+  pub contains_passing : (test : Bool → Bool) (f : ℕ → X) (i : ℕ) (xs : List Bool) (j : ℕ) (d : Bool) → j < length xs → test (get_or xs j d) ≡ true → Contains (items_where test f i xs) (f (i + j))
   contains_passing test f i [] j d within is = absurd (omega arith)
   contains_passing test f i (x ∷ xs) zero d within is = let e : i + 0 ≡ i = omega arith in rw (is, e) (0, omega arith, refl)
   contains_passing test f i (x ∷ xs) (suc j) d within is =
       let e : i + suc j ≡ (i + 1) + j = omega arith in
-      rw e (in_rest (test x) (f i) (f ((i + 1) + j)) (passing test f (i + 1) xs) (contains_passing test f (i + 1) xs j d (omega arith) is))
+      rw e (in_rest (test x) (f i) (f ((i + 1) + j)) (items_where test f (i + 1) xs) (contains_passing test f (i + 1) xs j d (omega arith) is))
 
   -- a place that passes
   pub record Passes (test : Bool → Bool) (f : ℕ → X) (i : ℕ) (xs : List Bool) (x : X) : Type 0 where
@@ -49,29 +49,29 @@ module _ {X : Type 0} where
       at zero within is = inl (refl, is)
       at (suc k) within is = inr (k, omega arith, is)
 
-  pub passing_contains : (test : Bool → Bool) (f : ℕ → X) (i : ℕ) (xs : List Bool) (x : X) → Contains (passing test f i xs) x → Passes test f i xs x
+  pub passing_contains : (test : Bool → Bool) (f : ℕ → X) (i : ℕ) (xs : List Bool) (x : X) → Contains (items_where test f i xs) x → Passes test f i xs x
   passing_contains test f i [] x has = absurd (omega (arith, has.1))
-  passing_contains test f i (y ∷ ys) x has = elim (head_or_rest (test y) (f i) x (passing test f (i + 1) ys) has) [
+  passing_contains test f i (y ∷ ys) x has = elim (head_or_rest (test y) (f i) x (items_where test f (i + 1) ys) has) [
     | inl here ↦ let e : i + 0 ≡ i = omega arith in record { place = 0; within = omega arith; passes = here.0; is = ap f e ∙ here.1 }
     | inr there ↦ later test f i y ys x (passing_contains test f (i + 1) ys x there)
   ]
 
 -- a chunk that is out, or at home, is among those
-from_start : (test : Bool → Bool) (f : ℕ → Tag) (xs : List Bool) (j : ℕ) (t : Tag) → j < length xs → test (get_or xs j false) ≡ true → t ≡ f j → Contains (passing test f 0 xs) t
+from_start : (test : Bool → Bool) (f : ℕ → Tag) (xs : List Bool) (j : ℕ) (t : Tag) → j < length xs → test (get_or xs j false) ≡ true → t ≡ f j → Contains (items_where test f 0 xs) t
 from_start test f xs j t within is tag =
     let e : 0 + j ≡ j = omega arith in
     let here : f (0 + j) ≡ t = ap f e ∙ sym tag in
-    subst (λ (x : Tag). Contains (passing test f 0 xs) x) here (contains_passing test f 0 xs j false within is)
+    subst (λ (x : Tag). Contains (items_where test f 0 xs) x) here (contains_passing test f 0 xs j false within is)
 
-pub chunk_is_out : (i j : ℕ) (s : SlabState) (t : Tag) (c : CacheState) → IsChunk i j s false t c → Contains (out c) t
+pub chunk_is_out : (i j : ℕ) (s : SlabState) (t : Tag) (c : CacheState) → IsChunk i j s false t c → Contains (chunks_out c) t
 chunk_is_out i j s t c chunk =
-    let F : SlabState → List Tag = λ x. out_by (chunk_tag c.arena c.k x) x in
+    let F : SlabState → List Tag = λ x. chunks_out_by (chunk_tag c.arena c.k x) x in
     let here : Contains (F s) t = from_start not (chunk_tag c.arena c.k s) s.home j t chunk.within (ap not chunk.home) chunk.tag in
     contains_part F c.slabs i s t chunk.stands.within (subst (λ (x : SlabState). Contains (F x) t) (sym chunk.stands.is) here)
 
-pub chunk_is_idle : (i j : ℕ) (s : SlabState) (t : Tag) (c : CacheState) → IsChunk i j s true t c → Contains (idle c) t
+pub chunk_is_idle : (i j : ℕ) (s : SlabState) (t : Tag) (c : CacheState) → IsChunk i j s true t c → Contains (idle_chunks c) t
 chunk_is_idle i j s t c chunk =
-    let F : SlabState → List Tag = λ x. idle_by (chunk_tag c.arena c.k x) x in
+    let F : SlabState → List Tag = λ x. idle_chunks_by (chunk_tag c.arena c.k x) x in
     let home : get_or s.home j false ≡ true = get_or_default s.home j false true chunk.within ∙ chunk.home in
     let here : Contains (F s) t = from_start (λ b. b) (chunk_tag c.arena c.k s) s.home j t chunk.within home chunk.tag in
     contains_part F c.slabs i s t chunk.stands.within (subst (λ (x : SlabState). Contains (F x) t) (sym chunk.stands.is) here)
@@ -90,9 +90,9 @@ not_true : (b : Bool) → not b ≡ true → b ≡ false
 not_true true e = cc
 not_true false e = refl
 
-pub out_is_chunk : (t : Tag) (c : CacheState) → Contains (out c) t → SomeChunk false t c
+pub out_is_chunk : (t : Tag) (c : CacheState) → Contains (chunks_out c) t → SomeChunk false t c
 out_is_chunk t c has =
-    let part = part_contains (λ x. out_by (chunk_tag c.arena c.k x) x) c.slabs nowhere t has in
+    let part = part_contains (λ x. chunks_out_by (chunk_tag c.arena c.k x) x) c.slabs nowhere t has in
     let s : SlabState = get_or c.slabs part.0 nowhere in
     let p : Passes not (chunk_tag c.arena c.k s) 0 s.home t = passing_contains not (chunk_tag c.arena c.k s) 0 s.home t part.2 in
     let e : 0 + p.place ≡ p.place = omega arith in
@@ -108,9 +108,9 @@ out_is_chunk t c has =
       };
     }
 
-pub idle_is_chunk : (t : Tag) (c : CacheState) → Contains (idle c) t → SomeChunk true t c
+pub idle_is_chunk : (t : Tag) (c : CacheState) → Contains (idle_chunks c) t → SomeChunk true t c
 idle_is_chunk t c has =
-    let part = part_contains (λ x. idle_by (chunk_tag c.arena c.k x) x) c.slabs nowhere t has in
+    let part = part_contains (λ x. idle_chunks_by (chunk_tag c.arena c.k x) x) c.slabs nowhere t has in
     let s : SlabState = get_or c.slabs part.0 nowhere in
     let p : Passes (λ b. b) (chunk_tag c.arena c.k s) 0 s.home t = passing_contains (λ b. b) (chunk_tag c.arena c.k s) 0 s.home t part.2 in
     let e : 0 + p.place ≡ p.place = omega arith in
@@ -170,8 +170,8 @@ never_both t c sound gone here =
 
 -- a segment of another arena or cache, or one that covers no chunk, is none of them
 pub record IsAbsent (t : Tag) (c : CacheState) : Type 0 where
-  pub not_out : Contains (out c) t → ⊥
-  pub not_idle : Contains (idle c) t → ⊥
+  pub not_out : Contains (chunks_out c) t → ⊥
+  pub not_idle : Contains (idle_chunks c) t → ⊥
 
 pub not_routed : (t : Tag) (c : CacheState) → ((t.arena ≡ c.arena) × (t.route ≡ Cached c.k) → ⊥) → IsAbsent t c
 not_routed t c other = record {

@@ -9,9 +9,9 @@ use Rattle.deed_core.specs.Extent.{end_of}
 use Rattle.deed_core.specs.Holding.{Holding}
 use Rattle.deed_core.specs.Tag.{Tag}
 use Rattle.deed_core.specs.Covering.{covers, covers_held, covers_tag, covering_held, covering_tags}
-use Rattle.slab_layer.specs.Slab.{SlabState, IsSlab, chunk_at, gap_of, tail_of, idle_by, out_by, kept_of, passing, units}
-use Rattle.slab_layer.specs.Cache.{CacheState, IsBelow, IsOfSize, IsSound, chunk_of, chunk_tag, span_tag, kept, out, spans, idle_deeds, gaps, tails}
-use Rattle.slab_layer.proofs.PassingLemmas.{sum_by-passing-cons}
+use Rattle.slab_layer.specs.Slab.{SlabState, IsSlab, chunk_at, gap_of, tail_of, idle_chunks_by, chunks_out_by, deeds_in, items_where, units}
+use Rattle.slab_layer.specs.Cache.{CacheState, IsBelow, IsOfSize, IsSound, chunk_of, chunk_tag, span_tag, deeds_of, chunks_out, span_tags, idle_deeds, gaps, tails}
+use Rattle.slab_layer.proofs.PassingLemmas.{sum_by-items_where-cons}
 use Rattle.slab_layer.proofs.ListLemmas.{sum_by-flat_map, sum_by-map}
 use Rattle.slab_layer.proofs.MoveLemmas.{sum_by-kept, tile, slab_of_size}
 
@@ -36,45 +36,45 @@ sums_of idle gap tail all (s ∷ ss) e =
     let rest = sums_of idle gap tail all ss e in
     omega (arith, here, rest, sum_by-cons idle s ss, sum_by-cons gap s ss, sum_by-cons tail s ss, sum_by-cons all s ss)
 
-pub kept_units : (c : CacheState) → units (idle_deeds c) + units (gaps c) + units (tails c) ≡ units (kept c)
+pub kept_units : (c : CacheState) → units (idle_deeds c) + units (gaps c) + units (tails c) ≡ units (deeds_of c)
 kept_units c =
     let len : Holding → ℕ = λ h. h.range.len in
-    let all = sums_of (λ s. sum_by len (idle_by (chunk_at s) s)) (λ s. sum_by len (option_to_list (gap_of s))) (λ s. sum_by len (option_to_list (tail_of s))) (λ s. sum_by len (kept_of s)) c.slabs (λ s. sum_by-kept len s) in
-    omega (arith, all, sum_by-flat_map len (λ s. idle_by (chunk_at s) s) c.slabs, sum_by-flat_map len (λ s. option_to_list (gap_of s)) c.slabs, sum_by-flat_map len (λ s. option_to_list (tail_of s)) c.slabs, sum_by-flat_map len kept_of c.slabs)
+    let all = sums_of (λ s. sum_by len (idle_chunks_by (chunk_at s) s)) (λ s. sum_by len (option_to_list (gap_of s))) (λ s. sum_by len (option_to_list (tail_of s))) (λ s. sum_by len (deeds_in s)) c.slabs (λ s. sum_by-kept len s) in
+    omega (arith, all, sum_by-flat_map len (λ s. idle_chunks_by (chunk_at s) s) c.slabs, sum_by-flat_map len (λ s. option_to_list (gap_of s)) c.slabs, sum_by-flat_map len (λ s. option_to_list (tail_of s)) c.slabs, sum_by-flat_map len deeds_in c.slabs)
 
 -- the same chunks, seen in two ways
-same_passing : {X Y : Type 0} (g : X → ℕ) (h : Y → ℕ) (f : ℕ → X) (e : ℕ → Y) (test : Bool → Bool) (i : ℕ) (xs : List Bool) → ((k : ℕ) → g (f k) ≡ h (e k)) → sum_by g (passing test f i xs) ≡ sum_by h (passing test e i xs)
+same_passing : {X Y : Type 0} (g : X → ℕ) (h : Y → ℕ) (f : ℕ → X) (e : ℕ → Y) (test : Bool → Bool) (i : ℕ) (xs : List Bool) → ((k : ℕ) → g (f k) ≡ h (e k)) → sum_by g (items_where test f i xs) ≡ sum_by h (items_where test e i xs)
 same_passing g h f e test i [] same = refl
 same_passing g h f e test i (x ∷ xs) same =
     let here = ap (λ (n : ℕ). if test x then n else 0) (same i) in
     let rest = same_passing g h f e test (i + 1) xs same in
-    omega (arith, here, rest, sum_by-passing-cons g test f i x xs, sum_by-passing-cons h test e i x xs)
+    omega (arith, here, rest, sum_by-items_where-cons g test f i x xs, sum_by-items_where-cons h test e i x xs)
 
 tiles : (u : ℕ) (c : CacheState) (slabs : List SlabState) → All IsSlab slabs
-    → sum_by (λ s. covering_held u (kept_of s)) slabs + sum_by (λ s. covering_tags u (out_by (chunk_tag c.arena c.k s) s)) slabs ≡ sum_by (λ s. covers_tag u (span_tag c.arena s)) slabs
+    → sum_by (λ s. covering_held u (deeds_in s)) slabs + sum_by (λ s. covering_tags u (chunks_out_by (chunk_tag c.arena c.k s) s)) slabs ≡ sum_by (λ s. covers_tag u (span_tag c.arena s)) slabs
 tiles u c [] all = refl
 tiles u c (s ∷ ss) all =
     let here = tile u s (All-head IsSlab s ss all) in
-    let seen : covering_tags u (out_by (chunk_tag c.arena c.k s) s) ≡ covering_held u (out_by (chunk_at s) s) = same_passing (covers_tag u) (covers_held u) (chunk_tag c.arena c.k s) (chunk_at s) not 0 s.home (λ k. refl) in
+    let seen : covering_tags u (chunks_out_by (chunk_tag c.arena c.k s) s) ≡ covering_held u (chunks_out_by (chunk_at s) s) = same_passing (covers_tag u) (covers_held u) (chunk_tag c.arena c.k s) (chunk_at s) not 0 s.home (λ k. refl) in
     let rest = tiles u c ss (All-tail IsSlab s ss all) in
-    omega (arith, here, seen, rest, sum_by-cons (λ x. covering_held u (kept_of x)) s ss, sum_by-cons (λ x. covering_tags u (out_by (chunk_tag c.arena c.k x) x)) s ss, sum_by-cons (λ x. covers_tag u (span_tag c.arena x)) s ss)
+    omega (arith, here, seen, rest, sum_by-cons (λ x. covering_held u (deeds_in x)) s ss, sum_by-cons (λ x. covering_tags u (chunks_out_by (chunk_tag c.arena c.k x) x)) s ss, sum_by-cons (λ x. covers_tag u (span_tag c.arena x)) s ss)
 
-pub tiled : (c : CacheState) → IsSound c → (u : ℕ) → covering_held u (kept c) + covering_tags u (out c) ≡ covering_tags u (spans c)
+pub tiled : (c : CacheState) → IsSound c → (u : ℕ) → covering_held u (deeds_of c) + covering_tags u (chunks_out c) ≡ covering_tags u (span_tags c)
 tiled c sound u =
     let all = tiles u c c.slabs (All-weaker (IsOfSize c.slab_size (chunk_of c)) IsSlab (λ s size. slab_of_size c s sound size) c.slabs sound.slabs) in
-    omega (arith, all, sum_by-flat_map (covers_held u) kept_of c.slabs, sum_by-flat_map (covers_tag u) (λ s. out_by (chunk_tag c.arena c.k s) s) c.slabs, sum_by-map (covers_tag u) (span_tag c.arena) c.slabs)
+    omega (arith, all, sum_by-flat_map (covers_held u) deeds_in c.slabs, sum_by-flat_map (covers_tag u) (λ s. chunks_out_by (chunk_tag c.arena c.k s) s) c.slabs, sum_by-map (covers_tag u) (span_tag c.arena) c.slabs)
 
 -- nothing lies in the cache exactly where nothing lies in any slab
-pub none_kept : (slabs : List SlabState) → All (λ s. kept_of s ≡ []) slabs → flat_map kept_of slabs ≡ []
+pub none_kept : (slabs : List SlabState) → All (λ s. deeds_in s ≡ []) slabs → flat_map deeds_in slabs ≡ []
 none_kept [] none = refl
-none_kept (s ∷ ss) none = rw (All-head (λ x. kept_of x ≡ []) s ss none, none_kept ss (All-tail (λ x. kept_of x ≡ []) s ss none)) refl
+none_kept (s ∷ ss) none = rw (All-head (λ x. deeds_in x ≡ []) s ss none, none_kept ss (All-tail (λ x. deeds_in x ≡ []) s ss none)) refl
 
 append_nil : (xs ys : List Holding) → xs ++ ys ≡ [] → (xs ≡ []) × (ys ≡ [])
 append_nil [] ys e = (refl, e)
 append_nil (x ∷ xs) ys e = cc
 
-pub kept_none : (slabs : List SlabState) → flat_map kept_of slabs ≡ [] → All (λ s. kept_of s ≡ []) slabs
+pub kept_none : (slabs : List SlabState) → flat_map deeds_in slabs ≡ [] → All (λ s. deeds_in s ≡ []) slabs
 kept_none [] none = λ k d within. absurd (omega arith)
 kept_none (s ∷ ss) none =
-    let parts = append_nil (kept_of s) (flat_map kept_of ss) none in
-    All-cons (λ x. kept_of x ≡ []) s ss parts.0 (kept_none ss parts.1)
+    let parts = append_nil (deeds_in s) (flat_map deeds_in ss) none in
+    All-cons (λ x. deeds_in x ≡ []) s ss parts.0 (kept_none ss parts.1)

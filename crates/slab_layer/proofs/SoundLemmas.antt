@@ -11,7 +11,7 @@ use Rattle.std.proofs.lemmas.List.Quantifiers.{all_pairs_remove}
 use Rattle.deed_core.specs.Extent.{Extent, Overlap, end_of}
 use Rattle.deed_core.specs.Holding.{Holding}
 use Rattle.deed_core.specs.Tag.{Tag}
-use Rattle.slab_layer.specs.Slab.{SlabState, fresh, IsSlab, IsComplete, IsLowestIdle}
+use Rattle.slab_layer.specs.Slab.{SlabState, new_slab, IsSlab, IsComplete, IsLowestIdle}
 use Rattle.slab_layer.specs.Cache.{CacheState, StandsAt, IsChunk, IsLowest, IsNext, chunk_tag, span_tag, IsBelow, IsOfSize, IsSound, Takes, Puts, Adds, Reaps, chunk_of, spare_of, next_colour, with_slabs, with_chunk}
 use Rattle.slab_layer.proofs.ListLemmas.{pairs_set, pairs_insert, all_insert, all_remove}
 use Rattle.slab_layer.proofs.PartLemmas.{zero_or}
@@ -62,7 +62,7 @@ next_fits c = elim (nat_le (c.colour + c.quantum) (spare_of c.slab_size (chunk_o
 -- a slab comes
 pub sound_adds : (i : ℕ) (old new : CacheState) (span first : Tag) → Adds i old new span first → span.holding.range.len ≡ old.slab_size → end_of span.holding.range ≤ 2 ^ 62 → IsSound old → IsSound new
 sound_adds i old new span first adds size end sound =
-    let slab : SlabState = with_chunk (fresh span.holding old.colour (chunk_of old)) 0 false in
+    let slab : SlabState = with_chunk (new_slab span.holding old.colour (chunk_of old)) 0 false in
     let count : length (set (replicate (span.holding.range.len / chunk_of old) true) 0 false) ≡ old.slab_size / chunk_of old =
     length-set (replicate (span.holding.range.len / chunk_of old) true) 0 false ∙ length-replicate (span.holding.range.len / chunk_of old) true ∙ ap (λ n. n / chunk_of old) size in
     subst IsSound (sym adds.after) (record {
@@ -159,7 +159,7 @@ placed_at i e c sound some apart reach below above = record {
 pub made_adds : (i next : ℕ) (slab : SlabState) (slabs : List SlabState) (x old : CacheState) (span first : Tag) (e : Extent) → x ≡ old → IsSound old → e ≡ span.holding.range → 0 < e.len
     → (Any (λ s. Overlap s.span.range e) x.slabs → ⊥) → i ≤ length x.slabs → ((k : ℕ) (d : SlabState) → k < i → (get_or x.slabs k d).span.range.base < e.base)
     → (i < length x.slabs → (d : SlabState) → e.base ≤ (get_or x.slabs i d).span.range.base)
-    → slab ≡ with_chunk (fresh span.holding x.colour (chunk_of x)) 0 false → slabs ≡ insert x.slabs i slab → next ≡ next_colour old → first ≡ chunk_tag x.arena x.k (fresh span.holding x.colour (chunk_of x)) 0
+    → slab ≡ with_chunk (new_slab span.holding x.colour (chunk_of x)) 0 false → slabs ≡ insert x.slabs i slab → next ≡ next_colour old → first ≡ chunk_tag x.arena x.k (new_slab span.holding x.colour (chunk_of x)) 0
     → Adds i old (record { arena = x.arena; k = x.k; quantum = x.quantum; slab_size = x.slab_size; slabs = slabs; colour = next }) span first
 made_adds i next slab slabs x old span first e view sound range some apart reach below above made put colour tag =
     let placed : IsPlaced i e x.slabs = placed_at i e x (subst IsSound (sym view) sound) some apart reach below above in

@@ -7,7 +7,7 @@ use Rattle.deed_core.specs.Holding.{Holding}
 use Rattle.deed_core.specs.Tag.{Tag}
 use Rattle.deed_core.specs.declared.segments.Route.{Route}
 use Rattle.deed_core.specs.declared.segments.Route.TheVariants.{Direct, Cached}
-use Rattle.slab_layer.specs.Slab.{SlabState, chunk_at, idle_by, out_by, kept_of, gap_of, tail_of, fresh, IsSlab, IsComplete, IsPartial, IsLowestIdle}
+use Rattle.slab_layer.specs.Slab.{SlabState, chunk_at, idle_chunks_by, chunks_out_by, deeds_in, gap_of, tail_of, new_slab, IsSlab, IsComplete, IsPartial, IsLowestIdle}
 
 -- a cache of chunks of k quanta, cut from slabs of one size
 pub record CacheState : Type 0 where
@@ -41,12 +41,12 @@ abbrev pub span_tag : ℕ → SlabState → Tag
 span_tag arena s = record { arena = arena; route = Direct; holding = s.span }
 
 -- all that lies in the cache: colour gaps, idle chunks and tails
-abbrev pub kept : CacheState → List Holding
-kept c = flat_map kept_of c.slabs
+abbrev pub deeds_of : CacheState → List Holding
+deeds_of c = flat_map deeds_in c.slabs
 
 -- the idle chunks, the colour gaps and the tails
 abbrev pub idle_deeds : CacheState → List Holding
-idle_deeds c = flat_map (λ s. idle_by (chunk_at s) s) c.slabs
+idle_deeds c = flat_map (λ s. idle_chunks_by (chunk_at s) s) c.slabs
 
 abbrev pub gaps : CacheState → List Holding
 gaps c = flat_map (λ s. option_to_list (gap_of s)) c.slabs
@@ -55,16 +55,16 @@ abbrev pub tails : CacheState → List Holding
 tails c = flat_map (λ s. option_to_list (tail_of s)) c.slabs
 
 -- the chunks at home
-abbrev pub idle : CacheState → List Tag
-idle c = flat_map (λ s. idle_by (chunk_tag c.arena c.k s) s) c.slabs
+abbrev pub idle_chunks : CacheState → List Tag
+idle_chunks c = flat_map (λ s. idle_chunks_by (chunk_tag c.arena c.k s) s) c.slabs
 
 -- the chunks that are out
-abbrev pub out : CacheState → List Tag
-out c = flat_map (λ s. out_by (chunk_tag c.arena c.k s) s) c.slabs
+abbrev pub chunks_out : CacheState → List Tag
+chunks_out c = flat_map (λ s. chunks_out_by (chunk_tag c.arena c.k s) s) c.slabs
 
 -- the spans of the slabs
-abbrev pub spans : CacheState → List Tag
-spans c = map (span_tag c.arena) c.slabs
+abbrev pub span_tags : CacheState → List Tag
+span_tags c = map (span_tag c.arena) c.slabs
 
 -- s stands at the place i
 pub record StandsAt (i : ℕ) (s : SlabState) (slabs : List SlabState) : Type 0 where
@@ -113,13 +113,13 @@ pub record Adds (i : ℕ) (old new : CacheState) (span first : Tag) : Type 0 whe
   pub within : i ≤ length old.slabs
   pub below : All (λ s. end_of s.span.range ≤ span.holding.range.base) (take i old.slabs)
   pub above : All (λ s. end_of span.holding.range ≤ s.span.range.base) (drop i old.slabs)
-  pub tag : first ≡ chunk_tag old.arena old.k (fresh span.holding old.colour (chunk_of old)) 0
+  pub tag : first ≡ chunk_tag old.arena old.k (new_slab span.holding old.colour (chunk_of old)) 0
   pub after : new ≡ record {
     arena = old.arena;
     k = old.k;
     quantum = old.quantum;
     slab_size = old.slab_size;
-    slabs = insert old.slabs i (with_chunk (fresh span.holding old.colour (chunk_of old)) 0 false);
+    slabs = insert old.slabs i (with_chunk (new_slab span.holding old.colour (chunk_of old)) 0 false);
     colour = next_colour old;
   }
 

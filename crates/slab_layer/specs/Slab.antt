@@ -18,12 +18,12 @@ abbrev pub chunk_at : SlabState → ℕ → Holding
 chunk_at s i = piece s.span.root (s.span.range.base + s.colour + i * s.chunk) s.chunk
 
 -- the units of all chunks
-abbrev pub used : SlabState → ℕ
-used s = length s.home * s.chunk
+abbrev pub used_units : SlabState → ℕ
+used_units s = length s.home * s.chunk
 
 -- the units behind the last chunk
-abbrev pub unused : SlabState → ℕ
-unused s = s.span.range.len - (s.colour + used s)
+abbrev pub unused_units : SlabState → ℕ
+unused_units s = s.span.range.len - (s.colour + used_units s)
 
 -- the units before the first chunk
 abbrev pub gap_of : SlabState → Option Holding
@@ -31,24 +31,24 @@ gap_of s = part s.span.root s.span.range.base s.colour
 
 -- those behind the last one
 abbrev pub tail_of : SlabState → Option Holding
-tail_of s = part s.span.root (s.span.range.base + s.colour + used s) (unused s)
+tail_of s = part s.span.root (s.span.range.base + s.colour + used_units s) (unused_units s)
 
 -- what stands, by f, at the places whose Bool passes; the places count from i
-abbrev pub passing : {X : Type 0} → (Bool → Bool) → (ℕ → X) → ℕ → List Bool → List X
-passing test f i [] = []
-passing test f i (x ∷ xs) = if test x then f i ∷ passing test f (i + 1) xs else passing test f (i + 1) xs
+abbrev pub items_where : {X : Type 0} → (Bool → Bool) → (ℕ → X) → ℕ → List Bool → List X
+items_where test f i [] = []
+items_where test f i (x ∷ xs) = if test x then f i ∷ items_where test f (i + 1) xs else items_where test f (i + 1) xs
 
 -- by f, what the chunks at home are
-abbrev pub idle_by : {X : Type 0} → (ℕ → X) → SlabState → List X
-idle_by f s = passing (λ b. b) f 0 s.home
+abbrev pub idle_chunks_by : {X : Type 0} → (ℕ → X) → SlabState → List X
+idle_chunks_by f s = items_where (λ b. b) f 0 s.home
 
 -- and what those that are out are
-abbrev pub out_by : {X : Type 0} → (ℕ → X) → SlabState → List X
-out_by f s = passing not f 0 s.home
+abbrev pub chunks_out_by : {X : Type 0} → (ℕ → X) → SlabState → List X
+chunks_out_by f s = items_where not f 0 s.home
 
 -- all that lies in a slab: the colour gap, the idle chunks and the tail
-abbrev pub kept_of : SlabState → List Holding
-kept_of s = option_to_list (gap_of s) ++ (idle_by (chunk_at s) s ++ option_to_list (tail_of s))
+abbrev pub deeds_in : SlabState → List Holding
+deeds_in s = option_to_list (gap_of s) ++ (idle_chunks_by (chunk_at s) s ++ option_to_list (tail_of s))
 
 -- the units of deeds
 abbrev pub units : List Holding → ℕ
@@ -75,20 +75,20 @@ pub record IsLowestIdle (j : ℕ) (home : List Bool) : Type 0 where
 -- the chunks have units, and lie in the span
 pub record IsSlab (s : SlabState) : Type 0 where
   pub some : 0 < s.chunk
-  pub room : s.colour + used s ≤ s.span.range.len
+  pub room : s.colour + used_units s ≤ s.span.range.len
 
 -- a span as a new slab
-abbrev pub fresh : Holding → ℕ → ℕ → SlabState
-fresh span colour chunk = record { span = span; colour = colour; chunk = chunk; home = replicate (span.range.len / chunk) true }
+abbrev pub new_slab : Holding → ℕ → ℕ → SlabState
+new_slab span colour chunk = record { span = span; colour = colour; chunk = chunk; home = replicate (span.range.len / chunk) true }
 
 -- the deeds at the places, where the chunks are at home
-abbrev pub stored : (ℕ → Holding) → ℕ → List Bool → List (Option Holding)
-stored f i [] = []
-stored f i (x ∷ xs) = (if x then Some (f i) else None) ∷ stored f (i + 1) xs
+abbrev pub stored_row : (ℕ → Holding) → ℕ → List Bool → List (Option Holding)
+stored_row f i [] = []
+stored_row f i (x ∷ xs) = (if x then Some (f i) else None) ∷ stored_row f (i + 1) xs
 
 -- the deeds of a slab are those of its parts
 pub record IsStored (s : SlabState) (first : Option Holding) (row : List (Option Holding)) (last : Option Holding) : Type 0 where
   pub shape : IsSlab s
   pub gap : first ≡ gap_of s
-  pub chunks : row ≡ stored (chunk_at s) 0 s.home
+  pub chunks : row ≡ stored_row (chunk_at s) 0 s.home
   pub tail : last ≡ tail_of s

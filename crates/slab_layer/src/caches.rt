@@ -4,7 +4,7 @@ ghost use Rattle.deed_core.specs.Extent.{Overlap};
 ghost use Rattle.deed_core.specs.Covering.{covering_held, covering_tags, covers_tag};
 ghost use Rattle.deed_core.specs.Weights.{Gains, Loses, WeighSame};
 ghost use Rattle.slab_layer.specs.Slab.{SlabState, IsAllOut, IsComplete, units};
-ghost use Rattle.slab_layer.specs.Cache.{IsSound, Adds, Puts, Reaps, Takes, chunk_of, next_colour as next_colour_of, idle, idle_deeds, gaps, tails, kept, out, spans};
+ghost use Rattle.slab_layer.specs.Cache.{IsSound, Adds, Puts, Reaps, Takes, chunk_of, next_colour as next_colour_of, idle_chunks, idle_deeds, gaps, tails, deeds_of, chunks_out, span_tags};
 
 use crate::faults::{AddFault, PutFault};
 use crate::reports::{SlabReport, are_empty, discard_all, total};
@@ -76,9 +76,9 @@ impl<D: Deed> SlabCache<D> {
         ensures unchanged { IfNone result (self.new ≡ self.old) }
 
         // Whatever is counted: the chunk is out, and no longer here.
-        ensures out { IfSome result (λ t. Gains (out self.old) (out self.new) t) }
-        ensures kept { IfSome result (λ t. Loses (kept self.old) (kept self.new) t.holding) }
-        ensures spans { spans self.new ≡ spans self.old }
+        ensures out { IfSome result (λ t. Gains (chunks_out self.old) (chunks_out self.new) t) }
+        ensures kept { IfSome result (λ t. Loses (deeds_of self.old) (deeds_of self.new) t.holding) }
+        ensures spans { span_tags self.new ≡ span_tags self.old }
     {
         let Some((i, j)) = next_chunk(&self.slabs) else {
             return None;
@@ -90,17 +90,17 @@ impl<D: Deed> SlabCache<D> {
 
     /// Takes a chunk back.
     pub fn put(&mut self, segment: Segment<D>) -> Result<(), (Segment<D>, PutFault)>
-        ensures mine { IsOk result ↔ Contains (out self.old) segment }
-        ensures at_home { IsErrAnd result (λ e. e.1 ≡ PutFault.AtHome) ↔ Contains (idle self.old) segment }
-        ensures not_mine { IsErrAnd result (λ e. e.1 ≡ PutFault.NotMine) ↔ (¬ Contains (out self.old) segment × ¬ Contains (idle self.old) segment) }
+        ensures mine { IsOk result ↔ Contains (chunks_out self.old) segment }
+        ensures at_home { IsErrAnd result (λ e. e.1 ≡ PutFault.AtHome) ↔ Contains (idle_chunks self.old) segment }
+        ensures not_mine { IsErrAnd result (λ e. e.1 ≡ PutFault.NotMine) ↔ (¬ Contains (chunks_out self.old) segment × ¬ Contains (idle_chunks self.old) segment) }
         ensures ok { OnOk result ((i j : ℕ) × (s : SlabState) × Puts i j s self.old self.new segment) }
         ensures same { IfErr result (λ e. e.0 ≡ segment) }
         ensures unchanged { OnErr result (self.new ≡ self.old) }
 
         // Whatever is counted: the chunk is here, and no longer out.
-        ensures out { OnOk result (Loses (out self.old) (out self.new) segment) }
-        ensures kept { OnOk result (Gains (kept self.old) (kept self.new) segment.holding) }
-        ensures spans { spans self.new ≡ spans self.old }
+        ensures out { OnOk result (Loses (chunks_out self.old) (chunks_out self.new) segment) }
+        ensures kept { OnOk result (Gains (deeds_of self.old) (deeds_of self.new) segment.holding) }
+        ensures spans { span_tags self.new ≡ span_tags self.old }
     {
         if !self.is_routed_here(&segment) {
             return Err((segment, PutFault::NotMine));
@@ -127,9 +127,9 @@ impl<D: Deed> SlabCache<D> {
         ensures unchanged { OnErr result (self.new ≡ self.old) }
 
         // Whatever is counted: the span came in, and its first chunk is out. Each of its other units is kept.
-        ensures out { IfOk result (λ t. Gains (out self.old) (out self.new) t) }
-        ensures kept { IfOk result (λ t. (u : ℕ) → covering_held u (kept self.old) + covers_tag u span ≡ covering_held u (kept self.new) + covers_tag u t) }
-        ensures spans { OnOk result (Gains (spans self.old) (spans self.new) span) }
+        ensures out { IfOk result (λ t. Gains (chunks_out self.old) (chunks_out self.new) t) }
+        ensures kept { IfOk result (λ t. (u : ℕ) → covering_held u (deeds_of self.old) + covers_tag u span ≡ covering_held u (deeds_of self.new) + covers_tag u t) }
+        ensures spans { OnOk result (Gains (span_tags self.old) (span_tags self.new) span) }
     {
         let range = span.range();
         let chunk = self.chunk();
@@ -196,9 +196,9 @@ impl<D: Deed> SlabCache<D> {
         ensures unchanged { IfNone result (self.new ≡ self.old) }
 
         // Whatever is counted: the span left, and no chunk of it was out.
-        ensures out { WeighSame (out self.old) (out self.new) }
-        ensures kept { IfSome result (λ t. (u : ℕ) → covering_held u (kept self.old) ≡ covering_held u (kept self.new) + covers_tag u t) }
-        ensures spans { IfSome result (λ t. Loses (spans self.old) (spans self.new) t) }
+        ensures out { WeighSame (chunks_out self.old) (chunks_out self.new) }
+        ensures kept { IfSome result (λ t. (u : ℕ) → covering_held u (deeds_of self.old) ≡ covering_held u (deeds_of self.new) + covers_tag u t) }
+        ensures spans { IfSome result (λ t. Loses (span_tags self.old) (span_tags self.new) t) }
     {
         let Some(i) = lowest_complete(&self.slabs) else {
             return None;
@@ -212,17 +212,17 @@ impl<D: Deed> SlabCache<D> {
         ensures idle { result.idle ≡ units (idle_deeds self.now) }
         ensures gap { result.gap ≡ units (gaps self.now) }
         ensures tail { result.tail ≡ units (tails self.now) }
-        ensures kept { result.idle + result.gap + result.tail ≡ units (kept self.now) }
+        ensures kept { result.idle + result.gap + result.tail ≡ units (deeds_of self.now) }
 
         // Each unit of a slab is in one chunk, at home or out, in the gap or in the tail.
-        ensures tiled { (u : ℕ) → covering_held u (kept self.now) + covering_tags u (out self.now) ≡ covering_tags u (spans self.now) }
+        ensures tiled { (u : ℕ) → covering_held u (deeds_of self.now) + covering_tags u (chunks_out self.now) ≡ covering_tags u (span_tags self.now) }
     {
         total(&self.slabs)
     }
 
     /// Ends the cache where no deed lies in it.
     pub fn close(self) -> Result<(), SlabCache<D>>
-        ensures empty { IsOk result ↔ (kept self ≡ []) }
+        ensures empty { IsOk result ↔ (deeds_of self ≡ []) }
         ensures same { IfErr result (λ same. same ≡ self) }
     {
         if !are_empty(&self.slabs) {

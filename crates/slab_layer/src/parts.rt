@@ -1,6 +1,6 @@
 //! Deeds that are missing where they would cover nothing: a colour gap of colour 0, a tail of no units.
 ghost use Rattle.std.specs.Prelude.{◌≡◌, IfOk, IfErr};
-ghost use Rattle.slab_layer.specs.Parts.{front, back, Follows, both};
+ghost use Rattle.slab_layer.specs.Parts.{front_of, back_of, Follows, joined_parts};
 
 use deed_core::{Deed, Stored};
 
@@ -9,7 +9,7 @@ pub type Cut<D> = (Option<Stored<D>>, Option<Stored<D>>);
 
 /// Cuts a part behind its first `len` units, or gives it back as it was.
 pub fn cut<D: Deed>(part: Option<Stored<D>>, len: u64) -> Result<Cut<D>, Option<Stored<D>>>
-    ensures ok { IfOk result (λ parts. (parts.0 ≡ front len part) × (parts.1 ≡ back len part)) }
+    ensures ok { IfOk result (λ parts. (parts.0 ≡ front_of len part) × (parts.1 ≡ back_of len part)) }
     ensures err { IfErr result (λ same. same ≡ part) }
 {
     let Some(deed) = part else {
@@ -32,7 +32,7 @@ pub fn cut<D: Deed>(part: Option<Stored<D>>, len: u64) -> Result<Cut<D>, Option<
 /// Joins a part and the one that goes on from it.
 pub fn join<D: Deed>(low: Option<Stored<D>>, high: Option<Stored<D>>) -> Option<Stored<D>>
     requires { Follows low high }
-    ensures { result ≡ both low high }
+    ensures { result ≡ joined_parts low high }
 {
     let Some(first) = low else {
         return high;

@@ -1,7 +1,7 @@
 //! What the slabs of a cache hold, together.
 ghost use Rattle.std.specs.Prelude.{◌≡◌, ◌^◌, ◌≤◌, ◌↔◌, [], All, IsTrue, sum_by};
 ghost use Rattle.std.specs.Option.{option_to_list};
-ghost use Rattle.slab_layer.specs.Slab.{chunk_at, gap_of, tail_of, idle_by, kept_of, units};
+ghost use Rattle.slab_layer.specs.Slab.{chunk_at, gap_of, tail_of, idle_chunks_by, deeds_in, units};
 
 use crate::slabs::Slab;
 use deed_core::Deed;
@@ -17,7 +17,7 @@ pub struct SlabReport {
 /// The sums over the slabs.
 pub fn total<D: Deed>(slabs: &[Slab<D>]) -> SlabReport
     requires { sum_by (λ s. s.span.range.len) slabs.now ≤ 2 ^ 62 }
-    ensures idle { result.idle ≡ sum_by (λ s. units (idle_by (chunk_at s) s)) slabs.now }
+    ensures idle { result.idle ≡ sum_by (λ s. units (idle_chunks_by (chunk_at s) s)) slabs.now }
     ensures gap { result.gap ≡ sum_by (λ s. units (option_to_list (gap_of s))) slabs.now }
     ensures tail { result.tail ≡ sum_by (λ s. units (option_to_list (tail_of s))) slabs.now }
 {
@@ -34,7 +34,7 @@ pub fn total<D: Deed>(slabs: &[Slab<D>]) -> SlabReport
 
 /// Whether no deed lies in any slab.
 pub fn are_empty<D: Deed>(slabs: &[Slab<D>]) -> bool
-    ensures { IsTrue result ↔ All (λ s. kept_of s ≡ []) slabs.now }
+    ensures { IsTrue result ↔ All (λ s. deeds_in s ≡ []) slabs.now }
 {
     for slab in slabs {
         if !slab.is_empty() {
@@ -46,7 +46,7 @@ pub fn are_empty<D: Deed>(slabs: &[Slab<D>]) -> bool
 
 /// Ends slabs in which no deed lies.
 pub fn discard_all<D: Deed>(slabs: Vec<Slab<D>>)
-    requires { All (λ s. kept_of s ≡ []) slabs.items }
+    requires { All (λ s. deeds_in s ≡ []) slabs.items }
 {
     let mut slabs = slabs;
     while let Some(slab) = slabs.pop() {

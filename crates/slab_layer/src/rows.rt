@@ -1,7 +1,7 @@
 //! A deed cut into a row of chunks, and a row joined.
 ghost use Rattle.std.specs.Prelude.{◌≡◌, ◌+◌, ◌-◌, ◌*◌, ◌<◌, ◌≤◌, ◌↔◌, [], true, false, length, map, is_some, replicate, count_by, All, IsTrue, vec_capacity, MatchOption, IfOk, IfErr, OnOk, OnErr};
-ghost use Rattle.slab_layer.specs.Parts.{piece, part, IsRow, all};
-ghost use Rattle.slab_layer.specs.Slab.{IsLowestIdle, stored};
+ghost use Rattle.slab_layer.specs.Parts.{piece, part, IsRow, joined_row};
+ghost use Rattle.slab_layer.specs.Slab.{IsLowestIdle, stored_row};
 
 use crate::parts::{cut, join};
 use deed_core::{Deed, Stored};
@@ -53,7 +53,7 @@ pub fn unchop<D: Deed>(
     rest: Option<Stored<D>>,
 ) -> Option<Stored<D>>
     requires { IsRow row.old.items rest }
-    ensures joined { result ≡ all row.old.items rest }
+    ensures joined { result ≡ joined_row row.old.items rest }
     ensures empty { row.new.items ≡ [] }
 {
     let mut rest = rest;
@@ -75,7 +75,7 @@ pub fn chop<D: Deed>(
     requires some { 0 < chunk }
     requires room { count * chunk ≤ whole.range.len }
     ensures ok { IfOk result (λ rest. rest ≡ part whole.root (whole.range.base + count * chunk) (whole.range.len - count * chunk)) }
-    ensures row { OnOk result (row.new.items ≡ stored (λ i. piece whole.root (whole.range.base + i * chunk) chunk) 0 (replicate count true)) }
+    ensures row { OnOk result (row.new.items ≡ stored_row (λ i. piece whole.root (whole.range.base + i * chunk) chunk) 0 (replicate count true)) }
     ensures err { IfErr result (λ same. same ≡ whole) }
     ensures err_row { OnErr result (row.new.items ≡ []) }
 {

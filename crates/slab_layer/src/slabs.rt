@@ -2,7 +2,7 @@
 ghost use Rattle.std.specs.Prelude.{◌≡◌, ◌≢◌, ℕ, ◌+◌, ◌*◌, ◌/◌, ◌<◌, ◌≤◌, ◌↔◌, [], true, false, length, All, slice_index_or, slice_set, IsTrue, IfOk, IfErr, MatchOption};
 ghost use Rattle.std.specs.Option.{option_to_list};
 ghost use Rattle.deed_core.specs.Extent.{IsRange};
-ghost use Rattle.slab_layer.specs.Slab.{SlabState, IsComplete, IsPartial, IsLowestIdle, chunk_at, fresh, gap_of, tail_of, idle_by, kept_of, units};
+ghost use Rattle.slab_layer.specs.Slab.{SlabState, IsComplete, IsPartial, IsLowestIdle, chunk_at, new_slab, gap_of, tail_of, idle_chunks_by, deeds_in, units};
 
 use crate::parts::{cut, join};
 use crate::rows::{are_some, chop, count_some, first_some, unchop};
@@ -44,7 +44,7 @@ impl<D: Deed> Slab<D> {
         requires some { 0 < chunk }
         requires chunks { 0 < deed.range.len / chunk }
         requires room { colour + deed.range.len / chunk * chunk ≤ deed.range.len }
-        ensures ok { IfOk result (λ slab. slab ≡ fresh deed colour chunk) }
+        ensures ok { IfOk result (λ slab. slab ≡ new_slab deed colour chunk) }
         ensures err { IfErr result (λ same. same ≡ deed) }
     {
         let root = deed.root();
@@ -184,7 +184,7 @@ impl<D: Deed> Slab<D> {
 
     /// The units of the chunks at home.
     pub fn idle(&self) -> u64
-        ensures value { result ≡ units (idle_by (chunk_at self.now) self.now) }
+        ensures value { result ≡ units (idle_chunks_by (chunk_at self.now) self.now) }
         ensures bound { result ≤ self.now.span.range.len }
     {
         let _ = self.span.len();
@@ -212,7 +212,7 @@ impl<D: Deed> Slab<D> {
 
     /// Whether no deed lies here.
     pub fn is_empty(&self) -> bool
-        ensures { IsTrue result ↔ (kept_of self.now ≡ []) }
+        ensures { IsTrue result ↔ (deeds_in self.now ≡ []) }
     {
         if self.gap.is_some() {
             return false;
@@ -225,7 +225,7 @@ impl<D: Deed> Slab<D> {
 
     /// Ends a slab in which no deed lies.
     pub fn discard(self)
-        requires { kept_of self ≡ [] }
+        requires { deeds_in self ≡ [] }
     {
         let Slab {
             root: _,

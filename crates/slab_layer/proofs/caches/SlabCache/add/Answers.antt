@@ -4,7 +4,7 @@ use Rattle.deed_core.specs.Extent.{Extent, Overlap, end_of}
 use Rattle.deed_core.specs.Holding.{Holding}
 use Rattle.deed_core.specs.Tag.{Tag}
 use Rattle.deed_core.specs.declared.segments.Route.TheVariants.{Direct, Cached}
-use Rattle.slab_layer.specs.Slab.{SlabState, chunk_at, fresh}
+use Rattle.slab_layer.specs.Slab.{SlabState, chunk_at, new_slab}
 use Rattle.slab_layer.specs.Cache.{CacheState, chunk_of, with_chunk}
 use Rattle.slab_layer.proofs.SoundLemmas.{made_adds, sound_adds, some_chunk}
 use Rattle.slab_layer.proofs.MoveLemmas.{fresh_first, fresh_is_slab, adds_out, adds_kept, adds_spans}
@@ -38,7 +38,7 @@ pub returns-clause-ok : goal.returns-clause-ok
 returns-clause-ok g c =
     let deed = c.new-deed.ensures ∙ c.into_deed.ensures in
     let chunk = c.chunk-chunk.ensures.value ∙ ap chunk_of (sym c.self.view_is) in
-    let slab = c.in-Ok-new.ensures.ok ∙ ap (λ (h : Holding). fresh h c.self.inside.colour c.chunk-chunk.result) deed ∙ ap (λ (n : ℕ). fresh c.args.span.holding c.self.inside.colour n) chunk in
+    let slab = c.in-Ok-new.ensures.ok ∙ ap (λ (h : Holding). new_slab h c.self.inside.colour c.chunk-chunk.result) deed ∙ ap (λ (n : ℕ). new_slab c.args.span.holding c.self.inside.colour n) chunk in
     let after = c.take-first.ensures.after ∙ ap (λ (s : SlabState). with_chunk s 0 false) slab in
     let said = rw c.deref.ensures.value at c.overlaps.ensures in
     let apart : Any (λ (s : SlabState). Overlap s.span.range c.range-range.result) c.self.inside.slabs.items → ⊥ = λ any. let e : c.overlaps.result ≡ true = said.1 any in let f = c.if-overlaps.false in cc in

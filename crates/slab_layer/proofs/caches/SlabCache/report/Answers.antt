@@ -2,7 +2,7 @@ use Rattle.std.proofs.Common.{◌≡◌, ◌+◌, ◌≤◌, ◌^◌, ℕ, ◌�
 use Rattle.std.specs.Prelude.{sum_by}
 use Rattle.std.specs.Option.{option_to_list}
 use Rattle.deed_core.specs.Holding.{Holding}
-use Rattle.slab_layer.specs.Slab.{SlabState, units, idle_by, chunk_at, gap_of, tail_of}
+use Rattle.slab_layer.specs.Slab.{SlabState, units, idle_chunks_by, chunk_at, gap_of, tail_of}
 use Rattle.slab_layer.specs.Cache.{CacheState, IsSound, idle_deeds, gaps, tails}
 use Rattle.slab_layer.proofs.ListLemmas.{sum_by-flat_map}
 use Rattle.slab_layer.proofs.ReportLemmas.{spans_fit, kept_units, tiled}
@@ -14,7 +14,7 @@ total-requires g c = rw c.deref.ensures.value (spans_fit _ c.self.invariant)
 pub returns-clause-idle : goal.returns-clause-idle
 returns-clause-idle g c =
     let said = rw c.deref.ensures.value at c.total.ensures.idle in
-    let all = said ∙ sym (sum_by-flat_map (λ (h : Holding). h.range.len) (λ (s : SlabState). idle_by (chunk_at s) s) c.self.inside.slabs.items) in
+    let all = said ∙ sym (sum_by-flat_map (λ (h : Holding). h.range.len) (λ (s : SlabState). idle_chunks_by (chunk_at s) s) c.self.inside.slabs.items) in
     subst (λ (x : CacheState). c.total.result.idle ≡ units (idle_deeds x)) c.self.view_is all
 
 pub returns-clause-gap : goal.returns-clause-gap
