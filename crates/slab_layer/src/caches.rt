@@ -80,9 +80,7 @@ impl<D: Deed> SlabCache<D> {
         ensures kept { IfSome result (λ t. Loses (deeds_of self.old) (deeds_of self.new) t.holding) }
         ensures spans { span_tags self.new ≡ span_tags self.old }
     {
-        let Some((i, j)) = next_chunk(&self.slabs) else {
-            return None;
-        };
+        let (i, j) = next_chunk(&self.slabs)?;
         let slab = &mut self.slabs[i];
         let deed = slab.take(j);
         Some(Segment::new(self.arena, Route::Cached(self.k), deed.into_deed()))
@@ -200,9 +198,7 @@ impl<D: Deed> SlabCache<D> {
         ensures kept { IfSome result (λ t. (u : ℕ) → covering_held u (deeds_of self.old) ≡ covering_held u (deeds_of self.new) + covers_tag u t) }
         ensures spans { IfSome result (λ t. Loses (span_tags self.old) (span_tags self.new) t) }
     {
-        let Some(i) = lowest_complete(&self.slabs) else {
-            return None;
-        };
+        let i = lowest_complete(&self.slabs)?;
         let slab = self.slabs.remove(i);
         Some(Segment::new(self.arena, Route::Direct, slab.into_span().into_deed()))
     }

@@ -7,7 +7,6 @@ use crate::parts::{cut, join};
 use deed_core::{Deed, Stored};
 
 /// The first place with a deed.
-#[tactic(auto, using(crate::proofs::RowLemmas::some_at))]
 pub fn first_some<D: Deed>(row: &[Option<Stored<D>>]) -> Option<usize>
     ensures { MatchOption result (All (λ b. b ≡ false) (map is_some row.now)) (λ j. IsLowestIdle j (map is_some row.now)) }
 {
@@ -20,7 +19,6 @@ pub fn first_some<D: Deed>(row: &[Option<Stored<D>>]) -> Option<usize>
 }
 
 /// Whether each place has a deed.
-#[tactic(auto, using(crate::proofs::RowLemmas::some_at))]
 pub fn are_some<D: Deed>(row: &[Option<Stored<D>>]) -> bool
     ensures { IsTrue result ↔ All (λ b. b ≡ true) (map is_some row.now) }
 {
@@ -33,7 +31,6 @@ pub fn are_some<D: Deed>(row: &[Option<Stored<D>>]) -> bool
 }
 
 /// How many places have a deed.
-#[tactic(auto, using(crate::proofs::RowLemmas::some_at))]
 pub fn count_some<D: Deed>(row: &[Option<Stored<D>>]) -> usize
     ensures count { result ≡ count_by (λ b. b) (map is_some row.now) }
     ensures bound { result ≤ length row.now }

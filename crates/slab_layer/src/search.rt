@@ -12,8 +12,8 @@ pub fn lowest_partial<D: Deed>(slabs: &[Slab<D>]) -> Option<usize>
     requires { AllPairs IsBelow slabs.now }
     ensures { MatchOption result (All (λ s. ¬ IsPartial s) slabs.now) (λ i. (s : SlabState) × IsLowest IsPartial i s slabs.now) }
 {
-    for i in 0..slabs.len() {
-        if slabs[i].is_partial() {
+    for (i, slab) in slabs.iter().enumerate() {
+        if slab.is_partial() {
             return Some(i);
         }
     }
@@ -25,8 +25,8 @@ pub fn lowest_complete<D: Deed>(slabs: &[Slab<D>]) -> Option<usize>
     requires { AllPairs IsBelow slabs.now }
     ensures { MatchOption result (All (λ s. ¬ IsComplete s) slabs.now) (λ i. (s : SlabState) × IsLowest IsComplete i s slabs.now) }
 {
-    for i in 0..slabs.len() {
-        if slabs[i].is_complete() {
+    for (i, slab) in slabs.iter().enumerate() {
+        if slab.is_complete() {
             return Some(i);
         }
     }
@@ -50,12 +50,8 @@ pub fn next_chunk<D: Deed>(slabs: &[Slab<D>]) -> Option<(usize, usize)>
     requires some { All (λ s. 0 < length s.home) slabs.now }
     ensures { MatchOption result (All IsAllOut slabs.now) (λ p. (s : SlabState) × IsNext p.0 s slabs.now × IsLowestIdle p.1 s.home) }
 {
-    let Some(i) = next_slab(slabs) else {
-        return None;
-    };
-    let Some(j) = slabs[i].first_idle() else {
-        return None;
-    };
+    let i = next_slab(slabs)?;
+    let j = slabs[i].first_idle()?;
     Some((i, j))
 }
 
@@ -63,8 +59,8 @@ pub fn next_chunk<D: Deed>(slabs: &[Slab<D>]) -> Option<(usize, usize)>
 pub fn find_chunk<D: Deed>(slabs: &[Slab<D>], root: u32, range: Range) -> Option<(usize, usize)>
     ensures { MatchOption result (All (λ s. (j : ℕ) → j < length s.home → chunk_at s j ≢ record { root = root; range = range }) slabs.now) (λ p. (s : SlabState) × StandsAt p.0 s slabs.now × (p.1 < length s.home) × (chunk_at s p.1 ≡ record { root = root; range = range })) }
 {
-    for i in 0..slabs.len() {
-        if let Some(j) = slabs[i].place_of(root, range) {
+    for (i, slab) in slabs.iter().enumerate() {
+        if let Some(j) = slab.place_of(root, range) {
             return Some((i, j));
         }
     }
@@ -89,8 +85,8 @@ pub fn place_for<D: Deed>(slabs: &[Slab<D>], base: u64) -> usize
     ensures below { (k : ℕ) (d : SlabState) → k < result → (slice_index_or slabs.now k d).span.range.base < base }
     ensures above { result < length slabs.now → (d : SlabState) → base ≤ (slice_index_or slabs.now result d).span.range.base }
 {
-    for i in 0..slabs.len() {
-        if slabs[i].span().base() >= base {
+    for (i, slab) in slabs.iter().enumerate() {
+        if slab.span().base() >= base {
             return i;
         }
     }

@@ -140,8 +140,8 @@ impl<D: Deed> Slab<D> {
         self.home[j].is_some()
     }
 
-    #[tactic(auto, using(crate::proofs::SlabLemmas::places))]
     /// Which chunk covers this range of this root.
+    #[tactic(auto, using(crate::proofs::SlabLemmas::places))]
     pub fn place_of(&self, root: u32, range: Range) -> Option<usize>
         ensures { MatchOption result ((j : ℕ) → j < length self.now.home → chunk_at self.now j ≢ record { root = root; range = range }) (λ j. (j < length self.now.home) × (chunk_at self.now j ≡ record { root = root; range = range })) }
     {

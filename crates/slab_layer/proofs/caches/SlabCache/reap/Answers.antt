@@ -11,15 +11,15 @@ use Rattle.slab_layer.proofs.caches.SlabCache.reap.Goals as goal
 
 pub into_span-requires : goal.into_span-requires
 into_span-requires g c =
-    let lowest = rw c.deref.ensures.value at c.in-Some.ensures in
-    let same = same_slab c.in-Some.i lowest.0 c.remove-slab.result c.self.inside.slabs.items lowest.1.stands c.remove-slab.ensures.value in
+    let lowest = rw c.deref.ensures.value at c.in_ok-i.ensures in
+    let same = same_slab c.in_ok-i.i lowest.0 c.remove-slab.result c.self.inside.slabs.items lowest.1.stands c.remove-slab.ensures.value in
     subst (λ (s : SlabState). IsComplete s) (sym same) lowest.1.so
 
 pub returns-clause-some : goal.returns-clause-some
 returns-clause-some g c =
-    let lowest = rw c.deref.ensures.value at c.in-Some.ensures in
+    let lowest = rw c.deref.ensures.value at c.in_ok-i.ensures in
     let tag = c.new.ensures ∙ ap (λ (h : Holding). let t : Tag = record { arena = c.self.inside.arena; route = Direct; holding = h } in t) (c.into_deed.ensures ∙ c.into_span.ensures) in
-    (c.in-Some.i, lowest.0, made_reaps c.in-Some.i lowest.0 c.remove-slab.result c.remove-slab.new.self.items _ _ _ c.self.view_is lowest.1 c.remove-slab.ensures.value c.remove-slab.ensures.items tag)
+    (c.in_ok-i.i, lowest.0, made_reaps c.in_ok-i.i lowest.0 c.remove-slab.result c.remove-slab.new.self.items _ _ _ c.self.view_is lowest.1 c.remove-slab.ensures.value c.remove-slab.ensures.items tag)
 
 pub invariant_of-self : goal.invariant_of-self
 invariant_of-self g c =
@@ -31,11 +31,11 @@ returns-clause-none g c =
     let reaps = returns-clause-some g c in
     (λ e. cc, λ none. absurd (not_none_complete _ _ _ reaps.2.lowest none))
 
-pub returns-in_default-clause-none : goal.returns-in_default-clause-none
-returns-in_default-clause-none g c =
-    let none = rw c.deref.ensures.value at c.in_default.ensures in
+pub returns-in_err-i-clause-none : goal.returns-in_err-i-clause-none
+returns-in_err-i-clause-none g c =
+    let none = rw c.deref.ensures.value at c.in_err-i.ensures in
     let here = subst (λ (x : CacheState). All (λ s. IsComplete s → ⊥) x.slabs) c.self.view_is none in
-    (λ e. here, λ all. refl)
+    rw c.from_residual.ensures (λ e. here, λ all. refl)
 
 pub returns-clause-out : goal.returns-clause-out
 returns-clause-out g c = let reaps = returns-clause-some g c in reaps_out _ _ _ _ _ reaps.2

@@ -10,9 +10,9 @@ use Rattle.slab_layer.proofs.caches.SlabCache.take.Goals as goal
 
 pub returns-clause-some : goal.returns-clause-some
 returns-clause-some g c =
-    let next = rw c.deref.ensures.value at c.in-Some.ensures in
+    let next = rw c.deref.ensures.value at c.in_ok-i.ensures in
     let tag = c.new.ensures ∙ ap (λ (h : Holding). let t : Tag = record { arena = c.self.inside.arena; route = Cached c.self.inside.k; holding = h } in t) (c.into_deed.ensures ∙ c.take-deed.ensures.chunk) in
-    (c.in-Some.i, c.in-Some.j, next.0, made_takes c.in-Some.i c.in-Some.j next.0 c.index_mut-slab.result.now c.take-deed.new.self _ _ _ c.self.view_is next.1 next.2 c.index_mut-slab.ensures.value c.take-deed.ensures.after tag)
+    (c.in_ok-i.i, c.in_ok-i.j, next.0, made_takes c.in_ok-i.i c.in_ok-i.j next.0 c.index_mut-slab.result.now c.take-deed.new.self _ _ _ c.self.view_is next.1 next.2 c.index_mut-slab.ensures.value c.take-deed.ensures.after tag)
 
 pub invariant_of-self : goal.invariant_of-self
 invariant_of-self g c =
