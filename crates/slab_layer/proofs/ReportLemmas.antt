@@ -1,5 +1,5 @@
 -- The sums over the slabs of a cache.
-use Rattle.std.proofs.Common.{◌≡◌, ℕ, zero, suc, ◌+◌, ◌-◌, ◌*◌, ◌<◌, ◌≤◌, ◌^◌, Bool, true, false, not, List, [], ◌∷◌, ◌++◌, length, get_or, map, All, AllPairs, refl, sym, ap, ◌∙◌, arith, subst, if◌then◌else◌}
+use Rattle.std.proofs.Common.{◌≡◌, inl, inr, ℕ, zero, suc, ◌+◌, ◌-◌, ◌*◌, ◌<◌, ◌≤◌, ◌^◌, Bool, true, false, not, List, [], ◌∷◌, ◌++◌, length, get_or, map, All, AllPairs, refl, sym, ap, ◌∙◌, arith, subst, if◌then◌else◌}
 use Rattle.std.specs.Prelude.{sum_by}
 use Rattle.std.specs.List.{flat_map}
 use Rattle.std.specs.Option.{option_to_list}
@@ -9,6 +9,7 @@ use Rattle.deed_core.specs.Extent.{end_of}
 use Rattle.deed_core.specs.Holding.{Holding}
 use Rattle.deed_core.specs.Tag.{Tag}
 use Rattle.deed_core.specs.Covering.{covers, covers_held, covers_tag, covering_held, covering_tags}
+use Rattle.deed_core.proofs.Units.{covers_is}
 use Rattle.slab_layer.specs.Slab.{SlabState, IsSlab, chunk_at, gap_of, tail_of, idle_chunks_by, chunks_out_by, deeds_in, items_where, units}
 use Rattle.slab_layer.specs.Cache.{CacheState, IsBelow, IsOfSize, IsSound, chunk_of, chunk_tag, span_tag, deeds_of, chunks_out, span_tags, idle_deeds, gaps, tails}
 use Rattle.slab_layer.proofs.PassingLemmas.{sum_by-items_where-cons}
@@ -78,3 +79,22 @@ kept_none [] none = λ k d within. absurd (omega arith)
 kept_none (s ∷ ss) none =
     let parts = append_nil (deeds_in s) (flat_map deeds_in ss) none in
     All-cons (λ x. deeds_in x ≡ []) s ss parts.0 (kept_none ss parts.1)
+
+-- slabs by ascending base have no unit in common
+once_from : (u m : ℕ) (slabs : List SlabState) → All (λ s. m ≤ s.span.range.base) slabs → AllPairs IsBelow slabs
+    → (sum_by (λ s. covers u s.span.range) slabs ≤ 1) × (u < m → sum_by (λ s. covers u s.span.range) slabs ≡ 0)
+once_from u m [] above ascending = (omega arith, λ low. refl)
+once_from u m (s ∷ ss) above ascending =
+    let here = All-head (λ x. m ≤ x.span.range.base) s ss above in
+    let next : All (λ x. end_of s.span.range ≤ x.span.range.base) ss = λ k d within. ascending 0 (suc k) d (omega arith) (omega arith) in
+    let rest = once_from u (end_of s.span.range) ss next (λ i j d before within. ascending (suc i) (suc j) d (omega arith) (omega arith)) in
+    let all = sum_by-cons (λ x. covers u x.span.range) s ss in
+    elim (covers_is u s.span.range) [
+      | inl in_it ↦ let none = rest.1 in_it.2 in (omega (arith, all, none, in_it.0), λ low. absurd (omega (arith, here, in_it.1)))
+      | inr not_in ↦ (omega (arith, all, rest.0, not_in.0), λ low. let none = rest.1 (omega (arith, here)) in omega (arith, all, none, not_in.0))
+    ]
+
+pub once : (c : CacheState) → IsSound c → (u : ℕ) → covering_tags u (span_tags c) ≤ 1
+once c sound u =
+    let all = (once_from u 0 c.slabs (λ k d within. omega arith) sound.ascending).0 in
+    omega (arith, all, sum_by-map (covers_tag u) (span_tag c.arena) c.slabs)

@@ -211,6 +211,7 @@ impl<D: Deed> SlabCache<D> {
         ensures kept { result.idle + result.gap + result.tail ≡ units (deeds_of self.now) }
 
         // Each unit of a slab is in one chunk, at home or out, in the gap or in the tail.
+        ensures once { (u : ℕ) → covering_tags u (span_tags self.now) ≤ 1 }
         ensures tiled { (u : ℕ) → covering_held u (deeds_of self.now) + covering_tags u (chunks_out self.now) ≡ covering_tags u (span_tags self.now) }
     {
         total(&self.slabs)

@@ -5,7 +5,7 @@ use Rattle.deed_core.specs.Holding.{Holding}
 use Rattle.slab_layer.specs.Slab.{SlabState, units, idle_chunks_by, chunk_at, gap_of, tail_of}
 use Rattle.slab_layer.specs.Cache.{CacheState, IsSound, idle_deeds, gaps, tails}
 use Rattle.slab_layer.proofs.ListLemmas.{sum_by-flat_map}
-use Rattle.slab_layer.proofs.ReportLemmas.{spans_fit, kept_units, tiled}
+use Rattle.slab_layer.proofs.ReportLemmas.{spans_fit, kept_units, tiled, once}
 use Rattle.slab_layer.proofs.caches.SlabCache.report.Goals as goal
 
 pub total-requires : goal.total-requires
@@ -38,3 +38,6 @@ returns-clause-kept g c =
 
 pub returns-clause-tiled : goal.returns-clause-tiled
 returns-clause-tiled g c = tiled c.args.self.now (subst (λ (x : CacheState). IsSound x) c.self.view_is c.self.invariant)
+
+pub returns-clause-once : goal.returns-clause-once
+returns-clause-once g c = once c.args.self.now (subst (λ (x : CacheState). IsSound x) c.self.view_is c.self.invariant)
