@@ -171,7 +171,7 @@ impl<D: Deed> SlabCache<D> {
     {
         // A chunk is no longer than a slab, so the product fits.
         let _slab_size = self.slab_size;
-        self.k as u64 * self.quantum
+        u64::from(self.k) * self.quantum
     }
 
     // The colour after that of the next slab.

@@ -9,8 +9,11 @@ use deed_core::Deed;
 /// What lies in a cache, in units: the idle chunks, the colour gaps and the tails.
 #[derive(Clone, Copy, PartialEq, Eq, Debug)]
 pub struct SlabReport {
+    /// In chunks at home.
     pub idle: u64,
+    /// Before the first chunks.
     pub gap: u64,
+    /// Behind the last chunks.
     pub tail: u64,
 }
 
