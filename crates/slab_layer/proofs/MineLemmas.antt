@@ -1,15 +1,14 @@
 -- Which segments are chunks of a cache.
-use Rattle.std.proofs.Common.{◌≡◌, inl, inr, ℕ, zero, suc, ◌+◌, ◌-◌, ◌*◌, ◌/◌, ◌<◌, ◌≤◌, ◌⊎◌, if◌then◌else◌, Bool, true, false, not, List, [], ◌∷◌, ◌++◌, length, get_or, All, AllPairs, refl, sym, ap, ◌∙◌, arith, subst}
+use Rattle.std.proofs.Common.{◌≡◌, inl, inr, ℕ, zero, suc, ◌+◌, ◌*◌, ◌<◌, ◌≤◌, ◌⊎◌, if◌then◌else◌, Bool, true, false, not, List, [], ◌∷◌, length, get_or, All, AllPairs, refl, sym, ap, ◌∙◌, arith, subst}
 use Rattle.std.specs.Prelude.{Contains}
-use Rattle.std.specs.List.{flat_map}
-use Rattle.std.proofs.lemmas.Bool.{cases_order, cases_Bool}
+use Rattle.std.proofs.lemmas.Bool.{cases_order}
 use Rattle.std.proofs.lemmas.List.{get_or_default}
 use Rattle.deed_core.specs.Extent.{Extent, end_of}
 use Rattle.deed_core.specs.Holding.{Holding}
 use Rattle.deed_core.specs.Tag.{Tag}
 use Rattle.deed_core.specs.declared.segments.Route.TheVariants.{Cached}
 use Rattle.slab_layer.specs.Slab.{SlabState, IsSlab, chunk_at, idle_chunks_by, chunks_out_by, items_where}
-use Rattle.slab_layer.specs.Cache.{CacheState, StandsAt, IsChunk, IsBelow, IsSound, chunk_of, chunk_tag, idle_chunks, chunks_out}
+use Rattle.slab_layer.specs.Cache.{CacheState, StandsAt, IsChunk, IsBelow, IsSound, chunk_tag, idle_chunks, chunks_out}
 use Rattle.slab_layer.proofs.RowLemmas.{room_for}
 use Rattle.slab_layer.proofs.SlabLemmas.{place_is}
 use Rattle.slab_layer.proofs.ListLemmas.{contains_part, part_contains}

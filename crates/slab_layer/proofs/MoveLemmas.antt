@@ -1,23 +1,23 @@
 -- What the moves of a cache weigh.
-use Rattle.std.proofs.Common.{◌≡◌, inl, inr, zero-add, ℕ, zero, suc, ◌+◌, ◌-◌, ◌*◌, ◌/◌, ◌<◌, ◌≤◌, Bool, true, false, not, List, [], ◌∷◌, ◌++◌, length, get_or, set, map, All, Option, Some, None, insert, remove, refl, sym, ap, ◌∙◌, arith, subst}
+use Rattle.std.proofs.Common.{◌≡◌, inl, inr, zero-add, ℕ, ◌+◌, ◌-◌, ◌*◌, ◌/◌, ◌<◌, ◌≤◌, Bool, true, false, not, List, [], ◌++◌, length, get_or, set, map, Option, insert, remove, refl, sym, ap, ◌∙◌, arith}
 use Rattle.std.specs.Prelude.{sum_by}
 use Rattle.std.specs.List.{flat_map}
 use Rattle.std.specs.Option.{option_to_list}
 use Rattle.std.proofs.Math.Nat.{div-mul-le_self}
 use Rattle.std.proofs.Math.ListN.{replicate}
-use Rattle.std.proofs.lemmas.List.{length-set, length-replicate, get_or_default, get_or-replicate, get_or-map, map-set, set-get_or}
+use Rattle.std.proofs.lemmas.List.{length-set, length-replicate, get_or-replicate, get_or-map, map-set, set-get_or}
 use Rattle.std.proofs.lemmas.List.Elements.{All-weaker, All-replicate}
-use Rattle.std.proofs.lemmas.List.Sums.{sum_by-append, sum_by-set, sum_by-insert, sum_by-remove}
-use Rattle.deed_core.specs.Extent.{Extent, end_of}
+use Rattle.std.proofs.lemmas.List.Sums.{sum_by-append, sum_by-insert, sum_by-remove}
+use Rattle.deed_core.specs.Extent.{Extent}
 use Rattle.deed_core.specs.Holding.{Holding}
 use Rattle.deed_core.specs.Tag.{Tag}
 use Rattle.deed_core.specs.declared.segments.Route.TheVariants.{Direct}
-use Rattle.deed_core.specs.Covering.{covers, covers_held, covers_tag, covering_held, covering_tags}
+use Rattle.deed_core.specs.Covering.{covers, covers_held, covers_tag, covering_held}
 use Rattle.deed_core.specs.Weights.{Gains, Loses, WeighSame}
-use Rattle.deed_core.proofs.Units.{covers_is, covers_cut}
-use Rattle.slab_layer.specs.Parts.{piece, part}
-use Rattle.slab_layer.specs.Slab.{SlabState, IsSlab, IsComplete, chunk_at, used_units, unused_units, gap_of, tail_of, idle_chunks_by, chunks_out_by, deeds_in, items_where, new_slab}
-use Rattle.slab_layer.specs.Cache.{CacheState, StandsAt, IsChunk, Takes, Puts, Adds, Reaps, IsOfSize, IsSound, chunk_of, spare_of, chunk_tag, span_tag, deeds_of, idle_chunks, chunks_out, span_tags, with_chunk, with_slabs}
+use Rattle.deed_core.proofs.Units.{covers_cut}
+use Rattle.slab_layer.specs.Parts.{part}
+use Rattle.slab_layer.specs.Slab.{SlabState, IsSlab, IsComplete, chunk_at, used_units, unused_units, gap_of, tail_of, idle_chunks_by, chunks_out_by, deeds_in, new_slab}
+use Rattle.slab_layer.specs.Cache.{CacheState, StandsAt, IsChunk, Takes, Puts, Adds, Reaps, IsOfSize, IsSound, chunk_of, spare_of, chunk_tag, span_tag, deeds_of, chunks_out, span_tags, with_chunk}
 use Rattle.slab_layer.proofs.PartLemmas.{part_none, part_some, zero_or}
 use Rattle.slab_layer.proofs.PassingLemmas.{counted, sum_by-items_where-set, passing_none, covering-items_where, covers_nothing}
 use Rattle.slab_layer.proofs.ListLemmas.{sum_by-flat_map-set, sum_by-flat_map-insert, sum_by-flat_map-remove, sum_by-map}

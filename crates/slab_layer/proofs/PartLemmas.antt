@@ -1,8 +1,7 @@
 -- Parts, cut and joined.
-use Rattle.std.proofs.Common.{◌≡◌, ◌≢◌, ◌⊎◌, inl, inr, ⊎_elim, ℕ, ◌+◌, ◌-◌, ◌*◌, ◌<◌, ◌≤◌, ◌==◌, Bool, true, false, min, List, [], ◌∷◌, ◌++◌, Option, Some, None, refl, sym, ap, ◌∙◌, arith, subst}
+use Rattle.std.proofs.Common.{◌≡◌, ◌≢◌, ◌⊎◌, inl, inr, ⊎_elim, ℕ, ◌+◌, ◌-◌, ◌<◌, ◌≤◌, ◌==◌, true, false, min, List, [], ◌∷◌, ◌++◌, Option, Some, None, refl, ap, arith, subst}
 use Rattle.std.proofs.lemmas.Bool.Decides.{nat_tests, eqb_tells}
-use Rattle.deed_core.specs.Extent.{Extent}
-use Rattle.deed_core.specs.Holding.{Holding, GoesOn, joined}
+use Rattle.deed_core.specs.Holding.{Holding}
 use Rattle.slab_layer.specs.Parts.{piece, part, front_of, back_of, Follows, joined_parts, joined_row, IsRow}
 
 pub part_none : (r b len : ℕ) → len ≡ 0 → part r b len ≡ None

@@ -1,10 +1,10 @@
 -- The chunks at home, and those that are out, whatever is counted.
-use Rattle.std.proofs.Common.{◌≡◌, ◌⊎◌, inl, inr, ℕ, zero, suc, ◌+◌, ◌-◌, ◌*◌, ◌<◌, ◌≤◌, Bool, true, false, not, cond, List, [], ◌∷◌, ◌++◌, length, get_or, set, All, Option, Some, None, refl, sym, ap, ◌∙◌, arith, subst, if◌then◌else◌}
+use Rattle.std.proofs.Common.{◌≡◌, ℕ, zero, suc, ◌+◌, ◌*◌, ◌<◌, Bool, true, false, not, cond, List, [], ◌∷◌, length, get_or, set, All, Option, Some, None, refl, sym, ap, ◌∙◌, arith, if◌then◌else◌}
 use Rattle.std.specs.Prelude.{sum_by, count_by, Contains, MatchOption, is_some, ◌↔◌}
 use Rattle.std.proofs.lemmas.List.{get_or_default}
 use Rattle.std.proofs.lemmas.List.Sums.{sum_by-cons}
 use Rattle.std.proofs.lemmas.List.Elements.{All-nil, All-cons, All-head, All-tail, All-contains}
-use Rattle.deed_core.specs.Extent.{Extent, end_of}
+use Rattle.deed_core.specs.Extent.{Extent}
 use Rattle.deed_core.specs.Holding.{Holding}
 use Rattle.deed_core.specs.Covering.{covers, covers_held, covering_held}
 use Rattle.deed_core.proofs.Units.{covers_is, covers_cut}

@@ -1,5 +1,5 @@
 -- A row of chunks.
-use Rattle.std.proofs.Common.{◌≡◌, inl, inr, cond, take, ℕ, zero, suc, ◌+◌, ◌-◌, ◌*◌, ◌<◌, ◌≤◌, Bool, true, false, List, [], ◌∷◌, ◌++◌, length, get_or, set, All, Option, Some, None, map, is_some, refl, sym, ap, ◌∙◌, arith, subst, if◌then◌else◌, add-one}
+use Rattle.std.proofs.Common.{◌≡◌, inl, inr, cond, take, ℕ, zero, suc, ◌+◌, ◌-◌, ◌*◌, ◌<◌, ◌≤◌, Bool, true, false, List, [], ◌∷◌, ◌++◌, length, get_or, set, All, Option, Some, None, map, is_some, refl, sym, ap, ◌∙◌, arith, if◌then◌else◌}
 use Rattle.std.proofs.Math.ListN.{replicate}
 use Rattle.std.proofs.Math.Nat.{mul-le-mul_right}
 use Rattle.std.proofs.lemmas.Grind.{replicate_next}
@@ -8,8 +8,8 @@ use Rattle.std.proofs.lemmas.Bool.{cases_lt}
 use Rattle.std.proofs.lemmas.List.Sums.{sum_by_more}
 use Rattle.std.proofs.lemmas.List.{length-replicate, length-map, get_or-map}
 use Rattle.std.proofs.lemmas.List.Elements.{All-head, All-tail}
-use Rattle.deed_core.specs.Holding.{Holding, joined}
-use Rattle.slab_layer.specs.Parts.{piece, part, front_of, back_of, Follows, joined_parts, joined_row, IsRow}
+use Rattle.deed_core.specs.Holding.{Holding}
+use Rattle.slab_layer.specs.Parts.{piece, part, joined_row, IsRow}
 use Rattle.slab_layer.specs.Slab.{stored_row}
 use Rattle.slab_layer.proofs.PartLemmas.{part_some, both_some, follows_some}
 

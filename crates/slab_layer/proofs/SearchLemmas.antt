@@ -1,10 +1,9 @@
 -- Slabs by ascending base, and the choice among them.
-use Rattle.std.proofs.Common.{◌≡◌, ◌⊎◌, inl, inr, ℕ, zero, suc, ◌+◌, ◌-◌, ◌<◌, ◌≤◌, Bool, true, false, List, [], ◌∷◌, ◌++◌, length, get_or, All, AllPairs, refl, sym, ap, ◌∙◌, arith, subst}
+use Rattle.std.proofs.Common.{◌≡◌, inl, inr, ℕ, ◌+◌, ◌<◌, ◌≤◌, Bool, true, false, List, length, get_or, All, AllPairs, sym, ap, ◌∙◌, arith, subst}
 use Rattle.std.specs.Prelude.{Contains}
 use Rattle.std.proofs.lemmas.Bool.{cases_lt, cases_order, cases_Bool}
 use Rattle.std.proofs.lemmas.List.{get_or_default, get_or_read}
 use Rattle.std.proofs.lemmas.List.Elements.{All-get_or}
-use Rattle.deed_core.specs.Extent.{end_of}
 use Rattle.slab_layer.specs.Slab.{SlabState, IsAllOut, IsComplete, IsPartial, IsLowestIdle}
 use Rattle.slab_layer.specs.Cache.{StandsAt, IsBelow, IsLowest, IsNext}
 use Rattle.slab_layer.proofs.PassingLemmas.{some_false, no_true}

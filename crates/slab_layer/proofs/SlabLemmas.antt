@@ -1,17 +1,16 @@
 -- The deeds of a slab.
-use Rattle.std.proofs.Common.{◌≡◌, ℕ, ◌+◌, ◌-◌, ◌*◌, ◌/◌, ◌%◌, ◌<◌, ◌≤◌, Bool, true, false, not, min, List, [], ◌∷◌, ◌++◌, length, get_or, set, All, Option, Some, None, map, is_some, refl, sym, ap, ◌∙◌, arith, subst, if◌then◌else◌}
+use Rattle.std.proofs.Common.{◌≡◌, ℕ, ◌+◌, ◌-◌, ◌*◌, ◌/◌, ◌%◌, ◌<◌, ◌≤◌, Bool, true, false, not, min, List, [], ◌∷◌, ◌++◌, length, get_or, set, All, Option, Some, None, map, is_some, refl, sym, ap, ◌∙◌, arith, subst}
 use Rattle.std.proofs.Math.ListN.{replicate}
 use Rattle.std.proofs.Math.Nat.{mul-le-mul_right, mul-mod_left, mul-div_left}
 use Rattle.std.specs.Prelude.{count_by, MatchOption, ◌↔◌}
 use Rattle.std.specs.Option.{option_to_list}
 use Rattle.std.proofs.lemmas.Option.{same_Some}
 use Rattle.std.proofs.lemmas.List.Elements.{All-nil, All-cons, All-head, All-tail, All-same}
-use Rattle.std.proofs.lemmas.List.{length-map, length-set, length-replicate, map-set, get_or-map, get_or_default}
-use Rattle.deed_core.specs.Extent.{Extent}
+use Rattle.std.proofs.lemmas.List.{length-set, length-replicate, map-set}
 use Rattle.deed_core.specs.Holding.{Holding}
 use Rattle.slab_layer.specs.Parts.{piece, part, front_of, back_of, Follows, joined_parts, joined_row, IsRow}
-use Rattle.slab_layer.specs.Slab.{SlabState, chunk_at, used_units, unused_units, gap_of, tail_of, idle_chunks_by, deeds_in, units, stored_row, IsLowestIdle, IsSlab, IsStored, IsComplete, new_slab}
-use Rattle.slab_layer.proofs.PartLemmas.{part_none, part_some, both_part, follows_part}
+use Rattle.slab_layer.specs.Slab.{SlabState, chunk_at, used_units, unused_units, gap_of, tail_of, idle_chunks_by, deeds_in, units, stored_row, IsLowestIdle, IsStored, IsComplete, new_slab}
+use Rattle.slab_layer.proofs.PartLemmas.{part_some, both_part, follows_part}
 use Rattle.slab_layer.proofs.RowLemmas.{entry, placed, get_or_from_start, stored_from_start, map-stored_row, joined_row-stored_row, row-stored_row, all_true}
 use Rattle.slab_layer.proofs.PassingLemmas.{passing_none, none_passing, units-items_where}
 

@@ -1,6 +1,6 @@
 -- What a cache keeps, through its moves.
-use Rattle.std.proofs.Common.{◌≡◌, inl, inr, ℕ, zero, suc, ◌+◌, ◌-◌, ◌*◌, ◌/◌, ◌<◌, ◌≤◌, ◌^◌, Bool, true, false, cond, nat_le, List, [], ◌∷◌, ◌++◌, length, get_or, set, take, drop, All, AllPairs, insert, remove, refl, sym, ap, ◌∙◌, arith, subst, if◌then◌else◌}
-use Rattle.std.proofs.Math.Nat.{div-mul-le_self, div-eq-sub-div, mul-le-mul_right}
+use Rattle.std.proofs.Common.{◌≡◌, inl, inr, ℕ, ◌+◌, ◌-◌, ◌*◌, ◌/◌, ◌<◌, ◌≤◌, ◌^◌, Bool, true, false, nat_le, List, [], length, get_or, set, take, drop, All, AllPairs, insert, remove, refl, sym, ap, ◌∙◌, arith, subst, if◌then◌else◌}
+use Rattle.std.proofs.Math.Nat.{div-eq-sub-div, mul-le-mul_right}
 use Rattle.std.proofs.Math.ListN.{replicate}
 use Rattle.std.proofs.lemmas.Bool.Decides.{nat_tests}
 use Rattle.std.specs.Prelude.{Any}
@@ -9,9 +9,8 @@ use Rattle.std.proofs.lemmas.List.{length-set, length-replicate, length-take, le
 use Rattle.std.proofs.lemmas.List.Elements.{All-set, All-get_or, All-nil, All-same, All-weaker}
 use Rattle.std.proofs.lemmas.List.Quantifiers.{all_pairs_remove}
 use Rattle.deed_core.specs.Extent.{Extent, Overlap, end_of}
-use Rattle.deed_core.specs.Holding.{Holding}
 use Rattle.deed_core.specs.Tag.{Tag}
-use Rattle.slab_layer.specs.Slab.{SlabState, new_slab, IsSlab, IsComplete, IsLowestIdle}
+use Rattle.slab_layer.specs.Slab.{SlabState, new_slab, IsComplete, IsLowestIdle}
 use Rattle.slab_layer.specs.Cache.{CacheState, StandsAt, IsChunk, IsLowest, IsNext, chunk_tag, span_tag, IsBelow, IsOfSize, IsSound, Takes, Puts, Adds, Reaps, chunk_of, spare_of, next_colour, with_slabs, with_chunk}
 use Rattle.slab_layer.proofs.ListLemmas.{pairs_set, pairs_insert, all_insert, all_remove}
 use Rattle.slab_layer.proofs.PartLemmas.{zero_or}

@@ -1,13 +1,12 @@
 -- What a contract sees of a slab cache, and what its calls do.
-use Rattle.std.specs.Prelude.{◌≡◌, ℕ, ◌+◌, ◌-◌, ◌*◌, ◌/◌, ◌^◌, ◌<◌, ◌≤◌, ◌⊎◌, Bool, true, false, not, List, [], ◌∷◌, ◌++◌, All, AllPairs, map, length, take, drop, slice_index_or, slice_set, sum_by, nat_le, if◌then◌else◌}
+use Rattle.std.specs.Prelude.{◌≡◌, ℕ, ◌+◌, ◌-◌, ◌*◌, ◌/◌, ◌^◌, ◌<◌, ◌≤◌, ◌⊎◌, Bool, true, false, List, All, AllPairs, map, length, take, drop, slice_index_or, slice_set, nat_le, if◌then◌else◌}
 use Rattle.std.specs.List.{flat_map, insert, remove}
 use Rattle.std.specs.Option.{option_to_list}
 use Rattle.deed_core.specs.Extent.{end_of}
 use Rattle.deed_core.specs.Holding.{Holding}
 use Rattle.deed_core.specs.Tag.{Tag}
-use Rattle.deed_core.specs.declared.segments.Route.{Route}
 use Rattle.deed_core.specs.declared.segments.Route.TheVariants.{Direct, Cached}
-use Rattle.slab_layer.specs.Slab.{SlabState, chunk_at, idle_chunks_by, chunks_out_by, deeds_in, gap_of, tail_of, new_slab, IsSlab, IsComplete, IsPartial, IsLowestIdle}
+use Rattle.slab_layer.specs.Slab.{SlabState, chunk_at, idle_chunks_by, chunks_out_by, deeds_in, gap_of, tail_of, new_slab, IsComplete, IsPartial, IsLowestIdle}
 
 -- a cache of chunks of k quanta, cut from slabs of one size
 pub record CacheState : Type 0 where

@@ -1,6 +1,5 @@
 -- Deeds that may be missing, since what they would cover has no units.
-use Rattle.std.specs.Prelude.{ℕ, ◌+◌, ◌-◌, ◌≤◌, ◌==◌, min, List, [], ◌∷◌, Option, Some, None, if◌then◌else◌}
-use Rattle.deed_core.specs.Extent.{Extent}
+use Rattle.std.specs.Prelude.{ℕ, ◌+◌, ◌-◌, ◌==◌, min, List, [], ◌∷◌, Option, Some, None, if◌then◌else◌}
 use Rattle.deed_core.specs.Holding.{Holding, GoesOn, joined}
 
 -- a range of a root

@@ -1,4 +1,4 @@
-use Rattle.std.proofs.Common.{◌≡◌, ◌<◌, length, map, is_some, true, false, refl, arith, sym, ◌∙◌}
+use Rattle.std.proofs.Common.{is_some, true, refl, arith}
 use Rattle.std.proofs.lemmas.List.{length-map}
 use Rattle.slab_layer.proofs.RowLemmas.{some_at, more_places, all_places}
 use Rattle.slab_layer.proofs.rows.are_some.Goals as goal

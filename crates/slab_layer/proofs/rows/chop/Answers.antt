@@ -1,8 +1,6 @@
-use Rattle.std.proofs.Common.{◌≡◌, ◌+◌, ◌-◌, ◌*◌, ◌<◌, ◌≤◌, true, Some, [], ◌∷◌, ◌++◌, ℕ, Option, arith, sym, ◌∙◌, ap, refl}
-use Rattle.std.proofs.Math.ListN.{replicate}
+use Rattle.std.proofs.Common.{◌≡◌, ◌+◌, ◌-◌, ◌*◌, ◌<◌, ◌≤◌, Some, arith, sym, ◌∙◌, ap}
 use Rattle.deed_core.specs.Extent.{Extent}
-use Rattle.slab_layer.specs.Parts.{part, piece, front_of, back_of, joined_row, IsRow}
-use Rattle.slab_layer.specs.Slab.{stored_row}
+use Rattle.slab_layer.specs.Parts.{part, front_of, back_of, joined_row}
 use Rattle.slab_layer.proofs.PartLemmas.{part_some, front_part, back_part}
 use Rattle.slab_layer.proofs.RowLemmas.{placed, room_for, row_whole, all_whole, next_stored}
 use Rattle.slab_layer.proofs.rows.chop.Goals as goal

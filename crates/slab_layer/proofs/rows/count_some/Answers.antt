@@ -1,4 +1,4 @@
-use Rattle.std.proofs.Common.{◌≡◌, ℕ, ◌+◌, cond, true, false, refl, arith, ap, sym, ◌∙◌, is_some}
+use Rattle.std.proofs.Common.{◌≡◌, ℕ, cond, arith, ap, sym, ◌∙◌, is_some}
 use Rattle.slab_layer.proofs.RowLemmas.{more_count}
 use Rattle.slab_layer.proofs.rows.count_some.Goals as goal
 use Rattle.slab_layer.proofs.rows.count_some.Goals.{then-is_some, else-is_some}

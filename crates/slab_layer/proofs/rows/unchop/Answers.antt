@@ -1,5 +1,5 @@
 use Rattle.std.proofs.Common.{◌≡◌, [], ◌∷◌, ◌++◌, sym, ◌∙◌}
-use Rattle.slab_layer.specs.Parts.{joined_row, IsRow, Follows, joined_parts}
+use Rattle.slab_layer.specs.Parts.{joined_row, IsRow}
 use Rattle.slab_layer.proofs.PartLemmas.{joined_row-push, row-push}
 use Rattle.slab_layer.proofs.rows.unchop.Goals as goal
 

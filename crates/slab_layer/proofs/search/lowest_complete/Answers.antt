@@ -1,5 +1,5 @@
-use Rattle.std.proofs.Common.{◌≡◌, true, false, sym, ◌∙◌}
-use Rattle.slab_layer.specs.Slab.{SlabState, IsComplete}
+use Rattle.std.proofs.Common.{◌≡◌, true}
+use Rattle.slab_layer.specs.Slab.{IsComplete}
 use Rattle.slab_layer.proofs.SearchLemmas.{none_more, none_all, lowest_here}
 use Rattle.slab_layer.proofs.search.lowest_complete.Goals as goal
 

@@ -1,4 +1,4 @@
-use Rattle.std.proofs.Common.{◌≡◌, ◌<◌, length, All, false, sym, ap, subst, refl}
+use Rattle.std.proofs.Common.{◌≡◌, ◌<◌, length, All, false, subst}
 use Rattle.std.proofs.lemmas.List.Elements.{All-get_or}
 use Rattle.slab_layer.specs.Slab.{SlabState, IsLowestIdle}
 use Rattle.slab_layer.proofs.SearchLemmas.{all_are_out, same_slab, next_stands, next_has_idle}

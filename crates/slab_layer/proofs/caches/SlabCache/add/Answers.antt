@@ -1,4 +1,4 @@
-use Rattle.std.proofs.Common.{◌≡◌, ◌+◌, ◌/◌, ◌<◌, ◌≤◌, ℕ, List, length, get_or, true, false, refl, ◌∙◌, ap, sym, arith, subst}
+use Rattle.std.proofs.Common.{◌≡◌, ◌/◌, ◌<◌, ◌≤◌, ℕ, get_or, true, false, refl, ◌∙◌, ap, sym, subst}
 use Rattle.std.specs.Prelude.{Any}
 use Rattle.deed_core.specs.Extent.{Extent, Overlap, end_of}
 use Rattle.deed_core.specs.Holding.{Holding}

@@ -1,5 +1,4 @@
-use Rattle.std.proofs.Common.{◌≡◌, true, false, refl, ◌∙◌, ap, sym, subst}
-use Rattle.std.specs.Prelude.{◌↔◌, IsTrue}
+use Rattle.std.proofs.Common.{◌≡◌, true, false, refl, ◌∙◌, sym, subst}
 use Rattle.slab_layer.specs.Cache.{CacheState, IsSound, IsChunk}
 use Rattle.slab_layer.proofs.SoundLemmas.{made_puts, sound_puts}
 use Rattle.slab_layer.proofs.MoveLemmas.{puts_out, puts_kept, puts_spans}

@@ -1,5 +1,4 @@
-use Rattle.std.proofs.Common.{◌≡◌, ◌+◌, ◌≤◌, ◌^◌, ℕ, ◌∙◌, ap, sym, arith, subst}
-use Rattle.std.specs.Prelude.{sum_by}
+use Rattle.std.proofs.Common.{◌≡◌, ◌∙◌, sym, arith, subst}
 use Rattle.std.specs.Option.{option_to_list}
 use Rattle.deed_core.specs.Holding.{Holding}
 use Rattle.slab_layer.specs.Slab.{SlabState, units, idle_chunks_by, chunk_at, gap_of, tail_of}

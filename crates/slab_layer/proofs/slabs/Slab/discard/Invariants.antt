@@ -1,4 +1,4 @@
-use Rattle.std.proofs.Common.{◌≡◌, Option, None, All, vec_len}
+use Rattle.std.proofs.Common.{◌≡◌, None, All, vec_len}
 use Rattle.slab_layer.proofs.slabs.Slab.discard.Given as goal
 
 abbrev pub invariant-loop-chunk : goal.invariant-loop-chunk

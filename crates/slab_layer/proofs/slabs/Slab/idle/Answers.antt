@@ -1,4 +1,4 @@
-use Rattle.std.proofs.Common.{◌≡◌, ◌*◌, sym, ◌∙◌, ap, subst, map, is_some}
+use Rattle.std.proofs.Common.{◌≡◌, ◌*◌, sym, ◌∙◌, ap, subst}
 use Rattle.deed_core.specs.Holding.{Holding}
 use Rattle.slab_layer.specs.Slab.{SlabState, units, idle_chunks_by, chunk_at}
 use Rattle.slab_layer.proofs.SlabLemmas.{state, idle_units}

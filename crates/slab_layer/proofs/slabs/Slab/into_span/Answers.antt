@@ -1,7 +1,6 @@
-use Rattle.std.proofs.Common.{◌≡◌, ◌<◌, Some, is_some, arith, sym, ◌∙◌, ap, subst}
-use Rattle.deed_core.specs.Holding.{Holding}
+use Rattle.std.proofs.Common.{is_some, sym, ◌∙◌, ap, subst}
 use Rattle.slab_layer.specs.Slab.{SlabState, IsComplete}
-use Rattle.slab_layer.proofs.SlabLemmas.{state, complete_row, complete_follows, complete_whole}
+use Rattle.slab_layer.proofs.SlabLemmas.{complete_row, complete_follows, complete_whole}
 use Rattle.slab_layer.proofs.slabs.Slab.into_span.Goals as goal
 
 pub unchop-body-requires : goal.unchop-body-requires

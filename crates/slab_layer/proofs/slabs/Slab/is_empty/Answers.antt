@@ -1,4 +1,4 @@
-use Rattle.std.proofs.Common.{subst, sym, ◌∙◌}
+use Rattle.std.proofs.Common.{subst, sym}
 use Rattle.slab_layer.specs.Slab.{SlabState, IsStored}
 use Rattle.slab_layer.proofs.SlabLemmas.{empty_is}
 use Rattle.slab_layer.proofs.slabs.Slab.is_empty.Goals as goal

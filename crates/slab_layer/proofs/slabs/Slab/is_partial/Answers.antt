@@ -1,4 +1,4 @@
-use Rattle.std.proofs.Common.{◌≡◌, true, false, sym, ◌∙◌}
+use Rattle.std.proofs.Common.{◌≡◌, true, sym, ◌∙◌}
 use Rattle.slab_layer.proofs.PassingLemmas.{partial_is, no_false}
 use Rattle.slab_layer.proofs.slabs.Slab.is_partial.Goals as goal
 

@@ -1,7 +1,6 @@
-use Rattle.std.proofs.Common.{◌≡◌, Some, true, sym, ◌∙◌, ap, subst}
+use Rattle.std.proofs.Common.{Some, true, sym, ◌∙◌, ap}
 use Rattle.slab_layer.specs.Slab.{SlabState, chunk_at}
-use Rattle.slab_layer.specs.Cache.{with_chunk}
-use Rattle.slab_layer.proofs.SlabLemmas.{changed, map_changed, changed_state}
+use Rattle.slab_layer.proofs.SlabLemmas.{changed, changed_state}
 use Rattle.slab_layer.proofs.slabs.Slab.put.Goals as goal
 
 pub invariant_of-self : goal.invariant_of-self

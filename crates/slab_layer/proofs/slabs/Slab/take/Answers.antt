@@ -1,4 +1,4 @@
-use Rattle.std.proofs.Common.{◌≡◌, Some, ℕ, ◌<◌, length, false, true, get_or, sym, ◌∙◌, ap, subst}
+use Rattle.std.proofs.Common.{◌≡◌, ◌<◌, length, false, true, get_or, sym, ◌∙◌, ap, subst}
 use Rattle.slab_layer.specs.Slab.{SlabState, chunk_at}
 use Rattle.slab_layer.proofs.SlabLemmas.{changed, changed_state, at_home}
 use Rattle.slab_layer.proofs.slabs.Slab.take.Goals as goal
