@@ -1,0 +1,10 @@
+pub mod PartLemmas
+pub mod RowLemmas
+pub mod PassingLemmas
+pub mod SlabLemmas
+pub mod SearchLemmas
+pub mod ListLemmas
+pub mod SoundLemmas
+pub mod MoveLemmas
+pub mod MineLemmas
+pub mod ReportLemmas

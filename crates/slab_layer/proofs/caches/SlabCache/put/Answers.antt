@@ -1,0 +1,102 @@
+use Rattle.std.proofs.Common.{◌≡◌, true, false, refl, ◌∙◌, sym, subst}
+use Rattle.slab_layer.specs.Cache.{CacheState, IsSound, IsChunk}
+use Rattle.slab_layer.proofs.SoundLemmas.{made_puts, sound_puts}
+use Rattle.slab_layer.proofs.MoveLemmas.{puts_out, puts_kept, puts_spans}
+use Rattle.slab_layer.proofs.MineLemmas.{IsAbsent, SomeChunk, not_routed, not_found, made_chunk, chunk_is_out, chunk_is_idle, out_is_chunk, idle_is_chunk, never_both}
+use Rattle.slab_layer.proofs.caches.SlabCache.put.Goals as goal
+use Rattle.slab_layer.proofs.caches.SlabCache.put.Given as given
+
+-- it is of another arena or cache
+elsewhere : (g : given.Over) (c : goal.Then-not-is_routed_here g) → IsAbsent c.args.segment c.args.self.now
+elsewhere g c = not_routed _ _ (λ routed. let e : c.is_routed_here.result ≡ true = c.is_routed_here.ensures.1 routed in let f = c.if-not-is_routed_here.true in cc)
+
+pub returns-then-not-is_routed_here-clause-mine : goal.returns-then-not-is_routed_here-clause-mine
+returns-then-not-is_routed_here-clause-mine g c = (λ e. cc, λ has. absurd ((elsewhere g c).not_out has))
+
+pub returns-then-not-is_routed_here-clause-at_home : goal.returns-then-not-is_routed_here-clause-at_home
+returns-then-not-is_routed_here-clause-at_home g c = (λ e. cc, λ has. absurd ((elsewhere g c).not_idle has))
+
+pub returns-then-not-is_routed_here-clause-not_mine : goal.returns-then-not-is_routed_here-clause-not_mine
+returns-then-not-is_routed_here-clause-not_mine g c = (λ e. ((elsewhere g c).not_out, (elsewhere g c).not_idle), λ none. refl)
+
+-- it covers no chunk
+uncovered : (g : given.Over) (c : goal.In_default g) → IsAbsent c.args.segment c.args.self.now
+uncovered g c =
+    let none = rw c.deref.ensures.value at c.in_default.ensures in
+    not_found _ _ _ _ _ c.self.view_is c.root.ensures c.range.ensures.value none
+
+pub returns-in_default-clause-mine : goal.returns-in_default-clause-mine
+returns-in_default-clause-mine g c = (λ e. cc, λ has. absurd ((uncovered g c).not_out has))
+
+pub returns-in_default-clause-at_home : goal.returns-in_default-clause-at_home
+returns-in_default-clause-at_home g c = (λ e. cc, λ has. absurd ((uncovered g c).not_idle has))
+
+pub returns-in_default-clause-not_mine : goal.returns-in_default-clause-not_mine
+returns-in_default-clause-not_mine g c = (λ e. ((uncovered g c).not_out, (uncovered g c).not_idle), λ none. refl)
+
+-- it is at home
+here : (g : given.Over) (c : goal.After-self-1 g) → SomeChunk true c.args.segment c.args.self.now
+here g c =
+    let found = rw c.deref.ensures.value at c.in-Some.ensures in
+    let routed = c.is_routed_here.ensures.0 c.if-not-is_routed_here.false in
+    record {
+      i = c.in-Some.i;
+      j = c.in-Some.j;
+      s = found.0;
+      chunk = made_chunk _ _ _ c.index_mut-slab.result.now true _ _ _ _ _ c.self.view_is found.1 found.2 found.3 c.root.ensures c.range.ensures.value routed c.index_mut-slab.ensures.value (sym c.is_home.ensures ∙ c.if-is_home.true);
+    }
+
+pub returns-then-is_home-clause-mine : goal.returns-then-is_home-clause-mine
+returns-then-is_home-clause-mine g c =
+    let sound = subst (λ (x : CacheState). IsSound x) c.self.view_is c.self.invariant in
+    (λ e. cc, λ has. absurd (never_both _ _ sound (out_is_chunk _ _ has) (here g c)))
+
+pub returns-then-is_home-clause-at_home : goal.returns-then-is_home-clause-at_home
+returns-then-is_home-clause-at_home g c = let some = here g c in (λ e. chunk_is_idle _ _ _ _ _ some.chunk, λ has. refl)
+
+pub returns-then-is_home-clause-not_mine : goal.returns-then-is_home-clause-not_mine
+returns-then-is_home-clause-not_mine g c = let some = here g c in (λ e. cc, λ none. absurd (none.1 (chunk_is_idle _ _ _ _ _ some.chunk)))
+
+-- it is out
+gone : (g : given.Over) (c : goal.After-self-2-1 g) → SomeChunk false c.args.segment c.args.self.now
+gone g c =
+    let found = rw c.deref.ensures.value at c.in-Some.ensures in
+    let routed = c.is_routed_here.ensures.0 c.if-not-is_routed_here.false in
+    record {
+      i = c.in-Some.i;
+      j = c.in-Some.j;
+      s = found.0;
+      chunk = made_chunk _ _ _ c.index_mut-slab.result.now false _ _ _ _ _ c.self.view_is found.1 found.2 found.3 c.root.ensures c.range.ensures.value routed c.index_mut-slab.ensures.value (sym c.is_home.ensures ∙ c.if-is_home.false);
+    }
+
+pub returns-clause-ok : goal.returns-clause-ok
+unfolding gone
+returns-clause-ok g c =
+    let some = gone g c in
+    let before = subst (λ (x : CacheState). IsChunk some.i some.j some.s false c.args.segment x) (sym c.self.view_is) some.chunk in
+    (some.i, some.j, some.s, made_puts some.i some.j some.s c.index_mut-slab.result.now c.put.new.self _ _ _ c.self.view_is before c.index_mut-slab.ensures.value c.put.ensures)
+
+pub invariant_of-self-2 : goal.invariant_of-self-2
+invariant_of-self-2 g c =
+    let puts = returns-clause-ok g c in
+    sound_puts _ _ _ _ _ _ puts.3 (subst (λ (x : CacheState). IsSound x) c.self.view_is c.self.invariant)
+
+pub returns-clause-mine : goal.returns-clause-mine
+returns-clause-mine g c = let some = gone g c in (λ e. chunk_is_out _ _ _ _ _ some.chunk, λ has. refl)
+
+pub returns-clause-at_home : goal.returns-clause-at_home
+returns-clause-at_home g c =
+    let sound = subst (λ (x : CacheState). IsSound x) c.self.view_is c.self.invariant in
+    (λ e. absurd e, λ has. absurd (never_both _ _ sound (gone g c) (idle_is_chunk _ _ has)))
+
+pub returns-clause-not_mine : goal.returns-clause-not_mine
+returns-clause-not_mine g c = let some = gone g c in (λ e. absurd e, λ none. absurd (none.0 (chunk_is_out _ _ _ _ _ some.chunk)))
+
+pub returns-clause-out : goal.returns-clause-out
+returns-clause-out g c = let puts = returns-clause-ok g c in puts_out _ _ _ _ _ _ puts.3
+
+pub returns-clause-kept : goal.returns-clause-kept
+returns-clause-kept g c = let puts = returns-clause-ok g c in puts_kept _ _ _ _ _ _ puts.3
+
+pub returns-clause-spans : goal.returns-clause-spans
+returns-clause-spans g c = let puts = returns-clause-ok g c in puts_spans _ _ _ _ _ _ puts.3

@@ -1,0 +1,42 @@
+use Rattle.std.proofs.Common.{◌≡◌, ◌∙◌, sym, arith, subst}
+use Rattle.std.specs.Option.{option_to_list}
+use Rattle.deed_core.specs.Holding.{Holding}
+use Rattle.slab_layer.specs.Slab.{SlabState, units, idle_chunks_by, chunk_at, gap_of, tail_of}
+use Rattle.slab_layer.specs.Cache.{CacheState, IsSound, idle_deeds, gaps, tails}
+use Rattle.slab_layer.proofs.ListLemmas.{sum_by-flat_map}
+use Rattle.slab_layer.proofs.ReportLemmas.{spans_fit, kept_units, tiled, once}
+use Rattle.slab_layer.proofs.caches.SlabCache.report.Goals as goal
+
+pub total-requires : goal.total-requires
+total-requires g c = rw c.deref.ensures.value (spans_fit _ c.self.invariant)
+
+pub returns-clause-idle : goal.returns-clause-idle
+returns-clause-idle g c =
+    let said = rw c.deref.ensures.value at c.total.ensures.idle in
+    let all = said ∙ sym (sum_by-flat_map (λ (h : Holding). h.range.len) (λ (s : SlabState). idle_chunks_by (chunk_at s) s) c.self.inside.slabs.items) in
+    subst (λ (x : CacheState). c.total.result.idle ≡ units (idle_deeds x)) c.self.view_is all
+
+pub returns-clause-gap : goal.returns-clause-gap
+returns-clause-gap g c =
+    let said = rw c.deref.ensures.value at c.total.ensures.gap in
+    let all = said ∙ sym (sum_by-flat_map (λ (h : Holding). h.range.len) (λ (s : SlabState). option_to_list (gap_of s)) c.self.inside.slabs.items) in
+    subst (λ (x : CacheState). c.total.result.gap ≡ units (gaps x)) c.self.view_is all
+
+pub returns-clause-tail : goal.returns-clause-tail
+returns-clause-tail g c =
+    let said = rw c.deref.ensures.value at c.total.ensures.tail in
+    let all = said ∙ sym (sum_by-flat_map (λ (h : Holding). h.range.len) (λ (s : SlabState). option_to_list (tail_of s)) c.self.inside.slabs.items) in
+    subst (λ (x : CacheState). c.total.result.tail ≡ units (tails x)) c.self.view_is all
+
+pub returns-clause-kept : goal.returns-clause-kept
+returns-clause-kept g c =
+    let idle = returns-clause-idle g c in
+    let gap = returns-clause-gap g c in
+    let tail = returns-clause-tail g c in
+    omega (arith, idle, gap, tail, kept_units c.args.self.now)
+
+pub returns-clause-tiled : goal.returns-clause-tiled
+returns-clause-tiled g c = tiled c.args.self.now (subst (λ (x : CacheState). IsSound x) c.self.view_is c.self.invariant)
+
+pub returns-clause-once : goal.returns-clause-once
+returns-clause-once g c = once c.args.self.now (subst (λ (x : CacheState). IsSound x) c.self.view_is c.self.invariant)

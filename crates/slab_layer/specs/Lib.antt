@@ -1,0 +1,3 @@
+pub mod Parts
+pub mod Slab
+pub mod Cache

@@ -1,0 +1,43 @@
+-- Deeds that may be missing, since what they would cover has no units.
+use Rattle.std.specs.Prelude.{ℕ, ◌+◌, ◌-◌, ◌==◌, min, List, [], ◌∷◌, Option, Some, None, if◌then◌else◌}
+use Rattle.deed_core.specs.Holding.{Holding, GoesOn, joined}
+
+-- a range of a root
+abbrev pub piece : ℕ → ℕ → ℕ → Holding
+piece root base len = record { root = root; range = record { base = base; len = len } }
+
+-- the same, where it has a unit
+abbrev pub part : ℕ → ℕ → ℕ → Option Holding
+part root base len = if len == 0 then None else Some (piece root base len)
+
+-- the first `len` units of a part
+abbrev pub front_of : ℕ → Option Holding → Option Holding
+front_of len None = None
+front_of len (Some h) = part h.root h.range.base (min len h.range.len)
+
+-- the units behind those
+abbrev pub back_of : ℕ → Option Holding → Option Holding
+back_of len None = None
+back_of len (Some h) = part h.root (h.range.base + len) (h.range.len - len)
+
+-- the second goes on where the first ends
+abbrev pub Follows : Option Holding → Option Holding → Type 0
+Follows (Some a) (Some b) = GoesOn a b
+Follows (Some a) None = Unit {0}
+Follows None b = Unit {0}
+
+-- what the two cover together
+abbrev pub joined_parts : Option Holding → Option Holding → Option Holding
+joined_parts (Some a) (Some b) = Some (joined a b)
+joined_parts (Some a) None = Some a
+joined_parts None b = b
+
+-- what a row of parts and what is behind it cover together
+abbrev pub joined_row : List (Option Holding) → Option Holding → Option Holding
+joined_row [] rest = rest
+joined_row (x ∷ xs) rest = joined_parts x (joined_row xs rest)
+
+-- each part of the row goes on where the one before it ends, and so does the rest
+abbrev pub IsRow : List (Option Holding) → Option Holding → Type 0
+IsRow [] rest = Unit {0}
+IsRow (x ∷ xs) rest = Follows x (joined_row xs rest) × IsRow xs rest

@@ -1,0 +1,243 @@
+//! Slab caches.
+ghost use Rattle.std.specs.Prelude.{◌≡◌, ℕ, ◌+◌, ◌*◌, ◌<◌, ◌≤◌, ◌≢◌, ◌↔◌, [], length, All, Any, Contains, IsTrue, IsOk, IsErrAnd, IsNone, IfOk, IfErr, IfNone, IfSome, OnErr, OnOk, OnSome};
+ghost use Rattle.deed_core.specs.Extent.{Overlap};
+ghost use Rattle.deed_core.specs.Covering.{covering_held, covering_tags, covers_tag};
+ghost use Rattle.deed_core.specs.Weights.{Gains, Loses, WeighSame};
+ghost use Rattle.slab_layer.specs.Slab.{SlabState, IsAllOut, IsComplete, units};
+ghost use Rattle.slab_layer.specs.Cache.{IsSound, Adds, Puts, Reaps, Takes, chunk_of, next_colour as next_colour_of, idle_chunks, idle_deeds, gaps, tails, deeds_of, chunks_out, span_tags};
+
+use crate::faults::{AddFault, PutFault};
+use crate::reports::{SlabReport, are_empty, discard_all, total};
+use crate::search::{find_chunk, lowest_complete, next_chunk, overlaps, place_for};
+use crate::slabs::Slab;
+use deed_core::{Deed, Route, Segment, Stored, insert_reserved};
+use std::alloc::Global;
+use std::marker::Model;
+
+/// Chunks of k quanta, cut from slabs of one size. It can't be dropped: `close` ends it.
+pub struct SlabCache<D: Deed> {
+    alloc: Global,
+    arena: u32,
+    k: u8,
+    quantum: u64,
+    slab_size: u64,
+    slabs: Vec<Slab<D>>,
+    colour: u64,
+}
+
+impl<D: Deed> Model for SlabCache<D> {
+    ghost use Rattle.slab_layer.specs.Cache.{CacheState, IsSound};
+
+    ghost Value = { CacheState };
+
+    ghost view = { λ c. record { arena = c.arena; k = c.k; quantum = c.quantum; slab_size = c.slab_size; slabs = c.slabs.items; colour = c.colour } };
+
+    ghost invariant = { λ c. IsSound (record { arena = c.arena; k = c.k; quantum = c.quantum; slab_size = c.slab_size; slabs = c.slabs.items; colour = c.colour }) };
+}
+
+impl<D: Deed> SlabCache<D> {
+    /// A cache with no slab, for chunks of `k` quanta. `slab_size` counts units.
+    pub fn new(alloc: Global, arena: u32, k: u8, quantum: u64, slab_size: u64) -> SlabCache<D>
+        requires k { 1 ≤ k }
+        requires quantum { 1 ≤ quantum }
+        requires room { k * quantum ≤ slab_size }
+        ensures { result ≡ record { arena = arena; k = k; quantum = quantum; slab_size = slab_size; slabs = []; colour = 0 } }
+    {
+        SlabCache {
+            alloc,
+            arena,
+            k,
+            quantum,
+            slab_size,
+            slabs: Vec::new(alloc),
+            colour: 0,
+        }
+    }
+
+    /// The number of the arena that the spans come from.
+    pub fn arena(&self) -> u32
+        ensures { result ≡ self.now.arena }
+    {
+        self.arena
+    }
+
+    /// The quanta of a chunk.
+    pub fn k(&self) -> u8
+        ensures { result ≡ self.now.k }
+    {
+        self.k
+    }
+
+    /// The lowest idle chunk of the lowest partial slab, else of the lowest complete one
+    /// ("The Slab Allocator", 1994; lowest first is our own choice).
+    pub fn take(&mut self) -> Option<Segment<D>>
+        ensures none { IsNone result ↔ All IsAllOut self.old.slabs }
+        ensures some { IfSome result (λ t. (i j : ℕ) × (s : SlabState) × Takes i j s self.old self.new t) }
+        ensures unchanged { IfNone result (self.new ≡ self.old) }
+
+        // Whatever is counted: the chunk is out, and no longer here.
+        ensures out { IfSome result (λ t. Gains (chunks_out self.old) (chunks_out self.new) t) }
+        ensures kept { IfSome result (λ t. Loses (deeds_of self.old) (deeds_of self.new) t.holding) }
+        ensures spans { span_tags self.new ≡ span_tags self.old }
+    {
+        let (i, j) = next_chunk(&self.slabs)?;
+        let slab = &mut self.slabs[i];
+        let deed = slab.take(j);
+        Some(Segment::new(self.arena, Route::Cached(self.k), deed.into_deed()))
+    }
+
+    /// Takes a chunk back.
+    pub fn put(&mut self, segment: Segment<D>) -> Result<(), (Segment<D>, PutFault)>
+        ensures mine { IsOk result ↔ Contains (chunks_out self.old) segment }
+        ensures at_home { IsErrAnd result (λ e. e.1 ≡ PutFault.AtHome) ↔ Contains (idle_chunks self.old) segment }
+        ensures not_mine { IsErrAnd result (λ e. e.1 ≡ PutFault.NotMine) ↔ (¬ Contains (chunks_out self.old) segment × ¬ Contains (idle_chunks self.old) segment) }
+        ensures ok { OnOk result ((i j : ℕ) × (s : SlabState) × Puts i j s self.old self.new segment) }
+        ensures same { IfErr result (λ e. e.0 ≡ segment) }
+        ensures unchanged { OnErr result (self.new ≡ self.old) }
+
+        // Whatever is counted: the chunk is here, and no longer out.
+        ensures out { OnOk result (Loses (chunks_out self.old) (chunks_out self.new) segment) }
+        ensures kept { OnOk result (Gains (deeds_of self.old) (deeds_of self.new) segment.holding) }
+        ensures spans { span_tags self.new ≡ span_tags self.old }
+    {
+        if !self.is_routed_here(&segment) {
+            return Err((segment, PutFault::NotMine));
+        }
+        let Some((i, j)) = find_chunk(&self.slabs, segment.root(), segment.range()) else {
+            return Err((segment, PutFault::NotMine));
+        };
+        let slab = &mut self.slabs[i];
+        if slab.is_home(j) {
+            return Err((segment, PutFault::AtHome));
+        }
+        slab.put(j, Stored::new(segment.into_deed()));
+        Ok(())
+    }
+
+    /// Cuts a span into a slab with the next colour, and gives its first chunk.
+    pub fn add(&mut self, span: Segment<D>) -> Result<Segment<D>, (Segment<D>, AddFault)>
+        requires arena { span.arena ≡ self.old.arena }
+        requires route { span.route ≡ Route.Direct }
+        ensures wrong_size { IsErrAnd result (λ e. e.1 ≡ AddFault.WrongSize) ↔ (span.holding.range.len ≢ self.old.slab_size) }
+        ensures overlaps { IsErrAnd result (λ e. e.1 ≡ AddFault.Overlaps) ↔ ((span.holding.range.len ≡ self.old.slab_size) × Any (λ s. Overlap s.span.range span.holding.range) self.old.slabs) }
+        ensures ok { IfOk result (λ t. (i : ℕ) × Adds i self.old self.new span t) }
+        ensures same { IfErr result (λ e. e.0 ≡ span) }
+        ensures unchanged { OnErr result (self.new ≡ self.old) }
+
+        // Whatever is counted: the span came in, and its first chunk is out. Each of its other units is kept.
+        ensures out { IfOk result (λ t. Gains (chunks_out self.old) (chunks_out self.new) t) }
+        ensures kept { IfOk result (λ t. (u : ℕ) → covering_held u (deeds_of self.old) + covers_tag u span ≡ covering_held u (deeds_of self.new) + covers_tag u t) }
+        ensures spans { OnOk result (Gains (span_tags self.old) (span_tags self.new) span) }
+    {
+        let range = span.range();
+        let chunk = self.chunk();
+        let colour = self.colour;
+        let next = self.next_colour();
+        if range.len() != self.slab_size {
+            return Err((span, AddFault::WrongSize));
+        }
+        if overlaps(&self.slabs, range) {
+            return Err((span, AddFault::Overlaps));
+        }
+        let Ok(()) = self.slabs.reserve(1) else {
+            return Err((span, AddFault::NoMemory));
+        };
+        let deed = Stored::new(span.into_deed());
+        let mut slab = match Slab::new(self.alloc, deed, colour, chunk) {
+            Ok(slab) => slab,
+            Err(same) => {
+                let span = Segment::new(self.arena, Route::Direct, same.into_deed());
+                return Err((span, AddFault::NoMemory));
+            }
+        };
+        let first = slab.take(0);
+        self.colour = next;
+        let place = place_for(&self.slabs, range.base());
+        insert_reserved(&mut self.slabs, place, slab);
+        Ok(Segment::new(self.arena, Route::Cached(self.k), first.into_deed()))
+    }
+
+    // Whether a segment is of the arena, and came by this cache.
+    fn is_routed_here(&self, segment: &Segment<D>) -> bool
+        ensures { IsTrue result ↔ ((segment.now.arena ≡ self.now.arena) × (segment.now.route ≡ Route.Cached self.now.k)) }
+    {
+        segment.arena() == self.arena && segment.route() == Route::Cached(self.k)
+    }
+
+    // The units of a chunk.
+    fn chunk(&self) -> u64
+        ensures value { result ≡ chunk_of self.now }
+        ensures sound { IsSound self.now }
+    {
+        // A chunk is no longer than a slab, so the product fits.
+        let _slab_size = self.slab_size;
+        u64::from(self.k) * self.quantum
+    }
+
+    // The colour after that of the next slab.
+    fn next_colour(&self) -> u64
+        ensures { result ≡ next_colour_of self.now }
+    {
+        let chunk = self.chunk();
+        let spare = self.slab_size - self.slab_size / chunk * chunk;
+        if self.quantum <= spare - self.colour {
+            self.colour + self.quantum
+        } else {
+            0
+        }
+    }
+
+    /// Takes the lowest slab with all chunks at home out, whole.
+    pub fn reap(&mut self) -> Option<Segment<D>>
+        ensures none { IsNone result ↔ All (λ s. ¬ IsComplete s) self.old.slabs }
+        ensures some { IfSome result (λ t. (i : ℕ) × (s : SlabState) × Reaps i s self.old self.new t) }
+        ensures unchanged { IfNone result (self.new ≡ self.old) }
+
+        // Whatever is counted: the span left, and no chunk of it was out.
+        ensures out { WeighSame (chunks_out self.old) (chunks_out self.new) }
+        ensures kept { IfSome result (λ t. (u : ℕ) → covering_held u (deeds_of self.old) ≡ covering_held u (deeds_of self.new) + covers_tag u t) }
+        ensures spans { IfSome result (λ t. Loses (span_tags self.old) (span_tags self.new) t) }
+    {
+        let i = lowest_complete(&self.slabs)?;
+        let slab = self.slabs.remove(i);
+        Some(Segment::new(self.arena, Route::Direct, slab.into_span().into_deed()))
+    }
+
+    /// What lies in the cache, in units.
+    pub fn report(&self) -> SlabReport
+        ensures idle { result.idle ≡ units (idle_deeds self.now) }
+        ensures gap { result.gap ≡ units (gaps self.now) }
+        ensures tail { result.tail ≡ units (tails self.now) }
+        ensures kept { result.idle + result.gap + result.tail ≡ units (deeds_of self.now) }
+
+        // Each unit of a slab is in one chunk, at home or out, in the gap or in the tail.
+        ensures once { (u : ℕ) → covering_tags u (span_tags self.now) ≤ 1 }
+        ensures tiled { (u : ℕ) → covering_held u (deeds_of self.now) + covering_tags u (chunks_out self.now) ≡ covering_tags u (span_tags self.now) }
+    {
+        total(&self.slabs)
+    }
+
+    /// Ends the cache where no deed lies in it.
+    pub fn close(self) -> Result<(), SlabCache<D>>
+        ensures empty { IsOk result ↔ (deeds_of self ≡ []) }
+        ensures same { IfErr result (λ same. same ≡ self) }
+    {
+        if !are_empty(&self.slabs) {
+            return Err(self);
+        }
+        let SlabCache {
+            alloc: _,
+            arena: _,
+            k: _,
+            quantum: _,
+            slab_size: _,
+            slabs,
+            colour: _,
+        } = self;
+        discard_all(slabs);
+        Ok(())
+    }
+}
+
+#[cfg(test)]
+mod tests;

@@ -1,0 +1,169 @@
+ghost use Rattle.std.specs.Prelude.{◌≡◌};
+
+use super::*;
+use deed_core::{PlainDeed, Range};
+use refusing_deed::RefusingDeed;
+use std::process::Abort;
+use std::test::Fail;
+
+// A range of root 0 as a segment of the cache's arena.
+fn segment(rt: &impl Abort, arena: u32, route: Route, base: u64, len: u64) -> Segment<PlainDeed>
+    ensures arena { result.arena ≡ arena }
+    ensures route { result.route ≡ route }
+{
+    let range = Range::new(base, len).expect(rt, "a range");
+    Segment::new(arena, route, PlainDeed::new(0, range))
+}
+
+// The base and the length of a segment, which ends here.
+fn spend(segment: Segment<PlainDeed>) -> (u64, u64) {
+    let range = segment.into_deed().close();
+    (range.base(), range.len())
+}
+
+// What `add` gives for this span.
+fn added(
+    rt: &impl Abort,
+    cache: &mut SlabCache<PlainDeed>,
+    base: u64,
+    len: u64,
+) -> Result<(u64, u64), AddFault> {
+    let span = segment(rt, cache.arena(), Route::Direct, base, len);
+    match cache.add(span) {
+        Ok(first) => Ok(spend(first)),
+        Err((span, fault)) => {
+            assert_eq!(rt; spend(span), (base, len));
+            Err(fault)
+        }
+    }
+}
+
+// What `take` gives.
+fn taken(cache: &mut SlabCache<PlainDeed>) -> Option<(u64, u64)> {
+    match cache.take() {
+        None => None,
+        Some(chunk) => Some(spend(chunk)),
+    }
+}
+
+// What `put` answers to a chunk of five units.
+fn put(
+    rt: &impl Abort,
+    cache: &mut SlabCache<PlainDeed>,
+    k: u8,
+    base: u64,
+) -> Result<(), PutFault> {
+    let chunk = segment(rt, cache.arena(), Route::Cached(k), base, 5);
+    match cache.put(chunk) {
+        Ok(()) => Ok(()),
+        Err((chunk, fault)) => {
+            assert_eq!(rt; spend(chunk), (base, 5));
+            Err(fault)
+        }
+    }
+}
+
+// What `reap` gives.
+fn reaped(cache: &mut SlabCache<PlainDeed>) -> Option<(u64, u64)> {
+    match cache.reap() {
+        None => None,
+        Some(span) => Some(spend(span)),
+    }
+}
+
+// Ends a cache with nothing in it.
+fn close<D: Deed>(rt: &impl Abort, cache: SlabCache<D>) {
+    match cache.close() {
+        Ok(()) => {}
+        Err(_) => panic!(rt; "a deed lies in the cache"),
+    }
+}
+
+#[test]
+fn colours(rt: HostRuntime) -> Result<(), Fail> {
+    let mut cache: SlabCache<PlainDeed> = SlabCache::new(rt.alloc(), 7, 5, 1, 16);
+    assert_eq!(rt; cache.k(), 5);
+    first_slabs(&rt, &mut cache);
+    second_slab_alone(&rt, &mut cache);
+    close(&rt, cache);
+    Ok(())
+}
+
+// Two slabs, of which the lower one goes again.
+fn first_slabs(rt: &impl Abort, cache: &mut SlabCache<PlainDeed>) {
+    assert_eq!(rt; added(rt, cache, 0, 16), Ok((0, 5)));
+    assert_eq!(rt;
+        cache.report(),
+        SlabReport {
+            idle: 10,
+            gap: 0,
+            tail: 1
+        }
+    );
+    assert_eq!(rt; taken(cache), Some((5, 5)));
+    assert_eq!(rt; taken(cache), Some((10, 5)));
+    assert_eq!(rt; taken(cache), None);
+    assert_eq!(rt; added(rt, cache, 16, 16), Ok((17, 5)));
+    assert_eq!(rt;
+        cache.report(),
+        SlabReport {
+            idle: 10,
+            gap: 1,
+            tail: 1
+        }
+    );
+    assert_eq!(rt; taken(cache), Some((22, 5)));
+    assert_eq!(rt; taken(cache), Some((27, 5)));
+    assert_eq!(rt; put(rt, cache, 5, 5), Ok(()));
+    assert_eq!(rt; taken(cache), Some((5, 5)));
+    for base in [0, 5, 10] {
+        assert_eq!(rt; put(rt, cache, 5, base), Ok(()));
+    }
+    assert_eq!(rt; reaped(cache), Some((0, 16)));
+    assert_eq!(rt; reaped(cache), None);
+}
+
+// What is refused while the second slab stands, and its end.
+fn second_slab_alone(rt: &impl Abort, cache: &mut SlabCache<PlainDeed>) {
+    assert_eq!(rt; added(rt, cache, 32, 8), Err(AddFault::WrongSize));
+    assert_eq!(rt; added(rt, cache, 24, 16), Err(AddFault::Overlaps));
+    assert_eq!(rt; put(rt, cache, 5, 17), Ok(()));
+    assert_eq!(rt; put(rt, cache, 5, 17), Err(PutFault::AtHome));
+    assert_eq!(rt; put(rt, cache, 4, 22), Err(PutFault::NotMine));
+    assert_eq!(rt; put(rt, cache, 5, 22), Ok(()));
+    assert_eq!(rt; put(rt, cache, 5, 27), Ok(()));
+    assert_eq!(rt; reaped(cache), Some((16, 16)));
+}
+
+// A slab of 16 takes three splits. Each may be refused, and the span is then whole again.
+#[test]
+fn refused_splits(rt: HostRuntime) -> Result<(), Fail> {
+    let range = Range::new(0, 16).ok_or("a range")?;
+    let mut cache: SlabCache<RefusingDeed> = SlabCache::new(rt.alloc(), 7, 5, 1, 16);
+    for splits_left in 0..3 {
+        let deed = RefusingDeed::new(0, range, splits_left);
+        let span = Segment::new(cache.arena(), Route::Direct, deed);
+        match cache.add(span) {
+            Ok(_) => panic!(rt; "a split is refused"),
+            Err((span, fault)) => {
+                assert_eq!(rt; span.into_deed().close(), range);
+                assert_eq!(rt; fault, AddFault::NoMemory);
+            }
+        }
+    }
+    let deed = RefusingDeed::new(0, range, 3);
+    let span = Segment::new(cache.arena(), Route::Direct, deed);
+    let first = match cache.add(span) {
+        Ok(first) => first,
+        Err(_) => panic!(rt; "no split is refused"),
+    };
+    assert_eq!(rt; first.range().len(), 5);
+    match cache.put(first) {
+        Ok(()) => {}
+        Err(_) => panic!(rt; "the chunk was out"),
+    }
+    let whole = cache.reap().expect(&rt, "all chunks are at home");
+    assert_eq!(rt; whole.into_deed().close(), range);
+    close(&rt, cache);
+    Ok(())
+}

@@ -1,0 +1,44 @@
+//! Deeds that are missing where they would cover nothing: a colour gap of colour 0, a tail of no units.
+ghost use Rattle.std.specs.Prelude.{◌≡◌, IfOk, IfErr};
+ghost use Rattle.slab_layer.specs.Parts.{front_of, back_of, Follows, joined_parts};
+
+use deed_core::{Deed, Stored};
+
+/// What a cut gives: the first units, and those behind them.
+pub type Cut<D> = (Option<Stored<D>>, Option<Stored<D>>);
+
+/// Cuts a part behind its first `len` units, or gives it back as it was.
+pub fn cut<D: Deed>(part: Option<Stored<D>>, len: u64) -> Result<Cut<D>, Option<Stored<D>>>
+    ensures ok { IfOk result (λ parts. (parts.0 ≡ front_of len part) × (parts.1 ≡ back_of len part)) }
+    ensures err { IfErr result (λ same. same ≡ part) }
+{
+    let Some(deed) = part else {
+        return Ok((None, None));
+    };
+    if len == 0 {
+        let _some = deed.range();
+        return Ok((None, Some(deed)));
+    }
+    let range = deed.range();
+    if range.len() <= len {
+        return Ok((Some(deed), None));
+    }
+    match deed.split(range.base() + len) {
+        Ok((low, high)) => Ok((Some(low), Some(high))),
+        Err(same) => Err(Some(same)),
+    }
+}
+
+/// Joins a part and the one that goes on from it.
+pub fn join<D: Deed>(low: Option<Stored<D>>, high: Option<Stored<D>>) -> Option<Stored<D>>
+    requires { Follows low high }
+    ensures { result ≡ joined_parts low high }
+{
+    let Some(first) = low else {
+        return high;
+    };
+    let Some(second) = high else {
+        return Some(first);
+    };
+    Some(first.join(second))
+}

@@ -1,0 +1,59 @@
+//! What the slabs of a cache hold, together.
+ghost use Rattle.std.specs.Prelude.{◌≡◌, ◌^◌, ◌≤◌, ◌↔◌, [], All, IsTrue, sum_by};
+ghost use Rattle.std.specs.Option.{option_to_list};
+ghost use Rattle.slab_layer.specs.Slab.{chunk_at, gap_of, tail_of, idle_chunks_by, deeds_in, units};
+
+use crate::slabs::Slab;
+use deed_core::Deed;
+
+/// What lies in a cache, in units: the idle chunks, the colour gaps and the tails.
+#[derive(Clone, Copy, PartialEq, Eq, Debug)]
+pub struct SlabReport {
+    /// In chunks at home.
+    pub idle: u64,
+    /// Before the first chunks.
+    pub gap: u64,
+    /// Behind the last chunks.
+    pub tail: u64,
+}
+
+/// The sums over the slabs.
+pub fn total<D: Deed>(slabs: &[Slab<D>]) -> SlabReport
+    requires { sum_by (λ s. s.span.range.len) slabs.now ≤ 2 ^ 62 }
+    ensures idle { result.idle ≡ sum_by (λ s. units (idle_chunks_by (chunk_at s) s)) slabs.now }
+    ensures gap { result.gap ≡ sum_by (λ s. units (option_to_list (gap_of s))) slabs.now }
+    ensures tail { result.tail ≡ sum_by (λ s. units (option_to_list (tail_of s))) slabs.now }
+{
+    let mut idle = 0;
+    let mut gap = 0;
+    let mut tail = 0;
+    for slab in slabs {
+        idle += slab.idle();
+        gap += slab.gap();
+        tail += slab.tail();
+    }
+    SlabReport { idle, gap, tail }
+}
+
+/// Whether no deed lies in any slab.
+pub fn are_empty<D: Deed>(slabs: &[Slab<D>]) -> bool
+    ensures { IsTrue result ↔ All (λ s. deeds_in s ≡ []) slabs.now }
+{
+    for slab in slabs {
+        if !slab.is_empty() {
+            return false;
+        }
+    }
+    true
+}
+
+/// Ends slabs in which no deed lies.
+pub fn discard_all<D: Deed>(slabs: Vec<Slab<D>>)
+    requires { All (λ s. deeds_in s ≡ []) slabs.items }
+{
+    let mut slabs = slabs;
+    while let Some(slab) = slabs.pop() {
+        slab.discard();
+    }
+    slabs.destroy_empty();
+}

@@ -1,0 +1,91 @@
+//! A deed cut into a row of chunks, and a row joined.
+ghost use Rattle.std.specs.Prelude.{◌≡◌, ◌+◌, ◌-◌, ◌*◌, ◌<◌, ◌≤◌, ◌↔◌, [], true, false, length, map, is_some, replicate, count_by, All, IsTrue, vec_capacity, MatchOption, IfOk, IfErr, OnOk, OnErr};
+ghost use Rattle.slab_layer.specs.Parts.{piece, part, IsRow, joined_row};
+ghost use Rattle.slab_layer.specs.Slab.{IsLowestIdle, stored_row};
+
+use crate::parts::{cut, join};
+use deed_core::{Deed, Stored};
+
+/// The first place with a deed.
+pub fn first_some<D: Deed>(row: &[Option<Stored<D>>]) -> Option<usize>
+    ensures { MatchOption result (All (λ b. b ≡ false) (map is_some row.now)) (λ j. IsLowestIdle j (map is_some row.now)) }
+{
+    for (j, deed) in row.iter().enumerate() {
+        if deed.is_some() {
+            return Some(j);
+        }
+    }
+    None
+}
+
+/// Whether each place has a deed.
+pub fn are_some<D: Deed>(row: &[Option<Stored<D>>]) -> bool
+    ensures { IsTrue result ↔ All (λ b. b ≡ true) (map is_some row.now) }
+{
+    for deed in row {
+        if deed.is_none() {
+            return false;
+        }
+    }
+    true
+}
+
+/// How many places have a deed.
+pub fn count_some<D: Deed>(row: &[Option<Stored<D>>]) -> usize
+    ensures count { result ≡ count_by (λ b. b) (map is_some row.now) }
+    ensures bound { result ≤ length row.now }
+{
+    let mut count = 0;
+    for deed in row {
+        if deed.is_some() {
+            count += 1;
+        }
+    }
+    count
+}
+
+/// Joins a row of parts and what is behind it.
+pub fn unchop<D: Deed>(
+    row: &mut Vec<Option<Stored<D>>>,
+    rest: Option<Stored<D>>,
+) -> Option<Stored<D>>
+    requires { IsRow row.old.items rest }
+    ensures joined { result ≡ joined_row row.old.items rest }
+    ensures empty { row.new.items ≡ [] }
+{
+    let mut rest = rest;
+    while let Some(last) = row.pop() {
+        rest = join(last, rest);
+    }
+    rest
+}
+
+/// Cuts `count` chunks off a deed, and gives what is left. Where memory runs out, the deed is whole again.
+pub fn chop<D: Deed>(
+    row: &mut Vec<Option<Stored<D>>>,
+    whole: Stored<D>,
+    chunk: u64,
+    count: usize,
+) -> Result<Option<Stored<D>>, Stored<D>>
+    requires empty { row.old.items ≡ [] }
+    requires capacity { count ≤ vec_capacity row.old }
+    requires some { 0 < chunk }
+    requires room { count * chunk ≤ whole.range.len }
+    ensures ok { IfOk result (λ rest. rest ≡ part whole.root (whole.range.base + count * chunk) (whole.range.len - count * chunk)) }
+    ensures row { OnOk result (row.new.items ≡ stored_row (λ i. piece whole.root (whole.range.base + i * chunk) chunk) 0 (replicate count true)) }
+    ensures err { IfErr result (λ same. same ≡ whole) }
+    ensures err_row { OnErr result (row.new.items ≡ []) }
+{
+    let _some = whole.range();
+    let mut rest = Some(whole);
+    for done in 0..count {
+        match cut(rest, chunk) {
+            Ok((low, high)) => {
+                row.push_reserved(low);
+                rest = high;
+            }
+            Err(same) => return Err(unchop(row, same).unwrap()),
+        }
+    }
+    Ok(rest)
+}

@@ -1,0 +1,255 @@
+//! Slabs: spans cut into a colour gap, chunks and a tail.
+ghost use Rattle.std.specs.Prelude.{◌≡◌, ◌≢◌, ℕ, ◌+◌, ◌*◌, ◌/◌, ◌<◌, ◌≤◌, ◌↔◌, [], true, false, length, All, slice_index_or, slice_set, IsTrue, IfOk, IfErr, MatchOption};
+ghost use Rattle.std.specs.Option.{option_to_list};
+ghost use Rattle.deed_core.specs.Extent.{IsRange};
+ghost use Rattle.slab_layer.specs.Slab.{SlabState, IsComplete, IsPartial, IsLowestIdle, chunk_at, new_slab, gap_of, tail_of, idle_chunks_by, deeds_in, units};
+
+use crate::parts::{cut, join};
+use crate::rows::{are_some, chop, count_some, first_some, unchop};
+use deed_core::{Deed, Range, Stored};
+use std::alloc::Global;
+use std::marker::Model;
+use std::mem;
+
+/// A span, cut. The deed of each chunk lies at its place while the chunk is at home.
+pub struct Slab<D: Deed> {
+    root: u32,
+    span: Range,
+    colour: u64,
+    chunk: u64,
+    gap: Option<Stored<D>>,
+    home: Vec<Option<Stored<D>>>,
+    tail: Option<Stored<D>>,
+}
+
+impl<D: Deed> Model for Slab<D> {
+    ghost use Rattle.std.specs.Prelude.{map, is_some};
+    ghost use Rattle.slab_layer.specs.Slab.{SlabState, IsStored};
+
+    ghost Value = { SlabState };
+
+    ghost view = { λ s. record { span = record { root = s.root; range = s.span }; colour = s.colour; chunk = s.chunk; home = map is_some s.home.items } };
+
+    ghost invariant = { λ s. IsStored (record { span = record { root = s.root; range = s.span }; colour = s.colour; chunk = s.chunk; home = map is_some s.home.items }) s.gap s.home.items s.tail };
+}
+
+impl<D: Deed> Slab<D> {
+    /// Cuts a span. Where memory runs out, the span is whole again.
+    pub fn new(
+        alloc: Global,
+        deed: Stored<D>,
+        colour: u64,
+        chunk: u64,
+    ) -> Result<Slab<D>, Stored<D>>
+        requires some { 0 < chunk }
+        requires chunks { 0 < deed.range.len / chunk }
+        requires room { colour + deed.range.len / chunk * chunk ≤ deed.range.len }
+        ensures ok { IfOk result (λ slab. slab ≡ new_slab deed colour chunk) }
+        ensures err { IfErr result (λ same. same ≡ deed) }
+    {
+        let root = deed.root();
+        let span = deed.range();
+        let count = (span.len() / chunk) as usize;
+        let Ok(mut home) = Vec::with_capacity(alloc, count) else {
+            return Err(deed);
+        };
+        let (gap, rest) = match cut(Some(deed), colour) {
+            Ok(parts) => parts,
+            Err(same) => {
+                home.destroy_empty();
+                return Err(same.unwrap());
+            }
+        };
+        match chop(&mut home, rest.unwrap(), chunk, count) {
+            Ok(tail) => Ok(Slab {
+                root,
+                span,
+                colour,
+                chunk,
+                gap,
+                home,
+                tail,
+            }),
+            Err(rest) => {
+                home.destroy_empty();
+                Err(join(gap, Some(rest)).unwrap())
+            }
+        }
+    }
+
+    /// The whole span again.
+    pub fn into_span(self) -> Stored<D>
+        requires { IsComplete self }
+        ensures { result ≡ self.span }
+    {
+        let Slab {
+            root: _,
+            span,
+            colour: _,
+            chunk: _,
+            gap,
+            mut home,
+            tail,
+        } = self;
+        let _some = span.len();
+        let body = unchop(&mut home, tail);
+        home.destroy_empty();
+        join(gap, body).unwrap()
+    }
+
+    pub fn root(&self) -> u32
+        ensures { result ≡ self.now.span.root }
+    {
+        self.root
+    }
+
+    pub fn span(&self) -> Range
+        ensures value { result ≡ self.now.span.range }
+        ensures range { IsRange result }
+    {
+        let _ = self.span.len();
+        self.span
+    }
+
+    /// The lowest chunk at home.
+    pub fn first_idle(&self) -> Option<usize>
+        ensures { MatchOption result (All (λ b. b ≡ false) self.now.home) (λ j. IsLowestIdle j self.now.home) }
+    {
+        first_some(&self.home)
+    }
+
+    pub fn is_complete(&self) -> bool
+        ensures { IsTrue result ↔ IsComplete self.now }
+    {
+        are_some(&self.home)
+    }
+
+    pub fn is_partial(&self) -> bool
+        ensures { IsTrue result ↔ IsPartial self.now }
+    {
+        if self.is_complete() {
+            return false;
+        }
+        self.first_idle().is_some()
+    }
+
+    pub fn is_home(&self, j: usize) -> bool
+        requires { j < length self.now.home }
+        ensures { result ≡ slice_index_or self.now.home j false }
+    {
+        self.home[j].is_some()
+    }
+
+    /// Which chunk covers this range of this root.
+    #[tactic(auto, using(crate::proofs::SlabLemmas::places))]
+    pub fn place_of(&self, root: u32, range: Range) -> Option<usize>
+        ensures { MatchOption result ((j : ℕ) → j < length self.now.home → chunk_at self.now j ≢ record { root = root; range = range }) (λ j. (j < length self.now.home) × (chunk_at self.now j ≡ record { root = root; range = range })) }
+    {
+        let first = self.span.base() + self.colour;
+        if root != self.root || range.len() != self.chunk || range.base() < first {
+            return None;
+        }
+        let offset = range.base() - first;
+        if offset % self.chunk != 0 {
+            return None;
+        }
+        if offset / self.chunk >= self.home.len() as u64 {
+            return None;
+        }
+        Some((offset / self.chunk) as usize)
+    }
+
+    /// Takes a chunk that is at home.
+    pub fn take(&mut self, j: usize) -> Stored<D>
+        requires within { j < length self.old.home }
+        requires idle { slice_index_or self.old.home j false ≡ true }
+        ensures chunk { result ≡ chunk_at self.old j }
+        ensures after { self.new ≡ record { span = self.old.span; colour = self.old.colour; chunk = self.old.chunk; home = slice_set self.old.home j false } }
+    {
+        mem::replace(&mut self.home[j], None).unwrap()
+    }
+
+    /// Puts a chunk back.
+    pub fn put(&mut self, j: usize, deed: Stored<D>)
+        requires within { j < length self.old.home }
+        requires is_out { slice_index_or self.old.home j false ≡ false }
+        requires chunk { deed ≡ chunk_at self.old j }
+        ensures { self.new ≡ record { span = self.old.span; colour = self.old.colour; chunk = self.old.chunk; home = slice_set self.old.home j true } }
+    {
+        match mem::replace(&mut self.home[j], Some(deed)) {
+            None => {}
+            Some(_) => unreachable!(),
+        }
+    }
+
+    /// The units of the chunks at home.
+    pub fn idle(&self) -> u64
+        ensures value { result ≡ units (idle_chunks_by (chunk_at self.now) self.now) }
+        ensures bound { result ≤ self.now.span.range.len }
+    {
+        let _ = self.span.len();
+        count_some(&self.home) as u64 * self.chunk
+    }
+
+    /// The units before the first chunk.
+    pub fn gap(&self) -> u64
+        ensures value { result ≡ units (option_to_list (gap_of self.now)) }
+        ensures bound { result ≤ self.now.span.range.len }
+    {
+        self.colour
+    }
+
+    /// The units behind the last chunk.
+    pub fn tail(&self) -> u64
+        ensures value { result ≡ units (option_to_list (tail_of self.now)) }
+        ensures bound { result ≤ self.now.span.range.len }
+    {
+        match &self.tail {
+            None => 0,
+            Some(deed) => deed.range().len(),
+        }
+    }
+
+    /// Whether no deed lies here.
+    pub fn is_empty(&self) -> bool
+        ensures { IsTrue result ↔ (deeds_in self.now ≡ []) }
+    {
+        if self.gap.is_some() {
+            return false;
+        }
+        if self.tail.is_some() {
+            return false;
+        }
+        self.first_idle().is_none()
+    }
+
+    /// Ends a slab in which no deed lies.
+    pub fn discard(self)
+        requires { deeds_in self ≡ [] }
+    {
+        let Slab {
+            root: _,
+            span: _,
+            colour: _,
+            chunk: _,
+            gap,
+            mut home,
+            tail,
+        } = self;
+        match gap {
+            None => {}
+            Some(_) => unreachable!(),
+        }
+        match tail {
+            None => {}
+            Some(_) => unreachable!(),
+        }
+        while let Some(chunk) = home.pop() {
+            match chunk {
+                None => {}
+                Some(_) => unreachable!(),
+            }
+        }
+        home.destroy_empty();
+    }
+}
