@@ -1,0 +1,8 @@
+//! The book of leases.
+#![tactic(auto)]
+
+mod answers;
+mod receipts;
+
+pub use answers::{Answer, Look};
+pub use receipts::{Receipt, Refusal, Reply, Terms};
