@@ -1,13 +1,60 @@
 -- How a book answers.
 use Rattle.std.specs.Prelude.{◌≡◌, ◌≢◌, ℕ, ◌+◌, ◌<◌, List, length, Option, Some, None}
-use Rattle.std.specs.List.{find}
-use Rattle.deed_core.specs.Tag.{Tag}
-use Rattle.deed_core.specs.Weights.{WeighSame}
 use Rattle.lease_book.specs.Kept.{Kept, Voucher}
-use Rattle.lease_book.specs.Entry.{Entry, Settled, Settlement, Refuse, kept}
-use Rattle.lease_book.specs.Account.{Lease, Account, last, is_lease}
-use Rattle.lease_book.specs.Ledger.{Ledger, Enters, account_in, leased}
+use Rattle.lease_book.specs.Entry.{Settlement, kept}
+use Rattle.lease_book.specs.Account.{Account, last}
+use Rattle.lease_book.specs.Ledger.{Ledger}
 use Rattle.lease_book.specs.declared.answers.Answer.{Answer}
 use Rattle.lease_book.specs.declared.answers.Answer.TheVariants as answer
 use Rattle.lease_book.specs.declared.answers.Look.{Look}
 use Rattle.lease_book.specs.declared.answers.Look.TheVariants as look
+
+-- the receipt of a settled number of a client's incarnation
+abbrev pub receipt : Ledger → ℕ → ℕ → Kept → Voucher
+receipt book c i k = record { book = book.mark.root; client = c; incarnation = i; kept = k }
+
+-- the number is the next one of the current incarnation
+pub record IsNew (a : Account) (incarnation number : ℕ) : Type 0 where
+  pub current : incarnation ≡ a.incarnation
+  pub next : number ≡ last a + 1
+
+-- the number is the last one, and this its receipt
+pub record IsRepeated (book : Ledger) (a : Account) (incarnation number : ℕ) (r : Voucher) : Type 0 where
+  pub current : incarnation ≡ a.incarnation
+  pub last : number ≡ r.kept.number
+  pub kept : a.kept ≡ Some r.kept
+  pub receipt : r ≡ receipt book a.client incarnation r.kept
+
+-- the incarnation isn't the current one
+pub record IsOld (a : Account) (incarnation named : ℕ) : Type 0 where
+  pub other : incarnation ≢ a.incarnation
+  pub current : named ≡ a.incarnation
+
+-- the number is below the last one
+pub record IsStale (a : Account) (incarnation number greatest : ℕ) : Type 0 where
+  pub current : incarnation ≡ a.incarnation
+  pub last : greatest ≡ last a
+  pub below : number < greatest
+
+-- the number is above the next one
+pub record IsGap (a : Account) (incarnation number greatest : ℕ) : Type 0 where
+  pub current : incarnation ≡ a.incarnation
+  pub last : greatest ≡ last a
+  pub above : greatest + 1 < number
+
+-- what a number of a client is to its book
+abbrev pub IsLook : {D : Type 0} → Ledger → Account → ℕ → ℕ → Look D → Type 0
+IsLook book a i n look.New = IsNew a i n
+IsLook book a i n (look.Kept r) = IsRepeated book a i n r
+IsLook book a i n (look.Old current) = IsOld a i current
+IsLook book a i n (look.Stale greatest) = IsStale a i n greatest
+IsLook book a i n (look.Gap greatest) = IsGap a i n greatest
+
+-- the answer to a number that isn't new; of the others, that it was refused and that memory was wanted, it says what is given
+abbrev pub IsAnswer : {D : Type 0} → Ledger → Account → ℕ → ℕ → (Voucher → Type 0) → Type 0 → Answer D → Type 0
+IsAnswer book a i n refused again (answer.Kept r) = IsRepeated book a i n r
+IsAnswer book a i n refused again (answer.Old current) = IsOld a i current
+IsAnswer book a i n refused again (answer.Stale greatest) = IsStale a i n greatest
+IsAnswer book a i n refused again (answer.Gap greatest) = IsGap a i n greatest
+IsAnswer book a i n refused again (answer.Refused r) = refused r
+IsAnswer book a i n refused again answer.Again = again

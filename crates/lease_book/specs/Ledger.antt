@@ -44,3 +44,6 @@ leased book = flat_map (λ a. segments a.leases) book.accounts
 -- what a segment counts in an arena
 abbrev pub units_in : ℕ → Tag → ℕ
 units_in arena t = if t.arena == arena then t.holding.range.len else 0
+
+abbrev pub units_of_lease : ℕ → Lease → ℕ
+units_of_lease arena l = units_in arena l.segment

@@ -2,6 +2,7 @@
 #![tactic(auto)]
 
 mod answers;
+mod leases;
 mod receipts;
 
 pub use answers::{Answer, Look};
