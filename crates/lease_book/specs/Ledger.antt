@@ -1,5 +1,5 @@
 -- What contracts see of a book.
-use Rattle.std.specs.Prelude.{◌≡◌, ℕ, ◌==◌, Bool, if◌then◌else◌, List, [], ◌∷◌, map, Option, Some, None}
+use Rattle.std.specs.Prelude.{◌≡◌, ℕ, ◌==◌, Bool, if◌then◌else◌, List, [], ◌∷◌, map, sum_by, Option, Some, None}
 use Rattle.std.specs.List.{find, flat_map}
 use Rattle.deed_core.specs.Holding.{Holding}
 use Rattle.deed_core.specs.Tag.{Tag}
@@ -47,3 +47,7 @@ units_in arena t = if t.arena == arena then t.holding.range.len else 0
 
 abbrev pub units_of_lease : ℕ → Lease → ℕ
 units_of_lease arena l = units_in arena l.segment
+
+-- the units of the arena that a client has leased
+abbrev pub units_of_account : ℕ → Account → ℕ
+units_of_account arena a = sum_by (units_of_lease arena) a.leases

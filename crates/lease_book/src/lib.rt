@@ -1,6 +1,7 @@
 //! The book of leases.
 #![tactic(auto)]
 
+mod accounts;
 mod answers;
 mod leases;
 mod receipts;
