@@ -1,2 +1,4 @@
 pub mod Pigeons
+pub mod PlaceLemmas
 pub mod ShelfLemmas
+pub mod WeightLemmas

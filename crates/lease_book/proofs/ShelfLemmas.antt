@@ -8,12 +8,13 @@ use Rattle.std.proofs.lemmas.Map.Entries.{length-keys_of}
 use Rattle.std.proofs.lemmas.List.Elements.{All-set, All-push}
 use Rattle.std.proofs.lemmas.List.{length-append, length-set, map-append, set-get_or}
 use Rattle.std.proofs.Math.ListN.{set}
-use Rattle.std.proofs.lemmas.Bool.{ltb-true, ltb-false}
 use Rattle.indexmap.specs.IndexMap.{IndexMap, insert_entry, set_value_at}
 use Rattle.indexmap.proofs.CallerLemmas.{insert_entry-new}
 use Rattle.lease_book.proofs.Pigeons.{few_clients}
+use Rattle.lease_book.proofs.PlaceLemmas.{position-some, position-none}
 use Rattle.lease_book.specs.Kept.{IsClient}
-use Rattle.lease_book.specs.Account.{Lease, Account}
+use Rattle.lease_book.specs.Account.{Lease, Account, number_of}
+use Rattle.lease_book.specs.Reports.{report_of}
 use Rattle.lease_book.specs.Shelf.{account_with, accounts_of, IsShelf, changed_at, standing_of, with_standing, with_leases}
 use Rattle.lease_book.specs.declared.accounts.Standing.{Standing}
 
@@ -46,22 +47,6 @@ find_at_place c (e ∷ es) (l ∷ ls) same = by (nat_eq c e.0) (find_at_place c 
         → cond b (Some (account_with e.0 e.1 l)) (find (λ a. nat_eq c a.client) (accounts_of es ls)) ≡ slice_get (accounts_of (e ∷ es) (l ∷ ls)) (cond (not b) (1 + position_or_len (nat_eq c) (keys_of es)) 0)
     by true rest = refl
     by false rest = rw one-add rest
-
-pub position-some : {X : Type 0} (test : X → Bool) (xs : List X) (i : ℕ) → position test xs ≡ Some i → (position_or_len test xs ≡ i) × (i < length xs)
-position-some test xs i at = by (nat_lt (position_or_len test xs) (length xs)) refl at
-  where
-    by : (b : Bool) → nat_lt (position_or_len test xs) (length xs) ≡ b → cond b (Some (position_or_len test xs)) None ≡ Some i → (position_or_len test xs ≡ i) × (i < length xs)
-    by true less at =
-        let is : position_or_len test xs ≡ i = cc in
-        (is, subst (λ (k : ℕ). k < length xs) is (ltb-true _ _ less))
-    by false less at = absurd (cc)
-
-pub position-none : {X : Type 0} (test : X → Bool) (xs : List X) → position test xs ≡ None → length xs ≤ position_or_len test xs
-position-none test xs at = by (nat_lt (position_or_len test xs) (length xs)) refl at
-  where
-    by : (b : Bool) → nat_lt (position_or_len test xs) (length xs) ≡ b → cond b (Some (position_or_len test xs)) None ≡ None → length xs ≤ position_or_len test xs
-    by true less at = absurd (cc)
-    by false less at = ltb-false _ _ less
 
 pub write_standing : (es : List (ℕ × Standing)) (ls : List (List Lease)) (i : ℕ) (s : Standing) → accounts_of (set_value_at es i s) ls ≡ changed_at (accounts_of es ls) i (with_standing s)
 write_standing [] ls i s = refl
@@ -233,3 +218,30 @@ pub inserted : {S : Type 0} (m : IndexMap ℕ Standing S) (es new_es : List (ℕ
 inserted m es new_es ls accounts c s is same new before after =
     let none : lookup (nat_eq c) es ≡ None = absent c es ls same (ap (λ (xs : List Account). find (λ a. nat_eq c a.client) xs) is ∙ new) in
     after ∙ insert_entry-new nat_eq m c s (ap (λ (xs : List (ℕ × Standing)). lookup (nat_eq c) xs) before ∙ none) ∙ ap (λ (xs : List (ℕ × Standing)). xs ++ (c, s) ∷ []) before
+
+-- what is told of a place
+pub report_at : (es : List (ℕ × Standing)) (ls : List (List Lease)) (i : ℕ) (e : ℕ × Standing) (l : List Lease) → length es ≡ length ls → slice_get es i ≡ Some e → l ≡ get_or ls i l
+    → slice_get (accounts_of es ls) i ≡ Some (account_with e.0 e.1 l)
+report_at [] ls i e l same at beside = absurd (cc)
+report_at (d ∷ es) [] i e l same at beside = absurd (omega arith)
+report_at (d ∷ es) (x ∷ ls) zero e l same at beside =
+    let is : d ≡ e = cc in
+    ap (λ (p : (ℕ × Standing) × List Lease). Some (account_with p.0.0 p.0.1 p.1)) (λ j. (is j, sym beside j))
+report_at (d ∷ es) (x ∷ ls) (suc i) e l same at beside = report_at es ls i e l (omega arith) at beside
+
+pub no_report_at : (es : List (ℕ × Standing)) (ls : List (List Lease)) (i : ℕ) → length es ≡ length ls → slice_get es i ≡ None → slice_get (accounts_of es ls) i ≡ None
+no_report_at [] ls i same at = refl
+no_report_at (d ∷ es) [] i same at = absurd (omega arith)
+no_report_at (d ∷ es) (x ∷ ls) zero same at = absurd (cc)
+no_report_at (d ∷ es) (x ∷ ls) (suc i) same at = no_report_at es ls i (omega arith) at
+
+pub report_is : (es : List (ℕ × Standing)) (ls : List (List Lease)) (accounts : List Account) (i : ℕ) (e : ℕ × Standing) (l : List Lease) (last len : ℕ) → accounts_of es ls ≡ accounts → length es ≡ length ls
+    → Some e ≡ slice_get es i → l ≡ get_or ls i l → last ≡ number_of e.1.kept → len ≡ length l
+    → Some (record { client = e.0; incarnation = e.1.incarnation; last = last; leases = len }) ≡ option_map report_of (slice_get accounts i)
+report_is es ls accounts i e l last len is same at beside is_last is_len =
+    ap (λ (p : ℕ × ℕ). Some (record { client = e.0; incarnation = e.1.incarnation; last = p.0; leases = p.1 })) (λ j. (is_last j, is_len j))
+    ∙ sym (ap (option_map report_of) (ap (λ (xs : List Account). slice_get xs i) (sym is) ∙ report_at es ls i e l same (sym at) beside))
+
+pub no_report : (es : List (ℕ × Standing)) (ls : List (List Lease)) (accounts : List Account) (i : ℕ) → accounts_of es ls ≡ accounts → length es ≡ length ls → None ≡ slice_get es i
+    → None ≡ option_map report_of (slice_get accounts i)
+no_report es ls accounts i is same at = sym (ap (option_map report_of) (ap (λ (xs : List Account). slice_get xs i) (sym is) ∙ no_report_at es ls i same (sym at)))

@@ -3,7 +3,9 @@ use Rattle.std.specs.Prelude.{◌≡◌, ◌≢◌, ℕ, ◌+◌, ◌<◌, List,
 use Rattle.lease_book.specs.Kept.{Kept, Voucher}
 use Rattle.lease_book.specs.Entry.{Settlement, kept}
 use Rattle.lease_book.specs.Account.{Account, last}
-use Rattle.lease_book.specs.Ledger.{Ledger}
+use Rattle.lease_book.specs.Ledger.{Ledger, account_in}
+use Rattle.lease_book.specs.declared.answers.HelloFault.{HelloFault}
+use Rattle.lease_book.specs.declared.answers.HelloFault.TheVariants.{Old, NoMemory}
 use Rattle.lease_book.specs.declared.answers.Answer.{Answer}
 use Rattle.lease_book.specs.declared.answers.Answer.TheVariants as answer
 use Rattle.lease_book.specs.declared.answers.Look.{Look}
@@ -50,11 +52,16 @@ IsLook book a i n (look.Old current) = IsOld a i current
 IsLook book a i n (look.Stale greatest) = IsStale a i n greatest
 IsLook book a i n (look.Gap greatest) = IsGap a i n greatest
 
--- the answer to a number that isn't new; of the others, that it was refused and that memory was wanted, it says what is given
-abbrev pub IsAnswer : {D : Type 0} → Ledger → Account → ℕ → ℕ → (Voucher → Type 0) → Type 0 → Answer D → Type 0
-IsAnswer book a i n refused again (answer.Kept r) = IsRepeated book a i n r
-IsAnswer book a i n refused again (answer.Old current) = IsOld a i current
-IsAnswer book a i n refused again (answer.Stale greatest) = IsStale a i n greatest
-IsAnswer book a i n refused again (answer.Gap greatest) = IsGap a i n greatest
-IsAnswer book a i n refused again (answer.Refused r) = refused r
-IsAnswer book a i n refused again answer.Again = again
+-- the answer to a request: by its number, where that isn't new, with nothing changed; else what is given for a refusal, and where memory was wanted
+abbrev pub IsAnswer : {D : Type 0} → (old new : Ledger) (client incarnation number : ℕ) → (Voucher → Type 0) → Type 0 → Answer D → Type 0
+IsAnswer old new c i n refused again (answer.Kept r) = IsRepeated old (account_in c old) i n r × (new ≡ old)
+IsAnswer old new c i n refused again (answer.Old current) = IsOld (account_in c old) i current × (new ≡ old)
+IsAnswer old new c i n refused again (answer.Stale greatest) = IsStale (account_in c old) i n greatest × (new ≡ old)
+IsAnswer old new c i n refused again (answer.Gap greatest) = IsGap (account_in c old) i n greatest × (new ≡ old)
+IsAnswer old new c i n refused again (answer.Refused r) = refused r
+IsAnswer old new c i n refused again answer.Again = again × (new ≡ old)
+
+-- the answer to a hello, where the current incarnation is this
+abbrev pub IsHelloFault : (current incarnation : ℕ) → HelloFault → Type 0
+IsHelloFault current i (Old v) = (i < current) × (v ≡ current)
+IsHelloFault current i NoMemory = current < i

@@ -37,9 +37,12 @@ account_in c book = or_nobody c (find (λ a. c == a.client) book.accounts)
 abbrev pub segments : List Lease → List Tag
 segments leases = map (λ l. l.segment) leases
 
+abbrev pub leased_by : List Account → List Tag
+leased_by accounts = flat_map (λ a. segments a.leases) accounts
+
 -- all segments that are leased
 abbrev pub leased : Ledger → List Tag
-leased book = flat_map (λ a. segments a.leases) book.accounts
+leased book = leased_by book.accounts
 
 -- what a segment counts in an arena
 abbrev pub units_in : ℕ → Tag → ℕ
@@ -47,7 +50,3 @@ units_in arena t = if t.arena == arena then t.holding.range.len else 0
 
 abbrev pub units_of_lease : ℕ → Lease → ℕ
 units_of_lease arena l = units_in arena l.segment
-
--- the units of the arena that a client has leased
-abbrev pub units_of_account : ℕ → Account → ℕ
-units_of_account arena a = sum_by (units_of_lease arena) a.leases

@@ -5,3 +5,5 @@ pub mod Shelf
 pub mod History
 pub mod Ledger
 pub mod Answers
+pub mod Calls
+pub mod Reports

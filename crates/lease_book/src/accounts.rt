@@ -2,10 +2,11 @@
 ghost use Rattle.std.specs.Prelude.{◌≡◌, ℕ, ◌+◌, ◌*◌, ◌^◌, ◌<◌, ◌≤◌, ◌==◌, List, [], ◌∷◌, ◌++◌, length, All, OnOk, OnErr, IfOk, IfErr, IfSome, IfNone, MatchOption, Some, None, slice_get, position, sum_by, option_map};
 ghost use Rattle.std.specs.List.{find, remove};
 ghost use Rattle.lease_book.specs.Kept.{IsClient};
-ghost use Rattle.lease_book.specs.Account.{Lease, Account, is_lease};
+ghost use Rattle.lease_book.specs.Account.{Lease, Account, is_lease, number_of};
 
 use crate::leases::Leases;
 use crate::receipts::Kept;
+use crate::reports::ClientReport;
 use deed_core::{Deed, Segment};
 use indexmap::IndexMap;
 use std::alloc::{AllocError, Global};
@@ -16,6 +17,17 @@ use std::marker::Model;
 pub(crate) struct Standing {
     pub incarnation: u64,
     pub kept: Option<Kept>,
+}
+
+impl Standing {
+    pub(crate) fn last(&self) -> u64
+        ensures { result ≡ number_of self.now.kept }
+    {
+        match &self.kept {
+            Some(kept) => kept.number(),
+            None => 0,
+        }
+    }
 }
 
 /// What is kept of each client, and beside it its leases.
@@ -38,7 +50,8 @@ impl<D: Deed> Model for Accounts<D> {
 
 impl<D: Deed> Accounts<D> {
     ghost use Rattle.lease_book.specs.Shelf.{account_with, changed_at, standing_of, with_standing, with_leases};
-    ghost use Rattle.lease_book.specs.Ledger.{units_of_account};
+    ghost use Rattle.lease_book.specs.Ledger.{leased_by, units_in};
+    ghost use Rattle.lease_book.specs.Reports.{report_of};
 
     pub(crate) fn new(alloc: Global) -> Accounts<D>
         ensures { result ≡ [] }
@@ -124,4 +137,73 @@ impl<D: Deed> Accounts<D> {
     {
         self.leases[index].take(place)
     }
+
+    /// The place of a client that has a lease.
+    pub(crate) fn first_leased(&self) -> Option<usize>
+        ensures within { IfSome result (λ i. i < length self.now) }
+        ensures found { IfSome result (λ i. IfSome (slice_get self.now i) (λ a. 0 < length a.leases)) }
+        ensures none { IfNone result (leased_by self.now ≡ []) }
+    {
+        first_leased(&self.leases)
+    }
+
+    pub(crate) fn report(&self, index: usize) -> Option<ClientReport>
+        ensures { result ≡ option_map report_of (slice_get self.now index) }
+    {
+        let (client, standing) = self.clients.get_index(index)?;
+        Some(ClientReport {
+            client: *client,
+            incarnation: standing.incarnation,
+            last: standing.last(),
+            leases: self.leases[index].len(),
+        })
+    }
+
+    /// The units of the arena that are leased.
+    pub(crate) fn units(&self, arena: u32) -> u128
+        ensures { result ≡ sum_by (units_in arena) (leased_by self.now) }
+    {
+        units_of(&self.leases, arena)
+    }
+
+    /// Ends accounts that have no leases.
+    pub(crate) fn close(self)
+        requires { leased_by self ≡ [] }
+    {
+        let Accounts {
+            clients: _clients,
+            leases,
+        } = self;
+        close_all(leases);
+    }
+}
+
+ghost use Rattle.std.specs.Prelude.{nat_lt};
+ghost use Rattle.lease_book.specs.Ledger.{units_of_lease};
+
+fn first_leased<D: Deed>(leases: &[Leases<D>]) -> Option<usize>
+    ensures { result ≡ position (λ l. nat_lt 0 (length l)) leases.now }
+{
+    leases.iter().position(|one| 0 < one.len())
+}
+
+fn units_of<D: Deed>(leases: &[Leases<D>], arena: u32) -> u128
+    requires few { length leases.now ≤ 65536 }
+    requires limited { All (λ l. length l ≤ 1024) leases.now }
+    ensures { result ≡ sum_by (λ l. sum_by (units_of_lease arena) l) leases.now }
+{
+    let mut units: u128 = 0;
+    for one in leases {
+        units += one.units(arena);
+    }
+    units
+}
+
+fn close_all<D: Deed>(mut leases: Vec<Leases<D>>)
+    requires { All (λ l. l ≡ []) leases.items }
+{
+    while let Some(one) = leases.pop() {
+        one.close();
+    }
+    leases.destroy_empty();
 }

@@ -1,5 +1,16 @@
 //! What a book answers.
 use crate::receipts::Receipt;
+use thiserror::Error;
+
+/// Why a hello isn't taken.
+#[derive(Debug, Drop, Error)]
+pub enum HelloFault {
+    /// The incarnation is below this, the current one.
+    #[error("the current incarnation of the client is {0}")]
+    Old(u64),
+    #[error("memory is wanted")]
+    NoMemory,
+}
 
 /// What a number of a client is to its book.
 #[derive_where(Clone, Copy, Debug)]

@@ -3,8 +3,12 @@
 
 mod accounts;
 mod answers;
+mod books;
 mod leases;
 mod receipts;
+mod reports;
 
-pub use answers::{Answer, Look};
+pub use answers::{Answer, HelloFault, Look};
+pub use books::{Book, LEASES};
 pub use receipts::{Receipt, Refusal, Reply, Terms};
+pub use reports::ClientReport;
