@@ -1,5 +1,5 @@
 -- What all leases weigh together.
-use Rattle.std.proofs.Common.{◌≡◌, ℕ, zero, suc, ◌+◌, ◌<◌, ◌≤◌, Bool, true, false, cond, not, nat_lt, List, [], ◌∷◌, ◌++◌, length, All, Option, Some, None, IfSome, IfNone, slice_get, get_or, position, sum_by, map, refl, sym, ap, subst, ◌∙◌, arith}
+use Rattle.std.proofs.Common.{◌≡◌, ◌≢◌, ℕ, zero, suc, ◌+◌, ◌<◌, ◌≤◌, Bool, true, false, cond, not, nat_lt, List, [], ◌∷◌, ◌++◌, length, All, Option, Some, None, IfSome, IfNone, slice_get, get_or, position, sum_by, map, refl, sym, ap, subst, ◌∙◌, arith}
 use Rattle.std.specs.List.{position_or_len, flat_map}
 use Rattle.std.proofs.lemmas.List.Sums.{sum_by-cons, sum_by-append}
 use Rattle.deed_core.specs.Tag.{Tag}
@@ -55,16 +55,25 @@ none_leased (e ∷ es) [] past = refl
 none_leased (e ∷ es) ([] ∷ ls) past = none_leased es ls (omega arith)
 none_leased (e ∷ es) ((x ∷ l) ∷ ls) past = absurd (never_first (nat_lt 0 (length (x ∷ l))) (position_or_len (λ (y : List Lease). nat_lt 0 (length y)) ls) (length ls) (lt-ltb _ _ (omega arith)) past)
 
+some_leased : (accounts : List Account) (i : ℕ) → i < length accounts → IfSome (slice_get accounts i) (λ a. 0 < length a.leases) → leased_by accounts ≡ [] → ⊥
+some_leased [] i within found none = omega arith
+some_leased (a ∷ accounts) zero within found none =
+    let empty : a.leases ≡ [] = (no_segments a.leases (leased_by accounts) none).0 in
+    omega (arith, found, ap length empty)
+some_leased (a ∷ accounts) (suc i) within found none = some_leased accounts i (omega arith) found (no_segments a.leases (leased_by accounts) none).1
+
 -- what the place of the first client with a lease tells
 pub record IsLeased (accounts : List Account) (r : Option ℕ) : Type 0 where
   pub within : IfSome r (λ i. i < length accounts)
   pub found : IfSome r (λ i. IfSome (slice_get accounts i) (λ a. 0 < length a.leases))
+  pub some : IfSome r (λ _. leased_by accounts ≢ [])
   pub none : IfNone r (leased_by accounts ≡ [])
 
 leased_in : (es : List (ℕ × Standing)) (ls : List (List Lease)) (r : Option ℕ) → length es ≡ length ls → r ≡ position (λ (l : List Lease). nat_lt 0 (length l)) ls → IsLeased (accounts_of es ls) r
 leased_in es ls None same at = record {
   within = tt;
   found = tt;
+  some = tt;
   none = none_leased es ls (position-none (λ (l : List Lease). nat_lt 0 (length l)) ls (sym at));
 }
 leased_in es ls (Some i) same at =
@@ -74,6 +83,7 @@ leased_in es ls (Some i) same at =
     record {
       within = omega (arith, is.1, length-accounts_of es ls same);
       found = leased_there es ls i same passes;
+      some = some_leased (accounts_of es ls) i (omega (arith, is.1, length-accounts_of es ls same)) (leased_there es ls i same passes);
       none = tt;
     }
   where

@@ -6,18 +6,16 @@ use Rattle.deed_core.specs.Weights.{Gains, Loses}
 use Rattle.lease_book.specs.Kept.{Voucher}
 use Rattle.lease_book.specs.Entry.{Settled, Swept, Grant, Return, Refuse, kept}
 use Rattle.lease_book.specs.Account.{Lease, is_lease}
-use Rattle.lease_book.specs.Shelf.{standing_of}
 use Rattle.lease_book.specs.Ledger.{Ledger, Enters, account_in, leased}
 use Rattle.lease_book.specs.Answers.{receipt, IsNew}
 use Rattle.lease_book.specs.declared.receipts.Refusal.{Refusal}
 use Rattle.lease_book.specs.declared.receipts.Terms.{Terms}
-use Rattle.lease_book.specs.declared.accounts.Standing.{Standing}
 
--- where a client's account stands, and what is kept of it
-pub record IsFound (book : Ledger) (c place : ℕ) (s : Standing) : Type 0 where
+-- where a client's account stands
+pub record IsFound (book : Ledger) (c place : ℕ) : Type 0 where
+  pub within : place < length book.accounts
   pub at : slice_get book.accounts place ≡ Some (account_in c book)
   pub client : (account_in c book).client ≡ c
-  pub standing : standing_of (account_in c book) ≡ s
 
 -- the new number is settled by a grant
 pub record IsGranted (old now : Ledger) (c i n : ℕ) (t : Tag) (terms : Terms) (r : Voucher) : Type 0 where
@@ -38,8 +36,8 @@ pub record IsRefused (old now : Ledger) (c i n : ℕ) (why : Refusal) (r : Vouch
 pub record IsReleased (old now : Ledger) (c i n arena base : ℕ) (r : Voucher) (t : Tag) : Type 0 where
   pub new : IsNew (account_in c old) i n
   pub lease : find (is_lease i arena base) (account_in c old).leases ≡ Some (record { incarnation = i; segment = t })
-  pub arena : t.arena ≡ arena
-  pub base : t.holding.range.base ≡ base
+  pub of_arena : t.arena ≡ arena
+  pub at_base : t.holding.range.base ≡ base
   pub receipt : r ≡ receipt old c i (kept n (Return arena base))
   pub entry : Enters (Settled c i n (Return arena base)) old now
   pub leases : Loses (leased old) (leased now) t

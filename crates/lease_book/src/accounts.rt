@@ -1,5 +1,5 @@
 //! The accounts of the clients, in order of first hello.
-ghost use Rattle.std.specs.Prelude.{◌≡◌, ℕ, ◌+◌, ◌*◌, ◌^◌, ◌<◌, ◌≤◌, ◌==◌, List, [], ◌∷◌, ◌++◌, length, All, OnOk, OnErr, IfOk, IfErr, IfSome, IfNone, MatchOption, Some, None, slice_get, position, sum_by, option_map};
+ghost use Rattle.std.specs.Prelude.{◌≡◌, ◌≢◌, ℕ, ◌+◌, ◌*◌, ◌^◌, ◌<◌, ◌≤◌, ◌==◌, List, [], ◌∷◌, ◌++◌, length, All, OnOk, OnErr, IfOk, IfErr, IfSome, IfNone, MatchOption, Some, None, slice_get, position, sum_by, option_map};
 ghost use Rattle.std.specs.List.{find, remove};
 ghost use Rattle.lease_book.specs.Kept.{IsClient};
 ghost use Rattle.lease_book.specs.Account.{Lease, Account, is_lease, number_of};
@@ -142,6 +142,7 @@ impl<D: Deed> Accounts<D> {
     pub(crate) fn first_leased(&self) -> Option<usize>
         ensures within { IfSome result (λ i. i < length self.now) }
         ensures found { IfSome result (λ i. IfSome (slice_get self.now i) (λ a. 0 < length a.leases)) }
+        ensures some { IfSome result (λ _. leased_by self.now ≢ []) }
         ensures none { IfNone result (leased_by self.now ≡ []) }
     {
         first_leased(&self.leases)

@@ -38,7 +38,7 @@ impl<D: Deed> Model for Book<D> {
 
 impl<D: Deed> Book<D> {
     ghost use Rattle.lease_book.specs.Answers.{receipt, IsNew, IsLook, IsAnswer, IsHelloFault};
-    ghost use Rattle.lease_book.specs.Shelf.{changed_at, with_standing};
+    ghost use Rattle.lease_book.specs.Shelf.{changed_at, standing_of, with_standing};
     ghost use Rattle.lease_book.specs.Calls.{IsFound, IsGranted, IsRefused, IsReleased, IsSwept, IsTaken};
 
     /// An empty book. The mark is a deed of the one unit 0; its root tells the book's receipts from another's.
@@ -111,26 +111,7 @@ impl<D: Deed> Book<D> {
         ensures look { IsLook self.now (account_in client self.now) incarnation number result }
         ensures history { (entries : List Entry) → IsHistory entries self.now → IsLook self.now (account entries client) incarnation number result }
     {
-        let Some((_, standing)) = self.account(client) else {
-            return Look::Old(0);
-        };
-        if incarnation != standing.incarnation {
-            return Look::Old(standing.incarnation);
-        }
-        let last = standing.last();
-        if number < last {
-            return Look::Stale(last);
-        }
-        if number - last > 1 {
-            return Look::Gap(last);
-        }
-        if number > last {
-            return Look::New;
-        }
-        match standing.kept {
-            Some(kept) => Look::Kept(self.receipt(client, incarnation, kept)),
-            None => unreachable!(),
-        }
+        self.seek(client, incarnation, number)
     }
 
     /// Settles a new number by a grant of the segment, which is of the arena and fits the request with its quantum.
@@ -278,11 +259,39 @@ impl<D: Deed> Book<D> {
     }
 
     fn account(&self, client: u32) -> Option<(usize, Standing)>
-        ensures found { IfSome result (λ r. IsFound self.now client r.0 r.1) }
+        ensures found { IfSome result (λ r. IsFound self.now client r.0) }
+        ensures standing { IfSome result (λ r. standing_of (account_in client self.now) ≡ r.1) }
         ensures none { IfNone result (find (λ a. client == a.client) self.now.accounts ≡ None) }
     {
         let place = self.accounts.find(client)?;
         Some((place, self.accounts.standing(place)))
+    }
+
+    fn seek(&self, client: u32, incarnation: u64, number: u64) -> Look<D>
+        requires incarnation { IsNumber incarnation }
+        requires number { IsNumber number }
+        ensures { IsLook self.now (account_in client self.now) incarnation number result }
+    {
+        let Some((_, standing)) = self.account(client) else {
+            return Look::Old(0);
+        };
+        if incarnation != standing.incarnation {
+            return Look::Old(standing.incarnation);
+        }
+        let last = standing.last();
+        if number < last {
+            return Look::Stale(last);
+        }
+        if number - last > 1 {
+            return Look::Gap(last);
+        }
+        if number > last {
+            return Look::New;
+        }
+        match standing.kept {
+            Some(kept) => Look::Kept(self.receipt(client, incarnation, kept)),
+            None => unreachable!(),
+        }
     }
 
     fn receipt(&self, client: u32, incarnation: u64, kept: Kept) -> Receipt<D>
@@ -293,16 +302,15 @@ impl<D: Deed> Book<D> {
 
     /// The place of the client's account, where the number is new.
     fn admit(&self, client: u32, incarnation: u64, number: u64) -> Result<usize, Answer<D>>
-        requires client { IsClient client }
         requires incarnation { IsNumber incarnation }
         requires number { IsNumber number }
         ensures new { IfOk result (λ _. IsNew (account_in client self.now) incarnation number) }
-        ensures place { IfOk result (λ place. (standing : Standing) × IsFound self.now client place standing) }
+        ensures place { IfOk result (λ place. IsFound self.now client place) }
         ensures answer { IfErr result (IsAnswer self.now self.now client incarnation number (λ _. ⊥) ⊥) }
     {
-        match self.look(client, incarnation, number) {
-            Look::New => match self.accounts.find(client) {
-                Some(place) => Ok(place),
+        match self.seek(client, incarnation, number) {
+            Look::New => match self.account(client) {
+                Some((place, _)) => Ok(place),
                 None => unreachable!(),
             },
             Look::Kept(receipt) => Err(Answer::Kept(receipt)),

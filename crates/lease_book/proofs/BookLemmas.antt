@@ -1,0 +1,189 @@
+-- What a call changes, entered in the book's history.
+use Rattle.std.proofs.Common.{◌≡◌, ◌≢◌, ℕ, zero, suc, ◌+◌, ◌<◌, ◌≤◌, Bool, true, false, cond, ◌&&◌, ◌||◌, nat_eq, nat_lt, List, [], ◌∷◌, ◌++◌, length, map, sum_by, Option, Some, None, IfSome, is_some, slice_get, get_or, refl, sym, ap, subst, ◌∙◌, arith, eq-eqb}
+use Rattle.std.specs.List.{find, remove, AllByRecursion}
+use Rattle.std.specs.Option.{option_map}
+use Rattle.std.proofs.lemmas.List.Sums.{sum_by-append, sum_by_push, sum_by-remove}
+use Rattle.std.proofs.lemmas.Bool.{eqb-true}
+use Rattle.deed_core.specs.Tag.{Tag}
+use Rattle.deed_core.specs.Weights.{Gains, Loses}
+use Rattle.lease_book.specs.Kept.{Kept}
+use Rattle.lease_book.specs.Entry.{Settlement, Entry, Hello, Settled, Swept, Grant, Return, Refuse, kept}
+use Rattle.lease_book.specs.Account.{Lease, Account, number_of, is_lease, without, leases_after}
+use Rattle.lease_book.specs.Shelf.{account_with, changed_at, standing_of, with_standing, with_leases}
+use Rattle.lease_book.specs.History.{incarnation, clients_of, kept_of, account, IsOrderly}
+use Rattle.lease_book.specs.Ledger.{Ledger, IsHistory, Enters, nobody, or_nobody, account_in, segments, leased_by, leased}
+use Rattle.lease_book.specs.Answers.{IsNew}
+use Rattle.lease_book.specs.Calls.{IsFound, IsEnded}
+use Rattle.lease_book.specs.declared.accounts.Standing.{Standing}
+use Rattle.lease_book.specs.declared.receipts.Refusal.{Refusal}
+use Rattle.lease_book.specs.declared.receipts.Terms.{Terms}
+use Rattle.std.proofs.lemmas.Option.{slice_get_within, get_or_from_slice_get}
+use Rattle.std.proofs.lemmas.List.{map-append}
+use Rattle.lease_book.proofs.HistoryLemmas.{has, account_is, account_unknown, find_known}
+use Rattle.lease_book.proofs.EntryLemmas.{entered, among, map_others, settled_others, settled_own, swept_others, swept_own, hello_others, hello_same, hello_above, changed_none, changed_twice}
+use Rattle.lease_book.proofs.PlaceLemmas.{IsFirst}
+use Rattle.lease_book.proofs.WeightLemmas.{sum_by-segments, sum_by-leased_by}
+
+-- changes that do the same to the member at the place
+pub changed_alike : {X : Type 0} (xs : List X) (i : ℕ) (x : X) (f g : X → X) → slice_get xs i ≡ Some x → f x ≡ g x → changed_at xs i f ≡ changed_at xs i g
+changed_alike [] i x f g at same = refl
+changed_alike (y ∷ xs) zero x f g at same =
+    let is : y ≡ x = cc in
+    let here : f y ≡ g y = ap f is ∙ same ∙ ap g (sym is) in
+    λ j. here j ∷ xs
+changed_alike (y ∷ xs) (suc i) x f g at same = ap (λ ys. y ∷ ys) (changed_alike xs i x f g at same)
+
+find_passes : (test : Account → Bool) (xs : List Account) (a : Account) → find test xs ≡ Some a → test a ≡ true
+find_passes test [] a at = absurd (cc)
+find_passes test (x ∷ xs) a at = by (test x) refl at (find_passes test xs a)
+  where
+    by : (b : Bool) → test x ≡ b → cond b (Some x) (find test xs) ≡ Some a → (find test xs ≡ Some a → test a ≡ true) → test a ≡ true
+    by true is at rest = ap test (cc) ∙ is
+    by false is at rest = rest at
+
+-- where an account was found
+pub found_of : (book : Ledger) (c place : ℕ) (s : Standing) → place < length book.accounts → find (λ a. nat_eq c a.client) book.accounts ≡ slice_get book.accounts place
+    → option_map standing_of (slice_get book.accounts place) ≡ Some s → IsFound book c place × (standing_of (account_in c book) ≡ s)
+found_of book c place s within found standing = by (slice_get book.accounts place) refl standing
+  where
+    by : (o : Option Account) → slice_get book.accounts place ≡ o → option_map standing_of o ≡ Some s → IsFound book c place × (standing_of (account_in c book) ≡ s)
+    by None at standing = absurd (cc)
+    by (Some a) at standing =
+        let is : a ≡ account_in c book = sym (ap (or_nobody c) (found ∙ at)) in
+        let of : standing_of a ≡ s = cc in
+        (record {
+          within = within;
+          at = at ∙ ap Some is;
+          client = ap (λ (x : Account). x.client) (sym is) ∙ sym (eqb-true c a.client (find_passes (λ x. nat_eq c x.client) book.accounts a (found ∙ at)));
+        }, ap standing_of (sym is) ∙ of)
+
+pub some_of : {X : Type 0} {P : Type 0} (r : Option X) → true ≡ is_some r → IfSome r (λ _. P) → P
+some_of None is holds = absurd (cc)
+some_of (Some x) is holds = holds
+
+-- What is leased.
+
+pub leased_standing : (accounts : List Account) (i : ℕ) (s : Standing) → leased_by (changed_at accounts i (with_standing s)) ≡ leased_by accounts
+leased_standing [] i s = refl
+leased_standing (a ∷ accounts) zero s = refl
+leased_standing (a ∷ accounts) (suc i) s = ap (λ ts. segments a.leases ++ ts) (leased_standing accounts i s)
+
+pub leased_changed : (f : Tag → ℕ) (accounts : List Account) (i : ℕ) (a : Account) (h : Account → Account) → slice_get accounts i ≡ Some a
+    → sum_by f (leased_by (changed_at accounts i h)) + sum_by f (segments a.leases) ≡ sum_by f (leased_by accounts) + sum_by f (segments (h a).leases)
+leased_changed f [] i a h at = absurd (cc)
+leased_changed f (b ∷ accounts) zero a h at =
+    let is : b ≡ a = cc in
+    let old : sum_by f (leased_by (b ∷ accounts)) ≡ sum_by f (segments b.leases) + sum_by f (leased_by accounts) = sum_by-leased_by f b accounts in
+    let now : sum_by f (leased_by (h b ∷ accounts)) ≡ sum_by f (segments (h b).leases) + sum_by f (leased_by accounts) = sum_by-leased_by f (h b) accounts in
+    let one : sum_by f (segments b.leases) ≡ sum_by f (segments a.leases) = ap (λ (x : Account). sum_by f (segments x.leases)) is in
+    let other : sum_by f (segments (h b).leases) ≡ sum_by f (segments (h a).leases) = ap (λ (x : Account). sum_by f (segments (h x).leases)) is in
+    omega (arith, old, now, one, other)
+leased_changed f (b ∷ accounts) (suc i) a h at =
+    let rest : sum_by f (leased_by (changed_at accounts i h)) + sum_by f (segments a.leases) ≡ sum_by f (leased_by accounts) + sum_by f (segments (h a).leases) = leased_changed f accounts i a h at in
+    let old : sum_by f (leased_by (b ∷ accounts)) ≡ sum_by f (segments b.leases) + sum_by f (leased_by accounts) = sum_by-leased_by f b accounts in
+    let now : sum_by f (leased_by (b ∷ changed_at accounts i h)) ≡ sum_by f (segments b.leases) + sum_by f (leased_by (changed_at accounts i h)) = sum_by-leased_by f b (changed_at accounts i h) in
+    omega (arith, rest, old, now)
+
+pub gains_lease : (accounts : List Account) (i : ℕ) (a : Account) (x : Lease) → slice_get accounts i ≡ Some a → Gains (leased_by accounts) (leased_by (changed_at accounts i (with_leases (λ ls. ls ++ x ∷ [])))) x.segment
+gains_lease accounts i a x at f =
+    let change : sum_by f (leased_by (changed_at accounts i (with_leases (λ ls. ls ++ x ∷ [])))) + sum_by f (segments a.leases) ≡ sum_by f (leased_by accounts) + sum_by f (segments (a.leases ++ x ∷ [])) =
+      leased_changed f accounts i a (with_leases (λ ls. ls ++ x ∷ [])) at in
+    let more : sum_by f (segments (a.leases ++ x ∷ [])) ≡ sum_by f (segments a.leases) + f x.segment =
+      sum_by-segments f (a.leases ++ x ∷ []) ∙ sum_by_push (λ (l : Lease). f l.segment) a.leases x ∙ ap (λ (n : ℕ). n + f x.segment) (sym (sum_by-segments f a.leases)) in
+    omega (arith, change, more)
+
+pub loses_lease : (accounts : List Account) (i k : ℕ) (a : Account) (x : Lease) → slice_get accounts i ≡ Some a → slice_get a.leases k ≡ Some x
+    → Loses (leased_by accounts) (leased_by (changed_at accounts i (with_leases (λ ls. remove ls k)))) x.segment
+loses_lease accounts i k a x at there f =
+    let change : sum_by f (leased_by (changed_at accounts i (with_leases (λ ls. remove ls k)))) + sum_by f (segments a.leases) ≡ sum_by f (leased_by accounts) + sum_by f (segments (remove a.leases k)) =
+      leased_changed f accounts i a (with_leases (λ ls. remove ls k)) at in
+    let less : sum_by f (segments a.leases) ≡ sum_by f (segments (remove a.leases k)) + f x.segment =
+      sum_by-segments f a.leases ∙ sym (sum_by-remove (λ (l : Lease). f l.segment) a.leases k x (slice_get_within a.leases k x there))
+      ∙ ap (λ (y : Lease). sum_by (λ (l : Lease). f l.segment) (remove a.leases k) + f y.segment) (get_or_from_slice_get a.leases k x x there)
+      ∙ ap (λ (n : ℕ). n + f x.segment) (sym (sum_by-segments f (remove a.leases k))) in
+    omega (arith, change, less)
+
+-- A settled number.
+
+pub settles : (old new : Ledger) (c i n place : ℕ) (how : Settlement) → IsFound old c place → IsNew (account_in c old) i n → 0 < i → new.mark ≡ old.mark
+    → new.accounts ≡ changed_at old.accounts place (λ a. with_standing (record { incarnation = i; kept = Some (kept n how) }) (with_leases (leases_after i how) a))
+    → Enters (Settled c i n how) old new
+settles old new c i n place how found fresh some mark after = record {
+  mark = mark;
+  history = λ es h.
+    let is : account_in c old ≡ account es c = account_is es old c h in
+    let current : i ≡ incarnation c es = fresh.current ∙ ap (λ (a : Account). a.incarnation) is in
+    let next : n ≡ number_of (kept_of c es) + 1 = fresh.next ∙ ap (λ (a : Account). number_of a.kept + 1) is in
+    entered (Settled c i n how) es old new c place (account_in c old) (λ a. with_standing (record { incarnation = i; kept = Some (kept n how) }) (with_leases (leases_after i how) a)) h found.at found.client refl
+    (settled_others es c i n how) (settled_own es c i n how current next) after (some, current, next, h.orderly);
+}
+
+-- a lease that ended
+pub ends : (old new : Ledger) (c i arena base place k : ℕ) → IsFound old c place → IsFirst (is_lease i arena base) (account_in c old).leases k → new.mark ≡ old.mark
+    → new.accounts ≡ changed_at old.accounts place (with_leases (λ ls. remove ls k)) → Enters (Swept c i arena base) old new
+ends old new c i arena base place k found first mark after = record {
+  mark = mark;
+  history = λ es h.
+    entered (Swept c i arena base) es old new c place (account_in c old) (with_leases (without (is_lease i arena base))) h found.at found.client refl (swept_others es c i arena base) (swept_own es c i arena base)
+    (after ∙ changed_alike old.accounts place (account_in c old) (with_leases (λ ls. remove ls k)) (with_leases (without (is_lease i arena base))) found.at
+      (ap (λ (ls : List Lease). with_leases (λ x. ls) (account_in c old)) (sym first.left))) h.orderly;
+}
+
+-- A hello.
+
+stays_among : (es : List Entry) (c i : ℕ) → has c (clients_of es) ≡ true → clients_of (Hello c i ∷ es) ≡ clients_of es
+stays_among es c i is = λ j. cond (is j) (clients_of es) (clients_of es ++ c ∷ [])
+
+pub greets_again : (old : Ledger) (c i place : ℕ) → IsFound old c place → 0 < i → i ≡ (account_in c old).incarnation → Enters (Hello c i) old old
+greets_again old c i place found some same = record {
+  mark = refl;
+  history = λ es h.
+    let current : i ≡ incarnation c es = same ∙ ap (λ (a : Account). a.incarnation) (account_is es old c h) in
+    entered (Hello c i) es old old c place (account_in c old) (λ a. a) h found.at found.client (stays_among es c i (among es old c place (account_in c old) h found.at found.client))
+    (hello_others es c i) (hello_same es c i current) (sym (changed_none old.accounts place)) (some, omega arith, h.orderly);
+}
+
+pub greets_above : (old new : Ledger) (c i place : ℕ) → IsFound old c place → (account_in c old).incarnation < i → new.mark ≡ old.mark
+    → new.accounts ≡ changed_at old.accounts place (with_standing (record { incarnation = i; kept = None })) → Enters (Hello c i) old new
+greets_above old new c i place found above mark after = record {
+  mark = mark;
+  history = λ es h.
+    let higher : incarnation c es < i = subst (λ (a : Account). a.incarnation < i) (account_is es old c h) above in
+    entered (Hello c i) es old new c place (account_in c old) (with_standing (record { incarnation = i; kept = None })) h found.at found.client
+    (stays_among es c i (among es old c place (account_in c old) h found.at found.client)) (hello_others es c i) (hello_above es c i h.orderly higher) after
+    (omega arith, omega arith, h.orderly);
+}
+
+unknown_from : (es : List Entry) (c : ℕ) (cs : List ℕ) → find (λ a. nat_eq c a.client) (map (account es) cs) ≡ None → has c cs ≡ false
+unknown_from es c cs none = by (has c cs) refl
+  where
+    by : (b : Bool) → has c cs ≡ b → b ≡ false
+    by true is = absurd (cc (sym (find_known es c cs ∙ (λ j. cond (is j) (Some (account es c)) None)), none))
+    by false is = refl
+
+apart_from : (c : ℕ) (cs : List ℕ) → has c cs ≡ false → AllByRecursion (λ y. nat_eq c y ≡ false) cs
+apart_from c [] none = tt
+apart_from c (d ∷ cs) none = by (nat_eq c d) refl none (apart_from c cs)
+  where
+    by : (b : Bool) → nat_eq c d ≡ b → (b || has c cs) ≡ false → (has c cs ≡ false → AllByRecursion (λ y. nat_eq c y ≡ false) cs) → (nat_eq c d ≡ false) × AllByRecursion (λ y. nat_eq c y ≡ false) cs
+    by true is none rest = absurd (cc)
+    by false is none rest = (is, rest none)
+
+pub greets_first : (old new : Ledger) (c i : ℕ) → find (λ a. nat_eq c a.client) old.accounts ≡ None → 0 < i → new.mark ≡ old.mark
+    → new.accounts ≡ old.accounts ++ account_with c (record { incarnation = i; kept = None }) [] ∷ [] → Enters (Hello c i) old new
+greets_first old new c i none some mark after = record {
+  mark = mark;
+  history = λ es h.
+    let unknown : has c (clients_of es) ≡ false = unknown_from es c (clients_of es) (ap (λ (xs : List Account). find (λ a. nat_eq c a.client) xs) (sym h.accounts) ∙ none) in
+    let nobody_yet : account es c ≡ nobody c = account_unknown c es h.orderly unknown in
+    let zero_yet : incarnation c es ≡ 0 = ap (λ (a : Account). a.incarnation) nobody_yet in
+    let greeted : account_with c (record { incarnation = i; kept = None }) [] ≡ account (Hello c i ∷ es) c =
+      sym (hello_above es c i h.orderly (omega arith) ∙ ap (with_standing (record { incarnation = i; kept = None })) nobody_yet) in
+    let others : map (account es) (clients_of es) ≡ map (account (Hello c i ∷ es)) (clients_of es) =
+      map_others (account es) (account (Hello c i ∷ es)) c (hello_others es c i) (clients_of es) (apart_from c (clients_of es) unknown) in
+    let clients : clients_of es ++ c ∷ [] ≡ clients_of (Hello c i ∷ es) = λ j. cond (sym unknown j) (clients_of es) (clients_of es ++ c ∷ []) in
+    record {
+      orderly = (some, omega arith, h.orderly);
+      accounts = after ∙ (λ j. (h.accounts ∙ others) j ++ greeted j ∷ []) ∙ sym (map-append (account (Hello c i ∷ es)) (clients_of es) (c ∷ [])) ∙ ap (map (account (Hello c i ∷ es))) clients;
+    };
+}
