@@ -6,22 +6,23 @@ use Rattle.std.proofs.lemmas.List.Sums.{sum_by-append, sum_by_push, sum_by-remov
 use Rattle.std.proofs.lemmas.Bool.{eqb-true}
 use Rattle.deed_core.specs.Tag.{Tag}
 use Rattle.deed_core.specs.Weights.{Gains, Loses}
-use Rattle.lease_book.specs.Kept.{Kept}
+use Rattle.lease_book.specs.Kept.{Kept, Voucher}
 use Rattle.lease_book.specs.Entry.{Settlement, Entry, Hello, Settled, Swept, Grant, Return, Refuse, kept}
 use Rattle.lease_book.specs.Account.{Lease, Account, number_of, is_lease, without, leases_after}
 use Rattle.lease_book.specs.Shelf.{account_with, changed_at, standing_of, with_standing, with_leases}
 use Rattle.lease_book.specs.History.{incarnation, clients_of, kept_of, account, IsOrderly}
 use Rattle.lease_book.specs.Ledger.{Ledger, IsHistory, Enters, nobody, or_nobody, account_in, segments, leased_by, leased}
-use Rattle.lease_book.specs.Answers.{IsNew}
-use Rattle.lease_book.specs.Calls.{IsFound, IsEnded}
+use Rattle.lease_book.specs.Answers.{receipt, IsNew}
+use Rattle.lease_book.specs.Calls.{IsFound, IsGranted, IsRefused, IsReleased, IsEnded}
 use Rattle.lease_book.specs.declared.accounts.Standing.{Standing}
 use Rattle.lease_book.specs.declared.receipts.Refusal.{Refusal}
+use Rattle.lease_book.specs.declared.receipts.Reply.TheVariants.{Granted}
 use Rattle.lease_book.specs.declared.receipts.Terms.{Terms}
 use Rattle.std.proofs.lemmas.Option.{slice_get_within, get_or_from_slice_get}
 use Rattle.std.proofs.lemmas.List.{map-append}
 use Rattle.lease_book.proofs.HistoryLemmas.{has, account_is, account_unknown, find_known}
 use Rattle.lease_book.proofs.EntryLemmas.{entered, among, map_others, settled_others, settled_own, swept_others, swept_own, hello_others, hello_same, hello_above, changed_none, changed_twice}
-use Rattle.lease_book.proofs.PlaceLemmas.{IsFirst}
+use Rattle.lease_book.proofs.PlaceLemmas.{IsFirst, is_lease_says}
 use Rattle.lease_book.proofs.WeightLemmas.{sum_by-segments, sum_by-leased_by}
 
 -- changes that do the same to the member at the place
@@ -187,3 +188,87 @@ greets_first old new c i none some mark after = record {
       accounts = after ∙ (λ j. (h.accounts ∙ others) j ++ greeted j ∷ []) ∙ sym (map-append (account (Hello c i ∷ es)) (clients_of es) (c ∷ [])) ∙ ap (map (account (Hello c i ∷ es))) clients;
     };
 }
+
+-- The calls.
+
+pub length-changed_at : {X : Type 0} (xs : List X) (i : ℕ) (f : X → X) → length (changed_at xs i f) ≡ length xs
+length-changed_at [] i f = refl
+length-changed_at (x ∷ xs) zero f = refl
+length-changed_at (x ∷ xs) (suc i) f = ap suc (length-changed_at xs i f)
+
+-- what holds of the account at a place holds of the account found there
+pub of_found : (P : Account → Type 0) (book : Ledger) (c place : ℕ) → IsFound book c place → IfSome (slice_get book.accounts place) P → P (account_in c book)
+of_found P book c place found holds = subst (λ (o : Option Account). IfSome o P) found.at holds
+
+pub refuses : (old now : Ledger) (c i n place : ℕ) (why : Refusal) (k : Kept) (r : Voucher) → IsFound old c place → IsNew (account_in c old) i n → 0 < i → k ≡ kept n (Refuse why) → r ≡ receipt old c i k → now.mark ≡ old.mark
+    → now.accounts ≡ changed_at old.accounts place (with_standing (record { incarnation = i; kept = Some k })) → IsRefused old now c i n why r
+refuses old now c i n place why k r found fresh some is_kept is_receipt mark after =
+    let after' : now.accounts ≡ changed_at old.accounts place (with_standing (record { incarnation = i; kept = Some (kept n (Refuse why)) })) =
+      after ∙ ap (λ (x : Kept). changed_at old.accounts place (with_standing (record { incarnation = i; kept = Some x }))) is_kept in
+    record {
+      new = fresh;
+      receipt = is_receipt ∙ ap (receipt old c i) is_kept;
+      entry = settles old now c i n place (Refuse why) found fresh some mark after';
+      leases = ap leased_by after' ∙ leased_standing old.accounts place (record { incarnation = i; kept = Some (kept n (Refuse why)) });
+    }
+
+pub grants : (old now : Ledger) (mid : List Account) (c i n place : ℕ) (t : Tag) (terms : Terms) (k : Kept) (r : Voucher) → IsFound old c place → IsNew (account_in c old) i n → 0 < i
+    → length (account_in c old).leases < 1024 → k ≡ kept n (Grant t terms) → r ≡ receipt old c i k → now.mark ≡ old.mark
+    → mid ≡ changed_at old.accounts place (with_leases (λ ls. ls ++ record { incarnation = i; segment = t } ∷ []))
+    → now.accounts ≡ changed_at mid place (with_standing (record { incarnation = i; kept = Some k })) → IsGranted old now c i n t terms r
+grants old now mid c i n place t terms k r found fresh some room is_kept is_receipt mark leased_mid after =
+    let x : Lease = record { incarnation = i; segment = t } in
+    let s : Standing = record { incarnation = i; kept = Some (kept n (Grant t terms)) } in
+    let after' : now.accounts ≡ changed_at mid place (with_standing s) = after ∙ ap (λ (y : Kept). changed_at mid place (with_standing (record { incarnation = i; kept = Some y }))) is_kept in
+    let both : now.accounts ≡ changed_at old.accounts place (λ a. with_standing s (with_leases (leases_after i (Grant t terms)) a)) =
+      after' ∙ ap (λ (xs : List Account). changed_at xs place (with_standing s)) leased_mid ∙ changed_twice old.accounts place (with_leases (λ ls. ls ++ x ∷ [])) (with_standing s) in
+    let stands : leased now ≡ leased_by (changed_at old.accounts place (with_leases (λ ls. ls ++ x ∷ []))) = ap leased_by after' ∙ leased_standing mid place s ∙ ap leased_by leased_mid in
+    record {
+      new = fresh;
+      room = room;
+      receipt = is_receipt ∙ ap (receipt old c i) is_kept;
+      entry = settles old now c i n place (Grant t terms) found fresh some mark both;
+      leases = λ f. ap (sum_by f) stands ∙ gains_lease old.accounts place (account_in c old) x found.at f;
+    }
+
+pub releases : (old now : Ledger) (mid : List Account) (c i n arena base place at j : ℕ) (t : Tag) (k : Kept) (r : Voucher) → IsFound old c place → IsNew (account_in c old) i n → 0 < i
+    → IsFirst (is_lease i arena base) (account_in c old).leases at → slice_get (account_in c old).leases at ≡ Some (record { incarnation = j; segment = t })
+    → k ≡ kept n (Return arena base) → r ≡ receipt old c i k → now.mark ≡ old.mark → mid ≡ changed_at old.accounts place (with_leases (λ ls. remove ls at))
+    → now.accounts ≡ changed_at mid place (with_standing (record { incarnation = i; kept = Some k })) → IsReleased old now c i n arena base r t
+releases old now mid c i n arena base place at j t k r found fresh some first here is_kept is_receipt mark taken_mid after =
+    let a : Account = account_in c old in
+    let s : Standing = record { incarnation = i; kept = Some (kept n (Return arena base)) } in
+    let passes : is_lease i arena base (record { incarnation = j; segment = t }) ≡ true = subst (λ (o : Option Lease). IfSome o (λ l. is_lease i arena base l ≡ true)) here first.passes in
+    let says = is_lease_says i arena base (record { incarnation = j; segment = t }) passes in
+    let after' : now.accounts ≡ changed_at mid place (with_standing s) = after ∙ ap (λ (y : Kept). changed_at mid place (with_standing (record { incarnation = i; kept = Some y }))) is_kept in
+    let both : now.accounts ≡ changed_at old.accounts place (λ b. with_standing s (with_leases (λ ls. remove ls at) b)) =
+      after' ∙ ap (λ (xs : List Account). changed_at xs place (with_standing s)) taken_mid ∙ changed_twice old.accounts place (with_leases (λ ls. remove ls at)) (with_standing s) in
+    let entered_as : now.accounts ≡ changed_at old.accounts place (λ b. with_standing s (with_leases (leases_after i (Return arena base)) b)) =
+      both ∙ changed_alike old.accounts place a (λ b. with_standing s (with_leases (λ ls. remove ls at) b)) (λ b. with_standing s (with_leases (leases_after i (Return arena base)) b)) found.at
+        (ap (λ (ls : List Lease). with_standing s (with_leases (λ x. ls) a)) (sym first.left)) in
+    let stands : leased now ≡ leased_by (changed_at old.accounts place (with_leases (λ ls. remove ls at))) = ap leased_by after' ∙ leased_standing mid place s ∙ ap leased_by taken_mid in
+    record {
+      new = fresh;
+      lease = first.found ∙ here ∙ ap (λ (m : ℕ). Some (record { incarnation = m; segment = t })) (sym says.0);
+      of_arena = sym says.1;
+      at_base = sym says.2;
+      receipt = is_receipt ∙ ap (receipt old c i) is_kept;
+      entry = settles old now c i n place (Return arena base) found fresh some mark entered_as;
+      leases = λ f. loses_lease old.accounts place at a (record { incarnation = j; segment = t }) found.at here f ∙ ap (λ (ts : List Tag). sum_by f ts + f t) (sym stands);
+    }
+
+-- a lease that is the first with its incarnation, arena and base ended
+pub ends_lease : (old now : Ledger) (c place at i : ℕ) (t : Tag) → IsFound old c place → IsFirst (is_lease i t.arena t.holding.range.base) (account_in c old).leases at
+    → slice_get (account_in c old).leases at ≡ Some (record { incarnation = i; segment = t }) → now.mark ≡ old.mark → now.accounts ≡ changed_at old.accounts place (with_leases (λ ls. remove ls at))
+    → IsEnded old now c i t
+ends_lease old now c place at i t found first here mark after = record {
+  lease = first.found ∙ here;
+  entry = ends old now c i t.arena t.holding.range.base place at found first mark after;
+  leases = λ f. loses_lease old.accounts place at (account_in c old) (record { incarnation = i; segment = t }) found.at here f ∙ ap (λ (xs : List Account). sum_by f (leased_by xs) + f t) (sym after);
+}
+
+-- what is kept of a grant, told by its numbers
+pub kept_grant : (n arena base len : ℕ) (t : Tag) (terms : Terms) (k : Kept) → k ≡ record { number = n; reply = Granted arena base len; terms = Some terms } → t.arena ≡ arena → base ≡ t.holding.range.base
+    → len ≡ t.holding.range.len → k ≡ kept n (Grant t terms)
+kept_grant n arena base len t terms k is of_arena at_base of_len =
+    is ∙ (λ j. record { number = n; reply = Granted (sym of_arena j) (at_base j) (of_len j); terms = Some terms })

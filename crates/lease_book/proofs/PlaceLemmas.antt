@@ -1,7 +1,7 @@
 -- The place of the first member that passes a test.
-use Rattle.std.proofs.Common.{eq-eqb, one-add, ◌≡◌, ◌≢◌, ℕ, zero, suc, ◌+◌, ◌<◌, ◌≤◌, Bool, true, false, cond, not, nat_eq, nat_lt, ◌&&◌, List, [], ◌∷◌, ◌++◌, length, Option, Some, None, IfSome, slice_get, get_or, position, refl, sym, ap, subst, ◌∙◌, arith, take, drop}
+use Rattle.std.proofs.Common.{eq-eqb, one-add, ◌≡◌, ◌≢◌, ℕ, zero, suc, ◌+◌, ◌<◌, ◌≤◌, Bool, true, false, cond, not, nat_eq, nat_lt, ◌&&◌, List, [], ◌∷◌, ◌++◌, length, All, Option, Some, None, IfSome, slice_get, get_or, position, refl, sym, ap, subst, ◌∙◌, arith, take, drop}
 use Rattle.std.specs.List.{find, remove, position_or_len}
-use Rattle.std.proofs.lemmas.Bool.{ltb-true, ltb-false, ne_eqb}
+use Rattle.std.proofs.lemmas.Bool.{ltb-true, ltb-false, ne_eqb, eqb-true}
 use Rattle.std.proofs.lemmas.List.Folds.{find_at}
 use Rattle.std.proofs.lemmas.List.Sums.{position_or_len_is, fails_before_first}
 use Rattle.std.proofs.lemmas.Option.{slice_get_past, slice_get_within, get_or_from_slice_get}
@@ -48,6 +48,7 @@ pub record IsFirst {X : Type 0} (test : X → Bool) (xs : List X) (k : ℕ) : Ty
   pub within : k < length xs
   pub found : find test xs ≡ slice_get xs k
   pub left : without test xs ≡ remove xs k
+  pub passes : IfSome (slice_get xs k) (λ x. test x ≡ true)
 
 pub first_of_place : {X : Type 0} (test : X → Bool) (xs : List X) (k : ℕ) → position_or_len test xs ≡ k → k < length xs → IsFirst test xs k
 first_of_place {X} test xs k is within =
@@ -56,6 +57,7 @@ first_of_place {X} test xs k is within =
       within = within;
       found = find_at test xs ∙ ap (slice_get xs) is;
       left = without_place test xs less ∙ ap (remove xs) is;
+      passes = subst (λ (j : ℕ). IfSome (slice_get xs j) (λ x. test x ≡ true)) is (passes_place test xs less);
     }
 
 pub first_of : {X : Type 0} (test : X → Bool) (xs : List X) (k : ℕ) → position test xs ≡ Some k → IsFirst test xs k
@@ -98,3 +100,20 @@ pub head_first : (l : Lease) (ls : List Lease) → IsFirst (is_lease l.incarnati
 head_first l ls =
     first_of_place (is_lease l.incarnation l.segment.arena l.segment.holding.range.base) (l ∷ ls) 0
     (position_or_len_is (is_lease l.incarnation l.segment.arena l.segment.holding.range.base) (l ∷ ls) 0 l (omega arith) (λ j below. absurd (omega arith)) (λ within. is_own l)) (omega arith)
+
+-- no lease is of an older incarnation
+pub none_older : (i : ℕ) (ls : List Lease) → position (is_older i) ls ≡ None → All (λ (l : Lease). i ≤ l.incarnation) ls
+none_older i ls at k d within =
+    let past : length ls ≤ position_or_len (is_older i) ls = position-none (is_older i) ls at in
+    ltb-false _ _ (fails_before_first (is_older i) ls k d (omega arith))
+
+both_true : (a b : Bool) → (a && b) ≡ true → (a ≡ true) × (b ≡ true)
+both_true true b p = (refl, p)
+both_true false b p = absurd (cc)
+
+-- what the test for a lease says
+pub is_lease_says : (i arena base : ℕ) (l : Lease) → is_lease i arena base l ≡ true → (i ≡ l.incarnation) × (arena ≡ l.segment.arena) × (base ≡ l.segment.holding.range.base)
+is_lease_says i arena base l passes =
+    let first = both_true (nat_eq i l.incarnation) _ passes in
+    let rest = both_true (nat_eq arena l.segment.arena) _ first.1 in
+    (eqb-true i l.incarnation first.0, eqb-true arena l.segment.arena rest.0, eqb-true base l.segment.holding.range.base rest.1)

@@ -83,10 +83,10 @@ impl<D: Deed> Book<D> {
                 incarnation,
                 kept: None,
             };
-            return match self.accounts.open(client, standing) {
-                Ok(()) => Ok(()),
-                Err(_) => Err(HelloFault::NoMemory),
+            let Ok(()) = self.accounts.open(client, standing) else {
+                return Err(HelloFault::NoMemory);
             };
+            return Ok(());
         };
         if incarnation < standing.incarnation {
             return Err(HelloFault::Old(standing.incarnation));

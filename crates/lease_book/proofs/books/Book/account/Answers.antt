@@ -13,4 +13,4 @@ returns-clause-found g c =
 pub returns-clause-standing : goal.returns-clause-standing
 returns-clause-standing g c =
     subst (λ (book : Ledger). standing_of (account_in c.args.client book) ≡ c.standing.result) c.self.view_is
-    (found_of _ c.args.client c.in_ok-place.place c.standing.result c.in_ok-place.ensures.within c.in_ok-place.ensures.found c.standing.ensures).1
+    (found_of (record { mark = g.D.Deed.holding c.self.inside.mark; accounts = c.self.inside.accounts }) c.args.client c.in_ok-place.place c.standing.result c.in_ok-place.ensures.within c.in_ok-place.ensures.found c.standing.ensures).1
