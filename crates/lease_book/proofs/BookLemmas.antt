@@ -1,5 +1,5 @@
 -- What a call changes, entered in the book's history.
-use Rattle.std.proofs.Common.{◌≡◌, ◌≢◌, ℕ, zero, suc, ◌+◌, ◌<◌, ◌≤◌, Bool, true, false, cond, ◌&&◌, ◌||◌, nat_eq, nat_lt, List, [], ◌∷◌, ◌++◌, length, map, sum_by, Option, Some, None, IfSome, is_some, slice_get, get_or, refl, sym, ap, subst, ◌∙◌, arith, eq-eqb}
+use Rattle.std.proofs.Common.{◌≡◌, ◌≢◌, ℕ, zero, suc, ◌+◌, ◌<◌, ◌≤◌, Bool, true, false, cond, ◌&&◌, ◌||◌, nat_eq, nat_lt, List, [], ◌∷◌, ◌++◌, length, map, sum_by, Option, Some, None, IfSome, IfNone, is_some, slice_get, get_or, refl, sym, ap, subst, ◌∙◌, arith, eq-eqb}
 use Rattle.std.specs.List.{find, remove, AllByRecursion}
 use Rattle.std.specs.Option.{option_map}
 use Rattle.std.proofs.lemmas.List.Sums.{sum_by-append, sum_by_push, sum_by-remove}
@@ -22,7 +22,7 @@ use Rattle.std.proofs.lemmas.Option.{slice_get_within, get_or_from_slice_get}
 use Rattle.std.proofs.lemmas.List.{map-append}
 use Rattle.lease_book.proofs.HistoryLemmas.{has, account_is, account_unknown, find_known}
 use Rattle.lease_book.proofs.EntryLemmas.{entered, among, map_others, settled_others, settled_own, swept_others, swept_own, hello_others, hello_same, hello_above, changed_none, changed_twice}
-use Rattle.lease_book.proofs.PlaceLemmas.{IsFirst, is_lease_says}
+use Rattle.lease_book.proofs.PlaceLemmas.{IsFirst, is_lease_says, head_first}
 use Rattle.lease_book.proofs.WeightLemmas.{sum_by-segments, sum_by-leased_by}
 
 -- changes that do the same to the member at the place
@@ -272,3 +272,29 @@ pub kept_grant : (n arena base len : ℕ) (t : Tag) (terms : Terms) (k : Kept) �
     → len ≡ t.holding.range.len → k ≡ kept n (Grant t terms)
 kept_grant n arena base len t terms k is of_arena at_base of_len =
     is ∙ (λ j. record { number = n; reply = Granted (sym of_arena j) (at_base j) (of_len j); terms = Some terms })
+
+none_past : (xs : List Account) (i : ℕ) → slice_get xs i ≡ None → length xs ≤ i
+none_past [] i at = omega arith
+none_past (x ∷ xs) zero at = absurd (cc)
+none_past (x ∷ xs) (suc i) at = omega (arith, none_past xs i at)
+
+-- a place is that of its account's client
+pub found_own : (book : Ledger) (place : ℕ) → place < length book.accounts → IfSome (slice_get book.accounts place) (λ a. find (λ b. nat_eq a.client b.client) book.accounts ≡ Some a) → (c : ℕ) × IsFound book c place
+found_own book place within own = by (slice_get book.accounts place) refl own
+  where
+    by : (o : Option Account) → slice_get book.accounts place ≡ o → IfSome o (λ a. find (λ b. nat_eq a.client b.client) book.accounts ≡ Some a) → (c : ℕ) × IsFound book c place
+    by None at own = absurd (omega (arith, within, none_past book.accounts place at))
+    by (Some a) at own =
+        let is : a ≡ account_in a.client book = sym (ap (or_nobody a.client) own) in
+        (a.client, record { within = within; at = at ∙ ap Some is; client = ap (λ (x : Account). x.client) (sym is) })
+
+pub if_none : {X P : Type 0} (r : Option X) → P → IfNone r P
+if_none None holds = holds
+if_none (Some x) holds = tt
+
+-- the lease that stands first is the first with its incarnation, arena and base
+pub first_lease : (ls : List Lease) (l : Lease) → slice_get ls 0 ≡ Some l → IsFirst (is_lease l.incarnation l.segment.arena l.segment.holding.range.base) ls 0
+first_lease [] l at = absurd (cc)
+first_lease (x ∷ ls) l at =
+    let is : x ≡ l = cc in
+    subst (λ (y : Lease). IsFirst (is_lease y.incarnation y.segment.arena y.segment.holding.range.base) (x ∷ ls) 0) is (head_first x ls)

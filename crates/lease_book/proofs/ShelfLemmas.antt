@@ -1,6 +1,7 @@
 -- The accounts, and their parts in the map and in the vector beside it.
-use Rattle.std.proofs.Common.{one-add, ◌≡◌, ◌≢◌, ℕ, zero, suc, ◌+◌, ◌<◌, ◌≤◌, Bool, true, false, cond, not, nat_eq, nat_lt, List, [], ◌∷◌, ◌++◌, length, All, Option, Some, None, IfSome, IfNone, Result, Ok, Err, OnOk, OnErr, slice_get, get_or, position, refl, sym, ap, subst, ◌∙◌, arith}
-use Rattle.std.specs.List.{find, remove, position_or_len, IsDistinct}
+use Rattle.std.proofs.lemmas.Bool.{eqb-false, ne_eqb}
+use Rattle.std.proofs.Common.{eq-eqb, one-add, ◌≡◌, ◌≢◌, ℕ, zero, suc, ◌+◌, ◌<◌, ◌≤◌, Bool, true, false, cond, not, nat_eq, nat_lt, List, [], ◌∷◌, ◌++◌, length, All, Option, Some, None, IfSome, IfNone, Result, Ok, Err, OnOk, OnErr, slice_get, get_or, position, refl, sym, ap, subst, ◌∙◌, arith}
+use Rattle.std.specs.List.{find, remove, position_or_len, AllByRecursion, IsDistinct}
 use Rattle.std.specs.Option.{option_map}
 use Rattle.std.specs.Map.{keys_of, values_of, lookup}
 use Rattle.std.proofs.lemmas.Option.{slice_get_past}
@@ -127,6 +128,7 @@ pub shelf_write : (es : List (ℕ × Standing)) (ls : List (List Lease)) (i : �
 shelf_write es ls i s shelf = record {
   together = length-set_value_at es i s ∙ shelf.together;
   clients = subst (All IsClient) (sym (keys_set_value_at es i s)) shelf.clients;
+  apart = subst (IsDistinct nat_eq) (sym (keys_set_value_at es i s)) shelf.apart;
   few = omega (arith, length-set_value_at es i s, shelf.few);
   limited = shelf.limited;
 }
@@ -135,6 +137,7 @@ pub shelf_set : (es : List (ℕ × Standing)) (ls : List (List Lease)) (i : ℕ)
 shelf_set es ls i l shelf small = record {
   together = shelf.together ∙ sym (length-set ls i l);
   clients = shelf.clients;
+  apart = shelf.apart;
   few = shelf.few;
   limited = All-set (λ (x : List Lease). length x ≤ 1024) ls i l small shelf.limited;
 }
@@ -147,6 +150,7 @@ shelf_push es ls c s shelf client apart =
     record {
       together = omega (arith, shelf.together, length-append es ((c, s) ∷ []), length-append ls ([] ∷ []));
       clients = clients;
+      apart = apart;
       few = omega (arith, few_clients (keys_of (es ++ (c, s) ∷ [])) apart clients, length-keys_of (es ++ (c, s) ∷ []));
       limited = All-push (λ (x : List Lease). length x ≤ 1024) ls [] shelf.limited (omega arith);
     }
@@ -245,3 +249,32 @@ report_is es ls accounts i e l last len is same at beside is_last is_len =
 pub no_report : (es : List (ℕ × Standing)) (ls : List (List Lease)) (accounts : List Account) (i : ℕ) → accounts_of es ls ≡ accounts → length es ≡ length ls → None ≡ slice_get es i
     → None ≡ option_map report_of (slice_get accounts i)
 no_report es ls accounts i is same at = sym (ap (option_map report_of) (ap (λ (xs : List Account). slice_get xs i) (sym is) ∙ no_report_at es ls i same (sym at)))
+
+other_key : (k i : ℕ) (es : List (ℕ × Standing)) (ls : List (List Lease)) (a : Account) → AllByRecursion (λ y. nat_eq k y ≡ false) (keys_of es) → slice_get (accounts_of es ls) i ≡ Some a → nat_eq a.client k ≡ false
+other_key k i [] ls a apart at = absurd (cc)
+other_key k i (e ∷ es) [] a apart at = absurd (cc)
+other_key k zero (e ∷ es) (l ∷ ls) a apart at =
+    let is : account_with e.0 e.1 l ≡ a = cc in
+    let same : e.0 ≡ a.client = ap (λ (x : Account). x.client) is in
+    ne_eqb a.client k (λ j. eqb-false k e.0 apart.0 (sym j ∙ sym same))
+other_key k (suc i) (e ∷ es) (l ∷ ls) a apart at = other_key k i es ls a apart.1 at
+
+own_in : (i : ℕ) (es : List (ℕ × Standing)) (ls : List (List Lease)) (a : Account) → IsDistinct nat_eq (keys_of es) → slice_get (accounts_of es ls) i ≡ Some a → find (λ b. nat_eq a.client b.client) (accounts_of es ls) ≡ Some a
+unfolding IsDistinct
+own_in i [] ls a apart at = absurd (cc)
+own_in i (e ∷ es) [] a apart at = absurd (cc)
+own_in zero (e ∷ es) (l ∷ ls) a apart at =
+    let is : account_with e.0 e.1 l ≡ a = cc in
+    let same : nat_eq a.client e.0 ≡ true = eq-eqb a.client e.0 (sym (ap (λ (x : Account). x.client) is)) in
+    ap (λ (b : Bool). cond b (Some (account_with e.0 e.1 l)) (find (λ x. nat_eq a.client x.client) (accounts_of es ls))) same ∙ at
+own_in (suc i) (e ∷ es) (l ∷ ls) a apart at =
+    ap (λ (b : Bool). cond b (Some (account_with e.0 e.1 l)) (find (λ x. nat_eq a.client x.client) (accounts_of es ls))) (other_key e.0 i es ls a apart.0 at) ∙ own_in i es ls a apart.1 at
+
+-- the account at a place is the one that is found for its client
+pub own_place : (es : List (ℕ × Standing)) (ls : List (List Lease)) (accounts : List Account) (i : ℕ) → accounts_of es ls ≡ accounts → IsShelf es ls
+    → IfSome (slice_get accounts i) (λ a. find (λ b. nat_eq a.client b.client) accounts ≡ Some a)
+own_place es ls accounts i is shelf = subst (λ (xs : List Account). IfSome (slice_get xs i) (λ a. find (λ b. nat_eq a.client b.client) xs ≡ Some a)) is (by (slice_get (accounts_of es ls) i) refl)
+  where
+    by : (o : Option Account) → slice_get (accounts_of es ls) i ≡ o → IfSome o (λ a. find (λ b. nat_eq a.client b.client) (accounts_of es ls) ≡ Some a)
+    by None at = tt
+    by (Some a) at = own_in i es ls a shelf.apart at

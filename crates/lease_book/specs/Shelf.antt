@@ -1,6 +1,7 @@
 -- Accounts as they are stored: what is kept of each client in a map in order of first hello, and beside it its leases.
-use Rattle.std.specs.Prelude.{◌≡◌, ℕ, suc, zero, ◌≤◌, List, [], ◌∷◌, length, All, Option}
+use Rattle.std.specs.Prelude.{nat_eq, ◌≡◌, ℕ, suc, zero, ◌≤◌, List, [], ◌∷◌, length, All, Option}
 use Rattle.std.specs.Map.{keys_of}
+use Rattle.std.specs.List.{IsDistinct}
 use Rattle.lease_book.specs.Kept.{Kept, IsClient}
 use Rattle.lease_book.specs.Account.{Lease, Account}
 use Rattle.lease_book.specs.declared.accounts.Standing.{Standing}
@@ -15,10 +16,11 @@ accounts_of [] ls = []
 accounts_of (e ∷ es) [] = []
 accounts_of (e ∷ es) (l ∷ ls) = account_with e.0 e.1 l ∷ accounts_of es ls
 
--- there are leases at each client's place, of few clients, few of each
+-- there are leases at each client's place, of few clients, each standing once, few of each
 pub record IsShelf (es : List (ℕ × Standing)) (ls : List (List Lease)) : Type 0 where
   pub together : length es ≡ length ls
   pub clients : All IsClient (keys_of es)
+  pub apart : IsDistinct nat_eq (keys_of es)
   pub few : length es ≤ 65536
   pub limited : All (λ (l : List Lease). length l ≤ 1024) ls
 

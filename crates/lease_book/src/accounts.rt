@@ -142,6 +142,7 @@ impl<D: Deed> Accounts<D> {
     pub(crate) fn first_leased(&self) -> Option<usize>
         ensures within { IfSome result (λ i. i < length self.now) }
         ensures found { IfSome result (λ i. IfSome (slice_get self.now i) (λ a. 0 < length a.leases)) }
+        ensures own { IfSome result (λ i. IfSome (slice_get self.now i) (λ a. find (λ b. a.client == b.client) self.now ≡ Some a)) }
         ensures some { IfSome result (λ _. leased_by self.now ≢ []) }
         ensures none { IfNone result (leased_by self.now ≡ []) }
     {

@@ -22,3 +22,7 @@ returns-else-incarnation-standing-2-clause-taken g c =
     let current : (account_in c.args.client c.args.self.now).incarnation ≡ c.in-Some.standing.incarnation = ap (λ (s : Standing). s.incarnation) c.in-Some.ensures.standing in
     greets_again c.args.self.now c.args.client c.args.incarnation c.in-Some.place c.in-Some.ensures.found c.requires.incarnation.some (omega (arith, current, c.if-incarnation-standing.false, c.if-incarnation-standing-2.false))
 
+pub returns-in_default-clause-taken : goal.returns-in_default-clause-taken
+returns-in_default-clause-taken g c =
+    greets_first c.args.self.now _ c.args.client c.args.incarnation c.in_default.ensures.none c.requires.incarnation.some (ap (λ (b : Ledger). b.mark) c.self.view_is)
+    (c.in-Ok.ensures.ok ∙ ap (λ (b : Ledger). b.accounts ++ account_with c.args.client (record { incarnation = c.args.incarnation; kept = None }) [] ∷ []) c.self.view_is)

@@ -14,7 +14,7 @@ returns-in_default-clause-answer g c =
     let here = of_found (λ (a : Account). a.leases ≡ c.leases.result.now) c.args.self.now _ c.in_ok-place.place c.in_ok-place.ensures.place
       (subst (λ (b : Ledger). IfSome (slice_get b.accounts c.in_ok-place.place) (λ a. a.leases ≡ c.leases.result.now)) c.self.view_is c.leases.ensures.leases) in
     (refuses _ _ _ _ _ _ refusal.NotYours _ _ c.in_ok-place.ensures.place c.in_ok-place.ensures.new c.requires.incarnation.some c.new-kept.ensures c.keep.ensures.receipt c.keep.ensures.mark c.keep.ensures.kept,
-      ap (find (is_lease c.args.incarnation c.args.arena c.args.base)) here ∙ none_of (is_lease c.args.incarnation c.args.arena c.args.base) c.leases.result.now ?)
+      ap (find (is_lease c.args.incarnation c.args.arena c.args.base)) here ∙ none_of (is_lease c.args.incarnation c.args.arena c.args.base) c.leases.result.now (sym c.position.ensures ∙ c.in_default.is))
 
 pub keep-requires-2 : goal.keep-requires-2
 keep-requires-2 g c =
