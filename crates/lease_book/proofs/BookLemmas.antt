@@ -11,7 +11,7 @@ use Rattle.lease_book.specs.Entry.{Settlement, Entry, Hello, Settled, Swept, Gra
 use Rattle.lease_book.specs.Account.{Lease, Account, number_of, is_lease, without, leases_after}
 use Rattle.lease_book.specs.Shelf.{account_with, changed_at, standing_of, with_standing, with_leases}
 use Rattle.lease_book.specs.History.{incarnation, clients_of, kept_of, account, IsOrderly}
-use Rattle.lease_book.specs.Ledger.{Ledger, IsHistory, Enters, nobody, or_nobody, account_in, segments, leased_by, leased}
+use Rattle.lease_book.specs.Ledger.{Ledger, IsHistory, HasHistory, Enters, nobody, or_nobody, account_in, segments, leased_by, leased}
 use Rattle.lease_book.specs.Answers.{receipt, IsNew}
 use Rattle.lease_book.specs.Calls.{IsFound, IsGranted, IsRefused, IsReleased, IsEnded}
 use Rattle.lease_book.specs.declared.accounts.Standing.{Standing}
@@ -298,3 +298,78 @@ first_lease [] l at = absurd (cc)
 first_lease (x ∷ ls) l at =
     let is : x ≡ l = cc in
     subst (λ (y : Lease). IsFirst (is_lease y.incarnation y.segment.arena y.segment.holding.range.base) (x ∷ ls) 0) is (head_first x ls)
+
+-- an entry that is entered gives the new book a history
+pub goes_on : (e : Entry) (old new : Ledger) → Enters e old new → HasHistory old → HasHistory new
+goes_on e old new enters had = (e ∷ had.0, enters.history had.0 had.1)
+
+-- The calls, of a book that is open: its fields before and after.
+
+module _ (before old : Ledger) (is : before ≡ old) (c i n place : ℕ) (found : IsFound old c place) (fresh : IsNew (account_in c old) i n) (some : 0 < i) where
+  found_before : IsFound before c place
+  found_before = subst (λ (b : Ledger). IsFound b c place) (sym is) found
+
+  fresh_before : IsNew (account_in c before) i n
+  fresh_before = subst (λ (b : Ledger). IsNew (account_in c b) i n) (sym is) fresh
+
+  pub refused_at : (accounts : List Account) (why : Refusal) (k : Kept) (r : Voucher) → k ≡ kept n (Refuse why) → r ≡ receipt before c i k
+      → accounts ≡ changed_at before.accounts place (with_standing (record { incarnation = i; kept = Some k })) → HasHistory before
+      → HasHistory (record { mark = before.mark; accounts = accounts }) × IsRefused old (record { mark = before.mark; accounts = accounts }) c i n why r
+  refused_at accounts why k r is_kept is_receipt after had =
+      let now : Ledger = record { mark = before.mark; accounts = accounts } in
+      let refused = refuses before now c i n place why k r found_before fresh_before some is_kept is_receipt refl after in
+      (goes_on (Settled c i n (Refuse why)) before now refused.entry had, subst (λ (b : Ledger). IsRefused b now c i n why r) is refused)
+
+  pub granted_at : (mid accounts : List Account) (t : Tag) (terms : Terms) (k : Kept) (r : Voucher) → length (account_in c old).leases < 1024 → k ≡ kept n (Grant t terms) → r ≡ receipt before c i k
+      → mid ≡ changed_at before.accounts place (with_leases (λ ls. ls ++ record { incarnation = i; segment = t } ∷ []))
+      → accounts ≡ changed_at mid place (with_standing (record { incarnation = i; kept = Some k })) → HasHistory before
+      → HasHistory (record { mark = before.mark; accounts = accounts }) × IsGranted old (record { mark = before.mark; accounts = accounts }) c i n t terms r
+  granted_at mid accounts t terms k r room is_kept is_receipt leased_mid after had =
+      let now : Ledger = record { mark = before.mark; accounts = accounts } in
+      let room_before : length (account_in c before).leases < 1024 = subst (λ (b : Ledger). length (account_in c b).leases < 1024) (sym is) room in
+      let granted = grants before now mid c i n place t terms k r found_before fresh_before some room_before is_kept is_receipt refl leased_mid after in
+      (goes_on (Settled c i n (Grant t terms)) before now granted.entry had, subst (λ (b : Ledger). IsGranted b now c i n t terms r) is granted)
+
+  pub released_at : (mid accounts : List Account) (arena base at j : ℕ) (t : Tag) (k : Kept) (r : Voucher) → IsFirst (is_lease i arena base) (account_in c old).leases at
+      → IfSome (slice_get before.accounts place) (λ a. slice_get a.leases at ≡ Some (record { incarnation = j; segment = t })) → k ≡ kept n (Return arena base) → r ≡ receipt before c i k
+      → mid ≡ changed_at before.accounts place (with_leases (λ ls. remove ls at)) → accounts ≡ changed_at mid place (with_standing (record { incarnation = i; kept = Some k })) → HasHistory before
+      → HasHistory (record { mark = before.mark; accounts = accounts }) × IsReleased old (record { mark = before.mark; accounts = accounts }) c i n arena base r t
+  released_at mid accounts arena base at j t k r first there is_kept is_receipt taken_mid after had =
+      let now : Ledger = record { mark = before.mark; accounts = accounts } in
+      let first_before : IsFirst (is_lease i arena base) (account_in c before).leases at = subst (λ (b : Ledger). IsFirst (is_lease i arena base) (account_in c b).leases at) (sym is) first in
+      let here : slice_get (account_in c before).leases at ≡ Some (record { incarnation = j; segment = t }) = of_found (λ (a : Account). slice_get a.leases at ≡ Some (record { incarnation = j; segment = t })) before c place found_before there in
+      let released = releases before now mid c i n arena base place at j t k r found_before fresh_before some first_before here is_kept is_receipt refl taken_mid after in
+      (goes_on (Settled c i n (Return arena base)) before now released.entry had, subst (λ (b : Ledger). IsReleased b now c i n arena base r t) is released)
+
+-- the leases of an account, where it was found
+pub leases_found : (before old : Ledger) (c place : ℕ) (ls : List Lease) → before ≡ old → IsFound old c place → IfSome (slice_get before.accounts place) (λ a. a.leases ≡ ls) → (account_in c old).leases ≡ ls
+leases_found before old c place ls is found there =
+    of_found (λ (a : Account). a.leases ≡ ls) old c place found (subst (λ (b : Ledger). IfSome (slice_get b.accounts place) (λ a. a.leases ≡ ls)) is there)
+
+pub ended_at : (before old : Ledger) (accounts : List Account) (c place at i : ℕ) (t : Tag) → before ≡ old → IsFound old c place → IsFirst (is_lease i t.arena t.holding.range.base) (account_in c old).leases at
+    → slice_get (account_in c old).leases at ≡ Some (record { incarnation = i; segment = t }) → accounts ≡ changed_at before.accounts place (with_leases (λ ls. remove ls at)) → HasHistory before
+    → HasHistory (record { mark = before.mark; accounts = accounts }) × IsEnded old (record { mark = before.mark; accounts = accounts }) c i t
+ended_at before old accounts c place at i t is found first here after had =
+    let now : Ledger = record { mark = before.mark; accounts = accounts } in
+    let ended = ends_lease old now c place at i t found first here (ap (λ (b : Ledger). b.mark) is) (after ∙ ap (λ (b : Ledger). changed_at b.accounts place (with_leases (λ ls. remove ls at))) is) in
+    (goes_on (Swept c i t.arena t.holding.range.base) old now ended.entry (subst HasHistory is had), ended)
+
+pub greeted_above : (before old : Ledger) (accounts : List Account) (c i place : ℕ) → before ≡ old → IsFound old c place → (account_in c old).incarnation < i
+    → accounts ≡ changed_at before.accounts place (with_standing (record { incarnation = i; kept = None })) → HasHistory before
+    → HasHistory (record { mark = before.mark; accounts = accounts }) × Enters (Hello c i) old (record { mark = before.mark; accounts = accounts })
+greeted_above before old accounts c i place is found above after had =
+    let now : Ledger = record { mark = before.mark; accounts = accounts } in
+    let enters = greets_above old now c i place found above (ap (λ (b : Ledger). b.mark) is) (after ∙ ap (λ (b : Ledger). changed_at b.accounts place (with_standing (record { incarnation = i; kept = None }))) is) in
+    (goes_on (Hello c i) old now enters (subst HasHistory is had), enters)
+
+pub greeted_first : (before old : Ledger) (accounts : List Account) (c i : ℕ) → before ≡ old → find (λ a. nat_eq c a.client) old.accounts ≡ None → 0 < i
+    → accounts ≡ before.accounts ++ account_with c (record { incarnation = i; kept = None }) [] ∷ [] → HasHistory before
+    → HasHistory (record { mark = before.mark; accounts = accounts }) × Enters (Hello c i) old (record { mark = before.mark; accounts = accounts })
+greeted_first before old accounts c i is none some after had =
+    let now : Ledger = record { mark = before.mark; accounts = accounts } in
+    let enters = greets_first old now c i none some (ap (λ (b : Ledger). b.mark) is) (after ∙ ap (λ (b : Ledger). b.accounts ++ account_with c (record { incarnation = i; kept = None }) [] ∷ []) is) in
+    (goes_on (Hello c i) old now enters (subst HasHistory is had), enters)
+
+-- what is leased stays where an incarnation or a reply is written
+pub leased_at : (before old : Ledger) (accounts : List Account) (place : ℕ) (s : Standing) → before ≡ old → accounts ≡ changed_at before.accounts place (with_standing s) → leased_by accounts ≡ leased old
+leased_at before old accounts place s is after = ap leased_by after ∙ leased_standing before.accounts place s ∙ ap leased is

@@ -17,6 +17,10 @@ pub record IsHistory (entries : List Entry) (book : Ledger) : Type 0 where
   pub orderly : IsOrderly entries
   pub accounts : book.accounts ≡ map (account entries) (clients_of entries)
 
+-- some entries give the book
+abbrev pub HasHistory : Ledger → Type 0
+HasHistory book = (entries : List Entry) × IsHistory entries book
+
 -- whatever entries give the old book, those with this one give the new book
 pub record Enters (entry : Entry) (old new : Ledger) : Type 0 where
   pub mark : new.mark ≡ old.mark

@@ -85,6 +85,20 @@ impl<D: Deed> Accounts<D> {
         self.clients[index] = standing;
     }
 
+    /// Writes what a number was settled with.
+    pub(crate) fn keep(&mut self, index: usize, incarnation: u64, kept: Kept)
+        requires { index < length self.old }
+        ensures { self.new ≡ changed_at self.old index (with_standing (record { incarnation = incarnation; kept = Some kept })) }
+    {
+        self.write(
+            index,
+            Standing {
+                incarnation,
+                kept: Some(kept),
+            },
+        );
+    }
+
     /// Adds the account of a new client. An error leaves all as it was.
     pub(crate) fn open(&mut self, client: u32, standing: Standing) -> Result<(), AllocError>
         requires client { IsClient client }

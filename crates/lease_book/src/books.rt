@@ -8,7 +8,7 @@ ghost use Rattle.lease_book.specs.Kept.{IsClient, IsNumber, Kept};
 ghost use Rattle.lease_book.specs.Entry.{Entry, Hello, Settled, Swept, Grant, Return, Refuse, kept};
 ghost use Rattle.lease_book.specs.Account.{Lease, Account, last, is_lease};
 ghost use Rattle.lease_book.specs.History.{account, clients_of};
-ghost use Rattle.lease_book.specs.Ledger.{Ledger, IsHistory, Enters, account_in, leased, units_in};
+ghost use Rattle.lease_book.specs.Ledger.{Ledger, IsHistory, HasHistory, Enters, account_in, leased, units_in};
 ghost use Rattle.lease_book.specs.Reports.{report_of};
 
 use crate::accounts::{Accounts, Standing};
@@ -29,11 +29,13 @@ pub struct Book<D: Deed> {
 }
 
 impl<D: Deed> Model for Book<D> {
-    ghost use Rattle.lease_book.specs.Ledger.{Ledger};
+    ghost use Rattle.lease_book.specs.Ledger.{Ledger, HasHistory};
 
     ghost Value = { Ledger };
 
     ghost view = { λ b. record { mark = D.holding b.mark; accounts = b.accounts } };
+
+    ghost invariant = { λ b. HasHistory (record { mark = D.holding b.mark; accounts = b.accounts }) };
 }
 
 impl<D: Deed> Book<D> {
@@ -51,6 +53,14 @@ impl<D: Deed> Book<D> {
             mark,
             accounts: Accounts::new(alloc),
         }
+    }
+
+    /// The number of the root of the book's mark. What a book holds is always what some entries give.
+    pub fn mark(&self) -> u32
+        ensures mark { result ≡ self.now.mark.root }
+        ensures history { HasHistory self.now }
+    {
+        self.mark.root()
     }
 
     /// Ends a book of no leases, and gives its mark back.
@@ -142,7 +152,8 @@ impl<D: Deed> Book<D> {
         };
         if self.accounts.leases(place).len() == LEASES {
             let kept = Kept::new(number, Reply::Refused(Refusal::Leases), None);
-            let receipt = self.keep(place, client, incarnation, kept);
+            self.accounts.keep(place, incarnation, kept);
+            let receipt = self.receipt(client, incarnation, kept);
             return Err((segment, Answer::Refused(receipt)));
         }
         let range = segment.range();
@@ -158,7 +169,8 @@ impl<D: Deed> Book<D> {
         match self.accounts.lease(place, incarnation, segment) {
             Ok(()) => {
                 let kept = Kept::new(number, reply, Some(terms));
-                Ok(self.keep(place, client, incarnation, kept))
+                self.accounts.keep(place, incarnation, kept);
+                Ok(self.receipt(client, incarnation, kept))
             }
             Err(segment) => Err((segment, Answer::Again)),
         }
@@ -180,7 +192,8 @@ impl<D: Deed> Book<D> {
         match self.admit(client, incarnation, number) {
             Ok(place) => {
                 let kept = Kept::new(number, Reply::Refused(refusal), None);
-                Answer::Refused(self.keep(place, client, incarnation, kept))
+                self.accounts.keep(place, incarnation, kept);
+                Answer::Refused(self.receipt(client, incarnation, kept))
             }
             Err(answer) => answer,
         }
@@ -209,11 +222,13 @@ impl<D: Deed> Book<D> {
             .position(incarnation, arena, base)
         else {
             let kept = Kept::new(number, Reply::Refused(Refusal::NotYours), None);
-            return Err(Answer::Refused(self.keep(place, client, incarnation, kept)));
+            self.accounts.keep(place, incarnation, kept);
+            return Err(Answer::Refused(self.receipt(client, incarnation, kept)));
         };
         let (_, segment) = self.accounts.take(place, index);
         let kept = Kept::new(number, Reply::Released, None);
-        Ok((self.keep(place, client, incarnation, kept), segment))
+        self.accounts.keep(place, incarnation, kept);
+        Ok((self.receipt(client, incarnation, kept), segment))
     }
 
     /// Ends a lease of an older incarnation of the client. Which one is left open; it is the first in order of grant.
@@ -318,22 +333,5 @@ impl<D: Deed> Book<D> {
             Look::Stale(last) => Err(Answer::Stale(last)),
             Look::Gap(last) => Err(Answer::Gap(last)),
         }
-    }
-
-    /// Writes what a number was settled with, and gives the receipt.
-    fn keep(&mut self, place: usize, client: u32, incarnation: u64, kept: Kept) -> Receipt<D>
-        requires { place < length self.old.accounts }
-        ensures receipt { result ≡ receipt self.old client incarnation kept }
-        ensures mark { self.new.mark ≡ self.old.mark }
-        ensures kept { self.new.accounts ≡ changed_at self.old.accounts place (with_standing (record { incarnation = incarnation; kept = Some kept })) }
-    {
-        self.accounts.write(
-            place,
-            Standing {
-                incarnation,
-                kept: Some(kept),
-            },
-        );
-        self.receipt(client, incarnation, kept)
     }
 }
