@@ -13,7 +13,7 @@ pub enum HelloFault {
 }
 
 /// What a number of a client is to its book.
-#[derive_where(Clone, Copy, Debug)]
+#[derive_where(Clone, Copy, PartialEq, Eq, Debug)]
 pub enum Look<D> {
     /// The next number of the current incarnation.
     New,
@@ -28,7 +28,7 @@ pub enum Look<D> {
 }
 
 /// The answer to a request.
-#[derive_where(Clone, Copy, Debug)]
+#[derive_where(Clone, Copy, PartialEq, Eq, Debug)]
 pub enum Answer<D> {
     /// The number was settled before, with this reply.
     Kept(Receipt<D>),

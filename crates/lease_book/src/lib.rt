@@ -12,3 +12,6 @@ pub use answers::{Answer, HelloFault, Look};
 pub use books::{Book, LEASES};
 pub use receipts::{Receipt, Refusal, Reply, Terms};
 pub use reports::ClientReport;
+
+#[cfg(test)]
+mod tests;

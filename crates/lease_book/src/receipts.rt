@@ -37,7 +37,7 @@ pub struct Terms {
 }
 
 /// A settled number, with its reply, and for a grant its terms, which it meets.
-#[derive(Clone, Copy, Debug)]
+#[derive(Clone, Copy, PartialEq, Eq, Debug)]
 pub(crate) struct Kept {
     number: u64,
     reply: Reply,
@@ -78,7 +78,7 @@ impl Kept {
 }
 
 /// That a book settled a number with a reply. Only a book makes one. `D` is the type of its deeds.
-#[derive_where(Clone, Copy, Debug)]
+#[derive_where(Clone, Copy, PartialEq, Eq, Debug)]
 pub struct Receipt<D> {
     book: u32,
     client: u32,
