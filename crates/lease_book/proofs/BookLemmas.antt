@@ -1,8 +1,8 @@
 -- What a call changes, entered in the book's history.
-use Rattle.std.proofs.Common.{◌≡◌, ◌≢◌, ℕ, zero, suc, ◌+◌, ◌<◌, ◌≤◌, Bool, true, false, cond, ◌&&◌, ◌||◌, nat_eq, nat_lt, List, [], ◌∷◌, ◌++◌, length, map, sum_by, Option, Some, None, IfSome, IfNone, is_some, slice_get, get_or, refl, sym, ap, subst, ◌∙◌, arith, eq-eqb}
+use Rattle.std.proofs.Common.{◌≡◌, ℕ, zero, suc, ◌+◌, ◌<◌, ◌≤◌, Bool, true, false, cond, ◌||◌, nat_eq, List, [], ◌∷◌, ◌++◌, length, map, sum_by, Option, Some, None, IfSome, IfNone, is_some, slice_get, refl, sym, ap, subst, ◌∙◌, arith}
 use Rattle.std.specs.List.{find, remove, AllByRecursion}
 use Rattle.std.specs.Option.{option_map}
-use Rattle.std.proofs.lemmas.List.Sums.{sum_by-append, sum_by_push, sum_by-remove}
+use Rattle.std.proofs.lemmas.List.Sums.{sum_by_push, sum_by-remove}
 use Rattle.std.proofs.lemmas.Bool.{eqb-true}
 use Rattle.deed_core.specs.Tag.{Tag}
 use Rattle.deed_core.specs.Weights.{Gains, Loses}
@@ -10,8 +10,8 @@ use Rattle.lease_book.specs.Kept.{Kept, Voucher}
 use Rattle.lease_book.specs.Entry.{Settlement, Entry, Hello, Settled, Swept, Grant, Return, Refuse, kept}
 use Rattle.lease_book.specs.Account.{Lease, Account, number_of, is_lease, without, leases_after}
 use Rattle.lease_book.specs.Shelf.{account_with, changed_at, standing_of, with_standing, with_leases}
-use Rattle.lease_book.specs.History.{incarnation, clients_of, kept_of, account, IsOrderly}
-use Rattle.lease_book.specs.Ledger.{Ledger, IsHistory, HasHistory, Enters, nobody, or_nobody, account_in, segments, leased_by, leased}
+use Rattle.lease_book.specs.History.{incarnation, clients_of, kept_of, account}
+use Rattle.lease_book.specs.Ledger.{Ledger, HasHistory, Enters, nobody, or_nobody, account_in, segments, leased_by, leased}
 use Rattle.lease_book.specs.Answers.{receipt, IsNew}
 use Rattle.lease_book.specs.Calls.{IsFound, IsGranted, IsRefused, IsReleased, IsEnded}
 use Rattle.lease_book.specs.declared.accounts.Standing.{Standing}
@@ -51,12 +51,14 @@ found_of book c place s within found standing = by (slice_get book.accounts plac
     by None at standing = absurd (cc)
     by (Some a) at standing =
         let is : a ≡ account_in c book = sym (ap (or_nobody c) (found ∙ at)) in
-        let of : standing_of a ≡ s = cc in
-        (record {
-          within = within;
-          at = at ∙ ap Some is;
-          client = ap (λ (x : Account). x.client) (sym is) ∙ sym (eqb-true c a.client (find_passes (λ x. nat_eq c x.client) book.accounts a (found ∙ at)));
-        }, ap standing_of (sym is) ∙ of)
+        let of : standing_of a ≡ s = cc in (
+          record {
+            within = within;
+            at = at ∙ ap Some is;
+            client = ap (λ (x : Account). x.client) (sym is) ∙ sym (eqb-true c a.client (find_passes (λ x. nat_eq c x.client) book.accounts a (found ∙ at)));
+          },
+          ap standing_of (sym is) ∙ of,
+        )
 
 pub some_of : {X : Type 0} {P : Type 0} (r : Option X) → true ≡ is_some r → IfSome r (λ _. P) → P
 some_of None is holds = absurd (cc)
@@ -88,20 +90,20 @@ leased_changed f (b ∷ accounts) (suc i) a h at =
 pub gains_lease : (accounts : List Account) (i : ℕ) (a : Account) (x : Lease) → slice_get accounts i ≡ Some a → Gains (leased_by accounts) (leased_by (changed_at accounts i (with_leases (λ ls. ls ++ x ∷ [])))) x.segment
 gains_lease accounts i a x at f =
     let change : sum_by f (leased_by (changed_at accounts i (with_leases (λ ls. ls ++ x ∷ [])))) + sum_by f (segments a.leases) ≡ sum_by f (leased_by accounts) + sum_by f (segments (a.leases ++ x ∷ [])) =
-      leased_changed f accounts i a (with_leases (λ ls. ls ++ x ∷ [])) at in
+    leased_changed f accounts i a (with_leases (λ ls. ls ++ x ∷ [])) at in
     let more : sum_by f (segments (a.leases ++ x ∷ [])) ≡ sum_by f (segments a.leases) + f x.segment =
-      sum_by-segments f (a.leases ++ x ∷ []) ∙ sum_by_push (λ (l : Lease). f l.segment) a.leases x ∙ ap (λ (n : ℕ). n + f x.segment) (sym (sum_by-segments f a.leases)) in
+    sum_by-segments f (a.leases ++ x ∷ []) ∙ sum_by_push (λ (l : Lease). f l.segment) a.leases x ∙ ap (λ (n : ℕ). n + f x.segment) (sym (sum_by-segments f a.leases)) in
     omega (arith, change, more)
 
 pub loses_lease : (accounts : List Account) (i k : ℕ) (a : Account) (x : Lease) → slice_get accounts i ≡ Some a → slice_get a.leases k ≡ Some x
     → Loses (leased_by accounts) (leased_by (changed_at accounts i (with_leases (λ ls. remove ls k)))) x.segment
 loses_lease accounts i k a x at there f =
     let change : sum_by f (leased_by (changed_at accounts i (with_leases (λ ls. remove ls k)))) + sum_by f (segments a.leases) ≡ sum_by f (leased_by accounts) + sum_by f (segments (remove a.leases k)) =
-      leased_changed f accounts i a (with_leases (λ ls. remove ls k)) at in
+    leased_changed f accounts i a (with_leases (λ ls. remove ls k)) at in
     let less : sum_by f (segments a.leases) ≡ sum_by f (segments (remove a.leases k)) + f x.segment =
-      sum_by-segments f a.leases ∙ sym (sum_by-remove (λ (l : Lease). f l.segment) a.leases k x (slice_get_within a.leases k x there))
-      ∙ ap (λ (y : Lease). sum_by (λ (l : Lease). f l.segment) (remove a.leases k) + f y.segment) (get_or_from_slice_get a.leases k x x there)
-      ∙ ap (λ (n : ℕ). n + f x.segment) (sym (sum_by-segments f (remove a.leases k))) in
+    sum_by-segments f a.leases ∙ sym (sum_by-remove (λ (l : Lease). f l.segment) a.leases k x (slice_get_within a.leases k x there))
+    ∙ ap (λ (y : Lease). sum_by (λ (l : Lease). f l.segment) (remove a.leases k) + f y.segment) (get_or_from_slice_get a.leases k x x there)
+    ∙ ap (λ (n : ℕ). n + f x.segment) (sym (sum_by-segments f (remove a.leases k))) in
     omega (arith, change, less)
 
 -- A settled number.
@@ -112,11 +114,11 @@ pub settles : (old new : Ledger) (c i n place : ℕ) (how : Settlement) → IsFo
 settles old new c i n place how found fresh some mark after = record {
   mark = mark;
   history = λ es h.
-    let is : account_in c old ≡ account es c = account_is es old c h in
-    let current : i ≡ incarnation c es = fresh.current ∙ ap (λ (a : Account). a.incarnation) is in
-    let next : n ≡ number_of (kept_of c es) + 1 = fresh.next ∙ ap (λ (a : Account). number_of a.kept + 1) is in
-    entered (Settled c i n how) es old new c place (account_in c old) (λ a. with_standing (record { incarnation = i; kept = Some (kept n how) }) (with_leases (leases_after i how) a)) h found.at found.client refl
-    (settled_others es c i n how) (settled_own es c i n how current next) after (some, current, next, h.orderly);
+      let is : account_in c old ≡ account es c = account_is es old c h in
+      let current : i ≡ incarnation c es = fresh.current ∙ ap (λ (a : Account). a.incarnation) is in
+      let next : n ≡ number_of (kept_of c es) + 1 = fresh.next ∙ ap (λ (a : Account). number_of a.kept + 1) is in
+      entered (Settled c i n how) es old new c place (account_in c old) (λ a. with_standing (record { incarnation = i; kept = Some (kept n how) }) (with_leases (leases_after i how) a)) h found.at found.client refl
+      (settled_others es c i n how) (settled_own es c i n how current next) after (some, current, next, h.orderly);
 }
 
 -- a lease that ended
@@ -125,8 +127,8 @@ pub ends : (old new : Ledger) (c i arena base place k : ℕ) → IsFound old c p
 ends old new c i arena base place k found first mark after = record {
   mark = mark;
   history = λ es h.
-    entered (Swept c i arena base) es old new c place (account_in c old) (with_leases (without (is_lease i arena base))) h found.at found.client refl (swept_others es c i arena base) (swept_own es c i arena base)
-    (after ∙ changed_alike old.accounts place (account_in c old) (with_leases (λ ls. remove ls k)) (with_leases (without (is_lease i arena base))) found.at
+      entered (Swept c i arena base) es old new c place (account_in c old) (with_leases (without (is_lease i arena base))) h found.at found.client refl (swept_others es c i arena base) (swept_own es c i arena base)
+      (after ∙ changed_alike old.accounts place (account_in c old) (with_leases (λ ls. remove ls k)) (with_leases (without (is_lease i arena base))) found.at
       (ap (λ (ls : List Lease). with_leases (λ x. ls) (account_in c old)) (sym first.left))) h.orderly;
 }
 
@@ -139,9 +141,9 @@ pub greets_again : (old : Ledger) (c i place : ℕ) → IsFound old c place → 
 greets_again old c i place found some same = record {
   mark = refl;
   history = λ es h.
-    let current : i ≡ incarnation c es = same ∙ ap (λ (a : Account). a.incarnation) (account_is es old c h) in
-    entered (Hello c i) es old old c place (account_in c old) (λ a. a) h found.at found.client (stays_among es c i (among es old c place (account_in c old) h found.at found.client))
-    (hello_others es c i) (hello_same es c i current) (sym (changed_none old.accounts place)) (some, omega arith, h.orderly);
+      let current : i ≡ incarnation c es = same ∙ ap (λ (a : Account). a.incarnation) (account_is es old c h) in
+      entered (Hello c i) es old old c place (account_in c old) (λ a. a) h found.at found.client (stays_among es c i (among es old c place (account_in c old) h found.at found.client))
+      (hello_others es c i) (hello_same es c i current) (sym (changed_none old.accounts place)) (some, omega arith, h.orderly);
 }
 
 pub greets_above : (old new : Ledger) (c i place : ℕ) → IsFound old c place → (account_in c old).incarnation < i → new.mark ≡ old.mark
@@ -149,10 +151,10 @@ pub greets_above : (old new : Ledger) (c i place : ℕ) → IsFound old c place 
 greets_above old new c i place found above mark after = record {
   mark = mark;
   history = λ es h.
-    let higher : incarnation c es < i = subst (λ (a : Account). a.incarnation < i) (account_is es old c h) above in
-    entered (Hello c i) es old new c place (account_in c old) (with_standing (record { incarnation = i; kept = None })) h found.at found.client
-    (stays_among es c i (among es old c place (account_in c old) h found.at found.client)) (hello_others es c i) (hello_above es c i h.orderly higher) after
-    (omega arith, omega arith, h.orderly);
+      let higher : incarnation c es < i = subst (λ (a : Account). a.incarnation < i) (account_is es old c h) above in
+      entered (Hello c i) es old new c place (account_in c old) (with_standing (record { incarnation = i; kept = None })) h found.at found.client
+      (stays_among es c i (among es old c place (account_in c old) h found.at found.client)) (hello_others es c i) (hello_above es c i h.orderly higher) after
+      (omega arith, omega arith, h.orderly);
 }
 
 unknown_from : (es : List Entry) (c : ℕ) (cs : List ℕ) → find (λ a. nat_eq c a.client) (map (account es) cs) ≡ None → has c cs ≡ false
@@ -175,18 +177,18 @@ pub greets_first : (old new : Ledger) (c i : ℕ) → find (λ a. nat_eq c a.cli
 greets_first old new c i none some mark after = record {
   mark = mark;
   history = λ es h.
-    let unknown : has c (clients_of es) ≡ false = unknown_from es c (clients_of es) (ap (λ (xs : List Account). find (λ a. nat_eq c a.client) xs) (sym h.accounts) ∙ none) in
-    let nobody_yet : account es c ≡ nobody c = account_unknown c es h.orderly unknown in
-    let zero_yet : incarnation c es ≡ 0 = ap (λ (a : Account). a.incarnation) nobody_yet in
-    let greeted : account_with c (record { incarnation = i; kept = None }) [] ≡ account (Hello c i ∷ es) c =
+      let unknown : has c (clients_of es) ≡ false = unknown_from es c (clients_of es) (ap (λ (xs : List Account). find (λ a. nat_eq c a.client) xs) (sym h.accounts) ∙ none) in
+      let nobody_yet : account es c ≡ nobody c = account_unknown c es h.orderly unknown in
+      let zero_yet : incarnation c es ≡ 0 = ap (λ (a : Account). a.incarnation) nobody_yet in
+      let greeted : account_with c (record { incarnation = i; kept = None }) [] ≡ account (Hello c i ∷ es) c =
       sym (hello_above es c i h.orderly (omega arith) ∙ ap (with_standing (record { incarnation = i; kept = None })) nobody_yet) in
-    let others : map (account es) (clients_of es) ≡ map (account (Hello c i ∷ es)) (clients_of es) =
+      let others : map (account es) (clients_of es) ≡ map (account (Hello c i ∷ es)) (clients_of es) =
       map_others (account es) (account (Hello c i ∷ es)) c (hello_others es c i) (clients_of es) (apart_from c (clients_of es) unknown) in
-    let clients : clients_of es ++ c ∷ [] ≡ clients_of (Hello c i ∷ es) = λ j. cond (sym unknown j) (clients_of es) (clients_of es ++ c ∷ []) in
-    record {
-      orderly = (some, omega arith, h.orderly);
-      accounts = after ∙ (λ j. (h.accounts ∙ others) j ++ greeted j ∷ []) ∙ sym (map-append (account (Hello c i ∷ es)) (clients_of es) (c ∷ [])) ∙ ap (map (account (Hello c i ∷ es))) clients;
-    };
+      let clients : clients_of es ++ c ∷ [] ≡ clients_of (Hello c i ∷ es) = λ j. cond (sym unknown j) (clients_of es) (clients_of es ++ c ∷ []) in
+      record {
+        orderly = (some, omega arith, h.orderly);
+        accounts = after ∙ (λ j. (h.accounts ∙ others) j ++ greeted j ∷ []) ∙ sym (map-append (account (Hello c i ∷ es)) (clients_of es) (c ∷ [])) ∙ ap (map (account (Hello c i ∷ es))) clients;
+      };
 }
 
 -- The calls.
@@ -204,7 +206,7 @@ pub refuses : (old now : Ledger) (c i n place : ℕ) (why : Refusal) (k : Kept) 
     → now.accounts ≡ changed_at old.accounts place (with_standing (record { incarnation = i; kept = Some k })) → IsRefused old now c i n why r
 refuses old now c i n place why k r found fresh some is_kept is_receipt mark after =
     let after' : now.accounts ≡ changed_at old.accounts place (with_standing (record { incarnation = i; kept = Some (kept n (Refuse why)) })) =
-      after ∙ ap (λ (x : Kept). changed_at old.accounts place (with_standing (record { incarnation = i; kept = Some x }))) is_kept in
+    after ∙ ap (λ (x : Kept). changed_at old.accounts place (with_standing (record { incarnation = i; kept = Some x }))) is_kept in
     record {
       new = fresh;
       receipt = is_receipt ∙ ap (receipt old c i) is_kept;
@@ -221,7 +223,7 @@ grants old now mid c i n place t terms k r found fresh some room is_kept is_rece
     let s : Standing = record { incarnation = i; kept = Some (kept n (Grant t terms)) } in
     let after' : now.accounts ≡ changed_at mid place (with_standing s) = after ∙ ap (λ (y : Kept). changed_at mid place (with_standing (record { incarnation = i; kept = Some y }))) is_kept in
     let both : now.accounts ≡ changed_at old.accounts place (λ a. with_standing s (with_leases (leases_after i (Grant t terms)) a)) =
-      after' ∙ ap (λ (xs : List Account). changed_at xs place (with_standing s)) leased_mid ∙ changed_twice old.accounts place (with_leases (λ ls. ls ++ x ∷ [])) (with_standing s) in
+    after' ∙ ap (λ (xs : List Account). changed_at xs place (with_standing s)) leased_mid ∙ changed_twice old.accounts place (with_leases (λ ls. ls ++ x ∷ [])) (with_standing s) in
     let stands : leased now ≡ leased_by (changed_at old.accounts place (with_leases (λ ls. ls ++ x ∷ []))) = ap leased_by after' ∙ leased_standing mid place s ∙ ap leased_by leased_mid in
     record {
       new = fresh;
@@ -242,10 +244,10 @@ releases old now mid c i n arena base place at j t k r found fresh some first he
     let says = is_lease_says i arena base (record { incarnation = j; segment = t }) passes in
     let after' : now.accounts ≡ changed_at mid place (with_standing s) = after ∙ ap (λ (y : Kept). changed_at mid place (with_standing (record { incarnation = i; kept = Some y }))) is_kept in
     let both : now.accounts ≡ changed_at old.accounts place (λ b. with_standing s (with_leases (λ ls. remove ls at) b)) =
-      after' ∙ ap (λ (xs : List Account). changed_at xs place (with_standing s)) taken_mid ∙ changed_twice old.accounts place (with_leases (λ ls. remove ls at)) (with_standing s) in
+    after' ∙ ap (λ (xs : List Account). changed_at xs place (with_standing s)) taken_mid ∙ changed_twice old.accounts place (with_leases (λ ls. remove ls at)) (with_standing s) in
     let entered_as : now.accounts ≡ changed_at old.accounts place (λ b. with_standing s (with_leases (leases_after i (Return arena base)) b)) =
-      both ∙ changed_alike old.accounts place a (λ b. with_standing s (with_leases (λ ls. remove ls at) b)) (λ b. with_standing s (with_leases (leases_after i (Return arena base)) b)) found.at
-        (ap (λ (ls : List Lease). with_standing s (with_leases (λ x. ls) a)) (sym first.left)) in
+    both ∙ changed_alike old.accounts place a (λ b. with_standing s (with_leases (λ ls. remove ls at) b)) (λ b. with_standing s (with_leases (leases_after i (Return arena base)) b)) found.at
+    (ap (λ (ls : List Lease). with_standing s (with_leases (λ x. ls) a)) (sym first.left)) in
     let stands : leased now ≡ leased_by (changed_at old.accounts place (with_leases (λ ls. remove ls at))) = ap leased_by after' ∙ leased_standing mid place s ∙ ap leased_by taken_mid in
     record {
       new = fresh;

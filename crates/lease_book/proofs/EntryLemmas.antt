@@ -1,16 +1,14 @@
 -- The entry of a call, and the account that it changes.
-use Rattle.std.proofs.Common.{◌≡◌, ◌≢◌, ℕ, zero, suc, ◌+◌, ◌<◌, ◌≤◌, Bool, true, false, cond, ◌&&◌, ◌||◌, nat_eq, nat_lt, List, [], ◌∷◌, ◌++◌, length, map, Option, Some, None, slice_get, refl, sym, ap, subst, ◌∙◌, arith, eq-eqb}
-use Rattle.std.specs.List.{find, list_any, AllByRecursion, IsDistinct}
-use Rattle.std.proofs.lemmas.Bool.{eqb-true, eqb-false, ne_eqb, le-ltb}
-use Rattle.std.proofs.lemmas.List.{map-append}
+use Rattle.std.proofs.Common.{◌≡◌, ℕ, zero, suc, ◌+◌, ◌<◌, Bool, true, false, cond, ◌&&◌, ◌||◌, nat_eq, List, [], ◌∷◌, ◌++◌, map, Option, Some, None, slice_get, refl, sym, ap, subst, ◌∙◌, arith, eq-eqb}
+use Rattle.std.specs.List.{AllByRecursion, IsDistinct}
+use Rattle.std.proofs.lemmas.Bool.{eqb-false, ne_eqb, le-ltb}
 use Rattle.lease_book.specs.Kept.{Kept}
 use Rattle.lease_book.specs.Entry.{Settlement, Entry, Hello, Settled, Swept, kept}
-use Rattle.lease_book.specs.Account.{Lease, Account, number_of, is_lease, without, leases_after}
-use Rattle.lease_book.specs.Shelf.{account_with, changed_at, with_standing, with_leases}
+use Rattle.lease_book.specs.Account.{Account, number_of, is_lease, without, leases_after}
+use Rattle.lease_book.specs.Shelf.{changed_at, with_standing, with_leases}
 use Rattle.lease_book.specs.History.{incarnation, settled_in, higher, greatest, leases_of, clients_of, kept_of, account, IsOrderly}
-use Rattle.lease_book.specs.Ledger.{Ledger, IsHistory, Enters, nobody, or_nobody, account_in}
-use Rattle.lease_book.specs.declared.accounts.Standing.{Standing}
-use Rattle.lease_book.proofs.HistoryLemmas.{has, fresh, account_unknown}
+use Rattle.lease_book.specs.Ledger.{Ledger, IsHistory}
+use Rattle.lease_book.proofs.HistoryLemmas.{has, fresh}
 
 -- Clients stand once each.
 
@@ -81,8 +79,8 @@ entered e es old new c i a h history at client clients others own after orderly 
     record {
       orderly = orderly;
       accounts = after ∙ ap (λ (xs : List Account). changed_at xs i h) history.accounts
-        ∙ changed_map (account es) (account (e ∷ es)) h c i (clients_of es) a (λ k. refl) others own (distinct_clients es) at' client
-        ∙ ap (map (account (e ∷ es))) (sym clients);
+          ∙ changed_map (account es) (account (e ∷ es)) h c i (clients_of es) a (λ k. refl) others own (distinct_clients es) at' client
+          ∙ ap (map (account (e ∷ es))) (sym clients);
     }
 
 -- the account in the history, where it stands in the book
@@ -133,12 +131,12 @@ settled_own es c i n s current next =
     let same : nat_eq c c ≡ true = eq-eqb c c refl in
     let now : nat_eq (incarnation c es) i ≡ true = eq-eqb (incarnation c es) i (sym current) in
     let first : account (Settled c i n s ∷ es) c ≡ record { client = c; incarnation = incarnation c es; kept = higher (kept n s) (kept_of c es); leases = leases_after i s (leases_of c es) } =
-      λ j. record {
-        client = c;
-        incarnation = incarnation c es;
-        kept = greatest (cond (same j && now j) (kept n s ∷ settled_in c (incarnation c es) es) (settled_in c (incarnation c es) es));
-        leases = cond (same j) (leases_after i s (leases_of c es)) (leases_of c es);
-      } in
+    λ j. record {
+      client = c;
+      incarnation = incarnation c es;
+      kept = greatest (cond (same j && now j) (kept n s ∷ settled_in c (incarnation c es) es) (settled_in c (incarnation c es) es));
+      leases = cond (same j) (leases_after i s (leases_of c es)) (leases_of c es);
+    } in
     let highest : higher (kept n s) (kept_of c es) ≡ Some (kept n s) = higher_next (kept n s) (kept_of c es) next in
     first ∙ (λ j. record { client = c; incarnation = sym current j; kept = highest j; leases = leases_after i s (leases_of c es) })
 

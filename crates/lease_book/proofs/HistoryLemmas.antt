@@ -1,15 +1,11 @@
 -- What an entry changes in what is read off the entries.
-use Rattle.std.proofs.Common.{◌≡◌, ◌≢◌, ℕ, zero, suc, ◌+◌, ◌<◌, ◌≤◌, Bool, true, false, cond, ◌&&◌, ◌||◌, nat_eq, nat_lt, List, [], ◌∷◌, ◌++◌, length, map, Option, Some, None, slice_get, refl, sym, ap, subst, ◌∙◌, arith, eq-eqb}
-use Rattle.std.specs.List.{find, list_any, AllByRecursion, IsDistinct}
-use Rattle.std.proofs.lemmas.Bool.{eqb-true, eqb-false, ne_eqb, le-ltb}
-use Rattle.std.proofs.lemmas.List.{map-append}
-use Rattle.lease_book.specs.Kept.{Kept}
-use Rattle.lease_book.specs.Entry.{Settlement, Entry, Hello, Settled, Swept, kept}
-use Rattle.lease_book.specs.Account.{Lease, Account, number_of, is_lease, without, leases_after}
-use Rattle.lease_book.specs.Shelf.{account_with, changed_at, with_standing, with_leases}
-use Rattle.lease_book.specs.History.{incarnation, settled_in, higher, greatest, leases_of, clients_of, kept_of, account, IsOrderly}
-use Rattle.lease_book.specs.Ledger.{Ledger, IsHistory, Enters, nobody, or_nobody, account_in}
-use Rattle.lease_book.specs.declared.accounts.Standing.{Standing}
+use Rattle.std.proofs.Common.{◌≡◌, ℕ, ◌<◌, Bool, true, false, cond, ◌&&◌, ◌||◌, nat_eq, List, [], ◌∷◌, ◌++◌, map, Some, None, refl, sym, ap, subst, ◌∙◌, arith}
+use Rattle.std.specs.List.{find, list_any}
+use Rattle.std.proofs.lemmas.Bool.{eqb-true, ne_eqb}
+use Rattle.lease_book.specs.Entry.{Entry, Hello, Settled, Swept, kept}
+use Rattle.lease_book.specs.Account.{Account, is_lease, without, leases_after}
+use Rattle.lease_book.specs.History.{incarnation, settled_in, greatest, leases_of, clients_of, account, IsOrderly}
+use Rattle.lease_book.specs.Ledger.{Ledger, IsHistory, nobody, or_nobody, account_in}
 
 -- whether the client is in the list
 abbrev pub has : ℕ → List ℕ → Bool

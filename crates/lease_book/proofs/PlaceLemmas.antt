@@ -1,10 +1,10 @@
 -- The place of the first member that passes a test.
-use Rattle.std.proofs.Common.{eq-eqb, one-add, ◌≡◌, ◌≢◌, ℕ, zero, suc, ◌+◌, ◌<◌, ◌≤◌, Bool, true, false, cond, not, nat_eq, nat_lt, ◌&&◌, List, [], ◌∷◌, ◌++◌, length, All, Option, Some, None, IfSome, slice_get, get_or, position, refl, sym, ap, subst, ◌∙◌, arith, take, drop}
+use Rattle.std.proofs.Common.{eq-eqb, one-add, ◌≡◌, ℕ, ◌+◌, ◌<◌, ◌≤◌, Bool, true, false, cond, not, nat_eq, nat_lt, ◌&&◌, List, [], ◌∷◌, length, All, Option, Some, None, IfSome, slice_get, get_or, position, refl, sym, ap, subst, ◌∙◌, arith}
 use Rattle.std.specs.List.{find, remove, position_or_len}
 use Rattle.std.proofs.lemmas.Bool.{ltb-true, ltb-false, ne_eqb, eqb-true}
 use Rattle.std.proofs.lemmas.List.Folds.{find_at}
 use Rattle.std.proofs.lemmas.List.Sums.{position_or_len_is, fails_before_first}
-use Rattle.std.proofs.lemmas.Option.{slice_get_past, slice_get_within, get_or_from_slice_get}
+use Rattle.std.proofs.lemmas.Option.{slice_get_past, get_or_from_slice_get}
 use Rattle.lease_book.specs.Account.{Lease, is_lease, is_older, without}
 
 pub position-some : {X : Type 0} (test : X → Bool) (xs : List X) (i : ℕ) → position test xs ≡ Some i → (position_or_len test xs ≡ i) × (i < length xs)
@@ -88,11 +88,11 @@ older_first i ls k l at is =
     let older : is_older i l ≡ true = subst (λ (o : Option Lease). IfSome o (λ x. is_older i x ≡ true)) (ap (slice_get ls) place.0 ∙ is) passes in
     let less : l.incarnation < i = ltb-true _ _ older in
     let before : (j : ℕ) → j < k → is_lease l.incarnation l.segment.arena l.segment.holding.range.base (get_or ls j l) ≡ false = λ j below.
-      let not_less : i ≤ (get_or ls j l).incarnation = ltb-false _ _ (fails_before_first (is_older i) ls j l (subst (λ (n : ℕ). j < n) (sym place.0) below)) in
-      left_off _ _ (ne_eqb l.incarnation (get_or ls j l).incarnation (λ e. absurd (omega (arith, e, not_less, less)))) in
+    let not_less : i ≤ (get_or ls j l).incarnation = ltb-false _ _ (fails_before_first (is_older i) ls j l (subst (λ (n : ℕ). j < n) (sym place.0) below)) in
+    left_off _ _ (ne_eqb l.incarnation (get_or ls j l).incarnation (λ e. absurd (omega (arith, e, not_less, less)))) in
     let first : position_or_len (is_lease l.incarnation l.segment.arena l.segment.holding.range.base) ls ≡ k =
-      position_or_len_is (is_lease l.incarnation l.segment.arena l.segment.holding.range.base) ls k l (omega (arith, place.1)) before
-      (λ within. ap (is_lease l.incarnation l.segment.arena l.segment.holding.range.base) (here l) ∙ is_own l) in
+    position_or_len_is (is_lease l.incarnation l.segment.arena l.segment.holding.range.base) ls k l (omega (arith, place.1)) before
+    (λ within. ap (is_lease l.incarnation l.segment.arena l.segment.holding.range.base) (here l) ∙ is_own l) in
     (less, first_of_place (is_lease l.incarnation l.segment.arena l.segment.holding.range.base) ls k first place.1)
 
 -- the lease that stands first is the first with its incarnation, arena and base

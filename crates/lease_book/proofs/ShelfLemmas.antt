@@ -1,7 +1,7 @@
 -- The accounts, and their parts in the map and in the vector beside it.
 use Rattle.std.proofs.lemmas.Bool.{eqb-false, ne_eqb}
-use Rattle.std.proofs.Common.{eq-eqb, one-add, ◌≡◌, ◌≢◌, ℕ, zero, suc, ◌+◌, ◌<◌, ◌≤◌, Bool, true, false, cond, not, nat_eq, nat_lt, List, [], ◌∷◌, ◌++◌, length, All, Option, Some, None, IfSome, IfNone, Result, Ok, Err, OnOk, OnErr, slice_get, get_or, position, refl, sym, ap, subst, ◌∙◌, arith}
-use Rattle.std.specs.List.{find, remove, position_or_len, AllByRecursion, IsDistinct}
+use Rattle.std.proofs.Common.{eq-eqb, one-add, ◌≡◌, ℕ, zero, suc, ◌+◌, ◌<◌, ◌≤◌, Bool, true, false, cond, not, nat_eq, List, [], ◌∷◌, ◌++◌, length, All, Option, Some, None, IfSome, IfNone, Result, Ok, Err, OnOk, OnErr, slice_get, get_or, position, refl, sym, ap, subst, ◌∙◌, arith}
+use Rattle.std.specs.List.{find, position_or_len, AllByRecursion, IsDistinct}
 use Rattle.std.specs.Option.{option_map}
 use Rattle.std.specs.Map.{keys_of, values_of, lookup}
 use Rattle.std.proofs.lemmas.Option.{slice_get_past}

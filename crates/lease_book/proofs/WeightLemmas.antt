@@ -1,10 +1,10 @@
 -- What all leases weigh together.
-use Rattle.std.proofs.Common.{◌≡◌, ◌≢◌, ℕ, zero, suc, ◌+◌, ◌<◌, ◌≤◌, Bool, true, false, cond, not, nat_lt, List, [], ◌∷◌, ◌++◌, length, All, Option, Some, None, IfSome, IfNone, slice_get, get_or, position, sum_by, map, refl, sym, ap, subst, ◌∙◌, arith}
-use Rattle.std.specs.List.{position_or_len, flat_map}
+use Rattle.std.proofs.Common.{◌≡◌, ◌≢◌, ℕ, zero, suc, ◌+◌, ◌<◌, ◌≤◌, Bool, true, false, cond, not, nat_lt, List, [], ◌∷◌, ◌++◌, length, All, Option, Some, None, IfSome, IfNone, slice_get, position, sum_by, refl, sym, ap, subst, ◌∙◌, arith}
+use Rattle.std.specs.List.{position_or_len}
 use Rattle.std.proofs.lemmas.List.Sums.{sum_by-cons, sum_by-append}
 use Rattle.deed_core.specs.Tag.{Tag}
 use Rattle.lease_book.specs.Account.{Lease, Account}
-use Rattle.lease_book.specs.Shelf.{account_with, accounts_of, changed_at}
+use Rattle.lease_book.specs.Shelf.{account_with, accounts_of}
 use Rattle.lease_book.specs.Ledger.{segments, leased_by, units_in, units_of_lease}
 use Rattle.lease_book.specs.declared.accounts.Standing.{Standing}
 use Rattle.std.proofs.lemmas.Bool.{ltb-true}
@@ -31,7 +31,7 @@ units_by_client arena (e ∷ es) (l ∷ ls) same =
     let these : sum_by (units_in arena) (segments l) ≡ sum_by (units_of_lease arena) l = sum_by-segments (units_in arena) l in
     let now : sum_by (λ x. sum_by (units_of_lease arena) x) (l ∷ ls) ≡ sum_by (units_of_lease arena) l + sum_by (λ x. sum_by (units_of_lease arena) x) ls = sum_by-cons (λ x. sum_by (units_of_lease arena) x) l ls in
     let then_all : sum_by (units_in arena) (leased_by (accounts_of (e ∷ es) (l ∷ ls))) ≡ sum_by (units_in arena) (segments l) + sum_by (units_in arena) (leased_by (accounts_of es ls)) =
-      sum_by-leased_by (units_in arena) (account_with e.0 e.1 l) (accounts_of es ls) in
+    sum_by-leased_by (units_in arena) (account_with e.0 e.1 l) (accounts_of es ls) in
     omega (arith, all, these, now, then_all)
 
 no_segments : (l : List Lease) (rest : List Tag) → segments l ++ rest ≡ [] → (l ≡ []) × (rest ≡ [])
@@ -79,7 +79,7 @@ leased_in es ls None same at = record {
 leased_in es ls (Some i) same at =
     let is = position-some (λ (l : List Lease). nat_lt 0 (length l)) ls i (sym at) in
     let passes : IfSome (slice_get ls i) (λ l. nat_lt 0 (length l) ≡ true) =
-      subst (λ (k : ℕ). IfSome (slice_get ls k) (λ l. nat_lt 0 (length l) ≡ true)) is.0 (passes_place (λ (l : List Lease). nat_lt 0 (length l)) ls (omega (arith, is.0, is.1))) in
+    subst (λ (k : ℕ). IfSome (slice_get ls k) (λ l. nat_lt 0 (length l) ≡ true)) is.0 (passes_place (λ (l : List Lease). nat_lt 0 (length l)) ls (omega (arith, is.0, is.1))) in
     record {
       within = omega (arith, is.1, length-accounts_of es ls same);
       found = leased_there es ls i same passes;

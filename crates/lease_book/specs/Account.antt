@@ -1,5 +1,5 @@
 -- What a book has on a client.
-use Rattle.std.specs.Prelude.{ℕ, ◌<◌, ◌≤◌, ◌==◌, ◌&&◌, Bool, nat_lt, if◌then◌else◌, List, [], ◌∷◌, ◌++◌, Option, Some, None}
+use Rattle.std.specs.Prelude.{ℕ, ◌==◌, ◌&&◌, Bool, nat_lt, if◌then◌else◌, List, [], ◌∷◌, ◌++◌, Option, Some, None}
 use Rattle.deed_core.specs.Tag.{Tag}
 use Rattle.lease_book.specs.Kept.{Kept}
 use Rattle.lease_book.specs.Entry.{Settlement, Grant, Return, Refuse}

@@ -1,7 +1,6 @@
 -- How a book answers.
-use Rattle.std.specs.Prelude.{◌≡◌, ◌≢◌, ℕ, ◌+◌, ◌<◌, List, length, Option, Some, None}
+use Rattle.std.specs.Prelude.{◌≡◌, ◌≢◌, ℕ, ◌+◌, ◌<◌, Some}
 use Rattle.lease_book.specs.Kept.{Kept, Voucher}
-use Rattle.lease_book.specs.Entry.{Settlement, kept}
 use Rattle.lease_book.specs.Account.{Account, last}
 use Rattle.lease_book.specs.Ledger.{Ledger, account_in}
 use Rattle.lease_book.specs.declared.answers.HelloFault.{HelloFault}

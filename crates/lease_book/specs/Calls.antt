@@ -1,11 +1,11 @@
 -- What the calls of a book do.
-use Rattle.std.specs.Prelude.{◌≡◌, ℕ, ◌<◌, ◌≤◌, length, Option, Some, None, slice_get}
+use Rattle.std.specs.Prelude.{◌≡◌, ℕ, ◌<◌, length, Some, slice_get}
 use Rattle.std.specs.List.{find}
 use Rattle.deed_core.specs.Tag.{Tag}
 use Rattle.deed_core.specs.Weights.{Gains, Loses}
 use Rattle.lease_book.specs.Kept.{Voucher}
 use Rattle.lease_book.specs.Entry.{Settled, Swept, Grant, Return, Refuse, kept}
-use Rattle.lease_book.specs.Account.{Lease, is_lease}
+use Rattle.lease_book.specs.Account.{is_lease}
 use Rattle.lease_book.specs.Ledger.{Ledger, Enters, account_in, leased}
 use Rattle.lease_book.specs.Answers.{receipt, IsNew}
 use Rattle.lease_book.specs.declared.receipts.Refusal.{Refusal}

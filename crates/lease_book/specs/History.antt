@@ -1,8 +1,8 @@
 -- What is read off a list of entries, newest first.
-use Rattle.std.specs.Prelude.{◌≡◌, ℕ, ◌+◌, ◌<◌, ◌≤◌, ◌==◌, ◌&&◌, Bool, nat_lt, if◌then◌else◌, List, [], ◌∷◌, ◌++◌, Option, Some, None}
+use Rattle.std.specs.Prelude.{◌≡◌, ℕ, ◌+◌, ◌<◌, ◌≤◌, ◌==◌, ◌&&◌, nat_lt, if◌then◌else◌, List, [], ◌∷◌, ◌++◌, Option, Some, None}
 use Rattle.std.specs.List.{list_any}
 use Rattle.lease_book.specs.Kept.{Kept}
-use Rattle.lease_book.specs.Entry.{Settlement, Entry, Hello, Settled, Swept, kept}
+use Rattle.lease_book.specs.Entry.{Entry, Hello, Settled, Swept, kept}
 use Rattle.lease_book.specs.Account.{Lease, Account, number_of, is_lease, without, leases_after}
 
 -- the incarnation of the client's last hello, or 0

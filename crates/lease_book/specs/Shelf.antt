@@ -1,8 +1,8 @@
 -- Accounts as they are stored: what is kept of each client in a map in order of first hello, and beside it its leases.
-use Rattle.std.specs.Prelude.{nat_eq, ◌≡◌, ℕ, suc, zero, ◌≤◌, List, [], ◌∷◌, length, All, Option}
+use Rattle.std.specs.Prelude.{nat_eq, ◌≡◌, ℕ, suc, zero, ◌≤◌, List, [], ◌∷◌, length, All}
 use Rattle.std.specs.Map.{keys_of}
 use Rattle.std.specs.List.{IsDistinct}
-use Rattle.lease_book.specs.Kept.{Kept, IsClient}
+use Rattle.lease_book.specs.Kept.{IsClient}
 use Rattle.lease_book.specs.Account.{Lease, Account}
 use Rattle.lease_book.specs.declared.accounts.Standing.{Standing}
 

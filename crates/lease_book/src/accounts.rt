@@ -1,8 +1,9 @@
 //! The accounts of the clients, in order of first hello.
-ghost use Rattle.std.specs.Prelude.{◌≡◌, ◌≢◌, ℕ, ◌+◌, ◌*◌, ◌^◌, ◌<◌, ◌≤◌, ◌==◌, List, [], ◌∷◌, ◌++◌, length, All, OnOk, OnErr, IfOk, IfErr, IfSome, IfNone, MatchOption, Some, None, slice_get, position, sum_by, option_map};
+ghost use Rattle.std.specs.Prelude.{◌≡◌, ◌≢◌, ℕ, ◌+◌, ◌*◌, ◌^◌, ◌<◌, ◌≤◌, ◌==◌, List, [], ◌∷◌, ◌++◌, length, All, OnOk, OnErr, IfOk, IfErr, IfSome, IfNone, MatchOption, Some, None, slice_get, position, sum_by, nat_lt, option_map};
 ghost use Rattle.std.specs.List.{find, remove};
 ghost use Rattle.lease_book.specs.Kept.{IsClient};
 ghost use Rattle.lease_book.specs.Account.{Lease, Account, is_lease, number_of};
+ghost use Rattle.lease_book.specs.Ledger.{units_of_lease};
 
 use crate::leases::Leases;
 use crate::receipts::Kept;
@@ -193,9 +194,6 @@ impl<D: Deed> Accounts<D> {
         close_all(leases);
     }
 }
-
-ghost use Rattle.std.specs.Prelude.{nat_lt};
-ghost use Rattle.lease_book.specs.Ledger.{units_of_lease};
 
 fn first_leased<D: Deed>(leases: &[Leases<D>]) -> Option<usize>
     ensures { result ≡ position (λ l. nat_lt 0 (length l)) leases.now }

@@ -239,10 +239,7 @@ impl<D: Deed> Book<D> {
         ensures unchanged { IfNone result (self.new ≡ self.old) }
     {
         let (place, standing) = self.account(client)?;
-        let index = self
-            .accounts
-            .leases(place)
-            .older(standing.incarnation)?;
+        let index = self.accounts.leases(place).older(standing.incarnation)?;
         let (_, segment) = self.accounts.take(place, index);
         Some(segment)
     }

@@ -107,9 +107,7 @@ impl<D: Deed> Leases<D> {
     pub(crate) fn older(&self, incarnation: u64) -> Option<usize>
         ensures { result ≡ position (is_older incarnation) self.now }
     {
-        self.held
-            .iter()
-            .position(|held| held.is_older(incarnation))
+        self.held.iter().position(|held| held.is_older(incarnation))
     }
 
     /// Takes the lease at a place out, with the incarnation that had it.

@@ -94,7 +94,7 @@ impl<D> Model for Receipt<D> {
 
     ghost view = { λ r. record { book = r.book; client = r.client; incarnation = r.incarnation; kept = r.kept } };
 
-    ghost inverse = { λ p. record { book = p.book; client = p.client; incarnation = p.incarnation; kept = p.kept; of = record { } } };
+    ghost inverse = { λ p. record { book = p.book; client = p.client; incarnation = p.incarnation; kept = p.kept; of = record {} } };
 }
 
 impl<D> Receipt<D> {

@@ -86,7 +86,13 @@ fn lease(
         Ok(receipt) => match receipt.reply() {
             Reply::Granted { arena, base, len } => {
                 assert_eq!(rt; arena, ARENA);
-                assert_eq!(rt; receipt.terms(), Some(Terms { quantum: 1, request }));
+                assert_eq!(rt;
+                    receipt.terms(),
+                    Some(Terms {
+                        quantum: 1,
+                        request
+                    })
+                );
                 assert_eq!(rt; receipt.client(), client);
                 assert_eq!(rt; receipt.incarnation(), incarnation);
                 assert_eq!(rt; receipt.number(), number);
@@ -156,7 +162,10 @@ fn repeats(rt: HostRuntime) {
     assert_eq!(rt; look(&book, 1, 1, 1), Told::New);
     assert_eq!(rt; lease(&rt, &mut book, 1, 1, 1, 0, 8), Told::Granted(0, 8));
     assert_eq!(rt; look(&book, 1, 1, 1), Told::Kept(granted(0, 8)));
-    assert_eq!(rt; lease(&rt, &mut book, 1, 1, 1, 8, 8), Told::Kept(granted(0, 8)));
+    assert_eq!(rt;
+        lease(&rt, &mut book, 1, 1, 1, 8, 8),
+        Told::Kept(granted(0, 8))
+    );
     assert_eq!(rt; book.units(ARENA), 8);
     assert_eq!(rt; book.units(ARENA + 1), 0);
     end(&rt, book);
@@ -189,11 +198,20 @@ fn releases(rt: HostRuntime) {
     assert!(rt; book.hello(1, 1).is_ok());
     assert_eq!(rt; lease(&rt, &mut book, 1, 1, 1, 1, 2), Told::Granted(1, 2));
     assert!(rt; book.hello(2, 1).is_ok());
-    assert_eq!(rt; release(&rt, &mut book, 2, 1, 1, 1), Told::Refused(Refusal::NotYours));
-    assert_eq!(rt; release(&rt, &mut book, 2, 1, 1, 1), Told::Kept(Reply::Refused(Refusal::NotYours)));
+    assert_eq!(rt;
+        release(&rt, &mut book, 2, 1, 1, 1),
+        Told::Refused(Refusal::NotYours)
+    );
+    assert_eq!(rt;
+        release(&rt, &mut book, 2, 1, 1, 1),
+        Told::Kept(Reply::Refused(Refusal::NotYours))
+    );
     assert_eq!(rt; book.units(ARENA), 2);
     assert_eq!(rt; release(&rt, &mut book, 1, 1, 2, 1), Told::Released);
-    assert_eq!(rt; release(&rt, &mut book, 1, 1, 2, 1), Told::Kept(Reply::Released));
+    assert_eq!(rt;
+        release(&rt, &mut book, 1, 1, 2, 1),
+        Told::Kept(Reply::Released)
+    );
     assert_eq!(rt; release(&rt, &mut book, 1, 1, 1, 1), Told::Stale(2));
     assert_eq!(rt; release(&rt, &mut book, 1, 1, 4, 1), Told::Gap(2));
     assert_eq!(rt; release(&rt, &mut book, 1, 2, 3, 1), Told::Old(1));
@@ -220,12 +238,30 @@ fn numbers(rt: HostRuntime) {
 fn refusals(rt: HostRuntime) {
     let mut book = make_book(&rt, rt.alloc());
     assert!(rt; book.hello(1, 3).is_ok());
-    assert_eq!(rt; answered(book.refuse(1, 3, 1, Refusal::NoFit)), Told::Refused(Refusal::NoFit));
-    assert_eq!(rt; answered(book.refuse(1, 3, 1, Refusal::NoArena)), Told::Kept(Reply::Refused(Refusal::NoFit)));
-    assert_eq!(rt; answered(book.refuse(1, 3, 2, Refusal::BadRequest)), Told::Refused(Refusal::BadRequest));
-    assert_eq!(rt; answered(book.refuse(1, 3, 1, Refusal::NoFit)), Told::Stale(2));
-    assert_eq!(rt; answered(book.refuse(1, 3, 5, Refusal::NoFit)), Told::Gap(2));
-    assert_eq!(rt; answered(book.refuse(1, 2, 3, Refusal::NoFit)), Told::Old(3));
+    assert_eq!(rt;
+        answered(book.refuse(1, 3, 1, Refusal::NoFit)),
+        Told::Refused(Refusal::NoFit)
+    );
+    assert_eq!(rt;
+        answered(book.refuse(1, 3, 1, Refusal::NoArena)),
+        Told::Kept(Reply::Refused(Refusal::NoFit))
+    );
+    assert_eq!(rt;
+        answered(book.refuse(1, 3, 2, Refusal::BadRequest)),
+        Told::Refused(Refusal::BadRequest)
+    );
+    assert_eq!(rt;
+        answered(book.refuse(1, 3, 1, Refusal::NoFit)),
+        Told::Stale(2)
+    );
+    assert_eq!(rt;
+        answered(book.refuse(1, 3, 5, Refusal::NoFit)),
+        Told::Gap(2)
+    );
+    assert_eq!(rt;
+        answered(book.refuse(1, 2, 3, Refusal::NoFit)),
+        Told::Old(3)
+    );
     end(&rt, book);
 }
 
@@ -235,10 +271,19 @@ fn limit(rt: HostRuntime) {
     let mut book = make_book(&rt, rt.alloc());
     assert!(rt; book.hello(1, 1).is_ok());
     for i in 0..1024u64 {
-        assert_eq!(rt; lease(&rt, &mut book, 1, 1, i + 1, i, 1), Told::Granted(i, 1));
+        assert_eq!(rt;
+            lease(&rt, &mut book, 1, 1, i + 1, i, 1),
+            Told::Granted(i, 1)
+        );
     }
-    assert_eq!(rt; lease(&rt, &mut book, 1, 1, 1025, 1024, 1), Told::Refused(Refusal::Leases));
-    assert_eq!(rt; lease(&rt, &mut book, 1, 1, 1025, 1024, 1), Told::Kept(Reply::Refused(Refusal::Leases)));
+    assert_eq!(rt;
+        lease(&rt, &mut book, 1, 1, 1025, 1024, 1),
+        Told::Refused(Refusal::Leases)
+    );
+    assert_eq!(rt;
+        lease(&rt, &mut book, 1, 1, 1025, 1024, 1),
+        Told::Kept(Reply::Refused(Refusal::Leases))
+    );
     assert_eq!(rt; book.units(ARENA), 1024);
     let report = ClientReport {
         client: 1,
@@ -263,4 +308,27 @@ fn closes(rt: HostRuntime) {
         Ok(_) => panic!(rt; "a lease stands"),
         Err(book) => end(&rt, book),
     }
+}
+
+// Want of memory leaves all as it was, and the same call then succeeds.
+#[test]
+fn memory(rt: HostRuntime) {
+    let mut book = make_book(&rt, rt.alloc());
+    match book.hello(1, 1) {
+        Ok(()) => {}
+        Err(HelloFault::NoMemory) => {
+            assert_eq!(rt; look(&book, 1, 1, 1), Told::Old(0));
+            assert_eq!(rt; book.client_at(0), None);
+            assert!(rt; book.hello(1, 1).is_ok());
+        }
+        Err(HelloFault::Old(_)) => panic!(rt; "old"),
+    }
+    let mut first = lease(&rt, &mut book, 1, 1, 1, 0, 8);
+    if first == Told::Again {
+        assert_eq!(rt; look(&book, 1, 1, 1), Told::New);
+        assert_eq!(rt; book.units(ARENA), 0);
+        first = lease(&rt, &mut book, 1, 1, 1, 0, 8);
+    }
+    assert_eq!(rt; first, Told::Granted(0, 8));
+    end(&rt, book);
 }

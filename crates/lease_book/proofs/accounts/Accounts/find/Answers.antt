@@ -1,4 +1,4 @@
-use Rattle.lease_book.proofs.ShelfLemmas.{IsPlace, place_of}
+use Rattle.lease_book.proofs.ShelfLemmas.{place_of}
 use Rattle.lease_book.proofs.accounts.Accounts.find.Goals as goal
 
 pub returns-clause-within : goal.returns-clause-within

@@ -1,4 +1,4 @@
-use Rattle.std.proofs.Common.{◌≡◌, ◌<◌, length, List, arith}
+use Rattle.std.proofs.Common.{◌<◌, length, List, arith}
 use Rattle.lease_book.specs.Account.{Lease}
 use Rattle.lease_book.proofs.ShelfLemmas.{within_parts, shelf_set, leases_there, limited_after, leased_after, unleased_after}
 use Rattle.lease_book.proofs.accounts.Accounts.lease.Goals as goal

@@ -1,4 +1,4 @@
-use Rattle.std.proofs.Common.{subst, Some, ◌≡◌, slice_get, List, ap, sym, ◌∙◌}
+use Rattle.std.proofs.Common.{slice_get, List, ap, sym, ◌∙◌}
 use Rattle.std.specs.Option.{option_map}
 use Rattle.lease_book.specs.Shelf.{standing_of}
 use Rattle.lease_book.specs.Account.{Account}
