@@ -48,6 +48,10 @@ leased_by accounts = flat_map (λ a. segments a.leases) accounts
 abbrev pub leased : Ledger → List Tag
 leased book = leased_by book.accounts
 
+-- all segments whose grants no later entry took away
+abbrev pub leased_in : List Entry → List Tag
+leased_in entries = leased_by (map (account entries) (clients_of entries))
+
 -- what a segment counts in an arena
 abbrev pub units_in : ℕ → Tag → ℕ
 units_in arena t = if t.arena == arena then t.holding.range.len else 0

@@ -1,8 +1,8 @@
 //! The accounts of the clients, in order of first hello.
-ghost use Rattle.std.specs.Prelude.{◌≡◌, ◌≢◌, ℕ, ◌+◌, ◌*◌, ◌^◌, ◌<◌, ◌≤◌, ◌==◌, List, [], ◌∷◌, ◌++◌, length, All, OnOk, OnErr, IfOk, IfErr, IfSome, IfNone, MatchOption, Some, None, slice_get, position, sum_by, nat_lt, option_map};
+ghost use Rattle.std.specs.Prelude.{◌≡◌, ◌≢◌, ◌+◌, ◌*◌, ◌<◌, ◌≤◌, ◌==◌, List, [], ◌∷◌, ◌++◌, length, All, OnOk, OnErr, IfErr, IfSome, IfNone, Some, None, slice_get, position, sum_by, nat_lt, option_map};
 ghost use Rattle.std.specs.List.{find, remove};
 ghost use Rattle.lease_book.specs.Kept.{IsClient};
-ghost use Rattle.lease_book.specs.Account.{Lease, Account, is_lease, number_of};
+ghost use Rattle.lease_book.specs.Account.{Account, number_of};
 ghost use Rattle.lease_book.specs.Ledger.{units_of_lease};
 
 use crate::leases::Leases;

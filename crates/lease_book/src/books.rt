@@ -1,14 +1,13 @@
 //! The book of leases.
-ghost use Rattle.std.specs.Prelude.{◌≡◌, ◌≢◌, ◌==◌, ℕ, ◌+◌, ◌<◌, ◌≤◌, ◌↔◌, List, [], ◌∷◌, length, All, IsOk, IsNone, OnOk, OnErr, OnSome, IfOk, IfErr, IfSome, IfNone, MatchOption, MatchResult, Some, None, slice_get, sum_by};
+ghost use Rattle.std.specs.Prelude.{◌≡◌, ◌==◌, ◌<◌, ◌≤◌, ◌↔◌, List, [], length, All, IsOk, IsNone, OnOk, OnErr, IfOk, IfErr, IfSome, IfNone, Some, None, slice_get, sum_by};
 ghost use Rattle.std.specs.List.{find};
 ghost use Rattle.std.specs.Option.{option_map};
 ghost use Rattle.deed_core.specs.Request.{Fits};
-ghost use Rattle.deed_core.specs.Weights.{WeighSame, Gains, Loses};
 ghost use Rattle.lease_book.specs.Kept.{IsClient, IsNumber, Kept};
-ghost use Rattle.lease_book.specs.Entry.{Entry, Hello, Settled, Swept, Grant, Return, Refuse, kept};
-ghost use Rattle.lease_book.specs.Account.{Lease, Account, last, is_lease};
+ghost use Rattle.lease_book.specs.Entry.{Entry, Hello, kept};
+ghost use Rattle.lease_book.specs.Account.{last, is_lease};
 ghost use Rattle.lease_book.specs.History.{account, clients_of};
-ghost use Rattle.lease_book.specs.Ledger.{Ledger, IsHistory, HasHistory, Enters, account_in, leased, units_in};
+ghost use Rattle.lease_book.specs.Ledger.{Ledger, IsHistory, HasHistory, Enters, account_in, leased, leased_in, units_in};
 ghost use Rattle.lease_book.specs.Reports.{report_of};
 
 use crate::accounts::{Accounts, Standing};
@@ -40,7 +39,7 @@ impl<D: Deed> Model for Book<D> {
 
 impl<D: Deed> Book<D> {
     ghost use Rattle.lease_book.specs.Answers.{receipt, IsNew, IsLook, IsAnswer, IsHelloFault};
-    ghost use Rattle.lease_book.specs.Shelf.{changed_at, standing_of, with_standing};
+    ghost use Rattle.lease_book.specs.Shelf.{standing_of};
     ghost use Rattle.lease_book.specs.Calls.{IsFound, IsGranted, IsRefused, IsReleased, IsSwept, IsTaken};
 
     /// An empty book. The mark is a deed of the one unit 0; its root tells the book's receipts from another's.
@@ -257,7 +256,8 @@ impl<D: Deed> Book<D> {
 
     /// The units of the arena that are leased.
     pub fn units(&self, arena: u32) -> u128
-        ensures { result ≡ sum_by (units_in arena) (leased self.now) }
+        ensures value { result ≡ sum_by (units_in arena) (leased self.now) }
+        ensures history { (entries : List Entry) → IsHistory entries self.now → result ≡ sum_by (units_in arena) (leased_in entries) }
     {
         self.accounts.units(arena)
     }

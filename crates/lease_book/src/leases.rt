@@ -1,5 +1,5 @@
 //! The leases of one client, in order of grant.
-ghost use Rattle.std.specs.Prelude.{◌≡◌, ◌+◌, ◌*◌, ◌^◌, ◌<◌, ◌≤◌, [], ◌∷◌, ◌++◌, length, OnOk, OnErr, IfErr, Some, None, slice_get, position, sum_by};
+ghost use Rattle.std.specs.Prelude.{◌≡◌, ◌+◌, ◌*◌, ◌^◌, ◌<◌, ◌≤◌, [], ◌∷◌, ◌++◌, length, OnOk, OnErr, IfErr, Some, slice_get, position, sum_by};
 ghost use Rattle.std.specs.List.{remove};
 ghost use Rattle.lease_book.specs.Account.{Lease, is_lease, is_older};
 ghost use Rattle.lease_book.specs.Ledger.{units_of_lease};

@@ -1,6 +1,5 @@
 //! Replies that are kept, and receipts for them.
-ghost use Rattle.std.specs.Prelude.{◌≡◌, Some, None};
-ghost use Rattle.deed_core.specs.Request.{Fits};
+ghost use Rattle.std.specs.Prelude.{◌≡◌};
 
 use deed_core::Request;
 use std::marker::{Model, PhantomData};

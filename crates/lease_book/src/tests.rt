@@ -1,4 +1,3 @@
-ghost use Rattle.std.specs.Prelude.{◌≡◌};
 ghost use Rattle.lease_book.specs.Kept.{IsClient, IsNumber};
 
 use super::*;
