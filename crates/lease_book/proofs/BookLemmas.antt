@@ -1,0 +1,377 @@
+-- What a call changes, entered in the book's history.
+use Rattle.std.proofs.Common.{◌≡◌, ℕ, zero, suc, ◌+◌, ◌<◌, ◌≤◌, Bool, true, false, cond, ◌||◌, nat_eq, List, [], ◌∷◌, ◌++◌, length, map, sum_by, Option, Some, None, IfSome, IfNone, is_some, slice_get, refl, sym, ap, subst, ◌∙◌, arith}
+use Rattle.std.specs.List.{find, remove, AllByRecursion}
+use Rattle.std.specs.Option.{option_map}
+use Rattle.std.proofs.lemmas.List.Sums.{sum_by_push, sum_by-remove}
+use Rattle.std.proofs.lemmas.Bool.{eqb-true}
+use Rattle.deed_core.specs.Tag.{Tag}
+use Rattle.deed_core.specs.Weights.{Gains, Loses}
+use Rattle.lease_book.specs.Kept.{Kept, Voucher}
+use Rattle.lease_book.specs.Entry.{Settlement, Entry, Hello, Settled, Swept, Grant, Return, Refuse, kept}
+use Rattle.lease_book.specs.Account.{Lease, Account, number_of, is_lease, without, leases_after}
+use Rattle.lease_book.specs.Shelf.{account_with, changed_at, standing_of, with_standing, with_leases}
+use Rattle.lease_book.specs.History.{incarnation, clients_of, kept_of, account}
+use Rattle.lease_book.specs.Ledger.{Ledger, HasHistory, Enters, nobody, or_nobody, account_in, segments, leased_by, leased}
+use Rattle.lease_book.specs.Answers.{receipt, IsNew}
+use Rattle.lease_book.specs.Calls.{IsFound, IsGranted, IsRefused, IsReleased, IsEnded}
+use Rattle.lease_book.specs.declared.accounts.Standing.{Standing}
+use Rattle.lease_book.specs.declared.receipts.Refusal.{Refusal}
+use Rattle.lease_book.specs.declared.receipts.Reply.TheVariants.{Granted}
+use Rattle.lease_book.specs.declared.receipts.Terms.{Terms}
+use Rattle.std.proofs.lemmas.Option.{slice_get_within, get_or_from_slice_get}
+use Rattle.std.proofs.lemmas.List.{map-append}
+use Rattle.lease_book.proofs.HistoryLemmas.{has, account_is, account_unknown, find_known}
+use Rattle.lease_book.proofs.EntryLemmas.{entered, among, map_others, settled_others, settled_own, swept_others, swept_own, hello_others, hello_same, hello_above, changed_none, changed_twice}
+use Rattle.lease_book.proofs.PlaceLemmas.{IsFirst, is_lease_says, head_first}
+use Rattle.lease_book.proofs.WeightLemmas.{sum_by-segments, sum_by-leased_by}
+
+-- changes that do the same to the member at the place
+pub changed_alike : {X : Type 0} (xs : List X) (i : ℕ) (x : X) (f g : X → X) → slice_get xs i ≡ Some x → f x ≡ g x → changed_at xs i f ≡ changed_at xs i g
+changed_alike [] i x f g at same = refl
+changed_alike (y ∷ xs) zero x f g at same =
+    let is : y ≡ x = cc in
+    let here : f y ≡ g y = ap f is ∙ same ∙ ap g (sym is) in
+    λ j. here j ∷ xs
+changed_alike (y ∷ xs) (suc i) x f g at same = ap (λ ys. y ∷ ys) (changed_alike xs i x f g at same)
+
+find_passes : (test : Account → Bool) (xs : List Account) (a : Account) → find test xs ≡ Some a → test a ≡ true
+find_passes test [] a at = absurd (cc)
+find_passes test (x ∷ xs) a at = by (test x) refl at (find_passes test xs a)
+  where
+    by : (b : Bool) → test x ≡ b → cond b (Some x) (find test xs) ≡ Some a → (find test xs ≡ Some a → test a ≡ true) → test a ≡ true
+    by true is at rest = ap test (cc) ∙ is
+    by false is at rest = rest at
+
+-- where an account was found
+pub found_of : (book : Ledger) (c place : ℕ) (s : Standing) → place < length book.accounts → find (λ a. nat_eq c a.client) book.accounts ≡ slice_get book.accounts place
+    → option_map standing_of (slice_get book.accounts place) ≡ Some s → IsFound book c place × (standing_of (account_in c book) ≡ s)
+found_of book c place s within found standing = by (slice_get book.accounts place) refl standing
+  where
+    by : (o : Option Account) → slice_get book.accounts place ≡ o → option_map standing_of o ≡ Some s → IsFound book c place × (standing_of (account_in c book) ≡ s)
+    by None at standing = absurd (cc)
+    by (Some a) at standing =
+        let is : a ≡ account_in c book = sym (ap (or_nobody c) (found ∙ at)) in
+        let of : standing_of a ≡ s = cc in (
+          record {
+            within = within;
+            at = at ∙ ap Some is;
+            client = ap (λ (x : Account). x.client) (sym is) ∙ sym (eqb-true c a.client (find_passes (λ x. nat_eq c x.client) book.accounts a (found ∙ at)));
+          },
+          ap standing_of (sym is) ∙ of,
+        )
+
+pub some_of : {X : Type 0} {P : Type 0} (r : Option X) → true ≡ is_some r → IfSome r (λ _. P) → P
+some_of None is holds = absurd (cc)
+some_of (Some x) is holds = holds
+
+-- What is leased.
+
+pub leased_standing : (accounts : List Account) (i : ℕ) (s : Standing) → leased_by (changed_at accounts i (with_standing s)) ≡ leased_by accounts
+leased_standing [] i s = refl
+leased_standing (a ∷ accounts) zero s = refl
+leased_standing (a ∷ accounts) (suc i) s = ap (λ ts. segments a.leases ++ ts) (leased_standing accounts i s)
+
+pub leased_changed : (f : Tag → ℕ) (accounts : List Account) (i : ℕ) (a : Account) (h : Account → Account) → slice_get accounts i ≡ Some a
+    → sum_by f (leased_by (changed_at accounts i h)) + sum_by f (segments a.leases) ≡ sum_by f (leased_by accounts) + sum_by f (segments (h a).leases)
+leased_changed f [] i a h at = absurd (cc)
+leased_changed f (b ∷ accounts) zero a h at =
+    let is : b ≡ a = cc in
+    let old : sum_by f (leased_by (b ∷ accounts)) ≡ sum_by f (segments b.leases) + sum_by f (leased_by accounts) = sum_by-leased_by f b accounts in
+    let now : sum_by f (leased_by (h b ∷ accounts)) ≡ sum_by f (segments (h b).leases) + sum_by f (leased_by accounts) = sum_by-leased_by f (h b) accounts in
+    let one : sum_by f (segments b.leases) ≡ sum_by f (segments a.leases) = ap (λ (x : Account). sum_by f (segments x.leases)) is in
+    let other : sum_by f (segments (h b).leases) ≡ sum_by f (segments (h a).leases) = ap (λ (x : Account). sum_by f (segments (h x).leases)) is in
+    omega (arith, old, now, one, other)
+leased_changed f (b ∷ accounts) (suc i) a h at =
+    let rest : sum_by f (leased_by (changed_at accounts i h)) + sum_by f (segments a.leases) ≡ sum_by f (leased_by accounts) + sum_by f (segments (h a).leases) = leased_changed f accounts i a h at in
+    let old : sum_by f (leased_by (b ∷ accounts)) ≡ sum_by f (segments b.leases) + sum_by f (leased_by accounts) = sum_by-leased_by f b accounts in
+    let now : sum_by f (leased_by (b ∷ changed_at accounts i h)) ≡ sum_by f (segments b.leases) + sum_by f (leased_by (changed_at accounts i h)) = sum_by-leased_by f b (changed_at accounts i h) in
+    omega (arith, rest, old, now)
+
+pub gains_lease : (accounts : List Account) (i : ℕ) (a : Account) (x : Lease) → slice_get accounts i ≡ Some a → Gains (leased_by accounts) (leased_by (changed_at accounts i (with_leases (λ ls. ls ++ x ∷ [])))) x.segment
+gains_lease accounts i a x at f =
+    let change : sum_by f (leased_by (changed_at accounts i (with_leases (λ ls. ls ++ x ∷ [])))) + sum_by f (segments a.leases) ≡ sum_by f (leased_by accounts) + sum_by f (segments (a.leases ++ x ∷ [])) =
+    leased_changed f accounts i a (with_leases (λ ls. ls ++ x ∷ [])) at in
+    let more : sum_by f (segments (a.leases ++ x ∷ [])) ≡ sum_by f (segments a.leases) + f x.segment =
+    sum_by-segments f (a.leases ++ x ∷ []) ∙ sum_by_push (λ (l : Lease). f l.segment) a.leases x ∙ ap (λ (n : ℕ). n + f x.segment) (sym (sum_by-segments f a.leases)) in
+    omega (arith, change, more)
+
+pub loses_lease : (accounts : List Account) (i k : ℕ) (a : Account) (x : Lease) → slice_get accounts i ≡ Some a → slice_get a.leases k ≡ Some x
+    → Loses (leased_by accounts) (leased_by (changed_at accounts i (with_leases (λ ls. remove ls k)))) x.segment
+loses_lease accounts i k a x at there f =
+    let change : sum_by f (leased_by (changed_at accounts i (with_leases (λ ls. remove ls k)))) + sum_by f (segments a.leases) ≡ sum_by f (leased_by accounts) + sum_by f (segments (remove a.leases k)) =
+    leased_changed f accounts i a (with_leases (λ ls. remove ls k)) at in
+    let less : sum_by f (segments a.leases) ≡ sum_by f (segments (remove a.leases k)) + f x.segment =
+    sum_by-segments f a.leases ∙ sym (sum_by-remove (λ (l : Lease). f l.segment) a.leases k x (slice_get_within a.leases k x there))
+    ∙ ap (λ (y : Lease). sum_by (λ (l : Lease). f l.segment) (remove a.leases k) + f y.segment) (get_or_from_slice_get a.leases k x x there)
+    ∙ ap (λ (n : ℕ). n + f x.segment) (sym (sum_by-segments f (remove a.leases k))) in
+    omega (arith, change, less)
+
+-- A settled number.
+
+pub settles : (old new : Ledger) (c i n place : ℕ) (how : Settlement) → IsFound old c place → IsNew (account_in c old) i n → 0 < i → new.mark ≡ old.mark
+    → new.accounts ≡ changed_at old.accounts place (λ a. with_standing (record { incarnation = i; kept = Some (kept n how) }) (with_leases (leases_after i how) a))
+    → Enters (Settled c i n how) old new
+settles old new c i n place how found fresh some mark after = record {
+  mark = mark;
+  history = λ es h.
+      let is : account_in c old ≡ account es c = account_is es old c h in
+      let current : i ≡ incarnation c es = fresh.current ∙ ap (λ (a : Account). a.incarnation) is in
+      let next : n ≡ number_of (kept_of c es) + 1 = fresh.next ∙ ap (λ (a : Account). number_of a.kept + 1) is in
+      entered (Settled c i n how) es old new c place (account_in c old) (λ a. with_standing (record { incarnation = i; kept = Some (kept n how) }) (with_leases (leases_after i how) a)) h found.at found.client refl
+      (settled_others es c i n how) (settled_own es c i n how current next) after (some, current, next, h.orderly);
+}
+
+-- a lease that ended
+pub ends : (old new : Ledger) (c i arena base place k : ℕ) → IsFound old c place → IsFirst (is_lease i arena base) (account_in c old).leases k → new.mark ≡ old.mark
+    → new.accounts ≡ changed_at old.accounts place (with_leases (λ ls. remove ls k)) → Enters (Swept c i arena base) old new
+ends old new c i arena base place k found first mark after = record {
+  mark = mark;
+  history = λ es h.
+      entered (Swept c i arena base) es old new c place (account_in c old) (with_leases (without (is_lease i arena base))) h found.at found.client refl (swept_others es c i arena base) (swept_own es c i arena base)
+      (after ∙ changed_alike old.accounts place (account_in c old) (with_leases (λ ls. remove ls k)) (with_leases (without (is_lease i arena base))) found.at
+      (ap (λ (ls : List Lease). with_leases (λ x. ls) (account_in c old)) (sym first.left))) h.orderly;
+}
+
+-- A hello.
+
+stays_among : (es : List Entry) (c i : ℕ) → has c (clients_of es) ≡ true → clients_of (Hello c i ∷ es) ≡ clients_of es
+stays_among es c i is = λ j. cond (is j) (clients_of es) (clients_of es ++ c ∷ [])
+
+pub greets_again : (old : Ledger) (c i place : ℕ) → IsFound old c place → 0 < i → i ≡ (account_in c old).incarnation → Enters (Hello c i) old old
+greets_again old c i place found some same = record {
+  mark = refl;
+  history = λ es h.
+      let current : i ≡ incarnation c es = same ∙ ap (λ (a : Account). a.incarnation) (account_is es old c h) in
+      entered (Hello c i) es old old c place (account_in c old) (λ a. a) h found.at found.client (stays_among es c i (among es old c place (account_in c old) h found.at found.client))
+      (hello_others es c i) (hello_same es c i current) (sym (changed_none old.accounts place)) (some, omega arith, h.orderly);
+}
+
+pub greets_above : (old new : Ledger) (c i place : ℕ) → IsFound old c place → (account_in c old).incarnation < i → new.mark ≡ old.mark
+    → new.accounts ≡ changed_at old.accounts place (with_standing (record { incarnation = i; kept = None })) → Enters (Hello c i) old new
+greets_above old new c i place found above mark after = record {
+  mark = mark;
+  history = λ es h.
+      let higher : incarnation c es < i = subst (λ (a : Account). a.incarnation < i) (account_is es old c h) above in
+      entered (Hello c i) es old new c place (account_in c old) (with_standing (record { incarnation = i; kept = None })) h found.at found.client
+      (stays_among es c i (among es old c place (account_in c old) h found.at found.client)) (hello_others es c i) (hello_above es c i h.orderly higher) after
+      (omega arith, omega arith, h.orderly);
+}
+
+unknown_from : (es : List Entry) (c : ℕ) (cs : List ℕ) → find (λ a. nat_eq c a.client) (map (account es) cs) ≡ None → has c cs ≡ false
+unknown_from es c cs none = by (has c cs) refl
+  where
+    by : (b : Bool) → has c cs ≡ b → b ≡ false
+    by true is = absurd (cc (sym (find_known es c cs ∙ (λ j. cond (is j) (Some (account es c)) None)), none))
+    by false is = refl
+
+apart_from : (c : ℕ) (cs : List ℕ) → has c cs ≡ false → AllByRecursion (λ y. nat_eq c y ≡ false) cs
+apart_from c [] none = tt
+apart_from c (d ∷ cs) none = by (nat_eq c d) refl none (apart_from c cs)
+  where
+    by : (b : Bool) → nat_eq c d ≡ b → (b || has c cs) ≡ false → (has c cs ≡ false → AllByRecursion (λ y. nat_eq c y ≡ false) cs) → (nat_eq c d ≡ false) × AllByRecursion (λ y. nat_eq c y ≡ false) cs
+    by true is none rest = absurd (cc)
+    by false is none rest = (is, rest none)
+
+pub greets_first : (old new : Ledger) (c i : ℕ) → find (λ a. nat_eq c a.client) old.accounts ≡ None → 0 < i → new.mark ≡ old.mark
+    → new.accounts ≡ old.accounts ++ account_with c (record { incarnation = i; kept = None }) [] ∷ [] → Enters (Hello c i) old new
+greets_first old new c i none some mark after = record {
+  mark = mark;
+  history = λ es h.
+      let unknown : has c (clients_of es) ≡ false = unknown_from es c (clients_of es) (ap (λ (xs : List Account). find (λ a. nat_eq c a.client) xs) (sym h.accounts) ∙ none) in
+      let nobody_yet : account es c ≡ nobody c = account_unknown c es h.orderly unknown in
+      let zero_yet : incarnation c es ≡ 0 = ap (λ (a : Account). a.incarnation) nobody_yet in
+      let greeted : account_with c (record { incarnation = i; kept = None }) [] ≡ account (Hello c i ∷ es) c =
+      sym (hello_above es c i h.orderly (omega arith) ∙ ap (with_standing (record { incarnation = i; kept = None })) nobody_yet) in
+      let others : map (account es) (clients_of es) ≡ map (account (Hello c i ∷ es)) (clients_of es) =
+      map_others (account es) (account (Hello c i ∷ es)) c (hello_others es c i) (clients_of es) (apart_from c (clients_of es) unknown) in
+      let clients : clients_of es ++ c ∷ [] ≡ clients_of (Hello c i ∷ es) = λ j. cond (sym unknown j) (clients_of es) (clients_of es ++ c ∷ []) in
+      record {
+        orderly = (some, omega arith, h.orderly);
+        accounts = after ∙ (λ j. (h.accounts ∙ others) j ++ greeted j ∷ []) ∙ sym (map-append (account (Hello c i ∷ es)) (clients_of es) (c ∷ [])) ∙ ap (map (account (Hello c i ∷ es))) clients;
+      };
+}
+
+-- The calls.
+
+pub length-changed_at : {X : Type 0} (xs : List X) (i : ℕ) (f : X → X) → length (changed_at xs i f) ≡ length xs
+length-changed_at [] i f = refl
+length-changed_at (x ∷ xs) zero f = refl
+length-changed_at (x ∷ xs) (suc i) f = ap suc (length-changed_at xs i f)
+
+-- what holds of the account at a place holds of the account found there
+pub of_found : (P : Account → Type 0) (book : Ledger) (c place : ℕ) → IsFound book c place → IfSome (slice_get book.accounts place) P → P (account_in c book)
+of_found P book c place found holds = subst (λ (o : Option Account). IfSome o P) found.at holds
+
+pub refuses : (old now : Ledger) (c i n place : ℕ) (why : Refusal) (k : Kept) (r : Voucher) → IsFound old c place → IsNew (account_in c old) i n → 0 < i → k ≡ kept n (Refuse why) → r ≡ receipt old c i k → now.mark ≡ old.mark
+    → now.accounts ≡ changed_at old.accounts place (with_standing (record { incarnation = i; kept = Some k })) → IsRefused old now c i n why r
+refuses old now c i n place why k r found fresh some is_kept is_receipt mark after =
+    let after' : now.accounts ≡ changed_at old.accounts place (with_standing (record { incarnation = i; kept = Some (kept n (Refuse why)) })) =
+    after ∙ ap (λ (x : Kept). changed_at old.accounts place (with_standing (record { incarnation = i; kept = Some x }))) is_kept in
+    record {
+      new = fresh;
+      receipt = is_receipt ∙ ap (receipt old c i) is_kept;
+      entry = settles old now c i n place (Refuse why) found fresh some mark after';
+      leases = ap leased_by after' ∙ leased_standing old.accounts place (record { incarnation = i; kept = Some (kept n (Refuse why)) });
+    }
+
+pub grants : (old now : Ledger) (mid : List Account) (c i n place : ℕ) (t : Tag) (terms : Terms) (k : Kept) (r : Voucher) → IsFound old c place → IsNew (account_in c old) i n → 0 < i
+    → length (account_in c old).leases < 1024 → k ≡ kept n (Grant t terms) → r ≡ receipt old c i k → now.mark ≡ old.mark
+    → mid ≡ changed_at old.accounts place (with_leases (λ ls. ls ++ record { incarnation = i; segment = t } ∷ []))
+    → now.accounts ≡ changed_at mid place (with_standing (record { incarnation = i; kept = Some k })) → IsGranted old now c i n t terms r
+grants old now mid c i n place t terms k r found fresh some room is_kept is_receipt mark leased_mid after =
+    let x : Lease = record { incarnation = i; segment = t } in
+    let s : Standing = record { incarnation = i; kept = Some (kept n (Grant t terms)) } in
+    let after' : now.accounts ≡ changed_at mid place (with_standing s) = after ∙ ap (λ (y : Kept). changed_at mid place (with_standing (record { incarnation = i; kept = Some y }))) is_kept in
+    let both : now.accounts ≡ changed_at old.accounts place (λ a. with_standing s (with_leases (leases_after i (Grant t terms)) a)) =
+    after' ∙ ap (λ (xs : List Account). changed_at xs place (with_standing s)) leased_mid ∙ changed_twice old.accounts place (with_leases (λ ls. ls ++ x ∷ [])) (with_standing s) in
+    let stands : leased now ≡ leased_by (changed_at old.accounts place (with_leases (λ ls. ls ++ x ∷ []))) = ap leased_by after' ∙ leased_standing mid place s ∙ ap leased_by leased_mid in
+    record {
+      new = fresh;
+      room = room;
+      receipt = is_receipt ∙ ap (receipt old c i) is_kept;
+      entry = settles old now c i n place (Grant t terms) found fresh some mark both;
+      leases = λ f. ap (sum_by f) stands ∙ gains_lease old.accounts place (account_in c old) x found.at f;
+    }
+
+pub releases : (old now : Ledger) (mid : List Account) (c i n arena base place at j : ℕ) (t : Tag) (k : Kept) (r : Voucher) → IsFound old c place → IsNew (account_in c old) i n → 0 < i
+    → IsFirst (is_lease i arena base) (account_in c old).leases at → slice_get (account_in c old).leases at ≡ Some (record { incarnation = j; segment = t })
+    → k ≡ kept n (Return arena base) → r ≡ receipt old c i k → now.mark ≡ old.mark → mid ≡ changed_at old.accounts place (with_leases (λ ls. remove ls at))
+    → now.accounts ≡ changed_at mid place (with_standing (record { incarnation = i; kept = Some k })) → IsReleased old now c i n arena base r t
+releases old now mid c i n arena base place at j t k r found fresh some first here is_kept is_receipt mark taken_mid after =
+    let a : Account = account_in c old in
+    let s : Standing = record { incarnation = i; kept = Some (kept n (Return arena base)) } in
+    let passes : is_lease i arena base (record { incarnation = j; segment = t }) ≡ true = subst (λ (o : Option Lease). IfSome o (λ l. is_lease i arena base l ≡ true)) here first.passes in
+    let says = is_lease_says i arena base (record { incarnation = j; segment = t }) passes in
+    let after' : now.accounts ≡ changed_at mid place (with_standing s) = after ∙ ap (λ (y : Kept). changed_at mid place (with_standing (record { incarnation = i; kept = Some y }))) is_kept in
+    let both : now.accounts ≡ changed_at old.accounts place (λ b. with_standing s (with_leases (λ ls. remove ls at) b)) =
+    after' ∙ ap (λ (xs : List Account). changed_at xs place (with_standing s)) taken_mid ∙ changed_twice old.accounts place (with_leases (λ ls. remove ls at)) (with_standing s) in
+    let entered_as : now.accounts ≡ changed_at old.accounts place (λ b. with_standing s (with_leases (leases_after i (Return arena base)) b)) =
+    both ∙ changed_alike old.accounts place a (λ b. with_standing s (with_leases (λ ls. remove ls at) b)) (λ b. with_standing s (with_leases (leases_after i (Return arena base)) b)) found.at
+    (ap (λ (ls : List Lease). with_standing s (with_leases (λ x. ls) a)) (sym first.left)) in
+    let stands : leased now ≡ leased_by (changed_at old.accounts place (with_leases (λ ls. remove ls at))) = ap leased_by after' ∙ leased_standing mid place s ∙ ap leased_by taken_mid in
+    record {
+      new = fresh;
+      lease = first.found ∙ here ∙ ap (λ (m : ℕ). Some (record { incarnation = m; segment = t })) (sym says.0);
+      of_arena = sym says.1;
+      at_base = sym says.2;
+      receipt = is_receipt ∙ ap (receipt old c i) is_kept;
+      entry = settles old now c i n place (Return arena base) found fresh some mark entered_as;
+      leases = λ f. loses_lease old.accounts place at a (record { incarnation = j; segment = t }) found.at here f ∙ ap (λ (ts : List Tag). sum_by f ts + f t) (sym stands);
+    }
+
+-- a lease that is the first with its incarnation, arena and base ended
+pub ends_lease : (old now : Ledger) (c place at i : ℕ) (t : Tag) → IsFound old c place → IsFirst (is_lease i t.arena t.holding.range.base) (account_in c old).leases at
+    → slice_get (account_in c old).leases at ≡ Some (record { incarnation = i; segment = t }) → now.mark ≡ old.mark → now.accounts ≡ changed_at old.accounts place (with_leases (λ ls. remove ls at))
+    → IsEnded old now c i t
+ends_lease old now c place at i t found first here mark after = record {
+  lease = first.found ∙ here;
+  entry = ends old now c i t.arena t.holding.range.base place at found first mark after;
+  leases = λ f. loses_lease old.accounts place at (account_in c old) (record { incarnation = i; segment = t }) found.at here f ∙ ap (λ (xs : List Account). sum_by f (leased_by xs) + f t) (sym after);
+}
+
+-- what is kept of a grant, told by its numbers
+pub kept_grant : (n arena base len : ℕ) (t : Tag) (terms : Terms) (k : Kept) → k ≡ record { number = n; reply = Granted arena base len; terms = Some terms } → t.arena ≡ arena → base ≡ t.holding.range.base
+    → len ≡ t.holding.range.len → k ≡ kept n (Grant t terms)
+kept_grant n arena base len t terms k is of_arena at_base of_len =
+    is ∙ (λ j. record { number = n; reply = Granted (sym of_arena j) (at_base j) (of_len j); terms = Some terms })
+
+none_past : (xs : List Account) (i : ℕ) → slice_get xs i ≡ None → length xs ≤ i
+none_past [] i at = omega arith
+none_past (x ∷ xs) zero at = absurd (cc)
+none_past (x ∷ xs) (suc i) at = omega (arith, none_past xs i at)
+
+-- a place is that of its account's client
+pub found_own : (book : Ledger) (place : ℕ) → place < length book.accounts → IfSome (slice_get book.accounts place) (λ a. find (λ b. nat_eq a.client b.client) book.accounts ≡ Some a) → (c : ℕ) × IsFound book c place
+found_own book place within own = by (slice_get book.accounts place) refl own
+  where
+    by : (o : Option Account) → slice_get book.accounts place ≡ o → IfSome o (λ a. find (λ b. nat_eq a.client b.client) book.accounts ≡ Some a) → (c : ℕ) × IsFound book c place
+    by None at own = absurd (omega (arith, within, none_past book.accounts place at))
+    by (Some a) at own =
+        let is : a ≡ account_in a.client book = sym (ap (or_nobody a.client) own) in
+        (a.client, record { within = within; at = at ∙ ap Some is; client = ap (λ (x : Account). x.client) (sym is) })
+
+pub if_none : {X P : Type 0} (r : Option X) → P → IfNone r P
+if_none None holds = holds
+if_none (Some x) holds = tt
+
+-- the lease that stands first is the first with its incarnation, arena and base
+pub first_lease : (ls : List Lease) (l : Lease) → slice_get ls 0 ≡ Some l → IsFirst (is_lease l.incarnation l.segment.arena l.segment.holding.range.base) ls 0
+first_lease [] l at = absurd (cc)
+first_lease (x ∷ ls) l at =
+    let is : x ≡ l = cc in
+    subst (λ (y : Lease). IsFirst (is_lease y.incarnation y.segment.arena y.segment.holding.range.base) (x ∷ ls) 0) is (head_first x ls)
+
+-- an entry that is entered gives the new book a history
+pub goes_on : (e : Entry) (old new : Ledger) → Enters e old new → HasHistory old → HasHistory new
+goes_on e old new enters had = (e ∷ had.0, enters.history had.0 had.1)
+
+-- The calls, of a book that is open: its fields before and after.
+
+module _ (before old : Ledger) (is : before ≡ old) (c i n place : ℕ) (found : IsFound old c place) (fresh : IsNew (account_in c old) i n) (some : 0 < i) where
+  found_before : IsFound before c place
+  found_before = subst (λ (b : Ledger). IsFound b c place) (sym is) found
+
+  fresh_before : IsNew (account_in c before) i n
+  fresh_before = subst (λ (b : Ledger). IsNew (account_in c b) i n) (sym is) fresh
+
+  pub refused_at : (accounts : List Account) (why : Refusal) (k : Kept) (r : Voucher) → k ≡ kept n (Refuse why) → r ≡ receipt before c i k
+      → accounts ≡ changed_at before.accounts place (with_standing (record { incarnation = i; kept = Some k })) → HasHistory before
+      → HasHistory (record { mark = before.mark; accounts = accounts }) × IsRefused old (record { mark = before.mark; accounts = accounts }) c i n why r
+  refused_at accounts why k r is_kept is_receipt after had =
+      let now : Ledger = record { mark = before.mark; accounts = accounts } in
+      let refused = refuses before now c i n place why k r found_before fresh_before some is_kept is_receipt refl after in
+      (goes_on (Settled c i n (Refuse why)) before now refused.entry had, subst (λ (b : Ledger). IsRefused b now c i n why r) is refused)
+
+  pub granted_at : (mid accounts : List Account) (t : Tag) (terms : Terms) (k : Kept) (r : Voucher) → length (account_in c old).leases < 1024 → k ≡ kept n (Grant t terms) → r ≡ receipt before c i k
+      → mid ≡ changed_at before.accounts place (with_leases (λ ls. ls ++ record { incarnation = i; segment = t } ∷ []))
+      → accounts ≡ changed_at mid place (with_standing (record { incarnation = i; kept = Some k })) → HasHistory before
+      → HasHistory (record { mark = before.mark; accounts = accounts }) × IsGranted old (record { mark = before.mark; accounts = accounts }) c i n t terms r
+  granted_at mid accounts t terms k r room is_kept is_receipt leased_mid after had =
+      let now : Ledger = record { mark = before.mark; accounts = accounts } in
+      let room_before : length (account_in c before).leases < 1024 = subst (λ (b : Ledger). length (account_in c b).leases < 1024) (sym is) room in
+      let granted = grants before now mid c i n place t terms k r found_before fresh_before some room_before is_kept is_receipt refl leased_mid after in
+      (goes_on (Settled c i n (Grant t terms)) before now granted.entry had, subst (λ (b : Ledger). IsGranted b now c i n t terms r) is granted)
+
+  pub released_at : (mid accounts : List Account) (arena base at j : ℕ) (t : Tag) (k : Kept) (r : Voucher) → IsFirst (is_lease i arena base) (account_in c old).leases at
+      → IfSome (slice_get before.accounts place) (λ a. slice_get a.leases at ≡ Some (record { incarnation = j; segment = t })) → k ≡ kept n (Return arena base) → r ≡ receipt before c i k
+      → mid ≡ changed_at before.accounts place (with_leases (λ ls. remove ls at)) → accounts ≡ changed_at mid place (with_standing (record { incarnation = i; kept = Some k })) → HasHistory before
+      → HasHistory (record { mark = before.mark; accounts = accounts }) × IsReleased old (record { mark = before.mark; accounts = accounts }) c i n arena base r t
+  released_at mid accounts arena base at j t k r first there is_kept is_receipt taken_mid after had =
+      let now : Ledger = record { mark = before.mark; accounts = accounts } in
+      let first_before : IsFirst (is_lease i arena base) (account_in c before).leases at = subst (λ (b : Ledger). IsFirst (is_lease i arena base) (account_in c b).leases at) (sym is) first in
+      let here : slice_get (account_in c before).leases at ≡ Some (record { incarnation = j; segment = t }) = of_found (λ (a : Account). slice_get a.leases at ≡ Some (record { incarnation = j; segment = t })) before c place found_before there in
+      let released = releases before now mid c i n arena base place at j t k r found_before fresh_before some first_before here is_kept is_receipt refl taken_mid after in
+      (goes_on (Settled c i n (Return arena base)) before now released.entry had, subst (λ (b : Ledger). IsReleased b now c i n arena base r t) is released)
+
+-- the leases of an account, where it was found
+pub leases_found : (before old : Ledger) (c place : ℕ) (ls : List Lease) → before ≡ old → IsFound old c place → IfSome (slice_get before.accounts place) (λ a. a.leases ≡ ls) → (account_in c old).leases ≡ ls
+leases_found before old c place ls is found there =
+    of_found (λ (a : Account). a.leases ≡ ls) old c place found (subst (λ (b : Ledger). IfSome (slice_get b.accounts place) (λ a. a.leases ≡ ls)) is there)
+
+pub ended_at : (before old : Ledger) (accounts : List Account) (c place at i : ℕ) (t : Tag) → before ≡ old → IsFound old c place → IsFirst (is_lease i t.arena t.holding.range.base) (account_in c old).leases at
+    → slice_get (account_in c old).leases at ≡ Some (record { incarnation = i; segment = t }) → accounts ≡ changed_at before.accounts place (with_leases (λ ls. remove ls at)) → HasHistory before
+    → HasHistory (record { mark = before.mark; accounts = accounts }) × IsEnded old (record { mark = before.mark; accounts = accounts }) c i t
+ended_at before old accounts c place at i t is found first here after had =
+    let now : Ledger = record { mark = before.mark; accounts = accounts } in
+    let ended = ends_lease old now c place at i t found first here (ap (λ (b : Ledger). b.mark) is) (after ∙ ap (λ (b : Ledger). changed_at b.accounts place (with_leases (λ ls. remove ls at))) is) in
+    (goes_on (Swept c i t.arena t.holding.range.base) old now ended.entry (subst HasHistory is had), ended)
+
+pub greeted_above : (before old : Ledger) (accounts : List Account) (c i place : ℕ) → before ≡ old → IsFound old c place → (account_in c old).incarnation < i
+    → accounts ≡ changed_at before.accounts place (with_standing (record { incarnation = i; kept = None })) → HasHistory before
+    → HasHistory (record { mark = before.mark; accounts = accounts }) × Enters (Hello c i) old (record { mark = before.mark; accounts = accounts })
+greeted_above before old accounts c i place is found above after had =
+    let now : Ledger = record { mark = before.mark; accounts = accounts } in
+    let enters = greets_above old now c i place found above (ap (λ (b : Ledger). b.mark) is) (after ∙ ap (λ (b : Ledger). changed_at b.accounts place (with_standing (record { incarnation = i; kept = None }))) is) in
+    (goes_on (Hello c i) old now enters (subst HasHistory is had), enters)
+
+pub greeted_first : (before old : Ledger) (accounts : List Account) (c i : ℕ) → before ≡ old → find (λ a. nat_eq c a.client) old.accounts ≡ None → 0 < i
+    → accounts ≡ before.accounts ++ account_with c (record { incarnation = i; kept = None }) [] ∷ [] → HasHistory before
+    → HasHistory (record { mark = before.mark; accounts = accounts }) × Enters (Hello c i) old (record { mark = before.mark; accounts = accounts })
+greeted_first before old accounts c i is none some after had =
+    let now : Ledger = record { mark = before.mark; accounts = accounts } in
+    let enters = greets_first old now c i none some (ap (λ (b : Ledger). b.mark) is) (after ∙ ap (λ (b : Ledger). b.accounts ++ account_with c (record { incarnation = i; kept = None }) [] ∷ []) is) in
+    (goes_on (Hello c i) old now enters (subst HasHistory is had), enters)
+
+-- what is leased stays where an incarnation or a reply is written
+pub leased_at : (before old : Ledger) (accounts : List Account) (place : ℕ) (s : Standing) → before ≡ old → accounts ≡ changed_at before.accounts place (with_standing s) → leased_by accounts ≡ leased old
+leased_at before old accounts place s is after = ap leased_by after ∙ leased_standing before.accounts place s ∙ ap leased is

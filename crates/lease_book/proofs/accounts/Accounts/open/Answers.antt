@@ -1,0 +1,16 @@
+use Rattle.std.proofs.Common.{List, ◌∷◌, [], ◌++◌, ap, ◌∙◌}
+use Rattle.lease_book.specs.Account.{Lease}
+use Rattle.lease_book.proofs.ShelfLemmas.{inserted, opened_shelf, opened_accounts}
+use Rattle.lease_book.proofs.accounts.Accounts.open.Goals as goal
+
+pub invariant_of-self-2 : goal.invariant_of-self-2
+invariant_of-self-2 g c =
+    let entries = inserted c.reserve-2.new.self _ c.insert.new.self.entries _ _ c.args.client c.args.standing c.self.view_is c.self.invariant.together c.requires.new c.reserve-2.ensures.entries c.in-Ok.ensures.entries in
+    let leases = c.push_reserved.ensures.items ∙ ap (λ (xs : List (List Lease)). xs ++ c.new-leases.result ∷ []) c.reserve.ensures.items in
+    opened_shelf _ _ _ _ _ _ _ c.self.invariant c.requires.client entries leases c.new-leases.ensures c.in-Ok.ensures.unique
+
+pub returns-clause-ok : goal.returns-clause-ok
+returns-clause-ok g c =
+    let entries = inserted c.reserve-2.new.self _ c.insert.new.self.entries _ _ c.args.client c.args.standing c.self.view_is c.self.invariant.together c.requires.new c.reserve-2.ensures.entries c.in-Ok.ensures.entries in
+    let leases = c.push_reserved.ensures.items ∙ ap (λ (xs : List (List Lease)). xs ++ c.new-leases.result ∷ []) c.reserve.ensures.items in
+    opened_accounts _ _ _ _ _ _ _ _ c.self.view_is c.self.invariant.together entries leases c.new-leases.ensures

@@ -1,0 +1,9 @@
+use Rattle.std.proofs.Common.{subst}
+use Rattle.lease_book.specs.Account.{Account}
+use Rattle.lease_book.specs.Answers.{IsLook}
+use Rattle.lease_book.proofs.HistoryLemmas.{account_is}
+use Rattle.lease_book.proofs.books.Book.look.Goals as goal
+
+pub returns-clause-history : goal.returns-clause-history
+returns-clause-history g c es h =
+    subst (λ (a : Account). IsLook c.args.self.now a c.args.incarnation c.args.number c.seek.result) (account_is es c.args.self.now c.args.client h) c.seek.ensures

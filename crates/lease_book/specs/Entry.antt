@@ -1,0 +1,38 @@
+-- What happens to a book.
+use Rattle.std.specs.Prelude.{ℕ, Option, Some, None}
+use Rattle.deed_core.specs.Tag.{Tag}
+use Rattle.lease_book.specs.Kept.{Kept}
+use Rattle.lease_book.specs.declared.receipts.Reply.{Reply}
+use Rattle.lease_book.specs.declared.receipts.Reply.TheVariants.{Granted, Released, Refused}
+use Rattle.lease_book.specs.declared.receipts.Refusal.{Refusal}
+use Rattle.lease_book.specs.declared.receipts.Terms.{Terms}
+
+-- how a request was settled
+pub data Settlement : Type 0 where
+  -- the segment was leased
+  Grant : (segment : Tag) (terms : Terms) → Settlement
+  -- the lease with this arena and base was given back
+  Return : (arena base : ℕ) → Settlement
+  Refuse : Refusal → Settlement
+
+pub data Entry : Type 0 where
+  -- a client said hello
+  Hello : (client incarnation : ℕ) → Entry
+  -- a client's number was settled
+  Settled : (client incarnation number : ℕ) → Settlement → Entry
+  -- the client's lease with this arena and base was ended
+  Swept : (client incarnation arena base : ℕ) → Entry
+
+abbrev pub reply_of : Settlement → Reply
+reply_of (Grant t terms) = Granted t.arena t.holding.range.base t.holding.range.len
+reply_of (Return arena base) = Released
+reply_of (Refuse why) = Refused why
+
+abbrev pub terms_of : Settlement → Option Terms
+terms_of (Grant t terms) = Some terms
+terms_of (Return arena base) = None
+terms_of (Refuse why) = None
+
+-- what is kept of a settled number
+abbrev pub kept : ℕ → Settlement → Kept
+kept number s = record { number = number; reply = reply_of s; terms = terms_of s }

@@ -1,0 +1,43 @@
+-- Accounts as they are stored: what is kept of each client in a map in order of first hello, and beside it its leases.
+use Rattle.std.specs.Prelude.{nat_eq, ◌≡◌, ℕ, suc, zero, ◌≤◌, List, [], ◌∷◌, length, All}
+use Rattle.std.specs.Map.{keys_of}
+use Rattle.std.specs.List.{IsDistinct}
+use Rattle.lease_book.specs.Kept.{IsClient}
+use Rattle.lease_book.specs.Account.{Lease, Account}
+use Rattle.lease_book.specs.declared.accounts.Standing.{Standing}
+
+-- an account, of its parts
+abbrev pub account_with : ℕ → Standing → List Lease → Account
+account_with c s leases = record { client = c; incarnation = s.incarnation; kept = s.kept; leases = leases }
+
+-- the accounts, the leases of each client at its place
+abbrev pub accounts_of : List (ℕ × Standing) → List (List Lease) → List Account
+accounts_of [] ls = []
+accounts_of (e ∷ es) [] = []
+accounts_of (e ∷ es) (l ∷ ls) = account_with e.0 e.1 l ∷ accounts_of es ls
+
+-- there are leases at each client's place, of few clients, each standing once, few of each
+pub record IsShelf (es : List (ℕ × Standing)) (ls : List (List Lease)) : Type 0 where
+  pub together : length es ≡ length ls
+  pub clients : All IsClient (keys_of es)
+  pub apart : IsDistinct nat_eq (keys_of es)
+  pub few : length es ≤ 65536
+  pub limited : All (λ (l : List Lease). length l ≤ 1024) ls
+
+-- the list with the member at a place changed
+abbrev pub changed_at : {X : Type 0} → List X → ℕ → (X → X) → List X
+changed_at [] i f = []
+changed_at (x ∷ xs) zero f = f x ∷ xs
+changed_at (x ∷ xs) (suc i) f = x ∷ changed_at xs i f
+
+-- what is kept of a client, its leases apart
+abbrev pub standing_of : Account → Standing
+standing_of a = record { incarnation = a.incarnation; kept = a.kept }
+
+-- the account with this in its place
+abbrev pub with_standing : Standing → Account → Account
+with_standing s a = record { client = a.client; incarnation = s.incarnation; kept = s.kept; leases = a.leases }
+
+-- the account with its leases changed
+abbrev pub with_leases : (List Lease → List Lease) → Account → Account
+with_leases f a = record { client = a.client; incarnation = a.incarnation; kept = a.kept; leases = f a.leases }

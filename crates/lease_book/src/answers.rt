@@ -1,0 +1,45 @@
+//! What a book answers.
+use crate::receipts::Receipt;
+use thiserror::Error;
+
+/// Why a hello isn't taken.
+#[derive(Debug, Drop, Error)]
+pub enum HelloFault {
+    /// The incarnation is below this, the current one.
+    #[error("the current incarnation of the client is {0}")]
+    Old(u64),
+    #[error("memory is wanted")]
+    NoMemory,
+}
+
+/// What a number of a client is to its book.
+#[derive_where(Clone, Copy, PartialEq, Eq, Debug)]
+pub enum Look<D> {
+    /// The next number of the current incarnation.
+    New,
+    /// The last number, with its reply.
+    Kept(Receipt<D>),
+    /// Another incarnation than this, the current one; 0 where the client never said hello.
+    Old(u64),
+    /// A number below this, the last one.
+    Stale(u64),
+    /// A number that leaves out the one after this, the last one.
+    Gap(u64),
+}
+
+/// The answer to a request.
+#[derive_where(Clone, Copy, PartialEq, Eq, Debug)]
+pub enum Answer<D> {
+    /// The number was settled before, with this reply.
+    Kept(Receipt<D>),
+    /// The incarnation isn't this, the current one; 0 where the client never said hello.
+    Old(u64),
+    /// The number is below this, the last one.
+    Stale(u64),
+    /// The number leaves out the one after this, the last one.
+    Gap(u64),
+    /// The request is refused, and the number settled so.
+    Refused(Receipt<D>),
+    /// Want of memory: nothing is settled.
+    Again,
+}

@@ -1,0 +1,146 @@
+//! The leases of one client, in order of grant.
+ghost use Rattle.std.specs.Prelude.{◌≡◌, ◌+◌, ◌*◌, ◌^◌, ◌<◌, ◌≤◌, [], ◌∷◌, ◌++◌, length, OnOk, OnErr, IfErr, Some, slice_get, position, sum_by};
+ghost use Rattle.std.specs.List.{remove};
+ghost use Rattle.lease_book.specs.Account.{Lease, is_lease, is_older};
+ghost use Rattle.lease_book.specs.Ledger.{units_of_lease};
+
+use deed_core::{Deed, Segment};
+use std::alloc::Global;
+use std::marker::Model;
+
+/// A leased segment, and the incarnation of the client that it was granted to.
+pub(crate) struct Held<D: Deed> {
+    incarnation: u64,
+    segment: Segment<D>,
+}
+
+impl<D: Deed> Model for Held<D> {
+    ghost use Rattle.lease_book.specs.Account.{Lease};
+
+    ghost Value = { Lease };
+
+    ghost view = { λ h. record { incarnation = h.incarnation; segment = h.segment } };
+}
+
+impl<D: Deed> Held<D> {
+    fn is_lease(&self, incarnation: u64, arena: u32, base: u64) -> bool
+        ensures { result ≡ is_lease incarnation arena base self.now }
+    {
+        incarnation == self.incarnation
+            && arena == self.segment.arena()
+            && base == self.segment.range().base()
+    }
+
+    fn is_older(&self, incarnation: u64) -> bool
+        ensures { result ≡ is_older incarnation self.now }
+    {
+        self.incarnation < incarnation
+    }
+
+    fn units(&self, arena: u32) -> u64
+        ensures value { result ≡ units_of_lease arena self.now }
+        ensures bound { result ≤ 2 ^ 62 }
+    {
+        if self.segment.arena() == arena {
+            self.segment.range().len()
+        } else {
+            0
+        }
+    }
+}
+
+/// The leases of one client.
+pub(crate) struct Leases<D: Deed> {
+    held: Vec<Held<D>>,
+}
+
+impl<D: Deed> Model for Leases<D> {
+    ghost use Rattle.std.specs.Prelude.{List};
+    ghost use Rattle.lease_book.specs.Account.{Lease};
+
+    ghost Value = { List Lease };
+
+    ghost view = { λ l. l.held.items };
+}
+
+impl<D: Deed> Leases<D> {
+    pub(crate) fn new(alloc: Global) -> Leases<D>
+        ensures { result ≡ [] }
+    {
+        Leases {
+            held: Vec::new(alloc),
+        }
+    }
+
+    pub(crate) fn len(&self) -> usize
+        ensures { result ≡ length self.now }
+    {
+        self.held.len()
+    }
+
+    /// Adds a lease. Err is want of memory.
+    pub(crate) fn add(&mut self, incarnation: u64, segment: Segment<D>) -> Result<(), Segment<D>>
+        ensures ok { OnOk result (self.new ≡ self.old ++ record { incarnation = incarnation; segment = segment } ∷ []) }
+        ensures err { OnErr result (self.new ≡ self.old) }
+        ensures handed_back { IfErr result (λ s. s ≡ segment) }
+    {
+        let Ok(()) = self.held.reserve(1) else {
+            return Err(segment);
+        };
+        self.held.push_reserved(Held {
+            incarnation,
+            segment,
+        });
+        Ok(())
+    }
+
+    /// Where the first lease of the incarnation with this arena and base stands.
+    pub(crate) fn position(&self, incarnation: u64, arena: u32, base: u64) -> Option<usize>
+        ensures { result ≡ position (is_lease incarnation arena base) self.now }
+    {
+        self.held
+            .iter()
+            .position(|held| held.is_lease(incarnation, arena, base))
+    }
+
+    /// Where the first lease of an incarnation before this one stands.
+    pub(crate) fn older(&self, incarnation: u64) -> Option<usize>
+        ensures { result ≡ position (is_older incarnation) self.now }
+    {
+        self.held.iter().position(|held| held.is_older(incarnation))
+    }
+
+    /// Takes the lease at a place out, with the incarnation that had it.
+    pub(crate) fn take(&mut self, index: usize) -> (u64, Segment<D>)
+        requires { index < length self.old }
+        ensures lease { slice_get self.old index ≡ Some (record { incarnation = result.0; segment = result.1 }) }
+        ensures rest { self.new ≡ remove self.old index }
+    {
+        let Held {
+            incarnation,
+            segment,
+        } = self.held.remove(index);
+        (incarnation, segment)
+    }
+
+    /// The units of the arena that are leased.
+    pub(crate) fn units(&self, arena: u32) -> u128
+        requires { length self.now ≤ 1024 }
+        ensures value { result ≡ sum_by (units_of_lease arena) self.now }
+        ensures bound { result ≤ 1024 * 2 ^ 62 }
+    {
+        let mut units: u128 = 0;
+        for held in &self.held {
+            units += held.units(arena) as u128;
+        }
+        units
+    }
+
+    /// Ends an empty list.
+    pub(crate) fn close(self)
+        requires { self ≡ [] }
+    {
+        let Leases { held } = self;
+        held.destroy_empty();
+    }
+}

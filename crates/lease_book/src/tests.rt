@@ -1,0 +1,333 @@
+ghost use Rattle.lease_book.specs.Kept.{IsClient, IsNumber};
+
+use super::*;
+use deed_core::{PlainDeed, Range, Request, Route, Segment};
+use std::alloc::Global;
+use std::process::Abort;
+
+const ARENA: u32 = 7;
+
+/// What a request was answered, receipts by their replies.
+#[derive(Clone, Copy, PartialEq, Eq, Debug)]
+enum Told {
+    New,
+    Granted(u64, u64),
+    Released,
+    Refused(Refusal),
+    Kept(Reply),
+    Old(u64),
+    Stale(u64),
+    Gap(u64),
+    Again,
+}
+
+fn granted(base: u64, len: u64) -> Reply {
+    Reply::Granted {
+        arena: ARENA,
+        base,
+        len,
+    }
+}
+
+fn answered(answer: Answer<PlainDeed>) -> Told {
+    match answer {
+        Answer::Kept(receipt) => Told::Kept(receipt.reply()),
+        Answer::Old(current) => Told::Old(current),
+        Answer::Stale(last) => Told::Stale(last),
+        Answer::Gap(last) => Told::Gap(last),
+        Answer::Refused(receipt) => match receipt.reply() {
+            Reply::Refused(refusal) => Told::Refused(refusal),
+            reply => Told::Kept(reply),
+        },
+        Answer::Again => Told::Again,
+    }
+}
+
+fn look(book: &Book<PlainDeed>, client: u32, incarnation: u64, number: u64) -> Told
+    requires client { IsClient client }
+    requires incarnation { IsNumber incarnation }
+    requires number { IsNumber number }
+{
+    match book.look(client, incarnation, number) {
+        Look::New => Told::New,
+        Look::Kept(receipt) => Told::Kept(receipt.reply()),
+        Look::Old(current) => Told::Old(current),
+        Look::Stale(last) => Told::Stale(last),
+        Look::Gap(last) => Told::Gap(last),
+    }
+}
+
+fn close(segment: Segment<PlainDeed>) -> (u64, u64) {
+    let range = segment.into_deed().close();
+    (range.base(), range.len())
+}
+
+fn lease(
+    rt: &impl Abort,
+    book: &mut Book<PlainDeed>,
+    client: u32,
+    incarnation: u64,
+    number: u64,
+    base: u64,
+    len: u64,
+) -> Told
+    requires client { IsClient client }
+    requires incarnation { IsNumber incarnation }
+    requires number { IsNumber number }
+{
+    let Some(range) = Range::new(base, len) else {
+        panic!(rt; "no range");
+    };
+    let request = Request::plain(len);
+    assert!(rt; request.fits(1, &range));
+    let segment = Segment::new(ARENA, Route::Direct, PlainDeed::new(5, range));
+    match book.settle(client, incarnation, number, ARENA, 1, &request, segment) {
+        Ok(receipt) => match receipt.reply() {
+            Reply::Granted { arena, base, len } => {
+                assert_eq!(rt; arena, ARENA);
+                assert_eq!(rt;
+                    receipt.terms(),
+                    Some(Terms {
+                        quantum: 1,
+                        request
+                    })
+                );
+                assert_eq!(rt; receipt.client(), client);
+                assert_eq!(rt; receipt.incarnation(), incarnation);
+                assert_eq!(rt; receipt.number(), number);
+                assert_eq!(rt; receipt.book(), book.mark());
+                Told::Granted(base, len)
+            }
+            reply => Told::Kept(reply),
+        },
+        Err((segment, answer)) => {
+            close(segment);
+            answered(answer)
+        }
+    }
+}
+
+fn release(
+    rt: &impl Abort,
+    book: &mut Book<PlainDeed>,
+    client: u32,
+    incarnation: u64,
+    number: u64,
+    base: u64,
+) -> Told
+    requires client { IsClient client }
+    requires incarnation { IsNumber incarnation }
+    requires number { IsNumber number }
+{
+    match book.release(client, incarnation, number, ARENA, base) {
+        Ok((receipt, segment)) => {
+            assert_eq!(rt; receipt.reply(), Reply::Released);
+            assert_eq!(rt; close(segment).0, base);
+            Told::Released
+        }
+        Err(answer) => answered(answer),
+    }
+}
+
+fn end(rt: &impl Abort, mut book: Book<PlainDeed>) {
+    for _ in 0..2000 {
+        match book.take_lease() {
+            Some(segment) => {
+                close(segment);
+            }
+            None => break,
+        }
+    }
+    match book.close() {
+        Ok(mark) => {
+            mark.close();
+        }
+        Err(_) => panic!(rt; "a lease stands"),
+    }
+}
+
+fn make_book(rt: &impl Abort, alloc: Global) -> Book<PlainDeed> {
+    let Some(unit) = Range::new(0, 1) else {
+        panic!(rt; "no range");
+    };
+    Book::new(alloc, PlainDeed::new(9, unit))
+}
+
+// A repeated request gets the same reply.
+#[test]
+fn repeats(rt: HostRuntime) {
+    let mut book = make_book(&rt, rt.alloc());
+    assert!(rt; book.hello(1, 1).is_ok());
+    assert_eq!(rt; look(&book, 1, 1, 1), Told::New);
+    assert_eq!(rt; lease(&rt, &mut book, 1, 1, 1, 0, 8), Told::Granted(0, 8));
+    assert_eq!(rt; look(&book, 1, 1, 1), Told::Kept(granted(0, 8)));
+    assert_eq!(rt;
+        lease(&rt, &mut book, 1, 1, 1, 8, 8),
+        Told::Kept(granted(0, 8))
+    );
+    assert_eq!(rt; book.units(ARENA), 8);
+    assert_eq!(rt; book.units(ARENA + 1), 0);
+    end(&rt, book);
+}
+
+// A greater incarnation makes the requests of the older one old, and its leases can be swept.
+#[test]
+fn restarts(rt: HostRuntime) {
+    let mut book = make_book(&rt, rt.alloc());
+    assert!(rt; book.hello(1, 1).is_ok());
+    assert_eq!(rt; lease(&rt, &mut book, 1, 1, 1, 1, 4), Told::Granted(1, 4));
+    assert!(rt; book.sweep(1).map(close).is_none());
+    assert!(rt; book.hello(1, 2).is_ok());
+    assert!(rt; matches!(&book.hello(1, 1), Err(HelloFault::Old(2))));
+    assert_eq!(rt; book.sweep(1).map(close), Some((1, 4)));
+    assert!(rt; book.sweep(1).map(close).is_none());
+    assert!(rt; book.hello(2, 1).is_ok());
+    assert_eq!(rt; lease(&rt, &mut book, 2, 1, 1, 1, 4), Told::Granted(1, 4));
+    assert_eq!(rt; lease(&rt, &mut book, 1, 1, 1, 1, 4), Told::Old(2));
+    assert_eq!(rt; look(&book, 1, 1, 1), Told::Old(2));
+    assert_eq!(rt; look(&book, 3, 1, 1), Told::Old(0));
+    assert_eq!(rt; look(&book, 1, 2, 1), Told::New);
+    end(&rt, book);
+}
+
+// Only the client that has a lease can release it.
+#[test]
+fn releases(rt: HostRuntime) {
+    let mut book = make_book(&rt, rt.alloc());
+    assert!(rt; book.hello(1, 1).is_ok());
+    assert_eq!(rt; lease(&rt, &mut book, 1, 1, 1, 1, 2), Told::Granted(1, 2));
+    assert!(rt; book.hello(2, 1).is_ok());
+    assert_eq!(rt;
+        release(&rt, &mut book, 2, 1, 1, 1),
+        Told::Refused(Refusal::NotYours)
+    );
+    assert_eq!(rt;
+        release(&rt, &mut book, 2, 1, 1, 1),
+        Told::Kept(Reply::Refused(Refusal::NotYours))
+    );
+    assert_eq!(rt; book.units(ARENA), 2);
+    assert_eq!(rt; release(&rt, &mut book, 1, 1, 2, 1), Told::Released);
+    assert_eq!(rt;
+        release(&rt, &mut book, 1, 1, 2, 1),
+        Told::Kept(Reply::Released)
+    );
+    assert_eq!(rt; release(&rt, &mut book, 1, 1, 1, 1), Told::Stale(2));
+    assert_eq!(rt; release(&rt, &mut book, 1, 1, 4, 1), Told::Gap(2));
+    assert_eq!(rt; release(&rt, &mut book, 1, 2, 3, 1), Told::Old(1));
+    assert_eq!(rt; book.units(ARENA), 0);
+    end(&rt, book);
+}
+
+// Numbers come one after the other.
+#[test]
+fn numbers(rt: HostRuntime) {
+    let mut book = make_book(&rt, rt.alloc());
+    assert!(rt; book.hello(1, 1).is_ok());
+    assert_eq!(rt; lease(&rt, &mut book, 1, 1, 3, 0, 4), Told::Gap(0));
+    assert_eq!(rt; lease(&rt, &mut book, 1, 1, 1, 0, 4), Told::Granted(0, 4));
+    assert_eq!(rt; lease(&rt, &mut book, 1, 1, 2, 4, 4), Told::Granted(4, 4));
+    assert_eq!(rt; lease(&rt, &mut book, 1, 1, 1, 8, 4), Told::Stale(2));
+    assert_eq!(rt; look(&book, 1, 1, 1), Told::Stale(2));
+    assert_eq!(rt; look(&book, 1, 1, 4), Told::Gap(2));
+    end(&rt, book);
+}
+
+// A refusal is kept like a grant.
+#[test]
+fn refusals(rt: HostRuntime) {
+    let mut book = make_book(&rt, rt.alloc());
+    assert!(rt; book.hello(1, 3).is_ok());
+    assert_eq!(rt;
+        answered(book.refuse(1, 3, 1, Refusal::NoFit)),
+        Told::Refused(Refusal::NoFit)
+    );
+    assert_eq!(rt;
+        answered(book.refuse(1, 3, 1, Refusal::NoArena)),
+        Told::Kept(Reply::Refused(Refusal::NoFit))
+    );
+    assert_eq!(rt;
+        answered(book.refuse(1, 3, 2, Refusal::BadRequest)),
+        Told::Refused(Refusal::BadRequest)
+    );
+    assert_eq!(rt;
+        answered(book.refuse(1, 3, 1, Refusal::NoFit)),
+        Told::Stale(2)
+    );
+    assert_eq!(rt;
+        answered(book.refuse(1, 3, 5, Refusal::NoFit)),
+        Told::Gap(2)
+    );
+    assert_eq!(rt;
+        answered(book.refuse(1, 2, 3, Refusal::NoFit)),
+        Told::Old(3)
+    );
+    end(&rt, book);
+}
+
+// A client has 1,024 leases at most.
+#[test]
+fn limit(rt: HostRuntime) {
+    let mut book = make_book(&rt, rt.alloc());
+    assert!(rt; book.hello(1, 1).is_ok());
+    for i in 0..1024u64 {
+        assert_eq!(rt;
+            lease(&rt, &mut book, 1, 1, i + 1, i, 1),
+            Told::Granted(i, 1)
+        );
+    }
+    assert_eq!(rt;
+        lease(&rt, &mut book, 1, 1, 1025, 1024, 1),
+        Told::Refused(Refusal::Leases)
+    );
+    assert_eq!(rt;
+        lease(&rt, &mut book, 1, 1, 1025, 1024, 1),
+        Told::Kept(Reply::Refused(Refusal::Leases))
+    );
+    assert_eq!(rt; book.units(ARENA), 1024);
+    let report = ClientReport {
+        client: 1,
+        incarnation: 1,
+        last: 1025,
+        leases: 1024,
+    };
+    assert_eq!(rt; book.client_at(0), Some(report));
+    assert_eq!(rt; book.client_at(1), None);
+    end(&rt, book);
+}
+
+// A book with a lease isn't closed.
+#[test]
+fn closes(rt: HostRuntime) {
+    let mut book = make_book(&rt, rt.alloc());
+    assert!(rt; book.hello(4, 1).is_ok());
+    assert!(rt; book.hello(4, 1).is_ok());
+    assert_eq!(rt; book.mark(), 9);
+    assert_eq!(rt; lease(&rt, &mut book, 4, 1, 1, 3, 1), Told::Granted(3, 1));
+    match book.close() {
+        Ok(_) => panic!(rt; "a lease stands"),
+        Err(book) => end(&rt, book),
+    }
+}
+
+// Want of memory leaves all as it was, and the same call then succeeds.
+#[test]
+fn memory(rt: HostRuntime) {
+    let mut book = make_book(&rt, rt.alloc());
+    match book.hello(1, 1) {
+        Ok(()) => {}
+        Err(HelloFault::NoMemory) => {
+            assert_eq!(rt; look(&book, 1, 1, 1), Told::Old(0));
+            assert_eq!(rt; book.client_at(0), None);
+            assert!(rt; book.hello(1, 1).is_ok());
+        }
+        Err(HelloFault::Old(_)) => panic!(rt; "old"),
+    }
+    let mut first = lease(&rt, &mut book, 1, 1, 1, 0, 8);
+    if first == Told::Again {
+        assert_eq!(rt; look(&book, 1, 1, 1), Told::New);
+        assert_eq!(rt; book.units(ARENA), 0);
+        first = lease(&rt, &mut book, 1, 1, 1, 0, 8);
+    }
+    assert_eq!(rt; first, Told::Granted(0, 8));
+    end(&rt, book);
+}
