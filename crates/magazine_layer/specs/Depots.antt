@@ -1,0 +1,2 @@
+-- What a contract sees of a depot.
+use Rattle.std.specs.Prelude.{◌≡◌, ℕ}

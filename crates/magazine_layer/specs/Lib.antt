@@ -1,0 +1,2 @@
+pub mod Magazines
+pub mod Depots
