@@ -115,6 +115,19 @@ impl<D: Deed> CpuCache<D> {
         discard_empty(old_loaded);
     }
 
+    // Loads a magazine. Loaded is the previous one then, and the previous one comes out.
+    pub(crate) fn rotate(&mut self, magazine: Magazine<D>) -> Magazine<D>
+        requires size { magazine.size ≡ self.old.size }
+        requires whole { (length self.old.loaded ≡ 0) ⊎ (length self.old.loaded ≡ self.old.size) }
+        ensures cache { self.new ≡ record { size = self.old.size; loaded = magazine.rounds; previous = self.old.loaded } }
+        ensures out { result ≡ record { size = self.old.size; rounds = self.old.previous } }
+        ensures shape { IsShaped self.new }
+    {
+        let _ = magazine.size();
+        let loaded = mem::replace(&mut self.loaded, magazine);
+        mem::replace(&mut self.previous, loaded)
+    }
+
     /// Ends the cache. Loaded comes first.
     pub fn unload(self) -> (Magazine<D>, Magazine<D>)
         ensures loaded { result.0 ≡ record { size = self.size; rounds = self.loaded } }

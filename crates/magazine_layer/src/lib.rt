@@ -2,7 +2,14 @@
 #![tactic(auto)]
 
 mod cpu_caches;
+mod depots;
+mod faults;
+mod full_magazines;
+mod intervals;
+mod lists;
 mod magazines;
 
 pub use cpu_caches::CpuCache;
+pub use depots::Depot;
+pub use faults::{EmptyFault, FullFault, NotGreater, PutFault, PutRefused};
 pub use magazines::Magazine;

@@ -85,6 +85,14 @@ impl<D: Deed> Magazine<D> {
         }
     }
 
+    // The rounds, for the depot that drains them.
+    pub(crate) fn into_rounds(self) -> Vec<Segment<D>>
+        ensures { result.items ≡ self.rounds }
+    {
+        let Magazine { size: _, rounds } = self;
+        rounds
+    }
+
     /// Ends an empty magazine, and hands back one that has rounds.
     pub fn discard(self) -> Result<(), Magazine<D>>
         ensures empty { IsOk result ↔ (self.rounds ≡ []) }
