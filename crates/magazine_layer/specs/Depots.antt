@@ -54,6 +54,13 @@ pub record IsStocked (d : DepotState) : Type 0 where
   pub full_kept : IsSince (length d.full) d.full_since
   pub empty_kept : IsSince d.empty d.empty_since
 
+-- the lists have room for what may move into them without memory: a full magazine for an empty one, an empty one
+-- for a full one, and all full ones among the old
+pub record HasRoom (full empty old full_room empty_room old_room : ℕ) : Type 0 where
+  pub for_full : full + empty ≤ full_room
+  pub for_empty : full + empty ≤ empty_room
+  pub for_old : old + (full + empty) ≤ old_room
+
 -- the rounds of some magazines
 abbrev pub all_rounds : List (List Tag) → List Tag
 all_rounds [] = []

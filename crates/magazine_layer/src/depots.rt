@@ -28,8 +28,8 @@ pub struct Depot<D: Deed> {
 }
 
 impl<D: Deed> Model for Depot<D> {
-    ghost use Rattle.std.specs.Prelude.{◌≡◌, ◌+◌, ◌≤◌, [], All, vec_len, vec_capacity};
-    ghost use Rattle.magazine_layer.specs.Depots.{DepotState, IsStocked};
+    ghost use Rattle.std.specs.Prelude.{◌≡◌, [], All, vec_len, vec_capacity};
+    ghost use Rattle.magazine_layer.specs.Depots.{DepotState, IsStocked, HasRoom};
 
     ghost Value = { DepotState };
 
@@ -37,9 +37,7 @@ impl<D: Deed> Model for Depot<D> {
 
     ghost invariant = { λ d. IsStocked (record { size = d.size; full = d.full.items; full_since = d.full_since; empty = vec_len d.empty; empty_since = d.empty_since; old_full = d.old_full.items; draining = d.draining.items })
       × All (λ m. m ≡ record { size = d.size; rounds = [] }) d.empty.items
-      × (vec_len d.full + vec_len d.empty ≤ vec_capacity d.full)
-      × (vec_len d.full + vec_len d.empty ≤ vec_capacity d.empty)
-      × (vec_len d.old_full + (vec_len d.full + vec_len d.empty) ≤ vec_capacity d.old_full) };
+      × HasRoom (vec_len d.full) (vec_len d.empty) (vec_len d.old_full) (vec_capacity d.full) (vec_capacity d.empty) (vec_capacity d.old_full) };
 }
 
 impl<D: Deed> Depot<D> {
@@ -137,12 +135,12 @@ impl<D: Deed> Depot<D> {
                 fault: PutFault::OldSize(self.size),
             });
         }
-        if reserve_one(&mut self.full, &mut self.empty, &mut self.old_full).is_err() {
+        let Ok(()) = reserve_one(&mut self.full, &mut self.empty, &mut self.old_full) else {
             return Err(PutRefused {
                 magazine,
                 fault: PutFault::NoMemory,
             });
-        }
+        };
         let full = cpu.rotate(magazine);
         self.full.push_reserved(FullMagazine::new(full));
         self.full_since = self.full_since.go_on(self.full.len());
@@ -229,7 +227,13 @@ impl<D: Deed> Depot<D> {
         ensures empty { IsOk result ↔ (depot_rounds self ≡ []) }
         ensures same { IfErr result (λ same. same ≡ self) }
     {
-        if !self.full.is_empty() || !self.old_full.is_empty() || !self.draining.is_empty() {
+        if !self.full.is_empty() {
+            return Err(self);
+        }
+        if !self.old_full.is_empty() {
+            return Err(self);
+        }
+        if !self.draining.is_empty() {
             return Err(self);
         }
         let Depot {

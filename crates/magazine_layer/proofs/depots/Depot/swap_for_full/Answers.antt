@@ -1,7 +1,7 @@
-use Rattle.std.proofs.Common.{◌≡◌, [], length, All, vec_len, Some, arith, ap, sym, ◌∙◌, refl}
-use Rattle.magazine_layer.specs.Magazines.{CacheState}
+use Rattle.std.proofs.Common.{◌≡◌, [], length, vec_len, ap, sym, ◌∙◌, refl}
+use Rattle.magazine_layer.specs.Magazines.{CacheState, MagazineState}
 use Rattle.magazine_layer.specs.Depots.{SwapsForFull, IsStocked, going_on}
-use Rattle.magazine_layer.proofs.Stocks.{stocked_with, whole_pop, empty_push}
+use Rattle.magazine_layer.proofs.Stocks.{stocked_with, whole_pop, empty_push, room_swap}
 use Rattle.magazine_layer.proofs.depots.Depot.swap_for_full.Goals as goal
 
 pub invariant_of-self-2 : goal.invariant_of-self-2
@@ -13,7 +13,7 @@ invariant_of-self-2 g c =
     let out : c.rotate-empty.result ≡ record { size = c.self.inside.size; rounds = [] } = rw (c.rotate-empty.ensures.out, size, c.requires.previous) refl in
     (rw (full_since, empty_since) (stocked_with c.pop.new.self.items (vec_len c.push_reserved.new.self) _ whole.0 c.self.invariant.0),
     empty_push c.self.inside.size c.self.inside.empty.items c.push_reserved.new.self.items c.rotate-empty.result c.push_reserved.ensures.items out c.self.invariant.1,
-    omega (arith, c.self.invariant.2), omega (arith, c.self.invariant.3), omega (arith, c.self.invariant.4))
+    room_swap _ _ _ _ _ _ _ _ _ _ c.self.invariant.2 c.in-Some.ensures.len c.push_reserved.ensures.len c.in-Some.ensures.capacity c.push_reserved.ensures.capacity)
 
 pub returns-clause-ok : goal.returns-clause-ok
 returns-clause-ok g c =
