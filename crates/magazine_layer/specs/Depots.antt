@@ -80,6 +80,7 @@ with_lists full empty d = record d { full = full; full_since = going_on (length 
 
 -- the newest full magazine is loaded, loaded is the previous one, and that one, which is empty, is the depot's
 pub record SwapsForFull (c c' : CacheState) (d d' : DepotState) : Type 0 where
+  pub sized : c.size ≡ d.size
   pub newest : d.full ≡ d'.full ++ c'.loaded ∷ []
   pub whole : length c'.loaded ≡ c.size
   pub cache : c' ≡ record { size = c.size; loaded = c'.loaded; previous = c.loaded }
@@ -87,12 +88,14 @@ pub record SwapsForFull (c c' : CacheState) (d d' : DepotState) : Type 0 where
 
 -- an empty magazine is loaded, loaded is the previous one, and that one, which is full, is the depot's newest
 pub record SwapsForEmpty (c c' : CacheState) (d d' : DepotState) : Type 0 where
+  pub sized : c.size ≡ d.size
   pub one : d.empty ≡ d'.empty + 1
   pub cache : c' ≡ record { size = c.size; loaded = []; previous = c.loaded }
   pub depot : d' ≡ with_lists (d.full ++ c.previous ∷ []) d'.empty d
 
 -- the same with a magazine from elsewhere
 pub record PutsFull (m : MagazineState) (c c' : CacheState) (d d' : DepotState) : Type 0 where
+  pub sized : (c.size ≡ d.size) × (m.size ≡ d.size)
   pub cache : c' ≡ record { size = c.size; loaded = m.rounds; previous = c.loaded }
   pub depot : d' ≡ with_lists (d.full ++ c.previous ∷ []) d.empty d
 

@@ -1,5 +1,5 @@
 -- What a contract sees of magazines and of a CPU's cache.
-use Rattle.std.specs.Prelude.{◌≡◌, ℕ, ◌+◌, ◌≤◌, ◌⊎◌, List, [], ◌∷◌, ◌++◌, length, if◌then◌else◌, ◌==◌, sum_by}
+use Rattle.std.specs.Prelude.{◌≡◌, ℕ, ◌+◌, ◌<◌, ◌≤◌, ◌⊎◌, List, [], ◌∷◌, ◌++◌, length, if◌then◌else◌, ◌==◌, sum_by}
 use Rattle.deed_core.specs.Tag.{Tag}
 
 -- the sizes that a magazine can have
@@ -47,6 +47,22 @@ to_take c = if length c.loaded == 0 then exchanged c else c
 -- the magazines as a round is given: exchanged where loaded is full
 abbrev pub to_give : CacheState → CacheState
 to_give c = if length c.loaded == c.size then exchanged c else c
+
+-- a round can be taken: loaded has one, or previous is full
+abbrev pub CanTake : CacheState → Type 0
+CanTake c = (0 < length c.loaded) ⊎ (length c.previous ≡ c.size)
+
+-- a round can be given: loaded has room, or previous is empty
+abbrev pub CanGive : CacheState → Type 0
+CanGive c = (length c.loaded < c.size) ⊎ (c.previous ≡ [])
+
+-- x was the last round
+abbrev pub Pops : Tag → CacheState → CacheState → Type 0
+Pops x c c' = to_take c ≡ loaded_with x c'
+
+-- the cache with x given
+abbrev pub pushed : Tag → CacheState → CacheState
+pushed x c = loaded_with x (to_give c)
 
 -- all rounds in a loaded magazine of another size, previous's below loaded's
 abbrev pub changed : ℕ → CacheState → CacheState

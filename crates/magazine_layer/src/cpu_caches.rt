@@ -1,6 +1,6 @@
 //! The two magazines of a CPU.
 ghost use Rattle.std.specs.Prelude.{◌≡◌, ◌+◌, ◌<◌, ◌≤◌, ◌↔◌, ◌⊎◌, [], ◌∷◌, ◌++◌, length, IsTrue, IsSome, IfSome, IfNone, IsOk, IfOk, IfErr, OnOk, OnErr};
-ghost use Rattle.magazine_layer.specs.Magazines.{IsSize, IsShaped, CacheState, MagazineState, cache_rounds, loaded_with, to_take, to_give, changed};
+ghost use Rattle.magazine_layer.specs.Magazines.{IsSize, IsShaped, CacheState, MagazineState, CanTake, CanGive, Pops, pushed, cache_rounds, changed};
 
 use crate::magazines::Magazine;
 use deed_core::{Deed, Segment};
@@ -67,9 +67,10 @@ impl<D: Deed> CpuCache<D> {
 
     /// Takes the last round of loaded, or of previous where loaded is empty and previous is full.
     pub fn take(&mut self) -> Option<Segment<D>>
-        ensures some { IsSome result ↔ ((0 < length self.old.loaded) ⊎ (length self.old.previous ≡ self.old.size)) }
-        ensures last { IfSome result (λ x. to_take self.old ≡ loaded_with x self.new) }
+        ensures some { IsSome result ↔ CanTake self.old }
+        ensures last { IfSome result (λ x. Pops x self.old self.new) }
         ensures none { IfNone result (self.new ≡ self.old) }
+        ensures size { self.new.size ≡ self.old.size }
         ensures shape { IsShaped self.new }
     {
         if !self.loaded.is_empty() {
@@ -81,10 +82,11 @@ impl<D: Deed> CpuCache<D> {
 
     /// Puts a round on loaded, or on previous where loaded is full and previous is empty.
     pub fn give(&mut self, segment: Segment<D>) -> Result<(), Segment<D>>
-        ensures ok { IsOk result ↔ ((length self.old.loaded < self.old.size) ⊎ (self.old.previous ≡ [])) }
-        ensures last { OnOk result (self.new ≡ loaded_with segment (to_give self.old)) }
+        ensures ok { IsOk result ↔ CanGive self.old }
+        ensures last { OnOk result (self.new ≡ pushed segment self.old) }
         ensures err { OnErr result (self.new ≡ self.old) }
         ensures same { IfErr result (λ same. same ≡ segment) }
+        ensures size { self.new.size ≡ self.old.size }
         ensures shape { IsShaped self.new }
     {
         if self.loaded.is_full() {

@@ -71,10 +71,12 @@ impl<D: Deed> Depot<D> {
         requires previous { cpu.old.previous ≡ [] }
         ensures ok { OnOk result (SwapsForFull cpu.old cpu.new self.old self.new) }
         ensures old_size { (result ≡ Err (FullFault.OldSize self.old.size)) ↔ (cpu.old.size ≢ self.old.size) }
+        ensures fault { IfErr result (λ e. (e ≡ FullFault.OldSize self.old.size) ⊎ (e ≡ NoneFull)) }
         ensures none_full { (result ≡ Err NoneFull) ↔ ((cpu.old.size ≡ self.old.size) × (self.old.full ≡ [])) }
         ensures same { OnErr result (self.new ≡ self.old) }
         ensures same_cpu { OnErr result (cpu.new ≡ cpu.old) }
         ensures shape { IsShaped cpu.new }
+        ensures stock { IsStocked self.new }
     {
         if cpu.size() != self.size {
             return Err(FullFault::OldSize(self.size));
@@ -95,10 +97,12 @@ impl<D: Deed> Depot<D> {
         requires previous { length cpu.old.previous ≡ cpu.old.size }
         ensures ok { OnOk result (SwapsForEmpty cpu.old cpu.new self.old self.new) }
         ensures old_size { (result ≡ Err (EmptyFault.OldSize self.old.size)) ↔ (cpu.old.size ≢ self.old.size) }
+        ensures fault { IfErr result (λ e. (e ≡ EmptyFault.OldSize self.old.size) ⊎ (e ≡ NoneEmpty)) }
         ensures none_empty { (result ≡ Err NoneEmpty) ↔ ((cpu.old.size ≡ self.old.size) × (self.old.empty ≡ 0)) }
         ensures same { OnErr result (self.new ≡ self.old) }
         ensures same_cpu { OnErr result (cpu.new ≡ cpu.old) }
         ensures shape { IsShaped cpu.new }
+        ensures stock { IsStocked self.new }
     {
         if cpu.size() != self.size {
             return Err(EmptyFault::OldSize(self.size));
@@ -128,6 +132,7 @@ impl<D: Deed> Depot<D> {
         ensures same { OnErr result (self.new ≡ self.old) }
         ensures same_cpu { OnErr result (cpu.new ≡ cpu.old) }
         ensures shape { IsShaped cpu.new }
+        ensures stock { IsStocked self.new }
     {
         if cpu.size() != self.size || magazine.size() != self.size {
             return Err(PutRefused {

@@ -8,8 +8,10 @@ mod full_magazines;
 mod intervals;
 mod lists;
 mod magazines;
+mod rounds;
 
 pub use cpu_caches::CpuCache;
 pub use depots::Depot;
 pub use faults::{EmptyFault, FullFault, NotGreater, PutFault, PutRefused};
 pub use magazines::Magazine;
+pub use rounds::{RoundAnswer, RoundOp, RoundRun};

@@ -15,3 +15,6 @@ invariant_of-self-2 g c =
     (rw (full_since, empty_since, c.reserve_one.ensures.old_items) (stocked_with c.push_reserved.new.self.items (vec_len c.reserve_one.new.empty) _ whole c.self.invariant.0),
     rw c.reserve_one.ensures.empty_items c.self.invariant.1,
     room_put _ _ _ _ _ _ _ _ _ _ c.in-Ok.ensures.full_room c.in-Ok.ensures.empty_room c.in-Ok.ensures.old_room (c.push_reserved.ensures.len ∙ ap (λ n. n + 1) c.in-Ok.ensures.full_len) c.in-Ok.ensures.empty_len c.in-Ok.ensures.old_len c.push_reserved.ensures.capacity)
+
+pub returns-clause-stock : goal.returns-clause-stock
+returns-clause-stock g c = (invariant_of-self-2 g c).0

@@ -23,4 +23,7 @@ returns-clause-ok g c =
     let empty_since : c.go_on-self-inside-2.result ≡ going_on (vec_len c.pop.new.self) c.self.inside.empty_since = c.go_on-self-inside-2.ensures ∙ ap (λ n. going_on n c.self.inside.empty_since) c.len-2.ensures in
     let same : c.new.result ≡ c.args.cpu.now.previous = c.new.ensures ∙ ap (λ m. m.rounds) c.rotate-full.ensures.out in
     let items : c.push_reserved.new.self.items ≡ c.self.inside.full.items ++ c.args.cpu.now.previous ∷ [] = rw (← same) c.push_reserved.ensures.items in
-    rw (← c.self.view_is, loaded) (record { one = sym c.in-Some.ensures.len; cache = refl; depot = rw (full_since, empty_since, items) refl })
+    rw (← c.self.view_is, loaded) (record { sized = sym c.size.ensures.value ∙ c.if-size-self.false; one = sym c.in-Some.ensures.len; cache = refl; depot = rw (full_since, empty_since, items) refl })
+
+pub returns-clause-stock : goal.returns-clause-stock
+returns-clause-stock g c = (invariant_of-self-2 g c).0

@@ -21,4 +21,7 @@ returns-clause-ok g c =
     let loaded : c.rotate-empty.new.self ≡ record { size = c.args.cpu.now.size; loaded = c.in-Some.full; previous = c.args.cpu.now.loaded } = rw (c.rotate-empty.ensures.cache, c.into_magazine.ensures) refl in
     let full_since : c.go_on-self-inside.result ≡ going_on (length c.pop.new.self.items) c.self.inside.full_since = c.go_on-self-inside.ensures ∙ ap (λ n. going_on n c.self.inside.full_since) (c.len.ensures ∙ c.pop.new.self.ok.0) in
     let empty_since : c.go_on-self-inside-2.result ≡ going_on (vec_len c.push_reserved.new.self) c.self.inside.empty_since = c.go_on-self-inside-2.ensures ∙ ap (λ n. going_on n c.self.inside.empty_since) c.len-2.ensures in
-    rw (← c.self.view_is, loaded) (record { newest = c.in-Some.ensures.items; whole = whole.1 ∙ sym c.if-size-self.false ∙ c.size.ensures.value; cache = refl; depot = rw (full_since, empty_since, c.push_reserved.ensures.len) refl })
+    rw (← c.self.view_is, loaded) (record { sized = sym c.size.ensures.value ∙ c.if-size-self.false; newest = c.in-Some.ensures.items; whole = whole.1 ∙ sym c.if-size-self.false ∙ c.size.ensures.value; cache = refl; depot = rw (full_since, empty_since, c.push_reserved.ensures.len) refl })
+
+pub returns-clause-stock : goal.returns-clause-stock
+returns-clause-stock g c = (invariant_of-self-2 g c).0
