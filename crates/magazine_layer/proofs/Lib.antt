@@ -1,2 +1,4 @@
 pub mod Stocks
 pub mod Shapes
+pub mod Weighing
+pub mod Bounds

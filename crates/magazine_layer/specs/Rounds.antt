@@ -1,7 +1,7 @@
 -- Runs of operations over a CPU's cache and its depot.
-use Rattle.std.specs.Prelude.{◌≡◌, ◌≢◌, ℕ, ◌+◌, ◌<◌, ◌≤◌, ◌⊎◌, List, [], ◌∷◌, ◌++◌, length}
+use Rattle.std.specs.Prelude.{◌≡◌, ◌≢◌, ℕ, ◌+◌, ◌⊎◌, List, [], ◌∷◌, ◌++◌, length}
 use Rattle.deed_core.specs.Tag.{Tag}
-use Rattle.magazine_layer.specs.Magazines.{CacheState, IsShaped, CanTake, CanGive, Pops, pushed, changed, cache_rounds}
+use Rattle.magazine_layer.specs.Magazines.{CacheState, CanGive, Pops, pushed, changed, cache_rounds}
 use Rattle.magazine_layer.specs.Depots.{DepotState, SwapsForFull, SwapsForEmpty, PutsFull, depot_rounds}
 use Rattle.magazine_layer.specs.declared.rounds.RoundOp.{RoundOp}
 use Rattle.magazine_layer.specs.declared.rounds.RoundOp.TheVariants.{Give, Take}
@@ -70,7 +70,7 @@ Steps Take s s' answer exchanges = Takes s s' answer exchanges
 pub data Runs {D : Type 0} (s : Stock) : List (RoundOp D) → List (RoundAnswer D) → Stock → ℕ → Type 0 where
   Start : Runs s [] [] s 0
   Then : {ops : List (RoundOp D)} {answers : List (RoundAnswer D)} {mid : Stock} {exchanges : ℕ} (op : RoundOp D) (answer : RoundAnswer D) (s' : Stock) (more : ℕ)
-      → Runs s ops answers mid exchanges → Steps op mid s' answer more → IsShaped s'.cpu → Runs s (ops ++ op ∷ []) (answers ++ answer ∷ []) s' (exchanges + more)
+      → Runs s ops answers mid exchanges → Steps op mid s' answer more → Runs s (ops ++ op ∷ []) (answers ++ answer ∷ []) s' (exchanges + more)
 
 -- the rounds that an operation brings
 abbrev pub brought : {D : Type 0} → RoundOp D → List Tag

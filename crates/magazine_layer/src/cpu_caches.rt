@@ -1,5 +1,6 @@
 //! The two magazines of a CPU.
 ghost use Rattle.std.specs.Prelude.{◌≡◌, ◌+◌, ◌<◌, ◌≤◌, ◌↔◌, ◌⊎◌, [], ◌∷◌, ◌++◌, length, IsTrue, IsSome, IfSome, IfNone, IsOk, IfOk, IfErr, OnOk, OnErr};
+ghost use Rattle.deed_core.specs.Weights.{WeighSame, Gains, Loses};
 ghost use Rattle.magazine_layer.specs.Magazines.{IsSize, IsShaped, CacheState, MagazineState, CanTake, CanGive, Pops, pushed, cache_rounds, changed};
 
 use crate::magazines::Magazine;
@@ -66,9 +67,11 @@ impl<D: Deed> CpuCache<D> {
     }
 
     /// Takes the last round of loaded, or of previous where loaded is empty and previous is full.
+    #[tactic(auto, using(crate::proofs::Weighing::pops_weigh))]
     pub fn take(&mut self) -> Option<Segment<D>>
         ensures some { IsSome result ↔ CanTake self.old }
         ensures last { IfSome result (λ x. Pops x self.old self.new) }
+        ensures weights { IfSome result (λ x. Loses (cache_rounds self.old) (cache_rounds self.new) x) }
         ensures none { IfNone result (self.new ≡ self.old) }
         ensures size { self.new.size ≡ self.old.size }
         ensures shape { IsShaped self.new }

@@ -1,0 +1,2 @@
+-- How many exchanges a run makes.
+use Rattle.std.proofs.Common.{◌≡◌, ℕ}
