@@ -67,7 +67,7 @@ impl<D: Deed> CpuCache<D> {
     }
 
     /// Takes the last round of loaded, or of previous where loaded is empty and previous is full.
-    #[tactic(auto, using(crate::proofs::Weighing::pops_weigh))]
+    #[tactic(auto, using(crate::proofs::Weighing::pops_weigh, crate::proofs::Bounds::runs_few))]
     pub fn take(&mut self) -> Option<Segment<D>>
         ensures some { IsSome result ↔ CanTake self.old }
         ensures last { IfSome result (λ x. Pops x self.old self.new) }
