@@ -11,9 +11,8 @@ use Rattle.magazine_layer.specs.declared.rounds.RoundOp.TheVariants.{Give, Take}
 use Rattle.magazine_layer.specs.declared.rounds.RoundAnswer.{RoundAnswer}
 use Rattle.magazine_layer.specs.declared.rounds.RoundAnswer.TheVariants.{Kept, Refused, Taken, Nothing}
 
--- what a cache weighs
-weight : (Tag → ℕ) → CacheState → ℕ
-weight f c = sum_by f (cache_rounds c)
+pub last_weighs : (xs ys : List Tag) (x : Tag) → xs ≡ ys ++ x ∷ [] → Loses xs ys x
+last_weighs xs ys x is f = ap (sum_by f) is ∙ sum_by_push f ys x
 
 parts : (f : Tag → ℕ) (c : CacheState) → sum_by f (cache_rounds c) ≡ sum_by f c.previous + sum_by f c.loaded
 parts f c = sum_by-append f c.previous c.loaded

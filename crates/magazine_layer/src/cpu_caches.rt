@@ -67,7 +67,7 @@ impl<D: Deed> CpuCache<D> {
     }
 
     /// Takes the last round of loaded, or of previous where loaded is empty and previous is full.
-    #[tactic(auto, using(crate::proofs::Weighing::pops_weigh, crate::proofs::Bounds::runs_few))]
+    #[tactic(auto, using(crate::proofs::Weighing::pops_weigh))]
     pub fn take(&mut self) -> Option<Segment<D>>
         ensures some { IsSome result ↔ CanTake self.old }
         ensures last { IfSome result (λ x. Pops x self.old self.new) }
@@ -84,9 +84,11 @@ impl<D: Deed> CpuCache<D> {
     }
 
     /// Puts a round on loaded, or on previous where loaded is full and previous is empty.
+    #[tactic(auto, using(crate::proofs::Weighing::pushed_weigh))]
     pub fn give(&mut self, segment: Segment<D>) -> Result<(), Segment<D>>
         ensures ok { IsOk result ↔ CanGive self.old }
         ensures last { OnOk result (self.new ≡ pushed segment self.old) }
+        ensures weights { OnOk result (Gains (cache_rounds self.old) (cache_rounds self.new) segment) }
         ensures err { OnErr result (self.new ≡ self.old) }
         ensures same { IfErr result (λ same. same ≡ segment) }
         ensures size { self.new.size ≡ self.old.size }
@@ -109,6 +111,7 @@ impl<D: Deed> CpuCache<D> {
         requires size { previous.size ≡ loaded.size }
         requires room { length (cache_rounds self.old) ≤ loaded.size }
         ensures changed { self.new ≡ changed loaded.size self.old }
+        ensures weights { WeighSame (cache_rounds self.old) (cache_rounds self.new) }
         ensures shape { IsShaped self.new }
     {
         let _ = loaded.size();
@@ -131,6 +134,23 @@ impl<D: Deed> CpuCache<D> {
         let _ = magazine.size();
         let loaded = mem::replace(&mut self.loaded, magazine);
         mem::replace(&mut self.previous, loaded)
+    }
+
+    /// Ends a cache that has no round, and hands back one that has.
+    pub fn close(self) -> Result<(), CpuCache<D>>
+        ensures empty { IsOk result ↔ (cache_rounds self ≡ []) }
+        ensures same { IfErr result (λ same. same ≡ self) }
+    {
+        if !self.loaded.is_empty() {
+            return Err(self);
+        }
+        if !self.previous.is_empty() {
+            return Err(self);
+        }
+        let CpuCache { loaded, previous } = self;
+        discard_empty(loaded);
+        discard_empty(previous);
+        Ok(())
     }
 
     /// Ends the cache. Loaded comes first.

@@ -1,7 +1,8 @@
 //! Depots: what the CPUs share of a quantum cache's magazines.
 ghost use Rattle.std.specs.Prelude.{◌≡◌, ◌≢◌, ◌+◌, ◌-◌, ◌<◌, ◌≤◌, ◌↔◌, ◌⊎◌, ◌++◌, [], ◌∷◌, length, IsOk, IsNone, IsSome, IfSome, IfNone, IfOk, IfErr, IsErrAnd, OnOk, OnErr, IsTrue, Ok, Err};
 ghost use Rattle.std.specs.Bool.{OnTrue, OnFalse};
-ghost use Rattle.magazine_layer.specs.Magazines.{IsSize, IsShaped};
+ghost use Rattle.deed_core.specs.Weights.{WeighSame, Loses};
+ghost use Rattle.magazine_layer.specs.Magazines.{IsSize, IsShaped, cache_rounds};
 ghost use Rattle.magazine_layer.specs.Depots.{DepotState, SwapsForFull, SwapsForEmpty, PutsFull, CanReap, Begins, Reaps, IsStocked, new_depot, ticked, resized, trimmed, depot_rounds};
 ghost use Rattle.magazine_layer.specs.declared.faults.FullFault.TheVariants.{NoneFull};
 ghost use Rattle.magazine_layer.specs.declared.faults.EmptyFault.TheVariants.{NoneEmpty};
@@ -66,10 +67,12 @@ impl<D: Deed> Depot<D> {
     }
 
     /// Gives a CPU whose magazines are both empty a full one for an empty one.
+    #[tactic(auto, using(crate::proofs::Weighing::swap_full_weigh))]
     pub fn swap_for_full(&mut self, cpu: &mut CpuCache<D>) -> Result<(), FullFault>
         requires loaded { cpu.old.loaded ≡ [] }
         requires previous { cpu.old.previous ≡ [] }
         ensures ok { OnOk result (SwapsForFull cpu.old cpu.new self.old self.new) }
+        ensures weights { OnOk result (WeighSame (cache_rounds cpu.old ++ depot_rounds self.old) (cache_rounds cpu.new ++ depot_rounds self.new)) }
         ensures old_size { (result ≡ Err (FullFault.OldSize self.old.size)) ↔ (cpu.old.size ≢ self.old.size) }
         ensures fault { IfErr result (λ e. (e ≡ FullFault.OldSize self.old.size) ⊎ (e ≡ NoneFull)) }
         ensures none_full { (result ≡ Err NoneFull) ↔ ((cpu.old.size ≡ self.old.size) × (self.old.full ≡ [])) }
@@ -92,10 +95,12 @@ impl<D: Deed> Depot<D> {
     }
 
     /// Gives a CPU whose magazines are both full an empty one for a full one.
+    #[tactic(auto, using(crate::proofs::Weighing::swap_empty_weigh))]
     pub fn swap_for_empty(&mut self, cpu: &mut CpuCache<D>) -> Result<(), EmptyFault>
         requires loaded { length cpu.old.loaded ≡ cpu.old.size }
         requires previous { length cpu.old.previous ≡ cpu.old.size }
         ensures ok { OnOk result (SwapsForEmpty cpu.old cpu.new self.old self.new) }
+        ensures weights { OnOk result (WeighSame (cache_rounds cpu.old ++ depot_rounds self.old) (cache_rounds cpu.new ++ depot_rounds self.new)) }
         ensures old_size { (result ≡ Err (EmptyFault.OldSize self.old.size)) ↔ (cpu.old.size ≢ self.old.size) }
         ensures fault { IfErr result (λ e. (e ≡ EmptyFault.OldSize self.old.size) ⊎ (e ≡ NoneEmpty)) }
         ensures none_empty { (result ≡ Err NoneEmpty) ↔ ((cpu.old.size ≡ self.old.size) × (self.old.empty ≡ 0)) }
@@ -118,6 +123,7 @@ impl<D: Deed> Depot<D> {
     }
 
     /// Takes a full magazine of a CPU whose magazines are both full, which gets this one for it.
+    #[tactic(auto, using(crate::proofs::Weighing::put_full_weigh))]
     pub fn put_full(
         &mut self,
         cpu: &mut CpuCache<D>,
@@ -126,6 +132,7 @@ impl<D: Deed> Depot<D> {
         requires loaded { length cpu.old.loaded ≡ cpu.old.size }
         requires previous { length cpu.old.previous ≡ cpu.old.size }
         ensures ok { OnOk result (PutsFull magazine cpu.old cpu.new self.old self.new) }
+        ensures weights { OnOk result (WeighSame (magazine.rounds ++ (cache_rounds cpu.old ++ depot_rounds self.old)) (cache_rounds cpu.new ++ depot_rounds self.new)) }
         ensures old_size { IsErrAnd result (λ r. r.fault ≡ PutFault.OldSize self.old.size) ↔ ((cpu.old.size ≢ self.old.size) ⊎ (magazine.size ≢ self.old.size)) }
         ensures fault { IfErr result (λ r. (r.fault ≡ PutFault.OldSize self.old.size) ⊎ (r.fault ≡ PutFault.NoMemory)) }
         ensures magazine { IfErr result (λ r. r.magazine ≡ magazine) }
@@ -155,17 +162,21 @@ impl<D: Deed> Depot<D> {
 
     /// Begins an interval.
     pub fn tick(&mut self)
-        ensures { self.new ≡ ticked self.old }
+        ensures ticked { self.new ≡ ticked self.old }
+        ensures stock { IsStocked self.new }
     {
         self.full_since = Interval::begin(self.full.len());
         self.empty_since = Interval::begin(self.empty.len());
     }
 
     /// Asks for magazines of a greater size from here on.
+    #[tactic(auto, using(crate::proofs::Weighing::resized_weigh))]
     pub fn resize(&mut self, size: usize) -> Result<(), NotGreater>
         requires { IsSize size }
         ensures ok { IsOk result ↔ (self.old.size < size) }
         ensures resized { OnOk result (self.new ≡ resized size self.old) }
+        ensures weights { OnOk result (WeighSame (depot_rounds self.old) (depot_rounds self.new)) }
+        ensures stock { IsStocked self.new }
         ensures same { OnErr result (self.new ≡ self.old) }
     {
         if size <= self.size {
@@ -184,16 +195,22 @@ impl<D: Deed> Depot<D> {
     }
 
     /// Takes one round of what lies outside the working set, and discards the empty magazines that do.
+    #[tactic(auto, using(crate::proofs::Weighing::reaps_weigh))]
     pub fn reap(&mut self) -> Option<Segment<D>>
         ensures some { IsSome result ↔ CanReap self.old }
         ensures reaps { IfSome result (λ x. Reaps x (trimmed self.old) self.new) }
+        ensures weights { IfSome result (λ x. Loses (depot_rounds self.old) (depot_rounds self.new) x) }
         ensures none { IfNone result (self.new ≡ trimmed self.old) }
+        ensures stock { IsStocked self.new }
     {
         self.trim();
         if !self.begin() {
             return None;
         }
-        self.draining.pop()
+        let Some(segment) = self.draining.pop() else {
+            unreachable!()
+        };
+        Some(segment)
     }
 
     // Discards the empty magazines outside the working set.
@@ -211,6 +228,7 @@ impl<D: Deed> Depot<D> {
         ensures begins { OnTrue result (Begins self.old self.new) }
         ensures some { OnTrue result (0 < length self.new.draining) }
         ensures same { OnFalse result (self.new ≡ self.old) }
+        ensures stock { IsStocked self.new }
     {
         if !self.draining.is_empty() {
             return true;

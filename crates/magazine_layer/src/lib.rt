@@ -14,4 +14,4 @@ pub use cpu_caches::CpuCache;
 pub use depots::Depot;
 pub use faults::{EmptyFault, FullFault, NotGreater, PutFault, PutRefused};
 pub use magazines::Magazine;
-pub use rounds::{RoundAnswer, RoundOp, RoundRun};
+pub use rounds::{RoundAnswer, RoundOp, RoundRun, run_rounds};

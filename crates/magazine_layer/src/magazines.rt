@@ -1,5 +1,6 @@
 //! Magazines: stacks of segments.
 ghost use Rattle.std.specs.Prelude.{◌≡◌, ◌+◌, ◌<◌, ◌≤◌, ◌↔◌, [], ◌∷◌, ◌++◌, length, IsTrue, IfSome, IfNone, IfOk, IfErr, IsOk, IsNone};
+ghost use Rattle.deed_core.specs.Weights.{Loses};
 ghost use Rattle.magazine_layer.specs.Magazines.{IsSize, IsMagazine, MagazineState, units_of};
 
 use deed_core::{Deed, Segment};
@@ -56,8 +57,10 @@ impl<D: Deed> Magazine<D> {
     }
 
     /// Takes the last round that was put in.
+    #[tactic(auto, using(crate::proofs::Weighing::last_weighs))]
     pub fn take(&mut self) -> Option<Segment<D>>
         ensures last { IfSome result (λ x. self.old.rounds ≡ self.new.rounds ++ x ∷ []) }
+        ensures weights { IfSome result (λ x. Loses self.old.rounds self.new.rounds x) }
         ensures none { IsNone result ↔ (self.old.rounds ≡ []) }
         ensures same { IfNone result (self.new ≡ self.old) }
         ensures size { self.new.size ≡ self.old.size }

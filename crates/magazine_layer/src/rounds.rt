@@ -189,3 +189,58 @@ fn give_round<D: Deed>(
         exchanges,
     }
 }
+
+// Runs one operation.
+fn run_one<D: Deed>(
+    alloc: Global,
+    cpu: &mut CpuCache<D>,
+    depot: &mut Depot<D>,
+    op: RoundOp<D>,
+) -> Step<D>
+    requires { cpu.old.size ≤ depot.old.size }
+    ensures step { Steps op (stock cpu.old depot.old) (stock cpu.new depot.new) result.answer result.exchanges }
+    ensures most { result.exchanges ≤ 1 }
+    ensures shape { IsShaped cpu.new }
+    ensures sizes { cpu.new.size ≤ depot.new.size }
+{
+    match op {
+        RoundOp::Give(segment) => give_round(alloc, cpu, depot, segment),
+        RoundOp::Take => take_round(alloc, cpu, depot),
+    }
+}
+
+/// Runs operations in order: each gives a round to the CPU's cache or takes one from it, and goes to the
+/// depot where the cache is full or empty. Want of memory for the answers hands the operations back.
+pub fn run_rounds<D: Deed>(
+    alloc: Global,
+    cpu: &mut CpuCache<D>,
+    depot: &mut Depot<D>,
+    ops: Vec<RoundOp<D>>,
+) -> Result<RoundRun<D>, Vec<RoundOp<D>>>
+    requires { cpu.old.size ≤ depot.old.size }
+    ensures run { IfOk result (λ r. Runs (stock cpu.old depot.old) ops.items r.answers.items (stock cpu.new depot.new) r.exchanges) }
+    ensures weights { IfOk result (λ r. WeighSame (stock_rounds (stock cpu.old depot.old) ++ all_brought ops.items) (stock_rounds (stock cpu.new depot.new) ++ all_handed r.answers.items)) }
+    ensures few { IfOk result (λ r. r.exchanges ≤ 1 + vec_len ops / depot.old.size) }
+    ensures answers { IfOk result (λ r. vec_len r.answers ≡ vec_len ops) }
+    ensures same { OnErr result (stock cpu.new depot.new ≡ stock cpu.old depot.old) }
+    ensures ops { IfErr result (λ same. same ≡ ops) }
+    ensures shape { IsShaped cpu.new }
+{
+    let _ = cpu.size();
+    let _ = depot.size();
+    let Ok(answers) = Vec::with_capacity(alloc, ops.len()) else {
+        return Err(ops);
+    };
+    let mut run = RoundRun {
+        answers,
+        exchanges: 0,
+    };
+    let mut rest = ops.into_iter();
+    while let Some(op) = rest.next() {
+        let Step { answer, exchanges } = run_one(alloc, cpu, depot, op);
+        run.answers.push_reserved(answer);
+        run.exchanges += exchanges;
+    }
+    rest.destroy_empty();
+    Ok(run)
+}

@@ -16,3 +16,9 @@ invariant_of-self-2 g c =
     (rw c.reap-self-inside.ensures (stocked_first _ c.take_first-2.result c.take_first-2.new.items.items c.drain-2.new.draining.items c.take_first-2.ensures.items some c.self.invariant.0),
     c.self.invariant.1,
     room_first _ _ _ _ _ _ _ _ c.self.invariant.2 c.take_first-2.ensures.len c.take_first-2.ensures.capacity)
+
+pub returns-then-not-is_empty-2-clause-stock : goal.returns-then-not-is_empty-2-clause-stock
+returns-then-not-is_empty-2-clause-stock g c = (invariant_of-self g c).0
+
+pub returns-clause-stock : goal.returns-clause-stock
+returns-clause-stock g c = (invariant_of-self-2 g c).0

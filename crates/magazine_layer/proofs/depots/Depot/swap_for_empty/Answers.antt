@@ -1,6 +1,7 @@
 use Rattle.std.proofs.Common.{◌≡◌, ◌++◌, ◌∷◌, [], length, vec_len, ap, sym, ◌∙◌, refl}
 use Rattle.magazine_layer.specs.Magazines.{CacheState, MagazineState}
 use Rattle.magazine_layer.specs.Depots.{SwapsForFull, SwapsForEmpty, IsStocked, DepotState, going_on, reaping, reapable, resized}
+use Rattle.magazine_layer.proofs.Weighing.{swap_empty_weigh}
 use Rattle.magazine_layer.proofs.Stocks.{stocked_with, whole_pop, whole_push, empty_push, empty_pop, room_swap, room_back, room_put, room_first, room_old, room_resize, stocked_old, stocked_first, stocked_resize}
 use Rattle.magazine_layer.proofs.depots.Depot.swap_for_empty.Goals as goal
 
@@ -27,3 +28,6 @@ returns-clause-ok g c =
 
 pub returns-clause-stock : goal.returns-clause-stock
 returns-clause-stock g c = (invariant_of-self-2 g c).0
+
+pub returns-clause-weights : goal.returns-clause-weights
+returns-clause-weights g c = swap_empty_weigh c.args.cpu.now c.rotate-full.new.self c.args.self.now _ (returns-clause-ok g c)

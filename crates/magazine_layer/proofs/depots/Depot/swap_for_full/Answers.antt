@@ -1,6 +1,7 @@
 use Rattle.std.proofs.Common.{◌≡◌, [], length, vec_len, ap, sym, ◌∙◌, refl}
 use Rattle.magazine_layer.specs.Magazines.{CacheState, MagazineState}
 use Rattle.magazine_layer.specs.Depots.{SwapsForFull, IsStocked, going_on}
+use Rattle.magazine_layer.proofs.Weighing.{swap_full_weigh}
 use Rattle.magazine_layer.proofs.Stocks.{stocked_with, whole_pop, empty_push, room_swap}
 use Rattle.magazine_layer.proofs.depots.Depot.swap_for_full.Goals as goal
 
@@ -25,3 +26,6 @@ returns-clause-ok g c =
 
 pub returns-clause-stock : goal.returns-clause-stock
 returns-clause-stock g c = (invariant_of-self-2 g c).0
+
+pub returns-clause-weights : goal.returns-clause-weights
+returns-clause-weights g c = swap_full_weigh c.args.cpu.now c.rotate-empty.new.self c.args.self.now _ c.requires.previous (returns-clause-ok g c)
