@@ -1,5 +1,6 @@
 -- No call makes or loses a round, however rounds are weighed.
-use Rattle.std.proofs.Common.{◌≡◌, ℕ, ◌+◌, ◌⊎◌, Bool, true, false, List, [], ◌∷◌, ◌++◌, length, if◌then◌else◌, ◌==◌, inl, inr, arith, refl, ap, sym, ◌∙◌, sum_by}
+use Rattle.std.proofs.Common.{◌≡◌, ℕ, ◌+◌, ◌⊎◌, Bool, true, false, List, [], ◌∷◌, ◌++◌, length, if◌then◌else◌, ◌==◌, ◌<◌, take, get_or, min, inl, inr, arith, refl, ap, sym, ◌∙◌, sum_by}
+use Rattle.std.proofs.lemmas.List.{take_more}
 use Rattle.std.proofs.lemmas.List.Sums.{sum_by-append, sum_by-cons, sum_by_push}
 use Rattle.deed_core.specs.Tag.{Tag}
 use Rattle.deed_core.specs.Weights.{WeighSame, Gains, Loses}
@@ -164,3 +165,11 @@ module _ {D : Type 0} where
   -- rounds in are rounds out
   pub runs_weigh : (s s' : Stock) (ops : List (RoundOp D)) (answers : List (RoundAnswer D)) (k : ℕ) → Runs s ops answers s' k → WeighSame (stock_rounds s ++ all_brought ops) (stock_rounds s' ++ all_handed answers)
   runs_weigh s s' ops answers k runs f = omega (arith, runs_weigh_by f s s' ops answers k runs, sum_by-append f (stock_rounds s) (all_brought ops), sum_by-append f (stock_rounds s') (all_handed answers))
+
+-- the first rounds of magazines, and those of one magazine more
+pub all_rounds-more : (f : Tag → ℕ) (ms : List (List Tag)) (i : ℕ) (m : List Tag) → i < length ms → m ≡ get_or ms i m → sum_by f (all_rounds (take (i + 1) ms)) ≡ sum_by f (all_rounds (take i ms)) + sum_by f m
+all_rounds-more f ms i m within is = ap (λ ms. sum_by f (all_rounds ms)) (take_more ms i m within) ∙ all_rounds-push f (take i ms) (get_or ms i m) ∙ ap (λ x. sum_by f (all_rounds (take i ms)) + sum_by f x) (sym is)
+
+-- a sum that stops at the greatest number
+pub capped : (most total all part next sum : ℕ) → total ≡ min all most → sum ≡ all + part → next ≡ min (total + part) most → next ≡ min sum most
+capped most total all part next sum so_far more last = omega arith

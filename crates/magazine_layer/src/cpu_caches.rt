@@ -1,7 +1,7 @@
 //! The two magazines of a CPU.
 ghost use Rattle.std.specs.Prelude.{◌≡◌, ◌+◌, ◌<◌, ◌≤◌, ◌↔◌, ◌⊎◌, [], ◌∷◌, ◌++◌, length, IsTrue, IsSome, IfSome, IfNone, IsOk, IfOk, IfErr, OnOk, OnErr};
 ghost use Rattle.deed_core.specs.Weights.{WeighSame, Gains, Loses};
-ghost use Rattle.magazine_layer.specs.Magazines.{IsSize, IsShaped, CacheState, MagazineState, CanTake, CanGive, Pops, pushed, cache_rounds, changed};
+ghost use Rattle.magazine_layer.specs.Magazines.{IsSize, IsShaped, CacheState, MagazineState, CanTake, CanGive, Pops, pushed, cache_rounds, changed, units_of};
 
 use crate::magazines::Magazine;
 use deed_core::{Deed, Segment};
@@ -64,6 +64,13 @@ impl<D: Deed> CpuCache<D> {
         ensures shape { IsShaped self.now }
     {
         self.loaded.size()
+    }
+
+    /// The units that its rounds cover.
+    pub fn units(&self) -> u128
+        ensures { result ≡ units_of (cache_rounds self.now) }
+    {
+        self.previous.units() + self.loaded.units()
     }
 
     /// Takes the last round of loaded, or of previous where loaded is empty and previous is full.

@@ -1,18 +1,18 @@
 //! Depots: what the CPUs share of a quantum cache's magazines.
-ghost use Rattle.std.specs.Prelude.{◌≡◌, ◌≢◌, ◌+◌, ◌-◌, ◌<◌, ◌≤◌, ◌↔◌, ◌⊎◌, ◌++◌, [], ◌∷◌, length, IsOk, IsNone, IsSome, IfSome, IfNone, IfOk, IfErr, IsErrAnd, OnOk, OnErr, IsTrue, Ok, Err};
+ghost use Rattle.std.specs.Prelude.{◌≡◌, ◌≢◌, ◌+◌, ◌-◌, ◌^◌, ◌<◌, ◌≤◌, ◌↔◌, ◌⊎◌, ◌++◌, [], ◌∷◌, length, min, IsOk, IsNone, IsSome, IfSome, IfNone, IfOk, IfErr, IsErrAnd, OnOk, OnErr, IsTrue, Ok, Err};
 ghost use Rattle.std.specs.Bool.{OnTrue, OnFalse};
 ghost use Rattle.deed_core.specs.Weights.{WeighSame, Loses};
-ghost use Rattle.magazine_layer.specs.Magazines.{IsSize, IsShaped, cache_rounds};
+ghost use Rattle.magazine_layer.specs.Magazines.{IsSize, IsShaped, cache_rounds, units_of};
 ghost use Rattle.magazine_layer.specs.Depots.{DepotState, SwapsForFull, SwapsForEmpty, PutsFull, CanReap, Begins, Reaps, IsStocked, new_depot, ticked, resized, trimmed, depot_rounds};
 ghost use Rattle.magazine_layer.specs.declared.faults.FullFault.TheVariants.{NoneFull};
 ghost use Rattle.magazine_layer.specs.declared.faults.EmptyFault.TheVariants.{NoneEmpty};
 
 use crate::cpu_caches::CpuCache;
 use crate::faults::{EmptyFault, FullFault, NotGreater, PutFault, PutRefused};
-use crate::full_magazines::FullMagazine;
+use crate::full_magazines::{FullMagazine, units_of_all};
 use crate::intervals::Interval;
 use crate::lists::{discard_oldest, drain, reserve_one, take_first};
-use crate::magazines::Magazine;
+use crate::magazines::{Magazine, units_of_rounds};
 use deed_core::{Deed, Segment};
 use std::alloc::Global;
 use std::marker::Model;
@@ -64,6 +64,15 @@ impl<D: Deed> Depot<D> {
         ensures stock { IsStocked self.now }
     {
         self.size
+    }
+
+    /// The units that its rounds cover, or 2^128 - 1 where they are more.
+    pub fn units(&self) -> u128
+        ensures { result ≡ min (units_of (depot_rounds self.now)) (2 ^ 128 - 1) }
+    {
+        units_of_all(&self.old_full)
+            .saturating_add(units_of_all(&self.full))
+            .saturating_add(units_of_rounds(&self.draining))
     }
 
     /// Gives a CPU whose magazines are both empty a full one for an empty one.

@@ -1,6 +1,7 @@
 //! Full magazines.
-ghost use Rattle.std.specs.Prelude.{◌≡◌, ◌<◌, length};
-ghost use Rattle.magazine_layer.specs.Magazines.{IsSize};
+ghost use Rattle.std.specs.Prelude.{◌≡◌, ◌-◌, ◌^◌, length, min};
+ghost use Rattle.magazine_layer.specs.Magazines.{units_of};
+ghost use Rattle.magazine_layer.specs.Depots.{all_rounds};
 
 use crate::magazines::Magazine;
 use deed_core::Deed;
@@ -36,4 +37,22 @@ impl<D: Deed> FullMagazine<D> {
         let FullMagazine { magazine } = self;
         magazine
     }
+
+    // The units that its rounds cover.
+    fn units(&self) -> u128
+        ensures { result ≡ units_of self.now }
+    {
+        self.magazine.units()
+    }
+}
+
+// The units of some full magazines, or the greatest number where they are more.
+pub(crate) fn units_of_all<D: Deed>(magazines: &[FullMagazine<D>]) -> u128
+    ensures { result ≡ min (units_of (all_rounds magazines.now)) (2 ^ 128 - 1) }
+{
+    let mut total: u128 = 0;
+    for magazine in magazines {
+        total = total.saturating_add(magazine.units());
+    }
+    total
 }

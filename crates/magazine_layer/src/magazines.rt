@@ -1,5 +1,5 @@
 //! Magazines: stacks of segments.
-ghost use Rattle.std.specs.Prelude.{◌≡◌, ◌+◌, ◌<◌, ◌≤◌, ◌↔◌, [], ◌∷◌, ◌++◌, length, IsTrue, IfSome, IfNone, IfOk, IfErr, IsOk, IsNone};
+ghost use Rattle.std.specs.Prelude.{◌≡◌, ◌+◌, ◌<◌, ◌≤◌, ◌^◌, ◌↔◌, [], ◌∷◌, ◌++◌, length, IsTrue, IfSome, IfNone, IfOk, IfErr, IsOk, IsNone};
 ghost use Rattle.deed_core.specs.Weights.{Loses};
 ghost use Rattle.magazine_layer.specs.Magazines.{IsSize, IsMagazine, MagazineState, units_of};
 
@@ -56,6 +56,14 @@ impl<D: Deed> Magazine<D> {
         self.rounds.len() == self.size
     }
 
+    /// The units that its rounds cover.
+    pub fn units(&self) -> u128
+        ensures value { result ≡ units_of self.now.rounds }
+        ensures bound { result < 2 ^ 126 }
+    {
+        units_of_rounds(&self.rounds)
+    }
+
     /// Takes the last round that was put in.
     #[tactic(auto, using(crate::proofs::Weighing::last_weighs))]
     pub fn take(&mut self) -> Option<Segment<D>>
@@ -108,4 +116,17 @@ impl<D: Deed> Magazine<D> {
         rounds.destroy_empty();
         Ok(())
     }
+}
+
+// The units of some rounds.
+pub(crate) fn units_of_rounds<D: Deed>(rounds: &[Segment<D>]) -> u128
+    ensures value { result ≡ units_of rounds.now }
+    ensures bound { result < 2 ^ 126 }
+{
+    let _count = rounds.len();
+    let mut total: u128 = 0;
+    for round in rounds {
+        total += u128::from(round.range().len());
+    }
+    total
 }
