@@ -9,6 +9,8 @@ mod intervals;
 mod lists;
 mod magazines;
 mod rounds;
+#[cfg(test)]
+mod tests;
 
 pub use cpu_caches::CpuCache;
 pub use depots::Depot;
