@@ -25,12 +25,3 @@ full_up c shape cannot = record {
 -- all rounds have room in a magazine of a greater size
 pub room_after : (c : CacheState) (m : ℕ) → IsShaped c → IsSize m → c.size ≤ m → c.size ≢ m → length (cache_rounds c) ≤ m
 room_after c m shape size most other = grind (arith, length-append, shape.sized, shape.most, shape.whole)
-
-pub loaded_rounds : (c : CacheState) → 0 < length c.loaded → cache_rounds c ≡ [] → ⊥
-loaded_rounds c some none =
-    let all : length c.previous + length c.loaded ≡ 0 = simp length-append at (ap length none) in
-    omega arith
-
-pub length_some : (xs : List Tag) → (xs ≡ [] → ⊥) → 0 < length xs
-length_some [] some = absurd (some refl)
-length_some (x ∷ xs) some = omega arith

@@ -145,16 +145,16 @@ impl<D: Deed> CpuCache<D> {
 
     /// Ends a cache that has no round, and hands back one that has.
     pub fn close(self) -> Result<(), CpuCache<D>>
-        ensures empty { IsOk result ↔ (cache_rounds self ≡ []) }
+        ensures empty { IsOk result ↔ ((self.loaded ≡ []) × (self.previous ≡ [])) }
         ensures same { IfErr result (λ same. same ≡ self) }
     {
-        if !self.loaded.is_empty() {
-            return Err(self);
+        let (loaded, previous) = self.unload();
+        if !loaded.is_empty() {
+            return Err(CpuCache { loaded, previous });
         }
-        if !self.previous.is_empty() {
-            return Err(self);
+        if !previous.is_empty() {
+            return Err(CpuCache { loaded, previous });
         }
-        let CpuCache { loaded, previous } = self;
         discard_empty(loaded);
         discard_empty(previous);
         Ok(())

@@ -210,6 +210,7 @@ impl<D: Deed> Depot<D> {
         ensures reaps { IfSome result (λ x. Reaps x (trimmed self.old) self.new) }
         ensures weights { IfSome result (λ x. Loses (depot_rounds self.old) (depot_rounds self.new) x) }
         ensures none { IfNone result (self.new ≡ trimmed self.old) }
+        ensures size { self.new.size ≡ self.old.size }
         ensures stock { IsStocked self.new }
     {
         self.trim();

@@ -202,6 +202,7 @@ fn run_one<D: Deed>(
     ensures most { result.exchanges ≤ 1 }
     ensures shape { IsShaped cpu.new }
     ensures sizes { cpu.new.size ≤ depot.new.size }
+    ensures size { depot.new.size ≡ depot.old.size }
 {
     match op {
         RoundOp::Give(segment) => give_round(alloc, cpu, depot, segment),
@@ -225,6 +226,8 @@ pub fn run_rounds<D: Deed>(
     ensures same { OnErr result (stock cpu.new depot.new ≡ stock cpu.old depot.old) }
     ensures ops { IfErr result (λ same. same ≡ ops) }
     ensures shape { IsShaped cpu.new }
+    ensures sizes { cpu.new.size ≤ depot.new.size }
+    ensures size { depot.new.size ≡ depot.old.size }
 {
     let _ = cpu.size();
     let _ = depot.size();

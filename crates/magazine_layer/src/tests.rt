@@ -50,6 +50,8 @@ fn run(
     ops: Vec<RoundOp<PlainDeed>>,
 ) -> (Vec<u64>, usize)
     requires { cpu.old.size ≤ depot.old.size }
+    ensures sizes { cpu.new.size ≤ depot.new.size }
+    ensures size { depot.new.size ≡ depot.old.size }
 {
     let count = ops.len();
     let RoundRun { answers, exchanges } = match run_rounds(alloc, cpu, depot, ops) {
@@ -136,9 +138,8 @@ fn working_set(rt: HostRuntime) {
         reaps(&rt, &mut depot, Some(base));
     }
     reaps(&rt, &mut depot, None);
-    let two = ops(&rt, alloc, 0, 0, 2);
-    let (taken, _) = run(&rt, alloc, &mut cpu, &mut depot, two);
-    assert_eq!(rt; taken.as_slice(), [7, 6].as_slice());
+    assert_eq!(rt; cpu.take().map(base), Some(7));
+    assert_eq!(rt; cpu.take().map(base), Some(6));
     assert_eq!(rt; depot.resize(3), Err(NotGreater));
     assert_eq!(rt; depot.resize(7), Ok(()));
     let fresh = CpuCache::new(alloc, 3).ok().expect(&rt, "memory");
@@ -151,7 +152,9 @@ fn working_set(rt: HostRuntime) {
 }
 
 // Reaps the round at this base, or none.
-fn reaps(rt: &impl Abort, depot: &mut Depot<PlainDeed>, wanted: Option<u64>) {
+fn reaps(rt: &impl Abort, depot: &mut Depot<PlainDeed>, wanted: Option<u64>)
+    ensures { depot.new.size ≡ depot.old.size }
+{
     match depot.reap() {
         Some(round) => assert_eq!(rt; Some(base(round)), wanted),
         None => assert_eq!(rt; None, wanted),

@@ -1,4 +1,4 @@
-use Rattle.std.proofs.Common.{◌≡◌, ◌+◌, ◌<◌, ◌≤◌, [], vec_len, vec_capacity, arith, sym}
+use Rattle.std.proofs.Common.{◌≡◌, ◌+◌, ◌<◌, ◌≤◌, [], vec_len, vec_capacity, arith, refl, ◌∙◌}
 use Rattle.std.proofs.lemmas.Grind.{common_steps}
 use Rattle.std.specs.Vec.Iter.{into_iter_items, into_iter_len}
 use Rattle.magazine_layer.specs.Rounds.{Runs, stock}
@@ -13,7 +13,7 @@ loop-op-init g c =
     let len : vec_len c.in-Ok.answers + into_iter_len c.into_iter-rest.result ≡ vec_len c.args.ops = omega (arith, c.in-Ok.ensures.len, c.into_iter-rest.ensures.len) in
     let room : vec_len c.args.ops ≤ vec_capacity c.in-Ok.answers = omega (arith, c.in-Ok.ensures.exact) in
     let few : 0 ≤ vec_len c.in-Ok.answers = omega arith in
-    (rw (c.in-Ok.ensures.items, c.into_iter-rest.ensures.rest) (running_start (stock c.args.cpu.now c.args.depot.now) c.args.ops.items), len, room, few, c.requires, c.size.ensures.shape)
+    (rw (c.in-Ok.ensures.items, c.into_iter-rest.ensures.rest) (running_start (stock c.args.cpu.now c.args.depot.now) c.args.ops.items), len, room, few, c.requires, c.size.ensures.shape, refl)
 
 pub loop-op-preserved : goal.loop-op-preserved
 loop-op-preserved g c =
@@ -21,7 +21,7 @@ loop-op-preserved g c =
     let room : vec_len c.args.ops ≤ vec_capacity c.push_reserved.new.self = omega (arith, c.loop-op.invariant.2) in
     let few : c.loop-op.run.exchanges + c.run_one-answer.result.exchanges ≤ vec_len c.push_reserved.new.self = omega (arith, c.loop-op.invariant.3, c.run_one-answer.ensures.most) in
     (running_then _ _ _ _ _ _ _ _ _ _ c.in-Some.op c.run_one-answer.result.answer c.loop-op.invariant.0 c.in-Some.ensures.items c.push_reserved.ensures.items c.run_one-answer.ensures.step,
-    len, room, few, c.run_one-answer.ensures.sizes, c.run_one-answer.ensures.shape)
+    len, room, few, c.run_one-answer.ensures.sizes, c.run_one-answer.ensures.shape, c.run_one-answer.ensures.size ∙ c.loop-op.invariant.6)
 
 pub returns-clause-run : goal.returns-clause-run
 returns-clause-run g c =

@@ -13,6 +13,7 @@ invariant-loop-op g l =
     × (l.run.exchanges ≤ vec_len l.run.answers)
     × (l.cpu.size ≤ l.depot.size)
     × IsShaped l.cpu
+    × (l.depot.size ≡ l.fn.depot.size)
 
 abbrev pub decreases-loop-op : goal.decreases-loop-op
 decreases-loop-op g l = into_iter_len l.rest
