@@ -1,7 +1,7 @@
 -- What a contract sees of a depot, and what its calls do.
 use Rattle.std.specs.Prelude.{◌≡◌, ℕ, ◌+◌, ◌-◌, ◌<◌, ◌≤◌, ◌⊎◌, List, [], ◌∷◌, ◌++◌, length, min, All}
 use Rattle.deed_core.specs.Tag.{Tag}
-use Rattle.magazine_layer.specs.Magazines.{IsSize, CacheState, MagazineState}
+use Rattle.magazine_layer.specs.Magazines.{IsSize, CacheState, MagazineState, cache_rounds}
 
 -- what is known of a list of magazines since the interval began
 pub record Interval : Type 0 where
@@ -70,13 +70,19 @@ all_rounds (m ∷ ms) = m ++ all_rounds ms
 abbrev pub depot_rounds : DepotState → List Tag
 depot_rounds d = all_rounds d.old_full ++ (all_rounds d.full ++ d.draining)
 
+-- all rounds of a CPU's cache and a depot
+abbrev pub both_rounds : CacheState → DepotState → List Tag
+both_rounds c d = cache_rounds c ++ depot_rounds d
+
 -- a depot with no magazine
 abbrev pub new_depot : ℕ → DepotState
-new_depot m = record { size = m; full = []; full_since = beginning 0; empty = 0; empty_since = beginning 0; old_full = []; draining = [] }
+new_depot m =
+    record { size = m; full = []; full_since = beginning 0; empty = 0; empty_since = beginning 0; old_full = []; draining = [] }
 
 -- the depot with these full magazines of its size, and this many empty ones
 abbrev pub with_lists : List (List Tag) → ℕ → DepotState → DepotState
-with_lists full empty d = record d { full = full; full_since = going_on (length full) d.full_since; empty = empty; empty_since = going_on empty d.empty_since }
+with_lists full empty d =
+    record d { full = full; full_since = going_on (length full) d.full_since; empty = empty; empty_since = going_on empty d.empty_since }
 
 -- the newest full magazine is loaded, loaded is the previous one, and that one, which is empty, is the depot's
 pub record SwapsForFull (c c' : CacheState) (d d' : DepotState) : Type 0 where
@@ -109,7 +115,8 @@ resized m d = record (with_lists [] 0 d) { size = m; old_full = d.old_full ++ d.
 
 -- the depot without the empty magazines that may be reaped
 abbrev pub trimmed : DepotState → DepotState
-trimmed d = record d { empty = d.empty - reapable d.empty_since; empty_since = reaping (reapable d.empty_since) d.empty_since }
+trimmed d =
+    record d { empty = d.empty - reapable d.empty_since; empty_since = reaping (reapable d.empty_since) d.empty_since }
 
 -- the oldest magazine of an old size is being drained
 pub record BeginsOld (d d' : DepotState) : Type 0 where

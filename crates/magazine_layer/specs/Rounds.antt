@@ -1,8 +1,8 @@
 -- Runs of operations over a CPU's cache and its depot.
 use Rattle.std.specs.Prelude.{◌≡◌, ◌≢◌, ℕ, ◌+◌, ◌⊎◌, List, [], ◌∷◌, ◌++◌, length}
 use Rattle.deed_core.specs.Tag.{Tag}
-use Rattle.magazine_layer.specs.Magazines.{CacheState, CanGive, Pops, pushed, changed, cache_rounds}
-use Rattle.magazine_layer.specs.Depots.{DepotState, SwapsForFull, SwapsForEmpty, PutsFull, depot_rounds}
+use Rattle.magazine_layer.specs.Magazines.{CacheState, CanGive, Pops, pushed, changed}
+use Rattle.magazine_layer.specs.Depots.{DepotState, SwapsForFull, SwapsForEmpty, PutsFull, both_rounds}
 use Rattle.magazine_layer.specs.declared.rounds.RoundOp.{RoundOp}
 use Rattle.magazine_layer.specs.declared.rounds.RoundOp.TheVariants.{Give, Take}
 use Rattle.magazine_layer.specs.declared.rounds.RoundAnswer.{RoundAnswer}
@@ -18,7 +18,7 @@ stock c d = record { cpu = c; depot = d }
 
 -- the rounds of both
 abbrev pub stock_rounds : Stock → List Tag
-stock_rounds s = cache_rounds s.cpu ++ depot_rounds s.depot
+stock_rounds s = both_rounds s.cpu s.depot
 
 -- a taking, its answer, and the exchanges that it made
 pub data Takes {D : Type 0} (s s' : Stock) (answer : RoundAnswer D) (exchanges : ℕ) : Type 0 where

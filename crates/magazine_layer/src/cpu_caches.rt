@@ -9,7 +9,8 @@ use std::alloc::{AllocError, Global};
 use std::marker::Model;
 use std::mem;
 
-/// What one CPU keeps for one quantum cache: the loaded magazine, and the one loaded before it.
+/// What one CPU keeps for one quantum cache: the loaded magazine, and the one loaded before it, which is
+/// empty or full ("Magazines and Vmem", 2001). It is never dropped.
 pub struct CpuCache<D: Deed> {
     loaded: Magazine<D>,
     previous: Magazine<D>,
@@ -23,7 +24,8 @@ impl<D: Deed> Model for CpuCache<D> {
 
     ghost view = { λ c. record { size = c.loaded.size; loaded = c.loaded.rounds; previous = c.previous.rounds } };
 
-    ghost invariant = { λ c. (c.previous.size ≡ c.loaded.size) × IsShaped (record { size = c.loaded.size; loaded = c.loaded.rounds; previous = c.previous.rounds }) };
+    ghost invariant = { λ c. (c.previous.size ≡ c.loaded.size)
+      × IsShaped (record { size = c.loaded.size; loaded = c.loaded.rounds; previous = c.previous.rounds }) };
 }
 
 // Two empty magazines.
@@ -73,7 +75,8 @@ impl<D: Deed> CpuCache<D> {
         self.previous.units() + self.loaded.units()
     }
 
-    /// Takes the last round of loaded, or of previous where loaded is empty and previous is full.
+    /// Takes the last round of loaded, or of previous where loaded is empty and previous is full. It takes
+    /// no memory.
     #[tactic(auto, using(crate::proofs::Weighing::pops_weigh))]
     pub fn take(&mut self) -> Option<Segment<D>>
         ensures some { IsSome result ↔ CanTake self.old }
@@ -90,7 +93,8 @@ impl<D: Deed> CpuCache<D> {
         self.loaded.take()
     }
 
-    /// Puts a round on loaded, or on previous where loaded is full and previous is empty.
+    /// Puts a round on loaded, or on previous where loaded is full and previous is empty. It takes no
+    /// memory.
     #[tactic(auto, using(crate::proofs::Weighing::pushed_weigh))]
     pub fn give(&mut self, segment: Segment<D>) -> Result<(), Segment<D>>
         ensures ok { IsOk result ↔ CanGive self.old }
@@ -111,7 +115,8 @@ impl<D: Deed> CpuCache<D> {
         Ok(())
     }
 
-    /// Moves all rounds into a loaded magazine of another size.
+    /// Moves all rounds into a loaded magazine of another size, previous's below loaded's, and ends the two
+    /// old magazines. It takes no memory.
     pub fn change(&mut self, loaded: Magazine<D>, previous: Magazine<D>)
         requires loaded { loaded.rounds ≡ [] }
         requires previous { previous.rounds ≡ [] }

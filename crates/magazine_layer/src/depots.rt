@@ -2,8 +2,8 @@
 ghost use Rattle.std.specs.Prelude.{◌≡◌, ◌≢◌, ◌+◌, ◌-◌, ◌^◌, ◌<◌, ◌≤◌, ◌↔◌, ◌⊎◌, ◌++◌, [], ◌∷◌, length, min, IsOk, IsNone, IsSome, IfSome, IfNone, IfOk, IfErr, IsErrAnd, OnOk, OnErr, IsTrue, Ok, Err};
 ghost use Rattle.std.specs.Bool.{OnTrue, OnFalse};
 ghost use Rattle.deed_core.specs.Weights.{WeighSame, Loses};
-ghost use Rattle.magazine_layer.specs.Magazines.{IsSize, IsShaped, cache_rounds, units_of};
-ghost use Rattle.magazine_layer.specs.Depots.{DepotState, SwapsForFull, SwapsForEmpty, PutsFull, CanReap, Begins, Reaps, IsStocked, new_depot, ticked, resized, trimmed, depot_rounds};
+ghost use Rattle.magazine_layer.specs.Magazines.{IsSize, IsShaped, units_of};
+ghost use Rattle.magazine_layer.specs.Depots.{DepotState, SwapsForFull, SwapsForEmpty, PutsFull, CanReap, Begins, Reaps, IsStocked, new_depot, ticked, resized, trimmed, depot_rounds, both_rounds};
 ghost use Rattle.magazine_layer.specs.declared.faults.FullFault.TheVariants.{NoneFull};
 ghost use Rattle.magazine_layer.specs.declared.faults.EmptyFault.TheVariants.{NoneEmpty};
 
@@ -17,7 +17,9 @@ use deed_core::{Deed, Segment};
 use std::alloc::Global;
 use std::marker::Model;
 
-/// The full and the empty magazines that no CPU has. The lists are last in, first out.
+/// The full and the empty magazines that no CPU has. Both lists are last in, first out. For each it keeps
+/// the least length of an interval: what lies below that is outside the working set, and may be reaped
+/// ("Magazines and Vmem", 2001). What is reaped first is our own choice: the oldest.
 pub struct Depot<D: Deed> {
     size: usize,
     full: Vec<FullMagazine<D>>,
@@ -34,15 +36,18 @@ impl<D: Deed> Model for Depot<D> {
 
     ghost Value = { DepotState };
 
-    ghost view = { λ d. record { size = d.size; full = d.full.items; full_since = d.full_since; empty = vec_len d.empty; empty_since = d.empty_since; old_full = d.old_full.items; draining = d.draining.items } };
+    ghost view = { λ d. record { size = d.size; full = d.full.items; full_since = d.full_since; empty = vec_len d.empty;
+      empty_since = d.empty_since; old_full = d.old_full.items; draining = d.draining.items } };
 
-    ghost invariant = { λ d. IsStocked (record { size = d.size; full = d.full.items; full_since = d.full_since; empty = vec_len d.empty; empty_since = d.empty_since; old_full = d.old_full.items; draining = d.draining.items })
+    ghost invariant = { λ d. IsStocked (record { size = d.size; full = d.full.items; full_since = d.full_since; empty = vec_len d.empty;
+        empty_since = d.empty_since; old_full = d.old_full.items; draining = d.draining.items })
       × All (λ m. m ≡ record { size = d.size; rounds = [] }) d.empty.items
-      × HasRoom (vec_len d.full) (vec_len d.empty) (vec_len d.old_full) (vec_capacity d.full) (vec_capacity d.empty) (vec_capacity d.old_full) };
+      × HasRoom (vec_len d.full) (vec_len d.empty) (vec_len d.old_full)
+        (vec_capacity d.full) (vec_capacity d.empty) (vec_capacity d.old_full) };
 }
 
 impl<D: Deed> Depot<D> {
-    /// A depot with no magazine, for magazines of `size` rounds.
+    /// A depot with no magazine, for magazines of `size` rounds. Its interval begins here.
     pub fn new(alloc: Global, size: usize) -> Depot<D>
         requires { IsSize size }
         ensures { result ≡ new_depot size }
@@ -75,13 +80,14 @@ impl<D: Deed> Depot<D> {
             .saturating_add(units_of_rounds(&self.draining))
     }
 
-    /// Gives a CPU whose magazines are both empty a full one for an empty one.
+    /// Gives a CPU whose magazines are both empty a full one for an empty one. It takes no memory, and
+    /// refuses a CPU of another size before it looks for a magazine.
     #[tactic(auto, using(crate::proofs::Weighing::swap_full_weigh))]
     pub fn swap_for_full(&mut self, cpu: &mut CpuCache<D>) -> Result<(), FullFault>
         requires loaded { cpu.old.loaded ≡ [] }
         requires previous { cpu.old.previous ≡ [] }
         ensures ok { OnOk result (SwapsForFull cpu.old cpu.new self.old self.new) }
-        ensures weights { OnOk result (WeighSame (cache_rounds cpu.old ++ depot_rounds self.old) (cache_rounds cpu.new ++ depot_rounds self.new)) }
+        ensures weights { OnOk result (WeighSame (both_rounds cpu.old self.old) (both_rounds cpu.new self.new)) }
         ensures old_size { (result ≡ Err (FullFault.OldSize self.old.size)) ↔ (cpu.old.size ≢ self.old.size) }
         ensures fault { IfErr result (λ e. (e ≡ FullFault.OldSize self.old.size) ⊎ (e ≡ NoneFull)) }
         ensures none_full { (result ≡ Err NoneFull) ↔ ((cpu.old.size ≡ self.old.size) × (self.old.full ≡ [])) }
@@ -103,13 +109,14 @@ impl<D: Deed> Depot<D> {
         Ok(())
     }
 
-    /// Gives a CPU whose magazines are both full an empty one for a full one.
+    /// Gives a CPU whose magazines are both full an empty one for a full one. It takes no memory, and
+    /// refuses a CPU of another size before it looks for a magazine.
     #[tactic(auto, using(crate::proofs::Weighing::swap_empty_weigh))]
     pub fn swap_for_empty(&mut self, cpu: &mut CpuCache<D>) -> Result<(), EmptyFault>
         requires loaded { length cpu.old.loaded ≡ cpu.old.size }
         requires previous { length cpu.old.previous ≡ cpu.old.size }
         ensures ok { OnOk result (SwapsForEmpty cpu.old cpu.new self.old self.new) }
-        ensures weights { OnOk result (WeighSame (cache_rounds cpu.old ++ depot_rounds self.old) (cache_rounds cpu.new ++ depot_rounds self.new)) }
+        ensures weights { OnOk result (WeighSame (both_rounds cpu.old self.old) (both_rounds cpu.new self.new)) }
         ensures old_size { (result ≡ Err (EmptyFault.OldSize self.old.size)) ↔ (cpu.old.size ≢ self.old.size) }
         ensures fault { IfErr result (λ e. (e ≡ EmptyFault.OldSize self.old.size) ⊎ (e ≡ NoneEmpty)) }
         ensures none_empty { (result ≡ Err NoneEmpty) ↔ ((cpu.old.size ≡ self.old.size) × (self.old.empty ≡ 0)) }
@@ -131,7 +138,8 @@ impl<D: Deed> Depot<D> {
         Ok(())
     }
 
-    /// Takes a full magazine of a CPU whose magazines are both full, which gets this one for it.
+    /// Takes a full magazine of a CPU whose magazines are both full, which gets this one for it. It makes the
+    /// room that the other calls need later; want of memory for that is the last thing that it refuses for.
     #[tactic(auto, using(crate::proofs::Weighing::put_full_weigh))]
     pub fn put_full(
         &mut self,
@@ -141,8 +149,9 @@ impl<D: Deed> Depot<D> {
         requires loaded { length cpu.old.loaded ≡ cpu.old.size }
         requires previous { length cpu.old.previous ≡ cpu.old.size }
         ensures ok { OnOk result (PutsFull magazine cpu.old cpu.new self.old self.new) }
-        ensures weights { OnOk result (WeighSame (magazine.rounds ++ (cache_rounds cpu.old ++ depot_rounds self.old)) (cache_rounds cpu.new ++ depot_rounds self.new)) }
-        ensures old_size { IsErrAnd result (λ r. r.fault ≡ PutFault.OldSize self.old.size) ↔ ((cpu.old.size ≢ self.old.size) ⊎ (magazine.size ≢ self.old.size)) }
+        ensures weights { OnOk result (WeighSame (magazine.rounds ++ both_rounds cpu.old self.old) (both_rounds cpu.new self.new)) }
+        ensures old_size { IsErrAnd result (λ r. r.fault ≡ PutFault.OldSize self.old.size)
+          ↔ ((cpu.old.size ≢ self.old.size) ⊎ (magazine.size ≢ self.old.size)) }
         ensures fault { IfErr result (λ r. (r.fault ≡ PutFault.OldSize self.old.size) ⊎ (r.fault ≡ PutFault.NoMemory)) }
         ensures magazine { IfErr result (λ r. r.magazine ≡ magazine) }
         ensures same { OnErr result (self.new ≡ self.old) }
@@ -169,7 +178,7 @@ impl<D: Deed> Depot<D> {
         Ok(())
     }
 
-    /// Begins an interval.
+    /// Begins an interval: both least lengths are the present ones.
     pub fn tick(&mut self)
         ensures ticked { self.new ≡ ticked self.old }
         ensures stock { IsStocked self.new }
@@ -178,7 +187,8 @@ impl<D: Deed> Depot<D> {
         self.empty_since = Interval::begin(self.empty.len());
     }
 
-    /// Asks for magazines of a greater size from here on.
+    /// Has magazines of a greater size from here on. The full ones are reaped before any other from now on,
+    /// and the empty ones are discarded.
     #[tactic(auto, using(crate::proofs::Weighing::resized_weigh))]
     pub fn resize(&mut self, size: usize) -> Result<(), NotGreater>
         requires { IsSize size }
@@ -203,7 +213,8 @@ impl<D: Deed> Depot<D> {
         Ok(())
     }
 
-    /// Takes one round of what lies outside the working set, and discards the empty magazines that do.
+    /// Takes one round of the magazine being drained, else of the oldest full one of an old size, else of the
+    /// oldest full one outside the working set; and discards the empty ones outside it. It takes no memory.
     #[tactic(auto, using(crate::proofs::Weighing::reaps_weigh))]
     pub fn reap(&mut self) -> Option<Segment<D>>
         ensures some { IsSome result ↔ CanReap self.old }

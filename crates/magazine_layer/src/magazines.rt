@@ -7,7 +7,8 @@ use deed_core::{Deed, Segment};
 use std::alloc::{AllocError, Global};
 use std::marker::Model;
 
-/// A stack of segments, the rounds. It is never dropped.
+/// A stack of segments, its rounds ("Magazines and Vmem", 2001). It holds 3, 7, 15 or 31 of them, which is
+/// our own choice: all rounds of two magazines have room in one of the next size. It is never dropped.
 pub struct Magazine<D: Deed> {
     size: usize,
     rounds: Vec<Segment<D>>,

@@ -3,8 +3,8 @@ ghost use Rattle.std.specs.Prelude.{◌≡◌, ◌≢◌, ◌+◌, ◌/◌, ◌<
 ghost use Rattle.std.specs.Bool.{OnTrue, OnFalse};
 ghost use Rattle.deed_core.specs.Weights.{WeighSame};
 ghost use Rattle.magazine_layer.specs.Magazines.{IsSize, IsShaped, CanGive, cache_rounds, changed};
-ghost use Rattle.magazine_layer.specs.Depots.{PutsFull};
-ghost use Rattle.magazine_layer.specs.Rounds.{Stock, Takes, Gives, MakesRoom, IsFullUp, NeedsMemory, Steps, Runs, stock, stock_rounds, all_brought, all_handed};
+ghost use Rattle.magazine_layer.specs.Depots.{both_rounds};
+ghost use Rattle.magazine_layer.specs.Rounds.{Stock, Takes, Gives, MakesRoom, IsFullUp, NeedsMemory, Steps, Runs, stock, all_brought, all_handed};
 
 use crate::cpu_caches::{CpuCache, two_empty};
 use crate::depots::Depot;
@@ -210,8 +210,9 @@ fn run_one<D: Deed>(
     }
 }
 
-/// Runs operations in order: each gives a round to the CPU's cache or takes one from it, and goes to the
-/// depot where the cache is full or empty. Want of memory for the answers hands the operations back.
+/// Runs operations in order. Each takes a round from the CPU's cache or gives it one, and where the cache is
+/// empty or full it first exchanges a magazine with the depot, or changes over to the depot's size. The
+/// depot's size is at least the cache's. Want of memory for the answers hands the operations back.
 pub fn run_rounds<D: Deed>(
     alloc: Global,
     cpu: &mut CpuCache<D>,
@@ -219,8 +220,10 @@ pub fn run_rounds<D: Deed>(
     ops: Vec<RoundOp<D>>,
 ) -> Result<RoundRun<D>, Vec<RoundOp<D>>>
     requires { cpu.old.size ≤ depot.old.size }
-    ensures run { IfOk result (λ r. Runs (stock cpu.old depot.old) ops.items r.answers.items (stock cpu.new depot.new) r.exchanges) }
-    ensures weights { IfOk result (λ r. WeighSame (stock_rounds (stock cpu.old depot.old) ++ all_brought ops.items) (stock_rounds (stock cpu.new depot.new) ++ all_handed r.answers.items)) }
+    ensures run { IfOk result (λ r. Runs (stock cpu.old depot.old) ops.items r.answers.items
+      (stock cpu.new depot.new) r.exchanges) }
+    ensures weights { IfOk result (λ r. WeighSame (both_rounds cpu.old depot.old ++ all_brought ops.items)
+      (both_rounds cpu.new depot.new ++ all_handed r.answers.items)) }
     ensures few { IfOk result (λ r. r.exchanges ≤ 1 + vec_len ops / depot.old.size) }
     ensures answers { IfOk result (λ r. vec_len r.answers ≡ vec_len ops) }
     ensures same { OnErr result (stock cpu.new depot.new ≡ stock cpu.old depot.old) }
