@@ -1,10 +1,9 @@
 -- How many exchanges a run makes: between two of them lie as many operations as a magazine has rounds.
-use Rattle.std.proofs.Common.{◌≡◌, ℕ, ◌+◌, ◌-◌, ◌*◌, ◌/◌, ◌<◌, ◌≤◌, ◌≢◌, ◌⊎◌, Bool, true, false, zero, suc, List, [], ◌∷◌, ◌++◌, length, if◌then◌else◌, ◌==◌, inl, inr, arith, refl, ap, sym, ◌∙◌, length-append}
+use Rattle.std.proofs.Common.{◌≡◌, ℕ, ◌+◌, ◌-◌, ◌*◌, ◌/◌, ◌<◌, ◌≤◌, ◌⊎◌, Bool, true, false, zero, suc, List, [], ◌∷◌, length, if◌then◌else◌, ◌==◌, inl, inr, arith, refl, ap, sym, ◌∙◌, length-append}
 use Rattle.std.proofs.Math.Nat.{le-div_iff_mul-le}
 use Rattle.deed_core.specs.Tag.{Tag}
-use Rattle.magazine_layer.specs.Magazines.{CacheState, MagazineState, IsShaped, Pops, cache_rounds, exchanged, loaded_with, to_take, to_give, pushed, changed}
-use Rattle.magazine_layer.specs.Depots.{DepotState, SwapsForFull, SwapsForEmpty, PutsFull}
-use Rattle.magazine_layer.specs.Rounds.{Stock, Takes, Own_taken, Swapped, None_full, Old_size, MakesRoom, By_empty, By_new, By_change, Gives, Own_given, Made, No_room, IsFullUp, Steps, Runs, Start, Then, stock}
+use Rattle.magazine_layer.specs.Magazines.{CacheState, IsShaped, Pops, cache_rounds, exchanged, loaded_with, to_give, pushed}
+use Rattle.magazine_layer.specs.Rounds.{Stock, Takes, Own_taken, Swapped, None_full, Old_size, MakesRoom, By_empty, By_new, By_change, Gives, Own_given, Made, No_room, IsFullUp, Steps, Runs, Start, Then}
 use Rattle.magazine_layer.specs.declared.rounds.RoundOp.{RoundOp}
 use Rattle.magazine_layer.specs.declared.rounds.RoundOp.TheVariants.{Give, Take}
 use Rattle.magazine_layer.specs.declared.rounds.RoundAnswer.{RoundAnswer}

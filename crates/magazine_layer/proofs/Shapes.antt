@@ -1,5 +1,5 @@
 -- What the shape of a CPU's cache says.
-use Rattle.std.proofs.Common.{◌≡◌, ℕ, ◌+◌, ◌-◌, ◌*◌, ◌<◌, ◌≤◌, ◌≢◌, ◌⊎◌, List, [], ◌∷◌, ◌++◌, length, inl, inr, arith, refl, length-append, ap, sym, ◌∙◌}
+use Rattle.std.proofs.Common.{◌≡◌, ℕ, ◌<◌, ◌≤◌, ◌≢◌, List, [], ◌∷◌, length, inl, inr, arith, refl, length-append}
 use Rattle.deed_core.specs.Tag.{Tag}
 use Rattle.magazine_layer.specs.Magazines.{IsSize, CacheState, IsShaped, CanTake, CanGive, cache_rounds}
 use Rattle.magazine_layer.specs.Rounds.{IsFullUp}

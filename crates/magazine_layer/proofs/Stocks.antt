@@ -1,9 +1,9 @@
 -- What a depot's calls keep of its lists.
-use Rattle.std.proofs.Common.{◌≡◌, ℕ, ◌+◌, ◌-◌, ◌<◌, ◌≤◌, ◌⊎◌, List, [], ◌∷◌, ◌++◌, length, All, min, arith, ap, length-append, refl, sym, ◌∙◌, Some}
+use Rattle.std.proofs.Common.{◌≡◌, ℕ, ◌+◌, ◌<◌, ◌≤◌, List, [], ◌∷◌, ◌++◌, length, All, arith, ap, length-append, Some}
 use Rattle.std.proofs.lemmas.List.Elements.{All-append, All-push, All-pop, All-rest, All-nil, All-head, All-weaker}
 use Rattle.deed_core.specs.Tag.{Tag}
 use Rattle.magazine_layer.specs.Magazines.{IsSize, MagazineState}
-use Rattle.magazine_layer.specs.Depots.{Interval, DepotState, IsStocked, HasRoom, IsSince, beginning, going_on, reaping, reapable, with_lists, ticked, resized, trimmed, all_rounds, depot_rounds}
+use Rattle.magazine_layer.specs.Depots.{Interval, DepotState, IsStocked, HasRoom, IsSince, going_on, reaping, reapable, with_lists, resized, all_rounds, depot_rounds}
 
 pub since_going_on : (n m : ℕ) (i : Interval) → IsSince n i → IsSince m (going_on m i)
 since_going_on n m i since = record { within = omega (arith, since.within); standing = omega arith }

@@ -1,16 +1,15 @@
 -- No call makes or loses a round, however rounds are weighed.
-use Rattle.std.proofs.Common.{◌≡◌, ℕ, ◌+◌, ◌⊎◌, Bool, true, false, List, [], ◌∷◌, ◌++◌, length, if◌then◌else◌, ◌==◌, ◌<◌, take, get_or, min, inl, inr, arith, refl, ap, sym, ◌∙◌, sum_by}
+use Rattle.std.proofs.Common.{◌≡◌, ℕ, ◌+◌, Bool, true, false, List, [], ◌∷◌, ◌++◌, length, if◌then◌else◌, ◌==◌, ◌<◌, take, get_or, min, inl, inr, arith, refl, ap, sym, ◌∙◌, sum_by}
 use Rattle.std.proofs.lemmas.List.{take_more}
 use Rattle.std.proofs.lemmas.List.Sums.{sum_by-append, sum_by-cons, sum_by_push}
 use Rattle.deed_core.specs.Tag.{Tag}
 use Rattle.deed_core.specs.Weights.{WeighSame, Gains, Loses}
-use Rattle.magazine_layer.specs.Magazines.{CacheState, MagazineState, Pops, cache_rounds, exchanged, loaded_with, to_take, to_give, pushed, changed}
-use Rattle.magazine_layer.specs.Depots.{DepotState, SwapsForFull, SwapsForEmpty, PutsFull, BeginsOld, BeginsFull, Begins, Drains, Reaps, all_rounds, depot_rounds, resized, trimmed}
+use Rattle.magazine_layer.specs.Magazines.{CacheState, MagazineState, Pops, cache_rounds, exchanged, loaded_with, to_give, pushed}
+use Rattle.magazine_layer.specs.Depots.{DepotState, SwapsForFull, SwapsForEmpty, PutsFull, Begins, Drains, Reaps, all_rounds, depot_rounds, resized, trimmed}
 use Rattle.magazine_layer.specs.Rounds.{Stock, Takes, Own_taken, Swapped, None_full, Old_size, MakesRoom, By_empty, By_new, By_change, Gives, Own_given, Made, No_room, Steps, Runs, Start, Then, stock, stock_rounds, brought, all_brought, handed, all_handed}
 use Rattle.magazine_layer.specs.declared.rounds.RoundOp.{RoundOp}
 use Rattle.magazine_layer.specs.declared.rounds.RoundOp.TheVariants.{Give, Take}
 use Rattle.magazine_layer.specs.declared.rounds.RoundAnswer.{RoundAnswer}
-use Rattle.magazine_layer.specs.declared.rounds.RoundAnswer.TheVariants.{Kept, Refused, Taken, Nothing}
 
 pub last_weighs : (xs ys : List Tag) (x : Tag) → xs ≡ ys ++ x ∷ [] → Loses xs ys x
 last_weighs xs ys x is f = ap (sum_by f) is ∙ sum_by_push f ys x

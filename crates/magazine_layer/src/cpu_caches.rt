@@ -25,7 +25,7 @@ impl<D: Deed> Model for CpuCache<D> {
     ghost view = { λ c. record { size = c.loaded.size; loaded = c.loaded.rounds; previous = c.previous.rounds } };
 
     ghost invariant = { λ c. (c.previous.size ≡ c.loaded.size)
-      × IsShaped (record { size = c.loaded.size; loaded = c.loaded.rounds; previous = c.previous.rounds }) };
+        × IsShaped (record { size = c.loaded.size; loaded = c.loaded.rounds; previous = c.previous.rounds }) };
 }
 
 // Two empty magazines.

@@ -36,13 +36,27 @@ impl<D: Deed> Model for Depot<D> {
 
     ghost Value = { DepotState };
 
-    ghost view = { λ d. record { size = d.size; full = d.full.items; full_since = d.full_since; empty = vec_len d.empty;
-      empty_since = d.empty_since; old_full = d.old_full.items; draining = d.draining.items } };
+    ghost view = { λ d. record {
+      size = d.size;
+      full = d.full.items;
+      full_since = d.full_since;
+      empty = vec_len d.empty;
+      empty_since = d.empty_since;
+      old_full = d.old_full.items;
+      draining = d.draining.items;
+    } };
 
-    ghost invariant = { λ d. IsStocked (record { size = d.size; full = d.full.items; full_since = d.full_since; empty = vec_len d.empty;
-        empty_since = d.empty_since; old_full = d.old_full.items; draining = d.draining.items })
-      × All (λ m. m ≡ record { size = d.size; rounds = [] }) d.empty.items
-      × HasRoom (vec_len d.full) (vec_len d.empty) (vec_len d.old_full)
+    ghost invariant = { λ d. IsStocked (record {
+      size = d.size;
+      full = d.full.items;
+      full_since = d.full_since;
+      empty = vec_len d.empty;
+      empty_since = d.empty_since;
+      old_full = d.old_full.items;
+      draining = d.draining.items;
+    })
+        × All (λ m. m ≡ record { size = d.size; rounds = [] }) d.empty.items
+        × HasRoom (vec_len d.full) (vec_len d.empty) (vec_len d.old_full)
         (vec_capacity d.full) (vec_capacity d.empty) (vec_capacity d.old_full) };
 }
 
@@ -151,7 +165,7 @@ impl<D: Deed> Depot<D> {
         ensures ok { OnOk result (PutsFull magazine cpu.old cpu.new self.old self.new) }
         ensures weights { OnOk result (WeighSame (magazine.rounds ++ both_rounds cpu.old self.old) (both_rounds cpu.new self.new)) }
         ensures old_size { IsErrAnd result (λ r. r.fault ≡ PutFault.OldSize self.old.size)
-          ↔ ((cpu.old.size ≢ self.old.size) ⊎ (magazine.size ≢ self.old.size)) }
+            ↔ ((cpu.old.size ≢ self.old.size) ⊎ (magazine.size ≢ self.old.size)) }
         ensures fault { IfErr result (λ r. (r.fault ≡ PutFault.OldSize self.old.size) ⊎ (r.fault ≡ PutFault.NoMemory)) }
         ensures magazine { IfErr result (λ r. r.magazine ≡ magazine) }
         ensures same { OnErr result (self.new ≡ self.old) }

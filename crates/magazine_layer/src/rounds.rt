@@ -6,11 +6,10 @@ ghost use Rattle.magazine_layer.specs.Magazines.{IsSize, IsShaped, CanGive, cach
 ghost use Rattle.magazine_layer.specs.Depots.{both_rounds};
 ghost use Rattle.magazine_layer.specs.Rounds.{Stock, Takes, Gives, MakesRoom, IsFullUp, NeedsMemory, Steps, Runs, stock, all_brought, all_handed};
 
-use crate::cpu_caches::{CpuCache, two_empty};
+use crate::cpu_caches::{CpuCache, discard_empty, two_empty};
 use crate::depots::Depot;
 use crate::faults::{EmptyFault, FullFault, PutRefused};
 use crate::magazines::Magazine;
-use crate::cpu_caches::discard_empty;
 use deed_core::{Deed, Segment};
 use std::alloc::Global;
 
@@ -221,9 +220,9 @@ pub fn run_rounds<D: Deed>(
 ) -> Result<RoundRun<D>, Vec<RoundOp<D>>>
     requires { cpu.old.size ≤ depot.old.size }
     ensures run { IfOk result (λ r. Runs (stock cpu.old depot.old) ops.items r.answers.items
-      (stock cpu.new depot.new) r.exchanges) }
+        (stock cpu.new depot.new) r.exchanges) }
     ensures weights { IfOk result (λ r. WeighSame (both_rounds cpu.old depot.old ++ all_brought ops.items)
-      (both_rounds cpu.new depot.new ++ all_handed r.answers.items)) }
+        (both_rounds cpu.new depot.new ++ all_handed r.answers.items)) }
     ensures few { IfOk result (λ r. r.exchanges ≤ 1 + vec_len ops / depot.old.size) }
     ensures answers { IfOk result (λ r. vec_len r.answers ≡ vec_len ops) }
     ensures same { OnErr result (stock cpu.new depot.new ≡ stock cpu.old depot.old) }

@@ -1,7 +1,9 @@
 //! Worked runs at M 3.
 ghost use Rattle.std.specs.Prelude.{◌≡◌, ◌≤◌, []};
 
-use crate::{CpuCache, Depot, FullFault, Magazine, NotGreater, RoundAnswer, RoundOp, RoundRun, run_rounds};
+use crate::{
+    CpuCache, Depot, FullFault, Magazine, NotGreater, RoundAnswer, RoundOp, RoundRun, run_rounds,
+};
 use deed_core::{PlainDeed, Range, Route, Segment};
 use std::alloc::Global;
 use std::process::Abort;

@@ -1,4 +1,4 @@
-use Rattle.std.proofs.Common.{◌≡◌, ◌+◌, ◌<◌, min, take, length, arith, ap, ◌∙◌}
+use Rattle.std.proofs.Common.{◌+◌, ◌<◌, min, take, length, arith, ap, ◌∙◌}
 use Rattle.magazine_layer.specs.Magazines.{units_in, units_of}
 use Rattle.magazine_layer.specs.Depots.{all_rounds}
 use Rattle.magazine_layer.proofs.Weighing.{all_rounds-more, capped}

@@ -1,4 +1,4 @@
-use Rattle.std.proofs.Common.{◌≡◌, ◌+◌, [], drop, vec_len, vec_capacity}
+use Rattle.std.proofs.Common.{◌≡◌, ◌+◌, drop, vec_len, vec_capacity}
 use Rattle.magazine_layer.proofs.lists.discard_oldest.Given as goal
 
 abbrev pub invariant-loop-done : goal.invariant-loop-done

@@ -1,6 +1,5 @@
-use Rattle.std.proofs.Common.{◌≡◌, ap, sym, refl}
-use Rattle.magazine_layer.specs.Magazines.{CanGive}
-use Rattle.magazine_layer.specs.Rounds.{Made, IsFullUp, MakesRoom, stock}
+use Rattle.std.proofs.Common.{◌≡◌, refl}
+use Rattle.magazine_layer.specs.Rounds.{Made, IsFullUp, stock}
 use Rattle.magazine_layer.proofs.Shapes.{full_up}
 use Rattle.magazine_layer.proofs.rounds.give_round.Goals as goal
 

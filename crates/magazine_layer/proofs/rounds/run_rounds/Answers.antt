@@ -1,7 +1,7 @@
-use Rattle.std.proofs.Common.{◌≡◌, ◌+◌, ◌<◌, ◌≤◌, [], vec_len, vec_capacity, arith, refl, ◌∙◌}
+use Rattle.std.proofs.Common.{◌≡◌, ◌+◌, ◌≤◌, [], vec_len, vec_capacity, arith, refl, ◌∙◌}
 use Rattle.std.proofs.lemmas.Grind.{common_steps}
 use Rattle.std.specs.Vec.Iter.{into_iter_items, into_iter_len}
-use Rattle.magazine_layer.specs.Rounds.{Runs, stock}
+use Rattle.magazine_layer.specs.Rounds.{stock}
 use Rattle.magazine_layer.proofs.Bounds.{runs_few}
 use Rattle.magazine_layer.proofs.Running.{running_start, running_then, running_end}
 use Rattle.magazine_layer.proofs.Stocks.{size_some}
@@ -19,9 +19,15 @@ pub loop-op-preserved : goal.loop-op-preserved
 loop-op-preserved g c =
     let len : vec_len c.push_reserved.new.self + into_iter_len c.next.new.self ≡ vec_len c.args.ops = omega (arith, c.loop-op.invariant.1, c.in-Some.ensures.len) in
     let room : vec_len c.args.ops ≤ vec_capacity c.push_reserved.new.self = omega (arith, c.loop-op.invariant.2) in
-    let few : c.loop-op.run.exchanges + c.run_one-answer.result.exchanges ≤ vec_len c.push_reserved.new.self = omega (arith, c.loop-op.invariant.3, c.run_one-answer.ensures.most) in
-    (running_then _ _ _ _ _ _ _ _ _ _ c.in-Some.op c.run_one-answer.result.answer c.loop-op.invariant.0 c.in-Some.ensures.items c.push_reserved.ensures.items c.run_one-answer.ensures.step,
-    len, room, few, c.run_one-answer.ensures.sizes, c.run_one-answer.ensures.shape, c.run_one-answer.ensures.size ∙ c.loop-op.invariant.6)
+    let few : c.loop-op.run.exchanges + c.run_one-answer.result.exchanges ≤ vec_len c.push_reserved.new.self = omega (arith, c.loop-op.invariant.3, c.run_one-answer.ensures.most) in (
+      running_then _ _ _ _ _ _ _ _ _ _ c.in-Some.op c.run_one-answer.result.answer c.loop-op.invariant.0 c.in-Some.ensures.items c.push_reserved.ensures.items c.run_one-answer.ensures.step,
+      len,
+      room,
+      few,
+      c.run_one-answer.ensures.sizes,
+      c.run_one-answer.ensures.shape,
+      c.run_one-answer.ensures.size ∙ c.loop-op.invariant.6,
+    )
 
 pub returns-clause-run : goal.returns-clause-run
 returns-clause-run g c =

@@ -1,6 +1,5 @@
-use Rattle.std.proofs.Common.{◌≡◌, ◌≢◌, [], inl, inr, Err, ap, refl}
-use Rattle.magazine_layer.specs.Magazines.{CanTake}
-use Rattle.magazine_layer.specs.Rounds.{Own_taken, Swapped, Old_size, stock}
+use Rattle.std.proofs.Common.{◌≡◌, inl, inr, Err, ap, refl}
+use Rattle.magazine_layer.specs.Rounds.{Own_taken, Swapped, Old_size}
 use Rattle.magazine_layer.specs.declared.faults.FullFault.TheVariants.{OldSize}
 use Rattle.magazine_layer.proofs.Shapes.{out_of_rounds}
 use Rattle.magazine_layer.proofs.rounds.take_round.Goals as goal

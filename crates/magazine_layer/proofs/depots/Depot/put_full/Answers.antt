@@ -1,8 +1,7 @@
 use Rattle.std.proofs.Common.{◌≡◌, ◌++◌, ◌+◌, ◌∷◌, [], length, vec_len, ap, sym, ◌∙◌, refl}
-use Rattle.magazine_layer.specs.Magazines.{CacheState, MagazineState}
-use Rattle.magazine_layer.specs.Depots.{SwapsForFull, SwapsForEmpty, IsStocked, DepotState, going_on, reaping, reapable, resized}
+use Rattle.magazine_layer.specs.Depots.{going_on}
 use Rattle.magazine_layer.proofs.Weighing.{put_full_weigh}
-use Rattle.magazine_layer.proofs.Stocks.{stocked_with, whole_pop, whole_push, empty_push, empty_pop, room_swap, room_back, room_put, room_first, room_old, room_resize, stocked_old, stocked_first, stocked_resize}
+use Rattle.magazine_layer.proofs.Stocks.{stocked_with, whole_push, room_put}
 use Rattle.magazine_layer.proofs.depots.Depot.put_full.Goals as goal
 
 pub invariant_of-self-2 : goal.invariant_of-self-2
@@ -12,10 +11,11 @@ invariant_of-self-2 g c =
     let size : c.args.cpu.now.size ≡ c.self.inside.size = sym c.size.ensures.value ∙ c.if-size-self.false in
     let same : c.new.result ≡ c.args.cpu.now.previous = c.new.ensures ∙ ap (λ m. m.rounds) c.rotate-full.ensures.out in
     let items : c.push_reserved.new.self.items ≡ c.self.inside.full.items ++ c.new.result ∷ [] = rw (← c.reserve_one.ensures.full_items) c.push_reserved.ensures.items in
-    let whole = whole_push c.self.inside.size c.self.inside.full.items c.push_reserved.new.self.items c.new.result items (ap length same ∙ c.requires.previous ∙ size) c.self.invariant.0.whole in
-    (rw (full_since, empty_since, c.reserve_one.ensures.old_items) (stocked_with c.push_reserved.new.self.items (vec_len c.reserve_one.new.empty) _ whole c.self.invariant.0),
-    rw c.reserve_one.ensures.empty_items c.self.invariant.1,
-    room_put _ _ _ _ _ _ _ _ _ _ c.in-Ok.ensures.full_room c.in-Ok.ensures.empty_room c.in-Ok.ensures.old_room (c.push_reserved.ensures.len ∙ ap (λ n. n + 1) c.in-Ok.ensures.full_len) c.in-Ok.ensures.empty_len c.in-Ok.ensures.old_len c.push_reserved.ensures.capacity)
+    let whole = whole_push c.self.inside.size c.self.inside.full.items c.push_reserved.new.self.items c.new.result items (ap length same ∙ c.requires.previous ∙ size) c.self.invariant.0.whole in (
+      rw (full_since, empty_since, c.reserve_one.ensures.old_items) (stocked_with c.push_reserved.new.self.items (vec_len c.reserve_one.new.empty) _ whole c.self.invariant.0),
+      rw c.reserve_one.ensures.empty_items c.self.invariant.1,
+      room_put _ _ _ _ _ _ _ _ _ _ c.in-Ok.ensures.full_room c.in-Ok.ensures.empty_room c.in-Ok.ensures.old_room (c.push_reserved.ensures.len ∙ ap (λ n. n + 1) c.in-Ok.ensures.full_len) c.in-Ok.ensures.empty_len c.in-Ok.ensures.old_len c.push_reserved.ensures.capacity,
+    )
 
 pub returns-clause-stock : goal.returns-clause-stock
 returns-clause-stock g c = (invariant_of-self-2 g c).0

@@ -1,16 +1,16 @@
-use Rattle.std.proofs.Common.{◌≡◌, ◌<◌, [], length, vec_len, drop, sum_by, arith, ap, sym, ◌∙◌, refl}
-use Rattle.magazine_layer.specs.Magazines.{CacheState, MagazineState}
-use Rattle.magazine_layer.specs.Depots.{SwapsForFull, SwapsForEmpty, IsStocked, DepotState, going_on, reaping, reapable, resized, depot_rounds}
+use Rattle.std.proofs.Common.{◌≡◌, vec_len, sum_by, arith, ap, sym, ◌∙◌, refl}
+use Rattle.magazine_layer.specs.Depots.{depot_rounds}
 use Rattle.magazine_layer.proofs.Weighing.{resized_weigh}
-use Rattle.magazine_layer.proofs.Stocks.{stocked_with, whole_pop, whole_push, empty_push, empty_pop, room_swap, room_back, room_put, room_first, room_old, room_resize, stocked_old, stocked_first, stocked_resize}
+use Rattle.magazine_layer.proofs.Stocks.{room_resize, stocked_resize}
 use Rattle.magazine_layer.proofs.depots.Depot.resize.Goals as goal
 
 pub invariant_of-self : goal.invariant_of-self
 invariant_of-self g c =
-    let none : vec_len c.discard_oldest.new.empty ≡ 0 = omega arith in
-    (rw (c.go_on-self-inside.ensures, c.go_on-self-inside-2.ensures, c.in-Ok.ensures.items, c.in-Ok.ensures.other_items, none) (stocked_resize _ c.args.size c.requires c.self.invariant.0),
-    (λ k d below. absurd (omega (arith, c.discard_oldest.new.empty.ok.0))),
-    room_resize _ _ _ _ _ _ _ _ _ _ _ _ c.self.invariant.2 c.in-Ok.ensures.other_len none c.in-Ok.ensures.len c.in-Ok.ensures.other_capacity c.discard_oldest.ensures.capacity c.in-Ok.ensures.capacity)
+    let none : vec_len c.discard_oldest.new.empty ≡ 0 = omega arith in (
+      rw (c.go_on-self-inside.ensures, c.go_on-self-inside-2.ensures, c.in-Ok.ensures.items, c.in-Ok.ensures.other_items, none) (stocked_resize _ c.args.size c.requires c.self.invariant.0),
+      (λ k d below. absurd (omega (arith, c.discard_oldest.new.empty.ok.0))),
+      room_resize _ _ _ _ _ _ _ _ _ _ _ _ c.self.invariant.2 c.in-Ok.ensures.other_len none c.in-Ok.ensures.len c.in-Ok.ensures.other_capacity c.discard_oldest.ensures.capacity c.in-Ok.ensures.capacity,
+    )
 
 pub returns-clause-resized : goal.returns-clause-resized
 returns-clause-resized g c =

@@ -1,8 +1,7 @@
 use Rattle.std.proofs.Common.{◌≡◌, ◌++◌, ◌∷◌, [], length, vec_len, ap, sym, ◌∙◌, refl}
-use Rattle.magazine_layer.specs.Magazines.{CacheState, MagazineState}
-use Rattle.magazine_layer.specs.Depots.{SwapsForFull, SwapsForEmpty, IsStocked, DepotState, going_on, reaping, reapable, resized}
+use Rattle.magazine_layer.specs.Depots.{going_on}
 use Rattle.magazine_layer.proofs.Weighing.{swap_empty_weigh}
-use Rattle.magazine_layer.proofs.Stocks.{stocked_with, whole_pop, whole_push, empty_push, empty_pop, room_swap, room_back, room_put, room_first, room_old, room_resize, stocked_old, stocked_first, stocked_resize}
+use Rattle.magazine_layer.proofs.Stocks.{stocked_with, whole_push, empty_pop, room_back}
 use Rattle.magazine_layer.proofs.depots.Depot.swap_for_empty.Goals as goal
 
 pub invariant_of-self-2 : goal.invariant_of-self-2
@@ -11,10 +10,11 @@ invariant_of-self-2 g c =
     let empty_since : c.go_on-self-inside-2.result ≡ going_on (vec_len c.pop.new.self) c.self.inside.empty_since = c.go_on-self-inside-2.ensures ∙ ap (λ n. going_on n c.self.inside.empty_since) c.len-2.ensures in
     let size : c.args.cpu.now.size ≡ c.self.inside.size = sym c.size.ensures.value ∙ c.if-size-self.false in
     let same : c.new.result ≡ c.args.cpu.now.previous = c.new.ensures ∙ ap (λ m. m.rounds) c.rotate-full.ensures.out in
-    let whole = whole_push c.self.inside.size c.self.inside.full.items c.push_reserved.new.self.items c.new.result c.push_reserved.ensures.items (ap length same ∙ c.requires.previous ∙ size) c.self.invariant.0.whole in
-    (rw (full_since, empty_since) (stocked_with c.push_reserved.new.self.items (vec_len c.pop.new.self) _ whole c.self.invariant.0),
-    (empty_pop c.self.inside.size c.self.inside.empty.items c.pop.new.self.items c.in-Some.empty c.in-Some.ensures.items c.self.invariant.1).0,
-    room_back _ _ _ _ _ _ _ _ _ _ c.self.invariant.2 c.push_reserved.ensures.len c.in-Some.ensures.len c.push_reserved.ensures.capacity c.in-Some.ensures.capacity)
+    let whole = whole_push c.self.inside.size c.self.inside.full.items c.push_reserved.new.self.items c.new.result c.push_reserved.ensures.items (ap length same ∙ c.requires.previous ∙ size) c.self.invariant.0.whole in (
+      rw (full_since, empty_since) (stocked_with c.push_reserved.new.self.items (vec_len c.pop.new.self) _ whole c.self.invariant.0),
+      (empty_pop c.self.inside.size c.self.inside.empty.items c.pop.new.self.items c.in-Some.empty c.in-Some.ensures.items c.self.invariant.1).0,
+      room_back _ _ _ _ _ _ _ _ _ _ c.self.invariant.2 c.push_reserved.ensures.len c.in-Some.ensures.len c.push_reserved.ensures.capacity c.in-Some.ensures.capacity,
+    )
 
 pub returns-clause-ok : goal.returns-clause-ok
 returns-clause-ok g c =

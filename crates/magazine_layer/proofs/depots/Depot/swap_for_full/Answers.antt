@@ -1,6 +1,5 @@
 use Rattle.std.proofs.Common.{◌≡◌, [], length, vec_len, ap, sym, ◌∙◌, refl}
-use Rattle.magazine_layer.specs.Magazines.{CacheState, MagazineState}
-use Rattle.magazine_layer.specs.Depots.{SwapsForFull, IsStocked, going_on}
+use Rattle.magazine_layer.specs.Depots.{going_on}
 use Rattle.magazine_layer.proofs.Weighing.{swap_full_weigh}
 use Rattle.magazine_layer.proofs.Stocks.{stocked_with, whole_pop, empty_push, room_swap}
 use Rattle.magazine_layer.proofs.depots.Depot.swap_for_full.Goals as goal
@@ -11,10 +10,11 @@ invariant_of-self-2 g c =
     let full_since : c.go_on-self-inside.result ≡ going_on (length c.pop.new.self.items) c.self.inside.full_since = c.go_on-self-inside.ensures ∙ ap (λ n. going_on n c.self.inside.full_since) (c.len.ensures ∙ c.pop.new.self.ok.0) in
     let empty_since : c.go_on-self-inside-2.result ≡ going_on (vec_len c.push_reserved.new.self) c.self.inside.empty_since = c.go_on-self-inside-2.ensures ∙ ap (λ n. going_on n c.self.inside.empty_since) c.len-2.ensures in
     let size : c.args.cpu.now.size ≡ c.self.inside.size = sym c.size.ensures.value ∙ c.if-size-self.false in
-    let out : c.rotate-empty.result ≡ record { size = c.self.inside.size; rounds = [] } = rw (c.rotate-empty.ensures.out, size, c.requires.previous) refl in
-    (rw (full_since, empty_since) (stocked_with c.pop.new.self.items (vec_len c.push_reserved.new.self) _ whole.0 c.self.invariant.0),
-    empty_push c.self.inside.size c.self.inside.empty.items c.push_reserved.new.self.items c.rotate-empty.result c.push_reserved.ensures.items out c.self.invariant.1,
-    room_swap _ _ _ _ _ _ _ _ _ _ c.self.invariant.2 c.in-Some.ensures.len c.push_reserved.ensures.len c.in-Some.ensures.capacity c.push_reserved.ensures.capacity)
+    let out : c.rotate-empty.result ≡ record { size = c.self.inside.size; rounds = [] } = rw (c.rotate-empty.ensures.out, size, c.requires.previous) refl in (
+      rw (full_since, empty_since) (stocked_with c.pop.new.self.items (vec_len c.push_reserved.new.self) _ whole.0 c.self.invariant.0),
+      empty_push c.self.inside.size c.self.inside.empty.items c.push_reserved.new.self.items c.rotate-empty.result c.push_reserved.ensures.items out c.self.invariant.1,
+      room_swap _ _ _ _ _ _ _ _ _ _ c.self.invariant.2 c.in-Some.ensures.len c.push_reserved.ensures.len c.in-Some.ensures.capacity c.push_reserved.ensures.capacity,
+    )
 
 pub returns-clause-ok : goal.returns-clause-ok
 returns-clause-ok g c =
