@@ -1,0 +1,25 @@
+use Rattle.std.proofs.Common.{◌<◌, arith}
+use Rattle.magazine_layer.specs.Depots.{reapable}
+use Rattle.magazine_layer.proofs.Stocks.{room_first, room_old, stocked_old, stocked_first}
+use Rattle.magazine_layer.proofs.depots.Depot.begin.Goals as goal
+
+pub invariant_of-self : goal.invariant_of-self
+invariant_of-self g c = (
+  stocked_old _ c.take_first.result c.take_first.new.items.items c.drain.new.draining.items c.take_first.ensures.items c.self.invariant.0,
+  c.self.invariant.1,
+  room_old _ _ _ _ _ _ _ _ c.self.invariant.2 c.take_first.ensures.len c.take_first.ensures.capacity,
+)
+
+pub invariant_of-self-2 : goal.invariant_of-self-2
+invariant_of-self-2 g c =
+    let some : 0 < reapable c.self.inside.full_since = omega (arith, c.reapable.ensures, c.if-reapable-eq0.false) in (
+      rw c.reap-self-inside.ensures (stocked_first _ c.take_first-2.result c.take_first-2.new.items.items c.drain-2.new.draining.items c.take_first-2.ensures.items some c.self.invariant.0),
+      c.self.invariant.1,
+      room_first _ _ _ _ _ _ _ _ c.self.invariant.2 c.take_first-2.ensures.len c.take_first-2.ensures.capacity,
+    )
+
+pub returns-then-not-is_empty-2-clause-stock : goal.returns-then-not-is_empty-2-clause-stock
+returns-then-not-is_empty-2-clause-stock g c = (invariant_of-self g c).0
+
+pub returns-clause-stock : goal.returns-clause-stock
+returns-clause-stock g c = (invariant_of-self-2 g c).0

@@ -1,0 +1,150 @@
+-- What a contract sees of a depot, and what its calls do.
+use Rattle.std.specs.Prelude.{◌≡◌, ℕ, ◌+◌, ◌-◌, ◌<◌, ◌≤◌, ◌⊎◌, List, [], ◌∷◌, ◌++◌, length, min, All}
+use Rattle.deed_core.specs.Tag.{Tag}
+use Rattle.magazine_layer.specs.Magazines.{IsSize, CacheState, MagazineState, cache_rounds}
+
+-- what is known of a list of magazines since the interval began
+pub record Interval : Type 0 where
+  -- the least length that it had, the magazines reaped since counted as still in it
+  pub least : ℕ
+  -- how many were reaped
+  pub reaped : ℕ
+
+-- an interval that begins with `n` magazines in the list
+abbrev pub beginning : ℕ → Interval
+beginning n = record { least = n; reaped = 0 }
+
+-- the interval with `n` magazines in the list from here on
+abbrev pub going_on : ℕ → Interval → Interval
+going_on n i = record { least = min i.least (n + i.reaped); reaped = i.reaped }
+
+-- the interval with `k` more of them reaped
+abbrev pub reaping : ℕ → Interval → Interval
+reaping k i = record { least = i.least; reaped = i.reaped + k }
+
+-- how many lie outside the working set: these may be reaped
+abbrev pub reapable : Interval → ℕ
+reapable i = i.least - i.reaped
+
+-- no more were reaped than lay outside the working set, and those that still do stand in the list, of `n`
+pub record IsSince (n : ℕ) (i : Interval) : Type 0 where
+  pub within : i.reaped ≤ i.least
+  pub standing : i.least ≤ n + i.reaped
+
+-- what a contract sees of a depot
+pub record DepotState : Type 0 where
+  -- how many rounds its magazines hold
+  pub size : ℕ
+  -- the full magazines of that size, the last in at the end
+  pub full : List (List Tag)
+  pub full_since : Interval
+  -- how many empty ones of that size there are
+  pub empty : ℕ
+  pub empty_since : Interval
+  -- the full magazines of smaller sizes, the oldest first
+  pub old_full : List (List Tag)
+  -- what is left of the one that is being drained
+  pub draining : List Tag
+
+-- what every depot is
+pub record IsStocked (d : DepotState) : Type 0 where
+  pub sized : IsSize d.size
+  pub whole : All (λ m. length m ≡ d.size) d.full
+  pub some : All (λ m. 0 < length m) d.old_full
+  pub full_kept : IsSince (length d.full) d.full_since
+  pub empty_kept : IsSince d.empty d.empty_since
+
+-- the lists have room for what may move into them without memory: a full magazine for an empty one, an empty one
+-- for a full one, and all full ones among the old
+pub record HasRoom (full empty old full_room empty_room old_room : ℕ) : Type 0 where
+  pub for_full : full + empty ≤ full_room
+  pub for_empty : full + empty ≤ empty_room
+  pub for_old : old + (full + empty) ≤ old_room
+
+-- the rounds of some magazines
+abbrev pub all_rounds : List (List Tag) → List Tag
+all_rounds [] = []
+all_rounds (m ∷ ms) = m ++ all_rounds ms
+
+-- all rounds of a depot
+abbrev pub depot_rounds : DepotState → List Tag
+depot_rounds d = all_rounds d.old_full ++ (all_rounds d.full ++ d.draining)
+
+-- all rounds of a CPU's cache and a depot
+abbrev pub both_rounds : CacheState → DepotState → List Tag
+both_rounds c d = cache_rounds c ++ depot_rounds d
+
+-- a depot with no magazine
+abbrev pub new_depot : ℕ → DepotState
+new_depot m =
+    record { size = m; full = []; full_since = beginning 0; empty = 0; empty_since = beginning 0; old_full = []; draining = [] }
+
+-- the depot with these full magazines of its size, and this many empty ones
+abbrev pub with_lists : List (List Tag) → ℕ → DepotState → DepotState
+with_lists full empty d =
+    record d { full = full; full_since = going_on (length full) d.full_since; empty = empty; empty_since = going_on empty d.empty_since }
+
+-- the newest full magazine is loaded, loaded is the previous one, and that one, which is empty, is the depot's
+pub record SwapsForFull (c c' : CacheState) (d d' : DepotState) : Type 0 where
+  pub sized : c.size ≡ d.size
+  pub newest : d.full ≡ d'.full ++ c'.loaded ∷ []
+  pub whole : length c'.loaded ≡ c.size
+  pub cache : c' ≡ record { size = c.size; loaded = c'.loaded; previous = c.loaded }
+  pub depot : d' ≡ with_lists d'.full (d.empty + 1) d
+
+-- an empty magazine is loaded, loaded is the previous one, and that one, which is full, is the depot's newest
+pub record SwapsForEmpty (c c' : CacheState) (d d' : DepotState) : Type 0 where
+  pub sized : c.size ≡ d.size
+  pub one : d.empty ≡ d'.empty + 1
+  pub cache : c' ≡ record { size = c.size; loaded = []; previous = c.loaded }
+  pub depot : d' ≡ with_lists (d.full ++ c.previous ∷ []) d'.empty d
+
+-- the same with a magazine from elsewhere
+pub record PutsFull (m : MagazineState) (c c' : CacheState) (d d' : DepotState) : Type 0 where
+  pub sized : (c.size ≡ d.size) × (m.size ≡ d.size)
+  pub cache : c' ≡ record { size = c.size; loaded = m.rounds; previous = c.loaded }
+  pub depot : d' ≡ with_lists (d.full ++ c.previous ∷ []) d.empty d
+
+-- an interval begins for both lists
+abbrev pub ticked : DepotState → DepotState
+ticked d = record d { full_since = beginning (length d.full); empty_since = beginning d.empty }
+
+-- magazines of a greater size from here on: the full ones are of an old size, the empty ones are gone
+abbrev pub resized : ℕ → DepotState → DepotState
+resized m d = record (with_lists [] 0 d) { size = m; old_full = d.old_full ++ d.full }
+
+-- the depot without the empty magazines that may be reaped
+abbrev pub trimmed : DepotState → DepotState
+trimmed d =
+    record d { empty = d.empty - reapable d.empty_since; empty_since = reaping (reapable d.empty_since) d.empty_since }
+
+-- the oldest magazine of an old size is being drained
+pub record BeginsOld (d d' : DepotState) : Type 0 where
+  pub drained : d.draining ≡ []
+  pub oldest : d.old_full ≡ d'.draining ∷ d'.old_full
+  pub rest : d' ≡ record d { old_full = d'.old_full; draining = d'.draining }
+
+-- the oldest full one is, since one lies outside the working set
+pub record BeginsFull (d d' : DepotState) : Type 0 where
+  pub drained : d.draining ≡ []
+  pub none_old : d.old_full ≡ []
+  pub some : 0 < reapable d.full_since
+  pub oldest : d.full ≡ d'.draining ∷ d'.full
+  pub rest : d' ≡ record d { full = d'.full; full_since = reaping 1 d.full_since; draining = d'.draining }
+
+-- the magazine to reap from is being drained: the one that was, else the first that may be
+abbrev pub Begins : DepotState → DepotState → Type 0
+Begins d d' = ((0 < length d.draining) × (d' ≡ d)) ⊎ BeginsOld d d' ⊎ BeginsFull d d'
+
+-- x is the last round of the magazine being drained
+pub record Drains (x : Tag) (d d' : DepotState) : Type 0 where
+  pub last : d.draining ≡ d'.draining ++ x ∷ []
+  pub rest : d' ≡ record d { draining = d'.draining }
+
+-- x is the round that is reaped
+abbrev pub Reaps : Tag → DepotState → DepotState → Type 0
+Reaps x d d' = (begun : DepotState) × Begins d begun × Drains x begun d'
+
+-- a round may be reaped
+abbrev pub CanReap : DepotState → Type 0
+CanReap d = (0 < length d.draining) ⊎ (0 < length d.old_full) ⊎ (0 < reapable d.full_since)

@@ -1,0 +1,3 @@
+pub mod Magazines
+pub mod Depots
+pub mod Rounds

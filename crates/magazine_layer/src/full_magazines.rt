@@ -1,0 +1,58 @@
+//! Full magazines.
+ghost use Rattle.std.specs.Prelude.{◌≡◌, ◌-◌, ◌^◌, length, min};
+ghost use Rattle.magazine_layer.specs.Magazines.{units_of};
+ghost use Rattle.magazine_layer.specs.Depots.{all_rounds};
+
+use crate::magazines::Magazine;
+use deed_core::Deed;
+use std::marker::Model;
+
+/// A full magazine. A contract sees its rounds.
+pub(crate) struct FullMagazine<D: Deed> {
+    magazine: Magazine<D>,
+}
+
+impl<D: Deed> Model for FullMagazine<D> {
+    ghost use Rattle.std.specs.Prelude.{◌≡◌, List, length};
+    ghost use Rattle.deed_core.specs.Tag.{Tag};
+
+    ghost Value = { List Tag };
+
+    ghost view = { λ m. m.magazine.rounds };
+
+    ghost invariant = { λ m. length m.magazine.rounds ≡ m.magazine.size };
+}
+
+impl<D: Deed> FullMagazine<D> {
+    pub(crate) fn new(magazine: Magazine<D>) -> FullMagazine<D>
+        requires { length magazine.rounds ≡ magazine.size }
+        ensures { result ≡ magazine.rounds }
+    {
+        FullMagazine { magazine }
+    }
+
+    pub(crate) fn into_magazine(self) -> Magazine<D>
+        ensures { result ≡ record { size = length self; rounds = self } }
+    {
+        let FullMagazine { magazine } = self;
+        magazine
+    }
+
+    // The units that its rounds cover.
+    fn units(&self) -> u128
+        ensures { result ≡ units_of self.now }
+    {
+        self.magazine.units()
+    }
+}
+
+// The units of some full magazines, or the greatest number where they are more.
+pub(crate) fn units_of_all<D: Deed>(magazines: &[FullMagazine<D>]) -> u128
+    ensures { result ≡ min (units_of (all_rounds magazines.now)) (2 ^ 128 - 1) }
+{
+    let mut total: u128 = 0;
+    for magazine in magazines {
+        total = total.saturating_add(magazine.units());
+    }
+    total
+}

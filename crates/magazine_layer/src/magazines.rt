@@ -1,0 +1,133 @@
+//! Magazines: stacks of segments.
+ghost use Rattle.std.specs.Prelude.{◌≡◌, ◌+◌, ◌<◌, ◌≤◌, ◌^◌, ◌↔◌, [], ◌∷◌, ◌++◌, length, IsTrue, IfSome, IfNone, IfOk, IfErr, IsOk, IsNone};
+ghost use Rattle.deed_core.specs.Weights.{Loses};
+ghost use Rattle.magazine_layer.specs.Magazines.{IsSize, IsMagazine, MagazineState, units_of};
+
+use deed_core::{Deed, Segment};
+use std::alloc::{AllocError, Global};
+use std::marker::Model;
+
+/// A stack of segments, its rounds ("Magazines and Vmem", 2001). It holds 3, 7, 15 or 31 of them, which is
+/// our own choice: all rounds of two magazines have room in one of the next size. It is never dropped.
+pub struct Magazine<D: Deed> {
+    size: usize,
+    rounds: Vec<Segment<D>>,
+}
+
+impl<D: Deed> Model for Magazine<D> {
+    ghost use Rattle.std.specs.Prelude.{◌≤◌, vec_len, vec_capacity};
+    ghost use Rattle.magazine_layer.specs.Magazines.{IsSize, MagazineState};
+
+    ghost Value = { MagazineState };
+
+    ghost view = { λ m. record { size = m.size; rounds = m.rounds.items } };
+
+    ghost invariant = { λ m. IsSize m.size × (vec_len m.rounds ≤ m.size) × (m.size ≤ vec_capacity m.rounds) };
+}
+
+impl<D: Deed> Magazine<D> {
+    /// An empty magazine, with room reserved for `size` rounds.
+    pub fn new(alloc: Global, size: usize) -> Result<Magazine<D>, AllocError>
+        requires { IsSize size }
+        ensures { IfOk result (λ m. m ≡ record { size = size; rounds = [] }) }
+    {
+        let rounds = Vec::with_capacity(alloc, size)?;
+        Ok(Magazine { size, rounds })
+    }
+
+    /// How many rounds it can hold.
+    pub fn size(&self) -> usize
+        ensures value { result ≡ self.now.size }
+        ensures shape { IsMagazine self.now }
+    {
+        self.size
+    }
+
+    pub fn is_empty(&self) -> bool
+        ensures value { IsTrue result ↔ (self.now.rounds ≡ []) }
+        ensures shape { IsMagazine self.now }
+    {
+        self.rounds.is_empty()
+    }
+
+    pub fn is_full(&self) -> bool
+        ensures value { IsTrue result ↔ (length self.now.rounds ≡ self.now.size) }
+        ensures shape { IsMagazine self.now }
+    {
+        self.rounds.len() == self.size
+    }
+
+    /// The units that its rounds cover.
+    pub fn units(&self) -> u128
+        ensures value { result ≡ units_of self.now.rounds }
+        ensures bound { result < 2 ^ 126 }
+    {
+        units_of_rounds(&self.rounds)
+    }
+
+    /// Takes the last round that was put in.
+    #[tactic(auto, using(crate::proofs::Weighing::last_weighs))]
+    pub fn take(&mut self) -> Option<Segment<D>>
+        ensures last { IfSome result (λ x. self.old.rounds ≡ self.new.rounds ++ x ∷ []) }
+        ensures weights { IfSome result (λ x. Loses self.old.rounds self.new.rounds x) }
+        ensures none { IsNone result ↔ (self.old.rounds ≡ []) }
+        ensures same { IfNone result (self.new ≡ self.old) }
+        ensures size { self.new.size ≡ self.old.size }
+    {
+        self.rounds.pop()
+    }
+
+    // Puts a round in.
+    pub(crate) fn push(&mut self, segment: Segment<D>)
+        requires { length self.old.rounds < self.old.size }
+        ensures { self.new ≡ record { size = self.old.size; rounds = self.old.rounds ++ segment ∷ [] } }
+    {
+        self.rounds.push_reserved(segment);
+    }
+
+    // Puts in all rounds of another magazine, in their order.
+    pub(crate) fn append(&mut self, other: &mut Magazine<D>)
+        requires { length self.old.rounds + length other.old.rounds ≤ self.old.size }
+        ensures here { self.new ≡ record { size = self.old.size; rounds = self.old.rounds ++ other.old.rounds } }
+        ensures there { other.new ≡ record { size = other.old.size; rounds = [] } }
+    {
+        match self.rounds.append(&mut other.rounds) {
+            Ok(()) => {}
+            Err(_) => unreachable!(),
+        }
+    }
+
+    // The rounds, for the depot that drains them.
+    pub(crate) fn into_rounds(self) -> Vec<Segment<D>>
+        ensures { result.items ≡ self.rounds }
+    {
+        let Magazine { size: _, rounds } = self;
+        rounds
+    }
+
+    /// Ends an empty magazine, and hands back one that has rounds.
+    pub fn discard(self) -> Result<(), Magazine<D>>
+        ensures empty { IsOk result ↔ (self.rounds ≡ []) }
+        ensures same { IfErr result (λ same. same ≡ self) }
+    {
+        if !self.rounds.is_empty() {
+            return Err(self);
+        }
+        let Magazine { size: _, rounds } = self;
+        rounds.destroy_empty();
+        Ok(())
+    }
+}
+
+// The units of some rounds.
+pub(crate) fn units_of_rounds<D: Deed>(rounds: &[Segment<D>]) -> u128
+    ensures value { result ≡ units_of rounds.now }
+    ensures bound { result < 2 ^ 126 }
+{
+    let _count = rounds.len();
+    let mut total: u128 = 0;
+    for round in rounds {
+        total += u128::from(round.range().len());
+    }
+    total
+}

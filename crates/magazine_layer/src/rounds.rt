@@ -1,0 +1,251 @@
+//! Runs of giving and taking over one CPU's cache and its depot.
+ghost use Rattle.std.specs.Prelude.{◌≡◌, ◌≢◌, ◌+◌, ◌/◌, ◌<◌, ◌≤◌, ◌⊎◌, ◌++◌, [], length, IfOk, IfErr, OnErr, IfSome, IfNone, OnSome, vec_len};
+ghost use Rattle.std.specs.Bool.{OnTrue, OnFalse};
+ghost use Rattle.deed_core.specs.Weights.{WeighSame};
+ghost use Rattle.magazine_layer.specs.Magazines.{IsSize, IsShaped, CanGive, cache_rounds, changed};
+ghost use Rattle.magazine_layer.specs.Depots.{both_rounds};
+ghost use Rattle.magazine_layer.specs.Rounds.{Stock, Takes, Gives, MakesRoom, IsFullUp, NeedsMemory, Steps, Runs, stock, all_brought, all_handed};
+
+use crate::cpu_caches::{CpuCache, discard_empty, two_empty};
+use crate::depots::Depot;
+use crate::faults::{EmptyFault, FullFault, PutRefused};
+use crate::magazines::Magazine;
+use deed_core::{Deed, Segment};
+use std::alloc::Global;
+
+/// One operation of a run.
+pub enum RoundOp<D: Deed> {
+    /// Put this round in.
+    Give(Segment<D>),
+    /// Take a round out.
+    Take,
+}
+
+/// What an operation gave.
+pub enum RoundAnswer<D: Deed> {
+    /// The round given is kept.
+    Kept,
+    /// There was no room for the round given.
+    Refused(Segment<D>),
+    /// The round taken.
+    Taken(Segment<D>),
+    /// There was no round to take.
+    Nothing,
+}
+
+/// What a run gave: an answer to each operation, in order, and how many exchanges with the depot it made.
+pub struct RoundRun<D: Deed> {
+    pub answers: Vec<RoundAnswer<D>>,
+    pub exchanges: usize,
+}
+
+// What one operation gave.
+struct Step<D: Deed> {
+    answer: RoundAnswer<D>,
+    exchanges: usize,
+}
+
+// Changes a CPU's cache over to a size that has room for all its rounds, if there is memory.
+fn change_over<D: Deed>(alloc: Global, cpu: &mut CpuCache<D>, size: usize) -> bool
+    requires size { IsSize size }
+    requires room { length (cache_rounds cpu.old) ≤ size }
+    ensures ok { OnTrue result (cpu.new ≡ changed size cpu.old) }
+    ensures same { OnFalse result (cpu.new ≡ cpu.old) }
+    ensures either { (cpu.new ≡ cpu.old) ⊎ (cpu.new ≡ changed size cpu.old) }
+    ensures shape { IsShaped cpu.new }
+{
+    let Ok((loaded, previous)) = two_empty(alloc, size) else {
+        let _ = cpu.size();
+        return false;
+    };
+    cpu.change(loaded, previous);
+    true
+}
+
+// Takes a round, of the CPU's cache or of a full magazine of the depot's.
+fn take_round<D: Deed>(alloc: Global, cpu: &mut CpuCache<D>, depot: &mut Depot<D>) -> Step<D>
+    requires { cpu.old.size ≤ depot.old.size }
+    ensures takes { Takes (stock cpu.old depot.old) (stock cpu.new depot.new) result.answer result.exchanges }
+    ensures most { result.exchanges ≤ 1 }
+    ensures shape { IsShaped cpu.new }
+    ensures sizes { cpu.new.size ≤ depot.new.size }
+    ensures size { depot.new.size ≡ depot.old.size }
+{
+    if let Some(segment) = cpu.take() {
+        return Step {
+            answer: RoundAnswer::Taken(segment),
+            exchanges: 0,
+        };
+    }
+    match depot.swap_for_full(cpu) {
+        Ok(()) => {
+            let Some(segment) = cpu.take() else {
+                unreachable!()
+            };
+            Step {
+                answer: RoundAnswer::Taken(segment),
+                exchanges: 1,
+            }
+        }
+        Err(FullFault::NoneFull) => Step {
+            answer: RoundAnswer::Nothing,
+            exchanges: 0,
+        },
+        Err(FullFault::OldSize(size)) => {
+            let _ = change_over(alloc, cpu, size);
+            Step {
+                answer: RoundAnswer::Nothing,
+                exchanges: 0,
+            }
+        }
+    }
+}
+
+// Makes room in a CPU's cache whose magazines are both full, and tells the exchanges that it took, if there is memory.
+fn make_room<D: Deed>(alloc: Global, cpu: &mut CpuCache<D>, depot: &mut Depot<D>) -> Option<usize>
+    requires full { IsFullUp cpu.old }
+    requires sizes { cpu.old.size ≤ depot.old.size }
+    ensures made { IfSome result (λ exchanges. MakesRoom (stock cpu.old depot.old) (stock cpu.new depot.new) exchanges) }
+    ensures room { OnSome result (CanGive cpu.new) }
+    ensures most { IfSome result (λ exchanges. exchanges ≤ 1) }
+    ensures memory { IfNone result (NeedsMemory (stock cpu.old depot.old)) }
+    ensures same { IfNone result (stock cpu.new depot.new ≡ stock cpu.old depot.old) }
+    ensures shape { IsShaped cpu.new }
+    ensures sizes { cpu.new.size ≤ depot.new.size }
+    ensures size { depot.new.size ≡ depot.old.size }
+{
+    match depot.swap_for_empty(cpu) {
+        Ok(()) => Some(1),
+        Err(EmptyFault::NoneEmpty) => put_new(alloc, cpu, depot),
+        Err(EmptyFault::OldSize(size)) => {
+            if change_over(alloc, cpu, size) {
+                return Some(0);
+            }
+            None
+        }
+    }
+}
+
+// Makes room by a new magazine, if there is memory.
+fn put_new<D: Deed>(alloc: Global, cpu: &mut CpuCache<D>, depot: &mut Depot<D>) -> Option<usize>
+    requires full { IsFullUp cpu.old }
+    requires sizes { cpu.old.size ≡ depot.old.size }
+    requires none { depot.old.empty ≡ 0 }
+    ensures made { IfSome result (λ exchanges. MakesRoom (stock cpu.old depot.old) (stock cpu.new depot.new) exchanges) }
+    ensures room { OnSome result (CanGive cpu.new) }
+    ensures most { IfSome result (λ exchanges. exchanges ≤ 1) }
+    ensures same { IfNone result (stock cpu.new depot.new ≡ stock cpu.old depot.old) }
+    ensures shape { IsShaped cpu.new }
+    ensures sizes { cpu.new.size ≤ depot.new.size }
+    ensures size { depot.new.size ≡ depot.old.size }
+{
+    let Ok(magazine) = Magazine::new(alloc, depot.size()) else {
+        let _ = cpu.size();
+        return None;
+    };
+    match depot.put_full(cpu, magazine) {
+        Ok(()) => Some(1),
+        Err(refused) => {
+            let PutRefused { magazine, fault: _ } = refused;
+            discard_empty(magazine);
+            None
+        }
+    }
+}
+
+// Gives a round, to the CPU's cache or once room is made there.
+fn give_round<D: Deed>(
+    alloc: Global,
+    cpu: &mut CpuCache<D>,
+    depot: &mut Depot<D>,
+    segment: Segment<D>,
+) -> Step<D>
+    requires { cpu.old.size ≤ depot.old.size }
+    ensures gives { Gives segment (stock cpu.old depot.old) (stock cpu.new depot.new) result.answer result.exchanges }
+    ensures most { result.exchanges ≤ 1 }
+    ensures shape { IsShaped cpu.new }
+    ensures sizes { cpu.new.size ≤ depot.new.size }
+    ensures size { depot.new.size ≡ depot.old.size }
+{
+    let Err(segment) = cpu.give(segment) else {
+        return Step {
+            answer: RoundAnswer::Kept,
+            exchanges: 0,
+        };
+    };
+    let Some(exchanges) = make_room(alloc, cpu, depot) else {
+        return Step {
+            answer: RoundAnswer::Refused(segment),
+            exchanges: 0,
+        };
+    };
+    match cpu.give(segment) {
+        Ok(()) => {}
+        Err(_) => unreachable!(),
+    }
+    Step {
+        answer: RoundAnswer::Kept,
+        exchanges,
+    }
+}
+
+// Runs one operation.
+fn run_one<D: Deed>(
+    alloc: Global,
+    cpu: &mut CpuCache<D>,
+    depot: &mut Depot<D>,
+    op: RoundOp<D>,
+) -> Step<D>
+    requires { cpu.old.size ≤ depot.old.size }
+    ensures step { Steps op (stock cpu.old depot.old) (stock cpu.new depot.new) result.answer result.exchanges }
+    ensures most { result.exchanges ≤ 1 }
+    ensures shape { IsShaped cpu.new }
+    ensures sizes { cpu.new.size ≤ depot.new.size }
+    ensures size { depot.new.size ≡ depot.old.size }
+{
+    match op {
+        RoundOp::Give(segment) => give_round(alloc, cpu, depot, segment),
+        RoundOp::Take => take_round(alloc, cpu, depot),
+    }
+}
+
+/// Runs operations in order. Each takes a round from the CPU's cache or gives it one, and where the cache is
+/// empty or full it first exchanges a magazine with the depot, or changes over to the depot's size. The
+/// depot's size is at least the cache's. Want of memory for the answers hands the operations back.
+pub fn run_rounds<D: Deed>(
+    alloc: Global,
+    cpu: &mut CpuCache<D>,
+    depot: &mut Depot<D>,
+    ops: Vec<RoundOp<D>>,
+) -> Result<RoundRun<D>, Vec<RoundOp<D>>>
+    requires { cpu.old.size ≤ depot.old.size }
+    ensures run { IfOk result (λ r. Runs (stock cpu.old depot.old) ops.items r.answers.items
+        (stock cpu.new depot.new) r.exchanges) }
+    ensures weights { IfOk result (λ r. WeighSame (both_rounds cpu.old depot.old ++ all_brought ops.items)
+        (both_rounds cpu.new depot.new ++ all_handed r.answers.items)) }
+    ensures few { IfOk result (λ r. r.exchanges ≤ 1 + vec_len ops / depot.old.size) }
+    ensures answers { IfOk result (λ r. vec_len r.answers ≡ vec_len ops) }
+    ensures same { OnErr result (stock cpu.new depot.new ≡ stock cpu.old depot.old) }
+    ensures ops { IfErr result (λ same. same ≡ ops) }
+    ensures shape { IsShaped cpu.new }
+    ensures sizes { cpu.new.size ≤ depot.new.size }
+    ensures size { depot.new.size ≡ depot.old.size }
+{
+    let _ = cpu.size();
+    let _ = depot.size();
+    let Ok(answers) = Vec::with_capacity(alloc, ops.len()) else {
+        return Err(ops);
+    };
+    let mut run = RoundRun {
+        answers,
+        exchanges: 0,
+    };
+    let mut rest = ops.into_iter();
+    while let Some(op) = rest.next() {
+        let Step { answer, exchanges } = run_one(alloc, cpu, depot, op);
+        run.answers.push_reserved(answer);
+        run.exchanges += exchanges;
+    }
+    rest.destroy_empty();
+    Ok(run)
+}

@@ -1,0 +1,210 @@
+//! Worked runs at M 3.
+ghost use Rattle.std.specs.Prelude.{◌≡◌, ◌≤◌, []};
+
+use crate::{
+    CpuCache, Depot, FullFault, Magazine, NotGreater, RoundAnswer, RoundOp, RoundRun, run_rounds,
+};
+use deed_core::{PlainDeed, Range, Route, Segment};
+use std::alloc::Global;
+use std::process::Abort;
+
+// The round of one unit at `base`.
+fn round(rt: &impl Abort, base: u64) -> Segment<PlainDeed> {
+    let range = Range::new(base, 1).expect(rt, "range");
+    Segment::new(1, Route::Cached(1), PlainDeed::new(1, range))
+}
+
+// Where a round stands, and its end.
+fn base(round: Segment<PlainDeed>) -> u64 {
+    round.into_deed().close().base()
+}
+
+// Gives the rounds from `low` to below `high`, and then takes `takes` times.
+fn ops(
+    rt: &impl Abort,
+    alloc: Global,
+    low: u64,
+    high: u64,
+    takes: usize,
+) -> Vec<RoundOp<PlainDeed>> {
+    let mut ops = Vec::new(alloc);
+    for base in low..high {
+        match ops.push(RoundOp::Give(round(rt, base))) {
+            Ok(()) => {}
+            Err(_) => panic!(rt; "memory"),
+        }
+    }
+    for _ in 0..takes {
+        match ops.push(RoundOp::Take) {
+            Ok(()) => {}
+            Err(_) => panic!(rt; "memory"),
+        }
+    }
+    ops
+}
+
+// Runs operations that keep each round given: the bases of those taken, and the exchanges.
+fn run(
+    rt: &impl Abort,
+    alloc: Global,
+    cpu: &mut CpuCache<PlainDeed>,
+    depot: &mut Depot<PlainDeed>,
+    ops: Vec<RoundOp<PlainDeed>>,
+) -> (Vec<u64>, usize)
+    requires { cpu.old.size ≤ depot.old.size }
+    ensures sizes { cpu.new.size ≤ depot.new.size }
+    ensures size { depot.new.size ≡ depot.old.size }
+{
+    let count = ops.len();
+    let RoundRun { answers, exchanges } = match run_rounds(alloc, cpu, depot, ops) {
+        Ok(run) => run,
+        Err(_) => panic!(rt; "memory"),
+    };
+    let mut answers = answers.into_iter();
+    let mut taken = Vec::new(alloc);
+    for _ in 0..count {
+        match answers.next() {
+            Some(RoundAnswer::Kept) => {}
+            Some(RoundAnswer::Taken(round)) => match taken.push(base(round)) {
+                Ok(()) => {}
+                Err(_) => panic!(rt; "memory"),
+            },
+            _ => panic!(rt; "refused or nothing"),
+        }
+    }
+    if answers.len() != 0 {
+        panic!(rt; "more answers than operations")
+    }
+    answers.destroy_empty();
+    (taken, exchanges)
+}
+
+// Ends a cache and a depot that have no round.
+fn close(rt: &impl Abort, cpu: CpuCache<PlainDeed>, depot: Depot<PlainDeed>) {
+    match cpu.close() {
+        Ok(()) => {}
+        Err(_) => panic!(rt; "the cache has rounds"),
+    }
+    match depot.close() {
+        Ok(()) => {}
+        Err(_) => panic!(rt; "the depot has rounds"),
+    }
+}
+
+#[test]
+fn rounds(rt: HostRuntime) {
+    let alloc = rt.alloc();
+    let mut cpu = CpuCache::new(alloc, 3).ok().expect(&rt, "memory");
+    let mut depot = Depot::new(alloc, 3);
+    let steps = ops(&rt, alloc, 0, 7, 7);
+    let (taken, exchanges) = run(&rt, alloc, &mut cpu, &mut depot, steps);
+    assert_eq!(rt; taken.as_slice(), [6, 5, 4, 3, 2, 1, 0].as_slice());
+    assert_eq!(rt; exchanges, 2);
+    close(&rt, cpu, depot);
+}
+
+// A second run meets an empty magazine in the depot, where the first had to make one.
+#[test]
+fn empty_magazines_come_back(rt: HostRuntime) {
+    let alloc = rt.alloc();
+    let mut cpu = CpuCache::new(alloc, 3).ok().expect(&rt, "memory");
+    let mut depot = Depot::new(alloc, 3);
+    let first = ops(&rt, alloc, 0, 7, 7);
+    let _ = run(&rt, alloc, &mut cpu, &mut depot, first);
+    let second = ops(&rt, alloc, 10, 17, 0);
+    let (_, exchanges) = run(&rt, alloc, &mut cpu, &mut depot, second);
+    assert_eq!(rt; exchanges, 1);
+    assert_eq!(rt; cpu.units(), 4);
+    assert_eq!(rt; depot.units(), 3);
+    let last = ops(&rt, alloc, 0, 0, 7);
+    let (taken, _) = run(&rt, alloc, &mut cpu, &mut depot, last);
+    assert_eq!(rt; taken.as_slice(), [16, 15, 14, 13, 12, 11, 10].as_slice());
+    close(&rt, cpu, depot);
+}
+
+#[test]
+fn working_set(rt: HostRuntime) {
+    let alloc = rt.alloc();
+    let mut cpu = CpuCache::new(alloc, 3).ok().expect(&rt, "memory");
+    let mut depot = Depot::new(alloc, 3);
+    let given = ops(&rt, alloc, 0, 13, 0);
+    let (_, exchanges) = run(&rt, alloc, &mut cpu, &mut depot, given);
+    assert_eq!(rt; exchanges, 3);
+    reaps(&rt, &mut depot, None);
+    depot.tick();
+    let five = ops(&rt, alloc, 0, 0, 5);
+    let (taken, exchanges) = run(&rt, alloc, &mut cpu, &mut depot, five);
+    assert_eq!(rt; taken.as_slice(), [12, 11, 10, 9, 8].as_slice());
+    assert_eq!(rt; exchanges, 1);
+    for base in [2, 1, 0, 5, 4, 3] {
+        reaps(&rt, &mut depot, Some(base));
+    }
+    reaps(&rt, &mut depot, None);
+    assert_eq!(rt; cpu.take().map(base), Some(7));
+    assert_eq!(rt; cpu.take().map(base), Some(6));
+    assert_eq!(rt; depot.resize(3), Err(NotGreater));
+    assert_eq!(rt; depot.resize(7), Ok(()));
+    let fresh = CpuCache::new(alloc, 3).ok().expect(&rt, "memory");
+    let fresh = changes_over(&rt, alloc, fresh, &mut depot);
+    close(&rt, fresh, depot);
+    match cpu.close() {
+        Ok(()) => {}
+        Err(_) => panic!(rt; "the cache has rounds"),
+    }
+}
+
+// Reaps the round at this base, or none.
+fn reaps(rt: &impl Abort, depot: &mut Depot<PlainDeed>, wanted: Option<u64>)
+    ensures { depot.new.size ≡ depot.old.size }
+{
+    match depot.reap() {
+        Some(round) => assert_eq!(rt; Some(base(round)), wanted),
+        None => assert_eq!(rt; None, wanted),
+    }
+}
+
+// An empty cache asks a depot of size 7 for a full magazine, before and after it changes over.
+fn changes_over(
+    rt: &impl Abort,
+    alloc: Global,
+    cpu: CpuCache<PlainDeed>,
+    depot: &mut Depot<PlainDeed>,
+) -> CpuCache<PlainDeed>
+    requires loaded { cpu.loaded ≡ [] }
+    requires previous { cpu.previous ≡ [] }
+{
+    let mut cpu = cpu;
+    assert_eq!(rt; depot.swap_for_full(&mut cpu), Err(FullFault::OldSize(7)));
+    let loaded = Magazine::new(alloc, 7).ok().expect(rt, "memory");
+    let previous = Magazine::new(alloc, 7).ok().expect(rt, "memory");
+    cpu.change(loaded, previous);
+    assert_eq!(rt; depot.swap_for_full(&mut cpu), Err(FullFault::NoneFull));
+    cpu
+}
+
+// What a cache is unloaded into is given and taken by itself.
+#[test]
+fn unloads(rt: HostRuntime) {
+    let alloc = rt.alloc();
+    let mut cpu = CpuCache::new(alloc, 3).ok().expect(&rt, "memory");
+    for base in 0..4 {
+        match cpu.give(round(&rt, base)) {
+            Ok(()) => {}
+            Err(_) => panic!(rt; "no room"),
+        }
+    }
+    let (mut loaded, mut previous) = cpu.unload();
+    assert_eq!(rt; loaded.take().map(base), Some(3));
+    for wanted in [2, 1, 0] {
+        assert_eq!(rt; previous.take().map(base), Some(wanted));
+    }
+    discard(&rt, loaded);
+    discard(&rt, previous);
+}
+
+fn discard(rt: &impl Abort, magazine: Magazine<PlainDeed>) {
+    match magazine.discard() {
+        Ok(()) => {}
+        Err(_) => panic!(rt; "the magazine has rounds"),
+    }
+}
