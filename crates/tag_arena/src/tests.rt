@@ -1,0 +1,1 @@
+//! Rows of calls, with what they must give.
