@@ -1,6 +1,6 @@
 -- What a contract sees of an arena, and what is always so of one.
 use Rattle.std.specs.Prelude.{◌≡◌, ℕ, ◌+◌, ◌%◌, ◌^◌, ◌≤◌, IsTrue, List, [], ◌++◌, All, Contains, map, sum_by, Option, Some}
-use Rattle.std.specs.Int.{is_power_of_two}
+use Rattle.std.specs.Int.{IsPowerOfTwo}
 use Rattle.std.specs.Ordering.{nat_cmp}
 use Rattle.std.specs.FinMap as finmap
 use Rattle.std.specs.FinMap.{FinMap, get, entries}
@@ -61,7 +61,7 @@ CoversSpans a = (u : ℕ) → covering_held u a.free + covering_held u (ranges_o
 pub record IsSound (a : ArenaState) : Type 0 where
   pub whole : IsWhole (layout_of a)
   pub covers : CoversSpans a
-  pub power : IsTrue (is_power_of_two a.quantum)
+  pub power : IsPowerOfTwo a.quantum
   pub spans : All (λ s. IsRange s.range) (spans_of a)
   pub span_grid : (s : Holding) → Contains (spans_of a) s → OnQuantum a.quantum s.range
   pub free_grid : (r : Holding) → Contains a.free r → OnQuantum a.quantum r.range

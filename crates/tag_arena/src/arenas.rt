@@ -1,6 +1,6 @@
 //! The arena.
 ghost use Rattle.std.specs.Prelude.{◌≡◌, ◌+◌, ◌-◌, ◌≤◌, ◌↔◌, ◌<◌, [], ◌++◌, ℕ, All, Any, Contains, IsTrue, IsOk, IsErrAnd, IfOk, IfErr, IfSome, IfNone, OnOk, OnErr, Some, None, Err, MatchOption, option_to_list, sum_by};
-ghost use Rattle.std.specs.Int.{is_power_of_two};
+ghost use Rattle.std.specs.Int.{IsPowerOfTwo};
 ghost use Rattle.deed_core.specs.Extent.{Overlap};
 ghost use Rattle.deed_core.specs.Covering.{covers, covers_tag, covering_held};
 ghost use Rattle.deed_core.specs.Weights.{Gains, Loses};
@@ -13,17 +13,15 @@ use crate::choices::chosen;
 use crate::cuts::{carve, cut_first, push_rest};
 use crate::faults::ArenaFault;
 use crate::merges::{join_left, join_right, take_left, take_right};
-use crate::places::units;
 use crate::policies::Policy;
 use crate::spans::{
     Import, free_units, imported_units, overlaps_imported, overlaps_owned, owned_units,
     place_of_import, span_at,
 };
-use crate::stored::Stored;
-use crate::stretches::Stretch;
+use crate::stretches::{Stretch, stretch_of};
 use crate::tags::Tags;
 use crate::wholes::lowest_whole;
-use deed_core::{Deed, Range, Request, Route, Segment};
+use deed_core::{Deed, Range, Request, Route, Segment, Stored};
 use std::alloc::Global;
 use std::marker::Model;
 
@@ -68,7 +66,7 @@ pub struct ArenaReport {
 impl<D: Deed> Arena<D> {
     /// An arena with no span.
     pub fn new(alloc: Global, id: u32, quantum: u64, policy: Policy) -> Arena<D>
-        requires { IsTrue (is_power_of_two quantum) }
+        requires { IsPowerOfTwo quantum }
         ensures { result ≡ empty_arena id quantum policy }
     {
         Arena {
@@ -91,7 +89,7 @@ impl<D: Deed> Arena<D> {
 
     pub fn quantum(&self) -> u64
         ensures value { result ≡ self.now.quantum }
-        ensures power { IsTrue (is_power_of_two result) }
+        ensures power { IsPowerOfTwo result }
     {
         self.quantum
     }
@@ -181,7 +179,7 @@ impl<D: Deed> Arena<D> {
             return Err((deed, ArenaFault::NoMemory));
         }
         let stored = Stored::new(deed);
-        self.owned.push_reserved(stored.stretch());
+        self.owned.push_reserved(stretch_of(&stored));
         self.free.push_reserved(stored);
         Ok(())
     }
@@ -207,7 +205,7 @@ impl<D: Deed> Arena<D> {
         let Some(found) = chosen(&self.free, self.policy, self.rover, self.quantum, request) else {
             return Err(ArenaFault::NoFit);
         };
-        let len = units(request, self.quantum).unwrap();
+        let len = request.units(self.quantum).unwrap();
 
         // Room for both rests, and for each allocated range to become free again.
         let Some(room) = self.tags.len().checked_add(2) else {
@@ -244,7 +242,7 @@ impl<D: Deed> Arena<D> {
         if let Some(fault) = self.span_fault(&range) {
             return Err((span, fault));
         }
-        let len = units(request, self.quantum).unwrap();
+        let len = request.units(self.quantum).unwrap();
         let Some(room) = self.tags.len().checked_add(2) else {
             return Err((span, ArenaFault::NoMemory));
         };
@@ -299,7 +297,7 @@ impl<D: Deed> Arena<D> {
         let deed = join_left(left, Stored::new(segment.into_deed()));
         let merged = join_right(deed, right);
         self.tags.remove(piece);
-        let Some(at) = place_of_import(&self.imported, &merged.stretch()) else {
+        let Some(at) = place_of_import(&self.imported, &stretch_of(&merged)) else {
             self.free.push_reserved(merged);
             return Ok(None);
         };

@@ -1,6 +1,7 @@
 //! What a policy chooses among the free ranges.
 ghost use Rattle.std.specs.Prelude.{◌≡◌, ℕ, ◌+◌, ◌%◌, ◌^◌, ◌<◌, ◌≤◌, length, All, IsTrue, MatchBool, IfSome};
-ghost use Rattle.std.specs.Int.{is_power_of_two};
+ghost use Rattle.std.specs.Int.{IsPowerOfTwo};
+ghost use Rattle.deed_core.specs.Extent.{IsRange};
 ghost use Rattle.deed_core.specs.Request.{IsGood};
 ghost use Rattle.tag_arena.specs.Choice.{IsChoice, IsBestChoice, IsNextChoice, ComesFirst};
 ghost use Rattle.tag_arena.specs.Found.{BestSoFar, EarliestSoFar, IsPlaced, base_of};
@@ -8,9 +9,8 @@ ghost use Rattle.tag_arena.specs.Found.{BestSoFar, EarliestSoFar, IsPlaced, base
 use crate::instants::instant;
 use crate::places::least_in;
 use crate::policies::Policy;
-use crate::stored::Stored;
-use crate::stretches::Stretch;
-use deed_core::{Deed, Request};
+use crate::stretches::{Stretch, stretch_at};
+use deed_core::{Deed, Request, Stored};
 
 /// A place in the list of free ranges, the range there, and an address in it.
 #[derive(Clone, Copy)]
@@ -41,13 +41,13 @@ fn better<D: Deed>(
     at: usize,
     best: Option<Found>,
 ) -> Option<Found>
-    requires quantum { IsTrue (is_power_of_two quantum) }
+    requires quantum { IsPowerOfTwo quantum }
     requires good { IsGood quantum request.now }
     requires at { at < length free.now }
     requires best { BestSoFar quantum request.now free.now at best }
     ensures { BestSoFar quantum request.now free.now (at + 1) result }
 {
-    let range = free[at].stretch();
+    let range = stretch_at(free, at);
     let Some(base) = least_in(request, quantum, range, 0) else {
         return best;
     };
@@ -64,7 +64,7 @@ fn better<D: Deed>(
 
 /// The best range that serves the request, and its least address that does.
 pub fn best<D: Deed>(free: &[Stored<D>], quantum: u64, request: &Request) -> Option<Found>
-    requires quantum { IsTrue (is_power_of_two quantum) }
+    requires quantum { IsPowerOfTwo quantum }
     requires good { IsGood quantum request.now }
     ensures choice { IsBestChoice quantum request.now free.now (base_of result) }
     ensures placed { IfSome result (IsPlaced quantum request.now free.now) }
@@ -85,14 +85,14 @@ fn earlier<D: Deed>(
     at: usize,
     earliest: Option<Found>,
 ) -> Option<Found>
-    requires quantum { IsTrue (is_power_of_two quantum) }
+    requires quantum { IsPowerOfTwo quantum }
     requires good { IsGood quantum request.now }
     requires start { start ≤ 2 ^ 62 }
     requires at { at < length free.now }
     requires earliest { EarliestSoFar quantum request.now start free.now at earliest }
     ensures { EarliestSoFar quantum request.now start free.now (at + 1) result }
 {
-    let range = free[at].stretch();
+    let range = stretch_at(free, at);
     let Some(base) = least_in(request, quantum, range, start) else {
         return earliest;
     };
@@ -109,7 +109,7 @@ fn earlier<D: Deed>(
 
 /// The least address from `start` on that serves the request.
 pub fn earliest<D: Deed>(free: &[Stored<D>], quantum: u64, request: &Request, start: u64) -> Option<Found>
-    requires quantum { IsTrue (is_power_of_two quantum) }
+    requires quantum { IsPowerOfTwo quantum }
     requires good { IsGood quantum request.now }
     requires start { start ≤ 2 ^ 62 }
     ensures { EarliestSoFar quantum request.now start free.now (length free.now) result }
@@ -123,7 +123,7 @@ pub fn earliest<D: Deed>(free: &[Stored<D>], quantum: u64, request: &Request, st
 
 /// The least address at or past the rover that serves, else the least that does.
 fn next<D: Deed>(free: &[Stored<D>], rover: u64, quantum: u64, request: &Request) -> Option<Found>
-    requires quantum { IsTrue (is_power_of_two quantum) }
+    requires quantum { IsPowerOfTwo quantum }
     requires good { IsGood quantum request.now }
     requires rover { rover ≤ 2 ^ 62 }
     ensures choice { IsNextChoice quantum request.now free.now rover (base_of result) }
@@ -144,8 +144,9 @@ pub fn chosen<D: Deed>(
     quantum: u64,
     request: &Request,
 ) -> Option<Found>
-    requires quantum { IsTrue (is_power_of_two quantum) }
+    requires quantum { IsPowerOfTwo quantum }
     requires good { IsGood quantum request.now }
+    requires below { All (λ r. IsRange r.range) free.now }
     requires aligned { All (λ r. r.range.base % quantum ≡ 0) free.now }
     requires rover { rover ≤ 2 ^ 62 }
     ensures choice { IsChoice policy quantum request.now free.now rover (base_of result) }

@@ -1,13 +1,11 @@
 //! Cuts of a free range.
 ghost use Rattle.std.specs.Prelude.{◌≡◌, ◌+◌, ◌-◌, ◌<◌, ◌≤◌, ◌++◌, HoldsAt, IfOk, IfErr, OnErr, IfNone, IfSome, vec_len, vec_capacity, remove, option_to_list};
-ghost use Rattle.std.specs.List.{insert};
 ghost use Rattle.deed_core.specs.Extent.{end_of};
 ghost use Rattle.deed_core.specs.Holding.{joined, GoesOn};
 ghost use Rattle.tag_arena.specs.Calls.{part, between, rests};
 
-use crate::stored::Stored;
 use crate::stretches::Stretch;
-use deed_core::Deed;
+use deed_core::{Deed, Stored, insert_reserved};
 use std::alloc::AllocError;
 
 /// A piece of a deed, and what is left of the deed on either side.
@@ -88,20 +86,6 @@ fn cut_out<D: Deed>(whole: Stored<D>, base: u64, end: u64) -> Result<Cut<D>, Sto
     match cut_high(rest, end) {
         Ok((piece, high)) => Ok(Cut { low, piece, high }),
         Err(rest) => Err(rejoin(low, rest)),
-    }
-}
-
-/// Puts a value at a place of a list that has room.
-pub fn insert_reserved<T>(items: &mut Vec<T>, index: usize, value: T)
-    requires index { index ≤ vec_len items.old }
-    requires room { vec_len items.old < vec_capacity items.old }
-    ensures len { vec_len items.new ≡ vec_len items.old + 1 }
-    ensures items { items.new.items ≡ insert items.old.items index value }
-    ensures capacity { vec_capacity items.new ≡ vec_capacity items.old }
-{
-    match items.insert(index, value) {
-        Ok(()) => {}
-        Err(_) => unreachable!(),
     }
 }
 

@@ -1,15 +1,14 @@
 //! The choice from power-of-two lists.
 ghost use Rattle.std.specs.Prelude.{◌≡◌, ℕ, ◌+◌, ◌*◌, ◌%◌, ◌^◌, ◌<◌, length, All, IsTrue, MatchOption, IfSome};
-ghost use Rattle.std.specs.Int.{is_power_of_two};
+ghost use Rattle.std.specs.Int.{IsPowerOfTwo};
+ghost use Rattle.deed_core.specs.Extent.{IsRange};
 ghost use Rattle.deed_core.specs.Request.{IsGood};
 ghost use Rattle.tag_arena.specs.Choice.{IsInstantChoice, OnList};
 ghost use Rattle.tag_arena.specs.Found.{NewestSoFar, IsPlaced, base_of};
 
 use crate::choices::{Found, best};
-use crate::places::units;
-use crate::stored::Stored;
-use crate::stretches::Stretch;
-use deed_core::{Deed, Request};
+use crate::stretches::{Stretch, stretch_at};
+use deed_core::{Deed, Request, Stored};
 
 /// A place in the list of free ranges, the range there, and the number of its power-of-two list.
 #[derive(Clone, Copy)]
@@ -45,7 +44,7 @@ fn newer<D: Deed>(
     requires newest { NewestSoFar quantum len free.now at newest }
     ensures { NewestSoFar quantum len free.now (at + 1) result }
 {
-    let range = free[at].stretch();
+    let range = stretch_at(free, at);
     let Some(list) = list_of(&range, quantum) else {
         return newest;
     };
@@ -77,8 +76,9 @@ pub fn newest<D: Deed>(free: &[Stored<D>], quantum: u64, len: u64) -> Option<Lis
 
 /// The newest range on the least list whose every member serves, else the best choice.
 pub fn instant<D: Deed>(free: &[Stored<D>], quantum: u64, request: &Request) -> Option<Found>
-    requires quantum { IsTrue (is_power_of_two quantum) }
+    requires quantum { IsPowerOfTwo quantum }
     requires good { IsGood quantum request.now }
+    requires below { All (λ r. IsRange r.range) free.now }
     requires aligned { All (λ r. r.range.base % quantum ≡ 0) free.now }
     ensures choice { IsInstantChoice quantum request.now free.now (base_of result) }
     ensures placed { IfSome result (IsPlaced quantum request.now free.now) }
@@ -86,7 +86,7 @@ pub fn instant<D: Deed>(free: &[Stored<D>], quantum: u64, request: &Request) -> 
     if request.is_constrained() {
         return best(free, quantum, request);
     }
-    let Some(len) = units(request, quantum) else {
+    let Some(len) = request.units(quantum) else {
         return best(free, quantum, request);
     };
     let Some(listed) = newest(free, quantum, len) else {

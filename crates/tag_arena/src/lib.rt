@@ -14,7 +14,6 @@ mod merges;
 mod places;
 mod policies;
 mod spans;
-mod stored;
 mod stretches;
 mod tags;
 #[cfg(test)]

@@ -5,8 +5,7 @@ ghost use Rattle.deed_core.specs.Extent.{end_of};
 ghost use Rattle.deed_core.specs.Holding.{GoesOn};
 ghost use Rattle.tag_arena.specs.Neighbors.{TakesLeft, TakesRight};
 
-use crate::stored::Stored;
-use deed_core::Deed;
+use deed_core::{Deed, Stored};
 
 /// Where the range that ends at `base` stands.
 fn ends_at<D: Deed>(free: &[Stored<D>], base: u64) -> Option<usize>

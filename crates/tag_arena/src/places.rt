@@ -1,8 +1,7 @@
 //! The least place of a request in one range.
 ghost use Rattle.std.specs.Prelude.{◌≡◌, ◌≢◌, ℕ, ◌+◌, ◌-◌, ◌*◌, ◌/◌, ◌%◌, ◌^◌, ◌<◌, ◌≤◌, IsTrue, ◌↔◌};
-ghost use Rattle.std.specs.Int.{is_power_of_two};
-ghost use Rattle.std.specs.Option.{SomeIff};
-ghost use Rattle.deed_core.specs.Request.{IsGood, rounded};
+ghost use Rattle.std.specs.Int.{IsPowerOfTwo};
+ghost use Rattle.deed_core.specs.Request.{IsGood};
 ghost use Rattle.tag_arena.specs.Place.{IsLeast, IsPlace, Nest, OnGrid, ServesIn};
 
 use crate::stretches::Stretch;
@@ -70,17 +69,9 @@ fn least_place(
     }
 }
 
-/// The size rounded up to the quantum, where it is below 2^64.
-pub fn units(request: &Request, quantum: u64) -> Option<u64>
-    requires { 0 < quantum }
-    ensures { SomeIff result (rounded quantum request.now.size < 2 ^ 64) (rounded quantum request.now.size) }
-{
-    request.size.checked_next_multiple_of(quantum)
-}
-
 /// The block, and the place in it at which a base may stand.
 fn grid(request: &Request, quantum: u64) -> (u64, u64)
-    requires quantum { IsTrue (is_power_of_two quantum) }
+    requires quantum { IsPowerOfTwo quantum }
     requires good { IsGood quantum request.now }
     ensures same { (base : ℕ) → (base % result.0 ≡ result.1) ↔ OnGrid quantum request.now base }
     ensures phase { result.1 < result.0 }
@@ -97,12 +88,12 @@ fn grid(request: &Request, quantum: u64) -> (u64, u64)
 /// The least base from `from` on at which the range serves the request, found in a number of steps
 /// that no member of the request changes.
 pub fn least_in(request: &Request, quantum: u64, range: Stretch, from: u64) -> Option<u64>
-    requires quantum { IsTrue (is_power_of_two quantum) }
+    requires quantum { IsPowerOfTwo quantum }
     requires good { IsGood quantum request.now }
     requires from { from ≤ 2 ^ 62 }
     ensures { IsLeast (λ base. ServesIn quantum request.now range base × (from ≤ base)) result }
 {
-    let len = units(request, quantum)?;
+    let len = request.units(quantum)?;
     let (align, phase) = grid(request, quantum);
     let low = from.max(range.base()).max(request.min);
     let high = request.max.min(range.end());

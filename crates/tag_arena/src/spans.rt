@@ -4,9 +4,8 @@ ghost use Rattle.deed_core.specs.Extent.{Covers, Overlap, IsRange};
 ghost use Rattle.deed_core.specs.Holding.{Holding};
 ghost use Rattle.tag_arena.specs.ArenaState.{units_of};
 
-use crate::stored::Stored;
 use crate::stretches::Stretch;
-use deed_core::{Deed, Range};
+use deed_core::{Deed, Range, Stored};
 use std::marker::Model;
 
 /// An imported span, with the arena that it came from. A contract sees the segment that goes back there.

@@ -1,8 +1,8 @@
 //! What a deed stands for, as plain data.
-ghost use Rattle.std.specs.Prelude.{◌≡◌};
+ghost use Rattle.std.specs.Prelude.{◌≡◌, ◌<◌, HoldsAt, length};
 ghost use Rattle.deed_core.specs.Extent.{IsRange, end_of};
 
-use deed_core::Range;
+use deed_core::{Deed, Range, Stored};
 use std::marker::Model;
 
 /// A range of a root. A contract sees it as a deed of the same is seen.
@@ -62,4 +62,21 @@ impl Stretch {
     {
         self.range.end()
     }
+}
+
+/// What the deed stands for.
+pub fn stretch_of<D: Deed>(stored: &Stored<D>) -> Stretch
+    ensures value { result ≡ stored.now }
+    ensures range { IsRange stored.now.range }
+{
+    Stretch::new(stored.root(), stored.range())
+}
+
+/// What the deed at a place stands for.
+pub fn stretch_at<D: Deed>(free: &[Stored<D>], at: usize) -> Stretch
+    requires { at < length free.now }
+    ensures here { HoldsAt (λ r. r ≡ result) free.now at }
+    ensures range { IsRange result.range }
+{
+    stretch_of(&free[at])
 }

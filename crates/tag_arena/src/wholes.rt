@@ -2,9 +2,8 @@
 ghost use Rattle.std.specs.Prelude.{◌≡◌, ◌+◌, ◌<◌, Contains, HoldsAt, MatchOption, length};
 ghost use Rattle.tag_arena.specs.Found.{LowestSoFar};
 
-use crate::stored::Stored;
-use crate::stretches::Stretch;
-use deed_core::Deed;
+use crate::stretches::{Stretch, stretch_at};
+use deed_core::{Deed, Stored};
 
 /// An owned span that is a free range, and where it stands in both lists.
 #[derive(Clone, Copy)]
@@ -19,7 +18,7 @@ fn place_of<D: Deed>(free: &[Stored<D>], range: Stretch) -> Option<usize>
     ensures { MatchOption result (¬ Contains free.now range) (λ at. (at < length free.now) × HoldsAt (λ r. r ≡ range) free.now at) }
 {
     for at in 0..free.len() {
-        if free[at].stretch() == range {
+        if stretch_at(free, at) == range {
             return Some(at);
         }
     }

@@ -1,0 +1,9 @@
+pub mod Members
+pub mod Blocks
+pub mod PowerLists
+pub mod Grids
+pub mod Scans
+pub mod Choosing
+pub mod Ranges
+pub mod Carving
+pub mod OneChoice
