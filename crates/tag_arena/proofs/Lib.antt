@@ -7,3 +7,7 @@ pub mod Choosing
 pub mod Ranges
 pub mod Carving
 pub mod OneChoice
+pub mod Freeing
+pub mod Merging
+pub mod Adding
+pub mod Removing

@@ -1,4 +1,8 @@
 use Rattle.tag_arena.proofs.OneChoice.{best_one}
+use Rattle.tag_arena.proofs.Freeing.{whole_after_free}
+use Rattle.tag_arena.proofs.Merging.{merged_edged}
+use Rattle.tag_arena.proofs.Adding.{whole_after_add}
+use Rattle.tag_arena.proofs.Removing.{whole_after_remove}
 use Rattle.tag_arena.proofs.Carving.{whole_after_carve}
 use Rattle.tag_arena.proofs.laws.best_is_one.Goals as goal
 
