@@ -11,3 +11,7 @@ pub mod Freeing
 pub mod Merging
 pub mod Adding
 pub mod Removing
+pub mod Allocations
+pub mod Counting
+pub mod SpanLists
+pub mod Lookups

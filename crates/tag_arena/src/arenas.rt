@@ -42,11 +42,12 @@ impl<D: Deed> Model for Arena<D> {
     ghost use Rattle.std.specs.Coded.{codes, coded_ℕ};
     ghost use Rattle.std.specs.Ordering.{nat_cmp};
     ghost use Rattle.std.specs.FinMap as finmap;
+    ghost use Rattle.deed_core.specs.Holding.{Holding};
     ghost use Rattle.tag_arena.specs.ArenaState.{ArenaState, IsSound};
 
     ghost Value = { ArenaState };
 
-    ghost coded = { Prim.hlevel (codes, finmap.code {R = nat_cmp} coded_ℕ (Prim.hlevel codes)) };
+    ghost coded = { Prim.hlevel (codes, finmap.code {X = Holding} {R = nat_cmp} coded_ℕ (Prim.hlevel codes)) };
 
     ghost view = { λ a. record { id = a.id; quantum = a.quantum; policy = a.policy; owned = a.owned.items; imported = a.imported.items; free = a.free.items; allocated = a.tags; rover = a.rover } };
 
@@ -55,7 +56,7 @@ impl<D: Deed> Model for Arena<D> {
         × (vec_len a.free + finmap.len a.tags ≤ vec_capacity a.free) };
 }
 
-/// How many units an arena has, each sum by itself.
+/// How many units an arena has.
 #[derive(Clone, Copy, PartialEq, Eq, Debug)]
 pub struct ArenaReport {
     pub span: u128,
@@ -105,15 +106,18 @@ impl<D: Deed> Arena<D> {
         ensures span { result.span ≡ units_of (spans_of self.now) }
         ensures free { result.free ≡ units_of self.now.free }
         ensures allocated { result.allocated ≡ units_of (ranges_of self.now.allocated) }
+        ensures adds_up { result.span ≡ result.free + result.allocated }
 
         // What is always so of an arena.
         ensures longest { FreeIsLongestRuns (layout_of self.now) }
         ensures sound { IsSound self.now }
     {
+        let span = owned_units(&self.owned) + imported_units(&self.imported);
+        let free = free_units(&self.free);
         ArenaReport {
-            span: owned_units(&self.owned) + imported_units(&self.imported),
-            free: free_units(&self.free),
-            allocated: self.tags.units(),
+            span,
+            free,
+            allocated: span - free,
         }
     }
 

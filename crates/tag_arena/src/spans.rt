@@ -1,7 +1,7 @@
 //! The spans of an arena.
-ghost use Rattle.std.specs.Prelude.{◌≡◌, ◌≢◌, ℕ, ◌+◌, ◌<◌, ◌≤◌, ◌↔◌, ◌++◌, map, All, Any, Contains, HoldsAt, IsTrue, MatchBool, MatchOption, IfSome, length, slice_index_or, sum_by, take};
+ghost use Rattle.std.specs.Prelude.{◌≡◌, ◌≢◌, ℕ, ◌+◌, ◌*◌, ◌^◌, ◌<◌, ◌≤◌, ◌++◌, map, All, Any, Contains, HoldsAt, IsTrue, MatchBool, MatchOption, IfSome, length, slice_index_or, sum_by, take};
 ghost use Rattle.deed_core.specs.Extent.{Covers, Overlap, IsRange};
-ghost use Rattle.deed_core.specs.Holding.{Holding};
+ghost use Rattle.deed_core.specs.declared.segments.Route.TheVariants.{Direct};
 ghost use Rattle.tag_arena.specs.ArenaState.{units_of};
 
 use crate::stretches::Stretch;
@@ -26,7 +26,7 @@ impl Model for Import {
 
 impl Import {
     pub fn new(source: u32, span: Stretch) -> Import
-        ensures { result ≡ record { arena = source; route = deed_core.Route.Direct; holding = span } }
+        ensures { result ≡ record { arena = source; route = Direct; holding = span } }
     {
         Import { source, span }
     }

@@ -1,29 +1,25 @@
 //! The allocated ranges, by their bases.
 ghost use Rattle.std.specs.Prelude.{◌≡◌, ◌+◌, ◌^◌, ◌<◌, OnOk, OnErr, Some, None};
 ghost use Rattle.std.specs.FinMap as finmap;
-ghost use Rattle.deed_core.specs.Extent.{IsRange};
-ghost use Rattle.tag_arena.specs.ArenaState.{ranges_of, units_of};
 
 use crate::stretches::Stretch;
 use std::alloc::{AllocError, Global};
 use std::collections::HashMap;
 use std::marker::Model;
 
-/// Each allocated range at its base, how many they are, and how many units they have.
+/// Each allocated range at its base, and how many they are.
 #[derive(Drop)]
 pub struct Tags {
     ranges: HashMap<u64, Stretch>,
     count: usize,
-    units: u128,
 }
 
 impl Model for Tags {
-    ghost use Rattle.std.specs.Prelude.{◌≡◌, ◌*◌, ◌^◌, ◌≤◌, ℕ};
+    ghost use Rattle.std.specs.Prelude.{◌≡◌};
     ghost use Rattle.std.specs.Ordering.{nat_cmp};
     ghost use Rattle.std.specs.Coded.{codes, coded_ℕ};
     ghost use Rattle.std.specs.FinMap as finmap;
     ghost use Rattle.deed_core.specs.Holding.{Holding};
-    ghost use Rattle.tag_arena.specs.ArenaState.{ranges_of, units_of};
 
     ghost Value = { finmap.FinMap nat_cmp Holding };
 
@@ -31,9 +27,7 @@ impl Model for Tags {
 
     ghost view = { λ a. finmap.from_entries a.ranges.entries };
 
-    ghost invariant = { λ a. (a.count ≡ finmap.len (finmap.from_entries {R = nat_cmp} a.ranges.entries))
-        × (a.units ≡ units_of (ranges_of (finmap.from_entries a.ranges.entries)))
-        × (a.units ≤ a.count * 2 ^ 62) };
+    ghost invariant = { λ a. a.count ≡ finmap.len (finmap.from_entries {R = nat_cmp} a.ranges.entries) };
 }
 
 impl Tags {
@@ -43,7 +37,6 @@ impl Tags {
         Tags {
             ranges: HashMap::new(alloc),
             count: 0,
-            units: 0,
         }
     }
 
@@ -51,12 +44,6 @@ impl Tags {
         ensures { result ≡ finmap.len self.now }
     {
         self.count
-    }
-
-    pub fn units(&self) -> u128
-        ensures { result ≡ units_of (ranges_of self.now) }
-    {
-        self.units
     }
 
     pub fn get(&self, base: u64) -> Option<Stretch>
@@ -74,7 +61,6 @@ impl Tags {
     {
         self.ranges.insert(range.base(), range)?;
         self.count += 1;
-        self.units += range.len() as u128;
         Ok(())
     }
 
@@ -85,6 +71,5 @@ impl Tags {
     {
         self.ranges.remove(&range.base());
         self.count -= 1;
-        self.units -= range.len() as u128;
     }
 }

@@ -1,4 +1,7 @@
 use Rattle.tag_arena.proofs.OneChoice.{best_one}
+use Rattle.tag_arena.proofs.Allocations.{gains_insert}
+use Rattle.tag_arena.proofs.Counting.{covering-freed}
+use Rattle.tag_arena.proofs.SpanLists.{without-remove}
 use Rattle.tag_arena.proofs.Freeing.{whole_after_free}
 use Rattle.tag_arena.proofs.Merging.{merged_edged}
 use Rattle.tag_arena.proofs.Adding.{whole_after_add}

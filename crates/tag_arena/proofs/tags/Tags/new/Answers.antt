@@ -1,0 +1,9 @@
+use Rattle.std.proofs.Common.{ℕ, sym, ap, ◌∙◌, arith}
+use Rattle.std.specs.Ordering.{nat_cmp}
+use Rattle.std.specs.FinMap as finmap
+use Rattle.std.specs.FinMap.{len-empty}
+use Rattle.deed_core.specs.Holding.{Holding}
+use Rattle.tag_arena.proofs.tags.Tags.new.Goals as goal
+
+pub invariant_of-result : goal.invariant_of-result
+invariant_of-result c = ?
