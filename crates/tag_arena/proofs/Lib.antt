@@ -15,3 +15,4 @@ pub mod Allocations
 pub mod Counting
 pub mod SpanLists
 pub mod Lookups
+pub mod Sounding
