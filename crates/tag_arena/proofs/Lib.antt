@@ -16,3 +16,5 @@ pub mod Counting
 pub mod SpanLists
 pub mod Lookups
 pub mod Sounding
+pub mod Reporting
+pub mod Granting

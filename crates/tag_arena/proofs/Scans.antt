@@ -1,5 +1,5 @@
 -- One range more in a scan of the free ranges.
-use Rattle.std.proofs.Common.{◌≡◌, ◌⊎◌, ℕ, ◌+◌, ◌*◌, ◌%◌, ◌^◌, ◌<◌, ◌≤◌, sym, subst, ap, ⊎_elim, List, get_or, HoldsAt, Option, Some, None, arith}
+use Rattle.std.proofs.Common.{◌≡◌, ◌⊎◌, ℕ, ◌+◌, ◌*◌, ◌%◌, ◌^◌, ◌<◌, ◌≤◌, sym, subst, ap, ⊎_elim, List, length, get_or, HoldsAt, Contains, Option, Some, None, arith}
 use Rattle.std.proofs.lemmas.Bool.{cases_lt}
 use Rattle.std.proofs.lemmas.Nat.{one_shl}
 use Rattle.std.specs.List.{AllWithin}
@@ -9,7 +9,8 @@ use Rattle.tag_arena.specs.declared.choices.Found.{Found}
 use Rattle.tag_arena.specs.declared.instants.Listed.{Listed}
 use Rattle.tag_arena.specs.Place.{IsLeast, ServesIn}
 use Rattle.tag_arena.specs.Choice.{ComesFirst, OnList, ListServes}
-use Rattle.tag_arena.specs.Found.{BestSoFar, EarliestSoFar, NewestSoFar}
+use Rattle.tag_arena.specs.declared.wholes.Whole.{Whole}
+use Rattle.tag_arena.specs.Found.{BestSoFar, EarliestSoFar, NewestSoFar, LowestSoFar}
 
 pub within_more : {X : Type 0} (P : X → Type 0) (xs : List X) (i n : ℕ) → AllWithin P xs i n → ((d : X) → P (get_or xs n d)) → AllWithin P xs i (n + 1)
 within_more P xs i n before here k d from below =
@@ -141,3 +142,21 @@ module _ (free : List Holding) (at : ℕ) (range : Holding) (here : HoldsAt (λ 
 -- a shift by less than 64 bits
 pub shifted : (list quantum : ℕ) → list < 64 → 1 * 2 ^ list % 2 ^ 64 * quantum ≡ 2 ^ list * quantum
 shifted list quantum lt = ap (λ k. k * quantum) (one_shl list 64 lt)
+
+-- one owned span more
+module _ (owned free : List Holding) (at : ℕ) (span : Holding) (here : HoldsAt (λ s. s ≡ span) owned at) where
+  at_span : (P : Holding → Type 0) → P span → (d : Holding) → P (get_or owned at d)
+  at_span P p d = subst P (sym (here d)) p
+
+  pub lowest_skips : (o : Option Whole) → LowestSoFar owned free at o → (Contains free span → ⊥) → LowestSoFar owned free (at + 1) o
+  lowest_skips None so none = within_more (λ s. Contains free s → ⊥) owned 0 at so (at_span (λ s. Contains free s → ⊥) none)
+  lowest_skips (Some w) so none = (
+    omega (arith, so.0), so.1, so.2, so.3,
+    within_more (λ s. Contains free s → w.span.range.base ≤ s.range.base) owned 0 at so.4 (at_span (λ s. Contains free s → w.span.range.base ≤ s.range.base) (λ in-free. absurd (none in-free))),
+  )
+
+  pub lowest_first : (free_at : ℕ) → free_at < length free → HoldsAt (λ r. r ≡ span) free free_at → LowestSoFar owned free at None → LowestSoFar owned free (at + 1) (Some (record { at = at; free_at = free_at; span = span }))
+  lowest_first free_at within there so = (
+    omega arith, here, within, there,
+    within_more (λ s. Contains free s → span.range.base ≤ s.range.base) owned 0 at (λ k d from below in-free. absurd (so k d from below in-free)) (at_span (λ s. Contains free s → span.range.base ≤ s.range.base) (λ in-free. omega arith)),
+  )
