@@ -1,5 +1,5 @@
 -- A carve of what was found, in terms of the calls that make it.
-use Rattle.std.proofs.Common.{◌≡◌, ◌≢◌, ℕ, ◌+◌, ◌-◌, ◌*◌, ◌/◌, ◌%◌, ◌^◌, ◌<◌, ◌≤◌, refl, sym, subst, ap, ◌∙◌, inl, inr, ⊎_elim, List, ◌++◌, length, get_or, remove, HoldsAt, Contains, Option, Some, None, SomeIff, arith}
+use Rattle.std.proofs.Common.{◌≡◌, ◌≢◌, ℕ, ◌+◌, ◌-◌, ◌*◌, ◌/◌, ◌%◌, ◌^◌, ◌<◌, ◌≤◌, refl, sym, subst, ap, ◌∙◌, inl, inr, ⊎_elim, List, ◌++◌, length, get_or, remove, HoldsAt, Contains, Option, Some, None, SomeIff, Result, Ok, Err, IfErr, IsErrAnd, arith}
 use Rattle.std.proofs.lemmas.Bool.{cases_eq}
 use Rattle.std.proofs.Math.Nat.{mul-mod_left, mod_self, mod-eq_of_lt}
 use Rattle.std.proofs.lemmas.Nat.{div-add-mod', mod_below}
@@ -13,6 +13,8 @@ use Rattle.deed_core.specs.Weights.{Gains}
 use Rattle.deed_core.specs.Request.{IsGood, rounded}
 use Rattle.deed_core.specs.declared.requests.Request.{Request}
 use Rattle.tag_arena.specs.declared.choices.Found.{Found}
+use Rattle.tag_arena.specs.declared.faults.ArenaFault.{ArenaFault}
+use Rattle.tag_arena.specs.declared.faults.ArenaFault.TheVariants.{NoFit, NoMemory}
 use Rattle.tag_arena.specs.Layout.{IsPartOf}
 use Rattle.tag_arena.specs.Choice.{IsChoice}
 use Rattle.tag_arena.specs.Found.{IsPlaced}
@@ -98,3 +100,25 @@ module _ (a : ArenaState) (sound : IsSound a) (q : Request) (good : IsGood a.qua
 
   pub found_grid : OnQuantum a.quantum piece.range
   found_grid = (placed.2.fits.whole, ap (λ k. k % a.quantum) n_is ∙ rounded_multiple q.size a.quantum (power_some a.quantum sound.power))
+
+-- the error of a result
+err_or : {X : Type 0} → Result X ArenaFault → ArenaFault → ArenaFault
+err_or (Ok x) d = d
+err_or (Err fault) d = fault
+
+-- a refusal for memory that `?` passes on
+pub memory_refused : {X : Type 0} (r : Result X ArenaFault) (Q : ArenaFault → Type 0) → IsErrAnd r (λ fault. fault ≡ NoMemory) → Q NoMemory → IfErr r Q
+memory_refused (Ok x) Q h q = tt
+memory_refused (Err fault) Q h q = subst Q (sym h) q
+
+not_that : (fault : ArenaFault) → fault ≡ NoMemory → NoFit ≡ fault → ⊥
+not_that fault h e = let both : NoFit ≡ NoMemory = e ∙ h in cc
+
+err_is : {X : Type 0} (r : Result X ArenaFault) → IsErrAnd r (λ fault. fault ≡ NoMemory) → (d : ArenaFault) → err_or r d ≡ NoMemory
+unfolding err_or
+err_is (Ok x) h d = absurd h
+err_is (Err fault) h d = h
+
+pub memory_not_fit : {X : Type 0} (r : Result X ArenaFault) → IsErrAnd r (λ fault. fault ≡ NoMemory) → r ≡ Err NoFit → ⊥
+unfolding err_or
+memory_not_fit r h e = not_that NoMemory refl (ap (λ x. err_or x NoFit) (sym e) ∙ err_is r h NoFit)

@@ -18,3 +18,4 @@ pub mod Lookups
 pub mod Sounding
 pub mod Reporting
 pub mod Granting
+pub mod Returning

@@ -12,7 +12,7 @@ ghost use Rattle.tag_arena.specs.Calls.{Carves, RefusesCarve, IsClear, RefusesSp
 use crate::choices::chosen;
 use crate::cuts::{carve, cut_first, push_rest};
 use crate::faults::ArenaFault;
-use crate::merges::{join_left, join_right, take_left, take_right};
+use crate::merges::merge;
 use crate::policies::Policy;
 use crate::spans::{
     Import, free_units, imported_units, overlaps_imported, overlaps_owned, owned_units,
@@ -296,10 +296,7 @@ impl<D: Deed> Arena<D> {
             return Err(segment);
         }
         let span = span_at(&self.owned, &self.imported, piece.base()).unwrap();
-        let left = take_left(&mut self.free, span.base(), piece.base());
-        let right = take_right(&mut self.free, piece.end(), span.end());
-        let deed = join_left(left, Stored::new(segment.into_deed()));
-        let merged = join_right(deed, right);
+        let merged = merge(&mut self.free, span, Stored::new(segment.into_deed()));
         self.tags.remove(piece);
         let Some(at) = place_of_import(&self.imported, &stretch_of(&merged)) else {
             self.free.push_reserved(merged);

@@ -3,8 +3,10 @@ ghost use Rattle.std.specs.Prelude.{◌≡◌, ◌≢◌, ◌+◌, ◌<◌, ◌�
 ghost use Rattle.std.specs.Option.{option_map_or};
 ghost use Rattle.deed_core.specs.Extent.{end_of};
 ghost use Rattle.deed_core.specs.Holding.{GoesOn};
-ghost use Rattle.tag_arena.specs.Neighbors.{TakesLeft, TakesRight};
+ghost use Rattle.tag_arena.specs.Layout.{IsPartOf};
+ghost use Rattle.tag_arena.specs.Neighbors.{IsBeside, Merges, TakesLeft, TakesRight};
 
+use crate::stretches::Stretch;
 use deed_core::{Deed, Stored};
 
 /// Where the range that ends at `base` stands.
@@ -32,7 +34,7 @@ fn starts_at<D: Deed>(free: &[Stored<D>], end: u64) -> Option<usize>
 }
 
 /// Takes out the free range that ends at `base`, unless the span begins there.
-pub fn take_left<D: Deed>(
+fn take_left<D: Deed>(
     free: &mut Vec<Stored<D>>,
     start: u64,
     base: u64,
@@ -50,7 +52,7 @@ pub fn take_left<D: Deed>(
 }
 
 /// Takes out the free range that begins at `end`, unless the span ends there.
-pub fn take_right<D: Deed>(
+fn take_right<D: Deed>(
     free: &mut Vec<Stored<D>>,
     end: u64,
     limit: u64,
@@ -68,7 +70,7 @@ pub fn take_right<D: Deed>(
 }
 
 /// The deed and the one before it, if there is one.
-pub fn join_left<D: Deed>(left: Option<Stored<D>>, deed: Stored<D>) -> Stored<D>
+fn join_left<D: Deed>(left: Option<Stored<D>>, deed: Stored<D>) -> Stored<D>
     requires { IfSome left (λ left. GoesOn left deed) }
     ensures root { result.root ≡ deed.root }
     ensures base { result.range.base ≡ option_map_or (λ left. left.range.base) left deed.range.base }
@@ -81,7 +83,7 @@ pub fn join_left<D: Deed>(left: Option<Stored<D>>, deed: Stored<D>) -> Stored<D>
 }
 
 /// The deed and the one behind it, if there is one.
-pub fn join_right<D: Deed>(deed: Stored<D>, right: Option<Stored<D>>) -> Stored<D>
+fn join_right<D: Deed>(deed: Stored<D>, right: Option<Stored<D>>) -> Stored<D>
     requires { IfSome right (λ right. GoesOn deed right) }
     ensures root { result.root ≡ deed.root }
     ensures base { result.range.base ≡ deed.range.base }
@@ -91,4 +93,20 @@ pub fn join_right<D: Deed>(deed: Stored<D>, right: Option<Stored<D>>) -> Stored<
         Some(right) => deed.join(right),
         None => deed,
     }
+}
+
+/// The deed and its free neighbors inside the span, which are taken out.
+pub fn merge<D: Deed>(free: &mut Vec<Stored<D>>, span: Stretch, deed: Stored<D>) -> Stored<D>
+    requires inside { IsPartOf span deed }
+    requires some { 0 < deed.range.len }
+    requires beside { All (IsBeside span) free.old.items }
+    ensures merges { Merges span deed free.old.items result free.new.items }
+    ensures len { vec_len free.new ≤ vec_len free.old }
+    ensures capacity { vec_capacity free.new ≡ vec_capacity free.old }
+{
+    let range = deed.range();
+    let left = take_left(free, span.base(), range.base());
+    let right = take_right(free, range.end(), span.end());
+    let low = join_left(left, deed);
+    join_right(low, right)
 }
