@@ -231,3 +231,19 @@ module _ (a : ArenaState) (sound : IsSound a) (piece : Holding) (at : finmap.get
           inside = held;
           after = ((k, within, sym there), ap (λ (w : Tag). w.holding) there ∙ here t, is);
         }
+
+-- what a match says where the value is there
+pub some_there : {X : Type 0} (o : Option X) (A : Type 0) (B : X → Type 0) (x : X) → MatchOption o A B → o ≡ Some x → B x
+some_there o A B x h e = subst (λ k. MatchOption k A B) e h
+
+-- the piece and its left neighbor go on to the right one
+pub joins_right : (span piece low : Holding) (old mid new : List Holding) (l r : Option Holding) (start base end limit : ℕ) → start ≡ span.range.base → base ≡ piece.range.base → end ≡ end_of piece.range → limit ≡ end_of span.range
+    → IsPartOf span piece → 0 < piece.range.len → All (IsBeside span) old → TakesLeft start base old l mid → TakesRight end limit mid r new → low.root ≡ piece.root → end_of low.range ≡ end_of piece.range → IfSome r (λ x. GoesOn low x)
+joins_right span piece low old mid new l r start base end limit start_is base_is end_is limit_is inside some beside left right root end_same =
+    goes_off_same r piece low root end_same
+    (right_goes_on span piece mid new r inside some (mid_beside span start base old mid l beside left)
+    (subst (λ (k : ℕ). TakesRight k (end_of span.range) mid r new) end_is (subst (λ (k : ℕ). TakesRight end k mid r new) limit_is right)))
+
+-- segments of one arena, route and holding are seen alike
+pub same_tag : (t w : Tag) → t.arena ≡ w.arena → t.route ≡ w.route → t.holding ≡ w.holding → t ≡ w
+same_tag t w arena route holding = λ i. record { arena = arena i; route = route i; holding = holding i }

@@ -2,7 +2,7 @@
 use Rattle.std.proofs.Common.{◌≡◌, ◌≢◌, ◌⊎◌, ℕ, zero, suc, ◌+◌, ◌-◌, ◌*◌, ◌/◌, ◌%◌, ◌^◌, ◌<◌, ◌≤◌, Bool, true, false, not, nat_eq, refl, sym, subst, ap, ◌∙◌, inl, inr, ⊎_elim, List, [], ◌∷◌, ◌++◌, map, length, get_or, remove, HoldsAt, Contains, All, AllPairs, filter, Option, Some, None, sum_by, arith}
 use Rattle.std.proofs.lemmas.Bool.{cases_lt, cases_eq, cases_Bool, cases_order}
 use Rattle.std.proofs.lemmas.List.{get_or_default, map-append, append_assoc}
-use Rattle.std.proofs.lemmas.List.Elements.{All-contains, Contains-append_left, Contains-append_right, Contains-append_cases, Contains-push, Contains-push_cases}
+use Rattle.std.proofs.lemmas.List.Elements.{All-contains, All-push, Contains-append_left, Contains-append_right, Contains-append_cases, Contains-push, Contains-push_cases}
 use Rattle.std.proofs.lemmas.List.Quantifiers.{all_pairs_push}
 use Rattle.std.proofs.lemmas.List.Sums.{sum_by-append, sum_by-cons, sum_by-remove, sum_by_push}
 use Rattle.std.proofs.Math.Nat.{add-mod, mod-eq_of_lt, zero-mod}
@@ -16,11 +16,12 @@ use Rattle.deed_core.specs.Holding.{Holding}
 use Rattle.deed_core.specs.Tag.{Tag}
 use Rattle.deed_core.specs.Covering.{covers, covers_held, covering_held}
 use Rattle.deed_core.specs.Weights.{Loses}
+use Rattle.deed_core.specs.declared.segments.Route.TheVariants.{Direct}
 use Rattle.tag_arena.specs.declared.policies.Policy.{Policy}
 use Rattle.tag_arena.specs.Layout.{Layout, Apart, Holds, IsPartOf, IsEdgedRun, IsWhole}
 use Rattle.tag_arena.specs.ArenaState.{ArenaState, spans_of, layout_of, ranges_of, direct, OnQuantum, IsSound, empty_arena}
 use Rattle.tag_arena.specs.Calls.{part, rests, surrounds, without, without_span, after_carve, after_add, after_import, after_free, after_return, after_remove, IsClear}
-use Rattle.tag_arena.proofs.Members.{All-from_members, Contains-nil, filter_one}
+use Rattle.tag_arena.proofs.Members.{All-from_members, Contains-nil, Contains-from_filter, filter_one}
 use Rattle.tag_arena.proofs.Ranges.{not_both, surrounds-true, true-surrounds, get_same, get_other, Any-member, holds_part}
 use Rattle.tag_arena.proofs.Carving.{whole_after_carve, no_tag, new_cases}
 use Rattle.tag_arena.proofs.Freeing.{whole_after_free, in_old, new_cases as free_cases}
@@ -60,6 +61,7 @@ sound_empty id quantum policy power = record {
   span_grid = λ s h. absurd (Contains-nil s h);
   free_grid = λ r h. absurd (Contains-nil r h);
   tag_grid = λ b t h. absurd (not_there b t h);
+  routes = λ k d lt. absurd (omega (arith, lt));
   rover = omega arith;
 }
 
@@ -99,7 +101,7 @@ module _ (a : ArenaState) (sound : IsSound a) (h : Holding) (range : IsRange h.r
   -- one span more, among the owned or among the imported
   module _ (owned : List Holding) (imported : List Tag) (old_span : (s : Holding) → Contains (spans_of a) s → Contains (owned ++ map (λ t. t.holding) imported) s) (new_in : Contains (owned ++ map (λ t. t.holding) imported) h)
       (span_cases : (s : Holding) → Contains (owned ++ map (λ t. t.holding) imported) s → Contains (spans_of a) s ⊎ (h ≡ s)) (spans_apart : AllPairs Apart (owned ++ map (λ t. t.holding) imported))
-      (counts : (u : ℕ) → covering_held u (owned ++ map (λ t. t.holding) imported) ≡ covering_held u (spans_of a) + covers u h.range) where
+      (counts : (u : ℕ) → covering_held u (owned ++ map (λ t. t.holding) imported) ≡ covering_held u (spans_of a) + covers u h.range) (routes : All (λ t. t.route ≡ Direct) imported) where
     abbrev more : ArenaState
     more = record a { owned = owned; imported = imported; free = a.free ++ h ∷ [] }
 
@@ -112,6 +114,7 @@ module _ (a : ArenaState) (sound : IsSound a) (h : Holding) (range : IsRange h.r
       span_grid = λ s in-s. ⊎_elim (sound.span_grid s) (λ (e : h ≡ s). subst (λ (y : Holding). OnQuantum a.quantum y.range) e grid) (span_cases s in-s);
       free_grid = λ x in-x. ⊎_elim (sound.free_grid x) (λ (e : h ≡ x). subst (λ (y : Holding). OnQuantum a.quantum y.range) e grid) (Contains-push_cases a.free h x in-x);
       tag_grid = sound.tag_grid;
+      routes = routes;
       rover = sound.rover;
     }
 
@@ -124,7 +127,7 @@ module _ (a : ArenaState) (sound : IsSound a) (h : Holding) (range : IsRange h.r
       (Contains-append_left (a.owned ++ h ∷ []) imports h (Contains-push a.owned h))
       (λ s in-s. ⊎_elim (λ l. ⊎_elim (λ o. inl (Contains-append_left a.owned imports s o)) inr (Contains-push_cases a.owned h s l)) (λ g. inl (Contains-append_right a.owned imports s g)) (Contains-append_cases (a.owned ++ h ∷ []) imports s in-s))
       (first_more a.owned imports h sound.whole.spans_apart apart)
-      (λ u. omega (arith, sum_by-append (covers_held u) (a.owned ++ h ∷ []) imports, sum_by-append (covers_held u) a.owned imports, sum_by_push (covers_held u) a.owned h))
+      (λ u. omega (arith, sum_by-append (covers_held u) (a.owned ++ h ∷ []) imports, sum_by-append (covers_held u) a.owned imports, sum_by_push (covers_held u) a.owned h)) sound.routes
 
 -- an imported span
 module _ (a : ArenaState) (sound : IsSound a) (t : Tag) (range : IsRange t.holding.range) (grid : OnQuantum a.quantum t.holding.range) (clear : IsClear a t.holding.range) where
@@ -141,6 +144,7 @@ module _ (a : ArenaState) (sound : IsSound a) (t : Tag) (range : IsRange t.holdi
       (λ s in-s. Contains-push_cases (spans_of a) t.holding s (subst (λ (xs : List Holding). Contains xs s) (sym spans_are) in-s))
       (subst (AllPairs Apart) spans_are (all_pairs_push Apart (spans_of a) t.holding sound.whole.spans_apart (λ k d lt. clear_apart (get_or (spans_of a) k d) t.holding (clear k d lt))))
       (λ u. ap (covering_held u) (sym spans_are) ∙ sum_by_push (covers_held u) (spans_of a) t.holding)
+      (All-push (λ t. t.route ≡ Direct) a.imported (direct t.arena t.holding) sound.routes refl)
 
 -- a carve
 module _ (a : ArenaState) (sound : IsSound a) (at : ℕ) (r piece : Holding) (within : at < length a.free) (here : HoldsAt (λ x. x ≡ r) a.free at) (held : IsPartOf r piece) (some : 0 < piece.range.len) (grid : OnQuantum a.quantum piece.range) where
@@ -222,6 +226,7 @@ module _ (a : ArenaState) (sound : IsSound a) (at : ℕ) (r piece : Holding) (wi
     span_grid = sound.span_grid;
     free_grid = new_free_grid;
     tag_grid = new_tag_grid;
+    routes = sound.routes;
     rover = omega (arith, held.to, free_below a sound r among);
   }
 
@@ -237,6 +242,7 @@ module _ (a : ArenaState) (sound : IsSound a) (piece merged : Holding) (at : fin
     span_grid = sound.span_grid;
     free_grid = λ x in-x. ⊎_elim (λ old. sound.free_grid x old.0) (λ (e : merged ≡ x). subst (λ (y : Holding). OnQuantum a.quantum y.range) e grid) (free_cases (layout_of a) sound.whole piece.range.base piece at merged edged held x in-x);
     tag_grid = λ b t h. sound.tag_grid b t (in_old (layout_of a) sound.whole piece.range.base piece at merged edged held b t h);
+    routes = sound.routes;
     rover = sound.rover;
   }
 
@@ -254,7 +260,7 @@ module _ (a : ArenaState) (sound : IsSound a) (h : Holding) (in-h : Contains (sp
   pub free_some : (x : Holding) → Contains a.free x → 0 < x.range.len
   free_some x in-x = (sound.whole.runs x in-x).run.some
 
-  module _ (owned : List Holding) (imported : List Tag) (less : IsWithout h (spans_of a) (owned ++ map (λ t. t.holding) imported)) (counts : Loses (spans_of a) (owned ++ map (λ t. t.holding) imported) h) where
+  module _ (owned : List Holding) (imported : List Tag) (less : IsWithout h (spans_of a) (owned ++ map (λ t. t.holding) imported)) (counts : Loses (spans_of a) (owned ++ map (λ t. t.holding) imported) h) (routes : All (λ t. t.route ≡ Direct) imported) where
     sound_less : IsSound (record a { owned = owned; imported = imported; free = without h a.free })
     sound_less = record {
       whole = whole_after_remove (layout_of a) sound.whole h in-h free-h (owned ++ map (λ t. t.holding) imported) (without h a.free) less (without_is a.free free_some sound.whole.free_apart h free-h);
@@ -264,6 +270,7 @@ module _ (a : ArenaState) (sound : IsSound a) (h : Holding) (in-h : Contains (sp
       span_grid = λ s in-s. sound.span_grid s (less.kept s in-s);
       free_grid = λ x in-x. sound.free_grid x ((without_is a.free free_some sound.whole.free_apart h free-h).kept x in-x);
       tag_grid = sound.tag_grid;
+      routes = routes;
       rover = sound.rover;
     }
 
@@ -278,7 +285,7 @@ module _ (a : ArenaState) (sound : IsSound a) (h : Holding) (in-h : Contains (sp
 
   pub sound_remove : Contains a.owned h → IsSound (after_remove a h)
   sound_remove in-owned = sound_less (without h a.owned) a.imported (first_without a.owned sources h (span_some a sound) sound.whole.spans_apart in-owned)
-      (λ f. omega (arith, sum_by-append f a.owned sources, sum_by-append f (without h a.owned) sources, loses_without a.owned owned_some (AllPairs-first Apart a.owned sources sound.whole.spans_apart) h in-owned f))
+      (λ f. omega (arith, sum_by-append f a.owned sources, sum_by-append f (without h a.owned) sources, loses_without a.owned owned_some (AllPairs-first Apart a.owned sources sound.whole.spans_apart) h in-owned f)) sound.routes
 
   sources_without : map (λ t. t.holding) (without_span h a.imported) ≡ without h sources
   sources_without = map-filter (λ t. t.holding) (λ x. not (nat_eq x.range.base h.range.base)) a.imported
@@ -289,3 +296,4 @@ module _ (a : ArenaState) (sound : IsSound a) (h : Holding) (in-h : Contains (sp
       (λ f.
           let same : sum_by f (map (λ t. t.holding) (without_span h a.imported)) ≡ sum_by f (without h sources) = ap (sum_by f) sources_without in
           omega (arith, same, sum_by-append f a.owned sources, sum_by-append f a.owned (map (λ t. t.holding) (without_span h a.imported)), loses_without sources sources_some (AllPairs-second Apart a.owned sources sound.whole.spans_apart) h in-sources f))
+      (All-from_members (λ t. t.route ≡ Direct) (without_span h a.imported) (λ t in-t. All-contains (λ t. t.route ≡ Direct) a.imported t sound.routes (Contains-from_filter (λ t. not (nat_eq t.holding.range.base h.range.base)) a.imported t in-t).0))

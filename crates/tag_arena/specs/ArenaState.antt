@@ -66,6 +66,7 @@ pub record IsSound (a : ArenaState) : Type 0 where
   pub span_grid : (s : Holding) → Contains (spans_of a) s → OnQuantum a.quantum s.range
   pub free_grid : (r : Holding) → Contains a.free r → OnQuantum a.quantum r.range
   pub tag_grid : (b : ℕ) (t : Holding) → get a.allocated b ≡ Some t → OnQuantum a.quantum t.range
+  pub routes : All (λ t. t.route ≡ Direct) a.imported
   pub rover : a.rover ≤ 2 ^ 62
 
 -- an arena with nothing in it

@@ -9,22 +9,22 @@ use Rattle.tag_arena.specs.ArenaState.{spans_of, layout_of, ranges_of, units_of,
 use Rattle.tag_arena.specs.Calls.{Carves, RefusesCarve, IsClear, RefusesSpan, after_add, after_import, after_import_carve, first_of, IsTagged, Frees, IsLowestWhole, after_remove}
 use Rattle.tag_arena.proofs.arenas.Arena.remove_owned.Goals as goal
 
--- src/arenas.rt:324:21
+-- src/arenas.rt:321:21
 pub returns-in_err-whole-clause-none : goal.returns-in_err-whole-clause-none
 returns-in_err-whole-clause-none g c = ?
 
--- src/arenas.rt:317:5
+-- src/arenas.rt:314:5
 pub invariant_of-self : goal.invariant_of-self
 invariant_of-self g c = ?
 
--- src/arenas.rt:317:5
+-- src/arenas.rt:314:5
 pub returns-clause-lowest : goal.returns-clause-lowest
 returns-clause-lowest g c = ?
 
--- src/arenas.rt:317:5
+-- src/arenas.rt:314:5
 pub returns-clause-removed : goal.returns-clause-removed
 returns-clause-removed g c = ?
 
--- src/arenas.rt:317:5
+-- src/arenas.rt:314:5
 pub returns-clause-loses : goal.returns-clause-loses
 returns-clause-loses g c = ?
