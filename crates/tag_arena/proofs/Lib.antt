@@ -19,3 +19,5 @@ pub mod Sounding
 pub mod Reporting
 pub mod Granting
 pub mod Returning
+pub mod Importing
+pub mod Taking

@@ -3,6 +3,7 @@ ghost use Rattle.std.specs.Prelude.{◌≡◌, ◌+◌, ◌-◌, ◌≤◌, ◌�
 ghost use Rattle.std.specs.Int.{IsPowerOfTwo};
 ghost use Rattle.deed_core.specs.Extent.{Overlap};
 ghost use Rattle.deed_core.specs.Covering.{covers, covers_tag, covering_held};
+ghost use Rattle.deed_core.specs.Tag.{Tag};
 ghost use Rattle.deed_core.specs.Weights.{Gains, Loses};
 ghost use Rattle.deed_core.specs.Request.{Fits, IsGood, IsPlain, rounded};
 ghost use Rattle.tag_arena.specs.Layout.{FreeIsLongestRuns};
@@ -241,6 +242,10 @@ impl<D: Deed> Arena<D> {
         ensures refused { IfErr result (λ back. RefusesSpan self.old span.holding.range back.1) }
         ensures same { IfErr result (λ back. back.0 ≡ span) }
         ensures err { OnErr result (self.new ≡ self.old) }
+
+        // However the ranges are weighed, and unit by unit.
+        ensures gains { IfOk result (λ s. Gains (ranges_of self.old.allocated) (ranges_of self.new.allocated) s.holding) }
+        ensures covering { IfOk result (λ s. (u : ℕ) → covering_held u self.new.free + covers u s.holding.range ≡ covering_held u self.old.free + covers u span.holding.range) }
     {
         let range = span.range();
         if let Some(fault) = self.span_fault(&range) {
@@ -281,11 +286,13 @@ impl<D: Deed> Arena<D> {
     pub fn free(&mut self, segment: Segment<D>) -> Result<Option<Segment<D>>, Segment<D>>
         ensures mine { IsOk result ↔ IsTagged self.old segment }
         ensures freed { IfOk result (Frees self.old self.new segment.holding) }
+        ensures route { IfOk result (λ back. IfSome back (λ t. t.route ≡ Route.Direct)) }
         ensures same { IfErr result (λ same. same ≡ segment) }
         ensures err { OnErr result (self.new ≡ self.old) }
 
         // However the ranges are weighed, and unit by unit.
         ensures loses { OnOk result (Loses (ranges_of self.old.allocated) (ranges_of self.new.allocated) segment.holding) }
+        ensures returned { IfOk result (λ back. (f : Tag → ℕ) → sum_by f self.old.imported ≡ sum_by f self.new.imported + sum_by f (option_to_list back)) }
         ensures covering { IfOk result (λ back. (u : ℕ) → covering_held u self.new.free + sum_by (covers_tag u) (option_to_list back) ≡ covering_held u self.old.free + covers u segment.holding.range) }
     {
         if segment.arena() != self.id || segment.route() != Route::Direct {

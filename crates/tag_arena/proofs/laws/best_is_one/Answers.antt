@@ -1,4 +1,5 @@
 use Rattle.tag_arena.proofs.OneChoice.{best_one}
+use Rattle.tag_arena.proofs.Importing.{import_covers}
 use Rattle.tag_arena.proofs.Returning.{frees_back}
 use Rattle.tag_arena.proofs.Granting.{found_grid}
 use Rattle.tag_arena.proofs.Sounding.{sound_return}
