@@ -180,9 +180,12 @@ impl<D: Deed> Arena<D> {
         let Some(room) = self.tags.len().checked_add(1) else {
             return Err((deed, ArenaFault::NoMemory));
         };
-        if self.owned.reserve(1).is_err() || self.free.reserve(room).is_err() {
+        let Ok(()) = self.owned.reserve(1) else {
             return Err((deed, ArenaFault::NoMemory));
-        }
+        };
+        let Ok(()) = self.free.reserve(room) else {
+            return Err((deed, ArenaFault::NoMemory));
+        };
         let stored = Stored::new(deed);
         self.owned.push_reserved(stretch_of(&stored));
         self.free.push_reserved(stored);
@@ -255,14 +258,17 @@ impl<D: Deed> Arena<D> {
         let Some(room) = self.tags.len().checked_add(2) else {
             return Err((span, ArenaFault::NoMemory));
         };
-        if self.imported.reserve(1).is_err() || self.free.reserve(room).is_err() {
+        let Ok(()) = self.imported.reserve(1) else {
             return Err((span, ArenaFault::NoMemory));
-        }
+        };
+        let Ok(()) = self.free.reserve(room) else {
+            return Err((span, ArenaFault::NoMemory));
+        };
         let whole = Stretch::new(span.root(), range);
         let piece = Stretch::new(span.root(), piece_of(whole, range.base(), len));
-        if self.tags.insert(piece).is_err() {
+        let Ok(()) = self.tags.insert(piece) else {
             return Err((span, ArenaFault::NoMemory));
-        }
+        };
         let source = span.arena();
         let route = span.route();
         let (deed, rest) = match cut_first(Stored::new(span.into_deed()), len) {
