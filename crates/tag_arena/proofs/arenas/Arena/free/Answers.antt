@@ -1,5 +1,5 @@
 use Rattle.std.proofs.Common.{◌≡◌, ◌≢◌, ℕ, ◌+◌, ◌++◌, ◌∷◌, [], List, remove, get_or, Some, None, Option, IsSome, MatchOption, HoldsAt, Contains, All, refl, sym, subst, ap, ◌∙◌, sum_by, option_to_list, rules, arith}
-use Rattle.std.proofs.lemmas.List.Sums.{sum_by-cons}
+use Rattle.std.proofs.lemmas.List.Sums.{sum_by-cons, sum_by-remove}
 use Rattle.std.proofs.lemmas.List.{get_or_default}
 use Rattle.std.proofs.lemmas.List.Elements.{All-contains}
 use Rattle.deed_core.specs.declared.segments.Route.TheVariants.{Direct}
@@ -218,3 +218,37 @@ returns-clause-covering g c =
         let one : covers_tag u c.new-2.result ≡ covers u merged.range = ap (λ (h : Holding). covers u h.range) holding in
         omega (arith, counts, old, piece, one, sum_by-cons (covers_tag u) c.new-2.result [])
 
+pub returns-in_default-clause-returned : goal.returns-in_default-clause-returned
+returns-in_default-clause-returned g c = λ f.
+    let now : sum_by f c.self.inside.imported.items ≡ sum_by f c.args.self.now.imported = ap (λ (s : ArenaState). sum_by f s.imported) c.self.view_is in
+    omega (arith, now)
+
+pub returns-clause-returned : goal.returns-clause-returned
+returns-clause-returned g c =
+    let a : ArenaState = record { id = c.self.inside.id; quantum = c.self.inside.quantum; policy = c.self.inside.policy; owned = c.self.inside.owned.items; imported = c.self.inside.imported.items; free = c.self.inside.free.items; allocated = c.self.inside.tags; rover = c.self.inside.rover } in
+    let sound : IsSound a = c.self.invariant.0 in
+    let p : Holding = c.new-piece.result in
+    let seg_is : c.new-piece.result ≡ c.args.segment.holding = rw (c.new-piece.ensures, c.root.ensures, c.range.ensures.value) refl in
+    let at : finmap.get c.self.inside.tags p.range.base ≡ Some p = search rules in
+    let spans : MatchOption c.span_at.result (All (λ s. ¬ Covers s.range p.range.base) (spans_of a)) (λ s. Contains (spans_of a) s × Covers s.range p.range.base) = rw (c.deref.ensures.value, c.deref-2.ensures.value, c.base-2.ensures.value) at c.span_at.ensures in
+    let s : Holding = c.unwrap-span.result in
+    let there = some_there c.span_at.result _ (λ s. Contains (spans_of a) s × Covers s.range p.range.base) s spans c.unwrap-span.ensures in
+    let new_is : c.new.result ≡ p = c.new.ensures ∙ c.into_deed.ensures ∙ sym seg_is in
+    let merged : Holding = c.merge-merged.result in
+    let left : List Holding = c.merge-merged.new.free.items in
+    let merges : Merges s p a.free merged left = subst (λ (h : Holding). Merges s h a.free merged left) new_is c.merge-merged.ensures.merges in
+    let k : ℕ = c.in-Some.at in
+    let found = rw (c.stretch_of.ensures.value, c.deref-3.ensures.value) at c.in-Some.ensures in
+    let tags : c.remove.new.self ≡ finmap.remove a.allocated p.range.base = c.remove.ensures in
+    let after = returned_is a sound p at s there.0 there.1 merged left merges k found.0 found.1 _ _ c.remove-import.ensures.items tags in
+    let import : Tag = c.remove-import.result in
+    let holding : import.holding ≡ merged = ap (λ (t : Tag). t.holding) c.remove-import.ensures.value ∙ found.1 import in
+    let in_list : Contains a.imported import = (k, found.0, sym c.remove-import.ensures.value) in
+    let route : import.route ≡ Direct = All-contains (λ t. t.route ≡ Direct) a.imported import sound.routes in_list in
+    let back : c.new-2.result ≡ import = c.new-2.ensures ∙ same_tag _ import c.source.ensures (sym route) (c.into_deed-2.ensures ∙ sym holding) in
+    λ f.
+        let less : sum_by f c.remove-import.new.self.items ≡ sum_by f (remove a.imported k) = ap (sum_by f) c.remove-import.ensures.items in
+        let out : sum_by f (remove a.imported k) + f (get_or a.imported k import) ≡ sum_by f a.imported = sum_by-remove f a.imported k import found.0 in
+        let here : f (get_or a.imported k import) ≡ f c.new-2.result = ap f (sym c.remove-import.ensures.value ∙ sym back) in
+        let now : sum_by f a.imported ≡ sum_by f c.args.self.now.imported = ap (λ (s : ArenaState). sum_by f s.imported) c.self.view_is in
+        omega (arith, less, out, here, now, sum_by-cons f c.new-2.result [])
