@@ -67,20 +67,23 @@ module _ (quantum : ℕ) (q : Request) (free : List Holding) where
 
       pub newest_choice : IsInstantChoice quantum q free (Some f.range.range.base)
       newest_choice =
-          inl (plain, (
-            f.range,
-            record {
-              list = f.list;
-              large = subst (λ n. ListServes quantum n f.list) len_is so.3;
-              least = λ r i in-r on serves. so.4 in-r.0 r (omega arith) in-r.1 i (subst (λ x. OnList quantum x i) (sym in-r.2) on) (subst (λ n. ListServes quantum n i) (sym len_is) serves);
-              index = f.at;
-              within = so.0;
-              here = so.1;
-              on_list = so.2;
-              newest = so.5;
-            },
-            refl,
-          ))
+          inl (
+            plain,
+            (
+              f.range,
+              record {
+                list = f.list;
+                large = subst (λ n. ListServes quantum n f.list) len_is so.3;
+                least = λ r i in-r on serves. so.4 in-r.0 r (omega arith) in-r.1 i (subst (λ x. OnList quantum x i) (sym in-r.2) on) (subst (λ n. ListServes quantum n i) (sym len_is) serves);
+                index = f.at;
+                within = so.0;
+                here = so.1;
+                on_list = so.2;
+                newest = so.5;
+              },
+              refl,
+            ),
+          )
 
     pub none_choice : (o : Option ℕ) → NoListServes quantum (next_multiple_of q.size quantum) free → IsBestChoice quantum q free o → IsInstantChoice quantum q free o
     none_choice o none best = inr (λ _. none, best)

@@ -41,8 +41,14 @@ covering-rests u r piece held =
     let back : Extent = stretch piece.range.base (end_of r.range) in
     let first : covers u r.range ≡ covers u low + covers u back = covers_cut u low back r.range refl (omega (arith, held.from)) (omega (arith, held.from, held.to)) in
     let second : covers u back ≡ covers u piece.range + covers u high = covers_cut u piece.range high back refl refl (omega (arith, held.from, held.to)) in
-    omega (arith, first, second, sum_by-append (covers_held u) (between r r.range.base piece.range.base) (between r (end_of piece.range) (end_of r.range)),
-      covering-between u r r.range.base piece.range.base, covering-between u r (end_of piece.range) (end_of r.range))
+    omega (
+      arith,
+      first,
+      second,
+      sum_by-append (covers_held u) (between r r.range.base piece.range.base) (between r (end_of piece.range) (end_of r.range)),
+      covering-between u r r.range.base piece.range.base,
+      covering-between u r (end_of piece.range) (end_of r.range),
+    )
 
 -- the free ranges of a carve cover what was free but the piece
 pub covering-carved : (u : ℕ) (free : List Holding) (at : ℕ) (r piece : Holding) → at < length free → HoldsAt (λ x. x ≡ r) free at → IsPartOf r piece
@@ -101,8 +107,12 @@ pub covering-freed : (u : ℕ) (piece merged span : Holding) (old mid new : List
     → option_map_or (λ r. r.range.base) left piece.range.base ≤ piece.range.base → end_of piece.range ≤ option_map_or (λ r. end_of r.range) right (end_of piece.range)
     → covering_held u new + covers u merged.range ≡ covering_held u old + covers u piece.range
 covering-freed u piece merged span old mid new left right takes_left takes_right base_is end_is below above =
-    omega (arith, covering-left u span.range.base piece.range.base old mid left takes_left, covering-right u (end_of piece.range) (end_of span.range) mid new right takes_right,
-      covering-merged u piece merged (option_map_or (λ r. r.range.base) left piece.range.base) (option_map_or (λ r. end_of r.range) right (end_of piece.range)) base_is end_is below above)
+    omega (
+      arith,
+      covering-left u span.range.base piece.range.base old mid left takes_left,
+      covering-right u (end_of piece.range) (end_of span.range) mid new right takes_right,
+      covering-merged u piece merged (option_map_or (λ r. r.range.base) left piece.range.base) (option_map_or (λ r. end_of r.range) right (end_of piece.range)) base_is end_is below above,
+    )
 
 -- the sum of what a function gives below a number
 sum_upto : ℕ → (ℕ → ℕ) → ℕ
@@ -146,5 +156,11 @@ upto-covering n (x ∷ xs) le =
 pub units_add : (free tags spans : List Holding) → ((u : ℕ) → covering_held u free + covering_held u tags ≡ covering_held u spans) → units_of free + units_of tags ≡ units_of spans
 units_add free tags spans covers_all =
     let n : ℕ = bound_of free + (bound_of tags + bound_of spans) in
-    omega (arith, upto-covering n free (omega arith), upto-covering n tags (omega arith), upto-covering n spans (omega arith),
-      upto-plus n (λ u. covering_held u free) (λ u. covering_held u tags), upto-same n (λ u. covering_held u free + covering_held u tags) (λ u. covering_held u spans) covers_all)
+    omega (
+      arith,
+      upto-covering n free (omega arith),
+      upto-covering n tags (omega arith),
+      upto-covering n spans (omega arith),
+      upto-plus n (λ u. covering_held u free) (λ u. covering_held u tags),
+      upto-same n (λ u. covering_held u free + covering_held u tags) (λ u. covering_held u spans) covers_all,
+    )

@@ -102,10 +102,12 @@ module _ (a : ArenaState) (sound : IsSound a) (piece : Holding) (at : finmap.get
     free_beside = All-from_members (IsBeside s) a.free (λ r in-r.
         let run = (sound.whole.runs r in-r).run in
         let t = run.inside in
-        let ht : IsPartOf t.1 r = t.4 in
-        (run.some, ⊎_elim inr
-        (λ shared. let cr = shared.1 in inl (subst (λ (y : Holding). IsPartOf y r) (same_where_shared (spans_of a) t.1 s shared.0 sound.whole.spans_apart (Any-member (spans_of a) t) in-s (omega (arith, ht.from, cr), omega (arith, ht.to, cr)) shared.2) ht))
-        (apart_or_share r s run.some (span_some a sound s in-s))))
+        let ht : IsPartOf t.1 r = t.4 in (
+          run.some,
+          ⊎_elim inr
+              (λ shared. let cr = shared.1 in inl (subst (λ (y : Holding). IsPartOf y r) (same_where_shared (spans_of a) t.1 s shared.0 sound.whole.spans_apart (Any-member (spans_of a) t) in-s (omega (arith, ht.from, cr), omega (arith, ht.to, cr)) shared.2) ht))
+              (apart_or_share r s run.some (span_some a sound s in-s)),
+        ))
 
     module _ (merged : Holding) (new : List Holding) (m : Merges s piece a.free merged new) where
       abbrev low : ℕ

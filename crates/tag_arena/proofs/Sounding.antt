@@ -294,6 +294,6 @@ module _ (a : ArenaState) (sound : IsSound a) (h : Holding) (in-h : Contains (sp
   sound_return in-sources = sound_less a.owned (without_span h a.imported)
       (subst (λ (xs : List Holding). IsWithout h (spans_of a) (a.owned ++ xs)) (sym sources_without) (second_without a.owned sources h (span_some a sound) sound.whole.spans_apart in-sources))
       (λ f.
-          let same : sum_by f (map (λ t. t.holding) (without_span h a.imported)) ≡ sum_by f (without h sources) = ap (sum_by f) sources_without in
-          omega (arith, same, sum_by-append f a.owned sources, sum_by-append f a.owned (map (λ t. t.holding) (without_span h a.imported)), loses_without sources sources_some (AllPairs-second Apart a.owned sources sound.whole.spans_apart) h in-sources f))
+      let same : sum_by f (map (λ t. t.holding) (without_span h a.imported)) ≡ sum_by f (without h sources) = ap (sum_by f) sources_without in
+      omega (arith, same, sum_by-append f a.owned sources, sum_by-append f a.owned (map (λ t. t.holding) (without_span h a.imported)), loses_without sources sources_some (AllPairs-second Apart a.owned sources sound.whole.spans_apart) h in-sources f))
       (All-from_members (λ t. t.route ≡ Direct) (without_span h a.imported) (λ t in-t. All-contains (λ t. t.route ≡ Direct) a.imported t sound.routes (Contains-from_filter (λ t. not (nat_eq t.holding.range.base h.range.base)) a.imported t in-t).0))

@@ -304,23 +304,19 @@ impl<D: Deed> Arena<D> {
         if segment.arena() != self.id || segment.route() != Route::Direct {
             return Err(segment);
         }
-        let piece = Stretch::new(segment.root(), segment.range());
-        if self.tags.get(piece.base()) != Some(piece) {
+        let tagged = Stretch::new(segment.root(), segment.range());
+        if self.tags.get(tagged.base()) != Some(tagged) {
             return Err(segment);
         }
-        let span = span_at(&self.owned, &self.imported, piece.base()).unwrap();
+        let span = span_at(&self.owned, &self.imported, tagged.base()).unwrap();
         let merged = merge(&mut self.free, span, Stored::new(segment.into_deed()));
-        self.tags.remove(piece);
+        self.tags.remove(tagged);
         let Some(at) = place_of_import(&self.imported, &stretch_of(&merged)) else {
             self.free.push_reserved(merged);
             return Ok(None);
         };
         let import = self.imported.remove(at);
-        Ok(Some(Segment::new(
-            import.source(),
-            Route::Direct,
-            merged.into_deed(),
-        )))
+        Ok(Some(Segment::new(import.source(), Route::Direct, merged.into_deed())))
     }
 
     /// Takes out the lowest owned span that is wholly free. It takes no memory.

@@ -108,7 +108,12 @@ fn earlier<D: Deed>(
 }
 
 /// The least address from `start` on that serves the request.
-pub fn earliest<D: Deed>(free: &[Stored<D>], quantum: u64, request: &Request, start: u64) -> Option<Found>
+pub fn earliest<D: Deed>(
+    free: &[Stored<D>],
+    quantum: u64,
+    request: &Request,
+    start: u64,
+) -> Option<Found>
     requires quantum { IsPowerOfTwo quantum }
     requires good { IsGood quantum request.now }
     requires start { start ≤ 2 ^ 62 }

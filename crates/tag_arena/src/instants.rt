@@ -98,4 +98,3 @@ pub fn instant<D: Deed>(free: &[Stored<D>], quantum: u64, request: &Request) -> 
         base: listed.range.base(),
     })
 }
-

@@ -34,11 +34,7 @@ fn starts_at<D: Deed>(free: &[Stored<D>], end: u64) -> Option<usize>
 }
 
 /// Takes out the free range that ends at `base`, unless the span begins there.
-fn take_left<D: Deed>(
-    free: &mut Vec<Stored<D>>,
-    start: u64,
-    base: u64,
-) -> Option<Stored<D>>
+fn take_left<D: Deed>(free: &mut Vec<Stored<D>>, start: u64, base: u64) -> Option<Stored<D>>
     requires { start ≤ base }
     ensures taken { TakesLeft start base free.old.items result free.new.items }
     ensures len { vec_len free.new ≤ vec_len free.old }
@@ -52,11 +48,7 @@ fn take_left<D: Deed>(
 }
 
 /// Takes out the free range that begins at `end`, unless the span ends there.
-fn take_right<D: Deed>(
-    free: &mut Vec<Stored<D>>,
-    end: u64,
-    limit: u64,
-) -> Option<Stored<D>>
+fn take_right<D: Deed>(free: &mut Vec<Stored<D>>, end: u64, limit: u64) -> Option<Stored<D>>
     requires { end ≤ limit }
     ensures taken { TakesRight end limit free.old.items result free.new.items }
     ensures len { vec_len free.new ≤ vec_len free.old }

@@ -34,14 +34,7 @@ fn stays_inside(base: u64, len: u64, nocross: u64) -> bool
 }
 
 /// The least place of `len` units in `low` to `high`.
-fn least_place(
-    low: u64,
-    high: u64,
-    len: u64,
-    align: u64,
-    phase: u64,
-    nocross: u64,
-) -> Option<u64>
+fn least_place(low: u64, high: u64, len: u64, align: u64, phase: u64, nocross: u64) -> Option<u64>
     requires low { low ≤ 2 ^ 62 }
     requires high { high ≤ 2 ^ 62 }
     requires some { 0 < len }

@@ -108,8 +108,7 @@ invariant_of-self-2 g c =
     let base_is : c.base-2.result + n ≡ t.holding.range.base + n = ap (λ (k : ℕ). k + n) (c.base-2.ensures.value ∙ ap (λ (e : Extent). e.base) range_is) in
     let moved = ap (λ (k : ℕ). record a { imported = c.push_reserved.new.self.items; free = c.push_rest.new.free.items; allocated = c.insert.new.self; rover = k }) base_is in
     let after = moved ∙ import_is a sound t range fits.1 fits.0 n some within whole _ _ _ imported free tags in
-    let len = ap finmap.len tags ∙ len_more a.allocated t.holding.range.base (part t.holding t.holding.range.base n) absent in
-    (
+    let len = ap finmap.len tags ∙ len_more a.allocated t.holding.range.base (part t.holding t.holding.range.base n) absent in (
       import_sound a sound t range fits.1 fits.0 n some within whole _ after,
       omega (arith, len, c.push_rest.ensures.len, c.push_rest.ensures.capacity, c.in-Ok-reserve.ensures.ok, c.in-Some-checked_add.ensures, c.len.ensures),
     )
@@ -201,4 +200,3 @@ returns-clause-covering g c =
     let piece : c.in-Ok-cut_first.parts.0 ≡ part t.holding t.holding.range.base n = rw stored_is at c.in-Ok-cut_first.ensures.piece in
     let segment : c.new-3.result.holding ≡ part t.holding t.holding.range.base n = ap (λ (x : Tag). x.holding) c.new-3.ensures ∙ c.into_deed-2.ensures ∙ piece in
     rw segment (subst (λ (s : ArenaState). (u : ℕ) → covering_held u c.push_rest.new.free.items + covers u (part t.holding t.holding.range.base n).range ≡ covering_held u s.free + covers u t.holding.range) c.self.view_is (import_covers a sound t range fits.1 fits.0 n some within whole _ after))
-

@@ -66,4 +66,3 @@ returns-clause-covering g c =
     let out_is = c.into_deed.ensures ∙ deed_is in
     let loses : Loses a.free c.remove-2.new.self.items w.span = subst (λ (xs : List Holding). Loses a.free xs w.span) (sym c.remove-2.ensures.items) (free_loses a sound w so) in
     rw out_is (subst (λ (s : ArenaState). Loses s.free c.remove-2.new.self.items w.span) c.self.view_is loses)
-

@@ -28,8 +28,10 @@ returns-then-len-self-ne0-clause-fault g c =
 pub returns-clause-none : goal.returns-clause-none
 returns-clause-none g c =
     let a : ArenaState = record { id = c.self.inside.id; quantum = c.self.inside.quantum; policy = c.self.inside.policy; owned = c.self.inside.owned.items; imported = c.self.inside.imported.items; free = c.self.inside.free.items; allocated = c.self.inside.tags; rover = c.self.inside.rover } in
-    subst (λ (s : ArenaState). IsClear s c.args.range.now × OnQuantum s.quantum c.args.range.now) c.self.view_is
-    (clear_of_both a c.args.range.now _ _ c.deref.ensures.value c.deref-2.ensures.value c.if-overlaps_owned.ensures c.if-overlaps_imported.ensures, (
-      ap (λ (k : ℕ). k % c.self.inside.quantum) (sym c.base.ensures.value) ∙ c.if-base-self-ne0.false,
-      ap (λ (k : ℕ). k % c.self.inside.quantum) (sym c.len.ensures.value) ∙ c.if-len-self-ne0.false,
-    ))
+    subst (λ (s : ArenaState). IsClear s c.args.range.now × OnQuantum s.quantum c.args.range.now) c.self.view_is (
+      clear_of_both a c.args.range.now _ _ c.deref.ensures.value c.deref-2.ensures.value c.if-overlaps_owned.ensures c.if-overlaps_imported.ensures,
+      (
+        ap (λ (k : ℕ). k % c.self.inside.quantum) (sym c.base.ensures.value) ∙ c.if-base-self-ne0.false,
+        ap (λ (k : ℕ). k % c.self.inside.quantum) (sym c.len.ensures.value) ∙ c.if-len-self-ne0.false,
+      ),
+    )

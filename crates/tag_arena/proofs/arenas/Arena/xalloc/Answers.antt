@@ -80,8 +80,7 @@ invariant_of-self-in_default-carve g c =
     let absent_here : finmap.get c.self.inside.tags c.new-piece.result.range.base ≡ None = rw piece_is absent in
     let tags = undone c.self.inside.tags c.insert.new.self c.remove.new.self c.new-piece.result.range.base c.new-piece.result absent_here c.in_ok-insert.ensures.ok c.remove.ensures in
     let free : c.carve.new.free.items ≡ c.self.inside.free.items = c.in_default-carve.ensures.err ∙ c.in_ok-reserve.ensures.items in
-    let len = ap finmap.len tags in
-    (
+    let len = ap finmap.len tags in (
       subst IsSound (sym (as_it_was a _ _ free tags)) c.self.invariant.0,
       omega (arith, len, c.carve.ensures.len, c.carve.ensures.capacity, c.in_ok-reserve.ensures.ok, c.in-Some-checked_add.ensures, c.len.ensures),
     )
@@ -135,8 +134,7 @@ invariant_of-self-2 g c =
     let free : c.carve.new.free.items ≡ remove c.self.inside.free.items f.at ++ rests f.range (part f.range f.base n) = rw deed_is at (c.in-Ok.ensures.items ∙ ap (λ (xs : List Holding). remove xs f.at ++ rests f.range c.in-Ok.deed) c.in_ok-reserve.ensures.items) in
     let tags : c.insert.new.self ≡ finmap.insert c.self.inside.tags f.base (part f.range f.base n) = c.in_ok-insert.ensures.ok ∙ ap (λ (h : Holding). finmap.insert c.self.inside.tags h.range.base h) piece_is in
     let after = carve_is a c.self.invariant.0 f.at f.range (part f.range f.base n) placed.0 placed.1 held some grid _ _ free tags in
-    let len = ap finmap.len tags ∙ len_more c.self.inside.tags f.base (part f.range f.base n) absent in
-    (
+    let len = ap finmap.len tags ∙ len_more c.self.inside.tags f.base (part f.range f.base n) absent in (
       carve_sound a c.self.invariant.0 f.at f.range (part f.range f.base n) placed.0 placed.1 held some grid _ after,
       omega (arith, len, c.carve.ensures.len, c.carve.ensures.capacity, c.in_ok-reserve.ensures.ok, c.in-Some-checked_add.ensures, c.len.ensures),
     )
@@ -206,4 +204,3 @@ returns-clause-covering g c =
     let after = carve_is a c.self.invariant.0 f.at f.range (part f.range f.base n) placed.0 placed.1 held some grid _ _ free tags in
     let segment : c.new.result.holding ≡ part f.range f.base n = ap (λ (t : Tag). t.holding) c.new.ensures ∙ c.into_deed.ensures ∙ deed_is in
     rw segment (subst (λ (s : ArenaState). (u : ℕ) → covering_held u s.free ≡ covering_held u c.carve.new.free.items + covers u (part f.range f.base n).range) c.self.view_is (carve_covers a c.self.invariant.0 f.at f.range (part f.range f.base n) placed.0 placed.1 held some grid _ after))
-
