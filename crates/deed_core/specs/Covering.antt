@@ -1,4 +1,4 @@
--- How many ranges of a list cover a unit: its covering number.
+-- How many ranges of a list cover a unit, its covering number, and how many units they have.
 use Rattle.std.specs.Prelude.{ℕ, List, nat_le, nat_lt, ◌&&◌, if◌then◌else◌, sum_by}
 use Rattle.deed_core.specs.Extent.{Extent, end_of}
 use Rattle.deed_core.specs.Holding.{Holding}
@@ -27,3 +27,15 @@ covering_held unit deeds = sum_by (covers_held unit) deeds
 -- how many of the segments
 abbrev pub covering_tags : ℕ → List Tag → ℕ
 covering_tags unit segments = sum_by (covers_tag unit) segments
+
+-- how many units a deed covers
+abbrev pub units_in : Holding → ℕ
+units_in h = h.range.len
+
+-- how many the deeds cover, each counted by itself
+abbrev pub units_held : List Holding → ℕ
+units_held deeds = sum_by units_in deeds
+
+-- how many the segments
+abbrev pub units_tagged : List Tag → ℕ
+units_tagged segments = sum_by (λ t. units_in t.holding) segments

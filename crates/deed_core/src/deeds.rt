@@ -5,30 +5,35 @@ ghost use Rattle.deed_core.specs.Holding.{Holding, low, high, joined, GoesOn};
 
 use crate::ranges::Range;
 
-/// Want of memory, with the deed as it was.
+/// A split that was refused for want of memory.
 pub struct Refused<D> {
+    /// The deed as it was.
     pub deed: D,
 }
 
-/// A token that covers a range of a root. It is never copied or dropped.
+/// A token that covers one range of one root. A type of deeds is neither `Copy` nor `Drop`, so a deed ends only
+/// by a call that its type has for that. The deeds of one system carry one name in their type, under which a
+/// root's number stands for one root.
 pub trait Deed {
     /// The root, and the range of it.
     ghost holding: { Self → Holding };
 
+    /// The number of the root.
     fn root(&self) -> u32
         ensures { result ≡ (holding self.now).root };
 
+    /// The units that it covers.
     fn range(&self) -> Range
         ensures value { result ≡ (holding self.now).range }
         ensures range { IsRange result };
 
-    /// The deeds of the units below `at` and from `at` on.
+    /// The deeds of the units below `at` and from `at` on. It is refused only for want of memory.
     fn split(self, at: u64) -> Result<(Self, Self), Refused<Self>>
         requires { IsInside at (holding self).range }
         ensures ok { IfOk result (λ parts. (holding parts.0 ≡ low at (holding self)) × (holding parts.1 ≡ high at (holding self))) }
         ensures err { IfErr result (λ refused. holding refused.deed ≡ holding self) };
 
-    /// One deed for what this one and the next cover.
+    /// One deed for what this one and the next cover. It takes no memory.
     fn join(self, next: Self) -> Self
         requires { GoesOn (holding self) (holding next) }
         ensures { holding result ≡ joined (holding self) (holding next) };

@@ -6,7 +6,8 @@ ghost use Rattle.deed_core.specs.Holding.{low, high};
 use crate::deeds::{Deed, Refused};
 use crate::ranges::Range;
 
-/// A deed that stands for a range by its numbers alone.
+/// A deed that stands for a range by its numbers alone. Nothing keeps two of them apart but the code that makes
+/// them, so they serve one thread that makes each root once.
 pub struct PlainDeed {
     root: u32,
     range: Range,
@@ -14,6 +15,7 @@ pub struct PlainDeed {
 }
 
 impl PlainDeed {
+    /// The deed of a range of the root with this number.
     pub fn new(root: u32, range: Range) -> PlainDeed
         ensures { ⟦<PlainDeed as Deed>⟧.holding result ≡ record { root = root; range = range } }
     {
@@ -21,7 +23,7 @@ impl PlainDeed {
         PlainDeed { root, range }
     }
 
-    /// Ends the deed.
+    /// Ends the deed, and tells what it covered.
     pub fn close(self) -> Range
         ensures { result ≡ (⟦<PlainDeed as Deed>⟧.holding self).range }
     {

@@ -22,12 +22,14 @@ impl<D: Deed> Model for Stored<D> {
 }
 
 impl<D: Deed> Stored<D> {
+    /// The deed as one that can lie in a collection.
     pub fn new(deed: D) -> Stored<D>
         ensures { result ≡ D.holding deed }
     {
         Stored { deed }
     }
 
+    /// The deed itself.
     pub fn into_deed(self) -> D
         ensures { D.holding result ≡ self }
     {

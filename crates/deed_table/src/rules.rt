@@ -1,0 +1,97 @@
+//! The rule of the table, and how views are cut, made one, and changed.
+use crate::choices::{Chosen, Placed};
+use crate::views::View;
+use atomic_table::{Join, Play, Split, TableRule};
+use std::marker::PhantomData;
+
+/// Each unit of an opened root is covered once, and each root number stands in one place at most.
+pub struct OnceEach;
+
+impl TableRule<(), View, ()> for OnceEach {
+    ghost use Rattle.std.specs.Prelude.{◌^◌};
+    ghost use Rattle.deed_table.specs.Rule.{CoversOnceEach};
+    ghost use Rattle.deed_table.specs.View.{opener};
+
+    ghost holds = { λ _ state. CoversOnceEach state.views };
+
+    ghost first = { λ _. opener 0 (2 ^ 32) };
+}
+
+/// A deed's range is cut at the number.
+pub struct CutAt<C> {
+    chosen: PhantomData<C>,
+}
+
+impl<C: Chosen> Split<View> for CutAt<C> {
+    ghost use Rattle.deed_table.specs.View.{low_part, high_part};
+
+    ghost left = { low_part C.number };
+
+    ghost right = { high_part C.number };
+}
+
+/// Two ranges that touch become one.
+pub struct Merge;
+
+impl Join<View> for Merge {
+    ghost use Rattle.deed_table.specs.View.{merged, spent};
+
+    ghost both = { merged };
+
+    ghost spent = { spent };
+}
+
+/// Two views lie beside each other.
+pub struct Beside;
+
+impl Join<View> for Beside {
+    ghost use Rattle.deed_table.specs.View.{beside, spent};
+
+    ghost both = { beside };
+
+    ghost spent = { spent };
+}
+
+/// The first range stays, and the others go to a new seat.
+pub struct Part;
+
+impl Split<View> for Part {
+    ghost use Rattle.deed_table.specs.View.{first_part, other_part};
+
+    ghost left = { first_part };
+
+    ghost right = { other_part };
+}
+
+/// The first numbers go to a new seat.
+pub struct Share<C> {
+    chosen: PhantomData<C>,
+}
+
+impl<C: Chosen> Split<View> for Share<C> {
+    ghost use Rattle.deed_table.specs.View.{numbers_after, numbers_below};
+
+    ghost left = { numbers_after C.number };
+
+    ghost right = { numbers_below C.number };
+}
+
+/// Nothing changes, and the rule is learnt.
+pub struct Look;
+
+impl Play<(), View> for Look {
+    ghost use Rattle.deed_table.specs.Rule.{Learns};
+
+    ghost then = { Learns };
+}
+
+/// The number that is left becomes a root, which is covered whole.
+pub struct Open<C> {
+    placed: PhantomData<C>,
+}
+
+impl<C: Placed> Play<(), View> for Open<C> {
+    ghost use Rattle.deed_table.specs.Rule.{Opens};
+
+    ghost then = { Opens C.place };
+}
