@@ -265,20 +265,17 @@ impl<D: Deed> Arena<D> {
             return Err((span, ArenaFault::NoMemory));
         };
         let whole = Stretch::new(span.root(), range);
-        let piece = Stretch::new(span.root(), piece_of(whole, range.base(), len));
-        let Ok(()) = self.tags.insert(piece) else {
+        let first = Stretch::new(span.root(), piece_of(whole, range.base(), len));
+        let Ok(()) = self.tags.insert(first) else {
             return Err((span, ArenaFault::NoMemory));
         };
-        let source = span.arena();
-        let route = span.route();
+        let (source, route) = (span.arena(), span.route());
         let (deed, rest) = match cut_first(Stored::new(span.into_deed()), len) {
             Ok(parts) => parts,
             Err(same) => {
-                self.tags.remove(piece);
-                return Err((
-                    Segment::new(source, route, same.into_deed()),
-                    ArenaFault::NoMemory,
-                ));
+                self.tags.remove(first);
+                let span = Segment::new(source, route, same.into_deed());
+                return Err((span, ArenaFault::NoMemory));
             }
         };
         push_rest(&mut self.free, rest);

@@ -29,7 +29,7 @@ insert-requires-clause-absent g c =
     let some : 0 < n = omega (arith, n_is, rounded_some c.args.request.now.size a.quantum good.size) in
     let within : n ≤ t.holding.range.len = omega (arith, n_is, room) in
     let whole : n % a.quantum ≡ 0 = ap (λ k. k % a.quantum) n_is ∙ rounded_multiple c.args.request.now.size a.quantum (power_some a.quantum sound.power) in
-    let piece_is : c.new-piece.result ≡ part t.holding t.holding.range.base n = rw (c.new-piece.ensures, c.root-2.ensures, c.piece_of.ensures, c.base.ensures.value, range_is) refl in
+    let piece_is : c.new-first.result ≡ part t.holding t.holding.range.base n = rw (c.new-first.ensures, c.root-2.ensures, c.piece_of.ensures, c.base.ensures.value, range_is) refl in
     let absent = import_absent a sound t range fits.1 fits.0 n some within whole in
     rw piece_is absent
 
@@ -52,10 +52,10 @@ invariant_of-self-in-Err g c =
     let some : 0 < n = omega (arith, n_is, rounded_some c.args.request.now.size a.quantum good.size) in
     let within : n ≤ t.holding.range.len = omega (arith, n_is, room) in
     let whole : n % a.quantum ≡ 0 = ap (λ k. k % a.quantum) n_is ∙ rounded_multiple c.args.request.now.size a.quantum (power_some a.quantum sound.power) in
-    let piece_is : c.new-piece.result ≡ part t.holding t.holding.range.base n = rw (c.new-piece.ensures, c.root-2.ensures, c.piece_of.ensures, c.base.ensures.value, range_is) refl in
+    let piece_is : c.new-first.result ≡ part t.holding t.holding.range.base n = rw (c.new-first.ensures, c.root-2.ensures, c.piece_of.ensures, c.base.ensures.value, range_is) refl in
     let absent = import_absent a sound t range fits.1 fits.0 n some within whole in
-    let absent_here : finmap.get c.self.inside.tags c.new-piece.result.range.base ≡ None = rw piece_is absent in
-    let tags = undone c.self.inside.tags c.insert.new.self c.remove.new.self c.new-piece.result.range.base c.new-piece.result absent_here c.in-Ok-insert.ensures.ok c.remove.ensures in
+    let absent_here : finmap.get c.self.inside.tags c.new-first.result.range.base ≡ None = rw piece_is absent in
+    let tags = undone c.self.inside.tags c.insert.new.self c.remove.new.self c.new-first.result.range.base c.new-first.result absent_here c.in-Ok-insert.ensures.ok c.remove.ensures in
     let same = ap (λ (xs : List Tag). record a { imported = xs; free = c.reserve-2.new.self.items; allocated = c.remove.new.self }) c.reserve.ensures.items ∙ as_it_was a _ _ c.reserve-2.ensures.items tags in
     let len = ap finmap.len tags in
     (subst IsSound (sym same) sound, omega (arith, len, c.in-Ok-reserve.ensures.ok, c.in-Some-checked_add.ensures, c.len.ensures))
@@ -75,10 +75,10 @@ returns-in-Err-clause-err g c =
     let some : 0 < n = omega (arith, n_is, rounded_some c.args.request.now.size a.quantum good.size) in
     let within : n ≤ t.holding.range.len = omega (arith, n_is, room) in
     let whole : n % a.quantum ≡ 0 = ap (λ k. k % a.quantum) n_is ∙ rounded_multiple c.args.request.now.size a.quantum (power_some a.quantum sound.power) in
-    let piece_is : c.new-piece.result ≡ part t.holding t.holding.range.base n = rw (c.new-piece.ensures, c.root-2.ensures, c.piece_of.ensures, c.base.ensures.value, range_is) refl in
+    let piece_is : c.new-first.result ≡ part t.holding t.holding.range.base n = rw (c.new-first.ensures, c.root-2.ensures, c.piece_of.ensures, c.base.ensures.value, range_is) refl in
     let absent = import_absent a sound t range fits.1 fits.0 n some within whole in
-    let absent_here : finmap.get c.self.inside.tags c.new-piece.result.range.base ≡ None = rw piece_is absent in
-    let tags = undone c.self.inside.tags c.insert.new.self c.remove.new.self c.new-piece.result.range.base c.new-piece.result absent_here c.in-Ok-insert.ensures.ok c.remove.ensures in
+    let absent_here : finmap.get c.self.inside.tags c.new-first.result.range.base ≡ None = rw piece_is absent in
+    let tags = undone c.self.inside.tags c.insert.new.self c.remove.new.self c.new-first.result.range.base c.new-first.result absent_here c.in-Ok-insert.ensures.ok c.remove.ensures in
     let same = ap (λ (xs : List Tag). record a { imported = xs; free = c.reserve-2.new.self.items; allocated = c.remove.new.self }) c.reserve.ensures.items ∙ as_it_was a _ _ c.reserve-2.ensures.items tags in
     same ∙ c.self.view_is
 
@@ -97,7 +97,7 @@ invariant_of-self-2 g c =
     let some : 0 < n = omega (arith, n_is, rounded_some c.args.request.now.size a.quantum good.size) in
     let within : n ≤ t.holding.range.len = omega (arith, n_is, room) in
     let whole : n % a.quantum ≡ 0 = ap (λ k. k % a.quantum) n_is ∙ rounded_multiple c.args.request.now.size a.quantum (power_some a.quantum sound.power) in
-    let piece_is : c.new-piece.result ≡ part t.holding t.holding.range.base n = rw (c.new-piece.ensures, c.root-2.ensures, c.piece_of.ensures, c.base.ensures.value, range_is) refl in
+    let piece_is : c.new-first.result ≡ part t.holding t.holding.range.base n = rw (c.new-first.ensures, c.root-2.ensures, c.piece_of.ensures, c.base.ensures.value, range_is) refl in
     let absent = import_absent a sound t range fits.1 fits.0 n some within whole in
     let stored_is : c.new.result ≡ t.holding = c.new.ensures ∙ c.into_deed.ensures in
     let high_is : option_to_list c.in-Ok-cut_first.parts.1 ≡ between t.holding (t.holding.range.base + n) (end_of t.holding.range) = rw stored_is at c.in-Ok-cut_first.ensures.high in
@@ -128,7 +128,7 @@ returns-clause-carved g c =
     let some : 0 < n = omega (arith, n_is, rounded_some c.args.request.now.size a.quantum good.size) in
     let within : n ≤ t.holding.range.len = omega (arith, n_is, room) in
     let whole : n % a.quantum ≡ 0 = ap (λ k. k % a.quantum) n_is ∙ rounded_multiple c.args.request.now.size a.quantum (power_some a.quantum sound.power) in
-    let piece_is : c.new-piece.result ≡ part t.holding t.holding.range.base n = rw (c.new-piece.ensures, c.root-2.ensures, c.piece_of.ensures, c.base.ensures.value, range_is) refl in
+    let piece_is : c.new-first.result ≡ part t.holding t.holding.range.base n = rw (c.new-first.ensures, c.root-2.ensures, c.piece_of.ensures, c.base.ensures.value, range_is) refl in
     let absent = import_absent a sound t range fits.1 fits.0 n some within whole in
     let stored_is : c.new.result ≡ t.holding = c.new.ensures ∙ c.into_deed.ensures in
     let high_is : option_to_list c.in-Ok-cut_first.parts.1 ≡ between t.holding (t.holding.range.base + n) (end_of t.holding.range) = rw stored_is at c.in-Ok-cut_first.ensures.high in
@@ -156,7 +156,7 @@ returns-clause-gains g c =
     let some : 0 < n = omega (arith, n_is, rounded_some c.args.request.now.size a.quantum good.size) in
     let within : n ≤ t.holding.range.len = omega (arith, n_is, room) in
     let whole : n % a.quantum ≡ 0 = ap (λ k. k % a.quantum) n_is ∙ rounded_multiple c.args.request.now.size a.quantum (power_some a.quantum sound.power) in
-    let piece_is : c.new-piece.result ≡ part t.holding t.holding.range.base n = rw (c.new-piece.ensures, c.root-2.ensures, c.piece_of.ensures, c.base.ensures.value, range_is) refl in
+    let piece_is : c.new-first.result ≡ part t.holding t.holding.range.base n = rw (c.new-first.ensures, c.root-2.ensures, c.piece_of.ensures, c.base.ensures.value, range_is) refl in
     let absent = import_absent a sound t range fits.1 fits.0 n some within whole in
     let stored_is : c.new.result ≡ t.holding = c.new.ensures ∙ c.into_deed.ensures in
     let high_is : option_to_list c.in-Ok-cut_first.parts.1 ≡ between t.holding (t.holding.range.base + n) (end_of t.holding.range) = rw stored_is at c.in-Ok-cut_first.ensures.high in
@@ -186,7 +186,7 @@ returns-clause-covering g c =
     let some : 0 < n = omega (arith, n_is, rounded_some c.args.request.now.size a.quantum good.size) in
     let within : n ≤ t.holding.range.len = omega (arith, n_is, room) in
     let whole : n % a.quantum ≡ 0 = ap (λ k. k % a.quantum) n_is ∙ rounded_multiple c.args.request.now.size a.quantum (power_some a.quantum sound.power) in
-    let piece_is : c.new-piece.result ≡ part t.holding t.holding.range.base n = rw (c.new-piece.ensures, c.root-2.ensures, c.piece_of.ensures, c.base.ensures.value, range_is) refl in
+    let piece_is : c.new-first.result ≡ part t.holding t.holding.range.base n = rw (c.new-first.ensures, c.root-2.ensures, c.piece_of.ensures, c.base.ensures.value, range_is) refl in
     let absent = import_absent a sound t range fits.1 fits.0 n some within whole in
     let stored_is : c.new.result ≡ t.holding = c.new.ensures ∙ c.into_deed.ensures in
     let high_is : option_to_list c.in-Ok-cut_first.parts.1 ≡ between t.holding (t.holding.range.base + n) (end_of t.holding.range) = rw stored_is at c.in-Ok-cut_first.ensures.high in
