@@ -147,7 +147,8 @@ impl<D: Deed> Arena<D> {
     // Why a span of this range is refused, memory aside.
     fn span_fault(&self, range: &Range) -> Option<ArenaFault>
         ensures fault { IfSome result (RefusesSpan self.now range.now) }
-        ensures none { IfNone result (IsClear self.now range.now × OnQuantum self.now.quantum range.now) }
+        ensures none { IfNone result (IsClear self.now range.now
+            × OnQuantum self.now.quantum range.now) }
     {
         if overlaps_owned(&self.owned, range) {
             return Some(ArenaFault::Overlaps);
@@ -168,8 +169,10 @@ impl<D: Deed> Arena<D> {
     /// keeps to 65,536.
     pub fn add_span(&mut self, deed: D) -> Result<(), (D, ArenaFault)>
         ensures added { OnOk result (self.new ≡ after_add self.old (D.holding deed)) }
-        ensures clear { OnOk result (IsClear self.old (D.holding deed).range × OnQuantum self.old.quantum (D.holding deed).range) }
-        ensures refused { IfErr result (λ back. RefusesSpan self.old (D.holding deed).range back.1) }
+        ensures clear { OnOk result (IsClear self.old (D.holding deed).range
+            × OnQuantum self.old.quantum (D.holding deed).range) }
+        ensures refused { IfErr result (λ back.
+            RefusesSpan self.old (D.holding deed).range back.1) }
         ensures same { IfErr result (λ back. back.0 ≡ deed) }
         ensures err { OnErr result (self.new ≡ self.old) }
     {
@@ -195,17 +198,23 @@ impl<D: Deed> Arena<D> {
     /// Carves what the policy chooses for the request.
     pub fn xalloc(&mut self, request: &Request) -> Result<Segment<D>, ArenaFault>
         ensures bad { (result ≡ Err ArenaFault.BadRequest) ↔ ¬ IsGood self.old.quantum request.now }
-        ensures no_fit { (result ≡ Err ArenaFault.NoFit) ↔ (IsGood self.old.quantum request.now × IsChosen self.old request.now None) }
+        ensures no_fit { (result ≡ Err ArenaFault.NoFit)
+            ↔ (IsGood self.old.quantum request.now × IsChosen self.old request.now None) }
         ensures refused { IfErr result (RefusesCarve self.old request.now) }
-        ensures chosen { IfOk result (λ s. IsChosen self.old request.now (Some s.holding.range.base)) }
-        ensures fits { IfOk result (λ s. Fits self.old.quantum request.now s.holding.range.base s.holding.range.len) }
+        ensures chosen { IfOk result (λ s.
+            IsChosen self.old request.now (Some s.holding.range.base)) }
+        ensures fits { IfOk result (λ s.
+            Fits self.old.quantum request.now s.holding.range.base s.holding.range.len) }
         ensures segment { IfOk result (λ s. s ≡ direct self.old.id s.holding) }
         ensures carved { IfOk result (λ s. Carves self.old self.new s.holding) }
         ensures err { OnErr result (self.new ≡ self.old) }
 
         // However the ranges are weighed, and unit by unit.
-        ensures gains { IfOk result (λ s. Gains (ranges_of self.old.allocated) (ranges_of self.new.allocated) s.holding) }
-        ensures covering { IfOk result (λ s. (u : ℕ) → covering_held u self.old.free ≡ covering_held u self.new.free + covers u s.holding.range) }
+        ensures gains { IfOk result (λ s.
+            Gains (ranges_of self.old.allocated) (ranges_of self.new.allocated) s.holding) }
+        ensures covering { IfOk result (λ s.
+            (u : ℕ) → covering_held u self.old.free
+            ≡ covering_held u self.new.free + covers u s.holding.range) }
     {
         if !request.is_good(self.quantum) {
             return Err(ArenaFault::BadRequest);
@@ -239,16 +248,21 @@ impl<D: Deed> Arena<D> {
         requires good { IsGood self.old.quantum request.now }
         requires plain { IsPlain request.now }
         requires room { rounded self.old.quantum request.now.size ≤ span.holding.range.len }
-        ensures segment { IfOk result (λ s. s ≡ direct self.old.id (first_of self.old.quantum request.now span.holding)) }
+        ensures segment { IfOk result (λ s.
+            s ≡ direct self.old.id (first_of self.old.quantum request.now span.holding)) }
         ensures carved { OnOk result (self.new ≡ after_import_carve self.old request.now span) }
-        ensures clear { OnOk result (IsClear self.old span.holding.range × OnQuantum self.old.quantum span.holding.range) }
+        ensures clear { OnOk result (IsClear self.old span.holding.range
+            × OnQuantum self.old.quantum span.holding.range) }
         ensures refused { IfErr result (λ back. RefusesSpan self.old span.holding.range back.1) }
         ensures same { IfErr result (λ back. back.0 ≡ span) }
         ensures err { OnErr result (self.new ≡ self.old) }
 
         // However the ranges are weighed, and unit by unit.
-        ensures gains { IfOk result (λ s. Gains (ranges_of self.old.allocated) (ranges_of self.new.allocated) s.holding) }
-        ensures covering { IfOk result (λ s. (u : ℕ) → covering_held u self.new.free + covers u s.holding.range ≡ covering_held u self.old.free + covers u span.holding.range) }
+        ensures gains { IfOk result (λ s.
+            Gains (ranges_of self.old.allocated) (ranges_of self.new.allocated) s.holding) }
+        ensures covering { IfOk result (λ s.
+            (u : ℕ) → covering_held u self.new.free + covers u s.holding.range
+            ≡ covering_held u self.old.free + covers u span.holding.range) }
     {
         let range = span.range();
         if let Some(fault) = self.span_fault(&range) {
@@ -295,8 +309,12 @@ impl<D: Deed> Arena<D> {
 
         // However the ranges are weighed, and unit by unit.
         ensures loses { OnOk result (Loses (ranges_of self.old.allocated) (ranges_of self.new.allocated) segment.holding) }
-        ensures returned { IfOk result (λ back. (f : Tag → ℕ) → sum_by f self.old.imported ≡ sum_by f self.new.imported + sum_by f (option_to_list back)) }
-        ensures covering { IfOk result (λ back. (u : ℕ) → covering_held u self.new.free + sum_by (covers_tag u) (option_to_list back) ≡ covering_held u self.old.free + covers u segment.holding.range) }
+        ensures returned { IfOk result (λ back.
+            (f : Tag → ℕ) → sum_by f self.old.imported
+            ≡ sum_by f self.new.imported + sum_by f (option_to_list back)) }
+        ensures covering { IfOk result (λ back.
+            (u : ℕ) → covering_held u self.new.free + sum_by (covers_tag u) (option_to_list back)
+            ≡ covering_held u self.old.free + covers u segment.holding.range) }
     {
         if segment.arena() != self.id || segment.route() != Route::Direct {
             return Err(segment);
@@ -318,11 +336,15 @@ impl<D: Deed> Arena<D> {
 
     /// Takes out the lowest owned span that is wholly free. It takes no memory.
     pub fn remove_owned(&mut self) -> Option<D>
-        ensures none { IfNone result (All (λ s. ¬ Contains self.old.free s) self.old.owned × (self.new ≡ self.old)) }
+        ensures none { IfNone result
+            (All (λ s. ¬ Contains self.old.free s) self.old.owned × (self.new ≡ self.old)) }
         ensures lowest { IfSome result (λ deed. IsLowestWhole self.old (D.holding deed)) }
-        ensures removed { IfSome result (λ deed. self.new ≡ after_remove self.old (D.holding deed)) }
-        ensures loses { IfSome result (λ deed. Loses self.old.owned self.new.owned (D.holding deed)) }
-        ensures covering { IfSome result (λ deed. Loses self.old.free self.new.free (D.holding deed)) }
+        ensures removed { IfSome result (λ deed.
+            self.new ≡ after_remove self.old (D.holding deed)) }
+        ensures loses { IfSome result (λ deed.
+            Loses self.old.owned self.new.owned (D.holding deed)) }
+        ensures covering { IfSome result (λ deed.
+            Loses self.old.free self.new.free (D.holding deed)) }
     {
         let whole = lowest_whole(&self.owned, &self.free)?;
         let _ = self.owned.remove(whole.at);

@@ -22,9 +22,11 @@ fn cut_low<D: Deed>(
 ) -> Result<(Option<Stored<D>>, Stored<D>), Stored<D>>
     requires from { whole.range.base ≤ base }
     requires to { base < end_of whole.range }
-    ensures low { IfOk result (λ parts. option_to_list parts.0 ≡ between whole whole.range.base base) }
+    ensures low { IfOk result (λ parts.
+        option_to_list parts.0 ≡ between whole whole.range.base base) }
     ensures rest { IfOk result (λ parts. parts.1 ≡ part whole base (end_of whole.range - base)) }
-    ensures joins { IfOk result (λ parts. IfSome parts.0 (λ low. GoesOn low parts.1 × (joined low parts.1 ≡ whole))) }
+    ensures joins { IfOk result (λ parts. IfSome parts.0 (λ low.
+        GoesOn low parts.1 × (joined low parts.1 ≡ whole))) }
     ensures alone { IfOk result (λ parts. IfNone parts.0 (parts.1 ≡ whole)) }
     ensures err { IfErr result (λ same. same ≡ whole) }
 {
@@ -44,8 +46,10 @@ fn cut_high<D: Deed>(
 ) -> Result<(Stored<D>, Option<Stored<D>>), Stored<D>>
     requires from { whole.range.base < end }
     requires to { end ≤ end_of whole.range }
-    ensures piece { IfOk result (λ parts. parts.0 ≡ part whole whole.range.base (end - whole.range.base)) }
-    ensures high { IfOk result (λ parts. option_to_list parts.1 ≡ between whole end (end_of whole.range)) }
+    ensures piece { IfOk result (λ parts.
+        parts.0 ≡ part whole whole.range.base (end - whole.range.base)) }
+    ensures high { IfOk result (λ parts.
+        option_to_list parts.1 ≡ between whole end (end_of whole.range)) }
     ensures err { IfErr result (λ same. same ≡ whole) }
 {
     if whole.range().end() == end {
@@ -75,8 +79,10 @@ fn cut_out<D: Deed>(whole: Stored<D>, base: u64, end: u64) -> Result<Cut<D>, Sto
     requires some { base < end }
     requires to { end ≤ end_of whole.range }
     ensures piece { IfOk result (λ parts. parts.piece ≡ part whole base (end - base)) }
-    ensures low { IfOk result (λ parts. option_to_list parts.low ≡ between whole whole.range.base base) }
-    ensures high { IfOk result (λ parts. option_to_list parts.high ≡ between whole end (end_of whole.range)) }
+    ensures low { IfOk result (λ parts.
+        option_to_list parts.low ≡ between whole whole.range.base base) }
+    ensures high { IfOk result (λ parts.
+        option_to_list parts.high ≡ between whole end (end_of whole.range)) }
     ensures err { IfErr result (λ same. same ≡ whole) }
 {
     let (low, rest) = match cut_low(whole, base) {
@@ -118,7 +124,8 @@ pub fn carve<D: Deed>(
     requires to { base + len ≤ end_of range.range }
     requires room { vec_len free.old < vec_capacity free.old }
     ensures piece { IfOk result (λ piece. piece ≡ part range base len) }
-    ensures items { IfOk result (λ piece. free.new.items ≡ remove free.old.items at ++ rests range piece) }
+    ensures items { IfOk result (λ piece.
+        free.new.items ≡ remove free.old.items at ++ rests range piece) }
     ensures err { OnErr result (free.new.items ≡ free.old.items) }
     ensures len { vec_len free.new ≤ vec_len free.old + 1 }
     ensures capacity { vec_capacity free.new ≡ vec_capacity free.old }
@@ -146,7 +153,8 @@ pub fn cut_first<D: Deed>(
     requires some { 0 < len }
     requires to { len ≤ whole.range.len }
     ensures piece { IfOk result (λ parts. parts.0 ≡ part whole whole.range.base len) }
-    ensures high { IfOk result (λ parts. option_to_list parts.1 ≡ between whole (whole.range.base + len) (end_of whole.range)) }
+    ensures high { IfOk result (λ parts.
+        option_to_list parts.1 ≡ between whole (whole.range.base + len) (end_of whole.range)) }
     ensures err { IfErr result (λ same. same ≡ whole) }
 {
     let range = whole.range();

@@ -21,7 +21,9 @@ pub struct Listed {
 /// The power-of-two list that the range is on.
 fn list_of(range: &Stretch, quantum: u64) -> Option<u32>
     requires { 0 < quantum }
-    ensures { MatchOption result ((i : ℕ) → OnList quantum range.now i → ⊥) (λ list. (list < 64) × (2 ^ list * quantum < 2 ^ 64) × OnList quantum range.now list × ((i : ℕ) → OnList quantum range.now i → i ≡ list)) }
+    ensures { MatchOption result ((i : ℕ) → OnList quantum range.now i → ⊥)
+        (λ list. (list < 64) × (2 ^ list * quantum < 2 ^ 64) × OnList quantum range.now list
+        × ((i : ℕ) → OnList quantum range.now i → i ≡ list)) }
 {
     let quanta = range.len() / quantum;
     if quanta == 0 {

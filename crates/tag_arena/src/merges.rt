@@ -11,7 +11,8 @@ use deed_core::{Deed, Stored};
 
 /// Where the range that ends at `base` stands.
 fn ends_at<D: Deed>(free: &[Stored<D>], base: u64) -> Option<usize>
-    ensures { MatchOption result (All (λ r. end_of r.range ≢ base) free.now) (λ at. (at < length free.now) × HoldsAt (λ r. end_of r.range ≡ base) free.now at) }
+    ensures { MatchOption result (All (λ r. end_of r.range ≢ base) free.now)
+        (λ at. (at < length free.now) × HoldsAt (λ r. end_of r.range ≡ base) free.now at) }
 {
     for at in 0..free.len() {
         if free[at].range().end() == base {
@@ -23,7 +24,8 @@ fn ends_at<D: Deed>(free: &[Stored<D>], base: u64) -> Option<usize>
 
 /// Where the range that begins at `end` stands.
 fn starts_at<D: Deed>(free: &[Stored<D>], end: u64) -> Option<usize>
-    ensures { MatchOption result (All (λ r. r.range.base ≢ end) free.now) (λ at. (at < length free.now) × HoldsAt (λ r. r.range.base ≡ end) free.now at) }
+    ensures { MatchOption result (All (λ r. r.range.base ≢ end) free.now)
+        (λ at. (at < length free.now) × HoldsAt (λ r. r.range.base ≡ end) free.now at) }
 {
     for at in 0..free.len() {
         if free[at].range().base() == end {
@@ -65,7 +67,8 @@ fn take_right<D: Deed>(free: &mut Vec<Stored<D>>, end: u64, limit: u64) -> Optio
 fn join_left<D: Deed>(left: Option<Stored<D>>, deed: Stored<D>) -> Stored<D>
     requires { IfSome left (λ left. GoesOn left deed) }
     ensures root { result.root ≡ deed.root }
-    ensures base { result.range.base ≡ option_map_or (λ left. left.range.base) left deed.range.base }
+    ensures base { result.range.base
+        ≡ option_map_or (λ left. left.range.base) left deed.range.base }
     ensures end { end_of result.range ≡ end_of deed.range }
 {
     match left {
@@ -79,7 +82,8 @@ fn join_right<D: Deed>(deed: Stored<D>, right: Option<Stored<D>>) -> Stored<D>
     requires { IfSome right (λ right. GoesOn deed right) }
     ensures root { result.root ≡ deed.root }
     ensures base { result.range.base ≡ deed.range.base }
-    ensures end { end_of result.range ≡ option_map_or (λ right. end_of right.range) right (end_of deed.range) }
+    ensures end { end_of result.range
+        ≡ option_map_or (λ right. end_of right.range) right (end_of deed.range) }
 {
     match right {
         Some(right) => deed.join(right),

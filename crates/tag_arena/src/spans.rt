@@ -46,7 +46,8 @@ impl Import {
 
 /// Whether an owned span overlaps the range.
 pub fn overlaps_owned(owned: &[Stretch], range: &Range) -> bool
-    ensures { MatchBool result (Any (λ s. Overlap s.range range.now) owned.now) (All (λ s. ¬ Overlap s.range range.now) owned.now) }
+    ensures { MatchBool result (Any (λ s. Overlap s.range range.now) owned.now)
+        (All (λ s. ¬ Overlap s.range range.now) owned.now) }
 {
     for span in owned {
         if span.range().overlaps(range) {
@@ -58,7 +59,8 @@ pub fn overlaps_owned(owned: &[Stretch], range: &Range) -> bool
 
 /// Whether an imported span overlaps the range.
 pub fn overlaps_imported(imported: &[Import], range: &Range) -> bool
-    ensures { MatchBool result (Any (λ t. Overlap t.holding.range range.now) imported.now) (All (λ t. ¬ Overlap t.holding.range range.now) imported.now) }
+    ensures { MatchBool result (Any (λ t. Overlap t.holding.range range.now) imported.now)
+        (All (λ t. ¬ Overlap t.holding.range range.now) imported.now) }
 {
     for import in imported {
         if import.span().range().overlaps(range) {
@@ -70,7 +72,8 @@ pub fn overlaps_imported(imported: &[Import], range: &Range) -> bool
 
 /// The owned span that `base` lies in.
 fn owned_at(owned: &[Stretch], base: u64) -> Option<Stretch>
-    ensures { MatchOption result (All (λ s. ¬ Covers s.range base) owned.now) (λ s. Contains owned.now s × Covers s.range base) }
+    ensures { MatchOption result (All (λ s. ¬ Covers s.range base) owned.now)
+        (λ s. Contains owned.now s × Covers s.range base) }
 {
     for span in owned {
         if span.base() <= base && base < span.end() {
@@ -82,7 +85,9 @@ fn owned_at(owned: &[Stretch], base: u64) -> Option<Stretch>
 
 /// The imported span that `base` lies in.
 fn imported_at(imported: &[Import], base: u64) -> Option<Stretch>
-    ensures { let spans = map (λ t. t.holding) imported.now in MatchOption result (All (λ s. ¬ Covers s.range base) spans) (λ s. Contains spans s × Covers s.range base) }
+    ensures { let spans = map (λ t. t.holding) imported.now in
+        MatchOption result (All (λ s. ¬ Covers s.range base) spans)
+        (λ s. Contains spans s × Covers s.range base) }
 {
     for import in imported {
         let span = import.span();
@@ -95,7 +100,9 @@ fn imported_at(imported: &[Import], base: u64) -> Option<Stretch>
 
 /// The span that `base` lies in.
 pub fn span_at(owned: &[Stretch], imported: &[Import], base: u64) -> Option<Stretch>
-    ensures { let spans = owned.now ++ map (λ t. t.holding) imported.now in MatchOption result (All (λ s. ¬ Covers s.range base) spans) (λ s. Contains spans s × Covers s.range base) }
+    ensures { let spans = owned.now ++ map (λ t. t.holding) imported.now in
+        MatchOption result (All (λ s. ¬ Covers s.range base) spans)
+        (λ s. Contains spans s × Covers s.range base) }
 {
     if let Some(span) = owned_at(owned, base) {
         return Some(span);
@@ -105,7 +112,9 @@ pub fn span_at(owned: &[Stretch], imported: &[Import], base: u64) -> Option<Stre
 
 /// Where the imported span with this root and range stands.
 pub fn place_of_import(imported: &[Import], span: &Stretch) -> Option<usize>
-    ensures { MatchOption result (All (λ t. t.holding ≢ span.now) imported.now) (λ at. (at < length imported.now) × HoldsAt (λ t. t.holding ≡ span.now) imported.now at) }
+    ensures { MatchOption result (All (λ t. t.holding ≢ span.now) imported.now)
+        (λ at. (at < length imported.now)
+        × HoldsAt (λ t. t.holding ≡ span.now) imported.now at) }
 {
     for (at, import) in imported.iter().enumerate() {
         if import.span() == *span {

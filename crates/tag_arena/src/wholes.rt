@@ -15,7 +15,8 @@ pub struct Whole {
 
 /// Where the free range with this root and range stands.
 fn place_of<D: Deed>(free: &[Stored<D>], range: Stretch) -> Option<usize>
-    ensures { MatchOption result (¬ Contains free.now range) (λ at. (at < length free.now) × HoldsAt (λ r. r ≡ range) free.now at) }
+    ensures { MatchOption result (¬ Contains free.now range)
+        (λ at. (at < length free.now) × HoldsAt (λ r. r ≡ range) free.now at) }
 {
     for at in 0..free.len() {
         if stretch_at(free, at) == range {
