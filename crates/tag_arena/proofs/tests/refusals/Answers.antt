@@ -2,4 +2,4 @@ use Rattle.std.proofs.Common.{refl}
 use Rattle.tag_arena.proofs.tests.refusals.Goals as goal
 
 pub new-arena-requires : goal.new-arena-requires
-new-arena-requires c = (2, refl)
+new-arena-requires g c = (2, refl)
