@@ -1,0 +1,124 @@
+-- A carve of what was found, in terms of the calls that make it.
+use Rattle.std.proofs.Common.{◌≡◌, ◌≢◌, ℕ, ◌+◌, ◌-◌, ◌*◌, ◌/◌, ◌%◌, ◌^◌, ◌<◌, ◌≤◌, refl, sym, subst, ap, ◌∙◌, inl, inr, ⊎_elim, List, ◌++◌, length, get_or, remove, HoldsAt, Contains, Option, Some, None, SomeIff, Result, Ok, Err, IfErr, IsErrAnd, arith}
+use Rattle.std.proofs.lemmas.Bool.{cases_eq}
+use Rattle.std.proofs.Math.Nat.{mul-mod_left, mod_self, mod-eq_of_lt}
+use Rattle.std.proofs.lemmas.Nat.{div-add-mod', mod_below}
+use Rattle.std.specs.Ordering.{nat_cmp}
+use Rattle.std.specs.FinMap as finmap
+use Rattle.std.specs.FinMap.{FinMap}
+use Rattle.deed_core.specs.Extent.{Extent, IsRange, end_of}
+use Rattle.deed_core.specs.Holding.{Holding}
+use Rattle.deed_core.specs.Covering.{covers, covering_held}
+use Rattle.deed_core.specs.Weights.{Gains}
+use Rattle.deed_core.specs.Request.{IsGood, rounded}
+use Rattle.deed_core.specs.declared.requests.Request.{Request}
+use Rattle.tag_arena.specs.declared.choices.Found.{Found}
+use Rattle.tag_arena.specs.declared.faults.ArenaFault.{ArenaFault}
+use Rattle.tag_arena.specs.declared.faults.ArenaFault.TheVariants.{NoFit, NoMemory}
+use Rattle.tag_arena.specs.Layout.{IsPartOf}
+use Rattle.tag_arena.specs.Choice.{IsChoice}
+use Rattle.tag_arena.specs.Found.{IsPlaced}
+use Rattle.tag_arena.specs.ArenaState.{ArenaState, IsSound, IsChosen, OnQuantum, ranges_of}
+use Rattle.tag_arena.specs.Calls.{part, rests, after_carve, Carves}
+use Rattle.tag_arena.proofs.Allocations.{gains_insert, remove-insert, len_more}
+use Rattle.tag_arena.proofs.Ranges.{get_same}
+use Rattle.tag_arena.proofs.OneChoice.{choice_one}
+use Rattle.tag_arena.proofs.Sounding.{power_some, others, absent, sound_carve, carved_covers, among}
+
+pub rounded_some : (size quantum : ℕ) → 0 < size → 0 < rounded quantum size
+rounded_some size quantum some = omega arith
+
+-- a rounded size is a multiple of the quantum
+pub rounded_multiple : (size quantum : ℕ) → 0 < quantum → rounded quantum size % quantum ≡ 0
+rounded_multiple size quantum some =
+    let rest : size % quantum < quantum = mod_below size quantum some in
+    elim (cases_eq (size % quantum) 0) [
+      | inl e ↦
+          let more : (quantum - size % quantum) % quantum ≡ 0 = (let whole : quantum - size % quantum ≡ quantum = omega arith in ap (λ k. k % quantum) whole ∙ mod_self quantum) in
+          let same : size + (quantum - size % quantum) % quantum ≡ size = omega arith in ap (λ k. k % quantum) same ∙ e
+      | inr ne ↦
+          let more : (quantum - size % quantum) % quantum ≡ quantum - size % quantum = mod-eq_of_lt (omega arith) in
+          let whole : (size / quantum + 1) * quantum ≡ rounded quantum size = omega (arith, div-add-mod' size quantum) in
+          subst (λ k. k % quantum ≡ 0) whole (mul-mod_left (size / quantum + 1) quantum)
+    ]
+
+pub units_are : (o : Option ℕ) (P : Type 0) (v n : ℕ) → SomeIff o P v → o ≡ Some n → n ≡ v
+units_are o P v n says e = (subst (λ x. SomeIff x P v) e says).1
+
+-- a choice among the same free ranges
+pub chosen_by : (a b : ArenaState) (q : Request) (xs : List Holding) (o : Option ℕ) → xs ≡ a.free → a ≡ b → IsChoice a.policy a.quantum q xs a.rover o → IsChosen b q o
+chosen_by a b q xs o free same choice = subst (λ (s : ArenaState). IsChosen s q o) same (subst (λ (ys : List Holding). IsChoice a.policy a.quantum q ys a.rover o) free choice)
+
+-- an address and none aren't both chosen
+pub never_both : (a : ArenaState) (q : Request) (b : ℕ) → IsChosen a q None → IsChosen a q (Some b) → ⊥
+never_both a q b none some = let e : None ≡ Some b = choice_one a.policy a.quantum q a.free a.rover None (Some b) none some in cc
+
+-- an arena whose lists are as they were
+pub as_it_was : (a : ArenaState) (free : List Holding) (tags : FinMap nat_cmp Holding) → free ≡ a.free → tags ≡ a.allocated → record a { free = free; allocated = tags } ≡ a
+as_it_was a free tags free_is tags_is = ap (λ (xs : List Holding). record a { free = xs; allocated = tags }) free_is ∙ ap (λ (m : FinMap nat_cmp Holding). record a { allocated = m }) tags_is
+
+-- a tag that is put in and taken out again
+pub undone : (m put taken : FinMap nat_cmp Holding) (k : ℕ) (v : Holding) → finmap.get m k ≡ None → put ≡ finmap.insert m k v → taken ≡ finmap.remove put k → taken ≡ m
+undone m put taken k v none put_is taken_is = taken_is ∙ ap (λ (n : FinMap nat_cmp Holding). finmap.remove n k) put_is ∙ remove-insert m k v none
+
+pub stands : (m put : FinMap nat_cmp Holding) (k : ℕ) (v : Holding) → put ≡ finmap.insert m k v → finmap.get put k ≡ Some v
+stands m put k v put_is = ap (λ (n : FinMap nat_cmp Holding). finmap.get n k) put_is ∙ get_same m k v
+
+-- a carve at a place of the list
+module _ (a : ArenaState) (sound : IsSound a) (at : ℕ) (r piece : Holding) (within : at < length a.free) (here : HoldsAt (λ x. x ≡ r) a.free at) (held : IsPartOf r piece) (some : 0 < piece.range.len) (grid : OnQuantum a.quantum piece.range) where
+  pub carve_is : (free : List Holding) (tags : FinMap nat_cmp Holding) → free ≡ remove a.free at ++ rests r piece → tags ≡ finmap.insert a.allocated piece.range.base piece
+      → record a { free = free; allocated = tags; rover = end_of piece.range } ≡ after_carve a r piece
+  carve_is free tags free_is tags_is =
+      ap (λ (xs : List Holding). record a { free = xs; allocated = tags; rover = end_of piece.range }) (free_is ∙ ap (λ (xs : List Holding). xs ++ rests r piece) (sym (others a sound at r piece within here held some grid)))
+      ∙ ap (λ (m : FinMap nat_cmp Holding). record (after_carve a r piece) { allocated = m }) tags_is
+
+  pub carves : (new : ArenaState) → new ≡ after_carve a r piece → Carves a new piece
+  carves new is = record { range = r; among = among a sound at r piece within here held some grid; inside = held; after = is }
+
+  pub carve_sound : (new : ArenaState) → new ≡ after_carve a r piece → IsSound new
+  carve_sound new is = subst IsSound (sym is) (sound_carve a sound at r piece within here held some grid)
+
+  pub carve_absent : finmap.get a.allocated piece.range.base ≡ None
+  carve_absent = absent a sound at r piece within here held some grid
+
+  pub carve_gains : (new : ArenaState) → new ≡ after_carve a r piece → Gains (ranges_of a.allocated) (ranges_of new.allocated) piece
+  carve_gains new is = subst (λ (s : ArenaState). Gains (ranges_of a.allocated) (ranges_of s.allocated) piece) (sym is) (gains_insert a.allocated piece.range.base piece carve_absent)
+
+  pub carve_covers : (new : ArenaState) → new ≡ after_carve a r piece → (u : ℕ) → covering_held u a.free ≡ covering_held u new.free + covers u piece.range
+  carve_covers new is = subst (λ (s : ArenaState). (u : ℕ) → covering_held u a.free ≡ covering_held u s.free + covers u piece.range) (sym is) (carved_covers a sound at r piece within here held some grid)
+
+-- what was found serves
+module _ (a : ArenaState) (sound : IsSound a) (q : Request) (good : IsGood a.quantum q) (f : Found) (placed : IsPlaced a.quantum q a.free f) (n : ℕ) (n_is : n ≡ rounded a.quantum q.size) where
+  abbrev pub piece : Holding
+  piece = part f.range f.base n
+
+  pub found_held : IsPartOf f.range piece
+  found_held = record { root = refl; from = placed.2.from; to = omega (arith, n_is, placed.2.to) }
+
+  pub found_some : 0 < n
+  found_some = omega (arith, n_is, rounded_some q.size a.quantum good.size)
+
+  pub found_grid : OnQuantum a.quantum piece.range
+  found_grid = (placed.2.fits.whole, ap (λ k. k % a.quantum) n_is ∙ rounded_multiple q.size a.quantum (power_some a.quantum sound.power))
+
+-- the error of a result
+err_or : {X : Type 0} → Result X ArenaFault → ArenaFault → ArenaFault
+err_or (Ok x) d = d
+err_or (Err fault) d = fault
+
+-- a refusal for memory that `?` passes on
+pub memory_refused : {X : Type 0} (r : Result X ArenaFault) (Q : ArenaFault → Type 0) → IsErrAnd r (λ fault. fault ≡ NoMemory) → Q NoMemory → IfErr r Q
+memory_refused (Ok x) Q h q = tt
+memory_refused (Err fault) Q h q = subst Q (sym h) q
+
+not_that : (fault : ArenaFault) → fault ≡ NoMemory → NoFit ≡ fault → ⊥
+not_that fault h e = let both : NoFit ≡ NoMemory = e ∙ h in cc
+
+err_is : {X : Type 0} (r : Result X ArenaFault) → IsErrAnd r (λ fault. fault ≡ NoMemory) → (d : ArenaFault) → err_or r d ≡ NoMemory
+unfolding err_or
+err_is (Ok x) h d = absurd h
+err_is (Err fault) h d = h
+
+pub memory_not_fit : {X : Type 0} (r : Result X ArenaFault) → IsErrAnd r (λ fault. fault ≡ NoMemory) → r ≡ Err NoFit → ⊥
+unfolding err_or
+memory_not_fit r h e = not_that NoMemory refl (ap (λ x. err_or x NoFit) (sym e) ∙ err_is r h NoFit)

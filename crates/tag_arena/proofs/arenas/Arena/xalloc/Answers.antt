@@ -1,0 +1,206 @@
+use Rattle.std.proofs.Common.{◌≡◌, ℕ, ◌+◌, ◌++◌, List, remove, Some, None, Option, refl, sym, subst, ap, ◌∙◌, All, arith}
+use Rattle.std.specs.FinMap as finmap
+use Rattle.deed_core.specs.Extent.{IsRange, end_of}
+use Rattle.deed_core.specs.Holding.{Holding}
+use Rattle.deed_core.specs.Tag.{Tag}
+use Rattle.deed_core.specs.Request.{IsGood}
+use Rattle.deed_core.specs.Covering.{covers, covering_held}
+use Rattle.deed_core.specs.Weights.{Gains}
+use Rattle.tag_arena.specs.declared.choices.Found.{Found}
+use Rattle.tag_arena.specs.Found.{IsPlaced}
+use Rattle.tag_arena.specs.ArenaState.{ArenaState, IsSound, IsChosen, ranges_of}
+use Rattle.tag_arena.specs.Calls.{part, rests, after_carve, Carves, RefusesCarve}
+use Rattle.tag_arena.proofs.Allocations.{len_more}
+use Rattle.tag_arena.proofs.Sounding.{free_ranges}
+use Rattle.tag_arena.proofs.Granting.{units_are, chosen_by, never_both, as_it_was, undone, stands, memory_refused, memory_not_fit, carve_is, carves, carve_sound, carve_absent, carve_gains, carve_covers, found_held, found_some, found_grid}
+use Rattle.tag_arena.proofs.arenas.Arena.xalloc.Goals as goal
+
+pub chosen-requires-clause-below : goal.chosen-requires-clause-below
+chosen-requires-clause-below g c = subst (λ (xs : List Holding). All (λ r. IsRange r.range) xs) (sym c.deref.ensures.value) (free_ranges _ c.self.invariant.0)
+
+pub returns-in_err-reserve-clause-no_fit : goal.returns-in_err-reserve-clause-no_fit
+returns-in_err-reserve-clause-no_fit g c =
+    let a : ArenaState = record { id = c.self.inside.id; quantum = c.self.inside.quantum; policy = c.self.inside.policy; owned = c.self.inside.owned.items; imported = c.self.inside.imported.items; free = c.self.inside.free.items; allocated = c.self.inside.tags; rover = c.self.inside.rover } in
+    let chosen : IsChosen c.args.self.now c.args.request.now (Some c.in-Some.found.base) = chosen_by a _ _ _ _ c.deref.ensures.value c.self.view_is c.in-Some.ensures.choice in
+    (λ e. absurd (memory_not_fit c.from_residual.result c.from_residual.ensures.1 e), λ none. absurd (never_both c.args.self.now c.args.request.now c.in-Some.found.base none.1 chosen))
+
+pub returns-in_err-reserve-clause-refused : goal.returns-in_err-reserve-clause-refused
+returns-in_err-reserve-clause-refused g c =
+    let a : ArenaState = record { id = c.self.inside.id; quantum = c.self.inside.quantum; policy = c.self.inside.policy; owned = c.self.inside.owned.items; imported = c.self.inside.imported.items; free = c.self.inside.free.items; allocated = c.self.inside.tags; rover = c.self.inside.rover } in
+    let chosen : IsChosen c.args.self.now c.args.request.now (Some c.in-Some.found.base) = chosen_by a _ _ _ _ c.deref.ensures.value c.self.view_is c.in-Some.ensures.choice in
+    let good : IsGood c.self.inside.quantum c.args.request.now = c.is_good.ensures.0 c.if-not-is_good.false in
+    let good_now : IsGood c.args.self.now.quantum c.args.request.now = subst (λ (s : ArenaState). IsGood s.quantum c.args.request.now) c.self.view_is good in
+    memory_refused c.from_residual.result (RefusesCarve c.args.self.now c.args.request.now) c.from_residual.ensures.1 (good_now, (c.in-Some.found.base, chosen))
+
+pub returns-in_err-insert-clause-no_fit : goal.returns-in_err-insert-clause-no_fit
+returns-in_err-insert-clause-no_fit g c =
+    let a : ArenaState = record { id = c.self.inside.id; quantum = c.self.inside.quantum; policy = c.self.inside.policy; owned = c.self.inside.owned.items; imported = c.self.inside.imported.items; free = c.self.inside.free.items; allocated = c.self.inside.tags; rover = c.self.inside.rover } in
+    let chosen : IsChosen c.args.self.now c.args.request.now (Some c.in-Some.found.base) = chosen_by a _ _ _ _ c.deref.ensures.value c.self.view_is c.in-Some.ensures.choice in
+    (λ e. absurd (memory_not_fit c.from_residual-in_err-insert.result c.from_residual-in_err-insert.ensures.1 e), λ none. absurd (never_both c.args.self.now c.args.request.now c.in-Some.found.base none.1 chosen))
+
+pub returns-in_err-insert-clause-refused : goal.returns-in_err-insert-clause-refused
+returns-in_err-insert-clause-refused g c =
+    let a : ArenaState = record { id = c.self.inside.id; quantum = c.self.inside.quantum; policy = c.self.inside.policy; owned = c.self.inside.owned.items; imported = c.self.inside.imported.items; free = c.self.inside.free.items; allocated = c.self.inside.tags; rover = c.self.inside.rover } in
+    let chosen : IsChosen c.args.self.now c.args.request.now (Some c.in-Some.found.base) = chosen_by a _ _ _ _ c.deref.ensures.value c.self.view_is c.in-Some.ensures.choice in
+    let good : IsGood c.self.inside.quantum c.args.request.now = c.is_good.ensures.0 c.if-not-is_good.false in
+    let good_now : IsGood c.args.self.now.quantum c.args.request.now = subst (λ (s : ArenaState). IsGood s.quantum c.args.request.now) c.self.view_is good in
+    memory_refused c.from_residual-in_err-insert.result (RefusesCarve c.args.self.now c.args.request.now) c.from_residual-in_err-insert.ensures.1 (good_now, (c.in-Some.found.base, chosen))
+
+pub insert-requires-clause-absent : goal.insert-requires-clause-absent
+insert-requires-clause-absent g c =
+    let a : ArenaState = record { id = c.self.inside.id; quantum = c.self.inside.quantum; policy = c.self.inside.policy; owned = c.self.inside.owned.items; imported = c.self.inside.imported.items; free = c.self.inside.free.items; allocated = c.self.inside.tags; rover = c.self.inside.rover } in
+    let good : IsGood c.self.inside.quantum c.args.request.now = c.is_good.ensures.0 c.if-not-is_good.false in
+    let f : Found = c.in-Some.found in
+    let n : ℕ = c.unwrap-len.result in
+    let n_is = units_are c.units.result _ _ n c.units.ensures c.unwrap-len.ensures in
+    let placed : IsPlaced c.self.inside.quantum c.args.request.now c.self.inside.free.items f = subst (λ (xs : List Holding). IsPlaced c.self.inside.quantum c.args.request.now xs f) c.deref.ensures.value c.in-Some.ensures.placed in
+    let held = found_held a c.self.invariant.0 c.args.request.now good f placed n n_is in
+    let some = found_some a c.self.invariant.0 c.args.request.now good f placed n n_is in
+    let grid = found_grid a c.self.invariant.0 c.args.request.now good f placed n n_is in
+    let piece_is : c.new-piece.result ≡ part f.range f.base n = rw (c.new-piece.ensures, c.root.ensures, c.piece_of.ensures) refl in
+    let absent = carve_absent a c.self.invariant.0 f.at f.range (part f.range f.base n) placed.0 placed.1 held some grid in
+    rw piece_is absent
+
+pub remove-requires : goal.remove-requires
+remove-requires g c = stands _ _ _ _ c.in_ok-insert.ensures.ok
+
+pub invariant_of-self-in_default-carve : goal.invariant_of-self-in_default-carve
+invariant_of-self-in_default-carve g c =
+    let a : ArenaState = record { id = c.self.inside.id; quantum = c.self.inside.quantum; policy = c.self.inside.policy; owned = c.self.inside.owned.items; imported = c.self.inside.imported.items; free = c.self.inside.free.items; allocated = c.self.inside.tags; rover = c.self.inside.rover } in
+    let good : IsGood c.self.inside.quantum c.args.request.now = c.is_good.ensures.0 c.if-not-is_good.false in
+    let f : Found = c.in-Some.found in
+    let n : ℕ = c.unwrap-len.result in
+    let n_is = units_are c.units.result _ _ n c.units.ensures c.unwrap-len.ensures in
+    let placed : IsPlaced c.self.inside.quantum c.args.request.now c.self.inside.free.items f = subst (λ (xs : List Holding). IsPlaced c.self.inside.quantum c.args.request.now xs f) c.deref.ensures.value c.in-Some.ensures.placed in
+    let held = found_held a c.self.invariant.0 c.args.request.now good f placed n n_is in
+    let some = found_some a c.self.invariant.0 c.args.request.now good f placed n n_is in
+    let grid = found_grid a c.self.invariant.0 c.args.request.now good f placed n n_is in
+    let piece_is : c.new-piece.result ≡ part f.range f.base n = rw (c.new-piece.ensures, c.root.ensures, c.piece_of.ensures) refl in
+    let absent = carve_absent a c.self.invariant.0 f.at f.range (part f.range f.base n) placed.0 placed.1 held some grid in
+    let absent_here : finmap.get c.self.inside.tags c.new-piece.result.range.base ≡ None = rw piece_is absent in
+    let tags = undone c.self.inside.tags c.insert.new.self c.remove.new.self c.new-piece.result.range.base c.new-piece.result absent_here c.in_ok-insert.ensures.ok c.remove.ensures in
+    let free : c.carve.new.free.items ≡ c.self.inside.free.items = c.in_default-carve.ensures.err ∙ c.in_ok-reserve.ensures.items in
+    let len = ap finmap.len tags in (
+      subst IsSound (sym (as_it_was a _ _ free tags)) c.self.invariant.0,
+      omega (arith, len, c.carve.ensures.len, c.carve.ensures.capacity, c.in_ok-reserve.ensures.ok, c.in-Some-checked_add.ensures, c.len.ensures),
+    )
+
+pub returns-in_default-carve-clause-no_fit : goal.returns-in_default-carve-clause-no_fit
+returns-in_default-carve-clause-no_fit g c =
+    let a : ArenaState = record { id = c.self.inside.id; quantum = c.self.inside.quantum; policy = c.self.inside.policy; owned = c.self.inside.owned.items; imported = c.self.inside.imported.items; free = c.self.inside.free.items; allocated = c.self.inside.tags; rover = c.self.inside.rover } in
+    let chosen : IsChosen c.args.self.now c.args.request.now (Some c.in-Some.found.base) = chosen_by a _ _ _ _ c.deref.ensures.value c.self.view_is c.in-Some.ensures.choice in
+    (λ e. absurd cc, λ none. absurd (never_both c.args.self.now c.args.request.now c.in-Some.found.base none.1 chosen))
+
+pub returns-in_default-carve-clause-refused : goal.returns-in_default-carve-clause-refused
+returns-in_default-carve-clause-refused g c =
+    let a : ArenaState = record { id = c.self.inside.id; quantum = c.self.inside.quantum; policy = c.self.inside.policy; owned = c.self.inside.owned.items; imported = c.self.inside.imported.items; free = c.self.inside.free.items; allocated = c.self.inside.tags; rover = c.self.inside.rover } in
+    let chosen : IsChosen c.args.self.now c.args.request.now (Some c.in-Some.found.base) = chosen_by a _ _ _ _ c.deref.ensures.value c.self.view_is c.in-Some.ensures.choice in
+    let good : IsGood c.self.inside.quantum c.args.request.now = c.is_good.ensures.0 c.if-not-is_good.false in
+    let good_now : IsGood c.args.self.now.quantum c.args.request.now = subst (λ (s : ArenaState). IsGood s.quantum c.args.request.now) c.self.view_is good in
+    (good_now, (c.in-Some.found.base, chosen))
+
+pub returns-in_default-carve-clause-err : goal.returns-in_default-carve-clause-err
+returns-in_default-carve-clause-err g c =
+    let a : ArenaState = record { id = c.self.inside.id; quantum = c.self.inside.quantum; policy = c.self.inside.policy; owned = c.self.inside.owned.items; imported = c.self.inside.imported.items; free = c.self.inside.free.items; allocated = c.self.inside.tags; rover = c.self.inside.rover } in
+    let good : IsGood c.self.inside.quantum c.args.request.now = c.is_good.ensures.0 c.if-not-is_good.false in
+    let f : Found = c.in-Some.found in
+    let n : ℕ = c.unwrap-len.result in
+    let n_is = units_are c.units.result _ _ n c.units.ensures c.unwrap-len.ensures in
+    let placed : IsPlaced c.self.inside.quantum c.args.request.now c.self.inside.free.items f = subst (λ (xs : List Holding). IsPlaced c.self.inside.quantum c.args.request.now xs f) c.deref.ensures.value c.in-Some.ensures.placed in
+    let held = found_held a c.self.invariant.0 c.args.request.now good f placed n n_is in
+    let some = found_some a c.self.invariant.0 c.args.request.now good f placed n n_is in
+    let grid = found_grid a c.self.invariant.0 c.args.request.now good f placed n n_is in
+    let piece_is : c.new-piece.result ≡ part f.range f.base n = rw (c.new-piece.ensures, c.root.ensures, c.piece_of.ensures) refl in
+    let absent = carve_absent a c.self.invariant.0 f.at f.range (part f.range f.base n) placed.0 placed.1 held some grid in
+    let absent_here : finmap.get c.self.inside.tags c.new-piece.result.range.base ≡ None = rw piece_is absent in
+    let tags = undone c.self.inside.tags c.insert.new.self c.remove.new.self c.new-piece.result.range.base c.new-piece.result absent_here c.in_ok-insert.ensures.ok c.remove.ensures in
+    let free : c.carve.new.free.items ≡ c.self.inside.free.items = c.in_default-carve.ensures.err ∙ c.in_ok-reserve.ensures.items in
+    as_it_was a _ _ free tags ∙ c.self.view_is
+
+pub invariant_of-self-2 : goal.invariant_of-self-2
+invariant_of-self-2 g c =
+    let a : ArenaState = record { id = c.self.inside.id; quantum = c.self.inside.quantum; policy = c.self.inside.policy; owned = c.self.inside.owned.items; imported = c.self.inside.imported.items; free = c.self.inside.free.items; allocated = c.self.inside.tags; rover = c.self.inside.rover } in
+    let good : IsGood c.self.inside.quantum c.args.request.now = c.is_good.ensures.0 c.if-not-is_good.false in
+    let f : Found = c.in-Some.found in
+    let n : ℕ = c.unwrap-len.result in
+    let n_is = units_are c.units.result _ _ n c.units.ensures c.unwrap-len.ensures in
+    let placed : IsPlaced c.self.inside.quantum c.args.request.now c.self.inside.free.items f = subst (λ (xs : List Holding). IsPlaced c.self.inside.quantum c.args.request.now xs f) c.deref.ensures.value c.in-Some.ensures.placed in
+    let held = found_held a c.self.invariant.0 c.args.request.now good f placed n n_is in
+    let some = found_some a c.self.invariant.0 c.args.request.now good f placed n n_is in
+    let grid = found_grid a c.self.invariant.0 c.args.request.now good f placed n n_is in
+    let piece_is : c.new-piece.result ≡ part f.range f.base n = rw (c.new-piece.ensures, c.root.ensures, c.piece_of.ensures) refl in
+    let absent = carve_absent a c.self.invariant.0 f.at f.range (part f.range f.base n) placed.0 placed.1 held some grid in
+    let deed_is : c.in-Ok.deed ≡ part f.range f.base n = c.in-Ok.ensures.piece in
+    let free : c.carve.new.free.items ≡ remove c.self.inside.free.items f.at ++ rests f.range (part f.range f.base n) = rw deed_is at (c.in-Ok.ensures.items ∙ ap (λ (xs : List Holding). remove xs f.at ++ rests f.range c.in-Ok.deed) c.in_ok-reserve.ensures.items) in
+    let tags : c.insert.new.self ≡ finmap.insert c.self.inside.tags f.base (part f.range f.base n) = c.in_ok-insert.ensures.ok ∙ ap (λ (h : Holding). finmap.insert c.self.inside.tags h.range.base h) piece_is in
+    let after = carve_is a c.self.invariant.0 f.at f.range (part f.range f.base n) placed.0 placed.1 held some grid _ _ free tags in
+    let len = ap finmap.len tags ∙ len_more c.self.inside.tags f.base (part f.range f.base n) absent in (
+      carve_sound a c.self.invariant.0 f.at f.range (part f.range f.base n) placed.0 placed.1 held some grid _ after,
+      omega (arith, len, c.carve.ensures.len, c.carve.ensures.capacity, c.in_ok-reserve.ensures.ok, c.in-Some-checked_add.ensures, c.len.ensures),
+    )
+
+pub returns-clause-no_fit : goal.returns-clause-no_fit
+returns-clause-no_fit g c =
+    let a : ArenaState = record { id = c.self.inside.id; quantum = c.self.inside.quantum; policy = c.self.inside.policy; owned = c.self.inside.owned.items; imported = c.self.inside.imported.items; free = c.self.inside.free.items; allocated = c.self.inside.tags; rover = c.self.inside.rover } in
+    let chosen : IsChosen c.args.self.now c.args.request.now (Some c.in-Some.found.base) = chosen_by a _ _ _ _ c.deref.ensures.value c.self.view_is c.in-Some.ensures.choice in
+    (λ e. absurd cc, λ none. absurd (never_both c.args.self.now c.args.request.now c.in-Some.found.base none.1 chosen))
+
+pub returns-clause-carved : goal.returns-clause-carved
+returns-clause-carved g c =
+    let a : ArenaState = record { id = c.self.inside.id; quantum = c.self.inside.quantum; policy = c.self.inside.policy; owned = c.self.inside.owned.items; imported = c.self.inside.imported.items; free = c.self.inside.free.items; allocated = c.self.inside.tags; rover = c.self.inside.rover } in
+    let good : IsGood c.self.inside.quantum c.args.request.now = c.is_good.ensures.0 c.if-not-is_good.false in
+    let f : Found = c.in-Some.found in
+    let n : ℕ = c.unwrap-len.result in
+    let n_is = units_are c.units.result _ _ n c.units.ensures c.unwrap-len.ensures in
+    let placed : IsPlaced c.self.inside.quantum c.args.request.now c.self.inside.free.items f = subst (λ (xs : List Holding). IsPlaced c.self.inside.quantum c.args.request.now xs f) c.deref.ensures.value c.in-Some.ensures.placed in
+    let held = found_held a c.self.invariant.0 c.args.request.now good f placed n n_is in
+    let some = found_some a c.self.invariant.0 c.args.request.now good f placed n n_is in
+    let grid = found_grid a c.self.invariant.0 c.args.request.now good f placed n n_is in
+    let piece_is : c.new-piece.result ≡ part f.range f.base n = rw (c.new-piece.ensures, c.root.ensures, c.piece_of.ensures) refl in
+    let absent = carve_absent a c.self.invariant.0 f.at f.range (part f.range f.base n) placed.0 placed.1 held some grid in
+    let deed_is : c.in-Ok.deed ≡ part f.range f.base n = c.in-Ok.ensures.piece in
+    let free : c.carve.new.free.items ≡ remove c.self.inside.free.items f.at ++ rests f.range (part f.range f.base n) = rw deed_is at (c.in-Ok.ensures.items ∙ ap (λ (xs : List Holding). remove xs f.at ++ rests f.range c.in-Ok.deed) c.in_ok-reserve.ensures.items) in
+    let tags : c.insert.new.self ≡ finmap.insert c.self.inside.tags f.base (part f.range f.base n) = c.in_ok-insert.ensures.ok ∙ ap (λ (h : Holding). finmap.insert c.self.inside.tags h.range.base h) piece_is in
+    let after = carve_is a c.self.invariant.0 f.at f.range (part f.range f.base n) placed.0 placed.1 held some grid _ _ free tags in
+    let segment : c.new.result.holding ≡ part f.range f.base n = ap (λ (t : Tag). t.holding) c.new.ensures ∙ c.into_deed.ensures ∙ deed_is in
+    rw segment (rw c.self.view_is at (carves a c.self.invariant.0 f.at f.range (part f.range f.base n) placed.0 placed.1 held some grid _ after))
+
+pub returns-clause-gains : goal.returns-clause-gains
+returns-clause-gains g c =
+    let a : ArenaState = record { id = c.self.inside.id; quantum = c.self.inside.quantum; policy = c.self.inside.policy; owned = c.self.inside.owned.items; imported = c.self.inside.imported.items; free = c.self.inside.free.items; allocated = c.self.inside.tags; rover = c.self.inside.rover } in
+    let good : IsGood c.self.inside.quantum c.args.request.now = c.is_good.ensures.0 c.if-not-is_good.false in
+    let f : Found = c.in-Some.found in
+    let n : ℕ = c.unwrap-len.result in
+    let n_is = units_are c.units.result _ _ n c.units.ensures c.unwrap-len.ensures in
+    let placed : IsPlaced c.self.inside.quantum c.args.request.now c.self.inside.free.items f = subst (λ (xs : List Holding). IsPlaced c.self.inside.quantum c.args.request.now xs f) c.deref.ensures.value c.in-Some.ensures.placed in
+    let held = found_held a c.self.invariant.0 c.args.request.now good f placed n n_is in
+    let some = found_some a c.self.invariant.0 c.args.request.now good f placed n n_is in
+    let grid = found_grid a c.self.invariant.0 c.args.request.now good f placed n n_is in
+    let piece_is : c.new-piece.result ≡ part f.range f.base n = rw (c.new-piece.ensures, c.root.ensures, c.piece_of.ensures) refl in
+    let absent = carve_absent a c.self.invariant.0 f.at f.range (part f.range f.base n) placed.0 placed.1 held some grid in
+    let deed_is : c.in-Ok.deed ≡ part f.range f.base n = c.in-Ok.ensures.piece in
+    let free : c.carve.new.free.items ≡ remove c.self.inside.free.items f.at ++ rests f.range (part f.range f.base n) = rw deed_is at (c.in-Ok.ensures.items ∙ ap (λ (xs : List Holding). remove xs f.at ++ rests f.range c.in-Ok.deed) c.in_ok-reserve.ensures.items) in
+    let tags : c.insert.new.self ≡ finmap.insert c.self.inside.tags f.base (part f.range f.base n) = c.in_ok-insert.ensures.ok ∙ ap (λ (h : Holding). finmap.insert c.self.inside.tags h.range.base h) piece_is in
+    let after = carve_is a c.self.invariant.0 f.at f.range (part f.range f.base n) placed.0 placed.1 held some grid _ _ free tags in
+    let segment : c.new.result.holding ≡ part f.range f.base n = ap (λ (t : Tag). t.holding) c.new.ensures ∙ c.into_deed.ensures ∙ deed_is in
+    rw segment (subst (λ (s : ArenaState). Gains (ranges_of s.allocated) (ranges_of c.insert.new.self) (part f.range f.base n)) c.self.view_is (carve_gains a c.self.invariant.0 f.at f.range (part f.range f.base n) placed.0 placed.1 held some grid _ after))
+
+pub returns-clause-covering : goal.returns-clause-covering
+returns-clause-covering g c =
+    let a : ArenaState = record { id = c.self.inside.id; quantum = c.self.inside.quantum; policy = c.self.inside.policy; owned = c.self.inside.owned.items; imported = c.self.inside.imported.items; free = c.self.inside.free.items; allocated = c.self.inside.tags; rover = c.self.inside.rover } in
+    let good : IsGood c.self.inside.quantum c.args.request.now = c.is_good.ensures.0 c.if-not-is_good.false in
+    let f : Found = c.in-Some.found in
+    let n : ℕ = c.unwrap-len.result in
+    let n_is = units_are c.units.result _ _ n c.units.ensures c.unwrap-len.ensures in
+    let placed : IsPlaced c.self.inside.quantum c.args.request.now c.self.inside.free.items f = subst (λ (xs : List Holding). IsPlaced c.self.inside.quantum c.args.request.now xs f) c.deref.ensures.value c.in-Some.ensures.placed in
+    let held = found_held a c.self.invariant.0 c.args.request.now good f placed n n_is in
+    let some = found_some a c.self.invariant.0 c.args.request.now good f placed n n_is in
+    let grid = found_grid a c.self.invariant.0 c.args.request.now good f placed n n_is in
+    let piece_is : c.new-piece.result ≡ part f.range f.base n = rw (c.new-piece.ensures, c.root.ensures, c.piece_of.ensures) refl in
+    let absent = carve_absent a c.self.invariant.0 f.at f.range (part f.range f.base n) placed.0 placed.1 held some grid in
+    let deed_is : c.in-Ok.deed ≡ part f.range f.base n = c.in-Ok.ensures.piece in
+    let free : c.carve.new.free.items ≡ remove c.self.inside.free.items f.at ++ rests f.range (part f.range f.base n) = rw deed_is at (c.in-Ok.ensures.items ∙ ap (λ (xs : List Holding). remove xs f.at ++ rests f.range c.in-Ok.deed) c.in_ok-reserve.ensures.items) in
+    let tags : c.insert.new.self ≡ finmap.insert c.self.inside.tags f.base (part f.range f.base n) = c.in_ok-insert.ensures.ok ∙ ap (λ (h : Holding). finmap.insert c.self.inside.tags h.range.base h) piece_is in
+    let after = carve_is a c.self.invariant.0 f.at f.range (part f.range f.base n) placed.0 placed.1 held some grid _ _ free tags in
+    let segment : c.new.result.holding ≡ part f.range f.base n = ap (λ (t : Tag). t.holding) c.new.ensures ∙ c.into_deed.ensures ∙ deed_is in
+    rw segment (subst (λ (s : ArenaState). (u : ℕ) → covering_held u s.free ≡ covering_held u c.carve.new.free.items + covers u (part f.range f.base n).range) c.self.view_is (carve_covers a c.self.invariant.0 f.at f.range (part f.range f.base n) placed.0 placed.1 held some grid _ after))

@@ -1,0 +1,26 @@
+//! One arena: ranges of whole numbers, carved by a policy and freed again. `Arena` is where to begin;
+//! `specs/ArenaState.antt` says what its contracts see, and `specs/Calls.antt` what each call does.
+//!
+//! Its rules are those of "Magazines and Vmem" (2001), where no other source is named.
+#![tactic(auto)]
+
+mod arenas;
+mod choices;
+mod cuts;
+mod faults;
+mod instants;
+mod laws;
+mod merges;
+mod places;
+mod policies;
+mod spans;
+mod stretches;
+mod tags;
+#[cfg(test)]
+mod tests;
+mod wholes;
+
+pub use arenas::{Arena, ArenaReport};
+pub use faults::ArenaFault;
+pub use laws::{best_is_one, instant_is_one, next_is_one};
+pub use policies::Policy;

@@ -1,0 +1,64 @@
+//! Owned spans that are wholly free.
+ghost use Rattle.std.specs.Prelude.{◌≡◌, ◌+◌, ◌<◌, Contains, HoldsAt, MatchOption, length};
+ghost use Rattle.tag_arena.specs.Found.{LowestSoFar};
+
+use crate::stretches::{Stretch, stretch_at};
+use deed_core::{Deed, Stored};
+
+/// An owned span that is a free range, and where it stands in both lists.
+#[derive(Clone, Copy)]
+pub struct Whole {
+    pub at: usize,
+    pub free_at: usize,
+    pub span: Stretch,
+}
+
+/// Where the free range with this root and range stands.
+fn place_of<D: Deed>(free: &[Stored<D>], range: Stretch) -> Option<usize>
+    ensures { MatchOption result (¬ Contains free.now range)
+        (λ at. (at < length free.now) × HoldsAt (λ r. r ≡ range) free.now at) }
+{
+    for at in 0..free.len() {
+        if stretch_at(free, at) == range {
+            return Some(at);
+        }
+    }
+    None
+}
+
+/// The lower of one span more than `lowest` is the lowest of.
+fn lower<D: Deed>(
+    owned: &[Stretch],
+    free: &[Stored<D>],
+    at: usize,
+    lowest: Option<Whole>,
+) -> Option<Whole>
+    requires at { at < length owned.now }
+    requires lowest { LowestSoFar owned.now free.now at lowest }
+    ensures { LowestSoFar owned.now free.now (at + 1) result }
+{
+    let span = owned[at];
+    let Some(free_at) = place_of(free, span) else {
+        return lowest;
+    };
+    let found = Whole { at, free_at, span };
+    let Some(other) = lowest else {
+        return Some(found);
+    };
+    if other.span.base() <= span.base() {
+        Some(other)
+    } else {
+        Some(found)
+    }
+}
+
+/// The lowest owned span that is a free range.
+pub fn lowest_whole<D: Deed>(owned: &[Stretch], free: &[Stored<D>]) -> Option<Whole>
+    ensures { LowestSoFar owned.now free.now (length owned.now) result }
+{
+    let mut lowest = None;
+    for at in 0..owned.len() {
+        lowest = lower(owned, free, at, lowest);
+    }
+    lowest
+}
