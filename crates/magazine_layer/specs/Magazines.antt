@@ -67,11 +67,3 @@ pushed x c = loaded_with x (to_give c)
 -- all rounds in a loaded magazine of another size, previous's below loaded's
 abbrev pub changed : ℕ → CacheState → CacheState
 changed m c = record { size = m; loaded = cache_rounds c; previous = [] }
-
--- the units that a round covers
-abbrev pub units_in : Tag → ℕ
-units_in t = t.holding.range.len
-
--- those of all rounds of a list
-abbrev pub units_of : List Tag → ℕ
-units_of rounds = sum_by units_in rounds

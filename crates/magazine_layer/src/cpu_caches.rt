@@ -1,7 +1,8 @@
 //! The two magazines of a CPU.
 ghost use Rattle.std.specs.Prelude.{◌≡◌, ◌+◌, ◌<◌, ◌≤◌, ◌↔◌, ◌⊎◌, [], ◌∷◌, ◌++◌, length, IsTrue, IsSome, IfSome, IfNone, IsOk, IfOk, IfErr, OnOk, OnErr};
+ghost use Rattle.deed_core.specs.Covering.{units_tagged};
 ghost use Rattle.deed_core.specs.Weights.{WeighSame, Gains, Loses};
-ghost use Rattle.magazine_layer.specs.Magazines.{IsSize, IsShaped, CacheState, MagazineState, CanTake, CanGive, Pops, pushed, cache_rounds, changed, units_of};
+ghost use Rattle.magazine_layer.specs.Magazines.{IsSize, IsShaped, CacheState, MagazineState, CanTake, CanGive, Pops, pushed, cache_rounds, changed};
 
 use crate::magazines::Magazine;
 use deed_core::{Deed, Segment};
@@ -70,7 +71,7 @@ impl<D: Deed> CpuCache<D> {
 
     /// The units that its rounds cover.
     pub fn units(&self) -> u128
-        ensures { result ≡ units_of (cache_rounds self.now) }
+        ensures { result ≡ units_tagged (cache_rounds self.now) }
     {
         self.previous.units() + self.loaded.units()
     }

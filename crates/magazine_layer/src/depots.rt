@@ -1,8 +1,9 @@
 //! Depots: what the CPUs share of a quantum cache's magazines.
 ghost use Rattle.std.specs.Prelude.{◌≡◌, ◌≢◌, ◌+◌, ◌-◌, ◌^◌, ◌<◌, ◌≤◌, ◌↔◌, ◌⊎◌, ◌++◌, [], ◌∷◌, length, min, IsOk, IsNone, IsSome, IfSome, IfNone, IfOk, IfErr, IsErrAnd, OnOk, OnErr, IsTrue, Ok, Err};
 ghost use Rattle.std.specs.Bool.{OnTrue, OnFalse};
+ghost use Rattle.deed_core.specs.Covering.{units_tagged};
 ghost use Rattle.deed_core.specs.Weights.{WeighSame, Loses};
-ghost use Rattle.magazine_layer.specs.Magazines.{IsSize, IsShaped, units_of};
+ghost use Rattle.magazine_layer.specs.Magazines.{IsSize, IsShaped};
 ghost use Rattle.magazine_layer.specs.Depots.{DepotState, SwapsForFull, SwapsForEmpty, PutsFull, CanReap, Begins, Reaps, IsStocked, new_depot, ticked, resized, trimmed, depot_rounds, both_rounds};
 ghost use Rattle.magazine_layer.specs.declared.faults.FullFault.TheVariants.{NoneFull};
 ghost use Rattle.magazine_layer.specs.declared.faults.EmptyFault.TheVariants.{NoneEmpty};
@@ -87,7 +88,7 @@ impl<D: Deed> Depot<D> {
 
     /// The units that its rounds cover, or 2^128 - 1 where they are more.
     pub fn units(&self) -> u128
-        ensures { result ≡ min (units_of (depot_rounds self.now)) (2 ^ 128 - 1) }
+        ensures { result ≡ min (units_tagged (depot_rounds self.now)) (2 ^ 128 - 1) }
     {
         units_of_all(&self.old_full)
             .saturating_add(units_of_all(&self.full))

@@ -1,6 +1,6 @@
 //! Full magazines.
 ghost use Rattle.std.specs.Prelude.{◌≡◌, ◌-◌, ◌^◌, length, min};
-ghost use Rattle.magazine_layer.specs.Magazines.{units_of};
+ghost use Rattle.deed_core.specs.Covering.{units_tagged};
 ghost use Rattle.magazine_layer.specs.Depots.{all_rounds};
 
 use crate::magazines::Magazine;
@@ -40,7 +40,7 @@ impl<D: Deed> FullMagazine<D> {
 
     // The units that its rounds cover.
     fn units(&self) -> u128
-        ensures { result ≡ units_of self.now }
+        ensures { result ≡ units_tagged self.now }
     {
         self.magazine.units()
     }
@@ -48,7 +48,7 @@ impl<D: Deed> FullMagazine<D> {
 
 // The units of some full magazines, or the greatest number where they are more.
 pub(crate) fn units_of_all<D: Deed>(magazines: &[FullMagazine<D>]) -> u128
-    ensures { result ≡ min (units_of (all_rounds magazines.now)) (2 ^ 128 - 1) }
+    ensures { result ≡ min (units_tagged (all_rounds magazines.now)) (2 ^ 128 - 1) }
 {
     let mut total: u128 = 0;
     for magazine in magazines {

@@ -1,7 +1,8 @@
 //! Magazines: stacks of segments.
 ghost use Rattle.std.specs.Prelude.{◌≡◌, ◌+◌, ◌<◌, ◌≤◌, ◌^◌, ◌↔◌, [], ◌∷◌, ◌++◌, length, IsTrue, IfSome, IfNone, IfOk, IfErr, IsOk, IsNone};
+ghost use Rattle.deed_core.specs.Covering.{units_tagged};
 ghost use Rattle.deed_core.specs.Weights.{Loses};
-ghost use Rattle.magazine_layer.specs.Magazines.{IsSize, IsMagazine, MagazineState, units_of};
+ghost use Rattle.magazine_layer.specs.Magazines.{IsSize, IsMagazine, MagazineState};
 
 use deed_core::{Deed, Segment};
 use std::alloc::{AllocError, Global};
@@ -59,7 +60,7 @@ impl<D: Deed> Magazine<D> {
 
     /// The units that its rounds cover.
     pub fn units(&self) -> u128
-        ensures value { result ≡ units_of self.now.rounds }
+        ensures value { result ≡ units_tagged self.now.rounds }
         ensures bound { result < 2 ^ 126 }
     {
         units_of_rounds(&self.rounds)
@@ -121,7 +122,7 @@ impl<D: Deed> Magazine<D> {
 
 // The units of some rounds.
 pub(crate) fn units_of_rounds<D: Deed>(rounds: &[Segment<D>]) -> u128
-    ensures value { result ≡ units_of rounds.now }
+    ensures value { result ≡ units_tagged rounds.now }
     ensures bound { result < 2 ^ 126 }
 {
     let _count = rounds.len();

@@ -6,9 +6,9 @@ use Rattle.std.proofs.lemmas.List.Sums.{sum_by-cons}
 use Rattle.std.proofs.lemmas.List.Elements.{All-nil, All-cons, All-head, All-tail, All-contains}
 use Rattle.deed_core.specs.Extent.{Extent}
 use Rattle.deed_core.specs.Holding.{Holding}
-use Rattle.deed_core.specs.Covering.{covers, covers_held, covering_held}
+use Rattle.deed_core.specs.Covering.{covers, covers_held, covering_held, units_held}
 use Rattle.deed_core.proofs.Units.{covers_is, covers_cut}
-use Rattle.slab_layer.specs.Slab.{items_where, units, IsLowestIdle}
+use Rattle.slab_layer.specs.Slab.{items_where, IsLowestIdle}
 
 -- what a value counts, if it is there
 abbrev pub counted : Bool → ℕ → ℕ
@@ -54,11 +54,11 @@ times_if true n = omega arith
 times_if false n = omega arith
 
 -- chunks of one length
-pub units-items_where : (n : ℕ) (test : Bool → Bool) (f : ℕ → Holding) (i : ℕ) (xs : List Bool) → ((k : ℕ) → (f k).range.len ≡ n) → units (items_where test f i xs) ≡ count_by test xs * n
+pub units-items_where : (n : ℕ) (test : Bool → Bool) (f : ℕ → Holding) (i : ℕ) (xs : List Bool) → ((k : ℕ) → (f k).range.len ≡ n) → units_held (items_where test f i xs) ≡ count_by test xs * n
 units-items_where n test f i [] long = omega arith
 units-items_where n test f i (x ∷ xs) long =
     let rest = units-items_where n test f (i + 1) xs long in
-    let head : units (items_where test f i (x ∷ xs)) ≡ counted (test x) (f i).range.len + units (items_where test f (i + 1) xs) = sum_by-items_where-cons (λ h. h.range.len) test f i x xs in
+    let head : units_held (items_where test f i (x ∷ xs)) ≡ counted (test x) (f i).range.len + units_held (items_where test f (i + 1) xs) = sum_by-items_where-cons (λ h. h.range.len) test f i x xs in
     let count : count_by test (x ∷ xs) ≡ cond (test x) 1 0 + count_by test xs = sum_by-cons (λ b. cond (test b) 1 0) x xs in
     let here : counted (test x) (f i).range.len ≡ cond (test x) 1 0 * n = ap (counted (test x)) (long i) ∙ times_if (test x) n in
     let parts : (cond (test x) 1 0 + count_by test xs) * n ≡ cond (test x) 1 0 * n + count_by test xs * n = omega arith in

@@ -7,9 +7,9 @@ use Rattle.std.proofs.lemmas.List.Sums.{sum_by-cons}
 use Rattle.std.proofs.lemmas.List.Elements.{All-cons, All-head, All-tail, All-weaker}
 use Rattle.deed_core.specs.Extent.{end_of}
 use Rattle.deed_core.specs.Holding.{Holding}
-use Rattle.deed_core.specs.Covering.{covers, covers_held, covers_tag, covering_held, covering_tags}
+use Rattle.deed_core.specs.Covering.{covers, covers_held, covers_tag, covering_held, covering_tags, units_held}
 use Rattle.deed_core.proofs.Units.{covers_is}
-use Rattle.slab_layer.specs.Slab.{SlabState, IsSlab, chunk_at, gap_of, tail_of, idle_chunks_by, chunks_out_by, deeds_in, items_where, units}
+use Rattle.slab_layer.specs.Slab.{SlabState, IsSlab, chunk_at, gap_of, tail_of, idle_chunks_by, chunks_out_by, deeds_in, items_where}
 use Rattle.slab_layer.specs.Cache.{CacheState, IsBelow, IsOfSize, IsSound, chunk_of, chunk_tag, span_tag, deeds_of, chunks_out, span_tags, idle_deeds, gaps, tails}
 use Rattle.slab_layer.proofs.PassingLemmas.{sum_by-items_where-cons}
 use Rattle.slab_layer.proofs.ListLemmas.{sum_by-flat_map, sum_by-map}
@@ -36,7 +36,7 @@ sums_of idle gap tail all (s ∷ ss) e =
     let rest = sums_of idle gap tail all ss e in
     omega (arith, here, rest, sum_by-cons idle s ss, sum_by-cons gap s ss, sum_by-cons tail s ss, sum_by-cons all s ss)
 
-pub kept_units : (c : CacheState) → units (idle_deeds c) + units (gaps c) + units (tails c) ≡ units (deeds_of c)
+pub kept_units : (c : CacheState) → units_held (idle_deeds c) + units_held (gaps c) + units_held (tails c) ≡ units_held (deeds_of c)
 kept_units c =
     let len : Holding → ℕ = λ h. h.range.len in
     let all = sums_of (λ s. sum_by len (idle_chunks_by (chunk_at s) s)) (λ s. sum_by len (option_to_list (gap_of s))) (λ s. sum_by len (option_to_list (tail_of s))) (λ s. sum_by len (deeds_in s)) c.slabs (λ s. sum_by-kept len s) in

@@ -7,9 +7,10 @@ use Rattle.std.specs.Option.{option_to_list}
 use Rattle.std.proofs.lemmas.Option.{same_Some}
 use Rattle.std.proofs.lemmas.List.Elements.{All-nil, All-cons, All-head, All-tail, All-same}
 use Rattle.std.proofs.lemmas.List.{length-set, length-replicate, map-set}
+use Rattle.deed_core.specs.Covering.{units_held}
 use Rattle.deed_core.specs.Holding.{Holding}
 use Rattle.slab_layer.specs.Parts.{piece, part, front_of, back_of, Follows, joined_parts, joined_row, IsRow}
-use Rattle.slab_layer.specs.Slab.{SlabState, chunk_at, used_units, unused_units, gap_of, tail_of, idle_chunks_by, deeds_in, units, stored_row, IsLowestIdle, IsStored, IsComplete, new_slab}
+use Rattle.slab_layer.specs.Slab.{SlabState, chunk_at, used_units, unused_units, gap_of, tail_of, idle_chunks_by, deeds_in, stored_row, IsLowestIdle, IsStored, IsComplete, new_slab}
 use Rattle.slab_layer.proofs.PartLemmas.{part_some, both_part, follows_part}
 use Rattle.slab_layer.proofs.RowLemmas.{entry, placed, get_or_from_start, stored_from_start, map-stored_row, joined_row-stored_row, row-stored_row, all_true}
 use Rattle.slab_layer.proofs.PassingLemmas.{passing_none, none_passing, units-items_where}
@@ -74,7 +75,7 @@ made_of h colour n count first last row some room gap chunks tail =
         shape = record { some = some; room = omega arith };
         gap = gap ∙ rw less refl;
         chunks = chunks ∙ ap (stored_row (placed h.root (h.range.base + colour) n) 0) (sym home);
-        tail = rw units (tail ∙ rw left refl);
+        tail = rw units_held (tail ∙ rw left refl);
       },
     )
 
@@ -178,7 +179,7 @@ is_bare s first last row held none_before none_behind out =
     rw (a, b, t) refl
 
 -- its idle units
-pub idle_units : (s : SlabState) → units (idle_chunks_by (chunk_at s) s) ≡ count_by (λ b. b) s.home * s.chunk
+pub idle_units : (s : SlabState) → units_held (idle_chunks_by (chunk_at s) s) ≡ count_by (λ b. b) s.home * s.chunk
 idle_units s = units-items_where s.chunk (λ b. b) (chunk_at s) 0 s.home (λ k. refl)
 
 pub empty_is : (s : SlabState) (first last : Option Holding) (row : List (Option Holding)) (o : Option ℕ) (r : Bool) → IsStored s first row last → is_some first ≡ false → is_some last ≡ false

@@ -49,10 +49,6 @@ chunks_out_by f s = items_where not f 0 s.home
 abbrev pub deeds_in : SlabState → List Holding
 deeds_in s = option_to_list (gap_of s) ++ (idle_chunks_by (chunk_at s) s ++ option_to_list (tail_of s))
 
--- the units of deeds
-abbrev pub units : List Holding → ℕ
-units deeds = sum_by (λ h. h.range.len) deeds
-
 -- every chunk is at home
 abbrev pub IsComplete : SlabState → Type 0
 IsComplete s = All (λ b. b ≡ true) s.home

@@ -1,9 +1,9 @@
 //! Slab caches.
 ghost use Rattle.std.specs.Prelude.{◌≡◌, ℕ, ◌+◌, ◌*◌, ◌<◌, ◌≤◌, ◌≢◌, ◌↔◌, [], length, All, Any, Contains, IsTrue, IsOk, IsErrAnd, IsNone, IfOk, IfErr, IfNone, IfSome, OnErr, OnOk, OnSome};
 ghost use Rattle.deed_core.specs.Extent.{Overlap};
-ghost use Rattle.deed_core.specs.Covering.{covering_held, covering_tags, covers_tag};
+ghost use Rattle.deed_core.specs.Covering.{covering_held, covering_tags, covers_tag, units_held};
 ghost use Rattle.deed_core.specs.Weights.{Gains, Loses, WeighSame};
-ghost use Rattle.slab_layer.specs.Slab.{SlabState, IsAllOut, IsComplete, units};
+ghost use Rattle.slab_layer.specs.Slab.{SlabState, IsAllOut, IsComplete};
 ghost use Rattle.slab_layer.specs.Cache.{IsSound, Adds, Puts, Reaps, Takes, chunk_of, next_colour as next_colour_of, idle_chunks, idle_deeds, gaps, tails, deeds_of, chunks_out, span_tags};
 
 use crate::faults::{AddFault, PutFault};
@@ -205,10 +205,10 @@ impl<D: Deed> SlabCache<D> {
 
     /// What lies in the cache, in units.
     pub fn report(&self) -> SlabReport
-        ensures idle { result.idle ≡ units (idle_deeds self.now) }
-        ensures gap { result.gap ≡ units (gaps self.now) }
-        ensures tail { result.tail ≡ units (tails self.now) }
-        ensures kept { result.idle + result.gap + result.tail ≡ units (deeds_of self.now) }
+        ensures idle { result.idle ≡ units_held (idle_deeds self.now) }
+        ensures gap { result.gap ≡ units_held (gaps self.now) }
+        ensures tail { result.tail ≡ units_held (tails self.now) }
+        ensures kept { result.idle + result.gap + result.tail ≡ units_held (deeds_of self.now) }
 
         // Each unit of a slab is in one chunk, at home or out, in the gap or in the tail.
         ensures once { (u : ℕ) → covering_tags u (span_tags self.now) ≤ 1 }

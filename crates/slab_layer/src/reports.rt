@@ -1,7 +1,8 @@
 //! What the slabs of a cache hold, together.
 ghost use Rattle.std.specs.Prelude.{◌≡◌, ◌^◌, ◌≤◌, ◌↔◌, [], All, IsTrue, sum_by};
 ghost use Rattle.std.specs.Option.{option_to_list};
-ghost use Rattle.slab_layer.specs.Slab.{chunk_at, gap_of, tail_of, idle_chunks_by, deeds_in, units};
+ghost use Rattle.deed_core.specs.Covering.{units_held};
+ghost use Rattle.slab_layer.specs.Slab.{chunk_at, gap_of, tail_of, idle_chunks_by, deeds_in};
 
 use crate::slabs::Slab;
 use deed_core::Deed;
@@ -20,9 +21,9 @@ pub struct SlabReport {
 /// The sums over the slabs.
 pub fn total<D: Deed>(slabs: &[Slab<D>]) -> SlabReport
     requires { sum_by (λ s. s.span.range.len) slabs.now ≤ 2 ^ 62 }
-    ensures idle { result.idle ≡ sum_by (λ s. units (idle_chunks_by (chunk_at s) s)) slabs.now }
-    ensures gap { result.gap ≡ sum_by (λ s. units (option_to_list (gap_of s))) slabs.now }
-    ensures tail { result.tail ≡ sum_by (λ s. units (option_to_list (tail_of s))) slabs.now }
+    ensures idle { result.idle ≡ sum_by (λ s. units_held (idle_chunks_by (chunk_at s) s)) slabs.now }
+    ensures gap { result.gap ≡ sum_by (λ s. units_held (option_to_list (gap_of s))) slabs.now }
+    ensures tail { result.tail ≡ sum_by (λ s. units_held (option_to_list (tail_of s))) slabs.now }
 {
     let mut idle = 0;
     let mut gap = 0;

@@ -1,8 +1,9 @@
 //! Slabs: spans cut into a colour gap, chunks and a tail.
 ghost use Rattle.std.specs.Prelude.{◌≡◌, ◌≢◌, ℕ, ◌+◌, ◌*◌, ◌/◌, ◌<◌, ◌≤◌, ◌↔◌, [], true, false, length, All, slice_index_or, slice_set, IsTrue, IfOk, IfErr, MatchOption};
 ghost use Rattle.std.specs.Option.{option_to_list};
+ghost use Rattle.deed_core.specs.Covering.{units_held};
 ghost use Rattle.deed_core.specs.Extent.{IsRange};
-ghost use Rattle.slab_layer.specs.Slab.{SlabState, IsComplete, IsPartial, IsLowestIdle, chunk_at, new_slab, gap_of, tail_of, idle_chunks_by, deeds_in, units};
+ghost use Rattle.slab_layer.specs.Slab.{SlabState, IsComplete, IsPartial, IsLowestIdle, chunk_at, new_slab, gap_of, tail_of, idle_chunks_by, deeds_in};
 
 use crate::parts::{cut, join};
 use crate::rows::{are_some, chop, count_some, first_some, unchop};
@@ -184,7 +185,7 @@ impl<D: Deed> Slab<D> {
 
     /// The units of the chunks at home.
     pub fn idle(&self) -> u64
-        ensures value { result ≡ units (idle_chunks_by (chunk_at self.now) self.now) }
+        ensures value { result ≡ units_held (idle_chunks_by (chunk_at self.now) self.now) }
         ensures bound { result ≤ self.now.span.range.len }
     {
         let _ = self.span.len();
@@ -193,7 +194,7 @@ impl<D: Deed> Slab<D> {
 
     /// The units before the first chunk.
     pub fn gap(&self) -> u64
-        ensures value { result ≡ units (option_to_list (gap_of self.now)) }
+        ensures value { result ≡ units_held (option_to_list (gap_of self.now)) }
         ensures bound { result ≤ self.now.span.range.len }
     {
         self.colour
@@ -201,7 +202,7 @@ impl<D: Deed> Slab<D> {
 
     /// The units behind the last chunk.
     pub fn tail(&self) -> u64
-        ensures value { result ≡ units (option_to_list (tail_of self.now)) }
+        ensures value { result ≡ units_held (option_to_list (tail_of self.now)) }
         ensures bound { result ≤ self.now.span.range.len }
     {
         match &self.tail {

@@ -7,10 +7,9 @@ use Rattle.std.proofs.lemmas.List.Sums.{sum_by-append, sum_by-cons, sum_by-remov
 use Rattle.std.specs.Option.{option_map_or}
 use Rattle.deed_core.specs.Extent.{Extent, end_of}
 use Rattle.deed_core.specs.Holding.{Holding}
-use Rattle.deed_core.specs.Covering.{covers, covers_held, covering_held}
+use Rattle.deed_core.specs.Covering.{covers, covers_held, covering_held, units_held}
 use Rattle.deed_core.proofs.Units.{covers_is, covers_cut}
 use Rattle.tag_arena.specs.Layout.{IsPartOf}
-use Rattle.tag_arena.specs.ArenaState.{units_of}
 use Rattle.tag_arena.specs.Calls.{part, between, rests}
 use Rattle.tag_arena.specs.Neighbors.{Without, TakesLeft, TakesRight}
 
@@ -144,16 +143,16 @@ bound_of : List Holding → ℕ
 bound_of [] = 0
 bound_of (x ∷ xs) = end_of x.range + bound_of xs
 
-upto-covering : (n : ℕ) (xs : List Holding) → bound_of xs ≤ n → sum_upto n (λ u. covering_held u xs) ≡ units_of xs
+upto-covering : (n : ℕ) (xs : List Holding) → bound_of xs ≤ n → sum_upto n (λ u. covering_held u xs) ≡ units_held xs
 unfolding bound_of
 upto-covering n [] le = upto-none n
 upto-covering n (x ∷ xs) le =
-    let more : sum_upto n (λ u. covering_held u xs) ≡ units_of xs = upto-covering n xs (omega arith) in
+    let more : sum_upto n (λ u. covering_held u xs) ≡ units_held xs = upto-covering n xs (omega arith) in
     let parts : sum_upto n (λ u. covering_held u (x ∷ xs)) ≡ sum_upto n (λ u. covers u x.range + covering_held u xs) = upto-same n (λ u. covering_held u (x ∷ xs)) (λ u. covers u x.range + covering_held u xs) (λ u. sum_by-cons (covers_held u) x xs) in
     omega (arith, more, parts, upto-plus n (λ u. covers u x.range) (λ u. covering_held u xs), upto-covers n x.range, sum_by-cons (λ (h : Holding). h.range.len) x xs)
 
 -- lists that together cover what another covers have as many units
-pub units_add : (free tags spans : List Holding) → ((u : ℕ) → covering_held u free + covering_held u tags ≡ covering_held u spans) → units_of free + units_of tags ≡ units_of spans
+pub units_add : (free tags spans : List Holding) → ((u : ℕ) → covering_held u free + covering_held u tags ≡ covering_held u spans) → units_held free + units_held tags ≡ units_held spans
 units_add free tags spans covers_all =
     let n : ℕ = bound_of free + (bound_of tags + bound_of spans) in
     omega (

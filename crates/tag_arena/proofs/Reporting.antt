@@ -5,13 +5,14 @@ use Rattle.deed_core.specs.Extent.{Extent, Covers, Overlap, end_of}
 use Rattle.deed_core.specs.Holding.{Holding}
 use Rattle.deed_core.specs.Tag.{Tag}
 use Rattle.tag_arena.specs.Layout.{Layout, Holds, IsPartOf, IsLongestRun, IsWhole, FreeIsLongestRuns}
-use Rattle.tag_arena.specs.ArenaState.{ArenaState, spans_of, ranges_of, units_of, IsSound, OnQuantum}
+use Rattle.tag_arena.specs.ArenaState.{ArenaState, spans_of, ranges_of, IsSound, OnQuantum}
 use Rattle.tag_arena.specs.Calls.{IsClear}
 use Rattle.tag_arena.proofs.Ranges.{Any-member, member-Any, holds_part}
 use Rattle.tag_arena.proofs.Freeing.{absorbs, longest_edged}
 use Rattle.tag_arena.proofs.Counting.{units_add}
 use Rattle.tag_arena.proofs.SpanLists.{Contains-map, All-map}
 use Rattle.std.proofs.lemmas.List.Sums.{sum_by-append}
+use Rattle.deed_core.specs.Covering.{units_held}
 
 -- the free ranges of a whole layout are the longest runs
 pub free_is_longest_runs : (a : Layout) → IsWhole a → FreeIsLongestRuns a
@@ -31,12 +32,12 @@ free_is_longest_runs a whole r = (
 )
 
 -- the sums of an arena
-pub report_adds : (a : ArenaState) → IsSound a → (o i f : ℕ) (os : List Holding) (is : List Tag) (fs : List Holding) → o ≡ units_of os → os ≡ a.owned
-    → i ≡ units_of (map (λ t. t.holding) is) → is ≡ a.imported → f ≡ units_of fs → fs ≡ a.free → f + units_of (ranges_of a.allocated) ≡ o + i
+pub report_adds : (a : ArenaState) → IsSound a → (o i f : ℕ) (os : List Holding) (is : List Tag) (fs : List Holding) → o ≡ units_held os → os ≡ a.owned
+    → i ≡ units_held (map (λ t. t.holding) is) → is ≡ a.imported → f ≡ units_held fs → fs ≡ a.free → f + units_held (ranges_of a.allocated) ≡ o + i
 report_adds a sound o i f os is fs o_is os_is i_is is_is f_is fs_is =
-    let own : o ≡ units_of a.owned = o_is ∙ ap units_of os_is in
-    let imp : i ≡ units_of (map (λ t. t.holding) a.imported) = i_is ∙ ap (λ (xs : List Tag). units_of (map (λ t. t.holding) xs)) is_is in
-    let fre : f ≡ units_of a.free = f_is ∙ ap units_of fs_is in
+    let own : o ≡ units_held a.owned = o_is ∙ ap units_held os_is in
+    let imp : i ≡ units_held (map (λ t. t.holding) a.imported) = i_is ∙ ap (λ (xs : List Tag). units_held (map (λ t. t.holding) xs)) is_is in
+    let fre : f ≡ units_held a.free = f_is ∙ ap units_held fs_is in
     omega (arith, own, imp, fre, units_add a.free (ranges_of a.allocated) (spans_of a) sound.covers, sum_by-append (λ (h : Holding). h.range.len) a.owned (map (λ t. t.holding) a.imported))
 
 -- a range that overlaps a span of either kind

@@ -37,10 +37,6 @@ layout_of a = record { spans = spans_of a; free = a.free; allocated = a.allocate
 abbrev pub ranges_of : FinMap nat_cmp Holding → List Holding
 ranges_of allocated = map (λ e. e.1) (entries allocated)
 
--- how many units the ranges have
-abbrev pub units_of : List Holding → ℕ
-units_of ranges = sum_by (λ h. h.range.len) ranges
-
 -- the segment that a carve of this arena hands out
 abbrev pub direct : ℕ → Holding → Tag
 direct id h = record { arena = id; route = Direct; holding = h }

@@ -2,12 +2,12 @@
 ghost use Rattle.std.specs.Prelude.{◌≡◌, ◌+◌, ◌-◌, ◌≤◌, ◌↔◌, ◌<◌, [], ◌++◌, ℕ, All, Any, Contains, IsTrue, IsOk, IsErrAnd, IfOk, IfErr, IfSome, IfNone, OnOk, OnErr, Some, None, Err, MatchOption, option_to_list, sum_by};
 ghost use Rattle.std.specs.Int.{IsPowerOfTwo};
 ghost use Rattle.deed_core.specs.Extent.{Overlap};
-ghost use Rattle.deed_core.specs.Covering.{covers, covers_tag, covering_held};
+ghost use Rattle.deed_core.specs.Covering.{covers, covers_tag, covering_held, units_held};
 ghost use Rattle.deed_core.specs.Tag.{Tag};
 ghost use Rattle.deed_core.specs.Weights.{Gains, Loses};
 ghost use Rattle.deed_core.specs.Request.{Fits, IsGood, IsPlain, rounded};
 ghost use Rattle.tag_arena.specs.Layout.{FreeIsLongestRuns};
-ghost use Rattle.tag_arena.specs.ArenaState.{spans_of, layout_of, ranges_of, units_of, direct, IsChosen, IsSound, OnQuantum, empty_arena};
+ghost use Rattle.tag_arena.specs.ArenaState.{spans_of, layout_of, ranges_of, direct, IsChosen, IsSound, OnQuantum, empty_arena};
 ghost use Rattle.tag_arena.specs.Calls.{Carves, RefusesCarve, IsClear, RefusesSpan, after_add, after_import, after_import_carve, first_of, IsTagged, Frees, IsLowestWhole, after_remove};
 
 use crate::choices::chosen;
@@ -104,9 +104,9 @@ impl<D: Deed> Arena<D> {
 
     /// How many units the spans, the free ranges and the allocated ones have.
     pub fn report(&self) -> ArenaReport
-        ensures span { result.span ≡ units_of (spans_of self.now) }
-        ensures free { result.free ≡ units_of self.now.free }
-        ensures allocated { result.allocated ≡ units_of (ranges_of self.now.allocated) }
+        ensures span { result.span ≡ units_held (spans_of self.now) }
+        ensures free { result.free ≡ units_held self.now.free }
+        ensures allocated { result.allocated ≡ units_held (ranges_of self.now.allocated) }
         ensures adds_up { result.span ≡ result.free + result.allocated }
 
         // What is always so of an arena.

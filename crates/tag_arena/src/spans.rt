@@ -1,8 +1,8 @@
 //! The spans of an arena.
 ghost use Rattle.std.specs.Prelude.{◌≡◌, ◌≢◌, ℕ, ◌+◌, ◌*◌, ◌^◌, ◌<◌, ◌≤◌, ◌++◌, map, All, Any, Contains, HoldsAt, IsTrue, MatchBool, MatchOption, IfSome, length, slice_index_or, sum_by, take};
+ghost use Rattle.deed_core.specs.Covering.{units_held};
 ghost use Rattle.deed_core.specs.Extent.{Covers, Overlap, IsRange};
 ghost use Rattle.deed_core.specs.declared.segments.Route.TheVariants.{Direct};
-ghost use Rattle.tag_arena.specs.ArenaState.{units_of};
 
 use crate::stretches::Stretch;
 use deed_core::{Deed, Range, Stored};
@@ -126,7 +126,7 @@ pub fn place_of_import(imported: &[Import], span: &Stretch) -> Option<usize>
 
 /// How many units the owned spans have.
 pub fn owned_units(owned: &[Stretch]) -> u128
-    ensures sum { result ≡ units_of owned.now }
+    ensures sum { result ≡ units_held owned.now }
     ensures bound { result ≤ length owned.now * 2 ^ 62 }
 {
     let mut units: u128 = 0;
@@ -138,7 +138,7 @@ pub fn owned_units(owned: &[Stretch]) -> u128
 
 /// How many units the imported spans have.
 pub fn imported_units(imported: &[Import]) -> u128
-    ensures sum { result ≡ units_of (map (λ t. t.holding) imported.now) }
+    ensures sum { result ≡ units_held (map (λ t. t.holding) imported.now) }
     ensures bound { result ≤ length imported.now * 2 ^ 62 }
 {
     let mut units: u128 = 0;
@@ -150,7 +150,7 @@ pub fn imported_units(imported: &[Import]) -> u128
 
 /// How many units the free ranges have.
 pub fn free_units<D: Deed>(free: &[Stored<D>]) -> u128
-    ensures { result ≡ units_of free.now }
+    ensures { result ≡ units_held free.now }
 {
     let mut units: u128 = 0;
     for at in 0..free.len() {

@@ -1,7 +1,8 @@
 use Rattle.std.proofs.Common.{◌≡◌, ◌∙◌, sym, arith, subst}
 use Rattle.std.specs.Option.{option_to_list}
+use Rattle.deed_core.specs.Covering.{units_held}
 use Rattle.deed_core.specs.Holding.{Holding}
-use Rattle.slab_layer.specs.Slab.{SlabState, units, idle_chunks_by, chunk_at, gap_of, tail_of}
+use Rattle.slab_layer.specs.Slab.{SlabState, idle_chunks_by, chunk_at, gap_of, tail_of}
 use Rattle.slab_layer.specs.Cache.{CacheState, IsSound, idle_deeds, gaps, tails}
 use Rattle.slab_layer.proofs.ListLemmas.{sum_by-flat_map}
 use Rattle.slab_layer.proofs.ReportLemmas.{spans_fit, kept_units, tiled, once}
@@ -14,19 +15,19 @@ pub returns-clause-idle : goal.returns-clause-idle
 returns-clause-idle g c =
     let said = rw c.deref.ensures.value at c.total.ensures.idle in
     let all = said ∙ sym (sum_by-flat_map (λ (h : Holding). h.range.len) (λ (s : SlabState). idle_chunks_by (chunk_at s) s) c.self.inside.slabs.items) in
-    subst (λ (x : CacheState). c.total.result.idle ≡ units (idle_deeds x)) c.self.view_is all
+    subst (λ (x : CacheState). c.total.result.idle ≡ units_held (idle_deeds x)) c.self.view_is all
 
 pub returns-clause-gap : goal.returns-clause-gap
 returns-clause-gap g c =
     let said = rw c.deref.ensures.value at c.total.ensures.gap in
     let all = said ∙ sym (sum_by-flat_map (λ (h : Holding). h.range.len) (λ (s : SlabState). option_to_list (gap_of s)) c.self.inside.slabs.items) in
-    subst (λ (x : CacheState). c.total.result.gap ≡ units (gaps x)) c.self.view_is all
+    subst (λ (x : CacheState). c.total.result.gap ≡ units_held (gaps x)) c.self.view_is all
 
 pub returns-clause-tail : goal.returns-clause-tail
 returns-clause-tail g c =
     let said = rw c.deref.ensures.value at c.total.ensures.tail in
     let all = said ∙ sym (sum_by-flat_map (λ (h : Holding). h.range.len) (λ (s : SlabState). option_to_list (tail_of s)) c.self.inside.slabs.items) in
-    subst (λ (x : CacheState). c.total.result.tail ≡ units (tails x)) c.self.view_is all
+    subst (λ (x : CacheState). c.total.result.tail ≡ units_held (tails x)) c.self.view_is all
 
 pub returns-clause-kept : goal.returns-clause-kept
 returns-clause-kept g c =
