@@ -14,7 +14,8 @@ use deed_core::{Deed, Route, Segment, Stored, insert_reserved};
 use std::alloc::Global;
 use std::marker::Model;
 
-/// Chunks of k quanta, cut from slabs of one size. It can't be dropped: `close` ends it.
+/// Chunks of k quanta, cut from slabs of one size. It can't be dropped: `close` ends it. Contracts see it as
+/// `CacheState`, its slabs in order of their bases.
 pub struct SlabCache<D: Deed> {
     alloc: Global,
     arena: u32,
@@ -36,7 +37,7 @@ impl<D: Deed> Model for SlabCache<D> {
 }
 
 impl<D: Deed> SlabCache<D> {
-    /// A cache with no slab, for chunks of `k` quanta. `slab_size` counts units.
+    /// A cache with no slab, for chunks of `k` quanta of the arena. `quantum` and `slab_size` count units.
     pub fn new(alloc: Global, arena: u32, k: u8, quantum: u64, slab_size: u64) -> SlabCache<D>
         requires k { 1 ≤ k }
         requires quantum { 1 ≤ quantum }
@@ -68,8 +69,10 @@ impl<D: Deed> SlabCache<D> {
         self.k
     }
 
-    /// The lowest idle chunk of the lowest partial slab, else of the lowest complete one
-    /// ("The Slab Allocator", 1994; lowest first is our own choice).
+    /// The lowest idle chunk of the lowest partial slab, else of the lowest complete one. It takes no memory.
+    ///
+    /// That partial slabs are used before complete ones is from "The Slab Allocator", 1994; lowest first is
+    /// our own choice.
     pub fn take(&mut self) -> Option<Segment<D>>
         ensures none { IsNone result ↔ All IsAllOut self.old.slabs }
         ensures some { IfSome result (λ t. (i j : ℕ) × (s : SlabState) × Takes i j s self.old self.new t) }
@@ -86,7 +89,7 @@ impl<D: Deed> SlabCache<D> {
         Some(Segment::new(self.arena, Route::Cached(self.k), deed.into_deed()))
     }
 
-    /// Takes a chunk back.
+    /// Takes a chunk back. It takes no memory. A segment that is refused comes back as it was.
     pub fn put(&mut self, segment: Segment<D>) -> Result<(), (Segment<D>, PutFault)>
         ensures mine { IsOk result ↔ Contains (chunks_out self.old) segment }
         ensures at_home { IsErrAnd result (λ e. e.1 ≡ PutFault.AtHome) ↔ Contains (idle_chunks self.old) segment }
@@ -115,6 +118,9 @@ impl<D: Deed> SlabCache<D> {
     }
 
     /// Cuts a span into a slab with the next colour, and gives its first chunk.
+    ///
+    /// The colours go up by one quantum from slab to slab, from 0 to the units that are in no chunk, and then
+    /// begin again ("The Slab Allocator", 1994). A span that is refused comes back whole.
     pub fn add(&mut self, span: Segment<D>) -> Result<Segment<D>, (Segment<D>, AddFault)>
         requires arena { span.arena ≡ self.old.arena }
         requires route { span.route ≡ Route.Direct }
@@ -187,7 +193,9 @@ impl<D: Deed> SlabCache<D> {
         }
     }
 
-    /// Takes the lowest slab with all chunks at home out, whole.
+    /// Takes the lowest slab with all chunks at home out, whole, to go back to the arena. It takes no memory.
+    ///
+    /// Only such slabs are reclaimed ("The Slab Allocator", 1994); lowest first is our own choice.
     pub fn reap(&mut self) -> Option<Segment<D>>
         ensures none { IsNone result ↔ All (λ s. ¬ IsComplete s) self.old.slabs }
         ensures some { IfSome result (λ t. (i : ℕ) × (s : SlabState) × Reaps i s self.old self.new t) }
@@ -217,7 +225,7 @@ impl<D: Deed> SlabCache<D> {
         total(&self.slabs)
     }
 
-    /// Ends the cache where no deed lies in it.
+    /// Ends the cache where no deed lies in it. Chunks that are out then have no slab to go back to.
     pub fn close(self) -> Result<(), SlabCache<D>>
         ensures empty { IsOk result ↔ (deeds_of self ≡ []) }
         ensures same { IfErr result (λ same. same ≡ self) }
