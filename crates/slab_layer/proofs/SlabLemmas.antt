@@ -75,7 +75,7 @@ made_of h colour n count first last row some room gap chunks tail =
         shape = record { some = some; room = omega arith };
         gap = gap ∙ rw less refl;
         chunks = chunks ∙ ap (stored_row (placed h.root (h.range.base + colour) n) 0) (sym home);
-        tail = rw units_held (tail ∙ rw left refl);
+        tail = rw units (tail ∙ rw left refl);
       },
     )
 
