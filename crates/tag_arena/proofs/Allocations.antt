@@ -1,15 +1,13 @@
 -- What is allocated, weighed, once a range is put in or taken out.
-use Rattle.std.proofs.Common.{◌≡◌, ℕ, ◌+◌, ◌-◌, ◌<◌, ◌≤◌, Bool, cond, is_some, inl, inr, refl, sym, subst, ap, ◌∙◌, List, [], ◌∷◌, map, Option, Some, None, arith}
+use Rattle.std.proofs.Common.{◌≡◌, ℕ, ◌+◌, ◌-◌, ◌≤◌, cond, is_some, inl, inr, sym, ap, ◌∙◌, List, [], ◌∷◌, map, Option, Some, None, arith}
 use Rattle.std.specs.Prelude.{sum_by}
 use Rattle.std.proofs.lemmas.List.Sums.{sum_by-cons}
 use Rattle.std.proofs.lemmas.Bool.{cases_eq}
-use Rattle.std.proofs.lemmas.Bool.Decides.{nat_tests}
 use Rattle.std.specs.Ordering.{nat_cmp, is_eq}
 use Rattle.std.specs.Cmp.{nat_cmp_total}
 use Rattle.std.specs.declared.cmp.Ordering.{Ordering}
 use Rattle.std.specs.declared.cmp.Ordering.TheVariants.{Less, Equal, Greater}
-use Rattle.std.specs.FinMap as finmap
-use Rattle.std.specs.FinMap.{FinMap, get, insert, remove, entries, len, find, put, gets, same_map, nat_cmp-IsAntisymmetric, entries-insert, get-entries, len-insert, len-remove, empty_of_len, get-empty}
+use Rattle.std.specs.FinMap.{FinMap, get, insert, remove, entries, len, find, put, same_map, nat_cmp-IsAntisymmetric, entries-insert, get-entries, len-insert, len-remove, empty_of_len, get-empty}
 use Rattle.std.specs.FinMap.Entries.{by_order}
 use Rattle.deed_core.specs.Holding.{Holding}
 use Rattle.deed_core.specs.Weights.{Gains, Loses}

@@ -1,5 +1,5 @@
 -- What a scan of all free ranges has found is the policy's choice.
-use Rattle.std.proofs.Common.{◌≡◌, ◌⊎◌, ℕ, ◌+◌, ◌%◌, ◌^◌, ◌<◌, ◌≤◌, refl, sym, subst, inl, inr, List, length, HoldsAt, Contains, All, Option, Some, None, IfSome, arith}
+use Rattle.std.proofs.Common.{◌≡◌, ℕ, ◌+◌, ◌%◌, ◌^◌, ◌<◌, ◌≤◌, refl, sym, subst, inl, inr, List, length, HoldsAt, Contains, All, Option, Some, None, IfSome, arith}
 use Rattle.std.proofs.lemmas.List.Elements.{All-contains}
 use Rattle.std.specs.Int.{next_multiple_of}
 use Rattle.deed_core.specs.Extent.{IsRange}
@@ -9,7 +9,7 @@ use Rattle.deed_core.specs.declared.requests.Request.{Request}
 use Rattle.tag_arena.specs.declared.choices.Found.{Found}
 use Rattle.tag_arena.specs.declared.instants.Listed.{Listed}
 use Rattle.tag_arena.specs.Place.{IsLeast, Serves, ServesIn}
-use Rattle.tag_arena.specs.Choice.{IsBestChoice, IsInstant, IsInstantChoice, NoListServes, OnList, ListServes, ComesFirst}
+use Rattle.tag_arena.specs.Choice.{IsBestChoice, IsInstantChoice, NoListServes, OnList, ListServes, ComesFirst}
 use Rattle.tag_arena.specs.Found.{BestSoFar, EarliestSoFar, NewestSoFar, IsPlaced, base_of}
 
 module _ (quantum : ℕ) (q : Request) (free : List Holding) where

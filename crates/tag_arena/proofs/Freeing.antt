@@ -5,7 +5,7 @@ use Rattle.std.proofs.lemmas.List.Elements.{Contains-append_left, Contains-push,
 use Rattle.std.proofs.lemmas.List.Kept.{AllPairs-filter}
 use Rattle.std.specs.Ordering.{nat_cmp}
 use Rattle.std.specs.FinMap.{FinMap, get, remove}
-use Rattle.deed_core.specs.Extent.{Covers, end_of}
+use Rattle.deed_core.specs.Extent.{Covers}
 use Rattle.deed_core.specs.Holding.{Holding}
 use Rattle.tag_arena.specs.Layout.{Layout, Apart, Holds, IsPartOf, IsAllocated, IsRun, IsEdgedRun, IsLongestRun, IsWhole}
 use Rattle.tag_arena.specs.Calls.{surrounds}

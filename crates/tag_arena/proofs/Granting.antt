@@ -1,12 +1,12 @@
 -- A carve of what was found, in terms of the calls that make it.
-use Rattle.std.proofs.Common.{◌≡◌, ◌≢◌, ℕ, ◌+◌, ◌-◌, ◌*◌, ◌/◌, ◌%◌, ◌^◌, ◌<◌, ◌≤◌, refl, sym, subst, ap, ◌∙◌, inl, inr, ⊎_elim, List, ◌++◌, length, get_or, remove, HoldsAt, Contains, Option, Some, None, SomeIff, Result, Ok, Err, IfErr, IsErrAnd, arith}
+use Rattle.std.proofs.Common.{◌≡◌, ℕ, ◌+◌, ◌-◌, ◌*◌, ◌/◌, ◌%◌, ◌<◌, refl, sym, subst, ap, ◌∙◌, inl, inr, List, ◌++◌, length, remove, HoldsAt, Option, Some, None, SomeIff, Result, Ok, Err, IfErr, IsErrAnd, arith}
 use Rattle.std.proofs.lemmas.Bool.{cases_eq}
 use Rattle.std.proofs.Math.Nat.{mul-mod_left, mod_self, mod-eq_of_lt}
 use Rattle.std.proofs.lemmas.Nat.{div-add-mod', mod_below}
 use Rattle.std.specs.Ordering.{nat_cmp}
 use Rattle.std.specs.FinMap as finmap
 use Rattle.std.specs.FinMap.{FinMap}
-use Rattle.deed_core.specs.Extent.{Extent, IsRange, end_of}
+use Rattle.deed_core.specs.Extent.{end_of}
 use Rattle.deed_core.specs.Holding.{Holding}
 use Rattle.deed_core.specs.Covering.{covers, covering_held}
 use Rattle.deed_core.specs.Weights.{Gains}
@@ -20,7 +20,7 @@ use Rattle.tag_arena.specs.Choice.{IsChoice}
 use Rattle.tag_arena.specs.Found.{IsPlaced}
 use Rattle.tag_arena.specs.ArenaState.{ArenaState, IsSound, IsChosen, OnQuantum, ranges_of}
 use Rattle.tag_arena.specs.Calls.{part, rests, after_carve, Carves}
-use Rattle.tag_arena.proofs.Allocations.{gains_insert, remove-insert, len_more}
+use Rattle.tag_arena.proofs.Allocations.{gains_insert, remove-insert}
 use Rattle.tag_arena.proofs.Ranges.{get_same}
 use Rattle.tag_arena.proofs.OneChoice.{choice_one}
 use Rattle.tag_arena.proofs.Sounding.{power_some, others, absent, sound_carve, carved_covers, among}

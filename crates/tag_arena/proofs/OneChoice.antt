@@ -1,14 +1,13 @@
 -- A choice is one.
-use Rattle.std.proofs.Common.{◌≡◌, ◌⊎◌, inl, inr, ℕ, ◌+◌, ◌<◌, ◌≤◌, refl, sym, subst, ap, ◌∙◌, ⊎_elim, List, length, get_or, HoldsAt, Contains, Any, Option, Some, None, MatchOption, arith}
+use Rattle.std.proofs.Common.{◌≡◌, inl, inr, ℕ, ◌<◌, ◌≤◌, refl, sym, subst, ap, ◌∙◌, List, get_or, Contains, Option, Some, None, MatchOption, arith}
 use Rattle.std.proofs.lemmas.Bool.{cases_order}
-use Rattle.std.specs.List.{AllWithin}
 use Rattle.deed_core.specs.Holding.{Holding}
 use Rattle.deed_core.specs.Request.{rounded}
 use Rattle.deed_core.specs.declared.requests.Request.{Request}
 use Rattle.tag_arena.specs.declared.policies.Policy.{Policy}
 use Rattle.tag_arena.specs.declared.policies.Policy.TheVariants.{Best, Next, Instant}
 use Rattle.tag_arena.specs.Place.{IsLeast, Serves, ServesIn}
-use Rattle.tag_arena.specs.Choice.{IsBest, IsBestChoice, IsNextChoice, IsInstant, IsInstantChoice, IsChoice, ComesFirst, OnList}
+use Rattle.tag_arena.specs.Choice.{IsBest, IsInstant, IsChoice, ComesFirst, OnList}
 use Rattle.tag_arena.specs.Laws.{BestIsOne, NextIsOne, InstantIsOne}
 use Rattle.tag_arena.proofs.Ranges.{member-Any}
 

@@ -7,7 +7,7 @@ use Rattle.std.proofs.lemmas.List.{get_or_default}
 use Rattle.std.specs.Ordering.{nat_cmp}
 use Rattle.std.specs.FinMap.{FinMap, get, insert, remove, gets}
 use Rattle.deed_core.specs.Holding.{Holding}
-use Rattle.deed_core.specs.Extent.{Covers, end_of}
+use Rattle.deed_core.specs.Extent.{Covers}
 use Rattle.tag_arena.specs.Layout.{Apart, Holds, IsPartOf, IsAllocated}
 use Rattle.tag_arena.specs.Calls.{between, part, surrounds}
 use Rattle.tag_arena.proofs.Members.{Contains-head, Contains-cases, Contains-nil}

@@ -1,9 +1,9 @@
 -- A wholly free span that is taken out leaves a layout whole.
-use Rattle.std.proofs.Common.{◌≡◌, ◌⊎◌, ℕ, ◌+◌, ◌<◌, ◌≤◌, sym, subst, inl, inr, ⊎_elim, List, Contains, AllPairs, Any, Some, arith}
+use Rattle.std.proofs.Common.{◌≡◌, ◌⊎◌, ℕ, ◌<◌, subst, inl, inr, ⊎_elim, List, Contains, AllPairs, Any, Some, arith}
 use Rattle.std.specs.FinMap.{get}
-use Rattle.deed_core.specs.Extent.{Covers, end_of}
+use Rattle.deed_core.specs.Extent.{Covers}
 use Rattle.deed_core.specs.Holding.{Holding}
-use Rattle.tag_arena.specs.Layout.{Layout, Apart, Holds, IsPartOf, IsAllocated, IsEdgedRun, IsWhole}
+use Rattle.tag_arena.specs.Layout.{Layout, Apart, IsPartOf, IsAllocated, IsEdgedRun, IsWhole}
 use Rattle.tag_arena.proofs.Ranges.{same_where_shared, Any-member, member-Any}
 
 -- the members of a list but one

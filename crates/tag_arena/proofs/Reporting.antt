@@ -1,10 +1,10 @@
 -- What an arena reports, and what is refused of a span.
-use Rattle.std.proofs.Common.{◌≡◌, ◌≢◌, ◌⊎◌, ℕ, ◌+◌, ◌-◌, ◌%◌, ◌<◌, ◌≤◌, sym, subst, ap, ◌∙◌, ⊎_elim, List, ◌++◌, map, Contains, All, Any, arith}
+use Rattle.std.proofs.Common.{◌≡◌, ◌≢◌, ℕ, ◌+◌, ◌%◌, ◌<◌, subst, ap, ◌∙◌, ⊎_elim, List, map, Contains, All, Any, arith}
 use Rattle.std.proofs.lemmas.List.Elements.{All-append, Contains-append_right, Contains-append_left}
-use Rattle.deed_core.specs.Extent.{Extent, Covers, Overlap, end_of}
+use Rattle.deed_core.specs.Extent.{Extent, Covers, Overlap}
 use Rattle.deed_core.specs.Holding.{Holding}
 use Rattle.deed_core.specs.Tag.{Tag}
-use Rattle.tag_arena.specs.Layout.{Layout, Holds, IsPartOf, IsLongestRun, IsWhole, FreeIsLongestRuns}
+use Rattle.tag_arena.specs.Layout.{Layout, IsPartOf, IsWhole, FreeIsLongestRuns}
 use Rattle.tag_arena.specs.ArenaState.{ArenaState, spans_of, ranges_of, IsSound, OnQuantum}
 use Rattle.tag_arena.specs.Calls.{IsClear}
 use Rattle.tag_arena.proofs.Ranges.{Any-member, member-Any, holds_part}

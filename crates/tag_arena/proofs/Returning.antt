@@ -1,27 +1,25 @@
 -- A free in terms of the calls that make it, and an imported span that goes back.
-use Rattle.std.proofs.Common.{◌≡◌, ◌≢◌, ◌⊎◌, ℕ, zero, suc, ◌+◌, ◌-◌, ◌%◌, ◌<◌, ◌≤◌, Bool, true, false, not, nat_eq, refl, sym, subst, ap, ◌∙◌, inl, inr, ⊎_elim, List, [], ◌∷◌, ◌++◌, map, length, get_or, remove, filter, HoldsAt, Contains, All, AllPairs, Any, Option, Some, None, IfSome, MatchOption, option_to_list, sum_by, arith}
+use Rattle.std.proofs.Common.{◌≡◌, ◌≢◌, ℕ, zero, suc, ◌+◌, ◌%◌, ◌<◌, true, not, nat_eq, refl, sym, subst, ap, ◌∙◌, inl, inr, ⊎_elim, List, [], ◌∷◌, ◌++◌, map, length, get_or, remove, filter, HoldsAt, Contains, All, AllPairs, Any, Option, Some, None, IfSome, MatchOption, arith}
 use Rattle.std.specs.Option.{option_map_or}
 use Rattle.std.proofs.lemmas.Bool.{cases_order}
 use Rattle.std.proofs.lemmas.Bool.Decides.{nat_tests}
-use Rattle.std.proofs.lemmas.List.{get_or_default, length-append}
+use Rattle.std.proofs.lemmas.List.{length-append}
 use Rattle.std.proofs.lemmas.List.Elements.{All-contains, Contains-get_or, Contains-push, Contains-append_right}
-use Rattle.std.proofs.lemmas.List.Sums.{sum_by-cons, sum_by_push}
+use Rattle.std.proofs.lemmas.List.Sums.{sum_by_push}
 use Rattle.std.specs.Ordering.{nat_cmp}
 use Rattle.std.specs.FinMap as finmap
 use Rattle.std.specs.FinMap.{FinMap}
-use Rattle.deed_core.specs.Extent.{Extent, Covers, end_of}
+use Rattle.deed_core.specs.Extent.{Covers, end_of}
 use Rattle.deed_core.specs.Holding.{Holding, GoesOn}
 use Rattle.deed_core.specs.Tag.{Tag}
 use Rattle.deed_core.specs.declared.segments.Route.TheVariants.{Direct}
-use Rattle.deed_core.specs.Covering.{covers, covers_held, covers_tag, covering_held}
-use Rattle.deed_core.specs.Weights.{Loses}
-use Rattle.tag_arena.specs.Layout.{Layout, Apart, Holds, IsPartOf, IsEdgedRun, IsLongestRun, IsWhole}
-use Rattle.tag_arena.specs.ArenaState.{ArenaState, spans_of, layout_of, ranges_of, OnQuantum, IsSound}
-use Rattle.tag_arena.specs.Calls.{surrounds, without, without_span, after_free, after_return, LeavesFree, Frees}
-use Rattle.tag_arena.specs.Neighbors.{IsBeside, Merges, Without, TakesLeft, TakesRight}
-use Rattle.tag_arena.proofs.Members.{All-from_members, Contains-nil, Contains-cases, filter_one}
+use Rattle.deed_core.specs.Covering.{covers, covers_held, covering_held}
+use Rattle.tag_arena.specs.Layout.{Apart, IsPartOf, IsEdgedRun, IsLongestRun}
+use Rattle.tag_arena.specs.ArenaState.{ArenaState, spans_of, layout_of, OnQuantum, IsSound}
+use Rattle.tag_arena.specs.Calls.{surrounds, without, without_span, after_free, after_return, Frees}
+use Rattle.tag_arena.specs.Neighbors.{IsBeside, Merges, TakesLeft, TakesRight}
+use Rattle.tag_arena.proofs.Members.{All-from_members, filter_one}
 use Rattle.tag_arena.proofs.Ranges.{apart_or_share, same_where_shared, Any-member}
-use Rattle.tag_arena.proofs.Allocations.{loses_remove}
 use Rattle.tag_arena.proofs.Counting.{covering-freed}
 use Rattle.tag_arena.proofs.SpanLists.{without-remove, Contains-map, AllPairs-second}
 use Rattle.tag_arena.proofs.Freeing.{longest_edged}

@@ -1,5 +1,5 @@
 -- One range more in a scan of the free ranges.
-use Rattle.std.proofs.Common.{◌≡◌, ◌⊎◌, ℕ, ◌+◌, ◌*◌, ◌%◌, ◌^◌, ◌<◌, ◌≤◌, sym, subst, ap, ⊎_elim, List, length, get_or, HoldsAt, Contains, Option, Some, None, arith}
+use Rattle.std.proofs.Common.{◌≡◌, ℕ, ◌+◌, ◌*◌, ◌%◌, ◌^◌, ◌<◌, ◌≤◌, sym, subst, ap, ⊎_elim, List, length, get_or, HoldsAt, Contains, Option, Some, None, arith}
 use Rattle.std.proofs.lemmas.Bool.{cases_lt}
 use Rattle.std.proofs.lemmas.Nat.{one_shl}
 use Rattle.std.specs.List.{AllWithin}

@@ -1,10 +1,10 @@
 -- What each call leaves of a sound arena is sound.
-use Rattle.std.proofs.Common.{◌≡◌, ◌≢◌, ◌⊎◌, ℕ, zero, suc, ◌+◌, ◌-◌, ◌*◌, ◌/◌, ◌%◌, ◌^◌, ◌<◌, ◌≤◌, Bool, true, false, not, nat_eq, refl, sym, subst, ap, ◌∙◌, inl, inr, ⊎_elim, List, [], ◌∷◌, ◌++◌, map, length, get_or, remove, HoldsAt, Contains, All, AllPairs, filter, Option, Some, None, sum_by, arith}
+use Rattle.std.proofs.Common.{◌≡◌, ◌≢◌, ◌⊎◌, ℕ, ◌+◌, ◌-◌, ◌%◌, ◌^◌, ◌<◌, ◌≤◌, Bool, true, not, nat_eq, refl, sym, subst, ap, ◌∙◌, inl, inr, ⊎_elim, List, [], ◌∷◌, ◌++◌, map, length, get_or, remove, HoldsAt, Contains, All, AllPairs, filter, Some, None, sum_by, arith}
 use Rattle.std.proofs.lemmas.Bool.{cases_lt, cases_eq, cases_Bool, cases_order}
 use Rattle.std.proofs.lemmas.List.{get_or_default, map-append, append_assoc}
 use Rattle.std.proofs.lemmas.List.Elements.{All-contains, All-push, Contains-append_left, Contains-append_right, Contains-append_cases, Contains-push, Contains-push_cases}
 use Rattle.std.proofs.lemmas.List.Quantifiers.{all_pairs_push}
-use Rattle.std.proofs.lemmas.List.Sums.{sum_by-append, sum_by-cons, sum_by-remove, sum_by_push}
+use Rattle.std.proofs.lemmas.List.Sums.{sum_by-append, sum_by-remove, sum_by_push}
 use Rattle.std.proofs.Math.Nat.{add-mod, mod-eq_of_lt, zero-mod}
 use Rattle.std.proofs.lemmas.Nat.{mod_below, pow_pos}
 use Rattle.std.specs.Int.{IsPowerOfTwo}
@@ -18,9 +18,9 @@ use Rattle.deed_core.specs.Covering.{covers, covers_held, covering_held}
 use Rattle.deed_core.specs.Weights.{Loses}
 use Rattle.deed_core.specs.declared.segments.Route.TheVariants.{Direct}
 use Rattle.tag_arena.specs.declared.policies.Policy.{Policy}
-use Rattle.tag_arena.specs.Layout.{Layout, Apart, Holds, IsPartOf, IsEdgedRun, IsWhole}
+use Rattle.tag_arena.specs.Layout.{Apart, Holds, IsPartOf, IsEdgedRun}
 use Rattle.tag_arena.specs.ArenaState.{ArenaState, spans_of, layout_of, ranges_of, direct, OnQuantum, IsSound, empty_arena}
-use Rattle.tag_arena.specs.Calls.{part, rests, surrounds, without, without_span, after_carve, after_add, after_import, after_free, after_return, after_remove, IsClear}
+use Rattle.tag_arena.specs.Calls.{rests, surrounds, without, without_span, after_carve, after_add, after_import, after_free, after_return, after_remove, IsClear}
 use Rattle.tag_arena.proofs.Members.{All-from_members, Contains-nil, Contains-from_filter, filter_one}
 use Rattle.tag_arena.proofs.Ranges.{not_both, surrounds-true, true-surrounds, get_same, get_other, Any-member, holds_part}
 use Rattle.tag_arena.proofs.Carving.{whole_after_carve, no_tag, new_cases}

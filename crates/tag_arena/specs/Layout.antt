@@ -1,8 +1,8 @@
 -- How the units of spans are divided: into free ranges and allocated ones.
-use Rattle.std.specs.Prelude.{◌≡◌, ℕ, ◌+◌, ◌-◌, ◌<◌, ◌≤◌, ◌⊎◌, List, Any, AllPairs, Contains, Some}
+use Rattle.std.specs.Prelude.{◌≡◌, ℕ, ◌-◌, ◌<◌, ◌≤◌, ◌⊎◌, List, Any, AllPairs, Contains, Some}
 use Rattle.std.specs.Ordering.{nat_cmp}
 use Rattle.std.specs.FinMap.{FinMap, get}
-use Rattle.deed_core.specs.Extent.{Extent, Covers, end_of}
+use Rattle.deed_core.specs.Extent.{Covers, end_of}
 use Rattle.deed_core.specs.Holding.{Holding}
 
 -- the spans, the free ranges in them, and what is allocated, each range at its base

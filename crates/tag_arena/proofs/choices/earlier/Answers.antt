@@ -1,6 +1,6 @@
 use Rattle.std.proofs.Common.{subst, arith}
 use Rattle.tag_arena.specs.Found.{EarliestSoFar}
-use Rattle.tag_arena.proofs.Scans.{earliest_skips, earliest_first, earliest_kept, earliest_taken}
+use Rattle.tag_arena.proofs.Scans.{earliest_skips, earliest_kept, earliest_taken}
 use Rattle.tag_arena.proofs.choices.earlier.Goals as goal
 
 pub returns-in_default : goal.returns-in_default

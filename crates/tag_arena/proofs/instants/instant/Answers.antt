@@ -1,6 +1,3 @@
-use Rattle.std.proofs.Common.{◌≡◌, ap, subst, ℕ, Some}
-use Rattle.tag_arena.specs.Choice.{IsInstantChoice}
-use Rattle.tag_arena.specs.Found.{IsPlaced}
 use Rattle.deed_core.specs.Request.{IsPlain}
 use Rattle.tag_arena.proofs.Choosing.{newest_choice, newest_placed}
 use Rattle.tag_arena.proofs.instants.instant.Goals as goal

@@ -1,4 +1,4 @@
-use Rattle.std.proofs.Common.{◌≡◌, ℕ, ◌*◌, ◌%◌, ◌^◌, subst, ap, ◌∙◌, sym, arith}
+use Rattle.std.proofs.Common.{ℕ, ◌*◌, ◌^◌, subst, ap, arith}
 use Rattle.tag_arena.specs.Found.{NewestSoFar}
 use Rattle.tag_arena.proofs.Scans.{newest_skips, newest_first, newest_kept, newest_taken, shifted}
 use Rattle.tag_arena.proofs.instants.newer.Goals as goal

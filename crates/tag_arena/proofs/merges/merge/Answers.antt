@@ -1,4 +1,4 @@
-use Rattle.std.proofs.Common.{◌≡◌, ℕ, ap, ◌∙◌}
+use Rattle.std.proofs.Common.{ap, ◌∙◌}
 use Rattle.deed_core.specs.Extent.{Extent, end_of}
 use Rattle.tag_arena.proofs.Returning.{joins_right}
 use Rattle.tag_arena.proofs.merges.merge.Goals as goal

@@ -1,4 +1,4 @@
-use Rattle.std.proofs.Common.{◌≡◌, subst, sym, ◌∙◌, None, get_or}
+use Rattle.std.proofs.Common.{subst, sym, ◌∙◌}
 use Rattle.std.proofs.lemmas.List.{get_or_default}
 use Rattle.tag_arena.specs.Found.{LowestSoFar}
 use Rattle.tag_arena.proofs.Scans.{lowest_skips, lowest_first}

@@ -1,7 +1,7 @@
 use Rattle.std.proofs.Common.{◌≡◌, ◌++◌, ◌∷◌, [], List, subst, sym, ap, ◌∙◌, arith}
-use Rattle.deed_core.specs.Extent.{Extent, IsRange}
+use Rattle.deed_core.specs.Extent.{Extent}
 use Rattle.deed_core.specs.Holding.{Holding}
-use Rattle.tag_arena.specs.ArenaState.{ArenaState, IsSound, OnQuantum}
+use Rattle.tag_arena.specs.ArenaState.{ArenaState, OnQuantum}
 use Rattle.tag_arena.specs.Calls.{IsClear}
 use Rattle.tag_arena.proofs.Sounding.{sound_add}
 use Rattle.tag_arena.proofs.arenas.Arena.add_span.Goals as goal

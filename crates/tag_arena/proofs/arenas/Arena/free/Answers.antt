@@ -1,20 +1,20 @@
-use Rattle.std.proofs.Common.{◌≡◌, ◌≢◌, ℕ, ◌+◌, ◌++◌, ◌∷◌, [], List, remove, get_or, Some, None, Option, IsSome, MatchOption, HoldsAt, Contains, All, refl, sym, subst, ap, ◌∙◌, sum_by, option_to_list, rules, arith}
+use Rattle.std.proofs.Common.{◌≡◌, ◌≢◌, ℕ, ◌+◌, [], List, remove, get_or, Some, MatchOption, Contains, All, refl, sym, subst, ap, ◌∙◌, sum_by, rules, arith}
 use Rattle.std.proofs.lemmas.List.Sums.{sum_by-cons, sum_by-remove}
 use Rattle.std.proofs.lemmas.List.{get_or_default}
 use Rattle.std.proofs.lemmas.List.Elements.{All-contains}
 use Rattle.deed_core.specs.declared.segments.Route.TheVariants.{Direct}
 use Rattle.std.specs.FinMap as finmap
-use Rattle.deed_core.specs.Extent.{Covers, end_of}
+use Rattle.deed_core.specs.Extent.{Covers}
 use Rattle.deed_core.specs.Holding.{Holding}
 use Rattle.deed_core.specs.Tag.{Tag}
 use Rattle.deed_core.specs.Covering.{covers, covers_tag, covering_held}
 use Rattle.deed_core.specs.Weights.{Loses}
 use Rattle.tag_arena.specs.Layout.{IsPartOf}
-use Rattle.tag_arena.specs.ArenaState.{ArenaState, IsSound, spans_of, ranges_of, direct}
-use Rattle.tag_arena.specs.Calls.{Frees, after_free, after_return}
-use Rattle.tag_arena.specs.Neighbors.{IsBeside, Merges}
+use Rattle.tag_arena.specs.ArenaState.{ArenaState, IsSound, spans_of, ranges_of}
+use Rattle.tag_arena.specs.Calls.{after_free}
+use Rattle.tag_arena.specs.Neighbors.{Merges}
 use Rattle.tag_arena.proofs.Allocations.{len_less, loses_remove}
-use Rattle.tag_arena.proofs.Returning.{same_tag, some_there, positive, has_span, span_holds, free_beside, freed_is, freed_sound, freed_covers, merge_covers, frees, returned_is, returned_sound, frees_back}
+use Rattle.tag_arena.proofs.Returning.{same_tag, some_there, has_span, span_holds, free_beside, freed_is, freed_sound, freed_covers, merge_covers, frees, returned_is, returned_sound, frees_back}
 use Rattle.tag_arena.proofs.arenas.Arena.free.Goals as goal
 
 pub unwrap-span-requires : goal.unwrap-span-requires

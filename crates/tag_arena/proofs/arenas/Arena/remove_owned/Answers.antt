@@ -1,4 +1,4 @@
-use Rattle.std.proofs.Common.{◌≡◌, ℕ, List, remove, length, get_or, Some, None, Contains, All, refl, sym, subst, ap, ◌∙◌, arith}
+use Rattle.std.proofs.Common.{◌≡◌, List, length, Some, Contains, All, refl, sym, subst, ap, ◌∙◌, arith}
 use Rattle.deed_core.specs.Holding.{Holding}
 use Rattle.deed_core.specs.Weights.{Loses}
 use Rattle.tag_arena.specs.declared.wholes.Whole.{Whole}

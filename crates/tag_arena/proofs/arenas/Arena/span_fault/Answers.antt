@@ -1,4 +1,4 @@
-use Rattle.std.proofs.Common.{subst, List, Any, ap, ◌∙◌, ◌%◌, sym, ℕ, ◌≡◌}
+use Rattle.std.proofs.Common.{subst, List, Any, ap, ◌∙◌, ◌%◌, sym, ℕ}
 use Rattle.deed_core.specs.Extent.{Overlap}
 use Rattle.deed_core.specs.Tag.{Tag}
 use Rattle.tag_arena.specs.declared.faults.ArenaFault.TheVariants.{Overlaps, NotAligned}

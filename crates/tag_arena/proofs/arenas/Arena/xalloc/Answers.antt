@@ -1,6 +1,6 @@
-use Rattle.std.proofs.Common.{◌≡◌, ℕ, ◌+◌, ◌++◌, List, remove, Some, None, Option, refl, sym, subst, ap, ◌∙◌, All, arith}
+use Rattle.std.proofs.Common.{◌≡◌, ℕ, ◌+◌, ◌++◌, List, remove, Some, None, refl, sym, subst, ap, ◌∙◌, All, arith}
 use Rattle.std.specs.FinMap as finmap
-use Rattle.deed_core.specs.Extent.{IsRange, end_of}
+use Rattle.deed_core.specs.Extent.{IsRange}
 use Rattle.deed_core.specs.Holding.{Holding}
 use Rattle.deed_core.specs.Tag.{Tag}
 use Rattle.deed_core.specs.Request.{IsGood}
@@ -9,7 +9,7 @@ use Rattle.deed_core.specs.Weights.{Gains}
 use Rattle.tag_arena.specs.declared.choices.Found.{Found}
 use Rattle.tag_arena.specs.Found.{IsPlaced}
 use Rattle.tag_arena.specs.ArenaState.{ArenaState, IsSound, IsChosen, ranges_of}
-use Rattle.tag_arena.specs.Calls.{part, rests, after_carve, Carves, RefusesCarve}
+use Rattle.tag_arena.specs.Calls.{part, rests, RefusesCarve}
 use Rattle.tag_arena.proofs.Allocations.{len_more}
 use Rattle.tag_arena.proofs.Sounding.{free_ranges}
 use Rattle.tag_arena.proofs.Granting.{units_are, chosen_by, never_both, as_it_was, undone, stands, memory_refused, memory_not_fit, carve_is, carves, carve_sound, carve_absent, carve_gains, carve_covers, found_held, found_some, found_grid}
