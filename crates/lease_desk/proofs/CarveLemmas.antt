@@ -1,0 +1,101 @@
+-- What a carve comes to.
+use Rattle.std.proofs.Common.{◌≡◌, ℕ, ◌+◌, ◌<◌, sym, subst, ap, ◌∙◌, inl, inr, List, set, Option, Some, None, Result, Ok, Err, IfOk, IfErr, OnErr, arith}
+use Rattle.std.specs.Prelude.{slice_get, MatchOption}
+use Rattle.deed_core.specs.Extent.{Covers}
+use Rattle.deed_core.specs.Holding.{Holding}
+use Rattle.deed_core.specs.Tag.{Tag}
+use Rattle.deed_core.specs.Covering.{covers, covering_held}
+use Rattle.deed_core.specs.Weights.{Gains}
+use Rattle.deed_core.specs.Request.{Fits, IsGood}
+use Rattle.deed_core.specs.declared.requests.Request.{Request}
+use Rattle.deed_core.proofs.Units.{counts_the_unit}
+use Rattle.tag_arena.specs.declared.policies.Policy.{Policy}
+use Rattle.tag_arena.specs.declared.policies.Policy.TheVariants.{Best, Next, Instant}
+use Rattle.tag_arena.specs.declared.faults.ArenaFault.{ArenaFault}
+use Rattle.tag_arena.specs.declared.faults.ArenaFault.TheVariants.{BadRequest, NoFit, Overlaps, NotAligned, NoMemory}
+use Rattle.tag_arena.specs.Place.{IsLeast, Serves}
+use Rattle.tag_arena.specs.Choice.{IsChoice}
+use Rattle.tag_arena.specs.ArenaState.{ArenaState, ranges_of, direct}
+use Rattle.tag_arena.specs.Calls.{Carves, RefusesCarve}
+use Rattle.lease_desk.specs.declared.spaces.Space.{Space}
+use Rattle.lease_desk.specs.Picture.{ArenaPicture}
+use Rattle.lease_desk.specs.Spaces.{picture_of, pictures, AreSpaces, IsSpace}
+use Rattle.lease_desk.specs.Carved.{IsCarved, IsUncarved}
+use Rattle.lease_desk.proofs.PlaceLemmas.{slice_get_mapped}
+use Rattle.lease_desk.proofs.SpaceLemmas.{with_arena, carved_space, carved_gives, spaces_after, gives_before}
+
+-- no choice is made only where no address serves
+pub none_serves : (policy : Policy) (quantum : ℕ) (q : Request) (free : List Holding) (rover : ℕ) → IsChoice policy quantum q free rover None → (base : ℕ) → Serves quantum q free base → ⊥
+none_serves Best quantum q free rover none = none
+none_serves Next quantum q free rover choice = past choice.0 choice.2
+  where
+    past : (o : Option ℕ) → MatchOption o (IsLeast (Serves quantum q free) None) (λ b. ◌≡◌ {A = Option ℕ} None (Some b)) → (base : ℕ) → Serves quantum q free base → ⊥
+    past None none = none
+    past (Some b) is = (let e : None ≡ Some b = is in λ base serves. cc)
+none_serves Instant quantum q free rover choice = elim choice [
+  | inl plain ↦ (let e : None ≡ Some plain.1.0.range.base = plain.1.2 in λ base serves. cc)
+  | inr none ↦ none.1
+]
+
+-- an address where a segment was carved serves
+pub carved_serves : (quantum : ℕ) (q : Request) (old new : ArenaState) (h : Holding) → Carves old new h → Fits quantum q h.range.base h.range.len → Serves quantum q old.free h.range.base
+carved_serves quantum q old new h carved fits = (
+  carved.among.0,
+  carved.range,
+  carved.among.1,
+  carved.among.2,
+  record {
+    fits = subst (Fits quantum q h.range.base) fits.size fits;
+    from = carved.inside.from;
+    to = (let inside = carved.inside.to in omega (arith, inside, fits.size));
+  },
+)
+
+module _ (spaces : List Space) (place : ℕ) (s : Space) (new : ArenaState) (q : Request) (sound : AreSpaces spaces) (here : slice_get spaces place ≡ Some s) where
+  is : IsSpace place s
+  is = sound place s here
+
+  free_before : (h : Holding) → ((u : ℕ) → covering_held u s.arena.free ≡ covering_held u new.free + covers u h.range) → (u : ℕ) → Covers h.range u → 0 < covering_held u s.arena.free
+  free_before h units u covered = (let one : covers u h.range ≡ 1 = (counts_the_unit u h.range).1.1 covered in omega (arith, one, units u))
+
+  sound_same : new ≡ s.arena → AreSpaces (set spaces place (with_arena s new))
+  sound_same same = spaces_after spaces place (with_arena s new) sound (subst (λ a. IsSpace place (with_arena s a)) (sym same) is)
+
+  pub carve_sound : (r : Result Tag ArenaFault) → IfOk r (λ t. Carves s.arena new t.holding) → OnErr r (new ≡ s.arena)
+      → IfOk r (λ t. Gains (ranges_of s.arena.allocated) (ranges_of new.allocated) t.holding)
+      → IfOk r (λ t. (u : ℕ) → covering_held u s.arena.free ≡ covering_held u new.free + covers u t.holding.range)
+      → AreSpaces (set spaces place (with_arena s new))
+  carve_sound (Ok t) carved err gains units = spaces_after spaces place (with_arena s new) sound (carved_space place s new t.holding is carved gains units)
+  carve_sound (Err e) carved err gains units = sound_same err
+
+  pub carve_carved : (r : Result Tag ArenaFault) → ((r ≡ Err BadRequest → ¬ IsGood s.arena.quantum q) × ((¬ IsGood s.arena.quantum q) → r ≡ Err BadRequest))
+      → IfOk r (λ t. Fits s.arena.quantum q t.holding.range.base t.holding.range.len) → IfOk r (λ t. t ≡ direct s.arena.id t.holding)
+      → IfOk r (λ t. Carves s.arena new t.holding)
+      → IfOk r (λ t. Gains (ranges_of s.arena.allocated) (ranges_of new.allocated) t.holding)
+      → IfOk r (λ t. (u : ℕ) → covering_held u s.arena.free ≡ covering_held u new.free + covers u t.holding.range)
+      → IfOk r (λ t. (x : ArenaPicture) × IsCarved (pictures spaces) (pictures (set spaces place (with_arena s new))) place x q t)
+  carve_carved (Ok t) bad fits segment carved gains units = (
+    picture_of s,
+    record {
+      here = slice_get_mapped picture_of spaces place s here;
+      home = home;
+      route = ap (λ (x : Tag). x.route) segment;
+      not_bad = λ not_good. (let e : Ok t ≡ Err BadRequest = bad.1 not_good in cc);
+      serves = (t.holding.range.base, carved_serves s.arena.quantum q s.arena new t.holding carved fits);
+      fits = fits;
+      free = free_before t.holding units;
+      back = gives_before spaces place s (with_arena s new) t home here (carved_gives place s new t home carved gains units);
+    },
+  )
+    where
+      home : t.arena ≡ place
+      home = ap (λ (x : Tag). x.arena) segment ∙ is.id
+  carve_carved (Err e) bad fits segment carved gains units = tt
+
+  pub carve_refused : (r : Result Tag ArenaFault) → IfErr r (RefusesCarve s.arena q) → IfErr r (λ fault. (x : ArenaPicture) × IsUncarved (pictures spaces) place x q fault)
+  carve_refused (Ok t) refused = tt
+  carve_refused (Err BadRequest) bad = (picture_of s, record { here = slice_get_mapped picture_of spaces place s here; why = bad })
+  carve_refused (Err NoFit) none = (picture_of s, record { here = slice_get_mapped picture_of spaces place s here; why = (none.0, λ has. none_serves s.arena.policy s.arena.quantum q s.arena.free s.arena.rover none.1 has.0 has.1) })
+  carve_refused (Err Overlaps) refused = absurd refused
+  carve_refused (Err NotAligned) refused = absurd refused
+  carve_refused (Err NoMemory) refused = (picture_of s, record { here = slice_get_mapped picture_of spaces place s here; why = refused.0 })

@@ -1,0 +1,12 @@
+pub mod PlaceLemmas
+pub mod Standing
+pub mod Exporting
+pub mod SpaceLemmas
+pub mod ToldLemmas
+pub mod SteadyLemmas
+pub mod AnswerLemmas
+pub mod CarveLemmas
+pub mod OrderLemmas
+pub mod SetupLemmas
+pub mod StepLemmas
+pub mod RunLemmas

@@ -1,0 +1,69 @@
+-- Each unit is in one place between any two lines.
+use Rattle.std.proofs.Common.{◌≡◌, ℕ, ◌+◌, Bool, true, false, cond, refl, sym, subst, ap, ◌∙◌, List, [], ◌∷◌, map, filter, Some, arith}
+use Rattle.std.specs.Prelude.{slice_get, sum_by, ◌==◌}
+use Rattle.std.specs.List.{flat_map}
+use Rattle.std.proofs.lemmas.List.Sums.{sum_by-cons, sum_by-append}
+use Rattle.deed_core.specs.Holding.{Holding}
+use Rattle.deed_core.specs.Covering.{covers_held}
+use Rattle.lease_book.specs.Account.{Lease, Account}
+use Rattle.lease_book.specs.Ledger.{Ledger, leased, leased_by, segments}
+use Rattle.lease_desk.specs.declared.spaces.Space.{Space}
+use Rattle.lease_desk.specs.Picture.{ArenaPicture, Free, Leased, Stay, leases_in, stays_of, OnePlace, within, IsOrderly}
+use Rattle.lease_desk.specs.Spaces.{picture_of, desk_of, IsSteady, IsSpace}
+use Rattle.lease_desk.proofs.PlaceLemmas.{mapped, slice_get_mapped}
+
+weigh-map : {X Y : Type 0} (g : Y → ℕ) (h : X → Y) (xs : List X) → sum_by g (map h xs) ≡ sum_by (λ x. g (h x)) xs
+weigh-map g h [] = refl
+weigh-map g h (x ∷ xs) = sum_by-cons g (h x) (map h xs) ∙ ap (λ n. g (h x) + n) (weigh-map g h xs) ∙ sym (sum_by-cons (λ y. g (h y)) x xs)
+
+abbrev weight : (Holding → ℕ) → Stay → ℕ
+weight f s = f s.holding
+
+abbrev stay_of : ℕ → Lease → Stay
+stay_of c l = record { place = Leased c l.incarnation; holding = l.segment.holding }
+
+module _ (k : ℕ) (f : Holding → ℕ) where
+  lease_one : (b : Bool) (c : ℕ) (l : Lease) (kept ls : List Lease) → sum_by (weight f) (map (stay_of c) kept) ≡ sum_by (within k f) (segments ls)
+      → sum_by (weight f) (map (stay_of c) (cond b (l ∷ kept) kept)) ≡ cond b (f l.segment.holding) 0 + sum_by (within k f) (segments ls)
+  lease_one true c l kept ls more = omega (arith, more, sum_by-cons (weight f) (stay_of c l) (map (stay_of c) kept))
+  lease_one false c l kept ls more = omega (arith, more)
+
+  leases_weigh : (c : ℕ) (ls : List Lease) → sum_by (weight f) (map (stay_of c) (filter (λ (l : Lease). l.segment.arena == k) ls)) ≡ sum_by (within k f) (segments ls)
+  leases_weigh c [] = refl
+  leases_weigh c (l ∷ ls) = lease_one (l.segment.arena == k) c l (filter (λ (x : Lease). x.segment.arena == k) ls) ls (leases_weigh c ls) ∙ sym (sum_by-cons (within k f) l.segment (segments ls))
+
+  accounts_weigh : (accounts : List Account) → sum_by (weight f) (flat_map (leases_in k) accounts) ≡ sum_by (within k f) (leased_by accounts)
+  accounts_weigh [] = refl
+  accounts_weigh (a ∷ accounts) = sum_by-append (weight f) (leases_in k a) (flat_map (leases_in k) accounts)
+      ∙ ap (λ n. n + sum_by (weight f) (flat_map (leases_in k) accounts)) (leases_weigh a.client a.leases)
+      ∙ ap (λ n. sum_by (within k f) (segments a.leases) + n) (accounts_weigh accounts)
+      ∙ sym (sum_by-append (within k f) (segments a.leases) (leased_by accounts))
+
+  -- what the places of an arena weigh
+  pub stays_weigh : (x : ArenaPicture) (book : Ledger) → sum_by (weight f) (stays_of k x book) ≡ sum_by f x.free + sum_by (within k f) (leased book)
+  stays_weigh x book = sum_by-append (weight f) (map free_stay x.free) (flat_map (leases_in k) book.accounts)
+      ∙ ap (λ n. n + sum_by (weight f) (flat_map (leases_in k) book.accounts)) (weigh-map (weight f) free_stay x.free)
+      ∙ ap (λ n. sum_by f x.free + n) (accounts_weigh book.accounts)
+    where
+      free_stay : Holding → Stay
+      free_stay h = record { place = Free; holding = h }
+
+one_place : (spaces : List Space) (book : Ledger) (k : ℕ) (s : Space) → IsSteady spaces book → slice_get spaces k ≡ Some s → OnePlace k (picture_of s) book
+one_place spaces book k s steady at = record {
+  places = λ u.
+      let all = stays_weigh k (covers_held u) (picture_of s) book in
+      let out = steady.exports.each k (picture_of s) (covers_held u) (slice_get_mapped picture_of spaces k s at) in
+      omega (arith, all, out, is.covers u);
+  once = is.once;
+}
+  where
+    is : IsSpace k s
+    is = steady.sound k s at
+
+pub orderly : (spaces : List Space) (book : Ledger) → IsSteady spaces book → IsOrderly (desk_of spaces book)
+orderly spaces book steady = record {
+  places = λ k x at.
+      let s = mapped picture_of spaces k x at in
+      subst (λ z. OnePlace k z book) (sym s.2) (one_place spaces book k s.0 steady s.1);
+  exports = steady.exports;
+}

@@ -1,0 +1,47 @@
+-- Runs of the lease machine.
+use Rattle.std.proofs.Common.{◌≡◌, ℕ, suc, zero, ◌+◌, ◌<◌, ◌≤◌, refl, sym, subst, List, [], ◌∷◌, length, get_or, AllPairs, arith}
+use Rattle.std.specs.Prelude.{sum_by}
+use Rattle.std.proofs.lemmas.List.Sums.{sum_by-cons, get_or-le-sum_by}
+use Rattle.deed_core.specs.Covering.{covers, covers_held}
+use Rattle.deed_core.proofs.Units.{counts_the_unit}
+use Rattle.lease_book.specs.Ledger.{leased}
+use Rattle.lease_desk.specs.Picture.{Picture, OnePlace, within, stray, IsOrderly}
+use Rattle.lease_desk.specs.Laws.{Runs, AreApart, LeasesStayApart, UnitsHaveOnePlace}
+use Rattle.lease_desk.proofs.PlaceLemmas.{slice_get_some}
+use Rattle.lease_desk.proofs.Exporting.{not_stray, within_own}
+use Rattle.lease_desk.proofs.OrderLemmas.{stays_weigh}
+
+stays_orderly : (old new : Picture) (lines : List (List ℕ × List ℕ)) → IsOrderly old → Runs old lines new → IsOrderly new
+stays_orderly old new [] orderly run = subst IsOrderly (sym run) orderly
+stays_orderly old new (line ∷ lines) orderly run = stays_orderly run.0 new lines run.1.orderly run.2
+
+two_weigh : {X : Type 0} (f : X → ℕ) (xs : List X) (i j : ℕ) (d : X) → i < j → j < length xs → f (get_or xs i d) + f (get_or xs j d) ≤ sum_by f xs
+two_weigh f [] i j d lt below = absurd (omega (arith, below))
+two_weigh f (x ∷ xs) zero zero d lt below = absurd (omega (arith, lt))
+two_weigh f (x ∷ xs) zero (suc j) d lt below = omega (arith, sum_by-cons f x xs, get_or-le-sum_by f xs j d (omega (arith, below)))
+two_weigh f (x ∷ xs) (suc i) zero d lt below = absurd (omega (arith, lt))
+two_weigh f (x ∷ xs) (suc i) (suc j) d lt below = omega (arith, sum_by-cons f x xs, two_weigh f xs i j d (omega (arith, lt)) (omega (arith, below)))
+
+-- a unit of an arena is leased once at most
+leased_once : (d : Picture) (k u : ℕ) → IsOrderly d → k < length d.arenas → sum_by (within k (covers_held u)) (leased d.book) ≤ 1
+leased_once d k u orderly inside =
+    let x = slice_get_some d.arenas k inside in
+    let place : OnePlace k x.0 d.book = orderly.places k x.0 x.1 in
+    omega (arith, place.places u, place.once u, stays_weigh k (covers_held u) x.0 d.book)
+
+apart_now : (d : Picture) → IsOrderly d → AllPairs AreApart (leased d.book)
+apart_now d orderly i j e lt below same u first second =
+    let a : ℕ = (get_or (leased d.book) i e).arena in
+    let one = within_own a (covers_held u) (get_or (leased d.book) i e) refl in
+    let two = within_own a (covers_held u) (get_or (leased d.book) j e) (sym same) in
+    let here : covers u (get_or (leased d.book) i e).holding.range ≡ 1 = (counts_the_unit u (get_or (leased d.book) i e).holding.range).1.1 first in
+    let there : covers u (get_or (leased d.book) j e).holding.range ≡ 1 = (counts_the_unit u (get_or (leased d.book) j e).holding.range).1.1 second in
+    let home : a < length d.arenas = (not_stray (length d.arenas) (get_or (leased d.book) i e)
+    (let most = get_or-le-sum_by (stray (length d.arenas)) (leased d.book) i e (omega (arith, lt, below)) in omega (arith, most, orderly.exports.none))).1 in
+    omega (arith, one, two, here, there, two_weigh (within a (covers_held u)) (leased d.book) i j e lt below, leased_once d a u orderly home)
+
+pub leases_stay_apart : LeasesStayApart
+leases_stay_apart old new lines orderly run = apart_now new (stays_orderly old new lines orderly run)
+
+pub units_have_one_place : UnitsHaveOnePlace
+units_have_one_place old new lines orderly run = (stays_orderly old new lines orderly run).places

@@ -1,0 +1,234 @@
+-- What an arena or a span more leaves.
+use Rattle.std.proofs.Common.{◌≡◌, ◌≢◌, ℕ, suc, zero, ◌+◌, ◌<◌, ◌≤◌, refl, sym, subst, ap, ◌∙◌, inl, inr, List, [], ◌∷◌, ◌++◌, map, length, set, Some, None, All, Any, Contains, arith, length-append}
+use Rattle.std.specs.Prelude.{slice_get, sum_by}
+use Rattle.std.specs.List.{AllByRecursion}
+use Rattle.std.proofs.lemmas.List.{length-map, length-set}
+use Rattle.std.proofs.lemmas.List.Sums.{sum_by-cons, sum_by-append}
+use Rattle.std.proofs.lemmas.Bool.{cases_eq}
+use Rattle.std.specs.Ordering.{nat_cmp}
+use Rattle.std.specs.FinMap as finmap
+use Rattle.std.specs.FinMap.{FinMap, get, entries, get-empty, len-empty, len-entries, get-entries, find}
+use Rattle.deed_core.specs.Extent.{Extent, Overlap}
+use Rattle.deed_core.specs.Holding.{Holding}
+use Rattle.deed_core.specs.Tag.{Tag}
+use Rattle.deed_core.specs.Covering.{covers, covers_held, covering_held}
+use Rattle.deed_core.proofs.Units.{counts_the_unit}
+use Rattle.tag_arena.specs.Layout.{FreeIsLongestRuns, IsLongestRun, IsRun, IsPartOf}
+use Rattle.tag_arena.specs.ArenaState.{ArenaState, spans_of, layout_of, ranges_of}
+use Rattle.tag_arena.specs.Calls.{after_add, IsClear}
+use Rattle.lease_book.specs.Entry.{Entry, Hello, Settled, Swept, reply_of}
+use Rattle.lease_book.specs.Ledger.{Ledger, leased}
+use Rattle.lease_book.specs.declared.receipts.Reply.{Reply}
+use Rattle.lease_book.specs.declared.receipts.Reply.TheVariants.{Granted, Released, Refused}
+use Rattle.lease_desk.specs.declared.spaces.Space.{Space}
+use Rattle.lease_desk.specs.Picture.{ArenaPicture, within, stray, Exports}
+use Rattle.lease_desk.specs.Setup.{NewArena, CanAdd, AddsArena, AddsSpan, with_span, fresh}
+use Rattle.lease_desk.specs.Told.{IsOfArenas, IsPossible, IsTold}
+use Rattle.lease_desk.specs.Roots.{space_of}
+use Rattle.lease_desk.specs.Spaces.{picture_of, pictures, IsSpace, AreSpaces, IsSteady}
+use Rattle.lease_desk.proofs.PlaceLemmas.{written, pushed}
+use Rattle.lease_desk.proofs.Exporting.{not_stray, stray_none, within_other}
+
+nil_of : {X : Type 0} (xs : List X) → length xs ≡ 0 → xs ≡ []
+nil_of [] none = refl
+nil_of (x ∷ xs) none = absurd (omega (arith, none))
+
+no_ranges : ranges_of finmap.empty ≡ []
+no_ranges = ap (map (λ (e : ℕ × Holding). e.1)) (nil_of (entries {R = nat_cmp} finmap.empty) (sym (len-entries {R = nat_cmp} finmap.empty) ∙ len-empty nat_cmp Holding))
+
+new_is_space : (id : ℕ) (n : NewArena) (h : Holding) → IsSpace id (space_of id n h)
+new_is_space id n h = record {
+  id = refl;
+  own = refl;
+  keyed = λ b x at. absurd (let none : None ≡ Some x = sym (get-empty nat_cmp b) ∙ at in cc);
+  covers = λ u. omega (arith, ap (sum_by (covers_held u)) no_ranges);
+  once = λ u. (let one = (counts_the_unit u h.range).0 in omega (arith, one, sum_by-cons (covers_held u) h []));
+  count = refl;
+  few = omega arith;
+}
+
+-- the arena that was added
+pub added_sound : (spaces items : List Space) (id : ℕ) (n : NewArena) (h : Holding) (s : Space) → AreSpaces spaces → items ≡ spaces ++ s ∷ [] → id ≡ length spaces → s ≡ space_of id n h → AreSpaces items
+added_sound spaces items id n h s sound is place made k x at = elim (pushed spaces k s x (sym (ap (λ xs. slice_get xs k) is) ∙ at)) [
+  | inl here ↦ subst (λ z. IsSpace k z) (sym (here.1 ∙ made)) (subst (λ i. IsSpace i (space_of id n h)) (place ∙ sym here.0) (new_is_space id n h))
+  | inr there ↦ sound k x there
+]
+
+map-push : {X Y : Type 0} (f : X → Y) (xs : List X) (y : X) → map f (xs ++ y ∷ []) ≡ map f xs ++ f y ∷ []
+map-push f [] y = refl
+map-push f (x ∷ xs) y = ap (λ ys. f x ∷ ys) (map-push f xs y)
+
+abbrev fresh_with : NewArena → Holding → List Holding → ArenaPicture
+fresh_with n h allocated = record { name = n.name; quantum = n.quantum; policy = n.policy; spans = h ∷ []; free = h ∷ []; allocated = allocated }
+
+abbrev held_by : ℕ → Extent → Holding
+held_by root range = record { root = root; range = range }
+
+pub added_arena : (spaces items : List Space) (id : ℕ) (n : NewArena) (range : Extent) (number : ℕ) (s : Space) → CanAdd (pictures spaces) n → range ≡ n.range → items ≡ spaces ++ s ∷ [] → s ≡ space_of id n (record { root = number; range = range }) → AddsArena n (pictures spaces) (pictures items)
+added_arena spaces items id n range number s can same is made = record {
+  root = number;
+  can = can;
+  added = ap pictures is ∙ map-push picture_of spaces s ∙ ap (λ (x : ArenaPicture). pictures spaces ++ x ∷ []) picture;
+}
+  where
+    picture : picture_of s ≡ fresh n (held_by number n.range)
+    picture = ap picture_of made ∙ ap (fresh_with n (held_by number range)) no_ranges ∙ ap (λ r. fresh n (held_by number r)) same
+
+-- no segment is of an arena past the last
+none_past : (out : List Tag) (n k : ℕ) (f : Holding → ℕ) → sum_by (stray n) out ≡ 0 → n ≤ k → sum_by (within k f) out ≡ 0
+none_past [] n k f none past = refl
+none_past (t ∷ out) n k f none past =
+    let one : stray n t ≡ 0 = omega (arith, none, sum_by-cons (stray n) t out) in
+    let rest : sum_by (stray n) out ≡ 0 = omega (arith, none, sum_by-cons (stray n) t out) in
+    let home = (not_stray n t one).1 in
+    let other : t.arena ≢ k = omega (arith, home, past) in
+    omega (arith, sum_by-cons (within k f) t out, within_other k f t other, none_past out n k f rest past)
+
+stray_more : (out : List Tag) (n m : ℕ) → sum_by (stray n) out ≡ 0 → n ≤ m → sum_by (stray m) out ≡ 0
+stray_more [] n m none more = refl
+stray_more (t ∷ out) n m none more =
+    let one : stray n t ≡ 0 = omega (arith, none, sum_by-cons (stray n) t out) in
+    let rest : sum_by (stray n) out ≡ 0 = omega (arith, none, sum_by-cons (stray n) t out) in
+    let home = not_stray n t one in
+    let below : t.arena < m = (let lt = home.1 in omega (arith, lt, more)) in
+    omega (arith, sum_by-cons (stray m) t out, stray_none m t home.0 below, stray_more out n m rest more)
+
+exports_pushed : (xs : List ArenaPicture) (y : ArenaPicture) (out : List Tag) → y.allocated ≡ [] → Exports xs out → Exports (xs ++ y ∷ []) out
+exports_pushed xs y out none e = record {
+  each = λ k z f at. elim (pushed xs k y z at) [
+    | inl here ↦ ap (λ (x : ArenaPicture). sum_by f x.allocated) here.1 ∙ ap (sum_by f) none ∙ sym (none_past out (length xs) k f e.none (omega (arith, here.0)))
+    | inr there ↦ e.each k z f there
+  ];
+  none = stray_more out (length xs) (length (xs ++ y ∷ [])) e.none (omega (arith, length-append xs (y ∷ [])));
+}
+
+wider_reply : (n m : ℕ) (r : Reply) → n ≤ m → IsOfArenas n r → IsOfArenas m r
+wider_reply n m (Granted a b l) more h = ((let lt = h.0 in omega (arith, lt, more)), h.1, h.2)
+wider_reply n m Released more h = tt
+wider_reply n m (Refused w) more h = tt
+
+wider_entry : (n m : ℕ) (e : Entry) → n ≤ m → IsPossible n e → IsPossible m e
+wider_entry n m (Hello c i) more h = h
+wider_entry n m (Settled c i k s) more h = (h.0, wider_reply n m (reply_of s) more h.1)
+wider_entry n m (Swept c i a b) more h = tt
+
+wider : (n m : ℕ) (es : List Entry) → n ≤ m → AllByRecursion (IsPossible n) es → AllByRecursion (IsPossible m) es
+wider n m [] more h = tt
+wider n m (e ∷ es) more h = (wider_entry n m e more h.0, wider n m es more h.1)
+
+pub steady_added : (n : NewArena) (spaces now : List Space) (book : Ledger) → IsSteady spaces book → AreSpaces now → AddsArena n (pictures spaces) (pictures now) → IsSteady now book
+steady_added n spaces now book steady sound adds = record {
+  few = (let room = adds.can.room.1 in omega (arith, room, count, length-map spaces picture_of));
+  sound = sound;
+  exports = subst (λ xs. Exports xs (leased book)) (sym adds.added) (exports_pushed (pictures spaces) (fresh n (held_by adds.root n.range)) (leased book) refl steady.exports);
+  told = record {
+    entries = steady.told.entries;
+    history = steady.told.history;
+    possible = wider (length spaces) (length now) steady.told.entries (omega (arith, count)) steady.told.possible;
+  };
+}
+  where
+    count : length now ≡ length spaces + 1
+    count = omega (arith, length-map now picture_of, length-map spaces picture_of, ap length adds.added, length-append (pictures spaces) (fresh n (held_by adds.root n.range) ∷ []))
+
+-- a span that is clear covers no unit of the others
+clear_none : (spans : List Holding) (e : Extent) (u : ℕ) → All (λ s. ¬ Overlap s.range e) spans → covers u e ≡ 1 → covering_held u spans ≡ 0
+clear_none [] e u clear one = refl
+clear_none (s ∷ spans) e u clear one = elim (cases_eq (covers u s.range) 0) [
+  | inl none ↦
+      let rest = clear_none spans e u (λ k d lt. clear (suc k) d (omega (arith, lt))) one in
+      omega (arith, none, rest, sum_by-cons (covers_held u) s spans)
+  | inr some ↦
+      let two : covers u s.range ≡ 1 = (let most = (counts_the_unit u s.range).0 in omega (arith, most, some)) in
+      let a = (counts_the_unit u s.range).1.0 two in
+      let b = (counts_the_unit u e).1.0 one in
+      absurd (clear 0 s (omega arith) ((let from = a.0 in let to = b.1 in omega (arith, from, to)), (let from = b.0 in let to = a.1 in omega (arith, from, to))))
+]
+
+spans_weigh : (a : ArenaState) (h : Holding) (f : Holding → ℕ) → sum_by f (spans_of (after_add a h)) ≡ sum_by f (spans_of a) + f h
+spans_weigh a h f = omega (arith, sum_by-append f (a.owned ++ h ∷ []) (map (λ (t : Tag). t.holding) a.imported), sum_by-append f a.owned (map (λ (t : Tag). t.holding) a.imported), sum_by-append f a.owned (h ∷ []), sum_by-cons f h [])
+
+-- an arena with one more span
+pub extended_space : (k : ℕ) (s : Space) (new : ArenaState) (h : Holding) → IsSpace k s → new ≡ after_add s.arena h → IsClear s.arena h.range → s.spans < 65536 → IsSpace k (record { name = s.name; arena = new; spans = s.spans + 1 })
+extended_space k s new h is same clear few = subst (λ a. IsSpace k (record { name = s.name; arena = a; spans = s.spans + 1 })) (sym same) (record {
+  id = is.id;
+  own = is.own;
+  keyed = is.keyed;
+  covers = λ u. (let units = is.covers u in omega (arith, units, spans_weigh s.arena h (covers_held u), sum_by-append (covers_held u) s.arena.free (h ∷ []), sum_by-cons (covers_held u) h []));
+  once = once;
+  count = (let many = is.count in omega (arith, many, length-append s.arena.owned (h ∷ [])));
+  few = omega (arith, few);
+})
+  where
+    once : (u : ℕ) → covering_held u (spans_of (after_add s.arena h)) ≤ 1
+    once u = elim (cases_eq (covers u h.range) 0) [
+      | inl none ↦ (let most = is.once u in omega (arith, most, none, spans_weigh s.arena h (covers_held u)))
+      | inr some ↦
+          let one : covers u h.range ≡ 1 = (let most = (counts_the_unit u h.range).0 in omega (arith, most, some)) in
+          omega (arith, one, clear_none (spans_of s.arena) h.range u clear one, spans_weigh s.arena h (covers_held u))
+    ]
+
+pub steady_spanned : (name : List ℕ) (e : Extent) (spaces now : List Space) (book : Ledger) → IsSteady spaces book → AreSpaces now → AddsSpan name e (pictures spaces) (pictures now) → IsSteady now book
+steady_spanned name e spaces now book steady sound adds = record {
+  few = (let f = steady.few in omega (arith, f, count));
+  sound = sound;
+  exports = subst (λ xs. Exports xs (leased book)) (sym adds.added) spanned;
+  told = subst (λ n. IsTold n book) (sym count) steady.told;
+}
+  where
+    count : length now ≡ length spaces
+    count = sym (length-map now picture_of) ∙ ap length adds.added ∙ length-set (pictures spaces) adds.place (with_span adds.arena (held_by adds.root e)) ∙ length-map spaces picture_of
+
+    spanned : Exports (set (pictures spaces) adds.place (with_span adds.arena (held_by adds.root e))) (leased book)
+    spanned = record {
+      each = λ k z f at. elim (written (pictures spaces) adds.place k (with_span adds.arena (held_by adds.root e)) z at) [
+        | inl here ↦ ap (λ (x : ArenaPicture). sum_by f x.allocated) here.1 ∙ steady.exports.each k adds.arena f (ap (slice_get (pictures spaces)) here.0 ∙ adds.finds.here)
+        | inr there ↦ steady.exports.each k z f there.1
+      ];
+      none = ap (λ n. sum_by (stray n) (leased book)) (length-set (pictures spaces) adds.place (with_span adds.arena (held_by adds.root e))) ∙ steady.exports.none;
+    }
+
+-- the front of a list has its places
+pub front_at : {X : Type 0} (xs ys : List X) (k : ℕ) (x : X) → slice_get xs k ≡ Some x → slice_get (xs ++ ys) k ≡ Some x
+front_at [] ys k x at = absurd (let e : None ≡ Some x = at in cc)
+front_at (z ∷ xs) ys zero x at = at
+front_at (z ∷ xs) ys (suc k) x at = front_at xs ys k x at
+
+nil_right : (xs : List Holding) → xs ++ [] ≡ xs
+nil_right [] = refl
+nil_right (x ∷ xs) = ap (λ ys. x ∷ ys) (nil_right xs)
+
+no_entries : (es : List (ℕ × Holding)) → map (λ e. e.1) es ≡ [] → es ≡ []
+no_entries [] none = refl
+no_entries (e ∷ es) none = absurd (let n = ap length none in omega (arith, n))
+
+nothing_at : (m : FinMap nat_cmp Holding) (b : ℕ) → ranges_of m ≡ [] → get m b ≡ None
+nothing_at m b none = get-entries m b ∙ ap (find nat_cmp b) (no_entries (entries m) none)
+
+-- the free ranges are whole spans where nothing is allocated
+whole_free : (owned free : List Holding) (m : FinMap nat_cmp Holding) → ranges_of m ≡ [] → FreeIsLongestRuns (record { spans = owned; free = free; allocated = m }) → All (λ s. ¬ Contains free s) owned → free ≡ []
+whole_free owned [] m none runs out = refl
+whole_free owned (r ∷ rs) m none runs out = absurd (out inside.0 inside.1 inside.2 (subst (λ z. Contains (r ∷ rs) z) (same ∙ sym inside.3) head))
+  where
+    head : Contains (r ∷ rs) r
+    head = (0, omega arith, refl)
+
+    longest : IsLongestRun owned m r
+    longest = (runs r).0 head
+
+    inside : Any (λ s. IsPartOf s r) owned
+    inside = longest.run.inside
+
+    run : IsRun owned m inside.1
+    run = record {
+      some = (let some = longest.run.some in let from = inside.4.from in let to = inside.4.to in omega (arith, some, from, to));
+      inside = (inside.0, inside.1, inside.2, inside.3, record { root = refl; from = omega arith; to = omega arith });
+      free = λ u covered allocated. (let e : None ≡ Some allocated.1 = sym (nothing_at m allocated.0 none) ∙ allocated.2 in cc);
+    }
+
+    same : r ≡ inside.1
+    same = sym (longest.longest inside.1 run (record { from = inside.4.from; to = inside.4.to }))
+
+pub nothing_free : (a : ArenaState) → a.imported ≡ [] → ranges_of a.allocated ≡ [] → FreeIsLongestRuns (layout_of a) → All (λ s. ¬ Contains a.free s) a.owned → a.free ≡ []
+nothing_free a own none runs out = whole_free a.owned a.free a.allocated none
+    (subst (λ spans. FreeIsLongestRuns (record { spans = spans; free = a.free; allocated = a.allocated })) (ap (λ (ts : List Tag). a.owned ++ map (λ (t : Tag). t.holding) ts) own ∙ nil_right a.owned) runs) out

@@ -1,0 +1,176 @@
+-- What a carve and a free leave of the arenas of a desk.
+use Rattle.std.proofs.Common.{◌≡◌, ◌⊎◌, ℕ, ◌+◌, ◌<◌, ◌≤◌, Bool, true, false, cond, nat_eq, refl, sym, subst, ap, ◌∙◌, inl, inr, List, [], ◌∷◌, ◌++◌, map, length, set, Option, Some, None, arith}
+use Rattle.std.specs.Prelude.{sum_by, slice_get}
+use Rattle.std.proofs.lemmas.List.{length-map, map-set}
+use Rattle.std.proofs.lemmas.List.Sums.{sum_by-cons}
+use Rattle.std.proofs.lemmas.Bool.Decides.{nat_tests}
+use Rattle.std.specs.Ordering.{nat_cmp, eq_by_cmp}
+use Rattle.std.specs.Cmp.{unsigned_tied, nat_cmp_total}
+use Rattle.std.specs.FinMap.{FinMap, get, insert, remove, get-insert, get-remove}
+use Rattle.deed_core.specs.Holding.{Holding}
+use Rattle.deed_core.specs.Tag.{Tag}
+use Rattle.deed_core.specs.Covering.{covers, covers_held, covering_held}
+use Rattle.deed_core.specs.Weights.{Gains, Loses}
+use Rattle.deed_core.specs.declared.segments.Route.TheVariants.{Direct}
+use Rattle.tag_arena.specs.ArenaState.{ArenaState, spans_of, ranges_of}
+use Rattle.tag_arena.specs.Calls.{Carves, Frees, after_carve, after_free}
+use Rattle.lease_desk.specs.declared.spaces.Space.{Space}
+use Rattle.lease_desk.specs.Picture.{within, stray, Exports}
+use Rattle.lease_desk.specs.Moves.{TakesBack, GivesBack}
+use Rattle.lease_desk.specs.Spaces.{picture_of, pictures, IsKeyed, IsSpace, AreSpaces, IsOut}
+use Rattle.lease_desk.proofs.PlaceLemmas.{written, slice_get_some, slice_get_mapped}
+use Rattle.lease_desk.proofs.Standing.{stands, same, same_itself}
+use Rattle.lease_desk.proofs.Exporting.{within_own, not_stray, gives_one, gives_one_back}
+
+not_taken : (b : Bool) (o : Option Holding) (h : Holding) → cond b None o ≡ Some h → o ≡ Some h
+not_taken true o h e = (let n : None ≡ Some h = e in cc)
+not_taken false o h e = e
+
+put_or_was : (b : Bool) (v h : Holding) (o : Option Holding) → cond b (Some v) o ≡ Some h → ((b ≡ true) × (v ≡ h)) ⊎ (o ≡ Some h)
+put_or_was true v h o e = inl (refl, (let s : Some v ≡ Some h = e in cc))
+put_or_was false v h o e = inr e
+
+keyed_less : (m : FinMap nat_cmp Holding) (k : ℕ) → IsKeyed m → IsKeyed (remove m k)
+keyed_less m k keyed b h at = keyed b h (not_taken (eq_by_cmp nat_cmp b k) (get m b) h (sym (get-remove nat_cmp_total m k b) ∙ at))
+
+keyed_more : (m : FinMap nat_cmp Holding) (k : ℕ) (v : Holding) → v.range.base ≡ k → IsKeyed m → IsKeyed (insert m k v)
+keyed_more m k v base keyed b h at = elim (put_or_was (eq_by_cmp nat_cmp b k) v h (get m b) (sym (get-insert nat_cmp_total m k v b) ∙ at)) [
+  | inl is ↦
+      let tied : nat_eq b k ≡ true = sym (unsigned_tied b k) ∙ is.0 in
+      let here : b ≡ k = grind (arith, nat_tests) in
+      ap (λ (x : Holding). x.range.base) (sym is.1) ∙ base ∙ sym here
+  | inr was ↦ keyed b h was
+]
+
+-- the arena of a space with another state
+abbrev pub with_arena : Space → ArenaState → Space
+with_arena s a = record { name = s.name; arena = a; spans = s.spans }
+
+-- a carve or a free leaves these
+pub record KeepsSpans (old new : ArenaState) : Type 0 where
+  pub id : new.id ≡ old.id
+  pub quantum : new.quantum ≡ old.quantum
+  pub policy : new.policy ≡ old.policy
+  pub owned : new.owned ≡ old.owned
+  pub imported : new.imported ≡ old.imported
+
+kept_by : (old new : ArenaState) (f : ArenaState → ArenaState) → new ≡ f old → KeepsSpans old (f old) → KeepsSpans old new
+kept_by old new f e keeps = subst (λ a. KeepsSpans old a) (sym e) keeps
+
+pub same_spans : (old new : ArenaState) → KeepsSpans old new → spans_of new ≡ spans_of old
+same_spans old new keeps = ap (λ os. os ++ map (λ (t : Tag). t.holding) new.imported) keeps.owned ∙ ap (λ ts. old.owned ++ map (λ (t : Tag). t.holding) ts) keeps.imported
+
+-- a space whose arena has changed, in weights
+space_after : (k : ℕ) (s : Space) (new : ArenaState) → IsSpace k s → KeepsSpans s.arena new → IsKeyed new.allocated
+    → ((u : ℕ) → covering_held u new.free + covering_held u (ranges_of new.allocated) ≡ covering_held u s.arena.free + covering_held u (ranges_of s.arena.allocated))
+    → IsSpace k (with_arena s new)
+space_after k s new is keeps keyed units = record {
+  id = keeps.id ∙ is.id;
+  own = keeps.imported ∙ is.own;
+  keyed = keyed;
+  covers = λ u. units u ∙ is.covers u ∙ ap (covering_held u) (sym (same_spans s.arena new keeps));
+  once = λ u. subst (λ spans. covering_held u spans ≤ 1) (sym (same_spans s.arena new keeps)) (is.once u);
+  count = is.count ∙ ap length (sym keeps.owned);
+  few = is.few;
+}
+
+freed_keeps : (old new : ArenaState) (piece : Holding) → Frees old new piece None → KeepsSpans old new
+freed_keeps old new piece freed = kept_by old new (λ a. after_free a piece freed.merged) freed.after.1 (record { id = refl; quantum = refl; policy = refl; owned = refl; imported = refl })
+
+-- a segment went back to its arena
+pub freed_space : (k : ℕ) (s : Space) (new : ArenaState) (t : Tag) → IsSpace k s → Frees s.arena new t.holding None
+    → Loses (ranges_of s.arena.allocated) (ranges_of new.allocated) t.holding
+    → ((u : ℕ) → covering_held u new.free + 0 ≡ covering_held u s.arena.free + covers u t.holding.range)
+    → IsSpace k (with_arena s new)
+freed_space k s new t is freed loses units = space_after k s new is keeps keyed (λ u. omega (arith, units u, loses (covers_held u)))
+  where
+    keeps : KeepsSpans s.arena new
+    keeps = freed_keeps s.arena new t.holding freed
+
+    keyed : IsKeyed new.allocated
+    keyed = subst IsKeyed (sym (ap (λ (a : ArenaState). a.allocated) freed.after.1)) (keyed_less s.arena.allocated t.holding.range.base is.keyed)
+
+pub freed_gives : (k : ℕ) (s : Space) (new : ArenaState) (t : Tag) → t.arena ≡ k → Frees s.arena new t.holding None
+    → Loses (ranges_of s.arena.allocated) (ranges_of new.allocated) t.holding
+    → ((u : ℕ) → covering_held u new.free + 0 ≡ covering_held u s.arena.free + covers u t.holding.range)
+    → TakesBack k (t ∷ []) (picture_of s) (picture_of (with_arena s new))
+freed_gives k s new t home freed loses units = record {
+  name = refl;
+  quantum = keeps.quantum;
+  policy = keeps.policy;
+  spans = same_spans s.arena new keeps;
+  allocated = λ f. omega (arith, loses f, within_own k f t home, sum_by-cons (within k f) t []);
+  free = λ u. omega (arith, units u, within_own k (covers_held u) t home, sum_by-cons (within k (covers_held u)) t []);
+}
+  where
+    keeps : KeepsSpans s.arena new
+    keeps = freed_keeps s.arena new t.holding freed
+
+carved_keeps : (old new : ArenaState) (piece : Holding) → Carves old new piece → KeepsSpans old new
+carved_keeps old new piece carved = kept_by old new (λ a. after_carve a carved.range piece) carved.after (record { id = refl; quantum = refl; policy = refl; owned = refl; imported = refl })
+
+-- a segment was carved
+pub carved_space : (k : ℕ) (s : Space) (new : ArenaState) (h : Holding) → IsSpace k s → Carves s.arena new h
+    → Gains (ranges_of s.arena.allocated) (ranges_of new.allocated) h
+    → ((u : ℕ) → covering_held u s.arena.free ≡ covering_held u new.free + covers u h.range)
+    → IsSpace k (with_arena s new)
+carved_space k s new h is carved gains units = space_after k s new is keeps keyed (λ u. omega (arith, units u, gains (covers_held u)))
+  where
+    keeps : KeepsSpans s.arena new
+    keeps = carved_keeps s.arena new h carved
+
+    keyed : IsKeyed new.allocated
+    keyed = subst IsKeyed (sym (ap (λ (a : ArenaState). a.allocated) carved.after)) (keyed_more s.arena.allocated h.range.base h refl is.keyed)
+
+pub carved_gives : (k : ℕ) (s : Space) (new : ArenaState) (t : Tag) → t.arena ≡ k → Carves s.arena new t.holding
+    → Gains (ranges_of s.arena.allocated) (ranges_of new.allocated) t.holding
+    → ((u : ℕ) → covering_held u s.arena.free ≡ covering_held u new.free + covers u t.holding.range)
+    → TakesBack k (t ∷ []) (picture_of (with_arena s new)) (picture_of s)
+carved_gives k s new t home carved gains units = record {
+  name = refl;
+  quantum = sym keeps.quantum;
+  policy = sym keeps.policy;
+  spans = sym (same_spans s.arena new keeps);
+  allocated = λ f. omega (arith, gains f, within_own k f t home, sum_by-cons (within k f) t []);
+  free = λ u. omega (arith, units u, within_own k (covers_held u) t home, sum_by-cons (within k (covers_held u)) t []);
+}
+  where
+    keeps : KeepsSpans s.arena new
+    keeps = carved_keeps s.arena new t.holding carved
+
+-- one space was written
+pub spaces_after : (spaces : List Space) (k : ℕ) (s : Space) → AreSpaces spaces → IsSpace k s → AreSpaces (set spaces k s)
+spaces_after spaces k s sound is j x at = elim (written spaces k j s x at) [
+  | inl here ↦ subst (λ z. IsSpace j z) (sym here.1) (subst (λ i. IsSpace i s) (sym here.0) is)
+  | inr there ↦ sound j x there.1
+]
+
+pub gives_after : (spaces : List Space) (k : ℕ) (s now : Space) (t : Tag) → t.arena ≡ k → slice_get spaces k ≡ Some s → TakesBack k (t ∷ []) (picture_of s) (picture_of now) → GivesBack (t ∷ []) (pictures spaces) (pictures (set spaces k now))
+gives_after spaces k s now t home at taken = subst (λ xs. GivesBack (t ∷ []) (pictures spaces) xs) (sym (map-set picture_of spaces k now))
+    (gives_one (pictures spaces) k (picture_of s) (picture_of now) t home (slice_get_mapped picture_of spaces k s at) taken)
+
+pub gives_before : (spaces : List Space) (k : ℕ) (s now : Space) (t : Tag) → t.arena ≡ k → slice_get spaces k ≡ Some s → TakesBack k (t ∷ []) (picture_of now) (picture_of s) → GivesBack (t ∷ []) (pictures (set spaces k now)) (pictures spaces)
+gives_before spaces k s now t home at taken = subst (λ xs. GivesBack (t ∷ []) xs (pictures spaces)) (sym (map-set picture_of spaces k now))
+    (gives_one_back (pictures spaces) k (picture_of s) (picture_of now) t home (slice_get_mapped picture_of spaces k s at) taken)
+
+-- a segment that is out is allocated in its arena
+pub out_of : (spaces : List Space) (t : Tag) (out : List Tag) → AreSpaces spaces → Exports (pictures spaces) (t ∷ out) → IsOut spaces t
+out_of spaces t out sound exports = record {
+  space = s.0;
+  here = s.1;
+  tagged = record { arena = sym is.id; route = home.0; stands = stands s.0.arena.allocated t.holding is.keyed weighs };
+}
+  where
+    home : (t.route ≡ Direct) × (t.arena < length (pictures spaces))
+    home = not_stray (length (pictures spaces)) t (omega (arith, exports.none, sum_by-cons (stray (length (pictures spaces))) t out))
+
+    s : (x : Space) × (slice_get spaces t.arena ≡ Some x)
+    s = slice_get_some spaces t.arena (omega (arith, home.1, length-map spaces picture_of))
+
+    is : IsSpace t.arena s.0
+    is = sound t.arena s.0 s.1
+
+    weighs : 0 < sum_by (same t.holding) (ranges_of s.0.arena.allocated)
+    weighs =
+        let all = exports.each t.arena (picture_of s.0) (same t.holding) (slice_get_mapped picture_of spaces t.arena s.0 s.1) in
+        omega (arith, all, sum_by-cons (within t.arena (same t.holding)) t out, within_own t.arena (same t.holding) t refl, same_itself t.holding)

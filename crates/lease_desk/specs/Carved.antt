@@ -1,0 +1,37 @@
+-- A segment between its arena and the book.
+use Rattle.std.specs.Prelude.{◌≡◌, ℕ, ◌<◌, List, [], ◌∷◌, slice_get, Some}
+use Rattle.deed_core.specs.Extent.{Covers}
+use Rattle.deed_core.specs.Tag.{Tag}
+use Rattle.deed_core.specs.Covering.{covering_held}
+use Rattle.deed_core.specs.Request.{Fits, IsGood}
+use Rattle.deed_core.specs.declared.requests.Request.{Request}
+use Rattle.deed_core.specs.declared.segments.Route.TheVariants.{Direct}
+use Rattle.tag_arena.specs.declared.faults.ArenaFault.{ArenaFault}
+use Rattle.tag_arena.specs.declared.faults.ArenaFault.TheVariants.{BadRequest, NoFit, Overlaps, NotAligned, NoMemory}
+use Rattle.lease_desk.specs.Picture.{ArenaPicture}
+use Rattle.lease_desk.specs.Moves.{GivesBack}
+use Rattle.lease_desk.specs.Machine.{HasPlace}
+
+-- the segment was carved for the request from free units of the arena at the place
+pub record IsCarved (old new : List ArenaPicture) (place : ℕ) (x : ArenaPicture) (q : Request) (t : Tag) : Type 0 where
+  pub here : slice_get old place ≡ Some x
+  pub home : t.arena ≡ place
+  pub route : t.route ≡ Direct
+  pub not_bad : ¬ (¬ IsGood x.quantum q)
+  pub serves : HasPlace x q
+  pub fits : Fits x.quantum q t.holding.range.base t.holding.range.len
+  pub free : (u : ℕ) → Covers t.holding.range u → 0 < covering_held u x.free
+  pub back : GivesBack (t ∷ []) new old
+
+-- why none was carved
+abbrev pub IsRefused : ArenaPicture → Request → ArenaFault → Type 0
+IsRefused x q BadRequest = ¬ IsGood x.quantum q
+IsRefused x q NoFit = IsGood x.quantum q × (¬ HasPlace x q)
+IsRefused x q Overlaps = ⊥
+IsRefused x q NotAligned = ⊥
+IsRefused x q NoMemory = IsGood x.quantum q
+
+-- none was carved from the arena at the place
+pub record IsUncarved (arenas : List ArenaPicture) (place : ℕ) (x : ArenaPicture) (q : Request) (fault : ArenaFault) : Type 0 where
+  pub here : slice_get arenas place ≡ Some x
+  pub why : IsRefused x q fault

@@ -1,0 +1,68 @@
+-- The arenas that a desk stores.
+use Rattle.std.specs.Prelude.{◌≡◌, ℕ, ◌+◌, ◌≤◌, List, [], length, map, slice_get, Some}
+use Rattle.std.specs.Ordering.{nat_cmp}
+use Rattle.std.specs.FinMap.{FinMap, get}
+use Rattle.deed_core.specs.Holding.{Holding}
+use Rattle.deed_core.specs.Tag.{Tag}
+use Rattle.deed_core.specs.Covering.{covering_held}
+use Rattle.tag_arena.specs.ArenaState.{spans_of, ranges_of}
+use Rattle.tag_arena.specs.Calls.{IsTagged}
+use Rattle.lease_book.specs.Ledger.{Ledger, leased}
+use Rattle.lease_desk.specs.declared.spaces.Space.{Space}
+use Rattle.lease_desk.specs.Picture.{ArenaPicture, Picture, Exports}
+use Rattle.lease_desk.specs.Told.{IsTold}
+
+abbrev pub picture_of : Space → ArenaPicture
+picture_of s = record {
+  name = s.name;
+  quantum = s.arena.quantum;
+  policy = s.arena.policy;
+  spans = spans_of s.arena;
+  free = s.arena.free;
+  allocated = ranges_of s.arena.allocated;
+}
+
+abbrev pub pictures : List Space → List ArenaPicture
+pictures spaces = map picture_of spaces
+
+abbrev pub desk_of : List Space → Ledger → Picture
+desk_of spaces book = record { arenas = pictures spaces; book = book }
+
+-- each range stands at its base
+abbrev pub IsKeyed : FinMap nat_cmp Holding → Type 0
+IsKeyed allocated = (b : ℕ) (h : Holding) → get allocated b ≡ Some h → h.range.base ≡ b
+
+-- the arena at the place has its number, no imported span, and each unit of its spans once
+pub record IsSpace (k : ℕ) (s : Space) : Type 0 where
+  pub id : s.arena.id ≡ k
+  pub own : s.arena.imported ≡ []
+  pub keyed : IsKeyed s.arena.allocated
+  pub covers : (u : ℕ) → covering_held u s.arena.free + covering_held u (ranges_of s.arena.allocated) ≡ covering_held u (spans_of s.arena)
+  pub once : (u : ℕ) → covering_held u (spans_of s.arena) ≤ 1
+  pub count : s.spans ≡ length s.arena.owned
+  pub few : s.spans ≤ 65536
+
+-- so are all
+abbrev pub AreSpaces : List Space → Type 0
+AreSpaces spaces = (k : ℕ) (s : Space) → slice_get spaces k ≡ Some s → IsSpace k s
+
+-- what holds of the arenas and the book between any two lines
+pub record IsSteady (spaces : List Space) (book : Ledger) : Type 0 where
+  pub few : length spaces ≤ 32
+  pub sound : AreSpaces spaces
+  pub exports : Exports (pictures spaces) (leased book)
+  pub told : IsTold (length spaces) book
+
+-- the segment is allocated in its arena
+pub record IsOut (spaces : List Space) (t : Tag) : Type 0 where
+  pub space : Space
+  pub here : slice_get spaces t.arena ≡ Some space
+  pub tagged : IsTagged space.arena t
+
+-- nothing is allocated in an arena
+abbrev pub IsUnallocated : Space → Type 0
+IsUnallocated s = ranges_of s.arena.allocated ≡ []
+
+-- nor in any
+abbrev pub AreUnallocated : List Space → Type 0
+AreUnallocated spaces = (k : ℕ) (s : Space) → slice_get spaces k ≡ Some s → IsUnallocated s

@@ -1,0 +1,37 @@
+//! The end of a desk.
+ghost use Rattle.std.specs.Prelude.{◌≡◌, [], sum_by};
+ghost use Rattle.lease_desk.specs.Spaces.{AreSpaces, AreUnallocated, IsUnallocated};
+
+use crate::spaces::Space;
+
+/// Ends the arenas, whose units are all free.
+pub(crate) fn close_spaces(mut spaces: Vec<Space>)
+    requires sound { AreSpaces spaces.items }
+    requires unallocated { AreUnallocated spaces.items }
+{
+    while let Some(space) = spaces.pop() {
+        close_space(space);
+    }
+    spaces.destroy_empty();
+}
+
+/// Takes out each span of an arena and closes its deed.
+fn close_space(space: Space)
+    requires own { space.arena.imported ≡ [] }
+    requires unallocated { IsUnallocated space }
+{
+    let Space {
+        name: _,
+        mut arena,
+        spans: _,
+    } = space;
+    while let Some(deed) = arena.remove_owned() {
+        let _ = deed.close();
+    }
+    // Its clauses say that a free range would be part of a span that is left.
+    let _ = arena.report();
+    match arena.close() {
+        Ok(()) => {}
+        Err(_) => unreachable!(),
+    }
+}

@@ -1,0 +1,215 @@
+//! The desk.
+ghost use Rattle.std.specs.Prelude.{◌≡◌, ◌⊎◌, [], codes, OnOk, OnErr, IfOk, IfErr};
+ghost use Rattle.lease_book.specs.Ledger.{IsHistory};
+ghost use Rattle.lease_proto.specs.Faults.{error_line};
+ghost use Rattle.lease_desk.specs.Picture.{IsOrderly};
+ghost use Rattle.lease_desk.specs.Machine.{LeaseStep, LineStep, IsRefusalText};
+ghost use Rattle.std.specs.List.{flat_map};
+ghost use Rattle.lease_desk.specs.Operators.{OperatorStep};
+ghost use Rattle.lease_desk.specs.Operating.{IsTold};
+ghost use Rattle.lease_desk.specs.Sums.{audit_line};
+ghost use Rattle.lease_desk.specs.Setup.{RefusesArena, AddsArena, RefusesSpan, AddsSpan};
+
+use crate::closings::close_spaces;
+use crate::faults::SetupFault;
+use crate::hellos::greet;
+use crate::leasing::lease;
+use crate::operators::{Operator, audit, clients, operator_of};
+use crate::releasing::release;
+use crate::returns::end_leases;
+use crate::setups::{Root, add_root, add_span};
+use crate::spaces::Space;
+use deed_core::{PlainDeed, Range};
+use lease_book::Book;
+use lease_proto::{LONGEST_LINE, Line, LineFault, Name, Reply};
+use std::alloc::{AllocError, Global};
+use std::marker::Model;
+use tag_arena::Policy;
+
+/// Arenas by name, and the book of their leases.
+pub struct Desk {
+    spaces: Vec<Space>,
+    book: Book<PlainDeed>,
+    // The number of the next span's root. There are at most 32 times 65,536 spans; the book's mark is of root 0.
+    roots: u32,
+}
+
+impl Model for Desk {
+    ghost use Rattle.lease_desk.specs.Picture.{Picture};
+
+    ghost Value = { Picture };
+
+    ghost use Rattle.lease_desk.specs.Spaces.{desk_of, IsSteady};
+
+    ghost view = { λ d. desk_of d.spaces.items d.book };
+
+    ghost invariant = { λ d. IsSteady d.spaces.items d.book };
+}
+
+impl Desk {
+    /// A desk with no arena.
+    pub fn new(alloc: Global) -> Desk
+        ensures arenas { result.arenas ≡ [] }
+        ensures book { IsHistory [] result.book }
+        ensures orderly { IsOrderly result }
+    {
+        let mark = PlainDeed::new(0, Range::new(0, 1).unwrap());
+        Desk {
+            spaces: Vec::new(alloc),
+            book: Book::new(alloc, mark),
+            roots: 1,
+        }
+    }
+
+    /// Adds an arena with one span. Units and numbers of units.
+    pub fn add_root(
+        &mut self,
+        name: Name,
+        base: u64,
+        len: u64,
+        quantum: u64,
+        policy: Policy,
+        qcache_max: u64,
+    ) -> Result<(), SetupFault>
+        ensures added { OnOk result (AddsArena (record { name = name; range = record { base = base; len = len }; quantum = quantum; policy = policy; qcache_max = qcache_max }) self.old.arenas self.new.arenas) }
+        ensures book { self.new.book ≡ self.old.book }
+        ensures orderly { IsOrderly self.new }
+        ensures refused { IfErr result (RefusesArena self.old.arenas (record { name = name; range = record { base = base; len = len }; quantum = quantum; policy = policy; qcache_max = qcache_max })) }
+        ensures err { OnErr result (self.new ≡ self.old) }
+    {
+        let alloc = *self.spaces.allocator();
+        let root = Root {
+            name,
+            base,
+            len,
+            quantum,
+            policy,
+            qcache_max,
+        };
+        add_root(&mut self.spaces, &root, self.roots, alloc)?;
+        self.roots = self.roots.wrapping_add(1);
+        Ok(())
+    }
+
+    /// Adds a span to an arena.
+    pub fn add_span(&mut self, name: &Name, base: u64, len: u64) -> Result<(), SetupFault>
+        ensures added { OnOk result (AddsSpan name.now (record { base = base; len = len }) self.old.arenas self.new.arenas) }
+        ensures book { self.new.book ≡ self.old.book }
+        ensures orderly { IsOrderly self.new }
+        ensures refused { IfErr result (RefusesSpan self.old.arenas name.now (record { base = base; len = len })) }
+        ensures err { OnErr result (self.new ≡ self.old) }
+    {
+        add_span(&mut self.spaces, name, base, len, self.roots)?;
+        self.roots = self.roots.wrapping_add(1);
+        Ok(())
+    }
+
+    /// Answers one line, which is given without its line feed: the bytes of the reply lines.
+    pub fn answer(&mut self, line: &[u8]) -> Result<Vec<u8>, AllocError>
+        ensures { IfOk result (λ text. LeaseStep self.old line.now text.items self.new) }
+    {
+        let mut out = Vec::with_capacity(*self.spaces.allocator(), LONGEST_LINE + 1)?;
+        match Line::read(line) {
+            Ok(request) => {
+                let reply = self.serve(&request);
+                reply.write(&mut out)?;
+                Ok(out)
+            }
+            Err(fault) => self.refuse(line, fault, out),
+        }
+    }
+
+    /// Answers a line that is no client's.
+    fn refuse(&self, line: &[u8], fault: LineFault, out: Vec<u8>) -> Result<Vec<u8>, AllocError>
+        requires { out.items ≡ [] }
+        ensures { IfOk result (λ text. IsRefusalText self.now line.now fault text.items) }
+    {
+        match fault {
+            LineFault::Word => self.operate(line, out),
+            _ => said(fault, out),
+        }
+    }
+
+    /// Answers the line of a client.
+    fn serve(&mut self, line: &Line) -> Reply
+        ensures step { LineStep line.now self.old self.new result }
+        ensures orderly { IsOrderly self.new }
+    {
+        match line {
+            Line::Hello(hello) => greet(&mut self.spaces, &mut self.book, hello),
+            Line::Lease(line) => lease(&mut self.spaces, &mut self.book, line),
+            Line::Release(line) => release(&mut self.spaces, &mut self.book, line),
+        }
+    }
+
+    /// Answers the line of an operator.
+    fn operate(&self, line: &[u8], mut out: Vec<u8>) -> Result<Vec<u8>, AllocError>
+        requires { out.items ≡ [] }
+        ensures { IfOk result (λ text. OperatorStep self.now line.now text.items) }
+    {
+        match operator_of(line) {
+            Ok(operator) => self.tell(operator, out),
+            Err(fault) => {
+                out.extend_from_slice(fault.line())?;
+                Ok(out)
+            }
+        }
+    }
+
+    /// What an operator asks for. Where its lines find no room, the answer is one that says so.
+    fn tell(&self, operator: Operator, out: Vec<u8>) -> Result<Vec<u8>, AllocError>
+        requires { out.items ≡ [] }
+        ensures { IfOk result (λ text. IsTold self.now operator text.items) }
+    {
+        match operator {
+            Operator::Audit => self.tell_audit(out),
+            Operator::Clients => self.tell_clients(out),
+        }
+    }
+
+    fn tell_audit(&self, mut out: Vec<u8>) -> Result<Vec<u8>, AllocError>
+        requires { out.items ≡ [] }
+        ensures { IfOk result (λ text. (text.items ≡ flat_map audit_line self.now.arenas) ⊎ (text.items ≡ codes "error memory\n")) }
+    {
+        if audit(&self.spaces, &mut out).is_err() {
+            out.clear();
+            out.extend_from_slice(b"error memory\n")?;
+        }
+        Ok(out)
+    }
+
+    fn tell_clients(&self, mut out: Vec<u8>) -> Result<Vec<u8>, AllocError> {
+        if clients(&self.book, &mut out).is_err() {
+            out.clear();
+            out.extend_from_slice(b"error memory\n")?;
+        }
+        Ok(out)
+    }
+
+    /// Ends the desk: frees all leases, takes out all spans, and closes their deeds and the book's mark. It takes
+    /// no memory.
+    pub fn close(self) {
+        let Desk {
+            mut spaces,
+            mut book,
+            roots: _,
+        } = self;
+        end_leases(&mut spaces, &mut book);
+        match book.close() {
+            Ok(mark) => {
+                let _ = mark.close();
+            }
+            Err(_) => unreachable!(),
+        }
+        close_spaces(spaces);
+    }
+}
+
+/// The line that answers a refused line.
+fn said(fault: LineFault, mut out: Vec<u8>) -> Result<Vec<u8>, AllocError>
+    requires { out.items ≡ [] }
+    ensures { IfOk result (λ text. text.items ≡ error_line fault) }
+{
+    out.extend_from_slice(fault.line())?;
+    Ok(out)
+}

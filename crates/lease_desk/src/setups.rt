@@ -1,0 +1,174 @@
+//! What is added to a desk before it answers.
+ghost use Rattle.std.specs.Prelude.{◌≡◌, ◌<◌, ◌≤◌, ℕ, length, IsSome, IfSome, IfOk, IfErr, OnOk, OnErr, ◌↔◌};
+ghost use Rattle.std.specs.Int.{IsPowerOfTwo};
+ghost use Rattle.lease_desk.specs.Setup.{IsWholeRange, CanAdd, CanSpan, RefusesArena, AddsArena, RefusesMore, RefusesSpan, AddsSpan, with_span};
+ghost use Rattle.lease_desk.specs.Spaces.{picture_of, pictures, IsSpace, AreSpaces};
+ghost use Rattle.lease_desk.specs.Roots.{asked, space_of};
+
+use crate::faults::SetupFault;
+use crate::spaces::{Space, place_of};
+use deed_core::{PlainDeed, Range, is_power_of_two};
+use lease_proto::Name;
+use std::alloc::Global;
+use tag_arena::{Arena, ArenaFault, Policy};
+
+/// How many arenas a desk has at most.
+pub(crate) const ARENAS: usize = 32;
+
+/// How many spans an arena has at most.
+pub(crate) const SPANS: u32 = 65536;
+
+/// The arena that a setup line asks for: its name, its one span, and how it carves. Units and numbers of units.
+#[derive(Clone, Copy)]
+pub(crate) struct Root {
+    pub name: Name,
+    pub base: u64,
+    pub len: u64,
+    pub quantum: u64,
+    pub policy: Policy,
+    pub qcache_max: u64,
+}
+
+/// The range of a root that can be added.
+fn root_range(spaces: &[Space], root: &Root) -> Result<Range, SetupFault>
+    ensures value { IfOk result (λ range. range ≡ (asked root.now).range) }
+    ensures can { OnOk result (CanAdd (pictures spaces.now) (asked root.now)) }
+    ensures refused { IfErr result (RefusesArena (pictures spaces.now) (asked root.now)) }
+{
+    if place_of(spaces, &root.name).is_some() {
+        return Err(SetupFault::NameTaken);
+    }
+    if spaces.len() >= ARENAS {
+        return Err(SetupFault::TooMany);
+    }
+    if !is_power_of_two(root.quantum) {
+        return Err(SetupFault::BadQuantum);
+    }
+    if root.qcache_max != 0 {
+        return Err(SetupFault::NotYet);
+    }
+    whole_range(root.base, root.len, root.quantum).ok_or(SetupFault::BadRange)
+}
+
+/// The range, where it is one, in whole quanta.
+fn whole_range(base: u64, len: u64, quantum: u64) -> Option<Range>
+    requires { 0 < quantum }
+    ensures whole { IsSome result ↔ IsWholeRange quantum (record { base = base; len = len }) }
+    ensures value { IfSome result (λ r. r ≡ record { base = base; len = len }) }
+{
+    if base % quantum != 0 {
+        return None;
+    }
+    if len % quantum != 0 {
+        return None;
+    }
+    Range::new(base, len)
+}
+
+/// An arena of one span, whose deed is of the root of this number.
+fn new_space(
+    alloc: Global,
+    id: u32,
+    root: &Root,
+    range: Range,
+    number: u32,
+) -> Result<Space, SetupFault>
+    requires { IsPowerOfTwo root.now.quantum }
+    ensures made { IfOk result (λ s. s ≡ space_of id (asked root.now) (record { root = number; range = range })) }
+    ensures fault { IfErr result (λ fault. fault ≡ SetupFault.NoMemory) }
+{
+    let mut arena = Arena::new(alloc, id, root.quantum, root.policy);
+    match arena.add_span(PlainDeed::new(number, range)) {
+        Ok(()) => {}
+        Err((deed, _)) => {
+            let _ = deed.close();
+            match arena.close() {
+                Ok(()) => {}
+                Err(_) => unreachable!(),
+            }
+            return Err(SetupFault::NoMemory);
+        }
+    }
+    Ok(Space {
+        name: root.name,
+        arena,
+        spans: 1,
+    })
+}
+
+/// Adds an arena of one span, whose deed is of the root of this number.
+pub(crate) fn add_root(
+    spaces: &mut Vec<Space>,
+    root: &Root,
+    number: u32,
+    alloc: Global,
+) -> Result<(), SetupFault>
+    requires sound { AreSpaces spaces.old.items }
+    ensures sound { OnOk result (AreSpaces spaces.new.items) }
+    ensures added { OnOk result (AddsArena (asked root.now) (pictures spaces.old.items) (pictures spaces.new.items)) }
+    ensures refused { IfErr result (RefusesArena (pictures spaces.old.items) (asked root.now)) }
+    ensures err { OnErr result (spaces.new.items ≡ spaces.old.items) }
+{
+    let range = root_range(spaces, root)?;
+    if spaces.reserve(1).is_err() {
+        return Err(SetupFault::NoMemory);
+    }
+    let id = spaces.len() as u32;
+    match new_space(alloc, id, root, range, number) {
+        Ok(space) => {
+            spaces.push_reserved(space);
+            Ok(())
+        }
+        Err(_) => Err(SetupFault::NoMemory),
+    }
+}
+
+/// Adds a span, whose deed is of the root of this number, to the arena of this name.
+pub(crate) fn add_span(
+    spaces: &mut Vec<Space>,
+    name: &Name,
+    base: u64,
+    len: u64,
+    number: u32,
+) -> Result<(), SetupFault>
+    requires sound { AreSpaces spaces.old.items }
+    ensures sound { OnOk result (AreSpaces spaces.new.items) }
+    ensures added { OnOk result (AddsSpan name.now (record { base = base; len = len }) (pictures spaces.old.items) (pictures spaces.new.items)) }
+    ensures refused { IfErr result (RefusesSpan (pictures spaces.old.items) name.now (record { base = base; len = len })) }
+    ensures err { OnErr result (spaces.new.items ≡ spaces.old.items) }
+{
+    let Some(place) = place_of(spaces, name) else {
+        return Err(SetupFault::NoArena);
+    };
+    let space = &mut spaces[place];
+    match extend(space, base, len, number) {
+        Ok(()) => Ok(()),
+        Err(fault) => Err(fault),
+    }
+}
+
+/// Adds a span, whose deed is of the root of this number, to an arena.
+fn extend(space: &mut Space, base: u64, len: u64, number: u32) -> Result<(), SetupFault>
+    requires sound { (k : ℕ) × IsSpace k space.old }
+    ensures sound { OnOk result ((k : ℕ) → IsSpace k space.old → IsSpace k space.new) }
+    ensures added { OnOk result (picture_of space.new ≡ with_span (picture_of space.old) (record { root = number; range = record { base = base; len = len } })) }
+    ensures can { OnOk result ((length (picture_of space.old).spans < 65536) × CanSpan (picture_of space.old) (record { base = base; len = len })) }
+    ensures refused { IfErr result (RefusesMore (picture_of space.old) (record { base = base; len = len })) }
+    ensures err { OnErr result (space.new ≡ space.old) }
+{
+    if space.spans >= SPANS {
+        return Err(SetupFault::TooMany);
+    }
+    let Some(range) = whole_range(base, len, space.arena.quantum()) else {
+        return Err(SetupFault::BadRange);
+    };
+    let Err((deed, fault)) = space.arena.add_span(PlainDeed::new(number, range)) else {
+        space.spans += 1;
+        return Ok(());
+    };
+    let _ = deed.close();
+    if fault == ArenaFault::NoMemory {
+        return Err(SetupFault::NoMemory);
+    }
+    Err(SetupFault::BadRange)
+}

@@ -1,0 +1,4 @@
+pub mod OpeningLemmas
+pub mod SetupLemmas
+pub mod RunLemmas
+pub mod LawLemmas

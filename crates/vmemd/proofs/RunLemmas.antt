@@ -1,0 +1,140 @@
+-- Lemmas on a script's setup and the lines after it.
+use Rattle.std.proofs.Common.{◌≡◌, ◌⊎◌, ℕ, true, false, Option, Some, None, Err, IsErrOf, List, [], ◌++◌, refl, sym, ◌∙◌, ap, subst, IfSome, inl, inr}
+use Rattle.std.proofs.lemmas.Bool.{cases_Bool}
+use Rattle.std.proofs.lemmas.List.{append-nil}
+use Rattle.std.specs.Io.KnownBytes.{Appends, Consumes, IsAtEnd}
+use Rattle.std.proofs.KnownBytes.{Appends-nil, Consumes-trans}
+use Rattle.lease_proto.specs.Frames.{frames_in, frames_of, rest_in, last_of}
+use Rattle.lease_proto.proofs.FrameLemmas.{frames_in-none}
+use Rattle.lease_server.specs.Serving.{Serves, Writes, Stops}
+use Rattle.lease_server.specs.declared.faults.ServeFault.{ServeFault}
+use Rattle.lease_server.specs.declared.faults.ServeFault.TheVariants as serving
+use Rattle.vmemd.specs.declared.setup_lines.SetupLine.{SetupLine}
+use Rattle.vmemd.specs.declared.faults.ConfigFault.{ConfigFault}
+use Rattle.vmemd.specs.declared.faults.ScriptFault.{ScriptFault}
+use Rattle.vmemd.specs.declared.faults.ScriptFault.TheVariants.{Setup, Read, Write, Memory}
+use Rattle.vmemd.specs.declared.setting_up.Rest.{Rest}
+use Rattle.vmemd.specs.SetupLines.{begins_setup}
+use Rattle.vmemd.specs.Openings.{IsOther}
+use Rattle.vmemd.specs.Scripts.{RunsWhole, RunsSoFar, RunStops, RunFails, serving_fault}
+use Rattle.vmemd.specs.Setups.{RestIs, SetupFails}
+use Rattle.vmemd.proofs.SetupLemmas.{more_read}
+
+-- what is no setup line isn't one
+not_both : (bytes : List ℕ) (P : Type 0) → begins_setup bytes ≡ false → begins_setup bytes ≡ true → P
+not_both bytes P other is = let bad : false ≡ true = sym other ∙ is in absurd (cc)
+
+-- what follows a setup is no setup line
+pub stays_other : (rest : Rest) (more : List ℕ) → (rest.ended ≡ false → IsOther rest.bytes.items) → (rest.ended ≡ true → begins_setup rest.bytes.items ≡ false)
+    → (rest.ended ≡ true → more ≡ []) → begins_setup (rest.bytes.items ++ more) ≡ false
+stays_other rest more other stops none = elim (cases_Bool rest.ended) [
+  | inr on ↦ other on more
+  | inl end ↦ ap (λ l. begins_setup (rest.bytes.items ++ l)) (none end) ∙ ap begins_setup (append-nil rest.bytes.items) ∙ stops end
+]
+
+-- what holds of all that is left holds of the whole input
+over_all : (unread mid : Option (List ℕ)) (input : List ℕ) (P Q : List ℕ → Type 0) → Consumes unread mid input
+    → ((more : List ℕ) → mid ≡ Some more → P more → Q (input ++ more)) → IfSome mid P → IfSome unread Q
+over_all None mid input P Q read step holds = tt
+over_all (Some xs) None input P Q read step holds = absurd read
+over_all (Some xs) (Some ys) input P Q read step holds = subst Q (sym read) (step ys refl holds)
+
+module _ {S : Type 0} (takes : S → SetupLine → S → Type 0) (refuses : S → SetupLine → ConfigFault → Type 0)
+    (may_answer : S → List ℕ → List ℕ → S → Type 0) where
+  -- nothing of the answers is written
+  pub none_written : (made : S) (lines : List ℕ) (a : Option (List ℕ)) → Stops may_answer made (frames_of lines) a a
+  none_written made lines a = ([], frames_of lines, refl, (made, [], [], (refl, refl), Appends-nil a))
+
+  -- a setup that ended early
+  pub setup_fails : (first last : S) (unread left a : Option (List ℕ)) (fault : ScriptFault) → SetupFails takes refuses first unread left last fault
+      → RunFails takes refuses may_answer first unread left a a last fault
+  setup_fails first last unread left a (Setup line word) fails = (fails, Appends-nil a)
+  setup_fails first last unread left a Read (part, read, one) = (
+    read.0,
+    read.1,
+    (
+      part,
+      last,
+      read.2,
+      (λ _. Appends-nil a),
+      λ _. subst (λ frames. Writes may_answer last frames a a last) (sym (frames_in-none [] part one)) ([], (refl, refl), Appends-nil a),
+    ),
+  )
+  setup_fails first last unread left a Write fails = absurd fails
+  setup_fails first last None left a Memory fails = tt
+  setup_fails first last (Some xs) left a Memory (rest, made, setup) = (rest, made, setup, (λ _. Appends-nil a), none_written made rest a)
+
+  read_fails : (first made last : S) (unread mid left before after : Option (List ℕ)) (rest : Rest) → RestIs takes first unread mid made rest
+      → (input : List ℕ) × Consumes mid left input × (rest.ended ≡ true → input ≡ []) × Writes may_answer made (frames_in [] (rest.bytes.items ++ input)) before after last
+      → (input : List ℕ) × Consumes unread left input × RunsSoFar takes may_answer first input before after last
+  read_fails first made last unread mid left before after rest is (more, consumes, none, writes) =
+      let (input, read, setup) = is.0 in (
+        input ++ more,
+        Consumes-trans unread mid left input more read consumes,
+        (
+          rest.bytes.items ++ more,
+          made,
+          (more_read takes first made input rest.bytes.items more setup).0,
+          (λ yes. not_both (rest.bytes.items ++ more) (Appends before after []) (stays_other rest more is.1 (λ end. (is.2 end).0) none) yes),
+          (λ _. writes),
+        ),
+      )
+
+  run_stops : (first made : S) (unread mid before after : Option (List ℕ)) (rest : Rest) → RestIs takes first unread mid made rest
+      → IfSome mid (λ more. Stops may_answer made (frames_of (rest.bytes.items ++ more)) before after)
+      → IfSome unread (λ input. RunStops takes may_answer first input before after)
+  run_stops first made unread mid before after rest is stopped =
+      let (input, read, setup) = is.0 in
+      over_all unread mid input (λ more. Stops may_answer made (frames_of (rest.bytes.items ++ more)) before after) (λ all. RunStops takes may_answer first all before after) read
+      (λ more here stops. (
+        rest.bytes.items ++ more,
+        made,
+        (more_read takes first made input rest.bytes.items more setup).0,
+        (λ yes. not_both (rest.bytes.items ++ more) (Appends before after []) (stays_other rest more is.1 (λ end. (is.2 end).0) (λ end. subst IsAtEnd here (is.2 end).1)) yes),
+        stops,
+      ))
+      stopped
+
+  -- the lines after a setup, all served
+  pub serving_ends : (first made last : S) (unread mid before after : Option (List ℕ)) (rest : Rest) → RestIs takes first unread mid made rest
+      → IfSome mid (λ more. Writes may_answer made (frames_of (rest.bytes.items ++ more)) before after last)
+      → IfSome unread (λ input. RunsWhole takes may_answer first input before after last)
+  serving_ends first made last unread mid before after rest is ended =
+      let (input, read, setup) = is.0 in
+      over_all unread mid input (λ more. Writes may_answer made (frames_of (rest.bytes.items ++ more)) before after last) (λ all. RunsWhole takes may_answer first all before after last) read
+      (λ more here writes. (
+        rest.bytes.items ++ more,
+        made,
+        (more_read takes first made input rest.bytes.items more setup).0,
+        stays_other rest more is.1 (λ end. (is.2 end).0) (λ end. subst IsAtEnd here (is.2 end).1),
+        writes,
+      ))
+      ended
+
+  -- the lines after a setup, of which serving ended early
+  pub serving_fails : (first made last : S) (unread mid left before after : Option (List ℕ)) (rest : Rest) (fault : ServeFault) → RestIs takes first unread mid made rest
+      → (IsErrOf {T = Unit {0}} (Err fault) serving.Read ⊎ IsErrOf {T = Unit {0}} (Err fault) serving.Turns → (input : List ℕ) × Consumes mid left input
+      × (rest.ended ≡ true → input ≡ []) × Writes may_answer made (frames_in [] (rest.bytes.items ++ input)) before after last)
+      → (IsErrOf {T = Unit {0}} (Err fault) serving.Write ⊎ IsErrOf {T = Unit {0}} (Err fault) serving.Memory
+      → IfSome mid (λ input. Stops may_answer made (frames_of (rest.bytes.items ++ input)) before after))
+      → RunFails takes refuses may_answer first unread left before after last (serving_fault fault)
+  serving_fails first made last unread mid left before after rest serving.Read is reads stops = read_fails first made last unread mid left before after rest is (reads (inl refl))
+  serving_fails first made last unread mid left before after rest serving.Turns is reads stops = read_fails first made last unread mid left before after rest is (reads (inr refl))
+  serving_fails first made last unread mid left before after rest serving.Write is reads stops = run_stops first made unread mid before after rest is (stops (inl refl))
+  serving_fails first made last unread mid left before after rest serving.Memory is reads stops = run_stops first made unread mid before after rest is (stops (inr refl))
+
+  -- the answers to the whole lines of bytes are a front of their answers
+  pub front_written : (old new : S) (front : List ℕ) (a b : Option (List ℕ)) → Writes may_answer old (frames_in [] front) a b new → Stops may_answer old (frames_of front) a b
+  front_written old new front a b w = (
+    frames_in [] front,
+    last_of (rest_in [] front),
+    refl,
+    (new, w.0, [], subst (λ t. Serves may_answer old (frames_in [] front) t new) (sym (append-nil w.0)) w.1, w.2),
+  )
+
+  -- the same where nothing more was there to read
+  pub end_written : (old new : S) (front more : List ℕ) (a b : Option (List ℕ)) → [] ≡ more ++ [] → Writes may_answer old (frames_in [] (front ++ more)) a b new
+      → Stops may_answer old (frames_of front) a b
+  end_written old new front more a b none w =
+      let same : front ++ more ≡ front = ap (λ l. front ++ l) (sym (none ∙ append-nil more)) ∙ append-nil front in
+      front_written old new front a b (subst (λ l. Writes may_answer old (frames_in [] l) a b new) same w)

@@ -1,0 +1,154 @@
+-- Lemmas on setup lines, taken one after another.
+use Rattle.std.proofs.Common.{◌≡◌, ◌==◌, ℕ, ◌≤◌, ◌<◌, ◌+◌, nat_le, true, Option, Some, None, Err, List, [], ◌∷◌, ◌++◌, length, refl, sym, ◌∙◌, ap, subst, arith, inl, inr, append_assoc, IfSome}
+use Rattle.std.proofs.lemmas.Bool.{cases_Bool, leb-false, lt-leb, le-leb, lt-ltb}
+use Rattle.std.proofs.lemmas.List.{append-nil, length-append}
+use Rattle.std.proofs.lemmas.Grind.{flat_map-append}
+use Rattle.std.specs.List.{flat_map}
+use Rattle.std.specs.Io.KnownBytes.{Consumes, IsAtEnd}
+use Rattle.lease_proto.specs.declared.faults.LineFault.TheVariants.{TooLong, BadLine}
+use Rattle.lease_proto.specs.Frames.{Frame, frame_of, last_of, frames_in, rest_in, frames_of, ended, IsOneLine}
+use Rattle.lease_proto.specs.Grammar.{◌>>=◌}
+use Rattle.lease_proto.proofs.FrameLemmas.{frames_in-append, rest_in-append, frames_in-ended, rest_in-ended, frames_in-text, rest_in-text, frames_in-none, rest_in-none}
+use Rattle.vmemd.specs.declared.setup_lines.SetupLine.{SetupLine}
+use Rattle.vmemd.specs.declared.faults.ConfigFault.{ConfigFault}
+use Rattle.vmemd.specs.declared.faults.ConfigFault.TheVariants as config
+use Rattle.vmemd.specs.SetupLines.{setup_of, begins_setup}
+use Rattle.vmemd.specs.Openings.{IsSetup}
+use Rattle.vmemd.specs.Scripts.{Makes, SetsUp, RefusesRead, RefusesFirst, SetupRefused}
+use Rattle.vmemd.specs.declared.faults.ScriptFault.{ScriptFault}
+use Rattle.vmemd.specs.declared.faults.ScriptFault.TheVariants.{Setup, Read, Write, Memory}
+use Rattle.vmemd.specs.Setups.{TakesLine, LineFails, SetupFails}
+
+module _ {S : Type 0} (takes : S → SetupLine → S → Type 0) where
+  -- one more line
+  pub Makes-one : (first mid last : S) (lines : List (List ℕ)) (line : List ℕ) → Makes takes first lines mid → TakesLine takes mid line last
+      → Makes takes first (lines ++ line ∷ []) last
+  Makes-one first mid last [] line same taken =
+      subst (λ s. Makes takes s (line ∷ []) last) same (taken.0, last, taken.1, taken.2, refl)
+  Makes-one first mid last (l ∷ lines) line made taken =
+      (made.0, made.1, made.2, made.3, Makes-one made.1 mid last lines line made.4 taken)
+
+  -- the lines of a setup, before any is taken
+  pub none_taken : (first : S) → (setup : SetsUp takes first [] [] first) × (1 ≡ length setup.lines + 1)
+  none_taken first = (record { lines = []; makes = refl; split = refl }, refl)
+
+  pub one_taken : (first mid last : S) (input front line rest : List ℕ) (setup : SetsUp takes first input front mid) → TakesLine takes mid line last
+      → front ≡ ended line ++ rest → (more : SetsUp takes first input rest last) × (length more.lines ≡ length setup.lines + 1)
+  one_taken first mid last input front line rest setup taken e = (
+    record {
+      lines = setup.lines ++ line ∷ [];
+      makes = Makes-one first mid last setup.lines line setup.makes taken;
+      split = setup.split ∙ ap (λ l. flat_map ended setup.lines ++ l) e ∙ sym (append_assoc (flat_map ended setup.lines) (ended line) rest)
+          ∙ ap (λ l. l ++ rest) (sym (flat_map-append ended setup.lines (line ∷ []) ∙ ap (λ l. flat_map ended setup.lines ++ l) (append-nil (ended line))));
+    },
+    length-append setup.lines (line ∷ []),
+  )
+
+  -- more of the input is read
+  pub more_read : (first made : S) (input front piece : List ℕ) (setup : SetsUp takes first input front made)
+      → (more : SetsUp takes first (input ++ piece) (front ++ piece) made) × (length more.lines ≡ length setup.lines)
+  more_read first made input front piece setup = (
+    record {
+      lines = setup.lines;
+      makes = setup.makes;
+      split = ap (λ l. l ++ piece) setup.split ∙ append_assoc (flat_map ended setup.lines) front piece;
+    },
+    refl,
+  )
+
+-- a line and what follows it
+pub line_first : (line more : List ℕ) → IsOneLine line → frames_of (ended line ++ more) ≡ frame_of line ∷ frames_of more
+line_first line more one =
+    let frames : frames_in [] (ended line ++ more) ≡ frame_of line ∷ frames_in [] more =
+    frames_in-append [] (ended line) more ∙ rw (frames_in-ended [] line one, rest_in-ended [] line one) refl in
+    let rest : rest_in [] (ended line ++ more) ≡ rest_in [] more = rest_in-append [] (ended line) more ∙ rw (rest_in-ended [] line one) refl in
+    rw (frames, rest) refl
+
+-- a line that is too long already stays so
+long_goes_on : (line left : List ℕ) → 255 < length line → (frames : List Frame) × (frames_in line left ++ last_of (rest_in line left) ≡ Err TooLong ∷ frames)
+long_goes_on [] [] long = absurd (omega arith)
+long_goes_on (b ∷ bs) [] long = ([], rw (lt-leb (length (b ∷ bs)) 255 long) refl)
+long_goes_on line (b ∷ bs) long =
+    let frame : frame_of line ≡ Err TooLong = rw (lt-leb (length line) 255 long) refl in
+    let longer : 255 < length (line ++ b ∷ []) = subst (λ n. 255 < n) (sym (length-append line (b ∷ []))) (omega arith) in
+    let on = long_goes_on (line ++ b ∷ []) bs longer in
+    elim (cases_Bool (b == 10)) [
+      | inl is ↦ (frames_in [] bs ++ last_of (rest_in [] bs), rw (is, frame) refl)
+      | inr other ↦ (on.0, rw other on.1)
+    ]
+
+pub long_first : (front left : List ℕ) → 255 < length front → IsOneLine front → (frames : List Frame) × (frames_of (front ++ left) ≡ Err TooLong ∷ frames)
+long_first front left long one =
+    let on = long_goes_on front left long in
+    (on.0, rw (frames_in-text [] front left one, rest_in-text [] front left one) on.1)
+
+-- a rest that the input ends
+pub rest_first : (front : List ℕ) → length front ≤ 255 → IsOneLine front → begins_setup front ≡ true → frames_of front ≡ Err BadLine ∷ []
+rest_first [] short one begins = cc
+rest_first (b ∷ bs) short one begins =
+    rw (frames_in-none [] (b ∷ bs) one, rest_in-none [] (b ∷ bs) one) (rw (le-leb (length (b ∷ bs)) 255 short) refl)
+
+-- a line that is too long is refused by the grammar too
+pub frame_setup : (line : List ℕ) → (frame_of line >>= setup_of) ≡ setup_of line
+unfolding setup_of
+frame_setup line = elim (cases_Bool (nat_le (length line) 255)) [
+  | inl fits ↦ rw fits refl
+  | inr over ↦ rw (over, lt-ltb 255 (length line) (leb-false _ _ over)) refl
+]
+
+module _ {S : Type 0} (takes : S → SetupLine → S → Type 0) (refuses : S → SetupLine → ConfigFault → Type 0) where
+  pub refuses_line : (made : S) (front line rest left : List ℕ) (word : ConfigFault) → IsOneLine line → front ≡ ended line ++ rest
+      → RefusesRead refuses made (setup_of line) word → RefusesFirst refuses made (front ++ left) word
+  refuses_line made front line rest left word one e refused = (
+    frame_of line,
+    frames_of (rest ++ left),
+    ap (λ l. frames_of (l ++ left)) e ∙ ap frames_of (append_assoc (ended line) rest left) ∙ line_first line (rest ++ left) one,
+    subst (λ r. RefusesRead refuses made r word) (sym (frame_setup line)) refused,
+  )
+
+  pub refuses_long : (made : S) (front left : List ℕ) → 255 < length front → IsOneLine front → RefusesFirst refuses made (front ++ left) (config.Line TooLong)
+  refuses_long made front left long one =
+      let first = long_first front left long one in
+      (Err TooLong, first.0, first.1, refl)
+
+  pub refuses_rest : (made : S) (front : List ℕ) → length front ≤ 255 → IsOneLine front → begins_setup front ≡ true → RefusesFirst refuses made front (config.Line BadLine)
+  refuses_rest made front short one begins = (Err BadLine, [], rest_first front short one begins, refl)
+
+  -- the refusal of a line, however the input goes on
+  pub refused_now : (first made : S) (unread left : Option (List ℕ)) (input front : List ℕ) (setup : SetsUp takes first input front made) (number line : ℕ) (word : ConfigFault)
+      → Consumes unread left input → number ≡ length setup.lines + 1 → line ≡ number → IsSetup front
+      → ((more : List ℕ) → RefusesFirst refuses made (front ++ more) word) → IfSome unread (λ all. SetupRefused takes refuses first all line word)
+  refused_now first made None left input front setup number line word read counted same begins refused = tt
+  refused_now first made (Some xs) None input front setup number line word read counted same begins refused = absurd read
+  refused_now first made (Some xs) (Some ys) input front setup number line word read counted same begins refused =
+      let more = more_read takes first made input front ys setup in
+      subst (λ all. SetupRefused takes refuses first all line word) (sym read)
+      (front ++ ys, made, more.0, same ∙ counted ∙ ap (λ n. n + 1) (sym more.1), begins ys, refused ys)
+
+  -- the refusal of a rest that the input ends
+  pub refused_rest : (first made : S) (unread left : Option (List ℕ)) (input front : List ℕ) (setup : SetsUp takes first input front made) (number : ℕ)
+      → Consumes unread left input → IsAtEnd left → number ≡ length setup.lines + 1 → length front ≤ 255 → IsOneLine front → begins_setup front ≡ true
+      → IfSome unread (λ all. SetupRefused takes refuses first all number (config.Line BadLine))
+  refused_rest first made None left input front setup number read end counted short one begins = tt
+  refused_rest first made (Some xs) None input front setup number read end counted short one begins = absurd read
+  refused_rest first made (Some xs) (Some ys) input front setup number read end counted short one begins =
+      subst (λ all. SetupRefused takes refuses first all number (config.Line BadLine)) (sym (read ∙ ap (λ l. input ++ l) end ∙ append-nil input))
+      (front, made, setup, counted, begins, refuses_rest made front short one begins)
+
+  -- whatever more there is to read, it follows the setup lines
+  pub whole_follows : (first made : S) (unread left : Option (List ℕ)) (input front : List ℕ) (setup : SetsUp takes first input front made) → Consumes unread left input
+      → IfSome unread (λ all. (rest : List ℕ) × (made : S) × SetsUp takes first all rest made)
+  whole_follows first made None left input front setup read = tt
+  whole_follows first made (Some xs) None input front setup read = absurd read
+  whole_follows first made (Some xs) (Some ys) input front setup read =
+      subst (λ all. (rest : List ℕ) × (made : S) × SetsUp takes first all rest made) (sym read) (front ++ ys, made, (more_read takes first made input front ys setup).0)
+
+  pub line_fails : (first made last : S) (unread left : Option (List ℕ)) (input front line rest : List ℕ) (setup : SetsUp takes first input front made) (number : ℕ) (fault : ScriptFault)
+      → Consumes unread left input → number ≡ length setup.lines + 1 → IsSetup front → IsOneLine line → front ≡ ended line ++ rest
+      → LineFails refuses made number (setup_of line) fault → SetupFails takes refuses first unread left last fault
+  line_fails first made last unread left input front line rest setup number (Setup at word) read counted begins one e fails =
+      refused_now first made unread left input front setup number at word read counted fails.0 begins (λ more. refuses_line made front line rest more word one e fails.1)
+  line_fails first made last unread left input front line rest setup number Read read counted begins one e fails = absurd fails
+  line_fails first made last unread left input front line rest setup number Write read counted begins one e fails = absurd fails
+  line_fails first made last unread left input front line rest setup number Memory read counted begins one e fails =
+      whole_follows first made unread left input front setup read

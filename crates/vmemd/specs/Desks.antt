@@ -1,0 +1,64 @@
+-- What a setup line makes of a desk, and a script of a fresh one.
+use Rattle.std.specs.Prelude.{◌≡◌, ℕ, List, [], Option}
+use Rattle.deed_core.specs.Extent.{Extent}
+use Rattle.lease_book.specs.Ledger.{IsHistory}
+use Rattle.lease_desk.specs.Picture.{Picture, IsOrderly}
+use Rattle.lease_desk.specs.Machine.{LeaseStep}
+use Rattle.lease_desk.specs.Setup.{NewArena, AddsArena, RefusesArena, AddsSpan, RefusesSpan}
+use Rattle.lease_desk.specs.declared.faults.SetupFault.{SetupFault}
+use Rattle.lease_desk.specs.declared.faults.SetupFault.TheVariants as desk
+use Rattle.vmemd.specs.Scripts.{RunsWhole, RunFails}
+use Rattle.vmemd.specs.declared.setup_lines.SetupLine.{SetupLine}
+use Rattle.vmemd.specs.declared.setup_lines.SetupLine.TheVariants.{Root, Child, Span}
+use Rattle.vmemd.specs.declared.setup_lines.RootLine.{RootLine}
+use Rattle.vmemd.specs.declared.setup_lines.SpanLine.{SpanLine}
+use Rattle.vmemd.specs.declared.faults.Unserved.TheVariants as unserved
+use Rattle.vmemd.specs.declared.faults.ConfigFault.{ConfigFault}
+use Rattle.vmemd.specs.declared.faults.ConfigFault.TheVariants as config
+use Rattle.vmemd.specs.declared.faults.SetUpFault.{SetUpFault}
+use Rattle.vmemd.specs.declared.faults.SetUpFault.TheVariants as setting
+use Rattle.vmemd.specs.declared.faults.ScriptFault.{ScriptFault}
+
+-- the arena that a line asks for
+abbrev pub arena_of : RootLine → NewArena
+arena_of r = record { name = r.name; range = record { base = r.base; len = r.len }; quantum = r.quantum; policy = r.policy; qcache_max = r.qcache_max }
+
+-- the span that a line asks for
+abbrev pub range_of : SpanLine → Extent
+range_of s = record { base = s.base; len = s.len }
+
+-- a line's refusal of the desk's
+abbrev pub set_up_fault : SetupFault → SetUpFault
+set_up_fault desk.NameTaken = setting.Refused config.NameTaken
+set_up_fault desk.TooMany = setting.Refused config.TooMany
+set_up_fault desk.NoArena = setting.Refused config.NoArena
+set_up_fault desk.BadQuantum = setting.Refused config.BadQuantum
+set_up_fault desk.NotYet = setting.Refused (config.NotYet unserved.Caches)
+set_up_fault desk.BadRange = setting.Refused config.BadRange
+set_up_fault desk.NoMemory = setting.Memory
+
+-- a desk takes a setup line
+abbrev pub TakesSetting : Picture → SetupLine → Picture → Type 0
+TakesSetting old (Root r) new = AddsArena (arena_of r) old.arenas new.arenas × (new.book ≡ old.book) × IsOrderly new
+TakesSetting old (Child c) new = ⊥
+TakesSetting old (Span s) new = AddsSpan s.name (range_of s) old.arenas new.arenas × (new.book ≡ old.book) × IsOrderly new
+
+-- a desk refuses a setup line
+abbrev pub RefusesSetting : Picture → SetupLine → ConfigFault → Type 0
+RefusesSetting old (Root r) word = (fault : SetupFault) × RefusesArena old.arenas (arena_of r) fault × (set_up_fault fault ≡ setting.Refused word)
+RefusesSetting old (Child c) word = word ≡ config.NotYet unserved.Children
+RefusesSetting old (Span s) word = (fault : SetupFault) × RefusesSpan old.arenas s.name (range_of s) fault × (set_up_fault fault ≡ setting.Refused word)
+
+-- a desk with no arena and an empty book
+abbrev pub IsFresh : Picture → Type 0
+IsFresh d = (d.arenas ≡ []) × IsHistory [] d.book × IsOrderly d
+
+-- A script is answered to its end.
+abbrev pub ScriptEnds : List ℕ → Option (List ℕ) → Option (List ℕ) → Type 0
+ScriptEnds input before after = (first : Picture) × (last : Picture) × IsFresh first
+    × RunsWhole TakesSetting LeaseStep first input before after last
+
+-- A script ends early.
+abbrev pub ScriptFails : Option (List ℕ) → Option (List ℕ) → Option (List ℕ) → Option (List ℕ) → ScriptFault → Type 0
+ScriptFails unread left before after fault = (first : Picture) × (last : Picture) × IsFresh first
+    × RunFails TakesSetting RefusesSetting LeaseStep first unread left before after last fault

@@ -1,0 +1,7 @@
+pub mod SetupLines
+pub mod Openings
+pub mod Scripts
+pub mod Setups
+pub mod Desks
+pub mod Commands
+pub mod Laws

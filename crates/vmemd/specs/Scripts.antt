@@ -1,0 +1,99 @@
+-- What a script sets up and writes.
+use Rattle.std.specs.Prelude.{◌≡◌, ◌⊎◌, ◌≤◌, ◌^◌, Bool, ℕ, ◌+◌, List, [], ◌∷◌, ◌++◌, length, true, false, Option, Result, Ok, Err, IfSome}
+use Rattle.std.specs.List.{flat_map}
+use Rattle.std.specs.Io.KnownBytes.{Appends, Consumes}
+use Rattle.lease_proto.specs.declared.faults.LineFault.{LineFault}
+use Rattle.lease_proto.specs.Frames.{Frame, frames_in, frames_of, ended}
+use Rattle.lease_proto.specs.Grammar.{◌>>=◌}
+use Rattle.lease_server.specs.Serving.{Writes, Stops}
+use Rattle.lease_server.specs.declared.faults.ServeFault.{ServeFault}
+use Rattle.lease_server.specs.declared.faults.ServeFault.TheVariants as serving
+use Rattle.vmemd.specs.SetupLines.{setup_of, begins_setup}
+use Rattle.vmemd.specs.declared.setup_lines.SetupLine.{SetupLine}
+use Rattle.vmemd.specs.declared.faults.ConfigFault.{ConfigFault}
+use Rattle.vmemd.specs.declared.faults.ConfigFault.TheVariants as config
+use Rattle.vmemd.specs.declared.faults.SetUpFault.{SetUpFault}
+use Rattle.vmemd.specs.declared.faults.SetUpFault.TheVariants as setting
+use Rattle.vmemd.specs.declared.faults.ScriptFault.{ScriptFault}
+use Rattle.vmemd.specs.declared.faults.ScriptFault.TheVariants.{Setup, Read, Write, Memory}
+
+-- the exit status of a fault
+abbrev pub exit_of : ScriptFault → ℕ
+exit_of (Setup line word) = 2
+exit_of Read = 1
+exit_of Write = 1
+exit_of Memory = 1
+
+-- the script's fault where serving its lines ended early
+abbrev pub serving_fault : ServeFault → ScriptFault
+serving_fault serving.Read = Read
+serving_fault serving.Turns = Read
+serving_fault serving.Write = Write
+serving_fault serving.Memory = Memory
+
+-- a reader has failed, or was read 2^40 times
+abbrev pub IsSpent : Bool → ℕ → Type 0
+IsSpent failed reads = (failed ≡ true) ⊎ (2 ^ 40 ≤ reads)
+
+-- a desk that doesn't take a line refuses it so, or memory was refused
+abbrev pub RefusedBy : (ConfigFault → Type 0) → SetUpFault → Type 0
+RefusedBy refused (setting.Refused fault) = refused fault
+RefusedBy refused setting.Memory = Unit {0}
+
+module _ {S : Type 0} (takes : S → SetupLine → S → Type 0) where
+  -- from one desk, these setup lines are taken one after another, and make the other
+  abbrev pub Makes : S → List (List ℕ) → S → Type 0
+  Makes old [] new = new ≡ old
+  Makes old (line ∷ lines) new = (setting : SetupLine) × (mid : S) × (setup_of line ≡ Ok setting) × takes old setting mid × Makes mid lines new
+
+  -- an input is setup lines that are taken, and this after them
+  pub record SetsUp (first : S) (input rest : List ℕ) (made : S) : Type 0 where
+    pub lines : List (List ℕ)
+    pub makes : Makes first lines made
+    pub split : input ≡ flat_map ended lines ++ rest
+
+module _ {S : Type 0} (refuses : S → SetupLine → ConfigFault → Type 0) where
+  -- a desk refuses what was read of a setup line: it is none, or the desk doesn't take it
+  abbrev pub RefusesRead : S → Result SetupLine LineFault → ConfigFault → Type 0
+  RefusesRead desk (Err fault) word = word ≡ config.Line fault
+  RefusesRead desk (Ok setting) word = refuses desk setting word
+
+  -- a desk refuses the line that an input begins with
+  abbrev pub RefusesFirst : S → List ℕ → ConfigFault → Type 0
+  RefusesFirst desk input word = (frame : Frame) × (frames : List Frame) × (frames_of input ≡ frame ∷ frames)
+      × RefusesRead desk (frame >>= setup_of) word
+
+module _ {S : Type 0} (takes : S → SetupLine → S → Type 0) (refuses : S → SetupLine → ConfigFault → Type 0) where
+  -- the first setup line that is refused has this number and is refused with this word
+  abbrev pub SetupRefused : S → List ℕ → ℕ → ConfigFault → Type 0
+  SetupRefused first input line word = (rest : List ℕ) × (made : S) × (setup : SetsUp takes first input rest made)
+      × (line ≡ length setup.lines + 1) × (begins_setup rest ≡ true) × RefusesFirst refuses made rest word
+
+module _ {S : Type 0} (takes : S → SetupLine → S → Type 0) (may_answer : S → List ℕ → List ℕ → S → Type 0) where
+  -- All of an input is answered: the lines after the setup lines, by the desk that these make.
+  abbrev pub RunsWhole : S → List ℕ → Option (List ℕ) → Option (List ℕ) → S → Type 0
+  RunsWhole first input before after last = (lines : List ℕ) × (made : S) × SetsUp takes first input lines made × (begins_setup lines ≡ false)
+      × Writes may_answer made (frames_of lines) before after last
+
+  -- What was read of an input is answered as far as its whole lines go; nothing while the setup goes on.
+  abbrev pub RunsSoFar : S → List ℕ → Option (List ℕ) → Option (List ℕ) → S → Type 0
+  RunsSoFar first input before after last = (part : List ℕ) × (made : S) × SetsUp takes first input part made
+      × (begins_setup part ≡ true → Appends before after [])
+      × (begins_setup part ≡ false → Writes may_answer made (frames_in [] part) before after last)
+
+  -- Of an input's answers a front is written; nothing while the setup goes on.
+  abbrev pub RunStops : S → List ℕ → Option (List ℕ) → Option (List ℕ) → Type 0
+  RunStops first input before after = (lines : List ℕ) × (made : S) × SetsUp takes first input lines made
+      × (begins_setup lines ≡ true → Appends before after [])
+      × Stops may_answer made (frames_of lines) before after
+
+module _ {S : Type 0} (takes : S → SetupLine → S → Type 0) (refuses : S → SetupLine → ConfigFault → Type 0)
+    (may_answer : S → List ℕ → List ℕ → S → Type 0) where
+  -- what a fault says of what was read and written
+  abbrev pub RunFails : S → Option (List ℕ) → Option (List ℕ) → Option (List ℕ) → Option (List ℕ) → S → ScriptFault → Type 0
+  RunFails first unread left before after last (Setup line word) =
+      IfSome unread (λ input. SetupRefused takes refuses first input line word) × Appends before after []
+  RunFails first unread left before after last Read = (input : List ℕ) × Consumes unread left input
+      × RunsSoFar takes may_answer first input before after last
+  RunFails first unread left before after last Write = IfSome unread (λ input. RunStops takes may_answer first input before after)
+  RunFails first unread left before after last Memory = IfSome unread (λ input. RunStops takes may_answer first input before after)

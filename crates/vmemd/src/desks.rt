@@ -1,0 +1,53 @@
+//! The lease desk, set up by setup lines.
+
+use crate::faults::{ConfigFault, SetUpFault, Unserved};
+use crate::setting_up::SetUp;
+use crate::setup_lines::SetupLine;
+use lease_desk::{Desk, SetupFault};
+
+impl From<SetupFault> for SetUpFault {
+    ghost use Rattle.std.specs.Prelude.{◌≡◌};
+    ghost use Rattle.vmemd.specs.Desks.{set_up_fault};
+
+    ghost from_gives = { λ cause fault. fault ≡ set_up_fault cause };
+
+    fn from(fault: SetupFault) -> SetUpFault {
+        let word = match fault {
+            SetupFault::NameTaken => ConfigFault::NameTaken,
+            SetupFault::TooMany => ConfigFault::TooMany,
+            SetupFault::NoArena => ConfigFault::NoArena,
+            SetupFault::BadQuantum => ConfigFault::BadQuantum,
+            SetupFault::NotYet => ConfigFault::NotYet(Unserved::Caches),
+            SetupFault::BadRange => ConfigFault::BadRange,
+            SetupFault::NoMemory => return SetUpFault::Memory,
+        };
+        SetUpFault::Refused(word)
+    }
+}
+
+impl SetUp for Desk {
+    ghost use Rattle.vmemd.specs.Desks.{TakesSetting, RefusesSetting};
+
+    ghost takes = { TakesSetting };
+
+    ghost refuses = { RefusesSetting };
+
+    fn set_up(&mut self, line: &SetupLine) -> Result<(), SetUpFault> {
+        match line {
+            SetupLine::Root(root) => self.add_root(
+                root.name,
+                root.base.get(),
+                root.len.get(),
+                root.quantum.get(),
+                root.policy,
+                root.qcache_max.get(),
+            )?,
+            SetupLine::Span(span) => { self.add_span(&span.name, span.base.get(), span.len.get())? }
+            SetupLine::Child(_) => {
+                let word = ConfigFault::NotYet(Unserved::Children);
+                return Err(SetUpFault::Refused(word));
+            }
+        }
+        Ok(())
+    }
+}

@@ -1,0 +1,108 @@
+//! Why a setup line is refused, and why a script ends early.
+
+use lease_proto::LineFault;
+use lease_server::ServeFault;
+use std::alloc::AllocError;
+use thiserror::Error;
+
+/// What a setup line may ask for and this program doesn't serve yet.
+#[derive(Clone, Copy, Debug, PartialEq, Eq, Error)]
+pub enum Unserved {
+    /// A `child` line.
+    #[error("word")]
+    Children,
+    /// A QMAX other than 0.
+    #[error("cache")]
+    Caches,
+}
+
+/// Why a setup line is refused, by its word. They stand in the order in which they are looked for, but
+/// for `NotYet`: `Children` comes after the line's own refusals, and `Caches` before `BadRange`.
+#[derive(Clone, Copy, Debug, PartialEq, Eq, Error)]
+pub enum ConfigFault {
+    /// The bytes are no setup line.
+    #[error("{0}")]
+    Line(LineFault),
+    /// An arena has this name already.
+    #[error("name")]
+    NameTaken,
+    /// A 33rd arena, or more than 65,536 owned spans of one arena.
+    #[error("many")]
+    TooMany,
+    /// No root has this name.
+    #[error("noarena")]
+    NoArena,
+    /// The quantum is no power of two.
+    #[error("quantum")]
+    BadQuantum,
+    /// The span is empty, ends above 2^62, isn't of whole quanta, or overlaps another of its arena.
+    #[error("range")]
+    BadRange,
+    #[error("{0}")]
+    NotYet(Unserved),
+}
+
+/// Why a desk doesn't take a setup line that was read.
+#[derive(Clone, Copy, Debug, PartialEq, Eq)]
+pub enum SetUpFault {
+    Refused(ConfigFault),
+    Memory,
+}
+
+/// Why a script ends early. It is shown as the program prints it, behind `vmemd: `.
+#[derive(Clone, Copy, Debug, PartialEq, Eq, Error)]
+pub enum ScriptFault {
+    /// This line of the setup, counted from 1, is refused.
+    #[error("line {line}: {word}")]
+    Setup { line: u64, word: ConfigFault },
+    /// The input can't be read, or took more than 2^40 reads.
+    #[error("read")]
+    Read,
+    /// The output can't be written.
+    #[error("write")]
+    Write,
+    /// Memory was refused.
+    #[error("memory")]
+    Memory,
+}
+
+impl ScriptFault {
+    ghost use Rattle.std.specs.Prelude.{◌≡◌};
+    ghost use Rattle.vmemd.specs.Scripts.{exit_of};
+
+    /// The exit status of a program that ends so.
+    pub fn exit(&self) -> u8
+        ensures { result ≡ exit_of self.now }
+    {
+        match self {
+            ScriptFault::Setup { .. } => 2,
+            ScriptFault::Read | ScriptFault::Write | ScriptFault::Memory => 1,
+        }
+    }
+}
+
+impl From<AllocError> for ScriptFault {
+    ghost use Rattle.std.specs.Prelude.{◌≡◌};
+    ghost use Rattle.vmemd.specs.declared.faults.ScriptFault.TheVariants.{Memory};
+
+    ghost from_gives = { λ _ fault. fault ≡ Memory };
+
+    fn from(_error: AllocError) -> ScriptFault {
+        ScriptFault::Memory
+    }
+}
+
+impl From<ServeFault> for ScriptFault {
+    ghost use Rattle.std.specs.Prelude.{◌≡◌};
+    ghost use Rattle.vmemd.specs.Scripts.{serving_fault};
+
+    ghost from_gives = { λ cause fault. fault ≡ serving_fault cause };
+
+    fn from(fault: ServeFault) -> ScriptFault {
+        match fault {
+            ServeFault::Read | ServeFault::Turns => ScriptFault::Read,
+            ServeFault::Write => ScriptFault::Write,
+            ServeFault::Memory => ScriptFault::Memory,
+        }
+    }
+}
