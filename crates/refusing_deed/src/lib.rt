@@ -2,9 +2,9 @@
 //! handles a refused split, which no plain deed ever takes. Programs have no use for it.
 #![tactic(auto)]
 
-ghost use Rattle.std.specs.Prelude.{◌≡◌, ◌↔◌, Some, IsErr, IfOk, IfErr};
+ghost use Rattle.std.specs.Prelude.{◌≡◌, ◌-◌, ◌↔◌, Some, None, option_map, IsErr, IfOk, IfErr};
 ghost use Rattle.deed_core.specs.Extent.{IsRange, IsInside};
-ghost use Rattle.deed_core.specs.Holding.{low, high};
+ghost use Rattle.deed_core.specs.Holding.{GoesOn, low, high, joined};
 
 use deed_core::{Deed, Range, Refused};
 
@@ -72,6 +72,8 @@ impl Deed for RefusingDeed {
         ensures ok { IfOk result (λ parts. (⟦<RefusingDeed as Deed>⟧.holding parts.0 ≡ low at (⟦<RefusingDeed as Deed>⟧.holding self)) × (⟦<RefusingDeed as Deed>⟧.holding parts.1 ≡ high at (⟦<RefusingDeed as Deed>⟧.holding self))) }
         ensures err { IfErr result (λ refused. ⟦<RefusingDeed as Deed>⟧.holding refused.deed ≡ ⟦<RefusingDeed as Deed>⟧.holding self) }
         ensures refused { IsErr result ↔ (self.splits_left ≡ Some 0) }
+        ensures counted { IfOk result (λ parts. (parts.0.splits_left ≡ option_map (λ n. n - 1) self.splits_left) × (parts.1.splits_left ≡ option_map (λ n. n - 1) self.splits_left)) }
+        ensures once { IfErr result (λ refused. refused.deed.splits_left ≡ None) }
     {
         let RefusingDeed {
             root,
@@ -91,7 +93,11 @@ impl Deed for RefusingDeed {
     }
 
     /// The joined deed counts on from where the first one stood.
-    fn join(self, next: RefusingDeed) -> RefusingDeed {
+    fn join(self, next: RefusingDeed) -> RefusingDeed
+        requires { GoesOn (⟦<RefusingDeed as Deed>⟧.holding self) (⟦<RefusingDeed as Deed>⟧.holding next) }
+        ensures joined { ⟦<RefusingDeed as Deed>⟧.holding result ≡ joined (⟦<RefusingDeed as Deed>⟧.holding self) (⟦<RefusingDeed as Deed>⟧.holding next) }
+        ensures counted { result.splits_left ≡ self.splits_left }
+    {
         let RefusingDeed {
             root,
             range,
