@@ -1,27 +1,15 @@
 -- Lists put end to end, and lists in order, after an edit.
-use Rattle.std.proofs.Common.{◌≡◌, inl, inr, ℕ, zero, suc, ◌+◌, ◌-◌, ◌<◌, ◌≤◌, List, [], ◌∷◌, ◌++◌, length, get_or, set, take, drop, map, All, AllPairs, insert, remove, refl, ap, ◌∙◌, arith, subst, length-append}
+use Rattle.std.proofs.Common.{◌≡◌, inl, inr, ℕ, zero, suc, ◌+◌, ◌-◌, ◌<◌, ◌≤◌, List, [], ◌∷◌, ◌++◌, length, get_or, set, take, drop, All, AllPairs, insert, remove, refl, ap, ◌∙◌, arith, subst}
 use Rattle.std.specs.Prelude.{sum_by, Contains}
 use Rattle.std.specs.List.{flat_map}
 use Rattle.std.proofs.lemmas.Bool.{cases_eq}
-use Rattle.std.proofs.lemmas.List.{get_or_append_left, get_or-append_right, get_or-take, get_or-drop, get_or_default, get_or-set_same, get_or-set_other, length-take, length-drop, length-set}
-use Rattle.std.proofs.lemmas.List.Sums.{sum_by-cons, sum_by-append, sum_by-set, sum_by-insert, sum_by-remove}
+use Rattle.std.proofs.lemmas.List.{get_or-take, get_or-drop, get_or_default, get_or-set_same, get_or-set_other, length-take, length-drop, length-set}
+use Rattle.std.proofs.lemmas.List.Sums.{sum_by-set, sum_by-insert, sum_by-remove}
 use Rattle.std.proofs.lemmas.List.Elements.{All-append, All-take, All-drop, All-cons, Contains-append_left, Contains-append_right, Contains-append_cases}
+use Rattle.deed_core.proofs.LawProofs.{sum_by-flat_map, AllPairs-append}
 
 module _ {X Y : Type 0} where
-  -- what lists put end to end weigh
-  pub sum_by-flat_map : (g : X → ℕ) (h : Y → List X) (ys : List Y) → sum_by g (flat_map h ys) ≡ sum_by (λ y. sum_by g (h y)) ys
-  sum_by-flat_map g h [] = refl
-  sum_by-flat_map g h (y ∷ ys) =
-      let rest = sum_by-flat_map g h ys in
-      omega (arith, rest, sum_by-append g (h y) (flat_map h ys), sum_by-cons (λ z. sum_by g (h z)) y ys)
-
-  pub sum_by-map : (g : X → ℕ) (h : Y → X) (ys : List Y) → sum_by g (map h ys) ≡ sum_by (λ y. g (h y)) ys
-  sum_by-map g h [] = refl
-  sum_by-map g h (y ∷ ys) =
-      let rest = sum_by-map g h ys in
-      omega (arith, rest, sum_by-cons g (h y) (map h ys), sum_by-cons (λ z. g (h z)) y ys)
-
-  -- one of them changed, put in or taken out
+  -- what lists put end to end weigh after one of them changed, was put in or taken out
   pub sum_by-flat_map-set : (g : X → ℕ) (h : Y → List X) (ys : List Y) (i : ℕ) (z d : Y) → i < length ys → sum_by g (flat_map h (set ys i z)) + sum_by g (h (get_or ys i d)) ≡ sum_by g (flat_map h ys) + sum_by g (h z)
   sum_by-flat_map-set g h ys i z d within =
       omega (arith, sum_by-flat_map g h ys, sum_by-flat_map g h (set ys i z), sum_by-set (λ y. sum_by g (h y)) ys i z d within)
@@ -48,13 +36,12 @@ module _ {X Y : Type 0} where
   ]
 
 module _ {X : Type 0} where
-  pub pairs_append : (R : X → X → Type 0) (xs ys : List X) → AllPairs R xs → AllPairs R ys → All (λ x. All (R x) ys) xs → AllPairs R (xs ++ ys)
-  pairs_append R xs ys p q cross i j d before within =
-      let both : j < length xs → R (get_or xs i d) (get_or xs j d) = p i j d before in
-      let neither : length xs ≤ i → j - length xs < length ys → R (get_or ys (i - length xs) d) (get_or ys (j - length xs) d) = λ low below. q (i - length xs) (j - length xs) d (omega arith) below in
-      let across : i < length xs → j - length xs < length ys → R (get_or xs i d) (get_or ys (j - length xs) d) = λ left right. cross i d left (j - length xs) d right in
-      grind (arith, length-append, get_or_append_left, get_or-append_right, both, neither, across)
+  -- two lists that have nothing put end to end
+  pub both_nil : (xs ys : List X) → xs ++ ys ≡ [] → (xs ≡ []) × (ys ≡ [])
+  both_nil [] ys e = (refl, e)
+  both_nil (x ∷ xs) ys e = cc
 
+  -- what holds of each two members, in part of a list
   pub pairs_take : (R : X → X → Type 0) (n : ℕ) (xs : List X) → AllPairs R xs → AllPairs R (take n xs)
   pairs_take R n xs p i j d before within = grind (arith, length-take, get_or-take, p i j d)
 
@@ -69,8 +56,8 @@ module _ {X : Type 0} where
   -- one put in where it belongs
   pub pairs_insert : (R : X → X → Type 0) (xs : List X) (i : ℕ) (y : X) → AllPairs R xs → All (λ x. R x y) (take i xs) → All (R y) (drop i xs) → AllPairs R (insert xs i y)
   pairs_insert R xs i y p left right =
-      let behind : AllPairs R (y ∷ drop i xs) = pairs_append R (y ∷ []) (drop i xs) (λ a b d before within. absurd (omega arith)) (pairs_drop R i xs p) (All-cons (λ x. All (R x) (drop i xs)) y [] right (λ k d within. absurd (omega arith))) in
-      pairs_append R (take i xs) (y ∷ drop i xs) (pairs_take R i xs p) behind
+      let behind : AllPairs R (y ∷ drop i xs) = AllPairs-append R (y ∷ []) (drop i xs) (λ a b d before within. absurd (omega arith)) (pairs_drop R i xs p) (All-cons (λ x. All (R x) (drop i xs)) y [] right (λ k d within. absurd (omega arith))) in
+      AllPairs-append R (take i xs) (y ∷ drop i xs) (pairs_take R i xs p) behind
       (λ k d within. All-cons (R (get_or (take i xs) k d)) y (drop i xs) (left k d within) (pairs_across R i xs p k d within))
 
   pub all_insert : (P : X → Type 0) (xs : List X) (i : ℕ) (y : X) → All P xs → P y → All P (insert xs i y)

@@ -1,7 +1,7 @@
 -- Which segments are chunks of a cache.
 use Rattle.std.proofs.Common.{◌≡◌, inl, inr, ℕ, zero, suc, ◌+◌, ◌*◌, ◌<◌, ◌≤◌, ◌⊎◌, if◌then◌else◌, Bool, true, false, not, List, [], ◌∷◌, length, get_or, All, AllPairs, refl, sym, ap, ◌∙◌, arith, subst}
 use Rattle.std.specs.Prelude.{Contains}
-use Rattle.std.proofs.lemmas.Bool.{cases_order}
+use Rattle.std.proofs.lemmas.Bool.{cases_order, not-true}
 use Rattle.std.proofs.lemmas.List.{get_or_default}
 use Rattle.deed_core.specs.Extent.{Extent, end_of}
 use Rattle.deed_core.specs.Holding.{Holding}
@@ -85,10 +85,6 @@ pub record SomeChunk (b : Bool) (t : Tag) (c : CacheState) : Type 0 where
 nowhere : SlabState
 nowhere = record { span = record { root = 0; range = record { base = 0; len = 0 } }; colour = 0; chunk = 0; home = [] }
 
-not_true : (b : Bool) → not b ≡ true → b ≡ false
-not_true true e = cc
-not_true false e = refl
-
 pub out_is_chunk : (t : Tag) (c : CacheState) → Contains (chunks_out c) t → SomeChunk false t c
 out_is_chunk t c has =
     let part = part_contains (λ x. chunks_out_by (chunk_tag c.arena c.k x) x) c.slabs nowhere t has in
@@ -102,7 +98,7 @@ out_is_chunk t c has =
       chunk = record {
         stands = record { within = part.1; is = get_or_default c.slabs part.0 s nowhere part.1 };
         within = p.within;
-        home = not_true (get_or s.home p.place false) p.passes;
+        home = not-true (get_or s.home p.place false) p.passes;
         tag = sym p.is ∙ ap (chunk_tag c.arena c.k s) e;
       };
     }
@@ -181,14 +177,14 @@ not_routed t c other = record {
 abbrev pub held : ℕ → Extent → Holding
 held r e = record { root = r; range = e }
 
-same_holding : (t : Tag) (r : ℕ) (e : Extent) → r ≡ t.holding.root → e ≡ t.holding.range → held r e ≡ t.holding
-same_holding t r e root range = λ i. record { root = root i; range = range i }
+held_is : (t : Tag) (r : ℕ) (e : Extent) → r ≡ t.holding.root → e ≡ t.holding.range → held r e ≡ t.holding
+held_is t r e root range = λ i. record { root = root i; range = range i }
 
 found : (b : Bool) (t : Tag) (c : CacheState) (r : ℕ) (e : Extent) → r ≡ t.holding.root → e ≡ t.holding.range → All (λ s. (j : ℕ) → j < length s.home → chunk_at s j ≡ held r e → ⊥) c.slabs → SomeChunk b t c → ⊥
 found b t c r e root range none some =
     let P : SlabState → Type 0 = λ s. (j : ℕ) → j < length s.home → chunk_at s j ≡ held r e → ⊥ in
     let here : P some.s = subst P some.chunk.stands.is (none some.i some.s some.chunk.stands.within) in
-    here some.j some.chunk.within (ap (λ (x : Tag). x.holding) (sym some.chunk.tag) ∙ sym (same_holding t r e root range))
+    here some.j some.chunk.within (ap (λ (x : Tag). x.holding) (sym some.chunk.tag) ∙ sym (held_is t r e root range))
 
 pub not_found : (t : Tag) (x c : CacheState) (r : ℕ) (e : Extent) → x ≡ c → r ≡ t.holding.root → e ≡ t.holding.range → All (λ s. (j : ℕ) → j < length s.home → chunk_at s j ≡ held r e → ⊥) x.slabs → IsAbsent t c
 not_found t x c r e view root range none =
@@ -201,7 +197,7 @@ pub made_chunk : (i j : ℕ) (s u : SlabState) (b : Bool) (t : Tag) (r : ℕ) (e
 made_chunk i j s u b t r e x c view stands within chunk root range routed is home =
     let same : u ≡ s = same_slab i s u x.slabs stands is in
     let here : get_or s.home j false ≡ b = subst (λ (y : SlabState). get_or y.home j false ≡ b) same home in
-    let holding : t.holding ≡ chunk_at s j = sym (same_holding t r e root range) ∙ sym chunk in
+    let holding : t.holding ≡ chunk_at s j = sym (held_is t r e root range) ∙ sym chunk in
     record {
       stands = subst (λ (y : CacheState). StandsAt i s y.slabs) view stands;
       within = within;

@@ -3,7 +3,7 @@ use Rattle.std.proofs.Common.{◌≡◌, inl, inr, zero-add, ℕ, ◌+◌, ◌-�
 use Rattle.std.specs.Prelude.{sum_by}
 use Rattle.std.specs.List.{flat_map}
 use Rattle.std.specs.Option.{option_to_list}
-use Rattle.std.proofs.Math.Nat.{div-mul-le_self}
+use Rattle.std.proofs.Math.Nat.{div-mul-le_self, eq-zero-or-pos}
 use Rattle.std.proofs.Math.ListN.{replicate}
 use Rattle.std.proofs.lemmas.List.{length-set, length-replicate, get_or-replicate, get_or-map, map-set, set-get_or}
 use Rattle.std.proofs.lemmas.List.Elements.{All-weaker, All-replicate}
@@ -14,13 +14,13 @@ use Rattle.deed_core.specs.Tag.{Tag}
 use Rattle.deed_core.specs.declared.segments.Route.TheVariants.{Direct}
 use Rattle.deed_core.specs.Covering.{covers, covers_held, covers_tag, covering_held}
 use Rattle.deed_core.specs.Weights.{Gains, Loses, WeighSame}
-use Rattle.deed_core.proofs.Units.{covers_cut}
+use Rattle.deed_core.proofs.LawProofs.{covers_cut, sum_by-map}
 use Rattle.slab_layer.specs.Parts.{part}
-use Rattle.slab_layer.specs.Slab.{SlabState, IsSlab, IsComplete, chunk_at, used_units, unused_units, gap_of, tail_of, idle_chunks_by, chunks_out_by, deeds_in, new_slab}
-use Rattle.slab_layer.specs.Cache.{CacheState, StandsAt, IsChunk, Takes, Puts, Adds, Reaps, IsOfSize, IsSound, chunk_of, spare_of, chunk_tag, span_tag, deeds_of, chunks_out, span_tags, with_chunk}
-use Rattle.slab_layer.proofs.PartLemmas.{part_none, part_some, zero_or}
+use Rattle.slab_layer.specs.Slab.{SlabState, IsSlab, IsComplete, chunk_at, used_units, unused_units, gap_of, tail_of, idle_chunks_by, chunks_out_by, deeds_in, new_slab, with_chunk}
+use Rattle.slab_layer.specs.Cache.{CacheState, StandsAt, IsChunk, Takes, Puts, Adds, Reaps, IsOfSize, IsSound, chunk_of, spare_of, chunk_tag, span_tag, deeds_of, chunks_out, span_tags}
+use Rattle.slab_layer.proofs.PartLemmas.{part_none, part_some}
 use Rattle.slab_layer.proofs.PassingLemmas.{counted, sum_by-items_where-set, passing_none, covering-items_where, covers_nothing}
-use Rattle.slab_layer.proofs.ListLemmas.{sum_by-flat_map-set, sum_by-flat_map-insert, sum_by-flat_map-remove, sum_by-map}
+use Rattle.slab_layer.proofs.ListLemmas.{sum_by-flat_map-set, sum_by-flat_map-insert, sum_by-flat_map-remove}
 use Rattle.slab_layer.proofs.SearchLemmas.{next_stands}
 
 -- what lies in a slab
@@ -97,9 +97,6 @@ takes_kept i j s old new t takes f =
 pub takes_spans : (i j : ℕ) (s : SlabState) (old new : CacheState) (t : Tag) → Takes i j s old new t → span_tags new ≡ span_tags old
 takes_spans i j s old new t takes = ap span_tags takes.after ∙ same_spans old.arena i j s false old.slabs (next_stands i s old.slabs takes.next)
 
-away : (i j : ℕ) (s : SlabState) (t : Tag) (c : CacheState) → IsChunk i j s false t c → get_or s.home j false ≡ false
-away i j s t c chunk = chunk.home
-
 pub puts_out : (i j : ℕ) (s : SlabState) (old new : CacheState) (t : Tag) → Puts i j s old new t → Loses (chunks_out old) (chunks_out new) t
 puts_out i j s old new t puts f =
     let stands : StandsAt i s old.slabs = puts.chunk.stands in
@@ -126,7 +123,7 @@ puts_spans i j s old new t puts = ap span_tags puts.after ∙ same_spans old.are
 
 -- a part covers its units, also where it has none
 pub covers_part : (u r b n : ℕ) → covering_held u (option_to_list (part r b n)) ≡ covers u (record { base = b; len = n })
-covers_part u r b n = elim (zero_or n) [
+covers_part u r b n = elim (eq-zero-or-pos n) [
   | inl none ↦ rw (part_none r b n none) (sym (covers_nothing u b n none))
   | inr some ↦ rw (part_some r b n some) (zero-add (covers u (record { base = b; len = n })))
 ]

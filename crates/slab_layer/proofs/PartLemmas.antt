@@ -1,6 +1,7 @@
 -- Parts, cut and joined.
-use Rattle.std.proofs.Common.{◌≡◌, ◌≢◌, ◌⊎◌, inl, inr, ⊎_elim, ℕ, ◌+◌, ◌-◌, ◌<◌, ◌≤◌, ◌==◌, true, false, min, List, [], ◌∷◌, ◌++◌, Option, Some, None, refl, ap, arith, subst}
-use Rattle.std.proofs.lemmas.Bool.Decides.{nat_tests, eqb_tells}
+use Rattle.std.proofs.Common.{◌≡◌, inl, inr, ℕ, ◌+◌, ◌-◌, ◌<◌, ◌≤◌, ◌==◌, true, false, min, List, [], ◌∷◌, ◌++◌, Option, Some, None, refl, ap, arith, subst}
+use Rattle.std.proofs.Math.Nat.{eq-zero-or-pos}
+use Rattle.std.proofs.lemmas.Bool.Decides.{nat_tests}
 use Rattle.deed_core.specs.Holding.{Holding}
 use Rattle.slab_layer.specs.Parts.{piece, part, front_of, back_of, Follows, joined_parts, joined_row, IsRow}
 
@@ -10,34 +11,31 @@ part_none r b len e = let is : (len == 0) ≡ true = grind (arith, nat_tests) in
 pub part_some : (r b len : ℕ) → 0 < len → part r b len ≡ Some (piece r b len)
 part_some r b len more = let is : (len == 0) ≡ false = grind (arith, nat_tests) in rw is refl
 
-pub zero_or : (n : ℕ) → (n ≡ 0) ⊎ (0 < n)
-zero_or n = ⊎_elim (λ (t : ((n == 0) ≡ true) × (n ≡ 0)). inl t.1) (λ (t : ((n == 0) ≡ false) × (n ≢ 0)). inr (omega arith)) (eqb_tells n 0)
-
 pub front_part : (n r b len : ℕ) → n ≤ len → front_of n (part r b len) ≡ part r b n
-front_part n r b len room = elim (zero_or len) [
+front_part n r b len room = elim (eq-zero-or-pos len) [
   | inl none ↦ let e : n ≡ 0 = omega arith in rw (part_none r b len none, part_none r b n e) refl
   | inr more ↦ let e : min n len ≡ n = omega arith in rw (part_some r b len more, e) refl
 ]
 
 pub back_part : (n r b len : ℕ) → n ≤ len → back_of n (part r b len) ≡ part r (b + n) (len - n)
-back_part n r b len room = elim (zero_or len) [
+back_part n r b len room = elim (eq-zero-or-pos len) [
   | inl none ↦ let e : len - n ≡ 0 = omega arith in rw (part_none r b len none, part_none r (b + n) (len - n) e) refl
   | inr more ↦ rw (part_some r b len more) refl
 ]
 
 pub both_part : (r b c x y z : ℕ) → c ≡ b + x → z ≡ x + y → joined_parts (part r b x) (part r c y) ≡ part r b z
-both_part r b c x y z next sum = rw (next, sum) (elim (zero_or x) [
+both_part r b c x y z next sum = rw (next, sum) (elim (eq-zero-or-pos x) [
   | inl none ↦ rw (part_none r b x none) (let e : b + x ≡ b = omega arith in let f : x + y ≡ y = omega arith in rw (e, f) refl)
-  | inr more ↦ elim (zero_or y) [
+  | inr more ↦ elim (eq-zero-or-pos y) [
     | inl none ↦ let e : x + y ≡ x = omega arith in rw (part_none r (b + x) y none, e, part_some r b x more) refl
     | inr some ↦ rw (part_some r b x more, part_some r (b + x) y some, part_some r b (x + y) (omega arith)) refl
   ]
 ])
 
 pub follows_part : (r b c x y : ℕ) → c ≡ b + x → Follows (part r b x) (part r c y)
-follows_part r b c x y next = rw next (elim (zero_or x) [
+follows_part r b c x y next = rw next (elim (eq-zero-or-pos x) [
   | inl none ↦ rw (part_none r b x none) tt
-  | inr more ↦ elim (zero_or y) [
+  | inr more ↦ elim (eq-zero-or-pos y) [
     | inl none ↦ rw (part_none r (b + x) y none, part_some r b x more) tt
     | inr some ↦ rw (part_some r b x more, part_some r (b + x) y some) (record { root = refl; meets = refl })
   ]

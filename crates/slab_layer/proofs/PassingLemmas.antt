@@ -7,7 +7,7 @@ use Rattle.std.proofs.lemmas.List.Elements.{All-nil, All-cons, All-head, All-tai
 use Rattle.deed_core.specs.Extent.{Extent}
 use Rattle.deed_core.specs.Holding.{Holding}
 use Rattle.deed_core.specs.Covering.{covers, covers_held, covering_held, units_held}
-use Rattle.deed_core.proofs.Units.{covers_is, covers_cut}
+use Rattle.deed_core.proofs.LawProofs.{covers_is, covers_cut}
 use Rattle.slab_layer.specs.Slab.{items_where, IsLowestIdle}
 
 -- what a value counts, if it is there

@@ -8,11 +8,11 @@ use Rattle.std.proofs.lemmas.List.Elements.{All-cons, All-head, All-tail, All-we
 use Rattle.deed_core.specs.Extent.{end_of}
 use Rattle.deed_core.specs.Holding.{Holding}
 use Rattle.deed_core.specs.Covering.{covers, covers_held, covers_tag, covering_held, covering_tags, units_held}
-use Rattle.deed_core.proofs.Units.{covers_is}
+use Rattle.deed_core.proofs.LawProofs.{covers_is, sum_by-flat_map, sum_by-map}
 use Rattle.slab_layer.specs.Slab.{SlabState, IsSlab, chunk_at, gap_of, tail_of, idle_chunks_by, chunks_out_by, deeds_in, items_where}
 use Rattle.slab_layer.specs.Cache.{CacheState, IsBelow, IsOfSize, IsSound, chunk_of, chunk_tag, span_tag, deeds_of, chunks_out, span_tags, idle_deeds, gaps, tails}
 use Rattle.slab_layer.proofs.PassingLemmas.{sum_by-items_where-cons}
-use Rattle.slab_layer.proofs.ListLemmas.{sum_by-flat_map, sum_by-map}
+use Rattle.slab_layer.proofs.ListLemmas.{both_nil}
 use Rattle.slab_layer.proofs.MoveLemmas.{sum_by-kept, tile, slab_of_size}
 
 -- the spans of slabs by ascending base are together no longer than the space
@@ -69,14 +69,10 @@ pub none_kept : (slabs : List SlabState) → All (λ s. deeds_in s ≡ []) slabs
 none_kept [] none = refl
 none_kept (s ∷ ss) none = rw (All-head (λ x. deeds_in x ≡ []) s ss none, none_kept ss (All-tail (λ x. deeds_in x ≡ []) s ss none)) refl
 
-append_nil : (xs ys : List Holding) → xs ++ ys ≡ [] → (xs ≡ []) × (ys ≡ [])
-append_nil [] ys e = (refl, e)
-append_nil (x ∷ xs) ys e = cc
-
 pub kept_none : (slabs : List SlabState) → flat_map deeds_in slabs ≡ [] → All (λ s. deeds_in s ≡ []) slabs
 kept_none [] none = λ k d within. absurd (omega arith)
 kept_none (s ∷ ss) none =
-    let parts = append_nil (deeds_in s) (flat_map deeds_in ss) none in
+    let parts = both_nil (deeds_in s) (flat_map deeds_in ss) none in
     All-cons (λ x. deeds_in x ≡ []) s ss parts.0 (kept_none ss parts.1)
 
 -- slabs by ascending base have no unit in common

@@ -40,7 +40,7 @@ stored_from_start f xs j y = let e : 0 + j ≡ j = omega arith in stored_row-set
 pub get_or_from_start : (f : ℕ → Holding) (xs : List Bool) (j : ℕ) (d : Option Holding) (b : Bool) → j < length xs → get_or (stored_row f 0 xs) j d ≡ entry f j (get_or xs j b)
 get_or_from_start f xs j d b within = let e : 0 + j ≡ j = omega arith in get_or-stored_row f 0 xs j d b within ∙ rw e refl
 
-is_some-entry : (h : Holding) (x : Bool) → is_some (if x then Some h else None) ≡ x
+pub is_some-entry : (h : Holding) (x : Bool) → is_some (if x then Some h else None) ≡ x
 is_some-entry h true = refl
 is_some-entry h false = refl
 

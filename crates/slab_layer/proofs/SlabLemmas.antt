@@ -4,6 +4,7 @@ use Rattle.std.proofs.Math.ListN.{replicate}
 use Rattle.std.proofs.Math.Nat.{mul-le-mul_right, mul-mod_left, mul-div_left}
 use Rattle.std.specs.Prelude.{count_by, MatchOption, ◌↔◌}
 use Rattle.std.specs.Option.{option_to_list}
+use Rattle.std.proofs.lemmas.Bool.{not-false}
 use Rattle.std.proofs.lemmas.Option.{same_Some}
 use Rattle.std.proofs.lemmas.List.Elements.{All-nil, All-cons, All-head, All-tail, All-same}
 use Rattle.std.proofs.lemmas.List.{length-set, length-replicate, map-set}
@@ -11,20 +12,17 @@ use Rattle.deed_core.specs.Covering.{units_held}
 use Rattle.deed_core.specs.Holding.{Holding}
 use Rattle.slab_layer.specs.Parts.{piece, part, front_of, back_of, Follows, joined_parts, joined_row, IsRow}
 use Rattle.slab_layer.specs.Slab.{SlabState, chunk_at, used_units, unused_units, gap_of, tail_of, idle_chunks_by, deeds_in, stored_row, IsLowestIdle, IsStored, IsComplete, new_slab}
+use Rattle.slab_layer.proofs.ListLemmas.{both_nil}
 use Rattle.slab_layer.proofs.PartLemmas.{part_some, both_part, follows_part}
-use Rattle.slab_layer.proofs.RowLemmas.{entry, placed, get_or_from_start, stored_from_start, map-stored_row, joined_row-stored_row, row-stored_row, all_true}
+use Rattle.slab_layer.proofs.RowLemmas.{entry, is_some-entry, placed, get_or_from_start, stored_from_start, map-stored_row, joined_row-stored_row, row-stored_row, all_true}
 use Rattle.slab_layer.proofs.PassingLemmas.{passing_none, none_passing, units-items_where}
 
 abbrev pub state : Holding → ℕ → ℕ → List (Option Holding) → SlabState
 state span colour chunk row = record { span = span; colour = colour; chunk = chunk; home = map is_some row }
 
 -- a place changed
-is_some-entry : (f : ℕ → Holding) (j : ℕ) (y : Bool) → is_some (entry f j y) ≡ y
-is_some-entry f j true = refl
-is_some-entry f j false = refl
-
 pub map_changed : (f : ℕ → Holding) (row : List (Option Holding)) (j : ℕ) (y : Bool) (x : Option Holding) → x ≡ entry f j y → map is_some (set row j x) ≡ set (map is_some row) j y
-map_changed f row j y x is = map-set is_some row j x ∙ ap (λ (b : Bool). set (map is_some row) j b) (ap is_some is ∙ is_some-entry f j y)
+map_changed f row j y x is = map-set is_some row j x ∙ ap (λ (b : Bool). set (map is_some row) j b) (ap is_some is ∙ is_some-entry (f j) y)
 
 pub changed : (span : Holding) (colour chunk : ℕ) (row : List (Option Holding)) (first last : Option Holding) (j : ℕ) (y : Bool) (x : Option Holding)
     → IsStored (state span colour chunk row) first row last → x ≡ entry (chunk_at (state span colour chunk row)) j y → IsStored (state span colour chunk (set row j x)) first (set row j x) last
@@ -133,18 +131,10 @@ is_none : (o : Option Holding) → is_some o ≡ false → o ≡ None
 is_none None e = refl
 is_none (Some h) e = cc
 
-not_false : (r : Bool) → false ≡ not r → r ≡ true
-not_false true e = refl
-not_false false e = cc
-
 -- a slab in which nothing lies
 none_none : (o : Option Holding) → option_to_list o ≡ [] → o ≡ None
 none_none None e = refl
 none_none (Some h) e = cc
-
-both_nil : (xs ys : List Holding) → xs ++ ys ≡ [] → (xs ≡ []) × (ys ≡ [])
-both_nil [] ys e = (refl, e)
-both_nil (x ∷ xs) ys e = cc
 
 pub record IsBare (s : SlabState) (first last : Option Holding) (row : List (Option Holding)) : Type 0 where
   pub gap : first ≡ None
@@ -184,7 +174,7 @@ idle_units s = units-items_where s.chunk (λ b. b) (chunk_at s) 0 s.home (λ k. 
 
 pub empty_is : (s : SlabState) (first last : Option Holding) (row : List (Option Holding)) (o : Option ℕ) (r : Bool) → IsStored s first row last → is_some first ≡ false → is_some last ≡ false
     → is_some o ≡ not r → MatchOption o (All (λ b. b ≡ false) s.home) (λ j. IsLowestIdle j s.home) → (r ≡ true) ↔ (deeds_in s ≡ [])
-empty_is s first last row None r held a b e out = (λ is. is_bare s first last row held (is_none first a) (is_none last b) out, λ none. not_false r e)
+empty_is s first last row None r held a b e out = (λ is. is_bare s first last row held (is_none first a) (is_none last b) out, λ none. not-false r (sym e))
 empty_is s first last row (Some j) r held a b e idle = (
   λ is. absurd (let f : not r ≡ false = ap not is in cc),
   λ none.

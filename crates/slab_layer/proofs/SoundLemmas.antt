@@ -1,6 +1,6 @@
 -- What a cache keeps, through its moves.
 use Rattle.std.proofs.Common.{◌≡◌, inl, inr, ℕ, ◌+◌, ◌-◌, ◌*◌, ◌/◌, ◌<◌, ◌≤◌, ◌^◌, Bool, true, false, nat_le, List, [], length, get_or, set, take, drop, All, AllPairs, insert, remove, refl, sym, ap, ◌∙◌, arith, subst, if◌then◌else◌}
-use Rattle.std.proofs.Math.Nat.{div-eq-sub-div, mul-le-mul_right}
+use Rattle.std.proofs.Math.Nat.{div-eq-sub-div, eq-zero-or-pos, mul-le-mul_right}
 use Rattle.std.proofs.Math.ListN.{replicate}
 use Rattle.std.proofs.lemmas.Bool.Decides.{nat_tests}
 use Rattle.std.specs.Prelude.{Any}
@@ -10,10 +10,9 @@ use Rattle.std.proofs.lemmas.List.Elements.{All-set, All-get_or, All-nil, All-sa
 use Rattle.std.proofs.lemmas.List.Quantifiers.{all_pairs_remove}
 use Rattle.deed_core.specs.Extent.{Extent, Overlap, end_of}
 use Rattle.deed_core.specs.Tag.{Tag}
-use Rattle.slab_layer.specs.Slab.{SlabState, new_slab, IsComplete, IsLowestIdle}
-use Rattle.slab_layer.specs.Cache.{CacheState, StandsAt, IsChunk, IsLowest, IsNext, chunk_tag, span_tag, IsBelow, IsOfSize, IsSound, Takes, Puts, Adds, Reaps, chunk_of, spare_of, next_colour, with_slabs, with_chunk}
+use Rattle.slab_layer.specs.Slab.{SlabState, new_slab, with_chunk, IsComplete, IsLowestIdle}
+use Rattle.slab_layer.specs.Cache.{CacheState, StandsAt, IsChunk, IsLowest, IsNext, chunk_tag, span_tag, IsBelow, IsOfSize, IsSound, Takes, Puts, Adds, Reaps, chunk_of, spare_of, next_colour, with_slabs}
 use Rattle.slab_layer.proofs.ListLemmas.{pairs_set, pairs_insert, all_insert, all_remove}
-use Rattle.slab_layer.proofs.PartLemmas.{zero_or}
 use Rattle.slab_layer.proofs.SearchLemmas.{next_stands, same_slab}
 
 -- what holds of each slab holds of one that stands
@@ -144,7 +143,7 @@ placed_at i e c sound some apart reach below above = record {
       let s : SlabState = get_or c.slabs (i + k) d in
       let first : e.base ≤ (get_or c.slabs i d).span.range.base = above (omega arith) d in
       let size : IsOfSize c.slab_size (chunk_of c) s = sound.slabs (i + k) d in_slabs in
-      let order : e.base ≤ s.span.range.base = elim (zero_or k) [
+      let order : e.base ≤ s.span.range.base = elim (eq-zero-or-pos k) [
         | inl none ↦ let same : i + k ≡ i = omega arith in rw same first
         | inr more ↦ let up : IsBelow (get_or c.slabs i d) s = sound.ascending i (i + k) d (omega arith) in_slabs in omega (arith, up, first)
       ] in

@@ -6,7 +6,7 @@ use Rattle.deed_core.specs.Extent.{end_of}
 use Rattle.deed_core.specs.Holding.{Holding}
 use Rattle.deed_core.specs.Tag.{Tag}
 use Rattle.deed_core.specs.declared.segments.Route.TheVariants.{Direct, Cached}
-use Rattle.slab_layer.specs.Slab.{SlabState, chunk_at, idle_chunks_by, chunks_out_by, deeds_in, gap_of, tail_of, new_slab, IsComplete, IsPartial, IsLowestIdle}
+use Rattle.slab_layer.specs.Slab.{SlabState, chunk_at, idle_chunks_by, chunks_out_by, deeds_in, gap_of, tail_of, new_slab, with_chunk, IsComplete, IsPartial, IsLowestIdle}
 
 -- a cache of chunks of k quanta, cut from slabs of one size
 pub record CacheState : Type 0 where
@@ -79,10 +79,6 @@ pub record IsLowest (P : SlabState → Type 0) (i : ℕ) (s : SlabState) (slabs 
 -- s gives the next chunk: it is the lowest partial slab, else the lowest complete one
 abbrev pub IsNext : ℕ → SlabState → List SlabState → Type 0
 IsNext i s slabs = IsLowest IsPartial i s slabs ⊎ (All (λ t. ¬ IsPartial t) slabs × IsLowest IsComplete i s slabs)
-
--- the slab with its j-th chunk at home or out
-abbrev pub with_chunk : SlabState → ℕ → Bool → SlabState
-with_chunk s j b = record { span = s.span; colour = s.colour; chunk = s.chunk; home = slice_set s.home j b }
 
 -- the cache with these slabs
 abbrev pub with_slabs : CacheState → List SlabState → CacheState

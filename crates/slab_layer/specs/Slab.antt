@@ -1,5 +1,5 @@
 -- What a contract sees of a slab, and where its chunks stand.
-use Rattle.std.specs.Prelude.{◌≡◌, ℕ, ◌+◌, ◌-◌, ◌*◌, ◌/◌, ◌<◌, ◌≤◌, Bool, true, false, not, List, [], ◌∷◌, ◌++◌, Option, Some, None, All, Contains, length, slice_index_or, replicate, sum_by, if◌then◌else◌}
+use Rattle.std.specs.Prelude.{◌≡◌, ℕ, ◌+◌, ◌-◌, ◌*◌, ◌/◌, ◌<◌, ◌≤◌, Bool, true, false, not, List, [], ◌∷◌, ◌++◌, Option, Some, None, All, Contains, length, slice_index_or, slice_set, replicate, sum_by, if◌then◌else◌}
 use Rattle.std.specs.Option.{option_to_list}
 use Rattle.deed_core.specs.Holding.{Holding}
 use Rattle.slab_layer.specs.Parts.{piece, part}
@@ -75,6 +75,10 @@ pub record IsSlab (s : SlabState) : Type 0 where
 -- a span as a new slab
 abbrev pub new_slab : Holding → ℕ → ℕ → SlabState
 new_slab span colour chunk = record { span = span; colour = colour; chunk = chunk; home = replicate (span.range.len / chunk) true }
+
+-- the slab with its j-th chunk at home or out
+abbrev pub with_chunk : SlabState → ℕ → Bool → SlabState
+with_chunk s j b = record { span = s.span; colour = s.colour; chunk = s.chunk; home = slice_set s.home j b }
 
 -- the deeds at the places, where the chunks are at home
 abbrev pub stored_row : (ℕ → Holding) → ℕ → List Bool → List (Option Holding)

@@ -14,8 +14,8 @@ use deed_core::{Deed, Route, Segment, Stored, insert_reserved};
 use std::alloc::Global;
 use std::marker::Model;
 
-/// Chunks of k quanta, cut from slabs of one size. It can't be dropped: `close` ends it. Contracts see it as
-/// `CacheState`, its slabs in order of their bases.
+/// Chunks of k quanta, cut from slabs of one size. It can't be dropped: `close` ends it. Contracts see
+/// it as `CacheState`, its slabs in order of their bases.
 pub struct SlabCache<D: Deed> {
     alloc: Global,
     arena: u32,
@@ -37,12 +37,20 @@ impl<D: Deed> Model for SlabCache<D> {
 }
 
 impl<D: Deed> SlabCache<D> {
-    /// A cache with no slab, for chunks of `k` quanta of the arena. `quantum` and `slab_size` count units.
+    /// A cache with no slab, for chunks of `k` quanta of the arena. `quantum` and `slab_size` count
+    /// units.
     pub fn new(alloc: Global, arena: u32, k: u8, quantum: u64, slab_size: u64) -> SlabCache<D>
         requires k { 1 ≤ k }
         requires quantum { 1 ≤ quantum }
         requires room { k * quantum ≤ slab_size }
-        ensures { result ≡ record { arena = arena; k = k; quantum = quantum; slab_size = slab_size; slabs = []; colour = 0 } }
+        ensures { result ≡ record {
+          arena = arena;
+          k = k;
+          quantum = quantum;
+          slab_size = slab_size;
+          slabs = [];
+          colour = 0;
+        } }
     {
         SlabCache {
             alloc,
@@ -69,13 +77,15 @@ impl<D: Deed> SlabCache<D> {
         self.k
     }
 
-    /// The lowest idle chunk of the lowest partial slab, else of the lowest complete one. It takes no memory.
+    /// The lowest idle chunk of the lowest partial slab, else of the lowest complete one. It takes no
+    /// memory.
     ///
-    /// That partial slabs are used before complete ones is from "The Slab Allocator", 1994; lowest first is
-    /// our own choice.
+    /// That partial slabs are used before complete ones is from "The Slab Allocator", 1994; lowest
+    /// first is our own choice.
     pub fn take(&mut self) -> Option<Segment<D>>
         ensures none { IsNone result ↔ All IsAllOut self.old.slabs }
-        ensures some { IfSome result (λ t. (i j : ℕ) × (s : SlabState) × Takes i j s self.old self.new t) }
+        ensures some { IfSome result (λ t. (i j : ℕ) × (s : SlabState)
+            × Takes i j s self.old self.new t) }
         ensures unchanged { IfNone result (self.new ≡ self.old) }
 
         // Whatever is counted: the chunk is out, and no longer here.
@@ -92,8 +102,10 @@ impl<D: Deed> SlabCache<D> {
     /// Takes a chunk back. It takes no memory. A segment that is refused comes back as it was.
     pub fn put(&mut self, segment: Segment<D>) -> Result<(), (Segment<D>, PutFault)>
         ensures mine { IsOk result ↔ Contains (chunks_out self.old) segment }
-        ensures at_home { IsErrAnd result (λ e. e.1 ≡ PutFault.AtHome) ↔ Contains (idle_chunks self.old) segment }
-        ensures not_mine { IsErrAnd result (λ e. e.1 ≡ PutFault.NotMine) ↔ (¬ Contains (chunks_out self.old) segment × ¬ Contains (idle_chunks self.old) segment) }
+        ensures at_home { IsErrAnd result (λ e. e.1 ≡ PutFault.AtHome)
+            ↔ Contains (idle_chunks self.old) segment }
+        ensures not_mine { IsErrAnd result (λ e. e.1 ≡ PutFault.NotMine)
+            ↔ (¬ Contains (chunks_out self.old) segment × ¬ Contains (idle_chunks self.old) segment) }
         ensures ok { OnOk result ((i j : ℕ) × (s : SlabState) × Puts i j s self.old self.new segment) }
         ensures same { IfErr result (λ e. e.0 ≡ segment) }
         ensures unchanged { OnErr result (self.new ≡ self.old) }
@@ -119,20 +131,26 @@ impl<D: Deed> SlabCache<D> {
 
     /// Cuts a span into a slab with the next colour, and gives its first chunk.
     ///
-    /// The colours go up by one quantum from slab to slab, from 0 to the units that are in no chunk, and then
-    /// begin again ("The Slab Allocator", 1994). A span that is refused comes back whole.
+    /// The colours go up by one quantum from slab to slab, from 0 to the units that are in no chunk,
+    /// and then begin again ("The Slab Allocator", 1994). A span that is refused comes back whole.
     pub fn add(&mut self, span: Segment<D>) -> Result<Segment<D>, (Segment<D>, AddFault)>
         requires arena { span.arena ≡ self.old.arena }
         requires route { span.route ≡ Route.Direct }
-        ensures wrong_size { IsErrAnd result (λ e. e.1 ≡ AddFault.WrongSize) ↔ (span.holding.range.len ≢ self.old.slab_size) }
-        ensures overlaps { IsErrAnd result (λ e. e.1 ≡ AddFault.Overlaps) ↔ ((span.holding.range.len ≡ self.old.slab_size) × Any (λ s. Overlap s.span.range span.holding.range) self.old.slabs) }
+        ensures wrong_size { IsErrAnd result (λ e. e.1 ≡ AddFault.WrongSize)
+            ↔ (span.holding.range.len ≢ self.old.slab_size) }
+        ensures overlaps { IsErrAnd result (λ e. e.1 ≡ AddFault.Overlaps)
+            ↔ ((span.holding.range.len ≡ self.old.slab_size)
+            × Any (λ s. Overlap s.span.range span.holding.range) self.old.slabs) }
         ensures ok { IfOk result (λ t. (i : ℕ) × Adds i self.old self.new span t) }
         ensures same { IfErr result (λ e. e.0 ≡ span) }
         ensures unchanged { OnErr result (self.new ≡ self.old) }
 
-        // Whatever is counted: the span came in, and its first chunk is out. Each of its other units is kept.
+        // Whatever is counted: the span came in, and its first chunk is out. Each of its other units is
+        // kept.
         ensures out { IfOk result (λ t. Gains (chunks_out self.old) (chunks_out self.new) t) }
-        ensures kept { IfOk result (λ t. (u : ℕ) → covering_held u (deeds_of self.old) + covers_tag u span ≡ covering_held u (deeds_of self.new) + covers_tag u t) }
+        ensures kept { IfOk result (λ t. (u : ℕ)
+            → covering_held u (deeds_of self.old) + covers_tag u span
+            ≡ covering_held u (deeds_of self.new) + covers_tag u t) }
         ensures spans { OnOk result (Gains (span_tags self.old) (span_tags self.new) span) }
     {
         let range = span.range();
@@ -165,7 +183,8 @@ impl<D: Deed> SlabCache<D> {
 
     // Whether a segment is of the arena, and came by this cache.
     fn is_routed_here(&self, segment: &Segment<D>) -> bool
-        ensures { IsTrue result ↔ ((segment.now.arena ≡ self.now.arena) × (segment.now.route ≡ Route.Cached self.now.k)) }
+        ensures { IsTrue result
+            ↔ ((segment.now.arena ≡ self.now.arena) × (segment.now.route ≡ Route.Cached self.now.k)) }
     {
         segment.arena() == self.arena && segment.route() == Route::Cached(self.k)
     }
@@ -193,7 +212,8 @@ impl<D: Deed> SlabCache<D> {
         }
     }
 
-    /// Takes the lowest slab with all chunks at home out, whole, to go back to the arena. It takes no memory.
+    /// Takes the lowest slab with all chunks at home out, whole, to go back to the arena. It takes no
+    /// memory.
     ///
     /// Only such slabs are reclaimed ("The Slab Allocator", 1994); lowest first is our own choice.
     pub fn reap(&mut self) -> Option<Segment<D>>
@@ -203,7 +223,9 @@ impl<D: Deed> SlabCache<D> {
 
         // Whatever is counted: the span left, and no chunk of it was out.
         ensures out { WeighSame (chunks_out self.old) (chunks_out self.new) }
-        ensures kept { IfSome result (λ t. (u : ℕ) → covering_held u (deeds_of self.old) ≡ covering_held u (deeds_of self.new) + covers_tag u t) }
+        ensures kept { IfSome result (λ t. (u : ℕ)
+            → covering_held u (deeds_of self.old)
+            ≡ covering_held u (deeds_of self.new) + covers_tag u t) }
         ensures spans { IfSome result (λ t. Loses (span_tags self.old) (span_tags self.new) t) }
     {
         let i = lowest_complete(&self.slabs)?;
@@ -220,7 +242,9 @@ impl<D: Deed> SlabCache<D> {
 
         // Each unit of a slab is in one chunk, at home or out, in the gap or in the tail.
         ensures once { (u : ℕ) → covering_tags u (span_tags self.now) ≤ 1 }
-        ensures tiled { (u : ℕ) → covering_held u (deeds_of self.now) + covering_tags u (chunks_out self.now) ≡ covering_tags u (span_tags self.now) }
+        ensures tiled { (u : ℕ)
+            → covering_held u (deeds_of self.now) + covering_tags u (chunks_out self.now)
+            ≡ covering_tags u (span_tags self.now) }
     {
         total(&self.slabs)
     }

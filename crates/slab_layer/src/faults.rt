@@ -19,10 +19,11 @@ pub enum AddFault {
     /// Its length isn't the slab size.
     #[error("not of the slab size")]
     WrongSize,
-    /// It has a unit in common with a slab that is here.
+    /// It has a unit in common with a slab that is here. Roots aren't looked at, since no two spans of
+    /// an arena overlap.
     #[error("overlaps a slab")]
     Overlaps,
     /// Memory was refused.
-    #[error("out of memory")]
+    #[error("no memory")]
     NoMemory,
 }

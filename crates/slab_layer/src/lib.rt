@@ -1,7 +1,7 @@
 //! One slab cache by itself: chunks of one size, cut from slabs of one size.
 //!
-//! A slab is a span that was carved directly from an arena. Begin with [`SlabCache`]; its contracts speak of the
-//! words in `specs/Cache.antt` and `specs/Slab.antt`.
+//! A slab is a span that was carved directly from an arena. Begin with [`SlabCache`]; its contracts
+//! speak of the words in `specs/Cache.antt` and `specs/Slab.antt`.
 #![tactic(auto)]
 
 mod caches;

@@ -8,7 +8,8 @@ use deed_core::{Deed, Stored};
 
 /// The first place with a deed.
 pub fn first_some<D: Deed>(row: &[Option<Stored<D>>]) -> Option<usize>
-    ensures { MatchOption result (All (λ b. b ≡ false) (map is_some row.now)) (λ j. IsLowestIdle j (map is_some row.now)) }
+    ensures { MatchOption result (All (λ b. b ≡ false) (map is_some row.now))
+        (λ j. IsLowestIdle j (map is_some row.now)) }
 {
     for (j, deed) in row.iter().enumerate() {
         if deed.is_some() {
@@ -60,7 +61,8 @@ pub fn unchop<D: Deed>(
     rest
 }
 
-/// Cuts `count` chunks off a deed, and gives what is left. Where memory runs out, the deed is whole again.
+/// Cuts `count` chunks off a deed, and gives what is left. Where memory runs out, the deed is whole
+/// again.
 pub fn chop<D: Deed>(
     row: &mut Vec<Option<Stored<D>>>,
     whole: Stored<D>,
@@ -71,8 +73,10 @@ pub fn chop<D: Deed>(
     requires capacity { count ≤ vec_capacity row.old }
     requires some { 0 < chunk }
     requires room { count * chunk ≤ whole.range.len }
-    ensures ok { IfOk result (λ rest. rest ≡ part whole.root (whole.range.base + count * chunk) (whole.range.len - count * chunk)) }
-    ensures row { OnOk result (row.new.items ≡ stored_row (λ i. piece whole.root (whole.range.base + i * chunk) chunk) 0 (replicate count true)) }
+    ensures ok { IfOk result (λ rest. rest
+        ≡ part whole.root (whole.range.base + count * chunk) (whole.range.len - count * chunk)) }
+    ensures row { OnOk result (row.new.items
+        ≡ stored_row (λ i. piece whole.root (whole.range.base + i * chunk) chunk) 0 (replicate count true)) }
     ensures err { IfErr result (λ same. same ≡ whole) }
     ensures err_row { OnErr result (row.new.items ≡ []) }
 {

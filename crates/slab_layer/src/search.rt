@@ -10,7 +10,8 @@ use deed_core::{Deed, Range};
 /// The lowest slab with a chunk at home and another out.
 pub fn lowest_partial<D: Deed>(slabs: &[Slab<D>]) -> Option<usize>
     requires { AllPairs IsBelow slabs.now }
-    ensures { MatchOption result (All (λ s. ¬ IsPartial s) slabs.now) (λ i. (s : SlabState) × IsLowest IsPartial i s slabs.now) }
+    ensures { MatchOption result (All (λ s. ¬ IsPartial s) slabs.now)
+        (λ i. (s : SlabState) × IsLowest IsPartial i s slabs.now) }
 {
     for (i, slab) in slabs.iter().enumerate() {
         if slab.is_partial() {
@@ -23,7 +24,8 @@ pub fn lowest_partial<D: Deed>(slabs: &[Slab<D>]) -> Option<usize>
 /// The lowest slab with all chunks at home.
 pub fn lowest_complete<D: Deed>(slabs: &[Slab<D>]) -> Option<usize>
     requires { AllPairs IsBelow slabs.now }
-    ensures { MatchOption result (All (λ s. ¬ IsComplete s) slabs.now) (λ i. (s : SlabState) × IsLowest IsComplete i s slabs.now) }
+    ensures { MatchOption result (All (λ s. ¬ IsComplete s) slabs.now)
+        (λ i. (s : SlabState) × IsLowest IsComplete i s slabs.now) }
 {
     for (i, slab) in slabs.iter().enumerate() {
         if slab.is_complete() {
@@ -36,7 +38,9 @@ pub fn lowest_complete<D: Deed>(slabs: &[Slab<D>]) -> Option<usize>
 // The slab that gives the next chunk.
 fn next_slab<D: Deed>(slabs: &[Slab<D>]) -> Option<usize>
     requires { AllPairs IsBelow slabs.now }
-    ensures { MatchOption result (All (λ s. ¬ IsPartial s) slabs.now × All (λ s. ¬ IsComplete s) slabs.now) (λ i. (s : SlabState) × IsNext i s slabs.now) }
+    ensures { MatchOption result (All (λ s. ¬ IsPartial s) slabs.now
+        × All (λ s. ¬ IsComplete s) slabs.now)
+        (λ i. (s : SlabState) × IsNext i s slabs.now) }
 {
     let Some(i) = lowest_partial(slabs) else {
         return lowest_complete(slabs);
@@ -48,7 +52,8 @@ fn next_slab<D: Deed>(slabs: &[Slab<D>]) -> Option<usize>
 pub fn next_chunk<D: Deed>(slabs: &[Slab<D>]) -> Option<(usize, usize)>
     requires ascending { AllPairs IsBelow slabs.now }
     requires some { All (λ s. 0 < length s.home) slabs.now }
-    ensures { MatchOption result (All IsAllOut slabs.now) (λ p. (s : SlabState) × IsNext p.0 s slabs.now × IsLowestIdle p.1 s.home) }
+    ensures { MatchOption result (All IsAllOut slabs.now)
+        (λ p. (s : SlabState) × IsNext p.0 s slabs.now × IsLowestIdle p.1 s.home) }
 {
     let i = next_slab(slabs)?;
     let j = slabs[i].first_idle()?;
@@ -57,7 +62,11 @@ pub fn next_chunk<D: Deed>(slabs: &[Slab<D>]) -> Option<(usize, usize)>
 
 /// The chunk that covers this range of this root: its slab's place, and its own.
 pub fn find_chunk<D: Deed>(slabs: &[Slab<D>], root: u32, range: Range) -> Option<(usize, usize)>
-    ensures { MatchOption result (All (λ s. (j : ℕ) → j < length s.home → chunk_at s j ≢ record { root = root; range = range }) slabs.now) (λ p. (s : SlabState) × StandsAt p.0 s slabs.now × (p.1 < length s.home) × (chunk_at s p.1 ≡ record { root = root; range = range })) }
+    ensures { MatchOption result
+        (All (λ s. (j : ℕ) → j < length s.home
+        → chunk_at s j ≢ record { root = root; range = range }) slabs.now)
+        (λ p. (s : SlabState) × StandsAt p.0 s slabs.now × (p.1 < length s.home)
+        × (chunk_at s p.1 ≡ record { root = root; range = range })) }
 {
     for (i, slab) in slabs.iter().enumerate() {
         if let Some(j) = slab.place_of(root, range) {
@@ -82,8 +91,10 @@ pub fn overlaps<D: Deed>(slabs: &[Slab<D>], range: Range) -> bool
 /// The first place from which on no slab begins below `base`.
 pub fn place_for<D: Deed>(slabs: &[Slab<D>], base: u64) -> usize
     ensures within { result ≤ length slabs.now }
-    ensures below { (k : ℕ) (d : SlabState) → k < result → (slice_index_or slabs.now k d).span.range.base < base }
-    ensures above { result < length slabs.now → (d : SlabState) → base ≤ (slice_index_or slabs.now result d).span.range.base }
+    ensures below { (k : ℕ) (d : SlabState) → k < result
+        → (slice_index_or slabs.now k d).span.range.base < base }
+    ensures above { result < length slabs.now → (d : SlabState)
+        → base ≤ (slice_index_or slabs.now result d).span.range.base }
 {
     for (i, slab) in slabs.iter().enumerate() {
         if slab.span().base() >= base {

@@ -1,9 +1,9 @@
 //! Slabs: spans cut into a colour gap, chunks and a tail.
-ghost use Rattle.std.specs.Prelude.{◌≡◌, ◌≢◌, ℕ, ◌+◌, ◌*◌, ◌/◌, ◌<◌, ◌≤◌, ◌↔◌, [], true, false, length, All, slice_index_or, slice_set, IsTrue, IfOk, IfErr, MatchOption};
+ghost use Rattle.std.specs.Prelude.{◌≡◌, ◌≢◌, ℕ, ◌+◌, ◌*◌, ◌/◌, ◌<◌, ◌≤◌, ◌↔◌, [], true, false, length, All, slice_index_or, IsTrue, IfOk, IfErr, MatchOption};
 ghost use Rattle.std.specs.Option.{option_to_list};
 ghost use Rattle.deed_core.specs.Covering.{units_held};
 ghost use Rattle.deed_core.specs.Extent.{IsRange};
-ghost use Rattle.slab_layer.specs.Slab.{SlabState, IsComplete, IsPartial, IsLowestIdle, chunk_at, new_slab, gap_of, tail_of, idle_chunks_by, deeds_in};
+ghost use Rattle.slab_layer.specs.Slab.{SlabState, IsComplete, IsPartial, IsLowestIdle, chunk_at, new_slab, with_chunk, gap_of, tail_of, idle_chunks_by, deeds_in};
 
 use crate::parts::{cut, join};
 use crate::rows::{are_some, chop, count_some, first_some, unchop};
@@ -114,7 +114,8 @@ impl<D: Deed> Slab<D> {
 
     /// The lowest chunk at home.
     pub fn first_idle(&self) -> Option<usize>
-        ensures { MatchOption result (All (λ b. b ≡ false) self.now.home) (λ j. IsLowestIdle j self.now.home) }
+        ensures { MatchOption result (All (λ b. b ≡ false) self.now.home)
+            (λ j. IsLowestIdle j self.now.home) }
     {
         first_some(&self.home)
     }
@@ -144,7 +145,11 @@ impl<D: Deed> Slab<D> {
     /// Which chunk covers this range of this root.
     #[tactic(auto, using(crate::proofs::SlabLemmas::places))]
     pub fn place_of(&self, root: u32, range: Range) -> Option<usize>
-        ensures { MatchOption result ((j : ℕ) → j < length self.now.home → chunk_at self.now j ≢ record { root = root; range = range }) (λ j. (j < length self.now.home) × (chunk_at self.now j ≡ record { root = root; range = range })) }
+        ensures { MatchOption result
+            ((j : ℕ) → j < length self.now.home
+            → chunk_at self.now j ≢ record { root = root; range = range })
+            (λ j. (j < length self.now.home)
+            × (chunk_at self.now j ≡ record { root = root; range = range })) }
     {
         let first = self.span.base() + self.colour;
         if root != self.root || range.len() != self.chunk || range.base() < first {
@@ -165,7 +170,7 @@ impl<D: Deed> Slab<D> {
         requires within { j < length self.old.home }
         requires idle { slice_index_or self.old.home j false ≡ true }
         ensures chunk { result ≡ chunk_at self.old j }
-        ensures after { self.new ≡ record { span = self.old.span; colour = self.old.colour; chunk = self.old.chunk; home = slice_set self.old.home j false } }
+        ensures after { self.new ≡ with_chunk self.old j false }
     {
         mem::replace(&mut self.home[j], None).unwrap()
     }
@@ -175,7 +180,7 @@ impl<D: Deed> Slab<D> {
         requires within { j < length self.old.home }
         requires is_out { slice_index_or self.old.home j false ≡ false }
         requires chunk { deed ≡ chunk_at self.old j }
-        ensures { self.new ≡ record { span = self.old.span; colour = self.old.colour; chunk = self.old.chunk; home = slice_set self.old.home j true } }
+        ensures { self.new ≡ with_chunk self.old j true }
     {
         match mem::replace(&mut self.home[j], Some(deed)) {
             None => {}

@@ -4,8 +4,8 @@ use Rattle.deed_core.specs.Extent.{Extent, Overlap, end_of}
 use Rattle.deed_core.specs.Holding.{Holding}
 use Rattle.deed_core.specs.Tag.{Tag}
 use Rattle.deed_core.specs.declared.segments.Route.TheVariants.{Direct, Cached}
-use Rattle.slab_layer.specs.Slab.{SlabState, chunk_at, new_slab}
-use Rattle.slab_layer.specs.Cache.{CacheState, chunk_of, with_chunk}
+use Rattle.slab_layer.specs.Slab.{SlabState, chunk_at, new_slab, with_chunk}
+use Rattle.slab_layer.specs.Cache.{CacheState, chunk_of}
 use Rattle.slab_layer.proofs.SoundLemmas.{made_adds, sound_adds, some_chunk}
 use Rattle.slab_layer.proofs.MoveLemmas.{fresh_first, fresh_is_slab, adds_out, adds_kept, adds_spans}
 use Rattle.slab_layer.proofs.caches.SlabCache.add.Goals as goal

@@ -2,9 +2,9 @@ use Rattle.std.proofs.Common.{◌≡◌, ◌∙◌, sym, arith, subst}
 use Rattle.std.specs.Option.{option_to_list}
 use Rattle.deed_core.specs.Covering.{units_held}
 use Rattle.deed_core.specs.Holding.{Holding}
+use Rattle.deed_core.proofs.LawProofs.{sum_by-flat_map}
 use Rattle.slab_layer.specs.Slab.{SlabState, idle_chunks_by, chunk_at, gap_of, tail_of}
 use Rattle.slab_layer.specs.Cache.{CacheState, IsSound, idle_deeds, gaps, tails}
-use Rattle.slab_layer.proofs.ListLemmas.{sum_by-flat_map}
 use Rattle.slab_layer.proofs.ReportLemmas.{spans_fit, kept_units, tiled, once}
 use Rattle.slab_layer.proofs.caches.SlabCache.report.Goals as goal
 
