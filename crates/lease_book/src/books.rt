@@ -22,7 +22,8 @@ use std::marker::Model;
 pub const LEASES: usize = 1024;
 
 /// Which client holds which segment, and the last number and the kept reply of each client's current
-/// incarnation.
+/// incarnation. Clients go from 1 to 65,536, incarnations and numbers of requests from 1 to 2^62. (Our own
+/// choice.)
 pub struct Book<D: Deed> {
     mark: D,
     accounts: Accounts<D>,
