@@ -24,6 +24,11 @@ exit_of Read = 1
 exit_of Write = 1
 exit_of Memory = 1
 
+-- the exit status of a program whose script ends so
+abbrev pub status_of : Result (Unit {0}) ScriptFault → ℕ
+status_of (Ok _) = 0
+status_of (Err fault) = exit_of fault
+
 -- the script's fault where serving its lines ended early
 abbrev pub serving_fault : ServeFault → ScriptFault
 serving_fault serving.Read = Read

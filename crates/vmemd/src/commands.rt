@@ -1,12 +1,12 @@
 //! The words of the command line.
 
-ghost use Rattle.std.specs.Prelude.{◌≡◌, [], IfOk, IfErr, OnOk, map};
+ghost use Rattle.std.specs.Prelude.{◌≡◌, ◌≢◌, [], IfOk, IfErr, OnOk, map};
 ghost use Rattle.clap.specs.Words.{app_of, fault_of, kind_of};
-ghost use Rattle.vmemd.specs.Commands.{program, script_words};
+ghost use Rattle.vmemd.specs.Commands.{program, script_words, ShowsOneOf};
 
 use clap::error::ErrorKind;
 use clap::{Command, Error};
-use std::alloc::{AllocError, Global};
+use std::alloc::{AllocError, AllocFailed, Global};
 
 /// What the words after the program's name ask for.
 #[derive(Clone, Copy, Debug, PartialEq, Eq)]
@@ -20,6 +20,9 @@ pub enum Words {
 pub enum WordsFault {
     /// A text to show: help where it was asked for, or what is wrong with the words.
     Shown(Error),
+    /// A word isn't text.
+    NotText,
+    /// Memory was refused.
     Memory,
 }
 
@@ -30,6 +33,17 @@ impl From<AllocError> for WordsFault {
     ghost from_gives = { λ _ fault. fault ≡ Memory };
 
     fn from(_error: AllocError) -> WordsFault {
+        WordsFault::Memory
+    }
+}
+
+impl<T: Drop> From<AllocFailed<T>> for WordsFault {
+    ghost use Rattle.std.specs.Prelude.{◌≡◌};
+    ghost use Rattle.vmemd.specs.declared.commands.WordsFault.TheVariants.{Memory};
+
+    ghost from_gives = { λ _ fault. fault ≡ Memory };
+
+    fn from(_error: AllocFailed<T>) -> WordsFault {
         WordsFault::Memory
     }
 }
@@ -79,6 +93,8 @@ pub fn read_words<'a>(alloc: Global, words: &'a [&'a str]) -> Result<Words, Word
     ensures script { map (λ w. w.now) words.now ≡ script_words → IfErr result (λ fault. fault ≡ WordsFault.Memory) }
     // What is taken is without fault, as clap reads a program with this one command.
     ensures ok { OnOk result (fault_of program (map (λ w. w.now) words.now) ≡ []) }
+    // What is shown is of the first fault's kind, so that help is shown only where it was asked for.
+    ensures shown { IfErr result (ShowsOneOf (fault_of program (map (λ w. w.now) words.now))) }
 {
     match command(alloc)?.try_get_matches_from(words) {
         Ok(_matches) => Ok(Words::Script),
@@ -87,7 +103,8 @@ pub fn read_words<'a>(alloc: Global, words: &'a [&'a str]) -> Result<Words, Word
 }
 
 fn words_fault(error: Error) -> WordsFault
-    ensures { kind_of error ≡ ErrorKind.OutOfMemory → result ≡ WordsFault.Memory }
+    ensures memory { kind_of error ≡ ErrorKind.OutOfMemory → result ≡ WordsFault.Memory }
+    ensures shown { kind_of error ≢ ErrorKind.OutOfMemory → result ≡ WordsFault.Shown error }
 {
     if error.kind() == ErrorKind::OutOfMemory {
         WordsFault::Memory
