@@ -181,7 +181,7 @@ granted_new l before spaces x old new place t terms v r first carved is same say
       segment = t;
       finds = record { first = first; here = carved.here };
       home = carved.home;
-      not_bad = carved.not_bad;
+      good = carved.good;
       fits = carved.fits;
       free = carved.free;
       few = is.room;
@@ -204,7 +204,7 @@ missed l before spaces now x old new place t first carved gives = record {
   place = place;
   arena = x;
   finds = record { first = first; here = carved.here };
-  not_bad = carved.not_bad;
+  good = carved.good;
   arenas = gives_nothing before (pictures spaces) (pictures now) t carved.back gives;
 }
 

@@ -1,5 +1,5 @@
 -- What a carve comes to.
-use Rattle.std.proofs.Common.{◌≡◌, ℕ, ◌+◌, ◌<◌, sym, subst, ap, ◌∙◌, inl, inr, List, set, Option, Some, None, Result, Ok, Err, IfOk, IfErr, OnErr, arith}
+use Rattle.std.proofs.Common.{◌≡◌, ℕ, ◌+◌, ◌<◌, sym, subst, ap, ◌∙◌, inl, inr, List, set, Option, Some, None, Result, Ok, Err, IfOk, IfErr, OnOk, OnErr, arith}
 use Rattle.std.specs.Prelude.{slice_get, MatchOption}
 use Rattle.deed_core.specs.Extent.{Covers}
 use Rattle.deed_core.specs.Holding.{Holding}
@@ -68,19 +68,19 @@ module _ (spaces : List Space) (place : ℕ) (s : Space) (new : ArenaState) (q :
   carve_sound (Ok t) carved err gains units = spaces_after spaces place (with_arena s new) sound (carved_space place s new t.holding is carved gains units)
   carve_sound (Err e) carved err gains units = sound_same err
 
-  pub carve_carved : (r : Result Tag ArenaFault) → ((r ≡ Err BadRequest → ¬ IsGood s.arena.quantum q) × ((¬ IsGood s.arena.quantum q) → r ≡ Err BadRequest))
+  pub carve_carved : (r : Result Tag ArenaFault) → OnOk r (IsGood s.arena.quantum q)
       → IfOk r (λ t. Fits s.arena.quantum q t.holding.range.base t.holding.range.len) → IfOk r (λ t. t ≡ direct s.arena.id t.holding)
       → IfOk r (λ t. Carves s.arena new t.holding)
       → IfOk r (λ t. Gains (ranges_of s.arena.allocated) (ranges_of new.allocated) t.holding)
       → IfOk r (λ t. (u : ℕ) → covering_held u s.arena.free ≡ covering_held u new.free + covers u t.holding.range)
       → IfOk r (λ t. (x : ArenaPicture) × IsCarved (pictures spaces) (pictures (set spaces place (with_arena s new))) place x q t)
-  carve_carved (Ok t) bad fits segment carved gains units = (
+  carve_carved (Ok t) good fits segment carved gains units = (
     picture_of s,
     record {
       here = slice_get_mapped picture_of spaces place s here;
       home = home;
       route = ap (λ (x : Tag). x.route) segment;
-      not_bad = λ not_good. (let e : Ok t ≡ Err BadRequest = bad.1 not_good in cc);
+      good = good;
       serves = (t.holding.range.base, carved_serves s.arena.quantum q s.arena new t.holding carved fits);
       fits = fits;
       free = free_before t.holding units;
@@ -90,7 +90,7 @@ module _ (spaces : List Space) (place : ℕ) (s : Space) (new : ArenaState) (q :
     where
       home : t.arena ≡ place
       home = ap (λ (x : Tag). x.arena) segment ∙ is.id
-  carve_carved (Err e) bad fits segment carved gains units = tt
+  carve_carved (Err e) good fits segment carved gains units = tt
 
   pub carve_refused : (r : Result Tag ArenaFault) → IfErr r (RefusesCarve s.arena q) → IfErr r (λ fault. (x : ArenaPicture) × IsUncarved (pictures spaces) place x q fault)
   carve_refused (Ok t) refused = tt

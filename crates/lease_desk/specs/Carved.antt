@@ -17,7 +17,7 @@ pub record IsCarved (old new : List ArenaPicture) (place : ℕ) (x : ArenaPictur
   pub here : slice_get old place ≡ Some x
   pub home : t.arena ≡ place
   pub route : t.route ≡ Direct
-  pub not_bad : ¬ (¬ IsGood x.quantum q)
+  pub good : IsGood x.quantum q
   pub serves : HasPlace x q
   pub fits : Fits x.quantum q t.holding.range.base t.holding.range.len
   pub free : (u : ℕ) → Covers t.holding.range u → 0 < covering_held u x.free

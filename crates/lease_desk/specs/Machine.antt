@@ -114,7 +114,7 @@ pub record Grants (l : LeaseLine) (old new : Picture) (r : Reply) : Type 0 where
   pub segment : Tag
   pub finds : Finds old.arenas l.arena place arena
   pub home : segment.arena ≡ place
-  pub not_bad : ¬ (¬ IsGood arena.quantum (request_of l))
+  pub good : IsGood arena.quantum (request_of l)
   pub fits : Fits arena.quantum (request_of l) segment.holding.range.base segment.holding.range.len
   pub free : (u : ℕ) → Covers segment.holding.range u → 0 < covering_held u arena.free
   pub few : length (account_in l.client old.book).leases < 1024
@@ -132,7 +132,7 @@ pub record Misses (l : LeaseLine) (old new : Picture) : Type 0 where
   pub place : ℕ
   pub arena : ArenaPicture
   pub finds : Finds old.arenas l.arena place arena
-  pub not_bad : ¬ (¬ IsGood arena.quantum (request_of l))
+  pub good : IsGood arena.quantum (request_of l)
   pub arenas : GivesBack [] old.arenas new.arenas
 
 -- why a new lease is refused: the first of these that is so

@@ -1,13 +1,13 @@
 //! The desk.
-ghost use Rattle.std.specs.Prelude.{◌≡◌, ◌⊎◌, [], codes, OnOk, OnErr, IfOk, IfErr};
+ghost use Rattle.std.specs.Prelude.{◌≡◌, ◌≤◌, ◌+◌, ℕ, List, [], ◌++◌, vec_len, OnOk, OnErr, IfErr};
+ghost use Rattle.std.specs.Vec.{vec_capacity};
 ghost use Rattle.lease_book.specs.Ledger.{IsHistory};
-ghost use Rattle.lease_proto.specs.Faults.{error_line};
+ghost use Rattle.lease_proto.specs.Frames.{ended};
+ghost use Rattle.lease_proto.specs.Replies.{reply_text};
 ghost use Rattle.lease_desk.specs.Picture.{IsOrderly};
 ghost use Rattle.lease_desk.specs.Machine.{LeaseStep, LineStep, IsRefusalText};
-ghost use Rattle.std.specs.List.{flat_map};
 ghost use Rattle.lease_desk.specs.Operators.{OperatorStep};
 ghost use Rattle.lease_desk.specs.Operating.{IsTold};
-ghost use Rattle.lease_desk.specs.Sums.{audit_line};
 ghost use Rattle.lease_desk.specs.Setup.{RefusesArena, AddsArena, RefusesSpan, AddsSpan};
 
 use crate::closings::close_spaces;
@@ -104,29 +104,20 @@ impl Desk {
         Ok(())
     }
 
-    /// Answers one line, which is given without its line feed: the bytes of the reply lines.
-    pub fn answer(&mut self, line: &[u8]) -> Result<Vec<u8>, AllocError>
-        ensures { IfOk result (λ text. LeaseStep self.old line.now text.items self.new) }
+    /// Answers one line, which is given without its line feed: appends its reply lines. A refused answer takes no
+    /// effect, since room for a reply is made before the line is served.
+    pub fn answer(&mut self, line: &[u8], out: &mut Vec<u8>) -> Result<(), AllocError>
+        ensures ok { OnOk result ((reply : List ℕ) × (out.new.items ≡ out.old.items ++ reply) × LeaseStep self.old line.now reply self.new) }
+        ensures err { OnErr result ((out.new.items ≡ out.old.items) × (self.new ≡ self.old)) }
     {
-        let mut out = Vec::with_capacity(*self.spaces.allocator(), LONGEST_LINE + 1)?;
+        out.reserve(LONGEST_LINE + 1)?;
         match Line::read(line) {
             Ok(request) => {
                 let reply = self.serve(&request);
-                reply.write(&mut out)?;
-                Ok(out)
+                write_reply(&reply, out);
+                Ok(())
             }
             Err(fault) => self.refuse(line, fault, out),
-        }
-    }
-
-    /// Answers a line that is no client's.
-    fn refuse(&self, line: &[u8], fault: LineFault, out: Vec<u8>) -> Result<Vec<u8>, AllocError>
-        requires { out.items ≡ [] }
-        ensures { IfOk result (λ text. IsRefusalText self.now line.now fault text.items) }
-    {
-        match fault {
-            LineFault::Word => self.operate(line, out),
-            _ => said(fault, out),
         }
     }
 
@@ -142,48 +133,43 @@ impl Desk {
         }
     }
 
+    /// Answers a line that is no client's.
+    fn refuse(&self, line: &[u8], fault: LineFault, out: &mut Vec<u8>) -> Result<(), AllocError>
+        ensures ok { OnOk result ((reply : List ℕ) × (out.new.items ≡ out.old.items ++ reply) × IsRefusalText self.now line.now fault reply) }
+        ensures err { OnErr result (out.new.items ≡ out.old.items) }
+    {
+        match fault {
+            LineFault::Word => self.operate(line, out),
+            _ => out.extend_from_slice(fault.line()),
+        }
+    }
+
     /// Answers the line of an operator.
-    fn operate(&self, line: &[u8], mut out: Vec<u8>) -> Result<Vec<u8>, AllocError>
-        requires { out.items ≡ [] }
-        ensures { IfOk result (λ text. OperatorStep self.now line.now text.items) }
+    fn operate(&self, line: &[u8], out: &mut Vec<u8>) -> Result<(), AllocError>
+        ensures ok { OnOk result ((reply : List ℕ) × (out.new.items ≡ out.old.items ++ reply) × OperatorStep self.now line.now reply) }
+        ensures err { OnErr result (out.new.items ≡ out.old.items) }
     {
         match operator_of(line) {
             Ok(operator) => self.tell(operator, out),
-            Err(fault) => {
-                out.extend_from_slice(fault.line())?;
-                Ok(out)
-            }
+            Err(fault) => out.extend_from_slice(fault.line()),
         }
     }
 
     /// What an operator asks for. Where its lines find no room, the answer is one that says so.
-    fn tell(&self, operator: Operator, out: Vec<u8>) -> Result<Vec<u8>, AllocError>
-        requires { out.items ≡ [] }
-        ensures { IfOk result (λ text. IsTold self.now operator text.items) }
+    fn tell(&self, operator: Operator, out: &mut Vec<u8>) -> Result<(), AllocError>
+        ensures ok { OnOk result ((reply : List ℕ) × (out.new.items ≡ out.old.items ++ reply) × IsTold self.now operator reply) }
+        ensures err { OnErr result (out.new.items ≡ out.old.items) }
     {
-        match operator {
-            Operator::Audit => self.tell_audit(out),
-            Operator::Clients => self.tell_clients(out),
+        let begin = out.len();
+        let told = match operator {
+            Operator::Audit => audit(&self.spaces, out),
+            Operator::Clients => clients(&self.book, out),
+        };
+        if told.is_ok() {
+            return Ok(());
         }
-    }
-
-    fn tell_audit(&self, mut out: Vec<u8>) -> Result<Vec<u8>, AllocError>
-        requires { out.items ≡ [] }
-        ensures { IfOk result (λ text. (text.items ≡ flat_map audit_line self.now.arenas) ⊎ (text.items ≡ codes "error memory\n")) }
-    {
-        if audit(&self.spaces, &mut out).is_err() {
-            out.clear();
-            out.extend_from_slice(b"error memory\n")?;
-        }
-        Ok(out)
-    }
-
-    fn tell_clients(&self, mut out: Vec<u8>) -> Result<Vec<u8>, AllocError> {
-        if clients(&self.book, &mut out).is_err() {
-            out.clear();
-            out.extend_from_slice(b"error memory\n")?;
-        }
-        Ok(out)
+        out.truncate(begin);
+        out.extend_from_slice(b"error memory\n")
     }
 
     /// Ends the desk: frees all leases, takes out all spans, and closes their deeds and the book's mark. It takes
@@ -205,11 +191,13 @@ impl Desk {
     }
 }
 
-/// The line that answers a refused line.
-fn said(fault: LineFault, mut out: Vec<u8>) -> Result<Vec<u8>, AllocError>
-    requires { out.items ≡ [] }
-    ensures { IfOk result (λ text. text.items ≡ error_line fault) }
+/// Appends a reply where there is room for it.
+fn write_reply(reply: &Reply, out: &mut Vec<u8>)
+    requires room { vec_len out.old + 256 ≤ vec_capacity out.old }
+    ensures { out.new.items ≡ out.old.items ++ ended (reply_text reply.now) }
 {
-    out.extend_from_slice(fault.line())?;
-    Ok(out)
+    match reply.write(out) {
+        Ok(()) => {}
+        Err(_) => unreachable!(),
+    }
 }

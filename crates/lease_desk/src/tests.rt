@@ -30,9 +30,11 @@ fn span(rt: &impl Abort, desk: &mut Desk, text: &str, base: u64, len: u64) {
 
 /// Each line gets its reply.
 fn ask(rt: &impl Abort, desk: &mut Desk, lines: &[(&str, &str)]) {
+    let mut out = Vec::new(rt.alloc());
     for (line, reply) in lines {
-        match desk.answer(line.as_bytes()) {
-            Ok(text) => assert_eq!(rt; text.as_slice(), reply.as_bytes()),
+        out.clear();
+        match desk.answer(line.as_bytes(), &mut out) {
+            Ok(()) => assert_eq!(rt; out.as_slice(), reply.as_bytes()),
             Err(_) => panic!(rt; "no memory"),
         }
     }
