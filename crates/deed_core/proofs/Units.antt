@@ -3,7 +3,7 @@ use Rattle.std.proofs.Common.{◌≡◌, ◌⊎◌, ℕ, ◌+◌, ◌<◌, ◌�
 use Rattle.std.proofs.lemmas.Bool.Decides.{nat_tests}
 use Rattle.deed_core.specs.Extent.{Extent, end_of, Overlap, below, from, union}
 use Rattle.deed_core.specs.Covering.{covers}
-use Rattle.deed_core.specs.Laws.{CountsTheUnit, OverlapCoversTwice, SplitKeepsUnits, JoinKeepsUnits}
+use Rattle.deed_core.specs.Laws.{CountsTheUnit, OverlapCoversTwice, CutKeepsUnits, SplitKeepsUnits, JoinKeepsUnits}
 
 -- what the number says
 pub covers_is : (unit : ℕ) (e : Extent) → ((covers unit e ≡ 1) × (e.base ≤ unit) × (unit < end_of e)) ⊎ ((covers unit e ≡ 0) × ((unit < e.base) ⊎ (end_of e ≤ unit)))
@@ -17,8 +17,7 @@ covers_is unit e = by (leb e.base unit) (ltb unit (end_of e)) refl refl
 pub counts_the_unit : CountsTheUnit
 counts_the_unit unit e = (grind (arith, covers_is unit e), ((λ is. grind (arith, covers_is unit e)), (λ within. grind (arith, covers_is unit e))))
 
--- where two ranges of units meet, they cover what they cover as one
-pub covers_cut : (unit : ℕ) (a b e : Extent) → a.base ≡ e.base → end_of a ≡ b.base → end_of b ≡ end_of e → covers unit e ≡ covers unit a + covers unit b
+pub covers_cut : CutKeepsUnits
 covers_cut unit a b e first meet last = grind (arith, covers_is unit a, covers_is unit b, covers_is unit e)
 
 pub split_keeps_units : SplitKeepsUnits

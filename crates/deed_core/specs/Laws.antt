@@ -1,6 +1,6 @@
 -- The laws of covering numbers and of weights that aren't std's own.
 use Rattle.std.specs.Prelude.{◌≡◌, ℕ, ◌+◌, ◌<◌, ◌≤◌, ◌↔◌, Bool, List, filter, sum_by}
-use Rattle.deed_core.specs.Extent.{Extent, Covers, Overlap, IsInside}
+use Rattle.deed_core.specs.Extent.{Extent, Covers, Overlap, IsInside, end_of}
 use Rattle.deed_core.specs.Covering.{covers, covers_held}
 use Rattle.deed_core.specs.Holding.{Holding, low, high, joined, GoesOn}
 use Rattle.deed_core.specs.Tag.{Tag}
@@ -21,6 +21,10 @@ SplitKeepsUnits = (unit at : ℕ) (h : Holding) → IsInside at h.range → cove
 -- two deeds of which the second goes on where the first ends cover what they cover joined
 abbrev pub JoinKeepsUnits : Type 0
 JoinKeepsUnits = (unit : ℕ) (a b : Holding) → GoesOn a b → covers_held unit (joined a b) ≡ covers_held unit a + covers_held unit b
+
+-- where two ranges of units meet, they cover what they cover as one
+abbrev pub CutKeepsUnits : Type 0
+CutKeepsUnits = (unit : ℕ) (a b e : Extent) → a.base ≡ e.base → end_of a ≡ b.base → end_of b ≡ end_of e → covers unit e ≡ covers unit a + covers unit b
 
 -- the segments that pass a test weigh what all weigh by the weight restricted to these
 abbrev pub PartWeighs : Type 0

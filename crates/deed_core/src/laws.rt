@@ -1,12 +1,13 @@
 //! Laws of the definitions that the crates above reckon with. The functions do nothing: their contracts are
-//! the laws.
-ghost use Rattle.deed_core.specs.Laws.{CountsTheUnit, OverlapCoversTwice, SplitKeepsUnits, JoinKeepsUnits, PartWeighs, SmallerWeighsLess};
+//! the laws, and proofs/LawProofs.antt has them for the proofs of the crates above.
+ghost use Rattle.deed_core.specs.Laws.{CountsTheUnit, OverlapCoversTwice, CutKeepsUnits, SplitKeepsUnits, JoinKeepsUnits, PartWeighs, SmallerWeighsLess};
 
 /// How often ranges cover a unit: once where they have it; twice exactly where two overlap; and as often
-/// after a split or a join as before.
+/// cut in two, split or joined as before.
 pub fn covering_laws()
     ensures counts { CountsTheUnit }
     ensures overlap { OverlapCoversTwice }
+    ensures cut { CutKeepsUnits }
     ensures split { SplitKeepsUnits }
     ensures join { JoinKeepsUnits }
 {}
