@@ -1,5 +1,5 @@
 -- How a stream of bytes falls into lines.
-use Rattle.std.specs.Prelude.{◌≡◌, ◌≢◌, ◌==◌, ℕ, nat_le, Bool, List, [], ◌∷◌, ◌++◌, length, take, map, if◌then◌else◌, Result, Ok, Err, Option, Some, None}
+use Rattle.std.specs.Prelude.{◌≡◌, ◌≢◌, ◌==◌, ◌<◌, ℕ, nat_le, Bool, List, [], ◌∷◌, ◌++◌, length, take, get_or, map, if◌then◌else◌, Result, Ok, Err, Option, Some, None}
 use Rattle.std.specs.List.{flat_map, AllByRecursion}
 use Rattle.arrayvec.specs.ArrayVec.{ArrayVec}
 use Rattle.lease_proto.specs.declared.faults.LineFault.{LineFault}
@@ -62,6 +62,25 @@ FrontIsEnough = (line bytes : List ℕ)
     → (frames_in (take 256 line) bytes ≡ frames_in line bytes)
     × (take 256 (rest_in (take 256 line) bytes) ≡ take 256 (rest_in line bytes))
     × (last_of (take 256 line) ≡ last_of line)
+
+-- text with no line feed goes onto the line begun
+abbrev pub TextGoesOn : Type 0
+TextGoesOn = (line text bytes : List ℕ) → IsOneLine text
+    → (frames_in line (text ++ bytes) ≡ frames_in (line ++ text) bytes)
+    × (rest_in line (text ++ bytes) ≡ rest_in (line ++ text) bytes)
+
+-- by itself it ends no line
+abbrev pub TextEndsNoLine : Type 0
+TextEndsNoLine = (line text : List ℕ) → IsOneLine text → (frames_in line text ≡ []) × (rest_in line text ≡ line ++ text)
+
+-- with its line feed it ends the line begun, and no other
+abbrev pub LineFeedEndsLine : Type 0
+LineFeedEndsLine = (line text : List ℕ) → IsOneLine text
+    → (frames_in line (ended text) ≡ frame_of (line ++ text) ∷ []) × (rest_in line (ended text) ≡ [])
+
+-- text of which no place is a line feed has none
+abbrev pub NoPlaceIsLineFeed : Type 0
+NoPlaceIsLineFeed = (text : List ℕ) → ((k : ℕ) → k < length text → get_or text k 0 ≢ 10) → IsOneLine text
 
 -- what a line reader holds: the first 256 bytes of the line begun, and whether its line feed has come
 pub record Held : Type 0 where

@@ -1,6 +1,6 @@
 //! Lines out of a stream of bytes that comes in any pieces.
 ghost use Rattle.std.specs.Prelude.{◌≡◌, ◌≤◌, ◌<◌, [], ◌∷◌, ◌++◌, length, take, true, false, IfSome, IfNone};
-ghost use Rattle.lease_proto.specs.Frames.{Held, frame_of, last_of, frames_in, rest_in, FramesAreLines, InputIsLines, PiecesAreOne, FrontIsEnough, frame_view, faults_of};
+ghost use Rattle.lease_proto.specs.Frames.{Held, frame_of, last_of, frames_in, rest_in, FramesAreLines, InputIsLines, PiecesAreOne, FrontIsEnough, TextGoesOn, TextEndsNoLine, LineFeedEndsLine, NoPlaceIsLineFeed, frame_view, faults_of};
 
 use crate::faults::LineFault;
 use arrayvec::ArrayVec;
@@ -117,4 +117,13 @@ pub fn framing_law()
     ensures each { InputIsLines }
     ensures pieces { PiecesAreOne }
     ensures front { FrontIsEnough }
+{}
+
+/// What a line feed does to the line that has begun, and what text without one does. That text has none is
+/// told by its places.
+pub fn line_feed_law()
+    ensures text { TextGoesOn }
+    ensures unended { TextEndsNoLine }
+    ensures ended { LineFeedEndsLine }
+    ensures places { NoPlaceIsLineFeed }
 {}

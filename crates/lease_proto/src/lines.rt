@@ -1,5 +1,5 @@
 //! The lines of a client.
-ghost use Rattle.std.specs.Prelude.{◌≡◌, ◌++◌, OnOk, OnErr, ◌∷◌, ◌+◌, ◌≤◌, ℕ, List, vec_len};
+ghost use Rattle.std.specs.Prelude.{◌≡◌, ◌++◌, IsOk, OnOk, OnErr, ◌∷◌, ◌+◌, ◌≤◌, ℕ, List, vec_len};
 ghost use Rattle.lease_proto.specs.Frames.{ended};
 ghost use Rattle.lease_proto.specs.Grammar.{line_of, hello_of, lease_of, release_of};
 ghost use Rattle.lease_proto.specs.Texts.{text_of, first_word, hello_words, lease_words, options_words, release_words, spaced, LinesAreTexts, LineIsRead};
@@ -10,7 +10,7 @@ use crate::faults::LineFault;
 use crate::framing::LONGEST_LINE;
 use crate::numbers::{client, ordinal, quantity};
 use crate::sentences::{Words, name};
-use crate::taking::{end, option, quantity_or_default, take, words};
+use crate::taking::{option, quantity_or_default, words};
 use crate::values::{ClientId, Name, Ordinal, Quantity};
 use crate::writing::{push_name, push_number, push_option, push_text};
 use std::alloc::AllocError;
@@ -61,9 +61,9 @@ impl Hello {
     fn read(words: &mut Words<'_>) -> Result<Self, LineFault>
         ensures { result ≡ hello_of words.old }
     {
-        let client_word = take(words)?;
-        let incarnation = take(words)?;
-        end(words)?;
+        let client_word = words.take()?;
+        let incarnation = words.take()?;
+        words.end()?;
         Ok(Hello {
             client: client(client_word)?,
             incarnation: ordinal(incarnation)?,
@@ -97,17 +97,17 @@ impl Lease {
     fn read(words: &mut Words<'_>) -> Result<Self, LineFault>
         ensures { result ≡ lease_of words.old }
     {
-        let client_word = take(words)?;
-        let incarnation = take(words)?;
-        let number = take(words)?;
-        let arena = name(take(words)?)?;
-        let size = take(words)?;
+        let client_word = words.take()?;
+        let incarnation = words.take()?;
+        let number = words.take()?;
+        let arena = name(words.take()?)?;
+        let size = words.take()?;
         let align = option(words, b"align");
         let phase = option(words, b"phase");
         let nocross = option(words, b"nocross");
         let min = option(words, b"min");
         let max = option(words, b"max");
-        end(words)?;
+        words.end()?;
         Ok(Lease {
             client: client(client_word)?,
             incarnation: ordinal(incarnation)?,
@@ -154,12 +154,12 @@ impl Release {
     fn read(words: &mut Words<'_>) -> Result<Self, LineFault>
         ensures { result ≡ release_of words.old }
     {
-        let client_word = take(words)?;
-        let incarnation = take(words)?;
-        let number = take(words)?;
-        let arena = name(take(words)?)?;
-        let base = take(words)?;
-        end(words)?;
+        let client_word = words.take()?;
+        let incarnation = words.take()?;
+        let number = words.take()?;
+        let arena = name(words.take()?)?;
+        let base = words.take()?;
+        words.end()?;
         Ok(Release {
             client: client(client_word)?,
             incarnation: ordinal(incarnation)?,
@@ -213,10 +213,13 @@ impl Line {
         }
     }
 
-    /// Appends the line and a line feed. An option of no constraint is left out.
+    /// Appends the line and a line feed. An option of no constraint is left out. It fails only for want of
+    /// memory, and never where there is room for `LONGEST_LINE + 1` bytes more.
     pub fn write(&self, out: &mut Vec<u8>) -> Result<(), AllocError>
         ensures ok { OnOk result (out.new.items ≡ out.old.items ++ ended (text_of self.now)) }
         ensures err { OnErr result (out.new.items ≡ out.old.items) }
+        ensures succeeds { vec_len out.old + 256 ≤ vec_capacity out.old → IsOk result }
+        ensures capacity { vec_capacity out.old ≤ vec_capacity out.new }
     {
         out.reserve(LONGEST_LINE + 1)?;
         push_text(out, self.keyword());

@@ -37,7 +37,7 @@ fn value_of(word: &[u8]) -> Option<u64>
     if value <= LARGEST { Some(value) } else { None }
 }
 
-/// The client that a word writes.
+/// The client that a word writes, 1 to 65,536, or `Number` where it writes none.
 pub fn client(word: &[u8]) -> Result<ClientId, LineFault>
     ensures { result ≡ client_in word.now }
 {
@@ -48,7 +48,8 @@ pub fn client(word: &[u8]) -> Result<ClientId, LineFault>
     }
 }
 
-/// The incarnation, or the number of a request, that a word writes.
+/// The incarnation, or the number of a request, that a word writes: 1 to 2^62, or `Number` where it writes
+/// none.
 pub fn ordinal(word: &[u8]) -> Result<Ordinal, LineFault>
     ensures { result ≡ ordinal_in word.now }
 {
@@ -58,7 +59,7 @@ pub fn ordinal(word: &[u8]) -> Result<Ordinal, LineFault>
     }
 }
 
-/// The quantity that a word writes.
+/// The quantity that a word writes, 0 to 2^62, or `Number` where it writes none.
 pub fn quantity(word: &[u8]) -> Result<Quantity, LineFault>
     ensures { result ≡ quantity_in word.now }
 {

@@ -1,5 +1,5 @@
 //! The replies to a client's lines.
-ghost use Rattle.std.specs.Prelude.{◌≡◌, ◌++◌, OnOk, OnErr, ◌∷◌, ◌+◌, ◌≤◌, ℕ, List, vec_len, length};
+ghost use Rattle.std.specs.Prelude.{◌≡◌, ◌++◌, IsOk, OnOk, OnErr, ◌∷◌, ◌+◌, ◌≤◌, ℕ, List, vec_len, length};
 ghost use Rattle.lease_proto.specs.Frames.{ended};
 ghost use Rattle.lease_proto.specs.Replies.{reply_of, reply_text, first_reply_word, welcome_of, granted_of, released_of, refused_of, old_of, out_of_turn_of, again_of, error_of, welcome_words, granted_words, released_words, refused_words, old_words, out_of_turn_words, again_words, refusal_in, refusal_word, fault_in, RepliesAreTexts};
 ghost use Rattle.std.specs.Vec.{vec_capacity};
@@ -9,7 +9,7 @@ use crate::faults::LineFault;
 use crate::framing::LONGEST_LINE;
 use crate::numbers::{client, ordinal, quantity};
 use crate::sentences::{Words, name};
-use crate::taking::{end, take, words};
+use crate::taking::words;
 use crate::values::{ClientId, Name, Ordinal, Quantity};
 use crate::writing::{push_name, push_number, push_text, push_word};
 use std::alloc::AllocError;
@@ -75,9 +75,9 @@ impl Welcome {
     fn read(words: &mut Words<'_>) -> Result<Self, LineFault>
         ensures { result ≡ welcome_of words.old }
     {
-        let client_word = take(words)?;
-        let incarnation = take(words)?;
-        end(words)?;
+        let client_word = words.take()?;
+        let incarnation = words.take()?;
+        words.end()?;
         Ok(Welcome {
             client: client(client_word)?,
             incarnation: ordinal(incarnation)?,
@@ -111,13 +111,13 @@ impl Granted {
     fn read(words: &mut Words<'_>) -> Result<Self, LineFault>
         ensures { result ≡ granted_of words.old }
     {
-        let client_word = take(words)?;
-        let incarnation = take(words)?;
-        let number = take(words)?;
-        let arena = name(take(words)?)?;
-        let base = take(words)?;
-        let len = take(words)?;
-        end(words)?;
+        let client_word = words.take()?;
+        let incarnation = words.take()?;
+        let number = words.take()?;
+        let arena = name(words.take()?)?;
+        let base = words.take()?;
+        let len = words.take()?;
+        words.end()?;
         Ok(Granted {
             client: client(client_word)?,
             incarnation: ordinal(incarnation)?,
@@ -156,10 +156,10 @@ impl Released {
     fn read(words: &mut Words<'_>) -> Result<Self, LineFault>
         ensures { result ≡ released_of words.old }
     {
-        let client_word = take(words)?;
-        let incarnation = take(words)?;
-        let number = take(words)?;
-        end(words)?;
+        let client_word = words.take()?;
+        let incarnation = words.take()?;
+        let number = words.take()?;
+        words.end()?;
         Ok(Released {
             client: client(client_word)?,
             incarnation: ordinal(incarnation)?,
@@ -193,11 +193,11 @@ impl Refused {
     fn read(words: &mut Words<'_>) -> Result<Self, LineFault>
         ensures { result ≡ refused_of words.old }
     {
-        let client_word = take(words)?;
-        let incarnation = take(words)?;
-        let number = take(words)?;
-        let refusal = Refusal::read(take(words)?)?;
-        end(words)?;
+        let client_word = words.take()?;
+        let incarnation = words.take()?;
+        let number = words.take()?;
+        let refusal = Refusal::read(words.take()?)?;
+        words.end()?;
         Ok(Refused {
             client: client(client_word)?,
             incarnation: ordinal(incarnation)?,
@@ -231,9 +231,9 @@ impl Old {
     fn read(words: &mut Words<'_>) -> Result<Self, LineFault>
         ensures { result ≡ old_of words.old }
     {
-        let client_word = take(words)?;
-        let current = take(words)?;
-        end(words)?;
+        let client_word = words.take()?;
+        let current = words.take()?;
+        words.end()?;
         Ok(Old {
             client: client(client_word)?,
             current: quantity(current)?,
@@ -266,11 +266,11 @@ impl OutOfTurn {
     fn read(words: &mut Words<'_>) -> Result<Self, LineFault>
         ensures { result ≡ out_of_turn_of words.old }
     {
-        let client_word = take(words)?;
-        let incarnation = take(words)?;
-        let number = take(words)?;
-        let last = take(words)?;
-        end(words)?;
+        let client_word = words.take()?;
+        let incarnation = words.take()?;
+        let number = words.take()?;
+        let last = words.take()?;
+        words.end()?;
         Ok(OutOfTurn {
             client: client(client_word)?,
             incarnation: ordinal(incarnation)?,
@@ -305,10 +305,10 @@ impl Again {
     fn read(words: &mut Words<'_>) -> Result<Self, LineFault>
         ensures { result ≡ again_of words.old }
     {
-        let client_word = take(words)?;
-        let incarnation = take(words)?;
-        let number = take(words)?;
-        end(words)?;
+        let client_word = words.take()?;
+        let incarnation = words.take()?;
+        let number = words.take()?;
+        words.end()?;
         Ok(Again {
             client: client(client_word)?,
             incarnation: ordinal(incarnation)?,
@@ -377,10 +377,13 @@ impl Reply {
         }
     }
 
-    /// Appends the reply and a line feed.
+    /// Appends the reply and a line feed. It fails only for want of memory, and never where there is room for
+    /// `LONGEST_LINE + 1` bytes more.
     pub fn write(&self, out: &mut Vec<u8>) -> Result<(), AllocError>
         ensures ok { OnOk result (out.new.items ≡ out.old.items ++ ended (reply_text self.now)) }
         ensures err { OnErr result (out.new.items ≡ out.old.items) }
+        ensures succeeds { vec_len out.old + 256 ≤ vec_capacity out.old → IsOk result }
+        ensures capacity { vec_capacity out.old ≤ vec_capacity out.new }
     {
         out.reserve(LONGEST_LINE + 1)?;
         push_text(out, self.keyword());
@@ -420,8 +423,8 @@ impl Reply {
 fn error(words: &mut Words<'_>) -> Result<LineFault, LineFault>
     ensures { result ≡ error_of words.old }
 {
-    let fault = fault(take(words)?)?;
-    end(words)?;
+    let fault = fault(words.take()?)?;
+    words.end()?;
     Ok(fault)
 }
 

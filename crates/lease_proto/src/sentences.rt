@@ -1,5 +1,6 @@
 //! Words, and lines as words with one space between them.
-ghost use Rattle.std.specs.Prelude.{◌≡◌, ℕ, List, [], ◌∷◌, MatchOption};
+ghost use Rattle.std.specs.Prelude.{◌≡◌, ℕ, List, [], ◌∷◌, Ok, Err, MatchOption, MatchResult};
+ghost use Rattle.lease_proto.specs.Grammar.{word_at, end_of};
 ghost use Rattle.lease_proto.specs.Values.{name_in};
 ghost use Rattle.lease_proto.specs.Words.{words_left, parts_of};
 ghost use Rattle.lease_proto.specs.Words as spec;
@@ -90,6 +91,25 @@ impl<'a> Words<'a> {
                 self.rest = None;
                 Some(rest)
             }
+        }
+    }
+
+    /// The next word, where the line has to have one: `BadLine` where it has none left.
+    pub fn take(&mut self) -> Result<&'a [u8], LineFault>
+        ensures { MatchResult result
+            (λ word. word_at self.old ≡ Ok (word.now, self.new))
+            (λ fault. (word_at self.old ≡ Err fault) × (self.new ≡ self.old)) }
+    {
+        self.next().ok_or(LineFault::BadLine)
+    }
+
+    /// Whether the line ends here, where it has to: `BadLine` where a word is left.
+    pub fn end(&self) -> Result<(), LineFault>
+        ensures { result ≡ end_of self.now }
+    {
+        match self.ahead().next() {
+            Some(_) => Err(LineFault::BadLine),
+            None => Ok(()),
         }
     }
 }

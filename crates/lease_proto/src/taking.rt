@@ -1,8 +1,8 @@
-//! The words of a line, taken one after another where the line has to have them.
-ghost use Rattle.std.specs.Prelude.{◌≡◌, Ok, Err, MatchResult};
+//! A line as its words, and the options among them.
+ghost use Rattle.std.specs.Prelude.{◌≡◌};
 ghost use Rattle.std.specs.Option.{option_copied};
 ghost use Rattle.lease_proto.specs.Values.{words_of};
-ghost use Rattle.lease_proto.specs.Grammar.{option_at, word_at, end_of, quantity_or};
+ghost use Rattle.lease_proto.specs.Grammar.{option_at, quantity_or};
 
 use crate::faults::LineFault;
 use crate::framing::LONGEST_LINE;
@@ -22,26 +22,6 @@ pub fn words(line: &[u8]) -> Result<Words<'_>, LineFault>
         return Err(LineFault::BadLine);
     }
     Ok(Words::new(line))
-}
-
-/// The next word, which the line has to have.
-pub fn take<'a>(words: &mut Words<'a>) -> Result<&'a [u8], LineFault>
-    ensures { MatchResult result (λ word. word_at words.old ≡ Ok (word.now, words.new)) (λ fault. word_at words.old ≡ Err fault) }
-{
-    match words.next() {
-        Some(word) => Ok(word),
-        None => Err(LineFault::BadLine),
-    }
-}
-
-/// No word may be left.
-pub fn end(words: &mut Words<'_>) -> Result<(), LineFault>
-    ensures { result ≡ end_of words.old }
-{
-    match words.next() {
-        Some(_) => Err(LineFault::BadLine),
-        None => Ok(()),
-    }
 }
 
 /// The value of an option, where it is the next.

@@ -6,7 +6,7 @@ use Rattle.std.proofs.KnownBytes.{Appends-nil, Appends-trans, Consumes-all, Cons
 use Rattle.lease_proto.specs.Frames.{Frame, frames_in, rest_in, frames_of, last_of}
 use Rattle.lease_proto.specs.declared.faults.LineFault.{LineFault}
 use Rattle.lease_proto.specs.Faults.{error_line}
-use Rattle.lease_proto.proofs.FrameLemmas.{frames_in-take, rest_in-take, last_of-take, frames_in-append, rest_in-append}
+use Rattle.lease_proto.proofs.LawProofs.{frames_in-take, rest_in-take, last_of-take, frames_in-append, rest_in-append}
 use Rattle.lease_server.specs.Serving.{SameFront, WritesFront, Serves, Answers, AnswersSome, Writes, Stops}
 
 module _ {S : Type 0} (may_answer : S → List ℕ → List ℕ → S → Type 0) where

@@ -1,4 +1,5 @@
-use Rattle.lease_proto.proofs.FrameLemmas.{framed, made_of_lines, frames_in-append, rest_in-append, frames_in-take, rest_in-take, last_of-take}
+use Rattle.lease_proto.proofs.FrameLemmas.{framed, made_of_lines}
+use Rattle.lease_proto.proofs.LawProofs.{frames_in-append, rest_in-append, frames_in-take, rest_in-take, last_of-take}
 use Rattle.lease_proto.proofs.framing.framing_law.Goals as goal
 
 pub returns-clause-framed : goal.returns-clause-framed

@@ -1,7 +1,7 @@
 use Rattle.std.proofs.Common.{[], ◌∷◌, ◌++◌, sym, take, ap, subst, ◌∙◌}
 use Rattle.std.proofs.lemmas.Result.{err_from_is_err_and}
 use Rattle.lease_proto.specs.Frames.{frames_in, rest_in, frame_view}
-use Rattle.lease_proto.proofs.FrameLemmas.{frames_in-append}
+use Rattle.lease_proto.proofs.LawProofs.{frames_in-append}
 use Rattle.lease_server.specs.Serving.{Answers}
 use Rattle.lease_server.proofs.ServingLemmas.{Answers-append, moves_front, taken_on, taken_one}
 use Rattle.lease_server.proofs.serving.answer_piece.Goals as goal
