@@ -182,6 +182,7 @@ granted_new l before spaces x old new place t terms v r first carved is same say
       finds = record { first = first; here = carved.here };
       home = carved.home;
       good = carved.good;
+      chosen = carved.chosen;
       fits = carved.fits;
       free = carved.free;
       few = is.room;
@@ -205,6 +206,7 @@ missed l before spaces now x old new place t first carved gives = record {
   arena = x;
   finds = record { first = first; here = carved.here };
   good = carved.good;
+  chosen = (t.holding.range.base, carved.chosen);
   arenas = gives_nothing before (pictures spaces) (pictures now) t carved.back gives;
 }
 

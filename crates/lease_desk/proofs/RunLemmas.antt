@@ -3,7 +3,7 @@ use Rattle.std.proofs.Common.{◌≡◌, ℕ, suc, zero, ◌+◌, ◌<◌, ◌�
 use Rattle.std.specs.Prelude.{sum_by}
 use Rattle.std.proofs.lemmas.List.Sums.{sum_by-cons, get_or-le-sum_by}
 use Rattle.deed_core.specs.Covering.{covers, covers_held}
-use Rattle.deed_core.proofs.Units.{counts_the_unit}
+use Rattle.deed_core.proofs.LawProofs.{counts_the_unit}
 use Rattle.lease_book.specs.Ledger.{leased}
 use Rattle.lease_proto.specs.Frames.{Frame}
 use Rattle.lease_server.specs.Serving.{Serves}

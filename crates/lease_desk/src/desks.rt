@@ -1,14 +1,12 @@
 //! The desk.
-ghost use Rattle.std.specs.Prelude.{◌≡◌, ◌≤◌, ◌+◌, ℕ, List, [], ◌++◌, vec_len, OnOk, OnErr, IfErr};
-ghost use Rattle.std.specs.Vec.{vec_capacity};
+ghost use Rattle.std.specs.Prelude.{◌≡◌, ℕ, List, [], ◌++◌, OnOk, OnErr, IfErr};
+ghost use Rattle.std.specs.Io.{StartsWith};
 ghost use Rattle.lease_book.specs.Ledger.{IsHistory};
-ghost use Rattle.lease_proto.specs.Frames.{ended};
-ghost use Rattle.lease_proto.specs.Replies.{reply_text};
 ghost use Rattle.lease_desk.specs.Picture.{IsOrderly};
 ghost use Rattle.lease_desk.specs.Machine.{LeaseStep, LineStep, IsRefusalText};
-ghost use Rattle.lease_desk.specs.Operators.{OperatorStep};
-ghost use Rattle.lease_desk.specs.Operating.{IsTold};
-ghost use Rattle.lease_desk.specs.Setup.{RefusesArena, AddsArena, RefusesSpan, AddsSpan};
+ghost use Rattle.lease_desk.specs.Operators.{OperatorStep, Tells};
+ghost use Rattle.lease_desk.specs.Operating.{asked_text};
+ghost use Rattle.lease_desk.specs.Setup.{root_of, RefusesArena, AddsArena, RefusesSpan, AddsSpan};
 
 use crate::closings::close_spaces;
 use crate::faults::SetupFault;
@@ -30,9 +28,10 @@ use tag_arena::Policy;
 pub struct Desk {
     spaces: Vec<Space>,
     book: Book<PlainDeed>,
-    // The number of the next span's root. There are at most 32 times 65,536 spans; the book's mark is of root 0.
-    roots: u32,
 }
+
+/// The root of the book's mark: the number after those of all roots of spans.
+const MARK: u32 = 2_097_152;
 
 impl Model for Desk {
     ghost use Rattle.lease_desk.specs.Picture.{Picture};
@@ -50,14 +49,14 @@ impl Desk {
     /// A desk with no arena.
     pub fn new(alloc: Global) -> Desk
         ensures arenas { result.arenas ≡ [] }
+        ensures mark { result.book.mark.root ≡ root_of 32 0 }
         ensures book { IsHistory [] result.book }
         ensures orderly { IsOrderly result }
     {
-        let mark = PlainDeed::new(0, Range::new(0, 1).unwrap());
+        let mark = PlainDeed::new(MARK, Range::new(0, 1).unwrap());
         Desk {
             spaces: Vec::new(alloc),
             book: Book::new(alloc, mark),
-            roots: 1,
         }
     }
 
@@ -86,8 +85,7 @@ impl Desk {
             policy,
             qcache_max,
         };
-        add_root(&mut self.spaces, &root, self.roots, alloc)?;
-        self.roots = self.roots.wrapping_add(1);
+        add_root(&mut self.spaces, &root, alloc)?;
         Ok(())
     }
 
@@ -99,8 +97,7 @@ impl Desk {
         ensures refused { IfErr result (RefusesSpan self.old.arenas name.now (record { base = base; len = len })) }
         ensures err { OnErr result (self.new ≡ self.old) }
     {
-        add_span(&mut self.spaces, name, base, len, self.roots)?;
-        self.roots = self.roots.wrapping_add(1);
+        add_span(&mut self.spaces, name, base, len)?;
         Ok(())
     }
 
@@ -112,11 +109,8 @@ impl Desk {
     {
         out.reserve(LONGEST_LINE + 1)?;
         match Line::read(line) {
-            Ok(request) => {
-                let reply = self.serve(&request);
-                write_reply(&reply, out);
-                Ok(())
-            }
+            // There is room, so that this isn't refused.
+            Ok(request) => self.serve(&request).write(out),
             Err(fault) => self.refuse(line, fault, out),
         }
     }
@@ -157,19 +151,27 @@ impl Desk {
 
     /// What an operator asks for. Where its lines find no room, the answer is one that says so.
     fn tell(&self, operator: Operator, out: &mut Vec<u8>) -> Result<(), AllocError>
-        ensures ok { OnOk result ((reply : List ℕ) × (out.new.items ≡ out.old.items ++ reply) × IsTold self.now operator reply) }
+        ensures ok { OnOk result ((reply : List ℕ) × (out.new.items ≡ out.old.items ++ reply) × Tells (asked_text self.now operator) reply) }
         ensures err { OnErr result (out.new.items ≡ out.old.items) }
     {
         let begin = out.len();
-        let told = match operator {
+        match self.tell_all(operator, out) {
+            Ok(()) => Ok(()),
+            Err(_) => {
+                out.truncate(begin);
+                out.extend_from_slice(b"error memory\n")
+            }
+        }
+    }
+
+    fn tell_all(&self, operator: Operator, out: &mut Vec<u8>) -> Result<(), AllocError>
+        ensures ok { OnOk result (out.new.items ≡ out.old.items ++ asked_text self.now operator) }
+        ensures err { OnErr result (StartsWith out.new.items out.old.items) }
+    {
+        match operator {
             Operator::Audit => audit(&self.spaces, out),
             Operator::Clients => clients(&self.book, out),
-        };
-        if told.is_ok() {
-            return Ok(());
         }
-        out.truncate(begin);
-        out.extend_from_slice(b"error memory\n")
     }
 
     /// Ends the desk: frees all leases, takes out all spans, and closes their deeds and the book's mark. It takes
@@ -178,7 +180,6 @@ impl Desk {
         let Desk {
             mut spaces,
             mut book,
-            roots: _,
         } = self;
         end_leases(&mut spaces, &mut book);
         match book.close() {
@@ -188,16 +189,5 @@ impl Desk {
             Err(_) => unreachable!(),
         }
         close_spaces(spaces);
-    }
-}
-
-/// Appends a reply where there is room for it.
-fn write_reply(reply: &Reply, out: &mut Vec<u8>)
-    requires room { vec_len out.old + 256 ≤ vec_capacity out.old }
-    ensures { out.new.items ≡ out.old.items ++ ended (reply_text reply.now) }
-{
-    match reply.write(out) {
-        Ok(()) => {}
-        Err(_) => unreachable!(),
     }
 }
