@@ -5,3 +5,4 @@ pub mod WeightLemmas
 pub mod HistoryLemmas
 pub mod EntryLemmas
 pub mod BookLemmas
+pub mod LawProofs

@@ -7,3 +7,4 @@ pub mod Ledger
 pub mod Answers
 pub mod Calls
 pub mod Reports
+pub mod Laws

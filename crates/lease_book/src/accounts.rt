@@ -63,6 +63,13 @@ impl<D: Deed> Accounts<D> {
         }
     }
 
+    pub(crate) fn len(&self) -> usize
+        ensures count { result ≡ length self.now }
+        ensures few { result ≤ 65536 }
+    {
+        self.clients.len()
+    }
+
     /// The place of a client's account.
     pub(crate) fn find(&self, client: u32) -> Option<usize>
         ensures within { IfSome result (λ i. i < length self.now) }

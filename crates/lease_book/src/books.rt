@@ -262,6 +262,15 @@ impl<D: Deed> Book<D> {
         self.accounts.units(arena)
     }
 
+    /// How many clients ever said hello. In order of first hello they stand at the places below this.
+    pub fn clients(&self) -> usize
+        ensures count { result ≡ length self.now.accounts }
+        ensures few { result ≤ 65536 }
+        ensures history { (entries : List Entry) → IsHistory entries self.now → result ≡ length (clients_of entries) }
+    {
+        self.accounts.len()
+    }
+
     /// The client that stands at a place in order of first hello.
     pub fn client_at(&self, index: usize) -> Option<ClientReport>
         ensures value { result ≡ option_map report_of (slice_get self.now.accounts index) }

@@ -12,12 +12,14 @@
 mod accounts;
 mod answers;
 mod books;
+mod laws;
 mod leases;
 mod receipts;
 mod reports;
 
 pub use answers::{Answer, HelloFault, Look};
 pub use books::{Book, LEASES};
+pub use laws::account_law;
 pub use receipts::{Receipt, Refusal, Reply, Terms};
 pub use reports::ClientReport;
 

@@ -295,6 +295,24 @@ fn limit(rt: HostRuntime) {
     end(&rt, book);
 }
 
+// Each client is listed once, where it first said hello.
+#[test]
+fn lists(rt: HostRuntime) {
+    let mut book = make_book(&rt, rt.alloc());
+    assert_eq!(rt; book.clients(), 0);
+    assert!(rt; book.hello(5, 1).is_ok());
+    assert!(rt; book.hello(2, 1).is_ok());
+    assert!(rt; book.hello(5, 2).is_ok());
+    assert!(rt; book.hello(5, 1).is_err());
+    assert!(rt; book.hello(9, 1).is_ok());
+    assert_eq!(rt; book.clients(), 3);
+    assert_eq!(rt; book.client_at(0).map(|report| report.client), Some(5));
+    assert_eq!(rt; book.client_at(1).map(|report| report.client), Some(2));
+    assert_eq!(rt; book.client_at(2).map(|report| report.client), Some(9));
+    assert_eq!(rt; book.client_at(3), None);
+    end(&rt, book);
+}
+
 // A book with a lease isn't closed.
 #[test]
 fn closes(rt: HostRuntime) {

@@ -33,6 +33,7 @@ impl Model for LineReader {
 }
 
 impl LineReader {
+    /// A reader at the beginning of a line.
     pub fn new() -> Self
         ensures { result ≡ record { line = []; whole = false } }
     {

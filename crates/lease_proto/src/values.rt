@@ -9,10 +9,10 @@ use std::marker::Model;
 /// The greatest number that a line may have: 2^62.
 pub const LARGEST: u64 = 1 << 62;
 
-/// The greatest client.
+/// The greatest client: 2^16.
 pub const LAST_CLIENT: u32 = 65536;
 
-/// The longest name.
+/// The longest name, in bytes.
 pub const LONGEST_NAME: usize = 16;
 
 /// A client, 1 to 65,536.
@@ -32,6 +32,7 @@ impl Model for ClientId {
 }
 
 impl ClientId {
+    /// `None` outside 1 to 65,536.
     pub fn new(value: u32) -> Option<Self>
         ensures { SomeIff result ((1 ≤ value) × (value ≤ 65536)) value }
     {
@@ -42,6 +43,7 @@ impl ClientId {
         }
     }
 
+    /// Its number.
     pub fn get(self) -> u32
         ensures value { result ≡ self }
         ensures range { (1 ≤ self) × (self ≤ 65536) }
@@ -67,6 +69,7 @@ impl Model for Ordinal {
 }
 
 impl Ordinal {
+    /// `None` outside 1 to 2^62.
     pub fn new(value: u64) -> Option<Self>
         ensures { SomeIff result ((1 ≤ value) × (value ≤ 2 ^ 62)) value }
     {
@@ -77,6 +80,7 @@ impl Ordinal {
         }
     }
 
+    /// Its number.
     pub fn get(self) -> u64
         ensures value { result ≡ self }
         ensures range { (1 ≤ self) × (self ≤ 2 ^ 62) }
@@ -103,10 +107,13 @@ impl Model for Quantity {
 }
 
 impl Quantity {
+    /// No unit.
     pub const ZERO: Quantity = Quantity { units: 0 };
 
+    /// 2^62 units: as a bound, none.
     pub const MOST: Quantity = Quantity { units: LARGEST };
 
+    /// `None` above 2^62.
     pub fn new(value: u64) -> Option<Self>
         ensures { SomeIff result (value ≤ 2 ^ 62) value }
     {
@@ -117,6 +124,7 @@ impl Quantity {
         }
     }
 
+    /// How many units, or which one.
     pub fn get(self) -> u64
         ensures value { result ≡ self }
         ensures range { self ≤ 2 ^ 62 }
@@ -150,6 +158,7 @@ impl Model for Name {
 }
 
 impl Name {
+    /// The name of this text, or `None` where it is no name.
     pub fn new(text: &[u8]) -> Option<Self>
         ensures { SomeIff result (spec.is_name text.now ≡ true) text.now }
     {
@@ -162,6 +171,7 @@ impl Name {
         Some(Name { bytes, len })
     }
 
+    /// Its text, 1 to 16 bytes.
     pub fn as_slice(&self) -> &[u8]
         ensures value { result.now ≡ self.now }
         ensures name { spec.is_name self.now ≡ true }

@@ -3,13 +3,16 @@ ghost use Rattle.std.specs.Prelude.{◌≡◌, ◌++◌, ℕ, List, OnOk, OnErr}
 
 use std::alloc::AllocError;
 
-/// Answers one line at a time.
+/// Answers one line at a time, in the order in which the lines came. What a serving may write is stated
+/// over `may_answer`, which each responder says of itself.
 pub trait Responder {
-    /// From a state, the answers that may be given to a line, and the states after them.
+    /// From a state, a line and an answer to it, given with its line feeds, and the state after it: what the
+    /// responder may do. More than one answer may be allowed, or none.
     ghost may_answer: { Self → List ℕ → List ℕ → Self → Type 0 };
 
-    /// Appends the reply lines to a line, which is given without its line feed and has at most 255 bytes.
-    /// Want of memory appends nothing and ends the serving.
+    /// Appends the answer to a line. `serve` gives each line without its line feed, of at most 255 bytes, also
+    /// an empty one, and never one that is too long or unended. Want of memory appends nothing, may leave any
+    /// state, and ends the serving: it isn't asked again.
     fn answer(&mut self, line: &[u8], out: &mut Vec<u8>) -> Result<(), AllocError>
         ensures ok { OnOk result ((reply : List ℕ) × (out.new.items ≡ out.old.items ++ reply) × may_answer self.old line.now reply self.new) }
         ensures err { OnErr result (out.new.items ≡ out.old.items) };

@@ -221,7 +221,7 @@ fn whole_lines(read: usize) -> &'static [u8] {
 }
 
 #[test]
-fn a_read_that_fails_ends_the_serving(rt: HostRuntime) {
+fn a_read_that_fails_finds_each_answer_flushed(rt: HostRuntime) {
     let alloc = rt.alloc();
     for read in 0..=PLAIN.len() {
         let at = read as u64 + 1;
@@ -232,6 +232,8 @@ fn a_read_that_fails_ends_the_serving(rt: HostRuntime) {
             whole_lines(read),
             "after {read} bytes"
         );
+        // What was flushed before a read is what was flushed when that read failed.
+        assert_eq!(rt; sink.flushed, sink.held.len(), "after {read} bytes");
         let (result, sink) = outcome(
             alloc,
             PLAIN,
@@ -269,8 +271,9 @@ fn a_write_that_fails_ends_the_writing(rt: HostRuntime) {
         assert_eq!(rt; result, Ok(()), "after {written} bytes");
         assert_eq!(rt; sink.held.as_slice(), PLAIN, "after {written} bytes");
     }
-    let (result, _sink) = outcome(alloc, PLAIN, 5, Mishap::None, Mishap::None, 0);
+    let (result, sink) = outcome(alloc, PLAIN, 5, Mishap::None, Mishap::None, 0);
     assert_eq!(rt; result, Err(ServeFault::Write));
+    assert_eq!(rt; sink.writes, 1);
 }
 
 #[test]
@@ -282,6 +285,7 @@ fn a_flush_that_fails_ends_the_serving(rt: HostRuntime) {
         let (result, sink) = outcome(alloc, input, 2, Mishap::None, mishap, 100);
         assert_eq!(rt; result, Err(ServeFault::Write), "at {at}");
         assert_eq!(rt; sink.writes, at);
+        assert_eq!(rt; sink.flushes, at);
     }
 }
 

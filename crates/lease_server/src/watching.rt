@@ -17,6 +17,7 @@ pub struct Watched<T> {
 }
 
 impl<T> Watched<T> {
+    /// Watches a reader or a writer that has not failed yet.
     pub fn new(inner: T) -> Watched<T>
         ensures inner { inner_of result ≡ inner }
         ensures failed { has_failed result ≡ false }
@@ -29,6 +30,7 @@ impl<T> Watched<T> {
         }
     }
 
+    /// Whether a call of it has failed.
     pub fn has_failed(&self) -> bool
         ensures { result ≡ has_failed self.now }
     {

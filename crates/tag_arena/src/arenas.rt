@@ -201,6 +201,7 @@ impl<D: Deed> Arena<D> {
         ensures no_fit { (result ≡ Err ArenaFault.NoFit)
             ↔ (IsGood self.old.quantum request.now × IsChosen self.old request.now None) }
         ensures refused { IfErr result (RefusesCarve self.old request.now) }
+        ensures good { OnOk result (IsGood self.old.quantum request.now) }
         ensures chosen { IfOk result (λ s.
             IsChosen self.old request.now (Some s.holding.range.base)) }
         ensures fits { IfOk result (λ s.
