@@ -1,6 +1,6 @@
 -- The words of the command line.
-use Rattle.std.specs.Prelude.{◌≡◌, ◌⊎◌, ℕ, List, [], ◌∷◌, true, codes}
-use Rattle.clap.specs.Words.{App, new_app, with_subcommand, Kinds, IsAmong, kind_of}
+use Rattle.std.specs.Prelude.{◌≡◌, ◌≢◌, ◌≤◌, ◌⊎◌, ℕ, List, [], ◌∷◌, true, codes}
+use Rattle.clap.specs.Words.{App, new_app, with_subcommand, kind_of}
 use Rattle.clap.specs.declared.error.Error.{Error}
 use Rattle.clap.specs.declared.error.kind.ErrorKind.TheVariants as kind
 use Rattle.vmemd.specs.declared.commands.WordsFault.{WordsFault}
@@ -22,19 +22,13 @@ program = with_subcommand bare_program (new_app (codes "script")).top
 abbrev pub script_words : List (List ℕ)
 script_words = codes "vmemd" ∷ codes "script" ∷ []
 
--- the text that is shown is of one of these kinds; memory may be refused at any words
-abbrev pub ShowsOneOf : Kinds → WordsFault → Type 0
-ShowsOneOf kinds (Shown error) = IsAmong (kind_of error) kinds
-ShowsOneOf kinds NotText = ⊥
-ShowsOneOf kinds Memory = Unit {0}
-
 -- the text was asked for, as help is
 abbrev pub IsAskedFor : Error → Type 0
 IsAskedFor error = (kind_of error ≡ kind.DisplayHelp) ⊎ (kind_of error ≡ kind.DisplayVersion)
 
--- the exit status after a text: where it was asked for and can't be written, that of a write fault
+-- the exit status after a text: 2 for a mistake in the words; else 0, or 1 where the text can't be written
 abbrev pub EndsShown : Error → ℕ → Type 0
-EndsShown error status = (IsAskedFor error → (status ≡ 0) ⊎ (status ≡ exit_of script.Write)) × (¬ IsAskedFor error → status ≡ 2)
+EndsShown error status = (IsAskedFor error → status ≤ 1) × (kind_of error ≢ kind.DisplayHelp → kind_of error ≢ kind.DisplayVersion → status ≡ 2)
 
 -- the exit status where the words ask for nothing
 abbrev pub EndsWords : WordsFault → ℕ → Type 0
