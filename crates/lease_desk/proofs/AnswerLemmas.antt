@@ -181,7 +181,8 @@ granted_new l before spaces x old new place t terms v r first carved is same say
       segment = t;
       finds = record { first = first; here = carved.here };
       home = carved.home;
-      not_bad = carved.not_bad;
+      good = carved.good;
+      chosen = carved.chosen;
       fits = carved.fits;
       free = carved.free;
       few = is.room;
@@ -204,7 +205,8 @@ missed l before spaces now x old new place t first carved gives = record {
   place = place;
   arena = x;
   finds = record { first = first; here = carved.here };
-  not_bad = carved.not_bad;
+  good = carved.good;
+  chosen = (t.holding.range.base, carved.chosen);
   arenas = gives_nothing before (pictures spaces) (pictures now) t carved.back gives;
 }
 

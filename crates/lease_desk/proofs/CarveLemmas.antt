@@ -1,5 +1,5 @@
 -- What a carve comes to.
-use Rattle.std.proofs.Common.{◌≡◌, ℕ, ◌+◌, ◌<◌, sym, subst, ap, ◌∙◌, inl, inr, List, set, Option, Some, None, Result, Ok, Err, IfOk, IfErr, OnErr, arith}
+use Rattle.std.proofs.Common.{◌≡◌, ℕ, ◌+◌, ◌<◌, sym, subst, ap, ◌∙◌, inl, inr, List, set, Option, Some, None, Result, Ok, Err, IfOk, IfErr, OnOk, OnErr, arith}
 use Rattle.std.specs.Prelude.{slice_get, MatchOption}
 use Rattle.deed_core.specs.Extent.{Covers}
 use Rattle.deed_core.specs.Holding.{Holding}
@@ -8,14 +8,14 @@ use Rattle.deed_core.specs.Covering.{covers, covering_held}
 use Rattle.deed_core.specs.Weights.{Gains}
 use Rattle.deed_core.specs.Request.{Fits, IsGood}
 use Rattle.deed_core.specs.declared.requests.Request.{Request}
-use Rattle.deed_core.proofs.Units.{counts_the_unit}
+use Rattle.deed_core.proofs.LawProofs.{counts_the_unit}
 use Rattle.tag_arena.specs.declared.policies.Policy.{Policy}
 use Rattle.tag_arena.specs.declared.policies.Policy.TheVariants.{Best, Next, Instant}
 use Rattle.tag_arena.specs.declared.faults.ArenaFault.{ArenaFault}
 use Rattle.tag_arena.specs.declared.faults.ArenaFault.TheVariants.{BadRequest, NoFit, Overlaps, NotAligned, NoMemory}
 use Rattle.tag_arena.specs.Place.{IsLeast, Serves}
 use Rattle.tag_arena.specs.Choice.{IsChoice}
-use Rattle.tag_arena.specs.ArenaState.{ArenaState, ranges_of, direct}
+use Rattle.tag_arena.specs.ArenaState.{ArenaState, ranges_of, direct, IsChosen}
 use Rattle.tag_arena.specs.Calls.{Carves, RefusesCarve}
 use Rattle.lease_desk.specs.declared.spaces.Space.{Space}
 use Rattle.lease_desk.specs.Picture.{ArenaPicture}
@@ -68,19 +68,20 @@ module _ (spaces : List Space) (place : ℕ) (s : Space) (new : ArenaState) (q :
   carve_sound (Ok t) carved err gains units = spaces_after spaces place (with_arena s new) sound (carved_space place s new t.holding is carved gains units)
   carve_sound (Err e) carved err gains units = sound_same err
 
-  pub carve_carved : (r : Result Tag ArenaFault) → ((r ≡ Err BadRequest → ¬ IsGood s.arena.quantum q) × ((¬ IsGood s.arena.quantum q) → r ≡ Err BadRequest))
+  pub carve_carved : (r : Result Tag ArenaFault) → OnOk r (IsGood s.arena.quantum q) → IfOk r (λ t. IsChosen s.arena q (Some t.holding.range.base))
       → IfOk r (λ t. Fits s.arena.quantum q t.holding.range.base t.holding.range.len) → IfOk r (λ t. t ≡ direct s.arena.id t.holding)
       → IfOk r (λ t. Carves s.arena new t.holding)
       → IfOk r (λ t. Gains (ranges_of s.arena.allocated) (ranges_of new.allocated) t.holding)
       → IfOk r (λ t. (u : ℕ) → covering_held u s.arena.free ≡ covering_held u new.free + covers u t.holding.range)
       → IfOk r (λ t. (x : ArenaPicture) × IsCarved (pictures spaces) (pictures (set spaces place (with_arena s new))) place x q t)
-  carve_carved (Ok t) bad fits segment carved gains units = (
+  carve_carved (Ok t) good chosen fits segment carved gains units = (
     picture_of s,
     record {
       here = slice_get_mapped picture_of spaces place s here;
       home = home;
       route = ap (λ (x : Tag). x.route) segment;
-      not_bad = λ not_good. (let e : Ok t ≡ Err BadRequest = bad.1 not_good in cc);
+      good = good;
+      chosen = (s.arena.rover, chosen);
       serves = (t.holding.range.base, carved_serves s.arena.quantum q s.arena new t.holding carved fits);
       fits = fits;
       free = free_before t.holding units;
@@ -90,7 +91,7 @@ module _ (spaces : List Space) (place : ℕ) (s : Space) (new : ArenaState) (q :
     where
       home : t.arena ≡ place
       home = ap (λ (x : Tag). x.arena) segment ∙ is.id
-  carve_carved (Err e) bad fits segment carved gains units = tt
+  carve_carved (Err e) good chosen fits segment carved gains units = tt
 
   pub carve_refused : (r : Result Tag ArenaFault) → IfErr r (RefusesCarve s.arena q) → IfErr r (λ fault. (x : ArenaPicture) × IsUncarved (pictures spaces) place x q fault)
   carve_refused (Ok t) refused = tt
@@ -98,4 +99,4 @@ module _ (spaces : List Space) (place : ℕ) (s : Space) (new : ArenaState) (q :
   carve_refused (Err NoFit) none = (picture_of s, record { here = slice_get_mapped picture_of spaces place s here; why = (none.0, λ has. none_serves s.arena.policy s.arena.quantum q s.arena.free s.arena.rover none.1 has.0 has.1) })
   carve_refused (Err Overlaps) refused = absurd refused
   carve_refused (Err NotAligned) refused = absurd refused
-  carve_refused (Err NoMemory) refused = (picture_of s, record { here = slice_get_mapped picture_of spaces place s here; why = refused.0 })
+  carve_refused (Err NoMemory) refused = (picture_of s, record { here = slice_get_mapped picture_of spaces place s here; why = (refused.0, (refused.1.0, s.arena.rover, refused.1.1)) })

@@ -10,3 +10,5 @@ pub mod OrderLemmas
 pub mod SetupLemmas
 pub mod StepLemmas
 pub mod RunLemmas
+pub mod TextLemmas
+pub mod LawProofs

@@ -5,16 +5,13 @@ use Rattle.std.specs.List.{flat_map}
 use Rattle.std.proofs.lemmas.List.Sums.{sum_by-cons, sum_by-append}
 use Rattle.deed_core.specs.Holding.{Holding}
 use Rattle.deed_core.specs.Covering.{covers_held}
+use Rattle.deed_core.proofs.LawProofs.{sum_by-map}
 use Rattle.lease_book.specs.Account.{Lease, Account}
 use Rattle.lease_book.specs.Ledger.{Ledger, leased, leased_by, segments}
 use Rattle.lease_desk.specs.declared.spaces.Space.{Space}
 use Rattle.lease_desk.specs.Picture.{ArenaPicture, Free, Leased, Stay, leases_in, stays_of, OnePlace, within, IsOrderly}
 use Rattle.lease_desk.specs.Spaces.{picture_of, desk_of, IsSteady, IsSpace}
 use Rattle.lease_desk.proofs.PlaceLemmas.{mapped, slice_get_mapped}
-
-weigh-map : {X Y : Type 0} (g : Y → ℕ) (h : X → Y) (xs : List X) → sum_by g (map h xs) ≡ sum_by (λ x. g (h x)) xs
-weigh-map g h [] = refl
-weigh-map g h (x ∷ xs) = sum_by-cons g (h x) (map h xs) ∙ ap (λ n. g (h x) + n) (weigh-map g h xs) ∙ sym (sum_by-cons (λ y. g (h y)) x xs)
 
 abbrev weight : (Holding → ℕ) → Stay → ℕ
 weight f s = f s.holding
@@ -42,7 +39,7 @@ module _ (k : ℕ) (f : Holding → ℕ) where
   -- what the places of an arena weigh
   pub stays_weigh : (x : ArenaPicture) (book : Ledger) → sum_by (weight f) (stays_of k x book) ≡ sum_by f x.free + sum_by (within k f) (leased book)
   stays_weigh x book = sum_by-append (weight f) (map free_stay x.free) (flat_map (leases_in k) book.accounts)
-      ∙ ap (λ n. n + sum_by (weight f) (flat_map (leases_in k) book.accounts)) (weigh-map (weight f) free_stay x.free)
+      ∙ ap (λ n. n + sum_by (weight f) (flat_map (leases_in k) book.accounts)) (sum_by-map (weight f) free_stay x.free)
       ∙ ap (λ n. sum_by f x.free + n) (accounts_weigh book.accounts)
     where
       free_stay : Holding → Stay

@@ -1,19 +1,23 @@
--- Runs of the lease machine.
-use Rattle.std.proofs.Common.{◌≡◌, ℕ, suc, zero, ◌+◌, ◌<◌, ◌≤◌, refl, sym, subst, List, [], ◌∷◌, length, get_or, AllPairs, arith}
+-- A desk after the frames that a server answers by it.
+use Rattle.std.proofs.Common.{◌≡◌, ℕ, suc, zero, ◌+◌, ◌<◌, ◌≤◌, refl, sym, subst, List, [], ◌∷◌, length, get_or, AllPairs, Ok, Err, arith}
 use Rattle.std.specs.Prelude.{sum_by}
 use Rattle.std.proofs.lemmas.List.Sums.{sum_by-cons, get_or-le-sum_by}
 use Rattle.deed_core.specs.Covering.{covers, covers_held}
-use Rattle.deed_core.proofs.Units.{counts_the_unit}
+use Rattle.deed_core.proofs.LawProofs.{counts_the_unit}
 use Rattle.lease_book.specs.Ledger.{leased}
+use Rattle.lease_proto.specs.Frames.{Frame}
+use Rattle.lease_server.specs.Serving.{Serves}
 use Rattle.lease_desk.specs.Picture.{Picture, OnePlace, within, stray, IsOrderly}
-use Rattle.lease_desk.specs.Laws.{Runs, AreApart, LeasesStayApart, UnitsHaveOnePlace}
+use Rattle.lease_desk.specs.Machine.{LeaseStep}
+use Rattle.lease_desk.specs.Laws.{AreApart, LeasesStayApart, UnitsHaveOnePlace}
 use Rattle.lease_desk.proofs.PlaceLemmas.{slice_get_some}
 use Rattle.lease_desk.proofs.Exporting.{not_stray, within_own}
 use Rattle.lease_desk.proofs.OrderLemmas.{stays_weigh}
 
-stays_orderly : (old new : Picture) (lines : List (List ℕ × List ℕ)) → IsOrderly old → Runs old lines new → IsOrderly new
-stays_orderly old new [] orderly run = subst IsOrderly (sym run) orderly
-stays_orderly old new (line ∷ lines) orderly run = stays_orderly run.0 new lines run.1.orderly run.2
+stays_orderly : (old new : Picture) (frames : List Frame) (text : List ℕ) → IsOrderly old → Serves LeaseStep old frames text new → IsOrderly new
+stays_orderly old new [] text orderly served = subst IsOrderly (sym served.1) orderly
+stays_orderly old new (Ok line ∷ frames) text orderly served = stays_orderly served.2 new frames served.1 (served.3).orderly served.5
+stays_orderly old new (Err fault ∷ frames) text orderly served = stays_orderly old new frames served.0 orderly served.2
 
 two_weigh : {X : Type 0} (f : X → ℕ) (xs : List X) (i j : ℕ) (d : X) → i < j → j < length xs → f (get_or xs i d) + f (get_or xs j d) ≤ sum_by f xs
 two_weigh f [] i j d lt below = absurd (omega (arith, below))
@@ -41,7 +45,7 @@ apart_now d orderly i j e lt below same u first second =
     omega (arith, one, two, here, there, two_weigh (within a (covers_held u)) (leased d.book) i j e lt below, leased_once d a u orderly home)
 
 pub leases_stay_apart : LeasesStayApart
-leases_stay_apart old new lines orderly run = apart_now new (stays_orderly old new lines orderly run)
+leases_stay_apart old new frames text orderly served = apart_now new (stays_orderly old new frames text orderly served)
 
 pub units_have_one_place : UnitsHaveOnePlace
-units_have_one_place old new lines orderly run = (stays_orderly old new lines orderly run).places
+units_have_one_place old new frames text orderly served = (stays_orderly old new frames text orderly served).places

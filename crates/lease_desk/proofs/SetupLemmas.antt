@@ -12,7 +12,7 @@ use Rattle.deed_core.specs.Extent.{Extent, Overlap}
 use Rattle.deed_core.specs.Holding.{Holding}
 use Rattle.deed_core.specs.Tag.{Tag}
 use Rattle.deed_core.specs.Covering.{covers, covers_held, covering_held}
-use Rattle.deed_core.proofs.Units.{counts_the_unit}
+use Rattle.deed_core.proofs.LawProofs.{counts_the_unit}
 use Rattle.tag_arena.specs.Layout.{FreeIsLongestRuns, IsLongestRun, IsRun, IsPartOf}
 use Rattle.tag_arena.specs.ArenaState.{ArenaState, spans_of, layout_of, ranges_of}
 use Rattle.tag_arena.specs.Calls.{after_add, IsClear}
@@ -22,7 +22,7 @@ use Rattle.lease_book.specs.declared.receipts.Reply.{Reply}
 use Rattle.lease_book.specs.declared.receipts.Reply.TheVariants.{Granted, Released, Refused}
 use Rattle.lease_desk.specs.declared.spaces.Space.{Space}
 use Rattle.lease_desk.specs.Picture.{ArenaPicture, within, stray, Exports}
-use Rattle.lease_desk.specs.Setup.{NewArena, CanAdd, AddsArena, AddsSpan, with_span, fresh}
+use Rattle.lease_desk.specs.Setup.{root_of, NewArena, CanAdd, AddsArena, AddsSpan, with_span, fresh}
 use Rattle.lease_desk.specs.Told.{IsOfArenas, IsPossible, IsTold}
 use Rattle.lease_desk.specs.Roots.{space_of}
 use Rattle.lease_desk.specs.Spaces.{picture_of, pictures, IsSpace, AreSpaces, IsSteady}
@@ -64,15 +64,16 @@ fresh_with n h allocated = record { name = n.name; quantum = n.quantum; policy =
 abbrev held_by : ℕ → Extent → Holding
 held_by root range = record { root = root; range = range }
 
-pub added_arena : (spaces items : List Space) (id : ℕ) (n : NewArena) (range : Extent) (number : ℕ) (s : Space) → CanAdd (pictures spaces) n → range ≡ n.range → items ≡ spaces ++ s ∷ [] → s ≡ space_of id n (record { root = number; range = range }) → AddsArena n (pictures spaces) (pictures items)
-added_arena spaces items id n range number s can same is made = record {
-  root = number;
+pub added_arena : (spaces items : List Space) (id : ℕ) (n : NewArena) (range : Extent) (s : Space) → CanAdd (pictures spaces) n → range ≡ n.range → items ≡ spaces ++ s ∷ [] → id ≡ length spaces → s ≡ space_of id n (held_by (root_of id 0) range)
+    → AddsArena n (pictures spaces) (pictures items)
+added_arena spaces items id n range s can same is place made = record {
   can = can;
   added = ap pictures is ∙ map-push picture_of spaces s ∙ ap (λ (x : ArenaPicture). pictures spaces ++ x ∷ []) picture;
 }
   where
-    picture : picture_of s ≡ fresh n (held_by number n.range)
-    picture = ap picture_of made ∙ ap (fresh_with n (held_by number range)) no_ranges ∙ ap (λ r. fresh n (held_by number r)) same
+    picture : picture_of s ≡ fresh n (held_by (root_of (length (pictures spaces)) 0) n.range)
+    picture = ap picture_of made ∙ ap (fresh_with n (held_by (root_of id 0) range)) no_ranges ∙ ap (λ r. fresh n (held_by (root_of id 0) r)) same
+        ∙ ap (λ k. fresh n (held_by (root_of k 0) n.range)) (place ∙ sym (length-map spaces picture_of))
 
 -- no segment is of an arena past the last
 none_past : (out : List Tag) (n k : ℕ) (f : Holding → ℕ) → sum_by (stray n) out ≡ 0 → n ≤ k → sum_by (within k f) out ≡ 0
@@ -120,7 +121,7 @@ pub steady_added : (n : NewArena) (spaces now : List Space) (book : Ledger) → 
 steady_added n spaces now book steady sound adds = record {
   few = (let room = adds.can.room.1 in omega (arith, room, count, length-map spaces picture_of));
   sound = sound;
-  exports = subst (λ xs. Exports xs (leased book)) (sym adds.added) (exports_pushed (pictures spaces) (fresh n (held_by adds.root n.range)) (leased book) refl steady.exports);
+  exports = subst (λ xs. Exports xs (leased book)) (sym adds.added) (exports_pushed (pictures spaces) (fresh n (held_by (root_of (length (pictures spaces)) 0) n.range)) (leased book) refl steady.exports);
   told = record {
     entries = steady.told.entries;
     history = steady.told.history;
@@ -129,7 +130,7 @@ steady_added n spaces now book steady sound adds = record {
 }
   where
     count : length now ≡ length spaces + 1
-    count = omega (arith, length-map now picture_of, length-map spaces picture_of, ap length adds.added, length-append (pictures spaces) (fresh n (held_by adds.root n.range) ∷ []))
+    count = omega (arith, length-map now picture_of, length-map spaces picture_of, ap length adds.added, length-append (pictures spaces) (fresh n (held_by (root_of (length (pictures spaces)) 0) n.range) ∷ []))
 
 -- a span that is clear covers no unit of the others
 clear_none : (spans : List Holding) (e : Extent) (u : ℕ) → All (λ s. ¬ Overlap s.range e) spans → covers u e ≡ 1 → covering_held u spans ≡ 0
@@ -147,6 +148,28 @@ clear_none (s ∷ spans) e u clear one = elim (cases_eq (covers u s.range) 0) [
 
 spans_weigh : (a : ArenaState) (h : Holding) (f : Holding → ℕ) → sum_by f (spans_of (after_add a h)) ≡ sum_by f (spans_of a) + f h
 spans_weigh a h f = omega (arith, sum_by-append f (a.owned ++ h ∷ []) (map (λ (t : Tag). t.holding) a.imported), sum_by-append f a.owned (map (λ (t : Tag). t.holding) a.imported), sum_by-append f a.owned (h ∷ []), sum_by-cons f h [])
+
+nil_right : (xs : List Holding) → xs ++ [] ≡ xs
+nil_right [] = refl
+nil_right (x ∷ xs) = ap (λ ys. x ∷ ys) (nil_right xs)
+
+module _ (s : Space) (own : s.arena.imported ≡ []) where
+  owned_alone : spans_of s.arena ≡ s.arena.owned
+  owned_alone = ap (λ (ts : List Tag). s.arena.owned ++ map (λ (t : Tag). t.holding) ts) own ∙ nil_right s.arena.owned
+
+  spans_added : (h : Holding) → spans_of (after_add s.arena h) ≡ spans_of s.arena ++ h ∷ []
+  spans_added h = ap (λ (ts : List Tag). (s.arena.owned ++ h ∷ []) ++ map (λ (t : Tag). t.holding) ts) own ∙ nil_right (s.arena.owned ++ h ∷ [])
+      ∙ sym (ap (λ (hs : List Holding). hs ++ h ∷ []) owned_alone)
+
+  pub extended_picture : (new : ArenaState) (h : Holding) → new ≡ after_add s.arena h → picture_of (record { name = s.name; arena = new; spans = s.spans + 1 }) ≡ with_span (picture_of s) h
+  extended_picture new h same = ap (λ (a : ArenaState). picture_of (record { name = s.name; arena = a; spans = s.spans + 1 })) same ∙ ap with_spans (spans_added h)
+    where
+      with_spans : List Holding → ArenaPicture
+      with_spans spans = record { name = s.name; quantum = s.arena.quantum; policy = s.arena.policy; spans = spans; free = s.arena.free ++ h ∷ []; allocated = ranges_of s.arena.allocated }
+
+  -- an arena knows how many spans it has
+  pub spans_counted : s.spans ≡ length s.arena.owned → s.spans ≡ length (spans_of s.arena)
+  spans_counted count = count ∙ sym (ap length owned_alone)
 
 -- an arena with one more span
 pub extended_space : (k : ℕ) (s : Space) (new : ArenaState) (h : Holding) → IsSpace k s → new ≡ after_add s.arena h → IsClear s.arena h.range → s.spans < 65536 → IsSpace k (record { name = s.name; arena = new; spans = s.spans + 1 })
@@ -177,15 +200,15 @@ steady_spanned name e spaces now book steady sound adds = record {
 }
   where
     count : length now ≡ length spaces
-    count = sym (length-map now picture_of) ∙ ap length adds.added ∙ length-set (pictures spaces) adds.place (with_span adds.arena (held_by adds.root e)) ∙ length-map spaces picture_of
+    count = sym (length-map now picture_of) ∙ ap length adds.added ∙ length-set (pictures spaces) adds.place (with_span adds.arena (held_by (root_of adds.place (length adds.arena.spans)) e)) ∙ length-map spaces picture_of
 
-    spanned : Exports (set (pictures spaces) adds.place (with_span adds.arena (held_by adds.root e))) (leased book)
+    spanned : Exports (set (pictures spaces) adds.place (with_span adds.arena (held_by (root_of adds.place (length adds.arena.spans)) e))) (leased book)
     spanned = record {
-      each = λ k z f at. elim (written (pictures spaces) adds.place k (with_span adds.arena (held_by adds.root e)) z at) [
+      each = λ k z f at. elim (written (pictures spaces) adds.place k (with_span adds.arena (held_by (root_of adds.place (length adds.arena.spans)) e)) z at) [
         | inl here ↦ ap (λ (x : ArenaPicture). sum_by f x.allocated) here.1 ∙ steady.exports.each k adds.arena f (ap (slice_get (pictures spaces)) here.0 ∙ adds.finds.here)
         | inr there ↦ steady.exports.each k z f there.1
       ];
-      none = ap (λ n. sum_by (stray n) (leased book)) (length-set (pictures spaces) adds.place (with_span adds.arena (held_by adds.root e))) ∙ steady.exports.none;
+      none = ap (λ n. sum_by (stray n) (leased book)) (length-set (pictures spaces) adds.place (with_span adds.arena (held_by (root_of adds.place (length adds.arena.spans)) e))) ∙ steady.exports.none;
     }
 
 -- the front of a list has its places
@@ -193,10 +216,6 @@ pub front_at : {X : Type 0} (xs ys : List X) (k : ℕ) (x : X) → slice_get xs 
 front_at [] ys k x at = absurd (let e : None ≡ Some x = at in cc)
 front_at (z ∷ xs) ys zero x at = at
 front_at (z ∷ xs) ys (suc k) x at = front_at xs ys k x at
-
-nil_right : (xs : List Holding) → xs ++ [] ≡ xs
-nil_right [] = refl
-nil_right (x ∷ xs) = ap (λ ys. x ∷ ys) (nil_right xs)
 
 no_entries : (es : List (ℕ × Holding)) → map (λ e. e.1) es ≡ [] → es ≡ []
 no_entries [] none = refl

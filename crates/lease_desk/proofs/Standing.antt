@@ -11,7 +11,7 @@ use Rattle.std.specs.declared.cmp.Ordering.TheVariants.{Less, Equal, Greater}
 use Rattle.std.specs.FinMap.{FinMap, get, entries, entries_sorted, get-entries, find, is_sorted}
 use Rattle.std.specs.FinMap.Entries.{below_all}
 use Rattle.deed_core.specs.Holding.{Holding}
-use Rattle.deed_core.proofs.RowLemmas.{same_holding}
+use Rattle.deed_core.proofs.LawProofs.{same_holding}
 use Rattle.tag_arena.specs.ArenaState.{ranges_of}
 use Rattle.lease_desk.specs.Spaces.{IsKeyed}
 

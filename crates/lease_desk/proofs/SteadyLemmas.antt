@@ -11,7 +11,7 @@ use Rattle.lease_book.specs.Account.{Account}
 use Rattle.lease_book.specs.History.{incarnation}
 use Rattle.lease_book.specs.Ledger.{Ledger, Enters, account_in, leased}
 use Rattle.lease_book.specs.Calls.{IsSwept}
-use Rattle.lease_book.proofs.HistoryLemmas.{account_is}
+use Rattle.lease_book.proofs.LawProofs.{account_is}
 use Rattle.lease_desk.specs.declared.spaces.Space.{Space}
 use Rattle.lease_desk.specs.Picture.{Picture, Exports, within}
 use Rattle.lease_desk.specs.Moves.{GivesBack}

@@ -11,7 +11,7 @@ use Rattle.lease_book.specs.declared.answers.Answer.{Answer}
 use Rattle.lease_book.specs.declared.answers.Answer.TheVariants as answer
 use Rattle.lease_book.specs.declared.receipts.Reply.{Reply as KeptReply}
 use Rattle.lease_book.specs.declared.receipts.Reply.TheVariants as was
-use Rattle.lease_book.proofs.HistoryLemmas.{account_is}
+use Rattle.lease_book.proofs.LawProofs.{account_is}
 use Rattle.lease_proto.specs.declared.replies.Reply.{Reply}
 use Rattle.lease_desk.specs.Picture.{ArenaPicture, Picture}
 use Rattle.lease_desk.specs.Machine.{Asking, IsSettled, IsRepeat, IsKnown}

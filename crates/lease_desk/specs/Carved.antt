@@ -10,14 +10,15 @@ use Rattle.tag_arena.specs.declared.faults.ArenaFault.{ArenaFault}
 use Rattle.tag_arena.specs.declared.faults.ArenaFault.TheVariants.{BadRequest, NoFit, Overlaps, NotAligned, NoMemory}
 use Rattle.lease_desk.specs.Picture.{ArenaPicture}
 use Rattle.lease_desk.specs.Moves.{GivesBack}
-use Rattle.lease_desk.specs.Machine.{HasPlace}
+use Rattle.lease_desk.specs.Machine.{Chooses, HasPlace}
 
 -- the segment was carved for the request from free units of the arena at the place
 pub record IsCarved (old new : List ArenaPicture) (place : ℕ) (x : ArenaPicture) (q : Request) (t : Tag) : Type 0 where
   pub here : slice_get old place ≡ Some x
   pub home : t.arena ≡ place
   pub route : t.route ≡ Direct
-  pub not_bad : ¬ (¬ IsGood x.quantum q)
+  pub good : IsGood x.quantum q
+  pub chosen : Chooses x q t.holding.range.base
   pub serves : HasPlace x q
   pub fits : Fits x.quantum q t.holding.range.base t.holding.range.len
   pub free : (u : ℕ) → Covers t.holding.range u → 0 < covering_held u x.free
@@ -29,7 +30,7 @@ IsRefused x q BadRequest = ¬ IsGood x.quantum q
 IsRefused x q NoFit = IsGood x.quantum q × (¬ HasPlace x q)
 IsRefused x q Overlaps = ⊥
 IsRefused x q NotAligned = ⊥
-IsRefused x q NoMemory = IsGood x.quantum q
+IsRefused x q NoMemory = IsGood x.quantum q × ((base : ℕ) × Chooses x q base)
 
 -- none was carved from the arena at the place
 pub record IsUncarved (arenas : List ArenaPicture) (place : ℕ) (x : ArenaPicture) (q : Request) (fault : ArenaFault) : Type 0 where

@@ -8,6 +8,7 @@ use Rattle.deed_core.specs.Covering.{covering_held}
 use Rattle.deed_core.specs.Weights.{Gains, Loses}
 use Rattle.deed_core.specs.Request.{Fits, IsGood}
 use Rattle.deed_core.specs.declared.requests.Request.{Request}
+use Rattle.tag_arena.specs.Choice.{IsChoice}
 use Rattle.tag_arena.specs.Place.{Serves}
 use Rattle.lease_book.specs.Kept.{Kept}
 use Rattle.lease_book.specs.Entry.{Hello, Settled, Grant, Return, Refuse}
@@ -107,14 +108,19 @@ asked_lease l = record { client = l.client; incarnation = l.incarnation; number 
 abbrev pub asked_release : ReleaseLine → Asking
 asked_release l = record { client = l.client; incarnation = l.incarnation; number = l.number }
 
--- the segment fits the request, its units were free, and it is a lease afterwards
+-- the arena's policy chooses the address for the request, with its rover somewhere
+abbrev pub Chooses : ArenaPicture → Request → ℕ → Type 0
+Chooses x q base = (rover : ℕ) × IsChoice x.policy x.quantum q x.free rover (Some base)
+
+-- the segment is the policy's choice and fits the request, its units were free, and it is a lease afterwards
 pub record Grants (l : LeaseLine) (old new : Picture) (r : Reply) : Type 0 where
   pub place : ℕ
   pub arena : ArenaPicture
   pub segment : Tag
   pub finds : Finds old.arenas l.arena place arena
   pub home : segment.arena ≡ place
-  pub not_bad : ¬ (¬ IsGood arena.quantum (request_of l))
+  pub good : IsGood arena.quantum (request_of l)
+  pub chosen : Chooses arena (request_of l) segment.holding.range.base
   pub fits : Fits arena.quantum (request_of l) segment.holding.range.base segment.holding.range.len
   pub free : (u : ℕ) → Covers segment.holding.range u → 0 < covering_held u arena.free
   pub few : length (account_in l.client old.book).leases < 1024
@@ -127,12 +133,13 @@ pub record Grants (l : LeaseLine) (old new : Picture) (r : Reply) : Type 0 where
 abbrev pub HasPlace : ArenaPicture → Request → Type 0
 HasPlace x q = (base : ℕ) × Serves x.quantum q x.free base
 
--- the request was good, and the arena's units are as they were
+-- the request was good and an address was chosen for it, and the arena's units are as they were
 pub record Misses (l : LeaseLine) (old new : Picture) : Type 0 where
   pub place : ℕ
   pub arena : ArenaPicture
   pub finds : Finds old.arenas l.arena place arena
-  pub not_bad : ¬ (¬ IsGood arena.quantum (request_of l))
+  pub good : IsGood arena.quantum (request_of l)
+  pub chosen : (base : ℕ) × Chooses arena (request_of l) base
   pub arenas : GivesBack [] old.arenas new.arenas
 
 -- why a new lease is refused: the first of these that is so

@@ -1,5 +1,5 @@
 -- What is added to a desk, and why it is refused.
-use Rattle.std.specs.Prelude.{◌≡◌, ℕ, ◌≤◌, ◌<◌, ◌⊎◌, List, [], ◌∷◌, ◌++◌, length, All, slice_set, Some, None}
+use Rattle.std.specs.Prelude.{◌≡◌, ℕ, ◌+◌, ◌*◌, ◌≤◌, ◌<◌, ◌⊎◌, List, [], ◌∷◌, ◌++◌, length, All, slice_set, Some, None}
 use Rattle.std.specs.Int.{IsPowerOfTwo}
 use Rattle.deed_core.specs.Extent.{Extent, IsRange, Overlap}
 use Rattle.deed_core.specs.Holding.{Holding}
@@ -43,15 +43,19 @@ RefusesArena arenas n NotYet = HasRoom arenas n × IsPowerOfTwo n.quantum × (0 
 RefusesArena arenas n BadRange = HasRoom arenas n × IsPowerOfTwo n.quantum × (n.qcache_max ≡ 0) × (¬ IsWholeRange n.quantum n.range)
 RefusesArena arenas n NoMemory = CanAdd arenas n
 
+-- the number of the root of an arena's next span, by the arena's place and how many spans it has: each span's own,
+-- since an arena has at most 65536
+abbrev pub root_of : ℕ → ℕ → ℕ
+root_of place spans = place * 65536 + spans
+
 -- an arena whose one span is free
 abbrev pub fresh : NewArena → Holding → ArenaPicture
 fresh n h = record { name = n.name; quantum = n.quantum; policy = n.policy; spans = h ∷ []; free = h ∷ []; allocated = [] }
 
--- the arena is the last, and its span is of some root
+-- the arena is the last
 pub record AddsArena (n : NewArena) (old new : List ArenaPicture) : Type 0 where
-  pub root : ℕ
   pub can : CanAdd old n
-  pub added : new ≡ old ++ fresh n (record { root = root; range = n.range }) ∷ []
+  pub added : new ≡ old ++ fresh n (record { root = root_of (length old) 0; range = n.range }) ∷ []
 
 -- the arena with one more span, which is free
 abbrev pub with_span : ArenaPicture → Holding → ArenaPicture
@@ -80,12 +84,11 @@ abbrev pub RefusesSpan : List ArenaPicture → List ℕ → Extent → SetupFaul
 RefusesSpan arenas name e fault = ((fault ≡ NoArena) × (place_in name arenas ≡ None))
     ⊎ ((place : ℕ) × (x : ArenaPicture) × Finds arenas name place x × RefusesMore x e fault)
 
--- the arena of this name has the span more, which is of some root
+-- the arena of this name has the span more
 pub record AddsSpan (name : List ℕ) (e : Extent) (old new : List ArenaPicture) : Type 0 where
   pub place : ℕ
   pub arena : ArenaPicture
-  pub root : ℕ
   pub finds : Finds old name place arena
   pub few : length arena.spans < 65536
   pub can : CanSpan arena e
-  pub added : new ≡ slice_set old place (with_span arena (record { root = root; range = e }))
+  pub added : new ≡ slice_set old place (with_span arena (record { root = root_of place (length arena.spans); range = e }))

@@ -1,14 +1,12 @@
 //! The desk.
-ghost use Rattle.std.specs.Prelude.{◌≡◌, ◌⊎◌, [], codes, OnOk, OnErr, IfOk, IfErr};
+ghost use Rattle.std.specs.Prelude.{◌≡◌, ℕ, List, [], ◌++◌, OnOk, OnErr, IfErr};
+ghost use Rattle.std.specs.Io.{StartsWith};
 ghost use Rattle.lease_book.specs.Ledger.{IsHistory};
-ghost use Rattle.lease_proto.specs.Faults.{error_line};
 ghost use Rattle.lease_desk.specs.Picture.{IsOrderly};
 ghost use Rattle.lease_desk.specs.Machine.{LeaseStep, LineStep, IsRefusalText};
-ghost use Rattle.std.specs.List.{flat_map};
-ghost use Rattle.lease_desk.specs.Operators.{OperatorStep};
-ghost use Rattle.lease_desk.specs.Operating.{IsTold};
-ghost use Rattle.lease_desk.specs.Sums.{audit_line};
-ghost use Rattle.lease_desk.specs.Setup.{RefusesArena, AddsArena, RefusesSpan, AddsSpan};
+ghost use Rattle.lease_desk.specs.Operators.{OperatorStep, Tells};
+ghost use Rattle.lease_desk.specs.Operating.{asked_text};
+ghost use Rattle.lease_desk.specs.Setup.{root_of, RefusesArena, AddsArena, RefusesSpan, AddsSpan};
 
 use crate::closings::close_spaces;
 use crate::faults::SetupFault;
@@ -30,9 +28,10 @@ use tag_arena::Policy;
 pub struct Desk {
     spaces: Vec<Space>,
     book: Book<PlainDeed>,
-    // The number of the next span's root. There are at most 32 times 65,536 spans; the book's mark is of root 0.
-    roots: u32,
 }
+
+/// The root of the book's mark: the number after those of all roots of spans.
+const MARK: u32 = 2_097_152;
 
 impl Model for Desk {
     ghost use Rattle.lease_desk.specs.Picture.{Picture};
@@ -50,14 +49,14 @@ impl Desk {
     /// A desk with no arena.
     pub fn new(alloc: Global) -> Desk
         ensures arenas { result.arenas ≡ [] }
+        ensures mark { result.book.mark.root ≡ root_of 32 0 }
         ensures book { IsHistory [] result.book }
         ensures orderly { IsOrderly result }
     {
-        let mark = PlainDeed::new(0, Range::new(0, 1).unwrap());
+        let mark = PlainDeed::new(MARK, Range::new(0, 1).unwrap());
         Desk {
             spaces: Vec::new(alloc),
             book: Book::new(alloc, mark),
-            roots: 1,
         }
     }
 
@@ -86,8 +85,7 @@ impl Desk {
             policy,
             qcache_max,
         };
-        add_root(&mut self.spaces, &root, self.roots, alloc)?;
-        self.roots = self.roots.wrapping_add(1);
+        add_root(&mut self.spaces, &root, alloc)?;
         Ok(())
     }
 
@@ -99,34 +97,21 @@ impl Desk {
         ensures refused { IfErr result (RefusesSpan self.old.arenas name.now (record { base = base; len = len })) }
         ensures err { OnErr result (self.new ≡ self.old) }
     {
-        add_span(&mut self.spaces, name, base, len, self.roots)?;
-        self.roots = self.roots.wrapping_add(1);
+        add_span(&mut self.spaces, name, base, len)?;
         Ok(())
     }
 
-    /// Answers one line, which is given without its line feed: the bytes of the reply lines.
-    pub fn answer(&mut self, line: &[u8]) -> Result<Vec<u8>, AllocError>
-        ensures { IfOk result (λ text. LeaseStep self.old line.now text.items self.new) }
+    /// Answers one line, which is given without its line feed: appends its reply lines. A refused answer takes no
+    /// effect, since room for a reply is made before the line is served.
+    pub fn answer(&mut self, line: &[u8], out: &mut Vec<u8>) -> Result<(), AllocError>
+        ensures ok { OnOk result ((reply : List ℕ) × (out.new.items ≡ out.old.items ++ reply) × LeaseStep self.old line.now reply self.new) }
+        ensures err { OnErr result ((out.new.items ≡ out.old.items) × (self.new ≡ self.old)) }
     {
-        let mut out = Vec::with_capacity(*self.spaces.allocator(), LONGEST_LINE + 1)?;
+        out.reserve(LONGEST_LINE + 1)?;
         match Line::read(line) {
-            Ok(request) => {
-                let reply = self.serve(&request);
-                reply.write(&mut out)?;
-                Ok(out)
-            }
+            // There is room, so that this isn't refused.
+            Ok(request) => self.serve(&request).write(out),
             Err(fault) => self.refuse(line, fault, out),
-        }
-    }
-
-    /// Answers a line that is no client's.
-    fn refuse(&self, line: &[u8], fault: LineFault, out: Vec<u8>) -> Result<Vec<u8>, AllocError>
-        requires { out.items ≡ [] }
-        ensures { IfOk result (λ text. IsRefusalText self.now line.now fault text.items) }
-    {
-        match fault {
-            LineFault::Word => self.operate(line, out),
-            _ => said(fault, out),
         }
     }
 
@@ -142,48 +127,51 @@ impl Desk {
         }
     }
 
+    /// Answers a line that is no client's.
+    fn refuse(&self, line: &[u8], fault: LineFault, out: &mut Vec<u8>) -> Result<(), AllocError>
+        ensures ok { OnOk result ((reply : List ℕ) × (out.new.items ≡ out.old.items ++ reply) × IsRefusalText self.now line.now fault reply) }
+        ensures err { OnErr result (out.new.items ≡ out.old.items) }
+    {
+        match fault {
+            LineFault::Word => self.operate(line, out),
+            _ => out.extend_from_slice(fault.line()),
+        }
+    }
+
     /// Answers the line of an operator.
-    fn operate(&self, line: &[u8], mut out: Vec<u8>) -> Result<Vec<u8>, AllocError>
-        requires { out.items ≡ [] }
-        ensures { IfOk result (λ text. OperatorStep self.now line.now text.items) }
+    fn operate(&self, line: &[u8], out: &mut Vec<u8>) -> Result<(), AllocError>
+        ensures ok { OnOk result ((reply : List ℕ) × (out.new.items ≡ out.old.items ++ reply) × OperatorStep self.now line.now reply) }
+        ensures err { OnErr result (out.new.items ≡ out.old.items) }
     {
         match operator_of(line) {
             Ok(operator) => self.tell(operator, out),
-            Err(fault) => {
-                out.extend_from_slice(fault.line())?;
-                Ok(out)
-            }
+            Err(fault) => out.extend_from_slice(fault.line()),
         }
     }
 
     /// What an operator asks for. Where its lines find no room, the answer is one that says so.
-    fn tell(&self, operator: Operator, out: Vec<u8>) -> Result<Vec<u8>, AllocError>
-        requires { out.items ≡ [] }
-        ensures { IfOk result (λ text. IsTold self.now operator text.items) }
+    fn tell(&self, operator: Operator, out: &mut Vec<u8>) -> Result<(), AllocError>
+        ensures ok { OnOk result ((reply : List ℕ) × (out.new.items ≡ out.old.items ++ reply) × Tells (asked_text self.now operator) reply) }
+        ensures err { OnErr result (out.new.items ≡ out.old.items) }
+    {
+        let begin = out.len();
+        match self.tell_all(operator, out) {
+            Ok(()) => Ok(()),
+            Err(_) => {
+                out.truncate(begin);
+                out.extend_from_slice(b"error memory\n")
+            }
+        }
+    }
+
+    fn tell_all(&self, operator: Operator, out: &mut Vec<u8>) -> Result<(), AllocError>
+        ensures ok { OnOk result (out.new.items ≡ out.old.items ++ asked_text self.now operator) }
+        ensures err { OnErr result (StartsWith out.new.items out.old.items) }
     {
         match operator {
-            Operator::Audit => self.tell_audit(out),
-            Operator::Clients => self.tell_clients(out),
+            Operator::Audit => audit(&self.spaces, out),
+            Operator::Clients => clients(&self.book, out),
         }
-    }
-
-    fn tell_audit(&self, mut out: Vec<u8>) -> Result<Vec<u8>, AllocError>
-        requires { out.items ≡ [] }
-        ensures { IfOk result (λ text. (text.items ≡ flat_map audit_line self.now.arenas) ⊎ (text.items ≡ codes "error memory\n")) }
-    {
-        if audit(&self.spaces, &mut out).is_err() {
-            out.clear();
-            out.extend_from_slice(b"error memory\n")?;
-        }
-        Ok(out)
-    }
-
-    fn tell_clients(&self, mut out: Vec<u8>) -> Result<Vec<u8>, AllocError> {
-        if clients(&self.book, &mut out).is_err() {
-            out.clear();
-            out.extend_from_slice(b"error memory\n")?;
-        }
-        Ok(out)
     }
 
     /// Ends the desk: frees all leases, takes out all spans, and closes their deeds and the book's mark. It takes
@@ -192,7 +180,6 @@ impl Desk {
         let Desk {
             mut spaces,
             mut book,
-            roots: _,
         } = self;
         end_leases(&mut spaces, &mut book);
         match book.close() {
@@ -203,13 +190,4 @@ impl Desk {
         }
         close_spaces(spaces);
     }
-}
-
-/// The line that answers a refused line.
-fn said(fault: LineFault, mut out: Vec<u8>) -> Result<Vec<u8>, AllocError>
-    requires { out.items ≡ [] }
-    ensures { IfOk result (λ text. text.items ≡ error_line fault) }
-{
-    out.extend_from_slice(fault.line())?;
-    Ok(out)
 }

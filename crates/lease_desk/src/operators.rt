@@ -1,6 +1,8 @@
 //! The answers to an operator's lines.
-ghost use Rattle.std.specs.Prelude.{◌≡◌, ◌++◌, OnOk};
+ghost use Rattle.std.specs.Prelude.{◌≡◌, ◌++◌, map, OnOk, OnErr};
+ghost use Rattle.std.specs.Io.{StartsWith};
 ghost use Rattle.std.specs.List.{flat_map};
+ghost use Rattle.lease_book.specs.Reports.{report_of};
 ghost use Rattle.lease_desk.specs.Operating.{IsOperator};
 ghost use Rattle.lease_desk.specs.Sums.{audit_line, sums_text, client_line};
 ghost use Rattle.lease_desk.specs.Spaces.{picture_of, pictures};
@@ -43,7 +45,8 @@ pub(crate) fn operator_of(line: &[u8]) -> Result<Operator, LineFault>
 
 /// Appends the lines that tell where each arena's units are.
 pub(crate) fn audit(spaces: &[Space], out: &mut Vec<u8>) -> Result<(), AllocError>
-    ensures { OnOk result (out.new.items ≡ out.old.items ++ flat_map audit_line (pictures spaces.now)) }
+    ensures ok { OnOk result (out.new.items ≡ out.old.items ++ flat_map audit_line (pictures spaces.now)) }
+    ensures err { OnErr result (StartsWith out.new.items out.old.items) }
 {
     for space in spaces {
         tell_arena(space, out)?;
@@ -53,7 +56,8 @@ pub(crate) fn audit(spaces: &[Space], out: &mut Vec<u8>) -> Result<(), AllocErro
 
 /// Appends the line that tells where an arena's units are.
 fn tell_arena(space: &Space, out: &mut Vec<u8>) -> Result<(), AllocError>
-    ensures { OnOk result (out.new.items ≡ out.old.items ++ audit_line (picture_of space.now)) }
+    ensures ok { OnOk result (out.new.items ≡ out.old.items ++ audit_line (picture_of space.now)) }
+    ensures err { OnErr result (StartsWith out.new.items out.old.items) }
 {
     let report = space.arena.report();
     out.extend_from_slice(b"arena ")?;
@@ -64,21 +68,24 @@ fn tell_arena(space: &Space, out: &mut Vec<u8>) -> Result<(), AllocError>
 
 /// Appends how many units are free, and how many are leased.
 fn tell_sums(free: u128, leased: u128, out: &mut Vec<u8>) -> Result<(), AllocError>
-    ensures { OnOk result (out.new.items ≡ out.old.items ++ sums_text free leased) }
+    ensures ok { OnOk result (out.new.items ≡ out.old.items ++ sums_text free leased) }
+    ensures err { OnErr result (out.new.items ≡ out.old.items) }
 {
     let alloc = *out.allocator();
     let sums = format!(in alloc;
         " free {free} slab 0 magazine 0 exported 0 leased {leased} hand 0\n"
     )?;
-    out.extend_from_slice(sums.as_bytes())?;
-    Ok(())
+    out.extend_from_slice(sums.as_bytes())
 }
 
 /// Appends a line for each client, in order of first hello.
-pub(crate) fn clients(book: &Book<PlainDeed>, out: &mut Vec<u8>) -> Result<(), AllocError> {
-    for index in 0..65536 {
+pub(crate) fn clients(book: &Book<PlainDeed>, out: &mut Vec<u8>) -> Result<(), AllocError>
+    ensures ok { OnOk result (out.new.items ≡ out.old.items ++ flat_map client_line (map report_of book.now.accounts)) }
+    ensures err { OnErr result (StartsWith out.new.items out.old.items) }
+{
+    for index in 0..book.clients() {
         let Some(report) = book.client_at(index) else {
-            return Ok(());
+            unreachable!();
         };
         tell_client(&report, out)?;
     }
@@ -87,7 +94,8 @@ pub(crate) fn clients(book: &Book<PlainDeed>, out: &mut Vec<u8>) -> Result<(), A
 
 /// Appends the line that tells of a client.
 fn tell_client(report: &ClientReport, out: &mut Vec<u8>) -> Result<(), AllocError>
-    ensures { OnOk result (out.new.items ≡ out.old.items ++ client_line report.now) }
+    ensures ok { OnOk result (out.new.items ≡ out.old.items ++ client_line report.now) }
+    ensures err { OnErr result (out.new.items ≡ out.old.items) }
 {
     let alloc = *out.allocator();
     let client = report.client;
@@ -95,6 +103,5 @@ fn tell_client(report: &ClientReport, out: &mut Vec<u8>) -> Result<(), AllocErro
     let last = report.last;
     let leases = report.leases;
     let line = format!(in alloc; "client {client} {incarnation} {last} {leases}\n")?;
-    out.extend_from_slice(line.as_bytes())?;
-    Ok(())
+    out.extend_from_slice(line.as_bytes())
 }

@@ -10,7 +10,6 @@ impl Responder for Desk {
     ghost may_answer = { LeaseStep };
 
     fn answer(&mut self, line: &[u8], out: &mut Vec<u8>) -> Result<(), AllocError> {
-        let text = Desk::answer(self, line)?;
-        out.extend_from_slice(text.as_slice())
+        Desk::answer(self, line, out)
     }
 }

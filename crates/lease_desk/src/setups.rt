@@ -1,7 +1,7 @@
 //! What is added to a desk before it answers.
-ghost use Rattle.std.specs.Prelude.{◌≡◌, ◌<◌, ◌≤◌, ℕ, length, IsSome, IfSome, IfOk, IfErr, OnOk, OnErr, ◌↔◌};
+ghost use Rattle.std.specs.Prelude.{◌≡◌, ◌<◌, ◌≤◌, length, IsSome, IfSome, IfOk, IfErr, OnOk, OnErr, ◌↔◌};
 ghost use Rattle.std.specs.Int.{IsPowerOfTwo};
-ghost use Rattle.lease_desk.specs.Setup.{IsWholeRange, CanAdd, CanSpan, RefusesArena, AddsArena, RefusesMore, RefusesSpan, AddsSpan, with_span};
+ghost use Rattle.lease_desk.specs.Setup.{root_of, IsWholeRange, CanAdd, CanSpan, RefusesArena, AddsArena, RefusesMore, RefusesSpan, AddsSpan, with_span};
 ghost use Rattle.lease_desk.specs.Spaces.{picture_of, pictures, IsSpace, AreSpaces};
 ghost use Rattle.lease_desk.specs.Roots.{asked, space_of};
 
@@ -65,19 +65,24 @@ fn whole_range(base: u64, len: u64, quantum: u64) -> Option<Range>
     Range::new(base, len)
 }
 
-/// An arena of one span, whose deed is of the root of this number.
-fn new_space(
-    alloc: Global,
-    id: u32,
-    root: &Root,
-    range: Range,
-    number: u32,
-) -> Result<Space, SetupFault>
-    requires { IsPowerOfTwo root.now.quantum }
-    ensures made { IfOk result (λ s. s ≡ space_of id (asked root.now) (record { root = number; range = range })) }
+/// The number of the root of an arena's next span, by the arena's place and how many spans it has.
+fn root_number(place: u32, spans: u32) -> u32
+    requires place { place < 32 }
+    requires few { spans < 65536 }
+    ensures { result ≡ root_of place spans }
+{
+    place * SPANS + spans
+}
+
+/// An arena of one span.
+fn new_space(alloc: Global, place: u32, root: &Root, range: Range) -> Result<Space, SetupFault>
+    requires power { IsPowerOfTwo root.now.quantum }
+    requires place { place < 32 }
+    ensures made { IfOk result (λ s. s ≡ space_of place (asked root.now) (record { root = root_of place 0; range = range })) }
     ensures fault { IfErr result (λ fault. fault ≡ SetupFault.NoMemory) }
 {
-    let mut arena = Arena::new(alloc, id, root.quantum, root.policy);
+    let number = root_number(place, 0);
+    let mut arena = Arena::new(alloc, place, root.quantum, root.policy);
     match arena.add_span(PlainDeed::new(number, range)) {
         Ok(()) => {}
         Err((deed, _)) => {
@@ -96,11 +101,10 @@ fn new_space(
     })
 }
 
-/// Adds an arena of one span, whose deed is of the root of this number.
+/// Adds an arena of one span.
 pub(crate) fn add_root(
     spaces: &mut Vec<Space>,
     root: &Root,
-    number: u32,
     alloc: Global,
 ) -> Result<(), SetupFault>
     requires sound { AreSpaces spaces.old.items }
@@ -114,7 +118,7 @@ pub(crate) fn add_root(
         return Err(SetupFault::NoMemory);
     }
     let id = spaces.len() as u32;
-    match new_space(alloc, id, root, range, number) {
+    match new_space(alloc, id, root, range) {
         Ok(space) => {
             spaces.push_reserved(space);
             Ok(())
@@ -123,14 +127,14 @@ pub(crate) fn add_root(
     }
 }
 
-/// Adds a span, whose deed is of the root of this number, to the arena of this name.
+/// Adds a span to the arena of this name.
 pub(crate) fn add_span(
     spaces: &mut Vec<Space>,
     name: &Name,
     base: u64,
     len: u64,
-    number: u32,
 ) -> Result<(), SetupFault>
+    requires few { length spaces.old.items ≤ 32 }
     requires sound { AreSpaces spaces.old.items }
     ensures sound { OnOk result (AreSpaces spaces.new.items) }
     ensures added { OnOk result (AddsSpan name.now (record { base = base; len = len }) (pictures spaces.old.items) (pictures spaces.new.items)) }
@@ -141,17 +145,18 @@ pub(crate) fn add_span(
         return Err(SetupFault::NoArena);
     };
     let space = &mut spaces[place];
-    match extend(space, base, len, number) {
+    match extend(space, place as u32, base, len) {
         Ok(()) => Ok(()),
         Err(fault) => Err(fault),
     }
 }
 
-/// Adds a span, whose deed is of the root of this number, to an arena.
-fn extend(space: &mut Space, base: u64, len: u64, number: u32) -> Result<(), SetupFault>
-    requires sound { (k : ℕ) × IsSpace k space.old }
-    ensures sound { OnOk result ((k : ℕ) → IsSpace k space.old → IsSpace k space.new) }
-    ensures added { OnOk result (picture_of space.new ≡ with_span (picture_of space.old) (record { root = number; range = record { base = base; len = len } })) }
+/// Adds a span to the arena that stands at the place.
+fn extend(space: &mut Space, place: u32, base: u64, len: u64) -> Result<(), SetupFault>
+    requires place { place < 32 }
+    requires sound { IsSpace place space.old }
+    ensures sound { OnOk result (IsSpace place space.new) }
+    ensures added { OnOk result (picture_of space.new ≡ with_span (picture_of space.old) (record { root = root_of place (length (picture_of space.old).spans); range = record { base = base; len = len } })) }
     ensures can { OnOk result ((length (picture_of space.old).spans < 65536) × CanSpan (picture_of space.old) (record { base = base; len = len })) }
     ensures refused { IfErr result (RefusesMore (picture_of space.old) (record { base = base; len = len })) }
     ensures err { OnErr result (space.new ≡ space.old) }
@@ -162,6 +167,7 @@ fn extend(space: &mut Space, base: u64, len: u64, number: u32) -> Result<(), Set
     let Some(range) = whole_range(base, len, space.arena.quantum()) else {
         return Err(SetupFault::BadRange);
     };
+    let number = root_number(place, space.spans);
     let Err((deed, fault)) = space.arena.add_span(PlainDeed::new(number, range)) else {
         space.spans += 1;
         return Ok(());

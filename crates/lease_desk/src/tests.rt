@@ -1,6 +1,7 @@
 //! Lines in, replies out.
 use crate::{Desk, SetupFault};
 use lease_proto::Name;
+use std::alloc::AllocGlobal;
 use std::process::Abort;
 use tag_arena::Policy;
 
@@ -29,10 +30,12 @@ fn span(rt: &impl Abort, desk: &mut Desk, text: &str, base: u64, len: u64) {
 }
 
 /// Each line gets its reply.
-fn ask(rt: &impl Abort, desk: &mut Desk, lines: &[(&str, &str)]) {
+fn ask(rt: &(impl Abort + AllocGlobal), desk: &mut Desk, lines: &[(&str, &str)]) {
+    let mut out = Vec::new(rt.alloc());
     for (line, reply) in lines {
-        match desk.answer(line.as_bytes()) {
-            Ok(text) => assert_eq!(rt; text.as_slice(), reply.as_bytes()),
+        out.clear();
+        match desk.answer(line.as_bytes(), &mut out) {
+            Ok(()) => assert_eq!(rt; out.as_slice(), reply.as_bytes()),
             Err(_) => panic!(rt; "no memory"),
         }
     }
@@ -406,5 +409,80 @@ fn operators_lines(rt: HostRuntime) {
             ("audit ", "error badline\n"),
         ],
     );
+    desk.close();
+}
+
+/// Whether an answer says that memory was refused.
+fn is_refusal(text: &[u8]) -> bool {
+    text.starts_with(b"again ") || text == b"error memory\n".as_slice()
+}
+
+/// The line gets its reply behind what is there: at once, or at the second time where memory was refused once.
+fn ask_twice(rt: &(impl Abort + AllocGlobal), desk: &mut Desk, line: &str, reply: &str) {
+    let mut out = Vec::new(rt.alloc());
+    for _ in 0..2 {
+        match desk.answer(line.as_bytes(), &mut out) {
+            Ok(()) if out.as_slice() == reply.as_bytes() => return,
+            Ok(()) => assert!(rt; is_refusal(out.as_slice())),
+            Err(_) => assert!(rt; out.is_empty()),
+        }
+        out.clear();
+    }
+    panic!(rt; "refused twice");
+}
+
+/// Where one growth is refused, the same call made again is served as if it had not been. Run with each growth
+/// refused in turn.
+#[test]
+fn a_refused_growth_is_made_up_for(rt: HostRuntime) {
+    let mut desk = Desk::new(rt.alloc());
+    let a = name(&rt, "a");
+    if desk.add_root(a, 0, 64, 4, Policy::Best, 0).is_err() {
+        root(&rt, &mut desk, "a", 0, 64, 4, Policy::Best);
+    }
+    if desk.add_span(&a, 128, 64).is_err() {
+        span(&rt, &mut desk, "a", 128, 64);
+    }
+    let lines = [
+        ("hello 1 1", "welcome 1 1\n"),
+        ("lease 1 1 1 a 16 align 16", "granted 1 1 1 a 0 16\n"),
+        ("lease 1 1 2 a 5 min 20", "granted 1 1 2 a 20 8\n"),
+        ("hello 2 7", "welcome 2 7\n"),
+        ("lease 2 7 1 a 64", "granted 2 7 1 a 128 64\n"),
+        ("release 1 1 3 a 0", "released 1 1 3\n"),
+        ("lease 1 1 4 b 4", "refused 1 1 4 noarena\n"),
+        ("hello 2 8", "welcome 2 8\n"),
+        ("lease 2 8 1 a 61", "granted 2 8 1 a 128 64\n"),
+        ("clients", "client 1 1 4 1\nclient 2 8 1 1\n"),
+        (
+            "audit",
+            "arena a free 56 slab 0 magazine 0 exported 0 leased 72 hand 0\n",
+        ),
+    ];
+    for (line, reply) in &lines {
+        ask_twice(&rt, &mut desk, line, reply);
+    }
+    desk.close();
+}
+
+/// Replies stand behind what the buffer holds, and a client's lines and an operator's alike.
+#[test]
+fn replies_are_appended(rt: HostRuntime) {
+    let mut desk = Desk::new(rt.alloc());
+    root(&rt, &mut desk, "m", 0, 64, 1, Policy::Best);
+    let mut out = Vec::new(rt.alloc());
+    for line in [
+        "hello 3 1",
+        "tick",
+        "lease 3 1 1 m 8",
+        "clients",
+        "audit",
+        "lease 3 1 1",
+    ] {
+        assert!(rt; desk.answer(line.as_bytes(), &mut out).is_ok());
+    }
+    let replies =
+        "welcome 3 1\nerror word\ngranted 3 1 1 m 0 8\nclient 3 1 1 1\narena m free 56 slab 0 magazine 0 exported 0 leased 8 hand 0\nerror badline\n";
+    assert_eq!(rt; out.as_slice(), replies.as_bytes());
     desk.close();
 }

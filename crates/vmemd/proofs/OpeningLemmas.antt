@@ -5,7 +5,7 @@ use Rattle.std.proofs.lemmas.Slice.Eq.{bytes_eq-Decides}
 use Rattle.std.specs.Str.{bytes_eq}
 use Rattle.memchr.specs.Find.{Nowhere, Passes, is_byte2}
 use Rattle.lease_proto.specs.Frames.{IsOneLine}
-use Rattle.lease_proto.proofs.FrameLemmas.{one_line}
+use Rattle.lease_proto.proofs.LawProofs.{one_line}
 use Rattle.vmemd.specs.SetupLines.{opening, is_setup_word}
 
 -- it ends at the first space or line feed

@@ -5,7 +5,7 @@ use Rattle.std.proofs.lemmas.List.{append-nil}
 use Rattle.std.specs.Io.KnownBytes.{Appends, Consumes, IsAtEnd}
 use Rattle.std.proofs.KnownBytes.{Appends-nil, Consumes-trans}
 use Rattle.lease_proto.specs.Frames.{frames_in, frames_of, rest_in, last_of}
-use Rattle.lease_proto.proofs.FrameLemmas.{frames_in-none}
+use Rattle.lease_proto.proofs.LawProofs.{frames_in-none}
 use Rattle.lease_server.specs.Serving.{Serves, Writes, Stops}
 use Rattle.lease_server.specs.declared.faults.ServeFault.{ServeFault}
 use Rattle.lease_server.specs.declared.faults.ServeFault.TheVariants as serving

@@ -8,7 +8,7 @@ use Rattle.std.specs.Io.KnownBytes.{Consumes, IsAtEnd}
 use Rattle.lease_proto.specs.declared.faults.LineFault.TheVariants.{TooLong, BadLine}
 use Rattle.lease_proto.specs.Frames.{Frame, frame_of, last_of, frames_in, rest_in, frames_of, ended, IsOneLine}
 use Rattle.lease_proto.specs.Grammar.{◌>>=◌}
-use Rattle.lease_proto.proofs.FrameLemmas.{frames_in-append, rest_in-append, frames_in-ended, rest_in-ended, frames_in-text, rest_in-text, frames_in-none, rest_in-none}
+use Rattle.lease_proto.proofs.LawProofs.{frames_in-append, rest_in-append, frames_in-ended, rest_in-ended, frames_in-text, rest_in-text, frames_in-none, rest_in-none}
 use Rattle.vmemd.specs.declared.setup_lines.SetupLine.{SetupLine}
 use Rattle.vmemd.specs.declared.faults.ConfigFault.{ConfigFault}
 use Rattle.vmemd.specs.declared.faults.ConfigFault.TheVariants as config
@@ -117,23 +117,23 @@ module _ {S : Type 0} (takes : S → SetupLine → S → Type 0) (refuses : S �
   -- the refusal of a line, however the input goes on
   pub refused_now : (first made : S) (unread left : Option (List ℕ)) (input front : List ℕ) (setup : SetsUp takes first input front made) (number line : ℕ) (word : ConfigFault)
       → Consumes unread left input → number ≡ length setup.lines + 1 → line ≡ number → IsSetup front
-      → ((more : List ℕ) → RefusesFirst refuses made (front ++ more) word) → IfSome unread (λ all. SetupRefused takes refuses first all line word)
+      → ((more : List ℕ) → RefusesFirst refuses made (front ++ more) word) → IfSome unread (λ all. SetupRefused takes refuses first all line word made)
   refused_now first made None left input front setup number line word read counted same begins refused = tt
   refused_now first made (Some xs) None input front setup number line word read counted same begins refused = absurd read
   refused_now first made (Some xs) (Some ys) input front setup number line word read counted same begins refused =
       let more = more_read takes first made input front ys setup in
-      subst (λ all. SetupRefused takes refuses first all line word) (sym read)
-      (front ++ ys, made, more.0, same ∙ counted ∙ ap (λ n. n + 1) (sym more.1), begins ys, refused ys)
+      subst (λ all. SetupRefused takes refuses first all line word made) (sym read)
+      (front ++ ys, more.0, same ∙ counted ∙ ap (λ n. n + 1) (sym more.1), begins ys, refused ys)
 
   -- the refusal of a rest that the input ends
   pub refused_rest : (first made : S) (unread left : Option (List ℕ)) (input front : List ℕ) (setup : SetsUp takes first input front made) (number : ℕ)
       → Consumes unread left input → IsAtEnd left → number ≡ length setup.lines + 1 → length front ≤ 255 → IsOneLine front → begins_setup front ≡ true
-      → IfSome unread (λ all. SetupRefused takes refuses first all number (config.Line BadLine))
+      → IfSome unread (λ all. SetupRefused takes refuses first all number (config.Line BadLine) made)
   refused_rest first made None left input front setup number read end counted short one begins = tt
   refused_rest first made (Some xs) None input front setup number read end counted short one begins = absurd read
   refused_rest first made (Some xs) (Some ys) input front setup number read end counted short one begins =
-      subst (λ all. SetupRefused takes refuses first all number (config.Line BadLine)) (sym (read ∙ ap (λ l. input ++ l) end ∙ append-nil input))
-      (front, made, setup, counted, begins, refuses_rest made front short one begins)
+      subst (λ all. SetupRefused takes refuses first all number (config.Line BadLine) made) (sym (read ∙ ap (λ l. input ++ l) end ∙ append-nil input))
+      (front, setup, counted, begins, refuses_rest made front short one begins)
 
   -- whatever more there is to read, it follows the setup lines
   pub whole_follows : (first made : S) (unread left : Option (List ℕ)) (input front : List ℕ) (setup : SetsUp takes first input front made) → Consumes unread left input
@@ -145,10 +145,11 @@ module _ {S : Type 0} (takes : S → SetupLine → S → Type 0) (refuses : S �
 
   pub line_fails : (first made last : S) (unread left : Option (List ℕ)) (input front line rest : List ℕ) (setup : SetsUp takes first input front made) (number : ℕ) (fault : ScriptFault)
       → Consumes unread left input → number ≡ length setup.lines + 1 → IsSetup front → IsOneLine line → front ≡ ended line ++ rest
-      → LineFails refuses made number (setup_of line) fault → SetupFails takes refuses first unread left last fault
-  line_fails first made last unread left input front line rest setup number (Setup at word) read counted begins one e fails =
-      refused_now first made unread left input front setup number at word read counted fails.0 begins (λ more. refuses_line made front line rest more word one e fails.1)
-  line_fails first made last unread left input front line rest setup number Read read counted begins one e fails = absurd fails
-  line_fails first made last unread left input front line rest setup number Write read counted begins one e fails = absurd fails
-  line_fails first made last unread left input front line rest setup number Memory read counted begins one e fails =
+      → last ≡ made → LineFails refuses made number (setup_of line) fault → SetupFails takes refuses first unread left last fault
+  line_fails first made last unread left input front line rest setup number (Setup at word) read counted begins one e same fails =
+      subst (λ desk. IfSome unread (λ all. SetupRefused takes refuses first all at word desk)) (sym same)
+      (refused_now first made unread left input front setup number at word read counted fails.0 begins (λ more. refuses_line made front line rest more word one e fails.1))
+  line_fails first made last unread left input front line rest setup number Read read counted begins one e same fails = absurd fails
+  line_fails first made last unread left input front line rest setup number Write read counted begins one e same fails = absurd fails
+  line_fails first made last unread left input front line rest setup number Memory read counted begins one e same fails =
       whole_follows first made unread left input front setup read

@@ -24,6 +24,11 @@ exit_of Read = 1
 exit_of Write = 1
 exit_of Memory = 1
 
+-- the exit status of a program whose script ends so
+abbrev pub status_of : Result (Unit {0}) ScriptFault → ℕ
+status_of (Ok _) = 0
+status_of (Err fault) = exit_of fault
+
 -- the script's fault where serving its lines ended early
 abbrev pub serving_fault : ServeFault → ScriptFault
 serving_fault serving.Read = Read
@@ -64,9 +69,9 @@ module _ {S : Type 0} (refuses : S → SetupLine → ConfigFault → Type 0) whe
       × RefusesRead desk (frame >>= setup_of) word
 
 module _ {S : Type 0} (takes : S → SetupLine → S → Type 0) (refuses : S → SetupLine → ConfigFault → Type 0) where
-  -- the first setup line that is refused has this number and is refused with this word
-  abbrev pub SetupRefused : S → List ℕ → ℕ → ConfigFault → Type 0
-  SetupRefused first input line word = (rest : List ℕ) × (made : S) × (setup : SetsUp takes first input rest made)
+  -- the first setup line that is refused has this number, and the desk that the lines before it made refuses it with this word
+  abbrev pub SetupRefused : S → List ℕ → ℕ → ConfigFault → S → Type 0
+  SetupRefused first input line word made = (rest : List ℕ) × (setup : SetsUp takes first input rest made)
       × (line ≡ length setup.lines + 1) × (begins_setup rest ≡ true) × RefusesFirst refuses made rest word
 
 module _ {S : Type 0} (takes : S → SetupLine → S → Type 0) (may_answer : S → List ℕ → List ℕ → S → Type 0) where
@@ -92,7 +97,7 @@ module _ {S : Type 0} (takes : S → SetupLine → S → Type 0) (refuses : S �
   -- what a fault says of what was read and written
   abbrev pub RunFails : S → Option (List ℕ) → Option (List ℕ) → Option (List ℕ) → Option (List ℕ) → S → ScriptFault → Type 0
   RunFails first unread left before after last (Setup line word) =
-      IfSome unread (λ input. SetupRefused takes refuses first input line word) × Appends before after []
+      IfSome unread (λ input. SetupRefused takes refuses first input line word last) × Appends before after []
   RunFails first unread left before after last Read = (input : List ℕ) × Consumes unread left input
       × RunsSoFar takes may_answer first input before after last
   RunFails first unread left before after last Write = IfSome unread (λ input. RunStops takes may_answer first input before after)

@@ -1,5 +1,5 @@
 -- What taking the setup lines of an input leaves.
-use Rattle.std.specs.Prelude.{◌≡◌, ◌≤◌, ℕ, List, [], ◌++◌, length, Bool, true, false, Option, Result, Ok, IfSome}
+use Rattle.std.specs.Prelude.{◌≡◌, ◌≤◌, ◌<◌, ℕ, List, [], ◌++◌, length, Bool, true, false, Option, Result, Ok, IfSome}
 use Rattle.std.specs.Io.KnownBytes.{Consumes, IsAtEnd}
 use Rattle.lease_proto.specs.declared.faults.LineFault.{LineFault}
 use Rattle.lease_proto.specs.Frames.{IsOneLine}
@@ -12,10 +12,10 @@ use Rattle.vmemd.specs.declared.faults.ScriptFault.{ScriptFault}
 use Rattle.vmemd.specs.declared.faults.ScriptFault.TheVariants.{Setup, Read, Write, Memory}
 use Rattle.vmemd.specs.declared.setting_up.Rest.{Rest}
 
--- one read: these bytes get longer by a piece; where the answer is that the input ended, by none
+-- one read: these bytes get longer by a piece, which is empty just where the answer is that the input ended
 abbrev pub ReadsMore : Option (List ℕ) → Option (List ℕ) → List ℕ → List ℕ → Bool → Type 0
 ReadsMore unread left old new more = (piece : List ℕ) × Consumes unread left piece × (new ≡ old ++ piece) × (length piece ≤ 4096)
-    × (more ≡ false → (piece ≡ []) × IsAtEnd left)
+    × (more ≡ false → (piece ≡ []) × IsAtEnd left) × (more ≡ true → 0 < length piece)
 
 module _ {S : Type 0} (takes : S → SetupLine → S → Type 0) where
   -- one line is a setup line and taken
@@ -43,7 +43,7 @@ module _ {S : Type 0} (refuses : S → SetupLine → ConfigFault → Type 0) whe
 module _ {S : Type 0} (takes : S → SetupLine → S → Type 0) (refuses : S → SetupLine → ConfigFault → Type 0) where
   -- why a setup ended early
   abbrev pub SetupFails : S → Option (List ℕ) → Option (List ℕ) → S → ScriptFault → Type 0
-  SetupFails first unread left last (Setup line word) = IfSome unread (λ input. SetupRefused takes refuses first input line word)
+  SetupFails first unread left last (Setup line word) = IfSome unread (λ input. SetupRefused takes refuses first input line word last)
   SetupFails first unread left last Read = (part : List ℕ) × ReadsSetup takes first unread left last part × IsOneLine part
   SetupFails first unread left last Write = ⊥
   SetupFails first unread left last Memory = IfSome unread (λ input. (rest : List ℕ) × (made : S) × SetsUp takes first input rest made)

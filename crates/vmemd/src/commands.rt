@@ -1,12 +1,12 @@
 //! The words of the command line.
 
-ghost use Rattle.std.specs.Prelude.{◌≡◌, [], IfOk, IfErr, OnOk, map};
+ghost use Rattle.std.specs.Prelude.{◌≡◌, ◌≢◌, [], IfOk, IfErr, OnOk, map};
 ghost use Rattle.clap.specs.Words.{app_of, fault_of, kind_of};
 ghost use Rattle.vmemd.specs.Commands.{program, script_words};
 
 use clap::error::ErrorKind;
 use clap::{Command, Error};
-use std::alloc::{AllocError, Global};
+use std::alloc::{AllocError, AllocFailed, Global};
 
 /// What the words after the program's name ask for.
 #[derive(Clone, Copy, Debug, PartialEq, Eq)]
@@ -20,6 +20,9 @@ pub enum Words {
 pub enum WordsFault {
     /// A text to show: help where it was asked for, or what is wrong with the words.
     Shown(Error),
+    /// A word isn't text.
+    NotText,
+    /// Memory was refused.
     Memory,
 }
 
@@ -34,12 +37,27 @@ impl From<AllocError> for WordsFault {
     }
 }
 
+impl<T: Drop> From<AllocFailed<T>> for WordsFault {
+    ghost use Rattle.std.specs.Prelude.{◌≡◌};
+    ghost use Rattle.vmemd.specs.declared.commands.WordsFault.TheVariants.{Memory};
+
+    ghost from_gives = { λ _ fault. fault ≡ Memory };
+
+    fn from(_error: AllocFailed<T>) -> WordsFault {
+        WordsFault::Memory
+    }
+}
+
 /// The lines of a script, for its help.
 const SCRIPT_HELP: &str = "\
 Answers the lines of standard input on standard output, one client line at a time.
 
-Setup lines come first:
-  root NAME BASE LEN QUANTUM POLICY QMAX   an arena with one span of LEN units from BASE on;
+A line is at most 255 bytes: words of a to z and 0 to 9 with one space between them, ended by a
+line feed. Numbers are decimal, at most 2^62.
+
+Setup lines come first, and print nothing. The first other line ends the setup, also an empty one:
+  root NAME BASE LEN QUANTUM POLICY QMAX   an arena with one span of LEN units from BASE on, sizes
+                                           rounded up to QUANTUM, a power of two;
                                            POLICY is instant, best or next, and QMAX is 0
   span NAME BASE LEN                       a further span of that arena
 
@@ -50,6 +68,13 @@ Then the lines of clients and operators:
   release C I N NAME BASE                  its request N gives back the lease at BASE
   audit                                    where the units of each arena are
   clients                                  the clients, with their last numbers and their leases
+
+A refused setup line ends the program with vmemd: line K: WORD. WORD is toolong, badline, word or
+number where the line is none of these two, name where the name is taken, many above 32 arenas or
+65536 spans, noarena, quantum, cache (QMAX), or range where it is empty, too high, not in whole
+quanta, or overlaps.
+A line after the setup that isn't one of these is answered by error and a word, and the program
+goes on.
 
 Example:
   printf 'root m 0 64 1 best 0\\nhello 1 1\\nlease 1 1 1 m 8\\n' | vmemd script";
@@ -87,7 +112,8 @@ pub fn read_words<'a>(alloc: Global, words: &'a [&'a str]) -> Result<Words, Word
 }
 
 fn words_fault(error: Error) -> WordsFault
-    ensures { kind_of error ≡ ErrorKind.OutOfMemory → result ≡ WordsFault.Memory }
+    ensures memory { kind_of error ≡ ErrorKind.OutOfMemory → result ≡ WordsFault.Memory }
+    ensures shown { kind_of error ≢ ErrorKind.OutOfMemory → result ≡ WordsFault.Shown error }
 {
     if error.kind() == ErrorKind::OutOfMemory {
         WordsFault::Memory

@@ -7,6 +7,7 @@
 
 pub mod commands;
 pub mod desks;
+pub mod endings;
 pub mod faults;
 pub mod laws;
 pub mod openings;
@@ -17,6 +18,7 @@ pub mod setup_lines;
 mod tests;
 
 use crate::commands::{Words, WordsFault, read_words};
+use crate::endings::{end_script, end_words};
 use crate::faults::ScriptFault;
 use crate::scripts::run_script;
 use lease_server::Watched;
@@ -24,54 +26,36 @@ use std::io;
 use std::io::ErrorKind;
 use std::process::ExitCode;
 
-fn main(rt: HostRuntime) -> io::Result<ExitCode> {
-    match start(&rt) {
-        Err(error) if error.kind() == ErrorKind::OutOfMemory => fail(&rt, ScriptFault::Memory),
-        Err(error) if error.kind() == ErrorKind::InvalidData => {
-            eprintln!(rt; "vmemd: an argument isn't text")?;
-            Ok(ExitCode::from(2))
-        }
-        ended => ended,
+fn main(rt: HostRuntime) -> ExitCode {
+    match read_arguments(&rt) {
+        Ok(Words::Script) => end_script(&rt, answer_input(&rt)),
+        Err(fault) => end_words(&rt, &fault),
     }
 }
 
-/// Does what the arguments ask for.
-fn start(rt: &HostRuntime) -> io::Result<ExitCode> {
+/// What the program's arguments ask for. Its texts call it `vmemd`, whatever it was called by.
+fn read_arguments(rt: &HostRuntime) -> Result<Words, WordsFault> {
     let alloc = rt.alloc();
+    let arguments = match std::env::args(rt) {
+        Ok(arguments) => arguments,
+        Err(error) if error.kind() == ErrorKind::OutOfMemory => return Err(WordsFault::Memory),
+        Err(_) => return Err(WordsFault::NotText),
+    };
     let mut texts: Vec<String> = Vec::new(alloc);
-    for (i, text) in std::env::args(rt)?.enumerate() {
-        if i > 0 {
-            texts.push(text)?;
-        }
+    for text in arguments.skip(1) {
+        texts.push(text)?;
     }
-    // The program has one name in its texts, whatever it was called by.
     let mut words: Vec<&str> = Vec::new(alloc);
     words.push("vmemd")?;
     for text in &texts {
         words.push(text.as_str())?;
     }
-    match read_words(alloc, words.as_slice()) {
-        Ok(Words::Script) => answer_input(rt),
-        Err(WordsFault::Shown(text)) => {
-            text.print(rt)?;
-            Ok(ExitCode::from(if text.use_stderr() { 2 } else { 0 }))
-        }
-        Err(WordsFault::Memory) => fail(rt, ScriptFault::Memory),
-    }
+    read_words(alloc, words.as_slice())
 }
 
 /// Answers standard input on standard output.
-fn answer_input<R: Input + Print + Eprint + AllocGlobal>(rt: &R) -> io::Result<ExitCode> {
+fn answer_input<R: Input + Print + AllocGlobal>(rt: &R) -> Result<(), ScriptFault> {
     let mut reader = Watched::new(rt.reader());
     let mut writer = Watched::new(io::writer(rt));
-    match run_script(rt.alloc(), &mut reader, &mut writer) {
-        Ok(()) => Ok(ExitCode::SUCCESS),
-        Err(fault) => fail(rt, fault),
-    }
-}
-
-/// Says why the program ends early, and with which status.
-fn fail<R: Eprint>(rt: &R, fault: ScriptFault) -> io::Result<ExitCode> {
-    eprintln!(rt; "vmemd: {fault}")?;
-    Ok(ExitCode::from(fault.exit()))
+    run_script(rt.alloc(), &mut reader, &mut writer)
 }

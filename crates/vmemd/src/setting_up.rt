@@ -1,5 +1,5 @@
 //! Taking the setup lines that an input begins with.
-ghost use Rattle.std.specs.Prelude.{◌≡◌, ◌≤◌, ◌⊎◌, ◌+◌, ◌-◌, ◌^◌, OnOk, IfErr, IfOk, IsErrOf, drop, min, vec_len, true, false};
+ghost use Rattle.std.specs.Prelude.{◌≡◌, ◌≤◌, ◌⊎◌, ◌+◌, ◌-◌, ◌^◌, OnOk, OnErr, IfErr, IfOk, IsErrOf, drop, min, vec_len, true, false};
 ghost use Rattle.std.specs.Io.KnownBytes.{Keeps};
 ghost use Rattle.lease_server.specs.Watching.{inner_of, has_failed, reads_of};
 ghost use Rattle.vmemd.specs.SetupLines.{setup_of};
@@ -32,10 +32,11 @@ pub trait SetUp: Responder {
     // what refuses a setup line, and why
     ghost refuses: { Self → SetupLine → ConfigFault → Type 0 };
 
-    /// Takes a setup line, or says why not.
+    /// Takes a setup line, or says why not and stays as it was.
     fn set_up(&mut self, line: &SetupLine) -> Result<(), SetUpFault>
         ensures taken { OnOk result (takes self.old line.now self.new) }
-        ensures refused { IfErr result (RefusedBy (refuses self.old line.now)) };
+        ensures refused { IfErr result (RefusedBy (refuses self.old line.now)) }
+        ensures same { OnErr result (self.new ≡ self.old) };
 }
 
 /// The bytes that were read after a setup.
@@ -46,7 +47,8 @@ pub struct Rest {
     pub ended: bool,
 }
 
-/// Takes the setup lines that the input begins with, and gives what was read after them.
+/// Takes the setup lines that the input begins with, and gives what was read after them. At a refused line the
+/// desk is what the lines before it made.
 pub fn take_setup<R: Read, D: SetUp>(
     alloc: Global,
     reader: &mut Watched<R>,
@@ -125,6 +127,7 @@ fn cut_front(bytes: &mut Vec<u8>, count: usize)
 fn take_line<D: SetUp>(line: &[u8], number: u64, desk: &mut D) -> Result<(), ScriptFault>
     ensures ok { OnOk result (TakesLine D.takes desk.old line.now desk.new) }
     ensures err { IfErr result (LineFails D.refuses desk.old number (setup_of line.now)) }
+    ensures same { OnErr result (desk.new ≡ desk.old) }
 {
     let setting = match SetupLine::read(line) {
         Ok(setting) => setting,

@@ -1,10 +1,8 @@
 //! The setup lines: which arenas a script has.
-ghost use Rattle.std.specs.Prelude.{◌≡◌, Ok, Err, MatchResult};
-ghost use Rattle.lease_proto.specs.Grammar.{word_at, end_of};
-ghost use Rattle.lease_proto.specs.Values.{quantity_in};
+ghost use Rattle.std.specs.Prelude.{◌≡◌};
 ghost use Rattle.vmemd.specs.SetupLines.{policy_in, root_of, child_of, span_of, setup_of};
 
-use lease_proto::{LineFault, Name, Quantity, Words, name, number, words};
+use lease_proto::{LineFault, Name, Quantity, Words, name, quantity, words};
 use tag_arena::Policy;
 
 /// `root NAME BASE LEN QUANTUM POLICY QMAX`: an arena with one owned span. The base and the lengths are in
@@ -24,13 +22,13 @@ impl RootLine {
     fn read(words: &mut Words<'_>) -> Result<Self, LineFault>
         ensures { result ≡ root_of words.old }
     {
-        let name = name(take(words)?)?;
-        let base = take(words)?;
-        let len = take(words)?;
-        let quantum = take(words)?;
-        let policy = policy(take(words)?)?;
-        let most = take(words)?;
-        end(words)?;
+        let name = name(words.take()?)?;
+        let base = words.take()?;
+        let len = words.take()?;
+        let quantum = words.take()?;
+        let policy = policy(words.take()?)?;
+        let most = words.take()?;
+        words.end()?;
         Ok(RootLine {
             name,
             base: quantity(base)?,
@@ -59,13 +57,13 @@ impl ChildLine {
     fn read(words: &mut Words<'_>) -> Result<Self, LineFault>
         ensures { result ≡ child_of words.old }
     {
-        let own = name(take(words)?)?;
-        let source = name(take(words)?)?;
-        let quantum = take(words)?;
-        let policy = policy(take(words)?)?;
-        let most = take(words)?;
-        let least = take(words)?;
-        end(words)?;
+        let own = name(words.take()?)?;
+        let source = name(words.take()?)?;
+        let quantum = words.take()?;
+        let policy = policy(words.take()?)?;
+        let most = words.take()?;
+        let least = words.take()?;
+        words.end()?;
         Ok(ChildLine {
             name: own,
             source,
@@ -90,10 +88,10 @@ impl SpanLine {
     fn read(words: &mut Words<'_>) -> Result<Self, LineFault>
         ensures { result ≡ span_of words.old }
     {
-        let name = name(take(words)?)?;
-        let base = take(words)?;
-        let len = take(words)?;
-        end(words)?;
+        let name = name(words.take()?)?;
+        let base = words.take()?;
+        let len = words.take()?;
+        words.end()?;
         Ok(SpanLine {
             name,
             base: quantity(base)?,
@@ -130,36 +128,6 @@ impl SetupLine {
         } else {
             Err(LineFault::Word)
         }
-    }
-}
-
-/// The next word, which the line has to have.
-fn take<'a>(words: &mut Words<'a>) -> Result<&'a [u8], LineFault>
-    ensures { MatchResult result (λ word. word_at words.old ≡ Ok (word.now, words.new)) (λ fault. word_at words.old ≡ Err fault) }
-{
-    match words.next() {
-        Some(word) => Ok(word),
-        None => Err(LineFault::BadLine),
-    }
-}
-
-/// No word may be left.
-fn end(words: &mut Words<'_>) -> Result<(), LineFault>
-    ensures { result ≡ end_of words.old }
-{
-    match words.next() {
-        Some(_) => Err(LineFault::BadLine),
-        None => Ok(()),
-    }
-}
-
-/// The quantity that a word writes.
-fn quantity(word: &[u8]) -> Result<Quantity, LineFault>
-    ensures { result ≡ quantity_in word.now }
-{
-    match Quantity::new(number(word)?) {
-        Some(quantity) => Ok(quantity),
-        None => Err(LineFault::Number),
     }
 }
 

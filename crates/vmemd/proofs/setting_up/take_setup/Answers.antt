@@ -28,7 +28,7 @@ returns-in_err-take_line-in-Line-clause-err g c =
     let failed = subst (λ l. LineFails g.D.SetUp.refuses c.loop-end.desk c.loop-end.number (setup_of (take end l)) c.in_err-take_line-in-Line.field-0.0)
     c.deref.ensures.value c.in_err-take_line-in-Line.ensures.err in
     rw (p.1, p.2) (line_fails g.D.SetUp.takes g.D.SetUp.refuses c.args.desk.now c.loop-end.desk c.take_line.new.desk (g.R.Read.remaining (inner_of c.args.reader.now)) (g.R.Read.remaining (inner_of c.loop-end.reader))
-    input front (take end front) (drop (end + 1) front) setup c.loop-end.number c.in_err-take_line-in-Line.field-0.0 read counted shows.1 shows.2 shows.3 failed)
+    input front (take end front) (drop (end + 1) front) setup c.loop-end.number c.in_err-take_line-in-Line.field-0.0 read counted shows.1 shows.2 shows.3 c.in_err-take_line-in-Line.ensures.same failed)
 
 pub loop-end-preserved-in-Line : goal.loop-end-preserved-in-Line
 loop-end-preserved-in-Line g c =
@@ -54,7 +54,7 @@ returns-in-Long-clause-err g c =
 pub returns-then-not-branch-clause-err : goal.returns-then-not-branch-clause-err
 returns-then-not-branch-clause-err g c =
     let (input, read, setup, counted, room, low, works, spent) = c.loop-end.invariant in
-    let (piece, consumes, grown, short, ends) = c.in_ok-read_more-in-Part-2.ensures.ok in
+    let (piece, consumes, grown, short, ends, some) = c.in_ok-read_more-in-Part-2.ensures.ok in
     let front = c.loop-end.front.items in
     let shows = subst (λ l. Shows l Part) c.as_slice.ensures.value c.in-Part-2.ensures in
     let over : c.in_ok-read_more-in-Part-2.field-0 ≡ false = search rules in
@@ -71,7 +71,7 @@ returns-then-not-branch-clause-err g c =
 pub loop-end-preserved : goal.loop-end-preserved
 loop-end-preserved g c =
     let (input, read, setup, counted, room, low, works, spent) = c.loop-end.invariant in
-    let (piece, consumes, grown, short, ends) = c.in_ok-read_more-in-Part-2.ensures.ok in
+    let (piece, consumes, grown, short, ends, some) = c.in_ok-read_more-in-Part-2.ensures.ok in
     let front = c.loop-end.front.items in
     let more = more_read g.D.SetUp.takes c.args.desk.now c.loop-end.desk input front piece setup in
     let longer : length (front ++ piece) ≡ length front + length piece = length-append front piece in
