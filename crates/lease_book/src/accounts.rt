@@ -96,7 +96,8 @@ impl<D: Deed> Accounts<D> {
     /// Writes what a number was settled with.
     pub(crate) fn keep(&mut self, index: usize, incarnation: u64, kept: Kept)
         requires { index < length self.old }
-        ensures { self.new ≡ changed_at self.old index (with_standing (record { incarnation = incarnation; kept = Some kept })) }
+        ensures { self.new ≡ changed_at self.old index
+            (with_standing (record { incarnation = incarnation; kept = Some kept })) }
     {
         self.write(
             index,
@@ -143,7 +144,8 @@ impl<D: Deed> Accounts<D> {
     ) -> Result<(), Segment<D>>
         requires within { index < length self.old }
         requires room { IfSome (slice_get self.old index) (λ a. length a.leases < 1024) }
-        ensures ok { OnOk result (self.new ≡ changed_at self.old index (with_leases (λ ls. ls ++ record { incarnation = incarnation; segment = segment } ∷ []))) }
+        ensures ok { OnOk result (self.new ≡ changed_at self.old index
+            (with_leases (λ ls. ls ++ record { incarnation = incarnation; segment = segment } ∷ []))) }
         ensures err { OnErr result (self.new ≡ self.old) }
         ensures handed_back { IfErr result (λ s. s ≡ segment) }
     {
@@ -154,7 +156,8 @@ impl<D: Deed> Accounts<D> {
     pub(crate) fn take(&mut self, index: usize, place: usize) -> (u64, Segment<D>)
         requires within { index < length self.old }
         requires stands { IfSome (slice_get self.old index) (λ a. place < length a.leases) }
-        ensures lease { IfSome (slice_get self.old index) (λ a. slice_get a.leases place ≡ Some (record { incarnation = result.0; segment = result.1 })) }
+        ensures lease { IfSome (slice_get self.old index)
+            (λ a. slice_get a.leases place ≡ Some (record { incarnation = result.0; segment = result.1 })) }
         ensures rest { self.new ≡ changed_at self.old index (with_leases (λ ls. remove ls place)) }
     {
         self.leases[index].take(place)
@@ -164,7 +167,8 @@ impl<D: Deed> Accounts<D> {
     pub(crate) fn first_leased(&self) -> Option<usize>
         ensures within { IfSome result (λ i. i < length self.now) }
         ensures found { IfSome result (λ i. IfSome (slice_get self.now i) (λ a. 0 < length a.leases)) }
-        ensures own { IfSome result (λ i. IfSome (slice_get self.now i) (λ a. find (λ b. a.client == b.client) self.now ≡ Some a)) }
+        ensures own { IfSome result (λ i.
+            IfSome (slice_get self.now i) (λ a. find (λ b. a.client == b.client) self.now ≡ Some a)) }
         ensures some { IfSome result (λ _. leased_by self.now ≢ []) }
         ensures none { IfNone result (leased_by self.now ≡ []) }
     {

@@ -8,6 +8,7 @@ pub enum HelloFault {
     /// The incarnation is below this, the current one.
     #[error("the current incarnation of the client is {0}")]
     Old(u64),
+    /// Want of memory, at the first hello of a client.
     #[error("memory is wanted")]
     NoMemory,
 }

@@ -21,7 +21,9 @@ use std::marker::Model;
 /// As many leases a client may have, those of older incarnations among them. (Our own choice.)
 pub const LEASES: usize = 1024;
 
-/// Which client holds which segment, and the last number and the kept reply of each client's current incarnation.
+/// Which client holds which segment, and the last number and the kept reply of each client's current
+/// incarnation. Clients go from 1 to 65,536, incarnations and numbers of requests from 1 to 2^62. (Our own
+/// choice.)
 pub struct Book<D: Deed> {
     mark: D,
     accounts: Accounts<D>,
@@ -42,7 +44,8 @@ impl<D: Deed> Book<D> {
     ghost use Rattle.lease_book.specs.Shelf.{standing_of};
     ghost use Rattle.lease_book.specs.Calls.{IsFound, IsGranted, IsRefused, IsReleased, IsSwept, IsTaken};
 
-    /// An empty book. The mark is a deed of the one unit 0; its root tells the book's receipts from another's.
+    /// An empty book. The mark is a deed of the one unit 0; its root tells the book's receipts from
+    /// another's.
     pub fn new(alloc: Global, mark: D) -> Book<D>
         requires { (D.holding mark).range ≡ record { base = 0; len = 1 } }
         ensures mark { result.mark ≡ D.holding mark }
@@ -54,7 +57,8 @@ impl<D: Deed> Book<D> {
         }
     }
 
-    /// The number of the root of the book's mark. What a book holds is always what some entries give.
+    /// The number of the root of the book's mark. What a book holds is always what some entries
+    /// give.
     pub fn mark(&self) -> u32
         ensures mark { result ≡ self.now.mark.root }
         ensures history { HasHistory self.now }
@@ -76,7 +80,8 @@ impl<D: Deed> Book<D> {
         Ok(mark)
     }
 
-    /// Takes a client's hello with an incarnation. Room for the reply that it keeps is made here.
+    /// Takes a client's hello with an incarnation. Room for the reply that is kept of the client is
+    /// made by its first hello, so that a later one never wants memory.
     pub fn hello(&mut self, client: u32, incarnation: u64) -> Result<(), HelloFault>
         requires client { IsClient client }
         requires incarnation { IsNumber incarnation }
@@ -84,6 +89,9 @@ impl<D: Deed> Book<D> {
         ensures same { incarnation ≡ (account_in client self.old).incarnation → self.new ≡ self.old }
         ensures leases { leased self.new ≡ leased self.old }
         ensures current { OnOk result ((account_in client self.old).incarnation ≤ incarnation) }
+        ensures known { 0 < (account_in client self.old).incarnation
+            → (account_in client self.old).incarnation ≤ incarnation
+            → IsOk result }
         ensures fault { IfErr result (IsHelloFault (account_in client self.old).incarnation incarnation) }
         ensures refused { OnErr result (self.new ≡ self.old) }
     {
@@ -118,14 +126,16 @@ impl<D: Deed> Book<D> {
         requires incarnation { IsNumber incarnation }
         requires number { IsNumber number }
         ensures look { IsLook self.now (account_in client self.now) incarnation number result }
-        ensures history { (entries : List Entry) → IsHistory entries self.now → IsLook self.now (account entries client) incarnation number result }
+        ensures history { (entries : List Entry)
+            → IsHistory entries self.now
+            → IsLook self.now (account entries client) incarnation number result }
     {
         self.seek(client, incarnation, number)
     }
 
-    /// Settles a new number by a grant of the segment, which is of the arena and fits the request with its quantum.
-    /// The request is refused where the client has as many leases as it may; that settles the number too.
-    /// Each Err hands the segment back.
+    /// Settles a new number by a grant of the segment, which is of the arena and fits the request with
+    /// its quantum. The request is refused where the client has as many leases as it may; that settles
+    /// the number too. Each Err hands the segment back.
     pub fn settle(
         &mut self,
         client: u32,
@@ -141,9 +151,17 @@ impl<D: Deed> Book<D> {
         requires number { IsNumber number }
         requires arena { segment.arena ≡ arena }
         requires fits { Fits quantum request.now segment.holding.range.base segment.holding.range.len }
-        ensures granted { IfOk result (IsGranted self.old self.new client incarnation number segment (record { quantum = quantum; request = request.now })) }
+        ensures granted { IfOk result
+            (IsGranted self.old self.new client incarnation number segment
+            (record { quantum = quantum; request = request.now })) }
         ensures handed_back { IfErr result (λ r. r.0 ≡ segment) }
-        ensures answer { IfErr result (λ r. IsAnswer self.old self.new client incarnation number (λ v. IsRefused self.old self.new client incarnation number Refusal.Leases v × (1024 ≤ length (account_in client self.old).leases)) (IsNew (account_in client self.old) incarnation number × (length (account_in client self.old).leases < 1024)) r.1) }
+        ensures answer { IfErr result (λ r.
+            IsAnswer self.old self.new client incarnation number
+            (λ v. IsRefused self.old self.new client incarnation number Refusal.Leases v
+            × (1024 ≤ length (account_in client self.old).leases))
+            (IsNew (account_in client self.old) incarnation number
+            × (length (account_in client self.old).leases < 1024))
+            r.1) }
     {
         let place = match self.admit(client, incarnation, number) {
             Ok(place) => place,
@@ -186,7 +204,10 @@ impl<D: Deed> Book<D> {
         requires client { IsClient client }
         requires incarnation { IsNumber incarnation }
         requires number { IsNumber number }
-        ensures { IsAnswer self.old self.new client incarnation number (IsRefused self.old self.new client incarnation number refusal) ⊥ result }
+        ensures { IsAnswer self.old self.new client incarnation number
+            (IsRefused self.old self.new client incarnation number refusal)
+            ⊥
+            result }
     {
         match self.admit(client, incarnation, number) {
             Ok(place) => {
@@ -198,8 +219,8 @@ impl<D: Deed> Book<D> {
         }
     }
 
-    /// Settles a new number by the release of the first lease of the incarnation with this arena and base. Where the
-    /// incarnation has none the request is refused, and that settles the number too.
+    /// Settles a new number by the release of the first lease of the incarnation with this arena and
+    /// base. Where the incarnation has none the request is refused, and that settles the number too.
     pub fn release(
         &mut self,
         client: u32,
@@ -211,8 +232,13 @@ impl<D: Deed> Book<D> {
         requires client { IsClient client }
         requires incarnation { IsNumber incarnation }
         requires number { IsNumber number }
-        ensures released { IfOk result (λ r. IsReleased self.old self.new client incarnation number arena base r.0 r.1) }
-        ensures answer { IfErr result (IsAnswer self.old self.new client incarnation number (λ v. IsRefused self.old self.new client incarnation number Refusal.NotYours v × (find (is_lease incarnation arena base) (account_in client self.old).leases ≡ None)) ⊥) }
+        ensures released { IfOk result
+            (λ r. IsReleased self.old self.new client incarnation number arena base r.0 r.1) }
+        ensures answer { IfErr result
+            (IsAnswer self.old self.new client incarnation number
+            (λ v. IsRefused self.old self.new client incarnation number Refusal.NotYours v
+            × (find (is_lease incarnation arena base) (account_in client self.old).leases ≡ None))
+            ⊥) }
     {
         let place = self.admit(client, incarnation, number)?;
         let Some(index) = self
@@ -230,11 +256,14 @@ impl<D: Deed> Book<D> {
         Ok((self.receipt(client, incarnation, kept), segment))
     }
 
-    /// Ends a lease of an older incarnation of the client. Which one is left open; it is the first in order of grant.
+    /// Ends a lease of an older incarnation of the client. Which one is left open; it is the first in
+    /// order of grant.
     pub fn sweep(&mut self, client: u32) -> Option<Segment<D>>
         requires { IsClient client }
         ensures swept { IfSome result (IsSwept self.old self.new client) }
-        ensures none { IfNone result (All (λ l. (account_in client self.old).incarnation ≤ l.incarnation) (account_in client self.old).leases) }
+        ensures none { IfNone result
+            (All (λ l. (account_in client self.old).incarnation ≤ l.incarnation)
+            (account_in client self.old).leases) }
         ensures unchanged { IfNone result (self.new ≡ self.old) }
     {
         let (place, standing) = self.account(client)?;
@@ -257,16 +286,21 @@ impl<D: Deed> Book<D> {
     /// The units of the arena that are leased.
     pub fn units(&self, arena: u32) -> u128
         ensures value { result ≡ sum_by (units_in arena) (leased self.now) }
-        ensures history { (entries : List Entry) → IsHistory entries self.now → result ≡ sum_by (units_in arena) (leased_in entries) }
+        ensures history { (entries : List Entry)
+            → IsHistory entries self.now
+            → result ≡ sum_by (units_in arena) (leased_in entries) }
     {
         self.accounts.units(arena)
     }
 
-    /// How many clients ever said hello. In order of first hello they stand at the places below this.
+    /// How many clients ever said hello. In order of first hello they stand at the places below
+    /// this.
     pub fn clients(&self) -> usize
         ensures count { result ≡ length self.now.accounts }
         ensures few { result ≤ 65536 }
-        ensures history { (entries : List Entry) → IsHistory entries self.now → result ≡ length (clients_of entries) }
+        ensures history { (entries : List Entry)
+            → IsHistory entries self.now
+            → result ≡ length (clients_of entries) }
     {
         self.accounts.len()
     }
@@ -274,7 +308,9 @@ impl<D: Deed> Book<D> {
     /// The client that stands at a place in order of first hello.
     pub fn client_at(&self, index: usize) -> Option<ClientReport>
         ensures value { result ≡ option_map report_of (slice_get self.now.accounts index) }
-        ensures history { (entries : List Entry) → IsHistory entries self.now → result ≡ option_map (λ c. report_of (account entries c)) (slice_get (clients_of entries) index) }
+        ensures history { (entries : List Entry)
+            → IsHistory entries self.now
+            → result ≡ option_map (λ c. report_of (account entries c)) (slice_get (clients_of entries) index) }
     {
         self.accounts.report(index)
     }

@@ -80,7 +80,8 @@ impl<D: Deed> Leases<D> {
 
     /// Adds a lease. Err is want of memory.
     pub(crate) fn add(&mut self, incarnation: u64, segment: Segment<D>) -> Result<(), Segment<D>>
-        ensures ok { OnOk result (self.new ≡ self.old ++ record { incarnation = incarnation; segment = segment } ∷ []) }
+        ensures ok { OnOk result
+            (self.new ≡ self.old ++ record { incarnation = incarnation; segment = segment } ∷ []) }
         ensures err { OnErr result (self.new ≡ self.old) }
         ensures handed_back { IfErr result (λ s. s ≡ segment) }
     {

@@ -118,24 +118,28 @@ impl<D> Receipt<D> {
         self.book
     }
 
+    /// The client whose request was settled.
     pub fn client(&self) -> u32
         ensures { result ≡ self.now.client }
     {
         self.client
     }
 
+    /// The incarnation of the client that made the request.
     pub fn incarnation(&self) -> u64
         ensures { result ≡ self.now.incarnation }
     {
         self.incarnation
     }
 
+    /// The number of the request in its incarnation.
     pub fn number(&self) -> u64
         ensures { result ≡ self.now.kept.number }
     {
         self.kept.number
     }
 
+    /// The reply, which a request that comes again gets too.
     pub fn reply(&self) -> Reply
         ensures value { result ≡ self.now.kept.reply }
         ensures earned { IsEarned result self.now.kept.terms }

@@ -1,6 +1,7 @@
 //! What a book tells of a client.
 
-/// A client, its current incarnation, its last number and how many leases it has, those of older incarnations among them.
+/// A client, its current incarnation, its last number and how many leases it has, those of older
+/// incarnations among them.
 #[derive(Clone, Copy, PartialEq, Eq, Debug)]
 pub struct ClientReport {
     pub client: u32,

@@ -62,7 +62,50 @@ fn close(segment: Segment<PlainDeed>) -> (u64, u64) {
     (range.base(), range.len())
 }
 
+/// Whether a hello is taken. Want of memory leaves all as it was, and the same hello then succeeds.
+fn hello(rt: &impl Abort, book: &mut Book<PlainDeed>, client: u32, incarnation: u64) -> bool
+    requires client { IsClient client }
+    requires incarnation { IsNumber incarnation }
+{
+    let clients = book.clients();
+    match book.hello(client, incarnation) {
+        Ok(()) => true,
+        Err(HelloFault::Old(_)) => false,
+        Err(HelloFault::NoMemory) => {
+            assert_eq!(rt; book.clients(), clients);
+            assert_eq!(rt; book.client_at(clients), None);
+            assert_eq!(rt; look(book, client, 1, 1), Told::Old(0));
+            book.hello(client, incarnation).is_ok()
+        }
+    }
+}
+
+/// The answer to a lease. Want of memory leaves all as it was, and the same lease then succeeds.
 fn lease(
+    rt: &impl Abort,
+    book: &mut Book<PlainDeed>,
+    client: u32,
+    incarnation: u64,
+    number: u64,
+    base: u64,
+    len: u64,
+) -> Told
+    requires client { IsClient client }
+    requires incarnation { IsNumber incarnation }
+    requires number { IsNumber number }
+{
+    let units = book.units(ARENA);
+    match lease_once(rt, book, client, incarnation, number, base, len) {
+        Told::Again => {
+            assert_eq!(rt; look(book, client, incarnation, number), Told::New);
+            assert_eq!(rt; book.units(ARENA), units);
+            lease_once(rt, book, client, incarnation, number, base, len)
+        }
+        told => told,
+    }
+}
+
+fn lease_once(
     rt: &impl Abort,
     book: &mut Book<PlainDeed>,
     client: u32,
@@ -157,7 +200,7 @@ fn make_book(rt: &impl Abort, alloc: Global) -> Book<PlainDeed> {
 #[test]
 fn repeats(rt: HostRuntime) {
     let mut book = make_book(&rt, rt.alloc());
-    assert!(rt; book.hello(1, 1).is_ok());
+    assert!(rt; hello(&rt, &mut book, 1, 1));
     assert_eq!(rt; look(&book, 1, 1, 1), Told::New);
     assert_eq!(rt; lease(&rt, &mut book, 1, 1, 1, 0, 8), Told::Granted(0, 8));
     assert_eq!(rt; look(&book, 1, 1, 1), Told::Kept(granted(0, 8)));
@@ -174,14 +217,14 @@ fn repeats(rt: HostRuntime) {
 #[test]
 fn restarts(rt: HostRuntime) {
     let mut book = make_book(&rt, rt.alloc());
-    assert!(rt; book.hello(1, 1).is_ok());
+    assert!(rt; hello(&rt, &mut book, 1, 1));
     assert_eq!(rt; lease(&rt, &mut book, 1, 1, 1, 1, 4), Told::Granted(1, 4));
     assert!(rt; book.sweep(1).map(close).is_none());
-    assert!(rt; book.hello(1, 2).is_ok());
+    assert!(rt; hello(&rt, &mut book, 1, 2));
     assert!(rt; matches!(&book.hello(1, 1), Err(HelloFault::Old(2))));
     assert_eq!(rt; book.sweep(1).map(close), Some((1, 4)));
     assert!(rt; book.sweep(1).map(close).is_none());
-    assert!(rt; book.hello(2, 1).is_ok());
+    assert!(rt; hello(&rt, &mut book, 2, 1));
     assert_eq!(rt; lease(&rt, &mut book, 2, 1, 1, 1, 4), Told::Granted(1, 4));
     assert_eq!(rt; lease(&rt, &mut book, 1, 1, 1, 1, 4), Told::Old(2));
     assert_eq!(rt; look(&book, 1, 1, 1), Told::Old(2));
@@ -194,9 +237,9 @@ fn restarts(rt: HostRuntime) {
 #[test]
 fn releases(rt: HostRuntime) {
     let mut book = make_book(&rt, rt.alloc());
-    assert!(rt; book.hello(1, 1).is_ok());
+    assert!(rt; hello(&rt, &mut book, 1, 1));
     assert_eq!(rt; lease(&rt, &mut book, 1, 1, 1, 1, 2), Told::Granted(1, 2));
-    assert!(rt; book.hello(2, 1).is_ok());
+    assert!(rt; hello(&rt, &mut book, 2, 1));
     assert_eq!(rt;
         release(&rt, &mut book, 2, 1, 1, 1),
         Told::Refused(Refusal::NotYours)
@@ -222,7 +265,7 @@ fn releases(rt: HostRuntime) {
 #[test]
 fn numbers(rt: HostRuntime) {
     let mut book = make_book(&rt, rt.alloc());
-    assert!(rt; book.hello(1, 1).is_ok());
+    assert!(rt; hello(&rt, &mut book, 1, 1));
     assert_eq!(rt; lease(&rt, &mut book, 1, 1, 3, 0, 4), Told::Gap(0));
     assert_eq!(rt; lease(&rt, &mut book, 1, 1, 1, 0, 4), Told::Granted(0, 4));
     assert_eq!(rt; lease(&rt, &mut book, 1, 1, 2, 4, 4), Told::Granted(4, 4));
@@ -236,7 +279,7 @@ fn numbers(rt: HostRuntime) {
 #[test]
 fn refusals(rt: HostRuntime) {
     let mut book = make_book(&rt, rt.alloc());
-    assert!(rt; book.hello(1, 3).is_ok());
+    assert!(rt; hello(&rt, &mut book, 1, 3));
     assert_eq!(rt;
         answered(book.refuse(1, 3, 1, Refusal::NoFit)),
         Told::Refused(Refusal::NoFit)
@@ -268,7 +311,7 @@ fn refusals(rt: HostRuntime) {
 #[test]
 fn limit(rt: HostRuntime) {
     let mut book = make_book(&rt, rt.alloc());
-    assert!(rt; book.hello(1, 1).is_ok());
+    assert!(rt; hello(&rt, &mut book, 1, 1));
     for i in 0..1024u64 {
         assert_eq!(rt;
             lease(&rt, &mut book, 1, 1, i + 1, i, 1),
@@ -300,11 +343,11 @@ fn limit(rt: HostRuntime) {
 fn lists(rt: HostRuntime) {
     let mut book = make_book(&rt, rt.alloc());
     assert_eq!(rt; book.clients(), 0);
-    assert!(rt; book.hello(5, 1).is_ok());
-    assert!(rt; book.hello(2, 1).is_ok());
-    assert!(rt; book.hello(5, 2).is_ok());
-    assert!(rt; book.hello(5, 1).is_err());
-    assert!(rt; book.hello(9, 1).is_ok());
+    assert!(rt; hello(&rt, &mut book, 5, 1));
+    assert!(rt; hello(&rt, &mut book, 2, 1));
+    assert!(rt; hello(&rt, &mut book, 5, 2));
+    assert!(rt; !hello(&rt, &mut book, 5, 1));
+    assert!(rt; hello(&rt, &mut book, 9, 1));
     assert_eq!(rt; book.clients(), 3);
     assert_eq!(rt; book.client_at(0).map(|report| report.client), Some(5));
     assert_eq!(rt; book.client_at(1).map(|report| report.client), Some(2));
@@ -317,8 +360,8 @@ fn lists(rt: HostRuntime) {
 #[test]
 fn closes(rt: HostRuntime) {
     let mut book = make_book(&rt, rt.alloc());
-    assert!(rt; book.hello(4, 1).is_ok());
-    assert!(rt; book.hello(4, 1).is_ok());
+    assert!(rt; hello(&rt, &mut book, 4, 1));
+    assert!(rt; hello(&rt, &mut book, 4, 1));
     assert_eq!(rt; book.mark(), 9);
     assert_eq!(rt; lease(&rt, &mut book, 4, 1, 1, 3, 1), Told::Granted(3, 1));
     match book.close() {
@@ -327,25 +370,21 @@ fn closes(rt: HostRuntime) {
     }
 }
 
-// Want of memory leaves all as it was, and the same call then succeeds.
+// The lists of clients and of leases grow. Where an allocation is refused, as by
+// `rt try --test --fail-alloc N`, nothing changes.
 #[test]
-fn memory(rt: HostRuntime) {
+fn grows(rt: HostRuntime) {
     let mut book = make_book(&rt, rt.alloc());
-    match book.hello(1, 1) {
-        Ok(()) => {}
-        Err(HelloFault::NoMemory) => {
-            assert_eq!(rt; look(&book, 1, 1, 1), Told::Old(0));
-            assert_eq!(rt; book.client_at(0), None);
-            assert!(rt; book.hello(1, 1).is_ok());
-        }
-        Err(HelloFault::Old(_)) => panic!(rt; "old"),
+    for client in 1..=40u32 {
+        assert!(rt; hello(&rt, &mut book, client, 1));
     }
-    let mut first = lease(&rt, &mut book, 1, 1, 1, 0, 8);
-    if first == Told::Again {
-        assert_eq!(rt; look(&book, 1, 1, 1), Told::New);
-        assert_eq!(rt; book.units(ARENA), 0);
-        first = lease(&rt, &mut book, 1, 1, 1, 0, 8);
+    for i in 0..20u64 {
+        assert_eq!(rt;
+            lease(&rt, &mut book, 40, 1, i + 1, i, 1),
+            Told::Granted(i, 1)
+        );
     }
-    assert_eq!(rt; first, Told::Granted(0, 8));
+    assert_eq!(rt; book.clients(), 40);
+    assert_eq!(rt; book.units(ARENA), 20);
     end(&rt, book);
 }
