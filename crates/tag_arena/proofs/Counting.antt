@@ -7,7 +7,7 @@ use Rattle.std.specs.Option.{option_map_or}
 use Rattle.deed_core.specs.Extent.{Extent, end_of}
 use Rattle.deed_core.specs.Holding.{Holding}
 use Rattle.deed_core.specs.Covering.{covers, covers_held, covering_held, units_held}
-use Rattle.deed_core.proofs.Units.{covers_is, covers_cut}
+use Rattle.deed_core.proofs.LawProofs.{covers_is, covers_cut}
 use Rattle.tag_arena.specs.Layout.{IsPartOf}
 use Rattle.tag_arena.specs.Calls.{part, between, rests}
 use Rattle.tag_arena.specs.Neighbors.{Without, TakesLeft, TakesRight}

@@ -1,6 +1,6 @@
 -- What an arena reports, and what is refused of a span.
 use Rattle.std.proofs.Common.{◌≡◌, ◌≢◌, ℕ, ◌+◌, ◌%◌, ◌<◌, subst, ap, ◌∙◌, ⊎_elim, List, map, Contains, All, Any, arith}
-use Rattle.std.proofs.lemmas.List.Elements.{All-append, Contains-append_right, Contains-append_left}
+use Rattle.std.proofs.lemmas.List.Elements.{All-append, All-map, Contains-append_right, Contains-append_left}
 use Rattle.deed_core.specs.Extent.{Extent, Covers, Overlap}
 use Rattle.deed_core.specs.Holding.{Holding}
 use Rattle.deed_core.specs.Tag.{Tag}
@@ -10,7 +10,7 @@ use Rattle.tag_arena.specs.Calls.{IsClear}
 use Rattle.tag_arena.proofs.Ranges.{Any-member, member-Any, holds_part}
 use Rattle.tag_arena.proofs.Freeing.{absorbs, longest_edged}
 use Rattle.tag_arena.proofs.Counting.{units_add}
-use Rattle.tag_arena.proofs.SpanLists.{Contains-map, All-map}
+use Rattle.tag_arena.proofs.SpanLists.{Contains-map}
 use Rattle.std.proofs.lemmas.List.Sums.{sum_by-append}
 use Rattle.deed_core.specs.Covering.{units_held}
 
@@ -52,7 +52,7 @@ pub clear_of_both : (a : ArenaState) (e : Extent) (os : List Holding) (is : List
     → All (λ s. ¬ Overlap s.range e) os → All (λ t. ¬ Overlap t.holding.range e) is → IsClear a e
 clear_of_both a e os is os_is is_is own imp =
     All-append (λ s. ¬ Overlap s.range e) a.owned (map (λ t. t.holding) a.imported) (subst (λ (xs : List Holding). All (λ s. ¬ Overlap s.range e) xs) os_is own)
-    (All-map (λ t. t.holding) (λ s. ¬ Overlap s.range e) a.imported (subst (λ (xs : List Tag). All (λ t. ¬ Overlap t.holding.range e) xs) is_is imp))
+    (All-map (λ s. ¬ Overlap s.range e) (λ (t : Tag). t.holding) a.imported (subst (λ (xs : List Tag). All (λ t. ¬ Overlap t.holding.range e) xs) is_is imp))
 
 pub off_base : (quantum base : ℕ) (e : Extent) → base ≡ e.base → base % quantum ≢ 0 → ¬ OnQuantum quantum e
 off_base quantum base e is off on = off (ap (λ k. k % quantum) is ∙ on.0)

@@ -3,7 +3,7 @@ use Rattle.std.proofs.Common.{◌≡◌, ◌≢◌, ℕ, zero, suc, ◌+◌, ◌
 use Rattle.std.specs.Option.{option_map_or}
 use Rattle.std.proofs.lemmas.Bool.{cases_order}
 use Rattle.std.proofs.lemmas.Bool.Decides.{nat_tests}
-use Rattle.std.proofs.lemmas.List.{length-append}
+use Rattle.std.proofs.lemmas.List.{length-append, length-map}
 use Rattle.std.proofs.lemmas.List.Elements.{All-contains, Contains-get_or, Contains-push, Contains-append_right}
 use Rattle.std.proofs.lemmas.List.Sums.{sum_by_push}
 use Rattle.std.specs.Ordering.{nat_cmp}
@@ -60,10 +60,6 @@ get_or-map g [] zero d = refl
 get_or-map g [] (suc k) d = refl
 get_or-map g (x ∷ xs) zero d = refl
 get_or-map g (x ∷ xs) (suc k) d = get_or-map g xs k d
-
-pub length-map : {X Y : Type 0} (g : X → Y) (xs : List X) → length (map g xs) ≡ length xs
-length-map g [] = refl
-length-map g (x ∷ xs) = ap suc (length-map g xs)
 
 pub remove-push : {X : Type 0} (xs : List X) (y : X) → remove (xs ++ y ∷ []) (length xs) ≡ xs
 remove-push [] y = refl
@@ -179,7 +175,7 @@ module _ (a : ArenaState) (sound : IsSound a) (piece : Holding) (at : finmap.get
         in_sources : Contains sources merged
         in_sources =
             let at_k : (d : Tag) → get_or sources k d.holding ≡ merged = λ d. get_or-map (λ t. t.holding) a.imported k d ∙ here d in
-            (k, omega (arith, within, length-map (λ t. t.holding) a.imported), at_k (record { arena = 0; route = Direct; holding = merged }))
+            (k, omega (arith, within, length-map a.imported (λ (t : Tag). t.holding)), at_k (record { arena = 0; route = Direct; holding = merged }))
 
         in_free : Contains (after_free a piece merged).free merged
         in_free = Contains-push (filter (λ x. not (surrounds merged x)) a.free) merged
@@ -190,7 +186,7 @@ module _ (a : ArenaState) (sound : IsSound a) (piece : Holding) (at : finmap.get
         -- what is left of the imported spans
         differs : (j : ℕ) (d : Tag) → j < length a.imported → j ≢ k → not (nat_eq (get_or a.imported j d).holding.range.base merged.range.base) ≡ true
         differs j d lt ne =
-            let len : length sources ≡ length a.imported = length-map (λ t. t.holding) a.imported in
+            let len : length sources ≡ length a.imported = length-map a.imported (λ (t : Tag). t.holding) in
             let apart : AllPairs Apart sources = AllPairs-second Apart a.owned sources sound.whole.spans_apart in
             let x : Holding = (get_or a.imported j d).holding in
             let at_j : get_or sources j d.holding ≡ x = get_or-map (λ t. t.holding) a.imported j d in

@@ -1,10 +1,9 @@
 -- Lists of ranges that don't overlap, in parts and without one of them.
-use Rattle.std.proofs.Common.{◌≡◌, ◌⊎◌, ℕ, ◌<◌, Bool, true, false, cond, not, nat_eq, refl, sym, subst, ap, ◌∙◌, inl, inr, ⊎_elim, List, [], ◌∷◌, ◌++◌, map, length, get_or, remove, filter, HoldsAt, Contains, All, AllPairs, Option, Some, None, MatchOption, sum_by, arith}
+use Rattle.std.proofs.Common.{◌≡◌, ◌⊎◌, ℕ, ◌<◌, Bool, true, false, cond, not, nat_eq, refl, sym, subst, ap, ◌∙◌, inl, inr, ⊎_elim, List, [], ◌∷◌, ◌++◌, map, length, get_or, remove, filter, HoldsAt, Contains, All, AllPairs, Option, Some, None, MatchOption, arith}
 use Rattle.std.proofs.lemmas.Bool.{cases_order}
 use Rattle.std.proofs.lemmas.Bool.Decides.{nat_tests}
 use Rattle.std.proofs.lemmas.List.Elements.{All-contains, All-append, Contains-get_or, Contains-append_left, Contains-append_right, Contains-append_cases}
 use Rattle.std.proofs.lemmas.List.Kept.{AllPairs-filter, AllPairs-cons}
-use Rattle.std.proofs.lemmas.List.Sums.{sum_by-cons}
 use Rattle.deed_core.specs.Holding.{Holding}
 use Rattle.tag_arena.specs.Layout.{Apart}
 use Rattle.tag_arena.specs.Calls.{without}
@@ -143,14 +142,6 @@ first_more xs ys r apart clear =
 
     one_pair : (r : Holding) → AllPairs Apart (r ∷ [])
     one_pair r i j d lt below = absurd (omega (arith, below))
-
--- a sum over what a function gives
-pub sum_by-map : {X Y : Type 0} (g : X → Y) (f : Y → ℕ) (xs : List X) → sum_by f (map g xs) ≡ sum_by (λ x. f (g x)) xs
-sum_by-map g f [] = refl
-sum_by-map g f (x ∷ xs) = let more = sum_by-map g f xs in omega (arith, more, sum_by-cons f (g x) (map g xs), sum_by-cons (λ x. f (g x)) x xs)
-
-pub All-map : {X Y : Type 0} (g : X → Y) (P : Y → Type 0) (xs : List X) → All (λ x. P (g x)) xs → All P (map g xs)
-All-map g P xs h = All-from_members P (map g xs) (λ y in-y. let m = Contains-from_map g xs y in-y in subst P m.2 (All-contains (λ x. P (g x)) xs m.0 h m.1))
 
 -- a span found in the second part of a list
 pub found_second : (xs ys : List Holding) (P : Holding → Type 0) (o : Option Holding) → All (λ s. ¬ P s) xs → MatchOption o (All (λ s. ¬ P s) ys) (λ s. Contains ys s × P s)

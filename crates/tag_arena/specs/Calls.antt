@@ -109,7 +109,7 @@ abbrev pub LeavesFree : ArenaState → Holding → Holding → Option Tag → Ar
 LeavesFree old piece merged None new = All (λ t. t.holding ≢ merged) old.imported × (new ≡ after_free old piece merged)
 LeavesFree old piece merged (Some t) new = Contains old.imported t × (t.holding ≡ merged) × (new ≡ after_return (after_free old piece merged) merged)
 
--- the piece was freed: merged with its free neighbours it is a longest run
+-- the piece was freed: merged with its free neighbors it is a longest run
 pub record Frees (old new : ArenaState) (piece : Holding) (back : Option Tag) : Type 0 where
   pub merged : Holding
   pub longest : IsLongestRun (spans_of old) (remove old.allocated piece.range.base) merged

@@ -1,6 +1,7 @@
 //! The arena.
-ghost use Rattle.std.specs.Prelude.{◌≡◌, ◌+◌, ◌-◌, ◌≤◌, ◌↔◌, ◌<◌, [], ◌++◌, ℕ, All, Any, Contains, IsTrue, IsOk, IsErrAnd, IfOk, IfErr, IfSome, IfNone, OnOk, OnErr, Some, None, Err, MatchOption, option_to_list, sum_by};
+ghost use Rattle.std.specs.Prelude.{◌≡◌, ◌+◌, ◌-◌, ◌≤◌, ◌↔◌, ◌<◌, [], ◌++◌, ℕ, vec_len, vec_capacity, All, Any, Contains, IsTrue, IsOk, IsErrAnd, IfOk, IfErr, IfSome, IfNone, OnOk, OnErr, Some, None, Err, MatchOption, option_to_list, sum_by};
 ghost use Rattle.std.specs.Int.{IsPowerOfTwo};
+ghost use Rattle.std.specs.FinMap as finmap;
 ghost use Rattle.deed_core.specs.Extent.{Overlap};
 ghost use Rattle.deed_core.specs.Covering.{covers, covers_tag, covering_held, units_held};
 ghost use Rattle.deed_core.specs.Tag.{Tag};
@@ -23,7 +24,7 @@ use crate::stretches::{Stretch, stretch_of};
 use crate::tags::Tags;
 use crate::wholes::lowest_whole;
 use deed_core::{Deed, Range, Request, Route, Segment, Stored};
-use std::alloc::Global;
+use std::alloc::{AllocError, Global};
 use std::marker::Model;
 
 /// A set of whole numbers, handed out as segments. It is never copied or dropped.
@@ -48,20 +49,43 @@ impl<D: Deed> Model for Arena<D> {
 
     ghost Value = { ArenaState };
 
-    ghost coded = { Prim.hlevel (codes, finmap.code {X = Holding} {R = nat_cmp} coded_ℕ (Prim.hlevel codes)) };
+    ghost coded = { Prim.hlevel
+        (codes, finmap.code {X = Holding} {R = nat_cmp} coded_ℕ (Prim.hlevel codes)) };
 
-    ghost view = { λ a. record { id = a.id; quantum = a.quantum; policy = a.policy; owned = a.owned.items; imported = a.imported.items; free = a.free.items; allocated = a.tags; rover = a.rover } };
+    ghost view = { λ a. record {
+      id = a.id;
+      quantum = a.quantum;
+      policy = a.policy;
+      owned = a.owned.items;
+      imported = a.imported.items;
+      free = a.free.items;
+      allocated = a.tags;
+      rover = a.rover;
+    } };
 
     // What is allocated can come back without memory.
-    ghost invariant = { λ a. IsSound (record { id = a.id; quantum = a.quantum; policy = a.policy; owned = a.owned.items; imported = a.imported.items; free = a.free.items; allocated = a.tags; rover = a.rover })
+    ghost invariant = { λ a.
+        IsSound (record {
+          id = a.id;
+          quantum = a.quantum;
+          policy = a.policy;
+          owned = a.owned.items;
+          imported = a.imported.items;
+          free = a.free.items;
+          allocated = a.tags;
+          rover = a.rover;
+        })
         × (vec_len a.free + finmap.len a.tags ≤ vec_capacity a.free) };
 }
 
 /// How many units an arena has.
 #[derive(Clone, Copy, PartialEq, Eq, Debug)]
 pub struct ArenaReport {
+    /// Those of its spans, owned and imported. `free` and `allocated` add up to it.
     pub span: u128,
+    /// Those that a carve may still take.
     pub free: u128,
+    /// Those of the segments that are out.
     pub allocated: u128,
 }
 
@@ -83,12 +107,14 @@ impl<D: Deed> Arena<D> {
         }
     }
 
+    /// The number that its segments carry.
     pub fn id(&self) -> u32
         ensures { result ≡ self.now.id }
     {
         self.id
     }
 
+    /// A power of two. Each size is rounded up to a multiple of it, and each base is one.
     pub fn quantum(&self) -> u64
         ensures value { result ≡ self.now.quantum }
         ensures power { IsPowerOfTwo result }
@@ -96,6 +122,7 @@ impl<D: Deed> Arena<D> {
         self.quantum
     }
 
+    /// How it chooses, as it was told when it was made.
     pub fn policy(&self) -> Policy
         ensures { result ≡ self.now.policy }
     {
@@ -165,8 +192,8 @@ impl<D: Deed> Arena<D> {
         None
     }
 
-    /// Adds an owned span, which is the newest free range. It takes any number of spans: the layer above
-    /// keeps to 65,536.
+    /// Adds an owned span, which is the newest free range. It takes any number of spans: the layer
+    /// above keeps to 65,536.
     pub fn add_span(&mut self, deed: D) -> Result<(), (D, ArenaFault)>
         ensures added { OnOk result (self.new ≡ after_add self.old (D.holding deed)) }
         ensures clear { OnOk result (IsClear self.old (D.holding deed).range
@@ -180,13 +207,10 @@ impl<D: Deed> Arena<D> {
         if let Some(fault) = self.span_fault(&range) {
             return Err((deed, fault));
         }
-        let Some(room) = self.tags.len().checked_add(1) else {
-            return Err((deed, ArenaFault::NoMemory));
-        };
         let Ok(()) = self.owned.reserve(1) else {
             return Err((deed, ArenaFault::NoMemory));
         };
-        let Ok(()) = self.free.reserve(room) else {
+        let Ok(()) = reserve_free(&mut self.free, &self.tags, 1) else {
             return Err((deed, ArenaFault::NoMemory));
         };
         let stored = Stored::new(deed);
@@ -225,11 +249,8 @@ impl<D: Deed> Arena<D> {
         };
         let len = request.units(self.quantum).unwrap();
 
-        // Room for both rests, and for each allocated range to become free again.
-        let Some(room) = self.tags.len().checked_add(2) else {
-            return Err(ArenaFault::NoMemory);
-        };
-        self.free.reserve(room)?;
+        // Room for both rests, of which one takes the place of the range, and for the piece.
+        reserve_free(&mut self.free, &self.tags, 2)?;
         let piece = Stretch::new(found.range.root(), piece_of(found.range, found.base, len));
         self.tags.insert(piece)?;
         let Ok(deed) = carve(&mut self.free, found.at, found.range, found.base, len) else {
@@ -270,13 +291,10 @@ impl<D: Deed> Arena<D> {
             return Err((span, fault));
         }
         let len = request.units(self.quantum).unwrap();
-        let Some(room) = self.tags.len().checked_add(2) else {
-            return Err((span, ArenaFault::NoMemory));
-        };
         let Ok(()) = self.imported.reserve(1) else {
             return Err((span, ArenaFault::NoMemory));
         };
-        let Ok(()) = self.free.reserve(room) else {
+        let Ok(()) = reserve_free(&mut self.free, &self.tags, 2) else {
             return Err((span, ArenaFault::NoMemory));
         };
         let whole = Stretch::new(span.root(), range);
@@ -284,12 +302,11 @@ impl<D: Deed> Arena<D> {
         let Ok(()) = self.tags.insert(first) else {
             return Err((span, ArenaFault::NoMemory));
         };
-        let (source, route) = (span.arena(), span.route());
-        let (deed, rest) = match cut_first(Stored::new(span.into_deed()), len) {
+        let source = span.arena();
+        let (deed, rest) = match cut_first(span, len) {
             Ok(parts) => parts,
-            Err(same) => {
+            Err(span) => {
                 self.tags.remove(first);
-                let span = Segment::new(source, route, same.into_deed());
                 return Err((span, ArenaFault::NoMemory));
             }
         };
@@ -299,8 +316,9 @@ impl<D: Deed> Arena<D> {
         Ok(Segment::new(self.id, Route::Direct, deed.into_deed()))
     }
 
-    /// Frees a segment, and merges its range with its free neighbors inside its span. An imported span that
-    /// becomes wholly free is taken out and handed back, to be freed by its source. It takes no memory.
+    /// Frees a segment, and merges its range with its free neighbors inside its span. An imported
+    /// span that becomes wholly free is taken out and handed back, to be freed by its source. It takes
+    /// no memory.
     pub fn free(&mut self, segment: Segment<D>) -> Result<Option<Segment<D>>, Segment<D>>
         ensures mine { IsOk result ↔ IsTagged self.old segment }
         ensures freed { IfOk result (Frees self.old self.new segment.holding) }
@@ -309,7 +327,8 @@ impl<D: Deed> Arena<D> {
         ensures err { OnErr result (self.new ≡ self.old) }
 
         // However the ranges are weighed, and unit by unit.
-        ensures loses { OnOk result (Loses (ranges_of self.old.allocated) (ranges_of self.new.allocated) segment.holding) }
+        ensures loses { OnOk result
+            (Loses (ranges_of self.old.allocated) (ranges_of self.new.allocated) segment.holding) }
         ensures returned { IfOk result (λ back.
             (f : Tag → ℕ) → sum_by f self.old.imported
             ≡ sum_by f self.new.imported + sum_by f (option_to_list back)) }
@@ -351,6 +370,23 @@ impl<D: Deed> Arena<D> {
         let _ = self.owned.remove(whole.at);
         Some(self.free.remove(whole.free_at).into_deed())
     }
+}
+
+/// Makes room for `more` free ranges, and for each allocated range to become free again.
+fn reserve_free<D: Deed>(
+    free: &mut Vec<Stored<D>>,
+    tags: &Tags,
+    more: usize,
+) -> Result<(), AllocError>
+    ensures items { free.new.items ≡ free.old.items }
+    ensures room { OnOk result
+        (vec_len free.new + finmap.len tags.now + more ≤ vec_capacity free.new) }
+    ensures grows { vec_capacity free.old ≤ vec_capacity free.new }
+{
+    let Some(room) = tags.len().checked_add(more) else {
+        return Err(AllocError);
+    };
+    free.reserve(room)
 }
 
 /// The `len` units from `base` on, which lie in the range.

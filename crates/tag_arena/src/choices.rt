@@ -20,9 +20,12 @@ pub struct Found {
     pub base: u64,
 }
 
-/// Whether the first comes before the second, or at its place: by length, then by base, then by address.
+/// Whether the first comes before the second, or at its place: by length, then by base, then by
+/// address.
 fn comes_first(first: &Found, second: &Found) -> bool
-    ensures { MatchBool result (ComesFirst first.now.range first.now.base second.now.range second.now.base) (ComesFirst second.now.range second.now.base first.now.range first.now.base) }
+    ensures { MatchBool result
+        (ComesFirst first.now.range first.now.base second.now.range second.now.base)
+        (ComesFirst second.now.range second.now.base first.now.range first.now.base) }
 {
     if first.range.len() != second.range.len() {
         first.range.len() < second.range.len()

@@ -5,7 +5,7 @@ ghost use Rattle.deed_core.specs.Holding.{joined, GoesOn};
 ghost use Rattle.tag_arena.specs.Calls.{part, between, rests};
 
 use crate::stretches::Stretch;
-use deed_core::{Deed, Stored, insert_reserved};
+use deed_core::{Deed, Segment, Stored, insert_reserved};
 use std::alloc::AllocError;
 
 /// A piece of a deed, and what is left of the deed on either side.
@@ -108,8 +108,8 @@ pub fn push_rest<D: Deed>(free: &mut Vec<Stored<D>>, rest: Option<Stored<D>>)
     }
 }
 
-/// Takes the range at a place out of the list, cuts `len` units from `base` on out of it, and puts its
-/// rests last, the low one first.
+/// Takes the range at a place out of the list, cuts `len` units from `base` on out of it, and puts
+/// its rests last, the low one first.
 pub fn carve<D: Deed>(
     free: &mut Vec<Stored<D>>,
     at: usize,
@@ -145,19 +145,23 @@ pub fn carve<D: Deed>(
     }
 }
 
-/// Cuts the first `len` units off a deed.
+/// Cuts the first `len` units off a segment's deed.
 pub fn cut_first<D: Deed>(
-    whole: Stored<D>,
+    segment: Segment<D>,
     len: u64,
-) -> Result<(Stored<D>, Option<Stored<D>>), Stored<D>>
+) -> Result<(Stored<D>, Option<Stored<D>>), Segment<D>>
     requires some { 0 < len }
-    requires to { len ≤ whole.range.len }
-    ensures piece { IfOk result (λ parts. parts.0 ≡ part whole whole.range.base len) }
-    ensures high { IfOk result (λ parts.
+    requires to { len ≤ segment.holding.range.len }
+    ensures piece { IfOk result (λ parts.
+        parts.0 ≡ part segment.holding segment.holding.range.base len) }
+    ensures high { let whole = segment.holding in IfOk result (λ parts.
         option_to_list parts.1 ≡ between whole (whole.range.base + len) (end_of whole.range)) }
-    ensures err { IfErr result (λ same. same ≡ whole) }
+    ensures err { IfErr result (λ same. same ≡ segment) }
 {
-    let range = whole.range();
+    let (arena, route, range) = (segment.arena(), segment.route(), segment.range());
     let _ = range.end();
-    cut_high(whole, range.base() + len)
+    match cut_high(Stored::new(segment.into_deed()), range.base() + len) {
+        Ok(parts) => Ok(parts),
+        Err(same) => Err(Segment::new(arena, route, same.into_deed())),
+    }
 }

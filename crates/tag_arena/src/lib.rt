@@ -1,5 +1,6 @@
-//! One arena: ranges of whole numbers, carved by a policy and freed again. `Arena` is where to begin;
-//! `specs/ArenaState.antt` says what its contracts see, and `specs/Calls.antt` what each call does.
+//! One arena: ranges of whole numbers, carved by a policy and freed again. `Arena` is where to
+//! begin; `specs/ArenaState.antt` says what its contracts see, and `specs/Calls.antt` what each
+//! call does.
 //!
 //! Its rules are those of "Magazines and Vmem" (2001), where no other source is named.
 #![tactic(auto)]

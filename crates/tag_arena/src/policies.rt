@@ -1,6 +1,7 @@
 //! How an arena chooses.
 
-/// How an arena chooses among its free ranges. That each arena has one, fixed when it is made, is our own choice.
+/// How an arena chooses among its free ranges. That each arena has one, fixed when it is made, is
+/// our own choice.
 #[derive(Clone, Copy, PartialEq, Eq, Debug)]
 pub enum Policy {
     /// From power-of-two lists: the newest range of the least list whose every member has room.

@@ -8,7 +8,8 @@ use crate::stretches::Stretch;
 use deed_core::{Deed, Range, Stored};
 use std::marker::Model;
 
-/// An imported span, with the arena that it came from. A contract sees the segment that goes back there.
+/// An imported span, with the arena that it came from. A contract sees the segment that goes back
+/// there.
 #[derive(Drop)]
 pub struct Import {
     source: u32,

@@ -27,7 +27,8 @@ impl Model for Tags {
 
     ghost view = { λ a. finmap.from_entries a.ranges.entries };
 
-    ghost invariant = { λ a. a.count ≡ finmap.len (finmap.from_entries {R = nat_cmp} a.ranges.entries) };
+    ghost invariant = { λ a.
+        a.count ≡ finmap.len (finmap.from_entries {R = nat_cmp} a.ranges.entries) };
 }
 
 impl Tags {

@@ -3,6 +3,7 @@
 use crate::{Arena, ArenaFault, ArenaReport, Policy, best_is_one, instant_is_one, next_is_one};
 use deed_core::{Deed, PlainDeed, Range, Request, Segment};
 use refusing_deed::RefusingDeed;
+use std::alloc::Global;
 use std::process::Abort;
 use std::test::Fail;
 
@@ -77,6 +78,14 @@ fn import<D: Deed>(
     match try_import(rt, arena, span, request) {
         Ok(segment) => segment,
         Err((_span, fault)) => panic!(rt; "{fault}"),
+    }
+}
+
+fn take_back<D: Deed>(rt: &impl Abort, arena: &mut Arena<D>, last: Segment<D>) -> Segment<D> {
+    match arena.free(last) {
+        Ok(Some(back)) => back,
+        Ok(None) => panic!(rt; "the imported span is whole"),
+        Err(_) => panic!(rt; "the segment was carved here"),
     }
 }
 
@@ -164,8 +173,8 @@ fn windows(rt: HostRuntime) {
     close(&rt, arena);
 }
 
-/// A greater list is taken before the exact fit, the exact fit where there is none, and a power of two uses
-/// its own list.
+/// A greater list is taken before the exact fit, the exact fit where there is none, and a power of
+/// two uses its own list.
 #[test]
 fn instant_lists(rt: HostRuntime) {
     let mut arena = Arena::new(rt.alloc(), 1, 1, Policy::Instant);
@@ -289,11 +298,7 @@ fn imported_spans_go_back(rt: HostRuntime) {
         (40, 24, 12, 4)
     );
 
-    let back = match child.free(first) {
-        Ok(Some(back)) => back,
-        Ok(None) => panic!(rt; "the imported span is whole"),
-        Err(_) => panic!(rt; "the segment was carved here"),
-    };
+    let back = take_back(&rt, &mut child, first);
     assert_eq!(rt; (back.arena(), place(&back)), (1, (0, 16)));
     close(&rt, child);
     give_back(&rt, &mut source, back);
@@ -305,8 +310,8 @@ fn imported_spans_go_back(rt: HostRuntime) {
     close(&rt, source);
 }
 
-/// A carve takes two splits. Refused at either, it leaves the arena as it was. The joined deed is refused
-/// once more for each split that went well.
+/// A carve takes two splits. Refused at either, it leaves the arena as it was. The joined deed is
+/// refused once more for each split that went well.
 #[test]
 fn a_refused_split_leaves_the_arena(rt: HostRuntime) {
     let middle = Request {
@@ -350,25 +355,32 @@ fn a_refused_import_comes_back(rt: HostRuntime) {
     );
     let first = import(&rt, &mut child, span, &four);
     assert_eq!(rt; place(&first), (0, 4));
-    let back = match child.free(first) {
-        Ok(Some(back)) => back,
-        Ok(None) => panic!(rt; "the imported span is whole"),
-        Err(_) => panic!(rt; "the segment was carved here"),
-    };
+    let back = take_back(&rt, &mut child, first);
     close(&rt, child);
     give_back(&rt, &mut source, back);
     assert_eq!(rt; take_span(&rt, &mut source).close(), range);
     close(&rt, source);
 }
 
-/// Refusals by name, and their words.
+fn arena_of_fours(alloc: Global, id: u32) -> Arena<PlainDeed> {
+    Arena::new(alloc, id, 4, Policy::Best)
+}
+
+/// An arena says what it was made with.
 #[test]
-fn refusals(rt: HostRuntime) -> Result<(), Fail> {
-    let mut arena = Arena::new(rt.alloc(), 7, 4, Policy::Best);
+fn made_with(rt: HostRuntime) {
+    let arena = arena_of_fours(rt.alloc(), 7);
     assert_eq!(rt;
         (arena.id(), arena.quantum(), arena.policy()),
         (7, 4, Policy::Best)
     );
+    close(&rt, arena);
+}
+
+/// A span that overlaps another comes back, and so does one that isn't in whole quanta.
+#[test]
+fn refused_spans(rt: HostRuntime) {
+    let mut arena = arena_of_fours(rt.alloc(), 7);
     add(&rt, &mut arena, span(&rt, 1, 0, 64));
     assert_eq!(rt;
         refuse(&rt, &mut arena, span(&rt, 2, 60, 8)),
@@ -382,6 +394,16 @@ fn refusals(rt: HostRuntime) -> Result<(), Fail> {
         refuse(&rt, &mut arena, span(&rt, 2, 64, 6)),
         ArenaFault::NotAligned
     );
+    take_span(&rt, &mut arena).close();
+    close(&rt, arena);
+}
+
+/// A request of no units is bad, and one whose alignment is below the quantum. Of others the size is
+/// rounded up.
+#[test]
+fn refused_requests(rt: HostRuntime) {
+    let mut arena = arena_of_fours(rt.alloc(), 7);
+    add(&rt, &mut arena, span(&rt, 1, 0, 64));
     assert_eq!(rt;
         fault(&rt, &mut arena, &Request::plain(0)),
         ArenaFault::BadRequest
@@ -393,20 +415,35 @@ fn refusals(rt: HostRuntime) -> Result<(), Fail> {
     assert_eq!(rt; fault(&rt, &mut arena, &odd), ArenaFault::BadRequest);
     let segment = grant(&rt, &mut arena, &Request::plain(5));
     assert_eq!(rt; place(&segment), (0, 8));
-    let mut other = Arena::new(rt.alloc(), 8, 4, Policy::Best);
+    give_back(&rt, &mut arena, segment);
+    take_span(&rt, &mut arena).close();
+    close(&rt, arena);
+}
+
+/// Another arena's segment comes back, and so does an arena that holds a deed.
+#[test]
+fn handed_back(rt: HostRuntime) {
+    let mut arena = arena_of_fours(rt.alloc(), 7);
+    add(&rt, &mut arena, span(&rt, 1, 0, 64));
+    let segment = grant(&rt, &mut arena, &Request::plain(8));
+    let mut other = arena_of_fours(rt.alloc(), 8);
     let segment = match other.free(segment) {
         Ok(_) => panic!(rt; "the segment is another arena's"),
         Err(same) => same,
     };
     close(&rt, other);
-    let arena = match arena.close() {
+    let mut arena = match arena.close() {
         Ok(()) => panic!(rt; "the arena holds deeds"),
         Err(same) => same,
     };
-    let mut arena = arena;
     give_back(&rt, &mut arena, segment);
     take_span(&rt, &mut arena).close();
     close(&rt, arena);
+}
+
+/// The words of the refusals.
+#[test]
+fn words(rt: HostRuntime) -> Result<(), Fail> {
     for (fault, word) in [
         (ArenaFault::BadRequest, "bad request"),
         (ArenaFault::NoFit, "no fit"),

@@ -56,9 +56,9 @@ invariant_of-self-in-Err g c =
     let absent = import_absent a sound t range fits.1 fits.0 n some within whole in
     let absent_here : finmap.get c.self.inside.tags c.new-first.result.range.base ≡ None = rw piece_is absent in
     let tags = undone c.self.inside.tags c.insert.new.self c.remove.new.self c.new-first.result.range.base c.new-first.result absent_here c.in-Ok-insert.ensures.ok c.remove.ensures in
-    let same = ap (λ (xs : List Tag). record a { imported = xs; free = c.reserve-2.new.self.items; allocated = c.remove.new.self }) c.reserve.ensures.items ∙ as_it_was a _ _ c.reserve-2.ensures.items tags in
+    let same = ap (λ (xs : List Tag). record a { imported = xs; free = c.reserve_free.new.free.items; allocated = c.remove.new.self }) c.reserve.ensures.items ∙ as_it_was a _ _ c.reserve_free.ensures.items tags in
     let len = ap finmap.len tags in
-    (subst IsSound (sym same) sound, omega (arith, len, c.in-Ok-reserve.ensures.ok, c.in-Some-checked_add.ensures, c.len.ensures))
+    (subst IsSound (sym same) sound, omega (arith, len, c.in-Ok-reserve_free.ensures.room))
 
 pub returns-in-Err-clause-err : goal.returns-in-Err-clause-err
 returns-in-Err-clause-err g c =
@@ -79,7 +79,7 @@ returns-in-Err-clause-err g c =
     let absent = import_absent a sound t range fits.1 fits.0 n some within whole in
     let absent_here : finmap.get c.self.inside.tags c.new-first.result.range.base ≡ None = rw piece_is absent in
     let tags = undone c.self.inside.tags c.insert.new.self c.remove.new.self c.new-first.result.range.base c.new-first.result absent_here c.in-Ok-insert.ensures.ok c.remove.ensures in
-    let same = ap (λ (xs : List Tag). record a { imported = xs; free = c.reserve-2.new.self.items; allocated = c.remove.new.self }) c.reserve.ensures.items ∙ as_it_was a _ _ c.reserve-2.ensures.items tags in
+    let same = ap (λ (xs : List Tag). record a { imported = xs; free = c.reserve_free.new.free.items; allocated = c.remove.new.self }) c.reserve.ensures.items ∙ as_it_was a _ _ c.reserve_free.ensures.items tags in
     same ∙ c.self.view_is
 
 pub invariant_of-self-2 : goal.invariant_of-self-2
@@ -99,10 +99,9 @@ invariant_of-self-2 g c =
     let whole : n % a.quantum ≡ 0 = ap (λ k. k % a.quantum) n_is ∙ rounded_multiple c.args.request.now.size a.quantum (power_some a.quantum sound.power) in
     let piece_is : c.new-first.result ≡ part t.holding t.holding.range.base n = rw (c.new-first.ensures, c.root-2.ensures, c.piece_of.ensures, c.base.ensures.value, range_is) refl in
     let absent = import_absent a sound t range fits.1 fits.0 n some within whole in
-    let stored_is : c.new.result ≡ t.holding = c.new.ensures ∙ c.into_deed.ensures in
-    let high_is : option_to_list c.in-Ok-cut_first.parts.1 ≡ between t.holding (t.holding.range.base + n) (end_of t.holding.range) = rw stored_is at c.in-Ok-cut_first.ensures.high in
-    let free : c.push_rest.new.free.items ≡ a.free ++ between t.holding (t.holding.range.base + n) (end_of t.holding.range) = c.push_rest.ensures.items ∙ ap (λ (xs : List Holding). xs ++ option_to_list c.in-Ok-cut_first.parts.1) c.reserve-2.ensures.items ∙ ap (λ (xs : List Holding). a.free ++ xs) high_is in
-    let import_new : c.new-2.result ≡ direct t.arena t.holding = rw (c.new-2.ensures, c.arena-source.ensures, c.new-whole.ensures, c.root.ensures, range_is) refl in
+    let high_is : option_to_list c.in-Ok-cut_first.parts.1 ≡ between t.holding (t.holding.range.base + n) (end_of t.holding.range) = c.in-Ok-cut_first.ensures.high in
+    let free : c.push_rest.new.free.items ≡ a.free ++ between t.holding (t.holding.range.base + n) (end_of t.holding.range) = c.push_rest.ensures.items ∙ ap (λ (xs : List Holding). xs ++ option_to_list c.in-Ok-cut_first.parts.1) c.reserve_free.ensures.items ∙ ap (λ (xs : List Holding). a.free ++ xs) high_is in
+    let import_new : c.new.result ≡ direct t.arena t.holding = rw (c.new.ensures, c.arena-source.ensures, c.new-whole.ensures, c.root.ensures, range_is) refl in
     let imported : c.push_reserved.new.self.items ≡ a.imported ++ direct t.arena t.holding ∷ [] = c.push_reserved.ensures.items ∙ ap (λ (x : Tag). c.reserve.new.self.items ++ x ∷ []) import_new ∙ ap (λ (xs : List Tag). xs ++ direct t.arena t.holding ∷ []) c.reserve.ensures.items in
     let tags : c.insert.new.self ≡ finmap.insert a.allocated t.holding.range.base (part t.holding t.holding.range.base n) = c.in-Ok-insert.ensures.ok ∙ ap (λ (h : Holding). finmap.insert c.self.inside.tags h.range.base h) piece_is in
     let base_is : c.base-2.result + n ≡ t.holding.range.base + n = ap (λ (k : ℕ). k + n) (c.base-2.ensures.value ∙ ap (λ (e : Extent). e.base) range_is) in
@@ -110,7 +109,7 @@ invariant_of-self-2 g c =
     let after = moved ∙ import_is a sound t range fits.1 fits.0 n some within whole _ _ _ imported free tags in
     let len = ap finmap.len tags ∙ len_more a.allocated t.holding.range.base (part t.holding t.holding.range.base n) absent in (
       import_sound a sound t range fits.1 fits.0 n some within whole _ after,
-      omega (arith, len, c.push_rest.ensures.len, c.push_rest.ensures.capacity, c.in-Ok-reserve.ensures.ok, c.in-Some-checked_add.ensures, c.len.ensures),
+      omega (arith, len, c.push_rest.ensures.len, c.push_rest.ensures.capacity, c.in-Ok-reserve_free.ensures.room),
     )
 
 pub returns-clause-carved : goal.returns-clause-carved
@@ -130,10 +129,9 @@ returns-clause-carved g c =
     let whole : n % a.quantum ≡ 0 = ap (λ k. k % a.quantum) n_is ∙ rounded_multiple c.args.request.now.size a.quantum (power_some a.quantum sound.power) in
     let piece_is : c.new-first.result ≡ part t.holding t.holding.range.base n = rw (c.new-first.ensures, c.root-2.ensures, c.piece_of.ensures, c.base.ensures.value, range_is) refl in
     let absent = import_absent a sound t range fits.1 fits.0 n some within whole in
-    let stored_is : c.new.result ≡ t.holding = c.new.ensures ∙ c.into_deed.ensures in
-    let high_is : option_to_list c.in-Ok-cut_first.parts.1 ≡ between t.holding (t.holding.range.base + n) (end_of t.holding.range) = rw stored_is at c.in-Ok-cut_first.ensures.high in
-    let free : c.push_rest.new.free.items ≡ a.free ++ between t.holding (t.holding.range.base + n) (end_of t.holding.range) = c.push_rest.ensures.items ∙ ap (λ (xs : List Holding). xs ++ option_to_list c.in-Ok-cut_first.parts.1) c.reserve-2.ensures.items ∙ ap (λ (xs : List Holding). a.free ++ xs) high_is in
-    let import_new : c.new-2.result ≡ direct t.arena t.holding = rw (c.new-2.ensures, c.arena-source.ensures, c.new-whole.ensures, c.root.ensures, range_is) refl in
+    let high_is : option_to_list c.in-Ok-cut_first.parts.1 ≡ between t.holding (t.holding.range.base + n) (end_of t.holding.range) = c.in-Ok-cut_first.ensures.high in
+    let free : c.push_rest.new.free.items ≡ a.free ++ between t.holding (t.holding.range.base + n) (end_of t.holding.range) = c.push_rest.ensures.items ∙ ap (λ (xs : List Holding). xs ++ option_to_list c.in-Ok-cut_first.parts.1) c.reserve_free.ensures.items ∙ ap (λ (xs : List Holding). a.free ++ xs) high_is in
+    let import_new : c.new.result ≡ direct t.arena t.holding = rw (c.new.ensures, c.arena-source.ensures, c.new-whole.ensures, c.root.ensures, range_is) refl in
     let imported : c.push_reserved.new.self.items ≡ a.imported ++ direct t.arena t.holding ∷ [] = c.push_reserved.ensures.items ∙ ap (λ (x : Tag). c.reserve.new.self.items ++ x ∷ []) import_new ∙ ap (λ (xs : List Tag). xs ++ direct t.arena t.holding ∷ []) c.reserve.ensures.items in
     let tags : c.insert.new.self ≡ finmap.insert a.allocated t.holding.range.base (part t.holding t.holding.range.base n) = c.in-Ok-insert.ensures.ok ∙ ap (λ (h : Holding). finmap.insert c.self.inside.tags h.range.base h) piece_is in
     let base_is : c.base-2.result + n ≡ t.holding.range.base + n = ap (λ (k : ℕ). k + n) (c.base-2.ensures.value ∙ ap (λ (e : Extent). e.base) range_is) in
@@ -158,17 +156,16 @@ returns-clause-gains g c =
     let whole : n % a.quantum ≡ 0 = ap (λ k. k % a.quantum) n_is ∙ rounded_multiple c.args.request.now.size a.quantum (power_some a.quantum sound.power) in
     let piece_is : c.new-first.result ≡ part t.holding t.holding.range.base n = rw (c.new-first.ensures, c.root-2.ensures, c.piece_of.ensures, c.base.ensures.value, range_is) refl in
     let absent = import_absent a sound t range fits.1 fits.0 n some within whole in
-    let stored_is : c.new.result ≡ t.holding = c.new.ensures ∙ c.into_deed.ensures in
-    let high_is : option_to_list c.in-Ok-cut_first.parts.1 ≡ between t.holding (t.holding.range.base + n) (end_of t.holding.range) = rw stored_is at c.in-Ok-cut_first.ensures.high in
-    let free : c.push_rest.new.free.items ≡ a.free ++ between t.holding (t.holding.range.base + n) (end_of t.holding.range) = c.push_rest.ensures.items ∙ ap (λ (xs : List Holding). xs ++ option_to_list c.in-Ok-cut_first.parts.1) c.reserve-2.ensures.items ∙ ap (λ (xs : List Holding). a.free ++ xs) high_is in
-    let import_new : c.new-2.result ≡ direct t.arena t.holding = rw (c.new-2.ensures, c.arena-source.ensures, c.new-whole.ensures, c.root.ensures, range_is) refl in
+    let high_is : option_to_list c.in-Ok-cut_first.parts.1 ≡ between t.holding (t.holding.range.base + n) (end_of t.holding.range) = c.in-Ok-cut_first.ensures.high in
+    let free : c.push_rest.new.free.items ≡ a.free ++ between t.holding (t.holding.range.base + n) (end_of t.holding.range) = c.push_rest.ensures.items ∙ ap (λ (xs : List Holding). xs ++ option_to_list c.in-Ok-cut_first.parts.1) c.reserve_free.ensures.items ∙ ap (λ (xs : List Holding). a.free ++ xs) high_is in
+    let import_new : c.new.result ≡ direct t.arena t.holding = rw (c.new.ensures, c.arena-source.ensures, c.new-whole.ensures, c.root.ensures, range_is) refl in
     let imported : c.push_reserved.new.self.items ≡ a.imported ++ direct t.arena t.holding ∷ [] = c.push_reserved.ensures.items ∙ ap (λ (x : Tag). c.reserve.new.self.items ++ x ∷ []) import_new ∙ ap (λ (xs : List Tag). xs ++ direct t.arena t.holding ∷ []) c.reserve.ensures.items in
     let tags : c.insert.new.self ≡ finmap.insert a.allocated t.holding.range.base (part t.holding t.holding.range.base n) = c.in-Ok-insert.ensures.ok ∙ ap (λ (h : Holding). finmap.insert c.self.inside.tags h.range.base h) piece_is in
     let base_is : c.base-2.result + n ≡ t.holding.range.base + n = ap (λ (k : ℕ). k + n) (c.base-2.ensures.value ∙ ap (λ (e : Extent). e.base) range_is) in
     let moved = ap (λ (k : ℕ). record a { imported = c.push_reserved.new.self.items; free = c.push_rest.new.free.items; allocated = c.insert.new.self; rover = k }) base_is in
     let after = moved ∙ import_is a sound t range fits.1 fits.0 n some within whole _ _ _ imported free tags in
-    let piece : c.in-Ok-cut_first.parts.0 ≡ part t.holding t.holding.range.base n = rw stored_is at c.in-Ok-cut_first.ensures.piece in
-    let segment : c.new-3.result.holding ≡ part t.holding t.holding.range.base n = ap (λ (x : Tag). x.holding) c.new-3.ensures ∙ c.into_deed-2.ensures ∙ piece in
+    let piece : c.in-Ok-cut_first.parts.0 ≡ part t.holding t.holding.range.base n = c.in-Ok-cut_first.ensures.piece in
+    let segment : c.new-2.result.holding ≡ part t.holding t.holding.range.base n = ap (λ (x : Tag). x.holding) c.new-2.ensures ∙ c.into_deed.ensures ∙ piece in
     rw segment (subst (λ (s : ArenaState). Gains (ranges_of s.allocated) (ranges_of c.insert.new.self) (part t.holding t.holding.range.base n)) c.self.view_is (import_gains a sound t range fits.1 fits.0 n some within whole _ after))
 
 pub returns-clause-covering : goal.returns-clause-covering
@@ -188,15 +185,14 @@ returns-clause-covering g c =
     let whole : n % a.quantum ≡ 0 = ap (λ k. k % a.quantum) n_is ∙ rounded_multiple c.args.request.now.size a.quantum (power_some a.quantum sound.power) in
     let piece_is : c.new-first.result ≡ part t.holding t.holding.range.base n = rw (c.new-first.ensures, c.root-2.ensures, c.piece_of.ensures, c.base.ensures.value, range_is) refl in
     let absent = import_absent a sound t range fits.1 fits.0 n some within whole in
-    let stored_is : c.new.result ≡ t.holding = c.new.ensures ∙ c.into_deed.ensures in
-    let high_is : option_to_list c.in-Ok-cut_first.parts.1 ≡ between t.holding (t.holding.range.base + n) (end_of t.holding.range) = rw stored_is at c.in-Ok-cut_first.ensures.high in
-    let free : c.push_rest.new.free.items ≡ a.free ++ between t.holding (t.holding.range.base + n) (end_of t.holding.range) = c.push_rest.ensures.items ∙ ap (λ (xs : List Holding). xs ++ option_to_list c.in-Ok-cut_first.parts.1) c.reserve-2.ensures.items ∙ ap (λ (xs : List Holding). a.free ++ xs) high_is in
-    let import_new : c.new-2.result ≡ direct t.arena t.holding = rw (c.new-2.ensures, c.arena-source.ensures, c.new-whole.ensures, c.root.ensures, range_is) refl in
+    let high_is : option_to_list c.in-Ok-cut_first.parts.1 ≡ between t.holding (t.holding.range.base + n) (end_of t.holding.range) = c.in-Ok-cut_first.ensures.high in
+    let free : c.push_rest.new.free.items ≡ a.free ++ between t.holding (t.holding.range.base + n) (end_of t.holding.range) = c.push_rest.ensures.items ∙ ap (λ (xs : List Holding). xs ++ option_to_list c.in-Ok-cut_first.parts.1) c.reserve_free.ensures.items ∙ ap (λ (xs : List Holding). a.free ++ xs) high_is in
+    let import_new : c.new.result ≡ direct t.arena t.holding = rw (c.new.ensures, c.arena-source.ensures, c.new-whole.ensures, c.root.ensures, range_is) refl in
     let imported : c.push_reserved.new.self.items ≡ a.imported ++ direct t.arena t.holding ∷ [] = c.push_reserved.ensures.items ∙ ap (λ (x : Tag). c.reserve.new.self.items ++ x ∷ []) import_new ∙ ap (λ (xs : List Tag). xs ++ direct t.arena t.holding ∷ []) c.reserve.ensures.items in
     let tags : c.insert.new.self ≡ finmap.insert a.allocated t.holding.range.base (part t.holding t.holding.range.base n) = c.in-Ok-insert.ensures.ok ∙ ap (λ (h : Holding). finmap.insert c.self.inside.tags h.range.base h) piece_is in
     let base_is : c.base-2.result + n ≡ t.holding.range.base + n = ap (λ (k : ℕ). k + n) (c.base-2.ensures.value ∙ ap (λ (e : Extent). e.base) range_is) in
     let moved = ap (λ (k : ℕ). record a { imported = c.push_reserved.new.self.items; free = c.push_rest.new.free.items; allocated = c.insert.new.self; rover = k }) base_is in
     let after = moved ∙ import_is a sound t range fits.1 fits.0 n some within whole _ _ _ imported free tags in
-    let piece : c.in-Ok-cut_first.parts.0 ≡ part t.holding t.holding.range.base n = rw stored_is at c.in-Ok-cut_first.ensures.piece in
-    let segment : c.new-3.result.holding ≡ part t.holding t.holding.range.base n = ap (λ (x : Tag). x.holding) c.new-3.ensures ∙ c.into_deed-2.ensures ∙ piece in
+    let piece : c.in-Ok-cut_first.parts.0 ≡ part t.holding t.holding.range.base n = c.in-Ok-cut_first.ensures.piece in
+    let segment : c.new-2.result.holding ≡ part t.holding t.holding.range.base n = ap (λ (x : Tag). x.holding) c.new-2.ensures ∙ c.into_deed.ensures ∙ piece in
     rw segment (subst (λ (s : ArenaState). (u : ℕ) → covering_held u c.push_rest.new.free.items + covers u (part t.holding t.holding.range.base n).range ≡ covering_held u s.free + covers u t.holding.range) c.self.view_is (import_covers a sound t range fits.1 fits.0 n some within whole _ after))

@@ -18,14 +18,14 @@ use Rattle.tag_arena.proofs.arenas.Arena.xalloc.Goals as goal
 pub chosen-requires-clause-below : goal.chosen-requires-clause-below
 chosen-requires-clause-below g c = subst (λ (xs : List Holding). All (λ r. IsRange r.range) xs) (sym c.deref.ensures.value) (free_ranges _ c.self.invariant.0)
 
-pub returns-in_err-reserve-clause-no_fit : goal.returns-in_err-reserve-clause-no_fit
-returns-in_err-reserve-clause-no_fit g c =
+pub returns-in_err-reserve_free-clause-no_fit : goal.returns-in_err-reserve_free-clause-no_fit
+returns-in_err-reserve_free-clause-no_fit g c =
     let a : ArenaState = record { id = c.self.inside.id; quantum = c.self.inside.quantum; policy = c.self.inside.policy; owned = c.self.inside.owned.items; imported = c.self.inside.imported.items; free = c.self.inside.free.items; allocated = c.self.inside.tags; rover = c.self.inside.rover } in
     let chosen : IsChosen c.args.self.now c.args.request.now (Some c.in-Some.found.base) = chosen_by a _ _ _ _ c.deref.ensures.value c.self.view_is c.in-Some.ensures.choice in
     (λ e. absurd (memory_not_fit c.from_residual.result c.from_residual.ensures.1 e), λ none. absurd (never_both c.args.self.now c.args.request.now c.in-Some.found.base none.1 chosen))
 
-pub returns-in_err-reserve-clause-refused : goal.returns-in_err-reserve-clause-refused
-returns-in_err-reserve-clause-refused g c =
+pub returns-in_err-reserve_free-clause-refused : goal.returns-in_err-reserve_free-clause-refused
+returns-in_err-reserve_free-clause-refused g c =
     let a : ArenaState = record { id = c.self.inside.id; quantum = c.self.inside.quantum; policy = c.self.inside.policy; owned = c.self.inside.owned.items; imported = c.self.inside.imported.items; free = c.self.inside.free.items; allocated = c.self.inside.tags; rover = c.self.inside.rover } in
     let chosen : IsChosen c.args.self.now c.args.request.now (Some c.in-Some.found.base) = chosen_by a _ _ _ _ c.deref.ensures.value c.self.view_is c.in-Some.ensures.choice in
     let good : IsGood c.self.inside.quantum c.args.request.now = c.is_good.ensures.0 c.if-not-is_good.false in
@@ -79,10 +79,10 @@ invariant_of-self-in_default-carve g c =
     let absent = carve_absent a c.self.invariant.0 f.at f.range (part f.range f.base n) placed.0 placed.1 held some grid in
     let absent_here : finmap.get c.self.inside.tags c.new-piece.result.range.base ≡ None = rw piece_is absent in
     let tags = undone c.self.inside.tags c.insert.new.self c.remove.new.self c.new-piece.result.range.base c.new-piece.result absent_here c.in_ok-insert.ensures.ok c.remove.ensures in
-    let free : c.carve.new.free.items ≡ c.self.inside.free.items = c.in_default-carve.ensures.err ∙ c.in_ok-reserve.ensures.items in
+    let free : c.carve.new.free.items ≡ c.self.inside.free.items = c.in_default-carve.ensures.err ∙ c.reserve_free.ensures.items in
     let len = ap finmap.len tags in (
       subst IsSound (sym (as_it_was a _ _ free tags)) c.self.invariant.0,
-      omega (arith, len, c.carve.ensures.len, c.carve.ensures.capacity, c.in_ok-reserve.ensures.ok, c.in-Some-checked_add.ensures, c.len.ensures),
+      omega (arith, len, c.carve.ensures.len, c.carve.ensures.capacity, c.in_ok-reserve_free.ensures.room),
     )
 
 pub returns-in_default-carve-clause-no_fit : goal.returns-in_default-carve-clause-no_fit
@@ -114,7 +114,7 @@ returns-in_default-carve-clause-err g c =
     let absent = carve_absent a c.self.invariant.0 f.at f.range (part f.range f.base n) placed.0 placed.1 held some grid in
     let absent_here : finmap.get c.self.inside.tags c.new-piece.result.range.base ≡ None = rw piece_is absent in
     let tags = undone c.self.inside.tags c.insert.new.self c.remove.new.self c.new-piece.result.range.base c.new-piece.result absent_here c.in_ok-insert.ensures.ok c.remove.ensures in
-    let free : c.carve.new.free.items ≡ c.self.inside.free.items = c.in_default-carve.ensures.err ∙ c.in_ok-reserve.ensures.items in
+    let free : c.carve.new.free.items ≡ c.self.inside.free.items = c.in_default-carve.ensures.err ∙ c.reserve_free.ensures.items in
     as_it_was a _ _ free tags ∙ c.self.view_is
 
 pub invariant_of-self-2 : goal.invariant_of-self-2
@@ -131,12 +131,12 @@ invariant_of-self-2 g c =
     let piece_is : c.new-piece.result ≡ part f.range f.base n = rw (c.new-piece.ensures, c.root.ensures, c.piece_of.ensures) refl in
     let absent = carve_absent a c.self.invariant.0 f.at f.range (part f.range f.base n) placed.0 placed.1 held some grid in
     let deed_is : c.in-Ok.deed ≡ part f.range f.base n = c.in-Ok.ensures.piece in
-    let free : c.carve.new.free.items ≡ remove c.self.inside.free.items f.at ++ rests f.range (part f.range f.base n) = rw deed_is at (c.in-Ok.ensures.items ∙ ap (λ (xs : List Holding). remove xs f.at ++ rests f.range c.in-Ok.deed) c.in_ok-reserve.ensures.items) in
+    let free : c.carve.new.free.items ≡ remove c.self.inside.free.items f.at ++ rests f.range (part f.range f.base n) = rw deed_is at (c.in-Ok.ensures.items ∙ ap (λ (xs : List Holding). remove xs f.at ++ rests f.range c.in-Ok.deed) c.reserve_free.ensures.items) in
     let tags : c.insert.new.self ≡ finmap.insert c.self.inside.tags f.base (part f.range f.base n) = c.in_ok-insert.ensures.ok ∙ ap (λ (h : Holding). finmap.insert c.self.inside.tags h.range.base h) piece_is in
     let after = carve_is a c.self.invariant.0 f.at f.range (part f.range f.base n) placed.0 placed.1 held some grid _ _ free tags in
     let len = ap finmap.len tags ∙ len_more c.self.inside.tags f.base (part f.range f.base n) absent in (
       carve_sound a c.self.invariant.0 f.at f.range (part f.range f.base n) placed.0 placed.1 held some grid _ after,
-      omega (arith, len, c.carve.ensures.len, c.carve.ensures.capacity, c.in_ok-reserve.ensures.ok, c.in-Some-checked_add.ensures, c.len.ensures),
+      omega (arith, len, c.carve.ensures.len, c.carve.ensures.capacity, c.in_ok-reserve_free.ensures.room),
     )
 
 pub returns-clause-no_fit : goal.returns-clause-no_fit
@@ -159,7 +159,7 @@ returns-clause-carved g c =
     let piece_is : c.new-piece.result ≡ part f.range f.base n = rw (c.new-piece.ensures, c.root.ensures, c.piece_of.ensures) refl in
     let absent = carve_absent a c.self.invariant.0 f.at f.range (part f.range f.base n) placed.0 placed.1 held some grid in
     let deed_is : c.in-Ok.deed ≡ part f.range f.base n = c.in-Ok.ensures.piece in
-    let free : c.carve.new.free.items ≡ remove c.self.inside.free.items f.at ++ rests f.range (part f.range f.base n) = rw deed_is at (c.in-Ok.ensures.items ∙ ap (λ (xs : List Holding). remove xs f.at ++ rests f.range c.in-Ok.deed) c.in_ok-reserve.ensures.items) in
+    let free : c.carve.new.free.items ≡ remove c.self.inside.free.items f.at ++ rests f.range (part f.range f.base n) = rw deed_is at (c.in-Ok.ensures.items ∙ ap (λ (xs : List Holding). remove xs f.at ++ rests f.range c.in-Ok.deed) c.reserve_free.ensures.items) in
     let tags : c.insert.new.self ≡ finmap.insert c.self.inside.tags f.base (part f.range f.base n) = c.in_ok-insert.ensures.ok ∙ ap (λ (h : Holding). finmap.insert c.self.inside.tags h.range.base h) piece_is in
     let after = carve_is a c.self.invariant.0 f.at f.range (part f.range f.base n) placed.0 placed.1 held some grid _ _ free tags in
     let segment : c.new.result.holding ≡ part f.range f.base n = ap (λ (t : Tag). t.holding) c.new.ensures ∙ c.into_deed.ensures ∙ deed_is in
@@ -179,7 +179,7 @@ returns-clause-gains g c =
     let piece_is : c.new-piece.result ≡ part f.range f.base n = rw (c.new-piece.ensures, c.root.ensures, c.piece_of.ensures) refl in
     let absent = carve_absent a c.self.invariant.0 f.at f.range (part f.range f.base n) placed.0 placed.1 held some grid in
     let deed_is : c.in-Ok.deed ≡ part f.range f.base n = c.in-Ok.ensures.piece in
-    let free : c.carve.new.free.items ≡ remove c.self.inside.free.items f.at ++ rests f.range (part f.range f.base n) = rw deed_is at (c.in-Ok.ensures.items ∙ ap (λ (xs : List Holding). remove xs f.at ++ rests f.range c.in-Ok.deed) c.in_ok-reserve.ensures.items) in
+    let free : c.carve.new.free.items ≡ remove c.self.inside.free.items f.at ++ rests f.range (part f.range f.base n) = rw deed_is at (c.in-Ok.ensures.items ∙ ap (λ (xs : List Holding). remove xs f.at ++ rests f.range c.in-Ok.deed) c.reserve_free.ensures.items) in
     let tags : c.insert.new.self ≡ finmap.insert c.self.inside.tags f.base (part f.range f.base n) = c.in_ok-insert.ensures.ok ∙ ap (λ (h : Holding). finmap.insert c.self.inside.tags h.range.base h) piece_is in
     let after = carve_is a c.self.invariant.0 f.at f.range (part f.range f.base n) placed.0 placed.1 held some grid _ _ free tags in
     let segment : c.new.result.holding ≡ part f.range f.base n = ap (λ (t : Tag). t.holding) c.new.ensures ∙ c.into_deed.ensures ∙ deed_is in
@@ -199,7 +199,7 @@ returns-clause-covering g c =
     let piece_is : c.new-piece.result ≡ part f.range f.base n = rw (c.new-piece.ensures, c.root.ensures, c.piece_of.ensures) refl in
     let absent = carve_absent a c.self.invariant.0 f.at f.range (part f.range f.base n) placed.0 placed.1 held some grid in
     let deed_is : c.in-Ok.deed ≡ part f.range f.base n = c.in-Ok.ensures.piece in
-    let free : c.carve.new.free.items ≡ remove c.self.inside.free.items f.at ++ rests f.range (part f.range f.base n) = rw deed_is at (c.in-Ok.ensures.items ∙ ap (λ (xs : List Holding). remove xs f.at ++ rests f.range c.in-Ok.deed) c.in_ok-reserve.ensures.items) in
+    let free : c.carve.new.free.items ≡ remove c.self.inside.free.items f.at ++ rests f.range (part f.range f.base n) = rw deed_is at (c.in-Ok.ensures.items ∙ ap (λ (xs : List Holding). remove xs f.at ++ rests f.range c.in-Ok.deed) c.reserve_free.ensures.items) in
     let tags : c.insert.new.self ≡ finmap.insert c.self.inside.tags f.base (part f.range f.base n) = c.in_ok-insert.ensures.ok ∙ ap (λ (h : Holding). finmap.insert c.self.inside.tags h.range.base h) piece_is in
     let after = carve_is a c.self.invariant.0 f.at f.range (part f.range f.base n) placed.0 placed.1 held some grid _ _ free tags in
     let segment : c.new.result.holding ≡ part f.range f.base n = ap (λ (t : Tag). t.holding) c.new.ensures ∙ c.into_deed.ensures ∙ deed_is in
