@@ -61,7 +61,7 @@ map-push f (x ∷ xs) y = ap (λ ys. f x ∷ ys) (map-push f xs y)
 abbrev fresh_with : NewArena → Holding → List Holding → ArenaPicture
 fresh_with n h allocated = record { name = n.name; quantum = n.quantum; policy = n.policy; spans = h ∷ []; free = h ∷ []; allocated = allocated }
 
-abbrev held_by : ℕ → Extent → Holding
+abbrev pub held_by : ℕ → Extent → Holding
 held_by root range = record { root = root; range = range }
 
 pub added_arena : (spaces items : List Space) (id : ℕ) (n : NewArena) (range : Extent) (s : Space) → CanAdd (pictures spaces) n → range ≡ n.range → items ≡ spaces ++ s ∷ [] → id ≡ length spaces → s ≡ space_of id n (held_by (root_of id 0) range)

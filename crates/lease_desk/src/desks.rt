@@ -105,7 +105,8 @@ impl Desk {
     /// effect, since room for a reply is made before the line is served.
     pub fn answer(&mut self, line: &[u8], out: &mut Vec<u8>) -> Result<(), AllocError>
         ensures ok { OnOk result ((reply : List ℕ) × (out.new.items ≡ out.old.items ++ reply) × LeaseStep self.old line.now reply self.new) }
-        ensures err { OnErr result ((out.new.items ≡ out.old.items) × (self.new ≡ self.old)) }
+        ensures err { OnErr result (out.new.items ≡ out.old.items) }
+        ensures refused { OnErr result (self.new ≡ self.old) }
     {
         out.reserve(LONGEST_LINE + 1)?;
         match Line::read(line) {

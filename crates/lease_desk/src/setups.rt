@@ -74,15 +74,19 @@ fn root_number(place: u32, spans: u32) -> u32
     place * SPANS + spans
 }
 
-/// An arena of one span.
-fn new_space(alloc: Global, place: u32, root: &Root, range: Range) -> Result<Space, SetupFault>
-    requires power { IsPowerOfTwo root.now.quantum }
-    requires place { place < 32 }
-    ensures made { IfOk result (λ s. s ≡ space_of place (asked root.now) (record { root = root_of place 0; range = range })) }
+/// An arena of one span, whose deed is of the root of this number.
+fn new_space(
+    alloc: Global,
+    id: u32,
+    root: &Root,
+    range: Range,
+    number: u32,
+) -> Result<Space, SetupFault>
+    requires { IsPowerOfTwo root.now.quantum }
+    ensures made { IfOk result (λ s. s ≡ space_of id (asked root.now) (record { root = number; range = range })) }
     ensures fault { IfErr result (λ fault. fault ≡ SetupFault.NoMemory) }
 {
-    let number = root_number(place, 0);
-    let mut arena = Arena::new(alloc, place, root.quantum, root.policy);
+    let mut arena = Arena::new(alloc, id, root.quantum, root.policy);
     match arena.add_span(PlainDeed::new(number, range)) {
         Ok(()) => {}
         Err((deed, _)) => {
@@ -118,7 +122,8 @@ pub(crate) fn add_root(
         return Err(SetupFault::NoMemory);
     }
     let id = spaces.len() as u32;
-    match new_space(alloc, id, root, range) {
+    let number = root_number(id, 0);
+    match new_space(alloc, id, root, range, number) {
         Ok(space) => {
             spaces.push_reserved(space);
             Ok(())

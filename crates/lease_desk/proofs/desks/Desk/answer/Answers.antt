@@ -1,4 +1,4 @@
-use Rattle.std.proofs.Common.{◌≡◌, ◌∙◌, refl, ap, subst, List, ◌++◌, ℕ, arith}
+use Rattle.std.proofs.Common.{◌≡◌, ◌∙◌, ap, subst, List, ◌++◌, ℕ}
 use Rattle.lease_proto.specs.Frames.{ended}
 use Rattle.lease_proto.specs.Replies.{reply_text}
 use Rattle.lease_desk.specs.Picture.{IsOrderly}
@@ -18,7 +18,10 @@ returns-in-Ok-clause-ok c = on_ok c.write.result (c.write.new.out.items ≡ c.re
     c.write.ensures.ok
 
 pub returns-in-Ok-clause-err : goal.returns-in-Ok-clause-err
-returns-in-Ok-clause-err c = never_err c.write.result _ (c.write.ensures.succeeds (let room = c.in_ok-reserve.ensures.ok in omega (arith, room)))
+returns-in-Ok-clause-err c = never_err c.write.result (c.write.new.out.items ≡ c.args.out.now.items) (c.write.ensures.succeeds c.in_ok-reserve.ensures.ok)
+
+pub returns-in-Ok-clause-refused : goal.returns-in-Ok-clause-refused
+returns-in-Ok-clause-refused c = never_err c.write.result (c.serve.new.self ≡ c.args.self.now) (c.write.ensures.succeeds c.in_ok-reserve.ensures.ok)
 
 pub returns-in-Err-clause-ok : goal.returns-in-Err-clause-ok
 returns-in-Err-clause-ok c =
@@ -28,5 +31,5 @@ returns-in-Err-clause-ok c =
     (λ is. (is.0, is.1 ∙ ap (λ l. l ++ is.0) c.reserve.ensures.items, refused_step c.args.self.now c.args.line.now c.in-Err.fault is.0 c.in-Err.ensures same is.2)) c.refuse.ensures.ok
 
 pub returns-in-Err-clause-err : goal.returns-in-Err-clause-err
-returns-in-Err-clause-err c = on_err c.refuse.result (c.refuse.new.out.items ≡ c.reserve.new.self.items) ((c.refuse.new.out.items ≡ c.args.out.now.items) × (c.args.self.now ≡ c.args.self.now))
-    (λ is. (is ∙ c.reserve.ensures.items, refl)) c.refuse.ensures.err
+returns-in-Err-clause-err c = on_err c.refuse.result (c.refuse.new.out.items ≡ c.reserve.new.self.items) (c.refuse.new.out.items ≡ c.args.out.now.items)
+    (λ is. is ∙ c.reserve.ensures.items) c.refuse.ensures.err
