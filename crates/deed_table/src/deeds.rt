@@ -13,11 +13,11 @@ use std::alloc::Global;
 use std::marker::{Brand, Model, PhantomData};
 use std::sync::Arc;
 
-/// A deed of the table that `N` names, which may cross threads. It is never copied or dropped: it ends by `join` or
-/// by `close`. Contracts see it as its root and its range.
+/// A deed of the table that `N` names, which may cross threads. It is never copied or dropped: it
+/// ends by `join` or by `close`. Contracts see it as its root and its range.
 ///
-/// A split is refused where the table can't be held once more. Holding it takes no memory of today's `Arc`, so
-/// that arm is proved and has never run.
+/// A split is refused where the table can't be held once more. Holding it takes no memory of
+/// today's `Arc`, so that arm is proved and has never run.
 pub struct SeatDeed<N: Name> {
     pub(crate) root: u32,
     pub(crate) range: Range,

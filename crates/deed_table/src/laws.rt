@@ -1,5 +1,5 @@
-//! What the rule of the table means, between any two steps. The functions do nothing: their contracts are the
-//! laws.
+//! What the rule of the table means, between any two steps. The functions do nothing: their
+//! contracts are the laws.
 ghost use Rattle.deed_table.specs.Rule.{EachUnitOnce, OneSeatEach, LeftHasNoRange, SpentIsEmpty};
 ghost use Rattle.deed_table.specs.Kinds.{RunsKeepRule, OpenedStaysCovered};
 ghost use Rattle.deed_table.specs.Seated.{NoTwoOverlap};
@@ -9,7 +9,8 @@ pub fn each_unit_once()
     ensures { EachUnitOnce }
 {}
 
-/// Two deeds of one root, at any two seats, do not overlap. A `SeatDeed` keeps that its seat is such a deed's.
+/// Two deeds of one root, at any two seats, do not overlap. A `SeatDeed` keeps that its seat is
+/// such a deed's.
 pub fn no_two_overlap()
     ensures { NoTwoOverlap }
 {}

@@ -1,14 +1,17 @@
 //! Deeds for running threads: no two deeds of one root overlap, whatever threads run.
 //!
-//! A deed is a seat of one table with one word, whose value carries nothing. What a seat knows, its view, is plain
-//! data that exists in the proofs alone: ranges with root numbers, the roots that it opened, and the root numbers
-//! left to it. The table's rule is over all views: each unit of an opened root lies in one range of one view.
+//! A deed is a seat of one table with one word, whose value carries nothing. What a seat knows, its
+//! view, is plain data that exists in the proofs alone: ranges with root numbers, the roots that it
+//! opened, and the root numbers left to it. The table's rule is over all views: each unit of an
+//! opened root lies in one range of one view.
 //!
-//! A caller makes a `Ground` and hands it to a function of its own over `N: Name`, which it calls with `Brand`, so that
-//! `N` stands for that table. There `Ground::start` gives the `Opener` of all numbers, `Opener::open_root` a root
-//! with the deed of the whole, and `close` ends the root. `apart` shows two deeds not to overlap.
+//! A caller makes a `Ground` and hands it to a function of its own over `N: Name`, which it calls
+//! with `Brand`, so that `N` stands for that table. There `Ground::start` gives the `Opener` of all
+//! numbers, `Opener::open_root` a root with the deed of the whole, and `close` ends the root.
+//! `apart` shows two deeds not to overlap.
 //!
-//! Begin with `specs/Rule.antt`, the rule, `specs/Kinds.antt`, the kinds of step, and `laws`, what they mean.
+//! Begin with `specs/Rule.antt`, the rule, `specs/Kinds.antt`, the kinds of step, and `laws`, what
+//! they mean.
 #![tactic(auto)]
 
 mod choices;

@@ -63,8 +63,8 @@ impl Ground {
     }
 }
 
-/// The right to open roots. Contracts see it as the root numbers that are left to it. It may be let go, and its
-/// numbers are then never used.
+/// The right to open roots. Contracts see it as the root numbers that are left to it. It may be let
+/// go, and its numbers are then never used.
 #[derive(Drop)]
 pub struct Opener<N: Name> {
     first: u64,
@@ -92,11 +92,13 @@ impl<N: Name> Opener<N> {
         self.left
     }
 
-    /// Gives the first `n` numbers away. It is refused only for want of memory, before any number moves.
+    /// Gives the first `n` numbers away. It is refused only for want of memory, before any number
+    /// moves.
     pub fn share(&mut self, n: u64) -> Result<Opener<N>, AllocError>
         requires { n ≤ self.old.left }
         ensures given { IfOk result (λ other. other ≡ record { first = self.old.first; left = n }) }
-        ensures kept { OnOk result (self.new ≡ record { first = self.old.first + n; left = self.old.left - n }) }
+        ensures kept { OnOk result
+            (self.new ≡ record { first = self.old.first + n; left = self.old.left - n }) }
         ensures err { OnErr result (self.new ≡ self.old) }
     {
         let again = Arc::try_clone(&self.table)?;
@@ -113,13 +115,14 @@ impl<N: Name> Opener<N> {
         })
     }
 
-    /// Opens the next number as a root of this range, and gives the deed of the whole. It is refused only for want of
-    /// memory, before any number is used.
+    /// Opens the next number as a root of this range, and gives the deed of the whole. It is
+    /// refused only for want of memory, before any number is used.
     pub fn open_root(&mut self, range: Range) -> Result<(Root<N>, SeatDeed<N>), AllocError>
         requires { 0 < self.old.left }
         ensures root { IfOk result (λ made. made.0 ≡ record { root = self.old.first; range = range }) }
         ensures whole { IfOk result (λ made. made.1 ≡ made.0) }
-        ensures kept { OnOk result (self.new ≡ record { first = self.old.first + 1; left = self.old.left - 1 }) }
+        ensures kept { OnOk result
+            (self.new ≡ record { first = self.old.first + 1; left = self.old.left - 1 }) }
         ensures err { OnErr result (self.new ≡ self.old) }
     {
         let Opener {

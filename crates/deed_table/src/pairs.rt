@@ -17,8 +17,8 @@ use std::alloc::Global;
 use std::marker::{Model, PhantomData};
 use std::sync::Arc;
 
-/// Two deeds of one root that are still joined, since there was no memory to part them. It is never dropped: it ends
-/// by `part`. Contracts see it as the two deeds.
+/// Two deeds of one root that are still joined, since there was no memory to part them. It is never
+/// dropped: it ends by `part`. Contracts see it as the two deeds.
 pub struct Pair<N: Name> {
     root: u32,
     first: Range,
@@ -31,12 +31,16 @@ pub struct Pair<N: Name> {
 impl<N: Name> Model for Pair<N> {
     ghost Value = { Holding × Holding };
 
-    ghost view = { λ p. (record { root = p.root; range = p.first }, record { root = p.root; range = p.second }) };
+    ghost view = { λ p. (
+      record { root = p.root; range = p.first },
+      record { root = p.root; range = p.second },
+    ) };
 
     ghost invariant = { λ p. AreAt N.table p.seat.table_id (arc_value p.table).shared.table_id
         × IsRange p.first
         × IsRange p.second
-        × SeatsTwo (record { root = p.root; range = p.first }) (record { root = p.root; range = p.second }) p.seat.me };
+        × SeatsTwo (record { root = p.root; range = p.first })
+        (record { root = p.root; range = p.second }) p.seat.me };
 }
 
 impl<N: Name> Pair<N> {
@@ -133,8 +137,8 @@ impl<N: Name> Pair<N> {
     }
 }
 
-/// Shows that two deeds of one root do not overlap: it joins them, looks, and parts them again. At `Err` they are
-/// still joined.
+/// Shows that two deeds of one root do not overlap: it joins them, looks, and parts them again. At
+/// `Err` they are still joined.
 pub fn apart<N: Name>(
     first: SeatDeed<N>,
     second: SeatDeed<N>,

@@ -40,8 +40,8 @@ impl<N: Name> Root<N> {
     }
 }
 
-/// Ends a root by the deed of the whole. At `Err` the deed is not that, and both come back. Its number is never
-/// opened again.
+/// Ends a root by the deed of the whole. At `Err` the deed is not that, and both come back. Its
+/// number is never opened again.
 pub fn close<N: Name>(root: Root<N>, deed: SeatDeed<N>) -> Result<Range, (Root<N>, SeatDeed<N>)>
     ensures whole { IsOk result ↔ (deed ≡ root) }
     ensures range { IfOk result (λ range. range ≡ root.range) }

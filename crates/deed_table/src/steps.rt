@@ -1,10 +1,12 @@
-//! The steps on the word, each with what it does to the seats that take part. A number or a range that a step is
-//! told of is for its contract alone, which ties it to the type that the step is taken with.
+//! The steps on the word, each with what it does to the seats that take part. A number or a range
+//! that a step is told of is for its contract alone, which ties it to the type that the step is
+//! taken with.
 ghost use Rattle.std.specs.Prelude.{◌≡◌, ◌≤◌, []};
 ghost use Rattle.deed_table.specs.Name.{SitsAt};
 ghost use Rattle.deed_table.specs.Piece.{CutsFirst, CoverOnce};
 ghost use Rattle.deed_table.specs.View.{AreJoinable, NoneLeft, low_part, high_part, merged, beside};
-ghost use Rattle.deed_table.specs.View.{first_part, other_part, numbers_below, numbers_after, opened_at};
+ghost use Rattle.deed_table.specs.View.{first_part, other_part, numbers_below, numbers_after};
+ghost use Rattle.deed_table.specs.View.{opened_at};
 
 use crate::choices::{Chosen, Placed};
 use crate::rules::{Beside, CutAt, Look, Merge, OnceEach, Open, Part, Share};

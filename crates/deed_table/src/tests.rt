@@ -2,10 +2,11 @@ ghost use Rattle.std.specs.Prelude.{◌≡◌, ◌<◌};
 ghost use Rattle.deed_core.specs.Holding.{GoesOn};
 
 use super::*;
-use deed_core::{Deed, Range, Refused, split_and_join};
+use deed_core::{Deed, Range, Refused};
 use std::alloc::{AllocError, Global};
 use std::marker::Brand;
 use std::process::Abort;
+use std::sync::atomic::{AtomicU64, Ordering};
 use std::test::*;
 use std::thread;
 use std::thread::Threads;
@@ -15,7 +16,8 @@ fn deeds(rt: HostRuntime) -> Result<(), Fail> {
     cut_and_closed::<Brand, _>(&rt, Ground::new(rt.alloc())?)
 }
 
-// A root is opened, its deed is cut, the parts are shown apart and made whole, and the root is closed.
+// A root is opened, its deed is cut, the parts are shown apart and made whole, and the root is
+// closed.
 fn cut_and_closed<N: Name, R: Abort>(rt: &R, ground: Ground) -> Result<(), Fail>
     requires { ground ≡ N.table }
 {
@@ -121,7 +123,8 @@ fn threads(rt: HostRuntime) -> Result<(), Fail> {
     two_threads::<Brand, _>(&rt, Ground::new(rt.alloc())?)
 }
 
-// The parts of a root go to two threads, which cut them and make them whole at the same time.
+// The parts of a root go to two threads, which cut them and make them whole in step: each joins its
+// parts only once the other has cut its own.
 fn two_threads<N: Name + Send + Sync, R: Abort + Threads + Sync>(
     rt: &R,
     ground: Ground,
@@ -133,7 +136,13 @@ fn two_threads<N: Name + Send + Sync, R: Abort + Threads + Sync>(
     let (low, high) = cut(rt, deed, 8);
     let (mut low, mut high) = (Some(low), Some(high));
     let (first, second) = (&mut low, &mut high);
-    let (one, other) = thread::join(rt, move || recut(rt, first), move || recut(rt, second));
+    let arrivals = AtomicU64::new(0);
+    let met = &arrivals;
+    let (one, other) = thread::join(
+        rt,
+        move || recut(rt, first, met),
+        move || recut(rt, second, met),
+    );
     ended(rt, low);
     ended(rt, high);
     let (low, high) = (one, other);
@@ -144,18 +153,35 @@ fn two_threads<N: Name + Send + Sync, R: Abort + Threads + Sync>(
     Ok(())
 }
 
-// Takes the deed, cuts it at each of its units in turn, and makes it whole again each time.
-fn recut<D: Deed, R: Abort>(rt: &R, slot: &mut Option<D>) -> D {
+// Takes the deed, cuts it at each of its units in turn, meets the other thread, and makes it whole.
+fn recut<N: Name, R: Abort>(
+    rt: &R,
+    slot: &mut Option<SeatDeed<N>>,
+    arrivals: &AtomicU64,
+) -> SeatDeed<N> {
     let mut deed = match slot.take() {
         Some(deed) => deed,
         None => panic!(rt; "no deed"),
     };
-    let range = deed.range();
-    for at in range.base() + 1..range.end() {
-        assert!(rt; deed.range().base() < at && at < deed.range().end());
-        deed = split_and_join(deed, at);
+    let base = deed.range().base();
+    for turn in 1..8 {
+        let (low, high) = cut(rt, deed, base + turn);
+        meet(rt, arrivals, 2 * turn);
+        deed = low.join(high);
     }
     deed
+}
+
+// Counts an arrival and waits until there are `wanted`, for ten million turns at most.
+fn meet<R: Abort>(rt: &R, arrivals: &AtomicU64, wanted: u64) {
+    arrivals.fetch_add(1, Ordering::SeqCst);
+    for _ in 0..10_000_000 {
+        if arrivals.load(Ordering::SeqCst) >= wanted {
+            return;
+        }
+        thread::yield_now();
+    }
+    panic!(rt; "the other thread does not come")
 }
 
 // Ends a slot whose deed was taken.

@@ -8,8 +8,8 @@ pub struct Piece {
     pub len: u64,
 }
 
-/// The ranges that a seat covers, the roots that it opened, and the root numbers that are left to it, which are the
-/// `left` numbers from `first` on. No value of it is made.
+/// The ranges that a seat covers, the roots that it opened, and the root numbers that are left to
+/// it, which are the `left` numbers from `first` on. No value of it is made.
 pub struct View {
     pub ranges: LinkedList<Piece>,
     pub roots: LinkedList<Piece>,
