@@ -5,8 +5,7 @@ use Rattle.std.proofs.lemmas.Bool.Decides.{eqb_tells}
 use Rattle.std.proofs.lemmas.List.Sums.{sum_by-cons, sum_by-append}
 use Rattle.deed_core.specs.Extent.{Extent, IsRange, Overlap, end_of, below, from, union}
 use Rattle.deed_core.specs.Covering.{covers}
-use Rattle.deed_core.proofs.Units.{covers_is, covers_cut, overlap_covers_twice}
-use Rattle.deed_core.proofs.Weighing.{sum_by-smaller}
+use Rattle.deed_core.proofs.LawProofs.{covers_is, covers_cut, overlap_covers_twice, sum_by-smaller}
 use Rattle.deed_table.specs.declared.views.Piece.{Piece}
 use Rattle.deed_table.specs.Piece.{piece, extent_of, covers_of, covering_of, is_of, count_of, low_pieces, high_pieces, merged_pieces, CutsFirst, Touch, CoverOnce}
 

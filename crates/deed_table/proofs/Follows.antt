@@ -3,7 +3,7 @@ use Rattle.std.proofs.Common.{◌≡◌, ◌≢◌, ◌⊎◌, ℕ, ◌+◌, ◌
 use mathlib.Core.Option.{some}
 use lib.ListN.{get_elem?}
 use Rattle.atomic_table.proofs.Lists.{set_else}
-use Rattle.deed_core.proofs.Weighing.{sum_by-smaller}
+use Rattle.deed_core.proofs.LawProofs.{sum_by-smaller}
 use Rattle.deed_table.specs.declared.views.View.{View}
 use Rattle.deed_table.specs.Piece.{piece, covering_of, count_of, CoverOnce}
 use Rattle.deed_table.specs.View.{spent}

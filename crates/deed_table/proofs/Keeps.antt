@@ -4,8 +4,7 @@ use mathlib.Core.Option.{some}
 use lib.ListN.{get_elem?}
 use Rattle.std.proofs.lemmas.List.Sums.{sum_by-cons, sum_by-append}
 use Rattle.atomic_table.proofs.Lists.{set_again}
-use Rattle.deed_core.proofs.Units.{covers_cut}
-use Rattle.deed_core.proofs.Weighing.{sum_by-smaller}
+use Rattle.deed_core.proofs.LawProofs.{covers_cut, sum_by-smaller}
 use Rattle.deed_core.specs.Extent.{Extent}
 use Rattle.deed_table.specs.declared.views.Piece.{Piece}
 use Rattle.deed_table.specs.declared.views.View.{View}

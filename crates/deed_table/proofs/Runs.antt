@@ -1,7 +1,7 @@
 -- What lasts from step to step.
 use Rattle.std.proofs.Common.{◌≡◌, ℕ, ◌^◌, ◌≤◌, List, [], ◌∷◌, ◌++◌, set, sym, refl, ap, ◌∙◌, subst, arith}
 use Rattle.atomic_table.proofs.Lists.{set_else}
-use Rattle.deed_core.proofs.Units.{covers_is}
+use Rattle.deed_core.proofs.LawProofs.{covers_is}
 use Rattle.deed_table.specs.declared.views.View.{View}
 use Rattle.deed_table.specs.Piece.{covering_of}
 use Rattle.deed_table.specs.View.{opener, numbers_of, spent, opened_at}
