@@ -200,6 +200,43 @@ fn working_set(rt: HostRuntime) {
     }
 }
 
+// After a resize the full magazines of the old size go first, the oldest of them at the start; one of
+// the new size goes once it stood over an interval.
+#[test]
+fn old_sizes_are_reaped_first(rt: HostRuntime) {
+    let alloc = rt.alloc();
+    let mut old = CpuCache::new(alloc, 3).ok().expect(&rt, "memory");
+    let mut depot = Depot::new(alloc, 3);
+    let ten = ops(&rt, alloc, 0, 10, 0);
+    let _ = run(&rt, alloc, &mut old, &mut depot, ten);
+    assert_eq!(rt; depot.resize(7), Ok(()));
+    let mut cpu = CpuCache::new(alloc, 7).ok().expect(&rt, "memory");
+    assert!(rt; cpu.size() <= depot.size());
+    let fifteen = ops(&rt, alloc, 20, 35, 0);
+    let (_, exchanges) = run(&rt, alloc, &mut cpu, &mut depot, fifteen);
+    assert_eq!(rt; (exchanges, depot.units()), (1, 13));
+    for base in [2, 1, 0, 5, 4, 3] {
+        reaps(&rt, &mut depot, Some(base));
+    }
+    reaps(&rt, &mut depot, None);
+    depot.tick();
+    for base in [26, 25, 24, 23, 22, 21, 20] {
+        reaps(&rt, &mut depot, Some(base));
+    }
+    reaps(&rt, &mut depot, None);
+    for wanted in [9, 8, 7, 6] {
+        assert_eq!(rt; old.take().map(base), Some(wanted));
+    }
+    for wanted in [34, 33, 32, 31, 30, 29, 28, 27] {
+        assert_eq!(rt; cpu.take().map(base), Some(wanted));
+    }
+    close(&rt, cpu, depot);
+    match old.close() {
+        Ok(()) => {}
+        Err(_) => panic!(rt; "the cache has rounds"),
+    }
+}
+
 // Reaps the round at this base, or none.
 fn reaps(rt: &impl Abort, depot: &mut Depot<PlainDeed>, wanted: Option<u64>)
     ensures { depot.new.size ≡ depot.old.size }
