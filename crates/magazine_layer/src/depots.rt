@@ -21,8 +21,8 @@ use deed_core::{Deed, Segment};
 use std::alloc::Global;
 use std::marker::Model;
 
-/// The full and the empty magazines that no CPU has. Both lists are last in, first out. As many of
-/// each as never left over an interval lie outside the working set, and may be reaped ("Magazines
+/// The full and the empty magazines that no CPU has. Both lists are last in, first out. As many as the
+/// least length of a list over an interval lie outside its working set, and may be reaped ("Magazines
 /// and Vmem", 2001). What is reaped first is our own choice: the oldest.
 pub struct Depot<D: Deed> {
     size: usize,
@@ -205,7 +205,8 @@ impl<D: Deed> Depot<D> {
         Ok(())
     }
 
-    /// Begins an interval: what stands in both lists may be reaped, until it is taken out.
+    /// Begins an interval: all that stands in either list may be reaped, but for what is taken out from
+    /// then on.
     pub fn tick(&mut self)
         ensures ticked { self.new ≡ ticked self.old }
         ensures stock { IsStocked self.new }
