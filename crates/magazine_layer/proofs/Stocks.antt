@@ -1,23 +1,17 @@
 -- What a depot's calls keep of its lists.
-use Rattle.std.proofs.Common.{◌≡◌, ℕ, ◌+◌, ◌<◌, ◌≤◌, List, [], ◌∷◌, ◌++◌, length, All, arith, ap, length-append, Some}
+use Rattle.std.proofs.Common.{◌≡◌, ℕ, ◌+◌, ◌-◌, ◌<◌, ◌≤◌, List, [], ◌∷◌, ◌++◌, length, All, arith, ap, length-append, Some}
 use Rattle.std.proofs.lemmas.List.Elements.{All-append, All-push, All-pop, All-rest, All-nil, All-head, All-weaker}
 use Rattle.deed_core.specs.Tag.{Tag}
 use Rattle.magazine_layer.specs.Magazines.{IsSize, MagazineState}
-use Rattle.magazine_layer.specs.Depots.{Interval, DepotState, IsStocked, HasRoom, IsSince, going_on, reaping, reapable, with_lists, resized, all_rounds, depot_rounds}
-
-pub since_going_on : (n m : ℕ) (i : Interval) → IsSince n i → IsSince m (going_on m i)
-since_going_on n m i since = record { within = omega (arith, since.within); standing = omega arith }
-
-pub since_reaping : (n m k : ℕ) (i : Interval) → k ≤ reapable i → m + k ≡ n → IsSince n i → IsSince m (reaping k i)
-since_reaping n m k i few less since = record { within = omega (arith, since.within); standing = omega (arith, since.standing) }
+use Rattle.magazine_layer.specs.Depots.{DepotState, IsStocked, HasRoom, with_lists, resized, all_rounds, depot_rounds}
 
 pub stocked_with : (full : List (List Tag)) (empty : ℕ) (d : DepotState) → All (λ m. length m ≡ d.size) full → IsStocked d → IsStocked (with_lists full empty d)
 stocked_with full empty d whole stocked = record {
   sized = stocked.sized;
   whole = whole;
   some = stocked.some;
-  full_kept = since_going_on _ _ _ stocked.full_kept;
-  empty_kept = since_going_on _ _ _ stocked.empty_kept;
+  full_stands = omega arith;
+  empty_stands = omega arith;
 }
 
 -- of full magazines, the newest and the others
@@ -66,20 +60,20 @@ some_whole size full is whole = let P : List Tag → Type 0 = λ m. length m ≡
 pub stocked_old : (d : DepotState) (m : List Tag) (ms : List (List Tag)) (draining : List Tag) → d.old_full ≡ m ∷ ms → IsStocked d → IsStocked (record d { old_full = ms; draining = draining })
 stocked_old d m ms draining is stocked =
     let P : List Tag → Type 0 = λ m. 0 < length m in
-    record { sized = stocked.sized; whole = stocked.whole; some = All-rest P m ms d.old_full is stocked.some; full_kept = stocked.full_kept; empty_kept = stocked.empty_kept }
+    record { sized = stocked.sized; whole = stocked.whole; some = All-rest P m ms d.old_full is stocked.some; full_stands = stocked.full_stands; empty_stands = stocked.empty_stands }
 
 -- the oldest full one is
-pub stocked_first : (d : DepotState) (m : List Tag) (ms : List (List Tag)) (draining : List Tag) → d.full ≡ m ∷ ms → 0 < reapable d.full_since → IsStocked d → IsStocked (record d { full = ms; full_since = reaping 1 d.full_since; draining = draining })
+pub stocked_first : (d : DepotState) (m : List Tag) (ms : List (List Tag)) (draining : List Tag) → d.full ≡ m ∷ ms → 0 < d.full_reapable → IsStocked d → IsStocked (record d { full = ms; full_reapable = d.full_reapable - 1; draining = draining })
 stocked_first d m ms draining is some stocked =
     let P : List Tag → Type 0 = λ m. length m ≡ d.size in
     let less : length ms + 1 ≡ length d.full = omega (arith, ap length is) in
-    record { sized = stocked.sized; whole = All-rest P m ms d.full is stocked.whole; some = stocked.some; full_kept = since_reaping (length d.full) (length ms) 1 _ (omega arith) less stocked.full_kept; empty_kept = stocked.empty_kept }
+    record { sized = stocked.sized; whole = All-rest P m ms d.full is stocked.whole; some = stocked.some; full_stands = omega (arith, stocked.full_stands); empty_stands = stocked.empty_stands }
 
 -- the full ones are of an old size
 pub stocked_resize : (d : DepotState) (m : ℕ) → IsSize m → IsStocked d → IsStocked (resized m d)
 stocked_resize d m size stocked =
     let P : List Tag → Type 0 = λ m. 0 < length m in
-    record { sized = size; whole = All-nil _; some = All-append P d.old_full d.full stocked.some (some_whole d.size d.full stocked.sized stocked.whole); full_kept = since_going_on (length d.full) 0 _ stocked.full_kept; empty_kept = since_going_on d.empty 0 _ stocked.empty_kept }
+    record { sized = size; whole = All-nil _; some = All-append P d.old_full d.full stocked.some (some_whole d.size d.full stocked.sized stocked.whole); full_stands = omega arith; empty_stands = omega arith }
 
 -- magazines that have rounds have some together
 pub some_rounds : (ms : List (List Tag)) → All (λ m. 0 < length m) ms → 0 < length ms → 0 < length (all_rounds ms)

@@ -1,12 +1,13 @@
 -- No call makes or loses a round, however rounds are weighed.
-use Rattle.std.proofs.Common.{◌≡◌, ℕ, ◌+◌, Bool, true, false, List, [], ◌∷◌, ◌++◌, length, if◌then◌else◌, ◌==◌, ◌<◌, take, get_or, min, inl, inr, arith, refl, ap, sym, ◌∙◌, sum_by}
+use Rattle.std.proofs.Common.{◌≡◌, ℕ, ◌+◌, Bool, true, false, List, [], ◌∷◌, ◌++◌, length, if◌then◌else◌, ◌==◌, ◌<◌, take, get_or, min, inl, inr, arith, refl, ap, sym, ◌∙◌, append-nil, flat_map, sum_by}
+use Rattle.std.proofs.lemmas.Grind.{flat_map-append}
 use Rattle.std.proofs.lemmas.List.{take_more}
 use Rattle.std.proofs.lemmas.List.Sums.{sum_by-append, sum_by-cons, sum_by_push}
 use Rattle.deed_core.specs.Tag.{Tag}
 use Rattle.deed_core.specs.Weights.{WeighSame, Gains, Loses}
 use Rattle.magazine_layer.specs.Magazines.{CacheState, MagazineState, Pops, cache_rounds, exchanged, loaded_with, to_give, pushed}
 use Rattle.magazine_layer.specs.Depots.{DepotState, SwapsForFull, SwapsForEmpty, PutsFull, Begins, Drains, Reaps, all_rounds, depot_rounds, resized, trimmed}
-use Rattle.magazine_layer.specs.Rounds.{Stock, Takes, Own_taken, Swapped, None_full, Old_size, MakesRoom, By_empty, By_new, By_change, Gives, Own_given, Made, No_room, Steps, Runs, Start, Then, stock, stock_rounds, brought, all_brought, handed, all_handed}
+use Rattle.magazine_layer.specs.Rounds.{Stock, Takes, Own_taken, Swapped, None_full, Old_size, MakesRoom, By_empty, By_new, By_change, Gives, Own_given, Made, No_room, Steps, Runs, Start, Then, stock, stock_rounds, brought, handed}
 use Rattle.magazine_layer.specs.declared.rounds.RoundOp.{RoundOp}
 use Rattle.magazine_layer.specs.declared.rounds.RoundOp.TheVariants.{Give, Take}
 use Rattle.magazine_layer.specs.declared.rounds.RoundAnswer.{RoundAnswer}
@@ -30,12 +31,12 @@ pops_weigh x c c' pops f = sym (exchange f (length c.loaded == 0) c) ∙ ap (λ 
 pub pushed_weigh : (x : Tag) (c : CacheState) → Gains (cache_rounds c) (cache_rounds (pushed x c)) x
 pushed_weigh x c f = with_one f x (to_give c) ∙ ap (λ n. n + f x) (exchange f (length c.loaded == c.size) c)
 
-all_rounds-append : (f : Tag → ℕ) (xs ys : List (List Tag)) → sum_by f (all_rounds (xs ++ ys)) ≡ sum_by f (all_rounds xs) + sum_by f (all_rounds ys)
-all_rounds-append f [] ys = omega arith
-all_rounds-append f (m ∷ ms) ys = omega (arith, all_rounds-append f ms ys, sum_by-append f m (all_rounds ms), sum_by-append f m (all_rounds (ms ++ ys)))
+-- the rounds of a list's members, and of one more
+parts-push : {X : Type 0} (f : Tag → ℕ) (g : X → List Tag) (xs : List X) (x : X) → sum_by f (flat_map g (xs ++ x ∷ [])) ≡ sum_by f (flat_map g xs) + sum_by f (g x)
+parts-push f g xs x = ap (sum_by f) (flat_map-append g xs (x ∷ [])) ∙ sum_by-append f (flat_map g xs) (g x ++ []) ∙ ap (λ m. sum_by f (flat_map g xs) + sum_by f m) (append-nil (g x))
 
 all_rounds-push : (f : Tag → ℕ) (xs : List (List Tag)) (m : List Tag) → sum_by f (all_rounds (xs ++ m ∷ [])) ≡ sum_by f (all_rounds xs) + sum_by f m
-all_rounds-push f xs m = omega (arith, all_rounds-append f xs (m ∷ []), sum_by-append f m [])
+all_rounds-push f xs m = parts-push f (λ m. m) xs m
 
 depot_parts : (f : Tag → ℕ) (d : DepotState) → sum_by f (depot_rounds d) ≡ sum_by f (all_rounds d.old_full) + (sum_by f (all_rounds d.full) + sum_by f d.draining)
 depot_parts f d = omega (arith, sum_by-append f (all_rounds d.old_full) (all_rounds d.full ++ d.draining), sum_by-append f (all_rounds d.full) d.draining)
@@ -71,7 +72,10 @@ put_full_weigh m c c' d d' puts f =
     omega (arith, both f c d, both f c' d', sum_by-append f m.rounds (cache_rounds c ++ depot_rounds d))
 
 pub resized_weigh : (m : ℕ) (d : DepotState) → WeighSame (depot_rounds d) (depot_rounds (resized m d))
-resized_weigh m d f = omega (arith, depot_parts f d, depot_parts f (resized m d), all_rounds-append f d.old_full d.full)
+resized_weigh m d f =
+    let all = flat_map-append (λ (m : List Tag). m) d.old_full d.full in
+    let parts : sum_by f (all_rounds (d.old_full ++ d.full)) ≡ sum_by f (all_rounds d.old_full) + sum_by f (all_rounds d.full) = ap (sum_by f) all ∙ sum_by-append f (all_rounds d.old_full) (all_rounds d.full) in
+    omega (arith, depot_parts f d, depot_parts f (resized m d))
 
 begins_weigh : (f : Tag → ℕ) (d d' : DepotState) → Begins d d' → sum_by f (depot_rounds d) ≡ sum_by f (depot_rounds d')
 begins_weigh f d d' (inl goes_on) = sym (ap (λ d. sum_by f (depot_rounds d)) goes_on.1)
@@ -148,22 +152,14 @@ module _ {D : Type 0} where
   steps_weigh f (Give x) s s' answer k gives = omega (arith, gives_weigh f x s s' answer k gives, one f x)
   steps_weigh f Take s s' answer k takes = omega (arith, takes_weigh f s s' answer k takes)
 
-  brought-push : (f : Tag → ℕ) (ops : List (RoundOp D)) (op : RoundOp D) → sum_by f (all_brought (ops ++ op ∷ [])) ≡ sum_by f (all_brought ops) + sum_by f (brought op)
-  brought-push f [] op = omega (arith, sum_by-append f (brought op) [])
-  brought-push f (o ∷ ops) op = omega (arith, brought-push f ops op, sum_by-append f (brought o) (all_brought ops), sum_by-append f (brought o) (all_brought (ops ++ op ∷ [])))
-
-  handed-push : (f : Tag → ℕ) (answers : List (RoundAnswer D)) (answer : RoundAnswer D) → sum_by f (all_handed (answers ++ answer ∷ [])) ≡ sum_by f (all_handed answers) + sum_by f (handed answer)
-  handed-push f [] answer = omega (arith, sum_by-append f (handed answer) [])
-  handed-push f (a ∷ answers) answer = omega (arith, handed-push f answers answer, sum_by-append f (handed a) (all_handed answers), sum_by-append f (handed a) (all_handed (answers ++ answer ∷ [])))
-
-  runs_weigh_by : (f : Tag → ℕ) (s s' : Stock) (ops : List (RoundOp D)) (answers : List (RoundAnswer D)) (k : ℕ) → Runs s ops answers s' k → sum_by f (stock_rounds s) + sum_by f (all_brought ops) ≡ sum_by f (stock_rounds s') + sum_by f (all_handed answers)
+  runs_weigh_by : (f : Tag → ℕ) (s s' : Stock) (ops : List (RoundOp D)) (answers : List (RoundAnswer D)) (k : ℕ) → Runs s ops answers s' k → sum_by f (stock_rounds s) + sum_by f (flat_map brought ops) ≡ sum_by f (stock_rounds s') + sum_by f (flat_map handed answers)
   runs_weigh_by f s s' ops answers k Start = refl
   runs_weigh_by f s s' ops answers k (Then {ops = before} {answers = so_far} {mid = mid} {exchanges = n} op answer s'' more runs step) =
-      omega (arith, runs_weigh_by f s mid before so_far n runs, steps_weigh f op mid s'' answer more step, brought-push f before op, handed-push f so_far answer)
+      omega (arith, runs_weigh_by f s mid before so_far n runs, steps_weigh f op mid s'' answer more step, parts-push f brought before op, parts-push f handed so_far answer)
 
   -- rounds in are rounds out
-  pub runs_weigh : (s s' : Stock) (ops : List (RoundOp D)) (answers : List (RoundAnswer D)) (k : ℕ) → Runs s ops answers s' k → WeighSame (stock_rounds s ++ all_brought ops) (stock_rounds s' ++ all_handed answers)
-  runs_weigh s s' ops answers k runs f = omega (arith, runs_weigh_by f s s' ops answers k runs, sum_by-append f (stock_rounds s) (all_brought ops), sum_by-append f (stock_rounds s') (all_handed answers))
+  pub runs_weigh : (s s' : Stock) (ops : List (RoundOp D)) (answers : List (RoundAnswer D)) (k : ℕ) → Runs s ops answers s' k → WeighSame (stock_rounds s ++ flat_map brought ops) (stock_rounds s' ++ flat_map handed answers)
+  runs_weigh s s' ops answers k runs f = omega (arith, runs_weigh_by f s s' ops answers k runs, sum_by-append f (stock_rounds s) (flat_map brought ops), sum_by-append f (stock_rounds s') (flat_map handed answers))
 
 -- the first rounds of magazines, and those of one magazine more
 pub all_rounds-more : (f : Tag → ℕ) (ms : List (List Tag)) (i : ℕ) (m : List Tag) → i < length ms → m ≡ get_or ms i m → sum_by f (all_rounds (take (i + 1) ms)) ≡ sum_by f (all_rounds (take i ms)) + sum_by f m

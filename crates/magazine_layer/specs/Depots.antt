@@ -1,35 +1,7 @@
 -- What a contract sees of a depot, and what its calls do.
-use Rattle.std.specs.Prelude.{◌≡◌, ℕ, ◌+◌, ◌-◌, ◌<◌, ◌≤◌, ◌⊎◌, List, [], ◌∷◌, ◌++◌, length, min, All}
+use Rattle.std.specs.Prelude.{◌≡◌, ℕ, ◌+◌, ◌-◌, ◌<◌, ◌≤◌, ◌⊎◌, List, [], ◌∷◌, ◌++◌, length, min, All, flat_map}
 use Rattle.deed_core.specs.Tag.{Tag}
 use Rattle.magazine_layer.specs.Magazines.{IsSize, CacheState, MagazineState, cache_rounds}
-
--- what is known of a list of magazines since the interval began
-pub record Interval : Type 0 where
-  -- the least length that it had, the magazines reaped since counted as still in it
-  pub least : ℕ
-  -- how many were reaped
-  pub reaped : ℕ
-
--- an interval that begins with `n` magazines in the list
-abbrev pub beginning : ℕ → Interval
-beginning n = record { least = n; reaped = 0 }
-
--- the interval with `n` magazines in the list from here on
-abbrev pub going_on : ℕ → Interval → Interval
-going_on n i = record { least = min i.least (n + i.reaped); reaped = i.reaped }
-
--- the interval with `k` more of them reaped
-abbrev pub reaping : ℕ → Interval → Interval
-reaping k i = record { least = i.least; reaped = i.reaped + k }
-
--- how many lie outside the working set: these may be reaped
-abbrev pub reapable : Interval → ℕ
-reapable i = i.least - i.reaped
-
--- no more were reaped than lay outside the working set, and those that still do stand in the list, of `n`
-pub record IsSince (n : ℕ) (i : Interval) : Type 0 where
-  pub within : i.reaped ≤ i.least
-  pub standing : i.least ≤ n + i.reaped
 
 -- what a contract sees of a depot
 pub record DepotState : Type 0 where
@@ -37,10 +9,13 @@ pub record DepotState : Type 0 where
   pub size : ℕ
   -- the full magazines of that size, the last in at the end
   pub full : List (List Tag)
-  pub full_since : Interval
+  -- how many of these lie outside the working set, and may be reaped: the least number that stood here since
+  -- the interval began, less those reaped since
+  pub full_reapable : ℕ
   -- how many empty ones of that size there are
   pub empty : ℕ
-  pub empty_since : Interval
+  -- the same of these
+  pub empty_reapable : ℕ
   -- the full magazines of smaller sizes, the oldest first
   pub old_full : List (List Tag)
   -- what is left of the one that is being drained
@@ -51,8 +26,8 @@ pub record IsStocked (d : DepotState) : Type 0 where
   pub sized : IsSize d.size
   pub whole : All (λ m. length m ≡ d.size) d.full
   pub some : All (λ m. 0 < length m) d.old_full
-  pub full_kept : IsSince (length d.full) d.full_since
-  pub empty_kept : IsSince d.empty d.empty_since
+  pub full_stands : d.full_reapable ≤ length d.full
+  pub empty_stands : d.empty_reapable ≤ d.empty
 
 -- the lists have room for what may move into them without memory: a full magazine for an empty one, an empty one
 -- for a full one, and all full ones among the old
@@ -63,8 +38,7 @@ pub record HasRoom (full empty old full_room empty_room old_room : ℕ) : Type 0
 
 -- the rounds of some magazines
 abbrev pub all_rounds : List (List Tag) → List Tag
-all_rounds [] = []
-all_rounds (m ∷ ms) = m ++ all_rounds ms
+all_rounds magazines = flat_map (λ m. m) magazines
 
 -- all rounds of a depot
 abbrev pub depot_rounds : DepotState → List Tag
@@ -77,12 +51,12 @@ both_rounds c d = cache_rounds c ++ depot_rounds d
 -- a depot with no magazine
 abbrev pub new_depot : ℕ → DepotState
 new_depot m =
-    record { size = m; full = []; full_since = beginning 0; empty = 0; empty_since = beginning 0; old_full = []; draining = [] }
+    record { size = m; full = []; full_reapable = 0; empty = 0; empty_reapable = 0; old_full = []; draining = [] }
 
--- the depot with these full magazines of its size, and this many empty ones
+-- the depot with these full magazines of its size, and this many empty ones: no more may be reaped than stand
 abbrev pub with_lists : List (List Tag) → ℕ → DepotState → DepotState
 with_lists full empty d =
-    record d { full = full; full_since = going_on (length full) d.full_since; empty = empty; empty_since = going_on empty d.empty_since }
+    record d { full = full; full_reapable = min d.full_reapable (length full); empty = empty; empty_reapable = min d.empty_reapable empty }
 
 -- the newest full magazine is loaded, loaded is the previous one, and that one, which is empty, is the depot's
 pub record SwapsForFull (c c' : CacheState) (d d' : DepotState) : Type 0 where
@@ -107,16 +81,15 @@ pub record PutsFull (m : MagazineState) (c c' : CacheState) (d d' : DepotState) 
 
 -- an interval begins for both lists
 abbrev pub ticked : DepotState → DepotState
-ticked d = record d { full_since = beginning (length d.full); empty_since = beginning d.empty }
+ticked d = record d { full_reapable = length d.full; empty_reapable = d.empty }
 
--- magazines of a greater size from here on: the full ones are of an old size, the empty ones are gone
+-- a depot for magazines of a greater size: the full ones are of an old size, and the empty ones are gone
 abbrev pub resized : ℕ → DepotState → DepotState
-resized m d = record (with_lists [] 0 d) { size = m; old_full = d.old_full ++ d.full }
+resized m d = record (new_depot m) { old_full = d.old_full ++ d.full; draining = d.draining }
 
 -- the depot without the empty magazines that may be reaped
 abbrev pub trimmed : DepotState → DepotState
-trimmed d =
-    record d { empty = d.empty - reapable d.empty_since; empty_since = reaping (reapable d.empty_since) d.empty_since }
+trimmed d = record d { empty = d.empty - d.empty_reapable; empty_reapable = 0 }
 
 -- the oldest magazine of an old size is being drained
 pub record BeginsOld (d d' : DepotState) : Type 0 where
@@ -128,9 +101,9 @@ pub record BeginsOld (d d' : DepotState) : Type 0 where
 pub record BeginsFull (d d' : DepotState) : Type 0 where
   pub drained : d.draining ≡ []
   pub none_old : d.old_full ≡ []
-  pub some : 0 < reapable d.full_since
+  pub some : 0 < d.full_reapable
   pub oldest : d.full ≡ d'.draining ∷ d'.full
-  pub rest : d' ≡ record d { full = d'.full; full_since = reaping 1 d.full_since; draining = d'.draining }
+  pub rest : d' ≡ record d { full = d'.full; full_reapable = d.full_reapable - 1; draining = d'.draining }
 
 -- the magazine to reap from is being drained: the one that was, else the first that may be
 abbrev pub Begins : DepotState → DepotState → Type 0
@@ -147,4 +120,4 @@ Reaps x d d' = (begun : DepotState) × Begins d begun × Drains x begun d'
 
 -- a round may be reaped
 abbrev pub CanReap : DepotState → Type 0
-CanReap d = (0 < length d.draining) ⊎ (0 < length d.old_full) ⊎ (0 < reapable d.full_since)
+CanReap d = (0 < length d.draining) ⊎ (0 < length d.old_full) ⊎ (0 < d.full_reapable)

@@ -77,19 +77,9 @@ abbrev pub brought : {D : Type 0} → RoundOp D → List Tag
 brought (Give x) = x ∷ []
 brought Take = []
 
--- and all of a list of operations
-abbrev pub all_brought : {D : Type 0} → List (RoundOp D) → List Tag
-all_brought [] = []
-all_brought (op ∷ ops) = brought op ++ all_brought ops
-
 -- the rounds that come with an answer
 abbrev pub handed : {D : Type 0} → RoundAnswer D → List Tag
 handed (Taken x) = x ∷ []
 handed (Refused x) = x ∷ []
 handed Kept = []
 handed Nothing = []
-
--- and with all of a list of answers
-abbrev pub all_handed : {D : Type 0} → List (RoundAnswer D) → List Tag
-all_handed [] = []
-all_handed (answer ∷ answers) = handed answer ++ all_handed answers

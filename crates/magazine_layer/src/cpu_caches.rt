@@ -1,17 +1,20 @@
 //! The two magazines of a CPU.
-ghost use Rattle.std.specs.Prelude.{◌≡◌, ◌+◌, ◌<◌, ◌≤◌, ◌↔◌, ◌⊎◌, [], ◌∷◌, ◌++◌, length, IsTrue, IsSome, IfSome, IfNone, IsOk, IfOk, IfErr, OnOk, OnErr};
+ghost use Rattle.std.specs.Prelude.{◌≡◌, ◌+◌, ◌<◌, ◌≤◌, ◌↔◌, ◌⊎◌, [], ◌∷◌, ◌++◌, length, IsTrue};
+ghost use Rattle.std.specs.Prelude.{IsSome, IfSome, IfNone, IsOk, IfOk, IfErr, OnOk, OnErr};
 ghost use Rattle.deed_core.specs.Covering.{units_tagged};
 ghost use Rattle.deed_core.specs.Weights.{WeighSame, Gains, Loses};
-ghost use Rattle.magazine_layer.specs.Magazines.{IsSize, IsShaped, CacheState, MagazineState, CanTake, CanGive, Pops, pushed, cache_rounds, changed};
+ghost use Rattle.magazine_layer.specs.Magazines.{IsSize, IsShaped, CacheState, MagazineState};
+ghost use Rattle.magazine_layer.specs.Magazines.{CanTake, CanGive, Pops, pushed, cache_rounds};
+ghost use Rattle.magazine_layer.specs.Magazines.{changed};
 
-use crate::magazines::Magazine;
+use crate::magazines::{Magazine, discard_empty};
 use deed_core::{Deed, Segment};
 use std::alloc::{AllocError, Global};
 use std::marker::Model;
 use std::mem;
 
-/// What one CPU keeps for one quantum cache: the loaded magazine, and the one loaded before it, which is
-/// empty or full ("Magazines and Vmem", 2001). It is never dropped.
+/// What one CPU keeps for one quantum cache: the loaded magazine, and the one loaded before it,
+/// which is empty or full ("Magazines and Vmem", 2001). It is never dropped.
 pub struct CpuCache<D: Deed> {
     loaded: Magazine<D>,
     previous: Magazine<D>,
@@ -23,10 +26,12 @@ impl<D: Deed> Model for CpuCache<D> {
 
     ghost Value = { CacheState };
 
-    ghost view = { λ c. record { size = c.loaded.size; loaded = c.loaded.rounds; previous = c.previous.rounds } };
+    ghost view = { λ c.
+        record { size = c.loaded.size; loaded = c.loaded.rounds; previous = c.previous.rounds } };
 
     ghost invariant = { λ c. (c.previous.size ≡ c.loaded.size)
-        × IsShaped (record { size = c.loaded.size; loaded = c.loaded.rounds; previous = c.previous.rounds }) };
+        × IsShaped
+        (record { size = c.loaded.size; loaded = c.loaded.rounds; previous = c.previous.rounds }) };
 }
 
 // Two empty magazines.
@@ -76,8 +81,8 @@ impl<D: Deed> CpuCache<D> {
         self.previous.units() + self.loaded.units()
     }
 
-    /// Takes the last round of loaded, or of previous where loaded is empty and previous is full. It takes
-    /// no memory.
+    /// Takes the last round of loaded, or of previous where loaded is empty and previous is full.
+    /// It takes no memory.
     #[tactic(auto, using(crate::proofs::Weighing::pops_weigh))]
     pub fn take(&mut self) -> Option<Segment<D>>
         ensures some { IsSome result ↔ CanTake self.old }
@@ -94,8 +99,8 @@ impl<D: Deed> CpuCache<D> {
         self.loaded.take()
     }
 
-    /// Puts a round on loaded, or on previous where loaded is full and previous is empty. It takes no
-    /// memory.
+    /// Puts a round on loaded, or on previous where loaded is full and previous is empty. It takes
+    /// no memory.
     #[tactic(auto, using(crate::proofs::Weighing::pushed_weigh))]
     pub fn give(&mut self, segment: Segment<D>) -> Result<(), Segment<D>>
         ensures ok { IsOk result ↔ CanGive self.old }
@@ -116,8 +121,8 @@ impl<D: Deed> CpuCache<D> {
         Ok(())
     }
 
-    /// Moves all rounds into a loaded magazine of another size, previous's below loaded's, and ends the two
-    /// old magazines. It takes no memory.
+    /// Moves all rounds into a loaded magazine of another size, previous's below loaded's, and ends
+    /// the two old magazines. It takes no memory.
     pub fn change(&mut self, loaded: Magazine<D>, previous: Magazine<D>)
         requires loaded { loaded.rounds ≡ [] }
         requires previous { previous.rounds ≡ [] }
@@ -140,7 +145,8 @@ impl<D: Deed> CpuCache<D> {
     pub(crate) fn rotate(&mut self, magazine: Magazine<D>) -> Magazine<D>
         requires size { magazine.size ≡ self.old.size }
         requires whole { (length self.old.loaded ≡ 0) ⊎ (length self.old.loaded ≡ self.old.size) }
-        ensures cache { self.new ≡ record { size = self.old.size; loaded = magazine.rounds; previous = self.old.loaded } }
+        ensures cache { self.new ≡
+            record { size = self.old.size; loaded = magazine.rounds; previous = self.old.loaded } }
         ensures out { result ≡ record { size = self.old.size; rounds = self.old.previous } }
         ensures shape { IsShaped self.new }
     {
@@ -173,15 +179,5 @@ impl<D: Deed> CpuCache<D> {
     {
         let CpuCache { loaded, previous } = self;
         (loaded, previous)
-    }
-}
-
-// Ends a magazine that has no round.
-pub(crate) fn discard_empty<D: Deed>(magazine: Magazine<D>)
-    requires { magazine.rounds ≡ [] }
-{
-    match magazine.discard() {
-        Ok(()) => {}
-        Err(_) => unreachable!(),
     }
 }

@@ -1,32 +1,35 @@
 //! Depots: what the CPUs share of a quantum cache's magazines.
-ghost use Rattle.std.specs.Prelude.{◌≡◌, ◌≢◌, ◌+◌, ◌-◌, ◌^◌, ◌<◌, ◌≤◌, ◌↔◌, ◌⊎◌, ◌++◌, [], ◌∷◌, length, min, IsOk, IsNone, IsSome, IfSome, IfNone, IfOk, IfErr, IsErrAnd, OnOk, OnErr, IsTrue, Ok, Err};
+ghost use Rattle.std.specs.Prelude.{◌≡◌, ◌≢◌, ◌+◌, ◌-◌, ◌^◌, ◌<◌, ◌≤◌, ◌↔◌, ◌⊎◌, ◌++◌, [], ◌∷◌};
+ghost use Rattle.std.specs.Prelude.{length, min, IsOk, IsNone, IsSome, IfSome, IfNone, IfOk, IfErr};
+ghost use Rattle.std.specs.Prelude.{IsErrAnd, OnOk, OnErr, IsTrue, Ok, Err};
 ghost use Rattle.std.specs.Bool.{OnTrue, OnFalse};
 ghost use Rattle.deed_core.specs.Covering.{units_tagged};
 ghost use Rattle.deed_core.specs.Weights.{WeighSame, Loses};
 ghost use Rattle.magazine_layer.specs.Magazines.{IsSize, IsShaped};
-ghost use Rattle.magazine_layer.specs.Depots.{DepotState, SwapsForFull, SwapsForEmpty, PutsFull, CanReap, Begins, Reaps, IsStocked, new_depot, ticked, resized, trimmed, depot_rounds, both_rounds};
+ghost use Rattle.magazine_layer.specs.Depots.{DepotState, SwapsForFull, SwapsForEmpty, PutsFull};
+ghost use Rattle.magazine_layer.specs.Depots.{CanReap, Begins, Reaps, IsStocked, new_depot, ticked};
+ghost use Rattle.magazine_layer.specs.Depots.{resized, trimmed, depot_rounds, both_rounds};
 ghost use Rattle.magazine_layer.specs.declared.faults.FullFault.TheVariants.{NoneFull};
 ghost use Rattle.magazine_layer.specs.declared.faults.EmptyFault.TheVariants.{NoneEmpty};
 
 use crate::cpu_caches::CpuCache;
 use crate::faults::{EmptyFault, FullFault, NotGreater, PutFault, PutRefused};
 use crate::full_magazines::{FullMagazine, units_of_all};
-use crate::intervals::Interval;
 use crate::lists::{discard_oldest, drain, reserve_one, take_first};
 use crate::magazines::{Magazine, units_of_rounds};
 use deed_core::{Deed, Segment};
 use std::alloc::Global;
 use std::marker::Model;
 
-/// The full and the empty magazines that no CPU has. Both lists are last in, first out. For each it keeps
-/// the least length of an interval: what lies below that is outside the working set, and may be reaped
-/// ("Magazines and Vmem", 2001). What is reaped first is our own choice: the oldest.
+/// The full and the empty magazines that no CPU has. Both lists are last in, first out. As many as the
+/// least length of a list over an interval lie outside its working set, and may be reaped ("Magazines
+/// and Vmem", 2001). What is reaped first is our own choice: the oldest.
 pub struct Depot<D: Deed> {
     size: usize,
     full: Vec<FullMagazine<D>>,
-    full_since: Interval,
+    full_reapable: usize,
     empty: Vec<Magazine<D>>,
-    empty_since: Interval,
+    empty_reapable: usize,
     old_full: Vec<FullMagazine<D>>,
     draining: Vec<Segment<D>>,
 }
@@ -40,9 +43,9 @@ impl<D: Deed> Model for Depot<D> {
     ghost view = { λ d. record {
       size = d.size;
       full = d.full.items;
-      full_since = d.full_since;
+      full_reapable = d.full_reapable;
       empty = vec_len d.empty;
-      empty_since = d.empty_since;
+      empty_reapable = d.empty_reapable;
       old_full = d.old_full.items;
       draining = d.draining.items;
     } };
@@ -50,9 +53,9 @@ impl<D: Deed> Model for Depot<D> {
     ghost invariant = { λ d. IsStocked (record {
       size = d.size;
       full = d.full.items;
-      full_since = d.full_since;
+      full_reapable = d.full_reapable;
       empty = vec_len d.empty;
-      empty_since = d.empty_since;
+      empty_reapable = d.empty_reapable;
       old_full = d.old_full.items;
       draining = d.draining.items;
     })
@@ -70,9 +73,9 @@ impl<D: Deed> Depot<D> {
         Depot {
             size,
             full: Vec::new(alloc),
-            full_since: Interval::begin(0),
+            full_reapable: 0,
             empty: Vec::new(alloc),
-            empty_since: Interval::begin(0),
+            empty_reapable: 0,
             old_full: Vec::new(alloc),
             draining: Vec::new(alloc),
         }
@@ -95,17 +98,20 @@ impl<D: Deed> Depot<D> {
             .saturating_add(units_of_rounds(&self.draining))
     }
 
-    /// Gives a CPU whose magazines are both empty a full one for an empty one. It takes no memory, and
-    /// refuses a CPU of another size before it looks for a magazine.
+    /// Gives a CPU whose magazines are both empty a full one for an empty one. It takes no memory,
+    /// and refuses a CPU of another size before it looks for a magazine.
     #[tactic(auto, using(crate::proofs::Weighing::swap_full_weigh))]
     pub fn swap_for_full(&mut self, cpu: &mut CpuCache<D>) -> Result<(), FullFault>
         requires loaded { cpu.old.loaded ≡ [] }
         requires previous { cpu.old.previous ≡ [] }
         ensures ok { OnOk result (SwapsForFull cpu.old cpu.new self.old self.new) }
-        ensures weights { OnOk result (WeighSame (both_rounds cpu.old self.old) (both_rounds cpu.new self.new)) }
-        ensures old_size { (result ≡ Err (FullFault.OldSize self.old.size)) ↔ (cpu.old.size ≢ self.old.size) }
+        ensures weights { OnOk result
+            (WeighSame (both_rounds cpu.old self.old) (both_rounds cpu.new self.new)) }
+        ensures old_size { (result ≡ Err (FullFault.OldSize self.old.size))
+            ↔ (cpu.old.size ≢ self.old.size) }
         ensures fault { IfErr result (λ e. (e ≡ FullFault.OldSize self.old.size) ⊎ (e ≡ NoneFull)) }
-        ensures none_full { (result ≡ Err NoneFull) ↔ ((cpu.old.size ≡ self.old.size) × (self.old.full ≡ [])) }
+        ensures none_full { (result ≡ Err NoneFull)
+            ↔ ((cpu.old.size ≡ self.old.size) × (self.old.full ≡ [])) }
         ensures same { OnErr result (self.new ≡ self.old) }
         ensures same_cpu { OnErr result (cpu.new ≡ cpu.old) }
         ensures shape { IsShaped cpu.new }
@@ -119,22 +125,25 @@ impl<D: Deed> Depot<D> {
         };
         let empty = cpu.rotate(full.into_magazine());
         self.empty.push_reserved(empty);
-        self.full_since = self.full_since.go_on(self.full.len());
-        self.empty_since = self.empty_since.go_on(self.empty.len());
+        self.full_reapable = self.full_reapable.min(self.full.len());
+        self.empty_reapable = self.empty_reapable.min(self.empty.len());
         Ok(())
     }
 
-    /// Gives a CPU whose magazines are both full an empty one for a full one. It takes no memory, and
-    /// refuses a CPU of another size before it looks for a magazine.
+    /// Gives a CPU whose magazines are both full an empty one for a full one. It takes no memory,
+    /// and refuses a CPU of another size before it looks for a magazine.
     #[tactic(auto, using(crate::proofs::Weighing::swap_empty_weigh))]
     pub fn swap_for_empty(&mut self, cpu: &mut CpuCache<D>) -> Result<(), EmptyFault>
         requires loaded { length cpu.old.loaded ≡ cpu.old.size }
         requires previous { length cpu.old.previous ≡ cpu.old.size }
         ensures ok { OnOk result (SwapsForEmpty cpu.old cpu.new self.old self.new) }
-        ensures weights { OnOk result (WeighSame (both_rounds cpu.old self.old) (both_rounds cpu.new self.new)) }
-        ensures old_size { (result ≡ Err (EmptyFault.OldSize self.old.size)) ↔ (cpu.old.size ≢ self.old.size) }
+        ensures weights { OnOk result
+            (WeighSame (both_rounds cpu.old self.old) (both_rounds cpu.new self.new)) }
+        ensures old_size { (result ≡ Err (EmptyFault.OldSize self.old.size))
+            ↔ (cpu.old.size ≢ self.old.size) }
         ensures fault { IfErr result (λ e. (e ≡ EmptyFault.OldSize self.old.size) ⊎ (e ≡ NoneEmpty)) }
-        ensures none_empty { (result ≡ Err NoneEmpty) ↔ ((cpu.old.size ≡ self.old.size) × (self.old.empty ≡ 0)) }
+        ensures none_empty { (result ≡ Err NoneEmpty)
+            ↔ ((cpu.old.size ≡ self.old.size) × (self.old.empty ≡ 0)) }
         ensures same { OnErr result (self.new ≡ self.old) }
         ensures same_cpu { OnErr result (cpu.new ≡ cpu.old) }
         ensures shape { IsShaped cpu.new }
@@ -148,13 +157,14 @@ impl<D: Deed> Depot<D> {
         };
         let full = cpu.rotate(empty);
         self.full.push_reserved(FullMagazine::new(full));
-        self.full_since = self.full_since.go_on(self.full.len());
-        self.empty_since = self.empty_since.go_on(self.empty.len());
+        self.full_reapable = self.full_reapable.min(self.full.len());
+        self.empty_reapable = self.empty_reapable.min(self.empty.len());
         Ok(())
     }
 
-    /// Takes a full magazine of a CPU whose magazines are both full, which gets this one for it. It makes the
-    /// room that the other calls need later; want of memory for that is the last thing that it refuses for.
+    /// Takes a full magazine of a CPU whose magazines are both full, which gets this one for it. It
+    /// makes the room that the other calls need later; want of memory for that is the last thing
+    /// that it refuses for.
     #[tactic(auto, using(crate::proofs::Weighing::put_full_weigh))]
     pub fn put_full(
         &mut self,
@@ -164,10 +174,12 @@ impl<D: Deed> Depot<D> {
         requires loaded { length cpu.old.loaded ≡ cpu.old.size }
         requires previous { length cpu.old.previous ≡ cpu.old.size }
         ensures ok { OnOk result (PutsFull magazine cpu.old cpu.new self.old self.new) }
-        ensures weights { OnOk result (WeighSame (magazine.rounds ++ both_rounds cpu.old self.old) (both_rounds cpu.new self.new)) }
+        ensures weights { OnOk result
+            (WeighSame (magazine.rounds ++ both_rounds cpu.old self.old) (both_rounds cpu.new self.new)) }
         ensures old_size { IsErrAnd result (λ r. r.fault ≡ PutFault.OldSize self.old.size)
             ↔ ((cpu.old.size ≢ self.old.size) ⊎ (magazine.size ≢ self.old.size)) }
-        ensures fault { IfErr result (λ r. (r.fault ≡ PutFault.OldSize self.old.size) ⊎ (r.fault ≡ PutFault.NoMemory)) }
+        ensures fault { IfErr result
+            (λ r. (r.fault ≡ PutFault.OldSize self.old.size) ⊎ (r.fault ≡ PutFault.NoMemory)) }
         ensures magazine { IfErr result (λ r. r.magazine ≡ magazine) }
         ensures same { OnErr result (self.new ≡ self.old) }
         ensures same_cpu { OnErr result (cpu.new ≡ cpu.old) }
@@ -188,22 +200,23 @@ impl<D: Deed> Depot<D> {
         };
         let full = cpu.rotate(magazine);
         self.full.push_reserved(FullMagazine::new(full));
-        self.full_since = self.full_since.go_on(self.full.len());
-        self.empty_since = self.empty_since.go_on(self.empty.len());
+        self.full_reapable = self.full_reapable.min(self.full.len());
+        self.empty_reapable = self.empty_reapable.min(self.empty.len());
         Ok(())
     }
 
-    /// Begins an interval: both least lengths are the present ones.
+    /// Begins an interval: all that stands in either list may be reaped, but for what is taken out from
+    /// then on.
     pub fn tick(&mut self)
         ensures ticked { self.new ≡ ticked self.old }
         ensures stock { IsStocked self.new }
     {
-        self.full_since = Interval::begin(self.full.len());
-        self.empty_since = Interval::begin(self.empty.len());
+        self.full_reapable = self.full.len();
+        self.empty_reapable = self.empty.len();
     }
 
-    /// Has magazines of a greater size from here on. The full ones are reaped before any other from now on,
-    /// and the empty ones are discarded.
+    /// Has magazines of a greater size from here on. The full ones are reaped before any other from
+    /// now on, and the empty ones are discarded.
     #[tactic(auto, using(crate::proofs::Weighing::resized_weigh))]
     pub fn resize(&mut self, size: usize) -> Result<(), NotGreater>
         requires { IsSize size }
@@ -223,13 +236,14 @@ impl<D: Deed> Depot<D> {
         let count = self.empty.len();
         discard_oldest(&mut self.empty, count);
         self.size = size;
-        self.full_since = self.full_since.go_on(0);
-        self.empty_since = self.empty_since.go_on(0);
+        self.full_reapable = 0;
+        self.empty_reapable = 0;
         Ok(())
     }
 
-    /// Takes one round of the magazine being drained, else of the oldest full one of an old size, else of the
-    /// oldest full one outside the working set; and discards the empty ones outside it. It takes no memory.
+    /// Takes one round of the magazine being drained, else of the oldest full one of an old size,
+    /// else of the oldest full one outside the working set; and discards the empty ones outside it.
+    /// It takes no memory.
     #[tactic(auto, using(crate::proofs::Weighing::reaps_weigh))]
     pub fn reap(&mut self) -> Option<Segment<D>>
         ensures some { IsSome result ↔ CanReap self.old }
@@ -253,9 +267,8 @@ impl<D: Deed> Depot<D> {
     fn trim(&mut self)
         ensures { self.new ≡ trimmed self.old }
     {
-        let count = self.empty_since.reapable();
-        discard_oldest(&mut self.empty, count);
-        self.empty_since = self.empty_since.reap(count);
+        discard_oldest(&mut self.empty, self.empty_reapable);
+        self.empty_reapable = 0;
     }
 
     // Has a magazine drained, if one may be reaped.
@@ -273,11 +286,11 @@ impl<D: Deed> Depot<D> {
             drain(&mut self.draining, take_first(&mut self.old_full));
             return true;
         }
-        if self.full_since.reapable() == 0 {
+        if self.full_reapable == 0 {
             return false;
         }
         drain(&mut self.draining, take_first(&mut self.full));
-        self.full_since = self.full_since.reap(1);
+        self.full_reapable -= 1;
         true
     }
 
@@ -298,9 +311,9 @@ impl<D: Deed> Depot<D> {
         let Depot {
             size: _,
             full,
-            full_since: _,
+            full_reapable: _,
             mut empty,
-            empty_since: _,
+            empty_reapable: _,
             old_full,
             draining,
         } = self;

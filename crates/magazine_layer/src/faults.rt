@@ -36,9 +36,11 @@ pub enum PutFault {
     NoMemory,
 }
 
-/// A refused magazine, with what refused it.
+/// A refused magazine comes back.
 pub struct PutRefused<D: Deed> {
+    /// The magazine that was to be put, as it was.
     pub magazine: Magazine<D>,
+    /// What refused it.
     pub fault: PutFault,
 }
 

@@ -1,9 +1,9 @@
 //! Edits of a depot's lists.
-ghost use Rattle.std.specs.Prelude.{◌≡◌, ◌+◌, ◌-◌, ◌<◌, ◌≤◌, [], ◌∷◌, drop, All, OnOk, vec_len, vec_capacity};
+ghost use Rattle.std.specs.Prelude.{◌≡◌, ◌+◌, ◌-◌, ◌<◌, ◌≤◌, [], ◌∷◌, drop, All, OnOk, vec_len};
+ghost use Rattle.std.specs.Prelude.{vec_capacity};
 
-use crate::cpu_caches::discard_empty;
 use crate::full_magazines::FullMagazine;
-use crate::magazines::Magazine;
+use crate::magazines::{Magazine, discard_empty};
 use deed_core::{Deed, Segment};
 use std::alloc::AllocError;
 use std::mem;
@@ -54,11 +54,13 @@ pub(crate) fn reserve_one<D: Deed>(
     ensures full_keeps { vec_capacity full.old ≤ vec_capacity full.new }
     ensures empty_items { empty.new.items ≡ empty.old.items }
     ensures empty_len { vec_len empty.new ≡ vec_len empty.old }
-    ensures empty_room { OnOk result (vec_len full.old + vec_len empty.old + 1 ≤ vec_capacity empty.new) }
+    ensures empty_room { OnOk result
+        (vec_len full.old + vec_len empty.old + 1 ≤ vec_capacity empty.new) }
     ensures empty_keeps { vec_capacity empty.old ≤ vec_capacity empty.new }
     ensures old_items { old_full.new.items ≡ old_full.old.items }
     ensures old_len { vec_len old_full.new ≡ vec_len old_full.old }
-    ensures old_room { OnOk result (vec_len old_full.old + (vec_len full.old + vec_len empty.old + 1) ≤ vec_capacity old_full.new) }
+    ensures old_room { OnOk result
+        (vec_len old_full.old + (vec_len full.old + vec_len empty.old + 1) ≤ vec_capacity old_full.new) }
     ensures old_keeps { vec_capacity old_full.old ≤ vec_capacity old_full.new }
 {
     let count = full.len() + empty.len() + 1;

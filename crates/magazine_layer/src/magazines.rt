@@ -1,5 +1,6 @@
 //! Magazines: stacks of segments.
-ghost use Rattle.std.specs.Prelude.{◌≡◌, ◌+◌, ◌<◌, ◌≤◌, ◌^◌, ◌↔◌, [], ◌∷◌, ◌++◌, length, IsTrue, IfSome, IfNone, IfOk, IfErr, IsOk, IsNone};
+ghost use Rattle.std.specs.Prelude.{◌≡◌, ◌+◌, ◌<◌, ◌≤◌, ◌^◌, ◌↔◌, [], ◌∷◌, ◌++◌, length, IsTrue};
+ghost use Rattle.std.specs.Prelude.{IfSome, IfNone, IfOk, IfErr, IsOk, IsNone};
 ghost use Rattle.deed_core.specs.Covering.{units_tagged};
 ghost use Rattle.deed_core.specs.Weights.{Loses};
 ghost use Rattle.magazine_layer.specs.Magazines.{IsSize, IsMagazine, MagazineState};
@@ -8,8 +9,9 @@ use deed_core::{Deed, Segment};
 use std::alloc::{AllocError, Global};
 use std::marker::Model;
 
-/// A stack of segments, its rounds ("Magazines and Vmem", 2001). It holds 3, 7, 15 or 31 of them, which is
-/// our own choice: all rounds of two magazines have room in one of the next size. It is never dropped.
+/// A stack of segments, its rounds ("Magazines and Vmem", 2001). It holds 3, 7, 15 or 31 of them,
+/// which is our own choice: all rounds of two magazines have room in one of the next size. It is
+/// never dropped.
 pub struct Magazine<D: Deed> {
     size: usize,
     rounds: Vec<Segment<D>>,
@@ -23,7 +25,8 @@ impl<D: Deed> Model for Magazine<D> {
 
     ghost view = { λ m. record { size = m.size; rounds = m.rounds.items } };
 
-    ghost invariant = { λ m. IsSize m.size × (vec_len m.rounds ≤ m.size) × (m.size ≤ vec_capacity m.rounds) };
+    ghost invariant = { λ m. IsSize m.size × (vec_len m.rounds ≤ m.size)
+        × (m.size ≤ vec_capacity m.rounds) };
 }
 
 impl<D: Deed> Magazine<D> {
@@ -44,6 +47,7 @@ impl<D: Deed> Magazine<D> {
         self.size
     }
 
+    /// Whether it has no round.
     pub fn is_empty(&self) -> bool
         ensures value { IsTrue result ↔ (self.now.rounds ≡ []) }
         ensures shape { IsMagazine self.now }
@@ -51,6 +55,7 @@ impl<D: Deed> Magazine<D> {
         self.rounds.is_empty()
     }
 
+    /// Whether it has as many rounds as it can hold.
     pub fn is_full(&self) -> bool
         ensures value { IsTrue result ↔ (length self.now.rounds ≡ self.now.size) }
         ensures shape { IsMagazine self.now }
@@ -89,7 +94,8 @@ impl<D: Deed> Magazine<D> {
     // Puts in all rounds of another magazine, in their order.
     pub(crate) fn append(&mut self, other: &mut Magazine<D>)
         requires { length self.old.rounds + length other.old.rounds ≤ self.old.size }
-        ensures here { self.new ≡ record { size = self.old.size; rounds = self.old.rounds ++ other.old.rounds } }
+        ensures here { self.new ≡
+            record { size = self.old.size; rounds = self.old.rounds ++ other.old.rounds } }
         ensures there { other.new ≡ record { size = other.old.size; rounds = [] } }
     {
         match self.rounds.append(&mut other.rounds) {
@@ -117,6 +123,16 @@ impl<D: Deed> Magazine<D> {
         let Magazine { size: _, rounds } = self;
         rounds.destroy_empty();
         Ok(())
+    }
+}
+
+// Ends a magazine that has no round.
+pub(crate) fn discard_empty<D: Deed>(magazine: Magazine<D>)
+    requires { magazine.rounds ≡ [] }
+{
+    match magazine.discard() {
+        Ok(()) => {}
+        Err(_) => unreachable!(),
     }
 }
 

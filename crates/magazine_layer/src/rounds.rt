@@ -1,15 +1,17 @@
 //! Runs of giving and taking over one CPU's cache and its depot.
-ghost use Rattle.std.specs.Prelude.{◌≡◌, ◌≢◌, ◌+◌, ◌/◌, ◌<◌, ◌≤◌, ◌⊎◌, ◌++◌, [], length, IfOk, IfErr, OnErr, IfSome, IfNone, OnSome, vec_len};
+ghost use Rattle.std.specs.Prelude.{◌≡◌, ◌≢◌, ◌+◌, ◌/◌, ◌<◌, ◌≤◌, ◌⊎◌, ◌++◌, [], length, IfOk};
+ghost use Rattle.std.specs.Prelude.{IfErr, OnErr, IfSome, IfNone, OnSome, flat_map, vec_len};
 ghost use Rattle.std.specs.Bool.{OnTrue, OnFalse};
 ghost use Rattle.deed_core.specs.Weights.{WeighSame};
 ghost use Rattle.magazine_layer.specs.Magazines.{IsSize, IsShaped, CanGive, cache_rounds, changed};
 ghost use Rattle.magazine_layer.specs.Depots.{both_rounds};
-ghost use Rattle.magazine_layer.specs.Rounds.{Stock, Takes, Gives, MakesRoom, IsFullUp, NeedsMemory, Steps, Runs, stock, all_brought, all_handed};
+ghost use Rattle.magazine_layer.specs.Rounds.{Stock, Takes, Gives, MakesRoom, IsFullUp};
+ghost use Rattle.magazine_layer.specs.Rounds.{NeedsMemory, Steps, Runs, stock, brought, handed};
 
-use crate::cpu_caches::{CpuCache, discard_empty, two_empty};
+use crate::cpu_caches::{CpuCache, two_empty};
 use crate::depots::Depot;
 use crate::faults::{EmptyFault, FullFault, PutRefused};
-use crate::magazines::Magazine;
+use crate::magazines::{Magazine, discard_empty};
 use deed_core::{Deed, Segment};
 use std::alloc::Global;
 
@@ -33,9 +35,11 @@ pub enum RoundAnswer<D: Deed> {
     Nothing,
 }
 
-/// What a run gave: an answer to each operation, in order, and how many exchanges with the depot it made.
+/// What a run gave.
 pub struct RoundRun<D: Deed> {
+    /// An answer to each operation, in order.
     pub answers: Vec<RoundAnswer<D>>,
+    /// How many exchanges with the depot it made.
     pub exchanges: usize,
 }
 
@@ -65,7 +69,8 @@ fn change_over<D: Deed>(alloc: Global, cpu: &mut CpuCache<D>, size: usize) -> bo
 // Takes a round, of the CPU's cache or of a full magazine of the depot's.
 fn take_round<D: Deed>(alloc: Global, cpu: &mut CpuCache<D>, depot: &mut Depot<D>) -> Step<D>
     requires { cpu.old.size ≤ depot.old.size }
-    ensures takes { Takes (stock cpu.old depot.old) (stock cpu.new depot.new) result.answer result.exchanges }
+    ensures takes { Takes (stock cpu.old depot.old) (stock cpu.new depot.new)
+        result.answer result.exchanges }
     ensures most { result.exchanges ≤ 1 }
     ensures shape { IsShaped cpu.new }
     ensures sizes { cpu.new.size ≤ depot.new.size }
@@ -101,11 +106,13 @@ fn take_round<D: Deed>(alloc: Global, cpu: &mut CpuCache<D>, depot: &mut Depot<D
     }
 }
 
-// Makes room in a CPU's cache whose magazines are both full, and tells the exchanges that it took, if there is memory.
+// Makes room in a CPU's cache whose magazines are both full, and tells the exchanges that it took,
+// if there is memory.
 fn make_room<D: Deed>(alloc: Global, cpu: &mut CpuCache<D>, depot: &mut Depot<D>) -> Option<usize>
     requires full { IsFullUp cpu.old }
     requires sizes { cpu.old.size ≤ depot.old.size }
-    ensures made { IfSome result (λ exchanges. MakesRoom (stock cpu.old depot.old) (stock cpu.new depot.new) exchanges) }
+    ensures made { IfSome result
+        (λ exchanges. MakesRoom (stock cpu.old depot.old) (stock cpu.new depot.new) exchanges) }
     ensures room { OnSome result (CanGive cpu.new) }
     ensures most { IfSome result (λ exchanges. exchanges ≤ 1) }
     ensures memory { IfNone result (NeedsMemory (stock cpu.old depot.old)) }
@@ -131,7 +138,8 @@ fn put_new<D: Deed>(alloc: Global, cpu: &mut CpuCache<D>, depot: &mut Depot<D>) 
     requires full { IsFullUp cpu.old }
     requires sizes { cpu.old.size ≡ depot.old.size }
     requires none { depot.old.empty ≡ 0 }
-    ensures made { IfSome result (λ exchanges. MakesRoom (stock cpu.old depot.old) (stock cpu.new depot.new) exchanges) }
+    ensures made { IfSome result
+        (λ exchanges. MakesRoom (stock cpu.old depot.old) (stock cpu.new depot.new) exchanges) }
     ensures room { OnSome result (CanGive cpu.new) }
     ensures most { IfSome result (λ exchanges. exchanges ≤ 1) }
     ensures same { IfNone result (stock cpu.new depot.new ≡ stock cpu.old depot.old) }
@@ -161,7 +169,8 @@ fn give_round<D: Deed>(
     segment: Segment<D>,
 ) -> Step<D>
     requires { cpu.old.size ≤ depot.old.size }
-    ensures gives { Gives segment (stock cpu.old depot.old) (stock cpu.new depot.new) result.answer result.exchanges }
+    ensures gives { Gives segment (stock cpu.old depot.old) (stock cpu.new depot.new)
+        result.answer result.exchanges }
     ensures most { result.exchanges ≤ 1 }
     ensures shape { IsShaped cpu.new }
     ensures sizes { cpu.new.size ≤ depot.new.size }
@@ -197,7 +206,8 @@ fn run_one<D: Deed>(
     op: RoundOp<D>,
 ) -> Step<D>
     requires { cpu.old.size ≤ depot.old.size }
-    ensures step { Steps op (stock cpu.old depot.old) (stock cpu.new depot.new) result.answer result.exchanges }
+    ensures step { Steps op (stock cpu.old depot.old) (stock cpu.new depot.new)
+        result.answer result.exchanges }
     ensures most { result.exchanges ≤ 1 }
     ensures shape { IsShaped cpu.new }
     ensures sizes { cpu.new.size ≤ depot.new.size }
@@ -209,9 +219,10 @@ fn run_one<D: Deed>(
     }
 }
 
-/// Runs operations in order. Each takes a round from the CPU's cache or gives it one, and where the cache is
-/// empty or full it first exchanges a magazine with the depot, or changes over to the depot's size. The
-/// depot's size is at least the cache's. Want of memory for the answers hands the operations back.
+/// Runs operations in order. Each takes a round from the CPU's cache or gives it one, and where the
+/// cache is empty or full it first exchanges a magazine with the depot, or changes over to the
+/// depot's size. The depot's size is at least the cache's. Want of memory for the answers hands the
+/// operations back.
 pub fn run_rounds<D: Deed>(
     alloc: Global,
     cpu: &mut CpuCache<D>,
@@ -221,8 +232,9 @@ pub fn run_rounds<D: Deed>(
     requires { cpu.old.size ≤ depot.old.size }
     ensures run { IfOk result (λ r. Runs (stock cpu.old depot.old) ops.items r.answers.items
         (stock cpu.new depot.new) r.exchanges) }
-    ensures weights { IfOk result (λ r. WeighSame (both_rounds cpu.old depot.old ++ all_brought ops.items)
-        (both_rounds cpu.new depot.new ++ all_handed r.answers.items)) }
+    ensures weights { IfOk result
+        (λ r. WeighSame (both_rounds cpu.old depot.old ++ flat_map brought ops.items)
+        (both_rounds cpu.new depot.new ++ flat_map handed r.answers.items)) }
     ensures few { IfOk result (λ r. r.exchanges ≤ 1 + vec_len ops / depot.old.size) }
     ensures answers { IfOk result (λ r. vec_len r.answers ≡ vec_len ops) }
     ensures same { OnErr result (stock cpu.new depot.new ≡ stock cpu.old depot.old) }

@@ -1,4 +1,4 @@
-//! Worked runs at M 3.
+//! Worked runs, most of them at M 3.
 ghost use Rattle.std.specs.Prelude.{◌≡◌, ◌≤◌, []};
 
 use crate::{
@@ -122,6 +122,53 @@ fn empty_magazines_come_back(rt: HostRuntime) {
     close(&rt, cpu, depot);
 }
 
+// A CPU whose magazines are of an old size changes over, with no exchange, as it needs room.
+#[test]
+fn a_full_cache_changes_over(rt: HostRuntime) {
+    let alloc = rt.alloc();
+    let mut cpu = CpuCache::new(alloc, 3).ok().expect(&rt, "memory");
+    let mut depot = Depot::new(alloc, 7);
+    let six = ops(&rt, alloc, 0, 6, 0);
+    let _ = run(&rt, alloc, &mut cpu, &mut depot, six);
+    assert_eq!(rt; cpu.size(), 3);
+    let seventh = ops(&rt, alloc, 6, 7, 0);
+    let (_, exchanges) = run(&rt, alloc, &mut cpu, &mut depot, seventh);
+    assert_eq!(rt; (cpu.size(), exchanges), (7, 0));
+    let others = ops(&rt, alloc, 7, 15, 0);
+    let (_, exchanges) = run(&rt, alloc, &mut cpu, &mut depot, others);
+    assert_eq!(rt; (exchanges, cpu.units(), depot.units()), (1, 8, 7));
+    let last = ops(&rt, alloc, 0, 0, 15);
+    let (taken, exchanges) = run(&rt, alloc, &mut cpu, &mut depot, last);
+    let wanted = [14, 13, 12, 11, 10, 9, 8, 7, 6, 5, 4, 3, 2, 1, 0];
+    assert_eq!(rt; taken.as_slice(), wanted.as_slice());
+    assert_eq!(rt; exchanges, 1);
+    close(&rt, cpu, depot);
+}
+
+// So does one that has no round to give: it gets none, and is of the depot's size from then on.
+#[test]
+fn an_empty_cache_changes_over(rt: HostRuntime) {
+    let alloc = rt.alloc();
+    let mut cpu = CpuCache::new(alloc, 3).ok().expect(&rt, "memory");
+    let mut depot = Depot::new(alloc, 15);
+    let one = ops(&rt, alloc, 0, 0, 1);
+    let RoundRun { answers, exchanges } = match run_rounds(alloc, &mut cpu, &mut depot, one) {
+        Ok(run) => run,
+        Err(_) => panic!(rt; "memory"),
+    };
+    let mut answers = answers.into_iter();
+    match answers.next() {
+        Some(RoundAnswer::Nothing) => {}
+        _ => panic!(rt; "a round from nowhere"),
+    }
+    if answers.len() != 0 {
+        panic!(rt; "more answers than operations")
+    }
+    answers.destroy_empty();
+    assert_eq!(rt; (cpu.size(), exchanges), (15, 0));
+    close(&rt, cpu, depot);
+}
+
 #[test]
 fn working_set(rt: HostRuntime) {
     let alloc = rt.alloc();
@@ -148,6 +195,43 @@ fn working_set(rt: HostRuntime) {
     let fresh = changes_over(&rt, alloc, fresh, &mut depot);
     close(&rt, fresh, depot);
     match cpu.close() {
+        Ok(()) => {}
+        Err(_) => panic!(rt; "the cache has rounds"),
+    }
+}
+
+// After a resize the full magazines of the old size go first, the oldest of them at the start; one of
+// the new size goes once it stood over an interval.
+#[test]
+fn old_sizes_are_reaped_first(rt: HostRuntime) {
+    let alloc = rt.alloc();
+    let mut old = CpuCache::new(alloc, 3).ok().expect(&rt, "memory");
+    let mut depot = Depot::new(alloc, 3);
+    let ten = ops(&rt, alloc, 0, 10, 0);
+    let _ = run(&rt, alloc, &mut old, &mut depot, ten);
+    assert_eq!(rt; depot.resize(7), Ok(()));
+    let mut cpu = CpuCache::new(alloc, 7).ok().expect(&rt, "memory");
+    assert!(rt; cpu.size() <= depot.size());
+    let fifteen = ops(&rt, alloc, 20, 35, 0);
+    let (_, exchanges) = run(&rt, alloc, &mut cpu, &mut depot, fifteen);
+    assert_eq!(rt; (exchanges, depot.units()), (1, 13));
+    for base in [2, 1, 0, 5, 4, 3] {
+        reaps(&rt, &mut depot, Some(base));
+    }
+    reaps(&rt, &mut depot, None);
+    depot.tick();
+    for base in [26, 25, 24, 23, 22, 21, 20] {
+        reaps(&rt, &mut depot, Some(base));
+    }
+    reaps(&rt, &mut depot, None);
+    for wanted in [9, 8, 7, 6] {
+        assert_eq!(rt; old.take().map(base), Some(wanted));
+    }
+    for wanted in [34, 33, 32, 31, 30, 29, 28, 27] {
+        assert_eq!(rt; cpu.take().map(base), Some(wanted));
+    }
+    close(&rt, cpu, depot);
+    match old.close() {
         Ok(()) => {}
         Err(_) => panic!(rt; "the cache has rounds"),
     }
@@ -207,4 +291,110 @@ fn discard(rt: &impl Abort, magazine: Magazine<PlainDeed>) {
         Ok(()) => {}
         Err(_) => panic!(rt; "the magazine has rounds"),
     }
+}
+
+// Each round is kept, or comes back where memory is refused for it, and each that is kept is taken
+// again.
+#[test]
+fn no_round_is_lost(rt: HostRuntime) {
+    let alloc = rt.alloc();
+    let Ok(mut cpu) = CpuCache::new(alloc, 3) else {
+        return;
+    };
+    let mut depot = Depot::new(alloc, 7);
+    let mut left: u128 = 0;
+    for at in 0..20 {
+        if gives_one(&rt, alloc, &mut cpu, &mut depot, at) {
+            left = left.saturating_add(1);
+        }
+        assert_eq!(rt; cpu.units().saturating_add(depot.units()), left);
+    }
+    for _ in 0..24 {
+        if takes_one(&rt, alloc, &mut cpu, &mut depot) {
+            left = left.saturating_sub(1);
+        }
+        assert_eq!(rt; cpu.units().saturating_add(depot.units()), left);
+    }
+    assert_eq!(rt; left, 0);
+    close(&rt, cpu, depot);
+}
+
+// Gives the round at this base by a run of its own, and tells whether it is kept.
+fn gives_one(
+    rt: &impl Abort,
+    alloc: Global,
+    cpu: &mut CpuCache<PlainDeed>,
+    depot: &mut Depot<PlainDeed>,
+    at: u64,
+) -> bool {
+    let Ok(mut ops) = Vec::with_capacity(alloc, 1) else {
+        return false;
+    };
+    ops.push_reserved(RoundOp::Give(round(rt, at)));
+    match only_one(rt, alloc, cpu, depot, ops) {
+        RoundAnswer::Kept => true,
+        RoundAnswer::Refused(round) => {
+            assert_eq!(rt; base(round), at);
+            false
+        }
+        _ => panic!(rt; "no answer to a giving"),
+    }
+}
+
+// Takes a round by a run of its own, and tells whether there was one.
+fn takes_one(
+    rt: &impl Abort,
+    alloc: Global,
+    cpu: &mut CpuCache<PlainDeed>,
+    depot: &mut Depot<PlainDeed>,
+) -> bool {
+    let Ok(mut ops) = Vec::with_capacity(alloc, 1) else {
+        return false;
+    };
+    ops.push_reserved(RoundOp::Take);
+    match only_one(rt, alloc, cpu, depot, ops) {
+        RoundAnswer::Taken(round) => {
+            let _ = base(round);
+            true
+        }
+        RoundAnswer::Nothing => false,
+        _ => panic!(rt; "no answer to a taking"),
+    }
+}
+
+// Runs one operation. Where memory is refused for its answer, what was given comes back.
+fn only_one(
+    rt: &impl Abort,
+    alloc: Global,
+    cpu: &mut CpuCache<PlainDeed>,
+    depot: &mut Depot<PlainDeed>,
+    ops: Vec<RoundOp<PlainDeed>>,
+) -> RoundAnswer<PlainDeed> {
+    if cpu.size() > depot.size() {
+        panic!(rt; "the depot is of an older size")
+    }
+    match run_rounds(alloc, cpu, depot, ops) {
+        Ok(
+            RoundRun {
+                answers,
+                exchanges: _,
+            },
+        ) => single(rt, answers),
+        Err(ops) => match single(rt, ops) {
+            RoundOp::Give(round) => RoundAnswer::Refused(round),
+            RoundOp::Take => RoundAnswer::Nothing,
+        },
+    }
+}
+
+// The only member of a list.
+fn single<T>(rt: &impl Abort, mut items: Vec<T>) -> T {
+    let Some(item) = items.pop() else {
+        panic!(rt; "none")
+    };
+    if !items.is_empty() {
+        panic!(rt; "more than one")
+    }
+    items.destroy_empty();
+    item
 }

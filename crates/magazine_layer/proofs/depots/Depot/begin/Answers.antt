@@ -1,5 +1,4 @@
 use Rattle.std.proofs.Common.{◌<◌, arith}
-use Rattle.magazine_layer.specs.Depots.{reapable}
 use Rattle.magazine_layer.proofs.Stocks.{room_first, room_old, stocked_old, stocked_first}
 use Rattle.magazine_layer.proofs.depots.Depot.begin.Goals as goal
 
@@ -12,8 +11,8 @@ invariant_of-self g c = (
 
 pub invariant_of-self-2 : goal.invariant_of-self-2
 invariant_of-self-2 g c =
-    let some : 0 < reapable c.self.inside.full_since = omega (arith, c.reapable.ensures, c.if-reapable-eq0.false) in (
-      rw c.reap-self-inside.ensures (stocked_first _ c.take_first-2.result c.take_first-2.new.items.items c.drain-2.new.draining.items c.take_first-2.ensures.items some c.self.invariant.0),
+    let some : 0 < c.self.inside.full_reapable = omega (arith, c.if-self-eq0.false) in (
+      (stocked_first _ c.take_first-2.result c.take_first-2.new.items.items c.drain-2.new.draining.items c.take_first-2.ensures.items some c.self.invariant.0),
       c.self.invariant.1,
       room_first _ _ _ _ _ _ _ _ c.self.invariant.2 c.take_first-2.ensures.len c.take_first-2.ensures.capacity,
     )

@@ -7,7 +7,7 @@ use Rattle.magazine_layer.proofs.depots.Depot.resize.Goals as goal
 pub invariant_of-self : goal.invariant_of-self
 invariant_of-self g c =
     let none : vec_len c.discard_oldest.new.empty ≡ 0 = omega arith in (
-      rw (c.go_on-self-inside.ensures, c.go_on-self-inside-2.ensures, c.in-Ok.ensures.items, c.in-Ok.ensures.other_items, none) (stocked_resize _ c.args.size c.requires c.self.invariant.0),
+      rw (c.in-Ok.ensures.items, c.in-Ok.ensures.other_items, none) (stocked_resize _ c.args.size c.requires c.self.invariant.0),
       (λ k d below. absurd (omega (arith, c.discard_oldest.new.empty.ok.0))),
       room_resize _ _ _ _ _ _ _ _ _ _ _ _ c.self.invariant.2 c.in-Ok.ensures.other_len none c.in-Ok.ensures.len c.in-Ok.ensures.other_capacity c.discard_oldest.ensures.capacity c.in-Ok.ensures.capacity,
     )
@@ -15,7 +15,7 @@ invariant_of-self g c =
 pub returns-clause-resized : goal.returns-clause-resized
 returns-clause-resized g c =
     let none : vec_len c.discard_oldest.new.empty ≡ 0 = omega arith in
-    rw (← c.self.view_is, c.go_on-self-inside.ensures, c.go_on-self-inside-2.ensures, c.in-Ok.ensures.items, c.in-Ok.ensures.other_items, none) refl
+    rw (← c.self.view_is, c.in-Ok.ensures.items, c.in-Ok.ensures.other_items, none) refl
 
 pub returns-clause-weights : goal.returns-clause-weights
 returns-clause-weights g c f = resized_weigh c.args.size c.args.self.now f ∙ ap (λ d. sum_by f (depot_rounds d)) (sym (returns-clause-resized g c))
