@@ -99,4 +99,4 @@ module _ (spaces : List Space) (place : ℕ) (s : Space) (new : ArenaState) (q :
   carve_refused (Err NoFit) none = (picture_of s, record { here = slice_get_mapped picture_of spaces place s here; why = (none.0, λ has. none_serves s.arena.policy s.arena.quantum q s.arena.free s.arena.rover none.1 has.0 has.1) })
   carve_refused (Err Overlaps) refused = absurd refused
   carve_refused (Err NotAligned) refused = absurd refused
-  carve_refused (Err NoMemory) refused = (picture_of s, record { here = slice_get_mapped picture_of spaces place s here; why = (refused.0, (refused.1.0, s.arena.rover, refused.1.1)) })
+  carve_refused (Err NoMemory) refused = (picture_of s, record { here = slice_get_mapped picture_of spaces place s here; why = (refused.0, (refused.1.0, (s.arena.rover, refused.1.1))) })

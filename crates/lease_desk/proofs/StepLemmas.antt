@@ -38,6 +38,10 @@ module _ {A E : Type 0} where
   on_err (Ok x) P Q f p = tt
   on_err (Err e) P Q f p = f p
 
+  pub always_on_err : (r : Result A E) (P : Type 0) → P → OnErr r P
+  always_on_err (Ok x) P p = tt
+  always_on_err (Err e) P p = p
+
   pub never_err : (r : Result A E) (P : Type 0) → IsOk r → OnErr r P
   never_err (Ok x) P ok = tt
   never_err (Err e) P ok = absurd (let no : false ≡ true = ok in cc)
@@ -77,9 +81,11 @@ fault_or d (Ok operator) = d
 fault_or d (Err fault) = fault
 
 same_operator : (a b : Operator) → Same (Ok a) (Ok b) → a ≡ b
+unfolding operator_or
 same_operator a b is = ap (operator_or a) is
 
 same_fault : (a b : LineFault) → Same (Err a) (Err b) → a ≡ b
+unfolding fault_or
 same_fault a b is = ap (fault_or a) is
 
 never_both : (operator : Operator) (fault : LineFault) → Same (Ok operator) (Err fault) → ⊥

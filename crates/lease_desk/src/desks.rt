@@ -112,8 +112,18 @@ impl Desk {
         match Line::read(line) {
             // There is room, so that this isn't refused.
             Ok(request) => self.serve(&request).write(out),
-            Err(fault) => self.refuse(line, fault, out),
+            Err(fault) => {
+                self.in_order();
+                self.refuse(line, fault, out)
+            }
         }
+    }
+
+    /// A desk is in order, which its type keeps. It does nothing.
+    fn in_order(&self)
+        ensures { IsOrderly self.now }
+    {
+        let _ = self.spaces.len();
     }
 
     /// Answers the line of a client.

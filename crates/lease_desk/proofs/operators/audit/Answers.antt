@@ -5,6 +5,8 @@ use Rattle.lease_desk.specs.declared.spaces.Space.{Space}
 use Rattle.lease_desk.specs.Sums.{audit_line}
 use Rattle.lease_desk.specs.Spaces.{picture_of}
 use Rattle.lease_desk.proofs.PlaceLemmas.{slice_get_here}
+use Rattle.std.specs.Io.{StartsWith}
+use Rattle.lease_desk.proofs.StepLemmas.{always_on_err}
 use Rattle.lease_desk.proofs.TextLemmas.{starts_appended, starts_through, one_more, all_told}
 use Rattle.lease_desk.proofs.operators.audit.Goals as goal
 
@@ -14,8 +16,10 @@ returns-clause-ok c =
     ∙ ap (λ ys. c.args.out.now.items ++ ys) (sym (flat_map-map audit_line picture_of c.args.spaces.now))
 
 pub returns-in_err-tell_arena-clause-err : goal.returns-in_err-tell_arena-clause-err
-returns-in_err-tell_arena-clause-err c = starts_through c.tell_arena.new.out.items c.loop-space.out.items c.args.out.now.items c.in_err-tell_arena.ensures.err
-    (starts_appended c.loop-space.out.items c.args.out.now.items (flat_map (λ (s : Space). audit_line (picture_of s)) (take c.loop-space.space-index c.args.spaces.now)) c.loop-space.invariant)
+returns-in_err-tell_arena-clause-err c =
+    always_on_err c.from_residual.result (StartsWith c.tell_arena.new.out.items c.args.out.now.items)
+    (starts_through c.tell_arena.new.out.items c.loop-space.out.items c.args.out.now.items c.in_err-tell_arena.ensures.err
+    (starts_appended c.loop-space.out.items c.args.out.now.items (flat_map (λ (s : Space). audit_line (picture_of s)) (take c.loop-space.space-index c.args.spaces.now)) c.loop-space.invariant))
 
 pub loop-space-preserved : goal.loop-space-preserved
 loop-space-preserved c = one_more (λ (s : Space). audit_line (picture_of s)) c.args.out.now.items c.loop-space.out.items c.tell_arena.new.out.items c.args.spaces.now c.loop-space.space-index c.space-item.result
