@@ -9,4 +9,4 @@ unfolding clap_on_literals
 is_taken = refl
 
 pub returns-in-Err-clause-script : goal.returns-in-Err-clause-script
-returns-in-Err-clause-script c = λ are. c.words_fault.ensures (c.in-Err.ensures.passes (ap₂ takes c.in_ok-command.ensures are ∙ is_taken))
+returns-in-Err-clause-script c = λ are. c.words_fault.ensures.memory (c.in-Err.ensures.passes (ap₂ takes c.in_ok-command.ensures are ∙ is_taken))
