@@ -2,4 +2,4 @@ use Rattle.std.proofs.Common.{refl}
 use Rattle.tag_arena.proofs.tests.arena_of_fours.Goals as goal
 
 pub new-requires : goal.new-requires
-new-requires g c = (2, refl)
+new-requires c = (2, refl)
