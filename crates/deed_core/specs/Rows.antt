@@ -1,7 +1,7 @@
 -- Deeds that stand side by side.
 use Rattle.std.specs.Prelude.{◌≡◌, ℕ, ◌+◌, List, [], ◌∷◌, zero, suc}
 use Rattle.deed_core.specs.Extent.{end_of}
-use Rattle.deed_core.specs.Holding.{Holding}
+use Rattle.deed_core.specs.Holding.{Holding, piece}
 
 -- the deeds are of the root, the first begins at `base`, each other where the one before it ends, and the
 -- last ends at `end`
@@ -12,4 +12,4 @@ IsRow root base (d ∷ ds) end = (d.root ≡ root) × (d.range.base ≡ base) ×
 -- `count` deeds of `len` units each, side by side from `base` on
 abbrev pub row_of : ℕ → ℕ → ℕ → ℕ → List Holding
 row_of root base len zero = []
-row_of root base len (suc count) = record { root = root; range = record { base = base; len = len } } ∷ row_of root (base + len) len count
+row_of root base len (suc count) = piece root base len ∷ row_of root (base + len) len count

@@ -2,8 +2,8 @@
 use Rattle.std.proofs.Common.{◌≡◌, inl, inr, ℕ, ◌+◌, ◌-◌, ◌<◌, ◌≤◌, ◌==◌, true, false, min, List, [], ◌∷◌, ◌++◌, Option, Some, None, refl, ap, arith, subst}
 use Rattle.std.proofs.Math.Nat.{eq-zero-or-pos}
 use Rattle.std.proofs.lemmas.Bool.Decides.{nat_tests}
-use Rattle.deed_core.specs.Holding.{Holding}
-use Rattle.slab_layer.specs.Parts.{piece, part, front_of, back_of, Follows, joined_parts, joined_row, IsRow}
+use Rattle.deed_core.specs.Holding.{Holding, piece}
+use Rattle.slab_layer.specs.Parts.{part, front_of, back_of, Follows, joined_parts, joined_row, AreEndToEnd}
 
 pub part_none : (r b len : ℕ) → len ≡ 0 → part r b len ≡ None
 part_none r b len e = let is : (len == 0) ≡ true = grind (arith, nat_tests) in rw is refl
@@ -55,9 +55,9 @@ pub joined_row-push : (xs : List (Option Holding)) (x rest : Option Holding) →
 joined_row-push [] x rest = refl
 joined_row-push (y ∷ ys) x rest = ap (joined_parts y) (joined_row-push ys x rest)
 
-pub row-push : (xs : List (Option Holding)) (x rest : Option Holding) → IsRow (xs ++ x ∷ []) rest → Follows x rest × IsRow xs (joined_parts x rest)
+pub row-push : (xs : List (Option Holding)) (x rest : Option Holding) → AreEndToEnd (xs ++ x ∷ []) rest → Follows x rest × AreEndToEnd xs (joined_parts x rest)
 row-push [] x rest r = (r.0, tt)
 row-push (y ∷ ys) x rest r =
-    let t : Follows x rest × IsRow ys (joined_parts x rest) = row-push ys x rest r.1 in
+    let t : Follows x rest × AreEndToEnd ys (joined_parts x rest) = row-push ys x rest r.1 in
     let P : Option Holding → Type 0 = λ z. Follows y z in
     (t.0, (subst P (joined_row-push ys x rest) r.0, t.1))

@@ -9,8 +9,8 @@ use Rattle.std.proofs.lemmas.Option.{same_Some}
 use Rattle.std.proofs.lemmas.List.Elements.{All-nil, All-cons, All-head, All-tail, All-same}
 use Rattle.std.proofs.lemmas.List.{length-set, length-replicate, map-set}
 use Rattle.deed_core.specs.Covering.{units_held}
-use Rattle.deed_core.specs.Holding.{Holding}
-use Rattle.slab_layer.specs.Parts.{piece, part, front_of, back_of, Follows, joined_parts, joined_row, IsRow}
+use Rattle.deed_core.specs.Holding.{Holding, piece}
+use Rattle.slab_layer.specs.Parts.{part, front_of, back_of, Follows, joined_parts, joined_row, AreEndToEnd}
 use Rattle.slab_layer.specs.Slab.{SlabState, chunk_at, used_units, unused_units, gap_of, tail_of, idle_chunks_by, deeds_in, stored_row, IsLowestIdle, IsStored, IsComplete, new_slab}
 use Rattle.slab_layer.proofs.ListLemmas.{both_nil}
 use Rattle.slab_layer.proofs.PartLemmas.{part_some, both_part, follows_part}
@@ -96,7 +96,7 @@ made_state h span colour n count row is chunks home = rw (is, home, chunks) refl
 complete_chunks : (s : SlabState) (first last : Option Holding) (row : List (Option Holding)) → IsStored s first row last → IsComplete s → row ≡ stored_row (chunk_at s) 0 (replicate (length s.home) true)
 complete_chunks s first last row held complete = held.chunks ∙ ap (stored_row (chunk_at s) 0) (all_true s.home complete)
 
-pub complete_row : (s : SlabState) (first last : Option Holding) (row : List (Option Holding)) → IsStored s first row last → IsComplete s → IsRow row last
+pub complete_row : (s : SlabState) (first last : Option Holding) (row : List (Option Holding)) → IsStored s first row last → IsComplete s → AreEndToEnd row last
 complete_row s first last row held complete =
     rw (complete_chunks s first last row held complete, held.tail) (row-stored_row s.span.root (s.span.range.base + s.colour) s.chunk held.shape.some 0 (length s.home) (unused_units s) (s.span.range.base + s.colour + used_units s) (omega arith))
 

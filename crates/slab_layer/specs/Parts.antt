@@ -1,12 +1,8 @@
 -- Deeds that may be missing, since what they would cover has no units.
 use Rattle.std.specs.Prelude.{ℕ, ◌+◌, ◌-◌, ◌==◌, min, List, [], ◌∷◌, Option, Some, None, if◌then◌else◌}
-use Rattle.deed_core.specs.Holding.{Holding, GoesOn, joined}
+use Rattle.deed_core.specs.Holding.{Holding, piece, GoesOn, joined}
 
--- a range of a root
-abbrev pub piece : ℕ → ℕ → ℕ → Holding
-piece root base len = record { root = root; range = record { base = base; len = len } }
-
--- the same, where it has a unit
+-- the `len` units from `base` on, where there is one
 abbrev pub part : ℕ → ℕ → ℕ → Option Holding
 part root base len = if len == 0 then None else Some (piece root base len)
 
@@ -38,6 +34,6 @@ joined_row [] rest = rest
 joined_row (x ∷ xs) rest = joined_parts x (joined_row xs rest)
 
 -- each part of the row goes on where the one before it ends, and so does the rest
-abbrev pub IsRow : List (Option Holding) → Option Holding → Type 0
-IsRow [] rest = Unit {0}
-IsRow (x ∷ xs) rest = Follows x (joined_row xs rest) × IsRow xs rest
+abbrev pub AreEndToEnd : List (Option Holding) → Option Holding → Type 0
+AreEndToEnd [] rest = Unit {0}
+AreEndToEnd (x ∷ xs) rest = Follows x (joined_row xs rest) × AreEndToEnd xs rest

@@ -1,8 +1,8 @@
 -- What a contract sees of a slab, and where its chunks stand.
 use Rattle.std.specs.Prelude.{◌≡◌, ℕ, ◌+◌, ◌-◌, ◌*◌, ◌/◌, ◌<◌, ◌≤◌, Bool, true, false, not, List, [], ◌∷◌, ◌++◌, Option, Some, None, All, Contains, length, slice_index_or, slice_set, replicate, sum_by, if◌then◌else◌}
 use Rattle.std.specs.Option.{option_to_list}
-use Rattle.deed_core.specs.Holding.{Holding}
-use Rattle.slab_layer.specs.Parts.{piece, part}
+use Rattle.deed_core.specs.Holding.{Holding, piece}
+use Rattle.slab_layer.specs.Parts.{part}
 
 -- a slab: its span, how far behind the span's base the first chunk stands, the units of a chunk, and
 -- chunk by chunk whether it is at home

@@ -1,6 +1,7 @@
 //! A deed cut into a row of chunks, and a row joined.
 ghost use Rattle.std.specs.Prelude.{◌≡◌, ◌+◌, ◌-◌, ◌*◌, ◌<◌, ◌≤◌, ◌↔◌, [], true, false, length, map, is_some, replicate, count_by, All, IsTrue, vec_capacity, MatchOption, IfOk, IfErr, OnOk, OnErr};
-ghost use Rattle.slab_layer.specs.Parts.{piece, part, IsRow, joined_row};
+ghost use Rattle.deed_core.specs.Holding.{piece};
+ghost use Rattle.slab_layer.specs.Parts.{part, AreEndToEnd, joined_row};
 ghost use Rattle.slab_layer.specs.Slab.{IsLowestIdle, stored_row};
 
 use crate::parts::{cut, join};
@@ -50,7 +51,7 @@ pub fn unchop<D: Deed>(
     row: &mut Vec<Option<Stored<D>>>,
     rest: Option<Stored<D>>,
 ) -> Option<Stored<D>>
-    requires { IsRow row.old.items rest }
+    requires { AreEndToEnd row.old.items rest }
     ensures joined { result ≡ joined_row row.old.items rest }
     ensures empty { row.new.items ≡ [] }
 {

@@ -6,8 +6,8 @@ use Rattle.std.specs.Ordering.{nat_cmp}
 use Rattle.std.specs.FinMap as finmap
 use Rattle.std.specs.FinMap.{get-empty}
 use Rattle.deed_core.specs.Extent.{Covers}
-use Rattle.deed_core.specs.Holding.{Holding}
-use Rattle.tag_arena.specs.Layout.{Layout, Apart, Holds, IsPartOf, IsAllocated, IsEdgedRun, IsWhole}
+use Rattle.deed_core.specs.Holding.{Holding, Apart}
+use Rattle.tag_arena.specs.Layout.{Layout, Holds, IsPartOf, IsAllocated, IsEdgedRun, IsWhole}
 use Rattle.tag_arena.proofs.Members.{Contains-nil}
 use Rattle.tag_arena.proofs.Ranges.{apart_or_share, not_both, Any-member, member-Any}
 

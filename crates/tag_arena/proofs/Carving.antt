@@ -6,8 +6,8 @@ use Rattle.std.proofs.lemmas.List.Kept.{AllPairs-filter}
 use Rattle.std.specs.Ordering.{nat_cmp}
 use Rattle.std.specs.FinMap.{FinMap, get, insert}
 use Rattle.deed_core.specs.Extent.{Covers, end_of}
-use Rattle.deed_core.specs.Holding.{Holding}
-use Rattle.tag_arena.specs.Layout.{Layout, Apart, Holds, IsPartOf, IsAllocated, IsEdgedRun, IsWhole}
+use Rattle.deed_core.specs.Holding.{Holding, Apart}
+use Rattle.tag_arena.specs.Layout.{Layout, Holds, IsPartOf, IsAllocated, IsEdgedRun, IsWhole}
 use Rattle.tag_arena.specs.Calls.{part, between, surrounds, rests}
 use Rattle.tag_arena.proofs.Members.{Contains-filter, Contains-from_filter, AllPairs-append, AllPairs-optional}
 use Rattle.tag_arena.proofs.Ranges.{apart_or_share, same_where_shared, surrounds-true, true-surrounds, between_is, between_has, get_same, get_other, new_allocated, still_allocated, allocated_cases, Any-member, member-Any, holds_part}

@@ -6,8 +6,8 @@ use Rattle.std.proofs.lemmas.List.Kept.{AllPairs-filter}
 use Rattle.std.specs.Ordering.{nat_cmp}
 use Rattle.std.specs.FinMap.{FinMap, get, remove}
 use Rattle.deed_core.specs.Extent.{Covers}
-use Rattle.deed_core.specs.Holding.{Holding}
-use Rattle.tag_arena.specs.Layout.{Layout, Apart, Holds, IsPartOf, IsAllocated, IsRun, IsEdgedRun, IsLongestRun, IsWhole}
+use Rattle.deed_core.specs.Holding.{Holding, Apart}
+use Rattle.tag_arena.specs.Layout.{Layout, Holds, IsPartOf, IsAllocated, IsRun, IsEdgedRun, IsLongestRun, IsWhole}
 use Rattle.tag_arena.specs.Calls.{surrounds}
 use Rattle.tag_arena.proofs.Members.{Contains-filter, Contains-from_filter, Contains-cases, Contains-nil, AllPairs-append}
 use Rattle.tag_arena.proofs.Ranges.{apart_or_share, same_where_shared, surrounds-true, true-surrounds, get_less, get_gone, was_allocated, freed_cases, Any-member, member-Any, holds_part}

@@ -8,9 +8,9 @@ use Rattle.std.specs.Ordering.{nat_cmp}
 use Rattle.std.specs.FinMap as map
 use Rattle.std.specs.FinMap.{FinMap, get}
 use Rattle.deed_core.specs.Extent.{Covers, end_of}
-use Rattle.deed_core.specs.Holding.{Holding}
+use Rattle.deed_core.specs.Holding.{Holding, Apart}
 use Rattle.tag_arena.specs.Neighbors.{Without, TakesLeft, TakesRight}
-use Rattle.tag_arena.specs.Layout.{Layout, Apart, Holds, IsPartOf, IsAllocated, IsEdgedRun, IsWhole}
+use Rattle.tag_arena.specs.Layout.{Layout, Holds, IsPartOf, IsAllocated, IsEdgedRun, IsWhole}
 use Rattle.tag_arena.specs.Calls.{surrounds}
 use Rattle.tag_arena.proofs.Members.{remove_kept, Contains-remove, remove_pairs, filter_remove, filter_whole}
 use Rattle.tag_arena.proofs.Ranges.{not_both, same_where_shared, surrounds-true, true-surrounds, get_less, get_gone, was_allocated, freed_cases, Any-member, member-Any, holds_part}

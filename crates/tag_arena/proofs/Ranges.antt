@@ -6,9 +6,9 @@ use Rattle.std.proofs.lemmas.Bool.Decides.{nat_tests}
 use Rattle.std.proofs.lemmas.List.{get_or_default}
 use Rattle.std.specs.Ordering.{nat_cmp}
 use Rattle.std.specs.FinMap.{FinMap, get, insert, remove, gets}
-use Rattle.deed_core.specs.Holding.{Holding}
+use Rattle.deed_core.specs.Holding.{Holding, Apart}
 use Rattle.deed_core.specs.Extent.{Covers}
-use Rattle.tag_arena.specs.Layout.{Apart, Holds, IsPartOf, IsAllocated}
+use Rattle.tag_arena.specs.Layout.{Holds, IsPartOf, IsAllocated}
 use Rattle.tag_arena.specs.Calls.{between, part, surrounds}
 use Rattle.tag_arena.proofs.Members.{Contains-head, Contains-cases, Contains-nil}
 

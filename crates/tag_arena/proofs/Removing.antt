@@ -2,8 +2,8 @@
 use Rattle.std.proofs.Common.{◌≡◌, ◌⊎◌, ℕ, ◌<◌, subst, inl, inr, ⊎_elim, List, Contains, AllPairs, Any, Some, arith}
 use Rattle.std.specs.FinMap.{get}
 use Rattle.deed_core.specs.Extent.{Covers}
-use Rattle.deed_core.specs.Holding.{Holding}
-use Rattle.tag_arena.specs.Layout.{Layout, Apart, IsPartOf, IsAllocated, IsEdgedRun, IsWhole}
+use Rattle.deed_core.specs.Holding.{Holding, Apart}
+use Rattle.tag_arena.specs.Layout.{Layout, IsPartOf, IsAllocated, IsEdgedRun, IsWhole}
 use Rattle.tag_arena.proofs.Ranges.{same_where_shared, Any-member, member-Any}
 
 -- the members of a list but one

@@ -10,11 +10,11 @@ use Rattle.std.specs.Ordering.{nat_cmp}
 use Rattle.std.specs.FinMap as finmap
 use Rattle.std.specs.FinMap.{FinMap}
 use Rattle.deed_core.specs.Extent.{Covers, end_of}
-use Rattle.deed_core.specs.Holding.{Holding, GoesOn}
+use Rattle.deed_core.specs.Holding.{Holding, GoesOn, Apart}
 use Rattle.deed_core.specs.Tag.{Tag}
 use Rattle.deed_core.specs.declared.segments.Route.TheVariants.{Direct}
 use Rattle.deed_core.specs.Covering.{covers, covers_held, covering_held}
-use Rattle.tag_arena.specs.Layout.{Apart, IsPartOf, IsEdgedRun, IsLongestRun}
+use Rattle.tag_arena.specs.Layout.{IsPartOf, IsEdgedRun, IsLongestRun}
 use Rattle.tag_arena.specs.ArenaState.{ArenaState, spans_of, layout_of, OnQuantum, IsSound}
 use Rattle.tag_arena.specs.Calls.{surrounds, without, without_span, after_free, after_return, Frees}
 use Rattle.tag_arena.specs.Neighbors.{IsBeside, Merges, TakesLeft, TakesRight}

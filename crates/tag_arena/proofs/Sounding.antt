@@ -12,13 +12,13 @@ use Rattle.std.specs.Ordering.{nat_cmp}
 use Rattle.std.specs.FinMap as finmap
 use Rattle.std.specs.FinMap.{len-empty, len-entries}
 use Rattle.deed_core.specs.Extent.{Extent, IsRange, Overlap, end_of}
-use Rattle.deed_core.specs.Holding.{Holding}
+use Rattle.deed_core.specs.Holding.{Holding, Apart}
 use Rattle.deed_core.specs.Tag.{Tag}
 use Rattle.deed_core.specs.Covering.{covers, covers_held, covering_held}
 use Rattle.deed_core.specs.Weights.{Loses}
 use Rattle.deed_core.specs.declared.segments.Route.TheVariants.{Direct}
 use Rattle.tag_arena.specs.declared.policies.Policy.{Policy}
-use Rattle.tag_arena.specs.Layout.{Apart, Holds, IsPartOf, IsEdgedRun}
+use Rattle.tag_arena.specs.Layout.{Holds, IsPartOf, IsEdgedRun}
 use Rattle.tag_arena.specs.ArenaState.{ArenaState, spans_of, layout_of, ranges_of, direct, OnQuantum, IsSound, empty_arena}
 use Rattle.tag_arena.specs.Calls.{rests, surrounds, without, without_span, after_carve, after_add, after_import, after_free, after_return, after_remove, IsClear}
 use Rattle.tag_arena.proofs.Members.{All-from_members, Contains-nil, Contains-from_filter, filter_one}

@@ -4,8 +4,7 @@ use Rattle.std.proofs.lemmas.Bool.{cases_order}
 use Rattle.std.proofs.lemmas.Bool.Decides.{nat_tests}
 use Rattle.std.proofs.lemmas.List.Elements.{All-contains, All-append, Contains-get_or, Contains-append_left, Contains-append_right, Contains-append_cases}
 use Rattle.std.proofs.lemmas.List.Kept.{AllPairs-filter, AllPairs-cons}
-use Rattle.deed_core.specs.Holding.{Holding}
-use Rattle.tag_arena.specs.Layout.{Apart}
+use Rattle.deed_core.specs.Holding.{Holding, Apart}
 use Rattle.tag_arena.specs.Calls.{without}
 use Rattle.tag_arena.proofs.Members.{Contains-head, Contains-tail, Contains-cases, Contains-nil, Contains-filter, Contains-from_filter, AllPairs-append, AllPairs-head, AllPairs-tail, All-from_members, filter_one}
 use Rattle.tag_arena.proofs.Ranges.{not_both, same_where_shared}

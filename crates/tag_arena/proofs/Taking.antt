@@ -2,10 +2,9 @@
 use Rattle.std.proofs.Common.{◌≡◌, ℕ, ◌+◌, ◌<◌, ◌≤◌, sym, subst, ap, ◌∙◌, List, map, length, get_or, remove, HoldsAt, Contains, Option, Some, None, IfNone, sum_by, arith}
 use Rattle.std.proofs.lemmas.List.Elements.{Contains-append_left}
 use Rattle.std.proofs.lemmas.List.Sums.{sum_by-remove}
-use Rattle.deed_core.specs.Holding.{Holding}
+use Rattle.deed_core.specs.Holding.{Holding, Apart}
 use Rattle.deed_core.specs.Weights.{Loses}
 use Rattle.tag_arena.specs.declared.wholes.Whole.{Whole}
-use Rattle.tag_arena.specs.Layout.{Apart}
 use Rattle.tag_arena.specs.Found.{LowestSoFar}
 use Rattle.tag_arena.specs.ArenaState.{ArenaState, IsSound}
 use Rattle.tag_arena.specs.Calls.{without, after_remove, IsLowestWhole}

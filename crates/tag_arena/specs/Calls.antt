@@ -2,7 +2,7 @@
 use Rattle.std.specs.Prelude.{◌≡◌, ◌≢◌, ℕ, ◌-◌, ◌≤◌, Bool, not, ◌&&◌, ◌==◌, if◌then◌else◌, nat_lt, nat_le, List, [], ◌∷◌, ◌++◌, All, Any, Contains, filter, Option, Some, None}
 use Rattle.std.specs.FinMap.{get, insert, remove}
 use Rattle.deed_core.specs.Extent.{Extent, Overlap, end_of}
-use Rattle.deed_core.specs.Holding.{Holding}
+use Rattle.deed_core.specs.Holding.{Holding, piece}
 use Rattle.deed_core.specs.Tag.{Tag}
 use Rattle.deed_core.specs.Request.{IsGood, rounded}
 use Rattle.deed_core.specs.declared.requests.Request.{Request}
@@ -14,7 +14,7 @@ use Rattle.tag_arena.specs.ArenaState.{ArenaState, spans_of, direct, IsChosen, O
 
 -- `len` units from `base` on, of the root of the range
 abbrev pub part : Holding → ℕ → ℕ → Holding
-part r base len = record { root = r.root; range = record { base = base; len = len } }
+part r base len = piece r.root base len
 
 -- its units from `low` to `high`, if there are any
 abbrev pub between : Holding → ℕ → ℕ → List Holding

@@ -3,17 +3,13 @@ use Rattle.std.specs.Prelude.{◌≡◌, ℕ, ◌-◌, ◌<◌, ◌≤◌, ◌�
 use Rattle.std.specs.Ordering.{nat_cmp}
 use Rattle.std.specs.FinMap.{FinMap, get}
 use Rattle.deed_core.specs.Extent.{Covers, end_of}
-use Rattle.deed_core.specs.Holding.{Holding}
+use Rattle.deed_core.specs.Holding.{Holding, Apart}
 
 -- the spans, the free ranges in them, and what is allocated, each range at its base
 pub record Layout : Type 0 where
   pub spans : List Holding
   pub free : List Holding
   pub allocated : FinMap nat_cmp Holding
-
--- no unit is in both
-abbrev pub Apart : Holding → Holding → Type 0
-Apart r s = (end_of r.range ≤ s.range.base) ⊎ (end_of s.range ≤ r.range.base)
 
 -- the units of the part lie in the whole
 pub record Holds (whole part : Holding) : Type 0 where

@@ -2,8 +2,8 @@
 use Rattle.std.specs.Prelude.{◌≡◌, ◌≢◌, ℕ, ◌<◌, ◌⊎◌, List, All, HoldsAt, Option, Some, None, length, remove}
 use Rattle.deed_core.specs.Extent.{end_of}
 use Rattle.std.specs.Option.{option_map_or}
-use Rattle.deed_core.specs.Holding.{Holding}
-use Rattle.tag_arena.specs.Layout.{Apart, IsPartOf}
+use Rattle.deed_core.specs.Holding.{Holding, Apart}
+use Rattle.tag_arena.specs.Layout.{IsPartOf}
 
 -- new is old without the range r
 abbrev pub Without : List Holding → Holding → List Holding → Type 0
