@@ -1,4 +1,4 @@
-use Rattle.std.proofs.Common.{◌≡◌, ℕ, ◌+◌, ◌%◌, ◌≤◌, ◌<◌, ◌++◌, ◌∷◌, [], List, None, refl, sym, subst, ap, ◌∙◌, option_to_list, arith}
+use Rattle.std.proofs.Common.{◌≡◌, ℕ, ◌+◌, ◌%◌, ◌≤◌, ◌<◌, ◌++◌, ◌∷◌, [], List, None, refl, sym, subst, ap, ◌∙◌, option_to_list, rules, arith}
 use Rattle.std.specs.FinMap as finmap
 use Rattle.deed_core.specs.Extent.{Extent, IsRange, end_of}
 use Rattle.deed_core.specs.Holding.{Holding}
@@ -112,35 +112,8 @@ invariant_of-self-2 g c =
       omega (arith, len, c.push_rest.ensures.len, c.push_rest.ensures.capacity, c.in-Ok-reserve_free.ensures.room),
     )
 
-pub returns-clause-carved : goal.returns-clause-carved
-returns-clause-carved g c =
-    let a : ArenaState = record { id = c.self.inside.id; quantum = c.self.inside.quantum; policy = c.self.inside.policy; owned = c.self.inside.owned.items; imported = c.self.inside.imported.items; free = c.self.inside.free.items; allocated = c.self.inside.tags; rover = c.self.inside.rover } in
-    let sound : IsSound a = c.self.invariant.0 in
-    let t : Tag = c.args.span in
-    let n : ℕ = c.unwrap-len.result in
-    let range_is : c.range-range.result ≡ t.holding.range = c.range-range.ensures.value in
-    let range : IsRange t.holding.range = subst IsRange range_is c.range-range.ensures.range in
-    let good : IsGood a.quantum c.args.request.now = subst (λ (s : ArenaState). IsGood s.quantum c.args.request.now) (sym c.self.view_is) c.requires.good in
-    let room : rounded a.quantum c.args.request.now.size ≤ t.holding.range.len = subst (λ (s : ArenaState). rounded s.quantum c.args.request.now.size ≤ t.holding.range.len) (sym c.self.view_is) c.requires.room in
-    let n_is : n ≡ rounded a.quantum c.args.request.now.size = units_are c.units.result _ _ n c.units.ensures c.unwrap-len.ensures in
-    let fits = subst (λ (s : ArenaState). IsClear s t.holding.range × OnQuantum s.quantum t.holding.range) (sym c.self.view_is) (subst (λ (e : Extent). IsClear c.args.self.now e × OnQuantum c.args.self.now.quantum e) range_is c.in_default.ensures.none) in
-    let some : 0 < n = omega (arith, n_is, rounded_some c.args.request.now.size a.quantum good.size) in
-    let within : n ≤ t.holding.range.len = omega (arith, n_is, room) in
-    let whole : n % a.quantum ≡ 0 = ap (λ k. k % a.quantum) n_is ∙ rounded_multiple c.args.request.now.size a.quantum (power_some a.quantum sound.power) in
-    let piece_is : c.new-first.result ≡ part t.holding t.holding.range.base n = rw (c.new-first.ensures, c.root-2.ensures, c.piece_of.ensures, c.base.ensures.value, range_is) refl in
-    let absent = import_absent a sound t range fits.1 fits.0 n some within whole in
-    let high_is : option_to_list c.in-Ok-cut_first.parts.1 ≡ between t.holding (t.holding.range.base + n) (end_of t.holding.range) = c.in-Ok-cut_first.ensures.high in
-    let free : c.push_rest.new.free.items ≡ a.free ++ between t.holding (t.holding.range.base + n) (end_of t.holding.range) = c.push_rest.ensures.items ∙ ap (λ (xs : List Holding). xs ++ option_to_list c.in-Ok-cut_first.parts.1) c.reserve_free.ensures.items ∙ ap (λ (xs : List Holding). a.free ++ xs) high_is in
-    let import_new : c.new.result ≡ direct t.arena t.holding = rw (c.new.ensures, c.arena-source.ensures, c.new-whole.ensures, c.root.ensures, range_is) refl in
-    let imported : c.push_reserved.new.self.items ≡ a.imported ++ direct t.arena t.holding ∷ [] = c.push_reserved.ensures.items ∙ ap (λ (x : Tag). c.reserve.new.self.items ++ x ∷ []) import_new ∙ ap (λ (xs : List Tag). xs ++ direct t.arena t.holding ∷ []) c.reserve.ensures.items in
-    let tags : c.insert.new.self ≡ finmap.insert a.allocated t.holding.range.base (part t.holding t.holding.range.base n) = c.in-Ok-insert.ensures.ok ∙ ap (λ (h : Holding). finmap.insert c.self.inside.tags h.range.base h) piece_is in
-    let base_is : c.base-2.result + n ≡ t.holding.range.base + n = ap (λ (k : ℕ). k + n) (c.base-2.ensures.value ∙ ap (λ (e : Extent). e.base) range_is) in
-    let moved = ap (λ (k : ℕ). record a { imported = c.push_reserved.new.self.items; free = c.push_rest.new.free.items; allocated = c.insert.new.self; rover = k }) base_is in
-    let after = moved ∙ import_is a sound t range fits.1 fits.0 n some within whole _ _ _ imported free tags in
-    after ∙ ap (λ (k : ℕ). after_carve (after_import a t) t.holding (part t.holding t.holding.range.base k)) n_is ∙ ap (λ (s : ArenaState). after_import_carve s c.args.request.now t) c.self.view_is
-
-pub returns-clause-gains : goal.returns-clause-gains
-returns-clause-gains g c =
+pub returns : goal.returns
+returns g c =
     let a : ArenaState = record { id = c.self.inside.id; quantum = c.self.inside.quantum; policy = c.self.inside.policy; owned = c.self.inside.owned.items; imported = c.self.inside.imported.items; free = c.self.inside.free.items; allocated = c.self.inside.tags; rover = c.self.inside.rover } in
     let sound : IsSound a = c.self.invariant.0 in
     let t : Tag = c.args.span in
@@ -165,34 +138,13 @@ returns-clause-gains g c =
     let moved = ap (λ (k : ℕ). record a { imported = c.push_reserved.new.self.items; free = c.push_rest.new.free.items; allocated = c.insert.new.self; rover = k }) base_is in
     let after = moved ∙ import_is a sound t range fits.1 fits.0 n some within whole _ _ _ imported free tags in
     let piece : c.in-Ok-cut_first.parts.0 ≡ part t.holding t.holding.range.base n = c.in-Ok-cut_first.ensures.piece in
-    let segment : c.new-2.result.holding ≡ part t.holding t.holding.range.base n = ap (λ (x : Tag). x.holding) c.new-2.ensures ∙ c.into_deed.ensures ∙ piece in
-    rw segment (subst (λ (s : ArenaState). Gains (ranges_of s.allocated) (ranges_of c.insert.new.self) (part t.holding t.holding.range.base n)) c.self.view_is (import_gains a sound t range fits.1 fits.0 n some within whole _ after))
-
-pub returns-clause-covering : goal.returns-clause-covering
-returns-clause-covering g c =
-    let a : ArenaState = record { id = c.self.inside.id; quantum = c.self.inside.quantum; policy = c.self.inside.policy; owned = c.self.inside.owned.items; imported = c.self.inside.imported.items; free = c.self.inside.free.items; allocated = c.self.inside.tags; rover = c.self.inside.rover } in
-    let sound : IsSound a = c.self.invariant.0 in
-    let t : Tag = c.args.span in
-    let n : ℕ = c.unwrap-len.result in
-    let range_is : c.range-range.result ≡ t.holding.range = c.range-range.ensures.value in
-    let range : IsRange t.holding.range = subst IsRange range_is c.range-range.ensures.range in
-    let good : IsGood a.quantum c.args.request.now = subst (λ (s : ArenaState). IsGood s.quantum c.args.request.now) (sym c.self.view_is) c.requires.good in
-    let room : rounded a.quantum c.args.request.now.size ≤ t.holding.range.len = subst (λ (s : ArenaState). rounded s.quantum c.args.request.now.size ≤ t.holding.range.len) (sym c.self.view_is) c.requires.room in
-    let n_is : n ≡ rounded a.quantum c.args.request.now.size = units_are c.units.result _ _ n c.units.ensures c.unwrap-len.ensures in
-    let fits = subst (λ (s : ArenaState). IsClear s t.holding.range × OnQuantum s.quantum t.holding.range) (sym c.self.view_is) (subst (λ (e : Extent). IsClear c.args.self.now e × OnQuantum c.args.self.now.quantum e) range_is c.in_default.ensures.none) in
-    let some : 0 < n = omega (arith, n_is, rounded_some c.args.request.now.size a.quantum good.size) in
-    let within : n ≤ t.holding.range.len = omega (arith, n_is, room) in
-    let whole : n % a.quantum ≡ 0 = ap (λ k. k % a.quantum) n_is ∙ rounded_multiple c.args.request.now.size a.quantum (power_some a.quantum sound.power) in
-    let piece_is : c.new-first.result ≡ part t.holding t.holding.range.base n = rw (c.new-first.ensures, c.root-2.ensures, c.piece_of.ensures, c.base.ensures.value, range_is) refl in
-    let absent = import_absent a sound t range fits.1 fits.0 n some within whole in
-    let high_is : option_to_list c.in-Ok-cut_first.parts.1 ≡ between t.holding (t.holding.range.base + n) (end_of t.holding.range) = c.in-Ok-cut_first.ensures.high in
-    let free : c.push_rest.new.free.items ≡ a.free ++ between t.holding (t.holding.range.base + n) (end_of t.holding.range) = c.push_rest.ensures.items ∙ ap (λ (xs : List Holding). xs ++ option_to_list c.in-Ok-cut_first.parts.1) c.reserve_free.ensures.items ∙ ap (λ (xs : List Holding). a.free ++ xs) high_is in
-    let import_new : c.new.result ≡ direct t.arena t.holding = rw (c.new.ensures, c.arena-source.ensures, c.new-whole.ensures, c.root.ensures, range_is) refl in
-    let imported : c.push_reserved.new.self.items ≡ a.imported ++ direct t.arena t.holding ∷ [] = c.push_reserved.ensures.items ∙ ap (λ (x : Tag). c.reserve.new.self.items ++ x ∷ []) import_new ∙ ap (λ (xs : List Tag). xs ++ direct t.arena t.holding ∷ []) c.reserve.ensures.items in
-    let tags : c.insert.new.self ≡ finmap.insert a.allocated t.holding.range.base (part t.holding t.holding.range.base n) = c.in-Ok-insert.ensures.ok ∙ ap (λ (h : Holding). finmap.insert c.self.inside.tags h.range.base h) piece_is in
-    let base_is : c.base-2.result + n ≡ t.holding.range.base + n = ap (λ (k : ℕ). k + n) (c.base-2.ensures.value ∙ ap (λ (e : Extent). e.base) range_is) in
-    let moved = ap (λ (k : ℕ). record a { imported = c.push_reserved.new.self.items; free = c.push_rest.new.free.items; allocated = c.insert.new.self; rover = k }) base_is in
-    let after = moved ∙ import_is a sound t range fits.1 fits.0 n some within whole _ _ _ imported free tags in
-    let piece : c.in-Ok-cut_first.parts.0 ≡ part t.holding t.holding.range.base n = c.in-Ok-cut_first.ensures.piece in
-    let segment : c.new-2.result.holding ≡ part t.holding t.holding.range.base n = ap (λ (x : Tag). x.holding) c.new-2.ensures ∙ c.into_deed.ensures ∙ piece in
-    rw segment (subst (λ (s : ArenaState). (u : ℕ) → covering_held u c.push_rest.new.free.items + covers u (part t.holding t.holding.range.base n).range ≡ covering_held u s.free + covers u t.holding.range) c.self.view_is (import_covers a sound t range fits.1 fits.0 n some within whole _ after))
+    let segment : c.new-2.result.holding ≡ part t.holding t.holding.range.base n = ap (λ (x : Tag). x.holding) c.new-2.ensures ∙ c.into_deed.ensures ∙ piece in record {
+      segment = search rules;
+      carved = after ∙ ap (λ (k : ℕ). after_carve (after_import a t) t.holding (part t.holding t.holding.range.base k)) n_is ∙ ap (λ (s : ArenaState). after_import_carve s c.args.request.now t) c.self.view_is;
+      clear = search rules;
+      refused = search rules;
+      same = search rules;
+      err = search rules;
+      gains = rw segment (subst (λ (s : ArenaState). Gains (ranges_of s.allocated) (ranges_of c.insert.new.self) (part t.holding t.holding.range.base n)) c.self.view_is (import_gains a sound t range fits.1 fits.0 n some within whole _ after));
+      covering = rw segment (subst (λ (s : ArenaState). (u : ℕ) → covering_held u c.push_rest.new.free.items + covers u (part t.holding t.holding.range.base n).range ≡ covering_held u s.free + covers u t.holding.range) c.self.view_is (import_covers a sound t range fits.1 fits.0 n some within whole _ after));
+    }

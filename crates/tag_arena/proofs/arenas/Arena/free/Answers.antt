@@ -85,56 +85,6 @@ invariant_of-self g c =
       omega (arith, len, room, c.push_reserved.ensures.len, c.push_reserved.ensures.capacity, c.merge-merged.ensures.len, c.merge-merged.ensures.capacity),
     )
 
-pub returns-in_default-clause-freed : goal.returns-in_default-clause-freed
-returns-in_default-clause-freed g c =
-    let a : ArenaState = record { id = c.self.inside.id; quantum = c.self.inside.quantum; policy = c.self.inside.policy; owned = c.self.inside.owned.items; imported = c.self.inside.imported.items; free = c.self.inside.free.items; allocated = c.self.inside.tags; rover = c.self.inside.rover } in
-    let sound : IsSound a = c.self.invariant.0 in
-    let p : Holding = c.new-tagged.result in
-    let seg_is : c.new-tagged.result ≡ c.args.segment.holding = rw (c.new-tagged.ensures, c.root.ensures, c.range.ensures.value) refl in
-    let at : finmap.get c.self.inside.tags p.range.base ≡ Some p = search rules in
-    let spans : MatchOption c.span_at.result (All (λ s. ¬ Covers s.range p.range.base) (spans_of a)) (λ s. Contains (spans_of a) s × Covers s.range p.range.base) = rw (c.deref.ensures.value, c.deref-2.ensures.value, c.base-2.ensures.value) at c.span_at.ensures in
-    let s : Holding = c.unwrap-span.result in
-    let there = some_there c.span_at.result _ (λ s. Contains (spans_of a) s × Covers s.range p.range.base) s spans c.unwrap-span.ensures in
-    let new_is : c.new.result ≡ p = c.new.ensures ∙ c.into_deed.ensures ∙ sym seg_is in
-    let merged : Holding = c.merge-merged.result in
-    let left : List Holding = c.merge-merged.new.free.items in
-    let merges : Merges s p a.free merged left = subst (λ (h : Holding). Merges s h a.free merged left) new_is c.merge-merged.ensures.merges in
-    let after = freed_is a sound p at s there.0 there.1 merged left merges _ _ c.push_reserved.ensures.items c.remove.ensures in
-    let none : All (λ t. t.holding ≢ merged) a.imported = rw (c.stretch_of.ensures.value, c.deref-3.ensures.value) at c.in_default.ensures in
-    rw seg_is at (rw c.self.view_is at (frees a sound p at s there.0 there.1 merged left merges _ after none))
-
-pub returns-in_default-clause-loses : goal.returns-in_default-clause-loses
-returns-in_default-clause-loses g c =
-    let a : ArenaState = record { id = c.self.inside.id; quantum = c.self.inside.quantum; policy = c.self.inside.policy; owned = c.self.inside.owned.items; imported = c.self.inside.imported.items; free = c.self.inside.free.items; allocated = c.self.inside.tags; rover = c.self.inside.rover } in
-    let sound : IsSound a = c.self.invariant.0 in
-    let p : Holding = c.new-tagged.result in
-    let seg_is : c.new-tagged.result ≡ c.args.segment.holding = rw (c.new-tagged.ensures, c.root.ensures, c.range.ensures.value) refl in
-    let at : finmap.get c.self.inside.tags p.range.base ≡ Some p = search rules in
-    let loses : Loses (ranges_of c.self.inside.tags) (ranges_of c.remove.new.self) p = subst (λ m. Loses (ranges_of c.self.inside.tags) (ranges_of m) p) (sym c.remove.ensures) (loses_remove c.self.inside.tags p.range.base p at) in
-    subst (λ (h : Holding). Loses (ranges_of c.args.self.now.allocated) (ranges_of c.remove.new.self) h) seg_is (subst (λ (x : ArenaState). Loses (ranges_of x.allocated) (ranges_of c.remove.new.self) p) c.self.view_is loses)
-
-pub returns-in_default-clause-covering : goal.returns-in_default-clause-covering
-returns-in_default-clause-covering g c =
-    let a : ArenaState = record { id = c.self.inside.id; quantum = c.self.inside.quantum; policy = c.self.inside.policy; owned = c.self.inside.owned.items; imported = c.self.inside.imported.items; free = c.self.inside.free.items; allocated = c.self.inside.tags; rover = c.self.inside.rover } in
-    let sound : IsSound a = c.self.invariant.0 in
-    let p : Holding = c.new-tagged.result in
-    let seg_is : c.new-tagged.result ≡ c.args.segment.holding = rw (c.new-tagged.ensures, c.root.ensures, c.range.ensures.value) refl in
-    let at : finmap.get c.self.inside.tags p.range.base ≡ Some p = search rules in
-    let spans : MatchOption c.span_at.result (All (λ s. ¬ Covers s.range p.range.base) (spans_of a)) (λ s. Contains (spans_of a) s × Covers s.range p.range.base) = rw (c.deref.ensures.value, c.deref-2.ensures.value, c.base-2.ensures.value) at c.span_at.ensures in
-    let s : Holding = c.unwrap-span.result in
-    let there = some_there c.span_at.result _ (λ s. Contains (spans_of a) s × Covers s.range p.range.base) s spans c.unwrap-span.ensures in
-    let new_is : c.new.result ≡ p = c.new.ensures ∙ c.into_deed.ensures ∙ sym seg_is in
-    let merged : Holding = c.merge-merged.result in
-    let left : List Holding = c.merge-merged.new.free.items in
-    let merges : Merges s p a.free merged left = subst (λ (h : Holding). Merges s h a.free merged left) new_is c.merge-merged.ensures.merges in
-    let after = freed_is a sound p at s there.0 there.1 merged left merges _ _ c.push_reserved.ensures.items c.remove.ensures in
-    λ u.
-    let counts = freed_covers a sound p at s there.0 there.1 merged left merges u in
-    let same : covering_held u c.push_reserved.new.self.items ≡ covering_held u (after_free a p merged).free = ap (λ (x : ArenaState). covering_held u x.free) after in
-    let old : covering_held u a.free ≡ covering_held u c.args.self.now.free = ap (λ (x : ArenaState). covering_held u x.free) c.self.view_is in
-    let piece : covers u p.range ≡ covers u c.args.segment.holding.range = ap (λ (h : Holding). covers u h.range) seg_is in
-    omega (arith, counts, same, old, piece)
-
 pub invariant_of-self-2 : goal.invariant_of-self-2
 invariant_of-self-2 g c =
     let a : ArenaState = record { id = c.self.inside.id; quantum = c.self.inside.quantum; policy = c.self.inside.policy; owned = c.self.inside.owned.items; imported = c.self.inside.imported.items; free = c.self.inside.free.items; allocated = c.self.inside.tags; rover = c.self.inside.rover } in
@@ -159,8 +109,42 @@ invariant_of-self-2 g c =
       omega (arith, len, room, c.merge-merged.ensures.len, c.merge-merged.ensures.capacity),
     )
 
-pub returns-clause-freed : goal.returns-clause-freed
-returns-clause-freed g c =
+pub returns-in_default : goal.returns-in_default
+returns-in_default g c =
+    let a : ArenaState = record { id = c.self.inside.id; quantum = c.self.inside.quantum; policy = c.self.inside.policy; owned = c.self.inside.owned.items; imported = c.self.inside.imported.items; free = c.self.inside.free.items; allocated = c.self.inside.tags; rover = c.self.inside.rover } in
+    let sound : IsSound a = c.self.invariant.0 in
+    let p : Holding = c.new-tagged.result in
+    let seg_is : c.new-tagged.result ≡ c.args.segment.holding = rw (c.new-tagged.ensures, c.root.ensures, c.range.ensures.value) refl in
+    let at : finmap.get c.self.inside.tags p.range.base ≡ Some p = search rules in
+    let spans : MatchOption c.span_at.result (All (λ s. ¬ Covers s.range p.range.base) (spans_of a)) (λ s. Contains (spans_of a) s × Covers s.range p.range.base) = rw (c.deref.ensures.value, c.deref-2.ensures.value, c.base-2.ensures.value) at c.span_at.ensures in
+    let s : Holding = c.unwrap-span.result in
+    let there = some_there c.span_at.result _ (λ s. Contains (spans_of a) s × Covers s.range p.range.base) s spans c.unwrap-span.ensures in
+    let new_is : c.new.result ≡ p = c.new.ensures ∙ c.into_deed.ensures ∙ sym seg_is in
+    let merged : Holding = c.merge-merged.result in
+    let left : List Holding = c.merge-merged.new.free.items in
+    let merges : Merges s p a.free merged left = subst (λ (h : Holding). Merges s h a.free merged left) new_is c.merge-merged.ensures.merges in
+    let after = freed_is a sound p at s there.0 there.1 merged left merges _ _ c.push_reserved.ensures.items c.remove.ensures in
+    let none : All (λ t. t.holding ≢ merged) a.imported = rw (c.stretch_of.ensures.value, c.deref-3.ensures.value) at c.in_default.ensures in
+    let loses : Loses (ranges_of c.self.inside.tags) (ranges_of c.remove.new.self) p = subst (λ m. Loses (ranges_of c.self.inside.tags) (ranges_of m) p) (sym c.remove.ensures) (loses_remove c.self.inside.tags p.range.base p at) in record {
+      mine = search rules;
+      freed = rw seg_is at (rw c.self.view_is at (frees a sound p at s there.0 there.1 merged left merges _ after none));
+      route = search rules;
+      same = search rules;
+      err = search rules;
+      loses = subst (λ (h : Holding). Loses (ranges_of c.args.self.now.allocated) (ranges_of c.remove.new.self) h) seg_is (subst (λ (x : ArenaState). Loses (ranges_of x.allocated) (ranges_of c.remove.new.self) p) c.self.view_is loses);
+      returned = (λ f.
+          let now : sum_by f c.self.inside.imported.items ≡ sum_by f c.args.self.now.imported = ap (λ (s : ArenaState). sum_by f s.imported) c.self.view_is in
+          omega (arith, now));
+      covering = (λ u.
+          let counts = freed_covers a sound p at s there.0 there.1 merged left merges u in
+          let same : covering_held u c.push_reserved.new.self.items ≡ covering_held u (after_free a p merged).free = ap (λ (x : ArenaState). covering_held u x.free) after in
+          let old : covering_held u a.free ≡ covering_held u c.args.self.now.free = ap (λ (x : ArenaState). covering_held u x.free) c.self.view_is in
+          let piece : covers u p.range ≡ covers u c.args.segment.holding.range = ap (λ (h : Holding). covers u h.range) seg_is in
+          omega (arith, counts, same, old, piece));
+    }
+
+pub returns : goal.returns
+returns g c =
     let a : ArenaState = record { id = c.self.inside.id; quantum = c.self.inside.quantum; policy = c.self.inside.policy; owned = c.self.inside.owned.items; imported = c.self.inside.imported.items; free = c.self.inside.free.items; allocated = c.self.inside.tags; rover = c.self.inside.rover } in
     let sound : IsSound a = c.self.invariant.0 in
     let p : Holding = c.new-tagged.result in
@@ -182,71 +166,24 @@ returns-clause-freed g c =
     let in_list : Contains a.imported import = (k, found.0, sym c.remove-import.ensures.value) in
     let route : import.route ≡ Direct = All-contains (λ t. t.route ≡ Direct) a.imported import sound.routes in_list in
     let back : c.new-2.result ≡ import = c.new-2.ensures ∙ same_tag _ import c.source.ensures (sym route) (c.into_deed-2.ensures ∙ sym holding) in
-    rw seg_is at (rw c.self.view_is at (frees_back a sound p at s there.0 there.1 merged left merges k found.0 found.1 _ c.new-2.result after (back ∙ c.remove-import.ensures.value ∙ get_or_default a.imported k import c.new-2.result found.0)))
-
-pub returns-clause-loses : goal.returns-clause-loses
-returns-clause-loses g c =
-    let a : ArenaState = record { id = c.self.inside.id; quantum = c.self.inside.quantum; policy = c.self.inside.policy; owned = c.self.inside.owned.items; imported = c.self.inside.imported.items; free = c.self.inside.free.items; allocated = c.self.inside.tags; rover = c.self.inside.rover } in
-    let sound : IsSound a = c.self.invariant.0 in
-    let p : Holding = c.new-tagged.result in
-    let seg_is : c.new-tagged.result ≡ c.args.segment.holding = rw (c.new-tagged.ensures, c.root.ensures, c.range.ensures.value) refl in
-    let at : finmap.get c.self.inside.tags p.range.base ≡ Some p = search rules in
-    let loses : Loses (ranges_of c.self.inside.tags) (ranges_of c.remove.new.self) p = subst (λ m. Loses (ranges_of c.self.inside.tags) (ranges_of m) p) (sym c.remove.ensures) (loses_remove c.self.inside.tags p.range.base p at) in
-    subst (λ (h : Holding). Loses (ranges_of c.args.self.now.allocated) (ranges_of c.remove.new.self) h) seg_is (subst (λ (x : ArenaState). Loses (ranges_of x.allocated) (ranges_of c.remove.new.self) p) c.self.view_is loses)
-
-pub returns-clause-covering : goal.returns-clause-covering
-returns-clause-covering g c =
-    let a : ArenaState = record { id = c.self.inside.id; quantum = c.self.inside.quantum; policy = c.self.inside.policy; owned = c.self.inside.owned.items; imported = c.self.inside.imported.items; free = c.self.inside.free.items; allocated = c.self.inside.tags; rover = c.self.inside.rover } in
-    let sound : IsSound a = c.self.invariant.0 in
-    let p : Holding = c.new-tagged.result in
-    let seg_is : c.new-tagged.result ≡ c.args.segment.holding = rw (c.new-tagged.ensures, c.root.ensures, c.range.ensures.value) refl in
-    let at : finmap.get c.self.inside.tags p.range.base ≡ Some p = search rules in
-    let spans : MatchOption c.span_at.result (All (λ s. ¬ Covers s.range p.range.base) (spans_of a)) (λ s. Contains (spans_of a) s × Covers s.range p.range.base) = rw (c.deref.ensures.value, c.deref-2.ensures.value, c.base-2.ensures.value) at c.span_at.ensures in
-    let s : Holding = c.unwrap-span.result in
-    let there = some_there c.span_at.result _ (λ s. Contains (spans_of a) s × Covers s.range p.range.base) s spans c.unwrap-span.ensures in
-    let new_is : c.new.result ≡ p = c.new.ensures ∙ c.into_deed.ensures ∙ sym seg_is in
-    let merged : Holding = c.merge-merged.result in
-    let left : List Holding = c.merge-merged.new.free.items in
-    let merges : Merges s p a.free merged left = subst (λ (h : Holding). Merges s h a.free merged left) new_is c.merge-merged.ensures.merges in
-    λ u.
-    let counts = merge_covers a sound p at s there.0 there.1 merged left merges u in
-    let old : covering_held u a.free ≡ covering_held u c.args.self.now.free = ap (λ (x : ArenaState). covering_held u x.free) c.self.view_is in
-    let piece : covers u p.range ≡ covers u c.args.segment.holding.range = ap (λ (h : Holding). covers u h.range) seg_is in
-    let holding : c.new-2.result.holding ≡ merged = ap (λ (t : Tag). t.holding) c.new-2.ensures ∙ c.into_deed-2.ensures in
-    let one : covers_tag u c.new-2.result ≡ covers u merged.range = ap (λ (h : Holding). covers u h.range) holding in
-    omega (arith, counts, old, piece, one, sum_by-cons (covers_tag u) c.new-2.result [])
-
-pub returns-in_default-clause-returned : goal.returns-in_default-clause-returned
-returns-in_default-clause-returned g c = λ f.
-    let now : sum_by f c.self.inside.imported.items ≡ sum_by f c.args.self.now.imported = ap (λ (s : ArenaState). sum_by f s.imported) c.self.view_is in
-    omega (arith, now)
-
-pub returns-clause-returned : goal.returns-clause-returned
-returns-clause-returned g c =
-    let a : ArenaState = record { id = c.self.inside.id; quantum = c.self.inside.quantum; policy = c.self.inside.policy; owned = c.self.inside.owned.items; imported = c.self.inside.imported.items; free = c.self.inside.free.items; allocated = c.self.inside.tags; rover = c.self.inside.rover } in
-    let sound : IsSound a = c.self.invariant.0 in
-    let p : Holding = c.new-tagged.result in
-    let seg_is : c.new-tagged.result ≡ c.args.segment.holding = rw (c.new-tagged.ensures, c.root.ensures, c.range.ensures.value) refl in
-    let at : finmap.get c.self.inside.tags p.range.base ≡ Some p = search rules in
-    let spans : MatchOption c.span_at.result (All (λ s. ¬ Covers s.range p.range.base) (spans_of a)) (λ s. Contains (spans_of a) s × Covers s.range p.range.base) = rw (c.deref.ensures.value, c.deref-2.ensures.value, c.base-2.ensures.value) at c.span_at.ensures in
-    let s : Holding = c.unwrap-span.result in
-    let there = some_there c.span_at.result _ (λ s. Contains (spans_of a) s × Covers s.range p.range.base) s spans c.unwrap-span.ensures in
-    let new_is : c.new.result ≡ p = c.new.ensures ∙ c.into_deed.ensures ∙ sym seg_is in
-    let merged : Holding = c.merge-merged.result in
-    let left : List Holding = c.merge-merged.new.free.items in
-    let merges : Merges s p a.free merged left = subst (λ (h : Holding). Merges s h a.free merged left) new_is c.merge-merged.ensures.merges in
-    let k : ℕ = c.in-Some.at in
-    let found = rw (c.stretch_of.ensures.value, c.deref-3.ensures.value) at c.in-Some.ensures in
-    let tags : c.remove.new.self ≡ finmap.remove a.allocated p.range.base = c.remove.ensures in
-    let after = returned_is a sound p at s there.0 there.1 merged left merges k found.0 found.1 _ _ c.remove-import.ensures.items tags in
-    let import : Tag = c.remove-import.result in
-    let holding : import.holding ≡ merged = ap (λ (t : Tag). t.holding) c.remove-import.ensures.value ∙ found.1 import in
-    let in_list : Contains a.imported import = (k, found.0, sym c.remove-import.ensures.value) in
-    let route : import.route ≡ Direct = All-contains (λ t. t.route ≡ Direct) a.imported import sound.routes in_list in
-    let back : c.new-2.result ≡ import = c.new-2.ensures ∙ same_tag _ import c.source.ensures (sym route) (c.into_deed-2.ensures ∙ sym holding) in
-    λ f.
-    let less : sum_by f c.remove-import.new.self.items ≡ sum_by f (remove a.imported k) = ap (sum_by f) c.remove-import.ensures.items in
-    let out : sum_by f (remove a.imported k) + f (get_or a.imported k import) ≡ sum_by f a.imported = sum_by-remove f a.imported k import found.0 in
-    let here : f (get_or a.imported k import) ≡ f c.new-2.result = ap f (sym c.remove-import.ensures.value ∙ sym back) in
-    let now : sum_by f a.imported ≡ sum_by f c.args.self.now.imported = ap (λ (s : ArenaState). sum_by f s.imported) c.self.view_is in
-    omega (arith, less, out, here, now, sum_by-cons f c.new-2.result [])
+    let loses : Loses (ranges_of c.self.inside.tags) (ranges_of c.remove.new.self) p = subst (λ m. Loses (ranges_of c.self.inside.tags) (ranges_of m) p) (sym c.remove.ensures) (loses_remove c.self.inside.tags p.range.base p at) in record {
+      mine = search rules;
+      freed = rw seg_is at (rw c.self.view_is at (frees_back a sound p at s there.0 there.1 merged left merges k found.0 found.1 _ c.new-2.result after (back ∙ c.remove-import.ensures.value ∙ get_or_default a.imported k import c.new-2.result found.0)));
+      route = search rules;
+      same = search rules;
+      err = search rules;
+      loses = subst (λ (h : Holding). Loses (ranges_of c.args.self.now.allocated) (ranges_of c.remove.new.self) h) seg_is (subst (λ (x : ArenaState). Loses (ranges_of x.allocated) (ranges_of c.remove.new.self) p) c.self.view_is loses);
+      returned = (λ f.
+          let less : sum_by f c.remove-import.new.self.items ≡ sum_by f (remove a.imported k) = ap (sum_by f) c.remove-import.ensures.items in
+          let out : sum_by f (remove a.imported k) + f (get_or a.imported k import) ≡ sum_by f a.imported = sum_by-remove f a.imported k import found.0 in
+          let here : f (get_or a.imported k import) ≡ f c.new-2.result = ap f (sym c.remove-import.ensures.value ∙ sym back) in
+          let now : sum_by f a.imported ≡ sum_by f c.args.self.now.imported = ap (λ (s : ArenaState). sum_by f s.imported) c.self.view_is in
+          omega (arith, less, out, here, now, sum_by-cons f c.new-2.result []));
+      covering = (λ u.
+          let counts = merge_covers a sound p at s there.0 there.1 merged left merges u in
+          let old : covering_held u a.free ≡ covering_held u c.args.self.now.free = ap (λ (x : ArenaState). covering_held u x.free) c.self.view_is in
+          let piece : covers u p.range ≡ covers u c.args.segment.holding.range = ap (λ (h : Holding). covers u h.range) seg_is in
+          let holding : c.new-2.result.holding ≡ merged = ap (λ (t : Tag). t.holding) c.new-2.ensures ∙ c.into_deed-2.ensures in
+          let one : covers_tag u c.new-2.result ≡ covers u merged.range = ap (λ (h : Holding). covers u h.range) holding in
+          omega (arith, counts, old, piece, one, sum_by-cons (covers_tag u) c.new-2.result []));
+    }

@@ -1,4 +1,4 @@
-use Rattle.std.proofs.Common.{◌≡◌, ℕ, ◌+◌, ◌++◌, List, remove, Some, None, refl, sym, subst, ap, ◌∙◌, All, arith}
+use Rattle.std.proofs.Common.{◌≡◌, ℕ, ◌+◌, ◌++◌, List, remove, Some, None, refl, sym, subst, ap, ◌∙◌, All, rules, arith}
 use Rattle.std.specs.FinMap as finmap
 use Rattle.deed_core.specs.Extent.{IsRange}
 use Rattle.deed_core.specs.Holding.{Holding}
@@ -139,15 +139,10 @@ invariant_of-self-2 g c =
       omega (arith, len, c.carve.ensures.len, c.carve.ensures.capacity, c.in_ok-reserve_free.ensures.room),
     )
 
-pub returns-clause-no_fit : goal.returns-clause-no_fit
-returns-clause-no_fit g c =
+pub returns : goal.returns
+returns g c =
     let a : ArenaState = record { id = c.self.inside.id; quantum = c.self.inside.quantum; policy = c.self.inside.policy; owned = c.self.inside.owned.items; imported = c.self.inside.imported.items; free = c.self.inside.free.items; allocated = c.self.inside.tags; rover = c.self.inside.rover } in
     let chosen : IsChosen c.args.self.now c.args.request.now (Some c.in-Some.found.base) = chosen_by a _ _ _ _ c.deref.ensures.value c.self.view_is c.in-Some.ensures.choice in
-    (λ e. absurd cc, λ none. absurd (never_both c.args.self.now c.args.request.now c.in-Some.found.base none.1 chosen))
-
-pub returns-clause-carved : goal.returns-clause-carved
-returns-clause-carved g c =
-    let a : ArenaState = record { id = c.self.inside.id; quantum = c.self.inside.quantum; policy = c.self.inside.policy; owned = c.self.inside.owned.items; imported = c.self.inside.imported.items; free = c.self.inside.free.items; allocated = c.self.inside.tags; rover = c.self.inside.rover } in
     let good : IsGood c.self.inside.quantum c.args.request.now = c.is_good.ensures.0 c.if-not-is_good.false in
     let f : Found = c.in-Some.found in
     let n : ℕ = c.unwrap-len.result in
@@ -162,45 +157,16 @@ returns-clause-carved g c =
     let free : c.carve.new.free.items ≡ remove c.self.inside.free.items f.at ++ rests f.range (part f.range f.base n) = rw deed_is at (c.in-Ok.ensures.items ∙ ap (λ (xs : List Holding). remove xs f.at ++ rests f.range c.in-Ok.deed) c.reserve_free.ensures.items) in
     let tags : c.insert.new.self ≡ finmap.insert c.self.inside.tags f.base (part f.range f.base n) = c.in_ok-insert.ensures.ok ∙ ap (λ (h : Holding). finmap.insert c.self.inside.tags h.range.base h) piece_is in
     let after = carve_is a c.self.invariant.0 f.at f.range (part f.range f.base n) placed.0 placed.1 held some grid _ _ free tags in
-    let segment : c.new.result.holding ≡ part f.range f.base n = ap (λ (t : Tag). t.holding) c.new.ensures ∙ c.into_deed.ensures ∙ deed_is in
-    rw segment (rw c.self.view_is at (carves a c.self.invariant.0 f.at f.range (part f.range f.base n) placed.0 placed.1 held some grid _ after))
-
-pub returns-clause-gains : goal.returns-clause-gains
-returns-clause-gains g c =
-    let a : ArenaState = record { id = c.self.inside.id; quantum = c.self.inside.quantum; policy = c.self.inside.policy; owned = c.self.inside.owned.items; imported = c.self.inside.imported.items; free = c.self.inside.free.items; allocated = c.self.inside.tags; rover = c.self.inside.rover } in
-    let good : IsGood c.self.inside.quantum c.args.request.now = c.is_good.ensures.0 c.if-not-is_good.false in
-    let f : Found = c.in-Some.found in
-    let n : ℕ = c.unwrap-len.result in
-    let n_is = units_are c.units.result _ _ n c.units.ensures c.unwrap-len.ensures in
-    let placed : IsPlaced c.self.inside.quantum c.args.request.now c.self.inside.free.items f = subst (λ (xs : List Holding). IsPlaced c.self.inside.quantum c.args.request.now xs f) c.deref.ensures.value c.in-Some.ensures.placed in
-    let held = found_held a c.self.invariant.0 c.args.request.now good f placed n n_is in
-    let some = found_some a c.self.invariant.0 c.args.request.now good f placed n n_is in
-    let grid = found_grid a c.self.invariant.0 c.args.request.now good f placed n n_is in
-    let piece_is : c.new-piece.result ≡ part f.range f.base n = rw (c.new-piece.ensures, c.root.ensures, c.piece_of.ensures) refl in
-    let absent = carve_absent a c.self.invariant.0 f.at f.range (part f.range f.base n) placed.0 placed.1 held some grid in
-    let deed_is : c.in-Ok.deed ≡ part f.range f.base n = c.in-Ok.ensures.piece in
-    let free : c.carve.new.free.items ≡ remove c.self.inside.free.items f.at ++ rests f.range (part f.range f.base n) = rw deed_is at (c.in-Ok.ensures.items ∙ ap (λ (xs : List Holding). remove xs f.at ++ rests f.range c.in-Ok.deed) c.reserve_free.ensures.items) in
-    let tags : c.insert.new.self ≡ finmap.insert c.self.inside.tags f.base (part f.range f.base n) = c.in_ok-insert.ensures.ok ∙ ap (λ (h : Holding). finmap.insert c.self.inside.tags h.range.base h) piece_is in
-    let after = carve_is a c.self.invariant.0 f.at f.range (part f.range f.base n) placed.0 placed.1 held some grid _ _ free tags in
-    let segment : c.new.result.holding ≡ part f.range f.base n = ap (λ (t : Tag). t.holding) c.new.ensures ∙ c.into_deed.ensures ∙ deed_is in
-    rw segment (subst (λ (s : ArenaState). Gains (ranges_of s.allocated) (ranges_of c.insert.new.self) (part f.range f.base n)) c.self.view_is (carve_gains a c.self.invariant.0 f.at f.range (part f.range f.base n) placed.0 placed.1 held some grid _ after))
-
-pub returns-clause-covering : goal.returns-clause-covering
-returns-clause-covering g c =
-    let a : ArenaState = record { id = c.self.inside.id; quantum = c.self.inside.quantum; policy = c.self.inside.policy; owned = c.self.inside.owned.items; imported = c.self.inside.imported.items; free = c.self.inside.free.items; allocated = c.self.inside.tags; rover = c.self.inside.rover } in
-    let good : IsGood c.self.inside.quantum c.args.request.now = c.is_good.ensures.0 c.if-not-is_good.false in
-    let f : Found = c.in-Some.found in
-    let n : ℕ = c.unwrap-len.result in
-    let n_is = units_are c.units.result _ _ n c.units.ensures c.unwrap-len.ensures in
-    let placed : IsPlaced c.self.inside.quantum c.args.request.now c.self.inside.free.items f = subst (λ (xs : List Holding). IsPlaced c.self.inside.quantum c.args.request.now xs f) c.deref.ensures.value c.in-Some.ensures.placed in
-    let held = found_held a c.self.invariant.0 c.args.request.now good f placed n n_is in
-    let some = found_some a c.self.invariant.0 c.args.request.now good f placed n n_is in
-    let grid = found_grid a c.self.invariant.0 c.args.request.now good f placed n n_is in
-    let piece_is : c.new-piece.result ≡ part f.range f.base n = rw (c.new-piece.ensures, c.root.ensures, c.piece_of.ensures) refl in
-    let absent = carve_absent a c.self.invariant.0 f.at f.range (part f.range f.base n) placed.0 placed.1 held some grid in
-    let deed_is : c.in-Ok.deed ≡ part f.range f.base n = c.in-Ok.ensures.piece in
-    let free : c.carve.new.free.items ≡ remove c.self.inside.free.items f.at ++ rests f.range (part f.range f.base n) = rw deed_is at (c.in-Ok.ensures.items ∙ ap (λ (xs : List Holding). remove xs f.at ++ rests f.range c.in-Ok.deed) c.reserve_free.ensures.items) in
-    let tags : c.insert.new.self ≡ finmap.insert c.self.inside.tags f.base (part f.range f.base n) = c.in_ok-insert.ensures.ok ∙ ap (λ (h : Holding). finmap.insert c.self.inside.tags h.range.base h) piece_is in
-    let after = carve_is a c.self.invariant.0 f.at f.range (part f.range f.base n) placed.0 placed.1 held some grid _ _ free tags in
-    let segment : c.new.result.holding ≡ part f.range f.base n = ap (λ (t : Tag). t.holding) c.new.ensures ∙ c.into_deed.ensures ∙ deed_is in
-    rw segment (subst (λ (s : ArenaState). (u : ℕ) → covering_held u s.free ≡ covering_held u c.carve.new.free.items + covers u (part f.range f.base n).range) c.self.view_is (carve_covers a c.self.invariant.0 f.at f.range (part f.range f.base n) placed.0 placed.1 held some grid _ after))
+    let segment : c.new.result.holding ≡ part f.range f.base n = ap (λ (t : Tag). t.holding) c.new.ensures ∙ c.into_deed.ensures ∙ deed_is in record {
+      bad = search rules;
+      no_fit = (λ e. absurd cc, λ none. absurd (never_both c.args.self.now c.args.request.now c.in-Some.found.base none.1 chosen));
+      refused = search rules;
+      good = search rules;
+      chosen = search rules;
+      fits = search rules;
+      segment = search rules;
+      carved = rw segment (rw c.self.view_is at (carves a c.self.invariant.0 f.at f.range (part f.range f.base n) placed.0 placed.1 held some grid _ after));
+      err = search rules;
+      gains = rw segment (subst (λ (s : ArenaState). Gains (ranges_of s.allocated) (ranges_of c.insert.new.self) (part f.range f.base n)) c.self.view_is (carve_gains a c.self.invariant.0 f.at f.range (part f.range f.base n) placed.0 placed.1 held some grid _ after));
+      covering = rw segment (subst (λ (s : ArenaState). (u : ℕ) → covering_held u s.free ≡ covering_held u c.carve.new.free.items + covers u (part f.range f.base n).range) c.self.view_is (carve_covers a c.self.invariant.0 f.at f.range (part f.range f.base n) placed.0 placed.1 held some grid _ after));
+    }
