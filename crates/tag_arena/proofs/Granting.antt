@@ -64,42 +64,50 @@ undone m put taken k v none put_is taken_is = taken_is ∙ ap (λ (n : FinMap na
 pub stands : (m put : FinMap nat_cmp Holding) (k : ℕ) (v : Holding) → put ≡ finmap.insert m k v → finmap.get put k ≡ Some v
 stands m put k v put_is = ap (λ (n : FinMap nat_cmp Holding). finmap.get n k) put_is ∙ get_same m k v
 
--- a carve at a place of the list
-module _ (a : ArenaState) (sound : IsSound a) (at : ℕ) (r piece : Holding) (within : at < length a.free) (here : HoldsAt (λ x. x ≡ r) a.free at) (held : IsPartOf r piece) (some : 0 < piece.range.len) (grid : OnQuantum a.quantum piece.range) where
+-- a free range, the place where it stands, and the piece that is carved of it
+pub record CarvesAt (a : ArenaState) (at : ℕ) (r piece : Holding) : Type 0 where
+  pub sound : IsSound a
+  pub within : at < length a.free
+  pub here : HoldsAt (λ x. x ≡ r) a.free at
+  pub held : IsPartOf r piece
+  pub some : 0 < piece.range.len
+  pub grid : OnQuantum a.quantum piece.range
+
+module _ (a : ArenaState) (at : ℕ) (r piece : Holding) (k : CarvesAt a at r piece) where
   pub carve_is : (free : List Holding) (tags : FinMap nat_cmp Holding) → free ≡ remove a.free at ++ rests r piece → tags ≡ finmap.insert a.allocated piece.range.base piece
       → record a { free = free; allocated = tags; rover = end_of piece.range } ≡ after_carve a r piece
   carve_is free tags free_is tags_is =
-      ap (λ (xs : List Holding). record a { free = xs; allocated = tags; rover = end_of piece.range }) (free_is ∙ ap (λ (xs : List Holding). xs ++ rests r piece) (sym (others a sound at r piece within here held some grid)))
+      ap (λ (xs : List Holding). record a { free = xs; allocated = tags; rover = end_of piece.range }) (free_is ∙ ap (λ (xs : List Holding). xs ++ rests r piece) (sym (others a k.sound at r piece k.within k.here k.held k.some k.grid)))
       ∙ ap (λ (m : FinMap nat_cmp Holding). record (after_carve a r piece) { allocated = m }) tags_is
 
   pub carves : (new : ArenaState) → new ≡ after_carve a r piece → Carves a new piece
-  carves new is = record { range = r; among = among a sound at r piece within here held some grid; inside = held; after = is }
+  carves new is = record { range = r; among = among a k.sound at r piece k.within k.here k.held k.some k.grid; inside = k.held; after = is }
 
   pub carve_sound : (new : ArenaState) → new ≡ after_carve a r piece → IsSound new
-  carve_sound new is = subst IsSound (sym is) (sound_carve a sound at r piece within here held some grid)
+  carve_sound new is = subst IsSound (sym is) (sound_carve a k.sound at r piece k.within k.here k.held k.some k.grid)
 
   pub carve_absent : finmap.get a.allocated piece.range.base ≡ None
-  carve_absent = absent a sound at r piece within here held some grid
+  carve_absent = absent a k.sound at r piece k.within k.here k.held k.some k.grid
 
   pub carve_gains : (new : ArenaState) → new ≡ after_carve a r piece → Gains (ranges_of a.allocated) (ranges_of new.allocated) piece
   carve_gains new is = subst (λ (s : ArenaState). Gains (ranges_of a.allocated) (ranges_of s.allocated) piece) (sym is) (gains_insert a.allocated piece.range.base piece carve_absent)
 
   pub carve_covers : (new : ArenaState) → new ≡ after_carve a r piece → (u : ℕ) → covering_held u a.free ≡ covering_held u new.free + covers u piece.range
-  carve_covers new is = subst (λ (s : ArenaState). (u : ℕ) → covering_held u a.free ≡ covering_held u s.free + covers u piece.range) (sym is) (carved_covers a sound at r piece within here held some grid)
+  carve_covers new is = subst (λ (s : ArenaState). (u : ℕ) → covering_held u a.free ≡ covering_held u s.free + covers u piece.range) (sym is) (carved_covers a k.sound at r piece k.within k.here k.held k.some k.grid)
 
--- what was found serves
-module _ (a : ArenaState) (sound : IsSound a) (q : Request) (good : IsGood a.quantum q) (f : Found) (placed : IsPlaced a.quantum q a.free f) (n : ℕ) (n_is : n ≡ rounded a.quantum q.size) where
-  abbrev pub piece : Holding
-  piece = part f.range f.base n
-
-  pub found_held : IsPartOf f.range piece
-  found_held = record { root = refl; from = placed.2.from; to = omega (arith, n_is, placed.2.to) }
-
-  pub found_some : 0 < n
-  found_some = omega (arith, n_is, rounded_some q.size a.quantum good.size)
-
-  pub found_grid : OnQuantum a.quantum piece.range
-  found_grid = (placed.2.fits.whole, ap (λ k. k % a.quantum) n_is ∙ rounded_multiple q.size a.quantum (power_some a.quantum sound.power))
+-- what was found for a good request is carved there
+pub found_carve : (a : ArenaState) (q : Request) (xs : List Holding) (f : Found) (n : ℕ) → IsSound a → IsGood a.quantum q → xs ≡ a.free → IsPlaced a.quantum q xs f → n ≡ rounded a.quantum q.size
+    → CarvesAt a f.at f.range (part f.range f.base n)
+found_carve a q xs f n sound good free is_placed n_is =
+    let placed : IsPlaced a.quantum q a.free f = subst (λ (ys : List Holding). IsPlaced a.quantum q ys f) free is_placed in
+    record {
+      sound = sound;
+      within = placed.0;
+      here = placed.1;
+      held = record { root = refl; from = placed.2.from; to = omega (arith, n_is, placed.2.to) };
+      some = omega (arith, n_is, rounded_some q.size a.quantum good.size);
+      grid = (placed.2.fits.whole, ap (λ k. k % a.quantum) n_is ∙ rounded_multiple q.size a.quantum (power_some a.quantum sound.power));
+    }
 
 -- the error of a result
 err_or : {X : Type 0} → Result X ArenaFault → ArenaFault → ArenaFault

@@ -14,49 +14,45 @@ use Rattle.tag_arena.specs.ArenaState.{ArenaState, IsSound, spans_of, ranges_of}
 use Rattle.tag_arena.specs.Calls.{after_free}
 use Rattle.tag_arena.specs.Neighbors.{Merges}
 use Rattle.tag_arena.proofs.Allocations.{len_less, loses_remove}
-use Rattle.tag_arena.proofs.Returning.{same_tag, some_there, has_span, span_holds, free_beside, freed_is, freed_sound, freed_covers, merge_covers, frees, returned_is, returned_sound, frees_back}
+use Rattle.tag_arena.proofs.Returning.{same_tag, lies_in, has_span, span_holds, free_beside, freed_is, freed_sound, freed_covers, merge_covers, frees, returned_is, returned_sound, frees_back}
 use Rattle.tag_arena.proofs.arenas.Arena.free.Goals as goal
 
 pub unwrap-span-requires : goal.unwrap-span-requires
 unwrap-span-requires g c =
     let a : ArenaState = record { id = c.self.inside.id; quantum = c.self.inside.quantum; policy = c.self.inside.policy; owned = c.self.inside.owned.items; imported = c.self.inside.imported.items; free = c.self.inside.free.items; allocated = c.self.inside.tags; rover = c.self.inside.rover } in
-    let sound : IsSound a = c.self.invariant.0 in
     let p : Holding = c.new-tagged.result in
     let seg_is : c.new-tagged.result ≡ c.args.segment.holding = rw (c.new-tagged.ensures, c.root.ensures, c.range.ensures.value) refl in
     let at : finmap.get c.self.inside.tags p.range.base ≡ Some p = search rules in
     let spans : MatchOption c.span_at.result (All (λ s. ¬ Covers s.range p.range.base) (spans_of a)) (λ s. Contains (spans_of a) s × Covers s.range p.range.base) = rw (c.deref.ensures.value, c.deref-2.ensures.value, c.base-2.ensures.value) at c.span_at.ensures in
-    let has = has_span a sound p at c.span_at.result spans in
+    let has = has_span a c.self.invariant.0 p at c.span_at.result spans in
     rw has.1 refl
 
 pub merge-merged-requires-clause-inside : goal.merge-merged-requires-clause-inside
 merge-merged-requires-clause-inside g c =
     let a : ArenaState = record { id = c.self.inside.id; quantum = c.self.inside.quantum; policy = c.self.inside.policy; owned = c.self.inside.owned.items; imported = c.self.inside.imported.items; free = c.self.inside.free.items; allocated = c.self.inside.tags; rover = c.self.inside.rover } in
-    let sound : IsSound a = c.self.invariant.0 in
     let p : Holding = c.new-tagged.result in
     let seg_is : c.new-tagged.result ≡ c.args.segment.holding = rw (c.new-tagged.ensures, c.root.ensures, c.range.ensures.value) refl in
     let at : finmap.get c.self.inside.tags p.range.base ≡ Some p = search rules in
     let spans : MatchOption c.span_at.result (All (λ s. ¬ Covers s.range p.range.base) (spans_of a)) (λ s. Contains (spans_of a) s × Covers s.range p.range.base) = rw (c.deref.ensures.value, c.deref-2.ensures.value, c.base-2.ensures.value) at c.span_at.ensures in
     let s : Holding = c.unwrap-span.result in
-    let there = some_there c.span_at.result _ (λ s. Contains (spans_of a) s × Covers s.range p.range.base) s spans c.unwrap-span.ensures in
+    let lies = lies_in a p s c.span_at.result c.self.invariant.0 at spans c.unwrap-span.ensures in
     let new_is : c.new.result ≡ p = c.new.ensures ∙ c.into_deed.ensures ∙ sym seg_is in
-    subst (λ (h : Holding). IsPartOf s h) (sym new_is) (span_holds a sound p at s there.0 there.1)
+    subst (λ (h : Holding). IsPartOf s h) (sym new_is) (span_holds a p s lies)
 
 pub merge-merged-requires-clause-beside : goal.merge-merged-requires-clause-beside
 merge-merged-requires-clause-beside g c =
     let a : ArenaState = record { id = c.self.inside.id; quantum = c.self.inside.quantum; policy = c.self.inside.policy; owned = c.self.inside.owned.items; imported = c.self.inside.imported.items; free = c.self.inside.free.items; allocated = c.self.inside.tags; rover = c.self.inside.rover } in
-    let sound : IsSound a = c.self.invariant.0 in
     let p : Holding = c.new-tagged.result in
     let seg_is : c.new-tagged.result ≡ c.args.segment.holding = rw (c.new-tagged.ensures, c.root.ensures, c.range.ensures.value) refl in
     let at : finmap.get c.self.inside.tags p.range.base ≡ Some p = search rules in
     let spans : MatchOption c.span_at.result (All (λ s. ¬ Covers s.range p.range.base) (spans_of a)) (λ s. Contains (spans_of a) s × Covers s.range p.range.base) = rw (c.deref.ensures.value, c.deref-2.ensures.value, c.base-2.ensures.value) at c.span_at.ensures in
     let s : Holding = c.unwrap-span.result in
-    let there = some_there c.span_at.result _ (λ s. Contains (spans_of a) s × Covers s.range p.range.base) s spans c.unwrap-span.ensures in
-    free_beside a sound p at s there.0 there.1
+    let lies = lies_in a p s c.span_at.result c.self.invariant.0 at spans c.unwrap-span.ensures in
+    free_beside a p s lies
 
 pub push_reserved-requires : goal.push_reserved-requires
 push_reserved-requires g c =
     let a : ArenaState = record { id = c.self.inside.id; quantum = c.self.inside.quantum; policy = c.self.inside.policy; owned = c.self.inside.owned.items; imported = c.self.inside.imported.items; free = c.self.inside.free.items; allocated = c.self.inside.tags; rover = c.self.inside.rover } in
-    let sound : IsSound a = c.self.invariant.0 in
     let p : Holding = c.new-tagged.result in
     let seg_is : c.new-tagged.result ≡ c.args.segment.holding = rw (c.new-tagged.ensures, c.root.ensures, c.range.ensures.value) refl in
     let at : finmap.get c.self.inside.tags p.range.base ≡ Some p = search rules in
@@ -67,34 +63,32 @@ push_reserved-requires g c =
 pub invariant_of-self : goal.invariant_of-self
 invariant_of-self g c =
     let a : ArenaState = record { id = c.self.inside.id; quantum = c.self.inside.quantum; policy = c.self.inside.policy; owned = c.self.inside.owned.items; imported = c.self.inside.imported.items; free = c.self.inside.free.items; allocated = c.self.inside.tags; rover = c.self.inside.rover } in
-    let sound : IsSound a = c.self.invariant.0 in
     let p : Holding = c.new-tagged.result in
     let seg_is : c.new-tagged.result ≡ c.args.segment.holding = rw (c.new-tagged.ensures, c.root.ensures, c.range.ensures.value) refl in
     let at : finmap.get c.self.inside.tags p.range.base ≡ Some p = search rules in
     let spans : MatchOption c.span_at.result (All (λ s. ¬ Covers s.range p.range.base) (spans_of a)) (λ s. Contains (spans_of a) s × Covers s.range p.range.base) = rw (c.deref.ensures.value, c.deref-2.ensures.value, c.base-2.ensures.value) at c.span_at.ensures in
     let s : Holding = c.unwrap-span.result in
-    let there = some_there c.span_at.result _ (λ s. Contains (spans_of a) s × Covers s.range p.range.base) s spans c.unwrap-span.ensures in
+    let lies = lies_in a p s c.span_at.result c.self.invariant.0 at spans c.unwrap-span.ensures in
     let new_is : c.new.result ≡ p = c.new.ensures ∙ c.into_deed.ensures ∙ sym seg_is in
     let merged : Holding = c.merge-merged.result in
     let left : List Holding = c.merge-merged.new.free.items in
     let merges : Merges s p a.free merged left = subst (λ (h : Holding). Merges s h a.free merged left) new_is c.merge-merged.ensures.merges in
-    let after = freed_is a sound p at s there.0 there.1 merged left merges _ _ c.push_reserved.ensures.items c.remove.ensures in
+    let after = freed_is a p s lies merged left merges _ _ c.push_reserved.ensures.items c.remove.ensures in
     let len : finmap.len c.remove.new.self + 1 ≡ finmap.len c.self.inside.tags = ap (λ m. finmap.len m + 1) c.remove.ensures ∙ len_less c.self.inside.tags p.range.base p at in
     let room = c.self.invariant.1 in (
-      subst IsSound (sym after) (freed_sound a sound p at s there.0 there.1 merged left merges),
+      subst IsSound (sym after) (freed_sound a p s lies merged left merges),
       omega (arith, len, room, c.push_reserved.ensures.len, c.push_reserved.ensures.capacity, c.merge-merged.ensures.len, c.merge-merged.ensures.capacity),
     )
 
 pub invariant_of-self-2 : goal.invariant_of-self-2
 invariant_of-self-2 g c =
     let a : ArenaState = record { id = c.self.inside.id; quantum = c.self.inside.quantum; policy = c.self.inside.policy; owned = c.self.inside.owned.items; imported = c.self.inside.imported.items; free = c.self.inside.free.items; allocated = c.self.inside.tags; rover = c.self.inside.rover } in
-    let sound : IsSound a = c.self.invariant.0 in
     let p : Holding = c.new-tagged.result in
     let seg_is : c.new-tagged.result ≡ c.args.segment.holding = rw (c.new-tagged.ensures, c.root.ensures, c.range.ensures.value) refl in
     let at : finmap.get c.self.inside.tags p.range.base ≡ Some p = search rules in
     let spans : MatchOption c.span_at.result (All (λ s. ¬ Covers s.range p.range.base) (spans_of a)) (λ s. Contains (spans_of a) s × Covers s.range p.range.base) = rw (c.deref.ensures.value, c.deref-2.ensures.value, c.base-2.ensures.value) at c.span_at.ensures in
     let s : Holding = c.unwrap-span.result in
-    let there = some_there c.span_at.result _ (λ s. Contains (spans_of a) s × Covers s.range p.range.base) s spans c.unwrap-span.ensures in
+    let lies = lies_in a p s c.span_at.result c.self.invariant.0 at spans c.unwrap-span.ensures in
     let new_is : c.new.result ≡ p = c.new.ensures ∙ c.into_deed.ensures ∙ sym seg_is in
     let merged : Holding = c.merge-merged.result in
     let left : List Holding = c.merge-merged.new.free.items in
@@ -102,32 +96,31 @@ invariant_of-self-2 g c =
     let k : ℕ = c.in-Some.at in
     let found = rw (c.stretch_of.ensures.value, c.deref-3.ensures.value) at c.in-Some.ensures in
     let tags : c.remove.new.self ≡ finmap.remove a.allocated p.range.base = c.remove.ensures in
-    let after = returned_is a sound p at s there.0 there.1 merged left merges k found.0 found.1 _ _ c.remove-import.ensures.items tags in
+    let after = returned_is a p s lies merged left merges k found.0 found.1 _ _ c.remove-import.ensures.items tags in
     let len : finmap.len c.remove.new.self + 1 ≡ finmap.len c.self.inside.tags = ap (λ m. finmap.len m + 1) c.remove.ensures ∙ len_less c.self.inside.tags p.range.base p at in
     let room = c.self.invariant.1 in (
-      subst IsSound (sym after) (returned_sound a sound p at s there.0 there.1 merged left merges k found.0 found.1),
+      subst IsSound (sym after) (returned_sound a p s lies merged left merges k found.0 found.1),
       omega (arith, len, room, c.merge-merged.ensures.len, c.merge-merged.ensures.capacity),
     )
 
 pub returns-in_default : goal.returns-in_default
 returns-in_default g c =
     let a : ArenaState = record { id = c.self.inside.id; quantum = c.self.inside.quantum; policy = c.self.inside.policy; owned = c.self.inside.owned.items; imported = c.self.inside.imported.items; free = c.self.inside.free.items; allocated = c.self.inside.tags; rover = c.self.inside.rover } in
-    let sound : IsSound a = c.self.invariant.0 in
     let p : Holding = c.new-tagged.result in
     let seg_is : c.new-tagged.result ≡ c.args.segment.holding = rw (c.new-tagged.ensures, c.root.ensures, c.range.ensures.value) refl in
     let at : finmap.get c.self.inside.tags p.range.base ≡ Some p = search rules in
     let spans : MatchOption c.span_at.result (All (λ s. ¬ Covers s.range p.range.base) (spans_of a)) (λ s. Contains (spans_of a) s × Covers s.range p.range.base) = rw (c.deref.ensures.value, c.deref-2.ensures.value, c.base-2.ensures.value) at c.span_at.ensures in
     let s : Holding = c.unwrap-span.result in
-    let there = some_there c.span_at.result _ (λ s. Contains (spans_of a) s × Covers s.range p.range.base) s spans c.unwrap-span.ensures in
+    let lies = lies_in a p s c.span_at.result c.self.invariant.0 at spans c.unwrap-span.ensures in
     let new_is : c.new.result ≡ p = c.new.ensures ∙ c.into_deed.ensures ∙ sym seg_is in
     let merged : Holding = c.merge-merged.result in
     let left : List Holding = c.merge-merged.new.free.items in
     let merges : Merges s p a.free merged left = subst (λ (h : Holding). Merges s h a.free merged left) new_is c.merge-merged.ensures.merges in
-    let after = freed_is a sound p at s there.0 there.1 merged left merges _ _ c.push_reserved.ensures.items c.remove.ensures in
+    let after = freed_is a p s lies merged left merges _ _ c.push_reserved.ensures.items c.remove.ensures in
     let none : All (λ t. t.holding ≢ merged) a.imported = rw (c.stretch_of.ensures.value, c.deref-3.ensures.value) at c.in_default.ensures in
     let loses : Loses (ranges_of c.self.inside.tags) (ranges_of c.remove.new.self) p = subst (λ m. Loses (ranges_of c.self.inside.tags) (ranges_of m) p) (sym c.remove.ensures) (loses_remove c.self.inside.tags p.range.base p at) in record {
       mine = search rules;
-      freed = rw seg_is at (rw c.self.view_is at (frees a sound p at s there.0 there.1 merged left merges _ after none));
+      freed = rw seg_is at (rw c.self.view_is at (frees a p s lies merged left merges _ after none));
       route = search rules;
       same = search rules;
       err = search rules;
@@ -136,7 +129,7 @@ returns-in_default g c =
           let now : sum_by f c.self.inside.imported.items ≡ sum_by f c.args.self.now.imported = ap (λ (s : ArenaState). sum_by f s.imported) c.self.view_is in
           omega (arith, now));
       covering = (λ u.
-          let counts = freed_covers a sound p at s there.0 there.1 merged left merges u in
+          let counts = freed_covers a p s lies merged left merges u in
           let same : covering_held u c.push_reserved.new.self.items ≡ covering_held u (after_free a p merged).free = ap (λ (x : ArenaState). covering_held u x.free) after in
           let old : covering_held u a.free ≡ covering_held u c.args.self.now.free = ap (λ (x : ArenaState). covering_held u x.free) c.self.view_is in
           let piece : covers u p.range ≡ covers u c.args.segment.holding.range = ap (λ (h : Holding). covers u h.range) seg_is in
@@ -146,13 +139,12 @@ returns-in_default g c =
 pub returns : goal.returns
 returns g c =
     let a : ArenaState = record { id = c.self.inside.id; quantum = c.self.inside.quantum; policy = c.self.inside.policy; owned = c.self.inside.owned.items; imported = c.self.inside.imported.items; free = c.self.inside.free.items; allocated = c.self.inside.tags; rover = c.self.inside.rover } in
-    let sound : IsSound a = c.self.invariant.0 in
     let p : Holding = c.new-tagged.result in
     let seg_is : c.new-tagged.result ≡ c.args.segment.holding = rw (c.new-tagged.ensures, c.root.ensures, c.range.ensures.value) refl in
     let at : finmap.get c.self.inside.tags p.range.base ≡ Some p = search rules in
     let spans : MatchOption c.span_at.result (All (λ s. ¬ Covers s.range p.range.base) (spans_of a)) (λ s. Contains (spans_of a) s × Covers s.range p.range.base) = rw (c.deref.ensures.value, c.deref-2.ensures.value, c.base-2.ensures.value) at c.span_at.ensures in
     let s : Holding = c.unwrap-span.result in
-    let there = some_there c.span_at.result _ (λ s. Contains (spans_of a) s × Covers s.range p.range.base) s spans c.unwrap-span.ensures in
+    let lies = lies_in a p s c.span_at.result c.self.invariant.0 at spans c.unwrap-span.ensures in
     let new_is : c.new.result ≡ p = c.new.ensures ∙ c.into_deed.ensures ∙ sym seg_is in
     let merged : Holding = c.merge-merged.result in
     let left : List Holding = c.merge-merged.new.free.items in
@@ -160,15 +152,15 @@ returns g c =
     let k : ℕ = c.in-Some.at in
     let found = rw (c.stretch_of.ensures.value, c.deref-3.ensures.value) at c.in-Some.ensures in
     let tags : c.remove.new.self ≡ finmap.remove a.allocated p.range.base = c.remove.ensures in
-    let after = returned_is a sound p at s there.0 there.1 merged left merges k found.0 found.1 _ _ c.remove-import.ensures.items tags in
+    let after = returned_is a p s lies merged left merges k found.0 found.1 _ _ c.remove-import.ensures.items tags in
     let import : Tag = c.remove-import.result in
     let holding : import.holding ≡ merged = ap (λ (t : Tag). t.holding) c.remove-import.ensures.value ∙ found.1 import in
     let in_list : Contains a.imported import = (k, found.0, sym c.remove-import.ensures.value) in
-    let route : import.route ≡ Direct = All-contains (λ t. t.route ≡ Direct) a.imported import sound.routes in_list in
+    let route : import.route ≡ Direct = All-contains (λ t. t.route ≡ Direct) a.imported import c.self.invariant.0.routes in_list in
     let back : c.new-2.result ≡ import = c.new-2.ensures ∙ same_tag _ import c.source.ensures (sym route) (c.into_deed-2.ensures ∙ sym holding) in
     let loses : Loses (ranges_of c.self.inside.tags) (ranges_of c.remove.new.self) p = subst (λ m. Loses (ranges_of c.self.inside.tags) (ranges_of m) p) (sym c.remove.ensures) (loses_remove c.self.inside.tags p.range.base p at) in record {
       mine = search rules;
-      freed = rw seg_is at (rw c.self.view_is at (frees_back a sound p at s there.0 there.1 merged left merges k found.0 found.1 _ c.new-2.result after (back ∙ c.remove-import.ensures.value ∙ get_or_default a.imported k import c.new-2.result found.0)));
+      freed = rw seg_is at (rw c.self.view_is at (frees_back a p s lies merged left merges k found.0 found.1 _ c.new-2.result after (back ∙ c.remove-import.ensures.value ∙ get_or_default a.imported k import c.new-2.result found.0)));
       route = search rules;
       same = search rules;
       err = search rules;
@@ -180,7 +172,7 @@ returns g c =
           let now : sum_by f a.imported ≡ sum_by f c.args.self.now.imported = ap (λ (s : ArenaState). sum_by f s.imported) c.self.view_is in
           omega (arith, less, out, here, now, sum_by-cons f c.new-2.result []));
       covering = (λ u.
-          let counts = merge_covers a sound p at s there.0 there.1 merged left merges u in
+          let counts = merge_covers a p s lies merged left merges u in
           let old : covering_held u a.free ≡ covering_held u c.args.self.now.free = ap (λ (x : ArenaState). covering_held u x.free) c.self.view_is in
           let piece : covers u p.range ≡ covers u c.args.segment.holding.range = ap (λ (h : Holding). covers u h.range) seg_is in
           let holding : c.new-2.result.holding ≡ merged = ap (λ (t : Tag). t.holding) c.new-2.ensures ∙ c.into_deed-2.ensures in

@@ -7,12 +7,11 @@ use Rattle.deed_core.specs.Request.{IsGood}
 use Rattle.deed_core.specs.Covering.{covers, covering_held}
 use Rattle.deed_core.specs.Weights.{Gains}
 use Rattle.tag_arena.specs.declared.choices.Found.{Found}
-use Rattle.tag_arena.specs.Found.{IsPlaced}
 use Rattle.tag_arena.specs.ArenaState.{ArenaState, IsSound, IsChosen, ranges_of}
 use Rattle.tag_arena.specs.Calls.{part, rests, RefusesCarve}
 use Rattle.tag_arena.proofs.Allocations.{len_more}
 use Rattle.tag_arena.proofs.Sounding.{free_ranges}
-use Rattle.tag_arena.proofs.Granting.{units_are, chosen_by, never_both, as_it_was, undone, stands, memory_refused, memory_not_fit, carve_is, carves, carve_sound, carve_absent, carve_gains, carve_covers, found_held, found_some, found_grid}
+use Rattle.tag_arena.proofs.Granting.{units_are, chosen_by, never_both, as_it_was, undone, stands, memory_refused, memory_not_fit, carve_is, carves, carve_sound, carve_absent, carve_gains, carve_covers, found_carve}
 use Rattle.tag_arena.proofs.arenas.Arena.xalloc.Goals as goal
 
 pub chosen-requires-clause-below : goal.chosen-requires-clause-below
@@ -53,12 +52,9 @@ insert-requires-clause-absent g c =
     let f : Found = c.in-Some.found in
     let n : ℕ = c.unwrap-len.result in
     let n_is = units_are c.units.result _ _ n c.units.ensures c.unwrap-len.ensures in
-    let placed : IsPlaced c.self.inside.quantum c.args.request.now c.self.inside.free.items f = subst (λ (xs : List Holding). IsPlaced c.self.inside.quantum c.args.request.now xs f) c.deref.ensures.value c.in-Some.ensures.placed in
-    let held = found_held a c.self.invariant.0 c.args.request.now good f placed n n_is in
-    let some = found_some a c.self.invariant.0 c.args.request.now good f placed n n_is in
-    let grid = found_grid a c.self.invariant.0 c.args.request.now good f placed n n_is in
+    let k = found_carve a c.args.request.now _ f n c.self.invariant.0 good c.deref.ensures.value c.in-Some.ensures.placed n_is in
     let piece_is : c.new-piece.result ≡ part f.range f.base n = rw (c.new-piece.ensures, c.root.ensures, c.piece_of.ensures) refl in
-    let absent = carve_absent a c.self.invariant.0 f.at f.range (part f.range f.base n) placed.0 placed.1 held some grid in
+    let absent = carve_absent a f.at f.range (part f.range f.base n) k in
     rw piece_is absent
 
 pub remove-requires : goal.remove-requires
@@ -71,12 +67,9 @@ invariant_of-self-in_default-carve g c =
     let f : Found = c.in-Some.found in
     let n : ℕ = c.unwrap-len.result in
     let n_is = units_are c.units.result _ _ n c.units.ensures c.unwrap-len.ensures in
-    let placed : IsPlaced c.self.inside.quantum c.args.request.now c.self.inside.free.items f = subst (λ (xs : List Holding). IsPlaced c.self.inside.quantum c.args.request.now xs f) c.deref.ensures.value c.in-Some.ensures.placed in
-    let held = found_held a c.self.invariant.0 c.args.request.now good f placed n n_is in
-    let some = found_some a c.self.invariant.0 c.args.request.now good f placed n n_is in
-    let grid = found_grid a c.self.invariant.0 c.args.request.now good f placed n n_is in
+    let k = found_carve a c.args.request.now _ f n c.self.invariant.0 good c.deref.ensures.value c.in-Some.ensures.placed n_is in
     let piece_is : c.new-piece.result ≡ part f.range f.base n = rw (c.new-piece.ensures, c.root.ensures, c.piece_of.ensures) refl in
-    let absent = carve_absent a c.self.invariant.0 f.at f.range (part f.range f.base n) placed.0 placed.1 held some grid in
+    let absent = carve_absent a f.at f.range (part f.range f.base n) k in
     let absent_here : finmap.get c.self.inside.tags c.new-piece.result.range.base ≡ None = rw piece_is absent in
     let tags = undone c.self.inside.tags c.insert.new.self c.remove.new.self c.new-piece.result.range.base c.new-piece.result absent_here c.in_ok-insert.ensures.ok c.remove.ensures in
     let free : c.carve.new.free.items ≡ c.self.inside.free.items = c.in_default-carve.ensures.err ∙ c.reserve_free.ensures.items in
@@ -106,12 +99,9 @@ returns-in_default-carve-clause-err g c =
     let f : Found = c.in-Some.found in
     let n : ℕ = c.unwrap-len.result in
     let n_is = units_are c.units.result _ _ n c.units.ensures c.unwrap-len.ensures in
-    let placed : IsPlaced c.self.inside.quantum c.args.request.now c.self.inside.free.items f = subst (λ (xs : List Holding). IsPlaced c.self.inside.quantum c.args.request.now xs f) c.deref.ensures.value c.in-Some.ensures.placed in
-    let held = found_held a c.self.invariant.0 c.args.request.now good f placed n n_is in
-    let some = found_some a c.self.invariant.0 c.args.request.now good f placed n n_is in
-    let grid = found_grid a c.self.invariant.0 c.args.request.now good f placed n n_is in
+    let k = found_carve a c.args.request.now _ f n c.self.invariant.0 good c.deref.ensures.value c.in-Some.ensures.placed n_is in
     let piece_is : c.new-piece.result ≡ part f.range f.base n = rw (c.new-piece.ensures, c.root.ensures, c.piece_of.ensures) refl in
-    let absent = carve_absent a c.self.invariant.0 f.at f.range (part f.range f.base n) placed.0 placed.1 held some grid in
+    let absent = carve_absent a f.at f.range (part f.range f.base n) k in
     let absent_here : finmap.get c.self.inside.tags c.new-piece.result.range.base ≡ None = rw piece_is absent in
     let tags = undone c.self.inside.tags c.insert.new.self c.remove.new.self c.new-piece.result.range.base c.new-piece.result absent_here c.in_ok-insert.ensures.ok c.remove.ensures in
     let free : c.carve.new.free.items ≡ c.self.inside.free.items = c.in_default-carve.ensures.err ∙ c.reserve_free.ensures.items in
@@ -124,18 +114,15 @@ invariant_of-self-2 g c =
     let f : Found = c.in-Some.found in
     let n : ℕ = c.unwrap-len.result in
     let n_is = units_are c.units.result _ _ n c.units.ensures c.unwrap-len.ensures in
-    let placed : IsPlaced c.self.inside.quantum c.args.request.now c.self.inside.free.items f = subst (λ (xs : List Holding). IsPlaced c.self.inside.quantum c.args.request.now xs f) c.deref.ensures.value c.in-Some.ensures.placed in
-    let held = found_held a c.self.invariant.0 c.args.request.now good f placed n n_is in
-    let some = found_some a c.self.invariant.0 c.args.request.now good f placed n n_is in
-    let grid = found_grid a c.self.invariant.0 c.args.request.now good f placed n n_is in
+    let k = found_carve a c.args.request.now _ f n c.self.invariant.0 good c.deref.ensures.value c.in-Some.ensures.placed n_is in
     let piece_is : c.new-piece.result ≡ part f.range f.base n = rw (c.new-piece.ensures, c.root.ensures, c.piece_of.ensures) refl in
-    let absent = carve_absent a c.self.invariant.0 f.at f.range (part f.range f.base n) placed.0 placed.1 held some grid in
+    let absent = carve_absent a f.at f.range (part f.range f.base n) k in
     let deed_is : c.in-Ok.deed ≡ part f.range f.base n = c.in-Ok.ensures.piece in
     let free : c.carve.new.free.items ≡ remove c.self.inside.free.items f.at ++ rests f.range (part f.range f.base n) = rw deed_is at (c.in-Ok.ensures.items ∙ ap (λ (xs : List Holding). remove xs f.at ++ rests f.range c.in-Ok.deed) c.reserve_free.ensures.items) in
     let tags : c.insert.new.self ≡ finmap.insert c.self.inside.tags f.base (part f.range f.base n) = c.in_ok-insert.ensures.ok ∙ ap (λ (h : Holding). finmap.insert c.self.inside.tags h.range.base h) piece_is in
-    let after = carve_is a c.self.invariant.0 f.at f.range (part f.range f.base n) placed.0 placed.1 held some grid _ _ free tags in
+    let after = carve_is a f.at f.range (part f.range f.base n) k _ _ free tags in
     let len = ap finmap.len tags ∙ len_more c.self.inside.tags f.base (part f.range f.base n) absent in (
-      carve_sound a c.self.invariant.0 f.at f.range (part f.range f.base n) placed.0 placed.1 held some grid _ after,
+      carve_sound a f.at f.range (part f.range f.base n) k _ after,
       omega (arith, len, c.carve.ensures.len, c.carve.ensures.capacity, c.in_ok-reserve_free.ensures.room),
     )
 
@@ -147,16 +134,13 @@ returns g c =
     let f : Found = c.in-Some.found in
     let n : ℕ = c.unwrap-len.result in
     let n_is = units_are c.units.result _ _ n c.units.ensures c.unwrap-len.ensures in
-    let placed : IsPlaced c.self.inside.quantum c.args.request.now c.self.inside.free.items f = subst (λ (xs : List Holding). IsPlaced c.self.inside.quantum c.args.request.now xs f) c.deref.ensures.value c.in-Some.ensures.placed in
-    let held = found_held a c.self.invariant.0 c.args.request.now good f placed n n_is in
-    let some = found_some a c.self.invariant.0 c.args.request.now good f placed n n_is in
-    let grid = found_grid a c.self.invariant.0 c.args.request.now good f placed n n_is in
+    let k = found_carve a c.args.request.now _ f n c.self.invariant.0 good c.deref.ensures.value c.in-Some.ensures.placed n_is in
     let piece_is : c.new-piece.result ≡ part f.range f.base n = rw (c.new-piece.ensures, c.root.ensures, c.piece_of.ensures) refl in
-    let absent = carve_absent a c.self.invariant.0 f.at f.range (part f.range f.base n) placed.0 placed.1 held some grid in
+    let absent = carve_absent a f.at f.range (part f.range f.base n) k in
     let deed_is : c.in-Ok.deed ≡ part f.range f.base n = c.in-Ok.ensures.piece in
     let free : c.carve.new.free.items ≡ remove c.self.inside.free.items f.at ++ rests f.range (part f.range f.base n) = rw deed_is at (c.in-Ok.ensures.items ∙ ap (λ (xs : List Holding). remove xs f.at ++ rests f.range c.in-Ok.deed) c.reserve_free.ensures.items) in
     let tags : c.insert.new.self ≡ finmap.insert c.self.inside.tags f.base (part f.range f.base n) = c.in_ok-insert.ensures.ok ∙ ap (λ (h : Holding). finmap.insert c.self.inside.tags h.range.base h) piece_is in
-    let after = carve_is a c.self.invariant.0 f.at f.range (part f.range f.base n) placed.0 placed.1 held some grid _ _ free tags in
+    let after = carve_is a f.at f.range (part f.range f.base n) k _ _ free tags in
     let segment : c.new.result.holding ≡ part f.range f.base n = ap (λ (t : Tag). t.holding) c.new.ensures ∙ c.into_deed.ensures ∙ deed_is in record {
       bad = search rules;
       no_fit = (λ e. absurd cc, λ none. absurd (never_both c.args.self.now c.args.request.now c.in-Some.found.base none.1 chosen));
@@ -165,8 +149,8 @@ returns g c =
       chosen = search rules;
       fits = search rules;
       segment = search rules;
-      carved = rw segment (rw c.self.view_is at (carves a c.self.invariant.0 f.at f.range (part f.range f.base n) placed.0 placed.1 held some grid _ after));
+      carved = rw segment (rw c.self.view_is at (carves a f.at f.range (part f.range f.base n) k _ after));
       err = search rules;
-      gains = rw segment (subst (λ (s : ArenaState). Gains (ranges_of s.allocated) (ranges_of c.insert.new.self) (part f.range f.base n)) c.self.view_is (carve_gains a c.self.invariant.0 f.at f.range (part f.range f.base n) placed.0 placed.1 held some grid _ after));
-      covering = rw segment (subst (λ (s : ArenaState). (u : ℕ) → covering_held u s.free ≡ covering_held u c.carve.new.free.items + covers u (part f.range f.base n).range) c.self.view_is (carve_covers a c.self.invariant.0 f.at f.range (part f.range f.base n) placed.0 placed.1 held some grid _ after));
+      gains = rw segment (subst (λ (s : ArenaState). Gains (ranges_of s.allocated) (ranges_of c.insert.new.self) (part f.range f.base n)) c.self.view_is (carve_gains a f.at f.range (part f.range f.base n) k _ after));
+      covering = rw segment (subst (λ (s : ArenaState). (u : ℕ) → covering_held u s.free ≡ covering_held u c.carve.new.free.items + covers u (part f.range f.base n).range) c.self.view_is (carve_covers a f.at f.range (part f.range f.base n) k _ after));
     }
