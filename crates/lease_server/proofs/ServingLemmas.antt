@@ -7,7 +7,7 @@ use Rattle.lease_proto.specs.Frames.{Frame, frames_in, rest_in, frames_of, last_
 use Rattle.lease_proto.specs.declared.faults.LineFault.{LineFault}
 use Rattle.lease_proto.specs.Faults.{error_line}
 use Rattle.lease_proto.proofs.LawProofs.{frames_in-take, rest_in-take, last_of-take, frames_in-append, rest_in-append}
-use Rattle.lease_server.specs.Serving.{SameFront, WritesFront, Serves, Answers, AnswersSome, Writes, Stops}
+use Rattle.lease_server.specs.Serving.{SameFront, WritesFront, Serves, Answers, AnswersBefore, Writes, WritesBefore, Stops}
 
 module _ {S : Type 0} (may_answer : S → List ℕ → List ℕ → S → Type 0) where
   -- one run after another
@@ -80,11 +80,17 @@ module _ {S : Type 0} (may_answer : S → List ℕ → List ℕ → S → Type 0
   Answers-append fs gs old mid new a b c p q =
       (p.0 ++ q.0, Serves-append fs gs old mid new p.0 q.0 p.1 q.1, q.2 ∙ ap (λ t. t ++ q.0) p.2 ∙ append_assoc a p.0 q.0)
 
+  -- answers to the first of these frames
+  abbrev pub AnswersSome : S → List Frame → List ℕ → List ℕ → Type 0
+  AnswersSome old frames before after = (served : List Frame) × (later : List Frame) × (new : S)
+      × (frames ≡ served ++ later) × Answers may_answer old served before after new
+
   -- whether all were answered or not, the first of them were
   pub Answers-some : {E : Type 0} (r : Result (Unit {0}) E) (fs : List Frame) (old new : S) (a b : List ℕ)
-      → OnOk r (Answers may_answer old fs a b new) → OnErr r (AnswersSome may_answer old fs a b) → AnswersSome may_answer old fs a b
+      → OnOk r (Answers may_answer old fs a b new) → OnErr r (AnswersBefore may_answer old fs a b new) → AnswersSome old fs a b
   Answers-some (Ok u) fs old new a b all some = (fs, [], new, sym (append-nil fs), all)
-  Answers-some (Err e) fs old new a b all some = some
+  Answers-some (Err e) fs old new a b all some =
+      let (served, refused, later, split, answers) = some in (served, refused ∷ later, new, split, answers)
 
   -- what was answered into an empty buffer, and written
   pub Writes-of_answers : (fs : List Frame) (old new : S) (bytes : List ℕ) (a b : Option (List ℕ))
@@ -93,12 +99,24 @@ module _ {S : Type 0} (may_answer : S → List ℕ → List ℕ → S → Type 0
 
   -- the same, written to a front of it
   pub Stops-of_some : (fs : List Frame) (old : S) (bytes : List ℕ) (a b : Option (List ℕ))
-      → AnswersSome may_answer old fs [] bytes → WritesFront bytes a b → Stops may_answer old fs a b
+      → AnswersSome old fs [] bytes → WritesFront bytes a b → Stops may_answer old fs a b
   Stops-of_some fs old bytes a b p q =
       let (served, later, new, split, answers) = p in
       let (text, serves, is) = answers in
       let (written, unwritten, cut, appends) = q in
       (served, later, split, (new, written, unwritten, subst (λ t. Serves may_answer old served t new) (sym is ∙ cut) serves, appends))
+
+  -- the first of these answers, and then those before one that wasn't given
+  pub WritesBefore-after : (fs gs : List Frame) (old mid new : S) (a b c : Option (List ℕ))
+      → Writes may_answer old fs a b mid → WritesBefore may_answer mid gs b c new → WritesBefore may_answer old (fs ++ gs) a c new
+  WritesBefore-after fs gs old mid new a b c p q =
+      let (served, refused, later, split, writes) = q in (
+        fs ++ served,
+        refused,
+        later,
+        ap (λ t. fs ++ t) split ∙ sym (append_assoc fs served (refused ∷ later)),
+        Writes-append fs served old mid new a b c p writes,
+      )
 
 -- all of it is a front of it
 pub WritesFront-all : (bytes : List ℕ) (a b : Option (List ℕ)) → Appends a b bytes → WritesFront bytes a b

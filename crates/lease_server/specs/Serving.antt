@@ -25,14 +25,19 @@ module _ {S : Type 0} (may_answer : S → List ℕ → List ℕ → S → Type 0
   abbrev pub Answers : S → List Frame → List ℕ → List ℕ → S → Type 0
   Answers old frames before after new = (text : List ℕ) × Serves old frames text new × (after ≡ before ++ text)
 
-  -- the same for the first of these frames
-  abbrev pub AnswersSome : S → List Frame → List ℕ → List ℕ → Type 0
-  AnswersSome old frames before after = (served : List Frame) × (later : List Frame) × (new : S)
-      × (frames ≡ served ++ later) × Answers old served before after new
+  -- the same for the frames before one of these
+  abbrev pub AnswersBefore : S → List Frame → List ℕ → List ℕ → S → Type 0
+  AnswersBefore old frames before after new = (served : List Frame) × (refused : Frame) × (later : List Frame)
+      × (frames ≡ served ++ refused ∷ later) × Answers old served before after new
 
   -- the writer holds in addition what is written for these frames
   abbrev pub Writes : S → List Frame → Option (List ℕ) → Option (List ℕ) → S → Type 0
   Writes old frames before after new = (text : List ℕ) × Serves old frames text new × Appends before after text
+
+  -- the same for the frames before one of these
+  abbrev pub WritesBefore : S → List Frame → Option (List ℕ) → Option (List ℕ) → S → Type 0
+  WritesBefore old frames before after new = (served : List Frame) × (refused : Frame) × (later : List Frame)
+      × (frames ≡ served ++ refused ∷ later) × Writes old served before after new
 
   -- the writer holds in addition a front of what may be written for these frames
   abbrev pub WritesPart : S → List Frame → Option (List ℕ) → Option (List ℕ) → Type 0

@@ -11,9 +11,10 @@ pub trait Responder {
     ghost may_answer: { Self → List ℕ → List ℕ → Self → Type 0 };
 
     /// Appends the answer to a line. `serve` gives each line without its line feed, of at most 255 bytes, also
-    /// an empty one, and never one that is too long or unended. Want of memory appends nothing, may leave any
-    /// state, and ends the serving: it isn't asked again.
+    /// an empty one, and never one that is too long or unended. Want of memory takes no effect, and ends the
+    /// serving: the responder isn't asked again.
     fn answer(&mut self, line: &[u8], out: &mut Vec<u8>) -> Result<(), AllocError>
         ensures ok { OnOk result ((reply : List ℕ) × (out.new.items ≡ out.old.items ++ reply) × may_answer self.old line.now reply self.new) }
-        ensures err { OnErr result (out.new.items ≡ out.old.items) };
+        ensures err { OnErr result (out.new.items ≡ out.old.items) }
+        ensures same { OnErr result (self.new ≡ self.old) };
 }

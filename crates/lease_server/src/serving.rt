@@ -1,8 +1,8 @@
 //! The server over any reader and writer.
-ghost use Rattle.std.specs.Prelude.{◌≡◌, ◌⊎◌, ℕ, List, [], ◌∷◌, ◌++◌, ◌≤◌, ◌^◌, IfSome, OnOk, OnErr, IsErrOf, true, false};
+ghost use Rattle.std.specs.Prelude.{◌≡◌, ◌⊎◌, ℕ, List, [], ◌∷◌, ◌++◌, ◌+◌, ◌-◌, ◌≤◌, ◌^◌, length, min, IfSome, OnOk, OnErr, IsErrOf, Err, true, false};
 ghost use Rattle.std.specs.Io.KnownBytes.{Consumes};
 ghost use Rattle.lease_proto.specs.Frames.{frames_in, rest_in, frames_of, last_of, frame_view};
-ghost use Rattle.lease_server.specs.Serving.{SameFront, Answers, AnswersSome, Writes, Stops};
+ghost use Rattle.lease_server.specs.Serving.{SameFront, Answers, AnswersBefore, Writes, WritesBefore, Stops};
 ghost use Rattle.lease_server.specs.Watching.{inner_of, has_failed, reads_of};
 
 use crate::faults::ServeFault;
@@ -41,11 +41,25 @@ pub fn serve<R: Read, W: Write, P: Responder>(
     ensures stop { IsErrOf result ServeFault.Write ⊎ IsErrOf result ServeFault.Memory → IfSome (R.remaining (inner_of reader.old)) (λ input.
         Stops P.may_answer responder.old (frames_of input) (W.contents (inner_of writer.old)) (W.contents (inner_of writer.new))) }
 
+    // Where memory was refused for an answer, all answers before it are written whole, and no more.
+    ensures memory { IsErrOf result ServeFault.Memory → (input : List ℕ)
+        × Consumes (R.remaining (inner_of reader.old)) (R.remaining (inner_of reader.new)) input
+        × WritesBefore P.may_answer responder.old (frames_in [] input) (W.contents (inner_of writer.old)) (W.contents (inner_of writer.new)) responder.new }
+
     // Each fault is its own part's.
     ensures works { OnOk result ((has_failed reader.new ≡ false) × (has_failed writer.new ≡ false)) }
     ensures read_failed { IsErrOf result ServeFault.Read → has_failed reader.new ≡ true }
     ensures write_failed { IsErrOf result ServeFault.Write → has_failed writer.new ≡ true }
+    ensures neither_failed { IsErrOf result ServeFault.Memory ⊎ IsErrOf result ServeFault.Turns → (has_failed reader.new ≡ false) × (has_failed writer.new ≡ false) }
+    ensures reader_works { IsErrOf result ServeFault.Write → has_failed reader.new ≡ false }
+    ensures writer_works { IsErrOf result ServeFault.Read → has_failed writer.new ≡ false }
+
+    // `Turns` comes after 2^40 reads, each of which gave bytes; there are never more.
     ensures turns { IsErrOf result ServeFault.Turns → 2 ^ 40 ≤ reads_of reader.new }
+    ensures all_turns { IsErrOf result ServeFault.Turns → reads_of reader.new ≡ min (reads_of reader.old + 2 ^ 40) (2 ^ 64 - 1) }
+    ensures went_on { IsErrOf result ServeFault.Turns → (input : List ℕ)
+        × Consumes (R.remaining (inner_of reader.old)) (R.remaining (inner_of reader.new)) input × (2 ^ 40 ≤ length input) }
+    ensures reads { reads_of reader.new ≤ reads_of reader.old + 2 ^ 40 }
 {
     serve_after(alloc, &[], reader, writer, responder)
 }
@@ -69,10 +83,20 @@ pub fn serve_after<R: Read, W: Write, P: Responder>(
         × Writes P.may_answer responder.old (frames_in [] (front.now ++ input)) (W.contents (inner_of writer.old)) (W.contents (inner_of writer.new)) responder.new }
     ensures stop { IsErrOf result ServeFault.Write ⊎ IsErrOf result ServeFault.Memory → IfSome (R.remaining (inner_of reader.old)) (λ input.
         Stops P.may_answer responder.old (frames_of (front.now ++ input)) (W.contents (inner_of writer.old)) (W.contents (inner_of writer.new))) }
+    ensures memory { IsErrOf result ServeFault.Memory → (input : List ℕ)
+        × Consumes (R.remaining (inner_of reader.old)) (R.remaining (inner_of reader.new)) input
+        × WritesBefore P.may_answer responder.old (frames_in [] (front.now ++ input)) (W.contents (inner_of writer.old)) (W.contents (inner_of writer.new)) responder.new }
     ensures works { OnOk result ((has_failed reader.new ≡ false) × (has_failed writer.new ≡ false)) }
     ensures read_failed { IsErrOf result ServeFault.Read → has_failed reader.new ≡ true }
     ensures write_failed { IsErrOf result ServeFault.Write → has_failed writer.new ≡ true }
+    ensures neither_failed { IsErrOf result ServeFault.Memory ⊎ IsErrOf result ServeFault.Turns → (has_failed reader.new ≡ false) × (has_failed writer.new ≡ false) }
+    ensures reader_works { IsErrOf result ServeFault.Write → has_failed reader.new ≡ false }
+    ensures writer_works { IsErrOf result ServeFault.Read → has_failed writer.new ≡ false }
     ensures turns { IsErrOf result ServeFault.Turns → 2 ^ 40 ≤ reads_of reader.new }
+    ensures all_turns { IsErrOf result ServeFault.Turns → reads_of reader.new ≡ min (reads_of reader.old + 2 ^ 40) (2 ^ 64 - 1) }
+    ensures went_on { IsErrOf result ServeFault.Turns → (input : List ℕ)
+        × Consumes (R.remaining (inner_of reader.old)) (R.remaining (inner_of reader.new)) input × (2 ^ 40 ≤ length input) }
+    ensures reads { reads_of reader.new ≤ reads_of reader.old + 2 ^ 40 }
 {
     let mut lines = LineReader::new();
     let mut out = Vec::new(alloc);
@@ -105,8 +129,11 @@ fn serve_piece<W: Write, P: Responder>(
     ensures empty { OnOk result (out.new.items ≡ []) }
     ensures err { OnErr result (Stops P.may_answer responder.old (frames_in lines.old.line piece.now)
         (W.contents (inner_of writer.old)) (W.contents (inner_of writer.new))) }
+    ensures memory { IsErrOf result ServeFault.Memory → WritesBefore P.may_answer responder.old (frames_in lines.old.line piece.now)
+        (W.contents (inner_of writer.old)) (W.contents (inner_of writer.new)) responder.new }
     ensures fault { OnErr result (IsErrOf result ServeFault.Write ⊎ IsErrOf result ServeFault.Memory) }
     ensures works { OnOk result (has_failed writer.new ≡ has_failed writer.old) }
+    ensures memory_works { IsErrOf result ServeFault.Memory → has_failed writer.new ≡ has_failed writer.old }
     ensures failed { IsErrOf result ServeFault.Write → has_failed writer.new ≡ true }
 {
     let answered = answer_piece(lines, piece, out, responder);
@@ -128,7 +155,7 @@ fn answer_piece<P: Responder>(
     requires { lines.old.whole ≡ false }
     ensures ok { OnOk result (Answers P.may_answer responder.old (frames_in lines.old.line piece.now) out.old.items out.new.items responder.new) }
     ensures line { OnOk result ((lines.new.whole ≡ false) × SameFront lines.new.line (rest_in lines.old.line piece.now)) }
-    ensures err { OnErr result (AnswersSome P.may_answer responder.old (frames_in lines.old.line piece.now) out.old.items out.new.items) }
+    ensures err { OnErr result (AnswersBefore P.may_answer responder.old (frames_in lines.old.line piece.now) out.old.items out.new.items responder.new) }
 {
     let mut rest = piece;
     while !rest.is_empty() {
@@ -149,6 +176,7 @@ fn answer_frame<P: Responder>(
 ) -> Result<(), AllocError>
     ensures ok { OnOk result (Answers P.may_answer responder.old (frame_view frame ∷ []) out.old.items out.new.items responder.new) }
     ensures err { OnErr result (out.new.items ≡ out.old.items) }
+    ensures same { OnErr result (responder.new ≡ responder.old) }
 {
     match frame {
         Ok(line) => responder.answer(line.as_slice(), out),
@@ -167,9 +195,9 @@ fn serve_last<W: Write, P: Responder>(
         (W.contents (inner_of writer.old)) (W.contents (inner_of writer.new)) responder.new) }
     ensures err { OnErr result (Stops P.may_answer responder.old (last_of lines.now.line)
         (W.contents (inner_of writer.old)) (W.contents (inner_of writer.new))) }
-    ensures fault { OnErr result (IsErrOf result ServeFault.Write ⊎ IsErrOf result ServeFault.Memory) }
+    ensures fault { OnErr result (result ≡ Err ServeFault.Write) }
     ensures works { OnOk result (has_failed writer.new ≡ has_failed writer.old) }
-    ensures failed { IsErrOf result ServeFault.Write → has_failed writer.new ≡ true }
+    ensures failed { OnErr result (has_failed writer.new ≡ true) }
 {
     match lines.at_end() {
         None => Ok(()),

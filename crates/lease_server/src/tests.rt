@@ -109,13 +109,15 @@ impl Responder for Echo {
     ghost may_answer = { λ _ line reply _. reply ≡ line ++ 10 ∷ [] };
 
     fn answer(&mut self, line: &[u8], out: &mut Vec<u8>) -> Result<(), AllocError> {
-        self.answered = self.answered.saturating_add(1);
-        if self.answered == self.refused_at {
+        let answered = self.answered.saturating_add(1);
+        if answered == self.refused_at {
             return Err(AllocError);
         }
         out.reserve(line.len() + 1)?;
         out.extend_from_slice(line)?;
-        out.extend_from_slice(b"\n")
+        out.extend_from_slice(b"\n")?;
+        self.answered = answered;
+        Ok(())
     }
 }
 

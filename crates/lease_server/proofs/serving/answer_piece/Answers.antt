@@ -1,9 +1,8 @@
-use Rattle.std.proofs.Common.{[], ◌∷◌, ◌++◌, sym, take, ap, subst, ◌∙◌}
+use Rattle.std.proofs.Common.{[], ◌∷◌, ◌++◌, sym, take, drop, ap, subst, ◌∙◌, append_assoc}
 use Rattle.std.proofs.lemmas.Result.{err_from_is_err_and}
 use Rattle.lease_proto.specs.Frames.{frames_in, rest_in, frame_view}
-use Rattle.lease_proto.proofs.LawProofs.{frames_in-append}
 use Rattle.lease_server.specs.Serving.{Answers}
-use Rattle.lease_server.proofs.ServingLemmas.{Answers-append, moves_front, taken_on, taken_one}
+use Rattle.lease_server.proofs.ServingLemmas.{Answers-append, first_frames, moves_front, taken_on, taken_one}
 use Rattle.lease_server.proofs.serving.answer_piece.Goals as goal
 
 pub loop-rest-preserved : goal.loop-rest-preserved
@@ -43,13 +42,22 @@ pub returns-in_err-answer_frame-clause-err : goal.returns-in_err-answer_frame-cl
 returns-in_err-answer_frame-clause-err g c =
     let p = err_from_is_err_and c.from_residual.result c.from_residual.ensures.1 in
     let (done, split, whole, same, answers) = c.loop-rest.invariant in
+    let may = g.P.Responder.may_answer in
     let line = c.args.lines.now.line in
     let rest = c.loop-rest.rest.now in
+    let n = c.feed-taken.result in
+    let frame = frame_view c.in-Some.frame in
+    let given = c.in-Some.ensures.some in
+    let fed = c.feed-taken.ensures.whole given.0 in
+    let t = taken_one line c.loop-rest.lines.line done rest n frame same (fed.1 ∙ ap (λ f. f ∷ []) (sym given.1), fed.2) in
+    let later = frames_in (rest_in line (done ++ take n rest)) (drop n rest) in
     rw p.1 (
       frames_in line done,
-      frames_in (rest_in line done) rest,
-      c.loop-rest.responder,
-      ap (frames_in line) split ∙ frames_in-append line done rest,
-      subst (λ t. Answers g.P.Responder.may_answer c.args.responder.now (frames_in line done) c.args.out.now.items t c.loop-rest.responder)
-          (sym c.in_err-answer_frame.ensures.err) answers,
+      frame,
+      later,
+      first_frames line c.args.piece.now done rest n split ∙ ap (λ f. f ++ later) t.1 ∙ append_assoc (frames_in line done) (frame ∷ []) later,
+      subst (λ s. Answers may c.args.responder.now (frames_in line done) c.args.out.now.items c.answer_frame.new.out.items s)
+          (sym c.in_err-answer_frame.ensures.same)
+          (subst (λ t. Answers may c.args.responder.now (frames_in line done) c.args.out.now.items t c.loop-rest.responder)
+          (sym c.in_err-answer_frame.ensures.err) answers),
     )

@@ -1,10 +1,11 @@
 use Rattle.std.proofs.Common.{◌≡◌, ℕ, List, [], ◌++◌, append_assoc, sym, take, ap, subst, ◌∙◌, arith, inl, inr, IfSome, Option, Result, OnErr, IsErrOf, ◌⊎◌}
-use Rattle.std.proofs.lemmas.Result.{on_ok_weaker, IfErr-at_err}
+use Rattle.std.proofs.lemmas.List.{length-append, length-take}
+use Rattle.std.proofs.lemmas.Result.{on_ok_weaker, IfErr-at_err, err_from_is_err_and}
 use Rattle.std.specs.Io.KnownBytes.{Consumes, IsAtEnd}
 use Rattle.std.proofs.KnownBytes.{Consumes-nil, Consumes-trans}
 use Rattle.lease_proto.specs.Frames.{frames_in, frames_of, rest_in, last_of}
-use Rattle.lease_server.specs.Serving.{Writes, Stops}
-use Rattle.lease_server.proofs.ServingLemmas.{Stops-after, Stops-more, Writes-append, of_all, of_front, frames_of-append, more_frames, more_rest, last_of-same}
+use Rattle.lease_server.specs.Serving.{Writes, WritesBefore, Stops}
+use Rattle.lease_server.proofs.ServingLemmas.{Stops-after, Stops-more, WritesBefore-after, Writes-append, of_all, of_front, frames_of-append, more_frames, more_rest, last_of-same}
 use Rattle.lease_server.specs.declared.faults.ServeFault.TheVariants as faults
 use Rattle.lease_server.proofs.serving.serve_after.Goals as goal
 
@@ -25,7 +26,7 @@ at_either {E} {Q} r d e q (inr is) = IfErr-at_err (λ _. Q) is q
 
 pub returns-then-n-eq0-clause-ok : goal.returns-then-n-eq0-clause-ok
 returns-then-n-eq0-clause-ok g c =
-    let (input, consumed, whole, same, empty, writes, reads_on, writes_on, counted) = c.loop.invariant in
+    let (input, consumed, whole, same, empty, writes, reads_on, writes_on, counted, gave) = c.loop.invariant in
     let may = g.P.Responder.may_answer in
     let front = c.args.front.now in
     let sofar = front ++ input in
@@ -45,7 +46,7 @@ returns-then-n-eq0-clause-ok g c =
 
 pub returns-then-n-eq0-clause-stop : goal.returns-then-n-eq0-clause-stop
 returns-then-n-eq0-clause-stop g c =
-    let (input, consumed, whole, same, empty, writes, reads_on, writes_on, counted) = c.loop.invariant in
+    let (input, consumed, whole, same, empty, writes, reads_on, writes_on, counted, gave) = c.loop.invariant in
     let may = g.P.Responder.may_answer in
     let front = c.args.front.now in
     let sofar = front ++ input in
@@ -76,7 +77,7 @@ returns-in_err-serve_piece-clause-stop g c =
 
 pub returns-in_err-serve_piece-2-clause-stop : goal.returns-in_err-serve_piece-2-clause-stop
 returns-in_err-serve_piece-2-clause-stop g c =
-    let (input, consumed, whole, same, empty, writes, reads_on, writes_on, counted) = c.loop.invariant in
+    let (input, consumed, whole, same, empty, writes, reads_on, writes_on, counted, gave) = c.loop.invariant in
     let may = g.P.Responder.may_answer in
     let front = c.args.front.now in
     let sofar = front ++ input in
@@ -94,9 +95,30 @@ returns-in_err-serve_piece-2-clause-stop g c =
     (sym (ap frames_of (four front input piece left) ∙ frames_of-append (sofar ++ piece) left))
     (Stops-more may (frames_in [] (sofar ++ piece)) _ c.args.responder.now before after stops))
 
+pub returns-in_err-serve_piece-2-clause-memory : goal.returns-in_err-serve_piece-2-clause-memory
+returns-in_err-serve_piece-2-clause-memory g c =
+    let (input, consumed, whole, same, empty, writes, reads_on, writes_on, counted, gave) = c.loop.invariant in
+    let p = err_from_is_err_and c.from_residual-in_err-serve_piece-2.result c.from_residual-in_err-serve_piece-2.ensures.1 in
+    let may = g.P.Responder.may_answer in
+    let front = c.args.front.now in
+    let sofar = front ++ input in
+    let piece = take c.in_ok-n.n c.read.new.buf in
+    let before = g.W.Write.contents c.args.writer.now.inner in
+    let after = g.W.Write.contents c.serve_piece-in-loop.new.writer.inner in
+    let joined : front ++ (input ++ piece) ≡ sofar ++ piece = sym (append_assoc front input piece) in
+    rw (p.1, p.2) (λ fault. (
+      input ++ piece,
+      Consumes-trans _ _ _ input piece consumed c.in_ok-n.ensures.bytes,
+      subst (λ f. WritesBefore may c.args.responder.now f before after c.serve_piece-in-loop.new.responder)
+          (sym (ap (frames_in []) joined ∙ more_frames c.loop.lines.line sofar piece same))
+          (WritesBefore-after may (frames_in [] sofar) (frames_in c.loop.lines.line piece) c.args.responder.now c.loop.responder
+          c.serve_piece-in-loop.new.responder before (g.W.Write.contents c.loop.writer.inner) after writes
+          (c.in_err-serve_piece-2.ensures.memory fault)),
+    ))
+
 pub loop-preserved : goal.loop-preserved
 loop-preserved g c =
-    let (input, consumed, whole, same, empty, writes, reads_on, writes_on, counted) = c.loop.invariant in
+    let (input, consumed, whole, same, empty, writes, reads_on, writes_on, counted, gave) = c.loop.invariant in
     let may = g.P.Responder.may_answer in
     let front = c.args.front.now in
     let sofar = front ++ input in
@@ -116,5 +138,6 @@ loop-preserved g c =
           before (g.W.Write.contents c.loop.writer.inner) after writes c.in_ok-serve_piece-2.ensures.served),
       c.in_ok-n.ensures.works ∙ reads_on,
       c.in_ok-serve_piece-2.ensures.works ∙ writes_on,
-      omega (arith, c.in_ok-n.ensures.counted),
+      omega (arith, counted, c.in_ok-n.ensures.counted),
+      omega (arith, gave, c.in_ok-n.ensures.bound, length-append input piece, length-take c.in_ok-n.n c.read.new.buf),
     )

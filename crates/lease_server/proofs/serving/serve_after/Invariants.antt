@@ -1,4 +1,4 @@
-use Rattle.std.proofs.Common.{◌≡◌, ◌≤◌, ℕ, List, [], ◌++◌, false}
+use Rattle.std.proofs.Common.{◌≡◌, ◌≤◌, ◌+◌, ◌-◌, ◌^◌, ℕ, List, [], ◌++◌, length, min, false}
 use Rattle.std.specs.Io.KnownBytes.{Consumes}
 use Rattle.lease_proto.specs.Frames.{frames_in, rest_in}
 use Rattle.lease_server.specs.Serving.{SameFront, Writes}
@@ -11,4 +11,5 @@ invariant-loop g l = (input : List ℕ) × Consumes (g.R.Read.remaining l.fn.rea
     × Writes g.P.Responder.may_answer l.fn.responder (frames_in [] (l.front ++ input)) (g.W.Write.contents l.fn.writer.inner) (g.W.Write.contents l.writer.inner) l.responder
     × (l.reader.failed ≡ false)
     × (l.writer.failed ≡ false)
-    × (l.counter ≤ l.reader.reads)
+    × (l.reader.reads ≡ min (l.fn.reader.reads + l.counter) (2 ^ 64 - 1))
+    × (l.counter ≤ length input)

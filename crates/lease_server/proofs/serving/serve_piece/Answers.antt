@@ -1,8 +1,8 @@
 use Rattle.std.proofs.Common.{subst}
 use Rattle.std.proofs.lemmas.Result.{err_from_is_err_and}
 use Rattle.lease_proto.specs.Frames.{frames_in}
-use Rattle.lease_server.specs.Serving.{AnswersSome, WritesFront}
-use Rattle.lease_server.proofs.ServingLemmas.{Answers-some, Stops-of_some}
+use Rattle.lease_server.specs.Serving.{WritesFront}
+use Rattle.lease_server.proofs.ServingLemmas.{Answers-some, AnswersSome, Stops-of_some}
 use Rattle.lease_server.proofs.serving.serve_piece.Goals as goal
 
 pub returns-in_err-deliver-clause-err : goal.returns-in_err-deliver-clause-err
