@@ -1,5 +1,5 @@
 -- Lemmas on a script's setup and the lines after it.
-use Rattle.std.proofs.Common.{◌≡◌, ◌⊎◌, ℕ, true, false, Option, Some, None, Err, IsErrOf, List, [], ◌++◌, refl, sym, ◌∙◌, ap, subst, IfSome, inl, inr}
+use Rattle.std.proofs.Common.{◌≡◌, ◌⊎◌, ◌≤◌, ◌^◌, ℕ, Bool, Result, Ok, IfErr, true, false, Option, Some, None, Err, IsErrOf, List, [], ◌++◌, refl, sym, ◌∙◌, ap, subst, IfSome, inl, inr, ⊎_elim, arith}
 use Rattle.std.proofs.lemmas.Bool.{cases_Bool}
 use Rattle.std.proofs.lemmas.List.{append-nil}
 use Rattle.std.specs.Io.KnownBytes.{Appends, Consumes, IsAtEnd}
@@ -16,7 +16,7 @@ use Rattle.vmemd.specs.declared.faults.ScriptFault.TheVariants.{Setup, Read, Wri
 use Rattle.vmemd.specs.declared.setting_up.Rest.{Rest}
 use Rattle.vmemd.specs.SetupLines.{begins_setup}
 use Rattle.vmemd.specs.Openings.{IsOther}
-use Rattle.vmemd.specs.Scripts.{RunsWhole, RunsSoFar, RunStops, RunFails, serving_fault}
+use Rattle.vmemd.specs.Scripts.{RunsWhole, RunsSoFar, RunStops, RunFails, IsSpent, Blames, serving_fault}
 use Rattle.vmemd.specs.Setups.{RestIs, SetupFails}
 use Rattle.vmemd.proofs.SetupLemmas.{more_read}
 
@@ -38,6 +38,25 @@ over_all : (unread mid : Option (List ℕ)) (input : List ℕ) (P Q : List ℕ �
 over_all None mid input P Q read step holds = tt
 over_all (Some xs) None input P Q read step holds = absurd read
 over_all (Some xs) (Some ys) input P Q read step holds = subst Q (sym read) (step ys refl holds)
+
+-- what a serving's fault is told of
+pub blames_served : (r : Result (Unit {0}) ServeFault) (reader : Bool) (reads : ℕ) (writer : Bool) → (IsErrOf r serving.Read → reader ≡ true) → (IsErrOf r serving.Write → writer ≡ true)
+    → (IsErrOf r serving.Memory ⊎ IsErrOf r serving.Turns → (reader ≡ false) × (writer ≡ false)) → (IsErrOf r serving.Write → reader ≡ false) → (IsErrOf r serving.Read → writer ≡ false)
+    → (IsErrOf r serving.Turns → 2 ^ 40 ≤ reads) → IfErr r (λ fault. Blames reader reads writer (serving_fault fault))
+blames_served (Ok x) reader reads writer read write neither reader_works writer_works turns = tt
+blames_served (Err serving.Read) reader reads writer read write neither reader_works writer_works turns = (inl (read refl), writer_works refl)
+blames_served (Err serving.Turns) reader reads writer read write neither reader_works writer_works turns = (inr (turns refl), (neither (inr refl)).1)
+blames_served (Err serving.Write) reader reads writer read write neither reader_works writer_works turns = (reader_works refl, write refl)
+blames_served (Err serving.Memory) reader reads writer read write neither reader_works writer_works turns = neither (inl refl)
+
+-- where nothing is read, no fault is the reader's
+pub blames_unread : (r : Result (Unit {0}) ServeFault) (reader : Bool) (reads : ℕ) (writer : Bool) → reader ≡ false → IfErr r (λ fault. Blames false 0 writer (serving_fault fault))
+    → IfErr r (λ fault. Blames reader reads writer (serving_fault fault))
+blames_unread (Ok x) reader reads writer works told = tt
+blames_unread (Err serving.Read) reader reads writer works told = absurd (⊎_elim (λ e. absurd (cc)) (λ le. omega (arith, le)) told.0)
+blames_unread (Err serving.Turns) reader reads writer works told = absurd (⊎_elim (λ e. absurd (cc)) (λ le. omega (arith, le)) told.0)
+blames_unread (Err serving.Write) reader reads writer works told = (works, told.1)
+blames_unread (Err serving.Memory) reader reads writer works told = (works, told.1)
 
 module _ {S : Type 0} (takes : S → SetupLine → S → Type 0) (refuses : S → SetupLine → ConfigFault → Type 0)
     (may_answer : S → List ℕ → List ℕ → S → Type 0) where

@@ -40,6 +40,13 @@ serving_fault serving.Memory = Memory
 abbrev pub IsSpent : Bool → ℕ → Type 0
 IsSpent failed reads = (failed ≡ true) ⊎ (2 ^ 40 ≤ reads)
 
+-- by whether the reader failed, how often it was read, and whether the writer failed: the fault is of what failed
+abbrev pub Blames : Bool → ℕ → Bool → ScriptFault → Type 0
+Blames reader reads writer (Setup line word) = (reader ≡ false) × (writer ≡ false)
+Blames reader reads writer Read = IsSpent reader reads × (writer ≡ false)
+Blames reader reads writer Write = (reader ≡ false) × (writer ≡ true)
+Blames reader reads writer Memory = (reader ≡ false) × (writer ≡ false)
+
 -- a desk that doesn't take a line refuses it so, or memory was refused
 abbrev pub RefusedBy : (ConfigFault → Type 0) → SetUpFault → Type 0
 RefusedBy refused (setting.Refused fault) = refused fault

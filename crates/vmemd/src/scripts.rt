@@ -4,7 +4,7 @@ ghost use Rattle.std.specs.Io.KnownBytes.{Consumes, IsAtEnd};
 ghost use Rattle.lease_proto.specs.Frames.{frames_in, frames_of};
 ghost use Rattle.lease_server.specs.Serving.{Writes, Stops};
 ghost use Rattle.lease_server.specs.Watching.{inner_of, has_failed, reads_of};
-ghost use Rattle.vmemd.specs.Scripts.{RunsWhole, RunFails, IsSpent};
+ghost use Rattle.vmemd.specs.Scripts.{RunsWhole, RunFails, Blames, serving_fault};
 ghost use Rattle.vmemd.specs.Desks.{ScriptEnds, ScriptFails};
 
 use crate::faults::ScriptFault;
@@ -28,8 +28,8 @@ pub fn run<R: Read, W: Write, D: SetUp>(
         RunsWhole D.takes D.may_answer desk.old input (W.contents (inner_of writer.old)) (W.contents (inner_of writer.new)) desk.new)) }
     ensures err { IfErr result (RunFails D.takes D.refuses D.may_answer desk.old (R.remaining (inner_of reader.old)) (R.remaining (inner_of reader.new))
         (W.contents (inner_of writer.old)) (W.contents (inner_of writer.new)) desk.new) }
-    ensures read_failed { IsErrOf result ScriptFault.Read → IsSpent (has_failed reader.new) (reads_of reader.new) }
-    ensures write_failed { IsErrOf result ScriptFault.Write → has_failed writer.new ≡ true }
+    ensures works { OnOk result ((has_failed reader.new ≡ false) × (has_failed writer.new ≡ false)) }
+    ensures blames { IfErr result (Blames (has_failed reader.new) (reads_of reader.new) (has_failed writer.new)) }
 {
     let rest = take_setup(alloc, reader, desk)?;
     serve_rest(alloc, &rest, reader, writer, desk)?;
@@ -55,8 +55,8 @@ fn serve_rest<R: Read, W: Write, D: SetUp>(
         × Writes D.may_answer desk.old (frames_in [] (rest.now.bytes.items ++ input)) (W.contents (inner_of writer.old)) (W.contents (inner_of writer.new)) desk.new }
     ensures stop { IsErrOf result ServeFault.Write ⊎ IsErrOf result ServeFault.Memory → IfSome (R.remaining (inner_of reader.old)) (λ input.
         Stops D.may_answer desk.old (frames_of (rest.now.bytes.items ++ input)) (W.contents (inner_of writer.old)) (W.contents (inner_of writer.new))) }
-    ensures read_failed { IsErrOf result ServeFault.Read ⊎ IsErrOf result ServeFault.Turns → IsSpent (has_failed reader.new) (reads_of reader.new) }
-    ensures write_failed { IsErrOf result ServeFault.Write → has_failed writer.new ≡ true }
+    ensures works { OnOk result ((has_failed reader.new ≡ false) × (has_failed writer.new ≡ false)) }
+    ensures blames { IfErr result (λ fault. Blames (has_failed reader.new) (reads_of reader.new) (has_failed writer.new) (serving_fault fault)) }
 {
     let front = rest.bytes.as_slice();
     if rest.ended {
@@ -77,7 +77,8 @@ fn serve_end<W: Write, D: SetUp>(
     ensures ok { OnOk result (Writes D.may_answer desk.old (frames_of front.now) (W.contents (inner_of writer.old)) (W.contents (inner_of writer.new)) desk.new) }
     ensures stop { OnErr result (Stops D.may_answer desk.old (frames_of front.now) (W.contents (inner_of writer.old)) (W.contents (inner_of writer.new))) }
     ensures fault { OnErr result (IsErrOf result ServeFault.Write ⊎ IsErrOf result ServeFault.Memory) }
-    ensures write_failed { IsErrOf result ServeFault.Write → has_failed writer.new ≡ true }
+    ensures works { OnOk result (has_failed writer.new ≡ false) }
+    ensures blames { IfErr result (λ fault. Blames false 0 (has_failed writer.new) (serving_fault fault)) }
 {
     let mut nothing = Watched::new(io::empty());
     match serve_after(alloc, front, &mut nothing, writer, desk) {
@@ -102,9 +103,9 @@ pub fn run_script<R: Read, W: Write>(
     requires writer { has_failed writer.old ≡ false }
     ensures ok { OnOk result (IfSome (R.remaining (inner_of reader.old)) (λ input. ScriptEnds input (W.contents (inner_of writer.old)) (W.contents (inner_of writer.new)))) }
     ensures err { IfErr result (ScriptFails (R.remaining (inner_of reader.old)) (R.remaining (inner_of reader.new)) (W.contents (inner_of writer.old)) (W.contents (inner_of writer.new))) }
-    // Each fault is its own part's.
-    ensures read_failed { IsErrOf result ScriptFault.Read → IsSpent (has_failed reader.new) (reads_of reader.new) }
-    ensures write_failed { IsErrOf result ScriptFault.Write → has_failed writer.new ≡ true }
+    // A fault is told of what failed.
+    ensures works { OnOk result ((has_failed reader.new ≡ false) × (has_failed writer.new ≡ false)) }
+    ensures blames { IfErr result (Blames (has_failed reader.new) (reads_of reader.new) (has_failed writer.new)) }
 {
     let mut desk = Desk::new(alloc);
     let ran = run(alloc, reader, writer, &mut desk);

@@ -58,6 +58,7 @@ pub fn take_setup<R: Read, D: SetUp>(
     ensures err { IfErr result (SetupFails D.takes D.refuses desk.old (R.remaining (inner_of reader.old)) (R.remaining (inner_of reader.new)) desk.new) }
     ensures works { OnOk result (has_failed reader.new ≡ has_failed reader.old) }
     ensures failed { IsErrOf result ScriptFault.Read → IsSpent (has_failed reader.new) (reads_of reader.new) }
+    ensures kept { IfErr result (λ fault. (fault ≡ ScriptFault.Read) ⊎ (has_failed reader.new ≡ has_failed reader.old)) }
 {
     let mut front = Vec::new(alloc);
     let mut number = 1u64;
@@ -90,7 +91,7 @@ pub fn take_setup<R: Read, D: SetUp>(
 /// Reads on once, and says whether the input may go on.
 fn read_more<R: Read>(front: &mut Vec<u8>, reader: &mut Watched<R>) -> Result<bool, ScriptFault>
     ensures ok { IfOk result (ReadsMore (R.remaining (inner_of reader.old)) (R.remaining (inner_of reader.new)) front.old.items front.new.items) }
-    ensures err { IfErr result (λ fault. (fault ≡ ScriptFault.Memory)
+    ensures err { IfErr result (λ fault. ((fault ≡ ScriptFault.Memory) × (has_failed reader.new ≡ has_failed reader.old))
         ⊎ ((fault ≡ ScriptFault.Read) × Keeps (R.remaining (inner_of reader.old)) (R.remaining (inner_of reader.new)) × (front.new.items ≡ front.old.items) × (has_failed reader.new ≡ true))) }
     ensures works { OnOk result (has_failed reader.new ≡ has_failed reader.old) }
     ensures counted { reads_of reader.new ≡ min (reads_of reader.old + 1) (2 ^ 64 - 1) }
