@@ -1,5 +1,5 @@
 -- How a book answers.
-use Rattle.std.specs.Prelude.{◌≡◌, ◌≢◌, ℕ, ◌+◌, ◌<◌, Some}
+use Rattle.std.specs.Prelude.{◌≡◌, ◌≢◌, ℕ, ◌+◌, ◌<◌, Option, Some, None}
 use Rattle.lease_book.specs.Kept.{Kept, Voucher}
 use Rattle.lease_book.specs.Account.{Account, last}
 use Rattle.lease_book.specs.Ledger.{Ledger, account_in}
@@ -51,6 +51,14 @@ IsLook book a i n (look.Old current) = IsOld a i current
 IsLook book a i n (look.Stale greatest) = IsStale a i n greatest
 IsLook book a i n (look.Gap greatest) = IsGap a i n greatest
 
+-- the answer by what a number is to the book; a new one has none yet
+abbrev pub answer_of : {D : Type 0} → Look D → Option (Answer D)
+answer_of look.New = None
+answer_of (look.Kept r) = Some (answer.Kept r)
+answer_of (look.Old current) = Some (answer.Old current)
+answer_of (look.Stale greatest) = Some (answer.Stale greatest)
+answer_of (look.Gap greatest) = Some (answer.Gap greatest)
+
 -- the answer to a request: by its number, where that isn't new, with nothing changed; else what is given for a refusal, and where memory was wanted
 abbrev pub IsAnswer : {D : Type 0} → (old new : Ledger) (client incarnation number : ℕ) → (Voucher → Type 0) → Type 0 → Answer D → Type 0
 IsAnswer old new c i n refused again (answer.Kept r) = IsRepeated old (account_in c old) i n r × (new ≡ old)
@@ -60,7 +68,7 @@ IsAnswer old new c i n refused again (answer.Gap greatest) = IsGap (account_in c
 IsAnswer old new c i n refused again (answer.Refused r) = refused r
 IsAnswer old new c i n refused again answer.Again = again × (new ≡ old)
 
--- the answer to a hello, where the current incarnation is this
+-- why a hello isn't taken, where the current incarnation is this; memory is wanted only where there is none yet
 abbrev pub IsHelloFault : (current incarnation : ℕ) → HelloFault → Type 0
 IsHelloFault current i (Old v) = (i < current) × (v ≡ current)
-IsHelloFault current i NoMemory = current < i
+IsHelloFault current i NoMemory = current ≡ 0

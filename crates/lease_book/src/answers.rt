@@ -1,4 +1,7 @@
 //! What a book answers.
+ghost use Rattle.std.specs.Prelude.{◌≡◌};
+ghost use Rattle.lease_book.specs.Answers.{answer_of};
+
 use crate::receipts::Receipt;
 use thiserror::Error;
 
@@ -26,6 +29,21 @@ pub enum Look<D> {
     Stale(u64),
     /// A number that leaves out the one after this, the last one.
     Gap(u64),
+}
+
+impl<D> Look<D> {
+    /// The answer to a request with this number; a new one has none yet.
+    pub fn answer(self) -> Option<Answer<D>>
+        ensures { result ≡ answer_of self }
+    {
+        match self {
+            Look::New => None,
+            Look::Kept(receipt) => Some(Answer::Kept(receipt)),
+            Look::Old(current) => Some(Answer::Old(current)),
+            Look::Stale(last) => Some(Answer::Stale(last)),
+            Look::Gap(last) => Some(Answer::Gap(last)),
+        }
+    }
 }
 
 /// The answer to a request.

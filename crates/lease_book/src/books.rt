@@ -89,9 +89,6 @@ impl<D: Deed> Book<D> {
         ensures same { incarnation ≡ (account_in client self.old).incarnation → self.new ≡ self.old }
         ensures leases { leased self.new ≡ leased self.old }
         ensures current { OnOk result ((account_in client self.old).incarnation ≤ incarnation) }
-        ensures known { 0 < (account_in client self.old).incarnation
-            → (account_in client self.old).incarnation ≤ incarnation
-            → IsOk result }
         ensures fault { IfErr result (IsHelloFault (account_in client self.old).incarnation incarnation) }
         ensures refused { OnErr result (self.new ≡ self.old) }
     {
@@ -365,15 +362,12 @@ impl<D: Deed> Book<D> {
         ensures place { IfOk result (λ place. IsFound self.now client place) }
         ensures answer { IfErr result (IsAnswer self.now self.now client incarnation number (λ _. ⊥) ⊥) }
     {
-        match self.seek(client, incarnation, number) {
-            Look::New => match self.account(client) {
+        match self.seek(client, incarnation, number).answer() {
+            Some(answer) => Err(answer),
+            None => match self.account(client) {
                 Some((place, _)) => Ok(place),
                 None => unreachable!(),
             },
-            Look::Kept(receipt) => Err(Answer::Kept(receipt)),
-            Look::Old(current) => Err(Answer::Old(current)),
-            Look::Stale(last) => Err(Answer::Stale(last)),
-            Look::Gap(last) => Err(Answer::Gap(last)),
         }
     }
 }
