@@ -11,7 +11,7 @@ use Rattle.lease_book.specs.Entry.{Hello, Settled, Grant, Refuse}
 use Rattle.lease_book.specs.Account.{is_lease, Lease}
 use Rattle.lease_book.specs.Ledger.{Ledger, Enters, account_in, leased}
 use Rattle.lease_book.specs.Calls.{IsRefused, IsReleased, IsGranted}
-use Rattle.lease_book.specs.Answers.{IsNew, IsAnswer, IsLook}
+use Rattle.lease_book.specs.Answers.{IsNew, IsAnswer, IsLook, answer_of}
 use Rattle.lease_book.specs.declared.answers.Answer.{Answer}
 use Rattle.lease_book.specs.declared.answers.Answer.TheVariants as answer
 use Rattle.lease_book.specs.declared.answers.Look.{Look}
@@ -32,7 +32,7 @@ use Rattle.tag_arena.specs.declared.faults.ArenaFault.TheVariants.{NoFit}
 use Rattle.lease_desk.specs.Machine.{Asking, Finds, IsSettled, Refuses, refusal_of, refused_to, released_to, granted_to, asked_release, asked_lease, request_of, place_in, NewRelease, Grants, Misses, NewLease, Welcomes}
 use Rattle.lease_desk.specs.Told.{IsOfArenas, IsTold}
 use Rattle.lease_desk.specs.Spaces.{picture_of, pictures, desk_of, IsSteady, AreSpaces}
-use Rattle.lease_desk.specs.Replies.{IsSayable, Says, IsSameAnswer}
+use Rattle.lease_desk.specs.Replies.{IsSayable, Says}
 use Rattle.lease_desk.proofs.PlaceLemmas.{slice_get_some, slice_get_mapped}
 use Rattle.lease_desk.proofs.ToldLemmas.{IsNewAnswer, new_answer, sayable, told_more}
 use Rattle.lease_desk.proofs.SteadyLemmas.{steady_book, same_count, hello_incarnation}
@@ -117,13 +117,13 @@ no_arena l spaces old new r none refuses says =
     subst (λ z. NewRelease l (desk_of spaces old) (desk_of spaces new) z) (sym says) (why.NoArena, refl, (none, refuses))
 
 -- the reply to a number that was looked up
-pub known_of : (spaces : List Space) (book : Ledger) (q : Asking) {D : Type 0} (l : Look D) (o : Option (Answer D)) → IsLook book (account_in q.client book) q.incarnation q.number l → IsSameAnswer l o
-    → MatchOption o (IsNew (account_in q.client book) q.incarnation q.number) (λ a. IsAnswer book book q.client q.incarnation q.number (λ v. ⊥) ⊥ a)
-known_of spaces book q look.New o is same = subst (λ o. MatchOption o (IsNew (account_in q.client book) q.incarnation q.number) (λ a. IsAnswer book book q.client q.incarnation q.number (λ v. ⊥) ⊥ a)) (sym same) is
-known_of spaces book q (look.Kept v) o is same = subst (λ o. MatchOption o (IsNew (account_in q.client book) q.incarnation q.number) (λ a. IsAnswer book book q.client q.incarnation q.number (λ v. ⊥) ⊥ a)) (sym same) (is, refl)
-known_of spaces book q (look.Old v) o is same = subst (λ o. MatchOption o (IsNew (account_in q.client book) q.incarnation q.number) (λ a. IsAnswer book book q.client q.incarnation q.number (λ v. ⊥) ⊥ a)) (sym same) (is, refl)
-known_of spaces book q (look.Stale v) o is same = subst (λ o. MatchOption o (IsNew (account_in q.client book) q.incarnation q.number) (λ a. IsAnswer book book q.client q.incarnation q.number (λ v. ⊥) ⊥ a)) (sym same) (is, refl)
-known_of spaces book q (look.Gap v) o is same = subst (λ o. MatchOption o (IsNew (account_in q.client book) q.incarnation q.number) (λ a. IsAnswer book book q.client q.incarnation q.number (λ v. ⊥) ⊥ a)) (sym same) (is, refl)
+known_of : (book : Ledger) (q : Asking) {D : Type 0} (l : Look D) → IsLook book (account_in q.client book) q.incarnation q.number l
+    → MatchOption (answer_of l) (IsNew (account_in q.client book) q.incarnation q.number) (λ a. IsAnswer book book q.client q.incarnation q.number (λ v. ⊥) ⊥ a)
+known_of book q look.New is = is
+known_of book q (look.Kept v) is = (is, refl)
+known_of book q (look.Old v) is = (is, refl)
+known_of book q (look.Stale v) is = (is, refl)
+known_of book q (look.Gap v) is = (is, refl)
 
 abbrev pub ask : ℕ → ℕ → ℕ → Asking
 ask c i n = record { client = c; incarnation = i; number = n }
@@ -132,11 +132,11 @@ pub same_asking : (c i n : ℕ) (q : Asking) → c ≡ q.client → i ≡ q.inca
 same_asking c i n q a b d = ap (λ z. ask z i n) a ∙ ap (λ z. ask q.client z n) b ∙ ap (λ z. ask q.client q.incarnation z) d
 
 -- what is known of a number that isn't new
-pub known_answer : {D : Type 0} (spaces : List Space) (book : Ledger) (p q : Asking) (l : Look D) (o : Option (Answer D)) (a : Answer D) → p ≡ q
-    → IsLook book (account_in p.client book) p.incarnation p.number l → IsSameAnswer l o → o ≡ Some a → IsAnswer book book q.client q.incarnation q.number (λ v. ⊥) ⊥ a
-known_answer {D = D} spaces book p q l o a same is alike some =
+pub known_answer : {D : Type 0} (book : Ledger) (p q : Asking) (l : Look D) (a : Answer D) → p ≡ q
+    → IsLook book (account_in p.client book) p.incarnation p.number l → answer_of l ≡ Some a → IsAnswer book book q.client q.incarnation q.number (λ v. ⊥) ⊥ a
+known_answer {D = D} book p q l a same is some =
     subst (λ (x : Asking). IsAnswer {D = D} book book x.client x.incarnation x.number (λ v. ⊥) ⊥ a) same
-    (subst (λ (x : Option (Answer D)). MatchOption x (IsNew (account_in p.client book) p.incarnation p.number) (λ b. IsAnswer book book p.client p.incarnation p.number (λ v. ⊥) ⊥ b)) some (known_of spaces book p l o is alike))
+    (subst (λ (x : Option (Answer D)). MatchOption x (IsNew (account_in p.client book) p.incarnation p.number) (λ b. IsAnswer book book p.client p.incarnation p.number (λ v. ⊥) ⊥ b)) some (known_of book p l is))
 
 pub known_sayable : {D : Type 0} (spaces : List Space) (book : Ledger) (q : Asking) (a : Answer D) → IsSteady spaces book → IsAnswer book book q.client q.incarnation q.number (λ v. ⊥) ⊥ a → IsSayable (length spaces) a
 known_sayable spaces book q a steady is = sayable (length spaces) book book q.client q.incarnation q.number (λ v. ⊥) ⊥ a steady.told (λ v none. absurd none) is

@@ -1,8 +1,8 @@
 -- What an arena or a span more leaves.
-use Rattle.std.proofs.Common.{◌≡◌, ◌≢◌, ℕ, suc, zero, ◌+◌, ◌<◌, ◌≤◌, refl, sym, subst, ap, ◌∙◌, inl, inr, List, [], ◌∷◌, ◌++◌, map, length, set, Some, None, All, Any, Contains, arith, length-append}
+use Rattle.std.proofs.Common.{◌≡◌, ◌≢◌, ℕ, suc, zero, ◌+◌, ◌<◌, ◌≤◌, refl, sym, subst, ap, ◌∙◌, inl, inr, List, [], ◌∷◌, ◌++◌, map, length, set, Some, None, All, Any, Contains, Result, Ok, Err, OnOk, OnErr, arith, length-append}
 use Rattle.std.specs.Prelude.{slice_get, sum_by}
 use Rattle.std.specs.List.{AllByRecursion}
-use Rattle.std.proofs.lemmas.List.{length-map, length-set}
+use Rattle.std.proofs.lemmas.List.{length-map, length-set, map-set}
 use Rattle.std.proofs.lemmas.List.Sums.{sum_by-cons, sum_by-append}
 use Rattle.std.proofs.lemmas.Bool.{cases_eq}
 use Rattle.std.specs.Ordering.{nat_cmp}
@@ -22,7 +22,8 @@ use Rattle.lease_book.specs.declared.receipts.Reply.{Reply}
 use Rattle.lease_book.specs.declared.receipts.Reply.TheVariants.{Granted, Released, Refused}
 use Rattle.lease_desk.specs.declared.spaces.Space.{Space}
 use Rattle.lease_desk.specs.Picture.{ArenaPicture, within, stray, Exports}
-use Rattle.lease_desk.specs.Setup.{root_of, NewArena, CanAdd, AddsArena, AddsSpan, with_span, fresh}
+use Rattle.lease_desk.specs.Machine.{Finds}
+use Rattle.lease_desk.specs.Setup.{root_of, NewArena, CanAdd, CanSpan, AddsArena, AddsSpan, with_span, fresh}
 use Rattle.lease_desk.specs.Told.{IsOfArenas, IsPossible, IsTold}
 use Rattle.lease_desk.specs.Roots.{space_of}
 use Rattle.lease_desk.specs.Spaces.{picture_of, pictures, IsSpace, AreSpaces, IsSteady}
@@ -131,6 +132,12 @@ steady_added n spaces now book steady sound adds = record {
   where
     count : length now ≡ length spaces + 1
     count = omega (arith, length-map now picture_of, length-map spaces picture_of, ap length adds.added, length-append (pictures spaces) (fresh n (held_by (root_of (length (pictures spaces)) 0) n.range) ∷ []))
+
+-- whether it was added or not
+pub steady_root : {A E : Type 0} (r : Result A E) (n : NewArena) (spaces now : List Space) (book : Ledger) → IsSteady spaces book
+    → OnOk r (AreSpaces now) → OnOk r (AddsArena n (pictures spaces) (pictures now)) → OnErr r (now ≡ spaces) → IsSteady now book
+steady_root (Ok x) n spaces now book steady sound adds same = steady_added n spaces now book steady sound adds
+steady_root (Err e) n spaces now book steady sound adds same = subst (λ (xs : List Space). IsSteady xs book) (sym same) steady
 
 -- a span that is clear covers no unit of the others
 clear_none : (spans : List Holding) (e : Extent) (u : ℕ) → All (λ s. ¬ Overlap s.range e) spans → covers u e ≡ 1 → covering_held u spans ≡ 0
@@ -251,3 +258,23 @@ whole_free owned (r ∷ rs) m none runs out = absurd (out inside.0 inside.1 insi
 pub nothing_free : (a : ArenaState) → a.imported ≡ [] → ranges_of a.allocated ≡ [] → FreeIsLongestRuns (layout_of a) → All (λ s. ¬ Contains a.free s) a.owned → a.free ≡ []
 nothing_free a own none runs out = whole_free a.owned a.free a.allocated none
     (subst (λ spans. FreeIsLongestRuns (record { spans = spans; free = a.free; allocated = a.allocated })) (ap (λ (ts : List Tag). a.owned ++ map (λ (t : Tag). t.holding) ts) own ∙ nil_right a.owned) runs) out
+
+-- whether it was added or not
+pub steady_span : {A E : Type 0} (r : Result A E) (name : List ℕ) (e : Extent) (spaces now : List Space) (book : Ledger) → IsSteady spaces book
+    → OnOk r (AreSpaces now) → OnOk r (AddsSpan name e (pictures spaces) (pictures now)) → OnErr r (now ≡ spaces) → IsSteady now book
+steady_span (Ok x) name e spaces now book steady sound adds same = steady_spanned name e spaces now book steady sound adds
+steady_span (Err f) name e spaces now book steady sound adds same = subst (λ (xs : List Space). IsSteady xs book) (sym same) steady
+
+-- the arena that stands at a place has a span more
+pub adds_span : {A E : Type 0} (r : Result A E) (name : List ℕ) (e : Extent) (spaces : List Space) (place : ℕ) (old new : Space) → Finds (pictures spaces) name place (picture_of old)
+    → OnOk r ((length (picture_of old).spans < 65536) × CanSpan (picture_of old) e) → OnOk r (picture_of new ≡ with_span (picture_of old) (record { root = root_of place (length (picture_of old).spans); range = e }))
+    → OnOk r (AddsSpan name e (pictures spaces) (pictures (set spaces place new)))
+adds_span (Ok x) name e spaces place old new finds can added = record {
+  place = place;
+  arena = picture_of old;
+  finds = finds;
+  few = can.0;
+  can = can.1;
+  added = map-set picture_of spaces place new ∙ ap (λ (y : ArenaPicture). set (pictures spaces) place y) added;
+}
+adds_span (Err f) name e spaces place old new finds can added = tt

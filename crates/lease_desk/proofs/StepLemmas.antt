@@ -1,5 +1,5 @@
 -- The answer to a line, by what was appended.
-use Rattle.std.proofs.Common.{◌≡◌, ℕ, Bool, true, false, refl, sym, subst, ap, List, [], ◌∷◌, ◌++◌, Result, Ok, Err, OnOk, OnErr}
+use Rattle.std.proofs.Common.{◌≡◌, ℕ, Bool, true, false, refl, sym, subst, ap, List, [], ◌∷◌, ◌++◌, Result, Ok, Err, OnOk, OnErr, IfErr}
 use Rattle.std.specs.Prelude.{IsOk, is_ok, if◌then◌else◌, MatchBool, MatchResult, codes}
 use Rattle.std.specs.Str.{bytes_eq}
 use Rattle.lease_proto.specs.declared.faults.LineFault.{LineFault}
@@ -37,6 +37,10 @@ module _ {A E : Type 0} where
   pub on_err : (r : Result A E) (P Q : Type 0) → (P → Q) → OnErr r P → OnErr r Q
   on_err (Ok x) P Q f p = tt
   on_err (Err e) P Q f p = f p
+
+  pub if_err : (r : Result A E) (P Q : E → Type 0) → ((e : E) → P e → Q e) → IfErr r P → IfErr r Q
+  if_err (Ok x) P Q f p = tt
+  if_err (Err e) P Q f p = f e p
 
   pub always_on_err : (r : Result A E) (P : Type 0) → P → OnErr r P
   always_on_err (Ok x) P p = tt

@@ -1,5 +1,5 @@
 -- Text that more is appended to.
-use Rattle.std.proofs.Common.{◌≡◌, ℕ, ◌+◌, ◌≤◌, sym, ap, ◌∙◌, List, [], ◌∷◌, ◌++◌, take, drop, length, get_or, Some, arith}
+use Rattle.std.proofs.Common.{◌≡◌, ℕ, ◌+◌, ◌≤◌, sym, ap, ◌∙◌, List, [], ◌∷◌, ◌++◌, take, drop, length, Some, arith}
 use Rattle.std.specs.Prelude.{slice_get}
 use Rattle.std.specs.Io.{StartsWith}
 use Rattle.std.specs.List.{flat_map}

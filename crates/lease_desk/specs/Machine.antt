@@ -193,13 +193,13 @@ pub record Welcomes (c i : ℕ) (old new : Picture) : Type 0 where
   pub sweeps : Sweeps c i (record old { book = greeted }) new
   pub left : All (λ l. i ≤ l.incarnation) (account_in c new.book).leases
 
--- the answer to a hello
+-- the answer to a hello; memory is wanted only where the client said none before
 abbrev pub HelloStep : HelloLine → Picture → Picture → Reply → Type 0
 HelloStep h old new (reply.Welcome w) = (w ≡ record { client = h.client; incarnation = h.incarnation }) × Welcomes h.client h.incarnation old new
 HelloStep h old new (reply.Old o) = (o ≡ record { client = h.client; current = (account_in h.client old.book).incarnation })
     × (h.incarnation < (account_in h.client old.book).incarnation) × (new ≡ old)
 HelloStep h old new (reply.Again a) = (a ≡ record { client = h.client; incarnation = h.incarnation; number = 0 })
-    × ((account_in h.client old.book).incarnation < h.incarnation) × (new ≡ old)
+    × ((account_in h.client old.book).incarnation ≡ 0) × (new ≡ old)
 HelloStep h old new r = ⊥
 
 -- the answer to a request: by its number, with nothing changed, or, where that is new, what the request comes to

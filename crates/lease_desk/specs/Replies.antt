@@ -1,9 +1,7 @@
 -- The replies that the book's answers are.
-use Rattle.std.specs.Prelude.{◌≡◌, ℕ, ◌^◌, ◌≤◌, List, Option, Some, None}
+use Rattle.std.specs.Prelude.{◌≡◌, ℕ, ◌^◌, ◌≤◌, List}
 use Rattle.lease_book.specs.declared.answers.Answer.{Answer}
 use Rattle.lease_book.specs.declared.answers.Answer.TheVariants as answer
-use Rattle.lease_book.specs.declared.answers.Look.{Look}
-use Rattle.lease_book.specs.declared.answers.Look.TheVariants as look
 use Rattle.lease_proto.specs.declared.replies.Reply.{Reply}
 use Rattle.lease_proto.specs.declared.replies.Reply.TheVariants as reply
 use Rattle.lease_desk.specs.declared.asking.Asked.{Asked}
@@ -43,11 +41,3 @@ Says arenas q (answer.Old current) r = r ≡ old_to q current
 Says arenas q (answer.Stale last) r = r ≡ stale_to q last
 Says arenas q (answer.Gap last) r = r ≡ gap_to q last
 Says arenas q answer.Again r = r ≡ again_to q
-
--- the answer by what a number is to the book; a new one has none yet
-abbrev pub IsSameAnswer : {D : Type 0} → Look D → Option (Answer D) → Type 0
-IsSameAnswer look.New o = o ≡ None
-IsSameAnswer (look.Kept v) o = o ≡ Some (answer.Kept v)
-IsSameAnswer (look.Old current) o = o ≡ Some (answer.Old current)
-IsSameAnswer (look.Stale last) o = o ≡ Some (answer.Stale last)
-IsSameAnswer (look.Gap last) o = o ≡ Some (answer.Gap last)

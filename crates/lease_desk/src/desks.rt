@@ -15,7 +15,7 @@ use crate::leasing::lease;
 use crate::operators::{Operator, audit, clients, operator_of};
 use crate::releasing::release;
 use crate::returns::end_leases;
-use crate::setups::{Root, add_root, add_span};
+use crate::setups::{ARENAS, Root, SPANS, add_root, add_span};
 use crate::spaces::Space;
 use deed_core::{PlainDeed, Range};
 use lease_book::Book;
@@ -31,7 +31,7 @@ pub struct Desk {
 }
 
 /// The root of the book's mark: the number after those of all roots of spans.
-const MARK: u32 = 2_097_152;
+const MARK: u32 = ARENAS as u32 * SPANS;
 
 impl Model for Desk {
     ghost use Rattle.lease_desk.specs.Picture.{Picture};
@@ -85,8 +85,7 @@ impl Desk {
             policy,
             qcache_max,
         };
-        add_root(&mut self.spaces, &root, alloc)?;
-        Ok(())
+        add_root(&mut self.spaces, &root, alloc)
     }
 
     /// Adds a span to an arena.
@@ -97,8 +96,7 @@ impl Desk {
         ensures refused { IfErr result (RefusesSpan self.old.arenas name.now (record { base = base; len = len })) }
         ensures err { OnErr result (self.new ≡ self.old) }
     {
-        add_span(&mut self.spaces, name, base, len)?;
-        Ok(())
+        add_span(&mut self.spaces, name, base, len)
     }
 
     /// Answers one line, which is given without its line feed: appends its reply lines. A refused answer takes no
@@ -113,17 +111,11 @@ impl Desk {
             // There is room, so that this isn't refused.
             Ok(request) => self.serve(&request).write(out),
             Err(fault) => {
-                self.in_order();
+                // The type keeps a desk in order: that is known where a field is read.
+                let _ = &self.book;
                 self.refuse(line, fault, out)
             }
         }
-    }
-
-    /// A desk is in order, which its type keeps. It does nothing.
-    fn in_order(&self)
-        ensures { IsOrderly self.now }
-    {
-        let _ = self.spaces.len();
     }
 
     /// Answers the line of a client.

@@ -4,12 +4,12 @@ ghost use Rattle.lease_book.specs.Answers.{IsNew};
 ghost use Rattle.lease_book.specs.Ledger.{account_in};
 ghost use Rattle.lease_desk.specs.Machine.{refusal_of, refused_to, Refuses, IsKnown};
 ghost use Rattle.lease_desk.specs.Spaces.{desk_of, IsSteady};
-ghost use Rattle.lease_desk.specs.Replies.{asking_of, IsSameAnswer};
+ghost use Rattle.lease_desk.specs.Replies.{asking_of};
 
 use crate::asking::Asked;
 use crate::spaces::Space;
 use deed_core::PlainDeed;
-use lease_book::{Answer, Book, Look, Refusal};
+use lease_book::{Book, Refusal};
 use lease_proto::Reply;
 
 /// The reply to a request whose number isn't new.
@@ -22,21 +22,8 @@ pub(crate) fn known(spaces: &[Space], book: &Book<PlainDeed>, asked: Asked) -> O
         asked.incarnation.get(),
         asked.number.get(),
     );
-    let answer = answer_of(look)?;
+    let answer = look.answer()?;
     Some(asked.answered(spaces, answer))
-}
-
-/// The answer to a number that isn't new.
-fn answer_of(look: Look<PlainDeed>) -> Option<Answer<PlainDeed>>
-    ensures { IsSameAnswer look result }
-{
-    match look {
-        Look::New => None,
-        Look::Kept(receipt) => Some(Answer::Kept(receipt)),
-        Look::Old(current) => Some(Answer::Old(current)),
-        Look::Stale(last) => Some(Answer::Stale(last)),
-        Look::Gap(last) => Some(Answer::Gap(last)),
-    }
 }
 
 /// Settles a new number by a refusal.

@@ -123,13 +123,9 @@ pub(crate) fn add_root(
     }
     let id = spaces.len() as u32;
     let number = root_number(id, 0);
-    match new_space(alloc, id, root, range, number) {
-        Ok(space) => {
-            spaces.push_reserved(space);
-            Ok(())
-        }
-        Err(_) => Err(SetupFault::NoMemory),
-    }
+    let space = new_space(alloc, id, root, range, number)?;
+    spaces.push_reserved(space);
+    Ok(())
 }
 
 /// Adds a span to the arena of this name.
@@ -149,11 +145,7 @@ pub(crate) fn add_span(
     let Some(place) = place_of(spaces, name) else {
         return Err(SetupFault::NoArena);
     };
-    let space = &mut spaces[place];
-    match extend(space, place as u32, base, len) {
-        Ok(()) => Ok(()),
-        Err(fault) => Err(fault),
-    }
+    extend(&mut spaces[place], place as u32, base, len)
 }
 
 /// Adds a span to the arena that stands at the place.

@@ -1,4 +1,4 @@
-use Rattle.std.proofs.Common.{◌≡◌, ◌∙◌, ap, sym, ◌++◌, take, length, arith}
+use Rattle.std.proofs.Common.{◌∙◌, ap, sym, ◌++◌, take, arith}
 use Rattle.std.proofs.lemmas.List.Folds.{flat_map-map}
 use Rattle.std.specs.List.{flat_map}
 use Rattle.lease_desk.specs.declared.spaces.Space.{Space}

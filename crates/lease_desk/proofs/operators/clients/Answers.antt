@@ -1,11 +1,9 @@
-use Rattle.std.proofs.Common.{◌≡◌, ◌∙◌, sym, map, take, length, arith}
-use Rattle.std.specs.List.{flat_map}
+use Rattle.std.proofs.Common.{◌≡◌, ◌∙◌, sym, map, length, arith}
 use Rattle.std.proofs.lemmas.List.{length-map}
 use Rattle.std.proofs.lemmas.Option.{slice_get-map}
-use Rattle.lease_book.specs.Account.{Account}
 use Rattle.lease_book.specs.Reports.{report_of}
 use Rattle.lease_desk.specs.Sums.{client_line}
-use Rattle.lease_desk.proofs.TextLemmas.{starts_appended, one_more, all_told}
+use Rattle.lease_desk.proofs.TextLemmas.{one_more, all_told}
 use Rattle.lease_desk.proofs.operators.clients.Goals as goal
 
 pub loop-index-preserved : goal.loop-index-preserved

@@ -7,19 +7,19 @@ use Rattle.lease_desk.specs.Spaces.{picture_of, pictures}
 use Rattle.lease_desk.proofs.SetupLemmas.{held_by, added_sound, added_arena}
 use Rattle.lease_desk.proofs.setups.add_root.Goals as goal
 
-pub returns-in-Ok-clause-sound : goal.returns-in-Ok-clause-sound
-returns-in-Ok-clause-sound c =
-    let items : c.push_reserved.new.self.items ≡ c.args.spaces.now.items ++ c.in-Ok.space ∷ [] = c.push_reserved.ensures.items ∙ ap (λ (xs : List Space). xs ++ c.in-Ok.space ∷ []) c.reserve.ensures.items in
+pub returns-clause-sound : goal.returns-clause-sound
+returns-clause-sound c =
+    let items : c.push_reserved.new.self.items ≡ c.args.spaces.now.items ++ c.in_ok-space.space ∷ [] = c.push_reserved.ensures.items ∙ ap (λ (xs : List Space). xs ++ c.in_ok-space.space ∷ []) c.reserve.ensures.items in
     let id : c.len-id.result ≡ length c.args.spaces.now.items = omega (arith, c.len-id.ensures, c.reserve.ensures.len, ap length c.reserve.ensures.items) in
-    added_sound c.args.spaces.now.items c.push_reserved.new.self.items c.len-id.result (asked c.args.root.now) (record { root = c.root_number-number.result; range = c.in_ok-range.range }) c.in-Ok.space c.requires.sound items id c.in-Ok.ensures.made
+    added_sound c.args.spaces.now.items c.push_reserved.new.self.items c.len-id.result (asked c.args.root.now) (record { root = c.root_number-number.result; range = c.in_ok-range.range }) c.in_ok-space.space c.requires.sound items id c.in_ok-space.ensures.made
 
-pub returns-in-Ok-clause-added : goal.returns-in-Ok-clause-added
-returns-in-Ok-clause-added c =
-    let items : c.push_reserved.new.self.items ≡ c.args.spaces.now.items ++ c.in-Ok.space ∷ [] = c.push_reserved.ensures.items ∙ ap (λ (xs : List Space). xs ++ c.in-Ok.space ∷ []) c.reserve.ensures.items in
+pub returns-clause-added : goal.returns-clause-added
+returns-clause-added c =
+    let items : c.push_reserved.new.self.items ≡ c.args.spaces.now.items ++ c.in_ok-space.space ∷ [] = c.push_reserved.ensures.items ∙ ap (λ (xs : List Space). xs ++ c.in_ok-space.space ∷ []) c.reserve.ensures.items in
     let can : CanAdd (pictures c.args.spaces.now.items) (asked c.args.root.now) = subst (λ (xs : List Space). CanAdd (pictures xs) (asked c.args.root.now)) c.deref.ensures.value c.in_ok-range.ensures.can in
     let id : c.len-id.result ≡ length c.args.spaces.now.items = omega (arith, c.len-id.ensures, c.reserve.ensures.len, ap length c.reserve.ensures.items) in
-    added_arena c.args.spaces.now.items c.push_reserved.new.self.items c.len-id.result (asked c.args.root.now) c.in_ok-range.range c.in-Ok.space can c.in_ok-range.ensures.value items id
-    (c.in-Ok.ensures.made ∙ ap (λ n. space_of c.len-id.result (asked c.args.root.now) (held_by n c.in_ok-range.range)) c.root_number-number.ensures)
+    added_arena c.args.spaces.now.items c.push_reserved.new.self.items c.len-id.result (asked c.args.root.now) c.in_ok-range.range c.in_ok-space.space can c.in_ok-range.ensures.value items id
+    (c.in_ok-space.ensures.made ∙ ap (λ n. space_of c.len-id.result (asked c.args.root.now) (held_by n c.in_ok-range.range)) c.root_number-number.ensures)
 
 pub root_number-number-requires-clause-place : goal.root_number-number-requires-clause-place
 root_number-number-requires-clause-place c =

@@ -4,6 +4,7 @@ use Rattle.lease_proto.specs.Replies.{reply_text}
 use Rattle.lease_desk.specs.Picture.{IsOrderly}
 use Rattle.lease_desk.specs.Machine.{IsRefusalText, LeaseStep}
 use Rattle.lease_desk.proofs.StepLemmas.{on_ok, on_err, never_err, served_step, refused_step}
+use Rattle.lease_desk.proofs.OrderLemmas.{orderly}
 use Rattle.lease_desk.proofs.desks.Desk.answer.Goals as goal
 
 pub returns-in-Ok-clause-ok : goal.returns-in-Ok-clause-ok
@@ -24,7 +25,7 @@ returns-in-Ok-clause-refused c = never_err c.write.result (c.serve.new.self ≡ 
 
 pub returns-in-Err-clause-ok : goal.returns-in-Err-clause-ok
 returns-in-Err-clause-ok c =
-    let same : IsOrderly c.args.self.now = c.in_order.ensures in
+    let same : IsOrderly c.args.self.now = subst IsOrderly c.self.view_is (orderly c.self.inside.spaces.items c.self.inside.book c.self.invariant) in
     on_ok c.refuse.result ((reply : List ℕ) × (c.refuse.new.out.items ≡ c.reserve.new.self.items ++ reply) × IsRefusalText c.args.self.now c.args.line.now c.in-Err.fault reply)
     ((reply : List ℕ) × (c.refuse.new.out.items ≡ c.args.out.now.items ++ reply) × LeaseStep c.args.self.now c.args.line.now reply c.args.self.now)
     (λ is. (is.0, is.1 ∙ ap (λ l. l ++ is.0) c.reserve.ensures.items, refused_step c.args.self.now c.args.line.now c.in-Err.fault is.0 c.in-Err.ensures same is.2)) c.refuse.ensures.ok

@@ -1,4 +1,4 @@
-use Rattle.std.proofs.Common.{◌≡◌, ℕ, sym, subst, List}
+use Rattle.std.proofs.Common.{ℕ, sym, subst, List}
 use Rattle.lease_desk.specs.Machine.{IsRefusalText}
 use Rattle.lease_desk.proofs.StepLemmas.{appended, not_word}
 use Rattle.lease_desk.proofs.desks.Desk.refuse.Goals as goal

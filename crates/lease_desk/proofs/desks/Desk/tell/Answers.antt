@@ -1,4 +1,4 @@
-use Rattle.std.proofs.Common.{◌≡◌, ◌∙◌, ℕ, ap, refl, inl, inr, subst, List, ◌++◌, take, length, arith}
+use Rattle.std.proofs.Common.{◌≡◌, ◌∙◌, ap, refl, inl, inr, ◌++◌, take, length, arith}
 use Rattle.std.specs.Prelude.{codes, is_ok, if◌then◌else◌}
 use Rattle.lease_desk.specs.Operators.{Tells}
 use Rattle.lease_desk.specs.Operating.{asked_text}
