@@ -5,7 +5,8 @@ use Rattle.std.proofs.Common.{Result, OnErr, IsErrOf, ◌⊎◌, inl, inr, List,
 use Rattle.std.specs.Io.KnownBytes.{IsAtEnd}
 use Rattle.lease_proto.specs.Frames.{frames_of}
 use Rattle.lease_server.specs.Serving.{Stops}
-use Rattle.lease_server.specs.Watching.{inner_of}
+use Rattle.lease_server.specs.Watching.{inner_of, has_failed, reads_of}
+use Rattle.vmemd.proofs.RunLemmas.{blames_served, blames_unread}
 use Rattle.vmemd.proofs.scripts.serve_rest.Goals as goal
 
 -- what holds where nothing is left holds of all that is left at the end
@@ -32,3 +33,11 @@ returns-else-rest-clause-stop g c =
     λ fault. subst (λ rest. IfSome (g.R.Read.remaining (inner_of c.args.reader.now)) (λ input. Stops g.D.Responder.may_answer c.args.desk.now (frames_of (rest ++ input))
     (g.W.Write.contents (inner_of c.args.writer.now)) (g.W.Write.contents (inner_of c.serve_after.new.writer))))
     c.as_slice-front.ensures.value (c.serve_after.ensures.stop fault)
+
+pub returns-then-rest-clause-blames : goal.returns-then-rest-clause-blames
+returns-then-rest-clause-blames g c = blames_unread c.serve_end.result _ _ _ c.requires.reader c.serve_end.ensures.blames
+
+pub returns-else-rest-clause-blames : goal.returns-else-rest-clause-blames
+returns-else-rest-clause-blames g c =
+    let e = c.serve_after.ensures in
+    blames_served c.serve_after.result _ _ _ e.read_failed e.write_failed e.neither_failed e.reader_works e.writer_works e.turns
