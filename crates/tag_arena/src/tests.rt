@@ -3,7 +3,7 @@
 use crate::{Arena, ArenaFault, ArenaReport, Policy, best_is_one, instant_is_one, next_is_one};
 use deed_core::{Deed, PlainDeed, Range, Request, Segment};
 use refusing_deed::RefusingDeed;
-use std::alloc::Global;
+use std::alloc::{AllocGlobal, Global};
 use std::process::Abort;
 use std::test::Fail;
 
@@ -18,33 +18,52 @@ fn add<D: Deed>(rt: &impl Abort, arena: &mut Arena<D>, deed: D) {
     }
 }
 
-fn refuse(rt: &impl Abort, arena: &mut Arena<PlainDeed>, deed: PlainDeed) -> ArenaFault {
+fn refuse(rt: &impl Abort, arena: &mut Arena<PlainDeed>, deed: PlainDeed, why: ArenaFault) {
     match arena.add_span(deed) {
         Ok(()) => panic!(rt; "the span is refused"),
         Err((deed, fault)) => {
             deed.close();
-            fault
+            assert_eq!(rt; fault, why);
         }
     }
 }
 
-fn grant<D: Deed>(rt: &impl Abort, arena: &mut Arena<D>, request: &Request) -> Segment<D> {
+fn grant<D: Deed>(
+    rt: &impl Abort,
+    arena: &mut Arena<D>,
+    request: &Request,
+    base: u64,
+    len: u64,
+) -> Segment<D> {
     match arena.xalloc(request) {
-        Ok(segment) => segment,
+        Ok(segment) => {
+            stands(rt, &segment, base, len);
+            segment
+        }
         Err(fault) => panic!(rt; "{fault}"),
     }
 }
 
-fn fault<D: Deed>(rt: &impl Abort, arena: &mut Arena<D>, request: &Request) -> ArenaFault {
+fn no_grant<D: Deed>(rt: &impl Abort, arena: &mut Arena<D>, request: &Request, why: ArenaFault) {
     match arena.xalloc(request) {
         Ok(_) => panic!(rt; "the request is refused"),
-        Err(fault) => fault,
+        Err(fault) => assert_eq!(rt; fault, why),
     }
 }
 
-fn place<D: Deed>(segment: &Segment<D>) -> (u64, u64) {
+fn stands<D: Deed>(rt: &impl Abort, segment: &Segment<D>, base: u64, len: u64) {
     let range = segment.range();
-    (range.base(), range.len())
+    assert_eq!(rt; range.base(), base);
+    assert_eq!(rt; range.len(), len);
+}
+
+fn counts<D: Deed>(rt: &impl Abort, arena: &Arena<D>, span: u128, free: u128, allocated: u128) {
+    let wanted = ArenaReport {
+        span,
+        free,
+        allocated,
+    };
+    assert_eq!(rt; arena.report(), wanted);
 }
 
 fn give_back<D: Deed>(rt: &impl Abort, arena: &mut Arena<D>, segment: Segment<D>) {
@@ -53,6 +72,61 @@ fn give_back<D: Deed>(rt: &impl Abort, arena: &mut Arena<D>, segment: Segment<D>
         Ok(Some(_back)) => panic!(rt; "no imported span is whole"),
         Err(_) => panic!(rt; "the segment was carved here"),
     }
+}
+
+/// A call of an arena, with what it must give.
+#[derive(Clone, Copy)]
+enum Step {
+    /// A grant at this base, of as many units as are asked for.
+    Grant(Request, u64),
+    /// No range serves the request.
+    NoFit(Request),
+    /// The segment at this base goes back.
+    Free(u64),
+}
+
+fn taken_out<D: Deed>(rt: &impl Abort, held: &mut Vec<Segment<D>>, base: u64) -> Segment<D> {
+    let at = held
+        .iter()
+        .position(|segment| segment.range().base() == base)
+        .expect(rt, "a segment at the base");
+    held.remove(at)
+}
+
+fn take_step<D: Deed>(
+    rt: &impl Abort,
+    arena: &mut Arena<D>,
+    held: &mut Vec<Segment<D>>,
+    step: Step,
+) {
+    match step {
+        Step::Grant(request, base) => {
+            let segment = grant(rt, arena, &request, base, request.size);
+            assert!(rt; held.len() < held.capacity());
+            held.push_reserved(segment);
+        }
+        Step::NoFit(request) => no_grant(rt, arena, &request, ArenaFault::NoFit),
+        Step::Free(base) => {
+            let segment = taken_out(rt, held, base);
+            give_back(rt, arena, segment);
+        }
+    }
+}
+
+/// Takes the steps, and then frees what is held.
+fn run<D: Deed>(rt: &(impl Abort + AllocGlobal), arena: &mut Arena<D>, steps: &[Step]) {
+    let mut held = Vec::with_capacity(rt.alloc(), 16).expect(rt, "room");
+    for &step in steps {
+        take_step(rt, arena, &mut held, step);
+    }
+    give_all(rt, arena, held);
+}
+
+fn give_all<D: Deed>(rt: &impl Abort, arena: &mut Arena<D>, mut held: Vec<Segment<D>>) {
+    while let Some(segment) = held.pop() {
+        give_back(rt, arena, segment);
+    }
+    held.destroy_empty();
 }
 
 fn try_import<D: Deed>(
@@ -100,46 +174,45 @@ fn close<D: Deed>(rt: &impl Abort, arena: Arena<D>) {
     }
 }
 
+/// Takes out a span, which must be the one of this range, and ends it.
+fn end_span(rt: &impl Abort, arena: &mut Arena<PlainDeed>, base: u64, len: u64) {
+    let range = take_span(rt, arena).close();
+    assert_eq!(rt; range.base(), base);
+    assert_eq!(rt; range.len(), len);
+}
+
+/// Takes the steps in an arena of one span, which is whole at the end.
+fn run_alone(rt: &(impl Abort + AllocGlobal), policy: Policy, base: u64, len: u64, steps: &[Step]) {
+    let mut arena = Arena::new(rt.alloc(), 1, 1, policy);
+    add(rt, &mut arena, span(rt, 1, base, len));
+    run(rt, &mut arena, steps);
+    end_span(rt, &mut arena, base, len);
+    close(rt, arena);
+}
+
 /// Numbers cycle before they are used again.
 #[test]
 fn next_cycles(rt: HostRuntime) {
-    let mut pids = Arena::new(rt.alloc(), 1, 1, Policy::Next);
-    add(&rt, &mut pids, span(&rt, 1, 1, 8));
     let one = Request::plain(1);
-    let first = grant(&rt, &mut pids, &one);
-    let second = grant(&rt, &mut pids, &one);
-    let third = grant(&rt, &mut pids, &one);
-    assert_eq!(rt;
-        (place(&first), place(&second), place(&third)),
-        ((1, 1), (2, 1), (3, 1))
-    );
-    give_back(&rt, &mut pids, second);
-    let mut held = Vec::with_capacity(rt.alloc(), 8).expect(&rt, "room");
-    for base in [4, 5, 6, 7, 8, 2] {
-        let segment = grant(&rt, &mut pids, &one);
-        assert_eq!(rt; place(&segment), (base, 1));
-        assert!(rt; held.len() < held.capacity());
-        held.push_reserved(segment);
-    }
-    assert_eq!(rt; fault(&rt, &mut pids, &one), ArenaFault::NoFit);
-    give_back(&rt, &mut pids, first);
-    give_back(&rt, &mut pids, third);
-    while let Some(segment) = held.pop() {
-        give_back(&rt, &mut pids, segment);
-    }
-    held.destroy_empty();
-    assert_eq!(rt;
-        take_span(&rt, &mut pids).close(),
-        span(&rt, 1, 1, 8).close()
-    );
-    close(&rt, pids);
+    let steps = [
+        Step::Grant(one, 1),
+        Step::Grant(one, 2),
+        Step::Grant(one, 3),
+        Step::Free(2),
+        Step::Grant(one, 4),
+        Step::Grant(one, 5),
+        Step::Grant(one, 6),
+        Step::Grant(one, 7),
+        Step::Grant(one, 8),
+        Step::Grant(one, 2),
+        Step::NoFit(one),
+    ];
+    run_alone(&rt, Policy::Next, 1, 8, &steps);
 }
 
 /// A segment may end on a boundary, and none straddles one.
 #[test]
 fn boundaries(rt: HostRuntime) {
-    let mut arena = Arena::new(rt.alloc(), 1, 1, Policy::Best);
-    add(&rt, &mut arena, span(&rt, 1, 0, 64));
     let five = Request {
         align: 8,
         phase: 3,
@@ -147,101 +220,68 @@ fn boundaries(rt: HostRuntime) {
         ..Request::plain(5)
     };
     let six = Request { size: 6, ..five };
-    let segment = grant(&rt, &mut arena, &five);
-    assert_eq!(rt; place(&segment), (3, 5));
-    assert_eq!(rt; fault(&rt, &mut arena, &six), ArenaFault::NoFit);
-    give_back(&rt, &mut arena, segment);
-    take_span(&rt, &mut arena).close();
-    close(&rt, arena);
+    let steps = [Step::Grant(five, 3), Step::NoFit(six)];
+    run_alone(&rt, Policy::Best, 0, 64, &steps);
 }
 
 /// The window's end is exclusive.
 #[test]
 fn windows(rt: HostRuntime) {
-    let mut arena = Arena::new(rt.alloc(), 1, 1, Policy::Best);
-    add(&rt, &mut arena, span(&rt, 1, 0, 64));
     let window = Request {
         min: 10,
         max: 15,
         ..Request::plain(5)
     };
-    let segment = grant(&rt, &mut arena, &window);
-    assert_eq!(rt; place(&segment), (10, 5));
-    assert_eq!(rt; fault(&rt, &mut arena, &window), ArenaFault::NoFit);
-    give_back(&rt, &mut arena, segment);
-    take_span(&rt, &mut arena).close();
-    close(&rt, arena);
+    let steps = [Step::Grant(window, 10), Step::NoFit(window)];
+    run_alone(&rt, Policy::Best, 0, 64, &steps);
 }
 
 /// A greater list is taken before the exact fit, the exact fit where there is none, and a power of
 /// two uses its own list.
 #[test]
 fn instant_lists(rt: HostRuntime) {
-    let mut arena = Arena::new(rt.alloc(), 1, 1, Policy::Instant);
-    add(&rt, &mut arena, span(&rt, 1, 0, 15));
-    let five = Request::plain(5);
-    let low = grant(&rt, &mut arena, &five);
-    let second = grant(&rt, &mut arena, &Request::plain(1));
-    let third = grant(&rt, &mut arena, &Request::plain(8));
-    let fourth = grant(&rt, &mut arena, &Request::plain(1));
-    assert_eq!(rt; (place(&low), place(&second)), ((0, 5), (5, 1)));
-    assert_eq!(rt; (place(&third), place(&fourth)), ((6, 8), (14, 1)));
-    give_back(&rt, &mut arena, low);
-    give_back(&rt, &mut arena, third);
-
-    let four = grant(&rt, &mut arena, &Request::plain(4));
-    assert_eq!(rt; place(&four), (0, 4));
-    give_back(&rt, &mut arena, four);
-    give_back(&rt, &mut arena, second);
-    give_back(&rt, &mut arena, fourth);
-    take_span(&rt, &mut arena).close();
-    close(&rt, arena);
+    let steps = [
+        Step::Grant(Request::plain(5), 0),
+        Step::Grant(Request::plain(1), 5),
+        Step::Grant(Request::plain(8), 6),
+        Step::Grant(Request::plain(1), 14),
+        Step::Free(0),
+        Step::Free(6),
+        Step::Grant(Request::plain(4), 0),
+    ];
+    run_alone(&rt, Policy::Instant, 0, 15, &steps);
 }
 
 /// The list above the one that a size between two powers of two is on serves it.
 #[test]
 fn instant_falls_back(rt: HostRuntime) {
-    let mut arena = Arena::new(rt.alloc(), 1, 1, Policy::Instant);
-    add(&rt, &mut arena, span(&rt, 1, 0, 15));
-    let five = Request::plain(5);
-    let low = grant(&rt, &mut arena, &five);
-    let second = grant(&rt, &mut arena, &Request::plain(1));
-    let third = grant(&rt, &mut arena, &Request::plain(8));
-    let fourth = grant(&rt, &mut arena, &Request::plain(1));
-    give_back(&rt, &mut arena, low);
-    give_back(&rt, &mut arena, third);
-    let sixth = grant(&rt, &mut arena, &five);
-    let zeroth = grant(&rt, &mut arena, &five);
-    assert_eq!(rt; (place(&sixth), place(&zeroth)), ((6, 5), (0, 5)));
-    give_back(&rt, &mut arena, sixth);
-    give_back(&rt, &mut arena, zeroth);
-    give_back(&rt, &mut arena, second);
-    give_back(&rt, &mut arena, fourth);
-    take_span(&rt, &mut arena).close();
-    close(&rt, arena);
+    let steps = [
+        Step::Grant(Request::plain(5), 0),
+        Step::Grant(Request::plain(1), 5),
+        Step::Grant(Request::plain(8), 6),
+        Step::Grant(Request::plain(1), 14),
+        Step::Free(0),
+        Step::Free(6),
+        Step::Grant(Request::plain(5), 6),
+        Step::Grant(Request::plain(5), 0),
+    ];
+    run_alone(&rt, Policy::Instant, 0, 15, &steps);
 }
 
 /// A freed range merges with its neighbors on both sides.
 #[test]
 fn freed_ranges_merge(rt: HostRuntime) {
-    let mut arena = Arena::new(rt.alloc(), 1, 1, Policy::Instant);
-    add(&rt, &mut arena, span(&rt, 1, 0, 12));
     let four = Request::plain(4);
-    let low = grant(&rt, &mut arena, &four);
-    let middle = grant(&rt, &mut arena, &four);
-    let high = grant(&rt, &mut arena, &four);
-    assert_eq!(rt;
-        (place(&low), place(&middle), place(&high)),
-        ((0, 4), (4, 4), (8, 4))
-    );
-    give_back(&rt, &mut arena, low);
-    give_back(&rt, &mut arena, high);
-    give_back(&rt, &mut arena, middle);
-    let whole = grant(&rt, &mut arena, &Request::plain(12));
-    assert_eq!(rt; place(&whole), (0, 12));
-    give_back(&rt, &mut arena, whole);
-    take_span(&rt, &mut arena).close();
-    close(&rt, arena);
+    let steps = [
+        Step::Grant(four, 0),
+        Step::Grant(four, 4),
+        Step::Grant(four, 8),
+        Step::Free(0),
+        Step::Free(8),
+        Step::Free(4),
+        Step::Grant(Request::plain(12), 0),
+    ];
+    run_alone(&rt, Policy::Instant, 0, 12, &steps);
 }
 
 /// Spans that touch don't merge, and the lowest goes first.
@@ -250,24 +290,10 @@ fn touching_spans(rt: HostRuntime) {
     let mut arena = Arena::new(rt.alloc(), 1, 1, Policy::Best);
     add(&rt, &mut arena, span(&rt, 2, 8, 8));
     add(&rt, &mut arena, span(&rt, 1, 0, 8));
-    assert_eq!(rt;
-        fault(&rt, &mut arena, &Request::plain(12)),
-        ArenaFault::NoFit
-    );
-    let report = ArenaReport {
-        span: 16,
-        free: 16,
-        allocated: 0,
-    };
-    assert_eq!(rt; arena.report(), report);
-    assert_eq!(rt;
-        take_span(&rt, &mut arena).close(),
-        span(&rt, 1, 0, 8).close()
-    );
-    assert_eq!(rt;
-        take_span(&rt, &mut arena).close(),
-        span(&rt, 2, 8, 8).close()
-    );
+    no_grant(&rt, &mut arena, &Request::plain(12), ArenaFault::NoFit);
+    counts(&rt, &arena, 16, 16, 0);
+    end_span(&rt, &mut arena, 0, 8);
+    end_span(&rt, &mut arena, 8, 8);
     match arena.remove_owned() {
         None => {}
         Some(_deed) => panic!(rt; "no span is left"),
@@ -282,31 +308,23 @@ fn imported_spans_go_back(rt: HostRuntime) {
     let mut child = Arena::new(rt.alloc(), 2, 1, Policy::Best);
     add(&rt, &mut source, span(&rt, 1, 0, 64));
     let four = Request::plain(4);
-    assert_eq!(rt; fault(&rt, &mut child, &four), ArenaFault::NoFit);
-    let imported = grant(&rt, &mut source, &Request::plain(16));
+    no_grant(&rt, &mut child, &four, ArenaFault::NoFit);
+    let imported = grant(&rt, &mut source, &Request::plain(16), 0, 16);
     let first = import(&rt, &mut child, imported, &four);
-    let eight = grant(&rt, &mut source, &Request::plain(8));
-    assert_eq!(rt; (place(&first), place(&eight)), ((0, 4), (16, 8)));
-    let reports = (source.report(), child.report());
-    assert_eq!(rt;
-        (
-            reports.0.free,
-            reports.0.allocated,
-            reports.1.free,
-            reports.1.allocated
-        ),
-        (40, 24, 12, 4)
-    );
+    stands(&rt, &first, 0, 4);
+    let eight = grant(&rt, &mut source, &Request::plain(8), 16, 8);
+    counts(&rt, &source, 64, 40, 24);
+    counts(&rt, &child, 16, 12, 4);
 
     let back = take_back(&rt, &mut child, first);
-    assert_eq!(rt; (back.arena(), place(&back)), (1, (0, 16)));
+    assert_eq!(rt; back.arena(), 1);
+    stands(&rt, &back, 0, 16);
     close(&rt, child);
     give_back(&rt, &mut source, back);
-    let low = grant(&rt, &mut source, &Request::plain(8));
-    assert_eq!(rt; place(&low), (0, 8));
+    let low = grant(&rt, &mut source, &Request::plain(8), 0, 8);
     give_back(&rt, &mut source, low);
     give_back(&rt, &mut source, eight);
-    take_span(&rt, &mut source).close();
+    end_span(&rt, &mut source, 0, 64);
     close(&rt, source);
 }
 
@@ -323,13 +341,11 @@ fn a_refused_split_leaves_the_arena(rt: HostRuntime) {
         let mut arena = Arena::new(rt.alloc(), 1, 1, Policy::Best);
         let range = Range::new(0, 16).expect(&rt, "a range");
         add(&rt, &mut arena, RefusingDeed::new(1, range, splits));
-        let before = arena.report();
         for _ in 0..=splits {
-            assert_eq!(rt; fault(&rt, &mut arena, &middle), ArenaFault::NoMemory);
-            assert_eq!(rt; arena.report(), before);
+            no_grant(&rt, &mut arena, &middle, ArenaFault::NoMemory);
+            counts(&rt, &arena, 16, 16, 0);
         }
-        let segment = grant(&rt, &mut arena, &middle);
-        assert_eq!(rt; place(&segment), (4, 8));
+        let segment = grant(&rt, &mut arena, &middle, 4, 8);
         give_back(&rt, &mut arena, segment);
         assert_eq!(rt; take_span(&rt, &mut arena).close(), range);
         close(&rt, arena);
@@ -343,18 +359,19 @@ fn a_refused_import_comes_back(rt: HostRuntime) {
     let mut child = Arena::new(rt.alloc(), 2, 1, Policy::Best);
     let range = Range::new(0, 16).expect(&rt, "a range");
     add(&rt, &mut source, RefusingDeed::new(1, range, 0));
-    let span = grant(&rt, &mut source, &Request::plain(16));
+    let span = grant(&rt, &mut source, &Request::plain(16), 0, 16);
     let four = Request::plain(4);
-    let (span, fault) = match try_import(&rt, &mut child, span, &four) {
+    let span = match try_import(&rt, &mut child, span, &four) {
         Ok(_) => panic!(rt; "the split is refused"),
-        Err(back) => back,
+        Err((back, fault)) => {
+            assert_eq!(rt; fault, ArenaFault::NoMemory);
+            back
+        }
     };
-    assert_eq!(rt;
-        (fault, place(&span), child.report().span),
-        (ArenaFault::NoMemory, (0, 16), 0)
-    );
+    stands(&rt, &span, 0, 16);
+    counts(&rt, &child, 0, 0, 0);
     let first = import(&rt, &mut child, span, &four);
-    assert_eq!(rt; place(&first), (0, 4));
+    stands(&rt, &first, 0, 4);
     let back = take_back(&rt, &mut child, first);
     close(&rt, child);
     give_back(&rt, &mut source, back);
@@ -370,10 +387,9 @@ fn arena_of_fours(alloc: Global, id: u32) -> Arena<PlainDeed> {
 #[test]
 fn made_with(rt: HostRuntime) {
     let arena = arena_of_fours(rt.alloc(), 7);
-    assert_eq!(rt;
-        (arena.id(), arena.quantum(), arena.policy()),
-        (7, 4, Policy::Best)
-    );
+    assert_eq!(rt; arena.id(), 7);
+    assert_eq!(rt; arena.quantum(), 4);
+    assert_eq!(rt; arena.policy(), Policy::Best);
     close(&rt, arena);
 }
 
@@ -382,19 +398,14 @@ fn made_with(rt: HostRuntime) {
 fn refused_spans(rt: HostRuntime) {
     let mut arena = arena_of_fours(rt.alloc(), 7);
     add(&rt, &mut arena, span(&rt, 1, 0, 64));
-    assert_eq!(rt;
-        refuse(&rt, &mut arena, span(&rt, 2, 60, 8)),
-        ArenaFault::Overlaps
-    );
-    assert_eq!(rt;
-        refuse(&rt, &mut arena, span(&rt, 2, 66, 8)),
-        ArenaFault::NotAligned
-    );
-    assert_eq!(rt;
-        refuse(&rt, &mut arena, span(&rt, 2, 64, 6)),
-        ArenaFault::NotAligned
-    );
-    take_span(&rt, &mut arena).close();
+    for (base, len, why) in [
+        (60, 8, ArenaFault::Overlaps),
+        (66, 8, ArenaFault::NotAligned),
+        (64, 6, ArenaFault::NotAligned),
+    ] {
+        refuse(&rt, &mut arena, span(&rt, 2, base, len), why);
+    }
+    end_span(&rt, &mut arena, 0, 64);
     close(&rt, arena);
 }
 
@@ -404,19 +415,16 @@ fn refused_spans(rt: HostRuntime) {
 fn refused_requests(rt: HostRuntime) {
     let mut arena = arena_of_fours(rt.alloc(), 7);
     add(&rt, &mut arena, span(&rt, 1, 0, 64));
-    assert_eq!(rt;
-        fault(&rt, &mut arena, &Request::plain(0)),
-        ArenaFault::BadRequest
-    );
+    let none = Request::plain(0);
     let odd = Request {
         align: 2,
         ..Request::plain(4)
     };
-    assert_eq!(rt; fault(&rt, &mut arena, &odd), ArenaFault::BadRequest);
-    let segment = grant(&rt, &mut arena, &Request::plain(5));
-    assert_eq!(rt; place(&segment), (0, 8));
+    no_grant(&rt, &mut arena, &none, ArenaFault::BadRequest);
+    no_grant(&rt, &mut arena, &odd, ArenaFault::BadRequest);
+    let segment = grant(&rt, &mut arena, &Request::plain(5), 0, 8);
     give_back(&rt, &mut arena, segment);
-    take_span(&rt, &mut arena).close();
+    end_span(&rt, &mut arena, 0, 64);
     close(&rt, arena);
 }
 
@@ -425,7 +433,7 @@ fn refused_requests(rt: HostRuntime) {
 fn handed_back(rt: HostRuntime) {
     let mut arena = arena_of_fours(rt.alloc(), 7);
     add(&rt, &mut arena, span(&rt, 1, 0, 64));
-    let segment = grant(&rt, &mut arena, &Request::plain(8));
+    let segment = grant(&rt, &mut arena, &Request::plain(8), 0, 8);
     let mut other = arena_of_fours(rt.alloc(), 8);
     let segment = match other.free(segment) {
         Ok(_) => panic!(rt; "the segment is another arena's"),
@@ -437,7 +445,7 @@ fn handed_back(rt: HostRuntime) {
         Err(same) => same,
     };
     give_back(&rt, &mut arena, segment);
-    take_span(&rt, &mut arena).close();
+    end_span(&rt, &mut arena, 0, 64);
     close(&rt, arena);
 }
 
