@@ -1,5 +1,5 @@
 //! The lines of a client.
-ghost use Rattle.std.specs.Prelude.{◌≡◌, ◌++◌, IsOk, OnOk, OnErr, ◌∷◌, ◌+◌, ◌≤◌, ℕ, List, vec_len};
+ghost use Rattle.std.specs.Prelude.{◌≡◌, ◌++◌, IsOk, OnOk, OnErr, [], ◌∷◌, ◌+◌, ◌≤◌, ℕ, List, vec_len};
 ghost use Rattle.lease_proto.specs.Frames.{ended};
 ghost use Rattle.lease_proto.specs.Grammar.{line_of, hello_of, lease_of, release_of};
 ghost use Rattle.lease_proto.specs.Texts.{text_of, first_word, hello_words, lease_words, options_words, release_words, spaced, LinesAreTexts, LineIsRead};
@@ -15,7 +15,7 @@ use crate::values::{ClientId, Name, Ordinal, Quantity};
 use crate::writing::{push_name, push_number, push_option, push_text};
 use std::alloc::AllocError;
 
-/// What a lease asks for beside its size; `NONE` asks for nothing. Units and numbers of units.
+/// What a lease asks for beside its size; `none` asks for nothing. Units and numbers of units.
 #[derive(Clone, Copy, Debug, PartialEq, Eq)]
 pub struct LeaseOptions {
     pub align: Quantity,
@@ -27,13 +27,17 @@ pub struct LeaseOptions {
 
 impl LeaseOptions {
     /// No constraint: what a line without options has.
-    pub const NONE: LeaseOptions = LeaseOptions {
-        align: Quantity::ZERO,
-        phase: Quantity::ZERO,
-        nocross: Quantity::ZERO,
-        min: Quantity::ZERO,
-        max: Quantity::MOST,
-    };
+    pub fn none() -> LeaseOptions
+        ensures { options_words result ≡ [] }
+    {
+        LeaseOptions {
+            align: Quantity::ZERO,
+            phase: Quantity::ZERO,
+            nocross: Quantity::ZERO,
+            min: Quantity::ZERO,
+            max: Quantity::MOST,
+        }
+    }
 
     fn push(&self, out: &mut Vec<u8>)
         requires { vec_len out.old + 133 ≤ vec_capacity out.old }

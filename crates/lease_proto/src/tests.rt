@@ -202,7 +202,7 @@ fn the_words_go_to_their_fields(rt: HostRuntime) -> Result<(), Fail> {
     let text = b"lease 7 2 3 arena2 8 align 16 phase 4 nocross 64 min 10 max 99";
     assert_eq!(rt; Line::read(text)?, Line::Lease(lease));
     let plain = Lease {
-        options: LeaseOptions::NONE,
+        options: LeaseOptions::none(),
         ..lease
     };
     assert_eq!(rt; Line::read(b"lease 7 2 3 arena2 8")?, Line::Lease(plain));
