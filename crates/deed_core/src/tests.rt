@@ -79,77 +79,78 @@ fn sizes_are_rounded_up(rt: HostRuntime) {
     assert_eq!(rt; Request::plain(u64::MAX - 3).units(4), Some(u64::MAX - 3));
 }
 
+/// Four units at `phase` past a multiple of `align`, in one block of `nocross`.
+fn placed(align: u64, phase: u64, nocross: u64) -> Request {
+    Request {
+        align,
+        phase,
+        nocross,
+        ..Request::plain(4)
+    }
+}
+
+/// Units between two bounds.
+fn between(size: u64, min: u64, max: u64) -> Request {
+    Request {
+        min,
+        max,
+        ..Request::plain(size)
+    }
+}
+
 #[test]
 fn bad_requests_are_known(rt: HostRuntime) {
-    let plain = Request::plain(4);
+    let five = Request::plain(5);
+    let most = Request {
+        align: u64::MAX,
+        phase: u64::MAX,
+        nocross: u64::MAX,
+        ..between(u64::MAX, u64::MAX, u64::MAX)
+    };
     let bad = [
         Request::plain(0),
-        Request { align: 2, ..plain },
-        Request { align: 12, ..plain },
-        Request {
-            align: 8,
-            phase: 8,
-            ..plain
-        },
-        Request { phase: 4, ..plain },
-        Request {
-            align: 8,
-            phase: 2,
-            ..plain
-        },
-        Request {
-            nocross: 2,
-            ..plain
-        },
-        Request {
-            nocross: 12,
-            ..plain
-        },
-        Request {
-            size: 5,
-            nocross: 4,
-            ..plain
-        },
+        placed(2, 0, 0),
+        placed(12, 0, 0),
+        placed(8, 8, 0),
+        placed(0, 4, 0),
+        placed(8, 2, 0),
+        placed(0, 0, 2),
+        placed(0, 0, 12),
+        Request { nocross: 4, ..five },
         Request {
             size: u64::MAX,
-            nocross: 1 << 63,
-            ..plain
+            ..placed(0, 0, 1 << 63)
         },
-        Request {
-            min: 8,
-            max: 8,
-            ..plain
-        },
-        Request {
-            max: LIMIT + 1,
-            ..plain
-        },
-        Request {
-            size: u64::MAX,
-            align: u64::MAX,
-            phase: u64::MAX,
-            nocross: u64::MAX,
-            min: u64::MAX,
-            max: u64::MAX,
-        },
+        between(4, 8, 8),
+        between(4, 0, LIMIT + 1),
+        most,
     ];
     for (k, request) in bad.iter().enumerate() {
         assert!(rt; !request.is_good(4), "{k}");
     }
+}
+
+#[test]
+fn a_good_request_is_known(rt: HostRuntime) {
     let good = Request {
-        align: 8,
-        phase: 4,
-        nocross: 16,
         min: 4,
         max: 60,
-        ..plain
+        ..placed(8, 4, 16)
     };
     assert!(rt; good.is_good(4) && good.is_constrained());
+}
+
+#[test]
+fn powers_of_two_are_known(rt: HostRuntime) {
     let mut power: u64 = 1;
     for k in 0..64 {
         assert!(rt; is_power_of_two(power), "{k}");
         power = power.wrapping_mul(2);
     }
+}
+
+#[test]
+fn other_numbers_are_no_powers_of_two(rt: HostRuntime) {
     for n in [0, 3, 6, u64::MAX, (1 << 63) + 1] {
         assert!(rt; !is_power_of_two(n), "{n}");
     }

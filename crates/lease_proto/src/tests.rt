@@ -206,22 +206,34 @@ fn the_words_go_to_their_fields(rt: HostRuntime) -> Result<(), Fail> {
         ..lease
     };
     assert_eq!(rt; Line::read(b"lease 7 2 3 arena2 8")?, Line::Lease(plain));
+    assert_eq!(rt; arena.as_slice(), b"arena2".as_slice());
+    Ok(())
+}
+
+#[test]
+fn the_words_of_a_release_go_to_their_fields(rt: HostRuntime) -> Result<(), Fail> {
     let release = Release {
-        client,
+        client: ClientId::new(7).ok_or("no client")?,
         incarnation: ordinal(2)?,
         number: ordinal(3)?,
-        arena,
+        arena: name(b"arena2")?,
         base: quantity(24)?,
     };
     assert_eq!(rt;
         Line::read(b"release 7 2 3 arena2 24")?,
         Line::Release(release)
     );
+    Ok(())
+}
+
+#[test]
+fn the_words_of_a_reply_go_to_their_fields(rt: HostRuntime) -> Result<(), Fail> {
+    let client = ClientId::new(7).ok_or("no client")?;
     let granted = Granted {
         client,
         incarnation: ordinal(2)?,
         number: ordinal(3)?,
-        arena,
+        arena: name(b"arena2")?,
         base: quantity(24)?,
         len: quantity(8)?,
     };
@@ -239,7 +251,6 @@ fn the_words_go_to_their_fields(rt: HostRuntime) -> Result<(), Fail> {
         Reply::read(b"refused 7 2 3 notyours")?,
         Reply::Refused(refused)
     );
-    assert_eq!(rt; arena.as_slice(), b"arena2".as_slice());
     Ok(())
 }
 

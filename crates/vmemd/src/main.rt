@@ -33,18 +33,24 @@ fn main(rt: HostRuntime) -> ExitCode {
     }
 }
 
-/// What the program's arguments ask for. Its texts call it `vmemd`, whatever it was called by.
-fn read_arguments(rt: &HostRuntime) -> Result<Words, WordsFault> {
-    let alloc = rt.alloc();
+/// The program's arguments, without the name that it was called by.
+fn arguments_of(rt: &HostRuntime) -> Result<Vec<String>, WordsFault> {
     let arguments = match std::env::args(rt) {
         Ok(arguments) => arguments,
         Err(error) if error.kind() == ErrorKind::OutOfMemory => return Err(WordsFault::Memory),
         Err(_) => return Err(WordsFault::NotText),
     };
-    let mut texts: Vec<String> = Vec::new(alloc);
+    let mut texts = Vec::new(rt.alloc());
     for text in arguments.skip(1) {
         texts.push(text)?;
     }
+    Ok(texts)
+}
+
+/// What the program's arguments ask for. Its texts call it `vmemd`, whatever it was called by.
+fn read_arguments(rt: &HostRuntime) -> Result<Words, WordsFault> {
+    let alloc = rt.alloc();
+    let texts = arguments_of(rt)?;
     let mut words: Vec<&str> = Vec::new(alloc);
     words.push("vmemd")?;
     for text in &texts {
