@@ -1,9 +1,9 @@
 //! The two magazines of a CPU.
-ghost use Rattle.std.specs.Prelude.{◌≡◌, ◌+◌, ◌<◌, ◌≤◌, ◌↔◌, ◌⊎◌, [], ◌∷◌, ◌++◌, length, IsTrue};
+ghost use Rattle.std.specs.Prelude.{◌≡◌, ◌+◌, ◌<◌, ◌≤◌, ◌↔◌, ◌⊎◌, [], length};
 ghost use Rattle.std.specs.Prelude.{IsSome, IfSome, IfNone, IsOk, IfOk, IfErr, OnOk, OnErr};
 ghost use Rattle.deed_core.specs.Covering.{units_tagged};
 ghost use Rattle.deed_core.specs.Weights.{WeighSame, Gains, Loses};
-ghost use Rattle.magazine_layer.specs.Magazines.{IsSize, IsShaped, CacheState, MagazineState};
+ghost use Rattle.magazine_layer.specs.Magazines.{IsSize, IsShaped, CacheState};
 ghost use Rattle.magazine_layer.specs.Magazines.{CanTake, CanGive, Pops, pushed, cache_rounds};
 ghost use Rattle.magazine_layer.specs.Magazines.{changed};
 

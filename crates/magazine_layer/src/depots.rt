@@ -1,6 +1,6 @@
 //! Depots: what the CPUs share of a quantum cache's magazines.
-ghost use Rattle.std.specs.Prelude.{◌≡◌, ◌≢◌, ◌+◌, ◌-◌, ◌^◌, ◌<◌, ◌≤◌, ◌↔◌, ◌⊎◌, ◌++◌, [], ◌∷◌};
-ghost use Rattle.std.specs.Prelude.{length, min, IsOk, IsNone, IsSome, IfSome, IfNone, IfOk, IfErr};
+ghost use Rattle.std.specs.Prelude.{◌≡◌, ◌≢◌, ◌+◌, ◌-◌, ◌^◌, ◌<◌, ◌↔◌, ◌⊎◌, ◌++◌, []};
+ghost use Rattle.std.specs.Prelude.{length, min, IsOk, IsSome, IfSome, IfNone, IfErr};
 ghost use Rattle.std.specs.Prelude.{IsErrAnd, OnOk, OnErr, IsTrue, Ok, Err};
 ghost use Rattle.std.specs.Bool.{OnTrue, OnFalse};
 ghost use Rattle.deed_core.specs.Covering.{units_tagged};

@@ -1,11 +1,11 @@
 //! Runs of giving and taking over one CPU's cache and its depot.
-ghost use Rattle.std.specs.Prelude.{◌≡◌, ◌≢◌, ◌+◌, ◌/◌, ◌<◌, ◌≤◌, ◌⊎◌, ◌++◌, [], length, IfOk};
+ghost use Rattle.std.specs.Prelude.{◌≡◌, ◌+◌, ◌/◌, ◌<◌, ◌≤◌, ◌⊎◌, ◌++◌, length, IfOk};
 ghost use Rattle.std.specs.Prelude.{IfErr, OnErr, IfSome, IfNone, OnSome, flat_map, vec_len};
 ghost use Rattle.std.specs.Bool.{OnTrue, OnFalse};
 ghost use Rattle.deed_core.specs.Weights.{WeighSame};
 ghost use Rattle.magazine_layer.specs.Magazines.{IsSize, IsShaped, CanGive, cache_rounds, changed};
 ghost use Rattle.magazine_layer.specs.Depots.{both_rounds};
-ghost use Rattle.magazine_layer.specs.Rounds.{Stock, Takes, Gives, MakesRoom, IsFullUp};
+ghost use Rattle.magazine_layer.specs.Rounds.{Takes, Gives, MakesRoom, IsFullUp};
 ghost use Rattle.magazine_layer.specs.Rounds.{NeedsMemory, Steps, Runs, stock, brought, handed};
 
 use crate::cpu_caches::{CpuCache, two_empty};

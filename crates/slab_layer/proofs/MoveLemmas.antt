@@ -17,7 +17,7 @@ use Rattle.deed_core.specs.Weights.{Gains, Loses, WeighSame}
 use Rattle.deed_core.proofs.LawProofs.{covers_cut, sum_by-map}
 use Rattle.slab_layer.specs.Parts.{part}
 use Rattle.slab_layer.specs.Slab.{SlabState, IsSlab, IsComplete, chunk_at, used_units, unused_units, gap_of, tail_of, idle_chunks_by, chunks_out_by, deeds_in, new_slab, with_chunk}
-use Rattle.slab_layer.specs.Cache.{CacheState, StandsAt, IsChunk, Takes, Puts, Adds, Reaps, IsOfSize, IsSound, chunk_of, spare_of, chunk_tag, span_tag, deeds_of, chunks_out, span_tags}
+use Rattle.slab_layer.specs.Cache.{CacheState, StandsAt, Takes, Puts, Adds, Reaps, IsOfSize, IsSound, chunk_of, spare_of, chunk_tag, span_tag, deeds_of, chunks_out, span_tags}
 use Rattle.slab_layer.proofs.PartLemmas.{part_none, part_some}
 use Rattle.slab_layer.proofs.PassingLemmas.{counted, sum_by-items_where-set, passing_none, covering-items_where, covers_nothing}
 use Rattle.slab_layer.proofs.ListLemmas.{sum_by-flat_map-set, sum_by-flat_map-insert, sum_by-flat_map-remove}

@@ -1,5 +1,5 @@
 -- What a contract sees of a slab, and where its chunks stand.
-use Rattle.std.specs.Prelude.{◌≡◌, ℕ, ◌+◌, ◌-◌, ◌*◌, ◌/◌, ◌<◌, ◌≤◌, Bool, true, false, not, List, [], ◌∷◌, ◌++◌, Option, Some, None, All, Contains, length, slice_index_or, slice_set, replicate, sum_by, if◌then◌else◌}
+use Rattle.std.specs.Prelude.{◌≡◌, ℕ, ◌+◌, ◌-◌, ◌*◌, ◌/◌, ◌<◌, ◌≤◌, Bool, true, false, not, List, [], ◌∷◌, ◌++◌, Option, Some, None, All, Contains, length, slice_index_or, slice_set, replicate, if◌then◌else◌}
 use Rattle.std.specs.Option.{option_to_list}
 use Rattle.deed_core.specs.Holding.{Holding, piece}
 use Rattle.slab_layer.specs.Parts.{part}

@@ -1,5 +1,5 @@
 //! Slab caches.
-ghost use Rattle.std.specs.Prelude.{◌≡◌, ℕ, ◌+◌, ◌*◌, ◌<◌, ◌≤◌, ◌≢◌, ◌↔◌, [], length, All, Any, Contains, IsTrue, IsOk, IsErrAnd, IsNone, IfOk, IfErr, IfNone, IfSome, OnErr, OnOk, OnSome};
+ghost use Rattle.std.specs.Prelude.{◌≡◌, ℕ, ◌+◌, ◌*◌, ◌<◌, ◌≤◌, ◌≢◌, ◌↔◌, [], All, Any, Contains, IsTrue, IsOk, IsErrAnd, IsNone, IfOk, IfErr, IfNone, IfSome, OnErr, OnOk};
 ghost use Rattle.deed_core.specs.Extent.{Overlap};
 ghost use Rattle.deed_core.specs.Covering.{covering_held, covering_tags, covers_tag, units_held};
 ghost use Rattle.deed_core.specs.Weights.{Gains, Loses, WeighSame};

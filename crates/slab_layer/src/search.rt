@@ -1,6 +1,6 @@
 //! Searches in the slabs of a cache, and changes of one of them.
-ghost use Rattle.std.specs.Prelude.{◌≡◌, ◌≢◌, ℕ, ◌+◌, ◌<◌, ◌≤◌, ◌↔◌, length, slice_index_or, take, drop, All, AllPairs, Any, IsTrue, MatchOption};
-ghost use Rattle.deed_core.specs.Extent.{Overlap, end_of};
+ghost use Rattle.std.specs.Prelude.{◌≡◌, ◌≢◌, ℕ, ◌<◌, ◌≤◌, ◌↔◌, length, slice_index_or, All, AllPairs, Any, IsTrue, MatchOption};
+ghost use Rattle.deed_core.specs.Extent.{Overlap};
 ghost use Rattle.slab_layer.specs.Slab.{SlabState, IsAllOut, IsComplete, IsPartial, IsLowestIdle, chunk_at};
 ghost use Rattle.slab_layer.specs.Cache.{StandsAt, IsBelow, IsLowest, IsNext};
 
