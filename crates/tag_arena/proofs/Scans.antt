@@ -1,5 +1,5 @@
 -- One range more in a scan of the free ranges.
-use Rattle.std.proofs.Common.{◌≡◌, ℕ, ◌+◌, ◌*◌, ◌%◌, ◌^◌, ◌<◌, ◌≤◌, sym, subst, ap, ⊎_elim, List, length, get_or, HoldsAt, Contains, Option, Some, None, arith}
+use Rattle.std.proofs.Common.{◌≡◌, ℕ, ◌+◌, ◌*◌, ◌%◌, ◌^◌, ◌<◌, ◌≤◌, sym, subst, ap, ⊎_elim, List, length, get_or, HoldsAt, Contains, Option, Some, None, MatchOption, arith}
 use Rattle.std.proofs.lemmas.Bool.{cases_lt}
 use Rattle.std.proofs.lemmas.Nat.{one_shl}
 use Rattle.std.specs.List.{AllWithin}
@@ -198,3 +198,9 @@ module _ (owned free : List Holding) (at : ℕ) (span : Holding) (here : HoldsAt
     there,
     within_more (λ s. Contains free s → span.range.base ≤ s.range.base) owned 0 at (λ k d from below in-free. absurd (so k d from below in-free)) (at_span (λ s. Contains free s → span.range.base ≤ s.range.base) (λ in-free. omega arith)),
   )
+
+  -- where none was found before
+  pub lowest_alone : (o : Option Whole) → MatchOption o (¬ Contains free span) (λ w. (w ≡ record { at = at; free_at = w.free_at; span = span }) × (w.free_at < length free) × HoldsAt (λ r. r ≡ span) free w.free_at)
+      → LowestSoFar owned free at None → LowestSoFar owned free (at + 1) o
+  lowest_alone None none so = lowest_skips None so none
+  lowest_alone (Some w) is so = subst (λ (x : Whole). LowestSoFar owned free (at + 1) (Some x)) (sym is.0) (lowest_first w.free_at is.1 is.2 so)

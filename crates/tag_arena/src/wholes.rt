@@ -26,7 +26,18 @@ fn place_of<D: Deed>(free: &[Stored<D>], range: Stretch) -> Option<usize>
     None
 }
 
-/// The lower of one span more than `lowest` is the lowest of.
+/// The span that stands at `at` among the owned ones, if it is a free range.
+fn whole_at<D: Deed>(free: &[Stored<D>], at: usize, span: Stretch) -> Option<Whole>
+    ensures { MatchOption result (¬ Contains free.now span)
+        (λ whole. (whole ≡ record { at = at; free_at = whole.free_at; span = span })
+        × (whole.free_at < length free.now) × HoldsAt (λ r. r ≡ span) free.now whole.free_at) }
+{
+    let free_at = place_of(free, span)?;
+    Some(Whole { at, free_at, span })
+}
+
+/// The lower of one span more than `lowest` is the lowest of. The free ranges are searched only for a span
+/// that is lower than the lowest so far.
 fn lower<D: Deed>(
     owned: &[Stretch],
     free: &[Stored<D>],
@@ -38,18 +49,13 @@ fn lower<D: Deed>(
     ensures { LowestSoFar owned.now free.now (at + 1) result }
 {
     let span = owned[at];
-    let Some(free_at) = place_of(free, span) else {
-        return lowest;
-    };
-    let found = Whole { at, free_at, span };
     let Some(other) = lowest else {
-        return Some(found);
+        return whole_at(free, at, span);
     };
     if other.span.base() <= span.base() {
-        Some(other)
-    } else {
-        Some(found)
+        return Some(other);
     }
+    Some(whole_at(free, at, span).unwrap_or(other))
 }
 
 /// The lowest owned span that is a free range.
