@@ -1,4 +1,5 @@
 //! Rows of calls with what they must give, and what is refused.
+mod growth;
 
 use crate::{Arena, ArenaFault, ArenaReport, Policy, best_is_one, instant_is_one, next_is_one};
 use deed_core::{Deed, PlainDeed, Range, Request, Segment};
