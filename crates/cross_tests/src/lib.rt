@@ -1,5 +1,11 @@
-//! Tests that cross crates: an arena over the deeds of running threads. It has no code of its own.
+//! Tests that cross crates. It has no code of its own.
+//!
+//! `arenas` has rows of calls of an arena, over plain deeds and over deeds one of whose splits is
+//! refused. They stand here and not in `tag_arena`, since the gate proves a crate once more for its
+//! tests. `seat_deeds` has an arena over the deeds of running threads.
 #![tactic(auto)]
 
 #[cfg(test)]
-mod tests;
+mod arenas;
+#[cfg(test)]
+mod seat_deeds;

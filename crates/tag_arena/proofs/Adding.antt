@@ -5,11 +5,19 @@ use Rattle.std.proofs.lemmas.List.Quantifiers.{all_pairs_push}
 use Rattle.std.specs.Ordering.{nat_cmp}
 use Rattle.std.specs.FinMap as finmap
 use Rattle.std.specs.FinMap.{get-empty}
-use Rattle.deed_core.specs.Extent.{Covers}
+use Rattle.deed_core.specs.Extent.{Extent, Covers}
 use Rattle.deed_core.specs.Holding.{Holding, Apart}
 use Rattle.tag_arena.specs.Layout.{Layout, Holds, IsPartOf, IsAllocated, IsEdgedRun, IsWhole}
 use Rattle.tag_arena.proofs.Members.{Contains-nil}
 use Rattle.tag_arena.proofs.Ranges.{apart_or_share, not_both, Any-member, member-Any}
+
+-- a list that was given room, and then one item more
+pub pushed : {X : Type 0} (old grown now : List X) (x y : X) → now ≡ grown ++ x ∷ [] → grown ≡ old → x ≡ y → now ≡ old ++ y ∷ []
+pushed old grown now x y push grow same = push ∙ ap (λ z. grown ++ z ∷ []) same ∙ ap (λ xs. xs ++ y ∷ []) grow
+
+-- the range of what is held, told of what was held before
+pub same_range : (e : Extent) (h held : Holding) → e ≡ held.range → h ≡ held → e ≡ h.range
+same_range e h held range same = range ∙ sym (ap (λ (x : Holding). x.range) same)
 
 pub not_there : (b : ℕ) (t : Holding) → finmap.get (finmap.empty {X = Holding} {R = nat_cmp}) b ≡ Some t → ⊥
 not_there b t at = let none : finmap.get (finmap.empty {X = Holding} {R = nat_cmp}) b ≡ None = get-empty nat_cmp b in let both : Some t ≡ None = sym at ∙ none in cc

@@ -31,6 +31,10 @@ use Rattle.tag_arena.proofs.Allocations.{gains_insert, loses_remove}
 use Rattle.tag_arena.proofs.Counting.{covering-carved}
 use Rattle.tag_arena.proofs.SpanLists.{map-filter, without_is, without-remove, first_without, second_without, first_more, AllPairs-first, AllPairs-second}
 
+-- the arena of which this is known
+abbrev pub the_state : {a : ArenaState} → IsSound a → ArenaState
+the_state {a} sound = a
+
 -- the sum and the difference of two multiples of the quantum
 pub sum_multiple : (b n quantum : ℕ) → b % quantum ≡ 0 → n % quantum ≡ 0 → (b + n) % quantum ≡ 0
 sum_multiple b n quantum hb hn = add-mod b n quantum ∙ ap (λ k. (k + n % quantum) % quantum) hb ∙ ap (λ k. (0 + k) % quantum) hn ∙ zero-mod quantum

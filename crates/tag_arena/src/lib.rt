@@ -1,6 +1,6 @@
 //! One arena: ranges of whole numbers, carved by a policy and freed again. `Arena` is where to
 //! begin; `specs/ArenaState.antt` says what its contracts see, and `specs/Calls.antt` what each
-//! call does.
+//! call does. Its tests stand in the crate `cross_tests`.
 //!
 //! Its rules are those of "Magazines and Vmem" (2001), where no other source is named.
 #![tactic(auto)]
@@ -17,8 +17,6 @@ mod policies;
 mod spans;
 mod stretches;
 mod tags;
-#[cfg(test)]
-mod tests;
 mod wholes;
 
 pub use arenas::{Arena, ArenaReport};

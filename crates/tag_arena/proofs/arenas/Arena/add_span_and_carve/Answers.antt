@@ -11,11 +11,12 @@ use Rattle.tag_arena.specs.Calls.{part, between, after_import_carve, after_impor
 use Rattle.tag_arena.proofs.Allocations.{len_more}
 use Rattle.tag_arena.proofs.Granting.{units_are, as_it_was, undone, stands}
 use Rattle.tag_arena.proofs.Importing.{imports, import_absent, import_is, import_sound, import_gains, import_covers}
+use Rattle.tag_arena.proofs.Sounding.{the_state}
 use Rattle.tag_arena.proofs.arenas.Arena.add_span_and_carve.Goals as goal
 
 pub insert-requires-clause-absent : goal.insert-requires-clause-absent
 insert-requires-clause-absent g c =
-    let a : ArenaState = record { id = c.self.inside.id; quantum = c.self.inside.quantum; policy = c.self.inside.policy; owned = c.self.inside.owned.items; imported = c.self.inside.imported.items; free = c.self.inside.free.items; allocated = c.self.inside.tags; rover = c.self.inside.rover } in
+    let a = the_state c.self.invariant.0 in
     let t : Tag = c.args.span in
     let n : ℕ = c.unwrap-len.result in
     let range_is : c.range-range.result ≡ t.holding.range = c.range-range.ensures.value in
@@ -31,7 +32,7 @@ remove-requires g c =
 
 pub invariant_of-self-in-Err : goal.invariant_of-self-in-Err
 invariant_of-self-in-Err g c =
-    let a : ArenaState = record { id = c.self.inside.id; quantum = c.self.inside.quantum; policy = c.self.inside.policy; owned = c.self.inside.owned.items; imported = c.self.inside.imported.items; free = c.self.inside.free.items; allocated = c.self.inside.tags; rover = c.self.inside.rover } in
+    let a = the_state c.self.invariant.0 in
     let t : Tag = c.args.span in
     let n : ℕ = c.unwrap-len.result in
     let range_is : c.range-range.result ≡ t.holding.range = c.range-range.ensures.value in
@@ -47,7 +48,7 @@ invariant_of-self-in-Err g c =
 
 pub returns-in-Err-clause-err : goal.returns-in-Err-clause-err
 returns-in-Err-clause-err g c =
-    let a : ArenaState = record { id = c.self.inside.id; quantum = c.self.inside.quantum; policy = c.self.inside.policy; owned = c.self.inside.owned.items; imported = c.self.inside.imported.items; free = c.self.inside.free.items; allocated = c.self.inside.tags; rover = c.self.inside.rover } in
+    let a = the_state c.self.invariant.0 in
     let t : Tag = c.args.span in
     let n : ℕ = c.unwrap-len.result in
     let range_is : c.range-range.result ≡ t.holding.range = c.range-range.ensures.value in
@@ -62,7 +63,7 @@ returns-in-Err-clause-err g c =
 
 pub invariant_of-self-2 : goal.invariant_of-self-2
 invariant_of-self-2 g c =
-    let a : ArenaState = record { id = c.self.inside.id; quantum = c.self.inside.quantum; policy = c.self.inside.policy; owned = c.self.inside.owned.items; imported = c.self.inside.imported.items; free = c.self.inside.free.items; allocated = c.self.inside.tags; rover = c.self.inside.rover } in
+    let a = the_state c.self.invariant.0 in
     let t : Tag = c.args.span in
     let n : ℕ = c.unwrap-len.result in
     let range_is : c.range-range.result ≡ t.holding.range = c.range-range.ensures.value in
@@ -84,7 +85,7 @@ invariant_of-self-2 g c =
 
 pub returns : goal.returns
 returns g c =
-    let a : ArenaState = record { id = c.self.inside.id; quantum = c.self.inside.quantum; policy = c.self.inside.policy; owned = c.self.inside.owned.items; imported = c.self.inside.imported.items; free = c.self.inside.free.items; allocated = c.self.inside.tags; rover = c.self.inside.rover } in
+    let a = the_state c.self.invariant.0 in
     let t : Tag = c.args.span in
     let n : ℕ = c.unwrap-len.result in
     let range_is : c.range-range.result ≡ t.holding.range = c.range-range.ensures.value in

@@ -15,11 +15,12 @@ use Rattle.tag_arena.specs.Calls.{after_free}
 use Rattle.tag_arena.specs.Neighbors.{Merges}
 use Rattle.tag_arena.proofs.Allocations.{len_less, loses_remove}
 use Rattle.tag_arena.proofs.Returning.{same_tag, lies_in, has_span, span_holds, free_beside, freed_is, freed_sound, freed_covers, merge_covers, frees, returned_is, returned_sound, frees_back}
+use Rattle.tag_arena.proofs.Sounding.{the_state}
 use Rattle.tag_arena.proofs.arenas.Arena.free.Goals as goal
 
 pub unwrap-span-requires : goal.unwrap-span-requires
 unwrap-span-requires g c =
-    let a : ArenaState = record { id = c.self.inside.id; quantum = c.self.inside.quantum; policy = c.self.inside.policy; owned = c.self.inside.owned.items; imported = c.self.inside.imported.items; free = c.self.inside.free.items; allocated = c.self.inside.tags; rover = c.self.inside.rover } in
+    let a = the_state c.self.invariant.0 in
     let p : Holding = c.new-tagged.result in
     let seg_is : c.new-tagged.result ≡ c.args.segment.holding = rw (c.new-tagged.ensures, c.root.ensures, c.range.ensures.value) refl in
     let at : finmap.get c.self.inside.tags p.range.base ≡ Some p = search rules in
@@ -29,7 +30,7 @@ unwrap-span-requires g c =
 
 pub merge-merged-requires-clause-inside : goal.merge-merged-requires-clause-inside
 merge-merged-requires-clause-inside g c =
-    let a : ArenaState = record { id = c.self.inside.id; quantum = c.self.inside.quantum; policy = c.self.inside.policy; owned = c.self.inside.owned.items; imported = c.self.inside.imported.items; free = c.self.inside.free.items; allocated = c.self.inside.tags; rover = c.self.inside.rover } in
+    let a = the_state c.self.invariant.0 in
     let p : Holding = c.new-tagged.result in
     let seg_is : c.new-tagged.result ≡ c.args.segment.holding = rw (c.new-tagged.ensures, c.root.ensures, c.range.ensures.value) refl in
     let at : finmap.get c.self.inside.tags p.range.base ≡ Some p = search rules in
@@ -41,7 +42,7 @@ merge-merged-requires-clause-inside g c =
 
 pub merge-merged-requires-clause-beside : goal.merge-merged-requires-clause-beside
 merge-merged-requires-clause-beside g c =
-    let a : ArenaState = record { id = c.self.inside.id; quantum = c.self.inside.quantum; policy = c.self.inside.policy; owned = c.self.inside.owned.items; imported = c.self.inside.imported.items; free = c.self.inside.free.items; allocated = c.self.inside.tags; rover = c.self.inside.rover } in
+    let a = the_state c.self.invariant.0 in
     let p : Holding = c.new-tagged.result in
     let seg_is : c.new-tagged.result ≡ c.args.segment.holding = rw (c.new-tagged.ensures, c.root.ensures, c.range.ensures.value) refl in
     let at : finmap.get c.self.inside.tags p.range.base ≡ Some p = search rules in
@@ -52,7 +53,7 @@ merge-merged-requires-clause-beside g c =
 
 pub push_reserved-requires : goal.push_reserved-requires
 push_reserved-requires g c =
-    let a : ArenaState = record { id = c.self.inside.id; quantum = c.self.inside.quantum; policy = c.self.inside.policy; owned = c.self.inside.owned.items; imported = c.self.inside.imported.items; free = c.self.inside.free.items; allocated = c.self.inside.tags; rover = c.self.inside.rover } in
+    let a = the_state c.self.invariant.0 in
     let p : Holding = c.new-tagged.result in
     let seg_is : c.new-tagged.result ≡ c.args.segment.holding = rw (c.new-tagged.ensures, c.root.ensures, c.range.ensures.value) refl in
     let at : finmap.get c.self.inside.tags p.range.base ≡ Some p = search rules in
@@ -62,7 +63,7 @@ push_reserved-requires g c =
 
 pub invariant_of-self : goal.invariant_of-self
 invariant_of-self g c =
-    let a : ArenaState = record { id = c.self.inside.id; quantum = c.self.inside.quantum; policy = c.self.inside.policy; owned = c.self.inside.owned.items; imported = c.self.inside.imported.items; free = c.self.inside.free.items; allocated = c.self.inside.tags; rover = c.self.inside.rover } in
+    let a = the_state c.self.invariant.0 in
     let p : Holding = c.new-tagged.result in
     let seg_is : c.new-tagged.result ≡ c.args.segment.holding = rw (c.new-tagged.ensures, c.root.ensures, c.range.ensures.value) refl in
     let at : finmap.get c.self.inside.tags p.range.base ≡ Some p = search rules in
@@ -82,7 +83,7 @@ invariant_of-self g c =
 
 pub invariant_of-self-2 : goal.invariant_of-self-2
 invariant_of-self-2 g c =
-    let a : ArenaState = record { id = c.self.inside.id; quantum = c.self.inside.quantum; policy = c.self.inside.policy; owned = c.self.inside.owned.items; imported = c.self.inside.imported.items; free = c.self.inside.free.items; allocated = c.self.inside.tags; rover = c.self.inside.rover } in
+    let a = the_state c.self.invariant.0 in
     let p : Holding = c.new-tagged.result in
     let seg_is : c.new-tagged.result ≡ c.args.segment.holding = rw (c.new-tagged.ensures, c.root.ensures, c.range.ensures.value) refl in
     let at : finmap.get c.self.inside.tags p.range.base ≡ Some p = search rules in
@@ -105,7 +106,7 @@ invariant_of-self-2 g c =
 
 pub returns-in_default : goal.returns-in_default
 returns-in_default g c =
-    let a : ArenaState = record { id = c.self.inside.id; quantum = c.self.inside.quantum; policy = c.self.inside.policy; owned = c.self.inside.owned.items; imported = c.self.inside.imported.items; free = c.self.inside.free.items; allocated = c.self.inside.tags; rover = c.self.inside.rover } in
+    let a = the_state c.self.invariant.0 in
     let p : Holding = c.new-tagged.result in
     let seg_is : c.new-tagged.result ≡ c.args.segment.holding = rw (c.new-tagged.ensures, c.root.ensures, c.range.ensures.value) refl in
     let at : finmap.get c.self.inside.tags p.range.base ≡ Some p = search rules in
@@ -138,7 +139,7 @@ returns-in_default g c =
 
 pub returns : goal.returns
 returns g c =
-    let a : ArenaState = record { id = c.self.inside.id; quantum = c.self.inside.quantum; policy = c.self.inside.policy; owned = c.self.inside.owned.items; imported = c.self.inside.imported.items; free = c.self.inside.free.items; allocated = c.self.inside.tags; rover = c.self.inside.rover } in
+    let a = the_state c.self.invariant.0 in
     let p : Holding = c.new-tagged.result in
     let seg_is : c.new-tagged.result ≡ c.args.segment.holding = rw (c.new-tagged.ensures, c.root.ensures, c.range.ensures.value) refl in
     let at : finmap.get c.self.inside.tags p.range.base ≡ Some p = search rules in

@@ -6,17 +6,18 @@ use Rattle.tag_arena.specs.Found.{LowestSoFar}
 use Rattle.tag_arena.specs.ArenaState.{ArenaState, IsSound}
 use Rattle.tag_arena.specs.Calls.{IsLowestWhole, after_remove}
 use Rattle.tag_arena.proofs.Taking.{if_none, lowest, removed_is, removed_sound, owned_loses, free_loses}
+use Rattle.tag_arena.proofs.Sounding.{the_state}
 use Rattle.tag_arena.proofs.arenas.Arena.remove_owned.Goals as goal
 
 pub returns-in_err-whole-clause-none : goal.returns-in_err-whole-clause-none
 returns-in_err-whole-clause-none g c =
-    let a : ArenaState = record { id = c.self.inside.id; quantum = c.self.inside.quantum; policy = c.self.inside.policy; owned = c.self.inside.owned.items; imported = c.self.inside.imported.items; free = c.self.inside.free.items; allocated = c.self.inside.tags; rover = c.self.inside.rover } in
+    let a = the_state c.self.invariant.0 in
     let none : All (λ s. ¬ Contains a.free s) a.owned = λ k d below. (rw (c.deref.ensures.value, c.deref-2.ensures.value) at c.in_err-whole.ensures) k d (omega arith) below in
     if_none c.from_residual.result _ (subst (λ (s : ArenaState). All (λ x. ¬ Contains s.free x) s.owned) c.self.view_is none, refl)
 
 pub invariant_of-self : goal.invariant_of-self
 invariant_of-self g c =
-    let a : ArenaState = record { id = c.self.inside.id; quantum = c.self.inside.quantum; policy = c.self.inside.policy; owned = c.self.inside.owned.items; imported = c.self.inside.imported.items; free = c.self.inside.free.items; allocated = c.self.inside.tags; rover = c.self.inside.rover } in
+    let a = the_state c.self.invariant.0 in
     let sound : IsSound a = c.self.invariant.0 in
     let w : Whole = c.in_ok-whole.whole in
     let so : LowestSoFar a.owned a.free (length a.owned) (Some w) = rw (c.deref.ensures.value, c.deref-2.ensures.value) at c.in_ok-whole.ensures in
@@ -26,7 +27,7 @@ invariant_of-self g c =
 
 pub returns-clause-lowest : goal.returns-clause-lowest
 returns-clause-lowest g c =
-    let a : ArenaState = record { id = c.self.inside.id; quantum = c.self.inside.quantum; policy = c.self.inside.policy; owned = c.self.inside.owned.items; imported = c.self.inside.imported.items; free = c.self.inside.free.items; allocated = c.self.inside.tags; rover = c.self.inside.rover } in
+    let a = the_state c.self.invariant.0 in
     let sound : IsSound a = c.self.invariant.0 in
     let w : Whole = c.in_ok-whole.whole in
     let so : LowestSoFar a.owned a.free (length a.owned) (Some w) = rw (c.deref.ensures.value, c.deref-2.ensures.value) at c.in_ok-whole.ensures in
@@ -36,7 +37,7 @@ returns-clause-lowest g c =
 
 pub returns-clause-removed : goal.returns-clause-removed
 returns-clause-removed g c =
-    let a : ArenaState = record { id = c.self.inside.id; quantum = c.self.inside.quantum; policy = c.self.inside.policy; owned = c.self.inside.owned.items; imported = c.self.inside.imported.items; free = c.self.inside.free.items; allocated = c.self.inside.tags; rover = c.self.inside.rover } in
+    let a = the_state c.self.invariant.0 in
     let sound : IsSound a = c.self.invariant.0 in
     let w : Whole = c.in_ok-whole.whole in
     let so : LowestSoFar a.owned a.free (length a.owned) (Some w) = rw (c.deref.ensures.value, c.deref-2.ensures.value) at c.in_ok-whole.ensures in
@@ -47,7 +48,7 @@ returns-clause-removed g c =
 
 pub returns-clause-loses : goal.returns-clause-loses
 returns-clause-loses g c =
-    let a : ArenaState = record { id = c.self.inside.id; quantum = c.self.inside.quantum; policy = c.self.inside.policy; owned = c.self.inside.owned.items; imported = c.self.inside.imported.items; free = c.self.inside.free.items; allocated = c.self.inside.tags; rover = c.self.inside.rover } in
+    let a = the_state c.self.invariant.0 in
     let sound : IsSound a = c.self.invariant.0 in
     let w : Whole = c.in_ok-whole.whole in
     let so : LowestSoFar a.owned a.free (length a.owned) (Some w) = rw (c.deref.ensures.value, c.deref-2.ensures.value) at c.in_ok-whole.ensures in
@@ -58,7 +59,7 @@ returns-clause-loses g c =
 
 pub returns-clause-covering : goal.returns-clause-covering
 returns-clause-covering g c =
-    let a : ArenaState = record { id = c.self.inside.id; quantum = c.self.inside.quantum; policy = c.self.inside.policy; owned = c.self.inside.owned.items; imported = c.self.inside.imported.items; free = c.self.inside.free.items; allocated = c.self.inside.tags; rover = c.self.inside.rover } in
+    let a = the_state c.self.invariant.0 in
     let sound : IsSound a = c.self.invariant.0 in
     let w : Whole = c.in_ok-whole.whole in
     let so : LowestSoFar a.owned a.free (length a.owned) (Some w) = rw (c.deref.ensures.value, c.deref-2.ensures.value) at c.in_ok-whole.ensures in

@@ -10,7 +10,7 @@ use Rattle.tag_arena.specs.declared.choices.Found.{Found}
 use Rattle.tag_arena.specs.ArenaState.{ArenaState, IsSound, IsChosen, ranges_of}
 use Rattle.tag_arena.specs.Calls.{part, rests, RefusesCarve}
 use Rattle.tag_arena.proofs.Allocations.{len_more}
-use Rattle.tag_arena.proofs.Sounding.{free_ranges}
+use Rattle.tag_arena.proofs.Sounding.{the_state, free_ranges}
 use Rattle.tag_arena.proofs.Granting.{units_are, chosen_by, never_both, as_it_was, undone, stands, memory_refused, memory_not_fit, carve_is, carves, carve_sound, carve_absent, carve_gains, carve_covers, found_carve}
 use Rattle.tag_arena.proofs.arenas.Arena.xalloc.Goals as goal
 
@@ -19,13 +19,13 @@ chosen-requires-clause-below g c = subst (λ (xs : List Holding). All (λ r. IsR
 
 pub returns-in_err-reserve_free-clause-no_fit : goal.returns-in_err-reserve_free-clause-no_fit
 returns-in_err-reserve_free-clause-no_fit g c =
-    let a : ArenaState = record { id = c.self.inside.id; quantum = c.self.inside.quantum; policy = c.self.inside.policy; owned = c.self.inside.owned.items; imported = c.self.inside.imported.items; free = c.self.inside.free.items; allocated = c.self.inside.tags; rover = c.self.inside.rover } in
+    let a = the_state c.self.invariant.0 in
     let chosen : IsChosen c.args.self.now c.args.request.now (Some c.in-Some.found.base) = chosen_by a _ _ _ _ c.deref.ensures.value c.self.view_is c.in-Some.ensures.choice in
     (λ e. absurd (memory_not_fit c.from_residual.result c.from_residual.ensures.1 e), λ none. absurd (never_both c.args.self.now c.args.request.now c.in-Some.found.base none.1 chosen))
 
 pub returns-in_err-reserve_free-clause-refused : goal.returns-in_err-reserve_free-clause-refused
 returns-in_err-reserve_free-clause-refused g c =
-    let a : ArenaState = record { id = c.self.inside.id; quantum = c.self.inside.quantum; policy = c.self.inside.policy; owned = c.self.inside.owned.items; imported = c.self.inside.imported.items; free = c.self.inside.free.items; allocated = c.self.inside.tags; rover = c.self.inside.rover } in
+    let a = the_state c.self.invariant.0 in
     let chosen : IsChosen c.args.self.now c.args.request.now (Some c.in-Some.found.base) = chosen_by a _ _ _ _ c.deref.ensures.value c.self.view_is c.in-Some.ensures.choice in
     let good : IsGood c.self.inside.quantum c.args.request.now = c.is_good.ensures.0 c.if-not-is_good.false in
     let good_now : IsGood c.args.self.now.quantum c.args.request.now = subst (λ (s : ArenaState). IsGood s.quantum c.args.request.now) c.self.view_is good in
@@ -33,13 +33,13 @@ returns-in_err-reserve_free-clause-refused g c =
 
 pub returns-in_err-insert-clause-no_fit : goal.returns-in_err-insert-clause-no_fit
 returns-in_err-insert-clause-no_fit g c =
-    let a : ArenaState = record { id = c.self.inside.id; quantum = c.self.inside.quantum; policy = c.self.inside.policy; owned = c.self.inside.owned.items; imported = c.self.inside.imported.items; free = c.self.inside.free.items; allocated = c.self.inside.tags; rover = c.self.inside.rover } in
+    let a = the_state c.self.invariant.0 in
     let chosen : IsChosen c.args.self.now c.args.request.now (Some c.in-Some.found.base) = chosen_by a _ _ _ _ c.deref.ensures.value c.self.view_is c.in-Some.ensures.choice in
     (λ e. absurd (memory_not_fit c.from_residual-in_err-insert.result c.from_residual-in_err-insert.ensures.1 e), λ none. absurd (never_both c.args.self.now c.args.request.now c.in-Some.found.base none.1 chosen))
 
 pub returns-in_err-insert-clause-refused : goal.returns-in_err-insert-clause-refused
 returns-in_err-insert-clause-refused g c =
-    let a : ArenaState = record { id = c.self.inside.id; quantum = c.self.inside.quantum; policy = c.self.inside.policy; owned = c.self.inside.owned.items; imported = c.self.inside.imported.items; free = c.self.inside.free.items; allocated = c.self.inside.tags; rover = c.self.inside.rover } in
+    let a = the_state c.self.invariant.0 in
     let chosen : IsChosen c.args.self.now c.args.request.now (Some c.in-Some.found.base) = chosen_by a _ _ _ _ c.deref.ensures.value c.self.view_is c.in-Some.ensures.choice in
     let good : IsGood c.self.inside.quantum c.args.request.now = c.is_good.ensures.0 c.if-not-is_good.false in
     let good_now : IsGood c.args.self.now.quantum c.args.request.now = subst (λ (s : ArenaState). IsGood s.quantum c.args.request.now) c.self.view_is good in
@@ -47,7 +47,7 @@ returns-in_err-insert-clause-refused g c =
 
 pub insert-requires-clause-absent : goal.insert-requires-clause-absent
 insert-requires-clause-absent g c =
-    let a : ArenaState = record { id = c.self.inside.id; quantum = c.self.inside.quantum; policy = c.self.inside.policy; owned = c.self.inside.owned.items; imported = c.self.inside.imported.items; free = c.self.inside.free.items; allocated = c.self.inside.tags; rover = c.self.inside.rover } in
+    let a = the_state c.self.invariant.0 in
     let good : IsGood c.self.inside.quantum c.args.request.now = c.is_good.ensures.0 c.if-not-is_good.false in
     let f : Found = c.in-Some.found in
     let n : ℕ = c.unwrap-len.result in
@@ -62,7 +62,7 @@ remove-requires g c = stands _ _ _ _ c.in_ok-insert.ensures.ok
 
 pub invariant_of-self-in_default-carve : goal.invariant_of-self-in_default-carve
 invariant_of-self-in_default-carve g c =
-    let a : ArenaState = record { id = c.self.inside.id; quantum = c.self.inside.quantum; policy = c.self.inside.policy; owned = c.self.inside.owned.items; imported = c.self.inside.imported.items; free = c.self.inside.free.items; allocated = c.self.inside.tags; rover = c.self.inside.rover } in
+    let a = the_state c.self.invariant.0 in
     let good : IsGood c.self.inside.quantum c.args.request.now = c.is_good.ensures.0 c.if-not-is_good.false in
     let f : Found = c.in-Some.found in
     let n : ℕ = c.unwrap-len.result in
@@ -80,13 +80,13 @@ invariant_of-self-in_default-carve g c =
 
 pub returns-in_default-carve-clause-no_fit : goal.returns-in_default-carve-clause-no_fit
 returns-in_default-carve-clause-no_fit g c =
-    let a : ArenaState = record { id = c.self.inside.id; quantum = c.self.inside.quantum; policy = c.self.inside.policy; owned = c.self.inside.owned.items; imported = c.self.inside.imported.items; free = c.self.inside.free.items; allocated = c.self.inside.tags; rover = c.self.inside.rover } in
+    let a = the_state c.self.invariant.0 in
     let chosen : IsChosen c.args.self.now c.args.request.now (Some c.in-Some.found.base) = chosen_by a _ _ _ _ c.deref.ensures.value c.self.view_is c.in-Some.ensures.choice in
     (λ e. absurd cc, λ none. absurd (never_both c.args.self.now c.args.request.now c.in-Some.found.base none.1 chosen))
 
 pub returns-in_default-carve-clause-refused : goal.returns-in_default-carve-clause-refused
 returns-in_default-carve-clause-refused g c =
-    let a : ArenaState = record { id = c.self.inside.id; quantum = c.self.inside.quantum; policy = c.self.inside.policy; owned = c.self.inside.owned.items; imported = c.self.inside.imported.items; free = c.self.inside.free.items; allocated = c.self.inside.tags; rover = c.self.inside.rover } in
+    let a = the_state c.self.invariant.0 in
     let chosen : IsChosen c.args.self.now c.args.request.now (Some c.in-Some.found.base) = chosen_by a _ _ _ _ c.deref.ensures.value c.self.view_is c.in-Some.ensures.choice in
     let good : IsGood c.self.inside.quantum c.args.request.now = c.is_good.ensures.0 c.if-not-is_good.false in
     let good_now : IsGood c.args.self.now.quantum c.args.request.now = subst (λ (s : ArenaState). IsGood s.quantum c.args.request.now) c.self.view_is good in
@@ -94,7 +94,7 @@ returns-in_default-carve-clause-refused g c =
 
 pub returns-in_default-carve-clause-err : goal.returns-in_default-carve-clause-err
 returns-in_default-carve-clause-err g c =
-    let a : ArenaState = record { id = c.self.inside.id; quantum = c.self.inside.quantum; policy = c.self.inside.policy; owned = c.self.inside.owned.items; imported = c.self.inside.imported.items; free = c.self.inside.free.items; allocated = c.self.inside.tags; rover = c.self.inside.rover } in
+    let a = the_state c.self.invariant.0 in
     let good : IsGood c.self.inside.quantum c.args.request.now = c.is_good.ensures.0 c.if-not-is_good.false in
     let f : Found = c.in-Some.found in
     let n : ℕ = c.unwrap-len.result in
@@ -109,7 +109,7 @@ returns-in_default-carve-clause-err g c =
 
 pub invariant_of-self-2 : goal.invariant_of-self-2
 invariant_of-self-2 g c =
-    let a : ArenaState = record { id = c.self.inside.id; quantum = c.self.inside.quantum; policy = c.self.inside.policy; owned = c.self.inside.owned.items; imported = c.self.inside.imported.items; free = c.self.inside.free.items; allocated = c.self.inside.tags; rover = c.self.inside.rover } in
+    let a = the_state c.self.invariant.0 in
     let good : IsGood c.self.inside.quantum c.args.request.now = c.is_good.ensures.0 c.if-not-is_good.false in
     let f : Found = c.in-Some.found in
     let n : ℕ = c.unwrap-len.result in
@@ -128,7 +128,7 @@ invariant_of-self-2 g c =
 
 pub returns : goal.returns
 returns g c =
-    let a : ArenaState = record { id = c.self.inside.id; quantum = c.self.inside.quantum; policy = c.self.inside.policy; owned = c.self.inside.owned.items; imported = c.self.inside.imported.items; free = c.self.inside.free.items; allocated = c.self.inside.tags; rover = c.self.inside.rover } in
+    let a = the_state c.self.invariant.0 in
     let chosen : IsChosen c.args.self.now c.args.request.now (Some c.in-Some.found.base) = chosen_by a _ _ _ _ c.deref.ensures.value c.self.view_is c.in-Some.ensures.choice in
     let good : IsGood c.self.inside.quantum c.args.request.now = c.is_good.ensures.0 c.if-not-is_good.false in
     let f : Found = c.in-Some.found in

@@ -1,12 +1,12 @@
-//! Rows of calls with what they must give, and what is refused.
+//! Rows of calls of an arena with what they must give, and what is refused.
 mod growth;
 
-use crate::{Arena, ArenaFault, ArenaReport, Policy, best_is_one, instant_is_one, next_is_one};
 use deed_core::{Deed, PlainDeed, Range, Request, Segment};
 use refusing_deed::RefusingDeed;
 use std::alloc::{AllocGlobal, Global};
 use std::process::Abort;
 use std::test::Fail;
+use tag_arena::{Arena, ArenaFault, ArenaReport, Policy};
 
 fn span(rt: &impl Abort, root: u32, base: u64, len: u64) -> PlainDeed {
     PlainDeed::new(root, Range::new(base, len).expect(rt, "a range"))
@@ -464,12 +464,4 @@ fn words(rt: HostRuntime) -> Result<(), Fail> {
         assert_eq!(rt; text.as_str(), word);
     }
     Ok(())
-}
-
-/// The laws can be called.
-#[test]
-fn laws() {
-    best_is_one();
-    next_is_one();
-    instant_is_one();
 }

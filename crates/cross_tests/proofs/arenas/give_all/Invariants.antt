@@ -1,5 +1,5 @@
 use Rattle.std.proofs.Common.{vec_len}
-use Rattle.tag_arena.proofs.tests.give_all.Given as goal
+use Rattle.cross_tests.proofs.arenas.give_all.Given as goal
 
 abbrev pub decreases-loop-segment : goal.decreases-loop-segment
 decreases-loop-segment g l = vec_len l.held

@@ -1,4 +1,4 @@
-use Rattle.cross_tests.proofs.tests.frees_leave_one_range.Given as goal
+use Rattle.cross_tests.proofs.seat_deeds.frees_leave_one_range.Given as goal
 
 -- the table that was just made
 abbrev pub ghosts-carved_and_closed : goal.ghosts-carved_and_closed

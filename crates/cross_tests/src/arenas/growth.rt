@@ -1,44 +1,44 @@
 //! Growth that is refused: the argument is back, the arena is as before, and the call can be made again.
 
-use super::{close, end_span, give_all, give_back, import, span, stands, take_back, try_import};
-use crate::{Arena, ArenaFault, Policy};
-use deed_core::{PlainDeed, Request, Segment};
+use super::{
+    add, close, end_span, give_all, give_back, grant, import, stands, take_back, try_import,
+};
+use deed_core::{Deed, PlainDeed, Range, Request, Segment};
 use std::process::Abort;
+use tag_arena::{Arena, ArenaFault, Policy};
 
 /// Adds a span, again where memory was refused.
-fn add_again(rt: &impl Abort, arena: &mut Arena<PlainDeed>, base: u64, len: u64) {
+fn add_again(rt: &impl Abort, arena: &mut Arena<PlainDeed>, range: Range) {
     let before = arena.report();
-    let deed = match arena.add_span(span(rt, 1, base, len)) {
+    let deed = match arena.add_span(PlainDeed::new(1, range)) {
         Ok(()) => return,
         Err((deed, fault)) => {
             assert_eq!(rt; fault, ArenaFault::NoMemory);
             deed
         }
     };
-    assert_eq!(rt; arena.report(), before);
-    assert_eq!(rt; deed.close(), span(rt, 1, base, len).close());
-    match arena.add_span(span(rt, 1, base, len)) {
-        Ok(()) => {}
-        Err(_) => panic!(rt; "memory is refused once"),
-    }
+    assert_eq!(rt; (deed.range(), arena.report()), (range, before));
+    add(rt, arena, deed);
 }
 
-/// Carves units, again where memory was refused.
+/// Carves `len` units at `base`, again where memory was refused.
 fn grant_again(
     rt: &impl Abort,
     arena: &mut Arena<PlainDeed>,
     request: &Request,
+    base: u64,
+    len: u64,
 ) -> Segment<PlainDeed> {
     let before = arena.report();
     match arena.xalloc(request) {
-        Ok(segment) => return segment,
+        Ok(segment) => {
+            stands(rt, &segment, base, len);
+            return segment;
+        }
         Err(fault) => assert_eq!(rt; fault, ArenaFault::NoMemory),
     }
     assert_eq!(rt; arena.report(), before);
-    match arena.xalloc(request) {
-        Ok(segment) => segment,
-        Err(fault) => panic!(rt; "{fault}"),
-    }
+    grant(rt, arena, request, base, len)
 }
 
 /// Imports a span, again where memory was refused.
@@ -69,9 +69,11 @@ fn calls_can_be_made_again(rt: HostRuntime) {
     };
     let mut source = Arena::new(rt.alloc(), 1, 1, Policy::Best);
     let mut child = Arena::new(rt.alloc(), 2, 1, Policy::Best);
-    add_again(&rt, &mut source, 0, 64);
-    add_again(&rt, &mut source, 64, 64);
-    let imported = grant_again(&rt, &mut source, &Request::plain(64));
+    for base in [0, 64] {
+        let range = Range::new(base, 64).expect(&rt, "a range");
+        add_again(&rt, &mut source, range);
+    }
+    let imported = grant_again(&rt, &mut source, &Request::plain(64), 0, 64);
     let first = import_again(&rt, &mut child, imported, &Request::plain(4));
     stands(&rt, &first, 0, 4);
     let two = Request {
@@ -80,8 +82,7 @@ fn calls_can_be_made_again(rt: HostRuntime) {
         ..Request::plain(2)
     };
     for base in [65, 69, 73, 77, 81, 85, 89, 93, 97, 101, 105, 109] {
-        let segment = grant_again(&rt, &mut source, &two);
-        stands(&rt, &segment, base, 2);
+        let segment = grant_again(&rt, &mut source, &two, base, 2);
         assert!(rt; held.len() < held.capacity());
         held.push_reserved(segment);
     }
