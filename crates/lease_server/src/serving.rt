@@ -55,8 +55,7 @@ pub fn serve<R: Read, W: Write, P: Responder>(
     ensures writer_works { IsErrOf result ServeFault.Read → has_failed writer.new ≡ false }
 
     // `Turns` comes after 2^40 reads, each of which gave bytes; there are never more.
-    ensures turns { IsErrOf result ServeFault.Turns → 2 ^ 40 ≤ reads_of reader.new }
-    ensures all_turns { IsErrOf result ServeFault.Turns → reads_of reader.new ≡ min (reads_of reader.old + 2 ^ 40) (2 ^ 64 - 1) }
+    ensures turns { IsErrOf result ServeFault.Turns → reads_of reader.new ≡ min (reads_of reader.old + 2 ^ 40) (2 ^ 64 - 1) }
     ensures went_on { IsErrOf result ServeFault.Turns → (input : List ℕ)
         × Consumes (R.remaining (inner_of reader.old)) (R.remaining (inner_of reader.new)) input × (2 ^ 40 ≤ length input) }
     ensures reads { reads_of reader.new ≤ reads_of reader.old + 2 ^ 40 }
@@ -92,8 +91,7 @@ pub fn serve_after<R: Read, W: Write, P: Responder>(
     ensures neither_failed { IsErrOf result ServeFault.Memory ⊎ IsErrOf result ServeFault.Turns → (has_failed reader.new ≡ false) × (has_failed writer.new ≡ false) }
     ensures reader_works { IsErrOf result ServeFault.Write → has_failed reader.new ≡ false }
     ensures writer_works { IsErrOf result ServeFault.Read → has_failed writer.new ≡ false }
-    ensures turns { IsErrOf result ServeFault.Turns → 2 ^ 40 ≤ reads_of reader.new }
-    ensures all_turns { IsErrOf result ServeFault.Turns → reads_of reader.new ≡ min (reads_of reader.old + 2 ^ 40) (2 ^ 64 - 1) }
+    ensures turns { IsErrOf result ServeFault.Turns → reads_of reader.new ≡ min (reads_of reader.old + 2 ^ 40) (2 ^ 64 - 1) }
     ensures went_on { IsErrOf result ServeFault.Turns → (input : List ℕ)
         × Consumes (R.remaining (inner_of reader.old)) (R.remaining (inner_of reader.new)) input × (2 ^ 40 ≤ length input) }
     ensures reads { reads_of reader.new ≤ reads_of reader.old + 2 ^ 40 }

@@ -1,5 +1,5 @@
 -- Lemmas on a script's setup and the lines after it.
-use Rattle.std.proofs.Common.{◌≡◌, ◌⊎◌, ◌≤◌, ◌^◌, ℕ, Bool, Result, Ok, IfErr, true, false, Option, Some, None, Err, IsErrOf, List, [], ◌++◌, refl, sym, ◌∙◌, ap, subst, IfSome, inl, inr, ⊎_elim, arith}
+use Rattle.std.proofs.Common.{◌≡◌, ◌⊎◌, ◌+◌, ◌-◌, ◌≤◌, ◌^◌, ℕ, min, Bool, Result, Ok, IfErr, true, false, Option, Some, None, Err, IsErrOf, List, [], ◌++◌, refl, sym, ◌∙◌, ap, subst, IfSome, inl, inr, ⊎_elim, arith}
 use Rattle.std.proofs.lemmas.Bool.{cases_Bool}
 use Rattle.std.proofs.lemmas.List.{append-nil}
 use Rattle.std.specs.Io.KnownBytes.{Appends, Consumes, IsAtEnd}
@@ -40,14 +40,14 @@ over_all (Some xs) None input P Q read step holds = absurd read
 over_all (Some xs) (Some ys) input P Q read step holds = subst Q (sym read) (step ys refl holds)
 
 -- what a serving's fault is told of
-pub blames_served : (r : Result (Unit {0}) ServeFault) (reader : Bool) (reads : ℕ) (writer : Bool) → (IsErrOf r serving.Read → reader ≡ true) → (IsErrOf r serving.Write → writer ≡ true)
+pub blames_served : (r : Result (Unit {0}) ServeFault) (reader : Bool) (before reads : ℕ) (writer : Bool) → (IsErrOf r serving.Read → reader ≡ true) → (IsErrOf r serving.Write → writer ≡ true)
     → (IsErrOf r serving.Memory ⊎ IsErrOf r serving.Turns → (reader ≡ false) × (writer ≡ false)) → (IsErrOf r serving.Write → reader ≡ false) → (IsErrOf r serving.Read → writer ≡ false)
-    → (IsErrOf r serving.Turns → 2 ^ 40 ≤ reads) → IfErr r (λ fault. Blames reader reads writer (serving_fault fault))
-blames_served (Ok x) reader reads writer read write neither reader_works writer_works turns = tt
-blames_served (Err serving.Read) reader reads writer read write neither reader_works writer_works turns = (inl (read refl), writer_works refl)
-blames_served (Err serving.Turns) reader reads writer read write neither reader_works writer_works turns = (inr (turns refl), (neither (inr refl)).1)
-blames_served (Err serving.Write) reader reads writer read write neither reader_works writer_works turns = (reader_works refl, write refl)
-blames_served (Err serving.Memory) reader reads writer read write neither reader_works writer_works turns = neither (inl refl)
+    → (IsErrOf r serving.Turns → reads ≡ min (before + 2 ^ 40) (2 ^ 64 - 1)) → IfErr r (λ fault. Blames reader reads writer (serving_fault fault))
+blames_served (Ok x) reader before reads writer read write neither reader_works writer_works turns = tt
+blames_served (Err serving.Read) reader before reads writer read write neither reader_works writer_works turns = (inl (read refl), writer_works refl)
+blames_served (Err serving.Turns) reader before reads writer read write neither reader_works writer_works turns = (inr (omega (arith, turns refl)), (neither (inr refl)).1)
+blames_served (Err serving.Write) reader before reads writer read write neither reader_works writer_works turns = (reader_works refl, write refl)
+blames_served (Err serving.Memory) reader before reads writer read write neither reader_works writer_works turns = neither (inl refl)
 
 -- where nothing is read, no fault is the reader's
 pub blames_unread : (r : Result (Unit {0}) ServeFault) (reader : Bool) (reads : ℕ) (writer : Bool) → reader ≡ false → IfErr r (λ fault. Blames false 0 writer (serving_fault fault))

@@ -40,4 +40,4 @@ returns-then-rest-clause-blames g c = blames_unread c.serve_end.result _ _ _ c.r
 pub returns-else-rest-clause-blames : goal.returns-else-rest-clause-blames
 returns-else-rest-clause-blames g c =
     let e = c.serve_after.ensures in
-    blames_served c.serve_after.result _ _ _ e.read_failed e.write_failed e.neither_failed e.reader_works e.writer_works e.turns
+    blames_served c.serve_after.result _ _ _ _ e.read_failed e.write_failed e.neither_failed e.reader_works e.writer_works e.turns
