@@ -1,12 +1,12 @@
 -- Lemmas on a script's setup and the lines after it.
-use Rattle.std.proofs.Common.{◌≡◌, ◌⊎◌, ◌+◌, ◌-◌, ◌≤◌, ◌^◌, ℕ, min, Bool, Result, Ok, IfErr, true, false, Option, Some, None, Err, IsErrOf, List, [], ◌++◌, refl, sym, ◌∙◌, ap, subst, IfSome, inl, inr, ⊎_elim, arith}
+use Rattle.std.proofs.Common.{◌≡◌, ◌⊎◌, ◌+◌, ◌-◌, ◌^◌, ℕ, min, Bool, Result, Ok, IfErr, true, false, Option, Some, None, Err, IsErrOf, List, [], ◌∷◌, ◌++◌, refl, sym, ◌∙◌, ap, subst, IfSome, inl, inr, ⊎_elim, arith}
 use Rattle.std.proofs.lemmas.Bool.{cases_Bool}
-use Rattle.std.proofs.lemmas.List.{append-nil}
+use Rattle.std.proofs.lemmas.List.{append-nil, append_assoc}
 use Rattle.std.specs.Io.KnownBytes.{Appends, Consumes, IsAtEnd}
 use Rattle.std.proofs.KnownBytes.{Appends-nil, Consumes-trans}
-use Rattle.lease_proto.specs.Frames.{frames_in, frames_of, rest_in, last_of}
-use Rattle.lease_proto.proofs.LawProofs.{frames_in-none}
-use Rattle.lease_server.specs.Serving.{Serves, Writes, Stops}
+use Rattle.lease_proto.specs.Frames.{Frame, frames_in, frames_of, rest_in, last_of}
+use Rattle.lease_proto.proofs.LawProofs.{frames_in-none, frames_in-append}
+use Rattle.lease_server.specs.Serving.{Writes, WritesBefore, Stops}
 use Rattle.lease_server.specs.declared.faults.ServeFault.{ServeFault}
 use Rattle.lease_server.specs.declared.faults.ServeFault.TheVariants as serving
 use Rattle.vmemd.specs.declared.setup_lines.SetupLine.{SetupLine}
@@ -16,7 +16,7 @@ use Rattle.vmemd.specs.declared.faults.ScriptFault.TheVariants.{Setup, Read, Wri
 use Rattle.vmemd.specs.declared.setting_up.Rest.{Rest}
 use Rattle.vmemd.specs.SetupLines.{begins_setup}
 use Rattle.vmemd.specs.Openings.{IsOther}
-use Rattle.vmemd.specs.Scripts.{RunsWhole, RunsSoFar, RunStops, RunFails, IsSpent, Blames, serving_fault}
+use Rattle.vmemd.specs.Scripts.{SetsUp, RunsWhole, RunsSoFar, RunFails, WritesFirst, Blames, serving_fault}
 use Rattle.vmemd.specs.Setups.{RestIs, SetupFails}
 use Rattle.vmemd.proofs.SetupLemmas.{more_read}
 
@@ -61,8 +61,33 @@ blames_unread (Err serving.Memory) reader reads writer works told = (works, told
 module _ {S : Type 0} (takes : S → SetupLine → S → Type 0) (refuses : S → SetupLine → ConfigFault → Type 0)
     (may_answer : S → List ℕ → List ℕ → S → Type 0) where
   -- nothing of the answers is written
-  pub none_written : (made : S) (lines : List ℕ) (a : Option (List ℕ)) → Stops may_answer made (frames_of lines) a a
-  none_written made lines a = ([], frames_of lines, refl, (made, [], [], (refl, refl), Appends-nil a))
+  none_written : (made : S) (lines : List ℕ) (a : Option (List ℕ)) → WritesFirst may_answer made (frames_of lines) a a
+  none_written made lines a = ([], frames_of lines, made, refl, ([], (refl, refl), Appends-nil a))
+
+  -- the answers before one of these frames are the first of these and of more
+  first_of_more : (old new : S) (fs gs : List Frame) (a b : Option (List ℕ)) → WritesBefore may_answer old fs a b new → WritesFirst may_answer old (fs ++ gs) a b
+  first_of_more old new fs gs a b (served, refused, later, split, writes) =
+      (served, (refused ∷ later) ++ gs, new, ap (λ l. l ++ gs) split ∙ append_assoc served (refused ∷ later) gs, writes)
+
+  -- the answers before a refused line of those that were read are the first of all
+  pub before_all : (old new : S) (front : List ℕ) (unread left a b : Option (List ℕ))
+      → (input : List ℕ) × Consumes unread left input × WritesBefore may_answer old (frames_in [] (front ++ input)) a b new
+      → IfSome unread (λ all. WritesFirst may_answer old (frames_of (front ++ all)) a b)
+  before_all old new front None left a b some = tt
+  before_all old new front (Some xs) None a b (input, read, before) = absurd read
+  before_all old new front (Some xs) (Some ys) a b (input, read, before) =
+      let bytes : front ++ xs ≡ (front ++ input) ++ ys = ap (λ l. front ++ l) read ∙ sym (append_assoc front input ys) in
+      let more : frames_of ((front ++ input) ++ ys) ≡ frames_in [] (front ++ input) ++ (frames_in (rest_in [] (front ++ input)) ys ++ last_of (rest_in [] ((front ++ input) ++ ys))) =
+          ap (λ l. l ++ last_of (rest_in [] ((front ++ input) ++ ys))) (frames_in-append [] (front ++ input) ys)
+          ∙ append_assoc (frames_in [] (front ++ input)) (frames_in (rest_in [] (front ++ input)) ys) (last_of (rest_in [] ((front ++ input) ++ ys))) in
+      subst (λ frames. WritesFirst may_answer old frames a b) (sym (ap frames_of bytes ∙ more)) (first_of_more old new (frames_in [] (front ++ input)) _ a b before)
+
+  -- the same where nothing more was there to read
+  pub before_end : (old new : S) (front more : List ℕ) (a b : Option (List ℕ)) → [] ≡ more ++ [] → WritesBefore may_answer old (frames_in [] (front ++ more)) a b new
+      → WritesFirst may_answer old (frames_of front) a b
+  before_end old new front more a b none before =
+      let same : front ++ more ≡ front = ap (λ l. front ++ l) (sym (none ∙ append-nil more)) ∙ append-nil front in
+      first_of_more old new (frames_in [] front) (last_of (rest_in [] front)) a b (subst (λ l. WritesBefore may_answer old (frames_in [] l) a b new) same before)
 
   -- a setup that ended early
   pub setup_fails : (first last : S) (unread left a : Option (List ℕ)) (fault : ScriptFault) → SetupFails takes refuses first unread left last fault
@@ -99,12 +124,14 @@ module _ {S : Type 0} (takes : S → SetupLine → S → Type 0) (refuses : S �
         ),
       )
 
-  run_stops : (first made : S) (unread mid before after : Option (List ℕ)) (rest : Rest) → RestIs takes first unread mid made rest
-      → IfSome mid (λ more. Stops may_answer made (frames_of (rest.bytes.items ++ more)) before after)
-      → IfSome unread (λ input. RunStops takes may_answer first input before after)
-  run_stops first made unread mid before after rest is stopped =
+  -- what holds of the lines after a setup holds of a part of the whole input
+  run_ends : (first made : S) (unread mid before after : Option (List ℕ)) (rest : Rest) (P : S → List ℕ → Type 0) → RestIs takes first unread mid made rest
+      → IfSome mid (λ more. P made (rest.bytes.items ++ more))
+      → IfSome unread (λ input. (lines : List ℕ) × (made : S) × SetsUp takes first input lines made × (begins_setup lines ≡ true → Appends before after []) × P made lines)
+  run_ends first made unread mid before after rest P is stopped =
       let (input, read, setup) = is.0 in
-      over_all unread mid input (λ more. Stops may_answer made (frames_of (rest.bytes.items ++ more)) before after) (λ all. RunStops takes may_answer first all before after) read
+      over_all unread mid input (λ more. P made (rest.bytes.items ++ more))
+      (λ input. (lines : List ℕ) × (made : S) × SetsUp takes first input lines made × (begins_setup lines ≡ true → Appends before after []) × P made lines) read
       (λ more here stops. (
         rest.bytes.items ++ more,
         made,
@@ -134,26 +161,19 @@ module _ {S : Type 0} (takes : S → SetupLine → S → Type 0) (refuses : S �
   pub serving_fails : (first made last : S) (unread mid left before after : Option (List ℕ)) (rest : Rest) (fault : ServeFault) → RestIs takes first unread mid made rest
       → (IsErrOf {T = Unit {0}} (Err fault) serving.Read ⊎ IsErrOf {T = Unit {0}} (Err fault) serving.Turns → (input : List ℕ) × Consumes mid left input
       × (rest.ended ≡ true → input ≡ []) × Writes may_answer made (frames_in [] (rest.bytes.items ++ input)) before after last)
-      → (IsErrOf {T = Unit {0}} (Err fault) serving.Write ⊎ IsErrOf {T = Unit {0}} (Err fault) serving.Memory
-      → IfSome mid (λ input. Stops may_answer made (frames_of (rest.bytes.items ++ input)) before after))
+      → (IsErrOf {T = Unit {0}} (Err fault) serving.Write → IfSome mid (λ input. Stops may_answer made (frames_of (rest.bytes.items ++ input)) before after))
+      → (IsErrOf {T = Unit {0}} (Err fault) serving.Memory → IfSome mid (λ input. WritesFirst may_answer made (frames_of (rest.bytes.items ++ input)) before after))
       → RunFails takes refuses may_answer first unread left before after last (serving_fault fault)
-  serving_fails first made last unread mid left before after rest serving.Read is reads stops = read_fails first made last unread mid left before after rest is (reads (inl refl))
-  serving_fails first made last unread mid left before after rest serving.Turns is reads stops = read_fails first made last unread mid left before after rest is (reads (inr refl))
-  serving_fails first made last unread mid left before after rest serving.Write is reads stops = run_stops first made unread mid before after rest is (stops (inl refl))
-  serving_fails first made last unread mid left before after rest serving.Memory is reads stops = run_stops first made unread mid before after rest is (stops (inr refl))
+  serving_fails first made last unread mid left before after rest serving.Read is reads stops memory = read_fails first made last unread mid left before after rest is (reads (inl refl))
+  serving_fails first made last unread mid left before after rest serving.Turns is reads stops memory = read_fails first made last unread mid left before after rest is (reads (inr refl))
+  serving_fails first made last unread mid left before after rest serving.Write is reads stops memory =
+      run_ends first made unread mid before after rest (λ made lines. Stops may_answer made (frames_of lines) before after) is (stops refl)
+  serving_fails first made last unread mid left before after rest serving.Memory is reads stops memory =
+      run_ends first made unread mid before after rest (λ made lines. WritesFirst may_answer made (frames_of lines) before after) is (memory refl)
 
-  -- the answers to the whole lines of bytes are a front of their answers
-  pub front_written : (old new : S) (front : List ℕ) (a b : Option (List ℕ)) → Writes may_answer old (frames_in [] front) a b new → Stops may_answer old (frames_of front) a b
-  front_written old new front a b w = (
-    frames_in [] front,
-    last_of (rest_in [] front),
-    refl,
-    (new, w.0, [], subst (λ t. Serves may_answer old (frames_in [] front) t new) (sym (append-nil w.0)) w.1, w.2),
-  )
-
-  -- the same where nothing more was there to read
+  -- the answers to the whole lines of bytes that nothing follows are the first of their answers
   pub end_written : (old new : S) (front more : List ℕ) (a b : Option (List ℕ)) → [] ≡ more ++ [] → Writes may_answer old (frames_in [] (front ++ more)) a b new
-      → Stops may_answer old (frames_of front) a b
+      → WritesFirst may_answer old (frames_of front) a b
   end_written old new front more a b none w =
       let same : front ++ more ≡ front = ap (λ l. front ++ l) (sym (none ∙ append-nil more)) ∙ append-nil front in
-      front_written old new front a b (subst (λ l. Writes may_answer old (frames_in [] l) a b new) same w)
+      (frames_in [] front, last_of (rest_in [] front), new, refl, subst (λ l. Writes may_answer old (frames_in [] l) a b new) same w)

@@ -81,6 +81,12 @@ module _ {S : Type 0} (takes : S → SetupLine → S → Type 0) (refuses : S �
   SetupRefused first input line word made = (rest : List ℕ) × (setup : SetsUp takes first input rest made)
       × (line ≡ length setup.lines + 1) × (begins_setup rest ≡ true) × RefusesFirst refuses made rest word
 
+module _ {S : Type 0} (may_answer : S → List ℕ → List ℕ → S → Type 0) where
+  -- the writer holds in addition the whole answers to the first of these frames
+  abbrev pub WritesFirst : S → List Frame → Option (List ℕ) → Option (List ℕ) → Type 0
+  WritesFirst old frames before after = (served : List Frame) × (later : List Frame) × (new : S) × (frames ≡ served ++ later)
+      × Writes may_answer old served before after new
+
 module _ {S : Type 0} (takes : S → SetupLine → S → Type 0) (may_answer : S → List ℕ → List ℕ → S → Type 0) where
   -- All of an input is answered: the lines after the setup lines, by the desk that these make.
   abbrev pub RunsWhole : S → List ℕ → Option (List ℕ) → Option (List ℕ) → S → Type 0
@@ -99,6 +105,12 @@ module _ {S : Type 0} (takes : S → SetupLine → S → Type 0) (may_answer : S
       × (begins_setup lines ≡ true → Appends before after [])
       × Stops may_answer made (frames_of lines) before after
 
+  -- Of an input's answers the first are written whole; none while the setup goes on.
+  abbrev pub RunsFirst : S → List ℕ → Option (List ℕ) → Option (List ℕ) → Type 0
+  RunsFirst first input before after = (lines : List ℕ) × (made : S) × SetsUp takes first input lines made
+      × (begins_setup lines ≡ true → Appends before after [])
+      × WritesFirst may_answer made (frames_of lines) before after
+
 module _ {S : Type 0} (takes : S → SetupLine → S → Type 0) (refuses : S → SetupLine → ConfigFault → Type 0)
     (may_answer : S → List ℕ → List ℕ → S → Type 0) where
   -- what a fault says of what was read and written
@@ -108,4 +120,4 @@ module _ {S : Type 0} (takes : S → SetupLine → S → Type 0) (refuses : S �
   RunFails first unread left before after last Read = (input : List ℕ) × Consumes unread left input
       × RunsSoFar takes may_answer first input before after last
   RunFails first unread left before after last Write = IfSome unread (λ input. RunStops takes may_answer first input before after)
-  RunFails first unread left before after last Memory = IfSome unread (λ input. RunStops takes may_answer first input before after)
+  RunFails first unread left before after last Memory = IfSome unread (λ input. RunsFirst takes may_answer first input before after)

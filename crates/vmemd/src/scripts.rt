@@ -4,7 +4,7 @@ ghost use Rattle.std.specs.Io.KnownBytes.{Consumes, IsAtEnd};
 ghost use Rattle.lease_proto.specs.Frames.{frames_in, frames_of};
 ghost use Rattle.lease_server.specs.Serving.{Writes, Stops};
 ghost use Rattle.lease_server.specs.Watching.{inner_of, has_failed, reads_of};
-ghost use Rattle.vmemd.specs.Scripts.{RunsWhole, RunFails, Blames, serving_fault};
+ghost use Rattle.vmemd.specs.Scripts.{RunsWhole, RunFails, WritesFirst, Blames, serving_fault};
 ghost use Rattle.vmemd.specs.Desks.{ScriptEnds, ScriptFails};
 
 use crate::faults::ScriptFault;
@@ -53,8 +53,10 @@ fn serve_rest<R: Read, W: Write, D: SetUp>(
         × Consumes (R.remaining (inner_of reader.old)) (R.remaining (inner_of reader.new)) input
         × (rest.now.ended ≡ true → input ≡ [])
         × Writes D.may_answer desk.old (frames_in [] (rest.now.bytes.items ++ input)) (W.contents (inner_of writer.old)) (W.contents (inner_of writer.new)) desk.new }
-    ensures stop { IsErrOf result ServeFault.Write ⊎ IsErrOf result ServeFault.Memory → IfSome (R.remaining (inner_of reader.old)) (λ input.
+    ensures stop { IsErrOf result ServeFault.Write → IfSome (R.remaining (inner_of reader.old)) (λ input.
         Stops D.may_answer desk.old (frames_of (rest.now.bytes.items ++ input)) (W.contents (inner_of writer.old)) (W.contents (inner_of writer.new))) }
+    ensures memory { IsErrOf result ServeFault.Memory → IfSome (R.remaining (inner_of reader.old)) (λ input.
+        WritesFirst D.may_answer desk.old (frames_of (rest.now.bytes.items ++ input)) (W.contents (inner_of writer.old)) (W.contents (inner_of writer.new))) }
     ensures works { OnOk result ((has_failed reader.new ≡ false) × (has_failed writer.new ≡ false)) }
     ensures blames { IfErr result (λ fault. Blames (has_failed reader.new) (reads_of reader.new) (has_failed writer.new) (serving_fault fault)) }
 {
@@ -75,7 +77,8 @@ fn serve_end<W: Write, D: SetUp>(
 ) -> Result<(), ServeFault>
     requires { has_failed writer.old ≡ false }
     ensures ok { OnOk result (Writes D.may_answer desk.old (frames_of front.now) (W.contents (inner_of writer.old)) (W.contents (inner_of writer.new)) desk.new) }
-    ensures stop { OnErr result (Stops D.may_answer desk.old (frames_of front.now) (W.contents (inner_of writer.old)) (W.contents (inner_of writer.new))) }
+    ensures stop { IsErrOf result ServeFault.Write → Stops D.may_answer desk.old (frames_of front.now) (W.contents (inner_of writer.old)) (W.contents (inner_of writer.new)) }
+    ensures memory { IsErrOf result ServeFault.Memory → WritesFirst D.may_answer desk.old (frames_of front.now) (W.contents (inner_of writer.old)) (W.contents (inner_of writer.new)) }
     ensures fault { OnErr result (IsErrOf result ServeFault.Write ⊎ IsErrOf result ServeFault.Memory) }
     ensures works { OnOk result (has_failed writer.new ≡ false) }
     ensures blames { IfErr result (λ fault. Blames false 0 (has_failed writer.new) (serving_fault fault)) }

@@ -16,4 +16,4 @@ returns-in_err-serve_rest-clause-err g c =
     rw (p.1, p.2) (serving_fails g.D.SetUp.takes g.D.SetUp.refuses g.D.Responder.may_answer c.args.desk.now c.take_setup.new.desk c.serve_rest.new.desk
     (g.R.Read.remaining (inner_of c.args.reader.now)) (g.R.Read.remaining (inner_of c.take_setup.new.reader)) (g.R.Read.remaining (inner_of c.serve_rest.new.reader))
     (g.W.Write.contents (inner_of c.args.writer.now)) (g.W.Write.contents (inner_of c.serve_rest.new.writer)) c.in_ok-rest.rest c.in_err-serve_rest.field-0.0
-    c.in_ok-rest.ensures.ok c.in_err-serve_rest.ensures.read c.in_err-serve_rest.ensures.stop)
+    c.in_ok-rest.ensures.ok c.in_err-serve_rest.ensures.read c.in_err-serve_rest.ensures.stop c.in_err-serve_rest.ensures.memory)
