@@ -1,6 +1,6 @@
 -- A free in terms of the calls that make it, and an imported span that goes back.
 use Rattle.std.proofs.Common.{◌≡◌, ◌≢◌, ℕ, zero, suc, ◌+◌, ◌%◌, ◌<◌, true, not, nat_eq, refl, sym, subst, ap, ◌∙◌, inl, inr, ⊎_elim, List, [], ◌∷◌, ◌++◌, map, length, get_or, remove, filter, HoldsAt, Contains, All, AllPairs, Any, Option, Some, None, IfSome, MatchOption, arith}
-use Rattle.std.specs.Option.{option_map_or}
+use Rattle.std.specs.Option.{IsSome, option_map_or}
 use Rattle.std.proofs.lemmas.Bool.{cases_order}
 use Rattle.std.proofs.lemmas.Bool.Decides.{nat_tests}
 use Rattle.std.proofs.lemmas.List.{length-append, length-map}
@@ -9,7 +9,7 @@ use Rattle.std.proofs.lemmas.List.Sums.{sum_by_push}
 use Rattle.std.specs.Ordering.{nat_cmp}
 use Rattle.std.specs.FinMap as finmap
 use Rattle.std.specs.FinMap.{FinMap}
-use Rattle.deed_core.specs.Extent.{Covers, end_of}
+use Rattle.deed_core.specs.Extent.{Extent, Covers, end_of}
 use Rattle.deed_core.specs.Holding.{Holding, GoesOn, Apart}
 use Rattle.deed_core.specs.Tag.{Tag}
 use Rattle.deed_core.specs.declared.segments.Route.TheVariants.{Direct}
@@ -82,6 +82,33 @@ module _ (a : ArenaState) (sound : IsSound a) (piece : Holding) (at : finmap.get
       let h : IsPartOf span.1 piece = span.4 in
       absurd (All-contains (λ s. ¬ Covers s.range piece.range.base) (spans_of a) span.1 none (Any-member (spans_of a) span) (h.from, omega (arith, h.to, positive)))
   has_span (Some s) h = (s, refl, h.0, h.1)
+
+-- what is tagged, by what was read of a segment
+pub tagged_is : (p h : Holding) (root : ℕ) (range : Extent) → p ≡ record { root = root; range = range } → root ≡ h.root → range ≡ h.range → p ≡ h
+tagged_is p h root range is root_is range_is = is ∙ ap (λ (n : ℕ). record { root = n; range = range }) root_is ∙ ap (λ (e : Extent). record { root = h.root; range = e }) range_is
+
+-- what a search among the spans has found, by what was read of them
+pub spans_said : (a : ArenaState) (o : Option Holding) (owned : List Holding) (imported : List Tag) (base unit : ℕ) → owned ≡ a.owned → imported ≡ a.imported → base ≡ unit
+    → MatchOption o (All (λ s. ¬ Covers s.range base) (owned ++ map (λ t. t.holding) imported)) (λ s. Contains (owned ++ map (λ t. t.holding) imported) s × Covers s.range base)
+    → MatchOption o (All (λ s. ¬ Covers s.range unit) (spans_of a)) (λ s. Contains (spans_of a) s × Covers s.range unit)
+spans_said a o owned imported base unit owned_is imported_is base_is said =
+    let said_of = λ (spans : List Holding) (n : ℕ). MatchOption o (All (λ s. ¬ Covers s.range n) spans) (λ s. Contains spans s × Covers s.range n) in
+    let spans : owned ++ map (λ t. t.holding) imported ≡ spans_of a = ap (λ (xs : List Holding). xs ++ map (λ t. t.holding) imported) owned_is ∙ ap (λ (ts : List Tag). a.owned ++ map (λ t. t.holding) ts) imported_is in
+    subst (λ n. said_of (spans_of a) n) base_is (subst (λ xs. said_of xs base) spans said)
+
+-- what a search among the imported spans has found, by what was read of them
+pub place_said : (ts imported : List Tag) (span merged : Holding) (at : ℕ) → ts ≡ imported → span ≡ merged → (at < length ts) × HoldsAt (λ t. t.holding ≡ span) ts at
+    → (at < length imported) × HoldsAt (λ t. t.holding ≡ merged) imported at
+place_said ts imported span merged at ts_is span_is said =
+    subst (λ (h : Holding). (at < length imported) × HoldsAt (λ t. t.holding ≡ h) imported at) span_is
+    (subst (λ (xs : List Tag). (at < length xs) × HoldsAt (λ t. t.holding ≡ span) xs at) ts_is said)
+
+pub none_said : (ts imported : List Tag) (span merged : Holding) → ts ≡ imported → span ≡ merged → All (λ t. t.holding ≢ span) ts → All (λ t. t.holding ≢ merged) imported
+none_said ts imported span merged ts_is span_is said =
+    subst (λ (h : Holding). All (λ t. t.holding ≢ h) imported) span_is (subst (λ (xs : List Tag). All (λ t. t.holding ≢ span) xs) ts_is said)
+
+pub is_some : {X : Type 0} (o : Option X) (x : X) → o ≡ Some x → IsSome o
+is_some o x same = subst IsSome (sym same) refl
 
 -- what a match says where the value is there
 some_there : {X : Type 0} (o : Option X) (A : Type 0) (B : X → Type 0) (x : X) → MatchOption o A B → o ≡ Some x → B x

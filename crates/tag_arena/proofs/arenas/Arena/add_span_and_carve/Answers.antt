@@ -12,6 +12,7 @@ use Rattle.tag_arena.proofs.Allocations.{len_more}
 use Rattle.tag_arena.proofs.Granting.{units_are, as_it_was, undone, stands}
 use Rattle.tag_arena.proofs.Importing.{imports, import_absent, import_is, import_sound, import_gains, import_covers}
 use Rattle.tag_arena.proofs.Sounding.{the_state}
+use Rattle.tag_arena.proofs.Returning.{tagged_is}
 use Rattle.tag_arena.proofs.arenas.Arena.add_span_and_carve.Goals as goal
 
 pub insert-requires-clause-absent : goal.insert-requires-clause-absent
@@ -22,9 +23,10 @@ insert-requires-clause-absent g c =
     let range_is : c.range-range.result ≡ t.holding.range = c.range-range.ensures.value in
     let n_is : n ≡ rounded a.quantum c.args.request.now.size = units_are c.units.result _ _ n c.units.ensures c.unwrap-len.ensures in
     let k = imports _ _ c.args.request.now c.args.span _ c.unwrap-len.result c.self.invariant.0 c.self.view_is c.range-range.ensures.value c.range-range.ensures.range c.requires.good c.requires.room n_is c.in_default.ensures.none in
-    let piece_is : c.new-first.result ≡ part t.holding t.holding.range.base n = rw (c.new-first.ensures, c.root-2.ensures, c.piece_of.ensures, c.base.ensures.value, range_is) refl in
+    let base_of : c.base.result ≡ t.holding.range.base = c.base.ensures.value ∙ ap (λ (e : Extent). e.base) range_is in
+    let piece_is = tagged_is _ (part t.holding t.holding.range.base n) _ _ c.new-first.ensures c.root-2.ensures (c.piece_of.ensures ∙ ap (λ (b : ℕ). record { base = b; len = n }) base_of) in
     let absent = import_absent _ t n k in
-    rw piece_is absent
+    subst (λ (h : Holding). finmap.get c.self.inside.tags h.range.base ≡ None) (sym piece_is) absent
 
 pub remove-requires : goal.remove-requires
 remove-requires g c =
@@ -38,9 +40,10 @@ invariant_of-self-in-Err g c =
     let range_is : c.range-range.result ≡ t.holding.range = c.range-range.ensures.value in
     let n_is : n ≡ rounded a.quantum c.args.request.now.size = units_are c.units.result _ _ n c.units.ensures c.unwrap-len.ensures in
     let k = imports _ _ c.args.request.now c.args.span _ c.unwrap-len.result c.self.invariant.0 c.self.view_is c.range-range.ensures.value c.range-range.ensures.range c.requires.good c.requires.room n_is c.in_default.ensures.none in
-    let piece_is : c.new-first.result ≡ part t.holding t.holding.range.base n = rw (c.new-first.ensures, c.root-2.ensures, c.piece_of.ensures, c.base.ensures.value, range_is) refl in
+    let base_of : c.base.result ≡ t.holding.range.base = c.base.ensures.value ∙ ap (λ (e : Extent). e.base) range_is in
+    let piece_is = tagged_is _ (part t.holding t.holding.range.base n) _ _ c.new-first.ensures c.root-2.ensures (c.piece_of.ensures ∙ ap (λ (b : ℕ). record { base = b; len = n }) base_of) in
     let absent = import_absent _ t n k in
-    let absent_here : finmap.get c.self.inside.tags c.new-first.result.range.base ≡ None = rw piece_is absent in
+    let absent_here = subst (λ (h : Holding). finmap.get c.self.inside.tags h.range.base ≡ None) (sym piece_is) absent in
     let tags = undone c.self.inside.tags c.insert.new.self c.remove.new.self c.new-first.result.range.base c.new-first.result absent_here c.in-Ok-insert.ensures.ok c.remove.ensures in
     let same = ap (λ (xs : List Tag). record a { imported = xs; free = c.reserve_free.new.free.items; allocated = c.remove.new.self }) c.reserve.ensures.items ∙ as_it_was a _ _ c.reserve_free.ensures.items tags in
     let len = ap finmap.len tags in
@@ -54,9 +57,10 @@ returns-in-Err-clause-err g c =
     let range_is : c.range-range.result ≡ t.holding.range = c.range-range.ensures.value in
     let n_is : n ≡ rounded a.quantum c.args.request.now.size = units_are c.units.result _ _ n c.units.ensures c.unwrap-len.ensures in
     let k = imports _ _ c.args.request.now c.args.span _ c.unwrap-len.result c.self.invariant.0 c.self.view_is c.range-range.ensures.value c.range-range.ensures.range c.requires.good c.requires.room n_is c.in_default.ensures.none in
-    let piece_is : c.new-first.result ≡ part t.holding t.holding.range.base n = rw (c.new-first.ensures, c.root-2.ensures, c.piece_of.ensures, c.base.ensures.value, range_is) refl in
+    let base_of : c.base.result ≡ t.holding.range.base = c.base.ensures.value ∙ ap (λ (e : Extent). e.base) range_is in
+    let piece_is = tagged_is _ (part t.holding t.holding.range.base n) _ _ c.new-first.ensures c.root-2.ensures (c.piece_of.ensures ∙ ap (λ (b : ℕ). record { base = b; len = n }) base_of) in
     let absent = import_absent _ t n k in
-    let absent_here : finmap.get c.self.inside.tags c.new-first.result.range.base ≡ None = rw piece_is absent in
+    let absent_here = subst (λ (h : Holding). finmap.get c.self.inside.tags h.range.base ≡ None) (sym piece_is) absent in
     let tags = undone c.self.inside.tags c.insert.new.self c.remove.new.self c.new-first.result.range.base c.new-first.result absent_here c.in-Ok-insert.ensures.ok c.remove.ensures in
     let same = ap (λ (xs : List Tag). record a { imported = xs; free = c.reserve_free.new.free.items; allocated = c.remove.new.self }) c.reserve.ensures.items ∙ as_it_was a _ _ c.reserve_free.ensures.items tags in
     same ∙ c.self.view_is
@@ -69,7 +73,8 @@ invariant_of-self-2 g c =
     let range_is : c.range-range.result ≡ t.holding.range = c.range-range.ensures.value in
     let n_is : n ≡ rounded a.quantum c.args.request.now.size = units_are c.units.result _ _ n c.units.ensures c.unwrap-len.ensures in
     let k = imports _ _ c.args.request.now c.args.span _ c.unwrap-len.result c.self.invariant.0 c.self.view_is c.range-range.ensures.value c.range-range.ensures.range c.requires.good c.requires.room n_is c.in_default.ensures.none in
-    let piece_is : c.new-first.result ≡ part t.holding t.holding.range.base n = rw (c.new-first.ensures, c.root-2.ensures, c.piece_of.ensures, c.base.ensures.value, range_is) refl in
+    let base_of : c.base.result ≡ t.holding.range.base = c.base.ensures.value ∙ ap (λ (e : Extent). e.base) range_is in
+    let piece_is = tagged_is _ (part t.holding t.holding.range.base n) _ _ c.new-first.ensures c.root-2.ensures (c.piece_of.ensures ∙ ap (λ (b : ℕ). record { base = b; len = n }) base_of) in
     let absent = import_absent _ t n k in
     let high_is : option_to_list c.in-Ok-cut_first.parts.1 ≡ between t.holding (t.holding.range.base + n) (end_of t.holding.range) = c.in-Ok-cut_first.ensures.high in
     let free : c.push_rest.new.free.items ≡ a.free ++ between t.holding (t.holding.range.base + n) (end_of t.holding.range) = c.push_rest.ensures.items ∙ ap (λ (xs : List Holding). xs ++ option_to_list c.in-Ok-cut_first.parts.1) c.reserve_free.ensures.items ∙ ap (λ (xs : List Holding). a.free ++ xs) high_is in
@@ -91,7 +96,8 @@ returns g c =
     let range_is : c.range-range.result ≡ t.holding.range = c.range-range.ensures.value in
     let n_is : n ≡ rounded a.quantum c.args.request.now.size = units_are c.units.result _ _ n c.units.ensures c.unwrap-len.ensures in
     let k = imports _ _ c.args.request.now c.args.span _ c.unwrap-len.result c.self.invariant.0 c.self.view_is c.range-range.ensures.value c.range-range.ensures.range c.requires.good c.requires.room n_is c.in_default.ensures.none in
-    let piece_is : c.new-first.result ≡ part t.holding t.holding.range.base n = rw (c.new-first.ensures, c.root-2.ensures, c.piece_of.ensures, c.base.ensures.value, range_is) refl in
+    let base_of : c.base.result ≡ t.holding.range.base = c.base.ensures.value ∙ ap (λ (e : Extent). e.base) range_is in
+    let piece_is = tagged_is _ (part t.holding t.holding.range.base n) _ _ c.new-first.ensures c.root-2.ensures (c.piece_of.ensures ∙ ap (λ (b : ℕ). record { base = b; len = n }) base_of) in
     let absent = import_absent _ t n k in
     let high_is : option_to_list c.in-Ok-cut_first.parts.1 ≡ between t.holding (t.holding.range.base + n) (end_of t.holding.range) = c.in-Ok-cut_first.ensures.high in
     let free : c.push_rest.new.free.items ≡ a.free ++ between t.holding (t.holding.range.base + n) (end_of t.holding.range) = c.push_rest.ensures.items ∙ ap (λ (xs : List Holding). xs ++ option_to_list c.in-Ok-cut_first.parts.1) c.reserve_free.ensures.items ∙ ap (λ (xs : List Holding). a.free ++ xs) high_is in

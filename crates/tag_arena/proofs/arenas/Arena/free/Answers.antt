@@ -1,20 +1,19 @@
-use Rattle.std.proofs.Common.{◌≡◌, ◌≢◌, ℕ, ◌+◌, [], List, remove, get_or, Some, MatchOption, Contains, All, refl, sym, subst, ap, ◌∙◌, sum_by, rules, arith}
+use Rattle.std.proofs.Common.{◌≡◌, ℕ, ◌+◌, [], List, remove, get_or, Some, Contains, sym, subst, ap, ◌∙◌, sum_by, rules, arith}
 use Rattle.std.proofs.lemmas.List.Sums.{sum_by-cons, sum_by-remove}
 use Rattle.std.proofs.lemmas.List.{get_or_default}
 use Rattle.std.proofs.lemmas.List.Elements.{All-contains}
 use Rattle.deed_core.specs.declared.segments.Route.TheVariants.{Direct}
 use Rattle.std.specs.FinMap as finmap
-use Rattle.deed_core.specs.Extent.{Covers}
 use Rattle.deed_core.specs.Holding.{Holding}
 use Rattle.deed_core.specs.Tag.{Tag}
 use Rattle.deed_core.specs.Covering.{covers, covers_tag, covering_held}
 use Rattle.deed_core.specs.Weights.{Loses}
 use Rattle.tag_arena.specs.Layout.{IsPartOf}
-use Rattle.tag_arena.specs.ArenaState.{ArenaState, IsSound, spans_of, ranges_of}
+use Rattle.tag_arena.specs.ArenaState.{ArenaState, IsSound, ranges_of}
 use Rattle.tag_arena.specs.Calls.{after_free}
 use Rattle.tag_arena.specs.Neighbors.{Merges}
 use Rattle.tag_arena.proofs.Allocations.{len_less, loses_remove}
-use Rattle.tag_arena.proofs.Returning.{same_tag, lies_in, has_span, span_holds, free_beside, freed_is, freed_sound, freed_covers, merge_covers, frees, returned_is, returned_sound, frees_back}
+use Rattle.tag_arena.proofs.Returning.{tagged_is, spans_said, place_said, none_said, is_some, same_tag, lies_in, has_span, span_holds, free_beside, freed_is, freed_sound, freed_covers, merge_covers, frees, returned_is, returned_sound, frees_back}
 use Rattle.tag_arena.proofs.Sounding.{the_state}
 use Rattle.tag_arena.proofs.arenas.Arena.free.Goals as goal
 
@@ -22,19 +21,18 @@ pub unwrap-span-requires : goal.unwrap-span-requires
 unwrap-span-requires g c =
     let a = the_state c.self.invariant.0 in
     let p : Holding = c.new-tagged.result in
-    let seg_is : c.new-tagged.result ≡ c.args.segment.holding = rw (c.new-tagged.ensures, c.root.ensures, c.range.ensures.value) refl in
     let at : finmap.get c.self.inside.tags p.range.base ≡ Some p = search rules in
-    let spans : MatchOption c.span_at.result (All (λ s. ¬ Covers s.range p.range.base) (spans_of a)) (λ s. Contains (spans_of a) s × Covers s.range p.range.base) = rw (c.deref.ensures.value, c.deref-2.ensures.value, c.base-2.ensures.value) at c.span_at.ensures in
+    let spans = spans_said a c.span_at.result _ _ _ p.range.base c.deref.ensures.value c.deref-2.ensures.value c.base-2.ensures.value c.span_at.ensures in
     let has = has_span a c.self.invariant.0 p at c.span_at.result spans in
-    rw has.1 refl
+    is_some c.span_at.result has.0 has.1
 
 pub merge-merged-requires-clause-inside : goal.merge-merged-requires-clause-inside
 merge-merged-requires-clause-inside g c =
     let a = the_state c.self.invariant.0 in
     let p : Holding = c.new-tagged.result in
-    let seg_is : c.new-tagged.result ≡ c.args.segment.holding = rw (c.new-tagged.ensures, c.root.ensures, c.range.ensures.value) refl in
+    let seg_is : c.new-tagged.result ≡ c.args.segment.holding = tagged_is _ _ _ _ c.new-tagged.ensures c.root.ensures c.range.ensures.value in
     let at : finmap.get c.self.inside.tags p.range.base ≡ Some p = search rules in
-    let spans : MatchOption c.span_at.result (All (λ s. ¬ Covers s.range p.range.base) (spans_of a)) (λ s. Contains (spans_of a) s × Covers s.range p.range.base) = rw (c.deref.ensures.value, c.deref-2.ensures.value, c.base-2.ensures.value) at c.span_at.ensures in
+    let spans = spans_said a c.span_at.result _ _ _ p.range.base c.deref.ensures.value c.deref-2.ensures.value c.base-2.ensures.value c.span_at.ensures in
     let s : Holding = c.unwrap-span.result in
     let lies = lies_in a p s c.span_at.result c.self.invariant.0 at spans c.unwrap-span.ensures in
     let new_is : c.new.result ≡ p = c.new.ensures ∙ c.into_deed.ensures ∙ sym seg_is in
@@ -44,9 +42,8 @@ pub merge-merged-requires-clause-beside : goal.merge-merged-requires-clause-besi
 merge-merged-requires-clause-beside g c =
     let a = the_state c.self.invariant.0 in
     let p : Holding = c.new-tagged.result in
-    let seg_is : c.new-tagged.result ≡ c.args.segment.holding = rw (c.new-tagged.ensures, c.root.ensures, c.range.ensures.value) refl in
     let at : finmap.get c.self.inside.tags p.range.base ≡ Some p = search rules in
-    let spans : MatchOption c.span_at.result (All (λ s. ¬ Covers s.range p.range.base) (spans_of a)) (λ s. Contains (spans_of a) s × Covers s.range p.range.base) = rw (c.deref.ensures.value, c.deref-2.ensures.value, c.base-2.ensures.value) at c.span_at.ensures in
+    let spans = spans_said a c.span_at.result _ _ _ p.range.base c.deref.ensures.value c.deref-2.ensures.value c.base-2.ensures.value c.span_at.ensures in
     let s : Holding = c.unwrap-span.result in
     let lies = lies_in a p s c.span_at.result c.self.invariant.0 at spans c.unwrap-span.ensures in
     free_beside a p s lies
@@ -55,7 +52,6 @@ pub push_reserved-requires : goal.push_reserved-requires
 push_reserved-requires g c =
     let a = the_state c.self.invariant.0 in
     let p : Holding = c.new-tagged.result in
-    let seg_is : c.new-tagged.result ≡ c.args.segment.holding = rw (c.new-tagged.ensures, c.root.ensures, c.range.ensures.value) refl in
     let at : finmap.get c.self.inside.tags p.range.base ≡ Some p = search rules in
     let len : finmap.len c.remove.new.self + 1 ≡ finmap.len c.self.inside.tags = ap (λ m. finmap.len m + 1) c.remove.ensures ∙ len_less c.self.inside.tags p.range.base p at in
     let room = c.self.invariant.1 in
@@ -65,9 +61,9 @@ pub invariant_of-self : goal.invariant_of-self
 invariant_of-self g c =
     let a = the_state c.self.invariant.0 in
     let p : Holding = c.new-tagged.result in
-    let seg_is : c.new-tagged.result ≡ c.args.segment.holding = rw (c.new-tagged.ensures, c.root.ensures, c.range.ensures.value) refl in
+    let seg_is : c.new-tagged.result ≡ c.args.segment.holding = tagged_is _ _ _ _ c.new-tagged.ensures c.root.ensures c.range.ensures.value in
     let at : finmap.get c.self.inside.tags p.range.base ≡ Some p = search rules in
-    let spans : MatchOption c.span_at.result (All (λ s. ¬ Covers s.range p.range.base) (spans_of a)) (λ s. Contains (spans_of a) s × Covers s.range p.range.base) = rw (c.deref.ensures.value, c.deref-2.ensures.value, c.base-2.ensures.value) at c.span_at.ensures in
+    let spans = spans_said a c.span_at.result _ _ _ p.range.base c.deref.ensures.value c.deref-2.ensures.value c.base-2.ensures.value c.span_at.ensures in
     let s : Holding = c.unwrap-span.result in
     let lies = lies_in a p s c.span_at.result c.self.invariant.0 at spans c.unwrap-span.ensures in
     let new_is : c.new.result ≡ p = c.new.ensures ∙ c.into_deed.ensures ∙ sym seg_is in
@@ -85,9 +81,9 @@ pub invariant_of-self-2 : goal.invariant_of-self-2
 invariant_of-self-2 g c =
     let a = the_state c.self.invariant.0 in
     let p : Holding = c.new-tagged.result in
-    let seg_is : c.new-tagged.result ≡ c.args.segment.holding = rw (c.new-tagged.ensures, c.root.ensures, c.range.ensures.value) refl in
+    let seg_is : c.new-tagged.result ≡ c.args.segment.holding = tagged_is _ _ _ _ c.new-tagged.ensures c.root.ensures c.range.ensures.value in
     let at : finmap.get c.self.inside.tags p.range.base ≡ Some p = search rules in
-    let spans : MatchOption c.span_at.result (All (λ s. ¬ Covers s.range p.range.base) (spans_of a)) (λ s. Contains (spans_of a) s × Covers s.range p.range.base) = rw (c.deref.ensures.value, c.deref-2.ensures.value, c.base-2.ensures.value) at c.span_at.ensures in
+    let spans = spans_said a c.span_at.result _ _ _ p.range.base c.deref.ensures.value c.deref-2.ensures.value c.base-2.ensures.value c.span_at.ensures in
     let s : Holding = c.unwrap-span.result in
     let lies = lies_in a p s c.span_at.result c.self.invariant.0 at spans c.unwrap-span.ensures in
     let new_is : c.new.result ≡ p = c.new.ensures ∙ c.into_deed.ensures ∙ sym seg_is in
@@ -95,7 +91,7 @@ invariant_of-self-2 g c =
     let left : List Holding = c.merge-merged.new.free.items in
     let merges : Merges s p a.free merged left = subst (λ (h : Holding). Merges s h a.free merged left) new_is c.merge-merged.ensures.merges in
     let k : ℕ = c.in-Some.at in
-    let found = rw (c.stretch_of.ensures.value, c.deref-3.ensures.value) at c.in-Some.ensures in
+    let found = place_said _ _ _ merged k c.deref-3.ensures.value c.stretch_of.ensures.value c.in-Some.ensures in
     let tags : c.remove.new.self ≡ finmap.remove a.allocated p.range.base = c.remove.ensures in
     let after = returned_is a p s lies merged left merges k found.0 found.1 _ _ c.remove-import.ensures.items tags in
     let len : finmap.len c.remove.new.self + 1 ≡ finmap.len c.self.inside.tags = ap (λ m. finmap.len m + 1) c.remove.ensures ∙ len_less c.self.inside.tags p.range.base p at in
@@ -108,9 +104,9 @@ pub returns-in_default : goal.returns-in_default
 returns-in_default g c =
     let a = the_state c.self.invariant.0 in
     let p : Holding = c.new-tagged.result in
-    let seg_is : c.new-tagged.result ≡ c.args.segment.holding = rw (c.new-tagged.ensures, c.root.ensures, c.range.ensures.value) refl in
+    let seg_is : c.new-tagged.result ≡ c.args.segment.holding = tagged_is _ _ _ _ c.new-tagged.ensures c.root.ensures c.range.ensures.value in
     let at : finmap.get c.self.inside.tags p.range.base ≡ Some p = search rules in
-    let spans : MatchOption c.span_at.result (All (λ s. ¬ Covers s.range p.range.base) (spans_of a)) (λ s. Contains (spans_of a) s × Covers s.range p.range.base) = rw (c.deref.ensures.value, c.deref-2.ensures.value, c.base-2.ensures.value) at c.span_at.ensures in
+    let spans = spans_said a c.span_at.result _ _ _ p.range.base c.deref.ensures.value c.deref-2.ensures.value c.base-2.ensures.value c.span_at.ensures in
     let s : Holding = c.unwrap-span.result in
     let lies = lies_in a p s c.span_at.result c.self.invariant.0 at spans c.unwrap-span.ensures in
     let new_is : c.new.result ≡ p = c.new.ensures ∙ c.into_deed.ensures ∙ sym seg_is in
@@ -118,7 +114,7 @@ returns-in_default g c =
     let left : List Holding = c.merge-merged.new.free.items in
     let merges : Merges s p a.free merged left = subst (λ (h : Holding). Merges s h a.free merged left) new_is c.merge-merged.ensures.merges in
     let after = freed_is a p s lies merged left merges _ _ c.push_reserved.ensures.items c.remove.ensures in
-    let none : All (λ t. t.holding ≢ merged) a.imported = rw (c.stretch_of.ensures.value, c.deref-3.ensures.value) at c.in_default.ensures in
+    let none = none_said _ _ _ merged c.deref-3.ensures.value c.stretch_of.ensures.value c.in_default.ensures in
     let loses : Loses (ranges_of c.self.inside.tags) (ranges_of c.remove.new.self) p = subst (λ m. Loses (ranges_of c.self.inside.tags) (ranges_of m) p) (sym c.remove.ensures) (loses_remove c.self.inside.tags p.range.base p at) in record {
       mine = search rules;
       freed = rw seg_is at (rw c.self.view_is at (frees a p s lies merged left merges _ after none));
@@ -141,9 +137,9 @@ pub returns : goal.returns
 returns g c =
     let a = the_state c.self.invariant.0 in
     let p : Holding = c.new-tagged.result in
-    let seg_is : c.new-tagged.result ≡ c.args.segment.holding = rw (c.new-tagged.ensures, c.root.ensures, c.range.ensures.value) refl in
+    let seg_is : c.new-tagged.result ≡ c.args.segment.holding = tagged_is _ _ _ _ c.new-tagged.ensures c.root.ensures c.range.ensures.value in
     let at : finmap.get c.self.inside.tags p.range.base ≡ Some p = search rules in
-    let spans : MatchOption c.span_at.result (All (λ s. ¬ Covers s.range p.range.base) (spans_of a)) (λ s. Contains (spans_of a) s × Covers s.range p.range.base) = rw (c.deref.ensures.value, c.deref-2.ensures.value, c.base-2.ensures.value) at c.span_at.ensures in
+    let spans = spans_said a c.span_at.result _ _ _ p.range.base c.deref.ensures.value c.deref-2.ensures.value c.base-2.ensures.value c.span_at.ensures in
     let s : Holding = c.unwrap-span.result in
     let lies = lies_in a p s c.span_at.result c.self.invariant.0 at spans c.unwrap-span.ensures in
     let new_is : c.new.result ≡ p = c.new.ensures ∙ c.into_deed.ensures ∙ sym seg_is in
@@ -151,7 +147,7 @@ returns g c =
     let left : List Holding = c.merge-merged.new.free.items in
     let merges : Merges s p a.free merged left = subst (λ (h : Holding). Merges s h a.free merged left) new_is c.merge-merged.ensures.merges in
     let k : ℕ = c.in-Some.at in
-    let found = rw (c.stretch_of.ensures.value, c.deref-3.ensures.value) at c.in-Some.ensures in
+    let found = place_said _ _ _ merged k c.deref-3.ensures.value c.stretch_of.ensures.value c.in-Some.ensures in
     let tags : c.remove.new.self ≡ finmap.remove a.allocated p.range.base = c.remove.ensures in
     let after = returned_is a p s lies merged left merges k found.0 found.1 _ _ c.remove-import.ensures.items tags in
     let import : Tag = c.remove-import.result in

@@ -1,4 +1,4 @@
-use Rattle.std.proofs.Common.{◌≡◌, ℕ, ◌+◌, ◌++◌, List, remove, Some, None, refl, sym, subst, ap, ◌∙◌, All, rules, arith}
+use Rattle.std.proofs.Common.{◌≡◌, ℕ, ◌+◌, ◌++◌, List, remove, Some, None, sym, subst, ap, ◌∙◌, All, rules, arith}
 use Rattle.std.specs.FinMap as finmap
 use Rattle.deed_core.specs.Extent.{IsRange}
 use Rattle.deed_core.specs.Holding.{Holding}
@@ -12,6 +12,7 @@ use Rattle.tag_arena.specs.Calls.{part, rests, RefusesCarve}
 use Rattle.tag_arena.proofs.Allocations.{len_more}
 use Rattle.tag_arena.proofs.Sounding.{the_state, free_ranges}
 use Rattle.tag_arena.proofs.Granting.{units_are, chosen_by, never_both, as_it_was, undone, stands, memory_refused, memory_not_fit, carve_is, carves, carve_sound, carve_absent, carve_gains, carve_covers, found_carve}
+use Rattle.tag_arena.proofs.Returning.{tagged_is}
 use Rattle.tag_arena.proofs.arenas.Arena.xalloc.Goals as goal
 
 pub chosen-requires-clause-below : goal.chosen-requires-clause-below
@@ -53,9 +54,9 @@ insert-requires-clause-absent g c =
     let n : ℕ = c.unwrap-len.result in
     let n_is = units_are c.units.result _ _ n c.units.ensures c.unwrap-len.ensures in
     let k = found_carve a c.args.request.now _ f n c.self.invariant.0 good c.deref.ensures.value c.in-Some.ensures.placed n_is in
-    let piece_is : c.new-piece.result ≡ part f.range f.base n = rw (c.new-piece.ensures, c.root.ensures, c.piece_of.ensures) refl in
+    let piece_is = tagged_is _ (part f.range f.base n) _ _ c.new-piece.ensures c.root.ensures c.piece_of.ensures in
     let absent = carve_absent a f.at f.range (part f.range f.base n) k in
-    rw piece_is absent
+    subst (λ (h : Holding). finmap.get c.self.inside.tags h.range.base ≡ None) (sym piece_is) absent
 
 pub remove-requires : goal.remove-requires
 remove-requires g c = stands _ _ _ _ c.in_ok-insert.ensures.ok
@@ -68,9 +69,9 @@ invariant_of-self-in_default-carve g c =
     let n : ℕ = c.unwrap-len.result in
     let n_is = units_are c.units.result _ _ n c.units.ensures c.unwrap-len.ensures in
     let k = found_carve a c.args.request.now _ f n c.self.invariant.0 good c.deref.ensures.value c.in-Some.ensures.placed n_is in
-    let piece_is : c.new-piece.result ≡ part f.range f.base n = rw (c.new-piece.ensures, c.root.ensures, c.piece_of.ensures) refl in
+    let piece_is = tagged_is _ (part f.range f.base n) _ _ c.new-piece.ensures c.root.ensures c.piece_of.ensures in
     let absent = carve_absent a f.at f.range (part f.range f.base n) k in
-    let absent_here : finmap.get c.self.inside.tags c.new-piece.result.range.base ≡ None = rw piece_is absent in
+    let absent_here = subst (λ (h : Holding). finmap.get c.self.inside.tags h.range.base ≡ None) (sym piece_is) absent in
     let tags = undone c.self.inside.tags c.insert.new.self c.remove.new.self c.new-piece.result.range.base c.new-piece.result absent_here c.in_ok-insert.ensures.ok c.remove.ensures in
     let free : c.carve.new.free.items ≡ c.self.inside.free.items = c.in_default-carve.ensures.err ∙ c.reserve_free.ensures.items in
     let len = ap finmap.len tags in (
@@ -100,9 +101,9 @@ returns-in_default-carve-clause-err g c =
     let n : ℕ = c.unwrap-len.result in
     let n_is = units_are c.units.result _ _ n c.units.ensures c.unwrap-len.ensures in
     let k = found_carve a c.args.request.now _ f n c.self.invariant.0 good c.deref.ensures.value c.in-Some.ensures.placed n_is in
-    let piece_is : c.new-piece.result ≡ part f.range f.base n = rw (c.new-piece.ensures, c.root.ensures, c.piece_of.ensures) refl in
+    let piece_is = tagged_is _ (part f.range f.base n) _ _ c.new-piece.ensures c.root.ensures c.piece_of.ensures in
     let absent = carve_absent a f.at f.range (part f.range f.base n) k in
-    let absent_here : finmap.get c.self.inside.tags c.new-piece.result.range.base ≡ None = rw piece_is absent in
+    let absent_here = subst (λ (h : Holding). finmap.get c.self.inside.tags h.range.base ≡ None) (sym piece_is) absent in
     let tags = undone c.self.inside.tags c.insert.new.self c.remove.new.self c.new-piece.result.range.base c.new-piece.result absent_here c.in_ok-insert.ensures.ok c.remove.ensures in
     let free : c.carve.new.free.items ≡ c.self.inside.free.items = c.in_default-carve.ensures.err ∙ c.reserve_free.ensures.items in
     as_it_was a _ _ free tags ∙ c.self.view_is
@@ -115,10 +116,10 @@ invariant_of-self-2 g c =
     let n : ℕ = c.unwrap-len.result in
     let n_is = units_are c.units.result _ _ n c.units.ensures c.unwrap-len.ensures in
     let k = found_carve a c.args.request.now _ f n c.self.invariant.0 good c.deref.ensures.value c.in-Some.ensures.placed n_is in
-    let piece_is : c.new-piece.result ≡ part f.range f.base n = rw (c.new-piece.ensures, c.root.ensures, c.piece_of.ensures) refl in
+    let piece_is = tagged_is _ (part f.range f.base n) _ _ c.new-piece.ensures c.root.ensures c.piece_of.ensures in
     let absent = carve_absent a f.at f.range (part f.range f.base n) k in
     let deed_is : c.in-Ok.deed ≡ part f.range f.base n = c.in-Ok.ensures.piece in
-    let free : c.carve.new.free.items ≡ remove c.self.inside.free.items f.at ++ rests f.range (part f.range f.base n) = rw deed_is at (c.in-Ok.ensures.items ∙ ap (λ (xs : List Holding). remove xs f.at ++ rests f.range c.in-Ok.deed) c.reserve_free.ensures.items) in
+    let free : c.carve.new.free.items ≡ remove c.self.inside.free.items f.at ++ rests f.range (part f.range f.base n) = c.in-Ok.ensures.items ∙ ap (λ (xs : List Holding). remove xs f.at ++ rests f.range c.in-Ok.deed) c.reserve_free.ensures.items ∙ ap (λ (h : Holding). remove c.self.inside.free.items f.at ++ rests f.range h) deed_is in
     let tags : c.insert.new.self ≡ finmap.insert c.self.inside.tags f.base (part f.range f.base n) = c.in_ok-insert.ensures.ok ∙ ap (λ (h : Holding). finmap.insert c.self.inside.tags h.range.base h) piece_is in
     let after = carve_is a f.at f.range (part f.range f.base n) k _ _ free tags in
     let len = ap finmap.len tags ∙ len_more c.self.inside.tags f.base (part f.range f.base n) absent in (
@@ -135,10 +136,10 @@ returns g c =
     let n : ℕ = c.unwrap-len.result in
     let n_is = units_are c.units.result _ _ n c.units.ensures c.unwrap-len.ensures in
     let k = found_carve a c.args.request.now _ f n c.self.invariant.0 good c.deref.ensures.value c.in-Some.ensures.placed n_is in
-    let piece_is : c.new-piece.result ≡ part f.range f.base n = rw (c.new-piece.ensures, c.root.ensures, c.piece_of.ensures) refl in
+    let piece_is = tagged_is _ (part f.range f.base n) _ _ c.new-piece.ensures c.root.ensures c.piece_of.ensures in
     let absent = carve_absent a f.at f.range (part f.range f.base n) k in
     let deed_is : c.in-Ok.deed ≡ part f.range f.base n = c.in-Ok.ensures.piece in
-    let free : c.carve.new.free.items ≡ remove c.self.inside.free.items f.at ++ rests f.range (part f.range f.base n) = rw deed_is at (c.in-Ok.ensures.items ∙ ap (λ (xs : List Holding). remove xs f.at ++ rests f.range c.in-Ok.deed) c.reserve_free.ensures.items) in
+    let free : c.carve.new.free.items ≡ remove c.self.inside.free.items f.at ++ rests f.range (part f.range f.base n) = c.in-Ok.ensures.items ∙ ap (λ (xs : List Holding). remove xs f.at ++ rests f.range c.in-Ok.deed) c.reserve_free.ensures.items ∙ ap (λ (h : Holding). remove c.self.inside.free.items f.at ++ rests f.range h) deed_is in
     let tags : c.insert.new.self ≡ finmap.insert c.self.inside.tags f.base (part f.range f.base n) = c.in_ok-insert.ensures.ok ∙ ap (λ (h : Holding). finmap.insert c.self.inside.tags h.range.base h) piece_is in
     let after = carve_is a f.at f.range (part f.range f.base n) k _ _ free tags in
     let segment : c.new.result.holding ≡ part f.range f.base n = ap (λ (t : Tag). t.holding) c.new.ensures ∙ c.into_deed.ensures ∙ deed_is in record {
