@@ -1,7 +1,7 @@
 -- The entry of a call, and the account that it changes.
 use Rattle.std.proofs.Common.{◌≡◌, ℕ, zero, suc, ◌+◌, ◌<◌, Bool, true, false, cond, ◌&&◌, ◌||◌, nat_eq, List, [], ◌∷◌, ◌++◌, map, Option, Some, None, slice_get, refl, sym, ap, subst, ◌∙◌, arith, eq-eqb}
 use Rattle.std.specs.List.{AllByRecursion, IsDistinct}
-use Rattle.std.proofs.lemmas.Bool.{eqb-false, ne_eqb, le-ltb}
+use Rattle.std.proofs.lemmas.Bool.{or_parts, eqb-false, ne_eqb, le-ltb}
 use Rattle.lease_book.specs.Kept.{Kept}
 use Rattle.lease_book.specs.Entry.{Settlement, Entry, Hello, Settled, Swept, kept}
 use Rattle.lease_book.specs.Account.{Account, number_of, is_lease, without, leases_after}
@@ -20,12 +20,8 @@ distinct_push : (cs : List ℕ) (c : ℕ) → IsDistinct nat_eq cs → has c cs 
 unfolding IsDistinct
 distinct_push [] c apart none = (tt, tt)
 distinct_push (d ∷ cs) c apart none =
-    let parts = or_false (nat_eq c d) (has c cs) none in
+    let parts = or_parts (nat_eq c d) (has c cs) none in
     (all_push (λ y. nat_eq d y ≡ false) cs c apart.0 (ne_eqb d c (λ e. eqb-false c d parts.0 (sym e))), distinct_push cs c apart.1 parts.1)
-  where
-    or_false : (a b : Bool) → (a || b) ≡ false → (a ≡ false) × (b ≡ false)
-    or_false true b none = absurd (cc)
-    or_false false b none = (refl, none)
 
 pub distinct_clients : (es : List Entry) → IsDistinct nat_eq (clients_of es)
 unfolding IsDistinct

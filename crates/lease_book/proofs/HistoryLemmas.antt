@@ -1,7 +1,7 @@
 -- What an entry changes in what is read off the entries.
 use Rattle.std.proofs.Common.{◌≡◌, ℕ, ◌<◌, Bool, true, false, cond, ◌&&◌, ◌||◌, nat_eq, List, [], ◌∷◌, ◌++◌, map, Some, None, refl, sym, ap, subst, ◌∙◌, arith}
 use Rattle.std.specs.List.{find, list_any}
-use Rattle.std.proofs.lemmas.Bool.{eqb-true, ne_eqb}
+use Rattle.std.proofs.lemmas.Bool.{or_parts, or_from, eqb-true, ne_eqb}
 use Rattle.lease_book.specs.Entry.{Entry, Hello, Settled, Swept, kept}
 use Rattle.lease_book.specs.Account.{Account, is_lease, without, leases_after}
 use Rattle.lease_book.specs.History.{incarnation, settled_in, greatest, leases_of, clients_of, account, IsOrderly}
@@ -13,20 +13,12 @@ has c cs = list_any (λ d. nat_eq c d) cs
 
 -- Clients that never said hello.
 
-or_false : (a b : Bool) → (a || b) ≡ false → (a ≡ false) × (b ≡ false)
-or_false true b none = absurd (cc)
-or_false false b none = (refl, none)
-
 has_push : (c d : ℕ) (cs : List ℕ) → has c (cs ++ d ∷ []) ≡ false → (has c cs ≡ false) × (nat_eq c d ≡ false)
-has_push c d [] none = (refl, (or_false _ _ none).0)
+has_push c d [] none = (refl, (or_parts _ _ none).0)
 has_push c d (e ∷ cs) none =
-    let parts = or_false _ _ none in
+    let parts = or_parts _ _ none in
     let rest = has_push c d cs parts.1 in
-    (by _ _ parts.0 rest.0, rest.1)
-  where
-    by : (a b : Bool) → a ≡ false → b ≡ false → (a || b) ≡ false
-    by true b p q = absurd (cc)
-    by false b p q = q
+    (or_from _ _ parts.0 rest.0, rest.1)
 
 -- a client that isn't among those after a hello isn't among those before, and didn't say it
 not_among : (c d i : ℕ) (older : List Entry) → has c (clients_of (Hello d i ∷ older)) ≡ false → (has c (clients_of older) ≡ false) × (nat_eq c d ≡ false)

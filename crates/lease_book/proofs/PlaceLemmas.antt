@@ -1,7 +1,7 @@
 -- The place of the first member that passes a test.
-use Rattle.std.proofs.Common.{eq-eqb, one-add, ◌≡◌, ℕ, ◌+◌, ◌<◌, ◌≤◌, Bool, true, false, cond, not, nat_eq, nat_lt, ◌&&◌, List, [], ◌∷◌, length, All, Option, Some, None, IfSome, slice_get, get_or, position, refl, sym, ap, subst, ◌∙◌, arith}
+use Rattle.std.proofs.Common.{eq-eqb, one-add, ◌≡◌, ℕ, ◌+◌, ◌<◌, ◌≤◌, Bool, true, false, cond, not, nat_eq, nat_lt, List, [], ◌∷◌, length, All, Option, Some, None, IfSome, slice_get, get_or, position, refl, sym, ap, subst, ◌∙◌, arith}
 use Rattle.std.specs.List.{find, remove, position_or_len}
-use Rattle.std.proofs.lemmas.Bool.{ltb-true, ltb-false, ne_eqb, eqb-true}
+use Rattle.std.proofs.lemmas.Bool.{and_from, and_left, and_parts, ltb-true, ltb-false, ne_eqb, eqb-true}
 use Rattle.std.proofs.lemmas.List.Folds.{find_at}
 use Rattle.std.proofs.lemmas.List.Sums.{position_or_len_is, fails_before_first}
 use Rattle.std.proofs.lemmas.Option.{slice_get_past, get_or_from_slice_get}
@@ -66,17 +66,9 @@ first_of test xs k at = let is = position-some test xs k at in first_of_place te
 pub none_of : {X : Type 0} (test : X → Bool) (xs : List X) → position test xs ≡ None → find test xs ≡ None
 none_of test xs at = find_at test xs ∙ slice_get_past xs _ (position-none test xs at)
 
-both : (a b : Bool) → a ≡ true → b ≡ true → (a && b) ≡ true
-both true b p q = q
-both false b p q = p
-
-left_off : (a b : Bool) → a ≡ false → (a && b) ≡ false
-left_off true b p = absurd (cc)
-left_off false b p = refl
-
 -- a lease passes the test for its own incarnation, arena and base
 pub is_own : (l : Lease) → is_lease l.incarnation l.segment.arena l.segment.holding.range.base l ≡ true
-is_own l = both _ _ (eq-eqb l.incarnation l.incarnation refl) (both _ _ (eq-eqb l.segment.arena l.segment.arena refl) (eq-eqb l.segment.holding.range.base l.segment.holding.range.base refl))
+is_own l = and_from _ _ (eq-eqb l.incarnation l.incarnation refl) (and_from _ _ (eq-eqb l.segment.arena l.segment.arena refl) (eq-eqb l.segment.holding.range.base l.segment.holding.range.base refl))
 
 -- the first lease of an older incarnation is the first with its incarnation, arena and base
 pub older_first : (i : ℕ) (ls : List Lease) (k : ℕ) (l : Lease) → position (is_older i) ls ≡ Some k → slice_get ls k ≡ Some l
@@ -89,7 +81,7 @@ older_first i ls k l at is =
     let less : l.incarnation < i = ltb-true _ _ older in
     let before : (j : ℕ) → j < k → is_lease l.incarnation l.segment.arena l.segment.holding.range.base (get_or ls j l) ≡ false = λ j below.
     let not_less : i ≤ (get_or ls j l).incarnation = ltb-false _ _ (fails_before_first (is_older i) ls j l (subst (λ (n : ℕ). j < n) (sym place.0) below)) in
-    left_off _ _ (ne_eqb l.incarnation (get_or ls j l).incarnation (λ e. absurd (omega (arith, e, not_less, less)))) in
+    and_left _ _ (ne_eqb l.incarnation (get_or ls j l).incarnation (λ e. absurd (omega (arith, e, not_less, less)))) in
     let first : position_or_len (is_lease l.incarnation l.segment.arena l.segment.holding.range.base) ls ≡ k =
     position_or_len_is (is_lease l.incarnation l.segment.arena l.segment.holding.range.base) ls k l (omega (arith, place.1)) before
     (λ within. ap (is_lease l.incarnation l.segment.arena l.segment.holding.range.base) (here l) ∙ is_own l) in
@@ -107,13 +99,9 @@ none_older i ls at k d within =
     let past : length ls ≤ position_or_len (is_older i) ls = position-none (is_older i) ls at in
     ltb-false _ _ (fails_before_first (is_older i) ls k d (omega arith))
 
-both_true : (a b : Bool) → (a && b) ≡ true → (a ≡ true) × (b ≡ true)
-both_true true b p = (refl, p)
-both_true false b p = absurd (cc)
-
 -- what the test for a lease says
 pub is_lease_says : (i arena base : ℕ) (l : Lease) → is_lease i arena base l ≡ true → (i ≡ l.incarnation) × (arena ≡ l.segment.arena) × (base ≡ l.segment.holding.range.base)
 is_lease_says i arena base l passes =
-    let first = both_true (nat_eq i l.incarnation) _ passes in
-    let rest = both_true (nat_eq arena l.segment.arena) _ first.1 in
+    let first = and_parts (nat_eq i l.incarnation) _ passes in
+    let rest = and_parts (nat_eq arena l.segment.arena) _ first.1 in
     (eqb-true i l.incarnation first.0, eqb-true arena l.segment.arena rest.0, eqb-true base l.segment.holding.range.base rest.1)

@@ -1,6 +1,6 @@
 -- A carve keeps a layout whole.
 use Rattle.std.proofs.Common.{◌≡◌, ◌⊎◌, ℕ, ◌+◌, ◌-◌, ◌<◌, ◌≤◌, Bool, true, false, not, nat_lt, refl, sym, subst, ap, ◌∙◌, inl, inr, ⊎_elim, List, ◌++◌, Contains, AllPairs, Any, filter, Option, Some, None, arith}
-use Rattle.std.proofs.lemmas.Bool.{cases_lt, cases_eq}
+use Rattle.std.proofs.lemmas.Bool.{not-false, cases_lt, cases_eq}
 use Rattle.std.proofs.lemmas.List.Elements.{Contains-append_left, Contains-append_right, Contains-append_cases}
 use Rattle.std.proofs.lemmas.List.Kept.{AllPairs-filter}
 use Rattle.std.specs.Ordering.{nat_cmp}
@@ -11,10 +11,6 @@ use Rattle.tag_arena.specs.Layout.{Layout, Holds, IsPartOf, IsAllocated, IsEdged
 use Rattle.tag_arena.specs.Calls.{part, between, surrounds, rests}
 use Rattle.tag_arena.proofs.Members.{Contains-filter, Contains-from_filter, AllPairs-append, AllPairs-optional}
 use Rattle.tag_arena.proofs.Ranges.{apart_or_share, same_where_shared, surrounds-true, true-surrounds, between_is, between_has, get_same, get_other, new_allocated, still_allocated, allocated_cases, Any-member, member-Any, holds_part}
-
-pub not_false : (b : Bool) → not b ≡ false → b ≡ true
-not_false true e = refl
-not_false false e = cc
 
 module _ (a : Layout) (whole : IsWhole a) (r piece : Holding) (among : Contains a.free r) (held : IsPartOf r piece) (some : 0 < piece.range.len) where
   abbrev base : ℕ
@@ -190,7 +186,7 @@ module _ (a : Layout) (whole : IsWhole a) (r piece : Holding) (among : Contains 
   covered_by : (x : Holding) (u : ℕ) → Contains a.free x → Covers x.range u → (b : Bool) → outside x ≡ b → Any (λ x. Covers x.range u) new_free ⊎ IsAllocated tags u
   covered_by x u in-x c true out = inl (member-Any (λ x. Covers x.range u) new_free x (Contains-append_left (filter outside a.free) _ x (Contains-filter outside a.free x in-x out)) c)
   covered_by x u in-x c false out =
-      let h : Holds x piece = surrounds-true x piece (not_false (surrounds x piece) out) in
+      let h : Holds x piece = surrounds-true x piece (not-false (surrounds x piece) out) in
       let same : x ≡ r = same_where_shared a.free x r base whole.free_apart in-x among (omega (arith, h.from), omega (arith, h.to)) (omega (arith, held.from), omega (arith, held.to)) in
       covered_here u (subst (λ y. Covers y.range u) same c)
 

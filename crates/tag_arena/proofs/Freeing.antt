@@ -1,6 +1,6 @@
 -- A free keeps a layout whole.
 use Rattle.std.proofs.Common.{◌≡◌, ◌⊎◌, ℕ, ◌+◌, ◌-◌, ◌<◌, Bool, true, false, not, refl, sym, subst, ap, ◌∙◌, inl, inr, ⊎_elim, List, [], ◌∷◌, ◌++◌, Contains, AllPairs, Any, filter, Some, arith}
-use Rattle.std.proofs.lemmas.Bool.{cases_lt, cases_eq}
+use Rattle.std.proofs.lemmas.Bool.{not-false, cases_lt, cases_eq}
 use Rattle.std.proofs.lemmas.List.Elements.{Contains-append_left, Contains-push, Contains-push_cases}
 use Rattle.std.proofs.lemmas.List.Kept.{AllPairs-filter}
 use Rattle.std.specs.Ordering.{nat_cmp}
@@ -15,10 +15,6 @@ use Rattle.tag_arena.proofs.Ranges.{apart_or_share, same_where_shared, surrounds
 not_true : (b : Bool) → not b ≡ true → b ≡ true → ⊥
 not_true true e f = cc
 not_true false e f = cc
-
-not_false : (b : Bool) → not b ≡ false → b ≡ true
-not_false true e = refl
-not_false false e = cc
 
 module _ (spans : List Holding) (apart : AllPairs Apart spans) (m : FinMap nat_cmp Holding) (e : Holding) (edged : IsEdgedRun spans m e) where
   -- a run that shares a unit with an edged run lies in it
@@ -150,7 +146,7 @@ module _ (a : Layout) (whole : IsWhole a) (base : ℕ) (piece : Holding) (at : g
 
   cases_of : (x : Holding) (b : Bool) → outside x ≡ b → (outside x ≡ true) ⊎ Holds merged x
   cases_of x true e = inl e
-  cases_of x false e = inr (surrounds-true merged x (not_false (surrounds merged x) e))
+  cases_of x false e = inr (surrounds-true merged x (not-false (surrounds merged x) e))
 
   covered_here : (u : ℕ) → Covers merged.range u → Any (λ x. Covers x.range u) new_free ⊎ IsAllocated tags u
   covered_here u c = inl (member-Any (λ x. Covers x.range u) new_free merged (Contains-push (filter outside a.free) merged) c)
