@@ -16,19 +16,10 @@ pub row_starts : (root a b end : ℕ) (ds : List Holding) → IsRow root a ds en
 row_starts root a b end [] r s = r ∙ sym s
 row_starts root a b end (d ∷ ds) r s = sym r.1 ∙ s.1
 
--- one more at the end
-pub row_push : (root base end : ℕ) (ds : List Holding) (d : Holding) → IsRow root base ds d.range.base → d.root ≡ root → end_of d.range ≡ end → IsRow root base (ds ++ d ∷ []) end
-row_push root base end [] d r is e = (is, sym r, e)
-row_push root base end (x ∷ ds) d r is e = (r.0, r.1, row_push root (end_of x.range) end ds d r.2 is e)
-
 -- as many deeds of one length are a row
 pub row_of_is : (root base len n : ℕ) → IsRow root base (row_of root base len n) (base + len * n)
 row_of_is root base len zero = omega arith
 row_of_is root base len (suc n) = (refl, refl, subst (λ e. IsRow root (base + len) (row_of root (base + len) len n) e) (grind arith) (row_of_is root (base + len) len n))
-
-pub length-row_of : (root base len n : ℕ) → length (row_of root base len n) ≡ n
-length-row_of root base len zero = refl
-length-row_of root base len (suc n) = ap suc (length-row_of root (base + len) len n)
 
 -- and one more
 pub row_of_push : (root base len n : ℕ) → row_of root base len n ++ (record { root = root; range = record { base = base + len * n; len = len } }) ∷ [] ≡ row_of root base len (suc n)
@@ -90,9 +81,6 @@ pub record IsCutting (old : List Holding) (whole : Holding) (len done : ℕ) (no
   pub base : rest.range.base ≡ whole.range.base + len * done
   pub left : rest.range.len + len * done ≡ whole.range.len
 
-pub cuts_none : (old : List Holding) (whole : Holding) (len : ℕ) → IsCutting old whole len 0 old whole
-cuts_none old whole len = record { cut = sym (append-nil old); root = refl; base = grind arith; left = grind arith }
-
 -- another deed comes off where more than one is left
 pub is_more : (len done count left whole : ℕ) → left + len * done ≡ whole → len * count ≡ whole → 0 < len → done + 1 < count → len < left
 is_more len done count left whole e f positive more =
@@ -138,8 +126,3 @@ cut_joins from old whole len done now rest back n c root row end =
     let base : back.range.base ≡ whole.range.base = row_starts rest.root back.range.base whole.range.base rest.range.base (drop from now) row (cut_is_row from old whole len done now rest n c) in
     let width : back.range.len ≡ whole.range.len = omega (arith, base, end, c.base, c.left) in
     same_holding back whole (root ∙ c.root) base width
-
--- and the list is as before
-pub cut_leaves : (from : ℕ) (old : List Holding) (whole : Holding) (len done : ℕ) (now : List Holding) (rest : Holding)
-    → from ≡ length old → IsCutting old whole len done now rest → take from now ≡ old
-cut_leaves from old whole len done now rest n c = rw n (ap (take (length old)) c.cut ∙ take-append_seam old (row_of whole.root whole.range.base len done))

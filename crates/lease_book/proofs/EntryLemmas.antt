@@ -79,18 +79,6 @@ entered e es old new c i a h history at client clients others own after orderly 
           ∙ ap (map (account (e ∷ es))) (sym clients);
     }
 
--- the account in the history, where it stands in the book
-pub account_there : (es : List Entry) (book : Ledger) (c i : ℕ) (a : Account) → IsHistory es book → slice_get book.accounts i ≡ Some a → a.client ≡ c → a ≡ account es c
-account_there es book c i a history at client = there (clients_of es) i (ap (λ (xs : List Account). slice_get xs i) (sym history.accounts) ∙ at)
-  where
-    there : (cs : List ℕ) (i : ℕ) → slice_get (map (account es) cs) i ≡ Some a → a ≡ account es c
-    there [] i at = absurd (cc)
-    there (d ∷ cs) zero at =
-        let is : account es d ≡ a = cc in
-        let same : d ≡ c = ap (λ (x : Account). x.client) is ∙ client in
-        sym is ∙ ap (account es) same
-    there (d ∷ cs) (suc i) at = there cs i at
-
 -- a client with an account said hello
 pub among : (es : List Entry) (book : Ledger) (c i : ℕ) (a : Account) → IsHistory es book → slice_get book.accounts i ≡ Some a → a.client ≡ c → has c (clients_of es) ≡ true
 among es book c i a history at client = there (clients_of es) i (ap (λ (xs : List Account). slice_get xs i) (sym history.accounts) ∙ at)

@@ -1,14 +1,13 @@
 -- The cases of the lease machine, from what the book answers.
-use Rattle.std.proofs.Common.{◌≡◌, ℕ, ◌^◌, ◌<◌, ◌≤◌, refl, sym, subst, ap, ◌∙◌, List, [], ◌∷◌, length, Option, Some, None, arith}
+use Rattle.std.proofs.Common.{◌≡◌, ℕ, ◌^◌, ◌<◌, ◌≤◌, refl, sym, subst, ap, ◌∙◌, List, [], ◌∷◌, length, Option, Some, arith}
 use Rattle.std.specs.Prelude.{slice_get, MatchOption, All, sum_by}
 use Rattle.std.proofs.lemmas.List.Sums.{sum_by-cons}
 use Rattle.deed_core.specs.Request.{Fits}
 use Rattle.deed_core.specs.declared.requests.Request.{Request}
-use Rattle.std.specs.List.{find}
 use Rattle.deed_core.specs.Tag.{Tag}
 use Rattle.lease_book.specs.Kept.{Voucher}
 use Rattle.lease_book.specs.Entry.{Hello, Settled, Grant, Refuse}
-use Rattle.lease_book.specs.Account.{is_lease, Lease}
+use Rattle.lease_book.specs.Account.{Lease}
 use Rattle.lease_book.specs.Ledger.{Ledger, Enters, account_in, leased}
 use Rattle.lease_book.specs.Calls.{IsRefused, IsReleased, IsGranted}
 use Rattle.lease_book.specs.Answers.{IsNew, IsAnswer, IsLook, answer_of}
@@ -18,7 +17,6 @@ use Rattle.lease_book.specs.declared.answers.Look.{Look}
 use Rattle.lease_book.specs.declared.answers.Look.TheVariants as look
 use Rattle.lease_book.specs.declared.receipts.Reply.TheVariants as was
 use Rattle.lease_book.specs.declared.receipts.Terms.{Terms}
-use Rattle.lease_book.specs.declared.receipts.Refusal.{Refusal as Why}
 use Rattle.lease_book.specs.declared.receipts.Refusal.TheVariants as why
 use Rattle.lease_proto.specs.declared.lines.Lease.{Lease as LeaseLine}
 use Rattle.lease_proto.specs.declared.lines.Release.{Release as ReleaseLine}
@@ -30,45 +28,13 @@ use Rattle.lease_desk.specs.Sweeps.{Sweeps}
 use Rattle.lease_desk.specs.Carved.{IsCarved, IsRefused as IsCarveRefused}
 use Rattle.tag_arena.specs.declared.faults.ArenaFault.TheVariants.{NoFit}
 use Rattle.lease_desk.specs.Machine.{Asking, Finds, IsSettled, Refuses, refusal_of, refused_to, released_to, granted_to, asked_release, asked_lease, request_of, place_in, NewRelease, Grants, Misses, NewLease, Welcomes}
-use Rattle.lease_desk.specs.Told.{IsOfArenas, IsTold}
+use Rattle.lease_desk.specs.Told.{IsTold}
 use Rattle.lease_desk.specs.Spaces.{picture_of, pictures, desk_of, IsSteady, AreSpaces}
 use Rattle.lease_desk.specs.Replies.{IsSayable, Says}
 use Rattle.lease_desk.proofs.PlaceLemmas.{slice_get_some, slice_get_mapped}
 use Rattle.lease_desk.proofs.ToldLemmas.{IsNewAnswer, new_answer, sayable, told_more}
-use Rattle.lease_desk.proofs.SteadyLemmas.{steady_book, same_count, hello_incarnation}
+use Rattle.lease_desk.proofs.SteadyLemmas.{same_count, hello_incarnation}
 use Rattle.lease_desk.proofs.Exporting.{exports_weigh, exports_back, gives_nothing}
-
--- a refusal can be said
-pub refusal_sayable : (count : ℕ) (old new : Ledger) (c i n : ℕ) (w : Why) (v : Voucher) → IsRefused old new c i n w v → IsOfArenas count v.kept.reply
-refusal_sayable count old new c i n w v is = subst (λ (x : Voucher). IsOfArenas count x.kept.reply) (sym is.receipt) tt
-
--- the new number was refused
-pub record IsTurnedDown (spaces : List Space) (old new : Ledger) (q : Asking) (w : Why) (r : Reply) : Type 0 where
-  pub steady : IsSteady spaces new
-  pub refuses : Refuses q w (desk_of spaces old) (desk_of spaces new)
-  pub reply : r ≡ refused_to q (refusal_of w)
-
-turned_down : (spaces : List Space) (old new : Ledger) (q : Asking) (w : Why) (v : Voucher) (r : Reply) → IsSteady spaces old → q.number ≤ 2 ^ 62
-    → IsRefused old new q.client q.incarnation q.number w v → IsSettled (pictures spaces) q v.kept.reply r → IsTurnedDown spaces old new q w r
-turned_down spaces old new q w v r steady number is says = record {
-  steady = steady_book spaces old new (Settled q.client q.incarnation q.number (Refuse w)) steady is.entry (number, tt) is.leases;
-  refuses = record { entry = is.entry; leases = is.leases; arenas = refl };
-  reply = said;
-}
-  where
-    said : IsSettled (pictures spaces) q (was.Refused w) r
-    said = subst (λ (x : Voucher). IsSettled (pictures spaces) q x.kept.reply r) is.receipt says
-
--- what a book's refusal of a new number comes to
-pub refused_new : {D : Type 0} (spaces : List Space) (old new : Ledger) (q : Asking) (w : Why) (refused : Voucher → Type 0) (a : Answer D) (r : Reply) → IsSteady spaces old → q.number ≤ 2 ^ 62
-    → ((v : Voucher) → refused v → IsRefused old new q.client q.incarnation q.number w v)
-    → IsNewAnswer old new refused ⊥ a → Says (pictures spaces) q a r → IsTurnedDown spaces old new q w r
-refused_new spaces old new q w refused (answer.Refused v) r steady number as_refused is says = turned_down spaces old new q w v r steady number (as_refused v is) says
-refused_new spaces old new q w refused (answer.Kept v) r steady number as_refused is says = absurd is
-refused_new spaces old new q w refused (answer.Old n) r steady number as_refused is says = absurd is
-refused_new spaces old new q w refused (answer.Stale n) r steady number as_refused is says = absurd is
-refused_new spaces old new q w refused (answer.Gap n) r steady number as_refused is says = absurd is
-refused_new spaces old new q w refused answer.Again r steady number as_refused is says = absurd is.0
 
 -- what is known of a refusal that the book gave
 pub given : {D : Type 0} (old new : Ledger) (refused : Voucher → Type 0) (P : Type 0) (a : Answer D) → ((v : Voucher) → refused v → P) → IsNewAnswer old new refused ⊥ a → P
@@ -103,18 +69,6 @@ released_new l spaces now old new place v t r first within is gives says =
         leases = is.leases;
       },
     )
-
-pub not_yours : (l : ReleaseLine) (spaces : List Space) (old new : Ledger) (place : ℕ) (r : Reply) → place_in l.arena (pictures spaces) ≡ Some place
-    → find (is_lease l.incarnation place l.base) (account_in l.client old).leases ≡ None → IsTurnedDown spaces old new (asked_release l) why.NotYours r
-    → NewRelease l (desk_of spaces old) (desk_of spaces new) r
-not_yours l spaces old new place r first none down =
-    subst (λ z. NewRelease l (desk_of spaces old) (desk_of spaces new) z) (sym down.reply) (why.NotYours, refl, (place, first, none, down.refuses))
-
-pub no_arena : (l : ReleaseLine) (spaces : List Space) (old new : Ledger) (r : Reply) → place_in l.arena (pictures spaces) ≡ None
-    → Refuses (asked_release l) why.NoArena (desk_of spaces old) (desk_of spaces new) → r ≡ refused_to (asked_release l) (refusal_of why.NoArena)
-    → NewRelease l (desk_of spaces old) (desk_of spaces new) r
-no_arena l spaces old new r none refuses says =
-    subst (λ z. NewRelease l (desk_of spaces old) (desk_of spaces new) z) (sym says) (why.NoArena, refl, (none, refuses))
 
 -- the reply to a number that was looked up
 known_of : (book : Ledger) (q : Asking) {D : Type 0} (l : Look D) → IsLook book (account_in q.client book) q.incarnation q.number l

@@ -30,10 +30,6 @@ module _ {X : Type 0} where
     | inr ne ↦ inr (ne, sym (slice_get-set_other xs i k y ne) ∙ at)
   ]
 
-  pub slice_get-push : (xs : List X) (y : X) → slice_get (xs ++ y ∷ []) (length xs) ≡ Some y
-  slice_get-push [] y = refl
-  slice_get-push (x ∷ xs) y = slice_get-push xs y
-
   pub pushed : (xs : List X) (k : ℕ) (y x : X) → slice_get (xs ++ y ∷ []) k ≡ Some x → ((k ≡ length xs) × (x ≡ y)) ⊎ (slice_get xs k ≡ Some x)
   pushed [] zero y x at = inl (refl, (let e : Some y ≡ Some x = at in cc))
   pushed [] (suc k) y x at = absurd (let e : None ≡ Some x = at in cc)

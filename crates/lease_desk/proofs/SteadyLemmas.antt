@@ -24,15 +24,6 @@ use Rattle.lease_desk.proofs.PlaceLemmas.{slice_get_mapped}
 use Rattle.lease_desk.proofs.SpaceLemmas.{out_of}
 use Rattle.lease_desk.proofs.ToldLemmas.{told_more}
 
--- the book has changed, and what is leased weighs the same
-pub steady_book : (spaces : List Space) (old new : Ledger) (e : Entry) → IsSteady spaces old → Enters e old new → IsPossible (length spaces) e → leased new ≡ leased old → IsSteady spaces new
-steady_book spaces old new e steady enters possible same = record {
-  few = steady.few;
-  sound = steady.sound;
-  exports = exports_weigh (pictures spaces) (leased old) (leased new) (λ f. ap (sum_by f) (sym same)) steady.exports;
-  told = told_more (length spaces) e old new steady.told enters possible;
-}
-
 -- a lease was taken out of the book
 pub exports_lost : (spaces : List Space) (old new : Ledger) (t : Tag) → IsSteady spaces old → Loses (leased old) (leased new) t → Exports (pictures spaces) (t ∷ leased new)
 exports_lost spaces old new t steady loses = exports_weigh (pictures spaces) (leased old) (t ∷ leased new) (λ f. omega (arith, loses f, sum_by-cons f t (leased new))) steady.exports

@@ -1,8 +1,8 @@
 -- Lemmas on what is written for frames, one stretch after another.
 use Rattle.std.proofs.Common.{◌≡◌, ℕ, List, [], ◌∷◌, ◌++◌, take, refl, sym, ◌∙◌, ap, subst, append_assoc, arith, length, drop, ◌-◌, take-append-drop, Ok, Err, Option, Some, None, IfSome, Result, OnOk, OnErr}
 use Rattle.std.proofs.lemmas.List.{append-nil, take_all, take-take, take_rest}
-use Rattle.std.specs.Io.KnownBytes.{Appends, Consumes, IsAtEnd}
-use Rattle.std.proofs.KnownBytes.{Appends-nil, Appends-trans, Consumes-all, Consumes-trans}
+use Rattle.std.specs.Io.KnownBytes.{Consumes, IsAtEnd}
+use Rattle.std.proofs.KnownBytes.{Appends-trans, Consumes-all, Consumes-trans}
 use Rattle.lease_proto.specs.Frames.{Frame, frames_in, rest_in, frames_of, last_of}
 use Rattle.lease_proto.specs.declared.faults.LineFault.{LineFault}
 use Rattle.lease_proto.specs.Faults.{error_line}
@@ -20,9 +20,6 @@ module _ {S : Type 0} (may_answer : S → List ℕ → List ℕ → S → Type 0
       (p.0, p.1 ++ more, p.2, p.3, ap (λ t. t ++ more) p.4 ∙ append_assoc p.0 p.1 more, Serves-append fs gs p.2 mid new p.1 more p.5 q)
   Serves-append (Err fault ∷ fs) gs old mid new text more p q =
       (p.0 ++ more, ap (λ t. t ++ more) p.1 ∙ append_assoc (error_line fault) p.0 more, Serves-append fs gs old mid new p.0 more p.2 q)
-
-  pub Writes-none : (old : S) (a : Option (List ℕ)) → Writes may_answer old [] a a old
-  Writes-none old a = ([], (refl, refl), Appends-nil a)
 
   pub Writes-append : (fs gs : List Frame) (old mid new : S) (a b c : Option (List ℕ))
       → Writes may_answer old fs a b mid → Writes may_answer mid gs b c new → Writes may_answer old (fs ++ gs) a c new
@@ -51,29 +48,15 @@ module _ {S : Type 0} (may_answer : S → List ℕ → List ℕ → S → Type 0
   Stops-more fs gs old a b q =
       (q.0, q.1 ++ gs, ap (λ t. t ++ gs) q.2 ∙ append_assoc q.0 q.1 gs, q.3)
 
-  -- nothing of the answers was written
-  pub Stops-at_once : (fs : List Frame) (old : S) (a : Option (List ℕ)) → Stops may_answer old fs a a
-  Stops-at_once fs old a = ([], fs, refl, (old, [], [], (refl, refl), Appends-nil a))
-
   -- a front of the last answer was written
   pub Stops-within : (fs : List Frame) (old new : S) (text : List ℕ) (a b : Option (List ℕ)) → Serves may_answer old fs text new
       → WritesFront text a b → Stops may_answer old fs a b
   Stops-within fs old new text a b p q =
       (fs, [], sym (append-nil fs), (new, q.0, q.1, subst (λ t. Serves may_answer old fs t new) q.2 p, q.3))
 
-  -- what one line is answered
-  pub Serves-line : (old new : S) (line told reply text : List ℕ) → told ≡ line → text ≡ reply → may_answer old told reply new
-      → Serves may_answer old (Ok line ∷ []) text new
-  Serves-line old new line told reply text e f given =
-      (reply, [], new, subst (λ l. may_answer old l reply new) e given, f ∙ sym (append-nil reply), (refl, refl))
-
   -- what a refused line is answered
   pub Serves-fault : (old : S) (fault : LineFault) (text : List ℕ) → text ≡ error_line fault → Serves may_answer old (Err fault ∷ []) text old
   Serves-fault old fault text e = ([], e ∙ sym (append-nil (error_line fault)), (refl, refl))
-
-  -- answers in a buffer, one stretch after another
-  pub Answers-none : (old : S) (a : List ℕ) → Answers may_answer old [] a a old
-  Answers-none old a = ([], (refl, refl), sym (append-nil a))
 
   pub Answers-append : (fs gs : List Frame) (old mid new : S) (a b c : List ℕ)
       → Answers may_answer old fs a b mid → Answers may_answer mid gs b c new → Answers may_answer old (fs ++ gs) a c new
@@ -91,11 +74,6 @@ module _ {S : Type 0} (may_answer : S → List ℕ → List ℕ → S → Type 0
   Answers-some (Ok u) fs old new a b all some = (fs, [], new, sym (append-nil fs), all)
   Answers-some (Err e) fs old new a b all some =
       let (served, refused, later, split, answers) = some in (served, refused ∷ later, new, split, answers)
-
-  -- what was answered into an empty buffer, and written
-  pub Writes-of_answers : (fs : List Frame) (old new : S) (bytes : List ℕ) (a b : Option (List ℕ))
-      → Answers may_answer old fs [] bytes new → Appends a b bytes → Writes may_answer old fs a b new
-  Writes-of_answers fs old new bytes a b p q = (p.0, p.1, subst (λ t. Appends a b t) p.2 q)
 
   -- the same, written to a front of it
   pub Stops-of_some : (fs : List Frame) (old : S) (bytes : List ℕ) (a b : Option (List ℕ))
@@ -117,10 +95,6 @@ module _ {S : Type 0} (may_answer : S → List ℕ → List ℕ → S → Type 0
         ap (λ t. fs ++ t) split ∙ sym (append_assoc fs served (refused ∷ later)),
         Writes-append fs served old mid new a b c p writes,
       )
-
--- all of it is a front of it
-pub WritesFront-all : (bytes : List ℕ) (a b : Option (List ℕ)) → Appends a b bytes → WritesFront bytes a b
-WritesFront-all bytes a b p = (bytes, [], sym (append-nil bytes), p)
 
 -- lines of which the same is known
 pub frames_in-same : (xs ys bs : List ℕ) → SameFront xs ys → frames_in xs bs ≡ frames_in ys bs

@@ -1,7 +1,7 @@
 -- What the shape of a CPU's cache says.
-use Rattle.std.proofs.Common.{◌≡◌, ℕ, ◌<◌, ◌≤◌, ◌≢◌, List, [], ◌∷◌, length, inl, inr, arith, refl, length-append}
+use Rattle.std.proofs.Common.{◌≡◌, ◌<◌, List, [], ◌∷◌, length, inl, inr, arith, refl}
 use Rattle.deed_core.specs.Tag.{Tag}
-use Rattle.magazine_layer.specs.Magazines.{IsSize, CacheState, IsShaped, CanTake, CanGive, cache_rounds}
+use Rattle.magazine_layer.specs.Magazines.{CacheState, IsShaped, CanTake, CanGive}
 use Rattle.magazine_layer.specs.Rounds.{IsFullUp}
 
 none_of : (xs : List Tag) → length xs ≡ 0 → xs ≡ []
@@ -21,7 +21,3 @@ full_up c shape cannot = record {
   loaded_full = let few : length c.loaded < c.size → ⊥ = λ room. cannot (inl room) in omega (arith, shape.most);
   previous_full = elim shape.whole [ inl none ↦ absurd (cannot (inr (none_of c.previous none))) | inr whole ↦ whole ];
 }
-
--- all rounds have room in a magazine of a greater size
-pub room_after : (c : CacheState) (m : ℕ) → IsShaped c → IsSize m → c.size ≤ m → c.size ≢ m → length (cache_rounds c) ≤ m
-room_after c m shape size most other = grind (arith, length-append, shape.sized, shape.most, shape.whole)

@@ -20,10 +20,6 @@ pub stored_row-push : (f : ℕ → Holding) (i : ℕ) (xs : List Bool) (y : Bool
 stored_row-push f i [] y = let e : i + 0 ≡ i = omega arith in rw e refl
 stored_row-push f i (x ∷ xs) y = let e : i + suc (length xs) ≡ (i + 1) + length xs = omega arith in rw e (ap (λ (zs : List (Option Holding)). entry f i x ∷ zs) (stored_row-push f (i + 1) xs y))
 
-pub length-stored_row : (f : ℕ → Holding) (i : ℕ) (xs : List Bool) → length (stored_row f i xs) ≡ length xs
-length-stored_row f i [] = refl
-length-stored_row f i (x ∷ xs) = ap suc (length-stored_row f (i + 1) xs)
-
 pub get_or-stored_row : (f : ℕ → Holding) (i : ℕ) (xs : List Bool) (j : ℕ) (d : Option Holding) (b : Bool) → j < length xs → get_or (stored_row f i xs) j d ≡ entry f (i + j) (get_or xs j b)
 get_or-stored_row f i [] j d b within = absurd (omega arith)
 get_or-stored_row f i (x ∷ xs) zero d b within = let e : i + 0 ≡ i = omega arith in rw e refl

@@ -49,10 +49,6 @@ changed_state span colour chunk row s j y x view is =
 pub at_home : (s : SlabState) (first last : Option Holding) (row : List (Option Holding)) (j : ℕ) (d : Option Holding) → IsStored s first row last → j < length s.home → get_or s.home j false ≡ true → get_or row j d ≡ Some (chunk_at s j)
 at_home s first last row j d held within here = rw (held.chunks, get_or_from_start (chunk_at s) s.home j d false within, here) refl
 
--- a chunk that is out
-pub is_away : (s : SlabState) (first last : Option Holding) (row : List (Option Holding)) (j : ℕ) (d : Option Holding) → IsStored s first row last → j < length s.home → get_or s.home j false ≡ false → get_or row j d ≡ None
-is_away s first last row j d held within away = rw (held.chunks, get_or_from_start (chunk_at s) s.home j d false within, away) refl
-
 -- a new slab
 behind_gap : (h r : Holding) (colour : ℕ) → colour < h.range.len → back_of colour (Some h) ≡ Some r → piece h.root (h.range.base + colour) (h.range.len - colour) ≡ r
 behind_gap h r colour more is =

@@ -6,7 +6,7 @@ use Rattle.std.proofs.lemmas.Bool.Decides.{nat_tests}
 use Rattle.std.specs.Prelude.{Any}
 use Rattle.std.proofs.lemmas.Bool.{cases_lt}
 use Rattle.std.proofs.lemmas.List.{length-set, length-replicate, length-take, length-drop, get_or-take, get_or-drop, get_or_default}
-use Rattle.std.proofs.lemmas.List.Elements.{All-set, All-get_or, All-nil, All-same, All-weaker}
+use Rattle.std.proofs.lemmas.List.Elements.{All-set, All-get_or, All-nil, All-same}
 use Rattle.std.proofs.lemmas.List.Quantifiers.{all_pairs_remove}
 use Rattle.deed_core.specs.Extent.{Extent, Overlap, end_of}
 use Rattle.deed_core.specs.Tag.{Tag}
@@ -113,9 +113,6 @@ sound_empty arena k quantum slab_size slabs none some_k some_quantum room =
 -- there is a chunk in each slab
 pub some_chunk : (c : CacheState) → IsSound c → 0 < c.slab_size / chunk_of c
 some_chunk c sound = let e : c.slab_size / chunk_of c ≡ (c.slab_size - chunk_of c) / chunk_of c + 1 = div-eq-sub-div sound.some sound.room in omega arith
-
-pub all_some : (c : CacheState) → IsSound c → All (λ s. 0 < length s.home) c.slabs
-all_some c sound = All-weaker (IsOfSize c.slab_size (chunk_of c)) (λ s. 0 < length s.home) (λ s size. rw size.count (some_chunk c sound)) c.slabs sound.slabs
 
 -- a span that overlaps no slab stands between those below it and those above it
 pub record IsPlaced (i : ℕ) (e : Extent) (slabs : List SlabState) : Type 0 where

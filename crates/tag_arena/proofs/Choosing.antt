@@ -1,5 +1,5 @@
 -- What a scan of all free ranges has found is the policy's choice.
-use Rattle.std.proofs.Common.{◌≡◌, ℕ, ◌+◌, ◌%◌, ◌^◌, ◌<◌, ◌≤◌, refl, sym, subst, inl, inr, List, length, HoldsAt, Contains, All, Option, Some, None, IfSome, arith}
+use Rattle.std.proofs.Common.{◌≡◌, ℕ, ◌+◌, ◌%◌, ◌^◌, ◌<◌, ◌≤◌, refl, sym, subst, inl, List, length, HoldsAt, Contains, All, Option, Some, None, arith}
 use Rattle.std.proofs.lemmas.List.Elements.{All-contains}
 use Rattle.std.specs.Int.{next_multiple_of}
 use Rattle.deed_core.specs.Extent.{IsRange}
@@ -9,7 +9,7 @@ use Rattle.deed_core.specs.declared.requests.Request.{Request}
 use Rattle.tag_arena.specs.declared.choices.Found.{Found}
 use Rattle.tag_arena.specs.declared.instants.Listed.{Listed}
 use Rattle.tag_arena.specs.Place.{IsLeast, Serves, ServesIn}
-use Rattle.tag_arena.specs.Choice.{IsBestChoice, IsInstantChoice, NoListServes, OnList, ListServes, ComesFirst}
+use Rattle.tag_arena.specs.Choice.{IsBestChoice, IsInstantChoice, OnList, ListServes, ComesFirst}
 use Rattle.tag_arena.specs.Found.{BestSoFar, EarliestSoFar, NewestSoFar, IsPlaced, base_of}
 
 module _ (quantum : ℕ) (q : Request) (free : List Holding) where
@@ -27,20 +27,12 @@ module _ (quantum : ℕ) (q : Request) (free : List Holding) where
     },
   )
 
-  pub best_placed : (o : Option Found) → BestSoFar quantum q free (length free) o → IfSome o (IsPlaced quantum q free)
-  best_placed None none = tt
-  best_placed (Some f) so = (so.0, so.1, so.2)
-
   pub earliest_least : (start : ℕ) (o : Option Found) → EarliestSoFar quantum q start free (length free) o → IsLeast (λ base. Serves quantum q free base × (start ≤ base)) (base_of o)
   earliest_least start None none = λ base h. none h.0.0 h.0.1 (omega arith) h.0.2 base (subst (λ r. ServesIn quantum q r base) (sym h.0.3) h.0.4) h.1
   earliest_least start (Some f) so = (
     ((f.at, f.range, so.0, so.1 f.range, so.2), so.3),
     λ base h. so.4 h.0.0 h.0.1 (omega arith) h.0.2 base (subst (λ r. ServesIn quantum q r base) (sym h.0.3) h.0.4) h.1,
   )
-
-  pub earliest_placed : (start : ℕ) (o : Option Found) → EarliestSoFar quantum q start free (length free) o → IfSome o (IsPlaced quantum q free)
-  earliest_placed start None none = tt
-  earliest_placed start (Some f) so = (so.0, so.1, so.2)
 
   module _ (plain : IsPlain q) (all_below : All (λ r. IsRange r.range) free) (aligned : All (λ r. r.range.base % quantum ≡ 0) free) where
     -- a range with room serves such a request at its base
@@ -84,20 +76,3 @@ module _ (quantum : ℕ) (q : Request) (free : List Holding) where
               refl,
             ),
           )
-
-    pub none_choice : (o : Option ℕ) → NoListServes quantum (next_multiple_of q.size quantum) free → IsBestChoice quantum q free o → IsInstantChoice quantum q free o
-    none_choice o none best = inr (λ _. none, best)
-
-    pub none_listed : (len : ℕ) → len ≡ next_multiple_of q.size quantum → NewestSoFar quantum len free (length free) None → NoListServes quantum (next_multiple_of q.size quantum) free
-    none_listed len len_is none = λ r i in-r on serves.
-        none in-r.0 r (omega arith) in-r.1 i (subst (λ x. OnList quantum x i) (sym in-r.2) on) (subst (λ n. ListServes quantum n i) (sym len_is) serves)
-
-    -- no list serves a request for more units than there are
-    pub none_large : 2 ^ 64 ≤ next_multiple_of q.size quantum → NoListServes quantum (next_multiple_of q.size quantum) free
-    none_large large = λ r i in-r on serves.
-        let below : IsRange r.range = All-contains (λ r. IsRange r.range) free r all_below in-r in
-        let end : r.range.base + r.range.len ≤ 2 ^ 62 = below.below in
-        omega (arith, on, serves)
-
-  pub constrained_choice : (o : Option ℕ) → (IsPlain q → ⊥) → IsBestChoice quantum q free o → IsInstantChoice quantum q free o
-  constrained_choice o constrained best = inr (λ plain. absurd (constrained plain), best)

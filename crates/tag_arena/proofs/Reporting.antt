@@ -1,6 +1,6 @@
 -- What an arena reports, and what is refused of a span.
 use Rattle.std.proofs.Common.{◌≡◌, ◌≢◌, ℕ, ◌+◌, ◌%◌, ◌<◌, subst, ap, ◌∙◌, ⊎_elim, List, map, Contains, All, Any, arith}
-use Rattle.std.proofs.lemmas.List.Elements.{All-append, All-map, Contains-append_right, Contains-append_left}
+use Rattle.std.proofs.lemmas.List.Elements.{All-append, All-map, Contains-append_right}
 use Rattle.deed_core.specs.Extent.{Extent, Covers, Overlap}
 use Rattle.deed_core.specs.Holding.{Holding}
 use Rattle.deed_core.specs.Tag.{Tag}
@@ -39,10 +39,6 @@ report_adds a sound o i f os is fs o_is os_is i_is is_is f_is fs_is =
     let imp : i ≡ units_held (map (λ t. t.holding) a.imported) = i_is ∙ ap (λ (xs : List Tag). units_held (map (λ t. t.holding) xs)) is_is in
     let fre : f ≡ units_held a.free = f_is ∙ ap units_held fs_is in
     omega (arith, own, imp, fre, units_add a.free (ranges_of a.allocated) (spans_of a) sound.covers, sum_by-append (λ (h : Holding). h.range.len) a.owned (map (λ t. t.holding) a.imported))
-
--- a range that overlaps a span of either kind
-pub overlaps_owned : (a : ArenaState) (e : Extent) → Any (λ s. Overlap s.range e) a.owned → Any (λ s. Overlap s.range e) (spans_of a)
-overlaps_owned a e h = member-Any (λ s. Overlap s.range e) (spans_of a) h.1 (Contains-append_left a.owned (map (λ t. t.holding) a.imported) h.1 (Any-member a.owned h)) h.4
 
 pub overlaps_imported : (a : ArenaState) (e : Extent) → Any (λ t. Overlap t.holding.range e) a.imported → Any (λ s. Overlap s.range e) (spans_of a)
 overlaps_imported a e h =

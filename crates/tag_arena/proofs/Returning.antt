@@ -26,14 +26,6 @@ use Rattle.tag_arena.proofs.Freeing.{longest_edged}
 use Rattle.tag_arena.proofs.Merging.{IsLeft, IsRight, left_of, right_of, without_member, without_kept, merged_edged, merged_holds, others_are}
 use Rattle.tag_arena.proofs.Sounding.{sum_multiple, rest_multiple, power_some, span_some, sound_free, sound_return}
 
--- the neighbor on the left goes on to the piece
-pub left_goes_on : (span piece : Holding) (old mid : List Holding) (o : Option Holding) → IsPartOf span piece → 0 < piece.range.len → All (IsBeside span) old → TakesLeft span.range.base piece.range.base old o mid → IfSome o (λ r. GoesOn r piece)
-left_goes_on span piece old mid None inside some beside takes = tt
-left_goes_on span piece old mid (Some r) inside some beside takes =
-    let near = All-contains (IsBeside span) old r beside (without_member old mid r takes.2) in
-    let root : r.root ≡ piece.root = ⊎_elim (λ (h : IsPartOf span r). h.root ∙ sym inside.root) (λ apart. absurd (⊎_elim (λ le. omega (arith, takes.0, takes.1, le)) (λ le. omega (arith, takes.1, inside.to, some, near.0, le)) apart)) near.1 in
-    record { root = root; meets = takes.1 }
-
 pub right_goes_on : (span piece : Holding) (mid new : List Holding) (o : Option Holding) → IsPartOf span piece → 0 < piece.range.len → All (IsBeside span) mid → TakesRight (end_of piece.range) (end_of span.range) mid o new → IfSome o (λ r. GoesOn piece r)
 right_goes_on span piece mid new None inside some beside takes = tt
 right_goes_on span piece mid new (Some r) inside some beside takes =
@@ -44,11 +36,6 @@ right_goes_on span piece mid new (Some r) inside some beside takes =
 pub mid_beside : (span : Holding) (start base : ℕ) (old mid : List Holding) (o : Option Holding) → All (IsBeside span) old → TakesLeft start base old o mid → All (IsBeside span) mid
 mid_beside span start base old mid None beside takes = subst (λ (xs : List Holding). All (IsBeside span) xs) (sym takes.0) beside
 mid_beside span start base old mid (Some r) beside takes = All-from_members (IsBeside span) mid (λ x in-x. All-contains (IsBeside span) old x beside (without_kept old mid r x takes.2 in-x))
-
--- the same of a deed with that root and base, or that end
-pub goes_on_same : (o : Option Holding) (p d : Holding) → d.root ≡ p.root → d.range.base ≡ p.range.base → IfSome o (λ r. GoesOn r p) → IfSome o (λ r. GoesOn r d)
-goes_on_same None p d root base h = tt
-goes_on_same (Some r) p d root base h = record { root = h.root ∙ sym root; meets = h.meets ∙ sym base }
 
 pub goes_off_same : (o : Option Holding) (p d : Holding) → d.root ≡ p.root → end_of d.range ≡ end_of p.range → IfSome o (λ r. GoesOn p r) → IfSome o (λ r. GoesOn d r)
 goes_off_same None p d root end h = tt

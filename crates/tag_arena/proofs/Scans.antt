@@ -86,16 +86,6 @@ module _ (free : List Holding) (at : ℕ) (range : Holding) (here : HoldsAt (λ 
       )
 
       module _ (base : ℕ) (least : IsLeast (λ base. ServesIn quantum q range base × (start ≤ base)) (Some base)) where
-        pub earliest_first : EarliestSoFar quantum q start free at None → EarliestSoFar quantum q start free (at + 1) (Some (found base))
-        earliest_first so = (
-          omega arith,
-          here,
-          least.0.0,
-          least.0.1,
-          within_more (λ r. (b : ℕ) → ServesIn quantum q r b → start ≤ b → base ≤ b) free 0 at (λ k d from below b s up. absurd (so k d from below b s up))
-              (at_range (λ r. (b : ℕ) → ServesIn quantum q r b → start ≤ b → base ≤ b) (λ b s up. least.1 b (s, up))),
-        )
-
         pub earliest_kept : (f : Found) → EarliestSoFar quantum q start free at (Some f) → f.base ≤ base → EarliestSoFar quantum q start free (at + 1) (Some f)
         earliest_kept f so le = (
           omega (arith, so.0),

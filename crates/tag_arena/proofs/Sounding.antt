@@ -81,9 +81,6 @@ free_below a sound r in-r =
 pub free_ranges : (a : ArenaState) → IsSound a → All (λ r. IsRange r.range) a.free
 free_ranges a sound = All-from_members (λ r. IsRange r.range) a.free (λ r in-r. record { some = (sound.whole.runs r in-r).run.some; below = free_below a sound r in-r })
 
-pub free_bases : (a : ArenaState) → IsSound a → All (λ r. r.range.base % a.quantum ≡ 0) a.free
-free_bases a sound = All-from_members (λ r. r.range.base % a.quantum ≡ 0) a.free (λ r in-r. (sound.free_grid r in-r).0)
-
 pub span_some : (a : ArenaState) → IsSound a → (s : Holding) → Contains (spans_of a) s → 0 < s.range.len
 span_some a sound s in-s = (All-contains (λ s. IsRange s.range) (spans_of a) s sound.spans in-s).some
 

@@ -16,7 +16,7 @@ use Rattle.vmemd.specs.declared.faults.ScriptFault.TheVariants.{Setup, Read, Wri
 use Rattle.vmemd.specs.declared.setting_up.Rest.{Rest}
 use Rattle.vmemd.specs.SetupLines.{begins_setup}
 use Rattle.vmemd.specs.Openings.{IsOther}
-use Rattle.vmemd.specs.Scripts.{SetsUp, RunsWhole, RunsSoFar, RunFails, WritesFirst, Blames, serving_fault}
+use Rattle.vmemd.specs.Scripts.{SetsUp, RunsSoFar, RunFails, WritesFirst, Blames, serving_fault}
 use Rattle.vmemd.specs.Setups.{RestIs, SetupFails}
 use Rattle.vmemd.proofs.SetupLemmas.{more_read}
 
@@ -140,22 +140,6 @@ module _ {S : Type 0} (takes : S → SetupLine → S → Type 0) (refuses : S �
         stops,
       ))
       stopped
-
-  -- the lines after a setup, all served
-  pub serving_ends : (first made last : S) (unread mid before after : Option (List ℕ)) (rest : Rest) → RestIs takes first unread mid made rest
-      → IfSome mid (λ more. Writes may_answer made (frames_of (rest.bytes.items ++ more)) before after last)
-      → IfSome unread (λ input. RunsWhole takes may_answer first input before after last)
-  serving_ends first made last unread mid before after rest is ended =
-      let (input, read, setup) = is.0 in
-      over_all unread mid input (λ more. Writes may_answer made (frames_of (rest.bytes.items ++ more)) before after last) (λ all. RunsWhole takes may_answer first all before after last) read
-      (λ more here writes. (
-        rest.bytes.items ++ more,
-        made,
-        (more_read takes first made input rest.bytes.items more setup).0,
-        stays_other rest more is.1 (λ end. (is.2 end).0) (λ end. subst IsAtEnd here (is.2 end).1),
-        writes,
-      ))
-      ended
 
   -- the lines after a setup, of which serving ended early
   pub serving_fails : (first made last : S) (unread mid left before after : Option (List ℕ)) (rest : Rest) (fault : ServeFault) → RestIs takes first unread mid made rest
