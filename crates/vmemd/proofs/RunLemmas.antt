@@ -78,8 +78,8 @@ module _ {S : Type 0} (takes : S → SetupLine → S → Type 0) (refuses : S �
   before_all old new front (Some xs) (Some ys) a b (input, read, before) =
       let bytes : front ++ xs ≡ (front ++ input) ++ ys = ap (λ l. front ++ l) read ∙ sym (append_assoc front input ys) in
       let more : frames_of ((front ++ input) ++ ys) ≡ frames_in [] (front ++ input) ++ (frames_in (rest_in [] (front ++ input)) ys ++ last_of (rest_in [] ((front ++ input) ++ ys))) =
-          ap (λ l. l ++ last_of (rest_in [] ((front ++ input) ++ ys))) (frames_in-append [] (front ++ input) ys)
-          ∙ append_assoc (frames_in [] (front ++ input)) (frames_in (rest_in [] (front ++ input)) ys) (last_of (rest_in [] ((front ++ input) ++ ys))) in
+      ap (λ l. l ++ last_of (rest_in [] ((front ++ input) ++ ys))) (frames_in-append [] (front ++ input) ys)
+      ∙ append_assoc (frames_in [] (front ++ input)) (frames_in (rest_in [] (front ++ input)) ys) (last_of (rest_in [] ((front ++ input) ++ ys))) in
       subst (λ frames. WritesFirst may_answer old frames a b) (sym (ap frames_of bytes ∙ more)) (first_of_more old new (frames_in [] (front ++ input)) _ a b before)
 
   -- the same where nothing more was there to read
