@@ -5,7 +5,6 @@ pub mod Request
 pub mod Covering
 pub mod Selections
 pub mod Weights
-pub mod Rows
 pub mod Laws
 pub mod CountingLaws
 pub mod PartLaws

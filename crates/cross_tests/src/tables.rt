@@ -1,8 +1,10 @@
+//! What `deed_table` does: roots, deeds of running threads, and two of them shown apart.
 ghost use Rattle.std.specs.Prelude.{◌≡◌, ◌<◌};
 ghost use Rattle.deed_core.specs.Holding.{GoesOn};
 
-use super::*;
+use crate::base::border_moved;
 use deed_core::{Deed, Range, Refused};
+use deed_table::{Ground, Name, Opener, Pair, Root, SeatDeed, apart, close};
 use std::alloc::{AllocError, Global};
 use std::marker::Brand;
 use std::process::Abort;
@@ -36,6 +38,26 @@ fn cut_and_closed<N: Name, R: Abort>(rt: &R, ground: Ground) -> Result<(), Fail>
         Err(both) => stuck(rt, both),
     };
     assert_eq!(rt; bounds(&range), (0, 16));
+    Ok(())
+}
+
+#[test]
+fn borders(rt: HostRuntime) -> Result<(), Fail> {
+    border_of_seats::<Brand, _>(&rt, Ground::new(rt.alloc())?)
+}
+
+// The law of deeds over the deeds of running threads.
+fn border_of_seats<N: Name, R: Abort>(rt: &R, ground: Ground) -> Result<(), Fail>
+    requires { ground ≡ N.table }
+{
+    let mut opener: Opener<N> = ground.start();
+    let range = Range::new(8, 12).expect(rt, "a range");
+    let (root, deed) = opener.open_root(range).expect(rt, "memory");
+    let deed = border_moved(rt, deed);
+    match close(root, deed) {
+        Ok(range) => assert_eq!(rt; bounds(&range), (8, 12)),
+        Err(both) => stuck(rt, both),
+    }
     Ok(())
 }
 
@@ -81,6 +103,7 @@ fn two_openers<N: Name, R: Abort>(rt: &R, ground: Ground) -> Result<(), Fail>
         (shared.left(), rest.left()),
         (1 << 16, (1 << 32) - (1 << 16))
     );
+    assert_eq!(rt; (shared.first(), rest.first()), (0, 1 << 16));
     let (first, one) = opened(rt, &mut shared);
     let (second, other) = opened(rt, &mut rest);
     assert_eq!(rt; (first.number(), second.number()), (0, 1 << 16));

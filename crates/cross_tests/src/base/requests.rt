@@ -1,38 +1,6 @@
-ghost use Rattle.std.specs.Prelude.{◌≡◌};
-ghost use Rattle.deed_core.specs.Extent.{IsRange};
-
-use crate::{
-    Deed, LIMIT, PlainDeed, Range, Request, Route, Segment, Stored, cut_row, insert_reserved,
-    is_power_of_two, split_and_join,
-};
-use std::process::Abort;
-
-fn range(rt: &impl Abort, base: u64, len: u64) -> Range
-    ensures value { result ≡ record { base = base; len = len } }
-    ensures range { IsRange result }
-{
-    Range::new(base, len).expect(rt, "a range")
-}
-
-#[test]
-fn ranges_end_at_the_limit(rt: HostRuntime) {
-    assert_eq!(rt; LIMIT, 4611686018427387904);
-    let last = range(&rt, LIMIT - 16, 16);
-    assert_eq!(rt; last.end(), LIMIT);
-    for (base, len) in [
-        (LIMIT - 16, 17),
-        (LIMIT, 1),
-        (0, LIMIT + 1),
-        (5, 0),
-        (u64::MAX, u64::MAX),
-        (1, u64::MAX),
-    ] {
-        assert!(rt; Range::new(base, len).is_none(), "{base} {len}");
-    }
-    let (low, high) = (range(&rt, 0, 8), range(&rt, 8, 8));
-    assert!(rt; !low.overlaps(&high));
-    assert!(rt; low.overlaps(&range(&rt, 7, 1)));
-}
+//! Requests: what is good, and what fits.
+use super::range;
+use deed_core::{LIMIT, Request, is_power_of_two};
 
 // Five units at 3 modulo 8 that cross no multiple of 8 end on the boundary; of six, each place straddles one.
 #[test]
@@ -154,50 +122,4 @@ fn other_numbers_are_no_powers_of_two(rt: HostRuntime) {
     for n in [0, 3, 6, u64::MAX, (1 << 63) + 1] {
         assert!(rt; !is_power_of_two(n), "{n}");
     }
-}
-
-#[test]
-fn a_row_is_cut(rt: HostRuntime) {
-    let deed = split_and_join(PlainDeed::new(7, range(&rt, 16, 12)), 20);
-    let mut row = Vec::new(rt.alloc());
-    row.reserve(3).expect(&rt, "room");
-    match cut_row(deed, 4, 3, &mut row) {
-        Ok(()) => {}
-        Err(_) => panic!(rt; "a plain deed is never refused"),
-    }
-    for base in [24, 20, 16] {
-        let Some(part) = row.pop() else {
-            panic!(rt; "three deeds")
-        };
-        assert_eq!(rt; (part.root(), part.range()), (7, range(&rt, base, 4)));
-        let _ = part.into_deed().close();
-    }
-    assert_eq!(rt; row.len(), 0);
-    row.destroy_empty();
-}
-
-#[test]
-fn a_segment_is_split_and_joined(rt: HostRuntime) {
-    let segment = Segment::new(3, Route::Cached(2), PlainDeed::new(7, range(&rt, 16, 12)));
-    assert_eq!(rt;
-        (segment.arena(), segment.route(), segment.root()),
-        (3, Route::Cached(2), 7)
-    );
-    assert_eq!(rt; segment.range(), range(&rt, 16, 12));
-    let (low, high) = match Stored::new(segment.into_deed()).split(18) {
-        Ok(parts) => parts,
-        Err(_) => panic!(rt; "a plain deed is never refused"),
-    };
-    let mut parts = Vec::new(rt.alloc());
-    parts.reserve(2).expect(&rt, "room");
-    parts.push_reserved(high);
-    insert_reserved(&mut parts, 0, low);
-    for (base, len) in [(18, 10), (16, 2)] {
-        let Some(part) = parts.pop() else {
-            panic!(rt; "two deeds")
-        };
-        assert_eq!(rt; part.into_deed().close(), range(&rt, base, len));
-    }
-    assert_eq!(rt; parts.len(), 0);
-    parts.destroy_empty();
 }

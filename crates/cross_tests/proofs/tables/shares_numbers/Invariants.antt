@@ -1,4 +1,4 @@
-use Rattle.deed_table.proofs.tests.shares_numbers.Given as goal
+use Rattle.cross_tests.proofs.tables.shares_numbers.Given as goal
 
 -- the table that was just made
 abbrev pub ghosts-two_openers : goal.ghosts-two_openers

@@ -1,4 +1,4 @@
-use Rattle.deed_table.proofs.tests.pairs.Given as goal
+use Rattle.cross_tests.proofs.tables.pairs.Given as goal
 
 -- the table that was just made
 abbrev pub ghosts-paired : goal.ghosts-paired

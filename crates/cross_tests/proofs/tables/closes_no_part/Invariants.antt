@@ -1,4 +1,4 @@
-use Rattle.deed_table.proofs.tests.closes_no_part.Given as goal
+use Rattle.cross_tests.proofs.tables.closes_no_part.Given as goal
 
 -- the table that was just made
 abbrev pub ghosts-part_refused : goal.ghosts-part_refused

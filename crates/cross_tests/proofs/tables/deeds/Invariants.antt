@@ -1,4 +1,4 @@
-use Rattle.deed_table.proofs.tests.deeds.Given as goal
+use Rattle.cross_tests.proofs.tables.deeds.Given as goal
 
 -- the table that was just made
 abbrev pub ghosts-cut_and_closed : goal.ghosts-cut_and_closed
