@@ -2,10 +2,13 @@
 //!
 //! `arenas` has rows of calls of an arena, over plain deeds and over deeds one of whose splits is
 //! refused. They stand here and not in `tag_arena`, since the gate proves a crate once more for its
-//! tests. `seat_deeds` has an arena over the deeds of running threads.
+//! tests. `slabs` has the same for a slab cache. `seat_deeds` has an arena over the deeds of running
+//! threads.
 #![tactic(auto)]
 
 #[cfg(test)]
 mod arenas;
 #[cfg(test)]
 mod seat_deeds;
+#[cfg(test)]
+mod slabs;

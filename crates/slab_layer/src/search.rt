@@ -2,7 +2,8 @@
 ghost use Rattle.std.specs.Prelude.{◌≡◌, ◌≢◌, ℕ, ◌<◌, ◌≤◌, ◌↔◌, length, slice_index_or, All, AllPairs, Any, IsTrue, MatchOption};
 ghost use Rattle.deed_core.specs.Extent.{Overlap};
 ghost use Rattle.slab_layer.specs.Slab.{SlabState, IsAllOut, IsComplete, IsPartial, IsLowestIdle, chunk_at};
-ghost use Rattle.slab_layer.specs.Cache.{StandsAt, IsBelow, IsLowest, IsNext};
+ghost use Rattle.slab_layer.specs.Cache.{IsBelow};
+ghost use Rattle.slab_layer.specs.Moves.{StandsAt, IsLowest, IsNext};
 
 use crate::slabs::Slab;
 use deed_core::{Deed, Range};

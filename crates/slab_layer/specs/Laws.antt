@@ -1,0 +1,30 @@
+-- Laws of slab caches that the layers above reckon with.
+use Rattle.std.specs.Prelude.{◌≡◌, ℕ, [], All}
+use Rattle.deed_core.specs.Request.{Fits, IsPlain, rounded}
+use Rattle.deed_core.specs.Tag.{Tag}
+use Rattle.deed_core.specs.declared.requests.Request.{Request}
+use Rattle.slab_layer.specs.Slab.{IsComplete}
+use Rattle.slab_layer.specs.Cache.{SlabCacheState, IsSound, IsChunkOf, chunk_of, chunks_out, idle_chunks}
+
+-- each chunk that is out, or at home, carries its cache's arena and number and has its length, on the
+-- quantum's grid
+abbrev pub ChunksAreOfCache : Type 0
+ChunksAreOfCache =
+    (c : SlabCacheState) → IsSound c
+    → All (IsChunkOf c) (chunks_out c) × All (IsChunkOf c) (idle_chunks c)
+
+-- a chunk fits each unconstrained request whose size, in whole quanta, is the chunk's
+abbrev pub ChunkFits : Type 0
+ChunkFits =
+    (c : SlabCacheState) (t : Tag) (q : Request) → IsChunkOf c t → IsPlain q
+    → rounded c.quantum q.size ≡ chunk_of c
+    → Fits c.quantum q t.holding.range.base t.holding.range.len
+
+-- of these is the one for just k quanta
+abbrev pub ChunkIsWholeQuanta : Type 0
+ChunkIsWholeQuanta = (c : SlabCacheState) → IsSound c → rounded c.quantum (chunk_of c) ≡ chunk_of c
+
+-- where no slab is whole and no chunk is out, there is no slab
+abbrev pub ReapedOutIsEmpty : Type 0
+ReapedOutIsEmpty =
+    (c : SlabCacheState) → All (λ s. ¬ IsComplete s) c.slabs → chunks_out c ≡ [] → c.slabs ≡ []
