@@ -156,8 +156,8 @@ fn second_slab_alone(rt: &impl Abort, cache: &mut SlabCache<PlainDeed>) {
     assert_eq!(rt; reaped(cache), Some((16, 16)));
 }
 
-/// Six slabs, each by its base and that of its first chunk. The colours go up by a quantum and begin
-/// again past the units that are in no chunk: 3 of 18, and 3 of 15 with a quantum of 2.
+/// Six slabs, each by its base and that of its first chunk. The colours go up by a quantum and
+/// begin again past the units that are in no chunk: 3 of 18, and 3 of 15 with a quantum of 2.
 #[test]
 fn colours_begin_again(rt: HostRuntime) {
     let cache = SlabCache::new(rt.alloc(), 7, 5, 1, 18);

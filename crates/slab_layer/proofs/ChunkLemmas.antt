@@ -1,18 +1,18 @@
 -- What a chunk and a span of a cache are, and the laws of caches.
-use Rattle.std.proofs.Common.{◌≡◌, ℕ, ◌+◌, ◌-◌, ◌*◌, ◌/◌, ◌%◌, ◌<◌, ◌≤◌, ◌^◌, Bool, true, false, not, List, [], ◌∷◌, length, get_or, All, refl, sym, ap, ◌∙◌, arith, subst}
-use Rattle.std.proofs.Math.Nat.{mod-add-div', add-mul-mod_self_right, mul-mod_left, mul_assoc, mod_self}
-use Rattle.std.proofs.Math.ListN.{replicate}
+use Rattle.std.proofs.Common.{◌≡◌, inl, inr, ℕ, ◌+◌, ◌*◌, ◌/◌, ◌%◌, ◌<◌, ◌≤◌, ◌^◌, Bool, true, false, not, List, [], ◌∷◌, length, get_or, All, refl, sym, ap, ◌∙◌, arith, subst}
+use Rattle.std.proofs.Math.Nat.{mod-add-div', add-mul-mod_self_right, mul-mod_left, mul_assoc, eq-zero-or-pos, mul-zero}
 use Rattle.std.specs.List.{flat_map}
 use Rattle.std.proofs.lemmas.Bool.{not-false}
 use Rattle.std.proofs.lemmas.List.{length-replicate, get_or_default}
 use Rattle.std.proofs.lemmas.List.Elements.{All-weaker, All-head}
 use Rattle.deed_core.specs.Extent.{end_of}
-use Rattle.deed_core.specs.Request.{rounded}
+use Rattle.deed_core.specs.Selections.{is_of_cache}
 use Rattle.deed_core.specs.Tag.{Tag}
+use Rattle.deed_core.proofs.LawProofs.{sum_by-only_all, tests_say, fits_plain, rounds_once}
 use Rattle.slab_layer.specs.Slab.{SlabState, IsSlab, IsComplete, new_slab, chunks_out_by}
 use Rattle.slab_layer.specs.Cache.{SlabCacheState, IsSound, IsOfSize, IsOnGrid, IsChunkOf, IsSpanOf, chunk_of, chunk_tag, chunks_out, idle_chunks}
 use Rattle.slab_layer.specs.Moves.{IsAlike, Takes, Adds, Reaps}
-use Rattle.slab_layer.specs.Laws.{ChunksAreOfCache, ChunkFits, ChunkIsWholeQuanta, ReapedOutIsEmpty}
+use Rattle.slab_layer.specs.Laws.{ChunksAreOfCache, OutIsOfCache, ChunkFits, ChunkIsWholeQuanta, ReapedOutIsEmpty}
 use Rattle.slab_layer.proofs.ListLemmas.{both_nil}
 use Rattle.slab_layer.proofs.PassingLemmas.{none_passing}
 use Rattle.slab_layer.proofs.SearchLemmas.{next_stands}
@@ -77,6 +77,12 @@ reaps_span i s old new t reaps sound =
     subst (λ (x : Tag). IsSpanOf old x) (sym reaps.tag) (record { from = refl; by = refl; len = size.size; grid = grid.base; end = size.end })
 
 -- the laws
+some_factor : (k q : ℕ) → 0 < k * q → 0 < q
+some_factor k q some = elim (eq-zero-or-pos q) [
+  | inl none ↦ let e : k * q ≡ 0 = ap (λ (n : ℕ). k * n) none ∙ mul-zero k in absurd (omega (arith, e))
+  | inr more ↦ more
+]
+
 some_is_of : (b : Bool) (t : Tag) (c : SlabCacheState) → IsSound c → SomeChunk b t c → IsChunkOf c t
 some_is_of b t c sound some =
     let stands = some.chunk.stands in
@@ -93,24 +99,20 @@ chunks_are_of_cache c sound = (
       some_is_of true t c sound (idle_is_chunk t c (k, within, get_or_default (idle_chunks c) k t d within)),
 )
 
+pub out_is_of_cache : OutIsOfCache
+out_is_of_cache c sound f = sum_by-only_all (is_of_cache c.arena c.k) f (chunks_out c) (
+  λ i d within.
+      let t : Tag = get_or (chunks_out c) i d in
+      let chunk : IsChunkOf c t = (chunks_are_of_cache c sound).0 i d within in
+      ((tests_say t).3 c.arena c.k).1 (chunk.from, chunk.by)
+)
+
 pub chunk_fits : ChunkFits
-chunk_fits c t q chunk plain size = record {
-  size = chunk.len ∙ sym size;
-  whole = chunk.grid;
-  phase = λ some. absurd (some plain.align);
-  min = omega (arith, plain.min);
-  max = rw plain.max chunk.end;
-  nocross = λ some. absurd (some plain.nocross);
-}
+chunk_fits c t size chunk rounds =
+    (fits_plain c.quantum size t.holding.range.base t.holding.range.len).1 (chunk.len ∙ sym rounds, chunk.grid, chunk.end)
 
 pub chunk_is_whole_quanta : ChunkIsWholeQuanta
-chunk_is_whole_quanta c sound =
-    let n = chunk_of c in
-    let q = c.quantum in
-    let none : n % q ≡ 0 = mul-mod_left c.k q in
-    let less : q - n % q ≡ q = omega (arith, none) in
-    let rest : (q - n % q) % q ≡ 0 = ap (λ (m : ℕ). m % q) less ∙ mod_self q in
-    omega (arith, rest)
+chunk_is_whole_quanta c sound = rounds_once c.quantum (chunk_of c) (some_factor c.k c.quantum sound.some) (mul-mod_left c.k c.quantum)
 
 no_slab : (c : SlabCacheState) (slabs : List SlabState) → All (λ s. IsComplete s → ⊥) slabs → flat_map (λ s. chunks_out_by (chunk_tag c.arena c.k s) s) slabs ≡ [] → slabs ≡ []
 no_slab c [] none empty = refl

@@ -1,6 +1,7 @@
 -- What a contract sees of a slab cache, what lies in it, and what it keeps.
 use Rattle.std.specs.Prelude.{
-  ◌≡◌, ℕ, ◌+◌, ◌-◌, ◌*◌, ◌/◌, ◌%◌, ◌^◌, ◌<◌, ◌≤◌, List, All, AllPairs, map, length, nat_le, if◌then◌else◌,
+  ◌≡◌, ℕ, ◌+◌, ◌-◌, ◌*◌, ◌/◌, ◌%◌, ◌^◌, ◌<◌, ◌≤◌, List, All, AllPairs, map, length, nat_le,
+  if◌then◌else◌,
 }
 use Rattle.std.specs.List.{flat_map}
 use Rattle.std.specs.Option.{option_to_list}
@@ -35,7 +36,8 @@ spare_of slab_size chunk = slab_size - slab_size / chunk * chunk
 -- the colour after this one
 abbrev pub next_colour : SlabCacheState → ℕ
 next_colour c =
-    if nat_le (c.colour + c.quantum) (spare_of c.slab_size (chunk_of c)) then c.colour + c.quantum else 0
+    if nat_le (c.colour + c.quantum) (spare_of c.slab_size (chunk_of c))
+    then c.colour + c.quantum else 0
 
 -- the i-th chunk of a slab, as the segment that is handed out
 abbrev pub chunk_tag : ℕ → ℕ → SlabState → ℕ → Tag

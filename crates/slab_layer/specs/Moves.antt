@@ -1,7 +1,7 @@
 -- What the calls of a slab cache answer, and do.
 use Rattle.std.specs.Prelude.{
-  ◌≡◌, ◌≢◌, ℕ, ◌<◌, ◌≤◌, ◌⊎◌, Bool, true, false, List, Option, Some, None, Result, Ok, Err, All, Any, Contains,
-  length, take, drop, slice_index_or, slice_set,
+  ◌≡◌, ◌≢◌, ℕ, ◌<◌, ◌≤◌, ◌⊎◌, Bool, true, false, List, Option, Some, None, Result, Ok, Err, All,
+  Any, Contains, length, take, drop, slice_index_or, slice_set,
 }
 use Rattle.std.specs.List.{insert, remove}
 use Rattle.deed_core.specs.Extent.{Overlap, end_of}
@@ -65,7 +65,8 @@ TakeOf old None new = All IsAllOut old.slabs × (new ≡ old)
 TakeOf old (Some t) new = (i j : ℕ) × (s : SlabState) × Takes i j s old new t
 
 -- t is the j-th chunk of the i-th slab, and that is out, or at home
-pub record IsChunk (i j : ℕ) (s : SlabState) (b : Bool) (t : Tag) (c : SlabCacheState) : Type 0 where
+pub record IsChunk (i j : ℕ) (s : SlabState) (b : Bool) (t : Tag) (c : SlabCacheState)
+  : Type 0 where
   pub stands : StandsAt i s c.slabs
   pub within : j < length s.home
   pub home : slice_index_or s.home j b ≡ b
@@ -100,7 +101,8 @@ pub record Adds (i : ℕ) (old new : SlabCacheState) (span first : Tag) : Type 0
     k = old.k;
     quantum = old.quantum;
     slab_size = old.slab_size;
-    slabs = insert old.slabs i (with_chunk (new_slab span.holding old.colour (chunk_of old)) 0 false);
+    slabs =
+      insert old.slabs i (with_chunk (new_slab span.holding old.colour (chunk_of old)) 0 false);
     colour = next_colour old;
   }
 

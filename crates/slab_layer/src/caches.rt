@@ -20,8 +20,8 @@ use deed_core::{Deed, Route, Segment, Stored, insert_reserved};
 use std::alloc::Global;
 use std::marker::Model;
 
-/// Chunks of k quanta, cut from slabs of one size. It can't be dropped: `close` ends it. Contracts see
-/// it as `SlabCacheState`, its slabs in order of their bases.
+/// Chunks of k quanta, cut from slabs of one size. It can't be dropped: `close` ends it. Contracts
+/// see it as `SlabCacheState`, its slabs in order of their bases.
 pub struct SlabCache<D: Deed> {
     alloc: Global,
     arena: u32,
@@ -83,8 +83,8 @@ impl<D: Deed> SlabCache<D> {
         }
     }
 
-    /// The number of the arena that the spans come from. The clause `sound` tells what each cache keeps
-    /// to whoever holds one of which nothing else is known, as behind a lock.
+    /// The number of the arena that the spans come from. The clause `sound` tells what each cache
+    /// keeps to whoever holds one of which nothing else is known, as behind a lock.
     pub fn arena(&self) -> u32
         ensures value { result ≡ self.now.arena }
         ensures sound { IsSound self.now }
@@ -113,8 +113,8 @@ impl<D: Deed> SlabCache<D> {
         self.slab_size
     }
 
-    /// The lowest idle chunk of the lowest partial slab, else of the lowest complete one; none where
-    /// every chunk is out. It takes no memory.
+    /// The lowest idle chunk of the lowest partial slab, else of the lowest complete one; none
+    /// where every chunk is out. It takes no memory.
     ///
     /// That partial slabs are used before complete ones is from "The Slab Allocator", 1994; lowest
     /// first is our own choice.
@@ -124,11 +124,12 @@ impl<D: Deed> SlabCache<D> {
         ensures sound { IsSound self.new }
         ensures alike { IsAlike self.old self.new }
 
-        // What follows, for those above: what the chunk is, and, whatever is counted, that it is out and
-        // no longer here.
+        // What follows, for those above: what the chunk is, and, whatever is counted, that it is
+        // out and no longer here.
         ensures chunk { IfSome result (λ t. IsChunkOf self.old t) }
         ensures out { IfSome result (λ t. Gains (chunks_out self.old) (chunks_out self.new) t) }
-        ensures kept { IfSome result (λ t. Loses (deeds_of self.old) (deeds_of self.new) t.holding) }
+        ensures kept { IfSome result (λ t.
+            Loses (deeds_of self.old) (deeds_of self.new) t.holding) }
         ensures spans { span_tags self.new ≡ span_tags self.old }
     {
         let (i, j) = next_chunk(&self.slabs)?;
@@ -144,8 +145,8 @@ impl<D: Deed> SlabCache<D> {
         ensures sound { IsSound self.new }
         ensures alike { IsAlike self.old self.new }
 
-        // What follows, for those above: just what is out is taken, and, whatever is counted, it is here
-        // and no longer out.
+        // What follows, for those above: just what is out is taken, and, whatever is counted, it is
+        // here and no longer out.
         ensures mine { IsOk result ↔ Contains (chunks_out self.old) segment }
         ensures out { OnOk result (Loses (chunks_out self.old) (chunks_out self.new) segment) }
         ensures kept { OnOk result (Gains (deeds_of self.old) (deeds_of self.new) segment.holding) }
@@ -166,9 +167,10 @@ impl<D: Deed> SlabCache<D> {
 
     /// Cuts a span into a slab with the next colour, and gives its first chunk.
     ///
-    /// The span begins on the quantum's grid, as each segment does that an arena of this quantum carves.
-    /// The colours go up by one quantum from slab to slab, from 0 to the units that are in no chunk,
-    /// and then begin again ("The Slab Allocator", 1994). A span that is refused comes back whole.
+    /// The span begins on the quantum's grid, as each segment does that an arena of this quantum
+    /// carves. The colours go up by one quantum from slab to slab, from 0 to the units that are in
+    /// no chunk, and then begin again ("The Slab Allocator", 1994). A span that is refused comes
+    /// back whole.
     pub fn add(&mut self, span: Segment<D>) -> Result<Segment<D>, AddFault<Segment<D>>>
         requires arena { span.arena ≡ self.old.arena }
         requires route { span.route ≡ Route.Direct }
@@ -179,8 +181,8 @@ impl<D: Deed> SlabCache<D> {
         ensures sound { IsSound self.new }
         ensures alike { IsAlike self.old self.new }
 
-        // What follows, for those above: what the chunk is, and, whatever is counted, that it is out and
-        // that each other unit of the span is kept.
+        // What follows, for those above: what the chunk is, and, whatever is counted, that it is
+        // out and that each other unit of the span is kept.
         ensures chunk { IfOk result (λ t. IsChunkOf self.old t) }
         ensures out { IfOk result (λ t. Gains (chunks_out self.old) (chunks_out self.new) t) }
         ensures kept { IfOk result (λ t. (u : ℕ)
@@ -219,7 +221,8 @@ impl<D: Deed> SlabCache<D> {
     // Whether a segment is of the arena, and came by this cache.
     fn is_routed_here(&self, segment: &Segment<D>) -> bool
         ensures { IsTrue result
-            ↔ ((segment.now.arena ≡ self.now.arena) × (segment.now.route ≡ Route.Cached self.now.k)) }
+            ↔ ((segment.now.arena ≡ self.now.arena)
+            × (segment.now.route ≡ Route.Cached self.now.k)) }
     {
         segment.arena() == self.arena && segment.route() == Route::Cached(self.k)
     }
@@ -229,8 +232,8 @@ impl<D: Deed> SlabCache<D> {
         ensures value { result ≡ chunk_of self.now }
         ensures sound { IsSound self.now }
     {
-        // A chunk is no longer than a slab, so the product fits.
-        let _slab_size = self.slab_size;
+        // For its clause: a slab's units fit a `u64`, and a chunk's are no more.
+        let _ = self.slab_size();
         u64::from(self.k) * self.quantum
     }
 
@@ -247,8 +250,8 @@ impl<D: Deed> SlabCache<D> {
         }
     }
 
-    /// Takes the lowest slab with all chunks at home out, whole, to go back to the arena; none where
-    /// each slab has a chunk out. It takes no memory.
+    /// Takes the lowest slab with all chunks at home out, whole, to go back to the arena; none
+    /// where each slab has a chunk out. It takes no memory.
     ///
     /// Only such slabs are reclaimed ("The Slab Allocator", 1994); lowest first is our own choice.
     pub fn reap(&mut self) -> Option<Segment<D>>
@@ -257,8 +260,8 @@ impl<D: Deed> SlabCache<D> {
         ensures sound { IsSound self.new }
         ensures alike { IsAlike self.old self.new }
 
-        // What follows, for those above: what the span is, and, whatever is counted, that it left and
-        // no chunk of it was out.
+        // What follows, for those above: what the span is, and, whatever is counted, that it left
+        // and no chunk of it was out.
         ensures span { IfSome result (λ t. IsSpanOf self.old t) }
         ensures out { WeighSame (chunks_out self.old) (chunks_out self.new) }
         ensures kept { IfSome result (λ t. (u : ℕ)
@@ -287,7 +290,8 @@ impl<D: Deed> SlabCache<D> {
         total(&self.slabs)
     }
 
-    /// Ends the cache where no deed lies in it. Chunks that are out then have no slab to go back to.
+    /// Ends the cache where no deed lies in it. Chunks that are out then have no slab to go back
+    /// to.
     pub fn close(self) -> Result<(), SlabCache<D>>
         ensures empty { IsOk result ↔ (deeds_of self ≡ []) }
         ensures handed_back { IfErr result (λ same. same ≡ self) }

@@ -1,7 +1,7 @@
 //! One slab cache by itself: chunks of one size, cut from slabs of one size.
 //!
-//! A slab is a span that was carved directly from an arena. With chunks of 5 units, a quantum of 1 and a
-//! span of 18 units, the second slab of a cache stands so:
+//! A slab is a span that was carved directly from an arena. With chunks of 5 units, a quantum of 1
+//! and a span of 18 units, the second slab of a cache stands so:
 //!
 //! ```text
 //!     base
@@ -13,16 +13,16 @@
 //!      1    5           5           5          2
 //! ```
 //!
-//! The gap and the tail are never handed out. Each chunk is out or at home. The colours go 0, 1, 2, 3,
-//! 0, .. from slab to slab.
+//! The gap and the tail are never handed out. Each chunk is out or at home. The colours go 0, 1, 2,
+//! 3, 0, .. from slab to slab.
 //!
-//! With s slabs of n chunks, `take`, `put` and `reap` look at s * n places at most, `add` at s slabs and
-//! makes n deeds; an arena's units are no cost. A cache has a place for each chunk and four numbers for
-//! each slab.
+//! With s slabs of n chunks, `take` and `reap` look at s * n places at most, `put` and `add` at s
+//! slabs; `add` splits n deeds off and `reap` joins them. How many units they cover costs nothing.
+//! A cache has a place for each chunk, and a few numbers for each slab.
 //!
 //! Begin with [`SlabCache`]; its contracts speak of the words in `specs/Slab.antt` (a slab),
-//! `specs/Cache.antt` (a cache, what lies in it and what it keeps) and `specs/Moves.antt` (what a call
-//! answers and does). `laws` has what follows from them for those above.
+//! `specs/Cache.antt` (a cache, what lies in it and what it keeps) and `specs/Moves.antt` (what a
+//! call answers and does). `laws` has what follows from them for those above.
 #![tactic(auto)]
 
 mod caches;
