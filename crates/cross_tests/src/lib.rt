@@ -3,8 +3,8 @@
 //!
 //! They stand here and not in their crates, since the gate proves a crate once more for tests of its
 //! own. `base` is for `deed_core` and `refusing_deed`, `tables` for `deed_table`. `arenas` has rows
-//! of calls of an arena, over plain deeds and over deeds one of whose splits is refused.
-//! `seat_deeds` has an arena over the deeds of running threads.
+//! of calls of an arena, over plain deeds and over deeds one of whose splits is refused; `slabs` the
+//! same of a slab cache. `seat_deeds` has an arena over the deeds of running threads.
 #![tactic(auto)]
 
 #[cfg(test)]
@@ -13,5 +13,7 @@ mod arenas;
 mod base;
 #[cfg(test)]
 mod seat_deeds;
+#[cfg(test)]
+mod slabs;
 #[cfg(test)]
 mod tables;
