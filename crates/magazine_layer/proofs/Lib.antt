@@ -1,5 +1,5 @@
-pub mod Stocks
-pub mod Shapes
+pub mod ListLemmas
 pub mod Weighing
+pub mod Belonging
 pub mod Bounds
 pub mod Running

@@ -4,7 +4,7 @@ use Rattle.std.specs.Vec.Iter.{into_iter_items, into_iter_len}
 use Rattle.magazine_layer.specs.Rounds.{stock}
 use Rattle.magazine_layer.proofs.Bounds.{runs_few}
 use Rattle.magazine_layer.proofs.Running.{running_start, running_then, running_end}
-use Rattle.magazine_layer.proofs.Stocks.{size_some}
+use Rattle.magazine_layer.proofs.ListLemmas.{size_some}
 use Rattle.magazine_layer.proofs.Weighing.{runs_weigh}
 use Rattle.magazine_layer.proofs.rounds.run_rounds.Goals as goal
 

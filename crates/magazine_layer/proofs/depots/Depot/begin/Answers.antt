@@ -1,5 +1,5 @@
 use Rattle.std.proofs.Common.{◌<◌, arith}
-use Rattle.magazine_layer.proofs.Stocks.{room_first, room_old, stocked_old, stocked_first}
+use Rattle.magazine_layer.proofs.ListLemmas.{room_first, room_old, stocked_old, stocked_first}
 use Rattle.magazine_layer.proofs.depots.Depot.begin.Goals as goal
 
 pub invariant_of-self : goal.invariant_of-self

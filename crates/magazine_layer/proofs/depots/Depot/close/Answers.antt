@@ -1,6 +1,6 @@
 use Rattle.std.proofs.Common.{◌<◌, length, arith}
 use Rattle.std.proofs.lemmas.Bool.Decides.{nat_tests}
-use Rattle.magazine_layer.proofs.Stocks.{full_rounds, old_rounds}
+use Rattle.magazine_layer.proofs.ListLemmas.{full_rounds, old_rounds}
 use Rattle.magazine_layer.proofs.depots.Depot.close.Goals as goal
 
 pub returns-then-not-is_empty-clause-empty : goal.returns-then-not-is_empty-clause-empty

@@ -1,7 +1,7 @@
 use Rattle.std.proofs.Common.{◌≡◌, vec_len, sum_by, arith, ap, sym, ◌∙◌, refl}
 use Rattle.magazine_layer.specs.Depots.{depot_rounds}
 use Rattle.magazine_layer.proofs.Weighing.{resized_weigh}
-use Rattle.magazine_layer.proofs.Stocks.{room_resize, stocked_resize}
+use Rattle.magazine_layer.proofs.ListLemmas.{room_resize, stocked_resize}
 use Rattle.magazine_layer.proofs.depots.Depot.resize.Goals as goal
 
 pub invariant_of-self : goal.invariant_of-self

@@ -1,6 +1,6 @@
 use Rattle.std.proofs.Common.{◌≡◌, [], length, min, vec_len, ap, sym, ◌∙◌, refl}
 use Rattle.magazine_layer.proofs.Weighing.{swap_full_weigh}
-use Rattle.magazine_layer.proofs.Stocks.{stocked_with, whole_pop, empty_push, room_swap}
+use Rattle.magazine_layer.proofs.ListLemmas.{stocked_with, whole_pop, empty_push, room_swap}
 use Rattle.magazine_layer.proofs.depots.Depot.swap_for_full.Goals as goal
 
 pub invariant_of-self-2 : goal.invariant_of-self-2
