@@ -6,10 +6,8 @@ use Rattle.std.proofs.lemmas.List.{append-nil, drop-append-le, length-append}
 use Rattle.deed_core.specs.Extent.{end_of}
 use Rattle.deed_core.specs.Holding.{Holding, GoesOn, joined, low, high}
 use Rattle.deed_core.specs.Rows.{IsRow, row_of}
+use Rattle.deed_core.proofs.Counting.{same_holding}
 
--- deeds of one root, one base and one length are seen alike
-pub same_holding : (a b : Holding) → a.root ≡ b.root → a.range.base ≡ b.range.base → a.range.len ≡ b.range.len → a ≡ b
-same_holding a b root base len = λ i. record { root = root i; range = record { base = base i; len = len i } }
 
 -- one list begins at one unit
 pub row_starts : (root a b end : ℕ) (ds : List Holding) → IsRow root a ds end → IsRow root b ds end → a ≡ b
