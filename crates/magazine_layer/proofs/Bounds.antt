@@ -1,5 +1,5 @@
 -- How many exchanges a run makes: between two of them lie as many operations as a magazine has rounds.
-use Rattle.std.proofs.Common.{◌≡◌, ℕ, ◌+◌, ◌-◌, ◌*◌, ◌/◌, ◌<◌, ◌≤◌, ◌⊎◌, zero, suc, List, [], ◌∷◌, length, inl, inr, arith, refl, ap, sym, ◌∙◌, length-append}
+use Rattle.std.proofs.Common.{◌≡◌, ℕ, ◌+◌, ◌-◌, ◌*◌, ◌/◌, ◌<◌, ◌≤◌, ◌⊎◌, zero, suc, List, [], ◌∷◌, length, inl, inr, arith, refl, ap, ◌∙◌, length-append}
 use Rattle.std.proofs.Math.Nat.{le-div_iff_mul-le}
 use Rattle.deed_core.specs.Tag.{Tag}
 use Rattle.magazine_layer.specs.Magazines.{CpuCacheState, IsShaped, BothFull, Pops, Of_loaded, Of_previous, Pushes, On_loaded, On_previous, cache_rounds}

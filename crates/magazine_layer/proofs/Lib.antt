@@ -3,3 +3,4 @@ pub mod Weighing
 pub mod Belonging
 pub mod Bounds
 pub mod Running
+pub mod LawProofs

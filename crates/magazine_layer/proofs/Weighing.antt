@@ -1,12 +1,11 @@
 -- No call makes or loses a round, however rounds are weighed.
-use Rattle.std.proofs.Common.{◌≡◌, ℕ, ◌+◌, List, [], ◌∷◌, ◌++◌, ◌<◌, take, get_or, min, inl, inr, arith, refl, ap, sym, ◌∙◌, append-nil, flat_map, sum_by}
+use Rattle.std.proofs.Common.{◌≡◌, ℕ, ◌+◌, List, [], ◌∷◌, ◌++◌, ◌<◌, take, get_or, min, inl, inr, arith, refl, ap, sym, ◌∙◌, append-nil, flat_map, length, sum_by}
 use Rattle.std.proofs.lemmas.Grind.{flat_map-append}
 use Rattle.std.proofs.lemmas.List.{take_more}
 use Rattle.std.proofs.lemmas.List.Sums.{sum_by-append, sum_by-cons, sum_by_push}
-use Rattle.std.specs.Prelude.{Option, Some, None, Result, Ok, Err, IfSome, OnOk, tt}
 use Rattle.deed_core.specs.Tag.{Tag}
 use Rattle.deed_core.specs.Weights.{WeighSame, Gains, Loses}
-use Rattle.magazine_layer.specs.Magazines.{CpuCacheState, MagazineState, Pops, Of_loaded, Of_previous, Pushes, On_loaded, On_previous, cache_rounds, after_change}
+use Rattle.magazine_layer.specs.Magazines.{CpuCacheState, MagazineState, Pops, Of_loaded, Of_previous, Pushes, On_loaded, On_previous, cache_rounds}
 use Rattle.magazine_layer.specs.Depots.{DepotState, SwapsForFull, SwapsForEmpty, PutsFull, Begins, Drains, ReapsRound, all_rounds, depot_rounds, after_resize, after_trim}
 use Rattle.magazine_layer.specs.Rounds.{CpuDepot, TakesRound, Own_taken, Swapped, None_full, Old_size, MakesRoom, By_empty, By_new, By_change, GivesRound, Own_given, Made, No_room, StepsRound, RunsRounds, Start, Then, rounds_of, rounds_of_op, rounds_of_answer}
 use Rattle.magazine_layer.specs.declared.rounds.RoundOp.{RoundOp}

@@ -1,7 +1,9 @@
 -- What a contract sees of a depot, and what its calls do.
-use Rattle.std.specs.Prelude.{◌≡◌, ℕ, ◌+◌, ◌-◌, ◌<◌, ◌≤◌, ◌⊎◌, List, [], ◌∷◌, ◌++◌, length, min, All, flat_map}
+use Rattle.std.specs.Prelude.{◌≡◌, ℕ, ◌+◌, ◌-◌, ◌<◌, ◌≤◌, ◌⊎◌, List, [], ◌∷◌, ◌++◌}
+use Rattle.std.specs.Prelude.{length, min, All, flat_map}
 use Rattle.deed_core.specs.Tag.{Tag}
-use Rattle.magazine_layer.specs.Magazines.{IsSize, CpuCacheState, MagazineState, cache_rounds, with_rounds}
+use Rattle.magazine_layer.specs.Magazines.{IsSize, CpuCacheState, MagazineState}
+use Rattle.magazine_layer.specs.Magazines.{cache_rounds, with_rounds}
 
 -- what a contract sees of a depot
 pub record DepotState : Type 0 where
@@ -72,7 +74,8 @@ with_lists full empty d = record d {
 
 -- the newest full magazine is loaded, loaded is the previous one, and that one, which is empty, is
 -- the depot's
-pub record SwapsForFull (c : CpuCacheState) (d : DepotState) (c' : CpuCacheState) (d' : DepotState) : Type 0 where
+pub record SwapsForFull (c : CpuCacheState) (d : DepotState) (c' : CpuCacheState)
+    (d' : DepotState) : Type 0 where
   pub sized : c.size ≡ d.size
   pub newest : d.full ≡ d'.full ++ c'.loaded ∷ []
   pub whole : length c'.loaded ≡ c.size
@@ -81,14 +84,16 @@ pub record SwapsForFull (c : CpuCacheState) (d : DepotState) (c' : CpuCacheState
 
 -- an empty magazine is loaded, loaded is the previous one, and that one, which is full, is the
 -- depot's newest
-pub record SwapsForEmpty (c : CpuCacheState) (d : DepotState) (c' : CpuCacheState) (d' : DepotState) : Type 0 where
+pub record SwapsForEmpty (c : CpuCacheState) (d : DepotState) (c' : CpuCacheState)
+    (d' : DepotState) : Type 0 where
   pub sized : c.size ≡ d.size
   pub one : d.empty ≡ d'.empty + 1
   pub cache : c' ≡ with_rounds [] c.loaded c
   pub depot : d' ≡ with_lists (d.full ++ c.previous ∷ []) d'.empty d
 
 -- the same with a magazine from elsewhere
-pub record PutsFull (m : MagazineState) (c : CpuCacheState) (d : DepotState) (c' : CpuCacheState) (d' : DepotState) : Type 0 where
+pub record PutsFull (m : MagazineState) (c : CpuCacheState) (d : DepotState)
+    (c' : CpuCacheState) (d' : DepotState) : Type 0 where
   pub sized : (c.size ≡ d.size) × (m.size ≡ d.size)
   pub cache : c' ≡ with_rounds m.rounds c.loaded c
   pub depot : d' ≡ with_lists (d.full ++ c.previous ∷ []) d.empty d
@@ -119,7 +124,11 @@ pub record BeginsFull (d d' : DepotState) : Type 0 where
   pub none_old : d.old_full ≡ []
   pub some : 0 < d.full_reapable
   pub oldest : d.full ≡ d'.draining ∷ d'.full
-  pub rest : d' ≡ record d { full = d'.full; full_reapable = d.full_reapable - 1; draining = d'.draining }
+  pub rest : d' ≡ record d {
+    full = d'.full;
+    full_reapable = d.full_reapable - 1;
+    draining = d'.draining;
+  }
 
 -- the magazine to reap from is being drained: the one that was, else the first that may be
 abbrev pub Begins : DepotState → DepotState → Type 0

@@ -7,8 +7,8 @@ abbrev pub IsSize : ℕ → Type 0
 IsSize m = (m ≡ 3) ⊎ (m ≡ 7) ⊎ (m ≡ 15) ⊎ (m ≡ 31)
 
 -- each of these rounds is one of those: whatever holds of all those holds of all these
-abbrev pub AreAmong : List Tag → List Tag → Type 0
-AreAmong these those = All (Contains those) these
+pub record AreAmong (these those : List Tag) : Type 0 where
+  pub each : All (Contains those) these
 
 -- how many rounds a magazine can hold, and those in it, the last in at the end
 pub record MagazineState : Type 0 where

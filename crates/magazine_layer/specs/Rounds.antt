@@ -1,5 +1,5 @@
 -- Runs of operations over a CPU's cache and its depot.
-use Rattle.std.specs.Prelude.{◌≡◌, ◌≢◌, ℕ, ◌+◌, ◌⊎◌, List, [], ◌∷◌, ◌++◌, length}
+use Rattle.std.specs.Prelude.{◌≡◌, ◌≢◌, ℕ, ◌+◌, ◌⊎◌, List, [], ◌∷◌, ◌++◌}
 use Rattle.deed_core.specs.Tag.{Tag}
 use Rattle.magazine_layer.specs.Magazines.{CpuCacheState, BothEmpty, BothFull, Pops, Pushes}
 use Rattle.magazine_layer.specs.Magazines.{after_change, empty_magazine}

@@ -78,6 +78,7 @@ impl<D: Deed> CpuCache<D> {
 
     /// Takes the last round of loaded, or of previous where loaded is empty and previous is full.
     /// It takes no memory.
+    #[tactic(auto, using(crate::proofs::Weighing::pops_weigh))]
     pub fn take(&mut self) -> Option<Segment<D>>
         // what it does
         ensures of { PopOf self.old result self.new }
@@ -98,6 +99,7 @@ impl<D: Deed> CpuCache<D> {
 
     /// Puts a round on loaded, or on previous where loaded is full and previous is empty. It takes
     /// no memory.
+    #[tactic(auto, using(crate::proofs::Weighing::pushes_weigh))]
     pub fn give(&mut self, segment: Segment<D>) -> Result<(), Segment<D>>
         // what it does
         ensures of { PushOf self.old segment result self.new }
@@ -132,6 +134,7 @@ impl<D: Deed> CpuCache<D> {
         ensures kinds { AreAmong (cache_rounds self.new) (cache_rounds self.old) }
         ensures shape { IsShaped self.new }
     {
+        // For its clause: the magazine's size is one of the four.
         let _ = loaded.size();
         let mut old_loaded = mem::replace(&mut self.loaded, loaded);
         let mut old_previous = mem::replace(&mut self.previous, previous);
@@ -152,9 +155,10 @@ impl<D: Deed> CpuCache<D> {
         ensures kinds { AreAmong (cache_rounds self.new) (cache_rounds self.old) }
         ensures shape { IsShaped self.new }
     {
+        // For its clause: the cache has its shape.
         let _ = self.size();
-        let (loaded, previous) = two_empty(alloc, size)?;
-        self.change(loaded, previous);
+        let (first, second) = two_empty(alloc, size)?;
+        self.change(first, second);
         Ok(())
     }
 
@@ -166,6 +170,7 @@ impl<D: Deed> CpuCache<D> {
         ensures out { result ≡ record { size = self.old.size; rounds = self.old.previous } }
         ensures shape { IsShaped self.new }
     {
+        // For its clause: the magazine has no more rounds than its size.
         let _ = magazine.size();
         let loaded = mem::replace(&mut self.loaded, magazine);
         mem::replace(&mut self.previous, loaded)

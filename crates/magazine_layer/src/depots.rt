@@ -159,8 +159,8 @@ impl<D: Deed> Depot<D> {
     }
 
     /// Takes a full magazine of a CPU whose magazines are both full, which gets this one for it. It
-    /// makes the room that the other calls need later; out of memory for that is the last thing that
-    /// it refuses for.
+    /// makes the room that the other calls need later, and is out of memory for nothing else, which
+    /// it tells last.
     pub fn put_full(
         &mut self,
         cpu: &mut CpuCache<D>,
@@ -230,6 +230,7 @@ impl<D: Deed> Depot<D> {
     /// Takes one round of the magazine being drained, else of the oldest full one of an old size,
     /// else of the oldest full one outside the working set. It discards the empty ones outside the
     /// working set in any case, also where it has no round to give. It takes no memory.
+    #[tactic(auto, using(crate::proofs::Weighing::reaps_weigh))]
     pub fn reap(&mut self) -> Option<Segment<D>>
         // what it does
         ensures of { DepotReapOf self.old result self.new }

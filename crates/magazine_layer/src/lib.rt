@@ -6,26 +6,26 @@
 //! which keeps count of what its lists need, so that the rest can be reaped. `run_rounds` puts the
 //! two together, and its contract bounds the exchanges.
 //!
-//! A depot of magazines of three rounds, one of which is being drained:
+//! A depot of magazines of three rounds, one of an older size of which is being drained:
 //!
 //! ```text
-//! old_full   [..] [..]        of smaller sizes          reaped first, the oldest on the left
-//! draining   [c d]            what is left of a magazine
-//! full       [...] [...] [...]   full_reapable 1        reaped next: that many on the left
-//! empty      [   ] [   ]         empty_reapable 2       discarded by each reap: that many
-//!                        ^ `swap_for_full` and `swap_for_empty` take and put at the right end
+//! draining  [c d]                 what is left of a magazine: goes first, d before c
+//! old_full  [..] [..]             full ones of smaller sizes: go next, the oldest (left) first
+//! full      [...] [...] [...]     full_reapable 1: that many, from the left, go after these
+//! empty     [   ] [   ] [   ]     empty_reapable 2: that many are discarded by each reap
+//!                           ^     swaps put and take here, at the right
 //! ```
 //!
-//! `tick` makes each reapable number its list's length, and a list that gets shorter than its number
-//! makes it that length: so it is the least length since the tick, less what was reaped.
+//! `tick` makes each reapable number its list's length, and a list that gets shorter than its
+//! number makes it that length. So it is the least length since the tick, less what was reaped.
 //!
-//! What a call costs: `take` and `give` a few instructions; an exchange the same; `change`,
-//! `discard` and `close` of a CPU's cache the rounds that they move, at most 62; `reap` the lengths
-//! of the lists of full and empty magazines, since the oldest stand first; `resize` the number of
-//! magazines; `units` the number of rounds.
+//! What a call costs: `take`, `give` and the swaps take constant time, `put_full` too but for the
+//! growth of lists; `change` moves the cache's rounds, at most 62. The oldest magazines stand first
+//! in their lists, so `reap`, `resize` and a depot's `close` move the rest of a list for each
+//! magazine that they take out of it. `units` goes over all rounds.
 //!
-//! What contracts see of each type stands in `specs/`: begin with `Magazines.antt`, and
-//! `Calls.antt` says by each answer what a call did. Runs of the whole are in `cross_tests`.
+//! What contracts see of each type stands in `specs/`: begin with `Magazines.antt`. What a call did,
+//! by its answer, stands in `Calls.antt`. Runs of the whole are in `cross_tests`.
 #![tactic(auto)]
 
 mod cpu_caches;

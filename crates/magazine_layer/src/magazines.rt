@@ -99,6 +99,7 @@ impl<D: Deed> Magazine<D> {
     }
 
     /// Takes the last round that was put in. It takes no memory.
+    #[tactic(auto, using(crate::proofs::Weighing::last_weighs))]
     pub fn take(&mut self) -> Option<Segment<D>>
         // what it does
         ensures of { MagazineTakeOf self.old result self.new }
@@ -169,7 +170,8 @@ pub(crate) fn units_of_rounds<D: Deed>(rounds: &[Segment<D>]) -> u128
     ensures value { result ≡ units_tagged rounds.now }
     ensures bound { result < 2 ^ 126 }
 {
-    let _count = rounds.len();
+    // For its clause: there are fewer than 2^64 rounds.
+    let _ = rounds.len();
     let mut total: u128 = 0;
     for round in rounds {
         total += u128::from(round.range().len());

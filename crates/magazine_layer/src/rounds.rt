@@ -80,6 +80,7 @@ fn take_round<D: Deed>(alloc: Global, cpu: &mut CpuCache<D>, depot: &mut Depot<D
             exchanges: 0,
         },
         Err(FullFault::OldSize(size)) => {
+            // Out of memory leaves the cache as it is, and there is no round to take in any case.
             let _ = cpu.change_over(alloc, size);
             Step {
                 answer: RoundAnswer::Nothing,
@@ -95,7 +96,8 @@ fn make_room<D: Deed>(alloc: Global, cpu: &mut CpuCache<D>, depot: &mut Depot<D>
     requires full { BothFull cpu.old }
     requires sizes { cpu.old.size ≤ depot.old.size }
     ensures made { IfSome result
-        (λ exchanges. MakesRoom (cpu_depot cpu.old depot.old) (cpu_depot cpu.new depot.new) exchanges) }
+        (λ exchanges. MakesRoom (cpu_depot cpu.old depot.old) (cpu_depot cpu.new depot.new)
+        exchanges) }
     ensures room { OnSome result (¬ BothFull cpu.new) }
     ensures most { IfSome result (λ exchanges. exchanges ≤ 1) }
     ensures memory { IfNone result (NeedsMemory (cpu_depot cpu.old depot.old)) }
@@ -108,7 +110,9 @@ fn make_room<D: Deed>(alloc: Global, cpu: &mut CpuCache<D>, depot: &mut Depot<D>
         Ok(()) => Some(1),
         Err(EmptyFault::NoneEmpty) => put_new(alloc, cpu, depot),
         Err(EmptyFault::OldSize(size)) => {
-            cpu.change_over(alloc, size).ok()?;
+            if cpu.change_over(alloc, size).is_err() {
+                return None;
+            }
             Some(0)
         }
     }
@@ -120,7 +124,8 @@ fn put_new<D: Deed>(alloc: Global, cpu: &mut CpuCache<D>, depot: &mut Depot<D>) 
     requires sizes { cpu.old.size ≡ depot.old.size }
     requires none { depot.old.empty ≡ 0 }
     ensures made { IfSome result
-        (λ exchanges. MakesRoom (cpu_depot cpu.old depot.old) (cpu_depot cpu.new depot.new) exchanges) }
+        (λ exchanges. MakesRoom (cpu_depot cpu.old depot.old) (cpu_depot cpu.new depot.new)
+        exchanges) }
     ensures room { OnSome result (¬ BothFull cpu.new) }
     ensures most { IfSome result (λ exchanges. exchanges ≤ 1) }
     ensures unchanged { IfNone result (cpu_depot cpu.new depot.new ≡ cpu_depot cpu.old depot.old) }
@@ -129,6 +134,7 @@ fn put_new<D: Deed>(alloc: Global, cpu: &mut CpuCache<D>, depot: &mut Depot<D>) 
     ensures size { depot.new.size ≡ depot.old.size }
 {
     let Ok(magazine) = Magazine::new(alloc, depot.size()) else {
+        // For its clause: the cache has its shape.
         let _ = cpu.size();
         return None;
     };
@@ -227,6 +233,7 @@ pub fn run_rounds<D: Deed>(
     ensures sizes { (cpu.new.size ≤ depot.new.size) × (depot.new.size ≡ depot.old.size) }
     ensures shape { IsShaped cpu.new }
 {
+    // For their clauses: the cache has its shape, and the depot's size is one of the four.
     let _ = cpu.size();
     let _ = depot.size();
     let Ok(answers) = Vec::with_capacity(alloc, ops.len()) else {
