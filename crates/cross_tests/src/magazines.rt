@@ -1,10 +1,13 @@
-//! Worked runs, most of them at M 3.
-ghost use Rattle.std.specs.Prelude.{◌≡◌, ◌≤◌, []};
+//! Worked runs of giving and taking over a CPU's cache and its depot, most of them with magazines of
+//! three rounds.
+ghost use Rattle.std.specs.Prelude.{◌≡◌, ◌≤◌};
+ghost use Rattle.magazine_layer.specs.Magazines.{IsSize, BothEmpty};
 
-use crate::{
-    CpuCache, Depot, FullFault, Magazine, NotGreater, RoundAnswer, RoundOp, RoundRun, run_rounds,
-};
 use deed_core::{PlainDeed, Range, Route, Segment};
+use magazine_layer::{
+    CpuCache, Depot, FullFault, Magazine, NotGreater, RoundAnswer, RoundOp, RoundRun,
+    is_magazine_size, run_rounds, two_empty,
+};
 use std::alloc::Global;
 use std::process::Abort;
 
@@ -101,6 +104,42 @@ fn rounds(rt: HostRuntime) {
     assert_eq!(rt; taken.as_slice(), [6, 5, 4, 3, 2, 1, 0].as_slice());
     assert_eq!(rt; exchanges, 2);
     close(&rt, cpu, depot);
+}
+
+// Magazines of each size: two of them and one round more are given, and taken again.
+#[test]
+fn sizes(rt: HostRuntime) {
+    let alloc = rt.alloc();
+    let mut run = 0;
+    for size in 0..40 {
+        if is_magazine_size(size) {
+            fills_and_empties(&rt, alloc, size);
+            run += 1;
+        }
+    }
+    assert_eq!(rt; run, 4);
+}
+
+fn fills_and_empties(rt: &impl Abort, alloc: Global, size: usize)
+    requires { IsSize size }
+{
+    let mut cpu = CpuCache::new(alloc, size).ok().expect(rt, "memory");
+    let mut depot = Depot::new(alloc, size);
+    let most = 2 * size + 1;
+    let given = ops(rt, alloc, 0, most as u64, 0);
+    let (_, exchanges) = run(rt, alloc, &mut cpu, &mut depot, given);
+    assert_eq!(rt; exchanges, 1);
+    assert_eq!(rt; depot.units(), size as u128);
+    assert_eq!(rt; cpu.units(), size as u128 + 1);
+    let last = ops(rt, alloc, 0, 0, most);
+    let (taken, exchanges) = run(rt, alloc, &mut cpu, &mut depot, last);
+    assert_eq!(rt; taken.len(), most);
+    for (at, base) in taken.iter().enumerate() {
+        assert_eq!(rt; *base, (most as u64).saturating_sub(at as u64 + 1));
+    }
+    assert_eq!(rt; exchanges, 1);
+    assert!(rt; cpu.is_empty());
+    close(rt, cpu, depot);
 }
 
 // A second run meets an empty magazine in the depot, where the first had to make one.
@@ -254,13 +293,11 @@ fn changes_over(
     cpu: CpuCache<PlainDeed>,
     depot: &mut Depot<PlainDeed>,
 ) -> CpuCache<PlainDeed>
-    requires loaded { cpu.loaded ≡ [] }
-    requires previous { cpu.previous ≡ [] }
+    requires { BothEmpty cpu }
 {
     let mut cpu = cpu;
     assert_eq!(rt; depot.swap_for_full(&mut cpu), Err(FullFault::OldSize(7)));
-    let loaded = Magazine::new(alloc, 7).ok().expect(rt, "memory");
-    let previous = Magazine::new(alloc, 7).ok().expect(rt, "memory");
+    let (loaded, previous) = two_empty(alloc, 7).ok().expect(rt, "memory");
     cpu.change(loaded, previous);
     assert_eq!(rt; depot.swap_for_full(&mut cpu), Err(FullFault::NoneFull));
     cpu
