@@ -1,6 +1,6 @@
 use Rattle.deed_core.specs.Request.{IsPlain}
 use Rattle.tag_arena.proofs.Choosing.{newest_choice, newest_placed}
-use Rattle.tag_arena.proofs.instants.instant.Goals as goal
+use Rattle.tag_arena.proofs.power_lists.instant.Goals as goal
 
 pub returns-clause-choice : goal.returns-clause-choice
 returns-clause-choice g c =

@@ -2,7 +2,7 @@
 ghost use Rattle.std.specs.Prelude.{◌≡◌, ◌+◌, ◌<◌, Contains, HoldsAt, MatchOption, length};
 ghost use Rattle.tag_arena.specs.Found.{LowestSoFar};
 
-use crate::stretches::{Stretch, stretch_at};
+use crate::held_ranges::{HeldRange, held_range_at};
 use deed_core::{Deed, Stored};
 
 /// An owned span that is a free range, and where it stands in both lists.
@@ -10,16 +10,16 @@ use deed_core::{Deed, Stored};
 pub struct Whole {
     pub at: usize,
     pub free_at: usize,
-    pub span: Stretch,
+    pub span: HeldRange,
 }
 
 /// Where the free range with this root and range stands.
-fn place_of<D: Deed>(free: &[Stored<D>], range: Stretch) -> Option<usize>
+fn place_of<D: Deed>(free: &[Stored<D>], range: HeldRange) -> Option<usize>
     ensures { MatchOption result (¬ Contains free.now range)
         (λ at. (at < length free.now) × HoldsAt (λ r. r ≡ range) free.now at) }
 {
     for at in 0..free.len() {
-        if stretch_at(free, at) == range {
+        if held_range_at(free, at) == range {
             return Some(at);
         }
     }
@@ -27,7 +27,7 @@ fn place_of<D: Deed>(free: &[Stored<D>], range: Stretch) -> Option<usize>
 }
 
 /// The span that stands at `at` among the owned ones, if it is a free range.
-fn whole_at<D: Deed>(free: &[Stored<D>], at: usize, span: Stretch) -> Option<Whole>
+fn whole_at<D: Deed>(free: &[Stored<D>], at: usize, span: HeldRange) -> Option<Whole>
     ensures { MatchOption result (¬ Contains free.now span)
         (λ whole. (whole ≡ record { at = at; free_at = whole.free_at; span = span })
         × (whole.free_at < length free.now) × HoldsAt (λ r. r ≡ span) free.now whole.free_at) }
@@ -39,7 +39,7 @@ fn whole_at<D: Deed>(free: &[Stored<D>], at: usize, span: Stretch) -> Option<Who
 /// The lower of one span more than `lowest` is the lowest of. The free ranges are searched only for a span
 /// that is lower than the lowest so far.
 fn lower<D: Deed>(
-    owned: &[Stretch],
+    owned: &[HeldRange],
     free: &[Stored<D>],
     at: usize,
     lowest: Option<Whole>,
@@ -59,7 +59,7 @@ fn lower<D: Deed>(
 }
 
 /// The lowest owned span that is a free range.
-pub fn lowest_whole<D: Deed>(owned: &[Stretch], free: &[Stored<D>]) -> Option<Whole>
+pub fn lowest_whole<D: Deed>(owned: &[HeldRange], free: &[Stored<D>]) -> Option<Whole>
     ensures { LowestSoFar owned.now free.now (length owned.now) result }
 {
     let mut lowest = None;

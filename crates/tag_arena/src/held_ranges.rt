@@ -7,12 +7,12 @@ use std::marker::Model;
 
 /// A range of a root. A contract sees it as a deed of the same is seen.
 #[derive(Clone, Copy, PartialEq, Eq, Debug)]
-pub struct Stretch {
+pub struct HeldRange {
     root: u32,
     range: Range,
 }
 
-impl Model for Stretch {
+impl Model for HeldRange {
     ghost use Rattle.deed_core.specs.Holding.{Holding};
 
     ghost Value = { Holding };
@@ -22,11 +22,11 @@ impl Model for Stretch {
     ghost inverse = { λ h. record { root = h.root; range = h.range } };
 }
 
-impl Stretch {
-    pub fn new(root: u32, range: Range) -> Stretch
+impl HeldRange {
+    pub fn new(root: u32, range: Range) -> HeldRange
         ensures { result ≡ record { root = root; range = range } }
     {
-        Stretch { root, range }
+        HeldRange { root, range }
     }
 
     pub fn root(&self) -> u32
@@ -65,18 +65,18 @@ impl Stretch {
 }
 
 /// What the deed stands for.
-pub fn stretch_of<D: Deed>(stored: &Stored<D>) -> Stretch
+pub fn held_range_of<D: Deed>(stored: &Stored<D>) -> HeldRange
     ensures value { result ≡ stored.now }
     ensures range { IsRange stored.now.range }
 {
-    Stretch::new(stored.root(), stored.range())
+    HeldRange::new(stored.root(), stored.range())
 }
 
 /// What the deed at a place stands for.
-pub fn stretch_at<D: Deed>(free: &[Stored<D>], at: usize) -> Stretch
+pub fn held_range_at<D: Deed>(free: &[Stored<D>], at: usize) -> HeldRange
     requires { at < length free.now }
     ensures here { HoldsAt (λ r. r ≡ result) free.now at }
     ensures range { IsRange result.range }
 {
-    stretch_of(&free[at])
+    held_range_of(&free[at])
 }

@@ -7,19 +7,19 @@ ghost use Rattle.tag_arena.specs.Choice.{IsInstantChoice, OnList};
 ghost use Rattle.tag_arena.specs.Found.{NewestSoFar, IsPlaced, base_of};
 
 use crate::choices::{Found, best};
-use crate::stretches::{Stretch, stretch_at};
+use crate::held_ranges::{HeldRange, held_range_at};
 use deed_core::{Deed, Request, Stored};
 
 /// A place in the list of free ranges, the range there, and the number of its power-of-two list.
 #[derive(Clone, Copy)]
 pub struct Listed {
     pub at: usize,
-    pub range: Stretch,
+    pub range: HeldRange,
     pub list: u32,
 }
 
 /// The power-of-two list that the range is on.
-fn list_of(range: &Stretch, quantum: u64) -> Option<u32>
+fn list_of(range: &HeldRange, quantum: u64) -> Option<u32>
     requires { 0 < quantum }
     ensures { MatchOption result ((i : ℕ) → OnList quantum range.now i → ⊥)
         (λ list. (list < 64) × (2 ^ list * quantum < 2 ^ 64) × OnList quantum range.now list
@@ -46,7 +46,7 @@ fn newer<D: Deed>(
     requires newest { NewestSoFar quantum len free.now at newest }
     ensures { NewestSoFar quantum len free.now (at + 1) result }
 {
-    let range = stretch_at(free, at);
+    let range = held_range_at(free, at);
     let Some(list) = list_of(&range, quantum) else {
         return newest;
     };

@@ -2,7 +2,7 @@ use Rattle.std.proofs.Common.{subst, sym, ◌∙◌}
 use Rattle.std.proofs.lemmas.List.{get_or_default}
 use Rattle.tag_arena.specs.Found.{LowestSoFar}
 use Rattle.tag_arena.proofs.Scans.{lowest_alone}
-use Rattle.tag_arena.proofs.wholes.lower.Goals as goal
+use Rattle.tag_arena.proofs.whole_spans.lower.Goals as goal
 
 pub returns-in_default : goal.returns-in_default
 returns-in_default g c =

@@ -1,6 +1,6 @@
 use Rattle.std.proofs.Common.{◌≡◌, ◌/◌, ◌^◌, ◌*◌, ◌<◌, ◌≤◌, ap, arith}
 use Rattle.tag_arena.proofs.PowerLists.{on_list, one_list}
-use Rattle.tag_arena.proofs.instants.list_of.Goals as goal
+use Rattle.tag_arena.proofs.power_lists.list_of.Goals as goal
 
 pub returns-else-quanta-eq0 : goal.returns-else-quanta-eq0
 returns-else-quanta-eq0 c =

@@ -1,6 +1,6 @@
 use Rattle.std.proofs.Common.{◌≡◌, length, subst, arith}
 use Rattle.tag_arena.specs.Found.{LowestSoFar}
-use Rattle.tag_arena.proofs.wholes.lowest_whole.Goals as goal
+use Rattle.tag_arena.proofs.whole_spans.lowest_whole.Goals as goal
 
 pub returns : goal.returns
 returns g c =
