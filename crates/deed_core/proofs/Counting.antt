@@ -1,11 +1,10 @@
 -- What lists weigh by weights that count one member, or those of a kind.
-use Rattle.std.proofs.Common.{◌≡◌, ℕ, ◌+◌, ◌<◌, ◌≤◌, ◌↔◌, Bool, true, false, not, ◌&&◌, nat_eq, List, [], ◌∷◌, Contains, refl, sym, ap, subst, ◌∙◌, inl, inr, arith}
-use Rattle.std.specs.Prelude.{sum_by, count_by, All, ◌==◌}
-use Rattle.std.proofs.lemmas.Bool.{cases_eq}
+use Rattle.std.proofs.Common.{◌≡◌, ℕ, ◌<◌, ◌≤◌, Bool, true, false, not, ◌&&◌, Contains, refl, ap, subst, ◌∙◌, arith}
+use Rattle.std.specs.Prelude.{◌==◌}
 use Rattle.std.proofs.lemmas.Bool.Decides.{nat_tests}
 use Rattle.deed_core.specs.Holding.{Holding}
 use Rattle.deed_core.specs.Tag.{Tag}
-use Rattle.deed_core.specs.Selections.{is_direct, is_cached_by, is_of_arena, came_direct, came_cached, is_of_cache, equal_route, equal_held, equal_tag}
+use Rattle.deed_core.specs.Selections.{is_direct, is_cached_by, is_of_arena, equal_route, equal_held, equal_tag}
 use Rattle.deed_core.specs.Weights.{one_at, one_at_held}
 use Rattle.deed_core.specs.declared.segments.Route.{Route}
 use Rattle.deed_core.specs.declared.segments.Route.TheVariants.{Direct, Cached}
@@ -48,14 +47,14 @@ not_direct_is (Cached k) e = (k, refl)
 
 pub tests_say : TestsSay
 tests_say t = (
-      (λ arena. ((λ e. equal_to t.arena arena e), (λ e. rw e (equal_itself arena)))),
-      ((λ e. direct_is t.route e), (λ e. rw e refl)),
-      ((λ e. not_direct_is t.route e), (λ e. rw e.1 refl)),
-      (λ arena k. (
-        (λ e. let two = both (is_of_arena arena t) (is_cached_by k t.route) e in (equal_to t.arena arena two.0, cached_is k t.route two.1)),
-        (λ e. both_true (is_of_arena arena t) (is_cached_by k t.route) (rw e.0 (equal_itself arena)) (rw e.1 (equal_itself k))),
-      )),
-    )
+  (λ arena. ((λ e. equal_to t.arena arena e), (λ e. rw e (equal_itself arena)))),
+  ((λ e. direct_is t.route e), (λ e. rw e refl)),
+  ((λ e. not_direct_is t.route e), (λ e. rw e.1 refl)),
+  (λ arena k. (
+    (λ e. let two = both (is_of_arena arena t) (is_cached_by k t.route) e in (equal_to t.arena arena two.0, cached_is k t.route two.1)),
+    (λ e. both_true (is_of_arena arena t) (is_cached_by k t.route) (rw e.0 (equal_itself arena)) (rw e.1 (equal_itself k))),
+  )),
+)
 
 pub equal_held_is : (h x : Holding) → equal_held h x ≡ true → x ≡ h
 equal_held_is h x e =
@@ -126,15 +125,15 @@ counts_one_deed h x = (one_at_held_most h x, ((λ e. one_at_held_is h x (omega (
 
 pub counts_where_it_is : CountsWhereItIs
 counts_where_it_is t segments = (
-      (λ some. let x = contained_some (one_at t) segments some in subst (Contains segments) (one_at_is t x.0 x.2) x.1),
-      (λ has. let le = contained_in_sum (one_at t) segments t has in let one = one_at_itself t in omega (arith, le, one)),
-    )
+  (λ some. let x = contained_some (one_at t) segments some in subst (Contains segments) (one_at_is t x.0 x.2) x.1),
+  (λ has. let le = contained_in_sum (one_at t) segments t has in let one = one_at_itself t in omega (arith, le, one)),
+)
 
 pub deed_counts_where_it_is : DeedCountsWhereItIs
 deed_counts_where_it_is h deeds = (
-      (λ some. let x = contained_some (one_at_held h) deeds some in subst (Contains deeds) (one_at_held_is h x.0 x.2) x.1),
-      (λ has. let le = contained_in_sum (one_at_held h) deeds h has in let one = one_at_held_itself h in omega (arith, le, one)),
-    )
+  (λ some. let x = contained_some (one_at_held h) deeds some in subst (Contains deeds) (one_at_held_is h x.0 x.2) x.1),
+  (λ has. let le = contained_in_sum (one_at_held h) deeds h has in let one = one_at_held_itself h in omega (arith, le, one)),
+)
 
 pub none_is_such : NoneIsSuch
 none_is_such test segments = count_by-none test segments

@@ -3,8 +3,7 @@ use Rattle.std.proofs.Common.{◌≡◌, ℕ, ◌+◌, ◌-◌, ◌*◌, ◌/◌
 use Rattle.std.proofs.Math.Nat.{mul-mod_left, mod_self, mod-eq_of_lt, mul-le-mul_right}
 use Rattle.std.proofs.lemmas.Bool.{cases_eq, cases_lt}
 use Rattle.std.proofs.lemmas.Nat.{div-add-mod', mod_below, pow-add, pow_below, pow_pos}
-use Rattle.std.specs.Int.{IsPowerOfTwo}
-use Rattle.deed_core.specs.Request.{Fits, IsGood, IsPlain, rounded, plain_of, with_size}
+use Rattle.deed_core.specs.Request.{rounded}
 use Rattle.deed_core.specs.declared.requests.Request.{Request}
 use Rattle.deed_core.specs.SizeLaws.{RoundsUp, RoundsToTheLeast, RoundsOnce, FitsRounded, PowerIsSome, SmallerPowerDivides, PlainIsOfItsSize, PlainIsGood, FitsPlain}
 
@@ -71,22 +70,22 @@ power_some n p = let some = pow_pos p.0 in omega (arith, some, p.1)
 
 pub smaller_power_divides : SmallerPowerDivides
 smaller_power_divides a b n p q le whole = elim (cases_lt q.0 p.0) [
-    | inl less ↦
-        let wrong : 2 ^ q.0 < 2 ^ p.0 = pow_below q.0 p.0 less in
-        absurd (omega (arith, wrong, p.1, q.1, le))
-    | inr most ↦
-        let parts : q.0 - p.0 + p.0 ≡ q.0 = omega (arith, most) in
-        let b_is : b ≡ 2 ^ (q.0 - p.0) * a = q.1 ∙ (ap (λ k. 2 ^ k) (sym parts) ∙ (pow-add 2 (q.0 - p.0) p.0 ∙ ap (λ k. 2 ^ (q.0 - p.0) * k) (sym p.1))) in
-        let n_is : n ≡ n / b * (2 ^ (q.0 - p.0) * a) = times b n whole ∙ ap (λ k. n / b * k) b_is in
-        let grouped : n / b * (2 ^ (q.0 - p.0) * a) ≡ n / b * 2 ^ (q.0 - p.0) * a = grind arith in
-        ap (λ k. k % a) (n_is ∙ grouped) ∙ mul-mod_left (n / b * 2 ^ (q.0 - p.0)) a
-  ]
+  | inl less ↦
+      let wrong : 2 ^ q.0 < 2 ^ p.0 = pow_below q.0 p.0 less in
+      absurd (omega (arith, wrong, p.1, q.1, le))
+  | inr most ↦
+      let parts : q.0 - p.0 + p.0 ≡ q.0 = omega (arith, most) in
+      let b_is : b ≡ 2 ^ (q.0 - p.0) * a = q.1 ∙ (ap (λ k. 2 ^ k) (sym parts) ∙ (pow-add 2 (q.0 - p.0) p.0 ∙ ap (λ k. 2 ^ (q.0 - p.0) * k) (sym p.1))) in
+      let n_is : n ≡ n / b * (2 ^ (q.0 - p.0) * a) = times b n whole ∙ ap (λ k. n / b * k) b_is in
+      let grouped : n / b * (2 ^ (q.0 - p.0) * a) ≡ n / b * 2 ^ (q.0 - p.0) * a = grind arith in
+      ap (λ k. k % a) (n_is ∙ grouped) ∙ mul-mod_left (n / b * 2 ^ (q.0 - p.0)) a
+]
 
 pub plain_is_of_its_size : PlainIsOfItsSize
 plain_is_of_its_size q = (
-      (λ p. (λ i. record { size = q.size; align = p.align i; phase = p.phase i; nocross = p.nocross i; min = p.min i; max = p.max i })),
-      (λ e. record { align = ap (λ (r : Request). r.align) e; phase = ap (λ (r : Request). r.phase) e; nocross = ap (λ (r : Request). r.nocross) e; min = ap (λ (r : Request). r.min) e; max = ap (λ (r : Request). r.max) e }),
-    )
+  (λ p. (λ i. record { size = q.size; align = p.align i; phase = p.phase i; nocross = p.nocross i; min = p.min i; max = p.max i })),
+  (λ e. record { align = ap (λ (r : Request). r.align) e; phase = ap (λ (r : Request). r.phase) e; nocross = ap (λ (r : Request). r.nocross) e; min = ap (λ (r : Request). r.min) e; max = ap (λ (r : Request). r.max) e }),
+)
 
 pub plain_is_good : PlainIsGood
 plain_is_good quantum size some =
@@ -94,6 +93,6 @@ plain_is_good quantum size some =
 
 pub fits_plain : FitsPlain
 fits_plain quantum size base len = (
-      (λ f. (f.size, f.whole, f.max)),
-      (λ f. record { size = f.0; whole = f.1; phase = (λ ne. absurd (ne refl)); min = omega arith; max = f.2; nocross = (λ ne. absurd (ne refl)) }),
-    )
+  (λ f. (f.size, f.whole, f.max)),
+  (λ f. record { size = f.0; whole = f.1; phase = (λ ne. absurd (ne refl)); min = omega arith; max = f.2; nocross = (λ ne. absurd (ne refl)) }),
+)

@@ -28,7 +28,8 @@ JoinKeepsUnits = (unit : ℕ) (a b : Holding) → GoesOn a b →
 
 -- where two ranges of units meet, they cover what they cover as one
 abbrev pub CutKeepsUnits : Type 0
-CutKeepsUnits = (unit : ℕ) (a b e : Extent) → a.base ≡ e.base → end_of a ≡ b.base → end_of b ≡ end_of e →
+CutKeepsUnits = (unit : ℕ) (a b e : Extent) →
+    a.base ≡ e.base → end_of a ≡ b.base → end_of b ≡ end_of e →
     covers unit e ≡ covers unit a + covers unit b
 
 -- the segments that pass a test weigh what all weigh by the weight restricted to these

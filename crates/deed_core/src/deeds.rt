@@ -31,7 +31,8 @@ pub trait Deed {
     fn split(self, at: u64) -> Result<(Self, Self), Refused<Self>>
         requires { IsInside at (holding self).range }
         ensures ok { IfOk result (λ parts.
-            (holding parts.0 ≡ low at (holding self)) × (holding parts.1 ≡ high at (holding self))) }
+            (holding parts.0 ≡ low at (holding self))
+            × (holding parts.1 ≡ high at (holding self))) }
         ensures err { IfErr result (λ refused. holding refused.deed ≡ holding self) };
 
     /// One deed for what this one and the next cover. It takes no memory.

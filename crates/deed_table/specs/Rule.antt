@@ -48,17 +48,22 @@ Opens range step old found new = new ≡ (opened_at range old.0, old.1)
 
 -- from the opening of a root on, each of its units lies in one range of one view
 abbrev pub EachUnitOnce : Type 0
-EachUnitOnce = (views : List View) → CoversOnceEach views → (root unit : ℕ) → 0 < opened root unit views → covered root unit views ≡ 1
+EachUnitOnce = (views : List View) → CoversOnceEach views → (root unit : ℕ) →
+    0 < opened root unit views → covered root unit views ≡ 1
 
 -- no unit lies in ranges of two seats
 abbrev pub OneSeatEach : Type 0
-OneSeatEach = (views : List View) → CoversOnceEach views → (i j : ℕ) (v w : View) → get_elem? views i ≡ some v → get_elem? views j ≡ some w → j ≢ i
+OneSeatEach = (views : List View) → CoversOnceEach views → (i j : ℕ) (v w : View)
+    → get_elem? views i ≡ some v → get_elem? views j ≡ some w → j ≢ i
     → (root unit : ℕ) → (covering_of root unit v.ranges ≡ 0) ⊎ (covering_of root unit w.ranges ≡ 0)
 
 -- a number that is left is left to one seat, and has no range
 abbrev pub LeftHasNoRange : Type 0
-LeftHasNoRange = (views : List View) → CoversOnceEach views → (root : ℕ) → 0 < left_in root views → (left_in root views ≡ 1) × ((unit : ℕ) → covered root unit views ≡ 0)
+LeftHasNoRange = (views : List View) → CoversOnceEach views → (root : ℕ) →
+    0 < left_in root views → (left_in root views ≡ 1) × ((unit : ℕ) → covered root unit views ≡ 0)
 
 -- a seat that was joined into another covers nothing, opened nothing, and has no number left
 abbrev pub SpentIsEmpty : Type 0
-SpentIsEmpty = (root unit : ℕ) → (covering_of root unit spent.ranges ≡ 0) × (count_of root spent.roots ≡ 0) × (is_left root spent ≡ 0)
+SpentIsEmpty = (root unit : ℕ) →
+    (covering_of root unit spent.ranges ≡ 0) × (count_of root spent.roots ≡ 0)
+    × (is_left root spent ≡ 0)

@@ -35,5 +35,7 @@ pub record SeatsTwo (first second : Holding) (me : Sitter) : Type 0 where
 
 -- two deeds of one root, at any two seats of the table, do not overlap
 abbrev pub NoTwoOverlap : Type 0
-NoTwoOverlap = (views : List View) → CoversOnceEach views → (i j : ℕ) (first second : Sitter) → get_elem? views i ≡ some first.0 → get_elem? views j ≡ some second.0 → j ≢ i
-    → (a b : Holding) → IsRange a.range → IsRange b.range → SeatsDeed a first → SeatsDeed b second → a.root ≡ b.root → ¬ Overlap a.range b.range
+NoTwoOverlap = (views : List View) → CoversOnceEach views → (i j : ℕ) (first second : Sitter)
+    → get_elem? views i ≡ some first.0 → get_elem? views j ≡ some second.0 → j ≢ i
+    → (a b : Holding) → IsRange a.range → IsRange b.range → SeatsDeed a first
+    → SeatsDeed b second → a.root ≡ b.root → ¬ Overlap a.range b.range

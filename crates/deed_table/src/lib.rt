@@ -10,6 +10,17 @@
 //! numbers, `Opener::open_root` a root with the deed of the whole, and `close` ends the root.
 //! `apart` shows two deeds not to overlap.
 //!
+//! A call takes constant time and a step or two on the one word, so calls of different threads on
+//! deeds of one table go on one after the other. Only `Ground::new` takes memory today; a split, a
+//! share and an opening hold the table once more, which could be refused.
+//!
+//! How `open_root` goes: `share(1)` gives the next number to a seat of its own, the step `open`
+//! makes that number a root of the range, which the seat covers, and the deed is that seat. A step
+//! is told of a number or a range by a type (`Chosen`, `Placed`), since its kind stands in the
+//! proofs alone; `Brand` is the type that a call picks for the values it has at hand. Of deeds one
+//! says split and join, of seats cut and merge; `put_beside` and `part` take two deeds together and
+//! apart again.
+//!
 //! Begin with `specs/Rule.antt`, the rule, `specs/Kinds.antt`, the kinds of step, and `laws`, what
 //! they mean.
 #![tactic(auto)]

@@ -33,7 +33,8 @@ impl Model for Ground {
 
     ghost view = { λ g. g.seat.table_id };
 
-    ghost invariant = { λ g. AreAt g.seat.table_id g.seat.table_id (arc_value g.table).shared.table_id
+    ghost invariant = { λ g.
+        AreAt g.seat.table_id g.seat.table_id (arc_value g.table).shared.table_id
         × (g.seat.me ≡ (opener 0 (2 ^ 32), [])) };
 }
 
@@ -127,7 +128,8 @@ impl<N: Name> Opener<N> {
     /// refused only for want of memory, before any number is used.
     pub fn open_root(&mut self, range: Range) -> Result<(Root<N>, SeatDeed<N>), AllocError>
         requires { 0 < self.old.left }
-        ensures root { IfOk result (λ made. made.0 ≡ record { root = self.old.first; range = range }) }
+        ensures root { IfOk result
+            (λ made. made.0 ≡ record { root = self.old.first; range = range }) }
         ensures whole { IfOk result (λ made. made.1 ≡ made.0) }
         ensures kept { OnOk result
             (self.new ≡ record { first = self.old.first + 1; left = self.old.left - 1 }) }

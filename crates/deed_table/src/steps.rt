@@ -26,7 +26,8 @@ pub(crate) fn cut<C: Chosen>(
     requires at { at ≡ C.number }
     requires seat { SitsAt seat.old.table_id table.now.shared.table_id }
     requires inside { CutsFirst at seat.old.me.0.ranges }
-    ensures table { (seat.new.table_id ≡ seat.old.table_id) × (result.table_id ≡ seat.old.table_id) }
+    ensures table { (seat.new.table_id ≡ seat.old.table_id)
+        × (result.table_id ≡ seat.old.table_id) }
     ensures low { seat.new.me ≡ (low_part at seat.old.me.0, seat.old.me.1) }
     ensures high { result.me ≡ (high_part at seat.old.me.0, []) }
 {
@@ -69,7 +70,8 @@ pub(crate) fn look(table: &DeedTable, seat: &mut Seat<(), View>)
 // Keeps the first range, and gives the others to a new seat.
 pub(crate) fn part(table: &DeedTable, seat: &mut Seat<(), View>) -> Seat<(), View>
     requires { SitsAt seat.old.table_id table.now.shared.table_id }
-    ensures table { (seat.new.table_id ≡ seat.old.table_id) × (result.table_id ≡ seat.old.table_id) }
+    ensures table { (seat.new.table_id ≡ seat.old.table_id)
+        × (result.table_id ≡ seat.old.table_id) }
     ensures first { seat.new.me ≡ (first_part seat.old.me.0, seat.old.me.1) }
     ensures other { result.me ≡ (other_part seat.old.me.0, []) }
 {
@@ -85,7 +87,8 @@ pub(crate) fn share<C: Chosen>(
     requires number { n ≡ C.number }
     requires seat { SitsAt seat.old.table_id table.now.shared.table_id }
     requires left { n ≤ seat.old.me.0.left }
-    ensures table { (seat.new.table_id ≡ seat.old.table_id) × (result.table_id ≡ seat.old.table_id) }
+    ensures table { (seat.new.table_id ≡ seat.old.table_id)
+        × (result.table_id ≡ seat.old.table_id) }
     ensures kept { seat.new.me ≡ (numbers_after n seat.old.me.0, seat.old.me.1) }
     ensures given { result.me ≡ (numbers_below n seat.old.me.0, []) }
 {
@@ -97,7 +100,8 @@ pub(crate) fn share<C: Chosen>(
 pub(crate) fn open<C: Placed>(table: &DeedTable, seat: &mut Seat<(), View>, range: &Range)
     requires place { range.now ≡ C.place }
     requires seat { SitsAt seat.old.table_id table.now.shared.table_id }
-    requires new { (seat.old.me.0.ranges ≡ []) × (seat.old.me.0.roots ≡ []) × (seat.old.me.0.left ≡ 1) }
+    requires new { (seat.old.me.0.ranges ≡ []) × (seat.old.me.0.roots ≡ [])
+        × (seat.old.me.0.left ≡ 1) }
     ensures table { seat.new.table_id ≡ seat.old.table_id }
     ensures view { seat.new.me ≡ (opened_at range.now seat.old.me.0, seat.old.me.1) }
 {

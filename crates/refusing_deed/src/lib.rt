@@ -1,5 +1,6 @@
-//! A deed for tests, one of whose splits is refused. With it a test reaches each arm of generic code that
-//! handles a refused split, which no plain deed ever takes. Programs have no use for it.
+//! A deed for tests, one of whose splits is refused. With it a test reaches each arm of generic
+//! code that handles a refused split, which no plain deed ever takes. Programs have no use for it.
+//! Each call takes constant time and no memory.
 #![tactic(auto)]
 
 ghost use Rattle.std.specs.Prelude.{◌≡◌, ◌-◌, ◌↔◌, Some, None, option_map, IsErr, IfOk, IfErr};
@@ -12,8 +13,8 @@ use deed_core::{Deed, Range, Refused};
 pub struct RefusingDeed {
     root: u32,
     range: Range,
-    /// How many splits go well before one is refused, counted along the parts of parts; none is refused
-    /// where this is `None`.
+    /// How many splits go well before one is refused, counted along the parts of parts; none is
+    /// refused where this is `None`.
     pub splits_left: Option<u32>,
     ghost in_range: { IsRange range },
 }
@@ -21,14 +22,16 @@ pub struct RefusingDeed {
 impl RefusingDeed {
     /// The deed of a range of a root. After `splits_left` splits the next one is refused.
     pub fn new(root: u32, range: Range, splits_left: u32) -> RefusingDeed
-        ensures holding { ⟦<RefusingDeed as Deed>⟧.holding result ≡ record { root = root; range = range } }
+        ensures holding { ⟦<RefusingDeed as Deed>⟧.holding result
+            ≡ record { root = root; range = range } }
         ensures splits { result.splits_left ≡ Some splits_left }
     {
         RefusingDeed::counting(root, range, Some(splits_left))
     }
 
     fn counting(root: u32, range: Range, splits_left: Option<u32>) -> RefusingDeed
-        ensures holding { ⟦<RefusingDeed as Deed>⟧.holding result ≡ record { root = root; range = range } }
+        ensures holding { ⟦<RefusingDeed as Deed>⟧.holding result
+            ≡ record { root = root; range = range } }
         ensures splits { result.splits_left ≡ splits_left }
     {
         let _ = range.len();
@@ -63,13 +66,21 @@ impl Deed for RefusingDeed {
         self.range
     }
 
-    /// The parts of a deed count on from one less. A deed that was refused once is not refused again.
+    /// The parts of a deed count on from one less. A deed that was refused once is not refused
+    /// again.
     fn split(self, at: u64) -> Result<(RefusingDeed, RefusingDeed), Refused<RefusingDeed>>
         requires { IsInside at (⟦<RefusingDeed as Deed>⟧.holding self).range }
-        ensures ok { IfOk result (λ parts. (⟦<RefusingDeed as Deed>⟧.holding parts.0 ≡ low at (⟦<RefusingDeed as Deed>⟧.holding self)) × (⟦<RefusingDeed as Deed>⟧.holding parts.1 ≡ high at (⟦<RefusingDeed as Deed>⟧.holding self))) }
-        ensures err { IfErr result (λ refused. ⟦<RefusingDeed as Deed>⟧.holding refused.deed ≡ ⟦<RefusingDeed as Deed>⟧.holding self) }
+        ensures ok { IfOk result (λ parts.
+            (⟦<RefusingDeed as Deed>⟧.holding parts.0
+            ≡ low at (⟦<RefusingDeed as Deed>⟧.holding self))
+            × (⟦<RefusingDeed as Deed>⟧.holding parts.1
+            ≡ high at (⟦<RefusingDeed as Deed>⟧.holding self))) }
+        ensures err { IfErr result (λ refused.
+            ⟦<RefusingDeed as Deed>⟧.holding refused.deed ≡ ⟦<RefusingDeed as Deed>⟧.holding self) }
         ensures refused { IsErr result ↔ (self.splits_left ≡ Some 0) }
-        ensures counted { IfOk result (λ parts. (parts.0.splits_left ≡ option_map (λ n. n - 1) self.splits_left) × (parts.1.splits_left ≡ option_map (λ n. n - 1) self.splits_left)) }
+        ensures counted { IfOk result (λ parts.
+            (parts.0.splits_left ≡ option_map (λ n. n - 1) self.splits_left)
+            × (parts.1.splits_left ≡ option_map (λ n. n - 1) self.splits_left)) }
         ensures once { IfErr result (λ refused. refused.deed.splits_left ≡ None) }
     {
         let RefusingDeed {
@@ -91,8 +102,11 @@ impl Deed for RefusingDeed {
 
     /// The joined deed counts on from where the first one stood.
     fn join(self, next: RefusingDeed) -> RefusingDeed
-        requires { GoesOn (⟦<RefusingDeed as Deed>⟧.holding self) (⟦<RefusingDeed as Deed>⟧.holding next) }
-        ensures joined { ⟦<RefusingDeed as Deed>⟧.holding result ≡ joined (⟦<RefusingDeed as Deed>⟧.holding self) (⟦<RefusingDeed as Deed>⟧.holding next) }
+        requires { GoesOn (⟦<RefusingDeed as Deed>⟧.holding self)
+            (⟦<RefusingDeed as Deed>⟧.holding next) }
+        ensures joined { ⟦<RefusingDeed as Deed>⟧.holding result
+            ≡ joined (⟦<RefusingDeed as Deed>⟧.holding self)
+            (⟦<RefusingDeed as Deed>⟧.holding next) }
         ensures counted { result.splits_left ≡ self.splits_left }
     {
         let RefusingDeed {
