@@ -110,8 +110,8 @@ impl<D: Deed> Arena<D> {
         }
     }
 
-    /// The number that its segments carry. It takes constant time, so its clauses are the way to know
-    /// of an arena what is always so.
+    /// The number that its segments carry. It takes constant time, so its clauses are the way to
+    /// know of an arena what is always so.
     pub fn id(&self) -> u32
         ensures value { result ≡ self.now.id }
         ensures sound { IsSound self.now }
@@ -281,7 +281,8 @@ impl<D: Deed> Arena<D> {
         Ok(Segment::new(self.id, Route::Direct, deed.into_deed()))
     }
 
-    /// Adds an imported span, and carves its first units for the request.
+    /// Adds an imported span, a segment that was carved from its source by no cache, and carves its
+    /// first units for the request. So no span of the arena is imported that has no segment out.
     pub fn add_span_and_carve(
         &mut self,
         span: Segment<D>,
@@ -361,8 +362,8 @@ impl<D: Deed> Arena<D> {
     }
 
     /// Frees a segment, and merges its range with its free neighbors inside its span. An imported
-    /// span that becomes wholly free is taken out and handed back, to be freed by its source. It takes
-    /// no memory.
+    /// span that becomes wholly free is taken out and handed back, to be freed by its source. It
+    /// takes no memory. A segment that isn't this arena's comes back.
     pub fn free(&mut self, segment: Segment<D>) -> Result<Option<Segment<D>>, Segment<D>>
         // What it does.
         ensures freed { FreeOf self.old segment result self.new }
