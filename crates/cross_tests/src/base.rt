@@ -7,6 +7,8 @@ mod ranges;
 mod requests;
 mod segments;
 
+pub use borders::border_moved;
+
 use deed_core::Range;
 use std::process::Abort;
 

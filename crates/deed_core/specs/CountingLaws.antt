@@ -1,10 +1,8 @@
 -- Laws of counting segments and deeds, one or all of a kind.
-use Rattle.std.specs.Prelude.{◌≡◌, ℕ, ◌+◌, ◌<◌, ◌≤◌, ◌↔◌, Bool, true, false, not, List, All, Contains, sum_by, count_by}
+use Rattle.std.specs.Prelude.{◌≡◌, ℕ, ◌<◌, ◌≤◌, ◌↔◌, Bool, false, List, All, Contains, sum_by, count_by}
 use Rattle.deed_core.specs.Holding.{Holding}
 use Rattle.deed_core.specs.Tag.{Tag}
-use Rattle.deed_core.specs.Selections.{is_of_arena, came_direct, came_cached, is_of_cache}
-use Rattle.deed_core.specs.Weights.{only, of_direct, of_cached, one_at, one_at_held}
-use Rattle.deed_core.specs.declared.segments.Route.TheVariants.{Direct, Cached}
+use Rattle.deed_core.specs.Weights.{one_at, one_at_held}
 
 -- the weight that counts one segment is 1 at that segment, and else 0
 abbrev pub CountsOneSegment : Type 0
@@ -16,11 +14,13 @@ CountsOneDeed = (h x : Holding) → (one_at_held h x ≤ 1) × ((one_at_held h x
 
 -- a list has a segment exactly where it counts there
 abbrev pub CountsWhereItIs : Type 0
-CountsWhereItIs = (t : Tag) (segments : List Tag) → (0 < sum_by (one_at t) segments) ↔ Contains segments t
+CountsWhereItIs = (t : Tag) (segments : List Tag) →
+    (0 < sum_by (one_at t) segments) ↔ Contains segments t
 
 -- the same of a deed
 abbrev pub DeedCountsWhereItIs : Type 0
-DeedCountsWhereItIs = (h : Holding) (deeds : List Holding) → (0 < sum_by (one_at_held h) deeds) ↔ Contains deeds h
+DeedCountsWhereItIs = (h : Holding) (deeds : List Holding) →
+    (0 < sum_by (one_at_held h) deeds) ↔ Contains deeds h
 
 -- none of the segments passes a test exactly where those that pass it count 0
 abbrev pub NoneIsSuch : Type 0

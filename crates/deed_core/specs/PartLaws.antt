@@ -1,5 +1,5 @@
 -- Laws of weights restricted to some of the segments.
-use Rattle.std.specs.Prelude.{◌≡◌, ℕ, ◌+◌, ◌≤◌, ◌↔◌, Bool, true, false, not, List, All, sum_by}
+use Rattle.std.specs.Prelude.{◌≡◌, ℕ, ◌+◌, ◌↔◌, Bool, true, false, not, List, All, sum_by}
 use Rattle.deed_core.specs.Tag.{Tag}
 use Rattle.deed_core.specs.Selections.{is_of_arena, came_direct, came_cached, is_of_cache}
 use Rattle.deed_core.specs.Weights.{only, of_direct, of_cached}

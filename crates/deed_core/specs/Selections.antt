@@ -38,8 +38,10 @@ equal_route (Cached k) r = is_cached_by k r
 
 -- a deed of the same root, base and length
 abbrev pub equal_held : Holding → Holding → Bool
-equal_held h x = (x.root == h.root) && ((x.range.base == h.range.base) && (x.range.len == h.range.len))
+equal_held h x =
+    (x.root == h.root) && ((x.range.base == h.range.base) && (x.range.len == h.range.len))
 
 -- a segment of the same arena, route and deed
 abbrev pub equal_tag : Tag → Tag → Bool
-equal_tag t x = (x.arena == t.arena) && (equal_route t.route x.route && equal_held t.holding x.holding)
+equal_tag t x =
+    (x.arena == t.arena) && (equal_route t.route x.route && equal_held t.holding x.holding)

@@ -7,11 +7,13 @@ use Rattle.deed_core.specs.declared.requests.Request.{Request}
 -- a rounded size is a multiple of the quantum, at least the size, and less than a quantum above it
 abbrev pub RoundsUp : Type 0
 RoundsUp = (quantum size : ℕ) → 0 < quantum →
-    (rounded quantum size % quantum ≡ 0) × (size ≤ rounded quantum size) × (rounded quantum size < size + quantum)
+    (rounded quantum size % quantum ≡ 0) × (size ≤ rounded quantum size)
+    × (rounded quantum size < size + quantum)
 
 -- no multiple of the quantum from the size on is less
 abbrev pub RoundsToTheLeast : Type 0
-RoundsToTheLeast = (quantum size n : ℕ) → 0 < quantum → n % quantum ≡ 0 → size ≤ n → rounded quantum size ≤ n
+RoundsToTheLeast = (quantum size n : ℕ) → 0 < quantum → n % quantum ≡ 0 → size ≤ n →
+    rounded quantum size ≤ n
 
 -- a multiple of the quantum is rounded to itself, so a rounded size is the same when rounded again
 abbrev pub RoundsOnce : Type 0

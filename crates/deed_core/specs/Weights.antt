@@ -1,6 +1,6 @@
--- Lists whose order means nothing, compared however their members are weighed. With the weight 1 at one
--- value they count how often it stands, with the covering of a unit how often that unit is covered, with
--- the length how many units there are.
+-- Lists whose order means nothing, compared however their members are weighed. With the weight 1 at
+-- one value they count how often it stands, with the covering of a unit how often that unit is
+-- covered, with the length how many units there are.
 use Rattle.std.specs.Prelude.{◌≡◌, ℕ, ◌+◌, Bool, List, if◌then◌else◌, sum_by}
 use Rattle.deed_core.specs.Holding.{Holding}
 use Rattle.deed_core.specs.Tag.{Tag}

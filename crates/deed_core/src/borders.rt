@@ -1,13 +1,13 @@
-//! A law of deeds, as code: what was split is joined elsewhere. It runs over every type of deed.
+//! A law of deeds, as code over any type of them: what is split off one deed is joined to another.
 ghost use Rattle.std.specs.Prelude.{◌≡◌, ◌⊎◌, IfOk, IfErr};
 ghost use Rattle.deed_core.specs.Extent.{IsInside};
 ghost use Rattle.deed_core.specs.Holding.{GoesOn, joined, low, high};
 
 use crate::deeds::{Deed, Refused};
 
-/// Moves the border between two deeds that meet: the one that has `at` inside is split there, and its part
-/// that lies on the other's side is joined to the other. It is the split at `at` of what both cover. For want
-/// of memory both come back as they were.
+/// Moves the border between two deeds that meet: the one that has `at` inside is split there, and
+/// its part that lies on the other's side is joined to the other. That gives the split at `at` of
+/// what both cover. For want of memory both come back as they were.
 pub fn move_border<D: Deed>(first: D, second: D, at: u64) -> Result<(D, D), (D, D)>
     requires meet { GoesOn (D.holding first) (D.holding second) }
     requires inside { IsInside at (D.holding first).range ⊎ IsInside at (D.holding second).range }

@@ -7,8 +7,8 @@ use crate::deeds::Deed;
 use crate::ranges::Range;
 use crate::segments::{Route, Segment};
 
-/// A segment, known by its tag. Code that passes segments on, and never splits or joins one, is generic over
-/// this: its contracts then speak of tags alone, whatever the deeds are.
+/// A segment, known by its tag. Code that passes segments on, and neither splits nor joins them, is
+/// generic over this: its contracts then speak of tags alone, whatever the deeds are.
 pub trait Held {
     /// The arena, the route, and what the deed covers.
     ghost tag: { Self → Tag };
