@@ -80,5 +80,13 @@ pub record IsSound (a : ArenaState) : Type 0 where
 
 -- an arena with nothing in it
 abbrev pub empty_arena : ℕ → ℕ → Policy → ArenaState
-empty_arena id quantum policy = record { id = id; quantum = quantum; policy = policy; owned = [];
-    imported = []; free = []; allocated = finmap.empty; rover = 0 }
+empty_arena id quantum policy = record {
+  id = id;
+  quantum = quantum;
+  policy = policy;
+  owned = [];
+  imported = [];
+  free = [];
+  allocated = finmap.empty;
+  rover = 0;
+}

@@ -17,13 +17,13 @@ ghost use Rattle.tag_arena.specs.Outcomes.{KeepsSetup, AddOf, CarveOf, ImportOf,
 use crate::choices::{Found, chosen};
 use crate::cuts::{carve, cut_first, push_rest};
 use crate::faults::{ArenaFault, SpanRefused};
+use crate::held_ranges::{HeldRange, held_range_of};
 use crate::merges::merge;
 use crate::policies::Policy;
 use crate::spans::{
     Import, free_units, imported_units, overlaps_imported, overlaps_owned, owned_units,
     place_of_import, span_at,
 };
-use crate::held_ranges::{HeldRange, held_range_of};
 use crate::tags::Tags;
 use crate::whole_spans::lowest_whole;
 use deed_core::{Deed, Range, Request, Route, Segment, Stored};

@@ -1,8 +1,6 @@
 //! Constrained requests under each policy that isn't best, and where the rover stands.
 
-use super::{
-    Step, add, close, end_span, give_back, grant, import, run_alone, span, take_back,
-};
+use super::{Step, add, close, end_span, give_back, grant, import, run_alone, span, take_back};
 use deed_core::Request;
 use tag_arena::{Arena, Policy};
 
