@@ -1,12 +1,14 @@
 //! Rows of calls of an arena with what they must give, and what is refused.
 mod growth;
+mod imports;
+mod policies;
 
-use deed_core::{Deed, PlainDeed, Range, Request, Segment};
+use deed_core::{Deed, PlainDeed, Range, Request, Route, Segment};
 use refusing_deed::RefusingDeed;
 use std::alloc::{AllocGlobal, Global};
 use std::process::Abort;
 use std::test::Fail;
-use tag_arena::{Arena, ArenaFault, ArenaReport, Policy};
+use tag_arena::{Arena, ArenaFault, ArenaReport, Policy, SpanRefused};
 
 fn span(rt: &impl Abort, root: u32, base: u64, len: u64) -> PlainDeed {
     PlainDeed::new(root, Range::new(base, len).expect(rt, "a range"))
@@ -22,8 +24,8 @@ fn add<D: Deed>(rt: &impl Abort, arena: &mut Arena<D>, deed: D) {
 fn refuse(rt: &impl Abort, arena: &mut Arena<PlainDeed>, deed: PlainDeed, why: ArenaFault) {
     match arena.add_span(deed) {
         Ok(()) => panic!(rt; "the span is refused"),
-        Err((deed, fault)) => {
-            deed.close();
+        Err(SpanRefused { span, fault }) => {
+            span.close();
             assert_eq!(rt; fault, why);
         }
     }
@@ -135,7 +137,8 @@ fn try_import<D: Deed>(
     arena: &mut Arena<D>,
     span: Segment<D>,
     request: &Request,
-) -> Result<Segment<D>, (Segment<D>, ArenaFault)> {
+) -> Result<Segment<D>, SpanRefused<Segment<D>>> {
+    assert!(rt; span.route() == Route::Direct);
     let quantum = arena.quantum();
     assert!(rt; request.is_good(quantum));
     assert!(rt; !request.is_constrained());
@@ -152,7 +155,7 @@ fn import<D: Deed>(
 ) -> Segment<D> {
     match try_import(rt, arena, span, request) {
         Ok(segment) => segment,
-        Err((_span, fault)) => panic!(rt; "{fault}"),
+        Err(SpanRefused { span: _, fault }) => panic!(rt; "{fault}"),
     }
 }
 
@@ -364,9 +367,9 @@ fn a_refused_import_comes_back(rt: HostRuntime) {
     let four = Request::plain(4);
     let span = match try_import(&rt, &mut child, span, &four) {
         Ok(_) => panic!(rt; "the split is refused"),
-        Err((back, fault)) => {
+        Err(SpanRefused { span, fault }) => {
             assert_eq!(rt; fault, ArenaFault::NoMemory);
-            back
+            span
         }
     };
     stands(&rt, &span, 0, 16);

@@ -36,7 +36,7 @@ module _ (quantum : ℕ) (q : Request) (free : List Holding) where
 
   module _ (plain : IsPlain q) (all_below : All (λ r. IsRange r.range) free) (aligned : All (λ r. r.range.base % quantum ≡ 0) free) where
     -- a range with room serves such a request at its base
-    serves_at_base : (r : Holding) → Contains free r → next_multiple_of q.size quantum ≤ r.range.len → ServesIn quantum q r r.range.base
+    pub serves_at_base : (r : Holding) → Contains free r → next_multiple_of q.size quantum ≤ r.range.len → ServesIn quantum q r r.range.base
     serves_at_base r in-r room =
         let below : IsRange r.range = All-contains (λ r. IsRange r.range) free r all_below in-r in
         let end : r.range.base + r.range.len ≤ 2 ^ 62 = below.below in

@@ -23,3 +23,6 @@ pub mod Returning
 pub mod Importing
 pub mod Taking
 pub mod Carrying
+pub mod Serving
+pub mod Standing
+pub mod LawProofs

@@ -14,7 +14,9 @@ use Rattle.tag_arena.specs.declared.policies.Policy.{Policy}
 use Rattle.tag_arena.specs.Choice.{IsChoice}
 use Rattle.tag_arena.specs.Layout.{Layout, IsWhole}
 
--- an arena: its owned spans and its imported ones, each list in order of coming and the second as segments of their sources; its free ranges from the oldest to the newest; what is allocated, each range at its base; and the end of the last carve
+-- an arena: its owned spans and its imported ones, each list in order of coming and the second
+-- as segments of their sources; its free ranges from the oldest to the newest; what is
+-- allocated, each range at its base; and the end of the last carve
 pub record ArenaState : Type 0 where
   pub id : ℕ
   pub quantum : ℕ
@@ -55,7 +57,8 @@ OnQuantum quantum e = (e.base % quantum ≡ 0) × (e.len % quantum ≡ 0)
 
 -- free and allocated ranges cover each unit as often as the spans do
 abbrev pub CoversSpans : ArenaState → Type 0
-CoversSpans a = (u : ℕ) → covering_held u a.free + covering_held u (ranges_of a.allocated) ≡ covering_held u (spans_of a)
+CoversSpans a = (u : ℕ) → covering_held u a.free + covering_held u (ranges_of a.allocated)
+    ≡ covering_held u (spans_of a)
 
 -- the spans are divided, each unit once, and everything is in whole quanta
 pub record IsDivided (a : ArenaState) : Type 0 where
@@ -69,11 +72,21 @@ pub record IsDivided (a : ArenaState) : Type 0 where
   pub routes : All (λ t. t.route ≡ Direct) a.imported
   pub rover : a.rover ≤ 2 ^ 62
 
--- what is so of every arena between two calls: no imported span is wholly free, since one that becomes so goes back
+-- what is so of every arena between two calls: no imported span is wholly free, since one that
+-- becomes so goes back
 pub record IsSound (a : ArenaState) : Type 0 where
   pub divided : IsDivided a
   pub used : All (λ t. ¬ Contains a.free t.holding) a.imported
 
 -- an arena with nothing in it
 abbrev pub empty_arena : ℕ → ℕ → Policy → ArenaState
-empty_arena id quantum policy = record { id = id; quantum = quantum; policy = policy; owned = []; imported = []; free = []; allocated = finmap.empty; rover = 0 }
+empty_arena id quantum policy = record {
+  id = id;
+  quantum = quantum;
+  policy = policy;
+  owned = [];
+  imported = [];
+  free = [];
+  allocated = finmap.empty;
+  rover = 0;
+}

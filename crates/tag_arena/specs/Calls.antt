@@ -22,11 +22,13 @@ between r low high = if nat_lt low high then part r low (high - low) ∷ [] else
 
 -- what a carve leaves of the range that it is made in: the low rest, then the high rest
 abbrev pub rests : Holding → Holding → List Holding
-rests r piece = between r r.range.base piece.range.base ++ between r (end_of piece.range) (end_of r.range)
+rests r piece = between r r.range.base piece.range.base
+    ++ between r (end_of piece.range) (end_of r.range)
 
 -- the units of the part lie in the range
 abbrev pub surrounds : Holding → Holding → Bool
-surrounds r piece = nat_le r.range.base piece.range.base && nat_le (end_of piece.range) (end_of r.range)
+surrounds r piece = nat_le r.range.base piece.range.base
+    && nat_le (end_of piece.range) (end_of r.range)
 
 -- the ranges but the one that begins where this does
 abbrev pub without : Holding → List Holding → List Holding
@@ -36,7 +38,8 @@ without h ranges = filter (λ x. not (x.range.base == h.range.base)) ranges
 abbrev pub without_span : Holding → List Tag → List Tag
 without_span h tags = filter (λ t. not (t.holding.range.base == h.range.base)) tags
 
--- a carve of the piece: the free range round it goes, its rests become newest, and the rover is the piece's end
+-- a carve of the piece: the free range round it goes, its rests become newest, and the rover is
+-- the piece's end
 abbrev pub after_carve : ArenaState → Holding → Holding → ArenaState
 after_carve a range piece = record a {
   free = filter (λ r. not (surrounds r piece)) a.free ++ rests range piece;
@@ -51,7 +54,8 @@ pub record Carves (old new : ArenaState) (piece : Holding) : Type 0 where
   pub inside : IsPartOf range piece
   pub after : new ≡ after_carve old range piece
 
--- why a carve is refused: the request isn't good, or its choice is none; memory is asked for only where neither is so
+-- why a carve is refused: the request isn't good, or its choice is none; memory is asked for
+-- only where neither is so
 abbrev pub RefusesCarve : ArenaState → Request → ArenaFault → Type 0
 RefusesCarve a q BadRequest = ¬ IsGood a.quantum q
 RefusesCarve a q NoFit = IsGood a.quantum q × IsChosen a q None
@@ -67,7 +71,8 @@ after_add a h = record a { owned = a.owned ++ h ∷ []; free = a.free ++ h ∷ [
 abbrev pub IsClear : ArenaState → Extent → Type 0
 IsClear a e = All (λ s. ¬ Overlap s.range e) (spans_of a)
 
--- why a span is refused: it overlaps one that is here, or else isn't in whole quanta; memory is asked for only where neither is so
+-- why a span is refused: it overlaps one that is here, or else isn't in whole quanta; memory is
+-- asked for only where neither is so
 abbrev pub RefusesSpan : ArenaState → Extent → ArenaFault → Type 0
 RefusesSpan a e BadRequest = ⊥
 RefusesSpan a e NoFit = ⊥
@@ -97,7 +102,8 @@ pub record IsTagged (a : ArenaState) (t : Tag) : Type 0 where
   pub route : t.route ≡ Direct
   pub stands : get a.allocated t.holding.range.base ≡ Some t.holding
 
--- the piece is free again: the merged range takes the place of the free ranges that it surrounds, and is newest
+-- the piece is free again: the merged range takes the place of the free ranges that it
+-- surrounds, and is newest
 abbrev pub after_free : ArenaState → Holding → Holding → ArenaState
 after_free a piece merged = record a {
   free = filter (λ r. not (surrounds merged r)) a.free ++ merged ∷ [];
@@ -108,10 +114,13 @@ after_free a piece merged = record a {
 abbrev pub after_return : ArenaState → Holding → ArenaState
 after_return a h = record a { imported = without_span h a.imported; free = without h a.free }
 
--- what a free leaves: the merged range, or, where it is a whole imported span, the arena without that span, which goes back
+-- what a free leaves: the merged range, or, where it is a whole imported span, the arena
+-- without that span, which goes back
 abbrev pub LeavesFree : ArenaState → Holding → Holding → Option Tag → ArenaState → Type 0
-LeavesFree old piece merged None new = All (λ t. t.holding ≢ merged) old.imported × (new ≡ after_free old piece merged)
-LeavesFree old piece merged (Some t) new = Contains old.imported t × (t.holding ≡ merged) × (new ≡ after_return (after_free old piece merged) merged)
+LeavesFree old piece merged None new = All (λ t. t.holding ≢ merged) old.imported
+    × (new ≡ after_free old piece merged)
+LeavesFree old piece merged (Some t) new = Contains old.imported t × (t.holding ≡ merged)
+    × (new ≡ after_return (after_free old piece merged) merged)
 
 -- the piece was freed: merged with its free neighbors it is a longest run
 pub record Frees (old new : ArenaState) (piece : Holding) (back : Option Tag) : Type 0 where

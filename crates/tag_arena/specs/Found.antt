@@ -20,22 +20,27 @@ BestSoFar quantum q free n (Some f) =
 
 -- f has the least address from start on that serves in the first n ranges
 abbrev pub EarliestSoFar : ℕ → Request → ℕ → List Holding → ℕ → Option Found → Type 0
-EarliestSoFar quantum q start free n None = AllWithin (λ r. (b : ℕ) → ServesIn quantum q r b → start ≤ b → ⊥) free 0 n
+EarliestSoFar quantum q start free n None =
+    AllWithin (λ r. (b : ℕ) → ServesIn quantum q r b → start ≤ b → ⊥) free 0 n
 EarliestSoFar quantum q start free n (Some f) =
-    (f.at < n) × HoldsAt (λ r. r ≡ f.range) free f.at × ServesIn quantum q f.range f.base × (start ≤ f.base)
+    (f.at < n) × HoldsAt (λ r. r ≡ f.range) free f.at × ServesIn quantum q f.range f.base
+    × (start ≤ f.base)
     × AllWithin (λ r. (b : ℕ) → ServesIn quantum q r b → start ≤ b → f.base ≤ b) free 0 n
 
 -- f is the newest of the first n ranges on the least list whose every member serves
 abbrev pub NewestSoFar : ℕ → ℕ → List Holding → ℕ → Option Listed → Type 0
-NewestSoFar quantum len free n None = AllWithin (λ r. (i : ℕ) → OnList quantum r i → ListServes quantum len i → ⊥) free 0 n
+NewestSoFar quantum len free n None =
+    AllWithin (λ r. (i : ℕ) → OnList quantum r i → ListServes quantum len i → ⊥) free 0 n
 NewestSoFar quantum len free n (Some f) =
-    (f.at < n) × HoldsAt (λ r. r ≡ f.range) free f.at × OnList quantum f.range f.list × ListServes quantum len f.list
+    (f.at < n) × HoldsAt (λ r. r ≡ f.range) free f.at × OnList quantum f.range f.list
+    × ListServes quantum len f.list
     × AllWithin (λ r. (i : ℕ) → OnList quantum r i → ListServes quantum len i → f.list ≤ i) free 0 n
     × AllWithin (λ r. OnList quantum r f.list → ⊥) free (f.at + 1) n
 
 -- f is a place in the list of free ranges, and the range there serves at its base
 abbrev pub IsPlaced : ℕ → Request → List Holding → Found → Type 0
-IsPlaced quantum q free f = (f.at < length free) × HoldsAt (λ r. r ≡ f.range) free f.at × ServesIn quantum q f.range f.base
+IsPlaced quantum q free f = (f.at < length free) × HoldsAt (λ r. r ≡ f.range) free f.at
+    × ServesIn quantum q f.range f.base
 
 -- f is a place in the list of free ranges, and the `len` units from its base on are whole quanta of
 -- the range there
@@ -55,5 +60,6 @@ base_of (Some f) = Some f.base
 abbrev pub LowestSoFar : List Holding → List Holding → ℕ → Option Whole → Type 0
 LowestSoFar owned free n None = AllWithin (λ s. Contains free s → ⊥) owned 0 n
 LowestSoFar owned free n (Some w) =
-    (w.at < n) × HoldsAt (λ s. s ≡ w.span) owned w.at × (w.free_at < length free) × HoldsAt (λ r. r ≡ w.span) free w.free_at
+    (w.at < n) × HoldsAt (λ s. s ≡ w.span) owned w.at × (w.free_at < length free)
+    × HoldsAt (λ r. r ≡ w.span) free w.free_at
     × AllWithin (λ s. Contains free s → w.span.range.base ≤ s.range.base) owned 0 n

@@ -11,20 +11,24 @@ Without old r new = (k : ℕ) × (k < length old) × HoldsAt (λ x. x ≡ r) old
 
 -- the free range that ends at base is taken, unless the span begins there
 abbrev pub TakesLeft : ℕ → ℕ → List Holding → Option Holding → List Holding → Type 0
-TakesLeft start base old None new = (new ≡ old) × ((base ≡ start) ⊎ All (λ r. end_of r.range ≢ base) old)
+TakesLeft start base old None new = (new ≡ old)
+    × ((base ≡ start) ⊎ All (λ r. end_of r.range ≢ base) old)
 TakesLeft start base old (Some r) new = (start < base) × (end_of r.range ≡ base) × Without old r new
 
 -- the free range that begins at end is taken, unless the span ends there
 abbrev pub TakesRight : ℕ → ℕ → List Holding → Option Holding → List Holding → Type 0
-TakesRight end limit old None new = (new ≡ old) × ((end ≡ limit) ⊎ All (λ r. r.range.base ≢ end) old)
+TakesRight end limit old None new = (new ≡ old)
+    × ((end ≡ limit) ⊎ All (λ r. r.range.base ≢ end) old)
 TakesRight end limit old (Some r) new = (end < limit) × (r.range.base ≡ end) × Without old r new
 
 -- the range has units, and lies inside the span or apart from it
 abbrev pub IsBeside : Holding → Holding → Type 0
 IsBeside span r = (0 < r.range.len) × (IsPartOf span r ⊎ Apart r span)
 
--- the free neighbors of the piece inside the span are taken out of the list, and the merged range is the piece and these
-pub record Merges (span piece : Holding) (old : List Holding) (merged : Holding) (new : List Holding) : Type 0 where
+-- the free neighbors of the piece inside the span are taken out of the list, and the merged
+-- range is the piece and these
+pub record Merges (span piece : Holding) (old : List Holding) (merged : Holding)
+    (new : List Holding) : Type 0 where
   pub left : Option Holding
   pub right : Option Holding
   pub mid : List Holding

@@ -1,4 +1,5 @@
--- What each call comes to, by cases on its answer: the words for "this happened" of the layers above.
+-- What each call comes to, by cases on its answer: the words for "this happened" of the layers
+-- above.
 -- A fault that a call never gives has no case that can be met.
 use Rattle.std.specs.Prelude.{◌≡◌, All, Contains, Option, Some, None, Result, Ok, Err, IfSome}
 use Rattle.deed_core.specs.Extent.{IsRange}
@@ -19,9 +20,12 @@ pub record KeepsSetup (old new : ArenaState) : Type 0 where
   pub policy : new.policy ≡ old.policy
 
 -- the owned span was added, or it is back
-abbrev pub AddOf : {D : Type 0} → ArenaState → D → Holding → Result (Unit {0}) (SpanRefused D) → ArenaState → Type 0
-AddOf old span h (Ok _) new = IsClear old h.range × OnQuantum old.quantum h.range × (new ≡ after_add old h)
-AddOf old span h (Err back) new = RefusesSpan old h.range back.fault × (back.span ≡ span) × (new ≡ old)
+abbrev pub AddOf : {D : Type 0} → ArenaState → D → Holding → Result (Unit {0}) (SpanRefused D)
+    → ArenaState → Type 0
+AddOf old span h (Ok _) new = IsClear old h.range × OnQuantum old.quantum h.range
+    × (new ≡ after_add old h)
+AddOf old span h (Err back) new = RefusesSpan old h.range back.fault × (back.span ≡ span)
+    × (new ≡ old)
 
 -- the segment was carved for the request, where the policy chose
 pub record Carved (old : ArenaState) (q : Request) (t : Tag) (new : ArenaState) : Type 0 where
@@ -38,7 +42,8 @@ CarveOf old q (Ok t) new = Carved old q t new
 CarveOf old q (Err fault) new = RefusesCarve old q fault × (new ≡ old)
 
 -- the span was imported, and the segment has its first units, as many as the request asks for
-pub record Imported (old : ArenaState) (span : Tag) (q : Request) (t : Tag) (new : ArenaState) : Type 0 where
+pub record Imported (old : ArenaState) (span : Tag) (q : Request) (t : Tag)
+    (new : ArenaState) : Type 0 where
   pub clear : IsClear old span.holding.range
   pub aligned : OnQuantum old.quantum span.holding.range
   pub segment : t ≡ direct old.id (first_of old.quantum q span.holding)
@@ -46,11 +51,14 @@ pub record Imported (old : ArenaState) (span : Tag) (q : Request) (t : Tag) (new
   pub after : new ≡ after_import_carve old q span
 
 -- the span was imported, or it is back
-abbrev pub ImportOf : ArenaState → Tag → Request → Result Tag (SpanRefused Tag) → ArenaState → Type 0
+abbrev pub ImportOf : ArenaState → Tag → Request → Result Tag (SpanRefused Tag) → ArenaState
+    → Type 0
 ImportOf old span q (Ok t) new = Imported old span q t new
-ImportOf old span q (Err back) new = RefusesSpan old span.holding.range back.fault × (back.span ≡ span) × (new ≡ old)
+ImportOf old span q (Err back) new = RefusesSpan old span.holding.range back.fault
+    × (back.span ≡ span) × (new ≡ old)
 
--- the segment was freed; the imported span that became wholly free, if one did, goes back to its source
+-- the segment was freed; the imported span that became wholly free, if one did, goes back to
+-- its source
 pub record Freed (old : ArenaState) (t : Tag) (back : Option Tag) (new : ArenaState) : Type 0 where
   pub mine : IsTagged old t
   pub frees : Frees old new t.holding back

@@ -10,7 +10,8 @@ abbrev pub IsLeast : (ℕ → Type 0) → Option ℕ → Type 0
 IsLeast P None = (n : ℕ) → P n → ⊥
 IsLeast P (Some m) = P m × ((n : ℕ) → P n → m ≤ n)
 
--- len units from base on lie in [low, high), stand at the phase modulo align, and stay inside a block of nocross units
+-- len units from base on lie in [low, high), stand at the phase modulo align, and stay inside a
+-- block of nocross units
 pub record IsPlace (low high len align phase nocross base : ℕ) : Type 0 where
   pub from_low : low ≤ base
   pub to_high : base + len ≤ high

@@ -17,13 +17,13 @@ ghost use Rattle.tag_arena.specs.Outcomes.{KeepsSetup, AddOf, CarveOf, ImportOf,
 use crate::choices::{Found, chosen};
 use crate::cuts::{carve, cut_first, push_rest};
 use crate::faults::{ArenaFault, SpanRefused};
+use crate::held_ranges::{HeldRange, held_range_of};
 use crate::merges::merge;
 use crate::policies::Policy;
 use crate::spans::{
     Import, free_units, imported_units, overlaps_imported, overlaps_owned, owned_units,
     place_of_import, span_at,
 };
-use crate::held_ranges::{HeldRange, held_range_of};
 use crate::tags::Tags;
 use crate::whole_spans::lowest_whole;
 use deed_core::{Deed, Range, Request, Route, Segment, Stored};
@@ -110,8 +110,8 @@ impl<D: Deed> Arena<D> {
         }
     }
 
-    /// The number that its segments carry. It takes constant time, so its clauses are the way to know
-    /// of an arena what is always so.
+    /// The number that its segments carry. It takes constant time, so its clauses are the way to
+    /// know of an arena what is always so.
     pub fn id(&self) -> u32
         ensures value { result ≡ self.now.id }
         ensures sound { IsSound self.now }
@@ -281,7 +281,8 @@ impl<D: Deed> Arena<D> {
         Ok(Segment::new(self.id, Route::Direct, deed.into_deed()))
     }
 
-    /// Adds an imported span, and carves its first units for the request.
+    /// Adds an imported span, a segment that was carved from its source by no cache, and carves its
+    /// first units for the request. So no span of the arena is imported that has no segment out.
     pub fn add_span_and_carve(
         &mut self,
         span: Segment<D>,
@@ -361,8 +362,8 @@ impl<D: Deed> Arena<D> {
     }
 
     /// Frees a segment, and merges its range with its free neighbors inside its span. An imported
-    /// span that becomes wholly free is taken out and handed back, to be freed by its source. It takes
-    /// no memory.
+    /// span that becomes wholly free is taken out and handed back, to be freed by its source. It
+    /// takes no memory. A segment that isn't this arena's comes back.
     pub fn free(&mut self, segment: Segment<D>) -> Result<Option<Segment<D>>, Segment<D>>
         // What it does.
         ensures freed { FreeOf self.old segment result self.new }

@@ -6,10 +6,10 @@ ghost use Rattle.deed_core.specs.Request.{IsGood};
 ghost use Rattle.tag_arena.specs.Choice.{IsChoice, IsBestChoice, IsNextChoice, ComesFirst};
 ghost use Rattle.tag_arena.specs.Found.{BestSoFar, EarliestSoFar, IsPlaced, base_of};
 
-use crate::power_lists::instant;
+use crate::held_ranges::{HeldRange, held_range_at};
 use crate::places::least_in;
 use crate::policies::Policy;
-use crate::held_ranges::{HeldRange, held_range_at};
+use crate::power_lists::instant;
 use deed_core::{Deed, Request, Stored};
 
 /// A place in the list of free ranges, the range there, and an address in it.

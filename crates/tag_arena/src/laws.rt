@@ -1,17 +1,32 @@
-//! That a policy's choice is one: a relation that names it is as good as a function.
-ghost use Rattle.tag_arena.specs.Laws.{BestIsOne, NextIsOne, InstantIsOne};
+//! Laws of the definitions, for the proofs of the layers above. The functions do nothing: their
+//! contracts are the laws, and proofs/LawProofs.antt hands them on.
+ghost use Rattle.tag_arena.specs.Laws.{BestIsOne, NextIsOne, InstantIsOne, NoneServes, ChoiceServes, FreeAreLongestRuns, SpansOnce, TagsWeigh, AllocatedStand, AllocatedCount, GoesEmpty};
 
-/// Two choices by the best rule are the same.
-pub fn best_is_one()
-    ensures { BestIsOne }
+/// Two choices by one rule are the same: a relation that names a choice is as good as a function.
+pub fn one_choice_laws()
+    ensures best { BestIsOne }
+    ensures next { NextIsOne }
+    ensures instant { InstantIsOne }
 {}
 
-/// Two choices by the next rule are the same.
-pub fn next_is_one()
-    ensures { NextIsOne }
+/// None is chosen only where no address serves, and an address that is chosen serves.
+pub fn serving_laws()
+    ensures none { NoneServes }
+    ensures some { ChoiceServes }
 {}
 
-/// Two choices by the instant rule are the same.
-pub fn instant_is_one()
-    ensures { InstantIsOne }
+/// What is always so of an arena: its free ranges are the longest runs, no unit is in two of its
+/// spans, and once nothing of it is allocated it has no imported span, so that it can be closed
+/// when its owned spans are gone.
+pub fn arena_laws()
+    ensures longest { FreeAreLongestRuns }
+    ensures once { SpansOnce }
+    ensures empty { GoesEmpty }
+{}
+
+/// What is allocated, as segments: they weigh as their ranges do, and are those that `free` takes.
+pub fn allocated_laws()
+    ensures weigh { TagsWeigh }
+    ensures stand { AllocatedStand }
+    ensures count { AllocatedCount }
 {}

@@ -36,8 +36,8 @@ fn whole_at<D: Deed>(free: &[Stored<D>], at: usize, span: HeldRange) -> Option<W
     Some(Whole { at, free_at, span })
 }
 
-/// The lower of one span more than `lowest` is the lowest of. The free ranges are searched only for a span
-/// that is lower than the lowest so far.
+/// The lower of one span more than `lowest` is the lowest of. The free ranges are searched only for
+/// a span that is lower than the lowest so far.
 fn lower<D: Deed>(
     owned: &[HeldRange],
     free: &[Stored<D>],

@@ -5,16 +5,16 @@ use super::{
 };
 use deed_core::{Deed, PlainDeed, Range, Request, Segment};
 use std::process::Abort;
-use tag_arena::{Arena, ArenaFault, Policy};
+use tag_arena::{Arena, ArenaFault, Policy, SpanRefused};
 
 /// Adds a span, again where memory was refused.
 fn add_again(rt: &impl Abort, arena: &mut Arena<PlainDeed>, range: Range) {
     let before = arena.report();
     let deed = match arena.add_span(PlainDeed::new(1, range)) {
         Ok(()) => return,
-        Err((deed, fault)) => {
+        Err(SpanRefused { span, fault }) => {
             assert_eq!(rt; fault, ArenaFault::NoMemory);
-            deed
+            span
         }
     };
     assert_eq!(rt; (deed.range(), arena.report()), (range, before));
@@ -52,9 +52,9 @@ fn import_again(
     let range = segment.range();
     let back = match try_import(rt, arena, segment, request) {
         Ok(first) => return first,
-        Err((back, fault)) => {
+        Err(SpanRefused { span, fault }) => {
             assert_eq!(rt; fault, ArenaFault::NoMemory);
-            back
+            span
         }
     };
     assert_eq!(rt; (back.range(), arena.report()), (range, before));

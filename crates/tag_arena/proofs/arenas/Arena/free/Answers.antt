@@ -169,12 +169,12 @@ returns g c =
     let segment : c.args.segment ≡ direct c.args.self.now.id c.args.segment.holding = same_tag _ _ tagged.arena tagged.route refl in
     let owned : c.self.inside.owned.items ≡ c.args.self.now.owned = ap (λ (s : ArenaState). s.owned) c.self.view_is in
     let returned : (f : Tag → ℕ) → sum_by f c.args.self.now.imported ≡ sum_by f c.remove-import.new.self.items + sum_by f (option_to_list (Some c.new-2.result)) =
-        (λ f.
-          let less : sum_by f c.remove-import.new.self.items ≡ sum_by f (remove a.imported k) = ap (sum_by f) c.remove-import.ensures.items in
-          let out : sum_by f (remove a.imported k) + f (get_or a.imported k import) ≡ sum_by f a.imported = sum_by-remove f a.imported k import found.0 in
-          let here : f (get_or a.imported k import) ≡ f c.new-2.result = ap f (sym c.remove-import.ensures.value ∙ sym back) in
-          let now : sum_by f a.imported ≡ sum_by f c.args.self.now.imported = ap (λ (s : ArenaState). sum_by f s.imported) c.self.view_is in
-          omega (arith, less, out, here, now, sum_by-cons f c.new-2.result [])) in
+    (λ f.
+    let less : sum_by f c.remove-import.new.self.items ≡ sum_by f (remove a.imported k) = ap (sum_by f) c.remove-import.ensures.items in
+    let out : sum_by f (remove a.imported k) + f (get_or a.imported k import) ≡ sum_by f a.imported = sum_by-remove f a.imported k import found.0 in
+    let here : f (get_or a.imported k import) ≡ f c.new-2.result = ap f (sym c.remove-import.ensures.value ∙ sym back) in
+    let now : sum_by f a.imported ≡ sum_by f c.args.self.now.imported = ap (λ (s : ArenaState). sum_by f s.imported) c.self.view_is in
+    omega (arith, less, out, here, now, sum_by-cons f c.new-2.result [])) in
     let loses : Loses (ranges_of c.self.inside.tags) (ranges_of c.remove.new.self) p = subst (λ m. Loses (ranges_of c.self.inside.tags) (ranges_of m) p) (sym c.remove.ensures) (loses_remove c.self.inside.tags p.range.base p at) in record {
       freed = record {
         mine = tagged;
