@@ -1,8 +1,9 @@
 //! Tests that cross crates. It has no code of its own.
 //!
 //! `arenas` has rows of calls of an arena, over plain deeds and over deeds one of whose splits is
-//! refused. They stand here and not in `tag_arena`, since the gate proves a crate once more for its
-//! tests, and `magazines`, runs of magazines and depots, for the same reason. `seat_deeds` has an arena over the deeds of running threads.
+//! refused, and `magazines` runs over a CPU's cache and its depot. They stand here and not in
+//! `tag_arena` and `magazine_layer`, since the gate proves a crate once more for its tests.
+//! `seat_deeds` has an arena over the deeds of running threads.
 #![tactic(auto)]
 
 #[cfg(test)]
