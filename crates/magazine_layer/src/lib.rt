@@ -6,14 +6,14 @@
 //! which keeps count of what its lists need, so that the rest can be reaped. `run_rounds` puts the
 //! two together, and its contract bounds the exchanges.
 //!
-//! A depot of magazines of three rounds, one of an older size of which is being drained:
+//! A depot of magazines of seven rounds, which had magazines of three before:
 //!
 //! ```text
-//! draining  [c d]                 what is left of a magazine: goes first, d before c
-//! old_full  [..] [..]             full ones of smaller sizes: go next, the oldest (left) first
-//! full      [...] [...] [...]     full_reapable 1: that many, from the left, go after these
-//! empty     [   ] [   ] [   ]     empty_reapable 2: that many are discarded by each reap
-//!                           ^     swaps put and take here, at the right
+//! draining  [c d]                      rest of a magazine of either size: goes first, d before c
+//! old_full  [...] [...]                full ones of smaller sizes: go next, oldest (left) first
+//! full      [.......] [.......]        full_reapable 1: that many, from the left, go after these
+//! empty     [       ] [       ]        empty_reapable 2: that many are discarded by each reap
+//!                              ^       swaps put and take here, at the right
 //! ```
 //!
 //! `tick` makes each reapable number its list's length, and a list that gets shorter than its
@@ -24,8 +24,8 @@
 //! in their lists, so `reap`, `resize` and a depot's `close` move the rest of a list for each
 //! magazine that they take out of it. `units` goes over all rounds.
 //!
-//! What contracts see of each type stands in `specs/`: begin with `Magazines.antt`. What a call did,
-//! by its answer, stands in `Calls.antt`. Runs of the whole are in `cross_tests`.
+//! What contracts see of each type stands in `specs/`: begin with `Magazines.antt`. What a call
+//! did, by its answer, stands in `Calls.antt`. Runs of the whole are in `cross_tests`.
 #![tactic(auto)]
 
 mod cpu_caches;
