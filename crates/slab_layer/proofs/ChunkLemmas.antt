@@ -1,5 +1,5 @@
 -- What a chunk and a span of a cache are, and the laws of caches.
-use Rattle.std.proofs.Common.{◌≡◌, inl, inr, ℕ, ◌+◌, ◌*◌, ◌/◌, ◌%◌, ◌<◌, ◌≤◌, ◌^◌, Bool, true, false, not, List, [], ◌∷◌, length, get_or, All, refl, sym, ap, ◌∙◌, arith, subst}
+use Rattle.std.proofs.Common.{◌≡◌, inl, inr, ℕ, ◌+◌, ◌*◌, ◌/◌, ◌%◌, ◌<◌, ◌≤◌, ◌^◌, Bool, true, false, not, List, [], ◌∷◌, length, get_or, All, Option, Some, None, refl, sym, ap, ◌∙◌, arith, subst}
 use Rattle.std.proofs.Math.Nat.{mod-add-div', add-mul-mod_self_right, mul-mod_left, mul_assoc, eq-zero-or-pos, mul-zero}
 use Rattle.std.specs.List.{flat_map}
 use Rattle.std.proofs.lemmas.Bool.{not-false}
@@ -12,13 +12,13 @@ use Rattle.deed_core.proofs.LawProofs.{sum_by-only_all, tests_say, fits_plain, r
 use Rattle.slab_layer.specs.Slab.{SlabState, IsSlab, IsComplete, new_slab, chunks_out_by}
 use Rattle.slab_layer.specs.Cache.{SlabCacheState, IsSound, IsOfSize, IsOnGrid, IsChunkOf, IsSpanOf, chunk_of, chunk_tag, chunks_out, idle_chunks}
 use Rattle.slab_layer.specs.Moves.{IsAlike, Takes, Adds, Reaps}
-use Rattle.slab_layer.specs.Laws.{ChunksAreOfCache, OutIsOfCache, ChunkFits, ChunkIsWholeQuanta, ReapedOutIsEmpty}
+use Rattle.slab_layer.specs.Laws.{ChunksAreOfCache, NeverBoth, OutIsOfCache, TakesNoneExactly, ReapsNoneExactly, ChunkFits, ChunkIsWholeQuanta, ReapedOutIsEmpty}
 use Rattle.slab_layer.proofs.ListLemmas.{both_nil}
 use Rattle.slab_layer.proofs.PassingLemmas.{none_passing}
-use Rattle.slab_layer.proofs.SearchLemmas.{next_stands}
+use Rattle.slab_layer.proofs.SearchLemmas.{next_stands, not_all_out, not_none_complete}
 use Rattle.slab_layer.proofs.SoundLemmas.{of_size, on_grid, some_chunk}
 use Rattle.slab_layer.proofs.MoveLemmas.{slab_of_size}
-use Rattle.slab_layer.proofs.MineLemmas.{SomeChunk, chunk_inside, out_is_chunk, idle_is_chunk}
+use Rattle.slab_layer.proofs.MineLemmas.{SomeChunk, chunk_inside, never_both, out_is_chunk, idle_is_chunk}
 
 -- a cache with other slabs and another colour
 pub alike : (old new : SlabCacheState) (slabs : List SlabState) (colour : ℕ)
@@ -121,6 +121,17 @@ no_slab c (s ∷ ss) none empty =
     let home : All (λ b. not b ≡ false) s.home = none_passing not (chunk_tag c.arena c.k s) 0 s.home first in
     let complete : IsComplete s = All-weaker (λ b. not b ≡ false) (λ b. b ≡ true) (λ b e. not-false b e) s.home home in
     absurd (All-head (λ r. IsComplete r → ⊥) s ss none complete)
+
+pub never_both_ways : NeverBoth
+never_both_ways c t sound out idle = never_both t c sound (out_is_chunk t c out) (idle_is_chunk t c idle)
+
+pub takes_none_exactly : TakesNoneExactly
+takes_none_exactly old new None taken = (λ e. taken.0, λ out. refl)
+takes_none_exactly old new (Some t) taken = (λ e. cc, λ out. absurd (not_all_out taken.0 taken.1 taken.2 old.slabs (next_stands taken.0 taken.2 old.slabs taken.3.next) taken.3.lowest out))
+
+pub reaps_none_exactly : ReapsNoneExactly
+reaps_none_exactly old new None reaped = (λ e. reaped.0, λ none. refl)
+reaps_none_exactly old new (Some t) reaped = (λ e. cc, λ none. absurd (not_none_complete reaped.0 reaped.1 old.slabs reaped.2.lowest none))
 
 pub reaped_out_is_empty : ReapedOutIsEmpty
 reaped_out_is_empty c none empty = no_slab c c.slabs none empty

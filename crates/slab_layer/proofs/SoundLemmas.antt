@@ -184,6 +184,7 @@ made_adds i next slab slabs x old span first e view sound range some apart reach
     let next_is : next ≡ next_colour x = colour ∙ ap next_colour (sym view) in
     subst T view (record {
       size = size;
+      clear = subst (λ (r : Extent). Any (λ s. Overlap s.span.range r) x.slabs → ⊥) range apart;
       within = at.within;
       below = at.below;
       above = at.above;

@@ -89,9 +89,14 @@ PutOf old t (Err (Putting.AtHome back)) new = Contains (idle_chunks old) t × Re
 PutOf old t (Err (Putting.NotMine back)) new =
     (¬ Contains (chunks_out old) t) × (¬ Contains (idle_chunks old) t) × Refuses t back old new
 
+-- a slab has a unit in common with the span
+abbrev pub OverlapsSlab : Tag → SlabCacheState → Type 0
+OverlapsSlab span c = Any (λ s. Overlap s.span.range span.holding.range) c.slabs
+
 -- a span became a slab in its place by base, and its first chunk left
 pub record Adds (i : ℕ) (old new : SlabCacheState) (span first : Tag) : Type 0 where
   pub size : span.holding.range.len ≡ old.slab_size
+  pub clear : ¬ OverlapsSlab span old
   pub within : i ≤ length old.slabs
   pub below : All (λ s. end_of s.span.range ≤ span.holding.range.base) (take i old.slabs)
   pub above : All (λ s. end_of span.holding.range ≤ s.span.range.base) (drop i old.slabs)
@@ -105,10 +110,6 @@ pub record Adds (i : ℕ) (old new : SlabCacheState) (span first : Tag) : Type 0
       insert old.slabs i (with_chunk (new_slab span.holding old.colour (chunk_of old)) 0 false);
     colour = next_colour old;
   }
-
--- a slab has a unit in common with the span
-abbrev pub OverlapsSlab : Tag → SlabCacheState → Type 0
-OverlapsSlab span c = Any (λ s. Overlap s.span.range span.holding.range) c.slabs
 
 -- a span is added: one of another length is refused, then one that overlaps a slab; then only for
 -- want of memory

@@ -36,5 +36,5 @@ mod slabs;
 
 pub use caches::SlabCache;
 pub use faults::{AddFault, PutFault};
-pub use laws::{chunk_laws, reap_laws};
+pub use laws::{chunk_laws, move_laws};
 pub use reports::SlabReport;
