@@ -1,11 +1,21 @@
-//! Tests that cross crates. It has no code of its own.
+//! Tests that cross crates, and those that use a crate's public calls alone. It has no code of its
+//! own.
 //!
-//! `arenas` has rows of calls of an arena, over plain deeds and over deeds one of whose splits is
-//! refused. They stand here and not in `tag_arena`, since the gate proves a crate once more for its
-//! tests. `seat_deeds` has an arena over the deeds of running threads.
+//! They stand here and not in their crates, since the gate proves a crate once more for tests of its
+//! own. `base` is for `deed_core` and `refusing_deed`, `tables` for `deed_table`. `arenas` has rows
+//! of calls of an arena, over plain deeds and over deeds one of whose splits is refused; `slabs` the
+//! same of a slab cache, `magazines` runs of magazines and depots. `seat_deeds` has an arena over the deeds of running threads.
 #![tactic(auto)]
 
 #[cfg(test)]
 mod arenas;
 #[cfg(test)]
+mod base;
+#[cfg(test)]
+mod magazines;
+#[cfg(test)]
 mod seat_deeds;
+#[cfg(test)]
+mod slabs;
+#[cfg(test)]
+mod tables;

@@ -3,6 +3,9 @@ pub mod Holding
 pub mod Tag
 pub mod Request
 pub mod Covering
+pub mod Selections
 pub mod Weights
-pub mod Rows
 pub mod Laws
+pub mod CountingLaws
+pub mod PartLaws
+pub mod SizeLaws

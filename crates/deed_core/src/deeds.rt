@@ -11,9 +11,9 @@ pub struct Refused<D> {
     pub deed: D,
 }
 
-/// A token that covers one range of one root. A type of deeds is neither `Copy` nor `Drop`, so a deed ends only
-/// by a call that its type has for that. The deeds of one system carry one name in their type, under which a
-/// root's number stands for one root.
+/// A token that covers one range of one root. A type of deeds is neither `Copy` nor `Drop`, so a
+/// deed ends only by a call that its type has for that. The deeds of one system carry one name in
+/// their type, under which a root's number stands for one root.
 pub trait Deed {
     /// The root, and the range of it.
     ghost holding: { Self → Holding };
@@ -30,7 +30,8 @@ pub trait Deed {
     /// The deeds of the units below `at` and from `at` on. It is refused only for want of memory.
     fn split(self, at: u64) -> Result<(Self, Self), Refused<Self>>
         requires { IsInside at (holding self).range }
-        ensures ok { IfOk result (λ parts. (holding parts.0 ≡ low at (holding self)) × (holding parts.1 ≡ high at (holding self))) }
+        ensures ok { IfOk result (λ parts.
+            (holding parts.0 ≡ low at (holding self)) × (holding parts.1 ≡ high at (holding self))) }
         ensures err { IfErr result (λ refused. holding refused.deed ≡ holding self) };
 
     /// One deed for what this one and the next cover. It takes no memory.

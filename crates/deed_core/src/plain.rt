@@ -1,23 +1,32 @@
 //! Deeds that are numbers alone, for one thread.
 ghost use Rattle.std.specs.Prelude.{◌≡◌, IsOk, IfOk, IfErr};
 ghost use Rattle.deed_core.specs.Extent.{IsRange, IsInside};
-ghost use Rattle.deed_core.specs.Holding.{low, high};
+ghost use Rattle.deed_core.specs.Holding.{Holding, low, high};
 
 use crate::deeds::{Deed, Refused};
 use crate::ranges::Range;
+use std::marker::Model;
 
-/// A deed that stands for a range by its numbers alone. Nothing keeps two of them apart but the code that makes
-/// them, so they serve one thread that makes each root once.
+/// A deed that stands for a range by its numbers alone. Nothing keeps two of them apart but the
+/// code that makes them, so they serve one thread that makes each root once. Contracts see it as
+/// its root and its range.
 pub struct PlainDeed {
     root: u32,
     range: Range,
-    ghost in_range: { IsRange range },
+}
+
+impl Model for PlainDeed {
+    ghost Value = { Holding };
+
+    ghost view = { λ d. record { root = d.root; range = d.range } };
+
+    ghost invariant = { λ d. IsRange d.range };
 }
 
 impl PlainDeed {
     /// The deed of a range of the root with this number.
     pub fn new(root: u32, range: Range) -> PlainDeed
-        ensures { ⟦<PlainDeed as Deed>⟧.holding result ≡ record { root = root; range = range } }
+        ensures { result ≡ record { root = root; range = range } }
     {
         let _ = range.len();
         PlainDeed { root, range }
@@ -25,7 +34,7 @@ impl PlainDeed {
 
     /// Ends the deed, and tells what it covered.
     pub fn close(self) -> Range
-        ensures { result ≡ (⟦<PlainDeed as Deed>⟧.holding self).range }
+        ensures { result ≡ self.range }
     {
         let PlainDeed { root: _, range } = self;
         range
@@ -33,7 +42,7 @@ impl PlainDeed {
 }
 
 impl Deed for PlainDeed {
-    ghost holding = { λ d. record { root = d.root; range = d.range } };
+    ghost holding = { λ d. d };
 
     fn root(&self) -> u32 {
         self.root
@@ -45,9 +54,9 @@ impl Deed for PlainDeed {
 
     /// A plain deed takes no memory, so its split is never refused.
     fn split(self, at: u64) -> Result<(PlainDeed, PlainDeed), Refused<PlainDeed>>
-        requires { IsInside at (⟦<PlainDeed as Deed>⟧.holding self).range }
-        ensures ok { IfOk result (λ parts. (⟦<PlainDeed as Deed>⟧.holding parts.0 ≡ low at (⟦<PlainDeed as Deed>⟧.holding self)) × (⟦<PlainDeed as Deed>⟧.holding parts.1 ≡ high at (⟦<PlainDeed as Deed>⟧.holding self))) }
-        ensures err { IfErr result (λ refused. ⟦<PlainDeed as Deed>⟧.holding refused.deed ≡ ⟦<PlainDeed as Deed>⟧.holding self) }
+        requires { IsInside at self.range }
+        ensures ok { IfOk result (λ parts. (parts.0 ≡ low at self) × (parts.1 ≡ high at self)) }
+        ensures err { IfErr result (λ refused. refused.deed ≡ self) }
         ensures granted { IsOk result }
     {
         let PlainDeed { root, range } = self;

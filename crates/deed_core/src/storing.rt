@@ -7,8 +7,8 @@ use crate::deeds::{Deed, Refused};
 use crate::ranges::Range;
 use std::marker::Model;
 
-/// A deed in a collection. Contracts see it as the range and the root that it stands for, so a vector of
-/// these is a plain list to them.
+/// A deed in a collection. Contracts see it as the range and the root that it stands for, so a
+/// vector of these is a plain list to them.
 pub struct Stored<D: Deed> {
     deed: D,
 }

@@ -34,6 +34,3 @@ pub use names::Name;
 pub use openers::{Ground, Opener};
 pub use pairs::{Pair, apart};
 pub use roots::{Root, close};
-
-#[cfg(test)]
-mod tests;

@@ -85,6 +85,14 @@ impl<N: Name> Model for Opener<N> {
 }
 
 impl<N: Name> Opener<N> {
+    /// The first number that is left, which the next root gets.
+    pub fn first(&self) -> u64
+        ensures value { result ≡ self.now.first }
+        ensures most { self.now.first + self.now.left ≤ 2 ^ 32 }
+    {
+        self.first
+    }
+
     /// How many root numbers are left.
     pub fn left(&self) -> u64
         ensures { result ≡ self.now.left }

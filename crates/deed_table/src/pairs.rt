@@ -44,8 +44,8 @@ impl<N: Name> Model for Pair<N> {
 }
 
 impl<N: Name> Pair<N> {
-    // The two deeds, joined, which cover no unit twice.
-    pub(crate) fn new(first: SeatDeed<N>, second: SeatDeed<N>) -> Pair<N>
+    /// The two deeds, joined.
+    pub fn new(first: SeatDeed<N>, second: SeatDeed<N>) -> Pair<N>
         requires { first.root ≡ second.root }
         ensures { result ≡ (first, second) }
     {

@@ -1,5 +1,6 @@
-pub mod Stocks
-pub mod Shapes
+pub mod ListLemmas
 pub mod Weighing
+pub mod Belonging
 pub mod Bounds
 pub mod Running
+pub mod LawProofs

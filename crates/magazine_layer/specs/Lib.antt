@@ -1,3 +1,4 @@
 pub mod Magazines
 pub mod Depots
+pub mod Calls
 pub mod Rounds

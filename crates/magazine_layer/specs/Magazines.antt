@@ -1,10 +1,14 @@
--- What a contract sees of magazines and of a CPU's cache.
-use Rattle.std.specs.Prelude.{◌≡◌, ℕ, ◌<◌, ◌≤◌, ◌⊎◌, List, [], ◌∷◌, ◌++◌, length, if◌then◌else◌, ◌==◌}
+-- What a contract sees of magazines and of a CPU's cache, and what their calls do.
+use Rattle.std.specs.Prelude.{◌≡◌, ℕ, ◌<◌, ◌≤◌, ◌⊎◌, List, [], ◌∷◌, ◌++◌, All, Contains, length}
 use Rattle.deed_core.specs.Tag.{Tag}
 
 -- the sizes that a magazine can have
 abbrev pub IsSize : ℕ → Type 0
 IsSize m = (m ≡ 3) ⊎ (m ≡ 7) ⊎ (m ≡ 15) ⊎ (m ≡ 31)
+
+-- each of these rounds is one of those: whatever holds of all those holds of all these
+pub record AreAmong (these those : List Tag) : Type 0 where
+  pub each : All (Contains those) these
 
 -- how many rounds a magazine can hold, and those in it, the last in at the end
 pub record MagazineState : Type 0 where
@@ -16,54 +20,55 @@ pub record IsMagazine (m : MagazineState) : Type 0 where
   pub sized : IsSize m.size
   pub fits : length m.rounds ≤ m.size
 
--- the size of both magazines of a cache, and the rounds in each
-pub record CacheState : Type 0 where
+-- a magazine with no round
+abbrev pub empty_magazine : ℕ → MagazineState
+empty_magazine m = record { size = m; rounds = [] }
+
+-- the size of both magazines of a CPU's cache, and the rounds in each
+pub record CpuCacheState : Type 0 where
   pub size : ℕ
   pub loaded : List Tag
   pub previous : List Tag
 
 -- loaded has at most `size` rounds, previous none or `size`
-pub record IsShaped (c : CacheState) : Type 0 where
+pub record IsShaped (c : CpuCacheState) : Type 0 where
   pub sized : IsSize c.size
   pub most : length c.loaded ≤ c.size
   pub whole : (length c.previous ≡ 0) ⊎ (length c.previous ≡ c.size)
 
--- all rounds of a cache, the last to be taken at the front
-abbrev pub cache_rounds : CacheState → List Tag
+-- both magazines are empty
+pub record BothEmpty (c : CpuCacheState) : Type 0 where
+  pub loaded_empty : c.loaded ≡ []
+  pub previous_empty : c.previous ≡ []
+
+-- both magazines are full
+pub record BothFull (c : CpuCacheState) : Type 0 where
+  pub loaded_full : length c.loaded ≡ c.size
+  pub previous_full : length c.previous ≡ c.size
+
+-- all rounds of a CPU's cache, the last to be taken at the end
+abbrev pub cache_rounds : CpuCacheState → List Tag
 cache_rounds c = c.previous ++ c.loaded
 
--- a cache with one round more in loaded
-abbrev pub loaded_with : Tag → CacheState → CacheState
-loaded_with x c = record { size = c.size; loaded = c.loaded ++ x ∷ []; previous = c.previous }
+-- a cache of this one's size with these rounds in loaded and previous
+abbrev pub with_rounds : List Tag → List Tag → CpuCacheState → CpuCacheState
+with_rounds loaded previous c = record { size = c.size; loaded = loaded; previous = previous }
 
--- the two magazines exchanged
-abbrev pub exchanged : CacheState → CacheState
-exchanged c = record { size = c.size; loaded = c.previous; previous = c.loaded }
+-- x is taken: the last round of loaded, or, where loaded has none, of previous
+pub data Pops (x : Tag) (c c' : CpuCacheState) : Type 0 where
+  Of_loaded : c.loaded ≡ c'.loaded ++ x ∷ [] → c' ≡ with_rounds c'.loaded c.previous c → Pops x c c'
+  -- the two are exchanged first
+  Of_previous : c.loaded ≡ [] → c.previous ≡ c'.loaded ++ x ∷ []
+      → c' ≡ with_rounds c'.loaded [] c → Pops x c c'
 
--- the magazines as a round is taken: exchanged where loaded is empty
-abbrev pub to_take : CacheState → CacheState
-to_take c = if length c.loaded == 0 then exchanged c else c
+-- x is given: onto loaded, or, where loaded is full, onto previous, which is empty
+pub data Pushes (x : Tag) (c c' : CpuCacheState) : Type 0 where
+  On_loaded : length c.loaded < c.size
+      → c' ≡ with_rounds (c.loaded ++ x ∷ []) c.previous c → Pushes x c c'
+  -- the two are exchanged first
+  On_previous : length c.loaded ≡ c.size → c.previous ≡ []
+      → c' ≡ with_rounds (x ∷ []) c.loaded c → Pushes x c c'
 
--- the magazines as a round is given: exchanged where loaded is full
-abbrev pub to_give : CacheState → CacheState
-to_give c = if length c.loaded == c.size then exchanged c else c
-
--- a round can be taken: loaded has one, or previous is full
-abbrev pub CanTake : CacheState → Type 0
-CanTake c = (0 < length c.loaded) ⊎ (length c.previous ≡ c.size)
-
--- a round can be given: loaded has room, or previous is empty
-abbrev pub CanGive : CacheState → Type 0
-CanGive c = (length c.loaded < c.size) ⊎ (c.previous ≡ [])
-
--- x was the last round
-abbrev pub Pops : Tag → CacheState → CacheState → Type 0
-Pops x c c' = to_take c ≡ loaded_with x c'
-
--- the cache with x given
-abbrev pub pushed : Tag → CacheState → CacheState
-pushed x c = loaded_with x (to_give c)
-
--- all rounds in a loaded magazine of another size, previous's below loaded's
-abbrev pub changed : ℕ → CacheState → CacheState
-changed m c = record { size = m; loaded = cache_rounds c; previous = [] }
+-- a cache of another size with all rounds in loaded, previous's below loaded's
+abbrev pub after_change : ℕ → CpuCacheState → CpuCacheState
+after_change m c = record { size = m; loaded = cache_rounds c; previous = [] }

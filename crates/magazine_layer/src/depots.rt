@@ -1,19 +1,17 @@
 //! Depots: what the CPUs share of a quantum cache's magazines.
-ghost use Rattle.std.specs.Prelude.{◌≡◌, ◌≢◌, ◌+◌, ◌-◌, ◌^◌, ◌<◌, ◌↔◌, ◌⊎◌, ◌++◌, []};
-ghost use Rattle.std.specs.Prelude.{length, min, IsOk, IsSome, IfSome, IfNone, IfErr};
-ghost use Rattle.std.specs.Prelude.{IsErrAnd, OnOk, OnErr, IsTrue, Ok, Err};
+ghost use Rattle.std.specs.Prelude.{◌≡◌, ◌-◌, ◌^◌, ◌<◌, ◌↔◌, ◌++◌, [], length, min};
+ghost use Rattle.std.specs.Prelude.{IfSome, OnOk, IsTrue, option_to_list};
 ghost use Rattle.std.specs.Bool.{OnTrue, OnFalse};
 ghost use Rattle.deed_core.specs.Covering.{units_tagged};
 ghost use Rattle.deed_core.specs.Weights.{WeighSame, Loses};
-ghost use Rattle.magazine_layer.specs.Magazines.{IsSize, IsShaped};
-ghost use Rattle.magazine_layer.specs.Depots.{DepotState, SwapsForFull, SwapsForEmpty, PutsFull};
-ghost use Rattle.magazine_layer.specs.Depots.{CanReap, Begins, Reaps, IsStocked, new_depot, ticked};
-ghost use Rattle.magazine_layer.specs.Depots.{resized, trimmed, depot_rounds, both_rounds};
-ghost use Rattle.magazine_layer.specs.declared.faults.FullFault.TheVariants.{NoneFull};
-ghost use Rattle.magazine_layer.specs.declared.faults.EmptyFault.TheVariants.{NoneEmpty};
+ghost use Rattle.magazine_layer.specs.Magazines.{IsSize, AreAmong, IsShaped, BothEmpty, BothFull};
+ghost use Rattle.magazine_layer.specs.Depots.{DepotState, IsDepot, CanReap, Begins, new_depot};
+ghost use Rattle.magazine_layer.specs.Depots.{after_tick, after_trim, depot_rounds, both_rounds};
+ghost use Rattle.magazine_layer.specs.Calls.{SwapFullOf, SwapEmptyOf, PutFullOf, ResizeOf};
+ghost use Rattle.magazine_layer.specs.Calls.{DepotReapOf, DepotCloseOf};
 
 use crate::cpu_caches::CpuCache;
-use crate::faults::{EmptyFault, FullFault, NotGreater, PutFault, PutRefused};
+use crate::faults::{EmptyFault, FullFault, NotGreater, PutFullFault};
 use crate::full_magazines::{FullMagazine, units_of_all};
 use crate::lists::{discard_oldest, drain, reserve_one, take_first};
 use crate::magazines::{Magazine, units_of_rounds};
@@ -21,9 +19,10 @@ use deed_core::{Deed, Segment};
 use std::alloc::Global;
 use std::marker::Model;
 
-/// The full and the empty magazines that no CPU has. Both lists are last in, first out. As many as the
-/// least length of a list over an interval lie outside its working set, and may be reaped ("Magazines
-/// and Vmem", 2001). What is reaped first is our own choice: the oldest.
+/// The full and the empty magazines that no CPU has. Both lists are last in, first out. As many as
+/// the least length of a list over an interval lie outside its working set, and may be reaped
+/// ("Magazines and Vmem", 2001). What is reaped first is our own choice: the oldest. It is never
+/// dropped: `close` ends it where it has no round.
 pub struct Depot<D: Deed> {
     size: usize,
     full: Vec<FullMagazine<D>>,
@@ -36,7 +35,7 @@ pub struct Depot<D: Deed> {
 
 impl<D: Deed> Model for Depot<D> {
     ghost use Rattle.std.specs.Prelude.{◌≡◌, [], All, vec_len, vec_capacity};
-    ghost use Rattle.magazine_layer.specs.Depots.{DepotState, IsStocked, HasRoom};
+    ghost use Rattle.magazine_layer.specs.Depots.{DepotState, IsDepot, ListsHaveRoom};
 
     ghost Value = { DepotState };
 
@@ -50,7 +49,7 @@ impl<D: Deed> Model for Depot<D> {
       draining = d.draining.items;
     } };
 
-    ghost invariant = { λ d. IsStocked (record {
+    ghost invariant = { λ d. IsDepot (record {
       size = d.size;
       full = d.full.items;
       full_reapable = d.full_reapable;
@@ -60,7 +59,7 @@ impl<D: Deed> Model for Depot<D> {
       draining = d.draining.items;
     })
         × All (λ m. m ≡ record { size = d.size; rounds = [] }) d.empty.items
-        × HasRoom (vec_len d.full) (vec_len d.empty) (vec_len d.old_full)
+        × ListsHaveRoom (vec_len d.full) (vec_len d.empty) (vec_len d.old_full)
         (vec_capacity d.full) (vec_capacity d.empty) (vec_capacity d.old_full) };
 }
 
@@ -84,7 +83,7 @@ impl<D: Deed> Depot<D> {
     /// How many rounds its magazines hold.
     pub fn size(&self) -> usize
         ensures value { result ≡ self.now.size }
-        ensures stock { IsStocked self.now }
+        ensures sound { IsDepot self.now }
     {
         self.size
     }
@@ -98,24 +97,27 @@ impl<D: Deed> Depot<D> {
             .saturating_add(units_of_rounds(&self.draining))
     }
 
+    /// Whether `reap` gives a round: one is left of the magazine being drained, a full magazine of
+    /// an old size stands, or a full one lies outside the working set.
+    pub fn can_reap(&self) -> bool
+        ensures value { IsTrue result ↔ CanReap self.now }
+        ensures sound { IsDepot self.now }
+    {
+        !self.draining.is_empty() || !self.old_full.is_empty() || self.full_reapable > 0
+    }
+
     /// Gives a CPU whose magazines are both empty a full one for an empty one. It takes no memory,
     /// and refuses a CPU of another size before it looks for a magazine.
-    #[tactic(auto, using(crate::proofs::Weighing::swap_full_weigh))]
     pub fn swap_for_full(&mut self, cpu: &mut CpuCache<D>) -> Result<(), FullFault>
-        requires loaded { cpu.old.loaded ≡ [] }
-        requires previous { cpu.old.previous ≡ [] }
-        ensures ok { OnOk result (SwapsForFull cpu.old cpu.new self.old self.new) }
-        ensures weights { OnOk result
-            (WeighSame (both_rounds cpu.old self.old) (both_rounds cpu.new self.new)) }
-        ensures old_size { (result ≡ Err (FullFault.OldSize self.old.size))
-            ↔ (cpu.old.size ≢ self.old.size) }
-        ensures fault { IfErr result (λ e. (e ≡ FullFault.OldSize self.old.size) ⊎ (e ≡ NoneFull)) }
-        ensures none_full { (result ≡ Err NoneFull)
-            ↔ ((cpu.old.size ≡ self.old.size) × (self.old.full ≡ [])) }
-        ensures same { OnErr result (self.new ≡ self.old) }
-        ensures same_cpu { OnErr result (cpu.new ≡ cpu.old) }
+        requires { BothEmpty cpu.old }
+        // what it does
+        ensures of { SwapFullOf cpu.old self.old result cpu.new self.new }
+        // what follows
+        ensures weights { WeighSame (both_rounds cpu.old self.old) (both_rounds cpu.new self.new) }
+        ensures kinds { AreAmong (both_rounds cpu.new self.new) (both_rounds cpu.old self.old) }
+        ensures sizes { (cpu.new.size ≡ cpu.old.size) × (self.new.size ≡ self.old.size) }
         ensures shape { IsShaped cpu.new }
-        ensures stock { IsStocked self.new }
+        ensures sound { IsDepot self.new }
     {
         if cpu.size() != self.size {
             return Err(FullFault::OldSize(self.size));
@@ -132,22 +134,16 @@ impl<D: Deed> Depot<D> {
 
     /// Gives a CPU whose magazines are both full an empty one for a full one. It takes no memory,
     /// and refuses a CPU of another size before it looks for a magazine.
-    #[tactic(auto, using(crate::proofs::Weighing::swap_empty_weigh))]
     pub fn swap_for_empty(&mut self, cpu: &mut CpuCache<D>) -> Result<(), EmptyFault>
-        requires loaded { length cpu.old.loaded ≡ cpu.old.size }
-        requires previous { length cpu.old.previous ≡ cpu.old.size }
-        ensures ok { OnOk result (SwapsForEmpty cpu.old cpu.new self.old self.new) }
-        ensures weights { OnOk result
-            (WeighSame (both_rounds cpu.old self.old) (both_rounds cpu.new self.new)) }
-        ensures old_size { (result ≡ Err (EmptyFault.OldSize self.old.size))
-            ↔ (cpu.old.size ≢ self.old.size) }
-        ensures fault { IfErr result (λ e. (e ≡ EmptyFault.OldSize self.old.size) ⊎ (e ≡ NoneEmpty)) }
-        ensures none_empty { (result ≡ Err NoneEmpty)
-            ↔ ((cpu.old.size ≡ self.old.size) × (self.old.empty ≡ 0)) }
-        ensures same { OnErr result (self.new ≡ self.old) }
-        ensures same_cpu { OnErr result (cpu.new ≡ cpu.old) }
+        requires { BothFull cpu.old }
+        // what it does
+        ensures of { SwapEmptyOf cpu.old self.old result cpu.new self.new }
+        // what follows
+        ensures weights { WeighSame (both_rounds cpu.old self.old) (both_rounds cpu.new self.new) }
+        ensures kinds { AreAmong (both_rounds cpu.new self.new) (both_rounds cpu.old self.old) }
+        ensures sizes { (cpu.new.size ≡ cpu.old.size) × (self.new.size ≡ self.old.size) }
         ensures shape { IsShaped cpu.new }
-        ensures stock { IsStocked self.new }
+        ensures sound { IsDepot self.new }
     {
         if cpu.size() != self.size {
             return Err(EmptyFault::OldSize(self.size));
@@ -163,40 +159,30 @@ impl<D: Deed> Depot<D> {
     }
 
     /// Takes a full magazine of a CPU whose magazines are both full, which gets this one for it. It
-    /// makes the room that the other calls need later; want of memory for that is the last thing
-    /// that it refuses for.
-    #[tactic(auto, using(crate::proofs::Weighing::put_full_weigh))]
+    /// makes the room that the other calls need later, and is out of memory for nothing else, which
+    /// it tells last.
     pub fn put_full(
         &mut self,
         cpu: &mut CpuCache<D>,
         magazine: Magazine<D>,
-    ) -> Result<(), PutRefused<D>>
-        requires loaded { length cpu.old.loaded ≡ cpu.old.size }
-        requires previous { length cpu.old.previous ≡ cpu.old.size }
-        ensures ok { OnOk result (PutsFull magazine cpu.old cpu.new self.old self.new) }
-        ensures weights { OnOk result
-            (WeighSame (magazine.rounds ++ both_rounds cpu.old self.old) (both_rounds cpu.new self.new)) }
-        ensures old_size { IsErrAnd result (λ r. r.fault ≡ PutFault.OldSize self.old.size)
-            ↔ ((cpu.old.size ≢ self.old.size) ⊎ (magazine.size ≢ self.old.size)) }
-        ensures fault { IfErr result
-            (λ r. (r.fault ≡ PutFault.OldSize self.old.size) ⊎ (r.fault ≡ PutFault.NoMemory)) }
-        ensures magazine { IfErr result (λ r. r.magazine ≡ magazine) }
-        ensures same { OnErr result (self.new ≡ self.old) }
-        ensures same_cpu { OnErr result (cpu.new ≡ cpu.old) }
+    ) -> Result<(), PutFullFault<Magazine<D>>>
+        requires { BothFull cpu.old }
+        // what it does
+        ensures of { PutFullOf cpu.old self.old magazine result cpu.new self.new }
+        // what follows
+        ensures weights { OnOk result (WeighSame (magazine.rounds ++ both_rounds cpu.old self.old)
+            (both_rounds cpu.new self.new)) }
+        ensures kinds { AreAmong (both_rounds cpu.new self.new)
+            (magazine.rounds ++ both_rounds cpu.old self.old) }
+        ensures sizes { (cpu.new.size ≡ cpu.old.size) × (self.new.size ≡ self.old.size) }
         ensures shape { IsShaped cpu.new }
-        ensures stock { IsStocked self.new }
+        ensures sound { IsDepot self.new }
     {
         if cpu.size() != self.size || magazine.size() != self.size {
-            return Err(PutRefused {
-                magazine,
-                fault: PutFault::OldSize(self.size),
-            });
+            return Err(PutFullFault::OldSize(self.size, magazine));
         }
         let Ok(()) = reserve_one(&mut self.full, &mut self.empty, &mut self.old_full) else {
-            return Err(PutRefused {
-                magazine,
-                fault: PutFault::NoMemory,
-            });
+            return Err(PutFullFault::NoMemory(magazine));
         };
         let full = cpu.rotate(magazine);
         self.full.push_reserved(FullMagazine::new(full));
@@ -205,26 +191,26 @@ impl<D: Deed> Depot<D> {
         Ok(())
     }
 
-    /// Begins an interval: all that stands in either list may be reaped, but for what is taken out from
-    /// then on.
+    /// Begins an interval: all that stands in either list may be reaped, but for what is taken out
+    /// from then on.
     pub fn tick(&mut self)
-        ensures ticked { self.new ≡ ticked self.old }
-        ensures stock { IsStocked self.new }
+        ensures of { self.new ≡ after_tick self.old }
+        ensures sound { IsDepot self.new }
     {
         self.full_reapable = self.full.len();
         self.empty_reapable = self.empty.len();
     }
 
     /// Has magazines of a greater size from here on. The full ones are reaped before any other from
-    /// now on, and the empty ones are discarded.
-    #[tactic(auto, using(crate::proofs::Weighing::resized_weigh))]
+    /// now on, and the empty ones are discarded. It takes no memory.
     pub fn resize(&mut self, size: usize) -> Result<(), NotGreater>
         requires { IsSize size }
-        ensures ok { IsOk result ↔ (self.old.size < size) }
-        ensures resized { OnOk result (self.new ≡ resized size self.old) }
-        ensures weights { OnOk result (WeighSame (depot_rounds self.old) (depot_rounds self.new)) }
-        ensures stock { IsStocked self.new }
-        ensures same { OnErr result (self.new ≡ self.old) }
+        // what it does
+        ensures of { ResizeOf self.old size result self.new }
+        // what follows
+        ensures weights { WeighSame (depot_rounds self.old) (depot_rounds self.new) }
+        ensures kinds { AreAmong (depot_rounds self.new) (depot_rounds self.old) }
+        ensures sound { IsDepot self.new }
     {
         if size <= self.size {
             return Err(NotGreater);
@@ -242,16 +228,19 @@ impl<D: Deed> Depot<D> {
     }
 
     /// Takes one round of the magazine being drained, else of the oldest full one of an old size,
-    /// else of the oldest full one outside the working set; and discards the empty ones outside it.
-    /// It takes no memory.
+    /// else of the oldest full one outside the working set. It discards the empty ones outside the
+    /// working set in any case, also where it has no round to give. It takes no memory.
     #[tactic(auto, using(crate::proofs::Weighing::reaps_weigh))]
     pub fn reap(&mut self) -> Option<Segment<D>>
-        ensures some { IsSome result ↔ CanReap self.old }
-        ensures reaps { IfSome result (λ x. Reaps x (trimmed self.old) self.new) }
-        ensures weights { IfSome result (λ x. Loses (depot_rounds self.old) (depot_rounds self.new) x) }
-        ensures none { IfNone result (self.new ≡ trimmed self.old) }
+        // what it does
+        ensures of { DepotReapOf self.old result self.new }
+        // what follows
+        ensures weights { IfSome result
+            (λ x. Loses (depot_rounds self.old) (depot_rounds self.new) x) }
+        ensures kinds { AreAmong (option_to_list result ++ depot_rounds self.new)
+            (depot_rounds self.old) }
         ensures size { self.new.size ≡ self.old.size }
-        ensures stock { IsStocked self.new }
+        ensures sound { IsDepot self.new }
     {
         self.trim();
         if !self.begin() {
@@ -265,7 +254,7 @@ impl<D: Deed> Depot<D> {
 
     // Discards the empty magazines outside the working set.
     fn trim(&mut self)
-        ensures { self.new ≡ trimmed self.old }
+        ensures { self.new ≡ after_trim self.old }
     {
         discard_oldest(&mut self.empty, self.empty_reapable);
         self.empty_reapable = 0;
@@ -276,8 +265,8 @@ impl<D: Deed> Depot<D> {
         ensures can { IsTrue result ↔ CanReap self.old }
         ensures begins { OnTrue result (Begins self.old self.new) }
         ensures some { OnTrue result (0 < length self.new.draining) }
-        ensures same { OnFalse result (self.new ≡ self.old) }
-        ensures stock { IsStocked self.new }
+        ensures unchanged { OnFalse result (self.new ≡ self.old) }
+        ensures sound { IsDepot self.new }
     {
         if !self.draining.is_empty() {
             return true;
@@ -296,8 +285,7 @@ impl<D: Deed> Depot<D> {
 
     /// Ends a depot that has no round, and hands back one that has.
     pub fn close(self) -> Result<(), Depot<D>>
-        ensures empty { IsOk result ↔ (depot_rounds self ≡ []) }
-        ensures same { IfErr result (λ same. same ≡ self) }
+        ensures of { DepotCloseOf self result }
     {
         if !self.full.is_empty() {
             return Err(self);

@@ -1,6 +1,4 @@
 //! Why a depot refuses.
-use crate::magazines::Magazine;
-use deed_core::Deed;
 use thiserror::Error;
 
 /// Why a depot gave no full magazine.
@@ -25,23 +23,12 @@ pub enum EmptyFault {
     NoneEmpty,
 }
 
-/// Why a depot took no full magazine.
-#[derive(Clone, Copy, PartialEq, Eq, Debug, Error)]
-pub enum PutFault {
+/// Why a depot took no full magazine. The magazine that was to be put comes back as it was.
+pub enum PutFullFault<M> {
     /// The depot's magazines have this size, and the CPU's or the new one another.
-    #[error("the depot's magazines hold {0} rounds")]
-    OldSize(usize),
-    /// No memory for the depot's lists.
-    #[error("no memory")]
-    NoMemory,
-}
-
-/// A refused magazine comes back.
-pub struct PutRefused<D: Deed> {
-    /// The magazine that was to be put, as it was.
-    pub magazine: Magazine<D>,
-    /// What refused it.
-    pub fault: PutFault,
+    OldSize(usize, M),
+    /// Out of memory for the depot's lists.
+    NoMemory(M),
 }
 
 /// The new size of a depot's magazines isn't greater than the old one.

@@ -4,8 +4,28 @@
 //! A segment in a magazine is called a round. A `CpuCache` takes and gives rounds with no memory
 //! and no lock; where its magazines are both empty or both full, it exchanges one with the `Depot`,
 //! which keeps count of what its lists need, so that the rest can be reaped. `run_rounds` puts the
-//! two together, and its contract bounds the exchanges. What contracts see of each type stands in
-//! `specs/`: begin with `Magazines.antt`. A run of the whole is in `tests.rt`.
+//! two together, and its contract bounds the exchanges.
+//!
+//! A depot of magazines of three rounds, one of an older size of which is being drained:
+//!
+//! ```text
+//! draining  [c d]                 what is left of a magazine: goes first, d before c
+//! old_full  [..] [..]             full ones of smaller sizes: go next, the oldest (left) first
+//! full      [...] [...] [...]     full_reapable 1: that many, from the left, go after these
+//! empty     [   ] [   ] [   ]     empty_reapable 2: that many are discarded by each reap
+//!                           ^     swaps put and take here, at the right
+//! ```
+//!
+//! `tick` makes each reapable number its list's length, and a list that gets shorter than its
+//! number makes it that length. So it is the least length since the tick, less what was reaped.
+//!
+//! What a call costs: `take`, `give` and the swaps take constant time, `put_full` too but for the
+//! growth of lists; `change` moves the cache's rounds, at most 62. The oldest magazines stand first
+//! in their lists, so `reap`, `resize` and a depot's `close` move the rest of a list for each
+//! magazine that they take out of it. `units` goes over all rounds.
+//!
+//! What contracts see of each type stands in `specs/`: begin with `Magazines.antt`. What a call did,
+//! by its answer, stands in `Calls.antt`. Runs of the whole are in `cross_tests`.
 #![tactic(auto)]
 
 mod cpu_caches;
@@ -15,11 +35,9 @@ mod full_magazines;
 mod lists;
 mod magazines;
 mod rounds;
-#[cfg(test)]
-mod tests;
 
 pub use cpu_caches::CpuCache;
 pub use depots::Depot;
-pub use faults::{EmptyFault, FullFault, NotGreater, PutFault, PutRefused};
-pub use magazines::Magazine;
+pub use faults::{EmptyFault, FullFault, NotGreater, PutFullFault};
+pub use magazines::{Magazine, is_magazine_size, two_empty};
 pub use rounds::{RoundAnswer, RoundOp, RoundRun, run_rounds};

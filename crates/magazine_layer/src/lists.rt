@@ -50,7 +50,8 @@ pub(crate) fn reserve_one<D: Deed>(
     requires { vec_len full.old + vec_len empty.old ≤ vec_capacity full.old }
     ensures full_items { full.new.items ≡ full.old.items }
     ensures full_len { vec_len full.new ≡ vec_len full.old }
-    ensures full_room { OnOk result (vec_len full.old + vec_len empty.old + 1 ≤ vec_capacity full.new) }
+    ensures full_room { OnOk result
+        (vec_len full.old + vec_len empty.old + 1 ≤ vec_capacity full.new) }
     ensures full_keeps { vec_capacity full.old ≤ vec_capacity full.new }
     ensures empty_items { empty.new.items ≡ empty.old.items }
     ensures empty_len { vec_len empty.new ≡ vec_len empty.old }
@@ -60,7 +61,8 @@ pub(crate) fn reserve_one<D: Deed>(
     ensures old_items { old_full.new.items ≡ old_full.old.items }
     ensures old_len { vec_len old_full.new ≡ vec_len old_full.old }
     ensures old_room { OnOk result
-        (vec_len old_full.old + (vec_len full.old + vec_len empty.old + 1) ≤ vec_capacity old_full.new) }
+        (vec_len old_full.old + (vec_len full.old + vec_len empty.old + 1)
+        ≤ vec_capacity old_full.new) }
     ensures old_keeps { vec_capacity old_full.old ≤ vec_capacity old_full.new }
 {
     let count = full.len() + empty.len() + 1;

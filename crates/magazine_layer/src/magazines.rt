@@ -1,9 +1,10 @@
 //! Magazines: stacks of segments.
 ghost use Rattle.std.specs.Prelude.{◌≡◌, ◌+◌, ◌<◌, ◌≤◌, ◌^◌, ◌↔◌, [], ◌∷◌, ◌++◌, length, IsTrue};
-ghost use Rattle.std.specs.Prelude.{IfSome, IfNone, IfOk, IfErr, IsOk, IsNone};
+ghost use Rattle.std.specs.Prelude.{IfSome, IfOk, option_to_list};
 ghost use Rattle.deed_core.specs.Covering.{units_tagged};
 ghost use Rattle.deed_core.specs.Weights.{Loses};
-ghost use Rattle.magazine_layer.specs.Magazines.{IsSize, IsMagazine, MagazineState};
+ghost use Rattle.magazine_layer.specs.Magazines.{IsSize, AreAmong, IsMagazine, empty_magazine};
+ghost use Rattle.magazine_layer.specs.Calls.{MagazineTakeOf, DiscardOf};
 
 use deed_core::{Deed, Segment};
 use std::alloc::{AllocError, Global};
@@ -11,7 +12,7 @@ use std::marker::Model;
 
 /// A stack of segments, its rounds ("Magazines and Vmem", 2001). It holds 3, 7, 15 or 31 of them,
 /// which is our own choice: all rounds of two magazines have room in one of the next size. It is
-/// never dropped.
+/// never dropped: `discard` ends it once it is empty.
 pub struct Magazine<D: Deed> {
     size: usize,
     rounds: Vec<Segment<D>>,
@@ -29,11 +30,37 @@ impl<D: Deed> Model for Magazine<D> {
         × (m.size ≤ vec_capacity m.rounds) };
 }
 
+/// Whether a magazine can have this size: 3, 7, 15 or 31 rounds.
+pub fn is_magazine_size(size: usize) -> bool
+    ensures value { IsTrue result ↔ IsSize size }
+{
+    matches!(size, 3 | 7 | 15 | 31)
+}
+
+/// Two empty magazines of one size, as `CpuCache::change` asks for. Out of memory leaves none.
+pub fn two_empty<D: Deed>(
+    alloc: Global,
+    size: usize,
+) -> Result<(Magazine<D>, Magazine<D>), AllocError>
+    requires { IsSize size }
+    ensures first { IfOk result (λ p. p.0 ≡ empty_magazine size) }
+    ensures second { IfOk result (λ p. p.1 ≡ empty_magazine size) }
+{
+    let first = Magazine::new(alloc, size)?;
+    match Magazine::new(alloc, size) {
+        Ok(second) => Ok((first, second)),
+        Err(refused) => {
+            discard_empty(first);
+            Err(refused)
+        }
+    }
+}
+
 impl<D: Deed> Magazine<D> {
     /// An empty magazine, with room reserved for `size` rounds.
     pub fn new(alloc: Global, size: usize) -> Result<Magazine<D>, AllocError>
         requires { IsSize size }
-        ensures { IfOk result (λ m. m ≡ record { size = size; rounds = [] }) }
+        ensures { IfOk result (λ m. m ≡ empty_magazine size) }
     {
         let rounds = Vec::with_capacity(alloc, size)?;
         Ok(Magazine { size, rounds })
@@ -63,7 +90,7 @@ impl<D: Deed> Magazine<D> {
         self.rounds.len() == self.size
     }
 
-    /// The units that its rounds cover.
+    /// The units that its rounds cover, each counted by itself.
     pub fn units(&self) -> u128
         ensures value { result ≡ units_tagged self.now.rounds }
         ensures bound { result < 2 ^ 126 }
@@ -71,14 +98,16 @@ impl<D: Deed> Magazine<D> {
         units_of_rounds(&self.rounds)
     }
 
-    /// Takes the last round that was put in.
+    /// Takes the last round that was put in. It takes no memory.
     #[tactic(auto, using(crate::proofs::Weighing::last_weighs))]
     pub fn take(&mut self) -> Option<Segment<D>>
-        ensures last { IfSome result (λ x. self.old.rounds ≡ self.new.rounds ++ x ∷ []) }
+        // what it does
+        ensures of { MagazineTakeOf self.old result self.new }
+        // what follows
         ensures weights { IfSome result (λ x. Loses self.old.rounds self.new.rounds x) }
-        ensures none { IsNone result ↔ (self.old.rounds ≡ []) }
-        ensures same { IfNone result (self.new ≡ self.old) }
+        ensures kinds { AreAmong (option_to_list result ++ self.new.rounds) self.old.rounds }
         ensures size { self.new.size ≡ self.old.size }
+        ensures shape { IsMagazine self.new }
     {
         self.rounds.pop()
     }
@@ -86,7 +115,8 @@ impl<D: Deed> Magazine<D> {
     // Puts a round in.
     pub(crate) fn push(&mut self, segment: Segment<D>)
         requires { length self.old.rounds < self.old.size }
-        ensures { self.new ≡ record { size = self.old.size; rounds = self.old.rounds ++ segment ∷ [] } }
+        ensures { self.new ≡
+            record { size = self.old.size; rounds = self.old.rounds ++ segment ∷ [] } }
     {
         self.rounds.push_reserved(segment);
     }
@@ -96,7 +126,7 @@ impl<D: Deed> Magazine<D> {
         requires { length self.old.rounds + length other.old.rounds ≤ self.old.size }
         ensures here { self.new ≡
             record { size = self.old.size; rounds = self.old.rounds ++ other.old.rounds } }
-        ensures there { other.new ≡ record { size = other.old.size; rounds = [] } }
+        ensures there { other.new ≡ empty_magazine other.old.size }
     {
         match self.rounds.append(&mut other.rounds) {
             Ok(()) => {}
@@ -114,8 +144,7 @@ impl<D: Deed> Magazine<D> {
 
     /// Ends an empty magazine, and hands back one that has rounds.
     pub fn discard(self) -> Result<(), Magazine<D>>
-        ensures empty { IsOk result ↔ (self.rounds ≡ []) }
-        ensures same { IfErr result (λ same. same ≡ self) }
+        ensures of { DiscardOf self result }
     {
         if !self.rounds.is_empty() {
             return Err(self);
@@ -141,7 +170,8 @@ pub(crate) fn units_of_rounds<D: Deed>(rounds: &[Segment<D>]) -> u128
     ensures value { result ≡ units_tagged rounds.now }
     ensures bound { result < 2 ^ 126 }
 {
-    let _count = rounds.len();
+    // For its clause: there are fewer than 2^64 rounds.
+    let _ = rounds.len();
     let mut total: u128 = 0;
     for round in rounds {
         total += u128::from(round.range().len());

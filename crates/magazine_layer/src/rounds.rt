@@ -1,16 +1,16 @@
 //! Runs of giving and taking over one CPU's cache and its depot.
-ghost use Rattle.std.specs.Prelude.{◌≡◌, ◌+◌, ◌/◌, ◌<◌, ◌≤◌, ◌⊎◌, ◌++◌, length, IfOk};
-ghost use Rattle.std.specs.Prelude.{IfErr, OnErr, IfSome, IfNone, OnSome, flat_map, vec_len};
-ghost use Rattle.std.specs.Bool.{OnTrue, OnFalse};
+ghost use Rattle.std.specs.Prelude.{◌≡◌, ◌+◌, ◌/◌, ◌≤◌, ◌++◌, IfOk, IfErr, OnErr, IfSome};
+ghost use Rattle.std.specs.Prelude.{IfNone, OnSome, flat_map, vec_len};
 ghost use Rattle.deed_core.specs.Weights.{WeighSame};
-ghost use Rattle.magazine_layer.specs.Magazines.{IsSize, IsShaped, CanGive, cache_rounds, changed};
+ghost use Rattle.magazine_layer.specs.Magazines.{AreAmong, IsShaped, BothFull};
 ghost use Rattle.magazine_layer.specs.Depots.{both_rounds};
-ghost use Rattle.magazine_layer.specs.Rounds.{Takes, Gives, MakesRoom, IsFullUp};
-ghost use Rattle.magazine_layer.specs.Rounds.{NeedsMemory, Steps, Runs, stock, brought, handed};
+ghost use Rattle.magazine_layer.specs.Rounds.{TakesRound, GivesRound, MakesRoom, NeedsMemory};
+ghost use Rattle.magazine_layer.specs.Rounds.{StepsRound, RunsRounds, cpu_depot, rounds_of_op};
+ghost use Rattle.magazine_layer.specs.Rounds.{rounds_of_answer};
 
-use crate::cpu_caches::{CpuCache, two_empty};
+use crate::cpu_caches::CpuCache;
 use crate::depots::Depot;
-use crate::faults::{EmptyFault, FullFault, PutRefused};
+use crate::faults::{EmptyFault, FullFault, PutFullFault};
 use crate::magazines::{Magazine, discard_empty};
 use deed_core::{Deed, Segment};
 use std::alloc::Global;
@@ -49,27 +49,10 @@ struct Step<D: Deed> {
     exchanges: usize,
 }
 
-// Changes a CPU's cache over to a size that has room for all its rounds, if there is memory.
-fn change_over<D: Deed>(alloc: Global, cpu: &mut CpuCache<D>, size: usize) -> bool
-    requires size { IsSize size }
-    requires room { length (cache_rounds cpu.old) ≤ size }
-    ensures ok { OnTrue result (cpu.new ≡ changed size cpu.old) }
-    ensures same { OnFalse result (cpu.new ≡ cpu.old) }
-    ensures either { (cpu.new ≡ cpu.old) ⊎ (cpu.new ≡ changed size cpu.old) }
-    ensures shape { IsShaped cpu.new }
-{
-    let Ok((loaded, previous)) = two_empty(alloc, size) else {
-        let _ = cpu.size();
-        return false;
-    };
-    cpu.change(loaded, previous);
-    true
-}
-
 // Takes a round, of the CPU's cache or of a full magazine of the depot's.
 fn take_round<D: Deed>(alloc: Global, cpu: &mut CpuCache<D>, depot: &mut Depot<D>) -> Step<D>
     requires { cpu.old.size ≤ depot.old.size }
-    ensures takes { Takes (stock cpu.old depot.old) (stock cpu.new depot.new)
+    ensures takes { TakesRound (cpu_depot cpu.old depot.old) (cpu_depot cpu.new depot.new)
         result.answer result.exchanges }
     ensures most { result.exchanges ≤ 1 }
     ensures shape { IsShaped cpu.new }
@@ -97,7 +80,8 @@ fn take_round<D: Deed>(alloc: Global, cpu: &mut CpuCache<D>, depot: &mut Depot<D
             exchanges: 0,
         },
         Err(FullFault::OldSize(size)) => {
-            let _ = change_over(alloc, cpu, size);
+            // Out of memory leaves the cache as it is, and there is no round to take in any case.
+            let _ = cpu.change_over(alloc, size);
             Step {
                 answer: RoundAnswer::Nothing,
                 exchanges: 0,
@@ -109,14 +93,15 @@ fn take_round<D: Deed>(alloc: Global, cpu: &mut CpuCache<D>, depot: &mut Depot<D
 // Makes room in a CPU's cache whose magazines are both full, and tells the exchanges that it took,
 // if there is memory.
 fn make_room<D: Deed>(alloc: Global, cpu: &mut CpuCache<D>, depot: &mut Depot<D>) -> Option<usize>
-    requires full { IsFullUp cpu.old }
+    requires full { BothFull cpu.old }
     requires sizes { cpu.old.size ≤ depot.old.size }
     ensures made { IfSome result
-        (λ exchanges. MakesRoom (stock cpu.old depot.old) (stock cpu.new depot.new) exchanges) }
-    ensures room { OnSome result (CanGive cpu.new) }
+        (λ exchanges. MakesRoom (cpu_depot cpu.old depot.old) (cpu_depot cpu.new depot.new)
+        exchanges) }
+    ensures room { OnSome result (¬ BothFull cpu.new) }
     ensures most { IfSome result (λ exchanges. exchanges ≤ 1) }
-    ensures memory { IfNone result (NeedsMemory (stock cpu.old depot.old)) }
-    ensures same { IfNone result (stock cpu.new depot.new ≡ stock cpu.old depot.old) }
+    ensures memory { IfNone result (NeedsMemory (cpu_depot cpu.old depot.old)) }
+    ensures unchanged { IfNone result (cpu_depot cpu.new depot.new ≡ cpu_depot cpu.old depot.old) }
     ensures shape { IsShaped cpu.new }
     ensures sizes { cpu.new.size ≤ depot.new.size }
     ensures size { depot.new.size ≡ depot.old.size }
@@ -125,36 +110,37 @@ fn make_room<D: Deed>(alloc: Global, cpu: &mut CpuCache<D>, depot: &mut Depot<D>
         Ok(()) => Some(1),
         Err(EmptyFault::NoneEmpty) => put_new(alloc, cpu, depot),
         Err(EmptyFault::OldSize(size)) => {
-            if change_over(alloc, cpu, size) {
-                return Some(0);
+            if cpu.change_over(alloc, size).is_err() {
+                return None;
             }
-            None
+            Some(0)
         }
     }
 }
 
 // Makes room by a new magazine, if there is memory.
 fn put_new<D: Deed>(alloc: Global, cpu: &mut CpuCache<D>, depot: &mut Depot<D>) -> Option<usize>
-    requires full { IsFullUp cpu.old }
+    requires full { BothFull cpu.old }
     requires sizes { cpu.old.size ≡ depot.old.size }
     requires none { depot.old.empty ≡ 0 }
     ensures made { IfSome result
-        (λ exchanges. MakesRoom (stock cpu.old depot.old) (stock cpu.new depot.new) exchanges) }
-    ensures room { OnSome result (CanGive cpu.new) }
+        (λ exchanges. MakesRoom (cpu_depot cpu.old depot.old) (cpu_depot cpu.new depot.new)
+        exchanges) }
+    ensures room { OnSome result (¬ BothFull cpu.new) }
     ensures most { IfSome result (λ exchanges. exchanges ≤ 1) }
-    ensures same { IfNone result (stock cpu.new depot.new ≡ stock cpu.old depot.old) }
+    ensures unchanged { IfNone result (cpu_depot cpu.new depot.new ≡ cpu_depot cpu.old depot.old) }
     ensures shape { IsShaped cpu.new }
     ensures sizes { cpu.new.size ≤ depot.new.size }
     ensures size { depot.new.size ≡ depot.old.size }
 {
     let Ok(magazine) = Magazine::new(alloc, depot.size()) else {
+        // For its clause: the cache has its shape.
         let _ = cpu.size();
         return None;
     };
     match depot.put_full(cpu, magazine) {
         Ok(()) => Some(1),
-        Err(refused) => {
-            let PutRefused { magazine, fault: _ } = refused;
+        Err(PutFullFault::OldSize(_, magazine) | PutFullFault::NoMemory(magazine)) => {
             discard_empty(magazine);
             None
         }
@@ -169,7 +155,7 @@ fn give_round<D: Deed>(
     segment: Segment<D>,
 ) -> Step<D>
     requires { cpu.old.size ≤ depot.old.size }
-    ensures gives { Gives segment (stock cpu.old depot.old) (stock cpu.new depot.new)
+    ensures gives { GivesRound segment (cpu_depot cpu.old depot.old) (cpu_depot cpu.new depot.new)
         result.answer result.exchanges }
     ensures most { result.exchanges ≤ 1 }
     ensures shape { IsShaped cpu.new }
@@ -206,7 +192,7 @@ fn run_one<D: Deed>(
     op: RoundOp<D>,
 ) -> Step<D>
     requires { cpu.old.size ≤ depot.old.size }
-    ensures step { Steps op (stock cpu.old depot.old) (stock cpu.new depot.new)
+    ensures step { StepsRound op (cpu_depot cpu.old depot.old) (cpu_depot cpu.new depot.new)
         result.answer result.exchanges }
     ensures most { result.exchanges ≤ 1 }
     ensures shape { IsShaped cpu.new }
@@ -230,19 +216,24 @@ pub fn run_rounds<D: Deed>(
     ops: Vec<RoundOp<D>>,
 ) -> Result<RoundRun<D>, Vec<RoundOp<D>>>
     requires { cpu.old.size ≤ depot.old.size }
-    ensures run { IfOk result (λ r. Runs (stock cpu.old depot.old) ops.items r.answers.items
-        (stock cpu.new depot.new) r.exchanges) }
-    ensures weights { IfOk result
-        (λ r. WeighSame (both_rounds cpu.old depot.old ++ flat_map brought ops.items)
-        (both_rounds cpu.new depot.new ++ flat_map handed r.answers.items)) }
+    // what it does
+    ensures run { IfOk result (λ r. RunsRounds (cpu_depot cpu.old depot.old) ops.items
+        r.answers.items (cpu_depot cpu.new depot.new) r.exchanges) }
     ensures few { IfOk result (λ r. r.exchanges ≤ 1 + vec_len ops / depot.old.size) }
+    ensures unchanged { OnErr result ((cpu.new ≡ cpu.old) × (depot.new ≡ depot.old)) }
+    ensures handed_back { IfErr result (λ back. back ≡ ops) }
+    // what follows
+    ensures weights { IfOk result
+        (λ r. WeighSame (both_rounds cpu.old depot.old ++ flat_map rounds_of_op ops.items)
+        (both_rounds cpu.new depot.new ++ flat_map rounds_of_answer r.answers.items)) }
+    ensures kinds { IfOk result
+        (λ r. AreAmong (both_rounds cpu.new depot.new ++ flat_map rounds_of_answer r.answers.items)
+        (both_rounds cpu.old depot.old ++ flat_map rounds_of_op ops.items)) }
     ensures answers { IfOk result (λ r. vec_len r.answers ≡ vec_len ops) }
-    ensures same { OnErr result (stock cpu.new depot.new ≡ stock cpu.old depot.old) }
-    ensures ops { IfErr result (λ same. same ≡ ops) }
+    ensures sizes { (cpu.new.size ≤ depot.new.size) × (depot.new.size ≡ depot.old.size) }
     ensures shape { IsShaped cpu.new }
-    ensures sizes { cpu.new.size ≤ depot.new.size }
-    ensures size { depot.new.size ≡ depot.old.size }
 {
+    // For their clauses: the cache has its shape, and the depot's size is one of the four.
     let _ = cpu.size();
     let _ = depot.size();
     let Ok(answers) = Vec::with_capacity(alloc, ops.len()) else {

@@ -8,9 +8,6 @@ ghost use Rattle.deed_core.specs.Holding.{GoesOn, low, high, joined};
 
 use deed_core::{Deed, Range, Refused};
 
-#[cfg(test)]
-mod tests;
-
 /// A deed that is numbers alone, and counts down to a split that is refused.
 pub struct RefusingDeed {
     root: u32,

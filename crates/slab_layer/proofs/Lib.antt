@@ -8,3 +8,5 @@ pub mod SoundLemmas
 pub mod MoveLemmas
 pub mod MineLemmas
 pub mod ReportLemmas
+pub mod ChunkLemmas
+pub mod LawProofs

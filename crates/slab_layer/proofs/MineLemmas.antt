@@ -8,7 +8,8 @@ use Rattle.deed_core.specs.Holding.{Holding}
 use Rattle.deed_core.specs.Tag.{Tag}
 use Rattle.deed_core.specs.declared.segments.Route.TheVariants.{Cached}
 use Rattle.slab_layer.specs.Slab.{SlabState, IsSlab, chunk_at, idle_chunks_by, chunks_out_by, items_where}
-use Rattle.slab_layer.specs.Cache.{CacheState, StandsAt, IsChunk, IsBelow, IsSound, chunk_tag, idle_chunks, chunks_out}
+use Rattle.slab_layer.specs.Cache.{SlabCacheState, IsBelow, IsSound, chunk_tag, idle_chunks, chunks_out}
+use Rattle.slab_layer.specs.Moves.{StandsAt, IsChunk}
 use Rattle.slab_layer.proofs.RowLemmas.{room_for}
 use Rattle.slab_layer.proofs.SlabLemmas.{place_is}
 use Rattle.slab_layer.proofs.ListLemmas.{contains_part, part_contains}
@@ -62,13 +63,13 @@ from_start test f xs j t within is tag =
     let here : f (0 + j) ≡ t = ap f e ∙ sym tag in
     subst (λ (x : Tag). Contains (items_where test f 0 xs) x) here (contains_passing test f 0 xs j false within is)
 
-pub chunk_is_out : (i j : ℕ) (s : SlabState) (t : Tag) (c : CacheState) → IsChunk i j s false t c → Contains (chunks_out c) t
+pub chunk_is_out : (i j : ℕ) (s : SlabState) (t : Tag) (c : SlabCacheState) → IsChunk i j s false t c → Contains (chunks_out c) t
 chunk_is_out i j s t c chunk =
     let F : SlabState → List Tag = λ x. chunks_out_by (chunk_tag c.arena c.k x) x in
     let here : Contains (F s) t = from_start not (chunk_tag c.arena c.k s) s.home j t chunk.within (ap not chunk.home) chunk.tag in
     contains_part F c.slabs i s t chunk.stands.within (subst (λ (x : SlabState). Contains (F x) t) (sym chunk.stands.is) here)
 
-pub chunk_is_idle : (i j : ℕ) (s : SlabState) (t : Tag) (c : CacheState) → IsChunk i j s true t c → Contains (idle_chunks c) t
+pub chunk_is_idle : (i j : ℕ) (s : SlabState) (t : Tag) (c : SlabCacheState) → IsChunk i j s true t c → Contains (idle_chunks c) t
 chunk_is_idle i j s t c chunk =
     let F : SlabState → List Tag = λ x. idle_chunks_by (chunk_tag c.arena c.k x) x in
     let home : get_or s.home j false ≡ true = get_or_default s.home j false true chunk.within ∙ chunk.home in
@@ -76,7 +77,7 @@ chunk_is_idle i j s t c chunk =
     contains_part F c.slabs i s t chunk.stands.within (subst (λ (x : SlabState). Contains (F x) t) (sym chunk.stands.is) here)
 
 -- and the other way round
-pub record SomeChunk (b : Bool) (t : Tag) (c : CacheState) : Type 0 where
+pub record SomeChunk (b : Bool) (t : Tag) (c : SlabCacheState) : Type 0 where
   pub i : ℕ
   pub j : ℕ
   pub s : SlabState
@@ -85,7 +86,7 @@ pub record SomeChunk (b : Bool) (t : Tag) (c : CacheState) : Type 0 where
 nowhere : SlabState
 nowhere = record { span = record { root = 0; range = record { base = 0; len = 0 } }; colour = 0; chunk = 0; home = [] }
 
-pub out_is_chunk : (t : Tag) (c : CacheState) → Contains (chunks_out c) t → SomeChunk false t c
+pub out_is_chunk : (t : Tag) (c : SlabCacheState) → Contains (chunks_out c) t → SomeChunk false t c
 out_is_chunk t c has =
     let part = part_contains (λ x. chunks_out_by (chunk_tag c.arena c.k x) x) c.slabs nowhere t has in
     let s : SlabState = get_or c.slabs part.0 nowhere in
@@ -103,7 +104,7 @@ out_is_chunk t c has =
       };
     }
 
-pub idle_is_chunk : (t : Tag) (c : CacheState) → Contains (idle_chunks c) t → SomeChunk true t c
+pub idle_is_chunk : (t : Tag) (c : SlabCacheState) → Contains (idle_chunks c) t → SomeChunk true t c
 idle_is_chunk t c has =
     let part = part_contains (λ x. idle_chunks_by (chunk_tag c.arena c.k x) x) c.slabs nowhere t has in
     let s : SlabState = get_or c.slabs part.0 nowhere in
@@ -145,7 +146,7 @@ one_slab i k s r slabs ascending at_i at_k a b = elim (cases_order i k) [
   ]
 ]
 
-pub never_both : (t : Tag) (c : CacheState) → IsSound c → SomeChunk false t c → SomeChunk true t c → ⊥
+pub never_both : (t : Tag) (c : SlabCacheState) → IsSound c → SomeChunk false t c → SomeChunk true t c → ⊥
 never_both t c sound gone here =
     let slab = slab_of_size c gone.s sound (of_size c gone.i gone.s sound gone.chunk.stands) in
     let slab' = slab_of_size c here.s sound (of_size c here.i here.s sound here.chunk.stands) in
@@ -164,11 +165,11 @@ never_both t c sound gone here =
     cc
 
 -- a segment of another arena or cache, or one that covers no chunk, is none of them
-pub record IsAbsent (t : Tag) (c : CacheState) : Type 0 where
+pub record IsAbsent (t : Tag) (c : SlabCacheState) : Type 0 where
   pub not_out : Contains (chunks_out c) t → ⊥
   pub not_idle : Contains (idle_chunks c) t → ⊥
 
-pub not_routed : (t : Tag) (c : CacheState) → ((t.arena ≡ c.arena) × (t.route ≡ Cached c.k) → ⊥) → IsAbsent t c
+pub not_routed : (t : Tag) (c : SlabCacheState) → ((t.arena ≡ c.arena) × (t.route ≡ Cached c.k) → ⊥) → IsAbsent t c
 not_routed t c other = record {
   not_out = λ has. let some = out_is_chunk t c has in other (ap (λ (x : Tag). x.arena) some.chunk.tag, ap (λ (x : Tag). x.route) some.chunk.tag);
   not_idle = λ has. let some = idle_is_chunk t c has in other (ap (λ (x : Tag). x.arena) some.chunk.tag, ap (λ (x : Tag). x.route) some.chunk.tag);
@@ -180,26 +181,26 @@ held r e = record { root = r; range = e }
 held_is : (t : Tag) (r : ℕ) (e : Extent) → r ≡ t.holding.root → e ≡ t.holding.range → held r e ≡ t.holding
 held_is t r e root range = λ i. record { root = root i; range = range i }
 
-found : (b : Bool) (t : Tag) (c : CacheState) (r : ℕ) (e : Extent) → r ≡ t.holding.root → e ≡ t.holding.range → All (λ s. (j : ℕ) → j < length s.home → chunk_at s j ≡ held r e → ⊥) c.slabs → SomeChunk b t c → ⊥
+found : (b : Bool) (t : Tag) (c : SlabCacheState) (r : ℕ) (e : Extent) → r ≡ t.holding.root → e ≡ t.holding.range → All (λ s. (j : ℕ) → j < length s.home → chunk_at s j ≡ held r e → ⊥) c.slabs → SomeChunk b t c → ⊥
 found b t c r e root range none some =
     let P : SlabState → Type 0 = λ s. (j : ℕ) → j < length s.home → chunk_at s j ≡ held r e → ⊥ in
     let here : P some.s = subst P some.chunk.stands.is (none some.i some.s some.chunk.stands.within) in
     here some.j some.chunk.within (ap (λ (x : Tag). x.holding) (sym some.chunk.tag) ∙ sym (held_is t r e root range))
 
-pub not_found : (t : Tag) (x c : CacheState) (r : ℕ) (e : Extent) → x ≡ c → r ≡ t.holding.root → e ≡ t.holding.range → All (λ s. (j : ℕ) → j < length s.home → chunk_at s j ≡ held r e → ⊥) x.slabs → IsAbsent t c
+pub not_found : (t : Tag) (x c : SlabCacheState) (r : ℕ) (e : Extent) → x ≡ c → r ≡ t.holding.root → e ≡ t.holding.range → All (λ s. (j : ℕ) → j < length s.home → chunk_at s j ≡ held r e → ⊥) x.slabs → IsAbsent t c
 not_found t x c r e view root range none =
-    let all : All (λ s. (j : ℕ) → j < length s.home → chunk_at s j ≡ held r e → ⊥) c.slabs = subst (λ (y : CacheState). All (λ s. (j : ℕ) → j < length s.home → chunk_at s j ≡ held r e → ⊥) y.slabs) view none in
+    let all : All (λ s. (j : ℕ) → j < length s.home → chunk_at s j ≡ held r e → ⊥) c.slabs = subst (λ (y : SlabCacheState). All (λ s. (j : ℕ) → j < length s.home → chunk_at s j ≡ held r e → ⊥) y.slabs) view none in
     record { not_out = λ has. found false t c r e root range all (out_is_chunk t c has); not_idle = λ has. found true t c r e root range all (idle_is_chunk t c has) }
 
 -- the chunk that was found
-pub made_chunk : (i j : ℕ) (s u : SlabState) (b : Bool) (t : Tag) (r : ℕ) (e : Extent) (x c : CacheState) → x ≡ c → StandsAt i s x.slabs → j < length s.home → chunk_at s j ≡ held r e
+pub made_chunk : (i j : ℕ) (s u : SlabState) (b : Bool) (t : Tag) (r : ℕ) (e : Extent) (x c : SlabCacheState) → x ≡ c → StandsAt i s x.slabs → j < length s.home → chunk_at s j ≡ held r e
     → r ≡ t.holding.root → e ≡ t.holding.range → (t.arena ≡ c.arena) × (t.route ≡ Cached c.k) → u ≡ get_or x.slabs i u → get_or u.home j false ≡ b → IsChunk i j s b t c
 made_chunk i j s u b t r e x c view stands within chunk root range routed is home =
     let same : u ≡ s = same_slab i s u x.slabs stands is in
     let here : get_or s.home j false ≡ b = subst (λ (y : SlabState). get_or y.home j false ≡ b) same home in
     let holding : t.holding ≡ chunk_at s j = sym (held_is t r e root range) ∙ sym chunk in
     record {
-      stands = subst (λ (y : CacheState). StandsAt i s y.slabs) view stands;
+      stands = subst (λ (y : SlabCacheState). StandsAt i s y.slabs) view stands;
       within = within;
       home = get_or_default s.home j b false within ∙ here;
       tag = λ n. record { arena = routed.0 n; route = routed.1 n; holding = holding n };

@@ -17,7 +17,8 @@ use Rattle.deed_core.specs.Weights.{Gains, Loses, WeighSame}
 use Rattle.deed_core.proofs.LawProofs.{covers_cut, sum_by-map}
 use Rattle.slab_layer.specs.Parts.{part}
 use Rattle.slab_layer.specs.Slab.{SlabState, IsSlab, IsComplete, chunk_at, used_units, unused_units, gap_of, tail_of, idle_chunks_by, chunks_out_by, deeds_in, new_slab, with_chunk}
-use Rattle.slab_layer.specs.Cache.{CacheState, StandsAt, Takes, Puts, Adds, Reaps, IsOfSize, IsSound, chunk_of, spare_of, chunk_tag, span_tag, deeds_of, chunks_out, span_tags}
+use Rattle.slab_layer.specs.Cache.{SlabCacheState, IsOfSize, IsSound, chunk_of, spare_of, chunk_tag, span_tag, deeds_of, chunks_out, span_tags}
+use Rattle.slab_layer.specs.Moves.{StandsAt, Takes, Puts, Adds, Reaps}
 use Rattle.slab_layer.proofs.PartLemmas.{part_none, part_some}
 use Rattle.slab_layer.proofs.PassingLemmas.{counted, sum_by-items_where-set, passing_none, covering-items_where, covers_nothing}
 use Rattle.slab_layer.proofs.ListLemmas.{sum_by-flat_map-set, sum_by-flat_map-insert, sum_by-flat_map-remove}
@@ -73,7 +74,7 @@ same_spans a i j s b slabs stands =
     let here : get_or (map (span_tag a) slabs) i (span_tag a s) ≡ span_tag a s = get_or-map (span_tag a) slabs i s (span_tag a s) stands.within ∙ ap (span_tag a) stands.is in
     map-set (span_tag a) slabs i (with_chunk s j b) ∙ ap (set (map (span_tag a) slabs) i) (sym here) ∙ set-get_or (map (span_tag a) slabs) i (span_tag a s)
 
-pub takes_out : (i j : ℕ) (s : SlabState) (old new : CacheState) (t : Tag) → Takes i j s old new t → Gains (chunks_out old) (chunks_out new) t
+pub takes_out : (i j : ℕ) (s : SlabState) (old new : SlabCacheState) (t : Tag) → Takes i j s old new t → Gains (chunks_out old) (chunks_out new) t
 takes_out i j s old new t takes f =
     let stands : StandsAt i s old.slabs = next_stands i s old.slabs takes.next in
     let F : SlabState → List Tag = λ x. chunks_out_by (chunk_tag old.arena old.k x) x in
@@ -84,7 +85,7 @@ takes_out i j s old new t takes f =
     let tag = ap f takes.tag in
     omega (arith, all, was, one, after, tag)
 
-pub takes_kept : (i j : ℕ) (s : SlabState) (old new : CacheState) (t : Tag) → Takes i j s old new t → Loses (deeds_of old) (deeds_of new) t.holding
+pub takes_kept : (i j : ℕ) (s : SlabState) (old new : SlabCacheState) (t : Tag) → Takes i j s old new t → Loses (deeds_of old) (deeds_of new) t.holding
 takes_kept i j s old new t takes f =
     let stands : StandsAt i s old.slabs = next_stands i s old.slabs takes.next in
     let all = sum_by-flat_map-set f deeds_in old.slabs i (with_chunk s j false) s stands.within in
@@ -94,10 +95,10 @@ takes_kept i j s old new t takes f =
     let tag : f t.holding ≡ f (chunk_at s j) = ap (λ (x : Tag). f x.holding) takes.tag in
     omega (arith, all, was, one, after, tag)
 
-pub takes_spans : (i j : ℕ) (s : SlabState) (old new : CacheState) (t : Tag) → Takes i j s old new t → span_tags new ≡ span_tags old
+pub takes_spans : (i j : ℕ) (s : SlabState) (old new : SlabCacheState) (t : Tag) → Takes i j s old new t → span_tags new ≡ span_tags old
 takes_spans i j s old new t takes = ap span_tags takes.after ∙ same_spans old.arena i j s false old.slabs (next_stands i s old.slabs takes.next)
 
-pub puts_out : (i j : ℕ) (s : SlabState) (old new : CacheState) (t : Tag) → Puts i j s old new t → Loses (chunks_out old) (chunks_out new) t
+pub puts_out : (i j : ℕ) (s : SlabState) (old new : SlabCacheState) (t : Tag) → Puts i j s old new t → Loses (chunks_out old) (chunks_out new) t
 puts_out i j s old new t puts f =
     let stands : StandsAt i s old.slabs = puts.chunk.stands in
     let F : SlabState → List Tag = λ x. chunks_out_by (chunk_tag old.arena old.k x) x in
@@ -108,7 +109,7 @@ puts_out i j s old new t puts f =
     let tag = ap f puts.chunk.tag in
     omega (arith, all, was, one, after, tag)
 
-pub puts_kept : (i j : ℕ) (s : SlabState) (old new : CacheState) (t : Tag) → Puts i j s old new t → Gains (deeds_of old) (deeds_of new) t.holding
+pub puts_kept : (i j : ℕ) (s : SlabState) (old new : SlabCacheState) (t : Tag) → Puts i j s old new t → Gains (deeds_of old) (deeds_of new) t.holding
 puts_kept i j s old new t puts f =
     let stands : StandsAt i s old.slabs = puts.chunk.stands in
     let all = sum_by-flat_map-set f deeds_in old.slabs i (with_chunk s j true) s stands.within in
@@ -118,7 +119,7 @@ puts_kept i j s old new t puts f =
     let tag : f t.holding ≡ f (chunk_at s j) = ap (λ (x : Tag). f x.holding) puts.chunk.tag in
     omega (arith, all, was, one, after, tag)
 
-pub puts_spans : (i j : ℕ) (s : SlabState) (old new : CacheState) (t : Tag) → Puts i j s old new t → span_tags new ≡ span_tags old
+pub puts_spans : (i j : ℕ) (s : SlabState) (old new : SlabCacheState) (t : Tag) → Puts i j s old new t → span_tags new ≡ span_tags old
 puts_spans i j s old new t puts = ap span_tags puts.after ∙ same_spans old.arena i j s true old.slabs puts.chunk.stands
 
 -- a part covers its units, also where it has none
@@ -153,14 +154,14 @@ pub complete_covers : (u : ℕ) (s : SlabState) → IsSlab s → IsComplete s �
 complete_covers u s slab complete = let none : covering_held u (chunks_out_by (chunk_at s) s) ≡ 0 = ap (covering_held u) (none_out (chunk_at s) s complete) in omega (arith, tile u s slab, none)
 
 -- a slab of the size of a sound cache
-pub slab_of_size : (c : CacheState) (s : SlabState) → IsSound c → IsOfSize c.slab_size (chunk_of c) s → IsSlab s
+pub slab_of_size : (c : SlabCacheState) (s : SlabState) → IsSound c → IsOfSize c.slab_size (chunk_of c) s → IsSlab s
 slab_of_size c s sound size =
     let n = chunk_of c in
     let below : c.slab_size / n * n ≤ c.slab_size = div-mul-le_self c.slab_size n in
     let units : length s.home * s.chunk ≡ c.slab_size / n * n = ap (λ k. k * s.chunk) size.count ∙ ap (λ k. c.slab_size / n * k) size.chunk in
     record { some = rw size.chunk sound.some; room = omega (arith, below, units, size.colour, size.size) }
 
-pub reaps_out : (i : ℕ) (s : SlabState) (old new : CacheState) (t : Tag) → Reaps i s old new t → WeighSame (chunks_out old) (chunks_out new)
+pub reaps_out : (i : ℕ) (s : SlabState) (old new : SlabCacheState) (t : Tag) → Reaps i s old new t → WeighSame (chunks_out old) (chunks_out new)
 reaps_out i s old new t reaps f =
     let stands : StandsAt i s old.slabs = reaps.lowest.stands in
     let F : SlabState → List Tag = λ x. chunks_out_by (chunk_tag old.arena old.k x) x in
@@ -169,7 +170,7 @@ reaps_out i s old new t reaps f =
     let after : sum_by f (chunks_out new) ≡ sum_by f (flat_map F (remove old.slabs i)) = ap (λ x. sum_by f (chunks_out x)) reaps.after in
     omega (arith, all, was, after)
 
-pub reaps_kept : (i : ℕ) (s : SlabState) (old new : CacheState) (t : Tag) → Reaps i s old new t → IsSlab s → (u : ℕ) → covering_held u (deeds_of old) ≡ covering_held u (deeds_of new) + covers_tag u t
+pub reaps_kept : (i : ℕ) (s : SlabState) (old new : SlabCacheState) (t : Tag) → Reaps i s old new t → IsSlab s → (u : ℕ) → covering_held u (deeds_of old) ≡ covering_held u (deeds_of new) + covers_tag u t
 reaps_kept i s old new t reaps slab u =
     let stands : StandsAt i s old.slabs = reaps.lowest.stands in
     let all = sum_by-flat_map-remove (covers_held u) deeds_in old.slabs i s stands.within in
@@ -178,7 +179,7 @@ reaps_kept i s old new t reaps slab u =
     let tag : covers_tag u t ≡ covers u s.span.range = ap (covers_tag u) reaps.tag in
     omega (arith, all, was, after, tag)
 
-pub reaps_spans : (i : ℕ) (s : SlabState) (old new : CacheState) (t : Tag) → Reaps i s old new t → Loses (span_tags old) (span_tags new) t
+pub reaps_spans : (i : ℕ) (s : SlabState) (old new : SlabCacheState) (t : Tag) → Reaps i s old new t → Loses (span_tags old) (span_tags new) t
 reaps_spans i s old new t reaps f =
     let stands : StandsAt i s old.slabs = reaps.lowest.stands in
     let g : SlabState → ℕ = λ x. f (span_tag old.arena x) in
@@ -199,7 +200,7 @@ fresh_first h colour n some = get_or-replicate (h.range.len / n) 0 true false so
 fresh_within : (h : Holding) (colour n : ℕ) → 0 < h.range.len / n → 0 < length (new_slab h colour n).home
 fresh_within h colour n some = omega (arith, length-replicate (h.range.len / n) true)
 
-pub adds_out : (i : ℕ) (old new : CacheState) (span first : Tag) → Adds i old new span first → 0 < span.holding.range.len / chunk_of old → Gains (chunks_out old) (chunks_out new) first
+pub adds_out : (i : ℕ) (old new : SlabCacheState) (span first : Tag) → Adds i old new span first → 0 < span.holding.range.len / chunk_of old → Gains (chunks_out old) (chunks_out new) first
 adds_out i old new span first adds some f =
     let s : SlabState = new_slab span.holding old.colour (chunk_of old) in
     let F : SlabState → List Tag = λ x. chunks_out_by (chunk_tag old.arena old.k x) x in
@@ -211,7 +212,7 @@ adds_out i old new span first adds some f =
     let tag = ap f adds.tag in
     omega (arith, all, one, none, after, tag)
 
-pub adds_kept : (i : ℕ) (old new : CacheState) (span first : Tag) → Adds i old new span first → 0 < span.holding.range.len / chunk_of old → IsSlab (new_slab span.holding old.colour (chunk_of old))
+pub adds_kept : (i : ℕ) (old new : SlabCacheState) (span first : Tag) → Adds i old new span first → 0 < span.holding.range.len / chunk_of old → IsSlab (new_slab span.holding old.colour (chunk_of old))
     → (u : ℕ) → covering_held u (deeds_of old) + covers_tag u span ≡ covering_held u (deeds_of new) + covers_tag u first
 adds_kept i old new span first adds some slab u =
     let s : SlabState = new_slab span.holding old.colour (chunk_of old) in
@@ -222,7 +223,7 @@ adds_kept i old new span first adds some slab u =
     let tag : covers_tag u first ≡ covers_held u (chunk_at s 0) = ap (covers_tag u) adds.tag in
     omega (arith, all, one, whole, after, tag)
 
-pub adds_spans : (i : ℕ) (old new : CacheState) (span first : Tag) → Adds i old new span first → span ≡ record { arena = old.arena; route = Direct; holding = span.holding } → Gains (span_tags old) (span_tags new) span
+pub adds_spans : (i : ℕ) (old new : SlabCacheState) (span first : Tag) → Adds i old new span first → span ≡ record { arena = old.arena; route = Direct; holding = span.holding } → Gains (span_tags old) (span_tags new) span
 adds_spans i old new span first adds direct f =
     let s : SlabState = with_chunk (new_slab span.holding old.colour (chunk_of old)) 0 false in
     let g : SlabState → ℕ = λ x. f (span_tag old.arena x) in

@@ -1,6 +1,6 @@
 -- What a cache keeps, through its moves.
-use Rattle.std.proofs.Common.{◌≡◌, inl, inr, ℕ, ◌+◌, ◌-◌, ◌*◌, ◌/◌, ◌<◌, ◌≤◌, ◌^◌, Bool, true, false, nat_le, List, [], length, get_or, set, take, drop, All, AllPairs, insert, remove, refl, sym, ap, ◌∙◌, arith, subst, if◌then◌else◌}
-use Rattle.std.proofs.Math.Nat.{div-eq-sub-div, eq-zero-or-pos, mul-le-mul_right}
+use Rattle.std.proofs.Common.{◌≡◌, inl, inr, ℕ, ◌+◌, ◌-◌, ◌*◌, ◌/◌, ◌%◌, ◌<◌, ◌≤◌, ◌^◌, Bool, true, false, nat_le, List, [], length, get_or, set, take, drop, All, AllPairs, insert, remove, refl, sym, ap, ◌∙◌, arith, subst, if◌then◌else◌}
+use Rattle.std.proofs.Math.Nat.{div-eq-sub-div, eq-zero-or-pos, mul-le-mul_right, add-mod_right, zero-mod}
 use Rattle.std.proofs.Math.ListN.{replicate}
 use Rattle.std.proofs.lemmas.Bool.Decides.{nat_tests}
 use Rattle.std.specs.Prelude.{Any}
@@ -11,55 +11,72 @@ use Rattle.std.proofs.lemmas.List.Quantifiers.{all_pairs_remove}
 use Rattle.deed_core.specs.Extent.{Extent, Overlap, end_of}
 use Rattle.deed_core.specs.Tag.{Tag}
 use Rattle.slab_layer.specs.Slab.{SlabState, new_slab, with_chunk, IsComplete, IsLowestIdle}
-use Rattle.slab_layer.specs.Cache.{CacheState, StandsAt, IsChunk, IsLowest, IsNext, chunk_tag, span_tag, IsBelow, IsOfSize, IsSound, Takes, Puts, Adds, Reaps, chunk_of, spare_of, next_colour, with_slabs}
+use Rattle.slab_layer.specs.Cache.{SlabCacheState, chunk_tag, span_tag, IsBelow, IsOfSize, IsOnGrid, IsSound, chunk_of, spare_of, next_colour}
+use Rattle.slab_layer.specs.Moves.{StandsAt, IsChunk, IsLowest, IsNext, Takes, Puts, Adds, Reaps, with_slabs}
 use Rattle.slab_layer.proofs.ListLemmas.{pairs_set, pairs_insert, all_insert, all_remove}
 use Rattle.slab_layer.proofs.SearchLemmas.{next_stands, same_slab}
 
 -- what holds of each slab holds of one that stands
-pub of_size : (c : CacheState) (i : ℕ) (s : SlabState) → IsSound c → StandsAt i s c.slabs → IsOfSize c.slab_size (chunk_of c) s
+pub of_size : (c : SlabCacheState) (i : ℕ) (s : SlabState) → IsSound c → StandsAt i s c.slabs → IsOfSize c.slab_size (chunk_of c) s
 of_size c i s sound stands = subst (λ (t : SlabState). IsOfSize c.slab_size (chunk_of c) t) stands.is (All-get_or (IsOfSize c.slab_size (chunk_of c)) c.slabs i s stands.within sound.slabs)
 
+pub on_grid : (c : SlabCacheState) (i : ℕ) (s : SlabState) → IsSound c → StandsAt i s c.slabs → IsOnGrid c.quantum s
+on_grid c i s sound stands = subst (λ (t : SlabState). IsOnGrid c.quantum t) stands.is (All-get_or (IsOnGrid c.quantum) c.slabs i s stands.within sound.grid)
+
 -- a chunk moves
-pub sound_with : (c : CacheState) (i j : ℕ) (s : SlabState) (b : Bool) → IsSound c → StandsAt i s c.slabs → IsSound (with_slabs c (set c.slabs i (with_chunk s j b)))
+pub sound_with : (c : SlabCacheState) (i j : ℕ) (s : SlabState) (b : Bool) → IsSound c → StandsAt i s c.slabs → IsSound (with_slabs c (set c.slabs i (with_chunk s j b)))
 sound_with c i j s b sound stands =
     let size : IsOfSize c.slab_size (chunk_of c) s = of_size c i s sound stands in
+    let grid : IsOnGrid c.quantum s = on_grid c i s sound stands in
     record {
       some = sound.some;
       room = sound.room;
       colour = sound.colour;
       slabs = All-set (IsOfSize c.slab_size (chunk_of c)) c.slabs i (with_chunk s j b) (record { size = size.size; chunk = size.chunk; count = length-set s.home j b ∙ size.count; colour = size.colour; end = size.end }) sound.slabs;
+      whole = sound.whole;
+      grid = All-set (IsOnGrid c.quantum) c.slabs i (with_chunk s j b) (record { base = grid.base; colour = grid.colour }) sound.grid;
       ascending = pairs_set IsBelow c.slabs i (with_chunk s j b) stands.within
           (λ d t below. let e : get_or c.slabs i d ≡ s = get_or_default c.slabs i d s stands.within ∙ stands.is in subst (λ (r : SlabState). IsBelow r t) e below)
           (λ d t below. let e : get_or c.slabs i d ≡ s = get_or_default c.slabs i d s stands.within ∙ stands.is in subst (λ (r : SlabState). IsBelow t r) e below)
           sound.ascending;
     }
 
-pub sound_takes : (i j : ℕ) (s : SlabState) (old new : CacheState) (t : Tag) → Takes i j s old new t → IsSound old → IsSound new
+pub sound_takes : (i j : ℕ) (s : SlabState) (old new : SlabCacheState) (t : Tag) → Takes i j s old new t → IsSound old → IsSound new
 sound_takes i j s old new t takes sound = subst IsSound (sym takes.after) (sound_with old i j s false sound (next_stands i s old.slabs takes.next))
 
-pub sound_puts : (i j : ℕ) (s : SlabState) (old new : CacheState) (t : Tag) → Puts i j s old new t → IsSound old → IsSound new
+pub sound_puts : (i j : ℕ) (s : SlabState) (old new : SlabCacheState) (t : Tag) → Puts i j s old new t → IsSound old → IsSound new
 sound_puts i j s old new t puts sound = subst IsSound (sym puts.after) (sound_with old i j s true sound puts.chunk.stands)
 
 -- a slab leaves
-pub sound_reaps : (i : ℕ) (s : SlabState) (old new : CacheState) (t : Tag) → Reaps i s old new t → IsSound old → IsSound new
+pub sound_reaps : (i : ℕ) (s : SlabState) (old new : SlabCacheState) (t : Tag) → Reaps i s old new t → IsSound old → IsSound new
 sound_reaps i s old new t reaps sound = subst IsSound (sym reaps.after) (record {
   some = sound.some;
   room = sound.room;
   colour = sound.colour;
+  whole = sound.whole;
   slabs = all_remove (IsOfSize old.slab_size (chunk_of old)) old.slabs i sound.slabs;
+  grid = all_remove (IsOnGrid old.quantum) old.slabs i sound.grid;
   ascending = all_pairs_remove IsBelow old.slabs i reaps.lowest.stands.within sound.ascending;
 })
 
 -- the next colour leaves room
-pub next_fits : (c : CacheState) → next_colour c ≤ spare_of c.slab_size (chunk_of c)
+pub next_fits : (c : SlabCacheState) → next_colour c ≤ spare_of c.slab_size (chunk_of c)
 next_fits c = elim (nat_le (c.colour + c.quantum) (spare_of c.slab_size (chunk_of c))) as (λ b. nat_le (c.colour + c.quantum) (spare_of c.slab_size (chunk_of c)) ≡ b → (if b then c.colour + c.quantum else 0) ≤ spare_of c.slab_size (chunk_of c)) [
   | true ↦ λ e. grind (arith, nat_tests)
   | false ↦ λ e. omega arith
 ] refl
 
+-- and is in whole quanta
+pub next_whole : (c : SlabCacheState) → c.colour % c.quantum ≡ 0 → next_colour c % c.quantum ≡ 0
+next_whole c whole = elim (nat_le (c.colour + c.quantum) (spare_of c.slab_size (chunk_of c))) as (λ b. (if b then c.colour + c.quantum else 0) % c.quantum ≡ 0) [
+  | true ↦ add-mod_right c.colour c.quantum ∙ whole
+  | false ↦ zero-mod c.quantum
+]
+
 -- a slab comes
-pub sound_adds : (i : ℕ) (old new : CacheState) (span first : Tag) → Adds i old new span first → span.holding.range.len ≡ old.slab_size → end_of span.holding.range ≤ 2 ^ 62 → IsSound old → IsSound new
-sound_adds i old new span first adds size end sound =
+pub sound_adds : (i : ℕ) (old new : SlabCacheState) (span first : Tag) → Adds i old new span first → end_of span.holding.range ≤ 2 ^ 62 → span.holding.range.base % old.quantum ≡ 0 → IsSound old → IsSound new
+sound_adds i old new span first adds end base sound =
+    let size : span.holding.range.len ≡ old.slab_size = adds.size in
     let slab : SlabState = with_chunk (new_slab span.holding old.colour (chunk_of old)) 0 false in
     let count : length (set (replicate (span.holding.range.len / chunk_of old) true) 0 false) ≡ old.slab_size / chunk_of old =
     length-set (replicate (span.holding.range.len / chunk_of old) true) 0 false ∙ length-replicate (span.holding.range.len / chunk_of old) true ∙ ap (λ n. n / chunk_of old) size in
@@ -67,16 +84,18 @@ sound_adds i old new span first adds size end sound =
       some = sound.some;
       room = sound.room;
       colour = next_fits old;
+      whole = next_whole old sound.whole;
+      grid = all_insert (IsOnGrid old.quantum) old.slabs i slab sound.grid (record { base = base; colour = sound.whole });
       slabs = all_insert (IsOfSize old.slab_size (chunk_of old)) old.slabs i slab sound.slabs (record { size = size; chunk = refl; count = count; colour = sound.colour; end = end });
       ascending = pairs_insert IsBelow old.slabs i slab sound.ascending adds.below adds.above;
     })
 
 -- the moves, from what the calls on the slabs say: x is the cache as the code sees it, u the slab, and v what became of it
-pub made_takes : (i j : ℕ) (s u v : SlabState) (x old : CacheState) (t : Tag) → x ≡ old → IsNext i s x.slabs → IsLowestIdle j s.home → u ≡ get_or x.slabs i u → v ≡ with_chunk u j false → t ≡ chunk_tag x.arena x.k u j
+pub made_takes : (i j : ℕ) (s u v : SlabState) (x old : SlabCacheState) (t : Tag) → x ≡ old → IsNext i s x.slabs → IsLowestIdle j s.home → u ≡ get_or x.slabs i u → v ≡ with_chunk u j false → t ≡ chunk_tag x.arena x.k u j
     → Takes i j s old (with_slabs x (set x.slabs i v)) t
 made_takes i j s u v x old t view next idle is after tag =
     let same : u ≡ s = same_slab i s u x.slabs (next_stands i s x.slabs next) is in
-    let T : CacheState → Type 0 = λ c. Takes i j s c (with_slabs x (set x.slabs i v)) t in
+    let T : SlabCacheState → Type 0 = λ c. Takes i j s c (with_slabs x (set x.slabs i v)) t in
     subst T view (record {
       next = next;
       lowest = idle;
@@ -84,17 +103,17 @@ made_takes i j s u v x old t view next idle is after tag =
       after = ap (λ r. with_slabs x (set x.slabs i r)) (after ∙ ap (λ r. with_chunk r j false) same);
     })
 
-pub made_puts : (i j : ℕ) (s u v : SlabState) (x old : CacheState) (t : Tag) → x ≡ old → IsChunk i j s false t x → u ≡ get_or x.slabs i u → v ≡ with_chunk u j true → Puts i j s old (with_slabs x (set x.slabs i v)) t
+pub made_puts : (i j : ℕ) (s u v : SlabState) (x old : SlabCacheState) (t : Tag) → x ≡ old → IsChunk i j s false t x → u ≡ get_or x.slabs i u → v ≡ with_chunk u j true → Puts i j s old (with_slabs x (set x.slabs i v)) t
 made_puts i j s u v x old t view chunk is after =
     let same : u ≡ s = same_slab i s u x.slabs chunk.stands is in
-    let T : CacheState → Type 0 = λ c. Puts i j s c (with_slabs x (set x.slabs i v)) t in
+    let T : SlabCacheState → Type 0 = λ c. Puts i j s c (with_slabs x (set x.slabs i v)) t in
     subst T view (record { chunk = chunk; after = ap (λ r. with_slabs x (set x.slabs i r)) (after ∙ ap (λ r. with_chunk r j true) same) })
 
-pub made_reaps : (i : ℕ) (s u : SlabState) (slabs : List SlabState) (x old : CacheState) (t : Tag) → x ≡ old → IsLowest IsComplete i s x.slabs → u ≡ get_or x.slabs i u → slabs ≡ remove x.slabs i → t ≡ span_tag x.arena u
+pub made_reaps : (i : ℕ) (s u : SlabState) (slabs : List SlabState) (x old : SlabCacheState) (t : Tag) → x ≡ old → IsLowest IsComplete i s x.slabs → u ≡ get_or x.slabs i u → slabs ≡ remove x.slabs i → t ≡ span_tag x.arena u
     → Reaps i s old (with_slabs x slabs) t
 made_reaps i s u slabs x old t view lowest is left tag =
     let same : u ≡ s = same_slab i s u x.slabs lowest.stands is in
-    let T : CacheState → Type 0 = λ c. Reaps i s c (with_slabs x slabs) t in
+    let T : SlabCacheState → Type 0 = λ c. Reaps i s c (with_slabs x slabs) t in
     subst T view (record { lowest = lowest; tag = tag ∙ ap (span_tag x.arena) same; after = ap (with_slabs x) left })
 
 -- an empty cache
@@ -106,12 +125,14 @@ sound_empty arena k quantum slab_size slabs none some_k some_quantum room =
       some = omega (arith, least);
       room = room;
       colour = omega arith;
+      whole = zero-mod quantum;
       slabs = All-same (IsOfSize slab_size (k * quantum)) slabs [] none (All-nil (IsOfSize slab_size (k * quantum)));
+      grid = All-same (IsOnGrid quantum) slabs [] none (All-nil (IsOnGrid quantum));
       ascending = subst (λ (xs : List SlabState). AllPairs IsBelow xs) (sym none) (λ i j d before within. absurd (omega arith));
     }
 
 -- there is a chunk in each slab
-pub some_chunk : (c : CacheState) → IsSound c → 0 < c.slab_size / chunk_of c
+pub some_chunk : (c : SlabCacheState) → IsSound c → 0 < c.slab_size / chunk_of c
 some_chunk c sound = let e : c.slab_size / chunk_of c ≡ (c.slab_size - chunk_of c) / chunk_of c + 1 = div-eq-sub-div sound.some sound.room in omega arith
 
 -- a span that overlaps no slab stands between those below it and those above it
@@ -120,7 +141,7 @@ pub record IsPlaced (i : ℕ) (e : Extent) (slabs : List SlabState) : Type 0 whe
   pub below : All (λ s. end_of s.span.range ≤ e.base) (take i slabs)
   pub above : All (λ s. end_of e ≤ s.span.range.base) (drop i slabs)
 
-pub placed_at : (i : ℕ) (e : Extent) (c : CacheState) → IsSound c → 0 < e.len → (Any (λ s. Overlap s.span.range e) c.slabs → ⊥) → i ≤ length c.slabs
+pub placed_at : (i : ℕ) (e : Extent) (c : SlabCacheState) → IsSound c → 0 < e.len → (Any (λ s. Overlap s.span.range e) c.slabs → ⊥) → i ≤ length c.slabs
     → ((k : ℕ) (d : SlabState) → k < i → (get_or c.slabs k d).span.range.base < e.base) → (i < length c.slabs → (d : SlabState) → e.base ≤ (get_or c.slabs i d).span.range.base) → IsPlaced i e c.slabs
 placed_at i e c sound some apart reach below above = record {
   within = reach;
@@ -151,17 +172,18 @@ placed_at i e c sound some apart reach below above = record {
       );
 }
 
-pub made_adds : (i next : ℕ) (slab : SlabState) (slabs : List SlabState) (x old : CacheState) (span first : Tag) (e : Extent) → x ≡ old → IsSound old → e ≡ span.holding.range → 0 < e.len
+pub made_adds : (i next : ℕ) (slab : SlabState) (slabs : List SlabState) (x old : SlabCacheState) (span first : Tag) (e : Extent) → x ≡ old → IsSound old → e ≡ span.holding.range → 0 < e.len
     → (Any (λ s. Overlap s.span.range e) x.slabs → ⊥) → i ≤ length x.slabs → ((k : ℕ) (d : SlabState) → k < i → (get_or x.slabs k d).span.range.base < e.base)
     → (i < length x.slabs → (d : SlabState) → e.base ≤ (get_or x.slabs i d).span.range.base)
-    → slab ≡ with_chunk (new_slab span.holding x.colour (chunk_of x)) 0 false → slabs ≡ insert x.slabs i slab → next ≡ next_colour old → first ≡ chunk_tag x.arena x.k (new_slab span.holding x.colour (chunk_of x)) 0
+    → slab ≡ with_chunk (new_slab span.holding x.colour (chunk_of x)) 0 false → span.holding.range.len ≡ x.slab_size → slabs ≡ insert x.slabs i slab → next ≡ next_colour old → first ≡ chunk_tag x.arena x.k (new_slab span.holding x.colour (chunk_of x)) 0
     → Adds i old (record { arena = x.arena; k = x.k; quantum = x.quantum; slab_size = x.slab_size; slabs = slabs; colour = next }) span first
-made_adds i next slab slabs x old span first e view sound range some apart reach below above made put colour tag =
+made_adds i next slab slabs x old span first e view sound range some apart reach below above made size put colour tag =
     let placed : IsPlaced i e x.slabs = placed_at i e x (subst IsSound (sym view) sound) some apart reach below above in
     let at : IsPlaced i span.holding.range x.slabs = subst (λ (r : Extent). IsPlaced i r x.slabs) range placed in
-    let T : CacheState → Type 0 = λ c. Adds i c (record { arena = x.arena; k = x.k; quantum = x.quantum; slab_size = x.slab_size; slabs = slabs; colour = next }) span first in
+    let T : SlabCacheState → Type 0 = λ c. Adds i c (record { arena = x.arena; k = x.k; quantum = x.quantum; slab_size = x.slab_size; slabs = slabs; colour = next }) span first in
     let next_is : next ≡ next_colour x = colour ∙ ap next_colour (sym view) in
     subst T view (record {
+      size = size;
       within = at.within;
       below = at.below;
       above = at.above;

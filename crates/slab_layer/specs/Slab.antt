@@ -1,11 +1,14 @@
 -- What a contract sees of a slab, and where its chunks stand.
-use Rattle.std.specs.Prelude.{◌≡◌, ℕ, ◌+◌, ◌-◌, ◌*◌, ◌/◌, ◌<◌, ◌≤◌, Bool, true, false, not, List, [], ◌∷◌, ◌++◌, Option, Some, None, All, Contains, length, slice_index_or, slice_set, replicate, if◌then◌else◌}
+use Rattle.std.specs.Prelude.{
+    ◌≡◌, ℕ, ◌+◌, ◌-◌, ◌*◌, ◌/◌, ◌<◌, ◌≤◌, Bool, true, false, not, List, [], ◌∷◌, ◌++◌, Option, Some,
+    None, All, Contains, length, slice_index_or, slice_set, replicate, if◌then◌else◌,
+}
 use Rattle.std.specs.Option.{option_to_list}
 use Rattle.deed_core.specs.Holding.{Holding, piece}
 use Rattle.slab_layer.specs.Parts.{part}
 
--- a slab: its span, how far behind the span's base the first chunk stands, the units of a chunk, and
--- chunk by chunk whether it is at home
+-- a slab: its span, how far behind the span's base the first chunk stands, the units of a chunk,
+-- and chunk by chunk whether it is at home
 pub record SlabState : Type 0 where
   pub span : Holding
   pub colour : ℕ
@@ -35,7 +38,8 @@ tail_of s = part s.span.root (s.span.range.base + s.colour + used_units s) (unus
 -- what stands, by f, at the places whose Bool passes; the places count from i
 abbrev pub items_where : {X : Type 0} → (Bool → Bool) → (ℕ → X) → ℕ → List Bool → List X
 items_where test f i [] = []
-items_where test f i (x ∷ xs) = if test x then f i ∷ items_where test f (i + 1) xs else items_where test f (i + 1) xs
+items_where test f i (x ∷ xs) =
+    if test x then f i ∷ items_where test f (i + 1) xs else items_where test f (i + 1) xs
 
 -- by f, what the chunks at home are
 abbrev pub idle_chunks_by : {X : Type 0} → (ℕ → X) → SlabState → List X
@@ -47,7 +51,8 @@ chunks_out_by f s = items_where not f 0 s.home
 
 -- all that lies in a slab: the colour gap, the idle chunks and the tail
 abbrev pub deeds_in : SlabState → List Holding
-deeds_in s = option_to_list (gap_of s) ++ (idle_chunks_by (chunk_at s) s ++ option_to_list (tail_of s))
+deeds_in s =
+    option_to_list (gap_of s) ++ (idle_chunks_by (chunk_at s) s ++ option_to_list (tail_of s))
 
 -- every chunk is at home
 abbrev pub IsComplete : SlabState → Type 0
@@ -74,11 +79,14 @@ pub record IsSlab (s : SlabState) : Type 0 where
 
 -- a span as a new slab
 abbrev pub new_slab : Holding → ℕ → ℕ → SlabState
-new_slab span colour chunk = record { span = span; colour = colour; chunk = chunk; home = replicate (span.range.len / chunk) true }
+new_slab span colour chunk =
+    let home : List Bool = replicate (span.range.len / chunk) true in
+    record { span = span; colour = colour; chunk = chunk; home = home }
 
 -- the slab with its j-th chunk at home or out
 abbrev pub with_chunk : SlabState → ℕ → Bool → SlabState
-with_chunk s j b = record { span = s.span; colour = s.colour; chunk = s.chunk; home = slice_set s.home j b }
+with_chunk s j b =
+    record { span = s.span; colour = s.colour; chunk = s.chunk; home = slice_set s.home j b }
 
 -- the deeds at the places, where the chunks are at home
 abbrev pub stored_row : (ℕ → Holding) → ℕ → List Bool → List (Option Holding)
@@ -86,7 +94,8 @@ stored_row f i [] = []
 stored_row f i (x ∷ xs) = (if x then Some (f i) else None) ∷ stored_row f (i + 1) xs
 
 -- the deeds of a slab are those of its parts
-pub record IsStored (s : SlabState) (first : Option Holding) (row : List (Option Holding)) (last : Option Holding) : Type 0 where
+pub record IsStored (s : SlabState) (first : Option Holding) (row : List (Option Holding))
+  (last : Option Holding) : Type 0 where
   pub shape : IsSlab s
   pub gap : first ≡ gap_of s
   pub chunks : row ≡ stored_row (chunk_at s) 0 s.home

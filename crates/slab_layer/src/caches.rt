@@ -1,10 +1,16 @@
 //! Slab caches.
-ghost use Rattle.std.specs.Prelude.{◌≡◌, ℕ, ◌+◌, ◌*◌, ◌<◌, ◌≤◌, ◌≢◌, ◌↔◌, [], All, Any, Contains, IsTrue, IsOk, IsErrAnd, IsNone, IfOk, IfErr, IfNone, IfSome, OnErr, OnOk};
-ghost use Rattle.deed_core.specs.Extent.{Overlap};
-ghost use Rattle.deed_core.specs.Covering.{covering_held, covering_tags, covers_tag, units_held};
+ghost use Rattle.std.specs.Prelude.{
+    ◌≡◌, ℕ, ◌+◌, ◌*◌, ◌%◌, ◌≤◌, ◌↔◌, [], Contains, IsTrue, IsOk, IfOk, IfErr, IfSome, OnOk,
+};
+ghost use Rattle.deed_core.specs.Covering.{
+    covering_held, covering_tags, covers_tag, units_held,
+};
 ghost use Rattle.deed_core.specs.Weights.{Gains, Loses, WeighSame};
-ghost use Rattle.slab_layer.specs.Slab.{SlabState, IsAllOut, IsComplete};
-ghost use Rattle.slab_layer.specs.Cache.{IsSound, Adds, Puts, Reaps, Takes, chunk_of, next_colour as next_colour_of, idle_chunks, idle_deeds, gaps, tails, deeds_of, chunks_out, span_tags};
+ghost use Rattle.slab_layer.specs.Cache.{
+    IsSound, IsChunkOf, IsSpanOf, chunk_of, next_colour as next_colour_of, idle_deeds, gaps, tails,
+    deeds_of, chunks_out, span_tags,
+};
+ghost use Rattle.slab_layer.specs.Moves.{IsAlike, TakeOf, PutOf, AddOf, ReapOf};
 
 use crate::faults::{AddFault, PutFault};
 use crate::reports::{SlabReport, are_empty, discard_all, total};
@@ -14,8 +20,8 @@ use deed_core::{Deed, Route, Segment, Stored, insert_reserved};
 use std::alloc::Global;
 use std::marker::Model;
 
-/// Chunks of k quanta, cut from slabs of one size. It can't be dropped: `close` ends it. Contracts see
-/// it as `CacheState`, its slabs in order of their bases.
+/// Chunks of k quanta, cut from slabs of one size. It can't be dropped: `close` ends it. Contracts
+/// see it as `SlabCacheState`, its slabs in order of their bases.
 pub struct SlabCache<D: Deed> {
     alloc: Global,
     arena: u32,
@@ -27,13 +33,27 @@ pub struct SlabCache<D: Deed> {
 }
 
 impl<D: Deed> Model for SlabCache<D> {
-    ghost use Rattle.slab_layer.specs.Cache.{CacheState, IsSound};
+    ghost use Rattle.slab_layer.specs.Cache.{SlabCacheState, IsSound};
 
-    ghost Value = { CacheState };
+    ghost Value = { SlabCacheState };
 
-    ghost view = { λ c. record { arena = c.arena; k = c.k; quantum = c.quantum; slab_size = c.slab_size; slabs = c.slabs.items; colour = c.colour } };
+    ghost view = { λ c. record {
+        arena = c.arena;
+        k = c.k;
+        quantum = c.quantum;
+        slab_size = c.slab_size;
+        slabs = c.slabs.items;
+        colour = c.colour;
+    } };
 
-    ghost invariant = { λ c. IsSound (record { arena = c.arena; k = c.k; quantum = c.quantum; slab_size = c.slab_size; slabs = c.slabs.items; colour = c.colour }) };
+    ghost invariant = { λ c. IsSound (record {
+        arena = c.arena;
+        k = c.k;
+        quantum = c.quantum;
+        slab_size = c.slab_size;
+        slabs = c.slabs.items;
+        colour = c.colour;
+    }) };
 }
 
 impl<D: Deed> SlabCache<D> {
@@ -63,9 +83,11 @@ impl<D: Deed> SlabCache<D> {
         }
     }
 
-    /// The number of the arena that the spans come from.
+    /// The number of the arena that the spans come from. The clause `sound` tells what each cache
+    /// keeps to whoever holds one of which nothing else is known, as behind a lock.
     pub fn arena(&self) -> u32
-        ensures { result ≡ self.now.arena }
+        ensures value { result ≡ self.now.arena }
+        ensures sound { IsSound self.now }
     {
         self.arena
     }
@@ -77,20 +99,37 @@ impl<D: Deed> SlabCache<D> {
         self.k
     }
 
-    /// The lowest idle chunk of the lowest partial slab, else of the lowest complete one. It takes no
-    /// memory.
+    /// The units of a quantum.
+    pub fn quantum(&self) -> u64
+        ensures { result ≡ self.now.quantum }
+    {
+        self.quantum
+    }
+
+    /// The units of a slab.
+    pub fn slab_size(&self) -> u64
+        ensures { result ≡ self.now.slab_size }
+    {
+        self.slab_size
+    }
+
+    /// The lowest idle chunk of the lowest partial slab, else of the lowest complete one; none
+    /// where every chunk is out. It takes no memory.
     ///
     /// That partial slabs are used before complete ones is from "The Slab Allocator", 1994; lowest
     /// first is our own choice.
     pub fn take(&mut self) -> Option<Segment<D>>
-        ensures none { IsNone result ↔ All IsAllOut self.old.slabs }
-        ensures some { IfSome result (λ t. (i j : ℕ) × (s : SlabState)
-            × Takes i j s self.old self.new t) }
-        ensures unchanged { IfNone result (self.new ≡ self.old) }
+        // What it does.
+        ensures taken { TakeOf self.old result self.new }
+        ensures sound { IsSound self.new }
+        ensures alike { IsAlike self.old self.new }
 
-        // Whatever is counted: the chunk is out, and no longer here.
+        // What follows, for those above: what the chunk is, and, whatever is counted, that it is
+        // out and no longer here.
+        ensures chunk { IfSome result (λ t. IsChunkOf self.old t) }
         ensures out { IfSome result (λ t. Gains (chunks_out self.old) (chunks_out self.new) t) }
-        ensures kept { IfSome result (λ t. Loses (deeds_of self.old) (deeds_of self.new) t.holding) }
+        ensures kept { IfSome result (λ t.
+            Loses (deeds_of self.old) (deeds_of self.new) t.holding) }
         ensures spans { span_tags self.new ≡ span_tags self.old }
     {
         let (i, j) = next_chunk(&self.slabs)?;
@@ -100,53 +139,51 @@ impl<D: Deed> SlabCache<D> {
     }
 
     /// Takes a chunk back. It takes no memory. A segment that is refused comes back as it was.
-    pub fn put(&mut self, segment: Segment<D>) -> Result<(), (Segment<D>, PutFault)>
-        ensures mine { IsOk result ↔ Contains (chunks_out self.old) segment }
-        ensures at_home { IsErrAnd result (λ e. e.1 ≡ PutFault.AtHome)
-            ↔ Contains (idle_chunks self.old) segment }
-        ensures not_mine { IsErrAnd result (λ e. e.1 ≡ PutFault.NotMine)
-            ↔ (¬ Contains (chunks_out self.old) segment × ¬ Contains (idle_chunks self.old) segment) }
-        ensures ok { OnOk result ((i j : ℕ) × (s : SlabState) × Puts i j s self.old self.new segment) }
-        ensures same { IfErr result (λ e. e.0 ≡ segment) }
-        ensures unchanged { OnErr result (self.new ≡ self.old) }
+    pub fn put(&mut self, segment: Segment<D>) -> Result<(), PutFault<Segment<D>>>
+        // What it does.
+        ensures put { PutOf self.old segment result self.new }
+        ensures sound { IsSound self.new }
+        ensures alike { IsAlike self.old self.new }
 
-        // Whatever is counted: the chunk is here, and no longer out.
+        // What follows, for those above: just what is out is taken, and, whatever is counted, it is
+        // here and no longer out.
+        ensures mine { IsOk result ↔ Contains (chunks_out self.old) segment }
         ensures out { OnOk result (Loses (chunks_out self.old) (chunks_out self.new) segment) }
         ensures kept { OnOk result (Gains (deeds_of self.old) (deeds_of self.new) segment.holding) }
         ensures spans { span_tags self.new ≡ span_tags self.old }
     {
         if !self.is_routed_here(&segment) {
-            return Err((segment, PutFault::NotMine));
+            return Err(PutFault::NotMine(segment));
         }
         let Some((i, j)) = find_chunk(&self.slabs, segment.root(), segment.range()) else {
-            return Err((segment, PutFault::NotMine));
+            return Err(PutFault::NotMine(segment));
         };
-        let slab = &mut self.slabs[i];
-        if slab.is_home(j) {
-            return Err((segment, PutFault::AtHome));
+        if self.slabs[i].is_home(j) {
+            return Err(PutFault::AtHome(segment));
         }
-        slab.put(j, Stored::new(segment.into_deed()));
+        self.slabs[i].put(j, Stored::new(segment.into_deed()));
         Ok(())
     }
 
     /// Cuts a span into a slab with the next colour, and gives its first chunk.
     ///
-    /// The colours go up by one quantum from slab to slab, from 0 to the units that are in no chunk,
-    /// and then begin again ("The Slab Allocator", 1994). A span that is refused comes back whole.
-    pub fn add(&mut self, span: Segment<D>) -> Result<Segment<D>, (Segment<D>, AddFault)>
+    /// The span begins on the quantum's grid, as each segment does that an arena of this quantum
+    /// carves. The colours go up by one quantum from slab to slab, from 0 to the units that are in
+    /// no chunk, and then begin again ("The Slab Allocator", 1994). A span that is refused comes
+    /// back whole.
+    pub fn add(&mut self, span: Segment<D>) -> Result<Segment<D>, AddFault<Segment<D>>>
         requires arena { span.arena ≡ self.old.arena }
         requires route { span.route ≡ Route.Direct }
-        ensures wrong_size { IsErrAnd result (λ e. e.1 ≡ AddFault.WrongSize)
-            ↔ (span.holding.range.len ≢ self.old.slab_size) }
-        ensures overlaps { IsErrAnd result (λ e. e.1 ≡ AddFault.Overlaps)
-            ↔ ((span.holding.range.len ≡ self.old.slab_size)
-            × Any (λ s. Overlap s.span.range span.holding.range) self.old.slabs) }
-        ensures ok { IfOk result (λ t. (i : ℕ) × Adds i self.old self.new span t) }
-        ensures same { IfErr result (λ e. e.0 ≡ span) }
-        ensures unchanged { OnErr result (self.new ≡ self.old) }
+        requires grid { span.holding.range.base % self.old.quantum ≡ 0 }
 
-        // Whatever is counted: the span came in, and its first chunk is out. Each of its other units is
-        // kept.
+        // What it does.
+        ensures added { AddOf self.old span result self.new }
+        ensures sound { IsSound self.new }
+        ensures alike { IsAlike self.old self.new }
+
+        // What follows, for those above: what the chunk is, and, whatever is counted, that it is
+        // out and that each other unit of the span is kept.
+        ensures chunk { IfOk result (λ t. IsChunkOf self.old t) }
         ensures out { IfOk result (λ t. Gains (chunks_out self.old) (chunks_out self.new) t) }
         ensures kept { IfOk result (λ t. (u : ℕ)
             → covering_held u (deeds_of self.old) + covers_tag u span
@@ -158,20 +195,20 @@ impl<D: Deed> SlabCache<D> {
         let colour = self.colour;
         let next = self.next_colour();
         if range.len() != self.slab_size {
-            return Err((span, AddFault::WrongSize));
+            return Err(AddFault::WrongSize(span));
         }
         if overlaps(&self.slabs, range) {
-            return Err((span, AddFault::Overlaps));
+            return Err(AddFault::Overlaps(span));
         }
         let Ok(()) = self.slabs.reserve(1) else {
-            return Err((span, AddFault::NoMemory));
+            return Err(AddFault::NoMemory(span));
         };
         let deed = Stored::new(span.into_deed());
         let mut slab = match Slab::new(self.alloc, deed, colour, chunk) {
             Ok(slab) => slab,
             Err(same) => {
                 let span = Segment::new(self.arena, Route::Direct, same.into_deed());
-                return Err((span, AddFault::NoMemory));
+                return Err(AddFault::NoMemory(span));
             }
         };
         let first = slab.take(0);
@@ -184,7 +221,8 @@ impl<D: Deed> SlabCache<D> {
     // Whether a segment is of the arena, and came by this cache.
     fn is_routed_here(&self, segment: &Segment<D>) -> bool
         ensures { IsTrue result
-            ↔ ((segment.now.arena ≡ self.now.arena) × (segment.now.route ≡ Route.Cached self.now.k)) }
+            ↔ ((segment.now.arena ≡ self.now.arena)
+            × (segment.now.route ≡ Route.Cached self.now.k)) }
     {
         segment.arena() == self.arena && segment.route() == Route::Cached(self.k)
     }
@@ -194,8 +232,8 @@ impl<D: Deed> SlabCache<D> {
         ensures value { result ≡ chunk_of self.now }
         ensures sound { IsSound self.now }
     {
-        // A chunk is no longer than a slab, so the product fits.
-        let _slab_size = self.slab_size;
+        // For its clause: a slab's units fit a `u64`, and a chunk's are no more.
+        let _ = self.slab_size();
         u64::from(self.k) * self.quantum
     }
 
@@ -212,16 +250,19 @@ impl<D: Deed> SlabCache<D> {
         }
     }
 
-    /// Takes the lowest slab with all chunks at home out, whole, to go back to the arena. It takes no
-    /// memory.
+    /// Takes the lowest slab with all chunks at home out, whole, to go back to the arena; none
+    /// where each slab has a chunk out. It takes no memory.
     ///
     /// Only such slabs are reclaimed ("The Slab Allocator", 1994); lowest first is our own choice.
     pub fn reap(&mut self) -> Option<Segment<D>>
-        ensures none { IsNone result ↔ All (λ s. ¬ IsComplete s) self.old.slabs }
-        ensures some { IfSome result (λ t. (i : ℕ) × (s : SlabState) × Reaps i s self.old self.new t) }
-        ensures unchanged { IfNone result (self.new ≡ self.old) }
+        // What it does.
+        ensures reaped { ReapOf self.old result self.new }
+        ensures sound { IsSound self.new }
+        ensures alike { IsAlike self.old self.new }
 
-        // Whatever is counted: the span left, and no chunk of it was out.
+        // What follows, for those above: what the span is, and, whatever is counted, that it left
+        // and no chunk of it was out.
+        ensures span { IfSome result (λ t. IsSpanOf self.old t) }
         ensures out { WeighSame (chunks_out self.old) (chunks_out self.new) }
         ensures kept { IfSome result (λ t. (u : ℕ)
             → covering_held u (deeds_of self.old)
@@ -249,10 +290,11 @@ impl<D: Deed> SlabCache<D> {
         total(&self.slabs)
     }
 
-    /// Ends the cache where no deed lies in it. Chunks that are out then have no slab to go back to.
+    /// Ends the cache where no deed lies in it. Chunks that are out then have no slab to go back
+    /// to.
     pub fn close(self) -> Result<(), SlabCache<D>>
         ensures empty { IsOk result ↔ (deeds_of self ≡ []) }
-        ensures same { IfErr result (λ same. same ≡ self) }
+        ensures handed_back { IfErr result (λ same. same ≡ self) }
     {
         if !are_empty(&self.slabs) {
             return Err(self);
@@ -270,6 +312,3 @@ impl<D: Deed> SlabCache<D> {
         Ok(())
     }
 }
-
-#[cfg(test)]
-mod tests;

@@ -1,29 +1,20 @@
-//! Why a call is refused.
+//! Why a call is refused. `S` is the segment, which comes back as it was.
 
-use thiserror::Error;
-
-/// Why a chunk can't come back.
-#[derive(Clone, Copy, PartialEq, Eq, Debug, Error)]
-pub enum PutFault {
-    /// No slab here has this chunk.
-    #[error("no chunk of this cache")]
-    NotMine,
-    /// The chunk is back already.
-    #[error("the chunk is at home")]
-    AtHome,
+/// Why a segment can't come back to a cache.
+pub enum PutFault<S> {
+    /// It is no chunk of a slab that is here.
+    NotMine(S),
+    /// It is a chunk that is at home.
+    AtHome(S),
 }
 
 /// Why a span can't become a slab.
-#[derive(Clone, Copy, PartialEq, Eq, Debug, Error)]
-pub enum AddFault {
+pub enum AddFault<S> {
     /// Its length isn't the slab size.
-    #[error("not of the slab size")]
-    WrongSize,
-    /// It has a unit in common with a slab that is here. Roots aren't looked at, since no two spans of
-    /// an arena overlap.
-    #[error("overlaps a slab")]
-    Overlaps,
+    WrongSize(S),
+    /// It has a unit in common with a slab that is here. Roots aren't looked at, since no two spans
+    /// of an arena overlap.
+    Overlaps(S),
     /// Memory was refused.
-    #[error("no memory")]
-    NoMemory,
+    NoMemory(S),
 }

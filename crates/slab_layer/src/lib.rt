@@ -1,11 +1,33 @@
 //! One slab cache by itself: chunks of one size, cut from slabs of one size.
 //!
-//! A slab is a span that was carved directly from an arena. Begin with [`SlabCache`]; its contracts
-//! speak of the words in `specs/Cache.antt` and `specs/Slab.antt`.
+//! A slab is a span that was carved directly from an arena. With chunks of 5 units, a quantum of 1
+//! and a span of 18 units, the second slab of a cache stands so:
+//!
+//! ```text
+//!     base
+//!     |  base + colour                     colour 1, spare 3
+//!     |  |
+//!     +--+-----------+-----------+-----------+----+
+//!     |g | chunk 0   | chunk 1   | chunk 2   |tail|
+//!     +--+-----------+-----------+-----------+----+
+//!      1    5           5           5          2
+//! ```
+//!
+//! The gap and the tail are never handed out. Each chunk is out or at home. The colours go 0, 1, 2,
+//! 3, 0, .. from slab to slab.
+//!
+//! With s slabs of n chunks, `take` and `reap` look at s * n places at most, `put` and `add` at s
+//! slabs; `add` splits n deeds off and `reap` joins them. How many units they cover costs nothing.
+//! A cache has a place for each chunk, and a few numbers for each slab.
+//!
+//! Begin with [`SlabCache`]; its contracts speak of the words in `specs/Slab.antt` (a slab),
+//! `specs/Cache.antt` (a cache, what lies in it and what it keeps) and `specs/Moves.antt` (what a
+//! call answers and does). `laws` has what follows from them for those above.
 #![tactic(auto)]
 
 mod caches;
 mod faults;
+mod laws;
 mod parts;
 mod reports;
 mod rows;
@@ -14,4 +36,5 @@ mod slabs;
 
 pub use caches::SlabCache;
 pub use faults::{AddFault, PutFault};
+pub use laws::{chunk_laws, reap_laws};
 pub use reports::SlabReport;

@@ -19,9 +19,10 @@ pub struct SlabReport {
 }
 
 /// The sums over the slabs.
-pub fn total<D: Deed>(slabs: &[Slab<D>]) -> SlabReport
+pub(crate) fn total<D: Deed>(slabs: &[Slab<D>]) -> SlabReport
     requires { sum_by (λ s. s.span.range.len) slabs.now ≤ 2 ^ 62 }
-    ensures idle { result.idle ≡ sum_by (λ s. units_held (idle_chunks_by (chunk_at s) s)) slabs.now }
+    ensures idle { result.idle
+        ≡ sum_by (λ s. units_held (idle_chunks_by (chunk_at s) s)) slabs.now }
     ensures gap { result.gap ≡ sum_by (λ s. units_held (option_to_list (gap_of s))) slabs.now }
     ensures tail { result.tail ≡ sum_by (λ s. units_held (option_to_list (tail_of s))) slabs.now }
 {
@@ -37,7 +38,7 @@ pub fn total<D: Deed>(slabs: &[Slab<D>]) -> SlabReport
 }
 
 /// Whether no deed lies in any slab.
-pub fn are_empty<D: Deed>(slabs: &[Slab<D>]) -> bool
+pub(crate) fn are_empty<D: Deed>(slabs: &[Slab<D>]) -> bool
     ensures { IsTrue result ↔ All (λ s. deeds_in s ≡ []) slabs.now }
 {
     for slab in slabs {
@@ -49,7 +50,7 @@ pub fn are_empty<D: Deed>(slabs: &[Slab<D>]) -> bool
 }
 
 /// Ends slabs in which no deed lies.
-pub fn discard_all<D: Deed>(slabs: Vec<Slab<D>>)
+pub(crate) fn discard_all<D: Deed>(slabs: Vec<Slab<D>>)
     requires { All (λ s. deeds_in s ≡ []) slabs.items }
 {
     let mut slabs = slabs;

@@ -1,5 +1,8 @@
 //! A deed cut into a row of chunks, and a row joined.
-ghost use Rattle.std.specs.Prelude.{◌≡◌, ◌+◌, ◌-◌, ◌*◌, ◌<◌, ◌≤◌, ◌↔◌, [], true, false, length, map, is_some, replicate, count_by, All, IsTrue, vec_capacity, MatchOption, IfOk, IfErr, OnOk, OnErr};
+ghost use Rattle.std.specs.Prelude.{
+    ◌≡◌, ◌+◌, ◌-◌, ◌*◌, ◌<◌, ◌≤◌, ◌↔◌, [], true, false, length, map, is_some, replicate, count_by,
+    All, IsTrue, vec_capacity, MatchOption, IfOk, IfErr, OnOk, OnErr,
+};
 ghost use Rattle.deed_core.specs.Holding.{piece};
 ghost use Rattle.slab_layer.specs.Parts.{part, AreEndToEnd, joined_row};
 ghost use Rattle.slab_layer.specs.Slab.{IsLowestIdle, stored_row};
@@ -8,7 +11,7 @@ use crate::parts::{cut, join};
 use deed_core::{Deed, Stored};
 
 /// The first place with a deed.
-pub fn first_some<D: Deed>(row: &[Option<Stored<D>>]) -> Option<usize>
+pub(crate) fn first_some<D: Deed>(row: &[Option<Stored<D>>]) -> Option<usize>
     ensures { MatchOption result (All (λ b. b ≡ false) (map is_some row.now))
         (λ j. IsLowestIdle j (map is_some row.now)) }
 {
@@ -21,7 +24,7 @@ pub fn first_some<D: Deed>(row: &[Option<Stored<D>>]) -> Option<usize>
 }
 
 /// Whether each place has a deed.
-pub fn are_some<D: Deed>(row: &[Option<Stored<D>>]) -> bool
+pub(crate) fn are_some<D: Deed>(row: &[Option<Stored<D>>]) -> bool
     ensures { IsTrue result ↔ All (λ b. b ≡ true) (map is_some row.now) }
 {
     for deed in row {
@@ -33,7 +36,7 @@ pub fn are_some<D: Deed>(row: &[Option<Stored<D>>]) -> bool
 }
 
 /// How many places have a deed.
-pub fn count_some<D: Deed>(row: &[Option<Stored<D>>]) -> usize
+pub(crate) fn count_some<D: Deed>(row: &[Option<Stored<D>>]) -> usize
     ensures count { result ≡ count_by (λ b. b) (map is_some row.now) }
     ensures bound { result ≤ length row.now }
 {
@@ -47,7 +50,7 @@ pub fn count_some<D: Deed>(row: &[Option<Stored<D>>]) -> usize
 }
 
 /// Joins a row of parts and what is behind it.
-pub fn unchop<D: Deed>(
+pub(crate) fn unchop<D: Deed>(
     row: &mut Vec<Option<Stored<D>>>,
     rest: Option<Stored<D>>,
 ) -> Option<Stored<D>>
@@ -64,7 +67,7 @@ pub fn unchop<D: Deed>(
 
 /// Cuts `count` chunks off a deed, and gives what is left. Where memory runs out, the deed is whole
 /// again.
-pub fn chop<D: Deed>(
+pub(crate) fn chop<D: Deed>(
     row: &mut Vec<Option<Stored<D>>>,
     whole: Stored<D>,
     chunk: u64,
@@ -75,13 +78,16 @@ pub fn chop<D: Deed>(
     requires some { 0 < chunk }
     requires room { count * chunk ≤ whole.range.len }
     ensures ok { IfOk result (λ rest. rest
-        ≡ part whole.root (whole.range.base + count * chunk) (whole.range.len - count * chunk)) }
+        ≡ part whole.root (whole.range.base + count * chunk)
+            (whole.range.len - count * chunk)) }
     ensures row { OnOk result (row.new.items
-        ≡ stored_row (λ i. piece whole.root (whole.range.base + i * chunk) chunk) 0 (replicate count true)) }
+        ≡ stored_row (λ i. piece whole.root (whole.range.base + i * chunk) chunk) 0
+            (replicate count true)) }
     ensures err { IfErr result (λ same. same ≡ whole) }
     ensures err_row { OnErr result (row.new.items ≡ []) }
 {
-    let _some = whole.range();
+    // For its clause: the deed has a unit.
+    let _ = whole.range();
     let mut rest = Some(whole);
     for done in 0..count {
         match cut(rest, chunk) {

@@ -1,14 +1,19 @@
 //! Searches in the slabs of a cache, and changes of one of them.
-ghost use Rattle.std.specs.Prelude.{◌≡◌, ◌≢◌, ℕ, ◌<◌, ◌≤◌, ◌↔◌, length, slice_index_or, All, AllPairs, Any, IsTrue, MatchOption};
+ghost use Rattle.std.specs.Prelude.{
+    ◌≡◌, ◌≢◌, ℕ, ◌<◌, ◌≤◌, ◌↔◌, length, slice_index_or, All, AllPairs, Any, IsTrue, MatchOption,
+};
 ghost use Rattle.deed_core.specs.Extent.{Overlap};
-ghost use Rattle.slab_layer.specs.Slab.{SlabState, IsAllOut, IsComplete, IsPartial, IsLowestIdle, chunk_at};
-ghost use Rattle.slab_layer.specs.Cache.{StandsAt, IsBelow, IsLowest, IsNext};
+ghost use Rattle.slab_layer.specs.Slab.{
+    SlabState, IsAllOut, IsComplete, IsPartial, IsLowestIdle, chunk_at,
+};
+ghost use Rattle.slab_layer.specs.Cache.{IsBelow};
+ghost use Rattle.slab_layer.specs.Moves.{StandsAt, IsLowest, IsNext};
 
 use crate::slabs::Slab;
 use deed_core::{Deed, Range};
 
 /// The lowest slab with a chunk at home and another out.
-pub fn lowest_partial<D: Deed>(slabs: &[Slab<D>]) -> Option<usize>
+pub(crate) fn lowest_partial<D: Deed>(slabs: &[Slab<D>]) -> Option<usize>
     requires { AllPairs IsBelow slabs.now }
     ensures { MatchOption result (All (λ s. ¬ IsPartial s) slabs.now)
         (λ i. (s : SlabState) × IsLowest IsPartial i s slabs.now) }
@@ -22,7 +27,7 @@ pub fn lowest_partial<D: Deed>(slabs: &[Slab<D>]) -> Option<usize>
 }
 
 /// The lowest slab with all chunks at home.
-pub fn lowest_complete<D: Deed>(slabs: &[Slab<D>]) -> Option<usize>
+pub(crate) fn lowest_complete<D: Deed>(slabs: &[Slab<D>]) -> Option<usize>
     requires { AllPairs IsBelow slabs.now }
     ensures { MatchOption result (All (λ s. ¬ IsComplete s) slabs.now)
         (λ i. (s : SlabState) × IsLowest IsComplete i s slabs.now) }
@@ -49,7 +54,7 @@ fn next_slab<D: Deed>(slabs: &[Slab<D>]) -> Option<usize>
 }
 
 /// The next chunk: its slab's place, and its own.
-pub fn next_chunk<D: Deed>(slabs: &[Slab<D>]) -> Option<(usize, usize)>
+pub(crate) fn next_chunk<D: Deed>(slabs: &[Slab<D>]) -> Option<(usize, usize)>
     requires ascending { AllPairs IsBelow slabs.now }
     requires some { All (λ s. 0 < length s.home) slabs.now }
     ensures { MatchOption result (All IsAllOut slabs.now)
@@ -61,7 +66,11 @@ pub fn next_chunk<D: Deed>(slabs: &[Slab<D>]) -> Option<(usize, usize)>
 }
 
 /// The chunk that covers this range of this root: its slab's place, and its own.
-pub fn find_chunk<D: Deed>(slabs: &[Slab<D>], root: u32, range: Range) -> Option<(usize, usize)>
+pub(crate) fn find_chunk<D: Deed>(
+    slabs: &[Slab<D>],
+    root: u32,
+    range: Range,
+) -> Option<(usize, usize)>
     ensures { MatchOption result
         (All (λ s. (j : ℕ) → j < length s.home
         → chunk_at s j ≢ record { root = root; range = range }) slabs.now)
@@ -77,7 +86,7 @@ pub fn find_chunk<D: Deed>(slabs: &[Slab<D>], root: u32, range: Range) -> Option
 }
 
 /// Whether a slab has a unit in common with the range.
-pub fn overlaps<D: Deed>(slabs: &[Slab<D>], range: Range) -> bool
+pub(crate) fn overlaps<D: Deed>(slabs: &[Slab<D>], range: Range) -> bool
     ensures { IsTrue result ↔ Any (λ s. Overlap s.span.range range) slabs.now }
 {
     for slab in slabs {
@@ -89,7 +98,7 @@ pub fn overlaps<D: Deed>(slabs: &[Slab<D>], range: Range) -> bool
 }
 
 /// The first place from which on no slab begins below `base`.
-pub fn place_for<D: Deed>(slabs: &[Slab<D>], base: u64) -> usize
+pub(crate) fn place_for<D: Deed>(slabs: &[Slab<D>], base: u64) -> usize
     ensures within { result ≤ length slabs.now }
     ensures below { (k : ℕ) (d : SlabState) → k < result
         → (slice_index_or slabs.now k d).span.range.base < base }

@@ -1,9 +1,15 @@
 //! Slabs: spans cut into a colour gap, chunks and a tail.
-ghost use Rattle.std.specs.Prelude.{◌≡◌, ◌≢◌, ℕ, ◌+◌, ◌*◌, ◌/◌, ◌<◌, ◌≤◌, ◌↔◌, [], true, false, length, All, slice_index_or, IsTrue, IfOk, IfErr, MatchOption};
+ghost use Rattle.std.specs.Prelude.{
+    ◌≡◌, ◌≢◌, ℕ, ◌+◌, ◌*◌, ◌/◌, ◌<◌, ◌≤◌, ◌↔◌, [], true, false, length, All, slice_index_or, IsTrue,
+    IfOk, IfErr, MatchOption,
+};
 ghost use Rattle.std.specs.Option.{option_to_list};
 ghost use Rattle.deed_core.specs.Covering.{units_held};
 ghost use Rattle.deed_core.specs.Extent.{IsRange};
-ghost use Rattle.slab_layer.specs.Slab.{SlabState, IsComplete, IsPartial, IsLowestIdle, chunk_at, new_slab, with_chunk, gap_of, tail_of, idle_chunks_by, deeds_in};
+ghost use Rattle.slab_layer.specs.Slab.{
+    SlabState, IsComplete, IsPartial, IsLowestIdle, chunk_at, new_slab, with_chunk, gap_of, tail_of,
+    idle_chunks_by, deeds_in,
+};
 
 use crate::parts::{cut, join};
 use crate::rows::{are_some, chop, count_some, first_some, unchop};
@@ -13,7 +19,7 @@ use std::marker::Model;
 use std::mem;
 
 /// A span, cut. The deed of each chunk lies at its place while the chunk is at home.
-pub struct Slab<D: Deed> {
+pub(crate) struct Slab<D: Deed> {
     root: u32,
     span: Range,
     colour: u64,
@@ -29,14 +35,24 @@ impl<D: Deed> Model for Slab<D> {
 
     ghost Value = { SlabState };
 
-    ghost view = { λ s. record { span = record { root = s.root; range = s.span }; colour = s.colour; chunk = s.chunk; home = map is_some s.home.items } };
+    ghost view = { λ s. record {
+        span = record { root = s.root; range = s.span };
+        colour = s.colour;
+        chunk = s.chunk;
+        home = map is_some s.home.items;
+    } };
 
-    ghost invariant = { λ s. IsStored (record { span = record { root = s.root; range = s.span }; colour = s.colour; chunk = s.chunk; home = map is_some s.home.items }) s.gap s.home.items s.tail };
+    ghost invariant = { λ s. IsStored (record {
+        span = record { root = s.root; range = s.span };
+        colour = s.colour;
+        chunk = s.chunk;
+        home = map is_some s.home.items;
+    }) s.gap s.home.items s.tail };
 }
 
 impl<D: Deed> Slab<D> {
     /// Cuts a span. Where memory runs out, the span is whole again.
-    pub fn new(
+    pub(crate) fn new(
         alloc: Global,
         deed: Stored<D>,
         colour: u64,
@@ -79,7 +95,7 @@ impl<D: Deed> Slab<D> {
     }
 
     /// The whole span again.
-    pub fn into_span(self) -> Stored<D>
+    pub(crate) fn into_span(self) -> Stored<D>
         requires { IsComplete self }
         ensures { result ≡ self.span }
     {
@@ -92,41 +108,43 @@ impl<D: Deed> Slab<D> {
             mut home,
             tail,
         } = self;
-        let _some = span.len();
+        // For its clause: the span has a unit.
+        let _ = span.len();
         let body = unchop(&mut home, tail);
         home.destroy_empty();
         join(gap, body).unwrap()
     }
 
-    pub fn root(&self) -> u32
+    pub(crate) fn root(&self) -> u32
         ensures { result ≡ self.now.span.root }
     {
         self.root
     }
 
-    pub fn span(&self) -> Range
+    pub(crate) fn span(&self) -> Range
         ensures value { result ≡ self.now.span.range }
         ensures range { IsRange result }
     {
+        // For its clause: the span ends at 2^62 or below.
         let _ = self.span.len();
         self.span
     }
 
     /// The lowest chunk at home.
-    pub fn first_idle(&self) -> Option<usize>
+    pub(crate) fn first_idle(&self) -> Option<usize>
         ensures { MatchOption result (All (λ b. b ≡ false) self.now.home)
             (λ j. IsLowestIdle j self.now.home) }
     {
         first_some(&self.home)
     }
 
-    pub fn is_complete(&self) -> bool
+    pub(crate) fn is_complete(&self) -> bool
         ensures { IsTrue result ↔ IsComplete self.now }
     {
         are_some(&self.home)
     }
 
-    pub fn is_partial(&self) -> bool
+    pub(crate) fn is_partial(&self) -> bool
         ensures { IsTrue result ↔ IsPartial self.now }
     {
         if self.is_complete() {
@@ -135,7 +153,7 @@ impl<D: Deed> Slab<D> {
         self.first_idle().is_some()
     }
 
-    pub fn is_home(&self, j: usize) -> bool
+    pub(crate) fn is_home(&self, j: usize) -> bool
         requires { j < length self.now.home }
         ensures { result ≡ slice_index_or self.now.home j false }
     {
@@ -144,7 +162,7 @@ impl<D: Deed> Slab<D> {
 
     /// Which chunk covers this range of this root.
     #[tactic(auto, using(crate::proofs::SlabLemmas::places))]
-    pub fn place_of(&self, root: u32, range: Range) -> Option<usize>
+    pub(crate) fn place_of(&self, root: u32, range: Range) -> Option<usize>
         ensures { MatchOption result
             ((j : ℕ) → j < length self.now.home
             → chunk_at self.now j ≢ record { root = root; range = range })
@@ -166,7 +184,7 @@ impl<D: Deed> Slab<D> {
     }
 
     /// Takes a chunk that is at home.
-    pub fn take(&mut self, j: usize) -> Stored<D>
+    pub(crate) fn take(&mut self, j: usize) -> Stored<D>
         requires within { j < length self.old.home }
         requires idle { slice_index_or self.old.home j false ≡ true }
         ensures chunk { result ≡ chunk_at self.old j }
@@ -176,7 +194,7 @@ impl<D: Deed> Slab<D> {
     }
 
     /// Puts a chunk back.
-    pub fn put(&mut self, j: usize, deed: Stored<D>)
+    pub(crate) fn put(&mut self, j: usize, deed: Stored<D>)
         requires within { j < length self.old.home }
         requires is_out { slice_index_or self.old.home j false ≡ false }
         requires chunk { deed ≡ chunk_at self.old j }
@@ -189,16 +207,17 @@ impl<D: Deed> Slab<D> {
     }
 
     /// The units of the chunks at home.
-    pub fn idle(&self) -> u64
+    pub(crate) fn idle(&self) -> u64
         ensures value { result ≡ units_held (idle_chunks_by (chunk_at self.now) self.now) }
         ensures bound { result ≤ self.now.span.range.len }
     {
+        // For its clause: the span's units fit a `u64`, and the chunks are no more.
         let _ = self.span.len();
         count_some(&self.home) as u64 * self.chunk
     }
 
     /// The units before the first chunk.
-    pub fn gap(&self) -> u64
+    pub(crate) fn gap(&self) -> u64
         ensures value { result ≡ units_held (option_to_list (gap_of self.now)) }
         ensures bound { result ≤ self.now.span.range.len }
     {
@@ -206,7 +225,7 @@ impl<D: Deed> Slab<D> {
     }
 
     /// The units behind the last chunk.
-    pub fn tail(&self) -> u64
+    pub(crate) fn tail(&self) -> u64
         ensures value { result ≡ units_held (option_to_list (tail_of self.now)) }
         ensures bound { result ≤ self.now.span.range.len }
     {
@@ -217,7 +236,7 @@ impl<D: Deed> Slab<D> {
     }
 
     /// Whether no deed lies here.
-    pub fn is_empty(&self) -> bool
+    pub(crate) fn is_empty(&self) -> bool
         ensures { IsTrue result ↔ (deeds_in self.now ≡ []) }
     {
         if self.gap.is_some() {
@@ -230,7 +249,7 @@ impl<D: Deed> Slab<D> {
     }
 
     /// Ends a slab in which no deed lies.
-    pub fn discard(self)
+    pub(crate) fn discard(self)
         requires { deeds_in self ≡ [] }
     {
         let Slab {

@@ -7,7 +7,7 @@ use Rattle.deed_core.specs.Holding.{Holding}
 use Rattle.deed_core.specs.Request.{IsPlain}
 use Rattle.deed_core.specs.declared.requests.Request.{Request}
 use Rattle.tag_arena.specs.declared.choices.Found.{Found}
-use Rattle.tag_arena.specs.declared.instants.Listed.{Listed}
+use Rattle.tag_arena.specs.declared.power_lists.Listed.{Listed}
 use Rattle.tag_arena.specs.Place.{IsLeast, Serves, ServesIn}
 use Rattle.tag_arena.specs.Choice.{IsBestChoice, IsInstantChoice, OnList, ListServes, ComesFirst}
 use Rattle.tag_arena.specs.Found.{BestSoFar, EarliestSoFar, NewestSoFar, IsPlaced, base_of}

@@ -12,7 +12,7 @@ use Rattle.tag_arena.specs.Calls.{surrounds}
 use Rattle.tag_arena.proofs.Members.{Contains-filter, Contains-from_filter, Contains-cases, Contains-nil, AllPairs-append}
 use Rattle.tag_arena.proofs.Ranges.{apart_or_share, same_where_shared, surrounds-true, true-surrounds, get_less, get_gone, was_allocated, freed_cases, Any-member, member-Any, holds_part}
 
-not_true : (b : Bool) → not b ≡ true → b ≡ true → ⊥
+pub not_true : (b : Bool) → not b ≡ true → b ≡ true → ⊥
 not_true true e f = cc
 not_true false e f = cc
 

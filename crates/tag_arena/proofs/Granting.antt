@@ -1,6 +1,7 @@
 -- A carve of what was found, in terms of the calls that make it.
-use Rattle.std.proofs.Common.{◌≡◌, ℕ, ◌+◌, ◌-◌, ◌*◌, ◌/◌, ◌%◌, ◌<◌, refl, sym, subst, ap, ◌∙◌, inl, inr, List, ◌++◌, length, remove, HoldsAt, Option, Some, None, SomeIff, Result, Ok, Err, IfErr, IsErrAnd, arith}
+use Rattle.std.proofs.Common.{◌≡◌, ℕ, ◌+◌, ◌-◌, ◌*◌, ◌/◌, ◌%◌, ◌<◌, refl, sym, subst, ap, ◌∙◌, inl, inr, List, ◌++◌, length, remove, Contains, HoldsAt, Option, Some, None, SomeIff, Result, Ok, Err, IfErr, IsErrAnd, arith}
 use Rattle.std.proofs.lemmas.Bool.{cases_eq}
+use Rattle.std.proofs.lemmas.List.Elements.{All-contains}
 use Rattle.std.proofs.Math.Nat.{mul-mod_left, mod_self, mod-eq_of_lt}
 use Rattle.std.proofs.lemmas.Nat.{div-add-mod', mod_below}
 use Rattle.std.specs.Ordering.{nat_cmp}
@@ -8,6 +9,7 @@ use Rattle.std.specs.FinMap as finmap
 use Rattle.std.specs.FinMap.{FinMap}
 use Rattle.deed_core.specs.Extent.{end_of}
 use Rattle.deed_core.specs.Holding.{Holding}
+use Rattle.deed_core.specs.Tag.{Tag}
 use Rattle.deed_core.specs.Covering.{covers, covering_held}
 use Rattle.deed_core.specs.Weights.{Gains}
 use Rattle.deed_core.specs.Request.{IsGood, rounded}
@@ -17,12 +19,13 @@ use Rattle.tag_arena.specs.declared.faults.ArenaFault.{ArenaFault}
 use Rattle.tag_arena.specs.declared.faults.ArenaFault.TheVariants.{NoFit, NoMemory}
 use Rattle.tag_arena.specs.Layout.{IsPartOf}
 use Rattle.tag_arena.specs.Choice.{IsChoice}
-use Rattle.tag_arena.specs.Found.{IsPlaced}
-use Rattle.tag_arena.specs.ArenaState.{ArenaState, IsSound, IsChosen, OnQuantum, ranges_of}
+use Rattle.tag_arena.specs.Found.{IsPlaced, IsCuttable}
+use Rattle.tag_arena.specs.ArenaState.{ArenaState, IsDivided, IsSound, IsChosen, OnQuantum, ranges_of}
 use Rattle.tag_arena.specs.Calls.{part, rests, after_carve, Carves}
 use Rattle.tag_arena.proofs.Allocations.{gains_insert, remove-insert}
 use Rattle.tag_arena.proofs.Ranges.{get_same}
 use Rattle.tag_arena.proofs.OneChoice.{choice_one}
+use Rattle.tag_arena.proofs.Using.{carved_used}
 use Rattle.tag_arena.proofs.Sounding.{power_some, others, absent, sound_carve, carved_covers, among}
 
 pub rounded_some : (size quantum : ℕ) → 0 < size → 0 < rounded quantum size
@@ -66,7 +69,7 @@ stands m put k v put_is = ap (λ (n : FinMap nat_cmp Holding). finmap.get n k) p
 
 -- a free range, the place where it stands, and the piece that is carved of it
 pub record CarvesAt (a : ArenaState) (at : ℕ) (r piece : Holding) : Type 0 where
-  pub sound : IsSound a
+  pub sound : IsDivided a
   pub within : at < length a.free
   pub here : HoldsAt (λ x. x ≡ r) a.free at
   pub held : IsPartOf r piece
@@ -83,8 +86,11 @@ module _ (a : ArenaState) (at : ℕ) (r piece : Holding) (k : CarvesAt a at r pi
   pub carves : (new : ArenaState) → new ≡ after_carve a r piece → Carves a new piece
   carves new is = record { range = r; among = among a k.sound at r piece k.within k.here k.held k.some k.grid; inside = k.held; after = is }
 
-  pub carve_sound : (new : ArenaState) → new ≡ after_carve a r piece → IsSound new
-  carve_sound new is = subst IsSound (sym is) (sound_carve a k.sound at r piece k.within k.here k.held k.some k.grid)
+  pub carve_sound : ((t : Tag) → Contains a.imported t → Contains a.free t.holding → t.holding ≡ r) → (new : ArenaState) → new ≡ after_carve a r piece → IsSound new
+  carve_sound whole new is = subst IsSound (sym is) (record {
+    divided = sound_carve a k.sound at r piece k.within k.here k.held k.some k.grid;
+    used = carved_used a k.sound r piece (among a k.sound at r piece k.within k.here k.held k.some k.grid) k.held k.some whole;
+  })
 
   pub carve_absent : finmap.get a.allocated piece.range.base ≡ None
   carve_absent = absent a k.sound at r piece k.within k.here k.held k.some k.grid
@@ -95,18 +101,31 @@ module _ (a : ArenaState) (at : ℕ) (r piece : Holding) (k : CarvesAt a at r pi
   pub carve_covers : (new : ArenaState) → new ≡ after_carve a r piece → (u : ℕ) → covering_held u a.free ≡ covering_held u new.free + covers u piece.range
   carve_covers new is = subst (λ (s : ArenaState). (u : ℕ) → covering_held u a.free ≡ covering_held u s.free + covers u piece.range) (sym is) (carved_covers a k.sound at r piece k.within k.here k.held k.some k.grid)
 
--- what was found for a good request is carved there
-pub found_carve : (a : ArenaState) (q : Request) (xs : List Holding) (f : Found) (n : ℕ) → IsSound a → IsGood a.quantum q → xs ≡ a.free → IsPlaced a.quantum q xs f → n ≡ rounded a.quantum q.size
-    → CarvesAt a f.at f.range (part f.range f.base n)
-found_carve a q xs f n sound good free is_placed n_is =
-    let placed : IsPlaced a.quantum q a.free f = subst (λ (ys : List Holding). IsPlaced a.quantum q ys f) free is_placed in
+-- no imported span is a free range
+pub none_whole : (a : ArenaState) → IsSound a → (r : Holding) (t : Tag) → Contains a.imported t → Contains a.free t.holding → t.holding ≡ r
+none_whole a sound r t in-t free = absurd (All-contains (λ s. ¬ Contains a.free s.holding) a.imported t sound.used in-t free)
+
+-- what was found for a good request can be carved there
+pub found_cuttable : (a : ArenaState) (q : Request) (f : Found) (n : ℕ) → IsSound a → IsGood a.quantum q → IsPlaced a.quantum q a.free f → n ≡ rounded a.quantum q.size → IsCuttable a.quantum a.free f n
+found_cuttable a q f n sound good placed n_is = record {
+  within = placed.0;
+  here = placed.1;
+  some = omega (arith, n_is, rounded_some q.size a.quantum good.size);
+  from = placed.2.from;
+  to = omega (arith, n_is, placed.2.to);
+  grid = (placed.2.fits.whole, ap (λ k. k % a.quantum) n_is ∙ rounded_multiple q.size a.quantum (power_some a.quantum sound.divided.power));
+}
+
+pub cuttable_carve : (a b : ArenaState) (f : Found) (n : ℕ) → IsDivided a → a ≡ b → IsCuttable b.quantum b.free f n → CarvesAt a f.at f.range (part f.range f.base n)
+cuttable_carve a b f n divided same can =
+    let here : IsCuttable a.quantum a.free f n = subst (λ (s : ArenaState). IsCuttable s.quantum s.free f n) (sym same) can in
     record {
-      sound = sound;
-      within = placed.0;
-      here = placed.1;
-      held = record { root = refl; from = placed.2.from; to = omega (arith, n_is, placed.2.to) };
-      some = omega (arith, n_is, rounded_some q.size a.quantum good.size);
-      grid = (placed.2.fits.whole, ap (λ k. k % a.quantum) n_is ∙ rounded_multiple q.size a.quantum (power_some a.quantum sound.power));
+      sound = divided;
+      within = here.within;
+      here = here.here;
+      held = record { root = refl; from = here.from; to = here.to };
+      some = here.some;
+      grid = here.grid;
     }
 
 -- the error of a result

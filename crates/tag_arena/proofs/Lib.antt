@@ -16,8 +16,10 @@ pub mod Counting
 pub mod SpanLists
 pub mod Lookups
 pub mod Sounding
+pub mod Using
 pub mod Reporting
 pub mod Granting
 pub mod Returning
 pub mod Importing
 pub mod Taking
+pub mod Carrying

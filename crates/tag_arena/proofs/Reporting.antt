@@ -5,7 +5,7 @@ use Rattle.deed_core.specs.Extent.{Extent, Covers, Overlap}
 use Rattle.deed_core.specs.Holding.{Holding}
 use Rattle.deed_core.specs.Tag.{Tag}
 use Rattle.tag_arena.specs.Layout.{Layout, IsPartOf, IsWhole, FreeIsLongestRuns}
-use Rattle.tag_arena.specs.ArenaState.{ArenaState, spans_of, ranges_of, IsSound, OnQuantum}
+use Rattle.tag_arena.specs.ArenaState.{ArenaState, spans_of, ranges_of, IsDivided, OnQuantum}
 use Rattle.tag_arena.specs.Calls.{IsClear}
 use Rattle.tag_arena.proofs.Ranges.{Any-member, member-Any, holds_part}
 use Rattle.tag_arena.proofs.Freeing.{absorbs, longest_edged}
@@ -32,7 +32,7 @@ free_is_longest_runs a whole r = (
 )
 
 -- the sums of an arena
-pub report_adds : (a : ArenaState) → IsSound a → (o i f : ℕ) (os : List Holding) (is : List Tag) (fs : List Holding) → o ≡ units_held os → os ≡ a.owned
+pub report_adds : (a : ArenaState) → IsDivided a → (o i f : ℕ) (os : List Holding) (is : List Tag) (fs : List Holding) → o ≡ units_held os → os ≡ a.owned
     → i ≡ units_held (map (λ t. t.holding) is) → is ≡ a.imported → f ≡ units_held fs → fs ≡ a.free → f + units_held (ranges_of a.allocated) ≡ o + i
 report_adds a sound o i f os is fs o_is os_is i_is is_is f_is fs_is =
     let own : o ≡ units_held a.owned = o_is ∙ ap units_held os_is in

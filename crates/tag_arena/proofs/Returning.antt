@@ -15,7 +15,7 @@ use Rattle.deed_core.specs.Tag.{Tag}
 use Rattle.deed_core.specs.declared.segments.Route.TheVariants.{Direct}
 use Rattle.deed_core.specs.Covering.{covers, covers_held, covering_held}
 use Rattle.tag_arena.specs.Layout.{IsPartOf, IsEdgedRun, IsLongestRun}
-use Rattle.tag_arena.specs.ArenaState.{ArenaState, spans_of, layout_of, OnQuantum, IsSound}
+use Rattle.tag_arena.specs.ArenaState.{ArenaState, spans_of, layout_of, OnQuantum, IsDivided, IsSound}
 use Rattle.tag_arena.specs.Calls.{surrounds, without, without_span, after_free, after_return, Frees}
 use Rattle.tag_arena.specs.Neighbors.{IsBeside, Merges, TakesLeft, TakesRight}
 use Rattle.tag_arena.proofs.Members.{All-from_members, filter_one}
@@ -24,6 +24,7 @@ use Rattle.tag_arena.proofs.Counting.{covering-freed}
 use Rattle.tag_arena.proofs.SpanLists.{without-remove, Contains-map, AllPairs-second}
 use Rattle.tag_arena.proofs.Freeing.{longest_edged}
 use Rattle.tag_arena.proofs.Merging.{IsLeft, IsRight, left_of, right_of, without_member, without_kept, merged_edged, merged_holds, others_are}
+use Rattle.tag_arena.proofs.Using.{freed_used, returned_used}
 use Rattle.tag_arena.proofs.Sounding.{sum_multiple, rest_multiple, power_some, span_some, sound_free, sound_return}
 
 pub right_goes_on : (span piece : Holding) (mid new : List Holding) (o : Option Holding) → IsPartOf span piece → 0 < piece.range.len → All (IsBeside span) mid → TakesRight (end_of piece.range) (end_of span.range) mid o new → IfSome o (λ r. GoesOn piece r)
@@ -56,7 +57,7 @@ pub at-push : {X : Type 0} (xs : List X) (y d : X) → get_or (xs ++ y ∷ []) (
 at-push [] y d = refl
 at-push (x ∷ xs) y d = at-push xs y d
 
-module _ (a : ArenaState) (sound : IsSound a) (piece : Holding) (at : finmap.get a.allocated piece.range.base ≡ Some piece) where
+module _ (a : ArenaState) (sound : IsDivided a) (piece : Holding) (at : finmap.get a.allocated piece.range.base ≡ Some piece) where
   pub positive : 0 < piece.range.len
   positive = (sound.whole.tags_inside piece.range.base piece at).1
 
@@ -103,13 +104,13 @@ some_there o A B x h e = subst (λ k. MatchOption k A B) e h
 
 -- an allocated piece lies in a span
 pub record LiesIn (a : ArenaState) (piece s : Holding) : Type 0 where
-  pub sound : IsSound a
+  pub sound : IsDivided a
   pub at : finmap.get a.allocated piece.range.base ≡ Some piece
   pub here : Contains (spans_of a) s
   pub covers : Covers s.range piece.range.base
 
 -- so it is of the span that was found
-pub lies_in : (a : ArenaState) (piece s : Holding) (o : Option Holding) → IsSound a → finmap.get a.allocated piece.range.base ≡ Some piece
+pub lies_in : (a : ArenaState) (piece s : Holding) (o : Option Holding) → IsDivided a → finmap.get a.allocated piece.range.base ≡ Some piece
     → MatchOption o (All (λ t. ¬ Covers t.range piece.range.base) (spans_of a)) (λ t. Contains (spans_of a) t × Covers t.range piece.range.base) → o ≡ Some s → LiesIn a piece s
 lies_in a piece s o sound at spans found =
     let there = some_there o _ (λ t. Contains (spans_of a) t × Covers t.range piece.range.base) s spans found in
@@ -194,8 +195,11 @@ module _ (a : ArenaState) (piece s : Holding) (lies : LiesIn a piece s) where
         let same : covering_held u (after_free a piece merged).free ≡ covering_held u (new ++ merged ∷ []) = ap (covering_held u) free_is in
         omega (arith, same, sum_by_push (covers_held u) new merged, merge_covers u)
 
-    pub freed_sound : IsSound (after_free a piece merged)
+    pub freed_sound : IsDivided (after_free a piece merged)
     freed_sound = sound_free a lies.sound piece merged lies.at edged held grid freed_covers
+
+    pub freed_is_sound : IsSound a → All (λ t. t.holding ≢ merged) a.imported → (now : ArenaState) → now ≡ after_free a piece merged → IsSound now
+    freed_is_sound sound none now is = subst IsSound (sym is) (record { divided = freed_sound; used = freed_used a sound.used piece merged none })
 
     pub freed_is : (free : List Holding) (tags : FinMap nat_cmp Holding) → free ≡ new ++ merged ∷ [] → tags ≡ finmap.remove a.allocated piece.range.base → record a { free = free; allocated = tags } ≡ after_free a piece merged
     freed_is free tags free_eq tags_is =
@@ -218,8 +222,11 @@ module _ (a : ArenaState) (piece s : Holding) (lies : LiesIn a piece s) where
       in_free : Contains (after_free a piece merged).free merged
       in_free = Contains-push (filter (λ x. not (surrounds merged x)) a.free) merged
 
-      pub returned_sound : IsSound (after_return (after_free a piece merged) merged)
+      pub returned_sound : IsDivided (after_return (after_free a piece merged) merged)
       returned_sound = sound_return (after_free a piece merged) freed_sound merged (Contains-append_right a.owned sources merged in_sources) in_free in_sources
+
+      pub returned_is_sound : IsSound a → (now : ArenaState) → now ≡ after_return (after_free a piece merged) merged → IsSound now
+      returned_is_sound sound now is = subst IsSound (sym is) (record { divided = returned_sound; used = returned_used a sound.used piece merged })
 
       -- what is left of the imported spans
       differs : (j : ℕ) (d : Tag) → j < length a.imported → j ≢ k → not (nat_eq (get_or a.imported j d).holding.range.base merged.range.base) ≡ true

@@ -6,10 +6,10 @@ use Rattle.std.specs.List.{AllWithin}
 use Rattle.deed_core.specs.Holding.{Holding}
 use Rattle.deed_core.specs.declared.requests.Request.{Request}
 use Rattle.tag_arena.specs.declared.choices.Found.{Found}
-use Rattle.tag_arena.specs.declared.instants.Listed.{Listed}
+use Rattle.tag_arena.specs.declared.power_lists.Listed.{Listed}
 use Rattle.tag_arena.specs.Place.{IsLeast, ServesIn}
 use Rattle.tag_arena.specs.Choice.{ComesFirst, OnList, ListServes}
-use Rattle.tag_arena.specs.declared.wholes.Whole.{Whole}
+use Rattle.tag_arena.specs.declared.whole_spans.Whole.{Whole}
 use Rattle.tag_arena.specs.Found.{BestSoFar, EarliestSoFar, NewestSoFar, LowestSoFar}
 
 pub within_more : {X : Type 0} (P : X → Type 0) (xs : List X) (i n : ℕ) → AllWithin P xs i n → ((d : X) → P (get_or xs n d)) → AllWithin P xs i (n + 1)

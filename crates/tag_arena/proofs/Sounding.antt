@@ -19,7 +19,7 @@ use Rattle.deed_core.specs.Weights.{Loses}
 use Rattle.deed_core.specs.declared.segments.Route.TheVariants.{Direct}
 use Rattle.tag_arena.specs.declared.policies.Policy.{Policy}
 use Rattle.tag_arena.specs.Layout.{Holds, IsPartOf, IsEdgedRun}
-use Rattle.tag_arena.specs.ArenaState.{ArenaState, spans_of, layout_of, ranges_of, direct, OnQuantum, IsSound, empty_arena}
+use Rattle.tag_arena.specs.ArenaState.{ArenaState, spans_of, layout_of, ranges_of, OnQuantum, IsDivided, IsSound, empty_arena}
 use Rattle.tag_arena.specs.Calls.{rests, surrounds, without, without_span, after_carve, after_add, after_import, after_free, after_return, after_remove, IsClear}
 use Rattle.tag_arena.proofs.Members.{All-from_members, Contains-nil, Contains-from_filter, filter_one}
 use Rattle.tag_arena.proofs.Ranges.{not_both, surrounds-true, true-surrounds, get_same, get_other, Any-member, holds_part}
@@ -56,7 +56,7 @@ no_entries (x ∷ es) e = absurd (omega (arith, e))
 nothing_held : ranges_of finmap.empty ≡ []
 nothing_held = ap (λ es. map (λ e. e.1) es) (no_entries (finmap.entries (finmap.empty {X = Holding} {R = nat_cmp})) (sym (len-entries (finmap.empty {X = Holding} {R = nat_cmp})) ∙ len-empty nat_cmp Holding))
 
-pub sound_empty : (id quantum : ℕ) (policy : Policy) → IsPowerOfTwo quantum → IsSound (empty_arena id quantum policy)
+pub sound_empty : (id quantum : ℕ) (policy : Policy) → IsPowerOfTwo quantum → IsDivided (empty_arena id quantum policy)
 sound_empty id quantum policy power = record {
   whole = whole_empty;
   covers = λ u. let e : covering_held u (ranges_of finmap.empty) ≡ 0 = ap (covering_held u) nothing_held in omega (arith, e);
@@ -70,7 +70,7 @@ sound_empty id quantum policy power = record {
 }
 
 -- a free range ends where its span does or before
-pub free_below : (a : ArenaState) → IsSound a → (r : Holding) → Contains a.free r → end_of r.range ≤ 2 ^ 62
+pub free_below : (a : ArenaState) → IsDivided a → (r : Holding) → Contains a.free r → end_of r.range ≤ 2 ^ 62
 free_below a sound r in-r =
     let s = (sound.whole.runs r in-r).run.inside in
     let h : IsPartOf s.1 r = s.4 in
@@ -78,10 +78,10 @@ free_below a sound r in-r =
     let end = below.below in
     omega (arith, h.to, end)
 
-pub free_ranges : (a : ArenaState) → IsSound a → All (λ r. IsRange r.range) a.free
+pub free_ranges : (a : ArenaState) → IsDivided a → All (λ r. IsRange r.range) a.free
 free_ranges a sound = All-from_members (λ r. IsRange r.range) a.free (λ r in-r. record { some = (sound.whole.runs r in-r).run.some; below = free_below a sound r in-r })
 
-pub span_some : (a : ArenaState) → IsSound a → (s : Holding) → Contains (spans_of a) s → 0 < s.range.len
+pub span_some : (a : ArenaState) → IsDivided a → (s : Holding) → Contains (spans_of a) s → 0 < s.range.len
 span_some a sound s in-s = (All-contains (λ s. IsRange s.range) (spans_of a) s sound.spans in-s).some
 
 -- what doesn't overlap is apart
@@ -95,7 +95,7 @@ clear_apart s h clear =
       ]
     ]
 
-module _ (a : ArenaState) (sound : IsSound a) (h : Holding) (range : IsRange h.range) (grid : OnQuantum a.quantum h.range) (clear : IsClear a h.range) where
+module _ (a : ArenaState) (sound : IsDivided a) (h : Holding) (range : IsRange h.range) (grid : OnQuantum a.quantum h.range) (clear : IsClear a h.range) where
   pub apart : (s : Holding) → Contains (spans_of a) s → Apart s h
   apart s in-s = clear_apart s h (All-contains (λ s. ¬ Overlap s.range h.range) (spans_of a) s clear in-s)
 
@@ -106,7 +106,7 @@ module _ (a : ArenaState) (sound : IsSound a) (h : Holding) (range : IsRange h.r
     abbrev more : ArenaState
     more = record a { owned = owned; imported = imported; free = a.free ++ h ∷ [] }
 
-    sound_more : IsSound more
+    sound_more : IsDivided more
     sound_more = record {
       whole = whole_after_add (layout_of a) sound.whole h range.some apart (owned ++ map (λ t. t.holding) imported) old_span new_in span_cases spans_apart;
       covers = λ u. omega (arith, sound.covers u, counts u, sum_by_push (covers_held u) a.free h);
@@ -122,7 +122,7 @@ module _ (a : ArenaState) (sound : IsSound a) (h : Holding) (range : IsRange h.r
   abbrev imports : List Holding
   imports = map (λ t. t.holding) a.imported
 
-  pub sound_add : IsSound (after_add a h)
+  pub sound_add : IsDivided (after_add a h)
   sound_add = sound_more (a.owned ++ h ∷ []) a.imported
       (λ s in-s. ⊎_elim (λ l. Contains-append_left (a.owned ++ h ∷ []) imports s (Contains-append_left a.owned (h ∷ []) s l)) (λ g. Contains-append_right (a.owned ++ h ∷ []) imports s g) (Contains-append_cases a.owned imports s in-s))
       (Contains-append_left (a.owned ++ h ∷ []) imports h (Contains-push a.owned h))
@@ -131,24 +131,24 @@ module _ (a : ArenaState) (sound : IsSound a) (h : Holding) (range : IsRange h.r
       (λ u. omega (arith, sum_by-append (covers_held u) (a.owned ++ h ∷ []) imports, sum_by-append (covers_held u) a.owned imports, sum_by_push (covers_held u) a.owned h)) sound.routes
 
 -- an imported span
-module _ (a : ArenaState) (sound : IsSound a) (t : Tag) (range : IsRange t.holding.range) (grid : OnQuantum a.quantum t.holding.range) (clear : IsClear a t.holding.range) where
+module _ (a : ArenaState) (sound : IsDivided a) (t : Tag) (range : IsRange t.holding.range) (grid : OnQuantum a.quantum t.holding.range) (clear : IsClear a t.holding.range) (route : t.route ≡ Direct) where
   abbrev new_imports : List Holding
-  new_imports = map (λ t. t.holding) (a.imported ++ direct t.arena t.holding ∷ [])
+  new_imports = map (λ t. t.holding) (a.imported ++ t ∷ [])
 
   spans_are : spans_of a ++ t.holding ∷ [] ≡ a.owned ++ new_imports
-  spans_are = append_assoc a.owned (map (λ t. t.holding) a.imported) (t.holding ∷ []) ∙ ap (λ xs. a.owned ++ xs) (sym (map-append (λ t. t.holding) a.imported (direct t.arena t.holding ∷ [])))
+  spans_are = append_assoc a.owned (map (λ t. t.holding) a.imported) (t.holding ∷ []) ∙ ap (λ xs. a.owned ++ xs) (sym (map-append (λ t. t.holding) a.imported (t ∷ [])))
 
-  pub sound_import : IsSound (after_import a t)
-  sound_import = sound_more a sound t.holding range grid clear a.owned (a.imported ++ direct t.arena t.holding ∷ [])
+  pub sound_import : IsDivided (after_import a t)
+  sound_import = sound_more a sound t.holding range grid clear a.owned (a.imported ++ t ∷ [])
       (λ s in-s. subst (λ (xs : List Holding). Contains xs s) spans_are (Contains-append_left (spans_of a) (t.holding ∷ []) s in-s))
       (subst (λ (xs : List Holding). Contains xs t.holding) spans_are (Contains-push (spans_of a) t.holding))
       (λ s in-s. Contains-push_cases (spans_of a) t.holding s (subst (λ (xs : List Holding). Contains xs s) (sym spans_are) in-s))
       (subst (AllPairs Apart) spans_are (all_pairs_push Apart (spans_of a) t.holding sound.whole.spans_apart (λ k d lt. clear_apart (get_or (spans_of a) k d) t.holding (clear k d lt))))
       (λ u. ap (covering_held u) (sym spans_are) ∙ sum_by_push (covers_held u) (spans_of a) t.holding)
-      (All-push (λ t. t.route ≡ Direct) a.imported (direct t.arena t.holding) sound.routes refl)
+      (All-push (λ t. t.route ≡ Direct) a.imported t sound.routes route)
 
 -- a carve
-module _ (a : ArenaState) (sound : IsSound a) (at : ℕ) (r piece : Holding) (within : at < length a.free) (here : HoldsAt (λ x. x ≡ r) a.free at) (held : IsPartOf r piece) (some : 0 < piece.range.len) (grid : OnQuantum a.quantum piece.range) where
+module _ (a : ArenaState) (sound : IsDivided a) (at : ℕ) (r piece : Holding) (within : at < length a.free) (here : HoldsAt (λ x. x ≡ r) a.free at) (held : IsPartOf r piece) (some : 0 < piece.range.len) (grid : OnQuantum a.quantum piece.range) where
   pub among : Contains a.free r
   among = (at, within, here r)
 
@@ -218,7 +218,7 @@ module _ (a : ArenaState) (sound : IsSound a) (at : ℕ) (r piece : Holding) (wi
         | inr ne ↦ sound.tag_grid b t (sym (get_other a.allocated piece.range.base piece b ne) ∙ there)
       ]
 
-  pub sound_carve : IsSound (after_carve a r piece)
+  pub sound_carve : IsDivided (after_carve a r piece)
   sound_carve = record {
     whole = whole_after_carve (layout_of a) sound.whole r piece among held some;
     covers = λ u. omega (arith, sound.covers u, carved_covers u, gains_insert a.allocated piece.range.base piece absent (covers_held u));
@@ -232,9 +232,9 @@ module _ (a : ArenaState) (sound : IsSound a) (at : ℕ) (r piece : Holding) (wi
   }
 
 -- a free
-module _ (a : ArenaState) (sound : IsSound a) (piece merged : Holding) (at : finmap.get a.allocated piece.range.base ≡ Some piece) (edged : IsEdgedRun (spans_of a) (finmap.remove a.allocated piece.range.base) merged) (held : IsPartOf merged piece)
+module _ (a : ArenaState) (sound : IsDivided a) (piece merged : Holding) (at : finmap.get a.allocated piece.range.base ≡ Some piece) (edged : IsEdgedRun (spans_of a) (finmap.remove a.allocated piece.range.base) merged) (held : IsPartOf merged piece)
     (grid : OnQuantum a.quantum merged.range) (counts : (u : ℕ) → covering_held u (after_free a piece merged).free ≡ covering_held u a.free + covers u piece.range) where
-  pub sound_free : IsSound (after_free a piece merged)
+  pub sound_free : IsDivided (after_free a piece merged)
   sound_free = record {
     whole = whole_after_free (layout_of a) sound.whole piece.range.base piece at merged edged held;
     covers = λ u. omega (arith, sound.covers u, counts u, loses_remove a.allocated piece.range.base piece at (covers_held u));
@@ -257,12 +257,12 @@ loses_without xs some apart r in-r f =
     omega (arith, out, same, at)
 
 -- a wholly free span goes
-module _ (a : ArenaState) (sound : IsSound a) (h : Holding) (in-h : Contains (spans_of a) h) (free-h : Contains a.free h) where
+module _ (a : ArenaState) (sound : IsDivided a) (h : Holding) (in-h : Contains (spans_of a) h) (free-h : Contains a.free h) where
   pub free_some : (x : Holding) → Contains a.free x → 0 < x.range.len
   free_some x in-x = (sound.whole.runs x in-x).run.some
 
   module _ (owned : List Holding) (imported : List Tag) (less : IsWithout h (spans_of a) (owned ++ map (λ t. t.holding) imported)) (counts : Loses (spans_of a) (owned ++ map (λ t. t.holding) imported) h) (routes : All (λ t. t.route ≡ Direct) imported) where
-    sound_less : IsSound (record a { owned = owned; imported = imported; free = without h a.free })
+    sound_less : IsDivided (record a { owned = owned; imported = imported; free = without h a.free })
     sound_less = record {
       whole = whole_after_remove (layout_of a) sound.whole h in-h free-h (owned ++ map (λ t. t.holding) imported) (without h a.free) less (without_is a.free free_some sound.whole.free_apart h free-h);
       covers = λ u. omega (arith, sound.covers u, counts (covers_held u), loses_without a.free free_some sound.whole.free_apart h free-h (covers_held u));
@@ -284,14 +284,14 @@ module _ (a : ArenaState) (sound : IsSound a) (h : Holding) (in-h : Contains (sp
   pub sources_some : (x : Holding) → Contains sources x → 0 < x.range.len
   sources_some x in-x = span_some a sound x (Contains-append_right a.owned sources x in-x)
 
-  pub sound_remove : Contains a.owned h → IsSound (after_remove a h)
+  pub sound_remove : Contains a.owned h → IsDivided (after_remove a h)
   sound_remove in-owned = sound_less (without h a.owned) a.imported (first_without a.owned sources h (span_some a sound) sound.whole.spans_apart in-owned)
       (λ f. omega (arith, sum_by-append f a.owned sources, sum_by-append f (without h a.owned) sources, loses_without a.owned owned_some (AllPairs-first Apart a.owned sources sound.whole.spans_apart) h in-owned f)) sound.routes
 
   sources_without : map (λ t. t.holding) (without_span h a.imported) ≡ without h sources
   sources_without = map-filter (λ t. t.holding) (λ x. not (nat_eq x.range.base h.range.base)) a.imported
 
-  pub sound_return : Contains sources h → IsSound (after_return a h)
+  pub sound_return : Contains sources h → IsDivided (after_return a h)
   sound_return in-sources = sound_less a.owned (without_span h a.imported)
       (subst (λ (xs : List Holding). IsWithout h (spans_of a) (a.owned ++ xs)) (sym sources_without) (second_without a.owned sources h (span_some a sound) sound.whole.spans_apart in-sources))
       (λ f.

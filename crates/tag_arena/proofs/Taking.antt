@@ -1,19 +1,16 @@
 -- The lowest wholly free owned span, taken out.
-use Rattle.std.proofs.Common.{◌≡◌, ℕ, ◌+◌, ◌<◌, ◌≤◌, sym, subst, ap, ◌∙◌, List, map, length, get_or, remove, HoldsAt, Contains, Option, Some, None, IfNone, sum_by, arith}
+use Rattle.std.proofs.Common.{◌≡◌, ℕ, ◌+◌, ◌<◌, ◌≤◌, sym, subst, ap, ◌∙◌, List, map, length, get_or, remove, HoldsAt, Contains, Some, sum_by, arith}
 use Rattle.std.proofs.lemmas.List.Elements.{Contains-append_left}
 use Rattle.std.proofs.lemmas.List.Sums.{sum_by-remove}
 use Rattle.deed_core.specs.Holding.{Holding, Apart}
 use Rattle.deed_core.specs.Weights.{Loses}
-use Rattle.tag_arena.specs.declared.wholes.Whole.{Whole}
+use Rattle.tag_arena.specs.declared.whole_spans.Whole.{Whole}
 use Rattle.tag_arena.specs.Found.{LowestSoFar}
-use Rattle.tag_arena.specs.ArenaState.{ArenaState, IsSound}
+use Rattle.tag_arena.specs.ArenaState.{ArenaState, IsDivided, IsSound}
 use Rattle.tag_arena.specs.Calls.{without, after_remove, IsLowestWhole}
 use Rattle.tag_arena.proofs.SpanLists.{without-remove, AllPairs-first}
+use Rattle.tag_arena.proofs.Using.{removed_used}
 use Rattle.tag_arena.proofs.Sounding.{span_some, sound_remove}
-
-pub if_none : {X : Type 0} (o : Option X) (Q : Type 0) → Q → IfNone o Q
-if_none None Q q = q
-if_none (Some x) Q q = tt
 
 -- one member less, however the list is weighed
 pub loses_at : (xs : List Holding) (k : ℕ) (r : Holding) → k < length xs → HoldsAt (λ x. x ≡ r) xs k → Loses xs (remove xs k) r
@@ -22,7 +19,7 @@ loses_at xs k r within here f =
     let at : f (get_or xs k r) ≡ f r = ap f (here r) in
     omega (arith, out, at)
 
-module _ (a : ArenaState) (sound : IsSound a) (w : Whole) (so : LowestSoFar a.owned a.free (length a.owned) (Some w)) where
+module _ (a : ArenaState) (sound : IsDivided a) (w : Whole) (so : LowestSoFar a.owned a.free (length a.owned) (Some w)) where
   in_owned : Contains a.owned w.span
   in_owned = (w.at, so.0, so.1 w.span)
 
@@ -46,8 +43,11 @@ module _ (a : ArenaState) (sound : IsSound a) (w : Whole) (so : LowestSoFar a.ow
   removed_is owned free o_is f_is =
       ap (λ (xs : List Holding). record a { owned = xs; free = free }) (o_is ∙ owned_is) ∙ ap (λ (xs : List Holding). record a { owned = without w.span a.owned; free = xs }) (f_is ∙ free_is)
 
-  pub removed_sound : IsSound (after_remove a w.span)
+  pub removed_sound : IsDivided (after_remove a w.span)
   removed_sound = sound_remove a sound w.span (Contains-append_left a.owned (map (λ t. t.holding) a.imported) w.span in_owned) in_free in_owned
+
+  pub removed_is_sound : IsSound a → (now : ArenaState) → now ≡ after_remove a w.span → IsSound now
+  removed_is_sound all now is = subst IsSound (sym is) (record { divided = removed_sound; used = removed_used a all.used w.span })
 
   pub owned_loses : Loses a.owned (remove a.owned w.at) w.span
   owned_loses = loses_at a.owned w.at w.span so.0 so.1

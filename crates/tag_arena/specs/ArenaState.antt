@@ -41,6 +41,10 @@ ranges_of allocated = map (λ e. e.1) (entries allocated)
 abbrev pub direct : ℕ → Holding → Tag
 direct id h = record { arena = id; route = Direct; holding = h }
 
+-- what is allocated, as the segments that were handed out for it
+abbrev pub tags_of : ArenaState → List Tag
+tags_of a = map (direct a.id) (ranges_of a.allocated)
+
 -- what the arena's policy chooses for the request
 abbrev pub IsChosen : ArenaState → Request → Option ℕ → Type 0
 IsChosen a q choice = IsChoice a.policy a.quantum q a.free a.rover choice
@@ -54,7 +58,7 @@ abbrev pub CoversSpans : ArenaState → Type 0
 CoversSpans a = (u : ℕ) → covering_held u a.free + covering_held u (ranges_of a.allocated) ≡ covering_held u (spans_of a)
 
 -- the spans are divided, each unit once, and everything is in whole quanta
-pub record IsSound (a : ArenaState) : Type 0 where
+pub record IsDivided (a : ArenaState) : Type 0 where
   pub whole : IsWhole (layout_of a)
   pub covers : CoversSpans a
   pub power : IsPowerOfTwo a.quantum
@@ -64,6 +68,11 @@ pub record IsSound (a : ArenaState) : Type 0 where
   pub tag_grid : (b : ℕ) (t : Holding) → get a.allocated b ≡ Some t → OnQuantum a.quantum t.range
   pub routes : All (λ t. t.route ≡ Direct) a.imported
   pub rover : a.rover ≤ 2 ^ 62
+
+-- what is so of every arena between two calls: no imported span is wholly free, since one that becomes so goes back
+pub record IsSound (a : ArenaState) : Type 0 where
+  pub divided : IsDivided a
+  pub used : All (λ t. ¬ Contains a.free t.holding) a.imported
 
 -- an arena with nothing in it
 abbrev pub empty_arena : ℕ → ℕ → Policy → ArenaState

@@ -10,7 +10,7 @@ use Rattle.deed_core.specs.declared.segments.Route.TheVariants.{Direct}
 use Rattle.tag_arena.specs.declared.faults.ArenaFault.{ArenaFault}
 use Rattle.tag_arena.specs.declared.faults.ArenaFault.TheVariants.{BadRequest, NoFit, Overlaps, NotAligned, NoMemory}
 use Rattle.tag_arena.specs.Layout.{IsPartOf, IsLongestRun}
-use Rattle.tag_arena.specs.ArenaState.{ArenaState, spans_of, direct, IsChosen, OnQuantum}
+use Rattle.tag_arena.specs.ArenaState.{ArenaState, spans_of, IsChosen, OnQuantum}
 
 -- `len` units from `base` on, of the root of the range
 abbrev pub part : Holding → ℕ → ℕ → Holding
@@ -75,13 +75,17 @@ RefusesSpan a e Overlaps = Any (λ s. Overlap s.range e) (spans_of a)
 RefusesSpan a e NotAligned = IsClear a e × ¬ OnQuantum a.quantum e
 RefusesSpan a e NoMemory = IsClear a e × OnQuantum a.quantum e
 
--- an imported span is added, and is the newest free range; what is kept of it is a Direct segment of its source
+-- an imported span is added, and is the newest free range
 abbrev pub after_import : ArenaState → Tag → ArenaState
-after_import a t = record a { imported = a.imported ++ direct t.arena t.holding ∷ []; free = a.free ++ t.holding ∷ [] }
+after_import a t = record a { imported = a.imported ++ t ∷ []; free = a.free ++ t.holding ∷ [] }
 
--- the first units of a span, as many as the request asks for
+-- the first `len` units of a span
+abbrev pub first_units : ℕ → Holding → Holding
+first_units len h = part h h.range.base len
+
+-- as many as the request asks for
 abbrev pub first_of : ℕ → Request → Holding → Holding
-first_of quantum q h = part h h.range.base (rounded quantum q.size)
+first_of quantum q h = first_units (rounded quantum q.size) h
 
 -- the span is added, and its first units carved
 abbrev pub after_import_carve : ArenaState → Request → Tag → ArenaState

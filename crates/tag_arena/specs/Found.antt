@@ -1,11 +1,13 @@
 -- What a scan of the free ranges has found.
 use Rattle.std.specs.Prelude.{◌≡◌, ℕ, ◌+◌, ◌<◌, ◌≤◌, List, HoldsAt, Contains, length, Option, Some, None}
 use Rattle.std.specs.List.{AllWithin}
+use Rattle.deed_core.specs.Extent.{end_of}
 use Rattle.deed_core.specs.Holding.{Holding}
 use Rattle.deed_core.specs.declared.requests.Request.{Request}
 use Rattle.tag_arena.specs.declared.choices.Found.{Found}
-use Rattle.tag_arena.specs.declared.instants.Listed.{Listed}
-use Rattle.tag_arena.specs.declared.wholes.Whole.{Whole}
+use Rattle.tag_arena.specs.declared.power_lists.Listed.{Listed}
+use Rattle.tag_arena.specs.declared.whole_spans.Whole.{Whole}
+use Rattle.tag_arena.specs.ArenaState.{OnQuantum}
 use Rattle.tag_arena.specs.Place.{ServesIn}
 use Rattle.tag_arena.specs.Choice.{ComesFirst, OnList, ListServes}
 
@@ -34,6 +36,16 @@ NewestSoFar quantum len free n (Some f) =
 -- f is a place in the list of free ranges, and the range there serves at its base
 abbrev pub IsPlaced : ℕ → Request → List Holding → Found → Type 0
 IsPlaced quantum q free f = (f.at < length free) × HoldsAt (λ r. r ≡ f.range) free f.at × ServesIn quantum q f.range f.base
+
+-- f is a place in the list of free ranges, and the `len` units from its base on are whole quanta of
+-- the range there
+pub record IsCuttable (quantum : ℕ) (free : List Holding) (f : Found) (len : ℕ) : Type 0 where
+  pub within : f.at < length free
+  pub here : HoldsAt (λ r. r ≡ f.range) free f.at
+  pub some : 0 < len
+  pub from : f.range.range.base ≤ f.base
+  pub to : f.base + len ≤ end_of f.range.range
+  pub grid : OnQuantum quantum (record { base = f.base; len = len })
 
 abbrev pub base_of : Option Found → Option ℕ
 base_of None = None

@@ -3,6 +3,7 @@ pub mod Place
 pub mod Choice
 pub mod ArenaState
 pub mod Calls
+pub mod Outcomes
 pub mod Laws
 pub mod Found
 pub mod Neighbors

@@ -1,28 +1,31 @@
 //! The arena.
-ghost use Rattle.std.specs.Prelude.{◌≡◌, ◌+◌, ◌-◌, ◌≤◌, ◌↔◌, ◌<◌, [], ◌++◌, ℕ, vec_len, vec_capacity, All, Any, Contains, IsTrue, IsOk, IsErrAnd, IfOk, IfErr, IfSome, IfNone, OnOk, OnErr, Some, None, Err, MatchOption, option_to_list, sum_by};
+ghost use Rattle.std.specs.Prelude.{◌≡◌, ◌+◌, ◌%◌, ◌≤◌, ◌↔◌, ◌<◌, [], ℕ, vec_len, vec_capacity, IsOk, IfOk, IfErr, IfSome, IfNone, OnOk, OnErr, Some, option_to_list, sum_by};
 ghost use Rattle.std.specs.Int.{IsPowerOfTwo};
+ghost use Rattle.std.specs.Option.{option_map};
 ghost use Rattle.std.specs.FinMap as finmap;
-ghost use Rattle.deed_core.specs.Extent.{Overlap};
+ghost use Rattle.deed_core.specs.Extent.{IsRange};
 ghost use Rattle.deed_core.specs.Covering.{covers, covers_tag, covering_held, units_held};
 ghost use Rattle.deed_core.specs.Tag.{Tag};
 ghost use Rattle.deed_core.specs.Weights.{Gains, Loses};
-ghost use Rattle.deed_core.specs.Request.{Fits, IsGood, IsPlain, rounded};
+ghost use Rattle.deed_core.specs.Request.{IsGood, IsPlain, rounded};
 ghost use Rattle.tag_arena.specs.Layout.{FreeIsLongestRuns};
-ghost use Rattle.tag_arena.specs.ArenaState.{spans_of, layout_of, ranges_of, direct, IsChosen, IsSound, OnQuantum, empty_arena};
-ghost use Rattle.tag_arena.specs.Calls.{Carves, RefusesCarve, IsClear, RefusesSpan, after_add, after_import, after_import_carve, first_of, IsTagged, Frees, IsLowestWhole, after_remove};
+ghost use Rattle.tag_arena.specs.ArenaState.{spans_of, layout_of, ranges_of, tags_of, direct, IsChosen, IsSound, OnQuantum, empty_arena};
+ghost use Rattle.tag_arena.specs.Calls.{part, after_carve, RefusesCarve, IsClear, RefusesSpan, after_import, first_units, IsTagged};
+ghost use Rattle.tag_arena.specs.Found.{IsCuttable, IsPlaced};
+ghost use Rattle.tag_arena.specs.Outcomes.{KeepsSetup, AddOf, CarveOf, ImportOf, FreeOf, RemoveOf};
 
-use crate::choices::chosen;
+use crate::choices::{Found, chosen};
 use crate::cuts::{carve, cut_first, push_rest};
-use crate::faults::ArenaFault;
+use crate::faults::{ArenaFault, SpanRefused};
 use crate::merges::merge;
 use crate::policies::Policy;
 use crate::spans::{
     Import, free_units, imported_units, overlaps_imported, overlaps_owned, owned_units,
     place_of_import, span_at,
 };
-use crate::stretches::{Stretch, stretch_of};
+use crate::held_ranges::{HeldRange, held_range_of};
 use crate::tags::Tags;
-use crate::wholes::lowest_whole;
+use crate::whole_spans::lowest_whole;
 use deed_core::{Deed, Range, Request, Route, Segment, Stored};
 use std::alloc::{AllocError, Global};
 use std::marker::Model;
@@ -32,7 +35,7 @@ pub struct Arena<D: Deed> {
     id: u32,
     quantum: u64,
     policy: Policy,
-    owned: Vec<Stretch>,
+    owned: Vec<HeldRange>,
     imported: Vec<Import>,
     free: Vec<Stored<D>>,
     tags: Tags,
@@ -107,9 +110,12 @@ impl<D: Deed> Arena<D> {
         }
     }
 
-    /// The number that its segments carry.
+    /// The number that its segments carry. It takes constant time, so its clauses are the way to know
+    /// of an arena what is always so.
     pub fn id(&self) -> u32
-        ensures { result ≡ self.now.id }
+        ensures value { result ≡ self.now.id }
+        ensures sound { IsSound self.now }
+        ensures longest { FreeIsLongestRuns (layout_of self.now) }
     {
         self.id
     }
@@ -194,68 +200,82 @@ impl<D: Deed> Arena<D> {
 
     /// Adds an owned span, which is the newest free range. It takes any number of spans: the layer
     /// above keeps to 65,536.
-    pub fn add_span(&mut self, deed: D) -> Result<(), (D, ArenaFault)>
-        ensures added { OnOk result (self.new ≡ after_add self.old (D.holding deed)) }
-        ensures clear { OnOk result (IsClear self.old (D.holding deed).range
-            × OnQuantum self.old.quantum (D.holding deed).range) }
-        ensures refused { IfErr result (λ back.
-            RefusesSpan self.old (D.holding deed).range back.1) }
-        ensures same { IfErr result (λ back. back.0 ≡ deed) }
-        ensures err { OnErr result (self.new ≡ self.old) }
+    pub fn add_span(&mut self, deed: D) -> Result<(), SpanRefused<D>>
+        // What it does.
+        ensures added { AddOf self.old deed (D.holding deed) result self.new }
+
+        // What follows, for those above.
+        ensures sound { IsSound self.new }
+        ensures kept { KeepsSetup self.old self.new }
+        ensures imported { self.new.imported ≡ self.old.imported }
     {
         let range = deed.range();
         if let Some(fault) = self.span_fault(&range) {
-            return Err((deed, fault));
+            return Err(SpanRefused { span: deed, fault });
         }
+        let fault = ArenaFault::NoMemory;
         let Ok(()) = self.owned.reserve(1) else {
-            return Err((deed, ArenaFault::NoMemory));
+            return Err(SpanRefused { span: deed, fault });
         };
         let Ok(()) = reserve_free(&mut self.free, &self.tags, 1) else {
-            return Err((deed, ArenaFault::NoMemory));
+            return Err(SpanRefused { span: deed, fault });
         };
         let stored = Stored::new(deed);
-        self.owned.push_reserved(stretch_of(&stored));
+        self.owned.push_reserved(held_range_of(&stored));
         self.free.push_reserved(stored);
         Ok(())
     }
 
     /// Carves what the policy chooses for the request.
     pub fn xalloc(&mut self, request: &Request) -> Result<Segment<D>, ArenaFault>
-        ensures bad { (result ≡ Err ArenaFault.BadRequest) ↔ ¬ IsGood self.old.quantum request.now }
-        ensures no_fit { (result ≡ Err ArenaFault.NoFit)
-            ↔ (IsGood self.old.quantum request.now × IsChosen self.old request.now None) }
-        ensures refused { IfErr result (RefusesCarve self.old request.now) }
-        ensures good { OnOk result (IsGood self.old.quantum request.now) }
-        ensures chosen { IfOk result (λ s.
-            IsChosen self.old request.now (Some s.holding.range.base)) }
-        ensures fits { IfOk result (λ s.
-            Fits self.old.quantum request.now s.holding.range.base s.holding.range.len) }
-        ensures segment { IfOk result (λ s. s ≡ direct self.old.id s.holding) }
-        ensures carved { IfOk result (λ s. Carves self.old self.new s.holding) }
-        ensures err { OnErr result (self.new ≡ self.old) }
+        // What it does.
+        ensures carved { CarveOf self.old request.now result self.new }
 
-        // However the ranges are weighed, and unit by unit.
-        ensures gains { IfOk result (λ s.
-            Gains (ranges_of self.old.allocated) (ranges_of self.new.allocated) s.holding) }
+        // What follows, for those above.
+        ensures sound { IsSound self.new }
+        ensures kept { KeepsSetup self.old self.new }
+        ensures owned { self.new.owned ≡ self.old.owned }
+        ensures imported { self.new.imported ≡ self.old.imported }
+        ensures gains { IfOk result (Gains (tags_of self.old) (tags_of self.new)) }
         ensures covering { IfOk result (λ s.
             (u : ℕ) → covering_held u self.old.free
             ≡ covering_held u self.new.free + covers u s.holding.range) }
     {
+        let found = self.choose(request)?;
+        let len = request.units(self.quantum).unwrap();
+        Ok(self.carve_found(found, len)?)
+    }
+
+    /// What the policy chooses for the request, and where it stands.
+    fn choose(&self, request: &Request) -> Result<Found, ArenaFault>
+        ensures good { OnOk result (IsGood self.now.quantum request.now) }
+        ensures chosen { IfOk result (λ found. IsChosen self.now request.now (Some found.base)) }
+        ensures placed { IfOk result (IsPlaced self.now.quantum request.now self.now.free) }
+        ensures refused { IfErr result (RefusesCarve self.now request.now) }
+    {
         if !request.is_good(self.quantum) {
             return Err(ArenaFault::BadRequest);
         }
-        let Some(found) = chosen(&self.free, self.policy, self.rover, self.quantum, request) else {
-            return Err(ArenaFault::NoFit);
-        };
-        let len = request.units(self.quantum).unwrap();
+        chosen(&self.free, self.policy, self.rover, self.quantum, request).ok_or(ArenaFault::NoFit)
+    }
 
+    /// Carves the first `len` units of what was found.
+    fn carve_found(&mut self, found: Found, len: u64) -> Result<Segment<D>, AllocError>
+        requires { IsCuttable self.old.quantum self.old.free found len }
+        ensures segment { let piece = part found.range found.base len in
+            IfOk result (λ s. s ≡ direct self.old.id piece) }
+        ensures carved { let piece = part found.range found.base len in
+            OnOk result (self.new ≡ after_carve self.old found.range piece) }
+        ensures range { IfOk result (λ s. IsRange s.holding.range) }
+        ensures err { OnErr result (self.new ≡ self.old) }
+    {
         // Room for both rests, of which one takes the place of the range, and for the piece.
         reserve_free(&mut self.free, &self.tags, 2)?;
-        let piece = Stretch::new(found.range.root(), piece_of(found.range, found.base, len));
+        let piece = HeldRange::new(found.range.root(), piece_of(found.range, found.base, len));
         self.tags.insert(piece)?;
         let Ok(deed) = carve(&mut self.free, found.at, found.range, found.base, len) else {
             self.tags.remove(piece);
-            return Err(ArenaFault::NoMemory);
+            return Err(AllocError);
         };
         self.rover = found.base + len;
         Ok(Segment::new(self.id, Route::Direct, deed.into_deed()))
@@ -266,53 +286,77 @@ impl<D: Deed> Arena<D> {
         &mut self,
         span: Segment<D>,
         request: &Request,
-    ) -> Result<Segment<D>, (Segment<D>, ArenaFault)>
+    ) -> Result<Segment<D>, SpanRefused<Segment<D>>>
+        requires route { span.route ≡ Route.Direct }
         requires good { IsGood self.old.quantum request.now }
         requires plain { IsPlain request.now }
         requires room { rounded self.old.quantum request.now.size ≤ span.holding.range.len }
-        ensures segment { IfOk result (λ s.
-            s ≡ direct self.old.id (first_of self.old.quantum request.now span.holding)) }
-        ensures carved { OnOk result (self.new ≡ after_import_carve self.old request.now span) }
-        ensures clear { OnOk result (IsClear self.old span.holding.range
-            × OnQuantum self.old.quantum span.holding.range) }
-        ensures refused { IfErr result (λ back. RefusesSpan self.old span.holding.range back.1) }
-        ensures same { IfErr result (λ back. back.0 ≡ span) }
-        ensures err { OnErr result (self.new ≡ self.old) }
 
-        // However the ranges are weighed, and unit by unit.
-        ensures gains { IfOk result (λ s.
-            Gains (ranges_of self.old.allocated) (ranges_of self.new.allocated) s.holding) }
+        // What it does.
+        ensures carved { ImportOf self.old span request.now result self.new }
+
+        // What follows, for those above.
+        ensures sound { IsSound self.new }
+        ensures kept { KeepsSetup self.old self.new }
+        ensures owned { self.new.owned ≡ self.old.owned }
+        ensures imported { OnOk result (Gains self.old.imported self.new.imported span) }
+        ensures gains { IfOk result (Gains (tags_of self.old) (tags_of self.new)) }
         ensures covering { IfOk result (λ s.
             (u : ℕ) → covering_held u self.new.free + covers u s.holding.range
             ≡ covering_held u self.old.free + covers u span.holding.range) }
+        ensures spans { OnOk result ((u : ℕ) → covering_held u (spans_of self.new)
+            ≡ covering_held u (spans_of self.old) + covers_tag u span) }
     {
         let range = span.range();
         if let Some(fault) = self.span_fault(&range) {
-            return Err((span, fault));
+            return Err(SpanRefused { span, fault });
         }
         let len = request.units(self.quantum).unwrap();
+        match self.import(span, len) {
+            Ok(first) => Ok(first),
+            Err(span) => Err(SpanRefused {
+                span,
+                fault: ArenaFault::NoMemory,
+            }),
+        }
+    }
+
+    /// Adds an imported span that nothing stands against, and carves its first `len` units.
+    fn import(&mut self, span: Segment<D>, len: u64) -> Result<Segment<D>, Segment<D>>
+        requires route { span.route ≡ Route.Direct }
+        requires clear { IsClear self.old span.holding.range }
+        requires aligned { OnQuantum self.old.quantum span.holding.range }
+        requires some { 0 < len }
+        requires room { len ≤ span.holding.range.len }
+        requires whole { len % self.old.quantum ≡ 0 }
+        ensures segment { IfOk result (λ s. s ≡ direct self.old.id (first_units len span.holding)) }
+        ensures carved { let first = first_units len span.holding in
+            OnOk result (self.new ≡ after_carve (after_import self.old span) span.holding first) }
+        ensures range { IfOk result (λ s. IsRange s.holding.range) }
+        ensures err { IfErr result (λ same. (same ≡ span) × (self.new ≡ self.old)) }
+    {
         let Ok(()) = self.imported.reserve(1) else {
-            return Err((span, ArenaFault::NoMemory));
+            return Err(span);
         };
         let Ok(()) = reserve_free(&mut self.free, &self.tags, 2) else {
-            return Err((span, ArenaFault::NoMemory));
+            return Err(span);
         };
-        let whole = Stretch::new(span.root(), range);
-        let first = Stretch::new(span.root(), piece_of(whole, range.base(), len));
+        let whole = HeldRange::new(span.root(), span.range());
+        let first = HeldRange::new(span.root(), piece_of(whole, whole.base(), len));
         let Ok(()) = self.tags.insert(first) else {
-            return Err((span, ArenaFault::NoMemory));
+            return Err(span);
         };
         let source = span.arena();
         let (deed, rest) = match cut_first(span, len) {
             Ok(parts) => parts,
             Err(span) => {
                 self.tags.remove(first);
-                return Err((span, ArenaFault::NoMemory));
+                return Err(span);
             }
         };
         push_rest(&mut self.free, rest);
         self.imported.push_reserved(Import::new(source, whole));
-        self.rover = range.base() + len;
+        self.rover = first.end();
         Ok(Segment::new(self.id, Route::Direct, deed.into_deed()))
     }
 
@@ -320,33 +364,35 @@ impl<D: Deed> Arena<D> {
     /// span that becomes wholly free is taken out and handed back, to be freed by its source. It takes
     /// no memory.
     pub fn free(&mut self, segment: Segment<D>) -> Result<Option<Segment<D>>, Segment<D>>
-        ensures mine { IsOk result ↔ IsTagged self.old segment }
-        ensures freed { IfOk result (Frees self.old self.new segment.holding) }
-        ensures route { IfOk result (λ back. IfSome back (λ t. t.route ≡ Route.Direct)) }
-        ensures same { IfErr result (λ same. same ≡ segment) }
-        ensures err { OnErr result (self.new ≡ self.old) }
+        // What it does.
+        ensures freed { FreeOf self.old segment result self.new }
 
-        // However the ranges are weighed, and unit by unit.
-        ensures loses { OnOk result
-            (Loses (ranges_of self.old.allocated) (ranges_of self.new.allocated) segment.holding) }
+        // What follows, for those above.
+        ensures sound { IsSound self.new }
+        ensures kept { KeepsSetup self.old self.new }
+        ensures owned { self.new.owned ≡ self.old.owned }
+        ensures loses { OnOk result (Loses (tags_of self.old) (tags_of self.new) segment) }
         ensures returned { IfOk result (λ back.
             (f : Tag → ℕ) → sum_by f self.old.imported
             ≡ sum_by f self.new.imported + sum_by f (option_to_list back)) }
         ensures covering { IfOk result (λ back.
             (u : ℕ) → covering_held u self.new.free + sum_by (covers_tag u) (option_to_list back)
             ≡ covering_held u self.old.free + covers u segment.holding.range) }
+        ensures spans { IfOk result (λ back.
+            (u : ℕ) → covering_held u (spans_of self.old)
+            ≡ covering_held u (spans_of self.new) + sum_by (covers_tag u) (option_to_list back)) }
     {
         if segment.arena() != self.id || segment.route() != Route::Direct {
             return Err(segment);
         }
-        let tagged = Stretch::new(segment.root(), segment.range());
+        let tagged = HeldRange::new(segment.root(), segment.range());
         if self.tags.get(tagged.base()) != Some(tagged) {
             return Err(segment);
         }
         let span = span_at(&self.owned, &self.imported, tagged.base()).unwrap();
         let merged = merge(&mut self.free, span, Stored::new(segment.into_deed()));
         self.tags.remove(tagged);
-        let Some(at) = place_of_import(&self.imported, &stretch_of(&merged)) else {
+        let Some(at) = place_of_import(&self.imported, &held_range_of(&merged)) else {
             self.free.push_reserved(merged);
             return Ok(None);
         };
@@ -356,17 +402,21 @@ impl<D: Deed> Arena<D> {
 
     /// Takes out the lowest owned span that is wholly free. It takes no memory.
     pub fn remove_owned(&mut self) -> Option<D>
-        ensures none { IfNone result
-            (All (λ s. ¬ Contains self.old.free s) self.old.owned × (self.new ≡ self.old)) }
-        ensures lowest { IfSome result (λ deed. IsLowestWhole self.old (D.holding deed)) }
-        ensures removed { IfSome result (λ deed.
-            self.new ≡ after_remove self.old (D.holding deed)) }
+        // What it does.
+        ensures removed { RemoveOf self.old (option_map D.holding result) self.new }
+
+        // What follows, for those above.
+        ensures sound { IsSound self.new }
+        ensures kept { KeepsSetup self.old self.new }
+        ensures imported { self.new.imported ≡ self.old.imported }
         ensures loses { IfSome result (λ deed.
             Loses self.old.owned self.new.owned (D.holding deed)) }
         ensures covering { IfSome result (λ deed.
             Loses self.old.free self.new.free (D.holding deed)) }
     {
-        let whole = lowest_whole(&self.owned, &self.free)?;
+        let Some(whole) = lowest_whole(&self.owned, &self.free) else {
+            return None;
+        };
         let _ = self.owned.remove(whole.at);
         Some(self.free.remove(whole.free_at).into_deed())
     }
@@ -390,7 +440,7 @@ fn reserve_free<D: Deed>(
 }
 
 /// The `len` units from `base` on, which lie in the range.
-fn piece_of(range: Stretch, base: u64, len: u64) -> Range
+fn piece_of(range: HeldRange, base: u64, len: u64) -> Range
     requires some { 0 < len }
     requires from { range.range.base ≤ base }
     requires to { base + len ≤ range.range.base + range.range.len }

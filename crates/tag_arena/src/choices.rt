@@ -6,17 +6,17 @@ ghost use Rattle.deed_core.specs.Request.{IsGood};
 ghost use Rattle.tag_arena.specs.Choice.{IsChoice, IsBestChoice, IsNextChoice, ComesFirst};
 ghost use Rattle.tag_arena.specs.Found.{BestSoFar, EarliestSoFar, IsPlaced, base_of};
 
-use crate::instants::instant;
+use crate::power_lists::instant;
 use crate::places::least_in;
 use crate::policies::Policy;
-use crate::stretches::{Stretch, stretch_at};
+use crate::held_ranges::{HeldRange, held_range_at};
 use deed_core::{Deed, Request, Stored};
 
 /// A place in the list of free ranges, the range there, and an address in it.
 #[derive(Clone, Copy)]
 pub struct Found {
     pub at: usize,
-    pub range: Stretch,
+    pub range: HeldRange,
     pub base: u64,
 }
 
@@ -50,7 +50,7 @@ fn better<D: Deed>(
     requires best { BestSoFar quantum request.now free.now at best }
     ensures { BestSoFar quantum request.now free.now (at + 1) result }
 {
-    let range = stretch_at(free, at);
+    let range = held_range_at(free, at);
     let Some(base) = least_in(request, quantum, range, 0) else {
         return best;
     };
@@ -95,7 +95,7 @@ fn earlier<D: Deed>(
     requires earliest { EarliestSoFar quantum request.now start free.now at earliest }
     ensures { EarliestSoFar quantum request.now start free.now (at + 1) result }
 {
-    let range = stretch_at(free, at);
+    let range = held_range_at(free, at);
     let Some(base) = least_in(request, quantum, range, start) else {
         return earliest;
     };

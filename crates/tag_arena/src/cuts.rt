@@ -4,7 +4,7 @@ ghost use Rattle.deed_core.specs.Extent.{end_of};
 ghost use Rattle.deed_core.specs.Holding.{joined, GoesOn};
 ghost use Rattle.tag_arena.specs.Calls.{part, between, rests};
 
-use crate::stretches::Stretch;
+use crate::held_ranges::HeldRange;
 use deed_core::{Deed, Segment, Stored, insert_reserved};
 use std::alloc::AllocError;
 
@@ -113,7 +113,7 @@ pub fn push_rest<D: Deed>(free: &mut Vec<Stored<D>>, rest: Option<Stored<D>>)
 pub fn carve<D: Deed>(
     free: &mut Vec<Stored<D>>,
     at: usize,
-    range: Stretch,
+    range: HeldRange,
     base: u64,
     len: u64,
 ) -> Result<Stored<D>, AllocError>

@@ -24,6 +24,14 @@ pub enum ArenaFault {
     NoMemory,
 }
 
+/// A span that an arena doesn't take, and why.
+pub struct SpanRefused<S> {
+    /// The span's deed or segment, as it was given.
+    pub span: S,
+    /// Why.
+    pub fault: ArenaFault,
+}
+
 impl From<AllocError> for ArenaFault {
     ghost use Rattle.tag_arena.specs.declared.faults.ArenaFault.TheVariants.{NoMemory};
 

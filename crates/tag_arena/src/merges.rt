@@ -6,7 +6,7 @@ ghost use Rattle.deed_core.specs.Holding.{GoesOn};
 ghost use Rattle.tag_arena.specs.Layout.{IsPartOf};
 ghost use Rattle.tag_arena.specs.Neighbors.{IsBeside, Merges, TakesLeft, TakesRight};
 
-use crate::stretches::Stretch;
+use crate::held_ranges::HeldRange;
 use deed_core::{Deed, Stored};
 
 /// Where the range that ends at `base` stands.
@@ -92,7 +92,7 @@ fn join_right<D: Deed>(deed: Stored<D>, right: Option<Stored<D>>) -> Stored<D>
 }
 
 /// The deed and its free neighbors inside the span, which are taken out.
-pub fn merge<D: Deed>(free: &mut Vec<Stored<D>>, span: Stretch, deed: Stored<D>) -> Stored<D>
+pub fn merge<D: Deed>(free: &mut Vec<Stored<D>>, span: HeldRange, deed: Stored<D>) -> Stored<D>
     requires inside { IsPartOf span deed }
     requires some { 0 < deed.range.len }
     requires beside { All (IsBeside span) free.old.items }

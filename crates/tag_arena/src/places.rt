@@ -4,7 +4,7 @@ ghost use Rattle.std.specs.Int.{IsPowerOfTwo};
 ghost use Rattle.deed_core.specs.Request.{IsGood};
 ghost use Rattle.tag_arena.specs.Place.{IsLeast, IsPlace, Nest, OnGrid, ServesIn};
 
-use crate::stretches::Stretch;
+use crate::held_ranges::HeldRange;
 use deed_core::Request;
 
 /// The least number from `low` on that leaves `phase` when divided by `align`.
@@ -80,7 +80,7 @@ fn grid(request: &Request, quantum: u64) -> (u64, u64)
 
 /// The least base from `from` on at which the range serves the request, found in a number of steps
 /// that no member of the request changes.
-pub fn least_in(request: &Request, quantum: u64, range: Stretch, from: u64) -> Option<u64>
+pub fn least_in(request: &Request, quantum: u64, range: HeldRange, from: u64) -> Option<u64>
     requires quantum { IsPowerOfTwo quantum }
     requires good { IsGood quantum request.now }
     requires from { from ≤ 2 ^ 62 }

@@ -4,7 +4,7 @@ ghost use Rattle.deed_core.specs.Covering.{units_held};
 ghost use Rattle.deed_core.specs.Extent.{Covers, Overlap, IsRange};
 ghost use Rattle.deed_core.specs.declared.segments.Route.TheVariants.{Direct};
 
-use crate::stretches::Stretch;
+use crate::held_ranges::HeldRange;
 use deed_core::{Deed, Range, Stored};
 use std::marker::Model;
 
@@ -13,7 +13,7 @@ use std::marker::Model;
 #[derive(Drop)]
 pub struct Import {
     source: u32,
-    span: Stretch,
+    span: HeldRange,
 }
 
 impl Model for Import {
@@ -26,7 +26,7 @@ impl Model for Import {
 }
 
 impl Import {
-    pub fn new(source: u32, span: Stretch) -> Import
+    pub fn new(source: u32, span: HeldRange) -> Import
         ensures { result ≡ record { arena = source; route = Direct; holding = span } }
     {
         Import { source, span }
@@ -38,7 +38,7 @@ impl Import {
         self.source
     }
 
-    pub fn span(&self) -> Stretch
+    pub fn span(&self) -> HeldRange
         ensures { result ≡ self.now.holding }
     {
         self.span
@@ -46,7 +46,7 @@ impl Import {
 }
 
 /// Whether an owned span overlaps the range.
-pub fn overlaps_owned(owned: &[Stretch], range: &Range) -> bool
+pub fn overlaps_owned(owned: &[HeldRange], range: &Range) -> bool
     ensures { MatchBool result (Any (λ s. Overlap s.range range.now) owned.now)
         (All (λ s. ¬ Overlap s.range range.now) owned.now) }
 {
@@ -72,7 +72,7 @@ pub fn overlaps_imported(imported: &[Import], range: &Range) -> bool
 }
 
 /// The owned span that `base` lies in.
-fn owned_at(owned: &[Stretch], base: u64) -> Option<Stretch>
+fn owned_at(owned: &[HeldRange], base: u64) -> Option<HeldRange>
     ensures { MatchOption result (All (λ s. ¬ Covers s.range base) owned.now)
         (λ s. Contains owned.now s × Covers s.range base) }
 {
@@ -85,7 +85,7 @@ fn owned_at(owned: &[Stretch], base: u64) -> Option<Stretch>
 }
 
 /// The imported span that `base` lies in.
-fn imported_at(imported: &[Import], base: u64) -> Option<Stretch>
+fn imported_at(imported: &[Import], base: u64) -> Option<HeldRange>
     ensures { let spans = map (λ t. t.holding) imported.now in
         MatchOption result (All (λ s. ¬ Covers s.range base) spans)
         (λ s. Contains spans s × Covers s.range base) }
@@ -100,7 +100,7 @@ fn imported_at(imported: &[Import], base: u64) -> Option<Stretch>
 }
 
 /// The span that `base` lies in.
-pub fn span_at(owned: &[Stretch], imported: &[Import], base: u64) -> Option<Stretch>
+pub fn span_at(owned: &[HeldRange], imported: &[Import], base: u64) -> Option<HeldRange>
     ensures { let spans = owned.now ++ map (λ t. t.holding) imported.now in
         MatchOption result (All (λ s. ¬ Covers s.range base) spans)
         (λ s. Contains spans s × Covers s.range base) }
@@ -112,7 +112,7 @@ pub fn span_at(owned: &[Stretch], imported: &[Import], base: u64) -> Option<Stre
 }
 
 /// Where the imported span with this root and range stands.
-pub fn place_of_import(imported: &[Import], span: &Stretch) -> Option<usize>
+pub fn place_of_import(imported: &[Import], span: &HeldRange) -> Option<usize>
     ensures { MatchOption result (All (λ t. t.holding ≢ span.now) imported.now)
         (λ at. (at < length imported.now)
         × HoldsAt (λ t. t.holding ≡ span.now) imported.now at) }
@@ -126,7 +126,7 @@ pub fn place_of_import(imported: &[Import], span: &Stretch) -> Option<usize>
 }
 
 /// How many units the owned spans have.
-pub fn owned_units(owned: &[Stretch]) -> u128
+pub fn owned_units(owned: &[HeldRange]) -> u128
     ensures sum { result ≡ units_held owned.now }
     ensures bound { result ≤ length owned.now * 2 ^ 62 }
 {

@@ -2,7 +2,7 @@
 ghost use Rattle.std.specs.Prelude.{◌≡◌, ◌+◌, ◌^◌, ◌<◌, OnOk, OnErr, Some, None};
 ghost use Rattle.std.specs.FinMap as finmap;
 
-use crate::stretches::Stretch;
+use crate::held_ranges::HeldRange;
 use std::alloc::{AllocError, Global};
 use std::collections::HashMap;
 use std::marker::Model;
@@ -10,7 +10,7 @@ use std::marker::Model;
 /// Each allocated range at its base, and how many they are.
 #[derive(Drop)]
 pub struct Tags {
-    ranges: HashMap<u64, Stretch>,
+    ranges: HashMap<u64, HeldRange>,
     count: usize,
 }
 
@@ -47,14 +47,14 @@ impl Tags {
         self.count
     }
 
-    pub fn get(&self, base: u64) -> Option<Stretch>
+    pub fn get(&self, base: u64) -> Option<HeldRange>
         ensures { result ≡ finmap.get self.now base }
     {
         self.ranges.get(&base).copied()
     }
 
     /// Puts in a range at whose base none stands.
-    pub fn insert(&mut self, range: Stretch) -> Result<(), AllocError>
+    pub fn insert(&mut self, range: HeldRange) -> Result<(), AllocError>
         requires absent { finmap.get self.old range.range.base ≡ None }
         requires room { finmap.len self.old + 1 < 2 ^ 64 }
         ensures ok { OnOk result (self.new ≡ finmap.insert self.old range.range.base range) }
@@ -66,7 +66,7 @@ impl Tags {
     }
 
     /// Takes out a range that stands.
-    pub fn remove(&mut self, range: Stretch)
+    pub fn remove(&mut self, range: HeldRange)
         requires { finmap.get self.old range.range.base ≡ Some range }
         ensures { self.new ≡ finmap.remove self.old range.range.base }
     {

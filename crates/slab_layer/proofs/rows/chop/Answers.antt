@@ -15,8 +15,8 @@ pub returns-in-Err-clause-err : goal.returns-in-Err-clause-err
 returns-in-Err-clause-err g c =
     let inv = c.loop-done.invariant in
     let room = room_for c.loop-done.done c.args.count c.args.chunk c.args.whole.range.len c.loop-done-test.true c.requires.room in
-    let long : c.range-some.result.len ≡ c.args.whole.range.len = ap (λ (e : Extent). e.len) c.range-some.ensures.value in
-    let more : 0 < c.args.whole.range.len = omega (arith, c.range-some.ensures.range.some) in
+    let long : c.range.result.len ≡ c.args.whole.range.len = ap (λ (e : Extent). e.len) c.range.ensures.value in
+    let more : 0 < c.args.whole.range.len = omega (arith, c.range.ensures.range.some) in
     let whole : joined_row c.loop-done.row.items c.in-Err.same ≡ Some c.args.whole = rw (c.in-Err.ensures.err, inv.row, inv.rest) (all_whole c.args.whole c.args.chunk c.loop-done.done c.requires.some (omega arith) more) in
     let e : Some c.unwrap.result ≡ Some c.args.whole = sym c.unwrap.ensures ∙ c.unchop.ensures.joined ∙ whole in
     cc

@@ -4,12 +4,12 @@ use Rattle.tag_arena.proofs.Scans.{earliest_skips, earliest_kept, earliest_taken
 use Rattle.tag_arena.proofs.choices.earlier.Goals as goal
 
 pub returns-in_default : goal.returns-in_default
-returns-in_default g c = earliest_skips _ _ _ c.stretch_at-range.ensures.here _ _ _ _ c.requires.earliest c.in_default.ensures
+returns-in_default g c = earliest_skips _ _ _ c.held_range_at-range.ensures.here _ _ _ _ c.requires.earliest c.in_default.ensures
 
 pub returns-then-other-base : goal.returns-then-other-base
 returns-then-other-base g c =
-    earliest_kept _ _ _ c.stretch_at-range.ensures.here _ _ _ _ c.in-Some.ensures _ (subst (EarliestSoFar c.args.quantum c.args.request.now c.args.start c.args.free.now c.args.at) c.in-Some-earliest.is c.requires.earliest) c.if-other-base.true
+    earliest_kept _ _ _ c.held_range_at-range.ensures.here _ _ _ _ c.in-Some.ensures _ (subst (EarliestSoFar c.args.quantum c.args.request.now c.args.start c.args.free.now c.args.at) c.in-Some-earliest.is c.requires.earliest) c.if-other-base.true
 
 pub returns-else-other-base : goal.returns-else-other-base
 returns-else-other-base g c =
-    earliest_taken _ _ _ c.stretch_at-range.ensures.here _ _ _ _ c.in-Some.ensures _ (subst (EarliestSoFar c.args.quantum c.args.request.now c.args.start c.args.free.now c.args.at) c.in-Some-earliest.is c.requires.earliest) (omega arith)
+    earliest_taken _ _ _ c.held_range_at-range.ensures.here _ _ _ _ c.in-Some.ensures _ (subst (EarliestSoFar c.args.quantum c.args.request.now c.args.start c.args.free.now c.args.at) c.in-Some-earliest.is c.requires.earliest) (omega arith)

@@ -1,5 +1,5 @@
 use Rattle.std.proofs.Common.{◌<◌, arith}
-use Rattle.magazine_layer.proofs.Stocks.{room_first, room_old, stocked_old, stocked_first}
+use Rattle.magazine_layer.proofs.ListLemmas.{room_first, room_old, stocked_old, stocked_first}
 use Rattle.magazine_layer.proofs.depots.Depot.begin.Goals as goal
 
 pub invariant_of-self : goal.invariant_of-self
@@ -17,8 +17,8 @@ invariant_of-self-2 g c =
       room_first _ _ _ _ _ _ _ _ c.self.invariant.2 c.take_first-2.ensures.len c.take_first-2.ensures.capacity,
     )
 
-pub returns-then-not-is_empty-2-clause-stock : goal.returns-then-not-is_empty-2-clause-stock
-returns-then-not-is_empty-2-clause-stock g c = (invariant_of-self g c).0
+pub returns-then-not-is_empty-2-clause-sound : goal.returns-then-not-is_empty-2-clause-sound
+returns-then-not-is_empty-2-clause-sound g c = (invariant_of-self g c).0
 
-pub returns-clause-stock : goal.returns-clause-stock
-returns-clause-stock g c = (invariant_of-self-2 g c).0
+pub returns-clause-sound : goal.returns-clause-sound
+returns-clause-sound g c = (invariant_of-self-2 g c).0

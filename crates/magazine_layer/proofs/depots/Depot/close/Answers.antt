@@ -1,14 +1,14 @@
-use Rattle.std.proofs.Common.{◌<◌, length, arith}
+use Rattle.std.proofs.Common.{◌<◌, length, arith, refl}
 use Rattle.std.proofs.lemmas.Bool.Decides.{nat_tests}
-use Rattle.magazine_layer.proofs.Stocks.{full_rounds, old_rounds}
+use Rattle.magazine_layer.proofs.ListLemmas.{full_rounds, old_rounds}
 use Rattle.magazine_layer.proofs.depots.Depot.close.Goals as goal
 
-pub returns-then-not-is_empty-clause-empty : goal.returns-then-not-is_empty-clause-empty
-returns-then-not-is_empty-clause-empty g c =
+pub returns-then-not-is_empty : goal.returns-then-not-is_empty
+returns-then-not-is_empty g c =
     let some : 0 < length c.self.inside.full.items = grind (arith, nat_tests, c.self.inside.full.ok.0) in
-    rw (← c.self.view_is) (λ no. cc, λ none. absurd (full_rounds _ c.self.invariant.0 some none))
+    rw (← c.self.view_is) (record { of = ((λ none. full_rounds _ c.self.invariant.0 some none), refl) })
 
-pub returns-then-not-is_empty-2-clause-empty : goal.returns-then-not-is_empty-2-clause-empty
-returns-then-not-is_empty-2-clause-empty g c =
+pub returns-then-not-is_empty-2 : goal.returns-then-not-is_empty-2
+returns-then-not-is_empty-2 g c =
     let some : 0 < length c.self.inside.old_full.items = grind (arith, nat_tests, c.self.inside.old_full.ok.0) in
-    rw (← c.self.view_is) (λ no. cc, λ none. absurd (old_rounds _ c.self.invariant.0 some none))
+    rw (← c.self.view_is) (record { of = ((λ none. old_rounds _ c.self.invariant.0 some none), refl) })

@@ -1,7 +1,8 @@
 use Rattle.std.proofs.Common.{◌≡◌, vec_len, sum_by, arith, ap, sym, ◌∙◌, refl}
 use Rattle.magazine_layer.specs.Depots.{depot_rounds}
-use Rattle.magazine_layer.proofs.Weighing.{resized_weigh}
-use Rattle.magazine_layer.proofs.Stocks.{room_resize, stocked_resize}
+use Rattle.magazine_layer.proofs.Belonging.{among_itself, moved_are_among}
+use Rattle.magazine_layer.proofs.Weighing.{resize_weigh}
+use Rattle.magazine_layer.proofs.ListLemmas.{room_resize, stocked_resize}
 use Rattle.magazine_layer.proofs.depots.Depot.resize.Goals as goal
 
 pub invariant_of-self : goal.invariant_of-self
@@ -12,13 +13,19 @@ invariant_of-self g c =
       room_resize _ _ _ _ _ _ _ _ _ _ _ _ c.self.invariant.2 c.in-Ok.ensures.other_len none c.in-Ok.ensures.len c.in-Ok.ensures.other_capacity c.discard_oldest.ensures.capacity c.in-Ok.ensures.capacity,
     )
 
-pub returns-clause-resized : goal.returns-clause-resized
-returns-clause-resized g c =
+pub returns-clause-of : goal.returns-clause-of
+returns-clause-of g c =
     let none : vec_len c.discard_oldest.new.empty ≡ 0 = omega arith in
-    rw (← c.self.view_is, c.in-Ok.ensures.items, c.in-Ok.ensures.other_items, none) refl
+    rw (← c.self.view_is, c.in-Ok.ensures.items, c.in-Ok.ensures.other_items, none) (omega arith, refl)
 
 pub returns-clause-weights : goal.returns-clause-weights
-returns-clause-weights g c f = resized_weigh c.args.size c.args.self.now f ∙ ap (λ d. sum_by f (depot_rounds d)) (sym (returns-clause-resized g c))
+returns-clause-weights g c f = resize_weigh c.args.size c.args.self.now f ∙ ap (λ d. sum_by f (depot_rounds d)) (sym (returns-clause-of g c).1)
 
-pub returns-clause-stock : goal.returns-clause-stock
-returns-clause-stock g c = (invariant_of-self g c).0
+pub returns-clause-kinds : goal.returns-clause-kinds
+returns-clause-kinds g c = moved_are_among _ _ (returns-clause-weights g c)
+
+pub returns-then-size-self-clause-kinds : goal.returns-then-size-self-clause-kinds
+returns-then-size-self-clause-kinds g c = among_itself _
+
+pub returns-clause-sound : goal.returns-clause-sound
+returns-clause-sound g c = (invariant_of-self g c).0

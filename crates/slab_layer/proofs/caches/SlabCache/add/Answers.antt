@@ -5,38 +5,42 @@ use Rattle.deed_core.specs.Holding.{Holding}
 use Rattle.deed_core.specs.Tag.{Tag}
 use Rattle.deed_core.specs.declared.segments.Route.TheVariants.{Direct, Cached}
 use Rattle.slab_layer.specs.Slab.{SlabState, chunk_at, new_slab, with_chunk}
-use Rattle.slab_layer.specs.Cache.{CacheState, chunk_of}
+use Rattle.slab_layer.specs.Cache.{SlabCacheState, chunk_of}
 use Rattle.slab_layer.proofs.SoundLemmas.{made_adds, sound_adds, some_chunk}
 use Rattle.slab_layer.proofs.MoveLemmas.{fresh_first, fresh_is_slab, adds_out, adds_kept, adds_spans}
+use Rattle.slab_layer.proofs.ChunkLemmas.{alike, adds_chunk}
 use Rattle.slab_layer.proofs.caches.SlabCache.add.Goals as goal
 
-pub returns-then-overlaps-clause-overlaps : goal.returns-then-overlaps-clause-overlaps
-returns-then-overlaps-clause-overlaps g c =
+pub returns-then-overlaps-clause-added : goal.returns-then-overlaps-clause-added
+returns-then-overlaps-clause-added g c =
     let size : c.args.span.holding.range.len ≡ c.args.self.now.slab_size =
-    sym (c.len.ensures.value ∙ ap (λ (e : Extent). e.len) c.range-range.ensures.value) ∙ c.if-len-self.false ∙ ap (λ (x : CacheState). x.slab_size) c.self.view_is in
+    sym (c.len.ensures.value ∙ ap (λ (e : Extent). e.len) c.range-range.ensures.value) ∙ c.if-len-self.false ∙ ap (λ (x : SlabCacheState). x.slab_size) c.self.view_is in
     let said = rw c.deref.ensures.value at c.overlaps.ensures in
     let any = said.0 c.if-overlaps.true in
-    let here = subst (λ (x : CacheState). Any (λ s. Overlap s.span.range c.range-range.result) x.slabs) c.self.view_is any in
-    (λ e. (size, subst (λ (r : Extent). Any (λ s. Overlap s.span.range r) c.args.self.now.slabs) c.range-range.ensures.value here), λ both. refl)
+    let here = subst (λ (x : SlabCacheState). Any (λ s. Overlap s.span.range c.range-range.result) x.slabs) c.self.view_is any in
+    let over = subst (λ (r : Extent). Any (λ s. Overlap s.span.range r) c.args.self.now.slabs) c.range-range.ensures.value here in
+    (size, over, record { handed_back = refl; unchanged = refl })
 
 pub new-requires-clause-chunks : goal.new-requires-clause-chunks
 new-requires-clause-chunks g c =
     let size : c.args.span.holding.range.len ≡ c.args.self.now.slab_size =
-    sym (c.len.ensures.value ∙ ap (λ (e : Extent). e.len) c.range-range.ensures.value) ∙ c.if-len-self.false ∙ ap (λ (x : CacheState). x.slab_size) c.self.view_is in
+    sym (c.len.ensures.value ∙ ap (λ (e : Extent). e.len) c.range-range.ensures.value) ∙ c.if-len-self.false ∙ ap (λ (x : SlabCacheState). x.slab_size) c.self.view_is in
     let deed = c.new-deed.ensures ∙ c.into_deed.ensures in
     rw (deed, size, c.chunk-chunk.ensures.value) (some_chunk c.args.self.now c.chunk-chunk.ensures.sound)
 
 pub take-first-requires-clause-idle : goal.take-first-requires-clause-idle
 take-first-requires-clause-idle g c =
     let size : c.args.span.holding.range.len ≡ c.args.self.now.slab_size =
-    sym (c.len.ensures.value ∙ ap (λ (e : Extent). e.len) c.range-range.ensures.value) ∙ c.if-len-self.false ∙ ap (λ (x : CacheState). x.slab_size) c.self.view_is in
+    sym (c.len.ensures.value ∙ ap (λ (e : Extent). e.len) c.range-range.ensures.value) ∙ c.if-len-self.false ∙ ap (λ (x : SlabCacheState). x.slab_size) c.self.view_is in
     let deed = c.new-deed.ensures ∙ c.into_deed.ensures in
     let some : 0 < c.new-deed.result.range.len / c.chunk-chunk.result = rw (deed, size, c.chunk-chunk.ensures.value) (some_chunk c.args.self.now c.chunk-chunk.ensures.sound) in
     subst (λ (s : SlabState). get_or s.home 0 false ≡ true) (sym c.in-Ok-new.ensures.ok) (fresh_first c.new-deed.result c.self.inside.colour c.chunk-chunk.result some)
 
-pub returns-clause-ok : goal.returns-clause-ok
-returns-clause-ok g c =
+pub returns-clause-added : goal.returns-clause-added
+returns-clause-added g c =
     let deed = c.new-deed.ensures ∙ c.into_deed.ensures in
+    let size : c.args.span.holding.range.len ≡ c.self.inside.slab_size =
+    sym (c.len.ensures.value ∙ ap (λ (e : Extent). e.len) c.range-range.ensures.value) ∙ c.if-len-self.false in
     let chunk = c.chunk-chunk.ensures.value ∙ ap chunk_of (sym c.self.view_is) in
     let slab = c.in-Ok-new.ensures.ok ∙ ap (λ (h : Holding). new_slab h c.self.inside.colour c.chunk-chunk.result) deed ∙ ap (λ (n : ℕ). new_slab c.args.span.holding c.self.inside.colour n) chunk in
     let after = c.take-first.ensures.after ∙ ap (λ (s : SlabState). with_chunk s 0 false) slab in
@@ -51,34 +55,40 @@ returns-clause-ok g c =
     ∙ ap (λ (h : Holding). let t : Tag = record { arena = c.self.inside.arena; route = Cached c.self.inside.k; holding = h } in t) (c.into_deed-2.ensures ∙ c.take-first.ensures.chunk ∙ ap (λ (s : SlabState). chunk_at s 0) slab) in (
       c.place_for-place.result,
       made_adds c.place_for-place.result c.next_colour-next.result c.take-first.new.self c.insert_reserved.new.items.items _ _ c.args.span _ c.range-range.result c.self.view_is c.chunk-chunk.ensures.sound
-          c.range-range.ensures.value c.range-range.ensures.range.some apart within below above after put c.next_colour-next.ensures tag,
+          c.range-range.ensures.value c.range-range.ensures.range.some apart within below above after size put c.next_colour-next.ensures tag,
     )
 
 pub invariant_of-self-2 : goal.invariant_of-self-2
 invariant_of-self-2 g c =
-    let size : c.args.span.holding.range.len ≡ c.args.self.now.slab_size =
-    sym (c.len.ensures.value ∙ ap (λ (e : Extent). e.len) c.range-range.ensures.value) ∙ c.if-len-self.false ∙ ap (λ (x : CacheState). x.slab_size) c.self.view_is in
-    let adds = returns-clause-ok g c in
+    let adds = returns-clause-added g c in
     let end = subst (λ (e : Extent). end_of e ≤ 4611686018427387904) c.range-range.ensures.value c.range-range.ensures.range.below in
-    sound_adds _ _ _ _ _ adds.1 size end c.chunk-chunk.ensures.sound
+    sound_adds _ _ _ _ _ adds.1 end c.requires.grid c.chunk-chunk.ensures.sound
+
+pub returns-clause-sound : goal.returns-clause-sound
+returns-clause-sound g c = invariant_of-self-2 g c
+
+pub returns-clause-alike : goal.returns-clause-alike
+returns-clause-alike g c = let adds = returns-clause-added g c in alike _ _ _ _ adds.1.after
+
+pub returns-clause-chunk : goal.returns-clause-chunk
+returns-clause-chunk g c =
+    let adds = returns-clause-added g c in
+    let end = subst (λ (e : Extent). end_of e ≤ 4611686018427387904) c.range-range.ensures.value c.range-range.ensures.range.below in
+    adds_chunk _ _ _ _ _ adds.1 end c.requires.grid c.chunk-chunk.ensures.sound
 
 pub returns-clause-out : goal.returns-clause-out
 returns-clause-out g c =
-    let size : c.args.span.holding.range.len ≡ c.args.self.now.slab_size =
-    sym (c.len.ensures.value ∙ ap (λ (e : Extent). e.len) c.range-range.ensures.value) ∙ c.if-len-self.false ∙ ap (λ (x : CacheState). x.slab_size) c.self.view_is in
-    let adds = returns-clause-ok g c in
-    adds_out _ _ _ _ _ adds.1 (rw size (some_chunk c.args.self.now c.chunk-chunk.ensures.sound))
+    let adds = returns-clause-added g c in
+    adds_out _ _ _ _ _ adds.1 (rw adds.1.size (some_chunk c.args.self.now c.chunk-chunk.ensures.sound))
 
 pub returns-clause-kept : goal.returns-clause-kept
 returns-clause-kept g c =
-    let size : c.args.span.holding.range.len ≡ c.args.self.now.slab_size =
-    sym (c.len.ensures.value ∙ ap (λ (e : Extent). e.len) c.range-range.ensures.value) ∙ c.if-len-self.false ∙ ap (λ (x : CacheState). x.slab_size) c.self.view_is in
-    let adds = returns-clause-ok g c in
+    let adds = returns-clause-added g c in
     let sound = c.chunk-chunk.ensures.sound in
-    adds_kept _ _ _ _ _ adds.1 (rw size (some_chunk c.args.self.now sound)) (fresh_is_slab _ _ _ _ sound.some size sound.colour)
+    adds_kept _ _ _ _ _ adds.1 (rw adds.1.size (some_chunk c.args.self.now sound)) (fresh_is_slab _ _ _ _ sound.some adds.1.size sound.colour)
 
 pub returns-clause-spans : goal.returns-clause-spans
 returns-clause-spans g c =
-    let adds = returns-clause-ok g c in
+    let adds = returns-clause-added g c in
     let direct : ◌≡◌ {A = Tag} c.args.span (record { arena = c.args.self.now.arena; route = Direct; holding = c.args.span.holding }) = λ n. record { arena = c.requires.arena n; route = c.requires.route n; holding = c.args.span.holding } in
     adds_spans _ _ _ _ _ adds.1 direct

@@ -1,5 +1,5 @@
 use Rattle.std.proofs.Common.{◌≡◌, [], true, refl, sym, subst}
-use Rattle.slab_layer.specs.Cache.{CacheState, deeds_of}
+use Rattle.slab_layer.specs.Cache.{SlabCacheState, deeds_of}
 use Rattle.slab_layer.proofs.ReportLemmas.{none_kept, kept_none}
 use Rattle.slab_layer.proofs.caches.SlabCache.close.Goals as goal
 
@@ -8,7 +8,7 @@ returns-then-not-are_empty-clause-empty g c =
     let said = rw c.deref.ensures.value at c.are_empty.ensures in (
       λ e. cc,
       λ none.
-          let here = subst (λ (x : CacheState). deeds_of x ≡ []) (sym c.self.view_is) none in
+          let here = subst (λ (x : SlabCacheState). deeds_of x ≡ []) (sym c.self.view_is) none in
           let e : c.are_empty.result ≡ true = said.1 (kept_none c.self.inside.slabs.items here) in
           let f = c.if-not-are_empty.true in
           cc,
@@ -22,4 +22,4 @@ discard_all-requires g c =
 pub returns-clause-empty : goal.returns-clause-empty
 returns-clause-empty g c =
     let said = rw c.deref.ensures.value at c.are_empty.ensures in
-    (λ e. subst (λ (x : CacheState). deeds_of x ≡ []) c.self.view_is (none_kept c.self.inside.slabs.items (said.0 c.if-not-are_empty.false)), λ none. refl)
+    (λ e. subst (λ (x : SlabCacheState). deeds_of x ≡ []) c.self.view_is (none_kept c.self.inside.slabs.items (said.0 c.if-not-are_empty.false)), λ none. refl)

@@ -1,8 +1,10 @@
 use Rattle.std.proofs.Common.{◌≡◌, true, false, refl, ◌∙◌, sym, subst}
-use Rattle.slab_layer.specs.Cache.{CacheState, IsSound, IsChunk}
+use Rattle.slab_layer.specs.Cache.{SlabCacheState, IsSound}
+use Rattle.slab_layer.specs.Moves.{IsChunk}
 use Rattle.slab_layer.proofs.SoundLemmas.{made_puts, sound_puts}
 use Rattle.slab_layer.proofs.MoveLemmas.{puts_out, puts_kept, puts_spans}
-use Rattle.slab_layer.proofs.MineLemmas.{IsAbsent, SomeChunk, not_routed, not_found, made_chunk, chunk_is_out, chunk_is_idle, out_is_chunk, idle_is_chunk, never_both}
+use Rattle.slab_layer.proofs.MineLemmas.{IsAbsent, SomeChunk, not_routed, not_found, made_chunk, chunk_is_out, chunk_is_idle, out_is_chunk, never_both}
+use Rattle.slab_layer.proofs.ChunkLemmas.{alike}
 use Rattle.slab_layer.proofs.caches.SlabCache.put.Goals as goal
 use Rattle.slab_layer.proofs.caches.SlabCache.put.Given as given
 
@@ -13,11 +15,9 @@ elsewhere g c = not_routed _ _ (λ routed. let e : c.is_routed_here.result ≡ t
 pub returns-then-not-is_routed_here-clause-mine : goal.returns-then-not-is_routed_here-clause-mine
 returns-then-not-is_routed_here-clause-mine g c = (λ e. cc, λ has. absurd ((elsewhere g c).not_out has))
 
-pub returns-then-not-is_routed_here-clause-at_home : goal.returns-then-not-is_routed_here-clause-at_home
-returns-then-not-is_routed_here-clause-at_home g c = (λ e. cc, λ has. absurd ((elsewhere g c).not_idle has))
-
-pub returns-then-not-is_routed_here-clause-not_mine : goal.returns-then-not-is_routed_here-clause-not_mine
-returns-then-not-is_routed_here-clause-not_mine g c = (λ e. ((elsewhere g c).not_out, (elsewhere g c).not_idle), λ none. refl)
+pub returns-then-not-is_routed_here-clause-put : goal.returns-then-not-is_routed_here-clause-put
+returns-then-not-is_routed_here-clause-put g c =
+    ((elsewhere g c).not_out, (elsewhere g c).not_idle, record { handed_back = refl; unchanged = refl })
 
 -- it covers no chunk
 uncovered : (g : given.Over) (c : goal.In_default g) → IsAbsent c.args.segment c.args.self.now
@@ -28,14 +28,12 @@ uncovered g c =
 pub returns-in_default-clause-mine : goal.returns-in_default-clause-mine
 returns-in_default-clause-mine g c = (λ e. cc, λ has. absurd ((uncovered g c).not_out has))
 
-pub returns-in_default-clause-at_home : goal.returns-in_default-clause-at_home
-returns-in_default-clause-at_home g c = (λ e. cc, λ has. absurd ((uncovered g c).not_idle has))
-
-pub returns-in_default-clause-not_mine : goal.returns-in_default-clause-not_mine
-returns-in_default-clause-not_mine g c = (λ e. ((uncovered g c).not_out, (uncovered g c).not_idle), λ none. refl)
+pub returns-in_default-clause-put : goal.returns-in_default-clause-put
+returns-in_default-clause-put g c =
+    ((uncovered g c).not_out, (uncovered g c).not_idle, record { handed_back = refl; unchanged = refl })
 
 -- it is at home
-here : (g : given.Over) (c : goal.After-self-1 g) → SomeChunk true c.args.segment c.args.self.now
+here : (g : given.Over) (c : goal.Then-is_home g) → SomeChunk true c.args.segment c.args.self.now
 here g c =
     let found = rw c.deref.ensures.value at c.in-Some.ensures in
     let routed = c.is_routed_here.ensures.0 c.if-not-is_routed_here.false in
@@ -43,22 +41,21 @@ here g c =
       i = c.in-Some.i;
       j = c.in-Some.j;
       s = found.0;
-      chunk = made_chunk _ _ _ c.index_mut-slab.result.now true _ _ _ _ _ c.self.view_is found.1 found.2 found.3 c.root.ensures c.range.ensures.value routed c.index_mut-slab.ensures.value (sym c.is_home.ensures ∙ c.if-is_home.true);
+      chunk = made_chunk _ _ _ c.index.result.now true _ _ _ _ _ c.self.view_is found.1 found.2 found.3 c.root.ensures c.range.ensures.value routed c.index.ensures (sym c.is_home.ensures ∙ c.if-is_home.true);
     }
 
 pub returns-then-is_home-clause-mine : goal.returns-then-is_home-clause-mine
 returns-then-is_home-clause-mine g c =
-    let sound = subst (λ (x : CacheState). IsSound x) c.self.view_is c.self.invariant in
+    let sound = subst (λ (x : SlabCacheState). IsSound x) c.self.view_is c.self.invariant in
     (λ e. cc, λ has. absurd (never_both _ _ sound (out_is_chunk _ _ has) (here g c)))
 
-pub returns-then-is_home-clause-at_home : goal.returns-then-is_home-clause-at_home
-returns-then-is_home-clause-at_home g c = let some = here g c in (λ e. chunk_is_idle _ _ _ _ _ some.chunk, λ has. refl)
-
-pub returns-then-is_home-clause-not_mine : goal.returns-then-is_home-clause-not_mine
-returns-then-is_home-clause-not_mine g c = let some = here g c in (λ e. cc, λ none. absurd (none.1 (chunk_is_idle _ _ _ _ _ some.chunk)))
+pub returns-then-is_home-clause-put : goal.returns-then-is_home-clause-put
+returns-then-is_home-clause-put g c =
+    let some = here g c in
+    (chunk_is_idle _ _ _ _ _ some.chunk, record { handed_back = refl; unchanged = refl })
 
 -- it is out
-gone : (g : given.Over) (c : goal.After-self-2-1 g) → SomeChunk false c.args.segment c.args.self.now
+gone : (g : given.Over) (c : goal.After-self-1 g) → SomeChunk false c.args.segment c.args.self.now
 gone g c =
     let found = rw c.deref.ensures.value at c.in-Some.ensures in
     let routed = c.is_routed_here.ensures.0 c.if-not-is_routed_here.false in
@@ -66,37 +63,35 @@ gone g c =
       i = c.in-Some.i;
       j = c.in-Some.j;
       s = found.0;
-      chunk = made_chunk _ _ _ c.index_mut-slab.result.now false _ _ _ _ _ c.self.view_is found.1 found.2 found.3 c.root.ensures c.range.ensures.value routed c.index_mut-slab.ensures.value (sym c.is_home.ensures ∙ c.if-is_home.false);
+      chunk = made_chunk _ _ _ c.index.result.now false _ _ _ _ _ c.self.view_is found.1 found.2 found.3 c.root.ensures c.range.ensures.value routed c.index.ensures (sym c.is_home.ensures ∙ c.if-is_home.false);
     }
 
-pub returns-clause-ok : goal.returns-clause-ok
+pub returns-clause-put : goal.returns-clause-put
 unfolding gone
-returns-clause-ok g c =
+returns-clause-put g c =
     let some = gone g c in
-    let before = subst (λ (x : CacheState). IsChunk some.i some.j some.s false c.args.segment x) (sym c.self.view_is) some.chunk in
-    (some.i, some.j, some.s, made_puts some.i some.j some.s c.index_mut-slab.result.now c.put.new.self _ _ _ c.self.view_is before c.index_mut-slab.ensures.value c.put.ensures)
+    let before = subst (λ (x : SlabCacheState). IsChunk some.i some.j some.s false c.args.segment x) (sym c.self.view_is) some.chunk in
+    (some.i, some.j, some.s, made_puts some.i some.j some.s c.index_mut.result.now c.put.new.self _ _ _ c.self.view_is before c.index_mut.ensures.value c.put.ensures)
 
-pub invariant_of-self-2 : goal.invariant_of-self-2
-invariant_of-self-2 g c =
-    let puts = returns-clause-ok g c in
-    sound_puts _ _ _ _ _ _ puts.3 (subst (λ (x : CacheState). IsSound x) c.self.view_is c.self.invariant)
+pub invariant_of-self : goal.invariant_of-self
+invariant_of-self g c =
+    let puts = returns-clause-put g c in
+    sound_puts _ _ _ _ _ _ puts.3 (subst (λ (x : SlabCacheState). IsSound x) c.self.view_is c.self.invariant)
+
+pub returns-clause-sound : goal.returns-clause-sound
+returns-clause-sound g c = invariant_of-self g c
+
+pub returns-clause-alike : goal.returns-clause-alike
+returns-clause-alike g c = let puts = returns-clause-put g c in alike _ _ _ _ puts.3.after
 
 pub returns-clause-mine : goal.returns-clause-mine
 returns-clause-mine g c = let some = gone g c in (λ e. chunk_is_out _ _ _ _ _ some.chunk, λ has. refl)
 
-pub returns-clause-at_home : goal.returns-clause-at_home
-returns-clause-at_home g c =
-    let sound = subst (λ (x : CacheState). IsSound x) c.self.view_is c.self.invariant in
-    (λ e. absurd e, λ has. absurd (never_both _ _ sound (gone g c) (idle_is_chunk _ _ has)))
-
-pub returns-clause-not_mine : goal.returns-clause-not_mine
-returns-clause-not_mine g c = let some = gone g c in (λ e. absurd e, λ none. absurd (none.0 (chunk_is_out _ _ _ _ _ some.chunk)))
-
 pub returns-clause-out : goal.returns-clause-out
-returns-clause-out g c = let puts = returns-clause-ok g c in puts_out _ _ _ _ _ _ puts.3
+returns-clause-out g c = let puts = returns-clause-put g c in puts_out _ _ _ _ _ _ puts.3
 
 pub returns-clause-kept : goal.returns-clause-kept
-returns-clause-kept g c = let puts = returns-clause-ok g c in puts_kept _ _ _ _ _ _ puts.3
+returns-clause-kept g c = let puts = returns-clause-put g c in puts_kept _ _ _ _ _ _ puts.3
 
 pub returns-clause-spans : goal.returns-clause-spans
-returns-clause-spans g c = let puts = returns-clause-ok g c in puts_spans _ _ _ _ _ _ puts.3
+returns-clause-spans g c = let puts = returns-clause-put g c in puts_spans _ _ _ _ _ _ puts.3

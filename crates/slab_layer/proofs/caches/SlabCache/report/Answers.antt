@@ -4,7 +4,7 @@ use Rattle.deed_core.specs.Covering.{units_held}
 use Rattle.deed_core.specs.Holding.{Holding}
 use Rattle.deed_core.proofs.LawProofs.{sum_by-flat_map}
 use Rattle.slab_layer.specs.Slab.{SlabState, idle_chunks_by, chunk_at, gap_of, tail_of}
-use Rattle.slab_layer.specs.Cache.{CacheState, IsSound, idle_deeds, gaps, tails}
+use Rattle.slab_layer.specs.Cache.{SlabCacheState, IsSound, idle_deeds, gaps, tails}
 use Rattle.slab_layer.proofs.ReportLemmas.{spans_fit, kept_units, tiled, once}
 use Rattle.slab_layer.proofs.caches.SlabCache.report.Goals as goal
 
@@ -15,19 +15,19 @@ pub returns-clause-idle : goal.returns-clause-idle
 returns-clause-idle g c =
     let said = rw c.deref.ensures.value at c.total.ensures.idle in
     let all = said ∙ sym (sum_by-flat_map (λ (h : Holding). h.range.len) (λ (s : SlabState). idle_chunks_by (chunk_at s) s) c.self.inside.slabs.items) in
-    subst (λ (x : CacheState). c.total.result.idle ≡ units_held (idle_deeds x)) c.self.view_is all
+    subst (λ (x : SlabCacheState). c.total.result.idle ≡ units_held (idle_deeds x)) c.self.view_is all
 
 pub returns-clause-gap : goal.returns-clause-gap
 returns-clause-gap g c =
     let said = rw c.deref.ensures.value at c.total.ensures.gap in
     let all = said ∙ sym (sum_by-flat_map (λ (h : Holding). h.range.len) (λ (s : SlabState). option_to_list (gap_of s)) c.self.inside.slabs.items) in
-    subst (λ (x : CacheState). c.total.result.gap ≡ units_held (gaps x)) c.self.view_is all
+    subst (λ (x : SlabCacheState). c.total.result.gap ≡ units_held (gaps x)) c.self.view_is all
 
 pub returns-clause-tail : goal.returns-clause-tail
 returns-clause-tail g c =
     let said = rw c.deref.ensures.value at c.total.ensures.tail in
     let all = said ∙ sym (sum_by-flat_map (λ (h : Holding). h.range.len) (λ (s : SlabState). option_to_list (tail_of s)) c.self.inside.slabs.items) in
-    subst (λ (x : CacheState). c.total.result.tail ≡ units_held (tails x)) c.self.view_is all
+    subst (λ (x : SlabCacheState). c.total.result.tail ≡ units_held (tails x)) c.self.view_is all
 
 pub returns-clause-kept : goal.returns-clause-kept
 returns-clause-kept g c =
@@ -37,7 +37,7 @@ returns-clause-kept g c =
     omega (arith, idle, gap, tail, kept_units c.args.self.now)
 
 pub returns-clause-tiled : goal.returns-clause-tiled
-returns-clause-tiled g c = tiled c.args.self.now (subst (λ (x : CacheState). IsSound x) c.self.view_is c.self.invariant)
+returns-clause-tiled g c = tiled c.args.self.now (subst (λ (x : SlabCacheState). IsSound x) c.self.view_is c.self.invariant)
 
 pub returns-clause-once : goal.returns-clause-once
-returns-clause-once g c = once c.args.self.now (subst (λ (x : CacheState). IsSound x) c.self.view_is c.self.invariant)
+returns-clause-once g c = once c.args.self.now (subst (λ (x : SlabCacheState). IsSound x) c.self.view_is c.self.invariant)

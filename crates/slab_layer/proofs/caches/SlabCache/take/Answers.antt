@@ -2,33 +2,39 @@ use Rattle.std.proofs.Common.{◌∙◌, ap, subst}
 use Rattle.deed_core.specs.Holding.{Holding}
 use Rattle.deed_core.specs.Tag.{Tag}
 use Rattle.deed_core.specs.declared.segments.Route.TheVariants.{Cached}
-use Rattle.slab_layer.specs.Cache.{CacheState, IsSound}
-use Rattle.slab_layer.proofs.SearchLemmas.{next_stands, not_all_out}
+use Rattle.slab_layer.specs.Cache.{SlabCacheState, IsSound}
 use Rattle.slab_layer.proofs.SoundLemmas.{made_takes, sound_takes}
 use Rattle.slab_layer.proofs.MoveLemmas.{takes_out, takes_kept, takes_spans}
+use Rattle.slab_layer.proofs.ChunkLemmas.{alike, takes_chunk}
 use Rattle.slab_layer.proofs.caches.SlabCache.take.Goals as goal
 
-pub returns-clause-some : goal.returns-clause-some
-returns-clause-some g c =
+pub returns-clause-taken : goal.returns-clause-taken
+returns-clause-taken g c =
     let next = rw c.deref.ensures.value at c.in_ok-i.ensures in
     let tag = c.new.ensures ∙ ap (λ (h : Holding). let t : Tag = record { arena = c.self.inside.arena; route = Cached c.self.inside.k; holding = h } in t) (c.into_deed.ensures ∙ c.take-deed.ensures.chunk) in
     (c.in_ok-i.i, c.in_ok-i.j, next.0, made_takes c.in_ok-i.i c.in_ok-i.j next.0 c.index_mut-slab.result.now c.take-deed.new.self _ _ _ c.self.view_is next.1 next.2 c.index_mut-slab.ensures.value c.take-deed.ensures.after tag)
 
 pub invariant_of-self : goal.invariant_of-self
 invariant_of-self g c =
-    let takes = returns-clause-some g c in
-    sound_takes _ _ _ _ _ _ takes.3 (subst (λ (x : CacheState). IsSound x) c.self.view_is c.self.invariant)
+    let takes = returns-clause-taken g c in
+    sound_takes _ _ _ _ _ _ takes.3 (subst (λ (x : SlabCacheState). IsSound x) c.self.view_is c.self.invariant)
 
-pub returns-clause-none : goal.returns-clause-none
-returns-clause-none g c =
-    let takes = returns-clause-some g c in
-    (λ e. cc, λ out. absurd (not_all_out _ _ _ _ (next_stands _ _ _ takes.3.next) takes.3.lowest out))
+pub returns-clause-sound : goal.returns-clause-sound
+returns-clause-sound g c = invariant_of-self g c
+
+pub returns-clause-alike : goal.returns-clause-alike
+returns-clause-alike g c = let takes = returns-clause-taken g c in alike _ _ _ _ takes.3.after
+
+pub returns-clause-chunk : goal.returns-clause-chunk
+returns-clause-chunk g c =
+    let takes = returns-clause-taken g c in
+    takes_chunk _ _ _ _ _ _ takes.3 (subst (λ (x : SlabCacheState). IsSound x) c.self.view_is c.self.invariant)
 
 pub returns-clause-out : goal.returns-clause-out
-returns-clause-out g c = let takes = returns-clause-some g c in takes_out _ _ _ _ _ _ takes.3
+returns-clause-out g c = let takes = returns-clause-taken g c in takes_out _ _ _ _ _ _ takes.3
 
 pub returns-clause-kept : goal.returns-clause-kept
-returns-clause-kept g c = let takes = returns-clause-some g c in takes_kept _ _ _ _ _ _ takes.3
+returns-clause-kept g c = let takes = returns-clause-taken g c in takes_kept _ _ _ _ _ _ takes.3
 
 pub returns-clause-spans : goal.returns-clause-spans
-returns-clause-spans g c = let takes = returns-clause-some g c in takes_spans _ _ _ _ _ _ takes.3
+returns-clause-spans g c = let takes = returns-clause-taken g c in takes_spans _ _ _ _ _ _ takes.3

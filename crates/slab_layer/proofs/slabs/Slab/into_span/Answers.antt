@@ -16,11 +16,11 @@ join-requires g c =
 pub unwrap-requires : goal.unwrap-requires
 unwrap-requires g c =
     let complete = subst (λ (s : SlabState). IsComplete s) (sym c.self.view_is) c.requires in
-    ap is_some (c.join.ensures ∙ complete_whole _ _ _ _ _ c.self.invariant complete c.len-some.ensures.range.some c.unchop-body.ensures.joined)
+    ap is_some (c.join.ensures ∙ complete_whole _ _ _ _ _ c.self.invariant complete c.len.ensures.range.some c.unchop-body.ensures.joined)
 
 pub returns : goal.returns
 returns g c =
     let complete = subst (λ (s : SlabState). IsComplete s) (sym c.self.view_is) c.requires in
-    let whole = sym c.unwrap.ensures ∙ c.join.ensures ∙ complete_whole _ _ _ _ _ c.self.invariant complete c.len-some.ensures.range.some c.unchop-body.ensures.joined in
+    let whole = sym c.unwrap.ensures ∙ c.join.ensures ∙ complete_whole _ _ _ _ _ c.self.invariant complete c.len.ensures.range.some c.unchop-body.ensures.joined in
     let span = ap (λ (s : SlabState). s.span) c.self.view_is in
     cc

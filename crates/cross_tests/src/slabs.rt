@@ -1,0 +1,232 @@
+//! Rows of calls of a slab cache with what they must give, and what is refused.
+ghost use Rattle.std.specs.Prelude.{◌≡◌, ◌%◌};
+
+use deed_core::{Deed, PlainDeed, Range, Route, Segment};
+use refusing_deed::RefusingDeed;
+use slab_layer::{AddFault, PutFault, SlabCache, SlabReport};
+use std::process::Abort;
+use std::test::Fail;
+
+/// Why a call was refused.
+#[derive(Clone, Copy, PartialEq, Eq, Debug)]
+enum Why {
+    WrongSize,
+    Overlaps,
+    NoMemory,
+    NotMine,
+    AtHome,
+}
+
+/// A deed as a span for the cache.
+fn span_of<D: Deed>(rt: &impl Abort, cache: &SlabCache<D>, deed: D) -> Segment<D>
+    ensures arena { result.arena ≡ cache.now.arena }
+    ensures route { result.route ≡ Route.Direct }
+    ensures grid { result.holding.range.base % cache.now.quantum ≡ 0 }
+{
+    let base = deed.range().base();
+    assert!(rt; base.is_multiple_of(cache.quantum()));
+    Segment::new(cache.arena(), Route::Direct, deed)
+}
+
+fn plain(rt: &impl Abort, base: u64, len: u64) -> PlainDeed {
+    PlainDeed::new(0, Range::new(base, len).expect(rt, "a range"))
+}
+
+/// The base and the length of a segment, which ends here.
+fn spend(segment: Segment<PlainDeed>) -> (u64, u64) {
+    let range = segment.into_deed().close();
+    (range.base(), range.len())
+}
+
+/// What `add` gives for this span.
+fn added(
+    rt: &impl Abort,
+    cache: &mut SlabCache<PlainDeed>,
+    base: u64,
+    len: u64,
+) -> Result<(u64, u64), Why> {
+    let span = span_of(rt, cache, plain(rt, base, len));
+    let (span, why) = match cache.add(span) {
+        Ok(first) => return Ok(spend(first)),
+        Err(AddFault::WrongSize(span)) => (span, Why::WrongSize),
+        Err(AddFault::Overlaps(span)) => (span, Why::Overlaps),
+        Err(AddFault::NoMemory(span)) => (span, Why::NoMemory),
+    };
+    assert_eq!(rt; spend(span), (base, len));
+    Err(why)
+}
+
+/// What `take` gives.
+fn taken(cache: &mut SlabCache<PlainDeed>) -> Option<(u64, u64)> {
+    match cache.take() {
+        None => None,
+        Some(chunk) => Some(spend(chunk)),
+    }
+}
+
+/// What `put` answers to a chunk.
+fn put(
+    rt: &impl Abort,
+    cache: &mut SlabCache<PlainDeed>,
+    k: u8,
+    base: u64,
+    len: u64,
+) -> Result<(), Why> {
+    let chunk = Segment::new(cache.arena(), Route::Cached(k), plain(rt, base, len));
+    let (chunk, why) = match cache.put(chunk) {
+        Ok(()) => return Ok(()),
+        Err(PutFault::NotMine(chunk)) => (chunk, Why::NotMine),
+        Err(PutFault::AtHome(chunk)) => (chunk, Why::AtHome),
+    };
+    assert_eq!(rt; spend(chunk), (base, len));
+    Err(why)
+}
+
+/// What `reap` gives.
+fn reaped(cache: &mut SlabCache<PlainDeed>) -> Option<(u64, u64)> {
+    match cache.reap() {
+        None => None,
+        Some(span) => Some(spend(span)),
+    }
+}
+
+/// Ends a cache with nothing in it.
+fn close<D: Deed>(rt: &impl Abort, cache: SlabCache<D>) {
+    match cache.close() {
+        Ok(()) => {}
+        Err(_) => panic!(rt; "a deed lies in the cache"),
+    }
+}
+
+/// Chunks of 5 in slabs of 16: the second slab begins one unit later.
+#[test]
+fn colours(rt: HostRuntime) -> Result<(), Fail> {
+    let mut cache: SlabCache<PlainDeed> = SlabCache::new(rt.alloc(), 7, 5, 1, 16);
+    assert_eq!(rt; (cache.arena(), cache.k()), (7, 5));
+    assert_eq!(rt; (cache.quantum(), cache.slab_size()), (1, 16));
+    first_slabs(&rt, &mut cache);
+    second_slab_alone(&rt, &mut cache);
+    close(&rt, cache);
+    Ok(())
+}
+
+/// Two slabs, of which the lower one goes again.
+fn first_slabs(rt: &impl Abort, cache: &mut SlabCache<PlainDeed>) {
+    assert_eq!(rt; added(rt, cache, 0, 16), Ok((0, 5)));
+    assert_eq!(rt;
+        cache.report(),
+        SlabReport {
+            idle: 10,
+            gap: 0,
+            tail: 1
+        }
+    );
+    assert_eq!(rt; taken(cache), Some((5, 5)));
+    assert_eq!(rt; taken(cache), Some((10, 5)));
+    assert_eq!(rt; taken(cache), None);
+    assert_eq!(rt; added(rt, cache, 16, 16), Ok((17, 5)));
+    assert_eq!(rt;
+        cache.report(),
+        SlabReport {
+            idle: 10,
+            gap: 1,
+            tail: 1
+        }
+    );
+    assert_eq!(rt; taken(cache), Some((22, 5)));
+    assert_eq!(rt; taken(cache), Some((27, 5)));
+    assert_eq!(rt; put(rt, cache, 5, 5, 5), Ok(()));
+    assert_eq!(rt; taken(cache), Some((5, 5)));
+    for base in [0, 5, 10] {
+        assert_eq!(rt; put(rt, cache, 5, base, 5), Ok(()));
+    }
+    assert_eq!(rt; reaped(cache), Some((0, 16)));
+    assert_eq!(rt; reaped(cache), None);
+}
+
+/// What is refused while the second slab stands, and its end.
+fn second_slab_alone(rt: &impl Abort, cache: &mut SlabCache<PlainDeed>) {
+    assert_eq!(rt; added(rt, cache, 32, 8), Err(Why::WrongSize));
+    assert_eq!(rt; added(rt, cache, 24, 16), Err(Why::Overlaps));
+    assert_eq!(rt; put(rt, cache, 5, 17, 5), Ok(()));
+    assert_eq!(rt; put(rt, cache, 5, 17, 5), Err(Why::AtHome));
+    assert_eq!(rt; put(rt, cache, 4, 22, 5), Err(Why::NotMine));
+    assert_eq!(rt; put(rt, cache, 5, 22, 5), Ok(()));
+    assert_eq!(rt; put(rt, cache, 5, 27, 5), Ok(()));
+    assert_eq!(rt; reaped(cache), Some((16, 16)));
+}
+
+/// Six slabs, each by its base and that of its first chunk. The colours go up by a quantum and
+/// begin again past the units that are in no chunk: 3 of 18, and 3 of 15 with a quantum of 2.
+#[test]
+fn colours_begin_again(rt: HostRuntime) {
+    let cache = SlabCache::new(rt.alloc(), 7, 5, 1, 18);
+    let firsts = [(0, 0), (18, 19), (36, 38), (54, 57), (72, 72), (90, 91)];
+    come_and_go(&rt, cache, 18, 5, firsts);
+    let cache = SlabCache::new(rt.alloc(), 7, 2, 2, 15);
+    let firsts = [(0, 0), (16, 18), (32, 32), (48, 50), (64, 64), (80, 82)];
+    come_and_go(&rt, cache, 15, 4, firsts);
+}
+
+/// A quantum that is more than the units in no chunk, none of these, and a chunk that is the whole
+/// slab.
+#[test]
+fn slabs_of_one_colour(rt: HostRuntime) {
+    let cache = SlabCache::new(rt.alloc(), 7, 3, 4, 13);
+    let firsts = [(0, 0), (16, 16), (32, 32), (48, 48), (64, 64), (80, 80)];
+    come_and_go(&rt, cache, 13, 12, firsts);
+    let cache = SlabCache::new(rt.alloc(), 7, 1, 1, 4);
+    let firsts = [(0, 0), (4, 4), (8, 8), (12, 12), (16, 16), (20, 20)];
+    come_and_go(&rt, cache, 4, 1, firsts);
+    let cache = SlabCache::new(rt.alloc(), 7, 1, 1, 1);
+    let firsts = [(0, 0), (1, 1), (2, 2), (3, 3), (4, 4), (5, 5)];
+    come_and_go(&rt, cache, 1, 1, firsts);
+}
+
+/// The slabs come. Then each gets its first chunk back and is reaped.
+fn come_and_go(
+    rt: &impl Abort,
+    cache: SlabCache<PlainDeed>,
+    slab_size: u64,
+    chunk: u64,
+    firsts: [(u64, u64); 6],
+) {
+    let mut cache = cache;
+    for (base, first) in firsts {
+        assert_eq!(rt; added(rt, &mut cache, base, slab_size), Ok((first, chunk)));
+    }
+    let k = cache.k();
+    for (base, first) in firsts {
+        assert_eq!(rt; put(rt, &mut cache, k, first, chunk), Ok(()));
+        assert_eq!(rt; reaped(&mut cache), Some((base, slab_size)));
+    }
+    close(rt, cache);
+}
+
+/// A slab of 16 takes three splits. Each may be refused, and the span is then whole again.
+#[test]
+fn refused_splits(rt: HostRuntime) -> Result<(), Fail> {
+    let range = Range::new(0, 16).ok_or("a range")?;
+    let mut cache: SlabCache<RefusingDeed> = SlabCache::new(rt.alloc(), 7, 5, 1, 16);
+    for splits_left in 0..3 {
+        let span = span_of(&rt, &cache, RefusingDeed::new(0, range, splits_left));
+        match cache.add(span) {
+            Err(AddFault::NoMemory(span)) => assert_eq!(rt; span.into_deed().close(), range),
+            _ => panic!(rt; "a split is refused"),
+        }
+    }
+    let span = span_of(&rt, &cache, RefusingDeed::new(0, range, 3));
+    let first = match cache.add(span) {
+        Ok(first) => first,
+        Err(_) => panic!(rt; "no split is refused"),
+    };
+    assert_eq!(rt; first.range().len(), 5);
+    match cache.put(first) {
+        Ok(()) => {}
+        Err(_) => panic!(rt; "the chunk was out"),
+    }
+    let whole = cache.reap().expect(&rt, "all chunks are at home");
+    assert_eq!(rt; whole.into_deed().close(), range);
+    close(&rt, cache);
+    Ok(())
+}

@@ -1,5 +1,0 @@
-use Rattle.deed_table.proofs.tests.closes_no_part.Given as goal
-
--- the table that was just made
-abbrev pub ghosts-part_refused : goal.ghosts-part_refused
-ghosts-part_refused g a = record { table = a.ground }

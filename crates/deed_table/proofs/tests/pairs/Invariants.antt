@@ -1,5 +1,0 @@
-use Rattle.deed_table.proofs.tests.pairs.Given as goal
-
--- the table that was just made
-abbrev pub ghosts-paired : goal.ghosts-paired
-ghosts-paired g a = record { table = a.ground }

@@ -1,5 +1,0 @@
-use Rattle.deed_table.proofs.tests.shares_numbers.Given as goal
-
--- the table that was just made
-abbrev pub ghosts-two_openers : goal.ghosts-two_openers
-ghosts-two_openers g a = record { table = a.ground }

@@ -1,0 +1,37 @@
+-- Laws of slab caches that the layers above reckon with.
+use Rattle.std.specs.Prelude.{◌≡◌, ℕ, [], All, sum_by}
+use Rattle.deed_core.specs.Request.{Fits, plain_of, rounded}
+use Rattle.deed_core.specs.Tag.{Tag}
+use Rattle.deed_core.specs.Weights.{of_cache}
+use Rattle.slab_layer.specs.Slab.{IsComplete}
+use Rattle.slab_layer.specs.Cache.{
+    SlabCacheState, IsSound, IsChunkOf, chunk_of, chunks_out, idle_chunks,
+}
+
+-- each chunk, out or at home, carries its cache's arena and number, is of its length and on the
+-- quantum's grid
+abbrev pub ChunksAreOfCache : Type 0
+ChunksAreOfCache =
+    (c : SlabCacheState) → IsSound c
+    → All (IsChunkOf c) (chunks_out c) × All (IsChunkOf c) (idle_chunks c)
+
+-- whatever is counted: all that is out is counted for the cache's arena and number
+abbrev pub OutIsOfCache : Type 0
+OutIsOfCache =
+    (c : SlabCacheState) → IsSound c → (f : Tag → ℕ)
+    → sum_by (of_cache c.arena c.k f) (chunks_out c) ≡ sum_by f (chunks_out c)
+
+-- a chunk fits each unconstrained request whose size, rounded to whole quanta, is the chunk's
+abbrev pub ChunkFits : Type 0
+ChunkFits =
+    (c : SlabCacheState) (t : Tag) (size : ℕ) → IsChunkOf c t → rounded c.quantum size ≡ chunk_of c
+    → Fits c.quantum (plain_of size) t.holding.range.base t.holding.range.len
+
+-- of these is the one for just k quanta
+abbrev pub ChunkIsWholeQuanta : Type 0
+ChunkIsWholeQuanta = (c : SlabCacheState) → IsSound c → rounded c.quantum (chunk_of c) ≡ chunk_of c
+
+-- where no slab is whole and no chunk is out, there is no slab
+abbrev pub ReapedOutIsEmpty : Type 0
+ReapedOutIsEmpty =
+    (c : SlabCacheState) → All (λ s. ¬ IsComplete s) c.slabs → chunks_out c ≡ [] → c.slabs ≡ []

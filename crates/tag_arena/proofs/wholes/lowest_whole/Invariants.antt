@@ -1,5 +1,0 @@
-use Rattle.tag_arena.specs.Found.{LowestSoFar}
-use Rattle.tag_arena.proofs.wholes.lowest_whole.Given as goal
-
-abbrev pub invariant-loop-at : goal.invariant-loop-at
-invariant-loop-at g l = LowestSoFar l.owned l.free l.at l.lowest
