@@ -1,10 +1,13 @@
 # make        proves what the program stands on, and leaves the program as bin/vmemd
 # make test   the gate: every proof from nothing, the must-fail edits, the tests, the program's cases
-# make edits  tries all edits, those of more-edits/ too; make edits CRATE=NAME tries one crate's
+# make edits  tries all edits, those of more-edits/ too, of JOBS=1 crates at a time;
+#             make edits CRATE=NAME tries one crate's
 # make cases  runs bin/vmemd on tests/cases
 # make clean  removes what was built
 
 .PHONY: all test edits cases clean
+
+JOBS = 1
 
 all:
 	cd crates/vmemd && rt run -- script < stdin > /dev/null
@@ -17,7 +20,7 @@ test:
 	rt ci; proved=$$?; tools/cases; ran=$$?; test $$proved = 0 && test $$ran = 0
 
 edits:
-	tools/edits $(CRATE)
+	tools/edits --jobs $(JOBS) $(CRATE)
 
 cases: all
 	tools/cases bin/vmemd
