@@ -8,7 +8,6 @@ mod requests;
 mod segments;
 
 pub use borders::border_moved;
-
 use deed_core::Range;
 use std::process::Abort;
 

@@ -58,7 +58,11 @@ fn a_refused_border_stays(rt: HostRuntime) {
             Ok(_) => panic!(rt; "the second split is refused"),
             Err(both) => both,
         };
-        assert_eq!(rt; (bounds(&low), bounds(&high)), ((5, 8, 4), (5, 12, 8)), "{at}");
+        assert_eq!(rt;
+            (bounds(&low), bounds(&high)),
+            ((5, 8, 4), (5, 12, 8)),
+            "{at}"
+        );
         let (low, high) = match move_border(low, high, at) {
             Ok(parts) => parts,
             Err(both) => stuck(&rt, both),
