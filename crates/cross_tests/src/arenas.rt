@@ -155,7 +155,7 @@ fn import<D: Deed>(
 ) -> Segment<D> {
     match try_import(rt, arena, span, request) {
         Ok(segment) => segment,
-        Err(SpanRefused { span: _, fault }) => panic!(rt; "{fault}"),
+        Err(SpanRefused { span: _span, fault }) => panic!(rt; "{fault}"),
     }
 }
 
