@@ -12,7 +12,7 @@ pub struct RequestId {
 }
 
 impl RequestId {
-    /// Each of the three numbers is in its range. This does nothing: a proof calls it for its clause.
+    /// Each of the three numbers is in its range. This does nothing: it is called for its clause.
     pub fn check(self)
         ensures { IsRequestId self }
     {
