@@ -2,10 +2,12 @@
 //!
 //! `arenas` has rows of calls of an arena, over plain deeds and over deeds one of whose splits is
 //! refused. They stand here and not in `tag_arena`, since the gate proves a crate once more for its
-//! tests. `seat_deeds` has an arena over the deeds of running threads.
+//! tests. `books` has rows of requests to a book of leases. `seat_deeds` has an arena over the deeds of running threads.
 #![tactic(auto)]
 
 #[cfg(test)]
 mod arenas;
+#[cfg(test)]
+mod books;
 #[cfg(test)]
 mod seat_deeds;
