@@ -85,8 +85,7 @@ fn close(segment: Segment<PlainDeed>) -> (u64, u64) {
 }
 
 /// Whether a hello is taken. Want of memory leaves all as it was, and the same hello then succeeds.
-fn hello(rt: &impl Abort, book: &mut Book<PlainDeed>, client: u32, incarnation: u64) -> bool
-{
+fn hello(rt: &impl Abort, book: &mut Book<PlainDeed>, client: u32, incarnation: u64) -> bool {
     let clients = book.clients();
     match book.hello(client_of(rt, client), ordinal_of(rt, incarnation)) {
         Ok(()) => true,
@@ -95,7 +94,8 @@ fn hello(rt: &impl Abort, book: &mut Book<PlainDeed>, client: u32, incarnation: 
             assert_eq!(rt; book.clients(), clients);
             assert_eq!(rt; book.client_at(clients), None);
             assert_eq!(rt; look(rt, book, client, 1, 1), Told::Old(0));
-            book.hello(client_of(rt, client), ordinal_of(rt, incarnation)).is_ok()
+            book.hello(client_of(rt, client), ordinal_of(rt, incarnation))
+                .is_ok()
         }
     }
 }
@@ -109,8 +109,7 @@ fn lease(
     number: u64,
     base: u64,
     len: u64,
-) -> Told
-{
+) -> Told {
     let units = book.units(ARENA);
     match lease_once(rt, book, client, incarnation, number, base, len) {
         Told::Again => {
@@ -130,8 +129,7 @@ fn lease_once(
     number: u64,
     base: u64,
     len: u64,
-) -> Told
-{
+) -> Told {
     let Some(range) = Range::new(base, len) else {
         panic!(rt; "no range");
     };
@@ -170,9 +168,12 @@ fn release(
     incarnation: u64,
     number: u64,
     base: u64,
-) -> Told
-{
-    match book.release(id_of(rt, client, incarnation, number), ARENA, units_of(rt, base)) {
+) -> Told {
+    match book.release(
+        id_of(rt, client, incarnation, number),
+        ARENA,
+        units_of(rt, base),
+    ) {
         Ok((receipt, segment)) => {
             assert_eq!(rt; receipt.reply(), Reply::Released);
             assert_eq!(rt; close(segment).0, base);
@@ -183,7 +184,11 @@ fn release(
 }
 
 // The request that was granted the lease, and its range.
-fn sweep(rt: &impl Abort, book: &mut Book<PlainDeed>, client: u32) -> Option<(RequestId, (u64, u64))> {
+fn sweep(
+    rt: &impl Abort,
+    book: &mut Book<PlainDeed>,
+    client: u32,
+) -> Option<(RequestId, (u64, u64))> {
     let (id, segment) = book.sweep(client_of(rt, client))?;
     Some((id, close(segment)))
 }
@@ -237,8 +242,16 @@ fn restarts(rt: HostRuntime) {
     assert_eq!(rt; lease(&rt, &mut book, 1, 1, 1, 1, 4), Told::Granted(1, 4));
     assert!(rt; sweep(&rt, &mut book, 1).is_none());
     assert!(rt; hello(&rt, &mut book, 1, 2));
-    assert!(rt; matches!(&book.hello(client_of(&rt, 1), ordinal_of(&rt, 1)), Err(HelloFault::Old(_))));
-    assert_eq!(rt; sweep(&rt, &mut book, 1), Some((id_of(&rt, 1, 1, 1), (1, 4))));
+    assert!(rt;
+        matches!(
+            &book.hello(client_of(&rt, 1), ordinal_of(&rt, 1)),
+            Err(HelloFault::Old(_))
+        )
+    );
+    assert_eq!(rt;
+        sweep(&rt, &mut book, 1),
+        Some((id_of(&rt, 1, 1, 1), (1, 4)))
+    );
     assert!(rt; sweep(&rt, &mut book, 1).is_none());
     assert!(rt; hello(&rt, &mut book, 2, 1));
     assert_eq!(rt; lease(&rt, &mut book, 2, 1, 1, 1, 4), Told::Granted(1, 4));
@@ -365,9 +378,18 @@ fn lists(rt: HostRuntime) {
     assert!(rt; !hello(&rt, &mut book, 5, 1));
     assert!(rt; hello(&rt, &mut book, 9, 1));
     assert_eq!(rt; book.clients(), 3);
-    assert_eq!(rt; book.client_at(0).map(|report| report.client.get()), Some(5));
-    assert_eq!(rt; book.client_at(1).map(|report| report.client.get()), Some(2));
-    assert_eq!(rt; book.client_at(2).map(|report| report.client.get()), Some(9));
+    assert_eq!(rt;
+        book.client_at(0).map(|report| report.client.get()),
+        Some(5)
+    );
+    assert_eq!(rt;
+        book.client_at(1).map(|report| report.client.get()),
+        Some(2)
+    );
+    assert_eq!(rt;
+        book.client_at(2).map(|report| report.client.get()),
+        Some(9)
+    );
     assert_eq!(rt; book.client_at(3), None);
     end(&rt, book);
 }
@@ -413,7 +435,8 @@ fn all_clients(rt: HostRuntime) {
     for client in 1..=65536u32 {
         assert!(rt; hello(&rt, &mut book, client, 1));
         let base = u64::from(client);
-        assert_eq!(rt; lease(&rt, &mut book, client, 1, 1, base, 1), Told::Granted(base, 1));
+        let told = lease_once(&rt, &mut book, client, 1, 1, base, 1);
+        assert_eq!(rt; told, Told::Granted(base, 1));
     }
     assert_eq!(rt; book.clients(), 65536);
     assert!(rt; hello(&rt, &mut book, 65536, 1));

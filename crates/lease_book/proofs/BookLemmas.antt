@@ -366,9 +366,10 @@ module _ (before old : BookState) (is : before ≡ old) (id : RequestId) (index 
       let now : BookState = record { mark = before.mark; accounts = accounts } in
       let first_before : IsFirst (is_lease id.incarnation arena base) (account_in id.client before).leases at = subst (λ (b : BookState). IsFirst (is_lease id.incarnation arena base) (account_in id.client b).leases at) (sym is) first in
       let here : slice_get (account_in id.client before).leases at ≡ Some l = of_found (λ (a : Account). slice_get a.leases at ≡ Some l) before id.client index found_before there in
-      let released = releases before now mid id arena base index at l k r found_before fresh_before told in_range first_before here is_kept is_receipt refl taken_mid after in
-      (goes_on (Settled id (Return arena base)) before now released.entry had,
-        subst (λ (x : Tag). IsReleased old now id arena base r x) (sym of_lease) (subst (λ (b : BookState). IsReleased b now id arena base r l.segment) is released))
+      let released = releases before now mid id arena base index at l k r found_before fresh_before told in_range first_before here is_kept is_receipt refl taken_mid after in (
+        goes_on (Settled id (Return arena base)) before now released.entry had,
+        subst (λ (x : Tag). IsReleased old now id arena base r x) (sym of_lease) (subst (λ (b : BookState). IsReleased b now id arena base r l.segment) is released),
+      )
 
 -- the leases of an account, where it was found
 pub leases_found : (before old : BookState) (c place : ℕ) (ls : List Lease) → before ≡ old → IsFound old c place → IfSome (slice_get before.accounts place) (λ a. a.leases ≡ ls) → (account_in c old).leases ≡ ls
@@ -381,9 +382,10 @@ pub ended_at : (before old : BookState) (accounts : List Account) (c index at : 
     → HasHistory (record { mark = before.mark; accounts = accounts }) × IsEnded old (record { mark = before.mark; accounts = accounts }) r.0 r.1
 ended_at before old accounts c index at l r gives is found first here after had =
     let now : BookState = record { mark = before.mark; accounts = accounts } in
-    let ended = ends_lease old now c index at l found first here (ap (λ (b : BookState). b.mark) is) (after ∙ ap (λ (b : BookState). changed_at b.accounts index (with_leases (λ ls. remove ls at))) is) in
-    (goes_on (Swept c l.incarnation l.segment.arena l.segment.holding.range.base) old now ended.entry (subst HasHistory is had),
-      subst (λ (p : RequestId × Tag). IsEnded old now p.0 p.1) (sym gives) ended)
+    let ended = ends_lease old now c index at l found first here (ap (λ (b : BookState). b.mark) is) (after ∙ ap (λ (b : BookState). changed_at b.accounts index (with_leases (λ ls. remove ls at))) is) in (
+      goes_on (Swept c l.incarnation l.segment.arena l.segment.holding.range.base) old now ended.entry (subst HasHistory is had),
+      subst (λ (p : RequestId × Tag). IsEnded old now p.0 p.1) (sym gives) ended,
+    )
 
 -- the client at an index is the one that is found there
 pub found_client : (book : BookState) (index k : ℕ) → index < length book.accounts → IfSome (slice_get book.accounts index) (λ a. find (λ b. nat_eq a.client b.client) book.accounts ≡ Some a)

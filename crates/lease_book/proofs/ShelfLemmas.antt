@@ -367,14 +367,13 @@ goes_past i ls l at none empty =
 pub found_first : (i : ℕ) (ls : List (List Lease)) (l : List Lease) → i < length ls → l ≡ get_or ls i l → 0 < length l → IsEmptyBefore i ls
     → Some i ≡ position (λ (x : List Lease). nat_lt 0 (length x)) ls
 found_first i ls l within at some empty =
-
     let is : position_or_len (λ (x : List Lease). nat_lt 0 (length x)) ls ≡ i = first_past i ls l within at some empty in
     ap Some (sym is)
     ∙ sym (ap (λ (b : Bool). cond b (Some (position_or_len (λ (x : List Lease). nat_lt 0 (length x)) ls)) None)
-      (lt-ltb (position_or_len (λ (x : List Lease). nat_lt 0 (length x)) ls) (length ls) (omega (arith, is, within))))
+    (lt-ltb (position_or_len (λ (x : List Lease). nat_lt 0 (length x)) ls) (length ls) (omega (arith, is, within))))
 
 pub found_none : (i : ℕ) (ls : List (List Lease)) → length ls ≤ i → IsEmptyBefore i ls → None ≡ position (λ (x : List Lease). nat_lt 0 (length x)) ls
 found_none i ls past empty =
     let is : position_or_len (λ (x : List Lease). nat_lt 0 (length x)) ls ≡ length ls = none_past i ls past empty in
     sym (ap (λ (b : Bool). cond b (Some (position_or_len (λ (x : List Lease). nat_lt 0 (length x)) ls)) None)
-      (le-ltb (position_or_len (λ (x : List Lease). nat_lt 0 (length x)) ls) (length ls) (omega (arith, is))))
+    (le-ltb (position_or_len (λ (x : List Lease). nat_lt 0 (length x)) ls) (length ls) (omega (arith, is))))

@@ -26,7 +26,8 @@ pub record IsNew (a : Account) (id : RequestId) : Type 0 where
   pub next : id.number ≡ last a + 1
 
 -- the number is the last one, and this the book's receipt of the request; its grant meets its terms
-pub record IsRepeated (book : BookState) (a : Account) (id : RequestId) (r : ReceiptState) : Type 0 where
+pub record IsRepeated (book : BookState) (a : Account) (id : RequestId)
+    (r : ReceiptState) : Type 0 where
   pub current : id.incarnation ≡ a.incarnation
   pub kept : a.kept ≡ Some (record { number = id.number; reply = r.reply; terms = r.terms })
   pub request : r.id ≡ id

@@ -35,7 +35,8 @@ pub record IsRefused (old now : BookState) (id : RequestId) (why : Refusal)
   pub entry : Enters (Settled id (Refuse why)) old now
   pub leases : leased now ≡ leased old
 
--- the new request is settled by the release of a lease, which a request with this number was granted
+-- the new request is settled by the release of a lease, which a request with the number `granted`
+-- was granted
 pub record IsReleased (old now : BookState) (id : RequestId) (arena base : ℕ)
     (r : ReceiptState) (t : Tag) : Type 0 where
   pub granted : ℕ

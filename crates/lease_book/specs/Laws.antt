@@ -17,8 +17,8 @@ AccountIsReadOff =
 abbrev pub AccountIsOfItsClient : Type 0
 AccountIsOfItsClient = (book : BookState) (c : ℕ) → HasHistory book → (account_in c book).client ≡ c
 
--- what a hello changes: nothing where the incarnation is current, no leases where it is greater, and
--- no other client's account
+-- what a hello changes: nothing where the incarnation is current, no lease where it is greater,
+-- and no other client's account
 pub record HelloChanges : Type 0 where
   pub again : (es : List Entry) (c i : ℕ)
       → i ≡ incarnation c es → account (Hello c i ∷ es) c ≡ account es c

@@ -24,8 +24,8 @@ use std::marker::Model;
 /// As many leases a client may have, those of older incarnations among them. (Our own choice.)
 pub const LEASES: usize = 1024;
 
-/// Which client holds which segment, and the last number and the kept reply of each client's current
-/// incarnation.
+/// Which client holds which segment, and the last number and the kept reply of each client's
+/// current incarnation.
 pub struct Book<D: Deed> {
     mark: D,
     accounts: Accounts<D>,
@@ -38,7 +38,8 @@ impl<D: Deed> Model for Book<D> {
 
     ghost view = { λ b. record { mark = D.holding b.mark; accounts = b.accounts } };
 
-    ghost invariant = { λ b. HasHistory (record { mark = D.holding b.mark; accounts = b.accounts }) };
+    ghost invariant = { λ b.
+        HasHistory (record { mark = D.holding b.mark; accounts = b.accounts }) };
 }
 
 impl<D: Deed> Book<D> {
@@ -86,10 +87,12 @@ impl<D: Deed> Book<D> {
     /// made by its first hello, so that a later one never wants memory.
     pub fn hello(&mut self, client: ClientId, incarnation: Ordinal) -> Result<(), HelloFault>
         ensures taken { OnOk result (Enters (Hello client incarnation) self.old self.new) }
-        ensures known { incarnation ≡ (account_in client self.old).incarnation → self.new ≡ self.old }
+        ensures known { incarnation ≡ (account_in client self.old).incarnation
+            → self.new ≡ self.old }
         ensures leases { leased self.new ≡ leased self.old }
         ensures current { OnOk result ((account_in client self.old).incarnation ≤ incarnation) }
-        ensures fault { IfErr result (IsHelloFault (account_in client self.old).incarnation incarnation) }
+        ensures fault { IfErr result
+            (IsHelloFault (account_in client self.old).incarnation incarnation) }
         ensures unchanged { OnErr result (self.new ≡ self.old) }
     {
         // For their clauses: the numbers are in their ranges.
@@ -125,9 +128,9 @@ impl<D: Deed> Book<D> {
         self.seek(id)
     }
 
-    /// Settles a new request by a grant of the segment, which is of the arena and fits the request with
-    /// its quantum. The request is refused where the client has as many leases as it may; that settles
-    /// the number too. Each `Err` hands the segment back.
+    /// Settles a new request by a grant of the segment, which is of the arena and fits the request
+    /// with its quantum. The request is refused where the client has as many leases as it may; that
+    /// settles the number too. Each `Err` hands the segment back.
     pub fn settle(
         &mut self,
         id: RequestId,
@@ -185,8 +188,9 @@ impl<D: Deed> Book<D> {
         }
     }
 
-    /// Settles a new request by the release of the first lease of the incarnation with this arena and
-    /// base. Where the incarnation has none the request is refused, and that settles the number too.
+    /// Settles a new request by the release of the first lease of the incarnation with this arena
+    /// and base. Where the incarnation has none the request is refused, and that settles the number
+    /// too.
     pub fn release(
         &mut self,
         id: RequestId,
@@ -196,7 +200,8 @@ impl<D: Deed> Book<D> {
         ensures released { IfOk result (λ r. IsReleased self.old self.new id arena base r.0 r.1) }
         ensures answer { IfErr result (IsAnswer self.old self.new id
             (λ v. IsRefused self.old self.new id Refusal.NotYours v
-            × (find (is_lease id.incarnation arena base) (account_in id.client self.old).leases ≡ None))
+            × (find (is_lease id.incarnation arena base)
+            (account_in id.client self.old).leases ≡ None))
             ⊥) }
     {
         // For its clause: the base is in its range.
@@ -227,9 +232,9 @@ impl<D: Deed> Book<D> {
         Some(self.accounts.take(index, lease).ended(client))
     }
 
-    /// Ends a lease, whichever, at a system's end, and gives it with the request that was granted it.
-    /// A search goes on where the one before ended, so that ending all leases takes no longer than
-    /// there are clients and leases.
+    /// Ends a lease, whichever, at a system's end, and gives it with the request that was granted
+    /// it. A search goes on where the one before ended, so that ending all leases looks at each
+    /// client once.
     pub fn take_lease(&mut self) -> Option<(RequestId, Segment<D>)>
         ensures taken { IfSome result (λ r. IsEnded self.old self.new r.0 r.1) }
         ensures exactly { IsNone result ↔ (leased self.old ≡ []) }
@@ -267,7 +272,8 @@ impl<D: Deed> Book<D> {
         ensures value { result ≡ option_map report_of (slice_get self.now.accounts index) }
         ensures history { (entries : List Entry)
             → IsHistory entries self.now
-            → result ≡ option_map (λ c. report_of (account entries c)) (slice_get (clients_of entries) index) }
+            → result ≡ option_map (λ c. report_of (account entries c))
+            (slice_get (clients_of entries) index) }
     {
         self.accounts.report(index)
     }

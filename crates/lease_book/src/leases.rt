@@ -22,7 +22,9 @@ impl<D: Deed> Model for Held<D> {
     ghost Value = { Lease };
 
     ghost view = { λ h. record {
-        incarnation = h.incarnation; number = h.number; segment = h.segment
+      incarnation = h.incarnation;
+      number = h.number;
+      segment = h.segment;
     } };
 }
 

@@ -3,7 +3,7 @@ ghost use Rattle.std.specs.Prelude.{◌≡◌};
 ghost use Rattle.deed_core.specs.Extent.{IsRange};
 
 use deed_core::{Range, Request};
-use lease_terms::{Quantity, Refusal, RequestId, Ordinal};
+use lease_terms::{Ordinal, Quantity, Refusal, RequestId};
 use std::marker::{Model, PhantomData};
 
 /// The answer to a number that is settled. Bases and lengths are in units.
@@ -100,7 +100,11 @@ impl<D> Model for Receipt<D> {
     ghost invariant = { λ r. IsEarned r.reply r.terms };
 
     ghost inverse = { λ s. record {
-        book = s.book; id = s.id; reply = s.reply; terms = s.terms; of = record {}
+      book = s.book;
+      id = s.id;
+      reply = s.reply;
+      terms = s.terms;
+      of = record {};
     } };
 }
 
@@ -110,7 +114,10 @@ impl<D> Receipt<D> {
 
     pub(crate) fn new(book: u32, id: RequestId, kept: Kept) -> Receipt<D>
         ensures value { result ≡ record {
-            book = book; id = id; reply = kept.reply; terms = kept.terms
+          book = book;
+          id = id;
+          reply = kept.reply;
+          terms = kept.terms;
         } }
         ensures earned { IsEarned kept.reply kept.terms }
     {

@@ -19,11 +19,15 @@ impl Model for RequestId {
     ghost Value = { RequestId };
 
     ghost view = { λ r. record {
-        client = r.client; incarnation = r.incarnation; number = r.number
+      client = r.client;
+      incarnation = r.incarnation;
+      number = r.number;
     } };
 
     ghost inverse = { λ id. record {
-        client = id.client; incarnation = id.incarnation; number = id.number
+      client = id.client;
+      incarnation = id.incarnation;
+      number = id.number;
     } };
 }
 
