@@ -5,4 +5,5 @@ pub mod WeightLemmas
 pub mod HistoryLemmas
 pub mod EntryLemmas
 pub mod BookLemmas
+pub mod LawLemmas
 pub mod LawProofs

@@ -1,13 +1,19 @@
-//! The book of leases: which client holds which segment, and how each numbered request was answered.
+//! The book of leases: which client holds which segment, and how each numbered request was
+//! answered.
 //!
-//! A client says hello with an incarnation, and greater ones after it restarts. In an incarnation its
-//! requests have the numbers 1, 2 and so on. The book settles each number once, by a grant, a release or
-//! a refusal, and keeps the last reply, so that a request that comes again gets the same one. Leases of
-//! an incarnation that has passed stay until they are swept.
+//! A client says hello with an incarnation, and greater ones after it restarts. In an incarnation
+//! its requests have the numbers 1, 2 and so on. The book settles each number once, by a grant, a
+//! release or a refusal, and keeps the last reply, so that a request that comes again gets the same
+//! one. Leases of an incarnation that has passed stay until they are swept.
 //!
-//! Begin with [`Book`]. What its contracts see, and what is read off the list of what happened to it, is
-//! in `specs/History.antt` and `specs/Ledger.antt`; how it answers is in `specs/Answers.antt` and
-//! `specs/Calls.antt`. What the crates above may cite of the proofs is in `proofs/LawProofs.antt`.
+//! Begin with [`Book`]. What its contracts see, and what is read off the list of what happened to
+//! it, is in `specs/History.antt` and `specs/BookState.antt`; how it answers is in
+//! `specs/Answers.antt` and `specs/Calls.antt`. What the crates above may cite of the proofs is in
+//! `proofs/LawProofs.antt`.
+//!
+//! What it costs: a look-up of a client takes the same time however many there are. A release and a
+//! sweep look at the leases of one client, at most 1,024, and `units` at all leases. Ending all
+//! leases one by one looks at each client once.
 #![tactic(auto)]
 
 mod accounts;
@@ -20,9 +26,6 @@ mod reports;
 
 pub use answers::{Answer, HelloFault, Look};
 pub use books::{Book, LEASES};
-pub use laws::account_law;
-pub use receipts::{Receipt, Refusal, Reply, Terms};
+pub use laws::{account_law, entry_laws, lease_laws};
+pub use receipts::{Receipt, Reply, Terms};
 pub use reports::ClientReport;
-
-#[cfg(test)]
-mod tests;
