@@ -1,0 +1,4 @@
+pub mod Ranges
+pub mod Requests
+pub mod Names
+pub mod Padding

@@ -1,0 +1,87 @@
+//! The names of arenas.
+ghost use Rattle.std.specs.Prelude.{◌≡◌, true};
+ghost use Rattle.std.specs.Option.{SomeIff};
+ghost use Rattle.lease_terms.specs.Names as spec;
+
+use std::marker::Model;
+
+/// The longest name, in bytes.
+pub const LONGEST_NAME: usize = 16;
+
+/// The name of an arena: 1 to 16 of the letters a to z and the digits, the first a letter.
+#[derive(Clone, Copy, Debug, PartialEq, Eq)]
+pub struct Name {
+    // The bytes past the name's are 0.
+    bytes: [u8; LONGEST_NAME],
+    len: usize,
+}
+
+impl Model for Name {
+    ghost use Rattle.std.specs.Prelude.{ℕ, List};
+
+    ghost Value = { List ℕ };
+
+    ghost use Rattle.lease_terms.specs.Padding.{name_text, IsPadded, inside_of, inside_of-name_text};
+
+    ghost view = { name_text };
+
+    ghost invariant = { IsPadded };
+
+    ghost inverse = { inside_of };
+
+    ghost inverse_ok = { inside_of-name_text };
+}
+
+impl Name {
+    /// The name of this text, or `None` where it is no name.
+    pub fn new(text: &[u8]) -> Option<Self>
+        ensures { SomeIff result (spec.is_name text.now ≡ true) text.now }
+    {
+        if !is_name(text) {
+            return None;
+        }
+        let mut bytes = [0; LONGEST_NAME];
+        let len = text.len();
+        bytes[..len].copy_from_slice(text);
+        Some(Name { bytes, len })
+    }
+
+    /// Its text, 1 to 16 bytes.
+    pub fn as_slice(&self) -> &[u8]
+        ensures value { result.now ≡ self.now }
+        ensures name { spec.is_name self.now ≡ true }
+    {
+        &self.bytes[..self.len]
+    }
+}
+
+/// Whether these bytes are a name.
+pub fn is_name(text: &[u8]) -> bool
+    ensures { result ≡ spec.is_name text.now }
+{
+    is_word(text) && is_letter(text[0]) && text.len() <= LONGEST_NAME
+}
+
+/// Whether these bytes are a word: one or more of the letters a to z and the digits.
+pub fn is_word(text: &[u8]) -> bool
+    ensures { result ≡ spec.is_word text.now }
+{
+    for byte in text {
+        if !is_word_byte(*byte) {
+            return false;
+        }
+    }
+    !text.is_empty()
+}
+
+fn is_letter(byte: u8) -> bool
+    ensures { result ≡ spec.is_letter byte }
+{
+    byte.is_ascii_lowercase()
+}
+
+fn is_word_byte(byte: u8) -> bool
+    ensures { result ≡ spec.is_word_byte byte }
+{
+    is_letter(byte) || byte.is_ascii_digit()
+}
