@@ -8,4 +8,6 @@
 #[cfg(test)]
 mod arenas;
 #[cfg(test)]
+mod lines;
+#[cfg(test)]
 mod seat_deeds;

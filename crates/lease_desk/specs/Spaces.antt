@@ -7,13 +7,13 @@ use Rattle.deed_core.specs.Tag.{Tag}
 use Rattle.deed_core.specs.Covering.{covering_held}
 use Rattle.tag_arena.specs.ArenaState.{spans_of, ranges_of}
 use Rattle.tag_arena.specs.Calls.{IsTagged}
-use Rattle.lease_book.specs.Ledger.{Ledger, leased}
+use Rattle.lease_book.specs.BookState.{BookState, leased}
 use Rattle.lease_desk.specs.declared.spaces.Space.{Space}
-use Rattle.lease_desk.specs.Picture.{ArenaPicture, Picture, Exports}
-use Rattle.lease_desk.specs.Told.{IsTold}
+use Rattle.lease_desk.specs.DeskState.{NamedArenaState, DeskState, Exports}
+use Rattle.lease_desk.specs.Grants.{GrantsAreOwn}
 
-abbrev pub picture_of : Space → ArenaPicture
-picture_of s = record {
+abbrev pub state_of : Space → NamedArenaState
+state_of s = record {
   name = s.name;
   quantum = s.arena.quantum;
   policy = s.arena.policy;
@@ -22,11 +22,11 @@ picture_of s = record {
   allocated = ranges_of s.arena.allocated;
 }
 
-abbrev pub pictures : List Space → List ArenaPicture
-pictures spaces = map picture_of spaces
+abbrev pub states_of : List Space → List NamedArenaState
+states_of spaces = map state_of spaces
 
-abbrev pub desk_of : List Space → Ledger → Picture
-desk_of spaces book = record { arenas = pictures spaces; book = book }
+abbrev pub desk_of : List Space → BookState → DeskState
+desk_of spaces book = record { arenas = states_of spaces; book = book }
 
 -- each range stands at its base
 abbrev pub IsKeyed : FinMap nat_cmp Holding → Type 0
@@ -47,11 +47,11 @@ abbrev pub AreSpaces : List Space → Type 0
 AreSpaces spaces = (k : ℕ) (s : Space) → slice_get spaces k ≡ Some s → IsSpace k s
 
 -- what holds of the arenas and the book between any two lines
-pub record IsSteady (spaces : List Space) (book : Ledger) : Type 0 where
+pub record IsSteady (spaces : List Space) (book : BookState) : Type 0 where
   pub few : length spaces ≤ 32
   pub sound : AreSpaces spaces
-  pub exports : Exports (pictures spaces) (leased book)
-  pub told : IsTold (length spaces) book
+  pub exports : Exports (states_of spaces) (leased book)
+  pub grants : GrantsAreOwn (length spaces) book
 
 -- the segment is allocated in its arena
 pub record IsOut (spaces : List Space) (t : Tag) : Type 0 where

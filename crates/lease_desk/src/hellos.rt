@@ -6,18 +6,19 @@ use crate::returns::sweep;
 use crate::spaces::Space;
 use deed_core::PlainDeed;
 use lease_book::{Book, HelloFault};
-use lease_proto::{Again, Hello, Old, Quantity, Reply, Welcome};
+use lease_proto::{Again, Hello, Old, Reply, Welcome};
+use lease_terms::Quantity;
 
 /// Takes a hello, and ends the client's leases of older incarnations.
 pub(crate) fn greet(spaces: &mut Vec<Space>, book: &mut Book<PlainDeed>, hello: &Hello) -> Reply
     requires steady { IsSteady spaces.old.items book.old }
     ensures steady { IsSteady spaces.new.items book.new }
-    ensures step { HelloStep hello.now (desk_of spaces.old.items book.old) (desk_of spaces.new.items book.new) result }
+    ensures step { HelloStep hello.now
+        (desk_of spaces.old.items book.old) (desk_of spaces.new.items book.new) result }
 {
-    let client = hello.client.get();
-    match book.hello(client, hello.incarnation.get()) {
+    match book.hello(hello.client, hello.incarnation) {
         Ok(()) => {
-            sweep(spaces, book, client);
+            sweep(spaces, book, hello.client);
             Reply::Welcome(Welcome {
                 client: hello.client,
                 incarnation: hello.incarnation,
@@ -25,7 +26,7 @@ pub(crate) fn greet(spaces: &mut Vec<Space>, book: &mut Book<PlainDeed>, hello: 
         }
         Err(HelloFault::Old(current)) => Reply::Old(Old {
             client: hello.client,
-            current: Quantity::new(current).unwrap(),
+            current,
         }),
         Err(HelloFault::NoMemory) => Reply::Again(Again {
             client: hello.client,

@@ -3,10 +3,10 @@
 //!
 //! `Desk` (desks) is where to begin: it is set up by `add_root` and `add_span`, answers a line at a time, and is
 //! ended by `close`. specs/Machine.antt says what may be answered to a line, and what may then have changed, over
-//! the plain data of specs/Picture.antt; specs/Setup.antt says the same of the setup.
+//! the plain data of specs/DeskState.antt; specs/Setup.antt says the same of the setup.
 #![tactic(auto)]
 
-mod asking;
+mod answers;
 mod closings;
 mod desks;
 mod faults;

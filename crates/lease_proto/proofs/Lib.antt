@@ -1,7 +1,6 @@
 pub mod ByteLemmas
 pub mod FrameLemmas
 pub mod LawProofs
-pub mod NameLemmas
 pub mod WordLemmas
 pub mod GrammarLemmas
 pub mod LineLemmas

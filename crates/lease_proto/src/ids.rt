@@ -10,7 +10,7 @@ use lease_terms::RequestId;
 use std::marker::Model;
 
 /// The three words `C I N` of an id, not yet looked at. Their shape is refused before any number is.
-#[derive(Clone, Copy)]
+#[derive(Drop)]
 pub(crate) struct IdWords<'a> {
     client: &'a [u8],
     incarnation: &'a [u8],

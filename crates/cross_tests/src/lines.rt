@@ -1,10 +1,11 @@
 //! Every form of line and reply, lines that are none, and streams cut at every byte.
 ghost use Rattle.std.specs.Prelude.{◌≡◌, ◌++◌, false};
 
-use crate::{
-    ClientId, Granted, Hello, Lease, LeaseOptions, Line, LineFault, LineReader, Name, Ordinal,
-    Quantity, Refusal, Refused, Release, Reply, name, number, words,
+use lease_proto::{
+    ErrorWord, Granted, Hello, Lease, LeaseOptions, Line, LineFault, LineReader, Op, OperatorLine,
+    PolicyWord, Refused, Release, Reply, RootLine, ServedLine, SetupLine,
 };
+use lease_terms::{ClientId, Name, Ordinal, Quantity, Refusal, RequestId};
 use std::alloc::{AllocError, Global};
 use std::process::Abort;
 use std::test::Fail;
@@ -41,7 +42,7 @@ const LINES: [(&str, &str); 13] = [
     ),
 ];
 
-const REPLIES: [&str; 17] = [
+const REPLIES: [&str; 20] = [
     "welcome 65536 1",
     "granted 1 2 3 m 0 8",
     "granted 65536 4611686018427387904 4611686018427387904 abcdefghijklmno9 4611686018427387904 4611686018427387904",
@@ -59,6 +60,9 @@ const REPLIES: [&str; 17] = [
     "error badline",
     "error word",
     "error number",
+    "error memory",
+    "error noarena",
+    "error size",
 ];
 
 /// What isn't a line, and why.
@@ -117,7 +121,7 @@ const NO_REPLIES: [(&str, LineFault); 12] = [
     ("hello 1 1", LineFault::Word),
     ("refused 1 2 3 word", LineFault::BadLine),
     ("refused 1 0 3 none", LineFault::BadLine),
-    ("error memory", LineFault::BadLine),
+    ("error range", LineFault::BadLine),
     ("error word word", LineFault::BadLine),
     ("granted 1 2 m 3 0 8", LineFault::BadLine),
     ("granted 1 2 3 m 0 08", LineFault::Number),
@@ -176,19 +180,29 @@ fn quantity(value: u64) -> Result<Quantity, Fail> {
     Ok(Quantity::new(value).ok_or("no quantity")?)
 }
 
+fn name(text: &[u8]) -> Result<Name, Fail> {
+    Ok(Name::new(text).ok_or("no name")?)
+}
+
+/// The third request of client 7's second incarnation.
+fn third_request() -> Result<RequestId, Fail> {
+    Ok(RequestId {
+        client: ClientId::new(7).ok_or("no client")?,
+        incarnation: ordinal(2)?,
+        number: ordinal(3)?,
+    })
+}
+
 #[test]
 fn the_words_go_to_their_fields(rt: HostRuntime) -> Result<(), Fail> {
-    let client = ClientId::new(7).ok_or("no client")?;
+    let id = third_request()?;
     let arena = name(b"arena2")?;
     let hello = Hello {
-        client,
-        incarnation: ordinal(2)?,
+        client: id.client,
+        incarnation: id.incarnation,
     };
     assert_eq!(rt; Line::read(b"hello 7 2")?, Line::Hello(hello));
     let lease = Lease {
-        client,
-        incarnation: ordinal(2)?,
-        number: ordinal(3)?,
         arena,
         size: quantity(8)?,
         options: LeaseOptions {
@@ -200,12 +214,13 @@ fn the_words_go_to_their_fields(rt: HostRuntime) -> Result<(), Fail> {
         },
     };
     let text = b"lease 7 2 3 arena2 8 align 16 phase 4 nocross 64 min 10 max 99";
-    assert_eq!(rt; Line::read(text)?, Line::Lease(lease));
+    assert_eq!(rt; Line::read(text)?, Line::Request(id, Op::Lease(lease)));
     let plain = Lease {
         options: LeaseOptions::none(),
         ..lease
     };
-    assert_eq!(rt; Line::read(b"lease 7 2 3 arena2 8")?, Line::Lease(plain));
+    let read = Line::read(b"lease 7 2 3 arena2 8")?;
+    assert_eq!(rt; read, Line::Request(id, Op::Lease(plain)));
     assert_eq!(rt; arena.as_slice(), b"arena2".as_slice());
     Ok(())
 }
@@ -213,26 +228,21 @@ fn the_words_go_to_their_fields(rt: HostRuntime) -> Result<(), Fail> {
 #[test]
 fn the_words_of_a_release_go_to_their_fields(rt: HostRuntime) -> Result<(), Fail> {
     let release = Release {
-        client: ClientId::new(7).ok_or("no client")?,
-        incarnation: ordinal(2)?,
-        number: ordinal(3)?,
         arena: name(b"arena2")?,
         base: quantity(24)?,
     };
     assert_eq!(rt;
         Line::read(b"release 7 2 3 arena2 24")?,
-        Line::Release(release)
+        Line::Request(third_request()?, Op::Release(release))
     );
     Ok(())
 }
 
 #[test]
 fn the_words_of_a_reply_go_to_their_fields(rt: HostRuntime) -> Result<(), Fail> {
-    let client = ClientId::new(7).ok_or("no client")?;
+    let id = third_request()?;
     let granted = Granted {
-        client,
-        incarnation: ordinal(2)?,
-        number: ordinal(3)?,
+        id,
         arena: name(b"arena2")?,
         base: quantity(24)?,
         len: quantity(8)?,
@@ -242,33 +252,70 @@ fn the_words_of_a_reply_go_to_their_fields(rt: HostRuntime) -> Result<(), Fail> 
         Reply::Granted(granted)
     );
     let refused = Refused {
-        client,
-        incarnation: ordinal(2)?,
-        number: ordinal(3)?,
+        id,
         refusal: Refusal::NotYours,
     };
     assert_eq!(rt;
         Reply::read(b"refused 7 2 3 notyours")?,
         Reply::Refused(refused)
     );
+    assert_eq!(rt; Reply::read(b"released 7 2 3")?, Reply::Released(id));
+    assert_eq!(rt;
+        Reply::read(b"error memory")?,
+        Reply::Error(ErrorWord::Memory)
+    );
     Ok(())
 }
 
 #[test]
-fn the_words_of_other_lines(rt: HostRuntime) -> Result<(), Fail> {
-    let mut line = words(b"root main 0 64")?;
-    assert_eq!(rt; line.next().ok_or("no word")?, b"root".as_slice());
+fn the_words_of_a_setup_line_go_to_their_fields(rt: HostRuntime) -> Result<(), Fail> {
+    let root = RootLine {
+        name: name(b"main")?,
+        base: quantity(0)?,
+        len: quantity(64)?,
+        quantum: quantity(1)?,
+        policy: PolicyWord::Next,
+        qcache_max: quantity(5)?,
+    };
     assert_eq!(rt;
-        name(line.next().ok_or("no name")?)?,
-        Name::new(b"main").ok_or("no name")?
+        SetupLine::read(b"root main 0 64 1 next 5")?,
+        SetupLine::Root(root)
     );
-    assert_eq!(rt; number(line.next().ok_or("no number")?)?, 0);
-    assert_eq!(rt; number(line.next().ok_or("no number")?)?, 64);
-    assert_eq!(rt; line.next().is_none(), true);
-    assert_eq!(rt; name(b"4u"), Err(LineFault::BadLine));
-    assert_eq!(rt; number(b"4u"), Err(LineFault::Number));
-    assert_eq!(rt; number(b"4611686018427387904"), Ok(1 << 62));
     Ok(())
+}
+
+/// What is no setup line, and why.
+const NO_SETUP_LINES: [(&str, LineFault); 8] = [
+    ("hello 1 1", LineFault::Word),
+    ("root 4u 0 64 1 best 0", LineFault::BadLine),
+    ("root m 0 64 1 first 0", LineFault::BadLine),
+    ("root m 0 64 1 best", LineFault::BadLine),
+    ("root m 4u 64 1 best 0", LineFault::Number),
+    ("span m 4611686018427387905 1", LineFault::Number),
+    ("span m 4611686018427387904 1 1", LineFault::BadLine),
+    ("child c 4u 1 best 0 0", LineFault::BadLine),
+];
+
+#[test]
+fn the_words_of_other_lines(rt: HostRuntime) {
+    for (text, fault) in NO_SETUP_LINES {
+        assert_eq!(rt; SetupLine::read(text.as_bytes()), Err(fault), "at {text}");
+    }
+    assert_eq!(rt; SetupLine::read(b"span m 4611686018427387904 1").is_ok(), true);
+    assert_eq!(rt;
+        ServedLine::read(b"audit"),
+        Ok(ServedLine::Operator(OperatorLine::Audit))
+    );
+    assert_eq!(rt;
+        ServedLine::read(b"clients"),
+        Ok(ServedLine::Operator(OperatorLine::Clients))
+    );
+    assert_eq!(rt; ServedLine::read(b"audit m"), Err(LineFault::BadLine));
+    assert_eq!(rt; ServedLine::read(b"Audit"), Err(LineFault::BadLine));
+    assert_eq!(rt; ServedLine::read(b"audits"), Err(LineFault::Word));
+    for (text, fault) in NO_LINES {
+        assert_eq!(rt; ServedLine::read(text.as_bytes()), Err(fault), "at {text}");
+    }
 }
 
 /// Takes a piece, and writes of each frame that ends in it the line that is read, or the error line.
