@@ -98,8 +98,8 @@ impl Ordinal {
     }
 }
 
-/// A unit, a number of units or a bound on them, in units; or the last incarnation or number, with 0
-/// where there was none. 0 to 2^62.
+/// A unit, a number of units or a bound on them, in units; or the last incarnation or number, with
+/// 0 where there was none. 0 to 2^62.
 #[derive(Clone, Copy, Debug, PartialEq, Eq, PartialOrd, Ord)]
 pub struct Quantity {
     units: u64,
