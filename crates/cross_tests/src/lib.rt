@@ -2,11 +2,14 @@
 //!
 //! `arenas` has rows of calls of an arena, over plain deeds and over deeds one of whose splits is
 //! refused. They stand here and not in `tag_arena`, since the gate proves a crate once more for its
-//! tests. `seat_deeds` has an arena over the deeds of running threads.
+//! tests. `seat_deeds` has an arena over the deeds of running threads. `lines` has lines, replies and
+//! streams of the protocol, and `desk` what a desk answers.
 #![tactic(auto)]
 
 #[cfg(test)]
 mod arenas;
+#[cfg(test)]
+mod desk;
 #[cfg(test)]
 mod lines;
 #[cfg(test)]

@@ -1,7 +1,7 @@
 -- Of which arenas the book's replies are, and what its answers say.
 use Rattle.std.proofs.Common.{◌≡◌, ℕ, Bool, true, false, cond, ◌&&◌, nat_eq, nat_lt, refl, sym, subst, ap, List, [], ◌∷◌, Option, Some, None, arith}
 use Rattle.std.specs.List.{AllByRecursion}
-use Rattle.lease_terms.specs.declared.requests.RequestId.{RequestId}
+use Rattle.lease_terms.specs.Requests.{RequestId}
 use Rattle.lease_book.specs.Receipts.{Kept, ReceiptState}
 use Rattle.lease_book.specs.Entry.{Entry, Hello, Settled, Swept, kept}
 use Rattle.lease_book.specs.Account.{Account, last, number_of}

@@ -6,7 +6,7 @@ use Rattle.std.proofs.lemmas.List.Sums.{sum_by-cons}
 use Rattle.std.proofs.lemmas.Bool.Decides.{nat_tests}
 use Rattle.deed_core.specs.Tag.{Tag}
 use Rattle.deed_core.specs.Weights.{Loses}
-use Rattle.lease_terms.specs.declared.requests.RequestId.{RequestId}
+use Rattle.lease_terms.specs.Requests.{RequestId}
 use Rattle.lease_book.specs.Entry.{Entry, Hello, Swept}
 use Rattle.lease_book.specs.Account.{Account}
 use Rattle.lease_book.specs.History.{incarnation}

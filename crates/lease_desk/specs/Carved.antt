@@ -13,7 +13,8 @@ use Rattle.lease_desk.specs.Moves.{GivesBack}
 use Rattle.lease_desk.specs.Machine.{Chooses, HasPlace}
 
 -- the segment was carved for the request from free units of the arena at the place
-pub record IsCarved (old new : List NamedArenaState) (place : ℕ) (x : NamedArenaState) (q : Request) (t : Tag) : Type 0 where
+pub record IsCarved (old new : List NamedArenaState) (place : ℕ) (x : NamedArenaState)
+    (q : Request) (t : Tag) : Type 0 where
   pub here : slice_get old place ≡ Some x
   pub home : t.arena ≡ place
   pub route : t.route ≡ Direct
@@ -33,6 +34,7 @@ IsRefused x q NotAligned = ⊥
 IsRefused x q NoMemory = IsGood x.quantum q × ((base : ℕ) × Chooses x q base)
 
 -- none was carved from the arena at the place
-pub record IsUncarved (arenas : List NamedArenaState) (place : ℕ) (x : NamedArenaState) (q : Request) (fault : ArenaFault) : Type 0 where
+pub record IsUncarved (arenas : List NamedArenaState) (place : ℕ) (x : NamedArenaState)
+    (q : Request) (fault : ArenaFault) : Type 0 where
   pub here : slice_get arenas place ≡ Some x
   pub why : IsRefused x q fault

@@ -10,7 +10,8 @@ use Rattle.tag_arena.specs.declared.policies.Policy.{Policy}
 use Rattle.lease_book.specs.Account.{Lease, Account}
 use Rattle.lease_book.specs.BookState.{BookState, leased}
 
--- an arena: its spans, its free ranges from the oldest to the newest, and the ranges that are allocated
+-- an arena: its spans, its free ranges from the oldest to the newest, and the ranges that are
+-- allocated
 pub record NamedArenaState : Type 0 where
   pub name : List ℕ
   pub quantum : ℕ
@@ -35,11 +36,14 @@ pub record Stay : Type 0 where
 
 -- the leases of one client in the arena
 abbrev pub leases_in : ℕ → Account → List Stay
-leases_in arena a = map (λ l. record { place = Leased a.client l.incarnation; holding = l.segment.holding }) (filter (λ (l : Lease). l.segment.arena == arena) a.leases)
+leases_in arena a =
+    map (λ l. record { place = Leased a.client l.incarnation; holding = l.segment.holding })
+    (filter (λ (l : Lease). l.segment.arena == arena) a.leases)
 
 -- where each range of the arena is
 abbrev pub stays_of : ℕ → NamedArenaState → BookState → List Stay
-stays_of arena x book = map (λ h. record { place = Free; holding = h }) x.free ++ flat_map (leases_in arena) book.accounts
+stays_of arena x book = map (λ h. record { place = Free; holding = h }) x.free
+    ++ flat_map (leases_in arena) book.accounts
 
 abbrev pub covers_stay : ℕ → Stay → ℕ
 covers_stay u s = covers_held u s.holding
@@ -61,9 +65,11 @@ is_direct (Cached n) = false
 abbrev pub stray : ℕ → Tag → ℕ
 stray count t = if is_direct t.route && nat_lt t.arena count then 0 else 1
 
--- what is allocated in each arena is the segments of it that are out, each once, and no other segment is out
+-- what is allocated in each arena is the segments of it that are out, each once, and no other
+-- segment is out
 pub record Exports (arenas : List NamedArenaState) (out : List Tag) : Type 0 where
-  pub each : (k : ℕ) (x : NamedArenaState) (f : Holding → ℕ) → slice_get arenas k ≡ Some x → sum_by f x.allocated ≡ sum_by (within k f) out
+  pub each : (k : ℕ) (x : NamedArenaState) (f : Holding → ℕ) → slice_get arenas k ≡ Some x
+      → sum_by f x.allocated ≡ sum_by (within k f) out
   pub none : sum_by (stray (length arenas)) out ≡ 0
 
 -- what holds of a desk between any two lines

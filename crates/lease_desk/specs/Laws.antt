@@ -14,10 +14,11 @@ AreApart s t = s.arena ≡ t.arena → (u : ℕ) → Covers s.holding.range u �
 
 -- however many frames were answered, no two leases of one arena overlap
 abbrev pub LeasesStayApart : Type 0
-LeasesStayApart = (old new : DeskState) (frames : List Frame) (text : List ℕ) → IsOrderly old → Serves LeaseStep old frames text new
-    → AllPairs AreApart (leased new.book)
+LeasesStayApart = (old new : DeskState) (frames : List Frame) (text : List ℕ) → IsOrderly old
+    → Serves LeaseStep old frames text new → AllPairs AreApart (leased new.book)
 
 -- and each unit of an arena's spans is in one place: free, or leased
 abbrev pub UnitsHaveOnePlace : Type 0
-UnitsHaveOnePlace = (old new : DeskState) (frames : List Frame) (text : List ℕ) → IsOrderly old → Serves LeaseStep old frames text new
+UnitsHaveOnePlace = (old new : DeskState) (frames : List Frame) (text : List ℕ) → IsOrderly old
+    → Serves LeaseStep old frames text new
     → (k : ℕ) (x : NamedArenaState) → slice_get new.arenas k ≡ Some x → OnePlace k x new.book

@@ -12,7 +12,7 @@ use Rattle.tag_arena.specs.Choice.{IsChoice}
 use Rattle.tag_arena.specs.Place.{Serves}
 use Rattle.lease_terms.specs.declared.refusals.Refusal.{Refusal}
 use Rattle.lease_terms.specs.declared.refusals.Refusal.TheVariants.{NoFit, BadRequest, NoArena, NotYours, Leases}
-use Rattle.lease_terms.specs.declared.requests.RequestId.{RequestId}
+use Rattle.lease_terms.specs.Requests.{RequestId}
 use Rattle.lease_book.specs.Receipts.{Kept}
 use Rattle.lease_book.specs.Entry.{Hello, Settled, Grant, Return, Refuse}
 use Rattle.lease_book.specs.Account.{Lease, is_lease}

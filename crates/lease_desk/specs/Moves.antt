@@ -11,10 +11,13 @@ pub record TakesBack (arena : ℕ) (back : List Tag) (old new : NamedArenaState)
   pub quantum : new.quantum ≡ old.quantum
   pub policy : new.policy ≡ old.policy
   pub spans : new.spans ≡ old.spans
-  pub allocated : (f : Holding → ℕ) → sum_by f old.allocated ≡ sum_by f new.allocated + sum_by (within arena f) back
-  pub free : (u : ℕ) → covering_held u new.free ≡ covering_held u old.free + sum_by (within arena (covers_held u)) back
+  pub allocated : (f : Holding → ℕ)
+      → sum_by f old.allocated ≡ sum_by f new.allocated + sum_by (within arena f) back
+  pub free : (u : ℕ)
+      → covering_held u new.free ≡ covering_held u old.free + sum_by (within arena (covers_held u)) back
 
 -- the same of all arenas
 pub record GivesBack (back : List Tag) (old new : List NamedArenaState) : Type 0 where
   pub count : length new ≡ length old
-  pub each : (k : ℕ) (x y : NamedArenaState) → slice_get old k ≡ Some x → slice_get new k ≡ Some y → TakesBack k back x y
+  pub each : (k : ℕ) (x y : NamedArenaState) → slice_get old k ≡ Some x → slice_get new k ≡ Some y
+      → TakesBack k back x y

@@ -1,6 +1,6 @@
 -- The replies that the book's answers are.
 use Rattle.std.specs.Prelude.{◌≡◌, ℕ, List}
-use Rattle.lease_terms.specs.declared.requests.RequestId.{RequestId}
+use Rattle.lease_terms.specs.Requests.{RequestId}
 use Rattle.lease_book.specs.declared.answers.Answer.{Answer}
 use Rattle.lease_book.specs.declared.answers.Answer.TheVariants as answer
 use Rattle.lease_proto.specs.declared.replies.Reply.{Reply}

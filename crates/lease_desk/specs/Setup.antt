@@ -50,17 +50,25 @@ RefusesArena arenas n TooMany = (place_in n.name arenas ≡ None) × (32 ≤ len
 RefusesArena arenas n NoArena = ⊥
 RefusesArena arenas n BadQuantum = HasRoom arenas n × (¬ IsPowerOfTwo n.quantum)
 RefusesArena arenas n NotYet = HasRoom arenas n × IsPowerOfTwo n.quantum × (0 < n.qcache_max)
-RefusesArena arenas n BadRange = HasRoom arenas n × IsPowerOfTwo n.quantum × (n.qcache_max ≡ 0) × (¬ IsWholeRange n.quantum n.range)
+RefusesArena arenas n BadRange = HasRoom arenas n × IsPowerOfTwo n.quantum × (n.qcache_max ≡ 0)
+    × (¬ IsWholeRange n.quantum n.range)
 RefusesArena arenas n NoMemory = CanAdd arenas n
 
--- the number of the root of an arena's next span, by the arena's place and how many spans it has: each span's own,
--- since an arena has at most 65536
+-- the number of the root of an arena's next span, by the arena's place and how many spans it has:
+-- each span's own, since an arena has at most 65536
 abbrev pub root_of : ℕ → ℕ → ℕ
 root_of place spans = place * 65536 + spans
 
 -- an arena whose one span is free
 abbrev pub fresh : NewArena → Holding → NamedArenaState
-fresh n h = record { name = n.name; quantum = n.quantum; policy = n.policy; spans = h ∷ []; free = h ∷ []; allocated = [] }
+fresh n h = record {
+  name = n.name;
+  quantum = n.quantum;
+  policy = n.policy;
+  spans = h ∷ [];
+  free = h ∷ [];
+  allocated = [];
+}
 
 -- the arena is the last
 pub record AddsArena (n : NewArena) (old new : List NamedArenaState) : Type 0 where
@@ -79,7 +87,8 @@ IsClearOf x e = All (λ s. ¬ Overlap s.range e) x.spans
 abbrev pub CanSpan : NamedArenaState → Extent → Type 0
 CanSpan x e = IsWholeRange x.quantum e × IsClearOf x e
 
--- why an arena takes no further span: the first of these that is so; memory is asked for only where none is
+-- why an arena takes no further span: the first of these that is so; memory is asked for only where
+-- none is
 abbrev pub RefusesMore : NamedArenaState → Extent → SetupFault → Type 0
 RefusesMore x e TooMany = 65536 ≤ length x.spans
 RefusesMore x e BadRange = (length x.spans < 65536) × (¬ CanSpan x e)
@@ -101,4 +110,5 @@ pub record AddsSpan (name : List ℕ) (e : Extent) (old new : List NamedArenaSta
   pub finds : Finds old name place arena
   pub few : length arena.spans < 65536
   pub can : CanSpan arena e
-  pub added : new ≡ slice_set old place (with_span arena (record { root = root_of place (length arena.spans); range = e }))
+  pub added : new ≡ slice_set old place
+      (with_span arena (record { root = root_of place (length arena.spans); range = e }))

@@ -37,7 +37,9 @@ pub record IsSpace (k : ℕ) (s : Space) : Type 0 where
   pub id : s.arena.id ≡ k
   pub own : s.arena.imported ≡ []
   pub keyed : IsKeyed s.arena.allocated
-  pub covers : (u : ℕ) → covering_held u s.arena.free + covering_held u (ranges_of s.arena.allocated) ≡ covering_held u (spans_of s.arena)
+  pub covers : (u : ℕ)
+      → covering_held u s.arena.free + covering_held u (ranges_of s.arena.allocated)
+      ≡ covering_held u (spans_of s.arena)
   pub once : (u : ℕ) → covering_held u (spans_of s.arena) ≤ 1
   pub count : s.spans ≡ length s.arena.owned
   pub few : s.spans ≤ 65536

@@ -106,8 +106,8 @@ impl Desk {
         add_span(&mut self.spaces, name, base, len)
     }
 
-    /// Answers one line, which is given without its line feed: appends its reply lines. A refused answer
-    /// takes no effect, since room for a reply is made before the line is served.
+    /// Answers one line, which is given without its line feed: appends its reply lines. Room for a
+    /// reply is made before the line is served, so that a refused answer takes no effect.
     pub fn answer(&mut self, line: &[u8], out: &mut Vec<u8>) -> Result<(), AllocError>
         ensures ok { OnOk result ((reply : List ℕ) × (out.new.items ≡ out.old.items ++ reply)
             × LeaseStep self.old line.now reply self.new) }
@@ -153,7 +153,9 @@ impl Desk {
         match line {
             Line::Hello(hello) => greet(&mut self.spaces, &mut self.book, hello),
             Line::Request(id, Op::Lease(op)) => lease(&mut self.spaces, &mut self.book, *id, op),
-            Line::Request(id, Op::Release(op)) => release(&mut self.spaces, &mut self.book, *id, op),
+            Line::Request(id, Op::Release(op)) => {
+                release(&mut self.spaces, &mut self.book, *id, op)
+            }
         }
     }
 
@@ -183,8 +185,8 @@ impl Desk {
         }
     }
 
-    /// Ends the desk: frees all leases, takes out all spans, and closes their deeds and the book's mark.
-    /// It takes no memory.
+    /// Ends the desk: frees all leases, takes out all spans, and closes their deeds and the book's
+    /// mark. It takes no memory.
     pub fn close(self) {
         let Desk {
             mut spaces,

@@ -14,7 +14,8 @@ use std::alloc::AllocError;
 
 /// Appends the lines that tell where each arena's units are.
 pub(crate) fn audit(spaces: &[Space], out: &mut Vec<u8>) -> Result<(), AllocError>
-    ensures ok { OnOk result (out.new.items ≡ out.old.items ++ flat_map arena_told (states_of spaces.now)) }
+    ensures ok { OnOk result (out.new.items
+        ≡ out.old.items ++ flat_map arena_told (states_of spaces.now)) }
     ensures err { OnErr result (StartsWith out.new.items out.old.items) }
 {
     for space in spaces {

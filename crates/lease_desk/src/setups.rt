@@ -13,7 +13,8 @@ use lease_terms::Name;
 use std::alloc::Global;
 use tag_arena::{Arena, ArenaFault, Policy};
 
-/// The arena that a setup line asks for: its name, its one span, and how it carves. Units and numbers of units.
+/// The arena that a setup line asks for: its name, its one span, and how it carves. Units and numbers
+/// of units.
 #[derive(Clone, Copy)]
 pub(crate) struct Root {
     pub name: Name,
@@ -78,7 +79,8 @@ fn new_space(
     number: u32,
 ) -> Result<Space, SetupFault>
     requires { IsPowerOfTwo root.now.quantum }
-    ensures made { IfOk result (λ s. s ≡ space_of id (asked root.now) (record { root = number; range = range })) }
+    ensures made { IfOk result (λ s.
+        s ≡ space_of id (asked root.now) (record { root = number; range = range })) }
     ensures fault { IfErr result (λ fault. fault ≡ SetupFault.NoMemory) }
 {
     let mut arena = Arena::new(alloc, id, root.quantum, root.policy);
@@ -108,7 +110,8 @@ pub(crate) fn add_root(
 ) -> Result<(), SetupFault>
     requires sound { AreSpaces spaces.old.items }
     ensures sound { OnOk result (AreSpaces spaces.new.items) }
-    ensures added { OnOk result (AddsArena (asked root.now) (states_of spaces.old.items) (states_of spaces.new.items)) }
+    ensures added { OnOk result (AddsArena (asked root.now)
+        (states_of spaces.old.items) (states_of spaces.new.items)) }
     ensures refused { IfErr result (RefusesArena (states_of spaces.old.items) (asked root.now)) }
     ensures err { OnErr result (spaces.new.items ≡ spaces.old.items) }
 {
@@ -133,8 +136,10 @@ pub(crate) fn add_span(
     requires few { length spaces.old.items ≤ 32 }
     requires sound { AreSpaces spaces.old.items }
     ensures sound { OnOk result (AreSpaces spaces.new.items) }
-    ensures added { OnOk result (AddsSpan name.now (record { base = base; len = len }) (states_of spaces.old.items) (states_of spaces.new.items)) }
-    ensures refused { IfErr result (RefusesSpan (states_of spaces.old.items) name.now (record { base = base; len = len })) }
+    ensures added { OnOk result (AddsSpan name.now (record { base = base; len = len })
+        (states_of spaces.old.items) (states_of spaces.new.items)) }
+    ensures refused { IfErr result (RefusesSpan (states_of spaces.old.items) name.now
+        (record { base = base; len = len })) }
     ensures err { OnErr result (spaces.new.items ≡ spaces.old.items) }
 {
     let Some(place) = place_of(spaces, name) else {
@@ -148,9 +153,14 @@ fn extend(space: &mut Space, place: u32, base: u64, len: u64) -> Result<(), Setu
     requires place { place < 32 }
     requires sound { IsSpace place space.old }
     ensures sound { OnOk result (IsSpace place space.new) }
-    ensures added { OnOk result (state_of space.new ≡ with_span (state_of space.old) (record { root = root_of place (length (state_of space.old).spans); range = record { base = base; len = len } })) }
-    ensures can { OnOk result ((length (state_of space.old).spans < 65536) × CanSpan (state_of space.old) (record { base = base; len = len })) }
-    ensures refused { IfErr result (RefusesMore (state_of space.old) (record { base = base; len = len })) }
+    ensures added { OnOk result (state_of space.new ≡ with_span (state_of space.old) (record {
+        root = root_of place (length (state_of space.old).spans);
+        range = record { base = base; len = len }
+    })) }
+    ensures can { OnOk result ((length (state_of space.old).spans < 65536)
+        × CanSpan (state_of space.old) (record { base = base; len = len })) }
+    ensures refused { IfErr result (RefusesMore (state_of space.old)
+        (record { base = base; len = len })) }
     ensures err { OnErr result (space.new ≡ space.old) }
 {
     if space.spans >= MOST_SPANS {

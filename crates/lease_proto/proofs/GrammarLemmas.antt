@@ -8,9 +8,8 @@ use Rattle.std.proofs.lemmas.Fmt.{length-decimal-le, decimal_nonempty}
 use Rattle.std.specs.List.{All, AllByRecursion, list_all}
 use Rattle.std.specs.Str.{all_ascii_digits}
 use Rattle.std.specs.Char.{is_ascii_digit}
-use Rattle.lease_terms.specs.declared.requests.RequestId.{RequestId}
 use Rattle.lease_terms.specs.Names.{is_word, is_word_byte, is_letter, is_name}
-use Rattle.lease_terms.specs.Requests.{IsRequestId}
+use Rattle.lease_terms.specs.Requests.{RequestId, IsRequestId}
 use Rattle.lease_proto.specs.Words.{parts_of}
 use Rattle.lease_proto.specs.Values.{client_in, ordinal_in, quantity_in, id_in}
 use Rattle.lease_proto.specs.Texts.{id_words, sentence}

@@ -6,3 +6,4 @@ pub mod GrammarLemmas
 pub mod LineLemmas
 pub mod ReadLemmas
 pub mod ReplyLemmas
+pub mod OperatorLemmas

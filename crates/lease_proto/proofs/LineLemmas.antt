@@ -5,10 +5,9 @@ use Rattle.std.proofs.lemmas.Bool.{le-ltb, and_parts, and_from, cases_eq, eq-eqb
 use Rattle.std.specs.List.{list_all, AllByRecursion}
 use Rattle.std.specs.Str.{bytes_eq}
 use Rattle.std.specs.List.{join_with_byte}
-use Rattle.lease_terms.specs.declared.requests.RequestId.{RequestId}
 use Rattle.lease_terms.specs.Names.{is_word}
 use Rattle.lease_terms.specs.Ranges.{IsQuantity}
-use Rattle.lease_terms.specs.Requests.{IsRequestId}
+use Rattle.lease_terms.specs.Requests.{RequestId, IsRequestId}
 use Rattle.lease_proto.specs.declared.faults.LineFault.{LineFault}
 use Rattle.lease_proto.specs.declared.lines.Line.{Line}
 use Rattle.lease_proto.specs.declared.lines.Line.TheVariants.{Hello, Request}
@@ -215,7 +214,7 @@ option_step : {B P : Type 0} (default : ℕ) (word : Option (List ℕ)) (f : ℕ
 option_step default word f b e k = let (n, is, next) = step (quantity_or default word) f b e in k n is next
 
 -- what the words of a line say of it
-abbrev Says : List ℕ → List (List ℕ) → Line → Type 0
+abbrev pub Says : List ℕ → List (List ℕ) → Line → Type 0
 Says first words line = IsLine line × (first ≡ first_word line) × MayFollow line words
 
 hello_says : (words : List (List ℕ)) (read : Line) → hello_of words ≡ Ok read → Says (codes "hello") words read
@@ -284,7 +283,7 @@ lease_says words read e =
       (arena ∷ decimal s ∷ w5, (w5, o1.0, refl), cc),
     )))))))))))))
 
-words_say : (first : List ℕ) (words : List (List ℕ)) (line : Line) → line_of_first first words ≡ Ok line → Says first words line
+pub words_say : (first : List ℕ) (words : List (List ℕ)) (line : Line) → line_of_first first words ≡ Ok line → Says first words line
 unfolding line_of_first
 words_say first words line e = elim (told first (codes "hello") _ _ _ e) [
   | inl p ↦ subst (λ f. Says f words line) (sym p.0) (hello_says words line p.1)

@@ -3,10 +3,9 @@ use Rattle.std.proofs.Common.{◌≡◌, ◌&&◌, ◌^◌, ℕ, ◌≤◌, true
 use Rattle.std.proofs.lemmas.Bool.{leb-true, cases_Bool, and_parts}
 use Rattle.lease_terms.specs.declared.refusals.Refusal.{Refusal}
 use Rattle.lease_terms.specs.declared.refusals.Refusal.TheVariants.{NoFit, BadRequest, NoArena, NotYours, Leases}
-use Rattle.lease_terms.specs.declared.requests.RequestId.{RequestId}
 use Rattle.lease_terms.specs.Names.{is_name}
 use Rattle.lease_terms.specs.Ranges.{IsClient, IsOrdinal, IsQuantity}
-use Rattle.lease_terms.specs.Requests.{IsRequestId}
+use Rattle.lease_terms.specs.Requests.{RequestId, IsRequestId}
 use Rattle.lease_proto.specs.declared.faults.LineFault.{LineFault}
 use Rattle.lease_proto.specs.declared.faults.LineFault.TheVariants as faults
 use Rattle.lease_proto.specs.declared.faults.ErrorWord.{ErrorWord}
@@ -195,7 +194,7 @@ pub join_with_byte-sentence : (first : List ℕ) (words : List (List ℕ)) → j
 join_with_byte-sentence first [] = sym (append-nil first)
 join_with_byte-sentence first (word ∷ words) = ap (λ t. first ++ (32 ∷ t)) (join_with_byte-sentence word words)
 
-words_says : (bytes : List ℕ) (words : List (List ℕ)) → words_of bytes ≡ Ok words → bytes ≡ join_with_byte 32 words
+pub words_says : (bytes : List ℕ) (words : List (List ℕ)) → words_of bytes ≡ Ok words → bytes ≡ join_with_byte 32 words
 words_says bytes words e = elim (cases_Bool (nat_lt 255 (length bytes))) [
   | inl long ↦ let bad : Err faults.TooLong ≡ Ok words = rw long at e in absurd (cc)
   | inr short ↦

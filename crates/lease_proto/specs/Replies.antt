@@ -3,10 +3,9 @@ use Rattle.std.specs.Prelude.{◌↔◌, ◌≡◌, ℕ, true, List, [], ◌∷�
 use Rattle.std.specs.Str.{bytes_eq}
 use Rattle.lease_terms.specs.declared.refusals.Refusal.{Refusal}
 use Rattle.lease_terms.specs.declared.refusals.Refusal.TheVariants.{NoFit, BadRequest, NoArena, NotYours, Leases}
-use Rattle.lease_terms.specs.declared.requests.RequestId.{RequestId}
 use Rattle.lease_terms.specs.Names.{is_name}
 use Rattle.lease_terms.specs.Ranges.{IsClient, IsOrdinal, IsQuantity}
-use Rattle.lease_terms.specs.Requests.{IsRequestId}
+use Rattle.lease_terms.specs.Requests.{RequestId, IsRequestId}
 use Rattle.lease_proto.specs.declared.faults.LineFault.{LineFault}
 use Rattle.lease_proto.specs.declared.faults.LineFault.TheVariants.{BadLine, Word}
 use Rattle.lease_proto.specs.declared.faults.ErrorWord.{ErrorWord}

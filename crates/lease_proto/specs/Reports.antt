@@ -3,11 +3,18 @@ use Rattle.std.specs.Prelude.{ℕ, List, ◌++◌, codes, decimal}
 use Rattle.lease_proto.specs.declared.reports.AuditLine.{AuditLine}
 use Rattle.lease_proto.specs.declared.reports.ClientLine.{ClientLine}
 
--- how many units of an arena are where
+-- how many units of an arena it has itself
+abbrev pub kept_text : AuditLine → List ℕ
+kept_text r = codes " free " ++ decimal r.free ++ codes " slab " ++ decimal r.slab
+    ++ codes " magazine " ++ decimal r.magazine
+
+-- how many are with others
+abbrev pub given_text : AuditLine → List ℕ
+given_text r = codes " exported " ++ decimal r.exported ++ codes " leased " ++ decimal r.leased
+    ++ codes " hand " ++ decimal r.hand ++ codes "\n"
+
 abbrev pub sums_text : AuditLine → List ℕ
-sums_text r = codes " free " ++ decimal r.free ++ codes " slab " ++ decimal r.slab
-    ++ codes " magazine " ++ decimal r.magazine ++ codes " exported " ++ decimal r.exported
-    ++ codes " leased " ++ decimal r.leased ++ codes " hand " ++ decimal r.hand ++ codes "\n"
+sums_text r = kept_text r ++ given_text r
 
 -- where the units of an arena are
 abbrev pub audit_text : AuditLine → List ℕ

@@ -1,10 +1,9 @@
 -- The words that a line is written with.
 use Rattle.std.specs.Prelude.{◌⊎◌, ◌↔◌, ◌≡◌, ◌==◌, ◌^◌, ℕ, List, [], ◌∷◌, ◌++◌, if◌then◌else◌, Ok, codes, decimal, true}
 use Rattle.std.specs.List.{flat_map}
-use Rattle.lease_terms.specs.declared.requests.RequestId.{RequestId}
 use Rattle.lease_terms.specs.Names.{is_name}
 use Rattle.lease_terms.specs.Ranges.{IsClient, IsOrdinal, IsQuantity}
-use Rattle.lease_terms.specs.Requests.{IsRequestId}
+use Rattle.lease_terms.specs.Requests.{RequestId, IsRequestId}
 use Rattle.lease_proto.specs.declared.lines.Line.{Line}
 use Rattle.lease_proto.specs.declared.lines.Line.TheVariants as lines
 use Rattle.lease_proto.specs.declared.lines.Op.{Op}

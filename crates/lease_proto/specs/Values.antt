@@ -1,6 +1,6 @@
 -- What the words of a line stand for.
 use Rattle.std.specs.Prelude.{◌^◌, ◌&&◌, ℕ, nat_le, nat_lt, List, length, if◌then◌else◌, Option, Some, None, Result, Ok, Err}
-use Rattle.lease_terms.specs.declared.requests.RequestId.{RequestId}
+use Rattle.lease_terms.specs.Requests.{RequestId}
 use Rattle.lease_terms.specs.Names.{is_name}
 use Rattle.lease_proto.specs.declared.faults.LineFault.{LineFault}
 use Rattle.lease_proto.specs.declared.faults.LineFault.TheVariants.{TooLong, BadLine, Number}

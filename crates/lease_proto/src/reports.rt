@@ -1,7 +1,7 @@
 //! What an operator's lines are answered.
 ghost use Rattle.std.specs.Prelude.{◌≡◌, ◌++◌, OnOk, OnErr};
 ghost use Rattle.std.specs.Io.{StartsWith};
-ghost use Rattle.lease_proto.specs.Reports.{audit_text, sums_text, client_text};
+ghost use Rattle.lease_proto.specs.Reports.{audit_text, sums_text, kept_text, given_text, client_text};
 
 use lease_terms::{ClientId, Name, Ordinal, Quantity};
 use std::alloc::AllocError;
@@ -37,19 +37,36 @@ impl AuditLine {
 
     fn write_sums(&self, out: &mut Vec<u8>) -> Result<(), AllocError>
         ensures ok { OnOk result (out.new.items ≡ out.old.items ++ sums_text self.now) }
+        ensures front { OnErr result (StartsWith out.new.items out.old.items) }
+    {
+        self.write_kept(out)?;
+        self.write_given(out)
+    }
+
+    /// How many units are in the arena's own hands.
+    fn write_kept(&self, out: &mut Vec<u8>) -> Result<(), AllocError>
+        ensures ok { OnOk result (out.new.items ≡ out.old.items ++ kept_text self.now) }
         ensures unchanged { OnErr result (out.new.items ≡ out.old.items) }
     {
         let alloc = *out.allocator();
         let free = self.free;
         let slab = self.slab;
         let magazine = self.magazine;
+        let text = format!(in alloc; " free {free} slab {slab} magazine {magazine}")?;
+        out.extend_from_slice(text.as_bytes())
+    }
+
+    /// How many are with others.
+    fn write_given(&self, out: &mut Vec<u8>) -> Result<(), AllocError>
+        ensures ok { OnOk result (out.new.items ≡ out.old.items ++ given_text self.now) }
+        ensures unchanged { OnErr result (out.new.items ≡ out.old.items) }
+    {
+        let alloc = *out.allocator();
         let exported = self.exported;
         let leased = self.leased;
         let hand = self.hand;
-        let sums = format!(in alloc;
-            " free {free} slab {slab} magazine {magazine} exported {exported} leased {leased} hand {hand}\n"
-        )?;
-        out.extend_from_slice(sums.as_bytes())
+        let text = format!(in alloc; " exported {exported} leased {leased} hand {hand}\n")?;
+        out.extend_from_slice(text.as_bytes())
     }
 }
 

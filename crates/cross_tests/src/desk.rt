@@ -1,6 +1,6 @@
 //! Lines in, replies out.
-use crate::{Desk, SetupFault};
-use lease_proto::Name;
+use lease_desk::{Desk, SetupFault};
+use lease_terms::Name;
 use std::alloc::AllocGlobal;
 use std::process::Abort;
 use tag_arena::Policy;
