@@ -6,16 +6,20 @@ use Rattle.std.proofs.lemmas.List.Sums.{sum_by_push, sum_by-remove}
 use Rattle.std.proofs.lemmas.Bool.{eqb-true}
 use Rattle.deed_core.specs.Tag.{Tag}
 use Rattle.deed_core.specs.Weights.{Gains, Loses}
-use Rattle.lease_book.specs.Kept.{Kept, Voucher}
+use Rattle.lease_book.specs.Receipts.{Kept, ReceiptState}
 use Rattle.lease_book.specs.Entry.{Settlement, Entry, Hello, Settled, Swept, Grant, Return, Refuse, kept}
-use Rattle.lease_book.specs.Account.{Lease, Account, number_of, is_lease, without, leases_after}
+use Rattle.lease_book.specs.Account.{Lease, Account, number_of, is_lease, without, lease_of, leases_after}
 use Rattle.lease_book.specs.Shelf.{account_with, changed_at, standing_of, with_standing, with_leases}
-use Rattle.lease_book.specs.History.{incarnation, clients_of, kept_of, account}
-use Rattle.lease_book.specs.Ledger.{Ledger, HasHistory, Enters, nobody, or_nobody, account_in, segments, leased_by, leased}
+use Rattle.lease_book.specs.History.{incarnation, clients_of, kept_of, account, IsInRange}
+use Rattle.lease_book.specs.BookState.{BookState, HasHistory, Enters, nobody, or_nobody, account_in, segments, leased_by, leased}
 use Rattle.lease_book.specs.Answers.{receipt, IsNew}
 use Rattle.lease_book.specs.Calls.{IsFound, IsGranted, IsRefused, IsReleased, IsEnded}
 use Rattle.lease_book.specs.declared.accounts.Standing.{Standing}
-use Rattle.lease_book.specs.declared.receipts.Refusal.{Refusal}
+use Rattle.lease_terms.specs.declared.refusals.Refusal.{Refusal}
+use Rattle.lease_terms.specs.Requests.{RequestId}
+use Rattle.lease_terms.specs.Ranges.{IsClient, IsOrdinal, IsQuantity}
+use Rattle.lease_terms.specs.Requests.{IsRequestId}
+use Rattle.deed_core.specs.Extent.{IsRange}
 use Rattle.lease_book.specs.declared.receipts.Reply.TheVariants.{Granted}
 use Rattle.lease_book.specs.declared.receipts.Terms.{Terms}
 use Rattle.std.proofs.lemmas.Option.{slice_get_within, get_or_from_slice_get}
@@ -43,7 +47,7 @@ find_passes test (x ∷ xs) a at = by (test x) refl at (find_passes test xs a)
     by false is at rest = rest at
 
 -- where an account was found
-pub found_of : (book : Ledger) (c place : ℕ) (s : Standing) → place < length book.accounts → find (λ a. nat_eq c a.client) book.accounts ≡ slice_get book.accounts place
+pub found_of : (book : BookState) (c place : ℕ) (s : Standing) → place < length book.accounts → find (λ a. nat_eq c a.client) book.accounts ≡ slice_get book.accounts place
     → option_map standing_of (slice_get book.accounts place) ≡ Some s → IsFound book c place × (standing_of (account_in c book) ≡ s)
 found_of book c place s within found standing = by (slice_get book.accounts place) refl standing
   where
@@ -108,21 +112,24 @@ loses_lease accounts i k a x at there f =
 
 -- A settled number.
 
-pub settles : (old new : Ledger) (c i n place : ℕ) (how : Settlement) → IsFound old c place → IsNew (account_in c old) i n → 0 < i → new.mark ≡ old.mark
-    → new.accounts ≡ changed_at old.accounts place (λ a. with_standing (record { incarnation = i; kept = Some (kept n how) }) (with_leases (leases_after i how) a))
-    → Enters (Settled c i n how) old new
-settles old new c i n place how found fresh some mark after = record {
+-- an account after the request was settled
+abbrev pub settled_as : RequestId → Settlement → Account → Account
+settled_as id how a = with_standing (record { incarnation = id.incarnation; kept = Some (kept id.number how) }) (with_leases (leases_after id how) a)
+
+pub settles : (old new : BookState) (id : RequestId) (index : ℕ) (how : Settlement) → IsFound old id.client index → IsNew (account_in id.client old) id
+    → IsRequestId id → IsInRange how → new.mark ≡ old.mark → new.accounts ≡ changed_at old.accounts index (settled_as id how) → Enters (Settled id how) old new
+settles old new id index how found fresh told in_range mark after = record {
   mark = mark;
   history = λ es h.
-      let is : account_in c old ≡ account es c = account_is es old c h in
-      let current : i ≡ incarnation c es = fresh.current ∙ ap (λ (a : Account). a.incarnation) is in
-      let next : n ≡ number_of (kept_of c es) + 1 = fresh.next ∙ ap (λ (a : Account). number_of a.kept + 1) is in
-      entered (Settled c i n how) es old new c place (account_in c old) (λ a. with_standing (record { incarnation = i; kept = Some (kept n how) }) (with_leases (leases_after i how) a)) h found.at found.client refl
-      (settled_others es c i n how) (settled_own es c i n how current next) after (some, current, next, h.orderly);
+      let is : account_in id.client old ≡ account es id.client = account_is es old id.client h in
+      let current : id.incarnation ≡ incarnation id.client es = fresh.current ∙ ap (λ (a : Account). a.incarnation) is in
+      let next : id.number ≡ number_of (kept_of id.client es) + 1 = fresh.next ∙ ap (λ (a : Account). number_of a.kept + 1) is in
+      entered (Settled id how) es old new id.client index (account_in id.client old) (settled_as id how) h found.at found.client refl
+      (settled_others es id how) (settled_own es id how current next) after ((told, in_range), current, next, h.orderly);
 }
 
 -- a lease that ended
-pub ends : (old new : Ledger) (c i arena base place k : ℕ) → IsFound old c place → IsFirst (is_lease i arena base) (account_in c old).leases k → new.mark ≡ old.mark
+pub ends : (old new : BookState) (c i arena base place k : ℕ) → IsFound old c place → IsFirst (is_lease i arena base) (account_in c old).leases k → new.mark ≡ old.mark
     → new.accounts ≡ changed_at old.accounts place (with_leases (λ ls. remove ls k)) → Enters (Swept c i arena base) old new
 ends old new c i arena base place k found first mark after = record {
   mark = mark;
@@ -137,24 +144,24 @@ ends old new c i arena base place k found first mark after = record {
 stays_among : (es : List Entry) (c i : ℕ) → has c (clients_of es) ≡ true → clients_of (Hello c i ∷ es) ≡ clients_of es
 stays_among es c i is = λ j. cond (is j) (clients_of es) (clients_of es ++ c ∷ [])
 
-pub greets_again : (old : Ledger) (c i place : ℕ) → IsFound old c place → 0 < i → i ≡ (account_in c old).incarnation → Enters (Hello c i) old old
-greets_again old c i place found some same = record {
+pub greets_again : (old : BookState) (c i place : ℕ) → IsFound old c place → IsClient c → IsOrdinal i → i ≡ (account_in c old).incarnation → Enters (Hello c i) old old
+greets_again old c i place found client ordinal same = record {
   mark = refl;
   history = λ es h.
       let current : i ≡ incarnation c es = same ∙ ap (λ (a : Account). a.incarnation) (account_is es old c h) in
       entered (Hello c i) es old old c place (account_in c old) (λ a. a) h found.at found.client (stays_among es c i (among es old c place (account_in c old) h found.at found.client))
-      (hello_others es c i) (hello_same es c i current) (sym (changed_none old.accounts place)) (some, omega arith, h.orderly);
+      (hello_others es c i) (hello_same es c i current) (sym (changed_none old.accounts place)) ((client, ordinal), omega arith, h.orderly);
 }
 
-pub greets_above : (old new : Ledger) (c i place : ℕ) → IsFound old c place → (account_in c old).incarnation < i → new.mark ≡ old.mark
+pub greets_above : (old new : BookState) (c i place : ℕ) → IsFound old c place → IsClient c → IsOrdinal i → (account_in c old).incarnation < i → new.mark ≡ old.mark
     → new.accounts ≡ changed_at old.accounts place (with_standing (record { incarnation = i; kept = None })) → Enters (Hello c i) old new
-greets_above old new c i place found above mark after = record {
+greets_above old new c i place found client ordinal above mark after = record {
   mark = mark;
   history = λ es h.
       let higher : incarnation c es < i = subst (λ (a : Account). a.incarnation < i) (account_is es old c h) above in
       entered (Hello c i) es old new c place (account_in c old) (with_standing (record { incarnation = i; kept = None })) h found.at found.client
       (stays_among es c i (among es old c place (account_in c old) h found.at found.client)) (hello_others es c i) (hello_above es c i h.orderly higher) after
-      (omega arith, omega arith, h.orderly);
+      ((client, ordinal), omega arith, h.orderly);
 }
 
 unknown_from : (es : List Entry) (c : ℕ) (cs : List ℕ) → find (λ a. nat_eq c a.client) (map (account es) cs) ≡ None → has c cs ≡ false
@@ -172,21 +179,22 @@ apart_from c (d ∷ cs) none = by (nat_eq c d) refl none (apart_from c cs)
     by true is none rest = absurd (cc)
     by false is none rest = (is, rest none)
 
-pub greets_first : (old new : Ledger) (c i : ℕ) → find (λ a. nat_eq c a.client) old.accounts ≡ None → 0 < i → new.mark ≡ old.mark
+pub greets_first : (old new : BookState) (c i : ℕ) → find (λ a. nat_eq c a.client) old.accounts ≡ None → IsClient c → IsOrdinal i → new.mark ≡ old.mark
     → new.accounts ≡ old.accounts ++ account_with c (record { incarnation = i; kept = None }) [] ∷ [] → Enters (Hello c i) old new
-greets_first old new c i none some mark after = record {
+greets_first old new c i none client ordinal mark after = record {
   mark = mark;
   history = λ es h.
       let unknown : has c (clients_of es) ≡ false = unknown_from es c (clients_of es) (ap (λ (xs : List Account). find (λ a. nat_eq c a.client) xs) (sym h.accounts) ∙ none) in
       let nobody_yet : account es c ≡ nobody c = account_unknown c es h.orderly unknown in
       let zero_yet : incarnation c es ≡ 0 = ap (λ (a : Account). a.incarnation) nobody_yet in
+      let some : 1 ≤ i = ordinal.0 in
       let greeted : account_with c (record { incarnation = i; kept = None }) [] ≡ account (Hello c i ∷ es) c =
       sym (hello_above es c i h.orderly (omega arith) ∙ ap (with_standing (record { incarnation = i; kept = None })) nobody_yet) in
       let others : map (account es) (clients_of es) ≡ map (account (Hello c i ∷ es)) (clients_of es) =
       map_others (account es) (account (Hello c i ∷ es)) c (hello_others es c i) (clients_of es) (apart_from c (clients_of es) unknown) in
       let clients : clients_of es ++ c ∷ [] ≡ clients_of (Hello c i ∷ es) = λ j. cond (sym unknown j) (clients_of es) (clients_of es ++ c ∷ []) in
       record {
-        orderly = (some, omega arith, h.orderly);
+        orderly = ((client, ordinal), omega arith, h.orderly);
         accounts = after ∙ (λ j. (h.accounts ∙ others) j ++ greeted j ∷ []) ∙ sym (map-append (account (Hello c i ∷ es)) (clients_of es) (c ∷ [])) ∙ ap (map (account (Hello c i ∷ es))) clients;
       };
 }
@@ -199,74 +207,79 @@ length-changed_at (x ∷ xs) zero f = refl
 length-changed_at (x ∷ xs) (suc i) f = ap suc (length-changed_at xs i f)
 
 -- what holds of the account at a place holds of the account found there
-pub of_found : (P : Account → Type 0) (book : Ledger) (c place : ℕ) → IsFound book c place → IfSome (slice_get book.accounts place) P → P (account_in c book)
+pub of_found : (P : Account → Type 0) (book : BookState) (c place : ℕ) → IsFound book c place → IfSome (slice_get book.accounts place) P → P (account_in c book)
 of_found P book c place found holds = subst (λ (o : Option Account). IfSome o P) found.at holds
 
-pub refuses : (old now : Ledger) (c i n place : ℕ) (why : Refusal) (k : Kept) (r : Voucher) → IsFound old c place → IsNew (account_in c old) i n → 0 < i → k ≡ kept n (Refuse why) → r ≡ receipt old c i k → now.mark ≡ old.mark
-    → now.accounts ≡ changed_at old.accounts place (with_standing (record { incarnation = i; kept = Some k })) → IsRefused old now c i n why r
-refuses old now c i n place why k r found fresh some is_kept is_receipt mark after =
-    let after' : now.accounts ≡ changed_at old.accounts place (with_standing (record { incarnation = i; kept = Some (kept n (Refuse why)) })) =
-    after ∙ ap (λ (x : Kept). changed_at old.accounts place (with_standing (record { incarnation = i; kept = Some x }))) is_kept in
+pub refuses : (old now : BookState) (id : RequestId) (index : ℕ) (why : Refusal) (k : Kept) (r : ReceiptState) → IsFound old id.client index → IsNew (account_in id.client old) id → IsRequestId id
+    → k ≡ kept id.number (Refuse why) → r ≡ receipt old id k → now.mark ≡ old.mark
+    → now.accounts ≡ changed_at old.accounts index (with_standing (record { incarnation = id.incarnation; kept = Some k })) → IsRefused old now id why r
+refuses old now id index why k r found fresh told is_kept is_receipt mark after =
+    let after' : now.accounts ≡ changed_at old.accounts index (with_standing (record { incarnation = id.incarnation; kept = Some (kept id.number (Refuse why)) })) =
+    after ∙ ap (λ (x : Kept). changed_at old.accounts index (with_standing (record { incarnation = id.incarnation; kept = Some x }))) is_kept in
     record {
       new = fresh;
-      receipt = is_receipt ∙ ap (receipt old c i) is_kept;
-      entry = settles old now c i n place (Refuse why) found fresh some mark after';
-      leases = ap leased_by after' ∙ leased_standing old.accounts place (record { incarnation = i; kept = Some (kept n (Refuse why)) });
+      receipt = is_receipt ∙ ap (receipt old id) is_kept;
+      entry = settles old now id index (Refuse why) found fresh told tt mark after';
+      leases = ap leased_by after' ∙ leased_standing old.accounts index (record { incarnation = id.incarnation; kept = Some (kept id.number (Refuse why)) });
     }
 
-pub grants : (old now : Ledger) (mid : List Account) (c i n place : ℕ) (t : Tag) (terms : Terms) (k : Kept) (r : Voucher) → IsFound old c place → IsNew (account_in c old) i n → 0 < i
-    → length (account_in c old).leases < 1024 → k ≡ kept n (Grant t terms) → r ≡ receipt old c i k → now.mark ≡ old.mark
-    → mid ≡ changed_at old.accounts place (with_leases (λ ls. ls ++ record { incarnation = i; segment = t } ∷ []))
-    → now.accounts ≡ changed_at mid place (with_standing (record { incarnation = i; kept = Some k })) → IsGranted old now c i n t terms r
-grants old now mid c i n place t terms k r found fresh some room is_kept is_receipt mark leased_mid after =
-    let x : Lease = record { incarnation = i; segment = t } in
-    let s : Standing = record { incarnation = i; kept = Some (kept n (Grant t terms)) } in
-    let after' : now.accounts ≡ changed_at mid place (with_standing s) = after ∙ ap (λ (y : Kept). changed_at mid place (with_standing (record { incarnation = i; kept = Some y }))) is_kept in
-    let both : now.accounts ≡ changed_at old.accounts place (λ a. with_standing s (with_leases (leases_after i (Grant t terms)) a)) =
-    after' ∙ ap (λ (xs : List Account). changed_at xs place (with_standing s)) leased_mid ∙ changed_twice old.accounts place (with_leases (λ ls. ls ++ x ∷ [])) (with_standing s) in
-    let stands : leased now ≡ leased_by (changed_at old.accounts place (with_leases (λ ls. ls ++ x ∷ []))) = ap leased_by after' ∙ leased_standing mid place s ∙ ap leased_by leased_mid in
+pub grants : (old now : BookState) (mid : List Account) (id : RequestId) (index : ℕ) (t : Tag) (terms : Terms) (k : Kept) (r : ReceiptState) → IsFound old id.client index
+    → IsNew (account_in id.client old) id → IsRequestId id → IsRange t.holding.range
+    → length (account_in id.client old).leases < 1024 → k ≡ kept id.number (Grant t terms) → r ≡ receipt old id k → now.mark ≡ old.mark
+    → mid ≡ changed_at old.accounts index (with_leases (λ ls. ls ++ lease_of id t ∷ []))
+    → now.accounts ≡ changed_at mid index (with_standing (record { incarnation = id.incarnation; kept = Some k })) → IsGranted old now id t terms r
+grants old now mid id index t terms k r found fresh told in_range room is_kept is_receipt mark leased_mid after =
+    let s : Standing = record { incarnation = id.incarnation; kept = Some (kept id.number (Grant t terms)) } in
+    let after' : now.accounts ≡ changed_at mid index (with_standing s) =
+    after ∙ ap (λ (y : Kept). changed_at mid index (with_standing (record { incarnation = id.incarnation; kept = Some y }))) is_kept in
+    let both : now.accounts ≡ changed_at old.accounts index (settled_as id (Grant t terms)) =
+    after' ∙ ap (λ (xs : List Account). changed_at xs index (with_standing s)) leased_mid ∙ changed_twice old.accounts index (with_leases (λ ls. ls ++ lease_of id t ∷ [])) (with_standing s) in
+    let stands : leased now ≡ leased_by (changed_at old.accounts index (with_leases (λ ls. ls ++ lease_of id t ∷ []))) = ap leased_by after' ∙ leased_standing mid index s ∙ ap leased_by leased_mid in
     record {
       new = fresh;
       room = room;
-      receipt = is_receipt ∙ ap (receipt old c i) is_kept;
-      entry = settles old now c i n place (Grant t terms) found fresh some mark both;
-      leases = λ f. ap (sum_by f) stands ∙ gains_lease old.accounts place (account_in c old) x found.at f;
+      receipt = is_receipt ∙ ap (receipt old id) is_kept;
+      entry = settles old now id index (Grant t terms) found fresh told in_range mark both;
+      leases = λ f. ap (sum_by f) stands ∙ gains_lease old.accounts index (account_in id.client old) (lease_of id t) found.at f;
     }
 
-pub releases : (old now : Ledger) (mid : List Account) (c i n arena base place at j : ℕ) (t : Tag) (k : Kept) (r : Voucher) → IsFound old c place → IsNew (account_in c old) i n → 0 < i
-    → IsFirst (is_lease i arena base) (account_in c old).leases at → slice_get (account_in c old).leases at ≡ Some (record { incarnation = j; segment = t })
-    → k ≡ kept n (Return arena base) → r ≡ receipt old c i k → now.mark ≡ old.mark → mid ≡ changed_at old.accounts place (with_leases (λ ls. remove ls at))
-    → now.accounts ≡ changed_at mid place (with_standing (record { incarnation = i; kept = Some k })) → IsReleased old now c i n arena base r t
-releases old now mid c i n arena base place at j t k r found fresh some first here is_kept is_receipt mark taken_mid after =
-    let a : Account = account_in c old in
-    let s : Standing = record { incarnation = i; kept = Some (kept n (Return arena base)) } in
-    let passes : is_lease i arena base (record { incarnation = j; segment = t }) ≡ true = subst (λ (o : Option Lease). IfSome o (λ l. is_lease i arena base l ≡ true)) here first.passes in
-    let says = is_lease_says i arena base (record { incarnation = j; segment = t }) passes in
-    let after' : now.accounts ≡ changed_at mid place (with_standing s) = after ∙ ap (λ (y : Kept). changed_at mid place (with_standing (record { incarnation = i; kept = Some y }))) is_kept in
-    let both : now.accounts ≡ changed_at old.accounts place (λ b. with_standing s (with_leases (λ ls. remove ls at) b)) =
-    after' ∙ ap (λ (xs : List Account). changed_at xs place (with_standing s)) taken_mid ∙ changed_twice old.accounts place (with_leases (λ ls. remove ls at)) (with_standing s) in
-    let entered_as : now.accounts ≡ changed_at old.accounts place (λ b. with_standing s (with_leases (leases_after i (Return arena base)) b)) =
-    both ∙ changed_alike old.accounts place a (λ b. with_standing s (with_leases (λ ls. remove ls at) b)) (λ b. with_standing s (with_leases (leases_after i (Return arena base)) b)) found.at
+pub releases : (old now : BookState) (mid : List Account) (id : RequestId) (arena base index at : ℕ) (l : Lease) (k : Kept) (r : ReceiptState) → IsFound old id.client index
+    → IsNew (account_in id.client old) id → IsRequestId id → IsQuantity base
+    → IsFirst (is_lease id.incarnation arena base) (account_in id.client old).leases at → slice_get (account_in id.client old).leases at ≡ Some l
+    → k ≡ kept id.number (Return arena base) → r ≡ receipt old id k → now.mark ≡ old.mark → mid ≡ changed_at old.accounts index (with_leases (λ ls. remove ls at))
+    → now.accounts ≡ changed_at mid index (with_standing (record { incarnation = id.incarnation; kept = Some k })) → IsReleased old now id arena base r l.segment
+releases old now mid id arena base index at l k r found fresh told in_range first here is_kept is_receipt mark taken_mid after =
+    let i : ℕ = id.incarnation in
+    let a : Account = account_in id.client old in
+    let s : Standing = record { incarnation = i; kept = Some (kept id.number (Return arena base)) } in
+    let passes : is_lease i arena base l ≡ true = subst (λ (o : Option Lease). IfSome o (λ x. is_lease i arena base x ≡ true)) here first.passes in
+    let says = is_lease_says i arena base l passes in
+    let after' : now.accounts ≡ changed_at mid index (with_standing s) = after ∙ ap (λ (y : Kept). changed_at mid index (with_standing (record { incarnation = i; kept = Some y }))) is_kept in
+    let both : now.accounts ≡ changed_at old.accounts index (λ b. with_standing s (with_leases (λ ls. remove ls at) b)) =
+    after' ∙ ap (λ (xs : List Account). changed_at xs index (with_standing s)) taken_mid ∙ changed_twice old.accounts index (with_leases (λ ls. remove ls at)) (with_standing s) in
+    let entered_as : now.accounts ≡ changed_at old.accounts index (settled_as id (Return arena base)) =
+    both ∙ changed_alike old.accounts index a (λ b. with_standing s (with_leases (λ ls. remove ls at) b)) (settled_as id (Return arena base)) found.at
     (ap (λ (ls : List Lease). with_standing s (with_leases (λ x. ls) a)) (sym first.left)) in
-    let stands : leased now ≡ leased_by (changed_at old.accounts place (with_leases (λ ls. remove ls at))) = ap leased_by after' ∙ leased_standing mid place s ∙ ap leased_by taken_mid in
+    let stands : leased now ≡ leased_by (changed_at old.accounts index (with_leases (λ ls. remove ls at))) = ap leased_by after' ∙ leased_standing mid index s ∙ ap leased_by taken_mid in
     record {
+      granted = l.number;
       new = fresh;
-      lease = first.found ∙ here ∙ ap (λ (m : ℕ). Some (record { incarnation = m; segment = t })) (sym says.0);
+      lease = first.found ∙ here ∙ ap (λ (m : ℕ). Some (record { incarnation = m; number = l.number; segment = l.segment })) (sym says.0);
       of_arena = sym says.1;
       at_base = sym says.2;
-      receipt = is_receipt ∙ ap (receipt old c i) is_kept;
-      entry = settles old now c i n place (Return arena base) found fresh some mark entered_as;
-      leases = λ f. loses_lease old.accounts place at a (record { incarnation = j; segment = t }) found.at here f ∙ ap (λ (ts : List Tag). sum_by f ts + f t) (sym stands);
+      receipt = is_receipt ∙ ap (receipt old id) is_kept;
+      entry = settles old now id index (Return arena base) found fresh told in_range mark entered_as;
+      leases = λ f. loses_lease old.accounts index at a l found.at here f ∙ ap (λ (ts : List Tag). sum_by f ts + f l.segment) (sym stands);
     }
 
 -- a lease that is the first with its incarnation, arena and base ended
-pub ends_lease : (old now : Ledger) (c place at i : ℕ) (t : Tag) → IsFound old c place → IsFirst (is_lease i t.arena t.holding.range.base) (account_in c old).leases at
-    → slice_get (account_in c old).leases at ≡ Some (record { incarnation = i; segment = t }) → now.mark ≡ old.mark → now.accounts ≡ changed_at old.accounts place (with_leases (λ ls. remove ls at))
-    → IsEnded old now c i t
-ends_lease old now c place at i t found first here mark after = record {
+pub ends_lease : (old now : BookState) (c index at : ℕ) (l : Lease) → IsFound old c index → IsFirst (is_lease l.incarnation l.segment.arena l.segment.holding.range.base) (account_in c old).leases at
+    → slice_get (account_in c old).leases at ≡ Some l → now.mark ≡ old.mark → now.accounts ≡ changed_at old.accounts index (with_leases (λ ls. remove ls at))
+    → IsEnded old now (record { client = c; incarnation = l.incarnation; number = l.number }) l.segment
+ends_lease old now c index at l found first here mark after = record {
   lease = first.found ∙ here;
-  entry = ends old now c i t.arena t.holding.range.base place at found first mark after;
-  leases = λ f. loses_lease old.accounts place at (account_in c old) (record { incarnation = i; segment = t }) found.at here f ∙ ap (λ (xs : List Account). sum_by f (leased_by xs) + f t) (sym after);
+  entry = ends old now c l.incarnation l.segment.arena l.segment.holding.range.base index at found first mark after;
+  leases = λ f. loses_lease old.accounts index at (account_in c old) l found.at here f ∙ ap (λ (xs : List Account). sum_by f (leased_by xs) + f l.segment) (sym after);
 }
 
 -- what is kept of a grant, told by its numbers
@@ -281,7 +294,7 @@ none_past (x ∷ xs) zero at = absurd (cc)
 none_past (x ∷ xs) (suc i) at = omega (arith, none_past xs i at)
 
 -- a place is that of its account's client
-pub found_own : (book : Ledger) (place : ℕ) → place < length book.accounts → IfSome (slice_get book.accounts place) (λ a. find (λ b. nat_eq a.client b.client) book.accounts ≡ Some a) → (c : ℕ) × IsFound book c place
+pub found_own : (book : BookState) (place : ℕ) → place < length book.accounts → IfSome (slice_get book.accounts place) (λ a. find (λ b. nat_eq a.client b.client) book.accounts ≡ Some a) → (c : ℕ) × IsFound book c place
 found_own book place within own = by (slice_get book.accounts place) refl own
   where
     by : (o : Option Account) → slice_get book.accounts place ≡ o → IfSome o (λ a. find (λ b. nat_eq a.client b.client) book.accounts ≡ Some a) → (c : ℕ) × IsFound book c place
@@ -302,76 +315,82 @@ first_lease (x ∷ ls) l at =
     subst (λ (y : Lease). IsFirst (is_lease y.incarnation y.segment.arena y.segment.holding.range.base) (x ∷ ls) 0) is (head_first x ls)
 
 -- an entry that is entered gives the new book a history
-pub goes_on : (e : Entry) (old new : Ledger) → Enters e old new → HasHistory old → HasHistory new
+pub goes_on : (e : Entry) (old new : BookState) → Enters e old new → HasHistory old → HasHistory new
 goes_on e old new enters had = (e ∷ had.0, enters.history had.0 had.1)
 
 -- The calls, of a book that is open: its fields before and after.
 
-module _ (before old : Ledger) (is : before ≡ old) (c i n place : ℕ) (found : IsFound old c place) (fresh : IsNew (account_in c old) i n) (some : 0 < i) where
-  found_before : IsFound before c place
-  found_before = subst (λ (b : Ledger). IsFound b c place) (sym is) found
+module _ (before old : BookState) (is : before ≡ old) (id : RequestId) (index : ℕ) (found : IsFound old id.client index) (fresh : IsNew (account_in id.client old) id) (told : IsRequestId id) where
+  found_before : IsFound before id.client index
+  found_before = subst (λ (b : BookState). IsFound b id.client index) (sym is) found
 
-  fresh_before : IsNew (account_in c before) i n
-  fresh_before = subst (λ (b : Ledger). IsNew (account_in c b) i n) (sym is) fresh
+  fresh_before : IsNew (account_in id.client before) id
+  fresh_before = subst (λ (b : BookState). IsNew (account_in id.client b) id) (sym is) fresh
 
-  pub refused_at : (accounts : List Account) (why : Refusal) (k : Kept) (r : Voucher) → k ≡ kept n (Refuse why) → r ≡ receipt before c i k
-      → accounts ≡ changed_at before.accounts place (with_standing (record { incarnation = i; kept = Some k })) → HasHistory before
-      → HasHistory (record { mark = before.mark; accounts = accounts }) × IsRefused old (record { mark = before.mark; accounts = accounts }) c i n why r
+  pub refused_at : (accounts : List Account) (why : Refusal) (k : Kept) (r : ReceiptState) → k ≡ kept id.number (Refuse why) → r ≡ receipt before id k
+      → accounts ≡ changed_at before.accounts index (with_standing (record { incarnation = id.incarnation; kept = Some k })) → HasHistory before
+      → HasHistory (record { mark = before.mark; accounts = accounts }) × IsRefused old (record { mark = before.mark; accounts = accounts }) id why r
   refused_at accounts why k r is_kept is_receipt after had =
-      let now : Ledger = record { mark = before.mark; accounts = accounts } in
-      let refused = refuses before now c i n place why k r found_before fresh_before some is_kept is_receipt refl after in
-      (goes_on (Settled c i n (Refuse why)) before now refused.entry had, subst (λ (b : Ledger). IsRefused b now c i n why r) is refused)
+      let now : BookState = record { mark = before.mark; accounts = accounts } in
+      let refused = refuses before now id index why k r found_before fresh_before told is_kept is_receipt refl after in
+      (goes_on (Settled id (Refuse why)) before now refused.entry had, subst (λ (b : BookState). IsRefused b now id why r) is refused)
 
-  pub granted_at : (mid accounts : List Account) (t : Tag) (terms : Terms) (k : Kept) (r : Voucher) → length (account_in c old).leases < 1024 → k ≡ kept n (Grant t terms) → r ≡ receipt before c i k
-      → mid ≡ changed_at before.accounts place (with_leases (λ ls. ls ++ record { incarnation = i; segment = t } ∷ []))
-      → accounts ≡ changed_at mid place (with_standing (record { incarnation = i; kept = Some k })) → HasHistory before
-      → HasHistory (record { mark = before.mark; accounts = accounts }) × IsGranted old (record { mark = before.mark; accounts = accounts }) c i n t terms r
-  granted_at mid accounts t terms k r room is_kept is_receipt leased_mid after had =
-      let now : Ledger = record { mark = before.mark; accounts = accounts } in
-      let room_before : length (account_in c before).leases < 1024 = subst (λ (b : Ledger). length (account_in c b).leases < 1024) (sym is) room in
-      let granted = grants before now mid c i n place t terms k r found_before fresh_before some room_before is_kept is_receipt refl leased_mid after in
-      (goes_on (Settled c i n (Grant t terms)) before now granted.entry had, subst (λ (b : Ledger). IsGranted b now c i n t terms r) is granted)
+  pub granted_at : (mid accounts : List Account) (t : Tag) (terms : Terms) (k : Kept) (r : ReceiptState) → IsRange t.holding.range → length (account_in id.client old).leases < 1024
+      → k ≡ kept id.number (Grant t terms) → r ≡ receipt before id k
+      → mid ≡ changed_at before.accounts index (with_leases (λ ls. ls ++ lease_of id t ∷ []))
+      → accounts ≡ changed_at mid index (with_standing (record { incarnation = id.incarnation; kept = Some k })) → HasHistory before
+      → HasHistory (record { mark = before.mark; accounts = accounts }) × IsGranted old (record { mark = before.mark; accounts = accounts }) id t terms r
+  granted_at mid accounts t terms k r in_range room is_kept is_receipt leased_mid after had =
+      let now : BookState = record { mark = before.mark; accounts = accounts } in
+      let room_before : length (account_in id.client before).leases < 1024 = subst (λ (b : BookState). length (account_in id.client b).leases < 1024) (sym is) room in
+      let granted = grants before now mid id index t terms k r found_before fresh_before told in_range room_before is_kept is_receipt refl leased_mid after in
+      (goes_on (Settled id (Grant t terms)) before now granted.entry had, subst (λ (b : BookState). IsGranted b now id t terms r) is granted)
 
-  pub released_at : (mid accounts : List Account) (arena base at j : ℕ) (t : Tag) (k : Kept) (r : Voucher) → IsFirst (is_lease i arena base) (account_in c old).leases at
-      → IfSome (slice_get before.accounts place) (λ a. slice_get a.leases at ≡ Some (record { incarnation = j; segment = t })) → k ≡ kept n (Return arena base) → r ≡ receipt before c i k
-      → mid ≡ changed_at before.accounts place (with_leases (λ ls. remove ls at)) → accounts ≡ changed_at mid place (with_standing (record { incarnation = i; kept = Some k })) → HasHistory before
-      → HasHistory (record { mark = before.mark; accounts = accounts }) × IsReleased old (record { mark = before.mark; accounts = accounts }) c i n arena base r t
-  released_at mid accounts arena base at j t k r first there is_kept is_receipt taken_mid after had =
-      let now : Ledger = record { mark = before.mark; accounts = accounts } in
-      let first_before : IsFirst (is_lease i arena base) (account_in c before).leases at = subst (λ (b : Ledger). IsFirst (is_lease i arena base) (account_in c b).leases at) (sym is) first in
-      let here : slice_get (account_in c before).leases at ≡ Some (record { incarnation = j; segment = t }) = of_found (λ (a : Account). slice_get a.leases at ≡ Some (record { incarnation = j; segment = t })) before c place found_before there in
-      let released = releases before now mid c i n arena base place at j t k r found_before fresh_before some first_before here is_kept is_receipt refl taken_mid after in
-      (goes_on (Settled c i n (Return arena base)) before now released.entry had, subst (λ (b : Ledger). IsReleased b now c i n arena base r t) is released)
+  pub released_at : (mid accounts : List Account) (arena base at : ℕ) (l : Lease) (k : Kept) (r : ReceiptState) → IsQuantity base
+      → IsFirst (is_lease id.incarnation arena base) (account_in id.client old).leases at
+      → IfSome (slice_get before.accounts index) (λ a. slice_get a.leases at ≡ Some l) → k ≡ kept id.number (Return arena base) → r ≡ receipt before id k
+      → mid ≡ changed_at before.accounts index (with_leases (λ ls. remove ls at)) → accounts ≡ changed_at mid index (with_standing (record { incarnation = id.incarnation; kept = Some k })) → HasHistory before
+      → HasHistory (record { mark = before.mark; accounts = accounts }) × IsReleased old (record { mark = before.mark; accounts = accounts }) id arena base r l.segment
+  released_at mid accounts arena base at l k r in_range first there is_kept is_receipt taken_mid after had =
+      let now : BookState = record { mark = before.mark; accounts = accounts } in
+      let first_before : IsFirst (is_lease id.incarnation arena base) (account_in id.client before).leases at = subst (λ (b : BookState). IsFirst (is_lease id.incarnation arena base) (account_in id.client b).leases at) (sym is) first in
+      let here : slice_get (account_in id.client before).leases at ≡ Some l = of_found (λ (a : Account). slice_get a.leases at ≡ Some l) before id.client index found_before there in
+      let released = releases before now mid id arena base index at l k r found_before fresh_before told in_range first_before here is_kept is_receipt refl taken_mid after in
+      (goes_on (Settled id (Return arena base)) before now released.entry had, subst (λ (b : BookState). IsReleased b now id arena base r l.segment) is released)
 
 -- the leases of an account, where it was found
-pub leases_found : (before old : Ledger) (c place : ℕ) (ls : List Lease) → before ≡ old → IsFound old c place → IfSome (slice_get before.accounts place) (λ a. a.leases ≡ ls) → (account_in c old).leases ≡ ls
+pub leases_found : (before old : BookState) (c place : ℕ) (ls : List Lease) → before ≡ old → IsFound old c place → IfSome (slice_get before.accounts place) (λ a. a.leases ≡ ls) → (account_in c old).leases ≡ ls
 leases_found before old c place ls is found there =
-    of_found (λ (a : Account). a.leases ≡ ls) old c place found (subst (λ (b : Ledger). IfSome (slice_get b.accounts place) (λ a. a.leases ≡ ls)) is there)
+    of_found (λ (a : Account). a.leases ≡ ls) old c place found (subst (λ (b : BookState). IfSome (slice_get b.accounts place) (λ a. a.leases ≡ ls)) is there)
 
-pub ended_at : (before old : Ledger) (accounts : List Account) (c place at i : ℕ) (t : Tag) → before ≡ old → IsFound old c place → IsFirst (is_lease i t.arena t.holding.range.base) (account_in c old).leases at
-    → slice_get (account_in c old).leases at ≡ Some (record { incarnation = i; segment = t }) → accounts ≡ changed_at before.accounts place (with_leases (λ ls. remove ls at)) → HasHistory before
-    → HasHistory (record { mark = before.mark; accounts = accounts }) × IsEnded old (record { mark = before.mark; accounts = accounts }) c i t
-ended_at before old accounts c place at i t is found first here after had =
-    let now : Ledger = record { mark = before.mark; accounts = accounts } in
-    let ended = ends_lease old now c place at i t found first here (ap (λ (b : Ledger). b.mark) is) (after ∙ ap (λ (b : Ledger). changed_at b.accounts place (with_leases (λ ls. remove ls at))) is) in
-    (goes_on (Swept c i t.arena t.holding.range.base) old now ended.entry (subst HasHistory is had), ended)
+pub ended_at : (before old : BookState) (accounts : List Account) (c index at : ℕ) (l : Lease) → before ≡ old → IsFound old c index
+    → IsFirst (is_lease l.incarnation l.segment.arena l.segment.holding.range.base) (account_in c old).leases at
+    → slice_get (account_in c old).leases at ≡ Some l → accounts ≡ changed_at before.accounts index (with_leases (λ ls. remove ls at)) → HasHistory before
+    → HasHistory (record { mark = before.mark; accounts = accounts })
+    × IsEnded old (record { mark = before.mark; accounts = accounts }) (record { client = c; incarnation = l.incarnation; number = l.number }) l.segment
+ended_at before old accounts c index at l is found first here after had =
+    let now : BookState = record { mark = before.mark; accounts = accounts } in
+    let ended = ends_lease old now c index at l found first here (ap (λ (b : BookState). b.mark) is) (after ∙ ap (λ (b : BookState). changed_at b.accounts index (with_leases (λ ls. remove ls at))) is) in
+    (goes_on (Swept c l.incarnation l.segment.arena l.segment.holding.range.base) old now ended.entry (subst HasHistory is had), ended)
 
-pub greeted_above : (before old : Ledger) (accounts : List Account) (c i place : ℕ) → before ≡ old → IsFound old c place → (account_in c old).incarnation < i
-    → accounts ≡ changed_at before.accounts place (with_standing (record { incarnation = i; kept = None })) → HasHistory before
+pub greeted_above : (before old : BookState) (accounts : List Account) (c i index : ℕ) → before ≡ old → IsFound old c index → IsClient c → IsOrdinal i → (account_in c old).incarnation < i
+    → accounts ≡ changed_at before.accounts index (with_standing (record { incarnation = i; kept = None })) → HasHistory before
     → HasHistory (record { mark = before.mark; accounts = accounts }) × Enters (Hello c i) old (record { mark = before.mark; accounts = accounts })
-greeted_above before old accounts c i place is found above after had =
-    let now : Ledger = record { mark = before.mark; accounts = accounts } in
-    let enters = greets_above old now c i place found above (ap (λ (b : Ledger). b.mark) is) (after ∙ ap (λ (b : Ledger). changed_at b.accounts place (with_standing (record { incarnation = i; kept = None }))) is) in
+greeted_above before old accounts c i index is found client ordinal above after had =
+    let now : BookState = record { mark = before.mark; accounts = accounts } in
+    let enters = greets_above old now c i index found client ordinal above (ap (λ (b : BookState). b.mark) is)
+    (after ∙ ap (λ (b : BookState). changed_at b.accounts index (with_standing (record { incarnation = i; kept = None }))) is) in
     (goes_on (Hello c i) old now enters (subst HasHistory is had), enters)
 
-pub greeted_first : (before old : Ledger) (accounts : List Account) (c i : ℕ) → before ≡ old → find (λ a. nat_eq c a.client) old.accounts ≡ None → 0 < i
+pub greeted_first : (before old : BookState) (accounts : List Account) (c i : ℕ) → before ≡ old → find (λ a. nat_eq c a.client) old.accounts ≡ None → IsClient c → IsOrdinal i
     → accounts ≡ before.accounts ++ account_with c (record { incarnation = i; kept = None }) [] ∷ [] → HasHistory before
     → HasHistory (record { mark = before.mark; accounts = accounts }) × Enters (Hello c i) old (record { mark = before.mark; accounts = accounts })
-greeted_first before old accounts c i is none some after had =
-    let now : Ledger = record { mark = before.mark; accounts = accounts } in
-    let enters = greets_first old now c i none some (ap (λ (b : Ledger). b.mark) is) (after ∙ ap (λ (b : Ledger). b.accounts ++ account_with c (record { incarnation = i; kept = None }) [] ∷ []) is) in
+greeted_first before old accounts c i is none client ordinal after had =
+    let now : BookState = record { mark = before.mark; accounts = accounts } in
+    let enters = greets_first old now c i none client ordinal (ap (λ (b : BookState). b.mark) is)
+    (after ∙ ap (λ (b : BookState). b.accounts ++ account_with c (record { incarnation = i; kept = None }) [] ∷ []) is) in
     (goes_on (Hello c i) old now enters (subst HasHistory is had), enters)
 
 -- what is leased stays where an incarnation or a reply is written
-pub leased_at : (before old : Ledger) (accounts : List Account) (place : ℕ) (s : Standing) → before ≡ old → accounts ≡ changed_at before.accounts place (with_standing s) → leased_by accounts ≡ leased old
+pub leased_at : (before old : BookState) (accounts : List Account) (place : ℕ) (s : Standing) → before ≡ old → accounts ≡ changed_at before.accounts place (with_standing s) → leased_by accounts ≡ leased old
 leased_at before old accounts place s is after = ap leased_by after ∙ leased_standing before.accounts place s ∙ ap leased is

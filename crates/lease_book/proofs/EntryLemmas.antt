@@ -2,12 +2,13 @@
 use Rattle.std.proofs.Common.{◌≡◌, ℕ, zero, suc, ◌+◌, ◌<◌, Bool, true, false, cond, ◌&&◌, ◌||◌, nat_eq, List, [], ◌∷◌, ◌++◌, map, Option, Some, None, slice_get, refl, sym, ap, subst, ◌∙◌, arith, eq-eqb}
 use Rattle.std.specs.List.{AllByRecursion, IsDistinct}
 use Rattle.std.proofs.lemmas.Bool.{or_parts, eqb-false, ne_eqb, le-ltb}
-use Rattle.lease_book.specs.Kept.{Kept}
+use Rattle.lease_terms.specs.Requests.{RequestId}
+use Rattle.lease_book.specs.Receipts.{Kept}
 use Rattle.lease_book.specs.Entry.{Settlement, Entry, Hello, Settled, Swept, kept}
 use Rattle.lease_book.specs.Account.{Account, number_of, is_lease, without, leases_after}
 use Rattle.lease_book.specs.Shelf.{changed_at, with_standing, with_leases}
 use Rattle.lease_book.specs.History.{incarnation, settled_in, higher, greatest, leases_of, clients_of, kept_of, account, IsOrderly}
-use Rattle.lease_book.specs.Ledger.{Ledger, IsHistory}
+use Rattle.lease_book.specs.BookState.{BookState, IsHistory}
 use Rattle.lease_book.proofs.HistoryLemmas.{has, fresh}
 
 -- Clients stand once each.
@@ -31,7 +32,7 @@ distinct_clients (Hello c i ∷ older) = by (has c (clients_of older)) refl (dis
     by : (b : Bool) → has c (clients_of older) ≡ b → IsDistinct nat_eq (clients_of older) → IsDistinct nat_eq (cond b (clients_of older) (clients_of older ++ c ∷ []))
     by true is apart = apart
     by false is apart = distinct_push (clients_of older) c apart is
-distinct_clients (Settled c i n s ∷ older) = distinct_clients older
+distinct_clients (Settled id s ∷ older) = distinct_clients older
 distinct_clients (Swept c i a b ∷ older) = distinct_clients older
 
 -- One account changes.
@@ -67,7 +68,7 @@ changed_map f g h c (suc i) (d ∷ cs) a named others own apart at client =
     λ j. here j ∷ rest j
 
 -- an entry that changes one account, and no list of clients, is entered by that change
-pub entered : (e : Entry) (es : List Entry) (old new : Ledger) (c i : ℕ) (a : Account) (h : Account → Account) → IsHistory es old → slice_get old.accounts i ≡ Some a → a.client ≡ c
+pub entered : (e : Entry) (es : List Entry) (old new : BookState) (c i : ℕ) (a : Account) (h : Account → Account) → IsHistory es old → slice_get old.accounts i ≡ Some a → a.client ≡ c
     → clients_of (e ∷ es) ≡ clients_of es → ((d : ℕ) → nat_eq d c ≡ false → account (e ∷ es) d ≡ account es d) → account (e ∷ es) c ≡ h (account es c)
     → new.accounts ≡ changed_at old.accounts i h → IsOrderly (e ∷ es) → IsHistory (e ∷ es) new
 entered e es old new c i a h history at client clients others own after orderly =
@@ -80,7 +81,7 @@ entered e es old new c i a h history at client clients others own after orderly 
     }
 
 -- a client with an account said hello
-pub among : (es : List Entry) (book : Ledger) (c i : ℕ) (a : Account) → IsHistory es book → slice_get book.accounts i ≡ Some a → a.client ≡ c → has c (clients_of es) ≡ true
+pub among : (es : List Entry) (book : BookState) (c i : ℕ) (a : Account) → IsHistory es book → slice_get book.accounts i ≡ Some a → a.client ≡ c → has c (clients_of es) ≡ true
 among es book c i a history at client = there (clients_of es) i (ap (λ (xs : List Account). slice_get xs i) (sym history.accounts) ∙ at)
   where
     there : (cs : List ℕ) (i : ℕ) → slice_get (map (account es) cs) i ≡ Some a → has c cs ≡ true
@@ -97,32 +98,35 @@ among es book c i a history at client = there (clients_of es) i (ap (λ (xs : Li
 
 -- A settled number.
 
-pub settled_others : (es : List Entry) (c i n : ℕ) (s : Settlement) (d : ℕ) → nat_eq d c ≡ false → account (Settled c i n s ∷ es) d ≡ account es d
-settled_others es c i n s d other = λ j. record {
+pub settled_others : (es : List Entry) (id : RequestId) (s : Settlement) (d : ℕ) → nat_eq d id.client ≡ false → account (Settled id s ∷ es) d ≡ account es d
+settled_others es id s d other = λ j. record {
   client = d;
   incarnation = incarnation d es;
-  kept = greatest (cond (other j && nat_eq (incarnation d es) i) (kept n s ∷ settled_in d (incarnation d es) es) (settled_in d (incarnation d es) es));
-  leases = cond (other j) (leases_after i s (leases_of d es)) (leases_of d es);
+  kept = greatest (cond (other j && nat_eq (incarnation d es) id.incarnation) (kept id.number s ∷ settled_in d (incarnation d es) es) (settled_in d (incarnation d es) es));
+  leases = cond (other j) (leases_after id s (leases_of d es)) (leases_of d es);
 }
 
 higher_next : (k : Kept) (g : Option Kept) → k.number ≡ number_of g + 1 → higher k g ≡ Some k
 higher_next k None next = refl
 higher_next k (Some m) next = ap (λ (b : Bool). cond b (Some m) (Some k)) (le-ltb k.number m.number (omega (arith, next)))
 
-pub settled_own : (es : List Entry) (c i n : ℕ) (s : Settlement) → i ≡ incarnation c es → n ≡ number_of (kept_of c es) + 1
-    → account (Settled c i n s ∷ es) c ≡ with_standing (record { incarnation = i; kept = Some (kept n s) }) (with_leases (leases_after i s) (account es c))
-settled_own es c i n s current next =
+pub settled_own : (es : List Entry) (id : RequestId) (s : Settlement) → id.incarnation ≡ incarnation id.client es → id.number ≡ number_of (kept_of id.client es) + 1
+    → account (Settled id s ∷ es) id.client
+    ≡ with_standing (record { incarnation = id.incarnation; kept = Some (kept id.number s) }) (with_leases (leases_after id s) (account es id.client))
+settled_own es id s current next =
+    let c : ℕ = id.client in
     let same : nat_eq c c ≡ true = eq-eqb c c refl in
-    let now : nat_eq (incarnation c es) i ≡ true = eq-eqb (incarnation c es) i (sym current) in
-    let first : account (Settled c i n s ∷ es) c ≡ record { client = c; incarnation = incarnation c es; kept = higher (kept n s) (kept_of c es); leases = leases_after i s (leases_of c es) } =
+    let now : nat_eq (incarnation c es) id.incarnation ≡ true = eq-eqb (incarnation c es) id.incarnation (sym current) in
+    let first : account (Settled id s ∷ es) c
+    ≡ record { client = c; incarnation = incarnation c es; kept = higher (kept id.number s) (kept_of c es); leases = leases_after id s (leases_of c es) } =
     λ j. record {
       client = c;
       incarnation = incarnation c es;
-      kept = greatest (cond (same j && now j) (kept n s ∷ settled_in c (incarnation c es) es) (settled_in c (incarnation c es) es));
-      leases = cond (same j) (leases_after i s (leases_of c es)) (leases_of c es);
+      kept = greatest (cond (same j && now j) (kept id.number s ∷ settled_in c (incarnation c es) es) (settled_in c (incarnation c es) es));
+      leases = cond (same j) (leases_after id s (leases_of c es)) (leases_of c es);
     } in
-    let highest : higher (kept n s) (kept_of c es) ≡ Some (kept n s) = higher_next (kept n s) (kept_of c es) next in
-    first ∙ (λ j. record { client = c; incarnation = sym current j; kept = highest j; leases = leases_after i s (leases_of c es) })
+    let highest : higher (kept id.number s) (kept_of c es) ≡ Some (kept id.number s) = higher_next (kept id.number s) (kept_of c es) next in
+    first ∙ (λ j. record { client = c; incarnation = sym current j; kept = highest j; leases = leases_after id s (leases_of c es) })
 
 -- A lease that ended.
 

@@ -1,11 +1,11 @@
 -- What an entry changes in what is read off the entries.
-use Rattle.std.proofs.Common.{◌≡◌, ℕ, ◌<◌, Bool, true, false, cond, ◌&&◌, ◌||◌, nat_eq, List, [], ◌∷◌, ◌++◌, map, Some, None, refl, sym, ap, subst, ◌∙◌, arith}
+use Rattle.std.proofs.Common.{◌≡◌, ℕ, ◌<◌, ◌≤◌, Bool, true, false, cond, ◌&&◌, ◌||◌, nat_eq, List, [], ◌∷◌, ◌++◌, map, Some, None, refl, sym, ap, subst, ◌∙◌, arith}
 use Rattle.std.specs.List.{find, list_any}
 use Rattle.std.proofs.lemmas.Bool.{or_parts, or_from, eqb-true, ne_eqb}
 use Rattle.lease_book.specs.Entry.{Entry, Hello, Settled, Swept, kept}
 use Rattle.lease_book.specs.Account.{Account, is_lease, without, leases_after}
 use Rattle.lease_book.specs.History.{incarnation, settled_in, greatest, leases_of, clients_of, account, IsOrderly}
-use Rattle.lease_book.specs.Ledger.{Ledger, IsHistory, nobody, or_nobody, account_in}
+use Rattle.lease_book.specs.BookState.{BookState, IsHistory, nobody, or_nobody, account_in}
 
 -- whether the client is in the list
 abbrev pub has : ℕ → List ℕ → Bool
@@ -33,28 +33,29 @@ incarnation_unknown c [] none = refl
 incarnation_unknown c (Hello d i ∷ older) none =
     let parts = not_among c d i older none in
     (λ j. cond (parts.1 j) i (incarnation c older)) ∙ incarnation_unknown c older parts.0
-incarnation_unknown c (Settled d i n s ∷ older) none = incarnation_unknown c older none
+incarnation_unknown c (Settled id s ∷ older) none = incarnation_unknown c older none
 incarnation_unknown c (Swept d i a b ∷ older) none = incarnation_unknown c older none
 
 -- what is settled is settled for a client that said hello
-other_client : (c d i : ℕ) (older : List Entry) → 0 < i → i ≡ incarnation d older → has c (clients_of older) ≡ false → nat_eq c d ≡ false
+other_client : (c d i : ℕ) (older : List Entry) → 1 ≤ i → i ≡ incarnation d older → has c (clients_of older) ≡ false → nat_eq c d ≡ false
 other_client c d i older some current none =
     ne_eqb c d (λ e. absurd (omega (arith, some, current, subst (λ (k : ℕ). incarnation k older ≡ 0) e (incarnation_unknown c older none))))
 
 pub settled_unknown : (c i : ℕ) (es : List Entry) → IsOrderly es → has c (clients_of es) ≡ false → settled_in c i es ≡ []
 settled_unknown c i [] orderly none = refl
 settled_unknown c i (Hello d j ∷ older) orderly none = settled_unknown c i older orderly.2 (not_among c d j older none).0
-settled_unknown c i (Settled d j n s ∷ older) orderly none =
-    let other = other_client c d j older orderly.0 orderly.1 none in
-    (λ k. cond (other k && nat_eq i j) (kept n s ∷ settled_in c i older) (settled_in c i older)) ∙ settled_unknown c i older orderly.3 none
+settled_unknown c i (Settled id s ∷ older) orderly none =
+    let other = other_client c id.client id.incarnation older orderly.0.0.incarnation.0 orderly.1 none in
+    (λ k. cond (other k && nat_eq i id.incarnation) (kept id.number s ∷ settled_in c i older) (settled_in c i older))
+    ∙ settled_unknown c i older orderly.3 none
 settled_unknown c i (Swept d j a b ∷ older) orderly none = settled_unknown c i older orderly none
 
 pub leases_unknown : (c : ℕ) (es : List Entry) → IsOrderly es → has c (clients_of es) ≡ false → leases_of c es ≡ []
 leases_unknown c [] orderly none = refl
 leases_unknown c (Hello d j ∷ older) orderly none = leases_unknown c older orderly.2 (not_among c d j older none).0
-leases_unknown c (Settled d j n s ∷ older) orderly none =
-    let other = other_client c d j older orderly.0 orderly.1 none in
-    (λ k. cond (other k) (leases_after j s (leases_of c older)) (leases_of c older)) ∙ leases_unknown c older orderly.3 none
+leases_unknown c (Settled id s ∷ older) orderly none =
+    let other = other_client c id.client id.incarnation older orderly.0.0.incarnation.0 orderly.1 none in
+    (λ k. cond (other k) (leases_after id s (leases_of c older)) (leases_of c older)) ∙ leases_unknown c older orderly.3 none
 leases_unknown c (Swept d j a b ∷ older) orderly none = by (nat_eq c d) (leases_unknown c older orderly none)
   where
     by : (t : Bool) → leases_of c older ≡ [] → cond t (without (is_lease j a b) (leases_of c older)) (leases_of c older) ≡ []
@@ -76,12 +77,14 @@ fresh c i (Hello d j ∷ older) orderly above = fresh c i older orderly.2 (by (n
     by : (b : Bool) → nat_eq c d ≡ b → cond b j (incarnation c older) < i → incarnation c older < i
     by true is above = omega (arith, orderly.1, ap (λ (k : ℕ). incarnation k older) (eqb-true c d is), above)
     by false is above = above
-fresh c i (Settled d j n s ∷ older) orderly above = by (nat_eq c d) refl (fresh c i older orderly.3 above)
+fresh c i (Settled id s ∷ older) orderly above = by (nat_eq c id.client) refl (fresh c i older orderly.3 above)
   where
-    by : (b : Bool) → nat_eq c d ≡ b → settled_in c i older ≡ [] → cond (b && nat_eq i j) (kept n s ∷ settled_in c i older) (settled_in c i older) ≡ []
+    by : (b : Bool) → nat_eq c id.client ≡ b → settled_in c i older ≡ []
+        → cond (b && nat_eq i id.incarnation) (kept id.number s ∷ settled_in c i older) (settled_in c i older) ≡ []
     by true is rest =
-        let later : nat_eq i j ≡ false = ne_eqb i j (λ e. absurd (omega (arith, orderly.1, ap (λ (k : ℕ). incarnation k older) (eqb-true c d is), above, e))) in
-        (λ k. cond (later k) (kept n s ∷ settled_in c i older) (settled_in c i older)) ∙ rest
+        let later : nat_eq i id.incarnation ≡ false =
+        ne_eqb i id.incarnation (λ e. absurd (omega (arith, orderly.1, ap (λ (k : ℕ). incarnation k older) (eqb-true c id.client is), above, e))) in
+        (λ k. cond (later k) (kept id.number s ∷ settled_in c i older) (settled_in c i older)) ∙ rest
     by false is rest = rest
 fresh c i (Swept d j a b ∷ older) orderly above = fresh c i older orderly above
 
@@ -97,7 +100,7 @@ find_known es c (d ∷ cs) = by (nat_eq c d) refl (find_known es c cs)
     by false is rest = rest
 
 -- the account of a client is what is read off about it
-pub account_is : (es : List Entry) (book : Ledger) (c : ℕ) → IsHistory es book → account_in c book ≡ account es c
+pub account_is : (es : List Entry) (book : BookState) (c : ℕ) → IsHistory es book → account_in c book ≡ account es c
 account_is es book c h =
     ap (λ (xs : List Account). or_nobody c (find (λ a. nat_eq c a.client) xs)) h.accounts ∙ ap (or_nobody c) (find_known es c (clients_of es)) ∙ by (has c (clients_of es)) refl
   where

@@ -2,7 +2,7 @@
 use Rattle.std.proofs.Common.{◌≡◌, ℕ, zero, suc, ◌+◌, ◌<◌, ◌≤◌, Bool, true, false, cond, List, [], ◌∷◌, length, All, nat_eq, refl, arith}
 use Rattle.std.specs.List.{AllByRecursion, IsDistinct}
 use Rattle.std.proofs.lemmas.Bool.{eqb-true, eqb-false, ne_eqb}
-use Rattle.lease_book.specs.Kept.{IsClient}
+use Rattle.lease_terms.specs.Ranges.{IsClient}
 use Rattle.lease_book.specs.Account.{without}
 
 abbrev AllBelow : ℕ → List ℕ → Type 0
@@ -61,13 +61,13 @@ pigeons (suc n) ks apart below =
 clients_below : (ks : List ℕ) → All IsClient ks → AllBelow 65537 ks
 clients_below [] all = tt
 clients_below (k ∷ ks) all =
-    let few : k ≤ 65536 = (all 0 0 (omega arith)).few in
+    let few : k ≤ 65536 = (all 0 0 (omega arith)).1 in
     (omega arith, clients_below ks (λ i d less. all (suc i) d (omega arith)))
 
 none_is_zero : (ks : List ℕ) → All IsClient ks → AllByRecursion (λ y. nat_eq 0 y ≡ false) ks
 none_is_zero [] all = tt
 none_is_zero (k ∷ ks) all =
-    let some : 0 < k = (all 0 0 (omega arith)).some in
+    let some : 1 ≤ k = (all 0 0 (omega arith)).0 in
     (ne_eqb 0 k (λ e. absurd (omega arith)), none_is_zero ks (λ i d less. all (suc i) d (omega arith)))
 
 -- clients that are told apart are at most 65,536

@@ -1,6 +1,6 @@
 -- The accounts, and their parts in the map and in the vector beside it.
-use Rattle.std.proofs.lemmas.Bool.{eqb-false, ne_eqb}
-use Rattle.std.proofs.Common.{eq-eqb, one-add, ◌≡◌, ℕ, zero, suc, ◌+◌, ◌<◌, ◌≤◌, Bool, true, false, cond, not, nat_eq, List, [], ◌∷◌, ◌++◌, length, All, Option, Some, None, IfSome, IfNone, Result, Ok, Err, OnOk, OnErr, slice_get, get_or, position, refl, sym, ap, subst, ◌∙◌, arith}
+use Rattle.std.proofs.lemmas.Bool.{eqb-false, ne_eqb, le-ltb}
+use Rattle.std.proofs.Common.{eq-eqb, one-add, ◌≡◌, ℕ, zero, suc, ◌+◌, ◌<◌, ◌≤◌, Bool, true, false, cond, not, nat_eq, nat_lt, lt-ltb, List, [], ◌∷◌, ◌++◌, length, All, Option, Some, None, IfSome, IfNone, Result, Ok, Err, OnOk, OnErr, slice_get, get_or, position, refl, sym, ap, subst, ◌∙◌, arith}
 use Rattle.std.specs.List.{find, position_or_len, AllByRecursion, IsDistinct}
 use Rattle.std.specs.Option.{option_map}
 use Rattle.std.specs.Map.{keys_of, values_of, lookup}
@@ -13,10 +13,10 @@ use Rattle.indexmap.specs.IndexMap.{IndexMap, insert_entry, set_value_at}
 use Rattle.indexmap.proofs.CallerLemmas.{insert_entry-new}
 use Rattle.lease_book.proofs.Pigeons.{few_clients}
 use Rattle.lease_book.proofs.PlaceLemmas.{position-some, position-none}
-use Rattle.lease_book.specs.Kept.{IsClient}
+use Rattle.lease_terms.specs.Ranges.{IsClient}
 use Rattle.lease_book.specs.Account.{Lease, Account, number_of}
 use Rattle.lease_book.specs.Reports.{report_of}
-use Rattle.lease_book.specs.Shelf.{account_with, accounts_of, IsShelf, changed_at, standing_of, with_standing, with_leases}
+use Rattle.lease_book.specs.Shelf.{account_with, accounts_of, IsShelf, IsEmptyBefore, changed_at, standing_of, with_standing, with_leases}
 use Rattle.lease_book.specs.declared.accounts.Standing.{Standing}
 
 pub length-accounts_of : (es : List (ℕ × Standing)) (ls : List (List Lease)) → length es ≡ length ls → length (accounts_of es ls) ≡ length es
@@ -278,3 +278,103 @@ own_place es ls accounts i is shelf = subst (λ (xs : List Account). IfSome (sli
     by : (o : Option Account) → slice_get (accounts_of es ls) i ≡ o → IfSome o (λ a. find (λ b. nat_eq a.client b.client) (accounts_of es ls) ≡ Some a)
     by None at = tt
     by (Some a) at = own_in i es ls a shelf.apart at
+
+-- Clients that have no lease yet.
+
+pub empty_less : (j i : ℕ) (ls : List (List Lease)) → j ≤ i → IsEmptyBefore i ls → IsEmptyBefore j ls
+empty_less zero i ls less empty = tt
+empty_less (suc j) i [] less empty = tt
+empty_less (suc j) zero (l ∷ ls) less empty = absurd (omega arith)
+empty_less (suc j) (suc i) (l ∷ ls) less empty = (empty.0, empty_less j i ls (omega arith) empty.1)
+
+pub empty_set : (j i : ℕ) (ls : List (List Lease)) (x : List Lease) → j ≤ i → IsEmptyBefore j ls → IsEmptyBefore j (set ls i x)
+empty_set zero i ls x less empty = tt
+empty_set (suc j) i [] x less empty = tt
+empty_set (suc j) zero (l ∷ ls) x less empty = absurd (omega arith)
+empty_set (suc j) (suc i) (l ∷ ls) x less empty = (empty.0, empty_set j i ls x (omega arith) empty.1)
+
+pub empty_push : (j : ℕ) (ls : List (List Lease)) → IsEmptyBefore j ls → IsEmptyBefore j (ls ++ [] ∷ [])
+empty_push zero ls empty = tt
+empty_push (suc j) [] empty = (refl, by j)
+  where
+    by : (j : ℕ) → IsEmptyBefore j []
+    by zero = tt
+    by (suc j) = tt
+empty_push (suc j) (l ∷ ls) empty = (empty.0, empty_push j ls empty.1)
+
+-- where a list isn't empty the index is past the empty ones
+pub past_empty : (j i : ℕ) (ls : List (List Lease)) (l : List Lease) → i < length ls → l ≡ get_or ls i l → 0 < length l → IsEmptyBefore j ls → j ≤ i
+past_empty zero i ls l within at some empty = omega arith
+past_empty (suc j) i [] l within at some empty = absurd (omega arith)
+past_empty (suc j) zero (x ∷ ls) l within at some empty = absurd (omega (arith, some, ap length at, ap length empty.0))
+past_empty (suc j) (suc i) (x ∷ ls) l within at some empty = omega (arith, past_empty j i ls l (omega arith) at some empty.1)
+
+-- the first that isn't empty
+pub first_past : (i : ℕ) (ls : List (List Lease)) (l : List Lease) → i < length ls → l ≡ get_or ls i l → 0 < length l → IsEmptyBefore i ls
+    → position_or_len (λ (x : List Lease). nat_lt 0 (length x)) ls ≡ i
+first_past i [] l within at some empty = absurd (omega arith)
+first_past zero (x ∷ ls) l within at some empty =
+    ap (λ (b : Bool). cond (not b) (1 + position_or_len (λ (y : List Lease). nat_lt 0 (length y)) ls) 0) (lt-ltb 0 (length x) (omega (arith, some, ap length at)))
+first_past (suc i) (x ∷ ls) l within at some empty =
+    let none : nat_lt 0 (length x) ≡ false = ap (λ (y : List Lease). nat_lt 0 (length y)) empty.0 in
+    (λ j. cond (not (none j)) (1 + position_or_len (λ (y : List Lease). nat_lt 0 (length y)) ls) 0)
+    ∙ rw one-add (ap suc (first_past i ls l (omega arith) at some empty.1))
+
+pub none_past : (i : ℕ) (ls : List (List Lease)) → length ls ≤ i → IsEmptyBefore i ls → position_or_len (λ (x : List Lease). nat_lt 0 (length x)) ls ≡ length ls
+none_past i [] past empty = refl
+none_past zero (x ∷ ls) past empty = absurd (omega arith)
+none_past (suc i) (x ∷ ls) past empty =
+    let none : nat_lt 0 (length x) ≡ false = ap (λ (y : List Lease). nat_lt 0 (length y)) empty.0 in
+    (λ j. cond (not (none j)) (1 + position_or_len (λ (y : List Lease). nat_lt 0 (length y)) ls) 0)
+    ∙ rw one-add (ap suc (none_past i ls (omega arith) empty.1))
+
+-- The client at an index.
+
+client_in : (es : List (ℕ × Standing)) (ls : List (List Lease)) (i : ℕ) (e : ℕ × Standing) → length es ≡ length ls → slice_get es i ≡ Some e
+    → option_map (λ (a : Account). a.client) (slice_get (accounts_of es ls) i) ≡ Some e.0
+client_in [] ls i e same at = absurd (cc)
+client_in (d ∷ es) [] i e same at = absurd (omega arith)
+client_in (d ∷ es) (l ∷ ls) zero e same at =
+    let is : d ≡ e = cc in
+    ap (λ (p : ℕ × Standing). Some p.0) is
+client_in (d ∷ es) (l ∷ ls) (suc i) e same at = client_in es ls i e (omega arith) at
+
+pub client_at : (es : List (ℕ × Standing)) (ls : List (List Lease)) (accounts : List Account) (i : ℕ) (e : ℕ × Standing) → accounts_of es ls ≡ accounts → length es ≡ length ls
+    → Some e ≡ slice_get es i → option_map (λ (a : Account). a.client) (slice_get accounts i) ≡ Some e.0
+client_at es ls accounts i e is same at = ap (λ (xs : List Account). option_map (λ (a : Account). a.client) (slice_get xs i)) (sym is) ∙ client_in es ls i e same (sym at)
+
+pub past_none : {X : Type 0} (xs : List X) (i : ℕ) → None ≡ slice_get xs i → length xs ≤ i
+past_none [] i at = omega arith
+past_none (x ∷ xs) zero at = absurd (cc)
+past_none (x ∷ xs) (suc i) at = omega (arith, past_none xs i at)
+
+-- The search for a client that has a lease.
+
+empty_next : (i : ℕ) (ls : List (List Lease)) (l : List Lease) → l ≡ get_or ls i l → length l ≤ 0 → IsEmptyBefore i ls → IsEmptyBefore (suc i) ls
+empty_next i [] l at none empty = tt
+empty_next zero (x ∷ ls) l at none empty = (no_length x (omega (arith, none, ap length at)), tt)
+  where
+    no_length : (y : List Lease) → length y ≤ 0 → y ≡ []
+    no_length [] short = refl
+    no_length (z ∷ y) short = absurd (omega arith)
+empty_next (suc i) (x ∷ ls) l at none empty = (empty.0, empty_next i ls l at none empty.1)
+
+pub goes_past : (i : ℕ) (ls : List (List Lease)) (l : List Lease) → l ≡ get_or ls i l → length l ≤ 0 → IsEmptyBefore i ls → IsEmptyBefore (i + 1) ls
+goes_past i ls l at none empty =
+    let is : suc i ≡ i + 1 = omega arith in
+    subst (λ (k : ℕ). IsEmptyBefore k ls) is (empty_next i ls l at none empty)
+
+pub found_first : (i : ℕ) (ls : List (List Lease)) (l : List Lease) → i < length ls → l ≡ get_or ls i l → 0 < length l → IsEmptyBefore i ls
+    → Some i ≡ position (λ (x : List Lease). nat_lt 0 (length x)) ls
+found_first i ls l within at some empty =
+
+    let is : position_or_len (λ (x : List Lease). nat_lt 0 (length x)) ls ≡ i = first_past i ls l within at some empty in
+    ap Some (sym is)
+    ∙ sym (ap (λ (b : Bool). cond b (Some (position_or_len (λ (x : List Lease). nat_lt 0 (length x)) ls)) None)
+      (lt-ltb (position_or_len (λ (x : List Lease). nat_lt 0 (length x)) ls) (length ls) (omega (arith, is, within))))
+
+pub found_none : (i : ℕ) (ls : List (List Lease)) → length ls ≤ i → IsEmptyBefore i ls → None ≡ position (λ (x : List Lease). nat_lt 0 (length x)) ls
+found_none i ls past empty =
+    let is : position_or_len (λ (x : List Lease). nat_lt 0 (length x)) ls ≡ length ls = none_past i ls past empty in
+    sym (ap (λ (b : Bool). cond b (Some (position_or_len (λ (x : List Lease). nat_lt 0 (length x)) ls)) None)
+      (le-ltb (position_or_len (λ (x : List Lease). nat_lt 0 (length x)) ls) (length ls) (omega (arith, is))))

@@ -5,7 +5,7 @@ use Rattle.std.proofs.lemmas.List.Sums.{sum_by-cons, sum_by-append}
 use Rattle.deed_core.specs.Tag.{Tag}
 use Rattle.lease_book.specs.Account.{Lease, Account}
 use Rattle.lease_book.specs.Shelf.{account_with, accounts_of}
-use Rattle.lease_book.specs.Ledger.{segments, leased_by, units_in, units_of_lease}
+use Rattle.lease_book.specs.BookState.{segments, leased_by, units_in, units_of_lease}
 use Rattle.lease_book.specs.declared.accounts.Standing.{Standing}
 use Rattle.std.proofs.lemmas.Bool.{ltb-true}
 use Rattle.std.proofs.Common.{lt-ltb}

@@ -1,12 +1,14 @@
 -- What a book has on a client.
 use Rattle.std.specs.Prelude.{ℕ, ◌==◌, ◌&&◌, Bool, nat_lt, if◌then◌else◌, List, [], ◌∷◌, ◌++◌, Option, Some, None}
 use Rattle.deed_core.specs.Tag.{Tag}
-use Rattle.lease_book.specs.Kept.{Kept}
+use Rattle.lease_terms.specs.Requests.{RequestId}
+use Rattle.lease_book.specs.Receipts.{Kept}
 use Rattle.lease_book.specs.Entry.{Settlement, Grant, Return, Refuse}
 
--- a segment, and the incarnation of the client to which it was granted
+-- a segment, and the incarnation and number of the client's request that was granted it
 pub record Lease : Type 0 where
   pub incarnation : ℕ
+  pub number : ℕ
   pub segment : Tag
 
 -- its incarnation, its last number with the reply, and its leases in order of grant
@@ -26,7 +28,9 @@ last a = number_of a.kept
 
 -- whether it is a lease of the incarnation with this arena and base
 abbrev pub is_lease : ℕ → ℕ → ℕ → Lease → Bool
-is_lease incarnation arena base l = (incarnation == l.incarnation) && ((arena == l.segment.arena) && (base == l.segment.holding.range.base))
+is_lease incarnation arena base l =
+    (incarnation == l.incarnation)
+    && ((arena == l.segment.arena) && (base == l.segment.holding.range.base))
 
 -- whether it is a lease of an incarnation before this one
 abbrev pub is_older : ℕ → Lease → Bool
@@ -37,8 +41,12 @@ abbrev pub without : {X : Type 0} → (X → Bool) → List X → List X
 without test [] = []
 without test (x ∷ xs) = if test x then xs else x ∷ without test xs
 
--- the leases after a request of this incarnation was settled
-abbrev pub leases_after : ℕ → Settlement → List Lease → List Lease
-leases_after i (Grant t terms) leases = leases ++ record { incarnation = i; segment = t } ∷ []
-leases_after i (Return arena base) leases = without (is_lease i arena base) leases
-leases_after i (Refuse why) leases = leases
+-- the lease of a segment that the request was granted
+abbrev pub lease_of : RequestId → Tag → Lease
+lease_of id t = record { incarnation = id.incarnation; number = id.number; segment = t }
+
+-- the leases after the request was settled
+abbrev pub leases_after : RequestId → Settlement → List Lease → List Lease
+leases_after id (Grant t terms) leases = leases ++ lease_of id t ∷ []
+leases_after id (Return arena base) leases = without (is_lease id.incarnation arena base) leases
+leases_after id (Refuse why) leases = leases

@@ -8,21 +8,21 @@ use Rattle.lease_book.specs.Account.{Lease, Account}
 use Rattle.lease_book.specs.History.{account, clients_of, IsOrderly}
 
 -- its mark, and what it has on each client, in order of first hello
-pub record Ledger : Type 0 where
+pub record BookState : Type 0 where
   pub mark : Holding
   pub accounts : List Account
 
 -- the book is what is read off the entries
-pub record IsHistory (entries : List Entry) (book : Ledger) : Type 0 where
+pub record IsHistory (entries : List Entry) (book : BookState) : Type 0 where
   pub orderly : IsOrderly entries
   pub accounts : book.accounts ≡ map (account entries) (clients_of entries)
 
 -- some entries give the book
-abbrev pub HasHistory : Ledger → Type 0
+abbrev pub HasHistory : BookState → Type 0
 HasHistory book = (entries : List Entry) × IsHistory entries book
 
 -- whatever entries give the old book, those with this one give the new book
-pub record Enters (entry : Entry) (old new : Ledger) : Type 0 where
+pub record Enters (entry : Entry) (old new : BookState) : Type 0 where
   pub mark : new.mark ≡ old.mark
   pub history : (entries : List Entry) → IsHistory entries old → IsHistory (entry ∷ entries) new
 
@@ -35,7 +35,7 @@ or_nobody c None = nobody c
 or_nobody c (Some a) = a
 
 -- the account of a client
-abbrev pub account_in : ℕ → Ledger → Account
+abbrev pub account_in : ℕ → BookState → Account
 account_in c book = or_nobody c (find (λ a. c == a.client) book.accounts)
 
 abbrev pub segments : List Lease → List Tag
@@ -45,7 +45,7 @@ abbrev pub leased_by : List Account → List Tag
 leased_by accounts = flat_map (λ a. segments a.leases) accounts
 
 -- all segments that are leased
-abbrev pub leased : Ledger → List Tag
+abbrev pub leased : BookState → List Tag
 leased book = leased_by book.accounts
 
 -- all segments whose grants no later entry took away

@@ -1,10 +1,11 @@
 -- What happens to a book.
 use Rattle.std.specs.Prelude.{ℕ, Option, Some, None}
 use Rattle.deed_core.specs.Tag.{Tag}
-use Rattle.lease_book.specs.Kept.{Kept}
+use Rattle.lease_terms.specs.Requests.{RequestId}
+use Rattle.lease_terms.specs.declared.refusals.Refusal.{Refusal}
+use Rattle.lease_book.specs.Receipts.{Kept}
 use Rattle.lease_book.specs.declared.receipts.Reply.{Reply}
 use Rattle.lease_book.specs.declared.receipts.Reply.TheVariants.{Granted, Released, Refused}
-use Rattle.lease_book.specs.declared.receipts.Refusal.{Refusal}
 use Rattle.lease_book.specs.declared.receipts.Terms.{Terms}
 
 -- how a request was settled
@@ -18,8 +19,8 @@ pub data Settlement : Type 0 where
 pub data Entry : Type 0 where
   -- a client said hello
   Hello : (client incarnation : ℕ) → Entry
-  -- a client's number was settled
-  Settled : (client incarnation number : ℕ) → Settlement → Entry
+  -- a client's request was settled
+  Settled : (id : RequestId) → Settlement → Entry
   -- the client's lease with this arena and base was ended
   Swept : (client incarnation arena base : ℕ) → Entry
 

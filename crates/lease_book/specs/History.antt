@@ -1,22 +1,27 @@
 -- What is read off a list of entries, newest first.
-use Rattle.std.specs.Prelude.{◌≡◌, ℕ, ◌+◌, ◌<◌, ◌≤◌, ◌==◌, ◌&&◌, nat_lt, if◌then◌else◌, List, [], ◌∷◌, ◌++◌, Option, Some, None}
+use Rattle.std.specs.Prelude.{◌≡◌, ℕ, ◌+◌, ◌≤◌, ◌==◌, ◌&&◌, nat_lt, if◌then◌else◌, List, [], ◌∷◌, ◌++◌, Option, Some, None}
 use Rattle.std.specs.List.{list_any}
-use Rattle.lease_book.specs.Kept.{Kept}
-use Rattle.lease_book.specs.Entry.{Entry, Hello, Settled, Swept, kept}
+use Rattle.deed_core.specs.Extent.{IsRange}
+use Rattle.lease_terms.specs.Ranges.{IsClient, IsOrdinal, IsQuantity}
+use Rattle.lease_terms.specs.Requests.{IsRequestId}
+use Rattle.lease_book.specs.Receipts.{Kept}
+use Rattle.lease_book.specs.Entry.{Settlement, Grant, Return, Refuse, Entry, Hello, Settled, Swept, kept}
 use Rattle.lease_book.specs.Account.{Lease, Account, number_of, is_lease, without, leases_after}
 
 -- the incarnation of the client's last hello, or 0
 abbrev pub incarnation : ℕ → List Entry → ℕ
 incarnation c [] = 0
 incarnation c (Hello d i ∷ older) = if c == d then i else incarnation c older
-incarnation c (Settled d i n s ∷ older) = incarnation c older
+incarnation c (Settled id s ∷ older) = incarnation c older
 incarnation c (Swept d i a b ∷ older) = incarnation c older
 
 -- what was settled for that incarnation of the client, newest first
 abbrev pub settled_in : ℕ → ℕ → List Entry → List Kept
 settled_in c i [] = []
 settled_in c i (Hello d j ∷ older) = settled_in c i older
-settled_in c i (Settled d j n s ∷ older) = if (c == d) && (i == j) then kept n s ∷ settled_in c i older else settled_in c i older
+settled_in c i (Settled id s ∷ older) =
+    if (c == id.client) && (i == id.incarnation) then kept id.number s ∷ settled_in c i older
+    else settled_in c i older
 settled_in c i (Swept d j a b ∷ older) = settled_in c i older
 
 abbrev pub higher : Kept → Option Kept → Option Kept
@@ -32,14 +37,18 @@ greatest (k ∷ older) = higher k (greatest older)
 abbrev pub leases_of : ℕ → List Entry → List Lease
 leases_of c [] = []
 leases_of c (Hello d i ∷ older) = leases_of c older
-leases_of c (Settled d i n s ∷ older) = if c == d then leases_after i s (leases_of c older) else leases_of c older
-leases_of c (Swept d i a b ∷ older) = if c == d then without (is_lease i a b) (leases_of c older) else leases_of c older
+leases_of c (Settled id s ∷ older) =
+    if c == id.client then leases_after id s (leases_of c older) else leases_of c older
+leases_of c (Swept d i a b ∷ older) =
+    if c == d then without (is_lease i a b) (leases_of c older) else leases_of c older
 
 -- the clients that said hello, in order of their first
 abbrev pub clients_of : List Entry → List ℕ
 clients_of [] = []
-clients_of (Hello c i ∷ older) = if list_any (λ d. c == d) (clients_of older) then clients_of older else clients_of older ++ c ∷ []
-clients_of (Settled c i n s ∷ older) = clients_of older
+clients_of (Hello c i ∷ older) =
+    if list_any (λ d. c == d) (clients_of older) then clients_of older
+    else clients_of older ++ c ∷ []
+clients_of (Settled id s ∷ older) = clients_of older
 clients_of (Swept c i a b ∷ older) = clients_of older
 
 abbrev pub kept_of : ℕ → List Entry → Option Kept
@@ -47,11 +56,26 @@ kept_of c entries = greatest (settled_in c (incarnation c entries) entries)
 
 -- all that is read off about a client
 abbrev pub account : List Entry → ℕ → Account
-account entries c = record { client = c; incarnation = incarnation c entries; kept = kept_of c entries; leases = leases_of c entries }
+account entries c = record {
+  client = c;
+  incarnation = incarnation c entries;
+  kept = kept_of c entries;
+  leases = leases_of c entries;
+}
 
--- incarnations don't fall, and each of them has its numbers settled once and one after the other, while it is the current one
+-- the units that it names are in the range of units
+abbrev pub IsInRange : Settlement → Type 0
+IsInRange (Grant t terms) = IsRange t.holding.range
+IsInRange (Return arena base) = IsQuantity base
+IsInRange (Refuse why) = Unit {0}
+
+-- incarnations don't fall, and each of them has its numbers settled once and one after the other,
+-- while it is the current one; clients, incarnations, numbers and units are in their ranges
 abbrev pub IsOrderly : List Entry → Type 0
 IsOrderly [] = Unit {0}
-IsOrderly (Hello c i ∷ older) = (0 < i) × (incarnation c older ≤ i) × IsOrderly older
-IsOrderly (Settled c i n s ∷ older) = (0 < i) × (i ≡ incarnation c older) × (n ≡ number_of (kept_of c older) + 1) × IsOrderly older
+IsOrderly (Hello c i ∷ older) =
+    (IsClient c × IsOrdinal i) × (incarnation c older ≤ i) × IsOrderly older
+IsOrderly (Settled id s ∷ older) =
+    (IsRequestId id × IsInRange s) × (id.incarnation ≡ incarnation id.client older)
+    × (id.number ≡ number_of (kept_of id.client older) + 1) × IsOrderly older
 IsOrderly (Swept c i a b ∷ older) = IsOrderly older

@@ -1,9 +1,9 @@
-pub mod Kept
+pub mod Receipts
 pub mod Entry
 pub mod Account
 pub mod Shelf
 pub mod History
-pub mod Ledger
+pub mod BookState
 pub mod Answers
 pub mod Calls
 pub mod Reports

@@ -1,6 +1,7 @@
 -- What contracts see of a settled number and of a receipt.
-use Rattle.std.specs.Prelude.{ℕ, ◌<◌, ◌≤◌, ◌^◌, Option, Some, None}
+use Rattle.std.specs.Prelude.{ℕ, Option, Some, None}
 use Rattle.deed_core.specs.Request.{Fits}
+use Rattle.lease_terms.specs.Requests.{RequestId}
 use Rattle.lease_book.specs.declared.receipts.Reply.{Reply}
 use Rattle.lease_book.specs.declared.receipts.Reply.TheVariants.{Granted, Released, Refused}
 use Rattle.lease_book.specs.declared.receipts.Terms.{Terms}
@@ -20,19 +21,9 @@ IsEarned Released None = Unit {0}
 IsEarned (Refused why) (Some t) = ⊥
 IsEarned (Refused why) None = Unit {0}
 
--- a receipt: that the book with this mark settled a client's number
-pub record Voucher : Type 0 where
+-- a receipt: how the book with this mark settled a request
+pub record ReceiptState : Type 0 where
   pub book : ℕ
-  pub client : ℕ
-  pub incarnation : ℕ
-  pub kept : Kept
-
--- clients are numbered from 1 to 65,536
-pub record IsClient (client : ℕ) : Type 0 where
-  pub some : 0 < client
-  pub few : client ≤ 65536
-
--- incarnations and numbers of requests go from 1 to 2^62
-pub record IsNumber (number : ℕ) : Type 0 where
-  pub some : 0 < number
-  pub below : number ≤ 2 ^ 62
+  pub id : RequestId
+  pub reply : Reply
+  pub terms : Option Terms

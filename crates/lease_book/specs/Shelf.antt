@@ -1,22 +1,28 @@
--- Accounts as they are stored: what is kept of each client in a map in order of first hello, and beside it its leases.
+-- Accounts as they are stored: what is kept of each client in a map in order of first hello, and
+-- beside it its leases.
 use Rattle.std.specs.Prelude.{nat_eq, ◌≡◌, ℕ, suc, zero, ◌≤◌, List, [], ◌∷◌, length, All}
 use Rattle.std.specs.Map.{keys_of}
 use Rattle.std.specs.List.{IsDistinct}
-use Rattle.lease_book.specs.Kept.{IsClient}
+use Rattle.lease_terms.specs.Ranges.{IsClient}
 use Rattle.lease_book.specs.Account.{Lease, Account}
 use Rattle.lease_book.specs.declared.accounts.Standing.{Standing}
 
 -- an account, of its parts
 abbrev pub account_with : ℕ → Standing → List Lease → Account
-account_with c s leases = record { client = c; incarnation = s.incarnation; kept = s.kept; leases = leases }
+account_with c s leases = record {
+  client = c;
+  incarnation = s.incarnation;
+  kept = s.kept;
+  leases = leases;
+}
 
--- the accounts, the leases of each client at its place
+-- the accounts, the leases of each client at its index
 abbrev pub accounts_of : List (ℕ × Standing) → List (List Lease) → List Account
 accounts_of [] ls = []
 accounts_of (e ∷ es) [] = []
 accounts_of (e ∷ es) (l ∷ ls) = account_with e.0 e.1 l ∷ accounts_of es ls
 
--- there are leases at each client's place, of few clients, each standing once, few of each
+-- there are leases at each client's index, of few clients, each standing once, few of each
 pub record IsShelf (es : List (ℕ × Standing)) (ls : List (List Lease)) : Type 0 where
   pub together : length es ≡ length ls
   pub clients : All IsClient (keys_of es)
@@ -24,7 +30,18 @@ pub record IsShelf (es : List (ℕ × Standing)) (ls : List (List Lease)) : Type
   pub few : length es ≤ 65536
   pub limited : All (λ (l : List Lease). length l ≤ 1024) ls
 
--- the list with the member at a place changed
+-- no client before this index has a lease
+abbrev pub IsEmptyBefore : ℕ → List (List Lease) → Type 0
+IsEmptyBefore zero ls = Unit {0}
+IsEmptyBefore (suc i) [] = Unit {0}
+IsEmptyBefore (suc i) (l ∷ ls) = (l ≡ []) × IsEmptyBefore i ls
+
+-- the accounts as they are stored, none before this index with a lease
+pub record IsStored (es : List (ℕ × Standing)) (ls : List (List Lease)) (empty : ℕ) : Type 0 where
+  pub shelf : IsShelf es ls
+  pub before : IsEmptyBefore empty ls
+
+-- the list with the member at an index changed
 abbrev pub changed_at : {X : Type 0} → List X → ℕ → (X → X) → List X
 changed_at [] i f = []
 changed_at (x ∷ xs) zero f = f x ∷ xs
@@ -36,8 +53,18 @@ standing_of a = record { incarnation = a.incarnation; kept = a.kept }
 
 -- the account with this in its place
 abbrev pub with_standing : Standing → Account → Account
-with_standing s a = record { client = a.client; incarnation = s.incarnation; kept = s.kept; leases = a.leases }
+with_standing s a = record {
+  client = a.client;
+  incarnation = s.incarnation;
+  kept = s.kept;
+  leases = a.leases;
+}
 
 -- the account with its leases changed
 abbrev pub with_leases : (List Lease → List Lease) → Account → Account
-with_leases f a = record { client = a.client; incarnation = a.incarnation; kept = a.kept; leases = f a.leases }
+with_leases f a = record {
+  client = a.client;
+  incarnation = a.incarnation;
+  kept = a.kept;
+  leases = f a.leases;
+}

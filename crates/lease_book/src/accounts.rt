@@ -1,57 +1,62 @@
 //! The accounts of the clients, in order of first hello.
 ghost use Rattle.std.specs.Prelude.{◌≡◌, ◌≢◌, ◌+◌, ◌*◌, ◌<◌, ◌≤◌, ◌==◌, List, [], ◌∷◌, ◌++◌, length, All, OnOk, OnErr, IfErr, IfSome, IfNone, Some, None, slice_get, position, sum_by, nat_lt, option_map};
 ghost use Rattle.std.specs.List.{find, remove};
-ghost use Rattle.lease_book.specs.Kept.{IsClient};
+ghost use Rattle.lease_book.specs.Receipts.{IsEarned};
 ghost use Rattle.lease_book.specs.Account.{Account, number_of};
-ghost use Rattle.lease_book.specs.Ledger.{units_of_lease};
+ghost use Rattle.lease_book.specs.BookState.{units_of_lease};
+ghost use Rattle.lease_book.specs.Shelf.{IsEmptyBefore};
 
-use crate::leases::Leases;
-use crate::receipts::Kept;
+use crate::leases::{Held, Leases};
+use crate::receipts::{Kept, Reply, Terms};
 use crate::reports::ClientReport;
 use deed_core::{Deed, Segment};
 use indexmap::IndexMap;
+use lease_terms::{ClientId, Ordinal, Quantity, RequestId};
 use std::alloc::{AllocError, Global};
 use std::marker::Model;
 
 /// What is kept of a client, its leases apart.
 #[derive(Clone, Copy, Debug)]
 pub(crate) struct Standing {
-    pub incarnation: u64,
+    pub incarnation: Ordinal,
     pub kept: Option<Kept>,
 }
 
 impl Standing {
-    pub(crate) fn last(&self) -> u64
+    /// The last number that was settled, or 0.
+    pub(crate) fn last(&self) -> Quantity
         ensures { result ≡ number_of self.now.kept }
     {
         match &self.kept {
-            Some(kept) => kept.number(),
-            None => 0,
+            Some(kept) => kept.number().quantity(),
+            None => Quantity::ZERO,
         }
     }
 }
 
-/// What is kept of each client, and beside it its leases.
+/// What is kept of each client, and beside it its leases. No client before the index `empty` has a
+/// lease: so a search for a client that has one needn't begin from the first each time.
 pub(crate) struct Accounts<D: Deed> {
-    clients: IndexMap<u32, Standing>,
+    clients: IndexMap<ClientId, Standing>,
     leases: Vec<Leases<D>>,
+    empty: usize,
 }
 
 impl<D: Deed> Model for Accounts<D> {
     ghost use Rattle.std.specs.Prelude.{List};
     ghost use Rattle.lease_book.specs.Account.{Account};
-    ghost use Rattle.lease_book.specs.Shelf.{accounts_of, IsShelf};
+    ghost use Rattle.lease_book.specs.Shelf.{accounts_of, IsStored};
 
     ghost Value = { List Account };
 
     ghost view = { λ a. accounts_of a.clients.entries a.leases.items };
 
-    ghost invariant = { λ a. IsShelf a.clients.entries a.leases.items };
+    ghost invariant = { λ a. IsStored a.clients.entries a.leases.items a.empty };
 }
 
 impl<D: Deed> Accounts<D> {
     ghost use Rattle.lease_book.specs.Shelf.{account_with, changed_at, standing_of, with_standing, with_leases};
-    ghost use Rattle.lease_book.specs.Ledger.{leased_by, units_in};
+    ghost use Rattle.lease_book.specs.BookState.{leased_by, units_in};
     ghost use Rattle.lease_book.specs.Reports.{report_of};
 
     pub(crate) fn new(alloc: Global) -> Accounts<D>
@@ -60,6 +65,7 @@ impl<D: Deed> Accounts<D> {
         Accounts {
             clients: IndexMap::new(alloc),
             leases: Vec::new(alloc),
+            empty: 0,
         }
     }
 
@@ -70,10 +76,11 @@ impl<D: Deed> Accounts<D> {
         self.clients.len()
     }
 
-    /// The place of a client's account.
-    pub(crate) fn find(&self, client: u32) -> Option<usize>
+    /// The index of a client's account.
+    pub(crate) fn find(&self, client: ClientId) -> Option<usize>
         ensures within { IfSome result (λ i. i < length self.now) }
-        ensures found { IfSome result (λ i. find (λ a. client == a.client) self.now ≡ slice_get self.now i) }
+        ensures found { IfSome result
+            (λ i. find (λ a. client == a.client) self.now ≡ slice_get self.now i) }
         ensures none { IfNone result (find (λ a. client == a.client) self.now ≡ None) }
     {
         self.clients.get_index_of(&client)
@@ -93,28 +100,37 @@ impl<D: Deed> Accounts<D> {
         self.clients[index] = standing;
     }
 
-    /// Writes what a number was settled with.
-    pub(crate) fn keep(&mut self, index: usize, incarnation: u64, kept: Kept)
-        requires { index < length self.old }
-        ensures { self.new ≡ changed_at self.old index
-            (with_standing (record { incarnation = incarnation; kept = Some kept })) }
+    /// Writes and gives what a request was settled with.
+    pub(crate) fn keep(
+        &mut self,
+        index: usize,
+        id: RequestId,
+        reply: Reply,
+        terms: Option<Terms>,
+    ) -> Kept
+        requires within { index < length self.old }
+        requires earned { IsEarned reply terms }
+        ensures kept { result ≡ record { number = id.number; reply = reply; terms = terms } }
+        ensures accounts { self.new ≡ changed_at self.old index
+            (with_standing (record { incarnation = id.incarnation; kept = Some result })) }
     {
-        self.write(
-            index,
-            Standing {
-                incarnation,
-                kept: Some(kept),
-            },
-        );
+        let kept = Kept::new(id.number, reply, terms);
+        let standing = Standing {
+            incarnation: id.incarnation,
+            kept: Some(kept),
+        };
+        self.write(index, standing);
+        kept
     }
 
-    /// Adds the account of a new client. An error leaves all as it was.
-    pub(crate) fn open(&mut self, client: u32, standing: Standing) -> Result<(), AllocError>
-        requires client { IsClient client }
-        requires new { find (λ a. client == a.client) self.old ≡ None }
+    /// Adds the account of a new client.
+    pub(crate) fn open(&mut self, client: ClientId, standing: Standing) -> Result<(), AllocError>
+        requires { find (λ a. client == a.client) self.old ≡ None }
         ensures ok { OnOk result (self.new ≡ self.old ++ account_with client standing [] ∷ []) }
-        ensures err { OnErr result (self.new ≡ self.old) }
+        ensures unchanged { OnErr result (self.new ≡ self.old) }
     {
+        // For its clause: the client is in its range.
+        let _ = client.get();
         self.leases.reserve(1)?;
         self.clients.reserve(1)?;
         let leases = Leases::new(*self.leases.allocator());
@@ -126,7 +142,7 @@ impl<D: Deed> Accounts<D> {
         Ok(())
     }
 
-    /// The leases of the client whose account stands at a place.
+    /// The leases of the client whose account has this index.
     pub(crate) fn leases(&self, index: usize) -> &Leases<D>
         requires { index < length self.now }
         ensures leases { IfSome (slice_get self.now index) (λ a. a.leases ≡ result.now) }
@@ -135,44 +151,55 @@ impl<D: Deed> Accounts<D> {
         &self.leases[index]
     }
 
-    /// Adds a lease. Err is want of memory.
-    pub(crate) fn lease(
-        &mut self,
-        index: usize,
-        incarnation: u64,
-        segment: Segment<D>,
-    ) -> Result<(), Segment<D>>
+    /// Adds a lease. `Err` is out of memory.
+    pub(crate) fn lease(&mut self, index: usize, held: Held<D>) -> Result<(), Segment<D>>
         requires within { index < length self.old }
         requires room { IfSome (slice_get self.old index) (λ a. length a.leases < 1024) }
         ensures ok { OnOk result (self.new ≡ changed_at self.old index
-            (with_leases (λ ls. ls ++ record { incarnation = incarnation; segment = segment } ∷ []))) }
-        ensures err { OnErr result (self.new ≡ self.old) }
-        ensures handed_back { IfErr result (λ s. s ≡ segment) }
+            (with_leases (λ ls. ls ++ held ∷ []))) }
+        ensures unchanged { OnErr result (self.new ≡ self.old) }
+        ensures handed_back { IfErr result (λ s. s ≡ held.segment) }
     {
-        self.leases[index].add(incarnation, segment)
+        self.empty = self.empty.min(index);
+        self.leases[index].add(held)
     }
 
-    /// Takes a lease out, with the incarnation that had it.
-    pub(crate) fn take(&mut self, index: usize, place: usize) -> (u64, Segment<D>)
+    /// Takes a lease out.
+    pub(crate) fn take(&mut self, index: usize, lease: usize) -> Held<D>
         requires within { index < length self.old }
-        requires stands { IfSome (slice_get self.old index) (λ a. place < length a.leases) }
+        requires stands { IfSome (slice_get self.old index) (λ a. lease < length a.leases) }
         ensures lease { IfSome (slice_get self.old index)
-            (λ a. slice_get a.leases place ≡ Some (record { incarnation = result.0; segment = result.1 })) }
-        ensures rest { self.new ≡ changed_at self.old index (with_leases (λ ls. remove ls place)) }
+            (λ a. slice_get a.leases lease ≡ Some result) }
+        ensures rest { self.new ≡ changed_at self.old index (with_leases (λ ls. remove ls lease)) }
     {
-        self.leases[index].take(place)
+        self.leases[index].take(lease)
     }
 
-    /// The place of a client that has a lease.
-    pub(crate) fn first_leased(&self) -> Option<usize>
-        ensures within { IfSome result (λ i. i < length self.now) }
-        ensures found { IfSome result (λ i. IfSome (slice_get self.now i) (λ a. 0 < length a.leases)) }
-        ensures own { IfSome result (λ i.
-            IfSome (slice_get self.now i) (λ a. find (λ b. a.client == b.client) self.now ≡ Some a)) }
-        ensures some { IfSome result (λ _. leased_by self.now ≢ []) }
-        ensures none { IfNone result (leased_by self.now ≡ []) }
+    /// The index of a client that has a lease. The search goes on where the one before ended.
+    pub(crate) fn first_leased(&mut self) -> Option<usize>
+        ensures unchanged { self.new ≡ self.old }
+        ensures within { IfSome result (λ i. i < length self.new) }
+        ensures found { IfSome result
+            (λ i. IfSome (slice_get self.new i) (λ a. 0 < length a.leases)) }
+        ensures own { IfSome result (λ i. IfSome (slice_get self.new i)
+            (λ a. find (λ b. a.client == b.client) self.new ≡ Some a)) }
+        ensures some { IfSome result (λ _. leased_by self.new ≢ []) }
+        ensures none { IfNone result (leased_by self.new ≡ []) }
     {
-        first_leased(&self.leases)
+        let index = first_leased(&self.leases, self.empty)?;
+        self.empty = index;
+        Some(index)
+    }
+
+    /// The client whose account has this index.
+    pub(crate) fn client(&self, index: usize) -> ClientId
+        requires { index < length self.now }
+        ensures { option_map (λ a. a.client) (slice_get self.now index) ≡ Some result }
+    {
+        match self.clients.get_index(index) {
+            Some((client, _)) => *client,
+            None => unreachable!(),
+        }
     }
 
     pub(crate) fn report(&self, index: usize) -> Option<ClientReport>
@@ -201,15 +228,24 @@ impl<D: Deed> Accounts<D> {
         let Accounts {
             clients: _clients,
             leases,
+            empty: _empty,
         } = self;
         close_all(leases);
     }
 }
 
-fn first_leased<D: Deed>(leases: &[Leases<D>]) -> Option<usize>
-    ensures { result ≡ position (λ l. nat_lt 0 (length l)) leases.now }
+/// The first that has a lease, where those before an index have none.
+fn first_leased<D: Deed>(leases: &[Leases<D>], empty: usize) -> Option<usize>
+    requires { IsEmptyBefore empty leases.now }
+    ensures value { result ≡ position (λ l. nat_lt 0 (length l)) leases.now }
+    ensures before { IfSome result (λ i. IsEmptyBefore i leases.now) }
 {
-    leases.iter().position(|one| 0 < one.len())
+    for index in empty..leases.len() {
+        if 0 < leases[index].len() {
+            return Some(index);
+        }
+    }
+    None
 }
 
 fn units_of<D: Deed>(leases: &[Leases<D>], arena: u32) -> u128

@@ -3,16 +3,17 @@ ghost use Rattle.std.specs.Prelude.{◌≡◌};
 ghost use Rattle.lease_book.specs.Answers.{answer_of};
 
 use crate::receipts::Receipt;
+use lease_terms::Quantity;
 use thiserror::Error;
 
 /// Why a hello isn't taken.
 #[derive(Debug, Drop, Error)]
 pub enum HelloFault {
     /// The incarnation is below this, the current one.
-    #[error("the current incarnation of the client is {0}")]
-    Old(u64),
-    /// Want of memory, at the first hello of a client.
-    #[error("memory is wanted")]
+    #[error("the current incarnation of the client is {}", .0.get())]
+    Old(Quantity),
+    /// Out of memory, at the first hello of a client.
+    #[error("out of memory")]
     NoMemory,
 }
 
@@ -24,11 +25,11 @@ pub enum Look<D> {
     /// The last number, with its reply.
     Kept(Receipt<D>),
     /// Another incarnation than this, the current one; 0 where the client never said hello.
-    Old(u64),
+    Old(Quantity),
     /// A number below this, the last one.
-    Stale(u64),
+    Stale(Quantity),
     /// A number that leaves out the one after this, the last one.
-    Gap(u64),
+    Gap(Quantity),
 }
 
 impl<D> Look<D> {
@@ -52,13 +53,13 @@ pub enum Answer<D> {
     /// The number was settled before, with this reply.
     Kept(Receipt<D>),
     /// The incarnation isn't this, the current one; 0 where the client never said hello.
-    Old(u64),
+    Old(Quantity),
     /// The number is below this, the last one.
-    Stale(u64),
+    Stale(Quantity),
     /// The number leaves out the one after this, the last one.
-    Gap(u64),
+    Gap(Quantity),
     /// The request is refused, and the number settled so.
     Refused(Receipt<D>),
-    /// Want of memory: nothing is settled.
+    /// Out of memory: nothing is settled.
     Again,
 }

@@ -3,18 +3,21 @@ ghost use Rattle.std.specs.Prelude.{◌≡◌, ◌==◌, ◌<◌, ◌≤◌, ◌
 ghost use Rattle.std.specs.List.{find};
 ghost use Rattle.std.specs.Option.{option_map};
 ghost use Rattle.deed_core.specs.Request.{Fits};
-ghost use Rattle.lease_book.specs.Kept.{IsClient, IsNumber, Kept};
+ghost use Rattle.lease_terms.specs.Requests.{IsRequestId};
+ghost use Rattle.lease_book.specs.Receipts.{Kept};
 ghost use Rattle.lease_book.specs.Entry.{Entry, Hello, kept};
 ghost use Rattle.lease_book.specs.Account.{last, is_lease};
 ghost use Rattle.lease_book.specs.History.{account, clients_of};
-ghost use Rattle.lease_book.specs.Ledger.{Ledger, IsHistory, HasHistory, Enters, account_in, leased, leased_in, units_in};
+ghost use Rattle.lease_book.specs.BookState.{BookState, IsHistory, HasHistory, Enters, account_in, leased, leased_in, units_in};
 ghost use Rattle.lease_book.specs.Reports.{report_of};
 
 use crate::accounts::{Accounts, Standing};
 use crate::answers::{Answer, HelloFault, Look};
-use crate::receipts::{Kept, Receipt, Refusal, Reply, Terms};
+use crate::leases::Held;
+use crate::receipts::{Kept, Receipt, Reply, Terms};
 use crate::reports::ClientReport;
 use deed_core::{Deed, Request, Segment};
+use lease_terms::{ClientId, Ordinal, Quantity, Refusal, RequestId};
 use std::alloc::Global;
 use std::marker::Model;
 
@@ -22,17 +25,16 @@ use std::marker::Model;
 pub const LEASES: usize = 1024;
 
 /// Which client holds which segment, and the last number and the kept reply of each client's current
-/// incarnation. Clients go from 1 to 65,536, incarnations and numbers of requests from 1 to 2^62. (Our own
-/// choice.)
+/// incarnation.
 pub struct Book<D: Deed> {
     mark: D,
     accounts: Accounts<D>,
 }
 
 impl<D: Deed> Model for Book<D> {
-    ghost use Rattle.lease_book.specs.Ledger.{Ledger, HasHistory};
+    ghost use Rattle.lease_book.specs.BookState.{BookState, HasHistory};
 
-    ghost Value = { Ledger };
+    ghost Value = { BookState };
 
     ghost view = { λ b. record { mark = D.holding b.mark; accounts = b.accounts } };
 
@@ -42,7 +44,7 @@ impl<D: Deed> Model for Book<D> {
 impl<D: Deed> Book<D> {
     ghost use Rattle.lease_book.specs.Answers.{receipt, IsNew, IsLook, IsAnswer, IsHelloFault};
     ghost use Rattle.lease_book.specs.Shelf.{standing_of};
-    ghost use Rattle.lease_book.specs.Calls.{IsFound, IsGranted, IsRefused, IsReleased, IsSwept, IsTaken};
+    ghost use Rattle.lease_book.specs.Calls.{IsFound, IsGranted, IsRefused, IsReleased, IsEnded, IsSwept};
 
     /// An empty book. The mark is a deed of the one unit 0; its root tells the book's receipts from
     /// another's.
@@ -67,7 +69,7 @@ impl<D: Deed> Book<D> {
     }
 
     /// Ends a book of no leases, and gives its mark back.
-    pub fn close(self) -> Result<D, Book<D>>
+    pub fn close(mut self) -> Result<D, Book<D>>
         ensures exactly { IsOk result ↔ (leased self ≡ []) }
         ensures mark { IfOk result (λ mark. D.holding mark ≡ self.mark) }
         ensures handed_back { IfErr result (λ book. book ≡ self) }
@@ -82,202 +84,162 @@ impl<D: Deed> Book<D> {
 
     /// Takes a client's hello with an incarnation. Room for the reply that is kept of the client is
     /// made by its first hello, so that a later one never wants memory.
-    pub fn hello(&mut self, client: u32, incarnation: u64) -> Result<(), HelloFault>
-        requires client { IsClient client }
-        requires incarnation { IsNumber incarnation }
+    pub fn hello(&mut self, client: ClientId, incarnation: Ordinal) -> Result<(), HelloFault>
         ensures taken { OnOk result (Enters (Hello client incarnation) self.old self.new) }
-        ensures same { incarnation ≡ (account_in client self.old).incarnation → self.new ≡ self.old }
+        ensures known { incarnation ≡ (account_in client self.old).incarnation → self.new ≡ self.old }
         ensures leases { leased self.new ≡ leased self.old }
         ensures current { OnOk result ((account_in client self.old).incarnation ≤ incarnation) }
         ensures fault { IfErr result (IsHelloFault (account_in client self.old).incarnation incarnation) }
-        ensures refused { OnErr result (self.new ≡ self.old) }
+        ensures unchanged { OnErr result (self.new ≡ self.old) }
     {
-        let Some((place, standing)) = self.account(client) else {
-            let standing = Standing {
-                incarnation,
-                kept: None,
-            };
-            let Ok(()) = self.accounts.open(client, standing) else {
+        // For their clauses: the numbers are in their ranges.
+        let _ = client.get();
+        let _ = incarnation.get();
+        let fresh = Standing {
+            incarnation,
+            kept: None,
+        };
+        let Some((index, standing)) = self.account(client) else {
+            let Ok(()) = self.accounts.open(client, fresh) else {
                 return Err(HelloFault::NoMemory);
             };
             return Ok(());
         };
-        if incarnation < standing.incarnation {
-            return Err(HelloFault::Old(standing.incarnation));
+        if incarnation.get() < standing.incarnation.get() {
+            return Err(HelloFault::Old(standing.incarnation.quantity()));
         }
-        if incarnation > standing.incarnation {
-            self.accounts.write(
-                place,
-                Standing {
-                    incarnation,
-                    kept: None,
-                },
-            );
+        if incarnation.get() > standing.incarnation.get() {
+            self.accounts.write(index, fresh);
         }
         Ok(())
     }
 
-    /// What a number of a client is to the book.
-    pub fn look(&self, client: u32, incarnation: u64, number: u64) -> Look<D>
-        requires client { IsClient client }
-        requires incarnation { IsNumber incarnation }
-        requires number { IsNumber number }
-        ensures look { IsLook self.now (account_in client self.now) incarnation number result }
+    /// What a request's number is to the book.
+    pub fn look(&self, id: RequestId) -> Look<D>
+        ensures look { IsLook self.now (account_in id.client self.now) id result }
         ensures history { (entries : List Entry)
             → IsHistory entries self.now
-            → IsLook self.now (account entries client) incarnation number result }
+            → IsLook self.now (account entries id.client) id result }
     {
-        self.seek(client, incarnation, number)
+        self.seek(id)
     }
 
-    /// Settles a new number by a grant of the segment, which is of the arena and fits the request with
+    /// Settles a new request by a grant of the segment, which is of the arena and fits the request with
     /// its quantum. The request is refused where the client has as many leases as it may; that settles
-    /// the number too. Each Err hands the segment back.
+    /// the number too. Each `Err` hands the segment back.
     pub fn settle(
         &mut self,
-        client: u32,
-        incarnation: u64,
-        number: u64,
+        id: RequestId,
         arena: u32,
         quantum: u64,
         request: &Request,
         segment: Segment<D>,
     ) -> Result<Receipt<D>, (Segment<D>, Answer<D>)>
-        requires client { IsClient client }
-        requires incarnation { IsNumber incarnation }
-        requires number { IsNumber number }
         requires arena { segment.arena ≡ arena }
-        requires fits { Fits quantum request.now segment.holding.range.base segment.holding.range.len }
-        ensures granted { IfOk result
-            (IsGranted self.old self.new client incarnation number segment
+        requires fits { Fits quantum request.now
+            segment.holding.range.base segment.holding.range.len }
+        ensures granted { IfOk result (IsGranted self.old self.new id segment
             (record { quantum = quantum; request = request.now })) }
         ensures handed_back { IfErr result (λ r. r.0 ≡ segment) }
-        ensures answer { IfErr result (λ r.
-            IsAnswer self.old self.new client incarnation number
-            (λ v. IsRefused self.old self.new client incarnation number Refusal.Leases v
-            × (1024 ≤ length (account_in client self.old).leases))
-            (IsNew (account_in client self.old) incarnation number
-            × (length (account_in client self.old).leases < 1024))
+        ensures answer { IfErr result (λ r. IsAnswer self.old self.new id
+            (λ v. IsRefused self.old self.new id Refusal.Leases v
+            × (1024 ≤ length (account_in id.client self.old).leases))
+            (IsNew (account_in id.client self.old) id
+            × (length (account_in id.client self.old).leases < 1024))
             r.1) }
     {
-        let place = match self.admit(client, incarnation, number) {
-            Ok(place) => place,
+        let index = match self.admit(id) {
+            Ok(index) => index,
             Err(answer) => return Err((segment, answer)),
         };
-        if self.accounts.leases(place).len() == LEASES {
-            let kept = Kept::new(number, Reply::Refused(Refusal::Leases), None);
-            self.accounts.keep(place, incarnation, kept);
-            let receipt = self.receipt(client, incarnation, kept);
-            return Err((segment, Answer::Refused(receipt)));
+        if self.accounts.leases(index).len() == LEASES {
+            let reply = Reply::Refused(Refusal::Leases);
+            let kept = self.accounts.keep(index, id, reply, None);
+            return Err((segment, Answer::Refused(self.receipt(id, kept))));
         }
-        let range = segment.range();
-        let reply = Reply::Granted {
-            arena,
-            base: range.base(),
-            len: range.len(),
+        let reply = Reply::granted(arena, &segment.range());
+        let held = Held {
+            incarnation: id.incarnation,
+            number: id.number,
+            segment,
         };
-        let terms = Terms {
-            quantum,
-            request: *request,
-        };
-        match self.accounts.lease(place, incarnation, segment) {
+        match self.accounts.lease(index, held) {
             Ok(()) => {
-                let kept = Kept::new(number, reply, Some(terms));
-                self.accounts.keep(place, incarnation, kept);
-                Ok(self.receipt(client, incarnation, kept))
+                let terms = Terms {
+                    quantum,
+                    request: *request,
+                };
+                let kept = self.accounts.keep(index, id, reply, Some(terms));
+                Ok(self.receipt(id, kept))
             }
             Err(segment) => Err((segment, Answer::Again)),
         }
     }
 
-    /// Settles a new number by a refusal.
-    pub fn refuse(
-        &mut self,
-        client: u32,
-        incarnation: u64,
-        number: u64,
-        refusal: Refusal,
-    ) -> Answer<D>
-        requires client { IsClient client }
-        requires incarnation { IsNumber incarnation }
-        requires number { IsNumber number }
-        ensures { IsAnswer self.old self.new client incarnation number
-            (IsRefused self.old self.new client incarnation number refusal)
-            ⊥
-            result }
+    /// Settles a new request by a refusal.
+    pub fn refuse(&mut self, id: RequestId, refusal: Refusal) -> Answer<D>
+        ensures { IsAnswer self.old self.new id (IsRefused self.old self.new id refusal) ⊥ result }
     {
-        match self.admit(client, incarnation, number) {
-            Ok(place) => {
-                let kept = Kept::new(number, Reply::Refused(refusal), None);
-                self.accounts.keep(place, incarnation, kept);
-                Answer::Refused(self.receipt(client, incarnation, kept))
+        match self.admit(id) {
+            Ok(index) => {
+                let kept = self.accounts.keep(index, id, Reply::Refused(refusal), None);
+                Answer::Refused(self.receipt(id, kept))
             }
             Err(answer) => answer,
         }
     }
 
-    /// Settles a new number by the release of the first lease of the incarnation with this arena and
+    /// Settles a new request by the release of the first lease of the incarnation with this arena and
     /// base. Where the incarnation has none the request is refused, and that settles the number too.
     pub fn release(
         &mut self,
-        client: u32,
-        incarnation: u64,
-        number: u64,
+        id: RequestId,
         arena: u32,
-        base: u64,
+        base: Quantity,
     ) -> Result<(Receipt<D>, Segment<D>), Answer<D>>
-        requires client { IsClient client }
-        requires incarnation { IsNumber incarnation }
-        requires number { IsNumber number }
-        ensures released { IfOk result
-            (λ r. IsReleased self.old self.new client incarnation number arena base r.0 r.1) }
-        ensures answer { IfErr result
-            (IsAnswer self.old self.new client incarnation number
-            (λ v. IsRefused self.old self.new client incarnation number Refusal.NotYours v
-            × (find (is_lease incarnation arena base) (account_in client self.old).leases ≡ None))
+        ensures released { IfOk result (λ r. IsReleased self.old self.new id arena base r.0 r.1) }
+        ensures answer { IfErr result (IsAnswer self.old self.new id
+            (λ v. IsRefused self.old self.new id Refusal.NotYours v
+            × (find (is_lease id.incarnation arena base) (account_in id.client self.old).leases ≡ None))
             ⊥) }
     {
-        let place = self.admit(client, incarnation, number)?;
-        let Some(index) = self
-            .accounts
-            .leases(place)
-            .position(incarnation, arena, base)
-        else {
-            let kept = Kept::new(number, Reply::Refused(Refusal::NotYours), None);
-            self.accounts.keep(place, incarnation, kept);
-            return Err(Answer::Refused(self.receipt(client, incarnation, kept)));
+        let index = self.admit(id)?;
+        let leases = self.accounts.leases(index);
+        let Some(lease) = leases.position(id.incarnation, arena, base) else {
+            let reply = Reply::Refused(Refusal::NotYours);
+            let kept = self.accounts.keep(index, id, reply, None);
+            return Err(Answer::Refused(self.receipt(id, kept)));
         };
-        let (_, segment) = self.accounts.take(place, index);
-        let kept = Kept::new(number, Reply::Released, None);
-        self.accounts.keep(place, incarnation, kept);
-        Ok((self.receipt(client, incarnation, kept), segment))
+        let (_, segment) = self.accounts.take(index, lease).ended(id.client);
+        let kept = self.accounts.keep(index, id, Reply::Released, None);
+        Ok((self.receipt(id, kept), segment))
     }
 
-    /// Ends a lease of an older incarnation of the client. Which one is left open; it is the first in
-    /// order of grant.
-    pub fn sweep(&mut self, client: u32) -> Option<Segment<D>>
-        requires { IsClient client }
-        ensures swept { IfSome result (IsSwept self.old self.new client) }
+    /// Ends a lease of an older incarnation of the client, and gives it with the request that was
+    /// granted it. Which one is left open; it is the first in order of grant.
+    pub fn sweep(&mut self, client: ClientId) -> Option<(RequestId, Segment<D>)>
+        ensures swept { IfSome result (λ r. IsSwept self.old self.new client r.0 r.1) }
         ensures none { IfNone result
             (All (λ l. (account_in client self.old).incarnation ≤ l.incarnation)
             (account_in client self.old).leases) }
         ensures unchanged { IfNone result (self.new ≡ self.old) }
     {
-        let (place, standing) = self.account(client)?;
-        let index = self.accounts.leases(place).older(standing.incarnation)?;
-        let (_, segment) = self.accounts.take(place, index);
-        Some(segment)
+        let (index, standing) = self.account(client)?;
+        let lease = self.accounts.leases(index).older(standing.incarnation)?;
+        Some(self.accounts.take(index, lease).ended(client))
     }
 
-    /// Ends a lease, whichever, at a system's end.
-    pub fn take_lease(&mut self) -> Option<Segment<D>>
-        ensures taken { IfSome result (IsTaken self.old self.new) }
+    /// Ends a lease, whichever, at a system's end, and gives it with the request that was granted it.
+    /// A search goes on where the one before ended, so that ending all leases takes no longer than
+    /// there are clients and leases.
+    pub fn take_lease(&mut self) -> Option<(RequestId, Segment<D>)>
+        ensures taken { IfSome result (λ r. IsEnded self.old self.new r.0 r.1) }
         ensures exactly { IsNone result ↔ (leased self.old ≡ []) }
         ensures unchanged { IfNone result (self.new ≡ self.old) }
     {
-        let place = self.accounts.first_leased()?;
-        let (_, segment) = self.accounts.take(place, 0);
-        Some(segment)
+        let index = self.accounts.first_leased()?;
+        let client = self.accounts.client(index);
+        Some(self.accounts.take(index, 0).ended(client))
     }
 
     /// The units of the arena that are leased.
@@ -312,60 +274,57 @@ impl<D: Deed> Book<D> {
         self.accounts.report(index)
     }
 
-    fn account(&self, client: u32) -> Option<(usize, Standing)>
+    fn account(&self, client: ClientId) -> Option<(usize, Standing)>
         ensures found { IfSome result (λ r. IsFound self.now client r.0) }
         ensures standing { IfSome result (λ r. standing_of (account_in client self.now) ≡ r.1) }
         ensures none { IfNone result (find (λ a. client == a.client) self.now.accounts ≡ None) }
     {
-        let place = self.accounts.find(client)?;
-        Some((place, self.accounts.standing(place)))
+        let index = self.accounts.find(client)?;
+        Some((index, self.accounts.standing(index)))
     }
 
-    fn seek(&self, client: u32, incarnation: u64, number: u64) -> Look<D>
-        requires incarnation { IsNumber incarnation }
-        requires number { IsNumber number }
-        ensures { IsLook self.now (account_in client self.now) incarnation number result }
+    fn seek(&self, id: RequestId) -> Look<D>
+        ensures { IsLook self.now (account_in id.client self.now) id result }
     {
-        let Some((_, standing)) = self.account(client) else {
-            return Look::Old(0);
+        let Some((_, standing)) = self.account(id.client) else {
+            return Look::Old(Quantity::ZERO);
         };
-        if incarnation != standing.incarnation {
-            return Look::Old(standing.incarnation);
+        if id.incarnation.get() != standing.incarnation.get() {
+            return Look::Old(standing.incarnation.quantity());
         }
         let last = standing.last();
-        if number < last {
+        let number = id.number.get();
+        if number < last.get() {
             return Look::Stale(last);
         }
-        if number - last > 1 {
+        if number - last.get() > 1 {
             return Look::Gap(last);
         }
-        if number > last {
+        if number > last.get() {
             return Look::New;
         }
         match standing.kept {
-            Some(kept) => Look::Kept(self.receipt(client, incarnation, kept)),
+            Some(kept) => Look::Kept(self.receipt(id, kept)),
             None => unreachable!(),
         }
     }
 
-    fn receipt(&self, client: u32, incarnation: u64, kept: Kept) -> Receipt<D>
-        ensures { result ≡ receipt self.now client incarnation kept }
+    fn receipt(&self, id: RequestId, kept: Kept) -> Receipt<D>
+        ensures { result ≡ receipt self.now id kept }
     {
-        Receipt::new(self.mark.root(), client, incarnation, kept)
+        Receipt::new(self.mark.root(), id, kept)
     }
 
-    /// The place of the client's account, where the number is new.
-    fn admit(&self, client: u32, incarnation: u64, number: u64) -> Result<usize, Answer<D>>
-        requires incarnation { IsNumber incarnation }
-        requires number { IsNumber number }
-        ensures new { IfOk result (λ _. IsNew (account_in client self.now) incarnation number) }
-        ensures place { IfOk result (λ place. IsFound self.now client place) }
-        ensures answer { IfErr result (IsAnswer self.now self.now client incarnation number (λ _. ⊥) ⊥) }
+    /// The index of the client's account, where the number is new.
+    fn admit(&self, id: RequestId) -> Result<usize, Answer<D>>
+        ensures new { IfOk result (λ _. IsNew (account_in id.client self.now) id) }
+        ensures index { IfOk result (λ index. IsFound self.now id.client index) }
+        ensures answer { IfErr result (IsAnswer self.now self.now id (λ _. ⊥) ⊥) }
     {
-        match self.seek(client, incarnation, number).answer() {
+        match self.seek(id).answer() {
             Some(answer) => Err(answer),
-            None => match self.account(client) {
-                Some((place, _)) => Ok(place),
+            None => match self.account(id.client) {
+                Some((index, _)) => Ok(index),
                 None => unreachable!(),
             },
         }

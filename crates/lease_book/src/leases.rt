@@ -2,16 +2,18 @@
 ghost use Rattle.std.specs.Prelude.{◌≡◌, ◌+◌, ◌*◌, ◌^◌, ◌<◌, ◌≤◌, [], ◌∷◌, ◌++◌, length, OnOk, OnErr, IfErr, Some, slice_get, position, sum_by};
 ghost use Rattle.std.specs.List.{remove};
 ghost use Rattle.lease_book.specs.Account.{Lease, is_lease, is_older};
-ghost use Rattle.lease_book.specs.Ledger.{units_of_lease};
+ghost use Rattle.lease_book.specs.BookState.{units_of_lease};
 
 use deed_core::{Deed, Segment};
+use lease_terms::{ClientId, Ordinal, Quantity, RequestId};
 use std::alloc::Global;
 use std::marker::Model;
 
-/// A leased segment, and the incarnation of the client that it was granted to.
+/// A leased segment, and the incarnation and number of the client's request that was granted it.
 pub(crate) struct Held<D: Deed> {
-    incarnation: u64,
-    segment: Segment<D>,
+    pub incarnation: Ordinal,
+    pub number: Ordinal,
+    pub segment: Segment<D>,
 }
 
 impl<D: Deed> Model for Held<D> {
@@ -19,22 +21,44 @@ impl<D: Deed> Model for Held<D> {
 
     ghost Value = { Lease };
 
-    ghost view = { λ h. record { incarnation = h.incarnation; segment = h.segment } };
+    ghost view = { λ h. record {
+        incarnation = h.incarnation; number = h.number; segment = h.segment
+    } };
 }
 
 impl<D: Deed> Held<D> {
-    fn is_lease(&self, incarnation: u64, arena: u32, base: u64) -> bool
+    fn is_lease(&self, incarnation: Ordinal, arena: u32, base: Quantity) -> bool
         ensures { result ≡ is_lease incarnation arena base self.now }
     {
-        incarnation == self.incarnation
+        incarnation.get() == self.incarnation.get()
             && arena == self.segment.arena()
-            && base == self.segment.range().base()
+            && base.get() == self.segment.range().base()
     }
 
-    fn is_older(&self, incarnation: u64) -> bool
+    fn is_older(&self, incarnation: Ordinal) -> bool
         ensures { result ≡ is_older incarnation self.now }
     {
-        self.incarnation < incarnation
+        self.incarnation.get() < incarnation.get()
+    }
+
+    /// The segment, and the client's request that was granted it.
+    pub(crate) fn ended(self, client: ClientId) -> (RequestId, Segment<D>)
+        ensures request { result.0 ≡ record {
+            client = client; incarnation = self.incarnation; number = self.number
+        } }
+        ensures segment { result.1 ≡ self.segment }
+    {
+        let Held {
+            incarnation,
+            number,
+            segment,
+        } = self;
+        let id = RequestId {
+            client,
+            incarnation,
+            number,
+        };
+        (id, segment)
     }
 
     fn units(&self, arena: u32) -> u64
@@ -78,25 +102,31 @@ impl<D: Deed> Leases<D> {
         self.held.len()
     }
 
-    /// Adds a lease. Err is want of memory.
-    pub(crate) fn add(&mut self, incarnation: u64, segment: Segment<D>) -> Result<(), Segment<D>>
-        ensures ok { OnOk result
-            (self.new ≡ self.old ++ record { incarnation = incarnation; segment = segment } ∷ []) }
-        ensures err { OnErr result (self.new ≡ self.old) }
-        ensures handed_back { IfErr result (λ s. s ≡ segment) }
+    /// Adds a lease. `Err` is out of memory.
+    pub(crate) fn add(&mut self, held: Held<D>) -> Result<(), Segment<D>>
+        ensures ok { OnOk result (self.new ≡ self.old ++ held ∷ []) }
+        ensures unchanged { OnErr result (self.new ≡ self.old) }
+        ensures handed_back { IfErr result (λ s. s ≡ held.segment) }
     {
         let Ok(()) = self.held.reserve(1) else {
+            let Held {
+                incarnation: _,
+                number: _,
+                segment,
+            } = held;
             return Err(segment);
         };
-        self.held.push_reserved(Held {
-            incarnation,
-            segment,
-        });
+        self.held.push_reserved(held);
         Ok(())
     }
 
     /// Where the first lease of the incarnation with this arena and base stands.
-    pub(crate) fn position(&self, incarnation: u64, arena: u32, base: u64) -> Option<usize>
+    pub(crate) fn position(
+        &self,
+        incarnation: Ordinal,
+        arena: u32,
+        base: Quantity,
+    ) -> Option<usize>
         ensures { result ≡ position (is_lease incarnation arena base) self.now }
     {
         self.held
@@ -105,23 +135,19 @@ impl<D: Deed> Leases<D> {
     }
 
     /// Where the first lease of an incarnation before this one stands.
-    pub(crate) fn older(&self, incarnation: u64) -> Option<usize>
+    pub(crate) fn older(&self, incarnation: Ordinal) -> Option<usize>
         ensures { result ≡ position (is_older incarnation) self.now }
     {
         self.held.iter().position(|held| held.is_older(incarnation))
     }
 
-    /// Takes the lease at a place out, with the incarnation that had it.
-    pub(crate) fn take(&mut self, index: usize) -> (u64, Segment<D>)
+    /// Takes the lease at an index out.
+    pub(crate) fn take(&mut self, index: usize) -> Held<D>
         requires { index < length self.old }
-        ensures lease { slice_get self.old index ≡ Some (record { incarnation = result.0; segment = result.1 }) }
+        ensures lease { slice_get self.old index ≡ Some result }
         ensures rest { self.new ≡ remove self.old index }
     {
-        let Held {
-            incarnation,
-            segment,
-        } = self.held.remove(index);
-        (incarnation, segment)
+        self.held.remove(index)
     }
 
     /// The units of the arena that are leased.

@@ -21,8 +21,6 @@ mod reports;
 pub use answers::{Answer, HelloFault, Look};
 pub use books::{Book, LEASES};
 pub use laws::account_law;
-pub use receipts::{Receipt, Refusal, Reply, Terms};
+pub use receipts::{Receipt, Reply, Terms};
 pub use reports::ClientReport;
 
-#[cfg(test)]
-mod tests;

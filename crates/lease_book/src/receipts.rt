@@ -1,30 +1,34 @@
 //! Replies that are kept, and receipts for them.
 ghost use Rattle.std.specs.Prelude.{◌≡◌};
+ghost use Rattle.deed_core.specs.Extent.{IsRange};
 
-use deed_core::Request;
+use deed_core::{Range, Request};
+use lease_terms::{Quantity, Refusal, RequestId, Ordinal};
 use std::marker::{Model, PhantomData};
-
-/// Why a request was refused.
-#[derive(Clone, Copy, PartialEq, Eq, Debug)]
-pub enum Refusal {
-    /// No range of the arena serves the request.
-    NoFit,
-    /// The request has a value that no arena serves.
-    BadRequest,
-    /// No arena has the name.
-    NoArena,
-    /// The client's current incarnation has no such lease.
-    NotYours,
-    /// The client has as many leases as it may.
-    Leases,
-}
 
 /// The answer to a number that is settled. Bases and lengths are in units.
 #[derive(Clone, Copy, PartialEq, Eq, Debug)]
 pub enum Reply {
-    Granted { arena: u32, base: u64, len: u64 },
+    Granted {
+        arena: u32,
+        base: Quantity,
+        len: Quantity,
+    },
     Released,
     Refused(Refusal),
+}
+
+impl Reply {
+    /// The reply to a request that was granted this range of the arena.
+    pub(crate) fn granted(arena: u32, range: &Range) -> Reply
+        ensures { result ≡ Reply.Granted arena range.now.base range.now.len }
+    {
+        let (base, len) = (range.base(), range.len());
+        match (Quantity::new(base), Quantity::new(len)) {
+            (Some(base), Some(len)) => Reply::Granted { arena, base, len },
+            _ => unreachable!(),
+        }
+    }
 }
 
 /// What a grant was made for.
@@ -38,13 +42,13 @@ pub struct Terms {
 /// A settled number, with its reply, and for a grant its terms, which it meets.
 #[derive(Clone, Copy, PartialEq, Eq, Debug)]
 pub(crate) struct Kept {
-    number: u64,
+    number: Ordinal,
     reply: Reply,
     terms: Option<Terms>,
 }
 
 impl Model for Kept {
-    ghost use Rattle.lease_book.specs.Kept.{Kept, IsEarned};
+    ghost use Rattle.lease_book.specs.Receipts.{Kept, IsEarned};
 
     ghost Value = { Kept };
 
@@ -56,9 +60,9 @@ impl Model for Kept {
 }
 
 impl Kept {
-    ghost use Rattle.lease_book.specs.Kept.{IsEarned};
+    ghost use Rattle.lease_book.specs.Receipts.{IsEarned};
 
-    pub(crate) fn new(number: u64, reply: Reply, terms: Option<Terms>) -> Kept
+    pub(crate) fn new(number: Ordinal, reply: Reply, terms: Option<Terms>) -> Kept
         requires { IsEarned reply terms }
         ensures { result ≡ record { number = number; reply = reply; terms = terms } }
     {
@@ -69,44 +73,52 @@ impl Kept {
         }
     }
 
-    pub(crate) fn number(&self) -> u64
+    pub(crate) fn number(&self) -> Ordinal
         ensures { result ≡ self.now.number }
     {
         self.number
     }
 }
 
-/// That a book settled a number with a reply. Only a book makes one. `D` is the type of its deeds.
+/// How a book settled a request. Only a book makes one. `D` is the type of its deeds.
 #[derive_where(Clone, Copy, PartialEq, Eq, Debug)]
 pub struct Receipt<D> {
     book: u32,
-    client: u32,
-    incarnation: u64,
-    kept: Kept,
+    id: RequestId,
+    reply: Reply,
+    terms: Option<Terms>,
     of: PhantomData<D>,
 }
 
 impl<D> Model for Receipt<D> {
-    ghost use Rattle.lease_book.specs.Kept.{Voucher};
+    ghost use Rattle.lease_book.specs.Receipts.{ReceiptState, IsEarned};
 
-    ghost Value = { Voucher };
+    ghost Value = { ReceiptState };
 
-    ghost view = { λ r. record { book = r.book; client = r.client; incarnation = r.incarnation; kept = r.kept } };
+    ghost view = { λ r. record { book = r.book; id = r.id; reply = r.reply; terms = r.terms } };
 
-    ghost inverse = { λ p. record { book = p.book; client = p.client; incarnation = p.incarnation; kept = p.kept; of = record {} } };
+    ghost invariant = { λ r. IsEarned r.reply r.terms };
+
+    ghost inverse = { λ s. record {
+        book = s.book; id = s.id; reply = s.reply; terms = s.terms; of = record {}
+    } };
 }
 
 impl<D> Receipt<D> {
-    ghost use Rattle.lease_book.specs.Kept.{IsEarned};
+    ghost use Rattle.lease_book.specs.Receipts.{IsEarned};
+    ghost use Rattle.lease_terms.specs.Requests.{IsRequestId};
 
-    pub(crate) fn new(book: u32, client: u32, incarnation: u64, kept: Kept) -> Receipt<D>
-        ensures { result ≡ record { book = book; client = client; incarnation = incarnation; kept = kept } }
+    pub(crate) fn new(book: u32, id: RequestId, kept: Kept) -> Receipt<D>
+        ensures value { result ≡ record {
+            book = book; id = id; reply = kept.reply; terms = kept.terms
+        } }
+        ensures earned { IsEarned kept.reply kept.terms }
     {
         Receipt {
             book,
-            client,
-            incarnation,
-            kept,
+            id,
+            reply: kept.reply,
+            terms: kept.terms,
             of: PhantomData,
         }
     }
@@ -118,40 +130,28 @@ impl<D> Receipt<D> {
         self.book
     }
 
-    /// The client whose request was settled.
-    pub fn client(&self) -> u32
-        ensures { result ≡ self.now.client }
+    /// The request that was settled.
+    pub fn id(&self) -> RequestId
+        ensures value { result ≡ self.now.id }
+        ensures range { IsRequestId result }
     {
-        self.client
-    }
-
-    /// The incarnation of the client that made the request.
-    pub fn incarnation(&self) -> u64
-        ensures { result ≡ self.now.incarnation }
-    {
-        self.incarnation
-    }
-
-    /// The number of the request in its incarnation.
-    pub fn number(&self) -> u64
-        ensures { result ≡ self.now.kept.number }
-    {
-        self.kept.number
+        self.id.check();
+        self.id
     }
 
     /// The reply, which a request that comes again gets too.
     pub fn reply(&self) -> Reply
-        ensures value { result ≡ self.now.kept.reply }
-        ensures earned { IsEarned result self.now.kept.terms }
+        ensures value { result ≡ self.now.reply }
+        ensures earned { IsEarned result self.now.terms }
     {
-        self.kept.reply
+        self.reply
     }
 
     /// What a grant was made for; nothing for another reply.
     pub fn terms(&self) -> Option<Terms>
-        ensures value { result ≡ self.now.kept.terms }
-        ensures earned { IsEarned self.now.kept.reply result }
+        ensures value { result ≡ self.now.terms }
+        ensures earned { IsEarned self.now.reply result }
     {
-        self.kept.terms
+        self.terms
     }
 }

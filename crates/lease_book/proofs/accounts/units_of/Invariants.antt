@@ -1,5 +1,5 @@
 use Rattle.std.proofs.Common.{◌≡◌, ◌*◌, ◌^◌, ◌≤◌, sum_by, take}
-use Rattle.lease_book.specs.Ledger.{units_of_lease}
+use Rattle.lease_book.specs.BookState.{units_of_lease}
 use Rattle.lease_book.proofs.accounts.units_of.Given as goal
 
 abbrev pub invariant-loop-one : goal.invariant-loop-one

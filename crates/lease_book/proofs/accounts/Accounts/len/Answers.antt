@@ -5,4 +5,4 @@ use Rattle.lease_book.proofs.accounts.Accounts.len.Goals as goal
 
 pub returns-clause-count : goal.returns-clause-count
 returns-clause-count g c =
-    c.len.ensures.len ∙ sym (length-accounts_of _ _ c.self.invariant.together) ∙ ap (λ (xs : List Account). length xs) c.self.view_is
+    c.len.ensures.len ∙ sym (length-accounts_of _ _ c.self.invariant.shelf.together) ∙ ap (λ (xs : List Account). length xs) c.self.view_is

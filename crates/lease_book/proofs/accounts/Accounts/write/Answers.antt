@@ -5,10 +5,13 @@ use Rattle.lease_book.proofs.ShelfLemmas.{within_parts, write_standing, shelf_wr
 use Rattle.lease_book.proofs.accounts.Accounts.write.Goals as goal
 
 pub index_mut-requires : goal.index_mut-requires
-index_mut-requires g c = (within_parts _ _ _ _ c.self.view_is c.self.invariant.together c.requires).0
+index_mut-requires g c = (within_parts _ _ _ _ c.self.view_is c.self.invariant.shelf.together c.requires).0
 
 pub invariant_of-self : goal.invariant_of-self
-invariant_of-self g c = shelf_write c.self.inside.clients.entries c.self.inside.leases.items c.args.index c.args.standing c.self.invariant
+invariant_of-self g c = record {
+  shelf = shelf_write c.self.inside.clients.entries c.self.inside.leases.items c.args.index c.args.standing c.self.invariant.shelf;
+  before = c.self.invariant.before;
+}
 
 pub returns : goal.returns
 returns g c =

@@ -1,5 +1,5 @@
 use Rattle.std.proofs.Common.{ap, ◌∙◌}
-use Rattle.lease_book.specs.Ledger.{leased}
+use Rattle.lease_book.specs.BookState.{leased}
 use Rattle.lease_book.proofs.BookLemmas.{some_of}
 use Rattle.lease_book.proofs.books.Book.close.Goals as goal
 

@@ -1,5 +1,5 @@
 use Rattle.std.proofs.Common.{◌≡◌, ap, arith}
-use Rattle.lease_book.specs.Ledger.{account_in}
+use Rattle.lease_book.specs.BookState.{account_in}
 use Rattle.lease_book.specs.declared.accounts.Standing.{Standing}
 use Rattle.lease_book.proofs.BookLemmas.{greeted_first, greeted_above, greets_again, leased_at}
 use Rattle.lease_book.proofs.books.Book.hello.Goals as goal

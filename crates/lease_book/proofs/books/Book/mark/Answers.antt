@@ -1,5 +1,5 @@
 use Rattle.std.proofs.Common.{subst}
-use Rattle.lease_book.specs.Ledger.{HasHistory}
+use Rattle.lease_book.specs.BookState.{HasHistory}
 use Rattle.lease_book.proofs.books.Book.mark.Goals as goal
 
 pub returns-clause-history : goal.returns-clause-history

@@ -2,8 +2,8 @@ use Rattle.std.proofs.Common.{◌<◌, length, position, refl, sym, ap, ◌∙�
 use Rattle.std.specs.List.{find, remove}
 use Rattle.lease_book.specs.Account.{is_lease}
 use Rattle.lease_book.specs.Shelf.{with_leases}
-use Rattle.lease_book.specs.Ledger.{Ledger, account_in}
-use Rattle.lease_book.specs.declared.receipts.Refusal.TheVariants as refusal
+use Rattle.lease_book.specs.BookState.{BookState, account_in}
+use Rattle.lease_terms.specs.declared.refusals.Refusal.TheVariants as refusal
 use Rattle.lease_book.proofs.PlaceLemmas.{first_of, none_of}
 use Rattle.lease_book.proofs.BookLemmas.{leases_found, refused_at, released_at, length-changed_at}
 use Rattle.lease_book.proofs.books.Book.release.Goals as goal
@@ -22,7 +22,7 @@ returns-in_default-clause-answer g c =
 pub keep-requires-2 : goal.keep-requires-2
 keep-requires-2 g c =
     let within : c.in_ok-place.place < length c.args.self.now.accounts = c.in_ok-place.ensures.place.within in
-    omega (arith, within, ap length c.take-segment.ensures.rest, length-changed_at c.self.inside.accounts c.in_ok-place.place (with_leases (λ ls. remove ls c.in-Some.index)), ap (λ (b : Ledger). length b.accounts) c.self.view_is)
+    omega (arith, within, ap length c.take-segment.ensures.rest, length-changed_at c.self.inside.accounts c.in_ok-place.place (with_leases (λ ls. remove ls c.in-Some.index)), ap (λ (b : BookState). length b.accounts) c.self.view_is)
 
 pub invariant_of-self-2 : goal.invariant_of-self-2
 invariant_of-self-2 g c =

@@ -1,8 +1,8 @@
 use Rattle.std.proofs.Common.{◌<◌, [], ◌∷◌, ◌++◌, length, refl, ap, ◌∙◌, arith}
 use Rattle.deed_core.specs.Extent.{Extent}
 use Rattle.lease_book.specs.Shelf.{with_leases}
-use Rattle.lease_book.specs.Ledger.{Ledger, account_in}
-use Rattle.lease_book.specs.declared.receipts.Refusal.TheVariants as refusal
+use Rattle.lease_book.specs.BookState.{BookState, account_in}
+use Rattle.lease_terms.specs.declared.refusals.Refusal.TheVariants as refusal
 use Rattle.lease_book.proofs.BookLemmas.{leases_found, refused_at, granted_at, kept_grant, length-changed_at}
 use Rattle.lease_book.proofs.books.Book.settle.Goals as goal
 
@@ -20,7 +20,7 @@ returns-then-len-eq-LEASES-clause-answer g c =
 pub keep-requires-in-Ok-lease : goal.keep-requires-in-Ok-lease
 keep-requires-in-Ok-lease g c =
     let within : c.in-Ok.place < length c.args.self.now.accounts = c.in-Ok.ensures.place.within in
-    omega (arith, within, ap length c.in-Ok-lease.ensures.ok, length-changed_at c.self.inside.accounts c.in-Ok.place (with_leases (λ ls. ls ++ record { incarnation = c.args.incarnation; segment = c.args.segment } ∷ [])), ap (λ (b : Ledger). length b.accounts) c.self.view_is)
+    omega (arith, within, ap length c.in-Ok-lease.ensures.ok, length-changed_at c.self.inside.accounts c.in-Ok.place (with_leases (λ ls. ls ++ record { incarnation = c.args.incarnation; segment = c.args.segment } ∷ [])), ap (λ (b : BookState). length b.accounts) c.self.view_is)
 
 pub invariant_of-self-in-Ok-lease : goal.invariant_of-self-in-Ok-lease
 invariant_of-self-in-Ok-lease g c =

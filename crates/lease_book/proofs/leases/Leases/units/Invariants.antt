@@ -1,5 +1,5 @@
 use Rattle.std.proofs.Common.{◌≡◌, ◌*◌, ◌^◌, ◌≤◌, sum_by, take}
-use Rattle.lease_book.specs.Ledger.{units_of_lease}
+use Rattle.lease_book.specs.BookState.{units_of_lease}
 use Rattle.lease_book.proofs.leases.Leases.units.Given as goal
 
 abbrev pub invariant-loop-held : goal.invariant-loop-held
