@@ -1,23 +1,19 @@
 -- Which bytes are served.
-use Rattle.std.proofs.Common.{◌≡◌, ℕ, true, false, List, [], ◌∷◌, Result, Ok, refl, sym, ◌∙◌, ap, subst, inl, inr, codes}
+use Rattle.std.proofs.Common.{◌≡◌, ℕ, false, List, [], ◌∷◌, Ok, refl, ◌∙◌, ap, subst, inl, inr, codes}
 use Rattle.std.specs.Str.{bytes_eq}
 use Rattle.std.specs.List.{join_with_byte}
-use Rattle.lease_proto.specs.declared.faults.LineFault.{LineFault}
 use Rattle.lease_proto.specs.declared.lines.Line.{Line}
 use Rattle.lease_proto.specs.declared.lines.Line.TheVariants.{Hello, Request}
 use Rattle.lease_proto.specs.declared.lines.Op.TheVariants.{Lease, Release}
 use Rattle.lease_proto.specs.declared.operators.OperatorLine.{OperatorLine}
 use Rattle.lease_proto.specs.declared.operators.OperatorLine.TheVariants.{Audit, Clients}
-use Rattle.lease_proto.specs.declared.operators.ServedLine.{ServedLine}
 use Rattle.lease_proto.specs.declared.operators.ServedLine.TheVariants.{Client, Operator}
-use Rattle.lease_proto.specs.Words.{parts_of}
 use Rattle.lease_proto.specs.Values.{◌>>=◌, words_of}
 use Rattle.lease_proto.specs.Grammar.{end_of, line_of, line_of_words, line_of_first}
 use Rattle.lease_proto.specs.Texts.{first_word}
 use Rattle.lease_proto.specs.Operators.{operator_text, served_of, served_of_words, ClientsAreServed, OperatorsAreServed}
 use Rattle.lease_proto.proofs.ReadLemmas.{step, told, end_step, words_says}
 use Rattle.lease_proto.proofs.LineLemmas.{words_say}
-use Rattle.lease_proto.proofs.GrammarLemmas.{parts_of-sentence}
 
 -- an operator's word is no client's
 client_none : {A : Type 0} (words : List (List ℕ)) (o : OperatorLine) (line : Line) → (end_of words >>= λ e. Ok (Operator o)) ≡ Ok (Client line) → A
@@ -84,10 +80,8 @@ operator_words (first ∷ words) o e = elim (told first (codes "audit") _ _ _ e)
 
 operator_again : (o : OperatorLine) → served_of (operator_text o) ≡ Ok (Operator o)
 unfolding served_of served_of_words
-operator_again Audit =
-    let parts : parts_of (codes "audit") ≡ codes "audit" ∷ [] = parts_of-sentence (codes "audit") [] refl refl in rw parts refl
-operator_again Clients =
-    let parts : parts_of (codes "clients") ≡ codes "clients" ∷ [] = parts_of-sentence (codes "clients") [] refl refl in rw parts refl
+operator_again Audit = refl
+operator_again Clients = refl
 
 pub operators_are_served : OperatorsAreServed
 unfolding served_of

@@ -1,5 +1,5 @@
 -- What is written of a reply is read again.
-use Rattle.std.proofs.Common.{◌≡◌, ℕ, ◌≤◌, true, if◌then◌else◌, List, [], ◌∷◌, ◌++◌, length, decimal, Result, Ok, Err, refl, ◌∙◌, ap, subst, arith, inl, inr, codes, lit≤}
+use Rattle.std.proofs.Common.{◌≡◌, ℕ, ◌≤◌, true, if◌then◌else◌, List, [], ◌∷◌, length, decimal, Result, Ok, Err, refl, ◌∙◌, ap, subst, arith, inl, inr, codes, lit≤}
 use Rattle.std.proofs.lemmas.List.{length-append}
 use Rattle.std.proofs.lemmas.Bool.{le-ltb, and_parts, and_from}
 use Rattle.std.specs.List.{list_all}
@@ -181,7 +181,7 @@ other_reply first words =
     else if bytes_eq first (codes "stale") then (out_of_turn_of words >>= λ r. Ok (Stale r))
     else if bytes_eq first (codes "gap") then (out_of_turn_of words >>= λ r. Ok (Gap r))
     else if bytes_eq first (codes "again") then (again_of words >>= λ r. Ok (Again r))
-    else if bytes_eq first (codes "error") then (error_of words >>= λ fault. Ok (Error error))
+    else if bytes_eq first (codes "error") then (error_of words >>= λ r. Ok (Error r))
     else Err faults.Word
 
 other_words_say : (first : List ℕ) (words : List (List ℕ)) (reply : Reply) → other_reply first words ≡ Ok reply → Says first words reply

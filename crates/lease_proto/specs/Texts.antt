@@ -69,7 +69,8 @@ text_of line = sentence (first_word line) (words_after line)
 -- the values that the options' types keep
 abbrev pub AreOptions : LeaseOptions → Type 0
 AreOptions o =
-    IsQuantity o.align × IsQuantity o.phase × IsQuantity o.nocross × IsQuantity o.min × IsQuantity o.max
+    IsQuantity o.align × IsQuantity o.phase × IsQuantity o.nocross
+    × IsQuantity o.min × IsQuantity o.max
 
 -- the values that the types of what is asked for keep
 abbrev pub IsOp : Op → Type 0
@@ -96,7 +97,8 @@ GivesOptions ((key, default, value) ∷ options) words =
 
 -- these words may stand behind the id of a request that asks for this
 abbrev pub AsksFor : Op → List (List ℕ) → Type 0
-AsksFor (ops.Lease l) words = (options : List (List ℕ)) × GivesOptions (options_of l.options) options
+AsksFor (ops.Lease l) words = (options : List (List ℕ))
+    × GivesOptions (options_of l.options) options
     × (words ≡ l.arena ∷ decimal l.size ∷ options)
 AsksFor (ops.Release r) words = words ≡ release_words r
 

@@ -8,7 +8,8 @@ use Rattle.lease_proto.specs.Words.{is_sentence, parts_of, number_of}
 
 -- what the second makes of the first's value, unless the first is refused
 infixl 10 ◌>>=◌
-abbrev pub ◌>>=◌ : {A B : Type 0} → Result A LineFault → (A → Result B LineFault) → Result B LineFault
+abbrev pub ◌>>=◌ : {A B : Type 0} → Result A LineFault → (A → Result B LineFault)
+    → Result B LineFault
 (Ok x) >>= f = f x
 (Err e) >>= f = Err e
 

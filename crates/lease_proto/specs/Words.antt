@@ -31,4 +31,5 @@ number_of (b ∷ c ∷ bs) = if b == 48 then None else digits_from 0 (b ∷ c �
 
 -- a word writes a number just where it is its decimal digits
 abbrev pub NumbersAreDecimal : Type 0
-NumbersAreDecimal = (word : List ℕ) (n : ℕ) → (number_of word ≡ Some n) ↔ ((word ≡ decimal n) × (n ≤ 2 ^ 62))
+NumbersAreDecimal = (word : List ℕ) (n : ℕ)
+    → (number_of word ≡ Some n) ↔ ((word ≡ decimal n) × (n ≤ 2 ^ 62))

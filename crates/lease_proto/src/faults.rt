@@ -3,14 +3,15 @@
 use thiserror::Error;
 
 /// Why a line is refused, by the protocol's word for it. They stand in the order in which they are
-/// looked for, but for a `BadLine` in the words after the first, which comes between `Word` and `Number`.
+/// looked for, but for a `BadLine` in the words after the first, which comes between `Word` and
+/// `Number`.
 #[derive(Clone, Copy, Debug, PartialEq, Eq, Error)]
 pub enum LineFault {
     /// More than 255 bytes before the line feed, or before the end of the input.
     #[error("toolong")]
     TooLong,
-    /// No line feed, no words with one space between them, the wrong number of words, an option that is
-    /// unknown, repeated or out of order, or a word that is no name where a name stands.
+    /// No line feed, no words with one space between them, the wrong number of words, an option that
+    /// is unknown, repeated or out of order, or a word that is no name where a name stands.
     #[error("badline")]
     BadLine,
     /// The first word is none that may stand here.

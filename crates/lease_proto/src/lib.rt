@@ -3,14 +3,14 @@
 //!
 //! `LineReader` (framing) cuts a stream into lines. There are three kinds of line: a client's, `Line`
 //! (lines), which is a hello, or a request's id and the `Op` that it asks for; an operator's,
-//! `OperatorLine`; and a setup's, `SetupLine` (setup_lines). `ServedLine` (operators) is what may come
-//! after a setup: one of the first two. An answer is a `Reply` (replies) to a client, or a report
-//! (reports) to an operator, or an `error` line (faults). A client reads replies and writes lines, a
-//! server the other way.
+//! `OperatorLine`; and a setup's, `SetupLine` (setup_lines). `ServedLine` (operators) is what may
+//! come after a setup: one of the first two. An answer is a `Reply` (replies) to a client, or a
+//! report (reports) to an operator, or an `error` line (faults). A client writes lines and reads
+//! replies, a server the other way.
 //!
 //! What bytes a line may be is stated in specs/Grammar.antt, specs/Operators.antt and
-//! specs/SetupLines.antt, of a reply in specs/Replies.antt, and of a report in specs/Reports.antt. To
-//! read a line looks at each of its at most 255 bytes a few times and takes no memory.
+//! specs/SetupLines.antt, of a reply in specs/Replies.antt, and of a report in specs/Reports.antt.
+//! To read a line looks at each of its at most 255 bytes a few times and takes no memory.
 #![tactic(auto)]
 
 mod faults;

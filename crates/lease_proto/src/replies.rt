@@ -318,8 +318,8 @@ impl Reply {
         }
     }
 
-    /// Appends the reply and a line feed. It fails only when out of memory, and never where there is
-    /// room for `LONGEST_LINE + 1` bytes more.
+    /// Appends the reply and a line feed. It fails only when out of memory, and never where there
+    /// is room for `LONGEST_LINE + 1` bytes more.
     pub fn write(&self, out: &mut Vec<u8>) -> Result<(), AllocError>
         ensures ok { OnOk result (out.new.items ≡ out.old.items ++ ended (reply_text self.now)) }
         ensures unchanged { OnErr result (out.new.items ≡ out.old.items) }
@@ -390,7 +390,8 @@ impl Reply {
         }
     }
 
-    /// The id of the request that it answers; a reply to a hello, an `old` and an `error` have none.
+    /// The id of the request that it answers; a reply to a hello, an `old` and an `error` have
+    /// none.
     pub fn request(&self) -> Option<RequestId>
         ensures { result ≡ request_named self.now }
     {

@@ -6,7 +6,8 @@ ghost use Rattle.lease_proto.specs.Reports.{audit_text, sums_text, kept_text, gi
 use lease_terms::{ClientId, Name, Ordinal, Quantity};
 use std::alloc::AllocError;
 
-/// `arena NAME free F slab S magazine M exported X leased L hand H`: where the units of an arena are.
+/// `arena NAME free F slab S magazine M exported X leased L hand H`: where the units of an arena
+/// are.
 #[derive(Clone, Copy, Debug, PartialEq, Eq)]
 pub struct AuditLine {
     pub name: Name,
@@ -24,8 +25,8 @@ pub struct AuditLine {
 }
 
 impl AuditLine {
-    /// Appends the line and a line feed. It fails only when out of memory, and may then have appended
-    /// a part of it.
+    /// Appends the line and a line feed. It fails only when out of memory, and may then have
+    /// appended a part of it.
     pub fn write(&self, out: &mut Vec<u8>) -> Result<(), AllocError>
         ensures ok { OnOk result (out.new.items ≡ out.old.items ++ audit_text self.now) }
         ensures front { OnErr result (StartsWith out.new.items out.old.items) }

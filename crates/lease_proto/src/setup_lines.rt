@@ -17,8 +17,8 @@ pub enum PolicyWord {
     Next,
 }
 
-/// `root NAME BASE LEN QUANTUM POLICY QMAX`: an arena with one owned span. The base and the lengths are
-/// in units; QMAX is the greatest size that has a cache, or 0 for none.
+/// `root NAME BASE LEN QUANTUM POLICY QMAX`: an arena with one owned span. The base and the lengths
+/// are in units; QMAX is the greatest size that has a cache, or 0 for none.
 #[derive(Clone, Copy, Debug, PartialEq, Eq)]
 pub struct RootLine {
     pub name: Name,
@@ -52,8 +52,8 @@ impl RootLine {
     }
 }
 
-/// `child NAME SOURCE QUANTUM POLICY QMAX IMPORTMIN`: an arena that imports its spans from a source,
-/// at least IMPORTMIN units at a time.
+/// `child NAME SOURCE QUANTUM POLICY QMAX IMPORTMIN`: an arena that imports its spans from a
+/// source, at least IMPORTMIN units at a time.
 #[derive(Clone, Copy, Debug, PartialEq, Eq)]
 pub struct ChildLine {
     pub name: Name,
