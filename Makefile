@@ -1,16 +1,29 @@
 # make        proves what the program stands on, and leaves the program as bin/vmemd
-# make test   the gate: every proof from nothing, the must-fail edits, the tests, the program's runs
+# make test   the gate: every proof from nothing, the must-fail edits, the tests, the program's cases
+# make edits  tries all edits, those of more-edits/ too, of JOBS=1 crates at a time;
+#             make edits CRATE=NAME tries one crate's
+# make cases  runs bin/vmemd on tests/cases
 # make clean  removes what was built
 
-.PHONY: all test clean
+.PHONY: all test edits cases clean
+
+JOBS = 1
 
 all:
 	cd crates/vmemd && rt run -- script < stdin > /dev/null
 	mkdir -p bin
 	cp crates/vmemd/out/vmemd bin/vmemd
 
+# rt ci leaves the programs that it proved and ran under crates/vmemd/out, and the cases run on them.
 test:
-	rt ci
+	tools/edits --apply-only
+	rt ci; proved=$$?; tools/cases; ran=$$?; test $$proved = 0 && test $$ran = 0
+
+edits:
+	tools/edits --jobs $(JOBS) $(CRATE)
+
+cases: all
+	tools/cases bin/vmemd
 
 clean:
 	rm -rf bin crates/*/out

@@ -1,0 +1,1 @@
+exec "$vmemd" script 2>&-
