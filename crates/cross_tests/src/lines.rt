@@ -301,7 +301,10 @@ fn the_words_of_other_lines(rt: HostRuntime) {
     for (text, fault) in NO_SETUP_LINES {
         assert_eq!(rt; SetupLine::read(text.as_bytes()), Err(fault), "at {text}");
     }
-    assert_eq!(rt; SetupLine::read(b"span m 4611686018427387904 1").is_ok(), true);
+    assert_eq!(rt;
+        SetupLine::read(b"span m 4611686018427387904 1").is_ok(),
+        true
+    );
     assert_eq!(rt;
         ServedLine::read(b"audit"),
         Ok(ServedLine::Operator(OperatorLine::Audit))

@@ -64,7 +64,7 @@ fn carve(
     ensures sound { AreSpaces spaces.new.items }
     ensures carved { IfOk result (λ t. (x : NamedArenaState)
         × IsCarved (states_of spaces.old.items) (states_of spaces.new.items)
-            place x request.now t) }
+        place x request.now t) }
     ensures refused { IfErr result (λ fault. (x : NamedArenaState)
         × IsUncarved (states_of spaces.old.items) place x request.now fault) }
     ensures err { OnErr result (spaces.new.items ≡ spaces.old.items) }
@@ -119,8 +119,8 @@ fn grant(
         → place_in line.now.arena before ≡ Some place
         → IsCarved before (states_of spaces.old.items) place x (spec_demand_of line.now) segment
         → NewLease id line.now
-            (record { arenas = before; book = book.old })
-            (desk_of spaces.new.items book.new) result }
+        (record { arenas = before; book = book.old })
+        (desk_of spaces.new.items book.new) result }
 {
     let quantum = spaces[place].arena.quantum();
     match book.settle(id, place as u32, quantum, &demand_of(line), segment) {

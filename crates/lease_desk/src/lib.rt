@@ -28,4 +28,3 @@ mod spaces;
 pub use desks::Desk;
 pub use faults::SetupFault;
 pub use laws::lease_laws;
-

@@ -154,8 +154,8 @@ fn extend(space: &mut Space, place: u32, base: u64, len: u64) -> Result<(), Setu
     requires sound { IsSpace place space.old }
     ensures sound { OnOk result (IsSpace place space.new) }
     ensures added { OnOk result (state_of space.new ≡ with_span (state_of space.old) (record {
-        root = root_of place (length (state_of space.old).spans);
-        range = record { base = base; len = len }
+      root = root_of place (length (state_of space.old).spans);
+      range = record { base = base; len = len };
     })) }
     ensures can { OnOk result ((length (state_of space.old).spans < 65536)
         × CanSpan (state_of space.old) (record { base = base; len = len })) }

@@ -97,8 +97,7 @@ pub id_short : (id : RequestId) → IsRequestId id
 id_short id is =
     let c = is.client.1 in
     let i = is.incarnation.1 in
-    let n = is.number.1 in
-    (
+    let n = is.number.1 in (
       decimal_short 5 id.client (omega arith) (omega arith) (omega arith),
       decimal_short 19 id.incarnation (omega arith) (omega arith) i,
       decimal_short 19 id.number (omega arith) (omega arith) n,

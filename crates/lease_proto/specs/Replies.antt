@@ -127,7 +127,7 @@ reply_of_words (first ∷ words) =
     if bytes_eq first (codes "welcome") then (welcome_of words >>= λ r. Ok (replies.Welcome r))
     else if bytes_eq first (codes "granted") then (granted_of words >>= λ r. Ok (replies.Granted r))
     else if bytes_eq first (codes "released")
-        then (released_of words >>= λ id. Ok (replies.Released id))
+    then (released_of words >>= λ id. Ok (replies.Released id))
     else if bytes_eq first (codes "refused") then (refused_of words >>= λ r. Ok (replies.Refused r))
     else if bytes_eq first (codes "old") then (old_of words >>= λ r. Ok (replies.Old r))
     else if bytes_eq first (codes "stale") then (out_of_turn_of words >>= λ r. Ok (replies.Stale r))

@@ -56,7 +56,12 @@ child_of words = do
   m ← quantity_in most.0
   i ← quantity_in least.0
   Ok (record {
-    name = arena; source = source; quantum = q; policy = chosen; qcache_max = m; import_min = i;
+    name = arena;
+    source = source;
+    quantum = q;
+    policy = chosen;
+    qcache_max = m;
+    import_min = i;
   })
 
 -- `span NAME BASE LEN`

@@ -35,6 +35,4 @@ pub use numbers::number_law;
 pub use operators::{OperatorLine, ServedLine, served_law};
 pub use replies::{Again, Granted, Old, OutOfTurn, Refused, Reply, Welcome, reply_law};
 pub use reports::{AuditLine, ClientLine};
-pub use setup_lines::{
-    ChildLine, PolicyWord, RootLine, SetupLine, SpanLine, is_setup_word,
-};
+pub use setup_lines::{ChildLine, PolicyWord, RootLine, SetupLine, SpanLine, is_setup_word};
