@@ -11,13 +11,16 @@ use Rattle.lease_book.specs.Entry.{Hello, Settled, Grant, Refuse}
 use Rattle.lease_book.specs.Account.{Lease}
 use Rattle.lease_book.specs.BookState.{BookState, Enters, account_in, leased}
 use Rattle.lease_book.specs.Calls.{IsRefused, IsReleased, IsGranted}
-use Rattle.lease_book.specs.Answers.{IsNew, IsAnswer, IsLook, answer_of}
+use Rattle.lease_book.specs.Answers.{IsNew, IsAnswer, IsLook, IsHelloFault, answer_of}
 use Rattle.lease_book.specs.declared.answers.Answer.{Answer}
 use Rattle.lease_book.specs.declared.answers.Answer.TheVariants as answer
+use Rattle.lease_book.specs.declared.answers.HelloFault.{HelloFault}
+use Rattle.lease_book.specs.declared.answers.HelloFault.TheVariants as fault
 use Rattle.lease_book.specs.declared.answers.Look.{Look}
 use Rattle.lease_book.specs.declared.answers.Look.TheVariants as look
 use Rattle.lease_book.specs.declared.receipts.Reply.TheVariants as was
 use Rattle.lease_book.specs.declared.receipts.Terms.{Terms}
+use Rattle.lease_proto.specs.declared.lines.Hello.{Hello as HelloLine}
 use Rattle.lease_proto.specs.declared.lines.Lease.{Lease as LeaseLine}
 use Rattle.lease_proto.specs.declared.lines.Release.{Release as ReleaseLine}
 use Rattle.lease_proto.specs.declared.replies.Reply.{Reply}
@@ -28,10 +31,10 @@ use Rattle.lease_desk.specs.Moves.{TakesBack, GivesBack}
 use Rattle.lease_desk.specs.Sweeps.{Sweeps}
 use Rattle.lease_desk.specs.Carved.{IsCarved, IsRefused as IsCarveRefused}
 use Rattle.tag_arena.specs.declared.faults.ArenaFault.TheVariants.{NoFit}
-use Rattle.lease_desk.specs.Machine.{Finds, IsSettled, Refuses, refused_to, granted_to, demand_of, place_in, NewRelease, Grants, Misses, NewLease, Welcomes}
+use Rattle.lease_desk.specs.Machine.{Finds, IsSettled, Refuses, refused_to, granted_to, demand_of, place_in, NewRelease, Grants, Misses, NewLease, HelloStep, Welcomes}
 use Rattle.lease_desk.specs.Grants.{GrantsAreOwn}
 use Rattle.lease_desk.specs.Spaces.{state_of, states_of, desk_of, IsSteady, AreSpaces}
-use Rattle.lease_desk.specs.Replies.{IsSayable, Says}
+use Rattle.lease_desk.specs.Replies.{IsSayable, Says, hello_refused}
 use Rattle.lease_desk.proofs.PlaceLemmas.{slice_get_some, slice_get_mapped}
 use Rattle.lease_desk.proofs.GrantLemmas.{IsNewAnswer, new_answer, sayable, grants_more}
 use Rattle.lease_desk.proofs.SteadyLemmas.{same_count, hello_incarnation}
@@ -225,3 +228,9 @@ pub no_fit : (q : RequestId) (l : LeaseLine) (spaces now : List Space) (old new 
 no_fit q l spaces now old new place x r first same here none refuses says =
     subst (λ (xs : List Space). NewLease q l (desk_of spaces old) (desk_of xs new) r) (sym same)
     (subst (λ z. NewLease q l (desk_of spaces old) (desk_of spaces new) z) (sym says) (why.NoFit, refl, (place, x, record { first = first; here = here }, none.0, none.1, refuses)))
+
+-- a hello wasn't taken
+pub not_welcomed : (h : HelloLine) (spaces : List Space) (old new : BookState) (f : HelloFault) → new ≡ old
+    → IsHelloFault (account_in h.client old).incarnation h.incarnation f → HelloStep h (desk_of spaces old) (desk_of spaces new) (hello_refused h f)
+not_welcomed h spaces old new (fault.Old v) same is = (ap (λ n. record { client = h.client; current = n }) is.1, is.0, ap (desk_of spaces) same)
+not_welcomed h spaces old new fault.NoMemory same is = (refl, is, ap (desk_of spaces) same)

@@ -105,13 +105,13 @@ exports_pushed xs y out none e = record {
 }
 
 wider_reply : (n m : ℕ) (r : Reply) → n ≤ m → IsOfArenas n r → IsOfArenas m r
-wider_reply n m (Granted a b l) more h = ((let lt = h.0 in omega (arith, lt, more)), h.1, h.2)
+wider_reply n m (Granted a b l) more h = (let lt = h in omega (arith, lt, more))
 wider_reply n m Released more h = tt
 wider_reply n m (Refused w) more h = tt
 
 wider_entry : (n m : ℕ) (e : Entry) → n ≤ m → IsPossible n e → IsPossible m e
 wider_entry n m (Hello c i) more h = h
-wider_entry n m (Settled c i k s) more h = (h.0, wider_reply n m (reply_of s) more h.1)
+wider_entry n m (Settled id s) more h = wider_reply n m (reply_of s) more h
 wider_entry n m (Swept c i a b) more h = tt
 
 wider : (n m : ℕ) (es : List Entry) → n ≤ m → AllByRecursion (IsPossible n) es → AllByRecursion (IsPossible m) es

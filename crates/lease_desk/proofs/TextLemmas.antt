@@ -15,4 +15,4 @@ one_more g bs out new xs i x at before now =
 
 -- the lines of all members
 pub all_told : {X : Type 0} (g : X → List ℕ) (bs out : List ℕ) (xs : List X) (i : ℕ) → i ≡ length xs → out ≡ bs ++ flat_map g (take i xs) → out ≡ bs ++ flat_map g xs
-all_told g bs out xs i whole grants = told ∙ ap (λ ys. bs ++ flat_map g ys) (ap (λ n. take n xs) whole ∙ take-length xs)
+all_told g bs out xs i whole told = told ∙ ap (λ ys. bs ++ flat_map g ys) (ap (λ n. take n xs) whole ∙ take-length xs)

@@ -3,6 +3,9 @@ use Rattle.std.specs.Prelude.{◌≡◌, ℕ, List}
 use Rattle.lease_terms.specs.Requests.{RequestId}
 use Rattle.lease_book.specs.declared.answers.Answer.{Answer}
 use Rattle.lease_book.specs.declared.answers.Answer.TheVariants as answer
+use Rattle.lease_book.specs.declared.answers.HelloFault.{HelloFault}
+use Rattle.lease_book.specs.declared.answers.HelloFault.TheVariants as fault
+use Rattle.lease_proto.specs.declared.lines.Hello.{Hello}
 use Rattle.lease_proto.specs.declared.replies.Reply.{Reply}
 use Rattle.lease_proto.specs.declared.replies.Reply.TheVariants as reply
 use Rattle.lease_desk.specs.DeskState.{NamedArenaState}
@@ -39,3 +42,10 @@ Says arenas q (answer.Old current) r = r ≡ old_to q current
 Says arenas q (answer.Stale last) r = r ≡ stale_to q last
 Says arenas q (answer.Gap last) r = r ≡ gap_to q last
 Says arenas q answer.Again r = r ≡ again_to q
+
+-- the reply to a hello that isn't taken
+abbrev pub hello_refused : Hello → HelloFault → Reply
+hello_refused h (fault.Old current) =
+    reply.Old (record { client = h.client; current = current })
+hello_refused h fault.NoMemory =
+    reply.Again (record { client = h.client; incarnation = h.incarnation; number = 0 })

@@ -5,6 +5,7 @@ use Rattle.deed_core.specs.Extent.{Extent, IsRange, Overlap}
 use Rattle.deed_core.specs.Holding.{Holding}
 use Rattle.tag_arena.specs.ArenaState.{OnQuantum}
 use Rattle.tag_arena.specs.declared.policies.Policy.{Policy}
+use Rattle.lease_proto.specs.declared.limits.TheConstants.{MOST_ARENAS, MOST_SPANS}
 use Rattle.lease_desk.specs.DeskState.{NamedArenaState}
 use Rattle.lease_desk.specs.Machine.{place_in, Finds}
 use Rattle.lease_desk.specs.declared.faults.SetupFault.{SetupFault}
@@ -34,7 +35,7 @@ arena_asked name base len quantum policy qcache_max = record {
 
 -- its name is free, and there is room for one more
 abbrev pub HasRoom : List NamedArenaState → NewArena → Type 0
-HasRoom arenas n = (place_in n.name arenas ≡ None) × (length arenas < 32)
+HasRoom arenas n = (place_in n.name arenas ≡ None) × (length arenas < MOST_ARENAS)
 
 -- nothing speaks against it
 pub record CanAdd (arenas : List NamedArenaState) (n : NewArena) : Type 0 where
@@ -46,7 +47,7 @@ pub record CanAdd (arenas : List NamedArenaState) (n : NewArena) : Type 0 where
 -- why it is refused: the first of these that is so; memory is asked for only where none is
 abbrev pub RefusesArena : List NamedArenaState → NewArena → SetupFault → Type 0
 RefusesArena arenas n NameTaken = (place : ℕ) × (place_in n.name arenas ≡ Some place)
-RefusesArena arenas n TooMany = (place_in n.name arenas ≡ None) × (32 ≤ length arenas)
+RefusesArena arenas n TooMany = (place_in n.name arenas ≡ None) × (MOST_ARENAS ≤ length arenas)
 RefusesArena arenas n NoArena = ⊥
 RefusesArena arenas n BadQuantum = HasRoom arenas n × (¬ IsPowerOfTwo n.quantum)
 RefusesArena arenas n NotYet = HasRoom arenas n × IsPowerOfTwo n.quantum × (0 < n.qcache_max)
@@ -55,9 +56,9 @@ RefusesArena arenas n BadRange = HasRoom arenas n × IsPowerOfTwo n.quantum × (
 RefusesArena arenas n NoMemory = CanAdd arenas n
 
 -- the number of the root of an arena's next span, by the arena's place and how many spans it has:
--- each span's own, since an arena has at most 65536
+-- each span's own, since an arena has at most `MOST_SPANS`
 abbrev pub root_of : ℕ → ℕ → ℕ
-root_of place spans = place * 65536 + spans
+root_of place spans = place * MOST_SPANS + spans
 
 -- an arena whose one span is free
 abbrev pub fresh : NewArena → Holding → NamedArenaState
@@ -90,9 +91,9 @@ CanSpan x e = IsWholeRange x.quantum e × IsClearOf x e
 -- why an arena takes no further span: the first of these that is so; memory is asked for only where
 -- none is
 abbrev pub RefusesMore : NamedArenaState → Extent → SetupFault → Type 0
-RefusesMore x e TooMany = 65536 ≤ length x.spans
-RefusesMore x e BadRange = (length x.spans < 65536) × (¬ CanSpan x e)
-RefusesMore x e NoMemory = (length x.spans < 65536) × CanSpan x e
+RefusesMore x e TooMany = MOST_SPANS ≤ length x.spans
+RefusesMore x e BadRange = (length x.spans < MOST_SPANS) × (¬ CanSpan x e)
+RefusesMore x e NoMemory = (length x.spans < MOST_SPANS) × CanSpan x e
 RefusesMore x e NameTaken = ⊥
 RefusesMore x e NoArena = ⊥
 RefusesMore x e BadQuantum = ⊥
@@ -108,7 +109,7 @@ pub record AddsSpan (name : List ℕ) (e : Extent) (old new : List NamedArenaSta
   pub place : ℕ
   pub arena : NamedArenaState
   pub finds : Finds old name place arena
-  pub few : length arena.spans < 65536
+  pub few : length arena.spans < MOST_SPANS
   pub can : CanSpan arena e
   pub added : new ≡ slice_set old place
       (with_span arena (record { root = root_of place (length arena.spans); range = e }))

@@ -8,6 +8,7 @@ use Rattle.deed_core.specs.Covering.{covering_held}
 use Rattle.tag_arena.specs.ArenaState.{spans_of, ranges_of}
 use Rattle.tag_arena.specs.Calls.{IsTagged}
 use Rattle.lease_book.specs.BookState.{BookState, leased}
+use Rattle.lease_proto.specs.declared.limits.TheConstants.{MOST_ARENAS, MOST_SPANS}
 use Rattle.lease_desk.specs.declared.spaces.Space.{Space}
 use Rattle.lease_desk.specs.DeskState.{NamedArenaState, DeskState, Exports}
 use Rattle.lease_desk.specs.Grants.{GrantsAreOwn}
@@ -42,7 +43,7 @@ pub record IsSpace (k : ℕ) (s : Space) : Type 0 where
       ≡ covering_held u (spans_of s.arena)
   pub once : (u : ℕ) → covering_held u (spans_of s.arena) ≤ 1
   pub count : s.spans ≡ length s.arena.owned
-  pub few : s.spans ≤ 65536
+  pub few : s.spans ≤ MOST_SPANS
 
 -- so are all
 abbrev pub AreSpaces : List Space → Type 0
@@ -50,7 +51,7 @@ AreSpaces spaces = (k : ℕ) (s : Space) → slice_get spaces k ≡ Some s → I
 
 -- what holds of the arenas and the book between any two lines
 pub record IsSteady (spaces : List Space) (book : BookState) : Type 0 where
-  pub few : length spaces ≤ 32
+  pub few : length spaces ≤ MOST_ARENAS
   pub sound : AreSpaces spaces
   pub exports : Exports (states_of spaces) (leased book)
   pub grants : GrantsAreOwn (length spaces) book

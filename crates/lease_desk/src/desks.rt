@@ -52,7 +52,7 @@ impl Desk {
     /// A desk with no arena.
     pub fn new(alloc: Global) -> Desk
         ensures arenas { result.arenas ≡ [] }
-        ensures mark { result.book.mark.root ≡ root_of 32 0 }
+        ensures mark { result.book.mark.root ≡ root_of MOST_ARENAS 0 }
         ensures book { IsHistory [] result.book }
         ensures orderly { IsOrderly result }
     {

@@ -1,5 +1,7 @@
 //! The answer to a hello.
+ghost use Rattle.std.specs.Prelude.{◌≡◌};
 ghost use Rattle.lease_desk.specs.Machine.{HelloStep};
+ghost use Rattle.lease_desk.specs.Replies.{hello_refused};
 ghost use Rattle.lease_desk.specs.Spaces.{desk_of, IsSteady};
 
 use crate::returns::sweep;
@@ -24,11 +26,20 @@ pub(crate) fn greet(spaces: &mut Vec<Space>, book: &mut Book<PlainDeed>, hello: 
                 incarnation: hello.incarnation,
             })
         }
-        Err(HelloFault::Old(current)) => Reply::Old(Old {
+        Err(fault) => refused(hello, &fault),
+    }
+}
+
+/// The reply to a hello that isn't taken.
+fn refused(hello: &Hello, fault: &HelloFault) -> Reply
+    ensures { result ≡ hello_refused hello.now fault.now }
+{
+    match fault {
+        HelloFault::Old(current) => Reply::Old(Old {
             client: hello.client,
-            current,
+            current: *current,
         }),
-        Err(HelloFault::NoMemory) => Reply::Again(Again {
+        HelloFault::NoMemory => Reply::Again(Again {
             client: hello.client,
             incarnation: hello.incarnation,
             number: Quantity::ZERO,

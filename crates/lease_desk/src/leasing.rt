@@ -2,6 +2,7 @@
 ghost use Rattle.std.specs.Prelude.{◌≡◌, ◌<◌, ◌≤◌, List, ◌∷◌, length, IfOk, IfErr, OnErr, Some};
 ghost use Rattle.lease_book.specs.Answers.{IsNew};
 ghost use Rattle.lease_book.specs.BookState.{account_in, leased};
+ghost use Rattle.lease_proto.specs.declared.limits.TheConstants.{MOST_ARENAS};
 ghost use Rattle.lease_desk.specs.DeskState.{NamedArenaState, Exports};
 ghost use Rattle.lease_desk.specs.Machine.{demand_of as spec_demand_of, place_in, LeaseLineStep, NewLease};
 ghost use Rattle.lease_desk.specs.Spaces.{states_of, desk_of, AreSpaces, IsSteady};
@@ -106,7 +107,7 @@ fn grant(
     place: usize,
     segment: Segment<PlainDeed>,
 ) -> Reply
-    requires few { length spaces.old.items ≤ 32 }
+    requires few { length spaces.old.items ≤ MOST_ARENAS }
     requires within { place < length spaces.old.items }
     requires sound { AreSpaces spaces.old.items }
     requires exports { Exports (states_of spaces.old.items) (segment ∷ leased book.old) }

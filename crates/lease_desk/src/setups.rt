@@ -63,8 +63,8 @@ fn whole_range(base: u64, len: u64, quantum: u64) -> Option<Range>
 
 /// The number of the root of an arena's next span, by the arena's place and how many spans it has.
 fn root_number(place: u32, spans: u32) -> u32
-    requires place { place < 32 }
-    requires few { spans < 65536 }
+    requires place { place < MOST_ARENAS }
+    requires few { spans < MOST_SPANS }
     ensures { result ≡ root_of place spans }
 {
     place * MOST_SPANS + spans
@@ -133,7 +133,7 @@ pub(crate) fn add_span(
     base: u64,
     len: u64,
 ) -> Result<(), SetupFault>
-    requires few { length spaces.old.items ≤ 32 }
+    requires few { length spaces.old.items ≤ MOST_ARENAS }
     requires sound { AreSpaces spaces.old.items }
     ensures sound { OnOk result (AreSpaces spaces.new.items) }
     ensures added { OnOk result (AddsSpan name.now (record { base = base; len = len })
@@ -150,14 +150,14 @@ pub(crate) fn add_span(
 
 /// Adds a span to the arena that stands at the place.
 fn extend(space: &mut Space, place: u32, base: u64, len: u64) -> Result<(), SetupFault>
-    requires place { place < 32 }
+    requires place { place < MOST_ARENAS }
     requires sound { IsSpace place space.old }
     ensures sound { OnOk result (IsSpace place space.new) }
     ensures added { OnOk result (state_of space.new ≡ with_span (state_of space.old) (record {
       root = root_of place (length (state_of space.old).spans);
       range = record { base = base; len = len };
     })) }
-    ensures can { OnOk result ((length (state_of space.old).spans < 65536)
+    ensures can { OnOk result ((length (state_of space.old).spans < MOST_SPANS)
         × CanSpan (state_of space.old) (record { base = base; len = len })) }
     ensures refused { IfErr result (RefusesMore (state_of space.old)
         (record { base = base; len = len })) }

@@ -1,5 +1,8 @@
-use Rattle.std.proofs.Common.{refl}
-use Rattle.lease_desk.proofs.AnswerLemmas.{welcomed}
+use Rattle.std.proofs.Common.{refl, sym, subst}
+use Rattle.lease_proto.specs.declared.replies.Reply.{Reply}
+use Rattle.lease_desk.specs.Machine.{HelloStep}
+use Rattle.lease_desk.specs.Spaces.{desk_of}
+use Rattle.lease_desk.proofs.AnswerLemmas.{welcomed, not_welcomed}
 use Rattle.lease_desk.proofs.hellos.greet.Goals as goal
 
 pub returns-in-Ok-clause-step : goal.returns-in-Ok-clause-step
@@ -9,3 +12,8 @@ returns-in-Ok-clause-step c = (
       c.args.hello.now.client c.args.hello.now.incarnation c.requires.steady c.in-Ok.ensures.taken c.in-Ok.ensures.leases c.in-Ok.ensures.current
       c.sweep.ensures.swept c.sweep.ensures.left,
 )
+
+pub returns-in-Err-clause-step : goal.returns-in-Err-clause-step
+returns-in-Err-clause-step c =
+    subst (λ (r : Reply). HelloStep c.args.hello.now (desk_of c.args.spaces.now.items c.args.book.now) (desk_of c.args.spaces.now.items c.hello.new.self) r) (sym c.refused.ensures)
+    (not_welcomed c.args.hello.now c.args.spaces.now.items c.args.book.now c.hello.new.self c.in-Err.fault c.in-Err.ensures.unchanged c.in-Err.ensures.fault)

@@ -24,13 +24,13 @@ returns-in-Ok-clause-err c = on_err c.serve.result (c.serve.new.out.items ≡ c.
 pub returns-in-Err-clause-ok : goal.returns-in-Err-clause-ok
 returns-in-Err-clause-ok c =
     let same : IsOrderly c.args.self.now = subst IsOrderly c.self.view_is (orderly c.self.inside.spaces.items c.self.inside.book c.self.invariant) in
-    let step : LeaseStep c.args.self.now c.args.line.now c.line-in-Err.result.now c.args.self.now =
-    subst (λ (l : List ℕ). LeaseStep c.args.self.now c.args.line.now l c.args.self.now) (sym c.line-in-Err.ensures) (refused_step c.args.self.now c.args.line.now c.in-Err.fault c.in-Err.ensures same) in
+    let step : LeaseStep c.args.self.now c.args.line.now c.line.result.now c.args.self.now =
+    subst (λ (l : List ℕ). LeaseStep c.args.self.now c.args.line.now l c.args.self.now) (sym c.line.ensures) (refused_step c.args.self.now c.args.line.now c.in-Err.fault c.in-Err.ensures same) in
     on_ok c.extend_from_slice.result ((reply : List ℕ) × (c.extend_from_slice.new.self.items ≡ c.reserve.new.self.items ++ reply) × LeaseStep c.args.self.now c.args.line.now reply c.args.self.now)
     ((reply : List ℕ) × (c.extend_from_slice.new.self.items ≡ c.args.out.now.items ++ reply) × LeaseStep c.args.self.now c.args.line.now reply c.args.self.now)
     (λ is. (is.0, is.1 ∙ ap (λ l. l ++ is.0) c.reserve.ensures.items, is.2))
-    (appended c.extend_from_slice.result (λ l. LeaseStep c.args.self.now c.args.line.now l c.args.self.now) c.reserve.new.self.items c.line-in-Err.result.now c.extend_from_slice.new.self.items c.extend_from_slice.ensures.items step)
+    (appended c.extend_from_slice.result (λ l. LeaseStep c.args.self.now c.args.line.now l c.args.self.now) c.reserve.new.self.items c.line.result.now c.extend_from_slice.new.self.items c.extend_from_slice.ensures.items step)
 
 pub returns-in-Err-clause-err : goal.returns-in-Err-clause-err
 returns-in-Err-clause-err c = on_err c.extend_from_slice.result (c.extend_from_slice.new.self.items ≡ c.reserve.new.self.items) (c.extend_from_slice.new.self.items ≡ c.args.out.now.items)
-    (λ is. is ∙ c.reserve.ensures.items) (left_alone c.extend_from_slice.result c.reserve.new.self.items c.line-in-Err.result.now c.extend_from_slice.new.self.items c.extend_from_slice.ensures.items)
+    (λ is. is ∙ c.reserve.ensures.items) (left_alone c.extend_from_slice.result c.reserve.new.self.items c.line.result.now c.extend_from_slice.new.self.items c.extend_from_slice.ensures.items)
