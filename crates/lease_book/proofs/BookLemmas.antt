@@ -6,9 +6,9 @@ use Rattle.std.proofs.lemmas.List.Sums.{sum_by_push, sum_by-remove}
 use Rattle.std.proofs.lemmas.Bool.{eqb-true}
 use Rattle.deed_core.specs.Tag.{Tag}
 use Rattle.deed_core.specs.Weights.{Gains, Loses}
-use Rattle.lease_book.specs.Receipts.{Kept, ReceiptState}
+use Rattle.lease_book.specs.Receipts.{Kept, ReceiptState, IsEarned}
 use Rattle.lease_book.specs.Entry.{Settlement, Entry, Hello, Settled, Swept, Grant, Return, Refuse, kept}
-use Rattle.lease_book.specs.Account.{Lease, Account, number_of, is_lease, without, lease_of, leases_after}
+use Rattle.lease_book.specs.Account.{Lease, Account, number_of, is_lease, without, lease_of, request_of, leases_after}
 use Rattle.lease_book.specs.Shelf.{account_with, changed_at, standing_of, with_standing, with_leases}
 use Rattle.lease_book.specs.History.{incarnation, clients_of, kept_of, account, IsInRange}
 use Rattle.lease_book.specs.BookState.{BookState, HasHistory, Enters, nobody, or_nobody, account_in, segments, leased_by, leased}
@@ -19,7 +19,9 @@ use Rattle.lease_terms.specs.declared.refusals.Refusal.{Refusal}
 use Rattle.lease_terms.specs.Requests.{RequestId}
 use Rattle.lease_terms.specs.Ranges.{IsClient, IsOrdinal, IsQuantity}
 use Rattle.lease_terms.specs.Requests.{IsRequestId}
-use Rattle.deed_core.specs.Extent.{IsRange}
+use Rattle.deed_core.specs.Extent.{Extent, IsRange}
+use Rattle.deed_core.specs.Request.{Fits}
+use Rattle.lease_book.specs.declared.receipts.Reply.{Reply}
 use Rattle.lease_book.specs.declared.receipts.Reply.TheVariants.{Granted}
 use Rattle.lease_book.specs.declared.receipts.Terms.{Terms}
 use Rattle.std.proofs.lemmas.Option.{slice_get_within, get_or_from_slice_get}
@@ -282,11 +284,20 @@ ends_lease old now c index at l found first here mark after = record {
   leases = λ f. loses_lease old.accounts index at (account_in c old) l found.at here f ∙ ap (λ (xs : List Account). sum_by f (leased_by xs) + f l.segment) (sym after);
 }
 
--- what is kept of a grant, told by its numbers
-pub kept_grant : (n arena base len : ℕ) (t : Tag) (terms : Terms) (k : Kept) → k ≡ record { number = n; reply = Granted arena base len; terms = Some terms } → t.arena ≡ arena → base ≡ t.holding.range.base
-    → len ≡ t.holding.range.len → k ≡ kept n (Grant t terms)
-kept_grant n arena base len t terms k is of_arena at_base of_len =
-    is ∙ (λ j. record { number = n; reply = Granted (sym of_arena j) (at_base j) (of_len j); terms = Some terms })
+-- a reply that grants a range, told of the segment with it
+granted_segment : (arena : ℕ) (range : Extent) (reply : Reply) (t : Tag) → reply ≡ Granted arena range.base range.len → t.arena ≡ arena → range ≡ t.holding.range
+    → reply ≡ Granted t.arena t.holding.range.base t.holding.range.len
+granted_segment arena range reply t is of_arena of_range = is ∙ (λ j. Granted (sym of_arena j) (of_range j).base (of_range j).len)
+
+pub kept_grant : (n arena : ℕ) (range : Extent) (reply : Reply) (t : Tag) (terms : Terms) (k : Kept) → k ≡ record { number = n; reply = reply; terms = Some terms } → reply ≡ Granted arena range.base range.len
+    → t.arena ≡ arena → range ≡ t.holding.range → k ≡ kept n (Grant t terms)
+kept_grant n arena range reply t terms k is granted of_arena of_range =
+    is ∙ ap (λ (r : Reply). record { number = n; reply = r; terms = Some terms }) (granted_segment arena range reply t granted of_arena of_range)
+
+pub earned_grant : (arena : ℕ) (range : Extent) (reply : Reply) (t : Tag) (terms : Terms) → reply ≡ Granted arena range.base range.len → t.arena ≡ arena → range ≡ t.holding.range
+    → Fits terms.quantum terms.request t.holding.range.base t.holding.range.len → IsEarned reply (Some terms)
+earned_grant arena range reply t terms granted of_arena of_range fits =
+    subst (λ (r : Reply). IsEarned r (Some terms)) (sym (granted_segment arena range reply t granted of_arena of_range)) fits
 
 none_past : (xs : List Account) (i : ℕ) → slice_get xs i ≡ None → length xs ≤ i
 none_past [] i at = omega arith
@@ -346,32 +357,59 @@ module _ (before old : BookState) (is : before ≡ old) (id : RequestId) (index 
       let granted = grants before now mid id index t terms k r found_before fresh_before told in_range room_before is_kept is_receipt refl leased_mid after in
       (goes_on (Settled id (Grant t terms)) before now granted.entry had, subst (λ (b : BookState). IsGranted b now id t terms r) is granted)
 
-  pub released_at : (mid accounts : List Account) (arena base at : ℕ) (l : Lease) (k : Kept) (r : ReceiptState) → IsQuantity base
+  pub released_at : (mid accounts : List Account) (arena base at : ℕ) (l : Lease) (t : Tag) (k : Kept) (r : ReceiptState) → t ≡ l.segment → IsQuantity base
       → IsFirst (is_lease id.incarnation arena base) (account_in id.client old).leases at
       → IfSome (slice_get before.accounts index) (λ a. slice_get a.leases at ≡ Some l) → k ≡ kept id.number (Return arena base) → r ≡ receipt before id k
       → mid ≡ changed_at before.accounts index (with_leases (λ ls. remove ls at)) → accounts ≡ changed_at mid index (with_standing (record { incarnation = id.incarnation; kept = Some k })) → HasHistory before
-      → HasHistory (record { mark = before.mark; accounts = accounts }) × IsReleased old (record { mark = before.mark; accounts = accounts }) id arena base r l.segment
-  released_at mid accounts arena base at l k r in_range first there is_kept is_receipt taken_mid after had =
+      → HasHistory (record { mark = before.mark; accounts = accounts }) × IsReleased old (record { mark = before.mark; accounts = accounts }) id arena base r t
+  released_at mid accounts arena base at l t k r of_lease in_range first there is_kept is_receipt taken_mid after had =
       let now : BookState = record { mark = before.mark; accounts = accounts } in
       let first_before : IsFirst (is_lease id.incarnation arena base) (account_in id.client before).leases at = subst (λ (b : BookState). IsFirst (is_lease id.incarnation arena base) (account_in id.client b).leases at) (sym is) first in
       let here : slice_get (account_in id.client before).leases at ≡ Some l = of_found (λ (a : Account). slice_get a.leases at ≡ Some l) before id.client index found_before there in
       let released = releases before now mid id arena base index at l k r found_before fresh_before told in_range first_before here is_kept is_receipt refl taken_mid after in
-      (goes_on (Settled id (Return arena base)) before now released.entry had, subst (λ (b : BookState). IsReleased b now id arena base r l.segment) is released)
+      (goes_on (Settled id (Return arena base)) before now released.entry had,
+        subst (λ (x : Tag). IsReleased old now id arena base r x) (sym of_lease) (subst (λ (b : BookState). IsReleased b now id arena base r l.segment) is released))
 
 -- the leases of an account, where it was found
 pub leases_found : (before old : BookState) (c place : ℕ) (ls : List Lease) → before ≡ old → IsFound old c place → IfSome (slice_get before.accounts place) (λ a. a.leases ≡ ls) → (account_in c old).leases ≡ ls
 leases_found before old c place ls is found there =
     of_found (λ (a : Account). a.leases ≡ ls) old c place found (subst (λ (b : BookState). IfSome (slice_get b.accounts place) (λ a. a.leases ≡ ls)) is there)
 
-pub ended_at : (before old : BookState) (accounts : List Account) (c index at : ℕ) (l : Lease) → before ≡ old → IsFound old c index
+pub ended_at : (before old : BookState) (accounts : List Account) (c index at : ℕ) (l : Lease) (r : RequestId × Tag) → r ≡ (request_of c l, l.segment) → before ≡ old → IsFound old c index
     → IsFirst (is_lease l.incarnation l.segment.arena l.segment.holding.range.base) (account_in c old).leases at
     → slice_get (account_in c old).leases at ≡ Some l → accounts ≡ changed_at before.accounts index (with_leases (λ ls. remove ls at)) → HasHistory before
-    → HasHistory (record { mark = before.mark; accounts = accounts })
-    × IsEnded old (record { mark = before.mark; accounts = accounts }) (record { client = c; incarnation = l.incarnation; number = l.number }) l.segment
-ended_at before old accounts c index at l is found first here after had =
+    → HasHistory (record { mark = before.mark; accounts = accounts }) × IsEnded old (record { mark = before.mark; accounts = accounts }) r.0 r.1
+ended_at before old accounts c index at l r gives is found first here after had =
     let now : BookState = record { mark = before.mark; accounts = accounts } in
     let ended = ends_lease old now c index at l found first here (ap (λ (b : BookState). b.mark) is) (after ∙ ap (λ (b : BookState). changed_at b.accounts index (with_leases (λ ls. remove ls at))) is) in
-    (goes_on (Swept c l.incarnation l.segment.arena l.segment.holding.range.base) old now ended.entry (subst HasHistory is had), ended)
+    (goes_on (Swept c l.incarnation l.segment.arena l.segment.holding.range.base) old now ended.entry (subst HasHistory is had),
+      subst (λ (p : RequestId × Tag). IsEnded old now p.0 p.1) (sym gives) ended)
+
+-- the client at an index is the one that is found there
+pub found_client : (book : BookState) (index k : ℕ) → index < length book.accounts → IfSome (slice_get book.accounts index) (λ a. find (λ b. nat_eq a.client b.client) book.accounts ≡ Some a)
+    → option_map (λ (a : Account). a.client) (slice_get book.accounts index) ≡ Some k → IsFound book k index
+found_client book index k within own at =
+    let there = found_own book index within own in
+    let both : Some there.0 ≡ Some k = ap Some (sym there.1.client) ∙ sym (ap (option_map (λ (a : Account). a.client)) there.1.at) ∙ at in
+    let is : there.0 ≡ k = cc in
+    subst (λ (c : ℕ). IsFound book c index) is there.1
+
+-- any lease that stands first was ended
+pub taken_at : (before old : BookState) (mid accounts : List Account) (index k : ℕ) (l : Lease) (r : RequestId × Tag) → r ≡ (request_of k l, l.segment) → before ≡ old → mid ≡ before.accounts
+    → index < length before.accounts → IfSome (slice_get before.accounts index) (λ a. find (λ b. nat_eq a.client b.client) before.accounts ≡ Some a)
+    → option_map (λ (a : Account). a.client) (slice_get mid index) ≡ Some k → IfSome (slice_get mid index) (λ a. slice_get a.leases 0 ≡ Some l)
+    → accounts ≡ changed_at mid index (with_leases (λ ls. remove ls 0)) → HasHistory before
+    → HasHistory (record { mark = before.mark; accounts = accounts }) × IsEnded old (record { mark = before.mark; accounts = accounts }) r.0 r.1
+taken_at before old mid accounts index k l r gives is same within own client there after had =
+    let found : IsFound before k index =
+    found_client before index k within own (ap (λ (xs : List Account). option_map (λ (a : Account). a.client) (slice_get xs index)) (sym same) ∙ client) in
+    let found_old : IsFound old k index = subst (λ (b : BookState). IsFound b k index) is found in
+    let there_before : IfSome (slice_get before.accounts index) (λ a. slice_get a.leases 0 ≡ Some l) =
+    subst (λ (xs : List Account). IfSome (slice_get xs index) (λ a. slice_get a.leases 0 ≡ Some l)) same there in
+    let lease : slice_get (account_in k old).leases 0 ≡ Some l =
+    of_found (λ (a : Account). slice_get a.leases 0 ≡ Some l) old k index found_old (subst (λ (b : BookState). IfSome (slice_get b.accounts index) (λ a. slice_get a.leases 0 ≡ Some l)) is there_before) in
+    ended_at before old accounts k index 0 l r gives is found_old (first_lease (account_in k old).leases l lease) lease
+    (after ∙ ap (λ (xs : List Account). changed_at xs index (with_leases (λ ls. remove ls 0))) same) had
 
 pub greeted_above : (before old : BookState) (accounts : List Account) (c i index : ℕ) → before ≡ old → IsFound old c index → IsClient c → IsOrdinal i → (account_in c old).incarnation < i
     → accounts ≡ changed_at before.accounts index (with_standing (record { incarnation = i; kept = None })) → HasHistory before

@@ -45,6 +45,10 @@ without test (x ∷ xs) = if test x then xs else x ∷ without test xs
 abbrev pub lease_of : RequestId → Tag → Lease
 lease_of id t = record { incarnation = id.incarnation; number = id.number; segment = t }
 
+-- the client's request that was granted the lease
+abbrev pub request_of : ℕ → Lease → RequestId
+request_of c l = record { client = c; incarnation = l.incarnation; number = l.number }
+
 -- the leases after the request was settled
 abbrev pub leases_after : RequestId → Settlement → List Lease → List Lease
 leases_after id (Grant t terms) leases = leases ++ lease_of id t ∷ []

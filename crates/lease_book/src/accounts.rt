@@ -178,13 +178,13 @@ impl<D: Deed> Accounts<D> {
     /// The index of a client that has a lease. The search goes on where the one before ended.
     pub(crate) fn first_leased(&mut self) -> Option<usize>
         ensures unchanged { self.new ≡ self.old }
-        ensures within { IfSome result (λ i. i < length self.new) }
+        ensures within { IfSome result (λ i. i < length self.old) }
         ensures found { IfSome result
-            (λ i. IfSome (slice_get self.new i) (λ a. 0 < length a.leases)) }
-        ensures own { IfSome result (λ i. IfSome (slice_get self.new i)
-            (λ a. find (λ b. a.client == b.client) self.new ≡ Some a)) }
-        ensures some { IfSome result (λ _. leased_by self.new ≢ []) }
-        ensures none { IfNone result (leased_by self.new ≡ []) }
+            (λ i. IfSome (slice_get self.old i) (λ a. 0 < length a.leases)) }
+        ensures own { IfSome result (λ i. IfSome (slice_get self.old i)
+            (λ a. find (λ b. a.client == b.client) self.old ≡ Some a)) }
+        ensures some { IfSome result (λ _. leased_by self.old ≢ []) }
+        ensures none { IfNone result (leased_by self.old ≡ []) }
     {
         let index = first_leased(&self.leases, self.empty)?;
         self.empty = index;

@@ -108,9 +108,10 @@ impl<D: Deed> Book<D> {
         if incarnation.get() < standing.incarnation.get() {
             return Err(HelloFault::Old(standing.incarnation.quantity()));
         }
-        if incarnation.get() > standing.incarnation.get() {
-            self.accounts.write(index, fresh);
+        if incarnation.get() == standing.incarnation.get() {
+            return Ok(());
         }
+        self.accounts.write(index, fresh);
         Ok(())
     }
 
@@ -158,12 +159,7 @@ impl<D: Deed> Book<D> {
             return Err((segment, Answer::Refused(self.receipt(id, kept))));
         }
         let reply = Reply::granted(arena, &segment.range());
-        let held = Held {
-            incarnation: id.incarnation,
-            number: id.number,
-            segment,
-        };
-        match self.accounts.lease(index, held) {
+        match self.accounts.lease(index, Held::new(id, segment)) {
             Ok(()) => {
                 let terms = Terms {
                     quantum,
@@ -203,14 +199,16 @@ impl<D: Deed> Book<D> {
             × (find (is_lease id.incarnation arena base) (account_in id.client self.old).leases ≡ None))
             ⊥) }
     {
+        // For its clause: the base is in its range.
+        let _ = base.get();
         let index = self.admit(id)?;
         let leases = self.accounts.leases(index);
-        let Some(lease) = leases.position(id.incarnation, arena, base) else {
+        let Some(lease) = leases.position(id, arena, base) else {
             let reply = Reply::Refused(Refusal::NotYours);
             let kept = self.accounts.keep(index, id, reply, None);
             return Err(Answer::Refused(self.receipt(id, kept)));
         };
-        let (_, segment) = self.accounts.take(index, lease).ended(id.client);
+        let segment = self.accounts.take(index, lease).into_segment();
         let kept = self.accounts.keep(index, id, Reply::Released, None);
         Ok((self.receipt(id, kept), segment))
     }
@@ -319,8 +317,10 @@ impl<D: Deed> Book<D> {
     fn admit(&self, id: RequestId) -> Result<usize, Answer<D>>
         ensures new { IfOk result (λ _. IsNew (account_in id.client self.now) id) }
         ensures index { IfOk result (λ index. IsFound self.now id.client index) }
+        ensures range { IsRequestId id }
         ensures answer { IfErr result (IsAnswer self.now self.now id (λ _. ⊥) ⊥) }
     {
+        id.check();
         match self.seek(id).answer() {
             Some(answer) => Err(answer),
             None => match self.account(id.client) {

@@ -1,7 +1,7 @@
 //! The leases of one client, in order of grant.
 ghost use Rattle.std.specs.Prelude.{◌≡◌, ◌+◌, ◌*◌, ◌^◌, ◌<◌, ◌≤◌, [], ◌∷◌, ◌++◌, length, OnOk, OnErr, IfErr, Some, slice_get, position, sum_by};
 ghost use Rattle.std.specs.List.{remove};
-ghost use Rattle.lease_book.specs.Account.{Lease, is_lease, is_older};
+ghost use Rattle.lease_book.specs.Account.{Lease, is_lease, is_older, lease_of, request_of};
 ghost use Rattle.lease_book.specs.BookState.{units_of_lease};
 
 use deed_core::{Deed, Segment};
@@ -11,9 +11,9 @@ use std::marker::Model;
 
 /// A leased segment, and the incarnation and number of the client's request that was granted it.
 pub(crate) struct Held<D: Deed> {
-    pub incarnation: Ordinal,
-    pub number: Ordinal,
-    pub segment: Segment<D>,
+    incarnation: Ordinal,
+    number: Ordinal,
+    segment: Segment<D>,
 }
 
 impl<D: Deed> Model for Held<D> {
@@ -27,10 +27,21 @@ impl<D: Deed> Model for Held<D> {
 }
 
 impl<D: Deed> Held<D> {
-    fn is_lease(&self, incarnation: Ordinal, arena: u32, base: Quantity) -> bool
-        ensures { result ≡ is_lease incarnation arena base self.now }
+    /// A segment that a request is granted.
+    pub(crate) fn new(id: RequestId, segment: Segment<D>) -> Held<D>
+        ensures { result ≡ lease_of id segment }
     {
-        incarnation.get() == self.incarnation.get()
+        Held {
+            incarnation: id.incarnation,
+            number: id.number,
+            segment,
+        }
+    }
+
+    fn is_lease(&self, id: RequestId, arena: u32, base: Quantity) -> bool
+        ensures { result ≡ is_lease id.incarnation arena base self.now }
+    {
+        id.incarnation.get() == self.incarnation.get()
             && arena == self.segment.arena()
             && base.get() == self.segment.range().base()
     }
@@ -41,12 +52,21 @@ impl<D: Deed> Held<D> {
         self.incarnation.get() < incarnation.get()
     }
 
-    /// The segment, and the client's request that was granted it.
+    /// The segment alone.
+    pub(crate) fn into_segment(self) -> Segment<D>
+        ensures { result ≡ self.segment }
+    {
+        let Held {
+            incarnation: _,
+            number: _,
+            segment,
+        } = self;
+        segment
+    }
+
+    /// The client's request that was granted it, and the segment.
     pub(crate) fn ended(self, client: ClientId) -> (RequestId, Segment<D>)
-        ensures request { result.0 ≡ record {
-            client = client; incarnation = self.incarnation; number = self.number
-        } }
-        ensures segment { result.1 ≡ self.segment }
+        ensures { result ≡ (request_of client self, self.segment) }
     {
         let Held {
             incarnation,
@@ -109,29 +129,19 @@ impl<D: Deed> Leases<D> {
         ensures handed_back { IfErr result (λ s. s ≡ held.segment) }
     {
         let Ok(()) = self.held.reserve(1) else {
-            let Held {
-                incarnation: _,
-                number: _,
-                segment,
-            } = held;
-            return Err(segment);
+            return Err(held.into_segment());
         };
         self.held.push_reserved(held);
         Ok(())
     }
 
-    /// Where the first lease of the incarnation with this arena and base stands.
-    pub(crate) fn position(
-        &self,
-        incarnation: Ordinal,
-        arena: u32,
-        base: Quantity,
-    ) -> Option<usize>
-        ensures { result ≡ position (is_lease incarnation arena base) self.now }
+    /// Where the first lease of the request's incarnation with this arena and base stands.
+    pub(crate) fn position(&self, id: RequestId, arena: u32, base: Quantity) -> Option<usize>
+        ensures { result ≡ position (is_lease id.incarnation arena base) self.now }
     {
         self.held
             .iter()
-            .position(|held| held.is_lease(incarnation, arena, base))
+            .position(|held| held.is_lease(id, arena, base))
     }
 
     /// Where the first lease of an incarnation before this one stands.

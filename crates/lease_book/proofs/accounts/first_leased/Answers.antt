@@ -1,4 +1,4 @@
-use Rattle.std.proofs.Common.{◌≤◌, length, arith}
+use Rattle.std.proofs.Common.{arith}
 use Rattle.lease_book.proofs.ShelfLemmas.{goes_past, found_first, found_none}
 use Rattle.lease_book.proofs.accounts.first_leased.Goals as goal
 
