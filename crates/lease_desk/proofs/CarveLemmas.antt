@@ -18,8 +18,8 @@ use Rattle.tag_arena.specs.Choice.{IsChoice}
 use Rattle.tag_arena.specs.ArenaState.{ArenaState, ranges_of, direct, IsChosen}
 use Rattle.tag_arena.specs.Calls.{Carves, RefusesCarve}
 use Rattle.lease_desk.specs.declared.spaces.Space.{Space}
-use Rattle.lease_desk.specs.Picture.{ArenaPicture}
-use Rattle.lease_desk.specs.Spaces.{picture_of, pictures, AreSpaces, IsSpace}
+use Rattle.lease_desk.specs.DeskState.{NamedArenaState}
+use Rattle.lease_desk.specs.Spaces.{state_of, states_of, AreSpaces, IsSpace}
 use Rattle.lease_desk.specs.Carved.{IsCarved, IsUncarved}
 use Rattle.lease_desk.proofs.PlaceLemmas.{slice_get_mapped}
 use Rattle.lease_desk.proofs.SpaceLemmas.{with_arena, carved_space, carved_gives, spaces_after, gives_before}
@@ -73,11 +73,11 @@ module _ (spaces : List Space) (place : ℕ) (s : Space) (new : ArenaState) (q :
       → IfOk r (λ t. Carves s.arena new t.holding)
       → IfOk r (λ t. Gains (ranges_of s.arena.allocated) (ranges_of new.allocated) t.holding)
       → IfOk r (λ t. (u : ℕ) → covering_held u s.arena.free ≡ covering_held u new.free + covers u t.holding.range)
-      → IfOk r (λ t. (x : ArenaPicture) × IsCarved (pictures spaces) (pictures (set spaces place (with_arena s new))) place x q t)
+      → IfOk r (λ t. (x : NamedArenaState) × IsCarved (states_of spaces) (states_of (set spaces place (with_arena s new))) place x q t)
   carve_carved (Ok t) good chosen fits segment carved gains units = (
-    picture_of s,
+    state_of s,
     record {
-      here = slice_get_mapped picture_of spaces place s here;
+      here = slice_get_mapped state_of spaces place s here;
       home = home;
       route = ap (λ (x : Tag). x.route) segment;
       good = good;
@@ -93,10 +93,10 @@ module _ (spaces : List Space) (place : ℕ) (s : Space) (new : ArenaState) (q :
       home = ap (λ (x : Tag). x.arena) segment ∙ is.id
   carve_carved (Err e) good chosen fits segment carved gains units = tt
 
-  pub carve_refused : (r : Result Tag ArenaFault) → IfErr r (RefusesCarve s.arena q) → IfErr r (λ fault. (x : ArenaPicture) × IsUncarved (pictures spaces) place x q fault)
+  pub carve_refused : (r : Result Tag ArenaFault) → IfErr r (RefusesCarve s.arena q) → IfErr r (λ fault. (x : NamedArenaState) × IsUncarved (states_of spaces) place x q fault)
   carve_refused (Ok t) refused = tt
-  carve_refused (Err BadRequest) bad = (picture_of s, record { here = slice_get_mapped picture_of spaces place s here; why = bad })
-  carve_refused (Err NoFit) none = (picture_of s, record { here = slice_get_mapped picture_of spaces place s here; why = (none.0, λ has. none_serves s.arena.policy s.arena.quantum q s.arena.free s.arena.rover none.1 has.0 has.1) })
+  carve_refused (Err BadRequest) bad = (state_of s, record { here = slice_get_mapped state_of spaces place s here; why = bad })
+  carve_refused (Err NoFit) none = (state_of s, record { here = slice_get_mapped state_of spaces place s here; why = (none.0, λ has. none_serves s.arena.policy s.arena.quantum q s.arena.free s.arena.rover none.1 has.0 has.1) })
   carve_refused (Err Overlaps) refused = absurd refused
   carve_refused (Err NotAligned) refused = absurd refused
-  carve_refused (Err NoMemory) refused = (picture_of s, record { here = slice_get_mapped picture_of spaces place s here; why = (refused.0, (refused.1.0, (s.arena.rover, refused.1.1))) })
+  carve_refused (Err NoMemory) refused = (state_of s, record { here = slice_get_mapped state_of spaces place s here; why = (refused.0, (refused.1.0, (s.arena.rover, refused.1.1))) })

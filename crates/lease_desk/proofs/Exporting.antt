@@ -10,7 +10,7 @@ use Rattle.deed_core.specs.Tag.{Tag}
 use Rattle.deed_core.specs.Covering.{covers_held}
 use Rattle.deed_core.specs.declared.segments.Route.{Route}
 use Rattle.deed_core.specs.declared.segments.Route.TheVariants.{Direct, Cached}
-use Rattle.lease_desk.specs.Picture.{ArenaPicture, within, stray, is_direct, Exports}
+use Rattle.lease_desk.specs.DeskState.{NamedArenaState, within, stray, is_direct, Exports}
 use Rattle.lease_desk.specs.Moves.{TakesBack, GivesBack}
 use Rattle.lease_desk.proofs.PlaceLemmas.{written, slice_get_some, slice_get_one}
 
@@ -33,14 +33,14 @@ pub stray_none : (n : ℕ) (t : Tag) → t.route ≡ Direct → t.arena < n → 
 stray_none n t is lt = ap (λ r. cond (is_direct r && nat_lt t.arena n) 0 1) is ∙ (grind (arith, nat_tests))
 
 -- exports only count what is out
-pub exports_weigh : (xs : List ArenaPicture) (out other : List Tag) → ((f : Tag → ℕ) → sum_by f out ≡ sum_by f other) → Exports xs out → Exports xs other
+pub exports_weigh : (xs : List NamedArenaState) (out other : List Tag) → ((f : Tag → ℕ) → sum_by f out ≡ sum_by f other) → Exports xs out → Exports xs other
 exports_weigh xs out other alike e = record {
   each = λ k x f at. e.each k x f at ∙ alike (within k f);
   none = sym (alike (stray (length xs))) ∙ e.none;
 }
 
 -- segments came back, and the others are out still
-pub exports_back : (xs ys : List ArenaPicture) (back out rest : List Tag) → GivesBack back xs ys → ((f : Tag → ℕ) → sum_by f out ≡ sum_by f rest + sum_by f back) → Exports xs out → Exports ys rest
+pub exports_back : (xs ys : List NamedArenaState) (back out rest : List Tag) → GivesBack back xs ys → ((f : Tag → ℕ) → sum_by f out ≡ sum_by f rest + sum_by f back) → Exports xs out → Exports ys rest
 exports_back xs ys back out rest gives less e = record {
   each = λ k y f at.
       let inside : k < length ys = slice_get_within ys k y at in
@@ -53,7 +53,7 @@ exports_back xs ys back out rest gives less e = record {
 }
 
 -- a segment was carved
-pub exports_out : (old new : List ArenaPicture) (t : Tag) (out : List Tag) → GivesBack (t ∷ []) new old → t.route ≡ Direct → t.arena < length old → Exports old out → Exports new (t ∷ out)
+pub exports_out : (old new : List NamedArenaState) (t : Tag) (out : List Tag) → GivesBack (t ∷ []) new old → t.route ≡ Direct → t.arena < length old → Exports old out → Exports new (t ∷ out)
 exports_out old new t out gives route home e = record {
   each = λ k y f at.
       let inside : k < length new = slice_get_within new k y at in
@@ -67,7 +67,7 @@ exports_out old new t out gives route home e = record {
 }
 
 -- an arena takes nothing back
-pub takes_none : (k : ℕ) (back : List Tag) (x : ArenaPicture) → ((f : Holding → ℕ) → sum_by (within k f) back ≡ 0) → TakesBack k back x x
+pub takes_none : (k : ℕ) (back : List Tag) (x : NamedArenaState) → ((f : Holding → ℕ) → sum_by (within k f) back ≡ 0) → TakesBack k back x x
 takes_none k back x none = record {
   name = refl;
   quantum = refl;
@@ -77,7 +77,7 @@ takes_none k back x none = record {
   free = λ u. omega (arith, none (covers_held u));
 }
 
-pub none_given : (xs : List ArenaPicture) → GivesBack [] xs xs
+pub none_given : (xs : List NamedArenaState) → GivesBack [] xs xs
 none_given xs = record {
   count = refl;
   each = λ k x y a b. subst (λ z. TakesBack k [] x z) (slice_get_one xs k x y a b) (takes_none k [] x (λ f. refl));
@@ -87,7 +87,7 @@ other_arena : (k : ℕ) (t : Tag) (f : Holding → ℕ) → t.arena ≢ k → su
 other_arena k t f ne = omega (arith, sum_by-cons (within k f) t [], within_other k f t ne)
 
 -- one segment came back to the arena that was written
-pub gives_one : (xs : List ArenaPicture) (k : ℕ) (x y : ArenaPicture) (t : Tag) → t.arena ≡ k → slice_get xs k ≡ Some x → TakesBack k (t ∷ []) x y → GivesBack (t ∷ []) xs (set xs k y)
+pub gives_one : (xs : List NamedArenaState) (k : ℕ) (x y : NamedArenaState) (t : Tag) → t.arena ≡ k → slice_get xs k ≡ Some x → TakesBack k (t ∷ []) x y → GivesBack (t ∷ []) xs (set xs k y)
 gives_one xs k x y t home at taken = record {
   count = length-set xs k y;
   each = λ j a b old new. elim (written xs k j y b new) [
@@ -101,7 +101,7 @@ gives_one xs k x y t home at taken = record {
 }
 
 -- one segment was carved from it
-pub gives_one_back : (xs : List ArenaPicture) (k : ℕ) (x y : ArenaPicture) (t : Tag) → t.arena ≡ k → slice_get xs k ≡ Some x → TakesBack k (t ∷ []) y x → GivesBack (t ∷ []) (set xs k y) xs
+pub gives_one_back : (xs : List NamedArenaState) (k : ℕ) (x y : NamedArenaState) (t : Tag) → t.arena ≡ k → slice_get xs k ≡ Some x → TakesBack k (t ∷ []) y x → GivesBack (t ∷ []) (set xs k y) xs
 gives_one_back xs k x y t home at taken = record {
   count = sym (length-set xs k y);
   each = λ j b a new old. elim (written xs k j y b new) [
@@ -115,7 +115,7 @@ gives_one_back xs k x y t home at taken = record {
 }
 
 -- what came back in two steps
-pub gives_then : (xs ys zs : List ArenaPicture) (a b both : List Tag) → GivesBack a xs ys → GivesBack b ys zs → ((f : Tag → ℕ) → sum_by f both ≡ sum_by f a + sum_by f b) → GivesBack both xs zs
+pub gives_then : (xs ys zs : List NamedArenaState) (a b both : List Tag) → GivesBack a xs ys → GivesBack b ys zs → ((f : Tag → ℕ) → sum_by f both ≡ sum_by f a + sum_by f b) → GivesBack both xs zs
 gives_then xs ys zs a b both first second sum = record {
   count = second.count ∙ first.count;
   each = λ k x z old new.
@@ -134,7 +134,7 @@ gives_then xs ys zs a b both first second sum = record {
 }
 
 -- a segment that was carved and freed again
-pub gives_nothing : (xs ys zs : List ArenaPicture) (t : Tag) → GivesBack (t ∷ []) ys xs → GivesBack (t ∷ []) ys zs → GivesBack [] xs zs
+pub gives_nothing : (xs ys zs : List NamedArenaState) (t : Tag) → GivesBack (t ∷ []) ys xs → GivesBack (t ∷ []) ys zs → GivesBack [] xs zs
 gives_nothing xs ys zs t carved freed = record {
   count = freed.count ∙ sym carved.count;
   each = λ k x z old new.

@@ -2,7 +2,7 @@ pub mod PlaceLemmas
 pub mod Standing
 pub mod Exporting
 pub mod SpaceLemmas
-pub mod ToldLemmas
+pub mod GrantLemmas
 pub mod SteadyLemmas
 pub mod AnswerLemmas
 pub mod CarveLemmas

@@ -7,10 +7,10 @@ use Rattle.deed_core.specs.Holding.{Holding}
 use Rattle.deed_core.specs.Covering.{covers_held}
 use Rattle.deed_core.proofs.LawProofs.{sum_by-map}
 use Rattle.lease_book.specs.Account.{Lease, Account}
-use Rattle.lease_book.specs.Ledger.{Ledger, leased, leased_by, segments}
+use Rattle.lease_book.specs.BookState.{BookState, leased, leased_by, segments}
 use Rattle.lease_desk.specs.declared.spaces.Space.{Space}
-use Rattle.lease_desk.specs.Picture.{ArenaPicture, Free, Leased, Stay, leases_in, stays_of, OnePlace, within, IsOrderly}
-use Rattle.lease_desk.specs.Spaces.{picture_of, desk_of, IsSteady, IsSpace}
+use Rattle.lease_desk.specs.DeskState.{NamedArenaState, Free, Leased, Stay, leases_in, stays_of, OnePlace, within, IsOrderly}
+use Rattle.lease_desk.specs.Spaces.{state_of, desk_of, IsSteady, IsSpace}
 use Rattle.lease_desk.proofs.PlaceLemmas.{mapped, slice_get_mapped}
 
 abbrev weight : (Holding → ℕ) → Stay → ℕ
@@ -37,7 +37,7 @@ module _ (k : ℕ) (f : Holding → ℕ) where
       ∙ sym (sum_by-append (within k f) (segments a.leases) (leased_by accounts))
 
   -- what the places of an arena weigh
-  pub stays_weigh : (x : ArenaPicture) (book : Ledger) → sum_by (weight f) (stays_of k x book) ≡ sum_by f x.free + sum_by (within k f) (leased book)
+  pub stays_weigh : (x : NamedArenaState) (book : BookState) → sum_by (weight f) (stays_of k x book) ≡ sum_by f x.free + sum_by (within k f) (leased book)
   stays_weigh x book = sum_by-append (weight f) (map free_stay x.free) (flat_map (leases_in k) book.accounts)
       ∙ ap (λ n. n + sum_by (weight f) (flat_map (leases_in k) book.accounts)) (sum_by-map (weight f) free_stay x.free)
       ∙ ap (λ n. sum_by f x.free + n) (accounts_weigh book.accounts)
@@ -45,11 +45,11 @@ module _ (k : ℕ) (f : Holding → ℕ) where
       free_stay : Holding → Stay
       free_stay h = record { place = Free; holding = h }
 
-one_place : (spaces : List Space) (book : Ledger) (k : ℕ) (s : Space) → IsSteady spaces book → slice_get spaces k ≡ Some s → OnePlace k (picture_of s) book
+one_place : (spaces : List Space) (book : BookState) (k : ℕ) (s : Space) → IsSteady spaces book → slice_get spaces k ≡ Some s → OnePlace k (state_of s) book
 one_place spaces book k s steady at = record {
   places = λ u.
-      let all = stays_weigh k (covers_held u) (picture_of s) book in
-      let out = steady.exports.each k (picture_of s) (covers_held u) (slice_get_mapped picture_of spaces k s at) in
+      let all = stays_weigh k (covers_held u) (state_of s) book in
+      let out = steady.exports.each k (state_of s) (covers_held u) (slice_get_mapped state_of spaces k s at) in
       omega (arith, all, out, is.covers u);
   once = is.once;
 }
@@ -57,10 +57,10 @@ one_place spaces book k s steady at = record {
     is : IsSpace k s
     is = steady.sound k s at
 
-pub orderly : (spaces : List Space) (book : Ledger) → IsSteady spaces book → IsOrderly (desk_of spaces book)
+pub orderly : (spaces : List Space) (book : BookState) → IsSteady spaces book → IsOrderly (desk_of spaces book)
 orderly spaces book steady = record {
   places = λ k x at.
-      let s = mapped picture_of spaces k x at in
+      let s = mapped state_of spaces k x at in
       subst (λ z. OnePlace k z book) (sym s.2) (one_place spaces book k s.0 steady s.1);
   exports = steady.exports;
 }

@@ -1,4 +1,4 @@
--- Lists that one element is written into or put at the end of, and the pictures of arenas.
+-- Lists that one element is written into or put at the end of, and the states_of of arenas.
 use Rattle.std.proofs.Common.{◌≡◌, ◌≢◌, ◌⊎◌, ℕ, suc, zero, ◌+◌, ◌<◌, Bool, cond, not, refl, sym, ap, ◌∙◌, inl, inr, List, [], ◌∷◌, ◌++◌, map, length, get_or, set, Some, None, arith}
 use Rattle.std.specs.Prelude.{slice_get, position, nat_lt}
 use Rattle.std.specs.List.{prefix_len, position_or_len}
@@ -56,7 +56,7 @@ pub slice_get_here : {X : Type 0} (xs : List X) (i : ℕ) (r : X) → i < length
 slice_get_here xs i r within read = slice_get-get_or xs i r within ∙ ap Some (sym read)
 
 module _ {X Y : Type 0} (f : X → Y) where
-  -- an element of a list of pictures is a picture
+  -- an element of a list of states_of is a picture
   pub mapped : (xs : List X) (k : ℕ) (y : Y) → slice_get (map f xs) k ≡ Some y → (x : X) × (slice_get xs k ≡ Some x) × (y ≡ f x)
   mapped [] k y at = absurd (let e : None ≡ Some y = at in cc)
   mapped (x ∷ xs) zero y at = (x, refl, (let e : Some (f x) ≡ Some y = at in cc))

@@ -4,17 +4,17 @@ use Rattle.std.specs.Prelude.{sum_by}
 use Rattle.std.proofs.lemmas.List.Sums.{sum_by-cons, get_or-le-sum_by}
 use Rattle.deed_core.specs.Covering.{covers, covers_held}
 use Rattle.deed_core.proofs.LawProofs.{counts_the_unit}
-use Rattle.lease_book.specs.Ledger.{leased}
+use Rattle.lease_book.specs.BookState.{leased}
 use Rattle.lease_proto.specs.Frames.{Frame}
 use Rattle.lease_server.specs.Serving.{Serves}
-use Rattle.lease_desk.specs.Picture.{Picture, OnePlace, within, stray, IsOrderly}
+use Rattle.lease_desk.specs.DeskState.{DeskState, OnePlace, within, stray, IsOrderly}
 use Rattle.lease_desk.specs.Machine.{LeaseStep}
 use Rattle.lease_desk.specs.Laws.{AreApart, LeasesStayApart, UnitsHaveOnePlace}
 use Rattle.lease_desk.proofs.PlaceLemmas.{slice_get_some}
 use Rattle.lease_desk.proofs.Exporting.{not_stray, within_own}
 use Rattle.lease_desk.proofs.OrderLemmas.{stays_weigh}
 
-stays_orderly : (old new : Picture) (frames : List Frame) (text : List ℕ) → IsOrderly old → Serves LeaseStep old frames text new → IsOrderly new
+stays_orderly : (old new : DeskState) (frames : List Frame) (text : List ℕ) → IsOrderly old → Serves LeaseStep old frames text new → IsOrderly new
 stays_orderly old new [] text orderly served = subst IsOrderly (sym served.1) orderly
 stays_orderly old new (Ok line ∷ frames) text orderly served = stays_orderly served.2 new frames served.1 (served.3).orderly served.5
 stays_orderly old new (Err fault ∷ frames) text orderly served = stays_orderly old new frames served.0 orderly served.2
@@ -27,13 +27,13 @@ two_weigh f (x ∷ xs) (suc i) zero d lt below = absurd (omega (arith, lt))
 two_weigh f (x ∷ xs) (suc i) (suc j) d lt below = omega (arith, sum_by-cons f x xs, two_weigh f xs i j d (omega (arith, lt)) (omega (arith, below)))
 
 -- a unit of an arena is leased once at most
-leased_once : (d : Picture) (k u : ℕ) → IsOrderly d → k < length d.arenas → sum_by (within k (covers_held u)) (leased d.book) ≤ 1
+leased_once : (d : DeskState) (k u : ℕ) → IsOrderly d → k < length d.arenas → sum_by (within k (covers_held u)) (leased d.book) ≤ 1
 leased_once d k u orderly inside =
     let x = slice_get_some d.arenas k inside in
     let place : OnePlace k x.0 d.book = orderly.places k x.0 x.1 in
     omega (arith, place.places u, place.once u, stays_weigh k (covers_held u) x.0 d.book)
 
-apart_now : (d : Picture) → IsOrderly d → AllPairs AreApart (leased d.book)
+apart_now : (d : DeskState) → IsOrderly d → AllPairs AreApart (leased d.book)
 apart_now d orderly i j e lt below same u first second =
     let a : ℕ = (get_or (leased d.book) i e).arena in
     let one = within_own a (covers_held u) (get_or (leased d.book) i e) refl in

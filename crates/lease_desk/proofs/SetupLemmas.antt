@@ -17,16 +17,16 @@ use Rattle.tag_arena.specs.Layout.{FreeIsLongestRuns, IsLongestRun, IsRun, IsPar
 use Rattle.tag_arena.specs.ArenaState.{ArenaState, spans_of, layout_of, ranges_of}
 use Rattle.tag_arena.specs.Calls.{after_add, IsClear}
 use Rattle.lease_book.specs.Entry.{Entry, Hello, Settled, Swept, reply_of}
-use Rattle.lease_book.specs.Ledger.{Ledger, leased}
+use Rattle.lease_book.specs.BookState.{BookState, leased}
 use Rattle.lease_book.specs.declared.receipts.Reply.{Reply}
 use Rattle.lease_book.specs.declared.receipts.Reply.TheVariants.{Granted, Released, Refused}
 use Rattle.lease_desk.specs.declared.spaces.Space.{Space}
-use Rattle.lease_desk.specs.Picture.{ArenaPicture, within, stray, Exports}
+use Rattle.lease_desk.specs.DeskState.{NamedArenaState, within, stray, Exports}
 use Rattle.lease_desk.specs.Machine.{Finds}
 use Rattle.lease_desk.specs.Setup.{root_of, NewArena, CanAdd, CanSpan, AddsArena, AddsSpan, with_span, fresh}
-use Rattle.lease_desk.specs.Told.{IsOfArenas, IsPossible, IsTold}
+use Rattle.lease_desk.specs.Grants.{IsOfArenas, IsPossible, GrantsAreOwn}
 use Rattle.lease_desk.specs.Roots.{space_of}
-use Rattle.lease_desk.specs.Spaces.{picture_of, pictures, IsSpace, AreSpaces, IsSteady}
+use Rattle.lease_desk.specs.Spaces.{state_of, states_of, IsSpace, AreSpaces, IsSteady}
 use Rattle.lease_desk.proofs.PlaceLemmas.{written, pushed}
 use Rattle.lease_desk.proofs.Exporting.{not_stray, stray_none, within_other}
 
@@ -59,22 +59,22 @@ map-push : {X Y : Type 0} (f : X → Y) (xs : List X) (y : X) → map f (xs ++ y
 map-push f [] y = refl
 map-push f (x ∷ xs) y = ap (λ ys. f x ∷ ys) (map-push f xs y)
 
-abbrev fresh_with : NewArena → Holding → List Holding → ArenaPicture
+abbrev fresh_with : NewArena → Holding → List Holding → NamedArenaState
 fresh_with n h allocated = record { name = n.name; quantum = n.quantum; policy = n.policy; spans = h ∷ []; free = h ∷ []; allocated = allocated }
 
 abbrev pub held_by : ℕ → Extent → Holding
 held_by root range = record { root = root; range = range }
 
-pub added_arena : (spaces items : List Space) (id : ℕ) (n : NewArena) (range : Extent) (s : Space) → CanAdd (pictures spaces) n → range ≡ n.range → items ≡ spaces ++ s ∷ [] → id ≡ length spaces → s ≡ space_of id n (held_by (root_of id 0) range)
-    → AddsArena n (pictures spaces) (pictures items)
+pub added_arena : (spaces items : List Space) (id : ℕ) (n : NewArena) (range : Extent) (s : Space) → CanAdd (states_of spaces) n → range ≡ n.range → items ≡ spaces ++ s ∷ [] → id ≡ length spaces → s ≡ space_of id n (held_by (root_of id 0) range)
+    → AddsArena n (states_of spaces) (states_of items)
 added_arena spaces items id n range s can same is place made = record {
   can = can;
-  added = ap pictures is ∙ map-push picture_of spaces s ∙ ap (λ (x : ArenaPicture). pictures spaces ++ x ∷ []) picture;
+  added = ap states_of is ∙ map-push state_of spaces s ∙ ap (λ (x : NamedArenaState). states_of spaces ++ x ∷ []) picture;
 }
   where
-    picture : picture_of s ≡ fresh n (held_by (root_of (length (pictures spaces)) 0) n.range)
-    picture = ap picture_of made ∙ ap (fresh_with n (held_by (root_of id 0) range)) no_ranges ∙ ap (λ r. fresh n (held_by (root_of id 0) r)) same
-        ∙ ap (λ k. fresh n (held_by (root_of k 0) n.range)) (place ∙ sym (length-map spaces picture_of))
+    picture : state_of s ≡ fresh n (held_by (root_of (length (states_of spaces)) 0) n.range)
+    picture = ap state_of made ∙ ap (fresh_with n (held_by (root_of id 0) range)) no_ranges ∙ ap (λ r. fresh n (held_by (root_of id 0) r)) same
+        ∙ ap (λ k. fresh n (held_by (root_of k 0) n.range)) (place ∙ sym (length-map spaces state_of))
 
 -- no segment is of an arena past the last
 none_past : (out : List Tag) (n k : ℕ) (f : Holding → ℕ) → sum_by (stray n) out ≡ 0 → n ≤ k → sum_by (within k f) out ≡ 0
@@ -95,47 +95,47 @@ stray_more (t ∷ out) n m none more =
     let below : t.arena < m = (let lt = home.1 in omega (arith, lt, more)) in
     omega (arith, sum_by-cons (stray m) t out, stray_none m t home.0 below, stray_more out n m rest more)
 
-exports_pushed : (xs : List ArenaPicture) (y : ArenaPicture) (out : List Tag) → y.allocated ≡ [] → Exports xs out → Exports (xs ++ y ∷ []) out
+exports_pushed : (xs : List NamedArenaState) (y : NamedArenaState) (out : List Tag) → y.allocated ≡ [] → Exports xs out → Exports (xs ++ y ∷ []) out
 exports_pushed xs y out none e = record {
   each = λ k z f at. elim (pushed xs k y z at) [
-    | inl here ↦ ap (λ (x : ArenaPicture). sum_by f x.allocated) here.1 ∙ ap (sum_by f) none ∙ sym (none_past out (length xs) k f e.none (omega (arith, here.0)))
+    | inl here ↦ ap (λ (x : NamedArenaState). sum_by f x.allocated) here.1 ∙ ap (sum_by f) none ∙ sym (none_past out (length xs) k f e.none (omega (arith, here.0)))
     | inr there ↦ e.each k z f there
   ];
   none = stray_more out (length xs) (length (xs ++ y ∷ [])) e.none (omega (arith, length-append xs (y ∷ [])));
 }
 
 wider_reply : (n m : ℕ) (r : Reply) → n ≤ m → IsOfArenas n r → IsOfArenas m r
-wider_reply n m (Granted a b l) more h = ((let lt = h.0 in omega (arith, lt, more)), h.1, h.2)
+wider_reply n m (Granted a b l) more h = (let lt = h in omega (arith, lt, more))
 wider_reply n m Released more h = tt
 wider_reply n m (Refused w) more h = tt
 
 wider_entry : (n m : ℕ) (e : Entry) → n ≤ m → IsPossible n e → IsPossible m e
 wider_entry n m (Hello c i) more h = h
-wider_entry n m (Settled c i k s) more h = (h.0, wider_reply n m (reply_of s) more h.1)
+wider_entry n m (Settled id s) more h = wider_reply n m (reply_of s) more h
 wider_entry n m (Swept c i a b) more h = tt
 
 wider : (n m : ℕ) (es : List Entry) → n ≤ m → AllByRecursion (IsPossible n) es → AllByRecursion (IsPossible m) es
 wider n m [] more h = tt
 wider n m (e ∷ es) more h = (wider_entry n m e more h.0, wider n m es more h.1)
 
-pub steady_added : (n : NewArena) (spaces now : List Space) (book : Ledger) → IsSteady spaces book → AreSpaces now → AddsArena n (pictures spaces) (pictures now) → IsSteady now book
+pub steady_added : (n : NewArena) (spaces now : List Space) (book : BookState) → IsSteady spaces book → AreSpaces now → AddsArena n (states_of spaces) (states_of now) → IsSteady now book
 steady_added n spaces now book steady sound adds = record {
-  few = (let room = adds.can.room.1 in omega (arith, room, count, length-map spaces picture_of));
+  few = (let room = adds.can.room.1 in omega (arith, room, count, length-map spaces state_of));
   sound = sound;
-  exports = subst (λ xs. Exports xs (leased book)) (sym adds.added) (exports_pushed (pictures spaces) (fresh n (held_by (root_of (length (pictures spaces)) 0) n.range)) (leased book) refl steady.exports);
-  told = record {
-    entries = steady.told.entries;
-    history = steady.told.history;
-    possible = wider (length spaces) (length now) steady.told.entries (omega (arith, count)) steady.told.possible;
+  exports = subst (λ xs. Exports xs (leased book)) (sym adds.added) (exports_pushed (states_of spaces) (fresh n (held_by (root_of (length (states_of spaces)) 0) n.range)) (leased book) refl steady.exports);
+  grants = record {
+    entries = steady.grants.entries;
+    history = steady.grants.history;
+    possible = wider (length spaces) (length now) steady.grants.entries (omega (arith, count)) steady.grants.possible;
   };
 }
   where
     count : length now ≡ length spaces + 1
-    count = omega (arith, length-map now picture_of, length-map spaces picture_of, ap length adds.added, length-append (pictures spaces) (fresh n (held_by (root_of (length (pictures spaces)) 0) n.range) ∷ []))
+    count = omega (arith, length-map now state_of, length-map spaces state_of, ap length adds.added, length-append (states_of spaces) (fresh n (held_by (root_of (length (states_of spaces)) 0) n.range) ∷ []))
 
 -- whether it was added or not
-pub steady_root : {A E : Type 0} (r : Result A E) (n : NewArena) (spaces now : List Space) (book : Ledger) → IsSteady spaces book
-    → OnOk r (AreSpaces now) → OnOk r (AddsArena n (pictures spaces) (pictures now)) → OnErr r (now ≡ spaces) → IsSteady now book
+pub steady_root : {A E : Type 0} (r : Result A E) (n : NewArena) (spaces now : List Space) (book : BookState) → IsSteady spaces book
+    → OnOk r (AreSpaces now) → OnOk r (AddsArena n (states_of spaces) (states_of now)) → OnErr r (now ≡ spaces) → IsSteady now book
 steady_root (Ok x) n spaces now book steady sound adds same = steady_added n spaces now book steady sound adds
 steady_root (Err e) n spaces now book steady sound adds same = subst (λ (xs : List Space). IsSteady xs book) (sym same) steady
 
@@ -168,10 +168,10 @@ module _ (s : Space) (own : s.arena.imported ≡ []) where
   spans_added h = ap (λ (ts : List Tag). (s.arena.owned ++ h ∷ []) ++ map (λ (t : Tag). t.holding) ts) own ∙ nil_right (s.arena.owned ++ h ∷ [])
       ∙ sym (ap (λ (hs : List Holding). hs ++ h ∷ []) owned_alone)
 
-  pub extended_picture : (new : ArenaState) (h : Holding) → new ≡ after_add s.arena h → picture_of (record { name = s.name; arena = new; spans = s.spans + 1 }) ≡ with_span (picture_of s) h
-  extended_picture new h same = ap (λ (a : ArenaState). picture_of (record { name = s.name; arena = a; spans = s.spans + 1 })) same ∙ ap with_spans (spans_added h)
+  pub extended_picture : (new : ArenaState) (h : Holding) → new ≡ after_add s.arena h → state_of (record { name = s.name; arena = new; spans = s.spans + 1 }) ≡ with_span (state_of s) h
+  extended_picture new h same = ap (λ (a : ArenaState). state_of (record { name = s.name; arena = a; spans = s.spans + 1 })) same ∙ ap with_spans (spans_added h)
     where
-      with_spans : List Holding → ArenaPicture
+      with_spans : List Holding → NamedArenaState
       with_spans spans = record { name = s.name; quantum = s.arena.quantum; policy = s.arena.policy; spans = spans; free = s.arena.free ++ h ∷ []; allocated = ranges_of s.arena.allocated }
 
   -- an arena knows how many spans it has
@@ -198,24 +198,24 @@ extended_space k s new h is same clear few = subst (λ a. IsSpace k (record { na
           omega (arith, one, clear_none (spans_of s.arena) h.range u clear one, spans_weigh s.arena h (covers_held u))
     ]
 
-pub steady_spanned : (name : List ℕ) (e : Extent) (spaces now : List Space) (book : Ledger) → IsSteady spaces book → AreSpaces now → AddsSpan name e (pictures spaces) (pictures now) → IsSteady now book
+pub steady_spanned : (name : List ℕ) (e : Extent) (spaces now : List Space) (book : BookState) → IsSteady spaces book → AreSpaces now → AddsSpan name e (states_of spaces) (states_of now) → IsSteady now book
 steady_spanned name e spaces now book steady sound adds = record {
   few = (let f = steady.few in omega (arith, f, count));
   sound = sound;
   exports = subst (λ xs. Exports xs (leased book)) (sym adds.added) spanned;
-  told = subst (λ n. IsTold n book) (sym count) steady.told;
+  grants = subst (λ n. GrantsAreOwn n book) (sym count) steady.grants;
 }
   where
     count : length now ≡ length spaces
-    count = sym (length-map now picture_of) ∙ ap length adds.added ∙ length-set (pictures spaces) adds.place (with_span adds.arena (held_by (root_of adds.place (length adds.arena.spans)) e)) ∙ length-map spaces picture_of
+    count = sym (length-map now state_of) ∙ ap length adds.added ∙ length-set (states_of spaces) adds.place (with_span adds.arena (held_by (root_of adds.place (length adds.arena.spans)) e)) ∙ length-map spaces state_of
 
-    spanned : Exports (set (pictures spaces) adds.place (with_span adds.arena (held_by (root_of adds.place (length adds.arena.spans)) e))) (leased book)
+    spanned : Exports (set (states_of spaces) adds.place (with_span adds.arena (held_by (root_of adds.place (length adds.arena.spans)) e))) (leased book)
     spanned = record {
-      each = λ k z f at. elim (written (pictures spaces) adds.place k (with_span adds.arena (held_by (root_of adds.place (length adds.arena.spans)) e)) z at) [
-        | inl here ↦ ap (λ (x : ArenaPicture). sum_by f x.allocated) here.1 ∙ steady.exports.each k adds.arena f (ap (slice_get (pictures spaces)) here.0 ∙ adds.finds.here)
+      each = λ k z f at. elim (written (states_of spaces) adds.place k (with_span adds.arena (held_by (root_of adds.place (length adds.arena.spans)) e)) z at) [
+        | inl here ↦ ap (λ (x : NamedArenaState). sum_by f x.allocated) here.1 ∙ steady.exports.each k adds.arena f (ap (slice_get (states_of spaces)) here.0 ∙ adds.finds.here)
         | inr there ↦ steady.exports.each k z f there.1
       ];
-      none = ap (λ n. sum_by (stray n) (leased book)) (length-set (pictures spaces) adds.place (with_span adds.arena (held_by (root_of adds.place (length adds.arena.spans)) e))) ∙ steady.exports.none;
+      none = ap (λ n. sum_by (stray n) (leased book)) (length-set (states_of spaces) adds.place (with_span adds.arena (held_by (root_of adds.place (length adds.arena.spans)) e))) ∙ steady.exports.none;
     }
 
 -- the front of a list has its places
@@ -260,21 +260,21 @@ nothing_free a own none runs out = whole_free a.owned a.free a.allocated none
     (subst (λ spans. FreeIsLongestRuns (record { spans = spans; free = a.free; allocated = a.allocated })) (ap (λ (ts : List Tag). a.owned ++ map (λ (t : Tag). t.holding) ts) own ∙ nil_right a.owned) runs) out
 
 -- whether it was added or not
-pub steady_span : {A E : Type 0} (r : Result A E) (name : List ℕ) (e : Extent) (spaces now : List Space) (book : Ledger) → IsSteady spaces book
-    → OnOk r (AreSpaces now) → OnOk r (AddsSpan name e (pictures spaces) (pictures now)) → OnErr r (now ≡ spaces) → IsSteady now book
+pub steady_span : {A E : Type 0} (r : Result A E) (name : List ℕ) (e : Extent) (spaces now : List Space) (book : BookState) → IsSteady spaces book
+    → OnOk r (AreSpaces now) → OnOk r (AddsSpan name e (states_of spaces) (states_of now)) → OnErr r (now ≡ spaces) → IsSteady now book
 steady_span (Ok x) name e spaces now book steady sound adds same = steady_spanned name e spaces now book steady sound adds
 steady_span (Err f) name e spaces now book steady sound adds same = subst (λ (xs : List Space). IsSteady xs book) (sym same) steady
 
 -- the arena that stands at a place has a span more
-pub adds_span : {A E : Type 0} (r : Result A E) (name : List ℕ) (e : Extent) (spaces : List Space) (place : ℕ) (old new : Space) → Finds (pictures spaces) name place (picture_of old)
-    → OnOk r ((length (picture_of old).spans < 65536) × CanSpan (picture_of old) e) → OnOk r (picture_of new ≡ with_span (picture_of old) (record { root = root_of place (length (picture_of old).spans); range = e }))
-    → OnOk r (AddsSpan name e (pictures spaces) (pictures (set spaces place new)))
+pub adds_span : {A E : Type 0} (r : Result A E) (name : List ℕ) (e : Extent) (spaces : List Space) (place : ℕ) (old new : Space) → Finds (states_of spaces) name place (state_of old)
+    → OnOk r ((length (state_of old).spans < 65536) × CanSpan (state_of old) e) → OnOk r (state_of new ≡ with_span (state_of old) (record { root = root_of place (length (state_of old).spans); range = e }))
+    → OnOk r (AddsSpan name e (states_of spaces) (states_of (set spaces place new)))
 adds_span (Ok x) name e spaces place old new finds can added = record {
   place = place;
-  arena = picture_of old;
+  arena = state_of old;
   finds = finds;
   few = can.0;
   can = can.1;
-  added = map-set picture_of spaces place new ∙ ap (λ (y : ArenaPicture). set (pictures spaces) place y) added;
+  added = map-set state_of spaces place new ∙ ap (λ (y : NamedArenaState). set (states_of spaces) place y) added;
 }
 adds_span (Err f) name e spaces place old new finds can added = tt

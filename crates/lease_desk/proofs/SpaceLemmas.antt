@@ -15,9 +15,9 @@ use Rattle.deed_core.specs.declared.segments.Route.TheVariants.{Direct}
 use Rattle.tag_arena.specs.ArenaState.{ArenaState, spans_of, ranges_of}
 use Rattle.tag_arena.specs.Calls.{Carves, Frees, after_carve, after_free}
 use Rattle.lease_desk.specs.declared.spaces.Space.{Space}
-use Rattle.lease_desk.specs.Picture.{within, stray, Exports}
+use Rattle.lease_desk.specs.DeskState.{within, stray, Exports}
 use Rattle.lease_desk.specs.Moves.{TakesBack, GivesBack}
-use Rattle.lease_desk.specs.Spaces.{picture_of, pictures, IsKeyed, IsSpace, AreSpaces, IsOut}
+use Rattle.lease_desk.specs.Spaces.{state_of, states_of, IsKeyed, IsSpace, AreSpaces, IsOut}
 use Rattle.lease_desk.proofs.PlaceLemmas.{written, slice_get_some, slice_get_mapped}
 use Rattle.lease_desk.proofs.Standing.{stands, same, same_itself}
 use Rattle.lease_desk.proofs.Exporting.{within_own, not_stray, gives_one, gives_one_back}
@@ -93,7 +93,7 @@ freed_space k s new t is freed loses units = space_after k s new is keeps keyed 
 pub freed_gives : (k : ℕ) (s : Space) (new : ArenaState) (t : Tag) → t.arena ≡ k → Frees s.arena new t.holding None
     → Loses (ranges_of s.arena.allocated) (ranges_of new.allocated) t.holding
     → ((u : ℕ) → covering_held u new.free + 0 ≡ covering_held u s.arena.free + covers u t.holding.range)
-    → TakesBack k (t ∷ []) (picture_of s) (picture_of (with_arena s new))
+    → TakesBack k (t ∷ []) (state_of s) (state_of (with_arena s new))
 freed_gives k s new t home freed loses units = record {
   name = refl;
   quantum = keeps.quantum;
@@ -125,7 +125,7 @@ carved_space k s new h is carved gains units = space_after k s new is keeps keye
 pub carved_gives : (k : ℕ) (s : Space) (new : ArenaState) (t : Tag) → t.arena ≡ k → Carves s.arena new t.holding
     → Gains (ranges_of s.arena.allocated) (ranges_of new.allocated) t.holding
     → ((u : ℕ) → covering_held u s.arena.free ≡ covering_held u new.free + covers u t.holding.range)
-    → TakesBack k (t ∷ []) (picture_of (with_arena s new)) (picture_of s)
+    → TakesBack k (t ∷ []) (state_of (with_arena s new)) (state_of s)
 carved_gives k s new t home carved gains units = record {
   name = refl;
   quantum = sym keeps.quantum;
@@ -145,32 +145,32 @@ spaces_after spaces k s sound is j x at = elim (written spaces k j s x at) [
   | inr there ↦ sound j x there.1
 ]
 
-pub gives_after : (spaces : List Space) (k : ℕ) (s now : Space) (t : Tag) → t.arena ≡ k → slice_get spaces k ≡ Some s → TakesBack k (t ∷ []) (picture_of s) (picture_of now) → GivesBack (t ∷ []) (pictures spaces) (pictures (set spaces k now))
-gives_after spaces k s now t home at taken = subst (λ xs. GivesBack (t ∷ []) (pictures spaces) xs) (sym (map-set picture_of spaces k now))
-    (gives_one (pictures spaces) k (picture_of s) (picture_of now) t home (slice_get_mapped picture_of spaces k s at) taken)
+pub gives_after : (spaces : List Space) (k : ℕ) (s now : Space) (t : Tag) → t.arena ≡ k → slice_get spaces k ≡ Some s → TakesBack k (t ∷ []) (state_of s) (state_of now) → GivesBack (t ∷ []) (states_of spaces) (states_of (set spaces k now))
+gives_after spaces k s now t home at taken = subst (λ xs. GivesBack (t ∷ []) (states_of spaces) xs) (sym (map-set state_of spaces k now))
+    (gives_one (states_of spaces) k (state_of s) (state_of now) t home (slice_get_mapped state_of spaces k s at) taken)
 
-pub gives_before : (spaces : List Space) (k : ℕ) (s now : Space) (t : Tag) → t.arena ≡ k → slice_get spaces k ≡ Some s → TakesBack k (t ∷ []) (picture_of now) (picture_of s) → GivesBack (t ∷ []) (pictures (set spaces k now)) (pictures spaces)
-gives_before spaces k s now t home at taken = subst (λ xs. GivesBack (t ∷ []) xs (pictures spaces)) (sym (map-set picture_of spaces k now))
-    (gives_one_back (pictures spaces) k (picture_of s) (picture_of now) t home (slice_get_mapped picture_of spaces k s at) taken)
+pub gives_before : (spaces : List Space) (k : ℕ) (s now : Space) (t : Tag) → t.arena ≡ k → slice_get spaces k ≡ Some s → TakesBack k (t ∷ []) (state_of now) (state_of s) → GivesBack (t ∷ []) (states_of (set spaces k now)) (states_of spaces)
+gives_before spaces k s now t home at taken = subst (λ xs. GivesBack (t ∷ []) xs (states_of spaces)) (sym (map-set state_of spaces k now))
+    (gives_one_back (states_of spaces) k (state_of s) (state_of now) t home (slice_get_mapped state_of spaces k s at) taken)
 
 -- a segment that is out is allocated in its arena
-pub out_of : (spaces : List Space) (t : Tag) (out : List Tag) → AreSpaces spaces → Exports (pictures spaces) (t ∷ out) → IsOut spaces t
+pub out_of : (spaces : List Space) (t : Tag) (out : List Tag) → AreSpaces spaces → Exports (states_of spaces) (t ∷ out) → IsOut spaces t
 out_of spaces t out sound exports = record {
   space = s.0;
   here = s.1;
   tagged = record { arena = sym is.id; route = home.0; stands = stands s.0.arena.allocated t.holding is.keyed weighs };
 }
   where
-    home : (t.route ≡ Direct) × (t.arena < length (pictures spaces))
-    home = not_stray (length (pictures spaces)) t (omega (arith, exports.none, sum_by-cons (stray (length (pictures spaces))) t out))
+    home : (t.route ≡ Direct) × (t.arena < length (states_of spaces))
+    home = not_stray (length (states_of spaces)) t (omega (arith, exports.none, sum_by-cons (stray (length (states_of spaces))) t out))
 
     s : (x : Space) × (slice_get spaces t.arena ≡ Some x)
-    s = slice_get_some spaces t.arena (omega (arith, home.1, length-map spaces picture_of))
+    s = slice_get_some spaces t.arena (omega (arith, home.1, length-map spaces state_of))
 
     is : IsSpace t.arena s.0
     is = sound t.arena s.0 s.1
 
     weighs : 0 < sum_by (same t.holding) (ranges_of s.0.arena.allocated)
     weighs =
-        let all = exports.each t.arena (picture_of s.0) (same t.holding) (slice_get_mapped picture_of spaces t.arena s.0 s.1) in
+        let all = exports.each t.arena (state_of s.0) (same t.holding) (slice_get_mapped state_of spaces t.arena s.0 s.1) in
         omega (arith, all, sum_by-cons (within t.arena (same t.holding)) t out, within_own t.arena (same t.holding) t refl, same_itself t.holding)

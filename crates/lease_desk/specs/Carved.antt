@@ -8,12 +8,13 @@ use Rattle.deed_core.specs.declared.requests.Request.{Request}
 use Rattle.deed_core.specs.declared.segments.Route.TheVariants.{Direct}
 use Rattle.tag_arena.specs.declared.faults.ArenaFault.{ArenaFault}
 use Rattle.tag_arena.specs.declared.faults.ArenaFault.TheVariants.{BadRequest, NoFit, Overlaps, NotAligned, NoMemory}
-use Rattle.lease_desk.specs.Picture.{ArenaPicture}
+use Rattle.lease_desk.specs.DeskState.{NamedArenaState}
 use Rattle.lease_desk.specs.Moves.{GivesBack}
 use Rattle.lease_desk.specs.Machine.{Chooses, HasPlace}
 
 -- the segment was carved for the request from free units of the arena at the place
-pub record IsCarved (old new : List ArenaPicture) (place : ℕ) (x : ArenaPicture) (q : Request) (t : Tag) : Type 0 where
+pub record IsCarved (old new : List NamedArenaState) (place : ℕ) (x : NamedArenaState)
+    (q : Request) (t : Tag) : Type 0 where
   pub here : slice_get old place ≡ Some x
   pub home : t.arena ≡ place
   pub route : t.route ≡ Direct
@@ -25,7 +26,7 @@ pub record IsCarved (old new : List ArenaPicture) (place : ℕ) (x : ArenaPictur
   pub back : GivesBack (t ∷ []) new old
 
 -- why none was carved
-abbrev pub IsRefused : ArenaPicture → Request → ArenaFault → Type 0
+abbrev pub IsRefused : NamedArenaState → Request → ArenaFault → Type 0
 IsRefused x q BadRequest = ¬ IsGood x.quantum q
 IsRefused x q NoFit = IsGood x.quantum q × (¬ HasPlace x q)
 IsRefused x q Overlaps = ⊥
@@ -33,6 +34,7 @@ IsRefused x q NotAligned = ⊥
 IsRefused x q NoMemory = IsGood x.quantum q × ((base : ℕ) × Chooses x q base)
 
 -- none was carved from the arena at the place
-pub record IsUncarved (arenas : List ArenaPicture) (place : ℕ) (x : ArenaPicture) (q : Request) (fault : ArenaFault) : Type 0 where
+pub record IsUncarved (arenas : List NamedArenaState) (place : ℕ) (x : NamedArenaState)
+    (q : Request) (fault : ArenaFault) : Type 0 where
   pub here : slice_get arenas place ≡ Some x
   pub why : IsRefused x q fault

@@ -1,14 +1,12 @@
-pub mod Picture
+pub mod DeskState
 pub mod Moves
 pub mod Sweeps
-pub mod Sums
 pub mod Operators
 pub mod Machine
 pub mod Setup
-pub mod Told
+pub mod Grants
 pub mod Spaces
 pub mod Replies
 pub mod Carved
 pub mod Roots
-pub mod Operating
 pub mod Laws

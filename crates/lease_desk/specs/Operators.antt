@@ -1,38 +1,51 @@
 -- What an operator's line is answered.
-use Rattle.std.specs.Prelude.{◌≡◌, ◌⊎◌, ℕ, List, [], ◌∷◌, map, MatchBool, MatchResult, codes}
+use Rattle.std.specs.Prelude.{◌≡◌, ◌⊎◌, ℕ, List, map}
 use Rattle.std.specs.List.{flat_map}
-use Rattle.std.specs.Str.{bytes_eq}
+use Rattle.deed_core.specs.Covering.{units_held}
 use Rattle.lease_book.specs.Reports.{report_of}
-use Rattle.lease_proto.specs.declared.faults.LineFault.TheVariants.{BadLine, Word}
-use Rattle.lease_proto.specs.Faults.{error_line}
-use Rattle.lease_proto.specs.Values.{words_of}
-use Rattle.lease_desk.specs.Picture.{Picture}
-use Rattle.lease_desk.specs.Sums.{audit_line, client_line}
+use Rattle.lease_book.specs.declared.reports.ClientReport.{ClientReport}
+use Rattle.lease_proto.specs.declared.faults.ErrorWord.TheVariants.{Memory}
+use Rattle.lease_proto.specs.declared.operators.OperatorLine.{OperatorLine}
+use Rattle.lease_proto.specs.declared.operators.OperatorLine.TheVariants.{Audit, Clients}
+use Rattle.lease_proto.specs.declared.reports.AuditLine.{AuditLine}
+use Rattle.lease_proto.specs.declared.reports.ClientLine.{ClientLine}
+use Rattle.lease_proto.specs.Faults.{error_text}
+use Rattle.lease_proto.specs.Reports.{audit_text, client_text}
+use Rattle.lease_desk.specs.DeskState.{NamedArenaState, DeskState}
 
--- the sums of all arenas, in order of setup
-abbrev pub audit_text : Picture → List ℕ
-audit_text d = flat_map audit_line d.arenas
+-- where the units of an arena are: what is allocated is leased, and there are no slabs, magazines,
+-- imports and hands yet
+abbrev pub audit_line : NamedArenaState → AuditLine
+audit_line x = record {
+  name = x.name;
+  free = units_held x.free;
+  slab = 0;
+  magazine = 0;
+  exported = 0;
+  leased = units_held x.allocated;
+  hand = 0;
+}
 
--- the clients, in order of first hello
-abbrev pub clients_text : Picture → List ℕ
-clients_text d = flat_map client_line (map report_of d.book.accounts)
+abbrev pub client_line : ClientReport → ClientLine
+client_line r = record {
+  client = r.client;
+  incarnation = r.incarnation;
+  last = r.last;
+  leases = r.leases;
+}
+
+-- the text about one arena, and about one client
+abbrev pub arena_told : NamedArenaState → List ℕ
+arena_told x = audit_text (audit_line x)
+
+abbrev pub client_told : ClientReport → List ℕ
+client_told r = client_text (client_line r)
+
+-- what an operator asks for: all arenas, in order of setup, or all clients, in order of first hello
+abbrev pub asked_text : DeskState → OperatorLine → List ℕ
+asked_text d Audit = flat_map arena_told d.arenas
+asked_text d Clients = flat_map client_told (map report_of d.book.accounts)
 
 -- a text is told whole, or a line says that it found no room
 abbrev pub Tells : List ℕ → List ℕ → Type 0
-Tells told text = (text ≡ told) ⊎ (text ≡ codes "error memory\n")
-
--- a line of one word is answered by what is told; one of more words is refused
-abbrev pub TellsAlone : List (List ℕ) → List ℕ → List ℕ → Type 0
-TellsAlone [] told text = Tells told text
-TellsAlone (word ∷ words) told text = text ≡ error_line BadLine
-
--- the answer to the words of a line that is no client's
-abbrev pub WordsStep : Picture → List (List ℕ) → List ℕ → Type 0
-WordsStep d [] text = text ≡ error_line Word
-WordsStep d (first ∷ words) text =
-    MatchBool (bytes_eq first (codes "audit")) (TellsAlone words (audit_text d) text)
-    (MatchBool (bytes_eq first (codes "clients")) (TellsAlone words (clients_text d) text) (text ≡ error_line Word))
-
--- the answer to the bytes of such a line
-abbrev pub OperatorStep : Picture → List ℕ → List ℕ → Type 0
-OperatorStep d line text = MatchResult (words_of line) (λ words. WordsStep d words text) (λ fault. text ≡ error_line fault)
+Tells told text = (text ≡ told) ⊎ (text ≡ error_text Memory)

@@ -8,8 +8,18 @@ use Rattle.lease_desk.specs.declared.spaces.Space.{Space}
 use Rattle.lease_desk.specs.Setup.{NewArena}
 
 abbrev pub asked : Root → NewArena
-asked r = record { name = r.name; range = record { base = r.base; len = r.len }; quantum = r.quantum; policy = r.policy; qcache_max = r.qcache_max }
+asked r = record {
+  name = r.name;
+  range = record { base = r.base; len = r.len };
+  quantum = r.quantum;
+  policy = r.policy;
+  qcache_max = r.qcache_max;
+}
 
 -- an arena of this number with one span
 abbrev pub space_of : ℕ → NewArena → Holding → Space
-space_of id n h = record { name = n.name; arena = after_add (empty_arena id n.quantum n.policy) h; spans = 1 }
+space_of id n h = record {
+  name = n.name;
+  arena = after_add (empty_arena id n.quantum n.policy) h;
+  spans = 1;
+}

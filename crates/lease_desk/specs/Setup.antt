@@ -5,7 +5,8 @@ use Rattle.deed_core.specs.Extent.{Extent, IsRange, Overlap}
 use Rattle.deed_core.specs.Holding.{Holding}
 use Rattle.tag_arena.specs.ArenaState.{OnQuantum}
 use Rattle.tag_arena.specs.declared.policies.Policy.{Policy}
-use Rattle.lease_desk.specs.Picture.{ArenaPicture}
+use Rattle.lease_proto.specs.declared.limits.TheConstants.{MOST_ARENAS, MOST_SPANS}
+use Rattle.lease_desk.specs.DeskState.{NamedArenaState}
 use Rattle.lease_desk.specs.Machine.{place_in, Finds}
 use Rattle.lease_desk.specs.declared.faults.SetupFault.{SetupFault}
 use Rattle.lease_desk.specs.declared.faults.SetupFault.TheVariants.{NameTaken, TooMany, NoArena, BadQuantum, NotYet, BadRange, NoMemory}
@@ -22,73 +23,93 @@ pub record NewArena : Type 0 where
   pub policy : Policy
   pub qcache_max : ℕ
 
+-- the arena of these six
+abbrev pub arena_asked : List ℕ → (base len quantum : ℕ) → Policy → ℕ → NewArena
+arena_asked name base len quantum policy qcache_max = record {
+  name = name;
+  range = record { base = base; len = len };
+  quantum = quantum;
+  policy = policy;
+  qcache_max = qcache_max;
+}
+
 -- its name is free, and there is room for one more
-abbrev pub HasRoom : List ArenaPicture → NewArena → Type 0
-HasRoom arenas n = (place_in n.name arenas ≡ None) × (length arenas < 32)
+abbrev pub HasRoom : List NamedArenaState → NewArena → Type 0
+HasRoom arenas n = (place_in n.name arenas ≡ None) × (length arenas < MOST_ARENAS)
 
 -- nothing speaks against it
-pub record CanAdd (arenas : List ArenaPicture) (n : NewArena) : Type 0 where
+pub record CanAdd (arenas : List NamedArenaState) (n : NewArena) : Type 0 where
   pub room : HasRoom arenas n
   pub power : IsPowerOfTwo n.quantum
   pub plain : n.qcache_max ≡ 0
   pub range : IsWholeRange n.quantum n.range
 
 -- why it is refused: the first of these that is so; memory is asked for only where none is
-abbrev pub RefusesArena : List ArenaPicture → NewArena → SetupFault → Type 0
+abbrev pub RefusesArena : List NamedArenaState → NewArena → SetupFault → Type 0
 RefusesArena arenas n NameTaken = (place : ℕ) × (place_in n.name arenas ≡ Some place)
-RefusesArena arenas n TooMany = (place_in n.name arenas ≡ None) × (32 ≤ length arenas)
+RefusesArena arenas n TooMany = (place_in n.name arenas ≡ None) × (MOST_ARENAS ≤ length arenas)
 RefusesArena arenas n NoArena = ⊥
 RefusesArena arenas n BadQuantum = HasRoom arenas n × (¬ IsPowerOfTwo n.quantum)
 RefusesArena arenas n NotYet = HasRoom arenas n × IsPowerOfTwo n.quantum × (0 < n.qcache_max)
-RefusesArena arenas n BadRange = HasRoom arenas n × IsPowerOfTwo n.quantum × (n.qcache_max ≡ 0) × (¬ IsWholeRange n.quantum n.range)
+RefusesArena arenas n BadRange = HasRoom arenas n × IsPowerOfTwo n.quantum × (n.qcache_max ≡ 0)
+    × (¬ IsWholeRange n.quantum n.range)
 RefusesArena arenas n NoMemory = CanAdd arenas n
 
--- the number of the root of an arena's next span, by the arena's place and how many spans it has: each span's own,
--- since an arena has at most 65536
+-- the number of the root of an arena's next span, by the arena's place and how many spans it has:
+-- each span's own, since an arena has at most `MOST_SPANS`
 abbrev pub root_of : ℕ → ℕ → ℕ
-root_of place spans = place * 65536 + spans
+root_of place spans = place * MOST_SPANS + spans
 
 -- an arena whose one span is free
-abbrev pub fresh : NewArena → Holding → ArenaPicture
-fresh n h = record { name = n.name; quantum = n.quantum; policy = n.policy; spans = h ∷ []; free = h ∷ []; allocated = [] }
+abbrev pub fresh : NewArena → Holding → NamedArenaState
+fresh n h = record {
+  name = n.name;
+  quantum = n.quantum;
+  policy = n.policy;
+  spans = h ∷ [];
+  free = h ∷ [];
+  allocated = [];
+}
 
 -- the arena is the last
-pub record AddsArena (n : NewArena) (old new : List ArenaPicture) : Type 0 where
+pub record AddsArena (n : NewArena) (old new : List NamedArenaState) : Type 0 where
   pub can : CanAdd old n
   pub added : new ≡ old ++ fresh n (record { root = root_of (length old) 0; range = n.range }) ∷ []
 
 -- the arena with one more span, which is free
-abbrev pub with_span : ArenaPicture → Holding → ArenaPicture
+abbrev pub with_span : NamedArenaState → Holding → NamedArenaState
 with_span x h = record x { spans = x.spans ++ h ∷ []; free = x.free ++ h ∷ [] }
 
 -- no span of the arena overlaps the range
-abbrev pub IsClearOf : ArenaPicture → Extent → Type 0
+abbrev pub IsClearOf : NamedArenaState → Extent → Type 0
 IsClearOf x e = All (λ s. ¬ Overlap s.range e) x.spans
 
 -- the range can be a span of the arena
-abbrev pub CanSpan : ArenaPicture → Extent → Type 0
+abbrev pub CanSpan : NamedArenaState → Extent → Type 0
 CanSpan x e = IsWholeRange x.quantum e × IsClearOf x e
 
--- why an arena takes no further span: the first of these that is so; memory is asked for only where none is
-abbrev pub RefusesMore : ArenaPicture → Extent → SetupFault → Type 0
-RefusesMore x e TooMany = 65536 ≤ length x.spans
-RefusesMore x e BadRange = (length x.spans < 65536) × (¬ CanSpan x e)
-RefusesMore x e NoMemory = (length x.spans < 65536) × CanSpan x e
+-- why an arena takes no further span: the first of these that is so; memory is asked for only where
+-- none is
+abbrev pub RefusesMore : NamedArenaState → Extent → SetupFault → Type 0
+RefusesMore x e TooMany = MOST_SPANS ≤ length x.spans
+RefusesMore x e BadRange = (length x.spans < MOST_SPANS) × (¬ CanSpan x e)
+RefusesMore x e NoMemory = (length x.spans < MOST_SPANS) × CanSpan x e
 RefusesMore x e NameTaken = ⊥
 RefusesMore x e NoArena = ⊥
 RefusesMore x e BadQuantum = ⊥
 RefusesMore x e NotYet = ⊥
 
 -- why a span is refused: there is no such arena, or that arena takes it not
-abbrev pub RefusesSpan : List ArenaPicture → List ℕ → Extent → SetupFault → Type 0
+abbrev pub RefusesSpan : List NamedArenaState → List ℕ → Extent → SetupFault → Type 0
 RefusesSpan arenas name e fault = ((fault ≡ NoArena) × (place_in name arenas ≡ None))
-    ⊎ ((place : ℕ) × (x : ArenaPicture) × Finds arenas name place x × RefusesMore x e fault)
+    ⊎ ((place : ℕ) × (x : NamedArenaState) × Finds arenas name place x × RefusesMore x e fault)
 
 -- the arena of this name has the span more
-pub record AddsSpan (name : List ℕ) (e : Extent) (old new : List ArenaPicture) : Type 0 where
+pub record AddsSpan (name : List ℕ) (e : Extent) (old new : List NamedArenaState) : Type 0 where
   pub place : ℕ
-  pub arena : ArenaPicture
+  pub arena : NamedArenaState
   pub finds : Finds old name place arena
-  pub few : length arena.spans < 65536
+  pub few : length arena.spans < MOST_SPANS
   pub can : CanSpan arena e
-  pub added : new ≡ slice_set old place (with_span arena (record { root = root_of place (length arena.spans); range = e }))
+  pub added : new ≡ slice_set old place
+      (with_span arena (record { root = root_of place (length arena.spans); range = e }))

@@ -7,13 +7,14 @@ use Rattle.deed_core.specs.Tag.{Tag}
 use Rattle.deed_core.specs.Covering.{covering_held}
 use Rattle.tag_arena.specs.ArenaState.{spans_of, ranges_of}
 use Rattle.tag_arena.specs.Calls.{IsTagged}
-use Rattle.lease_book.specs.Ledger.{Ledger, leased}
+use Rattle.lease_book.specs.BookState.{BookState, leased}
+use Rattle.lease_proto.specs.declared.limits.TheConstants.{MOST_ARENAS, MOST_SPANS}
 use Rattle.lease_desk.specs.declared.spaces.Space.{Space}
-use Rattle.lease_desk.specs.Picture.{ArenaPicture, Picture, Exports}
-use Rattle.lease_desk.specs.Told.{IsTold}
+use Rattle.lease_desk.specs.DeskState.{NamedArenaState, DeskState, Exports}
+use Rattle.lease_desk.specs.Grants.{GrantsAreOwn}
 
-abbrev pub picture_of : Space → ArenaPicture
-picture_of s = record {
+abbrev pub state_of : Space → NamedArenaState
+state_of s = record {
   name = s.name;
   quantum = s.arena.quantum;
   policy = s.arena.policy;
@@ -22,11 +23,11 @@ picture_of s = record {
   allocated = ranges_of s.arena.allocated;
 }
 
-abbrev pub pictures : List Space → List ArenaPicture
-pictures spaces = map picture_of spaces
+abbrev pub states_of : List Space → List NamedArenaState
+states_of spaces = map state_of spaces
 
-abbrev pub desk_of : List Space → Ledger → Picture
-desk_of spaces book = record { arenas = pictures spaces; book = book }
+abbrev pub desk_of : List Space → BookState → DeskState
+desk_of spaces book = record { arenas = states_of spaces; book = book }
 
 -- each range stands at its base
 abbrev pub IsKeyed : FinMap nat_cmp Holding → Type 0
@@ -37,21 +38,23 @@ pub record IsSpace (k : ℕ) (s : Space) : Type 0 where
   pub id : s.arena.id ≡ k
   pub own : s.arena.imported ≡ []
   pub keyed : IsKeyed s.arena.allocated
-  pub covers : (u : ℕ) → covering_held u s.arena.free + covering_held u (ranges_of s.arena.allocated) ≡ covering_held u (spans_of s.arena)
+  pub covers : (u : ℕ)
+      → covering_held u s.arena.free + covering_held u (ranges_of s.arena.allocated)
+      ≡ covering_held u (spans_of s.arena)
   pub once : (u : ℕ) → covering_held u (spans_of s.arena) ≤ 1
   pub count : s.spans ≡ length s.arena.owned
-  pub few : s.spans ≤ 65536
+  pub few : s.spans ≤ MOST_SPANS
 
 -- so are all
 abbrev pub AreSpaces : List Space → Type 0
 AreSpaces spaces = (k : ℕ) (s : Space) → slice_get spaces k ≡ Some s → IsSpace k s
 
 -- what holds of the arenas and the book between any two lines
-pub record IsSteady (spaces : List Space) (book : Ledger) : Type 0 where
-  pub few : length spaces ≤ 32
+pub record IsSteady (spaces : List Space) (book : BookState) : Type 0 where
+  pub few : length spaces ≤ MOST_ARENAS
   pub sound : AreSpaces spaces
-  pub exports : Exports (pictures spaces) (leased book)
-  pub told : IsTold (length spaces) book
+  pub exports : Exports (states_of spaces) (leased book)
+  pub grants : GrantsAreOwn (length spaces) book
 
 -- the segment is allocated in its arena
 pub record IsOut (spaces : List Space) (t : Tag) : Type 0 where

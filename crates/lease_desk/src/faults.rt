@@ -19,7 +19,8 @@ pub enum SetupFault {
     /// There are no quantum caches yet.
     #[error("no quantum caches yet")]
     NotYet,
-    /// The range has no unit, ends above 2^62, isn't in whole quanta, or overlaps a span of the arena.
+    /// The range has no unit, ends above 2^62, isn't in whole quanta, or overlaps a span of the
+    /// arena.
     #[error("bad range")]
     BadRange,
     /// A growth was refused.

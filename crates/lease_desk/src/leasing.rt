@@ -1,27 +1,27 @@
 //! The answer to a lease.
-ghost use Rattle.std.specs.Prelude.{◌≡◌, ◌<◌, ◌≤◌, ◌^◌, List, ◌∷◌, length, IfOk, IfErr, OnErr, Some};
+ghost use Rattle.std.specs.Prelude.{◌≡◌, ◌<◌, ◌≤◌, List, ◌∷◌, length, IfOk, IfErr, OnErr, Some};
 ghost use Rattle.lease_book.specs.Answers.{IsNew};
-ghost use Rattle.lease_book.specs.Ledger.{account_in, leased};
-ghost use Rattle.lease_desk.specs.Picture.{ArenaPicture, Exports};
-ghost use Rattle.lease_desk.specs.Machine.{asked_lease, request_of as request_in, place_in, LeaseLineStep, NewLease};
-ghost use Rattle.lease_desk.specs.Spaces.{pictures, desk_of, AreSpaces, IsSteady};
-ghost use Rattle.lease_desk.specs.Told.{IsTold};
-ghost use Rattle.lease_desk.specs.Replies.{asking_of};
+ghost use Rattle.lease_book.specs.BookState.{account_in, leased};
+ghost use Rattle.lease_proto.specs.declared.limits.TheConstants.{MOST_ARENAS};
+ghost use Rattle.lease_desk.specs.DeskState.{NamedArenaState, Exports};
+ghost use Rattle.lease_desk.specs.Machine.{demand_of as spec_demand_of, place_in, LeaseLineStep, NewLease};
+ghost use Rattle.lease_desk.specs.Spaces.{states_of, desk_of, AreSpaces, IsSteady};
+ghost use Rattle.lease_desk.specs.Grants.{GrantsAreOwn};
 ghost use Rattle.lease_desk.specs.Carved.{IsCarved, IsUncarved};
 
-use crate::asking::Asked;
+use crate::answers::{again, answered, settled};
 use crate::returns::put_back;
 use crate::settling::{known, refuse};
 use crate::spaces::{Space, place_of};
 use deed_core::{PlainDeed, Request, Segment};
-use lease_book::{Book, Refusal};
+use lease_book::Book;
 use lease_proto::{Lease, Reply};
+use lease_terms::{Refusal, RequestId};
 use tag_arena::ArenaFault;
 
-/// The request that a line makes.
-fn request_of(lease: &Lease) -> Request
-    ensures value { result ≡ request_in lease.now }
-    ensures top { result.max ≤ 2 ^ 62 }
+/// What a lease asks of its arena.
+fn demand_of(lease: &Lease) -> Request
+    ensures { result ≡ spec_demand_of lease.now }
 {
     Request {
         size: lease.size.get(),
@@ -33,27 +33,23 @@ fn request_of(lease: &Lease) -> Request
     }
 }
 
-fn asked_by(lease: &Lease) -> Asked
-    ensures { asking_of result ≡ asked_lease lease.now }
-{
-    Asked {
-        client: lease.client,
-        incarnation: lease.incarnation,
-        number: lease.number,
-    }
-}
-
 /// Answers a request for a lease.
-pub(crate) fn lease(spaces: &mut Vec<Space>, book: &mut Book<PlainDeed>, line: &Lease) -> Reply
+pub(crate) fn lease(
+    spaces: &mut Vec<Space>,
+    book: &mut Book<PlainDeed>,
+    id: RequestId,
+    line: &Lease,
+) -> Reply
     requires steady { IsSteady spaces.old.items book.old }
     ensures steady { IsSteady spaces.new.items book.new }
-    ensures step { LeaseLineStep line.now (desk_of spaces.old.items book.old) (desk_of spaces.new.items book.new) result }
+    ensures step { LeaseLineStep id line.now
+        (desk_of spaces.old.items book.old) (desk_of spaces.new.items book.new) result }
 {
-    match known(spaces, book, asked_by(line)) {
+    match known(spaces, book, id) {
         Some(reply) => reply,
         None => match place_of(spaces, &line.arena) {
-            Some(place) => lease_new(spaces, book, line, place),
-            None => refuse(spaces, book, asked_by(line), Refusal::NoArena),
+            Some(place) => lease_new(spaces, book, id, line, place),
+            None => refuse(spaces, book, id, Refusal::NoArena),
         },
     }
 }
@@ -67,8 +63,11 @@ fn carve(
     requires sound { AreSpaces spaces.old.items }
     requires within { place < length spaces.old.items }
     ensures sound { AreSpaces spaces.new.items }
-    ensures carved { IfOk result (λ t. (x : ArenaPicture) × IsCarved (pictures spaces.old.items) (pictures spaces.new.items) place x request.now t) }
-    ensures refused { IfErr result (λ fault. (x : ArenaPicture) × IsUncarved (pictures spaces.old.items) place x request.now fault) }
+    ensures carved { IfOk result (λ t. (x : NamedArenaState)
+        × IsCarved (states_of spaces.old.items) (states_of spaces.new.items)
+        place x request.now t) }
+    ensures refused { IfErr result (λ fault. (x : NamedArenaState)
+        × IsUncarved (states_of spaces.old.items) place x request.now fault) }
     ensures err { OnErr result (spaces.new.items ≡ spaces.old.items) }
 {
     let space = &mut spaces[place];
@@ -79,22 +78,23 @@ fn carve(
 fn lease_new(
     spaces: &mut Vec<Space>,
     book: &mut Book<PlainDeed>,
+    id: RequestId,
     line: &Lease,
     place: usize,
 ) -> Reply
     requires steady { IsSteady spaces.old.items book.old }
-    requires new { IsNew (account_in line.now.client book.old) line.now.incarnation line.now.number }
-    requires first { place_in line.now.arena (pictures spaces.old.items) ≡ Some place }
+    requires new { IsNew (account_in id.client book.old) id }
+    requires first { place_in line.now.arena (states_of spaces.old.items) ≡ Some place }
     requires within { place < length spaces.old.items }
     ensures steady { IsSteady spaces.new.items book.new }
-    ensures step { NewLease line.now (desk_of spaces.old.items book.old) (desk_of spaces.new.items book.new) result }
+    ensures step { NewLease id line.now
+        (desk_of spaces.old.items book.old) (desk_of spaces.new.items book.new) result }
 {
-    let asked = asked_by(line);
-    match carve(spaces, place, &request_of(line)) {
-        Ok(segment) => grant(spaces, book, line, place, segment),
-        Err(ArenaFault::BadRequest) => refuse(spaces, book, asked, Refusal::BadRequest),
-        Err(ArenaFault::NoFit) => refuse(spaces, book, asked, Refusal::NoFit),
-        Err(_) => asked.again(),
+    match carve(spaces, place, &demand_of(line)) {
+        Ok(segment) => grant(spaces, book, id, line, place, segment),
+        Err(ArenaFault::BadRequest) => refuse(spaces, book, id, Refusal::BadRequest),
+        Err(ArenaFault::NoFit) => refuse(spaces, book, id, Refusal::NoFit),
+        Err(_) => again(id),
     }
 }
 
@@ -102,37 +102,33 @@ fn lease_new(
 fn grant(
     spaces: &mut Vec<Space>,
     book: &mut Book<PlainDeed>,
+    id: RequestId,
     line: &Lease,
     place: usize,
     segment: Segment<PlainDeed>,
 ) -> Reply
-    requires few { length spaces.old.items ≤ 32 }
+    requires few { length spaces.old.items ≤ MOST_ARENAS }
     requires within { place < length spaces.old.items }
     requires sound { AreSpaces spaces.old.items }
-    requires exports { Exports (pictures spaces.old.items) (segment ∷ leased book.old) }
-    requires told { IsTold (length spaces.old.items) book.old }
-    requires new { IsNew (account_in line.now.client book.old) line.now.incarnation line.now.number }
-    requires carved { (before : List ArenaPicture) × (x : ArenaPicture) × IsCarved before (pictures spaces.old.items) place x (request_in line.now) segment }
+    requires exports { Exports (states_of spaces.old.items) (segment ∷ leased book.old) }
+    requires grants { GrantsAreOwn (length spaces.old.items) book.old }
+    requires new { IsNew (account_in id.client book.old) id }
+    requires carved { (before : List NamedArenaState) × (x : NamedArenaState)
+        × IsCarved before (states_of spaces.old.items) place x (spec_demand_of line.now) segment }
     ensures steady { IsSteady spaces.new.items book.new }
-    ensures step { (before : List ArenaPicture) (x : ArenaPicture) → place_in line.now.arena before ≡ Some place → IsCarved before (pictures spaces.old.items) place x (request_in line.now) segment
-        → NewLease line.now (record { arenas = before; book = book.old }) (desk_of spaces.new.items book.new) result }
+    ensures step { (before : List NamedArenaState) (x : NamedArenaState)
+        → place_in line.now.arena before ≡ Some place
+        → IsCarved before (states_of spaces.old.items) place x (spec_demand_of line.now) segment
+        → NewLease id line.now
+        (record { arenas = before; book = book.old })
+        (desk_of spaces.new.items book.new) result }
 {
-    let asked = asked_by(line);
     let quantum = spaces[place].arena.quantum();
-    let settled = book.settle(
-        asked.client.get(),
-        asked.incarnation.get(),
-        asked.number.get(),
-        place as u32,
-        quantum,
-        &request_of(line),
-        segment,
-    );
-    match settled {
-        Ok(receipt) => asked.settled(spaces, receipt.reply()),
+    match book.settle(id, place as u32, quantum, &demand_of(line), segment) {
+        Ok(receipt) => settled(spaces, id, receipt.reply()),
         Err((segment, answer)) => {
             put_back(spaces, segment);
-            asked.answered(spaces, answer)
+            answered(spaces, id, answer)
         }
     }
 }

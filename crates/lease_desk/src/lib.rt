@@ -1,12 +1,16 @@
-//! The desk of one thread: arenas by name and the book of their leases, which together answer the lines of the
-//! lease protocol.
+//! The desk of one thread: arenas by name and the book of their leases, which together answer the lines
+//! of the lease protocol.
 //!
-//! `Desk` (desks) is where to begin: it is set up by `add_root` and `add_span`, answers a line at a time, and is
-//! ended by `close`. specs/Machine.antt says what may be answered to a line, and what may then have changed, over
-//! the plain data of specs/Picture.antt; specs/Setup.antt says the same of the setup.
+//! `Desk` (desks) is where to begin: it is set up by `add_root` and `add_span`, answers a line at a
+//! time, and is ended by `close`. A line finds its arena by a search through their names, at most 32.
+//!
+//! specs/Machine.antt says what may be answered to a line, and what may then have changed, over the
+//! plain data of specs/DeskState.antt; specs/Setup.antt says the same of the setup. The other files of
+//! specs/ are these two's parts (Moves, Sweeps, Operators, Laws), or the crate's own affair (Spaces,
+//! Grants, Roots, Carved, Replies).
 #![tactic(auto)]
 
-mod asking;
+mod answers;
 mod closings;
 mod desks;
 mod faults;
@@ -24,6 +28,3 @@ mod spaces;
 pub use desks::Desk;
 pub use faults::SetupFault;
 pub use laws::lease_laws;
-
-#[cfg(test)]
-mod tests;

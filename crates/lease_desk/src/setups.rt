@@ -2,23 +2,19 @@
 ghost use Rattle.std.specs.Prelude.{◌≡◌, ◌<◌, ◌≤◌, length, IsSome, IfSome, IfOk, IfErr, OnOk, OnErr, ◌↔◌};
 ghost use Rattle.std.specs.Int.{IsPowerOfTwo};
 ghost use Rattle.lease_desk.specs.Setup.{root_of, IsWholeRange, CanAdd, CanSpan, RefusesArena, AddsArena, RefusesMore, RefusesSpan, AddsSpan, with_span};
-ghost use Rattle.lease_desk.specs.Spaces.{picture_of, pictures, IsSpace, AreSpaces};
+ghost use Rattle.lease_desk.specs.Spaces.{state_of, states_of, IsSpace, AreSpaces};
 ghost use Rattle.lease_desk.specs.Roots.{asked, space_of};
 
 use crate::faults::SetupFault;
 use crate::spaces::{Space, place_of};
 use deed_core::{PlainDeed, Range, is_power_of_two};
-use lease_proto::Name;
+use lease_proto::{MOST_ARENAS, MOST_SPANS};
+use lease_terms::Name;
 use std::alloc::Global;
 use tag_arena::{Arena, ArenaFault, Policy};
 
-/// How many arenas a desk has at most.
-pub(crate) const ARENAS: usize = 32;
-
-/// How many spans an arena has at most.
-pub(crate) const SPANS: u32 = 65536;
-
-/// The arena that a setup line asks for: its name, its one span, and how it carves. Units and numbers of units.
+/// The arena that a setup line asks for: its name, its one span, and how it carves. Units and numbers
+/// of units.
 #[derive(Clone, Copy)]
 pub(crate) struct Root {
     pub name: Name,
@@ -32,13 +28,13 @@ pub(crate) struct Root {
 /// The range of a root that can be added.
 fn root_range(spaces: &[Space], root: &Root) -> Result<Range, SetupFault>
     ensures value { IfOk result (λ range. range ≡ (asked root.now).range) }
-    ensures can { OnOk result (CanAdd (pictures spaces.now) (asked root.now)) }
-    ensures refused { IfErr result (RefusesArena (pictures spaces.now) (asked root.now)) }
+    ensures can { OnOk result (CanAdd (states_of spaces.now) (asked root.now)) }
+    ensures refused { IfErr result (RefusesArena (states_of spaces.now) (asked root.now)) }
 {
     if place_of(spaces, &root.name).is_some() {
         return Err(SetupFault::NameTaken);
     }
-    if spaces.len() >= ARENAS {
+    if spaces.len() >= MOST_ARENAS {
         return Err(SetupFault::TooMany);
     }
     if !is_power_of_two(root.quantum) {
@@ -67,11 +63,11 @@ fn whole_range(base: u64, len: u64, quantum: u64) -> Option<Range>
 
 /// The number of the root of an arena's next span, by the arena's place and how many spans it has.
 fn root_number(place: u32, spans: u32) -> u32
-    requires place { place < 32 }
-    requires few { spans < 65536 }
+    requires place { place < MOST_ARENAS }
+    requires few { spans < MOST_SPANS }
     ensures { result ≡ root_of place spans }
 {
-    place * SPANS + spans
+    place * MOST_SPANS + spans
 }
 
 /// An arena of one span, whose deed is of the root of this number.
@@ -83,7 +79,8 @@ fn new_space(
     number: u32,
 ) -> Result<Space, SetupFault>
     requires { IsPowerOfTwo root.now.quantum }
-    ensures made { IfOk result (λ s. s ≡ space_of id (asked root.now) (record { root = number; range = range })) }
+    ensures made { IfOk result (λ s.
+        s ≡ space_of id (asked root.now) (record { root = number; range = range })) }
     ensures fault { IfErr result (λ fault. fault ≡ SetupFault.NoMemory) }
 {
     let mut arena = Arena::new(alloc, id, root.quantum, root.policy);
@@ -113,8 +110,9 @@ pub(crate) fn add_root(
 ) -> Result<(), SetupFault>
     requires sound { AreSpaces spaces.old.items }
     ensures sound { OnOk result (AreSpaces spaces.new.items) }
-    ensures added { OnOk result (AddsArena (asked root.now) (pictures spaces.old.items) (pictures spaces.new.items)) }
-    ensures refused { IfErr result (RefusesArena (pictures spaces.old.items) (asked root.now)) }
+    ensures added { OnOk result (AddsArena (asked root.now)
+        (states_of spaces.old.items) (states_of spaces.new.items)) }
+    ensures refused { IfErr result (RefusesArena (states_of spaces.old.items) (asked root.now)) }
     ensures err { OnErr result (spaces.new.items ≡ spaces.old.items) }
 {
     let range = root_range(spaces, root)?;
@@ -135,11 +133,13 @@ pub(crate) fn add_span(
     base: u64,
     len: u64,
 ) -> Result<(), SetupFault>
-    requires few { length spaces.old.items ≤ 32 }
+    requires few { length spaces.old.items ≤ MOST_ARENAS }
     requires sound { AreSpaces spaces.old.items }
     ensures sound { OnOk result (AreSpaces spaces.new.items) }
-    ensures added { OnOk result (AddsSpan name.now (record { base = base; len = len }) (pictures spaces.old.items) (pictures spaces.new.items)) }
-    ensures refused { IfErr result (RefusesSpan (pictures spaces.old.items) name.now (record { base = base; len = len })) }
+    ensures added { OnOk result (AddsSpan name.now (record { base = base; len = len })
+        (states_of spaces.old.items) (states_of spaces.new.items)) }
+    ensures refused { IfErr result (RefusesSpan (states_of spaces.old.items) name.now
+        (record { base = base; len = len })) }
     ensures err { OnErr result (spaces.new.items ≡ spaces.old.items) }
 {
     let Some(place) = place_of(spaces, name) else {
@@ -150,15 +150,20 @@ pub(crate) fn add_span(
 
 /// Adds a span to the arena that stands at the place.
 fn extend(space: &mut Space, place: u32, base: u64, len: u64) -> Result<(), SetupFault>
-    requires place { place < 32 }
+    requires place { place < MOST_ARENAS }
     requires sound { IsSpace place space.old }
     ensures sound { OnOk result (IsSpace place space.new) }
-    ensures added { OnOk result (picture_of space.new ≡ with_span (picture_of space.old) (record { root = root_of place (length (picture_of space.old).spans); range = record { base = base; len = len } })) }
-    ensures can { OnOk result ((length (picture_of space.old).spans < 65536) × CanSpan (picture_of space.old) (record { base = base; len = len })) }
-    ensures refused { IfErr result (RefusesMore (picture_of space.old) (record { base = base; len = len })) }
+    ensures added { OnOk result (state_of space.new ≡ with_span (state_of space.old) (record {
+      root = root_of place (length (state_of space.old).spans);
+      range = record { base = base; len = len };
+    })) }
+    ensures can { OnOk result ((length (state_of space.old).spans < MOST_SPANS)
+        × CanSpan (state_of space.old) (record { base = base; len = len })) }
+    ensures refused { IfErr result (RefusesMore (state_of space.old)
+        (record { base = base; len = len })) }
     ensures err { OnErr result (space.new ≡ space.old) }
 {
-    if space.spans >= SPANS {
+    if space.spans >= MOST_SPANS {
         return Err(SetupFault::TooMany);
     }
     let Some(range) = whole_range(base, len, space.arena.quantum()) else {

@@ -2,7 +2,7 @@
 ghost use Rattle.std.specs.Prelude.{◌≡◌, ◌<◌, IfSome, length, position};
 
 use deed_core::PlainDeed;
-use lease_proto::Name;
+use lease_terms::Name;
 use tag_arena::Arena;
 
 /// An arena, its name, and how many spans it has.
@@ -14,11 +14,11 @@ pub(crate) struct Space {
 
 ghost use Rattle.std.specs.Str.{bytes_eq};
 ghost use Rattle.lease_desk.specs.Machine.{place_in};
-ghost use Rattle.lease_desk.specs.Spaces.{pictures};
+ghost use Rattle.lease_desk.specs.Spaces.{states_of};
 
 /// Where the arena of this name stands.
 pub(crate) fn place_of(spaces: &[Space], name: &Name) -> Option<usize>
-    ensures place { result ≡ place_in name.now (pictures spaces.now) }
+    ensures place { result ≡ place_in name.now (states_of spaces.now) }
     ensures within { IfSome result (λ k. k < length spaces.now) }
 {
     let text = name.as_slice();

@@ -1,5 +1,5 @@
 -- Lemmas on what is written and read.
-use Rattle.std.proofs.Common.{◌≡◌, ◌==◌, ◌||◌, ◌^◌, ℕ, ◌≤◌, ◌<◌, true, false, List, [], ◌∷◌, length, get_or, Ok, refl, ◌∙◌, ap, subst, arith, inl, inr, decimal, nat_le}
+use Rattle.std.proofs.Common.{◌≡◌, ◌==◌, ◌||◌, ◌^◌, ℕ, ◌≤◌, ◌<◌, true, false, List, [], ◌∷◌, ◌++◌, length, get_or, Ok, refl, ◌∙◌, ap, subst, arith, inl, inr, decimal, nat_le}
 use Rattle.std.proofs.lemmas.List.{append-nil}
 use Rattle.std.proofs.lemmas.Bool.{le-leb, leb-true, ne_eqb, and_parts, and_from, cases_eq}
 use Rattle.std.proofs.lemmas.List.Elements.{All-from_recursion}
@@ -8,9 +8,11 @@ use Rattle.std.proofs.lemmas.Fmt.{length-decimal-le, decimal_nonempty}
 use Rattle.std.specs.List.{All, AllByRecursion, list_all}
 use Rattle.std.specs.Str.{all_ascii_digits}
 use Rattle.std.specs.Char.{is_ascii_digit}
-use Rattle.lease_proto.specs.Words.{parts_of, is_word, is_word_byte, is_letter, is_name}
-use Rattle.lease_proto.specs.Values.{client_in, ordinal_in, quantity_in}
-use Rattle.lease_proto.specs.Texts.{sentence}
+use Rattle.lease_terms.specs.Names.{is_word, is_word_byte, is_letter, is_name}
+use Rattle.lease_terms.specs.Requests.{RequestId, IsRequestId}
+use Rattle.lease_proto.specs.Words.{parts_of}
+use Rattle.lease_proto.specs.Values.{client_in, ordinal_in, quantity_in, id_in}
+use Rattle.lease_proto.specs.Texts.{id_words, sentence}
 use Rattle.lease_proto.proofs.WordLemmas.{numbers, decimal_is_digits}
 
 -- a byte of a word is no space
@@ -42,7 +44,8 @@ digits_word : (bs : List ℕ) → all_ascii_digits bs ≡ true → list_all is_w
 digits_word [] all = refl
 digits_word (b ∷ bs) all =
     let parts = and_parts (is_ascii_digit b) (all_ascii_digits bs) all in
-    and_from (is_word_byte b) (list_all is_word_byte bs) (rw parts.0 (elim (is_letter b) as (λ t. (t || true) ≡ true) [ true ↦ refl | false ↦ refl ]))
+    and_from (is_word_byte b) (list_all is_word_byte bs)
+    (rw parts.0 (elim (is_letter b) as (λ t. (t || true) ≡ true) [ true ↦ refl | false ↦ refl ]))
     (digits_word bs parts.1)
 
 pub decimal_word : (n : ℕ) → n ≤ 2 ^ 62 → is_word (decimal n) ≡ true
@@ -67,3 +70,35 @@ decimal_short k n some small low = length-decimal-le k n some small (omega arith
 pub name_short : (name : List ℕ) → is_name name ≡ true → length name ≤ 16
 name_short name is =
     leb-true _ _ (and_parts (is_letter (get_or name 0 0)) (nat_le (length name) 16) (and_parts (is_word name) _ is).1).1
+
+-- the words of an id are read as that id
+pub id_again : (id : RequestId) → IsRequestId id
+    → id_in (decimal id.client, decimal id.incarnation, decimal id.number) ≡ Ok id
+unfolding id_in
+id_again id is =
+    rw (
+      client_again id.client is.client.0 is.client.1,
+      ordinal_again id.incarnation is.incarnation.0 is.incarnation.1,
+      ordinal_again id.number is.number.0 is.number.1,
+    ) refl
+
+pub id_are_words : (id : RequestId) (words : List (List ℕ)) → IsRequestId id
+    → list_all is_word words ≡ true → list_all is_word (id_words id ++ words) ≡ true
+id_are_words id words is are =
+    rw (
+      decimal_word id.client (let top = is.client.1 in omega arith),
+      decimal_word id.incarnation is.incarnation.1,
+      decimal_word id.number is.number.1,
+    ) are
+
+-- the most bytes that an id takes
+pub id_short : (id : RequestId) → IsRequestId id
+    → (length (decimal id.client) ≤ 5) × (length (decimal id.incarnation) ≤ 19) × (length (decimal id.number) ≤ 19)
+id_short id is =
+    let c = is.client.1 in
+    let i = is.incarnation.1 in
+    let n = is.number.1 in (
+      decimal_short 5 id.client (omega arith) (omega arith) (omega arith),
+      decimal_short 19 id.incarnation (omega arith) (omega arith) i,
+      decimal_short 19 id.number (omega arith) (omega arith) n,
+    )

@@ -1,9 +1,9 @@
 pub mod ByteLemmas
 pub mod FrameLemmas
 pub mod LawProofs
-pub mod NameLemmas
 pub mod WordLemmas
 pub mod GrammarLemmas
 pub mod LineLemmas
 pub mod ReadLemmas
 pub mod ReplyLemmas
+pub mod OperatorLemmas

@@ -4,17 +4,22 @@ use Rattle.std.proofs.lemmas.List.{append-nil, length-append}
 use Rattle.std.proofs.lemmas.Bool.{le-ltb, and_parts, and_from, cases_eq, eq-eqb, ne_eqb}
 use Rattle.std.specs.List.{list_all, AllByRecursion}
 use Rattle.std.specs.Str.{bytes_eq}
+use Rattle.std.specs.List.{join_with_byte}
+use Rattle.lease_terms.specs.Names.{is_word}
+use Rattle.lease_terms.specs.Ranges.{IsQuantity}
+use Rattle.lease_terms.specs.Requests.{RequestId, IsRequestId}
 use Rattle.lease_proto.specs.declared.faults.LineFault.{LineFault}
 use Rattle.lease_proto.specs.declared.lines.Line.{Line}
-use Rattle.lease_proto.specs.declared.lines.Line.TheVariants.{Hello, Lease, Release}
+use Rattle.lease_proto.specs.declared.lines.Line.TheVariants.{Hello, Request}
+use Rattle.lease_proto.specs.declared.lines.Op.{Op}
+use Rattle.lease_proto.specs.declared.lines.Op.TheVariants.{Lease, Release}
 use Rattle.lease_proto.specs.declared.lines.Lease.{Lease as TheLease}
-use Rattle.lease_proto.specs.Words.{is_word, is_sentence}
-use Rattle.lease_proto.specs.Values.{IsQuantity}
-use Rattle.lease_proto.specs.Grammar.{◌>>=◌, line_of, line_of_words, hello_of, lease_of, release_of, option_at, quantity_or, end_of}
-use Rattle.lease_proto.specs.Texts.{option_words, options_of, options_words, words_after, first_word, sentence, spaced, IsLine, AreOptions, GivesOptions, MayFollow, IsTextOf, LinesAreTexts, LineIsRead}
-use Rattle.std.specs.List.{join_with_byte}
-use Rattle.lease_proto.proofs.ReadLemmas.{step, told, words_step, word_step, name_step, end_step, client_step, ordinal_step, quantity_step, quantity_says, join_with_byte-sentence, hello_says, release_says}
-use Rattle.lease_proto.proofs.GrammarLemmas.{client_again, ordinal_again, quantity_again, decimal_word, decimal_short, name_short, parts_of-sentence}
+use Rattle.lease_proto.specs.Words.{is_sentence}
+use Rattle.lease_proto.specs.Values.{◌>>=◌}
+use Rattle.lease_proto.specs.Grammar.{line_of, line_of_words, line_of_first, hello_of, lease_of, release_of, id_at, option_at, quantity_or, end_of}
+use Rattle.lease_proto.specs.Texts.{id_words, option_words, options_of, options_words, op_words, op_word, words_after, first_word, sentence, spaced, IsLine, IsOp, AreOptions, AsksFor, GivesOptions, MayFollow, IsTextOf, LinesAreTexts, LineIsRead}
+use Rattle.lease_proto.proofs.ReadLemmas.{step, told, words_step, word_step, name_step, end_step, client_step, ordinal_step, quantity_step, quantity_says, id_at_step, id_step, join_with_byte-sentence}
+use Rattle.lease_proto.proofs.GrammarLemmas.{client_again, ordinal_again, quantity_again, id_again, decimal_word, id_are_words, decimal_short, id_short, name_short, parts_of-sentence}
 
 -- these words don't begin with the key
 abbrev NotFirst : List ℕ → List (List ℕ) → Type 0
@@ -50,42 +55,34 @@ taken key default value options words same none low (inr (is, given)) =
     let found : option_at key words ≡ (None, words) = option_at-none key words (not_first key options words none given) in
     (ap (λ p. quantity_or default p.0) found ∙ ap Ok (sym is), subst (λ p. GivesOptions options p.1) (sym found) given)
 
--- the words of a text are read as its line
-words_again : (line : Line) (words : List (List ℕ)) → IsLine line → MayFollow line words → line_of_words (first_word line ∷ words) ≡ Ok line
-unfolding line_of_words hello_of lease_of release_of
-words_again (Hello h) words is may = rw (may, client_again h.client is.0.0 is.0.1, ordinal_again h.incarnation is.1.0 is.1.1) refl
-words_again (Release r) words is may =
-    rw (may, is.3, client_again r.client is.0.0 is.0.1, ordinal_again r.incarnation is.1.0 is.1.1, ordinal_again r.number is.2.0 is.2.1, quantity_again r.base is.4) refl
-words_again (Lease l) words is (w, given, may) =
+-- the words of a request are read as that request
+request_again : (id : RequestId) (op : Op) (rest : List (List ℕ)) → IsRequestId id → IsOp op → AsksFor op rest
+    → line_of_first (op_word op) (id_words id ++ rest) ≡ Ok (Request id op)
+unfolding line_of_first lease_of release_of id_at
+request_again id (Release r) rest is op may = rw (may, op.0, id_again id is, quantity_again r.base op.1) refl
+request_again id (Lease l) rest is op (w, given, may) =
     let o = l.options in
     let max : List (List ℕ × ℕ × ℕ) = (codes "max", 2 ^ 62, o.max) ∷ [] in
     let min : List (List ℕ × ℕ × ℕ) = (codes "min", 0, o.min) ∷ max in
     let nocross : List (List ℕ × ℕ × ℕ) = (codes "nocross", 0, o.nocross) ∷ min in
     let phase : List (List ℕ × ℕ × ℕ) = (codes "phase", 0, o.phase) ∷ nocross in
-    let t1 = taken (codes "align") 0 o.align phase w refl (refl, (refl, (refl, (refl, tt)))) is.5.0 given in
+    let t1 = taken (codes "align") 0 o.align phase w refl (refl, (refl, (refl, (refl, tt)))) op.2.0 given in
     let w1 = (option_at (codes "align") w).1 in
-    let t2 = taken (codes "phase") 0 o.phase nocross w1 refl (refl, (refl, (refl, tt))) is.5.1 t1.1 in
+    let t2 = taken (codes "phase") 0 o.phase nocross w1 refl (refl, (refl, (refl, tt))) op.2.1 t1.1 in
     let w2 = (option_at (codes "phase") w1).1 in
-    let t3 = taken (codes "nocross") 0 o.nocross min w2 refl (refl, (refl, tt)) is.5.2 t2.1 in
+    let t3 = taken (codes "nocross") 0 o.nocross min w2 refl (refl, (refl, tt)) op.2.2 t2.1 in
     let w3 = (option_at (codes "nocross") w2).1 in
-    let t4 = taken (codes "min") 0 o.min max w3 refl (refl, tt) is.5.3 t3.1 in
+    let t4 = taken (codes "min") 0 o.min max w3 refl (refl, tt) op.2.3 t3.1 in
     let w4 = (option_at (codes "min") w3).1 in
-    let t5 = taken (codes "max") (2 ^ 62) o.max [] w4 refl tt is.5.4 t4.1 in
+    let t5 = taken (codes "max") (2 ^ 62) o.max [] w4 refl tt op.2.4 t4.1 in
     let ends : end_of (option_at (codes "max") w4).1 ≡ Ok tt = ap end_of t5.1 in
-    rw (
-      may,
-      is.3,
-      ends,
-      client_again l.client is.0.0 is.0.1,
-      ordinal_again l.incarnation is.1.0 is.1.1,
-      ordinal_again l.number is.2.0 is.2.1,
-      quantity_again l.size is.4,
-      t1.0,
-      t2.0,
-      t3.0,
-      t4.0,
-      t5.0,
-    ) refl
+    rw (may, op.0, ends, id_again id is, quantity_again l.size op.1, t1.0, t2.0, t3.0, t4.0, t5.0) refl
+
+-- the words of a text are read as its line
+words_again : (line : Line) (words : List (List ℕ)) → IsLine line → MayFollow line words → line_of_first (first_word line) words ≡ Ok line
+unfolding line_of_first hello_of
+words_again (Hello h) words is may = rw (may, client_again h.client is.0.0 is.0.1, ordinal_again h.incarnation is.1.0 is.1.1) refl
+words_again (Request id op) words is (rest, may, are) = ap (line_of_first (op_word op)) are ∙ request_again id op rest is.0 is.1 may
 
 -- the words of options are words
 options_are_words : (options : List (List ℕ × ℕ × ℕ)) (words : List (List ℕ)) → AllByRecursion (λ o. is_word o.0 ≡ true) options → AllFit options
@@ -95,18 +92,22 @@ options_are_words ((key, default, value) ∷ options) words keys fit (inl (rest,
     ap (list_all is_word) is ∙ rw (keys.0, decimal_word value fit.0) (options_are_words options rest keys.1 fit.1 given)
 options_are_words ((key, default, value) ∷ options) words keys fit (inr (is, given)) = options_are_words options words keys.1 fit.1 given
 
-all_fit : (line : TheLease) → AreOptions line.options → AllFit (options_of line.options)
-all_fit line is = (is.0, (is.1, (is.2, (is.3, (is.4, tt)))))
+all_fit : (l : TheLease) → AreOptions l.options → AllFit (options_of l.options)
+all_fit l is = (is.0, (is.1, (is.2, (is.3, (is.4, tt)))))
+
+op_are_words : (op : Op) (rest : List (List ℕ)) → IsOp op → AsksFor op rest → list_all is_word rest ≡ true
+op_are_words (Release r) rest is may =
+    let name = and_parts (is_word r.arena) _ is.0 in
+    rw (may, name.0, decimal_word r.base is.1) refl
+op_are_words (Lease l) rest is (w, given, may) =
+    let name = and_parts (is_word l.arena) _ is.0 in
+    rw (may, name.0, decimal_word l.size is.1)
+    (options_are_words (options_of l.options) w (refl, (refl, (refl, (refl, (refl, tt))))) (all_fit l is.2) given)
 
 are_words : (line : Line) (words : List (List ℕ)) → IsLine line → MayFollow line words → list_all is_word words ≡ true
 are_words (Hello h) words is may = rw (may, decimal_word h.client (omega arith), decimal_word h.incarnation is.1.1) refl
-are_words (Release r) words is may =
-    let name = and_parts (is_word r.arena) _ is.3 in
-    rw (may, decimal_word r.client (omega arith), decimal_word r.incarnation is.1.1, decimal_word r.number is.2.1, name.0, decimal_word r.base is.4) refl
-are_words (Lease l) words is (w, given, may) =
-    let name = and_parts (is_word l.arena) _ is.3 in
-    rw (may, decimal_word l.client (omega arith), decimal_word l.incarnation is.1.1, decimal_word l.number is.2.1, name.0, decimal_word l.size is.4)
-    (options_are_words (options_of l.options) w (refl, (refl, (refl, (refl, (refl, tt))))) (all_fit l is.5) given)
+are_words (Request id op) words is (rest, may, are) =
+    ap (list_all is_word) are ∙ id_are_words id rest is.0 (op_are_words op rest is.1 may)
 
 -- the most bytes that options take
 abbrev room : List (List ℕ × ℕ × ℕ) → ℕ
@@ -123,35 +124,36 @@ options_short ((key, default, value) ∷ options) words fit (inr (is, given)) =
     let later = options_short options words fit.1 given in
     omega arith
 
+-- the most bytes that what is asked for takes
+op_short : (op : Op) (rest : List (List ℕ)) → IsOp op → AsksFor op rest → length (op_word op) + length (spaced rest) ≤ 176
+op_short (Release r) rest is may =
+    let a = name_short r.arena is.0 in
+    let b = decimal_short 19 r.base (omega arith) (omega arith) is.1 in
+    rw may (simp length-append (omega arith))
+op_short (Lease l) rest is (w, given, may) =
+    let a = name_short l.arena is.0 in
+    let z = decimal_short 19 l.size (omega arith) (omega arith) is.1 in
+    let o = options_short (options_of l.options) w (all_fit l is.2) given in
+    rw may (simp length-append (omega arith))
+
 short : (line : Line) (words : List (List ℕ)) → IsLine line → MayFollow line words → length (sentence (first_word line) words) ≤ 255
 short (Hello h) words is may =
     let c = decimal_short 5 h.client (omega arith) (omega arith) (omega arith) in
     let i = decimal_short 19 h.incarnation (omega arith) (omega arith) is.1.1 in
     rw may (simp length-append (omega arith))
-short (Release r) words is may =
-    let c = decimal_short 5 r.client (omega arith) (omega arith) (omega arith) in
-    let i = decimal_short 19 r.incarnation (omega arith) (omega arith) is.1.1 in
-    let n = decimal_short 19 r.number (omega arith) (omega arith) is.2.1 in
-    let a = name_short r.arena is.3 in
-    let b = decimal_short 19 r.base (omega arith) (omega arith) is.4 in
-    rw may (simp length-append (omega arith))
-short (Lease l) words is (w, given, may) =
-    let c = decimal_short 5 l.client (omega arith) (omega arith) (omega arith) in
-    let i = decimal_short 19 l.incarnation (omega arith) (omega arith) is.1.1 in
-    let n = decimal_short 19 l.number (omega arith) (omega arith) is.2.1 in
-    let a = name_short l.arena is.3 in
-    let z = decimal_short 19 l.size (omega arith) (omega arith) is.4 in
-    let o = options_short (options_of l.options) w (all_fit l is.5) given in
-    rw may (simp length-append (omega arith))
+short (Request id op) words is (rest, may, are) =
+    let i = id_short id is.0 in
+    let o = op_short op rest is.1 may in
+    rw are (simp length-append (omega arith))
 
 first_is_word : (line : Line) → is_word (first_word line) ≡ true
 first_is_word (Hello h) = refl
-first_is_word (Lease l) = refl
-first_is_word (Release r) = refl
+first_is_word (Request id (Lease l)) = refl
+first_is_word (Request id (Release r)) = refl
 
 -- a text is read as its line
 text_is_read : (line : Line) (words : List (List ℕ)) → IsLine line → MayFollow line words → line_of (sentence (first_word line) words) ≡ Ok line
-unfolding line_of
+unfolding line_of line_of_words
 text_is_read line words is may =
     let bytes = sentence (first_word line) words in
     let parts = parts_of-sentence (first_word line) words (first_is_word line) (are_words line words is may) in
@@ -166,10 +168,9 @@ option_given key default value options rest given = elim (cases_eq value default
   | inr other ↦ rw (ne_eqb value default other) (inl (rest, refl, given))
 ]
 
-written_may : (line : Line) → MayFollow line (words_after line)
-written_may (Hello h) = refl
-written_may (Release r) = refl
-written_may (Lease l) =
+op_may : (op : Op) → AsksFor op (op_words op)
+op_may (Release r) = refl
+op_may (Lease l) =
     let o = l.options in
     let max : List ℕ × ℕ × ℕ = (codes "max", 2 ^ 62, o.max) in
     let min : List ℕ × ℕ × ℕ = (codes "min", 0, o.min) in
@@ -184,6 +185,10 @@ written_may (Lease l) =
           (option_given (codes "min") 0 o.min (max ∷ []) _ last))),
       refl,
     )
+
+written_may : (line : Line) → MayFollow line (words_after line)
+written_may (Hello h) = refl
+written_may (Request id op) = (op_words op, op_may op, refl)
 
 pub line_is_read : LineIsRead
 line_is_read line is = text_is_read line (words_after line) is (written_may line)
@@ -208,42 +213,61 @@ option_step : {B P : Type 0} (default : ℕ) (word : Option (List ℕ)) (f : ℕ
     → ((n : ℕ) → quantity_or default word ≡ Ok n → f n ≡ Ok b → P) → P
 option_step default word f b e k = let (n, is, next) = step (quantity_or default word) f b e in k n is next
 
--- what the words of a lease say of it
-abbrev LeaseSays : List (List ℕ) → TheLease → Type 0
-LeaseSays words l = (IsLine (Lease l)) × MayFollow (Lease l) words
+-- what the words of a line say of it
+abbrev pub Says : List ℕ → List (List ℕ) → Line → Type 0
+Says first words line = IsLine line × (first ≡ first_word line) × MayFollow line words
 
-lease_says : (words : List (List ℕ)) (read : TheLease) → lease_of words ≡ Ok read → LeaseSays words read
-unfolding lease_of
-lease_says words read e =
+hello_says : (words : List (List ℕ)) (read : Line) → hello_of words ≡ Ok read → Says (codes "hello") words read
+unfolding hello_of
+hello_says words read e =
     word_step words _ read e (λ client w1 client_is e1.
     word_step w1 _ read e1 (λ incarnation w2 incarnation_is e2.
-    word_step w2 _ read e2 (λ number w3 number_is e3.
-    word_step w3 _ read e3 (λ name w4 name_is e4.
-    name_step name _ read e4 (λ arena arena_word arena_in e5.
-    word_step w4 _ read e5 (λ size w5 size_is e6.
+    end_step w2 _ read e2 (λ end_is e3.
+    client_step client _ read e3 (λ c c_word c_in e4.
+    ordinal_step incarnation _ read e4 (λ i i_word i_in e5.
+    let read_is : Hello (record { client = c; incarnation = i }) ≡ read = cc in
+    subst (Says (codes "hello") words) read_is ((c_in, i_in), refl, cc))))))
+
+release_says : (words : List (List ℕ)) (read : Line) → release_of words ≡ Ok read → Says (codes "release") words read
+unfolding release_of
+release_says words read e =
+    id_at_step words _ read e (λ wc wi wn w1 words_are e1.
+    word_step w1 _ read e1 (λ name w2 name_is e2.
+    name_step name _ read e2 (λ arena arena_word arena_in e3.
+    word_step w2 _ read e3 (λ base w3 base_is e4.
+    end_step w3 _ read e4 (λ end_is e5.
+    id_step wc wi wn _ read e5 (λ id is c_word i_word n_word e6.
+    quantity_step base _ read e6 (λ b b_word b_in e7.
+    let read_is : Request id (Release (record { arena = arena; base = b })) ≡ read = cc in
+    subst (Says (codes "release") words) read_is
+    ((is, (arena_in, b_in)), refl, (arena ∷ decimal b ∷ [], refl, cc)))))))))
+
+lease_says : (words : List (List ℕ)) (read : Line) → lease_of words ≡ Ok read → Says (codes "lease") words read
+unfolding lease_of
+lease_says words read e =
+    id_at_step words _ read e (λ wc wi wn w1 words_are e1.
+    word_step w1 _ read e1 (λ name w2 name_is e2.
+    name_step name _ read e2 (λ arena arena_word arena_in e3.
+    word_step w2 _ read e3 (λ size w5 size_is e6.
     let align = option_at (codes "align") w5 in
     let phase = option_at (codes "phase") align.1 in
     let nocross = option_at (codes "nocross") phase.1 in
     let min = option_at (codes "min") nocross.1 in
     let max = option_at (codes "max") min.1 in
     end_step max.1 _ read e6 (λ end_is e7.
-    client_step client _ read e7 (λ c c_word c_in e8.
-    ordinal_step incarnation _ read e8 (λ i i_word i_in e9.
-    ordinal_step number _ read e9 (λ n n_word n_in e10.
+    id_step wc wi wn _ read e7 (λ id is c_word i_word n_word e10.
     quantity_step size _ read e10 (λ s s_word s_in e11.
     option_step 0 align.0 _ read e11 (λ a a_is e12.
     option_step 0 phase.0 _ read e12 (λ p p_is e13.
     option_step 0 nocross.0 _ read e13 (λ x x_is e14.
     option_step 0 min.0 _ read e14 (λ l l_is e15.
     option_step (2 ^ 62) max.0 _ read e15 (λ h h_is e16.
-    let read_is : record {
-      client = c;
-      incarnation = i;
-      number = n;
+    let lease : TheLease = record {
       arena = arena;
       size = s;
       options = record { align = a; phase = p; nocross = x; min = l; max = h };
-    } ≡ read = cc in
+    } in
+    let read_is : Request id (Lease lease) ≡ read = cc in
     let from_max : List (List ℕ × ℕ × ℕ) = (codes "max", 2 ^ 62, h) ∷ [] in
     let from_min : List (List ℕ × ℕ × ℕ) = (codes "min", 0, l) ∷ from_max in
     let from_nocross : List (List ℕ × ℕ × ℕ) = (codes "nocross", 0, x) ∷ from_min in
@@ -253,29 +277,20 @@ lease_says words read e =
     let o3 = option_says (codes "nocross") 0 from_min x phase.1 (omega arith) x_is o4.0 in
     let o2 = option_says (codes "phase") 0 from_nocross p align.1 (omega arith) p_is o3.0 in
     let o1 = option_says (codes "align") 0 from_phase a w5 (omega arith) a_is o2.0 in
-    let words_are : words ≡ decimal c ∷ decimal i ∷ decimal n ∷ arena ∷ decimal s ∷ w5 = cc in
-    subst (LeaseSays words) read_is ((c_in, i_in, n_in, arena_in, s_in, (o1.1, o2.1, o3.1, o4.1, o5.1)), (w5, o1.0, words_are))))))))))))))))))
+    subst (Says (codes "lease") words) read_is (
+      (is, (arena_in, s_in, (o1.1, o2.1, o3.1, o4.1, o5.1))),
+      refl,
+      (arena ∷ decimal s ∷ w5, (w5, o1.0, refl), cc),
+    )))))))))))))
 
--- what the words of a line say of it
-abbrev Says : List ℕ → List (List ℕ) → Line → Type 0
-Says first words line = IsLine line × (first ≡ first_word line) × MayFollow line words
-
--- one kind of line was read
-kind : {A : Type 0} (make : A → Line) (read : Result A LineFault) (first : List ℕ) (words : List (List ℕ)) (line : Line)
-    → ((x : A) → read ≡ Ok x → Says first words (make x)) → (read >>= λ x. Ok (make x)) ≡ Ok line → Says first words line
-kind make read first words line says e =
-    let (x, is, made) = step read (λ y. Ok (make y)) line e in
-    let same : make x ≡ line = cc in
-    subst (Says first words) same (says x is)
-
-words_say : (first : List ℕ) (words : List (List ℕ)) (line : Line) → line_of_words (first ∷ words) ≡ Ok line → Says first words line
-unfolding line_of_words
+pub words_say : (first : List ℕ) (words : List (List ℕ)) (line : Line) → line_of_first first words ≡ Ok line → Says first words line
+unfolding line_of_first
 words_say first words line e = elim (told first (codes "hello") _ _ _ e) [
-  | inl p ↦ kind Hello (hello_of words) first words line (λ x is. let said = hello_says words x is in (said.0, p.0, said.1)) p.1
+  | inl p ↦ subst (λ f. Says f words line) (sym p.0) (hello_says words line p.1)
   | inr e1 ↦ elim (told first (codes "lease") _ _ _ e1) [
-    | inl p ↦ kind Lease (lease_of words) first words line (λ x is. let said = lease_says words x is in (said.0, p.0, said.1)) p.1
+    | inl p ↦ subst (λ f. Says f words line) (sym p.0) (lease_says words line p.1)
     | inr e2 ↦ elim (told first (codes "release") _ _ _ e2) [
-      | inl p ↦ kind Release (release_of words) first words line (λ x is. let said = release_says words x is in (said.0, p.0, said.1)) p.1
+      | inl p ↦ subst (λ f. Says f words line) (sym p.0) (release_says words line p.1)
       | inr none ↦ absurd (cc)
     ]
   ]

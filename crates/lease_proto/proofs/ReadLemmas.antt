@@ -1,25 +1,27 @@
 -- What was read says how it was written.
 use Rattle.std.proofs.Common.{◌≡◌, ◌&&◌, ◌^◌, ℕ, ◌≤◌, true, List, [], ◌∷◌, ◌++◌, Option, Some, None, Result, Ok, Err, refl, sym, ◌∙◌, ap, subst, cond, ◌⊎◌, inl, inr, decimal, nat_le, nat_lt, length}
 use Rattle.std.proofs.lemmas.Bool.{leb-true, cases_Bool, and_parts}
+use Rattle.lease_terms.specs.declared.refusals.Refusal.{Refusal}
+use Rattle.lease_terms.specs.declared.refusals.Refusal.TheVariants.{NoFit, BadRequest, NoArena, NotYours, Leases}
+use Rattle.lease_terms.specs.Names.{is_name}
+use Rattle.lease_terms.specs.Ranges.{IsClient, IsOrdinal, IsQuantity}
+use Rattle.lease_terms.specs.Requests.{RequestId, IsRequestId}
 use Rattle.lease_proto.specs.declared.faults.LineFault.{LineFault}
 use Rattle.lease_proto.specs.declared.faults.LineFault.TheVariants as faults
-use Rattle.lease_proto.specs.declared.lines.Hello.{Hello}
-use Rattle.lease_proto.specs.declared.lines.Release.{Release}
+use Rattle.lease_proto.specs.declared.faults.ErrorWord.{ErrorWord}
+use Rattle.lease_proto.specs.declared.faults.ErrorWord.TheVariants as errors
 use Rattle.lease_proto.specs.declared.replies.Welcome.{Welcome}
 use Rattle.lease_proto.specs.declared.replies.Granted.{Granted}
-use Rattle.lease_proto.specs.declared.replies.Released.{Released}
 use Rattle.lease_proto.specs.declared.replies.Refused.{Refused}
 use Rattle.lease_proto.specs.declared.replies.Old.{Old}
 use Rattle.lease_proto.specs.declared.replies.OutOfTurn.{OutOfTurn}
 use Rattle.lease_proto.specs.declared.replies.Again.{Again}
-use Rattle.lease_proto.specs.declared.replies.Refusal.{Refusal}
-use Rattle.lease_proto.specs.declared.replies.Refusal.TheVariants.{NoFit, BadRequest, NoArena, NotYours, Leases}
-use Rattle.lease_proto.specs.Words.{number_of, is_name, is_sentence, parts_of}
-use Rattle.lease_proto.specs.Values.{words_of, between, client_in, ordinal_in, quantity_in, name_in, IsClient, IsOrdinal, IsQuantity}
-use Rattle.lease_proto.specs.Grammar.{◌>>=◌, word_at, end_of, hello_of, release_of}
-use Rattle.lease_proto.specs.Texts.{hello_words, release_words, sentence}
-use Rattle.lease_proto.specs.Faults.{fault_word}
-use Rattle.lease_proto.specs.Replies.{welcome_of, granted_of, released_of, refused_of, old_of, out_of_turn_of, again_of, error_of, refusal_in, refusal_word, fault_in, welcome_words, granted_words, released_words, refused_words, old_words, out_of_turn_words, again_words, IsOutOfTurn}
+use Rattle.lease_proto.specs.Words.{number_of, is_sentence, parts_of}
+use Rattle.lease_proto.specs.Values.{◌>>=◌, words_of, between, client_in, ordinal_in, quantity_in, id_in, name_in}
+use Rattle.lease_proto.specs.Grammar.{word_at, end_of, id_at}
+use Rattle.lease_proto.specs.Texts.{id_words, sentence}
+use Rattle.lease_proto.specs.Faults.{error_in, error_word}
+use Rattle.lease_proto.specs.Replies.{welcome_of, granted_of, released_of, refused_of, old_of, out_of_turn_of, again_of, error_of, refusal_in, refusal_word, welcome_words, granted_words, refused_words, old_words, out_of_turn_words, again_words, IsOutOfTurn}
 use Rattle.std.specs.Str.{bytes_eq}
 use Rattle.std.specs.List.{join_with_byte}
 use Rattle.std.proofs.lemmas.List.{append-nil}
@@ -88,14 +90,26 @@ refusal_says word r e = elim (named refusal_word word NoFit _ r e) [
   ]
 ]
 
-pub fault_says : (word : List ℕ) (f : LineFault) → fault_in word ≡ Ok f → word ≡ fault_word f
-fault_says word f e = elim (named fault_word word faults.TooLong _ f e) [
+pub error_word_says : (word : List ℕ) (r : ErrorWord) → error_in word ≡ Ok r → word ≡ error_word r
+error_word_says word r e = elim (named error_word word (errors.Line faults.TooLong) _ r e) [
   | inl is ↦ is
-  | inr e1 ↦ elim (named fault_word word faults.BadLine _ f e1) [
+  | inr e1 ↦ elim (named error_word word (errors.Line faults.BadLine) _ r e1) [
     | inl is ↦ is
-    | inr e2 ↦ elim (named fault_word word faults.Word _ f e2) [
+    | inr e2 ↦ elim (named error_word word (errors.Line faults.Word) _ r e2) [
       | inl is ↦ is
-      | inr e3 ↦ elim (named fault_word word faults.Number _ f e3) [ inl is ↦ is | inr none ↦ absurd (cc) ]
+      | inr e3 ↦ elim (named error_word word (errors.Line faults.Number) _ r e3) [
+        | inl is ↦ is
+        | inr e4 ↦ elim (named error_word word errors.Memory _ r e4) [
+          | inl is ↦ is
+          | inr e5 ↦ elim (named error_word word errors.NoArena _ r e5) [
+            | inl is ↦ is
+            | inr e6 ↦ elim (named error_word word errors.Size _ r e6) [
+              | inl is ↦ is
+              | inr none ↦ absurd (cc)
+            ]
+          ]
+        ]
+      ]
     ]
   ]
 ]
@@ -132,25 +146,55 @@ refusal_step : {B P : Type 0} (word : List ℕ) (f : Refusal → Result B LineFa
     → ((r : Refusal) → word ≡ refusal_word r → f r ≡ Ok b → P) → P
 refusal_step word f b e k = let (r, is, next) = step (refusal_in word) f b e in k r (refusal_says word r is) next
 
-fault_step : {B P : Type 0} (word : List ℕ) (f : LineFault → Result B LineFault) (b : B) → (fault_in word >>= f) ≡ Ok b
-    → ((r : LineFault) → word ≡ fault_word r → f r ≡ Ok b → P) → P
-fault_step word f b e k = let (r, is, next) = step (fault_in word) f b e in k r (fault_says word r is) next
+error_step : {B P : Type 0} (word : List ℕ) (f : ErrorWord → Result B LineFault) (b : B) → (error_in word >>= f) ≡ Ok b
+    → ((r : ErrorWord) → word ≡ error_word r → f r ≡ Ok b → P) → P
+error_step word f b e k = let (r, is, next) = step (error_in word) f b e in k r (error_word_says word r is) next
 
-pub error_says : (words : List (List ℕ)) (read : LineFault) → error_of words ≡ Ok read → words ≡ fault_word read ∷ []
+-- the words of an id are there, and so on
+pub id_at_step : {B P : Type 0} (words : List (List ℕ))
+    (f : (List ℕ × List ℕ × List ℕ) × List (List ℕ) → Result B LineFault) (b : B) → (id_at words >>= f) ≡ Ok b
+    → ((c i n : List ℕ) (rest : List (List ℕ)) → words ≡ c ∷ i ∷ n ∷ rest → f ((c, i, n), rest) ≡ Ok b → P) → P
+unfolding id_at
+id_at_step [] f b e k = absurd (cc)
+id_at_step (c ∷ []) f b e k = absurd (cc)
+id_at_step (c ∷ i ∷ []) f b e k = absurd (cc)
+id_at_step (c ∷ i ∷ n ∷ rest) f b e k = k c i n rest refl e
+
+-- what an id that was read says of its words
+abbrev pub IdSays : List ℕ → List ℕ → List ℕ → RequestId → Type 0
+IdSays c i n id = IsRequestId id × (c ≡ decimal id.client) × (i ≡ decimal id.incarnation) × (n ≡ decimal id.number)
+
+pub id_says : (wc wi wn : List ℕ) (id : RequestId) → id_in (wc, wi, wn) ≡ Ok id → IdSays wc wi wn id
+unfolding id_in
+id_says wc wi wn id e =
+    client_step wc _ id e (λ c c_word c_in e1.
+    ordinal_step wi _ id e1 (λ i i_word i_in e2.
+    ordinal_step wn _ id e2 (λ n n_word n_in e3.
+    let id_is : record { client = c; incarnation = i; number = n } ≡ id = cc in
+    subst (IdSays wc wi wn) id_is (record { client = c_in; incarnation = i_in; number = n_in }, c_word, i_word, n_word))))
+
+pub id_step : {B P : Type 0} (wc wi wn : List ℕ) (f : RequestId → Result B LineFault) (b : B) → (id_in (wc, wi, wn) >>= f) ≡ Ok b
+    → ((id : RequestId) → IsRequestId id → wc ≡ decimal id.client → wi ≡ decimal id.incarnation
+    → wn ≡ decimal id.number → f id ≡ Ok b → P) → P
+id_step wc wi wn f b e k =
+    let (id, is, next) = step (id_in (wc, wi, wn)) f b e in
+    let said = id_says wc wi wn id is in k id said.0 said.1 said.2 said.3 next
+
+pub error_says : (words : List (List ℕ)) (read : ErrorWord) → error_of words ≡ Ok read → words ≡ error_word read ∷ []
 unfolding error_of
 error_says words read e =
     word_step words _ read e (λ word w1 word_is e1.
-    fault_step word _ read e1 (λ fault fault_is e2.
+    error_step word _ read e1 (λ error error_is e2.
     end_step w1 _ read e2 (λ end_is e3.
-    let read_is : fault ≡ read = cc in
-    subst (λ (r : LineFault). words ≡ fault_word r ∷ []) read_is (cc))))
+    let read_is : error ≡ read = cc in
+    subst (λ (r : ErrorWord). words ≡ error_word r ∷ []) read_is (cc))))
 
 -- words with one space between them
 pub join_with_byte-sentence : (first : List ℕ) (words : List (List ℕ)) → join_with_byte 32 (first ∷ words) ≡ sentence first words
 join_with_byte-sentence first [] = sym (append-nil first)
 join_with_byte-sentence first (word ∷ words) = ap (λ t. first ++ (32 ∷ t)) (join_with_byte-sentence word words)
 
-words_says : (bytes : List ℕ) (words : List (List ℕ)) → words_of bytes ≡ Ok words → bytes ≡ join_with_byte 32 words
+pub words_says : (bytes : List ℕ) (words : List (List ℕ)) → words_of bytes ≡ Ok words → bytes ≡ join_with_byte 32 words
 words_says bytes words e = elim (cases_Bool (nat_lt 255 (length bytes))) [
   | inl long ↦ let bad : Err faults.TooLong ≡ Ok words = rw long at e in absurd (cc)
   | inr short ↦
@@ -169,34 +213,6 @@ pub words_step : {B P : Type 0} (bytes : List ℕ) (f : List (List ℕ) → Resu
     → ((words : List (List ℕ)) → bytes ≡ join_with_byte 32 words → f words ≡ Ok b → P) → P
 words_step bytes f b e k = let (words, is, next) = step (words_of bytes) f b e in k words (words_says bytes words is) next
 
-pub hello_says : (words : List (List ℕ)) (read : Hello) → hello_of words ≡ Ok read → (IsClient read.client × IsOrdinal read.incarnation) × (words ≡ hello_words read)
-unfolding hello_of
-hello_says words read e =
-    word_step words _ read e (λ client w1 client_is e1.
-    word_step w1 _ read e1 (λ incarnation w2 incarnation_is e2.
-    end_step w2 _ read e2 (λ end_is e3.
-    client_step client _ read e3 (λ c c_word c_in e4.
-    ordinal_step incarnation _ read e4 (λ i i_word i_in e5.
-    let read_is : record { client = c; incarnation = i } ≡ read = cc in
-    subst (λ (r : Hello). (IsClient r.client × IsOrdinal r.incarnation) × (words ≡ hello_words r)) read_is ((c_in, i_in), cc))))))
-
-pub release_says : (words : List (List ℕ)) (read : Release) → release_of words ≡ Ok read → (IsClient read.client × IsOrdinal read.incarnation × IsOrdinal read.number × (is_name read.arena ≡ true) × IsQuantity read.base) × (words ≡ release_words read)
-unfolding release_of
-release_says words read e =
-    word_step words _ read e (λ client w1 client_is e1.
-    word_step w1 _ read e1 (λ incarnation w2 incarnation_is e2.
-    word_step w2 _ read e2 (λ number w3 number_is e3.
-    word_step w3 _ read e3 (λ name w4 name_is e4.
-    name_step name _ read e4 (λ arena arena_word arena_in e5.
-    word_step w4 _ read e5 (λ base w5 base_is e6.
-    end_step w5 _ read e6 (λ end_is e7.
-    client_step client _ read e7 (λ c c_word c_in e8.
-    ordinal_step incarnation _ read e8 (λ i i_word i_in e9.
-    ordinal_step number _ read e9 (λ n n_word n_in e10.
-    quantity_step base _ read e10 (λ b b_word b_in e11.
-    let read_is : record { client = c; incarnation = i; number = n; arena = arena; base = b } ≡ read = cc in
-    subst (λ (r : Release). (IsClient r.client × IsOrdinal r.incarnation × IsOrdinal r.number × (is_name r.arena ≡ true) × IsQuantity r.base) × (words ≡ release_words r)) read_is ((c_in, i_in, n_in, arena_in, b_in), cc))))))))))))
-
 pub welcome_says : (words : List (List ℕ)) (read : Welcome) → welcome_of words ≡ Ok read → (IsClient read.client × IsOrdinal read.incarnation) × (words ≡ welcome_words read)
 unfolding welcome_of
 welcome_says words read e =
@@ -208,52 +224,44 @@ welcome_says words read e =
     let read_is : record { client = c; incarnation = i } ≡ read = cc in
     subst (λ (r : Welcome). (IsClient r.client × IsOrdinal r.incarnation) × (words ≡ welcome_words r)) read_is ((c_in, i_in), cc))))))
 
-pub granted_says : (words : List (List ℕ)) (read : Granted) → granted_of words ≡ Ok read → (IsClient read.client × IsOrdinal read.incarnation × IsOrdinal read.number × (is_name read.arena ≡ true) × IsQuantity read.base × IsQuantity read.len) × (words ≡ granted_words read)
+pub granted_says : (words : List (List ℕ)) (read : Granted) → granted_of words ≡ Ok read
+    → (IsRequestId read.id × (is_name read.arena ≡ true) × IsQuantity read.base × IsQuantity read.len) × (words ≡ granted_words read)
 unfolding granted_of
 granted_says words read e =
-    word_step words _ read e (λ client w1 client_is e1.
-    word_step w1 _ read e1 (λ incarnation w2 incarnation_is e2.
-    word_step w2 _ read e2 (λ number w3 number_is e3.
-    word_step w3 _ read e3 (λ name w4 name_is e4.
-    name_step name _ read e4 (λ arena arena_word arena_in e5.
-    word_step w4 _ read e5 (λ base w5 base_is e6.
-    word_step w5 _ read e6 (λ len w6 len_is e7.
-    end_step w6 _ read e7 (λ end_is e8.
-    client_step client _ read e8 (λ c c_word c_in e9.
-    ordinal_step incarnation _ read e9 (λ i i_word i_in e10.
-    ordinal_step number _ read e10 (λ n n_word n_in e11.
-    quantity_step base _ read e11 (λ b b_word b_in e12.
-    quantity_step len _ read e12 (λ l l_word l_in e13.
-    let read_is : record { client = c; incarnation = i; number = n; arena = arena; base = b; len = l } ≡ read = cc in
-    subst (λ (r : Granted). (IsClient r.client × IsOrdinal r.incarnation × IsOrdinal r.number × (is_name r.arena ≡ true) × IsQuantity r.base × IsQuantity r.len) × (words ≡ granted_words r)) read_is ((c_in, i_in, n_in, arena_in, b_in, l_in), cc))))))))))))))
+    id_at_step words _ read e (λ wc wi wn w1 words_are e1.
+    word_step w1 _ read e1 (λ name w2 name_is e2.
+    name_step name _ read e2 (λ arena arena_word arena_in e3.
+    word_step w2 _ read e3 (λ base w3 base_is e4.
+    word_step w3 _ read e4 (λ len w4 len_is e5.
+    end_step w4 _ read e5 (λ end_is e6.
+    id_step wc wi wn _ read e6 (λ id is c_word i_word n_word e7.
+    quantity_step base _ read e7 (λ b b_word b_in e8.
+    quantity_step len _ read e8 (λ l l_word l_in e9.
+    let read_is : record { id = id; arena = arena; base = b; len = l } ≡ read = cc in
+    subst (λ (r : Granted). (IsRequestId r.id × (is_name r.arena ≡ true) × IsQuantity r.base × IsQuantity r.len) × (words ≡ granted_words r))
+    read_is ((is, arena_in, b_in, l_in), cc))))))))))
 
-pub released_says : (words : List (List ℕ)) (read : Released) → released_of words ≡ Ok read → (IsClient read.client × IsOrdinal read.incarnation × IsOrdinal read.number) × (words ≡ released_words read)
+pub released_says : (words : List (List ℕ)) (read : RequestId) → released_of words ≡ Ok read → IsRequestId read × (words ≡ id_words read)
 unfolding released_of
 released_says words read e =
-    word_step words _ read e (λ client w1 client_is e1.
-    word_step w1 _ read e1 (λ incarnation w2 incarnation_is e2.
-    word_step w2 _ read e2 (λ number w3 number_is e3.
-    end_step w3 _ read e3 (λ end_is e4.
-    client_step client _ read e4 (λ c c_word c_in e5.
-    ordinal_step incarnation _ read e5 (λ i i_word i_in e6.
-    ordinal_step number _ read e6 (λ n n_word n_in e7.
-    let read_is : record { client = c; incarnation = i; number = n } ≡ read = cc in
-    subst (λ (r : Released). (IsClient r.client × IsOrdinal r.incarnation × IsOrdinal r.number) × (words ≡ released_words r)) read_is ((c_in, i_in, n_in), cc))))))))
+    id_at_step words _ read e (λ wc wi wn w1 words_are e1.
+    end_step w1 _ read e1 (λ end_is e2.
+    let said = id_says wc wi wn read e2 in
+    let c_word = said.1 in
+    let i_word = said.2 in
+    let n_word = said.3 in
+    (said.0, cc)))
 
-pub refused_says : (words : List (List ℕ)) (read : Refused) → refused_of words ≡ Ok read → (IsClient read.client × IsOrdinal read.incarnation × IsOrdinal read.number) × (words ≡ refused_words read)
+pub refused_says : (words : List (List ℕ)) (read : Refused) → refused_of words ≡ Ok read → IsRequestId read.id × (words ≡ refused_words read)
 unfolding refused_of
 refused_says words read e =
-    word_step words _ read e (λ client w1 client_is e1.
-    word_step w1 _ read e1 (λ incarnation w2 incarnation_is e2.
-    word_step w2 _ read e2 (λ number w3 number_is e3.
-    word_step w3 _ read e3 (λ word w4 word_is e4.
-    refusal_step word _ read e4 (λ refusal refusal_word e5.
-    end_step w4 _ read e5 (λ end_is e6.
-    client_step client _ read e6 (λ c c_word c_in e7.
-    ordinal_step incarnation _ read e7 (λ i i_word i_in e8.
-    ordinal_step number _ read e8 (λ n n_word n_in e9.
-    let read_is : record { client = c; incarnation = i; number = n; refusal = refusal } ≡ read = cc in
-    subst (λ (r : Refused). (IsClient r.client × IsOrdinal r.incarnation × IsOrdinal r.number) × (words ≡ refused_words r)) read_is ((c_in, i_in, n_in), cc))))))))))
+    id_at_step words _ read e (λ wc wi wn w1 words_are e1.
+    word_step w1 _ read e1 (λ word w2 word_is e2.
+    refusal_step word _ read e2 (λ refusal refusal_word_is e3.
+    end_step w2 _ read e3 (λ end_is e4.
+    id_step wc wi wn _ read e4 (λ id is c_word i_word n_word e5.
+    let read_is : record { id = id; refusal = refusal } ≡ read = cc in
+    subst (λ (r : Refused). IsRequestId r.id × (words ≡ refused_words r)) read_is (is, cc))))))
 
 pub old_says : (words : List (List ℕ)) (read : Old) → old_of words ≡ Ok read → (IsClient read.client × IsQuantity read.current) × (words ≡ old_words read)
 unfolding old_of
@@ -266,20 +274,16 @@ old_says words read e =
     let read_is : record { client = c; current = v } ≡ read = cc in
     subst (λ (r : Old). (IsClient r.client × IsQuantity r.current) × (words ≡ old_words r)) read_is ((c_in, v_in), cc))))))
 
-pub out_of_turn_says : (words : List (List ℕ)) (read : OutOfTurn) → out_of_turn_of words ≡ Ok read → (IsOutOfTurn read) × (words ≡ out_of_turn_words read)
+pub out_of_turn_says : (words : List (List ℕ)) (read : OutOfTurn) → out_of_turn_of words ≡ Ok read → IsOutOfTurn read × (words ≡ out_of_turn_words read)
 unfolding out_of_turn_of
 out_of_turn_says words read e =
-    word_step words _ read e (λ client w1 client_is e1.
-    word_step w1 _ read e1 (λ incarnation w2 incarnation_is e2.
-    word_step w2 _ read e2 (λ number w3 number_is e3.
-    word_step w3 _ read e3 (λ last w4 last_is e4.
-    end_step w4 _ read e4 (λ end_is e5.
-    client_step client _ read e5 (λ c c_word c_in e6.
-    ordinal_step incarnation _ read e6 (λ i i_word i_in e7.
-    ordinal_step number _ read e7 (λ n n_word n_in e8.
-    quantity_step last _ read e8 (λ v v_word v_in e9.
-    let read_is : record { client = c; incarnation = i; number = n; last = v } ≡ read = cc in
-    subst (λ (r : OutOfTurn). (IsOutOfTurn r) × (words ≡ out_of_turn_words r)) read_is ((c_in, i_in, n_in, v_in), cc))))))))))
+    id_at_step words _ read e (λ wc wi wn w1 words_are e1.
+    word_step w1 _ read e1 (λ last w2 last_is e2.
+    end_step w2 _ read e2 (λ end_is e3.
+    id_step wc wi wn _ read e3 (λ id is c_word i_word n_word e4.
+    quantity_step last _ read e4 (λ v v_word v_in e5.
+    let read_is : record { id = id; last = v } ≡ read = cc in
+    subst (λ (r : OutOfTurn). IsOutOfTurn r × (words ≡ out_of_turn_words r)) read_is ((is, v_in), cc))))))
 
 pub again_says : (words : List (List ℕ)) (read : Again) → again_of words ≡ Ok read → (IsClient read.client × IsOrdinal read.incarnation × IsQuantity read.number) × (words ≡ again_words read)
 unfolding again_of

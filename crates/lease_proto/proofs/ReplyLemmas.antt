@@ -1,24 +1,28 @@
 -- What is written of a reply is read again.
-use Rattle.std.proofs.Common.{◌≡◌, ℕ, ◌≤◌, true, if◌then◌else◌, List, [], ◌∷◌, length, Result, Ok, Err, refl, ◌∙◌, ap, subst, arith, inl, inr, codes, lit≤}
+use Rattle.std.proofs.Common.{◌≡◌, ℕ, ◌≤◌, true, if◌then◌else◌, List, [], ◌∷◌, length, decimal, Result, Ok, Err, refl, ◌∙◌, ap, subst, arith, inl, inr, codes, lit≤}
 use Rattle.std.proofs.lemmas.List.{length-append}
 use Rattle.std.proofs.lemmas.Bool.{le-ltb, and_parts, and_from}
 use Rattle.std.specs.List.{list_all}
+use Rattle.lease_terms.specs.declared.refusals.Refusal.{Refusal}
+use Rattle.lease_terms.specs.declared.refusals.Refusal.TheVariants.{NoFit, BadRequest, NoArena, NotYours, Leases}
+use Rattle.lease_terms.specs.Names.{is_word}
 use Rattle.lease_proto.specs.declared.faults.LineFault.{LineFault}
 use Rattle.lease_proto.specs.declared.faults.LineFault.TheVariants as faults
+use Rattle.lease_proto.specs.declared.faults.ErrorWord.{ErrorWord}
+use Rattle.lease_proto.specs.declared.faults.ErrorWord.TheVariants as errors
 use Rattle.lease_proto.specs.declared.replies.Reply.{Reply}
 use Rattle.lease_proto.specs.declared.replies.Reply.TheVariants.{Welcome, Granted, Released, Refused, Old, Stale, Gap, Again, Error}
 use Rattle.lease_proto.specs.declared.replies.OutOfTurn.{OutOfTurn}
-use Rattle.lease_proto.specs.declared.replies.Refusal.{Refusal}
-use Rattle.lease_proto.specs.declared.replies.Refusal.TheVariants.{NoFit, BadRequest, NoArena, NotYours, Leases}
-use Rattle.lease_proto.specs.Faults.{fault_word}
-use Rattle.lease_proto.specs.Words.{is_word, is_sentence}
+use Rattle.lease_proto.specs.Faults.{error_in, error_word}
+use Rattle.lease_proto.specs.Words.{is_sentence}
+use Rattle.lease_proto.specs.Grammar.{id_at}
 use Rattle.lease_proto.specs.Texts.{sentence}
-use Rattle.lease_proto.specs.Replies.{reply_of, reply_of_words, welcome_of, granted_of, released_of, refused_of, old_of, out_of_turn_of, again_of, error_of, refusal_in, refusal_word, fault_in, first_reply_word, reply_words, out_of_turn_words, reply_text, IsReply, IsOutOfTurn, RepliesAreTexts}
+use Rattle.lease_proto.specs.Replies.{reply_of, reply_of_words, welcome_of, granted_of, released_of, refused_of, old_of, out_of_turn_of, again_of, error_of, refusal_in, refusal_word, first_reply_word, reply_words, out_of_turn_words, reply_text, IsReply, IsOutOfTurn, RepliesAreTexts}
 use Rattle.std.specs.Str.{bytes_eq}
 use Rattle.std.specs.List.{join_with_byte}
-use Rattle.lease_proto.specs.Grammar.{◌>>=◌}
+use Rattle.lease_proto.specs.Values.{◌>>=◌}
 use Rattle.lease_proto.proofs.ReadLemmas.{step, told, words_step, join_with_byte-sentence, welcome_says, granted_says, released_says, refused_says, old_says, out_of_turn_says, again_says, error_says}
-use Rattle.lease_proto.proofs.GrammarLemmas.{client_again, ordinal_again, quantity_again, decimal_word, decimal_short, name_short, parts_of-sentence}
+use Rattle.lease_proto.proofs.GrammarLemmas.{client_again, ordinal_again, quantity_again, id_again, id_are_words, id_short, decimal_word, decimal_short, name_short, parts_of-sentence}
 
 refusal_again : (refusal : Refusal) → refusal_in (refusal_word refusal) ≡ Ok refusal
 refusal_again NoFit = refl
@@ -41,71 +45,66 @@ refusal_short NoArena = lit≤ tt
 refusal_short NotYours = lit≤ tt
 refusal_short Leases = lit≤ tt
 
-fault_again : (fault : LineFault) → fault_in (fault_word fault) ≡ Ok fault
-fault_again faults.TooLong = refl
-fault_again faults.BadLine = refl
-fault_again faults.Word = refl
-fault_again faults.Number = refl
+error_again : (error : ErrorWord) → error_in (error_word error) ≡ Ok error
+error_again (errors.Line faults.TooLong) = refl
+error_again (errors.Line faults.BadLine) = refl
+error_again (errors.Line faults.Word) = refl
+error_again (errors.Line faults.Number) = refl
+error_again errors.Memory = refl
+error_again errors.NoArena = refl
+error_again errors.Size = refl
 
-fault_is_word : (fault : LineFault) → is_word (fault_word fault) ≡ true
-fault_is_word faults.TooLong = refl
-fault_is_word faults.BadLine = refl
-fault_is_word faults.Word = refl
-fault_is_word faults.Number = refl
+error_is_word : (error : ErrorWord) → is_word (error_word error) ≡ true
+error_is_word (errors.Line faults.TooLong) = refl
+error_is_word (errors.Line faults.BadLine) = refl
+error_is_word (errors.Line faults.Word) = refl
+error_is_word (errors.Line faults.Number) = refl
+error_is_word errors.Memory = refl
+error_is_word errors.NoArena = refl
+error_is_word errors.Size = refl
 
-fault_short : (fault : LineFault) → length (fault_word fault) ≤ 7
-fault_short faults.TooLong = lit≤ tt
-fault_short faults.BadLine = lit≤ tt
-fault_short faults.Word = lit≤ tt
-fault_short faults.Number = lit≤ tt
+error_short : (error : ErrorWord) → length (error_word error) ≤ 7
+error_short (errors.Line faults.TooLong) = lit≤ tt
+error_short (errors.Line faults.BadLine) = lit≤ tt
+error_short (errors.Line faults.Word) = lit≤ tt
+error_short (errors.Line faults.Number) = lit≤ tt
+error_short errors.Memory = lit≤ tt
+error_short errors.NoArena = lit≤ tt
+error_short errors.Size = lit≤ tt
 
 words_again : (reply : Reply) → IsReply reply → reply_of_words (first_reply_word reply ∷ reply_words reply) ≡ Ok reply
-unfolding reply_of_words welcome_of granted_of released_of refused_of old_of out_of_turn_of again_of error_of
+unfolding reply_of_words id_at welcome_of granted_of released_of refused_of old_of out_of_turn_of again_of error_of
 words_again (Welcome w) is = rw (client_again w.client is.0.0 is.0.1, ordinal_again w.incarnation is.1.0 is.1.1) refl
-words_again (Granted g) is =
-    rw (
-      is.3,
-      client_again g.client is.0.0 is.0.1,
-      ordinal_again g.incarnation is.1.0 is.1.1,
-      ordinal_again g.number is.2.0 is.2.1,
-      quantity_again g.base is.4,
-      quantity_again g.len is.5,
-    ) refl
-words_again (Released r) is = rw (client_again r.client is.0.0 is.0.1, ordinal_again r.incarnation is.1.0 is.1.1, ordinal_again r.number is.2.0 is.2.1) refl
-words_again (Refused r) is =
-    rw (refusal_again r.refusal, client_again r.client is.0.0 is.0.1, ordinal_again r.incarnation is.1.0 is.1.1, ordinal_again r.number is.2.0 is.2.1) refl
+words_again (Granted g) is = rw (is.1, id_again g.id is.0, quantity_again g.base is.2, quantity_again g.len is.3) refl
+words_again (Released id) is = rw (id_again id is) refl
+words_again (Refused r) is = rw (refusal_again r.refusal, id_again r.id is) refl
 words_again (Old o) is = rw (client_again o.client is.0.0 is.0.1, quantity_again o.current is.1) refl
-words_again (Stale s) is =
-    rw (client_again s.client is.0.0 is.0.1, ordinal_again s.incarnation is.1.0 is.1.1, ordinal_again s.number is.2.0 is.2.1, quantity_again s.last is.3) refl
-words_again (Gap g) is =
-    rw (client_again g.client is.0.0 is.0.1, ordinal_again g.incarnation is.1.0 is.1.1, ordinal_again g.number is.2.0 is.2.1, quantity_again g.last is.3) refl
+words_again (Stale s) is = rw (id_again s.id is.0, quantity_again s.last is.1) refl
+words_again (Gap g) is = rw (id_again g.id is.0, quantity_again g.last is.1) refl
 words_again (Again a) is = rw (client_again a.client is.0.0 is.0.1, ordinal_again a.incarnation is.1.0 is.1.1, quantity_again a.number is.2) refl
-words_again (Error fault) is = rw (fault_again fault) refl
+words_again (Error error) is = rw (error_again error) refl
 
 out_of_turn_are_words : (r : OutOfTurn) → IsOutOfTurn r → list_all is_word (out_of_turn_words r) ≡ true
-out_of_turn_are_words r is =
-    rw (decimal_word r.client (omega arith), decimal_word r.incarnation is.1.1, decimal_word r.number is.2.1, decimal_word r.last is.3) refl
+out_of_turn_are_words r is = id_are_words r.id (decimal r.last ∷ []) is.0 (rw (decimal_word r.last is.1) refl)
 
 are_words : (reply : Reply) → IsReply reply → list_all is_word (reply_words reply) ≡ true
 are_words (Welcome w) is = rw (decimal_word w.client (omega arith), decimal_word w.incarnation is.1.1) refl
 are_words (Granted g) is =
-    let name = and_parts (is_word g.arena) _ is.3 in
-    rw (decimal_word g.client (omega arith), decimal_word g.incarnation is.1.1, decimal_word g.number is.2.1, name.0, decimal_word g.base is.4, decimal_word g.len is.5) refl
-are_words (Released r) is = rw (decimal_word r.client (omega arith), decimal_word r.incarnation is.1.1, decimal_word r.number is.2.1) refl
-are_words (Refused r) is =
-    rw (decimal_word r.client (omega arith), decimal_word r.incarnation is.1.1, decimal_word r.number is.2.1, refusal_is_word r.refusal) refl
+    let name = and_parts (is_word g.arena) _ is.1 in
+    id_are_words g.id (g.arena ∷ decimal g.base ∷ decimal g.len ∷ []) is.0
+    (rw (name.0, decimal_word g.base is.2, decimal_word g.len is.3) refl)
+are_words (Released id) is = id_are_words id [] is refl
+are_words (Refused r) is = id_are_words r.id (refusal_word r.refusal ∷ []) is (rw (refusal_is_word r.refusal) refl)
 are_words (Old o) is = rw (decimal_word o.client (omega arith), decimal_word o.current is.1) refl
 are_words (Stale s) is = out_of_turn_are_words s is
 are_words (Gap g) is = out_of_turn_are_words g is
 are_words (Again a) is = rw (decimal_word a.client (omega arith), decimal_word a.incarnation is.1.1, decimal_word a.number is.2) refl
-are_words (Error fault) is = rw (fault_is_word fault) refl
+are_words (Error error) is = rw (error_is_word error) refl
 
 out_of_turn_short : (first : List ℕ) (r : OutOfTurn) → length first ≤ 10 → IsOutOfTurn r → length (sentence first (out_of_turn_words r)) ≤ 255
 out_of_turn_short first r key is =
-    let c = decimal_short 5 r.client (omega arith) (omega arith) (omega arith) in
-    let i = decimal_short 19 r.incarnation (omega arith) (omega arith) is.1.1 in
-    let n = decimal_short 19 r.number (omega arith) (omega arith) is.2.1 in
-    let v = decimal_short 19 r.last (omega arith) (omega arith) is.3 in
+    let id = id_short r.id is.0 in
+    let v = decimal_short 19 r.last (omega arith) (omega arith) is.1 in
     simp length-append (omega arith)
 
 short : (reply : Reply) → IsReply reply → length (reply_text reply) ≤ 255
@@ -114,22 +113,16 @@ short (Welcome w) is =
     let i = decimal_short 19 w.incarnation (omega arith) (omega arith) is.1.1 in
     simp length-append (omega arith)
 short (Granted g) is =
-    let c = decimal_short 5 g.client (omega arith) (omega arith) (omega arith) in
-    let i = decimal_short 19 g.incarnation (omega arith) (omega arith) is.1.1 in
-    let n = decimal_short 19 g.number (omega arith) (omega arith) is.2.1 in
-    let a = name_short g.arena is.3 in
-    let b = decimal_short 19 g.base (omega arith) (omega arith) is.4 in
-    let l = decimal_short 19 g.len (omega arith) (omega arith) is.5 in
+    let id = id_short g.id is.0 in
+    let a = name_short g.arena is.1 in
+    let b = decimal_short 19 g.base (omega arith) (omega arith) is.2 in
+    let l = decimal_short 19 g.len (omega arith) (omega arith) is.3 in
     simp length-append (omega arith)
-short (Released r) is =
-    let c = decimal_short 5 r.client (omega arith) (omega arith) (omega arith) in
-    let i = decimal_short 19 r.incarnation (omega arith) (omega arith) is.1.1 in
-    let n = decimal_short 19 r.number (omega arith) (omega arith) is.2.1 in
+short (Released id) is =
+    let i = id_short id is in
     simp length-append (omega arith)
 short (Refused r) is =
-    let c = decimal_short 5 r.client (omega arith) (omega arith) (omega arith) in
-    let i = decimal_short 19 r.incarnation (omega arith) (omega arith) is.1.1 in
-    let n = decimal_short 19 r.number (omega arith) (omega arith) is.2.1 in
+    let id = id_short r.id is in
     let w = refusal_short r.refusal in
     simp length-append (omega arith)
 short (Old o) is =
@@ -143,8 +136,8 @@ short (Again a) is =
     let i = decimal_short 19 a.incarnation (omega arith) (omega arith) is.1.1 in
     let n = decimal_short 19 a.number (omega arith) (omega arith) is.2 in
     simp length-append (omega arith)
-short (Error fault) is =
-    let w = fault_short fault in
+short (Error error) is =
+    let w = error_short error in
     simp length-append (omega arith)
 
 first_is_word : (reply : Reply) → is_word (first_reply_word reply) ≡ true
@@ -156,7 +149,7 @@ first_is_word (Old o) = refl
 first_is_word (Stale s) = refl
 first_is_word (Gap g) = refl
 first_is_word (Again a) = refl
-first_is_word (Error fault) = refl
+first_is_word (Error error) = refl
 
 -- the texts of replies are read as these replies
 text_is_read : (reply : Reply) → IsReply reply → reply_of (reply_text reply) ≡ Ok reply
@@ -188,7 +181,7 @@ other_reply first words =
     else if bytes_eq first (codes "stale") then (out_of_turn_of words >>= λ r. Ok (Stale r))
     else if bytes_eq first (codes "gap") then (out_of_turn_of words >>= λ r. Ok (Gap r))
     else if bytes_eq first (codes "again") then (again_of words >>= λ r. Ok (Again r))
-    else if bytes_eq first (codes "error") then (error_of words >>= λ fault. Ok (Error fault))
+    else if bytes_eq first (codes "error") then (error_of words >>= λ r. Ok (Error r))
     else Err faults.Word
 
 other_words_say : (first : List ℕ) (words : List (List ℕ)) (reply : Reply) → other_reply first words ≡ Ok reply → Says first words reply

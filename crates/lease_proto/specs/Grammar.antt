@@ -5,16 +5,8 @@ use Rattle.lease_proto.specs.declared.faults.LineFault.{LineFault}
 use Rattle.lease_proto.specs.declared.faults.LineFault.TheVariants.{BadLine, Word}
 use Rattle.lease_proto.specs.declared.lines.Line.{Line}
 use Rattle.lease_proto.specs.declared.lines.Line.TheVariants as lines
-use Rattle.lease_proto.specs.declared.lines.Hello.{Hello}
-use Rattle.lease_proto.specs.declared.lines.Lease.{Lease}
-use Rattle.lease_proto.specs.declared.lines.Release.{Release}
-use Rattle.lease_proto.specs.Values.{words_of, client_in, ordinal_in, quantity_in, name_in}
-
--- what the second makes of the first's value, unless the first is refused
-infixl 10 ◌>>=◌
-abbrev pub ◌>>=◌ : {A B : Type 0} → Result A LineFault → (A → Result B LineFault) → Result B LineFault
-(Ok x) >>= f = f x
-(Err e) >>= f = Err e
+use Rattle.lease_proto.specs.declared.lines.Op.TheVariants as ops
+use Rattle.lease_proto.specs.Values.{◌>>=◌, words_of, client_in, ordinal_in, quantity_in, id_in, name_in}
 
 -- a word, and the words after it
 abbrev pub word_at : List (List ℕ) → Result (List ℕ × List (List ℕ)) LineFault
@@ -26,37 +18,42 @@ abbrev pub end_of : List (List ℕ) → Result (Unit {0}) LineFault
 end_of [] = Ok tt
 end_of (word ∷ words) = Err BadLine
 
+-- the three words of a request's id, and the words after them
+unfoldable pub id_at : List (List ℕ) → Result ((List ℕ × List ℕ × List ℕ) × List (List ℕ)) LineFault
+id_at words = do
+  client ← word_at words
+  incarnation ← word_at client.1
+  number ← word_at incarnation.1
+  Ok ((client.0, incarnation.0, number.0), number.1)
+
 -- `hello C I`: the words after the first
-unfoldable pub hello_of : List (List ℕ) → Result Hello LineFault
+unfoldable pub hello_of : List (List ℕ) → Result Line LineFault
 hello_of words = do
   client ← word_at words
   incarnation ← word_at client.1
   end ← end_of incarnation.1
   c ← client_in client.0
   i ← ordinal_in incarnation.0
-  Ok (record { client = c; incarnation = i })
+  Ok (lines.Hello (record { client = c; incarnation = i }))
 
 -- `release C I N NAME BASE`
-unfoldable pub release_of : List (List ℕ) → Result Release LineFault
+unfoldable pub release_of : List (List ℕ) → Result Line LineFault
 release_of words = do
-  client ← word_at words
-  incarnation ← word_at client.1
-  number ← word_at incarnation.1
-  name ← word_at number.1
+  id ← id_at words
+  name ← word_at id.1
   arena ← name_in name.0
   base ← word_at name.1
   end ← end_of base.1
-  c ← client_in client.0
-  i ← ordinal_in incarnation.0
-  n ← ordinal_in number.0
+  request ← id_in id.0
   b ← quantity_in base.0
-  Ok (record { client = c; incarnation = i; number = n; arena = arena; base = b })
+  Ok (lines.Request request (ops.Release (record { arena = arena; base = b })))
 
 -- an option, where it is the next, and the words after it
 abbrev pub option_at : List ℕ → List (List ℕ) → Option (List ℕ) × List (List ℕ)
 option_at key [] = (None, [])
 option_at key (word ∷ []) = (None, word ∷ [])
-option_at key (word ∷ value ∷ words) = if bytes_eq word key then (Some value, words) else (None, word ∷ value ∷ words)
+option_at key (word ∷ value ∷ words) =
+    if bytes_eq word key then (Some value, words) else (None, word ∷ value ∷ words)
 
 -- a value that may be left out
 abbrev pub quantity_or : ℕ → Option (List ℕ) → Result ℕ LineFault
@@ -64,12 +61,10 @@ quantity_or default None = Ok default
 quantity_or default (Some word) = quantity_in word
 
 -- `lease C I N NAME SIZE`, and options in this order
-unfoldable pub lease_of : List (List ℕ) → Result Lease LineFault
+unfoldable pub lease_of : List (List ℕ) → Result Line LineFault
 lease_of words = do
-  client ← word_at words
-  incarnation ← word_at client.1
-  number ← word_at incarnation.1
-  name ← word_at number.1
+  id ← id_at words
+  name ← word_at id.1
   arena ← name_in name.0
   size ← word_at name.1
   let align = option_at (codes "align") size.1
@@ -78,25 +73,31 @@ lease_of words = do
   let min = option_at (codes "min") nocross.1
   let max = option_at (codes "max") min.1
   end ← end_of max.1
-  c ← client_in client.0
-  i ← ordinal_in incarnation.0
-  n ← ordinal_in number.0
+  request ← id_in id.0
   s ← quantity_in size.0
   a ← quantity_or 0 align.0
   p ← quantity_or 0 phase.0
   x ← quantity_or 0 nocross.0
   l ← quantity_or 0 min.0
   h ← quantity_or (2 ^ 62) max.0
-  Ok (record { client = c; incarnation = i; number = n; arena = arena; size = s; options = record { align = a; phase = p; nocross = x; min = l; max = h } })
+  Ok (lines.Request request (ops.Lease (record {
+    arena = arena;
+    size = s;
+    options = record { align = a; phase = p; nocross = x; min = l; max = h };
+  })))
+
+-- the line of this first word and the words after it
+unfoldable pub line_of_first : List ℕ → List (List ℕ) → Result Line LineFault
+line_of_first first words =
+    if bytes_eq first (codes "hello") then hello_of words
+    else if bytes_eq first (codes "lease") then lease_of words
+    else if bytes_eq first (codes "release") then release_of words
+    else Err Word
 
 -- the line that words are
 unfoldable pub line_of_words : List (List ℕ) → Result Line LineFault
 line_of_words [] = Err Word
-line_of_words (first ∷ words) =
-    if bytes_eq first (codes "hello") then (hello_of words >>= λ h. Ok (lines.Hello h))
-    else if bytes_eq first (codes "lease") then (lease_of words >>= λ l. Ok (lines.Lease l))
-    else if bytes_eq first (codes "release") then (release_of words >>= λ r. Ok (lines.Release r))
-    else Err Word
+line_of_words (first ∷ words) = line_of_first first words
 
 -- the line that bytes are, or the first reason why they are none
 unfoldable pub line_of : List ℕ → Result Line LineFault

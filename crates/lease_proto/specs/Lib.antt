@@ -1,8 +1,11 @@
 pub mod Faults
 pub mod Frames
 pub mod Words
-pub mod Names
 pub mod Values
 pub mod Grammar
 pub mod Texts
+pub mod Requests
 pub mod Replies
+pub mod Operators
+pub mod Reports
+pub mod SetupLines

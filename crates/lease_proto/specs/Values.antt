@@ -1,8 +1,17 @@
--- What the words of a line stand for, and the ranges of its values.
-use Rattle.std.specs.Prelude.{◌≤◌, ◌^◌, ◌&&◌, ℕ, nat_le, nat_lt, List, length, if◌then◌else◌, Option, Some, None, Result, Ok, Err}
+-- What the words of a line stand for.
+use Rattle.std.specs.Prelude.{◌^◌, ◌&&◌, ℕ, nat_le, nat_lt, List, length, if◌then◌else◌, Option, Some, None, Result, Ok, Err}
+use Rattle.lease_terms.specs.Requests.{RequestId}
+use Rattle.lease_terms.specs.Names.{is_name}
 use Rattle.lease_proto.specs.declared.faults.LineFault.{LineFault}
 use Rattle.lease_proto.specs.declared.faults.LineFault.TheVariants.{TooLong, BadLine, Number}
-use Rattle.lease_proto.specs.Words.{is_name, is_sentence, parts_of, number_of}
+use Rattle.lease_proto.specs.Words.{is_sentence, parts_of, number_of}
+
+-- what the second makes of the first's value, unless the first is refused
+infixl 10 ◌>>=◌
+abbrev pub ◌>>=◌ : {A B : Type 0} → Result A LineFault → (A → Result B LineFault)
+    → Result B LineFault
+(Ok x) >>= f = f x
+(Err e) >>= f = Err e
 
 -- a number from low to high
 abbrev pub between : ℕ → ℕ → Option ℕ → Result ℕ LineFault
@@ -25,6 +34,14 @@ ordinal_in word = between 1 (2 ^ 62) (number_of word)
 abbrev pub quantity_in : List ℕ → Result ℕ LineFault
 quantity_in word = between 0 (2 ^ 62) (number_of word)
 
+-- the id of a request: its client, its incarnation and its number
+unfoldable pub id_in : List ℕ × List ℕ × List ℕ → Result RequestId LineFault
+id_in words = do
+  c ← client_in words.0
+  i ← ordinal_in words.1
+  n ← ordinal_in words.2
+  Ok (record { client = c; incarnation = i; number = n })
+
 -- a name
 abbrev pub name_in : List ℕ → Result (List ℕ) LineFault
 name_in word = if is_name word then Ok word else Err BadLine
@@ -35,15 +52,3 @@ words_of line =
     if nat_lt 255 (length line) then Err TooLong
     else if is_sentence line then Ok (parts_of line)
     else Err BadLine
-
--- what a client is
-abbrev pub IsClient : ℕ → Type 0
-IsClient n = (1 ≤ n) × (n ≤ 65536)
-
--- what an incarnation and the number of a request is
-abbrev pub IsOrdinal : ℕ → Type 0
-IsOrdinal n = (1 ≤ n) × (n ≤ 2 ^ 62)
-
--- what a quantity is
-abbrev pub IsQuantity : ℕ → Type 0
-IsQuantity n = n ≤ 2 ^ 62

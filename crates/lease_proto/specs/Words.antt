@@ -1,20 +1,9 @@
--- Words, numbers and names.
-use Rattle.std.specs.Prelude.{◌≡◌, ◌==◌, ◌&&◌, ◌||◌, ◌↔◌, ◌≤◌, ◌+◌, ◌-◌, ◌*◌, ◌^◌, ℕ, nat_le, Bool, List, [], ◌∷◌, length, if◌then◌else◌, Option, Some, None, decimal, slice_index}
+-- Words and numbers.
+use Rattle.std.specs.Prelude.{◌≡◌, ◌==◌, ◌↔◌, ◌≤◌, ◌+◌, ◌-◌, ◌*◌, ◌^◌, ℕ, nat_le, Bool, List, [], ◌∷◌, if◌then◌else◌, Option, Some, None, decimal}
 use Rattle.std.specs.Char.{is_ascii_digit}
 use denote.Ref.{Bor}
 use Rattle.std.specs.List.{list_all, slice_split}
-
--- a to z
-abbrev pub is_letter : ℕ → Bool
-is_letter b = nat_le 97 b && nat_le b 122
-
--- a letter or a digit
-abbrev pub is_word_byte : ℕ → Bool
-is_word_byte b = is_letter b || is_ascii_digit b
-
--- one or more of the letters and digits
-abbrev pub is_word : List ℕ → Bool
-is_word word = nat_le 1 (length word) && list_all is_word_byte word
+use Rattle.lease_terms.specs.Names.{is_word}
 
 -- the parts between spaces
 abbrev pub parts_of : List ℕ → List (List ℕ)
@@ -23,10 +12,6 @@ parts_of line = slice_split (λ b. b == 32) line
 -- it is words with one space between them
 abbrev pub is_sentence : List ℕ → Bool
 is_sentence line = list_all is_word (parts_of line)
-
--- a name is a word that begins with a letter and has at most 16 characters
-abbrev pub is_name : List ℕ → Bool
-is_name word = is_word word && (is_letter (slice_index word 0) && nat_le (length word) 16)
 
 -- the words that are left, where this much of a line is
 abbrev pub words_left : Option (Bor (List ℕ)) → List (List ℕ)
@@ -46,4 +31,5 @@ number_of (b ∷ c ∷ bs) = if b == 48 then None else digits_from 0 (b ∷ c �
 
 -- a word writes a number just where it is its decimal digits
 abbrev pub NumbersAreDecimal : Type 0
-NumbersAreDecimal = (word : List ℕ) (n : ℕ) → (number_of word ≡ Some n) ↔ ((word ≡ decimal n) × (n ≤ 2 ^ 62))
+NumbersAreDecimal = (word : List ℕ) (n : ℕ)
+    → (number_of word ≡ Some n) ↔ ((word ≡ decimal n) × (n ≤ 2 ^ 62))

@@ -1,16 +1,17 @@
-//! Why a line is refused.
+//! Why a line is refused, and what an `error` line says.
 
 use thiserror::Error;
 
 /// Why a line is refused, by the protocol's word for it. They stand in the order in which they are
-/// looked for, but for a `BadLine` in the words after the first, which comes between `Word` and `Number`.
+/// looked for, but for a `BadLine` in the words after the first, which comes between `Word` and
+/// `Number`.
 #[derive(Clone, Copy, Debug, PartialEq, Eq, Error)]
 pub enum LineFault {
     /// More than 255 bytes before the line feed, or before the end of the input.
     #[error("toolong")]
     TooLong,
-    /// No line feed, no words with one space between them, the wrong number of words, an option that is
-    /// unknown, repeated or out of order, or a word that is no name where a name stands.
+    /// No line feed, no words with one space between them, the wrong number of words, an option that
+    /// is unknown, repeated or out of order, or a word that is no name where a name stands.
     #[error("badline")]
     BadLine,
     /// The first word is none that may stand here.
@@ -22,12 +23,13 @@ pub enum LineFault {
 }
 
 impl LineFault {
-    ghost use Rattle.std.specs.Prelude.{◌≡◌};
+    ghost use Rattle.std.specs.Prelude.{◌≡◌, ◌≤◌, length};
     ghost use Rattle.lease_proto.specs.Faults.{error_line, fault_word};
 
     /// The protocol's word.
     pub fn word(self) -> &'static [u8]
-        ensures { result.now ≡ fault_word self }
+        ensures text { result.now ≡ fault_word self }
+        ensures short { length result.now ≤ 7 }
     {
         match self {
             LineFault::TooLong => b"toolong",
@@ -46,6 +48,71 @@ impl LineFault {
             LineFault::BadLine => b"error badline\n",
             LineFault::Word => b"error word\n",
             LineFault::Number => b"error number\n",
+        }
+    }
+}
+
+/// What an `error` line says.
+#[derive(Clone, Copy, Debug, PartialEq, Eq)]
+pub enum ErrorWord {
+    /// The line was none that may stand there.
+    Line(LineFault),
+    /// Nothing came of an operator's line: out of memory.
+    Memory,
+    /// No arena has the name that an operator's line has.
+    NoArena,
+    /// An operator's line has a size that the arena can't be given.
+    Size,
+}
+
+impl ErrorWord {
+    ghost use Rattle.std.specs.Prelude.{◌≡◌, ◌≤◌, length};
+    ghost use Rattle.lease_proto.specs.Faults.{error_word, error_text, error_in};
+
+    pub(crate) fn read(word: &[u8]) -> Result<Self, LineFault>
+        ensures { result ≡ error_in word.now }
+    {
+        if word == b"toolong".as_slice() {
+            Ok(ErrorWord::Line(LineFault::TooLong))
+        } else if word == b"badline".as_slice() {
+            Ok(ErrorWord::Line(LineFault::BadLine))
+        } else if word == b"word".as_slice() {
+            Ok(ErrorWord::Line(LineFault::Word))
+        } else if word == b"number".as_slice() {
+            Ok(ErrorWord::Line(LineFault::Number))
+        } else if word == b"memory".as_slice() {
+            Ok(ErrorWord::Memory)
+        } else if word == b"noarena".as_slice() {
+            Ok(ErrorWord::NoArena)
+        } else if word == b"size".as_slice() {
+            Ok(ErrorWord::Size)
+        } else {
+            Err(LineFault::BadLine)
+        }
+    }
+
+    /// The protocol's word.
+    pub fn word(self) -> &'static [u8]
+        ensures text { result.now ≡ error_word self }
+        ensures short { length result.now ≤ 7 }
+    {
+        match self {
+            ErrorWord::Line(fault) => fault.word(),
+            ErrorWord::Memory => b"memory",
+            ErrorWord::NoArena => b"noarena",
+            ErrorWord::Size => b"size",
+        }
+    }
+
+    /// The whole line, with its line feed.
+    pub fn line(self) -> &'static [u8]
+        ensures { result.now ≡ error_text self }
+    {
+        match self {
+            ErrorWord::Line(fault) => fault.line(),
+            ErrorWord::Memory => b"error memory\n",
+            ErrorWord::NoArena => b"error noarena\n",
+            ErrorWord::Size => b"error size\n",
         }
     }
 }

@@ -1,31 +1,38 @@
-//! The text protocol of leases: lines out of a stream of bytes, the lines of a client, and the replies
-//! to them. A client names itself, asks for a lease of an arena's units, and releases it.
+//! The text protocol of leases: lines out of a stream of bytes, all lines that there are, and all
+//! answers to them. Its values, as `ClientId`, are of the crate `lease_terms`.
 //!
-//! `LineReader` (framing) cuts a stream into lines, `Line` (lines) and `Reply` (replies) read and write
-//! them, and `words`, `Words`, `name`, `number` and `quantity` (taking, sentences, numbers) read the words
-//! of other lines, as those of a setup. What a line may be is stated in specs/Grammar.antt, and of a reply in specs/Replies.antt.
+//! `LineReader` (framing) cuts a stream into lines. There are three kinds of line: a client's, `Line`
+//! (lines), which is a hello, or a request's id and the `Op` that it asks for; an operator's,
+//! `OperatorLine`; and a setup's, `SetupLine` (setup_lines). `ServedLine` (operators) is what may
+//! come after a setup: one of the first two. An answer is a `Reply` (replies) to a client, or a
+//! report (reports) to an operator, or an `error` line (faults). A client writes lines and reads
+//! replies, a server the other way.
+//!
+//! What bytes a line may be is stated in specs/Grammar.antt, specs/Operators.antt and
+//! specs/SetupLines.antt, of a reply in specs/Replies.antt, and of a report in specs/Reports.antt.
+//! To read a line looks at each of its at most 255 bytes a few times and takes no memory.
 #![tactic(auto)]
 
 mod faults;
 mod framing;
+mod ids;
+mod limits;
 mod lines;
 mod numbers;
+mod operators;
 mod replies;
+mod reports;
 mod sentences;
+mod setup_lines;
 mod taking;
-mod values;
 mod writing;
 
-pub use faults::LineFault;
+pub use faults::{ErrorWord, LineFault};
 pub use framing::{FramedLine, LONGEST_LINE, LineReader, framing_law, line_feed_law};
-pub use lines::{Hello, Lease, LeaseOptions, Line, Release, line_law};
-pub use numbers::{number, number_law, quantity};
-pub use replies::{
-    Again, Granted, Old, OutOfTurn, Refusal, Refused, Released, Reply, Welcome, reply_law,
-};
-pub use sentences::{Words, name};
-pub use taking::words;
-pub use values::{ClientId, LARGEST, LAST_CLIENT, LONGEST_NAME, Name, Ordinal, Quantity};
-
-#[cfg(test)]
-mod tests;
+pub use limits::{MOST_ARENAS, MOST_SPANS};
+pub use lines::{Hello, Lease, LeaseOptions, Line, Op, Release, line_law};
+pub use numbers::number_law;
+pub use operators::{OperatorLine, ServedLine, served_law};
+pub use replies::{Again, Granted, Old, OutOfTurn, Refused, Reply, Welcome, reply_law};
+pub use reports::{AuditLine, ClientLine};
+pub use setup_lines::{ChildLine, PolicyWord, RootLine, SetupLine, SpanLine, is_setup_word};

@@ -1,18 +1,20 @@
 //! The lines of a client.
-ghost use Rattle.std.specs.Prelude.{◌≡◌, ◌++◌, IsOk, OnOk, OnErr, [], ◌∷◌, ◌+◌, ◌≤◌, ℕ, List, vec_len};
+ghost use Rattle.std.specs.Prelude.{◌≡◌, ◌++◌, IsOk, OnOk, OnErr, [], ◌∷◌, ◌+◌, ◌≤◌, ℕ, List, Some, vec_len};
 ghost use Rattle.lease_proto.specs.Frames.{ended};
-ghost use Rattle.lease_proto.specs.Grammar.{line_of, hello_of, lease_of, release_of};
-ghost use Rattle.lease_proto.specs.Texts.{text_of, first_word, hello_words, lease_words, options_words, release_words, spaced, LinesAreTexts, LineIsRead};
+ghost use Rattle.lease_proto.specs.Grammar.{line_of, line_of_first, hello_of, lease_of, release_of};
+ghost use Rattle.lease_proto.specs.Requests.{client_of, incarnation_of, request_of, op_of};
+ghost use Rattle.lease_proto.specs.Texts.{text_of, first_word, op_word, hello_words, lease_words, options_words, release_words, spaced, LinesAreTexts, LineIsRead};
 ghost use Rattle.std.specs.List.{flat_map};
 ghost use Rattle.std.specs.Vec.{vec_capacity};
 
 use crate::faults::LineFault;
 use crate::framing::LONGEST_LINE;
+use crate::ids::IdWords;
 use crate::numbers::{client, ordinal, quantity};
 use crate::sentences::{Words, name};
 use crate::taking::{option, quantity_or_default, words};
-use crate::values::{ClientId, Name, Ordinal, Quantity};
-use crate::writing::{push_name, push_number, push_option, push_text};
+use crate::writing::{push_id, push_name, push_number, push_option, push_text};
+use lease_terms::{ClientId, Name, Ordinal, Quantity, RequestId};
 use std::alloc::AllocError;
 
 /// What a lease asks for beside its size; `none` asks for nothing. Units and numbers of units.
@@ -62,16 +64,16 @@ pub struct Hello {
 
 impl Hello {
     #[tactic(auto, unfolding(crate::specs::Grammar::hello_of))]
-    fn read(words: &mut Words<'_>) -> Result<Self, LineFault>
+    fn read(words: &mut Words<'_>) -> Result<Line, LineFault>
         ensures { result ≡ hello_of words.old }
     {
         let client_word = words.take()?;
         let incarnation = words.take()?;
         words.end()?;
-        Ok(Hello {
+        Ok(Line::Hello(Hello {
             client: client(client_word)?,
             incarnation: ordinal(incarnation)?,
-        })
+        }))
     }
 
     fn push(&self, out: &mut Vec<u8>)
@@ -85,12 +87,9 @@ impl Hello {
     }
 }
 
-/// `lease C I N NAME SIZE` and options: asks for a segment of an arena.
+/// What `lease C I N NAME SIZE` and its options ask for: a segment of an arena.
 #[derive(Clone, Copy, Debug, PartialEq, Eq)]
 pub struct Lease {
-    pub client: ClientId,
-    pub incarnation: Ordinal,
-    pub number: Ordinal,
     pub arena: Name,
     pub size: Quantity,
     pub options: LeaseOptions,
@@ -98,12 +97,10 @@ pub struct Lease {
 
 impl Lease {
     #[tactic(auto, unfolding(crate::specs::Grammar::lease_of))]
-    fn read(words: &mut Words<'_>) -> Result<Self, LineFault>
+    fn read(words: &mut Words<'_>) -> Result<Line, LineFault>
         ensures { result ≡ lease_of words.old }
     {
-        let client_word = words.take()?;
-        let incarnation = words.take()?;
-        let number = words.take()?;
+        let id = IdWords::take(words)?;
         let arena = name(words.take()?)?;
         let size = words.take()?;
         let align = option(words, b"align");
@@ -112,10 +109,8 @@ impl Lease {
         let min = option(words, b"min");
         let max = option(words, b"max");
         words.end()?;
-        Ok(Lease {
-            client: client(client_word)?,
-            incarnation: ordinal(incarnation)?,
-            number: ordinal(number)?,
+        let id = id.read()?;
+        let lease = Lease {
             arena,
             size: quantity(size)?,
             options: LeaseOptions {
@@ -125,103 +120,117 @@ impl Lease {
                 min: quantity_or_default(Quantity::ZERO, min)?,
                 max: quantity_or_default(Quantity::MOST, max)?,
             },
-        })
+        };
+        Ok(Line::Request(id, Op::Lease(lease)))
     }
 
     fn push(&self, out: &mut Vec<u8>)
-        requires { vec_len out.old + 234 ≤ vec_capacity out.old }
+        requires { vec_len out.old + 171 ≤ vec_capacity out.old }
         ensures text { out.new.items ≡ out.old.items ++ spaced (lease_words self.now) }
-        ensures len { vec_len out.new ≤ vec_len out.old + 234 }
+        ensures len { vec_len out.new ≤ vec_len out.old + 171 }
         ensures capacity { vec_capacity out.old ≤ vec_capacity out.new }
     {
-        push_number(out, u64::from(self.client.get()));
-        push_number(out, self.incarnation.get());
-        push_number(out, self.number.get());
         push_name(out, &self.arena);
         push_number(out, self.size.get());
         self.options.push(out);
     }
 }
 
-/// `release C I N NAME BASE`: gives back the lease of that arena and base.
+/// What `release C I N NAME BASE` asks for: to end the lease of that arena and base.
 #[derive(Clone, Copy, Debug, PartialEq, Eq)]
 pub struct Release {
-    pub client: ClientId,
-    pub incarnation: Ordinal,
-    pub number: Ordinal,
     pub arena: Name,
     pub base: Quantity,
 }
 
 impl Release {
     #[tactic(auto, unfolding(crate::specs::Grammar::release_of))]
-    fn read(words: &mut Words<'_>) -> Result<Self, LineFault>
+    fn read(words: &mut Words<'_>) -> Result<Line, LineFault>
         ensures { result ≡ release_of words.old }
     {
-        let client_word = words.take()?;
-        let incarnation = words.take()?;
-        let number = words.take()?;
+        let id = IdWords::take(words)?;
         let arena = name(words.take()?)?;
         let base = words.take()?;
         words.end()?;
-        Ok(Release {
-            client: client(client_word)?,
-            incarnation: ordinal(incarnation)?,
-            number: ordinal(number)?,
+        let id = id.read()?;
+        let release = Release {
             arena,
             base: quantity(base)?,
-        })
+        };
+        Ok(Line::Request(id, Op::Release(release)))
     }
 
     fn push(&self, out: &mut Vec<u8>)
-        requires { vec_len out.old + 101 ≤ vec_capacity out.old }
+        requires { vec_len out.old + 38 ≤ vec_capacity out.old }
         ensures text { out.new.items ≡ out.old.items ++ spaced (release_words self.now) }
-        ensures len { vec_len out.new ≤ vec_len out.old + 101 }
+        ensures len { vec_len out.new ≤ vec_len out.old + 38 }
         ensures capacity { vec_capacity out.old ≤ vec_capacity out.new }
     {
-        push_number(out, u64::from(self.client.get()));
-        push_number(out, self.incarnation.get());
-        push_number(out, self.number.get());
         push_name(out, &self.arena);
         push_number(out, self.base.get());
     }
 }
 
-/// A line of a client.
+/// What a request asks for, without its id.
 #[derive(Clone, Copy, Debug, PartialEq, Eq)]
-pub enum Line {
-    Hello(Hello),
+pub enum Op {
     Lease(Lease),
     Release(Release),
 }
 
+impl Op {
+    fn keyword(&self) -> &'static [u8]
+        ensures { result.now ≡ op_word self.now }
+    {
+        match self {
+            Op::Lease(_) => b"lease",
+            Op::Release(_) => b"release",
+        }
+    }
+}
+
+/// A line of a client: a hello, or a request with its id.
+#[derive(Clone, Copy, Debug, PartialEq, Eq)]
+pub enum Line {
+    Hello(Hello),
+    Request(RequestId, Op),
+}
+
 impl Line {
-    /// The line that these bytes are, or the first reason why they are none. They are given without the
-    /// line feed. It takes no memory.
+    /// The line that these bytes are, or the first reason why they are none. They are given without
+    /// the line feed. It takes no memory.
     #[tactic(auto, unfolding(crate::specs::Grammar::line_of, crate::specs::Grammar::line_of_words))]
     pub fn read(bytes: &[u8]) -> Result<Line, LineFault>
         ensures { result ≡ line_of bytes.now }
     {
         let mut words = words(bytes)?;
-        let Some(first) = words.next() else {
-            return Err(LineFault::Word);
-        };
+        match words.next() {
+            Some(first) => Line::of_words(first, &mut words),
+            None => Err(LineFault::Word),
+        }
+    }
+
+    /// The line of this first word and the words after it.
+    #[tactic(auto, unfolding(crate::specs::Grammar::line_of_first))]
+    pub(crate) fn of_words(first: &[u8], words: &mut Words<'_>) -> Result<Line, LineFault>
+        ensures { result ≡ line_of_first first.now words.old }
+    {
         if first == b"hello".as_slice() {
-            Ok(Line::Hello(Hello::read(&mut words)?))
+            Hello::read(words)
         } else if first == b"lease".as_slice() {
-            Ok(Line::Lease(Lease::read(&mut words)?))
+            Lease::read(words)
         } else if first == b"release".as_slice() {
-            Ok(Line::Release(Release::read(&mut words)?))
+            Release::read(words)
         } else {
             Err(LineFault::Word)
         }
     }
 
-    /// Appends the line and a line feed. An option of no constraint is left out. It fails only for want of
-    /// memory, and never where there is room for `LONGEST_LINE + 1` bytes more.
+    /// Appends the line and a line feed. An option of no constraint is left out. It fails only when
+    /// out of memory, and never where there is room for `LONGEST_LINE + 1` bytes more.
     pub fn write(&self, out: &mut Vec<u8>) -> Result<(), AllocError>
         ensures ok { OnOk result (out.new.items ≡ out.old.items ++ ended (text_of self.now)) }
-        ensures err { OnErr result (out.new.items ≡ out.old.items) }
+        ensures unchanged { OnErr result (out.new.items ≡ out.old.items) }
         ensures succeeds { vec_len out.old + 256 ≤ vec_capacity out.old → IsOk result }
         ensures capacity { vec_capacity out.old ≤ vec_capacity out.new }
     {
@@ -229,8 +238,14 @@ impl Line {
         push_text(out, self.keyword());
         match self {
             Line::Hello(hello) => hello.push(out),
-            Line::Lease(lease) => lease.push(out),
-            Line::Release(release) => release.push(out),
+            Line::Request(id, Op::Lease(lease)) => {
+                push_id(out, *id);
+                lease.push(out);
+            }
+            Line::Request(id, Op::Release(release)) => {
+                push_id(out, *id);
+                release.push(out);
+            }
         }
         push_text(out, b"\n");
         Ok(())
@@ -241,13 +256,53 @@ impl Line {
     {
         match self {
             Line::Hello(_) => b"hello",
-            Line::Lease(_) => b"lease",
-            Line::Release(_) => b"release",
+            Line::Request(_, op) => op.keyword(),
+        }
+    }
+
+    /// The client that sends it.
+    pub fn client(&self) -> ClientId
+        ensures { result ≡ client_of self.now }
+    {
+        match self {
+            Line::Hello(hello) => hello.client,
+            Line::Request(id, _) => id.client,
+        }
+    }
+
+    /// The incarnation of the client that sends it.
+    pub fn incarnation(&self) -> Ordinal
+        ensures { result ≡ incarnation_of self.now }
+    {
+        match self {
+            Line::Hello(hello) => hello.incarnation,
+            Line::Request(id, _) => id.incarnation,
+        }
+    }
+
+    /// The id of a request; a hello has none.
+    pub fn request(&self) -> Option<RequestId>
+        ensures { result ≡ request_of self.now }
+    {
+        match self {
+            Line::Hello(_) => None,
+            Line::Request(id, _) => Some(*id),
+        }
+    }
+
+    /// What a request asks for; a hello asks for nothing.
+    pub fn op(&self) -> Option<Op>
+        ensures { result ≡ op_of self.now }
+    {
+        match self {
+            Line::Hello(_) => None,
+            Line::Request(_, op) => Some(*op),
         }
     }
 }
 
-/// Which bytes are a line: its words with one space between them, and among them what is written of it.
+/// Which bytes are a line: its words with one space between them, and among them what is written of
+/// it.
 pub fn line_law()
     ensures exact { LinesAreTexts }
     ensures written { LineIsRead }

@@ -4,7 +4,7 @@ ghost use Rattle.lease_proto.specs.Words.{number_of, NumbersAreDecimal};
 ghost use Rattle.lease_proto.specs.Values.{number_in, client_in, ordinal_in, quantity_in};
 
 use crate::faults::LineFault;
-use crate::values::{ClientId, LARGEST, Ordinal, Quantity};
+use lease_terms::{ClientId, LARGEST, Ordinal, Quantity};
 
 /// The number that a word writes, 0 to 2^62, or `Number` where it writes none.
 pub fn number(word: &[u8]) -> Result<u64, LineFault>
@@ -48,8 +48,8 @@ pub fn client(word: &[u8]) -> Result<ClientId, LineFault>
     }
 }
 
-/// The incarnation, or the number of a request, that a word writes: 1 to 2^62, or `Number` where it writes
-/// none.
+/// The incarnation, or the number of a request, that a word writes: 1 to 2^62, or `Number` where it
+/// writes none.
 pub fn ordinal(word: &[u8]) -> Result<Ordinal, LineFault>
     ensures { result ≡ ordinal_in word.now }
 {

@@ -1,65 +1,51 @@
 //! The replies to a client's lines.
 ghost use Rattle.std.specs.Prelude.{◌≡◌, ◌++◌, IsOk, OnOk, OnErr, ◌∷◌, ◌+◌, ◌≤◌, ℕ, List, vec_len, length};
 ghost use Rattle.lease_proto.specs.Frames.{ended};
-ghost use Rattle.lease_proto.specs.Replies.{reply_of, reply_text, first_reply_word, welcome_of, granted_of, released_of, refused_of, old_of, out_of_turn_of, again_of, error_of, welcome_words, granted_words, released_words, refused_words, old_words, out_of_turn_words, again_words, refusal_in, refusal_word, fault_in, RepliesAreTexts};
+ghost use Rattle.lease_proto.specs.Replies.{reply_of, reply_text, first_reply_word, welcome_of, granted_of, released_of, refused_of, old_of, out_of_turn_of, again_of, error_of, welcome_words, granted_words, refused_words, old_words, out_of_turn_words, again_words, refusal_in, refusal_word, RepliesAreTexts};
+ghost use Rattle.lease_proto.specs.Requests.{client_named, incarnation_named, request_named, again_request};
 ghost use Rattle.std.specs.Vec.{vec_capacity};
 ghost use Rattle.lease_proto.specs.Texts.{spaced};
 
-use crate::faults::LineFault;
+use crate::faults::{ErrorWord, LineFault};
 use crate::framing::LONGEST_LINE;
+use crate::ids::IdWords;
 use crate::numbers::{client, ordinal, quantity};
 use crate::sentences::{Words, name};
 use crate::taking::words;
-use crate::values::{ClientId, Name, Ordinal, Quantity};
-use crate::writing::{push_name, push_number, push_text, push_word};
+use crate::writing::{push_id, push_name, push_number, push_text, push_word};
+use lease_terms::{ClientId, Name, Ordinal, Quantity, Refusal, RequestId};
 use std::alloc::AllocError;
 
-/// Why a request is refused, once and for all.
-#[derive(Clone, Copy, Debug, PartialEq, Eq)]
-pub enum Refusal {
-    /// No free segment of the arena meets the request.
-    NoFit,
-    /// The size and the options contradict each other or the arena's quantum.
-    BadRequest,
-    /// No arena has this name.
-    NoArena,
-    /// The client's incarnation has no lease of this arena and base.
-    NotYours,
-    /// The client has as many leases as one may have.
-    Leases,
+/// The refusal that a word is: `BadLine` where it is none.
+fn refusal(word: &[u8]) -> Result<Refusal, LineFault>
+    ensures { result ≡ refusal_in word.now }
+{
+    if word == b"nofit".as_slice() {
+        Ok(Refusal::NoFit)
+    } else if word == b"badrequest".as_slice() {
+        Ok(Refusal::BadRequest)
+    } else if word == b"noarena".as_slice() {
+        Ok(Refusal::NoArena)
+    } else if word == b"notyours".as_slice() {
+        Ok(Refusal::NotYours)
+    } else if word == b"leases".as_slice() {
+        Ok(Refusal::Leases)
+    } else {
+        Err(LineFault::BadLine)
+    }
 }
 
-impl Refusal {
-    fn read(word: &[u8]) -> Result<Self, LineFault>
-        ensures { result ≡ refusal_in word.now }
-    {
-        if word == b"nofit".as_slice() {
-            Ok(Refusal::NoFit)
-        } else if word == b"badrequest".as_slice() {
-            Ok(Refusal::BadRequest)
-        } else if word == b"noarena".as_slice() {
-            Ok(Refusal::NoArena)
-        } else if word == b"notyours".as_slice() {
-            Ok(Refusal::NotYours)
-        } else if word == b"leases".as_slice() {
-            Ok(Refusal::Leases)
-        } else {
-            Err(LineFault::BadLine)
-        }
-    }
-
-    /// The protocol's word.
-    pub fn word(self) -> &'static [u8]
-        ensures text { result.now ≡ refusal_word self }
-        ensures short { length result.now ≤ 10 }
-    {
-        match self {
-            Refusal::NoFit => b"nofit",
-            Refusal::BadRequest => b"badrequest",
-            Refusal::NoArena => b"noarena",
-            Refusal::NotYours => b"notyours",
-            Refusal::Leases => b"leases",
-        }
+/// The protocol's word for a refusal.
+fn word_of(refusal: Refusal) -> &'static [u8]
+    ensures text { result.now ≡ refusal_word refusal }
+    ensures short { length result.now ≤ 10 }
+{
+    match refusal {
+        Refusal::NoFit => b"nofit",
+        Refusal::BadRequest => b"badrequest",
+        Refusal::NoArena => b"noarena",
+        Refusal::NotYours => b"notyours",
+        Refusal::Leases => b"leases",
     }
 }
 
@@ -98,9 +84,7 @@ impl Welcome {
 /// `granted C I N NAME BASE LEN`: `len` units from `base` on are leased.
 #[derive(Clone, Copy, Debug, PartialEq, Eq)]
 pub struct Granted {
-    pub client: ClientId,
-    pub incarnation: Ordinal,
-    pub number: Ordinal,
+    pub id: RequestId,
     pub arena: Name,
     pub base: Quantity,
     pub len: Quantity,
@@ -111,17 +95,13 @@ impl Granted {
     fn read(words: &mut Words<'_>) -> Result<Self, LineFault>
         ensures { result ≡ granted_of words.old }
     {
-        let client_word = words.take()?;
-        let incarnation = words.take()?;
-        let number = words.take()?;
+        let id = IdWords::take(words)?;
         let arena = name(words.take()?)?;
         let base = words.take()?;
         let len = words.take()?;
         words.end()?;
         Ok(Granted {
-            client: client(client_word)?,
-            incarnation: ordinal(incarnation)?,
-            number: ordinal(number)?,
+            id: id.read()?,
             arena,
             base: quantity(base)?,
             len: quantity(len)?,
@@ -134,57 +114,17 @@ impl Granted {
         ensures len { vec_len out.new ≤ vec_len out.old + 122 }
         ensures capacity { vec_capacity out.old ≤ vec_capacity out.new }
     {
-        push_number(out, u64::from(self.client.get()));
-        push_number(out, self.incarnation.get());
-        push_number(out, self.number.get());
+        push_id(out, self.id);
         push_name(out, &self.arena);
         push_number(out, self.base.get());
         push_number(out, self.len.get());
     }
 }
 
-/// `released C I N`: the lease has ended.
-#[derive(Clone, Copy, Debug, PartialEq, Eq)]
-pub struct Released {
-    pub client: ClientId,
-    pub incarnation: Ordinal,
-    pub number: Ordinal,
-}
-
-impl Released {
-    #[tactic(auto, unfolding(crate::specs::Replies::released_of))]
-    fn read(words: &mut Words<'_>) -> Result<Self, LineFault>
-        ensures { result ≡ released_of words.old }
-    {
-        let client_word = words.take()?;
-        let incarnation = words.take()?;
-        let number = words.take()?;
-        words.end()?;
-        Ok(Released {
-            client: client(client_word)?,
-            incarnation: ordinal(incarnation)?,
-            number: ordinal(number)?,
-        })
-    }
-
-    fn push(&self, out: &mut Vec<u8>)
-        requires { vec_len out.old + 63 ≤ vec_capacity out.old }
-        ensures text { out.new.items ≡ out.old.items ++ spaced (released_words self.now) }
-        ensures len { vec_len out.new ≤ vec_len out.old + 63 }
-        ensures capacity { vec_capacity out.old ≤ vec_capacity out.new }
-    {
-        push_number(out, u64::from(self.client.get()));
-        push_number(out, self.incarnation.get());
-        push_number(out, self.number.get());
-    }
-}
-
 /// `refused C I N WORD`, with the refusal's word.
 #[derive(Clone, Copy, Debug, PartialEq, Eq)]
 pub struct Refused {
-    pub client: ClientId,
-    pub incarnation: Ordinal,
-    pub number: Ordinal,
+    pub id: RequestId,
     pub refusal: Refusal,
 }
 
@@ -193,15 +133,11 @@ impl Refused {
     fn read(words: &mut Words<'_>) -> Result<Self, LineFault>
         ensures { result ≡ refused_of words.old }
     {
-        let client_word = words.take()?;
-        let incarnation = words.take()?;
-        let number = words.take()?;
-        let refusal = Refusal::read(words.take()?)?;
+        let id = IdWords::take(words)?;
+        let refusal = refusal(words.take()?)?;
         words.end()?;
         Ok(Refused {
-            client: client(client_word)?,
-            incarnation: ordinal(incarnation)?,
-            number: ordinal(number)?,
+            id: id.read()?,
             refusal,
         })
     }
@@ -212,10 +148,8 @@ impl Refused {
         ensures len { vec_len out.new ≤ vec_len out.old + 74 }
         ensures capacity { vec_capacity out.old ≤ vec_capacity out.new }
     {
-        push_number(out, u64::from(self.client.get()));
-        push_number(out, self.incarnation.get());
-        push_number(out, self.number.get());
-        push_word(out, self.refusal.word());
+        push_id(out, self.id);
+        push_word(out, word_of(self.refusal));
     }
 }
 
@@ -251,13 +185,11 @@ impl Old {
     }
 }
 
-/// The number isn't the one after the last, nor the last: it is below it (`stale C I N V`) or above the
-/// next one (`gap C I N V`). V is the last number, or 0 before the first.
+/// The number isn't the one after the last, nor the last: it is below it (`stale C I N V`) or above
+/// the next one (`gap C I N V`). V is the last number, or 0 before the first.
 #[derive(Clone, Copy, Debug, PartialEq, Eq)]
 pub struct OutOfTurn {
-    pub client: ClientId,
-    pub incarnation: Ordinal,
-    pub number: Ordinal,
+    pub id: RequestId,
     pub last: Quantity,
 }
 
@@ -266,15 +198,11 @@ impl OutOfTurn {
     fn read(words: &mut Words<'_>) -> Result<Self, LineFault>
         ensures { result ≡ out_of_turn_of words.old }
     {
-        let client_word = words.take()?;
-        let incarnation = words.take()?;
-        let number = words.take()?;
+        let id = IdWords::take(words)?;
         let last = words.take()?;
         words.end()?;
         Ok(OutOfTurn {
-            client: client(client_word)?,
-            incarnation: ordinal(incarnation)?,
-            number: ordinal(number)?,
+            id: id.read()?,
             last: quantity(last)?,
         })
     }
@@ -285,14 +213,12 @@ impl OutOfTurn {
         ensures len { vec_len out.new ≤ vec_len out.old + 84 }
         ensures capacity { vec_capacity out.old ≤ vec_capacity out.new }
     {
-        push_number(out, u64::from(self.client.get()));
-        push_number(out, self.incarnation.get());
-        push_number(out, self.number.get());
+        push_id(out, self.id);
         push_number(out, self.last.get());
     }
 }
 
-/// `again C I N`: nothing came of the line for want of memory. N is 0 for a hello.
+/// `again C I N`: nothing came of the line, out of memory. N is 0 for a hello.
 #[derive(Clone, Copy, Debug, PartialEq, Eq)]
 pub struct Again {
     pub client: ClientId,
@@ -328,24 +254,39 @@ impl Again {
     }
 }
 
+impl Again {
+    /// The request that it answers; none where that was a hello.
+    fn request(&self) -> Option<RequestId>
+        ensures { result ≡ again_request self.now }
+    {
+        let number = Ordinal::new(self.number.get())?;
+        Some(RequestId {
+            client: self.client,
+            incarnation: self.incarnation,
+            number,
+        })
+    }
+}
+
 /// A reply.
 #[derive(Clone, Copy, Debug, PartialEq, Eq)]
 pub enum Reply {
     Welcome(Welcome),
     Granted(Granted),
-    Released(Released),
+    /// `released C I N`: the lease has ended.
+    Released(RequestId),
     Refused(Refused),
     Old(Old),
     Stale(OutOfTurn),
     Gap(OutOfTurn),
     Again(Again),
-    /// `error WORD`: the line was none that may stand there.
-    Error(LineFault),
+    /// `error WORD`: the line was none that may stand there, or an operator's that failed.
+    Error(ErrorWord),
 }
 
 impl Reply {
-    /// The reply that these bytes are, or the first reason why they are none, in the order of a line's
-    /// reasons. They are given without the line feed. It takes no memory.
+    /// The reply that these bytes are, or the first reason why they are none, in the order of a
+    /// line's reasons. They are given without the line feed. It takes no memory.
     #[tactic(auto, unfolding(crate::specs::Replies::reply_of, crate::specs::Replies::reply_of_words))]
     pub fn read(bytes: &[u8]) -> Result<Reply, LineFault>
         ensures { result ≡ reply_of bytes.now }
@@ -359,7 +300,7 @@ impl Reply {
         } else if first == b"granted".as_slice() {
             Ok(Reply::Granted(Granted::read(&mut words)?))
         } else if first == b"released".as_slice() {
-            Ok(Reply::Released(Released::read(&mut words)?))
+            Ok(Reply::Released(released(&mut words)?))
         } else if first == b"refused".as_slice() {
             Ok(Reply::Refused(Refused::read(&mut words)?))
         } else if first == b"old".as_slice() {
@@ -377,11 +318,11 @@ impl Reply {
         }
     }
 
-    /// Appends the reply and a line feed. It fails only for want of memory, and never where there is room for
-    /// `LONGEST_LINE + 1` bytes more.
+    /// Appends the reply and a line feed. It fails only when out of memory, and never where there
+    /// is room for `LONGEST_LINE + 1` bytes more.
     pub fn write(&self, out: &mut Vec<u8>) -> Result<(), AllocError>
         ensures ok { OnOk result (out.new.items ≡ out.old.items ++ ended (reply_text self.now)) }
-        ensures err { OnErr result (out.new.items ≡ out.old.items) }
+        ensures unchanged { OnErr result (out.new.items ≡ out.old.items) }
         ensures succeeds { vec_len out.old + 256 ≤ vec_capacity out.old → IsOk result }
         ensures capacity { vec_capacity out.old ≤ vec_capacity out.new }
     {
@@ -390,13 +331,13 @@ impl Reply {
         match self {
             Reply::Welcome(welcome) => welcome.push(out),
             Reply::Granted(granted) => granted.push(out),
-            Reply::Released(released) => released.push(out),
+            Reply::Released(id) => push_id(out, *id),
             Reply::Refused(refused) => refused.push(out),
             Reply::Old(old) => old.push(out),
             Reply::Stale(stale) => stale.push(out),
             Reply::Gap(gap) => gap.push(out),
             Reply::Again(again) => again.push(out),
-            Reply::Error(fault) => push_word(out, fault.word()),
+            Reply::Error(error) => push_word(out, error.word()),
         }
         push_text(out, b"\n");
         Ok(())
@@ -417,31 +358,70 @@ impl Reply {
             Reply::Error(_) => b"error",
         }
     }
+
+    /// The client that it names; an `error` names none.
+    pub fn client(&self) -> Option<ClientId>
+        ensures { result ≡ client_named self.now }
+    {
+        match self {
+            Reply::Welcome(welcome) => Some(welcome.client),
+            Reply::Granted(granted) => Some(granted.id.client),
+            Reply::Released(id) => Some(id.client),
+            Reply::Refused(refused) => Some(refused.id.client),
+            Reply::Old(old) => Some(old.client),
+            Reply::Stale(turn) | Reply::Gap(turn) => Some(turn.id.client),
+            Reply::Again(again) => Some(again.client),
+            Reply::Error(_) => None,
+        }
+    }
+
+    /// The incarnation of the line that it answers; an `old` or `error` names none.
+    pub fn incarnation(&self) -> Option<Ordinal>
+        ensures { result ≡ incarnation_named self.now }
+    {
+        match self {
+            Reply::Welcome(welcome) => Some(welcome.incarnation),
+            Reply::Again(again) => Some(again.incarnation),
+            Reply::Granted(granted) => Some(granted.id.incarnation),
+            Reply::Released(id) => Some(id.incarnation),
+            Reply::Refused(refused) => Some(refused.id.incarnation),
+            Reply::Stale(turn) | Reply::Gap(turn) => Some(turn.id.incarnation),
+            Reply::Old(_) | Reply::Error(_) => None,
+        }
+    }
+
+    /// The id of the request that it answers; a reply to a hello, an `old` and an `error` have
+    /// none.
+    pub fn request(&self) -> Option<RequestId>
+        ensures { result ≡ request_named self.now }
+    {
+        match self {
+            Reply::Granted(granted) => Some(granted.id),
+            Reply::Released(id) => Some(*id),
+            Reply::Refused(refused) => Some(refused.id),
+            Reply::Stale(turn) | Reply::Gap(turn) => Some(turn.id),
+            Reply::Again(again) => again.request(),
+            Reply::Welcome(_) | Reply::Old(_) | Reply::Error(_) => None,
+        }
+    }
+}
+
+#[tactic(auto, unfolding(crate::specs::Replies::released_of))]
+fn released(words: &mut Words<'_>) -> Result<RequestId, LineFault>
+    ensures { result ≡ released_of words.old }
+{
+    let id = IdWords::take(words)?;
+    words.end()?;
+    id.read()
 }
 
 #[tactic(auto, unfolding(crate::specs::Replies::error_of))]
-fn error(words: &mut Words<'_>) -> Result<LineFault, LineFault>
+fn error(words: &mut Words<'_>) -> Result<ErrorWord, LineFault>
     ensures { result ≡ error_of words.old }
 {
-    let fault = fault(words.take()?)?;
+    let error = ErrorWord::read(words.take()?)?;
     words.end()?;
-    Ok(fault)
-}
-
-fn fault(word: &[u8]) -> Result<LineFault, LineFault>
-    ensures { result ≡ fault_in word.now }
-{
-    if word == b"toolong".as_slice() {
-        Ok(LineFault::TooLong)
-    } else if word == b"badline".as_slice() {
-        Ok(LineFault::BadLine)
-    } else if word == b"word".as_slice() {
-        Ok(LineFault::Word)
-    } else if word == b"number".as_slice() {
-        Ok(LineFault::Number)
-    } else {
-        Err(LineFault::BadLine)
-    }
+    Ok(error)
 }
 
 /// What is written of a reply is read as the same reply, and nothing else is.

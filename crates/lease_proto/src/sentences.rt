@@ -6,39 +6,9 @@ ghost use Rattle.lease_proto.specs.Words.{words_left, parts_of};
 ghost use Rattle.lease_proto.specs.Words as spec;
 
 use crate::faults::LineFault;
-use crate::values::{LONGEST_NAME, Name};
+use lease_terms::{Name, is_word};
 use memchr::memchr;
 use std::marker::Model;
-
-fn is_letter(byte: u8) -> bool
-    ensures { result ≡ spec.is_letter byte }
-{
-    byte.is_ascii_lowercase()
-}
-
-fn is_word_byte(byte: u8) -> bool
-    ensures { result ≡ spec.is_word_byte byte }
-{
-    is_letter(byte) || byte.is_ascii_digit()
-}
-
-fn is_word(word: &[u8]) -> bool
-    ensures { result ≡ spec.is_word word.now }
-{
-    for byte in word {
-        if !is_word_byte(*byte) {
-            return false;
-        }
-    }
-    !word.is_empty()
-}
-
-/// Whether these bytes are a name.
-pub fn is_name(word: &[u8]) -> bool
-    ensures { result ≡ spec.is_name word.now }
-{
-    is_word(word) && is_letter(word[0]) && word.len() <= LONGEST_NAME
-}
 
 /// The name that a word is, or `BadLine` where it is none.
 pub fn name(word: &[u8]) -> Result<Name, LineFault>
@@ -79,7 +49,9 @@ impl<'a> Words<'a> {
 
     /// The next word.
     pub fn next(&mut self) -> Option<&'a [u8]>
-        ensures { MatchOption result ((self.old ≡ []) × (self.new ≡ [])) (λ word. self.old ≡ word.now ∷ self.new) }
+        ensures { MatchOption result
+            ((self.old ≡ []) × (self.new ≡ []))
+            (λ word. self.old ≡ word.now ∷ self.new) }
     {
         let rest = self.rest?;
         match memchr(b' ', rest) {

@@ -2,10 +2,10 @@
 ghost use Rattle.std.specs.Prelude.{◌≡◌, ◌≤◌, ◌+◌, ◌∷◌, ◌++◌, length, decimal, vec_len};
 ghost use Rattle.std.specs.List.{flat_map};
 ghost use Rattle.std.specs.Vec.{vec_capacity};
-ghost use Rattle.lease_proto.specs.Texts.{option_words};
+ghost use Rattle.lease_proto.specs.Texts.{option_words, id_words, spaced};
 
-use crate::values::{Name, Quantity};
 use itoa::Buffer;
+use lease_terms::{Name, Quantity, RequestId};
 
 /// Text, as it is.
 pub fn push_text(out: &mut Vec<u8>, text: &[u8])
@@ -52,10 +52,23 @@ pub fn push_number(out: &mut Vec<u8>, number: u64)
     push_word(out, buffer.format(number).as_bytes());
 }
 
+/// A request's id: a space and a number, three times.
+pub fn push_id(out: &mut Vec<u8>, id: RequestId)
+    requires { vec_len out.old + 63 ≤ vec_capacity out.old }
+    ensures text { out.new.items ≡ out.old.items ++ spaced (id_words id) }
+    ensures len { vec_len out.new ≤ vec_len out.old + 63 }
+    ensures capacity { vec_capacity out.old ≤ vec_capacity out.new }
+{
+    push_number(out, u64::from(id.client.get()));
+    push_number(out, id.incarnation.get());
+    push_number(out, id.number.get());
+}
+
 /// An option, which is left out at the value of no constraint.
 pub fn push_option(out: &mut Vec<u8>, key: &[u8], default: Quantity, value: Quantity)
     requires { vec_len out.old + (length key.now + 22) ≤ vec_capacity out.old }
-    ensures text { out.new.items ≡ out.old.items ++ flat_map (λ word. 32 ∷ word) (option_words key.now default value) }
+    ensures text { out.new.items
+        ≡ out.old.items ++ flat_map (λ word. 32 ∷ word) (option_words key.now default value) }
     ensures len { vec_len out.new ≤ vec_len out.old + (length key.now + 22) }
     ensures capacity { vec_capacity out.old ≤ vec_capacity out.new }
 {

@@ -5,13 +5,13 @@ use Rattle.lease_desk.proofs.returns.end_leases.Goals as goal
 
 pub put_back-requires-clause-out : goal.put_back-requires-clause-out
 put_back-requires-clause-out c =
-    lease_out c.loop-segment.spaces.items c.loop-segment.book c.take_lease.new.self c.in-Some.segment c.loop-segment.invariant c.in-Some.ensures.taken.ended.leases
+    lease_out c.loop-segment.spaces.items c.loop-segment.book c.take_lease.new.self c.in-Some.segment c.loop-segment.invariant c.in-Some.ensures.taken.leases
 
 pub loop-segment-preserved : goal.loop-segment-preserved
 loop-segment-preserved c =
     steady_back c.loop-segment.spaces.items c.put_back.new.spaces.items c.loop-segment.book c.take_lease.new.self
-    (Swept c.in-Some.ensures.taken.client c.in-Some.ensures.taken.incarnation c.in-Some.segment.arena c.in-Some.segment.holding.range.base) c.in-Some.segment
-    c.loop-segment.invariant c.in-Some.ensures.taken.ended.leases c.in-Some.ensures.taken.ended.entry tt c.put_back.ensures.sound c.put_back.ensures.back
+    (Swept c.in-Some.field-0-0.client c.in-Some.field-0-0.incarnation c.in-Some.segment.arena c.in-Some.segment.holding.range.base) c.in-Some.segment
+    c.loop-segment.invariant c.in-Some.ensures.taken.leases c.in-Some.ensures.taken.entry tt c.put_back.ensures.sound c.put_back.ensures.back
 
 pub returns-clause-unallocated : goal.returns-clause-unallocated
 returns-clause-unallocated c =

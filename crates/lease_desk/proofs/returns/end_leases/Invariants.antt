@@ -1,5 +1,5 @@
 use Rattle.std.specs.Prelude.{sum_by}
-use Rattle.lease_book.specs.Ledger.{leased}
+use Rattle.lease_book.specs.BookState.{leased}
 use Rattle.lease_desk.specs.Spaces.{IsSteady}
 use Rattle.lease_desk.proofs.returns.end_leases.Given as goal
 

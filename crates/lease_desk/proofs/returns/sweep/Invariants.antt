@@ -1,6 +1,6 @@
 use Rattle.std.proofs.Common.{◌≡◌}
 use Rattle.std.specs.Prelude.{sum_by}
-use Rattle.lease_book.specs.Ledger.{account_in, leased}
+use Rattle.lease_book.specs.BookState.{account_in, leased}
 use Rattle.lease_desk.specs.Spaces.{desk_of, IsSteady}
 use Rattle.lease_desk.specs.Sweeps.{Sweeps}
 use Rattle.lease_desk.proofs.returns.sweep.Given as goal

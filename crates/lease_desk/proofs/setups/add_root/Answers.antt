@@ -3,7 +3,7 @@ use Rattle.std.proofs.lemmas.List.{length-map}
 use Rattle.lease_desk.specs.declared.spaces.Space.{Space}
 use Rattle.lease_desk.specs.Setup.{CanAdd}
 use Rattle.lease_desk.specs.Roots.{asked, space_of}
-use Rattle.lease_desk.specs.Spaces.{picture_of, pictures}
+use Rattle.lease_desk.specs.Spaces.{state_of, states_of}
 use Rattle.lease_desk.proofs.SetupLemmas.{held_by, added_sound, added_arena}
 use Rattle.lease_desk.proofs.setups.add_root.Goals as goal
 
@@ -16,12 +16,12 @@ returns-clause-sound c =
 pub returns-clause-added : goal.returns-clause-added
 returns-clause-added c =
     let items : c.push_reserved.new.self.items ≡ c.args.spaces.now.items ++ c.in_ok-space.space ∷ [] = c.push_reserved.ensures.items ∙ ap (λ (xs : List Space). xs ++ c.in_ok-space.space ∷ []) c.reserve.ensures.items in
-    let can : CanAdd (pictures c.args.spaces.now.items) (asked c.args.root.now) = subst (λ (xs : List Space). CanAdd (pictures xs) (asked c.args.root.now)) c.deref.ensures.value c.in_ok-range.ensures.can in
+    let can : CanAdd (states_of c.args.spaces.now.items) (asked c.args.root.now) = subst (λ (xs : List Space). CanAdd (states_of xs) (asked c.args.root.now)) c.deref.ensures.value c.in_ok-range.ensures.can in
     let id : c.len-id.result ≡ length c.args.spaces.now.items = omega (arith, c.len-id.ensures, c.reserve.ensures.len, ap length c.reserve.ensures.items) in
     added_arena c.args.spaces.now.items c.push_reserved.new.self.items c.len-id.result (asked c.args.root.now) c.in_ok-range.range c.in_ok-space.space can c.in_ok-range.ensures.value items id
     (c.in_ok-space.ensures.made ∙ ap (λ n. space_of c.len-id.result (asked c.args.root.now) (held_by n c.in_ok-range.range)) c.root_number-number.ensures)
 
 pub root_number-number-requires-clause-place : goal.root_number-number-requires-clause-place
 root_number-number-requires-clause-place c =
-    let can : CanAdd (pictures c.args.spaces.now.items) (asked c.args.root.now) = subst (λ (xs : List Space). CanAdd (pictures xs) (asked c.args.root.now)) c.deref.ensures.value c.in_ok-range.ensures.can in
-    (let room = can.room.1 in omega (arith, room, c.len-id.ensures, c.reserve.ensures.len, ap length c.reserve.ensures.items, length-map c.args.spaces.now.items picture_of))
+    let can : CanAdd (states_of c.args.spaces.now.items) (asked c.args.root.now) = subst (λ (xs : List Space). CanAdd (states_of xs) (asked c.args.root.now)) c.deref.ensures.value c.in_ok-range.ensures.can in
+    (let room = can.room.1 in omega (arith, room, c.len-id.ensures, c.reserve.ensures.len, ap length c.reserve.ensures.items, length-map c.args.spaces.now.items state_of))

@@ -4,7 +4,7 @@ use Rattle.lease_desk.specs.declared.spaces.Space.{Space}
 use Rattle.deed_core.specs.Extent.{Extent}
 use Rattle.lease_desk.specs.Machine.{place_in}
 use Rattle.lease_desk.specs.Setup.{RefusesMore, RefusesSpan}
-use Rattle.lease_desk.specs.Spaces.{picture_of, pictures, IsSpace, AreSpaces}
+use Rattle.lease_desk.specs.Spaces.{state_of, states_of, IsSpace, AreSpaces}
 use Rattle.lease_desk.proofs.PlaceLemmas.{slice_get_here, slice_get_mapped}
 use Rattle.lease_desk.proofs.SpaceLemmas.{spaces_after}
 use Rattle.lease_desk.proofs.SetupLemmas.{adds_span}
@@ -29,8 +29,8 @@ pub returns-clause-added : goal.returns-clause-added
 returns-clause-added c =
     let within : c.in-Some.place < length c.args.spaces.now.items = subst (λ (xs : List Space). c.in-Some.place < length xs) c.deref.ensures.value c.in-Some.ensures.within in
     let here : slice_get c.args.spaces.now.items c.in-Some.place ≡ Some c.index_mut.result.now = slice_get_here c.args.spaces.now.items c.in-Some.place c.index_mut.result.now within c.index_mut.ensures.value in
-    let first : place_in c.args.name.now (pictures c.args.spaces.now.items) ≡ Some c.in-Some.place = sym (ap (λ (xs : List Space). place_in c.args.name.now (pictures xs)) c.deref.ensures.value) ∙ sym c.in-Some.ensures.place in
-    let at = slice_get_mapped picture_of c.args.spaces.now.items c.in-Some.place c.index_mut.result.now here in
+    let first : place_in c.args.name.now (states_of c.args.spaces.now.items) ≡ Some c.in-Some.place = sym (ap (λ (xs : List Space). place_in c.args.name.now (states_of xs)) c.deref.ensures.value) ∙ sym c.in-Some.ensures.place in
+    let at = slice_get_mapped state_of c.args.spaces.now.items c.in-Some.place c.index_mut.result.now here in
     adds_span c.extend.result c.args.name.now (record { base = c.args.base; len = c.args.len }) c.args.spaces.now.items c.in-Some.place c.index_mut.result.now c.extend.new.space
     (record { first = first; here = at }) c.extend.ensures.can c.extend.ensures.added
 
@@ -38,8 +38,8 @@ pub returns-clause-refused : goal.returns-clause-refused
 returns-clause-refused c =
     let within : c.in-Some.place < length c.args.spaces.now.items = subst (λ (xs : List Space). c.in-Some.place < length xs) c.deref.ensures.value c.in-Some.ensures.within in
     let here : slice_get c.args.spaces.now.items c.in-Some.place ≡ Some c.index_mut.result.now = slice_get_here c.args.spaces.now.items c.in-Some.place c.index_mut.result.now within c.index_mut.ensures.value in
-    let first : place_in c.args.name.now (pictures c.args.spaces.now.items) ≡ Some c.in-Some.place = sym (ap (λ (xs : List Space). place_in c.args.name.now (pictures xs)) c.deref.ensures.value) ∙ sym c.in-Some.ensures.place in
-    let at = slice_get_mapped picture_of c.args.spaces.now.items c.in-Some.place c.index_mut.result.now here in
+    let first : place_in c.args.name.now (states_of c.args.spaces.now.items) ≡ Some c.in-Some.place = sym (ap (λ (xs : List Space). place_in c.args.name.now (states_of xs)) c.deref.ensures.value) ∙ sym c.in-Some.ensures.place in
+    let at = slice_get_mapped state_of c.args.spaces.now.items c.in-Some.place c.index_mut.result.now here in
     let e : Extent = record { base = c.args.base; len = c.args.len } in
-    if_err c.extend.result (λ f. RefusesMore (picture_of c.index_mut.result.now) e f) (λ f. RefusesSpan (pictures c.args.spaces.now.items) c.args.name.now e f)
-    (λ f is. inr (c.in-Some.place, picture_of c.index_mut.result.now, record { first = first; here = at }, is)) c.extend.ensures.refused
+    if_err c.extend.result (λ f. RefusesMore (state_of c.index_mut.result.now) e f) (λ f. RefusesSpan (states_of c.args.spaces.now.items) c.args.name.now e f)
+    (λ f is. inr (c.in-Some.place, state_of c.index_mut.result.now, record { first = first; here = at }, is)) c.extend.ensures.refused

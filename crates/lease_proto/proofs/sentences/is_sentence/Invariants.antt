@@ -1,6 +1,7 @@
 use Rattle.std.proofs.Common.{◌≡◌, length}
 use Rattle.std.specs.List.{list_all}
-use Rattle.lease_proto.specs.Words.{is_word, is_sentence}
+use Rattle.lease_terms.specs.Names.{is_word}
+use Rattle.lease_proto.specs.Words.{is_sentence}
 use Rattle.lease_proto.proofs.sentences.is_sentence.Given as goal
 
 abbrev pub invariant-loop-word : goal.invariant-loop-word

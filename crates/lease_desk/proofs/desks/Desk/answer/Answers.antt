@@ -1,35 +1,36 @@
-use Rattle.std.proofs.Common.{◌≡◌, ◌∙◌, ap, subst, List, ◌++◌, ℕ}
-use Rattle.lease_proto.specs.Frames.{ended}
-use Rattle.lease_proto.specs.Replies.{reply_text}
-use Rattle.lease_desk.specs.Picture.{IsOrderly}
-use Rattle.lease_desk.specs.Machine.{IsRefusalText, LeaseStep}
-use Rattle.lease_desk.proofs.StepLemmas.{on_ok, on_err, never_err, served_step, refused_step}
+use Rattle.std.proofs.Common.{◌≡◌, ◌∙◌, ap, sym, subst, List, ◌++◌, ℕ}
+use Rattle.lease_proto.specs.Faults.{error_line}
+use Rattle.lease_desk.specs.DeskState.{IsOrderly}
+use Rattle.lease_desk.specs.Machine.{ServedStep, LeaseStep}
+use Rattle.lease_desk.proofs.StepLemmas.{appended, left_alone, on_ok, on_err, served_step, refused_step}
 use Rattle.lease_desk.proofs.OrderLemmas.{orderly}
 use Rattle.lease_desk.proofs.desks.Desk.answer.Goals as goal
 
 pub returns-in-Ok-clause-ok : goal.returns-in-Ok-clause-ok
-returns-in-Ok-clause-ok c = on_ok c.write.result (c.write.new.out.items ≡ c.reserve.new.self.items ++ ended (reply_text c.serve.result))
-    ((reply : List ℕ) × (c.write.new.out.items ≡ c.args.out.now.items ++ reply) × LeaseStep c.args.self.now c.args.line.now reply c.serve.new.self)
+returns-in-Ok-clause-ok c = on_ok c.serve.result
+    ((reply : List ℕ) × (c.serve.new.out.items ≡ c.reserve.new.self.items ++ reply) × ServedStep c.in-Ok.line c.args.self.now reply c.serve.new.self)
+    ((reply : List ℕ) × (c.serve.new.out.items ≡ c.args.out.now.items ++ reply) × LeaseStep c.args.self.now c.args.line.now reply c.serve.new.self)
     (λ is. (
-      ended (reply_text c.serve.result),
-      is ∙ ap (λ l. l ++ ended (reply_text c.serve.result)) c.reserve.ensures.items,
-      served_step c.args.self.now c.serve.new.self c.args.line.now c.in-Ok.request c.serve.result c.in-Ok.ensures c.serve.ensures.step c.serve.ensures.orderly,
+      is.0,
+      is.1 ∙ ap (λ l. l ++ is.0) c.reserve.ensures.items,
+      served_step c.args.self.now c.serve.new.self c.args.line.now is.0 c.in-Ok.line c.in-Ok.ensures is.2 c.serve.ensures.orderly,
     ))
-    c.write.ensures.ok
+    c.serve.ensures.ok
 
 pub returns-in-Ok-clause-err : goal.returns-in-Ok-clause-err
-returns-in-Ok-clause-err c = never_err c.write.result (c.write.new.out.items ≡ c.args.out.now.items) (c.write.ensures.succeeds c.in_ok-reserve.ensures.ok)
-
-pub returns-in-Ok-clause-refused : goal.returns-in-Ok-clause-refused
-returns-in-Ok-clause-refused c = never_err c.write.result (c.serve.new.self ≡ c.args.self.now) (c.write.ensures.succeeds c.in_ok-reserve.ensures.ok)
+returns-in-Ok-clause-err c = on_err c.serve.result (c.serve.new.out.items ≡ c.reserve.new.self.items) (c.serve.new.out.items ≡ c.args.out.now.items)
+    (λ is. is ∙ c.reserve.ensures.items) c.serve.ensures.err
 
 pub returns-in-Err-clause-ok : goal.returns-in-Err-clause-ok
 returns-in-Err-clause-ok c =
     let same : IsOrderly c.args.self.now = subst IsOrderly c.self.view_is (orderly c.self.inside.spaces.items c.self.inside.book c.self.invariant) in
-    on_ok c.refuse.result ((reply : List ℕ) × (c.refuse.new.out.items ≡ c.reserve.new.self.items ++ reply) × IsRefusalText c.args.self.now c.args.line.now c.in-Err.fault reply)
-    ((reply : List ℕ) × (c.refuse.new.out.items ≡ c.args.out.now.items ++ reply) × LeaseStep c.args.self.now c.args.line.now reply c.args.self.now)
-    (λ is. (is.0, is.1 ∙ ap (λ l. l ++ is.0) c.reserve.ensures.items, refused_step c.args.self.now c.args.line.now c.in-Err.fault is.0 c.in-Err.ensures same is.2)) c.refuse.ensures.ok
+    let step : LeaseStep c.args.self.now c.args.line.now c.line.result.now c.args.self.now =
+    subst (λ (l : List ℕ). LeaseStep c.args.self.now c.args.line.now l c.args.self.now) (sym c.line.ensures) (refused_step c.args.self.now c.args.line.now c.in-Err.fault c.in-Err.ensures same) in
+    on_ok c.extend_from_slice.result ((reply : List ℕ) × (c.extend_from_slice.new.self.items ≡ c.reserve.new.self.items ++ reply) × LeaseStep c.args.self.now c.args.line.now reply c.args.self.now)
+    ((reply : List ℕ) × (c.extend_from_slice.new.self.items ≡ c.args.out.now.items ++ reply) × LeaseStep c.args.self.now c.args.line.now reply c.args.self.now)
+    (λ is. (is.0, is.1 ∙ ap (λ l. l ++ is.0) c.reserve.ensures.items, is.2))
+    (appended c.extend_from_slice.result (λ l. LeaseStep c.args.self.now c.args.line.now l c.args.self.now) c.reserve.new.self.items c.line.result.now c.extend_from_slice.new.self.items c.extend_from_slice.ensures.items step)
 
 pub returns-in-Err-clause-err : goal.returns-in-Err-clause-err
-returns-in-Err-clause-err c = on_err c.refuse.result (c.refuse.new.out.items ≡ c.reserve.new.self.items) (c.refuse.new.out.items ≡ c.args.out.now.items)
-    (λ is. is ∙ c.reserve.ensures.items) c.refuse.ensures.err
+returns-in-Err-clause-err c = on_err c.extend_from_slice.result (c.extend_from_slice.new.self.items ≡ c.reserve.new.self.items) (c.extend_from_slice.new.self.items ≡ c.args.out.now.items)
+    (λ is. is ∙ c.reserve.ensures.items) (left_alone c.extend_from_slice.result c.reserve.new.self.items c.line.result.now c.extend_from_slice.new.self.items c.extend_from_slice.ensures.items)

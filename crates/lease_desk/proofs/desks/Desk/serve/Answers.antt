@@ -1,11 +1,12 @@
+use Rattle.std.proofs.Common.{◌≡◌, ◌∙◌, refl, subst, List, ◌++◌, ℕ}
+use Rattle.lease_proto.specs.Frames.{ended}
+use Rattle.lease_proto.specs.Replies.{reply_text}
+use Rattle.lease_desk.specs.DeskState.{IsOrderly}
+use Rattle.lease_desk.specs.Machine.{ServedStep}
+use Rattle.lease_desk.specs.Operators.{asked_text, Tells}
+use Rattle.lease_desk.proofs.StepLemmas.{on_ok, never_err}
 use Rattle.lease_desk.proofs.OrderLemmas.{orderly}
 use Rattle.lease_desk.proofs.desks.Desk.serve.Goals as goal
 
-pub returns-in-Hello-clause-orderly : goal.returns-in-Hello-clause-orderly
-returns-in-Hello-clause-orderly c = orderly c.greet.new.spaces.items c.greet.new.book c.greet.ensures.steady
-
-pub returns-in-Lease-clause-orderly : goal.returns-in-Lease-clause-orderly
-returns-in-Lease-clause-orderly c = orderly c.lease.new.spaces.items c.lease.new.book c.lease.ensures.steady
-
-pub returns-in-Release-clause-orderly : goal.returns-in-Release-clause-orderly
-returns-in-Release-clause-orderly c = orderly c.release.new.spaces.items c.release.new.book c.release.ensures.steady
+pub returns-in-Operator-clause-orderly : goal.returns-in-Operator-clause-orderly
+returns-in-Operator-clause-orderly c = subst IsOrderly c.self.view_is (orderly c.self.inside.spaces.items c.self.inside.book c.self.invariant)

@@ -1,0 +1,488 @@
+//! Lines in, replies out.
+use lease_desk::{Desk, SetupFault};
+use lease_terms::Name;
+use std::alloc::AllocGlobal;
+use std::process::Abort;
+use tag_arena::Policy;
+
+fn name(rt: &impl Abort, text: &str) -> Name {
+    match Name::new(text.as_bytes()) {
+        Some(name) => name,
+        None => panic!(rt; "no name"),
+    }
+}
+
+fn root(
+    rt: &impl Abort,
+    desk: &mut Desk,
+    text: &str,
+    base: u64,
+    len: u64,
+    quantum: u64,
+    policy: Policy,
+) {
+    let added = desk.add_root(name(rt, text), base, len, quantum, policy, 0);
+    assert_eq!(rt; added, Ok(()));
+}
+
+fn span(rt: &impl Abort, desk: &mut Desk, text: &str, base: u64, len: u64) {
+    assert_eq!(rt; desk.add_span(&name(rt, text), base, len), Ok(()));
+}
+
+/// Each line gets its reply.
+fn ask(rt: &(impl Abort + AllocGlobal), desk: &mut Desk, lines: &[(&str, &str)]) {
+    let mut out = Vec::new(rt.alloc());
+    for (line, reply) in lines {
+        out.clear();
+        match desk.answer(line.as_bytes(), &mut out) {
+            Ok(()) => assert_eq!(rt; out.as_slice(), reply.as_bytes()),
+            Err(_) => panic!(rt; "no memory"),
+        }
+    }
+}
+
+#[test]
+fn leases_and_releases(rt: HostRuntime) {
+    let mut desk = Desk::new(rt.alloc());
+    root(&rt, &mut desk, "m", 0, 64, 1, Policy::Best);
+    ask(
+        &rt,
+        &mut desk,
+        &[
+            ("hello 1 1", "welcome 1 1\n"),
+            ("lease 1 1 1 m 8", "granted 1 1 1 m 0 8\n"),
+            ("release 1 1 2 m 0", "released 1 1 2\n"),
+        ],
+    );
+    desk.close();
+}
+
+#[test]
+fn cycles_before_reuse(rt: HostRuntime) {
+    let mut desk = Desk::new(rt.alloc());
+    root(&rt, &mut desk, "pid", 1, 8, 1, Policy::Next);
+    ask(
+        &rt,
+        &mut desk,
+        &[
+            ("hello 1 1", "welcome 1 1\n"),
+            ("lease 1 1 1 pid 1", "granted 1 1 1 pid 1 1\n"),
+            ("lease 1 1 2 pid 1", "granted 1 1 2 pid 2 1\n"),
+            ("lease 1 1 3 pid 1", "granted 1 1 3 pid 3 1\n"),
+            ("release 1 1 4 pid 2", "released 1 1 4\n"),
+            ("lease 1 1 5 pid 1", "granted 1 1 5 pid 4 1\n"),
+            ("lease 1 1 6 pid 1", "granted 1 1 6 pid 5 1\n"),
+            ("lease 1 1 7 pid 1", "granted 1 1 7 pid 6 1\n"),
+            ("lease 1 1 8 pid 1", "granted 1 1 8 pid 7 1\n"),
+            ("lease 1 1 9 pid 1", "granted 1 1 9 pid 8 1\n"),
+            ("lease 1 1 10 pid 1", "granted 1 1 10 pid 2 1\n"),
+            ("lease 1 1 11 pid 1", "refused 1 1 11 nofit\n"),
+        ],
+    );
+    desk.close();
+}
+
+#[test]
+fn ends_on_a_boundary(rt: HostRuntime) {
+    let mut desk = Desk::new(rt.alloc());
+    root(&rt, &mut desk, "m", 0, 64, 1, Policy::Best);
+    ask(
+        &rt,
+        &mut desk,
+        &[
+            ("hello 1 1", "welcome 1 1\n"),
+            (
+                "lease 1 1 1 m 5 align 8 phase 3 nocross 8",
+                "granted 1 1 1 m 3 5\n",
+            ),
+            (
+                "lease 1 1 2 m 6 align 8 phase 3 nocross 8",
+                "refused 1 1 2 nofit\n",
+            ),
+        ],
+    );
+    desk.close();
+}
+
+#[test]
+fn greatest_end_is_exclusive(rt: HostRuntime) {
+    let mut desk = Desk::new(rt.alloc());
+    root(&rt, &mut desk, "m", 0, 64, 1, Policy::Best);
+    ask(
+        &rt,
+        &mut desk,
+        &[
+            ("hello 1 1", "welcome 1 1\n"),
+            ("lease 1 1 1 m 5 min 10 max 15", "granted 1 1 1 m 10 5\n"),
+            ("lease 1 1 2 m 5 min 10 max 15", "refused 1 1 2 nofit\n"),
+        ],
+    );
+    desk.close();
+}
+
+#[test]
+fn longer_list_before_exact_fit(rt: HostRuntime) {
+    let mut desk = Desk::new(rt.alloc());
+    root(&rt, &mut desk, "x", 0, 15, 1, Policy::Instant);
+    ask(
+        &rt,
+        &mut desk,
+        &[
+            ("hello 1 1", "welcome 1 1\n"),
+            ("lease 1 1 1 x 5", "granted 1 1 1 x 0 5\n"),
+            ("lease 1 1 2 x 1", "granted 1 1 2 x 5 1\n"),
+            ("lease 1 1 3 x 8", "granted 1 1 3 x 6 8\n"),
+            ("lease 1 1 4 x 1", "granted 1 1 4 x 14 1\n"),
+            ("release 1 1 5 x 0", "released 1 1 5\n"),
+            ("release 1 1 6 x 6", "released 1 1 6\n"),
+            ("lease 1 1 7 x 5", "granted 1 1 7 x 6 5\n"),
+            ("lease 1 1 8 x 5", "granted 1 1 8 x 0 5\n"),
+        ],
+    );
+    desk.close();
+}
+
+#[test]
+fn power_of_two_uses_its_list(rt: HostRuntime) {
+    let mut desk = Desk::new(rt.alloc());
+    root(&rt, &mut desk, "x", 0, 15, 1, Policy::Instant);
+    ask(
+        &rt,
+        &mut desk,
+        &[
+            ("hello 1 1", "welcome 1 1\n"),
+            ("lease 1 1 1 x 5", "granted 1 1 1 x 0 5\n"),
+            ("lease 1 1 2 x 1", "granted 1 1 2 x 5 1\n"),
+            ("lease 1 1 3 x 8", "granted 1 1 3 x 6 8\n"),
+            ("lease 1 1 4 x 1", "granted 1 1 4 x 14 1\n"),
+            ("release 1 1 5 x 0", "released 1 1 5\n"),
+            ("release 1 1 6 x 6", "released 1 1 6\n"),
+            ("lease 1 1 7 x 4", "granted 1 1 7 x 0 4\n"),
+        ],
+    );
+    desk.close();
+}
+
+#[test]
+fn merges_neighbors(rt: HostRuntime) {
+    let mut desk = Desk::new(rt.alloc());
+    root(&rt, &mut desk, "t", 0, 12, 1, Policy::Instant);
+    ask(
+        &rt,
+        &mut desk,
+        &[
+            ("hello 1 1", "welcome 1 1\n"),
+            ("lease 1 1 1 t 4", "granted 1 1 1 t 0 4\n"),
+            ("lease 1 1 2 t 4", "granted 1 1 2 t 4 4\n"),
+            ("lease 1 1 3 t 4", "granted 1 1 3 t 8 4\n"),
+            ("release 1 1 4 t 0", "released 1 1 4\n"),
+            ("release 1 1 5 t 8", "released 1 1 5\n"),
+            ("release 1 1 6 t 4", "released 1 1 6\n"),
+            ("lease 1 1 7 t 12", "granted 1 1 7 t 0 12\n"),
+        ],
+    );
+    desk.close();
+}
+
+#[test]
+fn touching_spans_stay_apart(rt: HostRuntime) {
+    let mut desk = Desk::new(rt.alloc());
+    root(&rt, &mut desk, "r", 0, 8, 1, Policy::Best);
+    span(&rt, &mut desk, "r", 8, 8);
+    ask(
+        &rt,
+        &mut desk,
+        &[
+            ("hello 1 1", "welcome 1 1\n"),
+            ("lease 1 1 1 r 12", "refused 1 1 1 nofit\n"),
+            (
+                "audit",
+                "arena r free 16 slab 0 magazine 0 exported 0 leased 0 hand 0\n",
+            ),
+        ],
+    );
+    desk.close();
+}
+
+#[test]
+fn repeat_gets_the_first_reply(rt: HostRuntime) {
+    let mut desk = Desk::new(rt.alloc());
+    root(&rt, &mut desk, "m", 0, 64, 1, Policy::Best);
+    ask(
+        &rt,
+        &mut desk,
+        &[
+            ("hello 1 1", "welcome 1 1\n"),
+            ("lease 1 1 1 m 8", "granted 1 1 1 m 0 8\n"),
+            ("lease 1 1 1 m 8", "granted 1 1 1 m 0 8\n"),
+            (
+                "audit",
+                "arena m free 56 slab 0 magazine 0 exported 0 leased 8 hand 0\n",
+            ),
+        ],
+    );
+    desk.close();
+}
+
+#[test]
+fn new_incarnation_ends_leases(rt: HostRuntime) {
+    let mut desk = Desk::new(rt.alloc());
+    root(&rt, &mut desk, "p", 1, 4, 1, Policy::Best);
+    ask(
+        &rt,
+        &mut desk,
+        &[
+            ("hello 1 1", "welcome 1 1\n"),
+            ("lease 1 1 1 p 4", "granted 1 1 1 p 1 4\n"),
+            ("hello 1 2", "welcome 1 2\n"),
+            ("hello 2 1", "welcome 2 1\n"),
+            ("lease 2 1 1 p 4", "granted 2 1 1 p 1 4\n"),
+            ("lease 1 1 1 p 4", "old 1 2\n"),
+        ],
+    );
+    desk.close();
+}
+
+#[test]
+fn release_of_anothers_lease(rt: HostRuntime) {
+    let mut desk = Desk::new(rt.alloc());
+    root(&rt, &mut desk, "p", 1, 4, 1, Policy::Best);
+    ask(
+        &rt,
+        &mut desk,
+        &[
+            ("hello 1 1", "welcome 1 1\n"),
+            ("lease 1 1 1 p 2", "granted 1 1 1 p 1 2\n"),
+            ("hello 2 1", "welcome 2 1\n"),
+            ("release 2 1 1 p 1", "refused 2 1 1 notyours\n"),
+            ("release 2 1 1 p 1", "refused 2 1 1 notyours\n"),
+            (
+                "audit",
+                "arena p free 2 slab 0 magazine 0 exported 0 leased 2 hand 0\n",
+            ),
+        ],
+    );
+    desk.close();
+}
+
+#[test]
+fn rounds_and_refuses(rt: HostRuntime) {
+    let mut desk = Desk::new(rt.alloc());
+    root(&rt, &mut desk, "q", 0, 64, 4, Policy::Best);
+    ask(
+        &rt,
+        &mut desk,
+        &[
+            ("hello 1 1", "welcome 1 1\n"),
+            ("lease 1 1 1 q 5", "granted 1 1 1 q 0 8\n"),
+            ("lease 1 1 2 q 0", "refused 1 1 2 badrequest\n"),
+            ("lease 1 1 3 q 4 align 2", "refused 1 1 3 badrequest\n"),
+            ("lease 1 1 4 z 4", "refused 1 1 4 noarena\n"),
+        ],
+    );
+    desk.close();
+}
+
+#[test]
+fn refuses_lines(rt: HostRuntime) {
+    let mut desk = Desk::new(rt.alloc());
+    root(&rt, &mut desk, "m", 0, 64, 1, Policy::Best);
+    ask(
+        &rt,
+        &mut desk,
+        &[
+            ("lease 1 1 1 m", "error badline\n"),
+            ("lease 1 1 01 m 4", "error number\n"),
+            ("frob", "error word\n"),
+            ("hello 1  1", "error badline\n"),
+            ("hello 1 1", "welcome 1 1\n"),
+            ("lease 1 1 3 m 4", "gap 1 1 3 0\n"),
+            ("lease 1 1 1 m 4", "granted 1 1 1 m 0 4\n"),
+            ("lease 1 1 2 m 4", "granted 1 1 2 m 4 4\n"),
+            ("lease 1 1 1 m 4", "stale 1 1 1 2\n"),
+        ],
+    );
+    desk.close();
+}
+
+/// A client has at most 1,024 leases.
+#[test]
+fn too_many_leases(rt: HostRuntime) {
+    let mut desk = Desk::new(rt.alloc());
+    root(&rt, &mut desk, "m", 0, 2048, 1, Policy::Best);
+    ask(&rt, &mut desk, &[("hello 1 1", "welcome 1 1\n")]);
+    for base in 0..1024u32 {
+        let n = base + 1;
+        let line = format!(in rt.alloc(); "lease 1 1 {n} m 1");
+        let reply = format!(in rt.alloc(); "granted 1 1 {n} m {base} 1\n");
+        match (line, reply) {
+            (Ok(line), Ok(reply)) => {
+                ask(&rt, &mut desk, &[(line.as_str(), reply.as_str())]);
+            }
+            _ => panic!(rt; "no memory"),
+        }
+    }
+    ask(
+        &rt,
+        &mut desk,
+        &[
+            ("lease 1 1 1025 m 1", "refused 1 1 1025 leases\n"),
+            ("clients", "client 1 1 1025 1024\n"),
+            (
+                "audit",
+                "arena m free 1024 slab 0 magazine 0 exported 0 leased 1024 hand 0\n",
+            ),
+        ],
+    );
+    desk.close();
+}
+
+/// Each refusal of a setup, in its order.
+#[test]
+fn refuses_setups(rt: HostRuntime) {
+    let mut desk = Desk::new(rt.alloc());
+    let a = name(&rt, "a");
+    let z = name(&rt, "z");
+    root(&rt, &mut desk, "a", 0, 8, 4, Policy::Best);
+    assert_eq!(rt;
+        desk.add_root(a, 0, 0, 3, Policy::Best, 1),
+        Err(SetupFault::NameTaken)
+    );
+    assert_eq!(rt;
+        desk.add_root(z, 0, 0, 3, Policy::Best, 1),
+        Err(SetupFault::BadQuantum)
+    );
+    assert_eq!(rt;
+        desk.add_root(z, 0, 0, 4, Policy::Best, 1),
+        Err(SetupFault::NotYet)
+    );
+    assert_eq!(rt;
+        desk.add_root(z, 0, 0, 4, Policy::Best, 0),
+        Err(SetupFault::BadRange)
+    );
+    assert_eq!(rt;
+        desk.add_root(z, 0, 6, 4, Policy::Best, 0),
+        Err(SetupFault::BadRange)
+    );
+    assert_eq!(rt;
+        desk.add_root(z, 4611686018427387888, 17, 1, Policy::Best, 0),
+        Err(SetupFault::BadRange)
+    );
+    assert_eq!(rt; desk.add_span(&z, 0, 0), Err(SetupFault::NoArena));
+    assert_eq!(rt; desk.add_span(&a, 8, 0), Err(SetupFault::BadRange));
+    assert_eq!(rt; desk.add_span(&a, 4, 8), Err(SetupFault::BadRange));
+    assert_eq!(rt; desk.add_span(&a, 8, 8), Ok(()));
+    desk.close();
+}
+
+/// A 33rd arena is refused before its quantum is looked at.
+#[test]
+fn too_many_arenas(rt: HostRuntime) {
+    let mut desk = Desk::new(rt.alloc());
+    for n in 0..32 {
+        match format!(in rt.alloc(); "a{n}") {
+            Ok(text) => root(&rt, &mut desk, text.as_str(), 0, 8, 1, Policy::Next),
+            Err(_) => panic!(rt; "no memory"),
+        }
+    }
+    let more = name(&rt, "b");
+    assert_eq!(rt;
+        desk.add_root(more, 0, 8, 3, Policy::Next, 0),
+        Err(SetupFault::TooMany)
+    );
+    desk.close();
+}
+
+/// Lines of an operator are one word.
+#[test]
+fn operators_lines(rt: HostRuntime) {
+    let mut desk = Desk::new(rt.alloc());
+    ask(
+        &rt,
+        &mut desk,
+        &[
+            ("audit", ""),
+            ("clients", ""),
+            ("audit a", "error badline\n"),
+            ("clients 1", "error badline\n"),
+            ("tick", "error word\n"),
+            ("audit ", "error badline\n"),
+        ],
+    );
+    desk.close();
+}
+
+/// Whether an answer says that memory was refused.
+fn is_refusal(text: &[u8]) -> bool {
+    text.starts_with(b"again ") || text == b"error memory\n".as_slice()
+}
+
+/// The line gets its reply behind what is there: at once, or at the second time where memory was refused once.
+fn ask_twice(rt: &(impl Abort + AllocGlobal), desk: &mut Desk, line: &str, reply: &str) {
+    let mut out = Vec::new(rt.alloc());
+    for _ in 0..2 {
+        match desk.answer(line.as_bytes(), &mut out) {
+            Ok(()) if out.as_slice() == reply.as_bytes() => return,
+            Ok(()) => assert!(rt; is_refusal(out.as_slice())),
+            Err(_) => assert!(rt; out.is_empty()),
+        }
+        out.clear();
+    }
+    panic!(rt; "refused twice");
+}
+
+/// Where one growth is refused, the same call made again is served as if it had not been. Run with each growth
+/// refused in turn.
+#[test]
+fn a_refused_growth_is_made_up_for(rt: HostRuntime) {
+    let mut desk = Desk::new(rt.alloc());
+    let a = name(&rt, "a");
+    if desk.add_root(a, 0, 64, 4, Policy::Best, 0).is_err() {
+        root(&rt, &mut desk, "a", 0, 64, 4, Policy::Best);
+    }
+    if desk.add_span(&a, 128, 64).is_err() {
+        span(&rt, &mut desk, "a", 128, 64);
+    }
+    let lines = [
+        ("hello 1 1", "welcome 1 1\n"),
+        ("lease 1 1 1 a 16 align 16", "granted 1 1 1 a 0 16\n"),
+        ("lease 1 1 2 a 5 min 20", "granted 1 1 2 a 20 8\n"),
+        ("hello 2 7", "welcome 2 7\n"),
+        ("lease 2 7 1 a 64", "granted 2 7 1 a 128 64\n"),
+        ("release 1 1 3 a 0", "released 1 1 3\n"),
+        ("lease 1 1 4 b 4", "refused 1 1 4 noarena\n"),
+        ("hello 2 8", "welcome 2 8\n"),
+        ("lease 2 8 1 a 61", "granted 2 8 1 a 128 64\n"),
+        ("clients", "client 1 1 4 1\nclient 2 8 1 1\n"),
+        (
+            "audit",
+            "arena a free 56 slab 0 magazine 0 exported 0 leased 72 hand 0\n",
+        ),
+    ];
+    for (line, reply) in &lines {
+        ask_twice(&rt, &mut desk, line, reply);
+    }
+    desk.close();
+}
+
+/// Replies stand behind what the buffer holds, and a client's lines and an operator's alike.
+#[test]
+fn replies_are_appended(rt: HostRuntime) {
+    let mut desk = Desk::new(rt.alloc());
+    root(&rt, &mut desk, "m", 0, 64, 1, Policy::Best);
+    let mut out = Vec::new(rt.alloc());
+    for line in [
+        "hello 3 1",
+        "tick",
+        "lease 3 1 1 m 8",
+        "clients",
+        "audit",
+        "lease 3 1 1",
+    ] {
+        assert!(rt; desk.answer(line.as_bytes(), &mut out).is_ok());
+    }
+    let replies =
+        "welcome 3 1\nerror word\ngranted 3 1 1 m 0 8\nclient 3 1 1 1\narena m free 56 slab 0 magazine 0 exported 0 leased 8 hand 0\nerror badline\n";
+    assert_eq!(rt; out.as_slice(), replies.as_bytes());
+    desk.close();
+}

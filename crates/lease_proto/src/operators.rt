@@ -1,0 +1,64 @@
+//! The lines of an operator, and what may be served after a setup.
+ghost use Rattle.std.specs.Prelude.{◌≡◌};
+ghost use Rattle.lease_proto.specs.Operators.{served_of, operator_text, ClientsAreServed, OperatorsAreServed};
+
+use crate::faults::LineFault;
+use crate::lines::Line;
+use crate::taking::words;
+
+/// A line of an operator: one word.
+#[derive(Clone, Copy, Debug, PartialEq, Eq)]
+pub enum OperatorLine {
+    /// `audit`: the units of each arena, by where they are.
+    Audit,
+    /// `clients`: the clients, with their incarnations, last numbers and leases.
+    Clients,
+}
+
+impl OperatorLine {
+    /// Its text, without a line feed.
+    pub fn text(self) -> &'static [u8]
+        ensures { result.now ≡ operator_text self }
+    {
+        match self {
+            OperatorLine::Audit => b"audit",
+            OperatorLine::Clients => b"clients",
+        }
+    }
+}
+
+/// A line that may be served: a client's or an operator's.
+#[derive(Clone, Copy, Debug, PartialEq, Eq)]
+pub enum ServedLine {
+    Client(Line),
+    Operator(OperatorLine),
+}
+
+impl ServedLine {
+    /// The line that these bytes are, or the first reason why they are none. They are given without
+    /// the line feed. Its words are found once. It takes no memory.
+    #[tactic(auto, unfolding(crate::specs::Operators::served_of, crate::specs::Operators::served_of_words))]
+    pub fn read(bytes: &[u8]) -> Result<ServedLine, LineFault>
+        ensures { result ≡ served_of bytes.now }
+    {
+        let mut words = words(bytes)?;
+        let Some(first) = words.next() else {
+            return Err(LineFault::Word);
+        };
+        if first == b"audit".as_slice() {
+            words.end()?;
+            Ok(ServedLine::Operator(OperatorLine::Audit))
+        } else if first == b"clients".as_slice() {
+            words.end()?;
+            Ok(ServedLine::Operator(OperatorLine::Clients))
+        } else {
+            Ok(ServedLine::Client(Line::of_words(first, &mut words)?))
+        }
+    }
+}
+
+/// Which bytes are served: those of a client's line, and the texts of the operators' lines.
+pub fn served_law()
+    ensures clients { ClientsAreServed }
+    ensures operators { OperatorsAreServed }
+{}
