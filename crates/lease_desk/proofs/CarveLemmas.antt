@@ -9,33 +9,19 @@ use Rattle.deed_core.specs.Weights.{Gains}
 use Rattle.deed_core.specs.Request.{Fits, IsGood}
 use Rattle.deed_core.specs.declared.requests.Request.{Request}
 use Rattle.deed_core.proofs.LawProofs.{counts_the_unit}
-use Rattle.tag_arena.specs.declared.policies.Policy.{Policy}
-use Rattle.tag_arena.specs.declared.policies.Policy.TheVariants.{Best, Next, Instant}
 use Rattle.tag_arena.specs.declared.faults.ArenaFault.{ArenaFault}
 use Rattle.tag_arena.specs.declared.faults.ArenaFault.TheVariants.{BadRequest, NoFit, Overlaps, NotAligned, NoMemory}
-use Rattle.tag_arena.specs.Place.{IsLeast, Serves}
-use Rattle.tag_arena.specs.Choice.{IsChoice}
-use Rattle.tag_arena.specs.ArenaState.{ArenaState, ranges_of, direct, IsChosen}
-use Rattle.tag_arena.specs.Calls.{Carves, RefusesCarve}
+use Rattle.tag_arena.specs.Place.{Serves}
+use Rattle.tag_arena.specs.ArenaState.{ArenaState, tags_of}
+use Rattle.tag_arena.specs.Calls.{Carves}
+use Rattle.tag_arena.specs.Outcomes.{CarveOf}
+use Rattle.tag_arena.proofs.LawProofs.{none_serves}
 use Rattle.lease_desk.specs.declared.spaces.Space.{Space}
 use Rattle.lease_desk.specs.DeskState.{NamedArenaState}
 use Rattle.lease_desk.specs.Spaces.{state_of, states_of, AreSpaces, IsSpace}
 use Rattle.lease_desk.specs.Carved.{IsCarved, IsUncarved}
 use Rattle.lease_desk.proofs.PlaceLemmas.{slice_get_mapped}
-use Rattle.lease_desk.proofs.SpaceLemmas.{with_arena, carved_space, carved_gives, spaces_after, gives_before}
-
--- no choice is made only where no address serves
-pub none_serves : (policy : Policy) (quantum : ℕ) (q : Request) (free : List Holding) (rover : ℕ) → IsChoice policy quantum q free rover None → (base : ℕ) → Serves quantum q free base → ⊥
-none_serves Best quantum q free rover none = none
-none_serves Next quantum q free rover choice = past choice.0 choice.2
-  where
-    past : (o : Option ℕ) → MatchOption o (IsLeast (Serves quantum q free) None) (λ b. ◌≡◌ {A = Option ℕ} None (Some b)) → (base : ℕ) → Serves quantum q free base → ⊥
-    past None none = none
-    past (Some b) is = (let e : None ≡ Some b = is in λ base serves. cc)
-none_serves Instant quantum q free rover choice = elim choice [
-  | inl plain ↦ (let e : None ≡ Some plain.1.0.range.base = plain.1.2 in λ base serves. cc)
-  | inr none ↦ none.1
-]
+use Rattle.lease_desk.proofs.SpaceLemmas.{with_arena, ranges_gain, carved_space, carved_gives, spaces_after, gives_before}
 
 -- an address where a segment was carved serves
 pub carved_serves : (quantum : ℕ) (q : Request) (old new : ArenaState) (h : Holding) → Carves old new h → Fits quantum q h.range.base h.range.len → Serves quantum q old.free h.range.base
@@ -61,42 +47,38 @@ module _ (spaces : List Space) (place : ℕ) (s : Space) (new : ArenaState) (q :
   sound_same : new ≡ s.arena → AreSpaces (set spaces place (with_arena s new))
   sound_same same = spaces_after spaces place (with_arena s new) sound (subst (λ a. IsSpace place (with_arena s a)) (sym same) is)
 
-  pub carve_sound : (r : Result Tag ArenaFault) → IfOk r (λ t. Carves s.arena new t.holding) → OnErr r (new ≡ s.arena)
-      → IfOk r (λ t. Gains (ranges_of s.arena.allocated) (ranges_of new.allocated) t.holding)
+  pub carve_sound : (r : Result Tag ArenaFault) → CarveOf s.arena q r new → IfOk r (Gains (tags_of s.arena) (tags_of new))
       → IfOk r (λ t. (u : ℕ) → covering_held u s.arena.free ≡ covering_held u new.free + covers u t.holding.range)
       → AreSpaces (set spaces place (with_arena s new))
-  carve_sound (Ok t) carved err gains units = spaces_after spaces place (with_arena s new) sound (carved_space place s new t.holding is carved gains units)
-  carve_sound (Err e) carved err gains units = sound_same err
+  carve_sound (Ok t) carved gains units = spaces_after spaces place (with_arena s new) sound (carved_space place s new t.holding is carved.carves (ranges_gain s.arena new t gains) units)
+  carve_sound (Err e) carved gains units = sound_same carved.1
 
-  pub carve_carved : (r : Result Tag ArenaFault) → OnOk r (IsGood s.arena.quantum q) → IfOk r (λ t. IsChosen s.arena q (Some t.holding.range.base))
-      → IfOk r (λ t. Fits s.arena.quantum q t.holding.range.base t.holding.range.len) → IfOk r (λ t. t ≡ direct s.arena.id t.holding)
-      → IfOk r (λ t. Carves s.arena new t.holding)
-      → IfOk r (λ t. Gains (ranges_of s.arena.allocated) (ranges_of new.allocated) t.holding)
+  pub carve_carved : (r : Result Tag ArenaFault) → CarveOf s.arena q r new → IfOk r (Gains (tags_of s.arena) (tags_of new))
       → IfOk r (λ t. (u : ℕ) → covering_held u s.arena.free ≡ covering_held u new.free + covers u t.holding.range)
       → IfOk r (λ t. (x : NamedArenaState) × IsCarved (states_of spaces) (states_of (set spaces place (with_arena s new))) place x q t)
-  carve_carved (Ok t) good chosen fits segment carved gains units = (
+  carve_carved (Ok t) carved gains units = (
     state_of s,
     record {
       here = slice_get_mapped state_of spaces place s here;
       home = home;
-      route = ap (λ (x : Tag). x.route) segment;
-      good = good;
-      chosen = (s.arena.rover, chosen);
-      serves = (t.holding.range.base, carved_serves s.arena.quantum q s.arena new t.holding carved fits);
-      fits = fits;
+      route = ap (λ (x : Tag). x.route) carved.segment;
+      good = carved.good;
+      chosen = (s.arena.rover, carved.chosen);
+      serves = (t.holding.range.base, carved_serves s.arena.quantum q s.arena new t.holding carved.carves carved.fits);
+      fits = carved.fits;
       free = free_before t.holding units;
-      back = gives_before spaces place s (with_arena s new) t home here (carved_gives place s new t home carved gains units);
+      back = gives_before spaces place s (with_arena s new) t home here (carved_gives place s new t home carved.carves (ranges_gain s.arena new t gains) units);
     },
   )
     where
       home : t.arena ≡ place
-      home = ap (λ (x : Tag). x.arena) segment ∙ is.id
-  carve_carved (Err e) good chosen fits segment carved gains units = tt
+      home = ap (λ (x : Tag). x.arena) carved.segment ∙ is.id
+  carve_carved (Err e) carved gains units = tt
 
-  pub carve_refused : (r : Result Tag ArenaFault) → IfErr r (RefusesCarve s.arena q) → IfErr r (λ fault. (x : NamedArenaState) × IsUncarved (states_of spaces) place x q fault)
+  pub carve_refused : (r : Result Tag ArenaFault) → CarveOf s.arena q r new → IfErr r (λ fault. (x : NamedArenaState) × IsUncarved (states_of spaces) place x q fault)
   carve_refused (Ok t) refused = tt
-  carve_refused (Err BadRequest) bad = (state_of s, record { here = slice_get_mapped state_of spaces place s here; why = bad })
-  carve_refused (Err NoFit) none = (state_of s, record { here = slice_get_mapped state_of spaces place s here; why = (none.0, λ has. none_serves s.arena.policy s.arena.quantum q s.arena.free s.arena.rover none.1 has.0 has.1) })
-  carve_refused (Err Overlaps) refused = absurd refused
-  carve_refused (Err NotAligned) refused = absurd refused
-  carve_refused (Err NoMemory) refused = (state_of s, record { here = slice_get_mapped state_of spaces place s here; why = (refused.0, (refused.1.0, (s.arena.rover, refused.1.1))) })
+  carve_refused (Err BadRequest) refused = (state_of s, record { here = slice_get_mapped state_of spaces place s here; why = refused.0 })
+  carve_refused (Err NoFit) refused = (state_of s, record { here = slice_get_mapped state_of spaces place s here; why = (refused.0.0, λ has. none_serves s.arena.policy s.arena.quantum q s.arena.free s.arena.rover refused.0.1 has.0 has.1) })
+  carve_refused (Err Overlaps) refused = absurd refused.0
+  carve_refused (Err NotAligned) refused = absurd refused.0
+  carve_refused (Err NoMemory) refused = (state_of s, record { here = slice_get_mapped state_of spaces place s here; why = (refused.0.0, (refused.0.1.0, (s.arena.rover, refused.0.1.1))) })

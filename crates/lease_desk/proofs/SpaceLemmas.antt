@@ -12,7 +12,8 @@ use Rattle.deed_core.specs.Tag.{Tag}
 use Rattle.deed_core.specs.Covering.{covers, covers_held, covering_held}
 use Rattle.deed_core.specs.Weights.{Gains, Loses}
 use Rattle.deed_core.specs.declared.segments.Route.TheVariants.{Direct}
-use Rattle.tag_arena.specs.ArenaState.{ArenaState, spans_of, ranges_of}
+use Rattle.tag_arena.specs.ArenaState.{ArenaState, spans_of, ranges_of, tags_of}
+use Rattle.tag_arena.proofs.LawProofs.{tags_weigh}
 use Rattle.tag_arena.specs.Calls.{Carves, Frees, after_carve, after_free}
 use Rattle.lease_desk.specs.declared.spaces.Space.{Space}
 use Rattle.lease_desk.specs.DeskState.{within, stray, Exports}
@@ -59,6 +60,13 @@ kept_by old new f e keeps = subst (λ a. KeepsSpans old a) (sym e) keeps
 
 pub same_spans : (old new : ArenaState) → KeepsSpans old new → spans_of new ≡ spans_of old
 same_spans old new keeps = ap (λ os. os ++ map (λ (t : Tag). t.holding) new.imported) keeps.owned ∙ ap (λ ts. old.owned ++ map (λ (t : Tag). t.holding) ts) keeps.imported
+
+-- weighed as segments, and so as ranges
+pub ranges_gain : (old new : ArenaState) (t : Tag) → Gains (tags_of old) (tags_of new) t → Gains (ranges_of old.allocated) (ranges_of new.allocated) t.holding
+ranges_gain old new t gains f = omega (arith, gains (λ x. f x.holding), tags_weigh old (λ x. f x.holding), tags_weigh new (λ x. f x.holding))
+
+pub ranges_lose : (old new : ArenaState) (t : Tag) → Loses (tags_of old) (tags_of new) t → Loses (ranges_of old.allocated) (ranges_of new.allocated) t.holding
+ranges_lose old new t loses f = omega (arith, loses (λ x. f x.holding), tags_weigh old (λ x. f x.holding), tags_weigh new (λ x. f x.holding))
 
 -- a space whose arena has changed, in weights
 space_after : (k : ℕ) (s : Space) (new : ArenaState) → IsSpace k s → KeepsSpans s.arena new → IsKeyed new.allocated

@@ -11,7 +11,7 @@ use deed_core::{PlainDeed, Range, is_power_of_two};
 use lease_proto::{MOST_ARENAS, MOST_SPANS};
 use lease_terms::Name;
 use std::alloc::Global;
-use tag_arena::{Arena, ArenaFault, Policy};
+use tag_arena::{Arena, ArenaFault, Policy, SpanRefused};
 
 /// The arena that a setup line asks for: its name, its one span, and how it carves. Units and numbers
 /// of units.
@@ -86,8 +86,8 @@ fn new_space(
     let mut arena = Arena::new(alloc, id, root.quantum, root.policy);
     match arena.add_span(PlainDeed::new(number, range)) {
         Ok(()) => {}
-        Err((deed, _)) => {
-            let _ = deed.close();
+        Err(SpanRefused { span, fault: _ }) => {
+            let _ = span.close();
             match arena.close() {
                 Ok(()) => {}
                 Err(_) => unreachable!(),
@@ -170,11 +170,12 @@ fn extend(space: &mut Space, place: u32, base: u64, len: u64) -> Result<(), Setu
         return Err(SetupFault::BadRange);
     };
     let number = root_number(place, space.spans);
-    let Err((deed, fault)) = space.arena.add_span(PlainDeed::new(number, range)) else {
+    let Err(refused) = space.arena.add_span(PlainDeed::new(number, range)) else {
         space.spans += 1;
         return Ok(());
     };
-    let _ = deed.close();
+    let SpanRefused { span, fault } = refused;
+    let _ = span.close();
     if fault == ArenaFault::NoMemory {
         return Err(SetupFault::NoMemory);
     }

@@ -6,7 +6,7 @@ use Rattle.lease_desk.proofs.closings.close_space.Goals as goal
 
 pub unreachable-requires : goal.unreachable-requires
 unreachable-requires c =
-    let same : c.remove_owned.new.self ≡ c.loop-deed.arena = c.in_default.ensures.none.1 in
+    let same : c.remove_owned.new.self ≡ c.loop-deed.arena = c.in_default.ensures.removed.1 in
     let runs : FreeIsLongestRuns (layout_of c.loop-deed.arena) = subst (λ (a : ArenaState). FreeIsLongestRuns (layout_of a)) same c.report.ensures.longest in
-    let none : c.loop-deed.arena.free ≡ [] = nothing_free c.loop-deed.arena c.loop-deed.invariant.own c.loop-deed.invariant.unallocated runs c.in_default.ensures.none.0 in
+    let none : c.loop-deed.arena.free ≡ [] = nothing_free c.loop-deed.arena c.loop-deed.invariant.own c.loop-deed.invariant.unallocated runs c.in_default.ensures.removed.0 in
     (let ok = c.in-Err.ensures.empty.1 (ap (λ (a : ArenaState). a.free) same ∙ none) in cc)

@@ -5,7 +5,7 @@ use Rattle.tag_arena.specs.Calls.{IsTagged}
 use Rattle.lease_desk.specs.declared.spaces.Space.{Space}
 use Rattle.lease_desk.specs.Spaces.{IsSpace}
 use Rattle.lease_desk.proofs.PlaceLemmas.{read_is}
-use Rattle.lease_desk.proofs.SpaceLemmas.{freed_space, freed_gives, spaces_after, gives_after, with_arena}
+use Rattle.lease_desk.proofs.SpaceLemmas.{ranges_lose, freed_space, freed_gives, spaces_after, gives_after, with_arena}
 use Rattle.lease_desk.proofs.returns.put_back.Goals as goal
 
 -- nothing stands in an empty list
@@ -19,7 +19,7 @@ returns-clause-sound c =
     let is : IsSpace c.arena-place.result c.index_mut-space.result.now = subst (λ s. IsSpace c.arena-place.result s) (sym same) (c.requires.sound c.arena-place.result c.requires.out.space here) in
     let freed = rw c.in-None.is at c.in-Ok.ensures.freed in
     let units = rw c.in-None.is at c.in-Ok.ensures.covering in
-    spaces_after c.args.spaces.now.items c.arena-place.result (with_arena c.index_mut-space.result.now c.free.new.self) c.requires.sound (freed_space c.arena-place.result c.index_mut-space.result.now c.free.new.self c.args.segment is freed c.in-Ok.ensures.loses units)
+    spaces_after c.args.spaces.now.items c.arena-place.result (with_arena c.index_mut-space.result.now c.free.new.self) c.requires.sound (freed_space c.arena-place.result c.index_mut-space.result.now c.free.new.self c.args.segment is freed.frees (ranges_lose c.index_mut-space.result.now.arena c.free.new.self c.args.segment c.in-Ok.ensures.loses) units)
 
 pub returns-clause-back : goal.returns-clause-back
 returns-clause-back c =
@@ -29,7 +29,7 @@ returns-clause-back c =
     let freed = rw c.in-None.is at c.in-Ok.ensures.freed in
     let units = rw c.in-None.is at c.in-Ok.ensures.covering in
     gives_after c.args.spaces.now.items c.arena-place.result c.index_mut-space.result.now (with_arena c.index_mut-space.result.now c.free.new.self) c.args.segment (sym c.arena-place.ensures) stands
-    (freed_gives c.arena-place.result c.index_mut-space.result.now c.free.new.self c.args.segment (sym c.arena-place.ensures) freed c.in-Ok.ensures.loses units)
+    (freed_gives c.arena-place.result c.index_mut-space.result.now c.free.new.self c.args.segment (sym c.arena-place.ensures) freed.frees (ranges_lose c.index_mut-space.result.now.arena c.free.new.self c.args.segment c.in-Ok.ensures.loses) units)
 
 pub unreachable-requires : goal.unreachable-requires
 unreachable-requires c =
@@ -37,11 +37,11 @@ unreachable-requires c =
     let same : c.index_mut-space.result.now ≡ c.requires.out.space = read_is c.args.spaces.now.items c.arena-place.result c.index_mut-space.result.now c.requires.out.space c.index_mut-space.ensures.value here in
     let is : IsSpace c.arena-place.result c.index_mut-space.result.now = subst (λ s. IsSpace c.arena-place.result s) (sym same) (c.requires.sound c.arena-place.result c.requires.out.space here) in
     let freed = rw c.in-Some.is at c.in-Ok.ensures.freed in
-    none_in c.index_mut-space.result.now.arena.imported c.in-Some.field-0 is.own freed.after.0
+    none_in c.index_mut-space.result.now.arena.imported c.in-Some.field-0 is.own freed.frees.after.0
 
 pub unreachable-requires-in-Err : goal.unreachable-requires-in-Err
 unreachable-requires-in-Err c =
     let here : slice_get c.args.spaces.now.items c.arena-place.result ≡ Some c.requires.out.space = ap (slice_get c.args.spaces.now.items) c.arena-place.ensures ∙ c.requires.out.here in
     let same : c.index_mut-space.result.now ≡ c.requires.out.space = read_is c.args.spaces.now.items c.arena-place.result c.index_mut-space.result.now c.requires.out.space c.index_mut-space.ensures.value here in
     let tagged : IsTagged c.index_mut-space.result.now.arena c.args.segment = subst (λ (s : Space). IsTagged s.arena c.args.segment) (sym same) c.requires.out.tagged in
-    (let ok = c.in-Err.ensures.mine.1 tagged in cc)
+    c.in-Err.ensures.freed.0 tagged
