@@ -12,9 +12,7 @@ mod serving;
 mod watching;
 
 pub use faults::ServeFault;
+pub use output::deliver;
 pub use responders::Responder;
 pub use serving::{serve, serve_after};
 pub use watching::Watched;
-
-#[cfg(test)]
-mod tests;

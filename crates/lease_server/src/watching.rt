@@ -117,12 +117,17 @@ impl<W: Write> Watched<W> {
         ensures fault { OnErr result (result ≡ Err ServeFault.Write) }
         ensures counted { reads_of self.new ≡ reads_of self.old }
     {
-        match self.inner.flush() {
-            Ok(()) => Ok(()),
-            Err(_) => {
-                self.failed = true;
-                Err(ServeFault::Write)
+        for _ in 0..u64::MAX {
+            match self.inner.flush() {
+                Ok(()) => return Ok(()),
+                Err(e) if e.kind() == ErrorKind::Interrupted => {}
+                Err(_) => {
+                    self.failed = true;
+                    return Err(ServeFault::Write);
+                }
             }
         }
+        self.failed = true;
+        Err(ServeFault::Write)
     }
 }

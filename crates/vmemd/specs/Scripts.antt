@@ -3,7 +3,7 @@ use Rattle.std.specs.Prelude.{◌≡◌, ◌⊎◌, ◌≤◌, ◌^◌, Bool, �
 use Rattle.std.specs.List.{flat_map}
 use Rattle.std.specs.Io.KnownBytes.{Appends, Consumes}
 use Rattle.lease_proto.specs.declared.faults.LineFault.{LineFault}
-use Rattle.lease_proto.specs.Frames.{Frame, frames_in, frames_of, ended}
+use Rattle.lease_proto.specs.Frames.{Frame, IsOneLine, frames_in, frames_of, ended}
 use Rattle.lease_proto.specs.Grammar.{◌>>=◌}
 use Rattle.lease_server.specs.Serving.{Writes, Stops}
 use Rattle.lease_server.specs.declared.faults.ServeFault.{ServeFault}
@@ -96,7 +96,7 @@ module _ {S : Type 0} (takes : S → SetupLine → S → Type 0) (may_answer : S
   -- What was read of an input is answered as far as its whole lines go; nothing while the setup goes on.
   abbrev pub RunsSoFar : S → List ℕ → Option (List ℕ) → Option (List ℕ) → S → Type 0
   RunsSoFar first input before after last = (part : List ℕ) × (made : S) × SetsUp takes first input part made
-      × (begins_setup part ≡ true → Appends before after [])
+      × (begins_setup part ≡ true → IsOneLine part × Appends before after [])
       × (begins_setup part ≡ false → Writes may_answer made (frames_in [] part) before after last)
 
   -- Of an input's answers a front is written; nothing while the setup goes on.

@@ -29,7 +29,7 @@ use std::process::ExitCode;
 fn main(rt: HostRuntime) -> ExitCode {
     match read_arguments(&rt) {
         Ok(Words::Script) => end_script(&rt, answer_input(&rt)),
-        Err(fault) => end_words(&rt, &fault),
+        Err(fault) => end_words(&rt, &mut Watched::new(io::writer(&rt)), &fault),
     }
 }
 
