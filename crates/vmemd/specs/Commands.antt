@@ -48,8 +48,8 @@ FailsWords found NotText = ⊥
 FailsWords found Memory = Unit {0}
 
 -- How a program ends whose words are for no part of it, by what standard output had before and has
--- after, whether it failed, and the exit status: a text that was asked for is written, and the status
--- is 0 just where it was; for a mistake it is 2.
+-- after, whether it failed, and the exit status: a text that was asked for is written, and the
+-- status is 0 just where it was; for a mistake it is 2.
 abbrev pub EndsWords : WordsFault → Option (List ℕ) → Option (List ℕ) → Bool → ℕ → Type 0
 EndsWords (Asked text) before after failed status =
     (failed ≡ false → (status ≡ 0) × Appends before after text.bytes.items)

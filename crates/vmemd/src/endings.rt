@@ -25,8 +25,8 @@ pub fn end_script<R: Eprint>(rt: &R, ran: Result<(), ScriptFault>) -> ExitCode
     }
 }
 
-/// Ends a program whose words are for no part of it: what was asked for is written, and what is wrong
-/// is told on standard error.
+/// Ends a program whose words are for no part of it: what was asked for is written, and what is
+/// wrong is told on standard error.
 pub fn end_words<R: Eprint, W: Write>(
     rt: &R,
     writer: &mut Watched<W>,

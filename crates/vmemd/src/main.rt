@@ -1,8 +1,8 @@
 //! `vmemd`: leases of ranges of whole numbers to clients, over lines of text.
 //!
-//! `vmemd script` answers standard input on standard output (scripts). What a script writes is stated in
-//! specs/Scripts.antt, for any desk, and specs/Desks.antt, for the lease desk; which bytes are a setup line in
-//! specs/SetupLines.antt.
+//! `vmemd script` answers standard input on standard output (scripts). What a script writes is
+//! stated in specs/Scripts.antt, for any desk, and specs/Desks.antt, for the lease desk; which
+//! bytes are a setup line in specs/SetupLines.antt.
 #![tactic(auto)]
 
 pub mod commands;

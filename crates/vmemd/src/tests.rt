@@ -1,5 +1,5 @@
-//! Whole scripts, with what they have to write; scripts that come a byte at a time or are cut short, and
-//! streams that fail.
+//! Whole scripts, with what they have to write; scripts that come a byte at a time or are cut
+//! short, and streams that fail.
 
 mod tables;
 
