@@ -303,7 +303,7 @@ fn an_interrupted_flush_is_tried_again(rt: HostRuntime) {
         let mishap = Mishap::FlushIsInterrupted { at };
         let (result, sink) = outcome(alloc, input, 2, Mishap::None, mishap, 100);
         assert_eq!(rt; result, Ok(()), "at {at}");
-        assert_eq!(rt; sink.held.as_slice(), input, "at {at}");
+        assert_eq!(rt; sink.held.as_slice(), input.as_slice(), "at {at}");
         // Three answers, each flushed before the next read, and one flush more.
         assert_eq!(rt; sink.flushes, 4, "at {at}");
         assert_eq!(rt; sink.flushed, sink.held.len(), "at {at}");
