@@ -5,8 +5,9 @@
 //! own. `base` is for `deed_core` and `refusing_deed`, `tables` for `deed_table`. `arenas` has rows
 //! of calls of an arena, over plain deeds and over deeds one of whose splits is refused; `slabs` the
 //! same of a slab cache; `magazines` runs over a CPU's cache and its depot. `books` has rows of
-//! requests to a book of leases, `lines` has lines, replies and streams of the protocol, and `desk`
-//! what a desk answers. `seat_deeds` has an arena over the deeds of running threads.
+//! requests to a book of leases, `lines` has lines, replies and streams of the protocol, `desk`
+//! what a desk answers, and `serving` streams of lines, failing ones too. `seat_deeds` has an arena
+//! over the deeds of running threads.
 #![tactic(auto)]
 
 #[cfg(test)]
@@ -23,6 +24,8 @@ mod lines;
 mod magazines;
 #[cfg(test)]
 mod seat_deeds;
+#[cfg(test)]
+mod serving;
 #[cfg(test)]
 mod slabs;
 #[cfg(test)]

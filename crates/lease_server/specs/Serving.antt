@@ -10,33 +10,39 @@ SameFront xs ys = take 256 xs ≡ take 256 ys
 
 -- the writer holds in addition a front of these bytes
 abbrev pub WritesFront : List ℕ → Option (List ℕ) → Option (List ℕ) → Type 0
-WritesFront bytes before after = (written : List ℕ) × (unwritten : List ℕ) × (bytes ≡ written ++ unwritten) × Appends before after written
+WritesFront bytes before after = (written : List ℕ) × (unwritten : List ℕ)
+    × (bytes ≡ written ++ unwritten) × Appends before after written
 
 module _ {S : Type 0} (may_answer : S → List ℕ → List ℕ → S → Type 0) where
-  -- From old, this text may be written for the frames, and new is then the state: for a line an answer that may be
-  -- given to it, for a refused line its error line.
+  -- From old, this text may be written for the frames, and new is then the state: for a line an
+  -- answer that may be given to it, for a refused line its error line.
   abbrev pub Serves : S → List Frame → List ℕ → S → Type 0
   Serves old [] text new = (text ≡ []) × (new ≡ old)
   Serves old (Ok line ∷ frames) text new = (reply : List ℕ) × (rest : List ℕ) × (mid : S)
       × may_answer old line reply mid × (text ≡ reply ++ rest) × Serves mid frames rest new
-  Serves old (Err fault ∷ frames) text new = (rest : List ℕ) × (text ≡ error_line fault ++ rest) × Serves old frames rest new
+  Serves old (Err fault ∷ frames) text new = (rest : List ℕ) × (text ≡ error_line fault ++ rest)
+      × Serves old frames rest new
 
   -- the buffer holds in addition what is written for these frames
   abbrev pub Answers : S → List Frame → List ℕ → List ℕ → S → Type 0
-  Answers old frames before after new = (text : List ℕ) × Serves old frames text new × (after ≡ before ++ text)
+  Answers old frames before after new = (text : List ℕ) × Serves old frames text new
+      × (after ≡ before ++ text)
 
   -- the same for the frames before one of these
   abbrev pub AnswersBefore : S → List Frame → List ℕ → List ℕ → S → Type 0
-  AnswersBefore old frames before after new = (served : List Frame) × (refused : Frame) × (later : List Frame)
+  AnswersBefore old frames before after new = (served : List Frame) × (refused : Frame)
+      × (later : List Frame)
       × (frames ≡ served ++ refused ∷ later) × Answers old served before after new
 
   -- the writer holds in addition what is written for these frames
   abbrev pub Writes : S → List Frame → Option (List ℕ) → Option (List ℕ) → S → Type 0
-  Writes old frames before after new = (text : List ℕ) × Serves old frames text new × Appends before after text
+  Writes old frames before after new = (text : List ℕ) × Serves old frames text new
+      × Appends before after text
 
   -- the same for the frames before one of these
   abbrev pub WritesBefore : S → List Frame → Option (List ℕ) → Option (List ℕ) → S → Type 0
-  WritesBefore old frames before after new = (served : List Frame) × (refused : Frame) × (later : List Frame)
+  WritesBefore old frames before after new = (served : List Frame) × (refused : Frame)
+      × (later : List Frame)
       × (frames ≡ served ++ refused ∷ later) × Writes old served before after new
 
   -- the writer holds in addition a front of what may be written for these frames
@@ -46,4 +52,5 @@ module _ {S : Type 0} (may_answer : S → List ℕ → List ℕ → S → Type 0
 
   -- the same for the first of these frames, up to where the serving stopped
   abbrev pub Stops : S → List Frame → Option (List ℕ) → Option (List ℕ) → Type 0
-  Stops old frames before after = (served : List Frame) × (later : List Frame) × (frames ≡ served ++ later) × WritesPart old served before after
+  Stops old frames before after = (served : List Frame) × (later : List Frame)
+      × (frames ≡ served ++ later) × WritesPart old served before after

@@ -1,8 +1,8 @@
-//! Serves the lines of a stream: each line that comes in is given to a responder, and its answers go out,
-//! in order, however the input was cut.
+//! Serves the lines of a stream: each line that comes in is given to a responder, and its answers
+//! go out, in order, however the input was cut.
 //!
-//! Begin at `serve` (serving). What answers lines is a `Responder`; what may go out for which lines is
-//! stated in specs/Serving.antt, over the frames of the crate `lease_proto`.
+//! Begin at `serve` (serving). What answers lines is a `Responder`; what may go out for which lines
+//! is stated in specs/Serving.antt, over the frames of the crate `lease_proto`.
 #![tactic(auto)]
 
 mod faults;
@@ -12,9 +12,7 @@ mod serving;
 mod watching;
 
 pub use faults::ServeFault;
+pub use output::deliver;
 pub use responders::Responder;
 pub use serving::{serve, serve_after};
 pub use watching::Watched;
-
-#[cfg(test)]
-mod tests;

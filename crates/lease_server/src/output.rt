@@ -10,8 +10,10 @@ use std::io::Write;
 
 /// Writes all of the bytes, or at a fault a front of them.
 fn write_out<W: Write>(writer: &mut Watched<W>, bytes: &[u8]) -> Result<(), ServeFault>
-    ensures ok { OnOk result (Appends (W.contents (inner_of writer.old)) (W.contents (inner_of writer.new)) bytes.now) }
-    ensures err { OnErr result (WritesFront bytes.now (W.contents (inner_of writer.old)) (W.contents (inner_of writer.new))) }
+    ensures ok { OnOk result (Appends (W.contents (inner_of writer.old))
+        (W.contents (inner_of writer.new)) bytes.now) }
+    ensures err { OnErr result (WritesFront bytes.now (W.contents (inner_of writer.old))
+        (W.contents (inner_of writer.new))) }
     ensures works { OnOk result (has_failed writer.new ≡ has_failed writer.old) }
     ensures failed { OnErr result (has_failed writer.new ≡ true) }
     ensures fault { OnErr result (result ≡ Err ServeFault.Write) }
@@ -26,8 +28,10 @@ fn write_out<W: Write>(writer: &mut Watched<W>, bytes: &[u8]) -> Result<(), Serv
 
 /// Writes all of the bytes and flushes, so that who reads sees them at once.
 pub fn deliver<W: Write>(writer: &mut Watched<W>, bytes: &[u8]) -> Result<(), ServeFault>
-    ensures ok { OnOk result (Appends (W.contents (inner_of writer.old)) (W.contents (inner_of writer.new)) bytes.now) }
-    ensures err { OnErr result (WritesFront bytes.now (W.contents (inner_of writer.old)) (W.contents (inner_of writer.new))) }
+    ensures ok { OnOk result (Appends (W.contents (inner_of writer.old))
+        (W.contents (inner_of writer.new)) bytes.now) }
+    ensures err { OnErr result (WritesFront bytes.now (W.contents (inner_of writer.old))
+        (W.contents (inner_of writer.new))) }
     ensures works { OnOk result (has_failed writer.new ≡ has_failed writer.old) }
     ensures failed { OnErr result (has_failed writer.new ≡ true) }
     ensures fault { OnErr result (result ≡ Err ServeFault.Write) }

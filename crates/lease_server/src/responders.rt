@@ -3,18 +3,19 @@ ghost use Rattle.std.specs.Prelude.{◌≡◌, ◌++◌, ℕ, List, OnOk, OnErr}
 
 use std::alloc::AllocError;
 
-/// Answers one line at a time, in the order in which the lines came. What a serving may write is stated
-/// over `may_answer`, which each responder says of itself.
+/// Answers one line at a time, in the order in which the lines came. What a serving may write is
+/// stated over `may_answer`, which each responder says of itself.
 pub trait Responder {
-    /// From a state, a line and an answer to it, given with its line feeds, and the state after it: what the
-    /// responder may do. More than one answer may be allowed, or none.
+    /// From a state, a line and an answer to it, given with its line feeds, and the state after it:
+    /// what the responder may do. More than one answer may be allowed, or none.
     ghost may_answer: { Self → List ℕ → List ℕ → Self → Type 0 };
 
-    /// Appends the answer to a line. `serve` gives each line without its line feed, of at most 255 bytes, also
-    /// an empty one, and never one that is too long or unended. Want of memory takes no effect, and ends the
-    /// serving: the responder isn't asked again.
+    /// Appends the answer to a line. `serve` gives each line without its line feed, of at most 255
+    /// bytes, also an empty one, and never one that is too long or unended. Want of memory takes no
+    /// effect, and ends the serving: the responder isn't asked again.
     fn answer(&mut self, line: &[u8], out: &mut Vec<u8>) -> Result<(), AllocError>
-        ensures ok { OnOk result ((reply : List ℕ) × (out.new.items ≡ out.old.items ++ reply) × may_answer self.old line.now reply self.new) }
+        ensures ok { OnOk result ((reply : List ℕ) × (out.new.items ≡ out.old.items ++ reply)
+            × may_answer self.old line.now reply self.new) }
         ensures err { OnErr result (out.new.items ≡ out.old.items) }
         ensures same { OnErr result (self.new ≡ self.old) };
 }

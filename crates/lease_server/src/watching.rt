@@ -6,9 +6,9 @@ ghost use Rattle.lease_server.specs.Watching.{has_failed, inner_of, reads_of};
 use crate::faults::ServeFault;
 use std::io::{ErrorKind, Read, Write};
 
-/// A reader or a writer, how often it was read, and whether it has failed: answered an error other than an
-/// interruption, took no byte of some, or was interrupted 2^64 - 1 times in a row. Only such a call makes it
-/// a failed one. The count of reads stops at 2^64 - 1.
+/// A reader or a writer, how often it was read, and whether it has failed: answered an error other
+/// than an interruption, took no byte of some, or was interrupted 2^64 - 1 times in a row. Only
+/// such a call makes it a failed one. The count of reads stops at 2^64 - 1.
 #[derive(Drop)]
 pub struct Watched<T> {
     inner: T,
@@ -54,10 +54,13 @@ impl<R: Read> Watched<R> {
     /// Reads into a buffer and says how many bytes, 0 only at the end or where there is no room.
     pub fn read(&mut self, buf: &mut [u8]) -> Result<usize, ServeFault>
         ensures bound { IfOk result (λ n. n ≤ length buf.new) }
-        ensures bytes { IfOk result (λ n. Consumes (R.remaining (inner_of self.old)) (R.remaining (inner_of self.new)) (take n buf.new)) }
-        ensures end { IfOk result (λ n. n ≡ 0 → 0 < length buf.new → IsAtEnd (R.remaining (inner_of self.new))) }
+        ensures bytes { IfOk result (λ n. Consumes (R.remaining (inner_of self.old))
+            (R.remaining (inner_of self.new)) (take n buf.new)) }
+        ensures end { IfOk result (λ n. n ≡ 0 → 0 < length buf.new
+            → IsAtEnd (R.remaining (inner_of self.new))) }
         ensures works { OnOk result (has_failed self.new ≡ has_failed self.old) }
-        ensures kept { OnErr result (Keeps (R.remaining (inner_of self.old)) (R.remaining (inner_of self.new))) }
+        ensures kept { OnErr result (Keeps (R.remaining (inner_of self.old))
+            (R.remaining (inner_of self.new))) }
         ensures failed { OnErr result (has_failed self.new ≡ true) }
         ensures fault { OnErr result (result ≡ Err ServeFault.Read) }
         ensures counted { reads_of self.new ≡ min (reads_of self.old + 1) (2 ^ 64 - 1) }
@@ -84,9 +87,11 @@ impl<W: Write> Watched<W> {
         requires { 0 < length bytes.now }
         ensures some { IfOk result (λ n. 0 < n) }
         ensures bound { IfOk result (λ n. n ≤ length bytes.now) }
-        ensures bytes { IfOk result (λ n. Appends (W.contents (inner_of self.old)) (W.contents (inner_of self.new)) (take n bytes.now)) }
+        ensures bytes { IfOk result (λ n. Appends (W.contents (inner_of self.old))
+            (W.contents (inner_of self.new)) (take n bytes.now)) }
         ensures works { OnOk result (has_failed self.new ≡ has_failed self.old) }
-        ensures kept { OnErr result (Keeps (W.contents (inner_of self.old)) (W.contents (inner_of self.new))) }
+        ensures kept { OnErr result (Keeps (W.contents (inner_of self.old))
+            (W.contents (inner_of self.new))) }
         ensures failed { OnErr result (has_failed self.new ≡ true) }
         ensures fault { OnErr result (result ≡ Err ServeFault.Write) }
         ensures counted { reads_of self.new ≡ reads_of self.old }
@@ -117,12 +122,17 @@ impl<W: Write> Watched<W> {
         ensures fault { OnErr result (result ≡ Err ServeFault.Write) }
         ensures counted { reads_of self.new ≡ reads_of self.old }
     {
-        match self.inner.flush() {
-            Ok(()) => Ok(()),
-            Err(_) => {
-                self.failed = true;
-                Err(ServeFault::Write)
+        for _ in 0..u64::MAX {
+            match self.inner.flush() {
+                Ok(()) => return Ok(()),
+                Err(e) if e.kind() == ErrorKind::Interrupted => {}
+                Err(_) => {
+                    self.failed = true;
+                    return Err(ServeFault::Write);
+                }
             }
         }
+        self.failed = true;
+        Err(ServeFault::Write)
     }
 }

@@ -4,7 +4,7 @@ use Rattle.std.proofs.lemmas.Bool.{cases_Bool}
 use Rattle.std.proofs.lemmas.List.{append-nil, append_assoc}
 use Rattle.std.specs.Io.KnownBytes.{Appends, Consumes, IsAtEnd}
 use Rattle.std.proofs.KnownBytes.{Appends-nil, Consumes-trans}
-use Rattle.lease_proto.specs.Frames.{Frame, frames_in, frames_of, rest_in, last_of}
+use Rattle.lease_proto.specs.Frames.{Frame, IsOneLine, frames_in, frames_of, rest_in, last_of}
 use Rattle.lease_proto.proofs.LawProofs.{frames_in-none, frames_in-append}
 use Rattle.lease_server.specs.Serving.{Writes, WritesBefore, Stops}
 use Rattle.lease_server.specs.declared.faults.ServeFault.{ServeFault}
@@ -100,7 +100,7 @@ module _ {S : Type 0} (takes : S → SetupLine → S → Type 0) (refuses : S �
       part,
       last,
       read.2,
-      (λ _. Appends-nil a),
+      (λ _. (one, Appends-nil a)),
       λ _. subst (λ frames. Writes may_answer last frames a a last) (sym (frames_in-none [] part one)) ([], (refl, refl), Appends-nil a),
     ),
   )
@@ -119,7 +119,7 @@ module _ {S : Type 0} (takes : S → SetupLine → S → Type 0) (refuses : S �
           rest.bytes.items ++ more,
           made,
           (more_read takes first made input rest.bytes.items more setup).0,
-          (λ yes. not_both (rest.bytes.items ++ more) (Appends before after []) (stays_other rest more is.1 (λ end. (is.2 end).0) none) yes),
+          (λ yes. not_both (rest.bytes.items ++ more) (IsOneLine (rest.bytes.items ++ more) × Appends before after []) (stays_other rest more is.1 (λ end. (is.2 end).0) none) yes),
           (λ _. writes),
         ),
       )

@@ -1,17 +1,22 @@
--- The words of the command line.
-use Rattle.std.specs.Prelude.{◌≡◌, ◌≢◌, ◌≤◌, ◌⊎◌, ℕ, List, [], ◌∷◌, true, codes}
-use Rattle.clap.specs.Words.{App, new_app, with_subcommand, kind_of}
+-- The words of the command line, and how a program ends that they are for no part of.
+use Rattle.std.specs.Prelude.{◌≡◌, ◌≢◌, ◌⊎◌, ℕ, Bool, List, ◌∷◌, [], Option, true, false, codes}
+use Rattle.std.specs.Io.KnownBytes.{Appends, Keeps}
+use Rattle.clap.specs.Words.{App, Kinds, IsAmong, new_app, with_subcommand, kind_of}
 use Rattle.clap.specs.declared.error.Error.{Error}
+use Rattle.clap.specs.declared.error.kind.ErrorKind.{ErrorKind}
 use Rattle.clap.specs.declared.error.kind.ErrorKind.TheVariants as kind
 use Rattle.vmemd.specs.declared.commands.WordsFault.{WordsFault}
-use Rattle.vmemd.specs.declared.commands.WordsFault.TheVariants.{Shown, NotText, Memory}
+use Rattle.vmemd.specs.declared.commands.WordsFault.TheVariants.{Asked, Mistaken, NotText, Memory}
 use Rattle.vmemd.specs.declared.faults.ScriptFault.TheVariants as script
 use Rattle.vmemd.specs.Scripts.{exit_of}
 
 -- the program's command before its subcommand is added
 abbrev pub bare_program : App
 bare_program = record (new_app (codes "vmemd")) {
-  top = record (new_app (codes "vmemd")).top { disable_help_subcommand = true; arg_required_else_help = true; subcommand_required = true };
+  top = record (new_app (codes "vmemd")).top {
+    has_version = true; disable_help_subcommand = true; arg_required_else_help = true;
+    subcommand_required = true
+  };
 }
 
 -- the program's command, which has to have the one subcommand `script`
@@ -22,16 +27,33 @@ program = with_subcommand bare_program (new_app (codes "script")).top
 abbrev pub script_words : List (List ℕ)
 script_words = codes "vmemd" ∷ codes "script" ∷ []
 
--- the text was asked for, as help is
-abbrev pub IsAskedFor : Error → Type 0
-IsAskedFor error = (kind_of error ≡ kind.DisplayHelp) ⊎ (kind_of error ≡ kind.DisplayVersion)
+-- help or the version was asked for
+abbrev pub IsAskedFor : ErrorKind → Type 0
+IsAskedFor of = (of ≡ kind.DisplayHelp) ⊎ (of ≡ kind.DisplayVersion)
 
--- the exit status after a text: 2 for a mistake in the words; else 0, or 1 where the text can't be written
-abbrev pub EndsShown : Error → ℕ → Type 0
-EndsShown error status = (IsAskedFor error → status ≤ 1) × (kind_of error ≢ kind.DisplayHelp → kind_of error ≢ kind.DisplayVersion → status ≡ 2)
+-- a text that was asked for, or one of a mistake
+abbrev pub IsTold : Error → WordsFault → Type 0
+IsTold error (Asked text) = IsAskedFor (kind_of error)
+IsTold error (Mistaken text) = (kind_of error ≢ kind.DisplayHelp)
+    × (kind_of error ≢ kind.DisplayVersion) × (kind_of error ≢ kind.OutOfMemory)
+IsTold error NotText = ⊥
+IsTold error Memory = Unit {0}
 
--- the exit status where the words ask for nothing
-abbrev pub EndsWords : WordsFault → ℕ → Type 0
-EndsWords (Shown error) status = EndsShown error status
-EndsWords NotText status = status ≡ 2
-EndsWords Memory status = status ≡ exit_of script.Memory
+-- by the faults that clap finds in words, of which there may be none: what they are told
+abbrev pub FailsWords : Kinds → WordsFault → Type 0
+FailsWords found (Asked text) = IsAmong kind.DisplayHelp found ⊎ IsAmong kind.DisplayVersion found
+FailsWords found (Mistaken text) = (of : ErrorKind) × IsAmong of found × (of ≢ kind.DisplayHelp)
+    × (of ≢ kind.DisplayVersion)
+FailsWords found NotText = ⊥
+FailsWords found Memory = Unit {0}
+
+-- How a program ends whose words are for no part of it, by what standard output had before and has
+-- after, whether it failed, and the exit status: a text that was asked for is written, and the
+-- status is 0 just where it was; for a mistake it is 2.
+abbrev pub EndsWords : WordsFault → Option (List ℕ) → Option (List ℕ) → Bool → ℕ → Type 0
+EndsWords (Asked text) before after failed status =
+    (failed ≡ false → (status ≡ 0) × Appends before after text.bytes.items)
+    × (failed ≡ true → status ≡ exit_of script.Write)
+EndsWords (Mistaken text) before after failed status = (status ≡ 2) × Keeps before after
+EndsWords NotText before after failed status = (status ≡ 2) × Keeps before after
+EndsWords Memory before after failed status = (status ≡ exit_of script.Memory) × Keeps before after

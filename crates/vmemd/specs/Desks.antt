@@ -15,39 +15,49 @@ use Rattle.vmemd.specs.declared.setup_lines.SpanLine.{SpanLine}
 use Rattle.vmemd.specs.declared.faults.Unserved.TheVariants as unserved
 use Rattle.vmemd.specs.declared.faults.ConfigFault.{ConfigFault}
 use Rattle.vmemd.specs.declared.faults.ConfigFault.TheVariants as config
-use Rattle.vmemd.specs.declared.faults.SetUpFault.{SetUpFault}
-use Rattle.vmemd.specs.declared.faults.SetUpFault.TheVariants as setting
+use Rattle.vmemd.specs.declared.faults.SettingFault.{SettingFault}
+use Rattle.vmemd.specs.declared.faults.SettingFault.TheVariants as setting
 use Rattle.vmemd.specs.declared.faults.ScriptFault.{ScriptFault}
 
 -- the arena that a line asks for
 abbrev pub arena_of : RootLine → NewArena
-arena_of r = record { name = r.name; range = record { base = r.base; len = r.len }; quantum = r.quantum; policy = r.policy; qcache_max = r.qcache_max }
+arena_of r = record {
+  name = r.name;
+  range = record { base = r.base; len = r.len };
+  quantum = r.quantum;
+  policy = r.policy;
+  qcache_max = r.qcache_max;
+}
 
 -- the span that a line asks for
 abbrev pub range_of : SpanLine → Extent
 range_of s = record { base = s.base; len = s.len }
 
 -- a line's refusal of the desk's
-abbrev pub set_up_fault : SetupFault → SetUpFault
-set_up_fault desk.NameTaken = setting.Refused config.NameTaken
-set_up_fault desk.TooMany = setting.Refused config.TooMany
-set_up_fault desk.NoArena = setting.Refused config.NoArena
-set_up_fault desk.BadQuantum = setting.Refused config.BadQuantum
-set_up_fault desk.NotYet = setting.Refused (config.NotYet unserved.Caches)
-set_up_fault desk.BadRange = setting.Refused config.BadRange
-set_up_fault desk.NoMemory = setting.Memory
+abbrev pub setting_fault : SetupFault → SettingFault
+setting_fault desk.NameTaken = setting.Refused config.NameTaken
+setting_fault desk.TooMany = setting.Refused config.TooMany
+setting_fault desk.NoArena = setting.Refused config.NoArena
+setting_fault desk.BadQuantum = setting.Refused config.BadQuantum
+setting_fault desk.NotYet = setting.Refused (config.NotYet unserved.Caches)
+setting_fault desk.BadRange = setting.Refused config.BadRange
+setting_fault desk.NoMemory = setting.Memory
 
 -- a desk takes a setup line
 abbrev pub TakesSetting : Picture → SetupLine → Picture → Type 0
-TakesSetting old (Root r) new = AddsArena (arena_of r) old.arenas new.arenas × (new.book ≡ old.book) × IsOrderly new
+TakesSetting old (Root r) new = AddsArena (arena_of r) old.arenas new.arenas × (new.book ≡ old.book)
+    × IsOrderly new
 TakesSetting old (Child c) new = ⊥
-TakesSetting old (Span s) new = AddsSpan s.name (range_of s) old.arenas new.arenas × (new.book ≡ old.book) × IsOrderly new
+TakesSetting old (Span s) new = AddsSpan s.name (range_of s) old.arenas new.arenas
+    × (new.book ≡ old.book) × IsOrderly new
 
 -- a desk refuses a setup line
 abbrev pub RefusesSetting : Picture → SetupLine → ConfigFault → Type 0
-RefusesSetting old (Root r) word = (fault : SetupFault) × RefusesArena old.arenas (arena_of r) fault × (set_up_fault fault ≡ setting.Refused word)
+RefusesSetting old (Root r) word = (fault : SetupFault) × RefusesArena old.arenas (arena_of r) fault
+    × (setting_fault fault ≡ setting.Refused word)
 RefusesSetting old (Child c) word = word ≡ config.NotYet unserved.Children
-RefusesSetting old (Span s) word = (fault : SetupFault) × RefusesSpan old.arenas s.name (range_of s) fault × (set_up_fault fault ≡ setting.Refused word)
+RefusesSetting old (Span s) word = (fault : SetupFault)
+    × RefusesSpan old.arenas s.name (range_of s) fault × (setting_fault fault ≡ setting.Refused word)
 
 -- a desk with no arena and an empty book
 abbrev pub IsFresh : Picture → Type 0
@@ -59,6 +69,7 @@ ScriptEnds input before after = (first : Picture) × (last : Picture) × IsFresh
     × RunsWhole TakesSetting LeaseStep first input before after last
 
 -- A script ends early.
-abbrev pub ScriptFails : Option (List ℕ) → Option (List ℕ) → Option (List ℕ) → Option (List ℕ) → ScriptFault → Type 0
+abbrev pub ScriptFails : Option (List ℕ) → Option (List ℕ) → Option (List ℕ) → Option (List ℕ)
+    → ScriptFault → Type 0
 ScriptFails unread left before after fault = (first : Picture) × (last : Picture) × IsFresh first
     × RunFails TakesSetting RefusesSetting LeaseStep first unread left before after last fault

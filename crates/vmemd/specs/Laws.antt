@@ -26,4 +26,5 @@ LeasesStayApart = (last : Picture) → Script last → AllPairs AreApart (leased
 
 -- after every script each unit of an arena's spans is in one place
 abbrev pub UnitsHaveOnePlace : Type 0
-UnitsHaveOnePlace = (last : Picture) → Script last → (k : ℕ) (x : ArenaPicture) → slice_get last.arenas k ≡ Some x → OnePlace k x last.book
+UnitsHaveOnePlace = (last : Picture) → Script last → (k : ℕ) (x : ArenaPicture)
+    → slice_get last.arenas k ≡ Some x → OnePlace k x last.book

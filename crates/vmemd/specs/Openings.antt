@@ -15,7 +15,8 @@ IsOther bytes = (more : List ℕ) → begins_setup (bytes ++ more) ≡ false
 
 -- what the bytes show
 abbrev pub Shows : List ℕ → Opening → Type 0
-Shows bytes (Line end) = (end < length bytes) × IsSetup bytes × IsOneLine (take end bytes) × (bytes ≡ ended (take end bytes) ++ drop (end + 1) bytes)
+Shows bytes (Line end) = (end < length bytes) × IsSetup bytes × IsOneLine (take end bytes)
+    × (bytes ≡ ended (take end bytes) ++ drop (end + 1) bytes)
 Shows bytes Long = (255 < length bytes) × IsSetup bytes × IsOneLine bytes
 Shows bytes Other = IsOther bytes
 Shows bytes Part = (length bytes ≤ 255) × IsOneLine bytes

@@ -3,7 +3,7 @@ use Rattle.std.specs.Prelude.{◌≡◌, ◌⊎◌, ◌≤◌, ◌^◌, Bool, �
 use Rattle.std.specs.List.{flat_map}
 use Rattle.std.specs.Io.KnownBytes.{Appends, Consumes}
 use Rattle.lease_proto.specs.declared.faults.LineFault.{LineFault}
-use Rattle.lease_proto.specs.Frames.{Frame, frames_in, frames_of, ended}
+use Rattle.lease_proto.specs.Frames.{Frame, IsOneLine, frames_in, frames_of, ended}
 use Rattle.lease_proto.specs.Grammar.{◌>>=◌}
 use Rattle.lease_server.specs.Serving.{Writes, Stops}
 use Rattle.lease_server.specs.declared.faults.ServeFault.{ServeFault}
@@ -12,8 +12,8 @@ use Rattle.vmemd.specs.SetupLines.{setup_of, begins_setup}
 use Rattle.vmemd.specs.declared.setup_lines.SetupLine.{SetupLine}
 use Rattle.vmemd.specs.declared.faults.ConfigFault.{ConfigFault}
 use Rattle.vmemd.specs.declared.faults.ConfigFault.TheVariants as config
-use Rattle.vmemd.specs.declared.faults.SetUpFault.{SetUpFault}
-use Rattle.vmemd.specs.declared.faults.SetUpFault.TheVariants as setting
+use Rattle.vmemd.specs.declared.faults.SettingFault.{SettingFault}
+use Rattle.vmemd.specs.declared.faults.SettingFault.TheVariants as setting
 use Rattle.vmemd.specs.declared.faults.ScriptFault.{ScriptFault}
 use Rattle.vmemd.specs.declared.faults.ScriptFault.TheVariants.{Setup, Read, Write, Memory}
 
@@ -40,7 +40,8 @@ serving_fault serving.Memory = Memory
 abbrev pub IsSpent : Bool → ℕ → Type 0
 IsSpent failed reads = (failed ≡ true) ⊎ (2 ^ 40 ≤ reads)
 
--- by whether the reader failed, how often it was read, and whether the writer failed: the fault is of what failed
+-- by whether the reader failed, how often it was read, and whether the writer failed: the fault is
+-- of what failed
 abbrev pub Blames : Bool → ℕ → Bool → ScriptFault → Type 0
 Blames reader reads writer (Setup line word) = (reader ≡ false) × (writer ≡ false)
 Blames reader reads writer Read = IsSpent reader reads × (writer ≡ false)
@@ -48,7 +49,7 @@ Blames reader reads writer Write = (reader ≡ false) × (writer ≡ true)
 Blames reader reads writer Memory = (reader ≡ false) × (writer ≡ false)
 
 -- a desk that doesn't take a line refuses it so, or memory was refused
-abbrev pub RefusedBy : (ConfigFault → Type 0) → SetUpFault → Type 0
+abbrev pub RefusedBy : (ConfigFault → Type 0) → SettingFault → Type 0
 RefusedBy refused (setting.Refused fault) = refused fault
 RefusedBy refused setting.Memory = Unit {0}
 
@@ -56,7 +57,8 @@ module _ {S : Type 0} (takes : S → SetupLine → S → Type 0) where
   -- from one desk, these setup lines are taken one after another, and make the other
   abbrev pub Makes : S → List (List ℕ) → S → Type 0
   Makes old [] new = new ≡ old
-  Makes old (line ∷ lines) new = (setting : SetupLine) × (mid : S) × (setup_of line ≡ Ok setting) × takes old setting mid × Makes mid lines new
+  Makes old (line ∷ lines) new = (setting : SetupLine) × (mid : S) × (setup_of line ≡ Ok setting)
+      × takes old setting mid × Makes mid lines new
 
   -- an input is setup lines that are taken, and this after them
   pub record SetsUp (first : S) (input rest : List ℕ) (made : S) : Type 0 where
@@ -72,52 +74,69 @@ module _ {S : Type 0} (refuses : S → SetupLine → ConfigFault → Type 0) whe
 
   -- a desk refuses the line that an input begins with
   abbrev pub RefusesFirst : S → List ℕ → ConfigFault → Type 0
-  RefusesFirst desk input word = (frame : Frame) × (frames : List Frame) × (frames_of input ≡ frame ∷ frames)
+  RefusesFirst desk input word = (frame : Frame) × (frames : List Frame)
+      × (frames_of input ≡ frame ∷ frames)
       × RefusesRead desk (frame >>= setup_of) word
 
-module _ {S : Type 0} (takes : S → SetupLine → S → Type 0) (refuses : S → SetupLine → ConfigFault → Type 0) where
-  -- the first setup line that is refused has this number, and the desk that the lines before it made refuses it with this word
+module _ {S : Type 0} (takes : S → SetupLine → S → Type 0)
+    (refuses : S → SetupLine → ConfigFault → Type 0) where
+  -- the first setup line that is refused has this number, and the desk that the lines before it
+  -- made refuses it with this word
   abbrev pub SetupRefused : S → List ℕ → ℕ → ConfigFault → S → Type 0
-  SetupRefused first input line word made = (rest : List ℕ) × (setup : SetsUp takes first input rest made)
-      × (line ≡ length setup.lines + 1) × (begins_setup rest ≡ true) × RefusesFirst refuses made rest word
+  SetupRefused first input line word made = (rest : List ℕ)
+      × (setup : SetsUp takes first input rest made)
+      × (line ≡ length setup.lines + 1) × (begins_setup rest ≡ true)
+      × RefusesFirst refuses made rest word
 
 module _ {S : Type 0} (may_answer : S → List ℕ → List ℕ → S → Type 0) where
   -- the writer holds in addition the whole answers to the first of these frames
   abbrev pub WritesFirst : S → List Frame → Option (List ℕ) → Option (List ℕ) → Type 0
-  WritesFirst old frames before after = (served : List Frame) × (later : List Frame) × (new : S) × (frames ≡ served ++ later)
+  WritesFirst old frames before after = (served : List Frame) × (later : List Frame) × (new : S)
+      × (frames ≡ served ++ later)
       × Writes may_answer old served before after new
 
-module _ {S : Type 0} (takes : S → SetupLine → S → Type 0) (may_answer : S → List ℕ → List ℕ → S → Type 0) where
+module _ {S : Type 0} (takes : S → SetupLine → S → Type 0)
+    (may_answer : S → List ℕ → List ℕ → S → Type 0) where
   -- All of an input is answered: the lines after the setup lines, by the desk that these make.
   abbrev pub RunsWhole : S → List ℕ → Option (List ℕ) → Option (List ℕ) → S → Type 0
-  RunsWhole first input before after last = (lines : List ℕ) × (made : S) × SetsUp takes first input lines made × (begins_setup lines ≡ false)
+  RunsWhole first input before after last = (lines : List ℕ) × (made : S)
+      × SetsUp takes first input lines made × (begins_setup lines ≡ false)
       × Writes may_answer made (frames_of lines) before after last
 
-  -- What was read of an input is answered as far as its whole lines go; nothing while the setup goes on.
+  -- What was read of an input is answered as far as its whole lines go; nothing while the setup
+  -- goes on.
   abbrev pub RunsSoFar : S → List ℕ → Option (List ℕ) → Option (List ℕ) → S → Type 0
-  RunsSoFar first input before after last = (part : List ℕ) × (made : S) × SetsUp takes first input part made
-      × (begins_setup part ≡ true → Appends before after [])
+  RunsSoFar first input before after last = (part : List ℕ) × (made : S)
+      × SetsUp takes first input part made
+      × (begins_setup part ≡ true → IsOneLine part × Appends before after [])
       × (begins_setup part ≡ false → Writes may_answer made (frames_in [] part) before after last)
 
   -- Of an input's answers a front is written; nothing while the setup goes on.
   abbrev pub RunStops : S → List ℕ → Option (List ℕ) → Option (List ℕ) → Type 0
-  RunStops first input before after = (lines : List ℕ) × (made : S) × SetsUp takes first input lines made
+  RunStops first input before after = (lines : List ℕ) × (made : S)
+      × SetsUp takes first input lines made
       × (begins_setup lines ≡ true → Appends before after [])
       × Stops may_answer made (frames_of lines) before after
 
   -- Of an input's answers the first are written whole; none while the setup goes on.
   abbrev pub RunsFirst : S → List ℕ → Option (List ℕ) → Option (List ℕ) → Type 0
-  RunsFirst first input before after = (lines : List ℕ) × (made : S) × SetsUp takes first input lines made
+  RunsFirst first input before after = (lines : List ℕ) × (made : S)
+      × SetsUp takes first input lines made
       × (begins_setup lines ≡ true → Appends before after [])
       × WritesFirst may_answer made (frames_of lines) before after
 
-module _ {S : Type 0} (takes : S → SetupLine → S → Type 0) (refuses : S → SetupLine → ConfigFault → Type 0)
+module _ {S : Type 0} (takes : S → SetupLine → S → Type 0)
+    (refuses : S → SetupLine → ConfigFault → Type 0)
     (may_answer : S → List ℕ → List ℕ → S → Type 0) where
   -- what a fault says of what was read and written
-  abbrev pub RunFails : S → Option (List ℕ) → Option (List ℕ) → Option (List ℕ) → Option (List ℕ) → S → ScriptFault → Type 0
+  abbrev pub RunFails : S → Option (List ℕ) → Option (List ℕ) → Option (List ℕ) → Option (List ℕ)
+      → S → ScriptFault → Type 0
   RunFails first unread left before after last (Setup line word) =
-      IfSome unread (λ input. SetupRefused takes refuses first input line word last) × Appends before after []
+      IfSome unread (λ input. SetupRefused takes refuses first input line word last)
+          × Appends before after []
   RunFails first unread left before after last Read = (input : List ℕ) × Consumes unread left input
       × RunsSoFar takes may_answer first input before after last
-  RunFails first unread left before after last Write = IfSome unread (λ input. RunStops takes may_answer first input before after)
-  RunFails first unread left before after last Memory = IfSome unread (λ input. RunsFirst takes may_answer first input before after)
+  RunFails first unread left before after last Write = IfSome unread
+      (λ input. RunStops takes may_answer first input before after)
+  RunFails first unread left before after last Memory = IfSome unread
+      (λ input. RunsFirst takes may_answer first input before after)

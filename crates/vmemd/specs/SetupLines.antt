@@ -55,7 +55,8 @@ child_of words = do
   q ← quantity_in quantum.0
   m ← quantity_in most.0
   i ← quantity_in least.0
-  Ok (record { name = arena; source = source; quantum = q; policy = chosen; qcache_max = m; import_min = i })
+  Ok (record { name = arena; source = source; quantum = q; policy = chosen; qcache_max = m;
+      import_min = i })
 
 -- `span NAME BASE LEN`
 unfoldable pub span_of : List (List ℕ) → Result SpanLine LineFault
@@ -89,7 +90,8 @@ opening (b ∷ bs) = if b == 32 || b == 10 then [] else b ∷ opening bs
 
 -- the words that a setup line begins with
 abbrev pub is_setup_word : List ℕ → Bool
-is_setup_word word = bytes_eq word (codes "root") || (bytes_eq word (codes "child") || bytes_eq word (codes "span"))
+is_setup_word word =
+    bytes_eq word (codes "root") || (bytes_eq word (codes "child") || bytes_eq word (codes "span"))
 
 -- the line that these bytes begin with is meant as a setup line, by its first word
 abbrev pub begins_setup : List ℕ → Bool

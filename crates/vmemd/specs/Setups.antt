@@ -12,19 +12,23 @@ use Rattle.vmemd.specs.declared.faults.ScriptFault.{ScriptFault}
 use Rattle.vmemd.specs.declared.faults.ScriptFault.TheVariants.{Setup, Read, Write, Memory}
 use Rattle.vmemd.specs.declared.setting_up.Rest.{Rest}
 
--- one read: these bytes get longer by a piece, which is empty just where the answer is that the input ended
+-- one read: these bytes get longer by a piece, which is empty just where the answer is that the
+-- input ended
 abbrev pub ReadsMore : Option (List ℕ) → Option (List ℕ) → List ℕ → List ℕ → Bool → Type 0
-ReadsMore unread left old new more = (piece : List ℕ) × Consumes unread left piece × (new ≡ old ++ piece) × (length piece ≤ 4096)
+ReadsMore unread left old new more = (piece : List ℕ) × Consumes unread left piece
+    × (new ≡ old ++ piece) × (length piece ≤ 4096)
     × (more ≡ false → (piece ≡ []) × IsAtEnd left) × (more ≡ true → 0 < length piece)
 
 module _ {S : Type 0} (takes : S → SetupLine → S → Type 0) where
   -- one line is a setup line and taken
   abbrev pub TakesLine : S → List ℕ → S → Type 0
-  TakesLine old line new = (setting : SetupLine) × (setup_of line ≡ Ok setting) × takes old setting new
+  TakesLine old line new = (setting : SetupLine) × (setup_of line ≡ Ok setting)
+      × takes old setting new
 
   -- what was read is setup lines that are taken, and this after them
   abbrev pub ReadsSetup : S → Option (List ℕ) → Option (List ℕ) → S → List ℕ → Type 0
-  ReadsSetup first unread left made rest = (input : List ℕ) × Consumes unread left input × SetsUp takes first input rest made
+  ReadsSetup first unread left made rest = (input : List ℕ) × Consumes unread left input
+      × SetsUp takes first input rest made
 
   -- what follows is no setup line
   abbrev pub RestIs : S → Option (List ℕ) → Option (List ℕ) → S → Rest → Type 0
@@ -35,15 +39,20 @@ module _ {S : Type 0} (takes : S → SetupLine → S → Type 0) where
 module _ {S : Type 0} (refuses : S → SetupLine → ConfigFault → Type 0) where
   -- why a line isn't taken
   abbrev pub LineFails : S → ℕ → Result SetupLine LineFault → ScriptFault → Type 0
-  LineFails desk number read (Setup line word) = (line ≡ number) × RefusesRead refuses desk read word
+  LineFails desk number read (Setup line word) = (line ≡ number)
+      × RefusesRead refuses desk read word
   LineFails desk number read Read = ⊥
   LineFails desk number read Write = ⊥
   LineFails desk number read Memory = Unit {0}
 
-module _ {S : Type 0} (takes : S → SetupLine → S → Type 0) (refuses : S → SetupLine → ConfigFault → Type 0) where
+module _ {S : Type 0} (takes : S → SetupLine → S → Type 0)
+    (refuses : S → SetupLine → ConfigFault → Type 0) where
   -- why a setup ended early
   abbrev pub SetupFails : S → Option (List ℕ) → Option (List ℕ) → S → ScriptFault → Type 0
-  SetupFails first unread left last (Setup line word) = IfSome unread (λ input. SetupRefused takes refuses first input line word last)
-  SetupFails first unread left last Read = (part : List ℕ) × ReadsSetup takes first unread left last part × IsOneLine part
+  SetupFails first unread left last (Setup line word) = IfSome unread
+      (λ input. SetupRefused takes refuses first input line word last)
+  SetupFails first unread left last Read = (part : List ℕ)
+      × ReadsSetup takes first unread left last part × IsOneLine part
   SetupFails first unread left last Write = ⊥
-  SetupFails first unread left last Memory = IfSome unread (λ input. (rest : List ℕ) × (made : S) × SetsUp takes first input rest made)
+  SetupFails first unread left last Memory = IfSome unread
+      (λ input. (rest : List ℕ) × (made : S) × SetsUp takes first input rest made)

@@ -2,7 +2,7 @@
 
 ghost use Rattle.std.specs.Prelude.{◌≡◌, ◌≢◌, [], IfOk, IfErr, OnOk, map};
 ghost use Rattle.clap.specs.Words.{app_of, fault_of, kind_of};
-ghost use Rattle.vmemd.specs.Commands.{program, script_words};
+ghost use Rattle.vmemd.specs.Commands.{program, script_words, FailsWords, IsTold};
 
 use clap::error::ErrorKind;
 use clap::{Command, Error};
@@ -15,11 +15,13 @@ pub enum Words {
     Script,
 }
 
-/// Why the words ask for nothing.
+/// Why the words are for no part of the program.
 #[derive(Drop)]
 pub enum WordsFault {
-    /// A text to show: help where it was asked for, or what is wrong with the words.
-    Shown(Error),
+    /// Help or the version, which they ask for: a text for standard output.
+    Asked(String),
+    /// What is wrong with them, or the help where there are none: a text for standard error.
+    Mistaken(String),
     /// A word isn't text.
     NotText,
     /// Memory was refused.
@@ -48,48 +50,96 @@ impl<T: Drop> From<AllocFailed<T>> for WordsFault {
     }
 }
 
+/// The program's version, which `--version` tells.
+pub const VERSION: &str = "0.1.0";
+
 /// The lines of a script, for its help.
 const SCRIPT_HELP: &str = "\
-Answers the lines of standard input on standard output, one client line at a time.
+Answers the lines of standard input on standard output, one line at a time.
 
 A line is at most 255 bytes: words of a to z and 0 to 9 with one space between them, ended by a
-line feed. Numbers are decimal, at most 2^62.
+line feed. Numbers are decimal, from 0 to 2^62. A name begins with a letter and has at most 16
+characters.
 
 Setup lines come first, and print nothing. The first other line ends the setup, also an empty one:
-  root NAME BASE LEN QUANTUM POLICY QMAX   an arena with one span of LEN units from BASE on, sizes
-                                           rounded up to QUANTUM, a power of two;
-                                           POLICY is instant, best or next, and QMAX is 0
+  root NAME BASE LEN QUANTUM POLICY QMAX   an arena: the LEN units from BASE on, leased in whole
+                                           quanta; QUANTUM is a power of two, and QMAX is 0
   span NAME BASE LEN                       a further span of that arena
 
-Then the lines of clients and operators:
-  hello C I                                client C begins as its incarnation I
-  lease C I N NAME SIZE                    its request N asks for SIZE units; there may follow,
-                                           in this order: align A, phase P, nocross X, min L, max H
-  release C I N NAME BASE                  its request N gives back the lease at BASE
-  audit                                    where the units of each arena are
-  clients                                  the clients, with their last numbers and their leases
+POLICY says which units a lease gets, of all free ones that fit it:
+  best     the lowest in the shortest free range, of equally short ones the lowest range
+  next     the lowest from the end of the arena's last lease on; where there are none, the lowest of
+           all. So numbers come round before they are used again
+  instant  where free ranges of 2^i and more, but below 2^(i+1) quanta, are one kind: for a lease
+           with no option, the front of the newest range of the least kind whose ranges all hold
+           it; otherwise as best
 
-A refused setup line ends the program with vmemd: line K: WORD. WORD is toolong, badline, word or
-number where the line is none of these two, name where the name is taken, many above 32 arenas or
-65536 spans, noarena, quantum, cache (QMAX), or range where it is empty, too high, not in whole
-quanta, or overlaps.
-A line after the setup that isn't one of these is answered by error and a word, and the program
-goes on.
+Then the lines of clients. Clients C are 1 to 65536; I and N are 1 to 2^62:
+  hello C I                  client C begins as its incarnation I. A client that restarts takes a
+                             greater I, and loses the leases of its older ones
+  lease C I N NAME SIZE ..   its request N asks for SIZE units of arena NAME, with the options below
+  release C I N NAME BASE    its request N gives back its whole lease that begins at BASE
+The requests of an incarnation count 1, 2, 3, .., leases and releases together. The last one, sent
+again, gets its first answer and does nothing else.
+
+The options of a lease, each at most once and in this order. A lease is the LEN units from BASE on,
+in one span; LEN is SIZE rounded up to whole quanta, and BASE a multiple of QUANTUM:
+  align A     BASE is a multiple of A, or with phase P that much above one
+  phase P     BASE divided by A leaves P
+  nocross X   no multiple of X lies inside the lease; it may begin or end on one
+  min L       BASE is at least L
+  max H       the lease ends at H or before: unit H itself isn't in it
+Without an option, or where A, P, X or L is 0 or H is 2^62, there is no such condition. Otherwise a
+request is bad where A or X is no power of two or no multiple of QUANTUM; where P isn't below A or
+is no multiple of QUANTUM; where X is below LEN; or where L isn't below H. So it is where SIZE is 0.
+
+Answers to clients:
+  welcome C I                   the hello is taken
+  granted C I N NAME BASE LEN   the lease has LEN units from BASE on
+  released C I N                the lease is given back
+  refused C I N WORD            noarena: no arena has this name; badrequest: the request is bad;
+                                nofit: no free units fit it; leases: the client has 1024 leases;
+                                notyours: incarnation I has no lease that begins at BASE
+  old C V                       the client's incarnation is V, not I; V is 0 before its first hello
+  stale C I N V                 N was used already: the last request was V, and V + 1 is next
+  gap C I N V                   N is too high: the last request was V, and V + 1 is next
+  again C I N                   memory was refused and nothing was done; send the line once more.
+                                N is 0 for a hello
+Each refused answer counts as the answer to its N; old, stale, gap, again and error don't.
+
+Lines of operators:
+  audit     for each arena: arena NAME free F slab S magazine M exported E leased L hand H, in units
+  clients   for each client: client C I LAST LEASES, its last request and how many leases it has
+
+A line that is none of these is answered by error and a word, and does nothing: toolong (above 255
+bytes), badline (a space too many, another byte, no line feed; too few words or too many, an option
+out of order), word (no line begins so) or number (no number, or out of its range).
+
+A refused setup line ends the program with vmemd: line K: WORD, and nothing is written. WORD is
+toolong, badline, word or number where the line is no root or span line as above; name where the
+name is taken; many above 32 arenas or 65536 spans of one; noarena where a span's arena isn't there;
+quantum where it is no power of two; cache where QMAX isn't 0; or range where LEN is 0, or the span
+ends above 2^62, isn't of whole quanta or overlaps another of its arena.
 
 Example:
-  printf 'root m 0 64 1 best 0\\nhello 1 1\\nlease 1 1 1 m 8\\n' | vmemd script";
+  printf 'root m 0 64 1 best 0\\nhello 1 1\\nlease 1 1 1 m 8 align 16 min 20\\n' | vmemd script
+answers
+  welcome 1 1
+  granted 1 1 1 m 32 8";
 
 const STATUS_HELP: &str = "\
-Exit status: 0 at the end of the input, 1 where reading, writing or memory fails, 2 for other words
-than these and for a setup line that is refused.";
+Exit status: 0 at the end of the input, and after help or the version; 1 where reading, writing or
+memory fails; 2 for other words than these and for a setup line that is refused.";
 
 fn command<'a>(alloc: Global) -> Result<Command<'a>, AllocError>
     ensures { IfOk result (λ c. app_of c ≡ program) }
 {
     let script = Command::new(alloc, "script")
         .about("Answer standard input on standard output")
-        .long_about(SCRIPT_HELP);
+        .long_about(SCRIPT_HELP)
+        .after_help(STATUS_HELP);
     Command::new(alloc, "vmemd")
+        .version(VERSION)
         .about("Leases ranges of whole numbers to clients, over lines of text")
         .after_help(STATUS_HELP)
         .subcommand_required(true)
@@ -100,24 +150,30 @@ fn command<'a>(alloc: Global) -> Result<Command<'a>, AllocError>
 
 /// Reads the words, of which the first is the program's name.
 pub fn read_words<'a>(alloc: Global, words: &'a [&'a str]) -> Result<Words, WordsFault>
-    // `vmemd script` is refused only for want of memory.
-    ensures script { map (λ w. w.now) words.now ≡ script_words → IfErr result (λ fault. fault ≡ WordsFault.Memory) }
+    // `vmemd script` is refused only where memory is.
+    ensures script { map (λ w. w.now) words.now ≡ script_words
+        → IfErr result (λ fault. fault ≡ WordsFault.Memory) }
     // What is taken is without fault, as clap reads a program with this one command.
     ensures ok { OnOk result (fault_of program (map (λ w. w.now) words.now) ≡ []) }
+    // What isn't taken has the fault that clap finds.
+    ensures err { IfErr result (FailsWords (fault_of program (map (λ w. w.now) words.now))) }
 {
     match command(alloc)?.try_get_matches_from(words) {
         Ok(_matches) => Ok(Words::Script),
-        Err(error) => Err(words_fault(error)),
+        Err(error) => Err(words_fault(alloc, error)),
     }
 }
 
-fn words_fault(error: Error) -> WordsFault
+fn words_fault(alloc: Global, error: Error) -> WordsFault
     ensures memory { kind_of error ≡ ErrorKind.OutOfMemory → result ≡ WordsFault.Memory }
-    ensures shown { kind_of error ≢ ErrorKind.OutOfMemory → result ≡ WordsFault.Shown error }
+    ensures told { IsTold error result }
 {
     if error.kind() == ErrorKind::OutOfMemory {
-        WordsFault::Memory
-    } else {
-        WordsFault::Shown(error)
+        return WordsFault::Memory;
+    }
+    match format!(in alloc; "{error}") {
+        Err(_) => WordsFault::Memory,
+        Ok(text) if error.use_stderr() => WordsFault::Mistaken(text),
+        Ok(text) => WordsFault::Asked(text),
     }
 }

@@ -1,17 +1,17 @@
 //! The lease desk, set up by setup lines.
 
-use crate::faults::{ConfigFault, SetUpFault, Unserved};
+use crate::faults::{ConfigFault, SettingFault, Unserved};
 use crate::setting_up::SetUp;
 use crate::setup_lines::SetupLine;
 use lease_desk::{Desk, SetupFault};
 
-impl From<SetupFault> for SetUpFault {
+impl From<SetupFault> for SettingFault {
     ghost use Rattle.std.specs.Prelude.{◌≡◌};
-    ghost use Rattle.vmemd.specs.Desks.{set_up_fault};
+    ghost use Rattle.vmemd.specs.Desks.{setting_fault};
 
-    ghost from_gives = { λ cause fault. fault ≡ set_up_fault cause };
+    ghost from_gives = { λ cause fault. fault ≡ setting_fault cause };
 
-    fn from(fault: SetupFault) -> SetUpFault {
+    fn from(fault: SetupFault) -> SettingFault {
         let word = match fault {
             SetupFault::NameTaken => ConfigFault::NameTaken,
             SetupFault::TooMany => ConfigFault::TooMany,
@@ -19,9 +19,9 @@ impl From<SetupFault> for SetUpFault {
             SetupFault::BadQuantum => ConfigFault::BadQuantum,
             SetupFault::NotYet => ConfigFault::NotYet(Unserved::Caches),
             SetupFault::BadRange => ConfigFault::BadRange,
-            SetupFault::NoMemory => return SetUpFault::Memory,
+            SetupFault::NoMemory => return SettingFault::Memory,
         };
-        SetUpFault::Refused(word)
+        SettingFault::Refused(word)
     }
 }
 
@@ -32,7 +32,7 @@ impl SetUp for Desk {
 
     ghost refuses = { RefusesSetting };
 
-    fn set_up(&mut self, line: &SetupLine) -> Result<(), SetUpFault> {
+    fn set_up(&mut self, line: &SetupLine) -> Result<(), SettingFault> {
         match line {
             SetupLine::Root(root) => self.add_root(
                 root.name,
@@ -45,7 +45,7 @@ impl SetUp for Desk {
             SetupLine::Span(span) => { self.add_span(&span.name, span.base.get(), span.len.get())? }
             SetupLine::Child(_) => {
                 let word = ConfigFault::NotYet(Unserved::Children);
-                return Err(SetUpFault::Refused(word));
+                return Err(SettingFault::Refused(word));
             }
         }
         Ok(())

@@ -1,18 +1,21 @@
 //! How the program ends: what it says then, and its exit status.
-ghost use Rattle.std.specs.Prelude.{◌≡◌};
+ghost use Rattle.std.specs.Prelude.{◌≡◌, false, OnOk, OnErr};
 ghost use Rattle.std.specs.Process.{exit_status};
-ghost use Rattle.vmemd.specs.Commands.{EndsWords, EndsShown};
+ghost use Rattle.lease_server.specs.Watching.{inner_of, has_failed};
+ghost use Rattle.vmemd.specs.Commands.{EndsWords};
 ghost use Rattle.vmemd.specs.Scripts.{exit_of, status_of};
 
 use crate::commands::WordsFault;
 use crate::faults::ScriptFault;
-use clap::Error;
+use lease_server::{Watched, deliver};
+use std::io::Write;
 use std::process::ExitCode;
 
-/// The exit status where the command line asks for nothing that there is.
+/// The exit status where the words are a mistake.
 const USAGE: u8 = 2;
 
-/// Ends a script. A fault is told on standard error; where that can't be written, the status alone tells it.
+/// Ends a script. A fault is told on standard error; where that can't be written, the status alone
+/// tells it.
 pub fn end_script<R: Eprint>(rt: &R, ran: Result<(), ScriptFault>) -> ExitCode
     ensures { exit_status result ≡ status_of ran }
 {
@@ -22,31 +25,31 @@ pub fn end_script<R: Eprint>(rt: &R, ran: Result<(), ScriptFault>) -> ExitCode
     }
 }
 
-/// Ends a program whose words ask for nothing, and shows why.
-pub fn end_words<R: Print + Eprint>(rt: &R, fault: &WordsFault) -> ExitCode
-    ensures { EndsWords fault.now (exit_status result) }
+/// Ends a program whose words are for no part of it: what was asked for is written, and what is
+/// wrong is told on standard error.
+pub fn end_words<R: Eprint, W: Write>(
+    rt: &R,
+    writer: &mut Watched<W>,
+    fault: &WordsFault,
+) -> ExitCode
+    requires { has_failed writer.old ≡ false }
+    ensures { EndsWords fault.now (W.contents (inner_of writer.old))
+        (W.contents (inner_of writer.new)) (has_failed writer.new) (exit_status result) }
 {
     match fault {
-        WordsFault::Shown(text) => show(rt, text),
+        WordsFault::Asked(text) => match deliver(writer, text.as_bytes()) {
+            Ok(()) => ExitCode::SUCCESS,
+            Err(_) => fail(rt, ScriptFault::Write),
+        },
+        WordsFault::Mistaken(text) => {
+            let _ = eprint!(rt; "{text}");
+            ExitCode::from(USAGE)
+        }
         WordsFault::NotText => {
             let _ = eprintln!(rt; "vmemd: an argument isn't text");
             ExitCode::from(USAGE)
         }
         WordsFault::Memory => fail(rt, ScriptFault::Memory),
-    }
-}
-
-/// Shows help on standard output, or what is wrong with the words on standard error.
-fn show<R: Print + Eprint>(rt: &R, text: &Error) -> ExitCode
-    ensures { EndsShown text.now (exit_status result) }
-{
-    let shown = text.print(rt);
-    if text.use_stderr() {
-        ExitCode::from(USAGE)
-    } else if shown.is_err() {
-        fail(rt, ScriptFault::Write)
-    } else {
-        ExitCode::SUCCESS
     }
 }
 

@@ -16,8 +16,9 @@ pub enum Unserved {
     Caches,
 }
 
-/// Why a setup line is refused, by its word. They stand in the order in which they are looked for, but
-/// for `NotYet`: `Children` comes after the line's own refusals, and `Caches` before `BadRange`.
+/// Why a setup line is refused, by its word. They stand in the order in which they are looked for,
+/// but for `NotYet`: `Children` comes after the line's own refusals, and `Caches` before
+/// `BadRange`.
 #[derive(Clone, Copy, Debug, PartialEq, Eq, Error)]
 pub enum ConfigFault {
     /// The bytes are no setup line.
@@ -44,7 +45,7 @@ pub enum ConfigFault {
 
 /// Why a desk doesn't take a setup line that was read.
 #[derive(Clone, Copy, Debug, PartialEq, Eq)]
-pub enum SetUpFault {
+pub enum SettingFault {
     Refused(ConfigFault),
     Memory,
 }

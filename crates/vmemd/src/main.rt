@@ -1,8 +1,8 @@
 //! `vmemd`: leases of ranges of whole numbers to clients, over lines of text.
 //!
-//! `vmemd script` answers standard input on standard output (scripts). What a script writes is stated in
-//! specs/Scripts.antt, for any desk, and specs/Desks.antt, for the lease desk; which bytes are a setup line in
-//! specs/SetupLines.antt.
+//! `vmemd script` answers standard input on standard output (scripts). What a script writes is
+//! stated in specs/Scripts.antt, for any desk, and specs/Desks.antt, for the lease desk; which
+//! bytes are a setup line in specs/SetupLines.antt.
 #![tactic(auto)]
 
 pub mod commands;
@@ -29,7 +29,7 @@ use std::process::ExitCode;
 fn main(rt: HostRuntime) -> ExitCode {
     match read_arguments(&rt) {
         Ok(Words::Script) => end_script(&rt, answer_input(&rt)),
-        Err(fault) => end_words(&rt, &fault),
+        Err(fault) => end_words(&rt, &mut Watched::new(io::writer(&rt)), &fault),
     }
 }
 

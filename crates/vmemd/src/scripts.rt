@@ -15,7 +15,8 @@ use std::alloc::Global;
 use std::io;
 use std::io::{Read, Write};
 
-/// Sets up a desk by the setup lines that the input begins with, and lets it answer the lines after them.
+/// Sets up a desk by the setup lines that the input begins with, and lets it answer the lines after
+/// them.
 pub fn run<R: Read, W: Write, D: SetUp>(
     alloc: Global,
     reader: &mut Watched<R>,
@@ -25,11 +26,15 @@ pub fn run<R: Read, W: Write, D: SetUp>(
     requires reader { has_failed reader.old ≡ false }
     requires writer { has_failed writer.old ≡ false }
     ensures ok { OnOk result (IfSome (R.remaining (inner_of reader.old)) (λ input.
-        RunsWhole D.takes D.may_answer desk.old input (W.contents (inner_of writer.old)) (W.contents (inner_of writer.new)) desk.new)) }
-    ensures err { IfErr result (RunFails D.takes D.refuses D.may_answer desk.old (R.remaining (inner_of reader.old)) (R.remaining (inner_of reader.new))
+        RunsWhole D.takes D.may_answer desk.old input (W.contents (inner_of writer.old))
+            (W.contents (inner_of writer.new)) desk.new)) }
+    ensures err { IfErr result (RunFails D.takes D.refuses D.may_answer desk.old
+        (R.remaining (inner_of reader.old)) (R.remaining (inner_of reader.new))
         (W.contents (inner_of writer.old)) (W.contents (inner_of writer.new)) desk.new) }
-    ensures works { OnOk result ((has_failed reader.new ≡ false) × (has_failed writer.new ≡ false)) }
-    ensures blames { IfErr result (Blames (has_failed reader.new) (reads_of reader.new) (has_failed writer.new)) }
+    ensures works { OnOk result ((has_failed reader.new ≡ false)
+        × (has_failed writer.new ≡ false)) }
+    ensures blames { IfErr result (Blames (has_failed reader.new) (reads_of reader.new)
+        (has_failed writer.new)) }
 {
     let rest = take_setup(alloc, reader, desk)?;
     serve_rest(alloc, &rest, reader, writer, desk)?;
@@ -48,17 +53,26 @@ fn serve_rest<R: Read, W: Write, D: SetUp>(
     requires writer { has_failed writer.old ≡ false }
     requires end { rest.now.ended ≡ true → IsAtEnd (R.remaining (inner_of reader.old)) }
     ensures ok { OnOk result (IfSome (R.remaining (inner_of reader.old)) (λ input.
-        Writes D.may_answer desk.old (frames_of (rest.now.bytes.items ++ input)) (W.contents (inner_of writer.old)) (W.contents (inner_of writer.new)) desk.new)) }
-    ensures read { IsErrOf result ServeFault.Read ⊎ IsErrOf result ServeFault.Turns → (input : List ℕ)
+        Writes D.may_answer desk.old (frames_of (rest.now.bytes.items ++ input))
+            (W.contents (inner_of writer.old)) (W.contents (inner_of writer.new)) desk.new)) }
+    ensures read { IsErrOf result ServeFault.Read ⊎ IsErrOf result ServeFault.Turns
+        → (input : List ℕ)
         × Consumes (R.remaining (inner_of reader.old)) (R.remaining (inner_of reader.new)) input
         × (rest.now.ended ≡ true → input ≡ [])
-        × Writes D.may_answer desk.old (frames_in [] (rest.now.bytes.items ++ input)) (W.contents (inner_of writer.old)) (W.contents (inner_of writer.new)) desk.new }
-    ensures stop { IsErrOf result ServeFault.Write → IfSome (R.remaining (inner_of reader.old)) (λ input.
-        Stops D.may_answer desk.old (frames_of (rest.now.bytes.items ++ input)) (W.contents (inner_of writer.old)) (W.contents (inner_of writer.new))) }
-    ensures memory { IsErrOf result ServeFault.Memory → IfSome (R.remaining (inner_of reader.old)) (λ input.
-        WritesFirst D.may_answer desk.old (frames_of (rest.now.bytes.items ++ input)) (W.contents (inner_of writer.old)) (W.contents (inner_of writer.new))) }
-    ensures works { OnOk result ((has_failed reader.new ≡ false) × (has_failed writer.new ≡ false)) }
-    ensures blames { IfErr result (λ fault. Blames (has_failed reader.new) (reads_of reader.new) (has_failed writer.new) (serving_fault fault)) }
+        × Writes D.may_answer desk.old (frames_in [] (rest.now.bytes.items ++ input))
+            (W.contents (inner_of writer.old)) (W.contents (inner_of writer.new)) desk.new }
+    ensures stop { IsErrOf result ServeFault.Write → IfSome (R.remaining (inner_of reader.old))
+        (λ input.
+        Stops D.may_answer desk.old (frames_of (rest.now.bytes.items ++ input))
+            (W.contents (inner_of writer.old)) (W.contents (inner_of writer.new))) }
+    ensures memory { IsErrOf result ServeFault.Memory
+        → IfSome (R.remaining (inner_of reader.old)) (λ input.
+        WritesFirst D.may_answer desk.old (frames_of (rest.now.bytes.items ++ input))
+            (W.contents (inner_of writer.old)) (W.contents (inner_of writer.new))) }
+    ensures works { OnOk result ((has_failed reader.new ≡ false)
+        × (has_failed writer.new ≡ false)) }
+    ensures blames { IfErr result (λ fault. Blames (has_failed reader.new) (reads_of reader.new)
+        (has_failed writer.new) (serving_fault fault)) }
 {
     let front = rest.bytes.as_slice();
     if rest.ended {
@@ -76,12 +90,19 @@ fn serve_end<W: Write, D: SetUp>(
     desk: &mut D,
 ) -> Result<(), ServeFault>
     requires { has_failed writer.old ≡ false }
-    ensures ok { OnOk result (Writes D.may_answer desk.old (frames_of front.now) (W.contents (inner_of writer.old)) (W.contents (inner_of writer.new)) desk.new) }
-    ensures stop { IsErrOf result ServeFault.Write → Stops D.may_answer desk.old (frames_of front.now) (W.contents (inner_of writer.old)) (W.contents (inner_of writer.new)) }
-    ensures memory { IsErrOf result ServeFault.Memory → WritesFirst D.may_answer desk.old (frames_of front.now) (W.contents (inner_of writer.old)) (W.contents (inner_of writer.new)) }
-    ensures fault { OnErr result (IsErrOf result ServeFault.Write ⊎ IsErrOf result ServeFault.Memory) }
+    ensures ok { OnOk result (Writes D.may_answer desk.old (frames_of front.now)
+        (W.contents (inner_of writer.old)) (W.contents (inner_of writer.new)) desk.new) }
+    ensures stop { IsErrOf result ServeFault.Write → Stops D.may_answer desk.old
+        (frames_of front.now) (W.contents (inner_of writer.old))
+        (W.contents (inner_of writer.new)) }
+    ensures memory { IsErrOf result ServeFault.Memory
+        → WritesFirst D.may_answer desk.old (frames_of front.now) (W.contents (inner_of writer.old))
+        (W.contents (inner_of writer.new)) }
+    ensures fault { OnErr result (IsErrOf result ServeFault.Write
+        ⊎ IsErrOf result ServeFault.Memory) }
     ensures works { OnOk result (has_failed writer.new ≡ false) }
-    ensures blames { IfErr result (λ fault. Blames false 0 (has_failed writer.new) (serving_fault fault)) }
+    ensures blames { IfErr result (λ fault. Blames false 0 (has_failed writer.new)
+        (serving_fault fault)) }
 {
     let mut nothing = Watched::new(io::empty());
     match serve_after(alloc, front, &mut nothing, writer, desk) {
@@ -94,9 +115,9 @@ fn serve_end<W: Write, D: SetUp>(
     }
 }
 
-/// Runs a script: setup lines and then the lines of clients and operators, from the reader to the writer, by
-/// one thread. Units are numbers and have no owner elsewhere. At its end, and at any fault, all leases are
-/// freed, all spans taken out and their deeds closed, which takes no memory.
+/// Runs a script: setup lines and then the lines of clients and operators, from the reader to the
+/// writer, by one thread. Units are numbers and have no owner elsewhere. At its end, and at any
+/// fault, all leases are freed, all spans taken out and their deeds closed, which takes no memory.
 pub fn run_script<R: Read, W: Write>(
     alloc: Global,
     reader: &mut Watched<R>,
@@ -104,11 +125,17 @@ pub fn run_script<R: Read, W: Write>(
 ) -> Result<(), ScriptFault>
     requires reader { has_failed reader.old ≡ false }
     requires writer { has_failed writer.old ≡ false }
-    ensures ok { OnOk result (IfSome (R.remaining (inner_of reader.old)) (λ input. ScriptEnds input (W.contents (inner_of writer.old)) (W.contents (inner_of writer.new)))) }
-    ensures err { IfErr result (ScriptFails (R.remaining (inner_of reader.old)) (R.remaining (inner_of reader.new)) (W.contents (inner_of writer.old)) (W.contents (inner_of writer.new))) }
+    ensures ok { OnOk result (IfSome (R.remaining (inner_of reader.old))
+        (λ input. ScriptEnds input (W.contents (inner_of writer.old))
+        (W.contents (inner_of writer.new)))) }
+    ensures err { IfErr result (ScriptFails (R.remaining (inner_of reader.old))
+        (R.remaining (inner_of reader.new)) (W.contents (inner_of writer.old))
+        (W.contents (inner_of writer.new))) }
     // A fault is told of what failed.
-    ensures works { OnOk result ((has_failed reader.new ≡ false) × (has_failed writer.new ≡ false)) }
-    ensures blames { IfErr result (Blames (has_failed reader.new) (reads_of reader.new) (has_failed writer.new)) }
+    ensures works { OnOk result ((has_failed reader.new ≡ false)
+        × (has_failed writer.new ≡ false)) }
+    ensures blames { IfErr result (Blames (has_failed reader.new) (reads_of reader.new)
+        (has_failed writer.new)) }
 {
     let mut desk = Desk::new(alloc);
     let ran = run(alloc, reader, writer, &mut desk);

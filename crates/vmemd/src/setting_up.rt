@@ -7,7 +7,7 @@ ghost use Rattle.vmemd.specs.SetupLines as spec;
 ghost use Rattle.vmemd.specs.Scripts.{RefusedBy, IsSpent};
 ghost use Rattle.vmemd.specs.Setups.{TakesLine, LineFails, ReadsMore, RestIs, SetupFails};
 
-use crate::faults::{ConfigFault, ScriptFault, SetUpFault};
+use crate::faults::{ConfigFault, ScriptFault, SettingFault};
 use crate::openings::{Opening, begins_setup, look};
 use crate::setup_lines::SetupLine;
 use lease_proto::LineFault;
@@ -33,7 +33,7 @@ pub trait SetUp: Responder {
     ghost refuses: { Self → SetupLine → ConfigFault → Type 0 };
 
     /// Takes a setup line, or says why not and stays as it was.
-    fn set_up(&mut self, line: &SetupLine) -> Result<(), SetUpFault>
+    fn set_up(&mut self, line: &SetupLine) -> Result<(), SettingFault>
         ensures taken { OnOk result (takes self.old line.now self.new) }
         ensures refused { IfErr result (RefusedBy (refuses self.old line.now)) }
         ensures same { OnErr result (self.new ≡ self.old) };
@@ -47,18 +47,22 @@ pub struct Rest {
     pub ended: bool,
 }
 
-/// Takes the setup lines that the input begins with, and gives what was read after them. At a refused line the
-/// desk is what the lines before it made.
+/// Takes the setup lines that the input begins with, and gives what was read after them. At a
+/// refused line the desk is what the lines before it made.
 pub fn take_setup<R: Read, D: SetUp>(
     alloc: Global,
     reader: &mut Watched<R>,
     desk: &mut D,
 ) -> Result<Rest, ScriptFault>
-    ensures ok { IfOk result (RestIs D.takes desk.old (R.remaining (inner_of reader.old)) (R.remaining (inner_of reader.new)) desk.new) }
-    ensures err { IfErr result (SetupFails D.takes D.refuses desk.old (R.remaining (inner_of reader.old)) (R.remaining (inner_of reader.new)) desk.new) }
+    ensures ok { IfOk result (RestIs D.takes desk.old (R.remaining (inner_of reader.old))
+        (R.remaining (inner_of reader.new)) desk.new) }
+    ensures err { IfErr result (SetupFails D.takes D.refuses desk.old
+        (R.remaining (inner_of reader.old)) (R.remaining (inner_of reader.new)) desk.new) }
     ensures works { OnOk result (has_failed reader.new ≡ has_failed reader.old) }
-    ensures failed { IsErrOf result ScriptFault.Read → IsSpent (has_failed reader.new) (reads_of reader.new) }
-    ensures kept { IfErr result (λ fault. (fault ≡ ScriptFault.Read) ⊎ (has_failed reader.new ≡ has_failed reader.old)) }
+    ensures failed { IsErrOf result ScriptFault.Read
+        → IsSpent (has_failed reader.new) (reads_of reader.new) }
+    ensures kept { IfErr result (λ fault. (fault ≡ ScriptFault.Read)
+        ⊎ (has_failed reader.new ≡ has_failed reader.old)) }
 {
     let mut front = Vec::new(alloc);
     let mut number = 1u64;
@@ -90,9 +94,13 @@ pub fn take_setup<R: Read, D: SetUp>(
 
 /// Reads on once, and says whether the input may go on.
 fn read_more<R: Read>(front: &mut Vec<u8>, reader: &mut Watched<R>) -> Result<bool, ScriptFault>
-    ensures ok { IfOk result (ReadsMore (R.remaining (inner_of reader.old)) (R.remaining (inner_of reader.new)) front.old.items front.new.items) }
-    ensures err { IfErr result (λ fault. ((fault ≡ ScriptFault.Memory) × (has_failed reader.new ≡ has_failed reader.old))
-        ⊎ ((fault ≡ ScriptFault.Read) × Keeps (R.remaining (inner_of reader.old)) (R.remaining (inner_of reader.new)) × (front.new.items ≡ front.old.items) × (has_failed reader.new ≡ true))) }
+    ensures ok { IfOk result (ReadsMore (R.remaining (inner_of reader.old))
+        (R.remaining (inner_of reader.new)) front.old.items front.new.items) }
+    ensures err { IfErr result (λ fault. ((fault ≡ ScriptFault.Memory)
+        × (has_failed reader.new ≡ has_failed reader.old))
+        ⊎ ((fault ≡ ScriptFault.Read) × Keeps (R.remaining (inner_of reader.old))
+            (R.remaining (inner_of reader.new)) × (front.new.items ≡ front.old.items)
+            × (has_failed reader.new ≡ true))) }
     ensures works { OnOk result (has_failed reader.new ≡ has_failed reader.old) }
     ensures counted { reads_of reader.new ≡ min (reads_of reader.old + 1) (2 ^ 64 - 1) }
 {
@@ -104,8 +112,10 @@ fn read_more<R: Read>(front: &mut Vec<u8>, reader: &mut Watched<R>) -> Result<bo
 
 /// What follows the setup where the input ended with these bytes: no line feed ends them.
 fn end_setup(front: Vec<u8>, number: u64) -> Result<Rest, ScriptFault>
-    ensures ok { IfOk result (λ rest. (rest.bytes ≡ front) × (rest.ended ≡ true) × (spec.begins_setup front.items ≡ false)) }
-    ensures err { IfErr result (λ fault. (fault ≡ ScriptFault.Setup number (ConfigFault.Line LineFault.BadLine)) × (spec.begins_setup front.items ≡ true)) }
+    ensures ok { IfOk result (λ rest. (rest.bytes ≡ front) × (rest.ended ≡ true)
+        × (spec.begins_setup front.items ≡ false)) }
+    ensures err { IfErr result (λ fault. (fault ≡ ScriptFault.Setup number
+        (ConfigFault.Line LineFault.BadLine)) × (spec.begins_setup front.items ≡ true)) }
 {
     if begins_setup(front.as_slice()) {
         return Err(refusal(number, LineFault::BadLine));
@@ -136,8 +146,8 @@ fn take_line<D: SetUp>(line: &[u8], number: u64, desk: &mut D) -> Result<(), Scr
     };
     match desk.set_up(&setting) {
         Ok(()) => Ok(()),
-        Err(SetUpFault::Refused(word)) => Err(ScriptFault::Setup { line: number, word }),
-        Err(SetUpFault::Memory) => Err(ScriptFault::Memory),
+        Err(SettingFault::Refused(word)) => Err(ScriptFault::Setup { line: number, word }),
+        Err(SettingFault::Memory) => Err(ScriptFault::Memory),
     }
 }
 

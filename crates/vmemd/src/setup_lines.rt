@@ -5,8 +5,8 @@ ghost use Rattle.vmemd.specs.SetupLines.{policy_in, root_of, child_of, span_of, 
 use lease_proto::{LineFault, Name, Quantity, Words, name, quantity, words};
 use tag_arena::Policy;
 
-/// `root NAME BASE LEN QUANTUM POLICY QMAX`: an arena with one owned span. The base and the lengths are in
-/// units; QMAX is the greatest size that has a cache, or 0 for none.
+/// `root NAME BASE LEN QUANTUM POLICY QMAX`: an arena with one owned span. The base and the lengths
+/// are in units; QMAX is the greatest size that has a cache, or 0 for none.
 #[derive(Clone, Copy, Debug, PartialEq, Eq)]
 pub struct RootLine {
     pub name: Name,
@@ -40,8 +40,8 @@ impl RootLine {
     }
 }
 
-/// `child NAME SOURCE QUANTUM POLICY QMAX IMPORTMIN`: an arena that imports its spans from a source, at
-/// least IMPORTMIN units at a time.
+/// `child NAME SOURCE QUANTUM POLICY QMAX IMPORTMIN`: an arena that imports its spans from a
+/// source, at least IMPORTMIN units at a time.
 #[derive(Clone, Copy, Debug, PartialEq, Eq)]
 pub struct ChildLine {
     pub name: Name,
@@ -109,9 +109,10 @@ pub enum SetupLine {
 }
 
 impl SetupLine {
-    /// The setup line that these bytes are, or the first reason why they are none. They are given without
-    /// the line feed. It takes no memory.
-    #[tactic(auto, unfolding(crate::specs::SetupLines::setup_of, crate::specs::SetupLines::setup_of_words))]
+    /// The setup line that these bytes are, or the first reason why they are none. They are given
+    /// without the line feed. It takes no memory.
+    #[tactic(auto, unfolding(crate::specs::SetupLines::setup_of,
+        crate::specs::SetupLines::setup_of_words))]
     pub fn read(bytes: &[u8]) -> Result<SetupLine, LineFault>
         ensures { result ≡ setup_of bytes.now }
     {

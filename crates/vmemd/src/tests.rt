@@ -1,9 +1,9 @@
-//! Whole scripts, with what they have to write; scripts that come a byte at a time or are cut short, and
-//! streams that fail.
+//! Whole scripts, with what they have to write; scripts that come a byte at a time or are cut
+//! short, and streams that fail.
 
 mod tables;
 
-use self::tables::{REFUSED, ROWS, SHOWN};
+use self::tables::{ASKED, MISTAKEN, REFUSED, ROWS};
 use crate::commands::{Words, WordsFault, read_words};
 use crate::faults::{ConfigFault, ScriptFault};
 use crate::scripts::run_script;
@@ -333,14 +333,16 @@ fn command_line(rt: HostRuntime) -> Result<(), Fail> {
         Ok(words) => assert_eq!(rt; words, Words::Script),
         Err(_fault) => return Err(Fail::from("`script` was not taken")),
     }
-    for (words, is_error, text) in &SHOWN {
+    for (words, text) in &ASKED {
         match read_words(alloc, words) {
-            Err(WordsFault::Shown(error)) => {
-                assert_eq!(rt; error.use_stderr(), *is_error);
-                let shown = format!(in alloc; "{error}")?;
-                assert_eq!(rt; shown.as_str(), *text);
-            }
-            _other => return Err(Fail::from("the words were taken")),
+            Err(WordsFault::Asked(shown)) => assert_eq!(rt; shown.as_str(), *text),
+            _other => return Err(Fail::from("a text that was asked for was not told")),
+        }
+    }
+    for (words, text) in &MISTAKEN {
+        match read_words(alloc, words) {
+            Err(WordsFault::Mistaken(shown)) => assert_eq!(rt; shown.as_str(), *text),
+            _other => return Err(Fail::from("a mistake was not told")),
         }
     }
     Ok(())

@@ -268,20 +268,29 @@ pub const REFUSED: [(&[u8], u64, &str); 22] = [
     (b"root a 0 8 1 best 0\nspan a 8 8", 2, "badline"),
 ];
 
-/// Words of the command line that ask for nothing, what is shown then, and whether on standard error.
-pub const SHOWN: [(&[&str], bool, &str); 4] = [
+/// Words of the command line that ask for a text, and the text.
+pub const ASKED: [(&[&str], &str); 4] = [
+    (&["vmemd", "--help"], PROGRAM_HELP),
+    (&["vmemd", "-h"], PROGRAM_HELP),
+    (&["vmemd", "--version"], "vmemd 0.1.0\n"),
+    (&["vmemd", "-V"], "vmemd 0.1.0\n"),
+];
+
+/// Words of the command line that are a mistake, and what is told of them.
+pub const MISTAKEN: [(&[&str], &str); 4] = [
     (
         &["vmemd", "frob"],
-        true,
         "error: unrecognized subcommand 'frob'\n\nUsage: vmemd <COMMAND>\n\nFor more information, try '--help'.\n",
     ),
     (
         &["vmemd", "script", "frob"],
-        true,
         "error: unexpected argument 'frob' found\n\nUsage: vmemd script\n\nFor more information, try '--help'.\n",
     ),
-    (&["vmemd"], true, PROGRAM_HELP),
-    (&["vmemd", "--help"], false, PROGRAM_HELP),
+    (
+        &["vmemd", "script", "--version"],
+        "error: unexpected argument '--version' found\n\nUsage: vmemd script\n\nFor more information, try '--help'.\n",
+    ),
+    (&["vmemd"], PROGRAM_HELP),
 ];
 
 const PROGRAM_HELP: &str = "\
@@ -293,8 +302,9 @@ Commands:
   script  Answer standard input on standard output
 
 Options:
-  -h, --help  Print help
+  -h, --help     Print help
+  -V, --version  Print version
 
-Exit status: 0 at the end of the input, 1 where reading, writing or memory fails, 2 for other words
-than these and for a setup line that is refused.
+Exit status: 0 at the end of the input, and after help or the version; 1 where reading, writing or
+memory fails; 2 for other words than these and for a setup line that is refused.
 ";

@@ -1,12 +1,43 @@
-use Rattle.std.proofs.Common.{◌≡◌, ◌∙◌, ap₂, refl, true}
-use Rattle.clap.specs.Words.{takes}
+use Rattle.std.proofs.Common.{◌≡◌, ◌∙◌, ap₂, refl, true, Ok, Err, inl, inr, sym, subst, map, ℕ, List, []}
+use Rattle.clap.specs.Words.{takes, kind_of, fault_of, is_simple_and_free, app_of, FailsBy, HasKind, IsAmong, Kinds}
+use Rattle.clap.specs.declared.error.Error.{Error}
+use Rattle.clap.specs.declared.error.kind.ErrorKind.TheVariants as kind
 use Rattle.clap.proofs.OnLiterals.{clap_on_literals}
-use Rattle.vmemd.specs.Commands.{program, script_words}
+use Rattle.vmemd.specs.declared.commands.WordsFault.{WordsFault}
+use Rattle.vmemd.specs.declared.commands.WordsFault.TheVariants.{Asked, Mistaken, NotText, Memory}
+use Rattle.vmemd.specs.Commands.{program, script_words, FailsWords, IsTold}
 use Rattle.vmemd.proofs.commands.read_words.Goals as goal
 
 is_taken : takes program script_words ≡ true
 unfolding clap_on_literals
 is_taken = refl
 
+is_plain : is_simple_and_free program ≡ true
+unfolding clap_on_literals
+is_plain = refl
+
+-- what is told of one of these faults
+told : (kinds : Kinds) (error : Error) (fault : WordsFault) → HasKind kinds error → IsTold error fault → FailsWords kinds fault
+told kinds error (Asked text) (inl memory) (inl help) = let bad : kind.OutOfMemory ≡ kind.DisplayHelp = sym memory ∙ help in absurd (cc)
+told kinds error (Asked text) (inl memory) (inr version) = let bad : kind.OutOfMemory ≡ kind.DisplayVersion = sym memory ∙ version in absurd (cc)
+told kinds error (Asked text) (inr among) (inl help) = inl (subst (λ k. IsAmong k kinds) help among)
+told kinds error (Asked text) (inr among) (inr version) = inr (subst (λ k. IsAmong k kinds) version among)
+told kinds error (Mistaken text) (inl memory) (help, version, other) = absurd (other memory)
+told kinds error (Mistaken text) (inr among) (help, version, other) = (kind_of error, among, help, version)
+told kinds error NotText has is = is
+told kinds error Memory has is = tt
+
 pub returns-in-Err-clause-script : goal.returns-in-Err-clause-script
 returns-in-Err-clause-script c = λ are. c.words_fault.ensures.memory (c.in-Err.ensures.passes (ap₂ takes c.in_ok-command.ensures are ∙ is_taken))
+
+pub returns-in-Ok-clause-ok : goal.returns-in-Ok-clause-ok
+returns-in-Ok-clause-ok c =
+    let words = map (λ w. w.now) c.args.words.now in
+    subst (λ a. is_simple_and_free a ≡ true → FailsBy (fault_of a words) (Ok c.in-Ok._matches)) c.in_ok-command.ensures c.in-Ok.ensures.kinds is_plain
+
+pub returns-in-Err-clause-err : goal.returns-in-Err-clause-err
+returns-in-Err-clause-err c =
+    let words = map (λ w. w.now) c.args.words.now in
+    told (fault_of program words) c.in-Err.error c.words_fault.result
+    (subst (λ a. is_simple_and_free a ≡ true → HasKind (fault_of a words) c.in-Err.error) c.in_ok-command.ensures c.in-Err.ensures.kinds is_plain)
+    c.words_fault.ensures.told

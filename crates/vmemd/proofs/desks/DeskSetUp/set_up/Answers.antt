@@ -3,17 +3,17 @@ use Rattle.std.proofs.lemmas.Result.{err_from_is_err_and}
 use Rattle.lease_desk.specs.Setup.{RefusesSpan}
 use Rattle.lease_desk.specs.declared.faults.SetupFault.{SetupFault}
 use Rattle.lease_desk.specs.declared.faults.SetupFault.TheVariants as desk
-use Rattle.vmemd.specs.Desks.{set_up_fault, RefusesSetting}
+use Rattle.vmemd.specs.Desks.{setting_fault, RefusesSetting}
 use Rattle.vmemd.specs.Scripts.{RefusedBy}
 use Rattle.vmemd.specs.declared.faults.ConfigFault.{ConfigFault}
 use Rattle.vmemd.specs.declared.faults.ConfigFault.TheVariants as config
 use Rattle.vmemd.specs.declared.faults.Unserved.TheVariants as unserved
-use Rattle.vmemd.specs.declared.faults.SetUpFault.TheVariants as setting
+use Rattle.vmemd.specs.declared.faults.SettingFault.TheVariants as setting
 use Rattle.vmemd.specs.declared.setup_lines.SetupLine.TheVariants.{Span}
 use Rattle.vmemd.proofs.desks.DeskSetUp.set_up.Goals as goal
 
 -- a refusal of the desk's is one of the line's, or memory was refused
-refused_by : (P : ConfigFault → Type 0) (fault : SetupFault) → ((word : ConfigFault) → set_up_fault fault ≡ setting.Refused word → P word) → RefusedBy P (set_up_fault fault)
+refused_by : (P : ConfigFault → Type 0) (fault : SetupFault) → ((word : ConfigFault) → setting_fault fault ≡ setting.Refused word → P word) → RefusedBy P (setting_fault fault)
 refused_by P desk.NameTaken f = f config.NameTaken refl
 refused_by P desk.TooMany f = f config.TooMany refl
 refused_by P desk.NoArena f = f config.NoArena refl

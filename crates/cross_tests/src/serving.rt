@@ -1,7 +1,7 @@
 //! Serving from readers and to writers that give and take little, that stop for a moment, and that fail.
 ghost use Rattle.std.specs.Prelude.{◌≡◌, ◌∷◌, [], ◌++◌};
 
-use crate::{Responder, ServeFault, Watched, serve, serve_after};
+use lease_server::{Responder, ServeFault, Watched, serve, serve_after};
 use std::alloc::{AllocError, Global};
 use std::io;
 use std::io::{ErrorKind, Read, Write};
@@ -15,6 +15,7 @@ enum Mishap {
     Fails { at: u64 },
     IsInterrupted { at: u64 },
     FlushFails { at: u64 },
+    FlushIsInterrupted { at: u64 },
 }
 
 fn happens(mishap: Mishap, turn: u64) -> Option<ErrorKind> {
@@ -89,6 +90,9 @@ impl Write for Sink {
         match self.mishap {
             Mishap::FlushFails { at } if at == self.flushes => {
                 Err(io::Error::from(ErrorKind::BrokenPipe))
+            }
+            Mishap::FlushIsInterrupted { at } if at == self.flushes => {
+                Err(io::Error::from(ErrorKind::Interrupted))
             }
             _ => {
                 self.flushed = self.held.len();
@@ -288,6 +292,21 @@ fn a_flush_that_fails_ends_the_serving(rt: HostRuntime) {
         assert_eq!(rt; result, Err(ServeFault::Write), "at {at}");
         assert_eq!(rt; sink.writes, at);
         assert_eq!(rt; sink.flushes, at);
+    }
+}
+
+#[test]
+fn an_interrupted_flush_is_tried_again(rt: HostRuntime) {
+    let alloc = rt.alloc();
+    let input = b"a\nb\nc\n";
+    for at in 1..=3 {
+        let mishap = Mishap::FlushIsInterrupted { at };
+        let (result, sink) = outcome(alloc, input, 2, Mishap::None, mishap, 100);
+        assert_eq!(rt; result, Ok(()), "at {at}");
+        assert_eq!(rt; sink.held.as_slice(), input.as_slice(), "at {at}");
+        // Three answers, each flushed before the next read, and one flush more.
+        assert_eq!(rt; sink.flushes, 4, "at {at}");
+        assert_eq!(rt; sink.flushed, sink.held.len(), "at {at}");
     }
 }
 
