@@ -101,11 +101,11 @@ chunks_are_of_cache c sound = (
 
 pub out_is_of_cache : OutIsOfCache
 out_is_of_cache c sound f = sum_by-only_all (is_of_cache c.arena c.k) f (chunks_out c) (
-  λ i d within.
-      let t : Tag = get_or (chunks_out c) i d in
-      let chunk : IsChunkOf c t = (chunks_are_of_cache c sound).0 i d within in
-      ((tests_say t).3 c.arena c.k).1 (chunk.from, chunk.by)
-)
+    λ i d within.
+    let t : Tag = get_or (chunks_out c) i d in
+    let chunk : IsChunkOf c t = (chunks_are_of_cache c sound).0 i d within in
+    ((tests_say t).3 c.arena c.k).1 (chunk.from, chunk.by)
+    )
 
 pub chunk_fits : ChunkFits
 chunk_fits c t size chunk rounds =

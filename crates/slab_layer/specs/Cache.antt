@@ -1,6 +1,21 @@
 -- What a contract sees of a slab cache, what lies in it, and what it keeps.
 use Rattle.std.specs.Prelude.{
-  ◌≡◌, ℕ, ◌+◌, ◌-◌, ◌*◌, ◌/◌, ◌%◌, ◌^◌, ◌<◌, ◌≤◌, List, All, AllPairs, map, length, nat_le,
+  ◌≡◌,
+  ℕ,
+  ◌+◌,
+  ◌-◌,
+  ◌*◌,
+  ◌/◌,
+  ◌%◌,
+  ◌^◌,
+  ◌<◌,
+  ◌≤◌,
+  List,
+  All,
+  AllPairs,
+  map,
+  length,
+  nat_le,
   if◌then◌else◌,
 }
 use Rattle.std.specs.List.{flat_map}
@@ -11,7 +26,13 @@ use Rattle.deed_core.specs.Tag.{Tag}
 use Rattle.deed_core.specs.declared.segments.Route.{Route}
 use Rattle.deed_core.specs.declared.segments.Route.TheVariants.{Direct, Cached}
 use Rattle.slab_layer.specs.Slab.{
-  SlabState, chunk_at, idle_chunks_by, chunks_out_by, deeds_in, gap_of, tail_of,
+  SlabState,
+  chunk_at,
+  idle_chunks_by,
+  chunks_out_by,
+  deeds_in,
+  gap_of,
+  tail_of,
 }
 
 -- a cache of chunks of k quanta, cut from slabs of one size

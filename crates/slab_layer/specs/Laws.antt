@@ -5,7 +5,12 @@ use Rattle.deed_core.specs.Tag.{Tag}
 use Rattle.deed_core.specs.Weights.{of_cache}
 use Rattle.slab_layer.specs.Slab.{IsAllOut, IsComplete}
 use Rattle.slab_layer.specs.Cache.{
-    SlabCacheState, IsSound, IsChunkOf, chunk_of, chunks_out, idle_chunks,
+  SlabCacheState,
+  IsSound,
+  IsChunkOf,
+  chunk_of,
+  chunks_out,
+  idle_chunks,
 }
 use Rattle.slab_layer.specs.Moves.{TakeOf, ReapOf}
 

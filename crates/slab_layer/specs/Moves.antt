@@ -1,7 +1,29 @@
 -- What the calls of a slab cache answer, and do.
 use Rattle.std.specs.Prelude.{
-  ◌≡◌, ◌≢◌, ℕ, ◌<◌, ◌≤◌, ◌⊎◌, Bool, true, false, List, Option, Some, None, Result, Ok, Err, All,
-  Any, Contains, length, take, drop, slice_index_or, slice_set,
+  ◌≡◌,
+  ◌≢◌,
+  ℕ,
+  ◌<◌,
+  ◌≤◌,
+  ◌⊎◌,
+  Bool,
+  true,
+  false,
+  List,
+  Option,
+  Some,
+  None,
+  Result,
+  Ok,
+  Err,
+  All,
+  Any,
+  Contains,
+  length,
+  take,
+  drop,
+  slice_index_or,
+  slice_set,
 }
 use Rattle.std.specs.List.{insert, remove}
 use Rattle.deed_core.specs.Extent.{Overlap, end_of}
@@ -11,10 +33,22 @@ use Rattle.slab_layer.specs.declared.faults.AddFault.TheVariants as Adding
 use Rattle.slab_layer.specs.declared.faults.PutFault.{PutFault}
 use Rattle.slab_layer.specs.declared.faults.PutFault.TheVariants as Putting
 use Rattle.slab_layer.specs.Slab.{
-  SlabState, new_slab, with_chunk, IsAllOut, IsComplete, IsPartial, IsLowestIdle,
+  SlabState,
+  new_slab,
+  with_chunk,
+  IsAllOut,
+  IsComplete,
+  IsPartial,
+  IsLowestIdle,
 }
 use Rattle.slab_layer.specs.Cache.{
-  SlabCacheState, chunk_of, next_colour, chunk_tag, span_tag, idle_chunks, chunks_out,
+  SlabCacheState,
+  chunk_of,
+  next_colour,
+  chunk_tag,
+  span_tag,
+  idle_chunks,
+  chunks_out,
 }
 
 -- the two are of one arena, and their chunks and slabs have the same lengths
@@ -42,7 +76,7 @@ pub record StandsAt (i : ℕ) (s : SlabState) (slabs : List SlabState) : Type 0 
 
 -- of the slabs that are so, s has the least base
 pub record IsLowest (P : SlabState → Type 0) (i : ℕ) (s : SlabState) (slabs : List SlabState)
-  : Type 0 where
+    : Type 0 where
   pub stands : StandsAt i s slabs
   pub so : P s
   pub least : All (λ t. P t → s.span.range.base ≤ t.span.range.base) slabs
@@ -66,7 +100,7 @@ TakeOf old (Some t) new = (i j : ℕ) × (s : SlabState) × Takes i j s old new 
 
 -- t is the j-th chunk of the i-th slab, and that is out, or at home
 pub record IsChunk (i j : ℕ) (s : SlabState) (b : Bool) (t : Tag) (c : SlabCacheState)
-  : Type 0 where
+    : Type 0 where
   pub stands : StandsAt i s c.slabs
   pub within : j < length s.home
   pub home : slice_index_or s.home j b ≡ b
@@ -107,7 +141,7 @@ pub record Adds (i : ℕ) (old new : SlabCacheState) (span first : Tag) : Type 0
     quantum = old.quantum;
     slab_size = old.slab_size;
     slabs =
-      insert old.slabs i (with_chunk (new_slab span.holding old.colour (chunk_of old)) 0 false);
+        insert old.slabs i (with_chunk (new_slab span.holding old.colour (chunk_of old)) 0 false);
     colour = next_colour old;
   }
 

@@ -1,6 +1,17 @@
 -- Deeds that may be missing, since what they would cover has no units.
 use Rattle.std.specs.Prelude.{
-    ℕ, ◌+◌, ◌-◌, ◌==◌, min, List, [], ◌∷◌, Option, Some, None, if◌then◌else◌,
+  ℕ,
+  ◌+◌,
+  ◌-◌,
+  ◌==◌,
+  min,
+  List,
+  [],
+  ◌∷◌,
+  Option,
+  Some,
+  None,
+  if◌then◌else◌,
 }
 use Rattle.deed_core.specs.Holding.{Holding, piece, GoesOn, joined}
 

@@ -1,7 +1,31 @@
 -- What a contract sees of a slab, and where its chunks stand.
 use Rattle.std.specs.Prelude.{
-    ◌≡◌, ℕ, ◌+◌, ◌-◌, ◌*◌, ◌/◌, ◌<◌, ◌≤◌, Bool, true, false, not, List, [], ◌∷◌, ◌++◌, Option, Some,
-    None, All, Contains, length, slice_index_or, slice_set, replicate, if◌then◌else◌,
+  ◌≡◌,
+  ℕ,
+  ◌+◌,
+  ◌-◌,
+  ◌*◌,
+  ◌/◌,
+  ◌<◌,
+  ◌≤◌,
+  Bool,
+  true,
+  false,
+  not,
+  List,
+  [],
+  ◌∷◌,
+  ◌++◌,
+  Option,
+  Some,
+  None,
+  All,
+  Contains,
+  length,
+  slice_index_or,
+  slice_set,
+  replicate,
+  if◌then◌else◌,
 }
 use Rattle.std.specs.Option.{option_to_list}
 use Rattle.deed_core.specs.Holding.{Holding, piece}
@@ -95,7 +119,7 @@ stored_row f i (x ∷ xs) = (if x then Some (f i) else None) ∷ stored_row f (i
 
 -- the deeds of a slab are those of its parts
 pub record IsStored (s : SlabState) (first : Option Holding) (row : List (Option Holding))
-  (last : Option Holding) : Type 0 where
+    (last : Option Holding) : Type 0 where
   pub shape : IsSlab s
   pub gap : first ≡ gap_of s
   pub chunks : row ≡ stored_row (chunk_at s) 0 s.home

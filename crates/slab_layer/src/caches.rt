@@ -1,14 +1,40 @@
 //! Slab caches.
 ghost use Rattle.std.specs.Prelude.{
-    ◌≡◌, ℕ, ◌+◌, ◌*◌, ◌%◌, ◌≤◌, ◌↔◌, [], Contains, IsTrue, IsOk, IfOk, IfErr, IfSome, OnOk,
+  ◌≡◌,
+  ℕ,
+  ◌+◌,
+  ◌*◌,
+  ◌%◌,
+  ◌≤◌,
+  ◌↔◌,
+  [],
+  Contains,
+  IsTrue,
+  IsOk,
+  IfOk,
+  IfErr,
+  IfSome,
+  OnOk,
 };
 ghost use Rattle.deed_core.specs.Covering.{
-    covering_held, covering_tags, covers_tag, units_held,
+  covering_held,
+  covering_tags,
+  covers_tag,
+  units_held,
 };
 ghost use Rattle.deed_core.specs.Weights.{Gains, Loses, WeighSame};
 ghost use Rattle.slab_layer.specs.Cache.{
-    IsSound, IsChunkOf, IsSpanOf, chunk_of, next_colour as next_colour_of, idle_deeds, gaps, tails,
-    deeds_of, chunks_out, span_tags,
+  IsSound,
+  IsChunkOf,
+  IsSpanOf,
+  chunk_of,
+  next_colour as next_colour_of,
+  idle_deeds,
+  gaps,
+  tails,
+  deeds_of,
+  chunks_out,
+  span_tags,
 };
 ghost use Rattle.slab_layer.specs.Moves.{IsAlike, TakeOf, PutOf, AddOf, ReapOf};
 
@@ -38,21 +64,21 @@ impl<D: Deed> Model for SlabCache<D> {
     ghost Value = { SlabCacheState };
 
     ghost view = { λ c. record {
-        arena = c.arena;
-        k = c.k;
-        quantum = c.quantum;
-        slab_size = c.slab_size;
-        slabs = c.slabs.items;
-        colour = c.colour;
+      arena = c.arena;
+      k = c.k;
+      quantum = c.quantum;
+      slab_size = c.slab_size;
+      slabs = c.slabs.items;
+      colour = c.colour;
     } };
 
     ghost invariant = { λ c. IsSound (record {
-        arena = c.arena;
-        k = c.k;
-        quantum = c.quantum;
-        slab_size = c.slab_size;
-        slabs = c.slabs.items;
-        colour = c.colour;
+      arena = c.arena;
+      k = c.k;
+      quantum = c.quantum;
+      slab_size = c.slab_size;
+      slabs = c.slabs.items;
+      colour = c.colour;
     }) };
 }
 

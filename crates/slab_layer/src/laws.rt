@@ -1,8 +1,14 @@
 //! Laws of slab caches. The functions do nothing: their contracts are the laws, and
 //! proofs/LawProofs.antt has them for the proofs of the crates above.
 ghost use Rattle.slab_layer.specs.Laws.{
-    ChunksAreOfCache, NeverBoth, OutIsOfCache, ChunkFits, ChunkIsWholeQuanta, TakesNoneExactly,
-    ReapsNoneExactly, ReapedOutIsEmpty,
+  ChunksAreOfCache,
+  NeverBoth,
+  OutIsOfCache,
+  ChunkFits,
+  ChunkIsWholeQuanta,
+  TakesNoneExactly,
+  ReapsNoneExactly,
+  ReapedOutIsEmpty,
 };
 
 /// What every chunk of a cache is, and which requests it fits.

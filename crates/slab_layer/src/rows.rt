@@ -1,7 +1,28 @@
 //! A deed cut into a row of chunks, and a row joined.
 ghost use Rattle.std.specs.Prelude.{
-    ◌≡◌, ◌+◌, ◌-◌, ◌*◌, ◌<◌, ◌≤◌, ◌↔◌, [], true, false, length, map, is_some, replicate, count_by,
-    All, IsTrue, vec_capacity, MatchOption, IfOk, IfErr, OnOk, OnErr,
+  ◌≡◌,
+  ◌+◌,
+  ◌-◌,
+  ◌*◌,
+  ◌<◌,
+  ◌≤◌,
+  ◌↔◌,
+  [],
+  true,
+  false,
+  length,
+  map,
+  is_some,
+  replicate,
+  count_by,
+  All,
+  IsTrue,
+  vec_capacity,
+  MatchOption,
+  IfOk,
+  IfErr,
+  OnOk,
+  OnErr,
 };
 ghost use Rattle.deed_core.specs.Holding.{piece};
 ghost use Rattle.slab_layer.specs.Parts.{part, AreEndToEnd, joined_row};
@@ -79,10 +100,10 @@ pub(crate) fn chop<D: Deed>(
     requires room { count * chunk ≤ whole.range.len }
     ensures ok { IfOk result (λ rest. rest
         ≡ part whole.root (whole.range.base + count * chunk)
-            (whole.range.len - count * chunk)) }
+        (whole.range.len - count * chunk)) }
     ensures row { OnOk result (row.new.items
         ≡ stored_row (λ i. piece whole.root (whole.range.base + i * chunk) chunk) 0
-            (replicate count true)) }
+        (replicate count true)) }
     ensures err { IfErr result (λ same. same ≡ whole) }
     ensures err_row { OnErr result (row.new.items ≡ []) }
 {

@@ -1,10 +1,27 @@
 //! Searches in the slabs of a cache, and changes of one of them.
 ghost use Rattle.std.specs.Prelude.{
-    ◌≡◌, ◌≢◌, ℕ, ◌<◌, ◌≤◌, ◌↔◌, length, slice_index_or, All, AllPairs, Any, IsTrue, MatchOption,
+  ◌≡◌,
+  ◌≢◌,
+  ℕ,
+  ◌<◌,
+  ◌≤◌,
+  ◌↔◌,
+  length,
+  slice_index_or,
+  All,
+  AllPairs,
+  Any,
+  IsTrue,
+  MatchOption,
 };
 ghost use Rattle.deed_core.specs.Extent.{Overlap};
 ghost use Rattle.slab_layer.specs.Slab.{
-    SlabState, IsAllOut, IsComplete, IsPartial, IsLowestIdle, chunk_at,
+  SlabState,
+  IsAllOut,
+  IsComplete,
+  IsPartial,
+  IsLowestIdle,
+  chunk_at,
 };
 ghost use Rattle.slab_layer.specs.Cache.{IsBelow};
 ghost use Rattle.slab_layer.specs.Moves.{StandsAt, IsLowest, IsNext};

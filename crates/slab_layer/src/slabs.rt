@@ -1,14 +1,40 @@
 //! Slabs: spans cut into a colour gap, chunks and a tail.
 ghost use Rattle.std.specs.Prelude.{
-    ◌≡◌, ◌≢◌, ℕ, ◌+◌, ◌*◌, ◌/◌, ◌<◌, ◌≤◌, ◌↔◌, [], true, false, length, All, slice_index_or, IsTrue,
-    IfOk, IfErr, MatchOption,
+  ◌≡◌,
+  ◌≢◌,
+  ℕ,
+  ◌+◌,
+  ◌*◌,
+  ◌/◌,
+  ◌<◌,
+  ◌≤◌,
+  ◌↔◌,
+  [],
+  true,
+  false,
+  length,
+  All,
+  slice_index_or,
+  IsTrue,
+  IfOk,
+  IfErr,
+  MatchOption,
 };
 ghost use Rattle.std.specs.Option.{option_to_list};
 ghost use Rattle.deed_core.specs.Covering.{units_held};
 ghost use Rattle.deed_core.specs.Extent.{IsRange};
 ghost use Rattle.slab_layer.specs.Slab.{
-    SlabState, IsComplete, IsPartial, IsLowestIdle, chunk_at, new_slab, with_chunk, gap_of, tail_of,
-    idle_chunks_by, deeds_in,
+  SlabState,
+  IsComplete,
+  IsPartial,
+  IsLowestIdle,
+  chunk_at,
+  new_slab,
+  with_chunk,
+  gap_of,
+  tail_of,
+  idle_chunks_by,
+  deeds_in,
 };
 
 use crate::parts::{cut, join};
@@ -36,17 +62,17 @@ impl<D: Deed> Model for Slab<D> {
     ghost Value = { SlabState };
 
     ghost view = { λ s. record {
-        span = record { root = s.root; range = s.span };
-        colour = s.colour;
-        chunk = s.chunk;
-        home = map is_some s.home.items;
+      span = record { root = s.root; range = s.span };
+      colour = s.colour;
+      chunk = s.chunk;
+      home = map is_some s.home.items;
     } };
 
     ghost invariant = { λ s. IsStored (record {
-        span = record { root = s.root; range = s.span };
-        colour = s.colour;
-        chunk = s.chunk;
-        home = map is_some s.home.items;
+      span = record { root = s.root; range = s.span };
+      colour = s.colour;
+      chunk = s.chunk;
+      home = map is_some s.home.items;
     }) s.gap s.home.items s.tail };
 }
 
