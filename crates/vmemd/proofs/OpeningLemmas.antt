@@ -6,7 +6,7 @@ use Rattle.std.specs.Str.{bytes_eq}
 use Rattle.memchr.specs.Find.{Nowhere, Passes, is_byte2}
 use Rattle.lease_proto.specs.Frames.{IsOneLine}
 use Rattle.lease_proto.proofs.LawProofs.{one_line}
-use Rattle.vmemd.specs.SetupLines.{opening, is_setup_word}
+use Rattle.lease_proto.specs.SetupLines.{opening, is_setup_word}
 
 -- it ends at the first space or line feed
 pub opening_ends : (bytes more : List ℕ) (i : ℕ) → i < length bytes → Passes (is_byte2 32 10) bytes i → Nowhere (Passes (is_byte2 32 10) bytes) 0 i

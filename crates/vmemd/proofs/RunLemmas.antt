@@ -9,12 +9,12 @@ use Rattle.lease_proto.proofs.LawProofs.{frames_in-none, frames_in-append}
 use Rattle.lease_server.specs.Serving.{Writes, WritesBefore, Stops}
 use Rattle.lease_server.specs.declared.faults.ServeFault.{ServeFault}
 use Rattle.lease_server.specs.declared.faults.ServeFault.TheVariants as serving
-use Rattle.vmemd.specs.declared.setup_lines.SetupLine.{SetupLine}
+use Rattle.lease_proto.specs.declared.setup_lines.SetupLine.{SetupLine}
 use Rattle.vmemd.specs.declared.faults.ConfigFault.{ConfigFault}
 use Rattle.vmemd.specs.declared.faults.ScriptFault.{ScriptFault}
 use Rattle.vmemd.specs.declared.faults.ScriptFault.TheVariants.{Setup, Read, Write, Memory}
 use Rattle.vmemd.specs.declared.setting_up.Rest.{Rest}
-use Rattle.vmemd.specs.SetupLines.{begins_setup}
+use Rattle.lease_proto.specs.SetupLines.{begins_setup}
 use Rattle.vmemd.specs.Openings.{IsOther}
 use Rattle.vmemd.specs.Scripts.{SetsUp, RunsSoFar, RunFails, WritesFirst, Blames, serving_fault}
 use Rattle.vmemd.specs.Setups.{RestIs, SetupFails}

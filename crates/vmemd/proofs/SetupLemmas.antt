@@ -7,12 +7,12 @@ use Rattle.std.specs.List.{flat_map}
 use Rattle.std.specs.Io.KnownBytes.{Consumes, IsAtEnd}
 use Rattle.lease_proto.specs.declared.faults.LineFault.TheVariants.{TooLong, BadLine}
 use Rattle.lease_proto.specs.Frames.{Frame, frame_of, last_of, frames_in, rest_in, frames_of, ended, IsOneLine}
-use Rattle.lease_proto.specs.Grammar.{◌>>=◌}
+use Rattle.lease_proto.specs.Values.{◌>>=◌}
 use Rattle.lease_proto.proofs.LawProofs.{frames_in-append, rest_in-append, frames_in-ended, rest_in-ended, frames_in-text, rest_in-text, frames_in-none, rest_in-none}
-use Rattle.vmemd.specs.declared.setup_lines.SetupLine.{SetupLine}
+use Rattle.lease_proto.specs.declared.setup_lines.SetupLine.{SetupLine}
 use Rattle.vmemd.specs.declared.faults.ConfigFault.{ConfigFault}
 use Rattle.vmemd.specs.declared.faults.ConfigFault.TheVariants as config
-use Rattle.vmemd.specs.SetupLines.{setup_of, begins_setup}
+use Rattle.lease_proto.specs.SetupLines.{setup_of, begins_setup}
 use Rattle.vmemd.specs.Openings.{IsSetup}
 use Rattle.vmemd.specs.Scripts.{Makes, SetsUp, RefusesRead, RefusesFirst, SetupRefused}
 use Rattle.vmemd.specs.declared.faults.ScriptFault.{ScriptFault}

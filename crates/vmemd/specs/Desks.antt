@@ -1,17 +1,21 @@
 -- What a setup line makes of a desk, and a script of a fresh one.
 use Rattle.std.specs.Prelude.{◌≡◌, ℕ, List, [], Option}
 use Rattle.deed_core.specs.Extent.{Extent}
-use Rattle.lease_book.specs.Ledger.{IsHistory}
-use Rattle.lease_desk.specs.Picture.{Picture, IsOrderly}
+use Rattle.tag_arena.specs.declared.policies.Policy.{Policy}
+use Rattle.tag_arena.specs.declared.policies.Policy.TheVariants as policies
+use Rattle.lease_book.specs.BookState.{IsHistory}
+use Rattle.lease_proto.specs.declared.setup_lines.PolicyWord.{PolicyWord}
+use Rattle.lease_proto.specs.declared.setup_lines.PolicyWord.TheVariants as words
+use Rattle.lease_desk.specs.DeskState.{DeskState, IsOrderly}
 use Rattle.lease_desk.specs.Machine.{LeaseStep}
 use Rattle.lease_desk.specs.Setup.{NewArena, AddsArena, RefusesArena, AddsSpan, RefusesSpan}
 use Rattle.lease_desk.specs.declared.faults.SetupFault.{SetupFault}
 use Rattle.lease_desk.specs.declared.faults.SetupFault.TheVariants as desk
 use Rattle.vmemd.specs.Scripts.{RunsWhole, RunFails}
-use Rattle.vmemd.specs.declared.setup_lines.SetupLine.{SetupLine}
-use Rattle.vmemd.specs.declared.setup_lines.SetupLine.TheVariants.{Root, Child, Span}
-use Rattle.vmemd.specs.declared.setup_lines.RootLine.{RootLine}
-use Rattle.vmemd.specs.declared.setup_lines.SpanLine.{SpanLine}
+use Rattle.lease_proto.specs.declared.setup_lines.SetupLine.{SetupLine}
+use Rattle.lease_proto.specs.declared.setup_lines.SetupLine.TheVariants.{Root, Child, Span}
+use Rattle.lease_proto.specs.declared.setup_lines.RootLine.{RootLine}
+use Rattle.lease_proto.specs.declared.setup_lines.SpanLine.{SpanLine}
 use Rattle.vmemd.specs.declared.faults.Unserved.TheVariants as unserved
 use Rattle.vmemd.specs.declared.faults.ConfigFault.{ConfigFault}
 use Rattle.vmemd.specs.declared.faults.ConfigFault.TheVariants as config
@@ -19,13 +23,19 @@ use Rattle.vmemd.specs.declared.faults.SettingFault.{SettingFault}
 use Rattle.vmemd.specs.declared.faults.SettingFault.TheVariants as setting
 use Rattle.vmemd.specs.declared.faults.ScriptFault.{ScriptFault}
 
+-- the policy of an arena by a line's word for it
+abbrev pub policy_of : PolicyWord → Policy
+policy_of words.Instant = policies.Instant
+policy_of words.Best = policies.Best
+policy_of words.Next = policies.Next
+
 -- the arena that a line asks for
 abbrev pub arena_of : RootLine → NewArena
 arena_of r = record {
   name = r.name;
   range = record { base = r.base; len = r.len };
   quantum = r.quantum;
-  policy = r.policy;
+  policy = policy_of r.policy;
   qcache_max = r.qcache_max;
 }
 
@@ -44,7 +54,7 @@ setting_fault desk.BadRange = setting.Refused config.BadRange
 setting_fault desk.NoMemory = setting.Memory
 
 -- a desk takes a setup line
-abbrev pub TakesSetting : Picture → SetupLine → Picture → Type 0
+abbrev pub TakesSetting : DeskState → SetupLine → DeskState → Type 0
 TakesSetting old (Root r) new = AddsArena (arena_of r) old.arenas new.arenas × (new.book ≡ old.book)
     × IsOrderly new
 TakesSetting old (Child c) new = ⊥
@@ -52,7 +62,7 @@ TakesSetting old (Span s) new = AddsSpan s.name (range_of s) old.arenas new.aren
     × (new.book ≡ old.book) × IsOrderly new
 
 -- a desk refuses a setup line
-abbrev pub RefusesSetting : Picture → SetupLine → ConfigFault → Type 0
+abbrev pub RefusesSetting : DeskState → SetupLine → ConfigFault → Type 0
 RefusesSetting old (Root r) word = (fault : SetupFault) × RefusesArena old.arenas (arena_of r) fault
     × (setting_fault fault ≡ setting.Refused word)
 RefusesSetting old (Child c) word = word ≡ config.NotYet unserved.Children
@@ -60,16 +70,16 @@ RefusesSetting old (Span s) word = (fault : SetupFault)
     × RefusesSpan old.arenas s.name (range_of s) fault × (setting_fault fault ≡ setting.Refused word)
 
 -- a desk with no arena and an empty book
-abbrev pub IsFresh : Picture → Type 0
+abbrev pub IsFresh : DeskState → Type 0
 IsFresh d = (d.arenas ≡ []) × IsHistory [] d.book × IsOrderly d
 
 -- A script is answered to its end.
 abbrev pub ScriptEnds : List ℕ → Option (List ℕ) → Option (List ℕ) → Type 0
-ScriptEnds input before after = (first : Picture) × (last : Picture) × IsFresh first
+ScriptEnds input before after = (first : DeskState) × (last : DeskState) × IsFresh first
     × RunsWhole TakesSetting LeaseStep first input before after last
 
 -- A script ends early.
 abbrev pub ScriptFails : Option (List ℕ) → Option (List ℕ) → Option (List ℕ) → Option (List ℕ)
     → ScriptFault → Type 0
-ScriptFails unread left before after fault = (first : Picture) × (last : Picture) × IsFresh first
+ScriptFails unread left before after fault = (first : DeskState) × (last : DeskState) × IsFresh first
     × RunFails TakesSetting RefusesSetting LeaseStep first unread left before after last fault

@@ -1,18 +1,18 @@
 -- What holds over a whole script.
 use Rattle.std.specs.Prelude.{◌≡◌, ℕ, List, AllPairs, slice_get, Some}
-use Rattle.lease_book.specs.Ledger.{leased}
+use Rattle.lease_book.specs.BookState.{leased}
 use Rattle.lease_proto.specs.Frames.{Frame}
 use Rattle.lease_server.specs.Serving.{Serves}
-use Rattle.lease_desk.specs.Picture.{ArenaPicture, Picture, OnePlace}
+use Rattle.lease_desk.specs.DeskState.{NamedArenaState, DeskState, OnePlace}
 use Rattle.lease_desk.specs.Machine.{LeaseStep}
 use Rattle.lease_desk.specs.Laws.{AreApart}
 use Rattle.vmemd.specs.Scripts.{Makes}
 use Rattle.vmemd.specs.Desks.{TakesSetting, IsFresh}
 
 -- setup lines that a fresh desk takes, and then the frames of lines with what is written for them
-pub record Script (last : Picture) : Type 0 where
-  pub first : Picture
-  pub made : Picture
+pub record Script (last : DeskState) : Type 0 where
+  pub first : DeskState
+  pub made : DeskState
   pub setup : List (List ℕ)
   pub frames : List Frame
   pub text : List ℕ
@@ -22,9 +22,9 @@ pub record Script (last : Picture) : Type 0 where
 
 -- after every script no unit is in two leases of one arena
 abbrev pub LeasesStayApart : Type 0
-LeasesStayApart = (last : Picture) → Script last → AllPairs AreApart (leased last.book)
+LeasesStayApart = (last : DeskState) → Script last → AllPairs AreApart (leased last.book)
 
 -- after every script each unit of an arena's spans is in one place
 abbrev pub UnitsHaveOnePlace : Type 0
-UnitsHaveOnePlace = (last : Picture) → Script last → (k : ℕ) (x : ArenaPicture)
+UnitsHaveOnePlace = (last : DeskState) → Script last → (k : ℕ) (x : NamedArenaState)
     → slice_get last.arenas k ≡ Some x → OnePlace k x last.book

@@ -1,7 +1,7 @@
 -- What bytes that more may follow begin with.
 use Rattle.std.specs.Prelude.{◌≡◌, ◌≤◌, ◌<◌, ◌+◌, ℕ, List, ◌++◌, length, take, drop, true, false}
 use Rattle.lease_proto.specs.Frames.{ended, IsOneLine}
-use Rattle.vmemd.specs.SetupLines.{begins_setup}
+use Rattle.lease_proto.specs.SetupLines.{begins_setup}
 use Rattle.vmemd.specs.declared.openings.Opening.{Opening}
 use Rattle.vmemd.specs.declared.openings.Opening.TheVariants.{Line, Long, Other, Part}
 

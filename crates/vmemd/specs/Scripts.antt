@@ -4,12 +4,12 @@ use Rattle.std.specs.List.{flat_map}
 use Rattle.std.specs.Io.KnownBytes.{Appends, Consumes}
 use Rattle.lease_proto.specs.declared.faults.LineFault.{LineFault}
 use Rattle.lease_proto.specs.Frames.{Frame, IsOneLine, frames_in, frames_of, ended}
-use Rattle.lease_proto.specs.Grammar.{◌>>=◌}
+use Rattle.lease_proto.specs.Values.{◌>>=◌}
 use Rattle.lease_server.specs.Serving.{Writes, Stops}
 use Rattle.lease_server.specs.declared.faults.ServeFault.{ServeFault}
 use Rattle.lease_server.specs.declared.faults.ServeFault.TheVariants as serving
-use Rattle.vmemd.specs.SetupLines.{setup_of, begins_setup}
-use Rattle.vmemd.specs.declared.setup_lines.SetupLine.{SetupLine}
+use Rattle.lease_proto.specs.SetupLines.{setup_of, begins_setup}
+use Rattle.lease_proto.specs.declared.setup_lines.SetupLine.{SetupLine}
 use Rattle.vmemd.specs.declared.faults.ConfigFault.{ConfigFault}
 use Rattle.vmemd.specs.declared.faults.ConfigFault.TheVariants as config
 use Rattle.vmemd.specs.declared.faults.SettingFault.{SettingFault}

@@ -3,10 +3,10 @@ use Rattle.std.specs.Prelude.{◌≡◌, ◌≤◌, ◌<◌, ℕ, List, [], ◌+
 use Rattle.std.specs.Io.KnownBytes.{Consumes, IsAtEnd}
 use Rattle.lease_proto.specs.declared.faults.LineFault.{LineFault}
 use Rattle.lease_proto.specs.Frames.{IsOneLine}
-use Rattle.vmemd.specs.SetupLines.{setup_of, begins_setup}
+use Rattle.lease_proto.specs.SetupLines.{setup_of, begins_setup}
 use Rattle.vmemd.specs.Openings.{IsOther}
 use Rattle.vmemd.specs.Scripts.{SetsUp, RefusesRead, SetupRefused}
-use Rattle.vmemd.specs.declared.setup_lines.SetupLine.{SetupLine}
+use Rattle.lease_proto.specs.declared.setup_lines.SetupLine.{SetupLine}
 use Rattle.vmemd.specs.declared.faults.ConfigFault.{ConfigFault}
 use Rattle.vmemd.specs.declared.faults.ScriptFault.{ScriptFault}
 use Rattle.vmemd.specs.declared.faults.ScriptFault.TheVariants.{Setup, Read, Write, Memory}

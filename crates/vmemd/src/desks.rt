@@ -1,9 +1,12 @@
 //! The lease desk, set up by setup lines.
+ghost use Rattle.std.specs.Prelude.{◌≡◌};
+ghost use Rattle.vmemd.specs.Desks as spec;
 
 use crate::faults::{ConfigFault, SettingFault, Unserved};
 use crate::setting_up::SetUp;
-use crate::setup_lines::SetupLine;
 use lease_desk::{Desk, SetupFault};
+use lease_proto::{PolicyWord, SetupLine};
+use tag_arena::Policy;
 
 impl From<SetupFault> for SettingFault {
     ghost use Rattle.std.specs.Prelude.{◌≡◌};
@@ -39,7 +42,7 @@ impl SetUp for Desk {
                 root.base.get(),
                 root.len.get(),
                 root.quantum.get(),
-                root.policy,
+                policy_of(root.policy),
                 root.qcache_max.get(),
             )?,
             SetupLine::Span(span) => { self.add_span(&span.name, span.base.get(), span.len.get())? }
@@ -49,5 +52,16 @@ impl SetUp for Desk {
             }
         }
         Ok(())
+    }
+}
+
+/// The policy that a setup line's word names.
+fn policy_of(word: PolicyWord) -> Policy
+    ensures { result ≡ spec.policy_of word }
+{
+    match word {
+        PolicyWord::Instant => Policy::Instant,
+        PolicyWord::Best => Policy::Best,
+        PolicyWord::Next => Policy::Next,
     }
 }

@@ -2,7 +2,7 @@
 //!
 //! `vmemd script` answers standard input on standard output (scripts). What a script writes is
 //! stated in specs/Scripts.antt, for any desk, and specs/Desks.antt, for the lease desk; which
-//! bytes are a setup line in specs/SetupLines.antt.
+//! bytes are a setup line, in the crate `lease_proto`.
 #![tactic(auto)]
 
 pub mod commands;
@@ -13,7 +13,6 @@ pub mod laws;
 pub mod openings;
 pub mod scripts;
 pub mod setting_up;
-pub mod setup_lines;
 #[cfg(test)]
 mod tests;
 

@@ -1,9 +1,9 @@
 //! What the bytes of a setup begin with.
 ghost use Rattle.std.specs.Prelude.{◌≡◌};
-ghost use Rattle.vmemd.specs.SetupLines as spec;
+ghost use Rattle.lease_proto.specs.SetupLines as spec;
 ghost use Rattle.vmemd.specs.Openings.{IsSetup, Shows};
 
-use lease_proto::LONGEST_LINE;
+use lease_proto::{LONGEST_LINE, is_setup_word};
 use memchr::{memchr, memchr2};
 
 /// The longest word that begins a setup line, in bytes.
@@ -54,10 +54,4 @@ pub fn begins_setup(bytes: &[u8]) -> bool
         Some(end) => is_setup_word(&bytes[..end]),
         None => is_setup_word(bytes),
     }
-}
-
-fn is_setup_word(word: &[u8]) -> bool
-    ensures { result ≡ spec.is_setup_word word.now }
-{
-    word == b"root".as_slice() || word == b"child".as_slice() || word == b"span".as_slice()
 }

@@ -2,15 +2,14 @@
 ghost use Rattle.std.specs.Prelude.{◌≡◌, ◌≤◌, ◌⊎◌, ◌+◌, ◌-◌, ◌^◌, OnOk, OnErr, IfErr, IfOk, IsErrOf, drop, min, vec_len, true, false};
 ghost use Rattle.std.specs.Io.KnownBytes.{Keeps};
 ghost use Rattle.lease_server.specs.Watching.{inner_of, has_failed, reads_of};
-ghost use Rattle.vmemd.specs.SetupLines.{setup_of};
-ghost use Rattle.vmemd.specs.SetupLines as spec;
+ghost use Rattle.lease_proto.specs.SetupLines.{setup_of};
+ghost use Rattle.lease_proto.specs.SetupLines as spec;
 ghost use Rattle.vmemd.specs.Scripts.{RefusedBy, IsSpent};
 ghost use Rattle.vmemd.specs.Setups.{TakesLine, LineFails, ReadsMore, RestIs, SetupFails};
 
 use crate::faults::{ConfigFault, ScriptFault, SettingFault};
 use crate::openings::{Opening, begins_setup, look};
-use crate::setup_lines::SetupLine;
-use lease_proto::LineFault;
+use lease_proto::{LineFault, SetupLine};
 use lease_server::{Responder, Watched};
 use std::alloc::Global;
 use std::io::Read;
@@ -23,7 +22,7 @@ const PIECE: usize = 4096;
 
 /// What setup lines make, and what then answers lines.
 pub trait SetUp: Responder {
-    ghost use Rattle.vmemd.specs.declared.setup_lines.SetupLine.{SetupLine};
+    ghost use Rattle.lease_proto.specs.declared.setup_lines.SetupLine.{SetupLine};
     ghost use Rattle.vmemd.specs.declared.faults.ConfigFault.{ConfigFault};
 
     // what takes a setup line, and what it is then

@@ -1,6 +1,6 @@
 use Rattle.std.proofs.Common.{◌∙◌, ap, sym, []}
 use Rattle.std.proofs.lemmas.List.{append-nil}
-use Rattle.vmemd.specs.SetupLines.{opening, is_setup_word}
+use Rattle.lease_proto.specs.SetupLines.{opening, is_setup_word}
 use Rattle.vmemd.proofs.OpeningLemmas.{opening_ends, opening_goes_on}
 use Rattle.vmemd.proofs.openings.begins_setup.Goals as goal
 

@@ -1,6 +1,6 @@
 use Rattle.std.proofs.Common.{◌∙◌, ap, sym, arith, ◌<◌, ◌++◌, length, subst}
 use Rattle.std.proofs.lemmas.List.{length-append}
-use Rattle.vmemd.specs.SetupLines.{opening, is_setup_word}
+use Rattle.lease_proto.specs.SetupLines.{opening, is_setup_word}
 use Rattle.vmemd.proofs.OpeningLemmas.{opening_ends, opening_goes_on, none_is_feed, long_word}
 use Rattle.vmemd.proofs.openings.look.Goals as goal
 

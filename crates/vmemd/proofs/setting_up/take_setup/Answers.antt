@@ -8,7 +8,7 @@ use Rattle.lease_server.specs.Watching.{inner_of}
 use Rattle.vmemd.specs.declared.faults.ConfigFault.TheVariants as config
 use Rattle.vmemd.specs.Setups.{SetupFails, LineFails, TakesLine}
 use Rattle.vmemd.specs.Openings.{Shows}
-use Rattle.vmemd.specs.SetupLines.{setup_of, begins_setup}
+use Rattle.lease_proto.specs.SetupLines.{setup_of, begins_setup}
 use Rattle.vmemd.specs.declared.openings.Opening.TheVariants.{Line, Long, Part}
 use Rattle.vmemd.proofs.SetupLemmas.{none_taken, one_taken, more_read, refused_now, refused_rest, refuses_long, line_fails}
 use Rattle.vmemd.proofs.setting_up.take_setup.Goals as goal

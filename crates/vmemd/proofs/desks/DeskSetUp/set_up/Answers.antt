@@ -9,7 +9,7 @@ use Rattle.vmemd.specs.declared.faults.ConfigFault.{ConfigFault}
 use Rattle.vmemd.specs.declared.faults.ConfigFault.TheVariants as config
 use Rattle.vmemd.specs.declared.faults.Unserved.TheVariants as unserved
 use Rattle.vmemd.specs.declared.faults.SettingFault.TheVariants as setting
-use Rattle.vmemd.specs.declared.setup_lines.SetupLine.TheVariants.{Span}
+use Rattle.lease_proto.specs.declared.setup_lines.SetupLine.TheVariants.{Span}
 use Rattle.vmemd.proofs.desks.DeskSetUp.set_up.Goals as goal
 
 -- a refusal of the desk's is one of the line's, or memory was refused
