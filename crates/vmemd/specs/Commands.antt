@@ -14,8 +14,10 @@ use Rattle.vmemd.specs.Scripts.{exit_of}
 abbrev pub bare_program : App
 bare_program = record (new_app (codes "vmemd")) {
   top = record (new_app (codes "vmemd")).top {
-    has_version = true; disable_help_subcommand = true; arg_required_else_help = true;
-    subcommand_required = true
+    has_version = true;
+    disable_help_subcommand = true;
+    arg_required_else_help = true;
+    subcommand_required = true;
   };
 }
 

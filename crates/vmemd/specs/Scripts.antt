@@ -133,7 +133,7 @@ module _ {S : Type 0} (takes : S → SetupLine → S → Type 0)
       → S → ScriptFault → Type 0
   RunFails first unread left before after last (Setup line word) =
       IfSome unread (λ input. SetupRefused takes refuses first input line word last)
-          × Appends before after []
+      × Appends before after []
   RunFails first unread left before after last Read = (input : List ℕ) × Consumes unread left input
       × RunsSoFar takes may_answer first input before after last
   RunFails first unread left before after last Write = IfSome unread

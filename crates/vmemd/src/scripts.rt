@@ -27,7 +27,7 @@ pub fn run<R: Read, W: Write, D: SetUp>(
     requires writer { has_failed writer.old ≡ false }
     ensures ok { OnOk result (IfSome (R.remaining (inner_of reader.old)) (λ input.
         RunsWhole D.takes D.may_answer desk.old input (W.contents (inner_of writer.old))
-            (W.contents (inner_of writer.new)) desk.new)) }
+        (W.contents (inner_of writer.new)) desk.new)) }
     ensures err { IfErr result (RunFails D.takes D.refuses D.may_answer desk.old
         (R.remaining (inner_of reader.old)) (R.remaining (inner_of reader.new))
         (W.contents (inner_of writer.old)) (W.contents (inner_of writer.new)) desk.new) }
@@ -54,21 +54,21 @@ fn serve_rest<R: Read, W: Write, D: SetUp>(
     requires end { rest.now.ended ≡ true → IsAtEnd (R.remaining (inner_of reader.old)) }
     ensures ok { OnOk result (IfSome (R.remaining (inner_of reader.old)) (λ input.
         Writes D.may_answer desk.old (frames_of (rest.now.bytes.items ++ input))
-            (W.contents (inner_of writer.old)) (W.contents (inner_of writer.new)) desk.new)) }
+        (W.contents (inner_of writer.old)) (W.contents (inner_of writer.new)) desk.new)) }
     ensures read { IsErrOf result ServeFault.Read ⊎ IsErrOf result ServeFault.Turns
         → (input : List ℕ)
         × Consumes (R.remaining (inner_of reader.old)) (R.remaining (inner_of reader.new)) input
         × (rest.now.ended ≡ true → input ≡ [])
         × Writes D.may_answer desk.old (frames_in [] (rest.now.bytes.items ++ input))
-            (W.contents (inner_of writer.old)) (W.contents (inner_of writer.new)) desk.new }
+        (W.contents (inner_of writer.old)) (W.contents (inner_of writer.new)) desk.new }
     ensures stop { IsErrOf result ServeFault.Write → IfSome (R.remaining (inner_of reader.old))
         (λ input.
         Stops D.may_answer desk.old (frames_of (rest.now.bytes.items ++ input))
-            (W.contents (inner_of writer.old)) (W.contents (inner_of writer.new))) }
+        (W.contents (inner_of writer.old)) (W.contents (inner_of writer.new))) }
     ensures memory { IsErrOf result ServeFault.Memory
         → IfSome (R.remaining (inner_of reader.old)) (λ input.
         WritesFirst D.may_answer desk.old (frames_of (rest.now.bytes.items ++ input))
-            (W.contents (inner_of writer.old)) (W.contents (inner_of writer.new))) }
+        (W.contents (inner_of writer.old)) (W.contents (inner_of writer.new))) }
     ensures works { OnOk result ((has_failed reader.new ≡ false)
         × (has_failed writer.new ≡ false)) }
     ensures blames { IfErr result (λ fault. Blames (has_failed reader.new) (reads_of reader.new)

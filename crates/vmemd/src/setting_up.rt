@@ -98,8 +98,8 @@ fn read_more<R: Read>(front: &mut Vec<u8>, reader: &mut Watched<R>) -> Result<bo
     ensures err { IfErr result (λ fault. ((fault ≡ ScriptFault.Memory)
         × (has_failed reader.new ≡ has_failed reader.old))
         ⊎ ((fault ≡ ScriptFault.Read) × Keeps (R.remaining (inner_of reader.old))
-            (R.remaining (inner_of reader.new)) × (front.new.items ≡ front.old.items)
-            × (has_failed reader.new ≡ true))) }
+        (R.remaining (inner_of reader.new)) × (front.new.items ≡ front.old.items)
+        × (has_failed reader.new ≡ true))) }
     ensures works { OnOk result (has_failed reader.new ≡ has_failed reader.old) }
     ensures counted { reads_of reader.new ≡ min (reads_of reader.old + 1) (2 ^ 64 - 1) }
 {
