@@ -67,7 +67,8 @@ RefusesSetting old (Root r) word = (fault : SetupFault) × RefusesArena old.aren
     × (setting_fault fault ≡ setting.Refused word)
 RefusesSetting old (Child c) word = word ≡ config.NotYet unserved.Children
 RefusesSetting old (Span s) word = (fault : SetupFault)
-    × RefusesSpan old.arenas s.name (range_of s) fault × (setting_fault fault ≡ setting.Refused word)
+    × RefusesSpan old.arenas s.name (range_of s) fault
+    × (setting_fault fault ≡ setting.Refused word)
 
 -- a desk with no arena and an empty book
 abbrev pub IsFresh : DeskState → Type 0
@@ -81,5 +82,6 @@ ScriptEnds input before after = (first : DeskState) × (last : DeskState) × IsF
 -- A script ends early.
 abbrev pub ScriptFails : Option (List ℕ) → Option (List ℕ) → Option (List ℕ) → Option (List ℕ)
     → ScriptFault → Type 0
-ScriptFails unread left before after fault = (first : DeskState) × (last : DeskState) × IsFresh first
+ScriptFails unread left before after fault = (first : DeskState) × (last : DeskState)
+    × IsFresh first
     × RunFails TakesSetting RefusesSetting LeaseStep first unread left before after last fault

@@ -1,5 +1,5 @@
-use Rattle.std.proofs.Common.{◌≡◌, ◌∙◌, ap₂, refl, true, Ok, Err, inl, inr, sym, subst, map, ℕ, List, []}
-use Rattle.clap.specs.Words.{takes, kind_of, fault_of, is_simple_and_free, app_of, FailsBy, HasKind, IsAmong, Kinds}
+use Rattle.std.proofs.Common.{◌≡◌, ◌∙◌, ap₂, refl, true, Ok, inl, inr, sym, subst, map}
+use Rattle.clap.specs.Words.{takes, kind_of, fault_of, is_simple_and_free, FailsBy, HasKind, IsAmong, Kinds}
 use Rattle.clap.specs.declared.error.Error.{Error}
 use Rattle.clap.specs.declared.error.kind.ErrorKind.TheVariants as kind
 use Rattle.clap.proofs.OnLiterals.{clap_on_literals}
