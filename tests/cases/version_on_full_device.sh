@@ -1,0 +1,1 @@
+exec "$vmemd" --version >/dev/full
