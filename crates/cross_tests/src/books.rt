@@ -242,12 +242,12 @@ fn restarts(rt: HostRuntime) {
     assert_eq!(rt; lease(&rt, &mut book, 1, 1, 1, 1, 4), Told::Granted(1, 4));
     assert!(rt; sweep(&rt, &mut book, 1).is_none());
     assert!(rt; hello(&rt, &mut book, 1, 2));
-    assert!(rt;
-        matches!(
-            &book.hello(client_of(&rt, 1), ordinal_of(&rt, 1)),
-            Err(HelloFault::Old(_))
-        )
-    );
+    match &book.hello(client_of(&rt, 1), ordinal_of(&rt, 1)) {
+        Err(HelloFault::Old(current)) => {
+            assert_eq!(rt; current.get(), 2);
+        }
+        _ => panic!(rt; "an older incarnation is refused"),
+    }
     assert_eq!(rt;
         sweep(&rt, &mut book, 1),
         Some((id_of(&rt, 1, 1, 1), (1, 4)))
@@ -441,13 +441,13 @@ fn all_clients(rt: HostRuntime) {
     assert_eq!(rt; book.clients(), 65536);
     assert!(rt; hello(&rt, &mut book, 65536, 1));
     assert_eq!(rt; book.clients(), 65536);
-    let mut taken = 0;
     for _ in 0..65536 {
-        if let Some((_, segment)) = book.take_lease() {
-            close(segment);
-            taken += 1;
+        match book.take_lease() {
+            Some((_, segment)) => {
+                let _ = close(segment);
+            }
+            None => panic!(rt; "each client has a lease"),
         }
     }
-    assert_eq!(rt; taken, 65536);
     end(&rt, book);
 }

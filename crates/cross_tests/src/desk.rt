@@ -1,5 +1,6 @@
 //! Lines in, replies out.
 use lease_desk::{Desk, SetupFault};
+use lease_proto::{MOST_ARENAS, MOST_SPANS};
 use lease_terms::Name;
 use std::alloc::AllocGlobal;
 use std::process::Abort;
@@ -378,6 +379,7 @@ fn refuses_setups(rt: HostRuntime) {
 /// A 33rd arena is refused before its quantum is looked at.
 #[test]
 fn too_many_arenas(rt: HostRuntime) {
+    assert_eq!(rt; (MOST_ARENAS, MOST_SPANS), (32, 65_536));
     let mut desk = Desk::new(rt.alloc());
     for n in 0..32 {
         match format!(in rt.alloc(); "a{n}") {

@@ -32,26 +32,26 @@ pub fn serve<R: Read, W: Write, P: Responder>(
     // All that the reader gives is answered.
     ensures ok { OnOk result (IfSome (R.remaining (inner_of reader.old)) (λ input.
         Writes P.may_answer responder.old (frames_of input) (W.contents (inner_of writer.old))
-            (W.contents (inner_of writer.new)) responder.new)) }
+        (W.contents (inner_of writer.new)) responder.new)) }
 
     // After a read fault the whole lines that were read are answered.
     ensures read { IsErrOf result ServeFault.Read ⊎ IsErrOf result ServeFault.Turns
         → (input : List ℕ)
         × Consumes (R.remaining (inner_of reader.old)) (R.remaining (inner_of reader.new)) input
         × Writes P.may_answer responder.old (frames_in [] input) (W.contents (inner_of writer.old))
-            (W.contents (inner_of writer.new)) responder.new }
+        (W.contents (inner_of writer.new)) responder.new }
 
     // After another fault, what was written is a front of the answers.
     ensures stop { IsErrOf result ServeFault.Write ⊎ IsErrOf result ServeFault.Memory
         → IfSome (R.remaining (inner_of reader.old)) (λ input.
         Stops P.may_answer responder.old (frames_of input) (W.contents (inner_of writer.old))
-            (W.contents (inner_of writer.new))) }
+        (W.contents (inner_of writer.new))) }
 
     // Where memory was refused for an answer, all answers before it are written whole, and no more.
     ensures memory { IsErrOf result ServeFault.Memory → (input : List ℕ)
         × Consumes (R.remaining (inner_of reader.old)) (R.remaining (inner_of reader.new)) input
         × WritesBefore P.may_answer responder.old (frames_in [] input)
-            (W.contents (inner_of writer.old)) (W.contents (inner_of writer.new)) responder.new }
+        (W.contents (inner_of writer.old)) (W.contents (inner_of writer.new)) responder.new }
 
     // Each fault is its own part's.
     ensures works { OnOk result ((has_failed reader.new ≡ false)
@@ -88,20 +88,20 @@ pub fn serve_after<R: Read, W: Write, P: Responder>(
 
     ensures ok { OnOk result (IfSome (R.remaining (inner_of reader.old)) (λ input.
         Writes P.may_answer responder.old (frames_of (front.now ++ input))
-            (W.contents (inner_of writer.old)) (W.contents (inner_of writer.new)) responder.new)) }
+        (W.contents (inner_of writer.old)) (W.contents (inner_of writer.new)) responder.new)) }
     ensures read { IsErrOf result ServeFault.Read ⊎ IsErrOf result ServeFault.Turns
         → (input : List ℕ)
         × Consumes (R.remaining (inner_of reader.old)) (R.remaining (inner_of reader.new)) input
         × Writes P.may_answer responder.old (frames_in [] (front.now ++ input))
-            (W.contents (inner_of writer.old)) (W.contents (inner_of writer.new)) responder.new }
+        (W.contents (inner_of writer.old)) (W.contents (inner_of writer.new)) responder.new }
     ensures stop { IsErrOf result ServeFault.Write ⊎ IsErrOf result ServeFault.Memory
         → IfSome (R.remaining (inner_of reader.old)) (λ input.
         Stops P.may_answer responder.old (frames_of (front.now ++ input))
-            (W.contents (inner_of writer.old)) (W.contents (inner_of writer.new))) }
+        (W.contents (inner_of writer.old)) (W.contents (inner_of writer.new))) }
     ensures memory { IsErrOf result ServeFault.Memory → (input : List ℕ)
         × Consumes (R.remaining (inner_of reader.old)) (R.remaining (inner_of reader.new)) input
         × WritesBefore P.may_answer responder.old (frames_in [] (front.now ++ input))
-            (W.contents (inner_of writer.old)) (W.contents (inner_of writer.new)) responder.new }
+        (W.contents (inner_of writer.old)) (W.contents (inner_of writer.new)) responder.new }
     ensures works { OnOk result ((has_failed reader.new ≡ false)
         × (has_failed writer.new ≡ false)) }
     ensures read_failed { IsErrOf result ServeFault.Read → has_failed reader.new ≡ true }

@@ -3,7 +3,7 @@ ghost use Rattle.std.specs.Prelude.{◌≡◌};
 ghost use Rattle.deed_core.specs.Holding.{GoesOn};
 
 use super::range;
-use deed_core::{Deed, PlainDeed, Refused, move_border};
+use deed_core::{Deed, PlainDeed, Refused, join_three, move_border};
 use refusing_deed::RefusingDeed;
 use std::process::Abort;
 
@@ -19,7 +19,8 @@ fn a_border_moves_over_counting_deeds(rt: HostRuntime) {
     assert_eq!(rt; deed.close(), range(&rt, 8, 12));
 }
 
-// Twelve units from 8 on are cut at 12, the border moves to 17 and to 9, and the parts are made whole.
+// Twelve units from 8 on are cut at 12, the border moves to 17 and to 9, the upper part is cut again,
+// and the three parts are made whole.
 pub fn border_moved<D: Deed, R: Abort>(rt: &R, deed: D) -> D
     requires { (D.holding deed).range ≡ record { base = 8; len = 12 } }
     ensures { D.holding result ≡ D.holding deed }
@@ -41,7 +42,11 @@ pub fn border_moved<D: Deed, R: Abort>(rt: &R, deed: D) -> D
     };
     assert_eq!(rt; bounds(&low), (root, 8, 1));
     assert_eq!(rt; bounds(&high), (root, 9, 11));
-    low.join(high)
+    let (middle, high) = match high.split(12) {
+        Ok(parts) => parts,
+        Err(refused) => stuck(rt, refused),
+    };
+    join_three(low, middle, high)
 }
 
 // The second split is refused, of the lower deed and then of the upper one: both come back as they were, and
