@@ -1,6 +1,10 @@
 //! Lines out of a stream of bytes that comes in any pieces.
-ghost use Rattle.std.specs.Prelude.{◌≡◌, ◌≤◌, ◌<◌, [], ◌∷◌, ◌++◌, length, take, true, false, IfSome, IfNone};
-ghost use Rattle.lease_proto.specs.Frames.{Held, frame_of, last_of, frames_in, rest_in, FramesAreLines, InputIsLines, PiecesAreOne, FrontIsEnough, TextGoesOn, TextEndsNoLine, LineFeedEndsLine, NoPlaceIsLineFeed, frame_view, faults_of};
+ghost use Rattle.std.specs.Prelude.{◌≡◌, ◌≤◌, ◌<◌, ℕ, List, [], ◌∷◌, ◌++◌, length, take, true, false};
+ghost use Rattle.std.specs.Prelude.{if◌then◌else◌, IfSome, IfNone};
+ghost use Rattle.lease_proto.specs.Frames.{Held, IsOneLine, ended, frame_of, last_of, frames_in};
+ghost use Rattle.lease_proto.specs.Frames.{rest_in, frame_view, faults_of, FramesAreLines};
+ghost use Rattle.lease_proto.specs.Frames.{InputIsLines, PiecesAreOne, FrontIsEnough, TextGoesOn};
+ghost use Rattle.lease_proto.specs.Frames.{TextEndsNoLine, LineFeedEndsLine, NoPlaceIsLineFeed};
 
 use crate::faults::LineFault;
 use arrayvec::ArrayVec;
@@ -54,6 +58,9 @@ impl LineReader {
         ensures whole { self.new.whole ≡ true → (0 < result)
             × (frames_in self.old.line (take result piece.now) ≡ frame_of self.new.line ∷ [])
             × (rest_in self.old.line (take result piece.now) ≡ []) }
+        ensures text { (text : List ℕ) × IsOneLine text
+            × (take result piece.now ≡ (if self.new.whole then ended text else text))
+            × (self.new.line ≡ take 256 (self.old.line ++ text)) }
     {
         match memchr(b'\n', piece) {
             Some(i) => {
@@ -67,6 +74,20 @@ impl LineReader {
                 piece.len()
             }
         }
+    }
+
+    /// The first 256 bytes of the line that has begun, without its line feed.
+    pub fn line(&self) -> &[u8]
+        ensures { result.now ≡ self.now.line }
+    {
+        self.front.as_slice()
+    }
+
+    /// Whether its line feed has come.
+    pub fn is_whole(&self) -> bool
+        ensures { result ≡ self.now.whole }
+    {
+        self.ended
     }
 
     /// The line that the last `feed` ended, or `TooLong`. The next line then begins.
@@ -92,13 +113,21 @@ impl LineReader {
         requires { self.now.whole ≡ false }
         ensures { faults_of result ≡ last_of self.now.line }
     {
-        if self.front.is_empty() {
-            None
-        } else if self.front.len() <= LONGEST_LINE {
-            Some(LineFault::BadLine)
-        } else {
-            Some(LineFault::TooLong)
-        }
+        fault_at_end(self.front.as_slice())
+    }
+}
+
+/// Why the rest of an input is refused that no line feed ends, by its first 256 bytes. An empty one is no
+/// line.
+pub fn fault_at_end(rest: &[u8]) -> Option<LineFault>
+    ensures { faults_of result ≡ last_of rest.now }
+{
+    if rest.is_empty() {
+        None
+    } else if rest.len() <= LONGEST_LINE {
+        Some(LineFault::BadLine)
+    } else {
+        Some(LineFault::TooLong)
     }
 }
 

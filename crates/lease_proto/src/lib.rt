@@ -28,7 +28,9 @@ mod taking;
 mod writing;
 
 pub use faults::{ErrorWord, LineFault};
-pub use framing::{FramedLine, LONGEST_LINE, LineReader, framing_law, line_feed_law};
+pub use framing::{
+    FramedLine, LONGEST_LINE, LineReader, fault_at_end, framing_law, line_feed_law,
+};
 pub use limits::{MOST_ARENAS, MOST_SPANS};
 pub use lines::{Hello, Lease, LeaseOptions, Line, Op, Release, line_law};
 pub use numbers::number_law;
