@@ -3,6 +3,7 @@ use Rattle.std.proofs.Common.{◌≡◌, ◌&&◌, ◌^◌, ℕ, ◌≤◌, true
 use Rattle.std.proofs.lemmas.Bool.{leb-true, cases_Bool, and_parts}
 use Rattle.lease_terms.specs.declared.refusals.Refusal.{Refusal}
 use Rattle.lease_terms.specs.declared.refusals.Refusal.TheVariants.{NoFit, BadRequest, NoArena, NotYours, Leases}
+use Rattle.lease_terms.specs.declared.values.TheConstants.{LARGEST, LAST_CLIENT}
 use Rattle.lease_terms.specs.Names.{is_name}
 use Rattle.lease_terms.specs.Ranges.{IsClient, IsOrdinal, IsQuantity}
 use Rattle.lease_terms.specs.Requests.{RequestId, IsRequestId}
@@ -16,6 +17,7 @@ use Rattle.lease_proto.specs.declared.replies.Refused.{Refused}
 use Rattle.lease_proto.specs.declared.replies.Old.{Old}
 use Rattle.lease_proto.specs.declared.replies.OutOfTurn.{OutOfTurn}
 use Rattle.lease_proto.specs.declared.replies.Again.{Again}
+use Rattle.lease_proto.specs.declared.limits.TheConstants.{LONGEST_LINE}
 use Rattle.lease_proto.specs.Words.{number_of, is_sentence, parts_of}
 use Rattle.lease_proto.specs.Values.{◌>>=◌, words_of, between, client_in, ordinal_in, quantity_in, id_in, name_in}
 use Rattle.lease_proto.specs.Grammar.{word_at, end_of, id_at}
@@ -46,13 +48,13 @@ between_says low high (Some m) n e = elim (cases_Bool (nat_le low m && nat_le m 
 ]
 
 pub client_says : (word : List ℕ) (n : ℕ) → client_in word ≡ Ok n → (word ≡ decimal n) × IsClient n
-client_says word n e = let said = between_says 1 65536 (number_of word) n e in (((numbers word n).0 said.0).0, (said.1, said.2))
+client_says word n e = let said = between_says 1 LAST_CLIENT (number_of word) n e in (((numbers word n).0 said.0).0, (said.1, said.2))
 
 pub ordinal_says : (word : List ℕ) (n : ℕ) → ordinal_in word ≡ Ok n → (word ≡ decimal n) × IsOrdinal n
-ordinal_says word n e = let said = between_says 1 (2 ^ 62) (number_of word) n e in (((numbers word n).0 said.0).0, (said.1, said.2))
+ordinal_says word n e = let said = between_says 1 LARGEST (number_of word) n e in (((numbers word n).0 said.0).0, (said.1, said.2))
 
 pub quantity_says : (word : List ℕ) (n : ℕ) → quantity_in word ≡ Ok n → (word ≡ decimal n) × IsQuantity n
-quantity_says word n e = let said = between_says 0 (2 ^ 62) (number_of word) n e in (((numbers word n).0 said.0).0, said.2)
+quantity_says word n e = let said = between_says 0 LARGEST (number_of word) n e in (((numbers word n).0 said.0).0, said.2)
 
 pub name_says : (word name : List ℕ) → name_in word ≡ Ok name → (word ≡ name) × (is_name name ≡ true)
 name_says word name e = elim (cases_Bool (is_name word)) [
@@ -195,7 +197,7 @@ join_with_byte-sentence first [] = sym (append-nil first)
 join_with_byte-sentence first (word ∷ words) = ap (λ t. first ++ (32 ∷ t)) (join_with_byte-sentence word words)
 
 pub words_says : (bytes : List ℕ) (words : List (List ℕ)) → words_of bytes ≡ Ok words → bytes ≡ join_with_byte 32 words
-words_says bytes words e = elim (cases_Bool (nat_lt 255 (length bytes))) [
+words_says bytes words e = elim (cases_Bool (nat_lt LONGEST_LINE (length bytes))) [
   | inl long ↦ let bad : Err faults.TooLong ≡ Ok words = rw long at e in absurd (cc)
   | inr short ↦
       let e1 : cond (is_sentence bytes) (Ok (parts_of bytes)) (Err faults.BadLine) ≡ Ok words = rw short at e in

@@ -14,6 +14,7 @@ use Rattle.lease_proto.specs.declared.replies.Reply.{Reply}
 use Rattle.lease_proto.specs.declared.replies.Reply.TheVariants.{Welcome, Granted, Released, Refused, Old, Stale, Gap, Again, Error}
 use Rattle.lease_proto.specs.declared.replies.OutOfTurn.{OutOfTurn}
 use Rattle.lease_proto.specs.Faults.{error_in, error_word}
+use Rattle.lease_proto.specs.declared.limits.TheConstants.{LONGEST_LINE}
 use Rattle.lease_proto.specs.Words.{is_sentence}
 use Rattle.lease_proto.specs.Grammar.{id_at}
 use Rattle.lease_proto.specs.Texts.{sentence}
@@ -101,15 +102,15 @@ are_words (Gap g) is = out_of_turn_are_words g is
 are_words (Again a) is = rw (decimal_word a.client (omega arith), decimal_word a.incarnation is.1.1, decimal_word a.number is.2) refl
 are_words (Error error) is = rw (error_is_word error) refl
 
-out_of_turn_short : (first : List ℕ) (r : OutOfTurn) → length first ≤ 10 → IsOutOfTurn r → length (sentence first (out_of_turn_words r)) ≤ 255
+out_of_turn_short : (first : List ℕ) (r : OutOfTurn) → length first ≤ 10 → IsOutOfTurn r → length (sentence first (out_of_turn_words r)) ≤ LONGEST_LINE
 out_of_turn_short first r key is =
     let id = id_short r.id is.0 in
     let v = decimal_short 19 r.last (omega arith) (omega arith) is.1 in
     simp length-append (omega arith)
 
-short : (reply : Reply) → IsReply reply → length (reply_text reply) ≤ 255
+short : (reply : Reply) → IsReply reply → length (reply_text reply) ≤ LONGEST_LINE
 short (Welcome w) is =
-    let c = decimal_short 5 w.client (omega arith) (omega arith) (omega arith) in
+    let c = decimal_short 19 w.client (omega arith) (omega arith) (omega arith) in
     let i = decimal_short 19 w.incarnation (omega arith) (omega arith) is.1.1 in
     simp length-append (omega arith)
 short (Granted g) is =
@@ -126,13 +127,13 @@ short (Refused r) is =
     let w = refusal_short r.refusal in
     simp length-append (omega arith)
 short (Old o) is =
-    let c = decimal_short 5 o.client (omega arith) (omega arith) (omega arith) in
+    let c = decimal_short 19 o.client (omega arith) (omega arith) (omega arith) in
     let v = decimal_short 19 o.current (omega arith) (omega arith) is.1 in
     simp length-append (omega arith)
 short (Stale s) is = out_of_turn_short (codes "stale") s (lit≤ tt) is
 short (Gap g) is = out_of_turn_short (codes "gap") g (lit≤ tt) is
 short (Again a) is =
-    let c = decimal_short 5 a.client (omega arith) (omega arith) (omega arith) in
+    let c = decimal_short 19 a.client (omega arith) (omega arith) (omega arith) in
     let i = decimal_short 19 a.incarnation (omega arith) (omega arith) is.1.1 in
     let n = decimal_short 19 a.number (omega arith) (omega arith) is.2 in
     simp length-append (omega arith)
@@ -157,7 +158,7 @@ unfolding reply_of
 text_is_read reply is =
     let parts = parts_of-sentence (first_reply_word reply) (reply_words reply) (first_is_word reply) (are_words reply is) in
     let words : is_sentence (reply_text reply) ≡ true = ap (list_all is_word) parts ∙ and_from (is_word (first_reply_word reply)) _ (first_is_word reply) (are_words reply is) in
-    rw (le-ltb 255 (length (reply_text reply)) (short reply is), words, parts) (words_again reply is)
+    rw (le-ltb LONGEST_LINE (length (reply_text reply)) (short reply is), words, parts) (words_again reply is)
 
 -- what the words of a reply say of it
 abbrev Says : List ℕ → List (List ℕ) → Reply → Type 0

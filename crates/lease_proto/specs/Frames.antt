@@ -4,19 +4,20 @@ use Rattle.std.specs.List.{flat_map, AllByRecursion}
 use Rattle.arrayvec.specs.ArrayVec.{ArrayVec}
 use Rattle.lease_proto.specs.declared.faults.LineFault.{LineFault}
 use Rattle.lease_proto.specs.declared.faults.LineFault.TheVariants.{TooLong, BadLine}
+use Rattle.lease_proto.specs.declared.limits.TheConstants.{LONGEST_LINE, LINE_ROOM}
 
 -- what comes of one line: its bytes, or why it is refused unread
 abbrev pub Frame : Type 0
 Frame = Result (List ℕ) LineFault
 
--- a line whose line feed has come: at most 255 bytes stand before it
+-- a line whose line feed has come, unless too many bytes stand before it
 abbrev pub frame_of : List ℕ → Frame
-frame_of line = if nat_le (length line) 255 then Ok line else Err TooLong
+frame_of line = if nat_le (length line) LONGEST_LINE then Ok line else Err TooLong
 
 -- a rest with no line feed, at the end of the input
 abbrev pub last_of : List ℕ → List Frame
 last_of [] = []
-last_of (b ∷ bs) = (if nat_le (length (b ∷ bs)) 255 then Err BadLine else Err TooLong) ∷ []
+last_of (b ∷ bs) = (if nat_le (length (b ∷ bs)) LONGEST_LINE then Err BadLine else Err TooLong) ∷ []
 
 -- the frames that end in these bytes, where this much of a line stands before them
 abbrev pub frames_in : List ℕ → List ℕ → List Frame
@@ -56,12 +57,12 @@ PiecesAreOne = (line xs ys : List ℕ)
     → (frames_in line (xs ++ ys) ≡ frames_in line xs ++ frames_in (rest_in line xs) ys)
     × (rest_in line (xs ++ ys) ≡ rest_in (rest_in line xs) ys)
 
--- the first 256 bytes of the line begun tell the frames
+-- the front of the line begun tells the frames
 abbrev pub FrontIsEnough : Type 0
 FrontIsEnough = (line bytes : List ℕ)
-    → (frames_in (take 256 line) bytes ≡ frames_in line bytes)
-    × (take 256 (rest_in (take 256 line) bytes) ≡ take 256 (rest_in line bytes))
-    × (last_of (take 256 line) ≡ last_of line)
+    → (frames_in (take LINE_ROOM line) bytes ≡ frames_in line bytes)
+    × (take LINE_ROOM (rest_in (take LINE_ROOM line) bytes) ≡ take LINE_ROOM (rest_in line bytes))
+    × (last_of (take LINE_ROOM line) ≡ last_of line)
 
 -- text with no line feed goes onto the line begun
 abbrev pub TextGoesOn : Type 0
@@ -82,7 +83,7 @@ LineFeedEndsLine = (line text : List ℕ) → IsOneLine text
 abbrev pub NoPlaceIsLineFeed : Type 0
 NoPlaceIsLineFeed = (text : List ℕ) → ((k : ℕ) → k < length text → get_or text k 0 ≢ 10) → IsOneLine text
 
--- what a line reader holds: the first 256 bytes of the line begun, and whether its line feed has come
+-- what a line reader holds: the front of the line begun, and whether its line feed has come
 pub record Held : Type 0 where
   pub line : List ℕ
   pub whole : Bool

@@ -1,6 +1,7 @@
 -- Which bytes are a line, and why others are none.
-use Rattle.std.specs.Prelude.{ℕ, ◌^◌, List, [], ◌∷◌, if◌then◌else◌, Option, Some, None, Result, Ok, Err, codes}
+use Rattle.std.specs.Prelude.{ℕ, List, [], ◌∷◌, if◌then◌else◌, Option, Some, None, Result, Ok, Err, codes}
 use Rattle.std.specs.Str.{bytes_eq}
+use Rattle.lease_terms.specs.declared.values.TheConstants.{LARGEST}
 use Rattle.lease_proto.specs.declared.faults.LineFault.{LineFault}
 use Rattle.lease_proto.specs.declared.faults.LineFault.TheVariants.{BadLine, Word}
 use Rattle.lease_proto.specs.declared.lines.Line.{Line}
@@ -79,7 +80,7 @@ lease_of words = do
   p ← quantity_or 0 phase.0
   x ← quantity_or 0 nocross.0
   l ← quantity_or 0 min.0
-  h ← quantity_or (2 ^ 62) max.0
+  h ← quantity_or LARGEST max.0
   Ok (lines.Request request (ops.Lease (record {
     arena = arena;
     size = s;

@@ -1,6 +1,7 @@
 -- The words that a line is written with.
-use Rattle.std.specs.Prelude.{◌⊎◌, ◌↔◌, ◌≡◌, ◌==◌, ◌^◌, ℕ, List, [], ◌∷◌, ◌++◌, if◌then◌else◌, Ok, codes, decimal, true}
+use Rattle.std.specs.Prelude.{◌⊎◌, ◌↔◌, ◌≡◌, ◌==◌, ℕ, List, [], ◌∷◌, ◌++◌, if◌then◌else◌, Ok, codes, decimal, true}
 use Rattle.std.specs.List.{flat_map}
+use Rattle.lease_terms.specs.declared.values.TheConstants.{LARGEST}
 use Rattle.lease_terms.specs.Names.{is_name}
 use Rattle.lease_terms.specs.Ranges.{IsClient, IsOrdinal, IsQuantity}
 use Rattle.lease_terms.specs.Requests.{RequestId, IsRequestId}
@@ -21,7 +22,7 @@ option_words key default value = if value == default then [] else key ∷ decima
 abbrev pub options_words : LeaseOptions → List (List ℕ)
 options_words o = option_words (codes "align") 0 o.align ++ (option_words (codes "phase") 0 o.phase
     ++ (option_words (codes "nocross") 0 o.nocross ++ (option_words (codes "min") 0 o.min
-    ++ option_words (codes "max") (2 ^ 62) o.max)))
+    ++ option_words (codes "max") LARGEST o.max)))
 
 -- the words of a request's id
 abbrev pub id_words : RequestId → List (List ℕ)
@@ -85,7 +86,7 @@ IsLine (lines.Request id op) = IsRequestId id × IsOp op
 -- the options of a lease in their order: the key, the value of no constraint, and the value
 abbrev pub options_of : LeaseOptions → List (List ℕ × ℕ × ℕ)
 options_of o = (codes "align", 0, o.align) ∷ (codes "phase", 0, o.phase)
-    ∷ (codes "nocross", 0, o.nocross) ∷ (codes "min", 0, o.min) ∷ (codes "max", 2 ^ 62, o.max) ∷ []
+    ∷ (codes "nocross", 0, o.nocross) ∷ (codes "min", 0, o.min) ∷ (codes "max", LARGEST, o.max) ∷ []
 
 -- these words give these options in this order; one may be left out where it has the value of no
 -- constraint

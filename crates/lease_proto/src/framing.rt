@@ -3,19 +3,15 @@ ghost use Rattle.std.specs.Prelude.{◌≡◌, ◌≤◌, ◌<◌, [], ◌∷◌
 ghost use Rattle.lease_proto.specs.Frames.{Held, frame_of, last_of, frames_in, rest_in, FramesAreLines, InputIsLines, PiecesAreOne, FrontIsEnough, TextGoesOn, TextEndsNoLine, LineFeedEndsLine, NoPlaceIsLineFeed, frame_view, faults_of};
 
 use crate::faults::LineFault;
+use crate::limits::{LINE_ROOM, LONGEST_LINE};
 use arrayvec::ArrayVec;
 use memchr::memchr;
 use std::marker::Model;
 use std::mem;
 
-/// The longest line, in bytes before its line feed.
-pub const LONGEST_LINE: usize = 255;
-
-/// One byte more than the longest line, so that a line that is too long shows.
-const HELD: usize = 256;
-
-/// The bytes of a line, without its line feed: at most 255 where `next` gives them.
-pub type FramedLine = ArrayVec<u8, HELD>;
+/// The bytes of a line, without its line feed: at most `LONGEST_LINE` where `next` gives them. A
+/// byte more shows that a line is too long.
+pub type FramedLine = ArrayVec<u8, LINE_ROOM>;
 
 /// Cuts a stream into lines. A contract sees the first 256 bytes of the line that has begun, and whether
 /// its line feed has come. It takes no memory, and looks at each byte that it is fed once, or twice where
@@ -106,7 +102,7 @@ impl LineReader {
 fn hold(front: &mut FramedLine, text: &[u8])
     ensures { front.new.items ≡ take 256 (front.old.items ++ text.now) }
 {
-    let room = (HELD - front.len()).min(text.len());
+    let room = (LINE_ROOM - front.len()).min(text.len());
     front.try_extend_from_slice(&text[..room]).unwrap();
 }
 

@@ -1,21 +1,27 @@
 //! The lines of a client.
-ghost use Rattle.std.specs.Prelude.{◌≡◌, ◌++◌, IsOk, OnOk, OnErr, [], ◌∷◌, ◌+◌, ◌≤◌, ℕ, List, Some, vec_len};
+ghost use Rattle.std.specs.Prelude.{◌≡◌, ◌++◌, IsOk, OnOk, OnErr, [], ◌∷◌, ◌+◌, ◌*◌, ◌≤◌, ℕ, List, Some, vec_len};
 ghost use Rattle.lease_proto.specs.Frames.{ended};
 ghost use Rattle.lease_proto.specs.Grammar.{line_of, line_of_first, hello_of, lease_of, release_of};
 ghost use Rattle.lease_proto.specs.Requests.{client_of, incarnation_of, request_of, op_of};
+ghost use Rattle.lease_proto.specs.declared.lines.TheConstants.{OPTIONS_ROOM};
+ghost use Rattle.lease_proto.specs.declared.writing.TheConstants.{NUMBER_ROOM, NAME_ROOM};
 ghost use Rattle.lease_proto.specs.Texts.{text_of, first_word, op_word, hello_words, lease_words, options_words, release_words, spaced, LinesAreTexts, LineIsRead};
 ghost use Rattle.std.specs.List.{flat_map};
 ghost use Rattle.std.specs.Vec.{vec_capacity};
+ghost use Rattle.lease_proto.specs.declared.limits.TheConstants.{LINE_ROOM};
 
 use crate::faults::LineFault;
-use crate::framing::LONGEST_LINE;
+use crate::limits::LINE_ROOM;
 use crate::ids::IdWords;
 use crate::numbers::{client, ordinal, quantity};
 use crate::sentences::{Words, name};
 use crate::taking::{option, quantity_or_default, words};
-use crate::writing::{push_id, push_name, push_number, push_option, push_text};
+use crate::writing::{NUMBER_ROOM, push_id, push_name, push_number, push_option, push_text};
 use lease_terms::{ClientId, Name, Ordinal, Quantity, RequestId};
 use std::alloc::AllocError;
+
+/// Room for all options: five spaces, the 23 letters of their keys, and five numbers.
+const OPTIONS_ROOM: usize = 28 + 5 * NUMBER_ROOM;
 
 /// What a lease asks for beside its size; `none` asks for nothing. Units and numbers of units.
 #[derive(Clone, Copy, Debug, PartialEq, Eq)]
@@ -42,9 +48,9 @@ impl LeaseOptions {
     }
 
     fn push(&self, out: &mut Vec<u8>)
-        requires { vec_len out.old + 133 ≤ vec_capacity out.old }
+        requires { vec_len out.old + OPTIONS_ROOM ≤ vec_capacity out.old }
         ensures text { out.new.items ≡ out.old.items ++ spaced (options_words self.now) }
-        ensures len { vec_len out.new ≤ vec_len out.old + 133 }
+        ensures len { vec_len out.new ≤ vec_len out.old + OPTIONS_ROOM }
         ensures capacity { vec_capacity out.old ≤ vec_capacity out.new }
     {
         push_option(out, b"align", Quantity::ZERO, self.align);
@@ -77,9 +83,9 @@ impl Hello {
     }
 
     fn push(&self, out: &mut Vec<u8>)
-        requires { vec_len out.old + 42 ≤ vec_capacity out.old }
+        requires { vec_len out.old + 2 * NUMBER_ROOM ≤ vec_capacity out.old }
         ensures text { out.new.items ≡ out.old.items ++ spaced (hello_words self.now) }
-        ensures len { vec_len out.new ≤ vec_len out.old + 42 }
+        ensures len { vec_len out.new ≤ vec_len out.old + 2 * NUMBER_ROOM }
         ensures capacity { vec_capacity out.old ≤ vec_capacity out.new }
     {
         push_number(out, u64::from(self.client.get()));
@@ -125,9 +131,9 @@ impl Lease {
     }
 
     fn push(&self, out: &mut Vec<u8>)
-        requires { vec_len out.old + 171 ≤ vec_capacity out.old }
+        requires { vec_len out.old + (NAME_ROOM + NUMBER_ROOM + OPTIONS_ROOM) ≤ vec_capacity out.old }
         ensures text { out.new.items ≡ out.old.items ++ spaced (lease_words self.now) }
-        ensures len { vec_len out.new ≤ vec_len out.old + 171 }
+        ensures len { vec_len out.new ≤ vec_len out.old + (NAME_ROOM + NUMBER_ROOM + OPTIONS_ROOM) }
         ensures capacity { vec_capacity out.old ≤ vec_capacity out.new }
     {
         push_name(out, &self.arena);
@@ -161,9 +167,9 @@ impl Release {
     }
 
     fn push(&self, out: &mut Vec<u8>)
-        requires { vec_len out.old + 38 ≤ vec_capacity out.old }
+        requires { vec_len out.old + (NAME_ROOM + NUMBER_ROOM) ≤ vec_capacity out.old }
         ensures text { out.new.items ≡ out.old.items ++ spaced (release_words self.now) }
-        ensures len { vec_len out.new ≤ vec_len out.old + 38 }
+        ensures len { vec_len out.new ≤ vec_len out.old + (NAME_ROOM + NUMBER_ROOM) }
         ensures capacity { vec_capacity out.old ≤ vec_capacity out.new }
     {
         push_name(out, &self.arena);
@@ -227,14 +233,14 @@ impl Line {
     }
 
     /// Appends the line and a line feed. An option of no constraint is left out. It fails only when
-    /// out of memory, and never where there is room for `LONGEST_LINE + 1` bytes more.
+    /// out of memory, and never where there is room for `LINE_ROOM` bytes more.
     pub fn write(&self, out: &mut Vec<u8>) -> Result<(), AllocError>
         ensures ok { OnOk result (out.new.items ≡ out.old.items ++ ended (text_of self.now)) }
         ensures unchanged { OnErr result (out.new.items ≡ out.old.items) }
-        ensures succeeds { vec_len out.old + 256 ≤ vec_capacity out.old → IsOk result }
+        ensures succeeds { vec_len out.old + LINE_ROOM ≤ vec_capacity out.old → IsOk result }
         ensures capacity { vec_capacity out.old ≤ vec_capacity out.new }
     {
-        out.reserve(LONGEST_LINE + 1)?;
+        out.reserve(LINE_ROOM)?;
         push_text(out, self.keyword());
         match self {
             Line::Hello(hello) => hello.push(out),

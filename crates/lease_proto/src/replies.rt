@@ -1,13 +1,15 @@
 //! The replies to a client's lines.
-ghost use Rattle.std.specs.Prelude.{◌≡◌, ◌++◌, IsOk, OnOk, OnErr, ◌∷◌, ◌+◌, ◌≤◌, ℕ, List, vec_len, length};
+ghost use Rattle.std.specs.Prelude.{◌≡◌, ◌++◌, IsOk, OnOk, OnErr, ◌∷◌, ◌+◌, ◌*◌, ◌≤◌, ℕ, List, vec_len, length};
 ghost use Rattle.lease_proto.specs.Frames.{ended};
 ghost use Rattle.lease_proto.specs.Replies.{reply_of, reply_text, first_reply_word, welcome_of, granted_of, released_of, refused_of, old_of, out_of_turn_of, again_of, error_of, welcome_words, granted_words, refused_words, old_words, out_of_turn_words, again_words, refusal_in, refusal_word, RepliesAreTexts};
 ghost use Rattle.lease_proto.specs.Requests.{client_named, incarnation_named, request_named, again_request};
 ghost use Rattle.std.specs.Vec.{vec_capacity};
+ghost use Rattle.lease_proto.specs.declared.limits.TheConstants.{LINE_ROOM};
+ghost use Rattle.lease_proto.specs.declared.writing.TheConstants.{NUMBER_ROOM, ID_ROOM, NAME_ROOM};
 ghost use Rattle.lease_proto.specs.Texts.{spaced};
 
 use crate::faults::{ErrorWord, LineFault};
-use crate::framing::LONGEST_LINE;
+use crate::limits::LINE_ROOM;
 use crate::ids::IdWords;
 use crate::numbers::{client, ordinal, quantity};
 use crate::sentences::{Words, name};
@@ -71,9 +73,9 @@ impl Welcome {
     }
 
     fn push(&self, out: &mut Vec<u8>)
-        requires { vec_len out.old + 42 ≤ vec_capacity out.old }
+        requires { vec_len out.old + 2 * NUMBER_ROOM ≤ vec_capacity out.old }
         ensures text { out.new.items ≡ out.old.items ++ spaced (welcome_words self.now) }
-        ensures len { vec_len out.new ≤ vec_len out.old + 42 }
+        ensures len { vec_len out.new ≤ vec_len out.old + 2 * NUMBER_ROOM }
         ensures capacity { vec_capacity out.old ≤ vec_capacity out.new }
     {
         push_number(out, u64::from(self.client.get()));
@@ -109,9 +111,9 @@ impl Granted {
     }
 
     fn push(&self, out: &mut Vec<u8>)
-        requires { vec_len out.old + 122 ≤ vec_capacity out.old }
+        requires { vec_len out.old + (ID_ROOM + NAME_ROOM + 2 * NUMBER_ROOM) ≤ vec_capacity out.old }
         ensures text { out.new.items ≡ out.old.items ++ spaced (granted_words self.now) }
-        ensures len { vec_len out.new ≤ vec_len out.old + 122 }
+        ensures len { vec_len out.new ≤ vec_len out.old + (ID_ROOM + NAME_ROOM + 2 * NUMBER_ROOM) }
         ensures capacity { vec_capacity out.old ≤ vec_capacity out.new }
     {
         push_id(out, self.id);
@@ -143,9 +145,9 @@ impl Refused {
     }
 
     fn push(&self, out: &mut Vec<u8>)
-        requires { vec_len out.old + 74 ≤ vec_capacity out.old }
+        requires { vec_len out.old + (ID_ROOM + 11) ≤ vec_capacity out.old }
         ensures text { out.new.items ≡ out.old.items ++ spaced (refused_words self.now) }
-        ensures len { vec_len out.new ≤ vec_len out.old + 74 }
+        ensures len { vec_len out.new ≤ vec_len out.old + (ID_ROOM + 11) }
         ensures capacity { vec_capacity out.old ≤ vec_capacity out.new }
     {
         push_id(out, self.id);
@@ -175,9 +177,9 @@ impl Old {
     }
 
     fn push(&self, out: &mut Vec<u8>)
-        requires { vec_len out.old + 42 ≤ vec_capacity out.old }
+        requires { vec_len out.old + 2 * NUMBER_ROOM ≤ vec_capacity out.old }
         ensures text { out.new.items ≡ out.old.items ++ spaced (old_words self.now) }
-        ensures len { vec_len out.new ≤ vec_len out.old + 42 }
+        ensures len { vec_len out.new ≤ vec_len out.old + 2 * NUMBER_ROOM }
         ensures capacity { vec_capacity out.old ≤ vec_capacity out.new }
     {
         push_number(out, u64::from(self.client.get()));
@@ -208,9 +210,9 @@ impl OutOfTurn {
     }
 
     fn push(&self, out: &mut Vec<u8>)
-        requires { vec_len out.old + 84 ≤ vec_capacity out.old }
+        requires { vec_len out.old + (ID_ROOM + NUMBER_ROOM) ≤ vec_capacity out.old }
         ensures text { out.new.items ≡ out.old.items ++ spaced (out_of_turn_words self.now) }
-        ensures len { vec_len out.new ≤ vec_len out.old + 84 }
+        ensures len { vec_len out.new ≤ vec_len out.old + (ID_ROOM + NUMBER_ROOM) }
         ensures capacity { vec_capacity out.old ≤ vec_capacity out.new }
     {
         push_id(out, self.id);
@@ -243,9 +245,9 @@ impl Again {
     }
 
     fn push(&self, out: &mut Vec<u8>)
-        requires { vec_len out.old + 63 ≤ vec_capacity out.old }
+        requires { vec_len out.old + 3 * NUMBER_ROOM ≤ vec_capacity out.old }
         ensures text { out.new.items ≡ out.old.items ++ spaced (again_words self.now) }
-        ensures len { vec_len out.new ≤ vec_len out.old + 63 }
+        ensures len { vec_len out.new ≤ vec_len out.old + 3 * NUMBER_ROOM }
         ensures capacity { vec_capacity out.old ≤ vec_capacity out.new }
     {
         push_number(out, u64::from(self.client.get()));
@@ -319,14 +321,14 @@ impl Reply {
     }
 
     /// Appends the reply and a line feed. It fails only when out of memory, and never where there
-    /// is room for `LONGEST_LINE + 1` bytes more.
+    /// is room for `LINE_ROOM` bytes more.
     pub fn write(&self, out: &mut Vec<u8>) -> Result<(), AllocError>
         ensures ok { OnOk result (out.new.items ≡ out.old.items ++ ended (reply_text self.now)) }
         ensures unchanged { OnErr result (out.new.items ≡ out.old.items) }
-        ensures succeeds { vec_len out.old + 256 ≤ vec_capacity out.old → IsOk result }
+        ensures succeeds { vec_len out.old + LINE_ROOM ≤ vec_capacity out.old → IsOk result }
         ensures capacity { vec_capacity out.old ≤ vec_capacity out.new }
     {
-        out.reserve(LONGEST_LINE + 1)?;
+        out.reserve(LINE_ROOM)?;
         push_text(out, self.keyword());
         match self {
             Reply::Welcome(welcome) => welcome.push(out),
