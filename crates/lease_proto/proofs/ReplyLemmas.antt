@@ -18,10 +18,11 @@ use Rattle.lease_proto.specs.declared.limits.TheConstants.{LONGEST_LINE}
 use Rattle.lease_proto.specs.Words.{is_sentence}
 use Rattle.lease_proto.specs.Grammar.{id_at}
 use Rattle.lease_proto.specs.Texts.{sentence}
-use Rattle.lease_proto.specs.Replies.{reply_of, reply_of_words, welcome_of, granted_of, released_of, refused_of, old_of, out_of_turn_of, again_of, error_of, refusal_in, refusal_word, first_reply_word, reply_words, out_of_turn_words, reply_text, IsReply, IsOutOfTurn, RepliesAreTexts}
+use Rattle.lease_proto.specs.Replies.{reply_of, reply_of_words, welcome_of, granted_of, released_of, refused_of, old_of, out_of_turn_of, again_of, error_of, refusal_in, refusal_word, first_reply_word, reply_words, out_of_turn_words, reply_text, IsReply, IsOutOfTurn, RepliesAreTexts, ReplyIsWhole}
 use Rattle.std.specs.Str.{bytes_eq}
 use Rattle.std.specs.List.{join_with_byte}
-use Rattle.lease_proto.specs.Values.{◌>>=◌}
+use Rattle.lease_proto.specs.Values.{◌>>=◌, words_of}
+use Rattle.lease_proto.proofs.FramedLemmas.{words_are_whole}
 use Rattle.lease_proto.proofs.ReadLemmas.{step, told, words_step, join_with_byte-sentence, welcome_says, granted_says, released_says, refused_says, old_says, out_of_turn_says, again_says, error_says}
 use Rattle.lease_proto.proofs.GrammarLemmas.{client_again, ordinal_again, quantity_again, id_again, id_are_words, id_short, decimal_word, decimal_short, name_short, parts_of-sentence}
 
@@ -230,3 +231,9 @@ text_says bytes reply e =
 
 pub replies_are_texts : RepliesAreTexts
 replies_are_texts bytes reply = (text_says bytes reply, λ is. ap reply_of is.1 ∙ text_is_read reply is.0)
+
+pub reply_is_whole : ReplyIsWhole
+unfolding reply_of
+reply_is_whole reply is =
+    let (words, are, next) = step (words_of (reply_text reply)) reply_of_words reply (text_is_read reply is) in
+    words_are_whole (reply_text reply) words are

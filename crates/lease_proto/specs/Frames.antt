@@ -41,6 +41,11 @@ ended line = line ++ 10 ∷ []
 abbrev pub IsOneLine : List ℕ → Type 0
 IsOneLine line = AllByRecursion (λ b. b ≢ 10) line
 
+-- in a stream, with its line feed behind it, it is one line, and just these bytes
+pub record IsWholeLine (text : List ℕ) : Type 0 where
+  pub one_line : IsOneLine text
+  pub frame : frame_of text ≡ Ok text
+
 -- an input made of these lines and a rest with no line feed has the frames of these lines, and then that of the rest
 abbrev pub FramesAreLines : Type 0
 FramesAreLines = (lines : List (List ℕ)) (rest : List ℕ) → AllByRecursion IsOneLine lines → IsOneLine rest

@@ -18,6 +18,7 @@ use Rattle.lease_proto.specs.declared.replies.Old.{Old}
 use Rattle.lease_proto.specs.declared.replies.OutOfTurn.{OutOfTurn}
 use Rattle.lease_proto.specs.declared.replies.Again.{Again}
 use Rattle.lease_proto.specs.Faults.{error_in, error_word}
+use Rattle.lease_proto.specs.Frames.{IsWholeLine}
 use Rattle.lease_proto.specs.Values.{◌>>=◌, words_of, client_in, ordinal_in, quantity_in, id_in, name_in}
 use Rattle.lease_proto.specs.Grammar.{word_at, end_of, id_at}
 use Rattle.lease_proto.specs.Texts.{id_words, sentence}
@@ -206,3 +207,7 @@ IsReply (replies.Error error) = Unit {0}
 abbrev pub RepliesAreTexts : Type 0
 RepliesAreTexts = (bytes : List ℕ) (reply : Reply)
     → (reply_of bytes ≡ Ok reply) ↔ (IsReply reply × (bytes ≡ reply_text reply))
+
+-- what is written of a reply is one line of a stream
+abbrev pub ReplyIsWhole : Type 0
+ReplyIsWhole = (reply : Reply) → IsReply reply → IsWholeLine (reply_text reply)

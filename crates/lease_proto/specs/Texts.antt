@@ -13,6 +13,7 @@ use Rattle.lease_proto.specs.declared.lines.Hello.{Hello}
 use Rattle.lease_proto.specs.declared.lines.Lease.{Lease}
 use Rattle.lease_proto.specs.declared.lines.Release.{Release}
 use Rattle.lease_proto.specs.declared.lines.LeaseOptions.{LeaseOptions}
+use Rattle.lease_proto.specs.Frames.{IsWholeLine}
 use Rattle.lease_proto.specs.Grammar.{line_of}
 
 -- an option is left out where it has the value of no constraint
@@ -122,3 +123,7 @@ LinesAreTexts = (bytes : List ℕ) (line : Line)
 -- what is written is read as the same line
 abbrev pub LineIsRead : Type 0
 LineIsRead = (line : Line) → IsLine line → line_of (text_of line) ≡ Ok line
+
+-- and it is one line of a stream
+abbrev pub LineIsWhole : Type 0
+LineIsWhole = (line : Line) → IsLine line → IsWholeLine (text_of line)

@@ -5,7 +5,7 @@ ghost use Rattle.lease_proto.specs.Grammar.{line_of, line_of_first, hello_of, le
 ghost use Rattle.lease_proto.specs.Requests.{client_of, incarnation_of, request_of, op_of};
 ghost use Rattle.lease_proto.specs.declared.lines.TheConstants.{OPTIONS_ROOM};
 ghost use Rattle.lease_proto.specs.declared.writing.TheConstants.{NUMBER_ROOM, NAME_ROOM};
-ghost use Rattle.lease_proto.specs.Texts.{text_of, first_word, op_word, hello_words, lease_words, options_words, release_words, spaced, LinesAreTexts, LineIsRead};
+ghost use Rattle.lease_proto.specs.Texts.{text_of, first_word, op_word, hello_words, lease_words, options_words, release_words, spaced, LinesAreTexts, LineIsRead, LineIsWhole, AreOptions, IsOp, IsLine};
 ghost use Rattle.std.specs.List.{flat_map};
 ghost use Rattle.std.specs.Vec.{vec_capacity};
 ghost use Rattle.lease_proto.specs.declared.limits.TheConstants.{LINE_ROOM};
@@ -45,6 +45,16 @@ impl LeaseOptions {
             min: Quantity::ZERO,
             max: Quantity::MOST,
         }
+    }
+
+    fn check(&self)
+        ensures { AreOptions self.now }
+    {
+        let _ = self.align.get();
+        let _ = self.phase.get();
+        let _ = self.nocross.get();
+        let _ = self.min.get();
+        let _ = self.max.get();
     }
 
     fn push(&self, out: &mut Vec<u8>)
@@ -185,6 +195,23 @@ pub enum Op {
 }
 
 impl Op {
+    /// Each of its values is in its range. This does nothing: it is called for its clause.
+    pub fn check(&self)
+        ensures { IsOp self.now }
+    {
+        match self {
+            Op::Lease(lease) => {
+                let _ = lease.arena.as_slice();
+                let _ = lease.size.get();
+                lease.options.check();
+            }
+            Op::Release(release) => {
+                let _ = release.arena.as_slice();
+                let _ = release.base.get();
+            }
+        }
+    }
+
     fn keyword(&self) -> &'static [u8]
         ensures { result.now ≡ op_word self.now }
     {
@@ -266,6 +293,22 @@ impl Line {
         }
     }
 
+    /// Each of its values is in its range. This does nothing: it is called for its clause.
+    pub fn check(&self)
+        ensures { IsLine self.now }
+    {
+        match self {
+            Line::Hello(hello) => {
+                let _ = hello.client.get();
+                let _ = hello.incarnation.get();
+            }
+            Line::Request(id, op) => {
+                id.check();
+                op.check();
+            }
+        }
+    }
+
     /// The client that sends it.
     pub fn client(&self) -> ClientId
         ensures { result ≡ client_of self.now }
@@ -308,8 +351,9 @@ impl Line {
 }
 
 /// Which bytes are a line: its words with one space between them, and among them what is written of
-/// it.
+/// it, which is one line of a stream.
 pub fn line_law()
     ensures exact { LinesAreTexts }
     ensures written { LineIsRead }
+    ensures whole { LineIsWhole }
 {}

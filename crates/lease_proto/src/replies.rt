@@ -1,7 +1,7 @@
 //! The replies to a client's lines.
 ghost use Rattle.std.specs.Prelude.{◌≡◌, ◌++◌, IsOk, OnOk, OnErr, ◌∷◌, ◌+◌, ◌*◌, ◌≤◌, ℕ, List, vec_len, length};
 ghost use Rattle.lease_proto.specs.Frames.{ended};
-ghost use Rattle.lease_proto.specs.Replies.{reply_of, reply_text, first_reply_word, welcome_of, granted_of, released_of, refused_of, old_of, out_of_turn_of, again_of, error_of, welcome_words, granted_words, refused_words, old_words, out_of_turn_words, again_words, refusal_in, refusal_word, RepliesAreTexts};
+ghost use Rattle.lease_proto.specs.Replies.{reply_of, reply_text, first_reply_word, welcome_of, granted_of, released_of, refused_of, old_of, out_of_turn_of, again_of, error_of, welcome_words, granted_words, refused_words, old_words, out_of_turn_words, again_words, refusal_in, refusal_word, IsReply, RepliesAreTexts, ReplyIsWhole};
 ghost use Rattle.lease_proto.specs.Requests.{client_named, incarnation_named, request_named, again_request};
 ghost use Rattle.std.specs.Vec.{vec_capacity};
 ghost use Rattle.lease_proto.specs.declared.limits.TheConstants.{LINE_ROOM};
@@ -361,6 +361,40 @@ impl Reply {
         }
     }
 
+    /// Each of its values is in its range. This does nothing: it is called for its clause.
+    pub fn check(&self)
+        ensures { IsReply self.now }
+    {
+        match self {
+            Reply::Welcome(welcome) => {
+                let _ = welcome.client.get();
+                let _ = welcome.incarnation.get();
+            }
+            Reply::Granted(granted) => {
+                granted.id.check();
+                let _ = granted.arena.as_slice();
+                let _ = granted.base.get();
+                let _ = granted.len.get();
+            }
+            Reply::Released(id) => id.check(),
+            Reply::Refused(refused) => refused.id.check(),
+            Reply::Old(old) => {
+                let _ = old.client.get();
+                let _ = old.current.get();
+            }
+            Reply::Stale(turn) | Reply::Gap(turn) => {
+                turn.id.check();
+                let _ = turn.last.get();
+            }
+            Reply::Again(again) => {
+                let _ = again.client.get();
+                let _ = again.incarnation.get();
+                let _ = again.number.get();
+            }
+            Reply::Error(_) => {}
+        }
+    }
+
     /// The client that it names; an `error` names none.
     pub fn client(&self) -> Option<ClientId>
         ensures { result ≡ client_named self.now }
@@ -426,7 +460,9 @@ fn error(words: &mut Words<'_>) -> Result<ErrorWord, LineFault>
     Ok(error)
 }
 
-/// What is written of a reply is read as the same reply, and nothing else is.
+/// What is written of a reply is read as the same reply, and nothing else is. It is one line of a
+/// stream.
 pub fn reply_law()
-    ensures { RepliesAreTexts }
+    ensures exact { RepliesAreTexts }
+    ensures whole { ReplyIsWhole }
 {}
