@@ -49,9 +49,9 @@ words_are_whole bytes words e = elim (cases_Bool (nat_lt LONGEST_LINE (length by
       let e1 : cond (is_sentence bytes) (Ok (parts_of bytes)) (Err faults.BadLine) ≡ Ok words = rw short at e in
       elim (cases_Bool (is_sentence bytes)) [
         | inl good ↦ record {
-            one_line = subst IsOneLine (join_with_byte-slice_split 32 bytes) (one_of_words (parts_of bytes) good);
-            frame = rw (le-leb (length bytes) LONGEST_LINE (ltb-false _ _ short)) refl;
-          }
+          one_line = subst IsOneLine (join_with_byte-slice_split 32 bytes) (one_of_words (parts_of bytes) good);
+          frame = rw (le-leb (length bytes) LONGEST_LINE (ltb-false _ _ short)) refl;
+        }
         | inr other ↦ let bad : Err faults.BadLine ≡ Ok words = rw other at e1 in absurd (cc)
       ]
 ]

@@ -19,7 +19,7 @@ use Rattle.lease_proto.specs.declared.lines.Lease.{Lease as TheLease}
 use Rattle.lease_proto.specs.declared.limits.TheConstants.{LONGEST_LINE}
 use Rattle.lease_proto.specs.Words.{is_sentence}
 use Rattle.lease_proto.specs.Values.{◌>>=◌, words_of}
-use Rattle.lease_proto.specs.Grammar.{line_of, line_of_words, line_of_first, hello_of, lease_of, release_of, id_at, option_at, quantity_or, end_of}
+use Rattle.lease_proto.specs.Grammar.{line_of, line_in, line_of_first, hello_in, lease_in, release_in, id_at, option_at, quantity_or, end_at}
 use Rattle.lease_proto.specs.Texts.{id_words, option_words, options_of, options_words, op_words, op_word, words_after, first_word, sentence, spaced, IsLine, IsOp, AreOptions, AsksFor, GivesOptions, MayFollow, IsTextOf, LinesAreTexts, LineIsRead, LineIsWhole, text_of}
 use Rattle.lease_proto.proofs.FramedLemmas.{words_are_whole}
 use Rattle.lease_proto.proofs.ReadLemmas.{step, told, words_step, word_step, name_step, end_step, client_step, ordinal_step, quantity_step, quantity_says, id_at_step, id_step, join_with_byte-sentence}
@@ -62,7 +62,7 @@ taken key default value options words same none low (inr (is, given)) =
 -- the words of a request are read as that request
 request_again : (id : RequestId) (op : Op) (rest : List (List ℕ)) → IsRequestId id → IsOp op → AsksFor op rest
     → line_of_first (op_word op) (id_words id ++ rest) ≡ Ok (Request id op)
-unfolding line_of_first lease_of release_of id_at
+unfolding line_of_first lease_in release_in id_at
 request_again id (Release r) rest is op may = rw (may, op.0, id_again id is, quantity_again r.base op.1) refl
 request_again id (Lease l) rest is op (w, given, may) =
     let o = l.options in
@@ -79,12 +79,12 @@ request_again id (Lease l) rest is op (w, given, may) =
     let t4 = taken (codes "min") 0 o.min max w3 refl (refl, tt) op.2.3 t3.1 in
     let w4 = (option_at (codes "min") w3).1 in
     let t5 = taken (codes "max") LARGEST o.max [] w4 refl tt op.2.4 t4.1 in
-    let ends : end_of (option_at (codes "max") w4).1 ≡ Ok tt = ap end_of t5.1 in
+    let ends : end_at (option_at (codes "max") w4).1 ≡ Ok tt = ap end_at t5.1 in
     rw (may, op.0, ends, id_again id is, quantity_again l.size op.1, t1.0, t2.0, t3.0, t4.0, t5.0) refl
 
 -- the words of a text are read as its line
 words_again : (line : Line) (words : List (List ℕ)) → IsLine line → MayFollow line words → line_of_first (first_word line) words ≡ Ok line
-unfolding line_of_first hello_of
+unfolding line_of_first hello_in
 words_again (Hello h) words is may = rw (may, client_again h.client is.0.0 is.0.1, ordinal_again h.incarnation is.1.0 is.1.1) refl
 words_again (Request id op) words is (rest, may, are) = ap (line_of_first (op_word op)) are ∙ request_again id op rest is.0 is.1 may
 
@@ -157,7 +157,7 @@ first_is_word (Request id (Release r)) = refl
 
 -- a text is read as its line
 text_is_read : (line : Line) (words : List (List ℕ)) → IsLine line → MayFollow line words → line_of (sentence (first_word line) words) ≡ Ok line
-unfolding line_of line_of_words
+unfolding line_of line_in
 text_is_read line words is may =
     let bytes = sentence (first_word line) words in
     let parts = parts_of-sentence (first_word line) words (first_is_word line) (are_words line words is may) in
@@ -221,8 +221,8 @@ option_step default word f b e k = let (n, is, next) = step (quantity_or default
 abbrev pub Says : List ℕ → List (List ℕ) → Line → Type 0
 Says first words line = IsLine line × (first ≡ first_word line) × MayFollow line words
 
-hello_says : (words : List (List ℕ)) (read : Line) → hello_of words ≡ Ok read → Says (codes "hello") words read
-unfolding hello_of
+hello_says : (words : List (List ℕ)) (read : Line) → hello_in words ≡ Ok read → Says (codes "hello") words read
+unfolding hello_in
 hello_says words read e =
     word_step words _ read e (λ client w1 client_is e1.
     word_step w1 _ read e1 (λ incarnation w2 incarnation_is e2.
@@ -232,8 +232,8 @@ hello_says words read e =
     let read_is : Hello (record { client = c; incarnation = i }) ≡ read = cc in
     subst (Says (codes "hello") words) read_is ((c_in, i_in), refl, cc))))))
 
-release_says : (words : List (List ℕ)) (read : Line) → release_of words ≡ Ok read → Says (codes "release") words read
-unfolding release_of
+release_says : (words : List (List ℕ)) (read : Line) → release_in words ≡ Ok read → Says (codes "release") words read
+unfolding release_in
 release_says words read e =
     id_at_step words _ read e (λ wc wi wn w1 words_are e1.
     word_step w1 _ read e1 (λ name w2 name_is e2.
@@ -246,8 +246,8 @@ release_says words read e =
     subst (Says (codes "release") words) read_is
     ((is, (arena_in, b_in)), refl, (arena ∷ decimal b ∷ [], refl, cc)))))))))
 
-lease_says : (words : List (List ℕ)) (read : Line) → lease_of words ≡ Ok read → Says (codes "lease") words read
-unfolding lease_of
+lease_says : (words : List (List ℕ)) (read : Line) → lease_in words ≡ Ok read → Says (codes "lease") words read
+unfolding lease_in
 lease_says words read e =
     id_at_step words _ read e (λ wc wi wn w1 words_are e1.
     word_step w1 _ read e1 (λ name w2 name_is e2.
@@ -300,9 +300,9 @@ words_say first words line e = elim (told first (codes "hello") _ _ _ e) [
   ]
 ]
 
-line_says : (bytes : List ℕ) (words : List (List ℕ)) (line : Line) → bytes ≡ join_with_byte 32 words → line_of_words words ≡ Ok line
+line_says : (bytes : List ℕ) (words : List (List ℕ)) (line : Line) → bytes ≡ join_with_byte 32 words → line_in words ≡ Ok line
     → IsLine line × IsTextOf line bytes
-unfolding line_of_words
+unfolding line_in
 line_says bytes [] line is e = absurd (cc)
 line_says bytes (first ∷ words) line is e =
     let said = words_say first words line e in
@@ -318,5 +318,5 @@ lines_are_texts bytes line = (text_says bytes line, λ is. let (words, may, text
 pub line_is_whole : LineIsWhole
 unfolding line_of
 line_is_whole line is =
-    let (words, are, next) = step (words_of (text_of line)) line_of_words line (line_is_read line is) in
+    let (words, are, next) = step (words_of (text_of line)) line_in line (line_is_read line is) in
     words_are_whole (text_of line) words are

@@ -10,7 +10,7 @@ use Rattle.std.specs.Str.{all_ascii_digits}
 use Rattle.std.proofs.lemmas.Str.Parse.{IsNumeralModel, numerals_by_fold}
 use Rattle.std.proofs.lemmas.Fmt.{decimal-digits_value, digits_decimal, digits_value-decimal, decimal_nonempty, first_decimal, decimal_digit}
 use Rattle.lease_terms.specs.declared.values.TheConstants.{LARGEST}
-use Rattle.lease_proto.specs.Words.{digits_from, number_of, parts_of, NumbersAreDecimal}
+use Rattle.lease_proto.specs.Words.{digits_from, number_in, parts_of, NumbersAreDecimal}
 
 -- a number that is too large stays so
 pub digits_over : (n : ℕ) (bs : List ℕ) → LARGEST < n → digits_from n bs ≡ None
@@ -74,7 +74,7 @@ digits_read m (b ∷ bs) n all is low =
 abbrev HasPlainFront : List ℕ → Type 0
 HasPlainFront word = get_or word 0 0 ≡ 48 → length word ≡ 1
 
-number_says : (word : List ℕ) (n : ℕ) → number_of word ≡ Some n
+number_says : (word : List ℕ) (n : ℕ) → number_in word ≡ Some n
     → (all_ascii_digits word ≡ true) × (0 < length word) × HasPlainFront word × (read_on 0 word ≡ n) × (n ≤ LARGEST)
 number_says [] n e = absurd (cc)
 number_says (b ∷ []) n e = let said = digits_say 0 (b ∷ []) n e in (said.0, omega arith, λ _. refl, said.1, said.2)
@@ -86,7 +86,7 @@ number_says (b ∷ c ∷ bs) n e = elim (cases_eq b 48) [
 ]
 
 number_read : (word : List ℕ) (n : ℕ) → all_ascii_digits word ≡ true → 0 < length word → HasPlainFront word → read_on 0 word ≡ n → n ≤ LARGEST
-    → number_of word ≡ Some n
+    → number_in word ≡ Some n
 number_read [] n all some front is low = absurd (omega arith)
 number_read (b ∷ []) n all some front is low = digits_read 0 (b ∷ []) n all is low
 number_read (b ∷ c ∷ bs) n all some front is low =
@@ -103,7 +103,7 @@ numbers word n = (
       (sym (decimal-digits_value own word said.0 said.1 said.2 (omega arith)) ∙ ap decimal said.3, said.4),
   λ given.
       let small : n < 2 ^ 64 = omega arith in
-      ap number_of given.0 ∙ number_read (decimal n) n (digits_decimal own n small) (decimal_nonempty n small) (plain_decimal n small)
+      ap number_in given.0 ∙ number_read (decimal n) n (digits_decimal own n small) (decimal_nonempty n small) (plain_decimal n small)
       (digits_value-decimal own n small) given.1,
 )
 

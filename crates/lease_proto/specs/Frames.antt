@@ -22,7 +22,9 @@ last_of (b ∷ bs) = (if nat_le (length (b ∷ bs)) LONGEST_LINE then Err BadLin
 -- the frames that end in these bytes, where this much of a line stands before them
 abbrev pub frames_in : List ℕ → List ℕ → List Frame
 frames_in line [] = []
-frames_in line (b ∷ bs) = if b == 10 then frame_of line ∷ frames_in [] bs else frames_in (line ++ b ∷ []) bs
+frames_in line (b ∷ bs) =
+    if b == 10 then frame_of line ∷ frames_in [] bs
+    else frames_in (line ++ b ∷ []) bs
 
 -- the line that these bytes leave unended
 abbrev pub rest_in : List ℕ → List ℕ → List ℕ
@@ -46,17 +48,21 @@ pub record IsWholeLine (text : List ℕ) : Type 0 where
   pub one_line : IsOneLine text
   pub frame : frame_of text ≡ Ok text
 
--- an input made of these lines and a rest with no line feed has the frames of these lines, and then that of the rest
+-- an input made of these lines and a rest with no line feed has the frames of these lines, and then
+-- that of the rest
 abbrev pub FramesAreLines : Type 0
-FramesAreLines = (lines : List (List ℕ)) (rest : List ℕ) → AllByRecursion IsOneLine lines → IsOneLine rest
+FramesAreLines = (lines : List (List ℕ)) (rest : List ℕ)
+    → AllByRecursion IsOneLine lines → IsOneLine rest
     → frames_of (flat_map ended lines ++ rest) ≡ map frame_of lines ++ last_of rest
 
 -- each input is made so
 abbrev pub InputIsLines : Type 0
-InputIsLines = (input : List ℕ) → (lines : List (List ℕ)) × (rest : List ℕ) × AllByRecursion IsOneLine lines × IsOneLine rest
+InputIsLines = (input : List ℕ) → (lines : List (List ℕ)) × (rest : List ℕ)
+    × AllByRecursion IsOneLine lines × IsOneLine rest
     × (input ≡ flat_map ended lines ++ rest)
 
--- bytes in two parts: the frames of the first, and then of the second, behind the line that the first leaves unended
+-- bytes in two parts: the frames of the first, and then of the second, behind the line that the
+-- first leaves unended
 abbrev pub PiecesAreOne : Type 0
 PiecesAreOne = (line xs ys : List ℕ)
     → (frames_in line (xs ++ ys) ≡ frames_in line xs ++ frames_in (rest_in line xs) ys)
@@ -77,18 +83,21 @@ TextGoesOn = (line text bytes : List ℕ) → IsOneLine text
 
 -- by itself it ends no line
 abbrev pub TextEndsNoLine : Type 0
-TextEndsNoLine = (line text : List ℕ) → IsOneLine text → (frames_in line text ≡ []) × (rest_in line text ≡ line ++ text)
+TextEndsNoLine = (line text : List ℕ) → IsOneLine text
+    → (frames_in line text ≡ []) × (rest_in line text ≡ line ++ text)
 
 -- with its line feed it ends the line begun, and no other
 abbrev pub LineFeedEndsLine : Type 0
 LineFeedEndsLine = (line text : List ℕ) → IsOneLine text
-    → (frames_in line (ended text) ≡ frame_of (line ++ text) ∷ []) × (rest_in line (ended text) ≡ [])
+    → (frames_in line (ended text) ≡ frame_of (line ++ text) ∷ [])
+    × (rest_in line (ended text) ≡ [])
 
 -- text of which no place is a line feed has none
 abbrev pub NoPlaceIsLineFeed : Type 0
-NoPlaceIsLineFeed = (text : List ℕ) → ((k : ℕ) → k < length text → get_or text k 0 ≢ 10) → IsOneLine text
+NoPlaceIsLineFeed = (text : List ℕ)
+    → ((k : ℕ) → k < length text → get_or text k 0 ≢ 10) → IsOneLine text
 
--- what a line reader holds: the front of the line begun, and whether its line feed has come
+-- what a line reader holds: the first 256 bytes of the line begun, and whether its line feed has come
 pub record Held : Type 0 where
   pub line : List ℕ
   pub whole : Bool

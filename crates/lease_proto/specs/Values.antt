@@ -6,7 +6,7 @@ use Rattle.lease_terms.specs.Names.{is_name}
 use Rattle.lease_proto.specs.declared.faults.LineFault.{LineFault}
 use Rattle.lease_proto.specs.declared.faults.LineFault.TheVariants.{TooLong, BadLine, Number}
 use Rattle.lease_proto.specs.declared.limits.TheConstants.{LONGEST_LINE}
-use Rattle.lease_proto.specs.Words.{is_sentence, parts_of, number_of}
+use Rattle.lease_proto.specs.Words.{is_sentence, parts_of, number_in}
 
 -- what the second makes of the first's value, unless the first is refused
 infixl 10 ◌>>=◌
@@ -16,21 +16,21 @@ abbrev pub ◌>>=◌ : {A B : Type 0} → Result A LineFault → (A → Result B
 (Err e) >>= f = Err e
 
 -- a number from low to high
-abbrev pub between : ℕ → ℕ → Option ℕ → Result ℕ LineFault
-between low high None = Err Number
-between low high (Some n) = if nat_le low n && nat_le n high then Ok n else Err Number
+abbrev pub number_within : ℕ → ℕ → Option ℕ → Result ℕ LineFault
+number_within low high None = Err Number
+number_within low high (Some n) = if nat_le low n && nat_le n high then Ok n else Err Number
 
 -- a client
 abbrev pub client_in : List ℕ → Result ℕ LineFault
-client_in word = between 1 LAST_CLIENT (number_of word)
+client_in word = number_within 1 LAST_CLIENT (number_in word)
 
 -- an incarnation, or the number of a request
 abbrev pub ordinal_in : List ℕ → Result ℕ LineFault
-ordinal_in word = between 1 LARGEST (number_of word)
+ordinal_in word = number_within 1 LARGEST (number_in word)
 
 -- a unit, a number of units, or any number
 abbrev pub quantity_in : List ℕ → Result ℕ LineFault
-quantity_in word = between 0 LARGEST (number_of word)
+quantity_in word = number_within 0 LARGEST (number_in word)
 
 -- the id of a request: its client, its incarnation and its number
 unfoldable pub id_in : List ℕ × List ℕ × List ℕ → Result RequestId LineFault

@@ -25,12 +25,12 @@ digits_from n [] = if nat_le n LARGEST then Some n else None
 digits_from n (b ∷ bs) = if is_ascii_digit b then digits_from (n * 10 + (b - 48)) bs else None
 
 -- the number that a word writes, without a leading zero
-abbrev pub number_of : List ℕ → Option ℕ
-number_of [] = None
-number_of (b ∷ []) = digits_from 0 (b ∷ [])
-number_of (b ∷ c ∷ bs) = if b == 48 then None else digits_from 0 (b ∷ c ∷ bs)
+abbrev pub number_in : List ℕ → Option ℕ
+number_in [] = None
+number_in (b ∷ []) = digits_from 0 (b ∷ [])
+number_in (b ∷ c ∷ bs) = if b == 48 then None else digits_from 0 (b ∷ c ∷ bs)
 
 -- a word writes a number just where it is its decimal digits
 abbrev pub NumbersAreDecimal : Type 0
 NumbersAreDecimal = (word : List ℕ) (n : ℕ)
-    → (number_of word ≡ Some n) ↔ ((word ≡ decimal n) × (n ≤ LARGEST))
+    → (number_in word ≡ Some n) ↔ ((word ≡ decimal n) × (n ≤ LARGEST))

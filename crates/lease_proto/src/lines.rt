@@ -1,7 +1,7 @@
 //! The lines of a client.
 ghost use Rattle.std.specs.Prelude.{◌≡◌, ◌++◌, IsOk, OnOk, OnErr, [], ◌∷◌, ◌+◌, ◌*◌, ◌≤◌, ℕ, List, Some, vec_len};
 ghost use Rattle.lease_proto.specs.Frames.{ended};
-ghost use Rattle.lease_proto.specs.Grammar.{line_of, line_of_first, hello_of, lease_of, release_of};
+ghost use Rattle.lease_proto.specs.Grammar.{line_of, line_of_first, hello_in, lease_in, release_in};
 ghost use Rattle.lease_proto.specs.Requests.{client_of, incarnation_of, request_of, op_of};
 ghost use Rattle.lease_proto.specs.declared.lines.TheConstants.{OPTIONS_ROOM};
 ghost use Rattle.lease_proto.specs.declared.writing.TheConstants.{NUMBER_ROOM, NAME_ROOM};
@@ -11,8 +11,8 @@ ghost use Rattle.std.specs.Vec.{vec_capacity};
 ghost use Rattle.lease_proto.specs.declared.limits.TheConstants.{LINE_ROOM};
 
 use crate::faults::LineFault;
-use crate::limits::LINE_ROOM;
 use crate::ids::IdWords;
+use crate::limits::LINE_ROOM;
 use crate::numbers::{client, ordinal, quantity};
 use crate::sentences::{Words, name};
 use crate::taking::{option, quantity_or_default, words};
@@ -79,9 +79,9 @@ pub struct Hello {
 }
 
 impl Hello {
-    #[tactic(auto, unfolding(crate::specs::Grammar::hello_of))]
+    #[tactic(auto, unfolding(crate::specs::Grammar::hello_in))]
     fn read(words: &mut Words<'_>) -> Result<Line, LineFault>
-        ensures { result ≡ hello_of words.old }
+        ensures { result ≡ hello_in words.old }
     {
         let client_word = words.take()?;
         let incarnation = words.take()?;
@@ -112,9 +112,9 @@ pub struct Lease {
 }
 
 impl Lease {
-    #[tactic(auto, unfolding(crate::specs::Grammar::lease_of))]
+    #[tactic(auto, unfolding(crate::specs::Grammar::lease_in))]
     fn read(words: &mut Words<'_>) -> Result<Line, LineFault>
-        ensures { result ≡ lease_of words.old }
+        ensures { result ≡ lease_in words.old }
     {
         let id = IdWords::take(words)?;
         let arena = name(words.take()?)?;
@@ -141,7 +141,8 @@ impl Lease {
     }
 
     fn push(&self, out: &mut Vec<u8>)
-        requires { vec_len out.old + (NAME_ROOM + NUMBER_ROOM + OPTIONS_ROOM) ≤ vec_capacity out.old }
+        requires { vec_len out.old + (NAME_ROOM + NUMBER_ROOM + OPTIONS_ROOM)
+            ≤ vec_capacity out.old }
         ensures text { out.new.items ≡ out.old.items ++ spaced (lease_words self.now) }
         ensures len { vec_len out.new ≤ vec_len out.old + (NAME_ROOM + NUMBER_ROOM + OPTIONS_ROOM) }
         ensures capacity { vec_capacity out.old ≤ vec_capacity out.new }
@@ -160,9 +161,9 @@ pub struct Release {
 }
 
 impl Release {
-    #[tactic(auto, unfolding(crate::specs::Grammar::release_of))]
+    #[tactic(auto, unfolding(crate::specs::Grammar::release_in))]
     fn read(words: &mut Words<'_>) -> Result<Line, LineFault>
-        ensures { result ≡ release_of words.old }
+        ensures { result ≡ release_in words.old }
     {
         let id = IdWords::take(words)?;
         let arena = name(words.take()?)?;
@@ -232,7 +233,7 @@ pub enum Line {
 impl Line {
     /// The line that these bytes are, or the first reason why they are none. They are given without
     /// the line feed. It takes no memory.
-    #[tactic(auto, unfolding(crate::specs::Grammar::line_of, crate::specs::Grammar::line_of_words))]
+    #[tactic(auto, unfolding(crate::specs::Grammar::line_of, crate::specs::Grammar::line_in))]
     pub fn read(bytes: &[u8]) -> Result<Line, LineFault>
         ensures { result ≡ line_of bytes.now }
     {

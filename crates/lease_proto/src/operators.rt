@@ -37,7 +37,7 @@ pub enum ServedLine {
 impl ServedLine {
     /// The line that these bytes are, or the first reason why they are none. They are given without
     /// the line feed. Its words are found once. It takes no memory.
-    #[tactic(auto, unfolding(crate::specs::Operators::served_of, crate::specs::Operators::served_of_words))]
+    #[tactic(auto, unfolding(crate::specs::Operators::served_of, crate::specs::Operators::served_in))]
     pub fn read(bytes: &[u8]) -> Result<ServedLine, LineFault>
         ensures { result ≡ served_of bytes.now }
     {

@@ -1,7 +1,7 @@
 //! The replies to a client's lines.
 ghost use Rattle.std.specs.Prelude.{◌≡◌, ◌++◌, IsOk, OnOk, OnErr, ◌∷◌, ◌+◌, ◌*◌, ◌≤◌, ℕ, List, vec_len, length};
 ghost use Rattle.lease_proto.specs.Frames.{ended};
-ghost use Rattle.lease_proto.specs.Replies.{reply_of, reply_text, first_reply_word, welcome_of, granted_of, released_of, refused_of, old_of, out_of_turn_of, again_of, error_of, welcome_words, granted_words, refused_words, old_words, out_of_turn_words, again_words, refusal_in, refusal_word, IsReply, RepliesAreTexts, ReplyIsWhole};
+ghost use Rattle.lease_proto.specs.Replies.{reply_of, reply_text, first_reply_word, welcome_in, granted_in, released_in, refused_in, old_in, out_of_turn_in, again_in, error_in, welcome_words, granted_words, refused_words, old_words, out_of_turn_words, again_words, refusal_in, refusal_word, IsReply, RepliesAreTexts, ReplyIsWhole};
 ghost use Rattle.lease_proto.specs.Requests.{client_named, incarnation_named, request_named, again_request};
 ghost use Rattle.std.specs.Vec.{vec_capacity};
 ghost use Rattle.lease_proto.specs.declared.limits.TheConstants.{LINE_ROOM};
@@ -9,8 +9,8 @@ ghost use Rattle.lease_proto.specs.declared.writing.TheConstants.{NUMBER_ROOM, I
 ghost use Rattle.lease_proto.specs.Texts.{spaced};
 
 use crate::faults::{ErrorWord, LineFault};
-use crate::limits::LINE_ROOM;
 use crate::ids::IdWords;
+use crate::limits::LINE_ROOM;
 use crate::numbers::{client, ordinal, quantity};
 use crate::sentences::{Words, name};
 use crate::taking::words;
@@ -59,9 +59,9 @@ pub struct Welcome {
 }
 
 impl Welcome {
-    #[tactic(auto, unfolding(crate::specs::Replies::welcome_of))]
+    #[tactic(auto, unfolding(crate::specs::Replies::welcome_in))]
     fn read(words: &mut Words<'_>) -> Result<Self, LineFault>
-        ensures { result ≡ welcome_of words.old }
+        ensures { result ≡ welcome_in words.old }
     {
         let client_word = words.take()?;
         let incarnation = words.take()?;
@@ -93,9 +93,9 @@ pub struct Granted {
 }
 
 impl Granted {
-    #[tactic(auto, unfolding(crate::specs::Replies::granted_of))]
+    #[tactic(auto, unfolding(crate::specs::Replies::granted_in))]
     fn read(words: &mut Words<'_>) -> Result<Self, LineFault>
-        ensures { result ≡ granted_of words.old }
+        ensures { result ≡ granted_in words.old }
     {
         let id = IdWords::take(words)?;
         let arena = name(words.take()?)?;
@@ -111,7 +111,8 @@ impl Granted {
     }
 
     fn push(&self, out: &mut Vec<u8>)
-        requires { vec_len out.old + (ID_ROOM + NAME_ROOM + 2 * NUMBER_ROOM) ≤ vec_capacity out.old }
+        requires { vec_len out.old + (ID_ROOM + NAME_ROOM + 2 * NUMBER_ROOM)
+            ≤ vec_capacity out.old }
         ensures text { out.new.items ≡ out.old.items ++ spaced (granted_words self.now) }
         ensures len { vec_len out.new ≤ vec_len out.old + (ID_ROOM + NAME_ROOM + 2 * NUMBER_ROOM) }
         ensures capacity { vec_capacity out.old ≤ vec_capacity out.new }
@@ -131,9 +132,9 @@ pub struct Refused {
 }
 
 impl Refused {
-    #[tactic(auto, unfolding(crate::specs::Replies::refused_of))]
+    #[tactic(auto, unfolding(crate::specs::Replies::refused_in))]
     fn read(words: &mut Words<'_>) -> Result<Self, LineFault>
-        ensures { result ≡ refused_of words.old }
+        ensures { result ≡ refused_in words.old }
     {
         let id = IdWords::take(words)?;
         let refusal = refusal(words.take()?)?;
@@ -163,9 +164,9 @@ pub struct Old {
 }
 
 impl Old {
-    #[tactic(auto, unfolding(crate::specs::Replies::old_of))]
+    #[tactic(auto, unfolding(crate::specs::Replies::old_in))]
     fn read(words: &mut Words<'_>) -> Result<Self, LineFault>
-        ensures { result ≡ old_of words.old }
+        ensures { result ≡ old_in words.old }
     {
         let client_word = words.take()?;
         let current = words.take()?;
@@ -196,9 +197,9 @@ pub struct OutOfTurn {
 }
 
 impl OutOfTurn {
-    #[tactic(auto, unfolding(crate::specs::Replies::out_of_turn_of))]
+    #[tactic(auto, unfolding(crate::specs::Replies::out_of_turn_in))]
     fn read(words: &mut Words<'_>) -> Result<Self, LineFault>
-        ensures { result ≡ out_of_turn_of words.old }
+        ensures { result ≡ out_of_turn_in words.old }
     {
         let id = IdWords::take(words)?;
         let last = words.take()?;
@@ -229,9 +230,9 @@ pub struct Again {
 }
 
 impl Again {
-    #[tactic(auto, unfolding(crate::specs::Replies::again_of))]
+    #[tactic(auto, unfolding(crate::specs::Replies::again_in))]
     fn read(words: &mut Words<'_>) -> Result<Self, LineFault>
-        ensures { result ≡ again_of words.old }
+        ensures { result ≡ again_in words.old }
     {
         let client_word = words.take()?;
         let incarnation = words.take()?;
@@ -289,7 +290,7 @@ pub enum Reply {
 impl Reply {
     /// The reply that these bytes are, or the first reason why they are none, in the order of a
     /// line's reasons. They are given without the line feed. It takes no memory.
-    #[tactic(auto, unfolding(crate::specs::Replies::reply_of, crate::specs::Replies::reply_of_words))]
+    #[tactic(auto, unfolding(crate::specs::Replies::reply_of, crate::specs::Replies::reply_in))]
     pub fn read(bytes: &[u8]) -> Result<Reply, LineFault>
         ensures { result ≡ reply_of bytes.now }
     {
@@ -442,18 +443,18 @@ impl Reply {
     }
 }
 
-#[tactic(auto, unfolding(crate::specs::Replies::released_of))]
+#[tactic(auto, unfolding(crate::specs::Replies::released_in))]
 fn released(words: &mut Words<'_>) -> Result<RequestId, LineFault>
-    ensures { result ≡ released_of words.old }
+    ensures { result ≡ released_in words.old }
 {
     let id = IdWords::take(words)?;
     words.end()?;
     id.read()
 }
 
-#[tactic(auto, unfolding(crate::specs::Replies::error_of))]
+#[tactic(auto, unfolding(crate::specs::Replies::error_in))]
 fn error(words: &mut Words<'_>) -> Result<ErrorWord, LineFault>
-    ensures { result ≡ error_of words.old }
+    ensures { result ≡ error_in words.old }
 {
     let error = ErrorWord::read(words.take()?)?;
     words.end()?;

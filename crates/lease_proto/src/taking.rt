@@ -10,8 +10,8 @@ use crate::numbers::quantity;
 use crate::sentences::{Words, is_sentence};
 use lease_terms::Quantity;
 
-/// The words of a line, given without its line feed: `TooLong` above `LONGEST_LINE` bytes, and `BadLine` where
-/// it is anything but words with one space between them.
+/// The words of a line, given without its line feed: `TooLong` above `LONGEST_LINE` bytes, and
+/// `BadLine` where it is anything but words with one space between them.
 pub fn words(line: &[u8]) -> Result<Words<'_>, LineFault>
     ensures { result ≡ words_of line.now }
 {
