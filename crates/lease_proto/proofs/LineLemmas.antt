@@ -15,7 +15,7 @@ use Rattle.lease_proto.specs.declared.lines.Line.{Line}
 use Rattle.lease_proto.specs.declared.lines.Line.TheVariants.{Hello, Request}
 use Rattle.lease_proto.specs.declared.lines.Op.{Op}
 use Rattle.lease_proto.specs.declared.lines.Op.TheVariants.{Lease, Release}
-use Rattle.lease_proto.specs.declared.lines.Lease.{Lease as TheLease}
+use Rattle.lease_proto.specs.declared.lines.LeaseLine.{LeaseLine}
 use Rattle.lease_proto.specs.declared.limits.TheConstants.{LONGEST_LINE}
 use Rattle.lease_proto.specs.Words.{is_sentence}
 use Rattle.lease_proto.specs.Values.{◌>>=◌, words_of}
@@ -96,7 +96,7 @@ options_are_words ((key, default, value) ∷ options) words keys fit (inl (rest,
     ap (list_all is_word) is ∙ rw (keys.0, decimal_word value fit.0) (options_are_words options rest keys.1 fit.1 given)
 options_are_words ((key, default, value) ∷ options) words keys fit (inr (is, given)) = options_are_words options words keys.1 fit.1 given
 
-all_fit : (l : TheLease) → AreOptions l.options → AllFit (options_of l.options)
+all_fit : (l : LeaseLine) → AreOptions l.options → AllFit (options_of l.options)
 all_fit l is = (is.0, (is.1, (is.2, (is.3, (is.4, tt)))))
 
 op_are_words : (op : Op) (rest : List (List ℕ)) → IsOp op → AsksFor op rest → list_all is_word rest ≡ true
@@ -266,7 +266,7 @@ lease_says words read e =
     option_step 0 nocross.0 _ read e13 (λ x x_is e14.
     option_step 0 min.0 _ read e14 (λ l l_is e15.
     option_step LARGEST max.0 _ read e15 (λ h h_is e16.
-    let lease : TheLease = record {
+    let lease : LeaseLine = record {
       arena = arena;
       size = s;
       options = record { align = a; phase = p; nocross = x; min = l; max = h };

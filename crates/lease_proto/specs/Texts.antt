@@ -9,9 +9,9 @@ use Rattle.lease_proto.specs.declared.lines.Line.{Line}
 use Rattle.lease_proto.specs.declared.lines.Line.TheVariants as lines
 use Rattle.lease_proto.specs.declared.lines.Op.{Op}
 use Rattle.lease_proto.specs.declared.lines.Op.TheVariants as ops
-use Rattle.lease_proto.specs.declared.lines.Hello.{Hello}
-use Rattle.lease_proto.specs.declared.lines.Lease.{Lease}
-use Rattle.lease_proto.specs.declared.lines.Release.{Release}
+use Rattle.lease_proto.specs.declared.lines.HelloLine.{HelloLine}
+use Rattle.lease_proto.specs.declared.lines.LeaseLine.{LeaseLine}
+use Rattle.lease_proto.specs.declared.lines.ReleaseLine.{ReleaseLine}
 use Rattle.lease_proto.specs.declared.lines.LeaseOptions.{LeaseOptions}
 use Rattle.lease_proto.specs.Frames.{IsWholeLine}
 use Rattle.lease_proto.specs.Grammar.{line_of}
@@ -30,13 +30,13 @@ abbrev pub id_words : RequestId → List (List ℕ)
 id_words id = decimal id.client ∷ decimal id.incarnation ∷ decimal id.number ∷ []
 
 -- the words after the first of a hello, and after the id of a request
-abbrev pub hello_words : Hello → List (List ℕ)
+abbrev pub hello_words : HelloLine → List (List ℕ)
 hello_words h = decimal h.client ∷ decimal h.incarnation ∷ []
 
-abbrev pub lease_words : Lease → List (List ℕ)
+abbrev pub lease_words : LeaseLine → List (List ℕ)
 lease_words l = l.arena ∷ decimal l.size ∷ options_words l.options
 
-abbrev pub release_words : Release → List (List ℕ)
+abbrev pub release_words : ReleaseLine → List (List ℕ)
 release_words r = r.arena ∷ decimal r.base ∷ []
 
 abbrev pub op_words : Op → List (List ℕ)

@@ -36,7 +36,7 @@ mod writing;
 pub use faults::{ErrorWord, LineFault};
 pub use framing::{FramedLine, LineReader, framing_law, line_feed_law};
 pub use limits::{LINE_ROOM, LONGEST_LINE, MOST_ARENAS, MOST_SPANS, limit_law};
-pub use lines::{Hello, Lease, LeaseOptions, Line, Op, Release, line_law};
+pub use lines::{HelloLine, LeaseLine, LeaseOptions, Line, Op, ReleaseLine, line_law};
 pub use numbers::number_law;
 pub use operators::{OperatorLine, ServedLine, served_law};
 pub use replies::{Again, Granted, Old, OutOfTurn, Refused, Reply, Welcome, reply_law};

@@ -73,12 +73,12 @@ impl LeaseOptions {
 
 /// `hello C I`: the client begins, or begins anew.
 #[derive(Clone, Copy, Debug, PartialEq, Eq)]
-pub struct Hello {
+pub struct HelloLine {
     pub client: ClientId,
     pub incarnation: Ordinal,
 }
 
-impl Hello {
+impl HelloLine {
     #[tactic(auto, unfolding(crate::specs::Grammar::hello_in))]
     fn read(words: &mut Words<'_>) -> Result<Line, LineFault>
         ensures { result ≡ hello_in words.old }
@@ -86,7 +86,7 @@ impl Hello {
         let client_word = words.take()?;
         let incarnation = words.take()?;
         words.end()?;
-        Ok(Line::Hello(Hello {
+        Ok(Line::Hello(HelloLine {
             client: client(client_word)?,
             incarnation: ordinal(incarnation)?,
         }))
@@ -105,13 +105,13 @@ impl Hello {
 
 /// What `lease C I N NAME SIZE` and its options ask for: a segment of an arena.
 #[derive(Clone, Copy, Debug, PartialEq, Eq)]
-pub struct Lease {
+pub struct LeaseLine {
     pub arena: Name,
     pub size: Quantity,
     pub options: LeaseOptions,
 }
 
-impl Lease {
+impl LeaseLine {
     #[tactic(auto, unfolding(crate::specs::Grammar::lease_in))]
     fn read(words: &mut Words<'_>) -> Result<Line, LineFault>
         ensures { result ≡ lease_in words.old }
@@ -126,7 +126,7 @@ impl Lease {
         let max = option(words, b"max");
         words.end()?;
         let id = id.read()?;
-        let lease = Lease {
+        let lease = LeaseLine {
             arena,
             size: quantity(size)?,
             options: LeaseOptions {
@@ -155,12 +155,12 @@ impl Lease {
 
 /// What `release C I N NAME BASE` asks for: to end the lease of that arena and base.
 #[derive(Clone, Copy, Debug, PartialEq, Eq)]
-pub struct Release {
+pub struct ReleaseLine {
     pub arena: Name,
     pub base: Quantity,
 }
 
-impl Release {
+impl ReleaseLine {
     #[tactic(auto, unfolding(crate::specs::Grammar::release_in))]
     fn read(words: &mut Words<'_>) -> Result<Line, LineFault>
         ensures { result ≡ release_in words.old }
@@ -170,7 +170,7 @@ impl Release {
         let base = words.take()?;
         words.end()?;
         let id = id.read()?;
-        let release = Release {
+        let release = ReleaseLine {
             arena,
             base: quantity(base)?,
         };
@@ -191,8 +191,8 @@ impl Release {
 /// What a request asks for, without its id.
 #[derive(Clone, Copy, Debug, PartialEq, Eq)]
 pub enum Op {
-    Lease(Lease),
-    Release(Release),
+    Lease(LeaseLine),
+    Release(ReleaseLine),
 }
 
 impl Op {
@@ -226,7 +226,7 @@ impl Op {
 /// A line of a client: a hello, or a request with its id.
 #[derive(Clone, Copy, Debug, PartialEq, Eq)]
 pub enum Line {
-    Hello(Hello),
+    Hello(HelloLine),
     Request(RequestId, Op),
 }
 
@@ -250,11 +250,11 @@ impl Line {
         ensures { result ≡ line_of_first first.now words.old }
     {
         if first == b"hello".as_slice() {
-            Hello::read(words)
+            HelloLine::read(words)
         } else if first == b"lease".as_slice() {
-            Lease::read(words)
+            LeaseLine::read(words)
         } else if first == b"release".as_slice() {
-            Release::read(words)
+            ReleaseLine::read(words)
         } else {
             Err(LineFault::Word)
         }
