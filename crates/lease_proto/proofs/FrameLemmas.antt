@@ -84,7 +84,7 @@ frames_in-take line (b ∷ bs) =
     rw (frame_of-take line, same) refl
 
 pub rest_in-take : (line bs : List ℕ) → take LINE_ROOM (rest_in (take LINE_ROOM line) bs) ≡ take LINE_ROOM (rest_in line bs)
-rest_in-take line [] = take-take LINE_ROOM 256 line (omega arith)
+rest_in-take line [] = take-take LINE_ROOM LINE_ROOM line (omega arith)
 rest_in-take line (b ∷ bs) =
     let same : take LINE_ROOM (rest_in (take LINE_ROOM line ++ b ∷ []) bs) ≡ take LINE_ROOM (rest_in (line ++ b ∷ []) bs) =
     sym (rest_in-take (take LINE_ROOM line ++ b ∷ []) bs) ∙ ap (λ l. take LINE_ROOM (rest_in l bs)) (take-front LINE_ROOM line (b ∷ []))

@@ -97,8 +97,8 @@ abbrev pub NoPlaceIsLineFeed : Type 0
 NoPlaceIsLineFeed = (text : List ℕ)
     → ((k : ℕ) → k < length text → get_or text k 0 ≢ 10) → IsOneLine text
 
--- what a line reader holds: the first 256 bytes of the line begun, and whether its line feed has come
-pub record Held : Type 0 where
+-- the first `LINE_ROOM` bytes of the line begun, and whether its line feed has come
+pub record LineReaderState : Type 0 where
   pub line : List ℕ
   pub whole : Bool
 

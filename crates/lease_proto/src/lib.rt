@@ -34,7 +34,7 @@ mod taking;
 mod writing;
 
 pub use faults::{ErrorWord, LineFault};
-pub use framing::{FramedLine, LineReader, framing_law, line_feed_law};
+pub use framing::{FramedLine, LineReader, fault_at_end, framing_law, line_feed_law};
 pub use limits::{LINE_ROOM, LONGEST_LINE, MOST_ARENAS, MOST_SPANS, limit_law};
 pub use lines::{HelloLine, LeaseLine, LeaseOptions, Line, Op, ReleaseLine, line_law};
 pub use numbers::number_law;
