@@ -3,7 +3,7 @@ use Rattle.std.proofs.Common.{◌≡◌, ◌≢◌, ◌==◌, ◌⊎◌, ℕ, �
 use Rattle.std.proofs.lemmas.List.{append-nil, take-take, take_all, take_min, take-append-drop, drop-take, length-take}
 use Rattle.std.proofs.Math.Seq.{drop-nil, drop-length}
 use Rattle.std.proofs.lemmas.Bool.{ne_eqb, cases_Bool, cases_eq}
-use Rattle.lease_proto.specs.Frames.{Frame, Held, frame_of, frames_in, rest_in, last_of, ended, IsOneLine}
+use Rattle.lease_proto.specs.Frames.{Frame, LineReaderState, frame_of, frames_in, rest_in, last_of, ended, IsOneLine}
 use Rattle.lease_proto.proofs.LawProofs.{frame_of-take, frames_in-take, rest_in-take, last_of-take, frames_in-append, rest_in-append, one_line, one_line_before, up_to}
 use Rattle.lease_server.specs.Serving.{SameFront}
 use Rattle.lease_server.specs.Intakes.{AtHand, hand_in, frames_at, begun_at, frames_on, frames_to_end, hand_of, HandTells, LineIsWhole, LineIsBegun, LineGoesOn}
@@ -129,18 +129,18 @@ passed buffer s e i below =
     ∙ behind (drop s buffer) (i + 1) (e - s) (omega (arith, below))
 
 -- what is at hand where a line reader's line isn't whole
-pub hand_is_in : (held : Held) (piece : List ℕ) (hand : AtHand) → hand_of held piece ≡ hand → held.whole ≡ false → hand ≡ hand_in held.line piece
+pub hand_is_in : (held : LineReaderState) (piece : List ℕ) (hand : AtHand) → hand_of held piece ≡ hand → held.whole ≡ false → hand ≡ hand_in held.line piece
 hand_is_in held piece hand is unended =
     let same : hand_of held piece ≡ hand_in held.line piece = rw unended refl in sym is ∙ same
 
-pub reader_open : (held : Held) (piece : List ℕ) → (hand_of held piece).whole ≡ false → held.whole ≡ false
+pub reader_open : (held : LineReaderState) (piece : List ℕ) → (hand_of held piece).whole ≡ false → held.whole ≡ false
 reader_open held piece unended = elim (cases_Bool held.whole) [
   | inl is ↦ let whole : (hand_of held piece).whole ≡ true = rw is refl in let bad : true ≡ false = sym whole ∙ unended in absurd (cc)
   | inr other ↦ other
 ]
 
 -- by the first line feed of a piece
-pub hand_found : (held : Held) (piece : List ℕ) (hand : AtHand) (i : ℕ) → hand_of held piece ≡ hand → held.whole ≡ false → held.line ≡ []
+pub hand_found : (held : LineReaderState) (piece : List ℕ) (hand : AtHand) (i : ℕ) → hand_of held piece ≡ hand → held.whole ≡ false → held.line ≡ []
     → i < length piece → get_or piece i 0 ≡ 10 → ((k : ℕ) → k < i → get_or piece k 0 ≢ 10)
     → hand ≡ record { line = take 256 (take i piece); whole = true; rest = drop (i + 1) piece }
 hand_found held piece hand i is unended empty below there none =
@@ -150,7 +150,7 @@ hand_found held piece hand i is unended empty below there none =
     ∙ hand_in-ended [] (take i piece) (drop (i + 1) piece) (one_line_before piece i below none)
 
 -- and where it has none
-pub hand_unfound : (held : Held) (piece : List ℕ) (hand : AtHand) → hand_of held piece ≡ hand → held.whole ≡ false
+pub hand_unfound : (held : LineReaderState) (piece : List ℕ) (hand : AtHand) → hand_of held piece ≡ hand → held.whole ≡ false
     → ((k : ℕ) → k < length piece → get_or piece k 0 ≢ 10) → hand ≡ record { line = take 256 (held.line ++ piece); whole = false; rest = [] }
 hand_unfound held piece hand is unended none =
     hand_is_in held piece hand is unended ∙ hand_in-none held.line piece (one_line piece none)
@@ -166,7 +166,7 @@ line_is_begun line (b ∷ bs) unended = elim (cases_eq b 10) [
     (on ∙ more.0 ∙ ap (λ l. record { line = take 256 l; whole = false; rest = [] }) (append_assoc line (b ∷ []) bs), (other, more.1))
 ]
 
-pub hand_open : (held : Held) (piece : List ℕ) (hand : AtHand) → hand_of held piece ≡ hand → hand.whole ≡ false
+pub hand_open : (held : LineReaderState) (piece : List ℕ) (hand : AtHand) → hand_of held piece ≡ hand → hand.whole ≡ false
     → (held.whole ≡ false) × (hand ≡ record { line = take 256 (held.line ++ piece); whole = false; rest = [] }) × IsOneLine piece
 hand_open held piece hand is unended =
     let closed = reader_open held piece (ap (λ h. h.whole) is ∙ unended) in
@@ -175,7 +175,7 @@ hand_open held piece hand is unended =
     (closed, same ∙ all.0, all.1)
 
 -- where nothing more came, it stays
-pub stays : (held : Held) (piece : List ℕ) (hand : AtHand) → hand_of held piece ≡ hand → hand.whole ≡ false → hand ≡ hand_in hand.line []
+pub stays : (held : LineReaderState) (piece : List ℕ) (hand : AtHand) → hand_of held piece ≡ hand → hand.whole ≡ false → hand ≡ hand_in hand.line []
 stays held piece hand is unended =
     let (closed, same, one) = hand_open held piece hand is unended in
     let line : hand.line ≡ take 256 (held.line ++ piece) = ap (λ h. h.line) same in
@@ -183,13 +183,13 @@ stays held piece hand is unended =
     (sym (take-take 256 256 (held.line ++ piece) (omega arith)) ∙ ap (take 256) (sym line))
 
 -- a piece lies behind a line reader that isn't whole only where no line has begun
-pub not_begun : (held : Held) (s e : ℕ) → (held.line ≡ []) ⊎ (held.whole ≡ true) ⊎ (s ≡ e) → held.whole ≡ false → 0 < e - s → held.line ≡ []
+pub not_begun : (held : LineReaderState) (s e : ℕ) → (held.line ≡ []) ⊎ (held.whole ≡ true) ⊎ (s ≡ e) → held.whole ≡ false → 0 < e - s → held.line ≡ []
 not_begun held s e (inl empty) unended some = empty
 not_begun held s e (inr (inl whole)) unended some = let bad : true ≡ false = sym whole ∙ unended in absurd (cc)
 not_begun held s e (inr (inr same)) unended some = absurd (omega (arith, same, some))
 
 -- what a line reader that was fed has at hand
-pub fed : (old new : Held) (piece : List ℕ) (n : ℕ) → old.whole ≡ false
+pub fed : (old new : LineReaderState) (piece : List ℕ) (n : ℕ) → old.whole ≡ false
     → (new.whole ≡ false → n ≡ length piece)
     → (text : List ℕ) × IsOneLine text × (take n piece ≡ (if new.whole then ended text else text)) × (new.line ≡ take 256 (old.line ++ text))
     → hand_of new (drop n piece) ≡ hand_in old.line piece
@@ -211,7 +211,7 @@ fed old new piece n unended all (text, one, parts, line) = elim (cases_Bool new.
 ]
 
 -- a line reader that was fed what it had behind it, where no line ends there
-pub held_all : (old new : Held) (piece : List ℕ) (n : ℕ) → (hand_of old piece).whole ≡ false
+pub held_all : (old new : LineReaderState) (piece : List ℕ) (n : ℕ) → (hand_of old piece).whole ≡ false
     → (new.whole ≡ false → n ≡ length piece)
     → (text : List ℕ) × IsOneLine text × (take n piece ≡ (if new.whole then ended text else text)) × (new.line ≡ take 256 (old.line ++ text))
     → new ≡ record { line = (hand_of old piece).line; whole = false }
@@ -227,7 +227,7 @@ held_all old new piece n unended all given =
     ap (λ w. record { line = new.line; whole = w }) shut ∙ ap (λ l. record { line = l; whole = false }) line
 
 -- with nothing behind it
-pub held_none : (held : Held) (piece : List ℕ) → piece ≡ [] → (hand_of held piece).whole ≡ false → length held.line ≤ 256
+pub held_none : (held : LineReaderState) (piece : List ℕ) → piece ≡ [] → (hand_of held piece).whole ≡ false → length held.line ≤ 256
     → held ≡ record { line = (hand_of held piece).line; whole = false }
 held_none held piece none unended short =
     let (closed, same, one) = hand_open held piece (hand_of held piece) refl unended in

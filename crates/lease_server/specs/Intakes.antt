@@ -3,7 +3,7 @@ use Rattle.std.specs.Prelude.{◌≡◌, ◌==◌, ◌≤◌, ◌<◌, ◌+◌, 
 use Rattle.std.specs.Prelude.{List, [], ◌∷◌, ◌++◌, length, take, if◌then◌else◌, Option}
 use Rattle.std.specs.Io.KnownBytes.{Consumes, IsAtEnd, Keeps}
 use Rattle.lease_proto.specs.Frames.{Frame, IsOneLine, ended, frame_of, frames_in, rest_in}
-use Rattle.lease_proto.specs.Frames.{frames_of, last_of, Held}
+use Rattle.lease_proto.specs.Frames.{frames_of, last_of, LineReaderState}
 use Rattle.lease_server.specs.declared.intakes.TheConstants.{MOST_READS, PIECE}
 use Rattle.lease_server.specs.declared.faults.ServeFault.{ServeFault}
 use Rattle.lease_server.specs.declared.faults.ServeFault.TheVariants.{Read, Write, Memory, Turns}
@@ -46,7 +46,7 @@ pub record IntakeState : Type 0 where
   pub ended : Bool
 
 -- what a line reader and the piece behind its line have at hand
-abbrev pub hand_of : Held → List ℕ → AtHand
+abbrev pub hand_of : LineReaderState → List ℕ → AtHand
 hand_of held piece =
     if held.whole then record { line = held.line; whole = true; rest = piece }
     else hand_in held.line piece
