@@ -12,7 +12,7 @@
 //! `proofs/LawProofs.antt`.
 //!
 //! What it costs: a look-up of a client takes the same time however many there are. A release and a
-//! sweep look at the leases of one client, at most 1,024, and `units` at all leases. Ending all
+//! sweep look at the leases of one client, at most `MOST_LEASES`, and `units` at all leases. Ending all
 //! leases one by one looks at each client once.
 #![tactic(auto)]
 
@@ -24,8 +24,11 @@ mod leases;
 mod receipts;
 mod reports;
 
-pub use answers::{Answer, HelloFault, Look};
-pub use books::{Book, LEASES};
-pub use laws::{account_law, entry_laws, lease_laws};
-pub use receipts::{Receipt, Reply, Terms};
+pub use answers::{Answer, HelloFault, Look, NotLeased};
+pub use books::{Book, MOST_LEASES};
+pub use laws::{
+    account_law, bound_law, client_laws, entry_laws, lease_laws, lease_limit_law, number_law,
+    outcome_laws,
+};
+pub use receipts::{KeptReply, Receipt, Terms};
 pub use reports::ClientReport;
