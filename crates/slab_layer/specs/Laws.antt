@@ -12,7 +12,7 @@ use Rattle.slab_layer.specs.Cache.{
   chunks_out,
   idle_chunks,
 }
-use Rattle.slab_layer.specs.Moves.{TakeOf, ReapOf}
+use Rattle.slab_layer.specs.Calls.{TakeOf, ReapOf}
 
 -- each chunk, out or at home, carries its cache's arena and number, is of its length and on the
 -- quantum's grid
