@@ -43,7 +43,8 @@ ChunkFits =
 abbrev pub ChunkIsWholeQuanta : Type 0
 ChunkIsWholeQuanta = (c : SlabCacheState) → IsSound c → rounded c.quantum (chunk_of c) ≡ chunk_of c
 
--- `take` gives none exactly where every chunk is out, and `reap` exactly where each slab has one out
+-- `take` gives none exactly where every chunk is out, and `reap` exactly where each slab has one
+-- out
 abbrev pub TakesNoneExactly : Type 0
 TakesNoneExactly =
     (old new : SlabCacheState) (answer : Option Tag) → TakeOf old answer new

@@ -186,7 +186,10 @@ impl<D: Deed> Arena<D> {
         if overlaps_owned(&self.owned, range) {
             return true;
         }
-        overlaps_imported(&self.imported, range)
+        if overlaps_imported(&self.imported, range) {
+            return true;
+        }
+        false
     }
 
     // Whether the range is in whole quanta of this arena.
