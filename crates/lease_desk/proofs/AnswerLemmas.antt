@@ -18,7 +18,7 @@ use Rattle.lease_book.specs.declared.answers.HelloFault.{HelloFault}
 use Rattle.lease_book.specs.declared.answers.HelloFault.TheVariants as fault
 use Rattle.lease_book.specs.declared.answers.Look.{Look}
 use Rattle.lease_book.specs.declared.answers.Look.TheVariants as look
-use Rattle.lease_book.specs.declared.receipts.Reply.TheVariants as was
+use Rattle.lease_book.specs.declared.receipts.KeptReply.TheVariants as was
 use Rattle.lease_book.specs.declared.receipts.Terms.{Terms}
 use Rattle.lease_proto.specs.declared.lines.Hello.{Hello as HelloLine}
 use Rattle.lease_proto.specs.declared.lines.Lease.{Lease as LeaseLine}
@@ -29,13 +29,13 @@ use Rattle.lease_desk.specs.declared.spaces.Space.{Space}
 use Rattle.lease_desk.specs.DeskState.{NamedArenaState, Exports}
 use Rattle.lease_desk.specs.Moves.{TakesBack, GivesBack}
 use Rattle.lease_desk.specs.Sweeps.{Sweeps}
-use Rattle.lease_desk.specs.Carved.{IsCarved, IsRefused as IsCarveRefused}
+use Rattle.lease_desk.specs.Carved.{IsCarved, IsCarveRefused}
 use Rattle.tag_arena.specs.declared.faults.ArenaFault.TheVariants.{NoFit}
-use Rattle.lease_desk.specs.Machine.{Finds, IsSettled, Refuses, refused_to, granted_to, demand_of, place_in, NewRelease, Grants, Misses, NewLease, HelloStep, Welcomes}
+use Rattle.lease_desk.specs.Machine.{Finds, IsSettled, SettlesRefusal, refused_to, granted_to, demand_of, place_in, NewRelease, Grants, Misses, NewLease, HelloStep, Welcomes}
 use Rattle.lease_desk.specs.Grants.{GrantsAreOwn}
 use Rattle.lease_desk.specs.Spaces.{state_of, states_of, desk_of, IsSteady, AreSpaces}
 use Rattle.lease_desk.specs.Replies.{IsSayable, Says, hello_refused}
-use Rattle.lease_desk.proofs.PlaceLemmas.{slice_get_some, slice_get_mapped}
+use Rattle.deed_core.proofs.LawProofs.{slice_get_some, slice_get_mapped}
 use Rattle.lease_desk.proofs.GrantLemmas.{IsNewAnswer, new_answer, sayable, grants_more}
 use Rattle.lease_desk.proofs.SteadyLemmas.{same_count, hello_incarnation}
 use Rattle.lease_desk.proofs.Exporting.{exports_weigh, exports_back, gives_nothing}
@@ -224,7 +224,7 @@ welcomed spaces now old greeted new c i steady enters same current sweeps left =
 -- no address of the arena serves
 pub no_fit : (q : RequestId) (l : LeaseLine) (spaces now : List Space) (old new : BookState) (place : ℕ) (x : NamedArenaState) (r : Reply) → place_in l.arena (states_of spaces) ≡ Some place → now ≡ spaces
     → slice_get (states_of spaces) place ≡ Some x → IsCarveRefused x (demand_of l) NoFit
-    → Refuses q why.NoFit (desk_of spaces old) (desk_of spaces new) → r ≡ refused_to q why.NoFit → NewLease q l (desk_of spaces old) (desk_of now new) r
+    → SettlesRefusal q why.NoFit (desk_of spaces old) (desk_of spaces new) → r ≡ refused_to q why.NoFit → NewLease q l (desk_of spaces old) (desk_of now new) r
 no_fit q l spaces now old new place x r first same here none refuses says =
     subst (λ (xs : List Space). NewLease q l (desk_of spaces old) (desk_of xs new) r) (sym same)
     (subst (λ z. NewLease q l (desk_of spaces old) (desk_of spaces new) z) (sym says) (why.NoFit, refl, (place, x, record { first = first; here = here }, none.0, none.1, refuses)))

@@ -12,7 +12,7 @@ use Rattle.deed_core.proofs.LawProofs.{counts_the_unit}
 use Rattle.tag_arena.specs.declared.faults.ArenaFault.{ArenaFault}
 use Rattle.tag_arena.specs.declared.faults.ArenaFault.TheVariants.{BadRequest, NoFit, NoMemory}
 use Rattle.tag_arena.specs.Place.{Serves}
-use Rattle.tag_arena.specs.ArenaState.{ArenaState, tags_of}
+use Rattle.tag_arena.specs.ArenaState.{ArenaState, tags_of, IsSound}
 use Rattle.tag_arena.specs.Calls.{Carves}
 use Rattle.tag_arena.specs.Outcomes.{CarveOf}
 use Rattle.tag_arena.proofs.LawProofs.{none_serves}
@@ -20,7 +20,7 @@ use Rattle.lease_desk.specs.declared.spaces.Space.{Space}
 use Rattle.lease_desk.specs.DeskState.{NamedArenaState}
 use Rattle.lease_desk.specs.Spaces.{state_of, states_of, AreSpaces, IsSpace}
 use Rattle.lease_desk.specs.Carved.{IsCarved, IsUncarved}
-use Rattle.lease_desk.proofs.PlaceLemmas.{slice_get_mapped}
+use Rattle.deed_core.proofs.LawProofs.{slice_get_mapped}
 use Rattle.lease_desk.proofs.SpaceLemmas.{with_arena, ranges_gain, carved_space, carved_gives, spaces_after, gives_before}
 
 -- an address where a segment was carved serves
@@ -47,11 +47,9 @@ module _ (spaces : List Space) (place : ℕ) (s : Space) (new : ArenaState) (q :
   sound_same : new ≡ s.arena → AreSpaces (set spaces place (with_arena s new))
   sound_same same = spaces_after spaces place (with_arena s new) sound (subst (λ a. IsSpace place (with_arena s a)) (sym same) is)
 
-  pub carve_sound : (r : Result Tag ArenaFault) → CarveOf s.arena q r new → IfOk r (Gains (tags_of s.arena) (tags_of new))
-      → IfOk r (λ t. (u : ℕ) → covering_held u s.arena.free ≡ covering_held u new.free + covers u t.holding.range)
-      → AreSpaces (set spaces place (with_arena s new))
-  carve_sound (Ok t) carved gains units = spaces_after spaces place (with_arena s new) sound (carved_space place s new t.holding is carved.carves (ranges_gain s.arena new t gains) units)
-  carve_sound (Err e) carved gains units = sound_same carved.1
+  pub carve_sound : (r : Result Tag ArenaFault) → CarveOf s.arena q r new → IsSound new → AreSpaces (set spaces place (with_arena s new))
+  carve_sound (Ok t) carved still = spaces_after spaces place (with_arena s new) sound (carved_space place s new t.holding is carved.carves still)
+  carve_sound (Err e) carved still = sound_same carved.1
 
   pub carve_carved : (r : Result Tag ArenaFault) → CarveOf s.arena q r new → IfOk r (Gains (tags_of s.arena) (tags_of new))
       → IfOk r (λ t. (u : ℕ) → covering_held u s.arena.free ≡ covering_held u new.free + covers u t.holding.range)

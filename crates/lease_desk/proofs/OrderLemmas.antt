@@ -8,10 +8,11 @@ use Rattle.deed_core.specs.Covering.{covers_held}
 use Rattle.deed_core.proofs.LawProofs.{sum_by-map}
 use Rattle.lease_book.specs.Account.{Lease, Account}
 use Rattle.lease_book.specs.BookState.{BookState, leased, leased_by, segments}
+use Rattle.tag_arena.proofs.LawProofs.{spans_once}
 use Rattle.lease_desk.specs.declared.spaces.Space.{Space}
 use Rattle.lease_desk.specs.DeskState.{NamedArenaState, Free, Leased, Stay, leases_in, stays_of, OnePlace, within, IsOrderly}
 use Rattle.lease_desk.specs.Spaces.{state_of, desk_of, IsSteady, IsSpace}
-use Rattle.lease_desk.proofs.PlaceLemmas.{mapped, slice_get_mapped}
+use Rattle.deed_core.proofs.LawProofs.{mapped, slice_get_mapped}
 
 abbrev weight : (Holding → ℕ) → Stay → ℕ
 weight f s = f s.holding
@@ -50,8 +51,8 @@ one_place spaces book k s steady at = record {
   places = λ u.
       let all = stays_weigh k (covers_held u) (state_of s) book in
       let out = steady.exports.each k (state_of s) (covers_held u) (slice_get_mapped state_of spaces k s at) in
-      omega (arith, all, out, is.covers u);
-  once = is.once;
+      omega (arith, all, out, is.sound.divided.covers u);
+  once = spans_once s.arena is.sound;
 }
   where
     is : IsSpace k s

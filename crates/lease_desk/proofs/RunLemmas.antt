@@ -10,7 +10,7 @@ use Rattle.lease_server.specs.Serving.{Serves}
 use Rattle.lease_desk.specs.DeskState.{DeskState, OnePlace, within, stray, IsOrderly}
 use Rattle.lease_desk.specs.Machine.{LeaseStep}
 use Rattle.lease_desk.specs.Laws.{AreApart, LeasesStayApart, UnitsHaveOnePlace}
-use Rattle.lease_desk.proofs.PlaceLemmas.{slice_get_some}
+use Rattle.deed_core.proofs.LawProofs.{slice_get_some}
 use Rattle.lease_desk.proofs.Exporting.{not_stray, within_own}
 use Rattle.lease_desk.proofs.OrderLemmas.{stays_weigh}
 

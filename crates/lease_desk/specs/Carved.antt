@@ -26,13 +26,13 @@ pub record IsCarved (old new : List NamedArenaState) (place : ℕ) (x : NamedAre
   pub back : GivesBack (t ∷ []) new old
 
 -- why none was carved
-abbrev pub IsRefused : NamedArenaState → Request → ArenaFault → Type 0
-IsRefused x q BadRequest = ¬ IsGood x.quantum q
-IsRefused x q NoFit = IsGood x.quantum q × (¬ HasPlace x q)
-IsRefused x q NoMemory = IsGood x.quantum q × ((base : ℕ) × Chooses x q base)
+abbrev pub IsCarveRefused : NamedArenaState → Request → ArenaFault → Type 0
+IsCarveRefused x q BadRequest = ¬ IsGood x.quantum q
+IsCarveRefused x q NoFit = IsGood x.quantum q × (¬ HasPlace x q)
+IsCarveRefused x q NoMemory = IsGood x.quantum q × ((base : ℕ) × Chooses x q base)
 
 -- none was carved from the arena at the place
 pub record IsUncarved (arenas : List NamedArenaState) (place : ℕ) (x : NamedArenaState)
     (q : Request) (fault : ArenaFault) : Type 0 where
   pub here : slice_get arenas place ≡ Some x
-  pub why : IsRefused x q fault
+  pub why : IsCarveRefused x q fault

@@ -4,8 +4,7 @@ use Rattle.std.specs.List.{flat_map}
 use Rattle.deed_core.specs.Holding.{Holding}
 use Rattle.deed_core.specs.Tag.{Tag}
 use Rattle.deed_core.specs.Covering.{covers_held, covering_held}
-use Rattle.deed_core.specs.declared.segments.Route.{Route}
-use Rattle.deed_core.specs.declared.segments.Route.TheVariants.{Direct, Cached}
+use Rattle.deed_core.specs.Selections.{is_direct}
 use Rattle.tag_arena.specs.declared.policies.Policy.{Policy}
 use Rattle.lease_book.specs.Account.{Lease, Account}
 use Rattle.lease_book.specs.BookState.{BookState, leased}
@@ -56,10 +55,6 @@ pub record OnePlace (arena : ℕ) (x : NamedArenaState) (book : BookState) : Typ
 -- what a segment weighs in an arena: nothing in another one
 abbrev pub within : ℕ → (Holding → ℕ) → Tag → ℕ
 within arena f t = if t.arena == arena then f t.holding else 0
-
-abbrev pub is_direct : Route → Bool
-is_direct Direct = true
-is_direct (Cached n) = false
 
 -- 1 for a segment that none of so many arenas carved, else 0
 abbrev pub stray : ℕ → Tag → ℕ

@@ -18,8 +18,9 @@ use Rattle.lease_book.specs.Entry.{Hello, Settled, Grant, Return, Refuse}
 use Rattle.lease_book.specs.Account.{Lease, is_lease}
 use Rattle.lease_book.specs.BookState.{BookState, Enters, account_in, leased}
 use Rattle.lease_book.specs.Answers.{IsNew, IsOld, IsStale, IsGap}
-use Rattle.lease_book.specs.declared.receipts.Reply.{Reply as KeptReply}
-use Rattle.lease_book.specs.declared.receipts.Reply.TheVariants as kept
+use Rattle.lease_book.specs.declared.books.TheConstants.{MOST_LEASES}
+use Rattle.lease_book.specs.declared.receipts.KeptReply.{KeptReply}
+use Rattle.lease_book.specs.declared.receipts.KeptReply.TheVariants as kept
 use Rattle.lease_proto.specs.declared.faults.LineFault.{LineFault}
 use Rattle.lease_proto.specs.declared.lines.Line.{Line}
 use Rattle.lease_proto.specs.declared.lines.Line.TheVariants as lines
@@ -82,7 +83,7 @@ IsKnown d q (reply.Gap o) = (o.id ≡ q) × IsGap (account_in q.client d.book) q
 IsKnown d q r = IsRepeat d q r
 
 -- the new request is settled by a refusal, and nothing else changes
-pub record Refuses (q : RequestId) (w : Refusal) (old new : DeskState) : Type 0 where
+pub record SettlesRefusal (q : RequestId) (w : Refusal) (old new : DeskState) : Type 0 where
   pub entry : Enters (Settled q (Refuse w)) old.book new.book
   pub leases : leased new.book ≡ leased old.book
   pub arenas : new.arenas ≡ old.arenas
@@ -115,7 +116,7 @@ pub record Grants (q : RequestId) (l : LeaseLine) (old new : DeskState) (r : Rep
   pub fits : Fits arena.quantum (demand_of l)
       segment.holding.range.base segment.holding.range.len
   pub free : (u : ℕ) → Covers segment.holding.range u → 0 < covering_held u arena.free
-  pub few : length (account_in q.client old.book).leases < 1024
+  pub few : length (account_in q.client old.book).leases < MOST_LEASES
   pub arenas : GivesBack (segment ∷ []) new.arenas old.arenas
   pub entry : Enters
       (Settled q (Grant segment (record { quantum = arena.quantum; request = demand_of l })))
@@ -140,16 +141,16 @@ pub record Misses (l : LeaseLine) (old new : DeskState) : Type 0 where
 -- why a new lease is refused: the first of these that is so
 abbrev pub RefusesLease : RequestId → LeaseLine → DeskState → DeskState → Refusal → Type 0
 RefusesLease q l old new NoArena =
-    (place_in l.arena old.arenas ≡ None) × Refuses q NoArena old new
+    (place_in l.arena old.arenas ≡ None) × SettlesRefusal q NoArena old new
 RefusesLease q l old new BadRequest = (place : ℕ) × (x : NamedArenaState)
     × Finds old.arenas l.arena place x
-    × (¬ IsGood x.quantum (demand_of l)) × Refuses q BadRequest old new
+    × (¬ IsGood x.quantum (demand_of l)) × SettlesRefusal q BadRequest old new
 RefusesLease q l old new NoFit = (place : ℕ) × (x : NamedArenaState)
     × Finds old.arenas l.arena place x × IsGood x.quantum (demand_of l)
-    × (¬ HasPlace x (demand_of l)) × Refuses q NoFit old new
+    × (¬ HasPlace x (demand_of l)) × SettlesRefusal q NoFit old new
 RefusesLease q l old new Leases = (missed : Misses l old new)
     × HasPlace missed.arena (demand_of l)
-    × (1024 ≤ length (account_in q.client old.book).leases)
+    × (MOST_LEASES ≤ length (account_in q.client old.book).leases)
     × Enters (Settled q (Refuse Leases)) old.book new.book × (leased new.book ≡ leased old.book)
 RefusesLease q l old new NotYours = ⊥
 
@@ -179,10 +180,10 @@ pub record Releases (q : RequestId) (l : ReleaseLine) (old new : DeskState) : Ty
 -- why a new release is refused
 abbrev pub RefusesRelease : RequestId → ReleaseLine → DeskState → DeskState → Refusal → Type 0
 RefusesRelease q l old new NoArena =
-    (place_in l.arena old.arenas ≡ None) × Refuses q NoArena old new
+    (place_in l.arena old.arenas ≡ None) × SettlesRefusal q NoArena old new
 RefusesRelease q l old new NotYours = (place : ℕ) × (place_in l.arena old.arenas ≡ Some place)
     × (find (is_lease q.incarnation place l.base) (account_in q.client old.book).leases ≡ None)
-    × Refuses q NotYours old new
+    × SettlesRefusal q NotYours old new
 RefusesRelease q l old new w = ⊥
 
 -- the answer to a new release
@@ -240,11 +241,11 @@ ServedStep (served.Client l) old text new =
 ServedStep (served.Operator o) old text new = Tells (asked_text old o) text × (new ≡ old)
 
 -- the bytes that answer the bytes of a line, by what the line is
-abbrev pub Answers : DeskState → Result ServedLine LineFault → List ℕ → DeskState → Type 0
-Answers old (Ok line) text new = ServedStep line old text new
-Answers old (Err fault) text new = (text ≡ error_line fault) × (new ≡ old)
+abbrev pub AnswersLine : DeskState → Result ServedLine LineFault → List ℕ → DeskState → Type 0
+AnswersLine old (Ok line) text new = ServedStep line old text new
+AnswersLine old (Err fault) text new = (text ≡ error_line fault) × (new ≡ old)
 
 -- one line, and what holds after it
 pub record LeaseStep (old : DeskState) (line text : List ℕ) (new : DeskState) : Type 0 where
-  pub answer : Answers old (served_of line) text new
+  pub answer : AnswersLine old (served_of line) text new
   pub orderly : IsOrderly new

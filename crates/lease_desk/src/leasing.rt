@@ -14,7 +14,7 @@ use crate::returns::put_back;
 use crate::settling::{known, refuse};
 use crate::spaces::{Space, place_of};
 use deed_core::{PlainDeed, Request, Segment};
-use lease_book::Book;
+use lease_book::{Book, NotLeased};
 use lease_proto::{Lease, Reply};
 use lease_terms::{Refusal, RequestId};
 use tag_arena::ArenaFault;
@@ -126,7 +126,8 @@ fn grant(
     let quantum = spaces[place].arena.quantum();
     match book.settle(id, place as u32, quantum, &demand_of(line), segment) {
         Ok(receipt) => settled(spaces, id, receipt.reply()),
-        Err((segment, answer)) => {
+        Err(not_leased) => {
+            let NotLeased { segment, answer } = not_leased;
             put_back(spaces, segment);
             answered(spaces, id, answer)
         }

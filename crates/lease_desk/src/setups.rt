@@ -1,6 +1,7 @@
 //! What is added to a desk before it answers.
 ghost use Rattle.std.specs.Prelude.{◌≡◌, ◌<◌, ◌≤◌, length, IsSome, IfSome, IfOk, IfErr, OnOk, OnErr, ◌↔◌};
 ghost use Rattle.std.specs.Int.{IsPowerOfTwo};
+ghost use Rattle.tag_arena.specs.ArenaState.{IsSound};
 ghost use Rattle.lease_desk.specs.Setup.{root_of, IsWholeRange, CanAdd, CanSpan, RefusesArena, AddsArena, RefusesMore, RefusesSpan, AddsSpan, with_span};
 ghost use Rattle.lease_desk.specs.Spaces.{state_of, states_of, IsSpace, AreSpaces};
 ghost use Rattle.lease_desk.specs.Roots.{asked, space_of};
@@ -13,8 +14,8 @@ use lease_terms::Name;
 use std::alloc::Global;
 use tag_arena::{Arena, Policy, SpanFault};
 
-/// The arena that a setup line asks for: its name, its one span, and how it carves. Units and numbers
-/// of units.
+/// The arena that a setup line asks for: its name, its one span, and how it carves. Units and
+/// numbers of units.
 #[derive(Clone, Copy)]
 pub(crate) struct Root {
     pub name: Name,
@@ -81,21 +82,21 @@ fn new_space(
     requires { IsPowerOfTwo root.now.quantum }
     ensures made { IfOk result (λ s.
         s ≡ space_of id (asked root.now) (record { root = number; range = range })) }
+    ensures sound { IfOk result (λ s. IsSound s.arena) }
     ensures fault { IfErr result (λ fault. fault ≡ SetupFault.NoMemory) }
 {
     let mut arena = Arena::new(alloc, id, root.quantum, root.policy);
     match arena.add_span(PlainDeed::new(number, range)) {
         Ok(()) => {}
-        Err(
-            SpanFault::Overlaps(span) | SpanFault::NotAligned(span) | SpanFault::NoMemory(span),
-        ) => {
-            let _ = span.close();
-            match arena.close() {
-                Ok(()) => {}
-                Err(_) => unreachable!(),
+        Err(SpanFault::Overlaps(span) | SpanFault::NotAligned(span) | SpanFault::NoMemory(span)) =>
+            {
+                let _ = span.close();
+                match arena.close() {
+                    Ok(()) => {}
+                    Err(_) => unreachable!(),
+                }
+                return Err(SetupFault::NoMemory);
             }
-            return Err(SetupFault::NoMemory);
-        }
     }
     Ok(Space {
         name: root.name,

@@ -4,7 +4,7 @@ use Rattle.deed_core.specs.Request.{Fits}
 use Rattle.deed_core.specs.declared.requests.Request.{Request}
 use Rattle.deed_core.specs.Tag.{Tag}
 use Rattle.lease_book.specs.declared.receipts.Terms.{Terms}
-use Rattle.lease_book.specs.declared.receipts.Reply.{Reply as KeptReply}
+use Rattle.lease_book.specs.declared.receipts.KeptReply.{KeptReply}
 use Rattle.lease_book.specs.BookState.{leased}
 use Rattle.lease_desk.specs.declared.spaces.Space.{Space}
 use Rattle.lease_desk.specs.DeskState.{NamedArenaState}
@@ -12,7 +12,7 @@ use Rattle.lease_desk.specs.Machine.{demand_of, IsSettled}
 use Rattle.lease_desk.specs.Moves.{GivesBack}
 use Rattle.lease_desk.specs.Spaces.{state_of, states_of, IsOut}
 use Rattle.lease_desk.specs.Replies.{Says}
-use Rattle.lease_desk.proofs.PlaceLemmas.{slice_get_here, slice_get_mapped}
+use Rattle.deed_core.proofs.LawProofs.{slice_get_here, slice_get_mapped}
 use Rattle.lease_desk.proofs.SpaceLemmas.{out_of}
 use Rattle.lease_desk.proofs.AnswerLemmas.{carved_from, granted_steady, granted_new, answer_to, refused_steady, not_granted}
 use Rattle.lease_desk.proofs.leasing.grant.Goals as goal
@@ -57,13 +57,13 @@ pub returns-in-Err-clause-steady : goal.returns-in-Err-clause-steady
 returns-in-Err-clause-steady c =
     let gives : GivesBack (c.args.segment ∷ []) (states_of c.args.spaces.now.items) (states_of c.put_back.new.spaces.items) =
     subst (λ (t : Tag). GivesBack (t ∷ []) (states_of c.args.spaces.now.items) (states_of c.put_back.new.spaces.items)) c.in-Err.ensures.handed_back c.put_back.ensures.back in
-    refused_steady c.args.id c.args.spaces.now.items c.put_back.new.spaces.items c.args.book.now c.settle.new.self c.args.segment c.in-Err.answer c.requires.few c.put_back.ensures.sound c.requires.exports c.requires.grants gives
-    (answer_to c.args.id c.args.book.now c.settle.new.self c.in-Err.answer c.requires.new c.in-Err.ensures.answer)
+    refused_steady c.args.id c.args.spaces.now.items c.put_back.new.spaces.items c.args.book.now c.settle.new.self c.args.segment c.in-Err.not_leased.answer c.requires.few c.put_back.ensures.sound c.requires.exports c.requires.grants gives
+    (answer_to c.args.id c.args.book.now c.settle.new.self c.in-Err.not_leased.answer c.requires.new c.in-Err.ensures.answer)
 
 pub returns-in-Err-clause-step : goal.returns-in-Err-clause-step
 returns-in-Err-clause-step c before x first carved =
     let gives : GivesBack (c.args.segment ∷ []) (states_of c.args.spaces.now.items) (states_of c.put_back.new.spaces.items) =
     subst (λ (t : Tag). GivesBack (t ∷ []) (states_of c.args.spaces.now.items) (states_of c.put_back.new.spaces.items)) c.in-Err.ensures.handed_back c.put_back.ensures.back in
-    not_granted c.args.id c.args.line.now before c.args.spaces.now.items c.put_back.new.spaces.items x c.args.book.now c.settle.new.self c.args.place c.args.segment c.in-Err.answer c.answered.result first carved gives
-    (answer_to c.args.id c.args.book.now c.settle.new.self c.in-Err.answer c.requires.new c.in-Err.ensures.answer)
-    (subst (λ (xs : List Space). Says (states_of xs) c.args.id c.in-Err.answer c.answered.result) c.deref-in-Err.ensures.value c.answered.ensures)
+    not_granted c.args.id c.args.line.now before c.args.spaces.now.items c.put_back.new.spaces.items x c.args.book.now c.settle.new.self c.args.place c.args.segment c.in-Err.not_leased.answer c.answered.result first carved gives
+    (answer_to c.args.id c.args.book.now c.settle.new.self c.in-Err.not_leased.answer c.requires.new c.in-Err.ensures.answer)
+    (subst (λ (xs : List Space). Says (states_of xs) c.args.id c.in-Err.not_leased.answer c.answered.result) c.deref-in-Err.ensures.value c.answered.ensures)

@@ -4,7 +4,7 @@ use Rattle.deed_core.specs.Tag.{Tag}
 use Rattle.tag_arena.specs.Calls.{IsTagged}
 use Rattle.lease_desk.specs.declared.spaces.Space.{Space}
 use Rattle.lease_desk.specs.Spaces.{IsSpace}
-use Rattle.lease_desk.proofs.PlaceLemmas.{read_is}
+use Rattle.deed_core.proofs.LawProofs.{read_is}
 use Rattle.lease_desk.proofs.SpaceLemmas.{ranges_lose, freed_space, freed_gives, spaces_after, gives_after, with_arena}
 use Rattle.lease_desk.proofs.returns.put_back.Goals as goal
 
@@ -18,8 +18,7 @@ returns-clause-sound c =
     let same : c.index_mut-space.result.now ≡ c.requires.out.space = read_is c.args.spaces.now.items c.arena-place.result c.index_mut-space.result.now c.requires.out.space c.index_mut-space.ensures.value here in
     let is : IsSpace c.arena-place.result c.index_mut-space.result.now = subst (λ s. IsSpace c.arena-place.result s) (sym same) (c.requires.sound c.arena-place.result c.requires.out.space here) in
     let freed = rw c.in-None.is at c.in-Ok.ensures.freed in
-    let units = rw c.in-None.is at c.in-Ok.ensures.covering in
-    spaces_after c.args.spaces.now.items c.arena-place.result (with_arena c.index_mut-space.result.now c.free.new.self) c.requires.sound (freed_space c.arena-place.result c.index_mut-space.result.now c.free.new.self c.args.segment is freed.frees (ranges_lose c.index_mut-space.result.now.arena c.free.new.self c.args.segment c.in-Ok.ensures.loses) units)
+    spaces_after c.args.spaces.now.items c.arena-place.result (with_arena c.index_mut-space.result.now c.free.new.self) c.requires.sound (freed_space c.arena-place.result c.index_mut-space.result.now c.free.new.self c.args.segment is freed.frees c.free.ensures.sound)
 
 pub returns-clause-back : goal.returns-clause-back
 returns-clause-back c =

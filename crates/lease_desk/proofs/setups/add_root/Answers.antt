@@ -11,7 +11,7 @@ pub returns-clause-sound : goal.returns-clause-sound
 returns-clause-sound c =
     let items : c.push_reserved.new.self.items ≡ c.args.spaces.now.items ++ c.in_ok-space.space ∷ [] = c.push_reserved.ensures.items ∙ ap (λ (xs : List Space). xs ++ c.in_ok-space.space ∷ []) c.reserve.ensures.items in
     let id : c.len-id.result ≡ length c.args.spaces.now.items = omega (arith, c.len-id.ensures, c.reserve.ensures.len, ap length c.reserve.ensures.items) in
-    added_sound c.args.spaces.now.items c.push_reserved.new.self.items c.len-id.result (asked c.args.root.now) (record { root = c.root_number-number.result; range = c.in_ok-range.range }) c.in_ok-space.space c.requires.sound items id c.in_ok-space.ensures.made
+    added_sound c.args.spaces.now.items c.push_reserved.new.self.items c.len-id.result (asked c.args.root.now) (record { root = c.root_number-number.result; range = c.in_ok-range.range }) c.in_ok-space.space c.requires.sound items id c.in_ok-space.ensures.made c.in_ok-space.ensures.sound
 
 pub returns-clause-added : goal.returns-clause-added
 returns-clause-added c =

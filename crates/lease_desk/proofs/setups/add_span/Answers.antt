@@ -5,7 +5,7 @@ use Rattle.deed_core.specs.Extent.{Extent}
 use Rattle.lease_desk.specs.Machine.{place_in}
 use Rattle.lease_desk.specs.Setup.{RefusesMore, RefusesSpan}
 use Rattle.lease_desk.specs.Spaces.{state_of, states_of, IsSpace, AreSpaces}
-use Rattle.lease_desk.proofs.PlaceLemmas.{slice_get_here, slice_get_mapped}
+use Rattle.deed_core.proofs.LawProofs.{slice_get_here, slice_get_mapped}
 use Rattle.lease_desk.proofs.SpaceLemmas.{spaces_after}
 use Rattle.lease_desk.proofs.SetupLemmas.{adds_span}
 use Rattle.lease_desk.proofs.StepLemmas.{on_ok, if_err}

@@ -6,7 +6,7 @@ use Rattle.lease_desk.proofs.setups.extend.Goals as goal
 
 pub returns-in_default-add_span-clause-sound : goal.returns-in_default-add_span-clause-sound
 returns-in_default-add_span-clause-sound c =
-    extended_space c.args.place c.args.space.now c.add_span.new.self (record { root = c.new.result.root; range = c.new.result.range }) c.requires.sound c.in_default-add_span.ensures.added.2 c.in_default-add_span.ensures.added.0 c.if-space-ge-MOST_SPANS.false
+    extended_space c.args.place c.args.space.now c.add_span.new.self (record { root = c.new.result.root; range = c.new.result.range }) c.requires.sound c.in_default-add_span.ensures.added.2 c.add_span.ensures.sound c.if-space-ge-MOST_SPANS.false
 
 pub returns-in_default-add_span-clause-added : goal.returns-in_default-add_span-clause-added
 returns-in_default-add_span-clause-added c =
