@@ -52,5 +52,6 @@ granted_request c l = record { client = c; incarnation = l.incarnation; number =
 -- the leases after the request was settled
 abbrev pub leases_after : RequestId → Settlement → List Lease → List Lease
 leases_after id (Grant t terms) leases = leases ++ lease_of id t ∷ []
-leases_after id (Return arena base) leases = without_first (is_lease id.incarnation arena base) leases
+leases_after id (Return arena base) leases =
+    without_first (is_lease id.incarnation arena base) leases
 leases_after id (Refuse why) leases = leases

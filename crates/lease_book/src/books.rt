@@ -262,7 +262,7 @@ impl<D: Deed> Book<D> {
         self.accounts.units(arena)
     }
 
-    /// How many clients ever said hello. In order of first hello they stand at the places below
+    /// How many clients ever said hello. In order of first hello they stand at the indices below
     /// this.
     pub fn clients(&self) -> usize
         ensures count { result ≡ length self.now.accounts }
@@ -274,7 +274,7 @@ impl<D: Deed> Book<D> {
         self.accounts.len()
     }
 
-    /// The client that stands at a place in order of first hello.
+    /// The client that stands at an index in order of first hello.
     pub fn client_at(&self, index: usize) -> Option<ClientReport>
         ensures value { result ≡ option_map report_of (slice_get self.now.accounts index) }
         ensures history { (entries : List Entry)

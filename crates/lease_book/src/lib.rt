@@ -11,9 +11,14 @@
 //! `specs/Answers.antt` and `specs/Calls.antt`. What the crates above may cite of the proofs is in
 //! `proofs/LawProofs.antt`.
 //!
-//! What it costs: a look-up of a client takes the same time however many there are. A release and a
-//! sweep look at the leases of one client, at most `MOST_LEASES`, and `units` at all leases. Ending all
-//! leases one by one looks at each client once.
+//! What holds of every book, for the crates above, is in `specs/Laws.antt` (an entry, an account),
+//! `specs/NumberLaws.antt` (requests and their outcomes) and `specs/ClientLaws.antt` (all clients
+//! together, ranges of numbers).
+//!
+//! What it costs: a look-up of a client takes the same time however many there are, and so does a
+//! grant or a refusal. A release and a sweep look at the leases of one client, at most
+//! `MOST_LEASES`, and `units` at all leases. Ending all leases one by one looks at each client once.
+//! A book keeps a few words for each client that ever said hello and for each lease.
 #![tactic(auto)]
 
 mod accounts;

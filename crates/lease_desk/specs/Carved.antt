@@ -12,11 +12,11 @@ use Rattle.lease_desk.specs.DeskState.{NamedArenaState}
 use Rattle.lease_desk.specs.Moves.{GivesBack}
 use Rattle.lease_desk.specs.Machine.{Chooses, HasPlace}
 
--- the segment was carved for the request from free units of the arena at the place
-pub record IsCarved (old new : List NamedArenaState) (place : ℕ) (x : NamedArenaState)
+-- the segment was carved for the request from free units of the arena at the index
+pub record IsCarved (old new : List NamedArenaState) (index : ℕ) (x : NamedArenaState)
     (q : Request) (t : Tag) : Type 0 where
-  pub here : slice_get old place ≡ Some x
-  pub home : t.arena ≡ place
+  pub here : slice_get old index ≡ Some x
+  pub home : t.arena ≡ index
   pub route : t.route ≡ Direct
   pub good : IsGood x.quantum q
   pub chosen : Chooses x q t.holding.range.base
@@ -31,8 +31,8 @@ IsCarveRefused x q BadRequest = ¬ IsGood x.quantum q
 IsCarveRefused x q NoFit = IsGood x.quantum q × (¬ HasPlace x q)
 IsCarveRefused x q NoMemory = IsGood x.quantum q × ((base : ℕ) × Chooses x q base)
 
--- none was carved from the arena at the place
-pub record IsUncarved (arenas : List NamedArenaState) (place : ℕ) (x : NamedArenaState)
+-- none was carved from the arena at the index
+pub record IsUncarved (arenas : List NamedArenaState) (index : ℕ) (x : NamedArenaState)
     (q : Request) (fault : ArenaFault) : Type 0 where
-  pub here : slice_get arenas place ≡ Some x
+  pub here : slice_get arenas index ≡ Some x
   pub why : IsCarveRefused x q fault

@@ -25,7 +25,7 @@ states_of spaces = map state_of spaces
 abbrev pub desk_of : List Space → BookState → DeskState
 desk_of spaces book = record { arenas = states_of spaces; book = book }
 
--- the arena at the place is sound, has its number and no imported span
+-- the arena at the index is sound, has its number and no imported span
 pub record IsSpace (k : ℕ) (s : Space) : Type 0 where
   pub id : s.arena.id ≡ k
   pub own : s.arena.imported ≡ []
