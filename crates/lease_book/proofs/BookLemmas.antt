@@ -10,7 +10,7 @@ use Rattle.lease_book.specs.Receipts.{Kept, ReceiptState, IsEarned}
 use Rattle.lease_book.specs.Entry.{Settlement, Entry, Hello, Settled, Swept, Grant, Return, Refuse, kept}
 use Rattle.lease_book.specs.Account.{Lease, Account, number_of, is_lease, without_first, lease_of, granted_request, leases_after}
 use Rattle.lease_book.specs.Shelf.{account_with, changed_at, standing_of, with_standing, with_leases}
-use Rattle.lease_book.specs.History.{incarnation, clients_of, kept_of, account, IsInRange}
+use Rattle.lease_book.specs.History.{incarnation, clients_of, kept_of, account, IsProper}
 use Rattle.lease_book.specs.BookState.{BookState, HasHistory, Enters, nobody, or_nobody, account_in, segments, leased_by, leased}
 use Rattle.lease_book.specs.Answers.{receipt, IsNew}
 use Rattle.lease_book.specs.Calls.{IsFound, IsGranted, IsRefused, IsReleased, IsEnded}
@@ -119,26 +119,27 @@ abbrev pub settled_as : RequestId → Settlement → Account → Account
 settled_as id how a = with_standing (record { incarnation = id.incarnation; kept = Some (kept id.number how) }) (with_leases (leases_after id how) a)
 
 pub settles : (old new : BookState) (id : RequestId) (index : ℕ) (how : Settlement) → IsFound old id.client index → IsNew (account_in id.client old) id
-    → IsRequestId id → IsInRange how → new.mark ≡ old.mark → new.accounts ≡ changed_at old.accounts index (settled_as id how) → Enters (Settled id how) old new
-settles old new id index how found fresh told in_range mark after = record {
+    → IsRequestId id → IsProper (account_in id.client old).leases id how → new.mark ≡ old.mark → new.accounts ≡ changed_at old.accounts index (settled_as id how) → Enters (Settled id how) old new
+settles old new id index how found fresh told proper mark after = record {
   mark = mark;
   history = λ es h.
       let is : account_in id.client old ≡ account es id.client = account_is es old id.client h in
       let current : id.incarnation ≡ incarnation id.client es = fresh.current ∙ ap (λ (a : Account). a.incarnation) is in
       let next : id.number ≡ number_of (kept_of id.client es) + 1 = fresh.next ∙ ap (λ (a : Account). number_of a.kept + 1) is in
       entered (Settled id how) es old new id.client index (account_in id.client old) (settled_as id how) h found.at found.client refl
-      (settled_others es id how) (settled_own es id how current next) after ((told, in_range), current, next, h.orderly);
+      (settled_others es id how) (settled_own es id how current next) after ((told, subst (λ (a : Account). IsProper a.leases id how) is proper), current, next, h.orderly);
 }
 
 -- a lease that ended
-pub ends : (old new : BookState) (c i arena base place k : ℕ) → IsFound old c place → IsFirst (is_lease i arena base) (account_in c old).leases k → new.mark ≡ old.mark
+pub ends : (old new : BookState) (c i arena base place k : ℕ) (l : Lease) → find (is_lease i arena base) (account_in c old).leases ≡ Some l → IsFound old c place → IsFirst (is_lease i arena base) (account_in c old).leases k → new.mark ≡ old.mark
     → new.accounts ≡ changed_at old.accounts place (with_leases (λ ls. remove ls k)) → Enters (Swept c i arena base) old new
-ends old new c i arena base place k found first mark after = record {
+ends old new c i arena base place k l leased_there found first mark after = record {
   mark = mark;
   history = λ es h.
       entered (Swept c i arena base) es old new c place (account_in c old) (with_leases (without_first (is_lease i arena base))) h found.at found.client refl (swept_others es c i arena base) (swept_own es c i arena base)
       (after ∙ changed_alike old.accounts place (account_in c old) (with_leases (λ ls. remove ls k)) (with_leases (without_first (is_lease i arena base))) found.at
-      (ap (λ (ls : List Lease). with_leases (λ x. ls) (account_in c old)) (sym first.left))) h.orderly;
+      (ap (λ (ls : List Lease). with_leases (λ x. ls) (account_in c old)) (sym first.left)))
+      ((l, subst (λ (a : Account). find (is_lease i arena base) a.leases ≡ Some l) (account_is es old c h) leased_there), h.orderly);
 }
 
 -- A hello.
@@ -226,11 +227,11 @@ refuses old now id index why k r found fresh told is_kept is_receipt mark after 
     }
 
 pub grants : (old now : BookState) (mid : List Account) (id : RequestId) (index : ℕ) (t : Tag) (terms : Terms) (k : Kept) (r : ReceiptState) → IsFound old id.client index
-    → IsNew (account_in id.client old) id → IsRequestId id → IsRange t.holding.range
+    → IsNew (account_in id.client old) id → IsRequestId id → IsRange t.holding.range × Fits terms.quantum terms.request t.holding.range.base t.holding.range.len
     → length (account_in id.client old).leases < 1024 → k ≡ kept id.number (Grant t terms) → r ≡ receipt old id k → now.mark ≡ old.mark
     → mid ≡ changed_at old.accounts index (with_leases (λ ls. ls ++ lease_of id t ∷ []))
     → now.accounts ≡ changed_at mid index (with_standing (record { incarnation = id.incarnation; kept = Some k })) → IsGranted old now id t terms r
-grants old now mid id index t terms k r found fresh told in_range room is_kept is_receipt mark leased_mid after =
+grants old now mid id index t terms k r found fresh told meets room is_kept is_receipt mark leased_mid after =
     let s : Standing = record { incarnation = id.incarnation; kept = Some (kept id.number (Grant t terms)) } in
     let after' : now.accounts ≡ changed_at mid index (with_standing s) =
     after ∙ ap (λ (y : Kept). changed_at mid index (with_standing (record { incarnation = id.incarnation; kept = Some y }))) is_kept in
@@ -241,7 +242,7 @@ grants old now mid id index t terms k r found fresh told in_range room is_kept i
       new = fresh;
       room = room;
       receipt = is_receipt ∙ ap (receipt old id) is_kept;
-      entry = settles old now id index (Grant t terms) found fresh told in_range mark both;
+      entry = settles old now id index (Grant t terms) found fresh told (meets.0, meets.1, room) mark both;
       leases = λ f. ap (sum_by f) stands ∙ gains_lease old.accounts index (account_in id.client old) (lease_of id t) found.at f;
     }
 
@@ -270,7 +271,7 @@ releases old now mid id arena base index at l k r found fresh told in_range firs
       of_arena = sym says.1;
       at_base = sym says.2;
       receipt = is_receipt ∙ ap (receipt old id) is_kept;
-      entry = settles old now id index (Return arena base) found fresh told in_range mark entered_as;
+      entry = settles old now id index (Return arena base) found fresh told (in_range, (l, first.found ∙ here)) mark entered_as;
       leases = λ f. loses_lease old.accounts index at a l found.at here f ∙ ap (λ (ts : List Tag). sum_by f ts + f l.segment) (sym stands);
     }
 
@@ -280,7 +281,7 @@ pub ends_lease : (old now : BookState) (c index at : ℕ) (l : Lease) → IsFoun
     → IsEnded old now (record { client = c; incarnation = l.incarnation; number = l.number }) l.segment
 ends_lease old now c index at l found first here mark after = record {
   lease = first.found ∙ here;
-  entry = ends old now c l.incarnation l.segment.arena l.segment.holding.range.base index at found first mark after;
+  entry = ends old now c l.incarnation l.segment.arena l.segment.holding.range.base index at l (first.found ∙ here) found first mark after;
   leases = λ f. loses_lease old.accounts index at (account_in c old) l found.at here f ∙ ap (λ (xs : List Account). sum_by f (leased_by xs) + f l.segment) (sym after);
 }
 
@@ -346,15 +347,15 @@ module _ (before old : BookState) (is : before ≡ old) (id : RequestId) (index 
       let refused = refuses before now id index why k r found_before fresh_before told is_kept is_receipt refl after in
       (goes_on (Settled id (Refuse why)) before now refused.entry had, subst (λ (b : BookState). IsRefused b now id why r) is refused)
 
-  pub granted_at : (mid accounts : List Account) (t : Tag) (terms : Terms) (k : Kept) (r : ReceiptState) → IsRange t.holding.range → length (account_in id.client old).leases < 1024
+  pub granted_at : (mid accounts : List Account) (t : Tag) (terms : Terms) (k : Kept) (r : ReceiptState) → IsRange t.holding.range × Fits terms.quantum terms.request t.holding.range.base t.holding.range.len → length (account_in id.client old).leases < 1024
       → k ≡ kept id.number (Grant t terms) → r ≡ receipt before id k
       → mid ≡ changed_at before.accounts index (with_leases (λ ls. ls ++ lease_of id t ∷ []))
       → accounts ≡ changed_at mid index (with_standing (record { incarnation = id.incarnation; kept = Some k })) → HasHistory before
       → HasHistory (record { mark = before.mark; accounts = accounts }) × IsGranted old (record { mark = before.mark; accounts = accounts }) id t terms r
-  granted_at mid accounts t terms k r in_range room is_kept is_receipt leased_mid after had =
+  granted_at mid accounts t terms k r meets room is_kept is_receipt leased_mid after had =
       let now : BookState = record { mark = before.mark; accounts = accounts } in
       let room_before : length (account_in id.client before).leases < 1024 = subst (λ (b : BookState). length (account_in id.client b).leases < 1024) (sym is) room in
-      let granted = grants before now mid id index t terms k r found_before fresh_before told in_range room_before is_kept is_receipt refl leased_mid after in
+      let granted = grants before now mid id index t terms k r found_before fresh_before told meets room_before is_kept is_receipt refl leased_mid after in
       (goes_on (Settled id (Grant t terms)) before now granted.entry had, subst (λ (b : BookState). IsGranted b now id t terms r) is granted)
 
   pub released_at : (mid accounts : List Account) (arena base at : ℕ) (l : Lease) (t : Tag) (k : Kept) (r : ReceiptState) → t ≡ l.segment → IsQuantity base

@@ -1,5 +1,5 @@
 -- The clients of a book: their accounts before and after an entry, together, and in their ranges.
-use Rattle.std.proofs.Common.{◌≡◌, ◌≢◌, ℕ, zero, suc, ◌+◌, ◌<◌, ◌≤◌, Bool, true, false, cond, ◌||◌, nat_eq, List, [], ◌∷◌, ◌++◌, map, All, Option, Some, None, IfSome, sum_by, slice_get, refl, sym, ap, subst, ◌∙◌, arith, eq-eqb}
+use Rattle.std.proofs.Common.{◌≡◌, ◌≢◌, ℕ, zero, suc, ◌+◌, ◌<◌, ◌≤◌, Bool, true, false, cond, ◌||◌, nat_eq, List, [], ◌∷◌, ◌++◌, map, All, Option, Some, None, IfSome, sum_by, slice_get, refl, sym, ap, subst, ◌∙◌, arith, eq-eqb, length, length-append}
 use Rattle.std.specs.List.{AllByRecursion, IsDistinct}
 use Rattle.std.proofs.lemmas.List.Sums.{sum_by-cons}
 use Rattle.std.proofs.lemmas.Bool.{or_parts, or_from, eqb-true, eqb-false, ne_eqb}
@@ -7,13 +7,14 @@ use Rattle.deed_core.specs.Extent.{IsRange}
 use Rattle.deed_core.specs.Tag.{Tag}
 use Rattle.lease_terms.specs.Ranges.{IsClient, IsOrdinal, IsQuantity}
 use Rattle.lease_terms.specs.Requests.{RequestId, IsRequestId}
-use Rattle.lease_book.specs.Receipts.{Kept}
-use Rattle.lease_book.specs.Entry.{Settlement, Grant, Return, Refuse, Entry, Hello, Settled, Swept, subject_of, kept, reply_of}
-use Rattle.lease_book.specs.Account.{Lease, Account, is_lease, without_first, granted_request, leases_after}
-use Rattle.lease_book.specs.History.{incarnation, leases_of, clients_of, kept_of, account, IsInRange, AreOrderly}
+use Rattle.lease_book.specs.Receipts.{Kept, IsEarned}
+use Rattle.lease_book.specs.Entry.{Settlement, Grant, Return, Refuse, Entry, Hello, Settled, Swept, subject_of, kept, reply_of, terms_of}
+use Rattle.lease_book.specs.Account.{Lease, Account, is_lease, without_first, lease_of, granted_request, leases_after}
+use Rattle.lease_book.specs.History.{incarnation, leases_of, clients_of, kept_of, outcome_of, account, IsProper, AreOrderly}
 use Rattle.lease_book.specs.BookState.{BookState, IsHistory, HasHistory, Enters, nobody, account_in, clients_in, weight_of, segments, leased_by, leased}
 use Rattle.lease_book.specs.ClientLaws.{EnteredChanges, LeasesAreTheClients, IsReplyInRange, IsInBounds, BooksAreInBounds}
 use Rattle.lease_book.specs.declared.receipts.KeptReply.{KeptReply}
+use Rattle.lease_book.specs.declared.books.TheConstants.{MOST_LEASES}
 use Rattle.lease_book.specs.declared.receipts.Terms.{Terms}
 use Rattle.lease_book.proofs.HistoryLemmas.{has, account_is, account_unknown}
 use Rattle.lease_book.proofs.EntryLemmas.{distinct_clients, settled_others, settled_own, swept_others, swept_own, hello_others, hello_same, hello_above}
@@ -176,21 +177,63 @@ leases_are_the_clients = record { apart = clients_apart; all = leases_of_all; so
 
 -- Numbers in their ranges.
 
-entry_in_range : (es : List Entry) (j : ℕ) (id : RequestId) (s : Settlement) → AreOrderly es → slice_get es j ≡ Some (Settled id s) → IsRequestId id × IsInRange s
+entry_in_range : (es : List Entry) (j : ℕ) (id : RequestId) (s : Settlement) → AreOrderly es → slice_get es j ≡ Some (Settled id s) → IsRequestId id × ((leases : List Lease) × IsProper leases id s)
 entry_in_range [] j id s orderly at = absurd (cc)
 entry_in_range (Hello c i ∷ older) zero id s orderly at = absurd (cc)
 entry_in_range (Hello c i ∷ older) (suc j) id s orderly at = entry_in_range older j id s orderly.2 at
 entry_in_range (Settled d t ∷ older) zero id s orderly at =
     let is : Settled d t ≡ Settled id s = cc in
-    (subst (λ (e : Entry). AreOrderly (e ∷ older)) is orderly).0
+    let at_head = (subst (λ (e : Entry). AreOrderly (e ∷ older)) is orderly).0 in
+    (at_head.0, (leases_of id.client older, at_head.1))
 entry_in_range (Settled d t ∷ older) (suc j) id s orderly at = entry_in_range older j id s orderly.3 at
 entry_in_range (Swept c i a b ∷ older) zero id s orderly at = absurd (cc)
-entry_in_range (Swept c i a b ∷ older) (suc j) id s orderly at = entry_in_range older j id s orderly at
+entry_in_range (Swept c i a b ∷ older) (suc j) id s orderly at = entry_in_range older j id s orderly.1 at
 
-reply_in_range : (s : Settlement) → IsInRange s → IsReplyInRange (reply_of s)
-reply_in_range (Grant t terms) is = is
-reply_in_range (Return arena base) is = tt
-reply_in_range (Refuse why) is = tt
+reply_in_range : (leases : List Lease) (id : RequestId) (s : Settlement) → IsProper leases id s → IsReplyInRange (reply_of s)
+reply_in_range leases id (Grant t terms) is = is.0
+reply_in_range leases id (Return arena base) is = tt
+reply_in_range leases id (Refuse why) is = tt
+
+settled_earned : (leases : List Lease) (id : RequestId) (s : Settlement) → IsProper leases id s → IsEarned (reply_of s) (terms_of s)
+settled_earned leases id (Grant t terms) is = is.1
+settled_earned leases id (Return arena base) is = tt
+settled_earned leases id (Refuse why) is = tt
+
+-- a reply is earned: a grant meets its terms
+pub outcome_earned : (es : List Entry) (id : RequestId) (k : Kept) → AreOrderly es → outcome_of id es ≡ Some k → IsEarned k.reply k.terms
+outcome_earned es id k orderly at =
+    let of = outcome_entry es id k at in
+    let proper = (entry_in_range es of.1 id of.0 orderly of.2).1 in
+    subst (λ (m : Kept). IsEarned m.reply m.terms) (sym of.3) (settled_earned proper.0 id of.0 proper.1)
+
+-- Leases are few.
+
+fewer : (test : Lease → Bool) (ls : List Lease) → length (without_first test ls) ≤ length ls
+fewer test [] = omega arith
+fewer test (l ∷ ls) = by (test l) (fewer test ls)
+  where
+    by : (b : Bool) → length (without_first test ls) ≤ length ls → length (cond b ls (l ∷ without_first test ls)) ≤ length (l ∷ ls)
+    by true rest = omega arith
+    by false rest = omega (arith, rest)
+
+few_after : (id : RequestId) (s : Settlement) (ls : List Lease) → IsProper ls id s → length ls ≤ MOST_LEASES → length (leases_after id s ls) ≤ MOST_LEASES
+few_after id (Grant t terms) ls is few = omega (arith, is.2, length-append ls (lease_of id t ∷ []))
+few_after id (Return arena base) ls is few = omega (arith, few, fewer (is_lease id.incarnation arena base) ls)
+few_after id (Refuse why) ls is few = few
+
+few_leases : (es : List Entry) (c : ℕ) → AreOrderly es → length (leases_of c es) ≤ MOST_LEASES
+few_leases [] c orderly = omega arith
+few_leases (Hello d i ∷ older) c orderly = few_leases older c orderly.2
+few_leases (Settled id s ∷ older) c orderly = by (nat_eq c id.client) refl (few_leases older c orderly.3)
+  where
+    by : (b : Bool) → nat_eq c id.client ≡ b → length (leases_of c older) ≤ MOST_LEASES → length (cond b (leases_after id s (leases_of c older)) (leases_of c older)) ≤ MOST_LEASES
+    by true is few = few_after id s (leases_of c older) (subst (λ (d : ℕ). IsProper (leases_of d older) id s) (sym (eqb-true c id.client is)) orderly.0.1) few
+    by false is few = few
+few_leases (Swept d i a b ∷ older) c orderly = by (nat_eq c d) (few_leases older c orderly.1)
+  where
+    by : (t : Bool) → length (leases_of c older) ≤ MOST_LEASES → length (cond t (without_first (is_lease i a b) (leases_of c older)) (leases_of c older)) ≤ MOST_LEASES
+    by true few = omega (arith, few, fewer (is_lease i a b) (leases_of c older))
+    by false few = few
 
 incarnation_bound : (es : List Entry) (c : ℕ) → AreOrderly es → IsQuantity (incarnation c es)
 incarnation_bound [] c orderly = omega arith
@@ -200,7 +243,7 @@ incarnation_bound (Hello d i ∷ older) c orderly = by (nat_eq c d) (incarnation
     by true rest = orderly.0.1.1
     by false rest = rest
 incarnation_bound (Settled id s ∷ older) c orderly = incarnation_bound older c orderly.3
-incarnation_bound (Swept d i a b ∷ older) c orderly = incarnation_bound older c orderly
+incarnation_bound (Swept d i a b ∷ older) c orderly = incarnation_bound older c orderly.1
 
 kept_bound : (es : List Entry) (c : ℕ) → AreOrderly es → IfSome (kept_of c es) (λ k. IsOrdinal k.number × IsReplyInRange k.reply)
 kept_bound es c orderly = by (kept_of c es) refl
@@ -208,21 +251,23 @@ kept_bound es c orderly = by (kept_of c es) refl
     by : (o : Option Kept) → kept_of c es ≡ o → IfSome o (λ k. IsOrdinal k.number × IsReplyInRange k.reply)
     by None is = tt
     by (Some k) is =
-        let of = outcome_entry es (record { client = c; incarnation = incarnation c es; number = k.number }) k (last_outcome es c (incarnation c es) k is) in
-        let range = entry_in_range es of.1 (record { client = c; incarnation = incarnation c es; number = k.number }) of.0 orderly of.2 in
-        (range.0.number, subst IsReplyInRange (ap (λ (x : Kept). x.reply) (sym of.3)) (reply_in_range of.0 range.1))
+        let id : RequestId = record { client = c; incarnation = incarnation c es; number = k.number } in
+        let of = outcome_entry es id k (last_outcome es c (incarnation c es) k is) in
+        let range = entry_in_range es of.1 id of.0 orderly of.2 in
+        (range.0.number, subst IsReplyInRange (ap (λ (x : Kept). x.reply) (sym of.3)) (reply_in_range range.1.0 id of.0 range.1.1))
 
 lease_bound : (es : List Entry) (c : ℕ) → AreOrderly es → (l : Lease) → WasGranted es c l → IsRequestId (granted_request c l) × IsRange l.segment.holding.range
 lease_bound es c orderly l was =
     let of = outcome_entry es (granted_request c l) (kept l.number (Grant l.segment was.0)) was.1 in
     let range = entry_in_range es of.1 (granted_request c l) of.0 orderly of.2 in
-    (range.0, subst IsReplyInRange (ap (λ (x : Kept). x.reply) (sym of.3)) (reply_in_range of.0 range.1))
+    (range.0, subst IsReplyInRange (ap (λ (x : Kept). x.reply) (sym of.3)) (reply_in_range range.1.0 (granted_request c l) of.0 range.1.1))
 
 account_bound : (book : BookState) (c : ℕ) → HasHistory book → IsInBounds (account_in c book)
 account_bound book c had =
     let es : List Entry = had.0 in
     subst IsInBounds (sym (account_is es book c had.1)) (record {
       incarnation = incarnation_bound es c had.1.orderly;
+      few = few_leases es c had.1.orderly;
       kept = kept_bound es c had.1.orderly;
       leases = all_of_each (λ (l : Lease). IsRequestId (granted_request c l) × IsRange l.segment.holding.range) (leases_of c es)
           (each_is (WasGranted es c) (λ (l : Lease). IsRequestId (granted_request c l) × IsRange l.segment.holding.range) (leases_of c es) (lease_bound es c had.1.orderly) (granted es c had.1.orderly));
@@ -246,7 +291,7 @@ greeted (Hello d i ∷ older) orderly = by (has d (clients_of older)) (each_is (
         each_push (IsGreeted (Hello d i ∷ older)) (clients_of older) d rest
         (orderly.0.0, subst (λ (b : Bool). IsOrdinal (cond b i (incarnation d older))) (sym (eq-eqb d d refl)) orderly.0.1)
 greeted (Settled id s ∷ older) orderly = greeted older orderly.3
-greeted (Swept c i a b ∷ older) orderly = greeted older orderly
+greeted (Swept c i a b ∷ older) orderly = greeted older orderly.1
 
 each_account : (es : List Entry) (cs : List ℕ) → AllByRecursion (IsGreeted es) cs → AllByRecursion (λ (a : Account). IsClient a.client × IsOrdinal a.incarnation) (map (account es) cs)
 each_account es [] all = tt

@@ -48,7 +48,7 @@ settled_unknown c i (Settled id s ∷ older) orderly none =
     let other = other_client c id.client id.incarnation older orderly.0.0.incarnation.0 orderly.1 none in
     (λ k. cond (other k && nat_eq i id.incarnation) (kept id.number s ∷ settled_in c i older) (settled_in c i older))
     ∙ settled_unknown c i older orderly.3 none
-settled_unknown c i (Swept d j a b ∷ older) orderly none = settled_unknown c i older orderly none
+settled_unknown c i (Swept d j a b ∷ older) orderly none = settled_unknown c i older orderly.1 none
 
 pub leases_unknown : (c : ℕ) (es : List Entry) → AreOrderly es → has c (clients_of es) ≡ false → leases_of c es ≡ []
 leases_unknown c [] orderly none = refl
@@ -56,7 +56,7 @@ leases_unknown c (Hello d j ∷ older) orderly none = leases_unknown c older ord
 leases_unknown c (Settled id s ∷ older) orderly none =
     let other = other_client c id.client id.incarnation older orderly.0.0.incarnation.0 orderly.1 none in
     (λ k. cond (other k) (leases_after id s (leases_of c older)) (leases_of c older)) ∙ leases_unknown c older orderly.3 none
-leases_unknown c (Swept d j a b ∷ older) orderly none = by (nat_eq c d) (leases_unknown c older orderly none)
+leases_unknown c (Swept d j a b ∷ older) orderly none = by (nat_eq c d) (leases_unknown c older orderly.1 none)
   where
     by : (t : Bool) → leases_of c older ≡ [] → cond t (without_first (is_lease j a b) (leases_of c older)) (leases_of c older) ≡ []
     by true empty = ap (without_first (is_lease j a b)) empty
@@ -86,7 +86,7 @@ fresh c i (Settled id s ∷ older) orderly above = by (nat_eq c id.client) refl 
         ne_eqb i id.incarnation (λ e. absurd (omega (arith, orderly.1, ap (λ (k : ℕ). incarnation k older) (eqb-true c id.client is), above, e))) in
         (λ k. cond (later k) (kept id.number s ∷ settled_in c i older) (settled_in c i older)) ∙ rest
     by false is rest = rest
-fresh c i (Swept d j a b ∷ older) orderly above = fresh c i older orderly above
+fresh c i (Swept d j a b ∷ older) orderly above = fresh c i older orderly.1 above
 
 -- The accounts of a book are those of its history.
 

@@ -74,7 +74,7 @@ not_above (Settled id s ∷ older) c orderly = by (nat_eq c id.client) refl (not
         → NotAbove (incarnation c older) (cond b (leases_after id s (leases_of c older)) (leases_of c older))
     by true is low = not_above_after (incarnation c older) id s (leases_of c older) (omega (arith, orderly.1, ap (λ (k : ℕ). incarnation k older) (eqb-true c id.client is))) low
     by false is low = low
-not_above (Swept d i a b ∷ older) c orderly = by (nat_eq c d) (not_above older c orderly)
+not_above (Swept d i a b ∷ older) c orderly = by (nat_eq c d) (not_above older c orderly.1)
   where
     by : (t : Bool) → NotAbove (incarnation c older) (leases_of c older) → NotAbove (incarnation c older) (cond t (without_first (is_lease i a b) (leases_of c older)) (leases_of c older))
     by true low = each_without (λ (l : Lease). l.incarnation ≤ incarnation c older) (is_lease i a b) (leases_of c older) low

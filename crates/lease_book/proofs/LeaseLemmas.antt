@@ -39,7 +39,7 @@ granted (Settled id s ∷ older) c orderly =
         → AllByRecursion (WasGranted (Settled id s ∷ older) c) (cond b (leases_after id s (leases_of c older)) (leases_of c older))
     by true is all = granted_after older c id s (leases_of c older) (eqb-true c id.client is) all
     by false is all = all
-granted (Swept d i a b ∷ older) c orderly = by (nat_eq c d) (granted older c orderly)
+granted (Swept d i a b ∷ older) c orderly = by (nat_eq c d) (granted older c orderly.1)
   where
     by : (t : Bool) → AllByRecursion (WasGranted older c) (leases_of c older)
         → AllByRecursion (WasGranted older c) (cond t (without_first (is_lease i a b) (leases_of c older)) (leases_of c older))

@@ -6,7 +6,7 @@ use Rattle.lease_terms.specs.Requests.{RequestId, IsRequestId}
 use Rattle.lease_book.specs.Receipts.{Kept}
 use Rattle.lease_book.specs.Entry.{Settlement, Entry, Hello, Settled, Swept, kept}
 use Rattle.lease_book.specs.Account.{number_of}
-use Rattle.lease_book.specs.History.{incarnation, settled_in, higher, greatest, last_in, outcome_of, kept_of, IsInRange, AreOrderly}
+use Rattle.lease_book.specs.History.{incarnation, settled_in, higher, greatest, last_in, outcome_of, kept_of, AreOrderly}
 use Rattle.lease_book.specs.NumberLaws.{SettledForIncarnation, OutcomesStay, NumbersAreSettledOnce, down_from}
 use Rattle.lease_book.proofs.HistoryLemmas.{fresh}
 use Rattle.lease_book.proofs.EntryLemmas.{higher_next}
@@ -118,7 +118,7 @@ next_of es id s orderly = orderly.2 ∙ ap (λ (i : ℕ). last_in id.client i es
 pub older_orderly : (e : Entry) (es : List Entry) → AreOrderly (e ∷ es) → AreOrderly es
 older_orderly (Hello c i) es orderly = orderly.2
 older_orderly (Settled id s) es orderly = orderly.3
-older_orderly (Swept c i a b) es orderly = orderly
+older_orderly (Swept c i a b) es orderly = orderly.1
 
 -- Outcomes.
 
@@ -211,7 +211,7 @@ settled_once (e ∷ es) id s t (suc j) (suc k) orderly at there = ap suc (settle
 in_turn : (es : List Entry) (c i : ℕ) → AreOrderly es → map (λ (k : Kept). k.number) (settled_in c i es) ≡ down_from (last_in c i es)
 in_turn [] c i orderly = refl
 in_turn (Hello d j ∷ older) c i orderly = in_turn older c i orderly.2
-in_turn (Swept d j a b ∷ older) c i orderly = in_turn older c i orderly
+in_turn (Swept d j a b ∷ older) c i orderly = in_turn older c i orderly.1
 in_turn (Settled id s ∷ older) c i orderly = by (is_of c i id) refl (in_turn older c i orderly.3)
   where
     by : (b : Bool) → is_of c i id ≡ b → map (λ (k : Kept). k.number) (settled_in c i older) ≡ down_from (last_in c i older)

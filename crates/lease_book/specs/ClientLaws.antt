@@ -1,5 +1,5 @@
 -- What holds of the clients of every book: their accounts, together and before and after an entry.
-use Rattle.std.specs.Prelude.{◌≡◌, ◌≢◌, ℕ, ◌<◌, ◌≤◌, ◌==◌, nat_eq, false, List, [], All, IfSome, Some, None, sum_by}
+use Rattle.std.specs.Prelude.{◌≡◌, ◌≢◌, ℕ, ◌<◌, ◌≤◌, ◌==◌, nat_eq, false, List, [], length, All, IfSome, Some, None, sum_by}
 use Rattle.std.specs.List.{list_any, IsDistinct}
 use Rattle.deed_core.specs.Extent.{IsRange}
 use Rattle.deed_core.specs.Tag.{Tag}
@@ -8,6 +8,7 @@ use Rattle.lease_terms.specs.Requests.{RequestId, IsRequestId}
 use Rattle.lease_book.specs.Entry.{Settlement, Entry, Hello, Settled, Swept, subject_of, kept}
 use Rattle.lease_book.specs.Account.{Account, is_lease, without_first, granted_request, leases_after}
 use Rattle.lease_book.specs.BookState.{BookState, HasHistory, Enters, account_in, clients_in, weight_of, leased}
+use Rattle.lease_book.specs.declared.books.TheConstants.{MOST_LEASES}
 use Rattle.lease_book.specs.declared.receipts.KeptReply.{KeptReply}
 use Rattle.lease_book.specs.declared.receipts.KeptReply.TheVariants.{Granted, Released, Refused}
 
@@ -62,10 +63,11 @@ IsReplyInRange (Granted arena base len) = IsRange (record { base = base; len = l
 IsReplyInRange Released = Unit {0}
 IsReplyInRange (Refused why) = Unit {0}
 
--- the numbers that an account tells are in their ranges; 0 is the incarnation of a client that
+-- the numbers that an account tells are in their ranges, and its leases are few; 0 is the incarnation of a client that
 -- never said hello
 pub record IsInBounds (a : Account) : Type 0 where
   pub incarnation : IsQuantity a.incarnation
+  pub few : length a.leases ≤ MOST_LEASES
   pub kept : IfSome a.kept (λ k. IsOrdinal k.number × IsReplyInRange k.reply)
   pub leases : All (λ l. IsRequestId (granted_request a.client l) × IsRange l.segment.holding.range)
       a.leases

@@ -1,11 +1,13 @@
 -- What is read off a list of entries, newest first.
-use Rattle.std.specs.Prelude.{◌≡◌, ℕ, ◌+◌, ◌≤◌, ◌==◌, ◌&&◌, nat_lt, if◌then◌else◌, List, [], ◌∷◌, ◌++◌, Option, Some, None}
+use Rattle.std.specs.Prelude.{◌≡◌, ℕ, ◌+◌, ◌<◌, ◌≤◌, ◌==◌, ◌&&◌, nat_lt, if◌then◌else◌, List, [], ◌∷◌, ◌++◌, length, Option, Some, None}
 use Rattle.std.specs.List.{find, list_any}
 use Rattle.deed_core.specs.Extent.{IsRange}
+use Rattle.deed_core.specs.Request.{Fits}
 use Rattle.lease_terms.specs.Ranges.{IsClient, IsOrdinal, IsQuantity}
 use Rattle.lease_terms.specs.Requests.{RequestId, IsRequestId}
 use Rattle.lease_book.specs.Receipts.{Kept}
 use Rattle.lease_book.specs.Entry.{Settlement, Grant, Return, Refuse, Entry, Hello, Settled, Swept, kept}
+use Rattle.lease_book.specs.declared.books.TheConstants.{MOST_LEASES}
 use Rattle.lease_book.specs.Account.{Lease, Account, number_of, is_lease, without_first, leases_after}
 
 -- the incarnation of the client's last hello, or 0
@@ -72,19 +74,25 @@ account entries c = record {
   leases = leases_of c entries;
 }
 
--- the units that it names are in the range of units
-abbrev pub IsInRange : Settlement → Type 0
-IsInRange (Grant t terms) = IsRange t.holding.range
-IsInRange (Return arena base) = IsQuantity base
-IsInRange (Refuse why) = Unit {0}
+-- the settlement is one that a client with these leases can come to: a grant meets its terms, and
+-- is one lease more than few enough; what is given back is leased; units are in their range
+abbrev pub IsProper : List Lease → RequestId → Settlement → Type 0
+IsProper leases id (Grant t terms) = IsRange t.holding.range
+    × Fits terms.quantum terms.request t.holding.range.base t.holding.range.len
+    × (length leases < MOST_LEASES)
+IsProper leases id (Return arena base) = IsQuantity base
+    × ((l : Lease) × (find (is_lease id.incarnation arena base) leases ≡ Some l))
+IsProper leases id (Refuse why) = Unit {0}
 
 -- incarnations don't fall, and each of them has its numbers settled once and one after the other,
--- while it is the current one; clients, incarnations, numbers and units are in their ranges
+-- while it is the current one; what ends is leased; clients, incarnations and numbers are in range
 abbrev pub AreOrderly : List Entry → Type 0
 AreOrderly [] = Unit {0}
 AreOrderly (Hello c i ∷ older) =
     (IsClient c × IsOrdinal i) × (incarnation c older ≤ i) × AreOrderly older
 AreOrderly (Settled id s ∷ older) =
-    (IsRequestId id × IsInRange s) × (id.incarnation ≡ incarnation id.client older)
+    (IsRequestId id × IsProper (leases_of id.client older) id s)
+    × (id.incarnation ≡ incarnation id.client older)
     × (id.number ≡ number_of (kept_of id.client older) + 1) × AreOrderly older
-AreOrderly (Swept c i a b ∷ older) = AreOrderly older
+AreOrderly (Swept c i a b ∷ older) =
+    ((l : Lease) × (find (is_lease i a b) (leases_of c older) ≡ Some l)) × AreOrderly older

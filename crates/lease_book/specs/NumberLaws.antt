@@ -1,7 +1,7 @@
 -- What holds of the numbers of requests, and of how each was settled.
 use Rattle.std.specs.Prelude.{◌≡◌, ◌≢◌, ℕ, zero, suc, ◌<◌, ◌≤◌, List, [], ◌∷◌, ◌++◌, map, All, Some, None, slice_get}
 use Rattle.lease_terms.specs.Requests.{RequestId}
-use Rattle.lease_book.specs.Receipts.{Kept}
+use Rattle.lease_book.specs.Receipts.{Kept, IsEarned}
 use Rattle.lease_book.specs.Entry.{Settlement, Grant, Entry, Settled, kept}
 use Rattle.lease_book.specs.Account.{Lease, granted_request}
 use Rattle.lease_book.specs.History.{incarnation, settled_in, greatest, last_in, outcome_of, leases_of, AreOrderly}
@@ -36,6 +36,12 @@ abbrev pub LastIsAnOutcome : Type 0
 LastIsAnOutcome =
     (es : List Entry) (c i : ℕ) (k : Kept) → greatest (settled_in c i es) ≡ Some k
     → outcome_of (record { client = c; incarnation = i; number = k.number }) es ≡ Some k
+
+-- whatever was settled is earned: a grant meets its terms
+abbrev pub OutcomesAreEarned : Type 0
+OutcomesAreEarned =
+    (es : List Entry) (id : RequestId) (k : Kept) → AreOrderly es → outcome_of id es ≡ Some k
+    → IsEarned k.reply k.terms
 
 -- n, and so on down to 1
 abbrev pub down_from : ℕ → List ℕ

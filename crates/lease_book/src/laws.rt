@@ -4,7 +4,7 @@ ghost use Rattle.std.specs.Prelude.{◌≡◌};
 ghost use Rattle.lease_book.specs.declared.books.TheConstants.{MOST_LEASES};
 ghost use Rattle.lease_book.specs.Laws.{AccountIsReadOff, AccountIsOfItsClient, HelloChanges, SettledChanges, SweptChanges, WithoutLosesTheFound, LeasesAreNotAbove};
 ghost use Rattle.lease_book.specs.ClientLaws.{EnteredChanges, LeasesAreTheClients, BooksAreInBounds};
-ghost use Rattle.lease_book.specs.NumberLaws.{SettledForIncarnation, OutcomesStay, LastIsAnOutcome, NumbersAreSettledOnce, LeasesWereGranted};
+ghost use Rattle.lease_book.specs.NumberLaws.{SettledForIncarnation, OutcomesStay, LastIsAnOutcome, OutcomesAreEarned, NumbersAreSettledOnce, LeasesWereGranted};
 
 /// The entries that give a book tell all of each client's account, and the account is that
 /// client's.
@@ -28,11 +28,13 @@ pub fn lease_laws()
     ensures granted { LeasesWereGranted }
 {}
 
-/// The kept reply is that of its number, and a number that has a reply keeps it.
+/// The kept reply is that of its number, and a number that has a reply keeps it; a grant that was
+/// made meets its terms.
 pub fn outcome_laws()
     ensures settled { SettledForIncarnation }
     ensures outcomes { OutcomesStay }
     ensures last { LastIsAnOutcome }
+    ensures earned { OutcomesAreEarned }
 {}
 
 /// The numbers of an incarnation are settled once each, in turn.

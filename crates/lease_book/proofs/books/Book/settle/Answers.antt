@@ -35,7 +35,7 @@ invariant_of-self-in-Ok-lease g c =
     let in_range : IsRange c.args.segment.holding.range = subst IsRange c.range.ensures.value c.range.ensures.range in
     let leased_mid : c.lease.new.self ≡ changed_at c.self.inside.accounts c.in-Ok.index (with_leases (λ ls. ls ++ lease_of c.args.id c.args.segment ∷ [])) =
     c.in-Ok-lease.ensures.ok ∙ ap (λ (l : Lease). changed_at c.self.inside.accounts c.in-Ok.index (with_leases (λ ls. ls ++ l ∷ []))) c.new.ensures in
-    (granted_at _ _ c.self.view_is _ _ c.in-Ok.ensures.index c.in-Ok.ensures.new c.admit.ensures.range c.lease.new.self _ c.args.segment _ _ _ in_range room is_kept refl leased_mid c.keep-kept-in-Ok-lease.ensures.accounts c.self.invariant).0
+    (granted_at _ _ c.self.view_is _ _ c.in-Ok.ensures.index c.in-Ok.ensures.new c.admit.ensures.range c.lease.new.self _ c.args.segment _ _ _ (in_range, c.requires.fits) room is_kept refl leased_mid c.keep-kept-in-Ok-lease.ensures.accounts c.self.invariant).0
 
 pub returns-in-Ok-lease-clause-granted : goal.returns-in-Ok-lease-clause-granted
 returns-in-Ok-lease-clause-granted g c =
@@ -45,4 +45,4 @@ returns-in-Ok-lease-clause-granted g c =
     let in_range : IsRange c.args.segment.holding.range = subst IsRange c.range.ensures.value c.range.ensures.range in
     let leased_mid : c.lease.new.self ≡ changed_at c.self.inside.accounts c.in-Ok.index (with_leases (λ ls. ls ++ lease_of c.args.id c.args.segment ∷ [])) =
     c.in-Ok-lease.ensures.ok ∙ ap (λ (l : Lease). changed_at c.self.inside.accounts c.in-Ok.index (with_leases (λ ls. ls ++ l ∷ []))) c.new.ensures in
-    (granted_at _ _ c.self.view_is _ _ c.in-Ok.ensures.index c.in-Ok.ensures.new c.admit.ensures.range c.lease.new.self _ c.args.segment _ _ _ in_range room is_kept c.receipt-in-Ok-lease.ensures leased_mid c.keep-kept-in-Ok-lease.ensures.accounts c.self.invariant).1
+    (granted_at _ _ c.self.view_is _ _ c.in-Ok.ensures.index c.in-Ok.ensures.new c.admit.ensures.range c.lease.new.self _ c.args.segment _ _ _ (in_range, c.requires.fits) room is_kept c.receipt-in-Ok-lease.ensures leased_mid c.keep-kept-in-Ok-lease.ensures.accounts c.self.invariant).1
