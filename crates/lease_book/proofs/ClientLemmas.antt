@@ -11,11 +11,9 @@ use Rattle.lease_book.specs.Receipts.{Kept, IsEarned}
 use Rattle.lease_book.specs.Entry.{Settlement, Grant, Return, Refuse, Entry, Hello, Settled, Swept, subject_of, kept, reply_of, terms_of}
 use Rattle.lease_book.specs.Account.{Lease, Account, is_lease, without_first, lease_of, granted_request, leases_after}
 use Rattle.lease_book.specs.History.{incarnation, leases_of, clients_of, kept_of, outcome_of, account, IsProper, AreOrderly}
-use Rattle.lease_book.specs.BookState.{BookState, IsHistory, HasHistory, Enters, nobody, account_in, clients_in, weight_of, segments, leased_by, leased}
+use Rattle.lease_book.specs.BookState.{BookState, IsHistory, HasHistory, Enters, account_in, clients_in, weight_of, segments, leased_by, leased}
 use Rattle.lease_book.specs.ClientLaws.{EnteredChanges, LeasesAreTheClients, IsReplyInRange, IsInBounds, BooksAreInBounds}
-use Rattle.lease_book.specs.declared.receipts.KeptReply.{KeptReply}
 use Rattle.lease_book.specs.declared.books.TheConstants.{MOST_LEASES}
-use Rattle.lease_book.specs.declared.receipts.Terms.{Terms}
 use Rattle.lease_book.proofs.HistoryLemmas.{has, account_is, account_unknown}
 use Rattle.lease_book.proofs.EntryLemmas.{distinct_clients, settled_others, settled_own, swept_others, swept_own, hello_others, hello_same, hello_above}
 use Rattle.lease_book.proofs.WeightLemmas.{sum_by-leased_by}

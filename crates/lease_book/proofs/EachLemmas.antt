@@ -1,5 +1,5 @@
 -- What holds of each member of a list.
-use Rattle.std.proofs.Common.{ℕ, zero, suc, Bool, true, false, cond, List, [], ◌∷◌, ◌++◌, All, arith}
+use Rattle.std.proofs.Common.{zero, suc, Bool, true, false, cond, List, [], ◌∷◌, ◌++◌, All, arith}
 use Rattle.std.specs.List.{AllByRecursion}
 use Rattle.lease_book.specs.Account.{without_first}
 

@@ -1,12 +1,11 @@
 -- The leases of a client, and the requests that were granted them.
-use Rattle.std.proofs.Common.{◌≡◌, ℕ, zero, suc, ◌+◌, ◌<◌, ◌≤◌, Bool, true, false, cond, nat_eq, List, [], ◌∷◌, ◌++◌, length, All, Some, refl, sym, ap, subst, ◌∙◌, arith}
+use Rattle.std.proofs.Common.{◌≡◌, ℕ, Bool, true, false, cond, nat_eq, List, [], ◌∷◌, Some, refl, ap, ◌∙◌}
 use Rattle.std.specs.List.{AllByRecursion}
 use Rattle.std.proofs.lemmas.Bool.{eqb-true}
 use Rattle.lease_terms.specs.Requests.{RequestId}
-use Rattle.lease_book.specs.Receipts.{Kept}
 use Rattle.lease_book.specs.Entry.{Settlement, Grant, Return, Refuse, Entry, Hello, Settled, Swept, kept}
 use Rattle.lease_book.specs.Account.{Lease, is_lease, without_first, lease_of, granted_request, leases_after}
-use Rattle.lease_book.specs.History.{incarnation, leases_of, outcome_of, AreOrderly}
+use Rattle.lease_book.specs.History.{leases_of, outcome_of, AreOrderly}
 use Rattle.lease_book.specs.NumberLaws.{LeasesWereGranted}
 use Rattle.lease_book.specs.declared.receipts.Terms.{Terms}
 use Rattle.lease_book.proofs.EachLemmas.{each_without, each_push, all_of_each, each_is}

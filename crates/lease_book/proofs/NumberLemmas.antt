@@ -2,11 +2,11 @@
 use Rattle.std.proofs.Common.{◌≡◌, ◌≢◌, ℕ, zero, suc, ◌+◌, ◌<◌, ◌≤◌, Bool, true, false, cond, ◌&&◌, nat_eq, nat_lt, List, [], ◌∷◌, ◌++◌, map, Option, Some, None, slice_get, refl, sym, ap, subst, ◌∙◌, arith, eq-eqb}
 use Rattle.std.specs.List.{find}
 use Rattle.std.proofs.lemmas.Bool.{and_from, and_parts, eqb-true, eqb-false, ltb-true, ltb-false, ne_eqb}
-use Rattle.lease_terms.specs.Requests.{RequestId, IsRequestId}
+use Rattle.lease_terms.specs.Requests.{RequestId}
 use Rattle.lease_book.specs.Receipts.{Kept}
 use Rattle.lease_book.specs.Entry.{Settlement, Entry, Hello, Settled, Swept, kept}
 use Rattle.lease_book.specs.Account.{number_of}
-use Rattle.lease_book.specs.History.{incarnation, settled_in, higher, greatest, last_in, outcome_of, kept_of, AreOrderly}
+use Rattle.lease_book.specs.History.{settled_in, higher, greatest, last_in, outcome_of, AreOrderly}
 use Rattle.lease_book.specs.NumberLaws.{SettledForIncarnation, OutcomesStay, NumbersAreSettledOnce, down_from}
 use Rattle.lease_book.proofs.HistoryLemmas.{fresh}
 use Rattle.lease_book.proofs.EntryLemmas.{higher_next}

@@ -3,7 +3,7 @@ use Rattle.std.specs.Prelude.{◌≡◌, ◌≢◌, ℕ, zero, suc, ◌<◌, ◌
 use Rattle.lease_terms.specs.Requests.{RequestId}
 use Rattle.lease_book.specs.Receipts.{Kept, IsEarned}
 use Rattle.lease_book.specs.Entry.{Settlement, Grant, Entry, Settled, kept}
-use Rattle.lease_book.specs.Account.{Lease, granted_request}
+use Rattle.lease_book.specs.Account.{granted_request}
 use Rattle.lease_book.specs.History.{incarnation, settled_in, greatest, last_in, outcome_of, leases_of, AreOrderly}
 use Rattle.lease_book.specs.declared.receipts.Terms.{Terms}
 
