@@ -3,7 +3,7 @@ use Rattle.std.proofs.Common.{◌≡◌, ℕ, zero, suc, slice_get, refl, sym, s
 use Rattle.std.specs.List.{AllByRecursion}
 use Rattle.lease_terms.specs.Requests.{RequestId}
 use Rattle.lease_book.specs.Receipts.{Kept, ReceiptState}
-use Rattle.lease_book.specs.Entry.{Entry, Hello, Settled, Swept, kept}
+use Rattle.lease_book.specs.Entry.{Entry, Settled}
 use Rattle.lease_book.specs.Account.{Account, last, number_of}
 use Rattle.lease_book.specs.History.{incarnation, kept_of}
 use Rattle.lease_book.specs.BookState.{BookState, Enters, account_in}

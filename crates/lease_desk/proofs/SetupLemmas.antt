@@ -3,19 +3,16 @@ use Rattle.std.proofs.Common.{◌≡◌, ◌≢◌, ℕ, suc, zero, ◌+◌, ◌
 use Rattle.std.specs.Prelude.{slice_get, sum_by}
 use Rattle.std.specs.List.{AllByRecursion}
 use Rattle.std.proofs.lemmas.List.{append-nil, length-map, length-set, map-append, map-set}
-use Rattle.std.proofs.lemmas.List.Sums.{sum_by-cons, sum_by-append}
-use Rattle.std.proofs.lemmas.Bool.{cases_eq}
+use Rattle.std.proofs.lemmas.List.Sums.{sum_by-cons}
 use Rattle.std.specs.Ordering.{nat_cmp}
 use Rattle.std.specs.FinMap as finmap
-use Rattle.std.specs.FinMap.{FinMap, get, entries, get-empty, len-empty, len-entries, get-entries, find}
-use Rattle.deed_core.specs.Extent.{Extent, Overlap}
+use Rattle.std.specs.FinMap.{FinMap, get, entries, len-empty, len-entries, get-entries, find}
+use Rattle.deed_core.specs.Extent.{Extent}
 use Rattle.deed_core.specs.Holding.{Holding}
 use Rattle.deed_core.specs.Tag.{Tag}
-use Rattle.deed_core.specs.Covering.{covers, covers_held, covering_held}
-use Rattle.deed_core.proofs.LawProofs.{counts_the_unit}
 use Rattle.tag_arena.specs.Layout.{FreeIsLongestRuns, IsLongestRun, IsRun, IsPartOf}
 use Rattle.tag_arena.specs.ArenaState.{ArenaState, spans_of, layout_of, ranges_of, IsSound}
-use Rattle.tag_arena.specs.Calls.{after_add, IsClear}
+use Rattle.tag_arena.specs.Calls.{after_add}
 use Rattle.lease_book.specs.Entry.{Entry, Hello, Settled, Swept, reply_of}
 use Rattle.lease_book.specs.BookState.{BookState, leased}
 use Rattle.lease_book.specs.declared.receipts.KeptReply.{KeptReply}

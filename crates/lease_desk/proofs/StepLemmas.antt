@@ -1,5 +1,5 @@
 -- The answer to a line, by what was appended.
-use Rattle.std.proofs.Common.{◌≡◌, ℕ, true, false, refl, sym, subst, List, ◌++◌, Result, Ok, Err, OnOk, OnErr, IfErr}
+use Rattle.std.proofs.Common.{◌≡◌, ℕ, true, false, refl, subst, List, ◌++◌, Result, Ok, Err, OnOk, OnErr, IfErr}
 use Rattle.std.specs.Prelude.{IsOk, is_ok, if◌then◌else◌}
 use Rattle.lease_proto.specs.declared.faults.LineFault.{LineFault}
 use Rattle.lease_proto.specs.declared.operators.ServedLine.{ServedLine}
