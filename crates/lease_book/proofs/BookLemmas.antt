@@ -8,9 +8,9 @@ use Rattle.deed_core.specs.Tag.{Tag}
 use Rattle.deed_core.specs.Weights.{Gains, Loses}
 use Rattle.lease_book.specs.Receipts.{Kept, ReceiptState, IsEarned}
 use Rattle.lease_book.specs.Entry.{Settlement, Entry, Hello, Settled, Swept, Grant, Return, Refuse, kept}
-use Rattle.lease_book.specs.Account.{Lease, Account, number_of, is_lease, without, lease_of, request_of, leases_after}
+use Rattle.lease_book.specs.Account.{Lease, Account, number_of, is_lease, without_first, lease_of, granted_request, leases_after}
 use Rattle.lease_book.specs.Shelf.{account_with, changed_at, standing_of, with_standing, with_leases}
-use Rattle.lease_book.specs.History.{incarnation, clients_of, kept_of, account, IsInRange}
+use Rattle.lease_book.specs.History.{incarnation, clients_of, kept_of, account, IsProper}
 use Rattle.lease_book.specs.BookState.{BookState, HasHistory, Enters, nobody, or_nobody, account_in, segments, leased_by, leased}
 use Rattle.lease_book.specs.Answers.{receipt, IsNew}
 use Rattle.lease_book.specs.Calls.{IsFound, IsGranted, IsRefused, IsReleased, IsEnded}
@@ -21,8 +21,8 @@ use Rattle.lease_terms.specs.Ranges.{IsClient, IsOrdinal, IsQuantity}
 use Rattle.lease_terms.specs.Requests.{IsRequestId}
 use Rattle.deed_core.specs.Extent.{Extent, IsRange}
 use Rattle.deed_core.specs.Request.{Fits}
-use Rattle.lease_book.specs.declared.receipts.Reply.{Reply}
-use Rattle.lease_book.specs.declared.receipts.Reply.TheVariants.{Granted}
+use Rattle.lease_book.specs.declared.receipts.KeptReply.{KeptReply}
+use Rattle.lease_book.specs.declared.receipts.KeptReply.TheVariants.{Granted}
 use Rattle.lease_book.specs.declared.receipts.Terms.{Terms}
 use Rattle.std.proofs.lemmas.Option.{slice_get_within, get_or_from_slice_get}
 use Rattle.std.proofs.lemmas.List.{map-append}
@@ -119,26 +119,27 @@ abbrev pub settled_as : RequestId → Settlement → Account → Account
 settled_as id how a = with_standing (record { incarnation = id.incarnation; kept = Some (kept id.number how) }) (with_leases (leases_after id how) a)
 
 pub settles : (old new : BookState) (id : RequestId) (index : ℕ) (how : Settlement) → IsFound old id.client index → IsNew (account_in id.client old) id
-    → IsRequestId id → IsInRange how → new.mark ≡ old.mark → new.accounts ≡ changed_at old.accounts index (settled_as id how) → Enters (Settled id how) old new
-settles old new id index how found fresh told in_range mark after = record {
+    → IsRequestId id → IsProper (account_in id.client old).leases id how → new.mark ≡ old.mark → new.accounts ≡ changed_at old.accounts index (settled_as id how) → Enters (Settled id how) old new
+settles old new id index how found fresh told proper mark after = record {
   mark = mark;
   history = λ es h.
       let is : account_in id.client old ≡ account es id.client = account_is es old id.client h in
       let current : id.incarnation ≡ incarnation id.client es = fresh.current ∙ ap (λ (a : Account). a.incarnation) is in
       let next : id.number ≡ number_of (kept_of id.client es) + 1 = fresh.next ∙ ap (λ (a : Account). number_of a.kept + 1) is in
       entered (Settled id how) es old new id.client index (account_in id.client old) (settled_as id how) h found.at found.client refl
-      (settled_others es id how) (settled_own es id how current next) after ((told, in_range), current, next, h.orderly);
+      (settled_others es id how) (settled_own es id how current next) after ((told, subst (λ (a : Account). IsProper a.leases id how) is proper), current, next, h.orderly);
 }
 
 -- a lease that ended
-pub ends : (old new : BookState) (c i arena base place k : ℕ) → IsFound old c place → IsFirst (is_lease i arena base) (account_in c old).leases k → new.mark ≡ old.mark
+pub ends : (old new : BookState) (c i arena base place k : ℕ) (l : Lease) → find (is_lease i arena base) (account_in c old).leases ≡ Some l → IsFound old c place → IsFirst (is_lease i arena base) (account_in c old).leases k → new.mark ≡ old.mark
     → new.accounts ≡ changed_at old.accounts place (with_leases (λ ls. remove ls k)) → Enters (Swept c i arena base) old new
-ends old new c i arena base place k found first mark after = record {
+ends old new c i arena base place k l leased_there found first mark after = record {
   mark = mark;
   history = λ es h.
-      entered (Swept c i arena base) es old new c place (account_in c old) (with_leases (without (is_lease i arena base))) h found.at found.client refl (swept_others es c i arena base) (swept_own es c i arena base)
-      (after ∙ changed_alike old.accounts place (account_in c old) (with_leases (λ ls. remove ls k)) (with_leases (without (is_lease i arena base))) found.at
-      (ap (λ (ls : List Lease). with_leases (λ x. ls) (account_in c old)) (sym first.left))) h.orderly;
+      entered (Swept c i arena base) es old new c place (account_in c old) (with_leases (without_first (is_lease i arena base))) h found.at found.client refl (swept_others es c i arena base) (swept_own es c i arena base)
+      (after ∙ changed_alike old.accounts place (account_in c old) (with_leases (λ ls. remove ls k)) (with_leases (without_first (is_lease i arena base))) found.at
+      (ap (λ (ls : List Lease). with_leases (λ x. ls) (account_in c old)) (sym first.left)))
+      ((l, subst (λ (a : Account). find (is_lease i arena base) a.leases ≡ Some l) (account_is es old c h) leased_there), h.orderly);
 }
 
 -- A hello.
@@ -226,11 +227,11 @@ refuses old now id index why k r found fresh told is_kept is_receipt mark after 
     }
 
 pub grants : (old now : BookState) (mid : List Account) (id : RequestId) (index : ℕ) (t : Tag) (terms : Terms) (k : Kept) (r : ReceiptState) → IsFound old id.client index
-    → IsNew (account_in id.client old) id → IsRequestId id → IsRange t.holding.range
+    → IsNew (account_in id.client old) id → IsRequestId id → IsRange t.holding.range × Fits terms.quantum terms.request t.holding.range.base t.holding.range.len
     → length (account_in id.client old).leases < 1024 → k ≡ kept id.number (Grant t terms) → r ≡ receipt old id k → now.mark ≡ old.mark
     → mid ≡ changed_at old.accounts index (with_leases (λ ls. ls ++ lease_of id t ∷ []))
     → now.accounts ≡ changed_at mid index (with_standing (record { incarnation = id.incarnation; kept = Some k })) → IsGranted old now id t terms r
-grants old now mid id index t terms k r found fresh told in_range room is_kept is_receipt mark leased_mid after =
+grants old now mid id index t terms k r found fresh told meets room is_kept is_receipt mark leased_mid after =
     let s : Standing = record { incarnation = id.incarnation; kept = Some (kept id.number (Grant t terms)) } in
     let after' : now.accounts ≡ changed_at mid index (with_standing s) =
     after ∙ ap (λ (y : Kept). changed_at mid index (with_standing (record { incarnation = id.incarnation; kept = Some y }))) is_kept in
@@ -241,7 +242,7 @@ grants old now mid id index t terms k r found fresh told in_range room is_kept i
       new = fresh;
       room = room;
       receipt = is_receipt ∙ ap (receipt old id) is_kept;
-      entry = settles old now id index (Grant t terms) found fresh told in_range mark both;
+      entry = settles old now id index (Grant t terms) found fresh told (meets.0, meets.1, room) mark both;
       leases = λ f. ap (sum_by f) stands ∙ gains_lease old.accounts index (account_in id.client old) (lease_of id t) found.at f;
     }
 
@@ -270,7 +271,7 @@ releases old now mid id arena base index at l k r found fresh told in_range firs
       of_arena = sym says.1;
       at_base = sym says.2;
       receipt = is_receipt ∙ ap (receipt old id) is_kept;
-      entry = settles old now id index (Return arena base) found fresh told in_range mark entered_as;
+      entry = settles old now id index (Return arena base) found fresh told (in_range, (l, first.found ∙ here)) mark entered_as;
       leases = λ f. loses_lease old.accounts index at a l found.at here f ∙ ap (λ (ts : List Tag). sum_by f ts + f l.segment) (sym stands);
     }
 
@@ -280,24 +281,24 @@ pub ends_lease : (old now : BookState) (c index at : ℕ) (l : Lease) → IsFoun
     → IsEnded old now (record { client = c; incarnation = l.incarnation; number = l.number }) l.segment
 ends_lease old now c index at l found first here mark after = record {
   lease = first.found ∙ here;
-  entry = ends old now c l.incarnation l.segment.arena l.segment.holding.range.base index at found first mark after;
+  entry = ends old now c l.incarnation l.segment.arena l.segment.holding.range.base index at l (first.found ∙ here) found first mark after;
   leases = λ f. loses_lease old.accounts index at (account_in c old) l found.at here f ∙ ap (λ (xs : List Account). sum_by f (leased_by xs) + f l.segment) (sym after);
 }
 
 -- a reply that grants a range, told of the segment with it
-granted_segment : (arena : ℕ) (range : Extent) (reply : Reply) (t : Tag) → reply ≡ Granted arena range.base range.len → t.arena ≡ arena → range ≡ t.holding.range
+granted_segment : (arena : ℕ) (range : Extent) (reply : KeptReply) (t : Tag) → reply ≡ Granted arena range.base range.len → t.arena ≡ arena → range ≡ t.holding.range
     → reply ≡ Granted t.arena t.holding.range.base t.holding.range.len
 granted_segment arena range reply t is of_arena of_range = is ∙ (λ j. Granted (sym of_arena j) (of_range j).base (of_range j).len)
 
-pub kept_grant : (n arena : ℕ) (range : Extent) (reply : Reply) (t : Tag) (terms : Terms) (k : Kept) → k ≡ record { number = n; reply = reply; terms = Some terms } → reply ≡ Granted arena range.base range.len
+pub kept_grant : (n arena : ℕ) (range : Extent) (reply : KeptReply) (t : Tag) (terms : Terms) (k : Kept) → k ≡ record { number = n; reply = reply; terms = Some terms } → reply ≡ Granted arena range.base range.len
     → t.arena ≡ arena → range ≡ t.holding.range → k ≡ kept n (Grant t terms)
 kept_grant n arena range reply t terms k is granted of_arena of_range =
-    is ∙ ap (λ (r : Reply). record { number = n; reply = r; terms = Some terms }) (granted_segment arena range reply t granted of_arena of_range)
+    is ∙ ap (λ (r : KeptReply). record { number = n; reply = r; terms = Some terms }) (granted_segment arena range reply t granted of_arena of_range)
 
-pub earned_grant : (arena : ℕ) (range : Extent) (reply : Reply) (t : Tag) (terms : Terms) → reply ≡ Granted arena range.base range.len → t.arena ≡ arena → range ≡ t.holding.range
+pub earned_grant : (arena : ℕ) (range : Extent) (reply : KeptReply) (t : Tag) (terms : Terms) → reply ≡ Granted arena range.base range.len → t.arena ≡ arena → range ≡ t.holding.range
     → Fits terms.quantum terms.request t.holding.range.base t.holding.range.len → IsEarned reply (Some terms)
 earned_grant arena range reply t terms granted of_arena of_range fits =
-    subst (λ (r : Reply). IsEarned r (Some terms)) (sym (granted_segment arena range reply t granted of_arena of_range)) fits
+    subst (λ (r : KeptReply). IsEarned r (Some terms)) (sym (granted_segment arena range reply t granted of_arena of_range)) fits
 
 none_past : (xs : List Account) (i : ℕ) → slice_get xs i ≡ None → length xs ≤ i
 none_past [] i at = omega arith
@@ -346,15 +347,15 @@ module _ (before old : BookState) (is : before ≡ old) (id : RequestId) (index 
       let refused = refuses before now id index why k r found_before fresh_before told is_kept is_receipt refl after in
       (goes_on (Settled id (Refuse why)) before now refused.entry had, subst (λ (b : BookState). IsRefused b now id why r) is refused)
 
-  pub granted_at : (mid accounts : List Account) (t : Tag) (terms : Terms) (k : Kept) (r : ReceiptState) → IsRange t.holding.range → length (account_in id.client old).leases < 1024
+  pub granted_at : (mid accounts : List Account) (t : Tag) (terms : Terms) (k : Kept) (r : ReceiptState) → IsRange t.holding.range × Fits terms.quantum terms.request t.holding.range.base t.holding.range.len → length (account_in id.client old).leases < 1024
       → k ≡ kept id.number (Grant t terms) → r ≡ receipt before id k
       → mid ≡ changed_at before.accounts index (with_leases (λ ls. ls ++ lease_of id t ∷ []))
       → accounts ≡ changed_at mid index (with_standing (record { incarnation = id.incarnation; kept = Some k })) → HasHistory before
       → HasHistory (record { mark = before.mark; accounts = accounts }) × IsGranted old (record { mark = before.mark; accounts = accounts }) id t terms r
-  granted_at mid accounts t terms k r in_range room is_kept is_receipt leased_mid after had =
+  granted_at mid accounts t terms k r meets room is_kept is_receipt leased_mid after had =
       let now : BookState = record { mark = before.mark; accounts = accounts } in
       let room_before : length (account_in id.client before).leases < 1024 = subst (λ (b : BookState). length (account_in id.client b).leases < 1024) (sym is) room in
-      let granted = grants before now mid id index t terms k r found_before fresh_before told in_range room_before is_kept is_receipt refl leased_mid after in
+      let granted = grants before now mid id index t terms k r found_before fresh_before told meets room_before is_kept is_receipt refl leased_mid after in
       (goes_on (Settled id (Grant t terms)) before now granted.entry had, subst (λ (b : BookState). IsGranted b now id t terms r) is granted)
 
   pub released_at : (mid accounts : List Account) (arena base at : ℕ) (l : Lease) (t : Tag) (k : Kept) (r : ReceiptState) → t ≡ l.segment → IsQuantity base
@@ -376,7 +377,7 @@ pub leases_found : (before old : BookState) (c place : ℕ) (ls : List Lease) �
 leases_found before old c place ls is found there =
     of_found (λ (a : Account). a.leases ≡ ls) old c place found (subst (λ (b : BookState). IfSome (slice_get b.accounts place) (λ a. a.leases ≡ ls)) is there)
 
-pub ended_at : (before old : BookState) (accounts : List Account) (c index at : ℕ) (l : Lease) (r : RequestId × Tag) → r ≡ (request_of c l, l.segment) → before ≡ old → IsFound old c index
+pub ended_at : (before old : BookState) (accounts : List Account) (c index at : ℕ) (l : Lease) (r : RequestId × Tag) → r ≡ (granted_request c l, l.segment) → before ≡ old → IsFound old c index
     → IsFirst (is_lease l.incarnation l.segment.arena l.segment.holding.range.base) (account_in c old).leases at
     → slice_get (account_in c old).leases at ≡ Some l → accounts ≡ changed_at before.accounts index (with_leases (λ ls. remove ls at)) → HasHistory before
     → HasHistory (record { mark = before.mark; accounts = accounts }) × IsEnded old (record { mark = before.mark; accounts = accounts }) r.0 r.1
@@ -397,7 +398,7 @@ found_client book index k within own at =
     subst (λ (c : ℕ). IsFound book c index) is there.1
 
 -- any lease that stands first was ended
-pub taken_at : (before old : BookState) (mid accounts : List Account) (index k : ℕ) (l : Lease) (r : RequestId × Tag) → r ≡ (request_of k l, l.segment) → before ≡ old → mid ≡ before.accounts
+pub taken_at : (before old : BookState) (mid accounts : List Account) (index k : ℕ) (l : Lease) (r : RequestId × Tag) → r ≡ (granted_request k l, l.segment) → before ≡ old → mid ≡ before.accounts
     → index < length before.accounts → IfSome (slice_get before.accounts index) (λ a. find (λ b. nat_eq a.client b.client) before.accounts ≡ Some a)
     → option_map (λ (a : Account). a.client) (slice_get mid index) ≡ Some k → IfSome (slice_get mid index) (λ a. slice_get a.leases 0 ≡ Some l)
     → accounts ≡ changed_at mid index (with_leases (λ ls. remove ls 0)) → HasHistory before

@@ -1,5 +1,4 @@
 use Rattle.std.proofs.Common.{◌≡◌, ◌∙◌, ap, sym, subst, List, ◌++◌, ℕ}
-use Rattle.lease_proto.specs.Faults.{error_line}
 use Rattle.lease_desk.specs.DeskState.{IsOrderly}
 use Rattle.lease_desk.specs.Machine.{ServedStep, LeaseStep}
 use Rattle.lease_desk.proofs.StepLemmas.{appended, left_alone, on_ok, on_err, served_step, refused_step}

@@ -1,10 +1,5 @@
-use Rattle.std.proofs.Common.{◌≡◌, ◌∙◌, refl, subst, List, ◌++◌, ℕ}
-use Rattle.lease_proto.specs.Frames.{ended}
-use Rattle.lease_proto.specs.Replies.{reply_text}
+use Rattle.std.proofs.Common.{subst}
 use Rattle.lease_desk.specs.DeskState.{IsOrderly}
-use Rattle.lease_desk.specs.Machine.{ServedStep}
-use Rattle.lease_desk.specs.Operators.{asked_text, Tells}
-use Rattle.lease_desk.proofs.StepLemmas.{on_ok, never_err}
 use Rattle.lease_desk.proofs.OrderLemmas.{orderly}
 use Rattle.lease_desk.proofs.desks.Desk.serve.Goals as goal
 

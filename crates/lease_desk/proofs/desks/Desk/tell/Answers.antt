@@ -1,7 +1,5 @@
 use Rattle.std.proofs.Common.{◌≡◌, ◌∙◌, ap, refl, inl, inr, ◌++◌, take, length, arith}
-use Rattle.std.specs.Prelude.{codes, is_ok, if◌then◌else◌}
-use Rattle.lease_proto.specs.declared.faults.ErrorWord.TheVariants.{Memory}
-use Rattle.lease_proto.specs.Faults.{error_text}
+use Rattle.std.specs.Prelude.{is_ok, if◌then◌else◌}
 use Rattle.lease_desk.specs.Operators.{asked_text, Tells}
 use Rattle.lease_desk.proofs.StepLemmas.{appended, left_alone}
 use Rattle.lease_desk.proofs.desks.Desk.tell.Goals as goal
