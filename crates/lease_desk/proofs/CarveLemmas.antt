@@ -1,12 +1,12 @@
 -- What a carve comes to.
-use Rattle.std.proofs.Common.{◌≡◌, ℕ, ◌+◌, ◌<◌, sym, subst, ap, ◌∙◌, inl, inr, List, set, Option, Some, None, Result, Ok, Err, IfOk, IfErr, OnOk, OnErr, arith}
-use Rattle.std.specs.Prelude.{slice_get, MatchOption}
+use Rattle.std.proofs.Common.{◌≡◌, ℕ, ◌+◌, ◌<◌, sym, subst, ap, ◌∙◌, List, set, Some, Result, Ok, Err, IfOk, IfErr, arith}
+use Rattle.std.specs.Prelude.{slice_get}
 use Rattle.deed_core.specs.Extent.{Covers}
 use Rattle.deed_core.specs.Holding.{Holding}
 use Rattle.deed_core.specs.Tag.{Tag}
 use Rattle.deed_core.specs.Covering.{covers, covering_held}
 use Rattle.deed_core.specs.Weights.{Gains}
-use Rattle.deed_core.specs.Request.{Fits, IsGood}
+use Rattle.deed_core.specs.Request.{Fits}
 use Rattle.deed_core.specs.declared.requests.Request.{Request}
 use Rattle.deed_core.proofs.LawProofs.{counts_the_unit}
 use Rattle.tag_arena.specs.declared.faults.ArenaFault.{ArenaFault}
