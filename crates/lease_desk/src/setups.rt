@@ -86,16 +86,15 @@ fn new_space(
     let mut arena = Arena::new(alloc, id, root.quantum, root.policy);
     match arena.add_span(PlainDeed::new(number, range)) {
         Ok(()) => {}
-        Err(
-            SpanFault::Overlaps(span) | SpanFault::NotAligned(span) | SpanFault::NoMemory(span),
-        ) => {
-            let _ = span.close();
-            match arena.close() {
-                Ok(()) => {}
-                Err(_) => unreachable!(),
+        Err(SpanFault::Overlaps(span) | SpanFault::NotAligned(span) | SpanFault::NoMemory(span)) =>
+            {
+                let _ = span.close();
+                match arena.close() {
+                    Ok(()) => {}
+                    Err(_) => unreachable!(),
+                }
+                return Err(SetupFault::NoMemory);
             }
-            return Err(SetupFault::NoMemory);
-        }
     }
     Ok(Space {
         name: root.name,

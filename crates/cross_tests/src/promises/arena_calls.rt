@@ -14,9 +14,7 @@ ghost use Rattle.tag_arena.specs.Outcomes.{KeepsSetup, AddSpanOf, CarveOf, Impor
 
 use deed_core::{Deed, PlainDeed, Range, Request, Route, Segment};
 use std::process::Abort;
-use tag_arena::{
-    Arena, ArenaFault, Policy, SpanFault, allocated_laws, arena_laws, serving_laws,
-};
+use tag_arena::{Arena, ArenaFault, Policy, SpanFault, allocated_laws, arena_laws, serving_laws};
 
 /// What is known of any arena, as one taken from behind a lock.
 fn known<D: Deed>(arena: &Arena<D>)
