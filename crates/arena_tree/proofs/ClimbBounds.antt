@@ -1,6 +1,5 @@
 -- How many locks the lists of steps of climbs take.
-use Rattle.std.proofs.Common.{◌≡◌, ℕ, ◌+◌, ◌≤◌, List, [], ◌∷◌, Option, Some, None, Result, Ok, Err, length, arith, refl, subst}
-use Rattle.deed_core.specs.Request.{plain_of}
+use Rattle.std.proofs.Common.{ℕ, ◌+◌, ◌≤◌, List, [], ◌∷◌, Option, Some, None, Result, Ok, Err, length, arith, subst}
 use Rattle.deed_core.specs.Tag.{Tag}
 use Rattle.arena_tree.specs.declared.levels.Level.{Level}
 use Rattle.arena_tree.specs.declared.part_faults.CarveFault.{CarveFault}
@@ -12,11 +11,9 @@ use Rattle.arena_tree.specs.declared.part_faults.AddCarveFault.TheVariants as ad
 use Rattle.arena_tree.specs.declared.part_faults.ClimbFault.{ClimbFault}
 use Rattle.arena_tree.specs.declared.part_faults.ClimbFault.TheVariants as climbing
 use Rattle.arena_tree.specs.declared.part_faults.ReturnFault.TheVariants as returning
-use Rattle.arena_tree.specs.Chains.{Node, amount_of, IsGrant}
-use Rattle.arena_tree.specs.Plans.{Plan, Done, Ask, then, Within, Handles, Gives}
-use Rattle.arena_tree.specs.Events.{Free, AddCarve, hand_of, hand_may, freed_back, added_back}
-use Rattle.arena_tree.specs.Sound.{Sound, SoundCarve}
-use Rattle.arena_tree.specs.Climbs.{Returned, Climbed, return_plan, after_free, refused_memory, after_add, after_import, after_carve, climb_plan, climb_left, return_left, climb_most, IsGrantOf}
+use Rattle.arena_tree.specs.Chains.{amount_of}
+use Rattle.arena_tree.specs.Plans.{Done, then, Within}
+use Rattle.arena_tree.specs.Climbs.{Returned, Climbed, return_plan, after_free, refused_memory, after_add, after_import, after_carve, climb_plan, climb_most}
 use Rattle.arena_tree.specs.Laws.{ClimbIsShort, ReturnIsShort}
 use Rattle.arena_tree.proofs.Paths.{within_then}
 

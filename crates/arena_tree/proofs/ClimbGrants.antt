@@ -1,5 +1,5 @@
 -- What the lists of steps of climbs give.
-use Rattle.std.proofs.Common.{◌≡◌, ℕ, ◌+◌, ◌≤◌, List, [], ◌∷◌, Option, Some, None, Result, Ok, Err, length, arith, refl, subst}
+use Rattle.std.proofs.Common.{ℕ, List, [], ◌∷◌, Option, Some, None, Result, Ok, Err}
 use Rattle.std.specs.Prelude.{IfOk}
 use Rattle.deed_core.specs.Request.{plain_of}
 use Rattle.deed_core.specs.Tag.{Tag}
@@ -10,14 +10,12 @@ use Rattle.arena_tree.specs.declared.part_faults.FreeFault.{FreeFault}
 use Rattle.arena_tree.specs.declared.part_faults.FreeFault.TheVariants as freeing
 use Rattle.arena_tree.specs.declared.part_faults.AddCarveFault.{AddCarveFault}
 use Rattle.arena_tree.specs.declared.part_faults.AddCarveFault.TheVariants as adding
-use Rattle.arena_tree.specs.declared.part_faults.ClimbFault.{ClimbFault}
-use Rattle.arena_tree.specs.declared.part_faults.ClimbFault.TheVariants as climbing
 use Rattle.arena_tree.specs.declared.part_faults.ReturnFault.TheVariants as returning
 use Rattle.arena_tree.specs.Chains.{Node, amount_of, IsGrant}
-use Rattle.arena_tree.specs.Plans.{Plan, Done, Ask, then, Within, Handles, Gives}
-use Rattle.arena_tree.specs.Events.{Free, AddCarve, hand_of, hand_may, freed_back, added_back}
+use Rattle.arena_tree.specs.Plans.{Plan, Done, Ask, then, Gives}
+use Rattle.arena_tree.specs.Events.{Free, AddCarve}
 use Rattle.arena_tree.specs.Sound.{Sound, SoundCarve}
-use Rattle.arena_tree.specs.Climbs.{Returned, Climbed, return_plan, after_free, refused_memory, after_add, after_import, after_carve, climb_plan, climb_left, return_left, climb_most, IsGrantOf}
+use Rattle.arena_tree.specs.Climbs.{Returned, Climbed, return_plan, after_free, refused_memory, after_add, after_import, after_carve, climb_plan, IsGrantOf}
 use Rattle.arena_tree.proofs.Paths.{gives_then}
 
 -- what a hand back ends with, whatever that is

@@ -1,5 +1,5 @@
 -- What the lists of steps of climbs leave in the hand.
-use Rattle.std.proofs.Common.{◌≡◌, ℕ, ◌+◌, ◌≤◌, List, [], ◌∷◌, Option, Some, None, Result, Ok, Err, length, arith, refl, subst}
+use Rattle.std.proofs.Common.{◌≡◌, ℕ, List, [], ◌∷◌, Option, Some, None, Result, Ok, Err, refl}
 use Rattle.deed_core.specs.Tag.{Tag}
 use Rattle.arena_tree.specs.declared.levels.Level.{Level}
 use Rattle.arena_tree.specs.declared.part_faults.CarveFault.{CarveFault}
@@ -8,14 +8,11 @@ use Rattle.arena_tree.specs.declared.part_faults.FreeFault.{FreeFault}
 use Rattle.arena_tree.specs.declared.part_faults.FreeFault.TheVariants as freeing
 use Rattle.arena_tree.specs.declared.part_faults.AddCarveFault.{AddCarveFault}
 use Rattle.arena_tree.specs.declared.part_faults.AddCarveFault.TheVariants as adding
-use Rattle.arena_tree.specs.declared.part_faults.ClimbFault.{ClimbFault}
-use Rattle.arena_tree.specs.declared.part_faults.ClimbFault.TheVariants as climbing
 use Rattle.arena_tree.specs.declared.part_faults.ReturnFault.TheVariants as returning
-use Rattle.arena_tree.specs.Chains.{Node, amount_of, IsGrant}
-use Rattle.arena_tree.specs.Plans.{Plan, Done, Ask, then, Within, Handles, Gives}
-use Rattle.arena_tree.specs.Events.{Free, AddCarve, hand_of, hand_may, freed_back, added_back}
-use Rattle.arena_tree.specs.Sound.{Sound, SoundCarve}
-use Rattle.arena_tree.specs.Climbs.{Returned, Climbed, return_plan, after_free, refused_memory, after_add, after_import, after_carve, climb_plan, climb_left, return_left, climb_most, IsGrantOf}
+use Rattle.arena_tree.specs.Chains.{amount_of}
+use Rattle.arena_tree.specs.Plans.{Plan, Done, then, Handles}
+use Rattle.arena_tree.specs.Events.{hand_of, hand_may, freed_back, added_back}
+use Rattle.arena_tree.specs.Climbs.{Returned, Climbed, return_plan, after_free, refused_memory, after_add, after_import, after_carve, climb_plan, climb_left, return_left}
 use Rattle.arena_tree.proofs.Paths.{handles_then}
 
 -- a hand back leaves what it ends with

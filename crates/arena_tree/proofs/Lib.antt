@@ -4,5 +4,6 @@ mod ClimbBounds
 mod ClimbGrants
 mod ClimbHands
 mod Paths
+mod SetupLemmas
 mod Slabs
 mod TreeLemmas

@@ -1,5 +1,5 @@
 -- Slab sizes.
-use Rattle.std.proofs.Common.{◌≡◌, ◌≢◌, ℕ, ◌+◌, ◌*◌, ◌/◌, ◌%◌, ◌^◌, ◌<◌, ◌≤◌, refl, inl, inr, arith}
+use Rattle.std.proofs.Common.{◌≡◌, ◌≢◌, ℕ, ◌+◌, ◌*◌, ◌%◌, ◌^◌, ◌≤◌, refl, inl, inr, arith}
 use Rattle.std.specs.Int.{IsNextPowerOfTwo}
 use Rattle.std.proofs.Math.Nat.{mod_self}
 use Rattle.std.proofs.lemmas.Bool.{cases_lt}

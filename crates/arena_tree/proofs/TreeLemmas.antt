@@ -1,5 +1,5 @@
 -- The chains of a tree, and one arena more.
-use Rattle.std.proofs.Common.{◌≡◌, ℕ, zero, suc, ◌+◌, ◌<◌, ◌≤◌, List, [], ◌∷◌, ◌++◌, map, length, Option, Some, None, refl, sym, ap, subst, ◌∙◌, inl, inr, arith, length-append}
+use Rattle.std.proofs.Common.{◌≡◌, ℕ, zero, suc, ◌<◌, ◌≤◌, List, [], ◌∷◌, ◌++◌, length, Option, Some, None, refl, sym, ap, subst, ◌∙◌, inl, inr, arith, length-append}
 use Rattle.std.specs.Prelude.{slice_get, IfSome}
 use Rattle.std.specs.Global.{Vec}
 use Rattle.std.proofs.lemmas.List.{length-map}
@@ -7,7 +7,7 @@ use Rattle.std.proofs.lemmas.Option.{slice_get_within}
 use Rattle.deed_core.proofs.LawProofs.{pushed, slice_get_one, power_some}
 use Rattle.arena_tree.specs.declared.levels.Level.{Level}
 use Rattle.arena_tree.specs.declared.trees.TreeArena.{TreeArena}
-use Rattle.arena_tree.specs.Chains.{Node, IsChain, source_of, quantum_of, first_id}
+use Rattle.arena_tree.specs.Chains.{IsChain, source_of, quantum_of, first_id}
 use Rattle.arena_tree.specs.Trees.{ChainFrom, IsArena, IsTree, ImportsFrom, level_of, node_of, nodes_of}
 use Rattle.arena_tree.specs.Stored.{AreChains, IsNewChain}
 
@@ -48,12 +48,12 @@ chain_one arenas (Some id) (l ∷ a) (m ∷ b) p q =
     cc
 
 -- what stands in a list stands there with one more behind
-slice_get_more : {X : Type 0} (xs : List X) (y : X) (k : ℕ) (x : X) → slice_get xs k ≡ Some x → slice_get (xs ++ y ∷ []) k ≡ Some x
+pub slice_get_more : {X : Type 0} (xs : List X) (y : X) (k : ℕ) (x : X) → slice_get xs k ≡ Some x → slice_get (xs ++ y ∷ []) k ≡ Some x
 slice_get_more [] y k x at = absurd (let e : None ≡ Some x = at in cc)
 slice_get_more (z ∷ xs) y zero x at = at
 slice_get_more (z ∷ xs) y (suc k) x at = slice_get_more xs y k x at
 
-slice_get_last : {X : Type 0} (xs : List X) (y : X) → slice_get (xs ++ y ∷ []) (length xs) ≡ Some y
+pub slice_get_last : {X : Type 0} (xs : List X) (y : X) → slice_get (xs ++ y ∷ []) (length xs) ≡ Some y
 slice_get_last [] y = refl
 slice_get_last (x ∷ xs) y = slice_get_last xs y
 

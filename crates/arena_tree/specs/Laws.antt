@@ -1,6 +1,6 @@
 -- Laws of the lists of steps of climbs, over all chains: what they leave in the hand, how many locks
 -- they take, and what they give.
-use Rattle.std.specs.Prelude.{ℕ, ◌+◌, ◌≤◌, List, Some, None, length, IfOk}
+use Rattle.std.specs.Prelude.{ℕ, List, Some, None, length, IfOk}
 use Rattle.deed_core.specs.Tag.{Tag}
 use Rattle.arena_tree.specs.Chains.{Node}
 use Rattle.arena_tree.specs.Plans.{Within, Handles, Gives}

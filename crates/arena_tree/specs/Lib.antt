@@ -3,6 +3,7 @@ pub mod Climbs
 pub mod Events
 pub mod Laws
 pub mod Plans
+pub mod Settings
 pub mod Setups
 pub mod Sound
 pub mod Stored

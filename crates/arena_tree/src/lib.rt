@@ -10,6 +10,7 @@ mod part_faults;
 mod parts;
 mod settings;
 mod setup_faults;
+mod setups;
 mod sizes;
 mod trees;
 
@@ -24,4 +25,5 @@ pub use part_faults::{
 pub use parts::Parts;
 pub use settings::{NewChild, NewRoot, NewSpan, Setting};
 pub use setup_faults::SetupFault;
+pub use setups::{OwnedSpan, Setup};
 pub use trees::{Tree, TreeArena};

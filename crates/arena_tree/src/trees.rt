@@ -4,14 +4,14 @@ ghost use Rattle.std.specs.Str.{bytes_eq};
 ghost use Rattle.arena_tree.specs.Chains.{IsChain};
 ghost use Rattle.arena_tree.specs.Trees.{place_in, level_of, nodes_of, ChainFrom, IsArena, IsTree, HasCaches};
 ghost use Rattle.arena_tree.specs.Stored.{IsNewChain};
-ghost use Rattle.arena_tree.specs.Setups.{root_arena, child_arena, CanRoot, CanChild, RefusesRoot, RefusesChild, IsSource, AddsRoot, AddsChild};
+ghost use Rattle.arena_tree.specs.Setups.{extent_of, CanRoot, CanChild, RefusesRoot, RefusesChild, IsSource, AddsRoot, AddsChild};
 
 use crate::levels::Level;
 use crate::limits::{LONGEST_CHAIN, MOST_ARENAS};
 use crate::settings::{NewChild, NewRoot};
 use crate::setup_faults::SetupFault;
 use crate::sizes::{slab_size, whole_range};
-use deed_core::is_power_of_two;
+use deed_core::{Range, is_power_of_two};
 use lease_terms::Name;
 use std::alloc::{AllocError, Global};
 use std::marker::Model;
@@ -112,7 +112,7 @@ impl Tree {
         ensures refused { IfErr result (RefusesRoot self.old root.now) }
         ensures same { OnErr result (self.new ≡ self.old) }
     {
-        let slab_size = self.judge_root(root)?;
+        let (slab_size, _) = self.judge_root(root)?;
         let arena = TreeArena {
             name: root.name,
             source: None,
@@ -150,10 +150,11 @@ impl Tree {
         Ok(())
     }
 
-    /// Why a root isn't added, memory aside; else the size of its slabs.
-    pub(crate) fn judge_root(&self, root: &NewRoot) -> Result<u64, SetupFault>
+    /// Why a root isn't added, memory aside; else the size of its slabs, and its range.
+    pub(crate) fn judge_root(&self, root: &NewRoot) -> Result<(u64, Range), SetupFault>
         ensures can { OnOk result (CanRoot self.now root.now) }
-        ensures slabs { IfOk result (HasCaches root.now.quantum root.now.qcache_max) }
+        ensures slabs { IfOk result (λ r. HasCaches root.now.quantum root.now.qcache_max r.0) }
+        ensures range { IfOk result (λ r. r.1 ≡ extent_of root.now) }
         ensures refused { IfErr result (RefusesRoot self.now root.now) }
     {
         if self.find(&root.name).is_some() {
@@ -168,10 +169,10 @@ impl Tree {
         let Some(size) = slab_size(root.quantum, root.qcache_max) else {
             return Err(SetupFault::BadCache);
         };
-        if whole_range(root.base, root.len, root.quantum).is_none() {
+        let Some(range) = whole_range(root.base, root.len, root.quantum) else {
             return Err(SetupFault::BadRange);
-        }
-        Ok(size)
+        };
+        Ok((size, range))
     }
 
     /// Why a child isn't added, memory aside; else the number of its source and the size of its

@@ -1,10 +1,10 @@
-use Rattle.std.proofs.Common.{◌≡◌, ◌<◌, ◌≤◌, ◌∙◌, List, length, Some, subst, sym, ap}
+use Rattle.std.proofs.Common.{◌≡◌, ◌<◌, ◌≤◌, List, length, Some, subst, sym}
 use Rattle.std.specs.Prelude.{slice_get}
 use Rattle.deed_core.proofs.LawProofs.{slice_get_here}
 use Rattle.arena_tree.specs.declared.levels.Level.{Level}
 use Rattle.arena_tree.specs.declared.trees.TreeArena.{TreeArena}
 use Rattle.arena_tree.specs.Chains.{IsChain}
-use Rattle.arena_tree.specs.Trees.{ChainFrom, nodes_of}
+use Rattle.arena_tree.specs.Trees.{nodes_of}
 use Rattle.arena_tree.proofs.TreeLemmas.{chain_steps}
 use Rattle.arena_tree.proofs.trees.Tree.chain.Goals as goal
 
