@@ -1,16 +1,16 @@
 -- What a carve comes to.
-use Rattle.std.proofs.Common.{◌≡◌, ℕ, ◌+◌, ◌<◌, sym, subst, ap, ◌∙◌, inl, inr, List, set, Option, Some, None, Result, Ok, Err, IfOk, IfErr, OnOk, OnErr, arith}
-use Rattle.std.specs.Prelude.{slice_get, MatchOption}
+use Rattle.std.proofs.Common.{◌≡◌, ℕ, ◌+◌, ◌<◌, sym, subst, ap, ◌∙◌, List, set, Some, Result, Ok, Err, IfOk, IfErr, arith}
+use Rattle.std.specs.Prelude.{slice_get}
 use Rattle.deed_core.specs.Extent.{Covers}
 use Rattle.deed_core.specs.Holding.{Holding}
 use Rattle.deed_core.specs.Tag.{Tag}
 use Rattle.deed_core.specs.Covering.{covers, covering_held}
 use Rattle.deed_core.specs.Weights.{Gains}
-use Rattle.deed_core.specs.Request.{Fits, IsGood}
+use Rattle.deed_core.specs.Request.{Fits}
 use Rattle.deed_core.specs.declared.requests.Request.{Request}
 use Rattle.deed_core.proofs.LawProofs.{counts_the_unit}
 use Rattle.tag_arena.specs.declared.faults.ArenaFault.{ArenaFault}
-use Rattle.tag_arena.specs.declared.faults.ArenaFault.TheVariants.{BadRequest, NoFit, Overlaps, NotAligned, NoMemory}
+use Rattle.tag_arena.specs.declared.faults.ArenaFault.TheVariants.{BadRequest, NoFit, NoMemory}
 use Rattle.tag_arena.specs.Place.{Serves}
 use Rattle.tag_arena.specs.ArenaState.{ArenaState, tags_of}
 use Rattle.tag_arena.specs.Calls.{Carves}
@@ -79,6 +79,4 @@ module _ (spaces : List Space) (place : ℕ) (s : Space) (new : ArenaState) (q :
   carve_refused (Ok t) refused = tt
   carve_refused (Err BadRequest) refused = (state_of s, record { here = slice_get_mapped state_of spaces place s here; why = refused.0 })
   carve_refused (Err NoFit) refused = (state_of s, record { here = slice_get_mapped state_of spaces place s here; why = (refused.0.0, λ has. none_serves s.arena.policy s.arena.quantum q s.arena.free s.arena.rover refused.0.1 has.0 has.1) })
-  carve_refused (Err Overlaps) refused = absurd refused.0
-  carve_refused (Err NotAligned) refused = absurd refused.0
   carve_refused (Err NoMemory) refused = (state_of s, record { here = slice_get_mapped state_of spaces place s here; why = (refused.0.0, (refused.0.1.0, (s.arena.rover, refused.0.1.1))) })

@@ -7,7 +7,7 @@ use Rattle.deed_core.specs.Request.{Fits, IsGood}
 use Rattle.deed_core.specs.declared.requests.Request.{Request}
 use Rattle.deed_core.specs.declared.segments.Route.TheVariants.{Direct}
 use Rattle.tag_arena.specs.declared.faults.ArenaFault.{ArenaFault}
-use Rattle.tag_arena.specs.declared.faults.ArenaFault.TheVariants.{BadRequest, NoFit, Overlaps, NotAligned, NoMemory}
+use Rattle.tag_arena.specs.declared.faults.ArenaFault.TheVariants.{BadRequest, NoFit, NoMemory}
 use Rattle.lease_desk.specs.DeskState.{NamedArenaState}
 use Rattle.lease_desk.specs.Moves.{GivesBack}
 use Rattle.lease_desk.specs.Machine.{Chooses, HasPlace}
@@ -29,8 +29,6 @@ pub record IsCarved (old new : List NamedArenaState) (place : ℕ) (x : NamedAre
 abbrev pub IsRefused : NamedArenaState → Request → ArenaFault → Type 0
 IsRefused x q BadRequest = ¬ IsGood x.quantum q
 IsRefused x q NoFit = IsGood x.quantum q × (¬ HasPlace x q)
-IsRefused x q Overlaps = ⊥
-IsRefused x q NotAligned = ⊥
 IsRefused x q NoMemory = IsGood x.quantum q × ((base : ℕ) × Chooses x q base)
 
 -- none was carved from the arena at the place

@@ -11,7 +11,7 @@ use deed_core::{PlainDeed, Range, is_power_of_two};
 use lease_proto::{MOST_ARENAS, MOST_SPANS};
 use lease_terms::Name;
 use std::alloc::Global;
-use tag_arena::{Arena, ArenaFault, Policy, SpanRefused};
+use tag_arena::{Arena, Policy, SpanFault};
 
 /// The arena that a setup line asks for: its name, its one span, and how it carves. Units and numbers
 /// of units.
@@ -86,14 +86,15 @@ fn new_space(
     let mut arena = Arena::new(alloc, id, root.quantum, root.policy);
     match arena.add_span(PlainDeed::new(number, range)) {
         Ok(()) => {}
-        Err(SpanRefused { span, fault: _ }) => {
-            let _ = span.close();
-            match arena.close() {
-                Ok(()) => {}
-                Err(_) => unreachable!(),
+        Err(SpanFault::Overlaps(span) | SpanFault::NotAligned(span) | SpanFault::NoMemory(span)) =>
+            {
+                let _ = span.close();
+                match arena.close() {
+                    Ok(()) => {}
+                    Err(_) => unreachable!(),
+                }
+                return Err(SetupFault::NoMemory);
             }
-            return Err(SetupFault::NoMemory);
-        }
     }
     Ok(Space {
         name: root.name,
@@ -174,10 +175,10 @@ fn extend(space: &mut Space, place: u32, base: u64, len: u64) -> Result<(), Setu
         space.spans += 1;
         return Ok(());
     };
-    let SpanRefused { span, fault } = refused;
+    let (span, fault) = match refused {
+        SpanFault::Overlaps(span) | SpanFault::NotAligned(span) => (span, SetupFault::BadRange),
+        SpanFault::NoMemory(span) => (span, SetupFault::NoMemory),
+    };
     let _ = span.close();
-    if fault == ArenaFault::NoMemory {
-        return Err(SetupFault::NoMemory);
-    }
-    Err(SetupFault::BadRange)
+    Err(fault)
 }
