@@ -4,6 +4,7 @@ mod ClimbBounds
 mod ClimbGrants
 mod ClimbHands
 mod Paths
+mod Same
 mod SetupLemmas
 mod Slabs
 mod TreeLemmas

@@ -36,8 +36,8 @@ IsChain nodes (l ∷ up) = (l.id < length nodes) × (0 < l.quantum)
     × IsChain nodes up
 
 -- what an arena asks of its source for n units: the greater of n in whole quanta and its import
--- minimum, in whole quanta of the source; but no more than the greatest number of 64 bits, for which
--- no arena has room. The source is the first of those above it; without one it asks for nothing
+-- minimum, in whole quanta of the source; but no more than the greatest number of 64 bits, for
+-- which no arena has room. The source is the first of those above it; without one it asks for none
 abbrev pub amount_of : Level → List Level → ℕ → ℕ
 amount_of l [] n = 0
 amount_of l (source ∷ up) n =

@@ -1,5 +1,5 @@
--- Laws of the lists of steps of climbs, over all chains: what they leave in the hand, how many locks
--- they take, and what they give.
+-- Laws of the lists of steps of climbs, over all chains: what they leave in the hand, how many
+-- locks they take, and what they give.
 use Rattle.std.specs.Prelude.{ℕ, List, Some, None, length, IfOk}
 use Rattle.deed_core.specs.Tag.{Tag}
 use Rattle.arena_tree.specs.Chains.{Node}
@@ -8,8 +8,8 @@ use Rattle.arena_tree.specs.Climbs.{Climbed, Returned, climb_plan, return_plan, 
 use Rattle.arena_tree.specs.declared.levels.Level.{Level}
 
 -- A climb begins with an empty hand. It ends with a segment that it gives, with an empty hand, or
--- with the one segment that a part refused or that wasn't placed any more: all else that it carved it
--- has freed or handed on.
+-- with the one segment that a part refused or that wasn't placed any more: all else that it carved
+-- it has freed or handed on.
 abbrev pub ClimbHandles : Type 0
 ClimbHandles = (chain : List Level) (n : ℕ) → Handles climb_left (climb_plan chain n) None
 
@@ -21,7 +21,8 @@ ReturnHandles = (chain : List Level) (t : Tag) → Handles return_left (return_p
 -- In a chain of d arenas a climb takes at most 2 d - 1 locks where it gives a segment, d where
 -- nothing fits, and else 3 d - 2.
 abbrev pub ClimbIsShort : Type 0
-ClimbIsShort = (chain : List Level) (n : ℕ) → Within (climb_most (length chain)) (climb_plan chain n) 0
+ClimbIsShort = (chain : List Level) (n : ℕ)
+    → Within (climb_most (length chain)) (climb_plan chain n) 0
 
 -- A hand back takes at most d locks.
 abbrev pub ReturnIsShort : Type 0

@@ -29,8 +29,8 @@ pub fn climb_alloc<S: Held, P: Parts<S>>(
     climb(parts, chain, size)
 }
 
-/// Frees a segment, and each span that becomes whole in its source, in at most as many arenas as the
-/// chain has. The chain is that of the segment's arena.
+/// Frees a segment, and each span that becomes whole in its source, in at most as many arenas as
+/// the chain has. The chain is that of the segment's arena.
 pub fn climb_free<S: Held, P: Parts<S>>(
     parts: &mut P,
     chain: &[Level],
@@ -92,7 +92,8 @@ fn descend<S: Held, P: Parts<S>>(
     requires direct { (S.tag span).route ≡ Route.Direct }
     ensures ran { Ran P.step P.tree P.count P.rounds (descent_plan up.now child size (S.tag span))
         parts.old parts.new (tag_climb S.tag result) }
-    ensures granted { IfOk result (λ s. IsGrant (P.tree parts.old) child (plain_of size) (S.tag s)) }
+    ensures granted { IfOk result (λ s.
+        IsGrant (P.tree parts.old) child (plain_of size) (S.tag s)) }
     ensures tree { P.tree parts.new ≡ P.tree parts.old }
 {
     match parts.add_carve(child, span, size) {

@@ -2,7 +2,8 @@
 //! contracts are the laws, and proofs/LawProofs.antt hands them on.
 ghost use Rattle.arena_tree.specs.Laws.{ClimbHandles, ReturnHandles, ClimbIsShort, ReturnIsShort, ClimbGives};
 
-/// What a climb and a hand back leave in the hand, how many locks they take, and what a climb gives.
+/// What a climb and a hand back leave in the hand, how many locks they take, and what a climb
+/// gives.
 pub fn climb_laws()
     ensures climb { ClimbHandles }
     ensures back { ReturnHandles }

@@ -12,10 +12,10 @@ use crate::part_faults::{
 };
 use deed_core::{Held, Request, Route};
 
-/// What one CPU can reach, over segments that are known by their tags. Each call is one event. Those
-/// of the first group happen in one part that is shared, under its lock, if it has one; where the
-/// CPU is to stop they answer Stopped, and nothing is done. Those of the second are the CPU's own.
-/// Arenas go by their numbers, and caches by theirs: the cache `k` is for `k` quanta.
+/// What one CPU can reach, over segments that are known by their tags. Each call is one event. All
+/// but the last three happen in one part that is shared, under its lock, if it has one; where the
+/// CPU is to stop they answer Stopped, and nothing is done. `pop`, `push` and `change` are the CPU's
+/// own. Arenas go by their numbers, and caches by theirs: the cache `k` is for `k` quanta.
 pub trait Parts<S: Held> {
     // what is known of an event: the parts before it, the event, its answer, the parts after it
     ghost step: { Self → (e : Event) → Answer e → Self → Type 0 };
@@ -23,13 +23,14 @@ pub trait Parts<S: Held> {
     // the arenas by number
     ghost tree: { Self → List Node };
 
-    // how many events of the first group there were at most
+    // how many events of shared parts there were
     ghost count: { Self → ℕ };
 
     // how many rounds the CPU's magazines have
     ghost rounds: { Self → ℕ };
 
-    /// How many events of the first group there were.
+    /// How many events of shared parts there were; those that were stopped needn't count. It stays
+    /// at the greatest number.
     fn steps(&self) -> u64
         ensures { result ≡ count self.now };
 

@@ -75,8 +75,8 @@ impl Setup {
         tree
     }
 
-    /// Adds what is asked for, or says why not and stays as it was. A span costs a look at all spans
-    /// that are there, an arena one at all names.
+    /// Adds what is asked for, or says why not and stays as it was. A span costs a look at all
+    /// spans that are there, an arena one at all names.
     pub fn add(&mut self, setting: &Setting) -> Result<(), SetupFault>
         ensures taken { OnOk result (Takes self.old setting.now self.new) }
         ensures refused { IfErr result (Refuses self.old setting.now) }

@@ -9,7 +9,8 @@ use deed_core::{LIMIT, Range};
 /// The greatest size that can have a cache: three times this and one more is at most 2^62.
 const MOST_CACHED: u64 = (LIMIT - 1) / 3;
 
-/// The size of the slabs of an arena that caches sizes up to this one, where it may; 0 for no caches.
+/// The size of the slabs of an arena that caches sizes up to this one, where it may; 0 for no
+/// caches.
 pub(crate) fn slab_size(quantum: u64, qcache_max: u64) -> Option<u64>
     requires { 0 < quantum }
     ensures size { IfSome result (HasCaches quantum qcache_max) }
