@@ -32,3 +32,5 @@ mod serving;
 mod slabs;
 #[cfg(test)]
 mod tables;
+#[cfg(test)]
+mod tree;

@@ -1,0 +1,66 @@
+-- What the lists of steps of climbs give.
+use Rattle.std.proofs.Common.{ℕ, List, [], ◌∷◌, Option, Some, None, Result, Ok, Err}
+use Rattle.std.specs.Prelude.{IfOk}
+use Rattle.deed_core.specs.Request.{plain_of}
+use Rattle.deed_core.specs.Tag.{Tag}
+use Rattle.arena_tree.specs.declared.levels.Level.{Level}
+use Rattle.arena_tree.specs.declared.part_faults.CarveFault.{CarveFault}
+use Rattle.arena_tree.specs.declared.part_faults.CarveFault.TheVariants as carving
+use Rattle.arena_tree.specs.declared.part_faults.FreeFault.{FreeFault}
+use Rattle.arena_tree.specs.declared.part_faults.FreeFault.TheVariants as freeing
+use Rattle.arena_tree.specs.declared.part_faults.AddCarveFault.{AddCarveFault}
+use Rattle.arena_tree.specs.declared.part_faults.AddCarveFault.TheVariants as adding
+use Rattle.arena_tree.specs.declared.part_faults.ReturnFault.TheVariants as returning
+use Rattle.arena_tree.specs.Chains.{Node, amount_of, IsGrant}
+use Rattle.arena_tree.specs.Plans.{Plan, Done, Ask, then, Gives}
+use Rattle.arena_tree.specs.Events.{Free, AddCarve}
+use Rattle.arena_tree.specs.Sound.{Sound, SoundCarve}
+use Rattle.arena_tree.specs.Climbs.{Returned, Climbed, return_plan, after_free, refused_memory, after_add, after_import, after_carve, climb_plan, IsGrantOf}
+use Rattle.arena_tree.proofs.Paths.{gives_then}
+
+-- what a hand back ends with, whatever that is
+pub gives_return : (nodes : List Node) (chain : List Level) (t : Tag) → Gives nodes (λ (r : Returned). Unit {0}) (return_plan chain t)
+gives_return nodes [] t = tt
+gives_return nodes (l ∷ up) t = freed (gives_return nodes up)
+  where
+    freed : ((w : Tag) → Gives nodes (λ (r : Returned). Unit {0}) (return_plan up w)) → (x : Result (Option Tag) (FreeFault Tag)) → Sound nodes (Free t) x → Gives nodes (λ (r : Returned). Unit {0}) (after_free (return_plan up) x)
+    freed again (Ok None) s = tt
+    freed again (Ok (Some w)) s = again w
+    freed again (Err (freeing.BadFree x)) s = tt
+    freed again (Err (freeing.Stopped x)) s = tt
+
+pub gives_refused : (nodes : List Node) (post : Tag → Type 0) (chain : List Level) (t : Tag) → Gives nodes (λ (r : Climbed). IfOk r post) (then (return_plan chain t) (λ r. Done (refused_memory r)))
+gives_refused nodes post chain t = gives_then nodes (λ (r : Returned). Unit {0}) (λ (r : Climbed). IfOk r post) (return_plan chain t) (λ r. Done (refused_memory r)) (gives_return nodes chain t) ended
+  where
+    ended : (r : Returned) → Unit {0} → IfOk (refused_memory r) post
+    ended (Ok u) _ = tt
+    ended (Err (returning.Stuck x)) _ = tt
+    ended (Err (returning.Stopped x)) _ = tt
+
+gives_added : (nodes : List Node) (up : List Level) (child n : ℕ) (given : Tag) (x : Result Tag (AddCarveFault Tag)) → Sound nodes (AddCarve child given n) x → Gives nodes (λ (r : Climbed). IfOk r (IsGrant nodes child (plain_of n))) (after_add up x)
+gives_added nodes up child n given (Ok t) s = s.0
+gives_added nodes up child n given (Err (adding.NotAligned t)) s = tt
+gives_added nodes up child n given (Err (adding.Overlaps t)) s = tt
+gives_added nodes up child n given (Err (adding.Stopped t)) s = tt
+gives_added nodes up child n given (Err (adding.NoMemory t)) s = gives_refused nodes (IsGrant nodes child (plain_of n)) up t
+
+gives_carved : (nodes : List Node) (import : Plan Climbed) (up : List Level) (id n : ℕ) (x : Result Tag CarveFault) → Gives nodes (λ (r : Climbed). Unit {0}) import → SoundCarve nodes id (plain_of n) x
+    → Gives nodes (λ (r : Climbed). IfOk r (IsGrant nodes id (plain_of n))) (after_carve import up id n x)
+gives_carved nodes import up id n (Ok t) w s = s
+gives_carved nodes import up id n (Err carving.BadRequest) w s = tt
+gives_carved nodes import up id n (Err carving.NoMemory) w s = tt
+gives_carved nodes import up id n (Err carving.Stopped) w s = tt
+gives_carved nodes import up id n (Err carving.NoFit) w s = gives_then nodes (λ (r : Climbed). Unit {0}) (λ (r : Climbed). IfOk r (IsGrant nodes id (plain_of n))) import (after_import up id n) w imported
+  where
+    imported : (r : Climbed) → Unit {0} → Gives nodes (λ (r : Climbed). IfOk r (IsGrant nodes id (plain_of n))) (after_import up id n r)
+    imported (Ok span) _ = λ x sound. gives_added nodes up id n span x sound
+    imported (Err f) _ = tt
+
+any : (nodes : List Node) (post : Climbed → Type 0) (p : Plan Climbed) → Gives nodes post p → Gives nodes (λ (r : Climbed). Unit {0}) p
+any nodes post (Done a) w = tt
+any nodes post (Ask e f) w = λ x s. any nodes post (f x) (w x s)
+
+-- a climb gives a grant of its first arena
+pub gives_climb : (nodes : List Node) (chain : List Level) (n : ℕ) → Gives nodes (λ (r : Climbed). IfOk r (IsGrantOf nodes chain n)) (climb_plan chain n)
+gives_climb nodes [] n = tt
+gives_climb nodes (l ∷ up) n = λ x s. gives_carved nodes (climb_plan up (amount_of l up n)) up l.id n x (any nodes (λ (r : Climbed). IfOk r (IsGrantOf nodes up (amount_of l up n))) (climb_plan up (amount_of l up n)) (gives_climb nodes up (amount_of l up n))) s

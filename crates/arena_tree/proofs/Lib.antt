@@ -1,0 +1,10 @@
+pub mod LawProofs
+mod Amounts
+mod ClimbBounds
+mod ClimbGrants
+mod ClimbHands
+mod Paths
+mod Same
+mod SetupLemmas
+mod Slabs
+mod TreeLemmas

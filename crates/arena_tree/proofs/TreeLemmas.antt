@@ -1,0 +1,113 @@
+-- The chains of a tree, and one arena more.
+use Rattle.std.proofs.Common.{◌≡◌, ℕ, zero, suc, ◌<◌, ◌≤◌, List, [], ◌∷◌, ◌++◌, length, Option, Some, None, refl, sym, ap, subst, ◌∙◌, inl, inr, arith, length-append}
+use Rattle.std.specs.Prelude.{slice_get, IfSome}
+use Rattle.std.specs.Global.{Vec}
+use Rattle.std.proofs.lemmas.List.{length-map}
+use Rattle.std.proofs.lemmas.Option.{slice_get_within}
+use Rattle.deed_core.proofs.LawProofs.{pushed, slice_get_one, power_some}
+use Rattle.arena_tree.specs.declared.levels.Level.{Level}
+use Rattle.arena_tree.specs.declared.trees.TreeArena.{TreeArena}
+use Rattle.arena_tree.specs.Chains.{IsChain, source_of, quantum_of, first_id}
+use Rattle.arena_tree.specs.Trees.{ChainFrom, IsArena, IsTree, ImportsFrom, level_of, node_of, nodes_of}
+use Rattle.arena_tree.specs.Stored.{AreChains, IsNewChain}
+
+source_at : (arenas : List TreeArena) (id : ℕ) (x : TreeArena) → slice_get arenas id ≡ Some x → source_of (nodes_of arenas) id ≡ x.source
+source_at [] id x at = absurd (let e : None ≡ Some x = at in cc)
+source_at (y ∷ ys) zero x at = let e : Some y ≡ Some x = at in let is : y ≡ x = cc in ap (λ z. z.source) is
+source_at (y ∷ ys) (suc id) x at = source_at ys id x at
+
+quantum_at : (arenas : List TreeArena) (id : ℕ) (x : TreeArena) → slice_get arenas id ≡ Some x → quantum_of (nodes_of arenas) id ≡ x.quantum
+quantum_at [] id x at = absurd (let e : None ≡ Some x = at in cc)
+quantum_at (y ∷ ys) zero x at = let e : Some y ≡ Some x = at in let is : y ≡ x = cc in ap (λ z. z.quantum) is
+quantum_at (y ∷ ys) (suc id) x at = quantum_at ys id x at
+
+-- a chain of the tree is one that steps go along
+pub chain_steps : (arenas : List TreeArena) → IsTree arenas → (from : Option ℕ) (chain : List Level) → ChainFrom arenas from chain → IsChain (nodes_of arenas) chain × (first_id chain ≡ from)
+chain_steps arenas tree None [] is = (tt, refl)
+chain_steps arenas tree None (l ∷ up) is = absurd is
+chain_steps arenas tree (Some id) [] is = absurd is
+chain_steps arenas tree (Some id) (l ∷ up) is =
+    let x = is.0 in
+    let above = chain_steps arenas tree x.source up is.3 in
+    let within : id < length (nodes_of arenas) = subst (λ n. id < n) (sym (length-map arenas node_of)) (slice_get_within arenas id x is.1) in
+    let some : 0 < x.quantum = power_some x.quantum (tree.each id x is.1).power in
+    subst (λ (z : Level). IsChain (nodes_of arenas) (z ∷ up) × (first_id (z ∷ up) ≡ Some id)) (sym is.2)
+    ((within, some, quantum_at arenas id x is.1, source_at arenas id x is.1 ∙ sym above.1, above.0), refl)
+
+-- there is one
+pub chain_one : (arenas : List TreeArena) (from : Option ℕ) (a b : List Level) → ChainFrom arenas from a → ChainFrom arenas from b → a ≡ b
+chain_one arenas None [] [] p q = refl
+chain_one arenas None [] (m ∷ b) p q = absurd q
+chain_one arenas None (l ∷ a) b p q = absurd p
+chain_one arenas (Some id) [] b p q = absurd p
+chain_one arenas (Some id) (l ∷ a) [] p q = absurd q
+chain_one arenas (Some id) (l ∷ a) (m ∷ b) p q =
+    let same : p.0 ≡ q.0 = slice_get_one arenas id p.0 q.0 p.1 q.1 in
+    let first : l ≡ m = p.2 ∙ ap (level_of id) same ∙ sym q.2 in
+    let rest : a ≡ b = chain_one arenas (q.0).source a b (subst (λ (z : TreeArena). ChainFrom arenas z.source a) same p.3) q.3 in
+    cc
+
+-- what stands in a list stands there with one more behind
+pub slice_get_more : {X : Type 0} (xs : List X) (y : X) (k : ℕ) (x : X) → slice_get xs k ≡ Some x → slice_get (xs ++ y ∷ []) k ≡ Some x
+slice_get_more [] y k x at = absurd (let e : None ≡ Some x = at in cc)
+slice_get_more (z ∷ xs) y zero x at = at
+slice_get_more (z ∷ xs) y (suc k) x at = slice_get_more xs y k x at
+
+pub slice_get_last : {X : Type 0} (xs : List X) (y : X) → slice_get (xs ++ y ∷ []) (length xs) ≡ Some y
+slice_get_last [] y = refl
+slice_get_last (x ∷ xs) y = slice_get_last xs y
+
+chain_more : (arenas : List TreeArena) (y : TreeArena) (from : Option ℕ) (chain : List Level) → ChainFrom arenas from chain → ChainFrom (arenas ++ y ∷ []) from chain
+chain_more arenas y None [] is = tt
+chain_more arenas y None (l ∷ up) is = absurd is
+chain_more arenas y (Some id) [] is = absurd is
+chain_more arenas y (Some id) (l ∷ up) is = (is.0, slice_get_more arenas y id is.0 is.1, is.2, chain_more arenas y (is.0).source up is.3)
+
+if_some : {X : Type 0} (o : Option X) (P Q : X → Type 0) → ((x : X) → P x → Q x) → IfSome o P → IfSome o Q
+if_some None P Q f p = tt
+if_some (Some x) P Q f p = f x p
+
+arena_more : (arenas : List TreeArena) (y : TreeArena) (id : ℕ) (x : TreeArena) → IsArena arenas id x → IsArena (arenas ++ y ∷ []) id x
+arena_more arenas y id x is = record {
+  power = is.power;
+  caches = is.caches;
+  source = if_some x.source (ImportsFrom arenas id x) (ImportsFrom (arenas ++ y ∷ []) id x)
+      (λ s from. (from.0, ((from.1).0, slice_get_more arenas y s (from.1).0 (from.1).1, (from.1).2))) is.source;
+}
+
+-- one arena more
+pub tree_more : (arenas : List TreeArena) (y : TreeArena) → IsTree arenas → length arenas < 32 → IsArena arenas (length arenas) y → IsTree (arenas ++ y ∷ [])
+tree_more arenas y tree room is = record {
+  few = (let n = length-append arenas (y ∷ []) in omega (arith, room, n));
+  each = λ id x at. elim (pushed arenas id y x at) [
+    | inl here ↦ arena_more arenas y id x (subst (λ (z : TreeArena). IsArena arenas id z) (sym here.1) (subst (λ k. IsArena arenas k y) (sym here.0) is))
+    | inr there ↦ arena_more arenas y id x (tree.each id x there)
+  ];
+}
+
+pub chains_more : (arenas : List TreeArena) (y : TreeArena) (chains : List (Vec Level)) (chain : Vec Level) → AreChains arenas chains → IsNewChain arenas y chain.items → AreChains (arenas ++ y ∷ []) (chains ++ chain ∷ [])
+chains_more arenas y chains chain are new = record {
+  count = (let n = length-append arenas (y ∷ []) in let m = length-append chains (chain ∷ []) in let c = are.count in omega (arith, n, m, c));
+  each = λ id c at. elim (pushed chains id chain c at) [
+    | inl here ↦
+        let place : id ≡ length arenas = here.0 ∙ are.count in
+        let short : length (level_of (length arenas) y ∷ new.up) ≤ 4 = (let s = new.short in omega (arith, s)) in
+        let made : ChainFrom (arenas ++ y ∷ []) (Some (length arenas)) (level_of (length arenas) y ∷ new.up) × (length (level_of (length arenas) y ∷ new.up) ≤ 4) =
+        ((y, slice_get_last arenas y, refl, chain_more arenas y y.source new.up new.above), short) in
+        subst (λ (z : Vec Level). ChainFrom (arenas ++ y ∷ []) (Some id) z.items × (length z.items ≤ 4)) (sym here.1)
+        (subst (λ k. ChainFrom (arenas ++ y ∷ []) (Some k) chain.items × (length chain.items ≤ 4)) (sym place)
+        (subst (λ (ls : List Level). ChainFrom (arenas ++ y ∷ []) (Some (length arenas)) ls × (length ls ≤ 4)) (sym new.is) made))
+    | inr there ↦ (chain_more arenas y (Some id) c.items (are.each id c there).0, (are.each id c there).1)
+  ];
+}
+
+-- the same, of what a tree stores
+pub put_keeps : (now items new : List TreeArena) (chains newer : List (Vec Level)) (y : TreeArena) (chain : Vec Level) → items ≡ now → IsTree items × AreChains items chains → length now < 32
+    → IsArena now (length now) y → IsNewChain now y chain.items → new ≡ items ++ y ∷ [] → newer ≡ chains ++ chain ∷ [] → IsTree new × AreChains new newer
+put_keeps now items new chains newer y chain is sound room arena above put put_chain =
+    let room' : length items < 32 = subst (λ (s : List TreeArena). length s < 32) (sym is) room in
+    let arena' : IsArena items (length items) y = subst (λ (s : List TreeArena). IsArena s (length s) y) (sym is) arena in
+    let above' : IsNewChain items y chain.items = subst (λ (s : List TreeArena). IsNewChain s y chain.items) (sym is) above in (
+      subst IsTree (sym put) (tree_more items y sound.0 room' arena'),
+      subst (λ (s : List TreeArena). AreChains s newer) (sym put) (subst (AreChains (items ++ y ∷ [])) (sym put_chain) (chains_more items y chains chain sound.1 above')),
+    )

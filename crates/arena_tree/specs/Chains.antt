@@ -1,0 +1,57 @@
+-- Arenas by number, chains of them, and what an arena gives.
+use Rattle.std.specs.Prelude.{◌≡◌, ℕ, ◌*◌, ◌-◌, ◌^◌, ◌<◌, zero, suc, max, min, List, [], ◌∷◌, Option, Some, None, length}
+use Rattle.deed_core.specs.Tag.{Tag}
+use Rattle.deed_core.specs.Request.{Fits, rounded, plain_of}
+use Rattle.deed_core.specs.declared.requests.Request.{Request}
+use Rattle.deed_core.specs.declared.segments.Route.TheVariants.{Direct, Cached}
+use Rattle.arena_tree.specs.declared.levels.Level.{Level}
+
+-- as much as the events need to know of an arena
+pub record Node : Type 0 where
+  pub source : Option ℕ
+  pub quantum : ℕ
+
+-- the source of the arena with this number
+abbrev pub source_of : List Node → ℕ → Option ℕ
+source_of [] id = None
+source_of (n ∷ nodes) zero = n.source
+source_of (n ∷ nodes) (suc id) = source_of nodes id
+
+-- its quantum
+abbrev pub quantum_of : List Node → ℕ → ℕ
+quantum_of [] id = 0
+quantum_of (n ∷ nodes) zero = n.quantum
+quantum_of (n ∷ nodes) (suc id) = quantum_of nodes id
+
+-- the number of a chain's first arena
+abbrev pub first_id : List Level → Option ℕ
+first_id [] = None
+first_id (l ∷ up) = Some l.id
+
+-- each arena is one of the tree, and the next is its source; the last has none
+abbrev pub IsChain : List Node → List Level → Type 0
+IsChain nodes [] = Unit {0}
+IsChain nodes (l ∷ up) = (l.id < length nodes) × (0 < l.quantum)
+    × (quantum_of nodes l.id ≡ l.quantum) × (source_of nodes l.id ≡ first_id up)
+    × IsChain nodes up
+
+-- what an arena asks of its source for n units: the greater of n in whole quanta and its import
+-- minimum, in whole quanta of the source; but no more than the greatest number of 64 bits, for
+-- which no arena has room. The source is the first of those above it; without one it asks for none
+abbrev pub amount_of : Level → List Level → ℕ → ℕ
+amount_of l [] n = 0
+amount_of l (source ∷ up) n =
+    min (rounded source.quantum (max (rounded l.quantum n) l.import_min)) (2 ^ 64 - 1)
+
+-- a Direct segment of the arena that fits the request
+pub record IsGrant (nodes : List Node) (arena : ℕ) (request : Request) (t : Tag) : Type 0 where
+  pub of_arena : t.arena ≡ arena
+  pub direct : t.route ≡ Direct
+  pub fits : Fits (quantum_of nodes arena) request t.holding.range.base t.holding.range.len
+
+-- a chunk of the arena's cache, of as many quanta as the cache's number
+pub record IsChunk (nodes : List Node) (arena cache : ℕ) (t : Tag) : Type 0 where
+  pub of_arena : t.arena ≡ arena
+  pub cached : t.route ≡ Cached cache
+  pub fits : Fits (quantum_of nodes arena) (plain_of (cache * quantum_of nodes arena))
+      t.holding.range.base t.holding.range.len

@@ -1,0 +1,103 @@
+-- Import and hand back, as lists of steps.
+use Rattle.std.specs.Prelude.{ℕ, ◌-◌, ◌*◌, List, [], ◌∷◌, Option, Some, None, Result, Ok, Err}
+use Rattle.deed_core.specs.Tag.{Tag}
+use Rattle.deed_core.specs.Request.{plain_of}
+use Rattle.arena_tree.specs.Chains.{Node, amount_of, IsGrant}
+use Rattle.arena_tree.specs.Events.{Carve, Free, AddCarve}
+use Rattle.arena_tree.specs.Plans.{Plan, Done, Ask, then}
+use Rattle.arena_tree.specs.declared.levels.Level.{Level}
+use Rattle.arena_tree.specs.declared.part_faults.CarveFault.{CarveFault}
+use Rattle.arena_tree.specs.declared.part_faults.CarveFault.TheVariants as carving
+use Rattle.arena_tree.specs.declared.part_faults.FreeFault.{FreeFault}
+use Rattle.arena_tree.specs.declared.part_faults.FreeFault.TheVariants as freeing
+use Rattle.arena_tree.specs.declared.part_faults.AddCarveFault.{AddCarveFault}
+use Rattle.arena_tree.specs.declared.part_faults.AddCarveFault.TheVariants as adding
+use Rattle.arena_tree.specs.declared.part_faults.ClimbFault.{ClimbFault}
+use Rattle.arena_tree.specs.declared.part_faults.ClimbFault.TheVariants as climbing
+use Rattle.arena_tree.specs.declared.part_faults.ReturnFault.{ReturnFault}
+use Rattle.arena_tree.specs.declared.part_faults.ReturnFault.TheVariants as returning
+
+-- what a climb ends with, and a hand back
+abbrev pub Climbed : Type 0
+Climbed = Result Tag (ClimbFault Tag)
+
+abbrev pub Returned : Type 0
+Returned = Result (Unit {0}) (ReturnFault Tag)
+
+-- a segment is freed; each span that it makes whole is freed in its source, and so on upwards
+abbrev pub after_free : (Tag → Plan Returned) → Result (Option Tag) (FreeFault Tag) → Plan Returned
+after_free again (Ok None) = Done (Ok tt)
+after_free again (Ok (Some whole)) = again whole
+after_free again (Err (freeing.BadFree t)) = Done (Err (returning.Stuck t))
+after_free again (Err (freeing.Stopped t)) = Done (Err (returning.Stopped t))
+
+abbrev pub return_plan : List Level → Tag → Plan Returned
+return_plan [] t = Done (Err (returning.Stuck t))
+return_plan (l ∷ up) t = Ask (Free t) (after_free (return_plan up))
+
+-- what a climb ends with that handed a span back for want of memory
+abbrev pub refused_memory : Returned → Climbed
+refused_memory (Ok u) = Err climbing.NoMemory
+refused_memory (Err (returning.Stuck t)) = Err (climbing.Stuck t)
+refused_memory (Err (returning.Stopped t)) = Err (climbing.Stopped (Some t))
+
+abbrev pub give_back : List Level → Tag → Plan Climbed
+give_back up t = then (return_plan up t) (λ r. Done (refused_memory r))
+
+-- the child is given the span, and carves n units of it; where memory is refused, the span is freed
+-- upwards
+abbrev pub after_add : List Level → Result Tag (AddCarveFault Tag) → Plan Climbed
+after_add up (Ok t) = Done (Ok t)
+after_add up (Err (adding.NoMemory t)) = give_back up t
+after_add up (Err (adding.Overlaps t)) = Done (Err (climbing.Stuck t))
+after_add up (Err (adding.NotAligned t)) = Done (Err (climbing.Stuck t))
+after_add up (Err (adding.Stopped t)) = Done (Err (climbing.Stopped (Some t)))
+
+abbrev pub descent_plan : List Level → ℕ → ℕ → Tag → Plan Climbed
+descent_plan up child n span = Ask (AddCarve child span n) (after_add up)
+
+abbrev pub after_import : List Level → ℕ → ℕ → Climbed → Plan Climbed
+after_import up child n (Ok span) = descent_plan up child n span
+after_import up child n (Err f) = Done (Err f)
+
+-- n units are carved in the arena; where none fit, the source is climbed in the same way for the
+-- import amount, and so on upwards; without a source nothing fits
+abbrev pub after_carve : Plan Climbed → List Level → ℕ → ℕ → Result Tag CarveFault → Plan Climbed
+after_carve import up child n (Ok t) = Done (Ok t)
+after_carve import up child n (Err carving.NoFit) = then import (after_import up child n)
+after_carve import up child n (Err carving.BadRequest) = Done (Err climbing.BadRequest)
+after_carve import up child n (Err carving.NoMemory) = Done (Err climbing.NoMemory)
+after_carve import up child n (Err carving.Stopped) = Done (Err (climbing.Stopped None))
+
+abbrev pub climb_plan : List Level → ℕ → Plan Climbed
+climb_plan [] n = Done (Err climbing.NoFit)
+climb_plan (l ∷ up) n = Ask (Carve l.id (plain_of n))
+    (after_carve (climb_plan up (amount_of l up n)) up l.id n)
+
+-- the hand after a climb, and after a hand back
+abbrev pub climb_left : Climbed → Option Tag
+climb_left (Ok t) = Some t
+climb_left (Err (climbing.Stuck t)) = Some t
+climb_left (Err (climbing.Stopped o)) = o
+climb_left (Err climbing.BadRequest) = None
+climb_left (Err climbing.NoFit) = None
+climb_left (Err climbing.NoMemory) = None
+
+abbrev pub return_left : Returned → Option Tag
+return_left (Ok u) = None
+return_left (Err (returning.Stuck t)) = Some t
+return_left (Err (returning.Stopped t)) = Some t
+
+-- a segment of the chain's first arena that fits the request for n units
+abbrev pub IsGrantOf : List Node → List Level → ℕ → Tag → Type 0
+IsGrantOf nodes [] n t = ⊥
+IsGrantOf nodes (l ∷ up) n t = IsGrant nodes l.id (plain_of n) t
+
+-- the most locks of a climb in a chain of so many arenas
+abbrev pub climb_most : ℕ → Climbed → ℕ
+climb_most depth (Ok t) = 2 * depth - 1
+climb_most depth (Err climbing.NoFit) = depth
+climb_most depth (Err climbing.BadRequest) = 3 * depth - 2
+climb_most depth (Err climbing.NoMemory) = 3 * depth - 2
+climb_most depth (Err (climbing.Stuck t)) = 3 * depth - 2
+climb_most depth (Err (climbing.Stopped o)) = 3 * depth - 2

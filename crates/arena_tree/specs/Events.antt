@@ -1,0 +1,133 @@
+-- The events of one CPU, each with what it can be answered, and the hand before and after it. The
+-- hand holds the segment that the CPU is moving, one or none.
+use Rattle.std.specs.Prelude.{◌≡◌, ℕ, Option, Some, None, Result, Ok, Err}
+use Rattle.deed_core.specs.Tag.{Tag}
+use Rattle.deed_core.specs.declared.requests.Request.{Request}
+use Rattle.arena_tree.specs.declared.part_faults.CarveFault.{CarveFault}
+use Rattle.arena_tree.specs.declared.part_faults.FreeFault.{FreeFault}
+use Rattle.arena_tree.specs.declared.part_faults.FreeFault.TheVariants as freeing
+use Rattle.arena_tree.specs.declared.part_faults.AddCarveFault.{AddCarveFault}
+use Rattle.arena_tree.specs.declared.part_faults.AddCarveFault.TheVariants as adding
+use Rattle.arena_tree.specs.declared.part_faults.SlabPutFault.{SlabPutFault}
+use Rattle.arena_tree.specs.declared.part_faults.SlabPutFault.TheVariants as putting
+use Rattle.arena_tree.specs.declared.part_faults.SlabAddFault.{SlabAddFault}
+use Rattle.arena_tree.specs.declared.part_faults.SlabAddFault.TheVariants as slabbing
+use Rattle.arena_tree.specs.declared.part_faults.SwapFullFault.{SwapFullFault}
+use Rattle.arena_tree.specs.declared.part_faults.SwapEmptyFault.{SwapEmptyFault}
+use Rattle.arena_tree.specs.declared.part_faults.SwapFreshFault.{SwapFreshFault}
+use Rattle.arena_tree.specs.declared.part_faults.Stopped.{Stopped}
+use Rattle.arena_tree.specs.declared.part_faults.NoMemory.{NoMemory}
+
+-- the first eleven are of parts that are shared, the last three are the CPU's own; `given` is the
+-- segment in the hand
+pub data Event : Type 0 where
+  Carve : (arena : ℕ) (request : Request) → Event
+  Free : (given : Tag) → Event
+  AddCarve : (child : ℕ) (given : Tag) (size : ℕ) → Event
+  SlabTake : (arena cache : ℕ) → Event
+  SlabPut : (given : Tag) → Event
+  SlabAdd : (arena cache : ℕ) (given : Tag) → Event
+  SlabReap : (arena cache : ℕ) → Event
+  SwapFull : (arena cache : ℕ) → Event
+  SwapEmpty : (arena cache : ℕ) → Event
+  SwapFresh : (arena cache : ℕ) → Event
+  DepotReap : (arena cache : ℕ) → Event
+  Pop : (arena cache : ℕ) → Event
+  Push : (arena cache : ℕ) (given : Tag) → Event
+  Change : (arena cache size : ℕ) → Event
+
+-- what an event can be answered
+abbrev pub Answer : Event → Type 0
+Answer (Carve arena request) = Result Tag CarveFault
+Answer (Free given) = Result (Option Tag) (FreeFault Tag)
+Answer (AddCarve child given size) = Result Tag (AddCarveFault Tag)
+Answer (SlabTake arena cache) = Result (Option Tag) Stopped
+Answer (SlabPut given) = Result (Unit {0}) (SlabPutFault Tag)
+Answer (SlabAdd arena cache given) = Result Tag (SlabAddFault Tag)
+Answer (SlabReap arena cache) = Result (Option Tag) Stopped
+Answer (SwapFull arena cache) = Result (Unit {0}) SwapFullFault
+Answer (SwapEmpty arena cache) = Result (Unit {0}) SwapEmptyFault
+Answer (SwapFresh arena cache) = Result (Unit {0}) SwapFreshFault
+Answer (DepotReap arena cache) = Result (Option Tag) Stopped
+Answer (Pop arena cache) = Option Tag
+Answer (Push arena cache given) = Result (Unit {0}) Tag
+Answer (Change arena cache size) = Result (Unit {0}) NoMemory
+
+-- the parts that are shared of which it takes the lock
+abbrev pub locks : Event → ℕ
+locks (Pop arena cache) = 0
+locks (Push arena cache given) = 0
+locks (Change arena cache size) = 0
+locks (Carve arena request) = 1
+locks _ = 1
+
+-- the hand before it: empty, or with what is given; exchanges of magazines leave the hand alone
+abbrev pub Begins : Event → Option Tag → Type 0
+Begins (Carve arena request) hand = hand ≡ None
+Begins (Free given) hand = hand ≡ Some given
+Begins (AddCarve child given size) hand = hand ≡ Some given
+Begins (SlabTake arena cache) hand = hand ≡ None
+Begins (SlabPut given) hand = hand ≡ Some given
+Begins (SlabAdd arena cache given) hand = hand ≡ Some given
+Begins (SlabReap arena cache) hand = hand ≡ None
+Begins (SwapFull arena cache) hand = Unit {0}
+Begins (SwapEmpty arena cache) hand = Unit {0}
+Begins (SwapFresh arena cache) hand = Unit {0}
+Begins (DepotReap arena cache) hand = hand ≡ None
+Begins (Pop arena cache) hand = hand ≡ None
+Begins (Push arena cache given) hand = hand ≡ Some given
+Begins (Change arena cache size) hand = Unit {0}
+
+-- the segment that a refusal hands back, by what was refused
+abbrev pub freed_back : FreeFault Tag → Tag
+freed_back (freeing.BadFree t) = t
+freed_back (freeing.Stopped t) = t
+
+abbrev pub added_back : AddCarveFault Tag → Tag
+added_back (adding.Overlaps t) = t
+added_back (adding.NotAligned t) = t
+added_back (adding.NoMemory t) = t
+added_back (adding.Stopped t) = t
+
+abbrev pub put_back : SlabPutFault Tag → Tag
+put_back (putting.NotMine t) = t
+put_back (putting.AtHome t) = t
+put_back (putting.Stopped t) = t
+
+abbrev pub slab_back : SlabAddFault Tag → Tag
+slab_back (slabbing.WrongSize t) = t
+slab_back (slabbing.Overlaps t) = t
+slab_back (slabbing.NoMemory t) = t
+slab_back (slabbing.Stopped t) = t
+
+-- the hand after a call that gives a segment, or hands one back
+abbrev pub hand_of : {E : Type 0} → (E → Option Tag) → Result Tag E → Option Tag
+hand_of back (Ok t) = Some t
+hand_of back (Err e) = back e
+
+-- after one that may give a segment
+abbrev pub hand_may : {E : Type 0} → (E → Option Tag) → Result (Option Tag) E → Option Tag
+hand_may back (Ok given) = given
+hand_may back (Err e) = back e
+
+-- after one that gives none
+abbrev pub hand_none : {E : Type 0} → (E → Option Tag) → Result (Unit {0}) E → Option Tag
+hand_none back (Ok _) = None
+hand_none back (Err e) = back e
+
+-- the hand after it
+abbrev pub hand_after : (e : Event) → Answer e → Option Tag → Option Tag
+hand_after (Carve arena request) a hand = hand_of (λ _. None) a
+hand_after (Free given) a hand = hand_may (λ f. Some (freed_back f)) a
+hand_after (AddCarve child given size) a hand = hand_of (λ f. Some (added_back f)) a
+hand_after (SlabTake arena cache) a hand = hand_may (λ _. None) a
+hand_after (SlabPut given) a hand = hand_none (λ f. Some (put_back f)) a
+hand_after (SlabAdd arena cache given) a hand = hand_of (λ f. Some (slab_back f)) a
+hand_after (SlabReap arena cache) a hand = hand_may (λ _. None) a
+hand_after (SwapFull arena cache) a hand = hand
+hand_after (SwapEmpty arena cache) a hand = hand
+hand_after (SwapFresh arena cache) a hand = hand
+hand_after (DepotReap arena cache) a hand = hand_may (λ _. None) a
+hand_after (Pop arena cache) a hand = a
+hand_after (Push arena cache given) a hand = hand_none (λ t. Some t) a
+hand_after (Change arena cache size) a hand = hand

@@ -1,0 +1,11 @@
+pub mod Chains
+pub mod Climbs
+pub mod Events
+pub mod Laws
+pub mod Plans
+pub mod Settings
+pub mod Setups
+pub mod Sound
+pub mod Stored
+pub mod Tags
+pub mod Trees

@@ -1,0 +1,103 @@
+-- What a contract sees of a setup, what is always so of one, what is added to it and why it is
+-- refused.
+use Rattle.std.specs.Prelude.{◌≡◌, ℕ, ◌<◌, ◌≤◌, ◌==◌, ◌⊎◌, List, [], ◌∷◌, ◌++◌, All, AllPairs, length, slice_get, Some, None}
+use Rattle.std.specs.List.{count_by}
+use Rattle.deed_core.specs.Extent.{Extent, Overlap}
+use Rattle.arena_tree.specs.declared.limits.TheConstants.{MOST_SPANS}
+use Rattle.arena_tree.specs.declared.trees.TreeArena.{TreeArena}
+use Rattle.arena_tree.specs.declared.setups.OwnedSpan.{OwnedSpan}
+use Rattle.arena_tree.specs.declared.settings.NewSpan.{NewSpan}
+use Rattle.arena_tree.specs.declared.settings.Setting.{Setting}
+use Rattle.arena_tree.specs.declared.settings.Setting.TheVariants.{Root, Child, Span}
+use Rattle.arena_tree.specs.declared.setup_faults.SetupFault.{SetupFault}
+use Rattle.arena_tree.specs.declared.setup_faults.SetupFault.TheVariants.{NameTaken, TooMany, NoArena, ChainTooLong, BadQuantum, BadCache, BadRange, NoMemory}
+use Rattle.arena_tree.specs.Trees.{place_in, IsWholeRange}
+use Rattle.arena_tree.specs.Setups.{extent_of, RefusesRoot, RefusesChild, AddsRoot, AddsChild}
+
+-- the arenas by number, and the spans that they own in order of coming
+pub record SetupState : Type 0 where
+  pub arenas : List TreeArena
+  pub spans : List OwnedSpan
+
+-- how many spans the arena owns
+abbrev pub count_of : ℕ → List OwnedSpan → ℕ
+count_of id spans = count_by (λ o. o.arena == id) spans
+
+-- the two are spans of one arena that have a unit in common
+abbrev pub Clash : OwnedSpan → OwnedSpan → Type 0
+Clash a b = (a.arena ≡ b.arena) × Overlap a.range b.range
+
+-- none of the spans is in the way of this one
+abbrev pub IsClear : List OwnedSpan → OwnedSpan → Type 0
+IsClear spans o = All (λ a. ¬ Clash a o) spans
+
+-- the arena is a root
+pub record IsRoot (arenas : List TreeArena) (id : ℕ) (x : TreeArena) : Type 0 where
+  pub here : slice_get arenas id ≡ Some x
+  pub root : x.source ≡ None
+
+-- the span is in whole quanta of its arena, which is a root
+abbrev pub IsOwned : List TreeArena → OwnedSpan → Type 0
+IsOwned arenas o = (x : TreeArena) × IsRoot arenas o.arena x × IsWholeRange x.quantum o.range
+
+-- what is so of every setup
+pub record IsSetup (s : SetupState) : Type 0 where
+  pub owned : All (IsOwned s.arenas) s.spans
+  pub apart : AllPairs (λ a b. ¬ Clash a b) s.spans
+  pub few : (id : ℕ) → count_of id s.spans ≤ MOST_SPANS
+
+-- the range that a span asks for
+abbrev pub range_of : NewSpan → Extent
+range_of n = record { base = n.base; len = n.len }
+
+-- the root that a span is asked for, which may own one more
+pub record HasSpanRoom (s : SetupState) (n : NewSpan) (id : ℕ) (x : TreeArena) : Type 0 where
+  pub finds : place_in n.name s.arenas ≡ Some id
+  pub root : IsRoot s.arenas id x
+  pub few : count_of id s.spans < MOST_SPANS
+
+-- the range can be a span of the arena
+abbrev pub CanSpan : SetupState → ℕ → TreeArena → Extent → Type 0
+CanSpan s id x e = IsWholeRange x.quantum e
+    × IsClear s.spans (record { arena = id; range = e })
+
+-- the arena of this name imports its spans
+abbrev pub IsImporter : SetupState → List ℕ → Type 0
+IsImporter s name = (id : ℕ) × (x : TreeArena) × (source : ℕ) × (place_in name s.arenas ≡ Some id)
+    × (slice_get s.arenas id ≡ Some x) × (x.source ≡ Some source)
+
+-- why a span is refused; memory is asked for only where nothing speaks against it
+abbrev pub RefusesSpan : SetupState → NewSpan → SetupFault → Type 0
+RefusesSpan s n NoArena = (place_in n.name s.arenas ≡ None) ⊎ IsImporter s n.name
+RefusesSpan s n TooMany = (id : ℕ) × (x : TreeArena) × (place_in n.name s.arenas ≡ Some id)
+    × IsRoot s.arenas id x × (MOST_SPANS ≤ count_of id s.spans)
+RefusesSpan s n BadRange = (id : ℕ) × (x : TreeArena) × HasSpanRoom s n id x
+    × (¬ CanSpan s id x (range_of n))
+RefusesSpan s n NoMemory = (id : ℕ) × (x : TreeArena) × HasSpanRoom s n id x
+    × CanSpan s id x (range_of n)
+RefusesSpan s n NameTaken = ⊥
+RefusesSpan s n ChainTooLong = ⊥
+RefusesSpan s n BadQuantum = ⊥
+RefusesSpan s n BadCache = ⊥
+
+-- the span is the last
+pub record AddsSpan (n : NewSpan) (old new : SetupState) : Type 0 where
+  pub id : ℕ
+  pub arena : TreeArena
+  pub room : HasSpanRoom old n id arena
+  pub can : CanSpan old id arena (range_of n)
+  pub arenas : new.arenas ≡ old.arenas
+  pub spans : new.spans ≡ old.spans ++ record { arena = id; range = range_of n } ∷ []
+
+-- what is asked for is there; a root comes with a span of its own
+abbrev pub Takes : SetupState → Setting → SetupState → Type 0
+Takes old (Root r) new = AddsRoot r old.arenas new.arenas × (new.spans
+    ≡ old.spans ++ record { arena = length old.arenas; range = extent_of r } ∷ [])
+Takes old (Child c) new = AddsChild c old.arenas new.arenas × (new.spans ≡ old.spans)
+Takes old (Span n) new = AddsSpan n old new
+
+-- it isn't there, and why
+abbrev pub Refuses : SetupState → Setting → SetupFault → Type 0
+Refuses s (Root r) fault = RefusesRoot s.arenas r fault
+Refuses s (Child c) fault = RefusesChild s.arenas c fault
+Refuses s (Span n) fault = RefusesSpan s n fault

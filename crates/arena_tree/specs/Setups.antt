@@ -1,0 +1,121 @@
+-- What is added to a tree, and why it is refused: the first reason that is so, in the order of the
+-- faults. Memory is asked for only where there is none.
+use Rattle.std.specs.Prelude.{◌≡◌, ℕ, ◌<◌, ◌≤◌, List, [], ◌∷◌, ◌++◌, length, slice_get, Some, None}
+use Rattle.std.specs.Int.{IsPowerOfTwo}
+use Rattle.deed_core.specs.Extent.{Extent}
+use Rattle.arena_tree.specs.declared.limits.TheConstants.{MOST_ARENAS, LONGEST_CHAIN}
+use Rattle.arena_tree.specs.declared.levels.Level.{Level}
+use Rattle.arena_tree.specs.declared.trees.TreeArena.{TreeArena}
+use Rattle.arena_tree.specs.declared.settings.NewRoot.{NewRoot}
+use Rattle.arena_tree.specs.declared.settings.NewChild.{NewChild}
+use Rattle.arena_tree.specs.declared.setup_faults.SetupFault.{SetupFault}
+use Rattle.arena_tree.specs.declared.setup_faults.SetupFault.TheVariants.{NameTaken, TooMany, NoArena, ChainTooLong, BadQuantum, BadCache, BadRange, NoMemory}
+use Rattle.arena_tree.specs.Trees.{place_in, ChainFrom, IsWholeRange, CanCache, HasCaches}
+
+-- an arena has the name
+abbrev pub IsTaken : List TreeArena → List ℕ → Type 0
+IsTaken arenas name = (id : ℕ) × (place_in name arenas ≡ Some id)
+
+-- the name is free, and there is room for one more
+abbrev pub HasRoom : List TreeArena → List ℕ → Type 0
+HasRoom arenas name = (place_in name arenas ≡ None) × (length arenas < MOST_ARENAS)
+
+abbrev pub IsFull : List TreeArena → List ℕ → Type 0
+IsFull arenas name = (place_in name arenas ≡ None) × (MOST_ARENAS ≤ length arenas)
+
+-- the range that a root asks for
+abbrev pub extent_of : NewRoot → Extent
+extent_of r = record { base = r.base; len = r.len }
+
+-- nothing speaks against the root
+pub record CanRoot (arenas : List TreeArena) (r : NewRoot) : Type 0 where
+  pub room : HasRoom arenas r.name
+  pub power : IsPowerOfTwo r.quantum
+  pub caches : CanCache r.quantum r.qcache_max
+  pub range : IsWholeRange r.quantum (extent_of r)
+
+abbrev pub RefusesRoot : List TreeArena → NewRoot → SetupFault → Type 0
+RefusesRoot arenas r NameTaken = IsTaken arenas r.name
+RefusesRoot arenas r TooMany = IsFull arenas r.name
+RefusesRoot arenas r NoArena = ⊥
+RefusesRoot arenas r ChainTooLong = ⊥
+RefusesRoot arenas r BadQuantum = HasRoom arenas r.name × (¬ IsPowerOfTwo r.quantum)
+RefusesRoot arenas r BadCache = HasRoom arenas r.name × IsPowerOfTwo r.quantum
+    × (¬ CanCache r.quantum r.qcache_max)
+RefusesRoot arenas r BadRange = HasRoom arenas r.name × IsPowerOfTwo r.quantum
+    × CanCache r.quantum r.qcache_max × (¬ IsWholeRange r.quantum (extent_of r))
+RefusesRoot arenas r NoMemory = CanRoot arenas r
+
+-- the source is this arena, and its chain takes one more
+pub record IsSource (arenas : List TreeArena) (c : NewChild) (id : ℕ) (y : TreeArena) : Type 0 where
+  pub finds : place_in c.source arenas ≡ Some id
+  pub here : slice_get arenas id ≡ Some y
+  pub short : (up : List Level) × ChainFrom arenas (Some id) up × (length up < LONGEST_CHAIN)
+
+abbrev pub HasSource : List TreeArena → NewChild → Type 0
+HasSource arenas c = (id : ℕ) × (y : TreeArena) × IsSource arenas c id y
+
+-- the quantum is a power of two, and no greater than the source's
+abbrev pub HasQuantum : List TreeArena → NewChild → Type 0
+HasQuantum arenas c = IsPowerOfTwo c.quantum
+    × ((id : ℕ) × (y : TreeArena) × IsSource arenas c id y × (c.quantum ≤ y.quantum))
+
+-- nothing speaks against the child
+pub record CanChild (arenas : List TreeArena) (c : NewChild) : Type 0 where
+  pub room : HasRoom arenas c.name
+  pub quantum : HasQuantum arenas c
+  pub caches : CanCache c.quantum c.qcache_max
+
+abbrev pub RefusesChild : List TreeArena → NewChild → SetupFault → Type 0
+RefusesChild arenas c NameTaken = IsTaken arenas c.name
+RefusesChild arenas c TooMany = IsFull arenas c.name
+RefusesChild arenas c NoArena = HasRoom arenas c.name × (place_in c.source arenas ≡ None)
+RefusesChild arenas c ChainTooLong = HasRoom arenas c.name × ((id : ℕ) × (up : List Level)
+    × (place_in c.source arenas ≡ Some id) × ChainFrom arenas (Some id) up
+    × (LONGEST_CHAIN ≤ length up))
+RefusesChild arenas c BadQuantum = HasRoom arenas c.name × HasSource arenas c
+    × (¬ HasQuantum arenas c)
+RefusesChild arenas c BadCache = HasRoom arenas c.name × HasQuantum arenas c
+    × (¬ CanCache c.quantum c.qcache_max)
+RefusesChild arenas c BadRange = ⊥
+RefusesChild arenas c NoMemory = CanChild arenas c
+
+-- the arena that a root becomes, with slabs of this size
+abbrev pub root_arena : NewRoot → ℕ → TreeArena
+root_arena r size = record {
+  name = r.name;
+  source = None;
+  quantum = r.quantum;
+  policy = r.policy;
+  qcache_max = r.qcache_max;
+  slab_size = size;
+  import_min = 0;
+}
+
+-- the arena that a child becomes, with this source and slabs of this size
+abbrev pub child_arena : NewChild → ℕ → ℕ → TreeArena
+child_arena c source size = record {
+  name = c.name;
+  source = Some source;
+  quantum = c.quantum;
+  policy = c.policy;
+  qcache_max = c.qcache_max;
+  slab_size = size;
+  import_min = c.import_min;
+}
+
+-- the root is the last arena
+pub record AddsRoot (r : NewRoot) (old new : List TreeArena) : Type 0 where
+  pub can : CanRoot old r
+  pub size : ℕ
+  pub caches : HasCaches r.quantum r.qcache_max size
+  pub added : new ≡ old ++ root_arena r size ∷ []
+
+-- the child is the last arena
+pub record AddsChild (c : NewChild) (old new : List TreeArena) : Type 0 where
+  pub can : CanChild old c
+  pub source : ℕ
+  pub finds : place_in c.source old ≡ Some source
+  pub size : ℕ
+  pub caches : HasCaches c.quantum c.qcache_max size
+  pub added : new ≡ old ++ child_arena c source size ∷ []

@@ -1,0 +1,53 @@
+-- What is so of every answer, whatever the parts are.
+use Rattle.std.specs.Prelude.{◌≡◌, ℕ, ◌+◌, ◌<◌, List, Option, Some, None, Result, Ok, Err, IfOk, IfErr, IfSome}
+use Rattle.deed_core.specs.Tag.{Tag}
+use Rattle.deed_core.specs.Request.{plain_of}
+use Rattle.deed_core.specs.declared.requests.Request.{Request}
+use Rattle.arena_tree.specs.declared.part_faults.CarveFault.{CarveFault}
+use Rattle.arena_tree.specs.declared.part_faults.CarveFault.TheVariants as carving
+use Rattle.arena_tree.specs.Chains.{Node, IsGrant, IsChunk}
+use Rattle.arena_tree.specs.Events.{Event, Answer, Carve, Free, AddCarve, SlabTake, SlabPut, SlabAdd, SlabReap, SwapFull, SwapEmpty, SwapFresh, DepotReap, Pop, Push, Change, freed_back, added_back, put_back, slab_back}
+
+-- what is carved fits; that nothing fits is said of some units alone
+abbrev pub SoundCarve : List Node → ℕ → Request → Result Tag CarveFault → Type 0
+SoundCarve nodes arena q (Ok t) = IsGrant nodes arena q t
+SoundCarve nodes arena q (Err carving.NoFit) = 0 < q.size
+SoundCarve nodes arena q (Err carving.BadRequest) = Unit {0}
+SoundCarve nodes arena q (Err carving.NoMemory) = Unit {0}
+SoundCarve nodes arena q (Err carving.Stopped) = Unit {0}
+
+-- what comes is a chunk of the cache
+abbrev pub SoundTake : {E : Type 0} → List Node → ℕ → ℕ → Result (Option Tag) E → Type 0
+SoundTake nodes arena cache a = IfOk a (λ o. IfSome o (IsChunk nodes arena cache))
+
+-- the segment that a refusal hands back is the one that was given
+abbrev pub Sound : List Node → (e : Event) → Answer e → Type 0
+Sound nodes (Carve arena request) a = SoundCarve nodes arena request a
+Sound nodes (Free given) a = IfErr a (λ f. freed_back f ≡ given)
+Sound nodes (AddCarve child given size) a = IfOk a (IsGrant nodes child (plain_of size))
+    × IfErr a (λ f. added_back f ≡ given)
+Sound nodes (SlabTake arena cache) a = SoundTake nodes arena cache a
+Sound nodes (SlabPut given) a = IfErr a (λ f. put_back f ≡ given)
+Sound nodes (SlabAdd arena cache given) a = IfOk a (IsChunk nodes arena cache)
+    × IfErr a (λ f. slab_back f ≡ given)
+Sound nodes (SlabReap arena cache) a = Unit {0}
+Sound nodes (SwapFull arena cache) a = Unit {0}
+Sound nodes (SwapEmpty arena cache) a = Unit {0}
+Sound nodes (SwapFresh arena cache) a = Unit {0}
+Sound nodes (DepotReap arena cache) a = SoundTake nodes arena cache a
+Sound nodes (Pop arena cache) a = IfSome a (IsChunk nodes arena cache)
+Sound nodes (Push arena cache given) a = IfErr a (λ t. t ≡ given)
+Sound nodes (Change arena cache size) a = Unit {0}
+
+-- a round less, where there is one
+abbrev pub PopsRound : Option Tag → ℕ → ℕ → Type 0
+PopsRound None old new = new ≡ old
+PopsRound (Some t) old new = new + 1 ≡ old
+
+-- the rounds of the CPU before and after, as far as giving them all back needs it
+abbrev pub KeepsRounds : (e : Event) → Answer e → ℕ → ℕ → Type 0
+KeepsRounds (Pop arena cache) a old new = PopsRound a old new
+KeepsRounds (Free given) a old new = new ≡ old
+KeepsRounds (SlabPut given) a old new = new ≡ old
+KeepsRounds (Carve arena request) a old new = Unit {0}
+KeepsRounds _ a old new = Unit {0}

@@ -1,0 +1,72 @@
+-- What a contract sees of a tree, and what is always so of one.
+use Rattle.std.specs.Prelude.{◌≡◌, ◌≢◌, ℕ, ◌+◌, ◌*◌, ◌%◌, ◌^◌, ◌<◌, ◌≤◌, List, [], ◌∷◌, map, length, position, slice_get, Option, Some, None, IfSome}
+use Rattle.std.specs.Int.{IsPowerOfTwo, IsNextPowerOfTwo}
+use Rattle.std.specs.Str.{bytes_eq}
+use Rattle.deed_core.specs.Extent.{Extent, IsRange}
+use Rattle.tag_arena.specs.ArenaState.{OnQuantum}
+use Rattle.arena_tree.specs.declared.limits.TheConstants.{MOST_ARENAS, MOST_CACHES}
+use Rattle.arena_tree.specs.declared.levels.Level.{Level}
+use Rattle.arena_tree.specs.declared.trees.TreeArena.{TreeArena}
+use Rattle.arena_tree.specs.Chains.{Node}
+
+-- the number of the arena of this name
+abbrev pub place_in : List ℕ → List TreeArena → Option ℕ
+place_in name arenas = position (λ x. bytes_eq x.name name) arenas
+
+-- what lists of steps need of an arena
+abbrev pub level_of : ℕ → TreeArena → Level
+level_of id x = record {
+  id = id;
+  quantum = x.quantum;
+  import_min = x.import_min;
+  qcache_max = x.qcache_max;
+  slab_size = x.slab_size;
+}
+
+-- what events need of the arenas
+abbrev pub node_of : TreeArena → Node
+node_of x = record { source = x.source; quantum = x.quantum }
+
+abbrev pub nodes_of : List TreeArena → List Node
+nodes_of arenas = map node_of arenas
+
+-- the arena of this number, its source, that one's source, and so on; from no arena, none
+abbrev pub ChainFrom : List TreeArena → Option ℕ → List Level → Type 0
+ChainFrom arenas None [] = Unit {0}
+ChainFrom arenas None (l ∷ up) = ⊥
+ChainFrom arenas (Some id) [] = ⊥
+ChainFrom arenas (Some id) (l ∷ up) = (x : TreeArena) × (slice_get arenas id ≡ Some x)
+    × (l ≡ level_of id x) × ChainFrom arenas x.source up
+
+-- the range has a unit, ends at 2^62 or below, and is in whole quanta
+abbrev pub IsWholeRange : ℕ → Extent → Type 0
+IsWholeRange quantum e = IsRange e × OnQuantum quantum e
+
+-- the slabs of an arena that caches sizes up to this one: the next power of two above three times
+-- that, or 0 where nothing is cached
+abbrev pub IsSlabSize : ℕ → ℕ → Type 0
+IsSlabSize most size = (most ≡ 0 → size ≡ 0) × (most ≢ 0 → IsNextPowerOfTwo (3 * most + 1) size)
+
+-- the sizes that are cached are the first so many multiples of the quantum, 16 at most, and a slab
+-- has at most 2^62 units
+abbrev pub HasCaches : ℕ → ℕ → ℕ → Type 0
+HasCaches quantum most size = (most % quantum ≡ 0) × (most ≤ MOST_CACHES * quantum)
+    × IsSlabSize most size × (size ≤ 2 ^ 62)
+
+abbrev pub CanCache : ℕ → ℕ → Type 0
+CanCache quantum most = (size : ℕ) × HasCaches quantum most size
+
+-- the source is an earlier arena, whose quantum is no smaller
+abbrev pub ImportsFrom : List TreeArena → ℕ → TreeArena → ℕ → Type 0
+ImportsFrom arenas id x source = (source < id) × ((y : TreeArena)
+    × (slice_get arenas source ≡ Some y) × (x.quantum ≤ y.quantum))
+
+-- an arena of the tree, with this number
+pub record IsArena (arenas : List TreeArena) (id : ℕ) (x : TreeArena) : Type 0 where
+  pub power : IsPowerOfTwo x.quantum
+  pub caches : HasCaches x.quantum x.qcache_max x.slab_size
+  pub source : IfSome x.source (ImportsFrom arenas id x)
+
+pub record IsTree (arenas : List TreeArena) : Type 0 where
+  pub few : length arenas ≤ MOST_ARENAS
+  pub each : (id : ℕ) (x : TreeArena) → slice_get arenas id ≡ Some x → IsArena arenas id x

@@ -1,0 +1,132 @@
+//! Import and hand back, in steps.
+ghost use Rattle.std.specs.Prelude.{◌≡◌, ℕ, ◌+◌, ◌<◌, ◌≤◌, length, Some, IfOk};
+ghost use Rattle.deed_core.specs.Request.{rounded, plain_of};
+ghost use Rattle.arena_tree.specs.Chains.{IsChain, IsGrant, source_of, quantum_of};
+ghost use Rattle.arena_tree.specs.Plans.{Ran};
+ghost use Rattle.arena_tree.specs.Climbs.{return_plan, descent_plan, climb_plan, climb_most, IsGrantOf};
+ghost use Rattle.arena_tree.specs.Tags.{tag_climb, tag_return};
+
+use crate::levels::{Level, import_amount};
+use crate::part_faults::{AddCarveFault, CarveFault, ClimbFault, FreeFault, ReturnFault};
+use crate::parts::Parts;
+use deed_core::{Held, Request, Route};
+
+/// Carves `size` units in the first arena of the chain; where none fit, imports a span from the
+/// next, and so on upwards.
+pub fn climb_alloc<S: Held, P: Parts<S>>(
+    parts: &mut P,
+    chain: &[Level],
+    size: u64,
+) -> Result<S, ClimbFault<S>>
+    requires chain { IsChain (P.tree parts.old) chain.now }
+    ensures ran { Ran P.step P.tree P.count P.rounds (climb_plan chain.now size)
+        parts.old parts.new (tag_climb S.tag result) }
+    ensures granted { IfOk result (λ s. IsGrantOf (P.tree parts.old) chain.now size (S.tag s)) }
+    ensures few { P.count parts.new
+        ≤ P.count parts.old + climb_most (length chain.now) (tag_climb S.tag result) }
+    ensures tree { P.tree parts.new ≡ P.tree parts.old }
+{
+    climb(parts, chain, size)
+}
+
+/// Frees a segment, and each span that becomes whole in its source, in at most as many arenas as
+/// the chain has. The chain is that of the segment's arena.
+pub fn climb_free<S: Held, P: Parts<S>>(
+    parts: &mut P,
+    chain: &[Level],
+    segment: S,
+) -> Result<(), ReturnFault<S>>
+    ensures ran { Ran P.step P.tree P.count P.rounds (return_plan chain.now (S.tag segment))
+        parts.old parts.new (tag_return S.tag result) }
+    ensures few { P.count parts.new ≤ P.count parts.old + length chain.now }
+    ensures tree { P.tree parts.new ≡ P.tree parts.old }
+    ensures rounds { P.rounds parts.new ≡ P.rounds parts.old }
+{
+    hand_back(parts, chain, segment)
+}
+
+// As `climb_alloc`, which counts the steps beside it.
+#[tactic(auto, using(crate::proofs::Paths::ran_then, crate::proofs::Paths::ran_ask, crate::proofs::Paths::ran_done, crate::proofs::Amounts::chain_quanta))]
+fn climb<S: Held, P: Parts<S>>(
+    parts: &mut P,
+    chain: &[Level],
+    size: u64,
+) -> Result<S, ClimbFault<S>>
+    requires chain { IsChain (P.tree parts.old) chain.now }
+    ensures ran { Ran P.step P.tree P.count P.rounds (climb_plan chain.now size)
+        parts.old parts.new (tag_climb S.tag result) }
+    ensures granted { IfOk result (λ s. IsGrantOf (P.tree parts.old) chain.now size (S.tag s)) }
+    ensures tree { P.tree parts.new ≡ P.tree parts.old }
+{
+    let Some((level, up)) = chain.split_first() else {
+        return Err(ClimbFault::NoFit);
+    };
+    match parts.carve(level.id, &Request::plain(size)) {
+        Ok(segment) => return Ok(segment),
+        Err(CarveFault::NoFit) => {}
+        Err(CarveFault::BadRequest) => return Err(ClimbFault::BadRequest),
+        Err(CarveFault::NoMemory) => return Err(ClimbFault::NoMemory),
+        Err(CarveFault::Stopped) => return Err(ClimbFault::Stopped(None)),
+    }
+    let amount = import_amount(level, up, size);
+    match climb(parts, up, amount) {
+        Ok(span) => descend(parts, level.id, up, span, size),
+        Err(fault) => Err(fault),
+    }
+}
+
+// Gives a span to the child, which carves from it. Where memory is refused, the span goes back.
+#[tactic(auto, using(crate::proofs::Paths::ran_then, crate::proofs::Paths::ran_ask, crate::proofs::Paths::ran_done))]
+fn descend<S: Held, P: Parts<S>>(
+    parts: &mut P,
+    child: u32,
+    up: &[Level],
+    span: S,
+    size: u64,
+) -> Result<S, ClimbFault<S>>
+    requires child { child < length (P.tree parts.old) }
+    requires source { source_of (P.tree parts.old) child ≡ Some (S.tag span).arena }
+    requires some { 0 < size }
+    requires room { rounded (quantum_of (P.tree parts.old) child) size
+        ≤ (S.tag span).holding.range.len }
+    requires direct { (S.tag span).route ≡ Route.Direct }
+    ensures ran { Ran P.step P.tree P.count P.rounds (descent_plan up.now child size (S.tag span))
+        parts.old parts.new (tag_climb S.tag result) }
+    ensures granted { IfOk result (λ s.
+        IsGrant (P.tree parts.old) child (plain_of size) (S.tag s)) }
+    ensures tree { P.tree parts.new ≡ P.tree parts.old }
+{
+    match parts.add_carve(child, span, size) {
+        Ok(segment) => Ok(segment),
+        Err(AddCarveFault::Overlaps(same)) => Err(ClimbFault::Stuck(same)),
+        Err(AddCarveFault::NotAligned(same)) => Err(ClimbFault::Stuck(same)),
+        Err(AddCarveFault::Stopped(same)) => Err(ClimbFault::Stopped(Some(same))),
+        Err(AddCarveFault::NoMemory(same)) => match hand_back(parts, up, same) {
+            Ok(()) => Err(ClimbFault::NoMemory),
+            Err(ReturnFault::Stuck(same)) => Err(ClimbFault::Stuck(same)),
+            Err(ReturnFault::Stopped(same)) => Err(ClimbFault::Stopped(Some(same))),
+        },
+    }
+}
+
+// As `climb_free`, which counts the steps beside it.
+fn hand_back<S: Held, P: Parts<S>>(
+    parts: &mut P,
+    chain: &[Level],
+    segment: S,
+) -> Result<(), ReturnFault<S>>
+    ensures ran { Ran P.step P.tree P.count P.rounds (return_plan chain.now (S.tag segment))
+        parts.old parts.new (tag_return S.tag result) }
+    ensures tree { P.tree parts.new ≡ P.tree parts.old }
+    ensures rounds { P.rounds parts.new ≡ P.rounds parts.old }
+{
+    let Some((_, up)) = chain.split_first() else {
+        return Err(ReturnFault::Stuck(segment));
+    };
+    match parts.free(segment) {
+        Ok(None) => Ok(()),
+        Ok(Some(whole)) => hand_back(parts, up, whole),
+        Err(FreeFault::BadFree(same)) => Err(ReturnFault::Stuck(same)),
+        Err(FreeFault::Stopped(same)) => Err(ReturnFault::Stopped(same)),
+    }
+}

@@ -1,0 +1,177 @@
+//! Setups: a tree of arenas, and the spans that its roots own.
+ghost use Rattle.std.specs.Prelude.{◌≡◌, ◌==◌, ◌↔◌, [], Any, IsTrue, MatchBool, IfOk, IfErr, OnOk, OnErr};
+ghost use Rattle.std.specs.List.{count_by};
+ghost use Rattle.arena_tree.specs.declared.trees.TreeArena.{TreeArena};
+ghost use Rattle.arena_tree.specs.Settings.{IsSetup, Clash, IsClear, HasSpanRoom, CanSpan, RefusesSpan, Takes, Refuses, range_of, count_of};
+ghost use Rattle.arena_tree.specs.declared.settings.Setting.TheVariants.{Root, Child, Span};
+
+use crate::limits::MOST_SPANS;
+use crate::settings::{NewChild, NewRoot, NewSpan, Setting};
+use crate::setup_faults::SetupFault;
+use crate::sizes::whole_range;
+use crate::trees::Tree;
+use deed_core::Range;
+use std::alloc::Global;
+use std::marker::Model;
+
+/// A span that a root owns.
+#[derive(Clone, Copy, Debug, PartialEq, Eq)]
+pub struct OwnedSpan {
+    /// The root's number.
+    pub arena: u32,
+    pub range: Range,
+}
+
+/// What a system is made from: its arenas, and its owned spans in order of coming. A contract sees
+/// both lists.
+#[derive(Drop)]
+pub struct Setup {
+    tree: Tree,
+    spans: Vec<OwnedSpan>,
+}
+
+impl Model for Setup {
+    ghost use Rattle.arena_tree.specs.Settings.{SetupState, IsSetup};
+
+    ghost Value = { SetupState };
+
+    ghost view = { λ s. record { arenas = s.tree; spans = s.spans.items } };
+
+    ghost invariant = { λ s. IsSetup (record { arenas = s.tree; spans = s.spans.items }) };
+}
+
+impl Setup {
+    /// No arena.
+    pub fn new(alloc: Global) -> Setup
+        ensures { result ≡ record { arenas = []; spans = [] } }
+    {
+        Setup {
+            tree: Tree::new(alloc),
+            spans: Vec::new(alloc),
+        }
+    }
+
+    /// The arenas.
+    pub fn tree(&self) -> &Tree
+        ensures value { result.now ≡ self.now.arenas }
+        ensures setup { IsSetup self.now }
+    {
+        &self.tree
+    }
+
+    /// The owned spans, in order of coming. A span's place is a number that no other span has.
+    pub fn spans(&self) -> &[OwnedSpan]
+        ensures value { result.now ≡ self.now.spans }
+        ensures setup { IsSetup self.now }
+    {
+        &self.spans
+    }
+
+    /// The same without its spans.
+    pub fn into_tree(self) -> Tree
+        ensures { result ≡ self.arenas }
+    {
+        let Setup { tree, spans: _ } = self;
+        tree
+    }
+
+    /// Adds what is asked for, or says why not and stays as it was. A span costs a look at all
+    /// spans that are there, an arena one at all names.
+    pub fn add(&mut self, setting: &Setting) -> Result<(), SetupFault>
+        ensures taken { OnOk result (Takes self.old setting.now self.new) }
+        ensures refused { IfErr result (Refuses self.old setting.now) }
+        ensures same { OnErr result (self.new ≡ self.old) }
+    {
+        match setting {
+            Setting::Root(root) => self.add_root(root),
+            Setting::Child(child) => self.add_child(child),
+            Setting::Span(span) => self.add_span(span),
+        }
+    }
+
+    fn add_root(&mut self, root: &NewRoot) -> Result<(), SetupFault>
+        ensures taken { OnOk result (Takes self.old (Root root.now) self.new) }
+        ensures refused { IfErr result (Refuses self.old (Root root.now)) }
+        ensures same { OnErr result (self.new ≡ self.old) }
+    {
+        let (_, range) = self.tree.judge_root(root)?;
+        self.spans.reserve(1)?;
+        let arena = self.tree.len() as u32;
+        self.tree.add_root(root)?;
+        self.spans.push_reserved(OwnedSpan { arena, range });
+        Ok(())
+    }
+
+    fn add_child(&mut self, child: &NewChild) -> Result<(), SetupFault>
+        ensures taken { OnOk result (Takes self.old (Child child.now) self.new) }
+        ensures refused { IfErr result (Refuses self.old (Child child.now)) }
+        ensures same { OnErr result (self.new ≡ self.old) }
+    {
+        self.tree.add_child(child)
+    }
+
+    fn add_span(&mut self, span: &NewSpan) -> Result<(), SetupFault>
+        ensures taken { OnOk result (Takes self.old (Span span.now) self.new) }
+        ensures refused { IfErr result (Refuses self.old (Span span.now)) }
+        ensures same { OnErr result (self.new ≡ self.old) }
+    {
+        let owned = self.judge_span(span)?;
+        self.spans.reserve(1)?;
+        self.spans.push_reserved(owned);
+        Ok(())
+    }
+
+    /// Why a span isn't added, memory aside; else the span.
+    fn judge_span(&self, span: &NewSpan) -> Result<OwnedSpan, SetupFault>
+        ensures can { IfOk result (λ o. (x : TreeArena) × HasSpanRoom self.now span.now o.arena x
+            × CanSpan self.now o.arena x (range_of span.now)) }
+        ensures range { IfOk result (λ o. o.range ≡ range_of span.now) }
+        ensures refused { IfErr result (RefusesSpan self.now span.now) }
+    {
+        let Some(id) = self.tree.find(&span.name) else {
+            return Err(SetupFault::NoArena);
+        };
+        let arena = self.tree.arena(id);
+        if arena.source.is_some() {
+            return Err(SetupFault::NoArena);
+        }
+        if owned_by(id, &self.spans) >= MOST_SPANS {
+            return Err(SetupFault::TooMany);
+        }
+        let Some(range) = whole_range(span.base, span.len, arena.quantum) else {
+            return Err(SetupFault::BadRange);
+        };
+        let wanted = OwnedSpan { arena: id, range };
+        if are_in_the_way(&self.spans, &wanted) {
+            return Err(SetupFault::BadRange);
+        }
+        Ok(wanted)
+    }
+}
+
+/// How many of the spans are the arena's.
+fn owned_by(id: u32, spans: &[OwnedSpan]) -> usize
+    ensures { result ≡ count_of id spans.now }
+{
+    spans.iter().filter(|span| span.arena == id).count()
+}
+
+/// Whether one of the spans is in the way of this one.
+fn are_in_the_way(spans: &[OwnedSpan], wanted: &OwnedSpan) -> bool
+    ensures { MatchBool result (Any (λ a. Clash a wanted.now) spans.now)
+        (IsClear spans.now wanted.now) }
+{
+    for span in spans {
+        if clash(span, wanted) {
+            return true;
+        }
+    }
+    false
+}
+
+/// Whether the two are spans of one arena that have a unit in common.
+fn clash(a: &OwnedSpan, b: &OwnedSpan) -> bool
+    ensures { IsTrue result ↔ Clash a.now b.now }
+{
+    a.arena == b.arena && a.range.overlaps(&b.range)
+}

@@ -1,0 +1,256 @@
+//! The tree of arenas: their names, where each imports from, and how each carves.
+ghost use Rattle.std.specs.Prelude.{◌≡◌, ◌<◌, ◌≤◌, List, [], ◌∷◌, ◌++◌, length, position, slice_get, Some, IfSome, IfOk, IfErr, OnOk, OnErr};
+ghost use Rattle.std.specs.Str.{bytes_eq};
+ghost use Rattle.arena_tree.specs.Chains.{IsChain};
+ghost use Rattle.arena_tree.specs.Trees.{place_in, level_of, nodes_of, ChainFrom, IsArena, IsTree, HasCaches};
+ghost use Rattle.arena_tree.specs.Stored.{IsNewChain};
+ghost use Rattle.arena_tree.specs.Setups.{extent_of, CanRoot, CanChild, RefusesRoot, RefusesChild, IsSource, AddsRoot, AddsChild};
+
+use crate::levels::Level;
+use crate::limits::{LONGEST_CHAIN, MOST_ARENAS};
+use crate::settings::{NewChild, NewRoot};
+use crate::setup_faults::SetupFault;
+use crate::sizes::{slab_size, whole_range};
+use deed_core::{Range, is_power_of_two};
+use lease_terms::Name;
+use std::alloc::{AllocError, Global};
+use std::marker::Model;
+use tag_arena::Policy;
+
+/// An arena of a tree. Its number is its place, in order of coming.
+#[derive(Clone, Copy, Debug, PartialEq, Eq)]
+pub struct TreeArena {
+    pub name: Name,
+    /// The number of the arena that it imports from; none where it owns its spans.
+    pub source: Option<u32>,
+    pub quantum: u64,
+    pub policy: Policy,
+    /// The greatest size that has a cache, or 0 for none.
+    pub qcache_max: u64,
+    /// The size of each slab of its caches, or 0 where it has none.
+    pub slab_size: u64,
+    /// The least that it imports at a time; 0 where it has no source.
+    pub import_min: u64,
+}
+
+/// The arenas of a system. A contract sees them as a list.
+#[derive(Drop)]
+pub struct Tree {
+    alloc: Global,
+    arenas: Vec<TreeArena>,
+    // Of each arena.
+    chains: Vec<Vec<Level>>,
+}
+
+impl Model for Tree {
+    ghost use Rattle.std.specs.Prelude.{List};
+    ghost use Rattle.arena_tree.specs.declared.trees.TreeArena.{TreeArena};
+    ghost use Rattle.arena_tree.specs.Trees.{IsTree};
+    ghost use Rattle.arena_tree.specs.Stored.{AreChains};
+
+    ghost Value = { List TreeArena };
+
+    ghost view = { λ t. t.arenas.items };
+
+    ghost invariant = { λ t. IsTree t.arenas.items × AreChains t.arenas.items t.chains.items };
+}
+
+impl Tree {
+    /// No arena.
+    pub fn new(alloc: Global) -> Tree
+        ensures { result ≡ [] }
+    {
+        Tree {
+            alloc,
+            arenas: Vec::new(alloc),
+            chains: Vec::new(alloc),
+        }
+    }
+
+    /// How many arenas there are, at most 32.
+    pub fn len(&self) -> usize
+        ensures value { result ≡ length self.now }
+        ensures tree { IsTree self.now }
+    {
+        self.arenas.len()
+    }
+
+    /// The number of the arena of this name.
+    pub fn find(&self, name: &Name) -> Option<u32>
+        ensures place { result ≡ place_in name.now self.now }
+        ensures within { IfSome result (λ id. id < length self.now) }
+    {
+        let text = name.as_slice();
+        match position_of(&self.arenas, text) {
+            Some(place) => Some(place as u32),
+            None => None,
+        }
+    }
+
+    /// The arena of this number.
+    pub fn arena(&self, id: u32) -> &TreeArena
+        requires { id < length self.now }
+        ensures here { slice_get self.now id ≡ Some result.now }
+        ensures arena { IsArena self.now id result.now }
+    {
+        &self.arenas[id as usize]
+    }
+
+    /// The arena of this number, its source, that one's source, and so on: four at most.
+    pub fn chain(&self, id: u32) -> &[Level]
+        requires { id < length self.now }
+        ensures chain { ChainFrom self.now (Some id) result.now }
+        ensures steps { IsChain (nodes_of self.now) result.now }
+        ensures short { length result.now ≤ LONGEST_CHAIN }
+    {
+        self.chains[id as usize].as_slice()
+    }
+
+    /// Adds an arena with one owned span, which isn't kept here.
+    pub fn add_root(&mut self, root: &NewRoot) -> Result<(), SetupFault>
+        ensures added { OnOk result (AddsRoot root.now self.old self.new) }
+        ensures refused { IfErr result (RefusesRoot self.old root.now) }
+        ensures same { OnErr result (self.new ≡ self.old) }
+    {
+        let (slab_size, _) = self.judge_root(root)?;
+        let arena = TreeArena {
+            name: root.name,
+            source: None,
+            quantum: root.quantum,
+            policy: root.policy,
+            qcache_max: root.qcache_max,
+            slab_size,
+            import_min: 0,
+        };
+        let level = level(self.arenas.len() as u32, &arena);
+        let chain = chain_of(self.alloc, level, &[])?;
+        self.put(arena, chain)?;
+        Ok(())
+    }
+
+    /// Adds an arena that imports.
+    pub fn add_child(&mut self, child: &NewChild) -> Result<(), SetupFault>
+        ensures added { OnOk result (AddsChild child.now self.old self.new) }
+        ensures refused { IfErr result (RefusesChild self.old child.now) }
+        ensures same { OnErr result (self.new ≡ self.old) }
+    {
+        let (source, slab_size) = self.judge_child(child)?;
+        let arena = TreeArena {
+            name: child.name,
+            source: Some(source),
+            quantum: child.quantum,
+            policy: child.policy,
+            qcache_max: child.qcache_max,
+            slab_size,
+            import_min: child.import_min,
+        };
+        let level = level(self.arenas.len() as u32, &arena);
+        let chain = chain_of(self.alloc, level, self.chain(source))?;
+        self.put(arena, chain)?;
+        Ok(())
+    }
+
+    /// Why a root isn't added, memory aside; else the size of its slabs, and its range.
+    pub(crate) fn judge_root(&self, root: &NewRoot) -> Result<(u64, Range), SetupFault>
+        ensures can { OnOk result (CanRoot self.now root.now) }
+        ensures slabs { IfOk result (λ r. HasCaches root.now.quantum root.now.qcache_max r.0) }
+        ensures range { IfOk result (λ r. r.1 ≡ extent_of root.now) }
+        ensures refused { IfErr result (RefusesRoot self.now root.now) }
+    {
+        if self.find(&root.name).is_some() {
+            return Err(SetupFault::NameTaken);
+        }
+        if self.arenas.len() >= MOST_ARENAS {
+            return Err(SetupFault::TooMany);
+        }
+        if !is_power_of_two(root.quantum) {
+            return Err(SetupFault::BadQuantum);
+        }
+        let Some(size) = slab_size(root.quantum, root.qcache_max) else {
+            return Err(SetupFault::BadCache);
+        };
+        let Some(range) = whole_range(root.base, root.len, root.quantum) else {
+            return Err(SetupFault::BadRange);
+        };
+        Ok((size, range))
+    }
+
+    /// Why a child isn't added, memory aside; else the number of its source and the size of its
+    /// slabs.
+    fn judge_child(&self, child: &NewChild) -> Result<(u32, u64), SetupFault>
+        ensures can { OnOk result (CanChild self.now child.now) }
+        ensures source { IfOk result (λ r. (y : TreeArena) × IsSource self.now child.now r.0 y) }
+        ensures slabs { IfOk result (λ r. HasCaches child.now.quantum child.now.qcache_max r.1) }
+        ensures refused { IfErr result (RefusesChild self.now child.now) }
+    {
+        if self.find(&child.name).is_some() {
+            return Err(SetupFault::NameTaken);
+        }
+        if self.arenas.len() >= MOST_ARENAS {
+            return Err(SetupFault::TooMany);
+        }
+        let Some(source) = self.find(&child.source) else {
+            return Err(SetupFault::NoArena);
+        };
+        if self.chain(source).len() >= LONGEST_CHAIN {
+            return Err(SetupFault::ChainTooLong);
+        }
+        if !is_power_of_two(child.quantum) {
+            return Err(SetupFault::BadQuantum);
+        }
+        if child.quantum > self.arena(source).quantum {
+            return Err(SetupFault::BadQuantum);
+        }
+        let Some(size) = slab_size(child.quantum, child.qcache_max) else {
+            return Err(SetupFault::BadCache);
+        };
+        Ok((source, size))
+    }
+
+    /// Adds an arena that nothing speaks against, with its chain.
+    fn put(&mut self, arena: TreeArena, chain: Vec<Level>) -> Result<(), AllocError>
+        requires few { length self.old < MOST_ARENAS }
+        requires arena { IsArena self.old (length self.old) arena }
+        requires chain { IsNewChain self.old arena chain.items }
+        ensures added { OnOk result (self.new ≡ self.old ++ arena ∷ []) }
+        ensures same { OnErr result (self.new ≡ self.old) }
+    {
+        self.arenas.reserve(1)?;
+        self.chains.reserve(1)?;
+        self.arenas.push_reserved(arena);
+        self.chains.push_reserved(chain);
+        Ok(())
+    }
+}
+
+fn position_of(arenas: &[TreeArena], name: &[u8]) -> Option<usize>
+    ensures position { result ≡ position (λ x. bytes_eq x.name name.now) arenas.now }
+    ensures within { IfSome result (λ k. k < length arenas.now) }
+{
+    arenas
+        .iter()
+        .position(|arena| arena.name.as_slice() == name)
+}
+
+/// What lists of steps need of an arena.
+fn level(id: u32, arena: &TreeArena) -> Level
+    ensures { result ≡ level_of id arena.now }
+{
+    Level {
+        id,
+        quantum: arena.quantum,
+        import_min: arena.import_min,
+        qcache_max: arena.qcache_max,
+        slab_size: arena.slab_size,
+    }
+}
+
+/// The chain of an arena, with its source's chain.
+fn chain_of(alloc: Global, level: Level, up: &[Level]) -> Result<Vec<Level>, AllocError>
+    ensures { IfOk result (λ chain. chain.items ≡ level ∷ up.now) }
+{
+    let mut chain = Vec::new(alloc);
+    chain.push(level)?;
+    chain.extend_from_slice(up)?;
+    Ok(chain)
+}
