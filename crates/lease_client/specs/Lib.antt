@@ -1,0 +1,5 @@
+pub mod Answers
+pub mod ClientState
+pub mod Replies
+pub mod Calls
+pub mod Stored
