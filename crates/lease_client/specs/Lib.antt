@@ -3,3 +3,5 @@ pub mod ClientState
 pub mod Replies
 pub mod Calls
 pub mod Stored
+pub mod Runs
+pub mod Laws

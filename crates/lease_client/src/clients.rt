@@ -7,10 +7,14 @@ ghost use Rattle.lease_client.specs.ClientState.{silent, IsSound};
 use crate::answers::answers_one;
 use crate::faults::{NotGreater, Nothing, SendFault};
 use crate::held::{HeldSegment, is_of_held, prepare};
+#[cfg(test)]
+use lease_proto::Welcome;
 use lease_proto::{Hello, Line, Op, Reply, line_law};
 use lease_terms::{ClientId, Ordinal, Quantity, RequestId};
 use std::alloc::Global;
 use std::marker::Model;
+#[cfg(test)]
+use std::test::Fail;
 
 /// What a client makes of a reply.
 #[derive(Clone, Copy, Debug, PartialEq, Eq)]
@@ -263,5 +267,26 @@ fn check_op(op: &Op)
             let _ = release.arena.as_slice();
             let _ = release.base.get();
         }
+    }
+}
+
+#[cfg(test)]
+impl Client {
+    /// A welcomed client whose next request has this number.
+    pub(crate) fn with_next(
+        alloc: Global,
+        id: ClientId,
+        incarnation: u64,
+        next: u64,
+    ) -> Result<Client, Fail> {
+        let mut client = Client::new(alloc, id);
+        let hello = client.restart(incarnation)?;
+        let welcome = Welcome {
+            client: id,
+            incarnation: hello.incarnation(),
+        };
+        let _ = client.got(&Reply::Welcome(welcome));
+        client.next = Ordinal::new(next).ok_or("no number")?.get();
+        Ok(client)
     }
 }

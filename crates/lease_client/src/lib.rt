@@ -17,7 +17,11 @@ mod answers;
 mod clients;
 mod faults;
 mod held;
+mod laws;
+#[cfg(test)]
+mod tests;
 
 pub use clients::{Client, Got};
 pub use faults::{NotGreater, Nothing, SendFault};
 pub use held::HeldSegment;
+pub use laws::{held_laws, reply_laws};
