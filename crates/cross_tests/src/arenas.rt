@@ -8,7 +8,7 @@ use refusing_deed::RefusingDeed;
 use std::alloc::{AllocGlobal, Global};
 use std::process::Abort;
 use std::test::Fail;
-use tag_arena::{Arena, ArenaFault, ArenaReport, Policy, SpanRefused};
+use tag_arena::{Arena, ArenaFault, ArenaReport, Policy, SpanFault};
 
 fn span(rt: &impl Abort, root: u32, base: u64, len: u64) -> PlainDeed {
     PlainDeed::new(root, Range::new(base, len).expect(rt, "a range"))
@@ -21,12 +21,30 @@ fn add<D: Deed>(rt: &impl Abort, arena: &mut Arena<D>, deed: D) {
     }
 }
 
-fn refuse(rt: &impl Abort, arena: &mut Arena<PlainDeed>, deed: PlainDeed, why: ArenaFault) {
+/// Why a span is refused.
+#[derive(Clone, Copy, PartialEq, Eq, Debug)]
+enum SpanWhy {
+    Overlaps,
+    NotAligned,
+    NoMemory,
+}
+
+/// A span that was refused, and why.
+fn span_back<S>(fault: SpanFault<S>) -> (S, SpanWhy) {
+    match fault {
+        SpanFault::Overlaps(span) => (span, SpanWhy::Overlaps),
+        SpanFault::NotAligned(span) => (span, SpanWhy::NotAligned),
+        SpanFault::NoMemory(span) => (span, SpanWhy::NoMemory),
+    }
+}
+
+fn refuse(rt: &impl Abort, arena: &mut Arena<PlainDeed>, deed: PlainDeed, why: SpanWhy) {
     match arena.add_span(deed) {
         Ok(()) => panic!(rt; "the span is refused"),
-        Err(SpanRefused { span, fault }) => {
+        Err(fault) => {
+            let (span, told) = span_back(fault);
             span.close();
-            assert_eq!(rt; fault, why);
+            assert_eq!(rt; told, why);
         }
     }
 }
@@ -137,7 +155,7 @@ fn try_import<D: Deed>(
     arena: &mut Arena<D>,
     span: Segment<D>,
     request: &Request,
-) -> Result<Segment<D>, SpanRefused<Segment<D>>> {
+) -> Result<Segment<D>, SpanFault<Segment<D>>> {
     assert!(rt; span.route() == Route::Direct);
     let quantum = arena.quantum();
     assert!(rt; request.is_good(quantum));
@@ -155,7 +173,7 @@ fn import<D: Deed>(
 ) -> Segment<D> {
     match try_import(rt, arena, span, request) {
         Ok(segment) => segment,
-        Err(SpanRefused { span: _span, fault }) => panic!(rt; "{fault}"),
+        Err(_) => panic!(rt; "the span is imported"),
     }
 }
 
@@ -367,8 +385,9 @@ fn a_refused_import_comes_back(rt: HostRuntime) {
     let four = Request::plain(4);
     let span = match try_import(&rt, &mut child, span, &four) {
         Ok(_) => panic!(rt; "the split is refused"),
-        Err(SpanRefused { span, fault }) => {
-            assert_eq!(rt; fault, ArenaFault::NoMemory);
+        Err(fault) => {
+            let (span, why) = span_back(fault);
+            assert_eq!(rt; why, SpanWhy::NoMemory);
             span
         }
     };
@@ -403,9 +422,9 @@ fn refused_spans(rt: HostRuntime) {
     let mut arena = arena_of_fours(rt.alloc(), 7);
     add(&rt, &mut arena, span(&rt, 1, 0, 64));
     for (base, len, why) in [
-        (60, 8, ArenaFault::Overlaps),
-        (66, 8, ArenaFault::NotAligned),
-        (64, 6, ArenaFault::NotAligned),
+        (60, 8, SpanWhy::Overlaps),
+        (66, 8, SpanWhy::NotAligned),
+        (64, 6, SpanWhy::NotAligned),
     ] {
         refuse(&rt, &mut arena, span(&rt, 2, base, len), why);
     }
@@ -459,8 +478,6 @@ fn words(rt: HostRuntime) -> Result<(), Fail> {
     for (fault, word) in [
         (ArenaFault::BadRequest, "bad request"),
         (ArenaFault::NoFit, "no fit"),
-        (ArenaFault::Overlaps, "the span overlaps another"),
-        (ArenaFault::NotAligned, "the span is not aligned"),
         (ArenaFault::NoMemory, "no memory"),
     ] {
         let text = format!(in rt.alloc(); "{fault}")?;

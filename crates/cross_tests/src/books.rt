@@ -1,6 +1,6 @@
 //! What a book answers to rows of requests, and where memory is refused.
 use deed_core::{PlainDeed, Range, Request, Route, Segment};
-use lease_book::{Answer, Book, ClientReport, HelloFault, Look, Reply, Terms};
+use lease_book::{Answer, Book, ClientReport, HelloFault, KeptReply, Look, NotLeased, Terms};
 use lease_terms::{ClientId, Ordinal, Quantity, Refusal, RequestId};
 use std::alloc::Global;
 use std::process::Abort;
@@ -14,7 +14,7 @@ enum Told {
     Granted(u64, u64),
     Released,
     Refused(Refusal),
-    Kept(Reply),
+    Kept(KeptReply),
     Old(u64),
     Stale(u64),
     Gap(u64),
@@ -41,8 +41,8 @@ fn id_of(rt: &impl Abort, client: u32, incarnation: u64, number: u64) -> Request
     }
 }
 
-fn granted(rt: &impl Abort, base: u64, len: u64) -> Reply {
-    Reply::Granted {
+fn granted(rt: &impl Abort, base: u64, len: u64) -> KeptReply {
+    KeptReply::Granted {
         arena: ARENA,
         base: units_of(rt, base),
         len: units_of(rt, len),
@@ -56,7 +56,7 @@ fn answered(answer: Answer<PlainDeed>) -> Told {
         Answer::Stale(last) => Told::Stale(last.get()),
         Answer::Gap(last) => Told::Gap(last.get()),
         Answer::Refused(receipt) => match receipt.reply() {
-            Reply::Refused(refusal) => Told::Refused(refusal),
+            KeptReply::Refused(refusal) => Told::Refused(refusal),
             reply => Told::Kept(reply),
         },
         Answer::Again => Told::Again,
@@ -139,7 +139,7 @@ fn lease_once(
     let id = id_of(rt, client, incarnation, number);
     match book.settle(id, ARENA, 1, &request, segment) {
         Ok(receipt) => match receipt.reply() {
-            Reply::Granted { arena, base, len } => {
+            KeptReply::Granted { arena, base, len } => {
                 assert_eq!(rt; arena, ARENA);
                 assert_eq!(rt;
                     receipt.terms(),
@@ -154,7 +154,7 @@ fn lease_once(
             }
             reply => Told::Kept(reply),
         },
-        Err((segment, answer)) => {
+        Err(NotLeased { segment, answer }) => {
             close(segment);
             answered(answer)
         }
@@ -175,7 +175,7 @@ fn release(
         units_of(rt, base),
     ) {
         Ok((receipt, segment)) => {
-            assert_eq!(rt; receipt.reply(), Reply::Released);
+            assert_eq!(rt; receipt.reply(), KeptReply::Released);
             assert_eq!(rt; close(segment).0, base);
             Told::Released
         }
@@ -275,13 +275,13 @@ fn releases(rt: HostRuntime) {
     );
     assert_eq!(rt;
         release(&rt, &mut book, 2, 1, 1, 1),
-        Told::Kept(Reply::Refused(Refusal::NotYours))
+        Told::Kept(KeptReply::Refused(Refusal::NotYours))
     );
     assert_eq!(rt; book.units(ARENA), 2);
     assert_eq!(rt; release(&rt, &mut book, 1, 1, 2, 1), Told::Released);
     assert_eq!(rt;
         release(&rt, &mut book, 1, 1, 2, 1),
-        Told::Kept(Reply::Released)
+        Told::Kept(KeptReply::Released)
     );
     assert_eq!(rt; release(&rt, &mut book, 1, 1, 1, 1), Told::Stale(2));
     assert_eq!(rt; release(&rt, &mut book, 1, 1, 4, 1), Told::Gap(2));
@@ -315,7 +315,7 @@ fn refusals(rt: HostRuntime) {
     );
     assert_eq!(rt;
         answered(book.refuse(id_of(&rt, 1, 3, 1), Refusal::NoArena)),
-        Told::Kept(Reply::Refused(Refusal::NoFit))
+        Told::Kept(KeptReply::Refused(Refusal::NoFit))
     );
     assert_eq!(rt;
         answered(book.refuse(id_of(&rt, 1, 3, 2), Refusal::BadRequest)),
@@ -353,7 +353,7 @@ fn limit(rt: HostRuntime) {
     );
     assert_eq!(rt;
         lease(&rt, &mut book, 1, 1, 1025, 1024, 1),
-        Told::Kept(Reply::Refused(Refusal::Leases))
+        Told::Kept(KeptReply::Refused(Refusal::Leases))
     );
     assert_eq!(rt; book.units(ARENA), 1024);
     let report = ClientReport {

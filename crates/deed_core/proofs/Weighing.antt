@@ -1,7 +1,7 @@
 -- What lists weigh.
 use Rattle.std.proofs.Common.{◌≡◌, ℕ, ◌+◌, ◌≤◌, Bool, true, false, not, List, [], ◌∷◌, refl, ap, arith}
 use Rattle.std.specs.Prelude.{filter, sum_by, All}
-use Rattle.std.proofs.lemmas.List.Sums.{sum_by-cons}
+use Rattle.std.proofs.lemmas.List.Sums.{sum_by-cons, sum_by-le-sum_by}
 use Rattle.deed_core.specs.Weights.{only}
 use Rattle.deed_core.proofs.Sums.{sum_none, sum_alike}
 use Rattle.deed_core.proofs.Places.{all_at}
@@ -24,8 +24,7 @@ module _ {X : Type 0} where
 
   -- a smaller weight
   pub sum_by-smaller : (f g : X → ℕ) (xs : List X) → ((x : X) → f x ≤ g x) → sum_by f xs ≤ sum_by g xs
-  sum_by-smaller f g [] le = omega arith
-  sum_by-smaller f g (x ∷ xs) le = let a = le x in let b = sum_by-smaller f g xs le in omega (arith, a, b, sum_by-cons f x xs, sum_by-cons g x xs)
+  sum_by-smaller f g xs le = sum_by-le-sum_by f g xs le
 
   only_true : (test : X → Bool) (f : X → ℕ) (x : X) → test x ≡ true → only test f x ≡ f x
   only_true test f x is = rw is refl

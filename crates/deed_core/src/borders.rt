@@ -1,5 +1,5 @@
-//! Laws of deeds, as code over any type of them: what is split off one deed is joined to another, and
-//! three deeds end to end are one, whichever two are joined first.
+//! Laws of deeds, as code over any type of them: what is split off one deed is joined to another,
+//! and three deeds end to end are one, whichever two are joined first.
 ghost use Rattle.std.specs.Prelude.{◌≡◌, ◌⊎◌, IfOk, IfErr};
 ghost use Rattle.deed_core.specs.Extent.{IsInside};
 ghost use Rattle.deed_core.specs.Holding.{GoesOn, joined, low, high};
@@ -31,7 +31,8 @@ pub fn move_border<D: Deed>(first: D, second: D, at: u64) -> Result<(D, D), (D, 
     }
 }
 
-/// Joins three deeds end to end, the last two first. That gives what joining the first two first does.
+/// Joins three deeds end to end, the last two first. That gives what joining the first two first
+/// does.
 pub fn join_three<D: Deed>(first: D, second: D, third: D) -> D
     requires near { GoesOn (D.holding first) (D.holding second) }
     requires far { GoesOn (D.holding second) (D.holding third) }

@@ -7,7 +7,7 @@ use Rattle.deed_core.specs.Extent.{Extent, IsRange, Overlap, end_of, below, from
 use Rattle.deed_core.specs.Covering.{covers}
 use Rattle.deed_core.proofs.LawProofs.{covers_is, covers_cut, overlap_covers_twice, sum_by-smaller}
 use Rattle.deed_table.specs.declared.views.Piece.{Piece}
-use Rattle.deed_table.specs.Piece.{piece, extent_of, covers_of, covering_of, is_of, count_of, low_pieces, high_pieces, merged_pieces, CutsFirst, Touch, CoverOnce}
+use Rattle.deed_table.specs.Piece.{piece_at, extent_of, covers_of, covering_of, is_of, count_of, low_pieces, high_pieces, merged_pieces, CutsFirst, Touch, CoverOnce}
 
 -- 1 where it is true
 abbrev pub one_if : Bool → ℕ
@@ -19,7 +19,7 @@ none_covered u e none = grind (arith, covers_is u e)
 
 -- a piece covers what the two parts of it cover
 pieces_cut : (root unit r : ℕ) (a b e : Extent) → a.base ≡ e.base → end_of a ≡ b.base → end_of b ≡ end_of e
-    → covers_of root unit (piece r a) + covers_of root unit (piece r b) ≡ covers_of root unit (piece r e)
+    → covers_of root unit (piece_at r a) + covers_of root unit (piece_at r b) ≡ covers_of root unit (piece_at r e)
 pieces_cut root unit r a b e first meet last = by (root == r)
   where
     by : (x : Bool) → (if x then covers unit a else 0) + (if x then covers unit b else 0) ≡ (if x then covers unit e else 0)
@@ -33,7 +33,7 @@ covering_cut root unit at (p ∷ ps) inside =
     let f = covers_of root unit in
     let e = extent_of p in
     let c = pieces_cut root unit p.root (below at e) (from at e) e refl (omega arith) (omega arith) in
-    omega (arith, c, sum_by-cons f p ps, sum_by-cons f (piece p.root (from at e)) ps)
+    omega (arith, c, sum_by-cons f p ps, sum_by-cons f (piece_at p.root (from at e)) ps)
 
 -- what is made one covers the same
 pub covering_merged : (root unit : ℕ) (ps qs : List Piece) → Touch ps qs → covering_of root unit (merged_pieces ps qs) ≡ covering_of root unit ps + covering_of root unit qs
@@ -43,8 +43,8 @@ covering_merged root unit (p ∷ ps) (q ∷ qs) touch =
     let f = covers_of root unit in
     let both = union (extent_of p) (extent_of q) in
     let c = pieces_cut root unit p.root (extent_of p) (extent_of q) both refl touch.meets (omega (arith, touch.meets)) in
-    let d : f q ≡ f (piece p.root (extent_of q)) = ap (λ (r : ℕ). f (piece r (extent_of q))) (sym touch.root) in
-    omega (arith, c, d, sum_by-append f ps qs, sum_by-cons f p ps, sum_by-cons f q qs, sum_by-cons f (piece p.root both) (ps ++ qs))
+    let d : f q ≡ f (piece_at p.root (extent_of q)) = ap (λ (r : ℕ). f (piece_at r (extent_of q))) (sym touch.root) in
+    omega (arith, c, d, sum_by-append f ps qs, sum_by-cons f p ps, sum_by-cons f q qs, sum_by-cons f (piece_at p.root both) (ps ++ qs))
 
 -- a unit is covered by no more pieces than there are of the root
 pub covering_le : (root unit : ℕ) (ps : List Piece) → covering_of root unit ps ≤ count_of root ps
@@ -62,10 +62,10 @@ pub one_covered : (u : ℕ) (e : Extent) → e.len ≡ 1 → covers u e ≡ one_
 one_covered u e one = grind (arith, covers_is u e, one_equal u e.base)
 
 -- two ranges of one root that cover no unit twice do not overlap
-pub apart_once : (root : ℕ) (a b : Extent) → IsRange a → IsRange b → CoverOnce (piece root a ∷ piece root b ∷ []) → ¬ Overlap a b
+pub apart_once : (root : ℕ) (a b : Extent) → IsRange a → IsRange b → CoverOnce (piece_at root a ∷ piece_at root b ∷ []) → ¬ Overlap a b
 apart_once root a b some_a some_b once meet =
     let same : (root == root) ≡ true = eq-eqb root root refl in
-    let is : (unit : ℕ) (e : Extent) → covers_of root unit (piece root e) ≡ covers unit e = λ unit e. ap (λ (x : Bool). if x then covers unit e else 0) same in
+    let is : (unit : ℕ) (e : Extent) → covers_of root unit (piece_at root e) ≡ covers unit e = λ unit e. ap (λ (x : Bool). if x then covers unit e else 0) same in
     let at : (unit : ℕ) → covers unit a + covers unit b ≤ 1 = λ unit. let o = once root unit in let x = is unit a in let y = is unit b in omega arith in
     let twice = (overlap_covers_twice a b some_a.some some_b.some).0 meet in
     let most = at twice.0 in

@@ -3,13 +3,13 @@ use Rattle.std.proofs.Common.{◌≡◌, ◌≢◌, ◌⊎◌, ℕ, ◌+◌, ◌
 use mathlib.Core.Option.{some}
 use lib.ListN.{get_elem?}
 use Rattle.atomic_table.proofs.Lists.{set_else}
-use Rattle.deed_core.proofs.LawProofs.{sum_by-smaller}
+use Rattle.deed_core.proofs.LawProofs.{sum_by-smaller, sum_add}
 use Rattle.deed_table.specs.declared.views.View.{View}
-use Rattle.deed_table.specs.Piece.{piece, covering_of, count_of, CoverOnce}
+use Rattle.deed_table.specs.Piece.{piece_at, covering_of, count_of, CoverOnce}
 use Rattle.deed_table.specs.View.{spent}
 use Rattle.deed_table.specs.Rule.{is_left, CoversOnceEach, EachUnitOnce, OneSeatEach, LeftHasNoRange}
 use Rattle.deed_table.specs.Seated.{NoTwoOverlap}
-use Rattle.deed_table.proofs.Sums.{sum_by-set_at, le-sum_by, sum_by-add}
+use Rattle.deed_table.proofs.Sums.{sum_by-set_at, le-sum_by}
 use Rattle.deed_table.proofs.Covers.{covering_le, apart_once}
 use Rattle.deed_table.proofs.Keeps.{ranged, opened_le}
 
@@ -43,16 +43,16 @@ pub deeds_apart : NoTwoOverlap
 deeds_apart views k i j first second at too apart a b some_a some_b one two same =
     apart_once a.root a.range b.range some_a some_b once
   where
-    once : CoverOnce (piece a.root a.range ∷ piece a.root b.range ∷ [])
+    once : CoverOnce (piece_at a.root a.range ∷ piece_at a.root b.range ∷ [])
     once root unit =
         let most = two_once views k i j first.0 second.0 at too apart root unit in
-        let x : ranged root unit first.0 ≡ covering_of root unit (piece a.root a.range ∷ []) = ap (covering_of root unit) one.one in
-        let y : ranged root unit second.0 ≡ covering_of root unit (piece a.root b.range ∷ []) = ap (covering_of root unit) two.one ∙ ap (λ (r : ℕ). covering_of root unit (piece r b.range ∷ [])) (sym same) in
+        let x : ranged root unit first.0 ≡ covering_of root unit (piece_at a.root a.range ∷ []) = ap (covering_of root unit) one.one in
+        let y : ranged root unit second.0 ≡ covering_of root unit (piece_at a.root b.range ∷ []) = ap (covering_of root unit) two.one ∙ ap (λ (r : ℕ). covering_of root unit (piece_at r b.range ∷ [])) (sym same) in
         omega arith
 
 pub left_unopened : LeftHasNoRange
 left_unopened views k root is_left_over =
-    let s = sum_by-add (λ (v : View). count_of root v.roots) (is_left root) views in
+    let s = sum_add (λ (v : View). count_of root v.roots) (is_left root) views in
     let a = k.one_place root in (
       omega arith,
       (λ unit.

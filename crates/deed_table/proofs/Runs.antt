@@ -6,7 +6,7 @@ use Rattle.deed_table.specs.declared.views.View.{View}
 use Rattle.deed_table.specs.Piece.{covering_of}
 use Rattle.deed_table.specs.View.{opener, numbers_of, spent, opened_at}
 use Rattle.deed_table.specs.Rule.{CoversOnceEach, opened}
-use Rattle.deed_table.specs.Kinds.{SplitsInto, JoinsInto, Steps, cuts, parts, shares, merges, gathers, opens, looks, IsRun, last_of, RunsKeepRule, OpenedStaysCovered}
+use Rattle.deed_table.specs.Kinds.{SplitsInto, JoinsInto, Steps, cuts, parts, shares, merges, gathers, opens, looks, AreSteps, last_view, RunsKeepRule, OpenedStaysCovered}
 use Rattle.deed_table.proofs.Sums.{sum_by-set_at, sum_by-split, sum_by-join}
 use Rattle.deed_table.proofs.Keeps.{Even, rooted, keeps_split, keeps_join, keeps_open, even_cut, even_part, even_share, even_merged, even_beside}
 use Rattle.deed_table.proofs.Follows.{units_once}
@@ -54,7 +54,7 @@ step_lasts old new (opens i range v at is no_ranges no_roots one) =
     }
 step_lasts old new (looks is) = record { rule = λ k. subst CoversOnceEach (sym is) k; roots = λ root unit. let b : opened root unit new ≡ opened root unit old = ap (opened root unit) is in omega arith }
 
-run_lasts : (now : List View) (later : List (List View)) → IsRun now later → Lasts now (last_of now later)
+run_lasts : (now : List View) (later : List (List View)) → AreSteps now later → Lasts now (last_view now later)
 run_lasts now [] run = record { rule = λ k. k; roots = λ root unit. omega arith }
 run_lasts now (next ∷ later) run =
     let one = step_lasts now next run.0 in
@@ -71,4 +71,4 @@ pub opened_stays_covered : OpenedStaysCovered
 opened_stays_covered now later k run root unit is_open =
     let lasts = run_lasts now later run in
     let more = lasts.roots root unit in
-    units_once (last_of now later) (lasts.rule k) root unit (omega arith)
+    units_once (last_view now later) (lasts.rule k) root unit (omega arith)

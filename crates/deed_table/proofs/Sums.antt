@@ -25,7 +25,3 @@ module _ {X : Type 0} (f : X → ℕ) where
   pub sum_by-join : (xs : List X) (i j : ℕ) (x y both rest : X) → get_elem? xs i ≡ some x → get_elem? (set xs i both) j ≡ some y → f both + f rest ≡ f x + f y
       → sum_by f (set (set xs i both) j rest) ≡ sum_by f xs
   sum_by-join xs i j x y both rest at too same = let a = sum_by-set_at xs i x both at in let b = sum_by-set_at (set xs i both) j y rest too in omega arith
-
-pub sum_by-add : {X : Type 0} (f g : X → ℕ) → (xs : List X) → sum_by (λ x. f x + g x) xs ≡ sum_by f xs + sum_by g xs
-sum_by-add f g [] = omega arith
-sum_by-add f g (x ∷ xs) = let r = sum_by-add f g xs in omega (arith, sum_by-cons f x xs, sum_by-cons g x xs, sum_by-cons (λ y. f y + g y) x xs)

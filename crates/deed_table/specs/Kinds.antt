@@ -43,21 +43,21 @@ pub data Steps (old new : List View) : Type 0 where
   looks : new ≡ old → Steps old new
 
 -- each of the later views comes by a step from those before
-abbrev pub IsRun : List View → List (List View) → Type 0
-IsRun now [] = Unit {0}
-IsRun now (next ∷ later) = Steps now next × IsRun next later
+abbrev pub AreSteps : List View → List (List View) → Type 0
+AreSteps now [] = Unit {0}
+AreSteps now (next ∷ later) = Steps now next × AreSteps next later
 
-abbrev pub last_of : List View → List (List View) → List View
-last_of now [] = now
-last_of now (next ∷ later) = last_of next later
+abbrev pub last_view : List View → List (List View) → List View
+last_view now [] = now
+last_view now (next ∷ later) = last_view next later
 
 -- from the first opener on, the rule holds after any number of steps
 abbrev pub RunsKeepRule : Type 0
-RunsKeepRule = (later : List (List View)) → IsRun (opener 0 (2 ^ 32) ∷ []) later →
-    CoversOnceEach (last_of (opener 0 (2 ^ 32) ∷ []) later)
+RunsKeepRule = (later : List (List View)) → AreSteps (opener 0 (2 ^ 32) ∷ []) later →
+    CoversOnceEach (last_view (opener 0 (2 ^ 32) ∷ []) later)
 
 -- once a unit is opened, it is covered once after any number of steps
 abbrev pub OpenedStaysCovered : Type 0
 OpenedStaysCovered = (now : List View) (later : List (List View)) → CoversOnceEach now →
-    IsRun now later → (root unit : ℕ) → 0 < opened root unit now →
-    covered root unit (last_of now later) ≡ 1
+    AreSteps now later → (root unit : ℕ) → 0 < opened root unit now →
+    covered root unit (last_view now later) ≡ 1

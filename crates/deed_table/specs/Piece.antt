@@ -6,12 +6,12 @@ use Rattle.deed_core.specs.Covering.{covers}
 use Rattle.deed_table.specs.declared.views.Piece.{Piece}
 
 -- a range of the root with this number
-abbrev pub piece : ℕ → Extent → Piece
-piece root e = record { root = root; base = e.base; len = e.len }
+abbrev pub piece_at : ℕ → Extent → Piece
+piece_at root e = record { root = root; base = e.base; len = e.len }
 
 -- what a deed with this holding covers
 abbrev pub piece_of : Holding → Piece
-piece_of h = piece h.root h.range
+piece_of h = piece_at h.root h.range
 
 abbrev pub extent_of : Piece → Extent
 extent_of p = record { base = p.base; len = p.len }
@@ -47,12 +47,12 @@ CutsFirst at (p ∷ ps) = IsInside at (extent_of p)
 -- the first piece below the number
 abbrev pub low_pieces : ℕ → List Piece → List Piece
 low_pieces at [] = []
-low_pieces at (p ∷ ps) = piece p.root (below at (extent_of p)) ∷ []
+low_pieces at (p ∷ ps) = piece_at p.root (below at (extent_of p)) ∷ []
 
 -- the first piece from the number on, and the other pieces
 abbrev pub high_pieces : ℕ → List Piece → List Piece
 high_pieces at [] = []
-high_pieces at (p ∷ ps) = piece p.root (from at (extent_of p)) ∷ ps
+high_pieces at (p ∷ ps) = piece_at p.root (from at (extent_of p)) ∷ ps
 
 -- the first pieces are of one root, and the second of them goes on where the first ends
 abbrev pub Touch : List Piece → List Piece → Type 0
@@ -64,7 +64,7 @@ Touch (p ∷ ps) (q ∷ qs) = GoesOn (holding_of p) (holding_of q)
 abbrev pub merged_pieces : List Piece → List Piece → List Piece
 merged_pieces [] qs = qs
 merged_pieces (p ∷ ps) [] = p ∷ ps
-merged_pieces (p ∷ ps) (q ∷ qs) = piece p.root (union (extent_of p) (extent_of q)) ∷ (ps ++ qs)
+merged_pieces (p ∷ ps) (q ∷ qs) = piece_at p.root (union (extent_of p) (extent_of q)) ∷ (ps ++ qs)
 
 abbrev pub first_piece : List Piece → List Piece
 first_piece [] = []

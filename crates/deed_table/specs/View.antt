@@ -3,7 +3,7 @@ use Rattle.std.specs.Prelude.{◌≡◌, ℕ, ◌+◌, ◌-◌, List, [], ◌∷
 use Rattle.deed_core.specs.Extent.{Extent}
 use Rattle.deed_table.specs.declared.views.Piece.{Piece}
 use Rattle.deed_table.specs.declared.views.View.{View}
-use Rattle.deed_table.specs.Piece.{piece, low_pieces, high_pieces, merged_pieces, first_piece, other_pieces, Touch}
+use Rattle.deed_table.specs.Piece.{piece_at, low_pieces, high_pieces, merged_pieces, first_piece, other_pieces, Touch}
 
 -- the root numbers that are left
 abbrev pub numbers_of : View → Extent
@@ -52,7 +52,7 @@ numbers_after n v = record v { first = v.first + n; left = v.left - n }
 
 -- the first number that is left is a root of this range, which the view covers
 abbrev pub opened_at : Extent → View → View
-opened_at range v = holder (piece v.first range ∷ []) (piece v.first range ∷ [])
+opened_at range v = holder (piece_at v.first range ∷ []) (piece_at v.first range ∷ [])
 
 -- neither has a number left
 abbrev pub NoneLeft : View → View → Type 0

@@ -4,7 +4,7 @@ ghost use Rattle.std.specs.Arc.{arc_value};
 ghost use Rattle.deed_core.specs.Extent.{IsRange, Overlap};
 ghost use Rattle.deed_core.specs.Holding.{Holding};
 ghost use Rattle.deed_table.specs.Name.{SitsAt};
-ghost use Rattle.deed_table.specs.Piece.{piece};
+ghost use Rattle.deed_table.specs.Piece.{piece_at};
 ghost use Rattle.deed_table.specs.Seated.{AreAt, SeatsTwo};
 
 use crate::deeds::SeatDeed;
@@ -160,7 +160,7 @@ fn look_at_both(
     second: &Range,
 )
     requires seat { SitsAt seat.old.table_id table.now.shared.table_id }
-    requires both { seat.old.me.0.ranges ≡ piece root first.now ∷ piece root second.now ∷ [] }
+    requires both { seat.old.me.0.ranges ≡ piece_at root first.now ∷ piece_at root second.now ∷ [] }
     requires first { IsRange first.now }
     requires second { IsRange second.now }
     ensures table { seat.new.table_id ≡ seat.old.table_id }

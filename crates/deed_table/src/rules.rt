@@ -77,9 +77,9 @@ impl<C: Chosen> Split<View> for Share<C> {
 }
 
 /// Nothing changes, and the rule is learnt.
-pub struct Look;
+pub struct Learn;
 
-impl Play<(), View> for Look {
+impl Play<(), View> for Learn {
     ghost use Rattle.deed_table.specs.Rule.{Learns};
 
     ghost then = { Learns };

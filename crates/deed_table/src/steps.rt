@@ -9,7 +9,7 @@ ghost use Rattle.deed_table.specs.View.{first_part, other_part, numbers_below, n
 ghost use Rattle.deed_table.specs.View.{opened_at};
 
 use crate::choices::{Chosen, Placed};
-use crate::rules::{Beside, CutAt, Look, Merge, OnceEach, Open, Part, Share};
+use crate::rules::{Beside, CutAt, Learn, Merge, OnceEach, Open, Part, Share};
 use crate::views::View;
 use atomic_table::{Seat, Table};
 use deed_core::Range;
@@ -64,7 +64,7 @@ pub(crate) fn look(table: &DeedTable, seat: &mut Seat<(), View>)
     ensures same { seat.new.me ≡ seat.old.me }
     ensures once { CoverOnce seat.old.me.0.ranges }
 {
-    table.shared.load::<Look>(seat, 0);
+    table.shared.load::<Learn>(seat, 0);
 }
 
 // Keeps the first range, and gives the others to a new seat.

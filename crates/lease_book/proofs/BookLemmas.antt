@@ -8,7 +8,7 @@ use Rattle.deed_core.specs.Tag.{Tag}
 use Rattle.deed_core.specs.Weights.{Gains, Loses}
 use Rattle.lease_book.specs.Receipts.{Kept, ReceiptState, IsEarned}
 use Rattle.lease_book.specs.Entry.{Settlement, Entry, Hello, Settled, Swept, Grant, Return, Refuse, kept}
-use Rattle.lease_book.specs.Account.{Lease, Account, number_of, is_lease, without, lease_of, request_of, leases_after}
+use Rattle.lease_book.specs.Account.{Lease, Account, number_of, is_lease, without_first, lease_of, granted_request, leases_after}
 use Rattle.lease_book.specs.Shelf.{account_with, changed_at, standing_of, with_standing, with_leases}
 use Rattle.lease_book.specs.History.{incarnation, clients_of, kept_of, account, IsInRange}
 use Rattle.lease_book.specs.BookState.{BookState, HasHistory, Enters, nobody, or_nobody, account_in, segments, leased_by, leased}
@@ -21,8 +21,8 @@ use Rattle.lease_terms.specs.Ranges.{IsClient, IsOrdinal, IsQuantity}
 use Rattle.lease_terms.specs.Requests.{IsRequestId}
 use Rattle.deed_core.specs.Extent.{Extent, IsRange}
 use Rattle.deed_core.specs.Request.{Fits}
-use Rattle.lease_book.specs.declared.receipts.Reply.{Reply}
-use Rattle.lease_book.specs.declared.receipts.Reply.TheVariants.{Granted}
+use Rattle.lease_book.specs.declared.receipts.KeptReply.{KeptReply}
+use Rattle.lease_book.specs.declared.receipts.KeptReply.TheVariants.{Granted}
 use Rattle.lease_book.specs.declared.receipts.Terms.{Terms}
 use Rattle.std.proofs.lemmas.Option.{slice_get_within, get_or_from_slice_get}
 use Rattle.std.proofs.lemmas.List.{map-append}
@@ -136,8 +136,8 @@ pub ends : (old new : BookState) (c i arena base place k : ℕ) → IsFound old 
 ends old new c i arena base place k found first mark after = record {
   mark = mark;
   history = λ es h.
-      entered (Swept c i arena base) es old new c place (account_in c old) (with_leases (without (is_lease i arena base))) h found.at found.client refl (swept_others es c i arena base) (swept_own es c i arena base)
-      (after ∙ changed_alike old.accounts place (account_in c old) (with_leases (λ ls. remove ls k)) (with_leases (without (is_lease i arena base))) found.at
+      entered (Swept c i arena base) es old new c place (account_in c old) (with_leases (without_first (is_lease i arena base))) h found.at found.client refl (swept_others es c i arena base) (swept_own es c i arena base)
+      (after ∙ changed_alike old.accounts place (account_in c old) (with_leases (λ ls. remove ls k)) (with_leases (without_first (is_lease i arena base))) found.at
       (ap (λ (ls : List Lease). with_leases (λ x. ls) (account_in c old)) (sym first.left))) h.orderly;
 }
 
@@ -285,19 +285,19 @@ ends_lease old now c index at l found first here mark after = record {
 }
 
 -- a reply that grants a range, told of the segment with it
-granted_segment : (arena : ℕ) (range : Extent) (reply : Reply) (t : Tag) → reply ≡ Granted arena range.base range.len → t.arena ≡ arena → range ≡ t.holding.range
+granted_segment : (arena : ℕ) (range : Extent) (reply : KeptReply) (t : Tag) → reply ≡ Granted arena range.base range.len → t.arena ≡ arena → range ≡ t.holding.range
     → reply ≡ Granted t.arena t.holding.range.base t.holding.range.len
 granted_segment arena range reply t is of_arena of_range = is ∙ (λ j. Granted (sym of_arena j) (of_range j).base (of_range j).len)
 
-pub kept_grant : (n arena : ℕ) (range : Extent) (reply : Reply) (t : Tag) (terms : Terms) (k : Kept) → k ≡ record { number = n; reply = reply; terms = Some terms } → reply ≡ Granted arena range.base range.len
+pub kept_grant : (n arena : ℕ) (range : Extent) (reply : KeptReply) (t : Tag) (terms : Terms) (k : Kept) → k ≡ record { number = n; reply = reply; terms = Some terms } → reply ≡ Granted arena range.base range.len
     → t.arena ≡ arena → range ≡ t.holding.range → k ≡ kept n (Grant t terms)
 kept_grant n arena range reply t terms k is granted of_arena of_range =
-    is ∙ ap (λ (r : Reply). record { number = n; reply = r; terms = Some terms }) (granted_segment arena range reply t granted of_arena of_range)
+    is ∙ ap (λ (r : KeptReply). record { number = n; reply = r; terms = Some terms }) (granted_segment arena range reply t granted of_arena of_range)
 
-pub earned_grant : (arena : ℕ) (range : Extent) (reply : Reply) (t : Tag) (terms : Terms) → reply ≡ Granted arena range.base range.len → t.arena ≡ arena → range ≡ t.holding.range
+pub earned_grant : (arena : ℕ) (range : Extent) (reply : KeptReply) (t : Tag) (terms : Terms) → reply ≡ Granted arena range.base range.len → t.arena ≡ arena → range ≡ t.holding.range
     → Fits terms.quantum terms.request t.holding.range.base t.holding.range.len → IsEarned reply (Some terms)
 earned_grant arena range reply t terms granted of_arena of_range fits =
-    subst (λ (r : Reply). IsEarned r (Some terms)) (sym (granted_segment arena range reply t granted of_arena of_range)) fits
+    subst (λ (r : KeptReply). IsEarned r (Some terms)) (sym (granted_segment arena range reply t granted of_arena of_range)) fits
 
 none_past : (xs : List Account) (i : ℕ) → slice_get xs i ≡ None → length xs ≤ i
 none_past [] i at = omega arith
@@ -376,7 +376,7 @@ pub leases_found : (before old : BookState) (c place : ℕ) (ls : List Lease) �
 leases_found before old c place ls is found there =
     of_found (λ (a : Account). a.leases ≡ ls) old c place found (subst (λ (b : BookState). IfSome (slice_get b.accounts place) (λ a. a.leases ≡ ls)) is there)
 
-pub ended_at : (before old : BookState) (accounts : List Account) (c index at : ℕ) (l : Lease) (r : RequestId × Tag) → r ≡ (request_of c l, l.segment) → before ≡ old → IsFound old c index
+pub ended_at : (before old : BookState) (accounts : List Account) (c index at : ℕ) (l : Lease) (r : RequestId × Tag) → r ≡ (granted_request c l, l.segment) → before ≡ old → IsFound old c index
     → IsFirst (is_lease l.incarnation l.segment.arena l.segment.holding.range.base) (account_in c old).leases at
     → slice_get (account_in c old).leases at ≡ Some l → accounts ≡ changed_at before.accounts index (with_leases (λ ls. remove ls at)) → HasHistory before
     → HasHistory (record { mark = before.mark; accounts = accounts }) × IsEnded old (record { mark = before.mark; accounts = accounts }) r.0 r.1
@@ -397,7 +397,7 @@ found_client book index k within own at =
     subst (λ (c : ℕ). IsFound book c index) is there.1
 
 -- any lease that stands first was ended
-pub taken_at : (before old : BookState) (mid accounts : List Account) (index k : ℕ) (l : Lease) (r : RequestId × Tag) → r ≡ (request_of k l, l.segment) → before ≡ old → mid ≡ before.accounts
+pub taken_at : (before old : BookState) (mid accounts : List Account) (index k : ℕ) (l : Lease) (r : RequestId × Tag) → r ≡ (granted_request k l, l.segment) → before ≡ old → mid ≡ before.accounts
     → index < length before.accounts → IfSome (slice_get before.accounts index) (λ a. find (λ b. nat_eq a.client b.client) before.accounts ≡ Some a)
     → option_map (λ (a : Account). a.client) (slice_get mid index) ≡ Some k → IfSome (slice_get mid index) (λ a. slice_get a.leases 0 ≡ Some l)
     → accounts ≡ changed_at mid index (with_leases (λ ls. remove ls 0)) → HasHistory before

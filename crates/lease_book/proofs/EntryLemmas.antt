@@ -5,24 +5,21 @@ use Rattle.std.proofs.lemmas.Bool.{or_parts, eqb-false, ne_eqb, le-ltb}
 use Rattle.lease_terms.specs.Requests.{RequestId}
 use Rattle.lease_book.specs.Receipts.{Kept}
 use Rattle.lease_book.specs.Entry.{Settlement, Entry, Hello, Settled, Swept, kept}
-use Rattle.lease_book.specs.Account.{Account, number_of, is_lease, without, leases_after}
+use Rattle.lease_book.specs.Account.{Account, number_of, is_lease, without_first, leases_after}
 use Rattle.lease_book.specs.Shelf.{changed_at, with_standing, with_leases}
-use Rattle.lease_book.specs.History.{incarnation, settled_in, higher, greatest, leases_of, clients_of, kept_of, account, IsOrderly}
+use Rattle.lease_book.specs.History.{incarnation, settled_in, higher, greatest, leases_of, clients_of, kept_of, account, AreOrderly}
 use Rattle.lease_book.specs.BookState.{BookState, IsHistory}
+use Rattle.lease_book.proofs.EachLemmas.{each_push}
 use Rattle.lease_book.proofs.HistoryLemmas.{has, fresh}
 
 -- Clients stand once each.
-
-all_push : (P : ℕ → Type 0) (cs : List ℕ) (c : ℕ) → AllByRecursion P cs → P c → AllByRecursion P (cs ++ c ∷ [])
-all_push P [] c all here = (here, tt)
-all_push P (d ∷ cs) c all here = (all.0, all_push P cs c all.1 here)
 
 distinct_push : (cs : List ℕ) (c : ℕ) → IsDistinct nat_eq cs → has c cs ≡ false → IsDistinct nat_eq (cs ++ c ∷ [])
 unfolding IsDistinct
 distinct_push [] c apart none = (tt, tt)
 distinct_push (d ∷ cs) c apart none =
     let parts = or_parts (nat_eq c d) (has c cs) none in
-    (all_push (λ y. nat_eq d y ≡ false) cs c apart.0 (ne_eqb d c (λ e. eqb-false c d parts.0 (sym e))), distinct_push cs c apart.1 parts.1)
+    (each_push (λ y. nat_eq d y ≡ false) cs c apart.0 (ne_eqb d c (λ e. eqb-false c d parts.0 (sym e))), distinct_push cs c apart.1 parts.1)
 
 pub distinct_clients : (es : List Entry) → IsDistinct nat_eq (clients_of es)
 unfolding IsDistinct
@@ -70,7 +67,7 @@ changed_map f g h c (suc i) (d ∷ cs) a named others own apart at client =
 -- an entry that changes one account, and no list of clients, is entered by that change
 pub entered : (e : Entry) (es : List Entry) (old new : BookState) (c i : ℕ) (a : Account) (h : Account → Account) → IsHistory es old → slice_get old.accounts i ≡ Some a → a.client ≡ c
     → clients_of (e ∷ es) ≡ clients_of es → ((d : ℕ) → nat_eq d c ≡ false → account (e ∷ es) d ≡ account es d) → account (e ∷ es) c ≡ h (account es c)
-    → new.accounts ≡ changed_at old.accounts i h → IsOrderly (e ∷ es) → IsHistory (e ∷ es) new
+    → new.accounts ≡ changed_at old.accounts i h → AreOrderly (e ∷ es) → IsHistory (e ∷ es) new
 entered e es old new c i a h history at client clients others own after orderly =
     let at' : slice_get (map (account es) (clients_of es)) i ≡ Some a = ap (λ (xs : List Account). slice_get xs i) (sym history.accounts) ∙ at in
     record {
@@ -106,7 +103,7 @@ settled_others es id s d other = λ j. record {
   leases = cond (other j) (leases_after id s (leases_of d es)) (leases_of d es);
 }
 
-higher_next : (k : Kept) (g : Option Kept) → k.number ≡ number_of g + 1 → higher k g ≡ Some k
+pub higher_next : (k : Kept) (g : Option Kept) → k.number ≡ number_of g + 1 → higher k g ≡ Some k
 higher_next k None next = refl
 higher_next k (Some m) next = ap (λ (b : Bool). cond b (Some m) (Some k)) (le-ltb k.number m.number (omega (arith, next)))
 
@@ -135,17 +132,17 @@ swept_others es c i arena base d other = λ j. record {
   client = d;
   incarnation = incarnation d es;
   kept = kept_of d es;
-  leases = cond (other j) (without (is_lease i arena base) (leases_of d es)) (leases_of d es);
+  leases = cond (other j) (without_first (is_lease i arena base) (leases_of d es)) (leases_of d es);
 }
 
-pub swept_own : (es : List Entry) (c i arena base : ℕ) → account (Swept c i arena base ∷ es) c ≡ with_leases (without (is_lease i arena base)) (account es c)
+pub swept_own : (es : List Entry) (c i arena base : ℕ) → account (Swept c i arena base ∷ es) c ≡ with_leases (without_first (is_lease i arena base)) (account es c)
 swept_own es c i arena base =
     let same : nat_eq c c ≡ true = eq-eqb c c refl in
     λ j. record {
       client = c;
       incarnation = incarnation c es;
       kept = kept_of c es;
-      leases = cond (same j) (without (is_lease i arena base) (leases_of c es)) (leases_of c es);
+      leases = cond (same j) (without_first (is_lease i arena base) (leases_of c es)) (leases_of c es);
     }
 
 -- A hello.
@@ -171,7 +168,7 @@ hello_account es c i =
 pub hello_same : (es : List Entry) (c i : ℕ) → i ≡ incarnation c es → account (Hello c i ∷ es) c ≡ account es c
 hello_same es c i current = hello_account es c i ∙ (λ j. record { client = c; incarnation = current j; kept = greatest (settled_in c (current j) es); leases = leases_of c es })
 
-pub hello_above : (es : List Entry) (c i : ℕ) → IsOrderly es → incarnation c es < i → account (Hello c i ∷ es) c ≡ with_standing (record { incarnation = i; kept = None }) (account es c)
+pub hello_above : (es : List Entry) (c i : ℕ) → AreOrderly es → incarnation c es < i → account (Hello c i ∷ es) c ≡ with_standing (record { incarnation = i; kept = None }) (account es c)
 hello_above es c i orderly above =
     let none = fresh c i es orderly above in
     hello_account es c i ∙ (λ j. record { client = c; incarnation = i; kept = greatest (none j); leases = leases_of c es })

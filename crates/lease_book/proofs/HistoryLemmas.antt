@@ -3,8 +3,8 @@ use Rattle.std.proofs.Common.{◌≡◌, ℕ, ◌<◌, ◌≤◌, Bool, true, fa
 use Rattle.std.specs.List.{find, list_any}
 use Rattle.std.proofs.lemmas.Bool.{or_parts, or_from, eqb-true, ne_eqb}
 use Rattle.lease_book.specs.Entry.{Entry, Hello, Settled, Swept, kept}
-use Rattle.lease_book.specs.Account.{Account, is_lease, without, leases_after}
-use Rattle.lease_book.specs.History.{incarnation, settled_in, greatest, leases_of, clients_of, account, IsOrderly}
+use Rattle.lease_book.specs.Account.{Account, is_lease, without_first, leases_after}
+use Rattle.lease_book.specs.History.{incarnation, settled_in, greatest, leases_of, clients_of, account, AreOrderly}
 use Rattle.lease_book.specs.BookState.{BookState, IsHistory, nobody, or_nobody, account_in}
 
 -- whether the client is in the list
@@ -41,7 +41,7 @@ other_client : (c d i : ℕ) (older : List Entry) → 1 ≤ i → i ≡ incarnat
 other_client c d i older some current none =
     ne_eqb c d (λ e. absurd (omega (arith, some, current, subst (λ (k : ℕ). incarnation k older ≡ 0) e (incarnation_unknown c older none))))
 
-pub settled_unknown : (c i : ℕ) (es : List Entry) → IsOrderly es → has c (clients_of es) ≡ false → settled_in c i es ≡ []
+pub settled_unknown : (c i : ℕ) (es : List Entry) → AreOrderly es → has c (clients_of es) ≡ false → settled_in c i es ≡ []
 settled_unknown c i [] orderly none = refl
 settled_unknown c i (Hello d j ∷ older) orderly none = settled_unknown c i older orderly.2 (not_among c d j older none).0
 settled_unknown c i (Settled id s ∷ older) orderly none =
@@ -50,7 +50,7 @@ settled_unknown c i (Settled id s ∷ older) orderly none =
     ∙ settled_unknown c i older orderly.3 none
 settled_unknown c i (Swept d j a b ∷ older) orderly none = settled_unknown c i older orderly none
 
-pub leases_unknown : (c : ℕ) (es : List Entry) → IsOrderly es → has c (clients_of es) ≡ false → leases_of c es ≡ []
+pub leases_unknown : (c : ℕ) (es : List Entry) → AreOrderly es → has c (clients_of es) ≡ false → leases_of c es ≡ []
 leases_unknown c [] orderly none = refl
 leases_unknown c (Hello d j ∷ older) orderly none = leases_unknown c older orderly.2 (not_among c d j older none).0
 leases_unknown c (Settled id s ∷ older) orderly none =
@@ -58,11 +58,11 @@ leases_unknown c (Settled id s ∷ older) orderly none =
     (λ k. cond (other k) (leases_after id s (leases_of c older)) (leases_of c older)) ∙ leases_unknown c older orderly.3 none
 leases_unknown c (Swept d j a b ∷ older) orderly none = by (nat_eq c d) (leases_unknown c older orderly none)
   where
-    by : (t : Bool) → leases_of c older ≡ [] → cond t (without (is_lease j a b) (leases_of c older)) (leases_of c older) ≡ []
-    by true empty = ap (without (is_lease j a b)) empty
+    by : (t : Bool) → leases_of c older ≡ [] → cond t (without_first (is_lease j a b) (leases_of c older)) (leases_of c older) ≡ []
+    by true empty = ap (without_first (is_lease j a b)) empty
     by false empty = empty
 
-pub account_unknown : (c : ℕ) (es : List Entry) → IsOrderly es → has c (clients_of es) ≡ false → account es c ≡ nobody c
+pub account_unknown : (c : ℕ) (es : List Entry) → AreOrderly es → has c (clients_of es) ≡ false → account es c ≡ nobody c
 account_unknown c es orderly none =
     let a = incarnation_unknown c es none in
     let b = settled_unknown c (incarnation c es) es orderly none in
@@ -70,7 +70,7 @@ account_unknown c es orderly none =
     λ k. record { client = c; incarnation = a k; kept = greatest (b k); leases = l k }
 
 -- nothing is settled of an incarnation to come
-pub fresh : (c i : ℕ) (es : List Entry) → IsOrderly es → incarnation c es < i → settled_in c i es ≡ []
+pub fresh : (c i : ℕ) (es : List Entry) → AreOrderly es → incarnation c es < i → settled_in c i es ≡ []
 fresh c i [] orderly above = refl
 fresh c i (Hello d j ∷ older) orderly above = fresh c i older orderly.2 (by (nat_eq c d) refl above)
   where

@@ -5,11 +5,12 @@ use Rattle.std.proofs.lemmas.List.Sums.{sum_by-cons}
 use Rattle.std.proofs.lemmas.Bool.{eqb-true, ne_eqb}
 use Rattle.lease_terms.specs.Requests.{RequestId}
 use Rattle.lease_book.specs.Entry.{Settlement, Grant, Return, Refuse, Entry, Hello, Settled, Swept}
-use Rattle.lease_book.specs.Account.{Lease, Account, is_lease, without, lease_of, leases_after}
-use Rattle.lease_book.specs.History.{incarnation, leases_of, IsOrderly}
+use Rattle.lease_book.specs.Account.{Lease, Account, is_lease, without_first, lease_of, leases_after}
+use Rattle.lease_book.specs.History.{incarnation, leases_of, AreOrderly}
 use Rattle.lease_book.specs.BookState.{BookState, HasHistory, account_in}
 use Rattle.lease_book.specs.Laws.{HelloChanges, SettledChanges, SweptChanges}
 use Rattle.lease_book.proofs.HistoryLemmas.{account_is}
+use Rattle.lease_book.proofs.EachLemmas.{each_without, each_push, each_is, all_of_each}
 use Rattle.lease_book.proofs.EntryLemmas.{settled_others, settled_own, swept_others, swept_own, hello_others, hello_same, hello_above}
 
 -- an account is that of its client
@@ -36,48 +37,31 @@ swept_changes = record {
 }
 
 -- without the lease that is found the leases weigh less by just it
-pub without_loses : (test : Lease → Bool) (ls : List Lease) (l : Lease) → find test ls ≡ Some l → (f : Lease → ℕ) → sum_by f (without test ls) + f l ≡ sum_by f ls
+pub without_loses : (test : Lease → Bool) (ls : List Lease) (l : Lease) → find test ls ≡ Some l → (f : Lease → ℕ) → sum_by f (without_first test ls) + f l ≡ sum_by f ls
 without_loses test [] l at f = absurd (cc)
 without_loses test (x ∷ ls) l at f = by (test x) at (λ rest. without_loses test ls l rest f)
   where
-    by : (b : Bool) → cond b (Some x) (find test ls) ≡ Some l → (find test ls ≡ Some l → sum_by f (without test ls) + f l ≡ sum_by f ls)
-        → sum_by f (cond b ls (x ∷ without test ls)) + f l ≡ sum_by f (x ∷ ls)
+    by : (b : Bool) → cond b (Some x) (find test ls) ≡ Some l → (find test ls ≡ Some l → sum_by f (without_first test ls) + f l ≡ sum_by f ls)
+        → sum_by f (cond b ls (x ∷ without_first test ls)) + f l ≡ sum_by f (x ∷ ls)
     by true at rest =
         let is : x ≡ l = cc in
         omega (arith, ap f is, sum_by-cons f x ls)
-    by false at rest = omega (arith, rest at, sum_by-cons f x ls, sum_by-cons f x (without test ls))
+    by false at rest = omega (arith, rest at, sum_by-cons f x ls, sum_by-cons f x (without_first test ls))
 
 -- No lease is of an incarnation above the current one.
 
-NotAbove : ℕ → List Lease → Type 0
+abbrev NotAbove : ℕ → List Lease → Type 0
 NotAbove i ls = AllByRecursion (λ (l : Lease). l.incarnation ≤ i) ls
 
-not_above_without : (i : ℕ) (test : Lease → Bool) (ls : List Lease) → NotAbove i ls → NotAbove i (without test ls)
-unfolding NotAbove
-not_above_without i test [] low = tt
-not_above_without i test (l ∷ ls) low = by (test l) (not_above_without i test ls low.1)
-  where
-    by : (b : Bool) → AllByRecursion (λ (x : Lease). x.incarnation ≤ i) (without test ls) → AllByRecursion (λ (x : Lease). x.incarnation ≤ i) (cond b ls (l ∷ without test ls))
-    by true rest = low.1
-    by false rest = (low.0, rest)
-
-not_above_push : (i : ℕ) (ls : List Lease) (l : Lease) → NotAbove i ls → l.incarnation ≤ i → NotAbove i (ls ++ l ∷ [])
-unfolding NotAbove
-not_above_push i [] l low here = (here, tt)
-not_above_push i (x ∷ ls) l low here = (low.0, not_above_push i ls l low.1 here)
-
 not_above_more : (i j : ℕ) (ls : List Lease) → i ≤ j → NotAbove i ls → NotAbove j ls
-unfolding NotAbove
-not_above_more i j [] less low = tt
-not_above_more i j (l ∷ ls) less low = (omega (arith, less, low.0), not_above_more i j ls less low.1)
+not_above_more i j ls less low = each_is (λ (l : Lease). l.incarnation ≤ i) (λ (l : Lease). l.incarnation ≤ j) ls (λ l below. omega (arith, less, below)) low
 
 not_above_after : (i : ℕ) (id : RequestId) (s : Settlement) (ls : List Lease) → id.incarnation ≤ i → NotAbove i ls → NotAbove i (leases_after id s ls)
-not_above_after i id (Grant t terms) ls less low = not_above_push i ls (lease_of id t) low less
-not_above_after i id (Return arena base) ls less low = not_above_without i (is_lease id.incarnation arena base) ls low
+not_above_after i id (Grant t terms) ls less low = each_push (λ (l : Lease). l.incarnation ≤ i) ls (lease_of id t) low less
+not_above_after i id (Return arena base) ls less low = each_without (λ (l : Lease). l.incarnation ≤ i) (is_lease id.incarnation arena base) ls low
 not_above_after i id (Refuse why) ls less low = low
 
-not_above : (es : List Entry) (c : ℕ) → IsOrderly es → NotAbove (incarnation c es) (leases_of c es)
-unfolding NotAbove
+not_above : (es : List Entry) (c : ℕ) → AreOrderly es → NotAbove (incarnation c es) (leases_of c es)
 not_above [] c orderly = tt
 not_above (Hello d i ∷ older) c orderly = by (nat_eq c d) refl (not_above older c orderly.2)
   where
@@ -92,15 +76,9 @@ not_above (Settled id s ∷ older) c orderly = by (nat_eq c id.client) refl (not
     by false is low = low
 not_above (Swept d i a b ∷ older) c orderly = by (nat_eq c d) (not_above older c orderly)
   where
-    by : (t : Bool) → NotAbove (incarnation c older) (leases_of c older) → NotAbove (incarnation c older) (cond t (without (is_lease i a b) (leases_of c older)) (leases_of c older))
-    by true low = not_above_without (incarnation c older) (is_lease i a b) (leases_of c older) low
+    by : (t : Bool) → NotAbove (incarnation c older) (leases_of c older) → NotAbove (incarnation c older) (cond t (without_first (is_lease i a b) (leases_of c older)) (leases_of c older))
+    by true low = each_without (λ (l : Lease). l.incarnation ≤ incarnation c older) (is_lease i a b) (leases_of c older) low
     by false low = low
 
-each_not_above : (i : ℕ) (ls : List Lease) → NotAbove i ls → All (λ (l : Lease). l.incarnation ≤ i) ls
-unfolding NotAbove
-each_not_above i [] low k d within = absurd (omega arith)
-each_not_above i (l ∷ ls) low zero d within = low.0
-each_not_above i (l ∷ ls) low (suc k) d within = each_not_above i ls low.1 k d (omega arith)
-
-pub leases_not_above : (es : List Entry) (c : ℕ) → IsOrderly es → All (λ (l : Lease). l.incarnation ≤ incarnation c es) (leases_of c es)
-leases_not_above es c orderly = each_not_above (incarnation c es) (leases_of c es) (not_above es c orderly)
+pub leases_not_above : (es : List Entry) (c : ℕ) → AreOrderly es → All (λ (l : Lease). l.incarnation ≤ incarnation c es) (leases_of c es)
+leases_not_above es c orderly = all_of_each (λ (l : Lease). l.incarnation ≤ incarnation c es) (leases_of c es) (not_above es c orderly)

@@ -1,3 +1,4 @@
+pub mod EachLemmas
 pub mod Pigeons
 pub mod PlaceLemmas
 pub mod ShelfLemmas
@@ -5,5 +6,8 @@ pub mod WeightLemmas
 pub mod HistoryLemmas
 pub mod EntryLemmas
 pub mod BookLemmas
+pub mod NumberLemmas
+pub mod LeaseLemmas
+pub mod ClientLemmas
 pub mod LawLemmas
 pub mod LawProofs

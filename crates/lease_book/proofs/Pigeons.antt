@@ -3,36 +3,29 @@ use Rattle.std.proofs.Common.{◌≡◌, ℕ, zero, suc, ◌+◌, ◌<◌, ◌�
 use Rattle.std.specs.List.{AllByRecursion, IsDistinct}
 use Rattle.std.proofs.lemmas.Bool.{eqb-true, eqb-false, ne_eqb}
 use Rattle.lease_terms.specs.Ranges.{IsClient}
-use Rattle.lease_book.specs.Account.{without}
+use Rattle.lease_book.specs.Account.{without_first}
+use Rattle.lease_book.proofs.EachLemmas.{each_without}
 
 abbrev AllBelow : ℕ → List ℕ → Type 0
 AllBelow n [] = Unit {0}
 AllBelow n (k ∷ ks) = (k < n) × AllBelow n ks
 
-length-without : (test : ℕ → Bool) (ks : List ℕ) → length ks ≤ length (without test ks) + 1
+length-without : (test : ℕ → Bool) (ks : List ℕ) → length ks ≤ length (without_first test ks) + 1
 length-without test [] = omega arith
 length-without test (k ∷ ks) = by (test k) (length-without test ks)
   where
-    by : (b : Bool) → length ks ≤ length (without test ks) + 1 → length (k ∷ ks) ≤ length (cond b ks (k ∷ without test ks)) + 1
+    by : (b : Bool) → length ks ≤ length (without_first test ks) + 1 → length (k ∷ ks) ≤ length (cond b ks (k ∷ without_first test ks)) + 1
     by true rest = omega arith
     by false rest = omega arith
 
-all-without : (P : ℕ → Type 0) (test : ℕ → Bool) (ks : List ℕ) → AllByRecursion P ks → AllByRecursion P (without test ks)
-all-without P test [] all = all
-all-without P test (k ∷ ks) all = by (test k) (all-without P test ks all.1)
-  where
-    by : (b : Bool) → AllByRecursion P (without test ks) → AllByRecursion P (cond b ks (k ∷ without test ks))
-    by true rest = all.1
-    by false rest = (all.0, rest)
-
-distinct-without : (test : ℕ → Bool) (ks : List ℕ) → IsDistinct nat_eq ks → IsDistinct nat_eq (without test ks)
+distinct-without : (test : ℕ → Bool) (ks : List ℕ) → IsDistinct nat_eq ks → IsDistinct nat_eq (without_first test ks)
 unfolding IsDistinct
 distinct-without test [] apart = apart
 distinct-without test (k ∷ ks) apart = by (test k) (distinct-without test ks apart.1)
   where
-    by : (b : Bool) → IsDistinct nat_eq (without test ks) → IsDistinct nat_eq (cond b ks (k ∷ without test ks))
+    by : (b : Bool) → IsDistinct nat_eq (without_first test ks) → IsDistinct nat_eq (cond b ks (k ∷ without_first test ks))
     by true rest = apart.1
-    by false rest = (all-without (λ y. nat_eq k y ≡ false) test ks apart.0, rest)
+    by false rest = (each_without (λ y. nat_eq k y ≡ false) test ks apart.0, rest)
 
 below-others : (n k : ℕ) (ks : List ℕ) → n ≡ k → AllByRecursion (λ y. nat_eq k y ≡ false) ks → AllBelow (suc n) ks → AllBelow n ks
 below-others n k [] is apart below = tt
@@ -40,12 +33,12 @@ below-others n k (y ∷ ks) is apart below =
     let other : k ≡ y → ⊥ = eqb-false k y apart.0 in
     (omega arith, below-others n k ks is apart.1 below.1)
 
-below-without : (n : ℕ) (ks : List ℕ) → IsDistinct nat_eq ks → AllBelow (suc n) ks → AllBelow n (without (nat_eq n) ks)
+below-without : (n : ℕ) (ks : List ℕ) → IsDistinct nat_eq ks → AllBelow (suc n) ks → AllBelow n (without_first (nat_eq n) ks)
 unfolding IsDistinct
 below-without n [] apart below = tt
 below-without n (k ∷ ks) apart below = by (nat_eq n k) refl (below-without n ks apart.1 below.1)
   where
-    by : (b : Bool) → nat_eq n k ≡ b → AllBelow n (without (nat_eq n) ks) → AllBelow n (cond b ks (k ∷ without (nat_eq n) ks))
+    by : (b : Bool) → nat_eq n k ≡ b → AllBelow n (without_first (nat_eq n) ks) → AllBelow n (cond b ks (k ∷ without_first (nat_eq n) ks))
     by true e rest = below-others n k ks (eqb-true n k e) apart.0 below.1
     by false e rest =
         let other : n ≡ k → ⊥ = eqb-false n k e in
@@ -55,7 +48,7 @@ pigeons : (n : ℕ) (ks : List ℕ) → IsDistinct nat_eq ks → AllBelow n ks �
 pigeons zero [] apart below = omega arith
 pigeons zero (k ∷ ks) apart below = omega arith
 pigeons (suc n) ks apart below =
-    let rest : length (without (nat_eq n) ks) ≤ n = pigeons n (without (nat_eq n) ks) (distinct-without (nat_eq n) ks apart) (below-without n ks apart below) in
+    let rest : length (without_first (nat_eq n) ks) ≤ n = pigeons n (without_first (nat_eq n) ks) (distinct-without (nat_eq n) ks apart) (below-without n ks apart below) in
     omega (arith, length-without (nat_eq n) ks)
 
 clients_below : (ks : List ℕ) → All IsClient ks → AllBelow 65537 ks

@@ -5,7 +5,7 @@ use Rattle.std.proofs.lemmas.Bool.{and_from, and_left, and_parts, ltb-true, ltb-
 use Rattle.std.proofs.lemmas.List.Folds.{find_at}
 use Rattle.std.proofs.lemmas.List.Sums.{position_or_len_is, fails_before_first}
 use Rattle.std.proofs.lemmas.Option.{slice_get_past, get_or_from_slice_get}
-use Rattle.lease_book.specs.Account.{Lease, is_lease, is_older, without}
+use Rattle.lease_book.specs.Account.{Lease, is_lease, is_older, without_first}
 
 pub position-some : {X : Type 0} (test : X → Bool) (xs : List X) (i : ℕ) → position test xs ≡ Some i → (position_or_len test xs ≡ i) × (i < length xs)
 position-some test xs i at = by (nat_lt (position_or_len test xs) (length xs)) refl at
@@ -24,12 +24,12 @@ position-none test xs at = by (nat_lt (position_or_len test xs) (length xs)) ref
     by false less at = ltb-false _ _ less
 
 -- the list without its first member that passes
-pub without_place : {X : Type 0} (test : X → Bool) (xs : List X) → position_or_len test xs < length xs → without test xs ≡ remove xs (position_or_len test xs)
+pub without_place : {X : Type 0} (test : X → Bool) (xs : List X) → position_or_len test xs < length xs → without_first test xs ≡ remove xs (position_or_len test xs)
 without_place test [] within = absurd (omega arith)
 without_place {X} test (x ∷ xs) within = by (test x) within (without_place test xs)
   where
-    by : (b : Bool) → cond (not b) (1 + position_or_len test xs) 0 < length (x ∷ xs) → (position_or_len test xs < length xs → without test xs ≡ remove xs (position_or_len test xs))
-        → cond b xs (x ∷ without test xs) ≡ remove (x ∷ xs) (cond (not b) (1 + position_or_len test xs) 0)
+    by : (b : Bool) → cond (not b) (1 + position_or_len test xs) 0 < length (x ∷ xs) → (position_or_len test xs < length xs → without_first test xs ≡ remove xs (position_or_len test xs))
+        → cond b xs (x ∷ without_first test xs) ≡ remove (x ∷ xs) (cond (not b) (1 + position_or_len test xs) 0)
     by true within rest = refl
     by false within rest = rw one-add (ap (λ (ys : List X). x ∷ ys) (rest (omega arith)))
 
@@ -47,7 +47,7 @@ passes_place test (x ∷ xs) within = by (test x) refl within (passes_place test
 pub record IsFirst {X : Type 0} (test : X → Bool) (xs : List X) (k : ℕ) : Type 0 where
   pub within : k < length xs
   pub found : find test xs ≡ slice_get xs k
-  pub left : without test xs ≡ remove xs k
+  pub left : without_first test xs ≡ remove xs k
   pub passes : IfSome (slice_get xs k) (λ x. test x ≡ true)
 
 pub first_of_place : {X : Type 0} (test : X → Bool) (xs : List X) (k : ℕ) → position_or_len test xs ≡ k → k < length xs → IsFirst test xs k

@@ -5,7 +5,7 @@ use Rattle.std.proofs.lemmas.List.Sums.{sum_by-cons, sum_by-append}
 use Rattle.deed_core.specs.Tag.{Tag}
 use Rattle.lease_book.specs.Account.{Lease, Account}
 use Rattle.lease_book.specs.Shelf.{account_with, accounts_of}
-use Rattle.lease_book.specs.BookState.{segments, leased_by, units_in, units_of_lease}
+use Rattle.lease_book.specs.BookState.{segments, leased_by, units_of_arena, units_of_lease}
 use Rattle.lease_book.specs.declared.accounts.Standing.{Standing}
 use Rattle.std.proofs.lemmas.Bool.{ltb-true}
 use Rattle.std.proofs.Common.{lt-ltb}
@@ -22,16 +22,16 @@ sum_by-leased_by f a rest = sum_by-append f (segments a.leases) (leased_by rest)
 
 -- the units of all leases, client by client
 pub units_by_client : (arena : ℕ) (es : List (ℕ × Standing)) (ls : List (List Lease)) → length es ≡ length ls
-    → sum_by (λ l. sum_by (units_of_lease arena) l) ls ≡ sum_by (units_in arena) (leased_by (accounts_of es ls))
+    → sum_by (λ l. sum_by (units_of_lease arena) l) ls ≡ sum_by (units_of_arena arena) (leased_by (accounts_of es ls))
 units_by_client arena [] [] same = refl
 units_by_client arena [] (l ∷ ls) same = absurd (omega arith)
 units_by_client arena (e ∷ es) [] same = absurd (omega arith)
 units_by_client arena (e ∷ es) (l ∷ ls) same =
-    let all : sum_by (λ x. sum_by (units_of_lease arena) x) ls ≡ sum_by (units_in arena) (leased_by (accounts_of es ls)) = units_by_client arena es ls (omega arith) in
-    let these : sum_by (units_in arena) (segments l) ≡ sum_by (units_of_lease arena) l = sum_by-segments (units_in arena) l in
+    let all : sum_by (λ x. sum_by (units_of_lease arena) x) ls ≡ sum_by (units_of_arena arena) (leased_by (accounts_of es ls)) = units_by_client arena es ls (omega arith) in
+    let these : sum_by (units_of_arena arena) (segments l) ≡ sum_by (units_of_lease arena) l = sum_by-segments (units_of_arena arena) l in
     let now : sum_by (λ x. sum_by (units_of_lease arena) x) (l ∷ ls) ≡ sum_by (units_of_lease arena) l + sum_by (λ x. sum_by (units_of_lease arena) x) ls = sum_by-cons (λ x. sum_by (units_of_lease arena) x) l ls in
-    let then_all : sum_by (units_in arena) (leased_by (accounts_of (e ∷ es) (l ∷ ls))) ≡ sum_by (units_in arena) (segments l) + sum_by (units_in arena) (leased_by (accounts_of es ls)) =
-    sum_by-leased_by (units_in arena) (account_with e.0 e.1 l) (accounts_of es ls) in
+    let then_all : sum_by (units_of_arena arena) (leased_by (accounts_of (e ∷ es) (l ∷ ls))) ≡ sum_by (units_of_arena arena) (segments l) + sum_by (units_of_arena arena) (leased_by (accounts_of es ls)) =
+    sum_by-leased_by (units_of_arena arena) (account_with e.0 e.1 l) (accounts_of es ls) in
     omega (arith, all, these, now, then_all)
 
 no_segments : (l : List Lease) (rest : List Tag) → segments l ++ rest ≡ [] → (l ≡ []) × (rest ≡ [])

@@ -37,20 +37,21 @@ abbrev pub is_older : ℕ → Lease → Bool
 is_older incarnation l = nat_lt l.incarnation incarnation
 
 -- the list without the first member that passes the test
-abbrev pub without : {X : Type 0} → (X → Bool) → List X → List X
-without test [] = []
-without test (x ∷ xs) = if test x then xs else x ∷ without test xs
+abbrev pub without_first : {X : Type 0} → (X → Bool) → List X → List X
+without_first test [] = []
+without_first test (x ∷ xs) = if test x then xs else x ∷ without_first test xs
 
 -- the lease of a segment that the request was granted
 abbrev pub lease_of : RequestId → Tag → Lease
 lease_of id t = record { incarnation = id.incarnation; number = id.number; segment = t }
 
 -- the client's request that was granted the lease
-abbrev pub request_of : ℕ → Lease → RequestId
-request_of c l = record { client = c; incarnation = l.incarnation; number = l.number }
+abbrev pub granted_request : ℕ → Lease → RequestId
+granted_request c l = record { client = c; incarnation = l.incarnation; number = l.number }
 
 -- the leases after the request was settled
 abbrev pub leases_after : RequestId → Settlement → List Lease → List Lease
 leases_after id (Grant t terms) leases = leases ++ lease_of id t ∷ []
-leases_after id (Return arena base) leases = without (is_lease id.incarnation arena base) leases
+leases_after id (Return arena base) leases =
+    without_first (is_lease id.incarnation arena base) leases
 leases_after id (Refuse why) leases = leases

@@ -1,11 +1,11 @@
 -- What contracts see of a book.
-use Rattle.std.specs.Prelude.{◌≡◌, ℕ, ◌==◌, if◌then◌else◌, List, [], ◌∷◌, map, Option, Some, None}
+use Rattle.std.specs.Prelude.{◌≡◌, ℕ, ◌==◌, if◌then◌else◌, List, [], ◌∷◌, map, Option, Some, None, sum_by}
 use Rattle.std.specs.List.{find, flat_map}
 use Rattle.deed_core.specs.Holding.{Holding}
 use Rattle.deed_core.specs.Tag.{Tag}
 use Rattle.lease_book.specs.Entry.{Entry}
 use Rattle.lease_book.specs.Account.{Lease, Account}
-use Rattle.lease_book.specs.History.{account, clients_of, IsOrderly}
+use Rattle.lease_book.specs.History.{account, clients_of, AreOrderly}
 
 -- its mark, and what it has on each client, in order of first hello
 pub record BookState : Type 0 where
@@ -14,7 +14,7 @@ pub record BookState : Type 0 where
 
 -- the book is what is read off the entries
 pub record IsHistory (entries : List Entry) (book : BookState) : Type 0 where
-  pub orderly : IsOrderly entries
+  pub orderly : AreOrderly entries
   pub accounts : book.accounts ≡ map (account entries) (clients_of entries)
 
 -- some entries give the book
@@ -48,13 +48,21 @@ leased_by accounts = flat_map (λ a. segments a.leases) accounts
 abbrev pub leased : BookState → List Tag
 leased book = leased_by book.accounts
 
+-- its clients, in order of first hello
+abbrev pub clients_in : BookState → List ℕ
+clients_in book = map (λ a. a.client) book.accounts
+
+-- what a client's leases weigh together, each by its segment
+abbrev pub weight_of : (Tag → ℕ) → BookState → ℕ → ℕ
+weight_of f book c = sum_by f (segments (account_in c book).leases)
+
 -- all segments whose grants no later entry took away
 abbrev pub leased_in : List Entry → List Tag
 leased_in entries = leased_by (map (account entries) (clients_of entries))
 
 -- what a segment counts in an arena
-abbrev pub units_in : ℕ → Tag → ℕ
-units_in arena t = if t.arena == arena then t.holding.range.len else 0
+abbrev pub units_of_arena : ℕ → Tag → ℕ
+units_of_arena arena t = if t.arena == arena then t.holding.range.len else 0
 
 abbrev pub units_of_lease : ℕ → Lease → ℕ
-units_of_lease arena l = units_in arena l.segment
+units_of_lease arena l = units_of_arena arena l.segment

@@ -10,6 +10,7 @@ use Rattle.lease_book.specs.Entry.{Settled, Swept, Grant, Return, Refuse, kept}
 use Rattle.lease_book.specs.Account.{is_lease, lease_of}
 use Rattle.lease_book.specs.BookState.{BookState, Enters, account_in, leased}
 use Rattle.lease_book.specs.Answers.{receipt, IsNew}
+use Rattle.lease_book.specs.declared.books.TheConstants.{MOST_LEASES}
 use Rattle.lease_book.specs.declared.receipts.Terms.{Terms}
 
 -- the index of a client's account
@@ -22,7 +23,7 @@ pub record IsFound (book : BookState) (c index : ℕ) : Type 0 where
 pub record IsGranted (old now : BookState) (id : RequestId) (t : Tag) (terms : Terms)
     (r : ReceiptState) : Type 0 where
   pub new : IsNew (account_in id.client old) id
-  pub room : length (account_in id.client old).leases < 1024
+  pub room : length (account_in id.client old).leases < MOST_LEASES
   pub receipt : r ≡ receipt old id (kept id.number (Grant t terms))
   pub entry : Enters (Settled id (Grant t terms)) old now
   pub leases : Gains (leased old) (leased now) t

@@ -4,8 +4,8 @@ use Rattle.deed_core.specs.Tag.{Tag}
 use Rattle.lease_terms.specs.Requests.{RequestId}
 use Rattle.lease_terms.specs.declared.refusals.Refusal.{Refusal}
 use Rattle.lease_book.specs.Receipts.{Kept}
-use Rattle.lease_book.specs.declared.receipts.Reply.{Reply}
-use Rattle.lease_book.specs.declared.receipts.Reply.TheVariants.{Granted, Released, Refused}
+use Rattle.lease_book.specs.declared.receipts.KeptReply.{KeptReply}
+use Rattle.lease_book.specs.declared.receipts.KeptReply.TheVariants.{Granted, Released, Refused}
 use Rattle.lease_book.specs.declared.receipts.Terms.{Terms}
 
 -- how a request was settled
@@ -24,7 +24,13 @@ pub data Entry : Type 0 where
   -- the client's lease with this arena and base was ended
   Swept : (client incarnation arena base : ℕ) → Entry
 
-abbrev pub reply_of : Settlement → Reply
+-- the client that it is about
+abbrev pub subject_of : Entry → ℕ
+subject_of (Hello c i) = c
+subject_of (Settled id s) = id.client
+subject_of (Swept c i arena base) = c
+
+abbrev pub reply_of : Settlement → KeptReply
 reply_of (Grant t terms) = Granted t.arena t.holding.range.base t.holding.range.len
 reply_of (Return arena base) = Released
 reply_of (Refuse why) = Refused why

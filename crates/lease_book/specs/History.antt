@@ -1,12 +1,12 @@
 -- What is read off a list of entries, newest first.
 use Rattle.std.specs.Prelude.{◌≡◌, ℕ, ◌+◌, ◌≤◌, ◌==◌, ◌&&◌, nat_lt, if◌then◌else◌, List, [], ◌∷◌, ◌++◌, Option, Some, None}
-use Rattle.std.specs.List.{list_any}
+use Rattle.std.specs.List.{find, list_any}
 use Rattle.deed_core.specs.Extent.{IsRange}
 use Rattle.lease_terms.specs.Ranges.{IsClient, IsOrdinal, IsQuantity}
-use Rattle.lease_terms.specs.Requests.{IsRequestId}
+use Rattle.lease_terms.specs.Requests.{RequestId, IsRequestId}
 use Rattle.lease_book.specs.Receipts.{Kept}
 use Rattle.lease_book.specs.Entry.{Settlement, Grant, Return, Refuse, Entry, Hello, Settled, Swept, kept}
-use Rattle.lease_book.specs.Account.{Lease, Account, number_of, is_lease, without, leases_after}
+use Rattle.lease_book.specs.Account.{Lease, Account, number_of, is_lease, without_first, leases_after}
 
 -- the incarnation of the client's last hello, or 0
 abbrev pub incarnation : ℕ → List Entry → ℕ
@@ -33,6 +33,15 @@ abbrev pub greatest : List Kept → Option Kept
 greatest [] = None
 greatest (k ∷ older) = higher k (greatest older)
 
+-- the last number that was settled for that incarnation of the client, or 0
+abbrev pub last_in : ℕ → ℕ → List Entry → ℕ
+last_in c i entries = number_of (greatest (settled_in c i entries))
+
+-- how the request was settled, if it was
+abbrev pub outcome_of : RequestId → List Entry → Option Kept
+outcome_of id entries =
+    find (λ k. id.number == k.number) (settled_in id.client id.incarnation entries)
+
 -- the client's granted entries that no later one took away, oldest first
 abbrev pub leases_of : ℕ → List Entry → List Lease
 leases_of c [] = []
@@ -40,7 +49,7 @@ leases_of c (Hello d i ∷ older) = leases_of c older
 leases_of c (Settled id s ∷ older) =
     if c == id.client then leases_after id s (leases_of c older) else leases_of c older
 leases_of c (Swept d i a b ∷ older) =
-    if c == d then without (is_lease i a b) (leases_of c older) else leases_of c older
+    if c == d then without_first (is_lease i a b) (leases_of c older) else leases_of c older
 
 -- the clients that said hello, in order of their first
 abbrev pub clients_of : List Entry → List ℕ
@@ -71,11 +80,11 @@ IsInRange (Refuse why) = Unit {0}
 
 -- incarnations don't fall, and each of them has its numbers settled once and one after the other,
 -- while it is the current one; clients, incarnations, numbers and units are in their ranges
-abbrev pub IsOrderly : List Entry → Type 0
-IsOrderly [] = Unit {0}
-IsOrderly (Hello c i ∷ older) =
-    (IsClient c × IsOrdinal i) × (incarnation c older ≤ i) × IsOrderly older
-IsOrderly (Settled id s ∷ older) =
+abbrev pub AreOrderly : List Entry → Type 0
+AreOrderly [] = Unit {0}
+AreOrderly (Hello c i ∷ older) =
+    (IsClient c × IsOrdinal i) × (incarnation c older ≤ i) × AreOrderly older
+AreOrderly (Settled id s ∷ older) =
     (IsRequestId id × IsInRange s) × (id.incarnation ≡ incarnation id.client older)
-    × (id.number ≡ number_of (kept_of id.client older) + 1) × IsOrderly older
-IsOrderly (Swept c i a b ∷ older) = IsOrderly older
+    × (id.number ≡ number_of (kept_of id.client older) + 1) × AreOrderly older
+AreOrderly (Swept c i a b ∷ older) = AreOrderly older

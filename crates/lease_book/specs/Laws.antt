@@ -3,8 +3,8 @@ use Rattle.std.specs.Prelude.{◌≡◌, ℕ, ◌+◌, ◌<◌, ◌≤◌, ◌�
 use Rattle.std.specs.List.{find}
 use Rattle.lease_terms.specs.Requests.{RequestId}
 use Rattle.lease_book.specs.Entry.{Settlement, Entry, Hello, Settled, Swept, kept}
-use Rattle.lease_book.specs.Account.{Lease, is_lease, without, leases_after}
-use Rattle.lease_book.specs.History.{incarnation, leases_of, kept_of, account, IsOrderly}
+use Rattle.lease_book.specs.Account.{Lease, is_lease, without_first, leases_after}
+use Rattle.lease_book.specs.History.{incarnation, leases_of, kept_of, account, AreOrderly}
 use Rattle.lease_book.specs.BookState.{BookState, IsHistory, HasHistory, account_in}
 
 -- a client's account is what is read off about it, also where it never said hello
@@ -22,7 +22,7 @@ AccountIsOfItsClient = (book : BookState) (c : ℕ) → HasHistory book → (acc
 pub record HelloChanges : Type 0 where
   pub again : (es : List Entry) (c i : ℕ)
       → i ≡ incarnation c es → account (Hello c i ∷ es) c ≡ account es c
-  pub above : (es : List Entry) (c i : ℕ) → IsOrderly es → incarnation c es < i
+  pub above : (es : List Entry) (c i : ℕ) → AreOrderly es → incarnation c es < i
       → account (Hello c i ∷ es) c
       ≡ record { client = c; incarnation = i; kept = None; leases = leases_of c es }
   pub others : (es : List Entry) (c i d : ℕ)
@@ -30,7 +30,7 @@ pub record HelloChanges : Type 0 where
 
 -- what a settled request changes: the kept reply and the leases of its client, and nothing else
 pub record SettledChanges : Type 0 where
-  pub own : (es : List Entry) (id : RequestId) (s : Settlement) → IsOrderly (Settled id s ∷ es)
+  pub own : (es : List Entry) (id : RequestId) (s : Settlement) → AreOrderly (Settled id s ∷ es)
       → account (Settled id s ∷ es) id.client
       ≡ record {
         client = id.client;
@@ -49,7 +49,7 @@ pub record SweptChanges : Type 0 where
         client = c;
         incarnation = incarnation c es;
         kept = kept_of c es;
-        leases = without (is_lease i arena base) (leases_of c es);
+        leases = without_first (is_lease i arena base) (leases_of c es);
       }
   pub others : (es : List Entry) (c i arena base d : ℕ)
       → d ≢ c → account (Swept c i arena base ∷ es) d ≡ account es d
@@ -58,10 +58,10 @@ pub record SweptChanges : Type 0 where
 abbrev pub WithoutLosesTheFound : Type 0
 WithoutLosesTheFound =
     (test : Lease → Bool) (leases : List Lease) (l : Lease) → find test leases ≡ Some l
-    → (f : Lease → ℕ) → sum_by f (without test leases) + f l ≡ sum_by f leases
+    → (f : Lease → ℕ) → sum_by f (without_first test leases) + f l ≡ sum_by f leases
 
 -- no lease is of an incarnation above the current one
 abbrev pub LeasesAreNotAbove : Type 0
 LeasesAreNotAbove =
-    (entries : List Entry) (c : ℕ) → IsOrderly entries
+    (entries : List Entry) (c : ℕ) → AreOrderly entries
     → All (λ l. l.incarnation ≤ incarnation c entries) (leases_of c entries)

@@ -8,3 +8,5 @@ pub mod Answers
 pub mod Calls
 pub mod Reports
 pub mod Laws
+pub mod NumberLaws
+pub mod ClientLaws

@@ -2,18 +2,18 @@
 use Rattle.std.specs.Prelude.{ℕ, Option, Some, None}
 use Rattle.deed_core.specs.Request.{Fits}
 use Rattle.lease_terms.specs.Requests.{RequestId}
-use Rattle.lease_book.specs.declared.receipts.Reply.{Reply}
-use Rattle.lease_book.specs.declared.receipts.Reply.TheVariants.{Granted, Released, Refused}
+use Rattle.lease_book.specs.declared.receipts.KeptReply.{KeptReply}
+use Rattle.lease_book.specs.declared.receipts.KeptReply.TheVariants.{Granted, Released, Refused}
 use Rattle.lease_book.specs.declared.receipts.Terms.{Terms}
 
 -- a settled number, its reply, and for a grant what it was made for
 pub record Kept : Type 0 where
   pub number : ℕ
-  pub reply : Reply
+  pub reply : KeptReply
   pub terms : Option Terms
 
 -- a grant, and it alone, has terms, and meets them
-abbrev pub IsEarned : Reply → Option Terms → Type 0
+abbrev pub IsEarned : KeptReply → Option Terms → Type 0
 IsEarned (Granted arena base len) (Some t) = Fits t.quantum t.request base len
 IsEarned (Granted arena base len) None = ⊥
 IsEarned Released (Some t) = ⊥
@@ -25,5 +25,5 @@ IsEarned (Refused why) None = Unit {0}
 pub record ReceiptState : Type 0 where
   pub book : ℕ
   pub id : RequestId
-  pub reply : Reply
+  pub reply : KeptReply
   pub terms : Option Terms

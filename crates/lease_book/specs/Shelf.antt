@@ -6,6 +6,8 @@ use Rattle.std.specs.List.{IsDistinct}
 use Rattle.lease_terms.specs.Ranges.{IsClient}
 use Rattle.lease_book.specs.Account.{Lease, Account}
 use Rattle.lease_book.specs.declared.accounts.Standing.{Standing}
+use Rattle.lease_book.specs.declared.books.TheConstants.{MOST_LEASES}
+use Rattle.lease_terms.specs.declared.values.TheConstants.{LAST_CLIENT}
 
 -- an account, of its parts
 abbrev pub account_with : ℕ → Standing → List Lease → Account
@@ -27,8 +29,8 @@ pub record IsShelf (es : List (ℕ × Standing)) (ls : List (List Lease)) : Type
   pub together : length es ≡ length ls
   pub clients : All IsClient (keys_of es)
   pub apart : IsDistinct nat_eq (keys_of es)
-  pub few : length es ≤ 65536
-  pub limited : All (λ (l : List Lease). length l ≤ 1024) ls
+  pub few : length es ≤ LAST_CLIENT
+  pub limited : All (λ (l : List Lease). length l ≤ MOST_LEASES) ls
 
 -- no client before this index has a lease
 abbrev pub IsEmptyBefore : ℕ → List (List Lease) → Type 0

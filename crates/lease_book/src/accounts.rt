@@ -1,13 +1,15 @@
 //! The accounts of the clients, in order of first hello.
 ghost use Rattle.std.specs.Prelude.{◌≡◌, ◌≢◌, ◌+◌, ◌*◌, ◌<◌, ◌≤◌, ◌==◌, List, [], ◌∷◌, ◌++◌, length, All, OnOk, OnErr, IfErr, IfSome, IfNone, Some, None, slice_get, position, sum_by, nat_lt, option_map};
 ghost use Rattle.std.specs.List.{find, remove};
+ghost use Rattle.lease_terms.specs.declared.values.TheConstants.{LAST_CLIENT};
 ghost use Rattle.lease_book.specs.Receipts.{IsEarned};
 ghost use Rattle.lease_book.specs.Account.{Account, number_of};
 ghost use Rattle.lease_book.specs.BookState.{units_of_lease};
 ghost use Rattle.lease_book.specs.Shelf.{IsEmptyBefore};
+ghost use Rattle.lease_book.specs.declared.books.TheConstants.{MOST_LEASES};
 
 use crate::leases::{Held, Leases};
-use crate::receipts::{Kept, Reply, Terms};
+use crate::receipts::{Kept, KeptReply, Terms};
 use crate::reports::ClientReport;
 use deed_core::{Deed, Segment};
 use indexmap::IndexMap;
@@ -56,7 +58,7 @@ impl<D: Deed> Model for Accounts<D> {
 
 impl<D: Deed> Accounts<D> {
     ghost use Rattle.lease_book.specs.Shelf.{account_with, changed_at, standing_of, with_standing, with_leases};
-    ghost use Rattle.lease_book.specs.BookState.{leased_by, units_in};
+    ghost use Rattle.lease_book.specs.BookState.{leased_by, units_of_arena};
     ghost use Rattle.lease_book.specs.Reports.{report_of};
 
     pub(crate) fn new(alloc: Global) -> Accounts<D>
@@ -71,7 +73,7 @@ impl<D: Deed> Accounts<D> {
 
     pub(crate) fn len(&self) -> usize
         ensures count { result ≡ length self.now }
-        ensures few { result ≤ 65536 }
+        ensures few { result ≤ LAST_CLIENT }
     {
         self.clients.len()
     }
@@ -105,7 +107,7 @@ impl<D: Deed> Accounts<D> {
         &mut self,
         index: usize,
         id: RequestId,
-        reply: Reply,
+        reply: KeptReply,
         terms: Option<Terms>,
     ) -> Kept
         requires within { index < length self.old }
@@ -146,7 +148,7 @@ impl<D: Deed> Accounts<D> {
     pub(crate) fn leases(&self, index: usize) -> &Leases<D>
         requires { index < length self.now }
         ensures leases { IfSome (slice_get self.now index) (λ a. a.leases ≡ result.now) }
-        ensures limited { length result.now ≤ 1024 }
+        ensures limited { length result.now ≤ MOST_LEASES }
     {
         &self.leases[index]
     }
@@ -154,7 +156,7 @@ impl<D: Deed> Accounts<D> {
     /// Adds a lease. `Err` is out of memory.
     pub(crate) fn lease(&mut self, index: usize, held: Held<D>) -> Result<(), Segment<D>>
         requires within { index < length self.old }
-        requires room { IfSome (slice_get self.old index) (λ a. length a.leases < 1024) }
+        requires room { IfSome (slice_get self.old index) (λ a. length a.leases < MOST_LEASES) }
         ensures ok { OnOk result (self.new ≡ changed_at self.old index
             (with_leases (λ ls. ls ++ held ∷ []))) }
         ensures unchanged { OnErr result (self.new ≡ self.old) }
@@ -216,7 +218,7 @@ impl<D: Deed> Accounts<D> {
 
     /// The units of the arena that are leased.
     pub(crate) fn units(&self, arena: u32) -> u128
-        ensures { result ≡ sum_by (units_in arena) (leased_by self.now) }
+        ensures { result ≡ sum_by (units_of_arena arena) (leased_by self.now) }
     {
         units_of(&self.leases, arena)
     }
@@ -249,8 +251,8 @@ fn first_leased<D: Deed>(leases: &[Leases<D>], empty: usize) -> Option<usize>
 }
 
 fn units_of<D: Deed>(leases: &[Leases<D>], arena: u32) -> u128
-    requires few { length leases.now ≤ 65536 }
-    requires limited { All (λ l. length l ≤ 1024) leases.now }
+    requires few { length leases.now ≤ LAST_CLIENT }
+    requires limited { All (λ l. length l ≤ MOST_LEASES) leases.now }
     ensures { result ≡ sum_by (λ l. sum_by (units_of_lease arena) l) leases.now }
 {
     let mut units: u128 = 0;

@@ -63,3 +63,10 @@ pub enum Answer<D> {
     /// Out of memory: nothing is settled.
     Again,
 }
+
+/// A segment that isn't leased, and the answer to the request that was to have it.
+pub struct NotLeased<S, D> {
+    /// As it was given.
+    pub segment: S,
+    pub answer: Answer<D>,
+}

@@ -4,17 +4,19 @@ ghost use Rattle.std.specs.List.{find};
 ghost use Rattle.std.specs.Option.{option_map};
 ghost use Rattle.deed_core.specs.Request.{Fits};
 ghost use Rattle.lease_terms.specs.Requests.{IsRequestId};
+ghost use Rattle.lease_terms.specs.declared.values.TheConstants.{LAST_CLIENT};
 ghost use Rattle.lease_book.specs.Receipts.{Kept};
 ghost use Rattle.lease_book.specs.Entry.{Entry, Hello, kept};
 ghost use Rattle.lease_book.specs.Account.{last, is_lease};
 ghost use Rattle.lease_book.specs.History.{account, clients_of};
-ghost use Rattle.lease_book.specs.BookState.{BookState, IsHistory, HasHistory, Enters, account_in, leased, leased_in, units_in};
+ghost use Rattle.lease_book.specs.BookState.{BookState, IsHistory, HasHistory, Enters, account_in, leased, leased_in, units_of_arena};
 ghost use Rattle.lease_book.specs.Reports.{report_of};
+ghost use Rattle.lease_book.specs.declared.books.TheConstants.{MOST_LEASES};
 
 use crate::accounts::{Accounts, Standing};
-use crate::answers::{Answer, HelloFault, Look};
+use crate::answers::{Answer, HelloFault, Look, NotLeased};
 use crate::leases::Held;
-use crate::receipts::{Kept, Receipt, Reply, Terms};
+use crate::receipts::{Kept, KeptReply, Receipt, Terms};
 use crate::reports::ClientReport;
 use deed_core::{Deed, Request, Segment};
 use lease_terms::{ClientId, Ordinal, Quantity, Refusal, RequestId};
@@ -22,7 +24,7 @@ use std::alloc::Global;
 use std::marker::Model;
 
 /// As many leases a client may have, those of older incarnations among them. (Our own choice.)
-pub const LEASES: usize = 1024;
+pub const MOST_LEASES: usize = 1024;
 
 /// Which client holds which segment, and the last number and the kept reply of each client's
 /// current incarnation.
@@ -138,30 +140,31 @@ impl<D: Deed> Book<D> {
         quantum: u64,
         request: &Request,
         segment: Segment<D>,
-    ) -> Result<Receipt<D>, (Segment<D>, Answer<D>)>
+    ) -> Result<Receipt<D>, NotLeased<Segment<D>, D>>
         requires arena { segment.arena ≡ arena }
         requires fits { Fits quantum request.now
             segment.holding.range.base segment.holding.range.len }
         ensures granted { IfOk result (IsGranted self.old self.new id segment
             (record { quantum = quantum; request = request.now })) }
-        ensures handed_back { IfErr result (λ r. r.0 ≡ segment) }
-        ensures answer { IfErr result (λ r. IsAnswer self.old self.new id
+        ensures handed_back { IfErr result (λ e. e.segment ≡ segment) }
+        ensures answer { IfErr result (λ e. IsAnswer self.old self.new id
             (λ v. IsRefused self.old self.new id Refusal.Leases v
-            × (1024 ≤ length (account_in id.client self.old).leases))
+            × (MOST_LEASES ≤ length (account_in id.client self.old).leases))
             (IsNew (account_in id.client self.old) id
-            × (length (account_in id.client self.old).leases < 1024))
-            r.1) }
+            × (length (account_in id.client self.old).leases < MOST_LEASES))
+            e.answer) }
     {
         let index = match self.admit(id) {
             Ok(index) => index,
-            Err(answer) => return Err((segment, answer)),
+            Err(answer) => return Err(NotLeased { segment, answer }),
         };
-        if self.accounts.leases(index).len() == LEASES {
-            let reply = Reply::Refused(Refusal::Leases);
+        if self.accounts.leases(index).len() == MOST_LEASES {
+            let reply = KeptReply::Refused(Refusal::Leases);
             let kept = self.accounts.keep(index, id, reply, None);
-            return Err((segment, Answer::Refused(self.receipt(id, kept))));
+            let answer = Answer::Refused(self.receipt(id, kept));
+            return Err(NotLeased { segment, answer });
         }
-        let reply = Reply::granted(arena, &segment.range());
+        let reply = KeptReply::granted(arena, &segment.range());
         match self.accounts.lease(index, Held::new(id, segment)) {
             Ok(()) => {
                 let terms = Terms {
@@ -171,7 +174,10 @@ impl<D: Deed> Book<D> {
                 let kept = self.accounts.keep(index, id, reply, Some(terms));
                 Ok(self.receipt(id, kept))
             }
-            Err(segment) => Err((segment, Answer::Again)),
+            Err(segment) => {
+                let answer = Answer::Again;
+                Err(NotLeased { segment, answer })
+            }
         }
     }
 
@@ -181,7 +187,8 @@ impl<D: Deed> Book<D> {
     {
         match self.admit(id) {
             Ok(index) => {
-                let kept = self.accounts.keep(index, id, Reply::Refused(refusal), None);
+                let reply = KeptReply::Refused(refusal);
+                let kept = self.accounts.keep(index, id, reply, None);
                 Answer::Refused(self.receipt(id, kept))
             }
             Err(answer) => answer,
@@ -209,12 +216,12 @@ impl<D: Deed> Book<D> {
         let index = self.admit(id)?;
         let leases = self.accounts.leases(index);
         let Some(lease) = leases.position(id, arena, base) else {
-            let reply = Reply::Refused(Refusal::NotYours);
+            let reply = KeptReply::Refused(Refusal::NotYours);
             let kept = self.accounts.keep(index, id, reply, None);
             return Err(Answer::Refused(self.receipt(id, kept)));
         };
         let segment = self.accounts.take(index, lease).into_segment();
-        let kept = self.accounts.keep(index, id, Reply::Released, None);
+        let kept = self.accounts.keep(index, id, KeptReply::Released, None);
         Ok((self.receipt(id, kept), segment))
     }
 
@@ -247,19 +254,19 @@ impl<D: Deed> Book<D> {
 
     /// The units of the arena that are leased.
     pub fn units(&self, arena: u32) -> u128
-        ensures value { result ≡ sum_by (units_in arena) (leased self.now) }
+        ensures value { result ≡ sum_by (units_of_arena arena) (leased self.now) }
         ensures history { (entries : List Entry)
             → IsHistory entries self.now
-            → result ≡ sum_by (units_in arena) (leased_in entries) }
+            → result ≡ sum_by (units_of_arena arena) (leased_in entries) }
     {
         self.accounts.units(arena)
     }
 
-    /// How many clients ever said hello. In order of first hello they stand at the places below
+    /// How many clients ever said hello. In order of first hello they stand at the indices below
     /// this.
     pub fn clients(&self) -> usize
         ensures count { result ≡ length self.now.accounts }
-        ensures few { result ≤ 65536 }
+        ensures few { result ≤ LAST_CLIENT }
         ensures history { (entries : List Entry)
             → IsHistory entries self.now
             → result ≡ length (clients_of entries) }
@@ -267,7 +274,7 @@ impl<D: Deed> Book<D> {
         self.accounts.len()
     }
 
-    /// The client that stands at a place in order of first hello.
+    /// The client that stands at an index in order of first hello.
     pub fn client_at(&self, index: usize) -> Option<ClientReport>
         ensures value { result ≡ option_map report_of (slice_get self.now.accounts index) }
         ensures history { (entries : List Entry)

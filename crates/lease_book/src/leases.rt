@@ -1,8 +1,10 @@
 //! The leases of one client, in order of grant.
 ghost use Rattle.std.specs.Prelude.{◌≡◌, ◌+◌, ◌*◌, ◌^◌, ◌<◌, ◌≤◌, [], ◌∷◌, ◌++◌, length, OnOk, OnErr, IfErr, Some, slice_get, position, sum_by};
 ghost use Rattle.std.specs.List.{remove};
-ghost use Rattle.lease_book.specs.Account.{Lease, is_lease, is_older, lease_of, request_of};
+ghost use Rattle.lease_terms.specs.declared.values.TheConstants.{LARGEST};
+ghost use Rattle.lease_book.specs.Account.{Lease, is_lease, is_older, lease_of, granted_request};
 ghost use Rattle.lease_book.specs.BookState.{units_of_lease};
+ghost use Rattle.lease_book.specs.declared.books.TheConstants.{MOST_LEASES};
 
 use deed_core::{Deed, Segment};
 use lease_terms::{ClientId, Ordinal, Quantity, RequestId};
@@ -68,7 +70,7 @@ impl<D: Deed> Held<D> {
 
     /// The client's request that was granted it, and the segment.
     pub(crate) fn ended(self, client: ClientId) -> (RequestId, Segment<D>)
-        ensures { result ≡ (request_of client self, self.segment) }
+        ensures { result ≡ (granted_request client self, self.segment) }
     {
         let Held {
             incarnation,
@@ -85,7 +87,7 @@ impl<D: Deed> Held<D> {
 
     fn units(&self, arena: u32) -> u64
         ensures value { result ≡ units_of_lease arena self.now }
-        ensures bound { result ≤ 2 ^ 62 }
+        ensures bound { result ≤ LARGEST }
     {
         if self.segment.arena() == arena {
             self.segment.range().len()
@@ -164,9 +166,9 @@ impl<D: Deed> Leases<D> {
 
     /// The units of the arena that are leased.
     pub(crate) fn units(&self, arena: u32) -> u128
-        requires { length self.now ≤ 1024 }
+        requires { length self.now ≤ MOST_LEASES }
         ensures value { result ≡ sum_by (units_of_lease arena) self.now }
-        ensures bound { result ≤ 1024 * 2 ^ 62 }
+        ensures bound { result ≤ MOST_LEASES * LARGEST }
     {
         let mut units: u128 = 0;
         for held in &self.held {

@@ -11,9 +11,14 @@
 //! `specs/Answers.antt` and `specs/Calls.antt`. What the crates above may cite of the proofs is in
 //! `proofs/LawProofs.antt`.
 //!
-//! What it costs: a look-up of a client takes the same time however many there are. A release and a
-//! sweep look at the leases of one client, at most 1,024, and `units` at all leases. Ending all
-//! leases one by one looks at each client once.
+//! What holds of every book, for the crates above, is in `specs/Laws.antt` (an entry, an account),
+//! `specs/NumberLaws.antt` (requests and their outcomes) and `specs/ClientLaws.antt` (all clients
+//! together, ranges of numbers).
+//!
+//! What it costs: a look-up of a client takes the same time however many there are, and so does a
+//! grant or a refusal. A release and a sweep look at the leases of one client, at most
+//! `MOST_LEASES`, and `units` at all leases. Ending all leases one by one looks at each client once.
+//! A book keeps a few words for each client that ever said hello and for each lease.
 #![tactic(auto)]
 
 mod accounts;
@@ -24,8 +29,11 @@ mod leases;
 mod receipts;
 mod reports;
 
-pub use answers::{Answer, HelloFault, Look};
-pub use books::{Book, LEASES};
-pub use laws::{account_law, entry_laws, lease_laws};
-pub use receipts::{Receipt, Reply, Terms};
+pub use answers::{Answer, HelloFault, Look, NotLeased};
+pub use books::{Book, MOST_LEASES};
+pub use laws::{
+    account_law, bound_law, client_laws, entry_laws, lease_laws, lease_limit_law, number_law,
+    outcome_laws,
+};
+pub use receipts::{KeptReply, Receipt, Terms};
 pub use reports::ClientReport;

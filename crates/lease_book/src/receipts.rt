@@ -8,7 +8,7 @@ use std::marker::{Model, PhantomData};
 
 /// The answer to a number that is settled. Bases and lengths are in units.
 #[derive(Clone, Copy, PartialEq, Eq, Debug)]
-pub enum Reply {
+pub enum KeptReply {
     Granted {
         arena: u32,
         base: Quantity,
@@ -18,14 +18,14 @@ pub enum Reply {
     Refused(Refusal),
 }
 
-impl Reply {
+impl KeptReply {
     /// The reply to a request that was granted this range of the arena.
-    pub(crate) fn granted(arena: u32, range: &Range) -> Reply
-        ensures { result ≡ Reply.Granted arena range.now.base range.now.len }
+    pub(crate) fn granted(arena: u32, range: &Range) -> KeptReply
+        ensures { result ≡ KeptReply.Granted arena range.now.base range.now.len }
     {
         let (base, len) = (range.base(), range.len());
         match (Quantity::new(base), Quantity::new(len)) {
-            (Some(base), Some(len)) => Reply::Granted { arena, base, len },
+            (Some(base), Some(len)) => KeptReply::Granted { arena, base, len },
             _ => unreachable!(),
         }
     }
@@ -43,7 +43,7 @@ pub struct Terms {
 #[derive(Clone, Copy, PartialEq, Eq, Debug)]
 pub(crate) struct Kept {
     number: Ordinal,
-    reply: Reply,
+    reply: KeptReply,
     terms: Option<Terms>,
 }
 
@@ -62,7 +62,7 @@ impl Model for Kept {
 impl Kept {
     ghost use Rattle.lease_book.specs.Receipts.{IsEarned};
 
-    pub(crate) fn new(number: Ordinal, reply: Reply, terms: Option<Terms>) -> Kept
+    pub(crate) fn new(number: Ordinal, reply: KeptReply, terms: Option<Terms>) -> Kept
         requires { IsEarned reply terms }
         ensures { result ≡ record { number = number; reply = reply; terms = terms } }
     {
@@ -85,7 +85,7 @@ impl Kept {
 pub struct Receipt<D> {
     book: u32,
     id: RequestId,
-    reply: Reply,
+    reply: KeptReply,
     terms: Option<Terms>,
     of: PhantomData<D>,
 }
@@ -147,7 +147,7 @@ impl<D> Receipt<D> {
     }
 
     /// The reply, which a request that comes again gets too.
-    pub fn reply(&self) -> Reply
+    pub fn reply(&self) -> KeptReply
         ensures value { result ≡ self.now.reply }
         ensures earned { IsEarned result self.now.terms }
     {

@@ -18,7 +18,8 @@ use Rattle.lease_book.specs.declared.answers.HelloFault.{HelloFault}
 use Rattle.lease_book.specs.declared.answers.HelloFault.TheVariants as fault
 use Rattle.lease_book.specs.declared.answers.Look.{Look}
 use Rattle.lease_book.specs.declared.answers.Look.TheVariants as look
-use Rattle.lease_book.specs.declared.receipts.Reply.TheVariants as was
+use Rattle.lease_book.specs.declared.receipts.KeptReply.TheVariants as was
+use Rattle.lease_book.specs.declared.books.TheConstants.{MOST_LEASES}
 use Rattle.lease_book.specs.declared.receipts.Terms.{Terms}
 use Rattle.lease_proto.specs.declared.lines.Hello.{Hello as HelloLine}
 use Rattle.lease_proto.specs.declared.lines.Lease.{Lease as LeaseLine}
@@ -29,13 +30,13 @@ use Rattle.lease_desk.specs.declared.spaces.Space.{Space}
 use Rattle.lease_desk.specs.DeskState.{NamedArenaState, Exports}
 use Rattle.lease_desk.specs.Moves.{TakesBack, GivesBack}
 use Rattle.lease_desk.specs.Sweeps.{Sweeps}
-use Rattle.lease_desk.specs.Carved.{IsCarved, IsRefused as IsCarveRefused}
+use Rattle.lease_desk.specs.Carved.{IsCarved, IsCarveRefused}
 use Rattle.tag_arena.specs.declared.faults.ArenaFault.TheVariants.{NoFit}
-use Rattle.lease_desk.specs.Machine.{Finds, IsSettled, Refuses, refused_to, granted_to, demand_of, place_in, NewRelease, Grants, Misses, NewLease, HelloStep, Welcomes}
+use Rattle.lease_desk.specs.Machine.{Finds, IsSettled, SettlesRefusal, refused_to, granted_to, demand_of, index_in, NewRelease, Grants, Misses, NewLease, HelloStep, Welcomes}
 use Rattle.lease_desk.specs.Grants.{GrantsAreOwn}
 use Rattle.lease_desk.specs.Spaces.{state_of, states_of, desk_of, IsSteady, AreSpaces}
 use Rattle.lease_desk.specs.Replies.{IsSayable, Says, hello_refused}
-use Rattle.lease_desk.proofs.PlaceLemmas.{slice_get_some, slice_get_mapped}
+use Rattle.deed_core.proofs.LawProofs.{slice_get_some, slice_get_mapped}
 use Rattle.lease_desk.proofs.GrantLemmas.{IsNewAnswer, new_answer, sayable, grants_more}
 use Rattle.lease_desk.proofs.SteadyLemmas.{same_count, hello_incarnation}
 use Rattle.lease_desk.proofs.Exporting.{exports_weigh, exports_back, gives_nothing}
@@ -49,20 +50,20 @@ given old new refused P (answer.Stale n) f is = absurd is
 given old new refused P (answer.Gap n) f is = absurd is
 given old new refused P answer.Again f is = absurd is.0
 
--- the arena that stands at a place
-pub finds : (spaces : List Space) (name : List ℕ) (place : ℕ) → place_in name (states_of spaces) ≡ Some place → place < length spaces → (x : NamedArenaState) × Finds (states_of spaces) name place x
-finds spaces name place first within =
-    let s = slice_get_some spaces place within in
-    (state_of s.0, record { first = first; here = slice_get_mapped state_of spaces place s.0 s.1 })
+-- the arena that stands at a index
+pub finds : (spaces : List Space) (name : List ℕ) (index : ℕ) → index_in name (states_of spaces) ≡ Some index → index < length spaces → (x : NamedArenaState) × Finds (states_of spaces) name index x
+finds spaces name index first within =
+    let s = slice_get_some spaces index within in
+    (state_of s.0, record { first = first; here = slice_get_mapped state_of spaces index s.0 s.1 })
 
-pub released_new : (q : RequestId) (l : ReleaseLine) (spaces now : List Space) (old new : BookState) (place : ℕ) (v : ReceiptState) (t : Tag)
-    → place_in l.arena (states_of spaces) ≡ Some place → place < length spaces → IsReleased old new q place l.base v t
+pub released_new : (q : RequestId) (l : ReleaseLine) (spaces now : List Space) (old new : BookState) (index : ℕ) (v : ReceiptState) (t : Tag)
+    → index_in l.arena (states_of spaces) ≡ Some index → index < length spaces → IsReleased old new q index l.base v t
     → GivesBack (t ∷ []) (states_of spaces) (states_of now) → NewRelease q l (desk_of spaces old) (desk_of now new) (reply.Released q)
-released_new q l spaces now old new place v t first within is gives =
-    let found = finds spaces l.arena place first within in (
+released_new q l spaces now old new index v t first within is gives =
+    let found = finds spaces l.arena index first within in (
       refl,
       record {
-        place = place;
+        index = index;
         arena = found.0;
         segment = t;
         granted = is.granted;
@@ -93,35 +94,35 @@ pub known_sayable : {D : Type 0} (spaces : List Space) (book : BookState) (q : R
 known_sayable spaces book q a steady is = sayable (length spaces) book book q (λ v. ⊥) ⊥ a steady.grants (λ v none. absurd none) is
 
 -- the arena before the carve has the quantum and the name of the one after
-pub carved_from : (before : List NamedArenaState) (spaces : List Space) (place : ℕ) (x y : NamedArenaState) (q : Request) (t : Tag) → IsCarved before (states_of spaces) place x q t → slice_get (states_of spaces) place ≡ Some y → TakesBack place (t ∷ []) y x
-carved_from before spaces place x y q t carved at = carved.back.each place y x at carved.here
+pub carved_from : (before : List NamedArenaState) (spaces : List Space) (index : ℕ) (x y : NamedArenaState) (q : Request) (t : Tag) → IsCarved before (states_of spaces) index x q t → slice_get (states_of spaces) index ≡ Some y → TakesBack index (t ∷ []) y x
+carved_from before spaces index x y q t carved at = carved.back.each index y x at carved.here
 
 -- after a grant
-pub granted_steady : (q : RequestId) (spaces : List Space) (old new : BookState) (place : ℕ) (t : Tag) (terms : Terms) (v : ReceiptState) → length spaces ≤ 32 → AreSpaces spaces → Exports (states_of spaces) (t ∷ leased old) → GrantsAreOwn (length spaces) old
-    → place < length spaces → t.arena ≡ place → IsGranted old new q t terms v → IsSteady spaces new
-granted_steady q spaces old new place t terms v few sound exports own within home is = record {
+pub granted_steady : (q : RequestId) (spaces : List Space) (old new : BookState) (index : ℕ) (t : Tag) (terms : Terms) (v : ReceiptState) → length spaces ≤ 32 → AreSpaces spaces → Exports (states_of spaces) (t ∷ leased old) → GrantsAreOwn (length spaces) old
+    → index < length spaces → t.arena ≡ index → IsGranted old new q t terms v → IsSteady spaces new
+granted_steady q spaces old new index t terms v few sound exports own within home is = record {
   few = few;
   sound = sound;
   exports = exports_weigh (states_of spaces) (t ∷ leased old) (leased new) (λ f. omega (arith, is.leases f, sum_by-cons f t (leased old))) exports;
   grants = grants_more (length spaces) (Settled q (Grant t terms)) old new own is.entry (omega arith);
 }
 
-pub granted_new : (q : RequestId) (l : LeaseLine) (before : List NamedArenaState) (spaces : List Space) (x : NamedArenaState) (old new : BookState) (place : ℕ) (t : Tag) (terms : Terms) (v : ReceiptState) (r : Reply)
-    → place_in l.arena before ≡ Some place → IsCarved before (states_of spaces) place x (demand_of l) t → IsGranted old new q t terms v
+pub granted_new : (q : RequestId) (l : LeaseLine) (before : List NamedArenaState) (spaces : List Space) (x : NamedArenaState) (old new : BookState) (index : ℕ) (t : Tag) (terms : Terms) (v : ReceiptState) (r : Reply)
+    → index_in l.arena before ≡ Some index → IsCarved before (states_of spaces) index x (demand_of l) t → IsGranted old new q t terms v
     → terms ≡ record { quantum = x.quantum; request = demand_of l } → IsSettled (states_of spaces) q v.reply r
     → NewLease q l (record { arenas = before; book = old }) (desk_of spaces new) r
-granted_new q l before spaces x old new place t terms v r first carved is same says =
+granted_new q l before spaces x old new index t terms v r first carved is same says =
     subst (λ z. NewLease q l (record { arenas = before; book = old }) (desk_of spaces new) z) (sym said.2) grants
   where
     said : (y : NamedArenaState) × (slice_get (states_of spaces) t.arena ≡ Some y) × (r ≡ granted_to q y.name t.holding.range.base t.holding.range.len)
     said = subst (λ (z : ReceiptState). IsSettled (states_of spaces) q z.reply r) is.receipt says
 
     name : x.name ≡ said.0.name
-    name = (carved_from before spaces place x said.0 (demand_of l) t carved (ap (slice_get (states_of spaces)) (sym carved.home) ∙ said.1)).name
+    name = (carved_from before spaces index x said.0 (demand_of l) t carved (ap (slice_get (states_of spaces)) (sym carved.home) ∙ said.1)).name
 
     grants : Grants q l (record { arenas = before; book = old }) (desk_of spaces new) (granted_to q said.0.name t.holding.range.base t.holding.range.len)
     grants = record {
-      place = place;
+      index = index;
       arena = x;
       segment = t;
       finds = record { first = first; here = carved.here };
@@ -139,15 +140,15 @@ granted_new q l before spaces x old new place t terms v r first carved is same s
 
 -- how a grant is refused
 abbrev pub IsFull : BookState → BookState → RequestId → ReceiptState → Type 0
-IsFull old new q v = IsRefused old new q why.Leases v × (1024 ≤ length (account_in q.client old).leases)
+IsFull old new q v = IsRefused old new q why.Leases v × (MOST_LEASES ≤ length (account_in q.client old).leases)
 
 abbrev pub HasFew : BookState → RequestId → Type 0
-HasFew old q = IsNew (account_in q.client old) q × (length (account_in q.client old).leases < 1024)
+HasFew old q = IsNew (account_in q.client old) q × (length (account_in q.client old).leases < MOST_LEASES)
 
-missed : (l : LeaseLine) (before : List NamedArenaState) (spaces now : List Space) (x : NamedArenaState) (old new : BookState) (place : ℕ) (t : Tag)
-    → place_in l.arena before ≡ Some place → IsCarved before (states_of spaces) place x (demand_of l) t → GivesBack (t ∷ []) (states_of spaces) (states_of now) → Misses l (record { arenas = before; book = old }) (desk_of now new)
-missed l before spaces now x old new place t first carved gives = record {
-  place = place;
+missed : (l : LeaseLine) (before : List NamedArenaState) (spaces now : List Space) (x : NamedArenaState) (old new : BookState) (index : ℕ) (t : Tag)
+    → index_in l.arena before ≡ Some index → IsCarved before (states_of spaces) index x (demand_of l) t → GivesBack (t ∷ []) (states_of spaces) (states_of now) → Misses l (record { arenas = before; book = old }) (desk_of now new)
+missed l before spaces now x old new index t first carved gives = record {
+  index = index;
   arena = x;
   finds = record { first = first; here = carved.here };
   good = carved.good;
@@ -155,22 +156,22 @@ missed l before spaces now x old new place t first carved gives = record {
   arenas = gives_nothing before (states_of spaces) (states_of now) t carved.back gives;
 }
 
-pub not_granted : {D : Type 0} (q : RequestId) (l : LeaseLine) (before : List NamedArenaState) (spaces now : List Space) (x : NamedArenaState) (old new : BookState) (place : ℕ) (t : Tag) (a : Answer D) (r : Reply)
-    → place_in l.arena before ≡ Some place → IsCarved before (states_of spaces) place x (demand_of l) t → GivesBack (t ∷ []) (states_of spaces) (states_of now)
+pub not_granted : {D : Type 0} (q : RequestId) (l : LeaseLine) (before : List NamedArenaState) (spaces now : List Space) (x : NamedArenaState) (old new : BookState) (index : ℕ) (t : Tag) (a : Answer D) (r : Reply)
+    → index_in l.arena before ≡ Some index → IsCarved before (states_of spaces) index x (demand_of l) t → GivesBack (t ∷ []) (states_of spaces) (states_of now)
     → IsNewAnswer old new (IsFull old new q) (HasFew old q) a → Says (states_of now) q a r → NewLease q l (record { arenas = before; book = old }) (desk_of now new) r
 unfolding missed
-not_granted q l before spaces now x old new place t (answer.Refused v) r first carved gives is says =
+not_granted q l before spaces now x old new index t (answer.Refused v) r first carved gives is says =
     subst (λ z. NewLease q l (record { arenas = before; book = old }) (desk_of now new) z) (sym said)
-    (why.Leases, refl, (missed l before spaces now x old new place t first carved gives, carved.serves, is.1, is.0.entry, is.0.leases))
+    (why.Leases, refl, (missed l before spaces now x old new index t first carved gives, carved.serves, is.1, is.0.entry, is.0.leases))
   where
     said : IsSettled (states_of now) q (was.Refused why.Leases) r
     said = subst (λ (z : ReceiptState). IsSettled (states_of now) q z.reply r) is.0.receipt says
-not_granted q l before spaces now x old new place t answer.Again r first carved gives is says =
-    subst (λ z. NewLease q l (record { arenas = before; book = old }) (desk_of now new) z) (sym says) (refl, is.1, missed l before spaces now x old new place t first carved gives)
-not_granted q l before spaces now x old new place t (answer.Kept v) r first carved gives is says = absurd is
-not_granted q l before spaces now x old new place t (answer.Old n) r first carved gives is says = absurd is
-not_granted q l before spaces now x old new place t (answer.Stale n) r first carved gives is says = absurd is
-not_granted q l before spaces now x old new place t (answer.Gap n) r first carved gives is says = absurd is
+not_granted q l before spaces now x old new index t answer.Again r first carved gives is says =
+    subst (λ z. NewLease q l (record { arenas = before; book = old }) (desk_of now new) z) (sym says) (refl, is.1, missed l before spaces now x old new index t first carved gives)
+not_granted q l before spaces now x old new index t (answer.Kept v) r first carved gives is says = absurd is
+not_granted q l before spaces now x old new index t (answer.Old n) r first carved gives is says = absurd is
+not_granted q l before spaces now x old new index t (answer.Stale n) r first carved gives is says = absurd is
+not_granted q l before spaces now x old new index t (answer.Gap n) r first carved gives is says = absurd is
 
 -- the book after a grant that was refused
 abbrev pub LeasesStay : BookState → BookState → Type 0
@@ -222,12 +223,12 @@ welcomed spaces now old greeted new c i steady enters same current sweeps left =
     is = hello_incarnation spaces old greeted c i steady enters
 
 -- no address of the arena serves
-pub no_fit : (q : RequestId) (l : LeaseLine) (spaces now : List Space) (old new : BookState) (place : ℕ) (x : NamedArenaState) (r : Reply) → place_in l.arena (states_of spaces) ≡ Some place → now ≡ spaces
-    → slice_get (states_of spaces) place ≡ Some x → IsCarveRefused x (demand_of l) NoFit
-    → Refuses q why.NoFit (desk_of spaces old) (desk_of spaces new) → r ≡ refused_to q why.NoFit → NewLease q l (desk_of spaces old) (desk_of now new) r
-no_fit q l spaces now old new place x r first same here none refuses says =
+pub no_fit : (q : RequestId) (l : LeaseLine) (spaces now : List Space) (old new : BookState) (index : ℕ) (x : NamedArenaState) (r : Reply) → index_in l.arena (states_of spaces) ≡ Some index → now ≡ spaces
+    → slice_get (states_of spaces) index ≡ Some x → IsCarveRefused x (demand_of l) NoFit
+    → SettlesRefusal q why.NoFit (desk_of spaces old) (desk_of spaces new) → r ≡ refused_to q why.NoFit → NewLease q l (desk_of spaces old) (desk_of now new) r
+no_fit q l spaces now old new index x r first same here none refuses says =
     subst (λ (xs : List Space). NewLease q l (desk_of spaces old) (desk_of xs new) r) (sym same)
-    (subst (λ z. NewLease q l (desk_of spaces old) (desk_of spaces new) z) (sym says) (why.NoFit, refl, (place, x, record { first = first; here = here }, none.0, none.1, refuses)))
+    (subst (λ z. NewLease q l (desk_of spaces old) (desk_of spaces new) z) (sym says) (why.NoFit, refl, (index, x, record { first = first; here = here }, none.0, none.1, refuses)))
 
 -- a hello wasn't taken
 pub not_welcomed : (h : HelloLine) (spaces : List Space) (old new : BookState) (f : HelloFault) → new ≡ old

@@ -10,9 +10,10 @@ use Rattle.deed_core.specs.Tag.{Tag}
 use Rattle.deed_core.specs.Covering.{covers_held}
 use Rattle.deed_core.specs.declared.segments.Route.{Route}
 use Rattle.deed_core.specs.declared.segments.Route.TheVariants.{Direct, Cached}
-use Rattle.lease_desk.specs.DeskState.{NamedArenaState, within, stray, is_direct, Exports}
+use Rattle.lease_desk.specs.DeskState.{NamedArenaState, within, stray, Exports}
+use Rattle.deed_core.specs.Selections.{is_direct}
 use Rattle.lease_desk.specs.Moves.{TakesBack, GivesBack}
-use Rattle.lease_desk.proofs.PlaceLemmas.{written, slice_get_some, slice_get_one}
+use Rattle.deed_core.proofs.LawProofs.{written, slice_get_some, slice_get_one}
 
 -- a segment weighs in its own arena alone
 pub within_own : (k : ℕ) (f : Holding → ℕ) (t : Tag) → t.arena ≡ k → within k f t ≡ f t.holding

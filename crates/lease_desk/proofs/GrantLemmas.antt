@@ -1,59 +1,42 @@
 -- Of which arenas the book's replies are, and what its answers say.
-use Rattle.std.proofs.Common.{◌≡◌, ℕ, Bool, true, false, cond, ◌&&◌, nat_eq, nat_lt, refl, sym, subst, ap, List, [], ◌∷◌, Option, Some, None, arith}
+use Rattle.std.proofs.Common.{◌≡◌, ℕ, zero, suc, slice_get, refl, sym, subst, ap, ◌∙◌, List, [], ◌∷◌, Some, arith}
 use Rattle.std.specs.List.{AllByRecursion}
 use Rattle.lease_terms.specs.Requests.{RequestId}
 use Rattle.lease_book.specs.Receipts.{Kept, ReceiptState}
 use Rattle.lease_book.specs.Entry.{Entry, Hello, Settled, Swept, kept}
 use Rattle.lease_book.specs.Account.{Account, last, number_of}
-use Rattle.lease_book.specs.History.{incarnation, settled_in, greatest, higher}
+use Rattle.lease_book.specs.History.{incarnation, kept_of}
 use Rattle.lease_book.specs.BookState.{BookState, Enters, account_in}
 use Rattle.lease_book.specs.Answers.{IsNew, IsRepeated, IsAnswer}
 use Rattle.lease_book.specs.declared.answers.Answer.{Answer}
 use Rattle.lease_book.specs.declared.answers.Answer.TheVariants as answer
-use Rattle.lease_book.specs.declared.receipts.Reply.{Reply as KeptReply}
-use Rattle.lease_book.specs.declared.receipts.Reply.TheVariants as was
-use Rattle.lease_book.proofs.LawProofs.{account_is}
+use Rattle.lease_book.specs.declared.receipts.KeptReply.{KeptReply}
+use Rattle.lease_book.specs.declared.receipts.KeptReply.TheVariants as was
+use Rattle.lease_book.proofs.LawProofs.{account_is, outcomes_stay, last_outcome}
 use Rattle.lease_proto.specs.declared.replies.Reply.{Reply}
 use Rattle.lease_desk.specs.DeskState.{NamedArenaState, DeskState}
 use Rattle.lease_desk.specs.Machine.{IsSettled, IsRepeat, IsKnown}
 use Rattle.lease_desk.specs.Grants.{IsOfArenas, IsPossible, GrantsAreOwn}
 use Rattle.lease_desk.specs.Replies.{IsSayable, Says}
 
--- a kept grant is of one of so many arenas
-abbrev pub IsPossibleKept : ℕ → Kept → Type 0
-IsPossibleKept count k = IsOfArenas count k.reply
+-- what holds of all entries holds of one of them
+possible_at : (count : ℕ) (es : List Entry) (j : ℕ) (e : Entry) → AllByRecursion (IsPossible count) es → slice_get es j ≡ Some e → IsPossible count e
+possible_at count [] j e all at = absurd (cc)
+possible_at count (x ∷ es) zero e all at =
+    let is : x ≡ e = cc in
+    subst (IsPossible count) is all.0
+possible_at count (x ∷ es) (suc j) e all at = possible_at count es j e all.1 at
 
-module _ (count : ℕ) (c : ℕ) where
-  settled_one : (b : Bool) (k : Kept) (ks : List Kept) → IsPossibleKept count k → AllByRecursion (IsPossibleKept count) ks → AllByRecursion (IsPossibleKept count) (cond b (k ∷ ks) ks)
-  settled_one true k ks p rest = (p, rest)
-  settled_one false k ks p rest = rest
-
-  settled_bound : (i : ℕ) (es : List Entry) → AllByRecursion (IsPossible count) es → AllByRecursion (IsPossibleKept count) (settled_in c i es)
-  settled_bound i [] h = tt
-  settled_bound i (Hello d j ∷ es) h = settled_bound i es h.1
-  settled_bound i (Settled id s ∷ es) h = settled_one (nat_eq c id.client && nat_eq i id.incarnation) (kept id.number s) (settled_in c i es) h.0 (settled_bound i es h.1)
-  settled_bound i (Swept d j a b ∷ es) h = settled_bound i es h.1
-
--- the greatest is one of them
-abbrev OfOption : (Kept → Type 0) → Option Kept → Type 0
-OfOption P None = Unit {0}
-OfOption P (Some k) = P k
-
-of_cond : (P : Kept → Type 0) (b : Bool) (k m : Kept) → P k → P m → OfOption P (cond b (Some m) (Some k))
-of_cond P true k m p q = q
-of_cond P false k m p q = p
-
-of_higher : (P : Kept → Type 0) (k : Kept) (o : Option Kept) → P k → OfOption P o → OfOption P (higher k o)
-of_higher P k None p q = p
-of_higher P k (Some m) p q = of_cond P (nat_lt k.number m.number) k m p q
-
-of_greatest : (P : Kept → Type 0) (ks : List Kept) → AllByRecursion P ks → OfOption P (greatest ks)
-of_greatest P [] h = tt
-of_greatest P (k ∷ ks) h = of_higher P k (greatest ks) h.0 (of_greatest P ks h.1)
-
-pub kept_own : (count : ℕ) (book : BookState) (c : ℕ) → GrantsAreOwn count book → OfOption (IsPossibleKept count) (account_in c book).kept
-kept_own count book c own = subst (λ (a : Account). OfOption (IsPossibleKept count) a.kept) (sym (account_is own.entries book c own.history))
-    (of_greatest (IsPossibleKept count) (settled_in c (incarnation c own.entries) own.entries) (settled_bound count c (incarnation c own.entries) own.entries own.possible))
+-- a kept grant is of one of so many arenas: it is some entry's
+kept_own : (count : ℕ) (book : BookState) (c : ℕ) (k : Kept) → GrantsAreOwn count book → (account_in c book).kept ≡ Some k → IsOfArenas count k.reply
+kept_own count book c k own at =
+    let es : List Entry = own.entries in
+    let i : ℕ = incarnation c es in
+    let q : RequestId = record { client = c; incarnation = i; number = k.number } in
+    let last : kept_of c es ≡ Some k = sym (ap (λ (a : Account). a.kept) (account_is es book c own.history)) ∙ at in
+    let entry = outcomes_stay.entry es q k (last_outcome es c i k last) in
+    let possible = possible_at count es entry.1 (Settled q entry.0) own.possible entry.2 in
+    subst (λ (m : Kept). IsOfArenas count m.reply) (sym entry.3) possible
 
 pub grants_more : (count : ℕ) (e : Entry) (old new : BookState) → GrantsAreOwn count old → Enters e old new → IsPossible count e → GrantsAreOwn count new
 grants_more count e old new own enters possible = record {
@@ -62,14 +45,11 @@ grants_more count e old new own enters possible = record {
   possible = (possible, own.possible);
 }
 
-kept_bound : (count : ℕ) (o : Option Kept) (k : Kept) → OfOption (IsPossibleKept count) o → o ≡ Some k → IsOfArenas count k.reply
-kept_bound count o k h is = subst (OfOption (IsPossibleKept count)) is h
-
 -- what the book answers can be said
 pub sayable : {D : Type 0} (count : ℕ) (old new : BookState) (q : RequestId) (refused : ReceiptState → Type 0) (again : Type 0) (a : Answer D) → GrantsAreOwn count old
     → ((v : ReceiptState) → refused v → IsOfArenas count v.reply) → IsAnswer old new q refused again a → IsSayable count a
 sayable count old new q refused again (answer.Kept v) own arenas is =
-    kept_bound count (account_in q.client old).kept (record { number = q.number; reply = v.reply; terms = v.terms }) (kept_own count old q.client own) is.0.kept
+    kept_own count old q.client (record { number = q.number; reply = v.reply; terms = v.terms }) own is.0.kept
 sayable count old new q refused again (answer.Refused v) own arenas is = arenas v is
 sayable count old new q refused again (answer.Old current) own arenas is = tt
 sayable count old new q refused again (answer.Stale greatest) own arenas is = tt

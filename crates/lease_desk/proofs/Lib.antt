@@ -1,5 +1,4 @@
 pub mod PlaceLemmas
-pub mod Standing
 pub mod Exporting
 pub mod SpaceLemmas
 pub mod GrantLemmas

@@ -10,9 +10,9 @@ use Rattle.lease_server.specs.Serving.{Serves}
 use Rattle.lease_desk.specs.DeskState.{DeskState, OnePlace, within, stray, IsOrderly}
 use Rattle.lease_desk.specs.Machine.{LeaseStep}
 use Rattle.lease_desk.specs.Laws.{AreApart, LeasesStayApart, UnitsHaveOnePlace}
-use Rattle.lease_desk.proofs.PlaceLemmas.{slice_get_some}
+use Rattle.deed_core.proofs.LawProofs.{slice_get_some}
 use Rattle.lease_desk.proofs.Exporting.{not_stray, within_own}
-use Rattle.lease_desk.proofs.OrderLemmas.{stays_weigh}
+use Rattle.lease_desk.proofs.OrderLemmas.{homed_weigh}
 
 stays_orderly : (old new : DeskState) (frames : List Frame) (text : List ℕ) → IsOrderly old → Serves LeaseStep old frames text new → IsOrderly new
 stays_orderly old new [] text orderly served = subst IsOrderly (sym served.1) orderly
@@ -30,8 +30,8 @@ two_weigh f (x ∷ xs) (suc i) (suc j) d lt below = omega (arith, sum_by-cons f 
 leased_once : (d : DeskState) (k u : ℕ) → IsOrderly d → k < length d.arenas → sum_by (within k (covers_held u)) (leased d.book) ≤ 1
 leased_once d k u orderly inside =
     let x = slice_get_some d.arenas k inside in
-    let place : OnePlace k x.0 d.book = orderly.places k x.0 x.1 in
-    omega (arith, place.places u, place.once u, stays_weigh k (covers_held u) x.0 d.book)
+    let index : OnePlace k x.0 d.book = orderly.places k x.0 x.1 in
+    omega (arith, index.places u, index.once u, homed_weigh k (covers_held u) x.0 d.book)
 
 apart_now : (d : DeskState) → IsOrderly d → AllPairs AreApart (leased d.book)
 apart_now d orderly i j e lt below same u first second =

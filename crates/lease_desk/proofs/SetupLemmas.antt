@@ -2,7 +2,7 @@
 use Rattle.std.proofs.Common.{◌≡◌, ◌≢◌, ℕ, suc, zero, ◌+◌, ◌<◌, ◌≤◌, refl, sym, subst, ap, ◌∙◌, inl, inr, List, [], ◌∷◌, ◌++◌, map, length, set, Some, None, All, Any, Contains, Result, Ok, Err, OnOk, OnErr, arith, length-append}
 use Rattle.std.specs.Prelude.{slice_get, sum_by}
 use Rattle.std.specs.List.{AllByRecursion}
-use Rattle.std.proofs.lemmas.List.{length-map, length-set, map-set}
+use Rattle.std.proofs.lemmas.List.{append-nil, length-map, length-set, map-append, map-set}
 use Rattle.std.proofs.lemmas.List.Sums.{sum_by-cons, sum_by-append}
 use Rattle.std.proofs.lemmas.Bool.{cases_eq}
 use Rattle.std.specs.Ordering.{nat_cmp}
@@ -14,12 +14,13 @@ use Rattle.deed_core.specs.Tag.{Tag}
 use Rattle.deed_core.specs.Covering.{covers, covers_held, covering_held}
 use Rattle.deed_core.proofs.LawProofs.{counts_the_unit}
 use Rattle.tag_arena.specs.Layout.{FreeIsLongestRuns, IsLongestRun, IsRun, IsPartOf}
-use Rattle.tag_arena.specs.ArenaState.{ArenaState, spans_of, layout_of, ranges_of}
+use Rattle.tag_arena.specs.ArenaState.{ArenaState, spans_of, layout_of, ranges_of, IsSound}
 use Rattle.tag_arena.specs.Calls.{after_add, IsClear}
 use Rattle.lease_book.specs.Entry.{Entry, Hello, Settled, Swept, reply_of}
 use Rattle.lease_book.specs.BookState.{BookState, leased}
-use Rattle.lease_book.specs.declared.receipts.Reply.{Reply}
-use Rattle.lease_book.specs.declared.receipts.Reply.TheVariants.{Granted, Released, Refused}
+use Rattle.lease_book.specs.declared.receipts.KeptReply.{KeptReply}
+use Rattle.lease_book.specs.declared.receipts.KeptReply.TheVariants.{Granted, Released, Refused}
+use Rattle.lease_proto.specs.declared.limits.TheConstants.{MOST_SPANS}
 use Rattle.lease_desk.specs.declared.spaces.Space.{Space}
 use Rattle.lease_desk.specs.DeskState.{NamedArenaState, within, stray, Exports}
 use Rattle.lease_desk.specs.Machine.{Finds}
@@ -27,7 +28,7 @@ use Rattle.lease_desk.specs.Setup.{root_of, NewArena, CanAdd, CanSpan, AddsArena
 use Rattle.lease_desk.specs.Grants.{IsOfArenas, IsPossible, GrantsAreOwn}
 use Rattle.lease_desk.specs.Roots.{space_of}
 use Rattle.lease_desk.specs.Spaces.{state_of, states_of, IsSpace, AreSpaces, IsSteady}
-use Rattle.lease_desk.proofs.PlaceLemmas.{written, pushed}
+use Rattle.deed_core.proofs.LawProofs.{written, pushed}
 use Rattle.lease_desk.proofs.Exporting.{not_stray, stray_none, within_other}
 
 nil_of : {X : Type 0} (xs : List X) → length xs ≡ 0 → xs ≡ []
@@ -37,27 +38,21 @@ nil_of (x ∷ xs) none = absurd (omega (arith, none))
 no_ranges : ranges_of finmap.empty ≡ []
 no_ranges = ap (map (λ (e : ℕ × Holding). e.1)) (nil_of (entries {R = nat_cmp} finmap.empty) (sym (len-entries {R = nat_cmp} finmap.empty) ∙ len-empty nat_cmp Holding))
 
-new_is_space : (id : ℕ) (n : NewArena) (h : Holding) → IsSpace id (space_of id n h)
-new_is_space id n h = record {
-  id = refl;
-  own = refl;
-  keyed = λ b x at. absurd (let none : None ≡ Some x = sym (get-empty nat_cmp b) ∙ at in cc);
-  covers = λ u. omega (arith, ap (sum_by (covers_held u)) no_ranges);
-  once = λ u. (let one = (counts_the_unit u h.range).0 in omega (arith, one, sum_by-cons (covers_held u) h []));
-  count = refl;
-  few = omega arith;
-}
-
 -- the arena that was added
-pub added_sound : (spaces items : List Space) (id : ℕ) (n : NewArena) (h : Holding) (s : Space) → AreSpaces spaces → items ≡ spaces ++ s ∷ [] → id ≡ length spaces → s ≡ space_of id n h → AreSpaces items
-added_sound spaces items id n h s sound is place made k x at = elim (pushed spaces k s x (sym (ap (λ xs. slice_get xs k) is) ∙ at)) [
-  | inl here ↦ subst (λ z. IsSpace k z) (sym (here.1 ∙ made)) (subst (λ i. IsSpace i (space_of id n h)) (place ∙ sym here.0) (new_is_space id n h))
+pub added_sound : (spaces items : List Space) (id : ℕ) (n : NewArena) (h : Holding) (s : Space) → AreSpaces spaces → items ≡ spaces ++ s ∷ [] → id ≡ length spaces → s ≡ space_of id n h → IsSound s.arena → AreSpaces items
+added_sound spaces items id n h s sound is index made still k x at = elim (pushed spaces k s x (sym (ap (λ xs. slice_get xs k) is) ∙ at)) [
+  | inl here ↦ subst (λ z. IsSpace k z) (sym (here.1 ∙ made)) (subst (λ i. IsSpace i (space_of id n h)) (index ∙ sym here.0) new)
   | inr there ↦ sound k x there
 ]
-
-map-push : {X Y : Type 0} (f : X → Y) (xs : List X) (y : X) → map f (xs ++ y ∷ []) ≡ map f xs ++ f y ∷ []
-map-push f [] y = refl
-map-push f (x ∷ xs) y = ap (λ ys. f x ∷ ys) (map-push f xs y)
+  where
+    new : IsSpace id (space_of id n h)
+    new = record {
+      id = refl;
+      own = refl;
+      sound = subst (λ (x : Space). IsSound x.arena) made still;
+      count = refl;
+      few = omega arith;
+    }
 
 abbrev fresh_with : NewArena → Holding → List Holding → NamedArenaState
 fresh_with n h allocated = record { name = n.name; quantum = n.quantum; policy = n.policy; spans = h ∷ []; free = h ∷ []; allocated = allocated }
@@ -67,14 +62,14 @@ held_by root range = record { root = root; range = range }
 
 pub added_arena : (spaces items : List Space) (id : ℕ) (n : NewArena) (range : Extent) (s : Space) → CanAdd (states_of spaces) n → range ≡ n.range → items ≡ spaces ++ s ∷ [] → id ≡ length spaces → s ≡ space_of id n (held_by (root_of id 0) range)
     → AddsArena n (states_of spaces) (states_of items)
-added_arena spaces items id n range s can same is place made = record {
+added_arena spaces items id n range s can same is index made = record {
   can = can;
-  added = ap states_of is ∙ map-push state_of spaces s ∙ ap (λ (x : NamedArenaState). states_of spaces ++ x ∷ []) picture;
+  added = ap states_of is ∙ map-append state_of spaces (s ∷ []) ∙ ap (λ (x : NamedArenaState). states_of spaces ++ x ∷ []) picture;
 }
   where
     picture : state_of s ≡ fresh n (held_by (root_of (length (states_of spaces)) 0) n.range)
     picture = ap state_of made ∙ ap (fresh_with n (held_by (root_of id 0) range)) no_ranges ∙ ap (λ r. fresh n (held_by (root_of id 0) r)) same
-        ∙ ap (λ k. fresh n (held_by (root_of k 0) n.range)) (place ∙ sym (length-map spaces state_of))
+        ∙ ap (λ k. fresh n (held_by (root_of k 0) n.range)) (index ∙ sym (length-map spaces state_of))
 
 -- no segment is of an arena past the last
 none_past : (out : List Tag) (n k : ℕ) (f : Holding → ℕ) → sum_by (stray n) out ≡ 0 → n ≤ k → sum_by (within k f) out ≡ 0
@@ -104,7 +99,7 @@ exports_pushed xs y out none e = record {
   none = stray_more out (length xs) (length (xs ++ y ∷ [])) e.none (omega (arith, length-append xs (y ∷ [])));
 }
 
-wider_reply : (n m : ℕ) (r : Reply) → n ≤ m → IsOfArenas n r → IsOfArenas m r
+wider_reply : (n m : ℕ) (r : KeptReply) → n ≤ m → IsOfArenas n r → IsOfArenas m r
 wider_reply n m (Granted a b l) more h = (let lt = h in omega (arith, lt, more))
 wider_reply n m Released more h = tt
 wider_reply n m (Refused w) more h = tt
@@ -139,33 +134,12 @@ pub steady_root : {A E : Type 0} (r : Result A E) (n : NewArena) (spaces now : L
 steady_root (Ok x) n spaces now book steady sound adds same = steady_added n spaces now book steady sound adds
 steady_root (Err e) n spaces now book steady sound adds same = subst (λ (xs : List Space). IsSteady xs book) (sym same) steady
 
--- a span that is clear covers no unit of the others
-clear_none : (spans : List Holding) (e : Extent) (u : ℕ) → All (λ s. ¬ Overlap s.range e) spans → covers u e ≡ 1 → covering_held u spans ≡ 0
-clear_none [] e u clear one = refl
-clear_none (s ∷ spans) e u clear one = elim (cases_eq (covers u s.range) 0) [
-  | inl none ↦
-      let rest = clear_none spans e u (λ k d lt. clear (suc k) d (omega (arith, lt))) one in
-      omega (arith, none, rest, sum_by-cons (covers_held u) s spans)
-  | inr some ↦
-      let two : covers u s.range ≡ 1 = (let most = (counts_the_unit u s.range).0 in omega (arith, most, some)) in
-      let a = (counts_the_unit u s.range).1.0 two in
-      let b = (counts_the_unit u e).1.0 one in
-      absurd (clear 0 s (omega arith) ((let from = a.0 in let to = b.1 in omega (arith, from, to)), (let from = b.0 in let to = a.1 in omega (arith, from, to))))
-]
-
-spans_weigh : (a : ArenaState) (h : Holding) (f : Holding → ℕ) → sum_by f (spans_of (after_add a h)) ≡ sum_by f (spans_of a) + f h
-spans_weigh a h f = omega (arith, sum_by-append f (a.owned ++ h ∷ []) (map (λ (t : Tag). t.holding) a.imported), sum_by-append f a.owned (map (λ (t : Tag). t.holding) a.imported), sum_by-append f a.owned (h ∷ []), sum_by-cons f h [])
-
-nil_right : (xs : List Holding) → xs ++ [] ≡ xs
-nil_right [] = refl
-nil_right (x ∷ xs) = ap (λ ys. x ∷ ys) (nil_right xs)
-
 module _ (s : Space) (own : s.arena.imported ≡ []) where
   owned_alone : spans_of s.arena ≡ s.arena.owned
-  owned_alone = ap (λ (ts : List Tag). s.arena.owned ++ map (λ (t : Tag). t.holding) ts) own ∙ nil_right s.arena.owned
+  owned_alone = ap (λ (ts : List Tag). s.arena.owned ++ map (λ (t : Tag). t.holding) ts) own ∙ append-nil s.arena.owned
 
   spans_added : (h : Holding) → spans_of (after_add s.arena h) ≡ spans_of s.arena ++ h ∷ []
-  spans_added h = ap (λ (ts : List Tag). (s.arena.owned ++ h ∷ []) ++ map (λ (t : Tag). t.holding) ts) own ∙ nil_right (s.arena.owned ++ h ∷ [])
+  spans_added h = ap (λ (ts : List Tag). (s.arena.owned ++ h ∷ []) ++ map (λ (t : Tag). t.holding) ts) own ∙ append-nil (s.arena.owned ++ h ∷ [])
       ∙ sym (ap (λ (hs : List Holding). hs ++ h ∷ []) owned_alone)
 
   pub extended_picture : (new : ArenaState) (h : Holding) → new ≡ after_add s.arena h → state_of (record { name = s.name; arena = new; spans = s.spans + 1 }) ≡ with_span (state_of s) h
@@ -179,24 +153,14 @@ module _ (s : Space) (own : s.arena.imported ≡ []) where
   spans_counted count = count ∙ sym (ap length owned_alone)
 
 -- an arena with one more span
-pub extended_space : (k : ℕ) (s : Space) (new : ArenaState) (h : Holding) → IsSpace k s → new ≡ after_add s.arena h → IsClear s.arena h.range → s.spans < 65536 → IsSpace k (record { name = s.name; arena = new; spans = s.spans + 1 })
-extended_space k s new h is same clear few = subst (λ a. IsSpace k (record { name = s.name; arena = a; spans = s.spans + 1 })) (sym same) (record {
-  id = is.id;
-  own = is.own;
-  keyed = is.keyed;
-  covers = λ u. (let units = is.covers u in omega (arith, units, spans_weigh s.arena h (covers_held u), sum_by-append (covers_held u) s.arena.free (h ∷ []), sum_by-cons (covers_held u) h []));
-  once = once;
-  count = (let many = is.count in omega (arith, many, length-append s.arena.owned (h ∷ [])));
+pub extended_space : (k : ℕ) (s : Space) (new : ArenaState) (h : Holding) → IsSpace k s → new ≡ after_add s.arena h → IsSound new → s.spans < MOST_SPANS → IsSpace k (record { name = s.name; arena = new; spans = s.spans + 1 })
+extended_space k s new h is same sound few = record {
+  id = ap (λ (a : ArenaState). a.id) same ∙ is.id;
+  own = ap (λ (a : ArenaState). a.imported) same ∙ is.own;
+  sound = sound;
+  count = (let many = is.count in omega (arith, many, length-append s.arena.owned (h ∷ []), ap (λ (a : ArenaState). length a.owned) same));
   few = omega (arith, few);
-})
-  where
-    once : (u : ℕ) → covering_held u (spans_of (after_add s.arena h)) ≤ 1
-    once u = elim (cases_eq (covers u h.range) 0) [
-      | inl none ↦ (let most = is.once u in omega (arith, most, none, spans_weigh s.arena h (covers_held u)))
-      | inr some ↦
-          let one : covers u h.range ≡ 1 = (let most = (counts_the_unit u h.range).0 in omega (arith, most, some)) in
-          omega (arith, one, clear_none (spans_of s.arena) h.range u clear one, spans_weigh s.arena h (covers_held u))
-    ]
+}
 
 pub steady_spanned : (name : List ℕ) (e : Extent) (spaces now : List Space) (book : BookState) → IsSteady spaces book → AreSpaces now → AddsSpan name e (states_of spaces) (states_of now) → IsSteady now book
 steady_spanned name e spaces now book steady sound adds = record {
@@ -207,15 +171,15 @@ steady_spanned name e spaces now book steady sound adds = record {
 }
   where
     count : length now ≡ length spaces
-    count = sym (length-map now state_of) ∙ ap length adds.added ∙ length-set (states_of spaces) adds.place (with_span adds.arena (held_by (root_of adds.place (length adds.arena.spans)) e)) ∙ length-map spaces state_of
+    count = sym (length-map now state_of) ∙ ap length adds.added ∙ length-set (states_of spaces) adds.index (with_span adds.arena (held_by (root_of adds.index (length adds.arena.spans)) e)) ∙ length-map spaces state_of
 
-    spanned : Exports (set (states_of spaces) adds.place (with_span adds.arena (held_by (root_of adds.place (length adds.arena.spans)) e))) (leased book)
+    spanned : Exports (set (states_of spaces) adds.index (with_span adds.arena (held_by (root_of adds.index (length adds.arena.spans)) e))) (leased book)
     spanned = record {
-      each = λ k z f at. elim (written (states_of spaces) adds.place k (with_span adds.arena (held_by (root_of adds.place (length adds.arena.spans)) e)) z at) [
+      each = λ k z f at. elim (written (states_of spaces) adds.index k (with_span adds.arena (held_by (root_of adds.index (length adds.arena.spans)) e)) z at) [
         | inl here ↦ ap (λ (x : NamedArenaState). sum_by f x.allocated) here.1 ∙ steady.exports.each k adds.arena f (ap (slice_get (states_of spaces)) here.0 ∙ adds.finds.here)
         | inr there ↦ steady.exports.each k z f there.1
       ];
-      none = ap (λ n. sum_by (stray n) (leased book)) (length-set (states_of spaces) adds.place (with_span adds.arena (held_by (root_of adds.place (length adds.arena.spans)) e))) ∙ steady.exports.none;
+      none = ap (λ n. sum_by (stray n) (leased book)) (length-set (states_of spaces) adds.index (with_span adds.arena (held_by (root_of adds.index (length adds.arena.spans)) e))) ∙ steady.exports.none;
     }
 
 -- the front of a list has its places
@@ -257,7 +221,7 @@ whole_free owned (r ∷ rs) m none runs out = absurd (out inside.0 inside.1 insi
 
 pub nothing_free : (a : ArenaState) → a.imported ≡ [] → ranges_of a.allocated ≡ [] → FreeIsLongestRuns (layout_of a) → All (λ s. ¬ Contains a.free s) a.owned → a.free ≡ []
 nothing_free a own none runs out = whole_free a.owned a.free a.allocated none
-    (subst (λ spans. FreeIsLongestRuns (record { spans = spans; free = a.free; allocated = a.allocated })) (ap (λ (ts : List Tag). a.owned ++ map (λ (t : Tag). t.holding) ts) own ∙ nil_right a.owned) runs) out
+    (subst (λ spans. FreeIsLongestRuns (record { spans = spans; free = a.free; allocated = a.allocated })) (ap (λ (ts : List Tag). a.owned ++ map (λ (t : Tag). t.holding) ts) own ∙ append-nil a.owned) runs) out
 
 -- whether it was added or not
 pub steady_span : {A E : Type 0} (r : Result A E) (name : List ℕ) (e : Extent) (spaces now : List Space) (book : BookState) → IsSteady spaces book
@@ -265,16 +229,16 @@ pub steady_span : {A E : Type 0} (r : Result A E) (name : List ℕ) (e : Extent)
 steady_span (Ok x) name e spaces now book steady sound adds same = steady_spanned name e spaces now book steady sound adds
 steady_span (Err f) name e spaces now book steady sound adds same = subst (λ (xs : List Space). IsSteady xs book) (sym same) steady
 
--- the arena that stands at a place has a span more
-pub adds_span : {A E : Type 0} (r : Result A E) (name : List ℕ) (e : Extent) (spaces : List Space) (place : ℕ) (old new : Space) → Finds (states_of spaces) name place (state_of old)
-    → OnOk r ((length (state_of old).spans < 65536) × CanSpan (state_of old) e) → OnOk r (state_of new ≡ with_span (state_of old) (record { root = root_of place (length (state_of old).spans); range = e }))
-    → OnOk r (AddsSpan name e (states_of spaces) (states_of (set spaces place new)))
-adds_span (Ok x) name e spaces place old new finds can added = record {
-  place = place;
+-- the arena that stands at a index has a span more
+pub adds_span : {A E : Type 0} (r : Result A E) (name : List ℕ) (e : Extent) (spaces : List Space) (index : ℕ) (old new : Space) → Finds (states_of spaces) name index (state_of old)
+    → OnOk r ((length (state_of old).spans < MOST_SPANS) × CanSpan (state_of old) e) → OnOk r (state_of new ≡ with_span (state_of old) (record { root = root_of index (length (state_of old).spans); range = e }))
+    → OnOk r (AddsSpan name e (states_of spaces) (states_of (set spaces index new)))
+adds_span (Ok x) name e spaces index old new finds can added = record {
+  index = index;
   arena = state_of old;
   finds = finds;
   few = can.0;
   can = can.1;
-  added = map-set state_of spaces place new ∙ ap (λ (y : NamedArenaState). set (states_of spaces) place y) added;
+  added = map-set state_of spaces index new ∙ ap (λ (y : NamedArenaState). set (states_of spaces) index y) added;
 }
-adds_span (Err f) name e spaces place old new finds can added = tt
+adds_span (Err f) name e spaces index old new finds can added = tt

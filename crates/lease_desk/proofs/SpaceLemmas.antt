@@ -10,38 +10,17 @@ use Rattle.std.specs.FinMap.{FinMap, get, insert, remove, get-insert, get-remove
 use Rattle.deed_core.specs.Holding.{Holding}
 use Rattle.deed_core.specs.Tag.{Tag}
 use Rattle.deed_core.specs.Covering.{covers, covers_held, covering_held}
-use Rattle.deed_core.specs.Weights.{Gains, Loses}
+use Rattle.deed_core.specs.Weights.{Gains, Loses, one_at}
+use Rattle.deed_core.proofs.LawProofs.{written, slice_get_some, slice_get_mapped, counts_where_it_is, one_at_itself}
 use Rattle.deed_core.specs.declared.segments.Route.TheVariants.{Direct}
-use Rattle.tag_arena.specs.ArenaState.{ArenaState, spans_of, ranges_of, tags_of}
-use Rattle.tag_arena.proofs.LawProofs.{tags_weigh}
+use Rattle.tag_arena.specs.ArenaState.{ArenaState, spans_of, ranges_of, tags_of, direct, IsSound}
+use Rattle.tag_arena.proofs.LawProofs.{tags_weigh, allocated_stand}
 use Rattle.tag_arena.specs.Calls.{Carves, Frees, after_carve, after_free}
 use Rattle.lease_desk.specs.declared.spaces.Space.{Space}
 use Rattle.lease_desk.specs.DeskState.{within, stray, Exports}
 use Rattle.lease_desk.specs.Moves.{TakesBack, GivesBack}
-use Rattle.lease_desk.specs.Spaces.{state_of, states_of, IsKeyed, IsSpace, AreSpaces, IsOut}
-use Rattle.lease_desk.proofs.PlaceLemmas.{written, slice_get_some, slice_get_mapped}
-use Rattle.lease_desk.proofs.Standing.{stands, same, same_itself}
+use Rattle.lease_desk.specs.Spaces.{state_of, states_of, IsSpace, AreSpaces, IsOut}
 use Rattle.lease_desk.proofs.Exporting.{within_own, not_stray, gives_one, gives_one_back}
-
-not_taken : (b : Bool) (o : Option Holding) (h : Holding) → cond b None o ≡ Some h → o ≡ Some h
-not_taken true o h e = (let n : None ≡ Some h = e in cc)
-not_taken false o h e = e
-
-put_or_was : (b : Bool) (v h : Holding) (o : Option Holding) → cond b (Some v) o ≡ Some h → ((b ≡ true) × (v ≡ h)) ⊎ (o ≡ Some h)
-put_or_was true v h o e = inl (refl, (let s : Some v ≡ Some h = e in cc))
-put_or_was false v h o e = inr e
-
-keyed_less : (m : FinMap nat_cmp Holding) (k : ℕ) → IsKeyed m → IsKeyed (remove m k)
-keyed_less m k keyed b h at = keyed b h (not_taken (eq_by_cmp nat_cmp b k) (get m b) h (sym (get-remove nat_cmp_total m k b) ∙ at))
-
-keyed_more : (m : FinMap nat_cmp Holding) (k : ℕ) (v : Holding) → v.range.base ≡ k → IsKeyed m → IsKeyed (insert m k v)
-keyed_more m k v base keyed b h at = elim (put_or_was (eq_by_cmp nat_cmp b k) v h (get m b) (sym (get-insert nat_cmp_total m k v b) ∙ at)) [
-  | inl is ↦
-      let tied : nat_eq b k ≡ true = sym (unsigned_tied b k) ∙ is.0 in
-      let here : b ≡ k = grind (arith, nat_tests) in
-      ap (λ (x : Holding). x.range.base) (sym is.1) ∙ base ∙ sym here
-  | inr was ↦ keyed b h was
-]
 
 -- the arena of a space with another state
 abbrev pub with_arena : Space → ArenaState → Space
@@ -69,15 +48,11 @@ pub ranges_lose : (old new : ArenaState) (t : Tag) → Loses (tags_of old) (tags
 ranges_lose old new t loses f = omega (arith, loses (λ x. f x.holding), tags_weigh old (λ x. f x.holding), tags_weigh new (λ x. f x.holding))
 
 -- a space whose arena has changed, in weights
-space_after : (k : ℕ) (s : Space) (new : ArenaState) → IsSpace k s → KeepsSpans s.arena new → IsKeyed new.allocated
-    → ((u : ℕ) → covering_held u new.free + covering_held u (ranges_of new.allocated) ≡ covering_held u s.arena.free + covering_held u (ranges_of s.arena.allocated))
-    → IsSpace k (with_arena s new)
-space_after k s new is keeps keyed units = record {
+space_after : (k : ℕ) (s : Space) (new : ArenaState) → IsSpace k s → KeepsSpans s.arena new → IsSound new → IsSpace k (with_arena s new)
+space_after k s new is keeps sound = record {
   id = keeps.id ∙ is.id;
   own = keeps.imported ∙ is.own;
-  keyed = keyed;
-  covers = λ u. units u ∙ is.covers u ∙ ap (covering_held u) (sym (same_spans s.arena new keeps));
-  once = λ u. subst (λ spans. covering_held u spans ≤ 1) (sym (same_spans s.arena new keeps)) (is.once u);
+  sound = sound;
   count = is.count ∙ ap length (sym keeps.owned);
   few = is.few;
 }
@@ -86,17 +61,8 @@ freed_keeps : (old new : ArenaState) (piece : Holding) → Frees old new piece N
 freed_keeps old new piece freed = kept_by old new (λ a. after_free a piece freed.merged) freed.after.1 (record { id = refl; quantum = refl; policy = refl; owned = refl; imported = refl })
 
 -- a segment went back to its arena
-pub freed_space : (k : ℕ) (s : Space) (new : ArenaState) (t : Tag) → IsSpace k s → Frees s.arena new t.holding None
-    → Loses (ranges_of s.arena.allocated) (ranges_of new.allocated) t.holding
-    → ((u : ℕ) → covering_held u new.free + 0 ≡ covering_held u s.arena.free + covers u t.holding.range)
-    → IsSpace k (with_arena s new)
-freed_space k s new t is freed loses units = space_after k s new is keeps keyed (λ u. omega (arith, units u, loses (covers_held u)))
-  where
-    keeps : KeepsSpans s.arena new
-    keeps = freed_keeps s.arena new t.holding freed
-
-    keyed : IsKeyed new.allocated
-    keyed = subst IsKeyed (sym (ap (λ (a : ArenaState). a.allocated) freed.after.1)) (keyed_less s.arena.allocated t.holding.range.base is.keyed)
+pub freed_space : (k : ℕ) (s : Space) (new : ArenaState) (t : Tag) → IsSpace k s → Frees s.arena new t.holding None → IsSound new → IsSpace k (with_arena s new)
+freed_space k s new t is freed sound = space_after k s new is (freed_keeps s.arena new t.holding freed) sound
 
 pub freed_gives : (k : ℕ) (s : Space) (new : ArenaState) (t : Tag) → t.arena ≡ k → Frees s.arena new t.holding None
     → Loses (ranges_of s.arena.allocated) (ranges_of new.allocated) t.holding
@@ -118,17 +84,8 @@ carved_keeps : (old new : ArenaState) (piece : Holding) → Carves old new piece
 carved_keeps old new piece carved = kept_by old new (λ a. after_carve a carved.range piece) carved.after (record { id = refl; quantum = refl; policy = refl; owned = refl; imported = refl })
 
 -- a segment was carved
-pub carved_space : (k : ℕ) (s : Space) (new : ArenaState) (h : Holding) → IsSpace k s → Carves s.arena new h
-    → Gains (ranges_of s.arena.allocated) (ranges_of new.allocated) h
-    → ((u : ℕ) → covering_held u s.arena.free ≡ covering_held u new.free + covers u h.range)
-    → IsSpace k (with_arena s new)
-carved_space k s new h is carved gains units = space_after k s new is keeps keyed (λ u. omega (arith, units u, gains (covers_held u)))
-  where
-    keeps : KeepsSpans s.arena new
-    keeps = carved_keeps s.arena new h carved
-
-    keyed : IsKeyed new.allocated
-    keyed = subst IsKeyed (sym (ap (λ (a : ArenaState). a.allocated) carved.after)) (keyed_more s.arena.allocated h.range.base h refl is.keyed)
+pub carved_space : (k : ℕ) (s : Space) (new : ArenaState) (h : Holding) → IsSpace k s → Carves s.arena new h → IsSound new → IsSpace k (with_arena s new)
+carved_space k s new h is carved sound = space_after k s new is (carved_keeps s.arena new h carved) sound
 
 pub carved_gives : (k : ℕ) (s : Space) (new : ArenaState) (t : Tag) → t.arena ≡ k → Carves s.arena new t.holding
     → Gains (ranges_of s.arena.allocated) (ranges_of new.allocated) t.holding
@@ -166,7 +123,7 @@ pub out_of : (spaces : List Space) (t : Tag) (out : List Tag) → AreSpaces spac
 out_of spaces t out sound exports = record {
   space = s.0;
   here = s.1;
-  tagged = record { arena = sym is.id; route = home.0; stands = stands s.0.arena.allocated t.holding is.keyed weighs };
+  tagged = (allocated_stand s.0.arena t is.sound).0 ((counts_where_it_is t (tags_of s.0.arena)).0 weighs);
 }
   where
     home : (t.route ≡ Direct) × (t.arena < length (states_of spaces))
@@ -178,7 +135,14 @@ out_of spaces t out sound exports = record {
     is : IsSpace t.arena s.0
     is = sound t.arena s.0 s.1
 
-    weighs : 0 < sum_by (same t.holding) (ranges_of s.0.arena.allocated)
+    same : t ≡ direct s.0.arena.id t.holding
+    same = λ j. record { arena = sym is.id j; route = home.0 j; holding = t.holding }
+
+    one : Holding → ℕ
+    one h = one_at t (direct s.0.arena.id h)
+
+    weighs : 0 < sum_by (one_at t) (tags_of s.0.arena)
     weighs =
-        let all = exports.each t.arena (state_of s.0) (same t.holding) (slice_get_mapped state_of spaces t.arena s.0 s.1) in
-        omega (arith, all, sum_by-cons (within t.arena (same t.holding)) t out, within_own t.arena (same t.holding) t refl, same_itself t.holding)
+        let all = exports.each t.arena (state_of s.0) one (slice_get_mapped state_of spaces t.arena s.0 s.1) in
+        let itself : one t.holding ≡ 1 = ap (one_at t) (sym same) ∙ one_at_itself t in
+        omega (arith, all, tags_weigh s.0.arena (one_at t), sum_by-cons (within t.arena one) t out, within_own t.arena one t refl, itself)

@@ -21,7 +21,7 @@ use Rattle.lease_desk.specs.Grants.{GrantsAreOwn, IsPossible}
 use Rattle.lease_desk.specs.Spaces.{state_of, states_of, desk_of, AreSpaces, IsSteady, IsOut, AreUnallocated}
 use Rattle.lease_desk.proofs.Exporting.{exports_weigh, exports_back, none_given, gives_then}
 use Rattle.tag_arena.specs.ArenaState.{ranges_of}
-use Rattle.lease_desk.proofs.PlaceLemmas.{slice_get_mapped}
+use Rattle.deed_core.proofs.LawProofs.{slice_get_mapped}
 use Rattle.lease_desk.proofs.SpaceLemmas.{out_of}
 use Rattle.lease_desk.proofs.GrantLemmas.{grants_more}
 

@@ -6,7 +6,7 @@ use Rattle.lease_proto.specs.declared.operators.ServedLine.{ServedLine}
 use Rattle.lease_proto.specs.Faults.{error_line}
 use Rattle.lease_proto.specs.Operators.{served_of}
 use Rattle.lease_desk.specs.DeskState.{DeskState, IsOrderly}
-use Rattle.lease_desk.specs.Machine.{Answers, ServedStep, LeaseStep}
+use Rattle.lease_desk.specs.Machine.{AnswersLine, ServedStep, LeaseStep}
 
 module _ {A E : Type 0} where
   -- bytes were appended where there was room
@@ -43,13 +43,13 @@ module _ {A E : Type 0} where
 -- a line that is served
 pub served_step : (old new : DeskState) (line text : List ℕ) (l : ServedLine) → Ok l ≡ served_of line → ServedStep l old text new → IsOrderly new → LeaseStep old line text new
 served_step old new line text l is step orderly = record {
-  answer = subst (λ (x : Result ServedLine LineFault). Answers old x text new) is step;
+  answer = subst (λ (x : Result ServedLine LineFault). AnswersLine old x text new) is step;
   orderly = orderly;
 }
 
 -- a line that is refused
 pub refused_step : (d : DeskState) (line : List ℕ) (fault : LineFault) → Err fault ≡ served_of line → IsOrderly d → LeaseStep d line (error_line fault) d
 refused_step d line fault is orderly = record {
-  answer = subst (λ (r : Result ServedLine LineFault). Answers d r (error_line fault) d) is (refl, refl);
+  answer = subst (λ (r : Result ServedLine LineFault). AnswersLine d r (error_line fault) d) is (refl, refl);
   orderly = orderly;
 }

@@ -7,16 +7,16 @@ use Rattle.deed_core.specs.Request.{Fits, IsGood}
 use Rattle.deed_core.specs.declared.requests.Request.{Request}
 use Rattle.deed_core.specs.declared.segments.Route.TheVariants.{Direct}
 use Rattle.tag_arena.specs.declared.faults.ArenaFault.{ArenaFault}
-use Rattle.tag_arena.specs.declared.faults.ArenaFault.TheVariants.{BadRequest, NoFit, Overlaps, NotAligned, NoMemory}
+use Rattle.tag_arena.specs.declared.faults.ArenaFault.TheVariants.{BadRequest, NoFit, NoMemory}
 use Rattle.lease_desk.specs.DeskState.{NamedArenaState}
 use Rattle.lease_desk.specs.Moves.{GivesBack}
 use Rattle.lease_desk.specs.Machine.{Chooses, HasPlace}
 
--- the segment was carved for the request from free units of the arena at the place
-pub record IsCarved (old new : List NamedArenaState) (place : ℕ) (x : NamedArenaState)
+-- the segment was carved for the request from free units of the arena at the index
+pub record IsCarved (old new : List NamedArenaState) (index : ℕ) (x : NamedArenaState)
     (q : Request) (t : Tag) : Type 0 where
-  pub here : slice_get old place ≡ Some x
-  pub home : t.arena ≡ place
+  pub here : slice_get old index ≡ Some x
+  pub home : t.arena ≡ index
   pub route : t.route ≡ Direct
   pub good : IsGood x.quantum q
   pub chosen : Chooses x q t.holding.range.base
@@ -26,15 +26,13 @@ pub record IsCarved (old new : List NamedArenaState) (place : ℕ) (x : NamedAre
   pub back : GivesBack (t ∷ []) new old
 
 -- why none was carved
-abbrev pub IsRefused : NamedArenaState → Request → ArenaFault → Type 0
-IsRefused x q BadRequest = ¬ IsGood x.quantum q
-IsRefused x q NoFit = IsGood x.quantum q × (¬ HasPlace x q)
-IsRefused x q Overlaps = ⊥
-IsRefused x q NotAligned = ⊥
-IsRefused x q NoMemory = IsGood x.quantum q × ((base : ℕ) × Chooses x q base)
+abbrev pub IsCarveRefused : NamedArenaState → Request → ArenaFault → Type 0
+IsCarveRefused x q BadRequest = ¬ IsGood x.quantum q
+IsCarveRefused x q NoFit = IsGood x.quantum q × (¬ HasPlace x q)
+IsCarveRefused x q NoMemory = IsGood x.quantum q × ((base : ℕ) × Chooses x q base)
 
--- none was carved from the arena at the place
-pub record IsUncarved (arenas : List NamedArenaState) (place : ℕ) (x : NamedArenaState)
+-- none was carved from the arena at the index
+pub record IsUncarved (arenas : List NamedArenaState) (index : ℕ) (x : NamedArenaState)
     (q : Request) (fault : ArenaFault) : Type 0 where
-  pub here : slice_get arenas place ≡ Some x
-  pub why : IsRefused x q fault
+  pub here : slice_get arenas index ≡ Some x
+  pub why : IsCarveRefused x q fault

@@ -4,8 +4,7 @@ use Rattle.std.specs.List.{flat_map}
 use Rattle.deed_core.specs.Holding.{Holding}
 use Rattle.deed_core.specs.Tag.{Tag}
 use Rattle.deed_core.specs.Covering.{covers_held, covering_held}
-use Rattle.deed_core.specs.declared.segments.Route.{Route}
-use Rattle.deed_core.specs.declared.segments.Route.TheVariants.{Direct, Cached}
+use Rattle.deed_core.specs.Selections.{is_direct}
 use Rattle.tag_arena.specs.declared.policies.Policy.{Policy}
 use Rattle.lease_book.specs.Account.{Lease, Account}
 use Rattle.lease_book.specs.BookState.{BookState, leased}
@@ -20,46 +19,42 @@ pub record NamedArenaState : Type 0 where
   pub free : List Holding
   pub allocated : List Holding
 
--- the arenas in order of setup; a segment names its arena by its place here
+-- the arenas in order of setup; a segment names its arena by its index here
 pub record DeskState : Type 0 where
   pub arenas : List NamedArenaState
   pub book : BookState
 
--- where units of an arena may be
-pub data Place : Type 0 where
-  Free : Place
-  Leased : (client incarnation : ℕ) → Place
+-- where units of an arena may be: each unit has one home
+pub data UnitHome : Type 0 where
+  Free : UnitHome
+  Leased : (client incarnation : ℕ) → UnitHome
 
-pub record Stay : Type 0 where
-  pub place : Place
+pub record HomedRange : Type 0 where
+  pub home : UnitHome
   pub holding : Holding
 
 -- the leases of one client in the arena
-abbrev pub leases_in : ℕ → Account → List Stay
+abbrev pub leases_in : ℕ → Account → List HomedRange
 leases_in arena a =
-    map (λ l. record { place = Leased a.client l.incarnation; holding = l.segment.holding })
+    map (λ l. record { home = Leased a.client l.incarnation; holding = l.segment.holding })
     (filter (λ (l : Lease). l.segment.arena == arena) a.leases)
 
 -- where each range of the arena is
-abbrev pub stays_of : ℕ → NamedArenaState → BookState → List Stay
-stays_of arena x book = map (λ h. record { place = Free; holding = h }) x.free
+abbrev pub homed_ranges : ℕ → NamedArenaState → BookState → List HomedRange
+homed_ranges arena x book = map (λ h. record { home = Free; holding = h }) x.free
     ++ flat_map (leases_in arena) book.accounts
 
-abbrev pub covers_stay : ℕ → Stay → ℕ
-covers_stay u s = covers_held u s.holding
+abbrev pub covers_homed : ℕ → HomedRange → ℕ
+covers_homed u s = covers_held u s.holding
 
 -- each unit of the arena's spans is in one place, and no other unit is in any
 pub record OnePlace (arena : ℕ) (x : NamedArenaState) (book : BookState) : Type 0 where
-  pub places : (u : ℕ) → sum_by (covers_stay u) (stays_of arena x book) ≡ covering_held u x.spans
+  pub places : (u : ℕ) → sum_by (covers_homed u) (homed_ranges arena x book) ≡ covering_held u x.spans
   pub once : (u : ℕ) → covering_held u x.spans ≤ 1
 
 -- what a segment weighs in an arena: nothing in another one
 abbrev pub within : ℕ → (Holding → ℕ) → Tag → ℕ
 within arena f t = if t.arena == arena then f t.holding else 0
-
-abbrev pub is_direct : Route → Bool
-is_direct Direct = true
-is_direct (Cached n) = false
 
 -- 1 for a segment that none of so many arenas carved, else 0
 abbrev pub stray : ℕ → Tag → ℕ

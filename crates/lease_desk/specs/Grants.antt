@@ -3,11 +3,11 @@ use Rattle.std.specs.Prelude.{ℕ, ◌<◌, List}
 use Rattle.std.specs.List.{AllByRecursion}
 use Rattle.lease_book.specs.Entry.{Entry, Hello, Settled, Swept, reply_of}
 use Rattle.lease_book.specs.BookState.{BookState, IsHistory}
-use Rattle.lease_book.specs.declared.receipts.Reply.{Reply}
-use Rattle.lease_book.specs.declared.receipts.Reply.TheVariants.{Granted, Released, Refused}
+use Rattle.lease_book.specs.declared.receipts.KeptReply.{KeptReply}
+use Rattle.lease_book.specs.declared.receipts.KeptReply.TheVariants.{Granted, Released, Refused}
 
 -- a grant is of one of so many arenas
-abbrev pub IsOfArenas : ℕ → Reply → Type 0
+abbrev pub IsOfArenas : ℕ → KeptReply → Type 0
 IsOfArenas count (Granted arena base len) = arena < count
 IsOfArenas count Released = Unit {0}
 IsOfArenas count (Refused why) = Unit {0}

@@ -18,8 +18,9 @@ use Rattle.lease_book.specs.Entry.{Hello, Settled, Grant, Return, Refuse}
 use Rattle.lease_book.specs.Account.{Lease, is_lease}
 use Rattle.lease_book.specs.BookState.{BookState, Enters, account_in, leased}
 use Rattle.lease_book.specs.Answers.{IsNew, IsOld, IsStale, IsGap}
-use Rattle.lease_book.specs.declared.receipts.Reply.{Reply as KeptReply}
-use Rattle.lease_book.specs.declared.receipts.Reply.TheVariants as kept
+use Rattle.lease_book.specs.declared.books.TheConstants.{MOST_LEASES}
+use Rattle.lease_book.specs.declared.receipts.KeptReply.{KeptReply}
+use Rattle.lease_book.specs.declared.receipts.KeptReply.TheVariants as kept
 use Rattle.lease_proto.specs.declared.faults.LineFault.{LineFault}
 use Rattle.lease_proto.specs.declared.lines.Line.{Line}
 use Rattle.lease_proto.specs.declared.lines.Line.TheVariants as lines
@@ -41,15 +42,15 @@ use Rattle.lease_desk.specs.Moves.{GivesBack}
 use Rattle.lease_desk.specs.Sweeps.{Sweeps}
 use Rattle.lease_desk.specs.Operators.{asked_text, Tells}
 
--- the place of the arena with this name
-abbrev pub place_in : List ℕ → List NamedArenaState → Option ℕ
-place_in name arenas = position (λ x. bytes_eq x.name name) arenas
+-- the index of the arena with this name
+abbrev pub index_in : List ℕ → List NamedArenaState → Option ℕ
+index_in name arenas = position (λ x. bytes_eq x.name name) arenas
 
--- the arena of this name, and its place
-pub record Finds (arenas : List NamedArenaState) (name : List ℕ) (place : ℕ)
+-- the arena of this name, and its index
+pub record Finds (arenas : List NamedArenaState) (name : List ℕ) (index : ℕ)
     (arena : NamedArenaState) : Type 0 where
-  pub first : place_in name arenas ≡ Some place
-  pub here : slice_get arenas place ≡ Some arena
+  pub first : index_in name arenas ≡ Some index
+  pub here : slice_get arenas index ≡ Some arena
 
 abbrev pub refused_to : RequestId → Refusal → Reply
 refused_to q w = reply.Refused (record { id = q; refusal = w })
@@ -82,7 +83,7 @@ IsKnown d q (reply.Gap o) = (o.id ≡ q) × IsGap (account_in q.client d.book) q
 IsKnown d q r = IsRepeat d q r
 
 -- the new request is settled by a refusal, and nothing else changes
-pub record Refuses (q : RequestId) (w : Refusal) (old new : DeskState) : Type 0 where
+pub record SettlesRefusal (q : RequestId) (w : Refusal) (old new : DeskState) : Type 0 where
   pub entry : Enters (Settled q (Refuse w)) old.book new.book
   pub leases : leased new.book ≡ leased old.book
   pub arenas : new.arenas ≡ old.arenas
@@ -105,17 +106,17 @@ Chooses x q base = (rover : ℕ) × IsChoice x.policy x.quantum q x.free rover (
 -- the segment is the policy's choice and fits what is asked, its units were free, and it is a lease
 -- afterwards
 pub record Grants (q : RequestId) (l : LeaseLine) (old new : DeskState) (r : Reply) : Type 0 where
-  pub place : ℕ
+  pub index : ℕ
   pub arena : NamedArenaState
   pub segment : Tag
-  pub finds : Finds old.arenas l.arena place arena
-  pub home : segment.arena ≡ place
+  pub finds : Finds old.arenas l.arena index arena
+  pub home : segment.arena ≡ index
   pub good : IsGood arena.quantum (demand_of l)
   pub chosen : Chooses arena (demand_of l) segment.holding.range.base
   pub fits : Fits arena.quantum (demand_of l)
       segment.holding.range.base segment.holding.range.len
   pub free : (u : ℕ) → Covers segment.holding.range u → 0 < covering_held u arena.free
-  pub few : length (account_in q.client old.book).leases < 1024
+  pub few : length (account_in q.client old.book).leases < MOST_LEASES
   pub arenas : GivesBack (segment ∷ []) new.arenas old.arenas
   pub entry : Enters
       (Settled q (Grant segment (record { quantum = arena.quantum; request = demand_of l })))
@@ -130,9 +131,9 @@ HasPlace x q = (base : ℕ) × Serves x.quantum q x.free base
 
 -- the request was good and an address was chosen for it, and the arena's units are as they were
 pub record Misses (l : LeaseLine) (old new : DeskState) : Type 0 where
-  pub place : ℕ
+  pub index : ℕ
   pub arena : NamedArenaState
-  pub finds : Finds old.arenas l.arena place arena
+  pub finds : Finds old.arenas l.arena index arena
   pub good : IsGood arena.quantum (demand_of l)
   pub chosen : (base : ℕ) × Chooses arena (demand_of l) base
   pub arenas : GivesBack [] old.arenas new.arenas
@@ -140,16 +141,16 @@ pub record Misses (l : LeaseLine) (old new : DeskState) : Type 0 where
 -- why a new lease is refused: the first of these that is so
 abbrev pub RefusesLease : RequestId → LeaseLine → DeskState → DeskState → Refusal → Type 0
 RefusesLease q l old new NoArena =
-    (place_in l.arena old.arenas ≡ None) × Refuses q NoArena old new
-RefusesLease q l old new BadRequest = (place : ℕ) × (x : NamedArenaState)
-    × Finds old.arenas l.arena place x
-    × (¬ IsGood x.quantum (demand_of l)) × Refuses q BadRequest old new
-RefusesLease q l old new NoFit = (place : ℕ) × (x : NamedArenaState)
-    × Finds old.arenas l.arena place x × IsGood x.quantum (demand_of l)
-    × (¬ HasPlace x (demand_of l)) × Refuses q NoFit old new
+    (index_in l.arena old.arenas ≡ None) × SettlesRefusal q NoArena old new
+RefusesLease q l old new BadRequest = (index : ℕ) × (x : NamedArenaState)
+    × Finds old.arenas l.arena index x
+    × (¬ IsGood x.quantum (demand_of l)) × SettlesRefusal q BadRequest old new
+RefusesLease q l old new NoFit = (index : ℕ) × (x : NamedArenaState)
+    × Finds old.arenas l.arena index x × IsGood x.quantum (demand_of l)
+    × (¬ HasPlace x (demand_of l)) × SettlesRefusal q NoFit old new
 RefusesLease q l old new Leases = (missed : Misses l old new)
     × HasPlace missed.arena (demand_of l)
-    × (1024 ≤ length (account_in q.client old.book).leases)
+    × (MOST_LEASES ≤ length (account_in q.client old.book).leases)
     × Enters (Settled q (Refuse Leases)) old.book new.book × (leased new.book ≡ leased old.book)
 RefusesLease q l old new NotYours = ⊥
 
@@ -165,24 +166,24 @@ NewLease q l old new r = ⊥
 
 -- the lease ends, and its units are free; a request with this number was granted it
 pub record Releases (q : RequestId) (l : ReleaseLine) (old new : DeskState) : Type 0 where
-  pub place : ℕ
+  pub index : ℕ
   pub arena : NamedArenaState
   pub segment : Tag
   pub granted : ℕ
-  pub finds : Finds old.arenas l.arena place arena
-  pub lease : find (is_lease q.incarnation place l.base) (account_in q.client old.book).leases
+  pub finds : Finds old.arenas l.arena index arena
+  pub lease : find (is_lease q.incarnation index l.base) (account_in q.client old.book).leases
       ≡ Some (record { incarnation = q.incarnation; number = granted; segment = segment })
   pub arenas : GivesBack (segment ∷ []) old.arenas new.arenas
-  pub entry : Enters (Settled q (Return place l.base)) old.book new.book
+  pub entry : Enters (Settled q (Return index l.base)) old.book new.book
   pub leases : Loses (leased old.book) (leased new.book) segment
 
 -- why a new release is refused
 abbrev pub RefusesRelease : RequestId → ReleaseLine → DeskState → DeskState → Refusal → Type 0
 RefusesRelease q l old new NoArena =
-    (place_in l.arena old.arenas ≡ None) × Refuses q NoArena old new
-RefusesRelease q l old new NotYours = (place : ℕ) × (place_in l.arena old.arenas ≡ Some place)
-    × (find (is_lease q.incarnation place l.base) (account_in q.client old.book).leases ≡ None)
-    × Refuses q NotYours old new
+    (index_in l.arena old.arenas ≡ None) × SettlesRefusal q NoArena old new
+RefusesRelease q l old new NotYours = (index : ℕ) × (index_in l.arena old.arenas ≡ Some index)
+    × (find (is_lease q.incarnation index l.base) (account_in q.client old.book).leases ≡ None)
+    × SettlesRefusal q NotYours old new
 RefusesRelease q l old new w = ⊥
 
 -- the answer to a new release
@@ -240,11 +241,11 @@ ServedStep (served.Client l) old text new =
 ServedStep (served.Operator o) old text new = Tells (asked_text old o) text × (new ≡ old)
 
 -- the bytes that answer the bytes of a line, by what the line is
-abbrev pub Answers : DeskState → Result ServedLine LineFault → List ℕ → DeskState → Type 0
-Answers old (Ok line) text new = ServedStep line old text new
-Answers old (Err fault) text new = (text ≡ error_line fault) × (new ≡ old)
+abbrev pub AnswersLine : DeskState → Result ServedLine LineFault → List ℕ → DeskState → Type 0
+AnswersLine old (Ok line) text new = ServedStep line old text new
+AnswersLine old (Err fault) text new = (text ≡ error_line fault) × (new ≡ old)
 
 -- one line, and what holds after it
 pub record LeaseStep (old : DeskState) (line text : List ℕ) (new : DeskState) : Type 0 where
-  pub answer : Answers old (served_of line) text new
+  pub answer : AnswersLine old (served_of line) text new
   pub orderly : IsOrderly new

@@ -14,7 +14,8 @@ pub record TakesBack (arena : ℕ) (back : List Tag) (old new : NamedArenaState)
   pub allocated : (f : Holding → ℕ)
       → sum_by f old.allocated ≡ sum_by f new.allocated + sum_by (within arena f) back
   pub free : (u : ℕ)
-      → covering_held u new.free ≡ covering_held u old.free + sum_by (within arena (covers_held u)) back
+      → covering_held u new.free
+      ≡ covering_held u old.free + sum_by (within arena (covers_held u)) back
 
 -- the same of all arenas
 pub record GivesBack (back : List Tag) (old new : List NamedArenaState) : Type 0 where

@@ -7,7 +7,7 @@ use Rattle.tag_arena.specs.ArenaState.{OnQuantum}
 use Rattle.tag_arena.specs.declared.policies.Policy.{Policy}
 use Rattle.lease_proto.specs.declared.limits.TheConstants.{MOST_ARENAS, MOST_SPANS}
 use Rattle.lease_desk.specs.DeskState.{NamedArenaState}
-use Rattle.lease_desk.specs.Machine.{place_in, Finds}
+use Rattle.lease_desk.specs.Machine.{index_in, Finds}
 use Rattle.lease_desk.specs.declared.faults.SetupFault.{SetupFault}
 use Rattle.lease_desk.specs.declared.faults.SetupFault.TheVariants.{NameTaken, TooMany, NoArena, BadQuantum, NotYet, BadRange, NoMemory}
 
@@ -35,7 +35,7 @@ arena_asked name base len quantum policy qcache_max = record {
 
 -- its name is free, and there is room for one more
 abbrev pub HasRoom : List NamedArenaState → NewArena → Type 0
-HasRoom arenas n = (place_in n.name arenas ≡ None) × (length arenas < MOST_ARENAS)
+HasRoom arenas n = (index_in n.name arenas ≡ None) × (length arenas < MOST_ARENAS)
 
 -- nothing speaks against it
 pub record CanAdd (arenas : List NamedArenaState) (n : NewArena) : Type 0 where
@@ -46,8 +46,8 @@ pub record CanAdd (arenas : List NamedArenaState) (n : NewArena) : Type 0 where
 
 -- why it is refused: the first of these that is so; memory is asked for only where none is
 abbrev pub RefusesArena : List NamedArenaState → NewArena → SetupFault → Type 0
-RefusesArena arenas n NameTaken = (place : ℕ) × (place_in n.name arenas ≡ Some place)
-RefusesArena arenas n TooMany = (place_in n.name arenas ≡ None) × (MOST_ARENAS ≤ length arenas)
+RefusesArena arenas n NameTaken = (index : ℕ) × (index_in n.name arenas ≡ Some index)
+RefusesArena arenas n TooMany = (index_in n.name arenas ≡ None) × (MOST_ARENAS ≤ length arenas)
 RefusesArena arenas n NoArena = ⊥
 RefusesArena arenas n BadQuantum = HasRoom arenas n × (¬ IsPowerOfTwo n.quantum)
 RefusesArena arenas n NotYet = HasRoom arenas n × IsPowerOfTwo n.quantum × (0 < n.qcache_max)
@@ -55,10 +55,10 @@ RefusesArena arenas n BadRange = HasRoom arenas n × IsPowerOfTwo n.quantum × (
     × (¬ IsWholeRange n.quantum n.range)
 RefusesArena arenas n NoMemory = CanAdd arenas n
 
--- the number of the root of an arena's next span, by the arena's place and how many spans it has:
+-- the number of the root of an arena's next span, by the arena's index and how many spans it has:
 -- each span's own, since an arena has at most `MOST_SPANS`
 abbrev pub root_of : ℕ → ℕ → ℕ
-root_of place spans = place * MOST_SPANS + spans
+root_of index spans = index * MOST_SPANS + spans
 
 -- an arena whose one span is free
 abbrev pub fresh : NewArena → Holding → NamedArenaState
@@ -101,15 +101,15 @@ RefusesMore x e NotYet = ⊥
 
 -- why a span is refused: there is no such arena, or that arena takes it not
 abbrev pub RefusesSpan : List NamedArenaState → List ℕ → Extent → SetupFault → Type 0
-RefusesSpan arenas name e fault = ((fault ≡ NoArena) × (place_in name arenas ≡ None))
-    ⊎ ((place : ℕ) × (x : NamedArenaState) × Finds arenas name place x × RefusesMore x e fault)
+RefusesSpan arenas name e fault = ((fault ≡ NoArena) × (index_in name arenas ≡ None))
+    ⊎ ((index : ℕ) × (x : NamedArenaState) × Finds arenas name index x × RefusesMore x e fault)
 
 -- the arena of this name has the span more
 pub record AddsSpan (name : List ℕ) (e : Extent) (old new : List NamedArenaState) : Type 0 where
-  pub place : ℕ
+  pub index : ℕ
   pub arena : NamedArenaState
-  pub finds : Finds old name place arena
+  pub finds : Finds old name index arena
   pub few : length arena.spans < MOST_SPANS
   pub can : CanSpan arena e
-  pub added : new ≡ slice_set old place
-      (with_span arena (record { root = root_of place (length arena.spans); range = e }))
+  pub added : new ≡ slice_set old index
+      (with_span arena (record { root = root_of index (length arena.spans); range = e }))

@@ -1,11 +1,7 @@
 -- The arenas that a desk stores.
-use Rattle.std.specs.Prelude.{◌≡◌, ℕ, ◌+◌, ◌≤◌, List, [], length, map, slice_get, Some}
-use Rattle.std.specs.Ordering.{nat_cmp}
-use Rattle.std.specs.FinMap.{FinMap, get}
-use Rattle.deed_core.specs.Holding.{Holding}
+use Rattle.std.specs.Prelude.{◌≡◌, ℕ, ◌≤◌, List, [], length, map, slice_get, Some}
 use Rattle.deed_core.specs.Tag.{Tag}
-use Rattle.deed_core.specs.Covering.{covering_held}
-use Rattle.tag_arena.specs.ArenaState.{spans_of, ranges_of}
+use Rattle.tag_arena.specs.ArenaState.{spans_of, ranges_of, IsSound}
 use Rattle.tag_arena.specs.Calls.{IsTagged}
 use Rattle.lease_book.specs.BookState.{BookState, leased}
 use Rattle.lease_proto.specs.declared.limits.TheConstants.{MOST_ARENAS, MOST_SPANS}
@@ -29,19 +25,11 @@ states_of spaces = map state_of spaces
 abbrev pub desk_of : List Space → BookState → DeskState
 desk_of spaces book = record { arenas = states_of spaces; book = book }
 
--- each range stands at its base
-abbrev pub IsKeyed : FinMap nat_cmp Holding → Type 0
-IsKeyed allocated = (b : ℕ) (h : Holding) → get allocated b ≡ Some h → h.range.base ≡ b
-
--- the arena at the place has its number, no imported span, and each unit of its spans once
+-- the arena at the index is sound, has its number and no imported span
 pub record IsSpace (k : ℕ) (s : Space) : Type 0 where
   pub id : s.arena.id ≡ k
   pub own : s.arena.imported ≡ []
-  pub keyed : IsKeyed s.arena.allocated
-  pub covers : (u : ℕ)
-      → covering_held u s.arena.free + covering_held u (ranges_of s.arena.allocated)
-      ≡ covering_held u (spans_of s.arena)
-  pub once : (u : ℕ) → covering_held u (spans_of s.arena) ≤ 1
+  pub sound : IsSound s.arena
   pub count : s.spans ≡ length s.arena.owned
   pub few : s.spans ≤ MOST_SPANS
 

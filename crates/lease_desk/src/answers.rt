@@ -7,7 +7,7 @@ ghost use Rattle.lease_desk.specs.Replies.{again_to, IsSayable, Says};
 
 use crate::spaces::Space;
 use deed_core::PlainDeed;
-use lease_book::{Answer, Reply as Settled};
+use lease_book::{Answer, KeptReply};
 use lease_proto::{Again, Granted, Old, OutOfTurn, Refused, Reply};
 use lease_terms::RequestId;
 
@@ -23,12 +23,12 @@ pub(crate) fn again(id: RequestId) -> Reply
 }
 
 /// The reply that was settled for the request.
-pub(crate) fn settled(spaces: &[Space], id: RequestId, reply: Settled) -> Reply
+pub(crate) fn settled(spaces: &[Space], id: RequestId, reply: KeptReply) -> Reply
     requires { IsOfArenas (length spaces.now) reply }
     ensures { IsSettled (states_of spaces.now) id reply result }
 {
     match reply {
-        Settled::Granted { arena, base, len } => {
+        KeptReply::Granted { arena, base, len } => {
             let arena = spaces[arena as usize].name;
             Reply::Granted(Granted {
                 id,
@@ -37,8 +37,8 @@ pub(crate) fn settled(spaces: &[Space], id: RequestId, reply: Settled) -> Reply
                 len,
             })
         }
-        Settled::Released => Reply::Released(id),
-        Settled::Refused(refusal) => Reply::Refused(Refused { id, refusal }),
+        KeptReply::Released => Reply::Released(id),
+        KeptReply::Refused(refusal) => Reply::Refused(Refused { id, refusal }),
     }
 }
 

@@ -28,8 +28,6 @@ fn close_space(space: Space)
     while let Some(deed) = arena.remove_owned() {
         let _ = deed.close();
     }
-    // Its clauses say that a free range would be part of a span that is left.
-    let _ = arena.report();
     match arena.close() {
         Ok(()) => {}
         Err(_) => unreachable!(),

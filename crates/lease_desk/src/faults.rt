@@ -7,7 +7,7 @@ pub enum SetupFault {
     /// An arena has the name.
     #[error("an arena has the name")]
     NameTaken,
-    /// There are 32 arenas, or 65,536 spans of this one.
+    /// There are `MOST_ARENAS` arenas, or `MOST_SPANS` spans of this one.
     #[error("too many")]
     TooMany,
     /// No arena has the name.

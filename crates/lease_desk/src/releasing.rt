@@ -2,13 +2,13 @@
 ghost use Rattle.std.specs.Prelude.{◌≡◌, ◌<◌, length, Some};
 ghost use Rattle.lease_book.specs.Answers.{IsNew};
 ghost use Rattle.lease_book.specs.BookState.{account_in};
-ghost use Rattle.lease_desk.specs.Machine.{place_in, ReleaseLineStep, NewRelease};
+ghost use Rattle.lease_desk.specs.Machine.{index_in, ReleaseLineStep, NewRelease};
 ghost use Rattle.lease_desk.specs.Spaces.{states_of, desk_of, IsSteady};
 
 use crate::answers::answered;
 use crate::returns::put_back;
 use crate::settling::{known, refuse};
-use crate::spaces::{Space, place_of};
+use crate::spaces::{Space, index_of};
 use deed_core::PlainDeed;
 use lease_book::Book;
 use lease_proto::{Release, Reply};
@@ -28,8 +28,8 @@ pub(crate) fn release(
 {
     match known(spaces, book, id) {
         Some(reply) => reply,
-        None => match place_of(spaces, &line.arena) {
-            Some(place) => release_new(spaces, book, id, line, place),
+        None => match index_of(spaces, &line.arena) {
+            Some(index) => release_new(spaces, book, id, line, index),
             None => refuse(spaces, book, id, Refusal::NoArena),
         },
     }
@@ -41,17 +41,17 @@ fn release_new(
     book: &mut Book<PlainDeed>,
     id: RequestId,
     line: &Release,
-    place: usize,
+    index: usize,
 ) -> Reply
     requires steady { IsSteady spaces.old.items book.old }
     requires new { IsNew (account_in id.client book.old) id }
-    requires first { place_in line.now.arena (states_of spaces.old.items) ≡ Some place }
-    requires within { place < length spaces.old.items }
+    requires first { index_in line.now.arena (states_of spaces.old.items) ≡ Some index }
+    requires within { index < length spaces.old.items }
     ensures steady { IsSteady spaces.new.items book.new }
     ensures step { NewRelease id line.now
         (desk_of spaces.old.items book.old) (desk_of spaces.new.items book.new) result }
 {
-    match book.release(id, place as u32, line.base) {
+    match book.release(id, index as u32, line.base) {
         Ok((_, segment)) => {
             put_back(spaces, segment);
             Reply::Released(id)

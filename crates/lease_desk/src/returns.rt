@@ -18,8 +18,8 @@ pub(crate) fn put_back(spaces: &mut Vec<Space>, segment: Segment<PlainDeed>)
     ensures back { GivesBack (segment ∷ [])
         (states_of spaces.old.items) (states_of spaces.new.items) }
 {
-    let place = segment.arena() as usize;
-    let space = &mut spaces[place];
+    let index = segment.arena() as usize;
+    let space = &mut spaces[index];
     match space.arena.free(segment) {
         Ok(back) => match back {
             None => {}

@@ -2,7 +2,7 @@
 ghost use Rattle.std.specs.Prelude.{◌≡◌, MatchOption};
 ghost use Rattle.lease_book.specs.Answers.{IsNew};
 ghost use Rattle.lease_book.specs.BookState.{account_in};
-ghost use Rattle.lease_desk.specs.Machine.{refused_to, Refuses, IsKnown};
+ghost use Rattle.lease_desk.specs.Machine.{refused_to, SettlesRefusal, IsKnown};
 ghost use Rattle.lease_desk.specs.Spaces.{desk_of, IsSteady};
 
 use crate::answers::answered;
@@ -34,7 +34,7 @@ pub(crate) fn refuse(
     requires steady { IsSteady spaces.now book.old }
     requires new { IsNew (account_in id.client book.old) id }
     ensures steady { IsSteady spaces.now book.new }
-    ensures refuses { Refuses id refusal
+    ensures refuses { SettlesRefusal id refusal
         (desk_of spaces.now book.old) (desk_of spaces.now book.new) }
     ensures reply { result ≡ refused_to id refusal }
 {

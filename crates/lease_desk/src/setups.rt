@@ -1,20 +1,21 @@
 //! What is added to a desk before it answers.
 ghost use Rattle.std.specs.Prelude.{◌≡◌, ◌<◌, ◌≤◌, length, IsSome, IfSome, IfOk, IfErr, OnOk, OnErr, ◌↔◌};
 ghost use Rattle.std.specs.Int.{IsPowerOfTwo};
+ghost use Rattle.tag_arena.specs.ArenaState.{IsSound};
 ghost use Rattle.lease_desk.specs.Setup.{root_of, IsWholeRange, CanAdd, CanSpan, RefusesArena, AddsArena, RefusesMore, RefusesSpan, AddsSpan, with_span};
 ghost use Rattle.lease_desk.specs.Spaces.{state_of, states_of, IsSpace, AreSpaces};
 ghost use Rattle.lease_desk.specs.Roots.{asked, space_of};
 
 use crate::faults::SetupFault;
-use crate::spaces::{Space, place_of};
+use crate::spaces::{Space, index_of};
 use deed_core::{PlainDeed, Range, is_power_of_two};
 use lease_proto::{MOST_ARENAS, MOST_SPANS};
 use lease_terms::Name;
 use std::alloc::Global;
-use tag_arena::{Arena, ArenaFault, Policy, SpanRefused};
+use tag_arena::{Arena, Policy, SpanFault};
 
-/// The arena that a setup line asks for: its name, its one span, and how it carves. Units and numbers
-/// of units.
+/// The arena that a setup line asks for: its name, its one span, and how it carves. Units and
+/// numbers of units.
 #[derive(Clone, Copy)]
 pub(crate) struct Root {
     pub name: Name,
@@ -31,7 +32,7 @@ fn root_range(spaces: &[Space], root: &Root) -> Result<Range, SetupFault>
     ensures can { OnOk result (CanAdd (states_of spaces.now) (asked root.now)) }
     ensures refused { IfErr result (RefusesArena (states_of spaces.now) (asked root.now)) }
 {
-    if place_of(spaces, &root.name).is_some() {
+    if index_of(spaces, &root.name).is_some() {
         return Err(SetupFault::NameTaken);
     }
     if spaces.len() >= MOST_ARENAS {
@@ -61,13 +62,13 @@ fn whole_range(base: u64, len: u64, quantum: u64) -> Option<Range>
     Range::new(base, len)
 }
 
-/// The number of the root of an arena's next span, by the arena's place and how many spans it has.
-fn root_number(place: u32, spans: u32) -> u32
-    requires place { place < MOST_ARENAS }
+/// The number of the root of an arena's next span, by the arena's index and how many spans it has.
+fn root_number(index: u32, spans: u32) -> u32
+    requires index { index < MOST_ARENAS }
     requires few { spans < MOST_SPANS }
-    ensures { result ≡ root_of place spans }
+    ensures { result ≡ root_of index spans }
 {
-    place * MOST_SPANS + spans
+    index * MOST_SPANS + spans
 }
 
 /// An arena of one span, whose deed is of the root of this number.
@@ -81,19 +82,21 @@ fn new_space(
     requires { IsPowerOfTwo root.now.quantum }
     ensures made { IfOk result (λ s.
         s ≡ space_of id (asked root.now) (record { root = number; range = range })) }
+    ensures sound { IfOk result (λ s. IsSound s.arena) }
     ensures fault { IfErr result (λ fault. fault ≡ SetupFault.NoMemory) }
 {
     let mut arena = Arena::new(alloc, id, root.quantum, root.policy);
     match arena.add_span(PlainDeed::new(number, range)) {
         Ok(()) => {}
-        Err(SpanRefused { span, fault: _ }) => {
-            let _ = span.close();
-            match arena.close() {
-                Ok(()) => {}
-                Err(_) => unreachable!(),
+        Err(SpanFault::Overlaps(span) | SpanFault::NotAligned(span) | SpanFault::NoMemory(span)) =>
+            {
+                let _ = span.close();
+                match arena.close() {
+                    Ok(()) => {}
+                    Err(_) => unreachable!(),
+                }
+                return Err(SetupFault::NoMemory);
             }
-            return Err(SetupFault::NoMemory);
-        }
     }
     Ok(Space {
         name: root.name,
@@ -142,19 +145,19 @@ pub(crate) fn add_span(
         (record { base = base; len = len })) }
     ensures err { OnErr result (spaces.new.items ≡ spaces.old.items) }
 {
-    let Some(place) = place_of(spaces, name) else {
+    let Some(index) = index_of(spaces, name) else {
         return Err(SetupFault::NoArena);
     };
-    extend(&mut spaces[place], place as u32, base, len)
+    extend(&mut spaces[index], index as u32, base, len)
 }
 
-/// Adds a span to the arena that stands at the place.
-fn extend(space: &mut Space, place: u32, base: u64, len: u64) -> Result<(), SetupFault>
-    requires place { place < MOST_ARENAS }
-    requires sound { IsSpace place space.old }
-    ensures sound { OnOk result (IsSpace place space.new) }
+/// Adds a span to the arena that stands at the index.
+fn extend(space: &mut Space, index: u32, base: u64, len: u64) -> Result<(), SetupFault>
+    requires index { index < MOST_ARENAS }
+    requires sound { IsSpace index space.old }
+    ensures sound { OnOk result (IsSpace index space.new) }
     ensures added { OnOk result (state_of space.new ≡ with_span (state_of space.old) (record {
-      root = root_of place (length (state_of space.old).spans);
+      root = root_of index (length (state_of space.old).spans);
       range = record { base = base; len = len };
     })) }
     ensures can { OnOk result ((length (state_of space.old).spans < MOST_SPANS)
@@ -169,15 +172,15 @@ fn extend(space: &mut Space, place: u32, base: u64, len: u64) -> Result<(), Setu
     let Some(range) = whole_range(base, len, space.arena.quantum()) else {
         return Err(SetupFault::BadRange);
     };
-    let number = root_number(place, space.spans);
+    let number = root_number(index, space.spans);
     let Err(refused) = space.arena.add_span(PlainDeed::new(number, range)) else {
         space.spans += 1;
         return Ok(());
     };
-    let SpanRefused { span, fault } = refused;
+    let (span, fault) = match refused {
+        SpanFault::Overlaps(span) | SpanFault::NotAligned(span) => (span, SetupFault::BadRange),
+        SpanFault::NoMemory(span) => (span, SetupFault::NoMemory),
+    };
     let _ = span.close();
-    if fault == ArenaFault::NoMemory {
-        return Err(SetupFault::NoMemory);
-    }
-    Err(SetupFault::BadRange)
+    Err(fault)
 }

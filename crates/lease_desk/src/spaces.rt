@@ -13,12 +13,12 @@ pub(crate) struct Space {
 }
 
 ghost use Rattle.std.specs.Str.{bytes_eq};
-ghost use Rattle.lease_desk.specs.Machine.{place_in};
+ghost use Rattle.lease_desk.specs.Machine.{index_in};
 ghost use Rattle.lease_desk.specs.Spaces.{states_of};
 
 /// Where the arena of this name stands.
-pub(crate) fn place_of(spaces: &[Space], name: &Name) -> Option<usize>
-    ensures place { result ≡ place_in name.now (states_of spaces.now) }
+pub(crate) fn index_of(spaces: &[Space], name: &Name) -> Option<usize>
+    ensures index { result ≡ index_in name.now (states_of spaces.now) }
     ensures within { IfSome result (λ k. k < length spaces.now) }
 {
     let text = name.as_slice();

@@ -1,9 +1,9 @@
 //! Runs of giving and taking over one CPU's cache and its depot.
-ghost use Rattle.std.specs.Prelude.{◌≡◌, ◌+◌, ◌/◌, ◌≤◌, ◌++◌, IfOk, IfErr, OnErr, IfSome};
+ghost use Rattle.std.specs.Prelude.{◌≡◌, ◌+◌, ◌/◌, ◌≤◌, ◌++◌, IfOk, IfErr, IfSome};
 ghost use Rattle.std.specs.Prelude.{IfNone, OnSome, flat_map, vec_len};
 ghost use Rattle.deed_core.specs.Weights.{WeighSame};
 ghost use Rattle.magazine_layer.specs.Magazines.{AreAmong, IsShaped, BothFull};
-ghost use Rattle.magazine_layer.specs.Depots.{both_rounds};
+ghost use Rattle.magazine_layer.specs.Depots.{IsDepot, both_rounds};
 ghost use Rattle.magazine_layer.specs.Rounds.{TakesRound, GivesRound, MakesRoom, NeedsMemory};
 ghost use Rattle.magazine_layer.specs.Rounds.{StepsRound, RunsRounds, cpu_depot, rounds_of_op};
 ghost use Rattle.magazine_layer.specs.Rounds.{rounds_of_answer};
@@ -220,8 +220,8 @@ pub fn run_rounds<D: Deed>(
     ensures run { IfOk result (λ r. RunsRounds (cpu_depot cpu.old depot.old) ops.items
         r.answers.items (cpu_depot cpu.new depot.new) r.exchanges) }
     ensures few { IfOk result (λ r. r.exchanges ≤ 1 + vec_len ops / depot.old.size) }
-    ensures unchanged { OnErr result ((cpu.new ≡ cpu.old) × (depot.new ≡ depot.old)) }
-    ensures handed_back { IfErr result (λ back. back ≡ ops) }
+    ensures refused { IfErr result (λ back.
+        (back ≡ ops) × (cpu.new ≡ cpu.old) × (depot.new ≡ depot.old)) }
     // what follows
     ensures weights { IfOk result
         (λ r. WeighSame (both_rounds cpu.old depot.old ++ flat_map rounds_of_op ops.items)
@@ -231,7 +231,7 @@ pub fn run_rounds<D: Deed>(
         (both_rounds cpu.old depot.old ++ flat_map rounds_of_op ops.items)) }
     ensures answers { IfOk result (λ r. vec_len r.answers ≡ vec_len ops) }
     ensures sizes { (cpu.new.size ≤ depot.new.size) × (depot.new.size ≡ depot.old.size) }
-    ensures shape { IsShaped cpu.new }
+    ensures sound { IsShaped cpu.new × IsDepot depot.new }
 {
     // For their clauses: the cache has its shape, and the depot's size is one of the four.
     let _ = cpu.size();
@@ -250,5 +250,7 @@ pub fn run_rounds<D: Deed>(
         run.exchanges += exchanges;
     }
     rest.destroy_empty();
+    // For its clause: the depot is sound.
+    let _ = depot.size();
     Ok(run)
 }

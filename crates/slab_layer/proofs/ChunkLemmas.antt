@@ -11,7 +11,7 @@ use Rattle.deed_core.specs.Tag.{Tag}
 use Rattle.deed_core.proofs.LawProofs.{sum_by-only_all, tests_say, fits_plain, rounds_once}
 use Rattle.slab_layer.specs.Slab.{SlabState, IsSlab, IsComplete, new_slab, chunks_out_by}
 use Rattle.slab_layer.specs.Cache.{SlabCacheState, IsSound, IsOfSize, IsOnGrid, IsChunkOf, IsSpanOf, chunk_of, chunk_tag, chunks_out, idle_chunks}
-use Rattle.slab_layer.specs.Moves.{IsAlike, Takes, Adds, Reaps}
+use Rattle.slab_layer.specs.Calls.{IsAlike, Takes, Adds, Reaps}
 use Rattle.slab_layer.specs.Laws.{ChunksAreOfCache, NeverBoth, OutIsOfCache, TakesNoneExactly, ReapsNoneExactly, ChunkFits, ChunkIsWholeQuanta, ReapedOutIsEmpty}
 use Rattle.slab_layer.proofs.ListLemmas.{both_nil}
 use Rattle.slab_layer.proofs.PassingLemmas.{none_passing}

@@ -9,7 +9,7 @@ use Rattle.deed_core.specs.Tag.{Tag}
 use Rattle.deed_core.specs.declared.segments.Route.TheVariants.{Cached}
 use Rattle.slab_layer.specs.Slab.{SlabState, IsSlab, chunk_at, idle_chunks_by, chunks_out_by, items_where}
 use Rattle.slab_layer.specs.Cache.{SlabCacheState, IsBelow, IsSound, chunk_tag, idle_chunks, chunks_out}
-use Rattle.slab_layer.specs.Moves.{StandsAt, IsChunk}
+use Rattle.slab_layer.specs.Calls.{StandsAt, IsChunk}
 use Rattle.slab_layer.proofs.RowLemmas.{room_for}
 use Rattle.slab_layer.proofs.SlabLemmas.{place_is}
 use Rattle.slab_layer.proofs.ListLemmas.{contains_part, part_contains}

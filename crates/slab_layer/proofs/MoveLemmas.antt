@@ -15,10 +15,10 @@ use Rattle.deed_core.specs.declared.segments.Route.TheVariants.{Direct}
 use Rattle.deed_core.specs.Covering.{covers, covers_held, covers_tag, covering_held}
 use Rattle.deed_core.specs.Weights.{Gains, Loses, WeighSame}
 use Rattle.deed_core.proofs.LawProofs.{covers_cut, sum_by-map}
-use Rattle.slab_layer.specs.Parts.{part}
+use Rattle.slab_layer.specs.Parts.{piece_or_none}
 use Rattle.slab_layer.specs.Slab.{SlabState, IsSlab, IsComplete, chunk_at, used_units, unused_units, gap_of, tail_of, idle_chunks_by, chunks_out_by, deeds_in, new_slab, with_chunk}
 use Rattle.slab_layer.specs.Cache.{SlabCacheState, IsOfSize, IsSound, chunk_of, spare_of, chunk_tag, span_tag, deeds_of, chunks_out, span_tags}
-use Rattle.slab_layer.specs.Moves.{StandsAt, Takes, Puts, Adds, Reaps}
+use Rattle.slab_layer.specs.Calls.{StandsAt, Takes, Puts, Adds, Reaps}
 use Rattle.slab_layer.proofs.PartLemmas.{part_none, part_some}
 use Rattle.slab_layer.proofs.PassingLemmas.{counted, sum_by-items_where-set, passing_none, covering-items_where, covers_nothing}
 use Rattle.slab_layer.proofs.ListLemmas.{sum_by-flat_map-set, sum_by-flat_map-insert, sum_by-flat_map-remove}
@@ -32,7 +32,7 @@ sum_by-kept g s =
 same_tail : (s : SlabState) (j : ℕ) (b : Bool) → tail_of (with_chunk s j b) ≡ tail_of s
 same_tail s j b =
     let e : length (set s.home j b) * s.chunk ≡ length s.home * s.chunk = ap (λ n. n * s.chunk) (length-set s.home j b) in
-    ap (λ n. part s.span.root (s.span.range.base + s.colour + n) (s.span.range.len - (s.colour + n))) e
+    ap (λ n. piece_or_none s.span.root (s.span.range.base + s.colour + n) (s.span.range.len - (s.colour + n))) e
 
 -- a chunk leaves a slab
 pub out_taken : {X : Type 0} (g : X → ℕ) (f : ℕ → X) (s : SlabState) (j : ℕ) → j < length s.home → get_or s.home j false ≡ true → sum_by g (chunks_out_by f (with_chunk s j false)) ≡ sum_by g (chunks_out_by f s) + g (f j)
@@ -123,7 +123,7 @@ pub puts_spans : (i j : ℕ) (s : SlabState) (old new : SlabCacheState) (t : Tag
 puts_spans i j s old new t puts = ap span_tags puts.after ∙ same_spans old.arena i j s true old.slabs puts.chunk.stands
 
 -- a part covers its units, also where it has none
-pub covers_part : (u r b n : ℕ) → covering_held u (option_to_list (part r b n)) ≡ covers u (record { base = b; len = n })
+pub covers_part : (u r b n : ℕ) → covering_held u (option_to_list (piece_or_none r b n)) ≡ covers u (record { base = b; len = n })
 covers_part u r b n = elim (eq-zero-or-pos n) [
   | inl none ↦ rw (part_none r b n none) (sym (covers_nothing u b n none))
   | inr some ↦ rw (part_some r b n some) (zero-add (covers u (record { base = b; len = n })))

@@ -9,7 +9,7 @@ use Rattle.std.proofs.lemmas.List.Sums.{sum_by_more}
 use Rattle.std.proofs.lemmas.List.{length-replicate, length-map, get_or-map}
 use Rattle.std.proofs.lemmas.List.Elements.{All-head, All-tail}
 use Rattle.deed_core.specs.Holding.{Holding, piece}
-use Rattle.slab_layer.specs.Parts.{part, joined_row, AreEndToEnd}
+use Rattle.slab_layer.specs.Parts.{piece_or_none, joined_row, AreEndToEnd}
 use Rattle.slab_layer.specs.Slab.{stored_row}
 use Rattle.slab_layer.proofs.PartLemmas.{part_some, both_some, follows_some}
 
@@ -49,16 +49,16 @@ abbrev pub placed : ℕ → ℕ → ℕ → ℕ → Holding
 placed r b n i = piece r (b + i * n) n
 
 -- all chunks of a row and what is behind them, together
-pub joined_row-stored_row : (r b n : ℕ) → 0 < n → (i k y c z : ℕ) → c ≡ b + (i + k) * n → z ≡ k * n + y → joined_row (stored_row (placed r b n) i (replicate k true)) (part r c y) ≡ part r (b + i * n) z
+pub joined_row-stored_row : (r b n : ℕ) → 0 < n → (i k y c z : ℕ) → c ≡ b + (i + k) * n → z ≡ k * n + y → joined_row (stored_row (placed r b n) i (replicate k true)) (piece_or_none r c y) ≡ piece_or_none r (b + i * n) z
 joined_row-stored_row r b n some i zero y c z at long = let e : c ≡ b + i * n = omega arith in let f : z ≡ y = omega arith in rw (e, f) refl
 joined_row-stored_row r b n some i (suc k) y c z at long =
-    let rest : joined_row (stored_row (placed r b n) (i + 1) (replicate k true)) (part r c y) ≡ part r (b + (i + 1) * n) (k * n + y) = joined_row-stored_row r b n some (i + 1) k y c (k * n + y) (omega arith) refl in
+    let rest : joined_row (stored_row (placed r b n) (i + 1) (replicate k true)) (piece_or_none r c y) ≡ piece_or_none r (b + (i + 1) * n) (k * n + y) = joined_row-stored_row r b n some (i + 1) k y c (k * n + y) (omega arith) refl in
     rw rest (both_some r (b + i * n) (b + (i + 1) * n) n (k * n + y) z some (omega arith) (omega arith))
 
-pub row-stored_row : (r b n : ℕ) → 0 < n → (i k y c : ℕ) → c ≡ b + (i + k) * n → AreEndToEnd (stored_row (placed r b n) i (replicate k true)) (part r c y)
+pub row-stored_row : (r b n : ℕ) → 0 < n → (i k y c : ℕ) → c ≡ b + (i + k) * n → AreEndToEnd (stored_row (placed r b n) i (replicate k true)) (piece_or_none r c y)
 row-stored_row r b n some i zero y c at = tt
 row-stored_row r b n some i (suc k) y c at =
-    let rest : joined_row (stored_row (placed r b n) (i + 1) (replicate k true)) (part r c y) ≡ part r (b + (i + 1) * n) (k * n + y) = joined_row-stored_row r b n some (i + 1) k y c (k * n + y) (omega arith) refl in
+    let rest : joined_row (stored_row (placed r b n) (i + 1) (replicate k true)) (piece_or_none r c y) ≡ piece_or_none r (b + (i + 1) * n) (k * n + y) = joined_row-stored_row r b n some (i + 1) k y c (k * n + y) (omega arith) refl in
     (rw rest (follows_some r (b + i * n) (b + (i + 1) * n) n (k * n + y) some (omega arith)), row-stored_row r b n some (i + 1) k y c (omega arith))
 
 pub all_true : (xs : List Bool) → All (λ b. b ≡ true) xs → xs ≡ replicate (length xs) true
@@ -76,10 +76,10 @@ pub room_for : (d k n len : ℕ) → d < k → k * n ≤ len → d * n + n ≤ l
 room_for d k n len below room = let e : (d + 1) * n ≤ k * n = mul-le-mul_right n (omega arith) in omega arith
 
 -- the first chunks of a deed and what is left of it
-pub row_whole : (h : Holding) (n d : ℕ) → 0 < n → AreEndToEnd (stored_row (placed h.root h.range.base n) 0 (replicate d true)) (part h.root (h.range.base + d * n) (h.range.len - d * n))
+pub row_whole : (h : Holding) (n d : ℕ) → 0 < n → AreEndToEnd (stored_row (placed h.root h.range.base n) 0 (replicate d true)) (piece_or_none h.root (h.range.base + d * n) (h.range.len - d * n))
 row_whole h n d some = row-stored_row h.root h.range.base n some 0 d (h.range.len - d * n) (h.range.base + d * n) (omega arith)
 
-pub all_whole : (h : Holding) (n d : ℕ) → 0 < n → d * n ≤ h.range.len → 0 < h.range.len → joined_row (stored_row (placed h.root h.range.base n) 0 (replicate d true)) (part h.root (h.range.base + d * n) (h.range.len - d * n)) ≡ Some h
+pub all_whole : (h : Holding) (n d : ℕ) → 0 < n → d * n ≤ h.range.len → 0 < h.range.len → joined_row (stored_row (placed h.root h.range.base n) 0 (replicate d true)) (piece_or_none h.root (h.range.base + d * n) (h.range.len - d * n)) ≡ Some h
 all_whole h n d some room units =
     let e : h.range.base + 0 * n ≡ h.range.base = omega arith in
     joined_row-stored_row h.root h.range.base n some 0 d (h.range.len - d * n) (h.range.base + d * n) h.range.len (omega arith) (omega arith)

@@ -6,7 +6,7 @@ use Rattle.std.proofs.lemmas.List.{get_or_default, get_or_read}
 use Rattle.std.proofs.lemmas.List.Elements.{All-get_or}
 use Rattle.slab_layer.specs.Slab.{SlabState, IsAllOut, IsComplete, IsPartial, IsLowestIdle}
 use Rattle.slab_layer.specs.Cache.{IsBelow}
-use Rattle.slab_layer.specs.Moves.{StandsAt, IsLowest, IsNext}
+use Rattle.slab_layer.specs.Calls.{StandsAt, IsLowest, IsNext}
 use Rattle.slab_layer.proofs.PassingLemmas.{some_false, no_true}
 
 -- what holds of none so far, and not of the next

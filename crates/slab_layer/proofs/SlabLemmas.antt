@@ -10,8 +10,8 @@ use Rattle.std.proofs.lemmas.List.Elements.{All-nil, All-cons, All-head, All-tai
 use Rattle.std.proofs.lemmas.List.{length-set, length-replicate, map-set}
 use Rattle.deed_core.specs.Covering.{units_held}
 use Rattle.deed_core.specs.Holding.{Holding, piece}
-use Rattle.slab_layer.specs.Parts.{part, front_of, back_of, Follows, joined_parts, joined_row, AreEndToEnd}
-use Rattle.slab_layer.specs.Slab.{SlabState, chunk_at, used_units, unused_units, gap_of, tail_of, idle_chunks_by, deeds_in, stored_row, IsLowestIdle, IsStored, IsComplete, new_slab}
+use Rattle.slab_layer.specs.Parts.{piece_or_none, front_of, back_of, Follows, joined_parts, joined_row, AreEndToEnd}
+use Rattle.slab_layer.specs.Slab.{SlabState, chunk_at, used_units, unused_units, gap_of, tail_of, idle_chunks_by, deeds_in, stored_row, IsLowestIdle, PartsAreStored, IsComplete, new_slab}
 use Rattle.slab_layer.proofs.ListLemmas.{both_nil}
 use Rattle.slab_layer.proofs.PartLemmas.{part_some, both_part, follows_part}
 use Rattle.slab_layer.proofs.RowLemmas.{entry, is_some-entry, placed, get_or_from_start, stored_from_start, map-stored_row, joined_row-stored_row, row-stored_row, all_true}
@@ -25,7 +25,7 @@ pub map_changed : (f : ℕ → Holding) (row : List (Option Holding)) (j : ℕ) 
 map_changed f row j y x is = map-set is_some row j x ∙ ap (λ (b : Bool). set (map is_some row) j b) (ap is_some is ∙ is_some-entry (f j) y)
 
 pub changed : (span : Holding) (colour chunk : ℕ) (row : List (Option Holding)) (first last : Option Holding) (j : ℕ) (y : Bool) (x : Option Holding)
-    → IsStored (state span colour chunk row) first row last → x ≡ entry (chunk_at (state span colour chunk row)) j y → IsStored (state span colour chunk (set row j x)) first (set row j x) last
+    → PartsAreStored (state span colour chunk row) first row last → x ≡ entry (chunk_at (state span colour chunk row)) j y → PartsAreStored (state span colour chunk (set row j x)) first (set row j x) last
 changed span colour chunk row first last j y x held is =
     let s : SlabState = state span colour chunk row in
     let f : ℕ → Holding = chunk_at s in
@@ -46,18 +46,18 @@ changed_state span colour chunk row s j y x view is =
     subst S view (ap (λ (home : List Bool). let t : SlabState = record { span = span; colour = colour; chunk = chunk; home = home } in t) (map_changed (chunk_at (state span colour chunk row)) row j y x is))
 
 -- a chunk at home
-pub at_home : (s : SlabState) (first last : Option Holding) (row : List (Option Holding)) (j : ℕ) (d : Option Holding) → IsStored s first row last → j < length s.home → get_or s.home j false ≡ true → get_or row j d ≡ Some (chunk_at s j)
+pub at_home : (s : SlabState) (first last : Option Holding) (row : List (Option Holding)) (j : ℕ) (d : Option Holding) → PartsAreStored s first row last → j < length s.home → get_or s.home j false ≡ true → get_or row j d ≡ Some (chunk_at s j)
 at_home s first last row j d held within here = rw (held.chunks, get_or_from_start (chunk_at s) s.home j d false within, here) refl
 
 -- a new slab
 behind_gap : (h r : Holding) (colour : ℕ) → colour < h.range.len → back_of colour (Some h) ≡ Some r → piece h.root (h.range.base + colour) (h.range.len - colour) ≡ r
 behind_gap h r colour more is =
-    let e : part h.root (h.range.base + colour) (h.range.len - colour) ≡ Some (piece h.root (h.range.base + colour) (h.range.len - colour)) = part_some h.root (h.range.base + colour) (h.range.len - colour) (omega arith) in
+    let e : piece_or_none h.root (h.range.base + colour) (h.range.len - colour) ≡ Some (piece h.root (h.range.base + colour) (h.range.len - colour)) = part_some h.root (h.range.base + colour) (h.range.len - colour) (omega arith) in
     same_Some (piece h.root (h.range.base + colour) (h.range.len - colour)) r (sym e ∙ is)
 
 made_of : (h : Holding) (colour n count : ℕ) (first last : Option Holding) (row : List (Option Holding)) → 0 < n → colour + count * n ≤ h.range.len → first ≡ front_of colour (Some h)
-    → row ≡ stored_row (placed h.root (h.range.base + colour) n) 0 (replicate count true) → last ≡ part h.root (h.range.base + colour + count * n) (h.range.len - colour - count * n)
-    → (map is_some row ≡ replicate count true) × IsStored (state h colour n row) first row last
+    → row ≡ stored_row (placed h.root (h.range.base + colour) n) 0 (replicate count true) → last ≡ piece_or_none h.root (h.range.base + colour + count * n) (h.range.len - colour - count * n)
+    → (map is_some row ≡ replicate count true) × PartsAreStored (state h colour n row) first row last
 made_of h colour n count first last row some room gap chunks tail =
     let home : map is_some row ≡ replicate count true = ap (map is_some) chunks ∙ map-stored_row (placed h.root (h.range.base + colour) n) 0 (replicate count true) in
     let long : length (map is_some row) ≡ count = ap length home ∙ length-replicate count true in
@@ -75,38 +75,38 @@ made_of h colour n count first last row some room gap chunks tail =
 
 pub made : (h span r : Holding) (colour n count : ℕ) (first last : Option Holding) (row : List (Option Holding)) → span ≡ h → 0 < n → 0 < count → colour + count * n ≤ h.range.len
     → first ≡ front_of colour (Some h) → back_of colour (Some h) ≡ Some r
-    → row ≡ stored_row (placed r.root r.range.base n) 0 (replicate count true) → last ≡ part r.root (r.range.base + count * n) (r.range.len - count * n)
-    → (map is_some row ≡ replicate count true) × IsStored (state span colour n row) first row last
+    → row ≡ stored_row (placed r.root r.range.base n) 0 (replicate count true) → last ≡ piece_or_none r.root (r.range.base + count * n) (r.range.len - count * n)
+    → (map is_some row ≡ replicate count true) × PartsAreStored (state span colour n row) first row last
 made h span r colour n count first last row is some chunks room gap rest in_row tail =
     let one : 1 * n ≤ count * n = mul-le-mul_right n chunks in
     let e : r ≡ piece h.root (h.range.base + colour) (h.range.len - colour) = sym (behind_gap h r colour (omega arith) rest) in
     let P : Holding → Type 0 = λ q. row ≡ stored_row (placed q.root q.range.base n) 0 (replicate count true) in
-    let Q : Holding → Type 0 = λ q. last ≡ part q.root (q.range.base + count * n) (q.range.len - count * n) in
-    let R : Holding → Type 0 = λ q. (map is_some row ≡ replicate count true) × IsStored (state q colour n row) first row last in
+    let Q : Holding → Type 0 = λ q. last ≡ piece_or_none q.root (q.range.base + count * n) (q.range.len - count * n) in
+    let R : Holding → Type 0 = λ q. (map is_some row ≡ replicate count true) × PartsAreStored (state q colour n row) first row last in
     subst R (sym is) (made_of h colour n count first last row some room gap (subst P e in_row) (subst Q e tail))
 
 pub made_state : (h span : Holding) (colour n count : ℕ) (row : List (Option Holding)) → span ≡ h → count ≡ h.range.len / n → map is_some row ≡ replicate count true → state span colour n row ≡ new_slab h colour n
 made_state h span colour n count row is chunks home = rw (is, home, chunks) refl
 
 -- a complete slab, joined
-complete_chunks : (s : SlabState) (first last : Option Holding) (row : List (Option Holding)) → IsStored s first row last → IsComplete s → row ≡ stored_row (chunk_at s) 0 (replicate (length s.home) true)
+complete_chunks : (s : SlabState) (first last : Option Holding) (row : List (Option Holding)) → PartsAreStored s first row last → IsComplete s → row ≡ stored_row (chunk_at s) 0 (replicate (length s.home) true)
 complete_chunks s first last row held complete = held.chunks ∙ ap (stored_row (chunk_at s) 0) (all_true s.home complete)
 
-pub complete_row : (s : SlabState) (first last : Option Holding) (row : List (Option Holding)) → IsStored s first row last → IsComplete s → AreEndToEnd row last
+pub complete_row : (s : SlabState) (first last : Option Holding) (row : List (Option Holding)) → PartsAreStored s first row last → IsComplete s → AreEndToEnd row last
 complete_row s first last row held complete =
     rw (complete_chunks s first last row held complete, held.tail) (row-stored_row s.span.root (s.span.range.base + s.colour) s.chunk held.shape.some 0 (length s.home) (unused_units s) (s.span.range.base + s.colour + used_units s) (omega arith))
 
-pub complete_body : (s : SlabState) (first last : Option Holding) (row : List (Option Holding)) → IsStored s first row last → IsComplete s → joined_row row last ≡ part s.span.root (s.span.range.base + s.colour) (s.span.range.len - s.colour)
+pub complete_body : (s : SlabState) (first last : Option Holding) (row : List (Option Holding)) → PartsAreStored s first row last → IsComplete s → joined_row row last ≡ piece_or_none s.span.root (s.span.range.base + s.colour) (s.span.range.len - s.colour)
 complete_body s first last row held complete =
     let e : s.span.range.base + s.colour + 0 * s.chunk ≡ s.span.range.base + s.colour = omega arith in
     rw (complete_chunks s first last row held complete, held.tail)
     (joined_row-stored_row s.span.root (s.span.range.base + s.colour) s.chunk held.shape.some 0 (length s.home) (unused_units s) (s.span.range.base + s.colour + used_units s) (s.span.range.len - s.colour) (omega arith) (omega (arith, held.shape.room)) ∙ rw e refl)
 
-pub complete_follows : (s : SlabState) (first last body : Option Holding) (row : List (Option Holding)) → IsStored s first row last → IsComplete s → body ≡ joined_row row last → Follows first body
+pub complete_follows : (s : SlabState) (first last body : Option Holding) (row : List (Option Holding)) → PartsAreStored s first row last → IsComplete s → body ≡ joined_row row last → Follows first body
 complete_follows s first last body row held complete is =
     rw (is, complete_body s first last row held complete, held.gap) (follows_part s.span.root s.span.range.base (s.span.range.base + s.colour) s.colour (s.span.range.len - s.colour) refl)
 
-pub complete_whole : (s : SlabState) (first last body : Option Holding) (row : List (Option Holding)) → IsStored s first row last → IsComplete s → 0 < s.span.range.len → body ≡ joined_row row last → joined_parts first body ≡ Some s.span
+pub complete_whole : (s : SlabState) (first last body : Option Holding) (row : List (Option Holding)) → PartsAreStored s first row last → IsComplete s → 0 < s.span.range.len → body ≡ joined_row row last → joined_parts first body ≡ Some s.span
 complete_whole s first last body row held complete units is =
     rw (is, complete_body s first last row held complete, held.gap)
     (both_part s.span.root s.span.range.base (s.span.range.base + s.colour) s.colour (s.span.range.len - s.colour) s.span.range.len refl (omega (arith, held.shape.room)) ∙ part_some s.span.root s.span.range.base s.span.range.len units)
@@ -145,7 +145,7 @@ stored_none f i (x ∷ xs) none =
     let here : entry f i x ≡ None = rw e refl in
     All-cons (λ o. o ≡ None) (entry f i x) (stored_row f (i + 1) xs) here (stored_none f (i + 1) xs (All-tail (λ b. b ≡ false) x xs none))
 
-pub bare : (s : SlabState) (first last : Option Holding) (row : List (Option Holding)) → IsStored s first row last → deeds_in s ≡ [] → IsBare s first last row
+pub bare : (s : SlabState) (first last : Option Holding) (row : List (Option Holding)) → PartsAreStored s first row last → deeds_in s ≡ [] → IsBare s first last row
 bare s first last row held none =
     let a = both_nil (option_to_list (gap_of s)) (idle_chunks_by (chunk_at s) s ++ option_to_list (tail_of s)) none in
     let b = both_nil (idle_chunks_by (chunk_at s) s) (option_to_list (tail_of s)) a.1 in
@@ -157,7 +157,7 @@ bare s first last row held none =
       row_out = All-same (λ o. o ≡ None) row (stored_row (chunk_at s) 0 s.home) held.chunks (stored_none (chunk_at s) 0 s.home out);
     }
 
-pub is_bare : (s : SlabState) (first last : Option Holding) (row : List (Option Holding)) → IsStored s first row last → first ≡ None → last ≡ None → All (λ b. b ≡ false) s.home → deeds_in s ≡ []
+pub is_bare : (s : SlabState) (first last : Option Holding) (row : List (Option Holding)) → PartsAreStored s first row last → first ≡ None → last ≡ None → All (λ b. b ≡ false) s.home → deeds_in s ≡ []
 is_bare s first last row held none_before none_behind out =
     let a : option_to_list (gap_of s) ≡ [] = ap option_to_list (sym held.gap ∙ none_before) in
     let b : idle_chunks_by (chunk_at s) s ≡ [] = passing_none (λ x. x) (chunk_at s) 0 s.home out in
@@ -168,7 +168,7 @@ is_bare s first last row held none_before none_behind out =
 pub idle_units : (s : SlabState) → units_held (idle_chunks_by (chunk_at s) s) ≡ count_by (λ b. b) s.home * s.chunk
 idle_units s = units-items_where s.chunk (λ b. b) (chunk_at s) 0 s.home (λ k. refl)
 
-pub empty_is : (s : SlabState) (first last : Option Holding) (row : List (Option Holding)) (o : Option ℕ) (r : Bool) → IsStored s first row last → is_some first ≡ false → is_some last ≡ false
+pub empty_is : (s : SlabState) (first last : Option Holding) (row : List (Option Holding)) (o : Option ℕ) (r : Bool) → PartsAreStored s first row last → is_some first ≡ false → is_some last ≡ false
     → is_some o ≡ not r → MatchOption o (All (λ b. b ≡ false) s.home) (λ j. IsLowestIdle j s.home) → (r ≡ true) ↔ (deeds_in s ≡ [])
 empty_is s first last row None r held a b e out = (λ is. is_bare s first last row held (is_none first a) (is_none last b) out, λ none. not-false r (sym e))
 empty_is s first last row (Some j) r held a b e idle = (

@@ -12,7 +12,7 @@ use Rattle.deed_core.specs.Extent.{Extent, Overlap, end_of}
 use Rattle.deed_core.specs.Tag.{Tag}
 use Rattle.slab_layer.specs.Slab.{SlabState, new_slab, with_chunk, IsComplete, IsLowestIdle}
 use Rattle.slab_layer.specs.Cache.{SlabCacheState, chunk_tag, span_tag, IsBelow, IsOfSize, IsOnGrid, IsSound, chunk_of, spare_of, next_colour}
-use Rattle.slab_layer.specs.Moves.{StandsAt, IsChunk, IsLowest, IsNext, Takes, Puts, Adds, Reaps, with_slabs}
+use Rattle.slab_layer.specs.Calls.{StandsAt, IsChunk, IsLowest, IsNext, Takes, Puts, Adds, Reaps, with_slabs}
 use Rattle.slab_layer.proofs.ListLemmas.{pairs_set, pairs_insert, all_insert, all_remove}
 use Rattle.slab_layer.proofs.SearchLemmas.{next_stands, same_slab}
 

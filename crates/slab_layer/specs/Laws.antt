@@ -12,7 +12,7 @@ use Rattle.slab_layer.specs.Cache.{
   chunks_out,
   idle_chunks,
 }
-use Rattle.slab_layer.specs.Moves.{TakeOf, ReapOf}
+use Rattle.slab_layer.specs.Calls.{TakeOf, ReapOf}
 
 -- each chunk, out or at home, carries its cache's arena and number, is of its length and on the
 -- quantum's grid
@@ -43,7 +43,8 @@ ChunkFits =
 abbrev pub ChunkIsWholeQuanta : Type 0
 ChunkIsWholeQuanta = (c : SlabCacheState) → IsSound c → rounded c.quantum (chunk_of c) ≡ chunk_of c
 
--- `take` gives none exactly where every chunk is out, and `reap` exactly where each slab has one out
+-- `take` gives none exactly where every chunk is out, and `reap` exactly where each slab has one
+-- out
 abbrev pub TakesNoneExactly : Type 0
 TakesNoneExactly =
     (old new : SlabCacheState) (answer : Option Tag) → TakeOf old answer new

@@ -1,5 +1,5 @@
 pub mod Parts
 pub mod Slab
 pub mod Cache
-pub mod Moves
+pub mod Calls
 pub mod Laws

@@ -16,18 +16,18 @@ use Rattle.std.specs.Prelude.{
 use Rattle.deed_core.specs.Holding.{Holding, piece, GoesOn, joined}
 
 -- the `len` units from `base` on, where there is one
-abbrev pub part : ℕ → ℕ → ℕ → Option Holding
-part root base len = if len == 0 then None else Some (piece root base len)
+abbrev pub piece_or_none : ℕ → ℕ → ℕ → Option Holding
+piece_or_none root base len = if len == 0 then None else Some (piece root base len)
 
 -- the first `len` units of a part
 abbrev pub front_of : ℕ → Option Holding → Option Holding
 front_of len None = None
-front_of len (Some h) = part h.root h.range.base (min len h.range.len)
+front_of len (Some h) = piece_or_none h.root h.range.base (min len h.range.len)
 
 -- the units behind those
 abbrev pub back_of : ℕ → Option Holding → Option Holding
 back_of len None = None
-back_of len (Some h) = part h.root (h.range.base + len) (h.range.len - len)
+back_of len (Some h) = piece_or_none h.root (h.range.base + len) (h.range.len - len)
 
 -- the second goes on where the first ends
 abbrev pub Follows : Option Holding → Option Holding → Type 0

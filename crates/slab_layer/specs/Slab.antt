@@ -29,7 +29,7 @@ use Rattle.std.specs.Prelude.{
 }
 use Rattle.std.specs.Option.{option_to_list}
 use Rattle.deed_core.specs.Holding.{Holding, piece}
-use Rattle.slab_layer.specs.Parts.{part}
+use Rattle.slab_layer.specs.Parts.{piece_or_none}
 
 -- a slab: its span, how far behind the span's base the first chunk stands, the units of a chunk,
 -- and chunk by chunk whether it is at home
@@ -53,11 +53,11 @@ unused_units s = s.span.range.len - (s.colour + used_units s)
 
 -- the units before the first chunk
 abbrev pub gap_of : SlabState → Option Holding
-gap_of s = part s.span.root s.span.range.base s.colour
+gap_of s = piece_or_none s.span.root s.span.range.base s.colour
 
 -- those behind the last one
 abbrev pub tail_of : SlabState → Option Holding
-tail_of s = part s.span.root (s.span.range.base + s.colour + used_units s) (unused_units s)
+tail_of s = piece_or_none s.span.root (s.span.range.base + s.colour + used_units s) (unused_units s)
 
 -- what stands, by f, at the places whose Bool passes; the places count from i
 abbrev pub items_where : {X : Type 0} → (Bool → Bool) → (ℕ → X) → ℕ → List Bool → List X
@@ -118,7 +118,7 @@ stored_row f i [] = []
 stored_row f i (x ∷ xs) = (if x then Some (f i) else None) ∷ stored_row f (i + 1) xs
 
 -- the deeds of a slab are those of its parts
-pub record IsStored (s : SlabState) (first : Option Holding) (row : List (Option Holding))
+pub record PartsAreStored (s : SlabState) (first : Option Holding) (row : List (Option Holding))
     (last : Option Holding) : Type 0 where
   pub shape : IsSlab s
   pub gap : first ≡ gap_of s

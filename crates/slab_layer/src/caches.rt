@@ -36,7 +36,7 @@ ghost use Rattle.slab_layer.specs.Cache.{
   chunks_out,
   span_tags,
 };
-ghost use Rattle.slab_layer.specs.Moves.{IsAlike, TakeOf, PutOf, AddOf, ReapOf};
+ghost use Rattle.slab_layer.specs.Calls.{IsAlike, TakeOf, PutOf, AddOf, ReapOf};
 
 use crate::faults::{AddFault, PutFault};
 use crate::reports::{SlabReport, are_empty, discard_all, total};

@@ -20,8 +20,8 @@ pub fn chunk_laws()
     ensures quanta { ChunkIsWholeQuanta }
 {}
 
-/// Where `take` and `reap` have nothing to give, and that a cache whose chunks all came back is empty
-/// once `reap` gives nothing more.
+/// Where `take` and `reap` have nothing to give, and that a cache whose chunks all came back is
+/// empty once `reap` gives nothing more.
 pub fn move_laws()
     ensures takes_none { TakesNoneExactly }
     ensures reaps_none { ReapsNoneExactly }

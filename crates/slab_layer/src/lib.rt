@@ -21,7 +21,7 @@
 //! A cache has a place for each chunk, and a few numbers for each slab.
 //!
 //! Begin with [`SlabCache`]; its contracts speak of the words in `specs/Slab.antt` (a slab),
-//! `specs/Cache.antt` (a cache, what lies in it and what it keeps) and `specs/Moves.antt` (what a
+//! `specs/Cache.antt` (a cache, what lies in it and what it keeps) and `specs/Calls.antt` (what a
 //! call answers and does). `laws` has what follows from them for those above.
 #![tactic(auto)]
 

@@ -25,7 +25,7 @@ ghost use Rattle.std.specs.Prelude.{
   OnErr,
 };
 ghost use Rattle.deed_core.specs.Holding.{piece};
-ghost use Rattle.slab_layer.specs.Parts.{part, AreEndToEnd, joined_row};
+ghost use Rattle.slab_layer.specs.Parts.{piece_or_none, AreEndToEnd, joined_row};
 ghost use Rattle.slab_layer.specs.Slab.{IsLowestIdle, stored_row};
 
 use crate::parts::{cut, join};
@@ -99,7 +99,7 @@ pub(crate) fn chop<D: Deed>(
     requires some { 0 < chunk }
     requires room { count * chunk ≤ whole.range.len }
     ensures ok { IfOk result (λ rest. rest
-        ≡ part whole.root (whole.range.base + count * chunk)
+        ≡ piece_or_none whole.root (whole.range.base + count * chunk)
         (whole.range.len - count * chunk)) }
     ensures row { OnOk result (row.new.items
         ≡ stored_row (λ i. piece whole.root (whole.range.base + i * chunk) chunk) 0

@@ -24,7 +24,7 @@ ghost use Rattle.slab_layer.specs.Slab.{
   chunk_at,
 };
 ghost use Rattle.slab_layer.specs.Cache.{IsBelow};
-ghost use Rattle.slab_layer.specs.Moves.{StandsAt, IsLowest, IsNext};
+ghost use Rattle.slab_layer.specs.Calls.{StandsAt, IsLowest, IsNext};
 
 use crate::slabs::Slab;
 use deed_core::{Deed, Range};

@@ -57,7 +57,7 @@ pub(crate) struct Slab<D: Deed> {
 
 impl<D: Deed> Model for Slab<D> {
     ghost use Rattle.std.specs.Prelude.{map, is_some};
-    ghost use Rattle.slab_layer.specs.Slab.{SlabState, IsStored};
+    ghost use Rattle.slab_layer.specs.Slab.{SlabState, PartsAreStored};
 
     ghost Value = { SlabState };
 
@@ -68,7 +68,7 @@ impl<D: Deed> Model for Slab<D> {
       home = map is_some s.home.items;
     } };
 
-    ghost invariant = { λ s. IsStored (record {
+    ghost invariant = { λ s. PartsAreStored (record {
       span = record { root = s.root; range = s.span };
       colour = s.colour;
       chunk = s.chunk;

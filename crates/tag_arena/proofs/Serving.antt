@@ -1,13 +1,19 @@
 -- No choice means that no address serves, and a choice serves.
-use Rattle.std.proofs.Common.{◌≡◌, ℕ, ◌%◌, ◌≤◌, sym, subst, inl, inr, List, Contains, All, Option, Some, None, MatchOption, arith}
+use Rattle.std.proofs.Common.{◌≡◌, ◌⊎◌, ℕ, ◌%◌, ◌≤◌, refl, sym, subst, inl, inr, List, Contains, All, Option, Some, None, MatchOption, Result, Ok, Err, arith}
+use Rattle.std.specs.Prelude.{IsOk}
 use Rattle.deed_core.specs.Holding.{Holding}
+use Rattle.deed_core.specs.Tag.{Tag}
+use Rattle.deed_core.specs.Request.{IsGood}
 use Rattle.deed_core.specs.declared.requests.Request.{Request}
+use Rattle.tag_arena.specs.declared.faults.ArenaFault.{ArenaFault}
+use Rattle.tag_arena.specs.declared.faults.ArenaFault.TheVariants.{BadRequest, NoFit, NoMemory}
 use Rattle.tag_arena.specs.declared.policies.Policy.{Policy}
 use Rattle.tag_arena.specs.declared.policies.Policy.TheVariants.{Best, Next, Instant}
 use Rattle.tag_arena.specs.Place.{IsLeast, Serves, ServesIn}
 use Rattle.tag_arena.specs.Choice.{IsBestChoice, IsInstantChoice, IsChoice}
 use Rattle.tag_arena.specs.ArenaState.{ArenaState, IsSound}
-use Rattle.tag_arena.specs.Laws.{NoneServes, ChoiceServes}
+use Rattle.tag_arena.specs.Outcomes.{CarveOf}
+use Rattle.tag_arena.specs.Laws.{NoneServes, ChoiceServes, IsAnsweredExactly, CarvesExactly}
 use Rattle.tag_arena.proofs.Members.{All-from_members}
 use Rattle.tag_arena.proofs.Ranges.{member-Any}
 use Rattle.tag_arena.proofs.Choosing.{serves_at_base}
@@ -54,3 +60,33 @@ by_policy Instant a sound q base choice = instant_serves a sound q base choice
 
 pub choice_serves : ChoiceServes
 choice_serves a q base sound choice = by_policy a.policy a sound q base choice
+
+module _ (old new : ArenaState) (q : Request) (sound : IsSound old) where
+  exact : (answer : Result Tag ArenaFault) → CarveOf old q answer new → IsAnsweredExactly old q answer
+  exact (Ok t) carved =
+      let base : ℕ = t.holding.range.base in
+      let serves : Serves old.quantum q old.free base = choice_serves old q base sound carved.chosen in record {
+        bad = ((λ e. cc), (λ bad. absurd (bad carved.good)));
+        none = ((λ e. cc), (λ none. absurd (none.1 base serves)));
+        some = ((λ e. (carved.good, (base, serves))), (λ s. inl refl));
+      }
+  exact (Err BadRequest) refused = record {
+    bad = ((λ e. refused.0), (λ bad. refl));
+    none = ((λ e. cc), (λ none. absurd (refused.0 none.0)));
+    some = ((λ e. elim e [ | inl wrong ↦ cc | inr e ↦ cc ]), (λ s. absurd (refused.0 s.0)));
+  }
+  exact (Err NoFit) refused = record {
+    bad = ((λ e. cc), (λ bad. absurd (bad refused.0.0)));
+    none = ((λ e. (refused.0.0, none_serves old.policy old.quantum q old.free old.rover refused.0.1)), (λ none. refl));
+    some = ((λ e. elim e [ | inl wrong ↦ cc | inr e ↦ cc ]), (λ s. absurd (none_serves old.policy old.quantum q old.free old.rover refused.0.1 s.1.0 s.1.1)));
+  }
+  exact (Err NoMemory) refused =
+      let base : ℕ = refused.0.1.0 in
+      let serves : Serves old.quantum q old.free base = choice_serves old q base sound refused.0.1.1 in record {
+        bad = ((λ e. cc), (λ bad. absurd (bad refused.0.0)));
+        none = ((λ e. cc), (λ none. absurd (none.1 base serves)));
+        some = ((λ e. (refused.0.0, (base, serves))), (λ s. inr refl));
+      }
+
+pub carves_exactly : CarvesExactly
+carves_exactly old new q answer sound of = exact old new q sound answer of

@@ -8,7 +8,9 @@ use Rattle.deed_core.specs.Request.{IsGood, rounded}
 use Rattle.deed_core.specs.declared.requests.Request.{Request}
 use Rattle.deed_core.specs.declared.segments.Route.TheVariants.{Direct}
 use Rattle.tag_arena.specs.declared.faults.ArenaFault.{ArenaFault}
-use Rattle.tag_arena.specs.declared.faults.ArenaFault.TheVariants.{BadRequest, NoFit, Overlaps, NotAligned, NoMemory}
+use Rattle.tag_arena.specs.declared.faults.ArenaFault.TheVariants.{BadRequest, NoFit, NoMemory}
+use Rattle.tag_arena.specs.declared.faults.SpanFault.{SpanFault}
+use Rattle.tag_arena.specs.declared.faults.SpanFault.TheVariants as span_fault
 use Rattle.tag_arena.specs.Layout.{IsPartOf, IsLongestRun}
 use Rattle.tag_arena.specs.ArenaState.{ArenaState, spans_of, IsChosen, OnQuantum}
 
@@ -59,26 +61,28 @@ pub record Carves (old new : ArenaState) (piece : Holding) : Type 0 where
 abbrev pub RefusesCarve : ArenaState → Request → ArenaFault → Type 0
 RefusesCarve a q BadRequest = ¬ IsGood a.quantum q
 RefusesCarve a q NoFit = IsGood a.quantum q × IsChosen a q None
-RefusesCarve a q Overlaps = ⊥
-RefusesCarve a q NotAligned = ⊥
 RefusesCarve a q NoMemory = IsGood a.quantum q × ((base : ℕ) × IsChosen a q (Some base))
 
 -- an owned span is added, and is the newest free range
 abbrev pub after_add : ArenaState → Holding → ArenaState
 after_add a h = record a { owned = a.owned ++ h ∷ []; free = a.free ++ h ∷ [] }
 
--- no span of the arena overlaps the range
+-- a span of the arena overlaps the range
+abbrev pub OverlapsSpan : ArenaState → Extent → Type 0
+OverlapsSpan a e = Any (λ s. Overlap s.range e) (spans_of a)
+
+-- none does
 abbrev pub IsClear : ArenaState → Extent → Type 0
 IsClear a e = All (λ s. ¬ Overlap s.range e) (spans_of a)
 
--- why a span is refused: it overlaps one that is here, or else isn't in whole quanta; memory is
--- asked for only where neither is so
-abbrev pub RefusesSpan : ArenaState → Extent → ArenaFault → Type 0
-RefusesSpan a e BadRequest = ⊥
-RefusesSpan a e NoFit = ⊥
-RefusesSpan a e Overlaps = Any (λ s. Overlap s.range e) (spans_of a)
-RefusesSpan a e NotAligned = IsClear a e × ¬ OnQuantum a.quantum e
-RefusesSpan a e NoMemory = IsClear a e × OnQuantum a.quantum e
+-- why a span of this range is refused, and that it comes back: it overlaps one that is here, or
+-- else isn't in whole quanta; memory is asked for only where neither is so
+abbrev pub RefusesSpan : {S : Type 0} → ArenaState → Extent → S → SpanFault S → Type 0
+RefusesSpan a e span (span_fault.Overlaps back) = OverlapsSpan a e × (back ≡ span)
+RefusesSpan a e span (span_fault.NotAligned back) =
+    IsClear a e × (¬ OnQuantum a.quantum e) × (back ≡ span)
+RefusesSpan a e span (span_fault.NoMemory back) =
+    IsClear a e × OnQuantum a.quantum e × (back ≡ span)
 
 -- an imported span is added, and is the newest free range
 abbrev pub after_import : ArenaState → Tag → ArenaState

@@ -1,16 +1,20 @@
 -- What follows from the definitions, for the proofs of the layers above.
-use Rattle.std.specs.Prelude.{◌≡◌, ℕ, ◌<◌, ◌≤◌, ◌↔◌, List, [], Contains, Option, Some, None, sum_by}
+use Rattle.std.specs.Prelude.{◌≡◌, ℕ, ◌<◌, ◌≤◌, ◌↔◌, ◌⊎◌, List, [], Contains, Option, Some, None, Result, Err, IsOk, sum_by}
 use Rattle.deed_core.specs.Holding.{Holding}
 use Rattle.deed_core.specs.Tag.{Tag}
 use Rattle.deed_core.specs.Covering.{covering_held}
 use Rattle.deed_core.specs.Weights.{one_at}
+use Rattle.deed_core.specs.Request.{IsGood}
 use Rattle.deed_core.specs.declared.requests.Request.{Request}
+use Rattle.tag_arena.specs.declared.faults.ArenaFault.{ArenaFault}
+use Rattle.tag_arena.specs.declared.faults.ArenaFault.TheVariants.{BadRequest, NoFit, NoMemory}
 use Rattle.tag_arena.specs.declared.policies.Policy.{Policy}
 use Rattle.tag_arena.specs.Place.{Serves}
 use Rattle.tag_arena.specs.Choice.{IsBestChoice, IsNextChoice, IsInstantChoice, IsChoice}
 use Rattle.tag_arena.specs.Layout.{FreeIsLongestRuns}
 use Rattle.tag_arena.specs.ArenaState.{ArenaState, spans_of, layout_of, ranges_of, tags_of, direct, IsChosen, IsSound}
 use Rattle.tag_arena.specs.Calls.{IsTagged}
+use Rattle.tag_arena.specs.Outcomes.{CarveOf}
 
 -- two best choices are the same
 abbrev pub BestIsOne : Type 0
@@ -64,3 +68,18 @@ AllocatedCount = (a : ArenaState) (t : Tag) → IsSound a
 abbrev pub GoesEmpty : Type 0
 GoesEmpty = (a : ArenaState) → IsSound a → tags_of a ≡ []
     → (a.imported ≡ []) × (a.owned ≡ [] → a.free ≡ [])
+
+-- a carve is answered exactly: a bad request is told as bad; of a good one NoFit comes where no
+-- address serves, and where one does a grant, or NoMemory
+pub record IsAnsweredExactly (old : ArenaState) (q : Request)
+    (answer : Result Tag ArenaFault) : Type 0 where
+  pub bad : (answer ≡ Err BadRequest) ↔ (¬ IsGood old.quantum q)
+  pub none : (answer ≡ Err NoFit)
+      ↔ (IsGood old.quantum q × ((base : ℕ) → ¬ Serves old.quantum q old.free base))
+  pub some : (IsOk answer ⊎ (answer ≡ Err NoMemory))
+      ↔ (IsGood old.quantum q × ((base : ℕ) × Serves old.quantum q old.free base))
+
+-- so is each carve
+abbrev pub CarvesExactly : Type 0
+CarvesExactly = (old new : ArenaState) (q : Request) (answer : Result Tag ArenaFault) → IsSound old
+    → CarveOf old q answer new → IsAnsweredExactly old q answer

@@ -9,7 +9,7 @@ use Rattle.deed_core.specs.Request.{Fits, IsGood}
 use Rattle.deed_core.specs.declared.requests.Request.{Request}
 use Rattle.deed_core.specs.declared.segments.Route.TheVariants.{Direct}
 use Rattle.tag_arena.specs.declared.faults.ArenaFault.{ArenaFault}
-use Rattle.tag_arena.specs.declared.faults.SpanRefused.{SpanRefused}
+use Rattle.tag_arena.specs.declared.faults.SpanFault.{SpanFault}
 use Rattle.tag_arena.specs.ArenaState.{ArenaState, IsChosen, OnQuantum, direct}
 use Rattle.tag_arena.specs.Calls.{Carves, RefusesCarve, IsClear, RefusesSpan, after_add, after_import_carve, first_of, IsTagged, Frees, IsLowestWhole, after_remove}
 
@@ -20,12 +20,11 @@ pub record KeepsSetup (old new : ArenaState) : Type 0 where
   pub policy : new.policy ≡ old.policy
 
 -- the owned span was added, or it is back
-abbrev pub AddOf : {D : Type 0} → ArenaState → D → Holding → Result (Unit {0}) (SpanRefused D)
+abbrev pub AddSpanOf : {D : Type 0} → ArenaState → D → Holding → Result (Unit {0}) (SpanFault D)
     → ArenaState → Type 0
-AddOf old span h (Ok _) new = IsClear old h.range × OnQuantum old.quantum h.range
+AddSpanOf old span h (Ok _) new = IsClear old h.range × OnQuantum old.quantum h.range
     × (new ≡ after_add old h)
-AddOf old span h (Err back) new = RefusesSpan old h.range back.fault × (back.span ≡ span)
-    × (new ≡ old)
+AddSpanOf old span h (Err fault) new = RefusesSpan old h.range span fault × (new ≡ old)
 
 -- the segment was carved for the request, where the policy chose
 pub record Carved (old : ArenaState) (q : Request) (t : Tag) (new : ArenaState) : Type 0 where
@@ -51,11 +50,9 @@ pub record Imported (old : ArenaState) (span : Tag) (q : Request) (t : Tag)
   pub after : new ≡ after_import_carve old q span
 
 -- the span was imported, or it is back
-abbrev pub ImportOf : ArenaState → Tag → Request → Result Tag (SpanRefused Tag) → ArenaState
-    → Type 0
+abbrev pub ImportOf : ArenaState → Tag → Request → Result Tag (SpanFault Tag) → ArenaState → Type 0
 ImportOf old span q (Ok t) new = Imported old span q t new
-ImportOf old span q (Err back) new = RefusesSpan old span.holding.range back.fault
-    × (back.span ≡ span) × (new ≡ old)
+ImportOf old span q (Err fault) new = RefusesSpan old span.holding.range span fault × (new ≡ old)
 
 -- the segment was freed; the imported span that became wholly free, if one did, goes back to
 -- its source

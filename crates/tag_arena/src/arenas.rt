@@ -1,5 +1,6 @@
 //! The arena.
-ghost use Rattle.std.specs.Prelude.{◌≡◌, ◌+◌, ◌%◌, ◌≤◌, ◌↔◌, ◌<◌, [], ℕ, vec_len, vec_capacity, IsOk, IfOk, IfErr, IfSome, IfNone, OnOk, OnErr, Some, option_to_list, sum_by};
+ghost use Rattle.std.specs.Prelude.{◌≡◌, ◌+◌, ◌%◌, ◌≤◌, ◌↔◌, ◌<◌, [], ℕ, vec_len, vec_capacity, IsTrue, IsOk, IfOk, IfErr, IfSome, OnOk, OnErr, Some, option_to_list, sum_by};
+ghost use Rattle.std.specs.Bool.{OnTrue, OnFalse};
 ghost use Rattle.std.specs.Int.{IsPowerOfTwo};
 ghost use Rattle.std.specs.Option.{option_map};
 ghost use Rattle.std.specs.FinMap as finmap;
@@ -10,13 +11,13 @@ ghost use Rattle.deed_core.specs.Weights.{Gains, Loses};
 ghost use Rattle.deed_core.specs.Request.{IsGood, IsPlain, rounded};
 ghost use Rattle.tag_arena.specs.Layout.{FreeIsLongestRuns};
 ghost use Rattle.tag_arena.specs.ArenaState.{spans_of, layout_of, ranges_of, tags_of, direct, IsChosen, IsSound, OnQuantum, empty_arena};
-ghost use Rattle.tag_arena.specs.Calls.{part, after_carve, RefusesCarve, IsClear, RefusesSpan, after_import, first_units, IsTagged};
+ghost use Rattle.tag_arena.specs.Calls.{part, after_carve, RefusesCarve, IsClear, OverlapsSpan, after_import, first_units, IsTagged};
 ghost use Rattle.tag_arena.specs.Found.{IsCuttable, IsPlaced};
-ghost use Rattle.tag_arena.specs.Outcomes.{KeepsSetup, AddOf, CarveOf, ImportOf, FreeOf, RemoveOf};
+ghost use Rattle.tag_arena.specs.Outcomes.{KeepsSetup, AddSpanOf, CarveOf, ImportOf, FreeOf, RemoveOf};
 
 use crate::choices::{Found, chosen};
 use crate::cuts::{carve, cut_first, push_rest};
-use crate::faults::{ArenaFault, SpanRefused};
+use crate::faults::{ArenaFault, SpanFault};
 use crate::held_ranges::{HeldRange, held_range_of};
 use crate::merges::merge;
 use crate::policies::Policy;
@@ -177,32 +178,32 @@ impl<D: Deed> Arena<D> {
         Ok(())
     }
 
-    // Why a span of this range is refused, memory aside.
-    fn span_fault(&self, range: &Range) -> Option<ArenaFault>
-        ensures fault { IfSome result (RefusesSpan self.now range.now) }
-        ensures none { IfNone result (IsClear self.now range.now
-            × OnQuantum self.now.quantum range.now) }
+    // Whether a span of this arena overlaps the range.
+    fn has_overlap(&self, range: &Range) -> bool
+        ensures overlaps { OnTrue result (OverlapsSpan self.now range.now) }
+        ensures clear { OnFalse result (IsClear self.now range.now) }
     {
         if overlaps_owned(&self.owned, range) {
-            return Some(ArenaFault::Overlaps);
+            return true;
         }
         if overlaps_imported(&self.imported, range) {
-            return Some(ArenaFault::Overlaps);
+            return true;
         }
-        if range.base() % self.quantum != 0 {
-            return Some(ArenaFault::NotAligned);
-        }
-        if range.len() % self.quantum != 0 {
-            return Some(ArenaFault::NotAligned);
-        }
-        None
+        false
+    }
+
+    // Whether the range is in whole quanta of this arena.
+    fn is_aligned(&self, range: &Range) -> bool
+        ensures { IsTrue result ↔ OnQuantum self.now.quantum range.now }
+    {
+        range.base() % self.quantum == 0 && range.len() % self.quantum == 0
     }
 
     /// Adds an owned span, which is the newest free range. It takes any number of spans: the layer
     /// above keeps to 65,536.
-    pub fn add_span(&mut self, deed: D) -> Result<(), SpanRefused<D>>
+    pub fn add_span(&mut self, deed: D) -> Result<(), SpanFault<D>>
         // What it does.
-        ensures added { AddOf self.old deed (D.holding deed) result self.new }
+        ensures added { AddSpanOf self.old deed (D.holding deed) result self.new }
 
         // What follows, for those above.
         ensures sound { IsSound self.new }
@@ -210,15 +211,17 @@ impl<D: Deed> Arena<D> {
         ensures imported { self.new.imported ≡ self.old.imported }
     {
         let range = deed.range();
-        if let Some(fault) = self.span_fault(&range) {
-            return Err(SpanRefused { span: deed, fault });
+        if self.has_overlap(&range) {
+            return Err(SpanFault::Overlaps(deed));
         }
-        let fault = ArenaFault::NoMemory;
+        if !self.is_aligned(&range) {
+            return Err(SpanFault::NotAligned(deed));
+        }
         let Ok(()) = self.owned.reserve(1) else {
-            return Err(SpanRefused { span: deed, fault });
+            return Err(SpanFault::NoMemory(deed));
         };
         let Ok(()) = reserve_free(&mut self.free, &self.tags, 1) else {
-            return Err(SpanRefused { span: deed, fault });
+            return Err(SpanFault::NoMemory(deed));
         };
         let stored = Stored::new(deed);
         self.owned.push_reserved(held_range_of(&stored));
@@ -287,7 +290,7 @@ impl<D: Deed> Arena<D> {
         &mut self,
         span: Segment<D>,
         request: &Request,
-    ) -> Result<Segment<D>, SpanRefused<Segment<D>>>
+    ) -> Result<Segment<D>, SpanFault<Segment<D>>>
         requires route { span.route ≡ Route.Direct }
         requires good { IsGood self.old.quantum request.now }
         requires plain { IsPlain request.now }
@@ -309,16 +312,16 @@ impl<D: Deed> Arena<D> {
             ≡ covering_held u (spans_of self.old) + covers_tag u span) }
     {
         let range = span.range();
-        if let Some(fault) = self.span_fault(&range) {
-            return Err(SpanRefused { span, fault });
+        if self.has_overlap(&range) {
+            return Err(SpanFault::Overlaps(span));
+        }
+        if !self.is_aligned(&range) {
+            return Err(SpanFault::NotAligned(span));
         }
         let len = request.units(self.quantum).unwrap();
         match self.import(span, len) {
             Ok(first) => Ok(first),
-            Err(span) => Err(SpanRefused {
-                span,
-                fault: ArenaFault::NoMemory,
-            }),
+            Err(span) => Err(SpanFault::NoMemory(span)),
         }
     }
 

@@ -4,7 +4,7 @@ ghost use Rattle.std.specs.Prelude.{◌≡◌};
 use std::alloc::AllocError;
 use thiserror::Error;
 
-/// Why an arena gives or takes nothing.
+/// Why an arena carves nothing.
 #[derive(Clone, Copy, PartialEq, Eq, Debug, Error)]
 pub enum ArenaFault {
     /// A member of the request has a value that no arena of this quantum takes.
@@ -13,23 +13,19 @@ pub enum ArenaFault {
     /// No free range serves the request.
     #[error("no fit")]
     NoFit,
-    /// The span overlaps one that the arena has.
-    #[error("the span overlaps another")]
-    Overlaps,
-    /// The span's base or length isn't a multiple of the quantum.
-    #[error("the span is not aligned")]
-    NotAligned,
     /// A growth or a split was refused.
     #[error("no memory")]
     NoMemory,
 }
 
-/// A span that an arena doesn't take, and why.
-pub struct SpanRefused<S> {
-    /// The span's deed or segment, as it was given.
-    pub span: S,
-    /// Why.
-    pub fault: ArenaFault,
+/// Why a span can't be added. `S` is its deed or its segment, which comes back as it was.
+pub enum SpanFault<S> {
+    /// It overlaps a span that the arena has.
+    Overlaps(S),
+    /// Its base or length isn't a multiple of the quantum.
+    NotAligned(S),
+    /// A growth or a split was refused.
+    NoMemory(S),
 }
 
 impl From<AllocError> for ArenaFault {

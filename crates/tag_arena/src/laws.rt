@@ -1,6 +1,6 @@
 //! Laws of the definitions, for the proofs of the layers above. The functions do nothing: their
 //! contracts are the laws, and proofs/LawProofs.antt hands them on.
-ghost use Rattle.tag_arena.specs.Laws.{BestIsOne, NextIsOne, InstantIsOne, NoneServes, ChoiceServes, FreeAreLongestRuns, SpansOnce, TagsWeigh, AllocatedStand, AllocatedCount, GoesEmpty};
+ghost use Rattle.tag_arena.specs.Laws.{BestIsOne, NextIsOne, InstantIsOne, NoneServes, ChoiceServes, CarvesExactly, FreeAreLongestRuns, SpansOnce, TagsWeigh, AllocatedStand, AllocatedCount, GoesEmpty};
 
 /// Two choices by one rule are the same: a relation that names a choice is as good as a function.
 pub fn one_choice_laws()
@@ -9,10 +9,12 @@ pub fn one_choice_laws()
     ensures instant { InstantIsOne }
 {}
 
-/// None is chosen only where no address serves, and an address that is chosen serves.
+/// None is chosen only where no address serves, and an address that is chosen serves. So a carve
+/// of a good request is refused for its place exactly where no address serves.
 pub fn serving_laws()
     ensures none { NoneServes }
     ensures some { ChoiceServes }
+    ensures exact { CarvesExactly }
 {}
 
 /// What is always so of an arena: its free ranges are the longest runs, no unit is in two of its

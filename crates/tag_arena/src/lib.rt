@@ -36,6 +36,6 @@ mod tags;
 mod whole_spans;
 
 pub use arenas::{Arena, ArenaReport};
-pub use faults::{ArenaFault, SpanRefused};
+pub use faults::{ArenaFault, SpanFault};
 pub use laws::{allocated_laws, arena_laws, one_choice_laws, serving_laws};
 pub use policies::Policy;

@@ -1,19 +1,21 @@
 //! Growth that is refused: the argument is back, the arena is as before, and the call can be made again.
 
 use super::{
-    add, close, end_span, give_all, give_back, grant, import, stands, take_back, try_import,
+    SpanWhy, add, close, end_span, give_all, give_back, grant, import, span_back, stands,
+    take_back, try_import,
 };
 use deed_core::{Deed, PlainDeed, Range, Request, Segment};
 use std::process::Abort;
-use tag_arena::{Arena, ArenaFault, Policy, SpanRefused};
+use tag_arena::{Arena, ArenaFault, Policy};
 
 /// Adds a span, again where memory was refused.
 fn add_again(rt: &impl Abort, arena: &mut Arena<PlainDeed>, range: Range) {
     let before = arena.report();
     let deed = match arena.add_span(PlainDeed::new(1, range)) {
         Ok(()) => return,
-        Err(SpanRefused { span, fault }) => {
-            assert_eq!(rt; fault, ArenaFault::NoMemory);
+        Err(fault) => {
+            let (span, why) = span_back(fault);
+            assert_eq!(rt; why, SpanWhy::NoMemory);
             span
         }
     };
@@ -52,8 +54,9 @@ fn import_again(
     let range = segment.range();
     let back = match try_import(rt, arena, segment, request) {
         Ok(first) => return first,
-        Err(SpanRefused { span, fault }) => {
-            assert_eq!(rt; fault, ArenaFault::NoMemory);
+        Err(fault) => {
+            let (span, why) = span_back(fault);
+            assert_eq!(rt; why, SpanWhy::NoMemory);
             span
         }
     };

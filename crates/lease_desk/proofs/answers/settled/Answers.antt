@@ -1,11 +1,11 @@
 use Rattle.std.proofs.Common.{◌≡◌, ◌<◌, get_or, length, sym, ap, subst}
 use Rattle.std.proofs.lemmas.Option.{get_or_from_slice_get}
-use Rattle.lease_book.specs.declared.receipts.Reply.{Reply as KeptReply}
+use Rattle.lease_book.specs.declared.receipts.KeptReply.{KeptReply}
 use Rattle.lease_desk.specs.declared.spaces.Space.{Space}
 use Rattle.lease_desk.specs.Grants.{IsOfArenas}
 use Rattle.lease_desk.specs.Machine.{IsSettled, granted_to}
 use Rattle.lease_desk.specs.Spaces.{state_of, states_of}
-use Rattle.lease_desk.proofs.PlaceLemmas.{slice_get_some, slice_get_mapped}
+use Rattle.deed_core.proofs.LawProofs.{slice_get_some, slice_get_mapped}
 use Rattle.lease_desk.proofs.answers.settled.Goals as goal
 
 pub returns-in-Granted : goal.returns-in-Granted

@@ -5,7 +5,7 @@ use Rattle.std.specs.List.{flat_map}
 use Rattle.lease_desk.specs.declared.spaces.Space.{Space}
 use Rattle.lease_desk.specs.Operators.{arena_told}
 use Rattle.lease_desk.specs.Spaces.{state_of}
-use Rattle.lease_desk.proofs.PlaceLemmas.{slice_get_here}
+use Rattle.deed_core.proofs.LawProofs.{slice_get_here}
 use Rattle.std.specs.Io.{StartsWith}
 use Rattle.lease_desk.proofs.StepLemmas.{always_on_err}
 use Rattle.lease_desk.proofs.TextLemmas.{one_more, all_told}

@@ -1,6 +1,6 @@
 use Rattle.std.proofs.Common.{◌≡◌, ◌+◌, ◌-◌, ◌*◌, ◌<◌, ◌≤◌, Some, arith, sym, ◌∙◌, ap}
 use Rattle.deed_core.specs.Extent.{Extent}
-use Rattle.slab_layer.specs.Parts.{part, front_of, back_of, joined_row}
+use Rattle.slab_layer.specs.Parts.{piece_or_none, front_of, back_of, joined_row}
 use Rattle.slab_layer.proofs.PartLemmas.{part_some, front_part, back_part}
 use Rattle.slab_layer.proofs.RowLemmas.{placed, room_for, row_whole, all_whole, next_stored}
 use Rattle.slab_layer.proofs.rows.chop.Goals as goal
@@ -31,7 +31,7 @@ loop-done-preserved g c =
     let d = c.loop-done.done in
     let room : d * n + n ≤ len = room_for d c.args.count n len c.loop-done-test.true c.requires.room in
     let low : c.in-Ok.low ≡ Some (placed r b n d) = c.in-Ok.ensures.ok.0 ∙ ap (front_of n) inv.rest ∙ front_part n r (b + d * n) (len - d * n) (omega arith) ∙ part_some r (b + d * n) n c.requires.some in
-    let high : c.in-Ok.high ≡ part r (b + d * n + n) (len - d * n - n) = c.in-Ok.ensures.ok.1 ∙ ap (back_of n) inv.rest ∙ back_part n r (b + d * n) (len - d * n) (omega arith) in
+    let high : c.in-Ok.high ≡ piece_or_none r (b + d * n + n) (len - d * n - n) = c.in-Ok.ensures.ok.1 ∙ ap (back_of n) inv.rest ∙ back_part n r (b + d * n) (len - d * n) (omega arith) in
     let at : b + d * n + n ≡ b + (d + 1) * n = omega arith in
     let left : len - d * n - n ≡ len - (d + 1) * n = omega arith in
     record {

@@ -11,11 +11,11 @@ pub invariant_of-self : goal.invariant_of-self
 invariant_of-self g c =
     (refused_at _ _ c.self.view_is _ _ c.in-Ok.ensures.index c.in-Ok.ensures.new c.admit.ensures.range _ refusal.Leases _ _ c.keep-kept.ensures.kept refl c.keep-kept.ensures.accounts c.self.invariant).0
 
-pub returns-then-len-eq-LEASES-clause-answer : goal.returns-then-len-eq-LEASES-clause-answer
-returns-then-len-eq-LEASES-clause-answer g c =
+pub returns-then-len-eq-MOST_LEASES-clause-answer : goal.returns-then-len-eq-MOST_LEASES-clause-answer
+returns-then-len-eq-MOST_LEASES-clause-answer g c =
     let here = leases_found _ _ _ _ _ c.self.view_is c.in-Ok.ensures.index c.leases.ensures.leases in (
       (refused_at _ _ c.self.view_is _ _ c.in-Ok.ensures.index c.in-Ok.ensures.new c.admit.ensures.range _ refusal.Leases _ _ c.keep-kept.ensures.kept c.receipt.ensures c.keep-kept.ensures.accounts c.self.invariant).1,
-      omega (arith, ap length here, c.len.ensures, c.if-len-eq-LEASES.true),
+      omega (arith, ap length here, c.len.ensures, c.if-len-eq-MOST_LEASES.true),
     )
 
 pub keep-kept-requires-in-Ok-lease-clause-within : goal.keep-kept-requires-in-Ok-lease-clause-within
@@ -30,7 +30,7 @@ keep-kept-requires-in-Ok-lease-clause-earned g c =
 pub invariant_of-self-in-Ok-lease : goal.invariant_of-self-in-Ok-lease
 invariant_of-self-in-Ok-lease g c =
     let here = leases_found _ _ _ _ _ c.self.view_is c.in-Ok.ensures.index c.leases.ensures.leases in
-    let room : length (account_in c.args.id.client c.args.self.now).leases < 1024 = omega (arith, ap length here, c.len.ensures, c.if-len-eq-LEASES.false, c.leases.ensures.limited) in
+    let room : length (account_in c.args.id.client c.args.self.now).leases < 1024 = omega (arith, ap length here, c.len.ensures, c.if-len-eq-MOST_LEASES.false, c.leases.ensures.limited) in
     let is_kept = kept_grant _ c.args.arena c.range.result c.granted-reply.result c.args.segment _ _ c.keep-kept-in-Ok-lease.ensures.kept c.granted-reply.ensures c.requires.arena c.range.ensures.value in
     let in_range : IsRange c.args.segment.holding.range = subst IsRange c.range.ensures.value c.range.ensures.range in
     let leased_mid : c.lease.new.self ≡ changed_at c.self.inside.accounts c.in-Ok.index (with_leases (λ ls. ls ++ lease_of c.args.id c.args.segment ∷ [])) =
@@ -40,7 +40,7 @@ invariant_of-self-in-Ok-lease g c =
 pub returns-in-Ok-lease-clause-granted : goal.returns-in-Ok-lease-clause-granted
 returns-in-Ok-lease-clause-granted g c =
     let here = leases_found _ _ _ _ _ c.self.view_is c.in-Ok.ensures.index c.leases.ensures.leases in
-    let room : length (account_in c.args.id.client c.args.self.now).leases < 1024 = omega (arith, ap length here, c.len.ensures, c.if-len-eq-LEASES.false, c.leases.ensures.limited) in
+    let room : length (account_in c.args.id.client c.args.self.now).leases < 1024 = omega (arith, ap length here, c.len.ensures, c.if-len-eq-MOST_LEASES.false, c.leases.ensures.limited) in
     let is_kept = kept_grant _ c.args.arena c.range.result c.granted-reply.result c.args.segment _ _ c.keep-kept-in-Ok-lease.ensures.kept c.granted-reply.ensures c.requires.arena c.range.ensures.value in
     let in_range : IsRange c.args.segment.holding.range = subst IsRange c.range.ensures.value c.range.ensures.range in
     let leased_mid : c.lease.new.self ≡ changed_at c.self.inside.accounts c.in-Ok.index (with_leases (λ ls. ls ++ lease_of c.args.id c.args.segment ∷ [])) =

@@ -1,6 +1,6 @@
 use Rattle.std.proofs.Common.{◌≡◌, true, false, refl, ◌∙◌, sym, subst}
 use Rattle.slab_layer.specs.Cache.{SlabCacheState, IsSound}
-use Rattle.slab_layer.specs.Moves.{IsChunk}
+use Rattle.slab_layer.specs.Calls.{IsChunk}
 use Rattle.slab_layer.proofs.SoundLemmas.{made_puts, sound_puts}
 use Rattle.slab_layer.proofs.MoveLemmas.{puts_out, puts_kept, puts_spans}
 use Rattle.slab_layer.proofs.MineLemmas.{IsAbsent, SomeChunk, not_routed, not_found, made_chunk, chunk_is_out, chunk_is_idle, out_is_chunk, never_both}

@@ -1,13 +1,13 @@
 use Rattle.std.proofs.Common.{◌≡◌, Option, Some, None, subst}
 use Rattle.std.proofs.lemmas.List.Elements.{All-pop}
 use Rattle.deed_core.specs.Holding.{Holding}
-use Rattle.slab_layer.specs.Slab.{SlabState, IsStored}
+use Rattle.slab_layer.specs.Slab.{SlabState, PartsAreStored}
 use Rattle.slab_layer.proofs.SlabLemmas.{bare}
 use Rattle.slab_layer.proofs.slabs.Slab.discard.Goals as goal
 
 pub loop-chunk-init : goal.loop-chunk-init
 loop-chunk-init g c =
-    let held = subst (λ (s : SlabState). IsStored s c.self.inside.gap c.self.inside.home.items c.self.inside.tail) c.self.view_is c.self.invariant in
+    let held = subst (λ (s : SlabState). PartsAreStored s c.self.inside.gap c.self.inside.home.items c.self.inside.tail) c.self.view_is c.self.invariant in
     (bare c.args.self c.self.inside.gap c.self.inside.tail c.self.inside.home.items held c.requires).row_out
 
 pub loop-chunk-preserved : goal.loop-chunk-preserved
