@@ -65,7 +65,7 @@ sound_restarted i c is may = record {
   last = omega arith;
   begun = λ never. absurd (false≢true never);
   closed = λ shut. refl;
-  outstanding = (refl, refl, omega (arith, may.above), refl);
+  outstanding = (refl, refl, omega (arith, may.above), refl, refl);
 }
 
 welcomed : (w : Welcome) (c : ClientState) (o : Option Line) → answers_one (replies.Welcome w) o ≡ true → IsOwn c o

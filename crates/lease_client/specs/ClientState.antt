@@ -50,7 +50,7 @@ abbrev pub IsOwn : ClientState → Option Line → Type 0
 IsOwn c None = Unit {0}
 IsOwn c (Some (lines.Hello h)) =
     (h.client ≡ c.id) × (h.incarnation ≡ c.incarnation) × (1 ≤ c.incarnation)
-    × (c.is_open ≡ false)
+    × (c.is_open ≡ false) × (c.next ≡ 1)
 IsOwn c (Some (lines.Request id op)) =
     (id.client ≡ c.id) × (id.incarnation ≡ c.incarnation) × (id.number + 1 ≡ c.next)
     × (c.is_open ≡ true) × HasEnded op c.held
