@@ -1,9 +1,10 @@
 -- A reply counts once.
-use Rattle.std.proofs.Common.{◌≡◌, ◌⊎◌, inl, inr, ℕ, ◌+◌, ◌<◌, ◌≤◌, ◌&&◌, ◌==◌, max, Bool, true, false, List, [], ◌∷◌, Option, Some, None, refl, sym, ap, subst, ◌∙◌, arith}
+use Rattle.std.proofs.Common.{◌≡◌, ◌⊎◌, inl, inr, ℕ, ◌+◌, ◌<◌, ◌≤◌, ◌^◌, ◌&&◌, ◌==◌, max, Bool, true, false, List, [], ◌∷◌, Option, Some, None, refl, sym, ap, subst, ◌∙◌, arith}
 use Rattle.std.proofs.lemmas.Bool.{false≢true, and_parts, and_left, and_right, or_from, le-ltb, eqb-true, ne_eqb, cond-false}
 use Rattle.lease_terms.specs.Requests.{RequestId}
 use Rattle.lease_proto.specs.declared.lines.Line.{Line}
 use Rattle.lease_proto.specs.declared.lines.Line.TheVariants as lines
+use Rattle.lease_proto.specs.declared.lines.Op.{Op}
 use Rattle.lease_proto.specs.declared.lines.Op.TheVariants as ops
 use Rattle.lease_proto.specs.declared.replies.Welcome.{Welcome}
 use Rattle.lease_proto.specs.declared.replies.Reply.{Reply}
@@ -11,22 +12,14 @@ use Rattle.lease_proto.specs.declared.replies.Reply.TheVariants as replies
 use Rattle.lease_client.specs.Answers.{is_same_request, answers, answers_one}
 use Rattle.lease_client.specs.ClientState.{ClientState, IsSound, IsOwn}
 use Rattle.lease_client.specs.Replies.{is_ahead, accepts, accepted, got}
-use Rattle.lease_client.specs.Runs.{Move, Restart, Send, Get, Makes, Run}
-use Rattle.lease_client.specs.Laws.{RepliesCountOnce}
-use Rattle.lease_client.proofs.ReplyLemmas.{got_by, may_send, MayRestart, may_begin, moves_keep_sound}
-
-abbrev busy : Option Line → ℕ
-busy None = 0
-busy (Some line) = 1
+use Rattle.lease_client.specs.Runs.{Move, Restart, Send, Get, Makes, Run, waiting, IsDone, MayBeSent}
+use Rattle.lease_client.specs.Laws.{RepliesCountOnce, SentStaysSent}
+use Rattle.lease_client.proofs.ReplyLemmas.{got_by, moves_in_turn, moves_keep_sound}
 
 abbrev is_hello : Option Line → Bool
 is_hello None = false
 is_hello (Some (lines.Hello h)) = true
 is_hello (Some (lines.Request id op)) = false
-
--- no reply to the request is waited for any more
-abbrev Passed : RequestId → ClientState → Type 0
-Passed id c = (id.incarnation < c.incarnation) ⊎ ((id.incarnation ≡ c.incarnation) × (id.number + busy c.outstanding < c.next))
 
 -- closed, and it must restart above this
 record Closed (v : ℕ) (c : ClientState) : Type 0 where
@@ -37,9 +30,9 @@ record Closed (v : ℕ) (c : ClientState) : Type 0 where
 
 abbrev Past : Reply → ClientState → Type 0
 Past (replies.Welcome w) c = (w.incarnation < c.incarnation) ⊎ ((w.incarnation ≡ c.incarnation) × (is_hello c.outstanding ≡ false))
-Past (replies.Granted g) c = Passed g.id c
-Past (replies.Released id) c = Passed id c
-Past (replies.Refused r) c = Passed r.id c
+Past (replies.Granted g) c = IsDone g.id c
+Past (replies.Released id) c = IsDone id c
+Past (replies.Refused r) c = IsDone r.id c
 Past (replies.Old o) c = (o.current ≤ c.incarnation) ⊎ Closed o.current c
 Past (replies.Stale t) c = Unit {0}
 Past (replies.Gap t) c = Unit {0}
@@ -59,10 +52,10 @@ not_same a b (inl low) = and_right _ _ (and_left _ _ (below_differs _ _ low))
 not_same a b (inr low) = and_right _ _ (and_right _ _ (below_differs _ _ low))
 
 not_own : (id own : RequestId) (c : ClientState) (line : Line) → c.outstanding ≡ Some line → own.incarnation ≡ c.incarnation
-    → own.number + 1 ≡ c.next → Passed id c → is_same_request id own ≡ false
+    → own.number + 1 ≡ c.next → IsDone id c → is_same_request id own ≡ false
 not_own id own c line is i n (inl low) = not_same id own (inl (omega (arith, i)))
 not_own id own c line is i n (inr at) =
-    let waits : busy c.outstanding ≡ 1 = ap busy is in
+    let waits : waiting c.outstanding ≡ 1 = ap waiting is in
     not_same id own (inr (omega (arith, n, at.1, waits)))
 
 no_welcome : (w : Welcome) (c : ClientState) (o : Option Line) → c.outstanding ≡ o → IsOwn c o → Past (replies.Welcome w) c
@@ -154,19 +147,19 @@ closed_accepts v (replies.Gap t) c is accept = absurd (false≢true (ap (answers
 closed_accepts v (replies.Again a) c is accept = absurd (false≢true (ap (answers_one (replies.Again a)) (sym is.idle) ∙ accept))
 closed_accepts v (replies.Error e) c is accept = absurd (false≢true (ap (answers_one (replies.Error e)) (sym is.idle) ∙ accept))
 
-passed_settles : (id : RequestId) (old new : ClientState) → Settles old new → Passed id old → Passed id new
-passed_settles id old new is (inl low) = inl (omega (arith, is.incarnation))
-passed_settles id old new is (inr at) =
-    let none : busy new.outstanding ≡ 0 = ap busy is.idle in
+done_settles : (id : RequestId) (old new : ClientState) → Settles old new → IsDone id old → IsDone id new
+done_settles id old new is (inl low) = inl (omega (arith, is.incarnation))
+done_settles id old new is (inr at) =
+    let none : waiting new.outstanding ≡ 0 = ap waiting is.idle in
     inr (at.0 ∙ sym is.incarnation, omega (arith, at.1, is.next, none))
 
 past_accepted : (past reply : Reply) (c : ClientState) → accepts reply c ≡ true → Past past c → Past past (accepted reply c)
 past_accepted (replies.Welcome w) reply c accept (inl low) = inl (let is = settles reply c in omega (arith, is.incarnation))
 past_accepted (replies.Welcome w) reply c accept (inr at) =
     let is = settles reply c in inr (at.0 ∙ sym is.incarnation, ap is_hello is.idle)
-past_accepted (replies.Granted g) reply c accept past = passed_settles g.id c _ (settles reply c) past
-past_accepted (replies.Released id) reply c accept past = passed_settles id c _ (settles reply c) past
-past_accepted (replies.Refused r) reply c accept past = passed_settles r.id c _ (settles reply c) past
+past_accepted (replies.Granted g) reply c accept past = done_settles g.id c _ (settles reply c) past
+past_accepted (replies.Released id) reply c accept past = done_settles id c _ (settles reply c) past
+past_accepted (replies.Refused r) reply c accept past = done_settles r.id c _ (settles reply c) past
 past_accepted (replies.Old o) reply c accept (inl low) = inl (let is = settles reply c in omega (arith, is.incarnation))
 past_accepted (replies.Old o) reply c accept (inr closed) = inr (closed_accepts o.current reply c closed accept)
 past_accepted (replies.Stale t) reply c accept past = tt
@@ -178,13 +171,13 @@ not_above : (a : ℕ) (b : ℕ) (P : Type 0) → (a < b) ⊎ ((a ≡ b) × P) �
 not_above a b P (inl low) = omega arith
 not_above a b P (inr at) = omega (arith, at.0)
 
-past_restarted : (past : Reply) (i : ℕ) (old new : ClientState) → MayRestart i old → new.incarnation ≡ i → Past past old → Past past new
-past_restarted (replies.Welcome w) i old new may is past = inl (let low = not_above _ _ _ past in omega (arith, may.above))
-past_restarted (replies.Granted g) i old new may is past = inl (let low = not_above _ _ _ past in omega (arith, may.above))
-past_restarted (replies.Released id) i old new may is past = inl (let low = not_above _ _ _ past in omega (arith, may.above))
-past_restarted (replies.Refused r) i old new may is past = inl (let low = not_above _ _ _ past in omega (arith, may.above))
-past_restarted (replies.Old o) i old new may is (inl low) = inl (omega (arith, may.above))
-past_restarted (replies.Old o) i old new may is (inr closed) = inl (omega (arith, may.past, closed.floor))
+past_restarted : (past : Reply) (i : ℕ) (old new : ClientState) → (old.incarnation < i) × (old.floor < i) × (i ≤ 2 ^ 62) → new.incarnation ≡ i → Past past old → Past past new
+past_restarted (replies.Welcome w) i old new may is past = inl (let low = not_above _ _ _ past in omega (arith, may.0))
+past_restarted (replies.Granted g) i old new may is past = inl (let low = not_above _ _ _ past in omega (arith, may.0))
+past_restarted (replies.Released id) i old new may is past = inl (let low = not_above _ _ _ past in omega (arith, may.0))
+past_restarted (replies.Refused r) i old new may is past = inl (let low = not_above _ _ _ past in omega (arith, may.0))
+past_restarted (replies.Old o) i old new may is (inl low) = inl (omega (arith, may.0))
+past_restarted (replies.Old o) i old new may is (inr closed) = inl (omega (arith, may.1, closed.floor))
 past_restarted (replies.Stale t) i old new may is past = tt
 past_restarted (replies.Gap t) i old new may is past = tt
 past_restarted (replies.Again a) i old new may is past = tt
@@ -195,22 +188,22 @@ record Sends (old new : ClientState) : Type 0 where
   incarnation : new.incarnation ≡ old.incarnation
   next : new.next ≡ old.next + 1
   idle : old.outstanding ≡ None
-  waits : busy new.outstanding ≡ 1
+  waits : waiting new.outstanding ≡ 1
   request : is_hello new.outstanding ≡ false
   opened : old.is_open ≡ true
 
-passed_sent : (id : RequestId) (old new : ClientState) → Sends old new → Passed id old → Passed id new
-passed_sent id old new is (inl low) = inl (omega (arith, is.incarnation))
-passed_sent id old new is (inr at) =
-    let none : busy old.outstanding ≡ 0 = ap busy is.idle in
+done_sent : (id : RequestId) (old new : ClientState) → Sends old new → IsDone id old → IsDone id new
+done_sent id old new is (inl low) = inl (omega (arith, is.incarnation))
+done_sent id old new is (inr at) =
+    let none : waiting old.outstanding ≡ 0 = ap waiting is.idle in
     inr (at.0 ∙ sym is.incarnation, omega (arith, at.1, is.next, is.waits, none))
 
 past_sent : (past : Reply) (old new : ClientState) → Sends old new → Past past old → Past past new
 past_sent (replies.Welcome w) old new is (inl low) = inl (omega (arith, is.incarnation))
 past_sent (replies.Welcome w) old new is (inr at) = inr (at.0 ∙ sym is.incarnation, is.request)
-past_sent (replies.Granted g) old new is past = passed_sent g.id old new is past
-past_sent (replies.Released id) old new is past = passed_sent id old new is past
-past_sent (replies.Refused r) old new is past = passed_sent r.id old new is past
+past_sent (replies.Granted g) old new is past = done_sent g.id old new is past
+past_sent (replies.Released id) old new is past = done_sent id old new is past
+past_sent (replies.Refused r) old new is past = done_sent r.id old new is past
 past_sent (replies.Old o) old new is (inl low) = inl (omega (arith, is.incarnation))
 past_sent (replies.Old o) old new is (inr closed) = absurd (false≢true (sym closed.shut ∙ is.opened))
 past_sent (replies.Stale t) old new is past = tt
@@ -220,28 +213,28 @@ past_sent (replies.Error e) old new is past = tt
 
 past_stays : (past : Reply) (move : Move) (old new : ClientState) → Makes move old new → Past past old → Past past new
 past_stays past (Restart i) old new makes was =
-    past_restarted past i old new (may_begin i old makes.0) (ap (λ (c : ClientState). c.incarnation) makes.1) was
+    past_restarted past i old new (moves_in_turn.restart i old makes.0) (ap (λ (c : ClientState). c.incarnation) makes.1) was
 past_stays past (Send op) old new makes was =
-    let may = may_send op old makes.0 in
+    let turn = moves_in_turn.send op old makes.0 in
     subst (Past past) (sym makes.1) (past_sent past old _ (record {
       incarnation = refl;
       next = refl;
-      idle = may.idle;
+      idle = turn.1;
       waits = refl;
       request = refl;
-      opened = may.opened;
+      opened = turn.0;
     }) was)
 past_stays past (Get reply) old new makes was =
     subst (Past past) (sym makes) (got_by (Past past) reply old (λ accept. past_accepted past reply old accept was) (λ _. was))
 
 -- What was accepted is past.
 
-passed_own : (id own : RequestId) (c : ClientState) → is_same_request id own ≡ true → own.incarnation ≡ c.incarnation
-    → own.number + 1 ≡ c.next → (new : ClientState) → Settles c new → Passed id new
-passed_own id own c same i n new is =
+done_own : (id own : RequestId) (c : ClientState) → is_same_request id own ≡ true → own.incarnation ≡ c.incarnation
+    → own.number + 1 ≡ c.next → (new : ClientState) → Settles c new → IsDone id new
+done_own id own c same i n new is =
     let parts = and_parts (id.client == own.client) ((id.incarnation == own.incarnation) && (id.number == own.number)) same in
     let rest = and_parts (id.incarnation == own.incarnation) (id.number == own.number) parts.1 in
-    let none : busy new.outstanding ≡ 0 = ap busy is.idle in
+    let none : waiting new.outstanding ≡ 0 = ap waiting is.idle in
     let number : id.number ≡ own.number = eqb-true _ _ rest.1 in
     inr (eqb-true _ _ rest.0 ∙ i ∙ sym is.incarnation, omega (arith, n, is.next, none, number))
 
@@ -252,24 +245,24 @@ took_welcome w c (Some (lines.Hello h)) is own = let parts = and_parts _ _ is in
 took_welcome w c (Some (lines.Request id op)) is own = absurd (false≢true is)
 
 took_granted : (g : _) (c : ClientState) (o : Option Line) → answers_one (replies.Granted g) o ≡ true → IsOwn c o
-    → (new : ClientState) → Settles c new → Passed g.id new
+    → (new : ClientState) → Settles c new → IsDone g.id new
 took_granted g c None is own new settled = absurd (false≢true is)
 took_granted g c (Some (lines.Hello h)) is own new settled = absurd (false≢true is)
-took_granted g c (Some (lines.Request id (ops.Lease l))) is own new settled = passed_own g.id id c is own.1 own.2 new settled
+took_granted g c (Some (lines.Request id (ops.Lease l))) is own new settled = done_own g.id id c is own.1 own.2 new settled
 took_granted g c (Some (lines.Request id (ops.Release r))) is own new settled = absurd (false≢true is)
 
 took_released : (named : RequestId) (c : ClientState) (o : Option Line) → answers_one (replies.Released named) o ≡ true → IsOwn c o
-    → (new : ClientState) → Settles c new → Passed named new
+    → (new : ClientState) → Settles c new → IsDone named new
 took_released named c None is own new settled = absurd (false≢true is)
 took_released named c (Some (lines.Hello h)) is own new settled = absurd (false≢true is)
 took_released named c (Some (lines.Request id (ops.Lease l))) is own new settled = absurd (false≢true is)
-took_released named c (Some (lines.Request id (ops.Release r))) is own new settled = passed_own named id c is own.1 own.2 new settled
+took_released named c (Some (lines.Request id (ops.Release r))) is own new settled = done_own named id c is own.1 own.2 new settled
 
 took_refused : (r : _) (c : ClientState) (o : Option Line) → answers_one (replies.Refused r) o ≡ true → IsOwn c o
-    → (new : ClientState) → Settles c new → Passed r.id new
+    → (new : ClientState) → Settles c new → IsDone r.id new
 took_refused r c None is own new settled = absurd (false≢true is)
 took_refused r c (Some (lines.Hello h)) is own new settled = absurd (false≢true is)
-took_refused r c (Some (lines.Request id op)) is own new settled = passed_own r.id id c is own.1 own.2 new settled
+took_refused r c (Some (lines.Request id op)) is own new settled = done_own r.id id c is own.1 own.2 new settled
 
 past_after : (reply : Reply) (c : ClientState) → IsSound c → accepts reply c ≡ true → Past reply (accepted reply c)
 past_after (replies.Welcome w) c is accept = inr (took_welcome w c c.outstanding accept is.outstanding, refl)
@@ -294,3 +287,34 @@ replies_count_once reply c later moves is accept run =
     let past : Past reply (got reply c) = got_by (Past reply) reply c (λ _. past_after reply c is accept) (λ ignore. absurd (false≢true (sym ignore ∙ accept))) in
     let end = past_run reply moves (got reply c) later sound run past in
     past_ignored reply later end.0 end.1
+
+-- What was sent stays so.
+
+sent_restarted : (id : RequestId) (op : Op) (i : ℕ) (old : ClientState) → IsOwn old old.outstanding → old.incarnation < i
+    → old.outstanding ≡ Some (lines.Request id op) → id.incarnation < i
+sent_restarted id op i old own above waits =
+    let mine : IsOwn old (Some (lines.Request id op)) = subst (IsOwn old) waits own in
+    let same : id.incarnation ≡ old.incarnation = mine.1 in
+    omega arith
+
+sent_accepted : (id : RequestId) (op : Op) (reply : Reply) (old : ClientState) → IsOwn old old.outstanding
+    → old.outstanding ≡ Some (lines.Request id op) → IsDone id (accepted reply old)
+sent_accepted id op reply old own waits =
+    let mine : IsOwn old (Some (lines.Request id op)) = subst (IsOwn old) waits own in
+    let is = settles reply old in
+    let none : waiting (accepted reply old).outstanding ≡ 0 = ap waiting is.idle in
+    let next : id.number + 1 ≡ old.next = mine.2 in
+    inr (mine.1 ∙ sym is.incarnation, omega (arith, is.next, none, next))
+
+pub sent_stays_sent : SentStaysSent
+sent_stays_sent id op move old new is makes (inl done) = inl (past_stays (replies.Released id) move old new makes done)
+sent_stays_sent id op (Restart i) old new is makes (inr waits) =
+    let above = sent_restarted id op i old is.outstanding (moves_in_turn.restart i old makes.0).0 waits in
+    inl (inl (subst (λ (c : ClientState). id.incarnation < c.incarnation) (sym makes.1) above))
+sent_stays_sent id op (Send other) old new is makes (inr waits) =
+    let turn = moves_in_turn.send other old makes.0 in
+    let never : None ≡ Some (lines.Request id op) = sym turn.1 ∙ waits in
+    absurd (cc)
+sent_stays_sent id op (Get reply) old new is makes (inr waits) =
+    subst (MayBeSent id op) (sym makes)
+    (got_by (MayBeSent id op) reply old (λ _. inl (sent_accepted id op reply old is.outstanding waits)) (λ _. inr waits))

@@ -1,9 +1,8 @@
 -- What a reply leaves as it was.
-use Rattle.std.proofs.Common.{◌≡◌, ℕ, ◌<◌, ◌≤◌, ◌^◌, nat_lt, Bool, true, false, not, cond, Option, Some, None, is_some, refl, sym, subst, arith}
+use Rattle.std.proofs.Common.{◌≡◌, ℕ, ◌≤◌, ◌^◌, ◌&&◌, nat_lt, nat_le, Bool, true, false, not, cond, Option, Some, None, is_some, refl, sym, subst, arith}
 use Rattle.std.proofs.lemmas.Bool.{false≢true, cond_both, and_parts, leb-true, ltb-true, ltb-false}
 use Rattle.lease_proto.specs.declared.lines.Line.{Line}
 use Rattle.lease_proto.specs.declared.lines.Line.TheVariants as lines
-use Rattle.lease_proto.specs.declared.lines.Op.{Op}
 use Rattle.lease_proto.specs.declared.replies.Welcome.{Welcome}
 use Rattle.lease_proto.specs.declared.replies.Granted.{Granted}
 use Rattle.lease_proto.specs.declared.replies.Reply.{Reply}
@@ -11,7 +10,8 @@ use Rattle.lease_proto.specs.declared.replies.Reply.TheVariants as replies
 use Rattle.lease_client.specs.Answers.{answers_one}
 use Rattle.lease_client.specs.ClientState.{ClientState, IsSound, IsOwn}
 use Rattle.lease_client.specs.Replies.{accepts, accepted, got}
-use Rattle.lease_client.specs.Calls.{may_restart, restarted, refusal, is_of_held}
+use Rattle.lease_client.specs.Calls.{may_restart, restarted, is_of_held}
+use Rattle.lease_client.specs.Laws.{MovesAreInTurn}
 use Rattle.lease_client.specs.Runs.{Move, Restart, Send, Get, Makes}
 use Rattle.lease_client.proofs.SoundLemmas.{sound_sent}
 
@@ -34,38 +34,28 @@ none_is : {A : Type 0} (o : Option A) → is_some o ≡ false → o ≡ None
 none_is None is = refl
 none_is (Some x) is = absurd (false≢true (sym is))
 
-pub record MaySend (op : Op) (c : ClientState) : Type 0 where
-  pub opened : c.is_open ≡ true
-  pub idle : c.outstanding ≡ None
-  pub few : c.next ≤ 2 ^ 62
-
-pub may_send : (op : Op) (c : ClientState) → refusal op c ≡ None → MaySend op c
-may_send op c is =
-    let parts = none_of c.is_open (is_some c.outstanding) (is_of_held op c.held) (nat_lt (2 ^ 62) c.next) _ _ _ _ is in
-    record { opened = parts.0; idle = none_is c.outstanding parts.1; few = ltb-false (2 ^ 62) c.next parts.3 }
-
-pub record MayRestart (i : ℕ) (c : ClientState) : Type 0 where
-  pub above : c.incarnation < i
-  pub past : c.floor < i
-  pub within : i ≤ 2 ^ 62
-
-pub may_begin : (i : ℕ) (c : ClientState) → may_restart i c ≡ true → MayRestart i c
-may_begin i c is =
-    let parts = and_parts _ _ is in
-    let rest = and_parts _ _ parts.1 in
-    record { above = ltb-true _ _ parts.0; past = ltb-true _ _ rest.0; within = leb-true _ _ rest.1 }
+pub moves_in_turn : MovesAreInTurn
+moves_in_turn = record {
+  restart = λ i c is.
+      let parts = and_parts (nat_lt c.incarnation i) (nat_lt c.floor i && nat_le i (2 ^ 62)) is in
+      let rest = and_parts (nat_lt c.floor i) (nat_le i (2 ^ 62)) parts.1 in
+      (ltb-true c.incarnation i parts.0, ltb-true c.floor i rest.0, leb-true i (2 ^ 62) rest.1);
+  send = λ op c is.
+      let parts = none_of c.is_open (is_some c.outstanding) (is_of_held op c.held) (nat_lt (2 ^ 62) c.next) _ _ _ _ is in
+      (parts.0, none_is c.outstanding parts.1, ltb-false (2 ^ 62) c.next parts.3);
+}
 
 -- What is true of every client stays so.
 
-sound_restarted : (i : ℕ) (c : ClientState) → IsSound c → MayRestart i c → IsSound (restarted i c)
-sound_restarted i c is may = record {
+sound_restarted : (i : ℕ) (c : ClientState) → IsSound c → may_restart i c ≡ true → IsSound (restarted i c)
+sound_restarted i c is may = let turn = moves_in_turn.restart i c may in record {
   id = is.id;
-  incarnation = may.within;
+  incarnation = turn.2;
   first = omega arith;
   last = omega arith;
   begun = λ never. absurd (false≢true never);
   closed = λ shut. refl;
-  outstanding = (refl, refl, omega (arith, may.above), refl, refl);
+  outstanding = (refl, refl, omega (arith, turn.0), refl, refl);
 }
 
 welcomed : (w : Welcome) (c : ClientState) (o : Option Line) → answers_one (replies.Welcome w) o ≡ true → IsOwn c o
@@ -128,9 +118,9 @@ sound_accepted (replies.Again a) c is yes_it = idle c is
 sound_accepted (replies.Error e) c is yes_it = idle c is
 
 pub moves_keep_sound : (move : Move) (old new : ClientState) → IsSound old → Makes move old new → IsSound new
-moves_keep_sound (Restart i) old new is makes = subst IsSound (sym makes.1) (sound_restarted i old is (may_begin i old makes.0))
+moves_keep_sound (Restart i) old new is makes = subst IsSound (sym makes.1) (sound_restarted i old is makes.0)
 moves_keep_sound (Send op) old new is makes =
-    let may = may_send op old makes.0 in
-    subst IsSound (sym makes.1) (sound_sent op old _ _ is may.opened may.few refl refl)
+    let turn = moves_in_turn.send op old makes.0 in
+    subst IsSound (sym makes.1) (sound_sent op old _ _ is turn.0 turn.2 refl refl)
 moves_keep_sound (Get reply) old new is makes =
     subst IsSound (sym makes) (got_by IsSound reply old (λ accept. sound_accepted reply old is accept) (λ _. is))

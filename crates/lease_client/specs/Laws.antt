@@ -1,7 +1,8 @@
 -- What holds of every client.
-use Rattle.std.specs.Prelude.{◌≡◌, ◌≢◌, ◌⊎◌, ◌↔◌, ℕ, ◌+◌, true, List, [], Some}
+use Rattle.std.specs.Prelude.{◌≡◌, ◌≢◌, ◌⊎◌, ◌↔◌, ℕ, ◌+◌, ◌<◌, ◌≤◌, ◌^◌, true, List, [], None, Some}
 use Rattle.std.specs.List.{Contains}
 use Rattle.lease_terms.specs.Requests.{RequestId}
+use Rattle.lease_proto.specs.declared.lines.Op.{Op}
 use Rattle.lease_proto.specs.declared.lines.Op.TheVariants as ops
 use Rattle.lease_proto.specs.declared.replies.Reply.{Reply}
 use Rattle.lease_proto.specs.declared.replies.Reply.TheVariants as replies
@@ -9,12 +10,27 @@ use Rattle.lease_proto.specs.Requests.{client_named, incarnation_named, request_
 use Rattle.lease_client.specs.declared.held.HeldSegment.{HeldSegment}
 use Rattle.lease_client.specs.ClientState.{ClientState, IsSound}
 use Rattle.lease_client.specs.Replies.{accepts, got}
-use Rattle.lease_client.specs.Runs.{Move, Restart, Send, Get, Makes, Run, IsHeldSince}
+use Rattle.lease_client.specs.Calls.{may_restart, refusal}
+use Rattle.lease_client.specs.Runs.{Move, Restart, Send, Get, Makes, Run, IsHeldSince, MayBeSent}
 
 -- what is true of every client stays so
 abbrev pub MovesKeepSound : Type 0
 MovesKeepSound =
     (move : Move) (old new : ClientState) → IsSound old → Makes move old new → IsSound new
+
+-- a client begins an incarnation above its own, and sends a request only while it is open and
+-- nothing is outstanding
+pub record MovesAreInTurn : Type 0 where
+  pub restart : (i : ℕ) (c : ClientState) → may_restart i c ≡ true
+      → (c.incarnation < i) × (c.floor < i) × (i ≤ 2 ^ 62)
+  pub send : (op : Op) (c : ClientState) → refusal op c ≡ None
+      → (c.is_open ≡ true) × (c.outstanding ≡ None) × (c.next ≤ 2 ^ 62)
+
+-- a request that may be on its way may be so ever after
+abbrev pub SentStaysSent : Type 0
+SentStaysSent =
+    (id : RequestId) (op : Op) (move : Move) (old new : ClientState) → IsSound old
+    → Makes move old new → MayBeSent id op old → MayBeSent id op new
 
 -- a reply to another client, to another incarnation, or to another request than the last changes
 -- nothing

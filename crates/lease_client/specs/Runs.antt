@@ -1,5 +1,8 @@
 -- What a client does one after the other, and when it holds a segment.
-use Rattle.std.specs.Prelude.{◌≡◌, ℕ, true, List, [], ◌∷◌, ◌++◌, None}
+use Rattle.std.specs.Prelude.{◌≡◌, ◌⊎◌, ℕ, ◌+◌, ◌<◌, true, List, [], ◌∷◌, ◌++◌, Option, Some, None}
+use Rattle.lease_terms.specs.Requests.{RequestId}
+use Rattle.lease_proto.specs.declared.lines.Line.{Line}
+use Rattle.lease_proto.specs.declared.lines.Line.TheVariants as lines
 use Rattle.lease_proto.specs.declared.lines.Op.{Op}
 use Rattle.lease_proto.specs.declared.lines.Op.TheVariants as ops
 use Rattle.lease_proto.specs.declared.replies.Granted.{Granted}
@@ -54,3 +57,17 @@ pub record IsHeldSince (s : HeldSegment) (run : List Move) (start end : ClientSt
   pub accepted : answers_one (replies.Granted grant) at.outstanding ≡ true
   pub of_segment : segment_of grant ≡ s
   pub kept : Keeps s after (got (replies.Granted grant) at) end
+
+-- how many lines wait for their replies
+abbrev pub waiting : Option Line → ℕ
+waiting None = 0
+waiting (Some line) = 1
+
+-- the request has a number that the client sent, and its reply isn't waited for any more
+abbrev pub IsDone : RequestId → ClientState → Type 0
+IsDone id c = (id.incarnation < c.incarnation)
+    ⊎ ((id.incarnation ≡ c.incarnation) × (id.number + waiting c.outstanding < c.next))
+
+-- a request of the client's that asks for this may be on its way
+abbrev pub MayBeSent : RequestId → Op → ClientState → Type 0
+MayBeSent id op c = IsDone id c ⊎ (c.outstanding ≡ Some (lines.Request id op))

@@ -1,10 +1,16 @@
 //! Laws of the definitions that contracts cite. Each function does nothing: its contract is the
 //! law. `proofs/LawProofs.antt` hands their proofs on.
-ghost use Rattle.lease_client.specs.Laws.{MovesKeepSound, LateRepliesChangeNothing, RepliesCountOnce, HeldChangesOnlySo, HeldIsSinceGrant};
+ghost use Rattle.lease_client.specs.Laws.{MovesKeepSound, MovesAreInTurn, SentStaysSent, LateRepliesChangeNothing, RepliesCountOnce, HeldChangesOnlySo, HeldIsSinceGrant};
 
-/// What is true of every client stays so; a late reply changes nothing, and none counts twice.
-pub fn reply_laws()
+/// What is true of every client stays so, and when it may restart and send.
+pub fn move_laws()
     ensures sound { MovesKeepSound }
+    ensures in_turn { MovesAreInTurn }
+    ensures sent { SentStaysSent }
+{}
+
+/// A late reply changes nothing, and none counts twice.
+pub fn reply_laws()
     ensures late { LateRepliesChangeNothing }
     ensures once { RepliesCountOnce }
 {}

@@ -24,4 +24,4 @@ mod tests;
 pub use clients::{Client, Got};
 pub use faults::{NotGreater, Nothing, SendFault};
 pub use held::HeldSegment;
-pub use laws::{held_laws, reply_laws};
+pub use laws::{held_laws, move_laws, reply_laws};
