@@ -5,9 +5,9 @@
 //! own. `base` is for `deed_core` and `refusing_deed`, `tables` for `deed_table`. `arenas` has rows
 //! of calls of an arena, over plain deeds and over deeds one of whose splits is refused; `slabs` the
 //! same of a slab cache; `magazines` runs over a CPU's cache and its depot. `books` has rows of
-//! requests to a book of leases, `lines` has lines, replies and streams of the protocol, `desk`
-//! what a desk answers, and `serving` streams of lines, failing ones too. `seat_deeds` has an arena
-//! over the deeds of running threads.
+//! requests to a book of leases, `lines` has lines, replies and streams of the protocol, `client`
+//! what a client's core says to replies, `desk` what a desk answers, and `serving` streams of lines,
+//! failing ones too. `seat_deeds` has an arena over the deeds of running threads.
 #![tactic(auto)]
 
 #[cfg(test)]
@@ -16,6 +16,8 @@ mod arenas;
 mod base;
 #[cfg(test)]
 mod books;
+#[cfg(test)]
+mod client;
 #[cfg(test)]
 mod desk;
 #[cfg(test)]

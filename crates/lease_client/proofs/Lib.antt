@@ -1,0 +1,5 @@
+pub mod SoundLemmas
+pub mod ReplyLemmas
+pub mod OnceLemmas
+pub mod HeldLemmas
+pub mod LawProofs

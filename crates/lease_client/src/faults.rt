@@ -1,0 +1,35 @@
+//! Why a client doesn't do what it was told.
+use lease_proto::Op;
+use thiserror::Error;
+
+/// The incarnation isn't above the client's and each that an accepted `old` named, or it is above
+/// 2^62.
+#[derive(Clone, Copy, Debug, PartialEq, Eq, Error)]
+#[error("not a greater incarnation")]
+pub struct NotGreater;
+
+/// No line waits for its reply.
+#[derive(Clone, Copy, Debug, PartialEq, Eq, Error)]
+#[error("nothing is outstanding")]
+pub struct Nothing;
+
+/// Why an operation isn't sent; it is handed back, and the client is as before. The reasons stand
+/// in the order in which they are looked for.
+#[derive(Clone, Copy, Debug, PartialEq, Eq, Error)]
+pub enum SendFault {
+    /// No `welcome` has come yet to the client's hello, or an `old` came after it.
+    #[error("not open")]
+    NotOpen(Op),
+    /// The last request waits for its reply.
+    #[error("busy")]
+    Busy(Op),
+    /// A release of what the client doesn't hold.
+    #[error("not held")]
+    NotHeld(Op),
+    /// The number 2^62 was sent: the client has to restart.
+    #[error("no number is left")]
+    Exhausted(Op),
+    /// Out of memory: there is no room for the segment that a lease may be granted.
+    #[error("out of memory")]
+    NoMemory(Op),
+}
