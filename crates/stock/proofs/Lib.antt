@@ -1,0 +1,9 @@
+mod Members
+mod Moving
+mod ArenaSteps
+mod Exporting
+mod ArenaCalls
+mod Setting
+mod CacheSteps
+mod SlabCalls
+mod DepotCalls

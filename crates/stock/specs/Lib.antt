@@ -1,0 +1,5 @@
+pub mod Spaces
+pub mod Stocks
+pub mod Accounts
+pub mod Steps
+pub mod Answers
