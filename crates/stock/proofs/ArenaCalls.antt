@@ -2,6 +2,7 @@
 use Rattle.std.proofs.Common.{◌≡◌, ℕ, ◌+◌, ◌≤◌, refl, sym, subst, ap, ◌∙◌, inl, List, [], ◌∷◌, length, set, All, Option, Some, None, Result, Ok, Err, IfOk, OnOk, IsOk, IfSome, Contains, arith}
 use Rattle.std.specs.Prelude.{slice_get, sum_by, option_to_list}
 use Rattle.std.proofs.lemmas.Option.{slice_get_within}
+use Rattle.std.specs.Option.{option_map}
 use Rattle.deed_core.specs.Tag.{Tag}
 use Rattle.deed_core.specs.Weights.{Gains, Loses, of_direct, of_cached}
 use Rattle.deed_core.specs.declared.requests.Request.{Request}
@@ -12,7 +13,7 @@ use Rattle.tag_arena.specs.declared.faults.SpanRefused.{SpanRefused}
 use Rattle.tag_arena.specs.ArenaState.{ArenaState, IsSound, tags_of}
 use Rattle.tag_arena.specs.Calls.{RefusesSpan, IsTagged}
 use Rattle.deed_core.proofs.LawProofs.{slice_get_one}
-use Rattle.tag_arena.specs.Outcomes.{KeepsSetup, CarveOf, FreeOf, ImportOf, AddOf}
+use Rattle.tag_arena.specs.Outcomes.{KeepsSetup, CarveOf, FreeOf, ImportOf, AddOf, RemoveOf}
 use Rattle.deed_core.specs.Holding.{Holding}
 use Rattle.stock.specs.Spaces.{SpaceState, with_arena}
 use Rattle.stock.specs.Stocks.{IsFrom, IsStock}
@@ -98,6 +99,19 @@ module _ (spaces items : List SpaceState) (k : ℕ) (s : SpaceState) (o : Opens 
         (λ f. omega (arith, ap (λ (a : ArenaState). sum_by f (tags_of a)) of.2, ap (sum_by f) imported))
         (λ f. refl)
 
+    -- an owned span was taken out, or none is wholly free
+    pub remove_moves : (r : Option Holding) → RemoveOf s.arena r new → new.imported ≡ s.arena.imported → IfSome r (λ h. Loses s.arena.owned new.owned h) → Moves spaces [] now []
+    remove_moves None of imported less = unchanged [] of.1
+    remove_moves (Some h) of imported less = moved [] []
+        (record {
+          setup = kept;
+          sound = sound;
+          imported = from_same imported;
+          owned = λ p from. absurd (let none = ap (sum_by (λ (x : Holding). 1)) ((stock k s o.at).owned p from) in omega (arith, none, less (λ x. 1)));
+        })
+        (λ f. omega (arith, ap (λ (a : ArenaState). sum_by f (tags_of a)) of.1, ap (sum_by f) imported))
+        (λ f. refl)
+
   -- the arena is the one that the segment names
   pub free_in : (t : Tag) (r : Result (Option Tag) Tag) → k ≡ t.arena → FreeOf s.arena t r new → FreeIn spaces t r now
   free_in t r here of = inl (subst (λ i. OnArena i (λ a b. FreeOf a t r b) spaces now) here (on_arena (λ a b. FreeOf a t r b) of))
@@ -128,3 +142,7 @@ none_never spaces stock t rest route a past =
     let in_t = out_tagged spaces stock t rest route a in
     let within = slice_get_within spaces t.arena in_t.space in_t.at in
     omega (arith, within, past)
+
+pub removed_loses : {D : Type 0} (holding : D → Holding) (old new : List Holding) (r : Option D) → IfSome r (λ d. Loses old new (holding d)) → IfSome (option_map holding r) (λ h. Loses old new h)
+removed_loses holding old new None less = tt
+removed_loses holding old new (Some d) less = less

@@ -6,7 +6,7 @@ use Rattle.std.proofs.lemmas.List.Sums.{sum_by-append}
 use Rattle.deed_core.specs.Tag.{Tag}
 use Rattle.deed_core.specs.Weights.{of_direct, of_cached}
 use Rattle.deed_core.proofs.LawProofs.{written, sum_set, map_set_same, slice_get_here, slice_get_one, slice_get_some}
-use Rattle.stock.specs.Spaces.{SpaceState, QuantumCacheState, with_cache, HasCache, slab_size_of, plan_of, plans_of, quantum_of, quanta_of}
+use Rattle.stock.specs.Spaces.{SpaceState, QuantumCacheState, with_cache, IsCacheAt, HasCache, slab_size_of, plan_of, plans_of, quantum_of, quanta_of}
 use Rattle.stock.specs.Stocks.{IsQuantumCache, IsSpace, IsStock}
 use Rattle.stock.specs.Accounts.{allocated, imported, slabs_in, chunks_in, rounds_in, slabs, chunks, rounds, Frames}
 use Rattle.stock.proofs.Moving.{Moves, is_written}
@@ -30,6 +30,13 @@ pub record OpensCache (spaces items : List SpaceState) (k : ℕ) (s : SpaceState
 
 pub opens_cache : (spaces items : List SpaceState) (k : ℕ) (s : SpaceState) (j : ℕ) (c read : QuantumCacheState) → moving.Opens spaces items k s → j < length s.caches → read ≡ get_or s.caches j read → c ≡ read → OpensCache spaces items k s j c
 opens_cache spaces items k s j c read o within at_read view = record { opened = o; among = slice_get_here s.caches j read within at_read ∙ ap Some (sym view) }
+
+-- what holds of the cache that was opened holds of the one at the place
+pub at_cache : (spaces items : List SpaceState) (k : ℕ) (s : SpaceState) (j : ℕ) (c : QuantumCacheState) → OpensCache spaces items k s j c → (P : QuantumCacheState → Type 0) → P c → (x : QuantumCacheState) → IsCacheAt spaces k j x → P x
+at_cache spaces items k s j c o P here x at =
+    let space : at.space ≡ s = slice_get_one spaces k at.space s at.at o.opened.at in
+    let among : slice_get s.caches j ≡ Some x = ap (λ (z : SpaceState). slice_get z.caches j) (sym space) ∙ at.among in
+    subst P (slice_get_one s.caches j c x o.among among) here
 
 module _ (spaces : List SpaceState) (k : ℕ) (s : SpaceState) (at : slice_get spaces k ≡ Some s) (j : ℕ) (c : QuantumCacheState) (among : slice_get s.caches j ≡ Some c) (new : QuantumCacheState) where
   abbrev now : List SpaceState

@@ -1,9 +1,10 @@
 -- What the accounts say of a Direct segment that is out: it stands allocated in the arena that it
 -- names, beside what that arena's children imported and its slabs are cut from.
-use Rattle.std.proofs.Common.{◌≡◌, ◌≢◌, ℕ, ◌+◌, ◌%◌, ◌<◌, ◌≤◌, true, false, cond, nat_eq, refl, sym, subst, ap, ◌∙◌, List, ◌∷◌, ◌++◌, map, Any, Contains, Some, arith}
+use Rattle.std.proofs.Common.{get_or, ◌≡◌, ◌≢◌, ℕ, ◌+◌, ◌%◌, ◌<◌, ◌≤◌, true, false, cond, nat_eq, refl, sym, subst, ap, ◌∙◌, List, ◌∷◌, ◌++◌, map, Any, Contains, Some, arith}
 use Rattle.std.specs.Prelude.{slice_get, sum_by}
 use Rattle.std.proofs.Math.Nat.{mod-mod_of_dvd, dvd_of_mod-eq-zero, zero-mod}
 use Rattle.std.proofs.lemmas.Bool.Decides.{nat_tests}
+use Rattle.std.proofs.lemmas.Option.{slice_get-get_or}
 use Rattle.std.proofs.lemmas.List.Elements.{All-contains}
 use Rattle.std.proofs.lemmas.List.Sums.{sum_by-cons}
 use Rattle.deed_core.specs.Extent.{Overlap}
@@ -12,12 +13,13 @@ use Rattle.deed_core.specs.Tag.{Tag}
 use Rattle.deed_core.specs.Covering.{covers_tag}
 use Rattle.deed_core.specs.Weights.{of_direct, of_arena, one_at}
 use Rattle.deed_core.specs.declared.segments.Route.TheVariants.{Direct}
-use Rattle.deed_core.proofs.LawProofs.{overlap_covers_twice, counts_where_it_is, one_at_itself, sum_some, sum_at, sum_none, part_of_sum, contained_in_sum, mapped_contains, contains_mapped, slice_get_mapped}
+use Rattle.deed_core.proofs.LawProofs.{contains_at, overlap_covers_twice, counts_where_it_is, one_at_itself, sum_some, sum_at, sum_none, part_of_sum, contained_in_sum, mapped_contains, contains_mapped, slice_get_mapped}
 use Rattle.tag_arena.specs.ArenaState.{ArenaState, spans_of, ranges_of, tags_of, direct, OnQuantum}
 use Rattle.tag_arena.proofs.LawProofs.{allocated_stand, tags_weigh, spans_once}
 use Rattle.slab_layer.specs.Slab.{SlabState}
 use Rattle.slab_layer.specs.Cache.{span_tag, span_tags}
 use Rattle.slab_layer.specs.Moves.{OverlapsSlab}
+use Rattle.tag_arena.specs.Calls.{IsClear}
 use Rattle.stock.specs.Spaces.{SpaceState, QuantumCacheState, quantum_of, quanta_of}
 use Rattle.stock.specs.Stocks.{IsFrom, IsSpace, IsStock}
 use Rattle.stock.specs.Accounts.{allocated, imported, slabs_in, slabs, Accounts}
@@ -141,6 +143,12 @@ module _ (spaces : List SpaceState) (stock : IsStock spaces) where
           alone x has = apart_from x (subst (λ o. IsFrom o x) source (All-contains (IsFrom c.source) c.arena.imported x is.imported has))
               (tagged_grid x (imported_tagged (t ∷ rest) accounts child c at x has)).0
               (λ f. omega (arith, beside f, contained_in_sum f c.arena.imported x has, part_of_sum (imported f) spaces child c at))
+
+      pub clear_for_child : IsClear c.arena t.holding.range
+      clear_for_child i d within overlap =
+          let xs : List Holding = spans_of c.arena in
+          let has = contains_at xs i (get_or xs i d) (slice_get-get_or xs i d within) in
+          clear_of_child (has.0, get_or xs i d, has.1, has.2, overlap)
 
       -- and it is in whole quanta of the child
       pub aligned_for_child : OnQuantum c.arena.quantum t.holding.range

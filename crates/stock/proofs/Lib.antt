@@ -7,3 +7,8 @@ mod Setting
 mod CacheSteps
 mod SlabCalls
 mod DepotCalls
+mod Lengths
+mod OnePlaces
+mod Apart
+mod FrameLaws
+pub mod LawProofs

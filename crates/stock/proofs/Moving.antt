@@ -2,7 +2,7 @@
 use Rattle.std.proofs.Common.{◌≡◌, ℕ, ◌<◌, sym, subst, ap, ◌∙◌, List, length, get_or, set, Some}
 use Rattle.std.specs.Prelude.{slice_get}
 use Rattle.deed_core.specs.Tag.{Tag}
-use Rattle.deed_core.proofs.LawProofs.{slice_get_here}
+use Rattle.deed_core.proofs.LawProofs.{slice_get_one, slice_get_here}
 use Rattle.stock.specs.Spaces.{SpaceState, plans_of}
 use Rattle.stock.specs.Stocks.{IsStock}
 use Rattle.stock.specs.Accounts.{Frames}
@@ -30,3 +30,7 @@ module _ (spaces items : List SpaceState) (k : ℕ) (s : SpaceState) (o : Opens 
 
   pub moves_there : (given answered : List Tag) → Moves spaces given (set spaces k x) answered → Moves spaces given (set items k x) answered
   moves_there given answered m = subst (λ (xs : List SpaceState). Moves spaces given xs answered) (sym is_written) m
+
+-- what holds of the space that was opened holds of the one at the place
+pub at_space : (spaces items : List SpaceState) (k : ℕ) (s : SpaceState) → Opens spaces items k s → (P : SpaceState → Type 0) → P s → (x : SpaceState) → slice_get spaces k ≡ Some x → P x
+at_space spaces items k s o P here x at = subst P (slice_get_one spaces k s x o.at at) here

@@ -3,3 +3,5 @@ pub mod Stocks
 pub mod Accounts
 pub mod Steps
 pub mod Answers
+pub mod Sums
+pub mod Laws

@@ -15,9 +15,12 @@
 
 mod arena_steps;
 mod depot_steps;
+mod laws;
+mod reports;
 mod slab_steps;
 mod spaces;
 mod stocks;
 
+pub use laws::{apart_laws, frame_laws, never_refused_laws, one_place_laws};
 pub use spaces::{QuantumCache, Space};
 pub use stocks::Stock;

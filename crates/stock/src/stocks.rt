@@ -3,7 +3,8 @@ ghost use Rattle.std.specs.Prelude.{◌≡◌, ◌+◌, ◌^◌, ◌<◌, [], �
 ghost use Rattle.std.specs.Prelude.{OnOk, OnErr};
 ghost use Rattle.std.specs.Int.{IsPowerOfTwo};
 ghost use Rattle.magazine_layer.specs.Magazines.{IsSize};
-ghost use Rattle.tag_arena.specs.Outcomes.{AddOf};
+ghost use Rattle.std.specs.Option.{option_map};
+ghost use Rattle.tag_arena.specs.Outcomes.{AddOf, RemoveOf};
 ghost use Rattle.stock.specs.Spaces.{SpaceState, plans_of};
 ghost use Rattle.stock.specs.Stocks.{IsStock};
 ghost use Rattle.stock.specs.Accounts.{Accounts, Frames};
@@ -102,6 +103,18 @@ impl<D: Deed> Stock<D> {
     {
         let space = &mut self.spaces[arena];
         space.arena.add_span(deed)
+    }
+
+    /// Takes the lowest owned span of an arena that is wholly free out. It takes no memory.
+    pub fn remove_owned(&mut self, arena: usize) -> Option<D>
+        requires within { arena < length self.old }
+        ensures removed { OnArena arena (λ a b. RemoveOf a (option_map D.holding result) b)
+            self.old self.new }
+        ensures frame { Frames self.old [] self.new [] }
+        ensures fixed { plans_of self.new ≡ plans_of self.old }
+    {
+        let space = &mut self.spaces[arena];
+        space.arena.remove_owned()
     }
 
     /// Adds the next quantum cache to an arena: the first has chunks of one quantum. Its slabs have
