@@ -1,0 +1,23 @@
+-- What the proofs of the crates above cite, and all that they cite, of this crate: the laws that its
+-- law functions state.
+use Rattle.std.proofs.Common.{◌≡◌, sym, ap, ◌∙◌}
+use Rattle.std.specs.Prelude.{slice_get}
+use Rattle.stock.specs.Laws.{AlwaysTagged, AlwaysOut, AlwaysImports, AlwaysSlab}
+use Rattle.stock.proofs.Exporting.{out_tagged, clear_for_child, aligned_for_child, clear_of_slabs}
+use Rattle.stock.proofs.SlabCalls as chunks
+pub use Rattle.stock.proofs.OnePlaces.{one_place, adds_up}
+pub use Rattle.stock.proofs.Apart.{out_is_apart}
+pub use Rattle.stock.proofs.FrameLaws.{out_weighs, frames_then, pops, pushes, changes}
+
+pub always_tagged : AlwaysTagged
+always_tagged spaces t rest accounted route = out_tagged spaces accounted.stock t rest route accounted.accounts
+
+pub always_out : AlwaysOut
+always_out spaces t k rest accounted route = chunks.always_out spaces accounted.stock t k rest route accounted.accounts
+
+pub always_imports : AlwaysImports
+always_imports spaces span rest accounted route k s at source =
+    (clear_for_child spaces accounted.stock span rest route accounted.accounts k s at source, aligned_for_child spaces accounted.stock span rest route accounted.accounts k s at source)
+
+pub always_slab : AlwaysSlab
+always_slab spaces span rest accounted route j c there = clear_of_slabs spaces accounted.stock span rest route accounted.accounts there.space j c there.at there.among

@@ -1,0 +1,14 @@
+mod Members
+mod Moving
+mod ArenaSteps
+mod Exporting
+mod ArenaCalls
+mod Setting
+mod CacheSteps
+mod SlabCalls
+mod DepotCalls
+mod Lengths
+mod OnePlaces
+mod Apart
+mod FrameLaws
+pub mod LawProofs

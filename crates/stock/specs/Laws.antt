@@ -1,0 +1,97 @@
+-- What follows from the accounts of a stock.
+use Rattle.std.specs.Prelude.{◌≡◌, ℕ, ◌+◌, ◌≤◌, List, ◌∷◌, ◌++◌, AllPairs, slice_get, Some, None}
+use Rattle.deed_core.specs.Extent.{Covers}
+use Rattle.deed_core.specs.Tag.{Tag}
+use Rattle.deed_core.specs.Covering.{covering_held, units_held}
+use Rattle.deed_core.specs.Weights.{Gains, Loses, WeighSame}
+use Rattle.deed_core.specs.declared.segments.Route.TheVariants.{Direct, Cached}
+use Rattle.tag_arena.specs.ArenaState.{spans_of, OnQuantum}
+use Rattle.tag_arena.specs.Calls.{IsClear}
+use Rattle.slab_layer.specs.Moves.{OverlapsSlab}
+use Rattle.magazine_layer.specs.Magazines.{CpuCacheState, cache_rounds}
+use Rattle.stock.specs.Spaces.{SpaceState, QuantumCacheState, IsCacheAt}
+use Rattle.stock.specs.Accounts.{Accounts, IsAccounted, Frames}
+use Rattle.stock.specs.Steps.{IsTaggedIn, IsOutOf}
+use Rattle.stock.specs.Sums.{Out, all_out, places_of, all_places, total, lengths_of}
+
+-- each unit of an arena's spans is in one place, and no other unit in any
+abbrev pub OnePlace : Type 0
+OnePlace = (spaces : List SpaceState) (out : Out) → IsAccounted spaces (all_out out)
+    → (k : ℕ) (s : SpaceState) → slice_get spaces k ≡ Some s → (u : ℕ)
+    → (covering_held u (all_places (places_of spaces out s)) ≡ covering_held u (spans_of s.arena))
+    × (covering_held u (spans_of s.arena) ≤ 1)
+
+-- so the six sums of an arena add up to the units of its spans
+abbrev pub AddsUp : Type 0
+AddsUp = (spaces : List SpaceState) (out : Out) → IsAccounted spaces (all_out out)
+    → (k : ℕ) (s : SpaceState) → slice_get spaces k ≡ Some s
+    → total (lengths_of (places_of spaces out s)) ≡ units_held (spans_of s.arena)
+
+-- a Direct segment that is out stands in its arena, and can be freed
+abbrev pub AlwaysTagged : Type 0
+AlwaysTagged = (spaces : List SpaceState) (t : Tag) (rest : List Tag)
+    → IsAccounted spaces (t ∷ rest) → t.route ≡ Direct → IsTaggedIn spaces t
+
+-- a chunk that is out of all parts is out of the slabs that it names, and can be put back
+abbrev pub AlwaysOut : Type 0
+AlwaysOut = (spaces : List SpaceState) (t : Tag) (k : ℕ) (rest : List Tag)
+    → IsAccounted spaces (t ∷ rest) → t.route ≡ Cached k
+    → (j : ℕ) × (k ≡ j + 1) × IsOutOf spaces j t
+
+-- a span of its source that is out overlaps no span of the arena that imports it, and is in whole
+-- quanta of that arena
+abbrev pub AlwaysImports : Type 0
+AlwaysImports = (spaces : List SpaceState) (span : Tag) (rest : List Tag)
+    → IsAccounted spaces (span ∷ rest) → span.route ≡ Direct
+    → (k : ℕ) (s : SpaceState) → slice_get spaces k ≡ Some s → s.source ≡ Some span.arena
+    → IsClear s.arena span.holding.range × OnQuantum s.arena.quantum span.holding.range
+
+-- a span that is out overlaps no slab of its arena's caches
+abbrev pub AlwaysSlab : Type 0
+AlwaysSlab = (spaces : List SpaceState) (span : Tag) (rest : List Tag)
+    → IsAccounted spaces (span ∷ rest) → span.route ≡ Direct
+    → (j : ℕ) (c : QuantumCacheState) → IsCacheAt spaces span.arena j c → ¬ OverlapsSlab span c.slab
+
+-- the arena at the top of the chain of sources from the arena at the place
+pub data HasTop (spaces : List SpaceState) : ℕ → ℕ → Type 0 where
+  root : (k : ℕ) (s : SpaceState) → slice_get spaces k ≡ Some s → s.source ≡ None
+      → HasTop spaces k k
+  child : (k p top : ℕ) (s : SpaceState) → slice_get spaces k ≡ Some s → s.source ≡ Some p
+      → HasTop spaces p top → HasTop spaces k top
+
+-- where the segments' arenas have one top, no unit is in both
+abbrev pub AreApart : List SpaceState → Tag → Tag → Type 0
+AreApart spaces x y = (top : ℕ) → HasTop spaces x.arena top → HasTop spaces y.arena top
+    → (u : ℕ) → Covers x.holding.range u → ¬ Covers y.holding.range u
+
+-- no two segments that are out overlap, be one's arena the other's source
+abbrev pub OutIsApart : Type 0
+OutIsApart = (spaces : List SpaceState) (out : List Tag) → IsAccounted spaces out
+    → AllPairs (AreApart spaces) out
+
+-- where the segments are that are out doesn't matter
+abbrev pub OutWeighs : Type 0
+OutWeighs = (spaces : List SpaceState) (out left : List Tag) → WeighSame out left
+    → Accounts spaces out → Accounts spaces left
+
+-- steps one after another are a step
+abbrev pub FramesThen : Type 0
+FramesThen = (first mid last : List SpaceState) (given between answered : List Tag)
+    → Frames first given mid between → Frames mid between last answered
+    → Frames first given last answered
+
+-- a CPU takes a round, gives one, or changes its magazines: only what is out is weighed anew
+abbrev pub Pops : Type 0
+Pops = (spaces : List SpaceState) (old new : CpuCacheState) (t : Tag)
+    → Loses (cache_rounds old) (cache_rounds new) t
+    → Frames spaces (cache_rounds old) spaces (t ∷ cache_rounds new)
+
+abbrev pub Pushes : Type 0
+Pushes = (spaces : List SpaceState) (old new : CpuCacheState) (t : Tag)
+    → Gains (cache_rounds old) (cache_rounds new) t
+    → Frames spaces (t ∷ cache_rounds old) spaces (cache_rounds new)
+
+abbrev pub Changes : Type 0
+Changes = (spaces : List SpaceState) (old new : CpuCacheState)
+    → WeighSame (cache_rounds old) (cache_rounds new)
+    → Frames spaces (cache_rounds old) spaces (cache_rounds new)

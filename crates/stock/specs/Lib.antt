@@ -1,0 +1,7 @@
+pub mod Spaces
+pub mod Stocks
+pub mod Accounts
+pub mod Steps
+pub mod Answers
+pub mod Sums
+pub mod Laws

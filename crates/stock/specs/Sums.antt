@@ -1,0 +1,77 @@
+-- Where the units of an arena are.
+use Rattle.std.specs.Prelude.{ℕ, ◌+◌, List, ◌++◌, map, filter, flat_map, sum_by}
+use Rattle.deed_core.specs.Holding.{Holding}
+use Rattle.deed_core.specs.Tag.{Tag}
+use Rattle.deed_core.specs.Covering.{units_in}
+use Rattle.deed_core.specs.Selections.{is_of_arena}
+use Rattle.slab_layer.specs.Cache.{deeds_of}
+use Rattle.magazine_layer.specs.Depots.{depot_rounds}
+use Rattle.stock.specs.Spaces.{SpaceState}
+
+-- the segments that are out of all parts: in hands, leased, and the rounds of the CPUs
+pub record Out : Type 0 where
+  pub hands : List Tag
+  pub leases : List Tag
+  pub rounds : List Tag
+
+abbrev pub all_out : Out → List Tag
+all_out out = out.hands ++ (out.leases ++ out.rounds)
+
+-- what the segments cover
+abbrev pub held : List Tag → List Holding
+held segments = map (λ t. t.holding) segments
+
+-- what those of this arena cover
+abbrev pub held_of : ℕ → List Tag → List Holding
+held_of k segments = held (filter (is_of_arena k) segments)
+
+-- the ranges of an arena, by where they are: free, at home in a slab, in a magazine of a depot or of
+-- a CPU, a child's span, leased, or in a hand
+pub record Places : Type 0 where
+  pub free : List Holding
+  pub slab : List Holding
+  pub magazine : List Holding
+  pub exported : List Holding
+  pub leased : List Holding
+  pub hand : List Holding
+
+abbrev pub places_of : List SpaceState → Out → SpaceState → Places
+places_of spaces out s = record {
+  free = s.arena.free;
+  slab = flat_map (λ c. deeds_of c.slab) s.caches;
+  magazine =
+      flat_map (λ c. held (depot_rounds c.depot)) s.caches ++ held_of s.arena.id out.rounds;
+  exported = flat_map (λ x. held_of s.arena.id x.arena.imported) spaces;
+  leased = held_of s.arena.id out.leases;
+  hand = held_of s.arena.id out.hands;
+}
+
+abbrev pub all_places : Places → List Holding
+all_places p = p.free ++ (p.slab ++ (p.magazine ++ (p.exported ++ (p.leased ++ p.hand))))
+
+-- six numbers of an arena
+pub record Sums : Type 0 where
+  pub free : ℕ
+  pub slab : ℕ
+  pub magazine : ℕ
+  pub exported : ℕ
+  pub leased : ℕ
+  pub hand : ℕ
+
+abbrev pub total : Sums → ℕ
+total x = x.free + (x.slab + (x.magazine + (x.exported + (x.leased + x.hand))))
+
+-- what lies in each place weighs
+abbrev pub sums_of : (Holding → ℕ) → Places → Sums
+sums_of f p = record {
+  free = sum_by f p.free;
+  slab = sum_by f p.slab;
+  magazine = sum_by f p.magazine;
+  exported = sum_by f p.exported;
+  leased = sum_by f p.leased;
+  hand = sum_by f p.hand;
+}
+
+-- the units in each place: the sums of an audit
+abbrev pub lengths_of : Places → Sums
+lengths_of p = sums_of units_in p

@@ -1,0 +1,122 @@
+//! The events on the depot of a quantum cache: swap_full, swap_empty (with an empty magazine of the
+//! depot's or a fresh one), note (a tick or a resize) and depot_reap.
+ghost use Rattle.std.specs.Prelude.{◌≡◌, [], ◌∷◌};
+ghost use Rattle.std.specs.Option.{option_to_list};
+ghost use Rattle.magazine_layer.specs.Magazines.{IsSize, BothEmpty, BothFull, cache_rounds};
+ghost use Rattle.magazine_layer.specs.Depots.{after_tick};
+ghost use Rattle.magazine_layer.specs.Calls.{SwapFullOf, SwapEmptyOf, PutFullOf, ResizeOf};
+ghost use Rattle.magazine_layer.specs.Calls.{DepotReapOf};
+ghost use Rattle.stock.specs.Spaces.{HasCache, plans_of};
+ghost use Rattle.stock.specs.Accounts.{Frames};
+ghost use Rattle.stock.specs.Steps.{OnDepot, AreRoundsOf};
+
+use crate::stocks::Stock;
+use deed_core::{Deed, Segment};
+use magazine_layer::{CpuCache, EmptyFault, FullFault, Magazine, NotGreater, PutFullFault};
+
+impl<D: Deed> Stock<D> {
+    /// Gives a CPU whose magazines are both empty a full one of the depot's. It takes no memory.
+    pub fn swap_full(
+        &mut self,
+        arena: usize,
+        cache: usize,
+        cpu: &mut CpuCache<D>,
+    ) -> Result<(), FullFault>
+        requires has { HasCache self.old arena cache }
+        requires empty { BothEmpty cpu.old }
+        ensures swapped { OnDepot arena cache (λ a b. SwapFullOf cpu.old a result cpu.new b)
+            self.old self.new }
+        ensures rounds { AreRoundsOf arena cache cpu.new }
+        ensures frame { Frames self.old (cache_rounds cpu.old) self.new (cache_rounds cpu.new) }
+        ensures fixed { plans_of self.new ≡ plans_of self.old }
+    {
+        let space = &mut self.spaces[arena];
+        let opened = &mut space.caches[cache];
+        opened.depot.swap_for_full(cpu)
+    }
+
+    /// Gives a CPU whose magazines are both full, with chunks of the cache, an empty one of the
+    /// depot's. It takes no memory.
+    pub fn swap_empty(
+        &mut self,
+        arena: usize,
+        cache: usize,
+        cpu: &mut CpuCache<D>,
+    ) -> Result<(), EmptyFault>
+        requires has { HasCache self.old arena cache }
+        requires full { BothFull cpu.old }
+        requires rounds { AreRoundsOf arena cache cpu.old }
+        ensures swapped { OnDepot arena cache (λ a b. SwapEmptyOf cpu.old a result cpu.new b)
+            self.old self.new }
+        ensures rounds { AreRoundsOf arena cache cpu.new }
+        ensures frame { Frames self.old (cache_rounds cpu.old) self.new (cache_rounds cpu.new) }
+        ensures fixed { plans_of self.new ≡ plans_of self.old }
+    {
+        let space = &mut self.spaces[arena];
+        let opened = &mut space.caches[cache];
+        opened.depot.swap_for_empty(cpu)
+    }
+
+    /// The same with a fresh magazine, which is empty, in place of one of the depot's. It is out of
+    /// memory for the depot's lists alone.
+    pub fn swap_fresh(
+        &mut self,
+        arena: usize,
+        cache: usize,
+        cpu: &mut CpuCache<D>,
+        magazine: Magazine<D>,
+    ) -> Result<(), PutFullFault<Magazine<D>>>
+        requires has { HasCache self.old arena cache }
+        requires full { BothFull cpu.old }
+        requires rounds { AreRoundsOf arena cache cpu.old }
+        requires fresh { magazine.rounds ≡ [] }
+        ensures swapped { OnDepot arena cache
+            (λ a b. PutFullOf cpu.old a magazine result cpu.new b) self.old self.new }
+        ensures rounds { AreRoundsOf arena cache cpu.new }
+        ensures frame { Frames self.old (cache_rounds cpu.old) self.new (cache_rounds cpu.new) }
+        ensures fixed { plans_of self.new ≡ plans_of self.old }
+    {
+        let space = &mut self.spaces[arena];
+        let opened = &mut space.caches[cache];
+        opened.depot.put_full(cpu, magazine)
+    }
+
+    /// Begins an interval in a depot.
+    pub fn tick(&mut self, arena: usize, cache: usize)
+        requires has { HasCache self.old arena cache }
+        ensures ticked { OnDepot arena cache (λ a b. b ≡ after_tick a) self.old self.new }
+        ensures frame { Frames self.old [] self.new [] }
+        ensures fixed { plans_of self.new ≡ plans_of self.old }
+    {
+        let space = &mut self.spaces[arena];
+        let opened = &mut space.caches[cache];
+        opened.depot.tick();
+    }
+
+    /// Has a depot keep magazines of a greater size from here on. It takes no memory.
+    pub fn resize(&mut self, arena: usize, cache: usize, size: usize) -> Result<(), NotGreater>
+        requires has { HasCache self.old arena cache }
+        requires size { IsSize size }
+        ensures resized { OnDepot arena cache (λ a b. ResizeOf a size result b)
+            self.old self.new }
+        ensures frame { Frames self.old [] self.new [] }
+        ensures fixed { plans_of self.new ≡ plans_of self.old }
+    {
+        let space = &mut self.spaces[arena];
+        let opened = &mut space.caches[cache];
+        opened.depot.resize(size)
+    }
+
+    /// Takes a round that may be reaped out of a depot. It takes no memory.
+    pub fn depot_reap(&mut self, arena: usize, cache: usize) -> Option<Segment<D>>
+        requires has { HasCache self.old arena cache }
+        ensures reaped { OnDepot arena cache (λ a b. DepotReapOf a result b)
+            self.old self.new }
+        ensures frame { Frames self.old [] self.new (option_to_list result) }
+        ensures fixed { plans_of self.new ≡ plans_of self.old }
+    {
+        let space = &mut self.spaces[arena];
+        let opened = &mut space.caches[cache];
+        opened.depot.reap()
+    }
+}

@@ -1,0 +1,35 @@
+//! What follows from the accounts of a stock. The functions do nothing: their contracts are the laws,
+//! and proofs/LawProofs.antt has them for the proofs of the crates above.
+ghost use Rattle.stock.specs.Laws.{OnePlace, AddsUp, AlwaysTagged, AlwaysOut, AlwaysImports};
+ghost use Rattle.stock.specs.Laws.{AlwaysSlab, OutIsApart, OutWeighs, FramesThen};
+ghost use Rattle.stock.specs.Laws.{Pops, Pushes, Changes};
+
+/// Each unit of an arena is in one place: free, in a slab, in a magazine, exported, leased or in a
+/// hand. So the sums that an audit prints add up to the units of the spans.
+pub fn one_place_laws()
+    ensures place { OnePlace }
+    ensures lengths { AddsUp }
+{}
+
+/// What is out can go back or come in, memory aside.
+pub fn never_refused_laws()
+    ensures tagged { AlwaysTagged }
+    ensures out { AlwaysOut }
+    ensures imports { AlwaysImports }
+    ensures slab { AlwaysSlab }
+{}
+
+/// No two segments that are out overlap, up the whole chain of sources.
+pub fn apart_laws()
+    ensures apart { OutIsApart }
+{}
+
+/// Frames compose, and a segment that goes from a hand to a lease or into a CPU's magazine stays out:
+/// no part changes.
+pub fn frame_laws()
+    ensures weighs { OutWeighs }
+    ensures then { FramesThen }
+    ensures pops { Pops }
+    ensures pushes { Pushes }
+    ensures changes { Changes }
+{}

@@ -1,0 +1,26 @@
+//! The stock: all parts of a system as one value. It has the arenas, each with the arena that it
+//! imports from and its quantum caches, and each quantum cache is a slab cache and a depot.
+//!
+//! What moves segments among the parts (the lists of steps, one thread's program, the world of
+//! events, the running system) speaks of a stock by its plain data, `SpaceState`, in order of setup.
+//! Each call here is one event on one part: its contract is that part's own relation, with all else
+//! unchanged, and its frame law. `specs/Accounts.antt` says what always balances, relative to the
+//! list of the segments that are out of all parts: in hands, leased, or rounds of CPUs.
+//!
+//! A call finds its part by its place, in constant time, and costs what the part's own call does.
+//!
+//! Begin with `Stock` in `stocks`; `specs/Steps.antt` has the steps, and `laws` what follows from the
+//! accounts.
+#![tactic(auto)]
+
+mod arena_steps;
+mod depot_steps;
+mod laws;
+mod reports;
+mod slab_steps;
+mod spaces;
+mod stocks;
+
+pub use laws::{apart_laws, frame_laws, never_refused_laws, one_place_laws};
+pub use spaces::{QuantumCache, Space};
+pub use stocks::Stock;
