@@ -68,6 +68,10 @@ module _ (spaces items : List SpaceState) (k : ℕ) (s : SpaceState) (j : ℕ) (
         (λ f. omega (arith, cached_none f t (j + 1) route, alone (of_direct f) t))
         (λ f. omega (arith, cached_weighs f t (j + 1) route, alone (of_cached f) t, less f))
 
+    pub reap_chunk : (r : Option Tag) → IfSome r (Loses (depot_rounds c.depot) (depot_rounds new)) → IfSome r (IsRoundOf k (j + 1))
+    reap_chunk None less = tt
+    reap_chunk (Some t) less = all_loses (IsRoundOf k (j + 1)) (depot_rounds c.depot) (depot_rounds new) t less is.rounds
+
     -- rounds go between a CPU and the depot
     module _ (x y : CpuCacheState) (mine : AreRoundsOf k j x) (even : WeighSame (both_rounds x c.depot) (both_rounds y new)) where
       weighs : (f : Tag → ℕ) → sum_by f (cache_rounds x) + sum_by f (depot_rounds c.depot) ≡ sum_by f (cache_rounds y) + sum_by f (depot_rounds new)

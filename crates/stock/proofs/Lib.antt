@@ -11,4 +11,6 @@ mod Lengths
 mod OnePlaces
 mod Apart
 mod FrameLaws
+mod OwnRounds
+mod Ending
 pub mod LawProofs

@@ -17,7 +17,7 @@ use Rattle.slab_layer.specs.Cache.{SlabCacheState, IsSound, IsChunkOf, IsSpanOf,
 use Rattle.slab_layer.specs.Moves.{IsAlike, TakeOf, PutOf, AddOf, ReapOf}
 use Rattle.slab_layer.proofs.LawProofs.{chunks_are_of_cache}
 use Rattle.stock.specs.Spaces.{SpaceState, QuantumCacheState, with_slab, with_cache}
-use Rattle.stock.specs.Stocks.{IsQuantumCache, IsStock}
+use Rattle.stock.specs.Stocks.{IsRoundOf, IsQuantumCache, IsStock}
 use Rattle.stock.specs.Accounts.{chunks_in, chunks, Accounts}
 use Rattle.stock.specs.Steps.{OnSlab, PutIn, NamesNoCache, IsOutOf}
 use Rattle.stock.specs.Answers.{hand_after_put, hand_after_add, NeverOverlaps}
@@ -107,6 +107,18 @@ module _ (spaces items : List SpaceState) (k : ℕ) (s : SpaceState) (j : ℕ) (
         (λ f. omega (arith, cached_weighs f t n route, alone (of_cached f) t, out f))
     put_moves t (Err (putting.NotMine back)) of n route out kept spans = subst (λ x. Moves spaces (t ∷ []) now (x ∷ [])) (sym of.2.handed_back) (unchanged (t ∷ []) of.2.unchanged)
     put_moves t (Err (putting.AtHome back)) of n route out kept spans = subst (λ x. Moves spaces (t ∷ []) now (x ∷ [])) (sym of.1.handed_back) (unchanged (t ∷ []) of.1.unchanged)
+
+  -- what comes out is a chunk of the cache
+  pub one_chunk : IsStock spaces → (t : Tag) → IsChunkOf c.slab t → IsRoundOf k (j + 1) t
+  one_chunk stock t chunk = (let is = (stock k s o.opened.at).caches j c o.among in record { home = chunk.from ∙ is.arena; route = chunk.by ∙ ap Cached is.k })
+
+  pub take_chunk : IsStock spaces → (r : Option Tag) → IfSome r (IsChunkOf c.slab) → IfSome r (IsRoundOf k (j + 1))
+  take_chunk stock None chunk = tt
+  take_chunk stock (Some t) chunk = one_chunk stock t chunk
+
+  pub add_chunk : IsStock spaces → (r : Result Tag (AddFault Tag)) → IfOk r (IsChunkOf c.slab) → IfOk r (IsRoundOf k (j + 1))
+  add_chunk stock (Err e) chunk = tt
+  add_chunk stock (Ok t) chunk = one_chunk stock t chunk
 
   -- a span that is out overlaps no slab
   pub add_never : IsStock spaces → (span : Tag) → span.arena ≡ k → span.route ≡ Direct → (r : Result Tag (AddFault Tag)) → AddOf c.slab span r new → (rest : List Tag) → Accounts spaces (span ∷ rest) → NeverOverlaps r

@@ -1,12 +1,13 @@
 //! The events on the depot of a quantum cache: swap_full, swap_empty (with an empty magazine of the
 //! depot's or a fresh one), note (a tick or a resize) and depot_reap.
-ghost use Rattle.std.specs.Prelude.{◌≡◌, [], ◌∷◌};
+ghost use Rattle.std.specs.Prelude.{◌≡◌, ◌+◌, [], ◌∷◌, IfSome};
 ghost use Rattle.std.specs.Option.{option_to_list};
 ghost use Rattle.magazine_layer.specs.Magazines.{IsSize, BothEmpty, BothFull, cache_rounds};
 ghost use Rattle.magazine_layer.specs.Depots.{after_tick};
 ghost use Rattle.magazine_layer.specs.Calls.{SwapFullOf, SwapEmptyOf, PutFullOf, ResizeOf};
 ghost use Rattle.magazine_layer.specs.Calls.{DepotReapOf};
 ghost use Rattle.stock.specs.Spaces.{HasCache, plans_of};
+ghost use Rattle.stock.specs.Stocks.{IsRoundOf};
 ghost use Rattle.stock.specs.Accounts.{Frames};
 ghost use Rattle.stock.specs.Steps.{OnDepot, AreRoundsOf};
 
@@ -112,6 +113,7 @@ impl<D: Deed> Stock<D> {
         requires has { HasCache self.old arena cache }
         ensures reaped { OnDepot arena cache (λ a b. DepotReapOf a result b)
             self.old self.new }
+        ensures chunk { IfSome result (IsRoundOf arena (cache + 1)) }
         ensures frame { Frames self.old [] self.new (option_to_list result) }
         ensures fixed { plans_of self.new ≡ plans_of self.old }
     {

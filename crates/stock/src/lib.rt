@@ -15,12 +15,15 @@
 
 mod arena_steps;
 mod depot_steps;
+mod endings;
 mod laws;
+mod own_caches;
 mod reports;
 mod slab_steps;
 mod spaces;
 mod stocks;
 
 pub use laws::{apart_laws, frame_laws, never_refused_laws, one_place_laws};
+pub use own_caches::OwnCache;
 pub use spaces::{QuantumCache, Space};
 pub use stocks::Stock;

@@ -1,0 +1,7 @@
+use Rattle.std.proofs.Common.{sym, subst}
+use Rattle.stock.specs.Steps.{AreRoundsOf}
+use Rattle.stock.proofs.own_caches.OwnCache.close.Goals as goal
+
+pub invariant_of-result : goal.invariant_of-result
+invariant_of-result g c =
+    subst (AreRoundsOf c.self.inside.arena c.self.inside.cache) (sym c.in-Err.ensures.of.1) c.self.invariant

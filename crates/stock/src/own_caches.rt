@@ -1,0 +1,149 @@
+//! What one CPU keeps of one quantum cache: the events that are private to a CPU (pop, push, change)
+//! change no part, only the list of the segments that are out.
+ghost use Rattle.std.specs.Prelude.{◌≡◌, ◌+◌, ◌↔◌, [], IfSome, IfOk, IfErr, OnOk, IsTrue};
+ghost use Rattle.magazine_layer.specs.Magazines.{IsSize, BothEmpty, BothFull, cache_rounds};
+ghost use Rattle.magazine_layer.specs.Calls.{PopOf, PushOf};
+ghost use Rattle.magazine_layer.specs.Calls.{SwapFullOf, SwapEmptyOf, PutFullOf};
+ghost use Rattle.stock.specs.Spaces.{HasCache, plans_of};
+ghost use Rattle.stock.specs.Accounts.{Frames};
+ghost use Rattle.stock.specs.Steps.{OnDepot};
+ghost use Rattle.deed_core.specs.Covering.{units_tagged};
+ghost use Rattle.stock.specs.Stocks.{IsRoundOf};
+ghost use Rattle.stock.specs.OwnCaches.{IsAtPlaceOf};
+
+use crate::stocks::Stock;
+use deed_core::{Deed, Segment};
+use magazine_layer::{CpuCache, EmptyFault, FullFault, Magazine, PutFullFault};
+use std::alloc::{AllocError, Global};
+use std::marker::Model;
+
+/// A CPU's cache of which all rounds are chunks of the quantum cache at this place of this arena.
+/// It is never copied or dropped.
+pub struct OwnCache<D: Deed> {
+    arena: usize,
+    cache: usize,
+    pub(crate) cpu: CpuCache<D>,
+}
+
+impl<D: Deed> Model for OwnCache<D> {
+    ghost use Rattle.stock.specs.OwnCaches.{OwnCacheState};
+    ghost use Rattle.stock.specs.Steps.{AreRoundsOf};
+
+    ghost Value = { OwnCacheState };
+
+    ghost view = { λ o. record { arena = o.arena; cache = o.cache; cpu = o.cpu } };
+
+    ghost invariant = { λ o. AreRoundsOf o.arena o.cache o.cpu };
+}
+
+impl<D: Deed> OwnCache<D> {
+    /// Two empty magazines for `size` rounds each.
+    pub fn new(
+        alloc: Global,
+        arena: usize,
+        cache: usize,
+        size: usize,
+    ) -> Result<OwnCache<D>, AllocError>
+        requires { IsSize size }
+        ensures { IfOk result (λ o. o ≡ record {
+            arena = arena;
+            cache = cache;
+            cpu = record { size = size; loaded = []; previous = [] };
+        }) }
+    {
+        let cpu = CpuCache::new(alloc, size)?;
+        Ok(OwnCache { arena, cache, cpu })
+    }
+
+    /// The units of its rounds.
+    pub fn units(&self) -> u128
+        ensures { result ≡ units_tagged (cache_rounds self.now.cpu) }
+    {
+        self.cpu.units()
+    }
+
+    /// Takes a round. It takes no memory.
+    #[tactic(auto, using(crate::proofs::OwnRounds::popped))]
+    pub fn pop(&mut self) -> Option<Segment<D>>
+        ensures popped { PopOf self.old.cpu result self.new.cpu }
+        ensures place { IsAtPlaceOf self.old self.new }
+        ensures chunk { IfSome result (IsRoundOf self.old.arena (self.old.cache + 1)) }
+    {
+        self.cpu.take()
+    }
+
+    /// Keeps a chunk of its quantum cache, if there is room. It takes no memory.
+    pub fn push(&mut self, segment: Segment<D>) -> Result<(), Segment<D>>
+        requires chunk { IsRoundOf self.old.arena (self.old.cache + 1) segment }
+        ensures pushed { PushOf self.old.cpu segment result self.new.cpu }
+        ensures place { IsAtPlaceOf self.old self.new }
+    {
+        self.cpu.give(segment)
+    }
+
+    /// Takes a full magazine of its depot for an empty one, where both of its own are empty.
+    pub fn swap_full(&mut self, stock: &mut Stock<D>) -> Result<(), FullFault>
+        requires has { HasCache stock.old self.old.arena self.old.cache }
+        requires empty { BothEmpty self.old.cpu }
+        ensures swapped { OnDepot self.old.arena self.old.cache
+            (λ a b. SwapFullOf self.old.cpu a result self.new.cpu b) stock.old stock.new }
+        ensures place { IsAtPlaceOf self.old self.new }
+        ensures frame { Frames stock.old (cache_rounds self.old.cpu)
+            stock.new (cache_rounds self.new.cpu) }
+        ensures fixed { plans_of stock.new ≡ plans_of stock.old }
+    {
+        stock.swap_full(self.arena, self.cache, &mut self.cpu)
+    }
+
+    /// Takes an empty magazine of its depot for a full one, where both of its own are full.
+    pub fn swap_empty(&mut self, stock: &mut Stock<D>) -> Result<(), EmptyFault>
+        requires has { HasCache stock.old self.old.arena self.old.cache }
+        requires full { BothFull self.old.cpu }
+        ensures swapped { OnDepot self.old.arena self.old.cache
+            (λ a b. SwapEmptyOf self.old.cpu a result self.new.cpu b) stock.old stock.new }
+        ensures place { IsAtPlaceOf self.old self.new }
+        ensures frame { Frames stock.old (cache_rounds self.old.cpu)
+            stock.new (cache_rounds self.new.cpu) }
+        ensures fixed { plans_of stock.new ≡ plans_of stock.old }
+    {
+        stock.swap_empty(self.arena, self.cache, &mut self.cpu)
+    }
+
+    /// The same with a fresh magazine.
+    pub fn swap_fresh(
+        &mut self,
+        stock: &mut Stock<D>,
+        magazine: Magazine<D>,
+    ) -> Result<(), PutFullFault<Magazine<D>>>
+        requires has { HasCache stock.old self.old.arena self.old.cache }
+        requires full { BothFull self.old.cpu }
+        requires fresh { magazine.rounds ≡ [] }
+        ensures swapped { OnDepot self.old.arena self.old.cache
+            (λ a b. PutFullOf self.old.cpu a magazine result self.new.cpu b) stock.old stock.new }
+        ensures place { IsAtPlaceOf self.old self.new }
+        ensures frame { Frames stock.old (cache_rounds self.old.cpu)
+            stock.new (cache_rounds self.new.cpu) }
+        ensures fixed { plans_of stock.new ≡ plans_of stock.old }
+    {
+        stock.swap_fresh(self.arena, self.cache, &mut self.cpu, magazine)
+    }
+
+    /// Whether both magazines are full.
+    pub fn is_full(&self) -> bool
+        ensures { IsTrue result ↔ BothFull self.now.cpu }
+    {
+        self.cpu.is_full()
+    }
+
+    /// Ends a cache that has no round, and hands back one that has.
+    pub fn close(self) -> Result<(), OwnCache<D>>
+        ensures empty { OnOk result (BothEmpty self.cpu) }
+        ensures handed_back { IfErr result (λ same. same ≡ self) }
+    {
+        let OwnCache { arena, cache, cpu } = self;
+        match cpu.close() {
+            Ok(()) => Ok(()),
+            Err(cpu) => Err(OwnCache { arena, cache, cpu }),
+        }
+    }
+}
