@@ -9,7 +9,7 @@ use crate::faults::{NotGreater, Nothing, SendFault};
 use crate::held::{HeldSegment, is_of_held, prepare};
 #[cfg(test)]
 use lease_proto::Welcome;
-use lease_proto::{Hello, Line, Op, Reply, line_law};
+use lease_proto::{HelloLine, Line, Op, Reply, line_law};
 use lease_terms::{ClientId, Ordinal, Quantity, RequestId};
 use std::alloc::Global;
 use std::marker::Model;
@@ -81,7 +81,7 @@ impl Client {
         let Some(incarnation) = self.greater(incarnation) else {
             return Err(NotGreater);
         };
-        let hello = Line::Hello(Hello {
+        let hello = Line::Hello(HelloLine {
             client: self.id,
             incarnation,
         });

@@ -6,7 +6,7 @@ ghost use Rattle.lease_client.specs.Calls.{is_of_held, held_after, WantsMemory};
 ghost use Rattle.lease_client.specs.Replies.{segment_of};
 ghost use Rattle.lease_client.specs.Stored.{room_for};
 
-use lease_proto::{Granted, Op, Release};
+use lease_proto::{Granted, Op, ReleaseLine};
 use lease_terms::{Name, Quantity};
 use std::alloc::AllocError;
 
@@ -29,7 +29,7 @@ impl HeldSegment {
         }
     }
 
-    fn is_of(&self, release: &Release) -> bool
+    fn is_of(&self, release: &ReleaseLine) -> bool
         ensures { result ≡ is_at release.now.arena release.now.base self.now }
     {
         self.arena.as_slice() == release.arena.as_slice() && self.base.get() == release.base.get()
@@ -46,7 +46,7 @@ pub(crate) fn is_of_held(op: &Op, held: &[HeldSegment]) -> bool
     }
 }
 
-fn holds(held: &[HeldSegment], release: &Release) -> bool
+fn holds(held: &[HeldSegment], release: &ReleaseLine) -> bool
     ensures { result ≡ holds_at release.now.arena release.now.base held.now }
 {
     held.iter().any(|segment| segment.is_of(release))
@@ -70,7 +70,7 @@ pub(crate) fn prepare(held: &mut Vec<HeldSegment>, op: &Op) -> Result<(), AllocE
     }
 }
 
-fn end(held: &mut Vec<HeldSegment>, release: &Release)
+fn end(held: &mut Vec<HeldSegment>, release: &ReleaseLine)
     ensures rest { held.new.items
         ≡ filter (λ s. not (is_at release.now.arena release.now.base s)) held.old.items }
     ensures len { vec_len held.new ≤ vec_len held.old }
