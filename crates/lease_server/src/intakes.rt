@@ -40,9 +40,9 @@ impl Model for Intake {
     ghost Value = { IntakeState };
 
     ghost view = { λ i. record {
-        hand = hand_of i.framing (take (i.end - i.start) (drop i.start i.buffer));
-        reads = i.reads;
-        ended = i.ended
+      hand = hand_of i.framing (take (i.end - i.start) (drop i.start i.buffer));
+      reads = i.reads;
+      ended = i.ended;
     } };
 
     ghost invariant = { λ i. (i.start ≤ i.end) × (i.end ≤ PIECE) × (i.reads ≤ MOST_READS)
@@ -87,9 +87,9 @@ impl Intake {
     pub fn pass(&mut self)
         requires { self.old.hand.whole ≡ true }
         ensures { self.new ≡ record {
-            hand = hand_in [] self.old.hand.rest;
-            reads = self.old.reads;
-            ended = self.old.ended
+          hand = hand_in [] self.old.hand.rest;
+          reads = self.old.reads;
+          ended = self.old.ended;
         } }
     {
         if self.framing.is_whole() {
@@ -149,8 +149,8 @@ fn hold_rest(framing: &mut LineReader, buffer: &[u8], start: usize, end: usize)
         ≡ false }
     requires kept { length framing.old.line ≤ LINE_ROOM }
     ensures held { framing.new ≡ record {
-        line = (hand_of framing.old (take (end - start) (drop start buffer.now))).line;
-        whole = false
+      line = (hand_of framing.old (take (end - start) (drop start buffer.now))).line;
+      whole = false;
     } }
     ensures kept { length framing.new.line ≤ LINE_ROOM }
 {
