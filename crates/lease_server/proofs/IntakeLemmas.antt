@@ -57,11 +57,11 @@ hand_in-same xs ys [] same = ap (λ l. record { line = l; whole = false; rest = 
 hand_in-same xs ys (b ∷ bs) same = elim (cases_Bool (b == 10)) [
   | inl is ↦ rw is (ap (λ l. record { line = l; whole = true; rest = bs }) same)
   | inr other ↦
-    let x : rest_in xs (b ∷ []) ≡ xs ++ b ∷ [] = rw other refl in
-    let y : rest_in ys (b ∷ []) ≡ ys ++ b ∷ [] = rw other refl in
-    let on : SameFront (xs ++ b ∷ []) (ys ++ b ∷ []) =
-    ap (take 256) (sym x) ∙ rest_in-same xs ys (b ∷ []) same ∙ ap (take 256) y in
-    rw other (hand_in-same (xs ++ b ∷ []) (ys ++ b ∷ []) bs on)
+      let x : rest_in xs (b ∷ []) ≡ xs ++ b ∷ [] = rw other refl in
+      let y : rest_in ys (b ∷ []) ≡ ys ++ b ∷ [] = rw other refl in
+      let on : SameFront (xs ++ b ∷ []) (ys ++ b ∷ []) =
+      ap (take 256) (sym x) ∙ rest_in-same xs ys (b ∷ []) same ∙ ap (take 256) y in
+      rw other (hand_in-same (xs ++ b ∷ []) (ys ++ b ∷ []) bs on)
 ]
 
 pub line_goes_on : LineGoesOn
@@ -72,22 +72,22 @@ pub line_is_whole : LineIsWhole
 line_is_whole line [] whole = absurd (cc)
 line_is_whole line (b ∷ bs) whole = elim (cases_eq b 10) [
   | inl is ↦
-    let here : hand_in line (b ∷ bs) ≡ record { line = take 256 line; whole = true; rest = bs } = rw is refl in (
-      [],
-      bs,
-      tt,
-      ap (λ x. x ∷ bs) is,
-      here ∙ ap (λ l. record { line = take 256 l; whole = true; rest = bs }) (sym (append-nil line)),
-    )
+      let here : hand_in line (b ∷ bs) ≡ record { line = take 256 line; whole = true; rest = bs } = rw is refl in (
+        [],
+        bs,
+        tt,
+        ap (λ x. x ∷ bs) is,
+        here ∙ ap (λ l. record { line = take 256 l; whole = true; rest = bs }) (sym (append-nil line)),
+      )
   | inr other ↦
-    let on : hand_in line (b ∷ bs) ≡ hand_in (line ++ b ∷ []) bs = rw (ne_eqb b 10 other) refl in
-    let (text, rest, one, parts, is) = line_is_whole (line ++ b ∷ []) bs (ap (λ h. h.whole) (sym on) ∙ whole) in (
-      b ∷ text,
-      rest,
-      (other, one),
-      ap (λ l. b ∷ l) parts,
-      on ∙ is ∙ ap (λ l. record { line = take 256 l; whole = true; rest = rest }) (append_assoc line (b ∷ []) text),
-    )
+      let on : hand_in line (b ∷ bs) ≡ hand_in (line ++ b ∷ []) bs = rw (ne_eqb b 10 other) refl in
+      let (text, rest, one, parts, is) = line_is_whole (line ++ b ∷ []) bs (ap (λ h. h.whole) (sym on) ∙ whole) in (
+        b ∷ text,
+        rest,
+        (other, one),
+        ap (λ l. b ∷ l) parts,
+        on ∙ is ∙ ap (λ l. record { line = take 256 l; whole = true; rest = rest }) (append_assoc line (b ∷ []) text),
+      )
 ]
 
 pub hand_tells : HandTells
@@ -161,9 +161,9 @@ line_is_begun line [] unended = (ap (λ l. record { line = take 256 l; whole = f
 line_is_begun line (b ∷ bs) unended = elim (cases_eq b 10) [
   | inl is ↦ let whole : (hand_in line (b ∷ bs)).whole ≡ true = rw is refl in let bad : true ≡ false = sym whole ∙ unended in absurd (cc)
   | inr other ↦
-    let on : hand_in line (b ∷ bs) ≡ hand_in (line ++ b ∷ []) bs = rw (ne_eqb b 10 other) refl in
-    let more = line_is_begun (line ++ b ∷ []) bs (ap (λ h. h.whole) (sym on) ∙ unended) in
-    (on ∙ more.0 ∙ ap (λ l. record { line = take 256 l; whole = false; rest = [] }) (append_assoc line (b ∷ []) bs), (other, more.1))
+      let on : hand_in line (b ∷ bs) ≡ hand_in (line ++ b ∷ []) bs = rw (ne_eqb b 10 other) refl in
+      let more = line_is_begun (line ++ b ∷ []) bs (ap (λ h. h.whole) (sym on) ∙ unended) in
+      (on ∙ more.0 ∙ ap (λ l. record { line = take 256 l; whole = false; rest = [] }) (append_assoc line (b ∷ []) bs), (other, more.1))
 ]
 
 pub hand_open : (held : LineReaderState) (piece : List ℕ) (hand : AtHand) → hand_of held piece ≡ hand → hand.whole ≡ false
@@ -195,19 +195,19 @@ pub fed : (old new : LineReaderState) (piece : List ℕ) (n : ℕ) → old.whole
     → hand_of new (drop n piece) ≡ hand_in old.line piece
 fed old new piece n unended all (text, one, parts, line) = elim (cases_Bool new.whole) [
   | inl is ↦
-    let here : take n piece ≡ ended text = parts ∙ rw is refl in
-    let whole : hand_of new (drop n piece) ≡ record { line = new.line; whole = true; rest = drop n piece } = rw is refl in
-    whole ∙ ap (λ l. record { line = l; whole = true; rest = drop n piece }) line
-    ∙ sym (ap (hand_in old.line) (sym (take-append-drop n piece) ∙ ap (λ l. l ++ drop n piece) here) ∙ hand_in-ended old.line text (drop n piece) one)
+      let here : take n piece ≡ ended text = parts ∙ rw is refl in
+      let whole : hand_of new (drop n piece) ≡ record { line = new.line; whole = true; rest = drop n piece } = rw is refl in
+      whole ∙ ap (λ l. record { line = l; whole = true; rest = drop n piece }) line
+      ∙ sym (ap (hand_in old.line) (sym (take-append-drop n piece) ∙ ap (λ l. l ++ drop n piece) here) ∙ hand_in-ended old.line text (drop n piece) one)
   | inr other ↦
-    let here : take n piece ≡ text = parts ∙ rw other refl in
-    let some : n ≡ length piece = all other in
-    let same : piece ≡ text = sym (take_all n piece (omega (arith, some))) ∙ here in
-    let none : drop n piece ≡ [] = ap (λ k. drop k piece) some ∙ drop-length piece in
-    let short : hand_of new (drop n piece) ≡ hand_in new.line [] = rw (other, none) refl in
-    short ∙ ap (λ l. record { line = take 256 l; whole = false; rest = [] }) line
-    ∙ ap (λ l. record { line = l; whole = false; rest = [] }) (take-take 256 256 (old.line ++ text) (omega arith))
-    ∙ sym (ap (hand_in old.line) same ∙ hand_in-none old.line text one)
+      let here : take n piece ≡ text = parts ∙ rw other refl in
+      let some : n ≡ length piece = all other in
+      let same : piece ≡ text = sym (take_all n piece (omega (arith, some))) ∙ here in
+      let none : drop n piece ≡ [] = ap (λ k. drop k piece) some ∙ drop-length piece in
+      let short : hand_of new (drop n piece) ≡ hand_in new.line [] = rw (other, none) refl in
+      short ∙ ap (λ l. record { line = take 256 l; whole = false; rest = [] }) line
+      ∙ ap (λ l. record { line = l; whole = false; rest = [] }) (take-take 256 256 (old.line ++ text) (omega arith))
+      ∙ sym (ap (hand_in old.line) same ∙ hand_in-none old.line text one)
 ]
 
 -- a line reader that was fed what it had behind it, where no line ends there

@@ -4,12 +4,13 @@ use Rattle.std.specs.Prelude.{List, [], ◌∷◌, ◌++◌, length, take, if◌
 use Rattle.std.specs.Io.KnownBytes.{Consumes, IsAtEnd, Keeps}
 use Rattle.lease_proto.specs.Frames.{Frame, IsOneLine, ended, frame_of, frames_in, rest_in}
 use Rattle.lease_proto.specs.Frames.{frames_of, last_of, LineReaderState}
+use Rattle.lease_proto.specs.declared.limits.TheConstants.{LINE_ROOM}
 use Rattle.lease_server.specs.declared.intakes.TheConstants.{MOST_READS, PIECE}
 use Rattle.lease_server.specs.declared.faults.ServeFault.{ServeFault}
 use Rattle.lease_server.specs.declared.faults.ServeFault.TheVariants.{Read, Write, Memory, Turns}
 
--- the first line, of which the first 256 bytes are kept; whether its line feed has come; and the
--- bytes that were read after that
+-- the first line, of which so many bytes are kept that they tell whether it is too long; whether
+-- its line feed has come; and the bytes that were read after that
 pub record AtHand : Type 0 where
   pub line : List ℕ
   pub whole : Bool
@@ -17,9 +18,9 @@ pub record AtHand : Type 0 where
 
 -- what is at hand once these bytes come after a line begun
 abbrev pub hand_in : List ℕ → List ℕ → AtHand
-hand_in line [] = record { line = take 256 line; whole = false; rest = [] }
+hand_in line [] = record { line = take LINE_ROOM line; whole = false; rest = [] }
 hand_in line (b ∷ bs) =
-    if b == 10 then record { line = take 256 line; whole = true; rest = bs }
+    if b == 10 then record { line = take LINE_ROOM line; whole = true; rest = bs }
     else hand_in (line ++ b ∷ []) bs
 
 -- the frames of the whole lines at hand
@@ -72,7 +73,7 @@ StopsReading old unread left before after Turns = Keeps unread left × (old.ende
 StopsReading old unread left before after Write = ⊥
 StopsReading old unread left before after Memory = ⊥
 
--- the first 256 bytes of what is read and not passed tell the frames of all
+-- what is kept of what is read and not passed tells the frames of all
 abbrev pub HandTells : Type 0
 HandTells = (bytes more : List ℕ)
     → (frames_on (hand_in [] bytes) more ≡ frames_in [] (bytes ++ more))
@@ -82,15 +83,17 @@ HandTells = (bytes more : List ℕ)
 abbrev pub LineIsWhole : Type 0
 LineIsWhole = (line bytes : List ℕ) → (hand_in line bytes).whole ≡ true
     → (text : List ℕ) × (rest : List ℕ) × IsOneLine text × (bytes ≡ ended text ++ rest)
-    × (hand_in line bytes ≡ record { line = take 256 (line ++ text); whole = true; rest = rest })
+    × (hand_in line bytes
+    ≡ record { line = take LINE_ROOM (line ++ text); whole = true; rest = rest })
 
 -- where none came, all is of the line begun
 abbrev pub LineIsBegun : Type 0
 LineIsBegun = (line bytes : List ℕ) → (hand_in line bytes).whole ≡ false
-    → (hand_in line bytes ≡ record { line = take 256 (line ++ bytes); whole = false; rest = [] })
+    → (hand_in line bytes
+    ≡ record { line = take LINE_ROOM (line ++ bytes); whole = false; rest = [] })
     × IsOneLine bytes
 
 -- what comes behind a line begun is at hand as if all had come at once
 abbrev pub LineGoesOn : Type 0
 LineGoesOn = (bytes more : List ℕ) → IsOneLine bytes
-    → hand_in (take 256 bytes) more ≡ hand_in [] (bytes ++ more)
+    → hand_in (take LINE_ROOM bytes) more ≡ hand_in [] (bytes ++ more)

@@ -4,15 +4,16 @@ use Rattle.std.specs.Prelude.{take, true, false, Option, Ok, Err, IfSome}
 use Rattle.std.specs.Io.KnownBytes.{Appends, Consumes}
 use Rattle.lease_proto.specs.Frames.{Frame}
 use Rattle.lease_proto.specs.Faults.{error_line}
+use Rattle.lease_proto.specs.declared.limits.TheConstants.{LINE_ROOM}
 use Rattle.lease_server.specs.Intakes.{AtHand, IntakeState, frames_on, frames_to_end}
 use Rattle.lease_server.specs.Watching.{Streams}
 use Rattle.lease_server.specs.declared.intakes.TheConstants.{MOST_READS}
 use Rattle.lease_server.specs.declared.faults.ServeFault.{ServeFault}
 use Rattle.lease_server.specs.declared.faults.ServeFault.TheVariants as fault
 
--- what a line begun is known by, whose first 256 bytes are kept
+-- what a line begun is known by, as so much of it is kept
 abbrev pub SameFront : List ℕ → List ℕ → Type 0
-SameFront xs ys = take 256 xs ≡ take 256 ys
+SameFront xs ys = take LINE_ROOM xs ≡ take LINE_ROOM ys
 
 -- the writer holds in addition a front of these bytes
 abbrev pub WritesFront : List ℕ → Option (List ℕ) → Option (List ℕ) → Type 0

@@ -5,11 +5,12 @@ ghost use Rattle.std.specs.Io.KnownBytes.{IsAtEnd};
 ghost use Rattle.lease_server.specs.Intakes.{IntakeState, hand_in, hand_of, ReadsOn, StopsReading};
 ghost use Rattle.lease_server.specs.Intakes.{HandTells, LineIsWhole, LineIsBegun, LineGoesOn};
 ghost use Rattle.lease_server.specs.Watching.{inner_of, has_failed, reads_of};
+ghost use Rattle.lease_proto.specs.declared.limits.TheConstants.{LINE_ROOM};
 ghost use Rattle.lease_server.specs.declared.intakes.TheConstants.{MOST_READS, PIECE};
 
 use crate::faults::ServeFault;
 use crate::watching::Watched;
-use lease_proto::LineReader;
+use lease_proto::{LINE_ROOM, LineReader};
 use memchr::memchr;
 use std::io::Read;
 use std::marker::Model;
@@ -19,9 +20,6 @@ pub const MOST_READS: u64 = 1 << 40;
 
 /// How many bytes are read at once.
 const PIECE: usize = 4096;
-
-/// How many bytes of a line are kept: one more than the longest, so that a longer one shows.
-const KEPT: usize = 256;
 
 /// The bytes of a stream that were read and not passed yet. A line that lies whole in what one read
 /// gave stays where it was read; one that goes over its end is put together. It takes no memory.
@@ -42,13 +40,13 @@ impl Model for Intake {
     ghost Value = { IntakeState };
 
     ghost view = { λ i. record {
-        hand = hand_of i.framing (take (i.end - i.start) (drop i.start i.buffer));
-        reads = i.reads;
-        ended = i.ended
+      hand = hand_of i.framing (take (i.end - i.start) (drop i.start i.buffer));
+      reads = i.reads;
+      ended = i.ended;
     } };
 
     ghost invariant = { λ i. (i.start ≤ i.end) × (i.end ≤ PIECE) × (i.reads ≤ MOST_READS)
-        × (length i.framing.line ≤ 256)
+        × (length i.framing.line ≤ LINE_ROOM)
         × ((i.framing.line ≡ []) ⊎ (i.framing.whole ≡ true) ⊎ (i.start ≡ i.end)) };
 }
 
@@ -67,8 +65,8 @@ impl Intake {
         }
     }
 
-    /// The first line, where its line feed has come: without it, and at most the first 256 bytes. A
-    /// line of 256 bytes here is too long.
+    /// The first line, where its line feed has come: without it, and at most the first `LINE_ROOM`
+    /// bytes. One of so many bytes is too long.
     pub fn first_line(&self) -> Option<&[u8]>
         ensures none { IfNone result (self.now.hand.whole ≡ false) }
         ensures some { IfSome result (λ line. (self.now.hand.whole ≡ true)
@@ -80,7 +78,7 @@ impl Intake {
         }
         let piece = &self.buffer[self.start..self.end];
         match memchr(b'\n', piece) {
-            Some(end) => Some(&piece[..end.min(KEPT)]),
+            Some(end) => Some(&piece[..end.min(LINE_ROOM)]),
             None => None,
         }
     }
@@ -89,9 +87,9 @@ impl Intake {
     pub fn pass(&mut self)
         requires { self.old.hand.whole ≡ true }
         ensures { self.new ≡ record {
-            hand = hand_in [] self.old.hand.rest;
-            reads = self.old.reads;
-            ended = self.old.ended
+          hand = hand_in [] self.old.hand.rest;
+          reads = self.old.reads;
+          ended = self.old.ended;
         } }
     {
         if self.framing.is_whole() {
@@ -101,7 +99,7 @@ impl Intake {
         }
     }
 
-    /// The line begun, whose line feed hasn't come: at most its first 256 bytes.
+    /// The line begun, whose line feed hasn't come: at most its first `LINE_ROOM` bytes.
     pub fn begun(&self) -> &[u8]
         requires { self.now.hand.whole ≡ false }
         ensures { result.now ≡ self.now.hand.line }
@@ -110,7 +108,7 @@ impl Intake {
             return self.framing.line();
         }
         let piece = &self.buffer[self.start..self.end];
-        &piece[..piece.len().min(KEPT)]
+        &piece[..piece.len().min(LINE_ROOM)]
     }
 
     /// Reads on where no line is whole, and says whether more came. After the end the reader isn't
@@ -149,12 +147,12 @@ fn hold_rest(framing: &mut LineReader, buffer: &[u8], start: usize, end: usize)
     requires part { (start ≤ end) × (end ≤ length buffer.now) }
     requires unended { (hand_of framing.old (take (end - start) (drop start buffer.now))).whole
         ≡ false }
-    requires kept { length framing.old.line ≤ 256 }
+    requires kept { length framing.old.line ≤ LINE_ROOM }
     ensures held { framing.new ≡ record {
-        line = (hand_of framing.old (take (end - start) (drop start buffer.now))).line;
-        whole = false
+      line = (hand_of framing.old (take (end - start) (drop start buffer.now))).line;
+      whole = false;
     } }
-    ensures kept { length framing.new.line ≤ 256 }
+    ensures kept { length framing.new.line ≤ LINE_ROOM }
 {
     if start < end {
         framing.feed(&buffer[start..end]);
@@ -164,11 +162,11 @@ fn hold_rest(framing: &mut LineReader, buffer: &[u8], start: usize, end: usize)
 /// Puts a line begun together with its end, and says how much of what was read is used up.
 fn go_on(framing: &mut LineReader, piece: &[u8]) -> usize
     requires begun { framing.old.whole ≡ false }
-    requires kept { length framing.old.line ≤ 256 }
+    requires kept { length framing.old.line ≤ LINE_ROOM }
     ensures within { result ≤ length piece.now }
     ensures hand { hand_of framing.new (drop result piece.now)
         ≡ hand_in framing.old.line piece.now }
-    ensures kept { length framing.new.line ≤ 256 }
+    ensures kept { length framing.new.line ≤ LINE_ROOM }
     ensures used { (framing.new.line ≡ []) ⊎ (framing.new.whole ≡ true)
         ⊎ (result ≡ length piece.now) }
 {

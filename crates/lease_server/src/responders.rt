@@ -10,9 +10,9 @@ pub trait Responder {
     /// what the responder may do. More than one answer may be allowed, or none.
     ghost may_answer: { Self → List ℕ → List ℕ → Self → Type 0 };
 
-    /// Appends the answer to a line. `serve` gives each line without its line feed, of at most 255
-    /// bytes, also an empty one, and never one that is too long or unended. Want of memory takes no
-    /// effect, and ends the serving: the responder isn't asked again.
+    /// Appends the answer to a line. `serve` gives each line without its line feed, of at most
+    /// `LONGEST_LINE` bytes, also an empty one, and never one that is too long or unended. Out of
+    /// memory it takes no effect, and ends the serving: the responder isn't asked again.
     fn answer(&mut self, line: &[u8], out: &mut Vec<u8>) -> Result<(), AllocError>
         ensures ok { OnOk result ((reply : List ℕ) × (out.new.items ≡ out.old.items ++ reply)
             × may_answer self.old line.now reply self.new) }

@@ -110,7 +110,7 @@ fn answer_held<P: Responder>(
     Ok(())
 }
 
-/// Appends the answer to a whole line, given by its first 256 bytes.
+/// Appends the answer to a whole line, given by its first `LINE_ROOM` bytes.
 fn answer_line<P: Responder>(
     line: &[u8],
     out: &mut Vec<u8>,

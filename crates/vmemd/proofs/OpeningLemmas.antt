@@ -62,20 +62,20 @@ pub begins_setup-take : (bytes : List ℕ) → begins_setup (take 256 bytes) ≡
 begins_setup-take bytes = elim (cases_Bool (nat_le (length bytes) 256)) [
   | inl fits ↦ ap begins_setup (take_all 256 bytes (leb-true (length bytes) 256 fits))
   | inr over ↦
-    let more : 256 < length bytes = leb-false (length bytes) 256 over in
-    let front = take 256 bytes in
-    let rest = drop 256 bytes in
-    let all : front ++ rest ≡ bytes = take-append-drop 256 bytes in
-    let size : length front ≡ min 256 (length bytes) = length-take 256 bytes in
-    elim (opening_front front rest) [
-      | inl e ↦ ap is_setup_word (sym e ∙ ap opening all)
-      | inr e ↦
-        let size_all = length-append front (opening rest) in
-        let here : begins_setup front ≡ false = ap is_setup_word e.0 ∙ long_word front (omega (arith, size, more)) in
-        let there : begins_setup bytes ≡ false =
-        ap begins_setup (sym all) ∙ ap is_setup_word e.1 ∙ long_word (front ++ opening rest) (omega (arith, size, more, size_all)) in
-        here ∙ sym there
-    ]
+      let more : 256 < length bytes = leb-false (length bytes) 256 over in
+      let front = take 256 bytes in
+      let rest = drop 256 bytes in
+      let all : front ++ rest ≡ bytes = take-append-drop 256 bytes in
+      let size : length front ≡ min 256 (length bytes) = length-take 256 bytes in
+      elim (opening_front front rest) [
+        | inl e ↦ ap is_setup_word (sym e ∙ ap opening all)
+        | inr e ↦
+            let size_all = length-append front (opening rest) in
+            let here : begins_setup front ≡ false = ap is_setup_word e.0 ∙ long_word front (omega (arith, size, more)) in
+            let there : begins_setup bytes ≡ false =
+            ap begins_setup (sym all) ∙ ap is_setup_word e.1 ∙ long_word (front ++ opening rest) (omega (arith, size, more, size_all)) in
+            here ∙ sym there
+      ]
 ]
 
 opening-ended : (text more : List ℕ) → opening (ended text ++ more) ≡ opening text

@@ -5,6 +5,7 @@ ghost use Rattle.lease_proto.specs.Frames.{last_of};
 ghost use Rattle.lease_proto.specs.SetupLines as spec;
 ghost use Rattle.lease_proto.specs.SetupLines.{setup_of};
 ghost use Rattle.lease_server.specs.Watching.{inner_of, has_failed, reads_of};
+ghost use Rattle.lease_proto.specs.declared.limits.TheConstants.{LONGEST_LINE};
 ghost use Rattle.lease_server.specs.declared.intakes.TheConstants.{MOST_READS};
 ghost use Rattle.vmemd.specs.Scripts.{RefusedBy, IsSpent};
 ghost use Rattle.vmemd.specs.Setups.{TakesLine, LineFails, TakesSetup, SetupFails};
@@ -35,7 +36,7 @@ pub trait SetUp: Responder {
 
 /// Takes the setup lines that the input begins with, and gives what was read and not taken: the
 /// lines after them. At a refused line the desk is what the lines before it made. A setup line that
-/// is too long is refused once 256 bytes of it have come.
+/// is too long is refused as soon as that shows.
 pub fn take_setup<R: Read, D: SetUp>(
     reader: &mut Watched<R>,
     desk: &mut D,
@@ -89,7 +90,7 @@ fn begins_setup(line: &[u8]) -> bool
 /// Refuses a setup line begun that is too long already.
 fn refuse_long(begun: &[u8], number: u64) -> Result<(), ScriptFault>
     ensures { IfErr result (λ fault. (fault ≡ ScriptFault.Setup number
-        (ConfigFault.Line LineFault.TooLong)) × (255 < length begun.now)
+        (ConfigFault.Line LineFault.TooLong)) × (LONGEST_LINE < length begun.now)
         × (spec.begins_setup begun.now ≡ true)) }
 {
     if begun.len() > LONGEST_LINE && begins_setup(begun) {

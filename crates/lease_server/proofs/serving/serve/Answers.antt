@@ -16,21 +16,21 @@ loop-out-init g c =
     let reads = c.args.reader.now.reads in
     let least : reads ≡ min (reads + 0) (2 ^ 64 - 1) = omega (arith, c.reads.ensures) in
     let none : 0 ≡ c.args.input.now.reads - c.args.input.now.reads = omega arith in (
-  [],
-  Consumes-nil _,
-  [],
-  append-nil (frames_at c.args.input.now.hand),
-  refl,
-  c.new-out.ensures.items,
-  ([], (refl, refl), Appends-nil _),
-  c.requires.works.0,
-  c.requires.works.1,
-  c.requires.ended,
-  omega arith,
-  omega arith,
-  least ∙ ap (λ n. min (reads + n) (2 ^ 64 - 1)) none,
-  refl,
-)
+      [],
+      Consumes-nil _,
+      [],
+      append-nil (frames_at c.args.input.now.hand),
+      refl,
+      c.new-out.ensures.items,
+      ([], (refl, refl), Appends-nil _),
+      c.requires.works.0,
+      c.requires.works.1,
+      c.requires.ended,
+      omega arith,
+      omega arith,
+      least ∙ ap (λ n. min (reads + n) (2 ^ 64 - 1)) none,
+      refl,
+    )
 
 pub returns-in_err-serve_held-clause-err : goal.returns-in_err-serve_held-clause-err
 returns-in_err-serve_held-clause-err g c =

@@ -142,7 +142,7 @@ loop-line-smaller g c =
     let fits = size-hand_in c.loop-line.input.hand.line piece in
     let bound = c.read_on.ensures.bound in
     let less : (2 ^ 40 - c.read_on.new.self.reads) * 8192 + size_at c.read_on.new.self.hand
-        < (2 ^ 40 - c.loop-line.input.reads) * 8192 + size_at c.loop-line.input.hand = omega (arith, once, bound, size, fits, short) in
+    < (2 ^ 40 - c.loop-line.input.reads) * 8192 + size_at c.loop-line.input.hand = omega (arith, once, bound, size, fits, short) in
     less
 
 pub loop-line-preserved : goal.loop-line-preserved
