@@ -8,12 +8,12 @@ use Rattle.deed_core.specs.Weights.{Gains, Loses, of_direct, of_cached}
 use Rattle.deed_core.specs.declared.requests.Request.{Request}
 use Rattle.deed_core.specs.declared.segments.Route.TheVariants.{Direct}
 use Rattle.tag_arena.specs.declared.faults.ArenaFault.{ArenaFault}
-use Rattle.tag_arena.specs.declared.faults.ArenaFault.TheVariants.{BadRequest, NoFit, Overlaps, NotAligned, NoMemory}
-use Rattle.tag_arena.specs.declared.faults.SpanRefused.{SpanRefused}
+use Rattle.tag_arena.specs.declared.faults.SpanFault.{SpanFault}
+use Rattle.tag_arena.specs.declared.faults.SpanFault.TheVariants as spans
 use Rattle.tag_arena.specs.ArenaState.{ArenaState, IsSound, tags_of}
-use Rattle.tag_arena.specs.Calls.{RefusesSpan, IsTagged}
+use Rattle.tag_arena.specs.Calls.{IsTagged}
 use Rattle.deed_core.proofs.LawProofs.{slice_get_one}
-use Rattle.tag_arena.specs.Outcomes.{KeepsSetup, CarveOf, FreeOf, ImportOf, AddOf, RemoveOf}
+use Rattle.tag_arena.specs.Outcomes.{KeepsSetup, CarveOf, FreeOf, ImportOf, AddSpanOf, RemoveOf}
 use Rattle.deed_core.specs.Holding.{Holding}
 use Rattle.stock.specs.Spaces.{SpaceState, with_arena}
 use Rattle.stock.specs.Stocks.{IsFrom, IsStock}
@@ -80,9 +80,14 @@ module _ (spaces items : List SpaceState) (k : ℕ) (s : SpaceState) (o : Opens 
           omega (arith, direct_none f b from.1, alone (of_cached f) b),
         )
 
-    pub import_moves : (q : Request) (span : Tag) → CanImport q span s → (r : Result Tag (SpanRefused Tag)) → ImportOf s.arena span q r new → new.owned ≡ s.arena.owned
+    handed_back : (span back : Tag) → back ≡ span → new ≡ s.arena → Moves spaces (span ∷ []) now (back ∷ [])
+    handed_back span back same kept_so = subst (λ x. Moves spaces (span ∷ []) now (x ∷ [])) (sym same) (unchanged (span ∷ []) kept_so)
+
+    pub import_moves : (q : Request) (span : Tag) → CanImport q span s → (r : Result Tag (SpanFault Tag)) → ImportOf s.arena span q r new → new.owned ≡ s.arena.owned
         → OnOk r (Gains s.arena.imported new.imported span) → IfOk r (Gains (tags_of s.arena) (tags_of new)) → Moves spaces (span ∷ []) now (hand_after_import r)
-    import_moves q span can (Err back) of owned more gains = subst (λ x. Moves spaces (span ∷ []) now (x ∷ [])) (sym of.1) (unchanged (span ∷ []) of.2)
+    import_moves q span can (Err (spans.Overlaps back)) of owned more gains = handed_back span back of.0.1 of.1
+    import_moves q span can (Err (spans.NotAligned back)) of owned more gains = handed_back span back of.0.2 of.1
+    import_moves q span can (Err (spans.NoMemory back)) of owned more gains = handed_back span back of.0.2 of.1
     import_moves q span can (Ok t) of owned more gains = moved (span ∷ []) (t ∷ [])
         (record { setup = kept; sound = sound; imported = all_gains (IsFrom s.source) s.arena.imported new.imported span more (subst (λ x. IsFrom x span) (sym can.source) refl) (stock k s o.at).imported; owned = owned_same owned })
         (λ f. omega (arith, gains f, more f, direct_weighs f t route, alone (of_direct f) t, direct_weighs f span can.route, alone (of_direct f) span))
@@ -92,8 +97,8 @@ module _ (spaces items : List SpaceState) (k : ℕ) (s : SpaceState) (o : Opens 
         route = ap (λ (x : Tag). x.route) of.segment
 
     -- an owned span was added, or not
-    pub span_moves : {D : Type 0} (d : D) (h : Holding) (r : Result (Unit {0}) (SpanRefused D)) → s.source ≡ None → AddOf s.arena d h r new → new.imported ≡ s.arena.imported → Moves spaces [] now []
-    span_moves d h (Err back) root of imported = unchanged [] of.2
+    pub span_moves : {D : Type 0} (d : D) (h : Holding) (r : Result (Unit {0}) (SpanFault D)) → s.source ≡ None → AddSpanOf s.arena d h r new → new.imported ≡ s.arena.imported → Moves spaces [] now []
+    span_moves d h (Err back) root of imported = unchanged [] of.1
     span_moves d h (Ok x) root of imported = moved [] []
         (record { setup = kept; sound = sound; imported = from_same imported; owned = λ p from. absurd (let e : None ≡ Some p = sym root ∙ from in cc) })
         (λ f. omega (arith, ap (λ (a : ArenaState). sum_by f (tags_of a)) of.2, ap (sum_by f) imported))
@@ -125,16 +130,11 @@ module _ (spaces items : List SpaceState) (k : ℕ) (s : SpaceState) (o : Opens 
       let is : in_t.space ≡ s = slice_get_one spaces t.arena in_t.space s in_t.at there in
       absurd (of.0 (subst (λ (x : SpaceState). IsTagged x.arena t) is in_t.tagged))
 
-  pub import_never : IsStock spaces → (q : Request) (span : Tag) → CanImport q span s → (r : Result Tag (SpanRefused Tag)) → ImportOf s.arena span q r new → (rest : List Tag) → Accounts spaces (span ∷ rest) → OnlyForMemory r
+  pub import_never : IsStock spaces → (q : Request) (span : Tag) → CanImport q span s → (r : Result Tag (SpanFault Tag)) → ImportOf s.arena span q r new → (rest : List Tag) → Accounts spaces (span ∷ rest) → OnlyForMemory r
   import_never stock q span can (Ok t) of rest a = tt
-  import_never stock q span can (Err back) of rest a = by back.fault of.0
-    where
-      by : (fault : ArenaFault) → RefusesSpan s.arena span.holding.range fault → fault ≡ NoMemory
-      by BadRequest refuses = absurd refuses
-      by NoFit refuses = absurd refuses
-      by Overlaps refuses = absurd (clear_of_child spaces stock span rest can.route a k s o.at can.source refuses)
-      by NotAligned refuses = absurd (refuses.1 (aligned_for_child spaces stock span rest can.route a k s o.at can.source))
-      by NoMemory refuses = refl
+  import_never stock q span can (Err (spans.Overlaps back)) of rest a = absurd (clear_of_child spaces stock span rest can.route a k s o.at can.source of.0.0)
+  import_never stock q span can (Err (spans.NotAligned back)) of rest a = absurd (of.0.1 (aligned_for_child spaces stock span rest can.route a k s o.at can.source))
+  import_never stock q span can (Err (spans.NoMemory back)) of rest a = tt
 
 -- a segment that names no arena isn't out
 pub none_never : (spaces : List SpaceState) → IsStock spaces → (t : Tag) (rest : List Tag) → t.route ≡ Direct → Accounts spaces (t ∷ rest) → length spaces ≤ t.arena → ⊥

@@ -18,7 +18,7 @@ use Rattle.tag_arena.specs.ArenaState.{ArenaState, spans_of, ranges_of, tags_of,
 use Rattle.tag_arena.proofs.LawProofs.{allocated_stand, tags_weigh, spans_once}
 use Rattle.slab_layer.specs.Slab.{SlabState}
 use Rattle.slab_layer.specs.Cache.{span_tag, span_tags}
-use Rattle.slab_layer.specs.Moves.{OverlapsSlab}
+use Rattle.slab_layer.specs.Calls.{OverlapsSlab}
 use Rattle.tag_arena.specs.Calls.{IsClear}
 use Rattle.stock.specs.Spaces.{SpaceState, QuantumCacheState, quantum_of, quanta_of}
 use Rattle.stock.specs.Stocks.{IsFrom, IsSpace, IsStock}

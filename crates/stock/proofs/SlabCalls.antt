@@ -14,7 +14,7 @@ use Rattle.slab_layer.specs.declared.faults.AddFault.TheVariants as adding
 use Rattle.slab_layer.specs.declared.faults.PutFault.{PutFault}
 use Rattle.slab_layer.specs.declared.faults.PutFault.TheVariants as putting
 use Rattle.slab_layer.specs.Cache.{SlabCacheState, IsSound, IsChunkOf, IsSpanOf, deeds_of, chunks_out, span_tags}
-use Rattle.slab_layer.specs.Moves.{IsAlike, TakeOf, PutOf, AddOf, ReapOf}
+use Rattle.slab_layer.specs.Calls.{IsAlike, TakeOf, PutOf, AddOf, ReapOf}
 use Rattle.slab_layer.proofs.LawProofs.{chunks_are_of_cache}
 use Rattle.stock.specs.Spaces.{SpaceState, QuantumCacheState, with_slab, with_cache}
 use Rattle.stock.specs.Stocks.{IsRoundOf, IsQuantumCache, IsStock}

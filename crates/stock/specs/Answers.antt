@@ -3,8 +3,8 @@ use Rattle.std.specs.Prelude.{◌≡◌, List, [], ◌∷◌, Option, Result, Ok
 use Rattle.std.specs.Option.{option_to_list}
 use Rattle.deed_core.specs.Tag.{Tag}
 use Rattle.tag_arena.specs.declared.faults.ArenaFault.{ArenaFault}
-use Rattle.tag_arena.specs.declared.faults.ArenaFault.TheVariants.{NoMemory}
-use Rattle.tag_arena.specs.declared.faults.SpanRefused.{SpanRefused}
+use Rattle.tag_arena.specs.declared.faults.SpanFault.{SpanFault}
+use Rattle.tag_arena.specs.declared.faults.SpanFault.TheVariants as spans
 use Rattle.slab_layer.specs.declared.faults.AddFault.{AddFault}
 use Rattle.slab_layer.specs.declared.faults.AddFault.TheVariants as adding
 use Rattle.slab_layer.specs.declared.faults.PutFault.{PutFault}
@@ -21,9 +21,11 @@ hand_after_free (Ok back) = option_to_list back
 hand_after_free (Err same) = same ∷ []
 
 -- what was carved of the span, or the span that was refused
-abbrev pub hand_after_import : Result Tag (SpanRefused Tag) → List Tag
+abbrev pub hand_after_import : Result Tag (SpanFault Tag) → List Tag
 hand_after_import (Ok t) = t ∷ []
-hand_after_import (Err refused) = refused.span ∷ []
+hand_after_import (Err (spans.Overlaps same)) = same ∷ []
+hand_after_import (Err (spans.NotAligned same)) = same ∷ []
+hand_after_import (Err (spans.NoMemory same)) = same ∷ []
 
 -- the chunk that was refused
 abbrev pub hand_after_put : Result (Unit {0}) (PutFault Tag) → List Tag
@@ -39,9 +41,11 @@ hand_after_add (Err (adding.Overlaps same)) = same ∷ []
 hand_after_add (Err (adding.NoMemory same)) = same ∷ []
 
 -- it was refused for want of memory, if at all
-abbrev pub OnlyForMemory : Result Tag (SpanRefused Tag) → Type 0
+abbrev pub OnlyForMemory : Result Tag (SpanFault Tag) → Type 0
 OnlyForMemory (Ok t) = Unit {0}
-OnlyForMemory (Err refused) = refused.fault ≡ NoMemory
+OnlyForMemory (Err (spans.Overlaps same)) = ⊥
+OnlyForMemory (Err (spans.NotAligned same)) = ⊥
+OnlyForMemory (Err (spans.NoMemory same)) = Unit {0}
 
 -- it wasn't refused as overlapping
 abbrev pub NeverOverlaps : Result Tag (AddFault Tag) → Type 0

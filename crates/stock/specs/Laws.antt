@@ -7,7 +7,7 @@ use Rattle.deed_core.specs.Weights.{Gains, Loses, WeighSame}
 use Rattle.deed_core.specs.declared.segments.Route.TheVariants.{Direct, Cached}
 use Rattle.tag_arena.specs.ArenaState.{spans_of, OnQuantum}
 use Rattle.tag_arena.specs.Calls.{IsClear}
-use Rattle.slab_layer.specs.Moves.{OverlapsSlab}
+use Rattle.slab_layer.specs.Calls.{OverlapsSlab}
 use Rattle.magazine_layer.specs.Magazines.{CpuCacheState, cache_rounds}
 use Rattle.stock.specs.Spaces.{SpaceState, QuantumCacheState, IsCacheAt}
 use Rattle.stock.specs.Accounts.{Accounts, IsAccounted, Frames}

@@ -11,7 +11,7 @@ use Rattle.tag_arena.specs.Outcomes.{FreeOf}
 use Rattle.slab_layer.specs.declared.faults.PutFault.{PutFault}
 use Rattle.slab_layer.specs.declared.faults.PutFault.TheVariants.{NotMine}
 use Rattle.slab_layer.specs.Cache.{SlabCacheState, chunks_out}
-use Rattle.slab_layer.specs.Moves.{PutOf}
+use Rattle.slab_layer.specs.Calls.{PutOf}
 use Rattle.magazine_layer.specs.Magazines.{CpuCacheState, cache_rounds}
 use Rattle.magazine_layer.specs.Depots.{DepotState, new_depot}
 use Rattle.stock.specs.Spaces.{SpaceState, QuantumCacheState, with_arena, with_caches, with_cache, with_slab, with_depot, IsCacheAt}

@@ -10,7 +10,7 @@ ghost use Rattle.stock.specs.Answers.{OnlyForMemory};
 
 use crate::stocks::Stock;
 use deed_core::{Deed, Request, Route, Segment};
-use tag_arena::{ArenaFault, SpanRefused};
+use tag_arena::{ArenaFault, SpanFault};
 
 impl<D: Deed> Stock<D> {
     /// Carves what the policy of the arena at the place chooses for the request.
@@ -48,7 +48,7 @@ impl<D: Deed> Stock<D> {
         child: usize,
         span: Segment<D>,
         request: &Request,
-    ) -> Result<Segment<D>, SpanRefused<Segment<D>>>
+    ) -> Result<Segment<D>, SpanFault<Segment<D>>>
         requires within { child < length self.old }
         requires can { (s : SpaceState) → slice_get self.old child ≡ Some s
             → CanImport request.now span s }

@@ -2,7 +2,7 @@
 ghost use Rattle.std.specs.Prelude.{◌≡◌, ℕ, ◌+◌, List, [], ◌∷◌, IfSome, IfNone, IfOk, IsOk};
 ghost use Rattle.std.specs.Option.{option_to_list};
 ghost use Rattle.deed_core.specs.Tag.{Tag};
-ghost use Rattle.slab_layer.specs.Moves.{TakeOf, AddOf, ReapOf};
+ghost use Rattle.slab_layer.specs.Calls.{TakeOf, AddOf, ReapOf};
 ghost use Rattle.stock.specs.Spaces.{HasCache, plans_of};
 ghost use Rattle.stock.specs.Stocks.{IsRoundOf};
 ghost use Rattle.stock.specs.Accounts.{Accounts, Frames};

@@ -4,7 +4,7 @@ ghost use Rattle.std.specs.Prelude.{OnOk, OnErr};
 ghost use Rattle.std.specs.Int.{IsPowerOfTwo};
 ghost use Rattle.magazine_layer.specs.Magazines.{IsSize};
 ghost use Rattle.std.specs.Option.{option_map};
-ghost use Rattle.tag_arena.specs.Outcomes.{AddOf, RemoveOf};
+ghost use Rattle.tag_arena.specs.Outcomes.{AddSpanOf, RemoveOf};
 ghost use Rattle.stock.specs.Spaces.{SpaceState, plans_of};
 ghost use Rattle.stock.specs.Stocks.{IsStock};
 ghost use Rattle.stock.specs.Accounts.{Accounts, Frames};
@@ -16,7 +16,7 @@ use magazine_layer::Depot;
 use slab_layer::SlabCache;
 use std::alloc::{AllocError, Global};
 use std::marker::Model;
-use tag_arena::{Arena, Policy, SpanRefused};
+use tag_arena::{Arena, Policy, SpanFault};
 
 /// Arenas with their quantum caches, each at the place of its number. It is never copied or dropped.
 pub struct Stock<D: Deed> {
@@ -93,10 +93,10 @@ impl<D: Deed> Stock<D> {
 
     /// Adds an owned span to an arena that doesn't import. The deed is that of a root's whole range,
     /// as it was opened.
-    pub fn add_span(&mut self, arena: usize, deed: D) -> Result<(), SpanRefused<D>>
+    pub fn add_span(&mut self, arena: usize, deed: D) -> Result<(), SpanFault<D>>
         requires within { arena < length self.old }
         requires root { (s : SpaceState) → slice_get self.old arena ≡ Some s → s.source ≡ None }
-        ensures added { OnArena arena (λ a b. AddOf a deed (D.holding deed) result b)
+        ensures added { OnArena arena (λ a b. AddSpanOf a deed (D.holding deed) result b)
             self.old self.new }
         ensures frame { Frames self.old [] self.new [] }
         ensures fixed { plans_of self.new ≡ plans_of self.old }

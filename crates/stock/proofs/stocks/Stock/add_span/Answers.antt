@@ -1,7 +1,7 @@
 use Rattle.std.proofs.Common.{◌≡◌, ◌<◌, sym, subst, ap, length, inl, inr, refl, arith}
 use Rattle.stock.specs.Stocks.{IsStock}
 use Rattle.stock.proofs.Moving.{opens}
-use Rattle.tag_arena.specs.Outcomes.{AddOf}
+use Rattle.tag_arena.specs.Outcomes.{AddSpanOf}
 use Rattle.stock.proofs.ArenaCalls.{on_arena, span_moves}
 use Rattle.stock.proofs.stocks.Stock.add_span.Goals as goal
 
@@ -26,4 +26,4 @@ returns-clause-fixed g c =
 pub returns-clause-added : goal.returns-clause-added
 returns-clause-added g c =
     let o = opens c.args.self.now c.self.inside.spaces.items c.args.arena (record { arena = c.space.inside.arena; source = c.space.inside.source; caches = c.space.inside.caches.items }) c.index_mut-space.result.now c.self.view_is c.requires.within c.index_mut-space.ensures.value c.space.view_is in
-    on_arena _ _ _ _ o c.add_span.new.self (λ a b. AddOf a c.args.deed (g.D.Deed.holding c.args.deed) c.add_span.result b) c.add_span.ensures.added
+    on_arena _ _ _ _ o c.add_span.new.self (λ a b. AddSpanOf a c.args.deed (g.D.Deed.holding c.args.deed) c.add_span.result b) c.add_span.ensures.added

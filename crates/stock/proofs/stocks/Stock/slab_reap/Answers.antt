@@ -4,7 +4,7 @@ use Rattle.stock.specs.Spaces.{HasCache}
 use Rattle.stock.specs.Stocks.{IsStock}
 use Rattle.stock.proofs.Moving.{opens}
 use Rattle.stock.proofs.CacheSteps.{place_within, number_within, opens_cache}
-use Rattle.slab_layer.specs.Moves.{ReapOf}
+use Rattle.slab_layer.specs.Calls.{ReapOf}
 use Rattle.stock.proofs.SlabCalls.{on_slab, reap_moves}
 use Rattle.stock.proofs.stocks.Stock.slab_reap.Goals as goal
 

@@ -4,7 +4,7 @@ use Rattle.stock.specs.Spaces.{HasCache}
 use Rattle.stock.specs.Stocks.{IsStock}
 use Rattle.stock.proofs.Moving.{opens}
 use Rattle.stock.proofs.CacheSteps.{place_within, number_within, opens_cache}
-use Rattle.slab_layer.specs.Moves.{TakeOf}
+use Rattle.slab_layer.specs.Calls.{TakeOf}
 use Rattle.stock.proofs.SlabCalls.{on_slab, take_moves, take_chunk}
 use Rattle.stock.proofs.stocks.Stock.slab_take.Goals as goal
 
