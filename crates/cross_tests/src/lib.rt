@@ -23,6 +23,8 @@ mod lines;
 #[cfg(test)]
 mod magazines;
 #[cfg(test)]
+mod promises;
+#[cfg(test)]
 mod seat_deeds;
 #[cfg(test)]
 mod serving;

@@ -2,14 +2,19 @@
 use Rattle.std.proofs.Common.{◌≡◌, inl, inr, ℕ, ◌<◌, ◌≤◌, refl, sym, subst, ap, ◌∙◌, List, get_or, Contains, Option, Some, None, MatchOption, arith}
 use Rattle.std.proofs.lemmas.Bool.{cases_order}
 use Rattle.deed_core.specs.Holding.{Holding}
+use Rattle.deed_core.specs.Tag.{Tag}
+use Rattle.deed_core.proofs.LawProofs.{same_holding}
 use Rattle.deed_core.specs.Request.{rounded}
 use Rattle.deed_core.specs.declared.requests.Request.{Request}
 use Rattle.tag_arena.specs.declared.policies.Policy.{Policy}
 use Rattle.tag_arena.specs.declared.policies.Policy.TheVariants.{Best, Next, Instant}
 use Rattle.tag_arena.specs.Place.{IsLeast, Serves, ServesIn}
 use Rattle.tag_arena.specs.Choice.{IsBest, IsInstant, IsChoice, ComesFirst, OnList}
-use Rattle.tag_arena.specs.Laws.{BestIsOne, NextIsOne, InstantIsOne}
-use Rattle.tag_arena.proofs.Ranges.{member-Any}
+use Rattle.tag_arena.specs.ArenaState.{ArenaState, IsSound, direct}
+use Rattle.tag_arena.specs.Calls.{after_carve}
+use Rattle.tag_arena.specs.Outcomes.{Carved}
+use Rattle.tag_arena.specs.Laws.{BestIsOne, NextIsOne, InstantIsOne, CarveIsOne}
+use Rattle.tag_arena.proofs.Ranges.{member-Any, same_where_shared}
 
 -- of two choices by the best rule both are the same
 same_best : (quantum : ℕ) (q : Request) (free : List Holding) (r s : Holding) (b c : ℕ) → IsBest quantum q free r b → IsBest quantum q free s c → b ≡ c
@@ -83,3 +88,32 @@ pub choice_one : (policy : Policy) (quantum : ℕ) (q : Request) (free : List Ho
 choice_one Best quantum q free rover o p x y = best_one quantum q free o p x y
 choice_one Next quantum q free rover o p x y = next_one quantum q free rover o p x y
 choice_one Instant quantum q free rover o p x y = instant_one quantum q free o p x y
+
+-- two carves of one request
+module _ (old new other : ArenaState) (q : Request) (t s : Tag) (sound : IsSound old) (x : Carved old q t new) (y : Carved old q s other) where
+  same_base : t.holding.range.base ≡ s.holding.range.base
+  same_base =
+      let e : Some t.holding.range.base ≡ Some s.holding.range.base = choice_one old.policy old.quantum q old.free old.rover (Some t.holding.range.base) (Some s.holding.range.base) x.chosen y.chosen in
+      cc
+
+  same_len : t.holding.range.len ≡ s.holding.range.len
+  same_len = x.fits.size ∙ sym y.fits.size
+
+  -- the base lies in both free ranges
+  same_range : x.carves.range ≡ y.carves.range
+  same_range =
+      same_where_shared old.free x.carves.range y.carves.range t.holding.range.base sound.divided.whole.free_apart x.carves.among y.carves.among
+      (x.carves.inside.from, omega (arith, x.carves.inside.to, x.range.some))
+      (omega (arith, y.carves.inside.from, same_base), omega (arith, y.carves.inside.to, y.range.some, same_base))
+
+  same_piece : t.holding ≡ s.holding
+  same_piece = same_holding t.holding s.holding (x.carves.inside.root ∙ ap (λ (r : Holding). r.root) same_range ∙ sym y.carves.inside.root) same_base same_len
+
+  pub same_carve : (t ≡ s) × (new ≡ other)
+  same_carve = (
+    x.segment ∙ ap (direct old.id) same_piece ∙ sym y.segment,
+    x.carves.after ∙ ap (λ (r : Holding). after_carve old r t.holding) same_range ∙ ap (after_carve old y.carves.range) same_piece ∙ sym y.carves.after,
+  )
+
+pub carve_one : CarveIsOne
+carve_one old new other q t s sound x y = same_carve old new other q t s sound x y

@@ -1,9 +1,7 @@
 -- No choice means that no address serves, and a choice serves.
-use Rattle.std.proofs.Common.{◌≡◌, ◌⊎◌, ℕ, ◌%◌, ◌≤◌, refl, sym, subst, inl, inr, List, Contains, All, Option, Some, None, MatchOption, Result, Ok, Err, arith}
-use Rattle.std.specs.Prelude.{IsOk}
+use Rattle.std.proofs.Common.{◌≡◌, ℕ, ◌%◌, ◌≤◌, refl, sym, subst, inl, inr, List, Contains, All, Option, Some, None, MatchOption, Result, Ok, Err, arith}
 use Rattle.deed_core.specs.Holding.{Holding}
 use Rattle.deed_core.specs.Tag.{Tag}
-use Rattle.deed_core.specs.Request.{IsGood}
 use Rattle.deed_core.specs.declared.requests.Request.{Request}
 use Rattle.tag_arena.specs.declared.faults.ArenaFault.{ArenaFault}
 use Rattle.tag_arena.specs.declared.faults.ArenaFault.TheVariants.{BadRequest, NoFit, NoMemory}
@@ -73,12 +71,12 @@ module _ (old new : ArenaState) (q : Request) (sound : IsSound old) where
   exact (Err BadRequest) refused = record {
     bad = ((λ e. refused.0), (λ bad. refl));
     none = ((λ e. cc), (λ none. absurd (refused.0 none.0)));
-    some = ((λ e. elim e [ | inl wrong ↦ cc | inr e ↦ cc ]), (λ s. absurd (refused.0 s.0)));
+    some = ((λ e. elim e [ inl wrong ↦ cc | inr e ↦ cc ]), (λ s. absurd (refused.0 s.0)));
   }
   exact (Err NoFit) refused = record {
     bad = ((λ e. cc), (λ bad. absurd (bad refused.0.0)));
     none = ((λ e. (refused.0.0, none_serves old.policy old.quantum q old.free old.rover refused.0.1)), (λ none. refl));
-    some = ((λ e. elim e [ | inl wrong ↦ cc | inr e ↦ cc ]), (λ s. absurd (none_serves old.policy old.quantum q old.free old.rover refused.0.1 s.1.0 s.1.1)));
+    some = ((λ e. elim e [ inl wrong ↦ cc | inr e ↦ cc ]), (λ s. absurd (none_serves old.policy old.quantum q old.free old.rover refused.0.1 s.1.0 s.1.1)));
   }
   exact (Err NoMemory) refused =
       let base : ℕ = refused.0.1.0 in

@@ -1,5 +1,5 @@
 -- What follows from the definitions, for the proofs of the layers above.
-use Rattle.std.specs.Prelude.{◌≡◌, ℕ, ◌<◌, ◌≤◌, ◌↔◌, ◌⊎◌, List, [], Contains, Option, Some, None, Result, Err, IsOk, sum_by}
+use Rattle.std.specs.Prelude.{◌≡◌, ℕ, ◌<◌, ◌≤◌, ◌↔◌, ◌⊎◌, List, [], Contains, Option, Some, None, Result, Ok, Err, IsOk, sum_by}
 use Rattle.deed_core.specs.Holding.{Holding}
 use Rattle.deed_core.specs.Tag.{Tag}
 use Rattle.deed_core.specs.Covering.{covering_held}
@@ -30,6 +30,11 @@ NextIsOne = (quantum : ℕ) (q : Request) (free : List Holding) (rover : ℕ) (o
 abbrev pub InstantIsOne : Type 0
 InstantIsOne = (quantum : ℕ) (q : Request) (free : List Holding) (o p : Option ℕ)
     → IsInstantChoice quantum q free o → IsInstantChoice quantum q free p → o ≡ p
+
+-- two segments that may be carved for one request of one arena are the same, and leave the same
+abbrev pub CarveIsOne : Type 0
+CarveIsOne = (old new other : ArenaState) (q : Request) (t s : Tag) → IsSound old
+    → CarveOf old q (Ok t) new → CarveOf old q (Ok s) other → (t ≡ s) × (new ≡ other)
 
 -- where the policy chooses none, no address serves
 abbrev pub NoneServes : Type 0

@@ -1,12 +1,14 @@
 //! Laws of the definitions, for the proofs of the layers above. The functions do nothing: their
 //! contracts are the laws, and proofs/LawProofs.antt hands them on.
-ghost use Rattle.tag_arena.specs.Laws.{BestIsOne, NextIsOne, InstantIsOne, NoneServes, ChoiceServes, CarvesExactly, FreeAreLongestRuns, SpansOnce, TagsWeigh, AllocatedStand, AllocatedCount, GoesEmpty};
+ghost use Rattle.tag_arena.specs.Laws.{BestIsOne, NextIsOne, InstantIsOne, CarveIsOne, NoneServes, ChoiceServes, CarvesExactly, FreeAreLongestRuns, SpansOnce, TagsWeigh, AllocatedStand, AllocatedCount, GoesEmpty};
 
 /// Two choices by one rule are the same: a relation that names a choice is as good as a function.
+/// So which segment is carved, and what the arena is then, is settled before the call.
 pub fn one_choice_laws()
     ensures best { BestIsOne }
     ensures next { NextIsOne }
     ensures instant { InstantIsOne }
+    ensures carve { CarveIsOne }
 {}
 
 /// None is chosen only where no address serves, and an address that is chosen serves. So a carve
