@@ -2,8 +2,8 @@
 ghost use Rattle.std.specs.Prelude.{◌≡◌, ◌++◌, false};
 
 use lease_proto::{
-    ErrorWord, Granted, Hello, Lease, LeaseOptions, Line, LineFault, LineReader, Op, OperatorLine,
-    PolicyWord, Refused, Release, Reply, RootLine, ServedLine, SetupLine,
+    ErrorWord, Granted, HelloLine, LeaseLine, LeaseOptions, Line, LineFault, LineReader, Op,
+    OperatorLine, PolicyWord, Refused, ReleaseLine, Reply, RootLine, ServedLine, SetupLine,
 };
 use lease_terms::{ClientId, Name, Ordinal, Quantity, Refusal, RequestId};
 use std::alloc::{AllocError, Global};
@@ -208,12 +208,12 @@ fn third_request() -> Result<RequestId, Fail> {
 fn the_words_go_to_their_fields(rt: HostRuntime) -> Result<(), Fail> {
     let id = third_request()?;
     let arena = name(b"arena2")?;
-    let hello = Hello {
+    let hello = HelloLine {
         client: id.client,
         incarnation: id.incarnation,
     };
     assert_eq!(rt; Line::read(b"hello 7 2")?, Line::Hello(hello));
-    let lease = Lease {
+    let lease = LeaseLine {
         arena,
         size: quantity(8)?,
         options: LeaseOptions {
@@ -226,7 +226,7 @@ fn the_words_go_to_their_fields(rt: HostRuntime) -> Result<(), Fail> {
     };
     let text = b"lease 7 2 3 arena2 8 align 16 phase 4 nocross 64 min 10 max 99";
     assert_eq!(rt; Line::read(text)?, Line::Request(id, Op::Lease(lease)));
-    let plain = Lease {
+    let plain = LeaseLine {
         options: LeaseOptions::none(),
         ..lease
     };
@@ -238,7 +238,7 @@ fn the_words_go_to_their_fields(rt: HostRuntime) -> Result<(), Fail> {
 
 #[test]
 fn the_words_of_a_release_go_to_their_fields(rt: HostRuntime) -> Result<(), Fail> {
-    let release = Release {
+    let release = ReleaseLine {
         arena: name(b"arena2")?,
         base: quantity(24)?,
     };

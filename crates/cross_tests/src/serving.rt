@@ -1,7 +1,7 @@
 //! Serving from readers and to writers that give and take little, that stop for a moment, and that fail.
 ghost use Rattle.std.specs.Prelude.{◌≡◌, ◌∷◌, [], ◌++◌};
 
-use lease_server::{Responder, ServeFault, Watched, serve, serve_after};
+use lease_server::{Intake, Responder, ServeFault, Watched, serve};
 use std::alloc::{AllocError, Global};
 use std::io;
 use std::io::{ErrorKind, Read, Write};
@@ -149,7 +149,8 @@ fn outcome(
     });
     let mut writer = Watched::new(Sink::new(alloc, taking, writing));
     let mut echo = NEVER;
-    let result = serve(alloc, &mut reader, &mut writer, &mut echo);
+    let mut lines = Intake::new();
+    let result = serve(alloc, &mut lines, &mut reader, &mut writer, &mut echo);
     (result, writer.into_inner())
 }
 
@@ -185,21 +186,39 @@ fn each_line_is_answered_however_it_comes_and_goes(rt: HostRuntime) -> Result<()
     Ok(())
 }
 
+/// The length of the first plain line, with its line feed.
+const FIRST_LINE: usize = 10;
+
 #[test]
-fn bytes_that_were_read_already_come_first(rt: HostRuntime) -> Result<(), Fail> {
+fn what_was_read_and_not_passed_is_served_first(rt: HostRuntime) -> Result<(), Fail> {
     let alloc = rt.alloc();
-    for cut in 0..=PLAIN.len() {
+    for size in 1..=PLAIN.len() {
         let mut reader = Watched::new(Pieces {
-            rest: &PLAIN[cut..],
-            size: 4,
+            rest: PLAIN,
+            size,
             mishap: Mishap::None,
             reads: 0,
         });
+        let mut lines = Intake::new();
+        let Ok(more) = lines.read_on(&mut reader) else {
+            return Err(Fail::from("a reader that works failed"));
+        };
+        if !more {
+            return Err(Fail::from("the input ended before its first byte"));
+        }
+        let mut passed = 0;
+        if let Some(line) = lines.first_line() {
+            assert_eq!(rt; line, &PLAIN[..FIRST_LINE - 1], "in pieces of {size}");
+            lines.pass();
+            passed = FIRST_LINE;
+        }
         let mut writer = Watched::new(Sink::new(alloc, 100, Mishap::None));
         let mut echo = NEVER;
-        let result = serve_after(alloc, &PLAIN[..cut], &mut reader, &mut writer, &mut echo);
-        assert_eq!(rt; result, Ok(()), "cut at {cut}");
-        assert_eq!(rt; writer.into_inner().held.as_slice(), PLAIN, "cut at {cut}");
+        let result = serve(alloc, &mut lines, &mut reader, &mut writer, &mut echo);
+        assert_eq!(rt; result, Ok(()), "in pieces of {size}");
+        let held = writer.into_inner().held;
+        assert_eq!(rt; held.as_slice(), &PLAIN[passed..], "in pieces of {size}");
+        assert_eq!(rt; passed == FIRST_LINE, size >= FIRST_LINE);
     }
     Ok(())
 }
@@ -331,7 +350,8 @@ fn want_of_memory_leaves_the_answers_before_it(rt: HostRuntime) {
             answered: 0,
             refused_at: i as u64 + 1,
         };
-        let result = serve(alloc, &mut reader, &mut writer, &mut echo);
+        let mut lines = Intake::new();
+        let result = serve(alloc, &mut lines, &mut reader, &mut writer, &mut echo);
         assert_eq!(rt; result, Err(ServeFault::Memory), "at line {i}");
         assert_eq!(rt; writer.has_failed(), false);
         assert_eq!(rt; writer.into_inner().held.as_slice(), *front, "at line {i}");

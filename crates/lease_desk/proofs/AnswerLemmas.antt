@@ -21,9 +21,9 @@ use Rattle.lease_book.specs.declared.answers.Look.TheVariants as look
 use Rattle.lease_book.specs.declared.receipts.KeptReply.TheVariants as was
 use Rattle.lease_book.specs.declared.books.TheConstants.{MOST_LEASES}
 use Rattle.lease_book.specs.declared.receipts.Terms.{Terms}
-use Rattle.lease_proto.specs.declared.lines.Hello.{Hello as HelloLine}
-use Rattle.lease_proto.specs.declared.lines.Lease.{Lease as LeaseLine}
-use Rattle.lease_proto.specs.declared.lines.Release.{Release as ReleaseLine}
+use Rattle.lease_proto.specs.declared.lines.HelloLine.{HelloLine}
+use Rattle.lease_proto.specs.declared.lines.LeaseLine.{LeaseLine}
+use Rattle.lease_proto.specs.declared.lines.ReleaseLine.{ReleaseLine}
 use Rattle.lease_proto.specs.declared.replies.Reply.{Reply}
 use Rattle.lease_proto.specs.declared.replies.Reply.TheVariants as reply
 use Rattle.lease_desk.specs.declared.spaces.Space.{Space}

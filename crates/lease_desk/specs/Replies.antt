@@ -5,7 +5,7 @@ use Rattle.lease_book.specs.declared.answers.Answer.{Answer}
 use Rattle.lease_book.specs.declared.answers.Answer.TheVariants as answer
 use Rattle.lease_book.specs.declared.answers.HelloFault.{HelloFault}
 use Rattle.lease_book.specs.declared.answers.HelloFault.TheVariants as fault
-use Rattle.lease_proto.specs.declared.lines.Hello.{Hello}
+use Rattle.lease_proto.specs.declared.lines.HelloLine.{HelloLine}
 use Rattle.lease_proto.specs.declared.replies.Reply.{Reply}
 use Rattle.lease_proto.specs.declared.replies.Reply.TheVariants as reply
 use Rattle.lease_desk.specs.DeskState.{NamedArenaState}
@@ -44,7 +44,7 @@ Says arenas q (answer.Gap last) r = r ≡ gap_to q last
 Says arenas q answer.Again r = r ≡ again_to q
 
 -- the reply to a hello that isn't taken
-abbrev pub hello_refused : Hello → HelloFault → Reply
+abbrev pub hello_refused : HelloLine → HelloFault → Reply
 hello_refused h (fault.Old current) =
     reply.Old (record { client = h.client; current = current })
 hello_refused h fault.NoMemory =

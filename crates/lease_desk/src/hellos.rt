@@ -8,11 +8,11 @@ use crate::returns::sweep;
 use crate::spaces::Space;
 use deed_core::PlainDeed;
 use lease_book::{Book, HelloFault};
-use lease_proto::{Again, Hello, Old, Reply, Welcome};
+use lease_proto::{Again, HelloLine, Old, Reply, Welcome};
 use lease_terms::Quantity;
 
 /// Takes a hello, and ends the client's leases of older incarnations.
-pub(crate) fn greet(spaces: &mut Vec<Space>, book: &mut Book<PlainDeed>, hello: &Hello) -> Reply
+pub(crate) fn greet(spaces: &mut Vec<Space>, book: &mut Book<PlainDeed>, hello: &HelloLine) -> Reply
     requires steady { IsSteady spaces.old.items book.old }
     ensures steady { IsSteady spaces.new.items book.new }
     ensures step { HelloStep hello.now
@@ -31,7 +31,7 @@ pub(crate) fn greet(spaces: &mut Vec<Space>, book: &mut Book<PlainDeed>, hello: 
 }
 
 /// The reply to a hello that isn't taken.
-fn refused(hello: &Hello, fault: &HelloFault) -> Reply
+fn refused(hello: &HelloLine, fault: &HelloFault) -> Reply
     ensures { result ≡ hello_refused hello.now fault.now }
 {
     match fault {

@@ -15,12 +15,12 @@ use crate::settling::{known, refuse};
 use crate::spaces::{Space, index_of};
 use deed_core::{PlainDeed, Request, Segment};
 use lease_book::{Book, NotLeased};
-use lease_proto::{Lease, Reply};
+use lease_proto::{LeaseLine, Reply};
 use lease_terms::{Refusal, RequestId};
 use tag_arena::ArenaFault;
 
 /// What a lease asks of its arena.
-fn demand_of(lease: &Lease) -> Request
+fn demand_of(lease: &LeaseLine) -> Request
     ensures { result ≡ spec_demand_of lease.now }
 {
     Request {
@@ -38,7 +38,7 @@ pub(crate) fn lease(
     spaces: &mut Vec<Space>,
     book: &mut Book<PlainDeed>,
     id: RequestId,
-    line: &Lease,
+    line: &LeaseLine,
 ) -> Reply
     requires steady { IsSteady spaces.old.items book.old }
     ensures steady { IsSteady spaces.new.items book.new }
@@ -79,7 +79,7 @@ fn lease_new(
     spaces: &mut Vec<Space>,
     book: &mut Book<PlainDeed>,
     id: RequestId,
-    line: &Lease,
+    line: &LeaseLine,
     index: usize,
 ) -> Reply
     requires steady { IsSteady spaces.old.items book.old }
@@ -103,7 +103,7 @@ fn grant(
     spaces: &mut Vec<Space>,
     book: &mut Book<PlainDeed>,
     id: RequestId,
-    line: &Lease,
+    line: &LeaseLine,
     index: usize,
     segment: Segment<PlainDeed>,
 ) -> Reply

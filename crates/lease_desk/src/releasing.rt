@@ -11,7 +11,7 @@ use crate::settling::{known, refuse};
 use crate::spaces::{Space, index_of};
 use deed_core::PlainDeed;
 use lease_book::Book;
-use lease_proto::{Release, Reply};
+use lease_proto::{ReleaseLine, Reply};
 use lease_terms::{Refusal, RequestId};
 
 /// Answers a release.
@@ -19,7 +19,7 @@ pub(crate) fn release(
     spaces: &mut Vec<Space>,
     book: &mut Book<PlainDeed>,
     id: RequestId,
-    line: &Release,
+    line: &ReleaseLine,
 ) -> Reply
     requires steady { IsSteady spaces.old.items book.old }
     ensures steady { IsSteady spaces.new.items book.new }
@@ -40,7 +40,7 @@ fn release_new(
     spaces: &mut Vec<Space>,
     book: &mut Book<PlainDeed>,
     id: RequestId,
-    line: &Release,
+    line: &ReleaseLine,
     index: usize,
 ) -> Reply
     requires steady { IsSteady spaces.old.items book.old }

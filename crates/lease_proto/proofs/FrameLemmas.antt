@@ -4,6 +4,7 @@ use Rattle.std.proofs.lemmas.List.{append-nil, take-take, take_all, length-take,
 use Rattle.std.proofs.lemmas.Bool.{ne_eqb, cases_Bool, cases_eq, leb-true, leb-false, le-leb, lt-leb}
 use Rattle.std.proofs.Math.Seq.{take-append-add}
 use Rattle.std.specs.List.{flat_map, AllByRecursion}
+use Rattle.lease_proto.specs.declared.limits.TheConstants.{LONGEST_LINE, LINE_ROOM}
 use Rattle.lease_proto.specs.Frames.{frame_of, last_of, frames_in, rest_in, ended, IsOneLine, FramesAreLines, InputIsLines}
 use Rattle.lease_proto.specs.declared.faults.LineFault.TheVariants.{TooLong, BadLine}
 
@@ -57,39 +58,39 @@ take-front zero xs ys = refl
 take-front (suc n) [] ys = refl
 take-front (suc n) (x ∷ xs) ys = ap (λ r. x ∷ r) (take-front n xs ys)
 
--- the first 256 bytes of a line tell its frame
-fits-take : (line : List ℕ) → nat_le (length (take 256 line)) 255 ≡ nat_le (length line) 255
-fits-take line = rw length-take (elim (cases_Bool (nat_le (length line) 255)) [
+-- the front of a line tells its frame
+fits-take : (line : List ℕ) → nat_le (length (take LINE_ROOM line)) LONGEST_LINE ≡ nat_le (length line) LONGEST_LINE
+fits-take line = rw length-take (elim (cases_Bool (nat_le (length line) LONGEST_LINE)) [
   | inl fits ↦ rw fits (le-leb _ _ (omega (arith, leb-true _ _ fits)))
   | inr over ↦ rw over (lt-leb _ _ (omega (arith, leb-false _ _ over)))
 ])
 
-pub frame_of-take : (line : List ℕ) → frame_of (take 256 line) ≡ frame_of line
-frame_of-take line = elim (cases_Bool (nat_le (length line) 255)) [
-  | inl fits ↦ let same : take 256 line ≡ line = take_all 256 line (omega (arith, leb-true _ _ fits)) in ap frame_of same
+pub frame_of-take : (line : List ℕ) → frame_of (take LINE_ROOM line) ≡ frame_of line
+frame_of-take line = elim (cases_Bool (nat_le (length line) LONGEST_LINE)) [
+  | inl fits ↦ let same : take LINE_ROOM line ≡ line = take_all LINE_ROOM line (omega (arith, leb-true _ _ fits)) in ap frame_of same
   | inr over ↦ rw (fits-take line, over) refl
 ]
 
-pub last_of-take : (line : List ℕ) → last_of (take 256 line) ≡ last_of line
+pub last_of-take : (line : List ℕ) → last_of (take LINE_ROOM line) ≡ last_of line
 last_of-take [] = refl
 last_of-take (b ∷ bs) = ap (λ t. cond t (Err BadLine) (Err TooLong) ∷ []) (fits-take (b ∷ bs))
 
-pub frames_in-take : (line bs : List ℕ) → frames_in (take 256 line) bs ≡ frames_in line bs
+pub frames_in-take : (line bs : List ℕ) → frames_in (take LINE_ROOM line) bs ≡ frames_in line bs
 frames_in-take line [] = refl
 frames_in-take line (b ∷ bs) =
-    let same : frames_in (take 256 line ++ b ∷ []) bs ≡ frames_in (line ++ b ∷ []) bs =
-    sym (frames_in-take (take 256 line ++ b ∷ []) bs) ∙ ap (λ l. frames_in l bs) (take-front 256 line (b ∷ []))
+    let same : frames_in (take LINE_ROOM line ++ b ∷ []) bs ≡ frames_in (line ++ b ∷ []) bs =
+    sym (frames_in-take (take LINE_ROOM line ++ b ∷ []) bs) ∙ ap (λ l. frames_in l bs) (take-front LINE_ROOM line (b ∷ []))
     ∙ frames_in-take (line ++ b ∷ []) bs in
     rw (frame_of-take line, same) refl
 
-pub rest_in-take : (line bs : List ℕ) → take 256 (rest_in (take 256 line) bs) ≡ take 256 (rest_in line bs)
-rest_in-take line [] = take-take 256 256 line (omega arith)
+pub rest_in-take : (line bs : List ℕ) → take LINE_ROOM (rest_in (take LINE_ROOM line) bs) ≡ take LINE_ROOM (rest_in line bs)
+rest_in-take line [] = take-take LINE_ROOM LINE_ROOM line (omega arith)
 rest_in-take line (b ∷ bs) =
-    let same : take 256 (rest_in (take 256 line ++ b ∷ []) bs) ≡ take 256 (rest_in (line ++ b ∷ []) bs) =
-    sym (rest_in-take (take 256 line ++ b ∷ []) bs) ∙ ap (λ l. take 256 (rest_in l bs)) (take-front 256 line (b ∷ []))
+    let same : take LINE_ROOM (rest_in (take LINE_ROOM line ++ b ∷ []) bs) ≡ take LINE_ROOM (rest_in (line ++ b ∷ []) bs) =
+    sym (rest_in-take (take LINE_ROOM line ++ b ∷ []) bs) ∙ ap (λ l. take LINE_ROOM (rest_in l bs)) (take-front LINE_ROOM line (b ∷ []))
     ∙ rest_in-take (line ++ b ∷ []) bs in
-    elim (b == 10) as (λ t. take 256 (cond t (rest_in [] bs) (rest_in (take 256 line ++ b ∷ []) bs))
-    ≡ take 256 (cond t (rest_in [] bs) (rest_in (line ++ b ∷ []) bs))) [ true ↦ refl | false ↦ same ]
+    elim (b == 10) as (λ t. take LINE_ROOM (cond t (rest_in [] bs) (rest_in (take LINE_ROOM line ++ b ∷ []) bs))
+    ≡ take LINE_ROOM (cond t (rest_in [] bs) (rest_in (line ++ b ∷ []) bs))) [ true ↦ refl | false ↦ same ]
 
 -- what follows one line that is ended
 one_more : (text bs : List ℕ) → IsOneLine text → (frames_in [] (ended text ++ bs) ≡ frame_of text ∷ frames_in [] bs) × (rest_in [] (ended text ++ bs) ≡ rest_in [] bs)
@@ -147,7 +148,7 @@ one_line_before piece i below none =
 
 -- a reader that takes a piece up to its first line feed
 pub ends_line : (line front piece : List ℕ) (i : ℕ) → i < length piece → get_or piece i 0 ≡ 10
-    → ((k : ℕ) → k < i → get_or piece k 0 ≢ 10) → front ≡ take 256 (line ++ take i piece)
+    → ((k : ℕ) → k < i → get_or piece k 0 ≢ 10) → front ≡ take LINE_ROOM (line ++ take i piece)
     → (frames_in line (take (i + 1) piece) ≡ frame_of front ∷ []) × (rest_in line (take (i + 1) piece) ≡ [])
 ends_line line front piece i below is none held =
     let one = one_line_before piece i below none in
@@ -157,8 +158,8 @@ ends_line line front piece i below is none held =
     )
 
 -- a reader that takes all of a piece
-pub goes_on : (line front piece : List ℕ) → ((k : ℕ) → k < length piece → get_or piece k 0 ≢ 10) → front ≡ take 256 (line ++ piece)
-    → (frames_in line piece ≡ []) × (front ≡ take 256 (rest_in line piece))
+pub goes_on : (line front piece : List ℕ) → ((k : ℕ) → k < length piece → get_or piece k 0 ≢ 10) → front ≡ take LINE_ROOM (line ++ piece)
+    → (frames_in line piece ≡ []) × (front ≡ take LINE_ROOM (rest_in line piece))
 goes_on line front piece none held =
     let one = one_line piece none in
-    (frames_in-none line piece one, held ∙ ap (take 256) (sym (rest_in-none line piece one)))
+    (frames_in-none line piece one, held ∙ ap (take LINE_ROOM) (sym (rest_in-none line piece one)))

@@ -8,6 +8,8 @@ use Rattle.std.proofs.lemmas.Fmt.{length-decimal-le, decimal_nonempty}
 use Rattle.std.specs.List.{All, AllByRecursion, list_all}
 use Rattle.std.specs.Str.{all_ascii_digits}
 use Rattle.std.specs.Char.{is_ascii_digit}
+use Rattle.lease_terms.specs.declared.values.TheConstants.{LARGEST, LAST_CLIENT}
+use Rattle.lease_terms.specs.declared.names.TheConstants.{LONGEST_NAME}
 use Rattle.lease_terms.specs.Names.{is_word, is_word_byte, is_letter, is_name}
 use Rattle.lease_terms.specs.Requests.{RequestId, IsRequestId}
 use Rattle.lease_proto.specs.Words.{parts_of}
@@ -48,28 +50,28 @@ digits_word (b ∷ bs) all =
     (rw parts.0 (elim (is_letter b) as (λ t. (t || true) ≡ true) [ true ↦ refl | false ↦ refl ]))
     (digits_word bs parts.1)
 
-pub decimal_word : (n : ℕ) → n ≤ 2 ^ 62 → is_word (decimal n) ≡ true
+pub decimal_word : (n : ℕ) → n ≤ LARGEST → is_word (decimal n) ≡ true
 decimal_word n low =
     let small : n < 2 ^ 64 = omega arith in
     and_from (nat_le 1 (length (decimal n))) (list_all is_word_byte (decimal n)) (le-leb _ _ (decimal_nonempty n small))
     (digits_word (decimal n) (decimal_is_digits n small))
 
 -- what is written of a number is read as that number
-pub quantity_again : (n : ℕ) → n ≤ 2 ^ 62 → quantity_in (decimal n) ≡ Ok n
-quantity_again n low = rw ((numbers (decimal n) n).1 (refl, low)) (rw (le-leb 0 n (omega arith), le-leb n (2 ^ 62) low) refl)
+pub quantity_again : (n : ℕ) → n ≤ LARGEST → quantity_in (decimal n) ≡ Ok n
+quantity_again n low = rw ((numbers (decimal n) n).1 (refl, low)) (rw (le-leb 0 n (omega arith), le-leb n LARGEST low) refl)
 
-pub ordinal_again : (n : ℕ) → 1 ≤ n → n ≤ 2 ^ 62 → ordinal_in (decimal n) ≡ Ok n
-ordinal_again n one low = rw ((numbers (decimal n) n).1 (refl, low)) (rw (le-leb 1 n one, le-leb n (2 ^ 62) low) refl)
+pub ordinal_again : (n : ℕ) → 1 ≤ n → n ≤ LARGEST → ordinal_in (decimal n) ≡ Ok n
+ordinal_again n one low = rw ((numbers (decimal n) n).1 (refl, low)) (rw (le-leb 1 n one, le-leb n LARGEST low) refl)
 
-pub client_again : (n : ℕ) → 1 ≤ n → n ≤ 65536 → client_in (decimal n) ≡ Ok n
-client_again n one low = rw ((numbers (decimal n) n).1 (refl, omega arith)) (rw (le-leb 1 n one, le-leb n 65536 low) refl)
+pub client_again : (n : ℕ) → 1 ≤ n → n ≤ LAST_CLIENT → client_in (decimal n) ≡ Ok n
+client_again n one low = rw ((numbers (decimal n) n).1 (refl, omega arith)) (rw (le-leb 1 n one, le-leb n LAST_CLIENT low) refl)
 
-pub decimal_short : (k n : ℕ) → 0 < k → n < 10 ^ k → n ≤ 2 ^ 62 → length (decimal n) ≤ k
+pub decimal_short : (k n : ℕ) → 0 < k → n < 10 ^ k → n ≤ LARGEST → length (decimal n) ≤ k
 decimal_short k n some small low = length-decimal-le k n some small (omega arith)
 
-pub name_short : (name : List ℕ) → is_name name ≡ true → length name ≤ 16
+pub name_short : (name : List ℕ) → is_name name ≡ true → length name ≤ LONGEST_NAME
 name_short name is =
-    leb-true _ _ (and_parts (is_letter (get_or name 0 0)) (nat_le (length name) 16) (and_parts (is_word name) _ is).1).1
+    leb-true _ _ (and_parts (is_letter (get_or name 0 0)) (nat_le (length name) LONGEST_NAME) (and_parts (is_word name) _ is).1).1
 
 -- the words of an id are read as that id
 pub id_again : (id : RequestId) → IsRequestId id
@@ -93,12 +95,12 @@ id_are_words id words is are =
 
 -- the most bytes that an id takes
 pub id_short : (id : RequestId) → IsRequestId id
-    → (length (decimal id.client) ≤ 5) × (length (decimal id.incarnation) ≤ 19) × (length (decimal id.number) ≤ 19)
+    → (length (decimal id.client) ≤ 19) × (length (decimal id.incarnation) ≤ 19) × (length (decimal id.number) ≤ 19)
 id_short id is =
     let c = is.client.1 in
     let i = is.incarnation.1 in
     let n = is.number.1 in (
-      decimal_short 5 id.client (omega arith) (omega arith) (omega arith),
+      decimal_short 19 id.client (omega arith) (omega arith) (omega arith),
       decimal_short 19 id.incarnation (omega arith) (omega arith) i,
       decimal_short 19 id.number (omega arith) (omega arith) n,
     )

@@ -5,5 +5,6 @@ pub mod WordLemmas
 pub mod GrammarLemmas
 pub mod LineLemmas
 pub mod ReadLemmas
+pub mod FramedLemmas
 pub mod ReplyLemmas
 pub mod OperatorLemmas

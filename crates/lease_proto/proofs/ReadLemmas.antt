@@ -3,6 +3,7 @@ use Rattle.std.proofs.Common.{◌≡◌, ◌&&◌, ◌^◌, ℕ, ◌≤◌, true
 use Rattle.std.proofs.lemmas.Bool.{leb-true, cases_Bool, and_parts}
 use Rattle.lease_terms.specs.declared.refusals.Refusal.{Refusal}
 use Rattle.lease_terms.specs.declared.refusals.Refusal.TheVariants.{NoFit, BadRequest, NoArena, NotYours, Leases}
+use Rattle.lease_terms.specs.declared.values.TheConstants.{LARGEST, LAST_CLIENT}
 use Rattle.lease_terms.specs.Names.{is_name}
 use Rattle.lease_terms.specs.Ranges.{IsClient, IsOrdinal, IsQuantity}
 use Rattle.lease_terms.specs.Requests.{RequestId, IsRequestId}
@@ -16,12 +17,13 @@ use Rattle.lease_proto.specs.declared.replies.Refused.{Refused}
 use Rattle.lease_proto.specs.declared.replies.Old.{Old}
 use Rattle.lease_proto.specs.declared.replies.OutOfTurn.{OutOfTurn}
 use Rattle.lease_proto.specs.declared.replies.Again.{Again}
-use Rattle.lease_proto.specs.Words.{number_of, is_sentence, parts_of}
-use Rattle.lease_proto.specs.Values.{◌>>=◌, words_of, between, client_in, ordinal_in, quantity_in, id_in, name_in}
-use Rattle.lease_proto.specs.Grammar.{word_at, end_of, id_at}
+use Rattle.lease_proto.specs.declared.limits.TheConstants.{LONGEST_LINE}
+use Rattle.lease_proto.specs.Words.{number_in, is_sentence, parts_of}
+use Rattle.lease_proto.specs.Values.{◌>>=◌, words_of, number_within, client_in, ordinal_in, quantity_in, id_in, name_in}
+use Rattle.lease_proto.specs.Grammar.{word_at, end_at, id_at}
 use Rattle.lease_proto.specs.Texts.{id_words, sentence}
-use Rattle.lease_proto.specs.Faults.{error_in, error_word}
-use Rattle.lease_proto.specs.Replies.{welcome_of, granted_of, released_of, refused_of, old_of, out_of_turn_of, again_of, error_of, refusal_in, refusal_word, welcome_words, granted_words, refused_words, old_words, out_of_turn_words, again_words, IsOutOfTurn}
+use Rattle.lease_proto.specs.Faults.{error_word_in, error_word}
+use Rattle.lease_proto.specs.Replies.{welcome_in, granted_in, released_in, refused_in, old_in, out_of_turn_in, again_in, error_in, refusal_in, refusal_word, welcome_words, granted_words, refused_words, old_words, out_of_turn_words, again_words, IsOutOfTurn}
 use Rattle.std.specs.Str.{bytes_eq}
 use Rattle.std.specs.List.{join_with_byte}
 use Rattle.std.proofs.lemmas.List.{append-nil}
@@ -34,9 +36,9 @@ pub step : {A B : Type 0} (r : Result A LineFault) (f : A → Result B LineFault
 step (Ok a) f b e = (a, refl, e)
 step (Err fault) f b e = absurd (cc)
 
-between_says : (low high : ℕ) (o : Option ℕ) (n : ℕ) → between low high o ≡ Ok n → (o ≡ Some n) × (low ≤ n) × (n ≤ high)
-between_says low high None n e = absurd (cc)
-between_says low high (Some m) n e = elim (cases_Bool (nat_le low m && nat_le m high)) [
+number_within_says : (low high : ℕ) (o : Option ℕ) (n : ℕ) → number_within low high o ≡ Ok n → (o ≡ Some n) × (low ≤ n) × (n ≤ high)
+number_within_says low high None n e = absurd (cc)
+number_within_says low high (Some m) n e = elim (cases_Bool (nat_le low m && nat_le m high)) [
   | inl fits ↦
       let found : Ok m ≡ Ok n = rw fits at e in
       let is : m ≡ n = cc in
@@ -46,13 +48,13 @@ between_says low high (Some m) n e = elim (cases_Bool (nat_le low m && nat_le m 
 ]
 
 pub client_says : (word : List ℕ) (n : ℕ) → client_in word ≡ Ok n → (word ≡ decimal n) × IsClient n
-client_says word n e = let said = between_says 1 65536 (number_of word) n e in (((numbers word n).0 said.0).0, (said.1, said.2))
+client_says word n e = let said = number_within_says 1 LAST_CLIENT (number_in word) n e in (((numbers word n).0 said.0).0, (said.1, said.2))
 
 pub ordinal_says : (word : List ℕ) (n : ℕ) → ordinal_in word ≡ Ok n → (word ≡ decimal n) × IsOrdinal n
-ordinal_says word n e = let said = between_says 1 (2 ^ 62) (number_of word) n e in (((numbers word n).0 said.0).0, (said.1, said.2))
+ordinal_says word n e = let said = number_within_says 1 LARGEST (number_in word) n e in (((numbers word n).0 said.0).0, (said.1, said.2))
 
 pub quantity_says : (word : List ℕ) (n : ℕ) → quantity_in word ≡ Ok n → (word ≡ decimal n) × IsQuantity n
-quantity_says word n e = let said = between_says 0 (2 ^ 62) (number_of word) n e in (((numbers word n).0 said.0).0, said.2)
+quantity_says word n e = let said = number_within_says 0 LARGEST (number_in word) n e in (((numbers word n).0 said.0).0, said.2)
 
 pub name_says : (word name : List ℕ) → name_in word ≡ Ok name → (word ≡ name) × (is_name name ≡ true)
 name_says word name e = elim (cases_Bool (is_name word)) [
@@ -90,7 +92,7 @@ refusal_says word r e = elim (named refusal_word word NoFit _ r e) [
   ]
 ]
 
-pub error_word_says : (word : List ℕ) (r : ErrorWord) → error_in word ≡ Ok r → word ≡ error_word r
+pub error_word_says : (word : List ℕ) (r : ErrorWord) → error_word_in word ≡ Ok r → word ≡ error_word r
 error_word_says word r e = elim (named error_word word (errors.Line faults.TooLong) _ r e) [
   | inl is ↦ is
   | inr e1 ↦ elim (named error_word word (errors.Line faults.BadLine) _ r e1) [
@@ -121,7 +123,7 @@ word_step [] f b e k = absurd (cc)
 word_step (word ∷ rest) f b e k = k word rest refl e
 
 -- no word is left, and so on
-pub end_step : {B P : Type 0} (words : List (List ℕ)) (f : Unit {0} → Result B LineFault) (b : B) → (end_of words >>= f) ≡ Ok b
+pub end_step : {B P : Type 0} (words : List (List ℕ)) (f : Unit {0} → Result B LineFault) (b : B) → (end_at words >>= f) ≡ Ok b
     → (words ≡ [] → f tt ≡ Ok b → P) → P
 end_step [] f b e k = k refl e
 end_step (word ∷ rest) f b e k = absurd (cc)
@@ -146,9 +148,9 @@ refusal_step : {B P : Type 0} (word : List ℕ) (f : Refusal → Result B LineFa
     → ((r : Refusal) → word ≡ refusal_word r → f r ≡ Ok b → P) → P
 refusal_step word f b e k = let (r, is, next) = step (refusal_in word) f b e in k r (refusal_says word r is) next
 
-error_step : {B P : Type 0} (word : List ℕ) (f : ErrorWord → Result B LineFault) (b : B) → (error_in word >>= f) ≡ Ok b
+error_step : {B P : Type 0} (word : List ℕ) (f : ErrorWord → Result B LineFault) (b : B) → (error_word_in word >>= f) ≡ Ok b
     → ((r : ErrorWord) → word ≡ error_word r → f r ≡ Ok b → P) → P
-error_step word f b e k = let (r, is, next) = step (error_in word) f b e in k r (error_word_says word r is) next
+error_step word f b e k = let (r, is, next) = step (error_word_in word) f b e in k r (error_word_says word r is) next
 
 -- the words of an id are there, and so on
 pub id_at_step : {B P : Type 0} (words : List (List ℕ))
@@ -180,8 +182,8 @@ id_step wc wi wn f b e k =
     let (id, is, next) = step (id_in (wc, wi, wn)) f b e in
     let said = id_says wc wi wn id is in k id said.0 said.1 said.2 said.3 next
 
-pub error_says : (words : List (List ℕ)) (read : ErrorWord) → error_of words ≡ Ok read → words ≡ error_word read ∷ []
-unfolding error_of
+pub error_says : (words : List (List ℕ)) (read : ErrorWord) → error_in words ≡ Ok read → words ≡ error_word read ∷ []
+unfolding error_in
 error_says words read e =
     word_step words _ read e (λ word w1 word_is e1.
     error_step word _ read e1 (λ error error_is e2.
@@ -195,7 +197,7 @@ join_with_byte-sentence first [] = sym (append-nil first)
 join_with_byte-sentence first (word ∷ words) = ap (λ t. first ++ (32 ∷ t)) (join_with_byte-sentence word words)
 
 pub words_says : (bytes : List ℕ) (words : List (List ℕ)) → words_of bytes ≡ Ok words → bytes ≡ join_with_byte 32 words
-words_says bytes words e = elim (cases_Bool (nat_lt 255 (length bytes))) [
+words_says bytes words e = elim (cases_Bool (nat_lt LONGEST_LINE (length bytes))) [
   | inl long ↦ let bad : Err faults.TooLong ≡ Ok words = rw long at e in absurd (cc)
   | inr short ↦
       let e1 : cond (is_sentence bytes) (Ok (parts_of bytes)) (Err faults.BadLine) ≡ Ok words = rw short at e in
@@ -213,8 +215,8 @@ pub words_step : {B P : Type 0} (bytes : List ℕ) (f : List (List ℕ) → Resu
     → ((words : List (List ℕ)) → bytes ≡ join_with_byte 32 words → f words ≡ Ok b → P) → P
 words_step bytes f b e k = let (words, is, next) = step (words_of bytes) f b e in k words (words_says bytes words is) next
 
-pub welcome_says : (words : List (List ℕ)) (read : Welcome) → welcome_of words ≡ Ok read → (IsClient read.client × IsOrdinal read.incarnation) × (words ≡ welcome_words read)
-unfolding welcome_of
+pub welcome_says : (words : List (List ℕ)) (read : Welcome) → welcome_in words ≡ Ok read → (IsClient read.client × IsOrdinal read.incarnation) × (words ≡ welcome_words read)
+unfolding welcome_in
 welcome_says words read e =
     word_step words _ read e (λ client w1 client_is e1.
     word_step w1 _ read e1 (λ incarnation w2 incarnation_is e2.
@@ -224,9 +226,9 @@ welcome_says words read e =
     let read_is : record { client = c; incarnation = i } ≡ read = cc in
     subst (λ (r : Welcome). (IsClient r.client × IsOrdinal r.incarnation) × (words ≡ welcome_words r)) read_is ((c_in, i_in), cc))))))
 
-pub granted_says : (words : List (List ℕ)) (read : Granted) → granted_of words ≡ Ok read
+pub granted_says : (words : List (List ℕ)) (read : Granted) → granted_in words ≡ Ok read
     → (IsRequestId read.id × (is_name read.arena ≡ true) × IsQuantity read.base × IsQuantity read.len) × (words ≡ granted_words read)
-unfolding granted_of
+unfolding granted_in
 granted_says words read e =
     id_at_step words _ read e (λ wc wi wn w1 words_are e1.
     word_step w1 _ read e1 (λ name w2 name_is e2.
@@ -241,8 +243,8 @@ granted_says words read e =
     subst (λ (r : Granted). (IsRequestId r.id × (is_name r.arena ≡ true) × IsQuantity r.base × IsQuantity r.len) × (words ≡ granted_words r))
     read_is ((is, arena_in, b_in, l_in), cc))))))))))
 
-pub released_says : (words : List (List ℕ)) (read : RequestId) → released_of words ≡ Ok read → IsRequestId read × (words ≡ id_words read)
-unfolding released_of
+pub released_says : (words : List (List ℕ)) (read : RequestId) → released_in words ≡ Ok read → IsRequestId read × (words ≡ id_words read)
+unfolding released_in
 released_says words read e =
     id_at_step words _ read e (λ wc wi wn w1 words_are e1.
     end_step w1 _ read e1 (λ end_is e2.
@@ -252,8 +254,8 @@ released_says words read e =
     let n_word = said.3 in
     (said.0, cc)))
 
-pub refused_says : (words : List (List ℕ)) (read : Refused) → refused_of words ≡ Ok read → IsRequestId read.id × (words ≡ refused_words read)
-unfolding refused_of
+pub refused_says : (words : List (List ℕ)) (read : Refused) → refused_in words ≡ Ok read → IsRequestId read.id × (words ≡ refused_words read)
+unfolding refused_in
 refused_says words read e =
     id_at_step words _ read e (λ wc wi wn w1 words_are e1.
     word_step w1 _ read e1 (λ word w2 word_is e2.
@@ -263,8 +265,8 @@ refused_says words read e =
     let read_is : record { id = id; refusal = refusal } ≡ read = cc in
     subst (λ (r : Refused). IsRequestId r.id × (words ≡ refused_words r)) read_is (is, cc))))))
 
-pub old_says : (words : List (List ℕ)) (read : Old) → old_of words ≡ Ok read → (IsClient read.client × IsQuantity read.current) × (words ≡ old_words read)
-unfolding old_of
+pub old_says : (words : List (List ℕ)) (read : Old) → old_in words ≡ Ok read → (IsClient read.client × IsQuantity read.current) × (words ≡ old_words read)
+unfolding old_in
 old_says words read e =
     word_step words _ read e (λ client w1 client_is e1.
     word_step w1 _ read e1 (λ current w2 current_is e2.
@@ -274,8 +276,8 @@ old_says words read e =
     let read_is : record { client = c; current = v } ≡ read = cc in
     subst (λ (r : Old). (IsClient r.client × IsQuantity r.current) × (words ≡ old_words r)) read_is ((c_in, v_in), cc))))))
 
-pub out_of_turn_says : (words : List (List ℕ)) (read : OutOfTurn) → out_of_turn_of words ≡ Ok read → IsOutOfTurn read × (words ≡ out_of_turn_words read)
-unfolding out_of_turn_of
+pub out_of_turn_says : (words : List (List ℕ)) (read : OutOfTurn) → out_of_turn_in words ≡ Ok read → IsOutOfTurn read × (words ≡ out_of_turn_words read)
+unfolding out_of_turn_in
 out_of_turn_says words read e =
     id_at_step words _ read e (λ wc wi wn w1 words_are e1.
     word_step w1 _ read e1 (λ last w2 last_is e2.
@@ -285,8 +287,8 @@ out_of_turn_says words read e =
     let read_is : record { id = id; last = v } ≡ read = cc in
     subst (λ (r : OutOfTurn). IsOutOfTurn r × (words ≡ out_of_turn_words r)) read_is ((is, v_in), cc))))))
 
-pub again_says : (words : List (List ℕ)) (read : Again) → again_of words ≡ Ok read → (IsClient read.client × IsOrdinal read.incarnation × IsQuantity read.number) × (words ≡ again_words read)
-unfolding again_of
+pub again_says : (words : List (List ℕ)) (read : Again) → again_in words ≡ Ok read → (IsClient read.client × IsOrdinal read.incarnation × IsQuantity read.number) × (words ≡ again_words read)
+unfolding again_in
 again_says words read e =
     word_step words _ read e (λ client w1 client_is e1.
     word_step w1 _ read e1 (λ incarnation w2 incarnation_is e2.

@@ -13,14 +13,16 @@ use Rattle.lease_proto.specs.declared.faults.ErrorWord.TheVariants as errors
 use Rattle.lease_proto.specs.declared.replies.Reply.{Reply}
 use Rattle.lease_proto.specs.declared.replies.Reply.TheVariants.{Welcome, Granted, Released, Refused, Old, Stale, Gap, Again, Error}
 use Rattle.lease_proto.specs.declared.replies.OutOfTurn.{OutOfTurn}
-use Rattle.lease_proto.specs.Faults.{error_in, error_word}
+use Rattle.lease_proto.specs.Faults.{error_word_in, error_word}
+use Rattle.lease_proto.specs.declared.limits.TheConstants.{LONGEST_LINE}
 use Rattle.lease_proto.specs.Words.{is_sentence}
 use Rattle.lease_proto.specs.Grammar.{id_at}
 use Rattle.lease_proto.specs.Texts.{sentence}
-use Rattle.lease_proto.specs.Replies.{reply_of, reply_of_words, welcome_of, granted_of, released_of, refused_of, old_of, out_of_turn_of, again_of, error_of, refusal_in, refusal_word, first_reply_word, reply_words, out_of_turn_words, reply_text, IsReply, IsOutOfTurn, RepliesAreTexts}
+use Rattle.lease_proto.specs.Replies.{reply_of, reply_in, welcome_in, granted_in, released_in, refused_in, old_in, out_of_turn_in, again_in, error_in, refusal_in, refusal_word, first_reply_word, reply_words, out_of_turn_words, reply_text, IsReply, IsOutOfTurn, RepliesAreTexts, ReplyIsWhole}
 use Rattle.std.specs.Str.{bytes_eq}
 use Rattle.std.specs.List.{join_with_byte}
-use Rattle.lease_proto.specs.Values.{◌>>=◌}
+use Rattle.lease_proto.specs.Values.{◌>>=◌, words_of}
+use Rattle.lease_proto.proofs.FramedLemmas.{words_are_whole}
 use Rattle.lease_proto.proofs.ReadLemmas.{step, told, words_step, join_with_byte-sentence, welcome_says, granted_says, released_says, refused_says, old_says, out_of_turn_says, again_says, error_says}
 use Rattle.lease_proto.proofs.GrammarLemmas.{client_again, ordinal_again, quantity_again, id_again, id_are_words, id_short, decimal_word, decimal_short, name_short, parts_of-sentence}
 
@@ -45,7 +47,7 @@ refusal_short NoArena = lit≤ tt
 refusal_short NotYours = lit≤ tt
 refusal_short Leases = lit≤ tt
 
-error_again : (error : ErrorWord) → error_in (error_word error) ≡ Ok error
+error_again : (error : ErrorWord) → error_word_in (error_word error) ≡ Ok error
 error_again (errors.Line faults.TooLong) = refl
 error_again (errors.Line faults.BadLine) = refl
 error_again (errors.Line faults.Word) = refl
@@ -72,8 +74,8 @@ error_short errors.Memory = lit≤ tt
 error_short errors.NoArena = lit≤ tt
 error_short errors.Size = lit≤ tt
 
-words_again : (reply : Reply) → IsReply reply → reply_of_words (first_reply_word reply ∷ reply_words reply) ≡ Ok reply
-unfolding reply_of_words id_at welcome_of granted_of released_of refused_of old_of out_of_turn_of again_of error_of
+words_again : (reply : Reply) → IsReply reply → reply_in (first_reply_word reply ∷ reply_words reply) ≡ Ok reply
+unfolding reply_in id_at welcome_in granted_in released_in refused_in old_in out_of_turn_in again_in error_in
 words_again (Welcome w) is = rw (client_again w.client is.0.0 is.0.1, ordinal_again w.incarnation is.1.0 is.1.1) refl
 words_again (Granted g) is = rw (is.1, id_again g.id is.0, quantity_again g.base is.2, quantity_again g.len is.3) refl
 words_again (Released id) is = rw (id_again id is) refl
@@ -101,15 +103,15 @@ are_words (Gap g) is = out_of_turn_are_words g is
 are_words (Again a) is = rw (decimal_word a.client (omega arith), decimal_word a.incarnation is.1.1, decimal_word a.number is.2) refl
 are_words (Error error) is = rw (error_is_word error) refl
 
-out_of_turn_short : (first : List ℕ) (r : OutOfTurn) → length first ≤ 10 → IsOutOfTurn r → length (sentence first (out_of_turn_words r)) ≤ 255
+out_of_turn_short : (first : List ℕ) (r : OutOfTurn) → length first ≤ 10 → IsOutOfTurn r → length (sentence first (out_of_turn_words r)) ≤ LONGEST_LINE
 out_of_turn_short first r key is =
     let id = id_short r.id is.0 in
     let v = decimal_short 19 r.last (omega arith) (omega arith) is.1 in
     simp length-append (omega arith)
 
-short : (reply : Reply) → IsReply reply → length (reply_text reply) ≤ 255
+short : (reply : Reply) → IsReply reply → length (reply_text reply) ≤ LONGEST_LINE
 short (Welcome w) is =
-    let c = decimal_short 5 w.client (omega arith) (omega arith) (omega arith) in
+    let c = decimal_short 19 w.client (omega arith) (omega arith) (omega arith) in
     let i = decimal_short 19 w.incarnation (omega arith) (omega arith) is.1.1 in
     simp length-append (omega arith)
 short (Granted g) is =
@@ -126,13 +128,13 @@ short (Refused r) is =
     let w = refusal_short r.refusal in
     simp length-append (omega arith)
 short (Old o) is =
-    let c = decimal_short 5 o.client (omega arith) (omega arith) (omega arith) in
+    let c = decimal_short 19 o.client (omega arith) (omega arith) (omega arith) in
     let v = decimal_short 19 o.current (omega arith) (omega arith) is.1 in
     simp length-append (omega arith)
 short (Stale s) is = out_of_turn_short (codes "stale") s (lit≤ tt) is
 short (Gap g) is = out_of_turn_short (codes "gap") g (lit≤ tt) is
 short (Again a) is =
-    let c = decimal_short 5 a.client (omega arith) (omega arith) (omega arith) in
+    let c = decimal_short 19 a.client (omega arith) (omega arith) (omega arith) in
     let i = decimal_short 19 a.incarnation (omega arith) (omega arith) is.1.1 in
     let n = decimal_short 19 a.number (omega arith) (omega arith) is.2 in
     simp length-append (omega arith)
@@ -157,7 +159,7 @@ unfolding reply_of
 text_is_read reply is =
     let parts = parts_of-sentence (first_reply_word reply) (reply_words reply) (first_is_word reply) (are_words reply is) in
     let words : is_sentence (reply_text reply) ≡ true = ap (list_all is_word) parts ∙ and_from (is_word (first_reply_word reply)) _ (first_is_word reply) (are_words reply is) in
-    rw (le-ltb 255 (length (reply_text reply)) (short reply is), words, parts) (words_again reply is)
+    rw (le-ltb LONGEST_LINE (length (reply_text reply)) (short reply is), words, parts) (words_again reply is)
 
 -- what the words of a reply say of it
 abbrev Says : List ℕ → List (List ℕ) → Reply → Type 0
@@ -177,24 +179,24 @@ both is are = cc
 -- the replies that aren't kept
 abbrev other_reply : List ℕ → List (List ℕ) → Result Reply LineFault
 other_reply first words =
-    if bytes_eq first (codes "old") then (old_of words >>= λ r. Ok (Old r))
-    else if bytes_eq first (codes "stale") then (out_of_turn_of words >>= λ r. Ok (Stale r))
-    else if bytes_eq first (codes "gap") then (out_of_turn_of words >>= λ r. Ok (Gap r))
-    else if bytes_eq first (codes "again") then (again_of words >>= λ r. Ok (Again r))
-    else if bytes_eq first (codes "error") then (error_of words >>= λ r. Ok (Error r))
+    if bytes_eq first (codes "old") then (old_in words >>= λ r. Ok (Old r))
+    else if bytes_eq first (codes "stale") then (out_of_turn_in words >>= λ r. Ok (Stale r))
+    else if bytes_eq first (codes "gap") then (out_of_turn_in words >>= λ r. Ok (Gap r))
+    else if bytes_eq first (codes "again") then (again_in words >>= λ r. Ok (Again r))
+    else if bytes_eq first (codes "error") then (error_in words >>= λ r. Ok (Error r))
     else Err faults.Word
 
 other_words_say : (first : List ℕ) (words : List (List ℕ)) (reply : Reply) → other_reply first words ≡ Ok reply → Says first words reply
 other_words_say first words reply e = elim (told first (codes "old") _ _ _ e) [
-  | inl p ↦ kind Old (old_of words) first words reply (λ r is. let said = old_says words r is in (said.0, both p.0 said.1)) p.1
+  | inl p ↦ kind Old (old_in words) first words reply (λ r is. let said = old_says words r is in (said.0, both p.0 said.1)) p.1
   | inr e1 ↦ elim (told first (codes "stale") _ _ _ e1) [
-    | inl p ↦ kind Stale (out_of_turn_of words) first words reply (λ r is. let said = out_of_turn_says words r is in (said.0, both p.0 said.1)) p.1
+    | inl p ↦ kind Stale (out_of_turn_in words) first words reply (λ r is. let said = out_of_turn_says words r is in (said.0, both p.0 said.1)) p.1
     | inr e2 ↦ elim (told first (codes "gap") _ _ _ e2) [
-      | inl p ↦ kind Gap (out_of_turn_of words) first words reply (λ r is. let said = out_of_turn_says words r is in (said.0, both p.0 said.1)) p.1
+      | inl p ↦ kind Gap (out_of_turn_in words) first words reply (λ r is. let said = out_of_turn_says words r is in (said.0, both p.0 said.1)) p.1
       | inr e3 ↦ elim (told first (codes "again") _ _ _ e3) [
-        | inl p ↦ kind Again (again_of words) first words reply (λ r is. let said = again_says words r is in (said.0, both p.0 said.1)) p.1
+        | inl p ↦ kind Again (again_in words) first words reply (λ r is. let said = again_says words r is in (said.0, both p.0 said.1)) p.1
         | inr e4 ↦ elim (told first (codes "error") _ _ _ e4) [
-          | inl p ↦ kind Error (error_of words) first words reply (λ r is. (tt, both p.0 (error_says words r is))) p.1
+          | inl p ↦ kind Error (error_in words) first words reply (λ r is. (tt, both p.0 (error_says words r is))) p.1
           | inr none ↦ absurd (cc)
         ]
       ]
@@ -202,18 +204,18 @@ other_words_say first words reply e = elim (told first (codes "old") _ _ _ e) [
   ]
 ]
 
-words_say : (words : List (List ℕ)) (reply : Reply) → reply_of_words words ≡ Ok reply
+words_say : (words : List (List ℕ)) (reply : Reply) → reply_in words ≡ Ok reply
     → IsReply reply × (words ≡ first_reply_word reply ∷ reply_words reply)
-unfolding reply_of_words
+unfolding reply_in
 words_say [] reply e = absurd (cc)
 words_say (first ∷ words) reply e = elim (told first (codes "welcome") _ _ _ e) [
-  | inl p ↦ kind Welcome (welcome_of words) first words reply (λ r is. let said = welcome_says words r is in (said.0, both p.0 said.1)) p.1
+  | inl p ↦ kind Welcome (welcome_in words) first words reply (λ r is. let said = welcome_says words r is in (said.0, both p.0 said.1)) p.1
   | inr e1 ↦ elim (told first (codes "granted") _ _ _ e1) [
-    | inl p ↦ kind Granted (granted_of words) first words reply (λ r is. let said = granted_says words r is in (said.0, both p.0 said.1)) p.1
+    | inl p ↦ kind Granted (granted_in words) first words reply (λ r is. let said = granted_says words r is in (said.0, both p.0 said.1)) p.1
     | inr e2 ↦ elim (told first (codes "released") _ _ _ e2) [
-      | inl p ↦ kind Released (released_of words) first words reply (λ r is. let said = released_says words r is in (said.0, both p.0 said.1)) p.1
+      | inl p ↦ kind Released (released_in words) first words reply (λ r is. let said = released_says words r is in (said.0, both p.0 said.1)) p.1
       | inr e3 ↦ elim (told first (codes "refused") _ _ _ e3) [
-        | inl p ↦ kind Refused (refused_of words) first words reply (λ r is. let said = refused_says words r is in (said.0, both p.0 said.1)) p.1
+        | inl p ↦ kind Refused (refused_in words) first words reply (λ r is. let said = refused_says words r is in (said.0, both p.0 said.1)) p.1
         | inr e4 ↦ other_words_say first words reply e4
       ]
     ]
@@ -229,3 +231,9 @@ text_says bytes reply e =
 
 pub replies_are_texts : RepliesAreTexts
 replies_are_texts bytes reply = (text_says bytes reply, λ is. ap reply_of is.1 ∙ text_is_read reply is.0)
+
+pub reply_is_whole : ReplyIsWhole
+unfolding reply_of
+reply_is_whole reply is =
+    let (words, are, next) = step (words_of (reply_text reply)) reply_in reply (text_is_read reply is) in
+    words_are_whole (reply_text reply) words are

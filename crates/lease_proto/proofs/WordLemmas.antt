@@ -9,11 +9,12 @@ use Rattle.std.specs.Char.{is_ascii_digit}
 use Rattle.std.specs.Str.{all_ascii_digits}
 use Rattle.std.proofs.lemmas.Str.Parse.{IsNumeralModel, numerals_by_fold}
 use Rattle.std.proofs.lemmas.Fmt.{decimal-digits_value, digits_decimal, digits_value-decimal, decimal_nonempty, first_decimal, decimal_digit}
-use Rattle.lease_proto.specs.Words.{digits_from, number_of, parts_of, NumbersAreDecimal}
+use Rattle.lease_terms.specs.declared.values.TheConstants.{LARGEST}
+use Rattle.lease_proto.specs.Words.{digits_from, number_in, parts_of, NumbersAreDecimal}
 
 -- a number that is too large stays so
-pub digits_over : (n : ℕ) (bs : List ℕ) → 2 ^ 62 < n → digits_from n bs ≡ None
-digits_over n [] over = rw (lt-leb n (2 ^ 62) over) refl
+pub digits_over : (n : ℕ) (bs : List ℕ) → LARGEST < n → digits_from n bs ≡ None
+digits_over n [] over = rw (lt-leb n LARGEST over) refl
 digits_over n (b ∷ bs) over =
     elim (is_ascii_digit b) as (λ t. cond t (digits_from (n * 10 + (b - 48)) bs) None ≡ None) [
       | true ↦ digits_over (n * 10 + (b - 48)) bs (omega arith)
@@ -50,8 +51,8 @@ own : IsNumeralModel (λ ds. all_ascii_digits ds ≡ true) (read_on 0)
 own = numerals_by_fold _ (search rules) read_on (search rules)
 
 -- what a number that was read says of its digits
-digits_say : (m : ℕ) (bs : List ℕ) (n : ℕ) → digits_from m bs ≡ Some n → (all_ascii_digits bs ≡ true) × (read_on m bs ≡ n) × (n ≤ 2 ^ 62)
-digits_say m [] n e = elim (cases_Bool (nat_le m (2 ^ 62))) [
+digits_say : (m : ℕ) (bs : List ℕ) (n : ℕ) → digits_from m bs ≡ Some n → (all_ascii_digits bs ≡ true) × (read_on m bs ≡ n) × (n ≤ LARGEST)
+digits_say m [] n e = elim (cases_Bool (nat_le m LARGEST)) [
   | inl low ↦ let is : m ≡ n = (let found : Some m ≡ Some n = rw low at e in cc) in (refl, is, rw (← is) (leb-true _ _ low))
   | inr high ↦ let none : None ≡ Some n = rw high at e in absurd (cc)
 ]
@@ -63,8 +64,8 @@ digits_say m (b ∷ bs) n e = elim (cases_Bool (is_ascii_digit b)) [
 ]
 
 -- digits of a number that isn't too large are read
-digits_read : (m : ℕ) (bs : List ℕ) (n : ℕ) → all_ascii_digits bs ≡ true → read_on m bs ≡ n → n ≤ 2 ^ 62 → digits_from m bs ≡ Some n
-digits_read m [] n all is low = rw is (rw (le-leb n (2 ^ 62) low) refl)
+digits_read : (m : ℕ) (bs : List ℕ) (n : ℕ) → all_ascii_digits bs ≡ true → read_on m bs ≡ n → n ≤ LARGEST → digits_from m bs ≡ Some n
+digits_read m [] n all is low = rw is (rw (le-leb n LARGEST low) refl)
 digits_read m (b ∷ bs) n all is low =
     let parts = and_parts (is_ascii_digit b) (all_ascii_digits bs) all in
     rw parts.0 (digits_read (m * 10 + (b - 48)) bs n parts.1 is low)
@@ -73,8 +74,8 @@ digits_read m (b ∷ bs) n all is low =
 abbrev HasPlainFront : List ℕ → Type 0
 HasPlainFront word = get_or word 0 0 ≡ 48 → length word ≡ 1
 
-number_says : (word : List ℕ) (n : ℕ) → number_of word ≡ Some n
-    → (all_ascii_digits word ≡ true) × (0 < length word) × HasPlainFront word × (read_on 0 word ≡ n) × (n ≤ 2 ^ 62)
+number_says : (word : List ℕ) (n : ℕ) → number_in word ≡ Some n
+    → (all_ascii_digits word ≡ true) × (0 < length word) × HasPlainFront word × (read_on 0 word ≡ n) × (n ≤ LARGEST)
 number_says [] n e = absurd (cc)
 number_says (b ∷ []) n e = let said = digits_say 0 (b ∷ []) n e in (said.0, omega arith, λ _. refl, said.1, said.2)
 number_says (b ∷ c ∷ bs) n e = elim (cases_eq b 48) [
@@ -84,8 +85,8 @@ number_says (b ∷ c ∷ bs) n e = elim (cases_eq b 48) [
       (said.0, omega arith, λ is. absurd (other is), said.1, said.2)
 ]
 
-number_read : (word : List ℕ) (n : ℕ) → all_ascii_digits word ≡ true → 0 < length word → HasPlainFront word → read_on 0 word ≡ n → n ≤ 2 ^ 62
-    → number_of word ≡ Some n
+number_read : (word : List ℕ) (n : ℕ) → all_ascii_digits word ≡ true → 0 < length word → HasPlainFront word → read_on 0 word ≡ n → n ≤ LARGEST
+    → number_in word ≡ Some n
 number_read [] n all some front is low = absurd (omega arith)
 number_read (b ∷ []) n all some front is low = digits_read 0 (b ∷ []) n all is low
 number_read (b ∷ c ∷ bs) n all some front is low =
@@ -102,7 +103,7 @@ numbers word n = (
       (sym (decimal-digits_value own word said.0 said.1 said.2 (omega arith)) ∙ ap decimal said.3, said.4),
   λ given.
       let small : n < 2 ^ 64 = omega arith in
-      ap number_of given.0 ∙ number_read (decimal n) n (digits_decimal own n small) (decimal_nonempty n small) (plain_decimal n small)
+      ap number_in given.0 ∙ number_read (decimal n) n (digits_decimal own n small) (decimal_nonempty n small) (plain_decimal n small)
       (digits_value-decimal own n small) given.1,
 )
 

@@ -29,8 +29,8 @@ abbrev pub error_line : LineFault → List ℕ
 error_line fault = error_text (Line fault)
 
 -- what an `error` line of this word says
-abbrev pub error_in : List ℕ → Result ErrorWord LineFault
-error_in word =
+abbrev pub error_word_in : List ℕ → Result ErrorWord LineFault
+error_word_in word =
     if bytes_eq word (codes "toolong") then Ok (Line TooLong)
     else if bytes_eq word (codes "badline") then Ok (Line BadLine)
     else if bytes_eq word (codes "word") then Ok (Line Word)

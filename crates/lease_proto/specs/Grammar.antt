@@ -1,6 +1,7 @@
 -- Which bytes are a line, and why others are none.
-use Rattle.std.specs.Prelude.{ℕ, ◌^◌, List, [], ◌∷◌, if◌then◌else◌, Option, Some, None, Result, Ok, Err, codes}
+use Rattle.std.specs.Prelude.{ℕ, List, [], ◌∷◌, if◌then◌else◌, Option, Some, None, Result, Ok, Err, codes}
 use Rattle.std.specs.Str.{bytes_eq}
+use Rattle.lease_terms.specs.declared.values.TheConstants.{LARGEST}
 use Rattle.lease_proto.specs.declared.faults.LineFault.{LineFault}
 use Rattle.lease_proto.specs.declared.faults.LineFault.TheVariants.{BadLine, Word}
 use Rattle.lease_proto.specs.declared.lines.Line.{Line}
@@ -14,9 +15,9 @@ word_at [] = Err BadLine
 word_at (word ∷ words) = Ok (word, words)
 
 -- no word is left
-abbrev pub end_of : List (List ℕ) → Result (Unit {0}) LineFault
-end_of [] = Ok tt
-end_of (word ∷ words) = Err BadLine
+abbrev pub end_at : List (List ℕ) → Result (Unit {0}) LineFault
+end_at [] = Ok tt
+end_at (word ∷ words) = Err BadLine
 
 -- the three words of a request's id, and the words after them
 unfoldable pub id_at : List (List ℕ) → Result ((List ℕ × List ℕ × List ℕ) × List (List ℕ)) LineFault
@@ -27,23 +28,23 @@ id_at words = do
   Ok ((client.0, incarnation.0, number.0), number.1)
 
 -- `hello C I`: the words after the first
-unfoldable pub hello_of : List (List ℕ) → Result Line LineFault
-hello_of words = do
+unfoldable pub hello_in : List (List ℕ) → Result Line LineFault
+hello_in words = do
   client ← word_at words
   incarnation ← word_at client.1
-  end ← end_of incarnation.1
+  end ← end_at incarnation.1
   c ← client_in client.0
   i ← ordinal_in incarnation.0
   Ok (lines.Hello (record { client = c; incarnation = i }))
 
 -- `release C I N NAME BASE`
-unfoldable pub release_of : List (List ℕ) → Result Line LineFault
-release_of words = do
+unfoldable pub release_in : List (List ℕ) → Result Line LineFault
+release_in words = do
   id ← id_at words
   name ← word_at id.1
   arena ← name_in name.0
   base ← word_at name.1
-  end ← end_of base.1
+  end ← end_at base.1
   request ← id_in id.0
   b ← quantity_in base.0
   Ok (lines.Request request (ops.Release (record { arena = arena; base = b })))
@@ -61,8 +62,8 @@ quantity_or default None = Ok default
 quantity_or default (Some word) = quantity_in word
 
 -- `lease C I N NAME SIZE`, and options in this order
-unfoldable pub lease_of : List (List ℕ) → Result Line LineFault
-lease_of words = do
+unfoldable pub lease_in : List (List ℕ) → Result Line LineFault
+lease_in words = do
   id ← id_at words
   name ← word_at id.1
   arena ← name_in name.0
@@ -72,14 +73,14 @@ lease_of words = do
   let nocross = option_at (codes "nocross") phase.1
   let min = option_at (codes "min") nocross.1
   let max = option_at (codes "max") min.1
-  end ← end_of max.1
+  end ← end_at max.1
   request ← id_in id.0
   s ← quantity_in size.0
   a ← quantity_or 0 align.0
   p ← quantity_or 0 phase.0
   x ← quantity_or 0 nocross.0
   l ← quantity_or 0 min.0
-  h ← quantity_or (2 ^ 62) max.0
+  h ← quantity_or LARGEST max.0
   Ok (lines.Request request (ops.Lease (record {
     arena = arena;
     size = s;
@@ -89,16 +90,16 @@ lease_of words = do
 -- the line of this first word and the words after it
 unfoldable pub line_of_first : List ℕ → List (List ℕ) → Result Line LineFault
 line_of_first first words =
-    if bytes_eq first (codes "hello") then hello_of words
-    else if bytes_eq first (codes "lease") then lease_of words
-    else if bytes_eq first (codes "release") then release_of words
+    if bytes_eq first (codes "hello") then hello_in words
+    else if bytes_eq first (codes "lease") then lease_in words
+    else if bytes_eq first (codes "release") then release_in words
     else Err Word
 
 -- the line that words are
-unfoldable pub line_of_words : List (List ℕ) → Result Line LineFault
-line_of_words [] = Err Word
-line_of_words (first ∷ words) = line_of_first first words
+unfoldable pub line_in : List (List ℕ) → Result Line LineFault
+line_in [] = Err Word
+line_in (first ∷ words) = line_of_first first words
 
 -- the line that bytes are, or the first reason why they are none
 unfoldable pub line_of : List ℕ → Result Line LineFault
-line_of bytes = words_of bytes >>= line_of_words
+line_of bytes = words_of bytes >>= line_in

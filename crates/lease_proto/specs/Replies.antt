@@ -17,9 +17,10 @@ use Rattle.lease_proto.specs.declared.replies.Refused.{Refused}
 use Rattle.lease_proto.specs.declared.replies.Old.{Old}
 use Rattle.lease_proto.specs.declared.replies.OutOfTurn.{OutOfTurn}
 use Rattle.lease_proto.specs.declared.replies.Again.{Again}
-use Rattle.lease_proto.specs.Faults.{error_in, error_word}
+use Rattle.lease_proto.specs.Faults.{error_word_in, error_word}
+use Rattle.lease_proto.specs.Frames.{IsWholeLine}
 use Rattle.lease_proto.specs.Values.{◌>>=◌, words_of, client_in, ordinal_in, quantity_in, id_in, name_in}
-use Rattle.lease_proto.specs.Grammar.{word_at, end_of, id_at}
+use Rattle.lease_proto.specs.Grammar.{word_at, end_at, id_at}
 use Rattle.lease_proto.specs.Texts.{id_words, sentence}
 
 abbrev pub refusal_word : Refusal → List ℕ
@@ -40,105 +41,105 @@ refusal_in word =
     else Err BadLine
 
 -- `welcome C I`: the words after the first
-unfoldable pub welcome_of : List (List ℕ) → Result Welcome LineFault
-welcome_of words = do
+unfoldable pub welcome_in : List (List ℕ) → Result Welcome LineFault
+welcome_in words = do
   client ← word_at words
   incarnation ← word_at client.1
-  end ← end_of incarnation.1
+  end ← end_at incarnation.1
   c ← client_in client.0
   i ← ordinal_in incarnation.0
   Ok (record { client = c; incarnation = i })
 
 -- `granted C I N NAME BASE LEN`
-unfoldable pub granted_of : List (List ℕ) → Result Granted LineFault
-granted_of words = do
+unfoldable pub granted_in : List (List ℕ) → Result Granted LineFault
+granted_in words = do
   id ← id_at words
   name ← word_at id.1
   arena ← name_in name.0
   base ← word_at name.1
   len ← word_at base.1
-  end ← end_of len.1
+  end ← end_at len.1
   request ← id_in id.0
   b ← quantity_in base.0
   l ← quantity_in len.0
   Ok (record { id = request; arena = arena; base = b; len = l })
 
 -- `released C I N`
-unfoldable pub released_of : List (List ℕ) → Result RequestId LineFault
-released_of words = do
+unfoldable pub released_in : List (List ℕ) → Result RequestId LineFault
+released_in words = do
   id ← id_at words
-  end ← end_of id.1
+  end ← end_at id.1
   id_in id.0
 
 -- `refused C I N WORD`
-unfoldable pub refused_of : List (List ℕ) → Result Refused LineFault
-refused_of words = do
+unfoldable pub refused_in : List (List ℕ) → Result Refused LineFault
+refused_in words = do
   id ← id_at words
   word ← word_at id.1
   refusal ← refusal_in word.0
-  end ← end_of word.1
+  end ← end_at word.1
   request ← id_in id.0
   Ok (record { id = request; refusal = refusal })
 
 -- `old C V`
-unfoldable pub old_of : List (List ℕ) → Result Old LineFault
-old_of words = do
+unfoldable pub old_in : List (List ℕ) → Result Old LineFault
+old_in words = do
   client ← word_at words
   current ← word_at client.1
-  end ← end_of current.1
+  end ← end_at current.1
   c ← client_in client.0
   v ← quantity_in current.0
   Ok (record { client = c; current = v })
 
 -- `stale C I N V` and `gap C I N V`
-unfoldable pub out_of_turn_of : List (List ℕ) → Result OutOfTurn LineFault
-out_of_turn_of words = do
+unfoldable pub out_of_turn_in : List (List ℕ) → Result OutOfTurn LineFault
+out_of_turn_in words = do
   id ← id_at words
   last ← word_at id.1
-  end ← end_of last.1
+  end ← end_at last.1
   request ← id_in id.0
   v ← quantity_in last.0
   Ok (record { id = request; last = v })
 
 -- `again C I N`
-unfoldable pub again_of : List (List ℕ) → Result Again LineFault
-again_of words = do
+unfoldable pub again_in : List (List ℕ) → Result Again LineFault
+again_in words = do
   client ← word_at words
   incarnation ← word_at client.1
   number ← word_at incarnation.1
-  end ← end_of number.1
+  end ← end_at number.1
   c ← client_in client.0
   i ← ordinal_in incarnation.0
   n ← quantity_in number.0
   Ok (record { client = c; incarnation = i; number = n })
 
 -- `error WORD`
-unfoldable pub error_of : List (List ℕ) → Result ErrorWord LineFault
-error_of words = do
+unfoldable pub error_in : List (List ℕ) → Result ErrorWord LineFault
+error_in words = do
   word ← word_at words
-  error ← error_in word.0
-  end ← end_of word.1
+  error ← error_word_in word.0
+  end ← end_at word.1
   Ok error
 
 -- the reply that words are
-unfoldable pub reply_of_words : List (List ℕ) → Result Reply LineFault
-reply_of_words [] = Err Word
-reply_of_words (first ∷ words) =
-    if bytes_eq first (codes "welcome") then (welcome_of words >>= λ r. Ok (replies.Welcome r))
-    else if bytes_eq first (codes "granted") then (granted_of words >>= λ r. Ok (replies.Granted r))
+unfoldable pub reply_in : List (List ℕ) → Result Reply LineFault
+reply_in [] = Err Word
+reply_in (first ∷ words) =
+    if bytes_eq first (codes "welcome") then (welcome_in words >>= λ r. Ok (replies.Welcome r))
+    else if bytes_eq first (codes "granted") then (granted_in words >>= λ r. Ok (replies.Granted r))
     else if bytes_eq first (codes "released")
-    then (released_of words >>= λ id. Ok (replies.Released id))
-    else if bytes_eq first (codes "refused") then (refused_of words >>= λ r. Ok (replies.Refused r))
-    else if bytes_eq first (codes "old") then (old_of words >>= λ r. Ok (replies.Old r))
-    else if bytes_eq first (codes "stale") then (out_of_turn_of words >>= λ r. Ok (replies.Stale r))
-    else if bytes_eq first (codes "gap") then (out_of_turn_of words >>= λ r. Ok (replies.Gap r))
-    else if bytes_eq first (codes "again") then (again_of words >>= λ r. Ok (replies.Again r))
-    else if bytes_eq first (codes "error") then (error_of words >>= λ r. Ok (replies.Error r))
+    then (released_in words >>= λ id. Ok (replies.Released id))
+    else if bytes_eq first (codes "refused") then (refused_in words >>= λ r. Ok (replies.Refused r))
+    else if bytes_eq first (codes "old") then (old_in words >>= λ r. Ok (replies.Old r))
+    else if bytes_eq first (codes "stale") then (out_of_turn_in words >>= λ r. Ok (replies.Stale r))
+    else if bytes_eq first (codes "gap") then (out_of_turn_in words >>= λ r. Ok (replies.Gap r))
+    else if bytes_eq first (codes "again") then (again_in words >>= λ r. Ok (replies.Again r))
+    else if bytes_eq first (codes "error") then (error_in words >>= λ r. Ok (replies.Error r))
     else Err Word
 
 -- the reply that bytes are, or the first reason why they are none
 unfoldable pub reply_of : List ℕ → Result Reply LineFault
-reply_of bytes = words_of bytes >>= reply_of_words
+reply_of bytes = words_of bytes >>= reply_in
 
 abbrev pub first_reply_word : Reply → List ℕ
 first_reply_word (replies.Welcome r) = codes "welcome"
@@ -206,3 +207,7 @@ IsReply (replies.Error error) = Unit {0}
 abbrev pub RepliesAreTexts : Type 0
 RepliesAreTexts = (bytes : List ℕ) (reply : Reply)
     → (reply_of bytes ≡ Ok reply) ↔ (IsReply reply × (bytes ≡ reply_text reply))
+
+-- what is written of a reply is one line of a stream
+abbrev pub ReplyIsWhole : Type 0
+ReplyIsWhole = (reply : Reply) → IsReply reply → IsWholeLine (reply_text reply)

@@ -6,7 +6,7 @@ use Rattle.lease_proto.specs.declared.faults.LineFault.TheVariants.{BadLine, Wor
 use Rattle.lease_proto.specs.declared.setup_lines.PolicyWord.{PolicyWord}
 use Rattle.lease_proto.specs.declared.setup_lines.PolicyWord.TheVariants as policies
 use Rattle.lease_proto.specs.Values.{◌>>=◌, words_of, name_in, quantity_in}
-use Rattle.lease_proto.specs.Grammar.{word_at, end_of}
+use Rattle.lease_proto.specs.Grammar.{word_at, end_at}
 use Rattle.lease_proto.specs.declared.setup_lines.SetupLine.{SetupLine}
 use Rattle.lease_proto.specs.declared.setup_lines.SetupLine.TheVariants as lines
 use Rattle.lease_proto.specs.declared.setup_lines.RootLine.{RootLine}
@@ -22,8 +22,8 @@ policy_in word =
     else Err BadLine
 
 -- `root NAME BASE LEN QUANTUM POLICY QMAX`: the words after the first
-unfoldable pub root_of : List (List ℕ) → Result RootLine LineFault
-root_of words = do
+unfoldable pub root_in : List (List ℕ) → Result RootLine LineFault
+root_in words = do
   name ← word_at words
   arena ← name_in name.0
   base ← word_at name.1
@@ -32,7 +32,7 @@ root_of words = do
   policy ← word_at quantum.1
   chosen ← policy_in policy.0
   most ← word_at policy.1
-  end ← end_of most.1
+  end ← end_at most.1
   b ← quantity_in base.0
   l ← quantity_in len.0
   q ← quantity_in quantum.0
@@ -40,8 +40,8 @@ root_of words = do
   Ok (record { name = arena; base = b; len = l; quantum = q; policy = chosen; qcache_max = m })
 
 -- `child NAME SOURCE QUANTUM POLICY QMAX IMPORTMIN`
-unfoldable pub child_of : List (List ℕ) → Result ChildLine LineFault
-child_of words = do
+unfoldable pub child_in : List (List ℕ) → Result ChildLine LineFault
+child_in words = do
   name ← word_at words
   arena ← name_in name.0
   above ← word_at name.1
@@ -51,7 +51,7 @@ child_of words = do
   chosen ← policy_in policy.0
   most ← word_at policy.1
   least ← word_at most.1
-  end ← end_of least.1
+  end ← end_at least.1
   q ← quantity_in quantum.0
   m ← quantity_in most.0
   i ← quantity_in least.0
@@ -65,29 +65,29 @@ child_of words = do
   })
 
 -- `span NAME BASE LEN`
-unfoldable pub span_of : List (List ℕ) → Result SpanLine LineFault
-span_of words = do
+unfoldable pub span_in : List (List ℕ) → Result SpanLine LineFault
+span_in words = do
   name ← word_at words
   arena ← name_in name.0
   base ← word_at name.1
   len ← word_at base.1
-  end ← end_of len.1
+  end ← end_at len.1
   b ← quantity_in base.0
   l ← quantity_in len.0
   Ok (record { name = arena; base = b; len = l })
 
 -- the setup line that words are
-unfoldable pub setup_of_words : List (List ℕ) → Result SetupLine LineFault
-setup_of_words [] = Err Word
-setup_of_words (first ∷ words) =
-    if bytes_eq first (codes "root") then (root_of words >>= λ r. Ok (lines.Root r))
-    else if bytes_eq first (codes "child") then (child_of words >>= λ c. Ok (lines.Child c))
-    else if bytes_eq first (codes "span") then (span_of words >>= λ s. Ok (lines.Span s))
+unfoldable pub setup_in : List (List ℕ) → Result SetupLine LineFault
+setup_in [] = Err Word
+setup_in (first ∷ words) =
+    if bytes_eq first (codes "root") then (root_in words >>= λ r. Ok (lines.Root r))
+    else if bytes_eq first (codes "child") then (child_in words >>= λ c. Ok (lines.Child c))
+    else if bytes_eq first (codes "span") then (span_in words >>= λ s. Ok (lines.Span s))
     else Err Word
 
 -- the setup line that bytes are, or the first reason why they are none
 unfoldable pub setup_of : List ℕ → Result SetupLine LineFault
-setup_of bytes = words_of bytes >>= setup_of_words
+setup_of bytes = words_of bytes >>= setup_in
 
 -- the bytes before the first space or line feed
 abbrev pub opening : List ℕ → List ℕ

@@ -1,6 +1,7 @@
 -- The words that a line is written with.
-use Rattle.std.specs.Prelude.{◌⊎◌, ◌↔◌, ◌≡◌, ◌==◌, ◌^◌, ℕ, List, [], ◌∷◌, ◌++◌, if◌then◌else◌, Ok, codes, decimal, true}
+use Rattle.std.specs.Prelude.{◌⊎◌, ◌↔◌, ◌≡◌, ◌==◌, ℕ, List, [], ◌∷◌, ◌++◌, if◌then◌else◌, Ok, codes, decimal, true}
 use Rattle.std.specs.List.{flat_map}
+use Rattle.lease_terms.specs.declared.values.TheConstants.{LARGEST}
 use Rattle.lease_terms.specs.Names.{is_name}
 use Rattle.lease_terms.specs.Ranges.{IsClient, IsOrdinal, IsQuantity}
 use Rattle.lease_terms.specs.Requests.{RequestId, IsRequestId}
@@ -8,10 +9,11 @@ use Rattle.lease_proto.specs.declared.lines.Line.{Line}
 use Rattle.lease_proto.specs.declared.lines.Line.TheVariants as lines
 use Rattle.lease_proto.specs.declared.lines.Op.{Op}
 use Rattle.lease_proto.specs.declared.lines.Op.TheVariants as ops
-use Rattle.lease_proto.specs.declared.lines.Hello.{Hello}
-use Rattle.lease_proto.specs.declared.lines.Lease.{Lease}
-use Rattle.lease_proto.specs.declared.lines.Release.{Release}
+use Rattle.lease_proto.specs.declared.lines.HelloLine.{HelloLine}
+use Rattle.lease_proto.specs.declared.lines.LeaseLine.{LeaseLine}
+use Rattle.lease_proto.specs.declared.lines.ReleaseLine.{ReleaseLine}
 use Rattle.lease_proto.specs.declared.lines.LeaseOptions.{LeaseOptions}
+use Rattle.lease_proto.specs.Frames.{IsWholeLine}
 use Rattle.lease_proto.specs.Grammar.{line_of}
 
 -- an option is left out where it has the value of no constraint
@@ -21,20 +23,20 @@ option_words key default value = if value == default then [] else key ∷ decima
 abbrev pub options_words : LeaseOptions → List (List ℕ)
 options_words o = option_words (codes "align") 0 o.align ++ (option_words (codes "phase") 0 o.phase
     ++ (option_words (codes "nocross") 0 o.nocross ++ (option_words (codes "min") 0 o.min
-    ++ option_words (codes "max") (2 ^ 62) o.max)))
+    ++ option_words (codes "max") LARGEST o.max)))
 
 -- the words of a request's id
 abbrev pub id_words : RequestId → List (List ℕ)
 id_words id = decimal id.client ∷ decimal id.incarnation ∷ decimal id.number ∷ []
 
 -- the words after the first of a hello, and after the id of a request
-abbrev pub hello_words : Hello → List (List ℕ)
+abbrev pub hello_words : HelloLine → List (List ℕ)
 hello_words h = decimal h.client ∷ decimal h.incarnation ∷ []
 
-abbrev pub lease_words : Lease → List (List ℕ)
+abbrev pub lease_words : LeaseLine → List (List ℕ)
 lease_words l = l.arena ∷ decimal l.size ∷ options_words l.options
 
-abbrev pub release_words : Release → List (List ℕ)
+abbrev pub release_words : ReleaseLine → List (List ℕ)
 release_words r = r.arena ∷ decimal r.base ∷ []
 
 abbrev pub op_words : Op → List (List ℕ)
@@ -85,7 +87,7 @@ IsLine (lines.Request id op) = IsRequestId id × IsOp op
 -- the options of a lease in their order: the key, the value of no constraint, and the value
 abbrev pub options_of : LeaseOptions → List (List ℕ × ℕ × ℕ)
 options_of o = (codes "align", 0, o.align) ∷ (codes "phase", 0, o.phase)
-    ∷ (codes "nocross", 0, o.nocross) ∷ (codes "min", 0, o.min) ∷ (codes "max", 2 ^ 62, o.max) ∷ []
+    ∷ (codes "nocross", 0, o.nocross) ∷ (codes "min", 0, o.min) ∷ (codes "max", LARGEST, o.max) ∷ []
 
 -- these words give these options in this order; one may be left out where it has the value of no
 -- constraint
@@ -121,3 +123,7 @@ LinesAreTexts = (bytes : List ℕ) (line : Line)
 -- what is written is read as the same line
 abbrev pub LineIsRead : Type 0
 LineIsRead = (line : Line) → IsLine line → line_of (text_of line) ≡ Ok line
+
+-- and it is one line of a stream
+abbrev pub LineIsWhole : Type 0
+LineIsWhole = (line : Line) → IsLine line → IsWholeLine (text_of line)

@@ -7,11 +7,11 @@ use thiserror::Error;
 /// `Number`.
 #[derive(Clone, Copy, Debug, PartialEq, Eq, Error)]
 pub enum LineFault {
-    /// More than 255 bytes before the line feed, or before the end of the input.
+    /// More than `LONGEST_LINE` bytes before the line feed, or before the end of the input.
     #[error("toolong")]
     TooLong,
-    /// No line feed, no words with one space between them, the wrong number of words, an option that
-    /// is unknown, repeated or out of order, or a word that is no name where a name stands.
+    /// No line feed, no words with one space between them, the wrong number of words, an option
+    /// that is unknown, repeated or out of order, or a word that is no name where a name stands.
     #[error("badline")]
     BadLine,
     /// The first word is none that may stand here.
@@ -67,10 +67,10 @@ pub enum ErrorWord {
 
 impl ErrorWord {
     ghost use Rattle.std.specs.Prelude.{◌≡◌, ◌≤◌, length};
-    ghost use Rattle.lease_proto.specs.Faults.{error_word, error_text, error_in};
+    ghost use Rattle.lease_proto.specs.Faults.{error_word, error_text, error_word_in};
 
     pub(crate) fn read(word: &[u8]) -> Result<Self, LineFault>
-        ensures { result ≡ error_in word.now }
+        ensures { result ≡ error_word_in word.now }
     {
         if word == b"toolong".as_slice() {
             Ok(ErrorWord::Line(LineFault::TooLong))

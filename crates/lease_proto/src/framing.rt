@@ -1,25 +1,26 @@
 //! Lines out of a stream of bytes that comes in any pieces.
-ghost use Rattle.std.specs.Prelude.{◌≡◌, ◌≤◌, ◌<◌, [], ◌∷◌, ◌++◌, length, take, true, false, IfSome, IfNone};
-ghost use Rattle.lease_proto.specs.Frames.{Held, frame_of, last_of, frames_in, rest_in, FramesAreLines, InputIsLines, PiecesAreOne, FrontIsEnough, TextGoesOn, TextEndsNoLine, LineFeedEndsLine, NoPlaceIsLineFeed, frame_view, faults_of};
+ghost use Rattle.std.specs.Prelude.{◌≡◌, ◌≤◌, ◌<◌, ℕ, List, [], ◌∷◌, ◌++◌, length, take, true, false};
+ghost use Rattle.std.specs.Prelude.{if◌then◌else◌, IfSome, IfNone};
+ghost use Rattle.lease_proto.specs.declared.limits.TheConstants.{LINE_ROOM};
+ghost use Rattle.lease_proto.specs.Frames.{LineReaderState, IsOneLine, ended, frame_of, last_of};
+ghost use Rattle.lease_proto.specs.Frames.{frames_in, rest_in, frame_view, faults_of, FramesAreLines};
+ghost use Rattle.lease_proto.specs.Frames.{InputIsLines, PiecesAreOne, FrontIsEnough, TextGoesOn};
+ghost use Rattle.lease_proto.specs.Frames.{TextEndsNoLine, LineFeedEndsLine, NoPlaceIsLineFeed};
 
 use crate::faults::LineFault;
+use crate::limits::{LINE_ROOM, LONGEST_LINE};
 use arrayvec::ArrayVec;
 use memchr::memchr;
 use std::marker::Model;
 use std::mem;
 
-/// The longest line, in bytes before its line feed.
-pub const LONGEST_LINE: usize = 255;
+/// The bytes of a line, without its line feed: at most `LONGEST_LINE` where `next` gives them. A
+/// byte more shows that a line is too long.
+pub type FramedLine = ArrayVec<u8, LINE_ROOM>;
 
-/// One byte more than the longest line, so that a line that is too long shows.
-const HELD: usize = 256;
-
-/// The bytes of a line, without its line feed: at most 255 where `next` gives them.
-pub type FramedLine = ArrayVec<u8, HELD>;
-
-/// Cuts a stream into lines. A contract sees the first 256 bytes of the line that has begun, and whether
-/// its line feed has come. It takes no memory, and looks at each byte that it is fed once, or twice where
-/// it keeps it.
+/// Cuts a stream into lines. A contract sees the first `LINE_ROOM` bytes of the line that has begun,
+/// and whether its line feed has come. It takes no memory, and looks at each byte that it is fed
+/// once, or twice where it keeps it.
 #[derive(Drop)]
 pub struct LineReader {
     front: FramedLine,
@@ -27,7 +28,7 @@ pub struct LineReader {
 }
 
 impl Model for LineReader {
-    ghost Value = { Held };
+    ghost Value = { LineReaderState };
 
     ghost view = { λ r. record { line = r.front.items; whole = r.ended } };
 }
@@ -43,17 +44,20 @@ impl LineReader {
         }
     }
 
-    /// Takes bytes from the front of a piece, up to its first line feed or all, and says how many. Where
-    /// the line feed has come, `next` has the line, and the rest of the piece is fed after it.
+    /// Takes bytes from the front of a piece, up to its first line feed or all, and says how many.
+    /// Where the line feed has come, `next` has the line, and the rest of the piece is fed after it.
     pub fn feed(&mut self, piece: &[u8]) -> usize
         requires { self.old.whole ≡ false }
         ensures within { result ≤ length piece.now }
         ensures part { self.new.whole ≡ false → (result ≡ length piece.now)
             × (frames_in self.old.line piece.now ≡ [])
-            × (self.new.line ≡ take 256 (rest_in self.old.line piece.now)) }
+            × (self.new.line ≡ take LINE_ROOM (rest_in self.old.line piece.now)) }
         ensures whole { self.new.whole ≡ true → (0 < result)
             × (frames_in self.old.line (take result piece.now) ≡ frame_of self.new.line ∷ [])
             × (rest_in self.old.line (take result piece.now) ≡ []) }
+        ensures text { (text : List ℕ) × IsOneLine text
+            × (take result piece.now ≡ (if self.new.whole then ended text else text))
+            × (self.new.line ≡ take LINE_ROOM (self.old.line ++ text)) }
     {
         match memchr(b'\n', piece) {
             Some(i) => {
@@ -69,10 +73,25 @@ impl LineReader {
         }
     }
 
+    /// The first `LINE_ROOM` bytes of the line that has begun, without its line feed.
+    pub fn line(&self) -> &[u8]
+        ensures { result.now ≡ self.now.line }
+    {
+        self.front.as_slice()
+    }
+
+    /// Whether its line feed has come.
+    pub fn is_whole(&self) -> bool
+        ensures { result ≡ self.now.whole }
+    {
+        self.ended
+    }
+
     /// The line that the last `feed` ended, or `TooLong`. The next line then begins.
     pub fn next(&mut self) -> Option<Result<FramedLine, LineFault>>
         ensures none { IfNone result ((self.old.whole ≡ false) × (self.new ≡ self.old)) }
-        ensures some { IfSome result (λ frame. (self.old.whole ≡ true) × (frame_view frame ≡ frame_of self.old.line)
+        ensures some { IfSome result (λ frame. (self.old.whole ≡ true)
+            × (frame_view frame ≡ frame_of self.old.line)
             × (self.new ≡ record { line = []; whole = false })) }
     {
         if !self.ended {
@@ -87,32 +106,41 @@ impl LineReader {
         }
     }
 
-    /// At the end of the input, why the rest is refused: it has no line feed. An empty rest is no line.
+    /// At the end of the input, why the rest is refused: it has no line feed. An empty rest is no
+    /// line.
     pub fn at_end(&self) -> Option<LineFault>
         requires { self.now.whole ≡ false }
         ensures { faults_of result ≡ last_of self.now.line }
     {
-        if self.front.is_empty() {
-            None
-        } else if self.front.len() <= LONGEST_LINE {
-            Some(LineFault::BadLine)
-        } else {
-            Some(LineFault::TooLong)
-        }
+        fault_at_end(self.front.as_slice())
+    }
+}
+
+/// Why the rest of an input is refused that no line feed ends, by its first `LINE_ROOM` bytes. An
+/// empty one is no line.
+pub fn fault_at_end(rest: &[u8]) -> Option<LineFault>
+    ensures { faults_of result ≡ last_of rest.now }
+{
+    if rest.is_empty() {
+        None
+    } else if rest.len() <= LONGEST_LINE {
+        Some(LineFault::BadLine)
+    } else {
+        Some(LineFault::TooLong)
     }
 }
 
 /// Appends as much of a text as there is room for.
 fn hold(front: &mut FramedLine, text: &[u8])
-    ensures { front.new.items ≡ take 256 (front.old.items ++ text.now) }
+    ensures { front.new.items ≡ take LINE_ROOM (front.old.items ++ text.now) }
 {
-    let room = (HELD - front.len()).min(text.len());
+    let room = (LINE_ROOM - front.len()).min(text.len());
     front.try_extend_from_slice(&text[..room]).unwrap();
 }
 
-/// What the lines of an input are: it is lines with their line feeds and a rest, in one way, and its frames
-/// are those of these lines and the rest, however it was cut into pieces. Of a line that has begun, the first
-/// 256 bytes tell all.
+/// What the lines of an input are: it is lines with their line feeds and a rest, in one way, and its
+/// frames are those of these lines and the rest, however it was cut into pieces. Of a line that has
+/// begun, the first `LINE_ROOM` bytes tell all.
 pub fn framing_law()
     ensures framed { FramesAreLines }
     ensures each { InputIsLines }
@@ -120,8 +148,8 @@ pub fn framing_law()
     ensures front { FrontIsEnough }
 {}
 
-/// What a line feed does to the line that has begun, and what text without one does. That text has none is
-/// told by its places.
+/// What a line feed does to the line that has begun, and what text without one does. That text has
+/// none is told by its places.
 pub fn line_feed_law()
     ensures text { TextGoesOn }
     ensures unended { TextEndsNoLine }

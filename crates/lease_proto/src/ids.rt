@@ -9,7 +9,8 @@ use crate::sentences::Words;
 use lease_terms::RequestId;
 use std::marker::Model;
 
-/// The three words `C I N` of an id, not yet looked at: a line's shape is refused before any number.
+/// The three words `C I N` of an id, not yet looked at: a line's shape is refused before any
+/// number.
 #[derive(Drop)]
 pub(crate) struct IdWords<'a> {
     client: &'a [u8],

@@ -1,16 +1,22 @@
 //! The text protocol of leases: lines out of a stream of bytes, all lines that there are, and all
 //! answers to them. Its values, as `ClientId`, are of the crate `lease_terms`.
 //!
-//! `LineReader` (framing) cuts a stream into lines. There are three kinds of line: a client's, `Line`
-//! (lines), which is a hello, or a request's id and the `Op` that it asks for; an operator's,
-//! `OperatorLine`; and a setup's, `SetupLine` (setup_lines). `ServedLine` (operators) is what may
-//! come after a setup: one of the first two. An answer is a `Reply` (replies) to a client, or a
-//! report (reports) to an operator, or an `error` line (faults). A client writes lines and reads
-//! replies, a server the other way.
+//! `LineReader` (framing) cuts a stream into lines. There are three kinds of line: a client's,
+//! `Line` (lines), which is a hello, or a request's id and the `Op` that it asks for; an
+//! operator's, `OperatorLine`; and a setup's, `SetupLine` (setup_lines). `ServedLine` (operators)
+//! is what may come after a setup: one of the first two. An answer is a `Reply` (replies) to a
+//! client, or a report (reports) to an operator, or an `error` line (faults). A client writes lines
+//! and reads replies, a server the other way. What is written reads back as the same (`line_law`,
+//! `reply_law`).
 //!
 //! What bytes a line may be is stated in specs/Grammar.antt, specs/Operators.antt and
-//! specs/SetupLines.antt, of a reply in specs/Replies.antt, and of a report in specs/Reports.antt.
-//! To read a line looks at each of its at most 255 bytes a few times and takes no memory.
+//! specs/SetupLines.antt, of a reply in specs/Replies.antt, and of a report in specs/Reports.antt:
+//! there `X_of` is what whole bytes are, `X_in` what a word or some words say, and `X_text` and
+//! `X_words` what is written. The limits stand in src/limits.rt.
+//!
+//! To read a line looks at each of its bytes, at most `LONGEST_LINE`, a few times and takes no
+//! memory; to write one takes at most `LINE_ROOM` bytes of the buffer. The lines are served by the
+//! crate `lease_server`, and answered by `lease_desk`.
 #![tactic(auto)]
 
 mod faults;
@@ -28,9 +34,9 @@ mod taking;
 mod writing;
 
 pub use faults::{ErrorWord, LineFault};
-pub use framing::{FramedLine, LONGEST_LINE, LineReader, framing_law, line_feed_law};
-pub use limits::{MOST_ARENAS, MOST_SPANS};
-pub use lines::{Hello, Lease, LeaseOptions, Line, Op, Release, line_law};
+pub use framing::{FramedLine, LineReader, fault_at_end, framing_law, line_feed_law};
+pub use limits::{LINE_ROOM, LONGEST_LINE, MOST_ARENAS, MOST_SPANS, limit_law};
+pub use lines::{HelloLine, LeaseLine, LeaseOptions, Line, Op, ReleaseLine, line_law};
 pub use numbers::number_law;
 pub use operators::{OperatorLine, ServedLine, served_law};
 pub use replies::{Again, Granted, Old, OutOfTurn, Refused, Reply, Welcome, reply_law};

@@ -1,21 +1,27 @@
 //! The lines of a client.
-ghost use Rattle.std.specs.Prelude.{◌≡◌, ◌++◌, IsOk, OnOk, OnErr, [], ◌∷◌, ◌+◌, ◌≤◌, ℕ, List, Some, vec_len};
+ghost use Rattle.std.specs.Prelude.{◌≡◌, ◌++◌, IsOk, OnOk, OnErr, [], ◌∷◌, ◌+◌, ◌*◌, ◌≤◌, ℕ, List, Some, vec_len};
 ghost use Rattle.lease_proto.specs.Frames.{ended};
-ghost use Rattle.lease_proto.specs.Grammar.{line_of, line_of_first, hello_of, lease_of, release_of};
+ghost use Rattle.lease_proto.specs.Grammar.{line_of, line_of_first, hello_in, lease_in, release_in};
 ghost use Rattle.lease_proto.specs.Requests.{client_of, incarnation_of, request_of, op_of};
-ghost use Rattle.lease_proto.specs.Texts.{text_of, first_word, op_word, hello_words, lease_words, options_words, release_words, spaced, LinesAreTexts, LineIsRead};
+ghost use Rattle.lease_proto.specs.declared.lines.TheConstants.{OPTIONS_ROOM};
+ghost use Rattle.lease_proto.specs.declared.writing.TheConstants.{NUMBER_ROOM, NAME_ROOM};
+ghost use Rattle.lease_proto.specs.Texts.{text_of, first_word, op_word, hello_words, lease_words, options_words, release_words, spaced, LinesAreTexts, LineIsRead, LineIsWhole, AreOptions, IsOp, IsLine};
 ghost use Rattle.std.specs.List.{flat_map};
 ghost use Rattle.std.specs.Vec.{vec_capacity};
+ghost use Rattle.lease_proto.specs.declared.limits.TheConstants.{LINE_ROOM};
 
 use crate::faults::LineFault;
-use crate::framing::LONGEST_LINE;
 use crate::ids::IdWords;
+use crate::limits::LINE_ROOM;
 use crate::numbers::{client, ordinal, quantity};
 use crate::sentences::{Words, name};
 use crate::taking::{option, quantity_or_default, words};
-use crate::writing::{push_id, push_name, push_number, push_option, push_text};
+use crate::writing::{NUMBER_ROOM, push_id, push_name, push_number, push_option, push_text};
 use lease_terms::{ClientId, Name, Ordinal, Quantity, RequestId};
 use std::alloc::AllocError;
+
+/// Room for all options: five spaces, the 23 letters of their keys, and five numbers.
+const OPTIONS_ROOM: usize = 28 + 5 * NUMBER_ROOM;
 
 /// What a lease asks for beside its size; `none` asks for nothing. Units and numbers of units.
 #[derive(Clone, Copy, Debug, PartialEq, Eq)]
@@ -41,10 +47,20 @@ impl LeaseOptions {
         }
     }
 
+    fn check(&self)
+        ensures { AreOptions self.now }
+    {
+        let _ = self.align.get();
+        let _ = self.phase.get();
+        let _ = self.nocross.get();
+        let _ = self.min.get();
+        let _ = self.max.get();
+    }
+
     fn push(&self, out: &mut Vec<u8>)
-        requires { vec_len out.old + 133 ≤ vec_capacity out.old }
+        requires { vec_len out.old + OPTIONS_ROOM ≤ vec_capacity out.old }
         ensures text { out.new.items ≡ out.old.items ++ spaced (options_words self.now) }
-        ensures len { vec_len out.new ≤ vec_len out.old + 133 }
+        ensures len { vec_len out.new ≤ vec_len out.old + OPTIONS_ROOM }
         ensures capacity { vec_capacity out.old ≤ vec_capacity out.new }
     {
         push_option(out, b"align", Quantity::ZERO, self.align);
@@ -57,29 +73,29 @@ impl LeaseOptions {
 
 /// `hello C I`: the client begins, or begins anew.
 #[derive(Clone, Copy, Debug, PartialEq, Eq)]
-pub struct Hello {
+pub struct HelloLine {
     pub client: ClientId,
     pub incarnation: Ordinal,
 }
 
-impl Hello {
-    #[tactic(auto, unfolding(crate::specs::Grammar::hello_of))]
+impl HelloLine {
+    #[tactic(auto, unfolding(crate::specs::Grammar::hello_in))]
     fn read(words: &mut Words<'_>) -> Result<Line, LineFault>
-        ensures { result ≡ hello_of words.old }
+        ensures { result ≡ hello_in words.old }
     {
         let client_word = words.take()?;
         let incarnation = words.take()?;
         words.end()?;
-        Ok(Line::Hello(Hello {
+        Ok(Line::Hello(HelloLine {
             client: client(client_word)?,
             incarnation: ordinal(incarnation)?,
         }))
     }
 
     fn push(&self, out: &mut Vec<u8>)
-        requires { vec_len out.old + 42 ≤ vec_capacity out.old }
+        requires { vec_len out.old + 2 * NUMBER_ROOM ≤ vec_capacity out.old }
         ensures text { out.new.items ≡ out.old.items ++ spaced (hello_words self.now) }
-        ensures len { vec_len out.new ≤ vec_len out.old + 42 }
+        ensures len { vec_len out.new ≤ vec_len out.old + 2 * NUMBER_ROOM }
         ensures capacity { vec_capacity out.old ≤ vec_capacity out.new }
     {
         push_number(out, u64::from(self.client.get()));
@@ -89,16 +105,16 @@ impl Hello {
 
 /// What `lease C I N NAME SIZE` and its options ask for: a segment of an arena.
 #[derive(Clone, Copy, Debug, PartialEq, Eq)]
-pub struct Lease {
+pub struct LeaseLine {
     pub arena: Name,
     pub size: Quantity,
     pub options: LeaseOptions,
 }
 
-impl Lease {
-    #[tactic(auto, unfolding(crate::specs::Grammar::lease_of))]
+impl LeaseLine {
+    #[tactic(auto, unfolding(crate::specs::Grammar::lease_in))]
     fn read(words: &mut Words<'_>) -> Result<Line, LineFault>
-        ensures { result ≡ lease_of words.old }
+        ensures { result ≡ lease_in words.old }
     {
         let id = IdWords::take(words)?;
         let arena = name(words.take()?)?;
@@ -110,7 +126,7 @@ impl Lease {
         let max = option(words, b"max");
         words.end()?;
         let id = id.read()?;
-        let lease = Lease {
+        let lease = LeaseLine {
             arena,
             size: quantity(size)?,
             options: LeaseOptions {
@@ -125,9 +141,10 @@ impl Lease {
     }
 
     fn push(&self, out: &mut Vec<u8>)
-        requires { vec_len out.old + 171 ≤ vec_capacity out.old }
+        requires { vec_len out.old + (NAME_ROOM + NUMBER_ROOM + OPTIONS_ROOM)
+            ≤ vec_capacity out.old }
         ensures text { out.new.items ≡ out.old.items ++ spaced (lease_words self.now) }
-        ensures len { vec_len out.new ≤ vec_len out.old + 171 }
+        ensures len { vec_len out.new ≤ vec_len out.old + (NAME_ROOM + NUMBER_ROOM + OPTIONS_ROOM) }
         ensures capacity { vec_capacity out.old ≤ vec_capacity out.new }
     {
         push_name(out, &self.arena);
@@ -138,22 +155,22 @@ impl Lease {
 
 /// What `release C I N NAME BASE` asks for: to end the lease of that arena and base.
 #[derive(Clone, Copy, Debug, PartialEq, Eq)]
-pub struct Release {
+pub struct ReleaseLine {
     pub arena: Name,
     pub base: Quantity,
 }
 
-impl Release {
-    #[tactic(auto, unfolding(crate::specs::Grammar::release_of))]
+impl ReleaseLine {
+    #[tactic(auto, unfolding(crate::specs::Grammar::release_in))]
     fn read(words: &mut Words<'_>) -> Result<Line, LineFault>
-        ensures { result ≡ release_of words.old }
+        ensures { result ≡ release_in words.old }
     {
         let id = IdWords::take(words)?;
         let arena = name(words.take()?)?;
         let base = words.take()?;
         words.end()?;
         let id = id.read()?;
-        let release = Release {
+        let release = ReleaseLine {
             arena,
             base: quantity(base)?,
         };
@@ -161,9 +178,9 @@ impl Release {
     }
 
     fn push(&self, out: &mut Vec<u8>)
-        requires { vec_len out.old + 38 ≤ vec_capacity out.old }
+        requires { vec_len out.old + (NAME_ROOM + NUMBER_ROOM) ≤ vec_capacity out.old }
         ensures text { out.new.items ≡ out.old.items ++ spaced (release_words self.now) }
-        ensures len { vec_len out.new ≤ vec_len out.old + 38 }
+        ensures len { vec_len out.new ≤ vec_len out.old + (NAME_ROOM + NUMBER_ROOM) }
         ensures capacity { vec_capacity out.old ≤ vec_capacity out.new }
     {
         push_name(out, &self.arena);
@@ -174,11 +191,28 @@ impl Release {
 /// What a request asks for, without its id.
 #[derive(Clone, Copy, Debug, PartialEq, Eq)]
 pub enum Op {
-    Lease(Lease),
-    Release(Release),
+    Lease(LeaseLine),
+    Release(ReleaseLine),
 }
 
 impl Op {
+    /// Each of its values is in its range. This does nothing: it is called for its clause.
+    pub fn check(&self)
+        ensures { IsOp self.now }
+    {
+        match self {
+            Op::Lease(lease) => {
+                let _ = lease.arena.as_slice();
+                let _ = lease.size.get();
+                lease.options.check();
+            }
+            Op::Release(release) => {
+                let _ = release.arena.as_slice();
+                let _ = release.base.get();
+            }
+        }
+    }
+
     fn keyword(&self) -> &'static [u8]
         ensures { result.now ≡ op_word self.now }
     {
@@ -192,14 +226,14 @@ impl Op {
 /// A line of a client: a hello, or a request with its id.
 #[derive(Clone, Copy, Debug, PartialEq, Eq)]
 pub enum Line {
-    Hello(Hello),
+    Hello(HelloLine),
     Request(RequestId, Op),
 }
 
 impl Line {
     /// The line that these bytes are, or the first reason why they are none. They are given without
     /// the line feed. It takes no memory.
-    #[tactic(auto, unfolding(crate::specs::Grammar::line_of, crate::specs::Grammar::line_of_words))]
+    #[tactic(auto, unfolding(crate::specs::Grammar::line_of, crate::specs::Grammar::line_in))]
     pub fn read(bytes: &[u8]) -> Result<Line, LineFault>
         ensures { result ≡ line_of bytes.now }
     {
@@ -216,25 +250,25 @@ impl Line {
         ensures { result ≡ line_of_first first.now words.old }
     {
         if first == b"hello".as_slice() {
-            Hello::read(words)
+            HelloLine::read(words)
         } else if first == b"lease".as_slice() {
-            Lease::read(words)
+            LeaseLine::read(words)
         } else if first == b"release".as_slice() {
-            Release::read(words)
+            ReleaseLine::read(words)
         } else {
             Err(LineFault::Word)
         }
     }
 
     /// Appends the line and a line feed. An option of no constraint is left out. It fails only when
-    /// out of memory, and never where there is room for `LONGEST_LINE + 1` bytes more.
+    /// out of memory, and never where there is room for `LINE_ROOM` bytes more.
     pub fn write(&self, out: &mut Vec<u8>) -> Result<(), AllocError>
         ensures ok { OnOk result (out.new.items ≡ out.old.items ++ ended (text_of self.now)) }
         ensures unchanged { OnErr result (out.new.items ≡ out.old.items) }
-        ensures succeeds { vec_len out.old + 256 ≤ vec_capacity out.old → IsOk result }
+        ensures succeeds { vec_len out.old + LINE_ROOM ≤ vec_capacity out.old → IsOk result }
         ensures capacity { vec_capacity out.old ≤ vec_capacity out.new }
     {
-        out.reserve(LONGEST_LINE + 1)?;
+        out.reserve(LINE_ROOM)?;
         push_text(out, self.keyword());
         match self {
             Line::Hello(hello) => hello.push(out),
@@ -257,6 +291,22 @@ impl Line {
         match self {
             Line::Hello(_) => b"hello",
             Line::Request(_, op) => op.keyword(),
+        }
+    }
+
+    /// Each of its values is in its range. This does nothing: it is called for its clause.
+    pub fn check(&self)
+        ensures { IsLine self.now }
+    {
+        match self {
+            Line::Hello(hello) => {
+                let _ = hello.client.get();
+                let _ = hello.incarnation.get();
+            }
+            Line::Request(id, op) => {
+                id.check();
+                op.check();
+            }
         }
     }
 
@@ -302,8 +352,9 @@ impl Line {
 }
 
 /// Which bytes are a line: its words with one space between them, and among them what is written of
-/// it.
+/// it, which is one line of a stream.
 pub fn line_law()
     ensures exact { LinesAreTexts }
     ensures written { LineIsRead }
+    ensures whole { LineIsWhole }
 {}

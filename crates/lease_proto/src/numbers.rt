@@ -1,15 +1,16 @@
 //! Numbers: decimal digits without a leading zero, at most 2^62.
-ghost use Rattle.std.specs.Prelude.{◌≡◌, ◌≤◌, ◌^◌, IfSome, IfOk};
-ghost use Rattle.lease_proto.specs.Words.{number_of, NumbersAreDecimal};
-ghost use Rattle.lease_proto.specs.Values.{number_in, client_in, ordinal_in, quantity_in};
+ghost use Rattle.std.specs.Prelude.{◌≡◌, ◌≤◌, IfSome, IfOk};
+ghost use Rattle.lease_terms.specs.declared.values.TheConstants.{LARGEST};
+ghost use Rattle.lease_proto.specs.Words.{number_in, NumbersAreDecimal};
+ghost use Rattle.lease_proto.specs.Values.{client_in, ordinal_in, quantity_in};
 
 use crate::faults::LineFault;
 use lease_terms::{ClientId, LARGEST, Ordinal, Quantity};
 
 /// The number that a word writes, 0 to 2^62, or `Number` where it writes none.
 pub fn number(word: &[u8]) -> Result<u64, LineFault>
-    ensures value { result ≡ number_in word.now }
-    ensures fits { IfOk result (λ n. n ≤ 2 ^ 62) }
+    ensures value { result ≡ quantity_in word.now }
+    ensures fits { IfOk result (λ n. n ≤ LARGEST) }
 {
     match value_of(word) {
         Some(value) => Ok(value),
@@ -18,8 +19,8 @@ pub fn number(word: &[u8]) -> Result<u64, LineFault>
 }
 
 fn value_of(word: &[u8]) -> Option<u64>
-    ensures value { result ≡ number_of word.now }
-    ensures fits { IfSome result (λ n. n ≤ 2 ^ 62) }
+    ensures value { result ≡ number_in word.now }
+    ensures fits { IfSome result (λ n. n ≤ LARGEST) }
 {
     if word.is_empty() || (word.len() > 1 && word[0] == b'0') {
         return None;

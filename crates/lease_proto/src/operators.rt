@@ -1,9 +1,10 @@
 //! The lines of an operator, and what may be served after a setup.
 ghost use Rattle.std.specs.Prelude.{◌≡◌};
-ghost use Rattle.lease_proto.specs.Operators.{served_of, operator_text, ClientsAreServed, OperatorsAreServed};
+ghost use Rattle.lease_proto.specs.Operators.{served_in, served_of, operator_text, ClientsAreServed, OperatorsAreServed};
 
 use crate::faults::LineFault;
 use crate::lines::Line;
+use crate::sentences::Words;
 use crate::taking::words;
 
 /// A line of an operator: one word.
@@ -37,11 +38,17 @@ pub enum ServedLine {
 impl ServedLine {
     /// The line that these bytes are, or the first reason why they are none. They are given without
     /// the line feed. Its words are found once. It takes no memory.
-    #[tactic(auto, unfolding(crate::specs::Operators::served_of, crate::specs::Operators::served_of_words))]
+    #[tactic(auto, unfolding(crate::specs::Operators::served_of))]
     pub fn read(bytes: &[u8]) -> Result<ServedLine, LineFault>
         ensures { result ≡ served_of bytes.now }
     {
-        let mut words = words(bytes)?;
+        ServedLine::of_words(&mut words(bytes)?)
+    }
+
+    #[tactic(auto, unfolding(crate::specs::Operators::served_in))]
+    fn of_words(words: &mut Words<'_>) -> Result<ServedLine, LineFault>
+        ensures { result ≡ served_in words.old }
+    {
         let Some(first) = words.next() else {
             return Err(LineFault::Word);
         };
@@ -52,7 +59,7 @@ impl ServedLine {
             words.end()?;
             Ok(ServedLine::Operator(OperatorLine::Clients))
         } else {
-            Ok(ServedLine::Client(Line::of_words(first, &mut words)?))
+            Ok(ServedLine::Client(Line::of_words(first, words)?))
         }
     }
 }

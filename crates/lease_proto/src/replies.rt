@@ -1,14 +1,16 @@
 //! The replies to a client's lines.
-ghost use Rattle.std.specs.Prelude.{◌≡◌, ◌++◌, IsOk, OnOk, OnErr, ◌∷◌, ◌+◌, ◌≤◌, ℕ, List, vec_len, length};
+ghost use Rattle.std.specs.Prelude.{◌≡◌, ◌++◌, IsOk, OnOk, OnErr, ◌∷◌, ◌+◌, ◌*◌, ◌≤◌, ℕ, List, vec_len, length};
 ghost use Rattle.lease_proto.specs.Frames.{ended};
-ghost use Rattle.lease_proto.specs.Replies.{reply_of, reply_text, first_reply_word, welcome_of, granted_of, released_of, refused_of, old_of, out_of_turn_of, again_of, error_of, welcome_words, granted_words, refused_words, old_words, out_of_turn_words, again_words, refusal_in, refusal_word, RepliesAreTexts};
+ghost use Rattle.lease_proto.specs.Replies.{reply_of, reply_text, first_reply_word, welcome_in, granted_in, released_in, refused_in, old_in, out_of_turn_in, again_in, error_in, welcome_words, granted_words, refused_words, old_words, out_of_turn_words, again_words, refusal_in, refusal_word, IsReply, RepliesAreTexts, ReplyIsWhole};
 ghost use Rattle.lease_proto.specs.Requests.{client_named, incarnation_named, request_named, again_request};
 ghost use Rattle.std.specs.Vec.{vec_capacity};
+ghost use Rattle.lease_proto.specs.declared.limits.TheConstants.{LINE_ROOM};
+ghost use Rattle.lease_proto.specs.declared.writing.TheConstants.{NUMBER_ROOM, ID_ROOM, NAME_ROOM};
 ghost use Rattle.lease_proto.specs.Texts.{spaced};
 
 use crate::faults::{ErrorWord, LineFault};
-use crate::framing::LONGEST_LINE;
 use crate::ids::IdWords;
+use crate::limits::LINE_ROOM;
 use crate::numbers::{client, ordinal, quantity};
 use crate::sentences::{Words, name};
 use crate::taking::words;
@@ -57,9 +59,9 @@ pub struct Welcome {
 }
 
 impl Welcome {
-    #[tactic(auto, unfolding(crate::specs::Replies::welcome_of))]
+    #[tactic(auto, unfolding(crate::specs::Replies::welcome_in))]
     fn read(words: &mut Words<'_>) -> Result<Self, LineFault>
-        ensures { result ≡ welcome_of words.old }
+        ensures { result ≡ welcome_in words.old }
     {
         let client_word = words.take()?;
         let incarnation = words.take()?;
@@ -71,9 +73,9 @@ impl Welcome {
     }
 
     fn push(&self, out: &mut Vec<u8>)
-        requires { vec_len out.old + 42 ≤ vec_capacity out.old }
+        requires { vec_len out.old + 2 * NUMBER_ROOM ≤ vec_capacity out.old }
         ensures text { out.new.items ≡ out.old.items ++ spaced (welcome_words self.now) }
-        ensures len { vec_len out.new ≤ vec_len out.old + 42 }
+        ensures len { vec_len out.new ≤ vec_len out.old + 2 * NUMBER_ROOM }
         ensures capacity { vec_capacity out.old ≤ vec_capacity out.new }
     {
         push_number(out, u64::from(self.client.get()));
@@ -91,9 +93,9 @@ pub struct Granted {
 }
 
 impl Granted {
-    #[tactic(auto, unfolding(crate::specs::Replies::granted_of))]
+    #[tactic(auto, unfolding(crate::specs::Replies::granted_in))]
     fn read(words: &mut Words<'_>) -> Result<Self, LineFault>
-        ensures { result ≡ granted_of words.old }
+        ensures { result ≡ granted_in words.old }
     {
         let id = IdWords::take(words)?;
         let arena = name(words.take()?)?;
@@ -109,9 +111,10 @@ impl Granted {
     }
 
     fn push(&self, out: &mut Vec<u8>)
-        requires { vec_len out.old + 122 ≤ vec_capacity out.old }
+        requires { vec_len out.old + (ID_ROOM + NAME_ROOM + 2 * NUMBER_ROOM)
+            ≤ vec_capacity out.old }
         ensures text { out.new.items ≡ out.old.items ++ spaced (granted_words self.now) }
-        ensures len { vec_len out.new ≤ vec_len out.old + 122 }
+        ensures len { vec_len out.new ≤ vec_len out.old + (ID_ROOM + NAME_ROOM + 2 * NUMBER_ROOM) }
         ensures capacity { vec_capacity out.old ≤ vec_capacity out.new }
     {
         push_id(out, self.id);
@@ -129,9 +132,9 @@ pub struct Refused {
 }
 
 impl Refused {
-    #[tactic(auto, unfolding(crate::specs::Replies::refused_of))]
+    #[tactic(auto, unfolding(crate::specs::Replies::refused_in))]
     fn read(words: &mut Words<'_>) -> Result<Self, LineFault>
-        ensures { result ≡ refused_of words.old }
+        ensures { result ≡ refused_in words.old }
     {
         let id = IdWords::take(words)?;
         let refusal = refusal(words.take()?)?;
@@ -143,9 +146,9 @@ impl Refused {
     }
 
     fn push(&self, out: &mut Vec<u8>)
-        requires { vec_len out.old + 74 ≤ vec_capacity out.old }
+        requires { vec_len out.old + (ID_ROOM + 11) ≤ vec_capacity out.old }
         ensures text { out.new.items ≡ out.old.items ++ spaced (refused_words self.now) }
-        ensures len { vec_len out.new ≤ vec_len out.old + 74 }
+        ensures len { vec_len out.new ≤ vec_len out.old + (ID_ROOM + 11) }
         ensures capacity { vec_capacity out.old ≤ vec_capacity out.new }
     {
         push_id(out, self.id);
@@ -161,9 +164,9 @@ pub struct Old {
 }
 
 impl Old {
-    #[tactic(auto, unfolding(crate::specs::Replies::old_of))]
+    #[tactic(auto, unfolding(crate::specs::Replies::old_in))]
     fn read(words: &mut Words<'_>) -> Result<Self, LineFault>
-        ensures { result ≡ old_of words.old }
+        ensures { result ≡ old_in words.old }
     {
         let client_word = words.take()?;
         let current = words.take()?;
@@ -175,9 +178,9 @@ impl Old {
     }
 
     fn push(&self, out: &mut Vec<u8>)
-        requires { vec_len out.old + 42 ≤ vec_capacity out.old }
+        requires { vec_len out.old + 2 * NUMBER_ROOM ≤ vec_capacity out.old }
         ensures text { out.new.items ≡ out.old.items ++ spaced (old_words self.now) }
-        ensures len { vec_len out.new ≤ vec_len out.old + 42 }
+        ensures len { vec_len out.new ≤ vec_len out.old + 2 * NUMBER_ROOM }
         ensures capacity { vec_capacity out.old ≤ vec_capacity out.new }
     {
         push_number(out, u64::from(self.client.get()));
@@ -194,9 +197,9 @@ pub struct OutOfTurn {
 }
 
 impl OutOfTurn {
-    #[tactic(auto, unfolding(crate::specs::Replies::out_of_turn_of))]
+    #[tactic(auto, unfolding(crate::specs::Replies::out_of_turn_in))]
     fn read(words: &mut Words<'_>) -> Result<Self, LineFault>
-        ensures { result ≡ out_of_turn_of words.old }
+        ensures { result ≡ out_of_turn_in words.old }
     {
         let id = IdWords::take(words)?;
         let last = words.take()?;
@@ -208,9 +211,9 @@ impl OutOfTurn {
     }
 
     fn push(&self, out: &mut Vec<u8>)
-        requires { vec_len out.old + 84 ≤ vec_capacity out.old }
+        requires { vec_len out.old + (ID_ROOM + NUMBER_ROOM) ≤ vec_capacity out.old }
         ensures text { out.new.items ≡ out.old.items ++ spaced (out_of_turn_words self.now) }
-        ensures len { vec_len out.new ≤ vec_len out.old + 84 }
+        ensures len { vec_len out.new ≤ vec_len out.old + (ID_ROOM + NUMBER_ROOM) }
         ensures capacity { vec_capacity out.old ≤ vec_capacity out.new }
     {
         push_id(out, self.id);
@@ -227,9 +230,9 @@ pub struct Again {
 }
 
 impl Again {
-    #[tactic(auto, unfolding(crate::specs::Replies::again_of))]
+    #[tactic(auto, unfolding(crate::specs::Replies::again_in))]
     fn read(words: &mut Words<'_>) -> Result<Self, LineFault>
-        ensures { result ≡ again_of words.old }
+        ensures { result ≡ again_in words.old }
     {
         let client_word = words.take()?;
         let incarnation = words.take()?;
@@ -243,9 +246,9 @@ impl Again {
     }
 
     fn push(&self, out: &mut Vec<u8>)
-        requires { vec_len out.old + 63 ≤ vec_capacity out.old }
+        requires { vec_len out.old + 3 * NUMBER_ROOM ≤ vec_capacity out.old }
         ensures text { out.new.items ≡ out.old.items ++ spaced (again_words self.now) }
-        ensures len { vec_len out.new ≤ vec_len out.old + 63 }
+        ensures len { vec_len out.new ≤ vec_len out.old + 3 * NUMBER_ROOM }
         ensures capacity { vec_capacity out.old ≤ vec_capacity out.new }
     {
         push_number(out, u64::from(self.client.get()));
@@ -287,7 +290,7 @@ pub enum Reply {
 impl Reply {
     /// The reply that these bytes are, or the first reason why they are none, in the order of a
     /// line's reasons. They are given without the line feed. It takes no memory.
-    #[tactic(auto, unfolding(crate::specs::Replies::reply_of, crate::specs::Replies::reply_of_words))]
+    #[tactic(auto, unfolding(crate::specs::Replies::reply_of, crate::specs::Replies::reply_in))]
     pub fn read(bytes: &[u8]) -> Result<Reply, LineFault>
         ensures { result ≡ reply_of bytes.now }
     {
@@ -319,14 +322,14 @@ impl Reply {
     }
 
     /// Appends the reply and a line feed. It fails only when out of memory, and never where there
-    /// is room for `LONGEST_LINE + 1` bytes more.
+    /// is room for `LINE_ROOM` bytes more.
     pub fn write(&self, out: &mut Vec<u8>) -> Result<(), AllocError>
         ensures ok { OnOk result (out.new.items ≡ out.old.items ++ ended (reply_text self.now)) }
         ensures unchanged { OnErr result (out.new.items ≡ out.old.items) }
-        ensures succeeds { vec_len out.old + 256 ≤ vec_capacity out.old → IsOk result }
+        ensures succeeds { vec_len out.old + LINE_ROOM ≤ vec_capacity out.old → IsOk result }
         ensures capacity { vec_capacity out.old ≤ vec_capacity out.new }
     {
-        out.reserve(LONGEST_LINE + 1)?;
+        out.reserve(LINE_ROOM)?;
         push_text(out, self.keyword());
         match self {
             Reply::Welcome(welcome) => welcome.push(out),
@@ -356,6 +359,40 @@ impl Reply {
             Reply::Gap(_) => b"gap",
             Reply::Again(_) => b"again",
             Reply::Error(_) => b"error",
+        }
+    }
+
+    /// Each of its values is in its range. This does nothing: it is called for its clause.
+    pub fn check(&self)
+        ensures { IsReply self.now }
+    {
+        match self {
+            Reply::Welcome(welcome) => {
+                let _ = welcome.client.get();
+                let _ = welcome.incarnation.get();
+            }
+            Reply::Granted(granted) => {
+                granted.id.check();
+                let _ = granted.arena.as_slice();
+                let _ = granted.base.get();
+                let _ = granted.len.get();
+            }
+            Reply::Released(id) => id.check(),
+            Reply::Refused(refused) => refused.id.check(),
+            Reply::Old(old) => {
+                let _ = old.client.get();
+                let _ = old.current.get();
+            }
+            Reply::Stale(turn) | Reply::Gap(turn) => {
+                turn.id.check();
+                let _ = turn.last.get();
+            }
+            Reply::Again(again) => {
+                let _ = again.client.get();
+                let _ = again.incarnation.get();
+                let _ = again.number.get();
+            }
+            Reply::Error(_) => {}
         }
     }
 
@@ -406,25 +443,27 @@ impl Reply {
     }
 }
 
-#[tactic(auto, unfolding(crate::specs::Replies::released_of))]
+#[tactic(auto, unfolding(crate::specs::Replies::released_in))]
 fn released(words: &mut Words<'_>) -> Result<RequestId, LineFault>
-    ensures { result ≡ released_of words.old }
+    ensures { result ≡ released_in words.old }
 {
     let id = IdWords::take(words)?;
     words.end()?;
     id.read()
 }
 
-#[tactic(auto, unfolding(crate::specs::Replies::error_of))]
+#[tactic(auto, unfolding(crate::specs::Replies::error_in))]
 fn error(words: &mut Words<'_>) -> Result<ErrorWord, LineFault>
-    ensures { result ≡ error_of words.old }
+    ensures { result ≡ error_in words.old }
 {
     let error = ErrorWord::read(words.take()?)?;
     words.end()?;
     Ok(error)
 }
 
-/// What is written of a reply is read as the same reply, and nothing else is.
+/// What is written of a reply is read as the same reply, and nothing else is. It is one line of a
+/// stream.
 pub fn reply_law()
-    ensures { RepliesAreTexts }
+    ensures exact { RepliesAreTexts }
+    ensures whole { ReplyIsWhole }
 {}

@@ -1,6 +1,6 @@
 //! Words, and lines as words with one space between them.
 ghost use Rattle.std.specs.Prelude.{◌≡◌, ℕ, List, [], ◌∷◌, Ok, Err, MatchOption, MatchResult};
-ghost use Rattle.lease_proto.specs.Grammar.{word_at, end_of};
+ghost use Rattle.lease_proto.specs.Grammar.{word_at, end_at};
 ghost use Rattle.lease_proto.specs.Values.{name_in};
 ghost use Rattle.lease_proto.specs.Words.{words_left, parts_of};
 ghost use Rattle.lease_proto.specs.Words as spec;
@@ -77,7 +77,7 @@ impl<'a> Words<'a> {
 
     /// Whether the line ends here, where it has to: `BadLine` where a word is left.
     pub fn end(&self) -> Result<(), LineFault>
-        ensures { result ≡ end_of self.now }
+        ensures { result ≡ end_at self.now }
     {
         match self.ahead().next() {
             Some(_) => Err(LineFault::BadLine),

@@ -1,6 +1,6 @@
 //! The lines of a setup: which arenas there are.
 ghost use Rattle.std.specs.Prelude.{◌≡◌};
-ghost use Rattle.lease_proto.specs.SetupLines.{policy_in, root_of, child_of, span_of, setup_of};
+ghost use Rattle.lease_proto.specs.SetupLines.{policy_in, root_in, child_in, span_in, setup_in, setup_of};
 ghost use Rattle.lease_proto.specs.SetupLines as spec;
 
 use crate::faults::LineFault;
@@ -30,9 +30,9 @@ pub struct RootLine {
 }
 
 impl RootLine {
-    #[tactic(auto, unfolding(crate::specs::SetupLines::root_of))]
+    #[tactic(auto, unfolding(crate::specs::SetupLines::root_in))]
     fn read(words: &mut Words<'_>) -> Result<Self, LineFault>
-        ensures { result ≡ root_of words.old }
+        ensures { result ≡ root_in words.old }
     {
         let name = name(words.take()?)?;
         let base = words.take()?;
@@ -65,9 +65,9 @@ pub struct ChildLine {
 }
 
 impl ChildLine {
-    #[tactic(auto, unfolding(crate::specs::SetupLines::child_of))]
+    #[tactic(auto, unfolding(crate::specs::SetupLines::child_in))]
     fn read(words: &mut Words<'_>) -> Result<Self, LineFault>
-        ensures { result ≡ child_of words.old }
+        ensures { result ≡ child_in words.old }
     {
         let own = name(words.take()?)?;
         let source = name(words.take()?)?;
@@ -96,9 +96,9 @@ pub struct SpanLine {
 }
 
 impl SpanLine {
-    #[tactic(auto, unfolding(crate::specs::SetupLines::span_of))]
+    #[tactic(auto, unfolding(crate::specs::SetupLines::span_in))]
     fn read(words: &mut Words<'_>) -> Result<Self, LineFault>
-        ensures { result ≡ span_of words.old }
+        ensures { result ≡ span_in words.old }
     {
         let name = name(words.take()?)?;
         let base = words.take()?;
@@ -123,20 +123,26 @@ pub enum SetupLine {
 impl SetupLine {
     /// The setup line that these bytes are, or the first reason why they are none. They are given
     /// without the line feed. It takes no memory.
-    #[tactic(auto, unfolding(crate::specs::SetupLines::setup_of, crate::specs::SetupLines::setup_of_words))]
+    #[tactic(auto, unfolding(crate::specs::SetupLines::setup_of))]
     pub fn read(bytes: &[u8]) -> Result<SetupLine, LineFault>
         ensures { result ≡ setup_of bytes.now }
     {
-        let mut words = words(bytes)?;
+        SetupLine::of_words(&mut words(bytes)?)
+    }
+
+    #[tactic(auto, unfolding(crate::specs::SetupLines::setup_in))]
+    fn of_words(words: &mut Words<'_>) -> Result<SetupLine, LineFault>
+        ensures { result ≡ setup_in words.old }
+    {
         let Some(first) = words.next() else {
             return Err(LineFault::Word);
         };
         if first == b"root".as_slice() {
-            Ok(SetupLine::Root(RootLine::read(&mut words)?))
+            Ok(SetupLine::Root(RootLine::read(words)?))
         } else if first == b"child".as_slice() {
-            Ok(SetupLine::Child(ChildLine::read(&mut words)?))
+            Ok(SetupLine::Child(ChildLine::read(words)?))
         } else if first == b"span".as_slice() {
-            Ok(SetupLine::Span(SpanLine::read(&mut words)?))
+            Ok(SetupLine::Span(SpanLine::read(words)?))
         } else {
             Err(LineFault::Word)
         }

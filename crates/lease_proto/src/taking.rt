@@ -5,13 +5,13 @@ ghost use Rattle.lease_proto.specs.Values.{words_of};
 ghost use Rattle.lease_proto.specs.Grammar.{option_at, quantity_or};
 
 use crate::faults::LineFault;
-use crate::framing::LONGEST_LINE;
+use crate::limits::LONGEST_LINE;
 use crate::numbers::quantity;
 use crate::sentences::{Words, is_sentence};
 use lease_terms::Quantity;
 
-/// The words of a line, given without its line feed: `TooLong` above 255 bytes, and `BadLine` where
-/// it is anything but words with one space between them.
+/// The words of a line, given without its line feed: `TooLong` above `LONGEST_LINE` bytes, and
+/// `BadLine` where it is anything but words with one space between them.
 pub fn words(line: &[u8]) -> Result<Words<'_>, LineFault>
     ensures { result ≡ words_of line.now }
 {

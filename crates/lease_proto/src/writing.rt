@@ -2,10 +2,20 @@
 ghost use Rattle.std.specs.Prelude.{◌≡◌, ◌≤◌, ◌+◌, ◌∷◌, ◌++◌, length, decimal, vec_len};
 ghost use Rattle.std.specs.List.{flat_map};
 ghost use Rattle.std.specs.Vec.{vec_capacity};
+ghost use Rattle.lease_proto.specs.declared.writing.TheConstants.{NUMBER_ROOM, ID_ROOM, NAME_ROOM};
 ghost use Rattle.lease_proto.specs.Texts.{option_words, id_words, spaced};
 
 use itoa::Buffer;
-use lease_terms::{Name, Quantity, RequestId};
+use lease_terms::{LONGEST_NAME, Name, Quantity, RequestId};
+
+/// Room for a space and a number.
+pub const NUMBER_ROOM: usize = 21;
+
+/// Room for the id of a request.
+pub const ID_ROOM: usize = 3 * NUMBER_ROOM;
+
+/// Room for a space and a name.
+pub const NAME_ROOM: usize = LONGEST_NAME + 1;
 
 /// Text, as it is.
 pub fn push_text(out: &mut Vec<u8>, text: &[u8])
@@ -33,9 +43,9 @@ pub fn push_word(out: &mut Vec<u8>, word: &[u8])
 
 /// A space and a name.
 pub fn push_name(out: &mut Vec<u8>, name: &Name)
-    requires { vec_len out.old + 17 ≤ vec_capacity out.old }
+    requires { vec_len out.old + NAME_ROOM ≤ vec_capacity out.old }
     ensures text { out.new.items ≡ out.old.items ++ (32 ∷ name.now) }
-    ensures len { vec_len out.new ≤ vec_len out.old + 17 }
+    ensures len { vec_len out.new ≤ vec_len out.old + NAME_ROOM }
     ensures capacity { vec_capacity out.old ≤ vec_capacity out.new }
 {
     push_word(out, name.as_slice());
@@ -43,9 +53,9 @@ pub fn push_name(out: &mut Vec<u8>, name: &Name)
 
 /// A space and a number.
 pub fn push_number(out: &mut Vec<u8>, number: u64)
-    requires { vec_len out.old + 21 ≤ vec_capacity out.old }
+    requires { vec_len out.old + NUMBER_ROOM ≤ vec_capacity out.old }
     ensures text { out.new.items ≡ out.old.items ++ (32 ∷ decimal number) }
-    ensures len { vec_len out.new ≤ vec_len out.old + 21 }
+    ensures len { vec_len out.new ≤ vec_len out.old + NUMBER_ROOM }
     ensures capacity { vec_capacity out.old ≤ vec_capacity out.new }
 {
     let mut buffer = Buffer::new();
@@ -54,9 +64,9 @@ pub fn push_number(out: &mut Vec<u8>, number: u64)
 
 /// A request's id: a space and a number, three times.
 pub fn push_id(out: &mut Vec<u8>, id: RequestId)
-    requires { vec_len out.old + 63 ≤ vec_capacity out.old }
+    requires { vec_len out.old + ID_ROOM ≤ vec_capacity out.old }
     ensures text { out.new.items ≡ out.old.items ++ spaced (id_words id) }
-    ensures len { vec_len out.new ≤ vec_len out.old + 63 }
+    ensures len { vec_len out.new ≤ vec_len out.old + ID_ROOM }
     ensures capacity { vec_capacity out.old ≤ vec_capacity out.new }
 {
     push_number(out, u64::from(id.client.get()));
@@ -66,10 +76,10 @@ pub fn push_id(out: &mut Vec<u8>, id: RequestId)
 
 /// An option, which is left out at the value of no constraint.
 pub fn push_option(out: &mut Vec<u8>, key: &[u8], default: Quantity, value: Quantity)
-    requires { vec_len out.old + (length key.now + 22) ≤ vec_capacity out.old }
+    requires { vec_len out.old + (length key.now + 1 + NUMBER_ROOM) ≤ vec_capacity out.old }
     ensures text { out.new.items
         ≡ out.old.items ++ flat_map (λ word. 32 ∷ word) (option_words key.now default value) }
-    ensures len { vec_len out.new ≤ vec_len out.old + (length key.now + 22) }
+    ensures len { vec_len out.new ≤ vec_len out.old + (length key.now + 1 + NUMBER_ROOM) }
     ensures capacity { vec_capacity out.old ≤ vec_capacity out.new }
 {
     if value.get() != default.get() {

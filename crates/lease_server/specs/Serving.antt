@@ -1,8 +1,13 @@
 -- What a server writes for the frames that it reads.
-use Rattle.std.specs.Prelude.{◌≡◌, ℕ, List, [], ◌∷◌, ◌++◌, Option, Ok, Err, take}
-use Rattle.std.specs.Io.KnownBytes.{Appends}
+use Rattle.std.specs.Prelude.{◌≡◌, ◌≤◌, ◌+◌, ◌-◌, ◌^◌, ℕ, List, [], ◌∷◌, ◌++◌, length, min}
+use Rattle.std.specs.Prelude.{take, true, false, Option, Ok, Err, IfSome}
+use Rattle.std.specs.Io.KnownBytes.{Appends, Consumes}
 use Rattle.lease_proto.specs.Frames.{Frame}
 use Rattle.lease_proto.specs.Faults.{error_line}
+use Rattle.lease_server.specs.Intakes.{AtHand, IntakeState, frames_on, frames_to_end}
+use Rattle.lease_server.specs.Watching.{Streams}
+use Rattle.lease_server.specs.declared.faults.ServeFault.{ServeFault}
+use Rattle.lease_server.specs.declared.faults.ServeFault.TheVariants as fault
 
 -- what a line begun is known by, whose first 256 bytes are kept
 abbrev pub SameFront : List ℕ → List ℕ → Type 0
@@ -54,3 +59,40 @@ module _ {S : Type 0} (may_answer : S → List ℕ → List ℕ → S → Type 0
   abbrev pub Stops : S → List Frame → Option (List ℕ) → Option (List ℕ) → Type 0
   Stops old frames before after = (served : List Frame) × (later : List Frame)
       × (frames ≡ served ++ later) × WritesPart old served before after
+
+  -- The whole lines at hand and in what was read are answered, of an input that had not ended.
+  abbrev pub ServesRead : IntakeState → Streams → Streams → S → S → List ℕ → Type 0
+  ServesRead from old new first last input = (from.ended ≡ false)
+      × Consumes old.unread new.unread input
+      × Writes first (frames_on from.hand input) old.written new.written last
+
+  -- All that is at hand, and that the reader had left, is answered.
+  abbrev pub ServesAll : AtHand → Streams → Streams → S → S → Type 0
+  ServesAll hand old new first last =
+      IfSome old.unread
+      (λ input. Writes first (frames_to_end hand input) old.written new.written last)
+      × (new.reader_failed ≡ false) × (new.writer_failed ≡ false)
+
+  -- What a fault says, each of what failed:
+  -- read: the reader failed, and the whole lines at hand and read are answered;
+  -- turns: the same after 2^40 reads, each of which gave bytes;
+  -- write: the writer failed, and a front of the answers to all is written;
+  -- memory: it was refused for an answer to a line that was read, and the answers before that are
+  -- written whole.
+  abbrev pub ServeFails : IntakeState → Streams → Streams → S → S → ServeFault → Type 0
+  ServeFails from old new first last fault.Read = (input : List ℕ)
+      × ServesRead from old new first last input
+      × (new.reader_failed ≡ true) × (new.writer_failed ≡ false)
+  ServeFails from old new first last fault.Turns = (input : List ℕ)
+      × ServesRead from old new first last input
+      × (new.reader_failed ≡ false) × (new.writer_failed ≡ false)
+      × (2 ^ 40 ≤ from.reads + length input)
+      × (new.reads ≡ min (old.reads + (2 ^ 40 - from.reads)) (2 ^ 64 - 1))
+  ServeFails from old new first last fault.Write =
+      IfSome old.unread
+      (λ input. Stops first (frames_to_end from.hand input) old.written new.written)
+      × (new.reader_failed ≡ false) × (new.writer_failed ≡ true)
+  ServeFails from old new first last fault.Memory = (input : List ℕ)
+      × Consumes old.unread new.unread input
+      × WritesBefore first (frames_on from.hand input) old.written new.written last
+      × (new.reader_failed ≡ false) × (new.writer_failed ≡ false)

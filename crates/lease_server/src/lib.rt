@@ -6,13 +6,15 @@
 #![tactic(auto)]
 
 mod faults;
+mod intakes;
 mod output;
 mod responders;
 mod serving;
 mod watching;
 
 pub use faults::ServeFault;
+pub use intakes::{Intake, hand_law};
 pub use output::deliver;
 pub use responders::Responder;
-pub use serving::{serve, serve_after};
+pub use serving::serve;
 pub use watching::Watched;

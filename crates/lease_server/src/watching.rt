@@ -51,6 +51,13 @@ impl<T> Watched<T> {
 }
 
 impl<R: Read> Watched<R> {
+    /// How many reads were asked of it, up to 2^64 - 1.
+    pub fn reads(&self) -> u64
+        ensures { result ≡ reads_of self.now }
+    {
+        self.reads
+    }
+
     /// Reads into a buffer and says how many bytes, 0 only at the end or where there is no room.
     pub fn read(&mut self, buf: &mut [u8]) -> Result<usize, ServeFault>
         ensures bound { IfOk result (λ n. n ≤ length buf.new) }

@@ -2,6 +2,7 @@
 use Rattle.std.specs.Prelude.{◌&&◌, ◌||◌, ℕ, nat_le, Bool, List, length, slice_index}
 use Rattle.std.specs.Char.{is_ascii_digit}
 use Rattle.std.specs.List.{list_all}
+use Rattle.lease_terms.specs.declared.names.TheConstants.{LONGEST_NAME}
 
 -- a to z
 abbrev pub is_letter : ℕ → Bool
@@ -15,6 +16,6 @@ is_word_byte b = is_letter b || is_ascii_digit b
 abbrev pub is_word : List ℕ → Bool
 is_word word = nat_le 1 (length word) && list_all is_word_byte word
 
--- a name is a word that begins with a letter and has at most 16 characters
+-- a name is a word that begins with a letter and is short enough
 abbrev pub is_name : List ℕ → Bool
-is_name word = is_word word && (is_letter (slice_index word 0) && nat_le (length word) 16)
+is_name word = is_word word && (is_letter (slice_index word 0) && nat_le (length word) LONGEST_NAME)

@@ -2,15 +2,16 @@
 use Rattle.std.specs.Prelude.{◌≡◌, ◌-◌, ◌++◌, ℕ, List, true, take, length, replicate}
 use Rattle.std.proofs.Common.{◌∙◌, ap}
 use Rattle.lease_terms.specs.declared.names.Name.TheInside.{Inside}
+use Rattle.lease_terms.specs.declared.names.TheConstants.{LONGEST_NAME}
 use Rattle.lease_terms.specs.Names.{is_name}
 
 -- the bytes of the name
 abbrev pub name_text : Inside → List ℕ
 name_text n = take n.len n.bytes
 
--- a text with 0 behind it, up to 16 bytes
+-- a text with 0 behind it, as long as the longest name
 abbrev pub padded : List ℕ → List ℕ
-padded text = text ++ replicate (16 - length text) 0
+padded text = text ++ replicate (LONGEST_NAME - length text) 0
 
 -- it is a name, as long as it says, with 0 behind it
 abbrev pub IsPadded : Inside → Type 0

@@ -1,4 +1,5 @@
 //! The names of arenas.
+ghost use Rattle.lease_terms.specs.declared.names.TheConstants.{LONGEST_NAME};
 ghost use Rattle.std.specs.Prelude.{◌≡◌, true};
 ghost use Rattle.std.specs.Option.{SomeIff};
 ghost use Rattle.lease_terms.specs.Names as spec;
@@ -8,7 +9,13 @@ use std::marker::Model;
 /// The longest name, in bytes.
 pub const LONGEST_NAME: usize = 16;
 
-/// The name of an arena: 1 to 16 of the letters a to z and the digits, the first a letter.
+/// That length as the rules have it: who changes it changes it here, and nowhere else.
+pub fn name_law()
+    ensures { LONGEST_NAME ≡ 16 }
+{}
+
+/// The name of an arena: 1 to `LONGEST_NAME` of the letters a to z and the digits, the first a
+/// letter.
 #[derive(Clone, Copy, Debug, PartialEq, Eq)]
 pub struct Name {
     // The bytes past the name's are 0.
@@ -46,7 +53,7 @@ impl Name {
         Some(Name { bytes, len })
     }
 
-    /// Its text, 1 to 16 bytes.
+    /// Its text, 1 to `LONGEST_NAME` bytes.
     pub fn as_slice(&self) -> &[u8]
         ensures value { result.now ≡ self.now }
         ensures name { spec.is_name self.now ≡ true }

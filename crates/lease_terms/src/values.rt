@@ -1,4 +1,5 @@
 //! Numbers with a range. A value out of its range can't be made.
+ghost use Rattle.lease_terms.specs.declared.values.TheConstants.{LARGEST, LAST_CLIENT};
 ghost use Rattle.std.specs.Prelude.{◌≡◌, ◌≤◌, ◌^◌, ℕ};
 ghost use Rattle.std.specs.Option.{SomeIff};
 ghost use Rattle.lease_terms.specs.Ranges.{IsClient, IsOrdinal, IsQuantity};
@@ -11,7 +12,13 @@ pub const LARGEST: u64 = 1 << 62;
 /// The greatest client: 2^16.
 pub const LAST_CLIENT: u32 = 65536;
 
-/// A client, 1 to 65,536.
+/// The two as the rules have them: who changes one changes it here, and nowhere else.
+pub fn range_law()
+    ensures numbers { LARGEST ≡ 2 ^ 62 }
+    ensures clients { LAST_CLIENT ≡ 65536 }
+{}
+
+/// A client, 1 to `LAST_CLIENT`.
 #[derive(Clone, Copy, Debug, PartialEq, Eq, PartialOrd, Ord, Hash)]
 pub struct ClientId {
     id: u32,
@@ -31,7 +38,7 @@ impl Model for ClientId {
 }
 
 impl ClientId {
-    /// `None` outside 1 to 65,536.
+    /// `None` outside 1 to `LAST_CLIENT`.
     pub fn new(value: u32) -> Option<Self>
         ensures { SomeIff result (IsClient value) value }
     {
@@ -51,7 +58,7 @@ impl ClientId {
     }
 }
 
-/// An incarnation of a client, or the number of one of its requests: 1 to 2^62.
+/// An incarnation of a client, or the number of one of its requests: 1 to `LARGEST`.
 #[derive(Clone, Copy, Debug, PartialEq, Eq, PartialOrd, Ord)]
 pub struct Ordinal {
     number: u64,
@@ -71,7 +78,7 @@ impl Model for Ordinal {
 }
 
 impl Ordinal {
-    /// `None` outside 1 to 2^62.
+    /// `None` outside 1 to `LARGEST`.
     pub fn new(value: u64) -> Option<Self>
         ensures { SomeIff result (IsOrdinal value) value }
     {
@@ -99,7 +106,7 @@ impl Ordinal {
 }
 
 /// A unit, a number of units or a bound on them, in units; or the last incarnation or number, with
-/// 0 where there was none. 0 to 2^62.
+/// 0 where there was none. 0 to `LARGEST`.
 #[derive(Clone, Copy, Debug, PartialEq, Eq, PartialOrd, Ord)]
 pub struct Quantity {
     units: u64,
@@ -122,10 +129,10 @@ impl Quantity {
     /// No unit.
     pub const ZERO: Quantity = Quantity { units: 0 };
 
-    /// 2^62 units: as a bound, none.
+    /// `LARGEST` units: as a bound, none.
     pub const MOST: Quantity = Quantity { units: LARGEST };
 
-    /// `None` above 2^62.
+    /// `None` above `LARGEST`.
     pub fn new(value: u64) -> Option<Self>
         ensures { SomeIff result (IsQuantity value) value }
     {

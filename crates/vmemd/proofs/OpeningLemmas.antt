@@ -1,12 +1,12 @@
 -- Lemmas on the first word of a setup line.
-use Rattle.std.proofs.Common.{◌≡◌, ℕ, ◌<◌, zero, suc, true, false, List, [], ◌∷◌, ◌++◌, length, take, refl, ap, arith, codes, inl, inr}
-use Rattle.std.proofs.lemmas.Bool.{cases_Bool, or_cases}
+use Rattle.std.proofs.Common.{◌≡◌, ◌⊎◌, ℕ, ◌≤◌, ◌<◌, min, nat_le, zero, suc, true, false, List, [], ◌∷◌, ◌++◌, length, take, drop, refl, sym, ◌∙◌, ap, arith, codes, inl, inr}
+use Rattle.std.proofs.lemmas.Bool.{cases_Bool, or_cases, leb-true, leb-false}
+use Rattle.std.proofs.lemmas.List.{take_all, take-append-drop, take-append-le, length-append, length-take}
 use Rattle.std.proofs.lemmas.Slice.Eq.{bytes_eq-Decides}
 use Rattle.std.specs.Str.{bytes_eq}
 use Rattle.memchr.specs.Find.{Nowhere, Passes, is_byte2}
-use Rattle.lease_proto.specs.Frames.{IsOneLine}
-use Rattle.lease_proto.proofs.LawProofs.{one_line}
-use Rattle.lease_proto.specs.SetupLines.{opening, is_setup_word}
+use Rattle.lease_proto.specs.Frames.{ended, last_of}
+use Rattle.lease_proto.specs.SetupLines.{opening, is_setup_word, begins_setup}
 
 -- it ends at the first space or line feed
 pub opening_ends : (bytes more : List ℕ) (i : ℕ) → i < length bytes → Passes (is_byte2 32 10) bytes i → Nowhere (Passes (is_byte2 32 10) bytes) 0 i
@@ -28,10 +28,6 @@ opening_goes_on (b ∷ bs) more none =
       | inr other ↦ rw other (ap (λ l. b ∷ l) (opening_goes_on bs more (λ k low lt. none (suc k) (omega arith) (omega arith))))
     ]
 
--- no such byte is a line feed
-pub none_is_feed : (bytes : List ℕ) → Nowhere (Passes (is_byte2 32 10) bytes) 0 (length bytes) → IsOneLine bytes
-none_is_feed bytes none = one_line bytes (λ k below is. none k (omega arith) below (rw is refl))
-
 same_length : (word is : List ℕ) → bytes_eq word is ≡ true → length word ≡ length is
 same_length word is same = ap length ((bytes_eq-Decides word is).0 same)
 
@@ -48,3 +44,58 @@ long_word word long =
         ]
       ]
     ]
+
+-- of a front: it ends there, or goes on behind it
+opening_front : (front more : List ℕ)
+    → (opening (front ++ more) ≡ opening front) ⊎ ((opening front ≡ front) × (opening (front ++ more) ≡ front ++ opening more))
+opening_front [] more = inr (refl, refl)
+opening_front (b ∷ bs) more = elim (cases_Bool (is_byte2 32 10 b)) [
+  | inl is ↦ inl (rw is refl)
+  | inr other ↦ elim (opening_front bs more) [
+    | inl e ↦ inl (rw other (ap (λ l. b ∷ l) e))
+    | inr e ↦ inr (rw other (ap (λ l. b ∷ l) e.0), rw other (ap (λ l. b ∷ l) e.1))
+  ]
+]
+
+-- the first 256 bytes tell whether a setup line begins
+pub begins_setup-take : (bytes : List ℕ) → begins_setup (take 256 bytes) ≡ begins_setup bytes
+begins_setup-take bytes = elim (cases_Bool (nat_le (length bytes) 256)) [
+  | inl fits ↦ ap begins_setup (take_all 256 bytes (leb-true (length bytes) 256 fits))
+  | inr over ↦
+    let more : 256 < length bytes = leb-false (length bytes) 256 over in
+    let front = take 256 bytes in
+    let rest = drop 256 bytes in
+    let all : front ++ rest ≡ bytes = take-append-drop 256 bytes in
+    let size : length front ≡ min 256 (length bytes) = length-take 256 bytes in
+    elim (opening_front front rest) [
+      | inl e ↦ ap is_setup_word (sym e ∙ ap opening all)
+      | inr e ↦
+        let size_all = length-append front (opening rest) in
+        let here : begins_setup front ≡ false = ap is_setup_word e.0 ∙ long_word front (omega (arith, size, more)) in
+        let there : begins_setup bytes ≡ false =
+        ap begins_setup (sym all) ∙ ap is_setup_word e.1 ∙ long_word (front ++ opening rest) (omega (arith, size, more, size_all)) in
+        here ∙ sym there
+    ]
+]
+
+opening-ended : (text more : List ℕ) → opening (ended text ++ more) ≡ opening text
+opening-ended [] more = refl
+opening-ended (b ∷ text) more = elim (cases_Bool (is_byte2 32 10 b)) [
+  | inl is ↦ rw is refl
+  | inr other ↦ rw other (ap (λ l. b ∷ l) (opening-ended text more))
+]
+
+-- of a whole line they tell it too, whatever follows
+pub begins_line : (text more : List ℕ) → begins_setup (ended text ++ more) ≡ begins_setup (take 256 text)
+begins_line text more = ap is_setup_word (opening-ended text more) ∙ sym (begins_setup-take text)
+
+-- and of a line begun that is too long already
+pub begins_long : (bytes more : List ℕ) → 255 < length (take 256 bytes) → begins_setup (bytes ++ more) ≡ begins_setup (take 256 bytes)
+begins_long bytes more long =
+    let size = length-take 256 bytes in
+    sym (begins_setup-take (bytes ++ more)) ∙ ap begins_setup (take-append-le 256 bytes more (omega (arith, long, size)))
+
+-- nothing begins no setup line
+pub begins_last : (rest : List ℕ) → [] ≡ last_of rest → begins_setup rest ≡ false
+begins_last [] none = refl
+begins_last (b ∷ bs) none = absurd (cc)

@@ -1,23 +1,90 @@
 -- Lemmas on setup lines, taken one after another.
-use Rattle.std.proofs.Common.{◌≡◌, ◌==◌, ℕ, ◌≤◌, ◌<◌, ◌+◌, nat_le, true, Option, Some, None, Err, List, [], ◌∷◌, ◌++◌, length, refl, sym, ◌∙◌, ap, subst, arith, inl, inr, append_assoc, IfSome}
-use Rattle.std.proofs.lemmas.Bool.{cases_Bool, leb-false, lt-leb, le-leb, lt-ltb}
-use Rattle.std.proofs.lemmas.List.{append-nil, length-append}
+use Rattle.std.proofs.Common.{◌≡◌, ◌==◌, ℕ, ◌≤◌, ◌<◌, ◌+◌, nat_le, Bool, true, false, if◌then◌else◌, Option, Some, None, Err, List, [], ◌∷◌, ◌++◌, length, take, refl, sym, ◌∙◌, ap, subst, arith, inl, inr, append_assoc, IfSome}
+use Rattle.std.proofs.lemmas.Bool.{cases_Bool, leb-false, lt-leb, lt-ltb}
+use Rattle.std.proofs.lemmas.List.{append-nil, length-append, length-take}
 use Rattle.std.proofs.lemmas.Grind.{flat_map-append}
 use Rattle.std.specs.List.{flat_map}
 use Rattle.std.specs.Io.KnownBytes.{Consumes, IsAtEnd}
-use Rattle.lease_proto.specs.declared.faults.LineFault.TheVariants.{TooLong, BadLine}
+use Rattle.std.proofs.KnownBytes.{Consumes-kept}
+use Rattle.lease_proto.specs.declared.faults.LineFault.{LineFault}
+use Rattle.lease_proto.specs.declared.faults.LineFault.TheVariants.{TooLong}
 use Rattle.lease_proto.specs.Frames.{Frame, frame_of, last_of, frames_in, rest_in, frames_of, ended, IsOneLine}
 use Rattle.lease_proto.specs.Values.{◌>>=◌}
-use Rattle.lease_proto.proofs.LawProofs.{frames_in-append, rest_in-append, frames_in-ended, rest_in-ended, frames_in-text, rest_in-text, frames_in-none, rest_in-none}
+use Rattle.lease_proto.proofs.LawProofs.{frame_of-take, last_of-take, frames_in-append, rest_in-append, frames_in-ended, rest_in-ended, frames_in-text, rest_in-text, frames_in-none, rest_in-none}
 use Rattle.lease_proto.specs.declared.setup_lines.SetupLine.{SetupLine}
 use Rattle.vmemd.specs.declared.faults.ConfigFault.{ConfigFault}
 use Rattle.vmemd.specs.declared.faults.ConfigFault.TheVariants as config
 use Rattle.lease_proto.specs.SetupLines.{setup_of, begins_setup}
-use Rattle.vmemd.specs.Openings.{IsSetup}
-use Rattle.vmemd.specs.Scripts.{Makes, SetsUp, RefusesRead, RefusesFirst, SetupRefused}
+use Rattle.vmemd.specs.Scripts.{Makes, SetsUp, RefusesRead, RefusesFirst, SetupRefused, serving_fault}
 use Rattle.vmemd.specs.declared.faults.ScriptFault.{ScriptFault}
 use Rattle.vmemd.specs.declared.faults.ScriptFault.TheVariants.{Setup, Read, Write, Memory}
 use Rattle.vmemd.specs.Setups.{TakesLine, LineFails, SetupFails}
+use Rattle.lease_server.specs.Intakes.{AtHand, IntakeState, cut, StopsReading}
+use Rattle.lease_server.specs.declared.faults.ServeFault.{ServeFault}
+use Rattle.lease_server.specs.declared.faults.ServeFault.TheVariants as serving
+use Rattle.lease_server.proofs.LawProofs.{line_is_whole, line_is_begun, line_goes_on}
+use Rattle.vmemd.proofs.OpeningLemmas.{begins_line, begins_long, begins_setup-take}
+
+-- whatever follows these bytes, they begin with a setup line
+abbrev IsSetup : List ℕ → Type 0
+IsSetup bytes = (more : List ℕ) → begins_setup (bytes ++ more) ≡ true
+
+-- a whole line at hand, and the bytes that it comes from
+pub line_at : (hand : AtHand) (bytes : List ℕ) → hand ≡ cut [] bytes → hand.whole ≡ true
+    → (text : List ℕ) × (rest : List ℕ) × IsOneLine text × (bytes ≡ ended text ++ rest) × (hand.line ≡ take 256 text) × (hand.rest ≡ rest)
+line_at hand bytes is whole =
+    let (text, rest, one, parts, e) = line_is_whole [] bytes (ap (λ h. h.whole) (sym is) ∙ whole) in
+    (text, rest, one, parts, ap (λ h. h.line) (is ∙ e), ap (λ h. h.rest) (is ∙ e))
+
+-- a line begun
+pub begun_at : (hand : AtHand) (bytes : List ℕ) → hand ≡ cut [] bytes → hand.whole ≡ false → IsOneLine bytes × (hand.line ≡ take 256 bytes)
+begun_at hand bytes is unended =
+    let (e, one) = line_is_begun [] bytes (ap (λ h. h.whole) (sym is) ∙ unended) in (one, ap (λ h. h.line) (is ∙ e))
+
+-- what was read behind a line begun
+pub read_behind : (old new : AtHand) (bytes piece : List ℕ) → IsOneLine bytes → old.line ≡ take 256 bytes → new ≡ cut old.line piece
+    → new ≡ cut [] (bytes ++ piece)
+read_behind old new bytes piece one first is = is ∙ ap (λ l. cut l piece) first ∙ line_goes_on bytes piece one
+
+-- and where nothing was
+pub read_none : (old new : AtHand) (bytes piece : List ℕ) → IsOneLine bytes → old.line ≡ take 256 bytes → new ≡ cut old.line piece → piece ≡ []
+    → new ≡ cut [] bytes
+read_none old new bytes piece one first is none =
+    read_behind old new bytes piece one first is ∙ ap (λ l. cut [] (bytes ++ l)) none ∙ ap (cut []) (append-nil bytes)
+
+-- whether a setup line begins, by a whole line
+pub begins_by_line : (bytes text rest more : List ℕ) → bytes ≡ ended text ++ rest → begins_setup (bytes ++ more) ≡ begins_setup (take 256 text)
+begins_by_line bytes text rest more parts =
+    ap (λ l. begins_setup (l ++ more)) parts ∙ ap begins_setup (append_assoc (ended text) rest more) ∙ begins_line text (rest ++ more)
+
+-- how much is at hand, for measures
+abbrev pub size_at : AtHand → ℕ
+size_at h = if h.whole then length h.rest + 1 else 0
+
+pub size-cut : (line bytes : List ℕ) → size_at (cut line bytes) ≤ length bytes
+size-cut line [] = omega arith
+size-cut line (b ∷ bs) = elim (cases_Bool (b == 10)) [
+  | inl is ↦ rw is (omega arith)
+  | inr other ↦ let smaller = size-cut (line ++ b ∷ []) bs in rw other (omega (arith, smaller))
+]
+
+pub size-passed : (h : AtHand) → h.whole ≡ true → size_at (cut [] h.rest) < size_at h
+size-passed h whole =
+    let less = size-cut [] h.rest in
+    let size : size_at h ≡ length h.rest + 1 = rw whole refl in
+    omega (arith, less, size)
+
+-- a line that is too long is refused by the grammar too
+pub frame_setup : (line : List ℕ) → (frame_of line >>= setup_of) ≡ setup_of line
+unfolding setup_of
+frame_setup line = elim (cases_Bool (nat_le (length line) 255)) [
+  | inl fits ↦ rw fits refl
+  | inr over ↦ rw (over, lt-ltb 255 (length line) (leb-false _ _ over)) refl
+]
+
+-- so the first 256 bytes of a line tell what it is
+pub setup_of-take : (line : List ℕ) → setup_of (take 256 line) ≡ setup_of line
+setup_of-take line = sym (frame_setup (take 256 line)) ∙ ap (λ f. f >>= setup_of) (frame_of-take line) ∙ frame_setup line
 
 module _ {S : Type 0} (takes : S → SetupLine → S → Type 0) where
   -- one more line
@@ -32,12 +99,12 @@ module _ {S : Type 0} (takes : S → SetupLine → S → Type 0) where
   pub none_taken : (first : S) → (setup : SetsUp takes first [] [] first) × (1 ≡ length setup.lines + 1)
   none_taken first = (record { lines = []; makes = refl; split = refl }, refl)
 
-  pub one_taken : (first mid last : S) (input front line rest : List ℕ) (setup : SetsUp takes first input front mid) → TakesLine takes mid line last
+  pub one_taken : (first mid last : S) (input front line rest : List ℕ) (setup : SetsUp takes first input front mid) → TakesLine takes mid (take 256 line) last
       → front ≡ ended line ++ rest → (more : SetsUp takes first input rest last) × (length more.lines ≡ length setup.lines + 1)
   one_taken first mid last input front line rest setup taken e = (
     record {
       lines = setup.lines ++ line ∷ [];
-      makes = Makes-one first mid last setup.lines line setup.makes taken;
+      makes = Makes-one first mid last setup.lines line setup.makes (taken.0, sym (setup_of-take line) ∙ taken.1, taken.2);
       split = setup.split ∙ ap (λ l. flat_map ended setup.lines ++ l) e ∙ sym (append_assoc (flat_map ended setup.lines) (ended line) rest)
           ∙ ap (λ l. l ++ rest) (sym (flat_map-append ended setup.lines (line ∷ []) ∙ ap (λ l. flat_map ended setup.lines ++ l) (append-nil (ended line))));
     },
@@ -57,12 +124,13 @@ module _ {S : Type 0} (takes : S → SetupLine → S → Type 0) where
   )
 
 -- a line and what follows it
-pub line_first : (line more : List ℕ) → IsOneLine line → frames_of (ended line ++ more) ≡ frame_of line ∷ frames_of more
+line_first : (line more : List ℕ) → IsOneLine line → frames_of (ended line ++ more) ≡ frame_of (take 256 line) ∷ frames_of more
 line_first line more one =
     let frames : frames_in [] (ended line ++ more) ≡ frame_of line ∷ frames_in [] more =
     frames_in-append [] (ended line) more ∙ rw (frames_in-ended [] line one, rest_in-ended [] line one) refl in
     let rest : rest_in [] (ended line ++ more) ≡ rest_in [] more = rest_in-append [] (ended line) more ∙ rw (rest_in-ended [] line one) refl in
-    rw (frames, rest) refl
+    let all : frames_of (ended line ++ more) ≡ frame_of line ∷ frames_of more = rw (frames, rest) refl in
+    all ∙ ap (λ f. f ∷ frames_of more) (sym (frame_of-take line))
 
 -- a line that is too long already stays so
 long_goes_on : (line left : List ℕ) → 255 < length line → (frames : List Frame) × (frames_in line left ++ last_of (rest_in line left) ≡ Err TooLong ∷ frames)
@@ -83,39 +151,26 @@ long_first front left long one =
     (on.0, rw (frames_in-text [] front left one, rest_in-text [] front left one) on.1)
 
 -- a rest that the input ends
-pub rest_first : (front : List ℕ) → length front ≤ 255 → IsOneLine front → begins_setup front ≡ true → frames_of front ≡ Err BadLine ∷ []
-rest_first [] short one begins = cc
-rest_first (b ∷ bs) short one begins =
-    rw (frames_in-none [] (b ∷ bs) one, rest_in-none [] (b ∷ bs) one) (rw (le-leb (length (b ∷ bs)) 255 short) refl)
-
--- a line that is too long is refused by the grammar too
-pub frame_setup : (line : List ℕ) → (frame_of line >>= setup_of) ≡ setup_of line
-unfolding setup_of
-frame_setup line = elim (cases_Bool (nat_le (length line) 255)) [
-  | inl fits ↦ rw fits refl
-  | inr over ↦ rw (over, lt-ltb 255 (length line) (leb-false _ _ over)) refl
-]
+rest_first : (rest : List ℕ) (why : LineFault) → IsOneLine rest → last_of (take 256 rest) ≡ Err why ∷ [] → frames_of rest ≡ Err why ∷ []
+rest_first rest why one last = rw (frames_in-none [] rest one, rest_in-none [] rest one) (sym (last_of-take rest) ∙ last)
 
 module _ {S : Type 0} (takes : S → SetupLine → S → Type 0) (refuses : S → SetupLine → ConfigFault → Type 0) where
-  pub refuses_line : (made : S) (front line rest left : List ℕ) (word : ConfigFault) → IsOneLine line → front ≡ ended line ++ rest
-      → RefusesRead refuses made (setup_of line) word → RefusesFirst refuses made (front ++ left) word
+  refuses_line : (made : S) (front line rest left : List ℕ) (word : ConfigFault) → IsOneLine line → front ≡ ended line ++ rest
+      → RefusesRead refuses made (setup_of (take 256 line)) word → RefusesFirst refuses made (front ++ left) word
   refuses_line made front line rest left word one e refused = (
-    frame_of line,
+    frame_of (take 256 line),
     frames_of (rest ++ left),
     ap (λ l. frames_of (l ++ left)) e ∙ ap frames_of (append_assoc (ended line) rest left) ∙ line_first line (rest ++ left) one,
-    subst (λ r. RefusesRead refuses made r word) (sym (frame_setup line)) refused,
+    subst (λ r. RefusesRead refuses made r word) (sym (frame_setup (take 256 line))) refused,
   )
 
-  pub refuses_long : (made : S) (front left : List ℕ) → 255 < length front → IsOneLine front → RefusesFirst refuses made (front ++ left) (config.Line TooLong)
+  refuses_long : (made : S) (front left : List ℕ) → 255 < length front → IsOneLine front → RefusesFirst refuses made (front ++ left) (config.Line TooLong)
   refuses_long made front left long one =
       let first = long_first front left long one in
       (Err TooLong, first.0, first.1, refl)
 
-  pub refuses_rest : (made : S) (front : List ℕ) → length front ≤ 255 → IsOneLine front → begins_setup front ≡ true → RefusesFirst refuses made front (config.Line BadLine)
-  refuses_rest made front short one begins = (Err BadLine, [], rest_first front short one begins, refl)
-
   -- the refusal of a line, however the input goes on
-  pub refused_now : (first made : S) (unread left : Option (List ℕ)) (input front : List ℕ) (setup : SetsUp takes first input front made) (number line : ℕ) (word : ConfigFault)
+  refused_now : (first made : S) (unread left : Option (List ℕ)) (input front : List ℕ) (setup : SetsUp takes first input front made) (number line : ℕ) (word : ConfigFault)
       → Consumes unread left input → number ≡ length setup.lines + 1 → line ≡ number → IsSetup front
       → ((more : List ℕ) → RefusesFirst refuses made (front ++ more) word) → IfSome unread (λ all. SetupRefused takes refuses first all line word made)
   refused_now first made None left input front setup number line word read counted same begins refused = tt
@@ -125,15 +180,25 @@ module _ {S : Type 0} (takes : S → SetupLine → S → Type 0) (refuses : S �
       subst (λ all. SetupRefused takes refuses first all line word made) (sym read)
       (front ++ ys, more.0, same ∙ counted ∙ ap (λ n. n + 1) (sym more.1), begins ys, refused ys)
 
+  -- the refusal of a line begun that is too long already
+  pub refused_long : (first made : S) (unread left : Option (List ℕ)) (input front : List ℕ) (setup : SetsUp takes first input front made) (number : ℕ)
+      → Consumes unread left input → number ≡ length setup.lines + 1 → IsOneLine front → 255 < length (take 256 front) → begins_setup (take 256 front) ≡ true
+      → IfSome unread (λ all. SetupRefused takes refuses first all number (config.Line TooLong) made)
+  refused_long first made unread left input front setup number read counted one long begins =
+      let size = length-take 256 front in
+      refused_now first made unread left input front setup number number (config.Line TooLong) read counted refl
+      (λ more. begins_long front more long ∙ begins)
+      (λ more. refuses_long made front more (omega (arith, long, size)) one)
+
   -- the refusal of a rest that the input ends
-  pub refused_rest : (first made : S) (unread left : Option (List ℕ)) (input front : List ℕ) (setup : SetsUp takes first input front made) (number : ℕ)
-      → Consumes unread left input → IsAtEnd left → number ≡ length setup.lines + 1 → length front ≤ 255 → IsOneLine front → begins_setup front ≡ true
-      → IfSome unread (λ all. SetupRefused takes refuses first all number (config.Line BadLine) made)
-  refused_rest first made None left input front setup number read end counted short one begins = tt
-  refused_rest first made (Some xs) None input front setup number read end counted short one begins = absurd read
-  refused_rest first made (Some xs) (Some ys) input front setup number read end counted short one begins =
-      subst (λ all. SetupRefused takes refuses first all number (config.Line BadLine) made) (sym (read ∙ ap (λ l. input ++ l) end ∙ append-nil input))
-      (front, setup, counted, begins, refuses_rest made front short one begins)
+  pub refused_rest : (first made : S) (unread left : Option (List ℕ)) (input front : List ℕ) (setup : SetsUp takes first input front made) (number : ℕ) (why : LineFault)
+      → Consumes unread left input → IsAtEnd left → number ≡ length setup.lines + 1 → IsOneLine front → last_of (take 256 front) ≡ Err why ∷ []
+      → begins_setup (take 256 front) ≡ true → IfSome unread (λ all. SetupRefused takes refuses first all number (config.Line why) made)
+  refused_rest first made None left input front setup number why read end counted one last begins = tt
+  refused_rest first made (Some xs) None input front setup number why read end counted one last begins = absurd read
+  refused_rest first made (Some xs) (Some ys) input front setup number why read end counted one last begins =
+      subst (λ all. SetupRefused takes refuses first all number (config.Line why) made) (sym (read ∙ ap (λ l. input ++ l) end ∙ append-nil input))
+      (front, setup, counted, sym (begins_setup-take front) ∙ begins, (Err why, [], rest_first front why one last, refl))
 
   -- whatever more there is to read, it follows the setup lines
   pub whole_follows : (first made : S) (unread left : Option (List ℕ)) (input front : List ℕ) (setup : SetsUp takes first input front made) → Consumes unread left input
@@ -144,12 +209,24 @@ module _ {S : Type 0} (takes : S → SetupLine → S → Type 0) (refuses : S �
       subst (λ all. (rest : List ℕ) × (made : S) × SetsUp takes first all rest made) (sym read) (front ++ ys, made, (more_read takes first made input front ys setup).0)
 
   pub line_fails : (first made last : S) (unread left : Option (List ℕ)) (input front line rest : List ℕ) (setup : SetsUp takes first input front made) (number : ℕ) (fault : ScriptFault)
-      → Consumes unread left input → number ≡ length setup.lines + 1 → IsSetup front → IsOneLine line → front ≡ ended line ++ rest
-      → last ≡ made → LineFails refuses made number (setup_of line) fault → SetupFails takes refuses first unread left last fault
+      → Consumes unread left input → number ≡ length setup.lines + 1 → begins_setup (take 256 line) ≡ true → IsOneLine line → front ≡ ended line ++ rest
+      → last ≡ made → LineFails refuses made number (setup_of (take 256 line)) fault → SetupFails takes refuses first unread left last fault
   line_fails first made last unread left input front line rest setup number (Setup at word) read counted begins one e same fails =
       subst (λ desk. IfSome unread (λ all. SetupRefused takes refuses first all at word desk)) (sym same)
-      (refused_now first made unread left input front setup number at word read counted fails.0 begins (λ more. refuses_line made front line rest more word one e fails.1))
+      (refused_now first made unread left input front setup number at word read counted fails.0
+      (λ more. begins_by_line front line rest more e ∙ begins) (λ more. refuses_line made front line rest more word one e fails.1))
   line_fails first made last unread left input front line rest setup number Read read counted begins one e same fails = absurd fails
   line_fails first made last unread left input front line rest setup number Write read counted begins one e same fails = absurd fails
   line_fails first made last unread left input front line rest setup number Memory read counted begins one e same fails =
       whole_follows first made unread left input front setup read
+
+  -- a read that failed while a line had begun
+  pub reading_fails : (first made : S) (unread mid left : Option (List ℕ)) (input front : List ℕ) (setup : SetsUp takes first input front made) (old : IntakeState) (before after : Bool)
+      (fault : ServeFault) → Consumes unread mid input → IsOneLine front → StopsReading old mid left before after fault
+      → SetupFails takes refuses first unread left made (serving_fault fault)
+  reading_fails first made unread mid left input front setup old before after serving.Read read one stops =
+      (front, (input, Consumes-kept unread mid left input read stops.0, setup), one)
+  reading_fails first made unread mid left input front setup old before after serving.Turns read one stops =
+      (front, (input, Consumes-kept unread mid left input read stops.0, setup), one)
+  reading_fails first made unread mid left input front setup old before after serving.Write read one stops = absurd stops
+  reading_fails first made unread mid left input front setup old before after serving.Memory read one stops = absurd stops

@@ -1,4 +1,3 @@
-pub mod Openings
 pub mod Scripts
 pub mod Setups
 pub mod Desks

@@ -1,23 +1,19 @@
 -- What taking the setup lines of an input leaves.
-use Rattle.std.specs.Prelude.{◌≡◌, ◌≤◌, ◌<◌, ℕ, List, [], ◌++◌, length, Bool, true, false, Option, Result, Ok, IfSome}
+use Rattle.std.specs.Prelude.{◌≡◌, ℕ, List, [], ◌++◌, true, false, Option, Result, Ok, IfSome}
 use Rattle.std.specs.Io.KnownBytes.{Consumes, IsAtEnd}
 use Rattle.lease_proto.specs.declared.faults.LineFault.{LineFault}
+use Rattle.lease_proto.specs.declared.setup_lines.SetupLine.{SetupLine}
 use Rattle.lease_proto.specs.Frames.{IsOneLine}
 use Rattle.lease_proto.specs.SetupLines.{setup_of, begins_setup}
-use Rattle.vmemd.specs.Openings.{IsOther}
+use Rattle.lease_server.specs.Intakes.{IntakeState, cut}
 use Rattle.vmemd.specs.Scripts.{SetsUp, RefusesRead, SetupRefused}
-use Rattle.lease_proto.specs.declared.setup_lines.SetupLine.{SetupLine}
 use Rattle.vmemd.specs.declared.faults.ConfigFault.{ConfigFault}
 use Rattle.vmemd.specs.declared.faults.ScriptFault.{ScriptFault}
 use Rattle.vmemd.specs.declared.faults.ScriptFault.TheVariants.{Setup, Read, Write, Memory}
-use Rattle.vmemd.specs.declared.setting_up.Rest.{Rest}
 
--- one read: these bytes get longer by a piece, which is empty just where the answer is that the
--- input ended
-abbrev pub ReadsMore : Option (List ℕ) → Option (List ℕ) → List ℕ → List ℕ → Bool → Type 0
-ReadsMore unread left old new more = (piece : List ℕ) × Consumes unread left piece
-    × (new ≡ old ++ piece) × (length piece ≤ 4096)
-    × (more ≡ false → (piece ≡ []) × IsAtEnd left) × (more ≡ true → 0 < length piece)
+-- whatever follows these bytes, they begin with a line that is no setup line
+abbrev pub IsOther : List ℕ → Type 0
+IsOther bytes = (more : List ℕ) → begins_setup (bytes ++ more) ≡ false
 
 module _ {S : Type 0} (takes : S → SetupLine → S → Type 0) where
   -- one line is a setup line and taken
@@ -30,11 +26,13 @@ module _ {S : Type 0} (takes : S → SetupLine → S → Type 0) where
   ReadsSetup first unread left made rest = (input : List ℕ) × Consumes unread left input
       × SetsUp takes first input rest made
 
-  -- what follows is no setup line
-  abbrev pub RestIs : S → Option (List ℕ) → Option (List ℕ) → S → Rest → Type 0
-  RestIs first unread left made rest = ReadsSetup first unread left made rest.bytes.items
-      × (rest.ended ≡ false → IsOther rest.bytes.items)
-      × (rest.ended ≡ true → (begins_setup rest.bytes.items ≡ false) × IsAtEnd left)
+  -- what is at hand after the setup lines, and that it begins with no further one: whatever
+  -- follows, or as the input ended there
+  abbrev pub TakesSetup : S → Option (List ℕ) → Option (List ℕ) → S → IntakeState → Type 0
+  TakesSetup first unread left made input = (rest : List ℕ)
+      × ReadsSetup first unread left made rest × (input.hand ≡ cut [] rest)
+      × (input.ended ≡ false → IsOther rest)
+      × (input.ended ≡ true → (begins_setup rest ≡ false) × IsAtEnd left)
 
 module _ {S : Type 0} (refuses : S → SetupLine → ConfigFault → Type 0) where
   -- why a line isn't taken

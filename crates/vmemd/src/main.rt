@@ -10,7 +10,6 @@ pub mod desks;
 pub mod endings;
 pub mod faults;
 pub mod laws;
-pub mod openings;
 pub mod scripts;
 pub mod setting_up;
 #[cfg(test)]

@@ -1,24 +1,18 @@
 //! Taking the setup lines that an input begins with.
-ghost use Rattle.std.specs.Prelude.{◌≡◌, ◌≤◌, ◌⊎◌, ◌+◌, ◌-◌, ◌^◌, OnOk, OnErr, IfErr, IfOk, IsErrOf, drop, min, vec_len, true, false};
-ghost use Rattle.std.specs.Io.KnownBytes.{Keeps};
-ghost use Rattle.lease_server.specs.Watching.{inner_of, has_failed, reads_of};
-ghost use Rattle.lease_proto.specs.SetupLines.{setup_of};
+ghost use Rattle.std.specs.Prelude.{◌≡◌, ◌≤◌, ◌<◌, ◌⊎◌, ◌+◌, ◌^◌, ◌-◌, ◌∷◌, [], Err, length, min};
+ghost use Rattle.std.specs.Prelude.{OnOk, OnErr, IfErr, IfOk, IsErrOf, true, false};
+ghost use Rattle.lease_proto.specs.Frames.{last_of};
 ghost use Rattle.lease_proto.specs.SetupLines as spec;
+ghost use Rattle.lease_proto.specs.SetupLines.{setup_of};
+ghost use Rattle.lease_server.specs.Watching.{inner_of, has_failed, reads_of};
 ghost use Rattle.vmemd.specs.Scripts.{RefusedBy, IsSpent};
-ghost use Rattle.vmemd.specs.Setups.{TakesLine, LineFails, ReadsMore, RestIs, SetupFails};
+ghost use Rattle.vmemd.specs.Setups.{TakesLine, LineFails, TakesSetup, SetupFails};
 
 use crate::faults::{ConfigFault, ScriptFault, SettingFault};
-use crate::openings::{Opening, begins_setup, look};
-use lease_proto::{LineFault, SetupLine};
-use lease_server::{Responder, Watched};
-use std::alloc::Global;
+use lease_proto::{LONGEST_LINE, LineFault, SetupLine, fault_at_end, is_setup_word};
+use lease_server::{Intake, Responder, Watched};
+use memchr::memchr2;
 use std::io::Read;
-
-/// How often the setup is read from, as often as the lines after it.
-const MOST_READS: u64 = 1 << 40;
-
-/// How many bytes are read at once.
-const PIECE: usize = 4096;
 
 /// What setup lines make, and what then answers lines.
 pub trait SetUp: Responder {
@@ -38,22 +32,14 @@ pub trait SetUp: Responder {
         ensures same { OnErr result (self.new ≡ self.old) };
 }
 
-/// The bytes that were read after a setup.
-#[derive(Drop)]
-pub struct Rest {
-    pub bytes: Vec<u8>,
-    /// Whether the input ended there.
-    pub ended: bool,
-}
-
-/// Takes the setup lines that the input begins with, and gives what was read after them. At a
-/// refused line the desk is what the lines before it made.
+/// Takes the setup lines that the input begins with, and gives what was read and not taken: the
+/// lines after them. At a refused line the desk is what the lines before it made. A setup line that
+/// is too long is refused once 256 bytes of it have come.
 pub fn take_setup<R: Read, D: SetUp>(
-    alloc: Global,
     reader: &mut Watched<R>,
     desk: &mut D,
-) -> Result<Rest, ScriptFault>
-    ensures ok { IfOk result (RestIs D.takes desk.old (R.remaining (inner_of reader.old))
+) -> Result<Intake, ScriptFault>
+    ensures ok { IfOk result (TakesSetup D.takes desk.old (R.remaining (inner_of reader.old))
         (R.remaining (inner_of reader.new)) desk.new) }
     ensures err { IfErr result (SetupFails D.takes D.refuses desk.old
         (R.remaining (inner_of reader.old)) (R.remaining (inner_of reader.new)) desk.new) }
@@ -62,75 +48,66 @@ pub fn take_setup<R: Read, D: SetUp>(
         → IsSpent (has_failed reader.new) (reads_of reader.new) }
     ensures kept { IfErr result (λ fault. (fault ≡ ScriptFault.Read)
         ⊎ (has_failed reader.new ≡ has_failed reader.old)) }
+    ensures counted { IfOk result (λ input. (input.reads ≤ 2 ^ 40)
+        × (reads_of reader.new ≡ min (reads_of reader.old + input.reads) (2 ^ 64 - 1))) }
+    ensures bound { reads_of reader.new ≤ reads_of reader.old + 2 ^ 40 }
 {
-    let mut front = Vec::new(alloc);
+    // For its clause: reads are at most 2^64 - 1.
+    let _ = reader.reads();
+    let mut input = Intake::new();
     let mut number = 1u64;
-    let mut reads = 0u64;
     loop {
-        match look(front.as_slice()) {
-            Opening::Line(end) => {
-                take_line(&front[..end], number, desk)?;
+        match input.first_line() {
+            Some(line) if begins_setup(line) => {
+                take_line(line, number, desk)?;
+                input.pass();
                 number += 1;
-                cut_front(&mut front, end + 1);
             }
-            Opening::Long => return Err(refusal(number, LineFault::TooLong)),
-            Opening::Other => {
-                return Ok(Rest {
-                    bytes: front,
-                    ended: false,
-                });
-            }
-            Opening::Part if reads == MOST_READS => return Err(ScriptFault::Read),
-            Opening::Part => {
-                reads += 1;
-                if !read_more(&mut front, reader)? {
-                    return end_setup(front, number);
+            Some(_) => return Ok(input),
+            None => {
+                refuse_long(input.begun(), number)?;
+                if !input.read_on(reader)? {
+                    refuse_rest(input.begun(), number)?;
+                    return Ok(input);
                 }
             }
         }
     }
 }
 
-/// Reads on once, and says whether the input may go on.
-fn read_more<R: Read>(front: &mut Vec<u8>, reader: &mut Watched<R>) -> Result<bool, ScriptFault>
-    ensures ok { IfOk result (ReadsMore (R.remaining (inner_of reader.old))
-        (R.remaining (inner_of reader.new)) front.old.items front.new.items) }
-    ensures err { IfErr result (λ fault. ((fault ≡ ScriptFault.Memory)
-        × (has_failed reader.new ≡ has_failed reader.old))
-        ⊎ ((fault ≡ ScriptFault.Read) × Keeps (R.remaining (inner_of reader.old))
-        (R.remaining (inner_of reader.new)) × (front.new.items ≡ front.old.items)
-        × (has_failed reader.new ≡ true))) }
-    ensures works { OnOk result (has_failed reader.new ≡ has_failed reader.old) }
-    ensures counted { reads_of reader.new ≡ min (reads_of reader.old + 1) (2 ^ 64 - 1) }
+/// Whether a line is meant as a setup line, by its first word; or whether a line begun is so far.
+fn begins_setup(line: &[u8]) -> bool
+    ensures { result ≡ spec.begins_setup line.now }
 {
-    let mut buffer = [0u8; PIECE];
-    let n = reader.read(&mut buffer)?;
-    front.extend_from_slice(&buffer[..n])?;
-    Ok(n > 0)
-}
-
-/// What follows the setup where the input ended with these bytes: no line feed ends them.
-fn end_setup(front: Vec<u8>, number: u64) -> Result<Rest, ScriptFault>
-    ensures ok { IfOk result (λ rest. (rest.bytes ≡ front) × (rest.ended ≡ true)
-        × (spec.begins_setup front.items ≡ false)) }
-    ensures err { IfErr result (λ fault. (fault ≡ ScriptFault.Setup number
-        (ConfigFault.Line LineFault.BadLine)) × (spec.begins_setup front.items ≡ true)) }
-{
-    if begins_setup(front.as_slice()) {
-        return Err(refusal(number, LineFault::BadLine));
+    match memchr2(b' ', b'\n', line) {
+        Some(end) => is_setup_word(&line[..end]),
+        None => is_setup_word(line),
     }
-    Ok(Rest {
-        bytes: front,
-        ended: true,
-    })
 }
 
-/// Takes the first bytes out.
-fn cut_front(bytes: &mut Vec<u8>, count: usize)
-    requires { count ≤ vec_len bytes.old }
-    ensures { bytes.new.items ≡ drop count bytes.old.items }
+/// Refuses a setup line begun that is too long already.
+fn refuse_long(begun: &[u8], number: u64) -> Result<(), ScriptFault>
+    ensures { IfErr result (λ fault. (fault ≡ ScriptFault.Setup number
+        (ConfigFault.Line LineFault.TooLong)) × (255 < length begun.now)
+        × (spec.begins_setup begun.now ≡ true)) }
 {
-    bytes.drain(..count);
+    if begun.len() > LONGEST_LINE && begins_setup(begun) {
+        return Err(refusal(number, LineFault::TooLong));
+    }
+    Ok(())
+}
+
+/// Refuses a setup line that the input ends in: it has no line feed.
+fn refuse_rest(rest: &[u8], number: u64) -> Result<(), ScriptFault>
+    ensures ok { OnOk result (spec.begins_setup rest.now ≡ false) }
+    ensures err { IfErr result (λ fault. (word : LineFault)
+        × (fault ≡ ScriptFault.Setup number (ConfigFault.Line word))
+        × (last_of rest.now ≡ Err word ∷ []) × (spec.begins_setup rest.now ≡ true)) }
+{
+    match fault_at_end(rest) {
+        Some(fault) if begins_setup(rest) => Err(refusal(number, fault)),
+        Some(_) | None => Ok(()),
+    }
 }
 
 /// Lets a desk take the setup line of this number, given without its line feed.

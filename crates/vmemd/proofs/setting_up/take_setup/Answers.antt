@@ -1,87 +1,169 @@
-use Rattle.std.proofs.Common.{◌≡◌, ◌+◌, ◌-◌, ◌<◌, length, take, drop, [], ◌++◌, refl, sym, ◌∙◌, ap, subst, arith, rules, true, false}
-use Rattle.std.proofs.lemmas.List.{append-nil, length-append, length-drop}
-use Rattle.std.proofs.lemmas.Result.{err_from_is_err_and, IfErr-weaker}
+use Rattle.std.proofs.Common.{◌≡◌, ◌<◌, ◌+◌, ◌-◌, ◌*◌, ◌^◌, ◌∷◌, ◌++◌, [], Err, length, take, min, refl, sym, ◌∙◌, ap, subst, arith, rules, true, false}
+use Rattle.std.proofs.lemmas.List.{append-nil}
+use Rattle.std.proofs.lemmas.Result.{err_from_is_err_and}
 use Rattle.std.specs.Io.KnownBytes.{Consumes}
 use Rattle.std.proofs.KnownBytes.{Consumes-nil, Consumes-trans}
-use Rattle.lease_proto.specs.declared.faults.LineFault.TheVariants.{TooLong}
-use Rattle.lease_server.specs.Watching.{inner_of}
-use Rattle.vmemd.specs.declared.faults.ConfigFault.TheVariants as config
-use Rattle.vmemd.specs.Setups.{SetupFails, LineFails, TakesLine}
-use Rattle.vmemd.specs.Openings.{Shows}
+use Rattle.lease_proto.specs.Frames.{last_of}
 use Rattle.lease_proto.specs.SetupLines.{setup_of, begins_setup}
-use Rattle.vmemd.specs.declared.openings.Opening.TheVariants.{Line, Long, Part}
-use Rattle.vmemd.proofs.SetupLemmas.{none_taken, one_taken, more_read, refused_now, refused_rest, refuses_long, line_fails}
+use Rattle.lease_server.specs.Intakes.{IntakeState, cut}
+use Rattle.lease_server.specs.Watching.{inner_of, has_failed, reads_of}
+use Rattle.vmemd.specs.Setups.{LineFails, TakesLine}
+use Rattle.vmemd.proofs.OpeningLemmas.{begins_setup-take}
+use Rattle.vmemd.proofs.SetupLemmas.{none_taken, one_taken, more_read, line_at, begun_at, read_behind, read_none, begins_by_line, size_at, size-cut, size-passed, refused_long, refused_rest, reading_fails, line_fails}
 use Rattle.vmemd.proofs.setting_up.take_setup.Goals as goal
 
-pub loop-end-init : goal.loop-end-init
-loop-end-init g c =
+pub loop-line-init : goal.loop-line-init
+loop-line-init g c =
     let none = none_taken g.D.SetUp.takes c.args.desk.now in
-    rw c.new-front.ensures.items ([], Consumes-nil _, none.0, none.1, omega arith, omega arith, refl, omega arith)
+    let reads = reads_of c.args.reader.now in
+    let least : reads ≡ min (reads + 0) (2 ^ 64 - 1) = omega (arith, c.reads.ensures) in
+    rw c.new-input.ensures ([], Consumes-nil _, [], none.0, refl, none.1, refl, omega arith, omega arith, refl, least)
 
-pub returns-in_err-take_line-in-Line-clause-err : goal.returns-in_err-take_line-in-Line-clause-err
-returns-in_err-take_line-in-Line-clause-err g c =
-    let (input, read, setup, counted, room, low, works, spent) = c.loop-end.invariant in
-    let front = c.loop-end.front.items in
-    let end = c.in-Line.end in
+pub returns-in_err-take_line-in-Some-clause-err : goal.returns-in_err-take_line-in-Some-clause-err
+returns-in_err-take_line-in-Some-clause-err g c =
+    let (input, read, front, setup, hand, counted, going, room, low, works, spent) = c.loop-line.invariant in
+    let (text, rest, one, parts, first, behind) = line_at c.loop-line.input.hand front hand c.in-Some.ensures.some.0 in
     let p = err_from_is_err_and c.from_residual.result c.from_residual.ensures.1 in
-    let shows = subst (λ l. Shows l (Line end)) c.as_slice.ensures.value c.in-Line.ensures in
-    let failed = subst (λ l. LineFails g.D.SetUp.refuses c.loop-end.desk c.loop-end.number (setup_of (take end l)) c.in_err-take_line-in-Line.field-0.0)
-    c.deref.ensures.value c.in_err-take_line-in-Line.ensures.err in
-    rw (p.1, p.2) (line_fails g.D.SetUp.takes g.D.SetUp.refuses c.args.desk.now c.loop-end.desk c.take_line.new.desk (g.R.Read.remaining (inner_of c.args.reader.now)) (g.R.Read.remaining (inner_of c.loop-end.reader))
-    input front (take end front) (drop (end + 1) front) setup c.loop-end.number c.in_err-take_line-in-Line.field-0.0 read counted shows.1 shows.2 shows.3 c.in_err-take_line-in-Line.ensures.same failed)
+    let line : c.in-Some.line.now ≡ take 256 text = c.in-Some.ensures.some.1 ∙ first in
+    let begins : begins_setup (take 256 text) ≡ true = ap begins_setup (sym line) ∙ sym c.begins_setup.ensures ∙ c.if-begins_setup.true in
+    let failed = subst (λ l. LineFails g.D.SetUp.refuses c.loop-line.desk c.loop-line.number (setup_of l) c.in_err-take_line-in-Some.field-0.0)
+    line c.in_err-take_line-in-Some.ensures.err in
+    rw (p.1, p.2) (line_fails g.D.SetUp.takes g.D.SetUp.refuses c.args.desk.now c.loop-line.desk c.take_line.new.desk
+    (g.R.Read.remaining (inner_of c.args.reader.now)) (g.R.Read.remaining (inner_of c.loop-line.reader))
+    input front text rest setup c.loop-line.number c.in_err-take_line-in-Some.field-0.0 read counted begins one parts c.in_err-take_line-in-Some.ensures.same failed)
 
-pub loop-end-preserved-in-Line : goal.loop-end-preserved-in-Line
-loop-end-preserved-in-Line g c =
-    let (input, read, setup, counted, room, low, works, spent) = c.loop-end.invariant in
-    let front = c.loop-end.front.items in
-    let end = c.in-Line.end in
-    let shows = subst (λ l. Shows l (Line end)) c.as_slice.ensures.value c.in-Line.ensures in
-    let taken = subst (λ l. TakesLine g.D.SetUp.takes c.loop-end.desk (take end l) c.take_line.new.desk) c.deref.ensures.value c.in_ok-take_line-in-Line.ensures.ok in
-    let more = one_taken g.D.SetUp.takes c.args.desk.now c.loop-end.desk c.take_line.new.desk input front (take end front) (drop (end + 1) front) setup taken shows.3 in
-    let left : length (drop (end + 1) front) ≡ length front - (end + 1) = length-drop (end + 1) front in
-    let inside : end < length front = shows.0 in
-    rw c.cut_front.ensures (input, read, more.0, ap (λ n. n + 1) (counted ∙ sym more.1), omega arith, low, works, spent)
+pub loop-line-smaller-then-begins_setup : goal.loop-line-smaller-then-begins_setup
+loop-line-smaller-then-begins_setup g c =
+    let old = c.loop-line.input in
+    let less = size-passed old.hand c.in-Some.ensures.some.0 in
+    subst (λ (v : IntakeState). (2 ^ 40 - v.reads) * 8192 + size_at v.hand < (2 ^ 40 - old.reads) * 8192 + size_at old.hand)
+    (sym c.pass.ensures) (omega (arith, less))
 
-pub returns-in-Long-clause-err : goal.returns-in-Long-clause-err
-returns-in-Long-clause-err g c =
-    let (input, read, setup, counted, room, low, works, spent) = c.loop-end.invariant in
-    let front = c.loop-end.front.items in
-    let shows = subst (λ l. Shows l Long) c.as_slice.ensures.value c.in-Long.ensures in
-    rw c.refusal.ensures (refused_now g.D.SetUp.takes g.D.SetUp.refuses c.args.desk.now c.loop-end.desk (g.R.Read.remaining (inner_of c.args.reader.now)) (g.R.Read.remaining (inner_of c.loop-end.reader))
-    input front setup c.loop-end.number c.loop-end.number (config.Line TooLong) read counted refl shows.1
-    (λ more. refuses_long g.D.SetUp.takes g.D.SetUp.refuses c.loop-end.desk front more shows.0 shows.2))
+pub loop-line-preserved-then-begins_setup : goal.loop-line-preserved-then-begins_setup
+loop-line-preserved-then-begins_setup g c =
+    let (input, read, front, setup, hand, counted, going, room, low, works, spent) = c.loop-line.invariant in
+    let (text, rest, one, parts, first, behind) = line_at c.loop-line.input.hand front hand c.in-Some.ensures.some.0 in
+    let line : c.in-Some.line.now ≡ take 256 text = c.in-Some.ensures.some.1 ∙ first in
+    let taken = subst (λ l. TakesLine g.D.SetUp.takes c.loop-line.desk l c.take_line.new.desk) line c.in_ok-take_line-in-Some.ensures.ok in
+    let more = one_taken g.D.SetUp.takes c.args.desk.now c.loop-line.desk c.take_line.new.desk input front text rest setup taken parts in
+    let less = size-passed c.loop-line.input.hand c.in-Some.ensures.some.0 in
+    rw c.pass.ensures (
+      input,
+      read,
+      rest,
+      more.0,
+      ap (cut []) behind,
+      ap (λ n. n + 1) (counted ∙ sym more.1),
+      going,
+      omega (arith, less, room),
+      low,
+      works,
+      spent,
+    )
 
-pub returns-then-not-branch-clause-err : goal.returns-then-not-branch-clause-err
-returns-then-not-branch-clause-err g c =
-    let (input, read, setup, counted, room, low, works, spent) = c.loop-end.invariant in
-    let (piece, consumes, grown, short, ends, some) = c.in_ok-read_more-in-Part-2.ensures.ok in
-    let front = c.loop-end.front.items in
-    let shows = subst (λ l. Shows l Part) c.as_slice.ensures.value c.in-Part-2.ensures in
-    let over : c.in_ok-read_more-in-Part-2.field-0 ≡ false = search rules in
-    let end = ends over in
-    let same : c.read_more.new.front.items ≡ front = grown ∙ ap (λ l. front ++ l) end.0 ∙ append-nil front in
-    let nothing : input ++ piece ≡ input = ap (λ l. input ++ l) end.0 ∙ append-nil input in
-    IfErr-weaker c.end_setup.result _ (SetupFails g.D.SetUp.takes g.D.SetUp.refuses c.args.desk.now (g.R.Read.remaining (inner_of c.args.reader.now)) (g.R.Read.remaining (inner_of c.read_more.new.reader)) c.loop-end.desk)
-    (λ fault p. rw p.0 (refused_rest g.D.SetUp.takes g.D.SetUp.refuses c.args.desk.now c.loop-end.desk (g.R.Read.remaining (inner_of c.args.reader.now)) (g.R.Read.remaining (inner_of c.read_more.new.reader))
-    input front setup c.loop-end.number
-    (subst (λ l. Consumes (g.R.Read.remaining (inner_of c.args.reader.now)) (g.R.Read.remaining (inner_of c.read_more.new.reader)) l) nothing (Consumes-trans _ _ _ input piece read consumes))
-    end.1 counted shows.0 shows.1 (subst (λ l. begins_setup l ≡ true) same p.1)))
-    c.end_setup.ensures.err
+pub returns-in-Some-2-clause-ok : goal.returns-in-Some-2-clause-ok
+returns-in-Some-2-clause-ok g c =
+    let (input, read, front, setup, hand, counted, going, room, low, works, spent) = c.loop-line.invariant in
+    let (text, rest, one, parts, first, behind) = line_at c.loop-line.input.hand front hand c.in-Some.ensures.some.0 in
+    let line : c.in-Some.line.now ≡ take 256 text = c.in-Some.ensures.some.1 ∙ first in
+    let other : begins_setup (take 256 text) ≡ false = ap begins_setup (sym line) ∙ sym c.begins_setup.ensures ∙ c.if-begins_setup.false in (
+      front,
+      (input, read, setup),
+      hand,
+      (λ _ more. begins_by_line front text rest more parts ∙ other),
+      (λ is. let bad : true ≡ false = sym is ∙ going in absurd (cc)),
+    )
 
-pub loop-end-preserved : goal.loop-end-preserved
-loop-end-preserved g c =
-    let (input, read, setup, counted, room, low, works, spent) = c.loop-end.invariant in
-    let (piece, consumes, grown, short, ends, some) = c.in_ok-read_more-in-Part-2.ensures.ok in
-    let front = c.loop-end.front.items in
-    let more = more_read g.D.SetUp.takes c.args.desk.now c.loop-end.desk input front piece setup in
-    let longer : length (front ++ piece) ≡ length front + length piece = length-append front piece in
-    rw grown (
+pub returns-in_err-refuse_long-in-None-clause-err : goal.returns-in_err-refuse_long-in-None-clause-err
+returns-in_err-refuse_long-in-None-clause-err g c =
+    let (input, read, front, setup, hand, counted, going, room, low, works, spent) = c.loop-line.invariant in
+    let (one, first) = begun_at c.loop-line.input.hand front hand c.in-None.ensures.none in
+    let line : c.begun.result.now ≡ take 256 front = c.begun.ensures ∙ first in
+    let p = err_from_is_err_and c.from_residual-in_err-refuse_long-in-None.result c.from_residual-in_err-refuse_long-in-None.ensures.1 in
+    let e = c.in_err-refuse_long-in-None.ensures in
+    rw (p.1, p.2, e.0) (refused_long g.D.SetUp.takes g.D.SetUp.refuses c.args.desk.now c.loop-line.desk
+    (g.R.Read.remaining (inner_of c.args.reader.now)) (g.R.Read.remaining (inner_of c.loop-line.reader))
+    input front setup c.loop-line.number read counted one (subst (λ l. 255 < length l) line e.1) (ap begins_setup (sym line) ∙ e.2))
+
+pub returns-in_err-read_on-in-None-clause-err : goal.returns-in_err-read_on-in-None-clause-err
+returns-in_err-read_on-in-None-clause-err g c =
+    let (input, read, front, setup, hand, counted, going, room, low, works, spent) = c.loop-line.invariant in
+    let (one, first) = begun_at c.loop-line.input.hand front hand c.in-None.ensures.none in
+    let p = err_from_is_err_and c.from_residual-in_err-read_on-in-None.result c.from_residual-in_err-read_on-in-None.ensures.1 in
+    rw (p.1, p.2) (reading_fails g.D.SetUp.takes g.D.SetUp.refuses c.args.desk.now c.loop-line.desk
+    (g.R.Read.remaining (inner_of c.args.reader.now)) (g.R.Read.remaining (inner_of c.loop-line.reader)) (g.R.Read.remaining (inner_of c.read_on.new.reader))
+    input front setup c.loop-line.input (has_failed c.loop-line.reader) (has_failed c.read_on.new.reader) c.in_err-read_on-in-None.field-0.0
+    read one c.in_err-read_on-in-None.ensures.err)
+
+pub returns-in_err-refuse_rest-in-None-clause-err : goal.returns-in_err-refuse_rest-in-None-clause-err
+returns-in_err-refuse_rest-in-None-clause-err g c =
+    let (input, read, front, setup, hand, counted, going, room, low, works, spent) = c.loop-line.invariant in
+    let (one, first) = begun_at c.loop-line.input.hand front hand c.in-None.ensures.none in
+    let (piece, consumes, short, next, more, none) = c.in_ok-read_on-in-None.ensures.ok in
+    let over : c.in_ok-read_on-in-None.field-0 ≡ false = search rules in
+    let (nothing, at_end, is_end) = none over in
+    let stays = read_none c.loop-line.input.hand c.read_on.new.self.hand front piece one first next nothing in
+    let line : c.begun-then-not-branch.result.now ≡ take 256 front = c.begun-then-not-branch.ensures ∙ ap (λ h. h.line) (stays ∙ sym hand) ∙ first in
+    let p = err_from_is_err_and c.from_residual-in_err-refuse_rest-in-None.result c.from_residual-in_err-refuse_rest-in-None.ensures.1 in
+    let (why, is, last, begins) = c.in_err-refuse_rest-in-None.ensures.err in
+    let unread = g.R.Read.remaining (inner_of c.args.reader.now) in
+    let left = g.R.Read.remaining (inner_of c.read_on.new.reader) in
+    let all : Consumes unread left input =
+    subst (λ l. Consumes unread left l) (ap (λ l. input ++ l) nothing ∙ append-nil input) (Consumes-trans _ _ _ input piece read consumes) in
+    rw (p.1, p.2, is) (refused_rest g.D.SetUp.takes g.D.SetUp.refuses c.args.desk.now c.loop-line.desk unread left
+    input front setup c.loop-line.number why all is_end counted one (subst (λ l. last_of l ≡ Err why ∷ []) line last) (ap begins_setup (sym line) ∙ begins))
+
+pub returns-then-not-branch-clause-ok : goal.returns-then-not-branch-clause-ok
+returns-then-not-branch-clause-ok g c =
+    let (input, read, front, setup, hand, counted, going, room, low, works, spent) = c.loop-line.invariant in
+    let (one, first) = begun_at c.loop-line.input.hand front hand c.in-None.ensures.none in
+    let (piece, consumes, short, next, more, none) = c.in_ok-read_on-in-None.ensures.ok in
+    let over : c.in_ok-read_on-in-None.field-0 ≡ false = search rules in
+    let (nothing, at_end, is_end) = none over in
+    let stays = read_none c.loop-line.input.hand c.read_on.new.self.hand front piece one first next nothing in
+    let line : c.begun-then-not-branch.result.now ≡ take 256 front = c.begun-then-not-branch.ensures ∙ ap (λ h. h.line) (stays ∙ sym hand) ∙ first in
+    let unread = g.R.Read.remaining (inner_of c.args.reader.now) in
+    let left = g.R.Read.remaining (inner_of c.read_on.new.reader) in
+    let all : Consumes unread left input =
+    subst (λ l. Consumes unread left l) (ap (λ l. input ++ l) nothing ∙ append-nil input) (Consumes-trans _ _ _ input piece read consumes) in (
+      front,
+      (input, all, setup),
+      stays,
+      (λ is. let bad : true ≡ false = sym at_end ∙ is in absurd (cc)),
+      (λ _. (sym (begins_setup-take front) ∙ ap begins_setup (sym line) ∙ c.in_ok-refuse_rest-in-None.ensures.ok, is_end)),
+    )
+
+pub loop-line-smaller : goal.loop-line-smaller
+loop-line-smaller g c =
+    let (piece, consumes, short, next, more, none) = c.in_ok-read_on-in-None.ensures.ok in
+    let on : c.in_ok-read_on-in-None.field-0 ≡ true = search rules in
+    let (some, fresh, not_ended, once) = more on in
+    let size = ap size_at next in
+    let fits = size-cut c.loop-line.input.hand.line piece in
+    let bound = c.read_on.ensures.bound in
+    let less : (2 ^ 40 - c.read_on.new.self.reads) * 8192 + size_at c.read_on.new.self.hand
+        < (2 ^ 40 - c.loop-line.input.reads) * 8192 + size_at c.loop-line.input.hand = omega (arith, once, bound, size, fits, short) in
+    less
+
+pub loop-line-preserved : goal.loop-line-preserved
+loop-line-preserved g c =
+    let (input, read, front, setup, hand, counted, going, room, low, works, spent) = c.loop-line.invariant in
+    let (one, first) = begun_at c.loop-line.input.hand front hand c.in-None.ensures.none in
+    let (piece, consumes, short, next, more, none) = c.in_ok-read_on-in-None.ensures.ok in
+    let on : c.in_ok-read_on-in-None.field-0 ≡ true = search rules in
+    let (some, fresh, not_ended, once) = more on in
+    let size = ap size_at next in
+    let fits = size-cut c.loop-line.input.hand.line piece in
+    let grown = more_read g.D.SetUp.takes c.args.desk.now c.loop-line.desk input front piece setup in (
       input ++ piece,
       Consumes-trans _ _ _ input piece read consumes,
-      more.0,
-      counted ∙ ap (λ n. n + 1) (sym more.1),
-      omega arith,
-      omega arith,
-      c.in_ok-read_more-in-Part-2.ensures.works ∙ works,
-      omega (arith, low, spent, c.read_more.ensures.counted),
+      front ++ piece,
+      grown.0,
+      read_behind c.loop-line.input.hand c.read_on.new.self.hand front piece one first next,
+      counted ∙ ap (λ n. n + 1) (sym grown.1),
+      not_ended,
+      omega (arith, room, once, size, fits, short),
+      c.read_on.ensures.bound.1,
+      c.in_ok-read_on-in-None.ensures.works ∙ works,
+      omega (arith, spent, once, c.read_on.ensures.counted),
     )

@@ -1,17 +1,21 @@
-use Rattle.std.proofs.Common.{◌≡◌, ℕ, ◌+◌, ◌-◌, ◌*◌, ◌^◌, ◌≤◌, List, length}
+use Rattle.std.proofs.Common.{◌≡◌, ℕ, ◌+◌, ◌-◌, ◌*◌, ◌^◌, ◌≤◌, List, [], length, min, false}
 use Rattle.std.specs.Io.KnownBytes.{Consumes}
+use Rattle.lease_server.specs.Intakes.{cut}
 use Rattle.lease_server.specs.Watching.{inner_of, has_failed, reads_of}
 use Rattle.vmemd.specs.Scripts.{SetsUp}
+use Rattle.vmemd.proofs.SetupLemmas.{size_at}
 use Rattle.vmemd.proofs.setting_up.take_setup.Given as goal
 
-abbrev pub invariant-loop-end : goal.invariant-loop-end
-invariant-loop-end g l = (input : List ℕ) × Consumes (g.R.Read.remaining (inner_of l.fn.reader)) (g.R.Read.remaining (inner_of l.reader)) input
-    × (setup : SetsUp g.D.SetUp.takes l.fn.desk input l.front.items l.desk)
+abbrev pub invariant-loop-line : goal.invariant-loop-line
+invariant-loop-line g l = (input : List ℕ) × Consumes (g.R.Read.remaining (inner_of l.fn.reader)) (g.R.Read.remaining (inner_of l.reader)) input
+    × (front : List ℕ) × (setup : SetsUp g.D.SetUp.takes l.fn.desk input front l.desk)
+    × (l.input.hand ≡ cut [] front)
     × (l.number ≡ length setup.lines + 1)
-    × (l.number + length l.front.items ≤ 4096 * l.reads + 1)
-    × (l.reads ≤ 2 ^ 40)
+    × (l.input.ended ≡ false)
+    × (l.number + size_at l.input.hand ≤ 4096 * l.input.reads + 1)
+    × (l.input.reads ≤ 2 ^ 40)
     × (has_failed l.reader ≡ has_failed l.fn.reader)
-    × (l.reads ≤ reads_of l.reader)
+    × (reads_of l.reader ≡ min (reads_of l.fn.reader + l.input.reads) (2 ^ 64 - 1))
 
-abbrev pub decreases-loop-end : goal.decreases-loop-end
-decreases-loop-end g l = (2 ^ 40 - l.reads) * 8192 + length l.front.items
+abbrev pub decreases-loop-line : goal.decreases-loop-line
+decreases-loop-line g l = (2 ^ 40 - l.input.reads) * 8192 + size_at l.input.hand
