@@ -6,7 +6,7 @@ use Rattle.deed_core.specs.Covering.{covers, covers_held}
 use Rattle.deed_core.proofs.LawProofs.{counts_the_unit}
 use Rattle.lease_book.specs.BookState.{leased}
 use Rattle.lease_proto.specs.Frames.{Frame}
-use Rattle.lease_server.specs.Serving.{Serves}
+use Rattle.lease_server.specs.Serving.{ServesLines}
 use Rattle.lease_desk.specs.DeskState.{DeskState, OnePlace, within, stray, IsOrderly}
 use Rattle.lease_desk.specs.Machine.{LeaseStep}
 use Rattle.lease_desk.specs.Laws.{AreApart, LeasesStayApart, UnitsHaveOnePlace}
@@ -14,7 +14,7 @@ use Rattle.deed_core.proofs.LawProofs.{slice_get_some}
 use Rattle.lease_desk.proofs.Exporting.{not_stray, within_own}
 use Rattle.lease_desk.proofs.OrderLemmas.{homed_weigh}
 
-stays_orderly : (old new : DeskState) (frames : List Frame) (text : List ℕ) → IsOrderly old → Serves LeaseStep old frames text new → IsOrderly new
+stays_orderly : (old new : DeskState) (frames : List Frame) (text : List ℕ) → IsOrderly old → ServesLines LeaseStep old frames text new → IsOrderly new
 stays_orderly old new [] text orderly served = subst IsOrderly (sym served.1) orderly
 stays_orderly old new (Ok line ∷ frames) text orderly served = stays_orderly served.2 new frames served.1 (served.3).orderly served.5
 stays_orderly old new (Err fault ∷ frames) text orderly served = stays_orderly old new frames served.0 orderly served.2

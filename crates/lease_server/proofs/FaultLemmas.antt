@@ -5,7 +5,7 @@ use Rattle.std.specs.Io.KnownBytes.{Consumes, Keeps, IsAtEnd}
 use Rattle.std.proofs.KnownBytes.{Consumes-kept}
 use Rattle.lease_proto.specs.Frames.{Frame, frames_in, rest_in, last_of}
 use Rattle.lease_server.specs.Watching.{Streams}
-use Rattle.lease_server.specs.Intakes.{AtHand, IntakeState, cut, frames_at, begun_at, frames_on, frames_to_end, StopsReading}
+use Rattle.lease_server.specs.Intakes.{AtHand, IntakeState, hand_in, frames_at, begun_at, frames_on, frames_to_end, StopsReading}
 use Rattle.lease_server.specs.Serving.{SameFront, Writes, WritesBefore, Stops, ServesAll, ServeFails}
 use Rattle.lease_server.specs.declared.faults.ServeFault.{ServeFault}
 use Rattle.lease_server.specs.declared.faults.ServeFault.TheVariants.{Read, Write, Memory, Turns}
@@ -13,9 +13,9 @@ use Rattle.lease_server.proofs.ServingLemmas.{Stops-after, Stops-more, WritesBef
 use Rattle.lease_server.proofs.IntakeLemmas.{frames_to_end-append}
 
 -- where nothing more came, the line begun is as it was
-pub last_front : (held after : AtHand) (piece : List ℕ) → after ≡ cut held.line piece → piece ≡ [] → SameFront after.line held.line
+pub last_front : (held after : AtHand) (piece : List ℕ) → after ≡ hand_in held.line piece → piece ≡ [] → SameFront after.line held.line
 last_front held after piece is none =
-    ap (λ h. take 256 h.line) (is ∙ ap (cut held.line) none) ∙ take-take 256 256 held.line (omega arith)
+    ap (λ h. take 256 h.line) (is ∙ ap (hand_in held.line) none) ∙ take-take 256 256 held.line (omega arith)
 
 module _ {S : Type 0} (may_answer : S → List ℕ → List ℕ → S → Type 0) where
   -- the lines at hand, of which serving ended early

@@ -6,73 +6,73 @@ use Rattle.std.proofs.lemmas.Bool.{ne_eqb, cases_Bool, cases_eq}
 use Rattle.lease_proto.specs.Frames.{Frame, LineReaderState, frame_of, frames_in, rest_in, last_of, ended, IsOneLine}
 use Rattle.lease_proto.proofs.LawProofs.{frame_of-take, frames_in-take, rest_in-take, last_of-take, frames_in-append, rest_in-append, one_line, one_line_before, up_to}
 use Rattle.lease_server.specs.Serving.{SameFront}
-use Rattle.lease_server.specs.Intakes.{AtHand, cut, frames_at, begun_at, frames_on, frames_to_end, hand_of, HandTells, LineIsWhole, LineIsBegun, LineGoesOn}
+use Rattle.lease_server.specs.Intakes.{AtHand, hand_in, frames_at, begun_at, frames_on, frames_to_end, hand_of, HandTells, LineIsWhole, LineIsBegun, LineGoesOn}
 use Rattle.lease_server.proofs.ServingLemmas.{frames_in-same, rest_in-same, last_of-same}
 
 -- text with no line feed goes onto the line begun
-pub cut-text : (line text bytes : List ℕ) → IsOneLine text → cut line (text ++ bytes) ≡ cut (line ++ text) bytes
-cut-text line [] bytes one = ap (λ l. cut l bytes) (sym (append-nil line))
-cut-text line (b ∷ text) bytes one =
-    rw (ne_eqb b 10 one.0) (cut-text (line ++ b ∷ []) text bytes one.1 ∙ ap (λ l. cut l bytes) (append_assoc line (b ∷ []) text))
+pub hand_in-text : (line text bytes : List ℕ) → IsOneLine text → hand_in line (text ++ bytes) ≡ hand_in (line ++ text) bytes
+hand_in-text line [] bytes one = ap (λ l. hand_in l bytes) (sym (append-nil line))
+hand_in-text line (b ∷ text) bytes one =
+    rw (ne_eqb b 10 one.0) (hand_in-text (line ++ b ∷ []) text bytes one.1 ∙ ap (λ l. hand_in l bytes) (append_assoc line (b ∷ []) text))
 
 -- by itself it ends no line
-pub cut-none : (line text : List ℕ) → IsOneLine text → cut line text ≡ record { line = take 256 (line ++ text); whole = false; rest = [] }
-cut-none line text one = ap (cut line) (sym (append-nil text)) ∙ cut-text line text [] one
+pub hand_in-none : (line text : List ℕ) → IsOneLine text → hand_in line text ≡ record { line = take 256 (line ++ text); whole = false; rest = [] }
+hand_in-none line text one = ap (hand_in line) (sym (append-nil text)) ∙ hand_in-text line text [] one
 
 -- its line feed ends the line
-pub cut-ended : (line text more : List ℕ) → IsOneLine text
-    → cut line (ended text ++ more) ≡ record { line = take 256 (line ++ text); whole = true; rest = more }
-cut-ended line text more one = ap (cut line) (append_assoc text (10 ∷ []) more) ∙ cut-text line text (10 ∷ more) one
+pub hand_in-ended : (line text more : List ℕ) → IsOneLine text
+    → hand_in line (ended text ++ more) ≡ record { line = take 256 (line ++ text); whole = true; rest = more }
+hand_in-ended line text more one = ap (hand_in line) (append_assoc text (10 ∷ []) more) ∙ hand_in-text line text (10 ∷ more) one
 
 -- the whole lines are those that end in the bytes
-pub cut-frames : (line bytes : List ℕ) → frames_at (cut line bytes) ≡ frames_in line bytes
-cut-frames line [] = refl
-cut-frames line (b ∷ bs) = elim (cases_Bool (b == 10)) [
+pub hand_in-frames : (line bytes : List ℕ) → frames_at (hand_in line bytes) ≡ frames_in line bytes
+hand_in-frames line [] = refl
+hand_in-frames line (b ∷ bs) = elim (cases_Bool (b == 10)) [
   | inl is ↦ rw is (ap (λ f. f ∷ frames_in [] bs) (frame_of-take line))
-  | inr other ↦ rw other (cut-frames (line ++ b ∷ []) bs)
+  | inr other ↦ rw other (hand_in-frames (line ++ b ∷ []) bs)
 ]
 
 -- and the line begun behind them is the rest
-pub cut-begun : (line bytes : List ℕ) → SameFront (begun_at (cut line bytes)) (rest_in line bytes)
-cut-begun line [] = take-take 256 256 line (omega arith)
-cut-begun line (b ∷ bs) = elim (cases_Bool (b == 10)) [
+pub hand_in-begun : (line bytes : List ℕ) → SameFront (begun_at (hand_in line bytes)) (rest_in line bytes)
+hand_in-begun line [] = take-take 256 256 line (omega arith)
+hand_in-begun line (b ∷ bs) = elim (cases_Bool (b == 10)) [
   | inl is ↦ rw is refl
-  | inr other ↦ rw other (cut-begun (line ++ b ∷ []) bs)
+  | inr other ↦ rw other (hand_in-begun (line ++ b ∷ []) bs)
 ]
 
 -- how much is at hand, for measures
 abbrev pub size_at : AtHand → ℕ
 size_at h = if h.whole then length h.rest + 1 else 0
 
-pub cut-size : (line bytes : List ℕ) → size_at (cut line bytes) ≤ length bytes
-cut-size line [] = omega arith
-cut-size line (b ∷ bs) = elim (cases_Bool (b == 10)) [
+pub hand_in-size : (line bytes : List ℕ) → size_at (hand_in line bytes) ≤ length bytes
+hand_in-size line [] = omega arith
+hand_in-size line (b ∷ bs) = elim (cases_Bool (b == 10)) [
   | inl is ↦ rw is (omega arith)
-  | inr other ↦ let smaller = cut-size (line ++ b ∷ []) bs in rw other (omega (arith, smaller))
+  | inr other ↦ let smaller = hand_in-size (line ++ b ∷ []) bs in rw other (omega (arith, smaller))
 ]
 
 -- lines of which the same is known go on in the same way
-cut-same : (xs ys bs : List ℕ) → SameFront xs ys → cut xs bs ≡ cut ys bs
-cut-same xs ys [] same = ap (λ l. record { line = l; whole = false; rest = [] }) same
-cut-same xs ys (b ∷ bs) same = elim (cases_Bool (b == 10)) [
+hand_in-same : (xs ys bs : List ℕ) → SameFront xs ys → hand_in xs bs ≡ hand_in ys bs
+hand_in-same xs ys [] same = ap (λ l. record { line = l; whole = false; rest = [] }) same
+hand_in-same xs ys (b ∷ bs) same = elim (cases_Bool (b == 10)) [
   | inl is ↦ rw is (ap (λ l. record { line = l; whole = true; rest = bs }) same)
   | inr other ↦
     let x : rest_in xs (b ∷ []) ≡ xs ++ b ∷ [] = rw other refl in
     let y : rest_in ys (b ∷ []) ≡ ys ++ b ∷ [] = rw other refl in
     let on : SameFront (xs ++ b ∷ []) (ys ++ b ∷ []) =
     ap (take 256) (sym x) ∙ rest_in-same xs ys (b ∷ []) same ∙ ap (take 256) y in
-    rw other (cut-same (xs ++ b ∷ []) (ys ++ b ∷ []) bs on)
+    rw other (hand_in-same (xs ++ b ∷ []) (ys ++ b ∷ []) bs on)
 ]
 
 pub line_goes_on : LineGoesOn
 line_goes_on bytes more one =
-    cut-same (take 256 bytes) bytes more (take-take 256 256 bytes (omega arith)) ∙ sym (cut-text [] bytes more one)
+    hand_in-same (take 256 bytes) bytes more (take-take 256 256 bytes (omega arith)) ∙ sym (hand_in-text [] bytes more one)
 
 pub line_is_whole : LineIsWhole
 line_is_whole line [] whole = absurd (cc)
 line_is_whole line (b ∷ bs) whole = elim (cases_eq b 10) [
   | inl is ↦
-    let here : cut line (b ∷ bs) ≡ record { line = take 256 line; whole = true; rest = bs } = rw is refl in (
+    let here : hand_in line (b ∷ bs) ≡ record { line = take 256 line; whole = true; rest = bs } = rw is refl in (
       [],
       bs,
       tt,
@@ -80,7 +80,7 @@ line_is_whole line (b ∷ bs) whole = elim (cases_eq b 10) [
       here ∙ ap (λ l. record { line = take 256 l; whole = true; rest = bs }) (sym (append-nil line)),
     )
   | inr other ↦
-    let on : cut line (b ∷ bs) ≡ cut (line ++ b ∷ []) bs = rw (ne_eqb b 10 other) refl in
+    let on : hand_in line (b ∷ bs) ≡ hand_in (line ++ b ∷ []) bs = rw (ne_eqb b 10 other) refl in
     let (text, rest, one, parts, is) = line_is_whole (line ++ b ∷ []) bs (ap (λ h. h.whole) (sym on) ∙ whole) in (
       b ∷ text,
       rest,
@@ -92,15 +92,15 @@ line_is_whole line (b ∷ bs) whole = elim (cases_eq b 10) [
 
 pub hand_tells : HandTells
 hand_tells bytes more =
-    let on : frames_on (cut [] bytes) more ≡ frames_in [] (bytes ++ more) =
-    ap (λ f. f ++ frames_in (begun_at (cut [] bytes)) more) (cut-frames [] bytes)
-    ∙ ap (λ f. frames_in [] bytes ++ f) (frames_in-same (begun_at (cut [] bytes)) (rest_in [] bytes) more (cut-begun [] bytes))
+    let on : frames_on (hand_in [] bytes) more ≡ frames_in [] (bytes ++ more) =
+    ap (λ f. f ++ frames_in (begun_at (hand_in [] bytes)) more) (hand_in-frames [] bytes)
+    ∙ ap (λ f. frames_in [] bytes ++ f) (frames_in-same (begun_at (hand_in [] bytes)) (rest_in [] bytes) more (hand_in-begun [] bytes))
     ∙ sym (frames_in-append [] bytes more) in
-    let last : last_of (rest_in (begun_at (cut [] bytes)) more) ≡ last_of (rest_in [] (bytes ++ more)) =
-    last_of-same (rest_in (begun_at (cut [] bytes)) more) (rest_in (rest_in [] bytes) more)
-    (rest_in-same (begun_at (cut [] bytes)) (rest_in [] bytes) more (cut-begun [] bytes))
+    let last : last_of (rest_in (begun_at (hand_in [] bytes)) more) ≡ last_of (rest_in [] (bytes ++ more)) =
+    last_of-same (rest_in (begun_at (hand_in [] bytes)) more) (rest_in (rest_in [] bytes) more)
+    (rest_in-same (begun_at (hand_in [] bytes)) (rest_in [] bytes) more (hand_in-begun [] bytes))
     ∙ ap last_of (sym (rest_in-append [] bytes more)) in
-    (on, ap (λ f. f ++ last_of (rest_in (begun_at (cut [] bytes)) more)) on ∙ ap (λ l. frames_in [] (bytes ++ more) ++ l) last)
+    (on, ap (λ f. f ++ last_of (rest_in (begun_at (hand_in [] bytes)) more)) on ∙ ap (λ l. frames_in [] (bytes ++ more) ++ l) last)
 
 -- the first 256 bytes before an index
 pub kept : (k end : ℕ) (piece : List ℕ) → k ≡ min end 256 → end ≤ length piece → take k piece ≡ take 256 (take end piece)
@@ -129,9 +129,9 @@ passed buffer s e i below =
     ∙ behind (drop s buffer) (i + 1) (e - s) (omega (arith, below))
 
 -- what is at hand where a line reader's line isn't whole
-pub hand_cut : (held : LineReaderState) (piece : List ℕ) (hand : AtHand) → hand_of held piece ≡ hand → held.whole ≡ false → hand ≡ cut held.line piece
-hand_cut held piece hand is unended =
-    let same : hand_of held piece ≡ cut held.line piece = rw unended refl in sym is ∙ same
+pub hand_is_in : (held : LineReaderState) (piece : List ℕ) (hand : AtHand) → hand_of held piece ≡ hand → held.whole ≡ false → hand ≡ hand_in held.line piece
+hand_is_in held piece hand is unended =
+    let same : hand_of held piece ≡ hand_in held.line piece = rw unended refl in sym is ∙ same
 
 pub reader_open : (held : LineReaderState) (piece : List ℕ) → (hand_of held piece).whole ≡ false → held.whole ≡ false
 reader_open held piece unended = elim (cases_Bool held.whole) [
@@ -146,22 +146,22 @@ pub hand_found : (held : LineReaderState) (piece : List ℕ) (hand : AtHand) (i 
 hand_found held piece hand i is unended empty below there none =
     let parts : piece ≡ ended (take i piece) ++ drop (i + 1) piece =
     sym (take-append-drop (i + 1) piece) ∙ ap (λ l. l ++ drop (i + 1) piece) (up_to piece i below there) in
-    hand_cut held piece hand is unended ∙ ap (λ l. cut l piece) empty ∙ ap (cut []) parts
-    ∙ cut-ended [] (take i piece) (drop (i + 1) piece) (one_line_before piece i below none)
+    hand_is_in held piece hand is unended ∙ ap (λ l. hand_in l piece) empty ∙ ap (hand_in []) parts
+    ∙ hand_in-ended [] (take i piece) (drop (i + 1) piece) (one_line_before piece i below none)
 
 -- and where it has none
 pub hand_unfound : (held : LineReaderState) (piece : List ℕ) (hand : AtHand) → hand_of held piece ≡ hand → held.whole ≡ false
     → ((k : ℕ) → k < length piece → get_or piece k 0 ≢ 10) → hand ≡ record { line = take 256 (held.line ++ piece); whole = false; rest = [] }
 hand_unfound held piece hand is unended none =
-    hand_cut held piece hand is unended ∙ cut-none held.line piece (one_line piece none)
+    hand_is_in held piece hand is unended ∙ hand_in-none held.line piece (one_line piece none)
 
 -- where no line is whole, the line begun is all
 pub line_is_begun : LineIsBegun
 line_is_begun line [] unended = (ap (λ l. record { line = take 256 l; whole = false; rest = [] }) (sym (append-nil line)), tt)
 line_is_begun line (b ∷ bs) unended = elim (cases_eq b 10) [
-  | inl is ↦ let whole : (cut line (b ∷ bs)).whole ≡ true = rw is refl in let bad : true ≡ false = sym whole ∙ unended in absurd (cc)
+  | inl is ↦ let whole : (hand_in line (b ∷ bs)).whole ≡ true = rw is refl in let bad : true ≡ false = sym whole ∙ unended in absurd (cc)
   | inr other ↦
-    let on : cut line (b ∷ bs) ≡ cut (line ++ b ∷ []) bs = rw (ne_eqb b 10 other) refl in
+    let on : hand_in line (b ∷ bs) ≡ hand_in (line ++ b ∷ []) bs = rw (ne_eqb b 10 other) refl in
     let more = line_is_begun (line ++ b ∷ []) bs (ap (λ h. h.whole) (sym on) ∙ unended) in
     (on ∙ more.0 ∙ ap (λ l. record { line = take 256 l; whole = false; rest = [] }) (append_assoc line (b ∷ []) bs), (other, more.1))
 ]
@@ -170,12 +170,12 @@ pub hand_open : (held : LineReaderState) (piece : List ℕ) (hand : AtHand) → 
     → (held.whole ≡ false) × (hand ≡ record { line = take 256 (held.line ++ piece); whole = false; rest = [] }) × IsOneLine piece
 hand_open held piece hand is unended =
     let closed = reader_open held piece (ap (λ h. h.whole) is ∙ unended) in
-    let same = hand_cut held piece hand is closed in
+    let same = hand_is_in held piece hand is closed in
     let all = line_is_begun held.line piece (ap (λ h. h.whole) (sym same) ∙ unended) in
     (closed, same ∙ all.0, all.1)
 
 -- where nothing more came, it stays
-pub stays : (held : LineReaderState) (piece : List ℕ) (hand : AtHand) → hand_of held piece ≡ hand → hand.whole ≡ false → hand ≡ cut hand.line []
+pub stays : (held : LineReaderState) (piece : List ℕ) (hand : AtHand) → hand_of held piece ≡ hand → hand.whole ≡ false → hand ≡ hand_in hand.line []
 stays held piece hand is unended =
     let (closed, same, one) = hand_open held piece hand is unended in
     let line : hand.line ≡ take 256 (held.line ++ piece) = ap (λ h. h.line) same in
@@ -192,22 +192,22 @@ not_begun held s e (inr (inr same)) unended some = absurd (omega (arith, same, s
 pub fed : (old new : LineReaderState) (piece : List ℕ) (n : ℕ) → old.whole ≡ false
     → (new.whole ≡ false → n ≡ length piece)
     → (text : List ℕ) × IsOneLine text × (take n piece ≡ (if new.whole then ended text else text)) × (new.line ≡ take 256 (old.line ++ text))
-    → hand_of new (drop n piece) ≡ cut old.line piece
+    → hand_of new (drop n piece) ≡ hand_in old.line piece
 fed old new piece n unended all (text, one, parts, line) = elim (cases_Bool new.whole) [
   | inl is ↦
     let here : take n piece ≡ ended text = parts ∙ rw is refl in
     let whole : hand_of new (drop n piece) ≡ record { line = new.line; whole = true; rest = drop n piece } = rw is refl in
     whole ∙ ap (λ l. record { line = l; whole = true; rest = drop n piece }) line
-    ∙ sym (ap (cut old.line) (sym (take-append-drop n piece) ∙ ap (λ l. l ++ drop n piece) here) ∙ cut-ended old.line text (drop n piece) one)
+    ∙ sym (ap (hand_in old.line) (sym (take-append-drop n piece) ∙ ap (λ l. l ++ drop n piece) here) ∙ hand_in-ended old.line text (drop n piece) one)
   | inr other ↦
     let here : take n piece ≡ text = parts ∙ rw other refl in
     let some : n ≡ length piece = all other in
     let same : piece ≡ text = sym (take_all n piece (omega (arith, some))) ∙ here in
     let none : drop n piece ≡ [] = ap (λ k. drop k piece) some ∙ drop-length piece in
-    let short : hand_of new (drop n piece) ≡ cut new.line [] = rw (other, none) refl in
+    let short : hand_of new (drop n piece) ≡ hand_in new.line [] = rw (other, none) refl in
     short ∙ ap (λ l. record { line = take 256 l; whole = false; rest = [] }) line
     ∙ ap (λ l. record { line = l; whole = false; rest = [] }) (take-take 256 256 (old.line ++ text) (omega arith))
-    ∙ sym (ap (cut old.line) same ∙ cut-none old.line text one)
+    ∙ sym (ap (hand_in old.line) same ∙ hand_in-none old.line text one)
 ]
 
 -- a line reader that was fed what it had behind it, where no line ends there
@@ -218,7 +218,7 @@ pub held_all : (old new : LineReaderState) (piece : List ℕ) (n : ℕ) → (han
 held_all old new piece n unended all given =
     let (closed, same, one) = hand_open old piece (hand_of old piece) refl unended in
     let hand = fed old new piece n closed all given in
-    let none : hand_of new (drop n piece) ≡ hand_of old piece = hand ∙ cut-none old.line piece one ∙ sym same in
+    let none : hand_of new (drop n piece) ≡ hand_of old piece = hand ∙ hand_in-none old.line piece one ∙ sym same in
     let shut = reader_open new (drop n piece) (ap (λ h. h.whole) none ∙ unended) in
     let some : n ≡ length piece = all shut in
     let text : given.0 ≡ piece = sym (given.2 ∙ rw shut refl) ∙ take_all n piece (omega (arith, some)) in
@@ -240,32 +240,32 @@ short_front line front is = let n : length line ≡ length (take 256 front) = ap
 
 -- the first whole line at hand, and what is at hand once it is passed
 pub hand_whole : (h : AtHand) → h.whole ≡ true
-    → (frames_at h ≡ frame_of h.line ∷ frames_at (cut [] h.rest)) × SameFront (begun_at (cut [] h.rest)) (begun_at h)
+    → (frames_at h ≡ frame_of h.line ∷ frames_at (hand_in [] h.rest)) × SameFront (begun_at (hand_in [] h.rest)) (begun_at h)
 hand_whole h whole =
     let frames : frames_at h ≡ frame_of h.line ∷ frames_in [] h.rest = rw whole refl in
     let begun : begun_at h ≡ rest_in [] h.rest = rw whole refl in
-    (frames ∙ ap (λ f. frame_of h.line ∷ f) (sym (cut-frames [] h.rest)), cut-begun [] h.rest ∙ ap (take 256) (sym begun))
+    (frames ∙ ap (λ f. frame_of h.line ∷ f) (sym (hand_in-frames [] h.rest)), hand_in-begun [] h.rest ∙ ap (take 256) (sym begun))
 
 pub hand_none : (h : AtHand) → h.whole ≡ false → (frames_at h ≡ []) × (begun_at h ≡ h.line)
 hand_none h unended = (rw unended refl, rw unended refl)
 
-pub passes_less : (h : AtHand) → h.whole ≡ true → size_at (cut [] h.rest) < size_at h
+pub passes_less : (h : AtHand) → h.whole ≡ true → size_at (hand_in [] h.rest) < size_at h
 passes_less h whole =
-    let less = cut-size [] h.rest in
+    let less = hand_in-size [] h.rest in
     let size : size_at h ≡ length h.rest + 1 = rw whole refl in
     omega (arith, less, size)
 
 -- a piece that was read behind a line begun, of which the first 256 bytes are at hand
 pub hand_more : (from now : AtHand) (input piece : List ℕ) (done : List Frame) → frames_on from input ≡ done
     → SameFront now.line (rest_in (begun_at from) input)
-    → (frames_on from (input ++ piece) ≡ done ++ frames_at (cut now.line piece))
-    × SameFront (begun_at (cut now.line piece)) (rest_in (begun_at from) (input ++ piece))
+    → (frames_on from (input ++ piece) ≡ done ++ frames_at (hand_in now.line piece))
+    × SameFront (begun_at (hand_in now.line piece)) (rest_in (begun_at from) (input ++ piece))
 hand_more from now input piece done is same = (
   ap (λ f. frames_at from ++ f) (frames_in-append (begun_at from) input piece)
       ∙ sym (append_assoc (frames_at from) (frames_in (begun_at from) input) (frames_in (rest_in (begun_at from) input) piece))
       ∙ ap (λ f. f ++ frames_in (rest_in (begun_at from) input) piece) is
-      ∙ ap (λ f. done ++ f) (sym (frames_in-same now.line (rest_in (begun_at from) input) piece same) ∙ sym (cut-frames now.line piece)),
-  cut-begun now.line piece ∙ rest_in-same now.line (rest_in (begun_at from) input) piece same
+      ∙ ap (λ f. done ++ f) (sym (frames_in-same now.line (rest_in (begun_at from) input) piece same) ∙ sym (hand_in-frames now.line piece)),
+  hand_in-begun now.line piece ∙ rest_in-same now.line (rest_in (begun_at from) input) piece same
       ∙ ap (take 256) (sym (rest_in-append (begun_at from) input piece)),
 )
 

@@ -7,24 +7,24 @@ use Rattle.lease_proto.specs.Frames.{Frame, frames_in, rest_in, frames_of, last_
 use Rattle.lease_proto.specs.declared.faults.LineFault.{LineFault}
 use Rattle.lease_proto.specs.Faults.{error_line}
 use Rattle.lease_proto.proofs.LawProofs.{frames_in-take, rest_in-take, last_of-take, frames_in-append, rest_in-append}
-use Rattle.lease_server.specs.Serving.{SameFront, WritesFront, Serves, Answers, AnswersBefore, Writes, WritesBefore, Stops}
+use Rattle.lease_server.specs.Serving.{SameFront, WritesFront, ServesLines, Answers, AnswersBefore, Writes, WritesBefore, Stops}
 
 module _ {S : Type 0} (may_answer : S → List ℕ → List ℕ → S → Type 0) where
   -- one run after another
-  pub Serves-append : (fs gs : List Frame) (old mid new : S) (text more : List ℕ)
-      → Serves may_answer old fs text mid → Serves may_answer mid gs more new → Serves may_answer old (fs ++ gs) (text ++ more) new
-  Serves-append [] gs old mid new text more p q =
+  pub ServesLines-append : (fs gs : List Frame) (old mid new : S) (text more : List ℕ)
+      → ServesLines may_answer old fs text mid → ServesLines may_answer mid gs more new → ServesLines may_answer old (fs ++ gs) (text ++ more) new
+  ServesLines-append [] gs old mid new text more p q =
       let joined : text ++ more ≡ more = ap (λ t. t ++ more) p.0 in
-      subst (λ t. Serves may_answer old gs t new) (sym joined) (subst (λ s. Serves may_answer s gs more new) p.1 q)
-  Serves-append (Ok line ∷ fs) gs old mid new text more p q =
-      (p.0, p.1 ++ more, p.2, p.3, ap (λ t. t ++ more) p.4 ∙ append_assoc p.0 p.1 more, Serves-append fs gs p.2 mid new p.1 more p.5 q)
-  Serves-append (Err fault ∷ fs) gs old mid new text more p q =
-      (p.0 ++ more, ap (λ t. t ++ more) p.1 ∙ append_assoc (error_line fault) p.0 more, Serves-append fs gs old mid new p.0 more p.2 q)
+      subst (λ t. ServesLines may_answer old gs t new) (sym joined) (subst (λ s. ServesLines may_answer s gs more new) p.1 q)
+  ServesLines-append (Ok line ∷ fs) gs old mid new text more p q =
+      (p.0, p.1 ++ more, p.2, p.3, ap (λ t. t ++ more) p.4 ∙ append_assoc p.0 p.1 more, ServesLines-append fs gs p.2 mid new p.1 more p.5 q)
+  ServesLines-append (Err fault ∷ fs) gs old mid new text more p q =
+      (p.0 ++ more, ap (λ t. t ++ more) p.1 ∙ append_assoc (error_line fault) p.0 more, ServesLines-append fs gs old mid new p.0 more p.2 q)
 
   pub Writes-append : (fs gs : List Frame) (old mid new : S) (a b c : Option (List ℕ))
       → Writes may_answer old fs a b mid → Writes may_answer mid gs b c new → Writes may_answer old (fs ++ gs) a c new
   Writes-append fs gs old mid new a b c p q =
-      (p.0 ++ q.0, Serves-append fs gs old mid new p.0 q.0 p.1 q.1, Appends-trans a b c p.0 q.0 p.2 q.2)
+      (p.0 ++ q.0, ServesLines-append fs gs old mid new p.0 q.0 p.1 q.1, Appends-trans a b c p.0 q.0 p.2 q.2)
 
   pub Stops-after : (fs gs : List Frame) (old mid : S) (a b c : Option (List ℕ))
       → Writes may_answer old fs a b mid → Stops may_answer mid gs b c → Stops may_answer old (fs ++ gs) a c
@@ -38,8 +38,8 @@ module _ {S : Type 0} (may_answer : S → List ℕ → List ℕ → S → Type 0
           new,
           p.0 ++ written,
           unwritten,
-          subst (λ t. Serves may_answer old (fs ++ served) t new) (sym (append_assoc p.0 written unwritten))
-              (Serves-append fs served old mid new p.0 (written ++ unwritten) p.1 serves),
+          subst (λ t. ServesLines may_answer old (fs ++ served) t new) (sym (append_assoc p.0 written unwritten))
+              (ServesLines-append fs served old mid new p.0 (written ++ unwritten) p.1 serves),
           Appends-trans a b c p.0 written p.2 appends,
         ),
       )
@@ -49,19 +49,19 @@ module _ {S : Type 0} (may_answer : S → List ℕ → List ℕ → S → Type 0
       (q.0, q.1 ++ gs, ap (λ t. t ++ gs) q.2 ∙ append_assoc q.0 q.1 gs, q.3)
 
   -- a front of the last answer was written
-  pub Stops-within : (fs : List Frame) (old new : S) (text : List ℕ) (a b : Option (List ℕ)) → Serves may_answer old fs text new
+  pub Stops-within : (fs : List Frame) (old new : S) (text : List ℕ) (a b : Option (List ℕ)) → ServesLines may_answer old fs text new
       → WritesFront text a b → Stops may_answer old fs a b
   Stops-within fs old new text a b p q =
-      (fs, [], sym (append-nil fs), (new, q.0, q.1, subst (λ t. Serves may_answer old fs t new) q.2 p, q.3))
+      (fs, [], sym (append-nil fs), (new, q.0, q.1, subst (λ t. ServesLines may_answer old fs t new) q.2 p, q.3))
 
   -- what a refused line is answered
-  pub Serves-fault : (old : S) (fault : LineFault) (text : List ℕ) → text ≡ error_line fault → Serves may_answer old (Err fault ∷ []) text old
-  Serves-fault old fault text e = ([], e ∙ sym (append-nil (error_line fault)), (refl, refl))
+  pub ServesLines-fault : (old : S) (fault : LineFault) (text : List ℕ) → text ≡ error_line fault → ServesLines may_answer old (Err fault ∷ []) text old
+  ServesLines-fault old fault text e = ([], e ∙ sym (append-nil (error_line fault)), (refl, refl))
 
   pub Answers-append : (fs gs : List Frame) (old mid new : S) (a b c : List ℕ)
       → Answers may_answer old fs a b mid → Answers may_answer mid gs b c new → Answers may_answer old (fs ++ gs) a c new
   Answers-append fs gs old mid new a b c p q =
-      (p.0 ++ q.0, Serves-append fs gs old mid new p.0 q.0 p.1 q.1, q.2 ∙ ap (λ t. t ++ q.0) p.2 ∙ append_assoc a p.0 q.0)
+      (p.0 ++ q.0, ServesLines-append fs gs old mid new p.0 q.0 p.1 q.1, q.2 ∙ ap (λ t. t ++ q.0) p.2 ∙ append_assoc a p.0 q.0)
 
   -- answers to the first of these frames
   abbrev pub AnswersSome : S → List Frame → List ℕ → List ℕ → Type 0
@@ -81,8 +81,8 @@ module _ {S : Type 0} (may_answer : S → List ℕ → List ℕ → S → Type 0
   Stops-of_some fs old bytes a b p q =
       let (served, later, new, split, answers) = p in
       let (text, serves, is) = answers in
-      let (written, unwritten, cut, appends) = q in
-      (served, later, split, (new, written, unwritten, subst (λ t. Serves may_answer old served t new) (sym is ∙ cut) serves, appends))
+      let (written, unwritten, parts, appends) = q in
+      (served, later, split, (new, written, unwritten, subst (λ t. ServesLines may_answer old served t new) (sym is ∙ parts) serves, appends))
 
   -- the first of these answers, and then those before one that wasn't given
   pub WritesBefore-after : (fs gs : List Frame) (old mid new : S) (a b c : Option (List ℕ))

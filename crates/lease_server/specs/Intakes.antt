@@ -4,6 +4,7 @@ use Rattle.std.specs.Prelude.{List, [], ◌∷◌, ◌++◌, length, take, if◌
 use Rattle.std.specs.Io.KnownBytes.{Consumes, IsAtEnd, Keeps}
 use Rattle.lease_proto.specs.Frames.{Frame, IsOneLine, ended, frame_of, frames_in, rest_in}
 use Rattle.lease_proto.specs.Frames.{frames_of, last_of, LineReaderState}
+use Rattle.lease_server.specs.declared.intakes.TheConstants.{MOST_READS, PIECE}
 use Rattle.lease_server.specs.declared.faults.ServeFault.{ServeFault}
 use Rattle.lease_server.specs.declared.faults.ServeFault.TheVariants.{Read, Write, Memory, Turns}
 
@@ -15,11 +16,11 @@ pub record AtHand : Type 0 where
   pub rest : List ℕ
 
 -- what is at hand once these bytes come after a line begun
-abbrev pub cut : List ℕ → List ℕ → AtHand
-cut line [] = record { line = take 256 line; whole = false; rest = [] }
-cut line (b ∷ bs) =
+abbrev pub hand_in : List ℕ → List ℕ → AtHand
+hand_in line [] = record { line = take 256 line; whole = false; rest = [] }
+hand_in line (b ∷ bs) =
     if b == 10 then record { line = take 256 line; whole = true; rest = bs }
-    else cut (line ++ b ∷ []) bs
+    else hand_in (line ++ b ∷ []) bs
 
 -- the frames of the whole lines at hand
 abbrev pub frames_at : AtHand → List Frame
@@ -48,48 +49,48 @@ pub record IntakeState : Type 0 where
 abbrev pub hand_of : LineReaderState → List ℕ → AtHand
 hand_of held piece =
     if held.whole then record { line = held.line; whole = true; rest = piece }
-    else cut held.line piece
+    else hand_in held.line piece
 
 -- one read, from what the reader had to what it has left, and whether more came: the line begun
--- goes on by what was read, which is at most 4,096 bytes; where nothing came, the input has ended
+-- goes on by what was read, at most a piece; where nothing came, the input has ended
 abbrev pub ReadsOn : IntakeState → IntakeState → Option (List ℕ) → Option (List ℕ) → Bool
     → Type 0
 ReadsOn old new unread left more = (piece : List ℕ) × Consumes unread left piece
-    × (length piece ≤ 4096) × (new.hand ≡ cut old.hand.line piece)
+    × (length piece ≤ PIECE) × (new.hand ≡ hand_in old.hand.line piece)
     × (more ≡ true → (0 < length piece) × (old.ended ≡ false) × (new.ended ≡ false)
     × (new.reads ≡ old.reads + 1))
     × (more ≡ false → (piece ≡ []) × (new.ended ≡ true) × IsAtEnd left)
 
 -- why no more was read of an input that hasn't ended, by whether the reader had failed before and
--- has now: it failed, or was read 2^40 times
+-- has now: it failed, or was read so often
 abbrev pub StopsReading : IntakeState → Option (List ℕ) → Option (List ℕ) → Bool → Bool
     → ServeFault → Type 0
 StopsReading old unread left before after Read = Keeps unread left × (old.ended ≡ false)
     × (after ≡ true)
 StopsReading old unread left before after Turns = Keeps unread left × (old.ended ≡ false)
-    × (after ≡ before) × (old.reads ≡ 2 ^ 40)
+    × (after ≡ before) × (old.reads ≡ MOST_READS)
 StopsReading old unread left before after Write = ⊥
 StopsReading old unread left before after Memory = ⊥
 
 -- the first 256 bytes of what is read and not passed tell the frames of all
 abbrev pub HandTells : Type 0
 HandTells = (bytes more : List ℕ)
-    → (frames_on (cut [] bytes) more ≡ frames_in [] (bytes ++ more))
-    × (frames_to_end (cut [] bytes) more ≡ frames_of (bytes ++ more))
+    → (frames_on (hand_in [] bytes) more ≡ frames_in [] (bytes ++ more))
+    × (frames_to_end (hand_in [] bytes) more ≡ frames_of (bytes ++ more))
 
 -- a line is whole where a line feed came: it is the text before the first one
 abbrev pub LineIsWhole : Type 0
-LineIsWhole = (line bytes : List ℕ) → (cut line bytes).whole ≡ true
+LineIsWhole = (line bytes : List ℕ) → (hand_in line bytes).whole ≡ true
     → (text : List ℕ) × (rest : List ℕ) × IsOneLine text × (bytes ≡ ended text ++ rest)
-    × (cut line bytes ≡ record { line = take 256 (line ++ text); whole = true; rest = rest })
+    × (hand_in line bytes ≡ record { line = take 256 (line ++ text); whole = true; rest = rest })
 
 -- where none came, all is of the line begun
 abbrev pub LineIsBegun : Type 0
-LineIsBegun = (line bytes : List ℕ) → (cut line bytes).whole ≡ false
-    → (cut line bytes ≡ record { line = take 256 (line ++ bytes); whole = false; rest = [] })
+LineIsBegun = (line bytes : List ℕ) → (hand_in line bytes).whole ≡ false
+    → (hand_in line bytes ≡ record { line = take 256 (line ++ bytes); whole = false; rest = [] })
     × IsOneLine bytes
 
 -- what comes behind a line begun is at hand as if all had come at once
 abbrev pub LineGoesOn : Type 0
 LineGoesOn = (bytes more : List ℕ) → IsOneLine bytes
-    → cut (take 256 bytes) more ≡ cut [] (bytes ++ more)
+    → hand_in (take 256 bytes) more ≡ hand_in [] (bytes ++ more)

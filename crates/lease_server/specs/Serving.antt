@@ -6,6 +6,7 @@ use Rattle.lease_proto.specs.Frames.{Frame}
 use Rattle.lease_proto.specs.Faults.{error_line}
 use Rattle.lease_server.specs.Intakes.{AtHand, IntakeState, frames_on, frames_to_end}
 use Rattle.lease_server.specs.Watching.{Streams}
+use Rattle.lease_server.specs.declared.intakes.TheConstants.{MOST_READS}
 use Rattle.lease_server.specs.declared.faults.ServeFault.{ServeFault}
 use Rattle.lease_server.specs.declared.faults.ServeFault.TheVariants as fault
 
@@ -21,16 +22,16 @@ WritesFront bytes before after = (written : List ℕ) × (unwritten : List ℕ)
 module _ {S : Type 0} (may_answer : S → List ℕ → List ℕ → S → Type 0) where
   -- From old, this text may be written for the frames, and new is then the state: for a line an
   -- answer that may be given to it, for a refused line its error line.
-  abbrev pub Serves : S → List Frame → List ℕ → S → Type 0
-  Serves old [] text new = (text ≡ []) × (new ≡ old)
-  Serves old (Ok line ∷ frames) text new = (reply : List ℕ) × (rest : List ℕ) × (mid : S)
-      × may_answer old line reply mid × (text ≡ reply ++ rest) × Serves mid frames rest new
-  Serves old (Err fault ∷ frames) text new = (rest : List ℕ) × (text ≡ error_line fault ++ rest)
-      × Serves old frames rest new
+  abbrev pub ServesLines : S → List Frame → List ℕ → S → Type 0
+  ServesLines old [] text new = (text ≡ []) × (new ≡ old)
+  ServesLines old (Ok line ∷ frames) text new = (reply : List ℕ) × (rest : List ℕ) × (mid : S)
+      × may_answer old line reply mid × (text ≡ reply ++ rest) × ServesLines mid frames rest new
+  ServesLines old (Err fault ∷ frames) text new = (rest : List ℕ)
+      × (text ≡ error_line fault ++ rest) × ServesLines old frames rest new
 
   -- the buffer holds in addition what is written for these frames
   abbrev pub Answers : S → List Frame → List ℕ → List ℕ → S → Type 0
-  Answers old frames before after new = (text : List ℕ) × Serves old frames text new
+  Answers old frames before after new = (text : List ℕ) × ServesLines old frames text new
       × (after ≡ before ++ text)
 
   -- the same for the frames before one of these
@@ -41,7 +42,7 @@ module _ {S : Type 0} (may_answer : S → List ℕ → List ℕ → S → Type 0
 
   -- the writer holds in addition what is written for these frames
   abbrev pub Writes : S → List Frame → Option (List ℕ) → Option (List ℕ) → S → Type 0
-  Writes old frames before after new = (text : List ℕ) × Serves old frames text new
+  Writes old frames before after new = (text : List ℕ) × ServesLines old frames text new
       × Appends before after text
 
   -- the same for the frames before one of these
@@ -53,7 +54,7 @@ module _ {S : Type 0} (may_answer : S → List ℕ → List ℕ → S → Type 0
   -- the writer holds in addition a front of what may be written for these frames
   abbrev pub WritesPart : S → List Frame → Option (List ℕ) → Option (List ℕ) → Type 0
   WritesPart old frames before after = (new : S) × (written : List ℕ) × (unwritten : List ℕ)
-      × Serves old frames (written ++ unwritten) new × Appends before after written
+      × ServesLines old frames (written ++ unwritten) new × Appends before after written
 
   -- the same for the first of these frames, up to where the serving stopped
   abbrev pub Stops : S → List Frame → Option (List ℕ) → Option (List ℕ) → Type 0
@@ -75,7 +76,7 @@ module _ {S : Type 0} (may_answer : S → List ℕ → List ℕ → S → Type 0
 
   -- What a fault says, each of what failed:
   -- read: the reader failed, and the whole lines at hand and read are answered;
-  -- turns: the same after 2^40 reads, each of which gave bytes;
+  -- turns: the same after as many reads as there may be, each of which gave bytes;
   -- write: the writer failed, and a front of the answers to all is written;
   -- memory: it was refused for an answer to a line that was read, and the answers before that are
   -- written whole.
@@ -86,8 +87,8 @@ module _ {S : Type 0} (may_answer : S → List ℕ → List ℕ → S → Type 0
   ServeFails from old new first last fault.Turns = (input : List ℕ)
       × ServesRead from old new first last input
       × (new.reader_failed ≡ false) × (new.writer_failed ≡ false)
-      × (2 ^ 40 ≤ from.reads + length input)
-      × (new.reads ≡ min (old.reads + (2 ^ 40 - from.reads)) (2 ^ 64 - 1))
+      × (MOST_READS ≤ from.reads + length input)
+      × (new.reads ≡ min (old.reads + (MOST_READS - from.reads)) (2 ^ 64 - 1))
   ServeFails from old new first last fault.Write =
       IfSome old.unread
       (λ input. Stops first (frames_to_end from.hand input) old.written new.written)

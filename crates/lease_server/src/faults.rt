@@ -14,7 +14,7 @@ pub enum ServeFault {
     /// The responder, or the room for its answers, was refused memory.
     #[error("memory")]
     Memory,
-    /// The input went on after 2^40 reads.
+    /// The input went on after `MOST_READS`.
     #[error("turns")]
     Turns,
 }

@@ -2,9 +2,10 @@
 ghost use Rattle.std.specs.Prelude.{◌≡◌, ◌⊎◌, ◌≤◌, ◌+◌, ◌-◌, ◌^◌, [], min, length, take, drop};
 ghost use Rattle.std.specs.Prelude.{true, false, IfOk, IfErr, IfSome, IfNone};
 ghost use Rattle.std.specs.Io.KnownBytes.{IsAtEnd};
-ghost use Rattle.lease_server.specs.Intakes.{IntakeState, cut, hand_of, ReadsOn, StopsReading};
+ghost use Rattle.lease_server.specs.Intakes.{IntakeState, hand_in, hand_of, ReadsOn, StopsReading};
 ghost use Rattle.lease_server.specs.Intakes.{HandTells, LineIsWhole, LineIsBegun, LineGoesOn};
 ghost use Rattle.lease_server.specs.Watching.{inner_of, has_failed, reads_of};
+ghost use Rattle.lease_server.specs.declared.intakes.TheConstants.{MOST_READS, PIECE};
 
 use crate::faults::ServeFault;
 use crate::watching::Watched;
@@ -14,12 +15,12 @@ use std::io::Read;
 use std::marker::Model;
 
 /// How many times a stream is read at most.
-const MOST_READS: u64 = 1 << 40;
+pub const MOST_READS: u64 = 1 << 40;
 
 /// How many bytes are read at once.
 const PIECE: usize = 4096;
 
-/// How many bytes of a line are kept: one more than the longest, so that one that is too long shows.
+/// How many bytes of a line are kept: one more than the longest, so that a longer one shows.
 const KEPT: usize = 256;
 
 /// The bytes of a stream that were read and not passed yet. A line that lies whole in what one read
@@ -46,7 +47,7 @@ impl Model for Intake {
         ended = i.ended
     } };
 
-    ghost invariant = { λ i. (i.start ≤ i.end) × (i.end ≤ 4096) × (i.reads ≤ 2 ^ 40)
+    ghost invariant = { λ i. (i.start ≤ i.end) × (i.end ≤ PIECE) × (i.reads ≤ MOST_READS)
         × (length i.framing.line ≤ 256)
         × ((i.framing.line ≡ []) ⊎ (i.framing.whole ≡ true) ⊎ (i.start ≡ i.end)) };
 }
@@ -54,7 +55,7 @@ impl Model for Intake {
 impl Intake {
     /// Before anything is read.
     pub fn new() -> Intake
-        ensures { result ≡ record { hand = cut [] []; reads = 0; ended = false } }
+        ensures { result ≡ record { hand = hand_in [] []; reads = 0; ended = false } }
     {
         Intake {
             framing: LineReader::new(),
@@ -72,7 +73,7 @@ impl Intake {
         ensures none { IfNone result (self.now.hand.whole ≡ false) }
         ensures some { IfSome result (λ line. (self.now.hand.whole ≡ true)
             × (line.now ≡ self.now.hand.line)) }
-        ensures bound { self.now.reads ≤ 2 ^ 40 }
+        ensures bound { self.now.reads ≤ MOST_READS }
     {
         if self.framing.is_whole() {
             return Some(self.framing.line());
@@ -88,7 +89,7 @@ impl Intake {
     pub fn pass(&mut self)
         requires { self.old.hand.whole ≡ true }
         ensures { self.new ≡ record {
-            hand = cut [] self.old.hand.rest;
+            hand = hand_in [] self.old.hand.rest;
             reads = self.old.reads;
             ended = self.old.ended
         } }
@@ -113,7 +114,7 @@ impl Intake {
     }
 
     /// Reads on where no line is whole, and says whether more came. After the end the reader isn't
-    /// asked again. `Turns` comes after 2^40 reads, each of which gave bytes.
+    /// asked again. `Turns` comes after `MOST_READS`, each of which gave bytes.
     pub fn read_on<R: Read>(&mut self, reader: &mut Watched<R>) -> Result<bool, ServeFault>
         requires whole { self.old.hand.whole ≡ false }
         requires ended { self.old.ended ≡ true → IsAtEnd (R.remaining (inner_of reader.old)) }
@@ -122,7 +123,7 @@ impl Intake {
         ensures works { IfOk result (λ more. has_failed reader.new ≡ has_failed reader.old) }
         ensures err { IfErr result (StopsReading self.old (R.remaining (inner_of reader.old))
             (R.remaining (inner_of reader.new)) (has_failed reader.old) (has_failed reader.new)) }
-        ensures bound { (self.old.reads ≤ self.new.reads) × (self.new.reads ≤ 2 ^ 40) }
+        ensures bound { (self.old.reads ≤ self.new.reads) × (self.new.reads ≤ MOST_READS) }
         ensures counted { reads_of reader.new
             ≡ min (reads_of reader.old + (self.new.reads - self.old.reads)) (2 ^ 64 - 1) }
     {
@@ -165,7 +166,8 @@ fn go_on(framing: &mut LineReader, piece: &[u8]) -> usize
     requires begun { framing.old.whole ≡ false }
     requires kept { length framing.old.line ≤ 256 }
     ensures within { result ≤ length piece.now }
-    ensures hand { hand_of framing.new (drop result piece.now) ≡ cut framing.old.line piece.now }
+    ensures hand { hand_of framing.new (drop result piece.now)
+        ≡ hand_in framing.old.line piece.now }
     ensures kept { length framing.new.line ≤ 256 }
     ensures used { (framing.new.line ≡ []) ⊎ (framing.new.whole ≡ true)
         ⊎ (result ≡ length piece.now) }
@@ -176,8 +178,8 @@ fn go_on(framing: &mut LineReader, piece: &[u8]) -> usize
     framing.feed(piece)
 }
 
-/// What is at hand of a stream tells its frames as all of its bytes do; which bytes of it are a whole
-/// line, and which a line begun; and that these go on as if all had come at once.
+/// What is at hand of a stream tells its frames as all of its bytes do; which bytes of it are a
+/// whole line, and which a line begun; and that these go on as if all had come at once.
 pub fn hand_law()
     ensures tells { HandTells }
     ensures whole { LineIsWhole }

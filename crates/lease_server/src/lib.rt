@@ -1,8 +1,17 @@
 //! Serves the lines of a stream: each line that comes in is given to a responder, and its answers
-//! go out, in order, however the input was cut.
+//! go out, in order, however the input comes in pieces. It knows no lease.
 //!
-//! Begin at `serve` (serving). What answers lines is a `Responder`; what may go out for which lines
-//! is stated in specs/Serving.antt, over the frames of the crate `lease_proto`.
+//! An `Intake` (intakes) reads the stream and gives its lines one by one; who wants the first lines
+//! for itself, as a setup does, takes them from it and hands it on. `serve` (serving) then answers
+//! the others by a `Responder` (responders). `Watched` (watching) is a reader or a writer that
+//! tells afterwards whether it failed, so that a fault is laid to what failed.
+//!
+//! What is at hand of a stream is stated in specs/Intakes.antt, and what may go out for which lines
+//! in specs/Serving.antt, over the frames of the crate `lease_proto`.
+//!
+//! Each byte is looked at a few times. A line is copied only where it goes over the end of what one
+//! read gave, 4,096 bytes at most. An intake takes no memory, a serving that for the answers to the
+//! lines of one read.
 #![tactic(auto)]
 
 mod faults;
@@ -13,7 +22,7 @@ mod serving;
 mod watching;
 
 pub use faults::ServeFault;
-pub use intakes::{Intake, hand_law};
+pub use intakes::{Intake, MOST_READS, hand_law};
 pub use output::deliver;
 pub use responders::Responder;
 pub use serving::serve;

@@ -17,5 +17,5 @@ pub trait Responder {
         ensures ok { OnOk result ((reply : List ℕ) × (out.new.items ≡ out.old.items ++ reply)
             × may_answer self.old line.now reply self.new) }
         ensures err { OnErr result (out.new.items ≡ out.old.items) }
-        ensures same { OnErr result (self.new ≡ self.old) };
+        ensures unchanged { OnErr result (self.new ≡ self.old) };
 }

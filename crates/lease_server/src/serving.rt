@@ -7,6 +7,7 @@ ghost use Rattle.lease_server.specs.Intakes.{begun_at, frames_at};
 ghost use Rattle.lease_server.specs.Serving.{SameFront, Answers, AnswersBefore, Writes};
 ghost use Rattle.lease_server.specs.Serving.{WritesBefore, Stops, ServesAll, ServeFails};
 ghost use Rattle.lease_server.specs.Watching.{inner_of, has_failed, reads_of, streams_of};
+ghost use Rattle.lease_server.specs.declared.intakes.TheConstants.{MOST_READS};
 
 use crate::faults::ServeFault;
 use crate::intakes::Intake;
@@ -20,8 +21,8 @@ use std::io::{Read, Write};
 /// Serves the lines of a stream to its end: those at hand, and those that the reader gives. A line
 /// that is too long, and a last one without its line feed, is answered by its error line, and the
 /// responder never sees it. The answers to the lines of one read are written together and flushed
-/// before the next read, so that none waits while the input pauses. There are never more than 2^40
-/// reads of one intake.
+/// before the next read, so that none waits while the input pauses. There are never more
+/// than `MOST_READS` of one intake.
 pub fn serve<R: Read, W: Write, P: Responder>(
     alloc: Global,
     input: &mut Intake,
@@ -37,7 +38,7 @@ pub fn serve<R: Read, W: Write, P: Responder>(
     ensures err { IfErr result (ServeFails P.may_answer input.old
         (streams_of R.remaining W.contents reader.old writer.old)
         (streams_of R.remaining W.contents reader.new writer.new) responder.old responder.new) }
-    ensures bound { (input.old.reads ≤ input.new.reads) × (input.new.reads ≤ 2 ^ 40) }
+    ensures bound { (input.old.reads ≤ input.new.reads) × (input.new.reads ≤ MOST_READS) }
     ensures counted { reads_of reader.new
         ≡ min (reads_of reader.old + (input.new.reads - input.old.reads)) (2 ^ 64 - 1) }
 {
@@ -66,7 +67,7 @@ fn serve_held<W: Write, P: Responder>(
     ensures begun { OnOk result ((input.new.hand.whole ≡ false)
         × SameFront input.new.hand.line (begun_at input.old.hand) × (out.new.items ≡ [])) }
     ensures kept { (input.new.reads ≡ input.old.reads) × (input.new.ended ≡ input.old.ended)
-        × (input.new.reads ≤ 2 ^ 40) }
+        × (input.new.reads ≤ MOST_READS) }
     ensures err { OnErr result (Stops P.may_answer responder.old (frames_at input.old.hand)
         (W.contents (inner_of writer.old)) (W.contents (inner_of writer.new))) }
     ensures memory { IsErrOf result ServeFault.Memory
@@ -98,7 +99,7 @@ fn answer_held<P: Responder>(
     ensures begun { OnOk result ((input.new.hand.whole ≡ false)
         × SameFront input.new.hand.line (begun_at input.old.hand)) }
     ensures kept { (input.new.reads ≡ input.old.reads) × (input.new.ended ≡ input.old.ended)
-        × (input.new.reads ≤ 2 ^ 40) }
+        × (input.new.reads ≤ MOST_READS) }
     ensures err { OnErr result (AnswersBefore P.may_answer responder.old (frames_at input.old.hand)
         out.old.items out.new.items responder.new) }
 {

@@ -1,5 +1,6 @@
 //! A reader or a writer, watched for its failure: so that a fault can be laid to it.
-ghost use Rattle.std.specs.Prelude.{◌≡◌, ◌≤◌, ◌<◌, ◌+◌, ◌-◌, ◌^◌, min, length, take, true, false, IfOk, OnOk, OnErr, Err};
+ghost use Rattle.std.specs.Prelude.{◌≡◌, ◌≤◌, ◌<◌, ◌+◌, ◌-◌, ◌^◌, min, length, take, true, false};
+ghost use Rattle.std.specs.Prelude.{IfOk, OnOk, OnErr, Err};
 ghost use Rattle.std.specs.Io.KnownBytes.{Appends, Consumes, IsAtEnd, Keeps};
 ghost use Rattle.lease_server.specs.Watching.{has_failed, inner_of, reads_of};
 
@@ -92,8 +93,7 @@ impl<W: Write> Watched<W> {
     /// Writes a front of the bytes, of which there are some, and says how many.
     pub fn write(&mut self, bytes: &[u8]) -> Result<usize, ServeFault>
         requires { 0 < length bytes.now }
-        ensures some { IfOk result (λ n. 0 < n) }
-        ensures bound { IfOk result (λ n. n ≤ length bytes.now) }
+        ensures bound { IfOk result (λ n. (0 < n) × (n ≤ length bytes.now)) }
         ensures bytes { IfOk result (λ n. Appends (W.contents (inner_of self.old))
             (W.contents (inner_of self.new)) (take n bytes.now)) }
         ensures works { OnOk result (has_failed self.new ≡ has_failed self.old) }

@@ -6,7 +6,7 @@ use Rattle.lease_proto.specs.declared.setup_lines.SetupLine.{SetupLine}
 use Rattle.lease_proto.specs.declared.setup_lines.SetupLine.TheVariants.{Root, Child, Span}
 use Rattle.vmemd.specs.Scripts.{Makes}
 use Rattle.vmemd.specs.Desks.{TakesSetting}
-use Rattle.vmemd.specs.Laws.{Script, LeasesStayApart, UnitsHaveOnePlace}
+use Rattle.vmemd.specs.Laws.{Script, ScriptLeasesStayApart, ScriptUnitsHaveOnePlace}
 
 taken_in_order : (old new : DeskState) (setting : SetupLine) → TakesSetting old setting new → IsOrderly new
 taken_in_order old new (Root r) taken = taken.2
@@ -22,8 +22,8 @@ setups_keep_order first made (line ∷ lines) order makes =
 made_in_order : (last : DeskState) (s : Script last) → IsOrderly s.made
 made_in_order last s = setups_keep_order s.first s.made s.setup s.fresh.2 s.makes
 
-pub script_leases_apart : LeasesStayApart
+pub script_leases_apart : ScriptLeasesStayApart
 script_leases_apart last s = leases_stay_apart s.made last s.frames s.text (made_in_order last s) s.serves
 
-pub script_units_one_place : UnitsHaveOnePlace
+pub script_units_one_place : ScriptUnitsHaveOnePlace
 script_units_one_place last s = units_have_one_place s.made last s.frames s.text (made_in_order last s) s.serves

@@ -8,7 +8,7 @@ use Rattle.lease_proto.specs.Frames.{Frame, IsOneLine, frames_in, frames_of, res
 use Rattle.lease_proto.specs.SetupLines.{begins_setup}
 use Rattle.lease_proto.specs.declared.setup_lines.SetupLine.{SetupLine}
 use Rattle.lease_proto.proofs.LawProofs.{frames_in-none, frames_in-append}
-use Rattle.lease_server.specs.Intakes.{IntakeState, cut, frames_on, frames_to_end}
+use Rattle.lease_server.specs.Intakes.{IntakeState, hand_in, frames_on, frames_to_end}
 use Rattle.lease_server.specs.Serving.{Writes, WritesBefore, Stops, ServeFails}
 use Rattle.lease_server.specs.Watching.{Streams}
 use Rattle.lease_server.specs.declared.faults.ServeFault.{ServeFault}

@@ -19,7 +19,7 @@ use Rattle.vmemd.specs.Scripts.{Makes, SetsUp, RefusesRead, RefusesFirst, SetupR
 use Rattle.vmemd.specs.declared.faults.ScriptFault.{ScriptFault}
 use Rattle.vmemd.specs.declared.faults.ScriptFault.TheVariants.{Setup, Read, Write, Memory}
 use Rattle.vmemd.specs.Setups.{TakesLine, LineFails, SetupFails}
-use Rattle.lease_server.specs.Intakes.{AtHand, IntakeState, cut, StopsReading}
+use Rattle.lease_server.specs.Intakes.{AtHand, IntakeState, hand_in, StopsReading}
 use Rattle.lease_server.specs.declared.faults.ServeFault.{ServeFault}
 use Rattle.lease_server.specs.declared.faults.ServeFault.TheVariants as serving
 use Rattle.lease_server.proofs.LawProofs.{line_is_whole, line_is_begun, line_goes_on}
@@ -30,27 +30,27 @@ abbrev IsSetup : List ℕ → Type 0
 IsSetup bytes = (more : List ℕ) → begins_setup (bytes ++ more) ≡ true
 
 -- a whole line at hand, and the bytes that it comes from
-pub line_at : (hand : AtHand) (bytes : List ℕ) → hand ≡ cut [] bytes → hand.whole ≡ true
+pub line_at : (hand : AtHand) (bytes : List ℕ) → hand ≡ hand_in [] bytes → hand.whole ≡ true
     → (text : List ℕ) × (rest : List ℕ) × IsOneLine text × (bytes ≡ ended text ++ rest) × (hand.line ≡ take 256 text) × (hand.rest ≡ rest)
 line_at hand bytes is whole =
     let (text, rest, one, parts, e) = line_is_whole [] bytes (ap (λ h. h.whole) (sym is) ∙ whole) in
     (text, rest, one, parts, ap (λ h. h.line) (is ∙ e), ap (λ h. h.rest) (is ∙ e))
 
 -- a line begun
-pub begun_at : (hand : AtHand) (bytes : List ℕ) → hand ≡ cut [] bytes → hand.whole ≡ false → IsOneLine bytes × (hand.line ≡ take 256 bytes)
+pub begun_at : (hand : AtHand) (bytes : List ℕ) → hand ≡ hand_in [] bytes → hand.whole ≡ false → IsOneLine bytes × (hand.line ≡ take 256 bytes)
 begun_at hand bytes is unended =
     let (e, one) = line_is_begun [] bytes (ap (λ h. h.whole) (sym is) ∙ unended) in (one, ap (λ h. h.line) (is ∙ e))
 
 -- what was read behind a line begun
-pub read_behind : (old new : AtHand) (bytes piece : List ℕ) → IsOneLine bytes → old.line ≡ take 256 bytes → new ≡ cut old.line piece
-    → new ≡ cut [] (bytes ++ piece)
-read_behind old new bytes piece one first is = is ∙ ap (λ l. cut l piece) first ∙ line_goes_on bytes piece one
+pub read_behind : (old new : AtHand) (bytes piece : List ℕ) → IsOneLine bytes → old.line ≡ take 256 bytes → new ≡ hand_in old.line piece
+    → new ≡ hand_in [] (bytes ++ piece)
+read_behind old new bytes piece one first is = is ∙ ap (λ l. hand_in l piece) first ∙ line_goes_on bytes piece one
 
 -- and where nothing was
-pub read_none : (old new : AtHand) (bytes piece : List ℕ) → IsOneLine bytes → old.line ≡ take 256 bytes → new ≡ cut old.line piece → piece ≡ []
-    → new ≡ cut [] bytes
+pub read_none : (old new : AtHand) (bytes piece : List ℕ) → IsOneLine bytes → old.line ≡ take 256 bytes → new ≡ hand_in old.line piece → piece ≡ []
+    → new ≡ hand_in [] bytes
 read_none old new bytes piece one first is none =
-    read_behind old new bytes piece one first is ∙ ap (λ l. cut [] (bytes ++ l)) none ∙ ap (cut []) (append-nil bytes)
+    read_behind old new bytes piece one first is ∙ ap (λ l. hand_in [] (bytes ++ l)) none ∙ ap (hand_in []) (append-nil bytes)
 
 -- whether a setup line begins, by a whole line
 pub begins_by_line : (bytes text rest more : List ℕ) → bytes ≡ ended text ++ rest → begins_setup (bytes ++ more) ≡ begins_setup (take 256 text)
@@ -61,16 +61,16 @@ begins_by_line bytes text rest more parts =
 abbrev pub size_at : AtHand → ℕ
 size_at h = if h.whole then length h.rest + 1 else 0
 
-pub size-cut : (line bytes : List ℕ) → size_at (cut line bytes) ≤ length bytes
-size-cut line [] = omega arith
-size-cut line (b ∷ bs) = elim (cases_Bool (b == 10)) [
+pub size-hand_in : (line bytes : List ℕ) → size_at (hand_in line bytes) ≤ length bytes
+size-hand_in line [] = omega arith
+size-hand_in line (b ∷ bs) = elim (cases_Bool (b == 10)) [
   | inl is ↦ rw is (omega arith)
-  | inr other ↦ let smaller = size-cut (line ++ b ∷ []) bs in rw other (omega (arith, smaller))
+  | inr other ↦ let smaller = size-hand_in (line ++ b ∷ []) bs in rw other (omega (arith, smaller))
 ]
 
-pub size-passed : (h : AtHand) → h.whole ≡ true → size_at (cut [] h.rest) < size_at h
+pub size-passed : (h : AtHand) → h.whole ≡ true → size_at (hand_in [] h.rest) < size_at h
 size-passed h whole =
-    let less = size-cut [] h.rest in
+    let less = size-hand_in [] h.rest in
     let size : size_at h ≡ length h.rest + 1 = rw whole refl in
     omega (arith, less, size)
 

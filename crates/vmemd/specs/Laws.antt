@@ -2,7 +2,7 @@
 use Rattle.std.specs.Prelude.{◌≡◌, ℕ, List, AllPairs, slice_get, Some}
 use Rattle.lease_book.specs.BookState.{leased}
 use Rattle.lease_proto.specs.Frames.{Frame}
-use Rattle.lease_server.specs.Serving.{Serves}
+use Rattle.lease_server.specs.Serving.{ServesLines}
 use Rattle.lease_desk.specs.DeskState.{NamedArenaState, DeskState, OnePlace}
 use Rattle.lease_desk.specs.Machine.{LeaseStep}
 use Rattle.lease_desk.specs.Laws.{AreApart}
@@ -18,13 +18,13 @@ pub record Script (last : DeskState) : Type 0 where
   pub text : List ℕ
   pub fresh : IsFresh first
   pub makes : Makes TakesSetting first setup made
-  pub serves : Serves LeaseStep made frames text last
+  pub serves : ServesLines LeaseStep made frames text last
 
 -- after every script no unit is in two leases of one arena
-abbrev pub LeasesStayApart : Type 0
-LeasesStayApart = (last : DeskState) → Script last → AllPairs AreApart (leased last.book)
+abbrev pub ScriptLeasesStayApart : Type 0
+ScriptLeasesStayApart = (last : DeskState) → Script last → AllPairs AreApart (leased last.book)
 
 -- after every script each unit of an arena's spans is in one place
-abbrev pub UnitsHaveOnePlace : Type 0
-UnitsHaveOnePlace = (last : DeskState) → Script last → (k : ℕ) (x : NamedArenaState)
+abbrev pub ScriptUnitsHaveOnePlace : Type 0
+ScriptUnitsHaveOnePlace = (last : DeskState) → Script last → (k : ℕ) (x : NamedArenaState)
     → slice_get last.arenas k ≡ Some x → OnePlace k x last.book

@@ -1,11 +1,13 @@
 -- What a script sets up and writes.
-use Rattle.std.specs.Prelude.{◌≡◌, ◌⊎◌, ◌≤◌, ◌^◌, Bool, ℕ, ◌+◌, List, [], ◌∷◌, ◌++◌, length, true, false, Option, Result, Ok, Err, IfSome}
+use Rattle.std.specs.Prelude.{◌≡◌, ◌⊎◌, ◌≤◌, ◌+◌, Bool, true, false, ℕ, List, [], ◌∷◌, ◌++◌, length}
+use Rattle.std.specs.Prelude.{Option, Result, Ok, Err, IfSome}
 use Rattle.std.specs.List.{flat_map}
 use Rattle.std.specs.Io.KnownBytes.{Appends, Consumes}
 use Rattle.lease_proto.specs.declared.faults.LineFault.{LineFault}
 use Rattle.lease_proto.specs.Frames.{Frame, IsOneLine, frames_in, frames_of, ended}
 use Rattle.lease_proto.specs.Values.{◌>>=◌}
 use Rattle.lease_server.specs.Serving.{Writes, Stops}
+use Rattle.lease_server.specs.declared.intakes.TheConstants.{MOST_READS}
 use Rattle.lease_server.specs.declared.faults.ServeFault.{ServeFault}
 use Rattle.lease_server.specs.declared.faults.ServeFault.TheVariants as serving
 use Rattle.lease_proto.specs.SetupLines.{setup_of, begins_setup}
@@ -36,9 +38,9 @@ serving_fault serving.Turns = Read
 serving_fault serving.Write = Write
 serving_fault serving.Memory = Memory
 
--- a reader has failed, or was read 2^40 times
+-- a reader has failed, or was read as often as it may be
 abbrev pub IsSpent : Bool → ℕ → Type 0
-IsSpent failed reads = (failed ≡ true) ⊎ (2 ^ 40 ≤ reads)
+IsSpent failed reads = (failed ≡ true) ⊎ (MOST_READS ≤ reads)
 
 -- by whether the reader failed, how often it was read, and whether the writer failed: the fault is
 -- of what failed

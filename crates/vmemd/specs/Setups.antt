@@ -5,7 +5,7 @@ use Rattle.lease_proto.specs.declared.faults.LineFault.{LineFault}
 use Rattle.lease_proto.specs.declared.setup_lines.SetupLine.{SetupLine}
 use Rattle.lease_proto.specs.Frames.{IsOneLine}
 use Rattle.lease_proto.specs.SetupLines.{setup_of, begins_setup}
-use Rattle.lease_server.specs.Intakes.{IntakeState, cut}
+use Rattle.lease_server.specs.Intakes.{IntakeState, hand_in}
 use Rattle.vmemd.specs.Scripts.{SetsUp, RefusesRead, SetupRefused}
 use Rattle.vmemd.specs.declared.faults.ConfigFault.{ConfigFault}
 use Rattle.vmemd.specs.declared.faults.ScriptFault.{ScriptFault}
@@ -30,7 +30,7 @@ module _ {S : Type 0} (takes : S → SetupLine → S → Type 0) where
   -- follows, or as the input ended there
   abbrev pub TakesSetup : S → Option (List ℕ) → Option (List ℕ) → S → IntakeState → Type 0
   TakesSetup first unread left made input = (rest : List ℕ)
-      × ReadsSetup first unread left made rest × (input.hand ≡ cut [] rest)
+      × ReadsSetup first unread left made rest × (input.hand ≡ hand_in [] rest)
       × (input.ended ≡ false → IsOther rest)
       × (input.ended ≡ true → (begins_setup rest ≡ false) × IsAtEnd left)
 

@@ -58,21 +58,24 @@ const SCRIPT_HELP: &str = "\
 Answers the lines of standard input on standard output, one line at a time.
 
 A line is at most 255 bytes: words of a to z and 0 to 9 with one space between them, ended by a
-line feed. Numbers are decimal, from 0 to 2^62. A name begins with a letter and has at most 16
-characters.
+line feed. Words in capitals stand here for what you write. Numbers are decimal, without a leading
+zero, from 0 to 2^62. A name begins with a letter and has at most 16 characters.
 
-Setup lines come first, and print nothing. The first other line ends the setup, also an empty one:
-  root NAME BASE LEN QUANTUM POLICY QMAX   an arena: the LEN units from BASE on, leased in whole
-                                           quanta; QUANTUM is a power of two, and QMAX is 0
-  span NAME BASE LEN                       a further span of that arena
+Setup lines come first, and print nothing. The first other line ends the setup, also an empty one;
+there are no comments. A root or span line after that is answered by error word.
+  root NAME BASE LEN QUANTUM POLICY QMAX   an arena: its units are the numbers from BASE to
+                                           BASE + LEN - 1, leased in whole quanta. QUANTUM is a
+                                           power of two, BASE and LEN are multiples of it, and
+                                           QMAX is 0
+  span NAME BASE LEN                       a further span of that arena, of whole quanta too
 
 POLICY says which units a lease gets, of all free ones that fit it:
   best     the lowest in the shortest free range, of equally short ones the lowest range
   next     the lowest from the end of the arena's last lease on; where there are none, the lowest of
            all. So numbers come round before they are used again
-  instant  where free ranges of 2^i and more, but below 2^(i+1) quanta, are one kind: for a lease
-           with no option, the front of the newest range of the least kind whose ranges all hold
-           it; otherwise as best
+  instant  for a lease with no option: a free range of 2^i quanta or more, but below 2^(i+1), is of
+           kind i. The lease gets the front of the newest range of the least kind that has one and
+           whose 2^i quanta are enough. Where no kind is so, and for a lease with an option, as best
 
 Then the lines of clients. Clients C are 1 to 65536; I and N are 1 to 2^62:
   hello C I                  client C begins as its incarnation I. A client that restarts takes a
@@ -80,18 +83,21 @@ Then the lines of clients. Clients C are 1 to 65536; I and N are 1 to 2^62:
   lease C I N NAME SIZE ..   its request N asks for SIZE units of arena NAME, with the options below
   release C I N NAME BASE    its request N gives back its whole lease that begins at BASE
 The requests of an incarnation count 1, 2, 3, .., leases and releases together. The last one, sent
-again, gets its first answer and does nothing else.
+again, gets its first answer and does nothing else. A new incarnation begins at 1 again.
 
-The options of a lease, each at most once and in this order. A lease is the LEN units from BASE on,
-in one span; LEN is SIZE rounded up to whole quanta, and BASE a multiple of QUANTUM:
-  align A     BASE is a multiple of A, or with phase P that much above one
-  phase P     BASE divided by A leaves P
-  nocross X   no multiple of X lies inside the lease; it may begin or end on one
+The options of a lease, each at most once and in this order (in another, the line is answered by
+error badline, and its N isn't used). A lease is the LEN units from BASE on, in one span; LEN is
+SIZE rounded up to whole quanta, and BASE a multiple of QUANTUM:
+  align A     BASE is a multiple of A, where no phase P follows
+  phase P     only with align A: BASE divided by A leaves P
+  nocross X   the lease lies between two neighbouring multiples of X, and may begin or end on them:
+              with nocross 8 it may be the units 3 to 7, or 8 to 15, but not 6 to 9
   min L       BASE is at least L
   max H       the lease ends at H or before: unit H itself isn't in it
-Without an option, or where A, P, X or L is 0 or H is 2^62, there is no such condition. Otherwise a
-request is bad where A or X is no power of two or no multiple of QUANTUM; where P isn't below A or
-is no multiple of QUANTUM; where X is below LEN; or where L isn't below H. So it is where SIZE is 0.
+Without an option, or where A, P, X or L is 0 or H is 2^62, there is no such condition. A request
+is bad where a condition has an A or X that is no power of two or no multiple of QUANTUM; a P that
+isn't below A or is no multiple of QUANTUM; an X below LEN; or an L that isn't below H. So it is
+where SIZE is 0.
 
 Answers to clients:
   welcome C I                   the hello is taken
@@ -100,7 +106,8 @@ Answers to clients:
   refused C I N WORD            noarena: no arena has this name; badrequest: the request is bad;
                                 nofit: no free units fit it; leases: the client has 1024 leases;
                                 notyours: incarnation I has no lease that begins at BASE
-  old C V                       the client's incarnation is V, not I; V is 0 before its first hello
+  old C V                       the client's incarnation is V, not I: it goes on as V, or says hello
+                                with a greater I. V is 0 before its first hello
   stale C I N V                 N was used already: the last request was V, and V + 1 is next
   gap C I N V                   N is too high: the last request was V, and V + 1 is next
   again C I N                   memory was refused and nothing was done; send the line once more.
@@ -108,7 +115,8 @@ Answers to clients:
 Each refused answer counts as the answer to its N; old, stale, gap, again and error don't.
 
 Lines of operators:
-  audit     for each arena: arena NAME free F slab S magazine M exported E leased L hand H, in units
+  audit     for each arena: arena NAME free F slab S magazine M exported E leased L hand H, in
+            units: F are in no lease, L are in one, and the others are 0 so far
   clients   for each client: client C I LAST LEASES, its last request and how many leases it has
 
 A line that is none of these is answered by error and a word, and does nothing: toolong (above 255
@@ -125,7 +133,8 @@ Example:
   printf 'root m 0 64 1 best 0\\nhello 1 1\\nlease 1 1 1 m 8 align 16 min 20\\n' | vmemd script
 answers
   welcome 1 1
-  granted 1 1 1 m 32 8";
+  granted 1 1 1 m 32 8
+since 32 is the first multiple of 16 from 20 on.";
 
 const STATUS_HELP: &str = "\
 Exit status: 0 at the end of the input, and after help or the version; 1 where reading, writing or

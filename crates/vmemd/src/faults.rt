@@ -27,7 +27,7 @@ pub enum ConfigFault {
     /// An arena has this name already.
     #[error("name")]
     NameTaken,
-    /// A 33rd arena, or more than 65,536 owned spans of one arena.
+    /// More than `MOST_ARENAS` arenas, or than `MOST_SPANS` owned spans of one.
     #[error("many")]
     TooMany,
     /// No root has this name.
@@ -56,7 +56,7 @@ pub enum ScriptFault {
     /// This line of the setup, counted from 1, is refused.
     #[error("line {line}: {word}")]
     Setup { line: u64, word: ConfigFault },
-    /// The input can't be read, or took more than 2^40 reads.
+    /// The input can't be read, or goes on after `MOST_READS`.
     #[error("read")]
     Read,
     /// The output can't be written.

@@ -1,8 +1,14 @@
 //! `vmemd`: leases of ranges of whole numbers to clients, over lines of text.
 //!
-//! `vmemd script` answers standard input on standard output (scripts). What a script writes is
-//! stated in specs/Scripts.antt, for any desk, and specs/Desks.antt, for the lease desk; which
-//! bytes are a setup line, in the crate `lease_proto`.
+//! `vmemd script` answers standard input on standard output (scripts): one intake reads the input,
+//! its setup lines are taken first (setting_up), by a lease desk (desks), and then the desk answers
+//! the others. The words of the command line and the help are in commands, the exit statuses in
+//! endings.
+//!
+//! What a script writes is stated in specs/Scripts.antt, for any desk, and specs/Desks.antt, for
+//! the lease desk; what holds after each script, in specs/Laws.antt; which bytes are a setup line,
+//! in the crate `lease_proto`. A script costs what its desk does for each line, and a read for each
+//! 4,096 bytes or less.
 #![tactic(auto)]
 
 pub mod commands;

@@ -1,6 +1,7 @@
 //! A script: setup lines, and then the lines that what they make answers.
 ghost use Rattle.std.specs.Prelude.{◌≡◌, ◌≤◌, ◌+◌, ◌^◌, OnOk, IfErr, IfSome, false};
 ghost use Rattle.lease_server.specs.Watching.{inner_of, has_failed, reads_of};
+ghost use Rattle.lease_server.specs.declared.intakes.TheConstants.{MOST_READS};
 ghost use Rattle.vmemd.specs.Scripts.{RunsWhole, RunFails, Blames};
 ghost use Rattle.vmemd.specs.Desks.{ScriptEnds, ScriptFails};
 
@@ -31,7 +32,7 @@ pub fn run<R: Read, W: Write, D: SetUp>(
         × (has_failed writer.new ≡ false)) }
     ensures blames { IfErr result (Blames (has_failed reader.new) (reads_of reader.new)
         (has_failed writer.new)) }
-    ensures bound { reads_of reader.new ≤ reads_of reader.old + 2 ^ 40 }
+    ensures bound { reads_of reader.new ≤ reads_of reader.old + MOST_READS }
 {
     let mut input = take_setup(reader, desk)?;
     serve(alloc, &mut input, reader, writer, desk)?;
@@ -59,8 +60,8 @@ pub fn run_script<R: Read, W: Write>(
         × (has_failed writer.new ≡ false)) }
     ensures blames { IfErr result (Blames (has_failed reader.new) (reads_of reader.new)
         (has_failed writer.new)) }
-    // The input is read at most 2^40 times.
-    ensures bound { reads_of reader.new ≤ reads_of reader.old + 2 ^ 40 }
+    // The input isn't read without end.
+    ensures bound { reads_of reader.new ≤ reads_of reader.old + MOST_READS }
 {
     let mut desk = Desk::new(alloc);
     let ran = run(alloc, reader, writer, &mut desk);

@@ -5,6 +5,7 @@ ghost use Rattle.lease_proto.specs.Frames.{last_of};
 ghost use Rattle.lease_proto.specs.SetupLines as spec;
 ghost use Rattle.lease_proto.specs.SetupLines.{setup_of};
 ghost use Rattle.lease_server.specs.Watching.{inner_of, has_failed, reads_of};
+ghost use Rattle.lease_server.specs.declared.intakes.TheConstants.{MOST_READS};
 ghost use Rattle.vmemd.specs.Scripts.{RefusedBy, IsSpent};
 ghost use Rattle.vmemd.specs.Setups.{TakesLine, LineFails, TakesSetup, SetupFails};
 
@@ -29,7 +30,7 @@ pub trait SetUp: Responder {
     fn set_up(&mut self, line: &SetupLine) -> Result<(), SettingFault>
         ensures taken { OnOk result (takes self.old line.now self.new) }
         ensures refused { IfErr result (RefusedBy (refuses self.old line.now)) }
-        ensures same { OnErr result (self.new ≡ self.old) };
+        ensures unchanged { OnErr result (self.new ≡ self.old) };
 }
 
 /// Takes the setup lines that the input begins with, and gives what was read and not taken: the
@@ -48,9 +49,9 @@ pub fn take_setup<R: Read, D: SetUp>(
         → IsSpent (has_failed reader.new) (reads_of reader.new) }
     ensures kept { IfErr result (λ fault. (fault ≡ ScriptFault.Read)
         ⊎ (has_failed reader.new ≡ has_failed reader.old)) }
-    ensures counted { IfOk result (λ input. (input.reads ≤ 2 ^ 40)
+    ensures counted { IfOk result (λ input. (input.reads ≤ MOST_READS)
         × (reads_of reader.new ≡ min (reads_of reader.old + input.reads) (2 ^ 64 - 1))) }
-    ensures bound { reads_of reader.new ≤ reads_of reader.old + 2 ^ 40 }
+    ensures bound { reads_of reader.new ≤ reads_of reader.old + MOST_READS }
 {
     // For its clause: reads are at most 2^64 - 1.
     let _ = reader.reads();
@@ -114,7 +115,7 @@ fn refuse_rest(rest: &[u8], number: u64) -> Result<(), ScriptFault>
 fn take_line<D: SetUp>(line: &[u8], number: u64, desk: &mut D) -> Result<(), ScriptFault>
     ensures ok { OnOk result (TakesLine D.takes desk.old line.now desk.new) }
     ensures err { IfErr result (LineFails D.refuses desk.old number (setup_of line.now)) }
-    ensures same { OnErr result (desk.new ≡ desk.old) }
+    ensures unchanged { OnErr result (desk.new ≡ desk.old) }
 {
     let setting = match SetupLine::read(line) {
         Ok(setting) => setting,

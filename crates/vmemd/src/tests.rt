@@ -7,7 +7,9 @@ use self::tables::{ASKED, MISTAKEN, REFUSED, ROWS};
 use crate::commands::{Words, WordsFault, read_words};
 use crate::faults::{ConfigFault, ScriptFault};
 use crate::scripts::run_script;
-use lease_proto::LineFault;
+use lease_book::LEASES;
+use lease_proto::{LONGEST_LINE, LineFault, MOST_ARENAS, MOST_SPANS};
+use lease_terms::{LAST_CLIENT, LONGEST_NAME};
 use lease_server::Watched;
 use std::alloc::{AllocError, Global};
 use std::io;
@@ -126,14 +128,16 @@ fn hostile_lines(rt: HostRuntime) -> Result<(), Fail> {
     input.extend_from_slice(b"\n")?;
     input.extend_from_slice(&long[1..])?;
     input.extend_from_slice(
-        b"\nhello 0 1\nhello 65537 1\nhello 1 18446744073709551617\nlease 1 1 1 m x align\nhello 1 1\n",
+        b"\nhello 0 1\nhello 65537 1\nhello 1 18446744073709551617\n\
+          lease 1 1 1 m x align\nhello 1 1\n",
     )?;
     input.extend_from_slice(
         b"lease 1 1 1 m 4 phase 0 align 0\nlease 1 1 1 m 4 align 0 phase 0\nhello 1 1\r\n",
     )?;
     input.extend_from_slice(&long)?;
-    let expected =
-        b"error toolong\nerror word\nerror number\nerror number\nerror number\nerror badline\nwelcome 1 1\nerror badline\ngranted 1 1 1 m 0 4\nerror badline\nerror toolong\n";
+    let expected = b"error toolong\nerror word\n\
+        error number\nerror number\nerror number\nerror badline\n\
+        welcome 1 1\nerror badline\ngranted 1 1 1 m 0 4\nerror badline\nerror toolong\n";
     for size in [4096, 1] {
         let (ran, output) = run(alloc, input.as_slice(), size, Mishap::None, Mishap::None);
         assert_eq!(rt; ran, Ok(()));
@@ -344,6 +348,24 @@ fn command_line(rt: HostRuntime) -> Result<(), Fail> {
             Err(WordsFault::Mistaken(shown)) => assert_eq!(rt; shown.as_str(), *text),
             _other => return Err(Fail::from("a mistake was not told")),
         }
+    }
+    Ok(())
+}
+
+#[test]
+fn the_help_tells_the_limits(rt: HostRuntime) -> Result<(), Fail> {
+    let alloc = rt.alloc();
+    let Err(WordsFault::Asked(help)) = read_words(alloc, &["vmemd", "script", "--help"]) else {
+        return Err(Fail::from("the help was not told"));
+    };
+    for limit in [
+        format!(in alloc; "at most {LONGEST_LINE} bytes")?,
+        format!(in alloc; "at most {LONGEST_NAME} characters")?,
+        format!(in alloc; "Clients C are 1 to {LAST_CLIENT};")?,
+        format!(in alloc; "the client has {LEASES} leases")?,
+        format!(in alloc; "above {MOST_ARENAS} arenas or {MOST_SPANS} spans")?,
+    ] {
+        assert!(rt; help.contains(limit.as_str()), "{limit}");
     }
     Ok(())
 }

@@ -280,15 +280,21 @@ pub const ASKED: [(&[&str], &str); 4] = [
 pub const MISTAKEN: [(&[&str], &str); 4] = [
     (
         &["vmemd", "frob"],
-        "error: unrecognized subcommand 'frob'\n\nUsage: vmemd <COMMAND>\n\nFor more information, try '--help'.\n",
+        "error: unrecognized subcommand 'frob'\n\n\
+         Usage: vmemd <COMMAND>\n\n\
+         For more information, try '--help'.\n",
     ),
     (
         &["vmemd", "script", "frob"],
-        "error: unexpected argument 'frob' found\n\nUsage: vmemd script\n\nFor more information, try '--help'.\n",
+        "error: unexpected argument 'frob' found\n\n\
+         Usage: vmemd script\n\n\
+         For more information, try '--help'.\n",
     ),
     (
         &["vmemd", "script", "--version"],
-        "error: unexpected argument '--version' found\n\nUsage: vmemd script\n\nFor more information, try '--help'.\n",
+        "error: unexpected argument '--version' found\n\n\
+         Usage: vmemd script\n\n\
+         For more information, try '--help'.\n",
     ),
     (&["vmemd"], PROGRAM_HELP),
 ];

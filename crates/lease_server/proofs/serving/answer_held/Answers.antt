@@ -3,7 +3,7 @@ use Rattle.std.proofs.lemmas.List.{append-nil}
 use Rattle.std.proofs.lemmas.Result.{err_from_is_err_and}
 use Rattle.lease_proto.specs.Frames.{frame_of}
 use Rattle.lease_server.specs.Serving.{Answers}
-use Rattle.lease_server.specs.Intakes.{cut, frames_at, begun_at}
+use Rattle.lease_server.specs.Intakes.{hand_in, frames_at, begun_at}
 use Rattle.lease_server.proofs.ServingLemmas.{Answers-append}
 use Rattle.lease_server.proofs.IntakeLemmas.{hand_whole, hand_none, passes_less, size_at}
 use Rattle.lease_server.proofs.serving.answer_held.Goals as goal
@@ -21,7 +21,7 @@ loop-line-preserved g c =
     let may = g.P.Responder.may_answer in
     let hand = c.loop-line.input.hand in
     let frame = frame_of hand.line in
-    let next = cut [] hand.rest in
+    let next = hand_in [] hand.rest in
     let first = hand_whole hand c.in-Some.ensures.some.0 in
     let answered = subst (λ l. Answers may c.loop-line.responder (frame_of l ∷ []) c.loop-line.out.items c.answer_line.new.out.items c.answer_line.new.responder)
     c.in-Some.ensures.some.1 c.in_ok-answer_line.ensures.ok in

@@ -3,7 +3,7 @@ use Rattle.std.proofs.lemmas.List.{append-nil, length-append}
 use Rattle.std.proofs.lemmas.Result.{err_from_is_err_and}
 use Rattle.std.proofs.KnownBytes.{Consumes-nil, Consumes-trans, Appends-nil}
 use Rattle.lease_proto.specs.Frames.{rest_in}
-use Rattle.lease_server.specs.Intakes.{frames_at, frames_on, begun_at, cut}
+use Rattle.lease_server.specs.Intakes.{frames_at, frames_on, begun_at, hand_in}
 use Rattle.lease_server.specs.Serving.{SameFront, Writes}
 use Rattle.lease_server.specs.Watching.{streams_of}
 use Rattle.lease_server.proofs.ServingLemmas.{Writes-append}

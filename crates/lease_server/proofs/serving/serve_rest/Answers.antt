@@ -1,7 +1,7 @@
 use Rattle.std.proofs.Common.{[], ◌∷◌, Err, sym, ap, ◌∙◌}
 use Rattle.std.proofs.lemmas.Result.{on_err_weaker}
 use Rattle.lease_proto.specs.Frames.{last_of}
-use Rattle.lease_server.proofs.ServingLemmas.{Stops-within, Serves-fault}
+use Rattle.lease_server.proofs.ServingLemmas.{Stops-within, ServesLines-fault}
 use Rattle.lease_server.proofs.serving.serve_rest.Goals as goal
 
 pub returns-in-Some-clause-err : goal.returns-in-Some-clause-err
@@ -9,5 +9,5 @@ returns-in-Some-clause-err g c =
     let may = g.P.Responder.may_answer in
     rw (sym (c.in-Some.ensures ∙ ap last_of c.begun.ensures)) (on_err_weaker c.deliver.result
     (Stops-within may (Err c.in-Some.fault ∷ []) c.args.responder.now c.args.responder.now c.line.result.now _ _
-    (Serves-fault may c.args.responder.now c.in-Some.fault c.line.result.now c.line.ensures))
+    (ServesLines-fault may c.args.responder.now c.in-Some.fault c.line.result.now c.line.ensures))
     c.deliver.ensures.err)

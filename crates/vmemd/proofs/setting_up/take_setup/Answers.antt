@@ -5,11 +5,11 @@ use Rattle.std.specs.Io.KnownBytes.{Consumes}
 use Rattle.std.proofs.KnownBytes.{Consumes-nil, Consumes-trans}
 use Rattle.lease_proto.specs.Frames.{last_of}
 use Rattle.lease_proto.specs.SetupLines.{setup_of, begins_setup}
-use Rattle.lease_server.specs.Intakes.{IntakeState, cut}
+use Rattle.lease_server.specs.Intakes.{IntakeState, hand_in}
 use Rattle.lease_server.specs.Watching.{inner_of, has_failed, reads_of}
 use Rattle.vmemd.specs.Setups.{LineFails, TakesLine}
 use Rattle.vmemd.proofs.OpeningLemmas.{begins_setup-take}
-use Rattle.vmemd.proofs.SetupLemmas.{none_taken, one_taken, more_read, line_at, begun_at, read_behind, read_none, begins_by_line, size_at, size-cut, size-passed, refused_long, refused_rest, reading_fails, line_fails}
+use Rattle.vmemd.proofs.SetupLemmas.{none_taken, one_taken, more_read, line_at, begun_at, read_behind, read_none, begins_by_line, size_at, size-hand_in, size-passed, refused_long, refused_rest, reading_fails, line_fails}
 use Rattle.vmemd.proofs.setting_up.take_setup.Goals as goal
 
 pub loop-line-init : goal.loop-line-init
@@ -30,7 +30,7 @@ returns-in_err-take_line-in-Some-clause-err g c =
     line c.in_err-take_line-in-Some.ensures.err in
     rw (p.1, p.2) (line_fails g.D.SetUp.takes g.D.SetUp.refuses c.args.desk.now c.loop-line.desk c.take_line.new.desk
     (g.R.Read.remaining (inner_of c.args.reader.now)) (g.R.Read.remaining (inner_of c.loop-line.reader))
-    input front text rest setup c.loop-line.number c.in_err-take_line-in-Some.field-0.0 read counted begins one parts c.in_err-take_line-in-Some.ensures.same failed)
+    input front text rest setup c.loop-line.number c.in_err-take_line-in-Some.field-0.0 read counted begins one parts c.in_err-take_line-in-Some.ensures.unchanged failed)
 
 pub loop-line-smaller-then-begins_setup : goal.loop-line-smaller-then-begins_setup
 loop-line-smaller-then-begins_setup g c =
@@ -52,7 +52,7 @@ loop-line-preserved-then-begins_setup g c =
       read,
       rest,
       more.0,
-      ap (cut []) behind,
+      ap (hand_in []) behind,
       ap (λ n. n + 1) (counted ∙ sym more.1),
       going,
       omega (arith, less, room),
@@ -139,7 +139,7 @@ loop-line-smaller g c =
     let on : c.in_ok-read_on-in-None.field-0 ≡ true = search rules in
     let (some, fresh, not_ended, once) = more on in
     let size = ap size_at next in
-    let fits = size-cut c.loop-line.input.hand.line piece in
+    let fits = size-hand_in c.loop-line.input.hand.line piece in
     let bound = c.read_on.ensures.bound in
     let less : (2 ^ 40 - c.read_on.new.self.reads) * 8192 + size_at c.read_on.new.self.hand
         < (2 ^ 40 - c.loop-line.input.reads) * 8192 + size_at c.loop-line.input.hand = omega (arith, once, bound, size, fits, short) in
@@ -153,7 +153,7 @@ loop-line-preserved g c =
     let on : c.in_ok-read_on-in-None.field-0 ≡ true = search rules in
     let (some, fresh, not_ended, once) = more on in
     let size = ap size_at next in
-    let fits = size-cut c.loop-line.input.hand.line piece in
+    let fits = size-hand_in c.loop-line.input.hand.line piece in
     let grown = more_read g.D.SetUp.takes c.args.desk.now c.loop-line.desk input front piece setup in (
       input ++ piece,
       Consumes-trans _ _ _ input piece read consumes,

@@ -1,6 +1,6 @@
 use Rattle.std.proofs.Common.{◌≡◌, ℕ, ◌+◌, ◌-◌, ◌*◌, ◌^◌, ◌≤◌, List, [], length, min, false}
 use Rattle.std.specs.Io.KnownBytes.{Consumes}
-use Rattle.lease_server.specs.Intakes.{cut}
+use Rattle.lease_server.specs.Intakes.{hand_in}
 use Rattle.lease_server.specs.Watching.{inner_of, has_failed, reads_of}
 use Rattle.vmemd.specs.Scripts.{SetsUp}
 use Rattle.vmemd.proofs.SetupLemmas.{size_at}
@@ -9,7 +9,7 @@ use Rattle.vmemd.proofs.setting_up.take_setup.Given as goal
 abbrev pub invariant-loop-line : goal.invariant-loop-line
 invariant-loop-line g l = (input : List ℕ) × Consumes (g.R.Read.remaining (inner_of l.fn.reader)) (g.R.Read.remaining (inner_of l.reader)) input
     × (front : List ℕ) × (setup : SetsUp g.D.SetUp.takes l.fn.desk input front l.desk)
-    × (l.input.hand ≡ cut [] front)
+    × (l.input.hand ≡ hand_in [] front)
     × (l.number ≡ length setup.lines + 1)
     × (l.input.ended ≡ false)
     × (l.number + size_at l.input.hand ≤ 4096 * l.input.reads + 1)

@@ -2,7 +2,7 @@ use Rattle.std.proofs.Common.{◌≡◌, ◌-◌, ◌<◌, ◌≤◌, ℕ, List,
 use Rattle.std.proofs.lemmas.List.{length-take}
 use Rattle.std.proofs.lemmas.Bool.{ltb-true, ltb-false, eq-eqb, ne_eqb}
 use Rattle.std.proofs.KnownBytes.{Consumes-nil}
-use Rattle.lease_server.specs.Intakes.{cut, hand_of}
+use Rattle.lease_server.specs.Intakes.{hand_in, hand_of}
 use Rattle.lease_server.proofs.IntakeLemmas.{stays, behind}
 use Rattle.lease_server.proofs.intakes.Intake.read_on.Goals as goal
 
@@ -30,7 +30,7 @@ returns-clause-ok g c =
       take n buffer,
       c.in_ok-n.ensures.bytes,
       omega (arith, size),
-      ap (hand_of c.go_on-self-inside.new.framing) (behind buffer r n within) ∙ c.go_on-self-inside.ensures.hand ∙ ap (λ l. cut l (take n buffer)) line,
+      ap (hand_of c.go_on-self-inside.new.framing) (behind buffer r n within) ∙ c.go_on-self-inside.ensures.hand ∙ ap (λ l. hand_in l (take n buffer)) line,
       (λ more. let some : 0 < n = ltb-true 0 n more in (
         omega (arith, some, bound, size),
         ap (λ v. v.ended) (sym c.self.view_is) ∙ c.if-self.false,
