@@ -3,6 +3,7 @@ ghost use Rattle.std.specs.Prelude.{◌≡◌, ℕ, List, [], ◌++◌, ◌+◌,
 ghost use Rattle.std.specs.Vec.{vec_capacity};
 ghost use Rattle.std.specs.Io.{StartsWith};
 ghost use Rattle.lease_book.specs.BookState.{IsHistory};
+ghost use Rattle.lease_proto.specs.declared.limits.TheConstants.{LINE_ROOM};
 ghost use Rattle.lease_desk.specs.DeskState.{IsOrderly};
 ghost use Rattle.lease_desk.specs.Machine.{LeaseStep, LineStep, ServedStep};
 ghost use Rattle.lease_desk.specs.Operators.{asked_text, Tells};
@@ -20,7 +21,7 @@ use crate::spaces::Space;
 use deed_core::{PlainDeed, Range};
 use lease_book::Book;
 use lease_proto::{
-    ErrorWord, LONGEST_LINE, Line, MOST_ARENAS, MOST_SPANS, Op, OperatorLine, Reply, ServedLine,
+    ErrorWord, LINE_ROOM, Line, MOST_ARENAS, MOST_SPANS, Op, OperatorLine, Reply, ServedLine,
 };
 use lease_terms::Name;
 use std::alloc::{AllocError, Global};
@@ -114,7 +115,7 @@ impl Desk {
         ensures err { OnErr result (out.new.items ≡ out.old.items) }
         ensures unchanged { OnErr result (self.new ≡ self.old) }
     {
-        out.reserve(LONGEST_LINE + 1)?;
+        out.reserve(LINE_ROOM)?;
         match ServedLine::read(line) {
             Ok(line) => self.serve(&line, out),
             Err(fault) => {
@@ -127,7 +128,7 @@ impl Desk {
 
     /// Answers a line for which there is room.
     fn serve(&mut self, line: &ServedLine, out: &mut Vec<u8>) -> Result<(), AllocError>
-        requires room { vec_len out.old + 256 ≤ vec_capacity out.old }
+        requires room { vec_len out.old + LINE_ROOM ≤ vec_capacity out.old }
         ensures ok { OnOk result ((reply : List ℕ) × (out.new.items ≡ out.old.items ++ reply)
             × ServedStep line.now self.old reply self.new) }
         ensures err { OnErr result (out.new.items ≡ out.old.items) }
