@@ -1,10 +1,9 @@
 -- Bytes that are words are one whole line.
-use Rattle.std.proofs.Common.{◌≡◌, ◌≢◌, ◌≤◌, ℕ, true, List, [], ◌∷◌, ◌++◌, length, Result, Ok, Err, refl, sym, subst, cond, arith, inl, inr, nat_le, nat_lt}
+use Rattle.std.proofs.Common.{◌≡◌, ◌≢◌, ℕ, true, List, [], ◌∷◌, ◌++◌, length, Ok, Err, refl, sym, subst, cond, inl, inr, nat_le, nat_lt}
 use Rattle.std.proofs.lemmas.Bool.{ltb-false, le-leb, and_parts, cases_Bool}
 use Rattle.std.proofs.lemmas.List.Splits.{join_with_byte-slice_split}
 use Rattle.std.specs.List.{list_all, join_with_byte}
 use Rattle.lease_terms.specs.Names.{is_word, is_word_byte}
-use Rattle.lease_proto.specs.declared.faults.LineFault.{LineFault}
 use Rattle.lease_proto.specs.declared.faults.LineFault.TheVariants as faults
 use Rattle.lease_proto.specs.declared.limits.TheConstants.{LONGEST_LINE}
 use Rattle.lease_proto.specs.Frames.{IsOneLine, IsWholeLine}

@@ -1,5 +1,5 @@
 -- A line is read just from its texts.
-use Rattle.std.proofs.Common.{◌≡◌, ◌^◌, ℕ, ◌≤◌, ◌+◌, true, false, List, [], ◌∷◌, ◌++◌, length, Option, Some, None, Result, Ok, refl, sym, ◌∙◌, ap, subst, arith, inl, inr, decimal, codes}
+use Rattle.std.proofs.Common.{◌≡◌, ℕ, ◌≤◌, ◌+◌, true, false, List, [], ◌∷◌, ◌++◌, length, Option, Some, None, Result, Ok, refl, sym, ◌∙◌, ap, subst, arith, inl, inr, decimal, codes}
 use Rattle.std.proofs.lemmas.List.{append-nil, length-append}
 use Rattle.std.proofs.lemmas.Bool.{le-ltb, and_parts, and_from, cases_eq, eq-eqb, ne_eqb}
 use Rattle.std.specs.List.{list_all, AllByRecursion}
