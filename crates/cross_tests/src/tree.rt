@@ -68,10 +68,20 @@ fn refuse(rt: &impl Abort, setup: &mut Setup, setting: Setting, why: SetupFault)
     assert_eq!(rt; setup.add(&setting), Err(why));
 }
 
-/// The arena's number in the tree.
-fn number(rt: &impl Abort, setup: &Setup, text: &str) -> u32 {
-    match setup.tree().find(&name(rt, text.as_bytes())) {
-        Some(number) => number,
+/// The chain of the arena of this name.
+fn chain_of<'a>(rt: &impl Abort, setup: &'a Setup, text: &str) -> &'a [Level] {
+    let tree = setup.tree();
+    match tree.find(&name(rt, text.as_bytes())) {
+        Some(id) => tree.chain(id),
+        None => panic!(rt; "no arena"),
+    }
+}
+
+/// The size of the slabs of the arena of this name.
+fn slab_size_of(rt: &impl Abort, setup: &Setup, text: &str) -> u64 {
+    let tree = setup.tree();
+    match tree.find(&name(rt, text.as_bytes())) {
+        Some(id) => tree.arena(id).slab_size,
         None => panic!(rt; "no arena"),
     }
 }
@@ -81,10 +91,30 @@ fn number(rt: &impl Abort, setup: &Setup, text: &str) -> u32 {
 fn names(rt: HostRuntime) {
     let mut setup = Setup::new(rt.alloc());
     add(&rt, &mut setup, root(&rt, "a", 0, 8, 1, 0));
-    refuse(&rt, &mut setup, root(&rt, "a", 8, 8, 1, 0), SetupFault::NameTaken);
-    refuse(&rt, &mut setup, child(&rt, "a", "a", 1, 0, 0), SetupFault::NameTaken);
-    refuse(&rt, &mut setup, child(&rt, "c", "z", 1, 0, 0), SetupFault::NoArena);
-    refuse(&rt, &mut setup, child(&rt, "c", "c", 1, 0, 0), SetupFault::NoArena);
+    refuse(
+        &rt,
+        &mut setup,
+        root(&rt, "a", 8, 8, 1, 0),
+        SetupFault::NameTaken,
+    );
+    refuse(
+        &rt,
+        &mut setup,
+        child(&rt, "a", "a", 1, 0, 0),
+        SetupFault::NameTaken,
+    );
+    refuse(
+        &rt,
+        &mut setup,
+        child(&rt, "c", "z", 1, 0, 0),
+        SetupFault::NoArena,
+    );
+    refuse(
+        &rt,
+        &mut setup,
+        child(&rt, "c", "c", 1, 0, 0),
+        SetupFault::NoArena,
+    );
     refuse(&rt, &mut setup, span(&rt, "z", 8, 8), SetupFault::NoArena);
     add(&rt, &mut setup, child(&rt, "c", "a", 1, 0, 0));
     refuse(&rt, &mut setup, span(&rt, "c", 8, 8), SetupFault::NoArena);
@@ -100,11 +130,26 @@ fn a_fifth_arena(rt: HostRuntime) {
     add(&rt, &mut setup, child(&rt, "b", "a", 1, 0, 0));
     add(&rt, &mut setup, child(&rt, "c", "b", 1, 0, 0));
     add(&rt, &mut setup, child(&rt, "d", "c", 1, 0, 0));
-    refuse(&rt, &mut setup, child(&rt, "e", "d", 1, 0, 0), SetupFault::ChainTooLong);
-    refuse(&rt, &mut setup, child(&rt, "a", "d", 1, 0, 0), SetupFault::NameTaken);
-    refuse(&rt, &mut setup, child(&rt, "e", "d", 3, 0, 0), SetupFault::ChainTooLong);
+    refuse(
+        &rt,
+        &mut setup,
+        child(&rt, "e", "d", 1, 0, 0),
+        SetupFault::ChainTooLong,
+    );
+    refuse(
+        &rt,
+        &mut setup,
+        child(&rt, "a", "d", 1, 0, 0),
+        SetupFault::NameTaken,
+    );
+    refuse(
+        &rt,
+        &mut setup,
+        child(&rt, "e", "d", 3, 0, 0),
+        SetupFault::ChainTooLong,
+    );
     add(&rt, &mut setup, child(&rt, "e", "c", 1, 0, 0));
-    let chain = setup.tree().chain(number(&rt, &setup, "d"));
+    let chain = chain_of(&rt, &setup, "d");
     assert_eq!(&rt; chain.len(), LONGEST_CHAIN);
     let mut wanted = 4u32;
     for level in chain {
@@ -114,19 +159,39 @@ fn a_fifth_arena(rt: HostRuntime) {
         wanted -= 1;
         assert_eq!(&rt; level.id, wanted);
     }
-    assert_eq!(&rt; setup.tree().chain(number(&rt, &setup, "e")).len(), LONGEST_CHAIN);
-    assert_eq!(&rt; setup.tree().chain(number(&rt, &setup, "a")).len(), 1);
+    assert_eq!(&rt; chain_of(&rt, &setup, "e").len(), LONGEST_CHAIN);
+    assert_eq!(&rt; chain_of(&rt, &setup, "a").len(), 1);
 }
 
 /// Quanta that are no power of two, or above the source's.
 #[test]
 fn quanta(rt: HostRuntime) {
     let mut setup = Setup::new(rt.alloc());
-    refuse(&rt, &mut setup, root(&rt, "a", 0, 8, 3, 0), SetupFault::BadQuantum);
-    refuse(&rt, &mut setup, root(&rt, "a", 0, 8, 0, 0), SetupFault::BadQuantum);
+    refuse(
+        &rt,
+        &mut setup,
+        root(&rt, "a", 0, 8, 3, 0),
+        SetupFault::BadQuantum,
+    );
+    refuse(
+        &rt,
+        &mut setup,
+        root(&rt, "a", 0, 8, 0, 0),
+        SetupFault::BadQuantum,
+    );
     add(&rt, &mut setup, root(&rt, "a", 0, 64, 4, 0));
-    refuse(&rt, &mut setup, child(&rt, "b", "a", 8, 0, 0), SetupFault::BadQuantum);
-    refuse(&rt, &mut setup, child(&rt, "b", "a", 3, 0, 0), SetupFault::BadQuantum);
+    refuse(
+        &rt,
+        &mut setup,
+        child(&rt, "b", "a", 8, 0, 0),
+        SetupFault::BadQuantum,
+    );
+    refuse(
+        &rt,
+        &mut setup,
+        child(&rt, "b", "a", 3, 0, 0),
+        SetupFault::BadQuantum,
+    );
     add(&rt, &mut setup, child(&rt, "b", "a", 4, 0, 0));
 }
 
@@ -136,10 +201,30 @@ fn quanta(rt: HostRuntime) {
 fn caches(rt: HostRuntime) {
     let big = 1u64 << 61;
     let mut setup = Setup::new(rt.alloc());
-    refuse(&rt, &mut setup, root(&rt, "d", 0, 64, 1, 17), SetupFault::BadCache);
-    refuse(&rt, &mut setup, root(&rt, "d", 0, 64, 4, 6), SetupFault::BadCache);
-    refuse(&rt, &mut setup, root(&rt, "d", 0, big, big, big), SetupFault::BadCache);
-    refuse(&rt, &mut setup, root(&rt, "d", 0, 6, 4, 6), SetupFault::BadCache);
+    refuse(
+        &rt,
+        &mut setup,
+        root(&rt, "d", 0, 64, 1, 17),
+        SetupFault::BadCache,
+    );
+    refuse(
+        &rt,
+        &mut setup,
+        root(&rt, "d", 0, 64, 4, 6),
+        SetupFault::BadCache,
+    );
+    refuse(
+        &rt,
+        &mut setup,
+        root(&rt, "d", 0, big, big, big),
+        SetupFault::BadCache,
+    );
+    refuse(
+        &rt,
+        &mut setup,
+        root(&rt, "d", 0, 6, 4, 6),
+        SetupFault::BadCache,
+    );
     add(&rt, &mut setup, root(&rt, "d", 0, 64, 1, 5));
     add(&rt, &mut setup, child(&rt, "e", "d", 1, 16, 7));
     add(&rt, &mut setup, root(&rt, "f", 0, big, big / 2, big / 2));
@@ -150,10 +235,10 @@ fn caches(rt: HostRuntime) {
         qcache_max: 16,
         slab_size: 64,
     };
-    let chain = setup.tree().chain(number(&rt, &setup, "e"));
+    let chain = chain_of(&rt, &setup, "e");
     assert!(&rt; chain.first() == Some(&wanted));
-    assert_eq!(&rt; setup.tree().arena(number(&rt, &setup, "d")).slab_size, 16);
-    assert_eq!(&rt; setup.tree().arena(number(&rt, &setup, "f")).slab_size, 1 << 62);
+    assert_eq!(&rt; slab_size_of(&rt, &setup, "d"), 16);
+    assert_eq!(&rt; slab_size_of(&rt, &setup, "f"), 1 << 62);
 }
 
 /// Ranges with no unit, past 2^62, not in whole quanta, or in the way of another.
@@ -161,10 +246,30 @@ fn caches(rt: HostRuntime) {
 fn ranges(rt: HostRuntime) {
     let top = 1u64 << 62;
     let mut setup = Setup::new(rt.alloc());
-    refuse(&rt, &mut setup, root(&rt, "a", 0, 6, 4, 0), SetupFault::BadRange);
-    refuse(&rt, &mut setup, root(&rt, "a", 2, 8, 4, 0), SetupFault::BadRange);
-    refuse(&rt, &mut setup, root(&rt, "a", 0, 0, 4, 0), SetupFault::BadRange);
-    refuse(&rt, &mut setup, root(&rt, "a", top - 16, 17, 1, 0), SetupFault::BadRange);
+    refuse(
+        &rt,
+        &mut setup,
+        root(&rt, "a", 0, 6, 4, 0),
+        SetupFault::BadRange,
+    );
+    refuse(
+        &rt,
+        &mut setup,
+        root(&rt, "a", 2, 8, 4, 0),
+        SetupFault::BadRange,
+    );
+    refuse(
+        &rt,
+        &mut setup,
+        root(&rt, "a", 0, 0, 4, 0),
+        SetupFault::BadRange,
+    );
+    refuse(
+        &rt,
+        &mut setup,
+        root(&rt, "a", top - 16, 17, 1, 0),
+        SetupFault::BadRange,
+    );
     add(&rt, &mut setup, root(&rt, "b", top - 16, 16, 1, 0));
     add(&rt, &mut setup, root(&rt, "a", 0, 8, 4, 0));
     refuse(&rt, &mut setup, span(&rt, "a", 4, 8), SetupFault::BadRange);
@@ -194,9 +299,29 @@ fn many(rt: HostRuntime) {
             }),
         );
     }
-    refuse(&rt, &mut setup, root(&rt, "z", 0, 8, 1, 0), SetupFault::TooMany);
-    refuse(&rt, &mut setup, root(&rt, "z", 0, 8, 3, 0), SetupFault::TooMany);
-    refuse(&rt, &mut setup, child(&rt, "z", "y", 1, 0, 0), SetupFault::TooMany);
-    refuse(&rt, &mut setup, root(&rt, "a0", 0, 8, 1, 0), SetupFault::NameTaken);
+    refuse(
+        &rt,
+        &mut setup,
+        root(&rt, "z", 0, 8, 1, 0),
+        SetupFault::TooMany,
+    );
+    refuse(
+        &rt,
+        &mut setup,
+        root(&rt, "z", 0, 8, 3, 0),
+        SetupFault::TooMany,
+    );
+    refuse(
+        &rt,
+        &mut setup,
+        child(&rt, "z", "y", 1, 0, 0),
+        SetupFault::TooMany,
+    );
+    refuse(
+        &rt,
+        &mut setup,
+        root(&rt, "a0", 0, 8, 1, 0),
+        SetupFault::NameTaken,
+    );
     assert_eq!(&rt; setup.into_tree().len(), MOST_ARENAS);
 }
