@@ -55,8 +55,8 @@ SettlementsKeepKnown =
     → IsFor names op s → (id.client ≡ c.id → MayBeSent id op c)
     → IsKnown names (Settled id s ∷ entries) c
 
--- however segments are weighed, what a known client holds weighs at most what is leased to it in its
--- incarnation
+-- however segments are weighed, what a known client holds weighs at most what is leased to it in
+-- its incarnation
 abbrev pub HeldIsLeased : Type 0
 HeldIsLeased =
     (names : ℕ → List ℕ) (entries : List Entry) (c : ClientState) (f : HeldSegment → ℕ)
