@@ -99,9 +99,9 @@ fn held_in_order_of_acceptance(rt: HostRuntime) -> Result<(), Fail> {
     says(&rt, &mut client, "lease 7 3 2 n 2")?;
     accepts(&rt, &mut client, "refused 7 3 2 nofit")?;
     says(&rt, &mut client, "lease 7 3 3 n 2")?;
-    let same = Line::read(b"lease 7 3 3 n 2")?;
-    assert_eq!(rt; client.resend(), Ok(same));
-    assert_eq!(rt; client.resend(), Ok(same));
+    for _ in 0..2 {
+        assert_eq!(rt; client.resend(), Ok(Line::read(b"lease 7 3 3 n 2")?));
+    }
     // The reply of another kind, of an older number and of another incarnation.
     ignores(&rt, &mut client, "released 7 3 3")?;
     ignores(&rt, &mut client, "granted 7 3 2 n 0 2")?;

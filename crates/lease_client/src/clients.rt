@@ -189,7 +189,8 @@ impl Client {
 
     /// The incarnation, where it may begin.
     fn greater(&self, incarnation: u64) -> Option<Ordinal>
-        ensures some { IfSome result (λ i. (i ≡ incarnation) × (may_restart incarnation self.now ≡ true)) }
+        ensures some { IfSome result
+            (λ i. (i ≡ incarnation) × (may_restart incarnation self.now ≡ true)) }
         ensures none { IfNone result (may_restart incarnation self.now ≡ false) }
     {
         let ordinal = Ordinal::new(incarnation)?;
@@ -225,7 +226,8 @@ fn greater_of(left: Quantity, right: Quantity) -> Quantity
     }
 }
 
-/// What is written of the line is read as that line. This does nothing: it is called for its clause.
+/// What is written of the line is read as that line. This does nothing: it is called for its
+/// clause.
 fn reads_back(line: &Line)
     ensures { ReadsBack line.now }
 {
