@@ -8,6 +8,12 @@
 //! requests to a book of leases, `lines` has lines, replies and streams of the protocol, `desk`
 //! what a desk answers, and `serving` streams of lines, failing ones too. `seat_deeds` has an arena
 //! over the deeds of running threads.
+//!
+//! Each test is proved safe before it runs, and what that takes depends on its form: under a second
+//! where it is a table of rows and one call, ten to twenty where it is a chain of ten assertions over
+//! one value. So the calls and what they must give are rows of an enum, which one function takes one
+//! by one; texts stand in one literal, a line each; and what is cut out of a literal is cut by a
+//! function that is given it.
 #![tactic(auto)]
 
 #[cfg(test)]
