@@ -1,7 +1,7 @@
 # make        proves what the program stands on, and leaves the program as bin/vmemd
 # make test   the gate: every proof from nothing, the must-fail edits, the tests, the program's cases
-# make edits  tries all edits, those of more-edits/ too, of JOBS=1 crates at a time;
-#             make edits CRATE=NAME tries one crate's
+# make edits  tries all edits, those of more-edits/ too, of JOBS=1 crates at a time, several
+#             in a check; make edits CRATE=NAME tries one crate's
 # make cases  runs bin/vmemd on tests/cases
 # make clean  removes what was built
 
@@ -20,7 +20,7 @@ test:
 	rt ci; proved=$$?; tools/cases; ran=$$?; test $$proved = 0 && test $$ran = 0
 
 edits:
-	tools/edits --jobs $(JOBS) $(CRATE)
+	tools/edits --together --jobs $(JOBS) $(CRATE)
 
 cases: all
 	tools/cases bin/vmemd

@@ -306,6 +306,14 @@ fn refuses_lines(rt: HostRuntime) {
     desk.close();
 }
 
+/// Asks for one unit by request `n`, which is granted at this base.
+fn ask_one(rt: &(impl Abort + AllocGlobal), desk: &mut Desk, n: u32, base: u32) {
+    let line = format!(in rt.alloc(); "lease 1 1 {n} m 1").ok();
+    let reply = format!(in rt.alloc(); "granted 1 1 {n} m {base} 1\n").ok();
+    let (line, reply) = (line.expect(rt, "memory"), reply.expect(rt, "memory"));
+    ask(rt, desk, &[(line.as_str(), reply.as_str())]);
+}
+
 /// A client has at most 1,024 leases.
 #[test]
 fn too_many_leases(rt: HostRuntime) {
@@ -313,15 +321,7 @@ fn too_many_leases(rt: HostRuntime) {
     root(&rt, &mut desk, "m", 0, 2048, 1, Policy::Best);
     ask(&rt, &mut desk, &[("hello 1 1", "welcome 1 1\n")]);
     for base in 0..1024u32 {
-        let n = base + 1;
-        let line = format!(in rt.alloc(); "lease 1 1 {n} m 1");
-        let reply = format!(in rt.alloc(); "granted 1 1 {n} m {base} 1\n");
-        match (line, reply) {
-            (Ok(line), Ok(reply)) => {
-                ask(&rt, &mut desk, &[(line.as_str(), reply.as_str())]);
-            }
-            _ => panic!(rt; "no memory"),
-        }
+        ask_one(&rt, &mut desk, base + 1, base);
     }
     ask(
         &rt,
@@ -338,41 +338,49 @@ fn too_many_leases(rt: HostRuntime) {
     desk.close();
 }
 
+/// Base, length, quantum and the largest cached size of a root that is refused, and why.
+fn refuse_root(
+    rt: &impl Abort,
+    desk: &mut Desk,
+    text: &str,
+    numbers: (u64, u64, u64, u64),
+    fault: SetupFault,
+) {
+    let (base, len, quantum, cached) = numbers;
+    let added = desk.add_root(name(rt, text), base, len, quantum, Policy::Best, cached);
+    assert_eq!(rt; added, Err(fault));
+}
+
+fn refuse_span(
+    rt: &impl Abort,
+    desk: &mut Desk,
+    text: &str,
+    base: u64,
+    len: u64,
+    fault: SetupFault,
+) {
+    assert_eq!(rt; desk.add_span(&name(rt, text), base, len), Err(fault));
+}
+
 /// Each refusal of a setup, in its order.
 #[test]
 fn refuses_setups(rt: HostRuntime) {
     let mut desk = Desk::new(rt.alloc());
-    let a = name(&rt, "a");
-    let z = name(&rt, "z");
     root(&rt, &mut desk, "a", 0, 8, 4, Policy::Best);
-    assert_eq!(rt;
-        desk.add_root(a, 0, 0, 3, Policy::Best, 1),
-        Err(SetupFault::NameTaken)
-    );
-    assert_eq!(rt;
-        desk.add_root(z, 0, 0, 3, Policy::Best, 1),
-        Err(SetupFault::BadQuantum)
-    );
-    assert_eq!(rt;
-        desk.add_root(z, 0, 0, 4, Policy::Best, 1),
-        Err(SetupFault::NotYet)
-    );
-    assert_eq!(rt;
-        desk.add_root(z, 0, 0, 4, Policy::Best, 0),
-        Err(SetupFault::BadRange)
-    );
-    assert_eq!(rt;
-        desk.add_root(z, 0, 6, 4, Policy::Best, 0),
-        Err(SetupFault::BadRange)
-    );
-    assert_eq!(rt;
-        desk.add_root(z, 4611686018427387888, 17, 1, Policy::Best, 0),
-        Err(SetupFault::BadRange)
-    );
-    assert_eq!(rt; desk.add_span(&z, 0, 0), Err(SetupFault::NoArena));
-    assert_eq!(rt; desk.add_span(&a, 8, 0), Err(SetupFault::BadRange));
-    assert_eq!(rt; desk.add_span(&a, 4, 8), Err(SetupFault::BadRange));
-    assert_eq!(rt; desk.add_span(&a, 8, 8), Ok(()));
+    for (text, numbers, fault) in [
+        ("a", (0, 0, 3, 1), SetupFault::NameTaken),
+        ("z", (0, 0, 3, 1), SetupFault::BadQuantum),
+        ("z", (0, 0, 4, 1), SetupFault::NotYet),
+        ("z", (0, 0, 4, 0), SetupFault::BadRange),
+        ("z", (0, 6, 4, 0), SetupFault::BadRange),
+        ("z", (4611686018427387888, 17, 1, 0), SetupFault::BadRange),
+    ] {
+        refuse_root(&rt, &mut desk, text, numbers, fault);
+    }
+    refuse_span(&rt, &mut desk, "z", 0, 0, SetupFault::NoArena);
+    refuse_span(&rt, &mut desk, "a", 8, 0, SetupFault::BadRange);
+    refuse_span(&rt, &mut desk, "a", 4, 8, SetupFault::BadRange);
+    span(&rt, &mut desk, "a", 8, 8);
     desk.close();
 }
 

@@ -1,337 +1,347 @@
 //! Every form of line and reply, lines that are none, and streams cut at every byte.
 ghost use Rattle.std.specs.Prelude.{◌≡◌, ◌++◌, false};
 
-use lease_proto::{
-    ErrorWord, Granted, HelloLine, LeaseLine, LeaseOptions, Line, LineFault, LineReader, Op,
-    OperatorLine, PolicyWord, Refused, ReleaseLine, Reply, RootLine, ServedLine, SetupLine,
-};
+use lease_proto::{ErrorWord, Granted, HelloLine, LeaseLine, LeaseOptions, Line, LineFault, LineReader, Op, OperatorLine, PolicyWord, Refused, ReleaseLine, Reply, RootLine, ServedLine, SetupLine};
 use lease_terms::{ClientId, Name, Ordinal, Quantity, Refusal, RequestId};
 use std::alloc::{AllocError, Global};
 use std::process::Abort;
 use std::test::Fail;
 
-/// A line, and what is written of it.
-const LINES: [(&str, &str); 13] = [
-    ("hello 1 1", "hello 1 1"),
-    (
-        "hello 65536 4611686018427387904",
-        "hello 65536 4611686018427387904",
-    ),
-    ("lease 1 2 3 m 8", "lease 1 2 3 m 8"),
-    ("lease 1 2 3 m 8 align 16", "lease 1 2 3 m 8 align 16"),
-    ("lease 1 2 3 m 8 phase 4", "lease 1 2 3 m 8 phase 4"),
-    ("lease 1 2 3 m 8 nocross 64", "lease 1 2 3 m 8 nocross 64"),
-    ("lease 1 2 3 m 8 min 1", "lease 1 2 3 m 8 min 1"),
-    ("lease 1 2 3 m 8 max 0", "lease 1 2 3 m 8 max 0"),
-    (
-        "lease 1 2 3 m 8 align 16 phase 4 nocross 64 min 8 max 4096",
-        "lease 1 2 3 m 8 align 16 phase 4 nocross 64 min 8 max 4096",
-    ),
-    (
-        "lease 1 2 3 m 0 align 0 phase 0 nocross 0 min 0 max 4611686018427387904",
-        "lease 1 2 3 m 0",
-    ),
-    (
-        "lease 65536 4611686018427387904 4611686018427387904 abcdefghijklmno9 4611686018427387904 align 4611686018427387904 phase 4611686018427387904 nocross 4611686018427387904 min 4611686018427387904 max 4611686018427387903",
-        "lease 65536 4611686018427387904 4611686018427387904 abcdefghijklmno9 4611686018427387904 align 4611686018427387904 phase 4611686018427387904 nocross 4611686018427387904 min 4611686018427387904 max 4611686018427387903",
-    ),
-    ("release 1 2 3 m 0", "release 1 2 3 m 0"),
-    (
-        "release 7 1 1 a0 4611686018427387904",
-        "release 7 1 1 a0 4611686018427387904",
-    ),
-];
+/// Lines that are written as they are read.
+const LINES: &str = "hello 1 1\n\
+    hello 65536 4611686018427387904\n\
+    lease 1 2 3 m 8\n\
+    lease 1 2 3 m 8 align 16\n\
+    lease 1 2 3 m 8 phase 4\n\
+    lease 1 2 3 m 8 nocross 64\n\
+    lease 1 2 3 m 8 min 1\n\
+    lease 1 2 3 m 8 max 0\n\
+    lease 1 2 3 m 8 align 16 phase 4 nocross 64 min 8 max 4096\n\
+    lease 1 2 3 m 0\n\
+    lease 65536 4611686018427387904 4611686018427387904 abcdefghijklmno9 4611686018427387904 \
+    align 4611686018427387904 phase 4611686018427387904 nocross 4611686018427387904 \
+    min 4611686018427387904 max 4611686018427387903\n\
+    release 1 2 3 m 0\n\
+    release 7 1 1 a0 4611686018427387904";
 
-const REPLIES: [&str; 20] = [
-    "welcome 65536 1",
-    "granted 1 2 3 m 0 8",
-    "granted 65536 4611686018427387904 4611686018427387904 abcdefghijklmno9 4611686018427387904 4611686018427387904",
-    "released 1 2 3",
-    "refused 1 2 3 nofit",
-    "refused 1 2 3 badrequest",
-    "refused 1 2 3 noarena",
-    "refused 1 2 3 notyours",
-    "refused 1 2 3 leases",
-    "old 1 0",
-    "stale 1 2 3 4",
-    "gap 1 2 3 0",
-    "again 1 2 0",
-    "error toolong",
-    "error badline",
-    "error word",
-    "error number",
-    "error memory",
-    "error noarena",
-    "error size",
-];
+const REPLIES: &str = "welcome 65536 1\n\
+    granted 1 2 3 m 0 8\n\
+    granted 65536 4611686018427387904 4611686018427387904 abcdefghijklmno9 \
+    4611686018427387904 4611686018427387904\n\
+    released 1 2 3\n\
+    refused 1 2 3 nofit\n\
+    refused 1 2 3 badrequest\n\
+    refused 1 2 3 noarena\n\
+    refused 1 2 3 notyours\n\
+    refused 1 2 3 leases\n\
+    old 1 0\n\
+    stale 1 2 3 4\n\
+    gap 1 2 3 0\n\
+    again 1 2 0\n\
+    error toolong\n\
+    error badline\n\
+    error word\n\
+    error number\n\
+    error memory\n\
+    error noarena\n\
+    error size";
 
-/// What isn't a line, and why.
-const NO_LINES: [(&str, LineFault); 43] = [
-    ("", LineFault::BadLine),
-    (" ", LineFault::BadLine),
-    (" hello 1 1", LineFault::BadLine),
-    ("hello 1 1 ", LineFault::BadLine),
-    ("hello 1  1", LineFault::BadLine),
-    ("hello 1 1\r", LineFault::BadLine),
-    ("hello\t1 1", LineFault::BadLine),
-    ("Hello 1 1", LineFault::BadLine),
-    ("hello 1 -1", LineFault::BadLine),
-    ("lease 1 1 1 m_ 4", LineFault::BadLine),
-    ("hello 1 1\0", LineFault::BadLine),
-    ("frob", LineFault::Word),
-    ("hell 1 1", LineFault::Word),
-    ("helloo 1 1", LineFault::Word),
-    ("root m 0 64 1 best 0", LineFault::Word),
-    ("1 hello", LineFault::Word),
-    ("hello", LineFault::BadLine),
-    ("hello 1", LineFault::BadLine),
-    ("hello 1 1 1", LineFault::BadLine),
-    ("lease 1 1 1 m", LineFault::BadLine),
-    ("lease 1 1 1 9m 4", LineFault::BadLine),
-    ("lease 1 1 1 abcdefghijklmnopq 4", LineFault::BadLine),
-    ("lease 1 1 1 m 4 align", LineFault::BadLine),
-    ("lease 1 1 1 m 4 size 3", LineFault::BadLine),
-    ("lease 1 1 1 m 4 phase 1 align 2", LineFault::BadLine),
-    ("lease 1 1 1 m 4 align 2 align 2", LineFault::BadLine),
-    ("lease 1 1 1 m 4 max 9 max 9", LineFault::BadLine),
-    ("lease 0 1 1 9 4", LineFault::BadLine),
-    ("lease 1 1 x m 4 align", LineFault::BadLine),
-    ("release 1 1 1 m", LineFault::BadLine),
-    ("release 1 1 1 m 0 0", LineFault::BadLine),
-    ("hello 0 1", LineFault::Number),
-    ("hello 65537 1", LineFault::Number),
-    ("hello 4294967297 1", LineFault::Number),
-    ("hello 01 1", LineFault::Number),
-    ("hello x 1", LineFault::Number),
-    ("hello 1 0", LineFault::Number),
-    ("hello 1 4611686018427387905", LineFault::Number),
-    ("hello 1 18446744073709551616", LineFault::Number),
-    ("hello 1 18446744073709551617", LineFault::Number),
-    (
-        "hello 1 340282366920938463463374607431768211457",
-        LineFault::Number,
-    ),
-    ("lease 1 1 01 m 4", LineFault::Number),
-    ("lease 1 1 1 m 4 align 1x", LineFault::Number),
-];
+/// What isn't a line of a client, and of an operator neither, by its words or their count.
+const BAD_LINES: &str = "\n\
+    \x20\n\
+    \x20hello 1 1\n\
+    hello 1 1\x20\n\
+    hello 1  1\n\
+    hello 1 1\r\n\
+    hello\t1 1\n\
+    Hello 1 1\n\
+    hello 1 -1\n\
+    lease 1 1 1 m_ 4\n\
+    hello 1 1\0\n\
+    hello\n\
+    hello 1\n\
+    hello 1 1 1\n\
+    lease 1 1 1 m\n\
+    lease 1 1 1 9m 4\n\
+    lease 1 1 1 abcdefghijklmnopq 4\n\
+    lease 1 1 1 m 4 align\n\
+    lease 1 1 1 m 4 size 3\n\
+    lease 1 1 1 m 4 phase 1 align 2\n\
+    lease 1 1 1 m 4 align 2 align 2\n\
+    lease 1 1 1 m 4 max 9 max 9\n\
+    lease 0 1 1 9 4\n\
+    lease 1 1 x m 4 align\n\
+    release 1 1 1 m\n\
+    release 1 1 1 m 0 0";
 
-const NO_REPLIES: [(&str, LineFault); 12] = [
-    ("welcome 1", LineFault::BadLine),
-    ("welcomes 1 1", LineFault::Word),
-    ("hello 1 1", LineFault::Word),
-    ("refused 1 2 3 word", LineFault::BadLine),
-    ("refused 1 0 3 none", LineFault::BadLine),
-    ("error range", LineFault::BadLine),
-    ("error word word", LineFault::BadLine),
-    ("granted 1 2 m 3 0 8", LineFault::BadLine),
-    ("granted 1 2 3 m 0 08", LineFault::Number),
-    ("stale 1 2 0 4", LineFault::Number),
-    ("old 0 0", LineFault::Number),
-    ("again 1 0 0", LineFault::Number),
-];
+const UNKNOWN_WORDS: &str = "frob\n\
+    hell 1 1\n\
+    helloo 1 1\n\
+    root m 0 64 1 best 0\n\
+    1 hello";
 
-/// Reads a line and writes it.
-fn write_line(text: &str, out: &mut Vec<u8>) -> Result<(), Fail> {
-    match Line::read(text.as_bytes()) {
-        Ok(line) => Ok(line.write(out)?),
-        Err(fault) => Err(fault.into()),
-    }
+const BAD_NUMBERS: &str = "hello 0 1\n\
+    hello 65537 1\n\
+    hello 4294967297 1\n\
+    hello 01 1\n\
+    hello x 1\n\
+    hello 1 0\n\
+    hello 1 4611686018427387905\n\
+    hello 1 18446744073709551616\n\
+    hello 1 18446744073709551617\n\
+    hello 1 340282366920938463463374607431768211457\n\
+    lease 1 1 01 m 4\n\
+    lease 1 1 1 m 4 align 1x";
+
+/// What isn't a reply.
+const BAD_REPLIES: &str = "welcome 1\n\
+    refused 1 2 3 word\n\
+    refused 1 0 3 none\n\
+    error range\n\
+    error word word\n\
+    granted 1 2 m 3 0 8";
+
+const UNKNOWN_REPLIES: &str = "welcomes 1 1\n\
+    hello 1 1";
+
+const BAD_REPLY_NUMBERS: &str = "granted 1 2 3 m 0 08\n\
+    stale 1 2 0 4\n\
+    old 0 0\n\
+    again 1 0 0";
+
+/// What is no setup line.
+const BAD_SETUP_LINES: &str = "root 4u 0 64 1 best 0\n\
+    root m 0 64 1 first 0\n\
+    root m 0 64 1 best\n\
+    span m 4611686018427387904 1 1\n\
+    child c 4u 1 best 0 0";
+
+const BAD_SETUP_NUMBERS: &str = "root m 4u 64 1 best 0\n\
+    span m 4611686018427387905 1";
+
+/// Reads a line, writes it, and reads what is written.
+fn write_line(rt: &impl Abort, alloc: Global, text: &str, written: &str) {
+    let line = Line::read(text.as_bytes()).ok().expect(rt, text);
+    let mut out = Vec::new(alloc);
+    assert!(rt; line.write(&mut out).is_ok());
+    assert_eq!(rt; out.pop(), Some(b'\n'), "at {text}");
+    assert_eq!(rt; out.as_slice(), written.as_bytes(), "at {text}");
+    assert_eq!(rt; Line::read(out.as_slice()), Ok(line), "at {text}");
 }
 
-#[test]
-fn each_line_is_read_and_written(rt: HostRuntime) -> Result<(), Fail> {
-    let alloc = rt.alloc();
-    for (text, written) in LINES {
-        let mut out = Vec::new(alloc);
-        write_line(text, &mut out)?;
-        assert_eq!(rt; out.pop(), Some(b'\n'), "at {text}");
-        assert_eq!(rt; out.as_slice(), written.as_bytes(), "at {text}");
-        assert_eq!(rt;
-            Line::read(out.as_slice()),
-            Line::read(text.as_bytes()),
-            "at {text}"
-        );
-    }
-    Ok(())
+/// Reads a reply, writes it, and reads what is written.
+fn write_reply(rt: &impl Abort, alloc: Global, text: &str) {
+    let reply = Reply::read(text.as_bytes()).ok().expect(rt, text);
+    let mut out = Vec::new(alloc);
+    assert!(rt; reply.write(&mut out).is_ok());
+    assert_eq!(rt; out.pop(), Some(b'\n'), "at {text}");
+    assert_eq!(rt; out.as_slice(), text.as_bytes(), "at {text}");
+    assert_eq!(rt; Reply::read(out.as_slice()), Ok(reply), "at {text}");
 }
 
-#[test]
-fn each_reply_is_read_and_written(rt: HostRuntime) -> Result<(), Fail> {
-    let alloc = rt.alloc();
-    for text in REPLIES {
-        let reply = Reply::read(text.as_bytes())?;
-        let mut out = Vec::new(alloc);
-        reply.write(&mut out)?;
-        assert_eq!(rt; out.pop(), Some(b'\n'), "at {text}");
-        assert_eq!(rt; out.as_slice(), text.as_bytes());
-        assert_eq!(rt; Reply::read(out.as_slice())?, reply, "at {text}");
-    }
-    Ok(())
-}
-
-#[test]
-fn each_fault_is_named(rt: HostRuntime) {
-    for (text, fault) in NO_LINES {
+/// None of these is a line of a client, nor one that a server is sent.
+fn refuse_lines(rt: &impl Abort, texts: &str, fault: LineFault) {
+    for text in texts.split('\n') {
         assert_eq!(rt; Line::read(text.as_bytes()), Err(fault), "at {text}");
+        assert_eq!(rt; ServedLine::read(text.as_bytes()), Err(fault), "at {text}");
     }
-    for (text, fault) in NO_REPLIES {
+}
+
+fn refuse_replies(rt: &impl Abort, texts: &str, fault: LineFault) {
+    for text in texts.split('\n') {
         assert_eq!(rt; Reply::read(text.as_bytes()), Err(fault), "at {text}");
     }
+}
+
+fn refuse_setup_lines(rt: &impl Abort, texts: &str, fault: LineFault) {
+    for text in texts.split('\n') {
+        assert_eq!(rt; SetupLine::read(text.as_bytes()), Err(fault), "at {text}");
+    }
+}
+
+#[test]
+fn each_line_is_read_and_written(rt: HostRuntime) {
+    for text in LINES.split('\n') {
+        write_line(&rt, rt.alloc(), text, text);
+    }
+    write_line(
+        &rt,
+        rt.alloc(),
+        "lease 1 2 3 m 0 align 0 phase 0 nocross 0 min 0 max 4611686018427387904",
+        "lease 1 2 3 m 0",
+    );
+}
+
+#[test]
+fn each_reply_is_read_and_written(rt: HostRuntime) {
+    for text in REPLIES.split('\n') {
+        write_reply(&rt, rt.alloc(), text);
+    }
+}
+
+#[test]
+fn each_fault_of_a_line_is_named(rt: HostRuntime) {
+    refuse_lines(&rt, BAD_LINES, LineFault::BadLine);
+    refuse_lines(&rt, UNKNOWN_WORDS, LineFault::Word);
+    refuse_lines(&rt, BAD_NUMBERS, LineFault::Number);
     let letters = [b'a'; 256];
     assert_eq!(rt; Line::read(&letters[..255]), Err(LineFault::Word));
     assert_eq!(rt; Line::read(&letters), Err(LineFault::TooLong));
-    assert_eq!(rt; Reply::read(&letters), Err(LineFault::TooLong));
-}
-
-fn ordinal(value: u64) -> Result<Ordinal, Fail> {
-    Ok(Ordinal::new(value).ok_or("no ordinal")?)
-}
-
-fn quantity(value: u64) -> Result<Quantity, Fail> {
-    Ok(Quantity::new(value).ok_or("no quantity")?)
-}
-
-fn name(text: &[u8]) -> Result<Name, Fail> {
-    Ok(Name::new(text).ok_or("no name")?)
-}
-
-/// The third request of client 7's second incarnation.
-fn third_request() -> Result<RequestId, Fail> {
-    Ok(RequestId {
-        client: ClientId::new(7).ok_or("no client")?,
-        incarnation: ordinal(2)?,
-        number: ordinal(3)?,
-    })
 }
 
 #[test]
-fn the_words_go_to_their_fields(rt: HostRuntime) -> Result<(), Fail> {
-    let id = third_request()?;
-    let arena = name(b"arena2")?;
+fn each_fault_of_a_reply_is_named(rt: HostRuntime) {
+    refuse_replies(&rt, BAD_REPLIES, LineFault::BadLine);
+    refuse_replies(&rt, UNKNOWN_REPLIES, LineFault::Word);
+    refuse_replies(&rt, BAD_REPLY_NUMBERS, LineFault::Number);
+    assert_eq!(rt; Reply::read(&[b'a'; 256]), Err(LineFault::TooLong));
+}
+
+fn ordinal(rt: &impl Abort, value: u64) -> Ordinal {
+    Ordinal::new(value).expect(rt, "an ordinal")
+}
+
+fn quantity(rt: &impl Abort, value: u64) -> Quantity {
+    Quantity::new(value).expect(rt, "a quantity")
+}
+
+fn name(rt: &impl Abort, text: &[u8]) -> Name {
+    Name::new(text).expect(rt, "a name")
+}
+
+/// The third request of client 7's second incarnation.
+fn third_request(rt: &impl Abort) -> RequestId {
+    RequestId {
+        client: ClientId::new(7).expect(rt, "a client"),
+        incarnation: ordinal(rt, 2),
+        number: ordinal(rt, 3),
+    }
+}
+
+fn reads(rt: &impl Abort, text: &[u8], line: Line) {
+    assert_eq!(rt; Line::read(text), Ok(line));
+}
+
+fn reads_reply(rt: &impl Abort, text: &[u8], reply: Reply) {
+    assert_eq!(rt; Reply::read(text), Ok(reply));
+}
+
+#[test]
+fn the_words_go_to_their_fields(rt: HostRuntime) {
+    let id = third_request(&rt);
+    let arena = name(&rt, b"arena2");
+    assert_eq!(rt; arena.as_slice(), b"arena2".as_slice());
+    let options = LeaseOptions {
+        align: quantity(&rt, 16),
+        phase: quantity(&rt, 4),
+        nocross: quantity(&rt, 64),
+        min: quantity(&rt, 10),
+        max: quantity(&rt, 99),
+    };
+    let size = quantity(&rt, 8);
+    let lease = LeaseLine {
+        arena,
+        size,
+        options,
+    };
+    let text = b"lease 7 2 3 arena2 8 align 16 phase 4 nocross 64 min 10 max 99";
+    reads(&rt, text, Line::Request(id, Op::Lease(lease)));
+    let options = LeaseOptions::none();
+    let plain = LeaseLine {
+        arena,
+        size,
+        options,
+    };
+    reads(
+        &rt,
+        b"lease 7 2 3 arena2 8",
+        Line::Request(id, Op::Lease(plain)),
+    );
+}
+
+#[test]
+fn the_words_of_a_hello_go_to_their_fields(rt: HostRuntime) {
+    let id = third_request(&rt);
     let hello = HelloLine {
         client: id.client,
         incarnation: id.incarnation,
     };
-    assert_eq!(rt; Line::read(b"hello 7 2")?, Line::Hello(hello));
-    let lease = LeaseLine {
-        arena,
-        size: quantity(8)?,
-        options: LeaseOptions {
-            align: quantity(16)?,
-            phase: quantity(4)?,
-            nocross: quantity(64)?,
-            min: quantity(10)?,
-            max: quantity(99)?,
-        },
-    };
-    let text = b"lease 7 2 3 arena2 8 align 16 phase 4 nocross 64 min 10 max 99";
-    assert_eq!(rt; Line::read(text)?, Line::Request(id, Op::Lease(lease)));
-    let plain = LeaseLine {
-        options: LeaseOptions::none(),
-        ..lease
-    };
-    let read = Line::read(b"lease 7 2 3 arena2 8")?;
-    assert_eq!(rt; read, Line::Request(id, Op::Lease(plain)));
-    assert_eq!(rt; arena.as_slice(), b"arena2".as_slice());
-    Ok(())
+    reads(&rt, b"hello 7 2", Line::Hello(hello));
 }
 
 #[test]
-fn the_words_of_a_release_go_to_their_fields(rt: HostRuntime) -> Result<(), Fail> {
+fn the_words_of_a_release_go_to_their_fields(rt: HostRuntime) {
     let release = ReleaseLine {
-        arena: name(b"arena2")?,
-        base: quantity(24)?,
+        arena: name(&rt, b"arena2"),
+        base: quantity(&rt, 24),
     };
-    assert_eq!(rt;
-        Line::read(b"release 7 2 3 arena2 24")?,
-        Line::Request(third_request()?, Op::Release(release))
-    );
-    Ok(())
+    let line = Line::Request(third_request(&rt), Op::Release(release));
+    reads(&rt, b"release 7 2 3 arena2 24", line);
 }
 
 #[test]
-fn the_words_of_a_reply_go_to_their_fields(rt: HostRuntime) -> Result<(), Fail> {
-    let id = third_request()?;
+fn the_words_of_a_reply_go_to_their_fields(rt: HostRuntime) {
+    let id = third_request(&rt);
     let granted = Granted {
         id,
-        arena: name(b"arena2")?,
-        base: quantity(24)?,
-        len: quantity(8)?,
+        arena: name(&rt, b"arena2"),
+        base: quantity(&rt, 24),
+        len: quantity(&rt, 8),
     };
-    assert_eq!(rt;
-        Reply::read(b"granted 7 2 3 arena2 24 8")?,
-        Reply::Granted(granted)
-    );
-    let refused = Refused {
-        id,
-        refusal: Refusal::NotYours,
-    };
-    assert_eq!(rt;
-        Reply::read(b"refused 7 2 3 notyours")?,
-        Reply::Refused(refused)
-    );
-    assert_eq!(rt; Reply::read(b"released 7 2 3")?, Reply::Released(id));
-    assert_eq!(rt;
-        Reply::read(b"error memory")?,
-        Reply::Error(ErrorWord::Memory)
-    );
-    Ok(())
+    let refusal = Refusal::NotYours;
+    let refused = Refused { id, refusal };
+    reads_reply(&rt, b"granted 7 2 3 arena2 24 8", Reply::Granted(granted));
+    reads_reply(&rt, b"refused 7 2 3 notyours", Reply::Refused(refused));
+    reads_reply(&rt, b"released 7 2 3", Reply::Released(id));
+    reads_reply(&rt, b"error memory", Reply::Error(ErrorWord::Memory));
 }
 
 #[test]
-fn the_words_of_a_setup_line_go_to_their_fields(rt: HostRuntime) -> Result<(), Fail> {
+fn the_words_of_a_root_go_to_their_fields(rt: HostRuntime) {
     let root = RootLine {
-        name: name(b"main")?,
-        base: quantity(0)?,
-        len: quantity(64)?,
-        quantum: quantity(1)?,
+        name: name(&rt, b"main"),
+        base: quantity(&rt, 0),
+        len: quantity(&rt, 64),
+        quantum: quantity(&rt, 1),
         policy: PolicyWord::Next,
-        qcache_max: quantity(5)?,
+        qcache_max: quantity(&rt, 5),
     };
-    assert_eq!(rt;
-        SetupLine::read(b"root main 0 64 1 next 5")?,
-        SetupLine::Root(root)
-    );
-    Ok(())
+    let read = SetupLine::read(b"root main 0 64 1 next 5");
+    assert_eq!(rt; read, Ok(SetupLine::Root(root)));
 }
 
-/// What is no setup line, and why.
-const NO_SETUP_LINES: [(&str, LineFault); 8] = [
-    ("hello 1 1", LineFault::Word),
-    ("root 4u 0 64 1 best 0", LineFault::BadLine),
-    ("root m 0 64 1 first 0", LineFault::BadLine),
-    ("root m 0 64 1 best", LineFault::BadLine),
-    ("root m 4u 64 1 best 0", LineFault::Number),
-    ("span m 4611686018427387905 1", LineFault::Number),
-    ("span m 4611686018427387904 1 1", LineFault::BadLine),
-    ("child c 4u 1 best 0 0", LineFault::BadLine),
-];
-
 #[test]
-fn the_words_of_other_lines(rt: HostRuntime) {
-    for (text, fault) in NO_SETUP_LINES {
-        assert_eq!(rt; SetupLine::read(text.as_bytes()), Err(fault), "at {text}");
-    }
+fn the_words_of_a_span_go_to_their_fields(rt: HostRuntime) {
     match SetupLine::read(b"span m 4611686018427387904 1") {
         Ok(SetupLine::Span(span)) => {
             assert_eq!(rt; (span.base.get(), span.len.get()), (1 << 62, 1));
         }
         _ => panic!(rt; "a line of a span"),
     }
-    assert_eq!(rt;
-        ServedLine::read(b"audit"),
-        Ok(ServedLine::Operator(OperatorLine::Audit))
+}
+
+#[test]
+fn each_fault_of_a_setup_line_is_named(rt: HostRuntime) {
+    refuse_setup_lines(&rt, "hello 1 1", LineFault::Word);
+    refuse_setup_lines(&rt, BAD_SETUP_LINES, LineFault::BadLine);
+    refuse_setup_lines(&rt, BAD_SETUP_NUMBERS, LineFault::Number);
+}
+
+fn serves(rt: &impl Abort, text: &[u8], line: Result<ServedLine, LineFault>) {
+    assert_eq!(rt; ServedLine::read(text), line);
+}
+
+#[test]
+fn the_lines_of_an_operator_are_one_word(rt: HostRuntime) {
+    serves(&rt, b"audit", Ok(ServedLine::Operator(OperatorLine::Audit)));
+    serves(
+        &rt,
+        b"clients",
+        Ok(ServedLine::Operator(OperatorLine::Clients)),
     );
-    assert_eq!(rt;
-        ServedLine::read(b"clients"),
-        Ok(ServedLine::Operator(OperatorLine::Clients))
-    );
-    assert_eq!(rt; ServedLine::read(b"audit m"), Err(LineFault::BadLine));
-    assert_eq!(rt; ServedLine::read(b"Audit"), Err(LineFault::BadLine));
-    assert_eq!(rt; ServedLine::read(b"audits"), Err(LineFault::Word));
-    for (text, fault) in NO_LINES {
-        assert_eq!(rt; ServedLine::read(text.as_bytes()), Err(fault), "at {text}");
-    }
+    serves(&rt, b"audit m", Err(LineFault::BadLine));
+    serves(&rt, b"Audit", Err(LineFault::BadLine));
+    serves(&rt, b"audits", Err(LineFault::Word));
 }
 
 /// Takes a piece, and writes of each frame that ends in it the line that is read, or the error line.

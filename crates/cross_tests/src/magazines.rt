@@ -1,15 +1,43 @@
 //! Worked runs of giving and taking over a CPU's cache and its depot, most of them with magazines
-//! of three rounds.
-ghost use Rattle.std.specs.Prelude.{◌≡◌, ◌≤◌};
-ghost use Rattle.magazine_layer.specs.Magazines.{IsSize, BothEmpty};
+//! of three rounds. A round is told by its base.
+ghost use Rattle.std.specs.Prelude.{◌≡◌, []};
+ghost use Rattle.magazine_layer.specs.Magazines.{IsSize};
 
 use deed_core::{PlainDeed, Range, Route, Segment};
 use magazine_layer::{
     CpuCache, Depot, FullFault, Magazine, NotGreater, RoundAnswer, RoundOp, RoundRun,
     is_magazine_size, run_rounds, two_empty,
 };
-use std::alloc::Global;
+use std::alloc::{AllocGlobal, Global};
 use std::process::Abort;
+
+/// What is done with a CPU's cache and its depot, and what must come of it.
+#[derive(Clone, Copy)]
+enum Step {
+    /// One run: the rounds from the first base of `given` to below the second are kept, and those
+    /// below the first base of `taken` come, down to the second.
+    Run {
+        given: (u64, u64),
+        taken: (u64, u64),
+        exchanges: usize,
+    },
+    /// A run of one taking, which finds no round and exchanges nothing.
+    NoRound,
+    /// The units of the cache's rounds, and of the depot's.
+    Units(u128, u128),
+    /// The size of the cache's magazines.
+    Size(usize),
+    /// The depot's interval ends.
+    Tick,
+    /// What the depot answers to a new size.
+    Resize(usize, Result<(), NotGreater>),
+    /// The depot gives these rounds up, and then no more.
+    Reaps(&'static [u64]),
+    /// The cache alone gives the rounds below the first base, down to the second.
+    Takes(u64, u64),
+}
+
+const NOTHING: (u64, u64) = (0, 0);
 
 // The round of one unit at `base`.
 fn round(rt: &impl Abort, base: u64) -> Segment<PlainDeed> {
@@ -22,72 +50,185 @@ fn base(round: Segment<PlainDeed>) -> u64 {
     round.into_deed().close().base()
 }
 
-// Gives the rounds from `low` to below `high`, and then takes `takes` times.
+// Gives the rounds of the bases from the first to below the second, and then takes as many as
+// those lie between the other two.
 fn ops(
-    rt: &impl Abort,
-    alloc: Global,
-    low: u64,
-    high: u64,
-    takes: usize,
+    rt: &(impl Abort + AllocGlobal),
+    given: (u64, u64),
+    taken: (u64, u64),
 ) -> Vec<RoundOp<PlainDeed>> {
-    let mut ops = Vec::new(alloc);
-    for base in low..high {
-        match ops.push(RoundOp::Give(round(rt, base))) {
-            Ok(()) => {}
-            Err(_) => panic!(rt; "memory"),
-        }
+    let mut ops = Vec::new(rt.alloc());
+    for base in given.0..given.1 {
+        push(rt, &mut ops, RoundOp::Give(round(rt, base)));
     }
-    for _ in 0..takes {
-        match ops.push(RoundOp::Take) {
-            Ok(()) => {}
-            Err(_) => panic!(rt; "memory"),
-        }
+    for _ in taken.1..taken.0 {
+        push(rt, &mut ops, RoundOp::Take);
     }
     ops
 }
 
-// Runs operations that keep each round given: the bases of those taken, and the exchanges.
-fn run(
-    rt: &impl Abort,
-    alloc: Global,
+fn push(rt: &impl Abort, ops: &mut Vec<RoundOp<PlainDeed>>, op: RoundOp<PlainDeed>) {
+    match ops.push(op) {
+        Ok(()) => {}
+        Err(_) => panic!(rt; "memory"),
+    }
+}
+
+// The answers to a run of these operations, and its exchanges.
+fn answers_of(
+    rt: &(impl Abort + AllocGlobal),
     cpu: &mut CpuCache<PlainDeed>,
     depot: &mut Depot<PlainDeed>,
     ops: Vec<RoundOp<PlainDeed>>,
-) -> (Vec<u64>, usize)
-    requires { cpu.old.size ≤ depot.old.size }
-    ensures sizes { cpu.new.size ≤ depot.new.size }
-    ensures size { depot.new.size ≡ depot.old.size }
-{
-    let count = ops.len();
-    let RoundRun { answers, exchanges } = match run_rounds(alloc, cpu, depot, ops) {
+) -> RoundRun<PlainDeed> {
+    if cpu.size() > depot.size() {
+        panic!(rt; "the depot is of an older size")
+    }
+    match run_rounds(rt.alloc(), cpu, depot, ops) {
         Ok(run) => run,
         Err(_) => panic!(rt; "memory"),
-    };
+    }
+}
+
+// Each round given is kept, and these are taken. It tells the exchanges.
+fn run_ops(
+    rt: &(impl Abort + AllocGlobal),
+    cpu: &mut CpuCache<PlainDeed>,
+    depot: &mut Depot<PlainDeed>,
+    given: (u64, u64),
+    taken: (u64, u64),
+) -> usize {
+    let RoundRun { answers, exchanges } = answers_of(rt, cpu, depot, ops(rt, given, taken));
+    keep_and_take(rt, answers, given, taken);
+    exchanges
+}
+
+// Each round given is kept, and these are taken.
+fn keep_and_take(
+    rt: &impl Abort,
+    answers: Vec<RoundAnswer<PlainDeed>>,
+    given: (u64, u64),
+    taken: (u64, u64),
+) {
     let mut answers = answers.into_iter();
-    let mut taken = Vec::new(alloc);
-    for _ in 0..count {
+    for _ in given.0..given.1 {
         match answers.next() {
             Some(RoundAnswer::Kept) => {}
-            Some(RoundAnswer::Taken(round)) => match taken.push(base(round)) {
-                Ok(()) => {}
-                Err(_) => panic!(rt; "memory"),
-            },
-            _ => panic!(rt; "refused or nothing"),
+            _ => panic!(rt; "a round is kept"),
+        }
+    }
+    for wanted in (taken.1..taken.0).rev() {
+        match answers.next() {
+            Some(RoundAnswer::Taken(round)) => assert_eq!(rt; base(round), wanted),
+            _ => panic!(rt; "a round is taken"),
         }
     }
     if answers.len() != 0 {
         panic!(rt; "more answers than operations")
     }
     answers.destroy_empty();
-    (taken, exchanges)
 }
 
-// Ends a cache and a depot that have no round.
-fn close(rt: &impl Abort, cpu: CpuCache<PlainDeed>, depot: Depot<PlainDeed>) {
+// A taking finds no round.
+fn find_none(
+    rt: &(impl Abort + AllocGlobal),
+    cpu: &mut CpuCache<PlainDeed>,
+    depot: &mut Depot<PlainDeed>,
+) {
+    let RoundRun { answers, exchanges } = answers_of(rt, cpu, depot, ops(rt, NOTHING, (1, 0)));
+    assert_eq!(rt; exchanges, 0);
+    match single(rt, answers) {
+        RoundAnswer::Nothing => {}
+        _ => panic!(rt; "a round from nowhere"),
+    }
+}
+
+// The depot gives these rounds up, and then none.
+fn reap_all(rt: &impl Abort, depot: &mut Depot<PlainDeed>, bases: &[u64]) {
+    for wanted in bases {
+        assert_eq!(rt; depot.reap().map(base), Some(*wanted));
+    }
+    match depot.reap() {
+        None => {}
+        Some(_round) => panic!(rt; "no more is reaped"),
+    }
+}
+
+// The cache gives these rounds.
+fn take_all(rt: &impl Abort, cpu: &mut CpuCache<PlainDeed>, above: u64, last: u64) {
+    for wanted in (last..above).rev() {
+        assert_eq!(rt; cpu.take().map(base), Some(wanted));
+    }
+}
+
+fn take_step(
+    rt: &(impl Abort + AllocGlobal),
+    cpu: &mut CpuCache<PlainDeed>,
+    depot: &mut Depot<PlainDeed>,
+    step: Step,
+) {
+    match step {
+        Step::Run {
+            given,
+            taken,
+            exchanges,
+        } => {
+            let made = run_ops(rt, cpu, depot, given, taken);
+            assert_eq!(rt; made, exchanges);
+        }
+        Step::NoRound => find_none(rt, cpu, depot),
+        Step::Units(cached, shared) => {
+            assert_eq!(rt; (cpu.units(), depot.units()), (cached, shared));
+        }
+        Step::Size(size) => assert_eq!(rt; cpu.size(), size),
+        Step::Tick => depot.tick(),
+        Step::Resize(size, answer) => {
+            assert!(rt; is_magazine_size(size));
+            assert_eq!(rt; depot.resize(size), answer);
+        }
+        Step::Reaps(bases) => reap_all(rt, depot, bases),
+        Step::Takes(above, last) => take_all(rt, cpu, above, last),
+    }
+}
+
+fn run(
+    rt: &(impl Abort + AllocGlobal),
+    cpu: &mut CpuCache<PlainDeed>,
+    depot: &mut Depot<PlainDeed>,
+    steps: &[Step],
+) {
+    for &step in steps {
+        take_step(rt, cpu, depot, step);
+    }
+}
+
+fn cache_of(rt: &(impl Abort + AllocGlobal), size: usize) -> CpuCache<PlainDeed>
+    requires { IsSize size }
+    ensures { result ≡ record { size = size; loaded = []; previous = [] } }
+{
+    CpuCache::new(rt.alloc(), size).ok().expect(rt, "memory")
+}
+
+// Takes the steps with a new cache and a new depot of these sizes, which have no round at the end.
+fn run_anew(rt: &(impl Abort + AllocGlobal), cached: usize, shared: usize, steps: &[Step]) {
+    assert!(rt; is_magazine_size(cached) && is_magazine_size(shared));
+    let mut cpu = cache_of(rt, cached);
+    let mut depot = Depot::new(rt.alloc(), shared);
+    run(rt, &mut cpu, &mut depot, steps);
+    close(rt, cpu);
+    close_depot(rt, depot);
+}
+
+// Ends a cache that has no round.
+fn close(rt: &impl Abort, cpu: CpuCache<PlainDeed>) {
     match cpu.close() {
         Ok(()) => {}
         Err(_) => panic!(rt; "the cache has rounds"),
     }
+}
+
+// Ends a depot that has no round.
+fn close_depot(rt: &impl Abort, depot: Depot<PlainDeed>) {
     match depot.close() {
         Ok(()) => {}
         Err(_) => panic!(rt; "the depot has rounds"),
@@ -96,210 +237,171 @@ fn close(rt: &impl Abort, cpu: CpuCache<PlainDeed>, depot: Depot<PlainDeed>) {
 
 #[test]
 fn rounds(rt: HostRuntime) {
-    let alloc = rt.alloc();
-    let mut cpu = CpuCache::new(alloc, 3).ok().expect(&rt, "memory");
-    let mut depot = Depot::new(alloc, 3);
-    let steps = ops(&rt, alloc, 0, 7, 7);
-    let (taken, exchanges) = run(&rt, alloc, &mut cpu, &mut depot, steps);
-    assert_eq!(rt; taken.as_slice(), [6, 5, 4, 3, 2, 1, 0].as_slice());
-    assert_eq!(rt; exchanges, 2);
-    close(&rt, cpu, depot);
+    let steps = [Step::Run {
+        given: (0, 7),
+        taken: (7, 0),
+        exchanges: 2,
+    }];
+    run_anew(&rt, 3, 3, &steps);
 }
 
 // Magazines of each size: two of them and one round more are given, and taken again.
 #[test]
 fn sizes(rt: HostRuntime) {
-    let alloc = rt.alloc();
-    for size in [3, 7, 15, 31] {
-        assert!(rt; is_magazine_size(size));
-        fills_and_empties(&rt, alloc, size);
+    for (size, units, most) in [(3, 3, 7), (7, 7, 15), (15, 15, 31), (31, 31, 63)] {
+        let steps = [
+            Step::Run {
+                given: (0, most),
+                taken: NOTHING,
+                exchanges: 1,
+            },
+            Step::Units(units + 1, units),
+            Step::Run {
+                given: NOTHING,
+                taken: (most, 0),
+                exchanges: 1,
+            },
+        ];
+        run_anew(&rt, size, size, &steps);
     }
     for size in [0, 1, 2, 4, 6, 8, 14, 16, 30, 32, 63] {
         assert!(rt; !is_magazine_size(size));
     }
 }
 
-fn fills_and_empties(rt: &impl Abort, alloc: Global, size: usize)
-    requires { IsSize size }
-{
-    let mut cpu = CpuCache::new(alloc, size).ok().expect(rt, "memory");
-    let mut depot = Depot::new(alloc, size);
-    let most = 2 * size + 1;
-    let given = ops(rt, alloc, 0, most as u64, 0);
-    let (_, exchanges) = run(rt, alloc, &mut cpu, &mut depot, given);
-    assert_eq!(rt; exchanges, 1);
-    assert_eq!(rt; depot.units(), size as u128);
-    assert_eq!(rt; cpu.units(), size as u128 + 1);
-    let last = ops(rt, alloc, 0, 0, most);
-    let (taken, exchanges) = run(rt, alloc, &mut cpu, &mut depot, last);
-    assert_eq!(rt; taken.len(), most);
-    for (at, base) in taken.iter().enumerate() {
-        assert_eq!(rt; *base, (most as u64).saturating_sub(at as u64 + 1));
-    }
-    assert_eq!(rt; exchanges, 1);
-    assert!(rt; cpu.is_empty());
-    close(rt, cpu, depot);
-}
-
 // A second run meets an empty magazine in the depot, where the first had to make one.
 #[test]
 fn empty_magazines_come_back(rt: HostRuntime) {
-    let alloc = rt.alloc();
-    let mut cpu = CpuCache::new(alloc, 3).ok().expect(&rt, "memory");
-    let mut depot = Depot::new(alloc, 3);
-    let first = ops(&rt, alloc, 0, 7, 7);
-    let _ = run(&rt, alloc, &mut cpu, &mut depot, first);
-    let second = ops(&rt, alloc, 10, 17, 0);
-    let (_, exchanges) = run(&rt, alloc, &mut cpu, &mut depot, second);
-    assert_eq!(rt; exchanges, 1);
-    assert_eq!(rt; cpu.units(), 4);
-    assert_eq!(rt; depot.units(), 3);
-    let last = ops(&rt, alloc, 0, 0, 7);
-    let (taken, _) = run(&rt, alloc, &mut cpu, &mut depot, last);
-    assert_eq!(rt; taken.as_slice(), [16, 15, 14, 13, 12, 11, 10].as_slice());
-    close(&rt, cpu, depot);
+    let steps = [
+        Step::Run {
+            given: (0, 7),
+            taken: (7, 0),
+            exchanges: 2,
+        },
+        Step::Run {
+            given: (10, 17),
+            taken: NOTHING,
+            exchanges: 1,
+        },
+        Step::Units(4, 3),
+        Step::Run {
+            given: NOTHING,
+            taken: (17, 10),
+            exchanges: 1,
+        },
+    ];
+    run_anew(&rt, 3, 3, &steps);
 }
 
 // A CPU whose magazines are of an old size changes over, with no exchange, as it needs room.
 #[test]
 fn a_full_cache_changes_over(rt: HostRuntime) {
-    let alloc = rt.alloc();
-    let mut cpu = CpuCache::new(alloc, 3).ok().expect(&rt, "memory");
-    let mut depot = Depot::new(alloc, 7);
-    let six = ops(&rt, alloc, 0, 6, 0);
-    let _ = run(&rt, alloc, &mut cpu, &mut depot, six);
-    assert_eq!(rt; cpu.size(), 3);
-    let seventh = ops(&rt, alloc, 6, 7, 0);
-    let (_, exchanges) = run(&rt, alloc, &mut cpu, &mut depot, seventh);
-    assert_eq!(rt; (cpu.size(), exchanges), (7, 0));
-    let others = ops(&rt, alloc, 7, 15, 0);
-    let (_, exchanges) = run(&rt, alloc, &mut cpu, &mut depot, others);
-    assert_eq!(rt; (exchanges, cpu.units(), depot.units()), (1, 8, 7));
-    let last = ops(&rt, alloc, 0, 0, 15);
-    let (taken, exchanges) = run(&rt, alloc, &mut cpu, &mut depot, last);
-    let wanted = [14, 13, 12, 11, 10, 9, 8, 7, 6, 5, 4, 3, 2, 1, 0];
-    assert_eq!(rt; taken.as_slice(), wanted.as_slice());
-    assert_eq!(rt; exchanges, 1);
-    close(&rt, cpu, depot);
+    let steps = [
+        Step::Run {
+            given: (0, 6),
+            taken: NOTHING,
+            exchanges: 0,
+        },
+        Step::Size(3),
+        Step::Run {
+            given: (6, 7),
+            taken: NOTHING,
+            exchanges: 0,
+        },
+        Step::Size(7),
+        Step::Run {
+            given: (7, 15),
+            taken: NOTHING,
+            exchanges: 1,
+        },
+        Step::Units(8, 7),
+        Step::Run {
+            given: NOTHING,
+            taken: (15, 0),
+            exchanges: 1,
+        },
+    ];
+    run_anew(&rt, 3, 7, &steps);
 }
 
 // So does one that has no round to give: it gets none, and is of the depot's size from then on.
 #[test]
 fn an_empty_cache_changes_over(rt: HostRuntime) {
-    let alloc = rt.alloc();
-    let mut cpu = CpuCache::new(alloc, 3).ok().expect(&rt, "memory");
-    let mut depot = Depot::new(alloc, 15);
-    let one = ops(&rt, alloc, 0, 0, 1);
-    let RoundRun { answers, exchanges } = match run_rounds(alloc, &mut cpu, &mut depot, one) {
-        Ok(run) => run,
-        Err(_) => panic!(rt; "memory"),
-    };
-    let mut answers = answers.into_iter();
-    match answers.next() {
-        Some(RoundAnswer::Nothing) => {}
-        _ => panic!(rt; "a round from nowhere"),
-    }
-    if answers.len() != 0 {
-        panic!(rt; "more answers than operations")
-    }
-    answers.destroy_empty();
-    assert_eq!(rt; (cpu.size(), exchanges), (15, 0));
-    close(&rt, cpu, depot);
+    run_anew(&rt, 3, 15, &[Step::NoRound, Step::Size(15)]);
 }
 
 #[test]
 fn working_set(rt: HostRuntime) {
-    let alloc = rt.alloc();
-    let mut cpu = CpuCache::new(alloc, 3).ok().expect(&rt, "memory");
-    let mut depot = Depot::new(alloc, 3);
-    let given = ops(&rt, alloc, 0, 13, 0);
-    let (_, exchanges) = run(&rt, alloc, &mut cpu, &mut depot, given);
-    assert_eq!(rt; exchanges, 3);
-    reaps(&rt, &mut depot, None);
-    depot.tick();
-    let five = ops(&rt, alloc, 0, 0, 5);
-    let (taken, exchanges) = run(&rt, alloc, &mut cpu, &mut depot, five);
-    assert_eq!(rt; taken.as_slice(), [12, 11, 10, 9, 8].as_slice());
-    assert_eq!(rt; exchanges, 1);
-    for base in [2, 1, 0, 5, 4, 3] {
-        reaps(&rt, &mut depot, Some(base));
-    }
-    reaps(&rt, &mut depot, None);
-    assert_eq!(rt; cpu.take().map(base), Some(7));
-    assert_eq!(rt; cpu.take().map(base), Some(6));
-    assert_eq!(rt; depot.resize(3), Err(NotGreater));
-    assert_eq!(rt; depot.resize(7), Ok(()));
-    let fresh = CpuCache::new(alloc, 3).ok().expect(&rt, "memory");
-    let fresh = changes_over(&rt, alloc, fresh, &mut depot);
-    close(&rt, fresh, depot);
-    match cpu.close() {
-        Ok(()) => {}
-        Err(_) => panic!(rt; "the cache has rounds"),
-    }
+    let steps = [
+        Step::Run {
+            given: (0, 13),
+            taken: NOTHING,
+            exchanges: 3,
+        },
+        Step::Reaps(&[]),
+        Step::Tick,
+        Step::Run {
+            given: NOTHING,
+            taken: (13, 8),
+            exchanges: 1,
+        },
+        Step::Reaps(&[2, 1, 0, 5, 4, 3]),
+        Step::Takes(8, 6),
+        Step::Resize(3, Err(NotGreater)),
+        Step::Resize(7, Ok(())),
+    ];
+    let mut cpu = cache_of(&rt, 3);
+    let mut depot = Depot::new(rt.alloc(), 3);
+    run(&rt, &mut cpu, &mut depot, &steps);
+    change_over(&rt, &mut depot);
+    close_depot(&rt, depot);
+    close(&rt, cpu);
 }
 
 // After a resize the full magazines of the old size go first, the oldest of them at the start; one
 // of the new size goes once it stood over an interval.
 #[test]
 fn old_sizes_are_reaped_first(rt: HostRuntime) {
-    let alloc = rt.alloc();
-    let mut old = CpuCache::new(alloc, 3).ok().expect(&rt, "memory");
-    let mut depot = Depot::new(alloc, 3);
-    let ten = ops(&rt, alloc, 0, 10, 0);
-    let _ = run(&rt, alloc, &mut old, &mut depot, ten);
-    assert_eq!(rt; depot.resize(7), Ok(()));
-    let mut cpu = CpuCache::new(alloc, 7).ok().expect(&rt, "memory");
-    assert!(rt; cpu.size() <= depot.size());
-    let fifteen = ops(&rt, alloc, 20, 35, 0);
-    let (_, exchanges) = run(&rt, alloc, &mut cpu, &mut depot, fifteen);
-    assert_eq!(rt; (exchanges, depot.units()), (1, 13));
-    for base in [2, 1, 0, 5, 4, 3] {
-        reaps(&rt, &mut depot, Some(base));
-    }
-    reaps(&rt, &mut depot, None);
-    depot.tick();
-    for base in [26, 25, 24, 23, 22, 21, 20] {
-        reaps(&rt, &mut depot, Some(base));
-    }
-    reaps(&rt, &mut depot, None);
-    for wanted in [9, 8, 7, 6] {
-        assert_eq!(rt; old.take().map(base), Some(wanted));
-    }
-    for wanted in [34, 33, 32, 31, 30, 29, 28, 27] {
-        assert_eq!(rt; cpu.take().map(base), Some(wanted));
-    }
-    close(&rt, cpu, depot);
-    match old.close() {
-        Ok(()) => {}
-        Err(_) => panic!(rt; "the cache has rounds"),
-    }
+    let first = [
+        Step::Run {
+            given: (0, 10),
+            taken: NOTHING,
+            exchanges: 2,
+        },
+        Step::Resize(7, Ok(())),
+    ];
+    let second = [
+        Step::Run {
+            given: (20, 35),
+            taken: NOTHING,
+            exchanges: 1,
+        },
+        Step::Units(8, 13),
+        Step::Reaps(&[2, 1, 0, 5, 4, 3]),
+        Step::Tick,
+        Step::Reaps(&[26, 25, 24, 23, 22, 21, 20]),
+        Step::Takes(35, 27),
+    ];
+    let mut old = cache_of(&rt, 3);
+    let mut cpu = cache_of(&rt, 7);
+    let mut depot = Depot::new(rt.alloc(), 3);
+    run(&rt, &mut old, &mut depot, &first);
+    run(&rt, &mut cpu, &mut depot, &second);
+    take_all(&rt, &mut old, 10, 6);
+    close(&rt, old);
+    close(&rt, cpu);
+    close_depot(&rt, depot);
 }
 
-// Reaps the round at this base, or none.
-fn reaps(rt: &impl Abort, depot: &mut Depot<PlainDeed>, wanted: Option<u64>)
-    ensures { depot.new.size ≡ depot.old.size }
-{
-    match depot.reap() {
-        Some(round) => assert_eq!(rt; Some(base(round)), wanted),
-        None => assert_eq!(rt; None, wanted),
-    }
-}
-
-// An empty cache asks a depot of size 7 for a full magazine, before and after it changes over.
-fn changes_over(
-    rt: &impl Abort,
-    alloc: Global,
-    cpu: CpuCache<PlainDeed>,
-    depot: &mut Depot<PlainDeed>,
-) -> CpuCache<PlainDeed>
-    requires { BothEmpty cpu }
-{
-    let mut cpu = cpu;
+// An empty cache of size 3 asks a depot of size 7 for a full magazine, before and after it changes
+// over.
+fn change_over(rt: &(impl Abort + AllocGlobal), depot: &mut Depot<PlainDeed>) {
+    let mut cpu = cache_of(rt, 3);
     assert_eq!(rt; depot.swap_for_full(&mut cpu), Err(FullFault::OldSize(7)));
-    let (loaded, previous) = two_empty(alloc, 7).ok().expect(rt, "memory");
+    let (loaded, previous) = two_empty(rt.alloc(), 7).ok().expect(rt, "memory");
     cpu.change(loaded, previous);
     assert_eq!(rt; depot.swap_for_full(&mut cpu), Err(FullFault::NoneFull));
-    cpu
+    close(rt, cpu);
 }
 
 // What a cache is unloaded into is given and taken by itself.
@@ -352,7 +454,8 @@ fn no_round_is_lost(rt: HostRuntime) {
         assert_eq!(rt; cpu.units().saturating_add(depot.units()), left);
     }
     assert_eq!(rt; left, 0);
-    close(&rt, cpu, depot);
+    close(&rt, cpu);
+    close_depot(&rt, depot);
 }
 
 // Gives the round at this base by a run of its own, and tells whether it is kept.

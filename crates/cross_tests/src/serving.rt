@@ -133,25 +133,76 @@ const NEVER: Echo = Echo {
 /// Lines with their line feeds, none of them refused: so what is written is the input again.
 const PLAIN: &[u8] = b"hello 1 1\n\nlease 1 1 1 m 8\nx\n";
 
-fn outcome(
-    alloc: Global,
-    input: &[u8],
+/// A stream, how many bytes a read gives and a write takes at most, and what happens to them.
+#[derive(Clone, Copy)]
+struct Trial<'a> {
+    input: &'a [u8],
     size: usize,
     reading: Mishap,
     writing: Mishap,
     taking: usize,
-) -> (Result<(), ServeFault>, Sink) {
+}
+
+fn outcome(alloc: Global, trial: Trial<'_>) -> (Result<(), ServeFault>, Sink) {
     let mut reader = Watched::new(Pieces {
-        rest: input,
-        size,
-        mishap: reading,
+        rest: trial.input,
+        size: trial.size,
+        mishap: trial.reading,
         reads: 0,
     });
-    let mut writer = Watched::new(Sink::new(alloc, taking, writing));
+    let mut writer = Watched::new(Sink::new(alloc, trial.taking, trial.writing));
     let mut echo = NEVER;
     let mut lines = Intake::new();
     let result = serve(alloc, &mut lines, &mut reader, &mut writer, &mut echo);
     (result, writer.into_inner())
+}
+
+/// The writer after a trial, which ends so and leaves these bytes; `at` is told where it doesn't.
+fn tried(
+    rt: &impl Abort,
+    alloc: Global,
+    trial: Trial<'_>,
+    wanted: Result<(), ServeFault>,
+    held: &[u8],
+    at: u64,
+) -> Sink {
+    let (result, sink) = outcome(alloc, trial);
+    assert_eq!(rt; result, wanted, "at {at}");
+    assert_eq!(rt; sink.held.as_slice(), held, "at {at}");
+    sink
+}
+
+/// The first bytes of a text.
+fn front<'a>(rt: &impl Abort, text: &'a [u8], len: usize) -> &'a [u8] {
+    assert!(rt; len <= text.len());
+    &text[..len]
+}
+
+/// The bytes of a text after the first.
+fn rest<'a>(rt: &impl Abort, text: &'a [u8], len: usize) -> &'a [u8] {
+    assert!(rt; len <= text.len());
+    &text[len..]
+}
+
+/// Nothing happens to the stream; all that is written was flushed.
+fn goes_well(
+    rt: &impl Abort,
+    alloc: Global,
+    input: &[u8],
+    size: usize,
+    taking: usize,
+    held: &[u8],
+) -> Sink {
+    let trial = Trial {
+        input,
+        size,
+        reading: Mishap::None,
+        writing: Mishap::None,
+        taking,
+    };
+    let sink = tried(rt, alloc, trial, Ok(()), held, size as u64);
+    assert_eq!(rt; sink.flushed, sink.held.len(), "in pieces of {size}");
+    sink
 }
 
 #[test]
@@ -163,166 +214,161 @@ fn each_line_is_answered_however_it_comes_and_goes(rt: HostRuntime) -> Result<()
     let expected = b"a\nerror toolong\nc\nerror badline\n";
     for size in 1..=input.len() {
         for taking in 1..=3 {
-            let (result, sink) = outcome(
-                alloc,
-                input.as_slice(),
-                size,
-                Mishap::None,
-                Mishap::None,
-                taking,
-            );
-            assert_eq!(rt; result, Ok(()), "in pieces of {size}");
-            assert_eq!(rt;
-                sink.held.as_slice(),
-                expected.as_slice(),
-                "in pieces of {size}"
-            );
-            assert_eq!(rt; sink.flushed, sink.held.len());
+            let _ = goes_well(&rt, alloc, input.as_slice(), size, taking, expected);
         }
     }
-    let (result, sink) = outcome(alloc, b"", 1, Mishap::None, Mishap::None, 1);
-    assert_eq!(rt; result, Ok(()));
+    let sink = goes_well(&rt, alloc, b"", 1, 1, b"");
     assert_eq!(rt; sink.writes, 0);
     Ok(())
 }
 
-/// The length of the first plain line, with its line feed.
-const FIRST_LINE: usize = 10;
+/// One read gives up to `size` bytes of a text. Where its first line, of `line` bytes with its line
+/// feed, came whole, it is passed; what is left is served.
+fn serve_begun(rt: &impl Abort, alloc: Global, text: &[u8], size: usize, line: usize) {
+    let mut reader = Watched::new(Pieces {
+        rest: text,
+        size,
+        mishap: Mishap::None,
+        reads: 0,
+    });
+    let mut lines = Intake::new();
+    let Ok(true) = lines.read_on(&mut reader) else {
+        panic!(rt; "nothing was read in pieces of {size}");
+    };
+    let mut passed = 0;
+    if let Some(first) = lines.first_line() {
+        assert_eq!(rt; first, front(rt, text, first.len()), "in pieces of {size}");
+        lines.pass();
+        passed = line;
+    }
+    assert_eq!(rt; passed == line, size >= line, "in pieces of {size}");
+    let mut writer = Watched::new(Sink::new(alloc, 100, Mishap::None));
+    let mut echo = NEVER;
+    let result = serve(alloc, &mut lines, &mut reader, &mut writer, &mut echo);
+    assert_eq!(rt; result, Ok(()), "in pieces of {size}");
+    let left = rest(rt, text, passed);
+    assert_eq!(rt; writer.into_inner().held.as_slice(), left, "in pieces of {size}");
+}
 
 #[test]
-fn what_was_read_and_not_passed_is_served_first(rt: HostRuntime) -> Result<(), Fail> {
-    let alloc = rt.alloc();
-    for size in 1..=PLAIN.len() {
-        let mut reader = Watched::new(Pieces {
-            rest: PLAIN,
-            size,
-            mishap: Mishap::None,
-            reads: 0,
-        });
-        let mut lines = Intake::new();
-        let Ok(more) = lines.read_on(&mut reader) else {
-            return Err(Fail::from("a reader that works failed"));
-        };
-        if !more {
-            return Err(Fail::from("the input ended before its first byte"));
-        }
-        let mut passed = 0;
-        if let Some(line) = lines.first_line() {
-            assert_eq!(rt; line, &PLAIN[..FIRST_LINE - 1], "in pieces of {size}");
-            lines.pass();
-            passed = FIRST_LINE;
-        }
-        let mut writer = Watched::new(Sink::new(alloc, 100, Mishap::None));
-        let mut echo = NEVER;
-        let result = serve(alloc, &mut lines, &mut reader, &mut writer, &mut echo);
-        assert_eq!(rt; result, Ok(()), "in pieces of {size}");
-        let held = writer.into_inner().held;
-        assert_eq!(rt; held.as_slice(), &PLAIN[passed..], "in pieces of {size}");
-        assert_eq!(rt; passed == FIRST_LINE, size >= FIRST_LINE);
+fn what_was_read_and_not_passed_is_served_first(rt: HostRuntime) {
+    for size in 1..=30 {
+        serve_begun(&rt, rt.alloc(), PLAIN, size, 10);
     }
-    Ok(())
 }
 
 #[test]
 fn each_answer_is_flushed_before_the_next_read(rt: HostRuntime) {
-    let alloc = rt.alloc();
-    let (result, sink) = outcome(alloc, b"a\nb\nc\n", 2, Mishap::None, Mishap::None, 100);
-    assert_eq!(rt; result, Ok(()));
+    let text = b"a\nb\nc\n";
+    let sink = goes_well(&rt, rt.alloc(), text, 2, 100, text);
     assert_eq!(rt; sink.flushes, 3);
-    let (result, sink) = outcome(alloc, b"a\nb\nc\n", 6, Mishap::None, Mishap::None, 100);
-    assert_eq!(rt; result, Ok(()));
+    let sink = goes_well(&rt, rt.alloc(), text, 6, 100, text);
     assert_eq!(rt; sink.writes, 1);
 }
 
-/// The bytes up to the last line feed among the first `read`.
-fn whole_lines(read: usize) -> &'static [u8] {
-    let mut end = 0;
-    for (i, byte) in PLAIN.iter().enumerate() {
-        if i < read && *byte == b'\n' {
-            end = i + 1;
-        }
-    }
-    &PLAIN[..end.min(PLAIN.len())]
+/// The read after the first `read` bytes fails, and finds the first `whole` answered and flushed.
+/// Interrupted, it is made again.
+fn read_fails(rt: &impl Abort, alloc: Global, text: &[u8], read: usize, whole: usize) {
+    let at = (read as u64).saturating_add(1);
+    let trial = Trial {
+        input: text,
+        size: 1,
+        reading: Mishap::Fails { at },
+        writing: Mishap::None,
+        taking: 100,
+    };
+    let answered = front(rt, text, whole);
+    let sink = tried(rt, alloc, trial, Err(ServeFault::Read), answered, at);
+    // What was flushed before a read is what was flushed when that read failed.
+    assert_eq!(rt; sink.flushed, sink.held.len(), "after {read} bytes");
+    let again = Trial {
+        reading: Mishap::IsInterrupted { at },
+        ..trial
+    };
+    let _ = tried(rt, alloc, again, Ok(()), text, at);
 }
 
 #[test]
 fn a_read_that_fails_finds_each_answer_flushed(rt: HostRuntime) {
-    let alloc = rt.alloc();
-    for read in 0..=PLAIN.len() {
-        let at = read as u64 + 1;
-        let (result, sink) = outcome(alloc, PLAIN, 1, Mishap::Fails { at }, Mishap::None, 100);
-        assert_eq!(rt; result, Err(ServeFault::Read), "after {read} bytes");
-        assert_eq!(rt;
-            sink.held.as_slice(),
-            whole_lines(read),
-            "after {read} bytes"
-        );
-        // What was flushed before a read is what was flushed when that read failed.
-        assert_eq!(rt; sink.flushed, sink.held.len(), "after {read} bytes");
-        let (result, sink) = outcome(
-            alloc,
-            PLAIN,
-            1,
-            Mishap::IsInterrupted { at },
-            Mishap::None,
-            100,
-        );
-        assert_eq!(rt; result, Ok(()), "after {read} bytes");
-        assert_eq!(rt; sink.held.as_slice(), PLAIN, "after {read} bytes");
+    // Lines end after these many bytes, and the next one after the second number.
+    for (whole, next) in [(0, 10), (10, 11), (11, 27), (27, 29), (29, 30)] {
+        for read in whole..next {
+            read_fails(&rt, rt.alloc(), PLAIN, read, whole);
+        }
     }
+}
+
+/// The write after the first bytes fails. Interrupted, it is made again.
+fn write_fails(rt: &impl Abort, alloc: Global, text: &[u8], written: usize) {
+    let at = (written as u64).saturating_add(1);
+    let trial = Trial {
+        input: text,
+        size: 5,
+        reading: Mishap::None,
+        writing: Mishap::Fails { at },
+        taking: 1,
+    };
+    let answered = front(rt, text, written);
+    let sink = tried(rt, alloc, trial, Err(ServeFault::Write), answered, at);
+    assert_eq!(rt; sink.writes, at);
+    let again = Trial {
+        writing: Mishap::IsInterrupted { at },
+        ..trial
+    };
+    let _ = tried(rt, alloc, again, Ok(()), text, at);
 }
 
 #[test]
 fn a_write_that_fails_ends_the_writing(rt: HostRuntime) {
     let alloc = rt.alloc();
-    for written in 0..PLAIN.len() {
-        let at = written as u64 + 1;
-        let (result, sink) = outcome(alloc, PLAIN, 5, Mishap::None, Mishap::Fails { at }, 1);
-        assert_eq!(rt; result, Err(ServeFault::Write), "after {written} bytes");
-        assert_eq!(rt;
-            sink.held.as_slice(),
-            &PLAIN[..written],
-            "after {written} bytes"
-        );
-        assert_eq!(rt; sink.writes, at);
-        let (result, sink) = outcome(
-            alloc,
-            PLAIN,
-            5,
-            Mishap::None,
-            Mishap::IsInterrupted { at },
-            1,
-        );
-        assert_eq!(rt; result, Ok(()), "after {written} bytes");
-        assert_eq!(rt; sink.held.as_slice(), PLAIN, "after {written} bytes");
+    for written in 0..29 {
+        write_fails(&rt, alloc, PLAIN, written);
     }
-    let (result, sink) = outcome(alloc, PLAIN, 5, Mishap::None, Mishap::None, 0);
-    assert_eq!(rt; result, Err(ServeFault::Write));
+    let trial = Trial {
+        input: PLAIN,
+        size: 5,
+        reading: Mishap::None,
+        writing: Mishap::None,
+        taking: 0,
+    };
+    let sink = tried(&rt, alloc, trial, Err(ServeFault::Write), b"", 0);
     assert_eq!(rt; sink.writes, 1);
+}
+
+/// Three lines, each read by itself, of which flush `at` comes to this.
+fn flushes(
+    rt: &impl Abort,
+    alloc: Global,
+    writing: Mishap,
+    wanted: Result<(), ServeFault>,
+    held: &[u8],
+    at: u64,
+) -> Sink {
+    let trial = Trial {
+        input: b"a\nb\nc\n",
+        size: 2,
+        reading: Mishap::None,
+        writing,
+        taking: 100,
+    };
+    tried(rt, alloc, trial, wanted, held, at)
 }
 
 #[test]
 fn a_flush_that_fails_ends_the_serving(rt: HostRuntime) {
-    let alloc = rt.alloc();
-    let input = b"a\nb\nc\n";
-    for at in 1..=3 {
+    let written: [(u64, &[u8]); 3] = [(1, b"a\n"), (2, b"a\nb\n"), (3, b"a\nb\nc\n")];
+    for (at, held) in written {
         let mishap = Mishap::FlushFails { at };
-        let (result, sink) = outcome(alloc, input, 2, Mishap::None, mishap, 100);
-        assert_eq!(rt; result, Err(ServeFault::Write), "at {at}");
-        assert_eq!(rt; sink.writes, at);
-        assert_eq!(rt; sink.flushes, at);
+        let sink = flushes(&rt, rt.alloc(), mishap, Err(ServeFault::Write), held, at);
+        assert_eq!(rt; (sink.writes, sink.flushes), (at, at));
     }
 }
 
 #[test]
 fn an_interrupted_flush_is_tried_again(rt: HostRuntime) {
-    let alloc = rt.alloc();
-    let input = b"a\nb\nc\n";
     for at in 1..=3 {
         let mishap = Mishap::FlushIsInterrupted { at };
-        let (result, sink) = outcome(alloc, input, 2, Mishap::None, mishap, 100);
-        assert_eq!(rt; result, Ok(()), "at {at}");
-        assert_eq!(rt; sink.held.as_slice(), input.as_slice(), "at {at}");
+        let sink = flushes(&rt, rt.alloc(), mishap, Ok(()), b"a\nb\nc\n", at);
         // Three answers, each flushed before the next read, and one flush more.
         assert_eq!(rt; sink.flushes, 4, "at {at}");
         assert_eq!(rt; sink.flushed, sink.held.len(), "at {at}");

@@ -5,7 +5,21 @@ use deed_core::{Deed, PlainDeed, Range, Route, Segment};
 use refusing_deed::RefusingDeed;
 use slab_layer::{AddFault, PutFault, SlabCache, SlabReport};
 use std::process::Abort;
-use std::test::Fail;
+
+/// A base and a length.
+type Bounds = (u64, u64);
+
+/// A call of a cache with what it must give.
+#[derive(Clone, Copy)]
+enum Call {
+    Add(Bounds, Result<Bounds, Why>),
+    Take(Option<Bounds>),
+    /// A chunk by its route goes back.
+    Put(u8, Bounds, Result<(), Why>),
+    Reap(Option<Bounds>),
+    /// The units of idle chunks, before the first chunks and behind the last.
+    Report(SlabReport),
+}
 
 /// Why a call was refused.
 #[derive(Clone, Copy, PartialEq, Eq, Debug)]
@@ -33,35 +47,22 @@ fn plain(rt: &impl Abort, base: u64, len: u64) -> PlainDeed {
 }
 
 /// The base and the length of a segment, which ends here.
-fn spend(segment: Segment<PlainDeed>) -> (u64, u64) {
+fn spend(segment: Segment<PlainDeed>) -> Bounds {
     let range = segment.into_deed().close();
     (range.base(), range.len())
 }
 
 /// What `add` gives for this span.
-fn added(
-    rt: &impl Abort,
-    cache: &mut SlabCache<PlainDeed>,
-    base: u64,
-    len: u64,
-) -> Result<(u64, u64), Why> {
-    let span = span_of(rt, cache, plain(rt, base, len));
+fn added(rt: &impl Abort, cache: &mut SlabCache<PlainDeed>, bounds: Bounds) -> Result<Bounds, Why> {
+    let span = span_of(rt, cache, plain(rt, bounds.0, bounds.1));
     let (span, why) = match cache.add(span) {
         Ok(first) => return Ok(spend(first)),
         Err(AddFault::WrongSize(span)) => (span, Why::WrongSize),
         Err(AddFault::Overlaps(span)) => (span, Why::Overlaps),
         Err(AddFault::NoMemory(span)) => (span, Why::NoMemory),
     };
-    assert_eq!(rt; spend(span), (base, len));
+    assert_eq!(rt; spend(span), bounds);
     Err(why)
-}
-
-/// What `take` gives.
-fn taken(cache: &mut SlabCache<PlainDeed>) -> Option<(u64, u64)> {
-    match cache.take() {
-        None => None,
-        Some(chunk) => Some(spend(chunk)),
-    }
 }
 
 /// What `put` answers to a chunk.
@@ -69,24 +70,26 @@ fn put(
     rt: &impl Abort,
     cache: &mut SlabCache<PlainDeed>,
     k: u8,
-    base: u64,
-    len: u64,
+    bounds: Bounds,
 ) -> Result<(), Why> {
-    let chunk = Segment::new(cache.arena(), Route::Cached(k), plain(rt, base, len));
+    let deed = plain(rt, bounds.0, bounds.1);
+    let chunk = Segment::new(cache.arena(), Route::Cached(k), deed);
     let (chunk, why) = match cache.put(chunk) {
         Ok(()) => return Ok(()),
         Err(PutFault::NotMine(chunk)) => (chunk, Why::NotMine),
         Err(PutFault::AtHome(chunk)) => (chunk, Why::AtHome),
     };
-    assert_eq!(rt; spend(chunk), (base, len));
+    assert_eq!(rt; spend(chunk), bounds);
     Err(why)
 }
 
-/// What `reap` gives.
-fn reaped(cache: &mut SlabCache<PlainDeed>) -> Option<(u64, u64)> {
-    match cache.reap() {
-        None => None,
-        Some(span) => Some(spend(span)),
+fn make_call(rt: &impl Abort, cache: &mut SlabCache<PlainDeed>, call: Call) {
+    match call {
+        Call::Add(bounds, wanted) => assert_eq!(rt; added(rt, cache, bounds), wanted),
+        Call::Take(wanted) => assert_eq!(rt; cache.take().map(spend), wanted),
+        Call::Put(k, bounds, wanted) => assert_eq!(rt; put(rt, cache, k, bounds), wanted),
+        Call::Reap(wanted) => assert_eq!(rt; cache.reap().map(spend), wanted),
+        Call::Report(wanted) => assert_eq!(rt; cache.report(), wanted),
     }
 }
 
@@ -98,62 +101,48 @@ fn close<D: Deed>(rt: &impl Abort, cache: SlabCache<D>) {
     }
 }
 
-/// Chunks of 5 in slabs of 16: the second slab begins one unit later.
+/// Chunks of 5 in slabs of 16: the second slab begins one unit later. Of two slabs the lower one
+/// goes, and then the other, once it has its chunks again.
 #[test]
-fn colours(rt: HostRuntime) -> Result<(), Fail> {
+fn colours(rt: HostRuntime) {
     let mut cache: SlabCache<PlainDeed> = SlabCache::new(rt.alloc(), 7, 5, 1, 16);
     assert_eq!(rt; (cache.arena(), cache.k()), (7, 5));
     assert_eq!(rt; (cache.quantum(), cache.slab_size()), (1, 16));
-    first_slabs(&rt, &mut cache);
-    second_slab_alone(&rt, &mut cache);
-    close(&rt, cache);
-    Ok(())
-}
-
-/// Two slabs, of which the lower one goes again.
-fn first_slabs(rt: &impl Abort, cache: &mut SlabCache<PlainDeed>) {
-    assert_eq!(rt; added(rt, cache, 0, 16), Ok((0, 5)));
-    assert_eq!(rt;
-        cache.report(),
-        SlabReport {
-            idle: 10,
-            gap: 0,
-            tail: 1
-        }
-    );
-    assert_eq!(rt; taken(cache), Some((5, 5)));
-    assert_eq!(rt; taken(cache), Some((10, 5)));
-    assert_eq!(rt; taken(cache), None);
-    assert_eq!(rt; added(rt, cache, 16, 16), Ok((17, 5)));
-    assert_eq!(rt;
-        cache.report(),
-        SlabReport {
-            idle: 10,
-            gap: 1,
-            tail: 1
-        }
-    );
-    assert_eq!(rt; taken(cache), Some((22, 5)));
-    assert_eq!(rt; taken(cache), Some((27, 5)));
-    assert_eq!(rt; put(rt, cache, 5, 5, 5), Ok(()));
-    assert_eq!(rt; taken(cache), Some((5, 5)));
-    for base in [0, 5, 10] {
-        assert_eq!(rt; put(rt, cache, 5, base, 5), Ok(()));
+    let one = SlabReport {
+        idle: 10,
+        gap: 0,
+        tail: 1,
+    };
+    let calls = [
+        Call::Add((0, 16), Ok((0, 5))),
+        Call::Report(one),
+        Call::Take(Some((5, 5))),
+        Call::Take(Some((10, 5))),
+        Call::Take(None),
+        Call::Add((16, 16), Ok((17, 5))),
+        Call::Report(SlabReport { gap: 1, ..one }),
+        Call::Take(Some((22, 5))),
+        Call::Take(Some((27, 5))),
+        Call::Put(5, (5, 5), Ok(())),
+        Call::Take(Some((5, 5))),
+        Call::Put(5, (0, 5), Ok(())),
+        Call::Put(5, (5, 5), Ok(())),
+        Call::Put(5, (10, 5), Ok(())),
+        Call::Reap(Some((0, 16))),
+        Call::Reap(None),
+        Call::Add((32, 8), Err(Why::WrongSize)),
+        Call::Add((24, 16), Err(Why::Overlaps)),
+        Call::Put(5, (17, 5), Ok(())),
+        Call::Put(5, (17, 5), Err(Why::AtHome)),
+        Call::Put(4, (22, 5), Err(Why::NotMine)),
+        Call::Put(5, (22, 5), Ok(())),
+        Call::Put(5, (27, 5), Ok(())),
+        Call::Reap(Some((16, 16))),
+    ];
+    for call in calls {
+        make_call(&rt, &mut cache, call);
     }
-    assert_eq!(rt; reaped(cache), Some((0, 16)));
-    assert_eq!(rt; reaped(cache), None);
-}
-
-/// What is refused while the second slab stands, and its end.
-fn second_slab_alone(rt: &impl Abort, cache: &mut SlabCache<PlainDeed>) {
-    assert_eq!(rt; added(rt, cache, 32, 8), Err(Why::WrongSize));
-    assert_eq!(rt; added(rt, cache, 24, 16), Err(Why::Overlaps));
-    assert_eq!(rt; put(rt, cache, 5, 17, 5), Ok(()));
-    assert_eq!(rt; put(rt, cache, 5, 17, 5), Err(Why::AtHome));
-    assert_eq!(rt; put(rt, cache, 4, 22, 5), Err(Why::NotMine));
-    assert_eq!(rt; put(rt, cache, 5, 22, 5), Ok(()));
-    assert_eq!(rt; put(rt, cache, 5, 27, 5), Ok(()));
-    assert_eq!(rt; reaped(cache), Some((16, 16)));
+    close(&rt, cache);
 }
 
 /// Six slabs, each by its base and that of its first chunk. The colours go up by a quantum and
@@ -192,28 +181,37 @@ fn come_and_go(
     firsts: [(u64, u64); 6],
 ) {
     let mut cache = cache;
-    for (base, first) in firsts {
-        assert_eq!(rt; added(rt, &mut cache, base, slab_size), Ok((first, chunk)));
-    }
     let k = cache.k();
     for (base, first) in firsts {
-        assert_eq!(rt; put(rt, &mut cache, k, first, chunk), Ok(()));
-        assert_eq!(rt; reaped(&mut cache), Some((base, slab_size)));
+        make_call(
+            rt,
+            &mut cache,
+            Call::Add((base, slab_size), Ok((first, chunk))),
+        );
+    }
+    for (base, first) in firsts {
+        make_call(rt, &mut cache, Call::Put(k, (first, chunk), Ok(())));
+        make_call(rt, &mut cache, Call::Reap(Some((base, slab_size))));
     }
     close(rt, cache);
 }
 
+/// A split of the span is refused, and the span comes back whole.
+fn refused(rt: &impl Abort, cache: &mut SlabCache<RefusingDeed>, range: Range, splits_left: u32) {
+    let span = span_of(rt, cache, RefusingDeed::new(0, range, splits_left));
+    match cache.add(span) {
+        Err(AddFault::NoMemory(span)) => assert_eq!(rt; span.into_deed().close(), range),
+        _ => panic!(rt; "a split is refused"),
+    }
+}
+
 /// A slab of 16 takes three splits. Each may be refused, and the span is then whole again.
 #[test]
-fn refused_splits(rt: HostRuntime) -> Result<(), Fail> {
-    let range = Range::new(0, 16).ok_or("a range")?;
+fn refused_splits(rt: HostRuntime) {
+    let range = Range::new(0, 16).expect(&rt, "a range");
     let mut cache: SlabCache<RefusingDeed> = SlabCache::new(rt.alloc(), 7, 5, 1, 16);
     for splits_left in 0..3 {
-        let span = span_of(&rt, &cache, RefusingDeed::new(0, range, splits_left));
-        match cache.add(span) {
-            Err(AddFault::NoMemory(span)) => assert_eq!(rt; span.into_deed().close(), range),
-            _ => panic!(rt; "a split is refused"),
-        }
+        refused(&rt, &mut cache, range, splits_left);
     }
     let span = span_of(&rt, &cache, RefusingDeed::new(0, range, 3));
     let first = match cache.add(span) {
@@ -228,5 +226,4 @@ fn refused_splits(rt: HostRuntime) -> Result<(), Fail> {
     let whole = cache.reap().expect(&rt, "all chunks are at home");
     assert_eq!(rt; whole.into_deed().close(), range);
     close(&rt, cache);
-    Ok(())
 }
