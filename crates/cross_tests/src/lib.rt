@@ -29,4 +29,6 @@ mod serving;
 #[cfg(test)]
 mod slabs;
 #[cfg(test)]
+mod stocks;
+#[cfg(test)]
 mod tables;
