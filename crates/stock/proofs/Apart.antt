@@ -1,14 +1,13 @@
 -- No two segments of one space overlap that are out: a unit of an arena is out or exported once, so
 -- two ways up to one arena begin at one segment.
-use Rattle.std.proofs.Common.{◌≡◌, ◌≢◌, ◌⊎◌, ℕ, suc, zero, ◌+◌, ◌<◌, ◌≤◌, Bool, true, false, refl, sym, subst, ap, ◌∙◌, inl, inr, List, [], ◌∷◌, ◌++◌, All, map, get_or, length, ltb, Some, None, arith}
+use Rattle.std.proofs.Common.{◌≡◌, ◌≢◌, ◌⊎◌, ℕ, suc, zero, ◌+◌, ◌<◌, ◌≤◌, Bool, true, false, refl, subst, ap, ◌∙◌, inl, inr, List, [], ◌∷◌, All, map, get_or, ltb, Some, None, arith}
 use Rattle.std.specs.Prelude.{slice_get, sum_by}
 use Rattle.std.proofs.lemmas.Bool.Decides.{nat_tests}
 use Rattle.std.proofs.lemmas.List.Sums.{sum_by-cons, sum_by-append}
 use Rattle.std.proofs.lemmas.Option.{slice_get-get_or}
 use Rattle.deed_core.specs.Extent.{Covers}
-use Rattle.deed_core.specs.Holding.{Holding}
 use Rattle.deed_core.specs.Tag.{Tag}
-use Rattle.deed_core.specs.Covering.{covers, covers_held, covers_tag, covering_held}
+use Rattle.deed_core.specs.Covering.{covers_held, covers_tag, covering_held}
 use Rattle.deed_core.specs.Weights.{of_arena}
 use Rattle.deed_core.proofs.LawProofs.{counts_the_unit, sum_by-map, sum_alike, part_of_sum, all_at}
 use Rattle.tag_arena.specs.ArenaState.{spans_of}

@@ -1,5 +1,5 @@
 -- What a stock is without its last arena.
-use Rattle.std.proofs.Common.{Option, IfSome, IfNone, ◌≡◌, ℕ, suc, zero, ◌+◌, ◌<◌, refl, sym, subst, ap, ◌∙◌, List, [], ◌∷◌, ◌++◌, map, Some, None, arith}
+use Rattle.std.proofs.Common.{Option, IfSome, IfNone, ◌≡◌, ℕ, suc, zero, refl, sym, subst, ap, ◌∙◌, List, [], ◌∷◌, ◌++◌, map, Some, None}
 use Rattle.std.specs.Prelude.{slice_get}
 use Rattle.stock.specs.Spaces.{SpaceState, quantum_of, quanta_of}
 use Rattle.stock.specs.Stocks.{IsSpace, IsStock}

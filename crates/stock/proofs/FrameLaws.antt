@@ -1,6 +1,5 @@
 -- Frames, and the moves that are private to a CPU.
-use Rattle.std.proofs.Common.{◌≡◌, ℕ, ◌+◌, List, [], ◌∷◌, ◌++◌, arith}
-use Rattle.std.specs.Prelude.{sum_by}
+use Rattle.std.proofs.Common.{◌∷◌, ◌++◌, arith}
 use Rattle.std.proofs.lemmas.List.Sums.{sum_by-cons, sum_by-append}
 use Rattle.deed_core.specs.Weights.{of_direct, of_cached}
 use Rattle.magazine_layer.specs.Magazines.{cache_rounds}

@@ -1,7 +1,5 @@
 -- What the proofs of the crates above cite, and all that they cite, of this crate: the laws that its
 -- law functions state.
-use Rattle.std.proofs.Common.{◌≡◌, sym, ap, ◌∙◌}
-use Rattle.std.specs.Prelude.{slice_get}
 use Rattle.stock.specs.Laws.{AlwaysTagged, AlwaysOut, AlwaysImports, AlwaysSlab}
 use Rattle.stock.proofs.Exporting.{out_tagged, clear_for_child, aligned_for_child, clear_of_slabs}
 use Rattle.stock.proofs.SlabCalls as chunks

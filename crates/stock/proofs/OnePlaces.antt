@@ -1,25 +1,22 @@
 -- One place for each unit.
-use Rattle.std.proofs.Common.{◌≡◌, ◌≢◌, ℕ, ◌+◌, ◌≤◌, refl, sym, subst, ap, ◌∙◌, inl, inr, List, [], ◌∷◌, ◌++◌, All, map, filter, Some, arith}
+use Rattle.std.proofs.Common.{◌≡◌, ◌≢◌, ℕ, ◌+◌, refl, sym, ap, ◌∙◌, List, ◌++◌, All, filter, Some, arith}
 use Rattle.std.specs.Prelude.{slice_get, sum_by, flat_map}
-use Rattle.std.proofs.lemmas.Bool.{cases_eq}
-use Rattle.std.proofs.lemmas.List.Elements.{All-contains}
-use Rattle.std.proofs.lemmas.List.Sums.{sum_by-append, sum_by-cons}
+use Rattle.std.proofs.lemmas.List.Sums.{sum_by-append}
 use Rattle.deed_core.specs.Holding.{Holding}
 use Rattle.deed_core.specs.Tag.{Tag}
 use Rattle.deed_core.specs.Covering.{covers_held, covers_tag, covering_held, covering_tags, units_in}
 use Rattle.deed_core.specs.Selections.{is_of_arena, came_direct}
-use Rattle.deed_core.specs.Weights.{of_arena, of_direct, of_cached, WeighSame}
+use Rattle.deed_core.specs.Weights.{of_arena}
 use Rattle.deed_core.proofs.LawProofs.{sum_by-map, sum_by-flat_map, sum_by-filter, sum_by-parts, sum_at, sum_none, sum_alike, sum_add, all_at, all_from, mapped}
-use Rattle.tag_arena.specs.ArenaState.{spans_of, tags_of}
+use Rattle.tag_arena.specs.ArenaState.{spans_of}
 use Rattle.tag_arena.proofs.LawProofs.{tags_weigh, spans_once}
-use Rattle.slab_layer.specs.Slab.{SlabState}
-use Rattle.slab_layer.specs.Cache.{SlabCacheState, IsChunkOf, span_tag, span_tags, deeds_of, chunks_out}
+use Rattle.slab_layer.specs.Cache.{IsChunkOf, span_tag, span_tags, deeds_of, chunks_out}
 use Rattle.slab_layer.proofs.LawProofs.{chunks_are_of_cache}
 use Rattle.magazine_layer.specs.Depots.{depot_rounds}
 use Rattle.stock.specs.Spaces.{SpaceState, QuantumCacheState, quanta_of}
 use Rattle.stock.specs.Stocks.{IsRoundOf, IsQuantumCache, IsSpace, IsStock}
-use Rattle.stock.specs.Accounts.{allocated, imported, slabs, chunks, rounds, Accounts}
-use Rattle.stock.specs.Sums.{Out, all_out, held, held_of, places_of, all_places, sums_of, total, lengths_of}
+use Rattle.stock.specs.Accounts.{imported, Accounts}
+use Rattle.stock.specs.Sums.{Out, all_out, held, held_of, places_of, all_places, sums_of, total}
 use Rattle.stock.specs.Laws.{OnePlace, AddsUp}
 use Rattle.stock.proofs.Exporting.{arena_here, arena_there, allocated_of}
 use Rattle.stock.proofs.Lengths.{as_long}

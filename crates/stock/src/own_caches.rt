@@ -12,7 +12,7 @@ ghost use Rattle.stock.specs.Stocks.{IsRoundOf};
 ghost use Rattle.stock.specs.OwnCaches.{IsAtPlaceOf};
 
 use crate::stocks::Stock;
-use deed_core::{Deed, Segment};
+use deed_core::{Deed, Route, Segment};
 use magazine_layer::{CpuCache, EmptyFault, FullFault, Magazine, PutFullFault};
 use std::alloc::{AllocError, Global};
 use std::marker::Model;
@@ -46,13 +46,33 @@ impl<D: Deed> OwnCache<D> {
     ) -> Result<OwnCache<D>, AllocError>
         requires { IsSize size }
         ensures { IfOk result (λ o. o ≡ record {
-            arena = arena;
-            cache = cache;
-            cpu = record { size = size; loaded = []; previous = [] };
+          arena = arena;
+          cache = cache;
+          cpu = record { size = size; loaded = []; previous = [] };
         }) }
     {
         let cpu = CpuCache::new(alloc, size)?;
         Ok(OwnCache { arena, cache, cpu })
+    }
+
+    /// The places of the arena and the quantum cache that its rounds are chunks of.
+    pub fn place(&self) -> (usize, usize)
+        ensures { (result.0 ≡ self.now.arena) × (result.1 ≡ self.now.cache) }
+    {
+        (self.arena, self.cache)
+    }
+
+    /// Whether a segment is a chunk of that cache.
+    pub fn takes(&self, segment: &Segment<D>) -> bool
+        ensures { IsTrue result → IsRoundOf self.now.arena (self.now.cache + 1) segment.now }
+    {
+        let Route::Cached(k) = segment.route() else {
+            return false;
+        };
+        if segment.arena() as usize != self.arena || k == 0 {
+            return false;
+        }
+        k as usize - 1 == self.cache
     }
 
     /// The units of its rounds.

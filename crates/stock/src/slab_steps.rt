@@ -1,5 +1,5 @@
 //! The events on the slabs of a quantum cache: slab_take, slab_put, slab_add, slab_reap.
-ghost use Rattle.std.specs.Prelude.{◌≡◌, ℕ, ◌+◌, List, [], ◌∷◌, IfSome, IfNone, IfOk, IsOk};
+ghost use Rattle.std.specs.Prelude.{◌≡◌, ℕ, ◌+◌, List, [], ◌∷◌, IfSome, IfNone, IfOk, IsOk, IsTrue};
 ghost use Rattle.std.specs.Option.{option_to_list};
 ghost use Rattle.deed_core.specs.Tag.{Tag};
 ghost use Rattle.slab_layer.specs.Calls.{TakeOf, AddOf, ReapOf};
@@ -79,6 +79,17 @@ impl<D: Deed> Stock<D> {
         let space = &mut self.spaces[arena];
         let opened = &mut space.caches[cache];
         opened.slab.put(segment)
+    }
+
+    /// Whether the arena and the cache stand at these places.
+    pub fn has_cache(&self, arena: usize, cache: usize) -> bool
+        ensures { IsTrue result → HasCache self.now arena cache }
+    {
+        if arena >= self.spaces.len() {
+            return false;
+        }
+        let space = &self.spaces[arena];
+        cache < space.caches.len()
     }
 
     /// The place of the arena's cache of chunks of `k` quanta.

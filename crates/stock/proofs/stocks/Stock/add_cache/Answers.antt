@@ -1,4 +1,4 @@
-use Rattle.std.proofs.Common.{rules, ◌≡◌, sym, subst, ap, ◌∙◌, [], ◌∷◌, ◌++◌, length, arith}
+use Rattle.std.proofs.Common.{rules, ◌≡◌, sym, subst, ap, [], ◌∷◌, ◌++◌, length, arith}
 use Rattle.slab_layer.specs.Cache.{IsSound}
 use Rattle.stock.specs.Stocks.{IsStock}
 use Rattle.stock.specs.Steps.{next_cache}

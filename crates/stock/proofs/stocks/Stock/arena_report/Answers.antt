@@ -1,4 +1,4 @@
-use Rattle.std.proofs.Common.{◌≡◌, ◌+◌, length, refl}
+use Rattle.std.proofs.Common.{◌≡◌}
 use Rattle.deed_core.specs.Covering.{units_held}
 use Rattle.tag_arena.specs.ArenaState.{spans_of}
 use Rattle.stock.proofs.Moving.{opens, at_space}

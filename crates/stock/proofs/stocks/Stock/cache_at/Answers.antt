@@ -1,5 +1,4 @@
-use Rattle.std.proofs.Common.{◌≡◌, ◌<◌, ◌+◌, ◌-◌, subst, sym, ap, length, arith}
-use Rattle.stock.specs.Spaces.{HasCache}
+use Rattle.std.proofs.Common.{◌<◌, ◌-◌, ap, length, arith}
 use Rattle.stock.proofs.Moving.{opens}
 use Rattle.stock.proofs.CacheSteps.{has_cache}
 use Rattle.stock.proofs.stocks.Stock.cache_at.Goals as goal

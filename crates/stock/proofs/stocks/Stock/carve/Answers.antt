@@ -1,4 +1,4 @@
-use Rattle.std.proofs.Common.{◌≡◌, ◌<◌, sym, subst, ap, length, inl, inr, refl, arith}
+use Rattle.std.proofs.Common.{subst}
 use Rattle.stock.specs.Stocks.{IsStock}
 use Rattle.stock.proofs.Moving.{opens}
 use Rattle.tag_arena.specs.Outcomes.{CarveOf}

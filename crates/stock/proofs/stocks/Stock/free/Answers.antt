@@ -1,4 +1,4 @@
-use Rattle.std.proofs.Common.{◌≡◌, ◌<◌, sym, subst, ap, length, inl, inr, refl, arith}
+use Rattle.std.proofs.Common.{◌<◌, subst, ap, length, inr, refl, arith}
 use Rattle.stock.specs.Stocks.{IsStock}
 use Rattle.stock.proofs.Moving.{opens}
 use Rattle.stock.proofs.ArenaCalls.{free_in, free_moves, free_never, none_never}

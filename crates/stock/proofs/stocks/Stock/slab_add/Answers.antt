@@ -1,6 +1,4 @@
-use Rattle.std.proofs.Common.{◌≡◌, ℕ, ◌<◌, ◌+◌, ◌%◌, sym, subst, ap, ◌∙◌, length, inl, inr, refl, arith}
-use Rattle.deed_core.specs.declared.segments.Route.TheVariants.{Cached}
-use Rattle.stock.specs.Spaces.{HasCache}
+use Rattle.std.proofs.Common.{◌≡◌, ◌%◌, sym, subst, ◌∙◌}
 use Rattle.stock.specs.Stocks.{IsStock}
 use Rattle.stock.proofs.Moving.{opens}
 use Rattle.stock.proofs.CacheSteps.{place_within, number_within, opens_cache}

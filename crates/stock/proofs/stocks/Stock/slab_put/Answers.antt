@@ -1,4 +1,4 @@
-use Rattle.std.proofs.Common.{◌≡◌, ℕ, ◌<◌, ◌+◌, ◌%◌, sym, subst, ap, ◌∙◌, length, inl, inr, refl, arith}
+use Rattle.std.proofs.Common.{◌≡◌, ◌+◌, subst, ap, length, inr, refl, arith}
 use Rattle.deed_core.specs.declared.segments.Route.TheVariants.{Cached}
 use Rattle.stock.specs.Spaces.{HasCache}
 use Rattle.stock.specs.Stocks.{IsStock}

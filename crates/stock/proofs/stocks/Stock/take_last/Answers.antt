@@ -1,5 +1,4 @@
-use Rattle.std.proofs.Common.{rules, ◌≡◌, ◌++◌, ◌∷◌, [], IfSome, IfNone, subst}
-use Rattle.stock.specs.Stocks.{IsStock}
+use Rattle.std.proofs.Common.{rules, ◌≡◌, ◌++◌, ◌∷◌, [], IfSome, IfNone}
 use Rattle.stock.proofs.Ending.{popped_stock}
 use Rattle.stock.proofs.stocks.Stock.take_last.Goals as goal
 
