@@ -6,7 +6,7 @@ use Rattle.std.proofs.lemmas.Bool.{ne_eqb, cases_Bool, cases_eq}
 use Rattle.lease_proto.specs.Frames.{Frame, LineReaderState, frame_of, frames_in, rest_in, last_of, ended, IsOneLine}
 use Rattle.lease_proto.proofs.LawProofs.{frame_of-take, frames_in-take, rest_in-take, last_of-take, frames_in-append, rest_in-append, one_line, one_line_before, up_to}
 use Rattle.lease_server.specs.Serving.{SameFront}
-use Rattle.lease_server.specs.Intakes.{AtHand, hand_in, frames_at, begun_at, frames_on, frames_to_end, hand_of, HandTells, LineIsWhole, LineIsBegun, LineGoesOn}
+use Rattle.lease_server.specs.Intakes.{AtHand, hand_in, frames_at, begun_at, frames_on, frames_to_end, hand_of, HandTells, HandIsWhole, HandIsBegun, HandGoesOn}
 use Rattle.lease_server.proofs.ServingLemmas.{frames_in-same, rest_in-same, last_of-same}
 
 -- text with no line feed goes onto the line begun
@@ -64,11 +64,11 @@ hand_in-same xs ys (b ∷ bs) same = elim (cases_Bool (b == 10)) [
       rw other (hand_in-same (xs ++ b ∷ []) (ys ++ b ∷ []) bs on)
 ]
 
-pub line_goes_on : LineGoesOn
+pub line_goes_on : HandGoesOn
 line_goes_on bytes more one =
     hand_in-same (take 256 bytes) bytes more (take-take 256 256 bytes (omega arith)) ∙ sym (hand_in-text [] bytes more one)
 
-pub line_is_whole : LineIsWhole
+pub line_is_whole : HandIsWhole
 line_is_whole line [] whole = absurd (cc)
 line_is_whole line (b ∷ bs) whole = elim (cases_eq b 10) [
   | inl is ↦
@@ -156,7 +156,7 @@ hand_unfound held piece hand is unended none =
     hand_is_in held piece hand is unended ∙ hand_in-none held.line piece (one_line piece none)
 
 -- where no line is whole, the line begun is all
-pub line_is_begun : LineIsBegun
+pub line_is_begun : HandIsBegun
 line_is_begun line [] unended = (ap (λ l. record { line = take 256 l; whole = false; rest = [] }) (sym (append-nil line)), tt)
 line_is_begun line (b ∷ bs) unended = elim (cases_eq b 10) [
   | inl is ↦ let whole : (hand_in line (b ∷ bs)).whole ≡ true = rw is refl in let bad : true ≡ false = sym whole ∙ unended in absurd (cc)

@@ -80,20 +80,20 @@ HandTells = (bytes more : List ℕ)
     × (frames_to_end (hand_in [] bytes) more ≡ frames_of (bytes ++ more))
 
 -- a line is whole where a line feed came: it is the text before the first one
-abbrev pub LineIsWhole : Type 0
-LineIsWhole = (line bytes : List ℕ) → (hand_in line bytes).whole ≡ true
+abbrev pub HandIsWhole : Type 0
+HandIsWhole = (line bytes : List ℕ) → (hand_in line bytes).whole ≡ true
     → (text : List ℕ) × (rest : List ℕ) × IsOneLine text × (bytes ≡ ended text ++ rest)
     × (hand_in line bytes
     ≡ record { line = take LINE_ROOM (line ++ text); whole = true; rest = rest })
 
 -- where none came, all is of the line begun
-abbrev pub LineIsBegun : Type 0
-LineIsBegun = (line bytes : List ℕ) → (hand_in line bytes).whole ≡ false
+abbrev pub HandIsBegun : Type 0
+HandIsBegun = (line bytes : List ℕ) → (hand_in line bytes).whole ≡ false
     → (hand_in line bytes
     ≡ record { line = take LINE_ROOM (line ++ bytes); whole = false; rest = [] })
     × IsOneLine bytes
 
 -- what comes behind a line begun is at hand as if all had come at once
-abbrev pub LineGoesOn : Type 0
-LineGoesOn = (bytes more : List ℕ) → IsOneLine bytes
+abbrev pub HandGoesOn : Type 0
+HandGoesOn = (bytes more : List ℕ) → IsOneLine bytes
     → hand_in (take LINE_ROOM bytes) more ≡ hand_in [] (bytes ++ more)

@@ -3,7 +3,7 @@ ghost use Rattle.std.specs.Prelude.{◌≡◌, ◌⊎◌, ◌≤◌, ◌+◌, �
 ghost use Rattle.std.specs.Prelude.{true, false, IfOk, IfErr, IfSome, IfNone};
 ghost use Rattle.std.specs.Io.KnownBytes.{IsAtEnd};
 ghost use Rattle.lease_server.specs.Intakes.{IntakeState, hand_in, hand_of, ReadsOn, StopsReading};
-ghost use Rattle.lease_server.specs.Intakes.{HandTells, LineIsWhole, LineIsBegun, LineGoesOn};
+ghost use Rattle.lease_server.specs.Intakes.{HandTells, HandIsWhole, HandIsBegun, HandGoesOn};
 ghost use Rattle.lease_server.specs.Watching.{inner_of, has_failed, reads_of};
 ghost use Rattle.lease_proto.specs.declared.limits.TheConstants.{LINE_ROOM};
 ghost use Rattle.lease_server.specs.declared.intakes.TheConstants.{MOST_READS, PIECE};
@@ -180,7 +180,7 @@ fn go_on(framing: &mut LineReader, piece: &[u8]) -> usize
 /// whole line, and which a line begun; and that these go on as if all had come at once.
 pub fn hand_law()
     ensures tells { HandTells }
-    ensures whole { LineIsWhole }
-    ensures begun { LineIsBegun }
-    ensures goes_on { LineGoesOn }
+    ensures whole { HandIsWhole }
+    ensures begun { HandIsBegun }
+    ensures goes_on { HandGoesOn }
 {}
