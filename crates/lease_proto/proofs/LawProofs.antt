@@ -3,5 +3,5 @@ pub use Rattle.lease_proto.proofs.FrameLemmas.{frames_in-append, rest_in-append,
 pub use Rattle.lease_proto.proofs.FrameLemmas.{frames_in-text, rest_in-text, frames_in-none, rest_in-none, frames_in-ended, rest_in-ended, one_line}
 pub use Rattle.lease_proto.proofs.FrameLemmas.{up_to, one_line_before}
 pub use Rattle.lease_proto.proofs.ByteLemmas.{is_there, none_below}
-pub use Rattle.lease_proto.proofs.LineLemmas.{lines_are_texts, line_is_read, line_is_whole}
-pub use Rattle.lease_proto.proofs.ReplyLemmas.{replies_are_texts, reply_is_whole}
+pub use Rattle.lease_proto.proofs.LineLemmas.{lines_are_texts, line_is_read, written_line_is_whole}
+pub use Rattle.lease_proto.proofs.ReplyLemmas.{replies_are_texts, written_reply_is_whole}

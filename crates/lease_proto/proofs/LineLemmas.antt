@@ -20,7 +20,7 @@ use Rattle.lease_proto.specs.declared.limits.TheConstants.{LONGEST_LINE}
 use Rattle.lease_proto.specs.Words.{is_sentence}
 use Rattle.lease_proto.specs.Values.{◌>>=◌, words_of}
 use Rattle.lease_proto.specs.Grammar.{line_of, line_in, line_of_first, hello_in, lease_in, release_in, id_at, option_at, quantity_or, end_at}
-use Rattle.lease_proto.specs.Texts.{id_words, option_words, options_of, options_words, op_words, op_word, words_after, first_word, sentence, spaced, IsLine, IsOp, AreOptions, AsksFor, GivesOptions, MayFollow, IsTextOf, LinesAreTexts, LineIsRead, LineIsWhole, text_of}
+use Rattle.lease_proto.specs.Texts.{id_words, option_words, options_of, options_words, op_words, op_word, words_after, first_word, sentence, spaced, IsLine, IsOp, AreOptions, AsksFor, GivesOptions, MayFollow, IsTextOf, LinesAreTexts, LineIsRead, WrittenLineIsWhole, text_of}
 use Rattle.lease_proto.proofs.FramedLemmas.{words_are_whole}
 use Rattle.lease_proto.proofs.ReadLemmas.{step, told, words_step, word_step, name_step, end_step, client_step, ordinal_step, quantity_step, quantity_says, id_at_step, id_step, join_with_byte-sentence}
 use Rattle.lease_proto.proofs.GrammarLemmas.{client_again, ordinal_again, quantity_again, id_again, decimal_word, id_are_words, decimal_short, id_short, name_short, parts_of-sentence}
@@ -315,8 +315,8 @@ text_says bytes line e = words_step bytes _ line e (λ words is next. line_says 
 pub lines_are_texts : LinesAreTexts
 lines_are_texts bytes line = (text_says bytes line, λ is. let (words, may, text) = is.1 in ap line_of text ∙ text_is_read line words is.0 may)
 
-pub line_is_whole : LineIsWhole
+pub written_line_is_whole : WrittenLineIsWhole
 unfolding line_of
-line_is_whole line is =
+written_line_is_whole line is =
     let (words, are, next) = step (words_of (text_of line)) line_in line (line_is_read line is) in
     words_are_whole (text_of line) words are

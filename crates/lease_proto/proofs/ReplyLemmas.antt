@@ -18,7 +18,7 @@ use Rattle.lease_proto.specs.declared.limits.TheConstants.{LONGEST_LINE}
 use Rattle.lease_proto.specs.Words.{is_sentence}
 use Rattle.lease_proto.specs.Grammar.{id_at}
 use Rattle.lease_proto.specs.Texts.{sentence}
-use Rattle.lease_proto.specs.Replies.{reply_of, reply_in, welcome_in, granted_in, released_in, refused_in, old_in, out_of_turn_in, again_in, error_in, refusal_in, refusal_word, first_reply_word, reply_words, out_of_turn_words, reply_text, IsReply, IsOutOfTurn, RepliesAreTexts, ReplyIsWhole}
+use Rattle.lease_proto.specs.Replies.{reply_of, reply_in, welcome_in, granted_in, released_in, refused_in, old_in, out_of_turn_in, again_in, error_in, refusal_in, refusal_word, first_reply_word, reply_words, out_of_turn_words, reply_text, IsReply, IsOutOfTurn, RepliesAreTexts, WrittenReplyIsWhole}
 use Rattle.std.specs.Str.{bytes_eq}
 use Rattle.std.specs.List.{join_with_byte}
 use Rattle.lease_proto.specs.Values.{◌>>=◌, words_of}
@@ -232,8 +232,8 @@ text_says bytes reply e =
 pub replies_are_texts : RepliesAreTexts
 replies_are_texts bytes reply = (text_says bytes reply, λ is. ap reply_of is.1 ∙ text_is_read reply is.0)
 
-pub reply_is_whole : ReplyIsWhole
+pub written_reply_is_whole : WrittenReplyIsWhole
 unfolding reply_of
-reply_is_whole reply is =
+written_reply_is_whole reply is =
     let (words, are, next) = step (words_of (reply_text reply)) reply_in reply (text_is_read reply is) in
     words_are_whole (reply_text reply) words are

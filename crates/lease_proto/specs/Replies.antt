@@ -209,5 +209,5 @@ RepliesAreTexts = (bytes : List ℕ) (reply : Reply)
     → (reply_of bytes ≡ Ok reply) ↔ (IsReply reply × (bytes ≡ reply_text reply))
 
 -- what is written of a reply is one line of a stream
-abbrev pub ReplyIsWhole : Type 0
-ReplyIsWhole = (reply : Reply) → IsReply reply → IsWholeLine (reply_text reply)
+abbrev pub WrittenReplyIsWhole : Type 0
+WrittenReplyIsWhole = (reply : Reply) → IsReply reply → IsWholeLine (reply_text reply)

@@ -125,5 +125,5 @@ abbrev pub LineIsRead : Type 0
 LineIsRead = (line : Line) → IsLine line → line_of (text_of line) ≡ Ok line
 
 -- and it is one line of a stream
-abbrev pub LineIsWhole : Type 0
-LineIsWhole = (line : Line) → IsLine line → IsWholeLine (text_of line)
+abbrev pub WrittenLineIsWhole : Type 0
+WrittenLineIsWhole = (line : Line) → IsLine line → IsWholeLine (text_of line)

@@ -18,9 +18,9 @@ use std::mem;
 /// byte more shows that a line is too long.
 pub type FramedLine = ArrayVec<u8, LINE_ROOM>;
 
-/// Cuts a stream into lines. A contract sees the first `LINE_ROOM` bytes of the line that has begun,
-/// and whether its line feed has come. It takes no memory, and looks at each byte that it is fed
-/// once, or twice where it keeps it.
+/// Cuts a stream into lines. A contract sees the first `LINE_ROOM` bytes of the line that has
+/// begun, and whether its line feed has come. It takes no memory, and looks at each byte that it is
+/// fed once, or twice where it keeps it.
 #[derive(Drop)]
 pub struct LineReader {
     front: FramedLine,
@@ -45,7 +45,8 @@ impl LineReader {
     }
 
     /// Takes bytes from the front of a piece, up to its first line feed or all, and says how many.
-    /// Where the line feed has come, `next` has the line, and the rest of the piece is fed after it.
+    /// Where the line feed has come, `next` has the line, and the rest of the piece is fed after
+    /// it.
     pub fn feed(&mut self, piece: &[u8]) -> usize
         requires { self.old.whole ≡ false }
         ensures within { result ≤ length piece.now }
@@ -138,9 +139,9 @@ fn hold(front: &mut FramedLine, text: &[u8])
     front.try_extend_from_slice(&text[..room]).unwrap();
 }
 
-/// What the lines of an input are: it is lines with their line feeds and a rest, in one way, and its
-/// frames are those of these lines and the rest, however it was cut into pieces. Of a line that has
-/// begun, the first `LINE_ROOM` bytes tell all.
+/// What the lines of an input are: it is lines with their line feeds and a rest, in one way, and
+/// its frames are those of these lines and the rest, however it was cut into pieces. Of a line that
+/// has begun, the first `LINE_ROOM` bytes tell all.
 pub fn framing_law()
     ensures framed { FramesAreLines }
     ensures each { InputIsLines }

@@ -5,7 +5,7 @@ ghost use Rattle.lease_proto.specs.Grammar.{line_of, line_of_first, hello_in, le
 ghost use Rattle.lease_proto.specs.Requests.{client_of, incarnation_of, request_of, op_of};
 ghost use Rattle.lease_proto.specs.declared.lines.TheConstants.{OPTIONS_ROOM};
 ghost use Rattle.lease_proto.specs.declared.writing.TheConstants.{NUMBER_ROOM, NAME_ROOM};
-ghost use Rattle.lease_proto.specs.Texts.{text_of, first_word, op_word, hello_words, lease_words, options_words, release_words, spaced, LinesAreTexts, LineIsRead, LineIsWhole, AreOptions, IsOp, IsLine};
+ghost use Rattle.lease_proto.specs.Texts.{text_of, first_word, op_word, hello_words, lease_words, options_words, release_words, spaced, LinesAreTexts, LineIsRead, WrittenLineIsWhole, AreOptions, IsOp, IsLine};
 ghost use Rattle.std.specs.List.{flat_map};
 ghost use Rattle.std.specs.Vec.{vec_capacity};
 ghost use Rattle.lease_proto.specs.declared.limits.TheConstants.{LINE_ROOM};
@@ -356,5 +356,5 @@ impl Line {
 pub fn line_law()
     ensures exact { LinesAreTexts }
     ensures written { LineIsRead }
-    ensures whole { LineIsWhole }
+    ensures whole { WrittenLineIsWhole }
 {}

@@ -1,7 +1,7 @@
 //! The replies to a client's lines.
 ghost use Rattle.std.specs.Prelude.{◌≡◌, ◌++◌, IsOk, OnOk, OnErr, ◌∷◌, ◌+◌, ◌*◌, ◌≤◌, ℕ, List, vec_len, length};
 ghost use Rattle.lease_proto.specs.Frames.{ended};
-ghost use Rattle.lease_proto.specs.Replies.{reply_of, reply_text, first_reply_word, welcome_in, granted_in, released_in, refused_in, old_in, out_of_turn_in, again_in, error_in, welcome_words, granted_words, refused_words, old_words, out_of_turn_words, again_words, refusal_in, refusal_word, IsReply, RepliesAreTexts, ReplyIsWhole};
+ghost use Rattle.lease_proto.specs.Replies.{reply_of, reply_text, first_reply_word, welcome_in, granted_in, released_in, refused_in, old_in, out_of_turn_in, again_in, error_in, welcome_words, granted_words, refused_words, old_words, out_of_turn_words, again_words, refusal_in, refusal_word, IsReply, RepliesAreTexts, WrittenReplyIsWhole};
 ghost use Rattle.lease_proto.specs.Requests.{client_named, incarnation_named, request_named, again_request};
 ghost use Rattle.std.specs.Vec.{vec_capacity};
 ghost use Rattle.lease_proto.specs.declared.limits.TheConstants.{LINE_ROOM};
@@ -465,5 +465,5 @@ fn error(words: &mut Words<'_>) -> Result<ErrorWord, LineFault>
 /// stream.
 pub fn reply_law()
     ensures exact { RepliesAreTexts }
-    ensures whole { ReplyIsWhole }
+    ensures whole { WrittenReplyIsWhole }
 {}
