@@ -1,22 +1,22 @@
 //! Arenas that import from one another, and lists of steps over whatever parts they stand in.
 //!
-//! `Setup` (setups) is what a system is made from: arenas by name, each a root with owned spans or a
-//! child that imports, added one by one; its type keeps it acceptable. `Tree` (trees) is a setup
-//! without its spans: it finds an arena's number by its name, and its chain, which is the arena, its
-//! source, that one's source and so on. To find a name looks at each of at most 32; a chain is kept,
-//! and takes constant time.
+//! `Setup` (setups) is what a system is made from: arenas by name, each a root with owned spans or
+//! a child that imports, added one by one; its type keeps it acceptable. `Tree` (trees) is a setup
+//! without its spans: it finds an arena's number by its name, and its chain, which is the arena,
+//! its source, that one's source and so on. To find a name looks at each of at most 32; a chain is
+//! kept, and takes constant time.
 //!
-//! `Parts` (parts) is what one CPU can reach: each call is one event, in one part under its lock, or
-//! in the CPU's own magazines. `climb_alloc` and `climb_free` (climbs) go up a chain and down again
-//! by such events, over any parts: one thread's, or those of a system of locks. They take a time
-//! that grows with the chain, at most four arenas, beside what the parts take.
+//! `Parts` (parts) is what one CPU can reach: each call is one event, in one part under its lock,
+//! or in the CPU's own magazines. `climb_alloc` and `climb_free` (climbs) go up a chain and down
+//! again by such events, over any parts: one thread's, or those of a system of locks. They take a
+//! time that grows with the chain, at most four arenas, beside what the parts take.
 //!
 //! specs/Setups.antt and specs/Settings.antt say what is added to a tree and a setup, and exactly
 //! when which refusal comes. specs/Events.antt has the events with the type of their answers,
 //! specs/Sound.antt what is so of every answer, specs/Plans.antt what a list of steps is: a tree
-//! that asks an event and goes on by its answer. specs/Climbs.antt has the lists of steps of climbs,
-//! line by line, and specs/Laws.antt what follows from them. A generic function has the one clause
-//! that its list of steps was gone through (`Ran`); all else is a law of the list.
+//! that asks an event and goes on by its answer. specs/Climbs.antt has the lists of steps of
+//! climbs, line by line, and specs/Laws.antt what follows from them. A generic function has the one
+//! clause that its list of steps was gone through (`Ran`); all else is a law of the list.
 #![tactic(auto)]
 
 mod climbs;

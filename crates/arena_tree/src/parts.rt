@@ -14,8 +14,8 @@ use deed_core::{Held, Request, Route};
 
 /// What one CPU can reach, over segments that are known by their tags. Each call is one event. All
 /// but the last three happen in one part that is shared, under its lock, if it has one; where the
-/// CPU is to stop they answer Stopped, and nothing is done. `pop`, `push` and `change` are the CPU's
-/// own. Arenas go by their numbers, and caches by theirs: the cache `k` is for `k` quanta.
+/// CPU is to stop they answer Stopped, and nothing is done. `pop`, `push` and `change` are the
+/// CPU's own. Arenas go by their numbers, and caches by theirs: the cache `k` is for `k` quanta.
 pub trait Parts<S: Held> {
     // what is known of an event: the parts before it, the event, its answer, the parts after it
     ghost step: { Self → (e : Event) → Answer e → Self → Type 0 };
