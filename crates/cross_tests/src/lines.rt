@@ -1,7 +1,10 @@
 //! Every form of line and reply, lines that are none, and streams cut at every byte.
 ghost use Rattle.std.specs.Prelude.{◌≡◌, ◌++◌, false};
 
-use lease_proto::{ErrorWord, Granted, HelloLine, LeaseLine, LeaseOptions, Line, LineFault, LineReader, Op, OperatorLine, PolicyWord, Refused, ReleaseLine, Reply, RootLine, ServedLine, SetupLine};
+use lease_proto::{
+    ErrorWord, Granted, HelloLine, LeaseLine, LeaseOptions, Line, LineFault, LineReader, Op,
+    OperatorLine, PolicyWord, Refused, ReleaseLine, Reply, RootLine, ServedLine, SetupLine,
+};
 use lease_terms::{ClientId, Name, Ordinal, Quantity, Refusal, RequestId};
 use std::alloc::{AllocError, Global};
 use std::process::Abort;

@@ -8,7 +8,7 @@ use Rattle.deed_core.specs.Tag.{Tag}
 use Rattle.lease_terms.specs.Ranges.{IsClient, IsOrdinal, IsQuantity}
 use Rattle.lease_terms.specs.Requests.{RequestId, IsRequestId}
 use Rattle.lease_book.specs.Receipts.{Kept, IsEarned}
-use Rattle.lease_book.specs.Entry.{Settlement, Grant, Return, Refuse, Entry, Hello, Settled, Swept, subject_of, kept, reply_of, terms_of}
+use Rattle.lease_book.specs.Entry.{Settlement, Grant, Return, Refuse, Entry, Hello, Settled, Swept, subject_of, kept, kept_reply_of, terms_of}
 use Rattle.lease_book.specs.Account.{Lease, Account, is_lease, without_first, lease_of, granted_request, leases_after}
 use Rattle.lease_book.specs.History.{incarnation, leases_of, clients_of, kept_of, outcome_of, account, IsProper, AreOrderly}
 use Rattle.lease_book.specs.BookState.{BookState, IsHistory, HasHistory, Enters, account_in, clients_in, weight_of, segments, leased_by, leased}
@@ -187,12 +187,12 @@ entry_in_range (Settled d t ∷ older) (suc j) id s orderly at = entry_in_range 
 entry_in_range (Swept c i a b ∷ older) zero id s orderly at = absurd (cc)
 entry_in_range (Swept c i a b ∷ older) (suc j) id s orderly at = entry_in_range older j id s orderly.1 at
 
-reply_in_range : (leases : List Lease) (id : RequestId) (s : Settlement) → IsProper leases id s → IsReplyInRange (reply_of s)
+reply_in_range : (leases : List Lease) (id : RequestId) (s : Settlement) → IsProper leases id s → IsReplyInRange (kept_reply_of s)
 reply_in_range leases id (Grant t terms) is = is.0
 reply_in_range leases id (Return arena base) is = tt
 reply_in_range leases id (Refuse why) is = tt
 
-settled_earned : (leases : List Lease) (id : RequestId) (s : Settlement) → IsProper leases id s → IsEarned (reply_of s) (terms_of s)
+settled_earned : (leases : List Lease) (id : RequestId) (s : Settlement) → IsProper leases id s → IsEarned (kept_reply_of s) (terms_of s)
 settled_earned leases id (Grant t terms) is = is.1
 settled_earned leases id (Return arena base) is = tt
 settled_earned leases id (Refuse why) is = tt

@@ -30,10 +30,10 @@ subject_of (Hello c i) = c
 subject_of (Settled id s) = id.client
 subject_of (Swept c i arena base) = c
 
-abbrev pub reply_of : Settlement → KeptReply
-reply_of (Grant t terms) = Granted t.arena t.holding.range.base t.holding.range.len
-reply_of (Return arena base) = Released
-reply_of (Refuse why) = Refused why
+abbrev pub kept_reply_of : Settlement → KeptReply
+kept_reply_of (Grant t terms) = Granted t.arena t.holding.range.base t.holding.range.len
+kept_reply_of (Return arena base) = Released
+kept_reply_of (Refuse why) = Refused why
 
 abbrev pub terms_of : Settlement → Option Terms
 terms_of (Grant t terms) = Some terms
@@ -42,4 +42,4 @@ terms_of (Refuse why) = None
 
 -- what is kept of a settled number
 abbrev pub kept : ℕ → Settlement → Kept
-kept number s = record { number = number; reply = reply_of s; terms = terms_of s }
+kept number s = record { number = number; reply = kept_reply_of s; terms = terms_of s }

@@ -1,6 +1,5 @@
 //! The client.
 ghost use Rattle.std.specs.Prelude.{◌≡◌, ◌+◌, ◌≤◌, ◌^◌, ◌<◌, ◌⊎◌, ◌↔◌, max, IfOk, IfSome, IfNone, IsSome, true, false};
-ghost use Rattle.lease_proto.specs.Texts.{IsOp, IsLine};
 ghost use Rattle.lease_client.specs.Calls.{ReadsBack};
 ghost use Rattle.lease_client.specs.ClientState.{silent, IsSound};
 
@@ -232,44 +231,8 @@ fn reads_back(line: &Line)
     ensures { ReadsBack line.now }
 {
     // For their clauses: what is written of a line with its values in range is read as that line.
-    check_line(line);
+    line.check();
     line_law();
-}
-
-/// Each value of the line is in its range. This does nothing: it is called for its clause.
-fn check_line(line: &Line)
-    ensures { IsLine line.now }
-{
-    match line {
-        Line::Hello(hello) => {
-            let _ = hello.client.get();
-            let _ = hello.incarnation.get();
-        }
-        Line::Request(id, op) => {
-            id.check();
-            check_op(op);
-        }
-    }
-}
-
-fn check_op(op: &Op)
-    ensures { IsOp op.now }
-{
-    match op {
-        Op::Lease(lease) => {
-            let _ = lease.arena.as_slice();
-            let _ = lease.size.get();
-            let _ = lease.options.align.get();
-            let _ = lease.options.phase.get();
-            let _ = lease.options.nocross.get();
-            let _ = lease.options.min.get();
-            let _ = lease.options.max.get();
-        }
-        Op::Release(release) => {
-            let _ = release.arena.as_slice();
-            let _ = release.base.get();
-        }
-    }
 }
 
 #[cfg(test)]

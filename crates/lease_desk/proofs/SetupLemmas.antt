@@ -13,7 +13,7 @@ use Rattle.deed_core.specs.Tag.{Tag}
 use Rattle.tag_arena.specs.Layout.{FreeIsLongestRuns, IsLongestRun, IsRun, IsPartOf}
 use Rattle.tag_arena.specs.ArenaState.{ArenaState, spans_of, layout_of, ranges_of, IsSound}
 use Rattle.tag_arena.specs.Calls.{after_add}
-use Rattle.lease_book.specs.Entry.{Entry, Hello, Settled, Swept, reply_of}
+use Rattle.lease_book.specs.Entry.{Entry, Hello, Settled, Swept, kept_reply_of}
 use Rattle.lease_book.specs.BookState.{BookState, leased}
 use Rattle.lease_book.specs.declared.receipts.KeptReply.{KeptReply}
 use Rattle.lease_book.specs.declared.receipts.KeptReply.TheVariants.{Granted, Released, Refused}
@@ -103,7 +103,7 @@ wider_reply n m (Refused w) more h = tt
 
 wider_entry : (n m : ℕ) (e : Entry) → n ≤ m → IsPossible n e → IsPossible m e
 wider_entry n m (Hello c i) more h = h
-wider_entry n m (Settled id s) more h = wider_reply n m (reply_of s) more h
+wider_entry n m (Settled id s) more h = wider_reply n m (kept_reply_of s) more h
 wider_entry n m (Swept c i a b) more h = tt
 
 wider : (n m : ℕ) (es : List Entry) → n ≤ m → AllByRecursion (IsPossible n) es → AllByRecursion (IsPossible m) es

@@ -100,8 +100,8 @@ RefusesMore x e BadQuantum = ⊥
 RefusesMore x e NotYet = ⊥
 
 -- why a span is refused: there is no such arena, or that arena takes it not
-abbrev pub RefusesSpan : List NamedArenaState → List ℕ → Extent → SetupFault → Type 0
-RefusesSpan arenas name e fault = ((fault ≡ NoArena) × (index_in name arenas ≡ None))
+abbrev pub RefusesMoreSpan : List NamedArenaState → List ℕ → Extent → SetupFault → Type 0
+RefusesMoreSpan arenas name e fault = ((fault ≡ NoArena) × (index_in name arenas ≡ None))
     ⊎ ((index : ℕ) × (x : NamedArenaState) × Finds arenas name index x × RefusesMore x e fault)
 
 -- the arena of this name has the span more

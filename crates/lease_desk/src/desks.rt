@@ -7,7 +7,7 @@ ghost use Rattle.lease_proto.specs.declared.limits.TheConstants.{LINE_ROOM};
 ghost use Rattle.lease_desk.specs.DeskState.{IsOrderly};
 ghost use Rattle.lease_desk.specs.Machine.{LeaseStep, LineStep, ServedStep};
 ghost use Rattle.lease_desk.specs.Operators.{asked_text, Tells};
-ghost use Rattle.lease_desk.specs.Setup.{root_of, arena_asked, RefusesArena, AddsArena, RefusesSpan, AddsSpan};
+ghost use Rattle.lease_desk.specs.Setup.{root_of, arena_asked, RefusesArena, AddsArena, RefusesMoreSpan, AddsSpan};
 
 use crate::closings::close_spaces;
 use crate::faults::SetupFault;
@@ -100,7 +100,7 @@ impl Desk {
             (record { base = base; len = len }) self.old.arenas self.new.arenas) }
         ensures book { self.new.book ≡ self.old.book }
         ensures orderly { IsOrderly self.new }
-        ensures refused { IfErr result (RefusesSpan self.old.arenas name.now
+        ensures refused { IfErr result (RefusesMoreSpan self.old.arenas name.now
             (record { base = base; len = len })) }
         ensures unchanged { OnErr result (self.new ≡ self.old) }
     {

@@ -2,7 +2,7 @@
 ghost use Rattle.std.specs.Prelude.{◌≡◌, ◌<◌, ◌≤◌, length, IsSome, IfSome, IfOk, IfErr, OnOk, OnErr, ◌↔◌};
 ghost use Rattle.std.specs.Int.{IsPowerOfTwo};
 ghost use Rattle.tag_arena.specs.ArenaState.{IsSound};
-ghost use Rattle.lease_desk.specs.Setup.{root_of, IsWholeRange, CanAdd, CanSpan, RefusesArena, AddsArena, RefusesMore, RefusesSpan, AddsSpan, with_span};
+ghost use Rattle.lease_desk.specs.Setup.{root_of, IsWholeRange, CanAdd, CanSpan, RefusesArena, AddsArena, RefusesMore, RefusesMoreSpan, AddsSpan, with_span};
 ghost use Rattle.lease_desk.specs.Spaces.{state_of, states_of, IsSpace, AreSpaces};
 ghost use Rattle.lease_desk.specs.Roots.{asked, space_of};
 
@@ -141,7 +141,7 @@ pub(crate) fn add_span(
     ensures sound { OnOk result (AreSpaces spaces.new.items) }
     ensures added { OnOk result (AddsSpan name.now (record { base = base; len = len })
         (states_of spaces.old.items) (states_of spaces.new.items)) }
-    ensures refused { IfErr result (RefusesSpan (states_of spaces.old.items) name.now
+    ensures refused { IfErr result (RefusesMoreSpan (states_of spaces.old.items) name.now
         (record { base = base; len = len })) }
     ensures err { OnErr result (spaces.new.items ≡ spaces.old.items) }
 {

@@ -8,7 +8,7 @@ use Rattle.lease_proto.specs.declared.setup_lines.PolicyWord.{PolicyWord}
 use Rattle.lease_proto.specs.declared.setup_lines.PolicyWord.TheVariants as words
 use Rattle.lease_desk.specs.DeskState.{DeskState, IsOrderly}
 use Rattle.lease_desk.specs.Machine.{LeaseStep}
-use Rattle.lease_desk.specs.Setup.{NewArena, AddsArena, RefusesArena, AddsSpan, RefusesSpan}
+use Rattle.lease_desk.specs.Setup.{NewArena, AddsArena, RefusesArena, AddsSpan, RefusesMoreSpan}
 use Rattle.lease_desk.specs.declared.faults.SetupFault.{SetupFault}
 use Rattle.lease_desk.specs.declared.faults.SetupFault.TheVariants as desk
 use Rattle.vmemd.specs.Scripts.{RunsWhole, RunFails}
@@ -67,7 +67,7 @@ RefusesSetting old (Root r) word = (fault : SetupFault) × RefusesArena old.aren
     × (setting_fault fault ≡ setting.Refused word)
 RefusesSetting old (Child c) word = word ≡ config.NotYet unserved.Children
 RefusesSetting old (Span s) word = (fault : SetupFault)
-    × RefusesSpan old.arenas s.name (range_of s) fault
+    × RefusesMoreSpan old.arenas s.name (range_of s) fault
     × (setting_fault fault ≡ setting.Refused word)
 
 -- a desk with no arena and an empty book

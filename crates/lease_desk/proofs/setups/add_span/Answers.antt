@@ -3,7 +3,7 @@ use Rattle.std.specs.Prelude.{slice_get}
 use Rattle.lease_desk.specs.declared.spaces.Space.{Space}
 use Rattle.deed_core.specs.Extent.{Extent}
 use Rattle.lease_desk.specs.Machine.{index_in}
-use Rattle.lease_desk.specs.Setup.{RefusesMore, RefusesSpan}
+use Rattle.lease_desk.specs.Setup.{RefusesMore, RefusesMoreSpan}
 use Rattle.lease_desk.specs.Spaces.{state_of, states_of, IsSpace, AreSpaces}
 use Rattle.deed_core.proofs.LawProofs.{slice_get_here, slice_get_mapped}
 use Rattle.lease_desk.proofs.SpaceLemmas.{spaces_after}
@@ -41,5 +41,5 @@ returns-clause-refused c =
     let first : index_in c.args.name.now (states_of c.args.spaces.now.items) ≡ Some c.in-Some.index = sym (ap (λ (xs : List Space). index_in c.args.name.now (states_of xs)) c.deref.ensures.value) ∙ sym c.in-Some.ensures.index in
     let at = slice_get_mapped state_of c.args.spaces.now.items c.in-Some.index c.index_mut.result.now here in
     let e : Extent = record { base = c.args.base; len = c.args.len } in
-    if_err c.extend.result (λ f. RefusesMore (state_of c.index_mut.result.now) e f) (λ f. RefusesSpan (states_of c.args.spaces.now.items) c.args.name.now e f)
+    if_err c.extend.result (λ f. RefusesMore (state_of c.index_mut.result.now) e f) (λ f. RefusesMoreSpan (states_of c.args.spaces.now.items) c.args.name.now e f)
     (λ f is. inr (c.in-Some.index, state_of c.index_mut.result.now, record { first = first; here = at }, is)) c.extend.ensures.refused

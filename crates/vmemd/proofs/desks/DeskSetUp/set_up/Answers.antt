@@ -1,6 +1,6 @@
 use Rattle.std.proofs.Common.{◌≡◌, refl, subst}
 use Rattle.std.proofs.lemmas.Result.{err_from_is_err_and}
-use Rattle.lease_desk.specs.Setup.{RefusesSpan}
+use Rattle.lease_desk.specs.Setup.{RefusesMoreSpan}
 use Rattle.lease_desk.specs.declared.faults.SetupFault.{SetupFault}
 use Rattle.lease_desk.specs.declared.faults.SetupFault.TheVariants as desk
 use Rattle.vmemd.specs.Desks.{setting_fault, RefusesSetting}
@@ -28,6 +28,6 @@ returns-in_err-add_span-in-Span-clause-refused c =
     let fault = c.in_err-add_span-in-Span.field-0.0 in
     let arenas = c.args.self.now.arenas in
     let span = c.in-Span.span in
-    let refused = subst (λ l. RefusesSpan arenas span.name (record { base = span.base; len = l }) fault) c.get-in-Span-2.ensures.value
-    (subst (λ b. RefusesSpan arenas span.name (record { base = b; len = c.get-in-Span-2.result }) fault) c.get-in-Span.ensures.value c.in_err-add_span-in-Span.ensures.refused) in
+    let refused = subst (λ l. RefusesMoreSpan arenas span.name (record { base = span.base; len = l }) fault) c.get-in-Span-2.ensures.value
+    (subst (λ b. RefusesMoreSpan arenas span.name (record { base = b; len = c.get-in-Span-2.result }) fault) c.get-in-Span.ensures.value c.in_err-add_span-in-Span.ensures.refused) in
     rw (p.1, p.2, c.in-Span.is) (refused_by (RefusesSetting c.args.self.now (Span span)) fault (λ word e. (fault, refused, e)))
