@@ -1,5 +1,5 @@
 //! What one CPU can reach: the parts that all share, and its own magazines.
-ghost use Rattle.std.specs.Prelude.{◌≡◌, ℕ, ◌<◌, ◌≤◌, List, Some, length};
+ghost use Rattle.std.specs.Prelude.{◌≡◌, ℕ, ◌%◌, ◌<◌, ◌≤◌, List, Some, length};
 ghost use Rattle.deed_core.specs.Request.{rounded};
 ghost use Rattle.arena_tree.specs.Chains.{Node, source_of, quantum_of};
 ghost use Rattle.arena_tree.specs.Events.{Event, Answer, Carve, Free, AddCarve, SlabTake, SlabPut, SlabAdd, SlabReap, SwapFull, SwapEmpty, SwapFresh, DepotReap, Pop, Push, Change};
@@ -69,8 +69,11 @@ pub trait Parts<S: Held> {
 
     /// Makes a slab of a span, and takes its first chunk.
     fn slab_add(&mut self, arena: u32, cache: u8, segment: S) -> Result<S, SlabAddFault<S>>
+        requires within { arena < length (tree self.old) }
         requires arena { (S.tag segment).arena ≡ arena }
         requires direct { (S.tag segment).route ≡ Route.Direct }
+        requires grid { (S.tag segment).holding.range.base
+            % quantum_of (tree self.old) arena ≡ 0 }
         ensures { Step step tree count rounds self.old (SlabAdd arena cache (S.tag segment))
             (tag_slab S.tag result) self.new };
 

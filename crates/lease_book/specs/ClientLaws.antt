@@ -63,8 +63,8 @@ IsReplyInRange (Granted arena base len) = IsRange (record { base = base; len = l
 IsReplyInRange Released = Unit {0}
 IsReplyInRange (Refused why) = Unit {0}
 
--- the numbers that an account tells are in their ranges, and its leases are few; 0 is the incarnation of a client that
--- never said hello
+-- the numbers that an account tells are in their ranges, and its leases are few; 0 is the
+-- incarnation of a client that never said hello
 pub record IsInBounds (a : Account) : Type 0 where
   pub incarnation : IsQuantity a.incarnation
   pub few : length a.leases ≤ MOST_LEASES

@@ -68,5 +68,6 @@ pub enum Answer<D> {
 pub struct NotLeased<S, D> {
     /// As it was given.
     pub segment: S,
+    /// What the request is answered: by each answer but that of a grant.
     pub answer: Answer<D>,
 }

@@ -17,8 +17,8 @@
 //!
 //! What it costs: a look-up of a client takes the same time however many there are, and so does a
 //! grant or a refusal. A release and a sweep look at the leases of one client, at most
-//! `MOST_LEASES`, and `units` at all leases. Ending all leases one by one looks at each client once.
-//! A book keeps a few words for each client that ever said hello and for each lease.
+//! `MOST_LEASES`, and `units` at all leases. Ending all leases one by one looks at each client
+//! once. A book keeps a few words for each client that ever said hello and for each lease.
 #![tactic(auto)]
 
 mod accounts;

@@ -49,7 +49,8 @@ covers_homed u s = covers_held u s.holding
 
 -- each unit of the arena's spans is in one place, and no other unit is in any
 pub record OnePlace (arena : ℕ) (x : NamedArenaState) (book : BookState) : Type 0 where
-  pub places : (u : ℕ) → sum_by (covers_homed u) (homed_ranges arena x book) ≡ covering_held u x.spans
+  pub places : (u : ℕ)
+      → sum_by (covers_homed u) (homed_ranges arena x book) ≡ covering_held u x.spans
   pub once : (u : ℕ) → covering_held u x.spans ≤ 1
 
 -- what a segment weighs in an arena: nothing in another one

@@ -12,8 +12,9 @@
 //! What it costs: a line finds its arena by a search through the names, at most `MOST_ARENAS`, and
 //! its client at once. A lease then costs what `xalloc` does, which grows with the free ranges of
 //! the arena; a release looks at the client's leases, at most `lease_book::MOST_LEASES`, and at the
-//! arena's spans and free ranges; a hello does the same for each lease that it sweeps. `audit` looks
-//! at all ranges, `clients` at each client once. A span more costs the setup a look at each span.
+//! arena's spans and free ranges; a hello does the same for each lease that it sweeps. `audit`
+//! looks at all ranges, `clients` at each client once. A span more costs the setup a look at each
+//! span.
 #![tactic(auto)]
 
 mod answers;

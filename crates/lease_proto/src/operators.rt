@@ -37,7 +37,7 @@ pub enum ServedLine {
 
 impl ServedLine {
     /// The line that these bytes are, or the first reason why they are none. They are given without
-    /// the line feed. Its words are found once. It takes no memory.
+    /// the line feed. It is checked and then cut once, whoever's it is. It takes no memory.
     #[tactic(auto, unfolding(crate::specs::Operators::served_of))]
     pub fn read(bytes: &[u8]) -> Result<ServedLine, LineFault>
         ensures { result ≡ served_of bytes.now }

@@ -70,34 +70,38 @@ there are no comments. A root or span line after that is answered by error word.
   span NAME BASE LEN                       a further span of that arena, of whole quanta too
 
 POLICY says which units a lease gets, of all free ones that fit it:
-  best     the lowest in the shortest free range, of equally short ones the lowest range
-  next     the lowest from the end of the arena's last lease on; where there are none, the lowest of
-           all. So numbers come round before they are used again
+  best     the lowest in the shortest free range (measured whole), of equally short ones the lowest
+           range
+  next     the lowest from the end of the lease given last, be it ended or not; where there are none,
+           the lowest of all. So numbers come round before they are used again
   instant  for a lease with no option: a free range of 2^i quanta or more, but below 2^(i+1), is of
            kind i. The lease gets the front of the newest range of the least kind that has one and
            whose 2^i quanta are enough. Where no kind is so, and for a lease with an option, as best
 
 Then the lines of clients. Clients C are 1 to 65536; I and N are 1 to 2^62:
-  hello C I                  client C begins as its incarnation I. A client that restarts takes a
-                             greater I, and loses the leases of its older ones
+  hello C I                  client C begins as its incarnation I, which may skip numbers. A client
+                             that restarts takes a greater I, and loses the leases of its older
+                             ones. Its present I is welcome again, and changes nothing: whoever
+                             doesn't know its I goes on to a greater one
   lease C I N NAME SIZE ..   its request N asks for SIZE units of arena NAME, with the options below
   release C I N NAME BASE    its request N gives back its whole lease that begins at BASE
-The requests of an incarnation count 1, 2, 3, .., leases and releases together. The last one, sent
-again, gets its first answer and does nothing else. A new incarnation begins at 1 again.
+The requests of an incarnation count 1, 2, 3, .., leases and releases together. The last N, sent
+again, gets its first answer, whatever else the line says, and does nothing else. A new incarnation
+begins at 1 again.
 
 The options of a lease, each at most once and in this order (in another, the line is answered by
 error badline, and its N isn't used). A lease is the LEN units from BASE on, in one span; LEN is
 SIZE rounded up to whole quanta, and BASE a multiple of QUANTUM:
   align A     BASE is a multiple of A, where no phase P follows
-  phase P     only with align A: BASE divided by A leaves P
+  phase P     only after align A: BASE divided by A leaves the remainder P, and not 0
   nocross X   the lease lies between two neighbouring multiples of X, and may begin or end on them:
               with nocross 8 it may be the units 3 to 7, or 8 to 15, but not 6 to 9
   min L       BASE is at least L
   max H       the lease ends at H or before: unit H itself isn't in it
 Without an option, or where A, P, X or L is 0 or H is 2^62, there is no such condition. A request
 is bad where a condition has an A or X that is no power of two or no multiple of QUANTUM; a P that
-isn't below A or is no multiple of QUANTUM; an X below LEN; or an L that isn't below H. So it is
-where SIZE is 0.
+isn't below A or is no multiple of QUANTUM; an X below LEN; or an L, or 0 with no min, that isn't
+below H. So it is where SIZE is 0. L and H need be no multiples of QUANTUM.
 
 Answers to clients:
   welcome C I                   the hello is taken
@@ -106,8 +110,8 @@ Answers to clients:
   refused C I N WORD            noarena: no arena has this name; badrequest: the request is bad;
                                 nofit: no free units fit it; leases: the client has 1024 leases;
                                 notyours: incarnation I has no lease that begins at BASE
-  old C V                       the client's incarnation is V, not I: it goes on as V, or says hello
-                                with a greater I. V is 0 before its first hello
+  old C V                       the client's incarnation is V, not I: it says hello with an I above
+                                V. V is 0 before its first hello
   stale C I N V                 N was used already: the last request was V, and V + 1 is next
   gap C I N V                   N is too high: the last request was V, and V + 1 is next
   again C I N                   memory was refused and nothing was done; send the line once more.
@@ -116,12 +120,13 @@ Each refused answer counts as the answer to its N; old, stale, gap, again and er
 
 Lines of operators:
   audit     for each arena: arena NAME free F slab S magazine M exported E leased L hand H, in
-            units: F are in no lease, L are in one, and the others are 0 so far
+            units: F are in no lease, L are in one; S, M, E and H are 0 in this version
   clients   for each client: client C I LAST LEASES, its last request and how many leases it has
 
 A line that is none of these is answered by error and a word, and does nothing: toolong (above 255
 bytes), badline (a space too many, another byte, no line feed; too few words or too many, an option
-out of order), word (no line begins so) or number (no number, or out of its range).
+that is unknown, out of order, twice or without its number), word (no line begins so) or number (no
+number, or out of its range).
 
 A refused setup line ends the program with vmemd: line K: WORD, and nothing is written. WORD is
 toolong, badline, word or number where the line is no root or span line as above; name where the

@@ -7,7 +7,7 @@ use self::tables::{ASKED, MISTAKEN, REFUSED, ROWS};
 use crate::commands::{Words, WordsFault, read_words};
 use crate::faults::{ConfigFault, ScriptFault};
 use crate::scripts::run_script;
-use lease_book::LEASES;
+use lease_book::MOST_LEASES;
 use lease_proto::{LONGEST_LINE, LineFault, MOST_ARENAS, MOST_SPANS};
 use lease_server::Watched;
 use lease_terms::{LAST_CLIENT, LONGEST_NAME};
@@ -146,15 +146,12 @@ fn hostile_lines(rt: HostRuntime) -> Result<(), Fail> {
     Ok(())
 }
 
-/// The most leases that a client has.
-const MOST_LEASES: u64 = 1024;
-
 #[test]
 fn a_client_has_so_many_leases(rt: HostRuntime) -> Result<(), Fail> {
     let alloc = rt.alloc();
     let mut input = Vec::from_slice(alloc, b"root m 0 2048 1 best 0\nhello 1 1\n")?;
     let mut expected = Vec::from_slice(alloc, b"welcome 1 1\n")?;
-    for number in 1..=MOST_LEASES {
+    for number in 1..=MOST_LEASES as u64 {
         let base = number - 1;
         let line = format!(in alloc; "lease 1 1 {number} m 1\n")?;
         input.extend_from_slice(line.as_bytes())?;
@@ -362,7 +359,7 @@ fn the_help_tells_the_limits(rt: HostRuntime) -> Result<(), Fail> {
         format!(in alloc; "at most {LONGEST_LINE} bytes")?,
         format!(in alloc; "at most {LONGEST_NAME} characters")?,
         format!(in alloc; "Clients C are 1 to {LAST_CLIENT};")?,
-        format!(in alloc; "the client has {LEASES} leases")?,
+        format!(in alloc; "the client has {MOST_LEASES} leases")?,
         format!(in alloc; "above {MOST_ARENAS} arenas or {MOST_SPANS} spans")?,
     ] {
         assert!(rt; help.contains(limit.as_str()), "{limit}");

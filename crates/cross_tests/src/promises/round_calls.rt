@@ -1,12 +1,13 @@
 //! A CPU's cache, its depot, and magazines.
-ghost use Rattle.std.specs.Prelude.{◌≡◌, ◌≤◌, ◌++◌, ◌∷◌, [], All, IfOk, OnOk, IfSome, length};
+ghost use Rattle.std.specs.Prelude.{◌≡◌, ◌≤◌, ◌++◌, ◌∷◌, ◌↔◌, [], All, IfOk, IsTrue, OnOk, IfSome, length};
 ghost use Rattle.std.specs.Prelude.{flat_map, option_to_list};
 ghost use Rattle.deed_core.specs.Tag.{Tag};
 ghost use Rattle.deed_core.specs.Weights.{Gains, Loses, WeighSame};
 ghost use Rattle.magazine_layer.specs.Calls.{PopOf, PushOf, SwapFullOf, SwapEmptyOf, PutFullOf};
 ghost use Rattle.magazine_layer.specs.Calls.{ResizeOf, DepotReapOf, ChangeOverOf};
-ghost use Rattle.magazine_layer.specs.Depots.{IsDepot, both_rounds, depot_rounds};
-ghost use Rattle.magazine_layer.specs.Magazines.{AreAmong, BothEmpty, BothFull, IsShaped, IsSize};
+ghost use Rattle.magazine_layer.specs.Depots.{CanReap, IsDepot, both_rounds, depot_rounds};
+ghost use Rattle.magazine_layer.specs.Magazines.{AreAmong, BothEmpty, BothFull, IsMagazine, IsShaped};
+ghost use Rattle.magazine_layer.specs.Magazines.{IsSize};
 ghost use Rattle.magazine_layer.specs.Magazines.{cache_rounds, empty_magazine};
 ghost use Rattle.magazine_layer.specs.Rounds.{rounds_of_answer, rounds_of_op};
 
@@ -217,4 +218,33 @@ fn rounds_move(rt: HostRuntime) {
         (Ok(()), Ok(())) => {}
         _ => panic!(rt; "no round is left"),
     }
+}
+
+/// Whether a round may be reaped.
+fn may_reap<D: Deed>(depot: &Depot<D>) -> bool
+    ensures { IsTrue result ↔ CanReap depot.now }
+{
+    depot.can_reap()
+}
+
+/// An interval begins.
+fn begin_interval<D: Deed>(depot: &mut Depot<D>)
+    ensures { IsDepot depot.new }
+{
+    depot.tick();
+}
+
+/// The two magazines come out with the cache's rounds.
+fn unload<D: Deed>(cpu: CpuCache<D>) -> (Magazine<D>, Magazine<D>)
+    ensures { AreAmong (result.1.rounds ++ result.0.rounds) (cache_rounds cpu) }
+{
+    cpu.unload()
+}
+
+/// A magazine's last round comes out.
+fn take_last<D: Deed>(magazine: &mut Magazine<D>) -> Option<Segment<D>>
+    ensures kinds { AreAmong (option_to_list result ++ magazine.new.rounds) magazine.old.rounds }
+    ensures shape { IsMagazine magazine.new }
+{
+    magazine.take()
 }
