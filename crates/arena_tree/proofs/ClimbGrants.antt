@@ -46,7 +46,7 @@ gives_added nodes up child n given (Err (adding.NoMemory t)) s = gives_refused n
 
 gives_carved : (nodes : List Node) (import : Plan Climbed) (up : List Level) (id n : ℕ) (x : Result Tag CarveFault) → Gives nodes (λ (r : Climbed). Unit {0}) import → SoundCarve nodes id (plain_of n) x
     → Gives nodes (λ (r : Climbed). IfOk r (IsGrant nodes id (plain_of n))) (after_carve import up id n x)
-gives_carved nodes import up id n (Ok t) w s = s
+gives_carved nodes import up id n (Ok t) w s = s.1
 gives_carved nodes import up id n (Err carving.BadRequest) w s = tt
 gives_carved nodes import up id n (Err carving.NoMemory) w s = tt
 gives_carved nodes import up id n (Err carving.Stopped) w s = tt

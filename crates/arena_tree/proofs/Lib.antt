@@ -3,6 +3,7 @@ mod Amounts
 mod ClimbBounds
 mod ClimbGrants
 mod ClimbHands
+mod ClimbTold
 mod Paths
 mod Same
 mod SetupLemmas

@@ -1,9 +1,10 @@
 -- Paths of events, put together.
-use Rattle.std.proofs.Common.{◌≡◌, ℕ, ◌+◌, ◌≤◌, List, Option, Some, None, arith, refl, sym, ap, subst, ◌∙◌}
+use Rattle.std.proofs.Common.{◌≡◌, ℕ, ◌+◌, ◌≤◌, List, Option, Some, None, Bool, true, false, arith, refl, sym, ap, subst, ◌∙◌}
 use Rattle.deed_core.specs.Tag.{Tag}
 use Rattle.arena_tree.specs.Chains.{Node}
 use Rattle.arena_tree.specs.Events.{Event, Answer, Begins, hand_after, locks}
 use Rattle.arena_tree.specs.Sound.{Sound}
+use Rattle.arena_tree.specs.Stops.{is_stopped, Counts}
 use Rattle.arena_tree.specs.Plans.{Plan, Done, Ask, then, or_else, Step, Path, Ran, Within, Handles, Gives}
 
 module _ {S : Type 0} (step : S → (e : Event) → Answer e → S → Type 0) where
@@ -21,6 +22,11 @@ module _ {S : Type 0} (step : S → (e : Event) → Answer e → S → Type 0) w
       → (p : Plan A) (s t : S) (h : Option Tag) (a : A) → Path step p s t a → Handles left p h → weight t (left a) ≡ weight s h
   path_keeps weight left keeps (Done b) s t h a d k = sym (ap (λ x. weight x h) d.0 ∙ (ap (weight t) k ∙ ap (λ x. weight t (left x)) d.1))
   path_keeps weight left keeps (Ask e f) s t h a d k = path_keeps weight left keeps (f d.1) d.0 t (hand_after e d.1 h) a d.3 (k.1 d.1) ∙ keeps s h e d.1 d.0 k.0 d.2
+
+-- by at most its locks
+counts_low : (stopped : Bool) (locks old new : ℕ) → Counts stopped locks old new → new ≤ old + locks
+counts_low true locks old new is = omega (arith, is)
+counts_low false locks old new is = omega (arith, is)
 
 module _ {S : Type 0} (step : S → (e : Event) → Answer e → S → Type 0) (tree : S → List Node) (count : S → ℕ) (rounds : S → ℕ) where
   pub ran_done : {A : Type 0} (s : S) (a : A) → Ran step tree count rounds (Done a) s s a
@@ -43,7 +49,7 @@ module _ {S : Type 0} (step : S → (e : Event) → Answer e → S → Type 0) (
   -- the count rises by no more than the list of steps allows
   path_counts : {A : Type 0} (most : A → ℕ) (p : Plan A) (n : ℕ) (s t : S) (a : A) → Path (Step step tree count rounds) p s t a → Within most p n → count t + n ≤ count s + most a
   path_counts most (Done b) n s t a d w = let e : n ≤ most a = subst (λ x. n ≤ most x) d.1 w in let f : count s ≡ count t = ap count d.0 in omega arith
-  path_counts most (Ask e f) n s t a d w = let h = path_counts most (f d.1) (n + locks e) d.0 t a d.3 (w d.1) in let g = d.2.counted in omega (arith, h, g)
+  path_counts most (Ask e f) n s t a d w = let h = path_counts most (f d.1) (n + locks e) d.0 t a d.3 (w d.1) in let g = counts_low (is_stopped e d.1) (locks e) (count s) (count d.0) d.2.counted in omega (arith, h, g)
 
   pub ran_counts : {A : Type 0} (most : A → ℕ) (p : Plan A) (s t : S) (a : A) → Ran step tree count rounds p s t a → Within most p 0 → count t ≤ count s + most a
   ran_counts most p s t a r w = omega (arith, path_counts most p 0 s t a r.path w)

@@ -9,6 +9,8 @@ use Rattle.arena_tree.specs.declared.part_faults.SlabPutFault.{SlabPutFault}
 use Rattle.arena_tree.specs.declared.part_faults.SlabPutFault.TheVariants as putting
 use Rattle.arena_tree.specs.declared.part_faults.SlabAddFault.{SlabAddFault}
 use Rattle.arena_tree.specs.declared.part_faults.SlabAddFault.TheVariants as slabbing
+use Rattle.arena_tree.specs.declared.part_faults.PushFault.{PushFault}
+use Rattle.arena_tree.specs.declared.part_faults.PushFault.TheVariants as pushing
 use Rattle.arena_tree.specs.declared.part_faults.ClimbFault.{ClimbFault}
 use Rattle.arena_tree.specs.declared.part_faults.ClimbFault.TheVariants as climbing
 use Rattle.arena_tree.specs.declared.part_faults.ReturnFault.{ReturnFault}
@@ -54,9 +56,10 @@ tag_slab_same (Err (slabbing.Overlaps t)) = refl
 tag_slab_same (Err (slabbing.NoMemory t)) = refl
 tag_slab_same (Err (slabbing.Stopped t)) = refl
 
-pub tag_push_same : (r : Result (Unit {0}) Tag) → tag_push (λ (t : Tag). t) r ≡ r
+pub tag_push_same : (r : Result (Unit {0}) (PushFault Tag)) → tag_push (λ (t : Tag). t) r ≡ r
 tag_push_same (Ok u) = refl
-tag_push_same (Err t) = refl
+tag_push_same (Err (pushing.NoRoom t)) = refl
+tag_push_same (Err (pushing.Stopped t)) = refl
 
 pub tag_climb_same : (r : Result Tag (ClimbFault Tag)) → tag_climb (λ (t : Tag). t) r ≡ r
 tag_climb_same (Ok t) = refl

@@ -2,24 +2,12 @@
 use Rattle.std.proofs.Common.{◌≡◌, ℕ, zero, suc, ◌<◌, ◌≤◌, List, [], ◌∷◌, ◌++◌, length, Option, Some, None, refl, sym, ap, subst, ◌∙◌, inl, inr, arith, length-append}
 use Rattle.std.specs.Prelude.{slice_get, IfSome}
 use Rattle.std.specs.Global.{Vec}
-use Rattle.std.proofs.lemmas.List.{length-map}
-use Rattle.std.proofs.lemmas.Option.{slice_get_within}
-use Rattle.deed_core.proofs.LawProofs.{pushed, slice_get_one, power_some}
+use Rattle.deed_core.proofs.LawProofs.{pushed, slice_get_one, slice_get_mapped, power_some}
 use Rattle.arena_tree.specs.declared.levels.Level.{Level}
 use Rattle.arena_tree.specs.declared.trees.TreeArena.{TreeArena}
-use Rattle.arena_tree.specs.Chains.{IsChain, source_of, quantum_of, first_id}
+use Rattle.arena_tree.specs.Chains.{IsChain, first_id, first_node}
 use Rattle.arena_tree.specs.Trees.{ChainFrom, IsArena, IsTree, ImportsFrom, level_of, node_of, nodes_of}
 use Rattle.arena_tree.specs.Stored.{AreChains, IsNewChain}
-
-source_at : (arenas : List TreeArena) (id : ℕ) (x : TreeArena) → slice_get arenas id ≡ Some x → source_of (nodes_of arenas) id ≡ x.source
-source_at [] id x at = absurd (let e : None ≡ Some x = at in cc)
-source_at (y ∷ ys) zero x at = let e : Some y ≡ Some x = at in let is : y ≡ x = cc in ap (λ z. z.source) is
-source_at (y ∷ ys) (suc id) x at = source_at ys id x at
-
-quantum_at : (arenas : List TreeArena) (id : ℕ) (x : TreeArena) → slice_get arenas id ≡ Some x → quantum_of (nodes_of arenas) id ≡ x.quantum
-quantum_at [] id x at = absurd (let e : None ≡ Some x = at in cc)
-quantum_at (y ∷ ys) zero x at = let e : Some y ≡ Some x = at in let is : y ≡ x = cc in ap (λ z. z.quantum) is
-quantum_at (y ∷ ys) (suc id) x at = quantum_at ys id x at
 
 -- a chain of the tree is one that steps go along
 pub chain_steps : (arenas : List TreeArena) → IsTree arenas → (from : Option ℕ) (chain : List Level) → ChainFrom arenas from chain → IsChain (nodes_of arenas) chain × (first_id chain ≡ from)
@@ -29,10 +17,10 @@ chain_steps arenas tree (Some id) [] is = absurd is
 chain_steps arenas tree (Some id) (l ∷ up) is =
     let x = is.0 in
     let above = chain_steps arenas tree x.source up is.3 in
-    let within : id < length (nodes_of arenas) = subst (λ n. id < n) (sym (length-map arenas node_of)) (slice_get_within arenas id x is.1) in
     let some : 0 < x.quantum = power_some x.quantum (tree.each id x is.1).power in
-    subst (λ (z : Level). IsChain (nodes_of arenas) (z ∷ up) × (first_id (z ∷ up) ≡ Some id)) (sym is.2)
-    ((within, some, quantum_at arenas id x is.1, source_at arenas id x is.1 ∙ sym above.1, above.0), refl)
+    let at : slice_get (nodes_of arenas) id ≡ Some (node_of x) = slice_get_mapped node_of arenas id x is.1 in
+    let same : node_of x ≡ first_node (level_of id x) up = (let e = above.1 in cc) in
+    subst (λ (z : Level). IsChain (nodes_of arenas) (z ∷ up) × (first_id (z ∷ up) ≡ Some id)) (sym is.2) ((at ∙ ap Some same, some, above.0), refl)
 
 -- there is one
 pub chain_one : (arenas : List TreeArena) (from : Option ℕ) (a b : List Level) → ChainFrom arenas from a → ChainFrom arenas from b → a ≡ b

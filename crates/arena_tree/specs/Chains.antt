@@ -1,15 +1,19 @@
 -- Arenas by number, chains of them, and what an arena gives.
-use Rattle.std.specs.Prelude.{◌≡◌, ℕ, ◌*◌, ◌-◌, ◌^◌, ◌<◌, zero, suc, max, min, List, [], ◌∷◌, Option, Some, None, length}
+use Rattle.std.specs.Prelude.{◌≡◌, ℕ, ◌*◌, ◌-◌, ◌^◌, ◌<◌, zero, suc, max, min, List, [], ◌∷◌, Option, Some, None, slice_get}
 use Rattle.deed_core.specs.Tag.{Tag}
 use Rattle.deed_core.specs.Request.{Fits, rounded, plain_of}
 use Rattle.deed_core.specs.declared.requests.Request.{Request}
 use Rattle.deed_core.specs.declared.segments.Route.TheVariants.{Direct, Cached}
 use Rattle.arena_tree.specs.declared.levels.Level.{Level}
 
--- as much as the events need to know of an arena
+-- what lists of steps need to know of an arena: the number of its source, its quantum, the least
+-- that it imports, and the sizes of its caches
 pub record Node : Type 0 where
   pub source : Option ℕ
   pub quantum : ℕ
+  pub import_min : ℕ
+  pub qcache_max : ℕ
+  pub slab_size : ℕ
 
 -- the source of the arena with this number
 abbrev pub source_of : List Node → ℕ → Option ℕ
@@ -28,11 +32,20 @@ abbrev pub first_id : List Level → Option ℕ
 first_id [] = None
 first_id (l ∷ up) = Some l.id
 
--- each arena is one of the tree, and the next is its source; the last has none
+-- a chain's first arena, whose source is the next; the last has none
+abbrev pub first_node : Level → List Level → Node
+first_node l up = record {
+  source = first_id up;
+  quantum = l.quantum;
+  import_min = l.import_min;
+  qcache_max = l.qcache_max;
+  slab_size = l.slab_size;
+}
+
+-- each arena is the tree's of that number
 abbrev pub IsChain : List Node → List Level → Type 0
 IsChain nodes [] = Unit {0}
-IsChain nodes (l ∷ up) = (l.id < length nodes) × (0 < l.quantum)
-    × (quantum_of nodes l.id ≡ l.quantum) × (source_of nodes l.id ≡ first_id up)
+IsChain nodes (l ∷ up) = (slice_get nodes l.id ≡ Some (first_node l up)) × (0 < l.quantum)
     × IsChain nodes up
 
 -- what an arena asks of its source for n units: the greater of n in whole quanta and its import

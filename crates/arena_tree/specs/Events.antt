@@ -15,8 +15,10 @@ use Rattle.arena_tree.specs.declared.part_faults.SlabAddFault.TheVariants as sla
 use Rattle.arena_tree.specs.declared.part_faults.SwapFullFault.{SwapFullFault}
 use Rattle.arena_tree.specs.declared.part_faults.SwapEmptyFault.{SwapEmptyFault}
 use Rattle.arena_tree.specs.declared.part_faults.SwapFreshFault.{SwapFreshFault}
+use Rattle.arena_tree.specs.declared.part_faults.PushFault.{PushFault}
+use Rattle.arena_tree.specs.declared.part_faults.PushFault.TheVariants as pushing
+use Rattle.arena_tree.specs.declared.part_faults.ChangeFault.{ChangeFault}
 use Rattle.arena_tree.specs.declared.part_faults.Stopped.{Stopped}
-use Rattle.arena_tree.specs.declared.part_faults.NoMemory.{NoMemory}
 
 -- the first eleven are of parts that are shared, the last three are the CPU's own; `given` is the
 -- segment in the hand
@@ -49,9 +51,9 @@ Answer (SwapFull arena cache) = Result (Unit {0}) SwapFullFault
 Answer (SwapEmpty arena cache) = Result (Unit {0}) SwapEmptyFault
 Answer (SwapFresh arena cache) = Result (Unit {0}) SwapFreshFault
 Answer (DepotReap arena cache) = Result (Option Tag) Stopped
-Answer (Pop arena cache) = Option Tag
-Answer (Push arena cache given) = Result (Unit {0}) Tag
-Answer (Change arena cache size) = Result (Unit {0}) NoMemory
+Answer (Pop arena cache) = Result (Option Tag) Stopped
+Answer (Push arena cache given) = Result (Unit {0}) (PushFault Tag)
+Answer (Change arena cache size) = Result (Unit {0}) ChangeFault
 
 -- the parts that are shared of which it takes the lock
 abbrev pub locks : Event → ℕ
@@ -100,6 +102,10 @@ slab_back (slabbing.Overlaps t) = t
 slab_back (slabbing.NoMemory t) = t
 slab_back (slabbing.Stopped t) = t
 
+abbrev pub pushed_back : PushFault Tag → Tag
+pushed_back (pushing.NoRoom t) = t
+pushed_back (pushing.Stopped t) = t
+
 -- the hand after a call that gives a segment, or hands one back
 abbrev pub hand_of : {E : Type 0} → (E → Option Tag) → Result Tag E → Option Tag
 hand_of back (Ok t) = Some t
@@ -128,6 +134,6 @@ hand_after (SwapFull arena cache) a hand = hand
 hand_after (SwapEmpty arena cache) a hand = hand
 hand_after (SwapFresh arena cache) a hand = hand
 hand_after (DepotReap arena cache) a hand = hand_may (λ _. None) a
-hand_after (Pop arena cache) a hand = a
-hand_after (Push arena cache given) a hand = hand_none (λ t. Some t) a
+hand_after (Pop arena cache) a hand = hand_may (λ _. None) a
+hand_after (Push arena cache given) a hand = hand_none (λ f. Some (pushed_back f)) a
 hand_after (Change arena cache size) a hand = hand

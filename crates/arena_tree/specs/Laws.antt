@@ -1,10 +1,11 @@
 -- Laws of the lists of steps of climbs, over all chains: what they leave in the hand, how many
--- locks they take, and what they give.
-use Rattle.std.specs.Prelude.{ℕ, List, Some, None, length, IfOk}
+-- locks they take, what they give, and what each end tells of the way.
+use Rattle.std.specs.Prelude.{◌≡◌, ℕ, List, [], Some, None, length, IfOk}
 use Rattle.deed_core.specs.Tag.{Tag}
-use Rattle.arena_tree.specs.Chains.{Node}
+use Rattle.arena_tree.specs.Chains.{Node, IsChain, first_id}
 use Rattle.arena_tree.specs.Plans.{Within, Handles, Gives}
 use Rattle.arena_tree.specs.Climbs.{Climbed, Returned, climb_plan, return_plan, climb_left, return_left, climb_most, IsGrantOf}
+use Rattle.arena_tree.specs.Told.{Tells, ClimbTold, ReturnTold}
 use Rattle.arena_tree.specs.declared.levels.Level.{Level}
 
 -- A climb begins with an empty hand. It ends with a segment that it gives, with an empty hand, or
@@ -33,3 +34,16 @@ ReturnIsShort = (chain : List Level) (t : Tag)
 abbrev pub ClimbGives : Type 0
 ClimbGives = (nodes : List Node) (chain : List Level) (n : ℕ)
     → Gives nodes (λ (r : Climbed). IfOk r (IsGrantOf nodes chain n)) (climb_plan chain n)
+
+-- A climb in a chain of the tree tells a bad request for 0 units alone. Where it ends with NoFit it
+-- has asked for nothing but carves that were refused, so that no unit has moved. It ends with a
+-- segment in the hand that isn't its grant only where a part has just refused that, or by a stop.
+abbrev pub ClimbTells : Type 0
+ClimbTells = (nodes : List Node) (chain : List Level) (n : ℕ) → IsChain nodes chain
+    → Tells nodes (ClimbTold nodes chain n) (climb_plan chain n) []
+
+-- A hand back along the chain of the segment's arena is stuck only where a part has just refused
+-- the segment: the end of the chain is never reached.
+abbrev pub ReturnTells : Type 0
+ReturnTells = (nodes : List Node) (chain : List Level) (t : Tag) → IsChain nodes chain
+    → first_id chain ≡ Some t.arena → Tells nodes ReturnTold (return_plan chain t) []

@@ -6,6 +6,8 @@ pub mod Plans
 pub mod Settings
 pub mod Setups
 pub mod Sound
+pub mod Stops
 pub mod Stored
 pub mod Tags
+pub mod Told
 pub mod Trees

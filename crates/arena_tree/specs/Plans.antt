@@ -1,9 +1,10 @@
 -- Lists of steps: what is asked next, by what was answered.
-use Rattle.std.specs.Prelude.{◌≡◌, ℕ, ◌+◌, ◌≤◌, List, [], ◌∷◌, Option, Some, None}
+use Rattle.std.specs.Prelude.{◌≡◌, ℕ, ◌+◌, ◌≤◌, List, [], ◌∷◌, Option, Some, None, true}
 use Rattle.deed_core.specs.Tag.{Tag}
 use Rattle.arena_tree.specs.Chains.{Node}
 use Rattle.arena_tree.specs.Events.{Event, Answer, Begins, hand_after, locks}
 use Rattle.arena_tree.specs.Sound.{Sound, KeepsRounds}
+use Rattle.arena_tree.specs.Stops.{is_stopped, Counts}
 
 -- a list of steps that ends with an A
 pub data Plan (A : Type 0) : Type 0 where
@@ -25,15 +26,16 @@ abbrev pub first_that_gives : {A : Type 0} → List (Plan (Option A)) → Plan A
 first_that_gives [] last = last
 first_that_gives (p ∷ ps) last = then p (or_else (first_that_gives ps last))
 
--- one event, its answer, and what is known of it; it counts as one, or as none
+-- one event, its answer, and what is known of it; one that is stopped moves no round
 pub record Step {S : Type 0} (step : S → (e : Event) → Answer e → S → Type 0)
     (tree : S → List Node) (count rounds : S → ℕ)
     (old : S) (event : Event) (answer : Answer event) (new : S) : Type 0 where
   pub does : step old event answer new
   pub sound : Sound (tree old) event answer
   pub same_tree : tree new ≡ tree old
-  pub counted : count new ≤ count old + locks event
+  pub counted : Counts (is_stopped event answer) (locks event) (count old) (count new)
   pub moved : KeepsRounds event answer (rounds old) (rounds new)
+  pub stayed : is_stopped event answer ≡ true → rounds new ≡ rounds old
 
 -- the events of a list of steps lead from s to t, and it ends with a
 abbrev pub Path : {S A : Type 0} → (S → (e : Event) → Answer e → S → Type 0) → Plan A → S → S → A

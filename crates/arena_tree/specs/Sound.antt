@@ -1,20 +1,33 @@
 -- What is so of every answer, whatever the parts are.
-use Rattle.std.specs.Prelude.{◌≡◌, ℕ, ◌+◌, ◌<◌, List, Option, Some, None, Result, Ok, Err, IfOk, IfErr, IfSome}
+use Rattle.std.specs.Prelude.{◌≡◌, ℕ, ◌+◌, ◌%◌, List, Option, Some, None, Result, Ok, Err, IfOk, IfErr, IfSome}
 use Rattle.deed_core.specs.Tag.{Tag}
-use Rattle.deed_core.specs.Request.{plain_of}
+use Rattle.deed_core.specs.Request.{IsGood, plain_of}
 use Rattle.deed_core.specs.declared.requests.Request.{Request}
+use Rattle.deed_core.specs.declared.segments.Route.TheVariants.{Direct}
 use Rattle.arena_tree.specs.declared.part_faults.CarveFault.{CarveFault}
 use Rattle.arena_tree.specs.declared.part_faults.CarveFault.TheVariants as carving
-use Rattle.arena_tree.specs.Chains.{Node, IsGrant, IsChunk}
-use Rattle.arena_tree.specs.Events.{Event, Answer, Carve, Free, AddCarve, SlabTake, SlabPut, SlabAdd, SlabReap, SwapFull, SwapEmpty, SwapFresh, DepotReap, Pop, Push, Change, freed_back, added_back, put_back, slab_back}
+use Rattle.arena_tree.specs.declared.part_faults.Stopped.{Stopped}
+use Rattle.arena_tree.specs.Chains.{Node, IsGrant, IsChunk, source_of, quantum_of}
+use Rattle.arena_tree.specs.Events.{Event, Answer, Carve, Free, AddCarve, SlabTake, SlabPut, SlabAdd, SlabReap, SwapFull, SwapEmpty, SwapFresh, DepotReap, Pop, Push, Change, freed_back, added_back, put_back, slab_back, pushed_back}
 
--- what is carved fits; that nothing fits is said of some units alone
+-- what is carved fits; a request is bad just where no arena of this quantum takes it
 abbrev pub SoundCarve : List Node → ℕ → Request → Result Tag CarveFault → Type 0
-SoundCarve nodes arena q (Ok t) = IsGrant nodes arena q t
-SoundCarve nodes arena q (Err carving.NoFit) = 0 < q.size
-SoundCarve nodes arena q (Err carving.BadRequest) = Unit {0}
-SoundCarve nodes arena q (Err carving.NoMemory) = Unit {0}
+SoundCarve nodes arena q (Ok t) = IsGood (quantum_of nodes arena) q × IsGrant nodes arena q t
+SoundCarve nodes arena q (Err carving.NoFit) = IsGood (quantum_of nodes arena) q
+SoundCarve nodes arena q (Err carving.BadRequest) = ¬ IsGood (quantum_of nodes arena) q
+SoundCarve nodes arena q (Err carving.NoMemory) = IsGood (quantum_of nodes arena) q
 SoundCarve nodes arena q (Err carving.Stopped) = Unit {0}
+
+-- what is freed was no chunk; a span that it makes whole is a Direct segment of the arena's source
+pub record IsFreed (nodes : List Node) (given : Tag) (out : Option Tag) : Type 0 where
+  pub direct : given.route ≡ Direct
+  pub whole : IfSome out (λ t. (t.route ≡ Direct) × (source_of nodes given.arena ≡ Some t.arena))
+
+-- the span of a slab is a Direct segment of the arena, on its quantum's grid
+pub record IsSlabSpan (nodes : List Node) (arena : ℕ) (t : Tag) : Type 0 where
+  pub of_arena : t.arena ≡ arena
+  pub direct : t.route ≡ Direct
+  pub grid : t.holding.range.base % quantum_of nodes arena ≡ 0
 
 -- what comes is a chunk of the cache
 abbrev pub SoundTake : {E : Type 0} → List Node → ℕ → ℕ → Result (Option Tag) E → Type 0
@@ -23,26 +36,27 @@ SoundTake nodes arena cache a = IfOk a (λ o. IfSome o (IsChunk nodes arena cach
 -- the segment that a refusal hands back is the one that was given
 abbrev pub Sound : List Node → (e : Event) → Answer e → Type 0
 Sound nodes (Carve arena request) a = SoundCarve nodes arena request a
-Sound nodes (Free given) a = IfErr a (λ f. freed_back f ≡ given)
+Sound nodes (Free given) a = IfOk a (IsFreed nodes given) × IfErr a (λ f. freed_back f ≡ given)
 Sound nodes (AddCarve child given size) a = IfOk a (IsGrant nodes child (plain_of size))
     × IfErr a (λ f. added_back f ≡ given)
 Sound nodes (SlabTake arena cache) a = SoundTake nodes arena cache a
 Sound nodes (SlabPut given) a = IfErr a (λ f. put_back f ≡ given)
 Sound nodes (SlabAdd arena cache given) a = IfOk a (IsChunk nodes arena cache)
     × IfErr a (λ f. slab_back f ≡ given)
-Sound nodes (SlabReap arena cache) a = Unit {0}
+Sound nodes (SlabReap arena cache) a = IfOk a (λ o. IfSome o (IsSlabSpan nodes arena))
 Sound nodes (SwapFull arena cache) a = Unit {0}
 Sound nodes (SwapEmpty arena cache) a = Unit {0}
 Sound nodes (SwapFresh arena cache) a = Unit {0}
 Sound nodes (DepotReap arena cache) a = SoundTake nodes arena cache a
-Sound nodes (Pop arena cache) a = IfSome a (IsChunk nodes arena cache)
-Sound nodes (Push arena cache given) a = IfErr a (λ t. t ≡ given)
+Sound nodes (Pop arena cache) a = SoundTake nodes arena cache a
+Sound nodes (Push arena cache given) a = IfErr a (λ f. pushed_back f ≡ given)
 Sound nodes (Change arena cache size) a = Unit {0}
 
 -- a round less, where there is one
-abbrev pub PopsRound : Option Tag → ℕ → ℕ → Type 0
-PopsRound None old new = new ≡ old
-PopsRound (Some t) old new = new + 1 ≡ old
+abbrev pub PopsRound : Result (Option Tag) Stopped → ℕ → ℕ → Type 0
+PopsRound (Ok None) old new = new ≡ old
+PopsRound (Ok (Some t)) old new = new + 1 ≡ old
+PopsRound (Err e) old new = new ≡ old
 
 -- the rounds of the CPU before and after, as far as giving them all back needs it
 abbrev pub KeepsRounds : (e : Event) → Answer e → ℕ → ℕ → Type 0

@@ -9,6 +9,8 @@ use Rattle.arena_tree.specs.declared.part_faults.SlabPutFault.{SlabPutFault}
 use Rattle.arena_tree.specs.declared.part_faults.SlabPutFault.TheVariants as putting
 use Rattle.arena_tree.specs.declared.part_faults.SlabAddFault.{SlabAddFault}
 use Rattle.arena_tree.specs.declared.part_faults.SlabAddFault.TheVariants as slabbing
+use Rattle.arena_tree.specs.declared.part_faults.PushFault.{PushFault}
+use Rattle.arena_tree.specs.declared.part_faults.PushFault.TheVariants as pushing
 use Rattle.arena_tree.specs.declared.part_faults.ClimbFault.{ClimbFault}
 use Rattle.arena_tree.specs.declared.part_faults.ClimbFault.TheVariants as climbing
 use Rattle.arena_tree.specs.declared.part_faults.ReturnFault.{ReturnFault}
@@ -25,10 +27,6 @@ tag_option f (Some x) = Some (f x)
 abbrev pub tag_all : {X E : Type 0} → (X → Tag) → Result (Option X) E → Result (Option Tag) E
 tag_all f (Ok o) = Ok (tag_option f o)
 tag_all f (Err e) = Err e
-
-abbrev pub tag_push : {X : Type 0} → (X → Tag) → Result (Unit {0}) X → Result (Unit {0}) Tag
-tag_push f (Ok u) = Ok u
-tag_push f (Err x) = Err (f x)
 
 abbrev pub tag_free_fault : {X : Type 0} → (X → Tag) → FreeFault X → FreeFault Tag
 tag_free_fault f (freeing.BadFree x) = freeing.BadFree (f x)
@@ -70,6 +68,15 @@ abbrev pub tag_slab : {X : Type 0} → (X → Tag) → Result X (SlabAddFault X)
     → Result Tag (SlabAddFault Tag)
 tag_slab f (Ok x) = Ok (f x)
 tag_slab f (Err e) = Err (tag_slab_fault f e)
+
+abbrev pub tag_push_fault : {X : Type 0} → (X → Tag) → PushFault X → PushFault Tag
+tag_push_fault f (pushing.NoRoom x) = pushing.NoRoom (f x)
+tag_push_fault f (pushing.Stopped x) = pushing.Stopped (f x)
+
+abbrev pub tag_push : {X : Type 0} → (X → Tag) → Result (Unit {0}) (PushFault X)
+    → Result (Unit {0}) (PushFault Tag)
+tag_push f (Ok u) = Ok u
+tag_push f (Err e) = Err (tag_push_fault f e)
 
 abbrev pub tag_climb_fault : {X : Type 0} → (X → Tag) → ClimbFault X → ClimbFault Tag
 tag_climb_fault f climbing.BadRequest = climbing.BadRequest

@@ -23,9 +23,15 @@ level_of id x = record {
   slab_size = x.slab_size;
 }
 
--- what events need of the arenas
+-- and as a node
 abbrev pub node_of : TreeArena → Node
-node_of x = record { source = x.source; quantum = x.quantum }
+node_of x = record {
+  source = x.source;
+  quantum = x.quantum;
+  import_min = x.import_min;
+  qcache_max = x.qcache_max;
+  slab_size = x.slab_size;
+}
 
 abbrev pub nodes_of : List TreeArena → List Node
 nodes_of arenas = map node_of arenas

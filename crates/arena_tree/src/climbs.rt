@@ -1,7 +1,7 @@
 //! Import and hand back, in steps.
-ghost use Rattle.std.specs.Prelude.{◌≡◌, ℕ, ◌+◌, ◌<◌, ◌≤◌, length, Some, IfOk};
+ghost use Rattle.std.specs.Prelude.{◌≡◌, ℕ, ◌+◌, ◌<◌, ◌≤◌, length, Some, Err, IfOk};
 ghost use Rattle.deed_core.specs.Request.{rounded, plain_of};
-ghost use Rattle.arena_tree.specs.Chains.{IsChain, IsGrant, source_of, quantum_of};
+ghost use Rattle.arena_tree.specs.Chains.{IsChain, IsGrant, first_id, source_of, quantum_of};
 ghost use Rattle.arena_tree.specs.Plans.{Ran};
 ghost use Rattle.arena_tree.specs.Climbs.{return_plan, descent_plan, climb_plan, climb_most, IsGrantOf};
 ghost use Rattle.arena_tree.specs.Tags.{tag_climb, tag_return};
@@ -22,6 +22,7 @@ pub fn climb_alloc<S: Held, P: Parts<S>>(
     ensures ran { Ran P.step P.tree P.count P.rounds (climb_plan chain.now size)
         parts.old parts.new (tag_climb S.tag result) }
     ensures granted { IfOk result (λ s. IsGrantOf (P.tree parts.old) chain.now size (S.tag s)) }
+    ensures bad { result ≡ Err ClimbFault.BadRequest → size ≡ 0 }
     ensures few { P.count parts.new
         ≤ P.count parts.old + climb_most (length chain.now) (tag_climb S.tag result) }
     ensures tree { P.tree parts.new ≡ P.tree parts.old }
@@ -29,13 +30,14 @@ pub fn climb_alloc<S: Held, P: Parts<S>>(
     climb(parts, chain, size)
 }
 
-/// Frees a segment, and each span that becomes whole in its source, in at most as many arenas as
-/// the chain has. The chain is that of the segment's arena.
+/// Frees a segment in its arena, the chain's first, and each span that becomes whole in its source.
 pub fn climb_free<S: Held, P: Parts<S>>(
     parts: &mut P,
     chain: &[Level],
     segment: S,
 ) -> Result<(), ReturnFault<S>>
+    requires chain { IsChain (P.tree parts.old) chain.now }
+    requires first { first_id chain.now ≡ Some (S.tag segment).arena }
     ensures ran { Ran P.step P.tree P.count P.rounds (return_plan chain.now (S.tag segment))
         parts.old parts.new (tag_return S.tag result) }
     ensures few { P.count parts.new ≤ P.count parts.old + length chain.now }
@@ -46,7 +48,7 @@ pub fn climb_free<S: Held, P: Parts<S>>(
 }
 
 // As `climb_alloc`, which counts the steps beside it.
-#[tactic(auto, using(crate::proofs::Paths::ran_then, crate::proofs::Paths::ran_ask, crate::proofs::Paths::ran_done, crate::proofs::Amounts::chain_quanta))]
+#[tactic(auto, using(crate::proofs::Paths::ran_then, crate::proofs::Paths::ran_ask, crate::proofs::Paths::ran_done, crate::proofs::Amounts::chain_quanta, crate::proofs::Amounts::chain_within, crate::proofs::Amounts::chain_quantum, crate::proofs::Amounts::chain_source))]
 fn climb<S: Held, P: Parts<S>>(
     parts: &mut P,
     chain: &[Level],
@@ -86,6 +88,8 @@ fn descend<S: Held, P: Parts<S>>(
 ) -> Result<S, ClimbFault<S>>
     requires child { child < length (P.tree parts.old) }
     requires source { source_of (P.tree parts.old) child ≡ Some (S.tag span).arena }
+    requires chain { IsChain (P.tree parts.old) up.now }
+    requires first { first_id up.now ≡ Some (S.tag span).arena }
     requires some { 0 < size }
     requires room { rounded (quantum_of (P.tree parts.old) child) size
         ≤ (S.tag span).holding.range.len }
@@ -110,11 +114,14 @@ fn descend<S: Held, P: Parts<S>>(
 }
 
 // As `climb_free`, which counts the steps beside it.
+#[tactic(auto, using(crate::proofs::Amounts::chain_above))]
 fn hand_back<S: Held, P: Parts<S>>(
     parts: &mut P,
     chain: &[Level],
     segment: S,
 ) -> Result<(), ReturnFault<S>>
+    requires chain { IsChain (P.tree parts.old) chain.now }
+    requires first { first_id chain.now ≡ Some (S.tag segment).arena }
     ensures ran { Ran P.step P.tree P.count P.rounds (return_plan chain.now (S.tag segment))
         parts.old parts.new (tag_return S.tag result) }
     ensures tree { P.tree parts.new ≡ P.tree parts.old }

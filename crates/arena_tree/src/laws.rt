@@ -1,13 +1,15 @@
 //! Laws of the lists of steps, for the proofs of the layers above. The functions do nothing: their
 //! contracts are the laws, and proofs/LawProofs.antt hands them on.
-ghost use Rattle.arena_tree.specs.Laws.{ClimbHandles, ReturnHandles, ClimbIsShort, ReturnIsShort, ClimbGives};
+ghost use Rattle.arena_tree.specs.Laws.{ClimbHandles, ReturnHandles, ClimbIsShort, ReturnIsShort, ClimbGives, ClimbTells, ReturnTells};
 
-/// What a climb and a hand back leave in the hand, how many locks they take, and what a climb
-/// gives.
+/// What a climb and a hand back leave in the hand, how many locks they take, what a climb gives,
+/// and what each end tells of the way.
 pub fn climb_laws()
     ensures climb { ClimbHandles }
     ensures back { ReturnHandles }
     ensures climb_short { ClimbIsShort }
     ensures back_short { ReturnIsShort }
     ensures gives { ClimbGives }
+    ensures tells { ClimbTells }
+    ensures back_tells { ReturnTells }
 {}

@@ -15,8 +15,9 @@
 //! when which refusal comes. specs/Events.antt has the events with the type of their answers,
 //! specs/Sound.antt what is so of every answer, specs/Plans.antt what a list of steps is: a tree
 //! that asks an event and goes on by its answer. specs/Climbs.antt has the lists of steps of
-//! climbs, line by line, and specs/Laws.antt what follows from them. A generic function has the one
-//! clause that its list of steps was gone through (`Ran`); all else is a law of the list.
+//! climbs, line by line, specs/Told.antt what each end tells of the way, and specs/Laws.antt what
+//! follows. A generic function has the one clause that its list of steps was gone through (`Ran`);
+//! all else is a law of the list.
 #![tactic(auto)]
 
 mod climbs;
@@ -36,8 +37,8 @@ pub use laws::climb_laws;
 pub use levels::Level;
 pub use limits::{LONGEST_CHAIN, MOST_ARENAS, MOST_CACHES, MOST_SPANS};
 pub use part_faults::{
-    AddCarveFault, CarveFault, ClimbFault, FreeFault, NoMemory, ReturnFault, SlabAddFault,
-    SlabPutFault, Stopped, SwapEmptyFault, SwapFreshFault, SwapFullFault,
+    AddCarveFault, CarveFault, ChangeFault, ClimbFault, FreeFault, PushFault, ReturnFault,
+    SlabAddFault, SlabPutFault, Stopped, SwapEmptyFault, SwapFreshFault, SwapFullFault,
 };
 pub use parts::Parts;
 pub use settings::{NewChild, NewRoot, NewSpan, Setting};

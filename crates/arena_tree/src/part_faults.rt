@@ -6,11 +6,6 @@ use thiserror::Error;
 #[error("stopped")]
 pub struct Stopped;
 
-/// Memory was refused.
-#[derive(Clone, Copy, PartialEq, Eq, Debug, Error)]
-#[error("no memory")]
-pub struct NoMemory;
-
 /// Why an arena carved nothing.
 #[derive(Clone, Copy, PartialEq, Eq, Debug, Error)]
 pub enum CarveFault {
@@ -107,6 +102,28 @@ pub enum SwapFreshFault {
     /// Memory was refused.
     #[error("no memory")]
     NoMemory,
+    /// Nothing was done.
+    #[error("stopped")]
+    Stopped,
+}
+
+/// Why a CPU's magazines didn't take a round.
+pub enum PushFault<S> {
+    /// They have no room for it, or it is no chunk of their cache.
+    NoRoom(S),
+    /// Nothing was done.
+    Stopped(S),
+}
+
+/// Why a CPU's magazines didn't change to another size.
+#[derive(Clone, Copy, PartialEq, Eq, Debug, Error)]
+pub enum ChangeFault {
+    /// Memory was refused.
+    #[error("no memory")]
+    NoMemory,
+    /// The size isn't greater than theirs.
+    #[error("the size isn't greater")]
+    NotGreater,
     /// Nothing was done.
     #[error("stopped")]
     Stopped,

@@ -4,17 +4,17 @@ ghost use Rattle.deed_core.specs.Request.{rounded};
 ghost use Rattle.arena_tree.specs.Chains.{Node, source_of, quantum_of};
 ghost use Rattle.arena_tree.specs.Events.{Event, Answer, Carve, Free, AddCarve, SlabTake, SlabPut, SlabAdd, SlabReap, SwapFull, SwapEmpty, SwapFresh, DepotReap, Pop, Push, Change};
 ghost use Rattle.arena_tree.specs.Plans.{Step};
-ghost use Rattle.arena_tree.specs.Tags.{tag_ok, tag_option, tag_all, tag_free, tag_add, tag_put, tag_slab, tag_push};
+ghost use Rattle.arena_tree.specs.Tags.{tag_ok, tag_all, tag_free, tag_add, tag_put, tag_slab, tag_push};
 
 use crate::part_faults::{
-    AddCarveFault, CarveFault, FreeFault, NoMemory, SlabAddFault, SlabPutFault, Stopped,
-    SwapEmptyFault, SwapFreshFault, SwapFullFault,
+    AddCarveFault, CarveFault, ChangeFault, FreeFault, PushFault, SlabAddFault, SlabPutFault,
+    Stopped, SwapEmptyFault, SwapFreshFault, SwapFullFault,
 };
 use deed_core::{Held, Request, Route};
 
-/// What one CPU can reach, over segments that are known by their tags. Each call is one event. All
-/// but the last three happen in one part that is shared, under its lock, if it has one; where the
-/// CPU is to stop they answer Stopped, and nothing is done. `pop`, `push` and `change` are the
+/// What one CPU can reach, over segments that are known by their tags. Each call is one event;
+/// where the CPU is to stop it answers Stopped, and nothing is done. All but the last three happen
+/// in one part that is shared, under its lock, if it has one. `pop`, `push` and `change` are the
 /// CPU's own. Arenas go by their numbers, and caches by theirs: the cache `k` is for `k` quanta.
 pub trait Parts<S: Held> {
     // what is known of an event: the parts before it, the event, its answer, the parts after it
@@ -23,14 +23,14 @@ pub trait Parts<S: Held> {
     // the arenas by number
     ghost tree: { Self → List Node };
 
-    // how many events of shared parts there were
+    // how many events of shared parts there were, without those that were stopped
     ghost count: { Self → ℕ };
 
     // how many rounds the CPU's magazines have
     ghost rounds: { Self → ℕ };
 
-    /// How many events of shared parts there were; those that were stopped needn't count. It stays
-    /// at the greatest number.
+    /// How many events of shared parts there were; those that were stopped don't count. It stays at
+    /// the greatest number.
     fn steps(&self) -> u64
         ensures { result ≡ count self.now };
 
@@ -100,17 +100,18 @@ pub trait Parts<S: Held> {
             (tag_all S.tag result) self.new };
 
     /// Takes a round out of the CPU's magazines, if they have one.
-    fn pop(&mut self, arena: u32, cache: u8) -> Option<S>
+    fn pop(&mut self, arena: u32, cache: u8) -> Result<Option<S>, Stopped>
         ensures { Step step tree count rounds self.old (Pop arena cache)
-            (tag_option S.tag result) self.new };
+            (tag_all S.tag result) self.new };
 
     /// Puts a round into the CPU's magazines. It comes back where they have no room, or it is no
     /// chunk of this cache.
-    fn push(&mut self, arena: u32, cache: u8, segment: S) -> Result<(), S>
+    fn push(&mut self, arena: u32, cache: u8, segment: S) -> Result<(), PushFault<S>>
         ensures { Step step tree count rounds self.old (Push arena cache (S.tag segment))
             (tag_push S.tag result) self.new };
 
-    /// Makes two magazines of this size, and moves all rounds of the CPU into the first.
-    fn change(&mut self, arena: u32, cache: u8, size: usize) -> Result<(), NoMemory>
+    /// Makes two magazines of this size, if it is greater than theirs, and moves all rounds of the
+    /// CPU into the first.
+    fn change(&mut self, arena: u32, cache: u8, size: usize) -> Result<(), ChangeFault>
         ensures { Step step tree count rounds self.old (Change arena cache size) result self.new };
 }

@@ -137,7 +137,7 @@ fn begin(rt: &impl Abort, alloc: Global) -> Walk {
         .add_arena(alloc, Some(0), 1, Policy::Best)
         .expect(rt, "a child");
     stock.add_cache(alloc, 1, 8, 3).expect(rt, "a cache");
-    let cpu = match OwnCache::new(alloc, 1, 0, 3) {
+    let cpu = match OwnCache::new(alloc, 1, 0, 1, 3) {
         Ok(cpu) => cpu,
         Err(_) => panic!(rt; "a cache of a CPU"),
     };
@@ -247,6 +247,8 @@ fn push(rt: &impl Abort, walk: &mut Walk) {
 /// The CPU gets a fresh magazine for a full one.
 fn swap_fresh(rt: &impl Abort, walk: &mut Walk) {
     let (arena, cache) = walk.cpu.place();
+    assert!(rt; arena < walk.stock.count());
+    assert!(rt; walk.stock.quantum(arena) == walk.cpu.quantum());
     assert!(rt; walk.stock.has_cache(arena, cache));
     assert!(rt; walk.cpu.is_full());
     let magazine = match Magazine::new(walk.alloc, 3) {

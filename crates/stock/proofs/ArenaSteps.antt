@@ -9,7 +9,7 @@ use Rattle.deed_core.proofs.LawProofs.{written, sum_set, map_set_same}
 use Rattle.tag_arena.specs.ArenaState.{ArenaState, IsSound, tags_of}
 use Rattle.tag_arena.specs.Outcomes.{KeepsSetup}
 use Rattle.stock.specs.Spaces.{SpaceState, with_arena, slab_size_of, plan_of, plans_of, quantum_of, quanta_of}
-use Rattle.stock.specs.Stocks.{IsQuantumCache, IsFrom, IsSpace, IsStock}
+use Rattle.stock.specs.Stocks.{IsQuantumCache, IsFrom, IsSpaceAt, IsStock}
 use Rattle.stock.specs.Accounts.{allocated, imported, slabs, chunks, rounds, Frames}
 use Rattle.stock.proofs.Moving.{Moves}
 
@@ -32,15 +32,15 @@ module _ (spaces : List SpaceState) (k : ℕ) (s : SpaceState) (at : slice_get s
   arena_quanta kept = map_set_same quantum_of spaces k s (with_arena new s) at kept.quantum
 
   arena_stock : Keeps s new → IsStock spaces → IsStock now
-  arena_stock keeps stock i x there = subst (λ qs. IsSpace qs i x) (sym (arena_quanta keeps.setup)) (elim (written spaces k i (with_arena new s) x there) [
-    | inl here ↦ subst (λ z. IsSpace (quanta_of spaces) i z) (sym here.1) (subst (λ m. IsSpace (quanta_of spaces) m (with_arena new s)) (sym here.0) is)
+  arena_stock keeps stock i x there = subst (λ qs. IsSpaceAt qs i x) (sym (arena_quanta keeps.setup)) (elim (written spaces k i (with_arena new s) x there) [
+    | inl here ↦ subst (λ z. IsSpaceAt (quanta_of spaces) i z) (sym here.1) (subst (λ m. IsSpaceAt (quanta_of spaces) m (with_arena new s)) (sym here.0) is)
     | inr other ↦ stock i x other.1
   ])
     where
-      old : IsSpace (quanta_of spaces) k s
+      old : IsSpaceAt (quanta_of spaces) k s
       old = stock k s at
 
-      is : IsSpace (quanta_of spaces) k (with_arena new s)
+      is : IsSpaceAt (quanta_of spaces) k (with_arena new s)
       is = record {
         id = keeps.setup.id ∙ old.id;
         sound = keeps.sound;

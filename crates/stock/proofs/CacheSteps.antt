@@ -1,5 +1,5 @@
 -- What a step of one quantum cache leaves of a stock and of its accounts.
-use Rattle.std.proofs.Common.{◌≡◌, ℕ, ◌+◌, ◌<◌, refl, sym, subst, ap, ◌∙◌, inl, inr, List, map, length, set, get_or, Some, arith}
+use Rattle.std.proofs.Common.{◌≡◌, ℕ, ◌+◌, ◌<◌, refl, sym, subst, ap, ◌∙◌, inl, inr, ◌↔◌, List, map, length, set, get_or, Some, arith}
 use Rattle.std.specs.Prelude.{sum_by, slice_get}
 use Rattle.std.proofs.lemmas.Option.{slice_get_within}
 use Rattle.std.proofs.lemmas.List.Sums.{sum_by-append}
@@ -7,7 +7,7 @@ use Rattle.deed_core.specs.Tag.{Tag}
 use Rattle.deed_core.specs.Weights.{of_direct, of_cached}
 use Rattle.deed_core.proofs.LawProofs.{written, sum_set, map_set_same, slice_get_here, slice_get_one, slice_get_some}
 use Rattle.stock.specs.Spaces.{SpaceState, QuantumCacheState, with_cache, IsCacheAt, HasCache, slab_size_of, plan_of, plans_of, quantum_of, quanta_of}
-use Rattle.stock.specs.Stocks.{IsQuantumCache, IsSpace, IsStock}
+use Rattle.stock.specs.Stocks.{IsQuantumCache, IsSpaceAt, IsStock}
 use Rattle.stock.specs.Accounts.{allocated, imported, slabs_in, chunks_in, rounds_in, slabs, chunks, rounds, Frames}
 use Rattle.stock.proofs.Moving.{Moves, is_written}
 use Rattle.stock.proofs.Moving as moving
@@ -48,15 +48,15 @@ module _ (spaces : List SpaceState) (k : ℕ) (s : SpaceState) (at : slice_get s
       map_set_same plan_of spaces k s (with_cache j new s) at (λ i. record { source = s.source; quantum = s.arena.quantum; policy = s.arena.policy; slab_sizes = sizes i })
 
   cache_stock : IsQuantumCache k (j + 1) s.arena.quantum new → IsStock spaces → IsStock now
-  cache_stock law stock i x there = subst (λ qs. IsSpace qs i x) (sym quanta) (elim (written spaces k i (with_cache j new s) x there) [
-    | inl here ↦ subst (λ z. IsSpace (quanta_of spaces) i z) (sym here.1) (subst (λ m. IsSpace (quanta_of spaces) m (with_cache j new s)) (sym here.0) is)
+  cache_stock law stock i x there = subst (λ qs. IsSpaceAt qs i x) (sym quanta) (elim (written spaces k i (with_cache j new s) x there) [
+    | inl here ↦ subst (λ z. IsSpaceAt (quanta_of spaces) i z) (sym here.1) (subst (λ m. IsSpaceAt (quanta_of spaces) m (with_cache j new s)) (sym here.0) is)
     | inr other ↦ stock i x other.1
   ])
     where
       quanta : quanta_of now ≡ quanta_of spaces
       quanta = map_set_same quantum_of spaces k s (with_cache j new s) at refl
 
-      old : IsSpace (quanta_of spaces) k s
+      old : IsSpaceAt (quanta_of spaces) k s
       old = stock k s at
 
       each : (i : ℕ) (x : QuantumCacheState) → slice_get (set s.caches j new) i ≡ Some x → IsQuantumCache k (i + 1) s.arena.quantum x
@@ -65,7 +65,7 @@ module _ (spaces : List SpaceState) (k : ℕ) (s : SpaceState) (at : slice_get s
         | inr other ↦ old.caches i x other.1
       ]
 
-      is : IsSpace (quanta_of spaces) k (with_cache j new s)
+      is : IsSpaceAt (quanta_of spaces) k (with_cache j new s)
       is = record { id = old.id; sound = old.sound; imported = old.imported; owned = old.owned; before = old.before; nests = old.nests; caches = each }
 
   cache_frame : (given answered : List Tag)
@@ -104,3 +104,7 @@ module _ (spaces : List SpaceState) (k : ℕ) (s : SpaceState) (at : slice_get s
       → IsStock spaces → Moves spaces given now answered
   cache_moves given answered law size slabs_move chunks_move stock =
       record { stock = cache_stock law stock; frame = cache_frame given answered slabs_move chunks_move; fixed = cache_plans size }
+
+-- a cache stands there, exactly where both places are within
+pub has_exactly : (spaces : List SpaceState) (k : ℕ) (s : SpaceState) (j : ℕ) → slice_get spaces k ≡ Some s → (j < length s.caches) ↔ HasCache spaces k j
+has_exactly spaces k s j at = ((λ within. has_cache spaces k s j at within), (λ has. number_within spaces k j s has at))

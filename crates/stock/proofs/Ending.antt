@@ -2,7 +2,7 @@
 use Rattle.std.proofs.Common.{Option, IfSome, IfNone, ◌≡◌, ℕ, suc, zero, refl, sym, subst, ap, ◌∙◌, List, [], ◌∷◌, ◌++◌, map, Some, None}
 use Rattle.std.specs.Prelude.{slice_get}
 use Rattle.stock.specs.Spaces.{SpaceState, quantum_of, quanta_of}
-use Rattle.stock.specs.Stocks.{IsSpace, IsStock}
+use Rattle.stock.specs.Stocks.{IsSpaceAt, IsStock}
 
 before : {X : Type 0} (xs : List X) (y x : X) (k : ℕ) → slice_get xs k ≡ Some x → slice_get (xs ++ y ∷ []) k ≡ Some x
 before [] y x k at = absurd (let e : None ≡ Some x = at in cc)
@@ -15,7 +15,7 @@ map-push f (x ∷ xs) y = ap (λ ys. f x ∷ ys) (map-push f xs y)
 
 pub without_last : (spaces : List SpaceState) (s : SpaceState) → IsStock (spaces ++ s ∷ []) → IsStock spaces
 without_last spaces s stock k x at =
-    let is : IsSpace (quanta_of (spaces ++ s ∷ [])) k x = stock k x (before spaces s x k at) in
+    let is : IsSpaceAt (quanta_of (spaces ++ s ∷ [])) k x = stock k x (before spaces s x k at) in
     record {
       id = is.id;
       sound = is.sound;

@@ -21,7 +21,7 @@ use Rattle.slab_layer.specs.Cache.{span_tag, span_tags}
 use Rattle.slab_layer.specs.Calls.{OverlapsSlab}
 use Rattle.tag_arena.specs.Calls.{IsClear}
 use Rattle.stock.specs.Spaces.{SpaceState, QuantumCacheState, quantum_of, quanta_of}
-use Rattle.stock.specs.Stocks.{IsFrom, IsSpace, IsStock}
+use Rattle.stock.specs.Stocks.{IsFrom, IsSpaceAt, IsStock}
 use Rattle.stock.specs.Accounts.{allocated, imported, slabs_in, slabs, Accounts}
 use Rattle.stock.specs.Steps.{IsTaggedIn}
 use Rattle.stock.proofs.Members.{direct_weighs}
@@ -128,7 +128,7 @@ module _ (spaces : List SpaceState) (stock : IsStock spaces) where
         )
 
     module _ (child : ℕ) (c : SpaceState) (at : slice_get spaces child ≡ Some c) (source : c.source ≡ Some t.arena) where
-      is : IsSpace (quanta_of spaces) child c
+      is : IsSpaceAt (quanta_of spaces) child c
       is = stock child c at
 
       -- no span that the child has overlaps it

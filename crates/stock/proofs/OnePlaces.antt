@@ -14,10 +14,10 @@ use Rattle.slab_layer.specs.Cache.{IsChunkOf, span_tag, span_tags, deeds_of, chu
 use Rattle.slab_layer.proofs.LawProofs.{chunks_are_of_cache}
 use Rattle.magazine_layer.specs.Depots.{depot_rounds}
 use Rattle.stock.specs.Spaces.{SpaceState, QuantumCacheState, quanta_of}
-use Rattle.stock.specs.Stocks.{IsRoundOf, IsQuantumCache, IsSpace, IsStock}
+use Rattle.stock.specs.Stocks.{IsRoundOf, IsQuantumCache, IsSpaceAt, IsStock}
 use Rattle.stock.specs.Accounts.{imported, Accounts}
 use Rattle.stock.specs.Sums.{Out, all_out, held, held_of, places_of, all_places, sums_of, total}
-use Rattle.stock.specs.Laws.{OnePlace, AddsUp}
+use Rattle.stock.specs.Laws.{IsInOnePlace, AddsUp}
 use Rattle.stock.proofs.Exporting.{arena_here, arena_there, allocated_of}
 use Rattle.stock.proofs.Lengths.{as_long}
 
@@ -38,10 +38,10 @@ module _ (k n quantum : ℕ) (c : QuantumCacheState) (is : IsQuantumCache k n qu
   chunks_home = all_from (λ t. t.arena ≡ k) (chunks_out c.slab) (λ i x at. (all_at (IsChunkOf c.slab) (chunks_out c.slab) i x (chunks_are_of_cache c.slab is.sound).0 at).from ∙ is.arena)
 
   rounds_home : All (λ t. t.arena ≡ k) (depot_rounds c.depot)
-  rounds_home = all_from (λ t. t.arena ≡ k) (depot_rounds c.depot) (λ i x at. (all_at (IsRoundOf k n) (depot_rounds c.depot) i x is.rounds at).home)
+  rounds_home = all_from (λ t. t.arena ≡ k) (depot_rounds c.depot) (λ i x at. (all_at (IsRoundOf k n quantum) (depot_rounds c.depot) i x is.rounds at).from)
 
 module _ (spaces : List SpaceState) (stock : IsStock spaces) (k : ℕ) (s : SpaceState) (at : slice_get spaces k ≡ Some s) where
-  is : IsSpace (quanta_of spaces) k s
+  is : IsSpaceAt (quanta_of spaces) k s
   is = stock k s at
 
   module _ (g : Tag → ℕ) where
@@ -99,7 +99,7 @@ module _ (f : Holding → ℕ) (spaces : List SpaceState) (out : Out) (s : Space
         sum_by-append f p.leased p.hand,
       )
 
-pub one_place : OnePlace
+pub one_place : IsInOnePlace
 one_place spaces out accounted k s at u = (all, spans_once s.arena (accounted.stock k s at).sound u)
   where
     id : s.arena.id ≡ k

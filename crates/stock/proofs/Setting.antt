@@ -15,8 +15,10 @@ use Rattle.std.specs.FinMap as finmap
 use Rattle.std.specs.FinMap.{entries, len-empty, len-entries}
 use Rattle.deed_core.specs.Holding.{Holding}
 use Rattle.slab_layer.specs.Cache as slabs
+use Rattle.magazine_layer.specs.Magazines.{IsSize}
+use Rattle.magazine_layer.specs.Depots.{IsDepot, new_depot}
 use Rattle.stock.specs.Spaces.{SpaceState, QuantumCacheState, with_caches, quantum_of, quanta_of}
-use Rattle.stock.specs.Stocks.{IsRoundOf, IsQuantumCache, IsFrom, IsSpace, IsStock}
+use Rattle.stock.specs.Stocks.{IsRoundOf, IsQuantumCache, IsFrom, IsSpaceAt, IsStock}
 use Rattle.stock.specs.Accounts as accounts
 use Rattle.stock.specs.Accounts.{allocated, imported, slabs_in, chunks_in, rounds_in, chunks, rounds, Accounts, Frames}
 use Rattle.stock.specs.Steps.{CanImportFrom, next_cache, GainsCache, new_space}
@@ -52,7 +54,7 @@ module _ (spaces : List SpaceState) (source : Option ℕ) (quantum : ℕ) (polic
         ],
       )
 
-  is_new : IsSpace (quanta_of (spaces ++ s ∷ [])) (length spaces) s
+  is_new : IsSpaceAt (quanta_of (spaces ++ s ∷ [])) (length spaces) s
   is_new = record {
     id = refl;
     sound = sound;
@@ -65,7 +67,7 @@ module _ (spaces : List SpaceState) (source : Option ℕ) (quantum : ℕ) (polic
 
   pub arena_added : IsStock spaces → IsStock (spaces ++ s ∷ [])
   arena_added stock k x at = elim (pushed spaces k s x at) [
-    | inl last ↦ subst (λ z. IsSpace (quanta_of (spaces ++ s ∷ [])) k z) (sym last.1) (subst (λ i. IsSpace (quanta_of (spaces ++ s ∷ [])) i s) (sym last.0) is_new)
+    | inl last ↦ subst (λ z. IsSpaceAt (quanta_of (spaces ++ s ∷ [])) k z) (sym last.1) (subst (λ i. IsSpaceAt (quanta_of (spaces ++ s ∷ [])) i s) (sym last.0) is_new)
     | inr old ↦
         let is = stock k x old in
         record {
@@ -100,29 +102,38 @@ module _ (spaces after : List SpaceState) (place slab_size size : ℕ) (on : Gai
   abbrev now : SpaceState
   now = with_caches (on.space.caches ++ c ∷ []) on.space
 
-  pub cache_added : slabs.IsSound c.slab → IsStock spaces → IsStock after
-  cache_added sound stock = subst IsStock (sym on.after) all
+  pub cache_added : IsSize size → slabs.IsSound c.slab → IsStock spaces → IsStock after
+  cache_added sized sound stock = subst IsStock (sym on.after) all
     where
-      old : IsSpace (quanta_of spaces) place on.space
+      old : IsSpaceAt (quanta_of spaces) place on.space
       old = stock place on.space on.at
+
+      new_sound : IsDepot (new_depot size)
+      new_sound = record {
+        sized = sized;
+        whole = All-nil (λ (m : List Tag). length m ≡ size);
+        some = All-nil (λ (m : List Tag). 0 < length m);
+        full_stands = omega arith;
+        empty_stands = omega arith;
+      }
 
       each : (j : ℕ) (x : QuantumCacheState) → slice_get (on.space.caches ++ c ∷ []) j ≡ Some x → IsQuantumCache place (j + 1) on.space.arena.quantum x
       each j x there = elim (pushed on.space.caches j c x there) [
         | inl last ↦
             subst (λ z. IsQuantumCache place (j + 1) on.space.arena.quantum z) (sym last.1)
-            (subst (λ i. IsQuantumCache place (i + 1) on.space.arena.quantum c) (sym last.0) (record { arena = old.id; k = refl; quantum_is = refl; sound = sound; tiled = λ u. refl; rounds = All-nil (IsRoundOf place (length on.space.caches + 1)) }))
+            (subst (λ i. IsQuantumCache place (i + 1) on.space.arena.quantum c) (sym last.0) (record { arena = old.id; k = refl; quantum_is = refl; sound = sound; tiled = λ u. refl; depot = new_sound; rounds = All-nil (IsRoundOf place (length on.space.caches + 1) on.space.arena.quantum) }))
         | inr before ↦ old.caches j x before
       ]
 
-      is : IsSpace (quanta_of spaces) place now
+      is : IsSpaceAt (quanta_of spaces) place now
       is = record { id = old.id; sound = old.sound; imported = old.imported; owned = old.owned; before = old.before; nests = old.nests; caches = each }
 
       quanta : quanta_of (set spaces place now) ≡ quanta_of spaces
       quanta = map_set_same quantum_of spaces place on.space now on.at refl
 
       all : IsStock (set spaces place now)
-      all j x there = subst (λ qs. IsSpace qs j x) (sym quanta) (elim (written spaces place j now x there) [
-        | inl here ↦ subst (λ z. IsSpace (quanta_of spaces) j z) (sym here.1) (subst (λ i. IsSpace (quanta_of spaces) i now) (sym here.0) is)
+      all j x there = subst (λ qs. IsSpaceAt qs j x) (sym quanta) (elim (written spaces place j now x there) [
+        | inl here ↦ subst (λ z. IsSpaceAt (quanta_of spaces) j z) (sym here.1) (subst (λ i. IsSpaceAt (quanta_of spaces) i now) (sym here.0) is)
         | inr other ↦ stock j x other.1
       ])
 
@@ -161,6 +172,6 @@ module _ (spaces items : List SpaceState) (k : ℕ) (s : SpaceState) (o : Opens 
     after = ap (λ (xs : List QuantumCacheState). set items k (with_caches xs s)) more ∙ is_written spaces items k s o (with_caches (s.caches ++ next_cache s slab_size size ∷ []) s);
   }
 
-  pub cache_keeps : (slab_size size : ℕ) → cs ≡ s.caches ++ next_cache s slab_size size ∷ [] → slabs.IsSound (next_cache s slab_size size).slab → IsStock spaces → IsStock here
+  pub cache_keeps : (slab_size size : ℕ) → cs ≡ s.caches ++ next_cache s slab_size size ∷ [] → IsSize size → slabs.IsSound (next_cache s slab_size size).slab → IsStock spaces → IsStock here
   unfolding cache_done
-  cache_keeps slab_size size more sound stock = cache_added spaces here k slab_size size (cache_done slab_size size more) sound stock
+  cache_keeps slab_size size more sized sound stock = cache_added spaces here k slab_size size (cache_done slab_size size more) sized sound stock

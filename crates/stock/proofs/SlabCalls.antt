@@ -1,5 +1,5 @@
 -- A call of the slabs that stand at a place, by its answer.
-use Rattle.std.proofs.Common.{◌≡◌, ℕ, ◌+◌, ◌<◌, sym, subst, ap, ◌∙◌, inl, List, [], ◌∷◌, set, Contains, Option, Some, None, Result, Ok, Err, IfOk, IfSome, OnOk, IsOk, ◌↔◌, arith}
+use Rattle.std.proofs.Common.{◌≡◌, ℕ, ◌+◌, ◌*◌, ◌%◌, ◌<◌, sym, subst, ap, ◌∙◌, inl, List, [], ◌∷◌, set, Contains, Option, Some, None, Result, Ok, Err, IfOk, IfSome, OnOk, IsOk, ◌↔◌, arith}
 use Rattle.std.specs.Prelude.{slice_get, sum_by}
 use Rattle.std.specs.Option.{option_to_list}
 use Rattle.std.proofs.lemmas.List.Elements.{All-contains}
@@ -19,10 +19,10 @@ use Rattle.slab_layer.proofs.LawProofs.{chunks_are_of_cache}
 use Rattle.stock.specs.Spaces.{SpaceState, QuantumCacheState, with_slab, with_cache}
 use Rattle.stock.specs.Stocks.{IsRoundOf, IsQuantumCache, IsStock}
 use Rattle.stock.specs.Accounts.{chunks_in, chunks, Accounts}
-use Rattle.stock.specs.Steps.{OnSlab, PutIn, NamesNoCache, IsOutOf}
+use Rattle.stock.specs.Steps.{OnSlab, PutIn, NamesNoCache, IsOutOf, IsRoundIn}
 use Rattle.stock.specs.Answers.{hand_after_put, hand_after_add, NeverOverlaps}
 use Rattle.stock.proofs.Members.{direct_weighs, direct_none, cached_weighs, cached_none, alone}
-use Rattle.stock.proofs.Moving.{Moves, is_written, moves_there}
+use Rattle.stock.proofs.Moving.{Moves, is_written, moves_there, at_space}
 use Rattle.stock.proofs.CacheSteps.{OpensCache, cache_moves}
 use Rattle.stock.proofs.Exporting.{clear_of_slabs}
 
@@ -63,7 +63,7 @@ module _ (spaces items : List SpaceState) (k : ℕ) (s : SpaceState) (j : ℕ) (
         → ((f : Tag → ℕ) → sum_by f (chunks_out new) + sum_by (of_cached f) given ≡ sum_by f (chunks_out c.slab) + sum_by (of_cached f) answered)
         → Moves spaces given now answered
     moved given answered tiled slabs_move chunks_move = moves_there spaces items k s o.opened written given answered (cache_moves spaces k s o.opened.at j c o.among (with_slab new c) given answered
-        (record { arena = alike.arena ∙ is.arena; k = alike.k ∙ is.k; quantum_is = alike.quantum ∙ is.quantum_is; sound = sound; tiled = tiled; rounds = is.rounds })
+        (record { arena = alike.arena ∙ is.arena; k = alike.k ∙ is.k; quantum_is = alike.quantum ∙ is.quantum_is; sound = sound; tiled = tiled; depot = is.depot; rounds = is.rounds })
         alike.slab_size slabs_move (λ f. omega (arith, chunks_move f)) stock)
 
     -- a call that was refused
@@ -109,14 +109,26 @@ module _ (spaces items : List SpaceState) (k : ℕ) (s : SpaceState) (j : ℕ) (
     put_moves t (Err (putting.AtHome back)) of n route out kept spans = subst (λ x. Moves spaces (t ∷ []) now (x ∷ [])) (sym of.1.handed_back) (unchanged (t ∷ []) of.1.unchanged)
 
   -- what comes out is a chunk of the cache
-  pub one_chunk : IsStock spaces → (t : Tag) → IsChunkOf c.slab t → IsRoundOf k (j + 1) t
-  one_chunk stock t chunk = (let is = (stock k s o.opened.at).caches j c o.among in record { home = chunk.from ∙ is.arena; route = chunk.by ∙ ap Cached is.k })
+  one_chunk : IsStock spaces → (t : Tag) → IsChunkOf c.slab t → IsRoundIn spaces k j t
+  one_chunk stock t chunk = at_space spaces items k s o.opened (λ z. IsRoundOf k (j + 1) z.arena.quantum t) here
+    where
+      is : IsQuantumCache k (j + 1) s.arena.quantum c
+      is = (stock k s o.opened.at).caches j c o.among
 
-  pub take_chunk : IsStock spaces → (r : Option Tag) → IfSome r (IsChunkOf c.slab) → IfSome r (IsRoundOf k (j + 1))
+      here : IsRoundOf k (j + 1) s.arena.quantum t
+      here = record {
+        from = chunk.from ∙ is.arena;
+        by = chunk.by ∙ ap Cached is.k;
+        len = chunk.len ∙ ap (λ n. n * c.slab.quantum) is.k ∙ ap (λ n. (j + 1) * n) is.quantum_is;
+        grid = subst (λ n. t.holding.range.base % n ≡ 0) is.quantum_is chunk.grid;
+        end = chunk.end;
+      }
+
+  pub take_chunk : IsStock spaces → (r : Option Tag) → IfSome r (IsChunkOf c.slab) → IfSome r (IsRoundIn spaces k j)
   take_chunk stock None chunk = tt
   take_chunk stock (Some t) chunk = one_chunk stock t chunk
 
-  pub add_chunk : IsStock spaces → (r : Result Tag (AddFault Tag)) → IfOk r (IsChunkOf c.slab) → IfOk r (IsRoundOf k (j + 1))
+  pub add_chunk : IsStock spaces → (r : Result Tag (AddFault Tag)) → IfOk r (IsChunkOf c.slab) → IfOk r (IsRoundIn spaces k j)
   add_chunk stock (Err e) chunk = tt
   add_chunk stock (Ok t) chunk = one_chunk stock t chunk
 

@@ -15,8 +15,8 @@ use Rattle.stock.specs.Steps.{IsTaggedIn, IsOutOf}
 use Rattle.stock.specs.Sums.{Out, all_out, places_of, all_places, total, lengths_of}
 
 -- each unit of an arena's spans is in one place, and no other unit in any
-abbrev pub OnePlace : Type 0
-OnePlace = (spaces : List SpaceState) (out : Out) → IsAccounted spaces (all_out out)
+abbrev pub IsInOnePlace : Type 0
+IsInOnePlace = (spaces : List SpaceState) (out : Out) → IsAccounted spaces (all_out out)
     → (k : ℕ) (s : SpaceState) → slice_get spaces k ≡ Some s → (u : ℕ)
     → (covering_held u (all_places (places_of spaces out s)) ≡ covering_held u (spans_of s.arena))
     × (covering_held u (spans_of s.arena) ≤ 1)
@@ -60,14 +60,14 @@ pub data HasTop (spaces : List SpaceState) : ℕ → ℕ → Type 0 where
       → HasTop spaces p top → HasTop spaces k top
 
 -- where the segments' arenas have one top, no unit is in both
-abbrev pub AreApart : List SpaceState → Tag → Tag → Type 0
-AreApart spaces x y = (top : ℕ) → HasTop spaces x.arena top → HasTop spaces y.arena top
+abbrev pub ApartUpChain : List SpaceState → Tag → Tag → Type 0
+ApartUpChain spaces x y = (top : ℕ) → HasTop spaces x.arena top → HasTop spaces y.arena top
     → (u : ℕ) → Covers x.holding.range u → ¬ Covers y.holding.range u
 
 -- no two segments that are out overlap, be one's arena the other's source
 abbrev pub OutIsApart : Type 0
 OutIsApart = (spaces : List SpaceState) (out : List Tag) → IsAccounted spaces out
-    → AllPairs (AreApart spaces) out
+    → AllPairs (ApartUpChain spaces) out
 
 -- where the segments are that are out doesn't matter
 abbrev pub OutWeighs : Type 0
@@ -81,17 +81,17 @@ FramesThen = (first mid last : List SpaceState) (given between answered : List T
     → Frames first given last answered
 
 -- a CPU takes a round, gives one, or changes its magazines: only what is out is weighed anew
-abbrev pub Pops : Type 0
-Pops = (spaces : List SpaceState) (old new : CpuCacheState) (t : Tag)
+abbrev pub PopFrames : Type 0
+PopFrames = (spaces : List SpaceState) (old new : CpuCacheState) (t : Tag)
     → Loses (cache_rounds old) (cache_rounds new) t
     → Frames spaces (cache_rounds old) spaces (t ∷ cache_rounds new)
 
-abbrev pub Pushes : Type 0
-Pushes = (spaces : List SpaceState) (old new : CpuCacheState) (t : Tag)
+abbrev pub PushFrames : Type 0
+PushFrames = (spaces : List SpaceState) (old new : CpuCacheState) (t : Tag)
     → Gains (cache_rounds old) (cache_rounds new) t
     → Frames spaces (t ∷ cache_rounds old) spaces (cache_rounds new)
 
-abbrev pub Changes : Type 0
-Changes = (spaces : List SpaceState) (old new : CpuCacheState)
+abbrev pub ChangeFrames : Type 0
+ChangeFrames = (spaces : List SpaceState) (old new : CpuCacheState)
     → WeighSame (cache_rounds old) (cache_rounds new)
     → Frames spaces (cache_rounds old) spaces (cache_rounds new)

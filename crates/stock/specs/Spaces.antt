@@ -49,7 +49,7 @@ abbrev pub HasCache : List SpaceState → ℕ → ℕ → Type 0
 HasCache spaces k j = (c : QuantumCacheState) × IsCacheAt spaces k j c
 
 -- what an arena was set up as
-pub record Plan : Type 0 where
+pub record SpacePlan : Type 0 where
   pub source : Option ℕ
   pub quantum : ℕ
   pub policy : Policy
@@ -58,7 +58,7 @@ pub record Plan : Type 0 where
 abbrev pub slab_size_of : QuantumCacheState → ℕ
 slab_size_of c = c.slab.slab_size
 
-abbrev pub plan_of : SpaceState → Plan
+abbrev pub plan_of : SpaceState → SpacePlan
 plan_of s = record {
   source = s.source;
   quantum = s.arena.quantum;
@@ -66,7 +66,7 @@ plan_of s = record {
   slab_sizes = map slab_size_of s.caches;
 }
 
-abbrev pub plans_of : List SpaceState → List Plan
+abbrev pub plans_of : List SpaceState → List SpacePlan
 plans_of spaces = map plan_of spaces
 
 abbrev pub quantum_of : SpaceState → ℕ

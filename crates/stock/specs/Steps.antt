@@ -91,9 +91,24 @@ pub record IsOutOf (spaces : List SpaceState) (j : ℕ) (t : Tag) : Type 0 where
   pub route : t.route ≡ Cached (j + 1)
   pub mine : Contains (chunks_out cache.slab) t
 
--- the CPU's rounds are chunks of that cache
-abbrev pub AreRoundsOf : ℕ → ℕ → CpuCacheState → Type 0
-AreRoundsOf k j cpu = All (IsRoundOf k (j + 1)) (cache_rounds cpu)
+-- the arena at the place k has this quantum
+abbrev pub HasQuantum : List SpaceState → ℕ → ℕ → Type 0
+HasQuantum spaces k quantum = (s : SpaceState) → slice_get spaces k ≡ Some s
+    → s.arena.quantum ≡ quantum
+
+-- the segment is a chunk of the cache at the place j of the arena at the place k
+abbrev pub IsRoundIn : List SpaceState → ℕ → ℕ → Tag → Type 0
+IsRoundIn spaces k j t = (s : SpaceState) → slice_get spaces k ≡ Some s
+    → IsRoundOf k (j + 1) s.arena.quantum t
+
+-- the CPU's rounds are chunks of the cache at that place, the arena having this quantum
+abbrev pub AreRoundsOf : ℕ → ℕ → ℕ → CpuCacheState → Type 0
+AreRoundsOf k j quantum cpu = All (IsRoundOf k (j + 1) quantum) (cache_rounds cpu)
+
+-- they are chunks of the cache that stands at that place
+abbrev pub AreRoundsIn : List SpaceState → ℕ → ℕ → CpuCacheState → Type 0
+AreRoundsIn spaces k j cpu = (s : SpaceState) → slice_get spaces k ≡ Some s
+    → AreRoundsOf k j s.arena.quantum cpu
 
 -- an arena that has nothing yet
 abbrev pub new_space : ℕ → Option ℕ → ℕ → Policy → SpaceState

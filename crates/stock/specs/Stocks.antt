@@ -1,18 +1,18 @@
 -- What is so of a stock's parts, wherever the segments are that are out of them.
-use Rattle.std.specs.Prelude.{◌≡◌, ℕ, ◌+◌, ◌%◌, ◌<◌, List, [], All, slice_get, Option, Some, None}
+use Rattle.std.specs.Prelude.{◌≡◌, ℕ, ◌+◌, ◌*◌, ◌%◌, ◌<◌, List, [], All, slice_get, Option, Some, None}
 use Rattle.deed_core.specs.Tag.{Tag}
 use Rattle.deed_core.specs.Covering.{covering_held, covering_tags}
 use Rattle.deed_core.specs.declared.segments.Route.TheVariants.{Cached}
 use Rattle.tag_arena.specs.ArenaState as arenas
 use Rattle.slab_layer.specs.Cache as slabs
 use Rattle.slab_layer.specs.Cache.{deeds_of, chunks_out, span_tags}
-use Rattle.magazine_layer.specs.Depots.{depot_rounds}
+use Rattle.magazine_layer.specs.Depots.{IsDepot, depot_rounds}
 use Rattle.stock.specs.Spaces.{SpaceState, QuantumCacheState, quanta_of}
 
--- a chunk of this arena's cache with this number
-pub record IsRoundOf (arena number : ℕ) (t : Tag) : Type 0 where
-  pub home : t.arena ≡ arena
-  pub route : t.route ≡ Cached number
+-- a chunk of this arena's cache with this number: so many quanta, on the quantum's grid
+abbrev pub IsRoundOf : ℕ → ℕ → ℕ → Tag → Type 0
+IsRoundOf arena number quantum t =
+    slabs.IsSegmentOf arena (Cached number) (number * quantum) quantum t
 
 -- the cache of chunks of `number` quanta, of the arena at the place: each unit of a slab is at home
 -- or in a chunk that is out
@@ -23,7 +23,8 @@ pub record IsQuantumCache (place number quantum : ℕ) (c : QuantumCacheState) :
   pub sound : slabs.IsSound c.slab
   pub tiled : (u : ℕ) → covering_held u (deeds_of c.slab) + covering_tags u (chunks_out c.slab)
       ≡ covering_tags u (span_tags c.slab)
-  pub rounds : All (IsRoundOf place number) (depot_rounds c.depot)
+  pub depot : IsDepot c.depot
+  pub rounds : All (IsRoundOf place number quantum) (depot_rounds c.depot)
 
 -- the segment is of the source
 abbrev pub IsFrom : Option ℕ → Tag → Type 0
@@ -32,7 +33,7 @@ IsFrom (Some p) t = t.arena ≡ p
 
 -- the space at the place k, the arenas having these quanta: it imports from an arena that was set up
 -- before, whose segments are in whole quanta of its own, and then it owns no span
-pub record IsSpace (quanta : List ℕ) (k : ℕ) (s : SpaceState) : Type 0 where
+pub record IsSpaceAt (quanta : List ℕ) (k : ℕ) (s : SpaceState) : Type 0 where
   pub id : s.arena.id ≡ k
   pub sound : arenas.IsSound s.arena
   pub imported : All (IsFrom s.source) s.arena.imported
@@ -46,4 +47,4 @@ pub record IsSpace (quanta : List ℕ) (k : ℕ) (s : SpaceState) : Type 0 where
 -- each space is at the place of its arena's number
 abbrev pub IsStock : List SpaceState → Type 0
 IsStock spaces = (k : ℕ) (s : SpaceState) → slice_get spaces k ≡ Some s
-    → IsSpace (quanta_of spaces) k s
+    → IsSpaceAt (quanta_of spaces) k s

@@ -2,14 +2,14 @@
 //! depot's or a fresh one), note (a tick or a resize) and depot_reap.
 ghost use Rattle.std.specs.Prelude.{◌≡◌, ◌+◌, [], ◌∷◌, IfSome};
 ghost use Rattle.std.specs.Option.{option_to_list};
-ghost use Rattle.magazine_layer.specs.Magazines.{IsSize, BothEmpty, BothFull, cache_rounds};
+ghost use Rattle.magazine_layer.specs.Magazines.{IsSize, IsShaped, BothEmpty, BothFull};
+ghost use Rattle.magazine_layer.specs.Magazines.{cache_rounds};
 ghost use Rattle.magazine_layer.specs.Depots.{after_tick};
 ghost use Rattle.magazine_layer.specs.Calls.{SwapFullOf, SwapEmptyOf, PutFullOf, ResizeOf};
 ghost use Rattle.magazine_layer.specs.Calls.{DepotReapOf};
 ghost use Rattle.stock.specs.Spaces.{HasCache, plans_of};
-ghost use Rattle.stock.specs.Stocks.{IsRoundOf};
 ghost use Rattle.stock.specs.Accounts.{Frames};
-ghost use Rattle.stock.specs.Steps.{OnDepot, AreRoundsOf};
+ghost use Rattle.stock.specs.Steps.{OnDepot, IsRoundIn, AreRoundsIn};
 
 use crate::stocks::Stock;
 use deed_core::{Deed, Segment};
@@ -27,7 +27,8 @@ impl<D: Deed> Stock<D> {
         requires empty { BothEmpty cpu.old }
         ensures swapped { OnDepot arena cache (λ a b. SwapFullOf cpu.old a result cpu.new b)
             self.old self.new }
-        ensures rounds { AreRoundsOf arena cache cpu.new }
+        ensures rounds { AreRoundsIn self.old arena cache cpu.new }
+        ensures shape { IsShaped cpu.new }
         ensures frame { Frames self.old (cache_rounds cpu.old) self.new (cache_rounds cpu.new) }
         ensures fixed { plans_of self.new ≡ plans_of self.old }
     {
@@ -46,10 +47,11 @@ impl<D: Deed> Stock<D> {
     ) -> Result<(), EmptyFault>
         requires has { HasCache self.old arena cache }
         requires full { BothFull cpu.old }
-        requires rounds { AreRoundsOf arena cache cpu.old }
+        requires rounds { AreRoundsIn self.old arena cache cpu.old }
         ensures swapped { OnDepot arena cache (λ a b. SwapEmptyOf cpu.old a result cpu.new b)
             self.old self.new }
-        ensures rounds { AreRoundsOf arena cache cpu.new }
+        ensures rounds { AreRoundsIn self.old arena cache cpu.new }
+        ensures shape { IsShaped cpu.new }
         ensures frame { Frames self.old (cache_rounds cpu.old) self.new (cache_rounds cpu.new) }
         ensures fixed { plans_of self.new ≡ plans_of self.old }
     {
@@ -69,11 +71,12 @@ impl<D: Deed> Stock<D> {
     ) -> Result<(), PutFullFault<Magazine<D>>>
         requires has { HasCache self.old arena cache }
         requires full { BothFull cpu.old }
-        requires rounds { AreRoundsOf arena cache cpu.old }
+        requires rounds { AreRoundsIn self.old arena cache cpu.old }
         requires fresh { magazine.rounds ≡ [] }
         ensures swapped { OnDepot arena cache
             (λ a b. PutFullOf cpu.old a magazine result cpu.new b) self.old self.new }
-        ensures rounds { AreRoundsOf arena cache cpu.new }
+        ensures rounds { AreRoundsIn self.old arena cache cpu.new }
+        ensures shape { IsShaped cpu.new }
         ensures frame { Frames self.old (cache_rounds cpu.old) self.new (cache_rounds cpu.new) }
         ensures fixed { plans_of self.new ≡ plans_of self.old }
     {
@@ -113,7 +116,7 @@ impl<D: Deed> Stock<D> {
         requires has { HasCache self.old arena cache }
         ensures reaped { OnDepot arena cache (λ a b. DepotReapOf a result b)
             self.old self.new }
-        ensures chunk { IfSome result (IsRoundOf arena (cache + 1)) }
+        ensures chunk { IfSome result (IsRoundIn self.old arena cache) }
         ensures frame { Frames self.old [] self.new (option_to_list result) }
         ensures fixed { plans_of self.new ≡ plans_of self.old }
     {

@@ -1,13 +1,13 @@
 //! What follows from the accounts of a stock. The functions do nothing: their contracts are the laws,
 //! and proofs/LawProofs.antt has them for the proofs of the crates above.
-ghost use Rattle.stock.specs.Laws.{OnePlace, AddsUp, AlwaysTagged, AlwaysOut, AlwaysImports};
+ghost use Rattle.stock.specs.Laws.{IsInOnePlace, AddsUp, AlwaysTagged, AlwaysOut, AlwaysImports};
 ghost use Rattle.stock.specs.Laws.{AlwaysSlab, OutIsApart, OutWeighs, FramesThen};
-ghost use Rattle.stock.specs.Laws.{Pops, Pushes, Changes};
+ghost use Rattle.stock.specs.Laws.{PopFrames, PushFrames, ChangeFrames};
 
 /// Each unit of an arena is in one place: free, in a slab, in a magazine, exported, leased or in a
 /// hand. So the sums that an audit prints add up to the units of the spans.
 pub fn one_place_laws()
-    ensures place { OnePlace }
+    ensures place { IsInOnePlace }
     ensures lengths { AddsUp }
 {}
 
@@ -29,7 +29,7 @@ pub fn apart_laws()
 pub fn frame_laws()
     ensures weighs { OutWeighs }
     ensures then { FramesThen }
-    ensures pops { Pops }
-    ensures pushes { Pushes }
-    ensures changes { Changes }
+    ensures pops { PopFrames }
+    ensures pushes { PushFrames }
+    ensures changes { ChangeFrames }
 {}

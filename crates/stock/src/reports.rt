@@ -3,7 +3,7 @@
 ghost use Rattle.std.specs.Prelude.{◌≡◌, ◌+◌, ◌-◌, ◌^◌, ◌<◌, length, min, slice_get, Some};
 ghost use Rattle.deed_core.specs.Covering.{units_held, units_tagged};
 ghost use Rattle.tag_arena.specs.ArenaState.{spans_of};
-ghost use Rattle.slab_layer.specs.Cache.{deeds_of};
+ghost use Rattle.slab_layer.specs.Cache.{deeds_of, idle_deeds, gaps, tails};
 ghost use Rattle.magazine_layer.specs.Depots.{depot_rounds};
 ghost use Rattle.stock.specs.Spaces.{SpaceState, QuantumCacheState, IsCacheAt, HasCache};
 
@@ -56,9 +56,15 @@ impl<D: Deed> Stock<D> {
         space.arena.report()
     }
 
-    /// How many units lie in the slabs of one of its caches.
+    /// How many units lie in the slabs of one of its caches: idle chunks, colour gaps and tails.
     pub fn slab_report(&self, arena: usize, cache: usize) -> SlabReport
         requires has { HasCache self.now arena cache }
+        ensures idle { (c : QuantumCacheState) → IsCacheAt self.now arena cache c
+            → result.idle ≡ units_held (idle_deeds c.slab) }
+        ensures gap { (c : QuantumCacheState) → IsCacheAt self.now arena cache c
+            → result.gap ≡ units_held (gaps c.slab) }
+        ensures tail { (c : QuantumCacheState) → IsCacheAt self.now arena cache c
+            → result.tail ≡ units_held (tails c.slab) }
         ensures kept { (c : QuantumCacheState) → IsCacheAt self.now arena cache c
             → result.idle + result.gap + result.tail ≡ units_held (deeds_of c.slab) }
     {

@@ -1,12 +1,12 @@
 //! The events on the slabs of a quantum cache: slab_take, slab_put, slab_add, slab_reap.
-ghost use Rattle.std.specs.Prelude.{◌≡◌, ℕ, ◌+◌, List, [], ◌∷◌, IfSome, IfNone, IfOk, IsOk, IsTrue};
+ghost use Rattle.std.specs.Prelude.{◌≡◌, ◌↔◌, ℕ, ◌+◌, List, [], ◌∷◌};
+ghost use Rattle.std.specs.Prelude.{IfSome, IfNone, IfOk, IsOk, IsTrue};
 ghost use Rattle.std.specs.Option.{option_to_list};
 ghost use Rattle.deed_core.specs.Tag.{Tag};
 ghost use Rattle.slab_layer.specs.Calls.{TakeOf, AddOf, ReapOf};
 ghost use Rattle.stock.specs.Spaces.{HasCache, plans_of};
-ghost use Rattle.stock.specs.Stocks.{IsRoundOf};
 ghost use Rattle.stock.specs.Accounts.{Accounts, Frames};
-ghost use Rattle.stock.specs.Steps.{OnSlab, PutIn, NamesNoCache, IsOnGridOf};
+ghost use Rattle.stock.specs.Steps.{OnSlab, PutIn, NamesNoCache, IsOnGridOf, IsRoundIn};
 ghost use Rattle.stock.specs.Answers.{hand_after_put, hand_after_add, NeverOverlaps};
 
 use crate::stocks::Stock;
@@ -18,7 +18,7 @@ impl<D: Deed> Stock<D> {
     pub fn slab_take(&mut self, arena: usize, cache: usize) -> Option<Segment<D>>
         requires has { HasCache self.old arena cache }
         ensures taken { OnSlab arena cache (λ a b. TakeOf a result b) self.old self.new }
-        ensures chunk { IfSome result (IsRoundOf arena (cache + 1)) }
+        ensures chunk { IfSome result (IsRoundIn self.old arena cache) }
         ensures frame { Frames self.old [] self.new (option_to_list result) }
         ensures fixed { plans_of self.new ≡ plans_of self.old }
     {
@@ -53,7 +53,7 @@ impl<D: Deed> Stock<D> {
         requires route { span.route ≡ Route.Direct }
         requires grid { IsOnGridOf self.old arena span }
         ensures added { OnSlab arena cache (λ a b. AddOf a span result b) self.old self.new }
-        ensures chunk { IfOk result (IsRoundOf arena (cache + 1)) }
+        ensures chunk { IfOk result (IsRoundIn self.old arena cache) }
         ensures frame { Frames self.old (span ∷ []) self.new (hand_after_add result) }
         ensures fixed { plans_of self.new ≡ plans_of self.old }
         ensures never { (rest : List Tag) → Accounts self.old (span ∷ rest)
@@ -83,7 +83,7 @@ impl<D: Deed> Stock<D> {
 
     /// Whether the arena and the cache stand at these places.
     pub fn has_cache(&self, arena: usize, cache: usize) -> bool
-        ensures { IsTrue result → HasCache self.now arena cache }
+        ensures { IsTrue result ↔ HasCache self.now arena cache }
     {
         if arena >= self.spaces.len() {
             return false;

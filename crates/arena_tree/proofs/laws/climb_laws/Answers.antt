@@ -1,6 +1,7 @@
 use Rattle.arena_tree.proofs.ClimbBounds.{climb_is_short, return_is_short}
 use Rattle.arena_tree.proofs.ClimbGrants.{gives_climb}
 use Rattle.arena_tree.proofs.ClimbHands.{handles_return, handles_climb}
+use Rattle.arena_tree.proofs.ClimbTold.{climb_tells, return_tells}
 use Rattle.arena_tree.proofs.laws.climb_laws.Goals as goal
 
 pub returns-clause-climb : goal.returns-clause-climb
@@ -17,3 +18,9 @@ returns-clause-back_short c = return_is_short
 
 pub returns-clause-gives : goal.returns-clause-gives
 returns-clause-gives c = gives_climb
+
+pub returns-clause-tells : goal.returns-clause-tells
+returns-clause-tells c = climb_tells
+
+pub returns-clause-back_tells : goal.returns-clause-back_tells
+returns-clause-back_tells c = return_tells

@@ -53,4 +53,4 @@ invariant_of-self-2 g c =
     let more : c.push_reserved.new.self.items ≡ c.space.inside.caches.items ++ next_cache (record { arena = c.space.inside.arena; source = c.space.inside.source; caches = c.space.inside.caches.items }) c.args.slab_size c.args.rounds ∷ [] = search rules in
     let done = cache_done _ _ _ _ o c.push_reserved.new.self.items c.args.slab_size c.args.rounds more in
     let slab : c.new-slab.result ≡ (next_cache (record { arena = c.space.inside.arena; source = c.space.inside.source; caches = c.space.inside.caches.items }) c.args.slab_size c.args.rounds).slab = search rules in
-    cache_keeps _ _ _ _ o c.push_reserved.new.self.items c.args.slab_size c.args.rounds more (subst IsSound slab c.arena.ensures.sound) (subst IsStock c.self.view_is c.self.invariant)
+    cache_keeps _ _ _ _ o c.push_reserved.new.self.items c.args.slab_size c.args.rounds more c.requires.rounds (subst IsSound slab c.arena.ensures.sound) (subst IsStock c.self.view_is c.self.invariant)
