@@ -4,7 +4,7 @@ use Rattle.std.specs.Prelude.{slice_get}
 use Rattle.std.proofs.lemmas.List.Elements.{All-cons, All-nil}
 use Rattle.std.proofs.lemmas.Option.{slice_get_within}
 use Rattle.deed_core.specs.Tag.{Tag}
-use Rattle.arena_tree.specs.Chains.{Node, IsChain, first_id, first_node, source_of, quantum_of}
+use Rattle.arena_tree.specs.Chains.{Node, IsChain, first_id, first_node, source_of, quantum_in}
 use Rattle.arena_tree.specs.declared.levels.Level.{Level}
 
 pub chain_quanta : (nodes : List Node) (chain : List Level) → IsChain nodes chain → All (λ l. 0 < l.quantum) chain
@@ -16,7 +16,7 @@ source_at [] id n at = absurd (let e : None ≡ Some n = at in cc)
 source_at (m ∷ nodes) zero n at = let e : Some m ≡ Some n = at in let is : m ≡ n = cc in ap (λ z. z.source) is
 source_at (m ∷ nodes) (suc id) n at = source_at nodes id n at
 
-quantum_at : (nodes : List Node) (id : ℕ) (n : Node) → slice_get nodes id ≡ Some n → quantum_of nodes id ≡ n.quantum
+quantum_at : (nodes : List Node) (id : ℕ) (n : Node) → slice_get nodes id ≡ Some n → quantum_in nodes id ≡ n.quantum
 quantum_at [] id n at = absurd (let e : None ≡ Some n = at in cc)
 quantum_at (m ∷ nodes) zero n at = let e : Some m ≡ Some n = at in let is : m ≡ n = cc in ap (λ z. z.quantum) is
 quantum_at (m ∷ nodes) (suc id) n at = quantum_at nodes id n at
@@ -25,7 +25,7 @@ quantum_at (m ∷ nodes) (suc id) n at = quantum_at nodes id n at
 pub chain_within : (nodes : List Node) (l : Level) (up : List Level) → IsChain nodes (l ∷ up) → l.id < length nodes
 chain_within nodes l up is = slice_get_within nodes l.id (first_node l up) is.0
 
-pub chain_quantum : (nodes : List Node) (l : Level) (up : List Level) → IsChain nodes (l ∷ up) → quantum_of nodes l.id ≡ l.quantum
+pub chain_quantum : (nodes : List Node) (l : Level) (up : List Level) → IsChain nodes (l ∷ up) → quantum_in nodes l.id ≡ l.quantum
 chain_quantum nodes l up is = quantum_at nodes l.id (first_node l up) is.0
 
 pub chain_source : (nodes : List Node) (l : Level) (up : List Level) → IsChain nodes (l ∷ up) → source_of nodes l.id ≡ first_id up

@@ -13,7 +13,7 @@ use Rattle.arena_tree.specs.declared.part_faults.ClimbFault.TheVariants as climb
 use Rattle.arena_tree.specs.declared.part_faults.ReturnFault.TheVariants as returning
 use Rattle.arena_tree.specs.Chains.{amount_of}
 use Rattle.arena_tree.specs.Plans.{Done, then, Within}
-use Rattle.arena_tree.specs.Climbs.{Returned, Climbed, return_plan, after_free, refused_memory, after_add, after_import, after_carve, climb_plan, climb_most}
+use Rattle.arena_tree.specs.Climbs.{Returned, Climbed, return_plan, on_free, refused_memory, on_add, on_import, on_carve, climb_plan, climb_most}
 use Rattle.arena_tree.specs.Laws.{ClimbIsShort, ReturnIsShort}
 use Rattle.arena_tree.proofs.Paths.{within_then}
 
@@ -22,7 +22,7 @@ pub within_return : (most : Returned → ℕ) (chain : List Level) (t : Tag) (n 
 within_return most [] t n le = let h = le (Err (returning.Stuck t)) in omega arith
 within_return most (l ∷ up) t n le = freed (λ w. within_return most up w (n + 1) (λ r. let h = le r in omega arith))
   where
-    freed : ((w : Tag) → Within most (return_plan up w) (n + 1)) → (x : Result (Option Tag) (FreeFault Tag)) → Within most (after_free (return_plan up) x) (n + 1)
+    freed : ((w : Tag) → Within most (return_plan up w) (n + 1)) → (x : Result (Option Tag) (FreeFault Tag)) → Within most (on_free (return_plan up) x) (n + 1)
     freed again (Ok None) = let h = le (Ok tt) in omega arith
     freed again (Ok (Some w)) = again w
     freed again (Err (freeing.BadFree x)) = let h = le (Err (returning.Stuck x)) in omega arith
@@ -43,7 +43,7 @@ IsRefused (climbing.Stuck t) = Unit {0}
 IsRefused (climbing.Stopped o) = Unit {0}
 
 -- a descent: one, and where memory is refused one for each arena above
-pub within_added : (most : Climbed → ℕ) (up : List Level) (x : Result Tag (AddCarveFault Tag)) (n : ℕ) → ((t : Tag) → n ≤ most (Ok t)) → ((f : ClimbFault Tag) → IsRefused f → n + length up ≤ most (Err f)) → Within most (after_add up x) n
+pub within_added : (most : Climbed → ℕ) (up : List Level) (x : Result Tag (AddCarveFault Tag)) (n : ℕ) → ((t : Tag) → n ≤ most (Ok t)) → ((f : ClimbFault Tag) → IsRefused f → n + length up ≤ most (Err f)) → Within most (on_add up x) n
 within_added most up (Ok t) n ok err = ok t
 within_added most up (Err (adding.Overlaps t)) n ok err = let h = err (climbing.Stuck t) tt in omega arith
 within_added most up (Err (adding.NotAligned t)) n ok err = let h = err (climbing.Stuck t) tt in omega arith
@@ -57,7 +57,7 @@ within_added most up (Err (adding.NoMemory t)) n ok err = within_refused most up
 
 -- after the climb of the source, by a chain of at least one arena
 within_imported : (most : Climbed → ℕ) (up : List Level) (child size : ℕ) (x : Climbed) (n m : ℕ) → 1 ≤ length up → m ≤ n + 1 + climb_most (length up) x → ((r : Climbed) → n + climb_most (length up + 1) r ≤ most r)
-    → Within most (after_import up child size x) m
+    → Within most (on_import up child size x) m
 within_imported most up child size (Ok span) n m some low le = λ x. within_added most up x (m + 1) (λ t. let h = le (Ok t) in omega arith) fault
   where
     fault : (f : ClimbFault Tag) → IsRefused f → m + 1 + length up ≤ most (Err f)
@@ -74,17 +74,17 @@ within_imported most up child size (Err (climbing.Stopped o)) n m some low le = 
 
 -- after the carve in the arena itself
 within_carved : (most : Climbed → ℕ) (up : List Level) (child size amount : ℕ) (x : Result Tag CarveFault) (n : ℕ) → 1 ≤ length up → ((m : Climbed → ℕ) (k : ℕ) → ((r : Climbed) → k + climb_most (length up) r ≤ m r) → Within m (climb_plan up amount) k)
-    → ((r : Climbed) → n + climb_most (length up + 1) r ≤ most r) → Within most (after_carve (climb_plan up amount) up child size x) (n + 1)
+    → ((r : Climbed) → n + climb_most (length up + 1) r ≤ most r) → Within most (on_carve (climb_plan up amount) up child size x) (n + 1)
 within_carved most up child size amount (Ok t) n some again le = let h = le (Ok t) in omega arith
 within_carved most up child size amount (Err carving.BadRequest) n some again le = let h = le (Err climbing.BadRequest) in omega arith
 within_carved most up child size amount (Err carving.NoMemory) n some again le = let h = le (Err climbing.NoMemory) in omega arith
 within_carved most up child size amount (Err carving.Stopped) n some again le = let h = le (Err (climbing.Stopped None)) in omega arith
 within_carved most up child size amount (Err carving.NoFit) n some again le =
-    within_then (λ (r : Climbed). n + 1 + climb_most (length up) r) most (climb_plan up amount) (after_import up child size) (n + 1) (again (λ (r : Climbed). n + 1 + climb_most (length up) r) (n + 1) (λ r. omega arith))
+    within_then (λ (r : Climbed). n + 1 + climb_most (length up) r) most (climb_plan up amount) (on_import up child size) (n + 1) (again (λ (r : Climbed). n + 1 + climb_most (length up) r) (n + 1) (λ r. omega arith))
     (λ x m low. within_imported most up child size x n m some low le)
 
 -- the top arena has no source
-within_top : (most : Climbed → ℕ) (child size : ℕ) (x : Result Tag CarveFault) (n : ℕ) → ((r : Climbed) → n + climb_most 1 r ≤ most r) → Within most (after_carve (Done (Err climbing.NoFit)) [] child size x) (n + 1)
+within_top : (most : Climbed → ℕ) (child size : ℕ) (x : Result Tag CarveFault) (n : ℕ) → ((r : Climbed) → n + climb_most 1 r ≤ most r) → Within most (on_carve (Done (Err climbing.NoFit)) [] child size x) (n + 1)
 within_top most child size (Ok t) n le = let h = le (Ok t) in omega arith
 within_top most child size (Err carving.BadRequest) n le = let h = le (Err climbing.BadRequest) in omega arith
 within_top most child size (Err carving.NoMemory) n le = let h = le (Err climbing.NoMemory) in omega arith

@@ -11,8 +11,8 @@ use Rattle.arena_tree.specs.declared.part_faults.AddCarveFault.TheVariants as ad
 use Rattle.arena_tree.specs.declared.part_faults.ReturnFault.TheVariants as returning
 use Rattle.arena_tree.specs.Chains.{amount_of}
 use Rattle.arena_tree.specs.Plans.{Plan, Done, then, Handles}
-use Rattle.arena_tree.specs.Events.{hand_of, hand_may, freed_back, added_back}
-use Rattle.arena_tree.specs.Climbs.{Returned, Climbed, return_plan, after_free, refused_memory, after_add, after_import, after_carve, climb_plan, climb_left, return_left}
+use Rattle.arena_tree.specs.Events.{hand_left, hand_may, freed_back, added_back}
+use Rattle.arena_tree.specs.Climbs.{Returned, Climbed, return_plan, on_free, refused_memory, on_add, on_import, on_carve, climb_plan, climb_left, return_left}
 use Rattle.arena_tree.proofs.Paths.{handles_then}
 
 -- a hand back leaves what it ends with
@@ -20,7 +20,7 @@ pub handles_return : (chain : List Level) (t : Tag) → Handles return_left (ret
 handles_return [] t = refl
 handles_return (l ∷ up) t = (refl, freed (handles_return up))
   where
-    freed : ((w : Tag) → Handles return_left (return_plan up w) (Some w)) → (x : Result (Option Tag) (FreeFault Tag)) → Handles return_left (after_free (return_plan up) x) (hand_may (λ f. Some (freed_back f)) x)
+    freed : ((w : Tag) → Handles return_left (return_plan up w) (Some w)) → (x : Result (Option Tag) (FreeFault Tag)) → Handles return_left (on_free (return_plan up) x) (hand_may (λ f. Some (freed_back f)) x)
     freed again (Ok None) = refl
     freed again (Ok (Some w)) = again w
     freed again (Err (freeing.BadFree x)) = refl
@@ -34,23 +34,23 @@ handles_refused chain t = handles_then return_left climb_left (return_plan chain
     ends (Err (returning.Stuck x)) = refl
     ends (Err (returning.Stopped x)) = refl
 
-handles_added : (up : List Level) (x : Result Tag (AddCarveFault Tag)) → Handles climb_left (after_add up x) (hand_of (λ f. Some (added_back f)) x)
+handles_added : (up : List Level) (x : Result Tag (AddCarveFault Tag)) → Handles climb_left (on_add up x) (hand_left (λ f. Some (added_back f)) x)
 handles_added up (Ok t) = refl
 handles_added up (Err (adding.NoMemory t)) = handles_refused up t
 handles_added up (Err (adding.Overlaps t)) = refl
 handles_added up (Err (adding.NotAligned t)) = refl
 handles_added up (Err (adding.Stopped t)) = refl
 
-handles_imported : (up : List Level) (child size : ℕ) (x : Climbed) → Handles climb_left (after_import up child size x) (climb_left x)
+handles_imported : (up : List Level) (child size : ℕ) (x : Climbed) → Handles climb_left (on_import up child size x) (climb_left x)
 handles_imported up child size (Ok t) = (refl, handles_added up)
 handles_imported up child size (Err f) = refl
 
-handles_carved : (import : Plan Climbed) (up : List Level) (child size : ℕ) (x : Result Tag CarveFault) → Handles climb_left import None → Handles climb_left (after_carve import up child size x) (hand_of (λ _. None) x)
+handles_carved : (import : Plan Climbed) (up : List Level) (child size : ℕ) (x : Result Tag CarveFault) → Handles climb_left import None → Handles climb_left (on_carve import up child size x) (hand_left (λ _. None) x)
 handles_carved import up child size (Ok t) h = refl
 handles_carved import up child size (Err carving.BadRequest) h = refl
 handles_carved import up child size (Err carving.NoMemory) h = refl
 handles_carved import up child size (Err carving.Stopped) h = refl
-handles_carved import up child size (Err carving.NoFit) h = handles_then climb_left climb_left import (after_import up child size) None h (handles_imported up child size)
+handles_carved import up child size (Err carving.NoFit) h = handles_then climb_left climb_left import (on_import up child size) None h (handles_imported up child size)
 
 -- so does a climb
 pub handles_climb : (chain : List Level) (size : ℕ) → Handles climb_left (climb_plan chain size) None

@@ -14,16 +14,16 @@ use Rattle.arena_tree.specs.declared.part_faults.AddCarveFault.{AddCarveFault}
 use Rattle.arena_tree.specs.declared.part_faults.AddCarveFault.TheVariants as adding
 use Rattle.arena_tree.specs.declared.part_faults.ClimbFault.TheVariants as climbing
 use Rattle.arena_tree.specs.declared.part_faults.ReturnFault.TheVariants as returning
-use Rattle.arena_tree.specs.Chains.{Node, IsChain, first_id, quantum_of, amount_of}
+use Rattle.arena_tree.specs.Chains.{Node, IsChain, first_id, quantum_in, amount_of}
 use Rattle.arena_tree.specs.Plans.{Plan, Done, Ask, then, Step, Path, Ran, Gives}
-use Rattle.arena_tree.specs.Events.{Event, Answer, Carve, Free, AddCarve}
+use Rattle.arena_tree.specs.Events.{Event, AnswerTo, Carve, Free, AddCarve}
 use Rattle.arena_tree.specs.Sound.{Sound, SoundCarve}
-use Rattle.arena_tree.specs.Climbs.{Returned, Climbed, return_plan, after_free, refused_memory, after_add, after_import, after_carve, climb_plan}
+use Rattle.arena_tree.specs.Climbs.{Returned, Climbed, return_plan, on_free, refused_memory, on_add, on_import, on_carve, climb_plan}
 use Rattle.arena_tree.specs.Told.{Answered, Tells, told_by, IsNoFit, OnlyNoFit, ClimbTold, ReturnTold}
 use Rattle.arena_tree.specs.Laws.{ClimbTells, ReturnTells}
 use Rattle.arena_tree.proofs.Amounts.{chain_above}
 
-abbrev answered : (e : Event) → Answer e → Answered
+abbrev answered : (e : Event) → AnswerTo e → Answered
 answered e x = record { event = e; answer = x }
 
 pub tells_then : {A B : Type 0} (nodes : List Node) (post : List Answered → A → Type 0) (post' : List Answered → B → Type 0) (p : Plan A) (next : A → Plan B) (told : List Answered) → Tells nodes post p told
@@ -31,7 +31,7 @@ pub tells_then : {A B : Type 0} (nodes : List Node) (post : List Answered → A 
 tells_then nodes post post' (Done a) next told w f = f a told w
 tells_then nodes post post' (Ask e g) next told w f = λ x s. tells_then nodes post post' (g x) next (answered e x ∷ told) (w x s) f
 
-module _ {S : Type 0} (step : S → (e : Event) → Answer e → S → Type 0) (tree : S → List Node) (count : S → ℕ) (rounds : S → ℕ) where
+module _ {S : Type 0} (step : S → (e : Event) → AnswerTo e → S → Type 0) (tree : S → List Node) (count : S → ℕ) (rounds : S → ℕ) where
   path_tells : {A : Type 0} (post : List Answered → A → Type 0) (nodes : List Node) (p : Plan A) (s t : S) (a : A) (told : List Answered) → nodes ≡ tree s → (d : Path (Step step tree count rounds) p s t a) → Tells nodes post p told
       → post (told_by (Step step tree count rounds) p s t a d told) a
   path_tells post nodes (Done b) s t a told n d w = subst (post told) d.1 w
@@ -51,7 +51,7 @@ told_return : (nodes : List Node) (chain : List Level) (t : Tag) (told : List An
 told_return nodes [] t told is first = absurd (let e : None ≡ Some t.arena = first in cc)
 told_return nodes (l ∷ up) t told is first = freed (λ w now at. told_return nodes up w now is.2 at)
   where
-    freed : ((w : Tag) (now : List Answered) → first_id up ≡ Some w.arena → Tells nodes ReturnTold (return_plan up w) now) → (x : Result (Option Tag) (FreeFault Tag)) → Sound nodes (Free t) x → Tells nodes ReturnTold (after_free (return_plan up) x) (answered (Free t) x ∷ told)
+    freed : ((w : Tag) (now : List Answered) → first_id up ≡ Some w.arena → Tells nodes ReturnTold (return_plan up w) now) → (x : Result (Option Tag) (FreeFault Tag)) → Sound nodes (Free t) x → Tells nodes ReturnTold (on_free (return_plan up) x) (answered (Free t) x ∷ told)
     freed again (Ok None) s = tt
     freed again (Ok (Some w)) s = again w (answered (Free t) (Ok (Some w)) ∷ told) (chain_above nodes l up t w is first (s.0).whole.1)
     freed again (Err (freeing.BadFree x)) s = refl
@@ -66,7 +66,7 @@ told_refused nodes chain up n t told is first = tells_then nodes ReturnTold (Cli
     ends (Err (returning.Stopped x)) now w = tt
 
 told_added : (nodes : List Node) (l : Level) (up : List Level) (n : ℕ) (given : Tag) (told : List Answered) (x : Result Tag (AddCarveFault Tag)) → IsChain nodes up → first_id up ≡ Some given.arena → Sound nodes (AddCarve l.id given n) x
-    → Tells nodes (ClimbTold nodes (l ∷ up) n) (after_add up x) (answered (AddCarve l.id given n) x ∷ told)
+    → Tells nodes (ClimbTold nodes (l ∷ up) n) (on_add up x) (answered (AddCarve l.id given n) x ∷ told)
 told_added nodes l up n given told (Ok t) is first s = s.0
 told_added nodes l up n given told (Err (adding.NotAligned t)) is first s = refl
 told_added nodes l up n given told (Err (adding.Overlaps t)) is first s = refl
@@ -87,7 +87,7 @@ bad_is_none quantum zero bad = refl
 bad_is_none quantum (suc n) bad = absurd (bad (plain_is_good quantum (suc n) (omega arith)))
 
 told_imported : (nodes : List Node) (l k : Level) (up : List Level) (n : ℕ) → IsChain nodes (k ∷ up) → 0 < n → (r : Climbed) (now : List Answered) → ClimbTold nodes (k ∷ up) (amount_of l (k ∷ up) n) now r
-    → Tells nodes (ClimbTold nodes (l ∷ (k ∷ up)) n) (after_import (k ∷ up) l.id n r) now
+    → Tells nodes (ClimbTold nodes (l ∷ (k ∷ up)) n) (on_import (k ∷ up) l.id n r) now
 told_imported nodes l k up n is some (Ok span) now g = λ x s. told_added nodes l (k ∷ up) n span now x is (let here = g.of_arena in cc) s
 told_imported nodes l k up n is some (Err climbing.BadRequest) now g = absurd (let a = amount_some l k up n some in omega (arith, a, g))
 told_imported nodes l k up n is some (Err climbing.NoFit) now g = g
@@ -97,21 +97,21 @@ told_imported nodes l k up n is some (Err (climbing.Stopped o)) now g = tt
 
 told_carved : (nodes : List Node) (l k : Level) (up : List Level) (n : ℕ) (told : List Answered) (x : Result Tag CarveFault) → IsChain nodes (k ∷ up) → OnlyNoFit told
     → ((now : List Answered) → OnlyNoFit now → Tells nodes (ClimbTold nodes (k ∷ up) (amount_of l (k ∷ up) n)) (climb_plan (k ∷ up) (amount_of l (k ∷ up) n)) now)
-    → SoundCarve nodes l.id (plain_of n) x → Tells nodes (ClimbTold nodes (l ∷ (k ∷ up)) n) (after_carve (climb_plan (k ∷ up) (amount_of l (k ∷ up) n)) (k ∷ up) l.id n x) (answered (Carve l.id (plain_of n)) x ∷ told)
+    → SoundCarve nodes l.id (plain_of n) x → Tells nodes (ClimbTold nodes (l ∷ (k ∷ up)) n) (on_carve (climb_plan (k ∷ up) (amount_of l (k ∷ up) n)) (k ∷ up) l.id n x) (answered (Carve l.id (plain_of n)) x ∷ told)
 told_carved nodes l k up n told (Ok t) is only again s = s.1
-told_carved nodes l k up n told (Err carving.BadRequest) is only again s = bad_is_none (quantum_of nodes l.id) n s
+told_carved nodes l k up n told (Err carving.BadRequest) is only again s = bad_is_none (quantum_in nodes l.id) n s
 told_carved nodes l k up n told (Err carving.NoMemory) is only again s = tt
 told_carved nodes l k up n told (Err carving.Stopped) is only again s = tt
 told_carved nodes l k up n told (Err carving.NoFit) is only again s =
     let first : Answered = answered (Carve l.id (plain_of n)) (Err carving.NoFit) in
-    tells_then nodes (ClimbTold nodes (k ∷ up) (amount_of l (k ∷ up) n)) (ClimbTold nodes (l ∷ (k ∷ up)) n) (climb_plan (k ∷ up) (amount_of l (k ∷ up) n)) (after_import (k ∷ up) l.id n) (first ∷ told)
+    tells_then nodes (ClimbTold nodes (k ∷ up) (amount_of l (k ∷ up) n)) (ClimbTold nodes (l ∷ (k ∷ up)) n) (climb_plan (k ∷ up) (amount_of l (k ∷ up) n)) (on_import (k ∷ up) l.id n) (first ∷ told)
     (again (first ∷ told) (All-cons (λ (a : Answered). IsNoFit a.event a.answer) first told refl only)) (told_imported nodes l k up n is s.size)
 
 -- the top arena has no source
 told_top : (nodes : List Node) (l : Level) (n : ℕ) (told : List Answered) (x : Result Tag CarveFault) → OnlyNoFit told → SoundCarve nodes l.id (plain_of n) x
-    → Tells nodes (ClimbTold nodes (l ∷ []) n) (after_carve (Done (Err climbing.NoFit)) [] l.id n x) (answered (Carve l.id (plain_of n)) x ∷ told)
+    → Tells nodes (ClimbTold nodes (l ∷ []) n) (on_carve (Done (Err climbing.NoFit)) [] l.id n x) (answered (Carve l.id (plain_of n)) x ∷ told)
 told_top nodes l n told (Ok t) only s = s.1
-told_top nodes l n told (Err carving.BadRequest) only s = bad_is_none (quantum_of nodes l.id) n s
+told_top nodes l n told (Err carving.BadRequest) only s = bad_is_none (quantum_in nodes l.id) n s
 told_top nodes l n told (Err carving.NoMemory) only s = tt
 told_top nodes l n told (Err carving.Stopped) only s = tt
 told_top nodes l n told (Err carving.NoFit) only s = All-cons (λ (a : Answered). IsNoFit a.event a.answer) (answered (Carve l.id (plain_of n)) (Err carving.NoFit)) told refl only

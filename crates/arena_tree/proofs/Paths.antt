@@ -2,12 +2,12 @@
 use Rattle.std.proofs.Common.{◌≡◌, ℕ, ◌+◌, ◌≤◌, List, Option, Some, None, Bool, true, false, arith, refl, sym, ap, subst, ◌∙◌}
 use Rattle.deed_core.specs.Tag.{Tag}
 use Rattle.arena_tree.specs.Chains.{Node}
-use Rattle.arena_tree.specs.Events.{Event, Answer, Begins, hand_after, locks}
+use Rattle.arena_tree.specs.Events.{Event, AnswerTo, BeginsWith, hand_after, locks}
 use Rattle.arena_tree.specs.Sound.{Sound}
 use Rattle.arena_tree.specs.Stops.{is_stopped, Counts}
 use Rattle.arena_tree.specs.Plans.{Plan, Done, Ask, then, or_else, Step, Path, Ran, Within, Handles, Gives}
 
-module _ {S : Type 0} (step : S → (e : Event) → Answer e → S → Type 0) where
+module _ {S : Type 0} (step : S → (e : Event) → AnswerTo e → S → Type 0) where
   pub path_then : {A B : Type 0} (p : Plan A) (next : A → Plan B) (s m t : S) (a : A) (b : B) → Path step p s m a → Path step (next a) m t b → Path step (then p next) s t b
   path_then (Done c) next s m t a b d q = subst (λ x. Path step (next x) s t b) (sym d.1) (subst (λ x. Path step (next a) x t b) (sym d.0) q)
   path_then (Ask e f) next s m t a b d q = (d.0, d.1, d.2, path_then (f d.1) next d.0 m t a b d.3 q)
@@ -18,7 +18,7 @@ module _ {S : Type 0} (step : S → (e : Event) → Answer e → S → Type 0) w
   path_split (Ask e f) next s t b d = let r = path_split (f d.1) next d.0 t b d.3 in (r.0, r.1, (d.0, d.1, d.2, r.2), r.3)
 
   -- what each event keeps, with the hand that it leaves, the whole keeps
-  pub path_keeps : {A : Type 0} (weight : S → Option Tag → ℕ) (left : A → Option Tag) → ((s : S) (h : Option Tag) (e : Event) (x : Answer e) (t : S) → Begins e h → step s e x t → weight t (hand_after e x h) ≡ weight s h)
+  pub path_keeps : {A : Type 0} (weight : S → Option Tag → ℕ) (left : A → Option Tag) → ((s : S) (h : Option Tag) (e : Event) (x : AnswerTo e) (t : S) → BeginsWith e h → step s e x t → weight t (hand_after e x h) ≡ weight s h)
       → (p : Plan A) (s t : S) (h : Option Tag) (a : A) → Path step p s t a → Handles left p h → weight t (left a) ≡ weight s h
   path_keeps weight left keeps (Done b) s t h a d k = sym (ap (λ x. weight x h) d.0 ∙ (ap (weight t) k ∙ ap (λ x. weight t (left x)) d.1))
   path_keeps weight left keeps (Ask e f) s t h a d k = path_keeps weight left keeps (f d.1) d.0 t (hand_after e d.1 h) a d.3 (k.1 d.1) ∙ keeps s h e d.1 d.0 k.0 d.2
@@ -28,11 +28,11 @@ counts_low : (stopped : Bool) (locks old new : ℕ) → Counts stopped locks old
 counts_low true locks old new is = omega (arith, is)
 counts_low false locks old new is = omega (arith, is)
 
-module _ {S : Type 0} (step : S → (e : Event) → Answer e → S → Type 0) (tree : S → List Node) (count : S → ℕ) (rounds : S → ℕ) where
+module _ {S : Type 0} (step : S → (e : Event) → AnswerTo e → S → Type 0) (tree : S → List Node) (count : S → ℕ) (rounds : S → ℕ) where
   pub ran_done : {A : Type 0} (s : S) (a : A) → Ran step tree count rounds (Done a) s s a
   ran_done s a = record { path = (refl, refl) }
 
-  pub ran_ask : {A : Type 0} (e : Event) (f : Answer e → Plan A) (s m t : S) (x : Answer e) (a : A) → Step step tree count rounds s e x m → Ran step tree count rounds (f x) m t a → Ran step tree count rounds (Ask e f) s t a
+  pub ran_ask : {A : Type 0} (e : Event) (f : AnswerTo e → Plan A) (s m t : S) (x : AnswerTo e) (a : A) → Step step tree count rounds s e x m → Ran step tree count rounds (f x) m t a → Ran step tree count rounds (Ask e f) s t a
   ran_ask e f s m t x a d r = record { path = (m, x, d, r.path) }
 
   pub ran_then : {A B : Type 0} (p : Plan A) (next : A → Plan B) (s m t : S) (a : A) (b : B) → Ran step tree count rounds p s m a → Ran step tree count rounds (next a) m t b → Ran step tree count rounds (then p next) s t b

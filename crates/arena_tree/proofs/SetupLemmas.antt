@@ -13,9 +13,9 @@ use Rattle.arena_tree.specs.declared.settings.NewRoot.{NewRoot}
 use Rattle.arena_tree.specs.declared.settings.NewChild.{NewChild}
 use Rattle.arena_tree.specs.declared.settings.NewSpan.{NewSpan}
 use Rattle.arena_tree.specs.declared.setup_faults.SetupFault.{SetupFault}
-use Rattle.arena_tree.specs.Setups.{AddsRoot, AddsChild, root_arena, child_arena, extent_of}
+use Rattle.arena_tree.specs.Setups.{AddsRoot, AddsChild, root_arena, child_arena, root_range}
 use Rattle.arena_tree.specs.Trees.{IsWholeRange}
-use Rattle.arena_tree.specs.Settings.{SetupState, IsSetup, IsOwned, IsClear, Clash, HasSpanRoom, CanSpan, range_of, count_of}
+use Rattle.arena_tree.specs.Settings.{SetupState, IsSetup, IsOwned, HasNoClash, Clash, HasSpanRoom, CanSpan, new_range, span_count}
 use Rattle.arena_tree.proofs.TreeLemmas.{slice_get_more, slice_get_last}
 
 abbrev pub setup_state : List TreeArena → List OwnedSpan → SetupState
@@ -31,14 +31,14 @@ arena_added old new y spans is setup = subst (λ (s : List TreeArena). IsSetup (
     (record { owned = owned_more old y spans setup.owned; apart = setup.apart; few = setup.few })
 
 -- how many spans an arena has with one more span
-counted : (spans : List OwnedSpan) (o : OwnedSpan) (id : ℕ) → count_of id (spans ++ o ∷ []) ≡ count_of id spans + cond (o.arena == id) 1 0
+counted : (spans : List OwnedSpan) (o : OwnedSpan) (id : ℕ) → span_count id (spans ++ o ∷ []) ≡ span_count id spans + cond (o.arena == id) 1 0
 counted spans o id =
     let all = sum_by-append (λ (a : OwnedSpan). cond (a.arena == id) 1 0) spans (o ∷ []) in
     let one = sum_by-cons (λ (a : OwnedSpan). cond (a.arena == id) 1 0) o [] in
     omega (arith, all, one)
 
 -- a span more
-pub span_added : (arenas : List TreeArena) (spans : List OwnedSpan) (o : OwnedSpan) → IsSetup (setup_state arenas spans) → IsOwned arenas o → IsClear spans o → count_of o.arena spans < 65536 → IsSetup (setup_state arenas (spans ++ o ∷ []))
+pub span_added : (arenas : List TreeArena) (spans : List OwnedSpan) (o : OwnedSpan) → IsSetup (setup_state arenas spans) → IsOwned arenas o → HasNoClash spans o → span_count o.arena spans < 65536 → IsSetup (setup_state arenas (spans ++ o ∷ []))
 span_added arenas spans o setup own clear room = record {
   owned = all_from (IsOwned arenas) (spans ++ o ∷ []) (λ k a at. elim (pushed spans k o a at) [
     | inl here ↦ subst (IsOwned arenas) (sym here.1) own
@@ -47,7 +47,7 @@ span_added arenas spans o setup own clear room = record {
   apart = AllPairs-append (λ a b. ¬ Clash a b) spans (o ∷ []) setup.apart one
       (all_from (λ a. All (λ b. ¬ Clash a b) (o ∷ [])) spans (λ k a at. All-cons (λ b. ¬ Clash a b) o [] (all_at (λ b. ¬ Clash b o) spans k a clear at) (All-nil (λ (b : OwnedSpan). ¬ Clash a b))));
   few = λ id. (let n = counted spans o id in let f = setup.few id in elim (cases_eq o.arena id) [
-    | inl same ↦ (let r : count_of id spans < 65536 = subst (λ k. count_of k spans < 65536) same room in grind (arith, n, r))
+    | inl same ↦ (let r : span_count id spans < 65536 = subst (λ k. span_count k spans < 65536) same room in grind (arith, n, r))
     | inr other ↦ (let r = setup.few id in grind (arith, n, r, other))
   ]);
 }
@@ -56,14 +56,14 @@ span_added arenas spans o setup own clear room = record {
     one i j d before within = absurd (omega (arith, before, within))
 
 -- no span is of an arena that isn't there yet
-fresh_clear : (arenas : List TreeArena) (spans : List OwnedSpan) (e : Extent) → All (IsOwned arenas) spans → IsClear spans (record { arena = length arenas; range = e })
+fresh_clear : (arenas : List TreeArena) (spans : List OwnedSpan) (e : Extent) → All (IsOwned arenas) spans → HasNoClash spans (record { arena = length arenas; range = e })
 fresh_clear arenas spans e all = all_from (λ a. ¬ Clash a (record { arena = length arenas; range = e })) spans (λ k a at clash.
     let own = all_at (IsOwned arenas) spans k a all at in
     let within = slice_get_within arenas a.arena own.0 (own.1).here in
     let same = clash.0 in
     omega (arith, within, same))
 
-fresh_count : (arenas : List TreeArena) (spans : List OwnedSpan) → ((k : ℕ) (o : OwnedSpan) → slice_get spans k ≡ Some o → o.arena < length arenas) → count_of (length arenas) spans ≡ 0
+fresh_count : (arenas : List TreeArena) (spans : List OwnedSpan) → ((k : ℕ) (o : OwnedSpan) → slice_get spans k ≡ Some o → o.arena < length arenas) → span_count (length arenas) spans ≡ 0
 fresh_count arenas [] below = refl
 fresh_count arenas (o ∷ spans) below =
     let rest = fresh_count arenas spans (λ k. below (suc k)) in
@@ -82,7 +82,7 @@ root_added old new y spans newer e is put root whole setup =
     let grown = arena_added old (old ++ y ∷ []) y spans refl setup in
     let own : IsOwned (old ++ y ∷ []) o = (y, record { here = slice_get_last old y; root = root }, whole) in
     let none = fresh_count old spans (λ k a at. (let is = all_at (IsOwned old) spans k a setup.owned at in slice_get_within old a.arena is.0 (is.1).here)) in
-    let room : count_of (length old) spans < 65536 = omega (arith, none) in
+    let room : span_count (length old) spans < 65536 = omega (arith, none) in
     subst (λ (s : List TreeArena). IsSetup (setup_state s newer)) (sym is)
     (subst (λ (s : List OwnedSpan). IsSetup (setup_state (old ++ y ∷ []) s)) (sym put) (span_added (old ++ y ∷ []) spans o grown own (fresh_clear old spans e setup.owned) room))
 
@@ -91,25 +91,25 @@ pub child_answered : (old new : List TreeArena) (c : NewChild) (r : Result (Unit
 child_answered old new c (Ok u) spans added same setup = arena_added old new (child_arena c added.source added.size) spans added.added setup
 child_answered old new c (Err f) spans added same setup = subst (λ (s : List TreeArena). IsSetup (setup_state s spans)) (sym same) setup
 
-pub root_answered : (old new : List TreeArena) (r : NewRoot) (spans newer : List OwnedSpan) (o : OwnedSpan) → AddsRoot r old new → newer ≡ spans ++ o ∷ [] → o.arena ≡ length old → o.range ≡ extent_of r
+pub root_answered : (old new : List TreeArena) (r : NewRoot) (spans newer : List OwnedSpan) (o : OwnedSpan) → AddsRoot r old new → newer ≡ spans ++ o ∷ [] → o.arena ≡ length old → o.range ≡ root_range r
     → IsSetup (setup_state old spans) → IsSetup (setup_state new newer)
 root_answered old new r spans newer o added put place range setup =
-    let whole : IsWholeRange r.quantum (extent_of r) = added.can.range in
-    root_added old new (root_arena r added.size) spans newer (extent_of r) added.added
+    let whole : IsWholeRange r.quantum (root_range r) = added.can.range in
+    root_added old new (root_arena r added.size) spans newer (root_range r) added.added
     (put ∙ ap (λ (x : OwnedSpan). spans ++ x ∷ []) (ap (λ k. record { arena = k; range = o.range }) place ∙ ap (λ e. record { arena = length old; range = e }) range))
     refl whole setup
 
-pub span_answered : (arenas : List TreeArena) (spans newer : List OwnedSpan) (n : NewSpan) (o : OwnedSpan) (x : TreeArena) → HasSpanRoom (setup_state arenas spans) n o.arena x → CanSpan (setup_state arenas spans) o.arena x (range_of n) → o.range ≡ range_of n
+pub span_answered : (arenas : List TreeArena) (spans newer : List OwnedSpan) (n : NewSpan) (o : OwnedSpan) (x : TreeArena) → HasSpanRoom (setup_state arenas spans) n o.arena x → CanSpan (setup_state arenas spans) o.arena x (new_range n) → o.range ≡ new_range n
     → newer ≡ spans ++ o ∷ [] → IsSetup (setup_state arenas spans) → IsSetup (setup_state arenas newer)
 span_answered arenas spans newer n o x room can range put setup =
     let own : IsOwned arenas o = (x, room.root, subst (IsWholeRange x.quantum) (sym range) can.0) in
-    let clear : IsClear spans o = subst (λ e. IsClear spans (record { arena = o.arena; range = e })) (sym range) can.1 in
+    let clear : HasNoClash spans o = subst (λ e. HasNoClash spans (record { arena = o.arena; range = e })) (sym range) can.1 in
     subst (λ (s : List OwnedSpan). IsSetup (setup_state arenas s)) (sym put) (span_added arenas spans o setup own clear room.few)
 
 -- a span in the way speaks against the range
 pub blocked : (s : SetupState) (id : ℕ) (x : TreeArena) (e : Extent) (range : Extent) → Any (λ a. Clash a (record { arena = id; range = range })) s.spans → range ≡ e → CanSpan s id x e → ⊥
 blocked s id x e range any same can =
-    let clear : IsClear s.spans (record { arena = id; range = range }) = subst (λ (z : Extent). IsClear s.spans (record { arena = id; range = z })) (sym same) can.1 in
+    let clear : HasNoClash s.spans (record { arena = id; range = range }) = subst (λ (z : Extent). HasNoClash s.spans (record { arena = id; range = z })) (sym same) can.1 in
     not_any (λ a. Clash a (record { arena = id; range = range })) s.spans any clear
   where
     not_any : {X : Type 0} (P : X → Type 0) (xs : List X) → Any P xs → All (λ x. ¬ P x) xs → ⊥

@@ -22,10 +22,10 @@ source_of (n ∷ nodes) zero = n.source
 source_of (n ∷ nodes) (suc id) = source_of nodes id
 
 -- its quantum
-abbrev pub quantum_of : List Node → ℕ → ℕ
-quantum_of [] id = 0
-quantum_of (n ∷ nodes) zero = n.quantum
-quantum_of (n ∷ nodes) (suc id) = quantum_of nodes id
+abbrev pub quantum_in : List Node → ℕ → ℕ
+quantum_in [] id = 0
+quantum_in (n ∷ nodes) zero = n.quantum
+quantum_in (n ∷ nodes) (suc id) = quantum_in nodes id
 
 -- the number of a chain's first arena
 abbrev pub first_id : List Level → Option ℕ
@@ -60,11 +60,11 @@ amount_of l (source ∷ up) n =
 pub record IsGrant (nodes : List Node) (arena : ℕ) (request : Request) (t : Tag) : Type 0 where
   pub of_arena : t.arena ≡ arena
   pub direct : t.route ≡ Direct
-  pub fits : Fits (quantum_of nodes arena) request t.holding.range.base t.holding.range.len
+  pub fits : Fits (quantum_in nodes arena) request t.holding.range.base t.holding.range.len
 
 -- a chunk of the arena's cache, of as many quanta as the cache's number
-pub record IsChunk (nodes : List Node) (arena cache : ℕ) (t : Tag) : Type 0 where
+pub record IsCachedChunk (nodes : List Node) (arena cache : ℕ) (t : Tag) : Type 0 where
   pub of_arena : t.arena ≡ arena
   pub cached : t.route ≡ Cached cache
-  pub fits : Fits (quantum_of nodes arena) (plain_of (cache * quantum_of nodes arena))
+  pub fits : Fits (quantum_in nodes arena) (plain_of (cache * quantum_in nodes arena))
       t.holding.range.base t.holding.range.len

@@ -25,15 +25,15 @@ abbrev pub Returned : Type 0
 Returned = Result (Unit {0}) (ReturnFault Tag)
 
 -- a segment is freed; each span that it makes whole is freed in its source, and so on upwards
-abbrev pub after_free : (Tag → Plan Returned) → Result (Option Tag) (FreeFault Tag) → Plan Returned
-after_free again (Ok None) = Done (Ok tt)
-after_free again (Ok (Some whole)) = again whole
-after_free again (Err (freeing.BadFree t)) = Done (Err (returning.Stuck t))
-after_free again (Err (freeing.Stopped t)) = Done (Err (returning.Stopped t))
+abbrev pub on_free : (Tag → Plan Returned) → Result (Option Tag) (FreeFault Tag) → Plan Returned
+on_free again (Ok None) = Done (Ok tt)
+on_free again (Ok (Some whole)) = again whole
+on_free again (Err (freeing.BadFree t)) = Done (Err (returning.Stuck t))
+on_free again (Err (freeing.Stopped t)) = Done (Err (returning.Stopped t))
 
 abbrev pub return_plan : List Level → Tag → Plan Returned
 return_plan [] t = Done (Err (returning.Stuck t))
-return_plan (l ∷ up) t = Ask (Free t) (after_free (return_plan up))
+return_plan (l ∷ up) t = Ask (Free t) (on_free (return_plan up))
 
 -- what a climb ends with that handed a span back for want of memory
 abbrev pub refused_memory : Returned → Climbed
@@ -46,33 +46,33 @@ give_back up t = then (return_plan up t) (λ r. Done (refused_memory r))
 
 -- the child is given the span, and carves n units of it; where memory is refused, the span is freed
 -- upwards
-abbrev pub after_add : List Level → Result Tag (AddCarveFault Tag) → Plan Climbed
-after_add up (Ok t) = Done (Ok t)
-after_add up (Err (adding.NoMemory t)) = give_back up t
-after_add up (Err (adding.Overlaps t)) = Done (Err (climbing.Stuck t))
-after_add up (Err (adding.NotAligned t)) = Done (Err (climbing.Stuck t))
-after_add up (Err (adding.Stopped t)) = Done (Err (climbing.Stopped (Some t)))
+abbrev pub on_add : List Level → Result Tag (AddCarveFault Tag) → Plan Climbed
+on_add up (Ok t) = Done (Ok t)
+on_add up (Err (adding.NoMemory t)) = give_back up t
+on_add up (Err (adding.Overlaps t)) = Done (Err (climbing.Stuck t))
+on_add up (Err (adding.NotAligned t)) = Done (Err (climbing.Stuck t))
+on_add up (Err (adding.Stopped t)) = Done (Err (climbing.Stopped (Some t)))
 
 abbrev pub descent_plan : List Level → ℕ → ℕ → Tag → Plan Climbed
-descent_plan up child n span = Ask (AddCarve child span n) (after_add up)
+descent_plan up child n span = Ask (AddCarve child span n) (on_add up)
 
-abbrev pub after_import : List Level → ℕ → ℕ → Climbed → Plan Climbed
-after_import up child n (Ok span) = descent_plan up child n span
-after_import up child n (Err f) = Done (Err f)
+abbrev pub on_import : List Level → ℕ → ℕ → Climbed → Plan Climbed
+on_import up child n (Ok span) = descent_plan up child n span
+on_import up child n (Err f) = Done (Err f)
 
 -- n units are carved in the arena; where none fit, the source is climbed in the same way for the
 -- import amount, and so on upwards; without a source nothing fits
-abbrev pub after_carve : Plan Climbed → List Level → ℕ → ℕ → Result Tag CarveFault → Plan Climbed
-after_carve import up child n (Ok t) = Done (Ok t)
-after_carve import up child n (Err carving.NoFit) = then import (after_import up child n)
-after_carve import up child n (Err carving.BadRequest) = Done (Err climbing.BadRequest)
-after_carve import up child n (Err carving.NoMemory) = Done (Err climbing.NoMemory)
-after_carve import up child n (Err carving.Stopped) = Done (Err (climbing.Stopped None))
+abbrev pub on_carve : Plan Climbed → List Level → ℕ → ℕ → Result Tag CarveFault → Plan Climbed
+on_carve import up child n (Ok t) = Done (Ok t)
+on_carve import up child n (Err carving.NoFit) = then import (on_import up child n)
+on_carve import up child n (Err carving.BadRequest) = Done (Err climbing.BadRequest)
+on_carve import up child n (Err carving.NoMemory) = Done (Err climbing.NoMemory)
+on_carve import up child n (Err carving.Stopped) = Done (Err (climbing.Stopped None))
 
 abbrev pub climb_plan : List Level → ℕ → Plan Climbed
 climb_plan [] n = Done (Err climbing.NoFit)
 climb_plan (l ∷ up) n = Ask (Carve l.id (plain_of n))
-    (after_carve (climb_plan up (amount_of l up n)) up l.id n)
+    (on_carve (climb_plan up (amount_of l up n)) up l.id n)
 
 -- the hand after a climb, and after a hand back
 abbrev pub climb_left : Climbed → Option Tag

@@ -39,21 +39,21 @@ pub data Event : Type 0 where
   Change : (arena cache size : ℕ) → Event
 
 -- what an event can be answered
-abbrev pub Answer : Event → Type 0
-Answer (Carve arena request) = Result Tag CarveFault
-Answer (Free given) = Result (Option Tag) (FreeFault Tag)
-Answer (AddCarve child given size) = Result Tag (AddCarveFault Tag)
-Answer (SlabTake arena cache) = Result (Option Tag) Stopped
-Answer (SlabPut given) = Result (Unit {0}) (SlabPutFault Tag)
-Answer (SlabAdd arena cache given) = Result Tag (SlabAddFault Tag)
-Answer (SlabReap arena cache) = Result (Option Tag) Stopped
-Answer (SwapFull arena cache) = Result (Unit {0}) SwapFullFault
-Answer (SwapEmpty arena cache) = Result (Unit {0}) SwapEmptyFault
-Answer (SwapFresh arena cache) = Result (Unit {0}) SwapFreshFault
-Answer (DepotReap arena cache) = Result (Option Tag) Stopped
-Answer (Pop arena cache) = Result (Option Tag) Stopped
-Answer (Push arena cache given) = Result (Unit {0}) (PushFault Tag)
-Answer (Change arena cache size) = Result (Unit {0}) ChangeFault
+abbrev pub AnswerTo : Event → Type 0
+AnswerTo (Carve arena request) = Result Tag CarveFault
+AnswerTo (Free given) = Result (Option Tag) (FreeFault Tag)
+AnswerTo (AddCarve child given size) = Result Tag (AddCarveFault Tag)
+AnswerTo (SlabTake arena cache) = Result (Option Tag) Stopped
+AnswerTo (SlabPut given) = Result (Unit {0}) (SlabPutFault Tag)
+AnswerTo (SlabAdd arena cache given) = Result Tag (SlabAddFault Tag)
+AnswerTo (SlabReap arena cache) = Result (Option Tag) Stopped
+AnswerTo (SwapFull arena cache) = Result (Unit {0}) SwapFullFault
+AnswerTo (SwapEmpty arena cache) = Result (Unit {0}) SwapEmptyFault
+AnswerTo (SwapFresh arena cache) = Result (Unit {0}) SwapFreshFault
+AnswerTo (DepotReap arena cache) = Result (Option Tag) Stopped
+AnswerTo (Pop arena cache) = Result (Option Tag) Stopped
+AnswerTo (Push arena cache given) = Result (Unit {0}) (PushFault Tag)
+AnswerTo (Change arena cache size) = Result (Unit {0}) ChangeFault
 
 -- the parts that are shared of which it takes the lock
 abbrev pub locks : Event → ℕ
@@ -64,21 +64,21 @@ locks (Carve arena request) = 1
 locks _ = 1
 
 -- the hand before it: empty, or with what is given; exchanges of magazines leave the hand alone
-abbrev pub Begins : Event → Option Tag → Type 0
-Begins (Carve arena request) hand = hand ≡ None
-Begins (Free given) hand = hand ≡ Some given
-Begins (AddCarve child given size) hand = hand ≡ Some given
-Begins (SlabTake arena cache) hand = hand ≡ None
-Begins (SlabPut given) hand = hand ≡ Some given
-Begins (SlabAdd arena cache given) hand = hand ≡ Some given
-Begins (SlabReap arena cache) hand = hand ≡ None
-Begins (SwapFull arena cache) hand = Unit {0}
-Begins (SwapEmpty arena cache) hand = Unit {0}
-Begins (SwapFresh arena cache) hand = Unit {0}
-Begins (DepotReap arena cache) hand = hand ≡ None
-Begins (Pop arena cache) hand = hand ≡ None
-Begins (Push arena cache given) hand = hand ≡ Some given
-Begins (Change arena cache size) hand = Unit {0}
+abbrev pub BeginsWith : Event → Option Tag → Type 0
+BeginsWith (Carve arena request) hand = hand ≡ None
+BeginsWith (Free given) hand = hand ≡ Some given
+BeginsWith (AddCarve child given size) hand = hand ≡ Some given
+BeginsWith (SlabTake arena cache) hand = hand ≡ None
+BeginsWith (SlabPut given) hand = hand ≡ Some given
+BeginsWith (SlabAdd arena cache given) hand = hand ≡ Some given
+BeginsWith (SlabReap arena cache) hand = hand ≡ None
+BeginsWith (SwapFull arena cache) hand = Unit {0}
+BeginsWith (SwapEmpty arena cache) hand = Unit {0}
+BeginsWith (SwapFresh arena cache) hand = Unit {0}
+BeginsWith (DepotReap arena cache) hand = hand ≡ None
+BeginsWith (Pop arena cache) hand = hand ≡ None
+BeginsWith (Push arena cache given) hand = hand ≡ Some given
+BeginsWith (Change arena cache size) hand = Unit {0}
 
 -- the segment that a refusal hands back, by what was refused
 abbrev pub freed_back : FreeFault Tag → Tag
@@ -107,9 +107,9 @@ pushed_back (pushing.NoRoom t) = t
 pushed_back (pushing.Stopped t) = t
 
 -- the hand after a call that gives a segment, or hands one back
-abbrev pub hand_of : {E : Type 0} → (E → Option Tag) → Result Tag E → Option Tag
-hand_of back (Ok t) = Some t
-hand_of back (Err e) = back e
+abbrev pub hand_left : {E : Type 0} → (E → Option Tag) → Result Tag E → Option Tag
+hand_left back (Ok t) = Some t
+hand_left back (Err e) = back e
 
 -- after one that may give a segment
 abbrev pub hand_may : {E : Type 0} → (E → Option Tag) → Result (Option Tag) E → Option Tag
@@ -122,13 +122,13 @@ hand_none back (Ok _) = None
 hand_none back (Err e) = back e
 
 -- the hand after it
-abbrev pub hand_after : (e : Event) → Answer e → Option Tag → Option Tag
-hand_after (Carve arena request) a hand = hand_of (λ _. None) a
+abbrev pub hand_after : (e : Event) → AnswerTo e → Option Tag → Option Tag
+hand_after (Carve arena request) a hand = hand_left (λ _. None) a
 hand_after (Free given) a hand = hand_may (λ f. Some (freed_back f)) a
-hand_after (AddCarve child given size) a hand = hand_of (λ f. Some (added_back f)) a
+hand_after (AddCarve child given size) a hand = hand_left (λ f. Some (added_back f)) a
 hand_after (SlabTake arena cache) a hand = hand_may (λ _. None) a
 hand_after (SlabPut given) a hand = hand_none (λ f. Some (put_back f)) a
-hand_after (SlabAdd arena cache given) a hand = hand_of (λ f. Some (slab_back f)) a
+hand_after (SlabAdd arena cache given) a hand = hand_left (λ f. Some (slab_back f)) a
 hand_after (SlabReap arena cache) a hand = hand_may (λ _. None) a
 hand_after (SwapFull arena cache) a hand = hand
 hand_after (SwapEmpty arena cache) a hand = hand

@@ -12,7 +12,7 @@ use Rattle.arena_tree.specs.declared.settings.Setting.TheVariants.{Root, Child, 
 use Rattle.arena_tree.specs.declared.setup_faults.SetupFault.{SetupFault}
 use Rattle.arena_tree.specs.declared.setup_faults.SetupFault.TheVariants.{NameTaken, TooMany, NoArena, ChainTooLong, BadQuantum, BadCache, BadRange, NoMemory}
 use Rattle.arena_tree.specs.Trees.{place_in, IsWholeRange}
-use Rattle.arena_tree.specs.Setups.{extent_of, RefusesRoot, RefusesChild, AddsRoot, AddsChild}
+use Rattle.arena_tree.specs.Setups.{root_range, RefusesRoot, RefusesChild, AddsRoot, AddsChild}
 
 -- the arenas by number, and the spans that they own in order of coming
 pub record SetupState : Type 0 where
@@ -20,16 +20,16 @@ pub record SetupState : Type 0 where
   pub spans : List OwnedSpan
 
 -- how many spans the arena owns
-abbrev pub count_of : ℕ → List OwnedSpan → ℕ
-count_of id spans = count_by (λ o. o.arena == id) spans
+abbrev pub span_count : ℕ → List OwnedSpan → ℕ
+span_count id spans = count_by (λ o. o.arena == id) spans
 
 -- the two are spans of one arena that have a unit in common
 abbrev pub Clash : OwnedSpan → OwnedSpan → Type 0
 Clash a b = (a.arena ≡ b.arena) × Overlap a.range b.range
 
 -- none of the spans is in the way of this one
-abbrev pub IsClear : List OwnedSpan → OwnedSpan → Type 0
-IsClear spans o = All (λ a. ¬ Clash a o) spans
+abbrev pub HasNoClash : List OwnedSpan → OwnedSpan → Type 0
+HasNoClash spans o = All (λ a. ¬ Clash a o) spans
 
 -- the arena is a root
 pub record IsRoot (arenas : List TreeArena) (id : ℕ) (x : TreeArena) : Type 0 where
@@ -44,22 +44,22 @@ IsOwned arenas o = (x : TreeArena) × IsRoot arenas o.arena x × IsWholeRange x.
 pub record IsSetup (s : SetupState) : Type 0 where
   pub owned : All (IsOwned s.arenas) s.spans
   pub apart : AllPairs (λ a b. ¬ Clash a b) s.spans
-  pub few : (id : ℕ) → count_of id s.spans ≤ MOST_SPANS
+  pub few : (id : ℕ) → span_count id s.spans ≤ MOST_SPANS
 
 -- the range that a span asks for
-abbrev pub range_of : NewSpan → Extent
-range_of n = record { base = n.base; len = n.len }
+abbrev pub new_range : NewSpan → Extent
+new_range n = record { base = n.base; len = n.len }
 
 -- the root that a span is asked for, which may own one more
 pub record HasSpanRoom (s : SetupState) (n : NewSpan) (id : ℕ) (x : TreeArena) : Type 0 where
   pub finds : place_in n.name s.arenas ≡ Some id
   pub root : IsRoot s.arenas id x
-  pub few : count_of id s.spans < MOST_SPANS
+  pub few : span_count id s.spans < MOST_SPANS
 
 -- the range can be a span of the arena
 abbrev pub CanSpan : SetupState → ℕ → TreeArena → Extent → Type 0
 CanSpan s id x e = IsWholeRange x.quantum e
-    × IsClear s.spans (record { arena = id; range = e })
+    × HasNoClash s.spans (record { arena = id; range = e })
 
 -- the arena of this name imports its spans
 abbrev pub IsImporter : SetupState → List ℕ → Type 0
@@ -67,37 +67,37 @@ IsImporter s name = (id : ℕ) × (x : TreeArena) × (source : ℕ) × (place_in
     × (slice_get s.arenas id ≡ Some x) × (x.source ≡ Some source)
 
 -- why a span is refused; memory is asked for only where nothing speaks against it
-abbrev pub RefusesSpan : SetupState → NewSpan → SetupFault → Type 0
-RefusesSpan s n NoArena = (place_in n.name s.arenas ≡ None) ⊎ IsImporter s n.name
-RefusesSpan s n TooMany = (id : ℕ) × (x : TreeArena) × (place_in n.name s.arenas ≡ Some id)
-    × IsRoot s.arenas id x × (MOST_SPANS ≤ count_of id s.spans)
-RefusesSpan s n BadRange = (id : ℕ) × (x : TreeArena) × HasSpanRoom s n id x
-    × (¬ CanSpan s id x (range_of n))
-RefusesSpan s n NoMemory = (id : ℕ) × (x : TreeArena) × HasSpanRoom s n id x
-    × CanSpan s id x (range_of n)
-RefusesSpan s n NameTaken = ⊥
-RefusesSpan s n ChainTooLong = ⊥
-RefusesSpan s n BadQuantum = ⊥
-RefusesSpan s n BadCache = ⊥
+abbrev pub RefusesNewSpan : SetupState → NewSpan → SetupFault → Type 0
+RefusesNewSpan s n NoArena = (place_in n.name s.arenas ≡ None) ⊎ IsImporter s n.name
+RefusesNewSpan s n TooMany = (id : ℕ) × (x : TreeArena) × (place_in n.name s.arenas ≡ Some id)
+    × IsRoot s.arenas id x × (MOST_SPANS ≤ span_count id s.spans)
+RefusesNewSpan s n BadRange = (id : ℕ) × (x : TreeArena) × HasSpanRoom s n id x
+    × (¬ CanSpan s id x (new_range n))
+RefusesNewSpan s n NoMemory = (id : ℕ) × (x : TreeArena) × HasSpanRoom s n id x
+    × CanSpan s id x (new_range n)
+RefusesNewSpan s n NameTaken = ⊥
+RefusesNewSpan s n ChainTooLong = ⊥
+RefusesNewSpan s n BadQuantum = ⊥
+RefusesNewSpan s n BadCache = ⊥
 
 -- the span is the last
 pub record AddsSpan (n : NewSpan) (old new : SetupState) : Type 0 where
   pub id : ℕ
   pub arena : TreeArena
   pub room : HasSpanRoom old n id arena
-  pub can : CanSpan old id arena (range_of n)
+  pub can : CanSpan old id arena (new_range n)
   pub arenas : new.arenas ≡ old.arenas
-  pub spans : new.spans ≡ old.spans ++ record { arena = id; range = range_of n } ∷ []
+  pub spans : new.spans ≡ old.spans ++ record { arena = id; range = new_range n } ∷ []
 
 -- what is asked for is there; a root comes with a span of its own
-abbrev pub Takes : SetupState → Setting → SetupState → Type 0
-Takes old (Root r) new = AddsRoot r old.arenas new.arenas × (new.spans
-    ≡ old.spans ++ record { arena = length old.arenas; range = extent_of r } ∷ [])
-Takes old (Child c) new = AddsChild c old.arenas new.arenas × (new.spans ≡ old.spans)
-Takes old (Span n) new = AddsSpan n old new
+abbrev pub TakesSetting : SetupState → Setting → SetupState → Type 0
+TakesSetting old (Root r) new = AddsRoot r old.arenas new.arenas × (new.spans
+    ≡ old.spans ++ record { arena = length old.arenas; range = root_range r } ∷ [])
+TakesSetting old (Child c) new = AddsChild c old.arenas new.arenas × (new.spans ≡ old.spans)
+TakesSetting old (Span n) new = AddsSpan n old new
 
 -- it isn't there, and why
-abbrev pub Refuses : SetupState → Setting → SetupFault → Type 0
-Refuses s (Root r) fault = RefusesRoot s.arenas r fault
-Refuses s (Child c) fault = RefusesChild s.arenas c fault
-Refuses s (Span n) fault = RefusesSpan s n fault
+abbrev pub RefusesSetting : SetupState → Setting → SetupFault → Type 0
+RefusesSetting s (Root r) fault = RefusesRoot s.arenas r fault
+RefusesSetting s (Child c) fault = RefusesChild s.arenas c fault
+RefusesSetting s (Span n) fault = RefusesNewSpan s n fault

@@ -24,15 +24,15 @@ abbrev pub IsFull : List TreeArena → List ℕ → Type 0
 IsFull arenas name = (place_in name arenas ≡ None) × (MOST_ARENAS ≤ length arenas)
 
 -- the range that a root asks for
-abbrev pub extent_of : NewRoot → Extent
-extent_of r = record { base = r.base; len = r.len }
+abbrev pub root_range : NewRoot → Extent
+root_range r = record { base = r.base; len = r.len }
 
 -- nothing speaks against the root
 pub record CanRoot (arenas : List TreeArena) (r : NewRoot) : Type 0 where
   pub room : HasRoom arenas r.name
   pub power : IsPowerOfTwo r.quantum
   pub caches : CanCache r.quantum r.qcache_max
-  pub range : IsWholeRange r.quantum (extent_of r)
+  pub range : IsWholeRange r.quantum (root_range r)
 
 abbrev pub RefusesRoot : List TreeArena → NewRoot → SetupFault → Type 0
 RefusesRoot arenas r NameTaken = IsTaken arenas r.name
@@ -43,7 +43,7 @@ RefusesRoot arenas r BadQuantum = HasRoom arenas r.name × (¬ IsPowerOfTwo r.qu
 RefusesRoot arenas r BadCache = HasRoom arenas r.name × IsPowerOfTwo r.quantum
     × (¬ CanCache r.quantum r.qcache_max)
 RefusesRoot arenas r BadRange = HasRoom arenas r.name × IsPowerOfTwo r.quantum
-    × CanCache r.quantum r.qcache_max × (¬ IsWholeRange r.quantum (extent_of r))
+    × CanCache r.quantum r.qcache_max × (¬ IsWholeRange r.quantum (root_range r))
 RefusesRoot arenas r NoMemory = CanRoot arenas r
 
 -- the source is this arena, and its chain takes one more
@@ -56,14 +56,14 @@ abbrev pub HasSource : List TreeArena → NewChild → Type 0
 HasSource arenas c = (id : ℕ) × (y : TreeArena) × IsSource arenas c id y
 
 -- the quantum is a power of two, and no greater than the source's
-abbrev pub HasQuantum : List TreeArena → NewChild → Type 0
-HasQuantum arenas c = IsPowerOfTwo c.quantum
+abbrev pub IsChildQuantum : List TreeArena → NewChild → Type 0
+IsChildQuantum arenas c = IsPowerOfTwo c.quantum
     × ((id : ℕ) × (y : TreeArena) × IsSource arenas c id y × (c.quantum ≤ y.quantum))
 
 -- nothing speaks against the child
 pub record CanChild (arenas : List TreeArena) (c : NewChild) : Type 0 where
   pub room : HasRoom arenas c.name
-  pub quantum : HasQuantum arenas c
+  pub quantum : IsChildQuantum arenas c
   pub caches : CanCache c.quantum c.qcache_max
 
 abbrev pub RefusesChild : List TreeArena → NewChild → SetupFault → Type 0
@@ -74,8 +74,8 @@ RefusesChild arenas c ChainTooLong = HasRoom arenas c.name × ((id : ℕ) × (up
     × (place_in c.source arenas ≡ Some id) × ChainFrom arenas (Some id) up
     × (LONGEST_CHAIN ≤ length up))
 RefusesChild arenas c BadQuantum = HasRoom arenas c.name × HasSource arenas c
-    × (¬ HasQuantum arenas c)
-RefusesChild arenas c BadCache = HasRoom arenas c.name × HasQuantum arenas c
+    × (¬ IsChildQuantum arenas c)
+RefusesChild arenas c BadCache = HasRoom arenas c.name × IsChildQuantum arenas c
     × (¬ CanCache c.quantum c.qcache_max)
 RefusesChild arenas c BadRange = ⊥
 RefusesChild arenas c NoMemory = CanChild arenas c

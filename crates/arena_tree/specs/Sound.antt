@@ -7,15 +7,15 @@ use Rattle.deed_core.specs.declared.segments.Route.TheVariants.{Direct}
 use Rattle.arena_tree.specs.declared.part_faults.CarveFault.{CarveFault}
 use Rattle.arena_tree.specs.declared.part_faults.CarveFault.TheVariants as carving
 use Rattle.arena_tree.specs.declared.part_faults.Stopped.{Stopped}
-use Rattle.arena_tree.specs.Chains.{Node, IsGrant, IsChunk, source_of, quantum_of}
-use Rattle.arena_tree.specs.Events.{Event, Answer, Carve, Free, AddCarve, SlabTake, SlabPut, SlabAdd, SlabReap, SwapFull, SwapEmpty, SwapFresh, DepotReap, Pop, Push, Change, freed_back, added_back, put_back, slab_back, pushed_back}
+use Rattle.arena_tree.specs.Chains.{Node, IsGrant, IsCachedChunk, source_of, quantum_in}
+use Rattle.arena_tree.specs.Events.{Event, AnswerTo, Carve, Free, AddCarve, SlabTake, SlabPut, SlabAdd, SlabReap, SwapFull, SwapEmpty, SwapFresh, DepotReap, Pop, Push, Change, freed_back, added_back, put_back, slab_back, pushed_back}
 
 -- what is carved fits; a request is bad just where no arena of this quantum takes it
 abbrev pub SoundCarve : List Node → ℕ → Request → Result Tag CarveFault → Type 0
-SoundCarve nodes arena q (Ok t) = IsGood (quantum_of nodes arena) q × IsGrant nodes arena q t
-SoundCarve nodes arena q (Err carving.NoFit) = IsGood (quantum_of nodes arena) q
-SoundCarve nodes arena q (Err carving.BadRequest) = ¬ IsGood (quantum_of nodes arena) q
-SoundCarve nodes arena q (Err carving.NoMemory) = IsGood (quantum_of nodes arena) q
+SoundCarve nodes arena q (Ok t) = IsGood (quantum_in nodes arena) q × IsGrant nodes arena q t
+SoundCarve nodes arena q (Err carving.NoFit) = IsGood (quantum_in nodes arena) q
+SoundCarve nodes arena q (Err carving.BadRequest) = ¬ IsGood (quantum_in nodes arena) q
+SoundCarve nodes arena q (Err carving.NoMemory) = IsGood (quantum_in nodes arena) q
 SoundCarve nodes arena q (Err carving.Stopped) = Unit {0}
 
 -- what is freed was no chunk; a span that it makes whole is a Direct segment of the arena's source
@@ -27,21 +27,21 @@ pub record IsFreed (nodes : List Node) (given : Tag) (out : Option Tag) : Type 0
 pub record IsSlabSpan (nodes : List Node) (arena : ℕ) (t : Tag) : Type 0 where
   pub of_arena : t.arena ≡ arena
   pub direct : t.route ≡ Direct
-  pub grid : t.holding.range.base % quantum_of nodes arena ≡ 0
+  pub grid : t.holding.range.base % quantum_in nodes arena ≡ 0
 
 -- what comes is a chunk of the cache
 abbrev pub SoundTake : {E : Type 0} → List Node → ℕ → ℕ → Result (Option Tag) E → Type 0
-SoundTake nodes arena cache a = IfOk a (λ o. IfSome o (IsChunk nodes arena cache))
+SoundTake nodes arena cache a = IfOk a (λ o. IfSome o (IsCachedChunk nodes arena cache))
 
 -- the segment that a refusal hands back is the one that was given
-abbrev pub Sound : List Node → (e : Event) → Answer e → Type 0
+abbrev pub Sound : List Node → (e : Event) → AnswerTo e → Type 0
 Sound nodes (Carve arena request) a = SoundCarve nodes arena request a
 Sound nodes (Free given) a = IfOk a (IsFreed nodes given) × IfErr a (λ f. freed_back f ≡ given)
 Sound nodes (AddCarve child given size) a = IfOk a (IsGrant nodes child (plain_of size))
     × IfErr a (λ f. added_back f ≡ given)
 Sound nodes (SlabTake arena cache) a = SoundTake nodes arena cache a
 Sound nodes (SlabPut given) a = IfErr a (λ f. put_back f ≡ given)
-Sound nodes (SlabAdd arena cache given) a = IfOk a (IsChunk nodes arena cache)
+Sound nodes (SlabAdd arena cache given) a = IfOk a (IsCachedChunk nodes arena cache)
     × IfErr a (λ f. slab_back f ≡ given)
 Sound nodes (SlabReap arena cache) a = IfOk a (λ o. IfSome o (IsSlabSpan nodes arena))
 Sound nodes (SwapFull arena cache) a = Unit {0}
@@ -59,7 +59,7 @@ PopsRound (Ok (Some t)) old new = new + 1 ≡ old
 PopsRound (Err e) old new = new ≡ old
 
 -- the rounds of the CPU before and after, as far as giving them all back needs it
-abbrev pub KeepsRounds : (e : Event) → Answer e → ℕ → ℕ → Type 0
+abbrev pub KeepsRounds : (e : Event) → AnswerTo e → ℕ → ℕ → Type 0
 KeepsRounds (Pop arena cache) a old new = PopsRound a old new
 KeepsRounds (Free given) a old new = new ≡ old
 KeepsRounds (SlabPut given) a old new = new ≡ old

@@ -21,7 +21,7 @@ use Rattle.arena_tree.specs.declared.part_faults.PushFault.{PushFault}
 use Rattle.arena_tree.specs.declared.part_faults.PushFault.TheVariants as pushing
 use Rattle.arena_tree.specs.declared.part_faults.ChangeFault.{ChangeFault}
 use Rattle.arena_tree.specs.declared.part_faults.ChangeFault.TheVariants as changing
-use Rattle.arena_tree.specs.Events.{Event, Answer, Carve, Free, AddCarve, SlabTake, SlabPut, SlabAdd, SlabReap, SwapFull, SwapEmpty, SwapFresh, DepotReap, Pop, Push, Change}
+use Rattle.arena_tree.specs.Events.{Event, AnswerTo, Carve, Free, AddCarve, SlabTake, SlabPut, SlabAdd, SlabReap, SwapFull, SwapEmpty, SwapFresh, DepotReap, Pop, Push, Change}
 
 -- of an answer, by its refusal
 abbrev pub refuses_by : {A E : Type 0} → (E → Bool) → Result A E → Bool
@@ -69,7 +69,7 @@ change_stops changing.Stopped = true
 change_stops _ = false
 
 -- the answer says that nothing was done
-abbrev pub is_stopped : (e : Event) → Answer e → Bool
+abbrev pub is_stopped : (e : Event) → AnswerTo e → Bool
 is_stopped (Carve arena request) a = refuses_by carve_stops a
 is_stopped (Free given) a = refuses_by free_stops a
 is_stopped (AddCarve child given size) a = refuses_by add_stops a

@@ -9,7 +9,7 @@ use Rattle.arena_tree.specs.declared.part_faults.AddCarveFault.TheVariants as ad
 use Rattle.arena_tree.specs.declared.part_faults.ClimbFault.TheVariants as climbing
 use Rattle.arena_tree.specs.declared.part_faults.ReturnFault.TheVariants as returning
 use Rattle.arena_tree.specs.Chains.{Node}
-use Rattle.arena_tree.specs.Events.{Event, Answer, Carve, Free, AddCarve}
+use Rattle.arena_tree.specs.Events.{Event, AnswerTo, Carve, Free, AddCarve}
 use Rattle.arena_tree.specs.Sound.{Sound}
 use Rattle.arena_tree.specs.Plans.{Plan, Done, Ask, Path}
 use Rattle.arena_tree.specs.Climbs.{Climbed, Returned, IsGrantOf}
@@ -17,24 +17,24 @@ use Rattle.arena_tree.specs.Climbs.{Climbed, Returned, IsGrantOf}
 -- an event with its answer
 pub record Answered : Type 0 where
   pub event : Event
-  pub answer : Answer event
+  pub answer : AnswerTo event
 
 -- what it ends with is as said of all that was answered, the last first, where each answer is sound
 abbrev pub Tells : {A : Type 0} → List Node → (List Answered → A → Type 0) → Plan A
     → List Answered → Type 0
 Tells nodes post (Done a) told = post told a
-Tells nodes post (Ask e f) told = (x : Answer e) → Sound nodes e x
+Tells nodes post (Ask e f) told = (x : AnswerTo e) → Sound nodes e x
     → Tells nodes post (f x) (record { event = e; answer = x } ∷ told)
 
 -- all that was answered along a path, the last first, before what was answered by then
-abbrev pub told_by : {S A : Type 0} (step : S → (e : Event) → Answer e → S → Type 0) (p : Plan A)
+abbrev pub told_by : {S A : Type 0} (step : S → (e : Event) → AnswerTo e → S → Type 0) (p : Plan A)
     (s t : S) (a : A) → Path step p s t a → List Answered → List Answered
 told_by step (Done b) s t a d told = told
 told_by step (Ask e f) s t a d told =
     told_by step (f d.1) d.0 t a d.3 (record { event = e; answer = d.1 } ∷ told)
 
 -- an arena was asked to carve, and nothing fitted
-abbrev pub IsNoFit : (e : Event) → Answer e → Type 0
+abbrev pub IsNoFit : (e : Event) → AnswerTo e → Type 0
 IsNoFit (Carve arena request) a = a ≡ Err carving.NoFit
 IsNoFit (Free given) a = ⊥
 IsNoFit _ a = ⊥
@@ -44,23 +44,23 @@ abbrev pub OnlyNoFit : List Answered → Type 0
 OnlyNoFit told = All (λ a. IsNoFit a.event a.answer) told
 
 -- a part refused the segment, for another reason than memory or a stop
-abbrev pub RefusesSpan : Tag → Result Tag (AddCarveFault Tag) → Type 0
-RefusesSpan t (Ok first) = ⊥
-RefusesSpan t (Err (adding.Overlaps back)) = back ≡ t
-RefusesSpan t (Err (adding.NotAligned back)) = back ≡ t
-RefusesSpan t (Err (adding.NoMemory back)) = ⊥
-RefusesSpan t (Err (adding.Stopped back)) = ⊥
+abbrev pub RefusesInAdd : Tag → Result Tag (AddCarveFault Tag) → Type 0
+RefusesInAdd t (Ok first) = ⊥
+RefusesInAdd t (Err (adding.Overlaps back)) = back ≡ t
+RefusesInAdd t (Err (adding.NotAligned back)) = back ≡ t
+RefusesInAdd t (Err (adding.NoMemory back)) = ⊥
+RefusesInAdd t (Err (adding.Stopped back)) = ⊥
 
-abbrev pub Refuses : Tag → (e : Event) → Answer e → Type 0
-Refuses t (Carve arena request) a = ⊥
-Refuses t (Free given) a = a ≡ Err (freeing.BadFree t)
-Refuses t (AddCarve child given size) a = RefusesSpan t a
-Refuses t _ a = ⊥
+abbrev pub IsRefusalOf : Tag → (e : Event) → AnswerTo e → Type 0
+IsRefusalOf t (Carve arena request) a = ⊥
+IsRefusalOf t (Free given) a = a ≡ Err (freeing.BadFree t)
+IsRefusalOf t (AddCarve child given size) a = RefusesInAdd t a
+IsRefusalOf t _ a = ⊥
 
 -- that was the last answer
 abbrev pub WasRefused : Tag → List Answered → Type 0
 WasRefused t [] = ⊥
-WasRefused t (last ∷ told) = Refuses t last.event last.answer
+WasRefused t (last ∷ told) = IsRefusalOf t last.event last.answer
 
 -- what a climb ends with: a grant of the chain's first arena; for 0 units alone a bad request;
 -- NoFit where nothing but refused carves was asked; a segment where a part has just refused it

@@ -1,7 +1,7 @@
 //! Import and hand back, in steps.
 ghost use Rattle.std.specs.Prelude.{◌≡◌, ℕ, ◌+◌, ◌<◌, ◌≤◌, length, Some, Err, IfOk};
 ghost use Rattle.deed_core.specs.Request.{rounded, plain_of};
-ghost use Rattle.arena_tree.specs.Chains.{IsChain, IsGrant, first_id, source_of, quantum_of};
+ghost use Rattle.arena_tree.specs.Chains.{IsChain, IsGrant, first_id, source_of, quantum_in};
 ghost use Rattle.arena_tree.specs.Plans.{Ran};
 ghost use Rattle.arena_tree.specs.Climbs.{return_plan, descent_plan, climb_plan, climb_most, IsGrantOf};
 ghost use Rattle.arena_tree.specs.Tags.{tag_climb, tag_return};
@@ -91,7 +91,7 @@ fn descend<S: Held, P: Parts<S>>(
     requires chain { IsChain (P.tree parts.old) up.now }
     requires first { first_id up.now ≡ Some (S.tag span).arena }
     requires some { 0 < size }
-    requires room { rounded (quantum_of (P.tree parts.old) child) size
+    requires room { rounded (quantum_in (P.tree parts.old) child) size
         ≤ (S.tag span).holding.range.len }
     requires direct { (S.tag span).route ≡ Route.Direct }
     ensures ran { Ran P.step P.tree P.count P.rounds (descent_plan up.now child size (S.tag span))

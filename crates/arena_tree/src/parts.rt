@@ -1,8 +1,8 @@
 //! What one CPU can reach: the parts that all share, and its own magazines.
 ghost use Rattle.std.specs.Prelude.{◌≡◌, ℕ, ◌%◌, ◌<◌, ◌≤◌, List, Some, length};
 ghost use Rattle.deed_core.specs.Request.{rounded};
-ghost use Rattle.arena_tree.specs.Chains.{Node, source_of, quantum_of};
-ghost use Rattle.arena_tree.specs.Events.{Event, Answer, Carve, Free, AddCarve, SlabTake, SlabPut, SlabAdd, SlabReap, SwapFull, SwapEmpty, SwapFresh, DepotReap, Pop, Push, Change};
+ghost use Rattle.arena_tree.specs.Chains.{Node, source_of, quantum_in};
+ghost use Rattle.arena_tree.specs.Events.{Event, AnswerTo, Carve, Free, AddCarve, SlabTake, SlabPut, SlabAdd, SlabReap, SwapFull, SwapEmpty, SwapFresh, DepotReap, Pop, Push, Change};
 ghost use Rattle.arena_tree.specs.Plans.{Step};
 ghost use Rattle.arena_tree.specs.Tags.{tag_ok, tag_all, tag_free, tag_add, tag_put, tag_slab, tag_push};
 
@@ -18,7 +18,7 @@ use deed_core::{Held, Request, Route};
 /// CPU's own. Arenas go by their numbers, and caches by theirs: the cache `k` is for `k` quanta.
 pub trait Parts<S: Held> {
     // what is known of an event: the parts before it, the event, its answer, the parts after it
-    ghost step: { Self → (e : Event) → Answer e → Self → Type 0 };
+    ghost step: { Self → (e : Event) → AnswerTo e → Self → Type 0 };
 
     // the arenas by number
     ghost tree: { Self → List Node };
@@ -51,7 +51,7 @@ pub trait Parts<S: Held> {
         requires child { child < length (tree self.old) }
         requires source { source_of (tree self.old) child ≡ Some (S.tag segment).arena }
         requires some { 0 < size }
-        requires room { rounded (quantum_of (tree self.old) child) size
+        requires room { rounded (quantum_in (tree self.old) child) size
             ≤ (S.tag segment).holding.range.len }
         requires direct { (S.tag segment).route ≡ Route.Direct }
         ensures { Step step tree count rounds self.old (AddCarve child (S.tag segment) size)
@@ -73,7 +73,7 @@ pub trait Parts<S: Held> {
         requires arena { (S.tag segment).arena ≡ arena }
         requires direct { (S.tag segment).route ≡ Route.Direct }
         requires grid { (S.tag segment).holding.range.base
-            % quantum_of (tree self.old) arena ≡ 0 }
+            % quantum_in (tree self.old) arena ≡ 0 }
         ensures { Step step tree count rounds self.old (SlabAdd arena cache (S.tag segment))
             (tag_slab S.tag result) self.new };
 

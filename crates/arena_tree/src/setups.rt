@@ -2,7 +2,7 @@
 ghost use Rattle.std.specs.Prelude.{◌≡◌, ◌==◌, ◌↔◌, [], Any, IsTrue, MatchBool, IfOk, IfErr, OnOk, OnErr};
 ghost use Rattle.std.specs.List.{count_by};
 ghost use Rattle.arena_tree.specs.declared.trees.TreeArena.{TreeArena};
-ghost use Rattle.arena_tree.specs.Settings.{IsSetup, Clash, IsClear, HasSpanRoom, CanSpan, RefusesSpan, Takes, Refuses, range_of, count_of};
+ghost use Rattle.arena_tree.specs.Settings.{IsSetup, Clash, HasNoClash, HasSpanRoom, CanSpan, RefusesNewSpan, TakesSetting, RefusesSetting, new_range, span_count};
 ghost use Rattle.arena_tree.specs.declared.settings.Setting.TheVariants.{Root, Child, Span};
 
 use crate::limits::MOST_SPANS;
@@ -78,8 +78,8 @@ impl Setup {
     /// Adds what is asked for, or says why not and stays as it was. A span costs a look at all
     /// spans that are there, an arena one at all names.
     pub fn add(&mut self, setting: &Setting) -> Result<(), SetupFault>
-        ensures taken { OnOk result (Takes self.old setting.now self.new) }
-        ensures refused { IfErr result (Refuses self.old setting.now) }
+        ensures taken { OnOk result (TakesSetting self.old setting.now self.new) }
+        ensures refused { IfErr result (RefusesSetting self.old setting.now) }
         ensures same { OnErr result (self.new ≡ self.old) }
     {
         match setting {
@@ -90,8 +90,8 @@ impl Setup {
     }
 
     fn add_root(&mut self, root: &NewRoot) -> Result<(), SetupFault>
-        ensures taken { OnOk result (Takes self.old (Root root.now) self.new) }
-        ensures refused { IfErr result (Refuses self.old (Root root.now)) }
+        ensures taken { OnOk result (TakesSetting self.old (Root root.now) self.new) }
+        ensures refused { IfErr result (RefusesSetting self.old (Root root.now)) }
         ensures same { OnErr result (self.new ≡ self.old) }
     {
         let (_, range) = self.tree.judge_root(root)?;
@@ -103,16 +103,16 @@ impl Setup {
     }
 
     fn add_child(&mut self, child: &NewChild) -> Result<(), SetupFault>
-        ensures taken { OnOk result (Takes self.old (Child child.now) self.new) }
-        ensures refused { IfErr result (Refuses self.old (Child child.now)) }
+        ensures taken { OnOk result (TakesSetting self.old (Child child.now) self.new) }
+        ensures refused { IfErr result (RefusesSetting self.old (Child child.now)) }
         ensures same { OnErr result (self.new ≡ self.old) }
     {
         self.tree.add_child(child)
     }
 
     fn add_span(&mut self, span: &NewSpan) -> Result<(), SetupFault>
-        ensures taken { OnOk result (Takes self.old (Span span.now) self.new) }
-        ensures refused { IfErr result (Refuses self.old (Span span.now)) }
+        ensures taken { OnOk result (TakesSetting self.old (Span span.now) self.new) }
+        ensures refused { IfErr result (RefusesSetting self.old (Span span.now)) }
         ensures same { OnErr result (self.new ≡ self.old) }
     {
         let owned = self.judge_span(span)?;
@@ -124,9 +124,9 @@ impl Setup {
     /// Why a span isn't added, memory aside; else the span.
     fn judge_span(&self, span: &NewSpan) -> Result<OwnedSpan, SetupFault>
         ensures can { IfOk result (λ o. (x : TreeArena) × HasSpanRoom self.now span.now o.arena x
-            × CanSpan self.now o.arena x (range_of span.now)) }
-        ensures range { IfOk result (λ o. o.range ≡ range_of span.now) }
-        ensures refused { IfErr result (RefusesSpan self.now span.now) }
+            × CanSpan self.now o.arena x (new_range span.now)) }
+        ensures range { IfOk result (λ o. o.range ≡ new_range span.now) }
+        ensures refused { IfErr result (RefusesNewSpan self.now span.now) }
     {
         let Some(id) = self.tree.find(&span.name) else {
             return Err(SetupFault::NoArena);
@@ -151,7 +151,7 @@ impl Setup {
 
 /// How many of the spans are the arena's.
 fn owned_by(id: u32, spans: &[OwnedSpan]) -> usize
-    ensures { result ≡ count_of id spans.now }
+    ensures { result ≡ span_count id spans.now }
 {
     spans.iter().filter(|span| span.arena == id).count()
 }
@@ -159,7 +159,7 @@ fn owned_by(id: u32, spans: &[OwnedSpan]) -> usize
 /// Whether one of the spans is in the way of this one.
 fn are_in_the_way(spans: &[OwnedSpan], wanted: &OwnedSpan) -> bool
     ensures { MatchBool result (Any (λ a. Clash a wanted.now) spans.now)
-        (IsClear spans.now wanted.now) }
+        (HasNoClash spans.now wanted.now) }
 {
     for span in spans {
         if clash(span, wanted) {

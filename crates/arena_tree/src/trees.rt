@@ -4,7 +4,7 @@ ghost use Rattle.std.specs.Str.{bytes_eq};
 ghost use Rattle.arena_tree.specs.Chains.{IsChain};
 ghost use Rattle.arena_tree.specs.Trees.{place_in, level_of, nodes_of, ChainFrom, IsArena, IsTree, HasCaches};
 ghost use Rattle.arena_tree.specs.Stored.{IsNewChain};
-ghost use Rattle.arena_tree.specs.Setups.{extent_of, CanRoot, CanChild, RefusesRoot, RefusesChild, IsSource, AddsRoot, AddsChild};
+ghost use Rattle.arena_tree.specs.Setups.{root_range, CanRoot, CanChild, RefusesRoot, RefusesChild, IsSource, AddsRoot, AddsChild};
 
 use crate::levels::Level;
 use crate::limits::{LONGEST_CHAIN, MOST_ARENAS};
@@ -154,7 +154,7 @@ impl Tree {
     pub(crate) fn judge_root(&self, root: &NewRoot) -> Result<(u64, Range), SetupFault>
         ensures can { OnOk result (CanRoot self.now root.now) }
         ensures slabs { IfOk result (λ r. HasCaches root.now.quantum root.now.qcache_max r.0) }
-        ensures range { IfOk result (λ r. r.1 ≡ extent_of root.now) }
+        ensures range { IfOk result (λ r. r.1 ≡ root_range root.now) }
         ensures refused { IfErr result (RefusesRoot self.now root.now) }
     {
         if self.find(&root.name).is_some() {

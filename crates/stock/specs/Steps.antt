@@ -140,7 +140,7 @@ next_cache s slab_size rounds =
     new_cache s.arena.id (length s.caches + 1) s.arena.quantum slab_size rounds
 
 -- there may be one more, of whose chunks a slab of this size has room for one
-pub record CanCache (slab_size : ℕ) (s : SpaceState) : Type 0 where
+pub record HasRoomForCache (slab_size : ℕ) (s : SpaceState) : Type 0 where
   pub few : length s.caches < 16
   pub room : (length s.caches + 1) * s.arena.quantum ≤ slab_size
 

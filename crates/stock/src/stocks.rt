@@ -8,7 +8,7 @@ ghost use Rattle.tag_arena.specs.Outcomes.{AddSpanOf, RemoveOf};
 ghost use Rattle.stock.specs.Spaces.{SpaceState, plans_of};
 ghost use Rattle.stock.specs.Stocks.{IsStock};
 ghost use Rattle.stock.specs.Accounts.{Accounts, Frames};
-ghost use Rattle.stock.specs.Steps.{OnArena, CanImportFrom, CanCache, GainsCache, new_space};
+ghost use Rattle.stock.specs.Steps.{OnArena, CanImportFrom, HasRoomForCache, GainsCache, new_space};
 
 use crate::spaces::{QuantumCache, Space};
 use deed_core::Deed;
@@ -127,7 +127,7 @@ impl<D: Deed> Stock<D> {
         rounds: usize,
     ) -> Result<(), AllocError>
         requires within { arena < length self.old }
-        requires can { (s : SpaceState) → slice_get self.old arena ≡ Some s → CanCache slab_size s }
+        requires can { (s : SpaceState) → slice_get self.old arena ≡ Some s → HasRoomForCache slab_size s }
         requires rounds { IsSize rounds }
         ensures added { OnOk result (GainsCache arena slab_size rounds self.old self.new) }
         ensures err { OnErr result (self.new ≡ self.old) }
