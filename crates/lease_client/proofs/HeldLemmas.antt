@@ -12,7 +12,7 @@ use Rattle.lease_client.specs.declared.held.HeldSegment.{HeldSegment}
 use Rattle.lease_client.specs.Answers.{answers_one}
 use Rattle.lease_client.specs.ClientState.{ClientState, is_at}
 use Rattle.lease_client.specs.Replies.{is_ahead, accepts, accepted, got, segment_of}
-use Rattle.lease_client.specs.Runs.{Move, Restart, Send, Get, Makes, Run, Ends, Keeps, IsHeldSince}
+use Rattle.lease_client.specs.Runs.{Move, Restart, Send, Get, TakesMove, Run, Ends, Keeps, IsHeldSince}
 use Rattle.lease_client.specs.Laws.{HeldIsSinceGrant}
 use Rattle.lease_client.proofs.ReplyLemmas.{got_by}
 
@@ -86,7 +86,7 @@ accepted_came s (replies.Gap t) c accept has = same_came s _ c refl has
 accepted_came s (replies.Again a) c accept has = same_came s _ c refl has
 accepted_came s (replies.Error e) c accept has = same_came s _ c refl has
 
-came : (s : HeldSegment) (move : Move) (old new : ClientState) → Makes move old new → Contains new.held s → Came s move old
+came : (s : HeldSegment) (move : Move) (old new : ClientState) → TakesMove move old new → Contains new.held s → Came s move old
 came s (Restart i) old new makes has = absurd (contains_none s (subst (λ (c : ClientState). Contains c.held s) makes.1 has))
 came s (Send (ops.Lease l)) old new makes has = inl (subst (λ (c : ClientState). Contains c.held s) makes.1 has, λ never. never)
 came s (Send (ops.Release r)) old new makes has =
@@ -110,7 +110,7 @@ accepted_stays s (replies.Gap t) c accept kept has = has
 accepted_stays s (replies.Again a) c accept kept has = has
 accepted_stays s (replies.Error e) c accept kept has = has
 
-stays : (s : HeldSegment) (move : Move) (old new : ClientState) → Makes move old new → (Ends s move old → ⊥) → Contains old.held s → Contains new.held s
+stays : (s : HeldSegment) (move : Move) (old new : ClientState) → TakesMove move old new → (Ends s move old → ⊥) → Contains old.held s → Contains new.held s
 stays s (Restart i) old new makes kept has = absurd (kept tt)
 stays s (Send (ops.Lease l)) old new makes kept has = subst (λ (c : ClientState). Contains c.held s) (sym makes.1) has
 stays s (Send (ops.Release r)) old new makes kept has =
@@ -123,7 +123,7 @@ stays s (Get reply) old new makes kept has =
 
 -- Moves one after the other.
 
-since_later : (s : HeldSegment) (move : Move) (moves : List Move) (start next end : ClientState) → Makes move start next
+since_later : (s : HeldSegment) (move : Move) (moves : List Move) (start next end : ClientState) → TakesMove move start next
     → IsHeldSince s moves next end → IsHeldSince s (move ∷ moves) start end
 since_later s move moves start next end makes since = record {
   before = move ∷ since.before;
@@ -137,7 +137,7 @@ since_later s move moves start next end makes since = record {
   kept = since.kept;
 }
 
-since_now : (s : HeldSegment) (move : Move) (moves : List Move) (start next end : ClientState) → Makes move start next
+since_now : (s : HeldSegment) (move : Move) (moves : List Move) (start next end : ClientState) → TakesMove move start next
     → IsGrantOf s move start → Keeps s moves next end → IsHeldSince s (move ∷ moves) start end
 since_now s move moves start next end makes granted kept = record {
   before = [];
@@ -148,7 +148,7 @@ since_now s move moves start next end makes granted kept = record {
   reached = refl;
   accepted = granted.accepted;
   of_segment = granted.of_segment;
-  kept = subst (λ c. Keeps s moves c end) (subst (λ m. Makes m start next) granted.is makes) kept;
+  kept = subst (λ c. Keeps s moves c end) (subst (λ m. TakesMove m start next) granted.is makes) kept;
 }
 
 -- what is held at the end was held from the start on, or is granted since

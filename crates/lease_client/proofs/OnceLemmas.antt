@@ -12,7 +12,7 @@ use Rattle.lease_proto.specs.declared.replies.Reply.TheVariants as replies
 use Rattle.lease_client.specs.Answers.{is_same_request, answers, answers_one}
 use Rattle.lease_client.specs.ClientState.{ClientState, IsSound, IsOwn}
 use Rattle.lease_client.specs.Replies.{is_ahead, accepts, accepted, got}
-use Rattle.lease_client.specs.Runs.{Move, Restart, Send, Get, Makes, Run, waiting, IsDone, MayBeSent}
+use Rattle.lease_client.specs.Runs.{Move, Restart, Send, Get, TakesMove, Run, waiting, IsDone, MayBeSent}
 use Rattle.lease_client.specs.Laws.{RepliesCountOnce, SentStaysSent}
 use Rattle.lease_client.proofs.ReplyLemmas.{got_by, moves_in_turn, moves_keep_sound}
 
@@ -211,7 +211,7 @@ past_sent (replies.Gap t) old new is past = tt
 past_sent (replies.Again a) old new is past = tt
 past_sent (replies.Error e) old new is past = tt
 
-past_stays : (past : Reply) (move : Move) (old new : ClientState) → Makes move old new → Past past old → Past past new
+past_stays : (past : Reply) (move : Move) (old new : ClientState) → TakesMove move old new → Past past old → Past past new
 past_stays past (Restart i) old new makes was =
     past_restarted past i old new (moves_in_turn.restart i old makes.0) (ap (λ (c : ClientState). c.incarnation) makes.1) was
 past_stays past (Send op) old new makes was =

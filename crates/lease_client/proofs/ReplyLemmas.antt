@@ -12,7 +12,7 @@ use Rattle.lease_client.specs.ClientState.{ClientState, IsSound, IsOwn}
 use Rattle.lease_client.specs.Replies.{accepts, accepted, got}
 use Rattle.lease_client.specs.Calls.{may_restart, restarted, is_of_held}
 use Rattle.lease_client.specs.Laws.{MovesAreInTurn}
-use Rattle.lease_client.specs.Runs.{Move, Restart, Send, Get, Makes}
+use Rattle.lease_client.specs.Runs.{Move, Restart, Send, Get, TakesMove}
 use Rattle.lease_client.proofs.SoundLemmas.{sound_sent}
 
 -- what is known of a client that got a reply: it accepted it, or it is as before
@@ -117,7 +117,7 @@ sound_accepted (replies.Gap t) c is yes_it = idle c is
 sound_accepted (replies.Again a) c is yes_it = idle c is
 sound_accepted (replies.Error e) c is yes_it = idle c is
 
-pub moves_keep_sound : (move : Move) (old new : ClientState) → IsSound old → Makes move old new → IsSound new
+pub moves_keep_sound : (move : Move) (old new : ClientState) → IsSound old → TakesMove move old new → IsSound new
 moves_keep_sound (Restart i) old new is makes = subst IsSound (sym makes.1) (sound_restarted i old is makes.0)
 moves_keep_sound (Send op) old new is makes =
     let turn = moves_in_turn.send op old makes.0 in

@@ -11,12 +11,12 @@ use Rattle.lease_client.specs.declared.held.HeldSegment.{HeldSegment}
 use Rattle.lease_client.specs.ClientState.{ClientState, IsSound}
 use Rattle.lease_client.specs.Replies.{accepts, got}
 use Rattle.lease_client.specs.Calls.{may_restart, refusal}
-use Rattle.lease_client.specs.Runs.{Move, Restart, Send, Get, Makes, Run, IsHeldSince, MayBeSent}
+use Rattle.lease_client.specs.Runs.{Move, Restart, Send, Get, TakesMove, Run, IsHeldSince, MayBeSent}
 
 -- what is true of every client stays so
 abbrev pub MovesKeepSound : Type 0
 MovesKeepSound =
-    (move : Move) (old new : ClientState) → IsSound old → Makes move old new → IsSound new
+    (move : Move) (old new : ClientState) → IsSound old → TakesMove move old new → IsSound new
 
 -- a client begins an incarnation above its own, and sends a request only while it is open and
 -- nothing is outstanding
@@ -30,7 +30,7 @@ pub record MovesAreInTurn : Type 0 where
 abbrev pub SentStaysSent : Type 0
 SentStaysSent =
     (id : RequestId) (op : Op) (move : Move) (old new : ClientState) → IsSound old
-    → Makes move old new → MayBeSent id op old → MayBeSent id op new
+    → TakesMove move old new → MayBeSent id op old → MayBeSent id op new
 
 -- a reply to another client, to another incarnation, or to another request than the last changes
 -- nothing
@@ -60,7 +60,7 @@ MayChangeHeld move c = ⊥
 -- is accepted, and by nothing else
 abbrev pub HeldChangesOnlySo : Type 0
 HeldChangesOnlySo =
-    (move : Move) (old new : ClientState) → Makes move old new
+    (move : Move) (old new : ClientState) → TakesMove move old new
     → (new.held ≡ old.held) ⊎ MayChangeHeld move old
 
 -- a client that began with nothing holds just the segments whose grants it accepted and that

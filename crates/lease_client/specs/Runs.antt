@@ -21,15 +21,15 @@ pub data Move : Type 0 where
   Get : (reply : Reply) → Move
 
 -- the move may be made, and what the client is then
-abbrev pub Makes : Move → (old new : ClientState) → Type 0
-Makes (Restart i) old new = (may_restart i old ≡ true) × (new ≡ restarted i old)
-Makes (Send op) old new = (refusal op old ≡ None) × (new ≡ sent op old)
-Makes (Get reply) old new = new ≡ got reply old
+abbrev pub TakesMove : Move → (old new : ClientState) → Type 0
+TakesMove (Restart i) old new = (may_restart i old ≡ true) × (new ≡ restarted i old)
+TakesMove (Send op) old new = (refusal op old ≡ None) × (new ≡ sent op old)
+TakesMove (Get reply) old new = new ≡ got reply old
 
 -- one move after the other
 abbrev pub Run : List Move → (old new : ClientState) → Type 0
 Run [] old new = new ≡ old
-Run (move ∷ moves) old new = (next : ClientState) × Makes move old next × Run moves next new
+Run (move ∷ moves) old new = (next : ClientState) × TakesMove move old next × Run moves next new
 
 -- a segment isn't held any more once its release is sent, the client restarts, or it accepts an
 -- `old`
@@ -43,7 +43,7 @@ Ends s (Get reply) c = is_ahead reply c ≡ true
 abbrev pub Keeps : HeldSegment → List Move → (old new : ClientState) → Type 0
 Keeps s [] old new = new ≡ old
 Keeps s (move ∷ moves) old new =
-    (next : ClientState) × Makes move old next × (Ends s move old → ⊥) × Keeps s moves next new
+    (next : ClientState) × TakesMove move old next × (Ends s move old → ⊥) × Keeps s moves next new
 
 -- among the moves the client accepted a grant of the segment, which answered its outstanding
 -- request, and no move after that ended it

@@ -8,8 +8,8 @@ use Rattle.lease_proto.specs.declared.lines.Op.TheVariants as ops
 use Rattle.lease_client.specs.declared.clients.Client.TheInside.{Inside}
 use Rattle.lease_client.specs.ClientState.{ClientState, IsSound}
 
-abbrev pub state_of : Inside → ClientState
-state_of c = record {
+abbrev pub client_of : Inside → ClientState
+client_of c = record {
   id = c.id;
   incarnation = c.incarnation;
   floor = c.floor;
@@ -30,6 +30,6 @@ room_of (Some (lines.Hello h)) = 0
 room_of (Some (lines.Request id op)) = room_for op
 
 -- it is a client, with room for the segment that may come
-pub record IsStored (c : Inside) : Type 0 where
-  pub sound : IsSound (state_of c)
+pub record IsStoredClient (c : Inside) : Type 0 where
+  pub sound : IsSound (client_of c)
   pub room : vec_len c.held + room_of c.outstanding ≤ vec_capacity c.held

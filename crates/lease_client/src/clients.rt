@@ -43,11 +43,11 @@ impl Model for Client {
 
     ghost Value = { ClientState };
 
-    ghost use Rattle.lease_client.specs.Stored.{state_of, IsStored};
+    ghost use Rattle.lease_client.specs.Stored.{client_of, IsStoredClient};
 
-    ghost view = { state_of };
+    ghost view = { client_of };
 
-    ghost invariant = { IsStored };
+    ghost invariant = { IsStoredClient };
 }
 
 impl Client {

@@ -15,7 +15,7 @@ use Rattle.lease_book.specs.declared.receipts.KeptReply.TheVariants as was
 use Rattle.lease_book.proofs.LawProofs.{account_is, outcomes_stay, last_outcome}
 use Rattle.lease_proto.specs.declared.replies.Reply.{Reply}
 use Rattle.lease_desk.specs.DeskState.{NamedArenaState, DeskState}
-use Rattle.lease_desk.specs.Machine.{IsSettled, IsRepeat, IsKnown}
+use Rattle.lease_desk.specs.Machine.{IsSettled, IsRepeat, IsReplyGiven}
 use Rattle.lease_desk.specs.Grants.{IsOfArenas, IsPossible, GrantsAreOwn}
 use Rattle.lease_desk.specs.Replies.{IsSayable, Says}
 
@@ -56,14 +56,14 @@ sayable count old new q refused again (answer.Stale greatest) own arenas is = tt
 sayable count old new q refused again (answer.Gap greatest) own arenas is = tt
 sayable count old new q refused again answer.Again own arenas is = tt
 
-repeat_known : (d : DeskState) (q : RequestId) (k : KeptReply) (r : Reply) → IsSettled d.arenas q k r → IsRepeat d q r → IsKnown d q r
-repeat_known d q (was.Granted a b l) r says rep = subst (λ z. IsRepeat d q z → IsKnown d q z) (sym says.2) (λ x. x) rep
-repeat_known d q was.Released r says rep = subst (λ z. IsRepeat d q z → IsKnown d q z) (sym says) (λ x. x) rep
-repeat_known d q (was.Refused w) r says rep = subst (λ z. IsRepeat d q z → IsKnown d q z) (sym says) (λ x. x) rep
+repeat_known : (d : DeskState) (q : RequestId) (k : KeptReply) (r : Reply) → IsSettled d.arenas q k r → IsRepeat d q r → IsReplyGiven d q r
+repeat_known d q (was.Granted a b l) r says rep = subst (λ z. IsRepeat d q z → IsReplyGiven d q z) (sym says.2) (λ x. x) rep
+repeat_known d q was.Released r says rep = subst (λ z. IsRepeat d q z → IsReplyGiven d q z) (sym says) (λ x. x) rep
+repeat_known d q (was.Refused w) r says rep = subst (λ z. IsRepeat d q z → IsReplyGiven d q z) (sym says) (λ x. x) rep
 
 -- an answer to a number that isn't new
 pub known_reply : {D : Type 0} (arenas : List NamedArenaState) (old new : BookState) (q : RequestId) (again : Type 0) (a : Answer D) (r : Reply)
-    → ¬ again → IsAnswer old new q (λ v. ⊥) again a → Says arenas q a r → IsKnown (record { arenas = arenas; book = old }) q r × (new ≡ old)
+    → ¬ again → IsAnswer old new q (λ v. ⊥) again a → Says arenas q a r → IsReplyGiven (record { arenas = arenas; book = old }) q r × (new ≡ old)
 known_reply arenas old new q again (answer.Kept v) r none is says = (
   repeat_known (record { arenas = arenas; book = old }) q v.reply r says (record {
     kept = record { number = q.number; reply = v.reply; terms = v.terms };
@@ -76,11 +76,11 @@ known_reply arenas old new q again (answer.Kept v) r none is says = (
 )
 known_reply arenas old new q again (answer.Refused v) r none is says = absurd is
 known_reply arenas old new q again (answer.Old current) r none is says =
-    (subst (IsKnown (record { arenas = arenas; book = old }) q) (sym says) (refl, is.0), is.1)
+    (subst (IsReplyGiven (record { arenas = arenas; book = old }) q) (sym says) (refl, is.0), is.1)
 known_reply arenas old new q again (answer.Stale last) r none is says =
-    (subst (IsKnown (record { arenas = arenas; book = old }) q) (sym says) (refl, is.0), is.1)
+    (subst (IsReplyGiven (record { arenas = arenas; book = old }) q) (sym says) (refl, is.0), is.1)
 known_reply arenas old new q again (answer.Gap last) r none is says =
-    (subst (IsKnown (record { arenas = arenas; book = old }) q) (sym says) (refl, is.0), is.1)
+    (subst (IsReplyGiven (record { arenas = arenas; book = old }) q) (sym says) (refl, is.0), is.1)
 known_reply arenas old new q again answer.Again r none is says = absurd (none is.0)
 
 -- a new number has no other answer than that it was refused, or that memory was wanted

@@ -40,7 +40,7 @@ use Rattle.lease_proto.specs.Replies.{reply_text}
 use Rattle.lease_desk.specs.DeskState.{NamedArenaState, DeskState, IsOrderly}
 use Rattle.lease_desk.specs.Moves.{GivesBack}
 use Rattle.lease_desk.specs.Sweeps.{Sweeps}
-use Rattle.lease_desk.specs.Operators.{asked_text, Tells}
+use Rattle.lease_desk.specs.Operators.{asked_text, TellsOrMemory}
 
 -- the index of the arena with this name
 abbrev pub index_in : List ℕ → List NamedArenaState → Option ℕ
@@ -75,12 +75,12 @@ pub record IsRepeat (d : DeskState) (q : RequestId) (r : Reply) : Type 0 where
   pub settled : IsSettled d.arenas q kept.reply r
 
 -- the answer to a number that isn't new
-abbrev pub IsKnown : DeskState → RequestId → Reply → Type 0
-IsKnown d q (reply.Old o) =
+abbrev pub IsReplyGiven : DeskState → RequestId → Reply → Type 0
+IsReplyGiven d q (reply.Old o) =
     (o.client ≡ q.client) × IsOld (account_in q.client d.book) q o.current
-IsKnown d q (reply.Stale o) = (o.id ≡ q) × IsStale (account_in q.client d.book) q o.last
-IsKnown d q (reply.Gap o) = (o.id ≡ q) × IsGap (account_in q.client d.book) q o.last
-IsKnown d q r = IsRepeat d q r
+IsReplyGiven d q (reply.Stale o) = (o.id ≡ q) × IsStale (account_in q.client d.book) q o.last
+IsReplyGiven d q (reply.Gap o) = (o.id ≡ q) × IsGap (account_in q.client d.book) q o.last
+IsReplyGiven d q r = IsRepeat d q r
 
 -- the new request is settled by a refusal, and nothing else changes
 pub record SettlesRefusal (q : RequestId) (w : Refusal) (old new : DeskState) : Type 0 where
@@ -218,11 +218,11 @@ HelloStep h old new r = ⊥
 -- the answer to a request: by its number, with nothing changed, or, where that is new, what the
 -- request comes to
 abbrev pub LeaseLineStep : RequestId → LeaseLine → DeskState → DeskState → Reply → Type 0
-LeaseLineStep q l old new r = (IsKnown old q r × (new ≡ old))
+LeaseLineStep q l old new r = (IsReplyGiven old q r × (new ≡ old))
     ⊎ (IsNew (account_in q.client old.book) q × NewLease q l old new r)
 
 abbrev pub ReleaseLineStep : RequestId → ReleaseLine → DeskState → DeskState → Reply → Type 0
-ReleaseLineStep q l old new r = (IsKnown old q r × (new ≡ old))
+ReleaseLineStep q l old new r = (IsReplyGiven old q r × (new ≡ old))
     ⊎ (IsNew (account_in q.client old.book) q × NewRelease q l old new r)
 
 abbrev pub OpStep : RequestId → Op → DeskState → DeskState → Reply → Type 0
@@ -238,7 +238,7 @@ LineStep (lines.Request q op) old new r = OpStep q op old new r
 abbrev pub ServedStep : ServedLine → DeskState → List ℕ → DeskState → Type 0
 ServedStep (served.Client l) old text new =
     (r : Reply) × (text ≡ ended (reply_text r)) × LineStep l old new r
-ServedStep (served.Operator o) old text new = Tells (asked_text old o) text × (new ≡ old)
+ServedStep (served.Operator o) old text new = TellsOrMemory (asked_text old o) text × (new ≡ old)
 
 -- the bytes that answer the bytes of a line, by what the line is
 abbrev pub AnswersLine : DeskState → Result ServedLine LineFault → List ℕ → DeskState → Type 0

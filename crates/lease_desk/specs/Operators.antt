@@ -47,5 +47,5 @@ asked_text d Audit = flat_map arena_told d.arenas
 asked_text d Clients = flat_map client_told (map report_of d.book.accounts)
 
 -- a text is told whole, or a line says that it found no room
-abbrev pub Tells : List ℕ → List ℕ → Type 0
-Tells told text = (text ≡ told) ⊎ (text ≡ error_text Memory)
+abbrev pub TellsOrMemory : List ℕ → List ℕ → Type 0
+TellsOrMemory told text = (text ≡ told) ⊎ (text ≡ error_text Memory)

@@ -6,7 +6,7 @@ ghost use Rattle.lease_book.specs.BookState.{IsHistory};
 ghost use Rattle.lease_proto.specs.declared.limits.TheConstants.{LINE_ROOM};
 ghost use Rattle.lease_desk.specs.DeskState.{IsOrderly};
 ghost use Rattle.lease_desk.specs.Machine.{LeaseStep, LineStep, ServedStep};
-ghost use Rattle.lease_desk.specs.Operators.{asked_text, Tells};
+ghost use Rattle.lease_desk.specs.Operators.{asked_text, TellsOrMemory};
 ghost use Rattle.lease_desk.specs.Setup.{root_of, arena_asked, RefusesArena, AddsArena, RefusesMoreSpan, AddsSpan};
 
 use crate::closings::close_spaces;
@@ -163,7 +163,7 @@ impl Desk {
     /// What an operator asks for. Where its lines find no room, the answer is one that says so.
     fn tell(&self, line: OperatorLine, out: &mut Vec<u8>) -> Result<(), AllocError>
         ensures ok { OnOk result ((reply : List ℕ) × (out.new.items ≡ out.old.items ++ reply)
-            × Tells (asked_text self.now line) reply) }
+            × TellsOrMemory (asked_text self.now line) reply) }
         ensures err { OnErr result (out.new.items ≡ out.old.items) }
     {
         let begin = out.len();

@@ -2,7 +2,7 @@
 ghost use Rattle.std.specs.Prelude.{◌≡◌, MatchOption};
 ghost use Rattle.lease_book.specs.Answers.{IsNew};
 ghost use Rattle.lease_book.specs.BookState.{account_in};
-ghost use Rattle.lease_desk.specs.Machine.{refused_to, SettlesRefusal, IsKnown};
+ghost use Rattle.lease_desk.specs.Machine.{refused_to, SettlesRefusal, IsReplyGiven};
 ghost use Rattle.lease_desk.specs.Spaces.{desk_of, IsSteady};
 
 use crate::answers::answered;
@@ -17,7 +17,7 @@ pub(crate) fn known(spaces: &[Space], book: &Book<PlainDeed>, id: RequestId) -> 
     requires { IsSteady spaces.now book.now }
     ensures { MatchOption result
         (IsNew (account_in id.client book.now) id)
-        (IsKnown (desk_of spaces.now book.now) id) }
+        (IsReplyGiven (desk_of spaces.now book.now) id) }
 {
     let look = book.look(id);
     let answer = look.answer()?;

@@ -10,7 +10,7 @@ use std::alloc::{AllocError, AllocFailed, Global};
 
 /// What the words after the program's name ask for.
 #[derive(Clone, Copy, Debug, PartialEq, Eq)]
-pub enum Words {
+pub enum GivenWords {
     /// `script`: answer standard input on standard output.
     Script,
 }
@@ -163,7 +163,7 @@ fn command<'a>(alloc: Global) -> Result<Command<'a>, AllocError>
 }
 
 /// Reads the words, of which the first is the program's name.
-pub fn read_words<'a>(alloc: Global, words: &'a [&'a str]) -> Result<Words, WordsFault>
+pub fn read_words<'a>(alloc: Global, words: &'a [&'a str]) -> Result<GivenWords, WordsFault>
     // `vmemd script` is refused only where memory is.
     ensures script { map (λ w. w.now) words.now ≡ script_words
         → IfErr result (λ fault. fault ≡ WordsFault.Memory) }
@@ -173,7 +173,7 @@ pub fn read_words<'a>(alloc: Global, words: &'a [&'a str]) -> Result<Words, Word
     ensures err { IfErr result (FailsWords (fault_of program (map (λ w. w.now) words.now))) }
 {
     match command(alloc)?.try_get_matches_from(words) {
-        Ok(_matches) => Ok(Words::Script),
+        Ok(_matches) => Ok(GivenWords::Script),
         Err(error) => Err(words_fault(alloc, error)),
     }
 }

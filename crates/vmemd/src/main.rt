@@ -21,7 +21,7 @@ pub mod setting_up;
 #[cfg(test)]
 mod tests;
 
-use crate::commands::{Words, WordsFault, read_words};
+use crate::commands::{GivenWords, WordsFault, read_words};
 use crate::endings::{end_script, end_words};
 use crate::faults::ScriptFault;
 use crate::scripts::run_script;
@@ -32,7 +32,7 @@ use std::process::ExitCode;
 
 fn main(rt: HostRuntime) -> ExitCode {
     match read_arguments(&rt) {
-        Ok(Words::Script) => end_script(&rt, answer_input(&rt)),
+        Ok(GivenWords::Script) => end_script(&rt, answer_input(&rt)),
         Err(fault) => end_words(&rt, &mut Watched::new(io::writer(&rt)), &fault),
     }
 }
@@ -52,7 +52,7 @@ fn arguments_of(rt: &HostRuntime) -> Result<Vec<String>, WordsFault> {
 }
 
 /// What the program's arguments ask for. Its texts call it `vmemd`, whatever it was called by.
-fn read_arguments(rt: &HostRuntime) -> Result<Words, WordsFault> {
+fn read_arguments(rt: &HostRuntime) -> Result<GivenWords, WordsFault> {
     let alloc = rt.alloc();
     let texts = arguments_of(rt)?;
     let mut words: Vec<&str> = Vec::new(alloc);

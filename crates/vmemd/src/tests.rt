@@ -4,7 +4,7 @@
 mod tables;
 
 use self::tables::{ASKED, MISTAKEN, REFUSED, ROWS};
-use crate::commands::{Words, WordsFault, read_words};
+use crate::commands::{GivenWords, WordsFault, read_words};
 use crate::faults::{ConfigFault, ScriptFault};
 use crate::scripts::run_script;
 use lease_book::MOST_LEASES;
@@ -331,7 +331,7 @@ fn statuses(rt: HostRuntime) -> Result<(), Fail> {
 fn command_line(rt: HostRuntime) -> Result<(), Fail> {
     let alloc = rt.alloc();
     match read_words(alloc, &["vmemd", "script"]) {
-        Ok(words) => assert_eq!(rt; words, Words::Script),
+        Ok(words) => assert_eq!(rt; words, GivenWords::Script),
         Err(_fault) => return Err(Fail::from("`script` was not taken")),
     }
     for (words, text) in &ASKED {
