@@ -1,5 +1,6 @@
 -- Laws of counting segments and deeds, one or all of a kind.
-use Rattle.std.specs.Prelude.{◌≡◌, ◌<◌, ◌≤◌, ◌↔◌, Bool, false, List, All, Contains, sum_by, count_by}
+use Rattle.std.specs.Prelude.{◌≡◌, ◌<◌, ◌≤◌, ◌↔◌, Bool, false, List, All, Contains, sum_by}
+use Rattle.std.specs.Prelude.{count_by}
 use Rattle.deed_core.specs.Holding.{Holding}
 use Rattle.deed_core.specs.Tag.{Tag}
 use Rattle.deed_core.specs.Weights.{one_at, one_at_held}

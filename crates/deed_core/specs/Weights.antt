@@ -4,7 +4,8 @@
 use Rattle.std.specs.Prelude.{◌≡◌, ℕ, ◌+◌, Bool, List, if◌then◌else◌, sum_by}
 use Rattle.deed_core.specs.Holding.{Holding}
 use Rattle.deed_core.specs.Tag.{Tag}
-use Rattle.deed_core.specs.Selections.{is_of_arena, came_direct, came_cached, is_of_cache, equal_held, equal_tag}
+use Rattle.deed_core.specs.Selections.{is_of_arena, came_direct, came_cached, is_of_cache}
+use Rattle.deed_core.specs.Selections.{equal_held, equal_tag}
 
 -- the two lists have the same members, each as often
 abbrev pub WeighSame : {X : Type 0} → List X → List X → Type 0

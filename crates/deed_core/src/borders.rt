@@ -16,7 +16,7 @@ pub fn move_border<D: Deed>(first: D, second: D, at: u64) -> Result<(D, D), (D, 
         (λ parts. D.holding parts.0 ≡ low at (joined (D.holding first) (D.holding second))) }
     ensures high { IfOk result
         (λ parts. D.holding parts.1 ≡ high at (joined (D.holding first) (D.holding second))) }
-    ensures unchanged { IfErr result (λ both.
+    ensures handed_back { IfErr result (λ both.
         (D.holding both.0 ≡ D.holding first) × (D.holding both.1 ≡ D.holding second)) }
 {
     if at < first.range().end() {

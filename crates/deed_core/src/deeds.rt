@@ -33,7 +33,7 @@ pub trait Deed {
         ensures ok { IfOk result (λ parts.
             (holding parts.0 ≡ low at (holding self))
             × (holding parts.1 ≡ high at (holding self))) }
-        ensures err { IfErr result (λ refused. holding refused.deed ≡ holding self) };
+        ensures handed_back { IfErr result (λ refused. holding refused.deed ≡ holding self) };
 
     /// One deed for what this one and the next cover. It takes no memory.
     fn join(self, next: Self) -> Self

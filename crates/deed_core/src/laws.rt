@@ -1,9 +1,15 @@
 //! Laws of the definitions that the crates above reckon with. The functions do nothing: their
 //! contracts are the laws, and proofs/LawProofs.antt has them for the proofs of the crates above.
-ghost use Rattle.deed_core.specs.Laws.{CountsTheUnit, OverlapCoversTwice, CutKeepsUnits, SplitKeepsUnits, JoinKeepsUnits, PartWeighs, SmallerWeighsLess};
-ghost use Rattle.deed_core.specs.CountingLaws.{CountsOneSegment, CountsOneDeed, CountsWhereItIs, DeedCountsWhereItIs, NoneIsSuch};
-ghost use Rattle.deed_core.specs.PartLaws.{TestsSay, PartsWeighAll, RoutesWeighAll, AllWeigh, NoneWeigh};
-ghost use Rattle.deed_core.specs.SizeLaws.{RoundsUp, RoundsToTheLeast, RoundsOnce, FitsRounded, PowerIsSome, SmallerPowerDivides, PlainIsOfItsSize, PlainIsGood, FitsPlain};
+ghost use Rattle.deed_core.specs.Laws.{CountsTheUnit, OverlapCoversTwice, CutKeepsUnits};
+ghost use Rattle.deed_core.specs.Laws.{SplitKeepsUnits, JoinKeepsUnits, PartWeighs};
+ghost use Rattle.deed_core.specs.Laws.{SmallerWeighsLess};
+ghost use Rattle.deed_core.specs.CountingLaws.{CountsOneSegment, CountsOneDeed, CountsWhereItIs};
+ghost use Rattle.deed_core.specs.CountingLaws.{DeedCountsWhereItIs, NoneIsSuch};
+ghost use Rattle.deed_core.specs.PartLaws.{TestsSay, PartsWeighAll, RoutesWeighAll, AllWeigh};
+ghost use Rattle.deed_core.specs.PartLaws.{NoneWeigh};
+ghost use Rattle.deed_core.specs.SizeLaws.{RoundsUp, RoundsToTheLeast, RoundsOnce, FitsRounded};
+ghost use Rattle.deed_core.specs.SizeLaws.{PowerIsSome, SmallerPowerDivides, PlainIsOfItsSize};
+ghost use Rattle.deed_core.specs.SizeLaws.{PlainIsGood, FitsPlain};
 
 /// How often ranges cover a unit: once where they have it; twice exactly where two overlap; and as
 /// often cut in two, split or joined as before.

@@ -56,8 +56,8 @@ impl Deed for PlainDeed {
     fn split(self, at: u64) -> Result<(PlainDeed, PlainDeed), Refused<PlainDeed>>
         requires { IsInside at self.range }
         ensures ok { IfOk result (λ parts. (parts.0 ≡ low at self) × (parts.1 ≡ high at self)) }
-        ensures err { IfErr result (λ refused. refused.deed ≡ self) }
-        ensures granted { IsOk result }
+        ensures handed_back { IfErr result (λ refused. refused.deed ≡ self) }
+        ensures succeeds { IsOk result }
     {
         let PlainDeed { root, range } = self;
         let (low, high) = range.split_at(at);

@@ -56,7 +56,7 @@ impl<D: Deed> Stored<D> {
     pub fn split(self, at: u64) -> Result<(Stored<D>, Stored<D>), Stored<D>>
         requires { IsInside at self.range }
         ensures ok { IfOk result (λ parts. (parts.0 ≡ low at self) × (parts.1 ≡ high at self)) }
-        ensures err { IfErr result (λ same. same ≡ self) }
+        ensures handed_back { IfErr result (λ same. same ≡ self) }
     {
         match self.into_deed().split(at) {
             Ok((low, high)) => Ok((Stored::new(low), Stored::new(high))),

@@ -6,7 +6,9 @@ use Rattle.std.specs.Prelude.{◌≡◌, ◌≢◌, ℕ, ◌^◌, ◌<◌, ◌�
 use Rattle.deed_core.specs.Extent.{Extent}
 use Rattle.deed_table.specs.declared.views.View.{View}
 use Rattle.deed_table.specs.Piece.{CutsFirst}
-use Rattle.deed_table.specs.View.{opener, spent, low_part, high_part, merged, beside, first_part, other_part, numbers_below, numbers_after, opened_at, AreJoinable, NoneLeft}
+use Rattle.deed_table.specs.View.{opener, spent, low_part, high_part, merged, beside, first_part}
+use Rattle.deed_table.specs.View.{other_part, numbers_below, numbers_after, opened_at, AreJoinable}
+use Rattle.deed_table.specs.View.{NoneLeft}
 use Rattle.deed_table.specs.Rule.{CoversOnceEach, opened, covered}
 
 -- the seat i gives a part of its view to a new seat

@@ -3,7 +3,8 @@ use Rattle.std.specs.Prelude.{◌≡◌, ℕ, ◌+◌, ◌-◌, List, [], ◌∷
 use Rattle.deed_core.specs.Extent.{Extent}
 use Rattle.deed_table.specs.declared.views.Piece.{Piece}
 use Rattle.deed_table.specs.declared.views.View.{View}
-use Rattle.deed_table.specs.Piece.{piece_at, low_pieces, high_pieces, merged_pieces, first_piece, other_pieces, Touch}
+use Rattle.deed_table.specs.Piece.{piece_at, low_pieces, high_pieces, merged_pieces, first_piece}
+use Rattle.deed_table.specs.Piece.{other_pieces, Touch}
 
 -- the root numbers that are left
 abbrev pub numbers_of : View → Extent

@@ -106,9 +106,9 @@ impl<N: Name> Opener<N> {
     pub fn share(&mut self, n: u64) -> Result<Opener<N>, AllocError>
         requires { n ≤ self.old.left }
         ensures given { IfOk result (λ other. other ≡ record { first = self.old.first; left = n }) }
-        ensures kept { OnOk result
+        ensures rest { OnOk result
             (self.new ≡ record { first = self.old.first + n; left = self.old.left - n }) }
-        ensures err { OnErr result (self.new ≡ self.old) }
+        ensures unchanged { OnErr result (self.new ≡ self.old) }
     {
         let again = Arc::try_clone(&self.table)?;
         let seat = share::<Brand>(&self.table, &mut self.seat, n);
@@ -131,9 +131,9 @@ impl<N: Name> Opener<N> {
         ensures root { IfOk result
             (λ made. made.0 ≡ record { root = self.old.first; range = range }) }
         ensures whole { IfOk result (λ made. made.1 ≡ made.0) }
-        ensures kept { OnOk result
+        ensures rest { OnOk result
             (self.new ≡ record { first = self.old.first + 1; left = self.old.left - 1 }) }
-        ensures err { OnErr result (self.new ≡ self.old) }
+        ensures unchanged { OnErr result (self.new ≡ self.old) }
     {
         let Opener {
             first,

@@ -104,7 +104,7 @@ impl<N: Name> Pair<N> {
     /// Parts the two. At `Err` they are still joined.
     pub fn part(self) -> Result<(SeatDeed<N>, SeatDeed<N>), Pair<N>>
         ensures ok { IfOk result (λ deeds. deeds ≡ self) }
-        ensures err { IfErr result (λ pair. pair ≡ self) }
+        ensures handed_back { IfErr result (λ pair. pair ≡ self) }
         ensures apart { ¬ Overlap self.0.range self.1.range }
     {
         let Ok(again) = Arc::try_clone(&self.table) else {
@@ -145,7 +145,7 @@ pub fn apart<N: Name>(
 ) -> Result<(SeatDeed<N>, SeatDeed<N>), Pair<N>>
     requires { first.root ≡ second.root }
     ensures ok { IfOk result (λ deeds. deeds ≡ (first, second)) }
-    ensures err { IfErr result (λ pair. pair ≡ (first, second)) }
+    ensures handed_back { IfErr result (λ pair. pair ≡ (first, second)) }
     ensures apart { ¬ Overlap first.range second.range }
 {
     Pair::new(first, second).part()
@@ -164,7 +164,7 @@ fn look_at_both(
     requires first { IsRange first.now }
     requires second { IsRange second.now }
     ensures table { seat.new.table_id ≡ seat.old.table_id }
-    ensures same { seat.new.me ≡ seat.old.me }
+    ensures unchanged { seat.new.me ≡ seat.old.me }
     ensures apart { ¬ Overlap first.now second.now }
 {
     let _ = root;

@@ -45,7 +45,7 @@ impl<N: Name> Root<N> {
 pub fn close<N: Name>(root: Root<N>, deed: SeatDeed<N>) -> Result<Range, (Root<N>, SeatDeed<N>)>
     ensures whole { IsOk result ↔ (deed ≡ root) }
     ensures range { IfOk result (λ range. range ≡ root.range) }
-    ensures back { IfErr result (λ both. both ≡ (root, deed)) }
+    ensures handed_back { IfErr result (λ both. both ≡ (root, deed)) }
 {
     if deed.root != root.number || deed.range != root.range {
         return Err((root, deed));

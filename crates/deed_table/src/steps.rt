@@ -61,7 +61,7 @@ pub(crate) fn put_beside(table: &DeedTable, seat: &mut Seat<(), View>, other: Se
 pub(crate) fn look(table: &DeedTable, seat: &mut Seat<(), View>)
     requires { SitsAt seat.old.table_id table.now.shared.table_id }
     ensures table { seat.new.table_id ≡ seat.old.table_id }
-    ensures same { seat.new.me ≡ seat.old.me }
+    ensures unchanged { seat.new.me ≡ seat.old.me }
     ensures once { CoverOnce seat.old.me.0.ranges }
 {
     table.shared.load::<Learn>(seat, 0);
@@ -89,7 +89,7 @@ pub(crate) fn share<C: Chosen>(
     requires left { n ≤ seat.old.me.0.left }
     ensures table { (seat.new.table_id ≡ seat.old.table_id)
         × (result.table_id ≡ seat.old.table_id) }
-    ensures kept { seat.new.me ≡ (numbers_after n seat.old.me.0, seat.old.me.1) }
+    ensures rest { seat.new.me ≡ (numbers_after n seat.old.me.0, seat.old.me.1) }
     ensures given { result.me ≡ (numbers_below n seat.old.me.0, []) }
 {
     let _ = n;

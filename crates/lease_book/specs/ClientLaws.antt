@@ -1,13 +1,16 @@
 -- What holds of the clients of every book: their accounts, together and before and after an entry.
-use Rattle.std.specs.Prelude.{◌≡◌, ◌≢◌, ℕ, ◌<◌, ◌≤◌, ◌==◌, nat_eq, false, List, [], length, All, IfSome, Some, None, sum_by}
+use Rattle.std.specs.Prelude.{◌≡◌, ◌≢◌, ℕ, ◌<◌, ◌≤◌, ◌==◌, nat_eq, false, List, [], length, All}
+use Rattle.std.specs.Prelude.{IfSome, Some, None, sum_by}
 use Rattle.std.specs.List.{list_any, IsDistinct}
 use Rattle.deed_core.specs.Extent.{IsRange}
 use Rattle.deed_core.specs.Tag.{Tag}
 use Rattle.lease_terms.specs.Ranges.{IsClient, IsOrdinal, IsQuantity}
 use Rattle.lease_terms.specs.Requests.{RequestId, IsRequestId}
 use Rattle.lease_book.specs.Entry.{Settlement, Entry, Hello, Settled, Swept, subject_of, kept}
-use Rattle.lease_book.specs.Account.{Account, is_lease, without_first, granted_request, leases_after}
-use Rattle.lease_book.specs.BookState.{BookState, HasHistory, Enters, account_in, clients_in, weight_of, leased}
+use Rattle.lease_book.specs.Account.{Account, is_lease, without_first, granted_request}
+use Rattle.lease_book.specs.Account.{leases_after}
+use Rattle.lease_book.specs.BookState.{BookState, HasHistory, Enters, account_in, clients_in}
+use Rattle.lease_book.specs.BookState.{weight_of, leased}
 use Rattle.lease_book.specs.declared.books.TheConstants.{MOST_LEASES}
 use Rattle.lease_book.specs.declared.receipts.KeptReply.{KeptReply}
 use Rattle.lease_book.specs.declared.receipts.KeptReply.TheVariants.{Granted, Released, Refused}

@@ -1,14 +1,17 @@
 -- What is read off a list of entries, newest first.
-use Rattle.std.specs.Prelude.{◌≡◌, ℕ, ◌+◌, ◌<◌, ◌≤◌, ◌==◌, ◌&&◌, nat_lt, if◌then◌else◌, List, [], ◌∷◌, ◌++◌, length, Option, Some, None}
+use Rattle.std.specs.Prelude.{◌≡◌, ℕ, ◌+◌, ◌<◌, ◌≤◌, ◌==◌, ◌&&◌, nat_lt, if◌then◌else◌, List, []}
+use Rattle.std.specs.Prelude.{◌∷◌, ◌++◌, length, Option, Some, None}
 use Rattle.std.specs.List.{find, list_any}
 use Rattle.deed_core.specs.Extent.{IsRange}
 use Rattle.deed_core.specs.Request.{Fits}
 use Rattle.lease_terms.specs.Ranges.{IsClient, IsOrdinal, IsQuantity}
 use Rattle.lease_terms.specs.Requests.{RequestId, IsRequestId}
 use Rattle.lease_book.specs.Receipts.{Kept}
-use Rattle.lease_book.specs.Entry.{Settlement, Grant, Return, Refuse, Entry, Hello, Settled, Swept, kept}
+use Rattle.lease_book.specs.Entry.{Settlement, Grant, Return, Refuse, Entry, Hello, Settled, Swept}
+use Rattle.lease_book.specs.Entry.{kept}
 use Rattle.lease_book.specs.declared.books.TheConstants.{MOST_LEASES}
-use Rattle.lease_book.specs.Account.{Lease, Account, number_of, is_lease, without_first, leases_after}
+use Rattle.lease_book.specs.Account.{Lease, Account, number_of, is_lease, without_first}
+use Rattle.lease_book.specs.Account.{leases_after}
 
 -- the incarnation of the client's last hello, or 0
 abbrev pub incarnation : ℕ → List Entry → ℕ

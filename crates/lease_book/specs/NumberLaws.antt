@@ -1,10 +1,12 @@
 -- What holds of the numbers of requests, and of how each was settled.
-use Rattle.std.specs.Prelude.{◌≡◌, ◌≢◌, ℕ, zero, suc, ◌<◌, ◌≤◌, List, [], ◌∷◌, ◌++◌, map, All, Some, None, slice_get}
+use Rattle.std.specs.Prelude.{◌≡◌, ◌≢◌, ℕ, zero, suc, ◌<◌, ◌≤◌, List, [], ◌∷◌, ◌++◌, map, All, Some}
+use Rattle.std.specs.Prelude.{None, slice_get}
 use Rattle.lease_terms.specs.Requests.{RequestId}
 use Rattle.lease_book.specs.Receipts.{Kept, IsEarned}
 use Rattle.lease_book.specs.Entry.{Settlement, Grant, Entry, Settled, kept}
 use Rattle.lease_book.specs.Account.{granted_request}
-use Rattle.lease_book.specs.History.{incarnation, settled_in, greatest, last_in, outcome_of, leases_of, AreOrderly}
+use Rattle.lease_book.specs.History.{incarnation, settled_in, greatest, last_in, outcome_of}
+use Rattle.lease_book.specs.History.{leases_of, AreOrderly}
 use Rattle.lease_book.specs.declared.receipts.Terms.{Terms}
 
 -- what is settled for an incarnation: more by its own requests alone, and nothing of one to come

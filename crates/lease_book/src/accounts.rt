@@ -1,5 +1,7 @@
 //! The accounts of the clients, in order of first hello.
-ghost use Rattle.std.specs.Prelude.{◌≡◌, ◌≢◌, ◌+◌, ◌*◌, ◌<◌, ◌≤◌, ◌==◌, List, [], ◌∷◌, ◌++◌, length, All, OnOk, OnErr, IfErr, IfSome, IfNone, Some, None, slice_get, position, sum_by, nat_lt, option_map};
+ghost use Rattle.std.specs.Prelude.{◌≡◌, ◌≢◌, ◌+◌, ◌*◌, ◌<◌, ◌≤◌, ◌==◌, List, [], ◌∷◌, ◌++◌};
+ghost use Rattle.std.specs.Prelude.{length, All, OnOk, OnErr, IfErr, IfSome, IfNone, Some, None};
+ghost use Rattle.std.specs.Prelude.{slice_get, position, sum_by, nat_lt, option_map};
 ghost use Rattle.std.specs.List.{find, remove};
 ghost use Rattle.lease_terms.specs.declared.values.TheConstants.{LAST_CLIENT};
 ghost use Rattle.lease_book.specs.Receipts.{IsEarned};
@@ -57,7 +59,8 @@ impl<D: Deed> Model for Accounts<D> {
 }
 
 impl<D: Deed> Accounts<D> {
-    ghost use Rattle.lease_book.specs.Shelf.{account_with, changed_at, standing_of, with_standing, with_leases};
+    ghost use Rattle.lease_book.specs.Shelf.{account_with, changed_at, standing_of, with_standing};
+    ghost use Rattle.lease_book.specs.Shelf.{with_leases};
     ghost use Rattle.lease_book.specs.BookState.{leased_by, units_of_arena};
     ghost use Rattle.lease_book.specs.Reports.{report_of};
 
@@ -112,7 +115,7 @@ impl<D: Deed> Accounts<D> {
     ) -> Kept
         requires within { index < length self.old }
         requires earned { IsEarned reply terms }
-        ensures kept { result ≡ record { number = id.number; reply = reply; terms = terms } }
+        ensures value { result ≡ record { number = id.number; reply = reply; terms = terms } }
         ensures accounts { self.new ≡ changed_at self.old index
             (with_standing (record { incarnation = id.incarnation; kept = Some result })) }
     {

@@ -1,5 +1,7 @@
 //! The book of leases.
-ghost use Rattle.std.specs.Prelude.{◌≡◌, ◌==◌, ◌<◌, ◌≤◌, ◌↔◌, List, [], length, All, IsOk, IsNone, OnOk, OnErr, IfOk, IfErr, IfSome, IfNone, Some, None, slice_get, sum_by};
+ghost use Rattle.std.specs.Prelude.{◌≡◌, ◌==◌, ◌<◌, ◌≤◌, ◌↔◌, List, [], length, All, IsOk, IsNone};
+ghost use Rattle.std.specs.Prelude.{OnOk, OnErr, IfOk, IfErr, IfSome, IfNone, Some, None};
+ghost use Rattle.std.specs.Prelude.{slice_get, sum_by};
 ghost use Rattle.std.specs.List.{find};
 ghost use Rattle.std.specs.Option.{option_map};
 ghost use Rattle.deed_core.specs.Request.{Fits};
@@ -9,7 +11,8 @@ ghost use Rattle.lease_book.specs.Receipts.{Kept};
 ghost use Rattle.lease_book.specs.Entry.{Entry, Hello, kept};
 ghost use Rattle.lease_book.specs.Account.{last, is_lease};
 ghost use Rattle.lease_book.specs.History.{account, clients_of};
-ghost use Rattle.lease_book.specs.BookState.{BookState, IsHistory, HasHistory, Enters, account_in, leased, leased_in, units_of_arena};
+ghost use Rattle.lease_book.specs.BookState.{BookState, IsHistory, HasHistory, Enters, account_in};
+ghost use Rattle.lease_book.specs.BookState.{leased, leased_in, units_of_arena};
 ghost use Rattle.lease_book.specs.Reports.{report_of};
 ghost use Rattle.lease_book.specs.declared.books.TheConstants.{MOST_LEASES};
 
@@ -47,7 +50,8 @@ impl<D: Deed> Model for Book<D> {
 impl<D: Deed> Book<D> {
     ghost use Rattle.lease_book.specs.Answers.{receipt, IsNew, IsLook, IsAnswer, IsHelloFault};
     ghost use Rattle.lease_book.specs.Shelf.{standing_of};
-    ghost use Rattle.lease_book.specs.Calls.{IsFound, IsGranted, IsRefused, IsReleased, IsEnded, IsSwept};
+    ghost use Rattle.lease_book.specs.Calls.{IsFound, IsGranted, IsRefused, IsReleased, IsEnded};
+    ghost use Rattle.lease_book.specs.Calls.{IsSwept};
 
     /// An empty book. The mark is a deed of the one unit 0; its root tells the book's receipts from
     /// another's.
@@ -93,7 +97,7 @@ impl<D: Deed> Book<D> {
             → self.new ≡ self.old }
         ensures leases { leased self.new ≡ leased self.old }
         ensures current { OnOk result ((account_in client self.old).incarnation ≤ incarnation) }
-        ensures fault { IfErr result
+        ensures refused { IfErr result
             (IsHelloFault (account_in client self.old).incarnation incarnation) }
         ensures unchanged { OnErr result (self.new ≡ self.old) }
     {

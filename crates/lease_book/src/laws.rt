@@ -2,9 +2,14 @@
 //! contract is the law. `proofs/LawProofs.antt` hands their proofs on.
 ghost use Rattle.std.specs.Prelude.{◌≡◌};
 ghost use Rattle.lease_book.specs.declared.books.TheConstants.{MOST_LEASES};
-ghost use Rattle.lease_book.specs.Laws.{AccountIsReadOff, AccountIsOfItsClient, HelloChanges, SettledChanges, SweptChanges, WithoutLosesTheFound, LeasesAreNotAbove};
-ghost use Rattle.lease_book.specs.ClientLaws.{EnteredChanges, LeasesAreTheClients, BooksAreInBounds};
-ghost use Rattle.lease_book.specs.NumberLaws.{SettledForIncarnation, OutcomesStay, LastIsAnOutcome, OutcomesAreEarned, NumbersAreSettledOnce, LeasesWereGranted};
+ghost use Rattle.lease_book.specs.Laws.{AccountIsReadOff, AccountIsOfItsClient, HelloChanges};
+ghost use Rattle.lease_book.specs.Laws.{SettledChanges, SweptChanges, WithoutLosesTheFound};
+ghost use Rattle.lease_book.specs.Laws.{LeasesAreNotAbove};
+ghost use Rattle.lease_book.specs.ClientLaws.{EnteredChanges, LeasesAreTheClients};
+ghost use Rattle.lease_book.specs.ClientLaws.{BooksAreInBounds};
+ghost use Rattle.lease_book.specs.NumberLaws.{SettledForIncarnation, OutcomesStay, LastIsAnOutcome};
+ghost use Rattle.lease_book.specs.NumberLaws.{OutcomesAreEarned, NumbersAreSettledOnce};
+ghost use Rattle.lease_book.specs.NumberLaws.{LeasesWereGranted};
 
 /// The entries that give a book tell all of each client's account, and the account is that
 /// client's.

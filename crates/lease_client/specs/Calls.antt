@@ -1,5 +1,7 @@
 -- What a client's calls come to, by their answers.
-use Rattle.std.specs.Prelude.{◌≡◌, ℕ, ◌+◌, ◌^◌, ◌&&◌, nat_lt, nat_le, Bool, true, false, not, List, [], filter, Option, Some, None, is_some, Result, Ok, Err, if◌then◌else◌}
+use Rattle.std.specs.Prelude.{◌≡◌, ℕ, ◌+◌, ◌^◌, ◌&&◌, nat_lt, nat_le, Bool, true, false, not, List}
+use Rattle.std.specs.Prelude.{[], filter, Option, Some, None, is_some, Result, Ok, Err}
+use Rattle.std.specs.Prelude.{if◌then◌else◌}
 use Rattle.lease_terms.specs.Requests.{RequestId}
 use Rattle.lease_proto.specs.declared.lines.Line.{Line}
 use Rattle.lease_proto.specs.declared.lines.Line.TheVariants as lines
@@ -11,7 +13,8 @@ use Rattle.lease_client.specs.declared.held.HeldSegment.{HeldSegment}
 use Rattle.lease_client.specs.declared.faults.NotGreater.{NotGreater}
 use Rattle.lease_client.specs.declared.faults.Nothing.{Nothing}
 use Rattle.lease_client.specs.declared.faults.SendFault.{SendFault}
-use Rattle.lease_client.specs.declared.faults.SendFault.TheVariants.{NotOpen, Busy, NotHeld, Exhausted, NoMemory}
+use Rattle.lease_client.specs.declared.faults.SendFault.TheVariants.{NotOpen, Busy, NotHeld}
+use Rattle.lease_client.specs.declared.faults.SendFault.TheVariants.{Exhausted, NoMemory}
 use Rattle.lease_client.specs.ClientState.{ClientState, is_at, holds_at}
 
 -- what is written of the line is read as that line

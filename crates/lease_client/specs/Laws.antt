@@ -11,7 +11,8 @@ use Rattle.lease_client.specs.declared.held.HeldSegment.{HeldSegment}
 use Rattle.lease_client.specs.ClientState.{ClientState, IsSound}
 use Rattle.lease_client.specs.Replies.{accepts, got}
 use Rattle.lease_client.specs.Calls.{may_restart, refusal}
-use Rattle.lease_client.specs.Runs.{Move, Restart, Send, Get, TakesMove, Run, IsHeldSince, MayBeSent}
+use Rattle.lease_client.specs.Runs.{Move, Restart, Send, Get, TakesMove, Run, IsHeldSince}
+use Rattle.lease_client.specs.Runs.{MayBeSent}
 
 -- what is true of every client stays so
 abbrev pub MovesKeepSound : Type 0

@@ -1,5 +1,6 @@
 //! The client.
-ghost use Rattle.std.specs.Prelude.{◌≡◌, ◌+◌, ◌≤◌, ◌^◌, ◌<◌, ◌⊎◌, ◌↔◌, max, IfOk, IfSome, IfNone, IsSome, true, false};
+ghost use Rattle.std.specs.Prelude.{◌≡◌, ◌+◌, ◌≤◌, ◌^◌, ◌<◌, ◌⊎◌, ◌↔◌, max, IfOk, IfSome, IfNone};
+ghost use Rattle.std.specs.Prelude.{IsSome, true, false};
 ghost use Rattle.lease_client.specs.Calls.{ReadsBack};
 ghost use Rattle.lease_client.specs.ClientState.{silent, IsSound};
 

@@ -56,7 +56,7 @@ fn holds(held: &[HeldSegment], release: &ReleaseLine) -> bool
 pub(crate) fn prepare(held: &mut Vec<HeldSegment>, op: &Op) -> Result<(), AllocError>
     ensures ok { OnOk result (held.new.items ≡ held_after op.now held.old.items) }
     ensures room { OnOk result (vec_len held.new + room_for op.now ≤ vec_capacity held.new) }
-    ensures lease { OnErr result (WantsMemory op.now) }
+    ensures refused { OnErr result (WantsMemory op.now) }
     ensures unchanged { OnErr result (held.new.items ≡ held.old.items) }
     ensures len { vec_len held.new ≤ vec_len held.old }
     ensures capacity { vec_capacity held.old ≤ vec_capacity held.new }

@@ -1,6 +1,8 @@
 //! Laws of the definitions that contracts cite. Each function does nothing: its contract is the
 //! law. `proofs/LawProofs.antt` hands on what other crates may cite of their proofs.
-ghost use Rattle.lease_client.specs.Laws.{MovesKeepSound, MovesAreInTurn, SentStaysSent, LateRepliesChangeNothing, RepliesCountOnce, HeldChangesOnlySo, HeldIsSinceGrant};
+ghost use Rattle.lease_client.specs.Laws.{MovesKeepSound, MovesAreInTurn, SentStaysSent};
+ghost use Rattle.lease_client.specs.Laws.{LateRepliesChangeNothing, RepliesCountOnce};
+ghost use Rattle.lease_client.specs.Laws.{HeldChangesOnlySo, HeldIsSinceGrant};
 
 /// What is true of every client stays so, and when it may restart and send.
 pub fn move_laws()

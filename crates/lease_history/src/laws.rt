@@ -1,6 +1,8 @@
 //! The laws. Each function does nothing: its contract is the law. `proofs/LawProofs.antt` hands
 //! their proofs on.
-ghost use Rattle.lease_history.specs.Laws.{ClientsBeginKnown, MovesKeepKnown, RepliesKeepKnown, HellosKeepKnown, SweepsKeepKnown, SettlementsKeepKnown, HeldIsLeased, ToldStaysTold, RepliesAgree};
+ghost use Rattle.lease_history.specs.Laws.{ClientsBeginKnown, MovesKeepKnown, RepliesKeepKnown};
+ghost use Rattle.lease_history.specs.Laws.{HellosKeepKnown, SweepsKeepKnown, SettlementsKeepKnown};
+ghost use Rattle.lease_history.specs.Laws.{HeldIsLeased, ToldStaysTold, RepliesAgree};
 
 /// A client that never said hello is known, and what it sends keeps it so.
 pub fn move_laws()

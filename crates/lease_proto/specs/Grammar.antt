@@ -1,5 +1,6 @@
 -- Which bytes are a line, and why others are none.
-use Rattle.std.specs.Prelude.{ℕ, List, [], ◌∷◌, if◌then◌else◌, Option, Some, None, Result, Ok, Err, codes}
+use Rattle.std.specs.Prelude.{ℕ, List, [], ◌∷◌, if◌then◌else◌, Option, Some, None, Result, Ok, Err}
+use Rattle.std.specs.Prelude.{codes}
 use Rattle.std.specs.Str.{bytes_eq}
 use Rattle.lease_terms.specs.declared.values.TheConstants.{LARGEST}
 use Rattle.lease_proto.specs.declared.faults.LineFault.{LineFault}
@@ -7,7 +8,8 @@ use Rattle.lease_proto.specs.declared.faults.LineFault.TheVariants.{BadLine, Wor
 use Rattle.lease_proto.specs.declared.lines.Line.{Line}
 use Rattle.lease_proto.specs.declared.lines.Line.TheVariants as lines
 use Rattle.lease_proto.specs.declared.lines.Op.TheVariants as ops
-use Rattle.lease_proto.specs.Values.{◌>>=◌, words_of, client_in, ordinal_in, quantity_in, id_in, name_in}
+use Rattle.lease_proto.specs.Values.{◌>>=◌, words_of, client_in, ordinal_in, quantity_in, id_in}
+use Rattle.lease_proto.specs.Values.{name_in}
 
 -- a word, and the words after it
 abbrev pub word_at : List (List ℕ) → Result (List ℕ × List (List ℕ)) LineFault

@@ -1,8 +1,10 @@
 -- Which bytes are a reply, and what a reply is written with.
-use Rattle.std.specs.Prelude.{◌↔◌, ◌≡◌, ℕ, true, List, [], ◌∷◌, ◌++◌, if◌then◌else◌, Result, Ok, Err, codes, decimal}
+use Rattle.std.specs.Prelude.{◌↔◌, ◌≡◌, ℕ, true, List, [], ◌∷◌, ◌++◌, if◌then◌else◌, Result, Ok}
+use Rattle.std.specs.Prelude.{Err, codes, decimal}
 use Rattle.std.specs.Str.{bytes_eq}
 use Rattle.lease_terms.specs.declared.refusals.Refusal.{Refusal}
-use Rattle.lease_terms.specs.declared.refusals.Refusal.TheVariants.{NoFit, BadRequest, NoArena, NotYours, Leases}
+use Rattle.lease_terms.specs.declared.refusals.Refusal.TheVariants.{NoFit, BadRequest, NoArena}
+use Rattle.lease_terms.specs.declared.refusals.Refusal.TheVariants.{NotYours, Leases}
 use Rattle.lease_terms.specs.Names.{is_name}
 use Rattle.lease_terms.specs.Ranges.{IsClient, IsOrdinal, IsQuantity}
 use Rattle.lease_terms.specs.Requests.{RequestId, IsRequestId}
@@ -19,7 +21,8 @@ use Rattle.lease_proto.specs.declared.replies.OutOfTurn.{OutOfTurn}
 use Rattle.lease_proto.specs.declared.replies.Again.{Again}
 use Rattle.lease_proto.specs.Faults.{error_word_in, error_word}
 use Rattle.lease_proto.specs.Frames.{IsWholeLine}
-use Rattle.lease_proto.specs.Values.{◌>>=◌, words_of, client_in, ordinal_in, quantity_in, id_in, name_in}
+use Rattle.lease_proto.specs.Values.{◌>>=◌, words_of, client_in, ordinal_in, quantity_in, id_in}
+use Rattle.lease_proto.specs.Values.{name_in}
 use Rattle.lease_proto.specs.Grammar.{word_at, end_at, id_at}
 use Rattle.lease_proto.specs.Texts.{id_words, sentence}
 

@@ -1,5 +1,6 @@
 -- The words that a line is written with.
-use Rattle.std.specs.Prelude.{◌⊎◌, ◌↔◌, ◌≡◌, ◌==◌, ℕ, List, [], ◌∷◌, ◌++◌, if◌then◌else◌, Ok, codes, decimal, true}
+use Rattle.std.specs.Prelude.{◌⊎◌, ◌↔◌, ◌≡◌, ◌==◌, ℕ, List, [], ◌∷◌, ◌++◌, if◌then◌else◌, Ok, codes}
+use Rattle.std.specs.Prelude.{decimal, true}
 use Rattle.std.specs.List.{flat_map}
 use Rattle.lease_terms.specs.declared.values.TheConstants.{LARGEST}
 use Rattle.lease_terms.specs.Names.{is_name}

@@ -1,5 +1,6 @@
 -- What the words of a line stand for.
-use Rattle.std.specs.Prelude.{◌&&◌, ℕ, nat_le, nat_lt, List, length, if◌then◌else◌, Option, Some, None, Result, Ok, Err}
+use Rattle.std.specs.Prelude.{◌&&◌, ℕ, nat_le, nat_lt, List, length, if◌then◌else◌, Option, Some}
+use Rattle.std.specs.Prelude.{None, Result, Ok, Err}
 use Rattle.lease_terms.specs.declared.values.TheConstants.{LARGEST, LAST_CLIENT}
 use Rattle.lease_terms.specs.Requests.{RequestId}
 use Rattle.lease_terms.specs.Names.{is_name}

@@ -1,9 +1,11 @@
 //! Lines out of a stream of bytes that comes in any pieces.
-ghost use Rattle.std.specs.Prelude.{◌≡◌, ◌≤◌, ◌<◌, ℕ, List, [], ◌∷◌, ◌++◌, length, take, true, false};
+ghost use Rattle.std.specs.Prelude.{◌≡◌, ◌≤◌, ◌<◌, ℕ, List, [], ◌∷◌, ◌++◌, length, take, true};
+ghost use Rattle.std.specs.Prelude.{false};
 ghost use Rattle.std.specs.Prelude.{if◌then◌else◌, IfSome, IfNone};
 ghost use Rattle.lease_proto.specs.declared.limits.TheConstants.{LINE_ROOM};
 ghost use Rattle.lease_proto.specs.Frames.{LineReaderState, IsOneLine, ended, frame_of, last_of};
-ghost use Rattle.lease_proto.specs.Frames.{frames_in, rest_in, frame_view, faults_of, FramesAreLines};
+ghost use Rattle.lease_proto.specs.Frames.{frames_in, rest_in, frame_view, faults_of};
+ghost use Rattle.lease_proto.specs.Frames.{FramesAreLines};
 ghost use Rattle.lease_proto.specs.Frames.{InputIsLines, PiecesAreOne, FrontIsEnough, TextGoesOn};
 ghost use Rattle.lease_proto.specs.Frames.{TextEndsNoLine, LineFeedEndsLine, NoPlaceIsLineFeed};
 

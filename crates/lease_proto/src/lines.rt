@@ -1,11 +1,14 @@
 //! The lines of a client.
-ghost use Rattle.std.specs.Prelude.{◌≡◌, ◌++◌, IsOk, OnOk, OnErr, [], ◌∷◌, ◌+◌, ◌*◌, ◌≤◌, ℕ, List, Some, vec_len};
+ghost use Rattle.std.specs.Prelude.{◌≡◌, ◌++◌, IsOk, OnOk, OnErr, [], ◌∷◌, ◌+◌, ◌*◌, ◌≤◌, ℕ, List};
+ghost use Rattle.std.specs.Prelude.{Some, vec_len};
 ghost use Rattle.lease_proto.specs.Frames.{ended};
 ghost use Rattle.lease_proto.specs.Grammar.{line_of, line_of_first, hello_in, lease_in, release_in};
 ghost use Rattle.lease_proto.specs.Requests.{client_of, incarnation_of, request_of, op_of};
 ghost use Rattle.lease_proto.specs.declared.lines.TheConstants.{OPTIONS_ROOM};
 ghost use Rattle.lease_proto.specs.declared.writing.TheConstants.{NUMBER_ROOM, NAME_ROOM};
-ghost use Rattle.lease_proto.specs.Texts.{text_of, first_word, op_word, hello_words, lease_words, options_words, release_words, spaced, LinesAreTexts, LineIsRead, WrittenLineIsWhole, AreOptions, IsOp, IsLine};
+ghost use Rattle.lease_proto.specs.Texts.{text_of, first_word, op_word, hello_words, lease_words};
+ghost use Rattle.lease_proto.specs.Texts.{options_words, release_words, spaced, LinesAreTexts};
+ghost use Rattle.lease_proto.specs.Texts.{LineIsRead, WrittenLineIsWhole, AreOptions, IsOp, IsLine};
 ghost use Rattle.std.specs.List.{flat_map};
 ghost use Rattle.std.specs.Vec.{vec_capacity};
 ghost use Rattle.lease_proto.specs.declared.limits.TheConstants.{LINE_ROOM};

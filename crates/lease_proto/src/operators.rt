@@ -1,6 +1,7 @@
 //! The lines of an operator, and what may be served after a setup.
 ghost use Rattle.std.specs.Prelude.{◌≡◌};
-ghost use Rattle.lease_proto.specs.Operators.{served_in, served_of, operator_text, ClientsAreServed, OperatorsAreServed};
+ghost use Rattle.lease_proto.specs.Operators.{served_in, served_of, operator_text};
+ghost use Rattle.lease_proto.specs.Operators.{ClientsAreServed, OperatorsAreServed};
 
 use crate::faults::LineFault;
 use crate::lines::Line;

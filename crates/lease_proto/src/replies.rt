@@ -1,8 +1,16 @@
 //! The replies to a client's lines.
-ghost use Rattle.std.specs.Prelude.{◌≡◌, ◌++◌, IsOk, OnOk, OnErr, ◌∷◌, ◌+◌, ◌*◌, ◌≤◌, ℕ, List, vec_len, length};
+ghost use Rattle.std.specs.Prelude.{◌≡◌, ◌++◌, IsOk, OnOk, OnErr, ◌∷◌, ◌+◌, ◌*◌, ◌≤◌, ℕ, List};
+ghost use Rattle.std.specs.Prelude.{vec_len, length};
 ghost use Rattle.lease_proto.specs.Frames.{ended};
-ghost use Rattle.lease_proto.specs.Replies.{reply_of, reply_text, first_reply_word, welcome_in, granted_in, released_in, refused_in, old_in, out_of_turn_in, again_in, error_in, welcome_words, granted_words, refused_words, old_words, out_of_turn_words, again_words, refusal_in, refusal_word, IsReply, RepliesAreTexts, WrittenReplyIsWhole};
-ghost use Rattle.lease_proto.specs.Requests.{client_named, incarnation_named, request_named, again_request};
+ghost use Rattle.lease_proto.specs.Replies.{reply_of, reply_text, first_reply_word, welcome_in};
+ghost use Rattle.lease_proto.specs.Replies.{granted_in, released_in, refused_in, old_in};
+ghost use Rattle.lease_proto.specs.Replies.{out_of_turn_in, again_in, error_in, welcome_words};
+ghost use Rattle.lease_proto.specs.Replies.{granted_words, refused_words, old_words};
+ghost use Rattle.lease_proto.specs.Replies.{out_of_turn_words, again_words, refusal_in};
+ghost use Rattle.lease_proto.specs.Replies.{refusal_word, IsReply, RepliesAreTexts};
+ghost use Rattle.lease_proto.specs.Replies.{WrittenReplyIsWhole};
+ghost use Rattle.lease_proto.specs.Requests.{client_named, incarnation_named, request_named};
+ghost use Rattle.lease_proto.specs.Requests.{again_request};
 ghost use Rattle.std.specs.Vec.{vec_capacity};
 ghost use Rattle.lease_proto.specs.declared.limits.TheConstants.{LINE_ROOM};
 ghost use Rattle.lease_proto.specs.declared.writing.TheConstants.{NUMBER_ROOM, ID_ROOM, NAME_ROOM};

@@ -1,7 +1,8 @@
 //! What an operator's lines are answered.
 ghost use Rattle.std.specs.Prelude.{◌≡◌, ◌++◌, OnOk, OnErr};
 ghost use Rattle.std.specs.Io.{StartsWith};
-ghost use Rattle.lease_proto.specs.Reports.{audit_text, sums_text, kept_text, given_text, client_text};
+ghost use Rattle.lease_proto.specs.Reports.{audit_text, sums_text, kept_text, given_text};
+ghost use Rattle.lease_proto.specs.Reports.{client_text};
 
 use lease_terms::{ClientId, Name, Ordinal, Quantity};
 use std::alloc::AllocError;

@@ -1,6 +1,7 @@
 //! The lines of a setup: which arenas there are.
 ghost use Rattle.std.specs.Prelude.{◌≡◌};
-ghost use Rattle.lease_proto.specs.SetupLines.{policy_in, root_in, child_in, span_in, setup_in, setup_of};
+ghost use Rattle.lease_proto.specs.SetupLines.{policy_in, root_in, child_in, span_in, setup_in};
+ghost use Rattle.lease_proto.specs.SetupLines.{setup_of};
 ghost use Rattle.lease_proto.specs.SetupLines as spec;
 
 use crate::faults::LineFault;

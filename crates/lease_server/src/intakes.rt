@@ -147,12 +147,12 @@ fn hold_rest(framing: &mut LineReader, buffer: &[u8], start: usize, end: usize)
     requires part { (start ≤ end) × (end ≤ length buffer.now) }
     requires unended { (hand_of framing.old (take (end - start) (drop start buffer.now))).whole
         ≡ false }
-    requires kept { length framing.old.line ≤ LINE_ROOM }
+    requires short { length framing.old.line ≤ LINE_ROOM }
     ensures held { framing.new ≡ record {
       line = (hand_of framing.old (take (end - start) (drop start buffer.now))).line;
       whole = false;
     } }
-    ensures kept { length framing.new.line ≤ LINE_ROOM }
+    ensures short { length framing.new.line ≤ LINE_ROOM }
 {
     if start < end {
         framing.feed(&buffer[start..end]);
@@ -162,11 +162,11 @@ fn hold_rest(framing: &mut LineReader, buffer: &[u8], start: usize, end: usize)
 /// Puts a line begun together with its end, and says how much of what was read is used up.
 fn go_on(framing: &mut LineReader, piece: &[u8]) -> usize
     requires begun { framing.old.whole ≡ false }
-    requires kept { length framing.old.line ≤ LINE_ROOM }
+    requires short { length framing.old.line ≤ LINE_ROOM }
     ensures within { result ≤ length piece.now }
     ensures hand { hand_of framing.new (drop result piece.now)
         ≡ hand_in framing.old.line piece.now }
-    ensures kept { length framing.new.line ≤ LINE_ROOM }
+    ensures short { length framing.new.line ≤ LINE_ROOM }
     ensures used { (framing.new.line ≡ []) ⊎ (framing.new.whole ≡ true)
         ⊎ (result ≡ length piece.now) }
 {

@@ -28,7 +28,8 @@ impl Model for Name {
 
     ghost Value = { List ℕ };
 
-    ghost use Rattle.lease_terms.specs.Padding.{name_text, IsPadded, inside_of, inside_of-name_text};
+    ghost use Rattle.lease_terms.specs.Padding.{name_text, IsPadded, inside_of};
+    ghost use Rattle.lease_terms.specs.Padding.{inside_of-name_text};
 
     ghost view = { name_text };
 

@@ -75,7 +75,7 @@ impl Deed for RefusingDeed {
             ≡ low at (⟦<RefusingDeed as Deed>⟧.holding self))
             × (⟦<RefusingDeed as Deed>⟧.holding parts.1
             ≡ high at (⟦<RefusingDeed as Deed>⟧.holding self))) }
-        ensures err { IfErr result (λ refused.
+        ensures handed_back { IfErr result (λ refused.
             ⟦<RefusingDeed as Deed>⟧.holding refused.deed ≡ ⟦<RefusingDeed as Deed>⟧.holding self) }
         ensures refused { IsErr result ↔ (self.splits_left ≡ Some 0) }
         ensures counted { IfOk result (λ parts.

@@ -110,6 +110,12 @@ IsChunkOf c t = IsSegmentOf c.arena (Cached c.k) (chunk_of c) c.quantum t
 abbrev pub IsSpanOf : SlabCacheState → Tag → Type 0
 IsSpanOf c t = IsSegmentOf c.arena Direct c.slab_size c.quantum t
 
+-- a span that a slab may be cut from: its arena's, by no cache, and on the quantum's grid
+pub record IsSpanFor (c : SlabCacheState) (t : Tag) : Type 0 where
+  pub arena : t.arena ≡ c.arena
+  pub route : t.route ≡ Direct
+  pub grid : t.holding.range.base % c.quantum ≡ 0
+
 -- a ends where b begins, or before
 abbrev pub IsBelow : SlabState → SlabState → Type 0
 IsBelow a b = end_of a.span.range ≤ b.span.range.base

@@ -26,6 +26,7 @@ ghost use Rattle.deed_core.specs.Weights.{Gains, Loses, WeighSame};
 ghost use Rattle.slab_layer.specs.Cache.{
   IsSound,
   IsChunkOf,
+  IsSpanFor,
   IsSpanOf,
   chunk_of,
   next_colour as next_colour_of,
@@ -154,7 +155,7 @@ impl<D: Deed> SlabCache<D> {
         // out and no longer here.
         ensures chunk { IfSome result (λ t. IsChunkOf self.old t) }
         ensures out { IfSome result (λ t. Gains (chunks_out self.old) (chunks_out self.new) t) }
-        ensures kept { IfSome result (λ t.
+        ensures deeds { IfSome result (λ t.
             Loses (deeds_of self.old) (deeds_of self.new) t.holding) }
         ensures spans { span_tags self.new ≡ span_tags self.old }
     {
@@ -175,7 +176,7 @@ impl<D: Deed> SlabCache<D> {
         // here and no longer out.
         ensures mine { IsOk result ↔ Contains (chunks_out self.old) segment }
         ensures out { OnOk result (Loses (chunks_out self.old) (chunks_out self.new) segment) }
-        ensures kept { OnOk result (Gains (deeds_of self.old) (deeds_of self.new) segment.holding) }
+        ensures deeds { OnOk result (Gains (deeds_of self.old) (deeds_of self.new) segment.holding) }
         ensures spans { span_tags self.new ≡ span_tags self.old }
     {
         if !self.is_routed_here(&segment) {
@@ -198,9 +199,7 @@ impl<D: Deed> SlabCache<D> {
     /// no chunk, and then begin again ("The Slab Allocator", 1994). A span that is refused comes
     /// back whole.
     pub fn add(&mut self, span: Segment<D>) -> Result<Segment<D>, AddFault<Segment<D>>>
-        requires arena { span.arena ≡ self.old.arena }
-        requires route { span.route ≡ Route.Direct }
-        requires grid { span.holding.range.base % self.old.quantum ≡ 0 }
+        requires span { IsSpanFor self.old span }
 
         // What it does.
         ensures added { AddOf self.old span result self.new }
@@ -211,7 +210,7 @@ impl<D: Deed> SlabCache<D> {
         // out and that each other unit of the span is kept.
         ensures chunk { IfOk result (λ t. IsChunkOf self.old t) }
         ensures out { IfOk result (λ t. Gains (chunks_out self.old) (chunks_out self.new) t) }
-        ensures kept { IfOk result (λ t. (u : ℕ)
+        ensures deeds { IfOk result (λ t. (u : ℕ)
             → covering_held u (deeds_of self.old) + covers_tag u span
             ≡ covering_held u (deeds_of self.new) + covers_tag u t) }
         ensures spans { OnOk result (Gains (span_tags self.old) (span_tags self.new) span) }
@@ -290,7 +289,7 @@ impl<D: Deed> SlabCache<D> {
         // and no chunk of it was out.
         ensures span { IfSome result (λ t. IsSpanOf self.old t) }
         ensures out { WeighSame (chunks_out self.old) (chunks_out self.new) }
-        ensures kept { IfSome result (λ t. (u : ℕ)
+        ensures deeds { IfSome result (λ t. (u : ℕ)
             → covering_held u (deeds_of self.old)
             ≡ covering_held u (deeds_of self.new) + covers_tag u t) }
         ensures spans { IfSome result (λ t. Loses (span_tags self.old) (span_tags self.new) t) }
@@ -305,7 +304,7 @@ impl<D: Deed> SlabCache<D> {
         ensures idle { result.idle ≡ units_held (idle_deeds self.now) }
         ensures gap { result.gap ≡ units_held (gaps self.now) }
         ensures tail { result.tail ≡ units_held (tails self.now) }
-        ensures kept { result.idle + result.gap + result.tail ≡ units_held (deeds_of self.now) }
+        ensures deeds { result.idle + result.gap + result.tail ≡ units_held (deeds_of self.now) }
 
         // Each unit of a slab is in one chunk, at home or out, in the gap or in the tail.
         ensures once { (u : ℕ) → covering_tags u (span_tags self.now) ≤ 1 }

@@ -12,7 +12,7 @@ pub(crate) type Cut<D> = (Option<Stored<D>>, Option<Stored<D>>);
 pub(crate) fn cut<D: Deed>(part: Option<Stored<D>>, len: u64) -> Result<Cut<D>, Option<Stored<D>>>
     ensures ok { IfOk result (λ parts. (parts.0 ≡ front_of len part)
         × (parts.1 ≡ back_of len part)) }
-    ensures err { IfErr result (λ same. same ≡ part) }
+    ensures handed_back { IfErr result (λ same. same ≡ part) }
 {
     let Some(deed) = part else {
         return Ok((None, None));

@@ -104,8 +104,8 @@ pub(crate) fn chop<D: Deed>(
     ensures row { OnOk result (row.new.items
         ≡ stored_row (λ i. piece whole.root (whole.range.base + i * chunk) chunk) 0
         (replicate count true)) }
-    ensures err { IfErr result (λ same. same ≡ whole) }
-    ensures err_row { OnErr result (row.new.items ≡ []) }
+    ensures handed_back { IfErr result (λ same. same ≡ whole) }
+    ensures emptied { OnErr result (row.new.items ≡ []) }
 {
     // For its clause: the deed has a unit.
     let _ = whole.range();

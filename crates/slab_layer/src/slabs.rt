@@ -88,7 +88,7 @@ impl<D: Deed> Slab<D> {
         requires chunks { 0 < deed.range.len / chunk }
         requires room { colour + deed.range.len / chunk * chunk ≤ deed.range.len }
         ensures ok { IfOk result (λ slab. slab ≡ new_slab deed colour chunk) }
-        ensures err { IfErr result (λ same. same ≡ deed) }
+        ensures handed_back { IfErr result (λ same. same ≡ deed) }
     {
         let root = deed.root();
         let span = deed.range();

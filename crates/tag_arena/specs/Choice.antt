@@ -1,5 +1,6 @@
 -- What a policy chooses among the free ranges, which stand from the oldest to the newest.
-use Rattle.std.specs.Prelude.{◌≡◌, ℕ, ◌+◌, ◌*◌, ◌^◌, ◌<◌, ◌≤◌, ◌⊎◌, List, Contains, HoldsAt, Option, Some, None, length, MatchOption}
+use Rattle.std.specs.Prelude.{◌≡◌, ℕ, ◌+◌, ◌*◌, ◌^◌, ◌<◌, ◌≤◌, ◌⊎◌, List, Contains, HoldsAt, Option}
+use Rattle.std.specs.Prelude.{Some, None, length, MatchOption}
 use Rattle.std.specs.List.{AllWithin}
 use Rattle.deed_core.specs.Holding.{Holding}
 use Rattle.deed_core.specs.Request.{IsPlain, rounded}

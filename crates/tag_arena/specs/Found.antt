@@ -1,5 +1,6 @@
 -- What a scan of the free ranges has found.
-use Rattle.std.specs.Prelude.{◌≡◌, ℕ, ◌+◌, ◌<◌, ◌≤◌, List, HoldsAt, Contains, length, Option, Some, None}
+use Rattle.std.specs.Prelude.{◌≡◌, ℕ, ◌+◌, ◌<◌, ◌≤◌, List, HoldsAt, Contains, length, Option, Some}
+use Rattle.std.specs.Prelude.{None}
 use Rattle.std.specs.List.{AllWithin}
 use Rattle.deed_core.specs.Extent.{end_of}
 use Rattle.deed_core.specs.Holding.{Holding}

@@ -1,5 +1,6 @@
 -- What follows from the definitions, for the proofs of the layers above.
-use Rattle.std.specs.Prelude.{◌≡◌, ℕ, ◌<◌, ◌≤◌, ◌↔◌, ◌⊎◌, List, [], Contains, Option, Some, None, Result, Ok, Err, IsOk, sum_by}
+use Rattle.std.specs.Prelude.{◌≡◌, ℕ, ◌<◌, ◌≤◌, ◌↔◌, ◌⊎◌, List, [], Contains, Option, Some, None}
+use Rattle.std.specs.Prelude.{Result, Ok, Err, IsOk, sum_by}
 use Rattle.deed_core.specs.Holding.{Holding}
 use Rattle.deed_core.specs.Tag.{Tag}
 use Rattle.deed_core.specs.Covering.{covering_held}
@@ -12,7 +13,8 @@ use Rattle.tag_arena.specs.declared.policies.Policy.{Policy}
 use Rattle.tag_arena.specs.Place.{Serves}
 use Rattle.tag_arena.specs.Choice.{IsBestChoice, IsNextChoice, IsInstantChoice, IsChoice}
 use Rattle.tag_arena.specs.Layout.{FreeIsLongestRuns}
-use Rattle.tag_arena.specs.ArenaState.{ArenaState, spans_of, layout_of, ranges_of, tags_of, direct, IsChosen, IsSound}
+use Rattle.tag_arena.specs.ArenaState.{ArenaState, spans_of, layout_of, ranges_of, tags_of, direct}
+use Rattle.tag_arena.specs.ArenaState.{IsChosen, IsSound}
 use Rattle.tag_arena.specs.Calls.{IsTagged}
 use Rattle.tag_arena.specs.Outcomes.{CarveOf}
 

@@ -1,5 +1,6 @@
 -- Taking a free neighbor of a range out of the list of free ranges.
-use Rattle.std.specs.Prelude.{◌≡◌, ◌≢◌, ℕ, ◌<◌, ◌⊎◌, List, All, HoldsAt, Option, Some, None, length, remove}
+use Rattle.std.specs.Prelude.{◌≡◌, ◌≢◌, ℕ, ◌<◌, ◌⊎◌, List, All, HoldsAt, Option, Some, None, length}
+use Rattle.std.specs.Prelude.{remove}
 use Rattle.deed_core.specs.Extent.{end_of}
 use Rattle.std.specs.Option.{option_map_or}
 use Rattle.deed_core.specs.Holding.{Holding, Apart}

@@ -1,17 +1,21 @@
 -- What each call comes to, by cases on its answer: the words for "this happened" of the layers
 -- above.
 -- A fault that a call never gives has no case that can be met.
-use Rattle.std.specs.Prelude.{◌≡◌, All, Contains, Option, Some, None, Result, Ok, Err, IfSome}
+use Rattle.std.specs.Prelude.{◌≡◌, ◌+◌, ◌≤◌, ℕ, All, Contains, Option, Some, None, Result, Ok, Err}
+use Rattle.std.specs.Prelude.{IfSome}
+use Rattle.deed_core.specs.Covering.{covers, covers_tag, covering_held}
 use Rattle.deed_core.specs.Extent.{IsRange}
 use Rattle.deed_core.specs.Holding.{Holding}
 use Rattle.deed_core.specs.Tag.{Tag}
-use Rattle.deed_core.specs.Request.{Fits, IsGood}
+use Rattle.deed_core.specs.Request.{Fits, IsGood, IsPlain, rounded}
 use Rattle.deed_core.specs.declared.requests.Request.{Request}
 use Rattle.deed_core.specs.declared.segments.Route.TheVariants.{Direct}
 use Rattle.tag_arena.specs.declared.faults.ArenaFault.{ArenaFault}
 use Rattle.tag_arena.specs.declared.faults.SpanFault.{SpanFault}
-use Rattle.tag_arena.specs.ArenaState.{ArenaState, IsChosen, OnQuantum, direct}
-use Rattle.tag_arena.specs.Calls.{Carves, RefusesCarve, IsClear, RefusesSpan, after_add, after_import_carve, first_of, IsTagged, Frees, IsLowestWhole, after_remove}
+use Rattle.tag_arena.specs.ArenaState.{ArenaState, IsChosen, OnQuantum, direct, spans_of}
+use Rattle.tag_arena.specs.Calls.{Carves, RefusesCarve, IsClear, RefusesSpan, IsTagged, Frees}
+use Rattle.tag_arena.specs.Calls.{IsLowestWhole, after_add, after_import_carve, after_remove}
+use Rattle.tag_arena.specs.Calls.{first_of}
 
 -- the arena is still what it was made as
 pub record KeepsSetup (old new : ArenaState) : Type 0 where
@@ -40,6 +44,14 @@ abbrev pub CarveOf : ArenaState → Request → Result Tag ArenaFault → ArenaS
 CarveOf old q (Ok t) new = Carved old q t new
 CarveOf old q (Err fault) new = RefusesCarve old q fault × (new ≡ old)
 
+-- a span that an arena of this quantum may import for the request: it was carved from its source
+-- by no cache, and has room for what an unconstrained request asks for
+pub record IsImportFor (quantum : ℕ) (span : Tag) (q : Request) : Type 0 where
+  pub route : span.route ≡ Direct
+  pub good : IsGood quantum q
+  pub plain : IsPlain q
+  pub room : rounded quantum q.size ≤ span.holding.range.len
+
 -- the span was imported, and the segment has its first units, as many as the request asks for
 pub record Imported (old : ArenaState) (span : Tag) (q : Request) (t : Tag)
     (new : ArenaState) : Type 0 where
@@ -53,6 +65,14 @@ pub record Imported (old : ArenaState) (span : Tag) (q : Request) (t : Tag)
 abbrev pub ImportOf : ArenaState → Tag → Request → Result Tag (SpanFault Tag) → ArenaState → Type 0
 ImportOf old span q (Ok t) new = Imported old span q t new
 ImportOf old span q (Err fault) new = RefusesSpan old span.holding.range span fault × (new ≡ old)
+
+-- the span's units but the segment's became free, and the arena's spans have the span's more
+pub record ImportCovers (old : ArenaState) (span : Tag) (new : ArenaState) (t : Tag)
+    : Type 0 where
+  pub free : (u : ℕ) → covering_held u new.free + covers u t.holding.range
+      ≡ covering_held u old.free + covers u span.holding.range
+  pub spans : (u : ℕ) → covering_held u (spans_of new)
+      ≡ covering_held u (spans_of old) + covers_tag u span
 
 -- the segment was freed; the imported span that became wholly free, if one did, goes back to
 -- its source

@@ -1,5 +1,7 @@
 //! The arena.
-ghost use Rattle.std.specs.Prelude.{◌≡◌, ◌+◌, ◌%◌, ◌≤◌, ◌↔◌, ◌<◌, [], ℕ, vec_len, vec_capacity, IsTrue, IsOk, IfOk, IfErr, IfSome, OnOk, OnErr, Some, option_to_list, sum_by};
+ghost use Rattle.std.specs.Prelude.{◌≡◌, ◌+◌, ◌%◌, ◌≤◌, ◌↔◌, ◌<◌, [], ℕ, vec_len, vec_capacity};
+ghost use Rattle.std.specs.Prelude.{IsTrue, IsOk, IfOk, IfErr, IfSome, OnOk, OnErr, Some};
+ghost use Rattle.std.specs.Prelude.{option_to_list, sum_by};
 ghost use Rattle.std.specs.Bool.{OnTrue, OnFalse};
 ghost use Rattle.std.specs.Int.{IsPowerOfTwo};
 ghost use Rattle.std.specs.Option.{option_map};
@@ -8,12 +10,14 @@ ghost use Rattle.deed_core.specs.Extent.{IsRange};
 ghost use Rattle.deed_core.specs.Covering.{covers, covers_tag, covering_held, units_held};
 ghost use Rattle.deed_core.specs.Tag.{Tag};
 ghost use Rattle.deed_core.specs.Weights.{Gains, Loses};
-ghost use Rattle.deed_core.specs.Request.{IsGood, IsPlain, rounded};
 ghost use Rattle.tag_arena.specs.Layout.{FreeIsLongestRuns};
-ghost use Rattle.tag_arena.specs.ArenaState.{spans_of, layout_of, ranges_of, tags_of, direct, IsChosen, IsSound, OnQuantum, empty_arena};
-ghost use Rattle.tag_arena.specs.Calls.{part, after_carve, RefusesCarve, IsClear, OverlapsSpan, after_import, first_units, IsTagged};
+ghost use Rattle.tag_arena.specs.ArenaState.{spans_of, layout_of, ranges_of, tags_of, direct};
+ghost use Rattle.tag_arena.specs.ArenaState.{IsChosen, IsSound, OnQuantum, empty_arena};
+ghost use Rattle.tag_arena.specs.Calls.{part, after_carve, RefusesCarve, IsClear, OverlapsSpan};
+ghost use Rattle.tag_arena.specs.Calls.{after_import, first_units, IsTagged};
 ghost use Rattle.tag_arena.specs.Found.{IsCuttable, IsPlaced};
-ghost use Rattle.tag_arena.specs.Outcomes.{KeepsSetup, AddSpanOf, CarveOf, ImportOf, FreeOf, RemoveOf};
+ghost use Rattle.tag_arena.specs.Outcomes.{KeepsSetup, AddSpanOf, CarveOf, IsImportFor, ImportOf};
+ghost use Rattle.tag_arena.specs.Outcomes.{ImportCovers, FreeOf, RemoveOf};
 
 use crate::choices::{Found, chosen};
 use crate::cuts::{carve, cut_first, push_rest};
@@ -159,7 +163,7 @@ impl<D: Deed> Arena<D> {
     /// Ends the arena where it holds no deed.
     pub fn close(self) -> Result<(), Arena<D>>
         ensures empty { IsOk result ↔ (self.free ≡ []) }
-        ensures same { IfErr result (λ same. same ≡ self) }
+        ensures handed_back { IfErr result (λ same. same ≡ self) }
     {
         if !self.free.is_empty() {
             return Err(self);
@@ -270,7 +274,7 @@ impl<D: Deed> Arena<D> {
         ensures carved { let piece = part found.range found.base len in
             OnOk result (self.new ≡ after_carve self.old found.range piece) }
         ensures range { IfOk result (λ s. IsRange s.holding.range) }
-        ensures err { OnErr result (self.new ≡ self.old) }
+        ensures unchanged { OnErr result (self.new ≡ self.old) }
     {
         // Room for both rests, of which one takes the place of the range, and for the piece.
         reserve_free(&mut self.free, &self.tags, 2)?;
@@ -291,10 +295,7 @@ impl<D: Deed> Arena<D> {
         span: Segment<D>,
         request: &Request,
     ) -> Result<Segment<D>, SpanFault<Segment<D>>>
-        requires route { span.route ≡ Route.Direct }
-        requires good { IsGood self.old.quantum request.now }
-        requires plain { IsPlain request.now }
-        requires room { rounded self.old.quantum request.now.size ≤ span.holding.range.len }
+        requires span { IsImportFor self.old.quantum span request.now }
 
         // What it does.
         ensures carved { ImportOf self.old span request.now result self.new }
@@ -305,11 +306,7 @@ impl<D: Deed> Arena<D> {
         ensures owned { self.new.owned ≡ self.old.owned }
         ensures imported { OnOk result (Gains self.old.imported self.new.imported span) }
         ensures gains { IfOk result (Gains (tags_of self.old) (tags_of self.new)) }
-        ensures covering { IfOk result (λ s.
-            (u : ℕ) → covering_held u self.new.free + covers u s.holding.range
-            ≡ covering_held u self.old.free + covers u span.holding.range) }
-        ensures spans { OnOk result ((u : ℕ) → covering_held u (spans_of self.new)
-            ≡ covering_held u (spans_of self.old) + covers_tag u span) }
+        ensures covering { IfOk result (ImportCovers self.old span self.new) }
     {
         let range = span.range();
         if self.has_overlap(&range) {
@@ -337,7 +334,8 @@ impl<D: Deed> Arena<D> {
         ensures carved { let first = first_units len span.holding in
             OnOk result (self.new ≡ after_carve (after_import self.old span) span.holding first) }
         ensures range { IfOk result (λ s. IsRange s.holding.range) }
-        ensures err { IfErr result (λ same. (same ≡ span) × (self.new ≡ self.old)) }
+        ensures handed_back { IfErr result (λ same. same ≡ span) }
+        ensures unchanged { OnErr result (self.new ≡ self.old) }
     {
         let Ok(()) = self.imported.reserve(1) else {
             return Err(span);

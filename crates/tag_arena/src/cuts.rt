@@ -1,5 +1,6 @@
 //! Cuts of a free range.
-ghost use Rattle.std.specs.Prelude.{◌≡◌, ◌+◌, ◌-◌, ◌<◌, ◌≤◌, ◌++◌, HoldsAt, IfOk, IfErr, OnErr, IfNone, IfSome, vec_len, vec_capacity, remove, option_to_list};
+ghost use Rattle.std.specs.Prelude.{◌≡◌, ◌+◌, ◌-◌, ◌<◌, ◌≤◌, ◌++◌, HoldsAt, IfOk, IfErr, OnErr};
+ghost use Rattle.std.specs.Prelude.{IfNone, IfSome, vec_len, vec_capacity, remove, option_to_list};
 ghost use Rattle.deed_core.specs.Extent.{end_of};
 ghost use Rattle.deed_core.specs.Holding.{joined, GoesOn};
 ghost use Rattle.tag_arena.specs.Calls.{part, between, rests};
@@ -28,7 +29,7 @@ fn cut_low<D: Deed>(
     ensures joins { IfOk result (λ parts. IfSome parts.0 (λ low.
         GoesOn low parts.1 × (joined low parts.1 ≡ whole))) }
     ensures alone { IfOk result (λ parts. IfNone parts.0 (parts.1 ≡ whole)) }
-    ensures err { IfErr result (λ same. same ≡ whole) }
+    ensures handed_back { IfErr result (λ same. same ≡ whole) }
 {
     if whole.range().base() == base {
         return Ok((None, whole));
@@ -50,7 +51,7 @@ fn cut_high<D: Deed>(
         parts.0 ≡ part whole whole.range.base (end - whole.range.base)) }
     ensures high { IfOk result (λ parts.
         option_to_list parts.1 ≡ between whole end (end_of whole.range)) }
-    ensures err { IfErr result (λ same. same ≡ whole) }
+    ensures handed_back { IfErr result (λ same. same ≡ whole) }
 {
     if whole.range().end() == end {
         return Ok((whole, None));
@@ -83,7 +84,7 @@ fn cut_out<D: Deed>(whole: Stored<D>, base: u64, end: u64) -> Result<Cut<D>, Sto
         option_to_list parts.low ≡ between whole whole.range.base base) }
     ensures high { IfOk result (λ parts.
         option_to_list parts.high ≡ between whole end (end_of whole.range)) }
-    ensures err { IfErr result (λ same. same ≡ whole) }
+    ensures handed_back { IfErr result (λ same. same ≡ whole) }
 {
     let (low, rest) = match cut_low(whole, base) {
         Ok(parts) => parts,
@@ -126,7 +127,7 @@ pub fn carve<D: Deed>(
     ensures piece { IfOk result (λ piece. piece ≡ part range base len) }
     ensures items { IfOk result (λ piece.
         free.new.items ≡ remove free.old.items at ++ rests range piece) }
-    ensures err { OnErr result (free.new.items ≡ free.old.items) }
+    ensures unchanged { OnErr result (free.new.items ≡ free.old.items) }
     ensures len { vec_len free.new ≤ vec_len free.old + 1 }
     ensures capacity { vec_capacity free.new ≡ vec_capacity free.old }
 {
@@ -156,7 +157,7 @@ pub fn cut_first<D: Deed>(
         parts.0 ≡ part segment.holding segment.holding.range.base len) }
     ensures high { let whole = segment.holding in IfOk result (λ parts.
         option_to_list parts.1 ≡ between whole (whole.range.base + len) (end_of whole.range)) }
-    ensures err { IfErr result (λ same. same ≡ segment) }
+    ensures handed_back { IfErr result (λ same. same ≡ segment) }
 {
     let (arena, route, range) = (segment.arena(), segment.route(), segment.range());
     let _ = range.end();

@@ -1,6 +1,8 @@
 //! Laws of the definitions, for the proofs of the layers above. The functions do nothing: their
 //! contracts are the laws, and proofs/LawProofs.antt hands them on.
-ghost use Rattle.tag_arena.specs.Laws.{BestIsOne, NextIsOne, InstantIsOne, CarveIsOne, NoneServes, ChoiceServes, CarvesExactly, FreeAreLongestRuns, SpansOnce, TagsWeigh, AllocatedStand, AllocatedCount, GoesEmpty};
+ghost use Rattle.tag_arena.specs.Laws.{BestIsOne, NextIsOne, InstantIsOne, CarveIsOne, NoneServes};
+ghost use Rattle.tag_arena.specs.Laws.{ChoiceServes, CarvesExactly, FreeAreLongestRuns, SpansOnce};
+ghost use Rattle.tag_arena.specs.Laws.{TagsWeigh, AllocatedStand, AllocatedCount, GoesEmpty};
 
 /// Two choices by one rule are the same: a relation that names a choice is as good as a function.
 /// So which segment is carved, and what the arena is then, is settled before the call.

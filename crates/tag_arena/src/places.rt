@@ -1,5 +1,6 @@
 //! The least place of a request in one range.
-ghost use Rattle.std.specs.Prelude.{◌≡◌, ◌≢◌, ℕ, ◌+◌, ◌-◌, ◌*◌, ◌/◌, ◌%◌, ◌^◌, ◌<◌, ◌≤◌, IsTrue, ◌↔◌};
+ghost use Rattle.std.specs.Prelude.{◌≡◌, ◌≢◌, ℕ, ◌+◌, ◌-◌, ◌*◌, ◌/◌, ◌%◌, ◌^◌, ◌<◌, ◌≤◌, IsTrue};
+ghost use Rattle.std.specs.Prelude.{◌↔◌};
 ghost use Rattle.std.specs.Int.{IsPowerOfTwo};
 ghost use Rattle.deed_core.specs.Request.{IsGood};
 ghost use Rattle.tag_arena.specs.Place.{IsLeast, IsPlace, Nest, OnGrid, ServesIn};
@@ -66,7 +67,7 @@ fn least_place(low: u64, high: u64, len: u64, align: u64, phase: u64, nocross: u
 fn grid(request: &Request, quantum: u64) -> (u64, u64)
     requires quantum { IsPowerOfTwo quantum }
     requires good { IsGood quantum request.now }
-    ensures same { (base : ℕ) → (base % result.0 ≡ result.1) ↔ OnGrid quantum request.now base }
+    ensures on_grid { (base : ℕ) → (base % result.0 ≡ result.1) ↔ OnGrid quantum request.now base }
     ensures phase { result.1 < result.0 }
     ensures align { result.0 ≤ 2 ^ 63 }
     ensures nest { request.now.nocross ≢ 0 → Nest result.0 request.now.nocross }

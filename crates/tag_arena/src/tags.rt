@@ -58,7 +58,7 @@ impl Tags {
         requires absent { finmap.get self.old range.range.base ≡ None }
         requires room { finmap.len self.old + 1 < 2 ^ 64 }
         ensures ok { OnOk result (self.new ≡ finmap.insert self.old range.range.base range) }
-        ensures err { OnErr result (self.new ≡ self.old) }
+        ensures unchanged { OnErr result (self.new ≡ self.old) }
     {
         self.ranges.insert(range.base(), range)?;
         self.count += 1;

@@ -10,7 +10,8 @@ ghost use Rattle.deed_core.specs.Weights.{Gains, Loses, one_at};
 ghost use Rattle.tag_arena.specs.ArenaState.{IsSound, layout_of, spans_of, tags_of};
 ghost use Rattle.tag_arena.specs.Layout.{FreeIsLongestRuns};
 ghost use Rattle.tag_arena.specs.Laws.{IsAnsweredExactly};
-ghost use Rattle.tag_arena.specs.Outcomes.{KeepsSetup, AddSpanOf, CarveOf, ImportOf, FreeOf, RemoveOf};
+ghost use Rattle.tag_arena.specs.Outcomes.{KeepsSetup, AddSpanOf, CarveOf, ImportOf, FreeOf};
+ghost use Rattle.tag_arena.specs.Outcomes.{RemoveOf};
 
 use deed_core::{Deed, PlainDeed, Range, Request, Route, Segment};
 use std::process::Abort;

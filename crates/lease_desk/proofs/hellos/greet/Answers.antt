@@ -16,4 +16,4 @@ returns-in-Ok-clause-step c = (
 pub returns-in-Err-clause-step : goal.returns-in-Err-clause-step
 returns-in-Err-clause-step c =
     subst (λ (r : Reply). HelloStep c.args.hello.now (desk_of c.args.spaces.now.items c.args.book.now) (desk_of c.args.spaces.now.items c.hello.new.self) r) (sym c.refused.ensures)
-    (not_welcomed c.args.hello.now c.args.spaces.now.items c.args.book.now c.hello.new.self c.in-Err.fault c.in-Err.ensures.unchanged c.in-Err.ensures.fault)
+    (not_welcomed c.args.hello.now c.args.spaces.now.items c.args.book.now c.hello.new.self c.in-Err.fault c.in-Err.ensures.unchanged c.in-Err.ensures.refused)

@@ -9,15 +9,15 @@ pub unchop-requires : goal.unchop-requires
 unchop-requires g c =
     let inv = c.loop-done.invariant in
     let room = room_for c.loop-done.done c.args.count c.args.chunk c.args.whole.range.len c.loop-done-test.true c.requires.room in
-    rw (c.in-Err.ensures.err, inv.row, inv.rest) (row_whole c.args.whole c.args.chunk c.loop-done.done c.requires.some)
+    rw (c.in-Err.ensures.handed_back, inv.row, inv.rest) (row_whole c.args.whole c.args.chunk c.loop-done.done c.requires.some)
 
-pub returns-in-Err-clause-err : goal.returns-in-Err-clause-err
-returns-in-Err-clause-err g c =
+pub returns-in-Err-clause-handed_back : goal.returns-in-Err-clause-handed_back
+returns-in-Err-clause-handed_back g c =
     let inv = c.loop-done.invariant in
     let room = room_for c.loop-done.done c.args.count c.args.chunk c.args.whole.range.len c.loop-done-test.true c.requires.room in
     let long : c.range.result.len ≡ c.args.whole.range.len = ap (λ (e : Extent). e.len) c.range.ensures.value in
     let more : 0 < c.args.whole.range.len = omega (arith, c.range.ensures.range.some) in
-    let whole : joined_row c.loop-done.row.items c.in-Err.same ≡ Some c.args.whole = rw (c.in-Err.ensures.err, inv.row, inv.rest) (all_whole c.args.whole c.args.chunk c.loop-done.done c.requires.some (omega arith) more) in
+    let whole : joined_row c.loop-done.row.items c.in-Err.same ≡ Some c.args.whole = rw (c.in-Err.ensures.handed_back, inv.row, inv.rest) (all_whole c.args.whole c.args.chunk c.loop-done.done c.requires.some (omega arith) more) in
     let e : Some c.unwrap.result ≡ Some c.args.whole = sym c.unwrap.ensures ∙ c.unchop.ensures.joined ∙ whole in
     cc
 

@@ -4,8 +4,8 @@ use Rattle.lease_book.proofs.books.Book.refuse.Goals as goal
 
 pub invariant_of-self : goal.invariant_of-self
 invariant_of-self g c =
-    (refused_at _ _ c.self.view_is _ _ c.in-Ok.ensures.index c.in-Ok.ensures.new c.admit.ensures.range _ c.args.refusal _ _ c.keep-kept.ensures.kept refl c.keep-kept.ensures.accounts c.self.invariant).0
+    (refused_at _ _ c.self.view_is _ _ c.in-Ok.ensures.index c.in-Ok.ensures.new c.admit.ensures.range _ c.args.refusal _ _ c.keep-kept.ensures.value refl c.keep-kept.ensures.accounts c.self.invariant).0
 
 pub returns-in-Ok : goal.returns-in-Ok
 returns-in-Ok g c =
-    (refused_at _ _ c.self.view_is _ _ c.in-Ok.ensures.index c.in-Ok.ensures.new c.admit.ensures.range _ c.args.refusal _ _ c.keep-kept.ensures.kept c.receipt.ensures c.keep-kept.ensures.accounts c.self.invariant).1
+    (refused_at _ _ c.self.view_is _ _ c.in-Ok.ensures.index c.in-Ok.ensures.new c.admit.ensures.range _ c.args.refusal _ _ c.keep-kept.ensures.value c.receipt.ensures c.keep-kept.ensures.accounts c.self.invariant).1

@@ -10,12 +10,12 @@ use Rattle.lease_book.proofs.books.Book.release.Goals as goal
 
 pub invariant_of-self : goal.invariant_of-self
 invariant_of-self g c =
-    (refused_at _ _ c.self.view_is _ _ c.in_ok-index.ensures.index c.in_ok-index.ensures.new c.admit.ensures.range _ refusal.NotYours _ _ c.keep-kept.ensures.kept refl c.keep-kept.ensures.accounts c.self.invariant).0
+    (refused_at _ _ c.self.view_is _ _ c.in_ok-index.ensures.index c.in_ok-index.ensures.new c.admit.ensures.range _ refusal.NotYours _ _ c.keep-kept.ensures.value refl c.keep-kept.ensures.accounts c.self.invariant).0
 
 pub returns-in_default-clause-answer : goal.returns-in_default-clause-answer
 returns-in_default-clause-answer g c =
     let here = leases_found _ _ _ _ _ c.self.view_is c.in_ok-index.ensures.index c.leases-leases.ensures.leases in (
-      (refused_at _ _ c.self.view_is _ _ c.in_ok-index.ensures.index c.in_ok-index.ensures.new c.admit.ensures.range _ refusal.NotYours _ _ c.keep-kept.ensures.kept c.receipt.ensures c.keep-kept.ensures.accounts c.self.invariant).1,
+      (refused_at _ _ c.self.view_is _ _ c.in_ok-index.ensures.index c.in_ok-index.ensures.new c.admit.ensures.range _ refusal.NotYours _ _ c.keep-kept.ensures.value c.receipt.ensures c.keep-kept.ensures.accounts c.self.invariant).1,
       ap (find (is_lease c.args.id.incarnation c.args.arena c.args.base)) here ∙ none_of (is_lease c.args.id.incarnation c.args.arena c.args.base) c.leases-leases.result.now (sym c.position.ensures ∙ c.in_default.is),
     )
 
@@ -30,7 +30,7 @@ invariant_of-self-2 g c =
     let first = first_of (is_lease c.args.id.incarnation c.args.arena c.args.base) (account_in c.args.id.client c.args.self.now).leases c.in-Some.lease
     (ap (position (is_lease c.args.id.incarnation c.args.arena c.args.base)) here ∙ sym c.position.ensures ∙ c.in-Some.is) in
     (released_at _ _ c.self.view_is _ _ c.in_ok-index.ensures.index c.in_ok-index.ensures.new c.admit.ensures.range c.take.new.self _ c.args.arena c.args.base c.in-Some.lease c.take.result c.into_segment-segment.result _ _
-    c.into_segment-segment.ensures c.get.ensures.range first c.take.ensures.lease c.keep-kept-2.ensures.kept refl c.take.ensures.rest c.keep-kept-2.ensures.accounts c.self.invariant).0
+    c.into_segment-segment.ensures c.get.ensures.range first c.take.ensures.lease c.keep-kept-2.ensures.value refl c.take.ensures.rest c.keep-kept-2.ensures.accounts c.self.invariant).0
 
 pub returns-clause-released : goal.returns-clause-released
 returns-clause-released g c =
@@ -38,4 +38,4 @@ returns-clause-released g c =
     let first = first_of (is_lease c.args.id.incarnation c.args.arena c.args.base) (account_in c.args.id.client c.args.self.now).leases c.in-Some.lease
     (ap (position (is_lease c.args.id.incarnation c.args.arena c.args.base)) here ∙ sym c.position.ensures ∙ c.in-Some.is) in
     (released_at _ _ c.self.view_is _ _ c.in_ok-index.ensures.index c.in_ok-index.ensures.new c.admit.ensures.range c.take.new.self _ c.args.arena c.args.base c.in-Some.lease c.take.result c.into_segment-segment.result _ _
-    c.into_segment-segment.ensures c.get.ensures.range first c.take.ensures.lease c.keep-kept-2.ensures.kept c.receipt-2.ensures c.take.ensures.rest c.keep-kept-2.ensures.accounts c.self.invariant).1
+    c.into_segment-segment.ensures c.get.ensures.range first c.take.ensures.lease c.keep-kept-2.ensures.value c.receipt-2.ensures c.take.ensures.rest c.keep-kept-2.ensures.accounts c.self.invariant).1

@@ -9,12 +9,12 @@ use Rattle.lease_book.proofs.books.Book.settle.Goals as goal
 
 pub invariant_of-self : goal.invariant_of-self
 invariant_of-self g c =
-    (refused_at _ _ c.self.view_is _ _ c.in-Ok.ensures.index c.in-Ok.ensures.new c.admit.ensures.range _ refusal.Leases _ _ c.keep-kept.ensures.kept refl c.keep-kept.ensures.accounts c.self.invariant).0
+    (refused_at _ _ c.self.view_is _ _ c.in-Ok.ensures.index c.in-Ok.ensures.new c.admit.ensures.range _ refusal.Leases _ _ c.keep-kept.ensures.value refl c.keep-kept.ensures.accounts c.self.invariant).0
 
 pub returns-then-len-eq-MOST_LEASES-clause-answer : goal.returns-then-len-eq-MOST_LEASES-clause-answer
 returns-then-len-eq-MOST_LEASES-clause-answer g c =
     let here = leases_found _ _ _ _ _ c.self.view_is c.in-Ok.ensures.index c.leases.ensures.leases in (
-      (refused_at _ _ c.self.view_is _ _ c.in-Ok.ensures.index c.in-Ok.ensures.new c.admit.ensures.range _ refusal.Leases _ _ c.keep-kept.ensures.kept c.receipt.ensures c.keep-kept.ensures.accounts c.self.invariant).1,
+      (refused_at _ _ c.self.view_is _ _ c.in-Ok.ensures.index c.in-Ok.ensures.new c.admit.ensures.range _ refusal.Leases _ _ c.keep-kept.ensures.value c.receipt.ensures c.keep-kept.ensures.accounts c.self.invariant).1,
       omega (arith, ap length here, c.len.ensures, c.if-len-eq-MOST_LEASES.true),
     )
 
@@ -31,7 +31,7 @@ pub invariant_of-self-in-Ok-lease : goal.invariant_of-self-in-Ok-lease
 invariant_of-self-in-Ok-lease g c =
     let here = leases_found _ _ _ _ _ c.self.view_is c.in-Ok.ensures.index c.leases.ensures.leases in
     let room : length (account_in c.args.id.client c.args.self.now).leases < 1024 = omega (arith, ap length here, c.len.ensures, c.if-len-eq-MOST_LEASES.false, c.leases.ensures.limited) in
-    let is_kept = kept_grant _ c.args.arena c.range.result c.granted-reply.result c.args.segment _ _ c.keep-kept-in-Ok-lease.ensures.kept c.granted-reply.ensures c.requires.arena c.range.ensures.value in
+    let is_kept = kept_grant _ c.args.arena c.range.result c.granted-reply.result c.args.segment _ _ c.keep-kept-in-Ok-lease.ensures.value c.granted-reply.ensures c.requires.arena c.range.ensures.value in
     let in_range : IsRange c.args.segment.holding.range = subst IsRange c.range.ensures.value c.range.ensures.range in
     let leased_mid : c.lease.new.self ≡ changed_at c.self.inside.accounts c.in-Ok.index (with_leases (λ ls. ls ++ lease_of c.args.id c.args.segment ∷ [])) =
     c.in-Ok-lease.ensures.ok ∙ ap (λ (l : Lease). changed_at c.self.inside.accounts c.in-Ok.index (with_leases (λ ls. ls ++ l ∷ []))) c.new.ensures in
@@ -41,7 +41,7 @@ pub returns-in-Ok-lease-clause-granted : goal.returns-in-Ok-lease-clause-granted
 returns-in-Ok-lease-clause-granted g c =
     let here = leases_found _ _ _ _ _ c.self.view_is c.in-Ok.ensures.index c.leases.ensures.leases in
     let room : length (account_in c.args.id.client c.args.self.now).leases < 1024 = omega (arith, ap length here, c.len.ensures, c.if-len-eq-MOST_LEASES.false, c.leases.ensures.limited) in
-    let is_kept = kept_grant _ c.args.arena c.range.result c.granted-reply.result c.args.segment _ _ c.keep-kept-in-Ok-lease.ensures.kept c.granted-reply.ensures c.requires.arena c.range.ensures.value in
+    let is_kept = kept_grant _ c.args.arena c.range.result c.granted-reply.result c.args.segment _ _ c.keep-kept-in-Ok-lease.ensures.value c.granted-reply.ensures c.requires.arena c.range.ensures.value in
     let in_range : IsRange c.args.segment.holding.range = subst IsRange c.range.ensures.value c.range.ensures.range in
     let leased_mid : c.lease.new.self ≡ changed_at c.self.inside.accounts c.in-Ok.index (with_leases (λ ls. ls ++ lease_of c.args.id c.args.segment ∷ [])) =
     c.in-Ok-lease.ensures.ok ∙ ap (λ (l : Lease). changed_at c.self.inside.accounts c.in-Ok.index (with_leases (λ ls. ls ++ l ∷ []))) c.new.ensures in

@@ -62,7 +62,7 @@ pub invariant_of-self-2 : goal.invariant_of-self-2
 invariant_of-self-2 g c =
     let adds = returns-clause-added g c in
     let end = subst (λ (e : Extent). end_of e ≤ 4611686018427387904) c.range-range.ensures.value c.range-range.ensures.range.below in
-    sound_adds _ _ _ _ _ adds.1 end c.requires.grid c.chunk-chunk.ensures.sound
+    sound_adds _ _ _ _ _ adds.1 end c.requires.span.grid c.chunk-chunk.ensures.sound
 
 pub returns-clause-sound : goal.returns-clause-sound
 returns-clause-sound g c = invariant_of-self-2 g c
@@ -74,15 +74,15 @@ pub returns-clause-chunk : goal.returns-clause-chunk
 returns-clause-chunk g c =
     let adds = returns-clause-added g c in
     let end = subst (λ (e : Extent). end_of e ≤ 4611686018427387904) c.range-range.ensures.value c.range-range.ensures.range.below in
-    adds_chunk _ _ _ _ _ adds.1 end c.requires.grid c.chunk-chunk.ensures.sound
+    adds_chunk _ _ _ _ _ adds.1 end c.requires.span.grid c.chunk-chunk.ensures.sound
 
 pub returns-clause-out : goal.returns-clause-out
 returns-clause-out g c =
     let adds = returns-clause-added g c in
     adds_out _ _ _ _ _ adds.1 (rw adds.1.size (some_chunk c.args.self.now c.chunk-chunk.ensures.sound))
 
-pub returns-clause-kept : goal.returns-clause-kept
-returns-clause-kept g c =
+pub returns-clause-deeds : goal.returns-clause-deeds
+returns-clause-deeds g c =
     let adds = returns-clause-added g c in
     let sound = c.chunk-chunk.ensures.sound in
     adds_kept _ _ _ _ _ adds.1 (rw adds.1.size (some_chunk c.args.self.now sound)) (fresh_is_slab _ _ _ _ sound.some adds.1.size sound.colour)
@@ -90,5 +90,5 @@ returns-clause-kept g c =
 pub returns-clause-spans : goal.returns-clause-spans
 returns-clause-spans g c =
     let adds = returns-clause-added g c in
-    let direct : ◌≡◌ {A = Tag} c.args.span (record { arena = c.args.self.now.arena; route = Direct; holding = c.args.span.holding }) = λ n. record { arena = c.requires.arena n; route = c.requires.route n; holding = c.args.span.holding } in
+    let direct : ◌≡◌ {A = Tag} c.args.span (record { arena = c.args.self.now.arena; route = Direct; holding = c.args.span.holding }) = λ n. record { arena = c.requires.span.arena n; route = c.requires.span.route n; holding = c.args.span.holding } in
     adds_spans _ _ _ _ _ adds.1 direct

@@ -90,8 +90,8 @@ returns-clause-mine g c = let some = gone g c in (λ e. chunk_is_out _ _ _ _ _ s
 pub returns-clause-out : goal.returns-clause-out
 returns-clause-out g c = let puts = returns-clause-put g c in puts_out _ _ _ _ _ _ puts.3
 
-pub returns-clause-kept : goal.returns-clause-kept
-returns-clause-kept g c = let puts = returns-clause-put g c in puts_kept _ _ _ _ _ _ puts.3
+pub returns-clause-deeds : goal.returns-clause-deeds
+returns-clause-deeds g c = let puts = returns-clause-put g c in puts_kept _ _ _ _ _ _ puts.3
 
 pub returns-clause-spans : goal.returns-clause-spans
 returns-clause-spans g c = let puts = returns-clause-put g c in puts_spans _ _ _ _ _ _ puts.3

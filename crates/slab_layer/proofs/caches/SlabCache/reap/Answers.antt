@@ -47,8 +47,8 @@ returns-clause-span g c =
 pub returns-clause-out : goal.returns-clause-out
 returns-clause-out g c = let reaps = returns-clause-reaped g c in reaps_out _ _ _ _ _ reaps.2
 
-pub returns-clause-kept : goal.returns-clause-kept
-returns-clause-kept g c =
+pub returns-clause-deeds : goal.returns-clause-deeds
+returns-clause-deeds g c =
     let reaps = returns-clause-reaped g c in
     let sound = subst (λ (x : SlabCacheState). IsSound x) c.self.view_is c.self.invariant in
     reaps_kept _ _ _ _ _ reaps.2 (slab_of_size _ _ sound (of_size _ _ _ sound reaps.2.lowest.stands))

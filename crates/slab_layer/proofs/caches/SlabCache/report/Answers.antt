@@ -29,8 +29,8 @@ returns-clause-tail g c =
     let all = said ∙ sym (sum_by-flat_map (λ (h : Holding). h.range.len) (λ (s : SlabState). option_to_list (tail_of s)) c.self.inside.slabs.items) in
     subst (λ (x : SlabCacheState). c.total.result.tail ≡ units_held (tails x)) c.self.view_is all
 
-pub returns-clause-kept : goal.returns-clause-kept
-returns-clause-kept g c =
+pub returns-clause-deeds : goal.returns-clause-deeds
+returns-clause-deeds g c =
     let idle = returns-clause-idle g c in
     let gap = returns-clause-gap g c in
     let tail = returns-clause-tail g c in

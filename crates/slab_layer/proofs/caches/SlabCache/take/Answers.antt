@@ -33,8 +33,8 @@ returns-clause-chunk g c =
 pub returns-clause-out : goal.returns-clause-out
 returns-clause-out g c = let takes = returns-clause-taken g c in takes_out _ _ _ _ _ _ takes.3
 
-pub returns-clause-kept : goal.returns-clause-kept
-returns-clause-kept g c = let takes = returns-clause-taken g c in takes_kept _ _ _ _ _ _ takes.3
+pub returns-clause-deeds : goal.returns-clause-deeds
+returns-clause-deeds g c = let takes = returns-clause-taken g c in takes_kept _ _ _ _ _ _ takes.3
 
 pub returns-clause-spans : goal.returns-clause-spans
 returns-clause-spans g c = let takes = returns-clause-taken g c in takes_spans _ _ _ _ _ _ takes.3

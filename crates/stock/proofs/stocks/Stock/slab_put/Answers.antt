@@ -14,7 +14,7 @@ invariant_of-self g c =
     let has : HasCache c.args.self.now c.in-Some.arena c.in-Some.cache = c.in-Some.ensures.some.2 in
     let o = opens c.args.self.now c.self.inside.spaces.items c.in-Some.arena (record { arena = c.space.inside.arena; source = c.space.inside.source; caches = c.space.inside.caches.items }) c.index_mut-space.result.now c.self.view_is (place_within _ _ _ has) c.index_mut-space.ensures.value c.space.view_is in
     let p = opens_cache c.args.self.now c.self.inside.spaces.items c.in-Some.arena (record { arena = c.space.inside.arena; source = c.space.inside.source; caches = c.space.inside.caches.items }) c.in-Some.cache (record { slab = c.opened.inside.slab; depot = c.opened.inside.depot }) c.index_mut-opened.result.now o (number_within _ _ _ _ has o.at) c.index_mut-opened.ensures.value c.opened.view_is in
-    let m = put_moves _ _ _ _ _ _ p c.put.new.self (subst IsStock c.self.view_is c.self.invariant) c.put.ensures.sound c.put.ensures.alike c.args.segment c.put.result c.put.ensures.put (c.in-Some.cache + 1) route c.put.ensures.out c.put.ensures.kept c.put.ensures.spans in
+    let m = put_moves _ _ _ _ _ _ p c.put.new.self (subst IsStock c.self.view_is c.self.invariant) c.put.ensures.sound c.put.ensures.alike c.args.segment c.put.result c.put.ensures.put (c.in-Some.cache + 1) route c.put.ensures.out c.put.ensures.deeds c.put.ensures.spans in
     m.stock
 
 pub returns-clause-frame : goal.returns-clause-frame
@@ -24,7 +24,7 @@ returns-clause-frame g c =
     let has : HasCache c.args.self.now c.in-Some.arena c.in-Some.cache = c.in-Some.ensures.some.2 in
     let o = opens c.args.self.now c.self.inside.spaces.items c.in-Some.arena (record { arena = c.space.inside.arena; source = c.space.inside.source; caches = c.space.inside.caches.items }) c.index_mut-space.result.now c.self.view_is (place_within _ _ _ has) c.index_mut-space.ensures.value c.space.view_is in
     let p = opens_cache c.args.self.now c.self.inside.spaces.items c.in-Some.arena (record { arena = c.space.inside.arena; source = c.space.inside.source; caches = c.space.inside.caches.items }) c.in-Some.cache (record { slab = c.opened.inside.slab; depot = c.opened.inside.depot }) c.index_mut-opened.result.now o (number_within _ _ _ _ has o.at) c.index_mut-opened.ensures.value c.opened.view_is in
-    let m = put_moves _ _ _ _ _ _ p c.put.new.self (subst IsStock c.self.view_is c.self.invariant) c.put.ensures.sound c.put.ensures.alike c.args.segment c.put.result c.put.ensures.put (c.in-Some.cache + 1) route c.put.ensures.out c.put.ensures.kept c.put.ensures.spans in
+    let m = put_moves _ _ _ _ _ _ p c.put.new.self (subst IsStock c.self.view_is c.self.invariant) c.put.ensures.sound c.put.ensures.alike c.args.segment c.put.result c.put.ensures.put (c.in-Some.cache + 1) route c.put.ensures.out c.put.ensures.deeds c.put.ensures.spans in
     m.frame
 
 pub returns-clause-fixed : goal.returns-clause-fixed
@@ -34,7 +34,7 @@ returns-clause-fixed g c =
     let has : HasCache c.args.self.now c.in-Some.arena c.in-Some.cache = c.in-Some.ensures.some.2 in
     let o = opens c.args.self.now c.self.inside.spaces.items c.in-Some.arena (record { arena = c.space.inside.arena; source = c.space.inside.source; caches = c.space.inside.caches.items }) c.index_mut-space.result.now c.self.view_is (place_within _ _ _ has) c.index_mut-space.ensures.value c.space.view_is in
     let p = opens_cache c.args.self.now c.self.inside.spaces.items c.in-Some.arena (record { arena = c.space.inside.arena; source = c.space.inside.source; caches = c.space.inside.caches.items }) c.in-Some.cache (record { slab = c.opened.inside.slab; depot = c.opened.inside.depot }) c.index_mut-opened.result.now o (number_within _ _ _ _ has o.at) c.index_mut-opened.ensures.value c.opened.view_is in
-    let m = put_moves _ _ _ _ _ _ p c.put.new.self (subst IsStock c.self.view_is c.self.invariant) c.put.ensures.sound c.put.ensures.alike c.args.segment c.put.result c.put.ensures.put (c.in-Some.cache + 1) route c.put.ensures.out c.put.ensures.kept c.put.ensures.spans in
+    let m = put_moves _ _ _ _ _ _ p c.put.new.self (subst IsStock c.self.view_is c.self.invariant) c.put.ensures.sound c.put.ensures.alike c.args.segment c.put.result c.put.ensures.put (c.in-Some.cache + 1) route c.put.ensures.out c.put.ensures.deeds c.put.ensures.spans in
     m.fixed
 
 pub returns-clause-put : goal.returns-clause-put

@@ -33,14 +33,14 @@ invariant_of-self-in_default g c =
     let absent = carve_absent a f.at f.range (part f.range f.base n) k in
     let absent_here = subst (λ (h : Holding). finmap.get c.self.inside.tags h.range.base ≡ None) (sym piece_is) absent in
     let tags = undone c.self.inside.tags c.insert.new.self c.remove.new.self c.new-piece.result.range.base c.new-piece.result absent_here c.in_ok-insert.ensures.ok c.remove.ensures in
-    let free : c.carve.new.free.items ≡ c.self.inside.free.items = c.in_default.ensures.err ∙ c.reserve_free.ensures.items in
+    let free : c.carve.new.free.items ≡ c.self.inside.free.items = c.in_default.ensures.unchanged ∙ c.reserve_free.ensures.items in
     let len = ap finmap.len tags in (
       subst IsSound (sym (as_it_was a _ _ free tags)) c.self.invariant.0,
       omega (arith, len, c.carve.ensures.len, c.carve.ensures.capacity, c.in_ok-reserve_free.ensures.room),
     )
 
-pub returns-in_default-clause-err : goal.returns-in_default-clause-err
-returns-in_default-clause-err g c =
+pub returns-in_default-clause-unchanged : goal.returns-in_default-clause-unchanged
+returns-in_default-clause-unchanged g c =
     let a = the_state c.self.invariant.0 in
     let f : Found = c.args.found in
     let n : ℕ = c.args.len in
@@ -49,7 +49,7 @@ returns-in_default-clause-err g c =
     let absent = carve_absent a f.at f.range (part f.range f.base n) k in
     let absent_here = subst (λ (h : Holding). finmap.get c.self.inside.tags h.range.base ≡ None) (sym piece_is) absent in
     let tags = undone c.self.inside.tags c.insert.new.self c.remove.new.self c.new-piece.result.range.base c.new-piece.result absent_here c.in_ok-insert.ensures.ok c.remove.ensures in
-    let free : c.carve.new.free.items ≡ c.self.inside.free.items = c.in_default.ensures.err ∙ c.reserve_free.ensures.items in
+    let free : c.carve.new.free.items ≡ c.self.inside.free.items = c.in_default.ensures.unchanged ∙ c.reserve_free.ensures.items in
     as_it_was a _ _ free tags ∙ c.self.view_is
 
 pub invariant_of-self-2 : goal.invariant_of-self-2

@@ -45,8 +45,8 @@ invariant_of-self-in-Err g c =
     let len = ap finmap.len tags in
     (subst IsSound (sym same) c.self.invariant.0, omega (arith, len, c.in-Ok-reserve_free.ensures.room))
 
-pub returns-in-Err-clause-err : goal.returns-in-Err-clause-err
-returns-in-Err-clause-err g c =
+pub returns-in-Err-clause-unchanged : goal.returns-in-Err-clause-unchanged
+returns-in-Err-clause-unchanged g c =
     let a = the_state c.self.invariant.0 in
     let t : Tag = c.args.span in
     let n : ℕ = c.args.len in
@@ -59,7 +59,7 @@ returns-in-Err-clause-err g c =
     let absent_here = subst (λ (h : Holding). finmap.get c.self.inside.tags h.range.base ≡ None) (sym piece_is) absent in
     let tags = undone c.self.inside.tags c.insert.new.self c.remove.new.self c.new-first.result.range.base c.new-first.result absent_here c.in-Ok-insert.ensures.ok c.remove.ensures in
     let same = ap (λ (xs : List Tag). record a { imported = xs; free = c.reserve_free.new.free.items; allocated = c.remove.new.self }) c.reserve.ensures.items ∙ as_it_was a _ _ c.reserve_free.ensures.items tags in
-    (c.in-Err.ensures.err, same ∙ c.self.view_is)
+    same ∙ c.self.view_is
 
 pub invariant_of-self-2 : goal.invariant_of-self-2
 invariant_of-self-2 g c =
