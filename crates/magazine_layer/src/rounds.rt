@@ -207,8 +207,8 @@ fn run_one<D: Deed>(
 
 /// Runs operations in order. Each takes a round from the CPU's cache or gives it one, and where the
 /// cache is empty or full it first exchanges a magazine with the depot, or changes over to the
-/// depot's size. The depot's size is at least the cache's. Want of memory for the answers hands the
-/// operations back.
+/// depot's size. The depot's size is at least the cache's. Where the answers are out of memory, the
+/// operations come back.
 pub fn run_rounds<D: Deed>(
     alloc: Global,
     cpu: &mut CpuCache<D>,
@@ -219,8 +219,9 @@ pub fn run_rounds<D: Deed>(
     // what it does
     ensures run { IfOk result (λ r. RunsRounds (cpu_depot cpu.old depot.old) ops.items
         r.answers.items (cpu_depot cpu.new depot.new) r.exchanges) }
-    ensures few { IfOk result (λ r. r.exchanges ≤ 1 + vec_len ops / depot.old.size) }
-    ensures refused { IfErr result (λ back.
+    ensures counts { IfOk result (λ r. (vec_len r.answers ≡ vec_len ops)
+        × (r.exchanges ≤ 1 + vec_len ops / depot.old.size)) }
+    ensures handed_back { IfErr result (λ back.
         (back ≡ ops) × (cpu.new ≡ cpu.old) × (depot.new ≡ depot.old)) }
     // what follows
     ensures weights { IfOk result
@@ -229,7 +230,6 @@ pub fn run_rounds<D: Deed>(
     ensures kinds { IfOk result
         (λ r. AreAmong (both_rounds cpu.new depot.new ++ flat_map rounds_of_answer r.answers.items)
         (both_rounds cpu.old depot.old ++ flat_map rounds_of_op ops.items)) }
-    ensures answers { IfOk result (λ r. vec_len r.answers ≡ vec_len ops) }
     ensures sizes { (cpu.new.size ≤ depot.new.size) × (depot.new.size ≡ depot.old.size) }
     ensures sound { IsShaped cpu.new × IsDepot depot.new }
 {

@@ -4,7 +4,6 @@ ghost use Rattle.std.specs.Prelude.{
   ℕ,
   ◌+◌,
   ◌*◌,
-  ◌%◌,
   ◌≤◌,
   ◌↔◌,
   [],
@@ -176,7 +175,8 @@ impl<D: Deed> SlabCache<D> {
         // here and no longer out.
         ensures mine { IsOk result ↔ Contains (chunks_out self.old) segment }
         ensures out { OnOk result (Loses (chunks_out self.old) (chunks_out self.new) segment) }
-        ensures deeds { OnOk result (Gains (deeds_of self.old) (deeds_of self.new) segment.holding) }
+        ensures deeds { OnOk result
+            (Gains (deeds_of self.old) (deeds_of self.new) segment.holding) }
         ensures spans { span_tags self.new ≡ span_tags self.old }
     {
         if !self.is_routed_here(&segment) {

@@ -9,6 +9,7 @@ ghost use Rattle.std.specs.FinMap as finmap;
 ghost use Rattle.deed_core.specs.Extent.{IsRange};
 ghost use Rattle.deed_core.specs.Covering.{covers, covers_tag, covering_held, units_held};
 ghost use Rattle.deed_core.specs.Tag.{Tag};
+ghost use Rattle.deed_core.specs.Request.{IsGood};
 ghost use Rattle.deed_core.specs.Weights.{Gains, Loses};
 ghost use Rattle.tag_arena.specs.Layout.{FreeIsLongestRuns};
 ghost use Rattle.tag_arena.specs.ArenaState.{spans_of, layout_of, ranges_of, tags_of, direct};

@@ -4,14 +4,13 @@ ghost use Rattle.std.specs.Prelude.{option_to_list};
 ghost use Rattle.std.specs.Option.{option_map};
 ghost use Rattle.deed_core.specs.Covering.{covering_held, covers_tag};
 ghost use Rattle.deed_core.specs.Extent.{IsRange};
-ghost use Rattle.deed_core.specs.Request.{IsGood, IsPlain, rounded};
 ghost use Rattle.deed_core.specs.Tag.{Tag};
 ghost use Rattle.deed_core.specs.Weights.{Gains, Loses, one_at};
 ghost use Rattle.tag_arena.specs.ArenaState.{IsSound, layout_of, spans_of, tags_of};
 ghost use Rattle.tag_arena.specs.Layout.{FreeIsLongestRuns};
 ghost use Rattle.tag_arena.specs.Laws.{IsAnsweredExactly};
-ghost use Rattle.tag_arena.specs.Outcomes.{KeepsSetup, AddSpanOf, CarveOf, ImportOf, FreeOf};
-ghost use Rattle.tag_arena.specs.Outcomes.{RemoveOf};
+ghost use Rattle.tag_arena.specs.Outcomes.{KeepsSetup, AddSpanOf, CarveOf, IsImportFor, ImportOf};
+ghost use Rattle.tag_arena.specs.Outcomes.{ImportCovers, FreeOf, RemoveOf};
 
 use deed_core::{Deed, PlainDeed, Range, Request, Route, Segment};
 use std::process::Abort;
@@ -68,17 +67,13 @@ fn import<D: Deed>(
     span: Segment<D>,
     request: &Request,
 ) -> Result<Segment<D>, SpanFault<Segment<D>>>
-    requires route { span.route ≡ Route.Direct }
-    requires good { IsGood arena.old.quantum request.now }
-    requires plain { IsPlain request.now }
-    requires room { rounded arena.old.quantum request.now.size ≤ span.holding.range.len }
+    requires span { IsImportFor arena.old.quantum span request.now }
     ensures carved { ImportOf arena.old span request.now result arena.new }
     ensures sound { IsSound arena.new × KeepsSetup arena.old arena.new }
     ensures owned { arena.new.owned ≡ arena.old.owned }
     ensures imported { OnOk result (Gains arena.old.imported arena.new.imported span) }
     ensures gains { IfOk result (Gains (tags_of arena.old) (tags_of arena.new)) }
-    ensures spans { OnOk result ((u : ℕ) → covering_held u (spans_of arena.new)
-        ≡ covering_held u (spans_of arena.old) + covers_tag u span) }
+    ensures covering { IfOk result (ImportCovers arena.old span arena.new) }
 {
     arena.add_span_and_carve(span, request)
 }

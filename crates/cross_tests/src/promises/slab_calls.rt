@@ -1,8 +1,8 @@
 //! A slab cache.
-ghost use Rattle.std.specs.Prelude.{◌≡◌, ◌%◌, ◌↔◌, [], Contains, IsOk, IfOk, IfSome, IfNone, OnOk};
+ghost use Rattle.std.specs.Prelude.{◌≡◌, ◌↔◌, [], Contains, IsOk, IfOk, IfSome, IfNone, OnOk};
 ghost use Rattle.deed_core.specs.Request.{Fits, plain_of};
 ghost use Rattle.deed_core.specs.Weights.{Gains, Loses, WeighSame};
-ghost use Rattle.slab_layer.specs.Cache.{IsSound, IsChunkOf, IsSpanOf, chunk_of, chunks_out};
+ghost use Rattle.slab_layer.specs.Cache.{IsSound, IsChunkOf, IsSpanFor, IsSpanOf, chunk_of, chunks_out};
 ghost use Rattle.slab_layer.specs.Cache.{span_tags};
 ghost use Rattle.slab_layer.specs.Calls.{IsAlike, TakeOf, PutOf, AddOf, ReapOf};
 
@@ -57,9 +57,7 @@ fn add<D: Deed>(
     cache: &mut SlabCache<D>,
     span: Segment<D>,
 ) -> Result<Segment<D>, AddFault<Segment<D>>>
-    requires arena { span.arena ≡ cache.old.arena }
-    requires route { span.route ≡ Route.Direct }
-    requires grid { span.holding.range.base % cache.old.quantum ≡ 0 }
+    requires span { IsSpanFor cache.old span }
     ensures added { AddOf cache.old span result cache.new }
     ensures kept { IsSound cache.new × IsAlike cache.old cache.new }
     ensures chunk { IfOk result (λ t. IsChunkOf cache.old t) }
