@@ -28,25 +28,11 @@ returns-clause-carved g c =
     let o = opens c.args.self.now c.self.inside.spaces.items c.args.child (record { arena = c.space.inside.arena; source = c.space.inside.source; caches = c.space.inside.caches.items }) c.index_mut-space.result.now c.self.view_is c.requires.within c.index_mut-space.ensures.value c.space.view_is in
     on_arena _ _ _ _ o c.add_span_and_carve.new.self (λ a b. ImportOf a c.args.span c.args.request.now c.add_span_and_carve.result b) c.add_span_and_carve.ensures.carved
 
-pub add_span_and_carve-requires-clause-route : goal.add_span_and_carve-requires-clause-route
-add_span_and_carve-requires-clause-route g c =
+pub add_span_and_carve-requires : goal.add_span_and_carve-requires
+add_span_and_carve-requires g c =
     let o = opens c.args.self.now c.self.inside.spaces.items c.args.child (record { arena = c.space.inside.arena; source = c.space.inside.source; caches = c.space.inside.caches.items }) c.index_mut-space.result.now c.self.view_is c.requires.within c.index_mut-space.ensures.value c.space.view_is in
-    (c.requires.can _ o.at).route
-
-pub add_span_and_carve-requires-clause-good : goal.add_span_and_carve-requires-clause-good
-add_span_and_carve-requires-clause-good g c =
-    let o = opens c.args.self.now c.self.inside.spaces.items c.args.child (record { arena = c.space.inside.arena; source = c.space.inside.source; caches = c.space.inside.caches.items }) c.index_mut-space.result.now c.self.view_is c.requires.within c.index_mut-space.ensures.value c.space.view_is in
-    (c.requires.can _ o.at).good
-
-pub add_span_and_carve-requires-clause-plain : goal.add_span_and_carve-requires-clause-plain
-add_span_and_carve-requires-clause-plain g c =
-    let o = opens c.args.self.now c.self.inside.spaces.items c.args.child (record { arena = c.space.inside.arena; source = c.space.inside.source; caches = c.space.inside.caches.items }) c.index_mut-space.result.now c.self.view_is c.requires.within c.index_mut-space.ensures.value c.space.view_is in
-    (c.requires.can _ o.at).plain
-
-pub add_span_and_carve-requires-clause-room : goal.add_span_and_carve-requires-clause-room
-add_span_and_carve-requires-clause-room g c =
-    let o = opens c.args.self.now c.self.inside.spaces.items c.args.child (record { arena = c.space.inside.arena; source = c.space.inside.source; caches = c.space.inside.caches.items }) c.index_mut-space.result.now c.self.view_is c.requires.within c.index_mut-space.ensures.value c.space.view_is in
-    (c.requires.can _ o.at).room
+    let can = c.requires.can _ o.at in
+    record { route = can.route; good = can.good; plain = can.plain; room = can.room }
 
 pub returns-clause-never : goal.returns-clause-never
 returns-clause-never g c rest a =

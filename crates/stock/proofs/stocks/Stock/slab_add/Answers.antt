@@ -39,17 +39,16 @@ returns-clause-added g c =
     let p = opens_cache c.args.self.now c.self.inside.spaces.items c.args.arena (record { arena = c.space.inside.arena; source = c.space.inside.source; caches = c.space.inside.caches.items }) c.args.cache (record { slab = c.opened.inside.slab; depot = c.opened.inside.depot }) c.index_mut-opened.result.now o (number_within _ _ _ _ c.requires.has o.at) c.index_mut-opened.ensures.value c.opened.view_is in
     on_slab _ _ _ _ _ _ p c.add.new.self (λ a b. AddOf a c.args.span c.add.result b) c.add.ensures.added
 
-pub add-requires-clause-arena : goal.add-requires-clause-arena
-add-requires-clause-arena g c =
+pub add-requires : goal.add-requires
+add-requires g c =
     let o = opens c.args.self.now c.self.inside.spaces.items c.args.arena (record { arena = c.space.inside.arena; source = c.space.inside.source; caches = c.space.inside.caches.items }) c.index_mut-space.result.now c.self.view_is (place_within _ _ _ c.requires.has) c.index_mut-space.ensures.value c.space.view_is in
     let p = opens_cache c.args.self.now c.self.inside.spaces.items c.args.arena (record { arena = c.space.inside.arena; source = c.space.inside.source; caches = c.space.inside.caches.items }) c.args.cache (record { slab = c.opened.inside.slab; depot = c.opened.inside.depot }) c.index_mut-opened.result.now o (number_within _ _ _ _ c.requires.has o.at) c.index_mut-opened.ensures.value c.opened.view_is in
-    c.requires.home ∙ sym (((subst IsStock c.self.view_is c.self.invariant) _ _ o.at).caches _ _ p.among).arena
-
-pub add-requires-clause-grid : goal.add-requires-clause-grid
-add-requires-clause-grid g c =
-    let o = opens c.args.self.now c.self.inside.spaces.items c.args.arena (record { arena = c.space.inside.arena; source = c.space.inside.source; caches = c.space.inside.caches.items }) c.index_mut-space.result.now c.self.view_is (place_within _ _ _ c.requires.has) c.index_mut-space.ensures.value c.space.view_is in
-    let p = opens_cache c.args.self.now c.self.inside.spaces.items c.args.arena (record { arena = c.space.inside.arena; source = c.space.inside.source; caches = c.space.inside.caches.items }) c.args.cache (record { slab = c.opened.inside.slab; depot = c.opened.inside.depot }) c.index_mut-opened.result.now o (number_within _ _ _ _ c.requires.has o.at) c.index_mut-opened.ensures.value c.opened.view_is in
-    subst (λ q. c.args.span.holding.range.base % q ≡ 0) (sym (((subst IsStock c.self.view_is c.self.invariant) _ _ o.at).caches _ _ p.among).quantum_is) (c.requires.grid _ o.at)
+    let cache = ((subst IsStock c.self.view_is c.self.invariant) _ _ o.at).caches _ _ p.among in
+    record {
+      arena = c.requires.home ∙ sym cache.arena;
+      route = c.requires.route;
+      grid = subst (λ q. c.args.span.holding.range.base % q ≡ 0) (sym cache.quantum_is) (c.requires.grid _ o.at);
+    }
 
 pub returns-clause-never : goal.returns-clause-never
 returns-clause-never g c rest a =

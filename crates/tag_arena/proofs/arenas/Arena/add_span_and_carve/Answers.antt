@@ -66,5 +66,5 @@ returns-in-Ok-clause-covering g c =
     let k = imports old old t n sound refl range c.requires.span.route fits.0 fits.1 some (omega (arith, n_is, c.requires.span.room)) whole in
     record {
       free = import_free old q t n k n_is c.import.new.self c.in-Ok.ensures.carved c.in-Ok.first c.in-Ok.ensures.segment c.in-Ok.ensures.range;
-      spans = import_spans old q t n k n_is c.import.new.self c.in-Ok.ensures.carved;
+      spans = import_spans old q t n k n_is c.import.new.self c.in-Ok.ensures.carved c.in-Ok.first c.in-Ok.ensures.segment c.in-Ok.ensures.range;
     }
