@@ -432,8 +432,8 @@ fn refused_spans(rt: HostRuntime) {
     close(&rt, arena);
 }
 
-/// A request of no units is bad, and one whose alignment is below the quantum. Of others the size is
-/// rounded up.
+/// A request of no units is bad, and one whose alignment is below the quantum. Of others the size
+/// is rounded up.
 #[test]
 fn refused_requests(rt: HostRuntime) {
     let mut arena = arena_of_fours(rt.alloc(), 7);

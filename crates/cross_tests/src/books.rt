@@ -1,4 +1,4 @@
-//! What a book answers to rows of requests, and where memory is refused.
+//! What a book answers to rows of requests, and where it is out of memory.
 use deed_core::{PlainDeed, Range, Request, Route, Segment};
 use lease_book::{Answer, Book, ClientReport, HelloFault, KeptReply, Look, NotLeased, Terms};
 use lease_terms::{ClientId, Ordinal, Quantity, Refusal, RequestId};
@@ -118,8 +118,8 @@ fn close(segment: Segment<PlainDeed>) -> Bounds {
     (range.base(), range.len())
 }
 
-/// Says hello, and gives the client's incarnation where that is greater. Want of memory leaves all as
-/// it was, and the same hello then succeeds.
+/// Says hello, and gives the client's incarnation where that is greater. Out of memory leaves all
+/// as it was, and the same hello then succeeds.
 fn hello(
     rt: &impl Abort,
     book: &mut Book<PlainDeed>,
@@ -141,7 +141,7 @@ fn hello(
     }
 }
 
-/// The answer to a lease. Want of memory leaves all as it was, and the same lease then succeeds.
+/// The answer to a lease. Out of memory leaves all as it was, and the same lease then succeeds.
 fn lease(rt: &impl Abort, book: &mut Book<PlainDeed>, id: Id, bounds: Bounds) -> Told {
     let units = book.units(ARENA);
     match lease_once(rt, book, id, bounds) {

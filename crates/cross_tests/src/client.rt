@@ -15,7 +15,7 @@ fn op(line: &str) -> Result<Op, Fail> {
     Ok(Line::read(line.as_bytes())?.op().ok_or("no request")?)
 }
 
-/// Sends what the line asks for. Want of memory leaves all as it was, and the same then succeeds.
+/// Sends what the line asks for. Out of memory leaves all as it was, and the same then succeeds.
 fn send(rt: &impl Abort, client: &mut Client, line: &str) -> Result<Result<Line, SendFault>, Fail> {
     let op = op(line)?;
     match client.send(op) {

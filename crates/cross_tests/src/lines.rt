@@ -347,7 +347,8 @@ fn the_lines_of_an_operator_are_one_word(rt: HostRuntime) {
     serves(&rt, b"audits", Err(LineFault::Word));
 }
 
-/// Takes a piece, and writes of each frame that ends in it the line that is read, or the error line.
+/// Takes a piece, and writes of each frame that ends in it the line that is read, or the error
+/// line.
 fn take_piece(
     reader: &mut LineReader,
     mut piece: &[u8],
@@ -414,9 +415,11 @@ fn check_every_cut(
 fn a_stream_is_the_same_however_it_is_cut(rt: HostRuntime) -> Result<(), Fail> {
     let alloc = rt.alloc();
     let input =
-        b"lease 1 1 1 m\nlease 1 1 01 m 4\nfrob\nhello 1  1\nhello 1 1\nlease 1 1 3 m 4\n\nhello 1 1\r\nhello 1 18446744073709551617\nrelease 1 1 2 m 0";
+        b"lease 1 1 1 m\nlease 1 1 01 m 4\nfrob\nhello 1  1\nhello 1 1\nlease 1 1 3 m 4\n\nhello 1 1\
+        \r\nhello 1 18446744073709551617\nrelease 1 1 2 m 0";
     let expected =
-        b"error badline\nerror number\nerror word\nerror badline\nhello 1 1\nlease 1 1 3 m 4\nerror badline\nerror badline\nerror number\nerror badline\n";
+        b"error badline\nerror number\nerror word\nerror badline\nhello 1 1\nlease 1 1 3 m 4\n\
+        error badline\nerror badline\nerror number\nerror badline\n";
     check_every_cut(&rt, alloc, input, expected)?;
     check_every_cut(&rt, alloc, b"hello 1 1\n", b"hello 1 1\n")?;
     check_every_cut(&rt, alloc, b"hello 1 1", b"error badline\n")?;

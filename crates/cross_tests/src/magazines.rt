@@ -431,7 +431,7 @@ fn discard(rt: &impl Abort, magazine: Magazine<PlainDeed>) {
     }
 }
 
-// Each round is kept, or comes back where memory is refused for it, and each that is kept is taken
+// Each round is kept, or comes back where it is out of memory, and each that is kept is taken
 // again.
 #[test]
 fn no_round_is_lost(rt: HostRuntime) {
@@ -501,7 +501,7 @@ fn takes_one(
     }
 }
 
-// Runs one operation. Where memory is refused for its answer, what was given comes back.
+// Runs one operation. Where its answer is out of memory, what was given comes back.
 fn only_one(
     rt: &impl Abort,
     alloc: Global,

@@ -8,8 +8,8 @@ use std::process::Abort;
 use std::test::*;
 use tag_arena::{Arena, Policy};
 
-// Three segments of a root of twelve units, freed in an order that leaves each a neighbor to merge with: all twelve
-// are one range again, and the deed of the whole closes its root.
+// Three segments of a root of twelve units, freed in an order that leaves each a neighbor to merge
+// with: all twelve are one range again, and the deed of the whole closes its root.
 #[test]
 fn frees_leave_one_range(rt: HostRuntime) -> Result<(), Fail> {
     carved_and_closed::<Brand, _>(&rt, rt.alloc(), Ground::new(rt.alloc())?)

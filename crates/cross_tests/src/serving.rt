@@ -1,4 +1,5 @@
-//! Serving from readers and to writers that give and take little, that stop for a moment, and that fail.
+//! Serving from readers and to writers that give and take little, that stop for a moment, and that
+//! fail.
 ghost use Rattle.std.specs.Prelude.{◌≡◌, ◌∷◌, [], ◌++◌};
 
 use lease_server::{Intake, Responder, ServeFault, Watched, serve};
@@ -102,7 +103,7 @@ impl Write for Sink {
     }
 }
 
-/// Answers a line with itself, and is refused memory at a line that it is told.
+/// Answers a line with itself, and is out of memory at a line that it is told.
 #[derive(Drop)]
 struct Echo {
     answered: u64,

@@ -8,7 +8,7 @@ use crate::deeds::{Deed, Refused};
 
 /// Moves the border between two deeds that meet: the one that has `at` inside is split there, and
 /// its part that lies on the other's side is joined to the other. That gives the split at `at` of
-/// what both cover. For want of memory both come back as they were.
+/// what both cover. Out of memory, both come back as they were.
 pub fn move_border<D: Deed>(first: D, second: D, at: u64) -> Result<(D, D), (D, D)>
     requires meet { GoesOn (D.holding first) (D.holding second) }
     requires inside { IsInside at (D.holding first).range ⊎ IsInside at (D.holding second).range }

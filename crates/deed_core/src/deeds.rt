@@ -5,7 +5,7 @@ ghost use Rattle.deed_core.specs.Holding.{Holding, low, high, joined, GoesOn};
 
 use crate::ranges::Range;
 
-/// A split that was refused for want of memory.
+/// A split that was out of memory.
 pub struct Refused<D> {
     /// The deed as it was.
     pub deed: D,
@@ -27,7 +27,7 @@ pub trait Deed {
         ensures value { result ≡ (holding self.now).range }
         ensures range { IsRange result };
 
-    /// The deeds of the units below `at` and from `at` on. It is refused only for want of memory.
+    /// The deeds of the units below `at` and from `at` on. It is refused only when out of memory.
     fn split(self, at: u64) -> Result<(Self, Self), Refused<Self>>
         requires { IsInside at (holding self).range }
         ensures ok { IfOk result (λ parts.

@@ -52,7 +52,7 @@ impl<D: Deed> Stored<D> {
         self.deed.range()
     }
 
-    /// The deeds of the units below `at` and from `at` on. For want of memory, the deed as it was.
+    /// The deeds of the units below `at` and from `at` on. Out of memory, the deed as it was.
     pub fn split(self, at: u64) -> Result<(Stored<D>, Stored<D>), Stored<D>>
         requires { IsInside at self.range }
         ensures ok { IfOk result (λ parts. (parts.0 ≡ low at self) × (parts.1 ≡ high at self)) }

@@ -101,7 +101,7 @@ impl<N: Name> Opener<N> {
         self.left
     }
 
-    /// Gives the first `n` numbers away. It is refused only for want of memory, before any number
+    /// Gives the first `n` numbers away. It is refused only when out of memory, before any number
     /// moves.
     pub fn share(&mut self, n: u64) -> Result<Opener<N>, AllocError>
         requires { n ≤ self.old.left }
@@ -125,7 +125,7 @@ impl<N: Name> Opener<N> {
     }
 
     /// Opens the next number as a root of this range, and gives the deed of the whole. It is
-    /// refused only for want of memory, before any number is used.
+    /// refused only when out of memory, before any number is used.
     pub fn open_root(&mut self, range: Range) -> Result<(Root<N>, SeatDeed<N>), AllocError>
         requires { 0 < self.old.left }
         ensures root { IfOk result

@@ -17,7 +17,7 @@ use std::alloc::Global;
 use std::marker::{Model, PhantomData};
 use std::sync::Arc;
 
-/// Two deeds of one root that are still joined, since there was no memory to part them. It is never
+/// Two deeds of one root that are still joined, since parting them was out of memory. It is never
 /// dropped: it ends by `part`. Contracts see it as the two deeds.
 pub struct Pair<N: Name> {
     root: u32,

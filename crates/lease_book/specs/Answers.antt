@@ -68,7 +68,7 @@ answer_of (look.Stale greatest) = Some (answer.Stale greatest)
 answer_of (look.Gap greatest) = Some (answer.Gap greatest)
 
 -- the answer to a request: by its number, where that isn't new, with nothing changed; else what is
--- given for a refusal, and for want of memory
+-- given for a refusal, and when out of memory
 abbrev pub IsAnswer : {D : Type 0} → (old new : BookState) → RequestId
     → (ReceiptState → Type 0) → Type 0 → Answer D → Type 0
 IsAnswer old new id refused again (answer.Kept r) =

@@ -90,7 +90,7 @@ impl<D: Deed> Book<D> {
     }
 
     /// Takes a client's hello with an incarnation. Room for the reply that is kept of the client is
-    /// made by its first hello, so that a later one never wants memory.
+    /// made by its first hello, so that a later one is never out of memory.
     pub fn hello(&mut self, client: ClientId, incarnation: Ordinal) -> Result<(), HelloFault>
         ensures taken { OnOk result (Enters (Hello client incarnation) self.old self.new) }
         ensures known { incarnation ≡ (account_in client self.old).incarnation

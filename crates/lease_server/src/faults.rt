@@ -11,7 +11,7 @@ pub enum ServeFault {
     /// The writer failed, or took no bytes.
     #[error("write")]
     Write,
-    /// The responder, or the room for its answers, was refused memory.
+    /// The responder, or the room for its answers, was out of memory.
     #[error("memory")]
     Memory,
     /// The input went on after `MOST_READS`.

@@ -53,8 +53,8 @@ pub fn serve<R: Read, W: Write, P: Responder>(
     }
 }
 
-/// Serves the whole lines at hand: their answers are written together. Where memory was refused,
-/// those of the lines before it are.
+/// Serves the whole lines at hand: their answers are written together. Out of memory, those of
+/// the lines before it are.
 fn serve_held<W: Write, P: Responder>(
     input: &mut Intake,
     out: &mut Vec<u8>,

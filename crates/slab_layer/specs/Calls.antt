@@ -145,8 +145,8 @@ pub record Adds (i : ℕ) (old new : SlabCacheState) (span first : Tag) : Type 0
     colour = next_colour old;
   }
 
--- a span is added: one of another length is refused, then one that overlaps a slab; then only for
--- want of memory
+-- a span is added: one of another length is refused, then one that overlaps a slab; then only when
+-- out of memory
 abbrev pub AddOf : SlabCacheState → Tag → Result Tag (AddFault Tag) → SlabCacheState → Type 0
 AddOf old span (Ok t) new = (i : ℕ) × Adds i old new span t
 AddOf old span (Err (Adding.WrongSize back)) new =

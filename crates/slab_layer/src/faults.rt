@@ -15,6 +15,6 @@ pub enum AddFault<S> {
     /// It has a unit in common with a slab that is here. Roots aren't looked at, since no two spans
     /// of an arena overlap.
     Overlaps(S),
-    /// Memory was refused.
+    /// Out of memory.
     NoMemory(S),
 }

@@ -1,4 +1,5 @@
-//! Growth that is refused: the argument is back, the arena is as before, and the call can be made again.
+//! Growth that is refused: the argument is back, the arena is as before, and the call can be made
+//! again.
 
 use super::{
     SpanWhy, add, close, end_span, give_all, give_back, grant, import, span_back, stands,
@@ -8,7 +9,7 @@ use deed_core::{Deed, PlainDeed, Range, Request, Segment};
 use std::process::Abort;
 use tag_arena::{Arena, ArenaFault, Policy};
 
-/// Adds a span, again where memory was refused.
+/// Adds a span, again where it was out of memory.
 fn add_again(rt: &impl Abort, arena: &mut Arena<PlainDeed>, range: Range) {
     let before = arena.report();
     let deed = match arena.add_span(PlainDeed::new(1, range)) {
@@ -23,7 +24,7 @@ fn add_again(rt: &impl Abort, arena: &mut Arena<PlainDeed>, range: Range) {
     add(rt, arena, deed);
 }
 
-/// Carves `len` units at `base`, again where memory was refused.
+/// Carves `len` units at `base`, again where it was out of memory.
 fn grant_again(
     rt: &impl Abort,
     arena: &mut Arena<PlainDeed>,
@@ -43,7 +44,7 @@ fn grant_again(
     grant(rt, arena, request, base, len)
 }
 
-/// Imports a span, again where memory was refused.
+/// Imports a span, again where it was out of memory.
 fn import_again(
     rt: &impl Abort,
     arena: &mut Arena<PlainDeed>,

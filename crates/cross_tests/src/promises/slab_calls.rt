@@ -2,7 +2,8 @@
 ghost use Rattle.std.specs.Prelude.{◌≡◌, ◌↔◌, [], Contains, IsOk, IfOk, IfSome, IfNone, OnOk};
 ghost use Rattle.deed_core.specs.Request.{Fits, plain_of};
 ghost use Rattle.deed_core.specs.Weights.{Gains, Loses, WeighSame};
-ghost use Rattle.slab_layer.specs.Cache.{IsSound, IsChunkOf, IsSpanFor, IsSpanOf, chunk_of, chunks_out};
+ghost use Rattle.slab_layer.specs.Cache.{IsSound, IsChunkOf, IsSpanFor, IsSpanOf, chunk_of};
+ghost use Rattle.slab_layer.specs.Cache.{chunks_out};
 ghost use Rattle.slab_layer.specs.Cache.{span_tags};
 ghost use Rattle.slab_layer.specs.Calls.{IsAlike, TakeOf, PutOf, AddOf, ReapOf};
 

@@ -43,9 +43,8 @@ returns-clause-kinds g c = moved_are_among _ _ (returns-clause-weights g c)
 
 pub returns-clause-counts : goal.returns-clause-counts
 returns-clause-counts g c =
-    let none : into_iter_len c.loop-op.rest ≡ 0 = grind (arith, common_steps) in
-    (
+    let none : into_iter_len c.loop-op.rest ≡ 0 = grind (arith, common_steps) in (
       omega (arith, c.loop-op.invariant.1, none),
       rw c.args.ops.ok.0 (runs_few (cpu_depot c.args.cpu.now c.args.depot.now) (cpu_depot c.loop-op.cpu c.loop-op.depot) c.args.ops.items c.loop-op.run.answers.items c.loop-op.run.exchanges
-      c.size.ensures.shape c.requires (size_some c.args.depot.now.size c.size-2.ensures.sound.sized) (returns-clause-run g c)),
+          c.size.ensures.shape c.requires (size_some c.args.depot.now.size c.size-2.ensures.sound.sized) (returns-clause-run g c)),
     )
