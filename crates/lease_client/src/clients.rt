@@ -44,9 +44,9 @@ impl Model for Client {
 
     ghost Value = { ClientState };
 
-    ghost use Rattle.lease_client.specs.Stored.{client_of, IsStoredClient};
+    ghost use Rattle.lease_client.specs.Stored.{client_state, IsStoredClient};
 
-    ghost view = { client_of };
+    ghost view = { client_state };
 
     ghost invariant = { IsStoredClient };
 }
