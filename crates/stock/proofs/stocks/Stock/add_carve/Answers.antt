@@ -32,7 +32,7 @@ pub add_span_and_carve-requires : goal.add_span_and_carve-requires
 add_span_and_carve-requires g c =
     let o = opens c.args.self.now c.self.inside.spaces.items c.args.child (record { arena = c.space.inside.arena; source = c.space.inside.source; caches = c.space.inside.caches.items }) c.index_mut-space.result.now c.self.view_is c.requires.within c.index_mut-space.ensures.value c.space.view_is in
     let can = c.requires.can _ o.at in
-    record { route = can.route; good = can.good; plain = can.plain; room = can.room }
+    record { span = record { route = can.route; good = can.good; plain = can.plain; room = can.room } }
 
 pub returns-clause-never : goal.returns-clause-never
 returns-clause-never g c rest a =

@@ -45,9 +45,11 @@ add-requires g c =
     let p = opens_cache c.args.self.now c.self.inside.spaces.items c.args.arena (record { arena = c.space.inside.arena; source = c.space.inside.source; caches = c.space.inside.caches.items }) c.args.cache (record { slab = c.opened.inside.slab; depot = c.opened.inside.depot }) c.index_mut-opened.result.now o (number_within _ _ _ _ c.requires.has o.at) c.index_mut-opened.ensures.value c.opened.view_is in
     let cache = ((subst IsStock c.self.view_is c.self.invariant) _ _ o.at).caches _ _ p.among in
     record {
-      arena = c.requires.home ∙ sym cache.arena;
-      route = c.requires.route;
-      grid = subst (λ q. c.args.span.holding.range.base % q ≡ 0) (sym cache.quantum_is) (c.requires.grid _ o.at);
+      span = record {
+        arena = c.requires.home ∙ sym cache.arena;
+        route = c.requires.route;
+        grid = subst (λ q. c.args.span.holding.range.base % q ≡ 0) (sym cache.quantum_is) (c.requires.grid _ o.at);
+      };
     }
 
 pub returns-clause-never : goal.returns-clause-never
