@@ -215,6 +215,7 @@ impl Tree {
     /// Adds an arena that nothing speaks against, with its chain.
     fn put(&mut self, arena: TreeArena, chain: Vec<Level>) -> Result<(), AllocError>
         requires few { length self.old < MOST_ARENAS }
+        requires name { place_in arena.name self.old ≡ None }
         requires arena { IsArena self.old (length self.old) arena }
         requires chain { IsNewChain self.old arena chain.items }
         ensures ok { OnOk result (self.new ≡ self.old ++ arena ∷ []) }
