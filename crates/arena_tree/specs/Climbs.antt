@@ -1,9 +1,11 @@
 -- Import and hand back, as lists of steps.
-use Rattle.std.specs.Prelude.{◌≡◌, ℕ, ◌-◌, ◌*◌, ◌<◌, ◌≤◌, length, List, [], ◌∷◌, Option, Some, None, Result, Ok, Err}
+use Rattle.std.specs.Prelude.{◌≡◌, ℕ, ◌-◌, ◌*◌, ◌<◌, ◌≤◌, length, List, [], ◌∷◌, Option, Some, None}
+use Rattle.std.specs.Prelude.{Result, Ok, Err}
 use Rattle.deed_core.specs.Tag.{Tag}
 use Rattle.deed_core.specs.Request.{plain_of, rounded}
 use Rattle.deed_core.specs.declared.segments.Route.TheVariants.{Direct}
-use Rattle.arena_tree.specs.Chains.{Node, IsChain, IsGrant, first_id, source_of, quantum_in, amount_of}
+use Rattle.arena_tree.specs.Chains.{Node, IsChain, IsGrant, first_id, source_of, quantum_in}
+use Rattle.arena_tree.specs.Chains.{amount_of}
 use Rattle.arena_tree.specs.Events.{Carve, Free, AddCarve}
 use Rattle.arena_tree.specs.Plans.{Plan, Done, Ask, then}
 use Rattle.arena_tree.specs.declared.levels.Level.{Level}

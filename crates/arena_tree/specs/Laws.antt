@@ -4,7 +4,8 @@ use Rattle.std.specs.Prelude.{◌≡◌, ℕ, List, [], Some, None, length, IfOk
 use Rattle.deed_core.specs.Tag.{Tag}
 use Rattle.arena_tree.specs.Chains.{Node, IsChain, first_id}
 use Rattle.arena_tree.specs.Plans.{Within, Handles, Gives}
-use Rattle.arena_tree.specs.Climbs.{Climbed, Returned, climb_plan, return_plan, climb_left, return_left, climb_most, IsGrantOf}
+use Rattle.arena_tree.specs.Climbs.{Climbed, Returned, climb_plan, return_plan, climb_left}
+use Rattle.arena_tree.specs.Climbs.{return_left, climb_most, IsGrantOf}
 use Rattle.arena_tree.specs.Told.{Tells, ClimbTold, ReturnTold, NoneFits, OnlyNoFit, no_fits}
 use Rattle.arena_tree.specs.declared.levels.Level.{Level}
 

@@ -1,6 +1,7 @@
 -- What a contract sees of a setup, what is always so of one, what is added to it and why it is
 -- refused.
-use Rattle.std.specs.Prelude.{◌≡◌, ℕ, ◌<◌, ◌≤◌, ◌==◌, ◌⊎◌, List, [], ◌∷◌, ◌++◌, All, AllPairs, length, slice_get, Some, None}
+use Rattle.std.specs.Prelude.{◌≡◌, ℕ, ◌<◌, ◌≤◌, ◌==◌, ◌⊎◌, List, [], ◌∷◌, ◌++◌, All, AllPairs}
+use Rattle.std.specs.Prelude.{length, slice_get, Some, None}
 use Rattle.std.specs.List.{count_by}
 use Rattle.deed_core.specs.Extent.{Extent, Overlap}
 use Rattle.arena_tree.specs.declared.limits.TheConstants.{MOST_SPANS}
@@ -10,9 +11,13 @@ use Rattle.arena_tree.specs.declared.settings.NewSpan.{NewSpan}
 use Rattle.arena_tree.specs.declared.settings.Setting.{Setting}
 use Rattle.arena_tree.specs.declared.settings.Setting.TheVariants.{Root, Child, Span}
 use Rattle.arena_tree.specs.declared.setup_faults.SetupFault.{SetupFault}
-use Rattle.arena_tree.specs.declared.setup_faults.SetupFault.TheVariants.{NameTaken, TooMany, NoArena, ChainTooLong, BadQuantum, BadCache, BadRange, NoMemory}
+use Rattle.arena_tree.specs.declared.setup_faults.SetupFault.TheVariants.{NameTaken, TooMany}
+use Rattle.arena_tree.specs.declared.setup_faults.SetupFault.TheVariants.{NoArena, ChainTooLong}
+use Rattle.arena_tree.specs.declared.setup_faults.SetupFault.TheVariants.{BadQuantum, BadCache}
+use Rattle.arena_tree.specs.declared.setup_faults.SetupFault.TheVariants.{BadRange, NoMemory}
 use Rattle.arena_tree.specs.Trees.{place_in, IsWholeRange}
-use Rattle.arena_tree.specs.Setups.{root_range, CanRoot, CanChild, RefusesRoot, RefusesChild, AddsRoot, AddsChild}
+use Rattle.arena_tree.specs.Setups.{root_range, CanRoot, CanChild, RefusesRoot, RefusesChild}
+use Rattle.arena_tree.specs.Setups.{AddsRoot, AddsChild}
 
 -- the arenas by number, and the spans that they own in order of coming
 pub record SetupState : Type 0 where

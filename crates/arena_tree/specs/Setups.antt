@@ -9,7 +9,10 @@ use Rattle.arena_tree.specs.declared.trees.TreeArena.{TreeArena}
 use Rattle.arena_tree.specs.declared.settings.NewRoot.{NewRoot}
 use Rattle.arena_tree.specs.declared.settings.NewChild.{NewChild}
 use Rattle.arena_tree.specs.declared.setup_faults.SetupFault.{SetupFault}
-use Rattle.arena_tree.specs.declared.setup_faults.SetupFault.TheVariants.{NameTaken, TooMany, NoArena, ChainTooLong, BadQuantum, BadCache, BadRange, NoMemory}
+use Rattle.arena_tree.specs.declared.setup_faults.SetupFault.TheVariants.{NameTaken, TooMany}
+use Rattle.arena_tree.specs.declared.setup_faults.SetupFault.TheVariants.{NoArena, ChainTooLong}
+use Rattle.arena_tree.specs.declared.setup_faults.SetupFault.TheVariants.{BadQuantum, BadCache}
+use Rattle.arena_tree.specs.declared.setup_faults.SetupFault.TheVariants.{BadRange, NoMemory}
 use Rattle.arena_tree.specs.Trees.{place_in, ChainFrom, IsWholeRange, CanCache, HasCaches}
 
 -- an arena has the name

@@ -1,5 +1,6 @@
 -- What is so of every answer, whatever the parts are.
-use Rattle.std.specs.Prelude.{◌≡◌, ℕ, ◌+◌, ◌%◌, ◌<◌, ◌≤◌, List, Option, Some, None, Result, Ok, Err, IfOk, IfErr, IfSome}
+use Rattle.std.specs.Prelude.{◌≡◌, ℕ, ◌+◌, ◌%◌, ◌<◌, ◌≤◌, List, Option, Some, None, Result, Ok, Err}
+use Rattle.std.specs.Prelude.{IfOk, IfErr, IfSome}
 use Rattle.deed_core.specs.Tag.{Tag}
 use Rattle.deed_core.specs.Request.{IsGood, plain_of}
 use Rattle.deed_core.specs.declared.requests.Request.{Request}
@@ -8,7 +9,10 @@ use Rattle.arena_tree.specs.declared.part_faults.CarveFault.{CarveFault}
 use Rattle.arena_tree.specs.declared.part_faults.CarveFault.TheVariants as carving
 use Rattle.arena_tree.specs.declared.part_faults.Stopped.{Stopped}
 use Rattle.arena_tree.specs.Chains.{Node, IsGrant, IsCachedChunk, source_of, quantum_in}
-use Rattle.arena_tree.specs.Events.{Event, AnswerTo, Carve, Free, AddCarve, SlabTake, SlabPut, SlabAdd, SlabReap, SwapFull, SwapEmpty, SwapFresh, DepotReap, Pop, Push, Change, freed_back, added_back, put_back, slab_back, pushed_back}
+use Rattle.arena_tree.specs.Events.{Event, AnswerTo, Carve, Free, AddCarve, SlabTake, SlabPut}
+use Rattle.arena_tree.specs.Events.{SlabAdd, SlabReap, SwapFull, SwapEmpty, SwapFresh, DepotReap}
+use Rattle.arena_tree.specs.Events.{Pop, Push, Change, freed_back, added_back, put_back, slab_back}
+use Rattle.arena_tree.specs.Events.{pushed_back}
 
 -- what is carved fits; a request is bad just where no arena of this quantum takes it
 abbrev pub SoundCarve : List Node → ℕ → Request → Result Tag CarveFault → Type 0

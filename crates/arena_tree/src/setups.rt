@@ -1,7 +1,9 @@
 //! Setups: a tree of arenas, and the spans that its roots own.
-ghost use Rattle.std.specs.Prelude.{◌≡◌, ◌≢◌, ◌==◌, ◌↔◌, [], Any, IsTrue, MatchBool, IfOk, IfErr, OnOk, OnErr};
-ghost use Rattle.std.specs.List.{count_by};
-ghost use Rattle.arena_tree.specs.Settings.{IsSetup, Clash, HasNoClash, BecomesSpan, CanSet, RefusesNewSpan, TakesSetting, RefusesSetting, span_count};
+ghost use Rattle.std.specs.Prelude.{◌≡◌, ◌≢◌, ◌==◌, ◌↔◌, [], Any, IsTrue, MatchBool, IfOk, IfErr};
+ghost use Rattle.std.specs.Prelude.{OnOk, OnErr};
+ghost use Rattle.arena_tree.specs.Settings.{IsSetup, Clash, HasNoClash, BecomesSpan, CanSet};
+ghost use Rattle.arena_tree.specs.Settings.{RefusesNewSpan, TakesSetting, RefusesSetting};
+ghost use Rattle.arena_tree.specs.Settings.{span_count};
 ghost use Rattle.arena_tree.specs.Trees.{IsTree};
 ghost use Rattle.arena_tree.specs.declared.settings.Setting.TheVariants.{Root, Child, Span};
 
@@ -57,7 +59,7 @@ impl Setup {
         ensures tree { IsTree self.now.arenas }
         ensures setup { IsSetup self.now }
     {
-        // For its clause.
+        // For its clause: the type keeps a tree as it should be.
         let _ = self.tree.len();
         &self.tree
     }

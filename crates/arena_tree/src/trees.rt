@@ -1,10 +1,12 @@
 //! The tree of arenas: their names, where each imports from, and how each carves.
-ghost use Rattle.std.specs.Prelude.{◌≡◌, ◌≢◌, ◌<◌, ◌≤◌, List, [], ◌∷◌, ◌++◌, length, position, slice_get, Some, IfSome, IfOk, IfErr, OnOk, OnErr};
+ghost use Rattle.std.specs.Prelude.{◌≡◌, ◌≢◌, ◌<◌, ◌≤◌, List, [], ◌∷◌, ◌++◌, length, position};
+ghost use Rattle.std.specs.Prelude.{slice_get, Some, IfSome, IfOk, IfErr, OnOk, OnErr};
 ghost use Rattle.std.specs.Str.{bytes_eq};
 ghost use Rattle.arena_tree.specs.Chains.{IsChain};
 ghost use Rattle.arena_tree.specs.Trees.{place_in, level_of, nodes_of, ChainFrom, IsArena, IsTree};
 ghost use Rattle.arena_tree.specs.Stored.{IsNewChain};
-ghost use Rattle.arena_tree.specs.Setups.{BecomesRoot, BecomesChild, RefusesRoot, RefusesChild, AddsRoot, AddsChild};
+ghost use Rattle.arena_tree.specs.Setups.{BecomesRoot, BecomesChild, RefusesRoot, RefusesChild};
+ghost use Rattle.arena_tree.specs.Setups.{AddsRoot, AddsChild};
 
 use crate::levels::Level;
 use crate::limits::{LONGEST_CHAIN, MOST_ARENAS};
