@@ -36,3 +36,6 @@ pub chain_above : (nodes : List Node) (l : Level) (up : List Level) (given whole
 chain_above nodes l up given whole is first source =
     let here : l.id ≡ given.arena = (let e : Some l.id ≡ Some given.arena = first in cc) in
     sym (chain_source nodes l up is) ∙ subst (λ k. source_of nodes k ≡ Some whole.arena) (sym here) source
+
+-- what a chain says of its first arena
+pub ruleset first_of_chain = (chain_quanta, chain_within, chain_quantum, chain_source)

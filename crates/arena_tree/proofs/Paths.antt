@@ -74,3 +74,6 @@ within_then most most' (Ask e g) next n w f = λ x. within_then most most' (g x)
 pub handles_then : {A B : Type 0} (left : A → Option Tag) (left' : B → Option Tag) (p : Plan A) (next : A → Plan B) (h : Option Tag) → Handles left p h → ((a : A) → Handles left' (next a) (left a)) → Handles left' (then p next) h
 handles_then left left' (Done a) next h k f = subst (Handles left' (next a)) (sym k) (f a)
 handles_then left left' (Ask e g) next h k f = (k.0, λ x. handles_then left left' (g x) next (hand_after e x h) (k.1 x) f)
+
+-- a list of steps goes on as the code does
+pub ruleset ran_on = (ran_then, ran_ask, ran_done)

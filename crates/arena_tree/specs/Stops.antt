@@ -21,7 +21,9 @@ use Rattle.arena_tree.specs.declared.part_faults.PushFault.{PushFault}
 use Rattle.arena_tree.specs.declared.part_faults.PushFault.TheVariants as pushing
 use Rattle.arena_tree.specs.declared.part_faults.ChangeFault.{ChangeFault}
 use Rattle.arena_tree.specs.declared.part_faults.ChangeFault.TheVariants as changing
-use Rattle.arena_tree.specs.Events.{Event, AnswerTo, Carve, Free, AddCarve, SlabTake, SlabPut, SlabAdd, SlabReap, SwapFull, SwapEmpty, SwapFresh, DepotReap, Pop, Push, Change}
+use Rattle.arena_tree.specs.Events.{Event, AnswerTo, Carve, Free, AddCarve, SlabTake, SlabPut}
+use Rattle.arena_tree.specs.Events.{SlabAdd, SlabReap, SwapFull, SwapEmpty, SwapFresh, DepotReap}
+use Rattle.arena_tree.specs.Events.{Pop, Push, Change}
 
 -- of an answer, by its refusal
 abbrev pub refuses_by : {A E : Type 0} → (E → Bool) → Result A E → Bool

@@ -1,15 +1,16 @@
 //! Import and hand back, in steps.
-ghost use Rattle.std.specs.Prelude.{◌≡◌, ℕ, ◌+◌, ◌<◌, ◌≤◌, length, Some, Err, IfOk};
-ghost use Rattle.deed_core.specs.Request.{rounded, plain_of};
-ghost use Rattle.arena_tree.specs.Chains.{IsChain, IsGrant, first_id, source_of, quantum_in};
+ghost use Rattle.std.specs.Prelude.{◌≡◌, ◌+◌, ◌≤◌, length, Some, Err, IfOk};
+ghost use Rattle.deed_core.specs.Request.{plain_of};
+ghost use Rattle.arena_tree.specs.Chains.{IsChain, IsGrant, first_id};
 ghost use Rattle.arena_tree.specs.Plans.{Ran};
-ghost use Rattle.arena_tree.specs.Climbs.{return_plan, descent_plan, climb_plan, climb_most, IsGrantOf};
+ghost use Rattle.arena_tree.specs.Climbs.{return_plan, descent_plan, climb_plan, climb_most};
+ghost use Rattle.arena_tree.specs.Climbs.{IsGrantOf, CanDescend};
 ghost use Rattle.arena_tree.specs.Tags.{tag_climb, tag_return};
 
 use crate::levels::{Level, import_amount};
 use crate::part_faults::{AddCarveFault, CarveFault, ClimbFault, FreeFault, ReturnFault};
 use crate::parts::Parts;
-use deed_core::{Held, Request, Route};
+use deed_core::{Held, Request};
 
 /// Carves `size` units in the first arena of the chain; where none fit, imports a span from the
 /// next, and so on upwards.
@@ -26,6 +27,7 @@ pub fn climb_alloc<S: Held, P: Parts<S>>(
     ensures few { P.count parts.new
         ≤ P.count parts.old + climb_most (length chain.now) (tag_climb S.tag result) }
     ensures tree { P.tree parts.new ≡ P.tree parts.old }
+    ensures rounds { P.rounds parts.new ≡ P.rounds parts.old }
 {
     climb(parts, chain, size)
 }
@@ -48,7 +50,7 @@ pub fn climb_free<S: Held, P: Parts<S>>(
 }
 
 // As `climb_alloc`, which counts the steps beside it.
-#[tactic(auto, using(crate::proofs::Paths::ran_then, crate::proofs::Paths::ran_ask, crate::proofs::Paths::ran_done, crate::proofs::Amounts::chain_quanta, crate::proofs::Amounts::chain_within, crate::proofs::Amounts::chain_quantum, crate::proofs::Amounts::chain_source))]
+#[tactic(auto, using(crate::proofs::Paths::ran_on, crate::proofs::Amounts::first_of_chain))]
 fn climb<S: Held, P: Parts<S>>(
     parts: &mut P,
     chain: &[Level],
@@ -59,6 +61,7 @@ fn climb<S: Held, P: Parts<S>>(
         parts.old parts.new (tag_climb S.tag result) }
     ensures granted { IfOk result (λ s. IsGrantOf (P.tree parts.old) chain.now size (S.tag s)) }
     ensures tree { P.tree parts.new ≡ P.tree parts.old }
+    ensures rounds { P.rounds parts.new ≡ P.rounds parts.old }
 {
     let Some((level, up)) = chain.split_first() else {
         return Err(ClimbFault::NoFit);
@@ -78,7 +81,7 @@ fn climb<S: Held, P: Parts<S>>(
 }
 
 // Gives a span to the child, which carves from it. Where memory is refused, the span goes back.
-#[tactic(auto, using(crate::proofs::Paths::ran_then, crate::proofs::Paths::ran_ask, crate::proofs::Paths::ran_done))]
+#[tactic(auto, using(crate::proofs::Paths::ran_on))]
 fn descend<S: Held, P: Parts<S>>(
     parts: &mut P,
     child: u32,
@@ -86,19 +89,13 @@ fn descend<S: Held, P: Parts<S>>(
     span: S,
     size: u64,
 ) -> Result<S, ClimbFault<S>>
-    requires child { child < length (P.tree parts.old) }
-    requires source { source_of (P.tree parts.old) child ≡ Some (S.tag span).arena }
-    requires chain { IsChain (P.tree parts.old) up.now }
-    requires first { first_id up.now ≡ Some (S.tag span).arena }
-    requires some { 0 < size }
-    requires room { rounded (quantum_in (P.tree parts.old) child) size
-        ≤ (S.tag span).holding.range.len }
-    requires direct { (S.tag span).route ≡ Route.Direct }
+    requires { CanDescend (P.tree parts.old) up.now child size (S.tag span) }
     ensures ran { Ran P.step P.tree P.count P.rounds (descent_plan up.now child size (S.tag span))
         parts.old parts.new (tag_climb S.tag result) }
     ensures granted { IfOk result (λ s.
         IsGrant (P.tree parts.old) child (plain_of size) (S.tag s)) }
     ensures tree { P.tree parts.new ≡ P.tree parts.old }
+    ensures rounds { P.rounds parts.new ≡ P.rounds parts.old }
 {
     match parts.add_carve(child, span, size) {
         Ok(segment) => Ok(segment),

@@ -1,5 +1,5 @@
 //! The arenas of a chain.
-ghost use Rattle.std.specs.Prelude.{◌≡◌, ◌-◌, ◌<◌, ◌≤◌, ◌^◌, All, min};
+ghost use Rattle.std.specs.Prelude.{◌≡◌, ◌-◌, ◌<◌, ◌^◌, All, min};
 ghost use Rattle.deed_core.specs.Request.{rounded};
 ghost use Rattle.arena_tree.specs.Chains.{amount_of};
 

@@ -16,7 +16,7 @@ pub enum CarveFault {
     #[error("no fit")]
     NoFit,
     /// Memory was refused.
-    #[error("no memory")]
+    #[error("out of memory")]
     NoMemory,
     /// Nothing was done.
     #[error("stopped")]
@@ -100,7 +100,7 @@ pub enum SwapFreshFault {
     #[error("the depot's magazines hold {0} rounds")]
     OldSize(usize),
     /// Memory was refused.
-    #[error("no memory")]
+    #[error("out of memory")]
     NoMemory,
     /// Nothing was done.
     #[error("stopped")]
@@ -119,7 +119,7 @@ pub enum PushFault<S> {
 #[derive(Clone, Copy, PartialEq, Eq, Debug, Error)]
 pub enum ChangeFault {
     /// Memory was refused.
-    #[error("no memory")]
+    #[error("out of memory")]
     NoMemory,
     /// The size isn't greater than theirs.
     #[error("the size isn't greater")]

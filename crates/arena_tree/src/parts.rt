@@ -2,9 +2,12 @@
 ghost use Rattle.std.specs.Prelude.{◌≡◌, ℕ, ◌%◌, ◌<◌, ◌≤◌, List, Some, length};
 ghost use Rattle.deed_core.specs.Request.{rounded};
 ghost use Rattle.arena_tree.specs.Chains.{Node, source_of, quantum_in};
-ghost use Rattle.arena_tree.specs.Events.{Event, AnswerTo, Carve, Free, AddCarve, SlabTake, SlabPut, SlabAdd, SlabReap, SwapFull, SwapEmpty, SwapFresh, DepotReap, Pop, Push, Change};
+ghost use Rattle.arena_tree.specs.Events.{Event, AnswerTo, Carve, Free, AddCarve, SlabTake};
+ghost use Rattle.arena_tree.specs.Events.{SlabPut, SlabAdd, SlabReap, SwapFull, SwapEmpty};
+ghost use Rattle.arena_tree.specs.Events.{SwapFresh, DepotReap, Pop, Push, Change};
 ghost use Rattle.arena_tree.specs.Plans.{Step};
-ghost use Rattle.arena_tree.specs.Tags.{tag_ok, tag_all, tag_free, tag_add, tag_put, tag_slab, tag_push};
+ghost use Rattle.arena_tree.specs.Tags.{tag_ok, tag_all, tag_free, tag_add, tag_put, tag_slab};
+ghost use Rattle.arena_tree.specs.Tags.{tag_push};
 
 use crate::part_faults::{
     AddCarveFault, CarveFault, ChangeFault, FreeFault, PushFault, SlabAddFault, SlabPutFault,

@@ -29,7 +29,7 @@ pub enum SetupFault {
     #[error("bad range")]
     BadRange,
     /// A growth was refused.
-    #[error("no memory")]
+    #[error("out of memory")]
     NoMemory,
 }
 

@@ -1,6 +1,5 @@
 //! What sizes and ranges an arena may have.
-ghost use Rattle.std.specs.Prelude.{◌≡◌, ◌<◌, ◌↔◌, IsTrue, IfSome, IfNone};
-ghost use Rattle.std.specs.Int.{IsPowerOfTwo};
+ghost use Rattle.std.specs.Prelude.{◌≡◌, ◌<◌, IfSome, IfNone};
 ghost use Rattle.arena_tree.specs.Trees.{IsWholeRange, HasCaches, CanCache};
 
 use crate::limits::MOST_CACHES;
