@@ -1,0 +1,10 @@
+//! Sorted lists in short rows.
+#![tactic(auto)]
+
+mod entries;
+mod row;
+mod rows;
+mod seats;
+
+pub use entries::RowEntry;
+pub use rows::Rows;
