@@ -74,10 +74,10 @@ module _ {X : Type 0} (weight : X → ℕ) where
   top_stays xs p x top w is heavy less = let h = greatest_insert xs p x in omega (arith, h, is, heavy)
 
   -- after one was taken out that weighs less,
-  pub top_left : (xs : List X) (p : ℕ) (x : X) (top w : ℕ) → top ≡ greatest weight xs → w ≡ weight x → p < length xs → ((d : X) → x ≡ get_or xs p d) → w ≢ top → top ≡ greatest weight (remove xs p)
+  pub top_left : (xs : List X) (p : ℕ) (x : X) (top w : ℕ) → top ≡ greatest weight xs → w ≡ weight x → p < length xs → x ≡ get_or xs p x → w ≢ top → top ≡ greatest weight (remove xs p)
   top_left xs p x top w is heavy lt at other =
       let h = greatest_remove xs p x lt in
-      let here = ap weight (at x) in
+      let here = ap weight at in
       omega (arith, h, is, heavy, here, other)
 
   -- and after further ones were put behind
