@@ -2,6 +2,7 @@
 #![tactic(auto)]
 
 mod entries;
+mod heavy;
 mod row;
 mod rows;
 mod seats;

@@ -1,8 +1,10 @@
 //! The list.
 ghost use Rattle.std.specs.Prelude.{◌≡◌, ◌≢◌, ◌<◌, ◌≤◌, ℕ, [], length, All, Any, HoldsAt, slice_get, OnOk, OnErr, insert, remove, slice_index_or};
 ghost use Rattle.sorted_rows.specs.Order.{Rises, below};
+ghost use Rattle.sorted_rows.specs.Weights.{heavy_from};
 
 use crate::entries::RowEntry;
+use crate::heavy::least_weighing;
 use crate::row::Row;
 use crate::seats::{least_from, put, take};
 use std::alloc::Global;
@@ -121,5 +123,13 @@ impl<T: RowEntry> Rows<T> {
         ensures { result ≡ slice_get self.now.items (below T.rank key self.now.items) }
     {
         least_from(&self.rows, key)
+    }
+
+    /// The first entry, from the first at or above the key on, that weighs as much as `least` or
+    /// more. Rows of lighter entries are passed by, so it looks at one number for 22 to 63 of these.
+    pub fn least_weighing(&self, key: u128, least: u64) -> Option<T>
+        ensures { result ≡ heavy_from T.rank T.weight key least self.now.items }
+    {
+        least_weighing(&self.rows, key, least)
     }
 }
