@@ -1,0 +1,64 @@
+-- Searches by weight over rows.
+use Rattle.std.proofs.Common.{◌≡◌, ℕ, suc, ◌+◌, ◌<◌, ◌≤◌, List, [], ◌∷◌, ◌++◌, length, take, drop, get_or, sym, ap, refl, subst, ◌∙◌, arith, Bool, Option, None, Some}
+use Rattle.std.specs.List.{find}
+use Rattle.std.specs.Option.{option_or}
+use Rattle.std.proofs.lemmas.List.{drop-append-le, drop_all}
+use Rattle.std.proofs.lemmas.List.Folds.{find-append}
+use Rattle.std.proofs.Math.Seq.{drop-cons, drop-append-add}
+use Rattle.sorted_rows.specs.Order.{below, IsPlace}
+use Rattle.sorted_rows.specs.Layout.{flat, IsLaid, IsSeat}
+use Rattle.sorted_rows.specs.Weights.{greatest, weighs, heavy_from}
+use Rattle.sorted_rows.proofs.PlaceLemmas.{below_is}
+use Rattle.sorted_rows.proofs.RowLemmas.{flat_at, any_of, place_in_seat}
+use Rattle.sorted_rows.proofs.WeightLemmas.{find_none}
+
+module _ {X : Type 0} (p : X → Bool) where
+  -- found in the first of two parts, or in the second
+  pub found_first : (xs ys : List X) (x : X) → Some x ≡ find p xs → Some x ≡ find p (xs ++ ys)
+  found_first xs ys x is = sym (find-append p xs ys ∙ ap (λ o. option_or o (find p ys)) (sym is))
+
+  pub found_behind : (xs ys : List X) → None ≡ find p xs → find p (xs ++ ys) ≡ find p ys
+  found_behind xs ys is = find-append p xs ys ∙ ap (λ o. option_or o (find p ys)) (sym is)
+
+  -- the rows from one on
+  rows_from : (rows : List (List X)) (k : ℕ) (r : List X) → k < length rows → r ≡ get_or rows k r → flat (drop k rows) ≡ r ++ flat (drop (suc k) rows)
+  rows_from rows k r lt is = ap flat (drop-cons rows k r lt) ∙ ap (λ q. q ++ flat (drop (suc k) rows)) (sym is)
+
+  pub row_has : (rows : List (List X)) (k : ℕ) (r : List X) (x : X) → k < length rows → r ≡ get_or rows k r → Some x ≡ find p r → Some x ≡ find p (flat (drop k rows))
+  row_has rows k r x lt at is = found_first r (flat (drop (suc k) rows)) x is ∙ ap (find p) (sym (rows_from rows k r lt at))
+
+  pub row_lacks : (rows : List (List X)) (k : ℕ) (r : List X) → k < length rows → r ≡ get_or rows k r → None ≡ find p r → find p (flat (drop k rows)) ≡ find p (flat (drop (k + 1) rows))
+  row_lacks rows k r lt at is =
+      let next : suc k ≡ k + 1 = omega arith in
+      ap (find p) (rows_from rows k r lt at) ∙ (found_behind r (flat (drop (suc k) rows)) is ∙ ap (λ n. find p (flat (drop n rows))) next)
+
+  pub none_left : (rows : List (List X)) (k : ℕ) → length rows ≤ k → None ≡ find p (flat (drop k rows))
+  none_left rows k past = sym (ap (λ rs. find p (flat rs)) (drop_all k rows past))
+
+module _ {X : Type 0} (rank weight : X → ℕ) where
+  -- a row whose greatest weight is too small
+  pub light_row : (least : ℕ) (r : List X) → greatest weight r < least → None ≡ find (weighs weight least) r
+  light_row least r lt = sym (find_none weight least r lt)
+
+  -- what stands from the place of a key on, in its row and behind
+  pub from_place : (key : ℕ) (rows : List (List X)) (i q : ℕ) (r : List X) → IsLaid rank rows → i < length rows → r ≡ get_or rows i r → IsSeat rank key rows i → IsPlace rank key r q
+      → drop (below rank key (flat rows)) (flat rows) ≡ drop q r ++ flat (drop (suc i) rows)
+  from_place key rows i q r laid lt e seat place =
+      let at = place_in_seat rank key rows i q r lt seat (subst (λ xs. IsPlace rank key xs q) e place) in
+      let a = flat (take i rows) in
+      let b = flat (drop (suc i) rows) in
+      let whole : flat rows ≡ a ++ (r ++ b) = rw e (flat_at rows i r lt) in
+      let some : 0 < length r = rw e (laid.filled i r lt) in
+      let is = below_is rank key (flat rows) _ (any_of r 0 some) at in
+      ap (λ n. drop n (flat rows)) is ∙ (ap (drop (length a + q)) whole ∙ (drop-append-add a (r ++ b) q ∙ drop-append-le q r b place.within))
+
+  pub heavy_here : (key least : ℕ) (rows : List (List X)) (i q : ℕ) (r : List X) (x : X) → IsLaid rank rows → i < length rows → r ≡ get_or rows i r → IsSeat rank key rows i → IsPlace rank key r q
+      → Some x ≡ find (weighs weight least) (drop q r) → Some x ≡ heavy_from rank weight key least (flat rows)
+  heavy_here key least rows i q r x laid lt e seat place is =
+      found_first (weighs weight least) (drop q r) (flat (drop (suc i) rows)) x is ∙ ap (find (weighs weight least)) (sym (from_place key rows i q r laid lt e seat place))
+
+  pub heavy_behind : (key least : ℕ) (rows : List (List X)) (i q : ℕ) (r : List X) (o : Option X) → IsLaid rank rows → i < length rows → r ≡ get_or rows i r → IsSeat rank key rows i → IsPlace rank key r q
+      → None ≡ find (weighs weight least) (drop q r) → o ≡ find (weighs weight least) (flat (drop (i + 1) rows)) → o ≡ heavy_from rank weight key least (flat rows)
+  heavy_behind key least rows i q r o laid lt e seat place is behind =
+      let next : i + 1 ≡ suc i = omega arith in
+      behind ∙ (ap (λ n. find (weighs weight least) (flat (drop n rows))) next ∙ (sym (found_behind (weighs weight least) (drop q r) (flat (drop (suc i) rows)) is) ∙ ap (find (weighs weight least)) (sym (from_place key rows i q r laid lt e seat place))))

@@ -1,0 +1,11 @@
+use Rattle.std.proofs.Common.{◌≡◌, ◌-◌, length, drop}
+use Rattle.std.specs.List.{find}
+use Rattle.sorted_rows.specs.Layout.{flat}
+use Rattle.sorted_rows.specs.Weights.{weighs}
+use Rattle.sorted_rows.proofs.heavy.heavy_after.Given as goal
+
+abbrev pub invariant-loop-seat : goal.invariant-loop-seat
+invariant-loop-seat g l = find (weighs g.T.RowEntry.weight l.least) (flat (drop l.from l.rows)) ≡ find (weighs g.T.RowEntry.weight l.least) (flat (drop l.seat l.rows))
+
+abbrev pub decreases-loop-seat : goal.decreases-loop-seat
+decreases-loop-seat g l = length l.rows - l.seat

@@ -1,0 +1,41 @@
+-- Lists in rows.
+use Rattle.std.specs.Prelude.{◌≢◌, ◌<◌, ◌≤◌, ◌+◌, ℕ, List, [], get_or, length, take, drop, suc, All}
+use Rattle.std.specs.List.{flat_map}
+use Rattle.sorted_rows.specs.Order.{Rises}
+
+module _ {X : Type 0} where
+  -- the rows end to end
+  abbrev pub flat : List (List X) → List X
+  flat rows = flat_map (λ r. r) rows
+
+  -- two neighbors never have 32 or fewer between them
+  abbrev pub Paired : List (List X) → Type 0
+  Paired rows = (k : ℕ) → suc k < length rows → 32 < length (get_or rows k []) + length (get_or rows (suc k) [])
+
+  -- each row has place for one more
+  abbrev pub Short : List (List X) → Type 0
+  Short rows = (k : ℕ) → length (get_or rows k []) < 64
+
+module _ {X : Type 0} (rank : X → ℕ) where
+  -- rows that a list stands in
+  pub record IsLaid (rows : List (List X)) : Type 0 where
+    pub rises : Rises rank (flat rows)
+    pub filled : All (λ r. 0 < length r) rows
+    pub paired : Paired rows
+
+  -- rows that a list stands in, but for the row `i` that has lost an entry
+  pub record IsLoose (i : ℕ) (rows : List (List X)) : Type 0 where
+    pub rises : Rises rank (flat rows)
+    pub filled : (k : ℕ) → k < length rows → k ≢ i → 0 < length (get_or rows k [])
+    pub almost : (k : ℕ) → suc k < length rows → 32 ≤ length (get_or rows k []) + length (get_or rows (suc k) [])
+    pub paired : (k : ℕ) → suc k < length rows → k ≢ i → suc k ≢ i → 32 < length (get_or rows k []) + length (get_or rows (suc k) [])
+
+  -- the row where a key belongs: what stands before the row is below it, and what stands behind it above
+  pub record IsSeat (key : ℕ) (rows : List (List X)) (i : ℕ) : Type 0 where
+    pub before : All (λ x. rank x < key) (flat (take i rows))
+    pub after : All (λ x. key < rank x) (flat (drop (suc i) rows))
+
+-- what a caller sees: the list, and how many may be in it
+pub record Listing (X : Type 0) : Type 0 where
+  pub items : List X
+  pub room : ℕ

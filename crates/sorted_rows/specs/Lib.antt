@@ -1,0 +1,4 @@
+pub mod Layout
+pub mod Order
+pub mod Stocked
+pub mod Weights

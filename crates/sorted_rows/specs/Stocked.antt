@@ -1,0 +1,16 @@
+-- What is always so of a list in rows.
+use Rattle.std.specs.Prelude.{◌≡◌, ◌≤◌, ◌+◌, ◌-◌, ◌*◌, ℕ, List, [], length, All, vec_len, vec_capacity}
+use Rattle.std.specs.Global.{Vec}
+use Rattle.sorted_rows.specs.Layout.{flat, Short, IsLaid}
+
+module _ {X : Type 0} (rank : X → ℕ) where
+  -- all is laid in rows, and there are spare rows for as many more as there is room
+  pub record IsStocked (rows spare : Vec (List X)) (len room : ℕ) : Type 0 where
+    pub laid : IsLaid rank rows.items
+    pub short : Short rows.items
+    pub counted : len ≡ length (flat rows.items)
+    pub within : len ≤ room
+    pub empty : All (λ r. r ≡ []) spare.items
+    pub enough : room ≤ 16 * (vec_len rows + vec_len spare - 1)
+    pub rows_hold : vec_len rows + vec_len spare ≤ vec_capacity rows
+    pub spare_holds : vec_len rows + vec_len spare ≤ vec_capacity spare

@@ -1,0 +1,218 @@
+//! One row of a list: a short vector with room for 64 entries.
+ghost use Rattle.std.specs.Prelude.{◌≡◌, ◌+◌, ◌<◌, ◌≤◌, [], ◌++◌, length, take, drop, insert, remove, slice_index_or, max, IfOk};
+ghost use Rattle.std.specs.List.{find};
+ghost use Rattle.sorted_rows.specs.Order.{Rises, IsPlace, FirstIs};
+ghost use Rattle.sorted_rows.specs.Weights.{greatest, weighs};
+
+use crate::entries::RowEntry;
+use std::alloc::{AllocError, Global};
+use std::marker::Model;
+
+/// The greatest number of entries in a row.
+pub const ROW: usize = 64;
+
+/// A contract sees its entries.
+#[derive(Drop)]
+pub struct Row<T: RowEntry> {
+    first: u128,
+    top: u64,
+    items: Vec<T>,
+}
+
+impl<T: RowEntry> Model for Row<T> {
+    ghost use Rattle.std.specs.Prelude.{◌≡◌, ◌≤◌, List, vec_len, vec_capacity};
+    ghost use Rattle.sorted_rows.specs.Order.{FirstIs};
+    ghost use Rattle.sorted_rows.specs.Weights.{greatest};
+
+    ghost Value = { List T };
+
+    ghost view = { λ r. r.items.items };
+
+    ghost invariant = { λ r. (vec_len r.items ≤ 64) × (64 ≤ vec_capacity r.items) × FirstIs T.rank r.first r.items.items × (r.top ≡ greatest T.weight r.items.items) };
+}
+
+impl<T: RowEntry> Row<T> {
+    #[tactic(auto, using(crate::proofs::WeightLemmas::greatest_none))]
+    pub fn new(alloc: Global) -> Result<Row<T>, AllocError>
+        ensures { IfOk result (λ row. row ≡ []) }
+    {
+        let items = Vec::with_capacity(alloc, ROW)?;
+        Ok(Row {
+            first: 0,
+            top: 0,
+            items,
+        })
+    }
+
+    pub fn len(&self) -> usize
+        ensures len { result ≡ length self.now }
+        ensures bound { result ≤ 64 }
+    {
+        self.items.len()
+    }
+
+    /// The key of the first entry.
+    pub fn first(&self) -> u128
+        requires { 0 < length self.now }
+        ensures { (d : T) → result ≡ T.rank (slice_index_or self.now 0 d) }
+    {
+        self.first
+    }
+
+    pub fn get(&self, at: usize) -> T
+        requires { at < length self.now }
+        ensures { (d : T) → result ≡ slice_index_or self.now at d }
+    {
+        self.items[at]
+    }
+
+    /// The greatest weight of its entries; 0 where there is none.
+    pub fn top(&self) -> u64
+        ensures { result ≡ greatest T.weight self.now }
+    {
+        self.top
+    }
+
+    /// Its first entry, from the place `from` on, that weighs as much as `least` or more.
+    pub fn heavy(&self, from: usize, least: u64) -> Option<T>
+        ensures { result ≡ find (weighs T.weight least) (drop from self.now) }
+    {
+        heavy_in(&self.items, from, least)
+    }
+
+    /// How many entries stand below the key.
+    pub fn below(&self, key: u128) -> usize
+        requires { Rises T.rank self.now }
+        ensures { IsPlace T.rank key self.now result }
+    {
+        below_in(&self.items, key)
+    }
+
+    #[tactic(auto, using(crate::proofs::WeightLemmas::top_grows, crate::proofs::WeightLemmas::top_stays))]
+    pub fn insert(&mut self, at: usize, entry: T)
+        requires at { at ≤ length self.old }
+        requires room { length self.old < 64 }
+        ensures { self.new ≡ insert self.old at entry }
+    {
+        match self.items.insert(at, entry) {
+            Ok(()) => {}
+            Err(_) => unreachable!(),
+        }
+        self.first = self.items[0].key();
+        if entry.weight() > self.top {
+            self.top = entry.weight();
+        }
+    }
+
+    #[tactic(auto, using(crate::proofs::WeightLemmas::top_left))]
+    pub fn remove(&mut self, at: usize) -> T
+        requires { at < length self.old }
+        ensures items { self.new ≡ remove self.old at }
+        ensures value { (d : T) → result ≡ slice_index_or self.old at d }
+    {
+        let entry = self.items.remove(at);
+        self.first = first_in(&self.items);
+        if entry.weight() == self.top {
+            self.top = greatest_in(&self.items);
+        }
+        entry
+    }
+
+    /// Moves the upper half of a full row to an empty one.
+    pub fn split(&mut self, high: &mut Row<T>)
+        requires full { length self.old ≡ 64 }
+        requires empty { high.old ≡ [] }
+        ensures low { self.new ≡ take 32 self.old }
+        ensures high { high.new ≡ drop 32 self.old }
+    {
+        match high.items.extend_from_slice(&self.items[ROW / 2..]) {
+            Ok(()) => {}
+            Err(_) => unreachable!(),
+        }
+        high.first = high.items[0].key();
+        high.top = greatest_in(&high.items);
+        self.items.truncate(ROW / 2);
+        self.top = greatest_in(&self.items);
+    }
+
+    /// Moves all entries of the next row here.
+    #[tactic(auto, using(crate::proofs::WeightLemmas::top_joined, crate::proofs::WeightLemmas::greatest_none))]
+    pub fn join(&mut self, next: &mut Row<T>)
+        requires room { length self.old + length next.old ≤ 64 }
+        ensures items { self.new ≡ self.old ++ next.old }
+        ensures next { next.new ≡ [] }
+    {
+        match self.items.append(&mut next.items) {
+            Ok(()) => {}
+            Err(_) => unreachable!(),
+        }
+        self.first = first_in(&self.items);
+        self.top = greater(self.top, next.top);
+        next.top = 0;
+    }
+}
+
+/// How many entries stand below the key.
+fn below_in<T: RowEntry>(items: &[T], key: u128) -> usize
+    requires { Rises T.rank items.now }
+    ensures { IsPlace T.rank key items.now result }
+{
+    let mut low = 0;
+    let mut high = items.len();
+    while low < high {
+        let mid = low + (high - low) / 2;
+        if items[mid].key() < key {
+            low = mid + 1;
+        } else {
+            high = mid;
+        }
+    }
+    low
+}
+
+/// The key of the first, where there is one.
+fn first_in<T: RowEntry>(items: &[T]) -> u128
+    ensures { FirstIs T.rank result items.now }
+{
+    if items.is_empty() {
+        return 0;
+    }
+    items[0].key()
+}
+
+/// The greater of two weights.
+fn greater(one: u64, other: u64) -> u64
+    ensures { result ≡ max one other }
+{
+    if one < other { other } else { one }
+}
+
+/// The greatest weight.
+fn greatest_in<T: RowEntry>(items: &[T]) -> u64
+    ensures { result ≡ greatest T.weight items.now }
+{
+    let mut top = 0;
+    let mut at = items.len();
+    while at > 0 {
+        at -= 1;
+        let weight = items[at].weight();
+        if weight > top {
+            top = weight;
+        }
+    }
+    top
+}
+
+/// The first, from a place on, that weighs enough.
+fn heavy_in<T: RowEntry>(items: &[T], from: usize, least: u64) -> Option<T>
+    ensures { result ≡ find (weighs T.weight least) (drop from items.now) }
+{
+    let mut at = from;
+    while at < items.len() {
+        if items[at].weight() >= least {
+            return Some(items[at]);
+        }
+        at += 1;
+    }
+    None
+}

@@ -1,0 +1,135 @@
+//! The list.
+ghost use Rattle.std.specs.Prelude.{◌≡◌, ◌≢◌, ◌<◌, ◌≤◌, ℕ, [], length, All, Any, HoldsAt, slice_get, OnOk, OnErr, insert, remove, slice_index_or};
+ghost use Rattle.sorted_rows.specs.Order.{Rises, below};
+ghost use Rattle.sorted_rows.specs.Weights.{heavy_from};
+
+use crate::entries::RowEntry;
+use crate::heavy::least_weighing;
+use crate::row::Row;
+use crate::seats::{least_from, put, take};
+use std::alloc::Global;
+use std::marker::Model;
+
+/// There was no memory for more room.
+#[derive(Drop)]
+pub struct NoMemory;
+
+/// Entries in strict order of their keys. A contract sees them as a list, and how many may be in it.
+#[derive(Drop)]
+pub struct Rows<T: RowEntry> {
+    rows: Vec<Row<T>>,
+    spare: Vec<Row<T>>,
+    len: usize,
+    room: usize,
+}
+
+impl<T: RowEntry> Model for Rows<T> {
+    ghost use Rattle.sorted_rows.specs.Layout.{Listing};
+
+    ghost Value = { Listing T };
+
+    ghost use Rattle.sorted_rows.specs.Layout.{flat};
+    ghost use Rattle.sorted_rows.specs.Stocked.{IsStocked};
+
+    ghost view = { λ a. record { items = flat a.rows.items; room = a.room } };
+
+    ghost invariant = { λ a. IsStocked T.rank a.rows a.spare a.len a.room };
+}
+
+impl<T: RowEntry> Rows<T> {
+    /// A list with nothing in it.
+    pub fn new(alloc: Global) -> Rows<T>
+        ensures items { result.items ≡ [] }
+        ensures room { result.room ≡ 0 }
+    {
+        Rows {
+            rows: Vec::new(alloc),
+            spare: Vec::new(alloc),
+            len: 0,
+            room: 0,
+        }
+    }
+
+    pub fn len(&self) -> usize
+        ensures len { result ≡ length self.now.items }
+        ensures order { Rises T.rank self.now.items }
+        ensures room { result ≤ self.now.room }
+    {
+        self.len
+    }
+
+    /// How many entries may stand in it before more room is needed.
+    pub fn room(&self) -> usize
+        ensures { result ≡ self.now.room }
+    {
+        self.room
+    }
+
+    /// Makes room for `room` entries in all. Of all calls this one alone takes memory.
+    pub fn reserve(&mut self, alloc: Global, room: usize) -> Result<(), NoMemory>
+        ensures ok { OnOk result ((room ≤ self.new.room) × (self.old.room ≤ self.new.room)) }
+        ensures err { OnErr result (self.new.room ≡ self.old.room) }
+        ensures items { self.new.items ≡ self.old.items }
+    {
+        if room <= self.room {
+            return Ok(());
+        }
+        let wanted = room.div_ceil(16) + 1;
+        let rows = self.rows.len();
+        let spare = self.spare.len();
+        if rows + spare < wanted {
+            if self.rows.reserve(wanted - rows).is_err() {
+                return Err(NoMemory);
+            }
+            if self.spare.reserve(wanted - spare).is_err() {
+                return Err(NoMemory);
+            }
+            for _ in rows + spare..wanted {
+                let Ok(row) = Row::new(alloc) else {
+                    return Err(NoMemory);
+                };
+                self.spare.push_reserved(row);
+            }
+        }
+        self.room = room;
+        Ok(())
+    }
+
+    /// Puts in an entry whose key isn't there, where there is room. It takes no memory.
+    pub fn insert(&mut self, entry: T)
+        requires absent { All (λ x. T.rank x ≢ T.rank entry) self.old.items }
+        requires room { length self.old.items < self.old.room }
+        ensures items { self.new.items ≡ insert self.old.items (below T.rank (T.rank entry) self.old.items) entry }
+        ensures room { self.new.room ≡ self.old.room }
+    {
+        put(&mut self.rows, &mut self.spare, entry);
+        self.len += 1;
+    }
+
+    /// Takes out the entry with this key. It takes no memory, and gives none back.
+    pub fn remove(&mut self, key: u128) -> T
+        requires present { Any (λ x. T.rank x ≡ key) self.old.items }
+        ensures items { self.new.items ≡ remove self.old.items (below T.rank key self.old.items) }
+        ensures value { HoldsAt (λ x. x ≡ result) self.old.items (below T.rank key self.old.items) }
+        ensures room { self.new.room ≡ self.old.room }
+    {
+        let entry = take(&mut self.rows, &mut self.spare, key);
+        self.len -= 1;
+        entry
+    }
+
+    /// The first entry at or above the key.
+    pub fn least_from(&self, key: u128) -> Option<T>
+        ensures { result ≡ slice_get self.now.items (below T.rank key self.now.items) }
+    {
+        least_from(&self.rows, key)
+    }
+
+    /// The first entry, from the first at or above the key on, that weighs as much as `least` or
+    /// more. Rows of lighter entries are passed by, so it looks at one number for 22 to 63 of these.
+    pub fn least_weighing(&self, key: u128, least: u64) -> Option<T>
+        ensures { result ≡ heavy_from T.rank T.weight key least self.now.items }
+    {
+        least_weighing(&self.rows, key, least)
+    }
+}

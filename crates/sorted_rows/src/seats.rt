@@ -1,0 +1,242 @@
+//! Rows of one list: where a key belongs, and how rows are edited, split and joined.
+ghost use Rattle.std.specs.Prelude.{◌≡◌, ◌≢◌, ◌+◌, ◌<◌, ◌≤◌, ℕ, suc, [], ◌∷◌, length, All, Any, HoldsAt, IsTrue, ◌⊎◌, ◌↔◌, slice_get, slice_index_or, insert, remove, vec_len, vec_capacity};
+ghost use Rattle.sorted_rows.specs.Order.{below, IsPlace};
+ghost use Rattle.sorted_rows.specs.Layout.{flat, Short, IsLaid, IsLoose, IsSeat};
+
+use crate::entries::RowEntry;
+use crate::row::{ROW, Row};
+
+/// The row where the key belongs.
+pub fn seat_of<T: RowEntry>(rows: &[Row<T>], key: u128) -> usize
+    requires laid { IsLaid T.rank rows.now }
+    requires some { 0 < length rows.now }
+    ensures within { result < length rows.now }
+    ensures seat { IsSeat T.rank key rows.now result }
+{
+    let mut low = 0;
+    let mut high = rows.len();
+    while low < high {
+        let mid = low + (high - low) / 2;
+        if rows[mid].first() <= key {
+            low = mid + 1;
+        } else {
+            high = mid;
+        }
+    }
+    low.saturating_sub(1)
+}
+
+/// Puts an entry in its row, which may be full then.
+pub fn insert_in<T: RowEntry>(rows: &mut Vec<Row<T>>, seat: usize, entry: T)
+    requires laid { IsLaid T.rank rows.old.items }
+    requires within { seat < vec_len rows.old }
+    requires seat { IsSeat T.rank (T.rank entry) rows.old.items seat }
+    requires short { Short rows.old.items }
+    requires absent { All (λ x. T.rank x ≢ T.rank entry) (flat rows.old.items) }
+    ensures laid { IsLaid T.rank rows.new.items }
+    ensures items { flat rows.new.items ≡ insert (flat rows.old.items) (below T.rank (T.rank entry) (flat rows.old.items)) entry }
+    ensures others { (k : ℕ) → k ≢ seat → length (slice_index_or rows.new.items k []) < 64 }
+    ensures len { vec_len rows.new ≡ vec_len rows.old }
+    ensures capacity { vec_capacity rows.new ≡ vec_capacity rows.old }
+{
+    let row = &mut rows[seat];
+    let at = row.below(entry.key());
+    row.insert(at, entry);
+}
+
+/// Cuts a full row in two halves, the upper one in a spare row.
+pub fn split<T: RowEntry>(rows: &mut Vec<Row<T>>, at: usize, spare: &mut Vec<Row<T>>)
+    requires laid { IsLaid T.rank rows.old.items }
+    requires within { at < vec_len rows.old }
+    requires full { length (slice_index_or rows.old.items at []) ≡ 64 }
+    requires others { (k : ℕ) → k ≢ at → length (slice_index_or rows.old.items k []) < 64 }
+    requires room { vec_len rows.old < vec_capacity rows.old }
+    requires spare { All (λ r. r ≡ []) spare.old.items }
+    requires some { 0 < vec_len spare.old }
+    ensures laid { IsLaid T.rank rows.new.items }
+    ensures items { flat rows.new.items ≡ flat rows.old.items }
+    ensures short { Short rows.new.items }
+    ensures len { vec_len rows.new ≡ vec_len rows.old + 1 }
+    ensures capacity { vec_capacity rows.new ≡ vec_capacity rows.old }
+    ensures spare { All (λ r. r ≡ []) spare.new.items }
+    ensures spare_len { vec_len spare.new + 1 ≡ vec_len spare.old }
+    ensures spare_capacity { vec_capacity spare.new ≡ vec_capacity spare.old }
+{
+    let Some(mut high) = spare.pop() else {
+        unreachable!()
+    };
+    let low = &mut rows[at];
+    low.split(&mut high);
+    match rows.insert(at + 1, high) {
+        Ok(()) => {}
+        Err(_) => unreachable!(),
+    }
+}
+
+/// Puts an entry at its place. It may take one spare row.
+pub fn put<T: RowEntry>(rows: &mut Vec<Row<T>>, spare: &mut Vec<Row<T>>, entry: T)
+    requires laid { IsLaid T.rank rows.old.items }
+    requires short { Short rows.old.items }
+    requires room { vec_len rows.old < vec_capacity rows.old }
+    requires spare { All (λ r. r ≡ []) spare.old.items }
+    requires some { 0 < vec_len spare.old }
+    requires absent { All (λ x. T.rank x ≢ T.rank entry) (flat rows.old.items) }
+    ensures laid { IsLaid T.rank rows.new.items }
+    ensures short { Short rows.new.items }
+    ensures items { flat rows.new.items ≡ insert (flat rows.old.items) (below T.rank (T.rank entry) (flat rows.old.items)) entry }
+    ensures spare { All (λ r. r ≡ []) spare.new.items }
+    ensures len { vec_len rows.new + vec_len spare.new ≡ vec_len rows.old + vec_len spare.old }
+    ensures capacity { vec_capacity rows.new ≡ vec_capacity rows.old }
+    ensures spare_capacity { vec_capacity spare.new ≡ vec_capacity spare.old }
+{
+    if rows.is_empty() {
+        start(rows, spare, entry);
+        return;
+    }
+    let seat = seat_of(rows, entry.key());
+    insert_in(rows, seat, entry);
+    if rows[seat].len() == ROW {
+        split(rows, seat, spare);
+    }
+}
+
+/// Puts the first entry.
+fn start<T: RowEntry>(rows: &mut Vec<Row<T>>, spare: &mut Vec<Row<T>>, entry: T)
+    requires none { rows.old.items ≡ [] }
+    requires room { vec_len rows.old < vec_capacity rows.old }
+    requires spare { All (λ r. r ≡ []) spare.old.items }
+    requires some { 0 < vec_len spare.old }
+    ensures items { rows.new.items ≡ (entry ∷ []) ∷ [] }
+    ensures spare { All (λ r. r ≡ []) spare.new.items }
+    ensures len { vec_len rows.new + vec_len spare.new ≡ vec_len rows.old + vec_len spare.old }
+    ensures capacity { vec_capacity rows.new ≡ vec_capacity rows.old }
+    ensures spare_capacity { vec_capacity spare.new ≡ vec_capacity spare.old }
+{
+    let Some(mut row) = spare.pop() else {
+        unreachable!()
+    };
+    row.insert(0, entry);
+    rows.push_reserved(row);
+}
+
+/// Takes an entry out of its row, which may be empty then.
+fn remove_in<T: RowEntry>(rows: &mut Vec<Row<T>>, seat: usize, key: u128) -> T
+    requires laid { IsLaid T.rank rows.old.items }
+    requires short { Short rows.old.items }
+    requires within { seat < vec_len rows.old }
+    requires seat { IsSeat T.rank key rows.old.items seat }
+    requires present { Any (λ x. T.rank x ≡ key) (flat rows.old.items) }
+    ensures loose { IsLoose T.rank seat rows.new.items }
+    ensures short { Short rows.new.items }
+    ensures items { flat rows.new.items ≡ remove (flat rows.old.items) (below T.rank key (flat rows.old.items)) }
+    ensures value { HoldsAt (λ x. x ≡ result) (flat rows.old.items) (below T.rank key (flat rows.old.items)) }
+    ensures size { length (flat rows.new.items) + 1 ≡ length (flat rows.old.items) }
+    ensures len { vec_len rows.new ≡ vec_len rows.old }
+    ensures capacity { vec_capacity rows.new ≡ vec_capacity rows.old }
+{
+    let row = &mut rows[seat];
+    let at = row.below(key);
+    row.remove(at)
+}
+
+/// Moves the entries of the next row into this one, and keeps that row as a spare one. One of the two may
+/// have lost an entry.
+fn merge<T: RowEntry>(rows: &mut Vec<Row<T>>, at: usize, spare: &mut Vec<Row<T>>)
+    requires loose { (i : ℕ) × ((i ≡ at) ⊎ (i ≡ suc at)) × IsLoose T.rank i rows.old.items }
+    requires short { Short rows.old.items }
+    requires within { at + 1 < vec_len rows.old }
+    requires total { length (slice_index_or rows.old.items at []) + length (slice_index_or rows.old.items (suc at) []) < 64 }
+    requires spare { All (λ r. r ≡ []) spare.old.items }
+    requires room { vec_len spare.old < vec_capacity spare.old }
+    ensures laid { IsLaid T.rank rows.new.items }
+    ensures short { Short rows.new.items }
+    ensures items { flat rows.new.items ≡ flat rows.old.items }
+    ensures spare { All (λ r. r ≡ []) spare.new.items }
+    ensures len { vec_len rows.new + 1 ≡ vec_len rows.old }
+    ensures spare_len { vec_len spare.new ≡ vec_len spare.old + 1 }
+    ensures capacity { vec_capacity rows.new ≡ vec_capacity rows.old }
+    ensures spare_capacity { vec_capacity spare.new ≡ vec_capacity spare.old }
+{
+    let mut next = rows.remove(at + 1);
+    let row = &mut rows[at];
+    row.join(&mut next);
+    spare.push_reserved(next);
+}
+
+/// Puts the row that has lost an entry together with a neighbor, where the two are small or the row is empty.
+fn settle<T: RowEntry>(rows: &mut Vec<Row<T>>, at: usize, spare: &mut Vec<Row<T>>)
+    requires loose { IsLoose T.rank at rows.old.items }
+    requires short { Short rows.old.items }
+    requires within { at < vec_len rows.old }
+    requires spare { All (λ r. r ≡ []) spare.old.items }
+    requires room { vec_len spare.old < vec_capacity spare.old }
+    ensures laid { IsLaid T.rank rows.new.items }
+    ensures short { Short rows.new.items }
+    ensures items { flat rows.new.items ≡ flat rows.old.items }
+    ensures spare { All (λ r. r ≡ []) spare.new.items }
+    ensures len { vec_len rows.new + vec_len spare.new ≡ vec_len rows.old + vec_len spare.old }
+    ensures capacity { vec_capacity rows.new ≡ vec_capacity rows.old }
+    ensures spare_capacity { vec_capacity spare.new ≡ vec_capacity spare.old }
+{
+    let here = rows[at].len();
+    if at > 0 && goes_with(here, rows[at - 1].len()) {
+        merge(rows, at - 1, spare);
+    } else if at + 1 < rows.len() && goes_with(here, rows[at + 1].len()) {
+        merge(rows, at, spare);
+    } else if here == 0 {
+        let row = rows.remove(at);
+        spare.push_reserved(row);
+    }
+}
+
+/// Whether a row of this many entries is put together with a neighbor.
+fn goes_with(here: usize, beside: usize) -> bool
+    requires { (here ≤ 64) × (beside ≤ 64) }
+    ensures { IsTrue result ↔ ((here ≡ 0) ⊎ (here + beside ≤ 32)) }
+{
+    here == 0 || here + beside <= ROW / 2
+}
+
+/// Takes out the entry with this key.
+pub fn take<T: RowEntry>(rows: &mut Vec<Row<T>>, spare: &mut Vec<Row<T>>, key: u128) -> T
+    requires laid { IsLaid T.rank rows.old.items }
+    requires short { Short rows.old.items }
+    requires spare { All (λ r. r ≡ []) spare.old.items }
+    requires room { vec_len rows.old + vec_len spare.old ≤ vec_capacity spare.old }
+    requires present { Any (λ x. T.rank x ≡ key) (flat rows.old.items) }
+    ensures laid { IsLaid T.rank rows.new.items }
+    ensures short { Short rows.new.items }
+    ensures items { flat rows.new.items ≡ remove (flat rows.old.items) (below T.rank key (flat rows.old.items)) }
+    ensures value { HoldsAt (λ x. x ≡ result) (flat rows.old.items) (below T.rank key (flat rows.old.items)) }
+    ensures size { length (flat rows.new.items) + 1 ≡ length (flat rows.old.items) }
+    ensures spare { All (λ r. r ≡ []) spare.new.items }
+    ensures len { vec_len rows.new + vec_len spare.new ≡ vec_len rows.old + vec_len spare.old }
+    ensures capacity { vec_capacity rows.new ≡ vec_capacity rows.old }
+    ensures spare_capacity { vec_capacity spare.new ≡ vec_capacity spare.old }
+{
+    let seat = seat_of(rows, key);
+    let entry = remove_in(rows, seat, key);
+    settle(rows, seat, spare);
+    entry
+}
+
+/// The first entry at or above the key.
+pub fn least_from<T: RowEntry>(rows: &[Row<T>], key: u128) -> Option<T>
+    requires laid { IsLaid T.rank rows.now }
+    ensures { result ≡ slice_get (flat rows.now) (below T.rank key (flat rows.now)) }
+{
+    if rows.is_empty() {
+        return None;
+    }
+    let seat = seat_of(rows, key);
+    let row = &rows[seat];
+    let at = row.below(key);
+    if at < row.len() {
+        Some(row.get(at))
+    } else if seat + 1 < rows.len() {
+        let next = &rows[seat + 1];
+        Some(next.get(0))
+    } else {
+        None
+    }
+}
