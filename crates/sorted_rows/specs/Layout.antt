@@ -10,7 +10,8 @@ module _ {X : Type 0} where
 
   -- two neighbors never have 32 or fewer between them
   abbrev pub Paired : List (List X) → Type 0
-  Paired rows = (k : ℕ) → suc k < length rows → 32 < length (get_or rows k []) + length (get_or rows (suc k) [])
+  Paired rows = (k : ℕ) → suc k < length rows
+      → 32 < length (get_or rows k []) + length (get_or rows (suc k) [])
 
   -- each row has place for one more
   abbrev pub Short : List (List X) → Type 0
@@ -27,10 +28,13 @@ module _ {X : Type 0} (rank : X → ℕ) where
   pub record IsLoose (i : ℕ) (rows : List (List X)) : Type 0 where
     pub rises : Rises rank (flat rows)
     pub filled : (k : ℕ) → k < length rows → k ≢ i → 0 < length (get_or rows k [])
-    pub almost : (k : ℕ) → suc k < length rows → 32 ≤ length (get_or rows k []) + length (get_or rows (suc k) [])
-    pub paired : (k : ℕ) → suc k < length rows → k ≢ i → suc k ≢ i → 32 < length (get_or rows k []) + length (get_or rows (suc k) [])
+    pub almost : (k : ℕ) → suc k < length rows
+        → 32 ≤ length (get_or rows k []) + length (get_or rows (suc k) [])
+    pub paired : (k : ℕ) → suc k < length rows → k ≢ i → suc k ≢ i
+        → 32 < length (get_or rows k []) + length (get_or rows (suc k) [])
 
-  -- the row where a key belongs: what stands before the row is below it, and what stands behind it above
+  -- the row where a key belongs: what stands before the row is below the key, what stands behind
+  -- the row above it
   pub record IsSeat (key : ℕ) (rows : List (List X)) (i : ℕ) : Type 0 where
     pub before : All (λ x. rank x < key) (flat (take i rows))
     pub after : All (λ x. key < rank x) (flat (drop (suc i) rows))

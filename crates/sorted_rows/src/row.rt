@@ -1,5 +1,6 @@
 //! One row of a list: a short vector with room for 64 entries.
-ghost use Rattle.std.specs.Prelude.{◌≡◌, ◌+◌, ◌<◌, ◌≤◌, [], ◌++◌, length, take, drop, insert, remove, slice_index_or, max, IfOk};
+ghost use Rattle.std.specs.Prelude.{◌≡◌, ◌+◌, ◌<◌, ◌≤◌, [], ◌++◌, length, take, drop, insert};
+ghost use Rattle.std.specs.Prelude.{remove, slice_index_or, max, IfOk};
 ghost use Rattle.std.specs.List.{find};
 ghost use Rattle.sorted_rows.specs.Order.{Rises, IsPlace, FirstIs};
 ghost use Rattle.sorted_rows.specs.Weights.{greatest, weighs};
@@ -11,7 +12,8 @@ use std::marker::Model;
 /// The greatest number of entries in a row.
 pub const ROW: usize = 64;
 
-/// A contract sees its entries.
+/// A row: its entries, with the key of the first and the greatest weight at hand. A contract sees
+/// its entries.
 #[derive(Drop)]
 pub struct Row<T: RowEntry> {
     first: u128,
@@ -28,7 +30,8 @@ impl<T: RowEntry> Model for Row<T> {
 
     ghost view = { λ r. r.items.items };
 
-    ghost invariant = { λ r. (vec_len r.items ≤ 64) × (64 ≤ vec_capacity r.items) × FirstIs T.rank r.first r.items.items × (r.top ≡ greatest T.weight r.items.items) };
+    ghost invariant = { λ r. (vec_len r.items ≤ 64) × (64 ≤ vec_capacity r.items)
+        × FirstIs T.rank r.first r.items.items × (r.top ≡ greatest T.weight r.items.items) };
 }
 
 impl<T: RowEntry> Row<T> {
@@ -44,6 +47,7 @@ impl<T: RowEntry> Row<T> {
         })
     }
 
+    /// How many entries it has.
     pub fn len(&self) -> usize
         ensures len { result ≡ length self.now }
         ensures bound { result ≤ 64 }
@@ -59,6 +63,7 @@ impl<T: RowEntry> Row<T> {
         self.first
     }
 
+    /// The entry at a place.
     pub fn get(&self, at: usize) -> T
         requires { at < length self.now }
         ensures { (d : T) → result ≡ slice_index_or self.now at d }

@@ -1,20 +1,17 @@
 //! The list.
-ghost use Rattle.std.specs.Prelude.{◌≡◌, ◌≢◌, ◌<◌, ◌≤◌, ℕ, [], length, All, Any, HoldsAt, slice_get, OnOk, OnErr, insert, remove, slice_index_or};
-ghost use Rattle.sorted_rows.specs.Order.{Rises, below};
+ghost use Rattle.std.specs.Prelude.{◌≡◌, ◌≢◌, ◌<◌, ◌≤◌, [], length, max, All, Any, OnOk, OnErr};
+ghost use Rattle.sorted_rows.specs.Order.{Rises, PutsIn, TakesOut, StandsAt, first_from};
 ghost use Rattle.sorted_rows.specs.Weights.{heavy_from};
 
 use crate::entries::RowEntry;
 use crate::heavy::least_weighing;
 use crate::row::Row;
 use crate::seats::{least_from, put, take};
-use std::alloc::Global;
+use std::alloc::{AllocError, Global};
 use std::marker::Model;
 
-/// There was no memory for more room.
-#[derive(Drop)]
-pub struct NoMemory;
-
-/// Entries in strict order of their keys. A contract sees them as a list, and how many may be in it.
+/// Entries in strict order of their keys. A contract sees them as one list, and how many may be in
+/// it before it needs more room.
 #[derive(Drop)]
 pub struct Rows<T: RowEntry> {
     rows: Vec<Row<T>>,
@@ -37,7 +34,7 @@ impl<T: RowEntry> Model for Rows<T> {
 }
 
 impl<T: RowEntry> Rows<T> {
-    /// A list with nothing in it.
+    /// A list with nothing in it, and with no room. It takes no memory.
     pub fn new(alloc: Global) -> Rows<T>
         ensures items { result.items ≡ [] }
         ensures room { result.room ≡ 0 }
@@ -50,6 +47,7 @@ impl<T: RowEntry> Rows<T> {
         }
     }
 
+    /// How many entries stand in it.
     pub fn len(&self) -> usize
         ensures len { result ≡ length self.now.items }
         ensures order { Rises T.rank self.now.items }
@@ -65,10 +63,11 @@ impl<T: RowEntry> Rows<T> {
         self.room
     }
 
-    /// Makes room for `room` entries in all. Of all calls this one alone takes memory.
-    pub fn reserve(&mut self, alloc: Global, room: usize) -> Result<(), NoMemory>
-        ensures ok { OnOk result ((room ≤ self.new.room) × (self.old.room ≤ self.new.room)) }
-        ensures err { OnErr result (self.new.room ≡ self.old.room) }
+    /// Makes room for `room` entries in all: out of memory, the room is as it was. Of all calls
+    /// this one alone takes memory, some 100 bytes for each entry of 24.
+    pub fn reserve(&mut self, alloc: Global, room: usize) -> Result<(), AllocError>
+        ensures ok { OnOk result (self.new.room ≡ max room self.old.room) }
+        ensures unchanged { OnErr result (self.new.room ≡ self.old.room) }
         ensures items { self.new.items ≡ self.old.items }
     {
         if room <= self.room {
@@ -79,14 +78,14 @@ impl<T: RowEntry> Rows<T> {
         let spare = self.spare.len();
         if rows + spare < wanted {
             if self.rows.reserve(wanted - rows).is_err() {
-                return Err(NoMemory);
+                return Err(AllocError);
             }
             if self.spare.reserve(wanted - spare).is_err() {
-                return Err(NoMemory);
+                return Err(AllocError);
             }
             for _ in rows + spare..wanted {
                 let Ok(row) = Row::new(alloc) else {
-                    return Err(NoMemory);
+                    return Err(AllocError);
                 };
                 self.spare.push_reserved(row);
             }
@@ -95,22 +94,22 @@ impl<T: RowEntry> Rows<T> {
         Ok(())
     }
 
-    /// Puts in an entry whose key isn't there, where there is room. It takes no memory.
+    /// Puts in an entry whose key isn't there, where there is room. It never fails.
     pub fn insert(&mut self, entry: T)
         requires absent { All (λ x. T.rank x ≢ T.rank entry) self.old.items }
         requires room { length self.old.items < self.old.room }
-        ensures items { self.new.items ≡ insert self.old.items (below T.rank (T.rank entry) self.old.items) entry }
+        ensures items { PutsIn T.rank entry self.old.items self.new.items }
         ensures room { self.new.room ≡ self.old.room }
     {
         put(&mut self.rows, &mut self.spare, entry);
         self.len += 1;
     }
 
-    /// Takes out the entry with this key. It takes no memory, and gives none back.
+    /// Takes out the entry with this key, which is there. Its room stays.
     pub fn remove(&mut self, key: u128) -> T
         requires present { Any (λ x. T.rank x ≡ key) self.old.items }
-        ensures items { self.new.items ≡ remove self.old.items (below T.rank key self.old.items) }
-        ensures value { HoldsAt (λ x. x ≡ result) self.old.items (below T.rank key self.old.items) }
+        ensures items { TakesOut T.rank key self.old.items self.new.items }
+        ensures value { StandsAt T.rank key result self.old.items }
         ensures room { self.new.room ≡ self.old.room }
     {
         let entry = take(&mut self.rows, &mut self.spare, key);
@@ -120,7 +119,7 @@ impl<T: RowEntry> Rows<T> {
 
     /// The first entry at or above the key.
     pub fn least_from(&self, key: u128) -> Option<T>
-        ensures { result ≡ slice_get self.now.items (below T.rank key self.now.items) }
+        ensures { result ≡ first_from T.rank key self.now.items }
     {
         least_from(&self.rows, key)
     }

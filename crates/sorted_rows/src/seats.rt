@@ -1,6 +1,7 @@
 //! Rows of one list: where a key belongs, and how rows are edited, split and joined.
-ghost use Rattle.std.specs.Prelude.{◌≡◌, ◌≢◌, ◌+◌, ◌<◌, ◌≤◌, ℕ, suc, [], ◌∷◌, length, All, Any, HoldsAt, IsTrue, ◌⊎◌, ◌↔◌, slice_get, slice_index_or, insert, remove, vec_len, vec_capacity};
-ghost use Rattle.sorted_rows.specs.Order.{below, IsPlace};
+ghost use Rattle.std.specs.Prelude.{◌≡◌, ◌≢◌, ◌+◌, ◌<◌, ◌≤◌, ℕ, suc, [], ◌∷◌, length, All, Any};
+ghost use Rattle.std.specs.Prelude.{IsTrue, ◌⊎◌, ◌↔◌, slice_index_or, vec_len, vec_capacity};
+ghost use Rattle.sorted_rows.specs.Order.{PutsIn, TakesOut, StandsAt, first_from};
 ghost use Rattle.sorted_rows.specs.Layout.{flat, Short, IsLaid, IsLoose, IsSeat};
 
 use crate::entries::RowEntry;
@@ -34,7 +35,7 @@ pub fn insert_in<T: RowEntry>(rows: &mut Vec<Row<T>>, seat: usize, entry: T)
     requires short { Short rows.old.items }
     requires absent { All (λ x. T.rank x ≢ T.rank entry) (flat rows.old.items) }
     ensures laid { IsLaid T.rank rows.new.items }
-    ensures items { flat rows.new.items ≡ insert (flat rows.old.items) (below T.rank (T.rank entry) (flat rows.old.items)) entry }
+    ensures items { PutsIn T.rank entry (flat rows.old.items) (flat rows.new.items) }
     ensures others { (k : ℕ) → k ≢ seat → length (slice_index_or rows.new.items k []) < 64 }
     ensures len { vec_len rows.new ≡ vec_len rows.old }
     ensures capacity { vec_capacity rows.new ≡ vec_capacity rows.old }
@@ -83,7 +84,7 @@ pub fn put<T: RowEntry>(rows: &mut Vec<Row<T>>, spare: &mut Vec<Row<T>>, entry: 
     requires absent { All (λ x. T.rank x ≢ T.rank entry) (flat rows.old.items) }
     ensures laid { IsLaid T.rank rows.new.items }
     ensures short { Short rows.new.items }
-    ensures items { flat rows.new.items ≡ insert (flat rows.old.items) (below T.rank (T.rank entry) (flat rows.old.items)) entry }
+    ensures items { PutsIn T.rank entry (flat rows.old.items) (flat rows.new.items) }
     ensures spare { All (λ r. r ≡ []) spare.new.items }
     ensures len { vec_len rows.new + vec_len spare.new ≡ vec_len rows.old + vec_len spare.old }
     ensures capacity { vec_capacity rows.new ≡ vec_capacity rows.old }
@@ -128,8 +129,8 @@ fn remove_in<T: RowEntry>(rows: &mut Vec<Row<T>>, seat: usize, key: u128) -> T
     requires present { Any (λ x. T.rank x ≡ key) (flat rows.old.items) }
     ensures loose { IsLoose T.rank seat rows.new.items }
     ensures short { Short rows.new.items }
-    ensures items { flat rows.new.items ≡ remove (flat rows.old.items) (below T.rank key (flat rows.old.items)) }
-    ensures value { HoldsAt (λ x. x ≡ result) (flat rows.old.items) (below T.rank key (flat rows.old.items)) }
+    ensures items { TakesOut T.rank key (flat rows.old.items) (flat rows.new.items) }
+    ensures value { StandsAt T.rank key result (flat rows.old.items) }
     ensures size { length (flat rows.new.items) + 1 ≡ length (flat rows.old.items) }
     ensures len { vec_len rows.new ≡ vec_len rows.old }
     ensures capacity { vec_capacity rows.new ≡ vec_capacity rows.old }
@@ -139,13 +140,14 @@ fn remove_in<T: RowEntry>(rows: &mut Vec<Row<T>>, seat: usize, key: u128) -> T
     row.remove(at)
 }
 
-/// Moves the entries of the next row into this one, and keeps that row as a spare one. One of the two may
-/// have lost an entry.
+/// Moves the entries of the next row into this one, and keeps that row as a spare one. One of the
+/// two may have lost an entry.
 fn merge<T: RowEntry>(rows: &mut Vec<Row<T>>, at: usize, spare: &mut Vec<Row<T>>)
     requires loose { (i : ℕ) × ((i ≡ at) ⊎ (i ≡ suc at)) × IsLoose T.rank i rows.old.items }
     requires short { Short rows.old.items }
     requires within { at + 1 < vec_len rows.old }
-    requires total { length (slice_index_or rows.old.items at []) + length (slice_index_or rows.old.items (suc at) []) < 64 }
+    requires total { length (slice_index_or rows.old.items at [])
+        + length (slice_index_or rows.old.items (suc at) []) < 64 }
     requires spare { All (λ r. r ≡ []) spare.old.items }
     requires room { vec_len spare.old < vec_capacity spare.old }
     ensures laid { IsLaid T.rank rows.new.items }
@@ -163,7 +165,8 @@ fn merge<T: RowEntry>(rows: &mut Vec<Row<T>>, at: usize, spare: &mut Vec<Row<T>>
     spare.push_reserved(next);
 }
 
-/// Puts the row that has lost an entry together with a neighbor, where the two are small or the row is empty.
+/// Puts the row that has lost an entry together with a neighbor, where the two are small or the
+/// row is empty.
 fn settle<T: RowEntry>(rows: &mut Vec<Row<T>>, at: usize, spare: &mut Vec<Row<T>>)
     requires loose { IsLoose T.rank at rows.old.items }
     requires short { Short rows.old.items }
@@ -206,8 +209,8 @@ pub fn take<T: RowEntry>(rows: &mut Vec<Row<T>>, spare: &mut Vec<Row<T>>, key: u
     requires present { Any (λ x. T.rank x ≡ key) (flat rows.old.items) }
     ensures laid { IsLaid T.rank rows.new.items }
     ensures short { Short rows.new.items }
-    ensures items { flat rows.new.items ≡ remove (flat rows.old.items) (below T.rank key (flat rows.old.items)) }
-    ensures value { HoldsAt (λ x. x ≡ result) (flat rows.old.items) (below T.rank key (flat rows.old.items)) }
+    ensures items { TakesOut T.rank key (flat rows.old.items) (flat rows.new.items) }
+    ensures value { StandsAt T.rank key result (flat rows.old.items) }
     ensures size { length (flat rows.new.items) + 1 ≡ length (flat rows.old.items) }
     ensures spare { All (λ r. r ≡ []) spare.new.items }
     ensures len { vec_len rows.new + vec_len spare.new ≡ vec_len rows.old + vec_len spare.old }
@@ -223,7 +226,7 @@ pub fn take<T: RowEntry>(rows: &mut Vec<Row<T>>, spare: &mut Vec<Row<T>>, key: u
 /// The first entry at or above the key.
 pub fn least_from<T: RowEntry>(rows: &[Row<T>], key: u128) -> Option<T>
     requires laid { IsLaid T.rank rows.now }
-    ensures { result ≡ slice_get (flat rows.now) (below T.rank key (flat rows.now)) }
+    ensures { result ≡ first_from T.rank key (flat rows.now) }
 {
     if rows.is_empty() {
         return None;
