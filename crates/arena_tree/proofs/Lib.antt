@@ -4,6 +4,7 @@ mod ClimbBounds
 mod ClimbGrants
 mod ClimbHands
 mod ClimbTold
+mod OneReason
 mod Paths
 mod Same
 mod SetupLemmas

@@ -1,13 +1,14 @@
 -- Names of a tree.
-use Rattle.std.proofs.Common.{◌≡◌, ◌≢◌, ℕ, ◌<◌, ◌≤◌, Bool, true, false, cond, nat_lt, List, length, Some, None, position, slice_get, get_or, refl, sym, ap, ◌∙◌, arith}
+use Rattle.std.proofs.Common.{◌≡◌, ◌≢◌, ℕ, ◌<◌, ◌≤◌, Bool, true, false, cond, nat_lt, List, AllPairs, length, Some, None, position, slice_get, get_or, refl, sym, ap, ◌∙◌, arith}
 use Rattle.std.specs.List.{position_or_len}
 use Rattle.std.specs.Str.{bytes_eq}
-use Rattle.std.proofs.lemmas.List.Sums.{fails_before_first}
+use Rattle.std.proofs.lemmas.List.Sums.{fails_before_first, position_or_len_is}
 use Rattle.std.proofs.lemmas.Option.{slice_get_within, get_or_from_slice_get}
 use Rattle.std.proofs.lemmas.Slice.Eq.{bytes_eq-Decides}
-use Rattle.std.proofs.lemmas.Bool.{ltb-false}
+use Rattle.std.proofs.lemmas.Bool.{ltb-false, lt-ltb, false_from_ne_true}
 use Rattle.arena_tree.specs.declared.trees.TreeArena.{TreeArena}
-use Rattle.arena_tree.specs.Trees.{place_in}
+use Rattle.arena_tree.specs.Trees.{place_in, IsTree}
+use Rattle.arena_tree.specs.Laws.{OwnName}
 
 -- none passes
 none_passes : {X : Type 0} (test : X → Bool) (xs : List X) → position test xs ≡ None → length xs ≤ position_or_len test xs
@@ -28,3 +29,21 @@ not_named name arenas none k x at same =
     let yes : bytes_eq x.name name ≡ true = (bytes_eq-Decides x.name name).1 same in
     let miss : bytes_eq x.name name ≡ false = ap test (sym here) ∙ fails in
     absurd (let e : true ≡ false = sym yes ∙ miss in cc)
+
+-- none before it has its name
+other_name : (arenas : List TreeArena) → AllPairs (λ x y. x.name ≢ y.name) arenas → (id : ℕ) (x : TreeArena) → slice_get arenas id ≡ Some x → (k : ℕ) → k < id → bytes_eq (get_or arenas k x).name x.name ≡ false
+other_name arenas apart id x at k before =
+    let within : id < length arenas = slice_get_within arenas id x at in
+    let here : get_or arenas id x ≡ x = get_or_from_slice_get arenas id x x at in
+    let differ : (get_or arenas k x).name ≢ (get_or arenas id x).name = apart k id x before within in
+    false_from_ne_true (bytes_eq (get_or arenas k x).name x.name) (λ yes. differ ((bytes_eq-Decides (get_or arenas k x).name x.name).0 yes ∙ ap (λ (z : TreeArena). z.name) (sym here)))
+
+pub own_name : OwnName
+own_name arenas id x tree at =
+    let test = λ (z : TreeArena). bytes_eq z.name x.name in
+    let within : id < length arenas = slice_get_within arenas id x at in
+    let here : get_or arenas id x ≡ x = get_or_from_slice_get arenas id x x at in
+    let mine : test (get_or arenas id x) ≡ true = ap test here ∙ (bytes_eq-Decides x.name x.name).1 refl in
+    let place : position_or_len test arenas ≡ id = position_or_len_is test arenas id x (omega (arith, within)) (other_name arenas tree.names id x at) (λ _. mine) in
+    let less : nat_lt (position_or_len test arenas) (length arenas) ≡ true = lt-ltb (position_or_len test arenas) (length arenas) (omega (arith, place, within)) in
+    cc

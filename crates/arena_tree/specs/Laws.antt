@@ -1,13 +1,18 @@
--- Laws of the lists of steps of climbs, over all chains: what they leave in the hand, how many
--- locks they take, what they give, and what each end tells of the way.
-use Rattle.std.specs.Prelude.{◌≡◌, ℕ, List, [], Some, None, length, IfOk}
+-- Laws of setups; and of the lists of steps of climbs, over all chains: what they leave in the hand,
+-- how many locks they take, what they give, and what each end tells of the way.
+use Rattle.std.specs.Prelude.{◌≡◌, ℕ, List, [], Some, None, length, slice_get, IfOk}
 use Rattle.deed_core.specs.Tag.{Tag}
 use Rattle.arena_tree.specs.Chains.{Node, IsChain, first_id}
 use Rattle.arena_tree.specs.Plans.{Within, Handles, Gives}
 use Rattle.arena_tree.specs.Climbs.{Climbed, Returned, climb_plan, return_plan, climb_left}
 use Rattle.arena_tree.specs.Climbs.{return_left, climb_most, IsGrantOf}
 use Rattle.arena_tree.specs.Told.{Tells, ClimbTold, ReturnTold, NoneFits, OnlyNoFit, no_fits}
+use Rattle.arena_tree.specs.Trees.{IsTree, place_in}
+use Rattle.arena_tree.specs.Settings.{SetupState, RefusesSetting}
 use Rattle.arena_tree.specs.declared.levels.Level.{Level}
+use Rattle.arena_tree.specs.declared.settings.Setting.{Setting}
+use Rattle.arena_tree.specs.declared.setup_faults.SetupFault.{SetupFault}
+use Rattle.arena_tree.specs.declared.trees.TreeArena.{TreeArena}
 
 -- A climb begins with an empty hand. It ends with a segment that it gives, with an empty hand, or
 -- with the one segment that a part refused or that wasn't placed any more: all else that it carved
@@ -54,3 +59,14 @@ ReturnTells = (nodes : List Node) (chain : List Level) (t : Tag) → IsChain nod
 abbrev pub NoFitIsTold : Type 0
 NoFitIsTold = (chain : List Level) (n : ℕ)
     → NoneFits chain n (no_fits chain n) × OnlyNoFit (no_fits chain n)
+
+-- What is asked for is refused for one reason: the first that is so. Memory is asked for only where
+-- there is none.
+abbrev pub OneRefusal : Type 0
+OneRefusal = (s : SetupState) (setting : Setting) (f g : SetupFault)
+    → RefusesSetting s setting f → RefusesSetting s setting g → f ≡ g
+
+-- An arena of a tree is found by its name.
+abbrev pub OwnName : Type 0
+OwnName = (arenas : List TreeArena) (id : ℕ) (x : TreeArena) → IsTree arenas
+    → slice_get arenas id ≡ Some x → place_in x.name arenas ≡ Some id

@@ -22,8 +22,8 @@ pub fn climb_alloc<S: Held, P: Parts<S>>(
     requires chain { IsChain (P.tree parts.old) chain.now }
     ensures ran { Ran P.step P.tree P.count P.rounds (climb_plan chain.now size)
         parts.old parts.new (tag_climb S.tag result) }
-    ensures granted { IfOk result (λ s. IsGrantOf (P.tree parts.old) chain.now size (S.tag s)) }
-    ensures bad { result ≡ Err ClimbFault.BadRequest → size ≡ 0 }
+    ensures ok { IfOk result (λ s. IsGrantOf (P.tree parts.old) chain.now size (S.tag s)) }
+    ensures refused { result ≡ Err ClimbFault.BadRequest → size ≡ 0 }
     ensures few { P.count parts.new
         ≤ P.count parts.old + climb_most (length chain.now) (tag_climb S.tag result) }
     ensures tree { P.tree parts.new ≡ P.tree parts.old }
@@ -59,7 +59,7 @@ fn climb<S: Held, P: Parts<S>>(
     requires chain { IsChain (P.tree parts.old) chain.now }
     ensures ran { Ran P.step P.tree P.count P.rounds (climb_plan chain.now size)
         parts.old parts.new (tag_climb S.tag result) }
-    ensures granted { IfOk result (λ s. IsGrantOf (P.tree parts.old) chain.now size (S.tag s)) }
+    ensures ok { IfOk result (λ s. IsGrantOf (P.tree parts.old) chain.now size (S.tag s)) }
     ensures tree { P.tree parts.new ≡ P.tree parts.old }
     ensures rounds { P.rounds parts.new ≡ P.rounds parts.old }
 {
@@ -92,7 +92,7 @@ fn descend<S: Held, P: Parts<S>>(
     requires { CanDescend (P.tree parts.old) up.now child size (S.tag span) }
     ensures ran { Ran P.step P.tree P.count P.rounds (descent_plan up.now child size (S.tag span))
         parts.old parts.new (tag_climb S.tag result) }
-    ensures granted { IfOk result (λ s.
+    ensures ok { IfOk result (λ s.
         IsGrant (P.tree parts.old) child (plain_of size) (S.tag s)) }
     ensures tree { P.tree parts.new ≡ P.tree parts.old }
     ensures rounds { P.rounds parts.new ≡ P.rounds parts.old }

@@ -34,7 +34,7 @@ mod sizes;
 mod trees;
 
 pub use climbs::{climb_alloc, climb_free};
-pub use laws::climb_laws;
+pub use laws::{climb_laws, setup_laws};
 pub use levels::Level;
 pub use limits::{LONGEST_CHAIN, MOST_ARENAS, MOST_CACHES, MOST_CPUS, MOST_SPANS, setup_limit_law};
 pub use part_faults::{

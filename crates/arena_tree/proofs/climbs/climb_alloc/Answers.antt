@@ -10,6 +10,6 @@ use Rattle.arena_tree.proofs.climbs.climb_alloc.Goals as goal
 pub returns-clause-few : goal.returns-clause-few
 returns-clause-few g c = ran_counts _ _ _ _ (climb_most (length c.args.chain.now)) (climb_plan c.args.chain.now c.args.size) _ _ _ c.climb.ensures.ran (climb_is_short _ _)
 
-pub returns-clause-bad : goal.returns-clause-bad
-returns-clause-bad g c is =
+pub returns-clause-refused : goal.returns-clause-refused
+returns-clause-refused g c is =
     ran_posts _ _ _ _ (λ (r : Climbed). r ≡ Err climbing.BadRequest → c.args.size ≡ 0) (climb_plan c.args.chain.now c.args.size) _ _ _ c.climb.ensures.ran (climb_bad _ _ _ c.requires.chain) (ap (tag_climb g.S.Held.tag) is)
