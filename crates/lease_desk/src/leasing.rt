@@ -2,7 +2,7 @@
 ghost use Rattle.std.specs.Prelude.{◌≡◌, ◌<◌, ◌≤◌, List, ◌∷◌, length, IfOk, IfErr, OnErr, Some};
 ghost use Rattle.lease_book.specs.Answers.{IsNew};
 ghost use Rattle.lease_book.specs.BookState.{account_in, leased};
-ghost use Rattle.lease_proto.specs.declared.limits.TheConstants.{MOST_ARENAS};
+ghost use Rattle.arena_tree.specs.declared.limits.TheConstants.{MOST_ARENAS};
 ghost use Rattle.lease_desk.specs.DeskState.{NamedArenaState, Exports};
 ghost use Rattle.lease_desk.specs.Machine.{demand_of as spec_demand_of, index_in, LeaseLineStep, NewLease};
 ghost use Rattle.lease_desk.specs.Spaces.{states_of, desk_of, AreSpaces, IsSteady};

@@ -20,18 +20,16 @@
 mod answers;
 mod closings;
 mod desks;
-mod faults;
 mod hellos;
 mod laws;
 mod leasing;
+mod openings;
 mod operators;
 mod releasing;
 mod responding;
 mod returns;
 mod settling;
-mod setups;
 mod spaces;
 
 pub use desks::Desk;
-pub use faults::SetupFault;
 pub use laws::lease_laws;
