@@ -1,6 +1,6 @@
 -- Lemmas on the opening of a desk.
 use Rattle.std.proofs.Common.{◌≡◌, ◌≢◌, ℕ, suc, ◌+◌, ◌<◌, ◌≤◌, ◌==◌, true, false, cond, refl, sym, subst, ap, ◌∙◌, inl, inr, ◌⊎◌, List, [], ◌∷◌, ◌++◌, map, filter, take, drop, length, Some, None, All, AllPairs, arith, eq-eqb}
-use Rattle.std.specs.Prelude.{slice_get, get_or}
+use Rattle.std.specs.Prelude.{slice_get, get_or, sum_by}
 use Rattle.std.specs.List.{count_by}
 use Rattle.std.proofs.lemmas.Bool.{cases_eq, ne_eqb}
 use Rattle.std.proofs.lemmas.List.{append-nil, length-append, length-map, length-take, map-append, take_all, take_more, take-append-drop, get_or-take}
@@ -9,16 +9,18 @@ use Rattle.std.proofs.lemmas.List.Sums.{length-filter, sum_by-append}
 use Rattle.std.proofs.lemmas.Option.{slice_get_within, get_or_from_slice_get}
 use Rattle.deed_core.specs.Extent.{Extent, Overlap}
 use Rattle.deed_core.specs.Holding.{Holding}
-use Rattle.deed_core.proofs.LawProofs.{all_at, all_from, pushed, slice_get_one, slice_get_mapped, mapped}
+use Rattle.deed_core.proofs.LawProofs.{all_at, all_from, pushed, slice_get_one, slice_get_some, slice_get_mapped, mapped}
 use Rattle.tag_arena.specs.declared.policies.Policy.{Policy}
 use Rattle.tag_arena.specs.ArenaState.{ArenaState, OnQuantum, IsSound, spans_of, ranges_of}
 use Rattle.tag_arena.specs.Calls.{IsClear, after_add}
 use Rattle.arena_tree.specs.Settings.{SetupState, IsSetup, IsOwned, Clash, span_count}
 use Rattle.arena_tree.specs.declared.setups.OwnedSpan.{OwnedSpan}
 use Rattle.arena_tree.specs.declared.trees.TreeArena.{TreeArena}
+use Rattle.lease_book.specs.BookState.{BookState, IsHistory, leased, leased_by}
+use Rattle.lease_desk.specs.DeskState.{within, stray}
 use Rattle.lease_desk.specs.declared.spaces.Space.{Space}
 use Rattle.lease_desk.specs.Opened.{root_of, ranges_owned, AreOwned, IsOpened, AreOpened}
-use Rattle.lease_desk.specs.Spaces.{state_of, states_of, owning, IsSpace, AreSpaces, IsUnallocated, AreUnallocated}
+use Rattle.lease_desk.specs.Spaces.{state_of, states_of, owning, IsSpace, AreSpaces, IsSteady, IsUnallocated, AreUnallocated}
 use Rattle.std.specs.Ordering.{nat_cmp}
 use Rattle.std.specs.FinMap as finmap
 use Rattle.std.specs.FinMap.{FinMap, entries, len-empty, len-entries}
@@ -201,3 +203,20 @@ all_opened s spaces count opened = record {
   count = length-map spaces state_of ∙ count;
   each = λ k t x asked at. let there = mapped state_of spaces k x at in subst (λ y. IsOpened s.spans k t y) (sym there.2) (opened k t there.0 asked there.1);
 }
+
+-- a desk with all its arenas free and a book in which nobody is
+pub opened_steady : (s : SetupState) (spaces : List Space) (book : BookState) → length spaces ≤ 32 → AreSpaces spaces → AreOpened s (states_of spaces) → IsHistory [] book → IsSteady spaces book
+opened_steady s spaces book few sound opened empty = record {
+  few = few;
+  sound = sound;
+  exports = record {
+    each = λ k x f at.
+        let t = slice_get_some s.arenas k (let within = slice_get_within (states_of spaces) k x at in let count = opened.count in omega (arith, within, count)) in
+        ap (sum_by f) (opened.each k t.0 x t.1 at).allocated ∙ sym (ap (sum_by (within k f)) none);
+    none = ap (sum_by (stray (length (states_of spaces)))) none;
+  };
+  grants = record { entries = []; history = empty; possible = tt };
+}
+  where
+    none : leased book ≡ []
+    none = ap leased_by empty.accounts
