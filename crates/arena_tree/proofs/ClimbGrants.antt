@@ -38,7 +38,7 @@ gives_refused nodes post chain t = gives_then nodes (λ (r : Returned). Unit {0}
     ended (Err (returning.Stopped x)) _ = tt
 
 gives_added : (nodes : List Node) (up : List Level) (child n : ℕ) (given : Tag) (x : Result Tag (AddCarveFault Tag)) → Sound nodes (AddCarve child given n) x → Gives nodes (λ (r : Climbed). IfOk r (IsGrant nodes child (plain_of n))) (on_add up x)
-gives_added nodes up child n given (Ok t) s = s.0
+gives_added nodes up child n given (Ok t) s = (s.0).grant
 gives_added nodes up child n given (Err (adding.NotAligned t)) s = tt
 gives_added nodes up child n given (Err (adding.Overlaps t)) s = tt
 gives_added nodes up child n given (Err (adding.Stopped t)) s = tt

@@ -1,10 +1,10 @@
 -- What climbs end with, by what was answered on their way.
-use Rattle.std.proofs.Common.{◌≡◌, ℕ, zero, suc, ◌<◌, List, [], ◌∷◌, Option, Some, None, Result, Ok, Err, refl, sym, subst, ◌∙◌, arith}
-use Rattle.std.proofs.lemmas.List.Elements.{All-cons, All-nil}
+use Rattle.std.proofs.Common.{◌≡◌, ℕ, zero, suc, ◌<◌, List, [], ◌∷◌, ◌++◌, Option, Some, None, Result, Ok, Err, refl, sym, ap, subst, ◌∙◌, arith}
+use Rattle.std.proofs.lemmas.List.Elements.{All-cons, All-nil, All-append, Contains-append_left, Contains-append_right}
 use Rattle.deed_core.specs.Request.{IsGood, plain_of, rounded}
 use Rattle.deed_core.specs.Tag.{Tag}
 use Rattle.deed_core.proofs.LawProofs.{rounded_some, plain_is_good}
-use Rattle.std.specs.Prelude.{max}
+use Rattle.std.specs.Prelude.{max, Contains}
 use Rattle.arena_tree.specs.declared.levels.Level.{Level}
 use Rattle.arena_tree.specs.declared.part_faults.CarveFault.{CarveFault}
 use Rattle.arena_tree.specs.declared.part_faults.CarveFault.TheVariants as carving
@@ -19,8 +19,8 @@ use Rattle.arena_tree.specs.Plans.{Plan, Done, Ask, then, Step, Path, Ran, Gives
 use Rattle.arena_tree.specs.Events.{Event, AnswerTo, Carve, Free, AddCarve}
 use Rattle.arena_tree.specs.Sound.{Sound, SoundCarve}
 use Rattle.arena_tree.specs.Climbs.{Returned, Climbed, return_plan, on_free, refused_memory, on_add, on_import, on_carve, climb_plan}
-use Rattle.arena_tree.specs.Told.{Answered, Tells, told_by, IsNoFit, OnlyNoFit, ClimbTold, ReturnTold}
-use Rattle.arena_tree.specs.Laws.{ClimbTells, ReturnTells}
+use Rattle.arena_tree.specs.Told.{Answered, Tells, told_by, no_fit, no_fits, NoneFits, IsNoFit, WasRefused, ClimbTold, ReturnTold}
+use Rattle.arena_tree.specs.Laws.{ClimbTells, ReturnTells, NoFitIsTold}
 use Rattle.arena_tree.proofs.Amounts.{chain_above}
 
 abbrev answered : (e : Event) → AnswerTo e → Answered
@@ -30,6 +30,15 @@ pub tells_then : {A B : Type 0} (nodes : List Node) (post : List Answered → A 
     → ((a : A) (now : List Answered) → post now a → Tells nodes post' (next a) now) → Tells nodes post' (then p next) told
 tells_then nodes post post' (Done a) next told w f = f a told w
 tells_then nodes post post' (Ask e g) next told w f = λ x s. tells_then nodes post post' (g x) next (answered e x ∷ told) (w x s) f
+
+-- by its own answers, which follow those before
+abbrev pub TellsAfter : {A : Type 0} → (List Answered → A → Type 0) → List Answered → List Answered → A → Type 0
+TellsAfter post before now a = (own : List Answered) × (now ≡ own ++ before) × post own a
+
+-- a list of steps ends as said by its own answers, whatever was answered before it
+pub tells_own : {A : Type 0} (nodes : List Node) (post : List Answered → A → Type 0) (p : Plan A) (told before : List Answered) → Tells nodes post p told → Tells nodes (TellsAfter post before) p (told ++ before)
+tells_own nodes post (Done a) told before w = (told, refl, w)
+tells_own nodes post (Ask e f) told before w = λ x s. tells_own nodes post (f x) (answered e x ∷ told) before (w x s)
 
 module _ {S : Type 0} (step : S → (e : Event) → AnswerTo e → S → Type 0) (tree : S → List Node) (count : S → ℕ) (rounds : S → ℕ) where
   path_tells : {A : Type 0} (post : List Answered → A → Type 0) (nodes : List Node) (p : Plan A) (s t : S) (a : A) (told : List Answered) → nodes ≡ tree s → (d : Path (Step step tree count rounds) p s t a) → Tells nodes post p told
@@ -67,7 +76,7 @@ told_refused nodes chain up n t told is first = tells_then nodes ReturnTold (Cli
 
 told_added : (nodes : List Node) (l : Level) (up : List Level) (n : ℕ) (given : Tag) (told : List Answered) (x : Result Tag (AddCarveFault Tag)) → IsChain nodes up → first_id up ≡ Some given.arena → Sound nodes (AddCarve l.id given n) x
     → Tells nodes (ClimbTold nodes (l ∷ up) n) (on_add up x) (answered (AddCarve l.id given n) x ∷ told)
-told_added nodes l up n given told (Ok t) is first s = s.0
+told_added nodes l up n given told (Ok t) is first s = (s.0).grant
 told_added nodes l up n given told (Err (adding.NotAligned t)) is first s = refl
 told_added nodes l up n given told (Err (adding.Overlaps t)) is first s = refl
 told_added nodes l up n given told (Err (adding.Stopped t)) is first s = tt
@@ -86,46 +95,61 @@ bad_is_none : (quantum n : ℕ) → ¬ IsGood quantum (plain_of n) → n ≡ 0
 bad_is_none quantum zero bad = refl
 bad_is_none quantum (suc n) bad = absurd (bad (plain_is_good quantum (suc n) (omega arith)))
 
-told_imported : (nodes : List Node) (l k : Level) (up : List Level) (n : ℕ) → IsChain nodes (k ∷ up) → 0 < n → (r : Climbed) (now : List Answered) → ClimbTold nodes (k ∷ up) (amount_of l (k ∷ up) n) now r
+refused_more : (t : Tag) (told before : List Answered) → WasRefused t told → WasRefused t (told ++ before)
+refused_more t [] before was = absurd was
+refused_more t (last ∷ told) before was = was
+
+told_imported : (nodes : List Node) (l k : Level) (up : List Level) (n : ℕ) → IsChain nodes (k ∷ up) → 0 < n → (r : Climbed) (now : List Answered) → TellsAfter (ClimbTold nodes (k ∷ up) (amount_of l (k ∷ up) n)) (no_fit l.id n ∷ []) now r
     → Tells nodes (ClimbTold nodes (l ∷ (k ∷ up)) n) (on_import (k ∷ up) l.id n r) now
-told_imported nodes l k up n is some (Ok span) now g = λ x s. told_added nodes l (k ∷ up) n span now x is (let here = g.of_arena in cc) s
-told_imported nodes l k up n is some (Err climbing.BadRequest) now g = absurd (let a = amount_some l k up n some in omega (arith, a, g))
-told_imported nodes l k up n is some (Err climbing.NoFit) now g = g
+told_imported nodes l k up n is some (Ok span) now g = λ x s. told_added nodes l (k ∷ up) n span now x is (let here = (g.2).of_arena in cc) s
+told_imported nodes l k up n is some (Err climbing.BadRequest) now g = absurd (let a = amount_some l k up n some in let none = g.2 in omega (arith, a, none))
+told_imported nodes l k up n is some (Err climbing.NoFit) now g = g.1 ∙ ap (λ told. told ++ no_fit l.id n ∷ []) g.2
 told_imported nodes l k up n is some (Err climbing.NoMemory) now g = tt
-told_imported nodes l k up n is some (Err (climbing.Stuck t)) now g = g
+told_imported nodes l k up n is some (Err (climbing.Stuck t)) now g = subst (WasRefused t) (sym g.1) (refused_more t g.0 (no_fit l.id n ∷ []) g.2)
 told_imported nodes l k up n is some (Err (climbing.Stopped o)) now g = tt
 
-told_carved : (nodes : List Node) (l k : Level) (up : List Level) (n : ℕ) (told : List Answered) (x : Result Tag CarveFault) → IsChain nodes (k ∷ up) → OnlyNoFit told
-    → ((now : List Answered) → OnlyNoFit now → Tells nodes (ClimbTold nodes (k ∷ up) (amount_of l (k ∷ up) n)) (climb_plan (k ∷ up) (amount_of l (k ∷ up) n)) now)
-    → SoundCarve nodes l.id (plain_of n) x → Tells nodes (ClimbTold nodes (l ∷ (k ∷ up)) n) (on_carve (climb_plan (k ∷ up) (amount_of l (k ∷ up) n)) (k ∷ up) l.id n x) (answered (Carve l.id (plain_of n)) x ∷ told)
-told_carved nodes l k up n told (Ok t) is only again s = s.1
-told_carved nodes l k up n told (Err carving.BadRequest) is only again s = bad_is_none (quantum_in nodes l.id) n s
-told_carved nodes l k up n told (Err carving.NoMemory) is only again s = tt
-told_carved nodes l k up n told (Err carving.Stopped) is only again s = tt
-told_carved nodes l k up n told (Err carving.NoFit) is only again s =
-    let first : Answered = answered (Carve l.id (plain_of n)) (Err carving.NoFit) in
-    tells_then nodes (ClimbTold nodes (k ∷ up) (amount_of l (k ∷ up) n)) (ClimbTold nodes (l ∷ (k ∷ up)) n) (climb_plan (k ∷ up) (amount_of l (k ∷ up) n)) (on_import (k ∷ up) l.id n) (first ∷ told)
-    (again (first ∷ told) (All-cons (λ (a : Answered). IsNoFit a.event a.answer) first told refl only)) (told_imported nodes l k up n is s.size)
+told_carved : (nodes : List Node) (l k : Level) (up : List Level) (n : ℕ) (x : Result Tag CarveFault) → IsChain nodes (k ∷ up) → Tells nodes (ClimbTold nodes (k ∷ up) (amount_of l (k ∷ up) n)) (climb_plan (k ∷ up) (amount_of l (k ∷ up) n)) []
+    → SoundCarve nodes l.id (plain_of n) x → Tells nodes (ClimbTold nodes (l ∷ (k ∷ up)) n) (on_carve (climb_plan (k ∷ up) (amount_of l (k ∷ up) n)) (k ∷ up) l.id n x) (answered (Carve l.id (plain_of n)) x ∷ [])
+told_carved nodes l k up n (Ok t) is again s = s.1
+told_carved nodes l k up n (Err carving.BadRequest) is again s = bad_is_none (quantum_in nodes l.id) n s
+told_carved nodes l k up n (Err carving.NoMemory) is again s = tt
+told_carved nodes l k up n (Err carving.Stopped) is again s = tt
+told_carved nodes l k up n (Err carving.NoFit) is again s =
+    tells_then nodes (TellsAfter (ClimbTold nodes (k ∷ up) (amount_of l (k ∷ up) n)) (no_fit l.id n ∷ [])) (ClimbTold nodes (l ∷ (k ∷ up)) n) (climb_plan (k ∷ up) (amount_of l (k ∷ up) n)) (on_import (k ∷ up) l.id n) (no_fit l.id n ∷ [])
+    (tells_own nodes (ClimbTold nodes (k ∷ up) (amount_of l (k ∷ up) n)) (climb_plan (k ∷ up) (amount_of l (k ∷ up) n)) [] (no_fit l.id n ∷ []) again) (told_imported nodes l k up n is s.size)
 
 -- the top arena has no source
-told_top : (nodes : List Node) (l : Level) (n : ℕ) (told : List Answered) (x : Result Tag CarveFault) → OnlyNoFit told → SoundCarve nodes l.id (plain_of n) x
-    → Tells nodes (ClimbTold nodes (l ∷ []) n) (on_carve (Done (Err climbing.NoFit)) [] l.id n x) (answered (Carve l.id (plain_of n)) x ∷ told)
-told_top nodes l n told (Ok t) only s = s.1
-told_top nodes l n told (Err carving.BadRequest) only s = bad_is_none (quantum_in nodes l.id) n s
-told_top nodes l n told (Err carving.NoMemory) only s = tt
-told_top nodes l n told (Err carving.Stopped) only s = tt
-told_top nodes l n told (Err carving.NoFit) only s = All-cons (λ (a : Answered). IsNoFit a.event a.answer) (answered (Carve l.id (plain_of n)) (Err carving.NoFit)) told refl only
-
-told_climb : (nodes : List Node) (chain : List Level) (n : ℕ) (told : List Answered) → IsChain nodes chain → OnlyNoFit told → Tells nodes (ClimbTold nodes chain n) (climb_plan chain n) told
-told_climb nodes [] n told is only = only
-told_climb nodes (l ∷ []) n told is only = λ x s. told_top nodes l n told x only s
-told_climb nodes (l ∷ (k ∷ up)) n told is only = λ x s. told_carved nodes l k up n told x is.2 only (λ now o. told_climb nodes (k ∷ up) (amount_of l (k ∷ up) n) now is.2 o) s
+told_top : (nodes : List Node) (l : Level) (n : ℕ) (x : Result Tag CarveFault) → SoundCarve nodes l.id (plain_of n) x
+    → Tells nodes (ClimbTold nodes (l ∷ []) n) (on_carve (Done (Err climbing.NoFit)) [] l.id n x) (answered (Carve l.id (plain_of n)) x ∷ [])
+told_top nodes l n (Ok t) s = s.1
+told_top nodes l n (Err carving.BadRequest) s = bad_is_none (quantum_in nodes l.id) n s
+told_top nodes l n (Err carving.NoMemory) s = tt
+told_top nodes l n (Err carving.Stopped) s = tt
+told_top nodes l n (Err carving.NoFit) s = refl
 
 pub climb_tells : ClimbTells
-climb_tells nodes chain n is = told_climb nodes chain n [] is (All-nil (λ (a : Answered). IsNoFit a.event a.answer))
+climb_tells nodes [] n is = refl
+climb_tells nodes (l ∷ []) n is = λ x s. told_top nodes l n x s
+climb_tells nodes (l ∷ (k ∷ up)) n is = λ x s. told_carved nodes l k up n x is.2 (climb_tells nodes (k ∷ up) (amount_of l (k ∷ up) n) is.2) s
 
 pub return_tells : ReturnTells
 return_tells nodes chain t is first = told_return nodes chain t [] is first
+
+-- what is among some answers is among more
+pub none_fits_among : (chain : List Level) (n : ℕ) (told more : List Answered) → ((a : Answered) → Contains told a → Contains more a) → NoneFits chain n told → NoneFits chain n more
+none_fits_among [] n told more among none = tt
+none_fits_among (l ∷ up) n told more among none = (among (no_fit l.id n) none.0, none_fits_among up (amount_of l up n) told more among none.1)
+
+pub no_fit_is_told : NoFitIsTold
+no_fit_is_told [] n = (tt, All-nil (λ (a : Answered). IsNoFit a.event a.answer))
+no_fit_is_told (l ∷ up) n =
+    let above = no_fit_is_told up (amount_of l up n) in
+    let told = no_fits up (amount_of l up n) in
+    let last = no_fit l.id n ∷ [] in
+    let here : Contains last (no_fit l.id n) = (0, omega arith, refl) in (
+      (Contains-append_right told last (no_fit l.id n) here, none_fits_among up (amount_of l up n) told (told ++ last) (λ a. Contains-append_left told last a) above.0),
+      All-append (λ (a : Answered). IsNoFit a.event a.answer) told last above.1 (All-cons (λ (a : Answered). IsNoFit a.event a.answer) (no_fit l.id n) [] refl (All-nil (λ (a : Answered). IsNoFit a.event a.answer))),
+    )
 
 -- a climb tells a bad request for 0 units alone
 pub climb_bad : (nodes : List Node) (chain : List Level) (n : ℕ) → IsChain nodes chain → Gives nodes (λ (r : Climbed). r ≡ Err climbing.BadRequest → n ≡ 0) (climb_plan chain n)

@@ -9,3 +9,4 @@ mod Same
 mod SetupLemmas
 mod Slabs
 mod TreeLemmas
+mod TreeNames

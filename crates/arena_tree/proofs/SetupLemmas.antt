@@ -13,9 +13,9 @@ use Rattle.arena_tree.specs.declared.settings.NewRoot.{NewRoot}
 use Rattle.arena_tree.specs.declared.settings.NewChild.{NewChild}
 use Rattle.arena_tree.specs.declared.settings.NewSpan.{NewSpan}
 use Rattle.arena_tree.specs.declared.setup_faults.SetupFault.{SetupFault}
-use Rattle.arena_tree.specs.Setups.{AddsRoot, AddsChild, root_arena, child_arena, root_range}
+use Rattle.arena_tree.specs.Setups.{AddsRoot, AddsChild, root_range}
 use Rattle.arena_tree.specs.Trees.{IsWholeRange}
-use Rattle.arena_tree.specs.Settings.{SetupState, IsSetup, IsOwned, HasNoClash, Clash, HasSpanRoom, CanSpan, new_range, span_count}
+use Rattle.arena_tree.specs.Settings.{SetupState, IsSetup, IsOwned, HasNoClash, Clash, BecomesSpan, CanSpan, span_count}
 use Rattle.arena_tree.proofs.TreeLemmas.{slice_get_more, slice_get_last}
 
 abbrev pub setup_state : List TreeArena → List OwnedSpan → SetupState
@@ -88,23 +88,25 @@ root_added old new y spans newer e is put root whole setup =
 
 -- what a call on the tree leaves of a setup, by its answer
 pub child_answered : (old new : List TreeArena) (c : NewChild) (r : Result (Unit {0}) SetupFault) (spans : List OwnedSpan) → OnOk r (AddsChild c old new) → OnErr r (new ≡ old) → IsSetup (setup_state old spans) → IsSetup (setup_state new spans)
-child_answered old new c (Ok u) spans added same setup = arena_added old new (child_arena c added.source added.size) spans added.added setup
+child_answered old new c (Ok u) spans added same setup = arena_added old new added.arena spans added.added setup
 child_answered old new c (Err f) spans added same setup = subst (λ (s : List TreeArena). IsSetup (setup_state s spans)) (sym same) setup
 
 pub root_answered : (old new : List TreeArena) (r : NewRoot) (spans newer : List OwnedSpan) (o : OwnedSpan) → AddsRoot r old new → newer ≡ spans ++ o ∷ [] → o.arena ≡ length old → o.range ≡ root_range r
     → IsSetup (setup_state old spans) → IsSetup (setup_state new newer)
 root_answered old new r spans newer o added put place range setup =
-    let whole : IsWholeRange r.quantum (root_range r) = added.can.range in
-    root_added old new (root_arena r added.size) spans newer (root_range r) added.added
+    let is = added.becomes.is in
+    let whole : IsWholeRange added.arena.quantum (root_range r) = subst (λ (x : TreeArena). IsWholeRange x.quantum (root_range r)) (sym is) added.becomes.can.range in
+    root_added old new added.arena spans newer (root_range r) added.added
     (put ∙ ap (λ (x : OwnedSpan). spans ++ x ∷ []) (ap (λ k. record { arena = k; range = o.range }) place ∙ ap (λ e. record { arena = length old; range = e }) range))
-    refl whole setup
+    (ap (λ (x : TreeArena). x.source) is) whole setup
 
-pub span_answered : (arenas : List TreeArena) (spans newer : List OwnedSpan) (n : NewSpan) (o : OwnedSpan) (x : TreeArena) → HasSpanRoom (setup_state arenas spans) n o.arena x → CanSpan (setup_state arenas spans) o.arena x (new_range n) → o.range ≡ new_range n
+pub span_answered : (arenas : List TreeArena) (spans newer : List OwnedSpan) (n : NewSpan) (o : OwnedSpan) → BecomesSpan (setup_state arenas spans) n o
     → newer ≡ spans ++ o ∷ [] → IsSetup (setup_state arenas spans) → IsSetup (setup_state arenas newer)
-span_answered arenas spans newer n o x room can range put setup =
-    let own : IsOwned arenas o = (x, room.root, subst (IsWholeRange x.quantum) (sym range) can.0) in
-    let clear : HasNoClash spans o = subst (λ e. HasNoClash spans (record { arena = o.arena; range = e })) (sym range) can.1 in
-    subst (λ (s : List OwnedSpan). IsSetup (setup_state arenas s)) (sym put) (span_added arenas spans o setup own clear room.few)
+span_answered arenas spans newer n o is put setup =
+    let x = is.arena in
+    let own : IsOwned arenas o = (x, is.room.root, subst (IsWholeRange x.quantum) (sym is.range) is.can.0) in
+    let clear : HasNoClash spans o = subst (λ e. HasNoClash spans (record { arena = o.arena; range = e })) (sym is.range) is.can.1 in
+    subst (λ (s : List OwnedSpan). IsSetup (setup_state arenas s)) (sym put) (span_added arenas spans o setup own clear is.room.few)
 
 -- a span in the way speaks against the range
 pub blocked : (s : SetupState) (id : ℕ) (x : TreeArena) (e : Extent) (range : Extent) → Any (λ a. Clash a (record { arena = id; range = range })) s.spans → range ≡ e → CanSpan s id x e → ⊥

@@ -1,13 +1,16 @@
 -- The chains of a tree, and one arena more.
-use Rattle.std.proofs.Common.{◌≡◌, ℕ, zero, suc, ◌<◌, ◌≤◌, List, [], ◌∷◌, ◌++◌, length, Option, Some, None, refl, sym, ap, subst, ◌∙◌, inl, inr, arith, length-append}
+use Rattle.std.proofs.Common.{◌≡◌, ◌≢◌, ℕ, zero, suc, ◌<◌, ◌≤◌, All, AllPairs, List, [], ◌∷◌, ◌++◌, length, Option, Some, None, refl, sym, ap, subst, ◌∙◌, inl, inr, arith, length-append}
 use Rattle.std.specs.Prelude.{slice_get, IfSome}
 use Rattle.std.specs.Global.{Vec}
-use Rattle.deed_core.proofs.LawProofs.{pushed, slice_get_one, slice_get_mapped, power_some}
+use Rattle.std.proofs.lemmas.List.Elements.{All-cons, All-nil}
+use Rattle.std.proofs.lemmas.Option.{slice_get_within}
+use Rattle.deed_core.proofs.LawProofs.{AllPairs-append, all_from, pushed, slice_get_some, slice_get_one, slice_get_mapped, power_some}
 use Rattle.arena_tree.specs.declared.levels.Level.{Level}
 use Rattle.arena_tree.specs.declared.trees.TreeArena.{TreeArena}
 use Rattle.arena_tree.specs.Chains.{IsChain, first_id, first_node}
-use Rattle.arena_tree.specs.Trees.{ChainFrom, IsArena, IsTree, ImportsFrom, level_of, node_of, nodes_of}
+use Rattle.arena_tree.specs.Trees.{place_in, ChainFrom, IsArena, IsTree, ImportsFrom, level_of, node_of, nodes_of}
 use Rattle.arena_tree.specs.Stored.{AreChains, IsNewChain}
+use Rattle.arena_tree.proofs.TreeNames.{not_named}
 
 -- a chain of the tree is one that steps go along
 pub chain_steps : (arenas : List TreeArena) → IsTree arenas → (from : Option ℕ) (chain : List Level) → ChainFrom arenas from chain → IsChain (nodes_of arenas) chain × (first_id chain ≡ from)
@@ -63,15 +66,32 @@ arena_more arenas y id x is = record {
       (λ s from. (from.0, ((from.1).0, slice_get_more arenas y s (from.1).0 (from.1).1, (from.1).2))) is.source;
 }
 
+-- what holds of each chain that is kept holds of each chain
+short_chains : (arenas : List TreeArena) (chains : List (Vec Level)) → AreChains arenas chains → (id : ℕ) (chain : List Level) → ChainFrom arenas (Some id) chain → length chain ≤ 4
+short_chains arenas chains are id [] is = absurd is
+short_chains arenas chains are id (l ∷ up) is =
+    let within : id < length arenas = slice_get_within arenas id is.0 is.1 in
+    let kept = slice_get_some chains id (subst (λ n. id < n) (sym are.count) within) in
+    let each = are.each id kept.0 kept.1 in
+    let one : (kept.0).items ≡ l ∷ up = chain_one arenas (Some id) (kept.0).items (l ∷ up) each.0 is in
+    subst (λ (ls : List Level). length ls ≤ 4) one each.1
+
 -- one arena more
-pub tree_more : (arenas : List TreeArena) (y : TreeArena) → IsTree arenas → length arenas < 32 → IsArena arenas (length arenas) y → IsTree (arenas ++ y ∷ [])
-tree_more arenas y tree room is = record {
+pub tree_more : (arenas : List TreeArena) (y : TreeArena) (chains : List (Vec Level)) → IsTree arenas → AreChains (arenas ++ y ∷ []) chains → length arenas < 32 → place_in y.name arenas ≡ None → IsArena arenas (length arenas) y
+    → IsTree (arenas ++ y ∷ [])
+tree_more arenas y chains tree are room free is = record {
   few = (let n = length-append arenas (y ∷ []) in omega (arith, room, n));
+  names = AllPairs-append (λ x z. x.name ≢ z.name) arenas (y ∷ []) tree.names one
+      (all_from (λ x. All (λ z. x.name ≢ z.name) (y ∷ [])) arenas (λ k x at. All-cons (λ z. x.name ≢ z.name) y [] (not_named y.name arenas free k x at) (All-nil (λ (z : TreeArena). x.name ≢ z.name))));
   each = λ id x at. elim (pushed arenas id y x at) [
     | inl here ↦ arena_more arenas y id x (subst (λ (z : TreeArena). IsArena arenas id z) (sym here.1) (subst (λ k. IsArena arenas k y) (sym here.0) is))
     | inr there ↦ arena_more arenas y id x (tree.each id x there)
   ];
+  short = short_chains (arenas ++ y ∷ []) chains are;
 }
+  where
+    one : AllPairs (λ x z. x.name ≢ z.name) (y ∷ [])
+    one i j d before within = absurd (omega (arith, before, within))
 
 pub chains_more : (arenas : List TreeArena) (y : TreeArena) (chains : List (Vec Level)) (chain : Vec Level) → AreChains arenas chains → IsNewChain arenas y chain.items → AreChains (arenas ++ y ∷ []) (chains ++ chain ∷ [])
 chains_more arenas y chains chain are new = record {
@@ -90,12 +110,14 @@ chains_more arenas y chains chain are new = record {
 }
 
 -- the same, of what a tree stores
-pub put_keeps : (now items new : List TreeArena) (chains newer : List (Vec Level)) (y : TreeArena) (chain : Vec Level) → items ≡ now → IsTree items × AreChains items chains → length now < 32
+pub put_keeps : (now items new : List TreeArena) (chains newer : List (Vec Level)) (y : TreeArena) (chain : Vec Level) → items ≡ now → IsTree items × AreChains items chains → length now < 32 → place_in y.name now ≡ None
     → IsArena now (length now) y → IsNewChain now y chain.items → new ≡ items ++ y ∷ [] → newer ≡ chains ++ chain ∷ [] → IsTree new × AreChains new newer
-put_keeps now items new chains newer y chain is sound room arena above put put_chain =
+put_keeps now items new chains newer y chain is sound room free arena above put put_chain =
     let room' : length items < 32 = subst (λ (s : List TreeArena). length s < 32) (sym is) room in
+    let free' : place_in y.name items ≡ None = subst (λ (s : List TreeArena). place_in y.name s ≡ None) (sym is) free in
     let arena' : IsArena items (length items) y = subst (λ (s : List TreeArena). IsArena s (length s) y) (sym is) arena in
-    let above' : IsNewChain items y chain.items = subst (λ (s : List TreeArena). IsNewChain s y chain.items) (sym is) above in (
-      subst IsTree (sym put) (tree_more items y sound.0 room' arena'),
-      subst (λ (s : List TreeArena). AreChains s newer) (sym put) (subst (AreChains (items ++ y ∷ [])) (sym put_chain) (chains_more items y chains chain sound.1 above')),
+    let above' : IsNewChain items y chain.items = subst (λ (s : List TreeArena). IsNewChain s y chain.items) (sym is) above in
+    let more : AreChains (items ++ y ∷ []) (chains ++ chain ∷ []) = chains_more items y chains chain sound.1 above' in (
+      subst IsTree (sym put) (tree_more items y (chains ++ chain ∷ []) sound.0 more room' free' arena'),
+      subst (λ (s : List TreeArena). AreChains s newer) (sym put) (subst (AreChains (items ++ y ∷ [])) (sym put_chain) more),
     )

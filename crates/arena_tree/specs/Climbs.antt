@@ -1,8 +1,9 @@
 -- Import and hand back, as lists of steps.
-use Rattle.std.specs.Prelude.{ℕ, ◌-◌, ◌*◌, List, [], ◌∷◌, Option, Some, None, Result, Ok, Err}
+use Rattle.std.specs.Prelude.{◌≡◌, ℕ, ◌-◌, ◌*◌, ◌<◌, ◌≤◌, length, List, [], ◌∷◌, Option, Some, None, Result, Ok, Err}
 use Rattle.deed_core.specs.Tag.{Tag}
-use Rattle.deed_core.specs.Request.{plain_of}
-use Rattle.arena_tree.specs.Chains.{Node, amount_of, IsGrant}
+use Rattle.deed_core.specs.Request.{plain_of, rounded}
+use Rattle.deed_core.specs.declared.segments.Route.TheVariants.{Direct}
+use Rattle.arena_tree.specs.Chains.{Node, IsChain, IsGrant, first_id, source_of, quantum_in, amount_of}
 use Rattle.arena_tree.specs.Events.{Carve, Free, AddCarve}
 use Rattle.arena_tree.specs.Plans.{Plan, Done, Ask, then}
 use Rattle.arena_tree.specs.declared.levels.Level.{Level}
@@ -35,7 +36,7 @@ abbrev pub return_plan : List Level → Tag → Plan Returned
 return_plan [] t = Done (Err (returning.Stuck t))
 return_plan (l ∷ up) t = Ask (Free t) (on_free (return_plan up))
 
--- what a climb ends with that handed a span back for want of memory
+-- what a climb ends with that handed a span back since it ran out of memory
 abbrev pub refused_memory : Returned → Climbed
 refused_memory (Ok u) = Err climbing.NoMemory
 refused_memory (Err (returning.Stuck t)) = Err (climbing.Stuck t)
@@ -55,6 +56,18 @@ on_add up (Err (adding.Stopped t)) = Done (Err (climbing.Stopped (Some t)))
 
 abbrev pub descent_plan : List Level → ℕ → ℕ → Tag → Plan Climbed
 descent_plan up child n span = Ask (AddCarve child span n) (on_add up)
+
+-- the child can be given the span, for n units: a Direct segment of its source, the first of these
+-- arenas, with room for them
+pub record CanDescend (nodes : List Node) (up : List Level) (child n : ℕ) (span : Tag)
+    : Type 0 where
+  pub here : child < length nodes
+  pub source : source_of nodes child ≡ Some span.arena
+  pub chain : IsChain nodes up
+  pub first : first_id up ≡ Some span.arena
+  pub some : 0 < n
+  pub room : rounded (quantum_in nodes child) n ≤ span.holding.range.len
+  pub direct : span.route ≡ Direct
 
 abbrev pub on_import : List Level → ℕ → ℕ → Climbed → Plan Climbed
 on_import up child n (Ok span) = descent_plan up child n span

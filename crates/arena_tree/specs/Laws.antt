@@ -5,7 +5,7 @@ use Rattle.deed_core.specs.Tag.{Tag}
 use Rattle.arena_tree.specs.Chains.{Node, IsChain, first_id}
 use Rattle.arena_tree.specs.Plans.{Within, Handles, Gives}
 use Rattle.arena_tree.specs.Climbs.{Climbed, Returned, climb_plan, return_plan, climb_left, return_left, climb_most, IsGrantOf}
-use Rattle.arena_tree.specs.Told.{Tells, ClimbTold, ReturnTold}
+use Rattle.arena_tree.specs.Told.{Tells, ClimbTold, ReturnTold, NoneFits, OnlyNoFit, no_fits}
 use Rattle.arena_tree.specs.declared.levels.Level.{Level}
 
 -- A climb begins with an empty hand. It ends with a segment that it gives, with an empty hand, or
@@ -36,8 +36,8 @@ ClimbGives = (nodes : List Node) (chain : List Level) (n : ℕ)
     → Gives nodes (λ (r : Climbed). IfOk r (IsGrantOf nodes chain n)) (climb_plan chain n)
 
 -- A climb in a chain of the tree tells a bad request for 0 units alone. Where it ends with NoFit it
--- has asked for nothing but carves that were refused, so that no unit has moved. It ends with a
--- segment in the hand that isn't its grant only where a part has just refused that, or by a stop.
+-- has asked each arena of the chain to carve, in turn, and nothing else. It ends with a segment in
+-- the hand that isn't its grant only where a part has just refused that, or by a stop.
 abbrev pub ClimbTells : Type 0
 ClimbTells = (nodes : List Node) (chain : List Level) (n : ℕ) → IsChain nodes chain
     → Tells nodes (ClimbTold nodes chain n) (climb_plan chain n) []
@@ -47,3 +47,9 @@ ClimbTells = (nodes : List Node) (chain : List Level) (n : ℕ) → IsChain node
 abbrev pub ReturnTells : Type 0
 ReturnTells = (nodes : List Node) (chain : List Level) (t : Tag) → IsChain nodes chain
     → first_id chain ≡ Some t.arena → Tells nodes ReturnTold (return_plan chain t) []
+
+-- So NoFit tells that each arena of the chain was asked and had no room, the first for what the
+-- climb was to give; and as nothing else was asked, no unit has moved.
+abbrev pub NoFitIsTold : Type 0
+NoFitIsTold = (chain : List Level) (n : ℕ)
+    → NoneFits chain n (no_fits chain n) × OnlyNoFit (no_fits chain n)

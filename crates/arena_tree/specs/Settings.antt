@@ -12,7 +12,7 @@ use Rattle.arena_tree.specs.declared.settings.Setting.TheVariants.{Root, Child, 
 use Rattle.arena_tree.specs.declared.setup_faults.SetupFault.{SetupFault}
 use Rattle.arena_tree.specs.declared.setup_faults.SetupFault.TheVariants.{NameTaken, TooMany, NoArena, ChainTooLong, BadQuantum, BadCache, BadRange, NoMemory}
 use Rattle.arena_tree.specs.Trees.{place_in, IsWholeRange}
-use Rattle.arena_tree.specs.Setups.{root_range, RefusesRoot, RefusesChild, AddsRoot, AddsChild}
+use Rattle.arena_tree.specs.Setups.{root_range, CanRoot, CanChild, RefusesRoot, RefusesChild, AddsRoot, AddsChild}
 
 -- the arenas by number, and the spans that they own in order of coming
 pub record SetupState : Type 0 where
@@ -66,6 +66,13 @@ abbrev pub IsImporter : SetupState → List ℕ → Type 0
 IsImporter s name = (id : ℕ) × (x : TreeArena) × (source : ℕ) × (place_in name s.arenas ≡ Some id)
     × (slice_get s.arenas id ≡ Some x) × (x.source ≡ Some source)
 
+-- nothing speaks against the span, and this is what the root comes to own
+pub record BecomesSpan (s : SetupState) (n : NewSpan) (o : OwnedSpan) : Type 0 where
+  pub arena : TreeArena
+  pub room : HasSpanRoom s n o.arena arena
+  pub can : CanSpan s o.arena arena (new_range n)
+  pub range : o.range ≡ new_range n
+
 -- why a span is refused; memory is asked for only where nothing speaks against it
 abbrev pub RefusesNewSpan : SetupState → NewSpan → SetupFault → Type 0
 RefusesNewSpan s n NoArena = (place_in n.name s.arenas ≡ None) ⊎ IsImporter s n.name
@@ -73,8 +80,7 @@ RefusesNewSpan s n TooMany = (id : ℕ) × (x : TreeArena) × (place_in n.name s
     × IsRoot s.arenas id x × (MOST_SPANS ≤ span_count id s.spans)
 RefusesNewSpan s n BadRange = (id : ℕ) × (x : TreeArena) × HasSpanRoom s n id x
     × (¬ CanSpan s id x (new_range n))
-RefusesNewSpan s n NoMemory = (id : ℕ) × (x : TreeArena) × HasSpanRoom s n id x
-    × CanSpan s id x (new_range n)
+RefusesNewSpan s n NoMemory = (o : OwnedSpan) × BecomesSpan s n o
 RefusesNewSpan s n NameTaken = ⊥
 RefusesNewSpan s n ChainTooLong = ⊥
 RefusesNewSpan s n BadQuantum = ⊥
@@ -95,6 +101,12 @@ TakesSetting old (Root r) new = AddsRoot r old.arenas new.arenas × (new.spans
     ≡ old.spans ++ record { arena = length old.arenas; range = root_range r } ∷ [])
 TakesSetting old (Child c) new = AddsChild c old.arenas new.arenas × (new.spans ≡ old.spans)
 TakesSetting old (Span n) new = AddsSpan n old new
+
+-- nothing speaks against what is asked for
+abbrev pub CanSet : SetupState → Setting → Type 0
+CanSet s (Root r) = CanRoot s.arenas r
+CanSet s (Child c) = CanChild s.arenas c
+CanSet s (Span n) = (o : OwnedSpan) × BecomesSpan s n o
 
 -- it isn't there, and why
 abbrev pub RefusesSetting : SetupState → Setting → SetupFault → Type 0

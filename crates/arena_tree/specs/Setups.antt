@@ -104,18 +104,29 @@ child_arena c source size = record {
   import_min = c.import_min;
 }
 
+-- nothing speaks against the root, and this is the arena that it becomes
+pub record BecomesRoot (arenas : List TreeArena) (r : NewRoot) (x : TreeArena) : Type 0 where
+  pub can : CanRoot arenas r
+  pub caches : HasCaches r.quantum r.qcache_max x.slab_size
+  pub is : x ≡ root_arena r x.slab_size
+
+-- nothing speaks against the child, and these are its source and the arena that it becomes
+pub record BecomesChild (arenas : List TreeArena) (c : NewChild) (id : ℕ) (x : TreeArena)
+    : Type 0 where
+  pub can : CanChild arenas c
+  pub source : (y : TreeArena) × IsSource arenas c id y
+  pub caches : HasCaches c.quantum c.qcache_max x.slab_size
+  pub is : x ≡ child_arena c id x.slab_size
+
 -- the root is the last arena
 pub record AddsRoot (r : NewRoot) (old new : List TreeArena) : Type 0 where
-  pub can : CanRoot old r
-  pub size : ℕ
-  pub caches : HasCaches r.quantum r.qcache_max size
-  pub added : new ≡ old ++ root_arena r size ∷ []
+  pub arena : TreeArena
+  pub becomes : BecomesRoot old r arena
+  pub added : new ≡ old ++ arena ∷ []
 
 -- the child is the last arena
 pub record AddsChild (c : NewChild) (old new : List TreeArena) : Type 0 where
-  pub can : CanChild old c
   pub source : ℕ
-  pub finds : place_in c.source old ≡ Some source
-  pub size : ℕ
-  pub caches : HasCaches c.quantum c.qcache_max size
-  pub added : new ≡ old ++ child_arena c source size ∷ []
+  pub arena : TreeArena
+  pub becomes : BecomesChild old c source arena
+  pub added : new ≡ old ++ arena ∷ []

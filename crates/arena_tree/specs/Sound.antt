@@ -1,5 +1,5 @@
 -- What is so of every answer, whatever the parts are.
-use Rattle.std.specs.Prelude.{◌≡◌, ℕ, ◌+◌, ◌%◌, List, Option, Some, None, Result, Ok, Err, IfOk, IfErr, IfSome}
+use Rattle.std.specs.Prelude.{◌≡◌, ℕ, ◌+◌, ◌%◌, ◌<◌, ◌≤◌, List, Option, Some, None, Result, Ok, Err, IfOk, IfErr, IfSome}
 use Rattle.deed_core.specs.Tag.{Tag}
 use Rattle.deed_core.specs.Request.{IsGood, plain_of}
 use Rattle.deed_core.specs.declared.requests.Request.{Request}
@@ -23,6 +23,14 @@ pub record IsFreed (nodes : List Node) (given : Tag) (out : Option Tag) : Type 0
   pub direct : given.route ≡ Direct
   pub whole : IfSome out (λ t. (t.route ≡ Direct) × (source_of nodes given.arena ≡ Some t.arena))
 
+-- what a child carves of a span that it adds: the span's first units, which fit the request
+pub record IsFirstOf (nodes : List Node) (child : ℕ) (span : Tag) (size : ℕ) (t : Tag)
+    : Type 0 where
+  pub grant : IsGrant nodes child (plain_of size) t
+  pub root : t.holding.root ≡ span.holding.root
+  pub base : t.holding.range.base ≡ span.holding.range.base
+  pub within : t.holding.range.len ≤ span.holding.range.len
+
 -- the span of a slab is a Direct segment of the arena, on its quantum's grid
 pub record IsSlabSpan (nodes : List Node) (arena : ℕ) (t : Tag) : Type 0 where
   pub of_arena : t.arena ≡ arena
@@ -37,7 +45,7 @@ SoundTake nodes arena cache a = IfOk a (λ o. IfSome o (IsCachedChunk nodes aren
 abbrev pub Sound : List Node → (e : Event) → AnswerTo e → Type 0
 Sound nodes (Carve arena request) a = SoundCarve nodes arena request a
 Sound nodes (Free given) a = IfOk a (IsFreed nodes given) × IfErr a (λ f. freed_back f ≡ given)
-Sound nodes (AddCarve child given size) a = IfOk a (IsGrant nodes child (plain_of size))
+Sound nodes (AddCarve child given size) a = IfOk a (IsFirstOf nodes child given size)
     × IfErr a (λ f. added_back f ≡ given)
 Sound nodes (SlabTake arena cache) a = SoundTake nodes arena cache a
 Sound nodes (SlabPut given) a = IfErr a (λ f. put_back f ≡ given)
@@ -58,10 +66,35 @@ PopsRound (Ok None) old new = new ≡ old
 PopsRound (Ok (Some t)) old new = new + 1 ≡ old
 PopsRound (Err e) old new = new ≡ old
 
--- the rounds of the CPU before and after, as far as giving them all back needs it
+-- a round more, where it was taken
+abbrev pub PushesRound : {E : Type 0} → Result (Unit {0}) E → ℕ → ℕ → Type 0
+PushesRound (Ok u) old new = new ≡ old + 1
+PushesRound (Err e) old new = new ≡ old
+
+-- the rounds of a full magazine more, where the depot gave one
+abbrev pub GainsFull : {E : Type 0} → Result (Unit {0}) E → ℕ → ℕ → Type 0
+GainsFull (Ok u) old new = old < new
+GainsFull (Err e) old new = new ≡ old
+
+-- the rounds of a full magazine less, where the depot took one
+abbrev pub LosesFull : {E : Type 0} → Result (Unit {0}) E → ℕ → ℕ → Type 0
+LosesFull (Ok u) old new = new < old
+LosesFull (Err e) old new = new ≡ old
+
+-- how many rounds the CPU has before and after: only its own events and exchanges with a depot
+-- change that
 abbrev pub KeepsRounds : (e : Event) → AnswerTo e → ℕ → ℕ → Type 0
-KeepsRounds (Pop arena cache) a old new = PopsRound a old new
+KeepsRounds (Carve arena request) a old new = new ≡ old
 KeepsRounds (Free given) a old new = new ≡ old
+KeepsRounds (AddCarve child given size) a old new = new ≡ old
+KeepsRounds (SlabTake arena cache) a old new = new ≡ old
 KeepsRounds (SlabPut given) a old new = new ≡ old
-KeepsRounds (Carve arena request) a old new = Unit {0}
-KeepsRounds _ a old new = Unit {0}
+KeepsRounds (SlabAdd arena cache given) a old new = new ≡ old
+KeepsRounds (SlabReap arena cache) a old new = new ≡ old
+KeepsRounds (SwapFull arena cache) a old new = GainsFull a old new
+KeepsRounds (SwapEmpty arena cache) a old new = LosesFull a old new
+KeepsRounds (SwapFresh arena cache) a old new = LosesFull a old new
+KeepsRounds (DepotReap arena cache) a old new = new ≡ old
+KeepsRounds (Pop arena cache) a old new = PopsRound a old new
+KeepsRounds (Push arena cache given) a old new = PushesRound a old new
+KeepsRounds (Change arena cache size) a old new = new ≡ old

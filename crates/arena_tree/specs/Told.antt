@@ -1,5 +1,6 @@
 -- What a list of steps ends with, by what was answered on its way.
-use Rattle.std.specs.Prelude.{◌≡◌, ℕ, List, [], ◌∷◌, All, Result, Ok, Err}
+use Rattle.std.specs.Prelude.{◌≡◌, ℕ, List, [], ◌∷◌, ◌++◌, All, Contains, Result, Ok, Err}
+use Rattle.deed_core.specs.Request.{plain_of}
 use Rattle.deed_core.specs.Tag.{Tag}
 use Rattle.arena_tree.specs.declared.levels.Level.{Level}
 use Rattle.arena_tree.specs.declared.part_faults.CarveFault.TheVariants as carving
@@ -8,7 +9,7 @@ use Rattle.arena_tree.specs.declared.part_faults.AddCarveFault.{AddCarveFault}
 use Rattle.arena_tree.specs.declared.part_faults.AddCarveFault.TheVariants as adding
 use Rattle.arena_tree.specs.declared.part_faults.ClimbFault.TheVariants as climbing
 use Rattle.arena_tree.specs.declared.part_faults.ReturnFault.TheVariants as returning
-use Rattle.arena_tree.specs.Chains.{Node}
+use Rattle.arena_tree.specs.Chains.{Node, amount_of}
 use Rattle.arena_tree.specs.Events.{Event, AnswerTo, Carve, Free, AddCarve}
 use Rattle.arena_tree.specs.Sound.{Sound}
 use Rattle.arena_tree.specs.Plans.{Plan, Done, Ask, Path}
@@ -32,6 +33,21 @@ abbrev pub told_by : {S A : Type 0} (step : S → (e : Event) → AnswerTo e →
 told_by step (Done b) s t a d told = told
 told_by step (Ask e f) s t a d told =
     told_by step (f d.1) d.0 t a d.3 (record { event = e; answer = d.1 } ∷ told)
+
+-- an arena was asked to carve so many units, and nothing fitted
+abbrev pub no_fit : ℕ → ℕ → Answered
+no_fit arena n = record { event = Carve arena (plain_of n); answer = Err carving.NoFit }
+
+-- each arena of a chain was asked once, the first for n units, each other for the amount that the
+-- one below it would import, and nothing fitted; the last asked first
+abbrev pub no_fits : List Level → ℕ → List Answered
+no_fits [] n = []
+no_fits (l ∷ up) n = no_fits up (amount_of l up n) ++ no_fit l.id n ∷ []
+
+-- each arena of the chain was asked so, whatever else was asked
+abbrev pub NoneFits : List Level → ℕ → List Answered → Type 0
+NoneFits [] n told = Unit {0}
+NoneFits (l ∷ up) n told = Contains told (no_fit l.id n) × NoneFits up (amount_of l up n) told
 
 -- an arena was asked to carve, and nothing fitted
 abbrev pub IsNoFit : (e : Event) → AnswerTo e → Type 0
@@ -63,11 +79,12 @@ WasRefused t [] = ⊥
 WasRefused t (last ∷ told) = IsRefusalOf t last.event last.answer
 
 -- what a climb ends with: a grant of the chain's first arena; for 0 units alone a bad request;
--- NoFit where nothing but refused carves was asked; a segment where a part has just refused it
+-- NoFit where each arena of the chain was asked to carve, and nothing else; a segment where a part
+-- has just refused it
 abbrev pub ClimbTold : List Node → List Level → ℕ → List Answered → Climbed → Type 0
 ClimbTold nodes chain n told (Ok t) = IsGrantOf nodes chain n t
 ClimbTold nodes chain n told (Err climbing.BadRequest) = n ≡ 0
-ClimbTold nodes chain n told (Err climbing.NoFit) = OnlyNoFit told
+ClimbTold nodes chain n told (Err climbing.NoFit) = told ≡ no_fits chain n
 ClimbTold nodes chain n told (Err climbing.NoMemory) = Unit {0}
 ClimbTold nodes chain n told (Err (climbing.Stuck t)) = WasRefused t told
 ClimbTold nodes chain n told (Err (climbing.Stopped o)) = Unit {0}

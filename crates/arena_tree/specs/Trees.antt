@@ -1,10 +1,10 @@
 -- What a contract sees of a tree, and what is always so of one.
-use Rattle.std.specs.Prelude.{◌≡◌, ◌≢◌, ℕ, ◌+◌, ◌*◌, ◌%◌, ◌^◌, ◌<◌, ◌≤◌, List, [], ◌∷◌, map, length, position, slice_get, Option, Some, None, IfSome}
+use Rattle.std.specs.Prelude.{◌≡◌, ◌≢◌, ℕ, ◌+◌, ◌*◌, ◌%◌, ◌^◌, ◌<◌, ◌≤◌, List, [], ◌∷◌, AllPairs, map, length, position, slice_get, Option, Some, None, IfSome}
 use Rattle.std.specs.Int.{IsPowerOfTwo, IsNextPowerOfTwo}
 use Rattle.std.specs.Str.{bytes_eq}
 use Rattle.deed_core.specs.Extent.{Extent, IsRange}
 use Rattle.tag_arena.specs.ArenaState.{OnQuantum}
-use Rattle.arena_tree.specs.declared.limits.TheConstants.{MOST_ARENAS, MOST_CACHES}
+use Rattle.arena_tree.specs.declared.limits.TheConstants.{MOST_ARENAS, MOST_CACHES, LONGEST_CHAIN}
 use Rattle.arena_tree.specs.declared.levels.Level.{Level}
 use Rattle.arena_tree.specs.declared.trees.TreeArena.{TreeArena}
 use Rattle.arena_tree.specs.Chains.{Node}
@@ -73,6 +73,11 @@ pub record IsArena (arenas : List TreeArena) (id : ℕ) (x : TreeArena) : Type 0
   pub caches : HasCaches x.quantum x.qcache_max x.slab_size
   pub source : IfSome x.source (ImportsFrom arenas id x)
 
+-- what is so of every tree: at most 32 arenas, each with a name of its own, an earlier source and a
+-- chain of at most four
 pub record IsTree (arenas : List TreeArena) : Type 0 where
   pub few : length arenas ≤ MOST_ARENAS
+  pub names : AllPairs (λ x y. x.name ≢ y.name) arenas
   pub each : (id : ℕ) (x : TreeArena) → slice_get arenas id ≡ Some x → IsArena arenas id x
+  pub short : (id : ℕ) (chain : List Level) → ChainFrom arenas (Some id) chain
+      → length chain ≤ LONGEST_CHAIN

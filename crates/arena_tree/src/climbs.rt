@@ -3,7 +3,7 @@ ghost use Rattle.std.specs.Prelude.{◌≡◌, ℕ, ◌+◌, ◌<◌, ◌≤◌,
 ghost use Rattle.deed_core.specs.Request.{rounded, plain_of};
 ghost use Rattle.arena_tree.specs.Chains.{IsChain, IsGrant, first_id, source_of, quantum_in};
 ghost use Rattle.arena_tree.specs.Plans.{Ran};
-ghost use Rattle.arena_tree.specs.Climbs.{return_plan, descent_plan, climb_plan, climb_most, IsGrantOf};
+ghost use Rattle.arena_tree.specs.Climbs.{return_plan, descent_plan, climb_plan, climb_most, IsGrantOf, CanDescend};
 ghost use Rattle.arena_tree.specs.Tags.{tag_climb, tag_return};
 
 use crate::levels::{Level, import_amount};
@@ -26,6 +26,7 @@ pub fn climb_alloc<S: Held, P: Parts<S>>(
     ensures few { P.count parts.new
         ≤ P.count parts.old + climb_most (length chain.now) (tag_climb S.tag result) }
     ensures tree { P.tree parts.new ≡ P.tree parts.old }
+    ensures rounds { P.rounds parts.new ≡ P.rounds parts.old }
 {
     climb(parts, chain, size)
 }
@@ -59,6 +60,7 @@ fn climb<S: Held, P: Parts<S>>(
         parts.old parts.new (tag_climb S.tag result) }
     ensures granted { IfOk result (λ s. IsGrantOf (P.tree parts.old) chain.now size (S.tag s)) }
     ensures tree { P.tree parts.new ≡ P.tree parts.old }
+    ensures rounds { P.rounds parts.new ≡ P.rounds parts.old }
 {
     let Some((level, up)) = chain.split_first() else {
         return Err(ClimbFault::NoFit);
@@ -86,19 +88,13 @@ fn descend<S: Held, P: Parts<S>>(
     span: S,
     size: u64,
 ) -> Result<S, ClimbFault<S>>
-    requires child { child < length (P.tree parts.old) }
-    requires source { source_of (P.tree parts.old) child ≡ Some (S.tag span).arena }
-    requires chain { IsChain (P.tree parts.old) up.now }
-    requires first { first_id up.now ≡ Some (S.tag span).arena }
-    requires some { 0 < size }
-    requires room { rounded (quantum_in (P.tree parts.old) child) size
-        ≤ (S.tag span).holding.range.len }
-    requires direct { (S.tag span).route ≡ Route.Direct }
+    requires { CanDescend (P.tree parts.old) up.now child size (S.tag span) }
     ensures ran { Ran P.step P.tree P.count P.rounds (descent_plan up.now child size (S.tag span))
         parts.old parts.new (tag_climb S.tag result) }
     ensures granted { IfOk result (λ s.
         IsGrant (P.tree parts.old) child (plain_of size) (S.tag s)) }
     ensures tree { P.tree parts.new ≡ P.tree parts.old }
+    ensures rounds { P.rounds parts.new ≡ P.rounds parts.old }
 {
     match parts.add_carve(child, span, size) {
         Ok(segment) => Ok(segment),

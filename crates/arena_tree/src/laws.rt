@@ -1,6 +1,7 @@
 //! Laws of the lists of steps, for the proofs of the layers above. The functions do nothing: their
 //! contracts are the laws, and proofs/LawProofs.antt hands them on.
-ghost use Rattle.arena_tree.specs.Laws.{ClimbHandles, ReturnHandles, ClimbIsShort, ReturnIsShort, ClimbGives, ClimbTells, ReturnTells};
+ghost use Rattle.arena_tree.specs.Laws.{ClimbHandles, ReturnHandles, ClimbIsShort, ReturnIsShort};
+ghost use Rattle.arena_tree.specs.Laws.{ClimbGives, ClimbTells, ReturnTells, NoFitIsTold};
 
 /// What a climb and a hand back leave in the hand, how many locks they take, what a climb gives,
 /// and what each end tells of the way.
@@ -12,4 +13,5 @@ pub fn climb_laws()
     ensures gives { ClimbGives }
     ensures tells { ClimbTells }
     ensures back_tells { ReturnTells }
+    ensures no_fit { NoFitIsTold }
 {}

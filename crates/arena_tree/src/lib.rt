@@ -4,7 +4,8 @@
 //! a child that imports, added one by one; its type keeps it acceptable. `Tree` (trees) is a setup
 //! without its spans: it finds an arena's number by its name, and its chain, which is the arena,
 //! its source, that one's source and so on. To find a name looks at each of at most 32; a chain is
-//! kept, and takes constant time.
+//! kept, and takes constant time. What is asked for can be judged before it is added: `judge`,
+//! `judge_root`, `judge_child` and `judge_span` take no memory, and refuse with the same word.
 //!
 //! `Parts` (parts) is what one CPU can reach: each call is one event, in one part under its lock,
 //! or in the CPU's own magazines. `climb_alloc` and `climb_free` (climbs) go up a chain and down
@@ -35,7 +36,7 @@ mod trees;
 pub use climbs::{climb_alloc, climb_free};
 pub use laws::climb_laws;
 pub use levels::Level;
-pub use limits::{LONGEST_CHAIN, MOST_ARENAS, MOST_CACHES, MOST_SPANS};
+pub use limits::{LONGEST_CHAIN, MOST_ARENAS, MOST_CACHES, MOST_CPUS, MOST_SPANS, setup_limit_law};
 pub use part_faults::{
     AddCarveFault, CarveFault, ChangeFault, ClimbFault, FreeFault, PushFault, ReturnFault,
     SlabAddFault, SlabPutFault, Stopped, SwapEmptyFault, SwapFreshFault, SwapFullFault,

@@ -1,4 +1,5 @@
 //! How much a setup may set up. Code and contracts cite these by name.
+ghost use Rattle.std.specs.Prelude.{◌≡◌};
 
 /// How many arenas there are at most.
 pub const MOST_ARENAS: usize = 32;
@@ -6,8 +7,20 @@ pub const MOST_ARENAS: usize = 32;
 /// How many spans an arena owns at most.
 pub const MOST_SPANS: usize = 65536;
 
+/// How many CPUs there are at most. They go by the numbers below this.
+pub const MOST_CPUS: usize = 64;
+
 /// How many arenas a chain has at most.
 pub const LONGEST_CHAIN: usize = 4;
 
 /// How many quantum caches an arena has at most.
 pub const MOST_CACHES: u64 = 16;
+
+/// The limits as the rules have them: who changes one changes it here, and nowhere else.
+pub fn setup_limit_law()
+    ensures arenas { MOST_ARENAS ≡ 32 }
+    ensures spans { MOST_SPANS ≡ 65536 }
+    ensures cpus { MOST_CPUS ≡ 64 }
+    ensures chain { LONGEST_CHAIN ≡ 4 }
+    ensures caches { MOST_CACHES ≡ 16 }
+{}

@@ -1,8 +1,8 @@
 //! Setups: a tree of arenas, and the spans that its roots own.
-ghost use Rattle.std.specs.Prelude.{◌≡◌, ◌==◌, ◌↔◌, [], Any, IsTrue, MatchBool, IfOk, IfErr, OnOk, OnErr};
+ghost use Rattle.std.specs.Prelude.{◌≡◌, ◌≢◌, ◌==◌, ◌↔◌, [], Any, IsTrue, MatchBool, IfOk, IfErr, OnOk, OnErr};
 ghost use Rattle.std.specs.List.{count_by};
-ghost use Rattle.arena_tree.specs.declared.trees.TreeArena.{TreeArena};
-ghost use Rattle.arena_tree.specs.Settings.{IsSetup, Clash, HasNoClash, HasSpanRoom, CanSpan, RefusesNewSpan, TakesSetting, RefusesSetting, new_range, span_count};
+ghost use Rattle.arena_tree.specs.Settings.{IsSetup, Clash, HasNoClash, BecomesSpan, CanSet, RefusesNewSpan, TakesSetting, RefusesSetting, span_count};
+ghost use Rattle.arena_tree.specs.Trees.{IsTree};
 ghost use Rattle.arena_tree.specs.declared.settings.Setting.TheVariants.{Root, Child, Span};
 
 use crate::limits::MOST_SPANS;
@@ -54,8 +54,11 @@ impl Setup {
     /// The arenas.
     pub fn tree(&self) -> &Tree
         ensures value { result.now ≡ self.now.arenas }
+        ensures tree { IsTree self.now.arenas }
         ensures setup { IsSetup self.now }
     {
+        // For its clause.
+        let _ = self.tree.len();
         &self.tree
     }
 
@@ -78,9 +81,9 @@ impl Setup {
     /// Adds what is asked for, or says why not and stays as it was. A span costs a look at all
     /// spans that are there, an arena one at all names.
     pub fn add(&mut self, setting: &Setting) -> Result<(), SetupFault>
-        ensures taken { OnOk result (TakesSetting self.old setting.now self.new) }
+        ensures ok { OnOk result (TakesSetting self.old setting.now self.new) }
         ensures refused { IfErr result (RefusesSetting self.old setting.now) }
-        ensures same { OnErr result (self.new ≡ self.old) }
+        ensures unchanged { OnErr result (self.new ≡ self.old) }
     {
         match setting {
             Setting::Root(root) => self.add_root(root),
@@ -89,12 +92,35 @@ impl Setup {
         }
     }
 
-    fn add_root(&mut self, root: &NewRoot) -> Result<(), SetupFault>
-        ensures taken { OnOk result (TakesSetting self.old (Root root.now) self.new) }
-        ensures refused { IfErr result (RefusesSetting self.old (Root root.now)) }
-        ensures same { OnErr result (self.new ≡ self.old) }
+    /// Whether what is asked for can be added, or why it can't. Takes no memory, and asks for none.
+    pub fn judge(&self, setting: &Setting) -> Result<(), SetupFault>
+        ensures ok { OnOk result (CanSet self.now setting.now) }
+        ensures refused { IfErr result (RefusesSetting self.now setting.now) }
+        ensures judged { IfErr result (λ fault. fault ≢ SetupFault.NoMemory) }
     {
-        let (_, range) = self.tree.judge_root(root)?;
+        match setting {
+            Setting::Root(root) => {
+                self.tree.judge_root(root)?;
+                Ok(())
+            }
+            Setting::Child(child) => {
+                self.tree.judge_child(child)?;
+                Ok(())
+            }
+            Setting::Span(span) => {
+                self.judge_span(span)?;
+                Ok(())
+            }
+        }
+    }
+
+    fn add_root(&mut self, root: &NewRoot) -> Result<(), SetupFault>
+        ensures ok { OnOk result (TakesSetting self.old (Root root.now) self.new) }
+        ensures refused { IfErr result (RefusesSetting self.old (Root root.now)) }
+        ensures unchanged { OnErr result (self.new ≡ self.old) }
+    {
+        self.tree.judge_root(root)?;
+        let range = Range::new(root.base, root.len).unwrap();
         self.spans.reserve(1)?;
         let arena = self.tree.len() as u32;
         self.tree.add_root(root)?;
@@ -103,17 +129,17 @@ impl Setup {
     }
 
     fn add_child(&mut self, child: &NewChild) -> Result<(), SetupFault>
-        ensures taken { OnOk result (TakesSetting self.old (Child child.now) self.new) }
+        ensures ok { OnOk result (TakesSetting self.old (Child child.now) self.new) }
         ensures refused { IfErr result (RefusesSetting self.old (Child child.now)) }
-        ensures same { OnErr result (self.new ≡ self.old) }
+        ensures unchanged { OnErr result (self.new ≡ self.old) }
     {
         self.tree.add_child(child)
     }
 
     fn add_span(&mut self, span: &NewSpan) -> Result<(), SetupFault>
-        ensures taken { OnOk result (TakesSetting self.old (Span span.now) self.new) }
+        ensures ok { OnOk result (TakesSetting self.old (Span span.now) self.new) }
         ensures refused { IfErr result (RefusesSetting self.old (Span span.now)) }
-        ensures same { OnErr result (self.new ≡ self.old) }
+        ensures unchanged { OnErr result (self.new ≡ self.old) }
     {
         let owned = self.judge_span(span)?;
         self.spans.reserve(1)?;
@@ -121,12 +147,11 @@ impl Setup {
         Ok(())
     }
 
-    /// Why a span isn't added, memory aside; else the span.
-    fn judge_span(&self, span: &NewSpan) -> Result<OwnedSpan, SetupFault>
-        ensures can { IfOk result (λ o. (x : TreeArena) × HasSpanRoom self.now span.now o.arena x
-            × CanSpan self.now o.arena x (new_range span.now)) }
-        ensures range { IfOk result (λ o. o.range ≡ new_range span.now) }
+    /// What a root would own for a span, or why it can't. Takes no memory, and asks for none.
+    pub fn judge_span(&self, span: &NewSpan) -> Result<OwnedSpan, SetupFault>
+        ensures ok { IfOk result (BecomesSpan self.now span.now) }
         ensures refused { IfErr result (RefusesNewSpan self.now span.now) }
+        ensures judged { IfErr result (λ fault. fault ≢ SetupFault.NoMemory) }
     {
         let Some(id) = self.tree.find(&span.name) else {
             return Err(SetupFault::NoArena);

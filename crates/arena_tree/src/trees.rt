@@ -1,17 +1,17 @@
 //! The tree of arenas: their names, where each imports from, and how each carves.
-ghost use Rattle.std.specs.Prelude.{◌≡◌, ◌<◌, ◌≤◌, List, [], ◌∷◌, ◌++◌, length, position, slice_get, Some, IfSome, IfOk, IfErr, OnOk, OnErr};
+ghost use Rattle.std.specs.Prelude.{◌≡◌, ◌≢◌, ◌<◌, ◌≤◌, List, [], ◌∷◌, ◌++◌, length, position, slice_get, Some, IfSome, IfOk, IfErr, OnOk, OnErr};
 ghost use Rattle.std.specs.Str.{bytes_eq};
 ghost use Rattle.arena_tree.specs.Chains.{IsChain};
-ghost use Rattle.arena_tree.specs.Trees.{place_in, level_of, nodes_of, ChainFrom, IsArena, IsTree, HasCaches};
+ghost use Rattle.arena_tree.specs.Trees.{place_in, level_of, nodes_of, ChainFrom, IsArena, IsTree};
 ghost use Rattle.arena_tree.specs.Stored.{IsNewChain};
-ghost use Rattle.arena_tree.specs.Setups.{root_range, CanRoot, CanChild, RefusesRoot, RefusesChild, IsSource, AddsRoot, AddsChild};
+ghost use Rattle.arena_tree.specs.Setups.{BecomesRoot, BecomesChild, RefusesRoot, RefusesChild, AddsRoot, AddsChild};
 
 use crate::levels::Level;
 use crate::limits::{LONGEST_CHAIN, MOST_ARENAS};
 use crate::settings::{NewChild, NewRoot};
 use crate::setup_faults::SetupFault;
 use crate::sizes::{slab_size, whole_range};
-use deed_core::{Range, is_power_of_two};
+use deed_core::is_power_of_two;
 use lease_terms::Name;
 use std::alloc::{AllocError, Global};
 use std::marker::Model;
@@ -75,6 +75,14 @@ impl Tree {
         self.arenas.len()
     }
 
+    /// The arenas, each at its number.
+    pub fn arenas(&self) -> &[TreeArena]
+        ensures value { result.now ≡ self.now }
+        ensures tree { IsTree self.now }
+    {
+        &self.arenas
+    }
+
     /// The number of the arena of this name.
     pub fn find(&self, name: &Name) -> Option<u32>
         ensures place { result ≡ place_in name.now self.now }
@@ -108,20 +116,11 @@ impl Tree {
 
     /// Adds an arena with one owned span, which isn't kept here.
     pub fn add_root(&mut self, root: &NewRoot) -> Result<(), SetupFault>
-        ensures added { OnOk result (AddsRoot root.now self.old self.new) }
+        ensures ok { OnOk result (AddsRoot root.now self.old self.new) }
         ensures refused { IfErr result (RefusesRoot self.old root.now) }
-        ensures same { OnErr result (self.new ≡ self.old) }
+        ensures unchanged { OnErr result (self.new ≡ self.old) }
     {
-        let (slab_size, _) = self.judge_root(root)?;
-        let arena = TreeArena {
-            name: root.name,
-            source: None,
-            quantum: root.quantum,
-            policy: root.policy,
-            qcache_max: root.qcache_max,
-            slab_size,
-            import_min: 0,
-        };
+        let arena = self.judge_root(root)?;
         let level = level(self.arenas.len() as u32, &arena);
         let chain = chain_of(self.alloc, level, &[])?;
         self.put(arena, chain)?;
@@ -130,32 +129,22 @@ impl Tree {
 
     /// Adds an arena that imports.
     pub fn add_child(&mut self, child: &NewChild) -> Result<(), SetupFault>
-        ensures added { OnOk result (AddsChild child.now self.old self.new) }
+        ensures ok { OnOk result (AddsChild child.now self.old self.new) }
         ensures refused { IfErr result (RefusesChild self.old child.now) }
-        ensures same { OnErr result (self.new ≡ self.old) }
+        ensures unchanged { OnErr result (self.new ≡ self.old) }
     {
-        let (source, slab_size) = self.judge_child(child)?;
-        let arena = TreeArena {
-            name: child.name,
-            source: Some(source),
-            quantum: child.quantum,
-            policy: child.policy,
-            qcache_max: child.qcache_max,
-            slab_size,
-            import_min: child.import_min,
-        };
+        let (source, arena) = self.judge_child(child)?;
         let level = level(self.arenas.len() as u32, &arena);
         let chain = chain_of(self.alloc, level, self.chain(source))?;
         self.put(arena, chain)?;
         Ok(())
     }
 
-    /// Why a root isn't added, memory aside; else the size of its slabs, and its range.
-    pub(crate) fn judge_root(&self, root: &NewRoot) -> Result<(u64, Range), SetupFault>
-        ensures can { OnOk result (CanRoot self.now root.now) }
-        ensures slabs { IfOk result (λ r. HasCaches root.now.quantum root.now.qcache_max r.0) }
-        ensures range { IfOk result (λ r. r.1 ≡ root_range root.now) }
+    /// The arena that a root would become, or why it can't. Takes no memory, and asks for none.
+    pub fn judge_root(&self, root: &NewRoot) -> Result<TreeArena, SetupFault>
+        ensures ok { IfOk result (BecomesRoot self.now root.now) }
         ensures refused { IfErr result (RefusesRoot self.now root.now) }
+        ensures judged { IfErr result (λ fault. fault ≢ SetupFault.NoMemory) }
     {
         if self.find(&root.name).is_some() {
             return Err(SetupFault::NameTaken);
@@ -166,22 +155,29 @@ impl Tree {
         if !is_power_of_two(root.quantum) {
             return Err(SetupFault::BadQuantum);
         }
-        let Some(size) = slab_size(root.quantum, root.qcache_max) else {
+        let Some(slab_size) = slab_size(root.quantum, root.qcache_max) else {
             return Err(SetupFault::BadCache);
         };
-        let Some(range) = whole_range(root.base, root.len, root.quantum) else {
+        if whole_range(root.base, root.len, root.quantum).is_none() {
             return Err(SetupFault::BadRange);
-        };
-        Ok((size, range))
+        }
+        Ok(TreeArena {
+            name: root.name,
+            source: None,
+            quantum: root.quantum,
+            policy: root.policy,
+            qcache_max: root.qcache_max,
+            slab_size,
+            import_min: 0,
+        })
     }
 
-    /// Why a child isn't added, memory aside; else the number of its source and the size of its
-    /// slabs.
-    fn judge_child(&self, child: &NewChild) -> Result<(u32, u64), SetupFault>
-        ensures can { OnOk result (CanChild self.now child.now) }
-        ensures source { IfOk result (λ r. (y : TreeArena) × IsSource self.now child.now r.0 y) }
-        ensures slabs { IfOk result (λ r. HasCaches child.now.quantum child.now.qcache_max r.1) }
+    /// The number of a child's source and the arena that it would become, or why it can't. Takes no
+    /// memory, and asks for none.
+    pub fn judge_child(&self, child: &NewChild) -> Result<(u32, TreeArena), SetupFault>
+        ensures ok { IfOk result (λ r. BecomesChild self.now child.now r.0 r.1) }
         ensures refused { IfErr result (RefusesChild self.now child.now) }
+        ensures judged { IfErr result (λ fault. fault ≢ SetupFault.NoMemory) }
     {
         if self.find(&child.name).is_some() {
             return Err(SetupFault::NameTaken);
@@ -201,19 +197,29 @@ impl Tree {
         if child.quantum > self.arena(source).quantum {
             return Err(SetupFault::BadQuantum);
         }
-        let Some(size) = slab_size(child.quantum, child.qcache_max) else {
+        let Some(slab_size) = slab_size(child.quantum, child.qcache_max) else {
             return Err(SetupFault::BadCache);
         };
-        Ok((source, size))
+        let arena = TreeArena {
+            name: child.name,
+            source: Some(source),
+            quantum: child.quantum,
+            policy: child.policy,
+            qcache_max: child.qcache_max,
+            slab_size,
+            import_min: child.import_min,
+        };
+        Ok((source, arena))
     }
 
     /// Adds an arena that nothing speaks against, with its chain.
     fn put(&mut self, arena: TreeArena, chain: Vec<Level>) -> Result<(), AllocError>
         requires few { length self.old < MOST_ARENAS }
+        requires name { place_in arena.name self.old ≡ None }
         requires arena { IsArena self.old (length self.old) arena }
         requires chain { IsNewChain self.old arena chain.items }
-        ensures added { OnOk result (self.new ≡ self.old ++ arena ∷ []) }
-        ensures same { OnErr result (self.new ≡ self.old) }
+        ensures ok { OnOk result (self.new ≡ self.old ++ arena ∷ []) }
+        ensures unchanged { OnErr result (self.new ≡ self.old) }
     {
         self.arenas.reserve(1)?;
         self.chains.reserve(1)?;

@@ -1,7 +1,7 @@
 use Rattle.arena_tree.proofs.ClimbBounds.{climb_is_short, return_is_short}
 use Rattle.arena_tree.proofs.ClimbGrants.{gives_climb}
 use Rattle.arena_tree.proofs.ClimbHands.{handles_return, handles_climb}
-use Rattle.arena_tree.proofs.ClimbTold.{climb_tells, return_tells}
+use Rattle.arena_tree.proofs.ClimbTold.{climb_tells, return_tells, no_fit_is_told}
 use Rattle.arena_tree.proofs.laws.climb_laws.Goals as goal
 
 pub returns-clause-climb : goal.returns-clause-climb
@@ -24,3 +24,6 @@ returns-clause-tells c = climb_tells
 
 pub returns-clause-back_tells : goal.returns-clause-back_tells
 returns-clause-back_tells c = return_tells
+
+pub returns-clause-no_fit : goal.returns-clause-no_fit
+returns-clause-no_fit c = no_fit_is_told
