@@ -1,5 +1,6 @@
 -- A desk as it is opened from a setup.
-use Rattle.std.specs.Prelude.{◌≡◌, ℕ, ◌+◌, ◌*◌, ◌==◌, List, [], filter, length, map, slice_get, Some}
+use Rattle.std.specs.Prelude.{◌≡◌, ℕ, ◌+◌, ◌*◌, ◌==◌, List, [], filter, length, map, slice_get}
+use Rattle.std.specs.Prelude.{Some}
 use Rattle.deed_core.specs.Extent.{Extent}
 use Rattle.deed_core.specs.Holding.{Holding}
 use Rattle.arena_tree.specs.Settings.{SetupState}

@@ -13,7 +13,8 @@ no_arenas = record { arenas = []; spans = [] }
 
 -- A script is answered to its end.
 abbrev pub ScriptEnds : List ℕ → Option (List ℕ) → Option (List ℕ) → Type 0
-ScriptEnds input before after = RunsWhole TakesSetupLine IsDeskOf LeaseStep no_arenas input before after
+ScriptEnds input before after =
+    RunsWhole TakesSetupLine IsDeskOf LeaseStep no_arenas input before after
 
 -- A script ends early.
 abbrev pub ScriptFails : Option (List ℕ) → Option (List ℕ) → Option (List ℕ) → Option (List ℕ)

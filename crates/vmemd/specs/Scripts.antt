@@ -50,7 +50,7 @@ Blames reader reads writer Read = IsSpent reader reads × (writer ≡ false)
 Blames reader reads writer Write = (reader ≡ false) × (writer ≡ true)
 Blames reader reads writer Memory = (reader ≡ false) × (writer ≡ false)
 
--- what doesn't take a line refuses it so, or memory was refused
+-- what doesn't take a line refuses it so, or is out of memory
 abbrev pub RefusedBy : (ConfigFault → Type 0) → SettingFault → Type 0
 RefusedBy refused (setting.Refused fault) = refused fault
 RefusedBy refused setting.Memory = Unit {0}

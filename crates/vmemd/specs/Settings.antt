@@ -18,7 +18,9 @@ use Rattle.lease_proto.specs.declared.setup_lines.RootLine.{RootLine}
 use Rattle.lease_proto.specs.declared.setup_lines.SpanLine.{SpanLine}
 use Rattle.vmemd.specs.declared.faults.Unserved.TheVariants.{Children, Caches}
 use Rattle.vmemd.specs.declared.faults.ConfigFault.{ConfigFault}
-use Rattle.vmemd.specs.declared.faults.ConfigFault.TheVariants.{Line, NameTaken, TooMany, NoArena, ChainTooLong, BadQuantum, BadCache, BadRange, NotYet}
+use Rattle.vmemd.specs.declared.faults.ConfigFault.TheVariants.{Line, NameTaken, TooMany, NoArena}
+use Rattle.vmemd.specs.declared.faults.ConfigFault.TheVariants.{ChainTooLong, BadQuantum, BadCache}
+use Rattle.vmemd.specs.declared.faults.ConfigFault.TheVariants.{BadRange, NotYet}
 use Rattle.vmemd.specs.declared.faults.SettingFault.{SettingFault}
 use Rattle.vmemd.specs.declared.faults.SettingFault.TheVariants.{Refused, Memory}
 

@@ -69,7 +69,7 @@ pub enum ScriptFault {
     /// The output can't be written.
     #[error("write")]
     Write,
-    /// Memory was refused.
+    /// Out of memory.
     #[error("memory")]
     Memory,
 }

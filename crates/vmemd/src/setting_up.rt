@@ -35,8 +35,8 @@ pub trait SetUp {
 }
 
 /// Takes the setup lines that the input begins with, and gives what was read and not taken: the
-/// lines after them. At a refused line the setup is what the lines before it made. A setup line that
-/// is too long is refused as soon as that shows.
+/// lines after them. At a refused line the setup is what the lines before it made. A setup line
+/// that is too long is refused as soon as that shows.
 pub fn take_setup<R: Read, S: SetUp>(
     reader: &mut Watched<R>,
     setup: &mut S,
