@@ -1,13 +1,12 @@
 -- Lemmas on the opening of a desk.
-use Rattle.std.proofs.Common.{◌≡◌, ◌≢◌, ℕ, suc, ◌+◌, ◌<◌, ◌≤◌, ◌==◌, true, false, cond, refl, sym, subst, ap, ◌∙◌, inl, inr, ◌⊎◌, List, [], ◌∷◌, ◌++◌, map, filter, take, drop, length, Some, None, All, AllPairs, arith, eq-eqb}
+use Rattle.std.proofs.Common.{◌≡◌, ◌≢◌, ℕ, suc, ◌+◌, ◌<◌, ◌≤◌, ◌==◌, false, cond, refl, sym, subst, ap, ◌∙◌, inl, inr, ◌⊎◌, List, [], ◌∷◌, ◌++◌, map, filter, take, drop, length, Some, None, All, AllPairs, arith, eq-eqb}
 use Rattle.std.specs.Prelude.{slice_get, get_or, sum_by}
-use Rattle.std.specs.List.{count_by}
 use Rattle.std.proofs.lemmas.Bool.{cases_eq, ne_eqb}
 use Rattle.std.proofs.lemmas.List.{append-nil, length-append, length-map, length-take, map-append, take_all, take_more, take-append-drop, get_or-take}
 use Rattle.std.proofs.lemmas.List.Elements.{filter-append, All-cons, All-nil}
 use Rattle.std.proofs.lemmas.List.Sums.{length-filter, sum_by-append}
 use Rattle.std.proofs.lemmas.Option.{slice_get_within, get_or_from_slice_get}
-use Rattle.deed_core.specs.Extent.{Extent, Overlap}
+use Rattle.deed_core.specs.Extent.{Overlap}
 use Rattle.deed_core.specs.Holding.{Holding}
 use Rattle.deed_core.proofs.LawProofs.{all_at, all_from, pushed, slice_get_one, slice_get_some, slice_get_mapped, mapped}
 use Rattle.tag_arena.specs.declared.policies.Policy.{Policy}
@@ -23,7 +22,7 @@ use Rattle.lease_desk.specs.Opened.{root_of, ranges_owned, AreOwned, IsOpened, A
 use Rattle.lease_desk.specs.Spaces.{state_of, states_of, owning, IsSpace, AreSpaces, IsSteady, IsUnallocated, AreUnallocated}
 use Rattle.std.specs.Ordering.{nat_cmp}
 use Rattle.std.specs.FinMap as finmap
-use Rattle.std.specs.FinMap.{FinMap, entries, len-empty, len-entries}
+use Rattle.std.specs.FinMap.{entries, len-empty, len-entries}
 
 nil_of : {X : Type 0} (xs : List X) → length xs ≡ 0 → xs ≡ []
 nil_of [] none = refl
@@ -100,7 +99,7 @@ is_clear s id i o hs setup at same are =
     let ranges : All (λ e. ¬ Overlap e o.range) (map (λ (h : Holding). h.range) hs) =
     subst (λ es. All (λ e. ¬ Overlap e o.range) es) (sym are.ranges) (clear_ranges id o (take i s.spans) same (front_clear s.spans i o setup.apart at)) in
     all_from (λ h. ¬ Overlap h.range o.range) hs (λ k h there.
-        all_at (λ e. ¬ Overlap e o.range) (map (λ (x : Holding). x.range) hs) k h.range ranges (slice_get_mapped (λ (x : Holding). x.range) hs k h there))
+    all_at (λ e. ¬ Overlap e o.range) (map (λ (x : Holding). x.range) hs) k h.range ranges (slice_get_mapped (λ (x : Holding). x.range) hs k h there))
 
 -- an arena of a setup has room for each of its spans
 pub has_room : (s : SetupState) (id i : ℕ) (o : OwnedSpan) (hs : List Holding) → IsSetup s → slice_get s.spans i ≡ Some o → o.arena ≡ id → AreOwned id (take i s.spans) hs → length hs < 65536

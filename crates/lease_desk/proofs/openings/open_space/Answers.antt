@@ -3,7 +3,7 @@ use Rattle.std.specs.Prelude.{List, slice_get}
 use Rattle.tag_arena.specs.ArenaState.{ArenaState}
 use Rattle.arena_tree.specs.declared.trees.TreeArena.{TreeArena}
 use Rattle.lease_desk.specs.Spaces.{owning}
-use Rattle.lease_desk.proofs.OpeningLemmas.{opened_space, unallocated_space, sound_space}
+use Rattle.lease_desk.proofs.OpeningLemmas.{opened_space, unallocated_space}
 use Rattle.lease_desk.proofs.openings.open_space.Goals as goal
 
 pub close_space-requires-clause-unallocated : goal.close_space-requires-clause-unallocated

@@ -1,4 +1,4 @@
-use Rattle.std.proofs.Common.{◌≡◌, ◌∙◌, ap, sym, subst, length, arith, length-append, [], ◌∷◌}
+use Rattle.std.proofs.Common.{◌∙◌, ap, length, arith, length-append, [], ◌∷◌}
 use Rattle.lease_desk.proofs.OpeningLemmas.{spaces_more, unallocated_more, opened_more, all_opened}
 use Rattle.lease_desk.proofs.openings.open_spaces.Goals as goal
 

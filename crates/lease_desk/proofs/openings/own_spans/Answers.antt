@@ -1,10 +1,10 @@
-use Rattle.std.proofs.Common.{◌≡◌, ◌<◌, ◌∙◌, sym, ap, subst, refl, Some, length, arith}
+use Rattle.std.proofs.Common.{◌≡◌, ◌∙◌, sym, ap, subst, Some, arith}
 use Rattle.std.specs.Prelude.{slice_get}
 use Rattle.deed_core.proofs.LawProofs.{slice_get_here}
 use Rattle.arena_tree.specs.declared.setups.OwnedSpan.{OwnedSpan}
 use Rattle.tag_arena.specs.ArenaState.{ArenaState, OnQuantum}
 use Rattle.std.specs.Prelude.{List}
-use Rattle.lease_desk.proofs.OpeningLemmas.{none_owned, has_room, on_grid, nothing_in_the_way, grown, owned_passed, owned_all}
+use Rattle.lease_desk.proofs.OpeningLemmas.{has_room, on_grid, nothing_in_the_way, grown, owned_passed}
 use Rattle.lease_desk.proofs.openings.own_spans.Goals as goal
 use Rattle.lease_desk.proofs.openings.own_spans.Goals.{then-span-id+in_ok-own_span, else-span-id}
 
@@ -48,8 +48,8 @@ loop-span-preserved c =
           c.loop-span.invariant.owning c.loop-span.invariant.owned w.own_span.new.arena c.loop-span.place w.root_number.result c.loop-span.invariant.place w.root_number.ensures w.in_ok-own_span.ensures.ok in
           rw (w.arena-is, w.place-is) (record { owning = more.0; owned = more.1; place = more.2 })
       | else-span-id w ↦ rw (w.arena-is, w.place-is) (record {
-          owning = c.loop-span.invariant.owning;
-          owned = owned_passed c.args.id c.args.setup.now.spans c.loop-span.span-index c.span-item.result c.loop-span.arena.owned at w.if-span-id.false c.loop-span.invariant.owned;
-          place = c.loop-span.invariant.place;
-        })
+        owning = c.loop-span.invariant.owning;
+        owned = owned_passed c.args.id c.args.setup.now.spans c.loop-span.span-index c.span-item.result c.loop-span.arena.owned at w.if-span-id.false c.loop-span.invariant.owned;
+        place = c.loop-span.invariant.place;
+      })
     ]

@@ -1,4 +1,4 @@
-use Rattle.std.proofs.Common.{◌≡◌, ◌∙◌, ap}
+use Rattle.std.proofs.Common.{◌∙◌, ap}
 use Rattle.deed_core.specs.Holding.{Holding}
 use Rattle.lease_desk.proofs.OpeningLemmas.{opened_steady}
 use Rattle.lease_desk.proofs.OrderLemmas.{orderly}
