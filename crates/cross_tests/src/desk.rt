@@ -1,6 +1,6 @@
 //! Lines in, replies out.
-use lease_desk::{Desk, SetupFault};
-use lease_proto::{MOST_ARENAS, MOST_SPANS};
+use arena_tree::{MOST_ARENAS, MOST_SPANS, NewRoot, NewSpan, Setting, Setup, SetupFault};
+use lease_desk::Desk;
 use lease_terms::Name;
 use std::alloc::AllocGlobal;
 use std::process::Abort;
@@ -15,19 +15,56 @@ fn name(rt: &impl Abort, text: &str) -> Name {
 
 fn root(
     rt: &impl Abort,
-    desk: &mut Desk,
     text: &str,
     base: u64,
     len: u64,
     quantum: u64,
     policy: Policy,
-) {
-    let added = desk.add_root(name(rt, text), base, len, quantum, policy, 0);
-    assert_eq!(rt; added, Ok(()));
+    qcache_max: u64,
+) -> Setting {
+    Setting::Root(NewRoot {
+        name: name(rt, text),
+        base,
+        len,
+        quantum,
+        policy,
+        qcache_max,
+    })
 }
 
-fn span(rt: &impl Abort, desk: &mut Desk, text: &str, base: u64, len: u64) {
-    assert_eq!(rt; desk.add_span(&name(rt, text), base, len), Ok(()));
+fn span(rt: &impl Abort, text: &str, base: u64, len: u64) -> Setting {
+    Setting::Span(NewSpan {
+        name: name(rt, text),
+        base,
+        len,
+    })
+}
+
+/// Adds what is asked for, which nothing speaks against.
+fn add(rt: &impl Abort, setup: &mut Setup, setting: Setting) {
+    assert_eq!(rt; setup.add(&setting), Ok(()));
+}
+
+/// The desk of a setup.
+fn opened(rt: &(impl Abort + AllocGlobal), setup: &Setup) -> Desk {
+    match Desk::open(rt.alloc(), setup) {
+        Ok(desk) => desk,
+        Err(_) => panic!(rt; "no memory"),
+    }
+}
+
+/// A desk with one root without caches.
+fn desk_of(
+    rt: &(impl Abort + AllocGlobal),
+    text: &str,
+    base: u64,
+    len: u64,
+    quantum: u64,
+    policy: Policy,
+) -> Desk {
+    let mut setup = Setup::new(rt.alloc());
+    add(rt, &mut setup, root(rt, text, base, len, quantum, policy, 0));
+    opened(rt, &setup)
 }
 
 /// Each line gets its reply.
@@ -44,8 +81,7 @@ fn ask(rt: &(impl Abort + AllocGlobal), desk: &mut Desk, lines: &[(&str, &str)])
 
 #[test]
 fn leases_and_releases(rt: HostRuntime) {
-    let mut desk = Desk::new(rt.alloc());
-    root(&rt, &mut desk, "m", 0, 64, 1, Policy::Best);
+    let mut desk = desk_of(&rt, "m", 0, 64, 1, Policy::Best);
     ask(
         &rt,
         &mut desk,
@@ -60,8 +96,7 @@ fn leases_and_releases(rt: HostRuntime) {
 
 #[test]
 fn cycles_before_reuse(rt: HostRuntime) {
-    let mut desk = Desk::new(rt.alloc());
-    root(&rt, &mut desk, "pid", 1, 8, 1, Policy::Next);
+    let mut desk = desk_of(&rt, "pid", 1, 8, 1, Policy::Next);
     ask(
         &rt,
         &mut desk,
@@ -85,8 +120,7 @@ fn cycles_before_reuse(rt: HostRuntime) {
 
 #[test]
 fn ends_on_a_boundary(rt: HostRuntime) {
-    let mut desk = Desk::new(rt.alloc());
-    root(&rt, &mut desk, "m", 0, 64, 1, Policy::Best);
+    let mut desk = desk_of(&rt, "m", 0, 64, 1, Policy::Best);
     ask(
         &rt,
         &mut desk,
@@ -107,8 +141,7 @@ fn ends_on_a_boundary(rt: HostRuntime) {
 
 #[test]
 fn greatest_end_is_exclusive(rt: HostRuntime) {
-    let mut desk = Desk::new(rt.alloc());
-    root(&rt, &mut desk, "m", 0, 64, 1, Policy::Best);
+    let mut desk = desk_of(&rt, "m", 0, 64, 1, Policy::Best);
     ask(
         &rt,
         &mut desk,
@@ -123,8 +156,7 @@ fn greatest_end_is_exclusive(rt: HostRuntime) {
 
 #[test]
 fn longer_list_before_exact_fit(rt: HostRuntime) {
-    let mut desk = Desk::new(rt.alloc());
-    root(&rt, &mut desk, "x", 0, 15, 1, Policy::Instant);
+    let mut desk = desk_of(&rt, "x", 0, 15, 1, Policy::Instant);
     ask(
         &rt,
         &mut desk,
@@ -145,8 +177,7 @@ fn longer_list_before_exact_fit(rt: HostRuntime) {
 
 #[test]
 fn power_of_two_uses_its_list(rt: HostRuntime) {
-    let mut desk = Desk::new(rt.alloc());
-    root(&rt, &mut desk, "x", 0, 15, 1, Policy::Instant);
+    let mut desk = desk_of(&rt, "x", 0, 15, 1, Policy::Instant);
     ask(
         &rt,
         &mut desk,
@@ -166,8 +197,7 @@ fn power_of_two_uses_its_list(rt: HostRuntime) {
 
 #[test]
 fn merges_neighbors(rt: HostRuntime) {
-    let mut desk = Desk::new(rt.alloc());
-    root(&rt, &mut desk, "t", 0, 12, 1, Policy::Instant);
+    let mut desk = desk_of(&rt, "t", 0, 12, 1, Policy::Instant);
     ask(
         &rt,
         &mut desk,
@@ -187,9 +217,10 @@ fn merges_neighbors(rt: HostRuntime) {
 
 #[test]
 fn touching_spans_stay_apart(rt: HostRuntime) {
-    let mut desk = Desk::new(rt.alloc());
-    root(&rt, &mut desk, "r", 0, 8, 1, Policy::Best);
-    span(&rt, &mut desk, "r", 8, 8);
+    let mut setup = Setup::new(rt.alloc());
+    add(&rt, &mut setup, root(&rt, "r", 0, 8, 1, Policy::Best, 0));
+    add(&rt, &mut setup, span(&rt, "r", 8, 8));
+    let mut desk = opened(&rt, &setup);
     ask(
         &rt,
         &mut desk,
@@ -207,8 +238,7 @@ fn touching_spans_stay_apart(rt: HostRuntime) {
 
 #[test]
 fn repeat_gets_the_first_reply(rt: HostRuntime) {
-    let mut desk = Desk::new(rt.alloc());
-    root(&rt, &mut desk, "m", 0, 64, 1, Policy::Best);
+    let mut desk = desk_of(&rt, "m", 0, 64, 1, Policy::Best);
     ask(
         &rt,
         &mut desk,
@@ -227,8 +257,7 @@ fn repeat_gets_the_first_reply(rt: HostRuntime) {
 
 #[test]
 fn new_incarnation_ends_leases(rt: HostRuntime) {
-    let mut desk = Desk::new(rt.alloc());
-    root(&rt, &mut desk, "p", 1, 4, 1, Policy::Best);
+    let mut desk = desk_of(&rt, "p", 1, 4, 1, Policy::Best);
     ask(
         &rt,
         &mut desk,
@@ -246,8 +275,7 @@ fn new_incarnation_ends_leases(rt: HostRuntime) {
 
 #[test]
 fn release_of_anothers_lease(rt: HostRuntime) {
-    let mut desk = Desk::new(rt.alloc());
-    root(&rt, &mut desk, "p", 1, 4, 1, Policy::Best);
+    let mut desk = desk_of(&rt, "p", 1, 4, 1, Policy::Best);
     ask(
         &rt,
         &mut desk,
@@ -268,8 +296,7 @@ fn release_of_anothers_lease(rt: HostRuntime) {
 
 #[test]
 fn rounds_and_refuses(rt: HostRuntime) {
-    let mut desk = Desk::new(rt.alloc());
-    root(&rt, &mut desk, "q", 0, 64, 4, Policy::Best);
+    let mut desk = desk_of(&rt, "q", 0, 64, 4, Policy::Best);
     ask(
         &rt,
         &mut desk,
@@ -286,8 +313,7 @@ fn rounds_and_refuses(rt: HostRuntime) {
 
 #[test]
 fn refuses_lines(rt: HostRuntime) {
-    let mut desk = Desk::new(rt.alloc());
-    root(&rt, &mut desk, "m", 0, 64, 1, Policy::Best);
+    let mut desk = desk_of(&rt, "m", 0, 64, 1, Policy::Best);
     ask(
         &rt,
         &mut desk,
@@ -317,8 +343,7 @@ fn ask_one(rt: &(impl Abort + AllocGlobal), desk: &mut Desk, n: u32, base: u32) 
 /// A client has at most 1,024 leases.
 #[test]
 fn too_many_leases(rt: HostRuntime) {
-    let mut desk = Desk::new(rt.alloc());
-    root(&rt, &mut desk, "m", 0, 2048, 1, Policy::Best);
+    let mut desk = desk_of(&rt, "m", 0, 2048, 1, Policy::Best);
     ask(&rt, &mut desk, &[("hello 1 1", "welcome 1 1\n")]);
     for base in 0..1024u32 {
         ask_one(&rt, &mut desk, base + 1, base);
@@ -338,49 +363,34 @@ fn too_many_leases(rt: HostRuntime) {
     desk.close();
 }
 
-/// Base, length, quantum and the largest cached size of a root that is refused, and why.
-fn refuse_root(
-    rt: &impl Abort,
-    desk: &mut Desk,
-    text: &str,
-    numbers: (u64, u64, u64, u64),
-    fault: SetupFault,
-) {
-    let (base, len, quantum, cached) = numbers;
-    let added = desk.add_root(name(rt, text), base, len, quantum, Policy::Best, cached);
-    assert_eq!(rt; added, Err(fault));
-}
-
-fn refuse_span(
-    rt: &impl Abort,
-    desk: &mut Desk,
-    text: &str,
-    base: u64,
-    len: u64,
-    fault: SetupFault,
-) {
-    assert_eq!(rt; desk.add_span(&name(rt, text), base, len), Err(fault));
-}
-
-/// Each refusal of a setup, in its order.
+/// Each refusal of a setup, in its order; the desk has what was taken.
 #[test]
 fn refuses_setups(rt: HostRuntime) {
-    let mut desk = Desk::new(rt.alloc());
-    root(&rt, &mut desk, "a", 0, 8, 4, Policy::Best);
+    let mut setup = Setup::new(rt.alloc());
+    add(&rt, &mut setup, root(&rt, "a", 0, 8, 4, Policy::Best, 0));
     for (text, numbers, fault) in [
         ("a", (0, 0, 3, 1), SetupFault::NameTaken),
         ("z", (0, 0, 3, 1), SetupFault::BadQuantum),
-        ("z", (0, 0, 4, 1), SetupFault::NotYet),
+        ("z", (0, 0, 4, 1), SetupFault::BadCache),
         ("z", (0, 0, 4, 0), SetupFault::BadRange),
         ("z", (0, 6, 4, 0), SetupFault::BadRange),
         ("z", (4611686018427387888, 17, 1, 0), SetupFault::BadRange),
     ] {
-        refuse_root(&rt, &mut desk, text, numbers, fault);
+        let (base, len, quantum, cached) = numbers;
+        let asked = root(&rt, text, base, len, quantum, Policy::Best, cached);
+        assert_eq!(rt; setup.add(&asked), Err(fault));
     }
-    refuse_span(&rt, &mut desk, "z", 0, 0, SetupFault::NoArena);
-    refuse_span(&rt, &mut desk, "a", 8, 0, SetupFault::BadRange);
-    refuse_span(&rt, &mut desk, "a", 4, 8, SetupFault::BadRange);
-    span(&rt, &mut desk, "a", 8, 8);
+    for (text, base, len, fault) in [
+        ("z", 0, 0, SetupFault::NoArena),
+        ("a", 8, 0, SetupFault::BadRange),
+        ("a", 4, 8, SetupFault::BadRange),
+    ] {
+        assert_eq!(rt; setup.add(&span(&rt, text, base, len)), Err(fault));
+    }
+    add(&rt, &mut setup, span(&rt, "a", 8, 8));
+    let mut desk = opened(&rt, &setup);
+    let audit = "arena a free 16 slab 0 magazine 0 exported 0 leased 0 hand 0\n";
+    ask(&rt, &mut desk, &[("audit", audit)]);
     desk.close();
 }
 
@@ -388,25 +398,25 @@ fn refuses_setups(rt: HostRuntime) {
 #[test]
 fn too_many_arenas(rt: HostRuntime) {
     assert_eq!(rt; (MOST_ARENAS, MOST_SPANS), (32, 65_536));
-    let mut desk = Desk::new(rt.alloc());
+    let mut setup = Setup::new(rt.alloc());
     for n in 0..32 {
         match format!(in rt.alloc(); "a{n}") {
-            Ok(text) => root(&rt, &mut desk, text.as_str(), 0, 8, 1, Policy::Next),
+            Ok(text) => {
+                let asked = root(&rt, text.as_str(), 0, 8, 1, Policy::Next, 0);
+                add(&rt, &mut setup, asked)
+            }
             Err(_) => panic!(rt; "no memory"),
         }
     }
-    let more = name(&rt, "b");
-    assert_eq!(rt;
-        desk.add_root(more, 0, 8, 3, Policy::Next, 0),
-        Err(SetupFault::TooMany)
-    );
-    desk.close();
+    let more = root(&rt, "b", 0, 8, 3, Policy::Next, 0);
+    assert_eq!(rt; setup.add(&more), Err(SetupFault::TooMany));
+    opened(&rt, &setup).close();
 }
 
 /// Lines of an operator are one word.
 #[test]
 fn operators_lines(rt: HostRuntime) {
-    let mut desk = Desk::new(rt.alloc());
+    let mut desk = opened(&rt, &Setup::new(rt.alloc()));
     ask(
         &rt,
         &mut desk,
@@ -427,7 +437,8 @@ fn is_refusal(text: &[u8]) -> bool {
     text.starts_with(b"again ") || text == b"error memory\n".as_slice()
 }
 
-/// The line gets its reply behind what is there: at once, or at the second time where memory was refused once.
+/// The line gets its reply behind what is there: at once, or at the second time where memory was
+/// refused once.
 fn ask_twice(rt: &(impl Abort + AllocGlobal), desk: &mut Desk, line: &str, reply: &str) {
     let mut out = Vec::new(rt.alloc());
     for _ in 0..2 {
@@ -441,18 +452,28 @@ fn ask_twice(rt: &(impl Abort + AllocGlobal), desk: &mut Desk, line: &str, reply
     panic!(rt; "refused twice");
 }
 
-/// Where one growth is refused, the same call made again is served as if it had not been. Run with each growth
-/// refused in turn.
+/// Adds what is asked for: at once, or at the second time where memory was refused once.
+fn add_twice(rt: &impl Abort, setup: &mut Setup, setting: Setting) {
+    match setup.add(&setting) {
+        Ok(()) => {}
+        Err(fault) => {
+            assert_eq!(rt; fault, SetupFault::NoMemory);
+            add(rt, setup, setting);
+        }
+    }
+}
+
+/// Where one growth is refused, the same call made again is served as if it had not been. Run with
+/// each growth refused in turn.
 #[test]
 fn a_refused_growth_is_made_up_for(rt: HostRuntime) {
-    let mut desk = Desk::new(rt.alloc());
-    let a = name(&rt, "a");
-    if desk.add_root(a, 0, 64, 4, Policy::Best, 0).is_err() {
-        root(&rt, &mut desk, "a", 0, 64, 4, Policy::Best);
-    }
-    if desk.add_span(&a, 128, 64).is_err() {
-        span(&rt, &mut desk, "a", 128, 64);
-    }
+    let mut setup = Setup::new(rt.alloc());
+    add_twice(&rt, &mut setup, root(&rt, "a", 0, 64, 4, Policy::Best, 0));
+    add_twice(&rt, &mut setup, span(&rt, "a", 128, 64));
+    let mut desk = match Desk::open(rt.alloc(), &setup) {
+        Ok(desk) => desk,
+        Err(_) => opened(&rt, &setup),
+    };
     let lines = [
         ("hello 1 1", "welcome 1 1\n"),
         ("lease 1 1 1 a 16 align 16", "granted 1 1 1 a 0 16\n"),
@@ -478,8 +499,7 @@ fn a_refused_growth_is_made_up_for(rt: HostRuntime) {
 /// Replies stand behind what the buffer holds, and a client's lines and an operator's alike.
 #[test]
 fn replies_are_appended(rt: HostRuntime) {
-    let mut desk = Desk::new(rt.alloc());
-    root(&rt, &mut desk, "m", 0, 64, 1, Policy::Best);
+    let mut desk = desk_of(&rt, "m", 0, 64, 1, Policy::Best);
     let mut out = Vec::new(rt.alloc());
     for line in [
         "hello 3 1",
@@ -492,7 +512,8 @@ fn replies_are_appended(rt: HostRuntime) {
         assert!(rt; desk.answer(line.as_bytes(), &mut out).is_ok());
     }
     let replies =
-        "welcome 3 1\nerror word\ngranted 3 1 1 m 0 8\nclient 3 1 1 1\narena m free 56 slab 0 magazine 0 exported 0 leased 8 hand 0\nerror badline\n";
+        "welcome 3 1\nerror word\ngranted 3 1 1 m 0 8\nclient 3 1 1 1\n\
+         arena m free 56 slab 0 magazine 0 exported 0 leased 8 hand 0\nerror badline\n";
     assert_eq!(rt; out.as_slice(), replies.as_bytes());
     desk.close();
 }

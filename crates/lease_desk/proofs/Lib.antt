@@ -6,7 +6,8 @@ pub mod SteadyLemmas
 pub mod AnswerLemmas
 pub mod CarveLemmas
 pub mod OrderLemmas
-pub mod SetupLemmas
+pub mod ClosingLemmas
+pub mod OpeningLemmas
 pub mod StepLemmas
 pub mod RunLemmas
 pub mod TextLemmas

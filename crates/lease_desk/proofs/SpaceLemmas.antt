@@ -20,7 +20,7 @@ use Rattle.lease_desk.proofs.Exporting.{within_own, not_stray, gives_one, gives_
 
 -- the arena of a space with another state
 abbrev pub with_arena : Space → ArenaState → Space
-with_arena s a = record { name = s.name; arena = a; spans = s.spans }
+with_arena s a = record { name = s.name; arena = a }
 
 -- a carve or a free leaves these
 pub record KeepsSpans (old new : ArenaState) : Type 0 where
@@ -49,8 +49,6 @@ space_after k s new is keeps sound = record {
   id = keeps.id ∙ is.id;
   own = keeps.imported ∙ is.own;
   sound = sound;
-  count = is.count ∙ ap length (sym keeps.owned);
-  few = is.few;
 }
 
 freed_keeps : (old new : ArenaState) (piece : Holding) → Frees old new piece None → KeepsSpans old new

@@ -1,5 +1,6 @@
 -- What is seen of a desk: where the units of each arena are, and the book of its leases.
-use Rattle.std.specs.Prelude.{◌≡◌, ℕ, ◌≤◌, ◌==◌, ◌&&◌, nat_lt, if◌then◌else◌, List, ◌++◌, map, filter, length, sum_by, slice_get, Some}
+use Rattle.std.specs.Prelude.{◌≡◌, ℕ, ◌≤◌, ◌==◌, ◌&&◌, nat_lt, if◌then◌else◌, List, ◌++◌, map}
+use Rattle.std.specs.Prelude.{filter, length, sum_by, slice_get, Some}
 use Rattle.std.specs.List.{flat_map}
 use Rattle.deed_core.specs.Holding.{Holding}
 use Rattle.deed_core.specs.Tag.{Tag}

@@ -3,10 +3,9 @@ pub mod Moves
 pub mod Sweeps
 pub mod Operators
 pub mod Machine
-pub mod Setup
+pub mod Opened
 pub mod Grants
 pub mod Spaces
 pub mod Replies
 pub mod Carved
-pub mod Roots
 pub mod Laws

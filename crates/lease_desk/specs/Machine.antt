@@ -1,5 +1,6 @@
 -- The lease machine: what a line may be answered, and what may change with it.
-use Rattle.std.specs.Prelude.{◌≡◌, ◌⊎◌, ℕ, ◌<◌, ◌≤◌, List, [], ◌∷◌, length, slice_get, position, Option, Some, None, All, Result, Ok, Err}
+use Rattle.std.specs.Prelude.{◌≡◌, ◌⊎◌, ℕ, ◌<◌, ◌≤◌, List, [], ◌∷◌, length, slice_get, position}
+use Rattle.std.specs.Prelude.{Option, Some, None, All, Result, Ok, Err}
 use Rattle.std.specs.List.{find}
 use Rattle.std.specs.Str.{bytes_eq}
 use Rattle.deed_core.specs.Extent.{Covers}
@@ -11,7 +12,8 @@ use Rattle.deed_core.specs.declared.requests.Request.{Request}
 use Rattle.tag_arena.specs.Choice.{IsChoice}
 use Rattle.tag_arena.specs.Place.{Serves}
 use Rattle.lease_terms.specs.declared.refusals.Refusal.{Refusal}
-use Rattle.lease_terms.specs.declared.refusals.Refusal.TheVariants.{NoFit, BadRequest, NoArena, NotYours, Leases}
+use Rattle.lease_terms.specs.declared.refusals.Refusal.TheVariants.{NoFit, BadRequest, NoArena}
+use Rattle.lease_terms.specs.declared.refusals.Refusal.TheVariants.{NotYours, Leases}
 use Rattle.lease_terms.specs.Requests.{RequestId}
 use Rattle.lease_book.specs.Receipts.{Kept}
 use Rattle.lease_book.specs.Entry.{Hello, Settled, Grant, Return, Refuse}

@@ -1,10 +1,12 @@
 -- The arenas that a desk stores.
 use Rattle.std.specs.Prelude.{◌≡◌, ℕ, ◌≤◌, List, [], length, map, slice_get, Some}
+use Rattle.deed_core.specs.Holding.{Holding}
 use Rattle.deed_core.specs.Tag.{Tag}
-use Rattle.tag_arena.specs.ArenaState.{spans_of, ranges_of, IsSound}
+use Rattle.tag_arena.specs.declared.policies.Policy.{Policy}
+use Rattle.tag_arena.specs.ArenaState.{ArenaState, empty_arena, spans_of, ranges_of, IsSound}
 use Rattle.tag_arena.specs.Calls.{IsTagged}
 use Rattle.lease_book.specs.BookState.{BookState, leased}
-use Rattle.lease_proto.specs.declared.limits.TheConstants.{MOST_ARENAS, MOST_SPANS}
+use Rattle.arena_tree.specs.declared.limits.TheConstants.{MOST_ARENAS}
 use Rattle.lease_desk.specs.declared.spaces.Space.{Space}
 use Rattle.lease_desk.specs.DeskState.{NamedArenaState, DeskState, Exports}
 use Rattle.lease_desk.specs.Grants.{GrantsAreOwn}
@@ -19,6 +21,13 @@ state_of s = record {
   allocated = ranges_of s.arena.allocated;
 }
 
+-- an arena of this number with these spans, which it owns and which are free
+abbrev pub owning : ℕ → ℕ → Policy → List Holding → ArenaState
+owning id quantum policy spans = record (empty_arena id quantum policy) {
+  owned = spans;
+  free = spans;
+}
+
 abbrev pub states_of : List Space → List NamedArenaState
 states_of spaces = map state_of spaces
 
@@ -30,8 +39,6 @@ pub record IsSpace (k : ℕ) (s : Space) : Type 0 where
   pub id : s.arena.id ≡ k
   pub own : s.arena.imported ≡ []
   pub sound : IsSound s.arena
-  pub count : s.spans ≡ length s.arena.owned
-  pub few : s.spans ≤ MOST_SPANS
 
 -- so are all
 abbrev pub AreSpaces : List Space → Type 0

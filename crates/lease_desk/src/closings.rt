@@ -16,15 +16,11 @@ pub(crate) fn close_spaces(mut spaces: Vec<Space>)
 }
 
 /// Takes out each span of an arena and closes its deed.
-fn close_space(space: Space)
+pub(crate) fn close_space(space: Space)
     requires own { space.arena.imported ≡ [] }
     requires unallocated { IsUnallocated space }
 {
-    let Space {
-        name: _,
-        mut arena,
-        spans: _,
-    } = space;
+    let Space { name: _, mut arena } = space;
     while let Some(deed) = arena.remove_owned() {
         let _ = deed.close();
     }

@@ -1,41 +1,33 @@
 //! The desk.
-ghost use Rattle.std.specs.Prelude.{◌≡◌, ℕ, List, [], ◌++◌, ◌+◌, ◌≤◌, OnOk, OnErr, IfErr, vec_len};
+ghost use Rattle.std.specs.Prelude.{◌≡◌, ℕ, List, ◌++◌, ◌+◌, ◌≤◌, OnOk, OnErr, IfOk, vec_len};
 ghost use Rattle.std.specs.Vec.{vec_capacity};
 ghost use Rattle.std.specs.Io.{StartsWith};
-ghost use Rattle.lease_book.specs.BookState.{IsHistory};
 ghost use Rattle.lease_proto.specs.declared.limits.TheConstants.{LINE_ROOM};
 ghost use Rattle.lease_desk.specs.DeskState.{IsOrderly};
 ghost use Rattle.lease_desk.specs.Machine.{LeaseStep, LineStep, ServedStep};
 ghost use Rattle.lease_desk.specs.Operators.{asked_text, TellsOrMemory};
-ghost use Rattle.lease_desk.specs.Setup.{root_of, arena_asked, RefusesArena, AddsArena, RefusesMoreSpan, AddsSpan};
+ghost use Rattle.lease_desk.specs.Opened.{IsDeskOf};
 
 use crate::closings::close_spaces;
-use crate::faults::SetupFault;
 use crate::hellos::greet;
 use crate::leasing::lease;
+use crate::openings::{MARK, open_spaces};
 use crate::operators::{audit, clients};
 use crate::releasing::release;
 use crate::returns::end_leases;
-use crate::setups::{Root, add_root, add_span};
 use crate::spaces::Space;
+use arena_tree::Setup;
 use deed_core::{PlainDeed, Range};
 use lease_book::Book;
-use lease_proto::{
-    ErrorWord, LINE_ROOM, Line, MOST_ARENAS, MOST_SPANS, Op, OperatorLine, Reply, ServedLine,
-};
-use lease_terms::Name;
+use lease_proto::{ErrorWord, LINE_ROOM, Line, Op, OperatorLine, Reply, ServedLine};
 use std::alloc::{AllocError, Global};
 use std::marker::Model;
-use tag_arena::Policy;
 
 /// Arenas by name, and the book of their leases.
 pub struct Desk {
     spaces: Vec<Space>,
     book: Book<PlainDeed>,
 }
-
-/// The root of the book's mark: the number after those of all roots of spans.
-const MARK: u32 = MOST_ARENAS as u32 * MOST_SPANS;
 
 impl Model for Desk {
     ghost use Rattle.lease_desk.specs.DeskState.{DeskState};
@@ -50,61 +42,18 @@ impl Model for Desk {
 }
 
 impl Desk {
-    /// A desk with no arena.
-    pub fn new(alloc: Global) -> Desk
-        ensures arenas { result.arenas ≡ [] }
-        ensures mark { result.book.mark.root ≡ root_of MOST_ARENAS 0 }
-        ensures book { IsHistory [] result.book }
-        ensures orderly { IsOrderly result }
+    /// A desk with the arenas and the spans of a setup, all free, and no client. Of an arena it
+    /// takes the name, the quantum, the policy and the spans that it owns: it doesn't import, and
+    /// has no caches yet. Memory alone can be refused, and then nothing was opened.
+    pub fn open(alloc: Global, setup: &Setup) -> Result<Desk, AllocError>
+        ensures { IfOk result (IsDeskOf setup.now) }
     {
+        let spaces = open_spaces(alloc, setup)?;
         let mark = PlainDeed::new(MARK, Range::new(0, 1).unwrap());
-        Desk {
-            spaces: Vec::new(alloc),
+        Ok(Desk {
+            spaces,
             book: Book::new(alloc, mark),
-        }
-    }
-
-    /// Adds an arena with one span. Units and numbers of units.
-    pub fn add_root(
-        &mut self,
-        name: Name,
-        base: u64,
-        len: u64,
-        quantum: u64,
-        policy: Policy,
-        qcache_max: u64,
-    ) -> Result<(), SetupFault>
-        ensures added { OnOk result (AddsArena
-            (arena_asked name base len quantum policy qcache_max) self.old.arenas self.new.arenas) }
-        ensures book { self.new.book ≡ self.old.book }
-        ensures orderly { IsOrderly self.new }
-        ensures refused { IfErr result (RefusesArena self.old.arenas
-            (arena_asked name base len quantum policy qcache_max)) }
-        ensures unchanged { OnErr result (self.new ≡ self.old) }
-    {
-        let alloc = *self.spaces.allocator();
-        let root = Root {
-            name,
-            base,
-            len,
-            quantum,
-            policy,
-            qcache_max,
-        };
-        add_root(&mut self.spaces, &root, alloc)
-    }
-
-    /// Adds a span to an arena.
-    pub fn add_span(&mut self, name: &Name, base: u64, len: u64) -> Result<(), SetupFault>
-        ensures added { OnOk result (AddsSpan name.now
-            (record { base = base; len = len }) self.old.arenas self.new.arenas) }
-        ensures book { self.new.book ≡ self.old.book }
-        ensures orderly { IsOrderly self.new }
-        ensures refused { IfErr result (RefusesMoreSpan self.old.arenas name.now
-            (record { base = base; len = len })) }
-        ensures unchanged { OnErr result (self.new ≡ self.old) }
-    {
-        add_span(&mut self.spaces, name, base, len)
+        })
     }
 
     /// Answers one line, which is given without its line feed: appends its reply lines. Room for a

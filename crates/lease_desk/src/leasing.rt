@@ -2,9 +2,10 @@
 ghost use Rattle.std.specs.Prelude.{◌≡◌, ◌<◌, ◌≤◌, List, ◌∷◌, length, IfOk, IfErr, OnErr, Some};
 ghost use Rattle.lease_book.specs.Answers.{IsNew};
 ghost use Rattle.lease_book.specs.BookState.{account_in, leased};
-ghost use Rattle.lease_proto.specs.declared.limits.TheConstants.{MOST_ARENAS};
+ghost use Rattle.arena_tree.specs.declared.limits.TheConstants.{MOST_ARENAS};
 ghost use Rattle.lease_desk.specs.DeskState.{NamedArenaState, Exports};
-ghost use Rattle.lease_desk.specs.Machine.{demand_of as spec_demand_of, index_in, LeaseLineStep, NewLease};
+ghost use Rattle.lease_desk.specs.Machine.{demand_of as spec_demand_of, index_in};
+ghost use Rattle.lease_desk.specs.Machine.{LeaseLineStep, NewLease};
 ghost use Rattle.lease_desk.specs.Spaces.{states_of, desk_of, AreSpaces, IsSteady};
 ghost use Rattle.lease_desk.specs.Grants.{GrantsAreOwn};
 ghost use Rattle.lease_desk.specs.Carved.{IsCarved, IsUncarved};
@@ -68,7 +69,7 @@ fn carve(
         index x request.now t) }
     ensures refused { IfErr result (λ fault. (x : NamedArenaState)
         × IsUncarved (states_of spaces.old.items) index x request.now fault) }
-    ensures err { OnErr result (spaces.new.items ≡ spaces.old.items) }
+    ensures unchanged { OnErr result (spaces.new.items ≡ spaces.old.items) }
 {
     let space = &mut spaces[index];
     space.arena.xalloc(request)

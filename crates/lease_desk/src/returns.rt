@@ -2,7 +2,8 @@
 ghost use Rattle.std.specs.Prelude.{◌≡◌, ◌≤◌, [], ◌∷◌, All};
 ghost use Rattle.lease_book.specs.BookState.{leased, account_in};
 ghost use Rattle.lease_desk.specs.Moves.{GivesBack};
-ghost use Rattle.lease_desk.specs.Spaces.{states_of, desk_of, AreSpaces, IsSteady, IsOut, AreUnallocated};
+ghost use Rattle.lease_desk.specs.Spaces.{states_of, desk_of, AreSpaces, IsSteady};
+ghost use Rattle.lease_desk.specs.Spaces.{IsOut, AreUnallocated};
 ghost use Rattle.lease_desk.specs.Sweeps.{Sweeps};
 
 use crate::spaces::Space;

@@ -5,11 +5,10 @@ use deed_core::PlainDeed;
 use lease_terms::Name;
 use tag_arena::Arena;
 
-/// An arena, its name, and how many spans it has.
+/// An arena and its name.
 pub(crate) struct Space {
     pub name: Name,
     pub arena: Arena<PlainDeed>,
-    pub spans: u32,
 }
 
 ghost use Rattle.std.specs.Str.{bytes_eq};

@@ -17,13 +17,9 @@ use Rattle.lease_server.proofs.LawProofs.{hand_tells}
 use Rattle.vmemd.specs.declared.faults.ConfigFault.{ConfigFault}
 use Rattle.vmemd.specs.declared.faults.ScriptFault.{ScriptFault}
 use Rattle.vmemd.specs.declared.faults.ScriptFault.TheVariants.{Setup, Read, Write, Memory}
-use Rattle.vmemd.specs.Scripts.{SetsUp, RunsWhole, RunsSoFar, RunFails, WritesFirst, Blames, serving_fault}
+use Rattle.vmemd.specs.Scripts.{SetsUp, OpensDesk, RunsWhole, RunsSoFar, RunsFirst, RunFails, WritesFirst, SetupRefused, serving_fault}
 use Rattle.vmemd.specs.Setups.{IsOther, TakesSetup, SetupFails}
 use Rattle.vmemd.proofs.SetupLemmas.{more_read}
-
--- what is no setup line isn't one
-not_both : (bytes : List ℕ) (P : Type 0) → begins_setup bytes ≡ false → begins_setup bytes ≡ true → P
-not_both bytes P other is = let bad : false ≡ true = sym other ∙ is in absurd (cc)
 
 -- what follows a setup is no setup line
 stays_other : (input : IntakeState) (rest more : List ℕ) → (input.ended ≡ false → IsOther rest) → (input.ended ≡ true → begins_setup rest ≡ false)
@@ -63,92 +59,81 @@ module _ {S : Type 0} (may_answer : S → List ℕ → List ℕ → S → Type 0
       ∙ append_assoc (frames_in [] (front ++ input)) (frames_in (rest_in [] (front ++ input)) ys) last in
       subst (λ frames. WritesFirst may_answer old frames a b) (sym (ap frames_of bytes ∙ more)) (first_of_more old new (frames_in [] (front ++ input)) _ a b before)
 
-module _ {S : Type 0} (takes : S → SetupLine → S → Type 0) (refuses : S → SetupLine → ConfigFault → Type 0)
-    (may_answer : S → List ℕ → List ℕ → S → Type 0) where
-  -- nothing of the answers is written
-  none_written : (made : S) (lines : List ℕ) (a : Option (List ℕ)) → WritesFirst may_answer made (frames_of lines) a a
-  none_written made lines a = ([], frames_of lines, made, refl, ([], (refl, refl), Appends-nil a))
-
+module _ {S T : Type 0} (takes : S → SetupLine → S → Type 0) (refuses : S → SetupLine → ConfigFault → Type 0) (opens : S → T → Type 0)
+    (may_answer : T → List ℕ → List ℕ → T → Type 0) where
   -- a setup that ended early
   pub setup_fails : (first last : S) (unread left a : Option (List ℕ)) (fault : ScriptFault) → SetupFails takes refuses first unread left last fault
-      → RunFails takes refuses may_answer first unread left a a last fault
-  setup_fails first last unread left a (Setup line word) fails = (fails, Appends-nil a)
-  setup_fails first last unread left a Read (part, read, one) = (
-    read.0,
-    read.1,
-    (
-      part,
-      last,
-      read.2,
-      (λ _. (one, Appends-nil a)),
-      λ _. subst (λ frames. Writes may_answer last frames a a last) (sym (frames_in-none [] part one)) ([], (refl, refl), Appends-nil a),
-    ),
+      → RunFails takes refuses opens may_answer first unread left a a fault
+  setup_fails first last unread left a (Setup line word) fails = (
+    weaker unread (λ input. SetupRefused takes refuses first input line word last)
+        (λ input. (made : S) × SetupRefused takes refuses first input line word made) (λ input is. (last, is)) fails,
+    Appends-nil a,
   )
+  setup_fails first last unread left a Read (part, read, one) = (read.0, read.1, inl (part, last, read.2, one, Appends-nil a))
   setup_fails first last unread left a Write fails = absurd fails
   setup_fails first last None left a Memory fails = tt
-  setup_fails first last (Some xs) left a Memory (rest, made, setup) = (rest, made, setup, (λ _. Appends-nil a), none_written made rest a)
+  setup_fails first last (Some xs) left a Memory fails = inl (Appends-nil a)
 
-  -- all that follows a setup is served
-  pub run_whole : (first made last : S) (unread mid before after : Option (List ℕ)) (from : IntakeState) → TakesSetup takes first unread mid made from
-      → IfSome mid (λ more. Writes may_answer made (frames_to_end from.hand more) before after last)
-      → IfSome unread (λ input. RunsWhole takes may_answer first input before after last)
-  run_whole first made last unread mid before after from (rest, (input, read, setup), hand, other, end) writes =
-      over_all unread mid input (λ more. Writes may_answer made (frames_to_end from.hand more) before after last)
-      (λ all. RunsWhole takes may_answer first all before after last) read
-      (λ more here served. (
-        rest ++ more,
-        made,
-        (more_read takes first made input rest more setup).0,
-        stays_other from rest more other (λ is. (end is).0) (λ is. subst IsAtEnd here (end is).1),
-        subst (λ frames. Writes may_answer made frames before after last) (ap (λ h. frames_to_end h more) hand ∙ (hand_tells rest more).1) served,
-      ))
-      writes
+  -- no desk was opened
+  pub open_fails : (first : S) (unread a : Option (List ℕ)) → IfSome unread (λ input. RunsFirst takes opens may_answer first input a a)
+  open_fails first None a = tt
+  open_fails first (Some xs) a = inl (Appends-nil a)
 
-  read_fails : (first made last : S) (unread mid left before after : Option (List ℕ)) (from : IntakeState) (more : List ℕ) → TakesSetup takes first unread mid made from
-      → from.ended ≡ false → Consumes mid left more → Writes may_answer made (frames_on from.hand more) before after last
-      → (input : List ℕ) × Consumes unread left input × RunsSoFar takes may_answer first input before after last
-  read_fails first made last unread mid left before after from more (rest, (input, read, setup), hand, other, end) going consumes writes = (
-    input ++ more,
-    Consumes-trans unread mid left input more read consumes,
-    (
-      rest ++ more,
-      made,
-      (more_read takes first made input rest more setup).0,
-      (λ yes. not_both (rest ++ more) (IsOneLine (rest ++ more) × Appends before after []) (other going more) yes),
-      (λ _. subst (λ frames. Writes may_answer made frames before after last) (ap (λ h. frames_on h more) hand ∙ (hand_tells rest more).0) writes),
-    ),
-  )
+  -- the lines after a setup, and the desk that it opens
+  module _ (first made : S) (desk : T) (unread mid : Option (List ℕ)) (from : IntakeState) (is : TakesSetup takes first unread mid made from) (opened : opens made desk) where
+    desk_opens : (more : List ℕ) → (from.ended ≡ true → more ≡ []) → OpensDesk takes opens first (is.1.0 ++ more) (is.0 ++ more) desk
+    desk_opens more stops = record {
+      made = made;
+      setup = (more_read takes first made is.1.0 is.0 more is.1.2).0;
+      other = stays_other from is.0 more is.3 (λ e. (is.4 e).0) stops;
+      opened = opened;
+    }
 
-  -- what holds of the lines after a setup holds of a part of the whole input
-  run_ends : (first made : S) (unread mid before after : Option (List ℕ)) (from : IntakeState) (P : S → List Frame → Type 0)
-      (is : TakesSetup takes first unread mid made from) → IfSome mid (λ more. P made (frames_of (is.0 ++ more)))
-      → IfSome unread (λ input. (lines : List ℕ) × (made : S) × SetsUp takes first input lines made × (begins_setup lines ≡ true → Appends before after []) × P made (frames_of lines))
-  run_ends first made unread mid before after from P (rest, (input, read, setup), hand, other, end) holds =
-      over_all unread mid input (λ more. P made (frames_of (rest ++ more)))
-      (λ input. (lines : List ℕ) × (made : S) × SetsUp takes first input lines made × (begins_setup lines ≡ true → Appends before after []) × P made (frames_of lines)) read
-      (λ more here p. (
-        rest ++ more,
-        made,
-        (more_read takes first made input rest more setup).0,
-        (λ yes. not_both (rest ++ more) (Appends before after [])
-            (stays_other from rest more other (λ is. (end is).0) (λ is. subst IsAtEnd here (end is).1)) yes),
-        p,
-      ))
-      holds
+    -- what holds of all those lines holds of a part of the whole input
+    run_ends : (P : List Frame → Type 0) → IfSome mid (λ more. P (frames_of (is.0 ++ more)))
+        → IfSome unread (λ input. (lines : List ℕ) × OpensDesk takes opens first input lines desk × P (frames_of lines))
+    run_ends P holds = over_all unread mid is.1.0 (λ more. P (frames_of (is.0 ++ more)))
+        (λ input. (lines : List ℕ) × OpensDesk takes opens first input lines desk × P (frames_of lines)) is.1.1
+        (λ more here p. (is.0 ++ more, desk_opens more (λ e. subst IsAtEnd here (is.4 e).1), p)) holds
 
-  -- the lines after a setup, of which serving ended early
-  pub serving_fails : (first made last : S) (unread : Option (List ℕ)) (from : IntakeState) (old new : Streams) (fault : ServeFault)
-      → TakesSetup takes first unread old.unread made from → ServeFails may_answer from old new made last fault
-      → RunFails takes refuses may_answer first unread new.unread old.written new.written last (serving_fault fault)
-  serving_fails first made last unread from old new serving.Read is (more, (going, read, writes), reader, writer) =
-      read_fails first made last unread old.unread new.unread old.written new.written from more is going read writes
-  serving_fails first made last unread from old new serving.Turns is (more, (going, read, writes), reader, writer, long, reads) =
-      read_fails first made last unread old.unread new.unread old.written new.written from more is going read writes
-  serving_fails first made last unread from old new serving.Write is (stops, reader, writer) =
-      run_ends first made unread old.unread old.written new.written from (λ made frames. Stops may_answer made frames old.written new.written) is
+    -- all of them are answered
+    pub run_whole : (last : T) (before after : Option (List ℕ)) → IfSome mid (λ more. Writes may_answer desk (frames_to_end from.hand more) before after last)
+        → IfSome unread (λ input. RunsWhole takes opens may_answer first input before after)
+    run_whole last before after writes =
+        weaker unread _ (λ input. RunsWhole takes opens may_answer first input before after) (λ input run. (run.0, desk, last, run.1, run.2))
+        (run_ends (λ frames. Writes may_answer desk frames before after last)
+        (weaker mid _ _ (λ more. subst (λ frames. Writes may_answer desk frames before after last) (ap (λ h. frames_to_end h more) is.2 ∙ (hand_tells is.0 more).1)) writes))
+
+    read_fails : (last : T) (left before after : Option (List ℕ)) (more : List ℕ) → from.ended ≡ false → Consumes mid left more
+        → Writes may_answer desk (frames_on from.hand more) before after last
+        → (input : List ℕ) × Consumes unread left input × RunsSoFar takes opens may_answer first input before after
+    read_fails last left before after more going consumes writes = (
+      is.1.0 ++ more,
+      Consumes-trans unread mid left is.1.0 more is.1.1 consumes,
+      inr (
+        is.0 ++ more,
+        desk,
+        last,
+        desk_opens more (λ e. (let bad : true ≡ false = sym e ∙ going in absurd (cc))),
+        subst (λ frames. Writes may_answer desk frames before after last) (ap (λ h. frames_on h more) is.2 ∙ (hand_tells is.0 more).0) writes,
+      ),
+    )
+
+  -- serving them ended early
+  pub serving_fails : (first made : S) (desk last : T) (unread : Option (List ℕ)) (from : IntakeState) (old new : Streams) (fault : ServeFault)
+      → TakesSetup takes first unread old.unread made from → opens made desk → ServeFails may_answer from old new desk last fault
+      → RunFails takes refuses opens may_answer first unread new.unread old.written new.written (serving_fault fault)
+  serving_fails first made desk last unread from old new serving.Read is opened (more, (going, read, writes), reader, writer) =
+      read_fails first made desk unread old.unread from is opened last new.unread old.written new.written more going read writes
+  serving_fails first made desk last unread from old new serving.Turns is opened (more, (going, read, writes), reader, writer, long, reads) =
+      read_fails first made desk unread old.unread from is opened last new.unread old.written new.written more going read writes
+  serving_fails first made desk last unread from old new serving.Write is opened (stops, reader, writer) =
+      weaker unread _ _ (λ input run. (run.0, desk, run.1, run.2))
+      (run_ends first made desk unread old.unread from is opened (λ frames. Stops may_answer desk frames old.written new.written)
       (weaker old.unread _ _
-      (λ more. subst (λ frames. Stops may_answer made frames old.written new.written) (ap (λ h. frames_to_end h more) is.2 ∙ (hand_tells is.0 more).1)) stops)
-  serving_fails first made last unread from old new serving.Memory is (more, read, before, reader, writer) =
-      run_ends first made unread old.unread old.written new.written from (λ made frames. WritesFirst may_answer made frames old.written new.written) is
-      (before_all may_answer made last is.0 more old.unread new.unread old.written new.written read
-      (subst (λ frames. WritesBefore may_answer made frames old.written new.written last) (ap (λ h. frames_on h more) is.2 ∙ (hand_tells is.0 more).0) before))
+      (λ more. subst (λ frames. Stops may_answer desk frames old.written new.written) (ap (λ h. frames_to_end h more) is.2 ∙ (hand_tells is.0 more).1)) stops))
+  serving_fails first made desk last unread from old new serving.Memory is opened (more, read, before, reader, writer) =
+      weaker unread _ _ (λ input run. inr (run.0, desk, run.1, run.2))
+      (run_ends first made desk unread old.unread from is opened (λ frames. WritesFirst may_answer desk frames old.written new.written)
+      (before_all may_answer desk last is.0 more old.unread new.unread old.written new.written read
+      (subst (λ frames. WritesBefore may_answer desk frames old.written new.written last) (ap (λ h. frames_on h more) is.2 ∙ (hand_tells is.0 more).0) before)))

@@ -1,24 +1,28 @@
 -- What holds over a whole script.
 use Rattle.std.specs.Prelude.{◌≡◌, ℕ, List, AllPairs, slice_get, Some}
+use Rattle.arena_tree.specs.Settings.{SetupState}
 use Rattle.lease_book.specs.BookState.{leased}
 use Rattle.lease_proto.specs.Frames.{Frame}
 use Rattle.lease_server.specs.Serving.{ServesLines}
 use Rattle.lease_desk.specs.DeskState.{NamedArenaState, DeskState, OnePlace}
 use Rattle.lease_desk.specs.Machine.{LeaseStep}
+use Rattle.lease_desk.specs.Opened.{IsDeskOf}
 use Rattle.lease_desk.specs.Laws.{AreApart}
 use Rattle.vmemd.specs.Scripts.{Makes}
-use Rattle.vmemd.specs.Desks.{TakesSetting, IsFresh}
+use Rattle.vmemd.specs.Settings.{TakesSetupLine}
+use Rattle.vmemd.specs.Desks.{no_arenas}
 
--- setup lines that a fresh desk takes, and then the frames of lines with what is written for them
+-- setup lines that are taken, the desk that what they make opens, and then the frames of lines with
+-- what is written for them
 pub record Script (last : DeskState) : Type 0 where
-  pub first : DeskState
-  pub made : DeskState
   pub setup : List (List ℕ)
+  pub made : SetupState
+  pub desk : DeskState
   pub frames : List Frame
   pub text : List ℕ
-  pub fresh : IsFresh first
-  pub makes : Makes TakesSetting first setup made
-  pub serves : ServesLines LeaseStep made frames text last
+  pub makes : Makes TakesSetupLine no_arenas setup made
+  pub opened : IsDeskOf made desk
+  pub serves : ServesLines LeaseStep desk frames text last
 
 -- after every script no unit is in two leases of one arena
 abbrev pub ScriptLeasesStayApart : Type 0

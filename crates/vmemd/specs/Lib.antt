@@ -1,5 +1,6 @@
 pub mod Scripts
 pub mod Setups
+pub mod Settings
 pub mod Desks
 pub mod Commands
 pub mod Laws

@@ -50,13 +50,13 @@ Blames reader reads writer Read = IsSpent reader reads × (writer ≡ false)
 Blames reader reads writer Write = (reader ≡ false) × (writer ≡ true)
 Blames reader reads writer Memory = (reader ≡ false) × (writer ≡ false)
 
--- a desk that doesn't take a line refuses it so, or memory was refused
+-- what doesn't take a line refuses it so, or is out of memory
 abbrev pub RefusedBy : (ConfigFault → Type 0) → SettingFault → Type 0
 RefusedBy refused (setting.Refused fault) = refused fault
 RefusedBy refused setting.Memory = Unit {0}
 
 module _ {S : Type 0} (takes : S → SetupLine → S → Type 0) where
-  -- from one desk, these setup lines are taken one after another, and make the other
+  -- from one setup, these lines are taken one after another, and make the other
   abbrev pub Makes : S → List (List ℕ) → S → Type 0
   Makes old [] new = new ≡ old
   Makes old (line ∷ lines) new = (setting : SetupLine) × (mid : S) × (setup_of line ≡ Ok setting)
@@ -69,20 +69,20 @@ module _ {S : Type 0} (takes : S → SetupLine → S → Type 0) where
     pub split : input ≡ flat_map ended lines ++ rest
 
 module _ {S : Type 0} (refuses : S → SetupLine → ConfigFault → Type 0) where
-  -- a desk refuses what was read of a setup line: it is none, or the desk doesn't take it
+  -- a setup refuses what was read of a line: it is no setup line, or the setup doesn't take it
   abbrev pub RefusesRead : S → Result SetupLine LineFault → ConfigFault → Type 0
-  RefusesRead desk (Err fault) word = word ≡ config.Line fault
-  RefusesRead desk (Ok setting) word = refuses desk setting word
+  RefusesRead made (Err fault) word = word ≡ config.Line fault
+  RefusesRead made (Ok setting) word = refuses made setting word
 
-  -- a desk refuses the line that an input begins with
+  -- a setup refuses the line that an input begins with
   abbrev pub RefusesFirst : S → List ℕ → ConfigFault → Type 0
-  RefusesFirst desk input word = (frame : Frame) × (frames : List Frame)
+  RefusesFirst made input word = (frame : Frame) × (frames : List Frame)
       × (frames_of input ≡ frame ∷ frames)
-      × RefusesRead desk (frame >>= setup_of) word
+      × RefusesRead made (frame >>= setup_of) word
 
 module _ {S : Type 0} (takes : S → SetupLine → S → Type 0)
     (refuses : S → SetupLine → ConfigFault → Type 0) where
-  -- the first setup line that is refused has this number, and the desk that the lines before it
+  -- the first setup line that is refused has this number, and the setup that the lines before it
   -- made refuses it with this word
   abbrev pub SetupRefused : S → List ℕ → ℕ → ConfigFault → S → Type 0
   SetupRefused first input line word made = (rest : List ℕ)
@@ -97,48 +97,57 @@ module _ {S : Type 0} (may_answer : S → List ℕ → List ℕ → S → Type 0
       × (frames ≡ served ++ later)
       × Writes may_answer old served before after new
 
-module _ {S : Type 0} (takes : S → SetupLine → S → Type 0)
-    (may_answer : S → List ℕ → List ℕ → S → Type 0) where
-  -- All of an input is answered: the lines after the setup lines, by the desk that these make.
-  abbrev pub RunsWhole : S → List ℕ → Option (List ℕ) → Option (List ℕ) → S → Type 0
-  RunsWhole first input before after last = (lines : List ℕ) × (made : S)
-      × SetsUp takes first input lines made × (begins_setup lines ≡ false)
-      × Writes may_answer made (frames_of lines) before after last
+module _ {S T : Type 0} (takes : S → SetupLine → S → Type 0) (opens : S → T → Type 0) where
+  -- an input is setup lines that are taken, and then these lines, the first of which is no setup
+  -- line; what the setup lines made opens the desk
+  pub record OpensDesk (first : S) (input lines : List ℕ) (desk : T) : Type 0 where
+    pub made : S
+    pub setup : SetsUp takes first input lines made
+    pub other : begins_setup lines ≡ false
+    pub opened : opens made desk
 
-  -- What was read of an input is answered as far as its whole lines go; nothing while the setup
-  -- goes on.
-  abbrev pub RunsSoFar : S → List ℕ → Option (List ℕ) → Option (List ℕ) → S → Type 0
-  RunsSoFar first input before after last = (part : List ℕ) × (made : S)
-      × SetsUp takes first input part made
-      × (begins_setup part ≡ true → IsOneLine part × Appends before after [])
-      × (begins_setup part ≡ false → Writes may_answer made (frames_in [] part) before after last)
+module _ {S T : Type 0} (takes : S → SetupLine → S → Type 0) (opens : S → T → Type 0)
+    (may_answer : T → List ℕ → List ℕ → T → Type 0) where
+  -- All of an input is answered: the lines after the setup lines, by the desk that these open.
+  abbrev pub RunsWhole : S → List ℕ → Option (List ℕ) → Option (List ℕ) → Type 0
+  RunsWhole first input before after = (lines : List ℕ) × (desk : T) × (last : T)
+      × OpensDesk takes opens first input lines desk
+      × Writes may_answer desk (frames_of lines) before after last
 
-  -- Of an input's answers a front is written; nothing while the setup goes on.
+  -- What was read of an input is answered as far as its whole lines go: after the setup lines there
+  -- is none yet, and nothing is written; or the desk answers them.
+  abbrev pub RunsSoFar : S → List ℕ → Option (List ℕ) → Option (List ℕ) → Type 0
+  RunsSoFar first input before after =
+      ((part : List ℕ) × (made : S) × SetsUp takes first input part made × IsOneLine part
+      × Appends before after [])
+      ⊎ ((lines : List ℕ) × (desk : T) × (last : T)
+      × OpensDesk takes opens first input lines desk
+      × Writes may_answer desk (frames_in [] lines) before after last)
+
+  -- Of an input's answers a front is written.
   abbrev pub RunStops : S → List ℕ → Option (List ℕ) → Option (List ℕ) → Type 0
-  RunStops first input before after = (lines : List ℕ) × (made : S)
-      × SetsUp takes first input lines made
-      × (begins_setup lines ≡ true → Appends before after [])
-      × Stops may_answer made (frames_of lines) before after
+  RunStops first input before after = (lines : List ℕ) × (desk : T)
+      × OpensDesk takes opens first input lines desk
+      × Stops may_answer desk (frames_of lines) before after
 
-  -- Of an input's answers the first are written whole; none while the setup goes on.
+  -- Of an input's answers the first are written whole, or none.
   abbrev pub RunsFirst : S → List ℕ → Option (List ℕ) → Option (List ℕ) → Type 0
-  RunsFirst first input before after = (lines : List ℕ) × (made : S)
-      × SetsUp takes first input lines made
-      × (begins_setup lines ≡ true → Appends before after [])
-      × WritesFirst may_answer made (frames_of lines) before after
+  RunsFirst first input before after = Appends before after []
+      ⊎ ((lines : List ℕ) × (desk : T) × OpensDesk takes opens first input lines desk
+      × WritesFirst may_answer desk (frames_of lines) before after)
 
-module _ {S : Type 0} (takes : S → SetupLine → S → Type 0)
-    (refuses : S → SetupLine → ConfigFault → Type 0)
-    (may_answer : S → List ℕ → List ℕ → S → Type 0) where
+module _ {S T : Type 0} (takes : S → SetupLine → S → Type 0)
+    (refuses : S → SetupLine → ConfigFault → Type 0) (opens : S → T → Type 0)
+    (may_answer : T → List ℕ → List ℕ → T → Type 0) where
   -- what a fault says of what was read and written
   abbrev pub RunFails : S → Option (List ℕ) → Option (List ℕ) → Option (List ℕ) → Option (List ℕ)
-      → S → ScriptFault → Type 0
-  RunFails first unread left before after last (Setup line word) =
-      IfSome unread (λ input. SetupRefused takes refuses first input line word last)
+      → ScriptFault → Type 0
+  RunFails first unread left before after (Setup line word) =
+      IfSome unread (λ input. (made : S) × SetupRefused takes refuses first input line word made)
       × Appends before after []
-  RunFails first unread left before after last Read = (input : List ℕ) × Consumes unread left input
-      × RunsSoFar takes may_answer first input before after last
-  RunFails first unread left before after last Write = IfSome unread
-      (λ input. RunStops takes may_answer first input before after)
-  RunFails first unread left before after last Memory = IfSome unread
-      (λ input. RunsFirst takes may_answer first input before after)
+  RunFails first unread left before after Read = (input : List ℕ) × Consumes unread left input
+      × RunsSoFar takes opens may_answer first input before after
+  RunFails first unread left before after Write = IfSome unread
+      (λ input. RunStops takes opens may_answer first input before after)
+  RunFails first unread left before after Memory = IfSome unread
+      (λ input. RunsFirst takes opens may_answer first input before after)

@@ -37,11 +37,11 @@ module _ {S : Type 0} (takes : S → SetupLine → S → Type 0) where
 module _ {S : Type 0} (refuses : S → SetupLine → ConfigFault → Type 0) where
   -- why a line isn't taken
   abbrev pub LineFails : S → ℕ → Result SetupLine LineFault → ScriptFault → Type 0
-  LineFails desk number read (Setup line word) = (line ≡ number)
-      × RefusesRead refuses desk read word
-  LineFails desk number read Read = ⊥
-  LineFails desk number read Write = ⊥
-  LineFails desk number read Memory = Unit {0}
+  LineFails made number read (Setup line word) = (line ≡ number)
+      × RefusesRead refuses made read word
+  LineFails made number read Read = ⊥
+  LineFails made number read Write = ⊥
+  LineFails made number read Memory = Unit {0}
 
 module _ {S : Type 0} (takes : S → SetupLine → S → Type 0)
     (refuses : S → SetupLine → ConfigFault → Type 0) where

@@ -24,7 +24,7 @@ pub enum WordsFault {
     Mistaken(String),
     /// A word isn't text.
     NotText,
-    /// Memory was refused.
+    /// Out of memory.
     Memory,
 }
 

@@ -17,8 +17,8 @@ pub enum Unserved {
 }
 
 /// Why a setup line is refused, by its word. They stand in the order in which they are looked for,
-/// but for `NotYet`: `Children` comes after the line's own refusals, and `Caches` before
-/// `BadRange`.
+/// but for `NotYet`: `Children` comes after the line's own refusals, and `Caches` in the place of
+/// `BadCache`.
 #[derive(Clone, Copy, Debug, PartialEq, Eq, Error)]
 pub enum ConfigFault {
     /// The bytes are no setup line.
@@ -30,12 +30,19 @@ pub enum ConfigFault {
     /// More than `MOST_ARENAS` arenas, or than `MOST_SPANS` owned spans of one.
     #[error("many")]
     TooMany,
-    /// No root has this name.
+    /// No root has this name; or, for a child, no arena its source's.
     #[error("noarena")]
     NoArena,
-    /// The quantum is no power of two.
+    /// The source's chain has `LONGEST_CHAIN` arenas.
+    #[error("chain")]
+    ChainTooLong,
+    /// The quantum is no power of two, or above the source's.
     #[error("quantum")]
     BadQuantum,
+    /// The greatest cached size isn't in whole quanta, is above `MOST_CACHES` of them, or needs
+    /// slabs of more than 2^62 units.
+    #[error("cache")]
+    BadCache,
     /// The span is empty, ends above 2^62, isn't of whole quanta, or overlaps another of its arena.
     #[error("range")]
     BadRange,
@@ -43,7 +50,7 @@ pub enum ConfigFault {
     NotYet(Unserved),
 }
 
-/// Why a desk doesn't take a setup line that was read.
+/// Why a setup doesn't take a line that was read.
 #[derive(Clone, Copy, Debug, PartialEq, Eq)]
 pub enum SettingFault {
     Refused(ConfigFault),
@@ -62,7 +69,7 @@ pub enum ScriptFault {
     /// The output can't be written.
     #[error("write")]
     Write,
-    /// Memory was refused.
+    /// Out of memory.
     #[error("memory")]
     Memory,
 }

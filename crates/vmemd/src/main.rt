@@ -1,23 +1,24 @@
 //! `vmemd`: leases of ranges of whole numbers to clients, over lines of text.
 //!
 //! `vmemd script` answers standard input on standard output (scripts): one intake reads the input,
-//! its setup lines are taken first (setting_up), by a lease desk (desks), and then the desk answers
-//! the others. The words of the command line and the help are in commands, the exit statuses in
-//! endings.
+//! its setup lines are taken first (setting_up), by a setup of arenas (settings), and then a lease
+//! desk is opened from the setup and answers the others. The words of the command line and the help
+//! are in commands, the exit statuses in endings.
 //!
-//! What a script writes is stated in specs/Scripts.antt, for any desk, and specs/Desks.antt, for
-//! the lease desk; what holds after each script, in specs/Laws.antt; which bytes are a setup line,
-//! in the crate `lease_proto`. A script costs what its desk does for each line, and a read for each
-//! 4,096 bytes or less.
+//! What a script writes is stated in specs/Scripts.antt, for any setup and any desk, and in
+//! specs/Desks.antt for these two; which setup line is refused with which word, in
+//! specs/Settings.antt; what holds after each script, in specs/Laws.antt; which bytes are a setup
+//! line, in the crate `lease_proto`. A script costs what its setup and its desk do for each line,
+//! and a read for each 4,096 bytes or less.
 #![tactic(auto)]
 
 pub mod commands;
-pub mod desks;
 pub mod endings;
 pub mod faults;
 pub mod laws;
 pub mod scripts;
 pub mod setting_up;
+pub mod settings;
 #[cfg(test)]
 mod tests;
 

@@ -1,43 +1,17 @@
-//! A script: setup lines, and then the lines that what they make answers.
+//! A script: setup lines, and then the lines that the desk of their setup answers.
 ghost use Rattle.std.specs.Prelude.{◌≡◌, ◌≤◌, ◌+◌, ◌^◌, OnOk, IfErr, IfSome, false};
 ghost use Rattle.lease_server.specs.Watching.{inner_of, has_failed, reads_of};
 ghost use Rattle.lease_server.specs.declared.intakes.TheConstants.{MOST_READS};
-ghost use Rattle.vmemd.specs.Scripts.{RunsWhole, RunFails, Blames};
+ghost use Rattle.vmemd.specs.Scripts.{Blames};
 ghost use Rattle.vmemd.specs.Desks.{ScriptEnds, ScriptFails};
 
 use crate::faults::ScriptFault;
-use crate::setting_up::{SetUp, take_setup};
+use crate::setting_up::take_setup;
+use arena_tree::Setup;
 use lease_desk::Desk;
 use lease_server::{Watched, serve};
 use std::alloc::Global;
 use std::io::{Read, Write};
-
-/// Sets up a desk by the setup lines that the input begins with, and lets it answer the lines after
-/// them.
-pub fn run<R: Read, W: Write, D: SetUp>(
-    alloc: Global,
-    reader: &mut Watched<R>,
-    writer: &mut Watched<W>,
-    desk: &mut D,
-) -> Result<(), ScriptFault>
-    requires reader { has_failed reader.old ≡ false }
-    requires writer { has_failed writer.old ≡ false }
-    ensures ok { OnOk result (IfSome (R.remaining (inner_of reader.old)) (λ input.
-        RunsWhole D.takes D.may_answer desk.old input (W.contents (inner_of writer.old))
-        (W.contents (inner_of writer.new)) desk.new)) }
-    ensures err { IfErr result (RunFails D.takes D.refuses D.may_answer desk.old
-        (R.remaining (inner_of reader.old)) (R.remaining (inner_of reader.new))
-        (W.contents (inner_of writer.old)) (W.contents (inner_of writer.new)) desk.new) }
-    ensures works { OnOk result ((has_failed reader.new ≡ false)
-        × (has_failed writer.new ≡ false)) }
-    ensures blames { IfErr result (Blames (has_failed reader.new) (reads_of reader.new)
-        (has_failed writer.new)) }
-    ensures bound { reads_of reader.new ≤ reads_of reader.old + MOST_READS }
-{
-    let mut input = take_setup(reader, desk)?;
-    serve(alloc, &mut input, reader, writer, desk)?;
-    Ok(())
-}
 
 /// Runs a script: setup lines and then the lines of clients and operators, from the reader to the
 /// writer, by one thread. Units are numbers and have no owner elsewhere. At its end, and at any
@@ -63,8 +37,11 @@ pub fn run_script<R: Read, W: Write>(
     // The input isn't read without end.
     ensures bound { reads_of reader.new ≤ reads_of reader.old + MOST_READS }
 {
-    let mut desk = Desk::new(alloc);
-    let ran = run(alloc, reader, writer, &mut desk);
+    let mut setup = Setup::new(alloc);
+    let mut input = take_setup(reader, &mut setup)?;
+    let mut desk = Desk::open(alloc, &setup)?;
+    let served = serve(alloc, &mut input, reader, writer, &mut desk);
     desk.close();
-    ran
+    served?;
+    Ok(())
 }

@@ -12,12 +12,12 @@ ghost use Rattle.vmemd.specs.Setups.{TakesLine, LineFails, TakesSetup, SetupFail
 
 use crate::faults::{ConfigFault, ScriptFault, SettingFault};
 use lease_proto::{LONGEST_LINE, LineFault, SetupLine, fault_at_end, is_setup_word};
-use lease_server::{Intake, Responder, Watched};
+use lease_server::{Intake, Watched};
 use memchr::memchr2;
 use std::io::Read;
 
-/// What setup lines make, and what then answers lines.
-pub trait SetUp: Responder {
+/// What setup lines make.
+pub trait SetUp {
     ghost use Rattle.lease_proto.specs.declared.setup_lines.SetupLine.{SetupLine};
     ghost use Rattle.vmemd.specs.declared.faults.ConfigFault.{ConfigFault};
 
@@ -35,16 +35,16 @@ pub trait SetUp: Responder {
 }
 
 /// Takes the setup lines that the input begins with, and gives what was read and not taken: the
-/// lines after them. At a refused line the desk is what the lines before it made. A setup line that
-/// is too long is refused as soon as that shows.
-pub fn take_setup<R: Read, D: SetUp>(
+/// lines after them. At a refused line the setup is what the lines before it made. A setup line
+/// that is too long is refused as soon as that shows.
+pub fn take_setup<R: Read, S: SetUp>(
     reader: &mut Watched<R>,
-    desk: &mut D,
+    setup: &mut S,
 ) -> Result<Intake, ScriptFault>
-    ensures ok { IfOk result (TakesSetup D.takes desk.old (R.remaining (inner_of reader.old))
-        (R.remaining (inner_of reader.new)) desk.new) }
-    ensures err { IfErr result (SetupFails D.takes D.refuses desk.old
-        (R.remaining (inner_of reader.old)) (R.remaining (inner_of reader.new)) desk.new) }
+    ensures ok { IfOk result (TakesSetup S.takes setup.old (R.remaining (inner_of reader.old))
+        (R.remaining (inner_of reader.new)) setup.new) }
+    ensures err { IfErr result (SetupFails S.takes S.refuses setup.old
+        (R.remaining (inner_of reader.old)) (R.remaining (inner_of reader.new)) setup.new) }
     ensures works { OnOk result (has_failed reader.new ≡ has_failed reader.old) }
     ensures failed { IsErrOf result ScriptFault.Read
         → IsSpent (has_failed reader.new) (reads_of reader.new) }
@@ -61,7 +61,7 @@ pub fn take_setup<R: Read, D: SetUp>(
     loop {
         match input.first_line() {
             Some(line) if begins_setup(line) => {
-                take_line(line, number, desk)?;
+                take_line(line, number, setup)?;
                 input.pass();
                 number += 1;
             }
@@ -112,17 +112,17 @@ fn refuse_rest(rest: &[u8], number: u64) -> Result<(), ScriptFault>
     }
 }
 
-/// Lets a desk take the setup line of this number, given without its line feed.
-fn take_line<D: SetUp>(line: &[u8], number: u64, desk: &mut D) -> Result<(), ScriptFault>
-    ensures ok { OnOk result (TakesLine D.takes desk.old line.now desk.new) }
-    ensures err { IfErr result (LineFails D.refuses desk.old number (setup_of line.now)) }
-    ensures unchanged { OnErr result (desk.new ≡ desk.old) }
+/// Lets a setup take the line of this number, given without its line feed.
+fn take_line<S: SetUp>(line: &[u8], number: u64, setup: &mut S) -> Result<(), ScriptFault>
+    ensures ok { OnOk result (TakesLine S.takes setup.old line.now setup.new) }
+    ensures err { IfErr result (LineFails S.refuses setup.old number (setup_of line.now)) }
+    ensures unchanged { OnErr result (setup.new ≡ setup.old) }
 {
     let setting = match SetupLine::read(line) {
         Ok(setting) => setting,
         Err(fault) => return Err(refusal(number, fault)),
     };
-    match desk.set_up(&setting) {
+    match setup.set_up(&setting) {
         Ok(()) => Ok(()),
         Err(SettingFault::Refused(word)) => Err(ScriptFault::Setup { line: number, word }),
         Err(SettingFault::Memory) => Err(ScriptFault::Memory),

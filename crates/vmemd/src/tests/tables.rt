@@ -235,7 +235,7 @@ pub const ROWS: [Row; 15] = [
 ];
 
 /// Setup lines, the number of the one that is refused, and its word.
-pub const REFUSED: [(&[u8], u64, &str); 22] = [
+pub const REFUSED: [(&[u8], u64, &str); 25] = [
     (
         b"root top 4611686018427387888 17 1 best 0\nhello 1 1\n",
         1,
@@ -247,6 +247,9 @@ pub const REFUSED: [(&[u8], u64, &str); 22] = [
     (b"root a 0 8 3 best 5\n", 1, "quantum"),
     (b"root a 0 8 0 best 0\n", 1, "quantum"),
     (b"root a 0 9 2 best 4\n", 1, "cache"),
+    (b"root a 0 8 2 best 3\n", 1, "cache"),
+    (b"root a 0 8 1 instant 5\n", 1, "cache"),
+    (b"root a 0 8 1 best 0\nroot a 0 8 1 best 5\n", 2, "name"),
     (b"root a 0 9 2 best 0\n", 1, "range"),
     (b"root a 1 8 2 best 0\n", 1, "range"),
     (b"root a 0 0 1 best 0\n", 1, "range"),

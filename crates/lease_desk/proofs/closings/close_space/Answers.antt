@@ -2,7 +2,7 @@ use Rattle.std.proofs.Common.{◌≡◌, ◌∙◌, ap, subst, []}
 use Rattle.tag_arena.specs.ArenaState.{ArenaState, layout_of}
 use Rattle.tag_arena.specs.Layout.{FreeIsLongestRuns}
 use Rattle.tag_arena.proofs.LawProofs.{free_are_longest_runs}
-use Rattle.lease_desk.proofs.SetupLemmas.{nothing_free}
+use Rattle.lease_desk.proofs.ClosingLemmas.{nothing_free}
 use Rattle.lease_desk.proofs.closings.close_space.Goals as goal
 
 pub unreachable-requires : goal.unreachable-requires

@@ -22,8 +22,8 @@ grant-requires-clause-exports c =
 pub returns-in-Err-NoFit-clause-step : goal.returns-in-Err-NoFit-clause-step
 returns-in-Err-NoFit-clause-step c =
     let refused = rw c.in-Err-NoFit.field-0-is at c.in-Err-NoFit.ensures.refused in
-    let same : c.deref-in-Err-NoFit.result.now ≡ c.args.spaces.now.items = c.deref-in-Err-NoFit.ensures.value ∙ c.in-Err-NoFit.ensures.err in
+    let same : c.deref-in-Err-NoFit.result.now ≡ c.args.spaces.now.items = c.deref-in-Err-NoFit.ensures.value ∙ c.in-Err-NoFit.ensures.unchanged in
     let refuses = subst (λ (xs : List Space). SettlesRefusal c.args.id why.NoFit (desk_of xs c.args.book.now) (desk_of xs c.refuse-in-Err-NoFit.new.book)) same c.refuse-in-Err-NoFit.ensures.refuses in
-    no_fit c.args.id c.args.line.now c.args.spaces.now.items c.carve.new.spaces.items c.args.book.now c.refuse-in-Err-NoFit.new.book c.args.index refused.0 c.refuse-in-Err-NoFit.result c.requires.first c.in-Err-NoFit.ensures.err
+    no_fit c.args.id c.args.line.now c.args.spaces.now.items c.carve.new.spaces.items c.args.book.now c.refuse-in-Err-NoFit.new.book c.args.index refused.0 c.refuse-in-Err-NoFit.result c.requires.first c.in-Err-NoFit.ensures.unchanged
     refused.1.here (subst (λ (q : Request). IsCarveRefused refused.0 q NoFit) c.demand_of.ensures refused.1.why)
     refuses c.refuse-in-Err-NoFit.ensures.reply
