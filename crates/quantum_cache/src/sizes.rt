@@ -10,11 +10,12 @@ pub(crate) fn cache_of(level: &Level, size: u64) -> Option<u8>
     requires { 0 < level.now.quantum }
     ensures { result ≡ cache_for level.now size }
 {
-    let units = Request::plain(size).units(level.quantum)?;
-    if units == 0 || units > level.qcache_max {
+    let Level { quantum, qcache_max, .. } = *level;
+    let units = Request::plain(size).units(quantum)?;
+    if units == 0 || units > qcache_max {
         return None;
     }
-    u8::try_from(units / level.quantum).ok()
+    u8::try_from(units / quantum).ok()
 }
 
 /// How many caches the arena has, numbered from 1 on.
