@@ -1,1 +1,6 @@
+mod ChainsIn
+mod FreeBounds
+mod Limits
 mod PlacingPaths
+mod Turns
+mod Walks

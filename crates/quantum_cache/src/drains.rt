@@ -21,6 +21,7 @@ fn drain_one<S: Held, P: Parts<S>>(
     ensures ran { Ran P.step P.tree P.count P.rounds (drain_turn arena cache)
         parts.old parts.new (tag_turn S.tag result) }
     ensures fewer { IfNone result (P.rounds parts.new < P.rounds parts.old) }
+    ensures no_more { P.rounds parts.new ≤ P.rounds parts.old }
     ensures few { P.count parts.new + P.rounds parts.new ≤ P.count parts.old + P.rounds parts.old }
     ensures tree { P.tree parts.new ≡ P.tree parts.old }
 {
@@ -44,7 +45,7 @@ fn drain_rounds<S: Held, P: Parts<S>>(
     ensures ran { (turns : ℕ) → P.rounds parts.old < turns
         → Ran P.step P.tree P.count P.rounds (drain_cache turns arena cache)
             parts.old parts.new (drained (tag_emptied S.tag result)) }
-    ensures fewer { P.rounds parts.new ≤ P.rounds parts.old }
+    ensures no_more { P.rounds parts.new ≤ P.rounds parts.old }
     ensures few { P.count parts.new + P.rounds parts.new ≤ P.count parts.old + P.rounds parts.old }
     ensures tree { P.tree parts.new ≡ P.tree parts.old }
 {
@@ -68,7 +69,7 @@ fn drain_caches<S: Held, P: Parts<S>>(
         → Ran P.step P.tree P.count P.rounds
             (over_caches (λ cache _. drain_cache turns arena cache) all left tt)
             parts.old parts.new (drained (tag_emptied S.tag result)) }
-    ensures fewer { P.rounds parts.new ≤ P.rounds parts.old }
+    ensures no_more { P.rounds parts.new ≤ P.rounds parts.old }
     ensures few { P.count parts.new + P.rounds parts.new ≤ P.count parts.old + P.rounds parts.old }
     ensures tree { P.tree parts.new ≡ P.tree parts.old }
 {
@@ -92,7 +93,7 @@ fn drain_below<S: Held, P: Parts<S>>(
         → Ran P.step P.tree P.count P.rounds
             (over_arenas (λ id _. drain_arena turns (chain_in tree.now id)) end tt)
             parts.old parts.new (drained (tag_emptied S.tag result)) }
-    ensures fewer { P.rounds parts.new ≤ P.rounds parts.old }
+    ensures no_more { P.rounds parts.new ≤ P.rounds parts.old }
     ensures few { P.count parts.new + P.rounds parts.new ≤ P.count parts.old + P.rounds parts.old }
     ensures tree { P.tree parts.new ≡ P.tree parts.old }
 {
@@ -115,7 +116,7 @@ fn drain_chain<S: Held, P: Parts<S>>(
     ensures ran { (turns : ℕ) → P.rounds parts.old < turns
         → Ran P.step P.tree P.count P.rounds (drain_arena turns chain.now)
             parts.old parts.new (drained (tag_emptied S.tag result)) }
-    ensures fewer { P.rounds parts.new ≤ P.rounds parts.old }
+    ensures no_more { P.rounds parts.new ≤ P.rounds parts.old }
     ensures few { P.count parts.new + P.rounds parts.new ≤ P.count parts.old + P.rounds parts.old }
     ensures tree { P.tree parts.new ≡ P.tree parts.old }
 {
