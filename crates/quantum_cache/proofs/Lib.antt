@@ -1,3 +1,5 @@
+mod AllocBounds
+mod AllocHands
 mod ChainsIn
 mod FreeBounds
 mod Limits

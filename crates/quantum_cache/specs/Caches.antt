@@ -21,18 +21,18 @@ abbrev pub chain_in : List TreeArena → ℕ → List Level
 chain_in arenas id = chain_up LONGEST_CHAIN arenas (Some id)
 
 -- what comes next goes on with what came before, but not after a fault
-abbrev pub go_on : {X F : Type 0} → (X → Plan (Result X F)) → Result X F → Plan (Result X F)
-go_on next (Ok x) = next x
-go_on next (Err f) = Done (Err f)
+abbrev pub if_ok : {X F : Type 0} → (X → Plan (Result X F)) → Result X F → Plan (Result X F)
+if_ok next (Ok x) = next x
+if_ok next (Err f) = Done (Err f)
 
 -- the caches of an arena one after another, from the least size; so many of all are left
 abbrev pub over_caches : {X F : Type 0} → (ℕ → X → Plan (Result X F)) → (all left : ℕ) → X
     → Plan (Result X F)
 over_caches each all zero x = Done (Ok x)
-over_caches each all (suc left) x = then (each (all - left) x) (go_on (over_caches each all left))
+over_caches each all (suc left) x = then (each (all - left) x) (if_ok (over_caches each all left))
 
 -- the arenas below this number one after another, the last first
 abbrev pub over_arenas : {X F : Type 0} → (ℕ → X → Plan (Result X F)) → ℕ → X
     → Plan (Result X F)
 over_arenas each zero x = Done (Ok x)
-over_arenas each (suc id) x = then (each id x) (go_on (over_arenas each id))
+over_arenas each (suc id) x = then (each id x) (if_ok (over_arenas each id))

@@ -56,14 +56,14 @@ drain_turn arena cache = Ask (Pop arena cache) on_drain_pop
 abbrev pub Drained : Type 0
 Drained = Result (Unit {0}) (Option (EmptyingFault Tag))
 
-abbrev pub drained : Emptied → Drained
-drained (Ok u) = Ok u
-drained (Err f) = Err (Some f)
+abbrev pub drain_end : Emptied → Drained
+drain_end (Ok u) = Ok u
+drain_end (Err f) = Err (Some f)
 
 -- the rounds of one cache, in so many turns at most
 abbrev pub on_turn : Plan Drained → Turn → Plan Drained
 on_turn again None = again
-on_turn again (Some r) = Done (drained r)
+on_turn again (Some r) = Done (drain_end r)
 
 abbrev pub drain_cache : ℕ → ℕ → ℕ → Plan Drained
 drain_cache zero arena cache = Done (Err None)

@@ -12,7 +12,7 @@ use Rattle.quantum_cache.specs.declared.emptying_faults.EmptyingFault.{EmptyingF
 use Rattle.quantum_cache.specs.declared.emptying_faults.EmptyingFault.TheVariants as emptying
 use Rattle.quantum_cache.specs.declared.reaps.Reaping.{Reaping}
 use Rattle.quantum_cache.specs.declared.reaps.ReapFault.{ReapFault}
-use Rattle.quantum_cache.specs.Caches.{chain_in, go_on, over_caches, over_arenas}
+use Rattle.quantum_cache.specs.Caches.{chain_in, if_ok, over_caches, over_arenas}
 use Rattle.quantum_cache.specs.Drains.{tag_emptying_fault}
 use Rattle.quantum_cache.specs.Frees.{put_chunk}
 use Rattle.quantum_cache.specs.Sizes.{caches_in}
@@ -79,7 +79,7 @@ reap_by look r = up_to look r.left r.units
 -- one cache: rounds of its depot, and then its slabs
 unfoldable pub reap_cache : List Level → ℕ → ℕ → Reaping → Plan ReapEnd
 reap_cache chain arena cache r =
-    then (reap_by (reap_round arena cache) r) (go_on (reap_by (reap_slab chain arena cache)))
+    then (reap_by (reap_round arena cache) r) (if_ok (reap_by (reap_slab chain arena cache)))
 
 -- all caches of an arena, the first of this chain
 abbrev pub reap_arena_plan : List Level → Reaping → Plan ReapEnd

@@ -78,6 +78,9 @@ pub fn alloc<S: Held, P: Parts<S>>(
     requires short { length chain.now ≤ LONGEST_CHAIN }
     ensures ran { Ran P.step P.tree P.count P.rounds (alloc_plan chain.now size)
         parts.old parts.new (tag_climb S.tag result) }
+    ensures granted { IfOk result (λ s. IsServed (P.tree parts.old) chain.now size (S.tag s)) }
+    ensures bad { result ≡ Err ClimbFault.BadRequest → AsksForNone chain.now size }
+    ensures few { P.count parts.new ≤ P.count parts.old + (8 + 2 * length chain.now) }
     ensures tree { P.tree parts.new ≡ P.tree parts.old }
 {
     serve(parts, chain, size)

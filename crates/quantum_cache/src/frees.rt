@@ -1,9 +1,10 @@
 //! Free.
-ghost use Rattle.std.specs.Prelude.{◌≡◌, Some};
+ghost use Rattle.std.specs.Prelude.{◌≡◌, ◌+◌, ◌≤◌, Some, length};
 ghost use Rattle.arena_tree.specs.Chains.{IsChain, first_id};
 ghost use Rattle.arena_tree.specs.Plans.{Ran};
 ghost use Rattle.arena_tree.specs.Tags.{tag_return};
 ghost use Rattle.quantum_cache.specs.Frees.{tag_placing, push_round, push_changed, push_fresh, push_exchanged, put_chunk, free_cached, free_plan};
+ghost use Rattle.quantum_cache.specs.Laws.{free_most};
 
 use crate::placings::Placing;
 use arena_tree::{
@@ -159,6 +160,8 @@ pub fn free<S: Held, P: Parts<S>>(
     requires first { first_id chain.now ≡ Some (S.tag segment).arena }
     ensures ran { Ran P.step P.tree P.count P.rounds (free_plan chain.now (S.tag segment))
         parts.old parts.new (tag_return S.tag result) }
+    ensures few { P.count parts.new
+        ≤ P.count parts.old + free_most (S.tag segment).route (length chain.now) }
     ensures tree { P.tree parts.new ≡ P.tree parts.old }
 {
     place(parts, chain, segment)

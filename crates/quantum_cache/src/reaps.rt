@@ -1,5 +1,5 @@
 //! Reaping: rounds of depots go to their slabs, and complete slabs to their arenas.
-ghost use Rattle.std.specs.Prelude.{◌≡◌, ◌+◌, ◌*◌, ◌^◌, ◌<◌, ◌≤◌, length, Some, IfOk};
+ghost use Rattle.std.specs.Prelude.{◌≡◌, ◌+◌, ◌*◌, ◌^◌, ◌<◌, ◌≤◌, length, Some, IfOk, IfSome};
 ghost use Rattle.arena_tree.specs.Chains.{IsChain, first_id};
 ghost use Rattle.arena_tree.specs.Plans.{Ran};
 ghost use Rattle.arena_tree.specs.Trees.{nodes_of};
@@ -37,6 +37,7 @@ fn one_round<S: Held, P: Parts<S>>(
 ) -> Result<Option<u64>, EmptyingFault<S>>
     ensures ran { Ran P.step P.tree P.count P.rounds (reap_round arena cache)
         parts.old parts.new (tag_reaped S.tag result) }
+    ensures small { IfOk result (λ o. IfSome o (λ units. units < 2 ^ 64)) }
     ensures tree { P.tree parts.new ≡ P.tree parts.old }
 {
     match parts.depot_reap(arena, cache) {
@@ -62,6 +63,7 @@ fn one_slab<S: Held, P: Parts<S>>(
     requires first { first_id chain.now ≡ Some arena }
     ensures ran { Ran P.step P.tree P.count P.rounds (reap_slab chain.now arena cache)
         parts.old parts.new (tag_reaped S.tag result) }
+    ensures small { IfOk result (λ o. IfSome o (λ units. units < 2 ^ 64)) }
     ensures tree { P.tree parts.new ≡ P.tree parts.old }
 {
     match parts.slab_reap(arena, cache) {
