@@ -1,5 +1,5 @@
 -- How many locks a free takes.
-use Rattle.std.proofs.Common.{◌≡◌, ℕ, ◌+◌, ◌≤◌, List, Result, Ok, Err, length, subst, arith}
+use Rattle.std.proofs.Common.{◌≡◌, ℕ, ◌+◌, ◌≤◌, List, Result, Ok, Err, length, arith}
 use Rattle.deed_core.specs.Tag.{Tag}
 use Rattle.deed_core.specs.declared.segments.Route.{Route}
 use Rattle.deed_core.specs.declared.segments.Route.TheVariants.{Direct, Cached}
@@ -40,25 +40,25 @@ within_changed arena cache m t n most le = changed
     changed (Err changing.NotGreater) = omega (arith, le)
     changed (Err changing.Stopped) = omega (arith, le)
 
-within_fresh : (arena cache : ℕ) (t : Tag) → Within (λ (p : Placing Tag). 2) (push_fresh arena cache t) 1
+within_fresh : (arena cache : ℕ) (t : Tag) (n most : ℕ) → n + 1 ≤ most → Within (λ (p : Placing Tag). most) (push_fresh arena cache t) n
 unfolding push_fresh
-within_fresh arena cache t = swapped
+within_fresh arena cache t n most le = swapped
   where
-    swapped : (x : Result (Unit {0}) SwapFreshFault) → Within (λ (p : Placing Tag). 2) (on_swap_fresh arena cache t x) 2
-    swapped (Ok u) = within_push arena cache t 2 2 (omega arith)
-    swapped (Err (freshing.OldSize m)) = within_changed arena cache m t 2 2 (omega arith)
-    swapped (Err freshing.NoMemory) = omega arith
-    swapped (Err freshing.Stopped) = omega arith
+    swapped : (x : Result (Unit {0}) SwapFreshFault) → Within (λ (p : Placing Tag). most) (on_swap_fresh arena cache t x) (n + 1)
+    swapped (Ok u) = within_push arena cache t (n + 1) most le
+    swapped (Err (freshing.OldSize m)) = within_changed arena cache m t (n + 1) most le
+    swapped (Err freshing.NoMemory) = le
+    swapped (Err freshing.Stopped) = le
 
-within_exchanged : (arena cache : ℕ) (t : Tag) → Within (λ (p : Placing Tag). 2) (push_exchanged arena cache t) 0
+within_exchanged : (arena cache : ℕ) (t : Tag) (n most : ℕ) → n + 2 ≤ most → Within (λ (p : Placing Tag). most) (push_exchanged arena cache t) n
 unfolding push_exchanged
-within_exchanged arena cache t = swapped
+within_exchanged arena cache t n most le = swapped
   where
-    swapped : (x : Result (Unit {0}) SwapEmptyFault) → Within (λ (p : Placing Tag). 2) (on_swap_empty arena cache t x) 1
-    swapped (Ok u) = within_push arena cache t 1 2 (omega arith)
-    swapped (Err emptying.NoneEmpty) = within_fresh arena cache t
-    swapped (Err (emptying.OldSize m)) = within_changed arena cache m t 1 2 (omega arith)
-    swapped (Err emptying.Stopped) = omega arith
+    swapped : (x : Result (Unit {0}) SwapEmptyFault) → Within (λ (p : Placing Tag). most) (on_swap_empty arena cache t x) (n + 1)
+    swapped (Ok u) = within_push arena cache t (n + 1) most (omega (arith, le))
+    swapped (Err emptying.NoneEmpty) = within_fresh arena cache t (n + 1) most (omega (arith, le))
+    swapped (Err (emptying.OldSize m)) = within_changed arena cache m t (n + 1) most (omega (arith, le))
+    swapped (Err emptying.Stopped) = omega (arith, le)
 
 within_or_next : (p : Plan (Placing Tag)) (q : Tag → Plan Returned) (n stage : ℕ) → Within (λ (a : Placing Tag). stage) p n → stage ≤ 3 → ((t : Tag) (m : ℕ) → m ≤ stage → Within (λ (r : Returned). 3) (q t) m) → Within (λ (r : Returned). 3) (then p (or_next q)) n
 within_or_next p q n stage w le next = within_then (λ (a : Placing Tag). stage) (λ (r : Returned). 3) p (or_next q) n w go
@@ -73,10 +73,7 @@ unfolding free_cached
 within_by Direct chain t = within_return (λ (r : Returned). length chain) chain t 0 (λ r. omega arith)
 within_by (Cached cache) chain t =
     within_or_next (push_round t.arena cache t) _ 0 0 (within_push t.arena cache t 0 0 (omega arith)) (omega arith)
-    (λ x m low. none m low (λ z. within_or_next (push_exchanged t.arena cache x) _ 0 2 (within_exchanged t.arena cache x) (omega arith) (λ y k le. put_after y k le)))
-  where
-    none : {A : Type 0} {most : A → ℕ} {p : Plan A} (m : ℕ) → m ≤ 0 → (Unit {0} → Within most p 0) → Within most p m
-    none m low w = subst (Within _ _) (omega (arith, low)) (w tt)
+    (λ x m low. within_or_next (push_exchanged t.arena cache x) _ m 2 (within_exchanged t.arena cache x m 2 (omega (arith, low))) (omega arith) put_after)
 
 pub free_is_short : FreeIsShort
 free_is_short chain t = within_by t.route chain t

@@ -1,8 +1,12 @@
 mod AllocBounds
+mod AllocEnds
 mod AllocHands
+mod AllocTellings
+mod CacheSizes
 mod ChainsIn
 mod FreeBounds
 mod Limits
 mod PlacingPaths
+mod Tellings
 mod Turns
 mod Walks

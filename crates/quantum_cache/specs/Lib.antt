@@ -6,3 +6,4 @@ pub mod Laws
 pub mod Reaps
 pub mod Served
 pub mod Sizes
+pub mod Told
