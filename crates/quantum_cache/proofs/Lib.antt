@@ -4,7 +4,10 @@ mod AllocHands
 mod AllocTellings
 mod CacheSizes
 mod ChainsIn
+mod EmptyingHands
 mod FreeBounds
+mod FreeHands
+mod FreeTellings
 mod Limits
 mod PlacingPaths
 mod Tellings
