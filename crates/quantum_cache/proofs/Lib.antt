@@ -1,3 +1,4 @@
+pub mod LawProofs
 mod AllocBounds
 mod AllocEnds
 mod AllocHands
@@ -10,6 +11,7 @@ mod FreeHands
 mod FreeTellings
 mod Limits
 mod PlacingPaths
+mod ReapBounds
 mod Tellings
 mod Turns
 mod Walks

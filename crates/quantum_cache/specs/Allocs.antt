@@ -96,9 +96,9 @@ take_from_slab chain l cache =
 unfoldable pub alloc_cached : List Level → Level → ℕ → ℕ → Plan Climbed
 alloc_cached chain l cache size =
     first_that_gives
-        (take_round l.id cache ∷ take_from_depot l.id cache ∷ take_chunk l.id cache
-            ∷ take_from_slab chain l cache ∷ [])
-        (climb_plan chain size)
+    (take_round l.id cache ∷ take_from_depot l.id cache ∷ take_chunk l.id cache
+    ∷ take_from_slab chain l cache ∷ [])
+    (climb_plan chain size)
 
 abbrev pub alloc_by : Option ℕ → List Level → Level → ℕ → Plan Climbed
 alloc_by None chain l size = climb_plan chain size

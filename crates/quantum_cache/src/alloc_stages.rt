@@ -30,12 +30,7 @@ pub(crate) fn round<S: Held, P: Parts<S>>(parts: &mut P, arena: u32, cache: u8) 
 
 // The CPU changes over to magazines of this size, and the next stage is tried.
 #[tactic(auto, using(arena_tree::proofs::LawProofs::ran_ask, arena_tree::proofs::LawProofs::ran_done), unfolding(crate::specs::Allocs::change_over))]
-fn change_over<S: Held, P: Parts<S>>(
-    parts: &mut P,
-    arena: u32,
-    cache: u8,
-    size: usize,
-) -> Stage<S>
+fn change_over<S: Held, P: Parts<S>>(parts: &mut P, arena: u32, cache: u8, size: usize) -> Stage<S>
     ensures ran { Ran P.step P.tree P.count P.rounds (change_over arena cache size)
         parts.old parts.new (tag_stage S.tag result) }
     ensures tree { P.tree parts.new ≡ P.tree parts.old }

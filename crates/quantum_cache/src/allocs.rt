@@ -9,7 +9,7 @@ ghost use Rattle.arena_tree.specs.Tags.{tag_climb, tag_ok};
 ghost use Rattle.quantum_cache.specs.Allocs.{tag_stage, alloc_cached, alloc_plan, xalloc_plan};
 ghost use Rattle.quantum_cache.specs.Served.{IsServed, AsksForNone};
 
-use crate::alloc_stages::{round, depot_round, chunk, slab_chunk};
+use crate::alloc_stages::{chunk, depot_round, round, slab_chunk};
 use crate::sizes::cache_of;
 use arena_tree::{CarveFault, ClimbFault, Level, Parts, climb_alloc};
 use deed_core::{Held, Request};

@@ -44,7 +44,7 @@ fn drain_rounds<S: Held, P: Parts<S>>(
 ) -> Result<(), EmptyingFault<S>>
     ensures ran { (turns : ℕ) → P.rounds parts.old < turns
         → Ran P.step P.tree P.count P.rounds (drain_cache turns arena cache)
-            parts.old parts.new (drain_end (tag_emptied S.tag result)) }
+        parts.old parts.new (drain_end (tag_emptied S.tag result)) }
     ensures no_more { P.rounds parts.new ≤ P.rounds parts.old }
     ensures few { P.count parts.new + P.rounds parts.new ≤ P.count parts.old + P.rounds parts.old }
     ensures tree { P.tree parts.new ≡ P.tree parts.old }
@@ -67,8 +67,8 @@ fn drain_caches<S: Held, P: Parts<S>>(
     requires { left ≤ all }
     ensures ran { (turns : ℕ) → P.rounds parts.old < turns
         → Ran P.step P.tree P.count P.rounds
-            (over_caches (λ cache _. drain_cache turns arena cache) all left tt)
-            parts.old parts.new (drain_end (tag_emptied S.tag result)) }
+        (over_caches (λ cache _. drain_cache turns arena cache) all left tt)
+        parts.old parts.new (drain_end (tag_emptied S.tag result)) }
     ensures no_more { P.rounds parts.new ≤ P.rounds parts.old }
     ensures few { P.count parts.new + P.rounds parts.new ≤ P.count parts.old + P.rounds parts.old }
     ensures tree { P.tree parts.new ≡ P.tree parts.old }
@@ -91,8 +91,8 @@ fn drain_below<S: Held, P: Parts<S>>(
     requires { end ≤ length tree.now }
     ensures ran { (turns : ℕ) → P.rounds parts.old < turns
         → Ran P.step P.tree P.count P.rounds
-            (over_arenas (λ id _. drain_arena turns (chain_in tree.now id)) end tt)
-            parts.old parts.new (drain_end (tag_emptied S.tag result)) }
+        (over_arenas (λ id _. drain_arena turns (chain_in tree.now id)) end tt)
+        parts.old parts.new (drain_end (tag_emptied S.tag result)) }
     ensures no_more { P.rounds parts.new ≤ P.rounds parts.old }
     ensures few { P.count parts.new + P.rounds parts.new ≤ P.count parts.old + P.rounds parts.old }
     ensures tree { P.tree parts.new ≡ P.tree parts.old }
@@ -108,14 +108,11 @@ fn drain_below<S: Held, P: Parts<S>>(
 }
 
 // All caches of the chain's first arena.
-fn drain_chain<S: Held, P: Parts<S>>(
-    parts: &mut P,
-    chain: &[Level],
-) -> Result<(), EmptyingFault<S>>
+fn drain_chain<S: Held, P: Parts<S>>(parts: &mut P, chain: &[Level]) -> Result<(), EmptyingFault<S>>
     requires { All (λ l. 0 < l.quantum) chain.now }
     ensures ran { (turns : ℕ) → P.rounds parts.old < turns
         → Ran P.step P.tree P.count P.rounds (drain_arena turns chain.now)
-            parts.old parts.new (drain_end (tag_emptied S.tag result)) }
+        parts.old parts.new (drain_end (tag_emptied S.tag result)) }
     ensures no_more { P.rounds parts.new ≤ P.rounds parts.old }
     ensures few { P.count parts.new + P.rounds parts.new ≤ P.count parts.old + P.rounds parts.old }
     ensures tree { P.tree parts.new ≡ P.tree parts.old }
@@ -132,7 +129,7 @@ fn drain_chain<S: Held, P: Parts<S>>(
 pub fn drain<S: Held, P: Parts<S>>(parts: &mut P, tree: &Tree) -> Result<(), EmptyingFault<S>>
     ensures ran { (turns : ℕ) → P.rounds parts.old < turns
         → Ran P.step P.tree P.count P.rounds (drain_plan turns tree.now)
-            parts.old parts.new (drain_end (tag_emptied S.tag result)) }
+        parts.old parts.new (drain_end (tag_emptied S.tag result)) }
     ensures few { P.count parts.new + P.rounds parts.new ≤ P.count parts.old + P.rounds parts.old }
     ensures tree { P.tree parts.new ≡ P.tree parts.old }
 {

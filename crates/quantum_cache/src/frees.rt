@@ -91,7 +91,10 @@ fn exchange_and_push<S: Held, P: Parts<S>>(
 
 /// Puts a chunk back into its slab.
 #[tactic(auto, using(arena_tree::proofs::LawProofs::ran_ask, arena_tree::proofs::LawProofs::ran_done), unfolding(crate::specs::Frees::put_chunk))]
-pub(crate) fn put_back<S: Held, P: Parts<S>>(parts: &mut P, segment: S) -> Result<(), ReturnFault<S>>
+pub(crate) fn put_back<S: Held, P: Parts<S>>(
+    parts: &mut P,
+    segment: S,
+) -> Result<(), ReturnFault<S>>
     ensures ran { Ran P.step P.tree P.count P.rounds (put_chunk (S.tag segment))
         parts.old parts.new (tag_return S.tag result) }
     ensures tree { P.tree parts.new ≡ P.tree parts.old }

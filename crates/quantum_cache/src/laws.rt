@@ -23,4 +23,5 @@ pub fn told_laws()
 pub fn lock_laws()
     ensures alloc { AllocIsShort }
     ensures free { FreeIsShort }
+    ensures reap { ReapIsShort }
 {}

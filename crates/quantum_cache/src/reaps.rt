@@ -1,5 +1,7 @@
 //! Reaping: rounds of depots go to their slabs, and complete slabs to their arenas.
-ghost use Rattle.std.specs.Prelude.{◌≡◌, ◌+◌, ◌*◌, ◌^◌, ◌<◌, ◌≤◌, length, Some, IfOk, IfSome};
+ghost use Rattle.std.specs.Prelude.{◌≡◌, ◌+◌, ◌-◌, ◌*◌, ◌^◌, ◌<◌, ◌≤◌, length, Some, IfOk, IfSome};
+ghost use Rattle.arena_tree.specs.declared.limits.TheConstants.{LONGEST_CHAIN};
+ghost use Rattle.quantum_cache.specs.Laws.{looks_left};
 ghost use Rattle.arena_tree.specs.Chains.{IsChain, first_id};
 ghost use Rattle.arena_tree.specs.Plans.{Ran};
 ghost use Rattle.arena_tree.specs.Trees.{nodes_of};
@@ -262,6 +264,8 @@ pub fn reap<S: Held, P: Parts<S>>(
     requires tree { P.tree parts.old ≡ nodes_of tree.now }
     ensures ran { Ran P.step P.tree P.count P.rounds (reap_plan tree.now limit)
         parts.old parts.new (tag_reap S.tag result) }
+    ensures few { P.count parts.new ≤ P.count parts.old
+        + (1 + LONGEST_CHAIN) * (limit - looks_left (tag_reap S.tag result)) }
     ensures tree { P.tree parts.new ≡ P.tree parts.old }
 {
     let start = Reaping {

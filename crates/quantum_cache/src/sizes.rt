@@ -10,7 +10,11 @@ pub(crate) fn cache_of(level: &Level, size: u64) -> Option<u8>
     requires { 0 < level.now.quantum }
     ensures { result ≡ cache_for level.now size }
 {
-    let Level { quantum, qcache_max, .. } = *level;
+    let Level {
+        quantum,
+        qcache_max,
+        ..
+    } = *level;
     let units = Request::plain(size).units(quantum)?;
     if units == 0 || units > qcache_max {
         return None;

@@ -7,7 +7,7 @@ use Rattle.quantum_cache.proofs.reaps.reap_rounds.Given as goal
 abbrev pub invariant-rounds : goal.invariant-rounds
 invariant-rounds g l =
     ((t : g.row.P.Denot) (a : ReapEnd) → Ran g.P.Parts.step g.P.Parts.tree g.P.Parts.count g.P.Parts.rounds (reap_by (reap_round l.arena l.cache) l.reaping) l.parts t a
-        → Ran g.P.Parts.step g.P.Parts.tree g.P.Parts.count g.P.Parts.rounds (reap_by (reap_round l.arena l.cache) l.fn.before) l.fn.parts t a)
+    → Ran g.P.Parts.step g.P.Parts.tree g.P.Parts.count g.P.Parts.rounds (reap_by (reap_round l.arena l.cache) l.fn.before) l.fn.parts t a)
     × CanCount l.reaping
     × (g.P.Parts.tree l.parts ≡ g.P.Parts.tree l.fn.parts)
 
