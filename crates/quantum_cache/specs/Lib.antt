@@ -3,6 +3,7 @@ pub mod Caches
 pub mod Drains
 pub mod Frees
 pub mod Laws
+pub mod Looks
 pub mod Reaps
 pub mod Served
 pub mod Sizes

@@ -1,6 +1,7 @@
 //! Laws of the lists of steps, for the proofs of the layers above. The functions do nothing: their
 //! contracts are the laws, and proofs/LawProofs.antt hands them on.
 ghost use Rattle.quantum_cache.specs.Laws.{AllocHandles, XallocHandles, FreeHandles, DrainHandles, ReapArenaHandles, ReapHandles, AllocIsShort, FreeIsShort, ReapIsShort};
+ghost use Rattle.quantum_cache.specs.Looks.{DrainTells, ReapTells};
 ghost use Rattle.quantum_cache.specs.Told.{AllocTells, FreeTells};
 
 /// What each call leaves in the hand: no segment is lost.
@@ -17,6 +18,8 @@ pub fn hand_laws()
 pub fn told_laws()
     ensures alloc { AllocTells }
     ensures free { FreeTells }
+    ensures drain { DrainTells }
+    ensures reap { ReapTells }
 {}
 
 /// How many locks each call takes; a drain's are paid by rounds, as its clause says.
