@@ -1,5 +1,5 @@
 -- How many locks an allocation takes.
-use Rattle.std.proofs.Common.{◌≡◌, ℕ, ◌+◌, ◌-◌, ◌*◌, ◌≤◌, List, [], ◌∷◌, Option, Some, None, Result, Ok, Err, length, arith}
+use Rattle.std.proofs.Common.{ℕ, ◌+◌, ◌-◌, ◌*◌, ◌≤◌, List, [], ◌∷◌, Option, Some, None, Result, Ok, Err, length, arith}
 use Rattle.deed_core.specs.Tag.{Tag}
 use Rattle.arena_tree.specs.declared.levels.Level.{Level}
 use Rattle.arena_tree.specs.declared.part_faults.ClimbFault.TheVariants as climbing
@@ -11,7 +11,7 @@ use Rattle.arena_tree.specs.Plans.{Plan, Done, then, or_else, Within}
 use Rattle.arena_tree.specs.Climbs.{Climbed, climb_plan, refused_memory, climb_most}
 use Rattle.arena_tree.proofs.LawProofs.{within_then, within_refused, within_climb}
 use Rattle.quantum_cache.specs.Sizes.{cache_for}
-use Rattle.quantum_cache.specs.Allocs.{Stage, take_round, change_over, on_swap_full, take_from_depot, take_chunk, on_slab_add, make_slab, on_slab_climb, take_from_slab, alloc_cached, alloc_by, alloc_plan}
+use Rattle.quantum_cache.specs.Allocs.{Stage, take_round, change_over, on_swap_full, take_from_depot, take_chunk, on_slab_add, make_slab, on_slab_climb, take_from_slab, alloc_cached, alloc_by}
 use Rattle.quantum_cache.specs.Laws.{AllocIsShort}
 
 -- a stage, and those after it

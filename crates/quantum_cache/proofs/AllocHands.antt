@@ -16,7 +16,7 @@ use Rattle.arena_tree.specs.Plans.{Plan, Done, then, or_else, Handles}
 use Rattle.arena_tree.specs.Climbs.{Climbed, climb_plan, climb_left}
 use Rattle.arena_tree.proofs.LawProofs.{handles_then, handles_refused, handles_climb}
 use Rattle.quantum_cache.specs.Sizes.{cache_for}
-use Rattle.quantum_cache.specs.Allocs.{Stage, on_take, take_round, on_change_over, change_over, on_swap_full, take_from_depot, take_chunk, on_slab_add, make_slab, on_slab_climb, take_from_slab, alloc_cached, alloc_by, alloc_plan, xalloc_plan}
+use Rattle.quantum_cache.specs.Allocs.{Stage, on_take, take_round, on_change_over, change_over, on_swap_full, take_from_depot, take_chunk, on_slab_add, make_slab, on_slab_climb, take_from_slab, alloc_cached, alloc_by}
 use Rattle.quantum_cache.specs.Laws.{carve_left, AllocHandles, XallocHandles}
 
 handles_or_else : {A : Type 0} (left : A → Option Tag) (stage : Option A → Option Tag) (p : Plan (Option A)) (q : Plan A) (h : Option Tag) → Handles stage p h → ((a : A) → stage (Some a) ≡ left a) → Handles left q (stage None) → Handles left (then p (or_else q)) h

@@ -1,5 +1,5 @@
 -- What an allocation tells.
-use Rattle.std.proofs.Common.{◌≡◌, ℕ, List, [], ◌∷◌, ◌++◌, Option, Some, None, Result, Ok, Err, refl, sym, subst, ap, inl, inr, ◌∙◌}
+use Rattle.std.proofs.Common.{◌≡◌, ℕ, List, [], ◌∷◌, Option, Some, None, Result, Ok, Err, refl, sym, ap, inl, inr, ◌∙◌}
 use Rattle.deed_core.specs.Tag.{Tag}
 use Rattle.arena_tree.specs.declared.levels.Level.{Level}
 use Rattle.arena_tree.specs.declared.part_faults.ChangeFault.{ChangeFault}
@@ -14,14 +14,14 @@ use Rattle.arena_tree.specs.declared.part_faults.Stopped.{Stopped}
 use Rattle.arena_tree.specs.Chains.{Node, IsChain, IsCachedChunk, first_id}
 use Rattle.arena_tree.specs.Events.{SlabTake, SlabAdd, SwapFull, Pop, Change}
 use Rattle.arena_tree.specs.Sound.{Sound, SoundTake}
-use Rattle.arena_tree.specs.Plans.{Plan, Done, Ask, then, or_else}
+use Rattle.arena_tree.specs.Plans.{Plan, Done, then, or_else}
 use Rattle.arena_tree.specs.Climbs.{Climbed, Returned, climb_plan, return_plan, refused_memory}
 use Rattle.arena_tree.specs.Told.{Answered, Tells, ClimbTold, ReturnTold}
 use Rattle.arena_tree.proofs.LawProofs.{tells_then, climb_tells, return_tells}
 use Rattle.quantum_cache.specs.Sizes.{cache_for}
-use Rattle.quantum_cache.specs.Allocs.{Stage, on_take, take_round, on_change_over, change_over, on_swap_full, take_from_depot, take_chunk, on_slab_add, make_slab, on_slab_climb, take_from_slab, alloc_cached, alloc_by, alloc_plan}
+use Rattle.quantum_cache.specs.Allocs.{Stage, on_take, take_round, on_change_over, change_over, on_swap_full, take_from_depot, take_chunk, on_slab_add, make_slab, on_slab_climb, take_from_slab, alloc_cached, alloc_by}
 use Rattle.quantum_cache.specs.Served.{IsServedOf}
-use Rattle.quantum_cache.specs.Told.{AllocTold, AllocTells, none_fitted}
+use Rattle.quantum_cache.specs.Told.{AllocTold, AllocTells}
 use Rattle.quantum_cache.proofs.CacheSizes.{chunk_serves}
 use Rattle.quantum_cache.proofs.Tellings.{answered, After, IfNone, tells_after, tells_both, tells_so, just_refused, climb_none}
 

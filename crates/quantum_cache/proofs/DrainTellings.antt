@@ -9,13 +9,13 @@ use Rattle.arena_tree.specs.declared.part_faults.Stopped.{Stopped}
 use Rattle.arena_tree.specs.declared.trees.TreeArena.{TreeArena}
 use Rattle.arena_tree.specs.Chains.{Node}
 use Rattle.arena_tree.specs.Climbs.{Returned}
-use Rattle.arena_tree.specs.Events.{Event, Pop}
-use Rattle.arena_tree.specs.Plans.{Plan, Done, then}
+use Rattle.arena_tree.specs.Events.{Pop}
+use Rattle.arena_tree.specs.Plans.{Plan, Done}
 use Rattle.arena_tree.specs.Told.{Answered, Tells}
 use Rattle.arena_tree.specs.Trees.{level_of}
 use Rattle.arena_tree.proofs.LawProofs.{tells_then}
 use Rattle.quantum_cache.specs.declared.emptying_faults.EmptyingFault.{EmptyingFault}
-use Rattle.quantum_cache.specs.Caches.{chain_on, chain_up, chain_in, over_caches}
+use Rattle.quantum_cache.specs.Caches.{chain_on, chain_up, chain_in}
 use Rattle.quantum_cache.specs.Drains.{Turn, Drained, on_put_back, on_drain_pop, drain_turn, on_turn, drain_cache, drain_arena, drain_plan}
 use Rattle.quantum_cache.specs.Frees.{put_chunk}
 use Rattle.quantum_cache.specs.Looks.{WasLast, EmptyingTold, DrainTold, DrainTells}

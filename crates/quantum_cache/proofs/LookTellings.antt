@@ -1,32 +1,21 @@
 -- What a drain and a reaping tell of their last looks.
-use Rattle.std.proofs.Common.{◌≡◌, ◌≢◌, ℕ, ◌+◌, ◌-◌, ◌<◌, ◌≤◌, zero, suc, List, [], ◌∷◌, Option, Some, None, Result, Ok, Err, length, refl, inl, inr, arith, subst, sym, ap, ◌∙◌}
+use Rattle.std.proofs.Common.{◌≢◌, ℕ, ◌+◌, ◌-◌, ◌<◌, ◌≤◌, zero, suc, List, [], ◌∷◌, Option, Some, None, Result, Ok, Err, inl, inr, arith, subst, sym}
 use Rattle.std.proofs.lemmas.Bool.{cases_eq}
-use Rattle.std.specs.Prelude.{slice_get}
 use Rattle.deed_core.specs.Tag.{Tag}
 use Rattle.arena_tree.specs.declared.levels.Level.{Level}
 use Rattle.arena_tree.specs.declared.part_faults.FreeFault.{FreeFault}
 use Rattle.arena_tree.specs.declared.part_faults.FreeFault.TheVariants as freeing
-use Rattle.arena_tree.specs.declared.part_faults.ReturnFault.TheVariants as returning
 use Rattle.arena_tree.specs.declared.part_faults.Stopped.{Stopped}
-use Rattle.arena_tree.specs.declared.trees.TreeArena.{TreeArena}
-use Rattle.arena_tree.specs.Chains.{Node, IsChain}
-use Rattle.arena_tree.specs.Climbs.{Returned, return_plan, on_free}
-use Rattle.arena_tree.specs.Events.{Event, AnswerTo, Free, SlabPut, SlabReap, DepotReap, Pop}
+use Rattle.arena_tree.specs.Chains.{Node}
+use Rattle.arena_tree.specs.Climbs.{return_plan, on_free}
+use Rattle.arena_tree.specs.Events.{Event, AnswerTo, Free, SlabPut, SlabReap, DepotReap}
 use Rattle.arena_tree.specs.Plans.{Plan, Done, Ask, then}
-use Rattle.arena_tree.specs.Sound.{Sound}
 use Rattle.arena_tree.specs.Told.{Answered, Tells}
-use Rattle.arena_tree.specs.Trees.{nodes_of, level_of}
 use Rattle.arena_tree.proofs.LawProofs.{tells_then}
-use Rattle.quantum_cache.specs.declared.emptying_faults.EmptyingFault.{EmptyingFault}
-use Rattle.quantum_cache.specs.declared.reaps.Reaping.{Reaping}
-use Rattle.quantum_cache.specs.declared.reaps.ReapFault.{ReapFault}
-use Rattle.quantum_cache.specs.Caches.{chain_on, chain_up, chain_in, if_ok, over_caches, over_arenas}
+use Rattle.quantum_cache.specs.Caches.{if_ok, over_caches, over_arenas}
 use Rattle.quantum_cache.specs.Frees.{put_chunk}
 use Rattle.quantum_cache.specs.Looks.{WasLast}
-use Rattle.quantum_cache.specs.Reaps.{Reaped, ReapEnd, on_return, on_depot_reap, reap_round, on_slab_reap, reap_slab, on_look, up_to, reap_by, reap_cache, reap_arena_plan, reap_plan}
-use Rattle.quantum_cache.specs.Sizes.{caches_in}
-use Rattle.quantum_cache.specs.Told.{FreeTold}
-use Rattle.quantum_cache.proofs.FreeTellings.{told_put, told_return}
+use Rattle.quantum_cache.specs.Reaps.{Reaped, on_return, on_depot_reap, reap_round, on_slab_reap, reap_slab, on_look, up_to}
 use Rattle.quantum_cache.proofs.Tellings.{answered, tells_both, tells_so}
 
 -- for all, where it is so for each

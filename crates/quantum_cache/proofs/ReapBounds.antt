@@ -1,5 +1,5 @@
 -- How many locks a reaping takes.
-use Rattle.std.proofs.Common.{◌≡◌, ℕ, ◌+◌, ◌-◌, ◌*◌, ◌<◌, ◌≤◌, zero, suc, List, [], ◌∷◌, Option, Some, None, Result, Ok, Err, length, refl, arith, subst}
+use Rattle.std.proofs.Common.{ℕ, ◌+◌, ◌-◌, ◌*◌, ◌≤◌, zero, suc, List, [], ◌∷◌, Option, Some, None, Result, Ok, Err, length, arith}
 use Rattle.std.specs.Prelude.{slice_get}
 use Rattle.deed_core.specs.Tag.{Tag}
 use Rattle.arena_tree.specs.declared.levels.Level.{Level}
@@ -10,7 +10,6 @@ use Rattle.arena_tree.specs.Plans.{Plan, Done, Ask, then, Within}
 use Rattle.arena_tree.specs.Climbs.{Returned, return_plan}
 use Rattle.arena_tree.proofs.LawProofs.{within_then, within_return}
 use Rattle.quantum_cache.specs.declared.reaps.Reaping.{Reaping}
-use Rattle.quantum_cache.specs.declared.reaps.ReapFault.{ReapFault}
 use Rattle.quantum_cache.specs.Caches.{chain_on, chain_up, chain_in, if_ok, over_caches, over_arenas}
 use Rattle.quantum_cache.specs.Frees.{put_chunk}
 use Rattle.quantum_cache.specs.Laws.{looks_left, ReapIsShort}

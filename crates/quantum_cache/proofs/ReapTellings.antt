@@ -10,15 +10,14 @@ use Rattle.arena_tree.specs.declared.trees.TreeArena.{TreeArena}
 use Rattle.arena_tree.specs.Chains.{Node, IsChain}
 use Rattle.arena_tree.specs.Climbs.{Returned, return_plan}
 use Rattle.arena_tree.specs.Events.{Event, SlabReap, DepotReap}
-use Rattle.arena_tree.specs.Plans.{Plan, Done, then}
+use Rattle.arena_tree.specs.Plans.{Plan, Done}
 use Rattle.arena_tree.specs.Sound.{Sound}
 use Rattle.arena_tree.specs.Told.{Answered, Tells}
 use Rattle.arena_tree.specs.Trees.{nodes_of, level_of}
 use Rattle.arena_tree.proofs.LawProofs.{tells_then}
-use Rattle.quantum_cache.specs.declared.emptying_faults.EmptyingFault.{EmptyingFault}
 use Rattle.quantum_cache.specs.declared.reaps.Reaping.{Reaping}
 use Rattle.quantum_cache.specs.declared.reaps.ReapFault.{ReapFault}
-use Rattle.quantum_cache.specs.Caches.{chain_on, chain_up, chain_in, if_ok, over_caches}
+use Rattle.quantum_cache.specs.Caches.{chain_on, chain_up, chain_in, if_ok}
 use Rattle.quantum_cache.specs.Frees.{put_chunk}
 use Rattle.quantum_cache.specs.Looks.{WasLast, NothingToReap, EmptyingTold, ReapTold, ReapTells}
 use Rattle.quantum_cache.specs.Reaps.{Reaped, ReapEnd, on_return, on_depot_reap, reap_round, on_slab_reap, reap_slab, on_look, up_to, reap_by, reap_cache, reap_arena_plan, reap_plan}

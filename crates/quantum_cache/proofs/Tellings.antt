@@ -1,5 +1,5 @@
 -- What lists of steps tell, put together.
-use Rattle.std.proofs.Common.{◌≡◌, ℕ, List, [], ◌∷◌, ◌++◌, Some, None, Result, Ok, Err, refl, sym, subst}
+use Rattle.std.proofs.Common.{◌≡◌, ℕ, List, [], ◌∷◌, ◌++◌, Result, Ok, Err, refl, sym, subst}
 use Rattle.deed_core.specs.Request.{plain_of}
 use Rattle.deed_core.specs.Tag.{Tag}
 use Rattle.arena_tree.specs.declared.levels.Level.{Level}
@@ -13,7 +13,6 @@ use Rattle.arena_tree.specs.Chains.{Node, amount_of}
 use Rattle.arena_tree.specs.Climbs.{Climbed, Returned, return_plan, refused_memory, on_add, on_import, on_carve, climb_plan}
 use Rattle.arena_tree.specs.Events.{Event, AnswerTo, Carve, Free, AddCarve, SlabTake, SlabPut, SlabAdd, SlabReap, SwapFull, SwapEmpty, SwapFresh, DepotReap, Pop, Push, Change}
 use Rattle.arena_tree.specs.Plans.{Plan, Done, Ask, then}
-use Rattle.arena_tree.specs.Sound.{Sound}
 use Rattle.arena_tree.specs.Told.{Answered, Tells, IsRefusalOf, WasRefused}
 use Rattle.arena_tree.proofs.LawProofs.{tells_then}
 use Rattle.quantum_cache.specs.Told.{PartRefuses, JustRefused, none_fitted}

@@ -1,5 +1,5 @@
 -- Caches and arenas one after another.
-use Rattle.std.proofs.Common.{◌≡◌, ℕ, ◌+◌, ◌-◌, ◌<◌, ◌≤◌, zero, suc, List, Result, Ok, Err, subst, sym, arith}
+use Rattle.std.proofs.Common.{◌≡◌, ℕ, ◌+◌, ◌-◌, ◌<◌, ◌≤◌, zero, suc, List, Result, Ok, Err, subst, arith}
 use Rattle.arena_tree.specs.Chains.{Node}
 use Rattle.arena_tree.specs.Events.{Event, AnswerTo}
 use Rattle.arena_tree.specs.Plans.{Plan, Ran}

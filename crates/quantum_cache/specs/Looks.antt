@@ -1,8 +1,7 @@
 -- The last look at a depot, a slab cache or the CPU's magazines, and what a drain and a reaping tell
 -- of it.
-use Rattle.std.specs.Prelude.{◌≡◌, ◌≢◌, ◌⊎◌, ℕ, ◌<◌, ◌≤◌, List, [], ◌∷◌, Option, Some, None, Result, Ok, Err, length, slice_get}
+use Rattle.std.specs.Prelude.{◌≡◌, ◌≢◌, ◌⊎◌, ℕ, ◌<◌, ◌≤◌, List, [], ◌∷◌, Some, None, Ok, Err, length, slice_get}
 use Rattle.deed_core.specs.Tag.{Tag}
-use Rattle.arena_tree.specs.declared.levels.Level.{Level}
 use Rattle.arena_tree.specs.declared.trees.TreeArena.{TreeArena}
 use Rattle.arena_tree.specs.Chains.{Node, IsChain}
 use Rattle.arena_tree.specs.Events.{Event, AnswerTo, SlabReap, DepotReap, Pop}

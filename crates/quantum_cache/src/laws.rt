@@ -14,7 +14,8 @@ pub fn hand_laws()
     ensures reap { ReapHandles }
 {}
 
-/// What each end tells of the way.
+/// What each end tells of the way: when a request is refused, when a segment comes back, and that a
+/// drain and a reaping that end by themselves have found nothing at their last looks.
 pub fn told_laws()
     ensures alloc { AllocTells }
     ensures free { FreeTells }

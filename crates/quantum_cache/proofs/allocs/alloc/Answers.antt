@@ -1,6 +1,5 @@
-use Rattle.std.proofs.Common.{◌≡◌, ◌+◌, ◌*◌, ap, length, Ok, Err, Result}
+use Rattle.std.proofs.Common.{◌≡◌, ◌+◌, ◌*◌, ap, length, Err}
 use Rattle.std.specs.Prelude.{IfOk}
-use Rattle.deed_core.specs.Tag.{Tag}
 use Rattle.arena_tree.specs.declared.part_faults.ClimbFault.TheVariants as climbing
 use Rattle.arena_tree.specs.Climbs.{Climbed}
 use Rattle.arena_tree.specs.Tags.{tag_climb}

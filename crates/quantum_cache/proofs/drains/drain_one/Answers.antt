@@ -1,4 +1,3 @@
-use Rattle.std.proofs.Common.{ℕ, arith}
 use Rattle.arena_tree.proofs.LawProofs.{ran_counts}
 use Rattle.arena_tree.specs.Climbs.{Returned}
 use Rattle.quantum_cache.specs.Frees.{put_chunk}
