@@ -51,8 +51,8 @@ on_drain_pop (Err e) = Done (Some (Err (emptying.Stopped None)))
 unfoldable pub drain_turn : ℕ → ℕ → Plan Turn
 drain_turn arena cache = Ask (Pop arena cache) on_drain_pop
 
--- what a drain ends with; Err None where the turns ran out, which more turns than the magazines have
--- rounds never do
+-- what a drain ends with; Err None where the turns ran out, which more turns than the magazines
+-- have rounds never do
 abbrev pub Drained : Type 0
 Drained = Result (Unit {0}) (Option (EmptyingFault Tag))
 

@@ -1,5 +1,5 @@
--- Laws of the lists of steps through caches, over all chains and trees: where each segment is, and how
--- many locks they take.
+-- Laws of the lists of steps through caches, over all chains and trees: where each segment is, and
+-- how many locks they take.
 use Rattle.std.specs.Prelude.{ℕ, ◌+◌, ◌-◌, ◌*◌, ◌≤◌, List, Option, Some, None, Result, Ok, Err, length}
 use Rattle.deed_core.specs.Tag.{Tag}
 use Rattle.deed_core.specs.declared.requests.Request.{Request}
@@ -38,21 +38,23 @@ reap_left (Ok r) = None
 reap_left (Err f) = emptying_left f.cause
 
 -- An allocation begins with an empty hand. It ends with the segment that it gives, with an empty
--- hand, or with the one segment that a part refused or that wasn't placed any more: all else that it
--- took it has put into a part, or left in the CPU's magazines.
+-- hand, or with the one segment that a part refused or that wasn't placed any more: all else that
+-- it took it has put into a part, or left in the CPU's magazines.
 abbrev pub AllocHandles : Type 0
 AllocHandles = (chain : List Level) (size : ℕ) → Handles climb_left (alloc_plan chain size) None
 
 -- So does one of a constrained request, which has nothing in its hand but what it gives.
 abbrev pub XallocHandles : Type 0
-XallocHandles = (arena : ℕ) (request : Request) → Handles carve_left (xalloc_plan arena request) None
+XallocHandles = (arena : ℕ) (request : Request)
+    → Handles carve_left (xalloc_plan arena request) None
 
 -- A free begins with its segment in the hand, and ends with an empty hand, or with the segment that
 -- wasn't placed.
 abbrev pub FreeHandles : Type 0
 FreeHandles = (chain : List Level) (t : Tag) → Handles return_left (free_plan chain t) (Some t)
 
--- A drain and a reaping begin with an empty hand, and end so, or with the segment that wasn't placed.
+-- A drain and a reaping begin with an empty hand, and end so, or with the segment that wasn't
+-- placed.
 abbrev pub DrainHandles : Type 0
 DrainHandles = (turns : ℕ) (arenas : List TreeArena)
     → Handles drain_left (drain_plan turns arenas) None
@@ -87,4 +89,5 @@ looks_left (Err f) = f.reaping.left
 -- A reaping takes at most five for each look: its own, and those of a hand back.
 abbrev pub ReapIsShort : Type 0
 ReapIsShort = (arenas : List TreeArena) (limit : ℕ)
-    → Within (λ (r : ReapEnd). (1 + LONGEST_CHAIN) * (limit - looks_left r)) (reap_plan arenas limit) 0
+    → Within (λ (r : ReapEnd). (1 + LONGEST_CHAIN) * (limit - looks_left r))
+    (reap_plan arenas limit) 0

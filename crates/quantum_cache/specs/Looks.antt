@@ -1,5 +1,5 @@
--- The last look at a depot, a slab cache or the CPU's magazines, and what a drain and a reaping tell
--- of it.
+-- The last look at a depot, a slab cache or the CPU's magazines, and what a drain and a reaping
+-- tell of it.
 use Rattle.std.specs.Prelude.{◌≡◌, ◌≢◌, ◌⊎◌, ℕ, ◌<◌, ◌≤◌, List, [], ◌∷◌, Some, None, Ok, Err, length, slice_get}
 use Rattle.deed_core.specs.Tag.{Tag}
 use Rattle.arena_tree.specs.declared.trees.TreeArena.{TreeArena}
@@ -42,7 +42,8 @@ ReapTold arenas told (Err f) = EmptyingTold told f.cause
 
 -- a drain ends well only where the last pop of each cache found nothing
 abbrev pub DrainTold : List TreeArena → List Answered → Drained → Type 0
-DrainTold arenas told (Ok u) = OfEachCache arenas (λ id cache. WasLast (Pop id cache) (Ok None) told)
+DrainTold arenas told (Ok u) =
+    OfEachCache arenas (λ id cache. WasLast (Pop id cache) (Ok None) told)
 DrainTold arenas told (Err None) = Unit {0}
 DrainTold arenas told (Err (Some f)) = EmptyingTold told f
 

@@ -17,6 +17,7 @@ is_cached l size = nat_lt 0 size && nat_le (rounded l.quantum size) l.qcache_max
 abbrev pub cache_for : Level → ℕ → Option ℕ
 cache_for l size = if is_cached l size then Some (quanta_for l size) else None
 
--- how many caches an arena has: one for each number of quanta up to the greatest size that it caches
+-- how many caches an arena has: one for each number of quanta up to the greatest size that it
+-- caches
 abbrev pub caches_in : Level → ℕ
 caches_in l = min (l.qcache_max / l.quantum) 255

@@ -57,9 +57,9 @@ none_fitted (l ∷ up) n before = none_fitted up (amount_of l up n)
 abbrev pub NoneFitted : List Level → ℕ → List Answered → Type 0
 NoneFitted chain n told = (before : List Answered) × (told ≡ none_fitted chain n before)
 
--- what an allocation ends with: a segment that serves; for no units alone a bad request; NoFit where
--- the last that was asked of each arena of the chain, the first among them, was a carve of the size
--- or of its import amount, which found no choice; a segment where a part has just refused it
+-- what an allocation ends with: a segment that serves; for no units alone a bad request; NoFit
+-- where the last that was asked of each arena of the chain, the first among them, was a carve of the
+-- size or of its import amount, which found no choice; a segment where a part has just refused it
 abbrev pub AllocTold : List Node → List Level → ℕ → List Answered → Climbed → Type 0
 AllocTold nodes chain size told (Ok t) = IsServed nodes chain size t
 AllocTold nodes chain size told (Err climbing.BadRequest) = AsksForNone chain size
@@ -79,7 +79,8 @@ abbrev pub AllocTells : Type 0
 AllocTells = (nodes : List Node) (chain : List Level) (size : ℕ) → IsChain nodes chain
     → Tells nodes (AllocTold nodes chain size) (alloc_plan chain size) []
 
--- A free by the chain of the segment's arena is stuck only where a part has just refused the segment.
+-- A free by the chain of the segment's arena is stuck only where a part has just refused the
+-- segment.
 abbrev pub FreeTells : Type 0
 FreeTells = (nodes : List Node) (chain : List Level) (t : Tag) → IsChain nodes chain
     → first_id chain ≡ Some t.arena → Tells nodes FreeTold (free_plan chain t) []

@@ -233,9 +233,9 @@ fn reap_below<S: Held, P: Parts<S>>(
 }
 
 /// Reaps all caches of the chain's first arena, from the least size: rounds that the depot may let
-/// go move to their slabs, and then slabs of which no chunk is out to the arena, and spans that they
-/// make whole to its source. It looks at most `limit` times. The Slab Allocator 1994; Magazines and
-/// Vmem 2001.
+/// go move to their slabs, and then slabs of which no chunk is out to the arena, and spans that
+/// they make whole to its source. It looks at most `limit` times. The Slab Allocator 1994;
+/// Magazines and Vmem 2001.
 pub fn reap_arena<S: Held, P: Parts<S>>(
     parts: &mut P,
     chain: &[Level],
@@ -254,8 +254,8 @@ pub fn reap_arena<S: Held, P: Parts<S>>(
     reap_chain(parts, chain, start)
 }
 
-/// Reaps all arenas of the tree, the last first, each as `reap_arena` does, in at most `limit` looks
-/// in all.
+/// Reaps all arenas of the tree, the last first, each as `reap_arena` does, in at most `limit`
+/// looks in all.
 pub fn reap<S: Held, P: Parts<S>>(
     parts: &mut P,
     tree: &Tree,
