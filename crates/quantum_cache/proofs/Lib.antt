@@ -1,0 +1,20 @@
+pub mod LawProofs
+mod AllocBounds
+mod AllocEnds
+mod AllocHands
+mod AllocTellings
+mod CacheSizes
+mod ChainsIn
+mod DrainTellings
+mod EmptyingHands
+mod FreeBounds
+mod FreeHands
+mod FreeTellings
+mod Limits
+mod LookTellings
+mod PlacingPaths
+mod ReapBounds
+mod ReapTellings
+mod Tellings
+mod Turns
+mod Walks

@@ -1,0 +1,10 @@
+pub mod Allocs
+pub mod Caches
+pub mod Drains
+pub mod Frees
+pub mod Laws
+pub mod Looks
+pub mod Reaps
+pub mod Served
+pub mod Sizes
+pub mod Told

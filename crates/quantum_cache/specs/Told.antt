@@ -1,0 +1,86 @@
+-- What the lists of steps through caches end with, by what was answered on their way.
+use Rattle.std.specs.Prelude.{◌≡◌, ℕ, List, [], ◌∷◌, Some, Result, Ok, Err}
+use Rattle.deed_core.specs.Tag.{Tag}
+use Rattle.deed_core.specs.Request.{plain_of}
+use Rattle.arena_tree.specs.declared.levels.Level.{Level}
+use Rattle.arena_tree.specs.declared.part_faults.CarveFault.TheVariants as carving
+use Rattle.arena_tree.specs.declared.part_faults.ClimbFault.TheVariants as climbing
+use Rattle.arena_tree.specs.declared.part_faults.ReturnFault.TheVariants as returning
+use Rattle.arena_tree.specs.declared.part_faults.SlabAddFault.{SlabAddFault}
+use Rattle.arena_tree.specs.declared.part_faults.SlabAddFault.TheVariants as slabbing
+use Rattle.arena_tree.specs.declared.part_faults.SlabPutFault.{SlabPutFault}
+use Rattle.arena_tree.specs.declared.part_faults.SlabPutFault.TheVariants as putting
+use Rattle.arena_tree.specs.Chains.{Node, IsChain, amount_of, first_id}
+use Rattle.arena_tree.specs.Climbs.{Climbed, Returned}
+use Rattle.arena_tree.specs.Events.{Event, AnswerTo, Carve, Free, AddCarve, SlabPut, SlabAdd}
+use Rattle.arena_tree.specs.Told.{Answered, Tells, IsRefusalOf}
+use Rattle.quantum_cache.specs.Allocs.{alloc_plan}
+use Rattle.quantum_cache.specs.Frees.{free_plan}
+use Rattle.quantum_cache.specs.Served.{IsServed, AsksForNone}
+
+-- a slab cache refused the segment, for another reason than memory or a stop
+abbrev pub RefusesInPut : Tag → Result (Unit {0}) (SlabPutFault Tag) → Type 0
+RefusesInPut t (Ok u) = ⊥
+RefusesInPut t (Err (putting.NotMine back)) = back ≡ t
+RefusesInPut t (Err (putting.AtHome back)) = back ≡ t
+RefusesInPut t (Err (putting.Stopped back)) = ⊥
+
+abbrev pub RefusesInSlab : Tag → Result Tag (SlabAddFault Tag) → Type 0
+RefusesInSlab t (Ok first) = ⊥
+RefusesInSlab t (Err (slabbing.WrongSize back)) = back ≡ t
+RefusesInSlab t (Err (slabbing.Overlaps back)) = back ≡ t
+RefusesInSlab t (Err (slabbing.NoMemory back)) = ⊥
+RefusesInSlab t (Err (slabbing.Stopped back)) = ⊥
+
+-- a part did
+abbrev pub PartRefuses : Tag → (e : Event) → AnswerTo e → Type 0
+PartRefuses t (Carve arena request) a = ⊥
+PartRefuses t (Free given) a = IsRefusalOf t (Free given) a
+PartRefuses t (AddCarve child given size) a = IsRefusalOf t (AddCarve child given size) a
+PartRefuses t (SlabPut given) a = RefusesInPut t a
+PartRefuses t (SlabAdd arena cache given) a = RefusesInSlab t a
+PartRefuses t _ a = ⊥
+
+-- that was the last answer
+abbrev pub JustRefused : Tag → List Answered → Type 0
+JustRefused t [] = ⊥
+JustRefused t (last ∷ told) = PartRefuses t last.event last.answer
+
+-- what was answered once each arena of the chain, from the first on, was asked to carve, each what
+-- the one before would import, and nothing fitted: the last first, before what was answered by then
+abbrev pub none_fitted : List Level → ℕ → List Answered → List Answered
+none_fitted [] n before = before
+none_fitted (l ∷ up) n before = none_fitted up (amount_of l up n)
+    (record { event = Carve l.id (plain_of n); answer = Err carving.NoFit } ∷ before)
+
+-- these were the last answers
+abbrev pub NoneFitted : List Level → ℕ → List Answered → Type 0
+NoneFitted chain n told = (before : List Answered) × (told ≡ none_fitted chain n before)
+
+-- what an allocation ends with: a segment that serves; for no units alone a bad request; NoFit
+-- where the last that was asked of each arena of the chain, the first among them, was a carve of the
+-- size or of its import amount, which found no choice; a segment where a part has just refused it
+abbrev pub AllocTold : List Node → List Level → ℕ → List Answered → Climbed → Type 0
+AllocTold nodes chain size told (Ok t) = IsServed nodes chain size t
+AllocTold nodes chain size told (Err climbing.BadRequest) = AsksForNone chain size
+AllocTold nodes chain size told (Err climbing.NoFit) = NoneFitted chain size told
+AllocTold nodes chain size told (Err climbing.NoMemory) = Unit {0}
+AllocTold nodes chain size told (Err (climbing.Stuck t)) = JustRefused t told
+AllocTold nodes chain size told (Err (climbing.Stopped o)) = Unit {0}
+
+-- a free
+abbrev pub FreeTold : List Answered → Returned → Type 0
+FreeTold told (Ok u) = Unit {0}
+FreeTold told (Err (returning.Stuck t)) = JustRefused t told
+FreeTold told (Err (returning.Stopped t)) = Unit {0}
+
+-- An allocation by a chain of the tree ends so.
+abbrev pub AllocTells : Type 0
+AllocTells = (nodes : List Node) (chain : List Level) (size : ℕ) → IsChain nodes chain
+    → Tells nodes (AllocTold nodes chain size) (alloc_plan chain size) []
+
+-- A free by the chain of the segment's arena is stuck only where a part has just refused the
+-- segment.
+abbrev pub FreeTells : Type 0
+FreeTells = (nodes : List Node) (chain : List Level) (t : Tag) → IsChain nodes chain
+    → first_id chain ≡ Some t.arena → Tells nodes FreeTold (free_plan chain t) []
