@@ -1,0 +1,3 @@
+mod Trees
+mod Sounds
+mod Wholes

@@ -1,0 +1,5 @@
+//! wip
+#![tactic(auto)]
+
+mod arena_events;
+mod cache_events;
