@@ -1,3 +1,4 @@
 mod Trees
 mod Sounds
 mod Wholes
+mod Rows

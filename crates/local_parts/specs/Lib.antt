@@ -4,3 +4,4 @@ pub mod Words
 pub mod SharedSteps
 pub mod OwnSteps
 pub mod Steps
+pub mod OwnChanges

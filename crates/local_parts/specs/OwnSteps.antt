@@ -78,31 +78,41 @@ DoesChange old k c size a new = ((a ≡ Ok tt) × OnServed old k c (ChangesTo si
     ⊎ ((a ≡ Err changing.NoMemory) × IsUnchanged old new)
     ⊎ ((a ≡ Err changing.NotGreater) × NoneServed old k c (CanChange size) × IsUnchanged old new)
 
--- a full magazine came for an empty one, or was refused; NoneFull too where the CPU's magazines
--- aren't both empty, or no cache serves it
-abbrev pub DoesSwapFull : LocalState → ℕ → ℕ → Result (Unit {0}) SwapFullFault → LocalState
-    → Type 0
-DoesSwapFull old k c a new = ((r : Result (Unit {0}) FullFault) × (a ≡ in_words full_word r)
-        × OnExchange old k c (λ x d y e. SwapFullOf x d r y e) new)
-    ⊎ ((a ≡ Err NoneFull) × NoneServed old k c (λ o. BothEmpty o.cpu) × IsUnchanged old new)
+-- a full magazine came for an empty one, or was refused
+pub record SwapsFull (a : Result (Unit {0}) SwapFullFault) (x : CpuCacheState) (d : DepotState)
+    (y : CpuCacheState) (e : DepotState) : Type 0 where
+  pub r : Result (Unit {0}) FullFault
+  pub did : SwapFullOf x d r y e
+  pub told : a ≡ in_words full_word r
 
--- an empty magazine came for a full one, or was refused; NoneEmpty too where the CPU's magazines
--- aren't both full, or no cache serves it
-abbrev pub DoesSwapEmpty : LocalState → ℕ → ℕ → Result (Unit {0}) SwapEmptyFault → LocalState
-    → Type 0
-DoesSwapEmpty old k c a new = ((r : Result (Unit {0}) EmptyFault) × (a ≡ in_words empty_word r)
-        × OnExchange old k c (λ x d y e. SwapEmptyOf x d r y e) new)
-    ⊎ ((a ≡ Err NoneEmpty) × NoneServed old k c (λ o. BothFull o.cpu) × IsUnchanged old new)
+-- an empty magazine came for a full one, or was refused
+pub record SwapsEmpty (a : Result (Unit {0}) SwapEmptyFault) (x : CpuCacheState) (d : DepotState)
+    (y : CpuCacheState) (e : DepotState) : Type 0 where
+  pub r : Result (Unit {0}) EmptyFault
+  pub did : SwapEmptyOf x d r y e
+  pub told : a ≡ in_words empty_word r
 
--- a fresh magazine came for a full one, or the size is an old one
+-- a fresh magazine of the CPU's size came for a full one, or was refused
 pub record SwapsFresh (a : Result (Unit {0}) SwapFreshFault) (x : CpuCacheState) (d : DepotState)
     (y : CpuCacheState) (e : DepotState) : Type 0 where
   pub r : Result (Unit {0}) (PutFullFault MagazineState)
   pub did : PutFullOf x d (empty_magazine x.size) r y e
   pub told : a ≡ in_words fresh_word r
 
--- it did, or was refused; NoMemory too where the CPU's magazines aren't both full, or no cache
--- serves it
+-- NoneFull comes too where the CPU's magazines aren't both empty, or no cache serves it
+abbrev pub DoesSwapFull : LocalState → ℕ → ℕ → Result (Unit {0}) SwapFullFault → LocalState
+    → Type 0
+DoesSwapFull old k c a new = OnExchange old k c (SwapsFull a) new
+    ⊎ ((a ≡ Err NoneFull) × NoneServed old k c (λ o. BothEmpty o.cpu) × IsUnchanged old new)
+
+-- NoneEmpty comes too where the CPU's magazines aren't both full, or no cache serves it
+abbrev pub DoesSwapEmpty : LocalState → ℕ → ℕ → Result (Unit {0}) SwapEmptyFault → LocalState
+    → Type 0
+DoesSwapEmpty old k c a new = OnExchange old k c (SwapsEmpty a) new
+    ⊎ ((a ≡ Err NoneEmpty) × NoneServed old k c (λ o. BothFull o.cpu) × IsUnchanged old new)
+
+-- NoMemory comes too where no magazine can be made, where the CPU's magazines aren't both full, or
+-- no cache serves it
 abbrev pub DoesSwapFresh : LocalState → ℕ → ℕ → Result (Unit {0}) SwapFreshFault → LocalState
     → Type 0
 DoesSwapFresh old k c a new = OnExchange old k c (SwapsFresh a) new

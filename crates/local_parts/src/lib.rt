@@ -3,3 +3,5 @@
 
 mod arena_events;
 mod cache_events;
+mod cpu_caches;
+mod own_changes;
