@@ -2,3 +2,4 @@ mod Trees
 mod Sounds
 mod Wholes
 mod Rows
+mod Exchanges
