@@ -3,3 +3,5 @@ mod Sounds
 mod Wholes
 mod Rows
 mod Exchanges
+mod Owns
+mod OwnWholes

@@ -41,7 +41,7 @@ with_rounds old new rounds given left frame rest a =
     subst (Accounts new) (sym (append_assoc left rounds rest)) (frame (rounds ++ rest) (subst (Accounts old) (append_assoc given rounds rest) a))
 
 -- the stock's parts, with the CPU beside them
-abbrev beside : List SpaceState → List (List OwnCacheState) → LocalState
+abbrev pub beside : List SpaceState → List (List OwnCacheState) → LocalState
 beside spaces cpu = record { spaces = spaces; cpu = cpu }
 
 module _ (old new : List SpaceState) (cpu : List (List OwnCacheState)) (law : IsStock new) (fixed : plans_of new ≡ plans_of old) where

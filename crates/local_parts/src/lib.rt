@@ -5,3 +5,4 @@ mod arena_events;
 mod cache_events;
 mod cpu_caches;
 mod own_changes;
+mod own_events;
