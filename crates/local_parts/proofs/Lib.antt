@@ -5,3 +5,4 @@ mod Rows
 mod Exchanges
 mod Owns
 mod OwnWholes
+mod PartSteps

@@ -6,3 +6,4 @@ mod cache_events;
 mod cpu_caches;
 mod own_changes;
 mod own_events;
+mod locals;

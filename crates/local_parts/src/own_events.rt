@@ -49,3 +49,90 @@ pub(crate) fn pop_of<D: Deed>(
     };
     Ok(cpu.pop_at(arena as usize, place))
 }
+
+pub(crate) fn push_of<D: Deed>(
+    stock: &Stock<D>,
+    cpu: &mut CpuCaches<D>,
+    arena: u32,
+    cache: u8,
+    segment: Segment<D>,
+) -> Result<(), PushFault<Segment<D>>>
+    ensures { WholeStep (record { spaces = stock.now; cpu = cpu.old })
+        (Push arena cache segment) result (record { spaces = stock.now; cpu = cpu.new }) }
+{
+    let _ = stock.count();
+    let Some(place) = served(stock, cpu, arena, cache) else {
+        return Err(PushFault::NoRoom(segment));
+    };
+    match cpu.push_at(arena as usize, place, segment) {
+        Ok(()) => Ok(()),
+        Err(segment) => Err(PushFault::NoRoom(segment)),
+    }
+}
+
+pub(crate) fn change_of<D: Deed>(
+    alloc: Global,
+    stock: &Stock<D>,
+    cpu: &mut CpuCaches<D>,
+    arena: u32,
+    cache: u8,
+    size: usize,
+) -> Result<(), ChangeFault>
+    ensures { WholeStep (record { spaces = stock.now; cpu = cpu.old })
+        (Change arena cache size) result (record { spaces = stock.now; cpu = cpu.new }) }
+{
+    let _ = stock.count();
+    let Some(place) = served(stock, cpu, arena, cache) else {
+        return Err(ChangeFault::NotGreater);
+    };
+    cpu.change_at(alloc, arena as usize, place, size)
+}
+
+pub(crate) fn swap_full_of<D: Deed>(
+    stock: &mut Stock<D>,
+    cpu: &mut CpuCaches<D>,
+    arena: u32,
+    cache: u8,
+) -> Result<(), SwapFullFault>
+    ensures { WholeStep (record { spaces = stock.old; cpu = cpu.old })
+        (SwapFull arena cache) result (record { spaces = stock.new; cpu = cpu.new }) }
+{
+    let _ = stock.count();
+    let Some(place) = served(stock, cpu, arena, cache) else {
+        return Err(SwapFullFault::NoneFull);
+    };
+    cpu.swap_full_at(stock, arena as usize, place)
+}
+
+pub(crate) fn swap_empty_of<D: Deed>(
+    stock: &mut Stock<D>,
+    cpu: &mut CpuCaches<D>,
+    arena: u32,
+    cache: u8,
+) -> Result<(), SwapEmptyFault>
+    ensures { WholeStep (record { spaces = stock.old; cpu = cpu.old })
+        (SwapEmpty arena cache) result (record { spaces = stock.new; cpu = cpu.new }) }
+{
+    let _ = stock.count();
+    let Some(place) = served(stock, cpu, arena, cache) else {
+        return Err(SwapEmptyFault::NoneEmpty);
+    };
+    cpu.swap_empty_at(stock, arena as usize, place)
+}
+
+pub(crate) fn swap_fresh_of<D: Deed>(
+    alloc: Global,
+    stock: &mut Stock<D>,
+    cpu: &mut CpuCaches<D>,
+    arena: u32,
+    cache: u8,
+) -> Result<(), SwapFreshFault>
+    ensures { WholeStep (record { spaces = stock.old; cpu = cpu.old })
+        (SwapFresh arena cache) result (record { spaces = stock.new; cpu = cpu.new }) }
+{
+    let _ = stock.count();
+    let Some(place) = served(stock, cpu, arena, cache) else {
+        return Err(SwapFreshFault::NoMemory);
+    };
+    cpu.swap_fresh_at(alloc, stock, arena as usize, place)
+}

@@ -1,0 +1,28 @@
+-- A step of one thread's parts as one of `Parts`.
+use Rattle.std.proofs.Common.{◌≡◌, ℕ, ◌+◌, ◌-◌, ◌^◌, min, List, Bool, true, false, length, sym, subst, ap, ◌∙◌}
+use Rattle.arena_tree.specs.declared.trees.TreeArena.{TreeArena}
+use Rattle.arena_tree.specs.Chains.{Node}
+use Rattle.arena_tree.specs.Events.{Event, AnswerTo, locks}
+use Rattle.arena_tree.specs.Stops.{is_stopped, Counts}
+use Rattle.arena_tree.specs.Plans.{Step}
+use Rattle.stock.specs.Spaces.{plans_of}
+use Rattle.local_parts.specs.Cpus.{cpu_rounds}
+use Rattle.local_parts.specs.States.{LocalState, tree_of}
+use Rattle.local_parts.specs.Steps.{LocalStep, WholeStep}
+
+counted : (stopped : Bool) (locks old new : ℕ) → stopped ≡ false → new ≡ min (old + locks) (2 ^ 64 - 1) → Counts stopped locks old new
+counted true locks old new goes e = absurd (let x : true ≡ false = goes in cc)
+counted false locks old new goes e = e
+
+-- S is seen as a state, with sizes that stay
+pub parts_step : {S : Type 0} (see : S → LocalState) (sizes : S → List TreeArena) (step : S → (e : Event) → AnswerTo e → S → Type 0) (count : S → ℕ) (s t : S) (e : Event) (a : AnswerTo e)
+    → WholeStep (see s) e a (see t) → step s e a t → sizes t ≡ sizes s → count t ≡ min (count s + locks e) (2 ^ 64 - 1)
+    → Step step (λ x. tree_of (plans_of (see x).spaces) (sizes x)) count (λ x. length (cpu_rounds (see x).cpu)) s e a t
+parts_step see sizes step count s t e a w does same counts = record {
+  does = does;
+  sound = w.sound (sizes s);
+  same_tree = subst (λ z. tree_of (plans_of (see t).spaces) z ≡ tree_of (plans_of (see s).spaces) (sizes s)) (sym same) (ap (λ p. tree_of p (sizes s)) w.step.setup.plans);
+  counted = counted (is_stopped e a) (locks e) (count s) (count t) w.goes counts;
+  moved = w.moved;
+  stayed = λ stopped. absurd (let x : true ≡ false = sym stopped ∙ w.goes in cc);
+}
