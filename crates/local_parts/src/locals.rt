@@ -113,6 +113,8 @@ impl<D: Deed> Parts<Segment<D>> for Local<'_, D> {
     }
 
     fn pop(&mut self, arena: u32, cache: u8) -> Result<Option<Segment<D>>, Stopped> {
+        // For its range, which the count of steps has to keep.
+        let _steps = self.steps;
         pop_of(self.stock, self.cpu, arena, cache)
     }
 
@@ -122,10 +124,12 @@ impl<D: Deed> Parts<Segment<D>> for Local<'_, D> {
         cache: u8,
         segment: Segment<D>,
     ) -> Result<(), PushFault<Segment<D>>> {
+        let _steps = self.steps;
         push_of(self.stock, self.cpu, arena, cache, segment)
     }
 
     fn change(&mut self, arena: u32, cache: u8, size: usize) -> Result<(), ChangeFault> {
+        let _steps = self.steps;
         change_of(self.alloc, self.stock, self.cpu, arena, cache, size)
     }
 }
