@@ -6,3 +6,4 @@ mod Exchanges
 mod Owns
 mod OwnWholes
 mod PartSteps
+pub mod LawProofs

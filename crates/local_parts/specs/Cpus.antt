@@ -1,6 +1,6 @@
 -- What a contract sees of one CPU's caches: of each arena, in order of setup, those of its quantum
 -- caches, by the quanta of a chunk.
-use Rattle.std.specs.Prelude.{◌≡◌, ℕ, ◌+◌, List, [], ◌∷◌, map, flat_map, set, slice_get, Some}
+use Rattle.std.specs.Prelude.{◌≡◌, ℕ, zero, suc, ◌+◌, List, [], ◌∷◌, length, map, flat_map, set, slice_get, Some}
 use Rattle.deed_core.specs.Tag.{Tag}
 use Rattle.magazine_layer.specs.Magazines.{CpuCacheState, cache_rounds}
 use Rattle.stock.specs.Spaces.{SpaceState, SpacePlan, plans_of}
@@ -19,16 +19,16 @@ own_place o = record { arena = o.arena; cache = o.cache; quantum = o.quantum }
 abbrev pub own_places : List (List OwnCacheState) → List (List CachePlace)
 own_places cpu = map (map own_place) cpu
 
--- the quantum caches of an arena, from the place j on, for slabs of these sizes
-abbrev pub row_places : ℕ → ℕ → ℕ → List ℕ → List CachePlace
-row_places arena quantum j [] = []
-row_places arena quantum j (size ∷ sizes) =
-    record { arena = arena; cache = j; quantum = quantum } ∷ row_places arena quantum (j + 1) sizes
+-- the quantum caches of an arena: so many, from the place j on
+abbrev pub row_places : ℕ → ℕ → ℕ → ℕ → List CachePlace
+row_places arena quantum j zero = []
+row_places arena quantum j (suc count) =
+    record { arena = arena; cache = j; quantum = quantum } ∷ row_places arena quantum (j + 1) count
 
 -- those of each arena, from the number k on
 abbrev pub places_from : ℕ → List SpacePlan → List (List CachePlace)
 places_from k [] = []
-places_from k (p ∷ plans) = row_places k p.quantum 0 p.slab_sizes ∷ places_from (k + 1) plans
+places_from k (p ∷ plans) = row_places k p.quantum 0 (length p.slab_sizes) ∷ places_from (k + 1) plans
 
 -- the CPU has a cache for each quantum cache of the stock, and no other
 abbrev pub IsCpuOf : List SpaceState → List (List OwnCacheState) → Type 0

@@ -5,3 +5,4 @@ pub mod SharedSteps
 pub mod OwnSteps
 pub mod Steps
 pub mod OwnChanges
+pub mod Laws

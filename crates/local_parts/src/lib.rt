@@ -6,4 +6,5 @@ mod cache_events;
 mod cpu_caches;
 mod own_changes;
 mod own_events;
+mod laws;
 mod locals;
