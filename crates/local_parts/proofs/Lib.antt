@@ -1,0 +1,9 @@
+mod Trees
+mod Sounds
+mod Wholes
+mod Rows
+mod Exchanges
+mod Owns
+mod OwnWholes
+mod PartSteps
+pub mod LawProofs

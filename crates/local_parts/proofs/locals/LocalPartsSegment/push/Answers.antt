@@ -1,0 +1,8 @@
+use Rattle.std.proofs.Common.{refl, arith}
+use Rattle.arena_tree.proofs.LawProofs.{tag_push_same}
+use Rattle.local_parts.proofs.PartSteps.{parts_step}
+use Rattle.local_parts.proofs.locals.LocalPartsSegment.push.Goals as goal
+
+pub returns : goal.returns
+returns g c =
+    parts_step _ (λ s. record { spaces = s.stock.now; cpu = s.cpu.now }) (λ s. s.tree.now) _ (λ s. s.steps) c.args.self.now _ _ c.push_of.result _ (tag_push_same c.push_of.result) (c.push_of.ensures) (λ d. (d, refl, refl)) refl (omega arith)

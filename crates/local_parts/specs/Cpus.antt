@@ -1,0 +1,86 @@
+-- What a contract sees of one CPU's caches: of each arena, in order of setup, those of its quantum
+-- caches, by the quanta of a chunk.
+use Rattle.std.specs.Prelude.{◌≡◌, ℕ, zero, suc, ◌+◌, List, [], ◌∷◌, length, map, flat_map, set, slice_get, Some}
+use Rattle.deed_core.specs.Tag.{Tag}
+use Rattle.magazine_layer.specs.Magazines.{CpuCacheState, cache_rounds}
+use Rattle.stock.specs.Spaces.{SpaceState, SpacePlan, plans_of}
+use Rattle.stock.specs.OwnCaches.{OwnCacheState}
+
+-- a quantum cache: the places of its arena and of itself, and the arena's quantum
+pub record CachePlace : Type 0 where
+  pub arena : ℕ
+  pub cache : ℕ
+  pub quantum : ℕ
+
+-- the quantum cache that a CPU's cache was made for
+abbrev pub own_place : OwnCacheState → CachePlace
+own_place o = record { arena = o.arena; cache = o.cache; quantum = o.quantum }
+
+abbrev pub own_places : List (List OwnCacheState) → List (List CachePlace)
+own_places cpu = map (map own_place) cpu
+
+-- the quantum caches of an arena: so many, from the place j on
+abbrev pub row_places : ℕ → ℕ → ℕ → ℕ → List CachePlace
+row_places arena quantum j zero = []
+row_places arena quantum j (suc count) =
+    record { arena = arena; cache = j; quantum = quantum } ∷ row_places arena quantum (j + 1) count
+
+-- those of each arena, from the number k on
+abbrev pub places_from : ℕ → List SpacePlan → List (List CachePlace)
+places_from k [] = []
+places_from k (p ∷ plans) = row_places k p.quantum 0 (length p.slab_sizes) ∷ places_from (k + 1) plans
+
+-- the CPU has a cache for each quantum cache of the stock, and no other
+abbrev pub IsCpuOf : List SpaceState → List (List OwnCacheState) → Type 0
+IsCpuOf spaces cpu = own_places cpu ≡ places_from 0 (plans_of spaces)
+
+-- a CPU's cache that is new: two empty magazines of this size
+abbrev pub new_own : ℕ → CachePlace → OwnCacheState
+new_own size p = record {
+  arena = p.arena;
+  cache = p.cache;
+  quantum = p.quantum;
+  cpu = record { size = size; loaded = []; previous = [] };
+}
+
+-- a CPU that is new, for a stock that was set up so
+abbrev pub new_cpu : ℕ → List SpacePlan → List (List OwnCacheState)
+new_cpu size plans = map (map (new_own size)) (places_from 0 plans)
+
+-- the rounds of a CPU: of one of its caches, of those of an arena, of all
+abbrev pub own_rounds : OwnCacheState → List Tag
+own_rounds o = cache_rounds o.cpu
+
+abbrev pub row_rounds : List OwnCacheState → List Tag
+row_rounds row = flat_map own_rounds row
+
+abbrev pub cpu_rounds : List (List OwnCacheState) → List Tag
+cpu_rounds cpu = flat_map row_rounds cpu
+
+-- the CPU's cache stands at the place j of those of the arena at the place k, and is made for it
+pub record IsOwnAt (cpu : List (List OwnCacheState)) (k j : ℕ) (o : OwnCacheState) : Type 0 where
+  pub row : List OwnCacheState
+  pub at : slice_get cpu k ≡ Some row
+  pub among : slice_get row j ≡ Some o
+  pub arena : o.arena ≡ k
+  pub cache : o.cache ≡ j
+
+-- the cache at the place j of an arena's row changed so, and nothing else did
+pub record OnRow (j : ℕ) (P : OwnCacheState → OwnCacheState → Type 0)
+    (old new : List OwnCacheState) : Type 0 where
+  pub own : OwnCacheState
+  pub at : slice_get old j ≡ Some own
+  pub changed : OwnCacheState
+  pub after : new ≡ set old j changed
+  pub does : P own changed
+
+-- the CPU's cache at the place j of the arena at the place k did
+pub record OnOwn (k j : ℕ) (P : OwnCacheState → OwnCacheState → Type 0)
+    (old new : List (List OwnCacheState)) : Type 0 where
+  pub row : List OwnCacheState
+  pub at : slice_get old k ≡ Some row
+  pub own : OwnCacheState
+  pub among : slice_get row j ≡ Some own
+  pub changed : OwnCacheState
+  pub after : new ≡ set old k (set row j changed)
+  pub does : P own changed

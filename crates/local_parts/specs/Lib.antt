@@ -1,0 +1,8 @@
+pub mod Cpus
+pub mod States
+pub mod Words
+pub mod SharedSteps
+pub mod OwnSteps
+pub mod Steps
+pub mod OwnChanges
+pub mod Laws

@@ -1,0 +1,10 @@
+//! wip
+#![tactic(auto)]
+
+mod arena_events;
+mod cache_events;
+mod cpu_caches;
+mod own_changes;
+mod own_events;
+mod laws;
+mod locals;

@@ -1,0 +1,141 @@
+//! What one of a CPU's caches does, by itself or with its depot.
+ghost use Rattle.std.specs.Prelude.{◌≡◌, []};
+ghost use Rattle.stock.specs.Spaces.{HasCache};
+ghost use Rattle.stock.specs.Steps.{HasQuantum};
+ghost use Rattle.local_parts.specs.Words.{in_words, full_word, empty_word, fresh_word};
+ghost use Rattle.local_parts.specs.OwnChanges.{OwnPushes, OwnChanges, EndsEmpty};
+ghost use Rattle.local_parts.specs.OwnChanges.{OwnSwapsFull, OwnSwapsEmpty, OwnSwapsFresh};
+
+use arena_tree::{ChangeFault, SwapEmptyFault, SwapFreshFault, SwapFullFault};
+use deed_core::{Deed, Segment};
+use magazine_layer::{EmptyFault, FullFault, Magazine, PutFullFault, is_magazine_size, two_empty};
+use std::alloc::Global;
+use stock::{OwnCache, Stock};
+
+pub(crate) fn push_own<D: Deed>(own: &mut OwnCache<D>, segment: Segment<D>) -> Result<(), Segment<D>>
+    ensures { OwnPushes segment result own.old own.new }
+{
+    if !own.takes(&segment) {
+        return Err(segment);
+    }
+    own.push(segment)
+}
+
+pub(crate) fn change_own<D: Deed>(
+    alloc: Global,
+    own: &mut OwnCache<D>,
+    size: usize,
+) -> Result<(), ChangeFault>
+    ensures { OwnChanges size result own.old own.new }
+{
+    if !is_magazine_size(size) || size <= own.size() {
+        return Err(ChangeFault::NotGreater);
+    }
+    let Ok((loaded, previous)) = two_empty(alloc, size) else {
+        return Err(ChangeFault::NoMemory);
+    };
+    own.change(loaded, previous);
+    Ok(())
+}
+
+pub(crate) fn swap_full_own<D: Deed>(
+    stock: &mut Stock<D>,
+    own: &mut OwnCache<D>,
+) -> Result<(), SwapFullFault>
+    requires has { HasCache stock.old own.old.arena own.old.cache }
+    requires quantum { HasQuantum stock.old own.old.arena own.old.quantum }
+    ensures { OwnSwapsFull result stock.old stock.new own.old own.new }
+{
+    if !own.is_empty() {
+        return Err(SwapFullFault::NoneFull);
+    }
+    let swapped = own.swap_full(stock);
+    // For its clause, here and below: what is always so of a stock.
+    let _ = stock.count();
+    full_in_words(swapped)
+}
+
+fn full_in_words(swapped: Result<(), FullFault>) -> Result<(), SwapFullFault>
+    ensures { result ≡ in_words full_word swapped }
+{
+    match swapped {
+        Ok(()) => Ok(()),
+        Err(FullFault::OldSize(size)) => Err(SwapFullFault::OldSize(size)),
+        Err(FullFault::NoneFull) => Err(SwapFullFault::NoneFull),
+    }
+}
+
+pub(crate) fn swap_empty_own<D: Deed>(
+    stock: &mut Stock<D>,
+    own: &mut OwnCache<D>,
+) -> Result<(), SwapEmptyFault>
+    requires has { HasCache stock.old own.old.arena own.old.cache }
+    requires quantum { HasQuantum stock.old own.old.arena own.old.quantum }
+    ensures { OwnSwapsEmpty result stock.old stock.new own.old own.new }
+{
+    if !own.is_full() {
+        return Err(SwapEmptyFault::NoneEmpty);
+    }
+    let swapped = own.swap_empty(stock);
+    let _ = stock.count();
+    empty_in_words(swapped)
+}
+
+fn empty_in_words(swapped: Result<(), EmptyFault>) -> Result<(), SwapEmptyFault>
+    ensures { result ≡ in_words empty_word swapped }
+{
+    match swapped {
+        Ok(()) => Ok(()),
+        Err(EmptyFault::OldSize(size)) => Err(SwapEmptyFault::OldSize(size)),
+        Err(EmptyFault::NoneEmpty) => Err(SwapEmptyFault::NoneEmpty),
+    }
+}
+
+pub(crate) fn swap_fresh_own<D: Deed>(
+    alloc: Global,
+    stock: &mut Stock<D>,
+    own: &mut OwnCache<D>,
+) -> Result<(), SwapFreshFault>
+    requires has { HasCache stock.old own.old.arena own.old.cache }
+    requires quantum { HasQuantum stock.old own.old.arena own.old.quantum }
+    ensures { OwnSwapsFresh result stock.old stock.new own.old own.new }
+{
+    if !own.is_full() {
+        return Err(SwapFreshFault::NoMemory);
+    }
+    let Ok(magazine) = Magazine::new(alloc, own.size()) else {
+        return Err(SwapFreshFault::NoMemory);
+    };
+    let swapped = own.swap_fresh(stock, magazine);
+    let _ = stock.count();
+    fresh_in_words(swapped)
+}
+
+// The magazine that comes back with a refusal is empty, and ends here.
+fn fresh_in_words<D: Deed>(
+    swapped: Result<(), PutFullFault<Magazine<D>>>,
+) -> Result<(), SwapFreshFault>
+    requires { EndsEmpty swapped }
+    ensures { result ≡ in_words fresh_word swapped }
+{
+    match swapped {
+        Ok(()) => Ok(()),
+        Err(PutFullFault::OldSize(size, magazine)) => {
+            end_empty(magazine);
+            Err(SwapFreshFault::OldSize(size))
+        }
+        Err(PutFullFault::NoMemory(magazine)) => {
+            end_empty(magazine);
+            Err(SwapFreshFault::NoMemory)
+        }
+    }
+}
+
+fn end_empty<D: Deed>(magazine: Magazine<D>)
+    requires { magazine.rounds ≡ [] }
+{
+    match magazine.discard() {
+        Ok(()) => {}
+        Err(_) => unreachable!(),
+    }
+}

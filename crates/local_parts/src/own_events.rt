@@ -1,0 +1,138 @@
+//! The events of the CPU's magazines, over a stock and the caches of a CPU.
+ghost use Rattle.std.specs.Prelude.{◌≡◌, ℕ, ◌+◌, IfSome, IfNone};
+ghost use Rattle.arena_tree.specs.Events.{Pop, Push, Change, SwapFull, SwapEmpty, SwapFresh};
+ghost use Rattle.stock.specs.OwnCaches.{OwnCacheState};
+ghost use Rattle.local_parts.specs.States.{IsServed, HasServed};
+ghost use Rattle.local_parts.specs.Steps.{WholeStep};
+
+use crate::cpu_caches::CpuCaches;
+use arena_tree::{ChangeFault, PushFault, Stopped, SwapEmptyFault, SwapFreshFault, SwapFullFault};
+use deed_core::{Deed, Segment};
+use std::alloc::Global;
+use stock::Stock;
+
+// The place of the CPU's cache that serves the arena's cache of chunks of so many quanta.
+fn served<D: Deed>(
+    stock: &Stock<D>,
+    cpu: &CpuCaches<D>,
+    arena: u32,
+    cache: u8,
+) -> Option<usize>
+    ensures some { IfSome result (λ j. (cache ≡ j + 1)
+        × HasServed (record { spaces = stock.now; cpu = cpu.now }) arena j) }
+    ensures none { IfNone result ((j : ℕ) (o : OwnCacheState) → cache ≡ j + 1
+        → ¬ IsServed (record { spaces = stock.now; cpu = cpu.now }) arena j o) }
+{
+    let Some(place) = stock.cache_at(arena, cache) else {
+        return None;
+    };
+    let quantum = stock.quantum(arena as usize);
+    if !cpu.is_at(arena as usize, place, quantum) {
+        return None;
+    }
+    Some(place)
+}
+
+pub(crate) fn pop_of<D: Deed>(
+    stock: &Stock<D>,
+    cpu: &mut CpuCaches<D>,
+    arena: u32,
+    cache: u8,
+) -> Result<Option<Segment<D>>, Stopped>
+    ensures { WholeStep (record { spaces = stock.now; cpu = cpu.old })
+        (Pop arena cache) result (record { spaces = stock.now; cpu = cpu.new }) }
+{
+    // For its clause, here and below: what is always so of a stock.
+    let _ = stock.count();
+    let Some(place) = served(stock, cpu, arena, cache) else {
+        return Ok(None);
+    };
+    Ok(cpu.pop_at(arena as usize, place))
+}
+
+pub(crate) fn push_of<D: Deed>(
+    stock: &Stock<D>,
+    cpu: &mut CpuCaches<D>,
+    arena: u32,
+    cache: u8,
+    segment: Segment<D>,
+) -> Result<(), PushFault<Segment<D>>>
+    ensures { WholeStep (record { spaces = stock.now; cpu = cpu.old })
+        (Push arena cache segment) result (record { spaces = stock.now; cpu = cpu.new }) }
+{
+    let _ = stock.count();
+    let Some(place) = served(stock, cpu, arena, cache) else {
+        return Err(PushFault::NoRoom(segment));
+    };
+    match cpu.push_at(arena as usize, place, segment) {
+        Ok(()) => Ok(()),
+        Err(segment) => Err(PushFault::NoRoom(segment)),
+    }
+}
+
+pub(crate) fn change_of<D: Deed>(
+    alloc: Global,
+    stock: &Stock<D>,
+    cpu: &mut CpuCaches<D>,
+    arena: u32,
+    cache: u8,
+    size: usize,
+) -> Result<(), ChangeFault>
+    ensures { WholeStep (record { spaces = stock.now; cpu = cpu.old })
+        (Change arena cache size) result (record { spaces = stock.now; cpu = cpu.new }) }
+{
+    let _ = stock.count();
+    let Some(place) = served(stock, cpu, arena, cache) else {
+        return Err(ChangeFault::NotGreater);
+    };
+    cpu.change_at(alloc, arena as usize, place, size)
+}
+
+pub(crate) fn swap_full_of<D: Deed>(
+    stock: &mut Stock<D>,
+    cpu: &mut CpuCaches<D>,
+    arena: u32,
+    cache: u8,
+) -> Result<(), SwapFullFault>
+    ensures { WholeStep (record { spaces = stock.old; cpu = cpu.old })
+        (SwapFull arena cache) result (record { spaces = stock.new; cpu = cpu.new }) }
+{
+    let _ = stock.count();
+    let Some(place) = served(stock, cpu, arena, cache) else {
+        return Err(SwapFullFault::NoneFull);
+    };
+    cpu.swap_full_at(stock, arena as usize, place)
+}
+
+pub(crate) fn swap_empty_of<D: Deed>(
+    stock: &mut Stock<D>,
+    cpu: &mut CpuCaches<D>,
+    arena: u32,
+    cache: u8,
+) -> Result<(), SwapEmptyFault>
+    ensures { WholeStep (record { spaces = stock.old; cpu = cpu.old })
+        (SwapEmpty arena cache) result (record { spaces = stock.new; cpu = cpu.new }) }
+{
+    let _ = stock.count();
+    let Some(place) = served(stock, cpu, arena, cache) else {
+        return Err(SwapEmptyFault::NoneEmpty);
+    };
+    cpu.swap_empty_at(stock, arena as usize, place)
+}
+
+pub(crate) fn swap_fresh_of<D: Deed>(
+    alloc: Global,
+    stock: &mut Stock<D>,
+    cpu: &mut CpuCaches<D>,
+    arena: u32,
+    cache: u8,
+) -> Result<(), SwapFreshFault>
+    ensures { WholeStep (record { spaces = stock.old; cpu = cpu.old })
+        (SwapFresh arena cache) result (record { spaces = stock.new; cpu = cpu.new }) }
+{
+    let _ = stock.count();
+    let Some(place) = served(stock, cpu, arena, cache) else {
+        return Err(SwapFreshFault::NoMemory);
+    };
+    cpu.swap_fresh_at(alloc, stock, arena as usize, place)
+}
