@@ -1,1 +1,6 @@
-
+mod Standing
+mod Keeping
+mod Placing
+mod Exporting
+mod Climbing
+pub mod LawProofs
