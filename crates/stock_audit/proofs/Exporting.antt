@@ -29,10 +29,10 @@ module _ (k : ℕ) (g : Tag → ℕ) where
   weighs_there t other = (let test : nat_eq t.arena k ≡ false = grind (arith, nat_tests) in ap (λ b. cond b (g t) 0) test)
 
   -- of segments that are of one arena
-  all_here : (a : ℕ) (xs : List Tag) → All (λ t. t.arena ≡ a) xs → a ≡ k → sum_by (of_arena k g) xs ≡ sum_by g xs
+  pub all_here : (a : ℕ) (xs : List Tag) → All (λ t. t.arena ≡ a) xs → a ≡ k → sum_by (of_arena k g) xs ≡ sum_by g xs
   all_here a xs home is = sum_alike (of_arena k g) g xs (λ i x at. weighs_here x (all_at (λ t. t.arena ≡ a) xs i x home at ∙ is))
 
-  none_here : (a : ℕ) (xs : List Tag) → All (λ t. t.arena ≡ a) xs → a ≢ k → sum_by (of_arena k g) xs ≡ 0
+  pub none_here : (a : ℕ) (xs : List Tag) → All (λ t. t.arena ≡ a) xs → a ≢ k → sum_by (of_arena k g) xs ≡ 0
   none_here a xs home other = sum_none (of_arena k g) xs (λ i x at. weighs_there x (λ e. other (sym (all_at (λ t. t.arena ≡ a) xs i x home at) ∙ e)))
 
   -- what is allocated in one arena

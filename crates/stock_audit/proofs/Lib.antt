@@ -3,4 +3,5 @@ mod Keeping
 mod Placing
 mod Exporting
 mod Climbing
+mod Counting
 pub mod LawProofs
