@@ -54,11 +54,12 @@ pub fn audit<D: Deed>(
     requires balanced { Accounts stock.now (segments_out (outside hands.now leases.now cpus.now)) }
     ensures { Tells stock.now arena (out_of (outside hands.now leases.now cpus.now)) result }
 {
-    let id = arena as u32;
+    // For its clause: what is always so of a stock.
+    let _ = stock.count();
     let out = UnitsOut {
-        rounds: rounds_units(cpus, id),
-        leased: units_of(leases, id),
-        hand: units_of(hands, id),
+        rounds: rounds_units(cpus, arena),
+        leased: units_of(leases, arena),
+        hand: units_of(hands, arena),
     };
     audit_units(stock, arena, out)
 }
@@ -70,6 +71,8 @@ pub fn audit_units<D: Deed>(stock: &Stock<D>, arena: usize, out: UnitsOut) -> Ar
     requires balanced { IsBalanced stock.now arena out }
     ensures { (o : Out) → IsTally arena o out → Tells stock.now arena o result }
 {
+    // For its clause: what is always so of a stock.
+    let _ = stock.count();
     let report = stock.arena_report(arena);
     let slab = slab_units(stock, arena);
     let magazine = depots_units(stock, arena) + out.rounds;
