@@ -4,4 +4,5 @@ mod Placing
 mod Exporting
 mod Climbing
 mod Counting
+mod Auditing
 pub mod LawProofs
