@@ -1,5 +1,5 @@
 -- What an audit tells is what the places weigh.
-use Rattle.std.proofs.Common.{◌≡◌, ℕ, ◌+◌, sym, ap, ◌∙◌, List, Some, arith}
+use Rattle.std.proofs.Common.{◌≡◌, ℕ, ◌+◌, ◌≤◌, sym, ap, ◌∙◌, List, Some, arith}
 use Rattle.std.specs.Prelude.{slice_get, flat_map}
 use Rattle.std.proofs.lemmas.List.Sums.{sum_by-append}
 use Rattle.deed_core.specs.Tag.{Tag}
@@ -10,9 +10,10 @@ use Rattle.slab_layer.specs.Cache.{deeds_of}
 use Rattle.magazine_layer.specs.Depots.{depot_rounds}
 use Rattle.stock.specs.Spaces.{SpaceState}
 use Rattle.stock.specs.Stocks.{IsStock}
-use Rattle.stock.specs.Sums.{Out, Sums, held, held_of, places_of, lengths_of}
+use Rattle.stock.specs.Accounts.{Accounts}
+use Rattle.stock.specs.Sums.{Out, all_out, Sums, held, held_of, places_of, lengths_of}
 use Rattle.stock.proofs.LawProofs.{adds_up}
-use Rattle.stock_audit.specs.Audits.{IsTally, IsBalanced, told}
+use Rattle.stock_audit.specs.Audits.{IsTally, IsBalanced, units_of_arena_in, told}
 use Rattle.stock_audit.specs.declared.audits.ArenaSums.{ArenaSums}
 use Rattle.stock_audit.specs.declared.audits.UnitsOut.{UnitsOut}
 
@@ -49,6 +50,10 @@ module _ (spaces : List SpaceState) (stock : IsStock spaces) (k : ℕ) (s : Spac
     here b.out.leases,
     here b.out.hands,
   )
+
+  -- the rounds of CPUs are part of them
+  pub rounds_fit : (o : Out) → Accounts spaces (all_out o) → units_of_arena_in k o.rounds ≤ units_held (spans_of s.arena)
+  rounds_fit o a = omega (arith, adds_up spaces o (record { stock = stock; accounts = a }) k s at, magazine_parts o, here o.rounds)
 
   pub tells : (r : ArenaSums) (b : IsBalanced spaces k units) (o : Out) → IsTally k o units
       → r.free ≡ units_held s.arena.free → r.slab ≡ units_held (in_slabs s) → r.magazine ≡ units_held (in_depots s) + units.rounds

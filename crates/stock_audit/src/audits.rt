@@ -7,11 +7,12 @@ ghost use Rattle.stock.specs.Spaces.{SpaceState};
 ghost use Rattle.stock.specs.Accounts.{Accounts};
 ghost use Rattle.stock.specs.Sums.{Out, held};
 ghost use Rattle.stock_audit.specs.Outside.{outside, out_of, segments_out};
-ghost use Rattle.stock_audit.specs.Audits.{IsTally, IsBalanced, Tells};
+ghost use Rattle.stock_audit.specs.Audits.{IsTally, IsBalanced, IsReportOf, Tells};
 
 use crate::lists::{rounds_units, units_of};
 use deed_core::{Deed, Segment};
 use stock::{OwnCache, Stock};
+use tag_arena::ArenaReport;
 
 /// The units of one arena, by where they are.
 #[derive(Clone, Copy, PartialEq, Eq, Debug)]
@@ -56,12 +57,13 @@ pub fn audit<D: Deed>(
 {
     // For its clause: what is always so of a stock.
     let _ = stock.count();
+    let report = stock.arena_report(arena);
     let out = UnitsOut {
         rounds: rounds_units(cpus, arena),
         leased: units_of(leases, arena),
         hand: units_of(hands, arena),
     };
-    audit_units(stock, arena, out)
+    sums_with(stock, arena, report, out)
 }
 
 /// The same where the caller counts what is out, as by a book of leases. What is allocated and
@@ -71,9 +73,24 @@ pub fn audit_units<D: Deed>(stock: &Stock<D>, arena: usize, out: UnitsOut) -> Ar
     requires balanced { IsBalanced stock.now arena out }
     ensures { (o : Out) → IsTally arena o out → Tells stock.now arena o result }
 {
+    let report = stock.arena_report(arena);
+    sums_with(stock, arena, report, out)
+}
+
+// The sums of an arena of which this is the report.
+fn sums_with<D: Deed>(
+    stock: &Stock<D>,
+    arena: usize,
+    report: ArenaReport,
+    out: UnitsOut,
+) -> ArenaSums
+    requires within { arena < length stock.now }
+    requires report { IsReportOf stock.now arena report }
+    requires balanced { IsBalanced stock.now arena out }
+    ensures { (o : Out) → IsTally arena o out → Tells stock.now arena o result }
+{
     // For its clause: what is always so of a stock.
     let _ = stock.count();
-    let report = stock.arena_report(arena);
     let slab = slab_units(stock, arena);
     let magazine = depots_units(stock, arena) + out.rounds;
     let elsewhere = slab + magazine + out.leased + out.hand;
