@@ -1,6 +1,6 @@
 -- Up a chain: spans are exports of their source.
 use Rattle.std.proofs.Common.{◌≡◌, ℕ, suc, zero, ◌+◌, ◌<◌, ◌≤◌, true, nat_eq, Option, Some, None, refl, ap, ◌∙◌, List, cond, arith}
-use Rattle.std.specs.Prelude.{slice_get, sum_by}
+use Rattle.std.specs.Prelude.{slice_get}
 use Rattle.std.proofs.lemmas.Bool.Decides.{nat_tests}
 use Rattle.std.proofs.lemmas.Option.{slice_get_within}
 use Rattle.deed_core.specs.Covering.{covers_held, covering_held}
@@ -8,9 +8,7 @@ use Rattle.deed_core.specs.Weights.{only, of_arena}
 use Rattle.deed_core.proofs.LawProofs.{slice_get_some, slice_get_one, part_of_sum}
 use Rattle.tag_arena.specs.ArenaState.{spans_of}
 use Rattle.stock.specs.Spaces.{SpaceState, quanta_of}
-use Rattle.stock.specs.Stocks.{IsStock}
 use Rattle.stock.specs.Accounts.{imported}
-use Rattle.stock.specs.Sums.{total}
 use Rattle.stock.specs.Laws.{HasTop, root, child}
 use Rattle.stock.proofs.LawProofs.{out_is_apart}
 use Rattle.stock_audit.specs.Outside.{Outside, segments_out}

@@ -1,12 +1,12 @@
 -- What an arena has allocated: what is out and came direct, the spans of slabs, and those of children.
-use Rattle.std.proofs.Common.{◌≡◌, ◌≢◌, ℕ, ◌+◌, Bool, true, false, cond, nat_eq, refl, sym, subst, ap, ◌∙◌, List, ◌++◌, map, filter, All, Option, Some, None, arith}
+use Rattle.std.proofs.Common.{◌≡◌, ◌≢◌, ℕ, ◌+◌, Bool, true, false, cond, nat_eq, refl, sym, subst, ap, ◌∙◌, List, map, filter, All, Option, Some, None, arith}
 use Rattle.std.specs.Prelude.{slice_get, sum_by, flat_map}
 use Rattle.std.proofs.lemmas.Bool.Decides.{nat_tests}
 use Rattle.std.proofs.lemmas.List.Sums.{sum_by-append}
 use Rattle.deed_core.specs.Holding.{Holding}
 use Rattle.deed_core.specs.Tag.{Tag}
 use Rattle.deed_core.specs.Selections.{came_direct}
-use Rattle.deed_core.specs.Weights.{only, of_arena, of_direct}
+use Rattle.deed_core.specs.Weights.{only, of_arena}
 use Rattle.deed_core.proofs.LawProofs.{sum_by-map, sum_by-flat_map, sum_by-filter, sum_at, sum_none, sum_alike, all_at, all_from, mapped}
 use Rattle.tag_arena.specs.ArenaState.{spans_of, ranges_of, direct}
 use Rattle.tag_arena.proofs.LawProofs.{tags_weigh}

@@ -1,14 +1,14 @@
 -- Each step keeps a stock accounted for.
-use Rattle.std.proofs.Common.{◌≡◌, ℕ, ◌+◌, refl, sym, subst, ap, List, [], ◌∷◌, ◌++◌, All, set, Some, arith}
-use Rattle.std.specs.Prelude.{slice_get, sum_by, flat_map}
-use Rattle.std.proofs.lemmas.List.Sums.{sum_by-append, sum_by-cons}
+use Rattle.std.proofs.Common.{◌≡◌, ℕ, ◌+◌, sym, subst, ap, List, [], ◌++◌, All, set, arith}
+use Rattle.std.specs.Prelude.{sum_by}
+use Rattle.std.proofs.lemmas.List.Sums.{sum_by-append}
 use Rattle.std.proofs.lemmas.List.Elements.{All-nil, All-set}
 use Rattle.deed_core.specs.Tag.{Tag}
 use Rattle.deed_core.specs.Weights.{WeighSame}
 use Rattle.deed_core.proofs.LawProofs.{all_at, sum_set, sum_by-flat_map}
 use Rattle.stock.specs.Spaces.{SpaceState, HasCache}
 use Rattle.stock.specs.Steps.{HasQuantum}
-use Rattle.stock.specs.OwnCaches.{OwnCacheState, IsOwnCache, IsAtPlaceOf}
+use Rattle.stock.specs.OwnCaches.{OwnCacheState}
 use Rattle.stock.proofs.LawProofs.{out_weighs}
 use Rattle.stock_audit.specs.Outside.{Outside, nothing_out, own_rounds, all_rounds_out, segments_out}
 use Rattle.stock_audit.specs.Accounted.{IsOwnIn, IsAccountedFor}

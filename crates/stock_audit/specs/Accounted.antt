@@ -1,6 +1,5 @@
 -- That all units of a stock are accounted for.
-use Rattle.std.specs.Prelude.{◌≡◌, ℕ, List, All, Contains, slice_get, Some}
-use Rattle.deed_core.specs.Holding.{Holding}
+use Rattle.std.specs.Prelude.{List, All}
 use Rattle.tag_arena.specs.ArenaState.{ArenaState, spans_of, ranges_of, layout_of, OnQuantum}
 use Rattle.tag_arena.specs.Layout.{FreeIsLongestRuns}
 use Rattle.stock.specs.Spaces.{SpaceState, HasCache}

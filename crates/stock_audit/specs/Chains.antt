@@ -5,7 +5,7 @@ use Rattle.deed_core.specs.Covering.{covers_held, covering_held}
 use Rattle.tag_arena.specs.ArenaState.{spans_of}
 use Rattle.slab_layer.specs.Cache as slab_layer
 use Rattle.stock.specs.Spaces.{SpaceState}
-use Rattle.stock.specs.Sums.{Sums, Places, held, places_of, sums_of}
+use Rattle.stock.specs.Sums.{Sums, held, places_of, sums_of}
 use Rattle.stock_audit.specs.Outside.{Outside, out_of}
 
 -- the second arena is the first, its source, that one's source, or so on

@@ -1,5 +1,5 @@
 -- The steps that a stock and the segments out of it take together.
-use Rattle.std.specs.Prelude.{◌≡◌, ℕ, List, ◌∷◌, ◌++◌, All, set, slice_get, Some}
+use Rattle.std.specs.Prelude.{◌≡◌, ℕ, List, ◌++◌, set, slice_get, Some}
 use Rattle.deed_core.specs.Tag.{Tag}
 use Rattle.deed_core.specs.Weights.{WeighSame, Gains, Loses}
 use Rattle.stock.specs.Spaces.{SpaceState, plans_of}

@@ -2,21 +2,20 @@
 use Rattle.std.specs.Prelude.{◌≡◌, ℕ, ◌+◌, ◌<◌, ◌≤◌, List, [], AllPairs, filter, slice_get, Some, sum_by}
 use Rattle.deed_core.specs.Holding.{Holding}
 use Rattle.deed_core.specs.Tag.{Tag}
-use Rattle.deed_core.specs.Extent.{Covers}
-use Rattle.deed_core.specs.Covering.{covers_held, covering_held, units_in, units_held}
+use Rattle.deed_core.specs.Covering.{covering_held, units_in, units_held}
 use Rattle.deed_core.specs.Selections.{came_direct}
 use Rattle.deed_core.specs.Weights.{of_arena}
 use Rattle.tag_arena.specs.ArenaState.{spans_of, ranges_of}
 use Rattle.stock.specs.Spaces.{SpaceState}
 use Rattle.stock.specs.OwnCaches.{OwnCacheState}
 use Rattle.stock.specs.Accounts.{IsAccounted}
-use Rattle.stock.specs.Sums.{Sums, held_of, places_of, total}
+use Rattle.stock.specs.Sums.{held_of, places_of, total}
 use Rattle.stock.specs.Laws.{HasTop, ApartUpChain}
 use Rattle.stock_audit.specs.Outside.{Outside, nothing_out, own_rounds, out_of, segments_out}
 use Rattle.stock_audit.specs.Audits.{sums_of_arena, units_of_arena_in}
 use Rattle.stock_audit.specs.Accounted.{IsAccountedFor}
 use Rattle.stock_audit.specs.Keeping.{IsStep, HandsMove, OnCpu, PopMove, PushMove, ChangeMove, LeaseMove, ReleaseMove}
-use Rattle.stock_audit.specs.Chains.{IsUpFrom, IsFreeFor, unit_of_arena, spans_of_children, spans_of_slabs}
+use Rattle.stock_audit.specs.Chains.{IsUpFrom, unit_of_arena, spans_of_children, spans_of_slabs}
 
 -- the sums of each arena add up to the units of its spans
 abbrev pub AuditAddsUp : Type 0

@@ -1,7 +1,6 @@
-use Rattle.std.proofs.Common.{◌≡◌, ◌<◌, ◌≤◌, length, ◌∙◌, sym, arith}
-use Rattle.deed_core.specs.Tag.{Tag}
-use Rattle.deed_core.specs.Covering.{units_in, units_held, units_tagged}
-use Rattle.deed_core.proofs.LawProofs.{slice_get_some, sum_by-map, sum_by-flat_map}
+use Rattle.std.proofs.Common.{◌<◌, ◌≤◌, length, ◌∙◌, sym, arith}
+use Rattle.deed_core.specs.Covering.{units_in, units_held}
+use Rattle.deed_core.proofs.LawProofs.{slice_get_some, sum_by-flat_map}
 use Rattle.slab_layer.specs.Cache.{deeds_of}
 use Rattle.stock.specs.Spaces.{QuantumCacheState}
 use Rattle.stock_audit.proofs.Counting.{cache_stands, cache_more, cache_fits, all_counted}

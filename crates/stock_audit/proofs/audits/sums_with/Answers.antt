@@ -1,4 +1,4 @@
-use Rattle.std.proofs.Common.{◌≡◌, ◌<◌, ◌≤◌, refl, arith}
+use Rattle.std.proofs.Common.{refl, arith}
 use Rattle.deed_core.proofs.LawProofs.{slice_get_some}
 use Rattle.stock_audit.proofs.Auditing.{all_told, tells}
 use Rattle.stock_audit.proofs.audits.sums_with.Goals as goal
@@ -50,4 +50,4 @@ returns g c o tally s at =
     let free = c.requires.report.free s at in
     let slab = c.slab_units-slab.ensures s at in
     let depots = c.depots_units.ensures s at in
-    tells c.args.stock.now c.count.ensures.stock c.args.arena s at c.args.out _ c.requires.balanced o tally free slab (omega (arith, depots)) (omega (arith, all, span, free, slab, depots, c.requires.report.adds_up)) refl refl
+    tells c.args.stock.now c.count.ensures.stock c.args.arena s at c.args.out c.requires.balanced _ o tally free slab (omega (arith, depots)) (omega (arith, all, span, free, slab, depots, c.requires.report.adds_up)) refl refl
