@@ -1,5 +1,5 @@
 -- Up a chain: spans are exports of their source.
-use Rattle.std.proofs.Common.{◌≡◌, ℕ, suc, zero, ◌+◌, ◌<◌, ◌≤◌, true, nat_eq, Option, Some, None, refl, ap, ◌∙◌, List, cond, arith}
+use Rattle.std.proofs.Common.{◌≡◌, ℕ, ◌+◌, ◌≤◌, true, nat_eq, Some, refl, ap, ◌∙◌, List, cond, arith}
 use Rattle.std.specs.Prelude.{slice_get}
 use Rattle.std.proofs.lemmas.Bool.Decides.{nat_tests}
 use Rattle.std.proofs.lemmas.Option.{slice_get_within}
@@ -9,12 +9,11 @@ use Rattle.deed_core.proofs.LawProofs.{slice_get_some, slice_get_one, part_of_su
 use Rattle.tag_arena.specs.ArenaState.{spans_of}
 use Rattle.stock.specs.Spaces.{SpaceState, quanta_of}
 use Rattle.stock.specs.Accounts.{imported}
-use Rattle.stock.specs.Laws.{HasTop, root, child}
 use Rattle.stock.proofs.LawProofs.{out_is_apart}
 use Rattle.stock_audit.specs.Outside.{Outside, segments_out}
 use Rattle.stock_audit.specs.Accounted.{IsAccountedFor}
 use Rattle.stock_audit.specs.Chains.{IsUpFrom, here, above, is_source, is_child_of, unit_of_arena}
-use Rattle.stock_audit.specs.Laws.{ChildIsExported, SpansAreOfSource, TopStands, OutNeverOverlaps}
+use Rattle.stock_audit.specs.Laws.{ChildIsExported, SpansAreOfSource, OutNeverOverlaps}
 use Rattle.stock_audit.proofs.Placing.{unit_adds_up}
 use Rattle.stock_audit.proofs.Exporting.{imported_weigh, children_weigh, exported_is_children}
 
@@ -41,7 +40,7 @@ module _ (spaces : List SpaceState) (out : Outside) (a : IsAccountedFor spaces o
   exported_in_spans : (p : ℕ) (from : SpaceState) → slice_get spaces p ≡ Some from → (unit_of_arena u spaces out from).exported ≤ covering_held u (spans_of from.arena)
   exported_in_spans p from there = (let all = unit_adds_up spaces out a p from there u in omega (arith, all.0))
 
-  source_stands : (k p : ℕ) (s : SpaceState) → slice_get spaces k ≡ Some s → s.source ≡ Some p → (from : SpaceState) × (slice_get spaces p ≡ Some from)
+  pub source_stands : (k p : ℕ) (s : SpaceState) → slice_get spaces k ≡ Some s → s.source ≡ Some p → (from : SpaceState) × (slice_get spaces p ≡ Some from)
   source_stands k p s at source =
       let within = slice_get_within spaces k s at in
       let before = (a.parts k s at).before p source in
@@ -68,28 +67,6 @@ child_is_exported spaces out a k p s from at source there u some =
 
 pub spans_are_of_source : SpansAreOfSource
 spans_are_of_source spaces out a k b s from chain at there u = up spaces out a u k b chain s from at there
-
--- the top of a chain, by the tops of what stands before
-module _ (spaces : List SpaceState) (out : Outside) (a : IsAccountedFor spaces out) where
-  abbrev Top : ℕ → Type 0
-  Top k = (top : ℕ) × HasTop spaces k top
-
-  next_top : (k : ℕ) (s : SpaceState) → slice_get spaces k ≡ Some s → ((p : ℕ) (x : SpaceState) → p < k → slice_get spaces p ≡ Some x → Top p) → Top k
-  next_top k s at later = by s.source refl
-    where
-      by : (o : Option ℕ) → s.source ≡ o → Top k
-      by None source = (k, root k s at source)
-      by (Some p) source =
-          let next = source_stands spaces out a 0 k p s at source in
-          let rest = later p next.0 ((a.parts k s at).before p source) next.1 in
-          (rest.0, child k p rest.0 s at source rest.1)
-
-  top_below : (n k : ℕ) (s : SpaceState) → k < n → slice_get spaces k ≡ Some s → Top k
-  top_below zero k s lt at = absurd (omega (arith, lt))
-  top_below (suc n) k s lt at = next_top k s at (λ p x before there. top_below n p x (omega (arith, lt, before)) there)
-
-pub top_stands : TopStands
-top_stands spaces out a k s at = top_below spaces out a (k + 1) k s (omega arith) at
 
 pub out_never_overlaps : OutNeverOverlaps
 out_never_overlaps spaces out a = out_is_apart spaces (segments_out out) (record { stock = a.parts; accounts = a.accounts })

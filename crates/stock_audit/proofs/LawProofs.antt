@@ -3,4 +3,6 @@
 pub use Rattle.stock_audit.proofs.Placing.{audit_adds_up, unit_adds_up, units_weigh}
 pub use Rattle.stock_audit.proofs.Keeping.{fresh_is_accounted, accounted_balances, hand_steps_keep, swaps_keep, pops_keep, pushes_keep, changes_keep, leases_keep, releases_keep}
 pub use Rattle.stock_audit.proofs.Exporting.{exported_is_children, allocated_is_out}
-pub use Rattle.stock_audit.proofs.Climbing.{child_is_exported, spans_are_of_source, top_stands, out_never_overlaps}
+pub use Rattle.stock_audit.proofs.Climbing.{child_is_exported, spans_are_of_source, out_never_overlaps}
+pub use Rattle.stock_audit.proofs.Tops.{tops_stand}
+pub use Rattle.stock_audit.proofs.WholeSpaces.{space_unit_adds_up, space_adds_up, free_is_not_out}

@@ -3,6 +3,8 @@ mod Keeping
 mod Placing
 mod Exporting
 mod Climbing
+mod Tops
+mod WholeSpaces
 mod Counting
 mod Auditing
 pub mod LawProofs

@@ -6,6 +6,7 @@ use Rattle.tag_arena.specs.ArenaState.{spans_of}
 use Rattle.slab_layer.specs.Cache as slab_layer
 use Rattle.stock.specs.Spaces.{SpaceState}
 use Rattle.stock.specs.Sums.{Sums, held, places_of, sums_of}
+use Rattle.stock.specs.Laws.{HasTop}
 use Rattle.stock_audit.specs.Outside.{Outside, out_of}
 
 -- the second arena is the first, its source, that one's source, or so on
@@ -24,6 +25,19 @@ pub data IsFreeFor (spaces : List SpaceState) (u : ℕ) : ℕ → Type 0 where
 -- the places of a unit: 1 where it is, and 0 elsewhere
 abbrev pub unit_of_arena : ℕ → List SpaceState → Outside → SpaceState → Sums
 unit_of_arena u spaces out s = sums_of (covers_held u) (places_of spaces (out_of out) s)
+
+-- the places of an arena but what it exported, which is in other arenas
+abbrev pub unexported : Sums → ℕ
+unexported x = x.free + (x.slab + (x.magazine + (x.leased + x.hand)))
+
+-- the arena at the top of the chain of each one
+abbrev pub AreTops : List SpaceState → (ℕ → ℕ) → Type 0
+AreTops spaces top = (k : ℕ) (s : SpaceState) → slice_get spaces k ≡ Some s
+    → HasTop spaces k (top k)
+
+-- it has this one
+abbrev pub is_under : (ℕ → ℕ) → ℕ → SpaceState → Bool
+is_under top r s = top s.arena.id == r
 
 -- it is in a slab or in a magazine of the arena
 abbrev pub IsCached : Sums → Type 0

@@ -1,10 +1,11 @@
 -- What follows for a stock and the segments that are out of it.
-use Rattle.std.specs.Prelude.{◌≡◌, ℕ, ◌+◌, ◌<◌, ◌≤◌, List, [], AllPairs, filter, slice_get, Some, sum_by}
+use Rattle.std.specs.Prelude.{◌≡◌, ℕ, ◌+◌, ◌<◌, ◌≤◌, List, [], All, AllPairs, filter, slice_get, Some, None, sum_by}
 use Rattle.deed_core.specs.Holding.{Holding}
 use Rattle.deed_core.specs.Tag.{Tag}
+use Rattle.deed_core.specs.Extent.{Covers}
 use Rattle.deed_core.specs.Covering.{covering_held, units_in, units_held}
 use Rattle.deed_core.specs.Selections.{came_direct}
-use Rattle.deed_core.specs.Weights.{of_arena}
+use Rattle.deed_core.specs.Weights.{only, of_arena}
 use Rattle.tag_arena.specs.ArenaState.{spans_of, ranges_of}
 use Rattle.stock.specs.Spaces.{SpaceState}
 use Rattle.stock.specs.OwnCaches.{OwnCacheState}
@@ -15,7 +16,7 @@ use Rattle.stock_audit.specs.Outside.{Outside, nothing_out, own_rounds, out_of, 
 use Rattle.stock_audit.specs.Audits.{sums_of_arena, units_of_arena_in}
 use Rattle.stock_audit.specs.Accounted.{IsAccountedFor}
 use Rattle.stock_audit.specs.Keeping.{IsStep, HandsMove, OnCpu, PopMove, PushMove, ChangeMove, LeaseMove, ReleaseMove}
-use Rattle.stock_audit.specs.Chains.{IsUpFrom, unit_of_arena, spans_of_children, spans_of_slabs}
+use Rattle.stock_audit.specs.Chains.{IsUpFrom, IsFreeFor, AreTops, is_under, unexported, unit_of_arena, spans_of_children, spans_of_slabs}
 
 -- the sums of each arena add up to the units of its spans
 abbrev pub AuditAddsUp : Type 0
@@ -110,12 +111,34 @@ SpansAreOfSource = (spaces : List SpaceState) (out : Outside) → IsAccountedFor
     → slice_get spaces a ≡ Some from → (u : ℕ)
     → covering_held u (spans_of s.arena) ≤ covering_held u (spans_of from.arena)
 
--- each arena has one at the top of its chain
-abbrev pub TopStands : Type 0
-TopStands = (spaces : List SpaceState) (out : Outside) → IsAccountedFor spaces out
-    → (k : ℕ) (s : SpaceState) → slice_get spaces k ≡ Some s → (top : ℕ) × HasTop spaces k top
-
 -- no two segments that are out overlap where their arenas have one top
 abbrev pub OutNeverOverlaps : Type 0
 OutNeverOverlaps = (spaces : List SpaceState) (out : Outside) → IsAccountedFor spaces out
     → AllPairs (ApartUpChain spaces) (segments_out out)
+
+-- over all arenas of one space, each unit of the spans at the top is in one place, and another in none
+abbrev pub SpaceUnitAddsUp : Type 0
+SpaceUnitAddsUp = (spaces : List SpaceState) (out : Outside) → IsAccountedFor spaces out
+    → (top : ℕ → ℕ) → AreTops spaces top → (r : ℕ) (root : SpaceState)
+    → slice_get spaces r ≡ Some root → root.source ≡ None → (u : ℕ)
+    → (sum_by (only (is_under top r) (λ s. unexported (unit_of_arena u spaces out s))) spaces
+    ≡ covering_held u (spans_of root.arena)) × (covering_held u (spans_of root.arena) ≤ 1)
+
+-- so the sums of all of them, but what they exported, add up to the units of those spans
+abbrev pub SpaceAddsUp : Type 0
+SpaceAddsUp = (spaces : List SpaceState) (out : Outside) → IsAccountedFor spaces out
+    → (top : ℕ → ℕ) → AreTops spaces top → (r : ℕ) (root : SpaceState)
+    → slice_get spaces r ≡ Some root → root.source ≡ None
+    → sum_by (only (is_under top r) (λ s. unexported (sums_of_arena spaces out s))) spaces
+    ≡ units_held (spans_of root.arena)
+
+-- there are such tops
+abbrev pub TopsStand : Type 0
+TopsStand = (spaces : List SpaceState) (out : Outside) → IsAccountedFor spaces out
+    → (top : ℕ → ℕ) × AreTops spaces top
+
+-- a unit that an arena may carve or import is in no segment that is out of an arena of its space
+abbrev pub FreeIsNotOut : Type 0
+FreeIsNotOut = (spaces : List SpaceState) (out : Outside) → IsAccountedFor spaces out
+    → (k top u : ℕ) → IsFreeFor spaces u k → HasTop spaces k top
+    → All (λ t. HasTop spaces t.arena top → ¬ Covers t.holding.range u) (segments_out out)

@@ -5,7 +5,8 @@ ghost use Rattle.stock_audit.specs.Laws.{FreshIsAccounted, AccountedBalances};
 ghost use Rattle.stock_audit.specs.Laws.{HandStepsKeep, SwapsKeep, PopsKeep, PushesKeep};
 ghost use Rattle.stock_audit.specs.Laws.{ChangesKeep, LeasesKeep, ReleasesKeep};
 ghost use Rattle.stock_audit.specs.Laws.{ChildIsExported, ExportedIsChildren, AllocatedIsOut};
-ghost use Rattle.stock_audit.specs.Laws.{SpansAreOfSource, TopStands, OutNeverOverlaps};
+ghost use Rattle.stock_audit.specs.Laws.{SpansAreOfSource, OutNeverOverlaps};
+ghost use Rattle.stock_audit.specs.Laws.{SpaceUnitAddsUp, SpaceAddsUp, TopsStand, FreeIsNotOut};
 
 /// The six sums of an arena add up to its spans, by units and unit by unit.
 pub fn sum_laws()
@@ -42,6 +43,14 @@ pub fn chain_laws()
     ensures children { ExportedIsChildren }
     ensures allocated { AllocatedIsOut }
     ensures spans { SpansAreOfSource }
-    ensures top { TopStands }
     ensures apart { OutNeverOverlaps }
+{}
+
+/// Over a whole space, which is an arena with all that import from it, directly or not: each unit is
+/// in one place of one arena, and what may be carved is in no segment that is out.
+pub fn space_laws()
+    ensures tops { TopsStand }
+    ensures place { SpaceUnitAddsUp }
+    ensures lengths { SpaceAddsUp }
+    ensures free { FreeIsNotOut }
 {}

@@ -18,5 +18,5 @@ mod laws;
 mod lists;
 
 pub use audits::{ArenaSums, UnitsOut, audit, audit_units};
-pub use laws::{accounted_laws, chain_laws, move_laws, step_laws, sum_laws};
+pub use laws::{accounted_laws, chain_laws, move_laws, space_laws, step_laws, sum_laws};
 pub use lists::{rounds_units, units_of};

@@ -13,8 +13,5 @@ returns-clause-allocated c = laws.allocated_is_out
 pub returns-clause-spans : goal.returns-clause-spans
 returns-clause-spans c = laws.spans_are_of_source
 
-pub returns-clause-top : goal.returns-clause-top
-returns-clause-top c = laws.top_stands
-
 pub returns-clause-apart : goal.returns-clause-apart
 returns-clause-apart c = laws.out_never_overlaps
