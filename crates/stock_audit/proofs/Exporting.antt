@@ -22,7 +22,7 @@ use Rattle.stock_audit.proofs.Placing.{held_weigh}
 
 -- a weight of one arena's segments
 module _ (k : ℕ) (g : Tag → ℕ) where
-  weighs_here : (t : Tag) → t.arena ≡ k → of_arena k g t ≡ g t
+  pub weighs_here : (t : Tag) → t.arena ≡ k → of_arena k g t ≡ g t
   weighs_here t is = (let test : nat_eq t.arena k ≡ true = grind (arith, nat_tests) in ap (λ b. cond b (g t) 0) test)
 
   weighs_there : (t : Tag) → t.arena ≢ k → of_arena k g t ≡ 0
