@@ -5,4 +5,5 @@ pub use Rattle.stock_audit.proofs.Keeping.{fresh_is_accounted, accounted_balance
 pub use Rattle.stock_audit.proofs.Exporting.{exported_is_children, allocated_is_out}
 pub use Rattle.stock_audit.proofs.Climbing.{child_is_exported, spans_are_of_source, out_never_overlaps}
 pub use Rattle.stock_audit.proofs.Tops.{tops_stand}
-pub use Rattle.stock_audit.proofs.WholeSpaces.{space_unit_adds_up, space_adds_up, free_is_not_out}
+pub use Rattle.stock_audit.proofs.WholeSpaces.{space_unit_adds_up, space_adds_up}
+pub use Rattle.stock_audit.proofs.Reaching.{free_is_not_out, reachable_is_not_held}

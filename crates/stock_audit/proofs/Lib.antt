@@ -5,6 +5,7 @@ mod Exporting
 mod Climbing
 mod Tops
 mod WholeSpaces
+mod Reaching
 mod Counting
 mod Auditing
 pub mod LawProofs

@@ -1,30 +1,25 @@
 -- Over a whole space each unit is in one place of one arena: what an arena exported are its children's
 -- spans, so the spans of all but the top cancel.
-use Rattle.std.proofs.Common.{◌≡◌, ◌≢◌, ℕ, ◌+◌, ◌<◌, ◌≤◌, Bool, true, false, cond, nat_eq, Option, Some, None, inl, inr, refl, sym, subst, ap, ◌∙◌, List, [], ◌∷◌, ◌++◌, All, arith}
-use Rattle.std.specs.Prelude.{slice_get, sum_by, flat_map}
+use Rattle.std.proofs.Common.{◌≡◌, ◌≢◌, ℕ, ◌+◌, Bool, true, false, cond, nat_eq, Option, Some, None, refl, sym, ap, ◌∙◌, List, [], ◌∷◌, arith}
+use Rattle.std.specs.Prelude.{slice_get, sum_by}
 use Rattle.std.proofs.lemmas.Bool.Decides.{nat_tests}
-use Rattle.std.proofs.lemmas.List.Sums.{sum_by-cons, sum_by-append}
+use Rattle.std.proofs.lemmas.List.Sums.{sum_by-cons}
 use Rattle.deed_core.specs.Holding.{Holding}
-use Rattle.deed_core.specs.Tag.{Tag}
-use Rattle.deed_core.specs.Extent.{Covers}
-use Rattle.deed_core.specs.Covering.{covers_held, covers_tag, covering_held, units_in, units_held}
-use Rattle.deed_core.specs.Weights.{only, of_arena}
-use Rattle.deed_core.proofs.LawProofs.{counts_the_unit, all_from, sum_none, sum_at, sum_alike, sum_add, sum_if, sum_by-filter, sum_by-flat_map, sum_by-smaller, part_of_sum, slice_get_one}
+use Rattle.deed_core.specs.Covering.{covers_held, covering_held, units_in, units_held}
+use Rattle.deed_core.specs.Weights.{only}
+use Rattle.deed_core.proofs.LawProofs.{sum_none, sum_at, sum_alike, sum_add, sum_if, sum_by-filter, sum_by-flat_map}
 use Rattle.tag_arena.specs.ArenaState.{spans_of}
-use Rattle.magazine_layer.specs.Depots.{depot_rounds}
-use Rattle.stock.specs.Spaces.{SpaceState, QuantumCacheState}
-use Rattle.stock.specs.Stocks.{IsStock}
-use Rattle.stock.specs.Sums.{held, held_of}
-use Rattle.stock.specs.Laws.{HasTop, root, child}
-use Rattle.stock_audit.specs.Outside.{Outside, out_of, segments_out, all_rounds_out}
+use Rattle.stock.specs.Spaces.{SpaceState}
+use Rattle.stock.specs.Laws.{root, child}
+use Rattle.stock_audit.specs.Outside.{Outside}
 use Rattle.stock_audit.specs.Audits.{sums_of_arena}
 use Rattle.stock_audit.specs.Accounted.{IsAccountedFor}
-use Rattle.stock_audit.specs.Chains.{IsFreeFor, free, free_above, AreTops, is_under, is_source, is_child_of, children_of, spans_of_children, unexported, unit_of_arena}
-use Rattle.stock_audit.specs.Laws.{SpaceUnitAddsUp, SpaceAddsUp, FreeIsNotOut}
-use Rattle.stock_audit.proofs.Placing.{held_weigh, audit_adds_up, unit_adds_up}
-use Rattle.stock_audit.proofs.Exporting.{weighs_here, exported_is_children}
+use Rattle.stock_audit.specs.Chains.{AreTops, is_under, is_source, is_child_of, children_of, spans_of_children, unexported, unit_of_arena}
+use Rattle.stock_audit.specs.Laws.{SpaceUnitAddsUp, SpaceAddsUp}
+use Rattle.stock_audit.proofs.Placing.{audit_adds_up, unit_adds_up}
+use Rattle.stock_audit.proofs.Exporting.{exported_is_children}
 use Rattle.stock_audit.proofs.Climbing.{source_stands}
-use Rattle.stock_audit.proofs.Tops.{next_up, one_top, top_is_root, tops_stand}
+use Rattle.stock_audit.proofs.Tops.{one_top}
 
 -- a table's sum, by rows and by columns
 sum_turned : {X Y : Type 0} (g : X → Y → ℕ) (xs : List X) (ys : List Y) → sum_by (λ x. sum_by (λ y. g x y) ys) xs ≡ sum_by (λ y. sum_by (λ x. g x y) xs) ys
@@ -107,8 +102,8 @@ module _ (spaces : List SpaceState) (out : Outside) (a : IsAccountedFor spaces o
   exports_are : sum_by (only (is_under top r) C) spaces ≡ sum_by weigh spaces
   exports_are =
       sum_alike (only (is_under top r) C) (λ s. sum_by (λ x. term s x) spaces) spaces
-          (λ j s at. ap (λ n. cond (is_under top r s) n 0) (sum_by-flat_map f (λ (x : SpaceState). spans_of x.arena) (children_of s.arena.id spaces) ∙ sum_by-filter (is_child_of s.arena.id) W spaces)
-          ∙ sym (sum_if (is_under top r s) (only (is_child_of s.arena.id) W) spaces))
+      (λ j s at. ap (λ n. cond (is_under top r s) n 0) (sum_by-flat_map f (λ (x : SpaceState). spans_of x.arena) (children_of s.arena.id spaces) ∙ sum_by-filter (is_child_of s.arena.id) W spaces)
+      ∙ sym (sum_if (is_under top r s) (only (is_child_of s.arena.id) W) spaces))
       ∙ (sum_turned term spaces spaces ∙ sum_alike (λ x. sum_by (λ s. term s x) spaces) weigh spaces by_child)
 
   -- of the others there is the top alone
@@ -170,80 +165,3 @@ space_adds_up spaces out a top tops r x at none = cancels spaces out a top tops 
       exported_is_children spaces out a k s there units_in,
       ap (λ i. sum_by units_in (spans_of_children i spaces)) (a.parts k s there).id,
     )
-
--- where a unit is free that is free for an arena
-free_stands : (spaces : List SpaceState) (u k top : ℕ) → IsFreeFor spaces u k → HasTop spaces k top
-    → (b : ℕ) × (s : SpaceState) × (slice_get spaces b ≡ Some s) × (0 < covering_held u s.arena.free) × HasTop spaces b top
-free_stands spaces u _ top (free k s at some) up = (k, s, at, some, up)
-free_stands spaces u _ top (free_above k p s at source outside rest) up =
-    let next = next_up spaces k top up in
-    elim next.2 [
-      | inl is_root ↦ absurd (let e : None ≡ Some p = sym is_root.1 ∙ (ap (λ (y : SpaceState). y.source) (slice_get_one spaces k next.0 s next.1 at) ∙ source) in cc)
-      | inr more ↦
-          let both : Some p ≡ Some more.0 = sym source ∙ (ap (λ (y : SpaceState). y.source) (slice_get_one spaces k s next.0 at next.1) ∙ more.1) in
-          let same : p ≡ more.0 = cc in
-          free_stands spaces u p top rest (subst (λ q. HasTop spaces q top) (sym same) more.2)
-    ]
-
-module _ (spaces : List SpaceState) (out : Outside) (u : ℕ) where
-  -- what is free in an arena and what is out of it, of this unit
-  abbrev free_in : SpaceState → ℕ
-  free_in s = covering_held u s.arena.free
-
-  abbrev out_of_it : SpaceState → ℕ
-  out_of_it s = sum_by (of_arena s.arena.id (covers_tag u)) (segments_out out)
-
-  -- they are in different places
-  both_places : (s : SpaceState) → free_in s + out_of_it s ≤ unexported (unit_of_arena u spaces out s)
-  both_places s = omega (
-    arith,
-    sum_by-append (of_arena s.arena.id (covers_tag u)) out.hands (out.leases ++ all_rounds_out out.cpus),
-    sum_by-append (of_arena s.arena.id (covers_tag u)) out.leases (all_rounds_out out.cpus),
-    held_weigh s.arena.id (covers_held u) out.hands,
-    held_weigh s.arena.id (covers_held u) out.leases,
-    held_weigh s.arena.id (covers_held u) (all_rounds_out out.cpus),
-    sum_by-append (covers_held u) (flat_map (λ (c : QuantumCacheState). held (depot_rounds c.depot)) s.caches) (held_of s.arena.id (all_rounds_out out.cpus)),
-  )
-
-  both_counted : (b : Bool) (m n all : ℕ) → m + n ≤ all → cond b m 0 + cond b n 0 ≤ cond b all 0
-  both_counted true m n all le = le
-  both_counted false m n all le = omega arith
-
-  -- over all arenas under one
-  both_fit : (top : ℕ → ℕ) (r : ℕ) → sum_by (only (is_under top r) free_in) spaces + sum_by (only (is_under top r) out_of_it) spaces ≤ sum_by (only (is_under top r) (λ s. unexported (unit_of_arena u spaces out s))) spaces
-  both_fit top r =
-      let each = sum_by-smaller (λ s. only (is_under top r) free_in s + only (is_under top r) out_of_it s) (only (is_under top r) (λ s. unexported (unit_of_arena u spaces out s))) spaces
-          (λ s. both_counted (is_under top r s) (free_in s) (out_of_it s) (unexported (unit_of_arena u spaces out s)) (both_places s)) in
-      omega (arith, each, sum_add (only (is_under top r) free_in) (only (is_under top r) out_of_it) spaces)
-
--- an arena under this one is counted
-counted : (spaces : List SpaceState) (out : Outside) (a : IsAccountedFor spaces out) (top : ℕ → ℕ) → AreTops spaces top → (k r : ℕ) (s : SpaceState) → slice_get spaces k ≡ Some s → HasTop spaces k r
-    → (g : SpaceState → ℕ) → g s ≤ sum_by (only (is_under top r) g) spaces
-counted spaces out a top tops k r s at up g =
-    let own : top k ≡ r = one_top spaces k (top k) r (tops k s at) up in
-    let test : nat_eq (top k) r ≡ true = grind (arith, nat_tests) in
-    let is : is_under top r s ≡ true = ap (λ i. nat_eq (top i) r) (a.parts k s at).id ∙ test in
-    omega (arith, part_of_sum (only (is_under top r) g) spaces k s at, ap (λ b. cond b (g s) 0) is)
-
-pub free_is_not_out : FreeIsNotOut
-free_is_not_out spaces out a k top u may up = all_from (λ t. HasTop spaces t.arena top → ¬ Covers t.holding.range u) (segments_out out) (λ i t at over has. clash i t at over has)
-  where
-    clash : (i : ℕ) (t : Tag) → slice_get (segments_out out) i ≡ Some t → HasTop spaces t.arena top → Covers t.holding.range u → ⊥
-    clash i t at over has =
-        let tops = tops_stand spaces out a in
-        let first = top_is_root spaces k top up in
-        let stands = free_stands spaces u k top may up in
-        let home = next_up spaces t.arena top over in
-        let id = (a.parts t.arena home.0 home.1).id in
-        omega (
-          arith,
-          (space_unit_adds_up spaces out a tops.0 tops.1 top first.0 first.1 first.2 u).0,
-          (space_unit_adds_up spaces out a tops.0 tops.1 top first.0 first.1 first.2 u).1,
-          both_fit spaces out u tops.0 top,
-          counted spaces out a tops.0 tops.1 stands.0 top stands.1 stands.2 stands.4 (free_in spaces out u),
-          stands.3,
-          counted spaces out a tops.0 tops.1 t.arena top home.0 home.1 over (out_of_it spaces out u),
-          part_of_sum (of_arena home.0.arena.id (covers_tag u)) (segments_out out) i t at,
-          weighs_here home.0.arena.id (covers_tag u) t (sym id),
-          (counts_the_unit u t.holding.range).1.1 has,
-        )

@@ -1,5 +1,5 @@
 -- What follows for a stock and the segments that are out of it.
-use Rattle.std.specs.Prelude.{◌≡◌, ℕ, ◌+◌, ◌<◌, ◌≤◌, List, [], All, AllPairs, filter, slice_get, Some, None, sum_by}
+use Rattle.std.specs.Prelude.{◌≡◌, ℕ, ◌+◌, ◌<◌, ◌≤◌, List, [], ◌++◌, All, AllPairs, filter, slice_get, Some, None, sum_by}
 use Rattle.deed_core.specs.Holding.{Holding}
 use Rattle.deed_core.specs.Tag.{Tag}
 use Rattle.deed_core.specs.Extent.{Covers}
@@ -16,7 +16,7 @@ use Rattle.stock_audit.specs.Outside.{Outside, nothing_out, own_rounds, out_of, 
 use Rattle.stock_audit.specs.Audits.{sums_of_arena, units_of_arena_in}
 use Rattle.stock_audit.specs.Accounted.{IsAccountedFor}
 use Rattle.stock_audit.specs.Keeping.{IsStep, HandsMove, OnCpu, PopMove, PushMove, ChangeMove, LeaseMove, ReleaseMove}
-use Rattle.stock_audit.specs.Chains.{IsUpFrom, IsFreeFor, AreTops, is_under, unexported, unit_of_arena, spans_of_children, spans_of_slabs}
+use Rattle.stock_audit.specs.Chains.{IsUpFrom, IsFreeFor, IsReachable, AreTops, is_under, unexported, unit_of_arena, spans_of_children, spans_of_slabs}
 
 -- the sums of each arena add up to the units of its spans
 abbrev pub AuditAddsUp : Type 0
@@ -142,3 +142,10 @@ abbrev pub FreeIsNotOut : Type 0
 FreeIsNotOut = (spaces : List SpaceState) (out : Outside) → IsAccountedFor spaces out
     → (k top u : ℕ) → IsFreeFor spaces u k → HasTop spaces k top
     → All (λ t. HasTop spaces t.arena top → ¬ Covers t.holding.range u) (segments_out out)
+
+-- nor is one that it may serve a request with, of its caches too, in a hand or leased
+abbrev pub ReachableIsNotHeld : Type 0
+ReachableIsNotHeld = (spaces : List SpaceState) (out : Outside) → IsAccountedFor spaces out
+    → (k top u : ℕ) (s : SpaceState) → slice_get spaces k ≡ Some s
+    → IsReachable spaces out k s u → HasTop spaces k top
+    → All (λ t. HasTop spaces t.arena top → ¬ Covers t.holding.range u) (out.hands ++ out.leases)

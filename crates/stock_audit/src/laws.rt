@@ -6,7 +6,8 @@ ghost use Rattle.stock_audit.specs.Laws.{HandStepsKeep, SwapsKeep, PopsKeep, Pus
 ghost use Rattle.stock_audit.specs.Laws.{ChangesKeep, LeasesKeep, ReleasesKeep};
 ghost use Rattle.stock_audit.specs.Laws.{ChildIsExported, ExportedIsChildren, AllocatedIsOut};
 ghost use Rattle.stock_audit.specs.Laws.{SpansAreOfSource, OutNeverOverlaps};
-ghost use Rattle.stock_audit.specs.Laws.{SpaceUnitAddsUp, SpaceAddsUp, TopsStand, FreeIsNotOut};
+ghost use Rattle.stock_audit.specs.Laws.{SpaceUnitAddsUp, SpaceAddsUp, TopsStand};
+ghost use Rattle.stock_audit.specs.Laws.{FreeIsNotOut, ReachableIsNotHeld};
 
 /// The six sums of an arena add up to its spans, by units and unit by unit.
 pub fn sum_laws()
@@ -53,4 +54,5 @@ pub fn space_laws()
     ensures place { SpaceUnitAddsUp }
     ensures lengths { SpaceAddsUp }
     ensures free { FreeIsNotOut }
+    ensures reachable { ReachableIsNotHeld }
 {}

@@ -12,3 +12,6 @@ returns-clause-lengths c = laws.space_adds_up
 
 pub returns-clause-free : goal.returns-clause-free
 returns-clause-free c = laws.free_is_not_out
+
+pub returns-clause-reachable : goal.returns-clause-reachable
+returns-clause-reachable c = laws.reachable_is_not_held
