@@ -13,7 +13,7 @@ use Rattle.stock.proofs.LawProofs.{out_weighs}
 use Rattle.stock_audit.specs.Outside.{Outside, nothing_out, own_rounds, all_rounds_out, segments_out}
 use Rattle.stock_audit.specs.Accounted.{IsOwnIn, IsAccountedFor}
 use Rattle.stock_audit.specs.Keeping.{IsStep, OnCpu}
-use Rattle.stock_audit.specs.Laws.{FreshIsAccounted, AccountedBalances, HandStepsKeep, SwapsKeep, PopsKeep, PushesKeep, ChangesKeep, LeasesKeep, ReleasesKeep}
+use Rattle.stock_audit.specs.Laws.{FreshIsAccounted, AccountedBalances, HandStepsKeep, SwapsKeep, PopsKeep, PushesKeep, ChangesKeep, LeasesKeep, ReleasesKeep, CpusKeep}
 use Rattle.stock_audit.proofs.Standing.{accounted, own_kept}
 
 pub fresh_is_accounted : FreshIsAccounted
@@ -127,3 +127,17 @@ pub releases_keep : ReleasesKeep
 releases_keep spaces t before after a m = stays spaces before after a
     (λ f. omega (arith, weight f before, weight f after, m.hands f, m.leases f, ap (rounds_weigh f) m.cpus))
     (subst (All (IsOwnIn spaces)) (sym m.cpus) a.cpus)
+
+pub cpus_keep : CpusKeep
+cpus_keep spaces before after a m = stays spaces before after a
+    (λ f. omega (
+      arith,
+      weight f before,
+      weight f after,
+      ap (sum_by f) m.hands,
+      ap (sum_by f) m.leases,
+      m.rounds f,
+      sum_by-flat_map f own_rounds before.cpus,
+      sum_by-flat_map f own_rounds after.cpus,
+    ))
+    m.own

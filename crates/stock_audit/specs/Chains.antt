@@ -1,5 +1,6 @@
 -- What is reachable up a chain of sources.
-use Rattle.std.specs.Prelude.{◌≡◌, ◌⊎◌, ℕ, ◌+◌, ◌==◌, ◌<◌, Bool, false, List, filter, flat_map, slice_get, Option, Some, None}
+use Rattle.std.specs.Prelude.{◌≡◌, ◌⊎◌, ℕ, ◌+◌, ◌==◌, ◌<◌, Bool, false, List, filter, flat_map}
+use Rattle.std.specs.Prelude.{slice_get, Option, Some, None}
 use Rattle.deed_core.specs.Holding.{Holding}
 use Rattle.deed_core.specs.Covering.{covers_held, covering_held}
 use Rattle.tag_arena.specs.ArenaState.{spans_of}
@@ -43,7 +44,8 @@ is_under top r s = top s.arena.id == r
 abbrev pub IsCached : Sums → Type 0
 IsCached x = 0 < x.slab + x.magazine
 
--- what the arena may serve a request with: free units, also such as it would import, and cached ones
+-- what the arena may serve a request with: free units, also such as it would import, and those in
+-- its caches
 abbrev pub IsReachable : List SpaceState → Outside → ℕ → SpaceState → ℕ → Type 0
 IsReachable spaces out k s u = IsFreeFor spaces u k ⊎ IsCached (unit_of_arena u spaces out s)
 

@@ -1,12 +1,13 @@
 -- The steps that a stock and the segments out of it take together.
-use Rattle.std.specs.Prelude.{◌≡◌, ℕ, List, ◌++◌, set, slice_get, Some}
+use Rattle.std.specs.Prelude.{◌≡◌, ℕ, List, ◌++◌, All, set, slice_get, Some}
 use Rattle.deed_core.specs.Tag.{Tag}
 use Rattle.deed_core.specs.Weights.{WeighSame, Gains, Loses}
 use Rattle.stock.specs.Spaces.{SpaceState, plans_of}
 use Rattle.stock.specs.Stocks.{IsStock}
 use Rattle.stock.specs.Accounts.{Frames}
 use Rattle.stock.specs.OwnCaches.{OwnCacheState, IsOwnCache, IsAtPlaceOf}
-use Rattle.stock_audit.specs.Outside.{Outside, own_rounds}
+use Rattle.stock_audit.specs.Outside.{Outside, own_rounds, all_rounds_out}
+use Rattle.stock_audit.specs.Accounted.{IsOwnIn}
 
 -- a call of a stock was given some segments and answered others: what the stock's own law and the
 -- clauses `frame` and `fixed` of each call say
@@ -64,3 +65,10 @@ pub record ReleaseMove (t : Tag) (before after : Outside) : Type 0 where
   pub hands : Gains before.hands after.hands t
   pub leases : Loses before.leases after.leases t
   pub cpus : after.cpus ≡ before.cpus
+
+-- the CPUs' caches are others, each of a quantum cache of the stock, with the same rounds in them all
+pub record CpusMove (spaces : List SpaceState) (before after : Outside) : Type 0 where
+  pub hands : after.hands ≡ before.hands
+  pub leases : after.leases ≡ before.leases
+  pub rounds : WeighSame (all_rounds_out before.cpus) (all_rounds_out after.cpus)
+  pub own : All (IsOwnIn spaces) after.cpus

@@ -1,5 +1,6 @@
 -- What follows for a stock and the segments that are out of it.
-use Rattle.std.specs.Prelude.{◌≡◌, ℕ, ◌+◌, ◌<◌, ◌≤◌, List, [], ◌++◌, All, AllPairs, filter, slice_get, Some, None, sum_by}
+use Rattle.std.specs.Prelude.{◌≡◌, ℕ, ◌+◌, ◌<◌, ◌≤◌, List, [], ◌++◌, All, AllPairs, filter}
+use Rattle.std.specs.Prelude.{slice_get, Some, None, sum_by}
 use Rattle.deed_core.specs.Holding.{Holding}
 use Rattle.deed_core.specs.Tag.{Tag}
 use Rattle.deed_core.specs.Extent.{Covers}
@@ -15,8 +16,10 @@ use Rattle.stock.specs.Laws.{HasTop, ApartUpChain}
 use Rattle.stock_audit.specs.Outside.{Outside, nothing_out, own_rounds, out_of, segments_out}
 use Rattle.stock_audit.specs.Audits.{sums_of_arena, units_of_arena_in}
 use Rattle.stock_audit.specs.Accounted.{IsAccountedFor}
-use Rattle.stock_audit.specs.Keeping.{IsStep, HandsMove, OnCpu, PopMove, PushMove, ChangeMove, LeaseMove, ReleaseMove}
-use Rattle.stock_audit.specs.Chains.{IsUpFrom, IsFreeFor, IsReachable, AreTops, is_under, unexported, unit_of_arena, spans_of_children, spans_of_slabs}
+use Rattle.stock_audit.specs.Keeping.{IsStep, HandsMove, OnCpu, PopMove, PushMove, ChangeMove}
+use Rattle.stock_audit.specs.Keeping.{LeaseMove, ReleaseMove, CpusMove}
+use Rattle.stock_audit.specs.Chains.{IsUpFrom, IsFreeFor, IsReachable, AreTops, is_under}
+use Rattle.stock_audit.specs.Chains.{unexported, unit_of_arena, spans_of_children, spans_of_slabs}
 
 -- the sums of each arena add up to the units of its spans
 abbrev pub AuditAddsUp : Type 0
@@ -82,6 +85,11 @@ abbrev pub ReleasesKeep : Type 0
 ReleasesKeep = (spaces : List SpaceState) (t : Tag) (before after : Outside)
     → IsAccountedFor spaces before → ReleaseMove t before after → IsAccountedFor spaces after
 
+-- CPUs' caches come and go, with the same rounds in them all
+abbrev pub CpusKeep : Type 0
+CpusKeep = (spaces : List SpaceState) (before after : Outside) → IsAccountedFor spaces before
+    → CpusMove spaces before after → IsAccountedFor spaces after
+
 -- a unit of an arena's spans stands as exported in its source, and nowhere else there
 abbrev pub ChildIsExported : Type 0
 ChildIsExported = (spaces : List SpaceState) (out : Outside) → IsAccountedFor spaces out
@@ -116,7 +124,8 @@ abbrev pub OutNeverOverlaps : Type 0
 OutNeverOverlaps = (spaces : List SpaceState) (out : Outside) → IsAccountedFor spaces out
     → AllPairs (ApartUpChain spaces) (segments_out out)
 
--- over all arenas of one space, each unit of the spans at the top is in one place, and another in none
+-- over all arenas of one space, each unit of the spans at the top is in one place, and any other
+-- in none
 abbrev pub SpaceUnitAddsUp : Type 0
 SpaceUnitAddsUp = (spaces : List SpaceState) (out : Outside) → IsAccountedFor spaces out
     → (top : ℕ → ℕ) → AreTops spaces top → (r : ℕ) (root : SpaceState)

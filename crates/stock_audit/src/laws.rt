@@ -3,7 +3,7 @@
 ghost use Rattle.stock_audit.specs.Laws.{AuditAddsUp, UnitAddsUp, UnitsWeigh};
 ghost use Rattle.stock_audit.specs.Laws.{FreshIsAccounted, AccountedBalances};
 ghost use Rattle.stock_audit.specs.Laws.{HandStepsKeep, SwapsKeep, PopsKeep, PushesKeep};
-ghost use Rattle.stock_audit.specs.Laws.{ChangesKeep, LeasesKeep, ReleasesKeep};
+ghost use Rattle.stock_audit.specs.Laws.{ChangesKeep, LeasesKeep, ReleasesKeep, CpusKeep};
 ghost use Rattle.stock_audit.specs.Laws.{ChildIsExported, ExportedIsChildren, AllocatedIsOut};
 ghost use Rattle.stock_audit.specs.Laws.{SpansAreOfSource, OutNeverOverlaps};
 ghost use Rattle.stock_audit.specs.Laws.{SpaceUnitAddsUp, SpaceAddsUp, TopsStand};
@@ -28,13 +28,15 @@ pub fn step_laws()
     ensures swaps { SwapsKeep }
 {}
 
-/// So does what changes no part: what is private to a CPU, and what a book does with a hand.
+/// So does what changes no part: what is private to a CPU, what a book does with a hand, and that
+/// CPUs come and go.
 pub fn move_laws()
     ensures pops { PopsKeep }
     ensures pushes { PushesKeep }
     ensures changes { ChangesKeep }
     ensures leases { LeasesKeep }
     ensures releases { ReleasesKeep }
+    ensures cpus { CpusKeep }
 {}
 
 /// Up a chain of sources, of any length: spans are their sources' exports, and what is out never
@@ -47,8 +49,8 @@ pub fn chain_laws()
     ensures apart { OutNeverOverlaps }
 {}
 
-/// Over a whole space, which is an arena with all that import from it, directly or not: each unit is
-/// in one place of one arena, and what may be carved is in no segment that is out.
+/// Over a whole space, which is an arena with all that import from it, directly or not: each unit
+/// is in one place of one arena, and what an arena may serve a request with is nowhere else.
 pub fn space_laws()
     ensures tops { TopsStand }
     ensures place { SpaceUnitAddsUp }

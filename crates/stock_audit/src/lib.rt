@@ -7,10 +7,11 @@
 //! that a new stock is accounted for, that each step keeps it, and what follows: the sums add up,
 //! what a source exported are its children's spans, and no two segments that are out overlap.
 //!
-//! `audit` goes once over the lists that it is given, and over the arena's spans, free ranges, slabs
-//! and magazines. It takes no memory.
+//! `audit` goes once over the lists that it is given, and over the arena's spans, free ranges,
+//! slabs and magazines. It takes no memory.
 //!
-//! Begin with `audit` in `audits`; `specs/Outside.antt` has what is out, `specs/Laws.antt` the laws.
+//! Begin with `audit` in `audits`; `specs/Outside.antt` has what is out, `specs/Laws.antt` what the
+//! laws say.
 #![tactic(auto)]
 
 mod audits;

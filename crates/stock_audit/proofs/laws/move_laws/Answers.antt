@@ -15,3 +15,6 @@ returns-clause-leases c = laws.leases_keep
 
 pub returns-clause-releases : goal.returns-clause-releases
 returns-clause-releases c = laws.releases_keep
+
+pub returns-clause-cpus : goal.returns-clause-cpus
+returns-clause-cpus c = laws.cpus_keep
