@@ -42,6 +42,8 @@ mod serving;
 #[cfg(test)]
 mod slabs;
 #[cfg(test)]
+mod stock_sums;
+#[cfg(test)]
 mod stocks;
 #[cfg(test)]
 mod tables;
