@@ -8,7 +8,8 @@
 //! rows of requests to a book of leases, `lines` has lines, replies and streams of the protocol,
 //! `client` what a client's core says to replies, `desk` what a desk answers, and `serving` streams
 //! of lines, failing ones too. `tree` has setups of arenas, what is refused of them, and the chains
-//! that they make. `seat_deeds` has an arena over the deeds of running threads. `promises` cites
+//! that they make; `stocks` has forty events on a stock, `stock_sums` the audits of a chain of two
+//! arenas. `seat_deeds` has an arena over the deeds of running threads. `promises` cites
 //! what the layers above reckon with: one function for each call or law of the arena, the slab
 //! cache and the magazines, whose contract only its callee's clauses carry.
 //!
@@ -41,6 +42,8 @@ mod seat_deeds;
 mod serving;
 #[cfg(test)]
 mod slabs;
+#[cfg(test)]
+mod stock_sums;
 #[cfg(test)]
 mod stocks;
 #[cfg(test)]

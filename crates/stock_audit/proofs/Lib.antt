@@ -1,0 +1,11 @@
+mod Standing
+mod Keeping
+mod Placing
+mod Exporting
+mod Climbing
+mod Tops
+mod WholeSpaces
+mod Reaching
+mod Counting
+mod Auditing
+pub mod LawProofs

@@ -1,0 +1,55 @@
+-- What an audit tells of an arena.
+use Rattle.std.specs.Prelude.{◌≡◌, ℕ, ◌+◌, List, slice_get, Some}
+use Rattle.deed_core.specs.Tag.{Tag}
+use Rattle.deed_core.specs.Covering.{units_held}
+use Rattle.tag_arena.specs.ArenaState.{spans_of}
+use Rattle.tag_arena.specs.declared.arenas.ArenaReport.{ArenaReport}
+use Rattle.stock.specs.Spaces.{SpaceState}
+use Rattle.stock.specs.Accounts.{Accounts}
+use Rattle.stock.specs.Sums.{Out, all_out, held_of, Sums, places_of, lengths_of}
+use Rattle.stock_audit.specs.Outside.{Outside, out_of}
+use Rattle.stock_audit.specs.declared.audits.ArenaSums.{ArenaSums}
+use Rattle.stock_audit.specs.declared.audits.UnitsOut.{UnitsOut}
+
+-- the six sums of an arena: free, in slabs, in magazines, exported, leased and in hands
+abbrev pub sums_of_arena : List SpaceState → Outside → SpaceState → Sums
+sums_of_arena spaces out s = lengths_of (places_of spaces (out_of out) s)
+
+-- the units of the arena's segments among these
+abbrev pub units_of_arena_in : ℕ → List Tag → ℕ
+units_of_arena_in arena segments = units_held (held_of arena segments)
+
+-- these are the units of the arena that are out, by where they are
+pub record IsTally (arena : ℕ) (out : Out) (units : UnitsOut) : Type 0 where
+  pub rounds : units.rounds ≡ units_of_arena_in arena out.rounds
+  pub leased : units.leased ≡ units_of_arena_in arena out.leases
+  pub hand : units.hand ≡ units_of_arena_in arena out.hands
+
+-- so much is out of a stock whose accounts balance
+pub record IsBalanced (spaces : List SpaceState) (arena : ℕ) (units : UnitsOut) : Type 0 where
+  pub out : Out
+  pub accounts : Accounts spaces (all_out out)
+  pub tally : IsTally arena out units
+
+-- the report is of the arena at the place
+pub record IsReportOf (spaces : List SpaceState) (arena : ℕ) (r : ArenaReport) : Type 0 where
+  pub span : (s : SpaceState) → slice_get spaces arena ≡ Some s
+      → r.span ≡ units_held (spans_of s.arena)
+  pub free : (s : SpaceState) → slice_get spaces arena ≡ Some s → r.free ≡ units_held s.arena.free
+  pub adds_up : r.span ≡ r.free + r.allocated
+
+-- the numbers that an audit tells
+abbrev pub told : ArenaSums → Sums
+told r = record {
+  free = r.free;
+  slab = r.slab;
+  magazine = r.magazine;
+  exported = r.exported;
+  leased = r.leased;
+  hand = r.hand;
+}
+
+-- it tells of the arena at the place, with these segments out
+abbrev pub Tells : List SpaceState → ℕ → Out → ArenaSums → Type 0
+Tells spaces arena out r = (s : SpaceState) → slice_get spaces arena ≡ Some s
+    → told r ≡ lengths_of (places_of spaces out s)
