@@ -1,5 +1,5 @@
--- Laws of setups; and of the lists of steps of climbs, over all chains: what they leave in the hand,
--- how many locks they take, what they give, and what each end tells of the way.
+-- Laws of setups; and of the lists of steps of climbs, over all chains: what they leave in the
+-- hand, how many locks they take, what they give, and what each end tells of the way.
 use Rattle.std.specs.Prelude.{◌≡◌, ℕ, List, [], Some, None, length, slice_get, IfOk}
 use Rattle.deed_core.specs.Tag.{Tag}
 use Rattle.arena_tree.specs.Chains.{Node, IsChain, first_id}

@@ -1,5 +1,5 @@
-//! Laws of setups and of the lists of steps, for the proofs of the layers above. The functions do nothing: their
-//! contracts are the laws, and proofs/LawProofs.antt hands them on.
+//! Laws of setups and of the lists of steps, for the proofs of the layers above. The functions do
+//! nothing: their contracts are the laws, and proofs/LawProofs.antt hands them on.
 ghost use Rattle.arena_tree.specs.Laws.{ClimbHandles, ReturnHandles, ClimbIsShort, ReturnIsShort};
 ghost use Rattle.arena_tree.specs.Laws.{OneRefusal, OwnName};
 ghost use Rattle.arena_tree.specs.Laws.{ClimbGives, ClimbTells, ReturnTells, NoFitIsTold};
