@@ -1,6 +1,6 @@
 //! The arenas of a desk, as a setup has them.
-ghost use Rattle.std.specs.Prelude.{◌≡◌, ◌<◌, ◌≤◌, [], IfOk, OnOk, OnErr, length, slice_get, Some};
-ghost use Rattle.tag_arena.specs.ArenaState.{empty_arena, IsSound, OnQuantum};
+ghost use Rattle.std.specs.Prelude.{◌≡◌, ◌<◌, ◌≤◌, IfOk, OnOk, OnErr, length, slice_get, Some};
+ghost use Rattle.tag_arena.specs.ArenaState.{empty_arena, OnQuantum};
 ghost use Rattle.tag_arena.specs.Calls.{IsClear, after_add};
 ghost use Rattle.arena_tree.specs.declared.trees.TreeArena.{TreeArena};
 ghost use Rattle.lease_desk.specs.Opened.{root_of, AreOwned, AreOpened, IsOpened};
@@ -8,7 +8,7 @@ ghost use Rattle.lease_desk.specs.Spaces.{state_of, states_of, owning, IsSpace, 
 
 use crate::closings::{close_space, close_spaces};
 use crate::spaces::Space;
-use arena_tree::{MOST_ARENAS, MOST_SPANS, Setup, TreeArena};
+use arena_tree::{MOST_ARENAS, MOST_SPANS, Setup};
 use deed_core::{PlainDeed, Range};
 use std::alloc::{AllocError, Global};
 use tag_arena::{Arena, SpanFault};
