@@ -12,5 +12,5 @@ mod OnePlaces
 mod Apart
 mod FrameLaws
 mod OwnRounds
-mod Ending
+mod Bare
 pub mod LawProofs

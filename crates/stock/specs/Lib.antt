@@ -6,3 +6,4 @@ pub mod Answers
 pub mod OwnCaches
 pub mod Sums
 pub mod Laws
+pub mod Endings
