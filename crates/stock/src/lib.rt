@@ -9,7 +9,7 @@
 //!
 //! A call finds its part by its place, in constant time, and costs what the part's own call does.
 //!
-//! Begin with `Stock` in `stocks`; `specs/Steps.antt` has the steps, and `laws` what follows from the
+//! Begin with `StockSetup` in `setups`, which makes a `Stock`, and with that in `stocks`; `specs/Steps.antt` has the steps, and `laws` what follows from the
 //! accounts.
 #![tactic(auto)]
 
@@ -19,11 +19,13 @@ mod endings;
 mod laws;
 mod own_caches;
 mod reports;
+mod setups;
 mod slab_steps;
 mod spaces;
 mod stocks;
 
 pub use laws::{apart_laws, frame_laws, never_refused_laws, one_place_laws};
 pub use own_caches::OwnCache;
+pub use setups::StockSetup;
 pub use spaces::{QuantumCache, Space};
 pub use stocks::Stock;
