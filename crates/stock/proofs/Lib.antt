@@ -13,4 +13,5 @@ mod Apart
 mod FrameLaws
 mod OwnRounds
 mod Bare
+mod Planning
 pub mod LawProofs

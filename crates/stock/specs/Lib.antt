@@ -7,3 +7,4 @@ pub mod OwnCaches
 pub mod Sums
 pub mod Laws
 pub mod Endings
+pub mod Setups

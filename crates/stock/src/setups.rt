@@ -1,15 +1,19 @@
 //! How a stock is made: it grows here and nowhere else, and nothing is out of it at the end.
 ghost use Rattle.std.specs.Prelude.{◌≡◌, ◌+◌, ◌^◌, ◌<◌, [], ◌∷◌, ◌++◌, length, slice_get, Some, None};
-ghost use Rattle.std.specs.Prelude.{OnOk, OnErr};
+ghost use Rattle.std.specs.Prelude.{All, IfOk, OnOk, OnErr};
 ghost use Rattle.std.specs.Int.{IsPowerOfTwo};
 ghost use Rattle.magazine_layer.specs.Magazines.{IsSize};
 ghost use Rattle.tag_arena.specs.Outcomes.{AddSpanOf};
 ghost use Rattle.stock.specs.Spaces.{SpaceState, plans_of};
 ghost use Rattle.stock.specs.Accounts.{Accounts};
 ghost use Rattle.stock.specs.Stocks.{IsStock};
+ghost use Rattle.arena_tree.specs.Trees.{HasCaches};
+ghost use Rattle.stock.specs.Setups.{plan_for, plans_for, IsNewSpace};
+ghost use Rattle.stock.specs.Endings.{IsBare};
 ghost use Rattle.stock.specs.Steps.{OnArena, CanImportFrom, HasRoomForCache, GainsCache, new_space};
 
 use crate::stocks::Stock;
+use arena_tree::{Tree, TreeArena};
 use deed_core::Deed;
 use std::alloc::{AllocError, Global};
 use std::marker::Model;
@@ -49,6 +53,57 @@ impl<D: Deed> StockSetup<D> {
         StockSetup {
             alloc,
             stock: Stock::new(alloc),
+        }
+    }
+
+    /// The arenas of a tree with their quantum caches, but with no span: each root's owned spans are
+    /// then added. Its magazines take `rounds` rounds.
+    pub fn of_tree(
+        alloc: Global,
+        tree: &Tree,
+        rounds: usize,
+    ) -> Result<StockSetup<D>, AllocError>
+        requires rounds { IsSize rounds }
+        ensures planned { IfOk result (λ spaces. plans_of spaces ≡ plans_for tree.now) }
+        ensures unused { IfOk result (λ spaces. All (IsNewSpace rounds) spaces) }
+    {
+        let mut setup = StockSetup::new(alloc);
+        for id in 0..tree.len() {
+            let added = setup.add_planned(tree.arena(id as u32), rounds);
+            if let Err(fault) = added {
+                setup.discard();
+                return Err(fault);
+            }
+        }
+        Ok(setup)
+    }
+
+    /// Adds an arena of a tree, with its caches.
+    fn add_planned(&mut self, arena: &TreeArena, rounds: usize) -> Result<(), AllocError>
+        requires few { length self.old < 2 ^ 32 }
+        requires power { IsPowerOfTwo arena.now.quantum }
+        requires source { CanImportFrom self.old arena.now.source arena.now.quantum }
+        requires caches { HasCaches arena.now.quantum arena.now.qcache_max arena.now.slab_size }
+        requires rounds { IsSize rounds }
+        ensures planned { OnOk result
+            (plans_of self.new ≡ plans_of self.old ++ plan_for arena.now ∷ []) }
+        ensures unused { All (IsNewSpace rounds) self.old → All (IsNewSpace rounds) self.new }
+    {
+        let place = self.count();
+        self.add_arena(arena.source, arena.quantum, arena.policy)?;
+        for _cache in 0..arena.qcache_max / arena.quantum {
+            self.add_cache(place, arena.slab_size, rounds)?;
+        }
+        Ok(())
+    }
+
+    /// Ends what has no span.
+    fn discard(self)
+        requires { All IsBare self }
+    {
+        match self.finish().close() {
+            Ok(()) => {}
+            Err(_) => unreachable!(),
         }
     }
 
