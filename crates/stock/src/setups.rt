@@ -116,6 +116,15 @@ impl<D: Deed> StockSetup<D> {
         self.stock.count()
     }
 
+    /// The arena that the one at the place imports from, if there is one.
+    pub fn source(&self, arena: usize) -> Option<u32>
+        requires within { arena < length self.now }
+        ensures value { (s : SpaceState) → slice_get self.now arena ≡ Some s
+            → result ≡ s.source }
+    {
+        self.stock.source(arena)
+    }
+
     /// Adds an arena with no span and no cache, which imports from the source, if there is one. Its
     /// number is its place, in order of coming. `quantum` counts units.
     pub fn add_arena(
