@@ -14,4 +14,5 @@ mod FrameLaws
 mod OwnRounds
 mod Bare
 mod Planning
+mod Ending
 pub mod LawProofs
