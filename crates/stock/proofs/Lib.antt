@@ -15,4 +15,5 @@ mod OwnRounds
 mod Bare
 mod Planning
 mod Ending
+mod Chains
 pub mod LawProofs

@@ -2,6 +2,7 @@
 //! and proofs/LawProofs.antt has them for the proofs of the crates above.
 ghost use Rattle.stock.specs.Laws.{IsInOnePlace, AddsUp, AlwaysTagged, AlwaysOut, AlwaysImports};
 ghost use Rattle.stock.specs.Laws.{AlwaysSlab, OutIsApart, OutWeighs, FramesThen};
+ghost use Rattle.stock.specs.Laws.{SourceStandsBefore, PlansStay, CachesStay};
 ghost use Rattle.stock.specs.Endings.{EndsOnceReaped, EndsWithNothingOut};
 ghost use Rattle.stock.specs.Laws.{PopFrames, PushFrames, ChangeFrames};
 
@@ -40,4 +41,12 @@ pub fn frame_laws()
 pub fn end_laws()
     ensures reaped { EndsOnceReaped }
     ensures nothing_out { EndsWithNothingOut }
+{}
+
+/// The arenas of a stock stand in chains, which no step changes: it keeps the plans (`fixed`), and so
+/// how many arenas there are, their sources, quanta, policies and caches.
+pub fn chain_laws()
+    ensures before { SourceStandsBefore }
+    ensures plans { PlansStay }
+    ensures caches { CachesStay }
 {}
