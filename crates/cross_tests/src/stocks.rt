@@ -161,11 +161,11 @@ fn stock_of(rt: &impl Abort, alloc: Global, setup: &Setup) -> Stock<PlainDeed> {
         Ok(stock) => stock,
         Err(_) => panic!(rt; "arenas"),
     };
-    for (number, span) in setup.spans().iter().enumerate() {
+    for span in setup.spans() {
         let arena = span.arena as usize;
         assert!(rt; arena < stock.count());
         assert_eq!(rt; stock.source(arena), None);
-        let deed = PlainDeed::new(number as u32, span.range);
+        let deed = PlainDeed::new(span.arena, span.range);
         match stock.add_span(arena, deed) {
             Ok(()) => {}
             Err(_) => panic!(rt; "a span"),
