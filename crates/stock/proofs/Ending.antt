@@ -77,7 +77,7 @@ module _ (a : ArenaState) (sound : IsSound a) (none : tags_of a ≡ []) where
       let free : a.free ≡ [] = no_member a.free (λ r has. All-contains (λ h. ¬ Contains a.free h) a.owned r taken (subst (λ (hs : List Holding). Contains hs r) spans (whole r has)) has) in
       no_spans a sound (sym (as_long [] (spans_of a) (λ u. omega (arith, sound.divided.covers u, ap (covering_held u) free, ap (covering_held u) ranges_none))))
 
-from_lower : (o : Option ℕ) (t : Tag) (k : ℕ) → IsFrom o t → ((p : ℕ) → o ≡ Some p → p < k) → t.arena < k
+pub from_lower : (o : Option ℕ) (t : Tag) (k : ℕ) → IsFrom o t → ((p : ℕ) → o ≡ Some p → p < k) → t.arena < k
 from_lower None t k from before = absurd from
 from_lower (Some p) t k from before = (let lt = before p refl in omega (arith, lt, from))
 

@@ -16,4 +16,5 @@ mod Bare
 mod Planning
 mod Ending
 mod Chains
+mod Homeward
 pub mod LawProofs

@@ -18,6 +18,7 @@ mod depot_steps;
 mod endings;
 mod laws;
 mod own_caches;
+mod reaping;
 mod reports;
 mod setups;
 mod slab_steps;
