@@ -1,6 +1,6 @@
 -- Where no deed lies: told by the units.
-use Rattle.std.proofs.Common.{◌≡◌, ℕ, suc, zero, ◌+◌, ◌*◌, ◌<◌, ◌≤◌, min, Bool, true, false, refl, sym, ap, ◌∙◌, inl, inr, ◌==◌, length, List, [], ◌∷◌, ◌++◌, All, Any, Contains, arith}
-use Rattle.std.specs.Prelude.{slice_get, sum_by, flat_map}
+use Rattle.std.proofs.Common.{◌≡◌, ℕ, ◌+◌, ◌<◌, min, Bool, true, false, refl, sym, ap, ◌∙◌, inl, inr, ◌==◌, length, List, [], ◌∷◌, All, Any, Contains, arith}
+use Rattle.std.specs.Prelude.{flat_map}
 use Rattle.std.specs.Option.{option_to_list}
 use Rattle.std.proofs.lemmas.List.Elements.{All-nil, All-cons, All-append, All-head, All-tail, All-weaker}
 use Rattle.std.proofs.lemmas.Bool.{cases_eq}

@@ -1,10 +1,10 @@
 -- Chains of sources, and what no step changes.
-use Rattle.std.proofs.Common.{◌≡◌, ℕ, ◌<◌, sym, subst, ap, ◌∙◌, List, length, map, Some, arith}
+use Rattle.std.proofs.Common.{◌≡◌, ℕ, sym, ap, ◌∙◌, List, length, Some, arith}
 use Rattle.std.specs.Prelude.{slice_get}
 use Rattle.std.proofs.lemmas.List.{length-map}
 use Rattle.std.proofs.lemmas.Option.{slice_get_within}
 use Rattle.deed_core.proofs.LawProofs.{slice_get_one, slice_get_some, slice_get_mapped}
-use Rattle.stock.specs.Spaces.{SpaceState, SpacePlan, HasCache, slab_size_of, plan_of, plans_of, quantum_of}
+use Rattle.stock.specs.Spaces.{SpaceState, SpacePlan, slab_size_of, plan_of, plans_of, quantum_of}
 use Rattle.stock.specs.Laws.{SourceStandsBefore, IsSetUpAs, PlansStay, CachesStay}
 use Rattle.stock.proofs.CacheSteps.{number_within, has_cache}
 

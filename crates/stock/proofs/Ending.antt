@@ -1,19 +1,19 @@
 -- A stock ends where nothing is out of it.
-use Rattle.std.proofs.Common.{◌≡◌, ◌≢◌, ℕ, suc, zero, ◌+◌, ◌<◌, ◌≤◌, refl, sym, subst, ap, ◌∙◌, inl, inr, List, [], ◌∷◌, ◌++◌, map, length, All, Any, Contains, Option, Some, None, arith}
+use Rattle.std.proofs.Common.{◌≡◌, ℕ, suc, zero, ◌+◌, ◌<◌, ◌≤◌, refl, sym, subst, ap, ◌∙◌, inl, inr, List, [], ◌∷◌, ◌++◌, map, length, All, Contains, Option, Some, None, arith}
 use Rattle.std.specs.Prelude.{slice_get, sum_by}
 use Rattle.std.proofs.lemmas.Bool.{cases_lt}
 use Rattle.std.proofs.lemmas.Option.{slice_get_within}
-use Rattle.std.proofs.lemmas.List.{length-map, append-nil}
+use Rattle.std.proofs.lemmas.List.{append-nil}
 use Rattle.std.proofs.lemmas.List.Elements.{All-contains}
 use Rattle.std.proofs.lemmas.List.Sums.{sum_by-cons}
-use Rattle.deed_core.specs.Extent.{end_of, IsRange}
+use Rattle.deed_core.specs.Extent.{IsRange}
 use Rattle.std.specs.FinMap.{get}
 use Rattle.deed_core.specs.Holding.{Holding}
 use Rattle.deed_core.specs.Tag.{Tag}
 use Rattle.deed_core.specs.Covering.{covering_held}
 use Rattle.deed_core.specs.Selections.{came_direct}
-use Rattle.deed_core.specs.Weights.{of_arena, of_direct, of_cached}
-use Rattle.deed_core.proofs.LawProofs.{all_at, all_from, sum_none, part_of_sum, sum_by-parts, slice_get_some}
+use Rattle.deed_core.specs.Weights.{of_arena}
+use Rattle.deed_core.proofs.LawProofs.{all_at, all_from, sum_none, part_of_sum, sum_by-parts}
 use Rattle.tag_arena.specs.ArenaState.{ArenaState, IsSound, spans_of, ranges_of, tags_of, direct}
 use Rattle.tag_arena.specs.Layout.{IsPartOf, IsRun, IsAllocated}
 use Rattle.tag_arena.proofs.LawProofs.{goes_empty, allocated_stand, free_are_longest_runs}
@@ -21,7 +21,6 @@ use Rattle.slab_layer.specs.Cache.{chunks_out, span_tag, span_tags, chunk_tag}
 use Rattle.slab_layer.specs.Slab.{SlabState, deeds_in, chunks_out_by}
 use Rattle.slab_layer.proofs.LawProofs.{reaped_out_is_empty}
 use Rattle.std.specs.List.{flat_map}
-use Rattle.magazine_layer.specs.Depots.{depot_rounds}
 use Rattle.stock.specs.Spaces.{SpaceState, QuantumCacheState}
 use Rattle.stock.specs.Stocks.{IsFrom, IsStock}
 use Rattle.stock.specs.Accounts.{allocated, imported, slabs_in, chunks_in, rounds_in, slabs, chunks, rounds, Accounts, IsAccounted}

@@ -1,18 +1,16 @@
 -- What reaping leaves.
-use Rattle.std.proofs.Common.{◌≡◌, ◌≢◌, ℕ, suc, zero, ◌+◌, ◌-◌, ◌<◌, ◌≤◌, ◌⊎◌, refl, sym, subst, ap, ◌∙◌, inl, inr, List, [], ◌∷◌, ◌++◌, map, length, set, All, Option, Some, None, Result, Ok, Err, IfSome, OnOk, arith}
+use Rattle.std.proofs.Common.{◌≡◌, ℕ, ◌+◌, ◌<◌, ◌≤◌, ◌⊎◌, refl, sym, subst, ap, ◌∙◌, inl, inr, List, [], ◌∷◌, ◌++◌, length, set, All, Option, Some, None, Result, Ok, Err, IfSome, OnOk, arith}
 use Rattle.std.proofs.lemmas.Bool.{cases_lt}
-use Rattle.std.specs.Prelude.{slice_get, sum_by, flat_map}
+use Rattle.std.specs.Prelude.{slice_get, sum_by}
 use Rattle.std.proofs.lemmas.List.{length-append}
 use Rattle.std.proofs.lemmas.List.Sums.{sum_by-cons}
 use Rattle.std.proofs.lemmas.List.Elements.{All-contains}
-use Rattle.std.specs.List.{remove}
 use Rattle.std.proofs.lemmas.List.Edits.{length-remove}
 use Rattle.deed_core.specs.Tag.{Tag}
 use Rattle.deed_core.specs.declared.segments.Route.TheVariants.{Direct, Cached}
 use Rattle.std.proofs.lemmas.Option.{slice_get_within}
 use Rattle.deed_core.proofs.LawProofs.{written, slice_get_some, all_from}
-use Rattle.tag_arena.specs.Outcomes.{FreeOf}
-use Rattle.slab_layer.specs.Slab.{SlabState, IsComplete}
+use Rattle.slab_layer.specs.Slab.{IsComplete}
 use Rattle.slab_layer.specs.Cache.{SlabCacheState}
 use Rattle.slab_layer.specs.Calls.{ReapOf, PutOf}
 use Rattle.slab_layer.specs.declared.faults.PutFault.{PutFault}
@@ -20,7 +18,7 @@ use Rattle.magazine_layer.specs.Depots.{DepotState, depot_rounds, all_rounds, af
 use Rattle.magazine_layer.specs.Calls.{DepotReapOf}
 use Rattle.stock.specs.Spaces.{SpaceState, QuantumCacheState, IsCacheAt, HasCache, plans_of, with_cache, with_slab, with_depot}
 use Rattle.stock.specs.Stocks.{IsRoundOf, IsFrom, IsStock}
-use Rattle.stock.specs.Steps.{OnSlab, OnDepot, OnArena, FreeIn, PutIn, IsRoundIn}
+use Rattle.stock.specs.Steps.{OnSlab, OnDepot, FreeIn, PutIn, IsRoundIn}
 use Rattle.stock.specs.Endings.{IsReaped, IsReapedAt, IsReapedCache, OthersStay, OtherArenasStay, DepotsStay, AllCachesStay}
 use Rattle.stock.proofs.CacheSteps.{number_within, has_cache}
 use Rattle.stock.proofs.Ending.{from_lower}

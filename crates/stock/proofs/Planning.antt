@@ -1,15 +1,14 @@
 -- Arenas of a tree, set up one by one.
-use Rattle.std.proofs.Common.{◌≡◌, ℕ, suc, zero, ◌+◌, ◌*◌, ◌/◌, ◌%◌, ◌<◌, ◌≤◌, refl, sym, subst, ap, ◌∙◌, inl, inr, List, [], ◌∷◌, ◌++◌, map, length, set, take, replicate, get_or, All, IfSome, Option, Some, None, min, arith}
+use Rattle.std.proofs.Common.{◌≡◌, ℕ, suc, zero, ◌+◌, ◌*◌, ◌/◌, ◌%◌, ◌<◌, ◌≤◌, refl, sym, subst, ap, ◌∙◌, inl, inr, List, [], ◌∷◌, ◌++◌, map, length, set, take, replicate, get_or, All, IfSome, Option, Some, None, arith}
 use Rattle.std.specs.Prelude.{slice_get}
-use Rattle.std.specs.Int.{IsPowerOfTwo}
 use Rattle.std.proofs.Math.Nat.{mul-le-mul_left, mod_self}
 use Rattle.std.proofs.lemmas.List.{length-map, length-replicate, length-take-le, length_push, map-set, replicate_more, take_more}
 use Rattle.std.proofs.lemmas.List.Elements.{All-nil, All-push, All-weaker, All-set}
 use Rattle.std.proofs.lemmas.Bool.{cases_lt}
 use Rattle.std.proofs.lemmas.Option.{slice_get_within, slice_get-get_or}
-use Rattle.deed_core.proofs.LawProofs.{pushed, slice_get_one, slice_get_some, slice_get_mapped, all_at, power_some, smaller_power_divides}
+use Rattle.deed_core.proofs.LawProofs.{pushed, slice_get_one, slice_get_mapped, all_at, smaller_power_divides}
 use Rattle.tag_arena.specs.ArenaState.{spans_of}
-use Rattle.magazine_layer.specs.Depots.{depot_rounds, new_depot}
+use Rattle.magazine_layer.specs.Depots.{depot_rounds}
 use Rattle.slab_layer.specs.Slab.{SlabState, deeds_in}
 use Rattle.arena_tree.specs.declared.trees.TreeArena.{TreeArena}
 use Rattle.arena_tree.specs.Trees.{HasCaches, IsArena, IsTree, ImportsFrom}

@@ -11,7 +11,8 @@ use tag_arena::Arena;
 
 impl<D: Deed> Stock<D> {
     /// Ends a stock in which no deed lies, with its arenas, and hands back one in which a deed
-    /// lies. It takes no memory. A stock with no arena ends.
+    /// lies. It takes no memory. A stock with no arena ends. Another is reaped first (`reap_all`), and
+    /// its owned spans are taken out (`remove_owned`): where nothing is out of it, it ends then.
     pub fn close(self) -> Result<(), Stock<D>>
         ensures ok { IsOk result ↔ All IsBare self }
         ensures handed_back { IfErr result (λ same. same ≡ self) }

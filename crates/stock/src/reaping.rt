@@ -76,12 +76,7 @@ impl<D: Deed> Stock<D> {
     }
 
     /// Puts a chunk of a cache back into its slabs.
-    fn put_home(
-        &mut self,
-        arena: usize,
-        cache: usize,
-        round: Segment<D>,
-    ) -> Result<(), Segment<D>>
+    fn put_home(&mut self, arena: usize, cache: usize, round: Segment<D>) -> Result<(), Segment<D>>
         requires has { HasCache self.old arena cache }
         requires chunk { IsRoundIn self.old arena cache round }
         ensures others { OthersStay arena cache self.old self.new }

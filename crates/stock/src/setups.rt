@@ -58,11 +58,7 @@ impl<D: Deed> StockSetup<D> {
 
     /// The arenas of a tree with their quantum caches, but with no span: each root's owned spans are
     /// then added. Its magazines take `rounds` rounds.
-    pub fn of_tree(
-        alloc: Global,
-        tree: &Tree,
-        rounds: usize,
-    ) -> Result<StockSetup<D>, AllocError>
+    pub fn of_tree(alloc: Global, tree: &Tree, rounds: usize) -> Result<StockSetup<D>, AllocError>
         requires rounds { IsSize rounds }
         ensures planned { IfOk result (λ spaces. plans_of spaces ≡ plans_for tree.now) }
         ensures unused { IfOk result (λ spaces. All (IsNewSpace rounds) spaces) }
@@ -164,7 +160,8 @@ impl<D: Deed> StockSetup<D> {
         rounds: usize,
     ) -> Result<(), AllocError>
         requires within { arena < length self.old }
-        requires can { (s : SpaceState) → slice_get self.old arena ≡ Some s → HasRoomForCache slab_size s }
+        requires can { (s : SpaceState) → slice_get self.old arena ≡ Some s
+            → HasRoomForCache slab_size s }
         requires rounds { IsSize rounds }
         ensures added { OnOk result (GainsCache arena slab_size rounds self.old self.new) }
         ensures err { OnErr result (self.new ≡ self.old) }

@@ -127,7 +127,8 @@ impl<D: Deed> Stock<D> {
         rounds: usize,
     ) -> Result<(), AllocError>
         requires within { arena < length self.old }
-        requires can { (s : SpaceState) → slice_get self.old arena ≡ Some s → HasRoomForCache slab_size s }
+        requires can { (s : SpaceState) → slice_get self.old arena ≡ Some s
+            → HasRoomForCache slab_size s }
         requires rounds { IsSize rounds }
         ensures added { OnOk result (GainsCache arena slab_size rounds self.old self.new) }
         ensures err { OnErr result (self.new ≡ self.old) }

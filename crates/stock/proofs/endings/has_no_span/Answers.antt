@@ -1,7 +1,6 @@
 use Rattle.std.proofs.Common.{◌≡◌, ◌∙◌, sym, ap, eq-eqb, arith}
 use Rattle.std.proofs.lemmas.Bool.Decides.{nat_tests}
 use Rattle.deed_core.specs.Covering.{units_held}
-use Rattle.tag_arena.specs.ArenaState.{spans_of}
 use Rattle.stock.proofs.Bare.{no_spans}
 use Rattle.stock.proofs.endings.has_no_span.Goals as goal
 

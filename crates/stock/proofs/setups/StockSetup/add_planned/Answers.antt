@@ -1,4 +1,4 @@
-use Rattle.std.proofs.Common.{◌≡◌, List, subst, sym, Some}
+use Rattle.std.proofs.Common.{◌≡◌, subst, sym, Some}
 use Rattle.std.specs.Prelude.{slice_get}
 use Rattle.deed_core.proofs.LawProofs.{power_some}
 use Rattle.stock.specs.Spaces.{SpaceState}

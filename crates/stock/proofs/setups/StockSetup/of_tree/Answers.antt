@@ -1,4 +1,4 @@
-use Rattle.std.proofs.Common.{◌≡◌, ◌<◌, length, arith}
+use Rattle.std.proofs.Common.{◌<◌, length, arith}
 use Rattle.stock.proofs.Planning.{can_import, front_more}
 use Rattle.stock.proofs.setups.StockSetup.of_tree.Goals as goal
 

@@ -1,8 +1,7 @@
-use Rattle.std.proofs.Common.{◌≡◌, refl, sym, ◌∙◌, [], ◌∷◌, Some, None}
+use Rattle.std.proofs.Common.{◌≡◌, ◌∙◌, Some, None}
 use Rattle.magazine_layer.specs.Depots.{after_tick}
 use Rattle.magazine_layer.specs.Calls.{DepotReapOf}
 use Rattle.stock.proofs.Chains.{caches_stay}
-use Rattle.stock.proofs.FrameLaws.{frames_then}
 use Rattle.stock.proofs.Homeward.{others_then, depot_others, depot_done, depot_may, depot_smaller, tick_may, round_there}
 use Rattle.stock.proofs.stocks.Stock.empty_depot.Goals as goal
 

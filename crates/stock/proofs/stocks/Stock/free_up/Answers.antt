@@ -1,4 +1,4 @@
-use Rattle.std.proofs.Common.{◌≡◌, ◌∙◌, ◌++◌, subst, Option}
+use Rattle.std.proofs.Common.{◌∙◌, ◌++◌, subst, Option}
 use Rattle.std.specs.Option.{option_to_list}
 use Rattle.deed_core.specs.Tag.{Tag}
 use Rattle.stock.specs.Accounts.{Accounts}

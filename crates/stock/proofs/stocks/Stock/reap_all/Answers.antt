@@ -1,4 +1,4 @@
-use Rattle.std.proofs.Common.{◌≡◌, ◌<◌, ◌≤◌, ◌∙◌, length, refl, arith}
+use Rattle.std.proofs.Common.{◌≤◌, ◌∙◌, length, refl, arith}
 use Rattle.stock.proofs.Chains.{plans_stay}
 use Rattle.stock.proofs.Homeward.{arena_more, all_reaped}
 use Rattle.stock.proofs.stocks.Stock.reap_all.Goals as goal

@@ -1,4 +1,4 @@
-use Rattle.std.proofs.Common.{◌≡◌, ◌<◌, ◌∙◌, refl, inl, arith}
+use Rattle.std.proofs.Common.{◌∙◌, refl, inl, arith}
 use Rattle.stock.proofs.Homeward.{has_there, reaped_more, reaped_each, arenas_then}
 use Rattle.stock.proofs.stocks.Stock.reap_arena.Goals as goal
 

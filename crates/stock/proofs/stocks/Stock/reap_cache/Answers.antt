@@ -1,4 +1,3 @@
-use Rattle.std.proofs.Common.{◌≡◌}
 use Rattle.stock.proofs.Chains.{caches_stay}
 use Rattle.stock.proofs.Homeward.{others_then, reaped_at}
 use Rattle.stock.proofs.stocks.Stock.reap_cache.Goals as goal

@@ -1,6 +1,5 @@
-use Rattle.std.proofs.Common.{◌≡◌, refl, sym, ◌∙◌, [], ◌∷◌, Some, None, inl, true, false}
+use Rattle.std.proofs.Common.{◌≡◌, refl, ◌∙◌, Some, None, inl, true, false}
 use Rattle.slab_layer.specs.Calls.{ReapOf}
-use Rattle.stock.specs.Endings.{OthersStay, DepotsStay}
 use Rattle.stock.proofs.Chains.{caches_stay}
 use Rattle.stock.proofs.Homeward.{others_then, depots_then, slab_others, slab_depots, slab_done, slab_smaller, slab_direct, same_depots, same_others}
 use Rattle.stock.proofs.stocks.Stock.reap_slabs.Goals as goal
