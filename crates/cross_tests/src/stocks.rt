@@ -1,13 +1,15 @@
-//! Forty events on a stock of two arenas, of which the second imports from the first and has a
-//! quantum cache. After each the units in each place are compared with numbers counted by hand.
+//! Forty-one events on a stock of two arenas, of which the second imports from the first and has
+//! quantum caches. After each the units in each place are compared with numbers counted by hand.
 ghost use Rattle.std.specs.Prelude.{◌≡◌, ◌+◌};
 ghost use Rattle.stock.specs.Spaces.{HasCache};
 
-use deed_core::{Deed, PlainDeed, Range, Request, Route, Segment};
+use arena_tree::{NewChild, NewRoot, Setting, Setup};
+use deed_core::{Deed, PlainDeed, Request, Route, Segment};
+use lease_terms::Name;
 use magazine_layer::Magazine;
 use std::alloc::Global;
 use std::process::Abort;
-use stock::{OwnCache, Space, Stock};
+use stock::{OwnCache, Stock, StockSetup};
 use tag_arena::Policy;
 
 /// The units of one arena: free, in slabs, in magazines, exported, leased, in the hand.
@@ -33,6 +35,8 @@ enum Event {
     Push,
     Pop,
     SwapFresh,
+    /// To magazines of seven rounds.
+    Change,
     Tick,
     DepotReap,
     /// The root goes out of the first arena.
@@ -40,7 +44,7 @@ enum Event {
 }
 
 /// Each event, and the sums of both arenas after it.
-const SCRIPT: [(Event, Sums, Sums); 40] = [
+const SCRIPT: [(Event, Sums, Sums); 41] = [
     (Event::Carve(0, 16), [48, 0, 0, 0, 0, 16], NONE),
     (Event::Import(4), [48, 0, 0, 16, 0, 0], [12, 0, 0, 0, 0, 4]),
     (Event::Lease, [48, 0, 0, 16, 0, 0], [12, 0, 0, 0, 4, 0]),
@@ -69,6 +73,7 @@ const SCRIPT: [(Event, Sums, Sums); 40] = [
     (Event::SlabPut, [48, 0, 0, 16, 0, 0], [4, 4, 4, 0, 4, 0]),
     (Event::DepotReap, [48, 0, 0, 16, 0, 0], [4, 4, 3, 0, 4, 1]),
     (Event::SlabPut, [48, 0, 0, 16, 0, 0], [4, 5, 3, 0, 4, 0]),
+    (Event::Change, [48, 0, 0, 16, 0, 0], [4, 5, 3, 0, 4, 0]),
     (Event::Pop, [48, 0, 0, 16, 0, 0], [4, 5, 2, 0, 4, 1]),
     (Event::SlabPut, [48, 0, 0, 16, 0, 0], [4, 6, 2, 0, 4, 0]),
     (Event::Pop, [48, 0, 0, 16, 0, 0], [4, 6, 1, 0, 4, 1]),
@@ -122,21 +127,57 @@ fn keep(rt: &impl Abort, segments: &mut Vec<Segment<PlainDeed>>, segment: Segmen
     }
 }
 
-/// A root of 64 units, a child of it with chunks of one unit, and a CPU.
-fn begin(rt: &impl Abort, alloc: Global) -> Walk {
-    let mut stock = Stock::new(alloc);
-    stock
-        .add_arena(alloc, None, 1, Policy::Best)
-        .expect(rt, "a root");
-    let range = Range::new(0, 64).expect(rt, "a range");
-    match stock.add_span(0, PlainDeed::new(0, range)) {
-        Ok(()) => {}
-        Err(_) => panic!(rt; "a span"),
+fn name(rt: &impl Abort, text: &str) -> Name {
+    Name::new(text.as_bytes()).expect(rt, "a name")
+}
+
+/// A root of 64 units, and a child of it that caches sizes of one and two units, by slabs of eight.
+fn two_arenas(rt: &impl Abort, alloc: Global) -> Setup {
+    let mut setup = Setup::new(alloc);
+    let root = NewRoot {
+        name: name(rt, "root"),
+        base: 0,
+        len: 64,
+        quantum: 1,
+        policy: Policy::Best,
+        qcache_max: 0,
+    };
+    let child = NewChild {
+        name: name(rt, "child"),
+        source: name(rt, "root"),
+        quantum: 1,
+        policy: Policy::Best,
+        qcache_max: 2,
+        import_min: 0,
+    };
+    setup.add(&Setting::Root(root)).expect(rt, "a root");
+    setup.add(&Setting::Child(child)).expect(rt, "a child");
+    setup
+}
+
+/// A stock of them, with the root's span.
+fn stock_of(rt: &impl Abort, alloc: Global, setup: &Setup) -> Stock<PlainDeed> {
+    let mut stock = match StockSetup::of_tree(alloc, setup.tree(), 3) {
+        Ok(stock) => stock,
+        Err(_) => panic!(rt; "arenas"),
+    };
+    for span in setup.spans() {
+        let arena = span.arena as usize;
+        assert!(rt; arena < stock.count());
+        assert_eq!(rt; stock.source(arena), None);
+        let deed = PlainDeed::new(span.arena, span.range);
+        match stock.add_span(arena, deed) {
+            Ok(()) => {}
+            Err(_) => panic!(rt; "a span"),
+        }
     }
-    stock
-        .add_arena(alloc, Some(0), 1, Policy::Best)
-        .expect(rt, "a child");
-    stock.add_cache(alloc, 1, 8, 3).expect(rt, "a cache");
+    stock.finish()
+}
+
+/// The stock, and a CPU with chunks of one unit.
+fn begin(rt: &impl Abort, alloc: Global) -> Walk {
+    let setup = two_arenas(rt, alloc);
+    let stock = stock_of(rt, alloc, &setup);
     let cpu = match OwnCache::new(alloc, 1, 0, 1, 3) {
         Ok(cpu) => cpu,
         Err(_) => panic!(rt; "a cache of a CPU"),
@@ -224,6 +265,7 @@ fn silent(rt: &impl Abort, walk: &mut Walk, event: Event) {
             }
         }
         Event::SwapFresh => swap_fresh(rt, walk),
+        Event::Change => change(rt, walk),
         Event::Tick => walk.stock.tick(1, place),
         Event::Remove => {
             assert!(rt; walk.stock.count() == 2);
@@ -259,6 +301,20 @@ fn swap_fresh(rt: &impl Abort, walk: &mut Walk) {
         Ok(()) => {}
         Err(_) => panic!(rt; "a swap"),
     }
+}
+
+/// The CPU changes to greater magazines.
+fn change(rt: &impl Abort, walk: &mut Walk) {
+    assert_eq!(rt; walk.cpu.size(), 3);
+    let loaded = match Magazine::new(walk.alloc, 7) {
+        Ok(magazine) => magazine,
+        Err(_) => panic!(rt; "a magazine"),
+    };
+    let previous = match Magazine::new(walk.alloc, 7) {
+        Ok(magazine) => magazine,
+        Err(_) => panic!(rt; "a magazine"),
+    };
+    walk.cpu.change(loaded, previous);
 }
 
 /// The units in each place of an arena.
@@ -301,7 +357,7 @@ fn sums(rt: &impl Abort, walk: &Walk, arena: usize) -> Sums {
 fn end(rt: &impl Abort, walk: Walk) {
     let Walk {
         alloc: _,
-        mut stock,
+        stock,
         cpu,
         hand,
         leases,
@@ -313,39 +369,14 @@ fn end(rt: &impl Abort, walk: Walk) {
         Ok(()) => {}
         Err(_) => panic!(rt; "a round of a CPU"),
     }
-    for _ in 0..2 {
-        end_space(rt, stock.take_last().expect(rt, "an arena"));
-    }
     match stock.close() {
         Ok(()) => {}
-        Err(_) => panic!(rt; "an arena is left"),
-    }
-}
-
-/// Ends an arena and its caches, which hold nothing.
-fn end_space(rt: &impl Abort, space: Space<PlainDeed>) {
-    let (arena, mut caches) = space.into_parts();
-    if let Some(cache) = caches.pop() {
-        let (slab, depot) = cache.into_parts();
-        match slab.close() {
-            Ok(()) => {}
-            Err(_) => panic!(rt; "a slab"),
-        }
-        match depot.close() {
-            Ok(()) => {}
-            Err(_) => panic!(rt; "a round"),
-        }
-    }
-    assert!(rt; caches.is_empty());
-    caches.destroy_empty();
-    match arena.close() {
-        Ok(()) => {}
-        Err(_) => panic!(rt; "a free range"),
+        Err(_) => panic!(rt; "a deed is left"),
     }
 }
 
 #[test]
-fn forty_events(rt: HostRuntime) {
+fn forty_one_events(rt: HostRuntime) {
     let mut walk = begin(&rt, rt.alloc());
     for (event, first, second) in SCRIPT {
         let answer = answered(&rt, &mut walk, event);

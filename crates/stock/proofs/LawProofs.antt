@@ -5,6 +5,8 @@ use Rattle.stock.proofs.Exporting.{out_tagged, clear_for_child, aligned_for_chil
 use Rattle.stock.proofs.SlabCalls as chunks
 pub use Rattle.stock.proofs.OnePlaces.{one_place, adds_up}
 pub use Rattle.stock.proofs.Apart.{out_is_apart}
+pub use Rattle.stock.proofs.Chains.{source_stands_before, plans_stay, caches_stay}
+pub use Rattle.stock.proofs.Ending.{ends_once_reaped, ends_with_nothing_out}
 pub use Rattle.stock.proofs.FrameLaws.{out_weighs, frames_then, pops, pushes, changes}
 
 pub always_tagged : AlwaysTagged

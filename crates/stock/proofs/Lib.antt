@@ -12,5 +12,9 @@ mod OnePlaces
 mod Apart
 mod FrameLaws
 mod OwnRounds
+mod Bare
+mod Planning
 mod Ending
+mod Chains
+mod Homeward
 pub mod LawProofs

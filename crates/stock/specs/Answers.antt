@@ -1,5 +1,5 @@
 -- The segments that an answer leaves in the caller's hand.
-use Rattle.std.specs.Prelude.{◌≡◌, List, [], ◌∷◌, Option, Result, Ok, Err}
+use Rattle.std.specs.Prelude.{List, [], ◌∷◌, Option, Result, Ok, Err}
 use Rattle.std.specs.Option.{option_to_list}
 use Rattle.deed_core.specs.Tag.{Tag}
 use Rattle.tag_arena.specs.declared.faults.ArenaFault.{ArenaFault}
@@ -40,7 +40,7 @@ hand_after_add (Err (adding.WrongSize same)) = same ∷ []
 hand_after_add (Err (adding.Overlaps same)) = same ∷ []
 hand_after_add (Err (adding.NoMemory same)) = same ∷ []
 
--- it was refused for want of memory, if at all
+-- it was refused only where it was out of memory, if at all
 abbrev pub OnlyForMemory : Result Tag (SpanFault Tag) → Type 0
 OnlyForMemory (Ok t) = Unit {0}
 OnlyForMemory (Err (spans.Overlaps same)) = ⊥

@@ -1,5 +1,5 @@
 -- What follows from the accounts of a stock.
-use Rattle.std.specs.Prelude.{◌≡◌, ℕ, ◌+◌, ◌≤◌, List, ◌∷◌, AllPairs, slice_get, Some, None}
+use Rattle.std.specs.Prelude.{◌≡◌, ℕ, ◌+◌, ◌%◌, ◌<◌, ◌≤◌, List, ◌∷◌, AllPairs, length, slice_get, Some, None}
 use Rattle.deed_core.specs.Extent.{Covers}
 use Rattle.deed_core.specs.Tag.{Tag}
 use Rattle.deed_core.specs.Covering.{covering_held, units_held}
@@ -9,7 +9,8 @@ use Rattle.tag_arena.specs.ArenaState.{spans_of, OnQuantum}
 use Rattle.tag_arena.specs.Calls.{IsClear}
 use Rattle.slab_layer.specs.Calls.{OverlapsSlab}
 use Rattle.magazine_layer.specs.Magazines.{CpuCacheState, cache_rounds}
-use Rattle.stock.specs.Spaces.{SpaceState, QuantumCacheState, IsCacheAt}
+use Rattle.stock.specs.Spaces.{SpaceState, QuantumCacheState, IsCacheAt, HasCache, plans_of}
+use Rattle.stock.specs.Stocks.{IsStock}
 use Rattle.stock.specs.Accounts.{Accounts, IsAccounted, Frames}
 use Rattle.stock.specs.Steps.{IsTaggedIn, IsOutOf}
 use Rattle.stock.specs.Sums.{Out, all_out, places_of, all_places, total, lengths_of}
@@ -95,3 +96,27 @@ abbrev pub ChangeFrames : Type 0
 ChangeFrames = (spaces : List SpaceState) (old new : CpuCacheState)
     → WeighSame (cache_rounds old) (cache_rounds new)
     → Frames spaces (cache_rounds old) spaces (cache_rounds new)
+
+-- an arena's source stands before it, and has whole quanta of the arena's
+abbrev pub SourceStandsBefore : Type 0
+SourceStandsBefore = (spaces : List SpaceState) → IsStock spaces → (k p : ℕ) (s : SpaceState)
+    → slice_get spaces k ≡ Some s → s.source ≡ Some p → (p < k) × ((y : SpaceState)
+    × (slice_get spaces p ≡ Some y) × (y.arena.quantum % s.arena.quantum ≡ 0))
+
+-- the two are set up alike
+pub record IsSetUpAs (s t : SpaceState) : Type 0 where
+  pub source : t.source ≡ s.source
+  pub quantum : t.arena.quantum ≡ s.arena.quantum
+  pub policy : t.arena.policy ≡ s.arena.policy
+  pub caches : length t.caches ≡ length s.caches
+
+-- what keeps the plans adds no arena and takes none away, and each is set up as before
+abbrev pub PlansStay : Type 0
+PlansStay = (old new : List SpaceState) → plans_of new ≡ plans_of old → (length new ≡ length old)
+    × ((k : ℕ) (s t : SpaceState) → slice_get old k ≡ Some s → slice_get new k ≡ Some t
+    → IsSetUpAs s t)
+
+-- so each cache still stands
+abbrev pub CachesStay : Type 0
+CachesStay = (old new : List SpaceState) → plans_of new ≡ plans_of old → (k j : ℕ)
+    → HasCache old k j → HasCache new k j

@@ -6,3 +6,5 @@ pub mod Answers
 pub mod OwnCaches
 pub mod Sums
 pub mod Laws
+pub mod Endings
+pub mod Setups

@@ -42,7 +42,7 @@ impl<D: Deed> Stock<D> {
     }
 
     /// Adds a span of its source to the arena at the place, and carves its first units for the
-    /// request. A span that is out is refused for want of memory alone.
+    /// request. A span that is out is refused only where it is out of memory.
     pub fn add_carve(
         &mut self,
         child: usize,

@@ -70,9 +70,8 @@ impl<D: Deed> Stock<D> {
         magazine: Magazine<D>,
     ) -> Result<(), PutFullFault<Magazine<D>>>
         requires has { HasCache self.old arena cache }
-        requires full { BothFull cpu.old }
         requires rounds { AreRoundsIn self.old arena cache cpu.old }
-        requires fresh { magazine.rounds ≡ [] }
+        requires magazines { BothFull cpu.old × (magazine.rounds ≡ []) }
         ensures swapped { OnDepot arena cache
             (λ a b. PutFullOf cpu.old a magazine result cpu.new b) self.old self.new }
         ensures rounds { AreRoundsIn self.old arena cache cpu.new }

@@ -1,59 +1,144 @@
-//! The end of a stock. Nothing is lost: it is taken apart, the last arena first, and each part is
-//! ended by its own `close`.
-ghost use Rattle.std.specs.Prelude.{◌≡◌, ◌↔◌, [], ◌∷◌, ◌++◌, IsOk, IfErr, IfSome, IfNone};
+//! The end of a stock. Nothing is lost: one in which a deed lies is handed back.
+ghost use Rattle.std.specs.Prelude.{◌≡◌, ◌↔◌, [], All, IsTrue, IsOk, IfErr};
+ghost use Rattle.tag_arena.specs.ArenaState.{spans_of};
+ghost use Rattle.magazine_layer.specs.Depots.{depot_rounds};
+ghost use Rattle.stock.specs.Endings.{IsBare, IsBareCache, HaveUnits, RoundsHaveUnits};
 
 use crate::spaces::{QuantumCache, Space};
 use crate::stocks::Stock;
 use deed_core::Deed;
-use magazine_layer::Depot;
-use slab_layer::SlabCache;
 use tag_arena::Arena;
 
 impl<D: Deed> Stock<D> {
-    /// Takes the arena that was added last out, with its quantum caches. It takes no memory.
-    pub fn take_last(&mut self) -> Option<Space<D>>
-        ensures some { IfSome result (λ s. self.old ≡ self.new ++ s ∷ []) }
-        ensures none { IfNone result ((self.old ≡ []) × (self.new ≡ [])) }
-    {
-        self.spaces.pop()
-    }
-
-    /// Ends a stock that has no arena, and hands back one that has.
+    /// Ends a stock in which no deed lies, with its arenas, and hands back one in which a deed
+    /// lies. It takes no memory. A stock with no arena ends. Another is reaped first (`reap_all`), and
+    /// its owned spans are taken out (`remove_owned`): where nothing is out of it, it ends then.
     pub fn close(self) -> Result<(), Stock<D>>
-        ensures empty { IsOk result ↔ (self ≡ []) }
+        ensures ok { IsOk result ↔ All IsBare self }
         ensures handed_back { IfErr result (λ same. same ≡ self) }
     {
-        if !self.spaces.is_empty() {
+        if !are_bare(&self.spaces) {
             return Err(self);
         }
         let Stock { spaces } = self;
-        spaces.destroy_empty();
+        discard_spaces(spaces);
         Ok(())
     }
 }
 
+/// Whether no deed lies in any of the arenas.
+fn are_bare<D: Deed>(spaces: &[Space<D>]) -> bool
+    requires rounds { All (λ s. RoundsHaveUnits s.caches) spaces.now }
+    ensures { IsTrue result ↔ All IsBare spaces.now }
+{
+    for space in spaces {
+        if !space.is_bare() {
+            return false;
+        }
+    }
+    true
+}
+
+/// Whether no deed lies in any of the caches.
+fn are_bare_caches<D: Deed>(caches: &[QuantumCache<D>]) -> bool
+    requires rounds { RoundsHaveUnits caches.now }
+    ensures { IsTrue result ↔ All IsBareCache caches.now }
+{
+    for cache in caches {
+        if !cache.is_bare() {
+            return false;
+        }
+    }
+    true
+}
+
+/// Whether the arena has no span.
+fn has_no_span<D: Deed>(arena: &Arena<D>) -> bool
+    ensures { IsTrue result ↔ (spans_of arena.now ≡ []) }
+{
+    arena.report().span == 0
+}
+
+/// Ends arenas in which no deed lies.
+fn discard_spaces<D: Deed>(spaces: Vec<Space<D>>)
+    requires { All IsBare spaces.items }
+{
+    let mut spaces = spaces;
+    while let Some(space) = spaces.pop() {
+        space.discard();
+    }
+    spaces.destroy_empty();
+}
+
+/// Ends caches in which no deed lies.
+fn discard_caches<D: Deed>(caches: Vec<QuantumCache<D>>)
+    requires { All IsBareCache caches.items }
+{
+    let mut caches = caches;
+    while let Some(cache) = caches.pop() {
+        cache.discard();
+    }
+    caches.destroy_empty();
+}
+
 impl<D: Deed> Space<D> {
-    /// Its arena, and its quantum caches by the quanta of a chunk.
-    pub fn into_parts(self) -> (Arena<D>, Vec<QuantumCache<D>>)
-        ensures arena { result.0 ≡ self.arena }
-        ensures caches { result.1.items ≡ self.caches }
+    /// Whether no deed lies in it.
+    fn is_bare(&self) -> bool
+        requires rounds { RoundsHaveUnits self.now.caches }
+        ensures { IsTrue result ↔ IsBare self.now }
+    {
+        if !has_no_span(&self.arena) {
+            return false;
+        }
+        are_bare_caches(&self.caches)
+    }
+
+    /// Ends an arena in which no deed lies.
+    fn discard(self)
+        requires { IsBare self }
     {
         let Space {
             arena,
             source: _,
             caches,
         } = self;
-        (arena, caches)
+        discard_caches(caches);
+        // For its clause: what is always so of an arena.
+        let _ = arena.id();
+        match arena.close() {
+            Ok(()) => {}
+            Err(_) => unreachable!(),
+        }
     }
 }
 
 impl<D: Deed> QuantumCache<D> {
-    /// Its slabs and its depot.
-    pub fn into_parts(self) -> (SlabCache<D>, Depot<D>)
-        ensures slab { result.0 ≡ self.slab }
-        ensures depot { result.1 ≡ self.depot }
+    /// Whether no deed lies in it.
+    fn is_bare(&self) -> bool
+        requires rounds { HaveUnits (depot_rounds self.now.depot) }
+        ensures { IsTrue result ↔ IsBareCache self.now }
+    {
+        // For its clause: what is always so of a slab cache.
+        let _ = self.slab.arena();
+        let report = self.slab.report();
+        if report.idle != 0 || report.gap != 0 || report.tail != 0 {
+            return false;
+        }
+        self.depot.units() == 0
+    }
+
+    /// Ends a cache in which no deed lies.
+    fn discard(self)
+        requires { IsBareCache self }
     {
         let QuantumCache { slab, depot } = self;
-        (slab, depot)
+        match slab.close() {
+            Ok(()) => {}
+            Err(_) => unreachable!(),
+        }
+        match depot.close() {
+            Ok(()) => {}
+            Err(_) => unreachable!(),
+        }
     }
 }

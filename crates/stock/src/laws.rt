@@ -2,6 +2,8 @@
 //! and proofs/LawProofs.antt has them for the proofs of the crates above.
 ghost use Rattle.stock.specs.Laws.{IsInOnePlace, AddsUp, AlwaysTagged, AlwaysOut, AlwaysImports};
 ghost use Rattle.stock.specs.Laws.{AlwaysSlab, OutIsApart, OutWeighs, FramesThen};
+ghost use Rattle.stock.specs.Laws.{SourceStandsBefore, PlansStay, CachesStay};
+ghost use Rattle.stock.specs.Endings.{EndsOnceReaped, EndsWithNothingOut};
 ghost use Rattle.stock.specs.Laws.{PopFrames, PushFrames, ChangeFrames};
 
 /// Each unit of an arena is in one place: free, in a slab, in a magazine, exported, leased or in a
@@ -32,4 +34,19 @@ pub fn frame_laws()
     ensures pops { PopFrames }
     ensures pushes { PushFrames }
     ensures changes { ChangeFrames }
+{}
+
+/// A stock ends exactly where nothing is out of it, once its caches are reaped and its owned spans
+/// taken out.
+pub fn end_laws()
+    ensures reaped { EndsOnceReaped }
+    ensures nothing_out { EndsWithNothingOut }
+{}
+
+/// The arenas of a stock stand in chains, which no step changes: it keeps the plans (`fixed`), and so
+/// how many arenas there are, their sources, quanta, policies and caches.
+pub fn chain_laws()
+    ensures before { SourceStandsBefore }
+    ensures plans { PlansStay }
+    ensures caches { CachesStay }
 {}

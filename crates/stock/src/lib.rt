@@ -8,9 +8,11 @@
 //! list of the segments that are out of all parts: in hands, leased, or rounds of CPUs.
 //!
 //! A call finds its part by its place, in constant time, and costs what the part's own call does.
+//! `reap_all` and `close` go through all parts: a stock ends by the first, by `remove_owned` until it
+//! gives none, and by the second, exactly where nothing is out of it (`end_laws`).
 //!
-//! Begin with `Stock` in `stocks`; `specs/Steps.antt` has the steps, and `laws` what follows from the
-//! accounts.
+//! Begin with `StockSetup` in `setups`, which makes a `Stock`, and with that in `stocks`;
+//! `specs/Steps.antt` has the steps, and `laws` what follows from the accounts.
 #![tactic(auto)]
 
 mod arena_steps;
@@ -18,12 +20,15 @@ mod depot_steps;
 mod endings;
 mod laws;
 mod own_caches;
+mod reaping;
 mod reports;
+mod setups;
 mod slab_steps;
 mod spaces;
 mod stocks;
 
-pub use laws::{apart_laws, frame_laws, never_refused_laws, one_place_laws};
+pub use laws::{apart_laws, chain_laws, end_laws, frame_laws, never_refused_laws, one_place_laws};
 pub use own_caches::OwnCache;
+pub use setups::StockSetup;
 pub use spaces::{QuantumCache, Space};
 pub use stocks::Stock;

@@ -198,8 +198,7 @@ impl<D: Deed> OwnCache<D> {
     ) -> Result<(), PutFullFault<Magazine<D>>>
         requires has { HasCache stock.old self.old.arena self.old.cache }
         requires quantum { HasQuantum stock.old self.old.arena self.old.quantum }
-        requires full { BothFull self.old.cpu }
-        requires fresh { magazine.rounds ≡ [] }
+        requires magazines { BothFull self.old.cpu × (magazine.rounds ≡ []) }
         ensures swapped { OnDepot self.old.arena self.old.cache
             (λ a b. PutFullOf self.old.cpu a magazine result self.new.cpu b) stock.old stock.new }
         ensures place { IsAtPlaceOf self.old self.new }

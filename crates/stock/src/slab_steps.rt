@@ -49,8 +49,7 @@ impl<D: Deed> Stock<D> {
         span: Segment<D>,
     ) -> Result<Segment<D>, AddFault<Segment<D>>>
         requires has { HasCache self.old arena cache }
-        requires home { span.arena ≡ arena }
-        requires route { span.route ≡ Route.Direct }
+        requires span { (span.arena ≡ arena) × (span.route ≡ Route.Direct) }
         requires grid { IsOnGridOf self.old arena span }
         ensures added { OnSlab arena cache (λ a b. AddOf a span result b) self.old self.new }
         ensures chunk { IfOk result (IsRoundIn self.old arena cache) }

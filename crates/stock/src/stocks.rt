@@ -1,4 +1,4 @@
-//! The stock, and how it is set up.
+//! The stock. What grows one is called by `StockSetup` alone.
 ghost use Rattle.std.specs.Prelude.{◌≡◌, ◌+◌, ◌^◌, ◌<◌, [], ◌∷◌, ◌++◌, length, slice_get, None};
 ghost use Rattle.std.specs.Prelude.{OnOk, OnErr};
 ghost use Rattle.std.specs.Int.{IsPowerOfTwo};
@@ -44,7 +44,7 @@ impl<D: Deed> Model for Stock<D> {
 
 impl<D: Deed> Stock<D> {
     /// A stock with no arena. Its accounts balance where nothing is out.
-    pub fn new(alloc: Global) -> Stock<D>
+    pub(crate) fn new(alloc: Global) -> Stock<D>
         ensures empty { result ≡ [] }
         ensures balances { Accounts result [] }
     {
@@ -63,7 +63,7 @@ impl<D: Deed> Stock<D> {
     }
 
     /// Adds an arena with no span and no cache, which imports from the source, if there is one.
-    pub fn add_arena(
+    pub(crate) fn add_arena(
         &mut self,
         alloc: Global,
         source: Option<u32>,
@@ -93,7 +93,7 @@ impl<D: Deed> Stock<D> {
 
     /// Adds an owned span to an arena that doesn't import. The deed is that of a root's whole range,
     /// as it was opened.
-    pub fn add_span(&mut self, arena: usize, deed: D) -> Result<(), SpanFault<D>>
+    pub(crate) fn add_span(&mut self, arena: usize, deed: D) -> Result<(), SpanFault<D>>
         requires within { arena < length self.old }
         requires root { (s : SpaceState) → slice_get self.old arena ≡ Some s → s.source ≡ None }
         ensures added { OnArena arena (λ a b. AddSpanOf a deed (D.holding deed) result b)
@@ -119,7 +119,7 @@ impl<D: Deed> Stock<D> {
 
     /// Adds the next quantum cache to an arena: the first has chunks of one quantum. Its slabs have
     /// `slab_size` units, and its magazines `rounds` rounds.
-    pub fn add_cache(
+    pub(crate) fn add_cache(
         &mut self,
         alloc: Global,
         arena: usize,
@@ -127,7 +127,8 @@ impl<D: Deed> Stock<D> {
         rounds: usize,
     ) -> Result<(), AllocError>
         requires within { arena < length self.old }
-        requires can { (s : SpaceState) → slice_get self.old arena ≡ Some s → HasRoomForCache slab_size s }
+        requires can { (s : SpaceState) → slice_get self.old arena ≡ Some s
+            → HasRoomForCache slab_size s }
         requires rounds { IsSize rounds }
         ensures added { OnOk result (GainsCache arena slab_size rounds self.old self.new) }
         ensures err { OnErr result (self.new ≡ self.old) }

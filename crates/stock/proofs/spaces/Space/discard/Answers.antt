@@ -1,0 +1,10 @@
+use Rattle.std.proofs.Common.{◌∙◌, ap}
+use Rattle.tag_arena.specs.ArenaState.{spans_of}
+use Rattle.stock.specs.Spaces.{SpaceState}
+use Rattle.stock.proofs.Bare.{no_free}
+use Rattle.stock.proofs.spaces.Space.discard.Goals as goal
+
+pub unreachable-requires : goal.unreachable-requires
+unreachable-requires g c =
+    let none = ap (λ (s : SpaceState). spans_of s.arena) c.self.view_is ∙ c.requires.spans in
+    (let ok = c.in-Err.ensures.empty.1 (no_free c.self.inside.arena c.id.ensures.sound none) in cc)
