@@ -26,7 +26,7 @@ row_more size a q n xs is =
     let e : 0 + n ≡ n = omega arith in
     let f : suc n ≡ n + 1 = omega arith in
     ap (λ ys. ys ++ new_own size (record { arena = a; cache = n; quantum = q }) ∷ []) is ∙ sym (map-append (new_own size) (row_places a q 0 n) (record { arena = a; cache = n; quantum = q } ∷ []))
-      ∙ ap (λ m. map (new_own size) (row_places a q 0 n ++ record { arena = a; cache = m; quantum = q } ∷ [])) (sym e) ∙ ap (map (new_own size)) (row_suc a q 0 n) ∙ ap (λ m. map (new_own size) (row_places a q 0 m)) f
+    ∙ ap (λ m. map (new_own size) (row_places a q 0 n ++ record { arena = a; cache = m; quantum = q } ∷ [])) (sym e) ∙ ap (map (new_own size)) (row_suc a q 0 n) ∙ ap (λ m. map (new_own size) (row_places a q 0 m)) f
 
 places_suc : (k : ℕ) (plans : List SpacePlan) (p : SpacePlan) → places_from k (plans ++ p ∷ []) ≡ places_from k plans ++ row_places (k + length plans) p.quantum 0 (length p.slab_sizes) ∷ []
 places_suc k [] p = let e : k ≡ k + 0 = omega arith in ap (λ m. row_places m p.quantum 0 (length p.slab_sizes) ∷ []) e
@@ -45,10 +45,10 @@ cpu_more size spaces i cpu row within is at =
     let len : 0 + length (take i (plans_of spaces)) ≡ i = omega (arith, length-take i (plans_of spaces), lt) in
     let sizes : length p.slab_sizes ≡ length s.0.caches = length-map s.0.caches slab_size_of in
     let rows : places_from 0 (take (i + 1) (plans_of spaces)) ≡ places_from 0 (take i (plans_of spaces)) ++ row_places i s.0.arena.quantum 0 (length s.0.caches) ∷ []
-          = ap (places_from 0) taken ∙ places_suc 0 (take i (plans_of spaces)) p ∙ ap (λ m. places_from 0 (take i (plans_of spaces)) ++ row_places m s.0.arena.quantum 0 (length p.slab_sizes) ∷ []) len
-            ∙ ap (λ n. places_from 0 (take i (plans_of spaces)) ++ row_places i s.0.arena.quantum 0 n ∷ []) sizes in
+    = ap (places_from 0) taken ∙ places_suc 0 (take i (plans_of spaces)) p ∙ ap (λ m. places_from 0 (take i (plans_of spaces)) ++ row_places m s.0.arena.quantum 0 (length p.slab_sizes) ∷ []) len
+    ∙ ap (λ n. places_from 0 (take i (plans_of spaces)) ++ row_places i s.0.arena.quantum 0 n ∷ []) sizes in
     ap (λ xs. xs ++ row ∷ []) is ∙ ap (λ r. new_cpu size (take i (plans_of spaces)) ++ r ∷ []) (at s.0 s.1)
-      ∙ sym (map-append (map (new_own size)) (places_from 0 (take i (plans_of spaces))) (row_places i s.0.arena.quantum 0 (length s.0.caches) ∷ [])) ∙ ap (map (map (new_own size))) (sym rows)
+    ∙ sym (map-append (map (new_own size)) (places_from 0 (take i (plans_of spaces))) (row_places i s.0.arena.quantum 0 (length s.0.caches) ∷ [])) ∙ ap (map (map (new_own size))) (sym rows)
 
 row_empty : (size : ℕ) (xs : List CachePlace) → All HasNoRound (map (new_own size) xs)
 row_empty size xs = all_from HasNoRound (map (new_own size) xs) (λ k y at. let m = mapped (new_own size) xs k y at in subst HasNoRound (sym m.2) (record { loaded_empty = refl; previous_empty = refl }))

@@ -81,7 +81,7 @@ impl<D: Deed> ArenaCaches<D> {
         requires size { IsSize size }
         ensures { IfOk result (λ row. (s : SpaceState) → slice_get stock.now arena ≡ Some s
             → row ≡ map (new_own size)
-                (row_places arena s.arena.quantum 0 (length s.caches))) }
+            (row_places arena s.arena.quantum 0 (length s.caches))) }
     {
         // For its clause: what is always so of a stock.
         let _ = stock.count();
