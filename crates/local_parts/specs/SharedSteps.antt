@@ -1,5 +1,5 @@
--- The events of arenas, slabs and depots that leave the CPU alone: what each did, in the stock's own
--- relation. Where the stock has no such cache, nothing changes.
+-- The events of arenas, slabs and depots that leave the CPU alone: what each did, in the stock's
+-- own relation. Where the stock has no such cache, nothing changes.
 use Rattle.std.specs.Prelude.{◌≡◌, ℕ, ◌+◌, ◌⊎◌, List, Option, None, Result, Ok, Err}
 use Rattle.deed_core.specs.Tag.{Tag}
 use Rattle.deed_core.specs.Request.{plain_of}

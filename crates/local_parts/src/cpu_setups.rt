@@ -12,8 +12,8 @@ use std::alloc::{AllocError, Global};
 use stock::{OwnCache, Stock};
 
 impl<D: Deed> CpuCaches<D> {
-    /// Two empty magazines of `size` rounds for each quantum cache of each arena of the stock. A new
-    /// CPU begins with the least size. Out of memory leaves nothing.
+    /// Two empty magazines of `size` rounds for each quantum cache of each arena of the stock.
+    /// A new CPU begins with the least size. Out of memory leaves nothing.
     pub fn new(alloc: Global, stock: &Stock<D>, size: usize) -> Result<CpuCaches<D>, AllocError>
         requires { IsSize size }
         ensures made { IfOk result (λ cpu. cpu ≡ new_cpu size (plans_of stock.now)) }
