@@ -6,4 +6,5 @@ mod Exchanges
 mod Owns
 mod OwnWholes
 mod PartSteps
+mod NewCpus
 pub mod LawProofs

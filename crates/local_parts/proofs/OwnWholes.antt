@@ -56,7 +56,7 @@ module _ (spaces : List SpaceState) (law : IsStock spaces) (old new : List (List
     given_chunk sizes o t at round here =
         let s = here.has.1 in
         chunk_here spaces sizes k j c s.space t law s.at number
-            (subst (λ q. IsRoundOf k (j + 1) q t) (sym (here.quantum s.space s.at)) (subst (λ m. IsRoundOf k (m + 1) o.quantum t) at.cache (subst (λ m. IsRoundOf m (o.cache + 1) o.quantum t) at.arena round)))
+        (subst (λ q. IsRoundOf k (j + 1) q t) (sym (here.quantum s.space s.at)) (subst (λ m. IsRoundOf k (m + 1) o.quantum t) at.cache (subst (λ m. IsRoundOf m (o.cache + 1) o.quantum t) at.arena round)))
 
     pub pop_whole : (r : Option Tag) → OnOwn k j (OwnPops r) old new → WholeStep was (Pop k c) (Ok r) is
     pop_whole None on =
@@ -162,10 +162,10 @@ module _ (spaces : List SpaceState) (law : IsStock spaces) (old new : List (List
       let here = own_is k j _ old new on served.0 served.1.own in
       let u : IsUnchanged (beside spaces old) (beside spaces new) = record { spaces = refl; cpu = same_cpu k j _ old new on on.does.1 } in
       let cannot : ¬ CanPush t k c served.0
-            = λ can. on.does.2 (subst (λ x. CanPush t x.arena (x.cache + 1) x) (sym here)
-                (subst (λ m. CanPush t m (served.0.cache + 1) served.0) (sym served.1.own.arena) (subst (λ m. CanPush t k (m + 1) served.0) (sym served.1.own.cache) (subst (λ m. CanPush t k m served.0) number can)))) in
+      = λ can. on.does.2 (subst (λ x. CanPush t x.arena (x.cache + 1) x) (sym here)
+      (subst (λ m. CanPush t m (served.0.cache + 1) served.0) (sym served.1.own.arena) (subst (λ m. CanPush t k (m + 1) served.0) (sym served.1.own.cache) (subst (λ m. CanPush t k m served.0) number can)))) in
       unchanged_whole (beside spaces old) (beside spaces new) law u (Push k c t) (Err (NoRoom same)) (λ h b. ap Some back ∙ sym b)
-          (inr (ap (λ x. Err (NoRoom x)) back, one_served (beside spaces old) k c j (CanPush t k c) number served.0 served.1 cannot, u)) (λ sizes. back) tt refl
+      (inr (ap (λ x. Err (NoRoom x)) back, one_served (beside spaces old) k c j (CanPush t k c) number served.0 served.1 cannot, u)) (λ sizes. back) tt refl
 
   pub change_whole : (size : ℕ) (r : Result (Unit {0}) ChangeFault) → OnOwn k j (OwnChanges size r) old new → WholeStep (beside spaces old) (Change k c size) r (beside spaces new)
   change_whole size (Ok tt) on =
@@ -188,7 +188,7 @@ module _ (spaces : List SpaceState) (law : IsStock spaces) (old new : List (List
       let here = own_is k j _ old new on served.0 served.1.own in
       let u : IsUnchanged (beside spaces old) (beside spaces new) = record { spaces = refl; cpu = same_cpu k j _ old new on on.does.0 } in
       unchanged_whole (beside spaces old) (beside spaces new) law u (Change k c size) (Err NotGreater) (λ h b. refl)
-          (inr (inr (refl, one_served (beside spaces old) k c j (CanChange size) number served.0 served.1 (λ can. on.does.1 (subst (CanChange size) (sym here) can)), u))) (λ sizes. tt) tt refl
+      (inr (inr (refl, one_served (beside spaces old) k c j (CanChange size) number served.0 served.1 (λ can. on.does.1 (subst (CanChange size) (sym here) can)), u))) (λ sizes. tt) tt refl
   change_whole size (Err Stopped) on = absurd on.does
 
 -- the three exchanges
@@ -202,7 +202,7 @@ module _ (old new : LocalState) (law : IsStock old.spaces) (k c j : ℕ) (number
       let arena : on.own.arena ≡ k = ap (λ (y : OwnCacheState). y.arena) here ∙ served.1.own.arena in
       let cache : on.own.cache ≡ j = ap (λ (y : OwnCacheState). y.cache) here ∙ served.1.own.cache in
       let at : OnDepot k j (λ d d'. P on.own.cpu d on.changed.cpu d') old.spaces new.spaces
-            = subst (λ m. OnDepot k m (λ d d'. P on.own.cpu d on.changed.cpu d') old.spaces new.spaces) cache (subst (λ m. OnDepot m on.own.cache (λ d d'. P on.own.cpu d on.changed.cpu d') old.spaces new.spaces) arena x.swapped) in
+      = subst (λ m. OnDepot k m (λ d d'. P on.own.cpu d on.changed.cpu d') old.spaces new.spaces) cache (subst (λ m. OnDepot m on.own.cache (λ d d'. P on.own.cpu d on.changed.cpu d') old.spaces new.spaces) arena x.swapped) in
       record {
         step = record {
           does = did (j, number, served, record { row = on.row; at = on.at; own = on.own; among = on.among; changed = on.changed; after = on.after; does = (x.place, at) });

@@ -70,28 +70,28 @@ module _ (k j : ℕ) (P : OwnCacheState → OwnCacheState → Type 0) (old new :
   exchange_conserves spaces spaces' frame hand rest a =
       let rests : List Tag = option_to_list hand ++ (cpu_rounds (set old k (set on.row j (emptied on.own))) ++ rest) in
       let none : (f : Tag → ℕ) → sum_by f (cpu_rounds (set old k (set on.row j (emptied on.own)))) + sum_by f (own_rounds on.own) ≡ sum_by f (cpu_rounds old) + 0
-            = λ f. sums_set f old k j on.row on.own (emptied on.own) on.at on.among in
+      = λ f. sums_set f old k j on.row on.own (emptied on.own) on.at on.among in
       let before : Accounts spaces (own_rounds on.own ++ rests) = out_weighs spaces ((option_to_list hand ++ cpu_rounds old) ++ rest) (own_rounds on.own ++ rests)
-            (λ f. omega (
-              arith,
-              none f,
-              sum_by-append f (option_to_list hand ++ cpu_rounds old) rest,
-              sum_by-append f (option_to_list hand) (cpu_rounds old),
-              sum_by-append f (own_rounds on.own) rests,
-              sum_by-append f (option_to_list hand) (cpu_rounds (set old k (set on.row j (emptied on.own))) ++ rest),
-              sum_by-append f (cpu_rounds (set old k (set on.row j (emptied on.own)))) rest,
-            )) a in
+      (λ f. omega (
+        arith,
+        none f,
+        sum_by-append f (option_to_list hand ++ cpu_rounds old) rest,
+        sum_by-append f (option_to_list hand) (cpu_rounds old),
+        sum_by-append f (own_rounds on.own) rests,
+        sum_by-append f (option_to_list hand) (cpu_rounds (set old k (set on.row j (emptied on.own))) ++ rest),
+        sum_by-append f (cpu_rounds (set old k (set on.row j (emptied on.own)))) rest,
+      )) a in
       out_weighs spaces' (own_rounds on.changed ++ rests) ((option_to_list hand ++ cpu_rounds new) ++ rest)
-        (λ f. omega (
-          arith,
-          none f,
-          own_sums f,
-          sum_by-append f (option_to_list hand ++ cpu_rounds new) rest,
-          sum_by-append f (option_to_list hand) (cpu_rounds new),
-          sum_by-append f (own_rounds on.changed) rests,
-          sum_by-append f (option_to_list hand) (cpu_rounds (set old k (set on.row j (emptied on.own))) ++ rest),
-          sum_by-append f (cpu_rounds (set old k (set on.row j (emptied on.own)))) rest,
-        )) (frame rests before)
+      (λ f. omega (
+        arith,
+        none f,
+        own_sums f,
+        sum_by-append f (option_to_list hand ++ cpu_rounds new) rest,
+        sum_by-append f (option_to_list hand) (cpu_rounds new),
+        sum_by-append f (own_rounds on.changed) rests,
+        sum_by-append f (option_to_list hand) (cpu_rounds (set old k (set on.row j (emptied on.own))) ++ rest),
+        sum_by-append f (cpu_rounds (set old k (set on.row j (emptied on.own)))) rest,
+      )) (frame rests before)
 
 -- the hand and the CPU's rounds weigh the same
 pub own_conserves : (spaces : List SpaceState) (old new : List (List OwnCacheState)) (hand left : Option Tag)

@@ -140,6 +140,6 @@ slab_here old new sizes k j t stock on =
       of_arena = ap (λ (x : Tag). x.arena) reaps.tag ∙ is.arena;
       direct = ap (λ (x : Tag). x.route) reaps.tag;
       grid = ap (λ (x : Tag). x.holding.range.base % quantum_in (tree_of (plans_of old) sizes) k) reaps.tag
-        ∙ ap (λ n. on.does.1.span.range.base % n) (quantum_here old sizes k on.space on.at ∙ sym is.quantum_is)
-        ∙ (subst (IsOnGrid on.cache.slab.quantum) stands.is (is.sound.grid on.does.0 on.does.1 stands.within)).base;
+          ∙ ap (λ n. on.does.1.span.range.base % n) (quantum_here old sizes k on.space on.at ∙ sym is.quantum_is)
+          ∙ (subst (IsOnGrid on.cache.slab.quantum) stands.is (is.sound.grid on.does.0 on.does.1 stands.within)).base;
     }

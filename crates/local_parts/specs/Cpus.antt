@@ -1,8 +1,8 @@
 -- What a contract sees of one CPU's caches: of each arena, in order of setup, those of its quantum
 -- caches, by the quanta of a chunk.
-use Rattle.std.specs.Prelude.{◌≡◌, ℕ, zero, suc, ◌+◌, List, [], ◌∷◌, length, map, flat_map, set, slice_get, Some}
+use Rattle.std.specs.Prelude.{◌≡◌, ℕ, zero, suc, ◌+◌, List, [], ◌∷◌, All, length, map, flat_map, set, slice_get, Some}
 use Rattle.deed_core.specs.Tag.{Tag}
-use Rattle.magazine_layer.specs.Magazines.{CpuCacheState, cache_rounds}
+use Rattle.magazine_layer.specs.Magazines.{CpuCacheState, BothEmpty, cache_rounds}
 use Rattle.stock.specs.Spaces.{SpaceState, SpacePlan, plans_of}
 use Rattle.stock.specs.OwnCaches.{OwnCacheState}
 
@@ -56,6 +56,13 @@ row_rounds row = flat_map own_rounds row
 
 abbrev pub cpu_rounds : List (List OwnCacheState) → List Tag
 cpu_rounds cpu = flat_map row_rounds cpu
+
+-- both magazines are empty: of one, of all
+abbrev pub HasNoRound : OwnCacheState → Type 0
+HasNoRound o = BothEmpty o.cpu
+
+abbrev pub HasNoRounds : List (List OwnCacheState) → Type 0
+HasNoRounds cpu = All (λ row. All HasNoRound row) cpu
 
 -- the CPU's cache stands at the place j of those of the arena at the place k, and is made for it
 pub record IsOwnAt (cpu : List (List OwnCacheState)) (k j : ℕ) (o : OwnCacheState) : Type 0 where

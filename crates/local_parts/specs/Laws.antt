@@ -39,5 +39,5 @@ PlanInOnePlace A = (left : A → Option Tag) (p : Plan A) (hand : Option Tag) �
     → (others : Out) → IsAccounted old.spaces (all_out (out_with old hand others))
     → (k : ℕ) (s : SpaceState) → slice_get new.spaces k ≡ Some s → (u : ℕ)
     → (covering_held u (all_places (places_of new.spaces (out_with new (left a) others) s))
-        ≡ covering_held u (spans_of s.arena))
+    ≡ covering_held u (spans_of s.arena))
     × (covering_held u (spans_of s.arena) ≤ 1)

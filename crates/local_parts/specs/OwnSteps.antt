@@ -36,7 +36,7 @@ abbrev pub OnExchange : LocalState → ℕ → ℕ
     → (CpuCacheState → DepotState → CpuCacheState → DepotState → Type 0) → LocalState → Type 0
 OnExchange old k c P new = (j : ℕ) × (c ≡ j + 1) × HasServed old k j
     × OnOwn k j (λ o o'. IsAtPlaceOf o o'
-        × OnDepot k j (λ d d'. P o.cpu d o'.cpu d') old.spaces new.spaces) old.cpu new.cpu
+    × OnDepot k j (λ d d'. P o.cpu d o'.cpu d') old.spaces new.spaces) old.cpu new.cpu
 
 -- the CPU has no cache that serves it and is so
 abbrev pub NoneServed : LocalState → ℕ → ℕ → (OwnCacheState → Type 0) → Type 0

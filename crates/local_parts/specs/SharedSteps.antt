@@ -1,5 +1,5 @@
--- The events of arenas, slabs and depots that leave the CPU alone: what each did, in the stock's own
--- relation. Where the stock has no such cache, nothing changes.
+-- The events of arenas, slabs and depots that leave the CPU alone: what each did, in the stock's
+-- own relation. Where the stock has no such cache, nothing changes.
 use Rattle.std.specs.Prelude.{◌≡◌, ℕ, ◌+◌, ◌⊎◌, List, Option, None, Result, Ok, Err}
 use Rattle.deed_core.specs.Tag.{Tag}
 use Rattle.deed_core.specs.Request.{plain_of}
@@ -62,7 +62,7 @@ abbrev pub DoesDepotReap : List SpaceState → ℕ → ℕ → Result (Option Ta
     → List SpaceState → Type 0
 DoesDepotReap old k c a new = (o : Option Tag) × (a ≡ Ok o)
     × OfCache old k c (λ j. OnDepot k j (λ x y. DepotReapOf x o y) old new)
-        ((o ≡ None) × (new ≡ old))
+    ((o ≡ None) × (new ≡ old))
 
 -- the chunk was put back, or refused
 abbrev pub DoesPut : List SpaceState → Tag → Result (Unit {0}) (SlabPutFault Tag)
@@ -75,5 +75,5 @@ abbrev pub DoesAdd : List SpaceState → ℕ → ℕ → Tag → Result Tag (Sla
     → List SpaceState → Type 0
 DoesAdd old k c span a new = OfCache old k c
     (λ j. (r : Result Tag (AddFault Tag)) × (a ≡ in_words add_word r)
-        × OnSlab k j (λ x y. AddOf x span r y) old new)
+    × OnSlab k j (λ x y. AddOf x span r y) old new)
     ((a ≡ Err (WrongSize span)) × (new ≡ old))

@@ -21,7 +21,7 @@ pub(crate) fn carve_of<D: Deed>(
     requires { arena < length stock.old }
     ensures { (cpu : List (List OwnCacheState))
         → WholeStep (record { spaces = stock.old; cpu = cpu })
-            (Carve arena request.now) result (record { spaces = stock.new; cpu = cpu }) }
+        (Carve arena request.now) result (record { spaces = stock.new; cpu = cpu }) }
 {
     // For its clause, here and below: what is always so of a stock.
     let _ = stock.count();
@@ -30,9 +30,7 @@ pub(crate) fn carve_of<D: Deed>(
     carve_in_words(carved)
 }
 
-fn carve_in_words<D: Deed>(
-    carved: Result<Segment<D>, ArenaFault>,
-) -> Result<Segment<D>, CarveFault>
+fn carve_in_words<D: Deed>(carved: Result<Segment<D>, ArenaFault>) -> Result<Segment<D>, CarveFault>
     ensures { result ≡ in_words carve_word carved }
 {
     match carved {
@@ -49,7 +47,7 @@ pub(crate) fn free_of<D: Deed>(
 ) -> Result<Option<Segment<D>>, FreeFault<Segment<D>>>
     ensures { (cpu : List (List OwnCacheState))
         → WholeStep (record { spaces = stock.old; cpu = cpu })
-            (Free segment) result (record { spaces = stock.new; cpu = cpu }) }
+        (Free segment) result (record { spaces = stock.new; cpu = cpu }) }
 {
     let _ = stock.count();
     let freed = stock.free(segment);
@@ -71,7 +69,7 @@ pub(crate) fn import_of<D: Deed>(
         → CanImport (plain_of size) span s }
     ensures { (cpu : List (List OwnCacheState))
         → WholeStep (record { spaces = stock.old; cpu = cpu })
-            (AddCarve child span size) result (record { spaces = stock.new; cpu = cpu }) }
+        (AddCarve child span size) result (record { spaces = stock.new; cpu = cpu }) }
 {
     let _ = stock.count();
     // For its clause: what is always so of a range.

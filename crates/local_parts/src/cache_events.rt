@@ -18,7 +18,7 @@ pub(crate) fn take_of<D: Deed>(
 ) -> Result<Option<Segment<D>>, Stopped>
     ensures { (cpu : List (List OwnCacheState))
         → WholeStep (record { spaces = stock.old; cpu = cpu })
-            (SlabTake arena cache) result (record { spaces = stock.new; cpu = cpu }) }
+        (SlabTake arena cache) result (record { spaces = stock.new; cpu = cpu }) }
 {
     // For its clause, here and below: what is always so of a stock.
     let _ = stock.count();
@@ -37,7 +37,7 @@ pub(crate) fn reap_of<D: Deed>(
 ) -> Result<Option<Segment<D>>, Stopped>
     ensures { (cpu : List (List OwnCacheState))
         → WholeStep (record { spaces = stock.old; cpu = cpu })
-            (SlabReap arena cache) result (record { spaces = stock.new; cpu = cpu }) }
+        (SlabReap arena cache) result (record { spaces = stock.new; cpu = cpu }) }
 {
     let _ = stock.count();
     let Some(place) = stock.cache_at(arena, cache) else {
@@ -55,7 +55,7 @@ pub(crate) fn depot_reap_of<D: Deed>(
 ) -> Result<Option<Segment<D>>, Stopped>
     ensures { (cpu : List (List OwnCacheState))
         → WholeStep (record { spaces = stock.old; cpu = cpu })
-            (DepotReap arena cache) result (record { spaces = stock.new; cpu = cpu }) }
+        (DepotReap arena cache) result (record { spaces = stock.new; cpu = cpu }) }
 {
     let _ = stock.count();
     let Some(place) = stock.cache_at(arena, cache) else {
@@ -72,7 +72,7 @@ pub(crate) fn put_of<D: Deed>(
 ) -> Result<(), SlabPutFault<Segment<D>>>
     ensures { (cpu : List (List OwnCacheState))
         → WholeStep (record { spaces = stock.old; cpu = cpu })
-            (SlabPut segment) result (record { spaces = stock.new; cpu = cpu }) }
+        (SlabPut segment) result (record { spaces = stock.new; cpu = cpu }) }
 {
     let _ = stock.count();
     let done = stock.slab_put(segment);
@@ -103,7 +103,7 @@ pub(crate) fn add_of<D: Deed>(
     requires grid { IsOnGridOf stock.old arena span }
     ensures { (cpu : List (List OwnCacheState))
         → WholeStep (record { spaces = stock.old; cpu = cpu })
-            (SlabAdd arena cache span) result (record { spaces = stock.new; cpu = cpu }) }
+        (SlabAdd arena cache span) result (record { spaces = stock.new; cpu = cpu }) }
 {
     let _ = stock.count();
     let Some(place) = stock.cache_at(arena, cache) else {

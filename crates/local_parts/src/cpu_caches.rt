@@ -7,9 +7,7 @@ ghost use Rattle.local_parts.specs.OwnChanges.{OwnPops, OwnPushes, OwnChanges};
 ghost use Rattle.local_parts.specs.OwnChanges.{OwnSwapsFull, OwnSwapsEmpty, OwnSwapsFresh};
 ghost use Rattle.local_parts.specs.States.{HasServed};
 
-use crate::own_changes::{
-    change_own, push_own, swap_empty_own, swap_fresh_own, swap_full_own,
-};
+use crate::own_changes::{change_own, push_own, swap_empty_own, swap_fresh_own, swap_full_own};
 use arena_tree::{ChangeFault, SwapEmptyFault, SwapFreshFault, SwapFullFault};
 use deed_core::{Deed, Segment};
 use std::alloc::Global;

@@ -8,9 +8,7 @@ ghost use Rattle.local_parts.specs.Steps.{LocalStep};
 use crate::arena_events::{carve_of, free_of, import_of};
 use crate::cache_events::{add_of, depot_reap_of, put_of, reap_of, take_of};
 use crate::cpu_caches::CpuCaches;
-use crate::own_events::{
-    change_of, pop_of, push_of, swap_empty_of, swap_fresh_of, swap_full_of,
-};
+use crate::own_events::{change_of, pop_of, push_of, swap_empty_of, swap_fresh_of, swap_full_of};
 use arena_tree::{
     AddCarveFault, CarveFault, ChangeFault, FreeFault, Parts, PushFault, SlabAddFault,
     SlabPutFault, Stopped, SwapEmptyFault, SwapFreshFault, SwapFullFault, Tree,
@@ -34,7 +32,7 @@ pub struct Local<'a, D: Deed> {
 impl<D: Deed> Parts<Segment<D>> for Local<'_, D> {
     ghost step = { λ s e a t.
         LocalStep (record { spaces = s.stock.now; cpu = s.cpu.now }) e a
-            (record { spaces = t.stock.now; cpu = t.cpu.now })
+        (record { spaces = t.stock.now; cpu = t.cpu.now })
         × (t.stock.ghost_name ≡ s.stock.ghost_name) × (t.cpu.ghost_name ≡ s.cpu.ghost_name) };
 
     ghost tree = { λ s. tree_of (plans_of s.stock.now) s.tree.now };

@@ -12,7 +12,10 @@ use magazine_layer::{EmptyFault, FullFault, Magazine, PutFullFault, is_magazine_
 use std::alloc::Global;
 use stock::{OwnCache, Stock};
 
-pub(crate) fn push_own<D: Deed>(own: &mut OwnCache<D>, segment: Segment<D>) -> Result<(), Segment<D>>
+pub(crate) fn push_own<D: Deed>(
+    own: &mut OwnCache<D>,
+    segment: Segment<D>,
+) -> Result<(), Segment<D>>
     ensures { OwnPushes segment result own.old own.new }
 {
     if !own.takes(&segment) {

@@ -12,12 +12,7 @@ use std::alloc::Global;
 use stock::Stock;
 
 // The place of the CPU's cache that serves the arena's cache of chunks of so many quanta.
-fn served<D: Deed>(
-    stock: &Stock<D>,
-    cpu: &CpuCaches<D>,
-    arena: u32,
-    cache: u8,
-) -> Option<usize>
+fn served<D: Deed>(stock: &Stock<D>, cpu: &CpuCaches<D>, arena: u32, cache: u8) -> Option<usize>
     ensures some { IfSome result (λ j. (cache ≡ j + 1)
         × HasServed (record { spaces = stock.now; cpu = cpu.now }) arena j) }
     ensures none { IfNone result ((j : ℕ) (o : OwnCacheState) → cache ≡ j + 1

@@ -1,0 +1,9 @@
+use Rattle.std.proofs.Common.{All, vec_len}
+use Rattle.local_parts.specs.Cpus.{HasNoRound}
+use Rattle.local_parts.proofs.cpu_setups.end_caches.Given as goal
+
+abbrev pub invariant-loop-own : goal.invariant-loop-own
+invariant-loop-own g l = All HasNoRound l.caches.items
+
+abbrev pub decreases-loop-own : goal.decreases-loop-own
+decreases-loop-own g l = vec_len l.caches

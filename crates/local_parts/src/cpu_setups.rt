@@ -1,0 +1,160 @@
+//! How one CPU's caches are made, what they hold, and how they end.
+ghost use Rattle.std.specs.Prelude.{◌≡◌, ◌<◌, ◌↔◌, [], All, length, map};
+ghost use Rattle.std.specs.Prelude.{slice_get, Some, IfOk, IfErr, OnOk, IsOk, IsTrue};
+ghost use Rattle.magazine_layer.specs.Magazines.{IsSize};
+ghost use Rattle.stock.specs.Spaces.{SpaceState, plans_of};
+ghost use Rattle.local_parts.specs.Cpus.{IsCpuOf, new_own, new_cpu, row_places};
+ghost use Rattle.local_parts.specs.Cpus.{HasNoRound, HasNoRounds};
+
+use crate::cpu_caches::{ArenaCaches, CpuCaches};
+use deed_core::Deed;
+use std::alloc::{AllocError, Global};
+use stock::{OwnCache, Stock};
+
+impl<D: Deed> CpuCaches<D> {
+    /// Two empty magazines of `size` rounds for each quantum cache of each arena of the stock.
+    /// A new CPU begins with the least size. Out of memory leaves nothing.
+    pub fn new(alloc: Global, stock: &Stock<D>, size: usize) -> Result<CpuCaches<D>, AllocError>
+        requires { IsSize size }
+        ensures made { IfOk result (λ cpu. cpu ≡ new_cpu size (plans_of stock.now)) }
+        ensures of { IfOk result (IsCpuOf stock.now) }
+        ensures empty { IfOk result (λ cpu. HasNoRounds cpu) }
+    {
+        let mut cpu = CpuCaches {
+            rows: Vec::new(alloc),
+        };
+        match cpu.fill(alloc, stock, size) {
+            Ok(()) => Ok(cpu),
+            Err(refused) => {
+                let CpuCaches { rows } = cpu;
+                end_rows(rows);
+                Err(refused)
+            }
+        }
+    }
+
+    // Adds a row for each arena; those that are there when memory is refused are empty.
+    fn fill(&mut self, alloc: Global, stock: &Stock<D>, size: usize) -> Result<(), AllocError>
+        requires none { self.old ≡ [] }
+        requires size { IsSize size }
+        ensures made { OnOk result (self.new ≡ new_cpu size (plans_of stock.now)) }
+        ensures empty { HasNoRounds self.new }
+    {
+        for arena in 0..stock.count() {
+            self.rows.reserve(1)?;
+            let row = ArenaCaches::new(alloc, stock, arena, size)?;
+            self.rows.push_reserved(row);
+        }
+        Ok(())
+    }
+
+    /// Whether it has no round.
+    pub fn is_empty(&self) -> bool
+        ensures { IsTrue result ↔ HasNoRounds self.now }
+    {
+        self.rows.iter().all(|row| row.is_empty())
+    }
+
+    /// Ends a CPU's caches that have no round, and hands back those that have one.
+    pub fn close(self) -> Result<(), CpuCaches<D>>
+        ensures empty { IsOk result ↔ HasNoRounds self }
+        ensures handed_back { IfErr result (λ same. same ≡ self) }
+    {
+        if !self.is_empty() {
+            return Err(self);
+        }
+        let CpuCaches { rows } = self;
+        end_rows(rows);
+        Ok(())
+    }
+}
+
+impl<D: Deed> ArenaCaches<D> {
+    // Those of one arena of the stock.
+    fn new(
+        alloc: Global,
+        stock: &Stock<D>,
+        arena: usize,
+        size: usize,
+    ) -> Result<ArenaCaches<D>, AllocError>
+        requires within { arena < length stock.now }
+        requires size { IsSize size }
+        ensures { IfOk result (λ row. (s : SpaceState) → slice_get stock.now arena ≡ Some s
+            → row ≡ map (new_own size)
+            (row_places arena s.arena.quantum 0 (length s.caches))) }
+    {
+        // For its clause: what is always so of a stock.
+        let _ = stock.count();
+        let quantum = stock.quantum(arena);
+        let count = stock.cache_count(arena);
+        let mut row = ArenaCaches {
+            caches: Vec::new(alloc),
+        };
+        match row.fill(alloc, arena, quantum, count, size) {
+            Ok(()) => Ok(row),
+            Err(refused) => {
+                let ArenaCaches { caches } = row;
+                end_caches(caches);
+                Err(refused)
+            }
+        }
+    }
+
+    fn fill(
+        &mut self,
+        alloc: Global,
+        arena: usize,
+        quantum: u64,
+        count: usize,
+        size: usize,
+    ) -> Result<(), AllocError>
+        requires none { self.old ≡ [] }
+        requires some { 0 < quantum }
+        requires size { IsSize size }
+        ensures made { OnOk result
+            (self.new ≡ map (new_own size) (row_places arena quantum 0 count)) }
+        ensures empty { All HasNoRound self.new }
+    {
+        for cache in 0..count {
+            self.caches.reserve(1)?;
+            let own = OwnCache::new(alloc, arena, cache, quantum, size)?;
+            self.caches.push_reserved(own);
+        }
+        Ok(())
+    }
+
+    // Whether they have no round.
+    fn is_empty(&self) -> bool
+        ensures { IsTrue result ↔ All HasNoRound self.now }
+    {
+        self.caches.iter().all(|own| own.is_empty())
+    }
+}
+
+fn end_rows<D: Deed>(mut rows: Vec<ArenaCaches<D>>)
+    requires { HasNoRounds rows.items }
+{
+    while let Some(row) = rows.pop() {
+        let ArenaCaches { caches } = row;
+        end_caches(caches);
+    }
+    rows.destroy_empty();
+}
+
+fn end_caches<D: Deed>(mut caches: Vec<OwnCache<D>>)
+    requires { All HasNoRound caches.items }
+{
+    while let Some(own) = caches.pop() {
+        end_own(own);
+    }
+    caches.destroy_empty();
+}
+
+fn end_own<D: Deed>(own: OwnCache<D>)
+    requires { HasNoRound own }
+{
+    match own.close() {
+        Ok(()) => {}
+        Err(_) => unreachable!(),
+    }
+}
