@@ -1,0 +1,12 @@
+//! A world of events over a stock, a book of leases and the clients.
+#![tactic(auto)]
+
+mod events;
+mod laws;
+mod logs;
+mod tasks;
+
+pub use events::{Outcome, WorldEvent};
+pub use laws::always_safe;
+pub use logs::{Label, Logged};
+pub use tasks::Task;
