@@ -58,13 +58,13 @@ again_to id = replies.Again
     (record { client = id.client; incarnation = id.incarnation; number = id.number })
 
 -- the client at the place says the line, and goes on so
-pub record ClientSays (place : ℕ) (says : ClientState → ClientState → Line → Type 0)
+pub record ClientSays (place : ℕ) (May : ClientState → ClientState → Line → Type 0)
     (old new : WorldState) : Type 0 where
   pub client : ClientState
   pub next : ClientState
   pub line : Line
   pub at : slice_get old.clients place ≡ Some client
-  pub says : says client next line
+  pub may : May client next line
   pub after : new ≡ record old {
     clients = set old.clients place next;
     requests = old.requests ++ line ∷ [];
@@ -207,5 +207,6 @@ pub record LeaseSwept (cpu client : ℕ) (old new : WorldState) : Type 0 where
   pub after : new ≡ record old {
     hands = set old.hands cpu (Some segment);
     book = book;
-    entries = Swept client id.incarnation segment.arena segment.holding.range.base ∷ old.entries;
+    entries = Swept id.client id.incarnation segment.arena segment.holding.range.base
+        ∷ old.entries;
   }

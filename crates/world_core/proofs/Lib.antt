@@ -1,0 +1,6 @@
+mod Members
+mod Hands
+mod Talking
+mod Booking
+mod Keeps
+mod Safety
