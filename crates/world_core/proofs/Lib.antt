@@ -1,6 +1,6 @@
 mod Members
-mod Hands
-mod Talking
-mod Booking
+mod HandLemmas
+mod TalkLemmas
+mod BookingLemmas
 mod Keeps
 mod Safety

@@ -30,6 +30,7 @@ pub record IsAsked (stock : List SpaceState) (names : List (List ℕ)) (requests
     (id : RequestId) (segment : Tag) (terms : Terms) : Type 0 where
   pub lease : LeaseLine
   pub line : IsAmong (lines.Request id (ops.Lease lease)) requests
+  pub within : segment.arena < length names
   pub home : arena_name names segment.arena ≡ lease.arena
   pub quantum : HasQuantum stock segment.arena terms.quantum
   pub request : terms.request ≡ request_in lease

@@ -1,6 +1,7 @@
 -- What may become of a world at one event, each case by its condition and its move. The parts' own
 -- relations say what a call of them does; all that a move doesn't name stays.
 use Rattle.std.specs.Prelude.{◌≡◌, ◌⊎◌, ℕ, ◌<◌, ◌≤◌, List, [], ◌∷◌, ◌++◌, length, set, slice_get, Option, Some, None, Ok}
+use Rattle.std.specs.List.{find}
 use Rattle.deed_core.specs.Tag.{Tag}
 use Rattle.deed_core.specs.declared.requests.Request.{Request}
 use Rattle.stock.specs.Steps.{HasQuantum}
@@ -15,10 +16,14 @@ use Rattle.lease_proto.specs.declared.lines.Op.{Op}
 use Rattle.lease_proto.specs.declared.lines.Op.TheVariants as ops
 use Rattle.lease_proto.specs.declared.replies.Reply.{Reply}
 use Rattle.lease_proto.specs.declared.replies.Reply.TheVariants as replies
+use Rattle.lease_book.specs.declared.receipts.KeptReply.{KeptReply}
+use Rattle.lease_book.specs.declared.receipts.KeptReply.TheVariants as kept
 use Rattle.lease_book.specs.Receipts.{ReceiptState}
 use Rattle.lease_book.specs.Entry.{Settlement, Grant, Return, Refuse, Settled, Hello, Swept, kept_reply_of}
 use Rattle.lease_book.specs.BookState.{BookState, Enters, account_in, leased}
 use Rattle.lease_book.specs.Answers.{IsNew, IsRepeated, IsOld, IsStale, IsGap}
+use Rattle.lease_book.specs.Account.{is_lease}
+use Rattle.lease_book.specs.declared.books.TheConstants.{MOST_LEASES}
 use Rattle.lease_book.specs.Calls.{IsGranted, IsRefused, IsReleased, IsSwept}
 use Rattle.lease_book.specs.declared.receipts.Terms.{Terms}
 use Rattle.lease_client.specs.ClientState.{ClientState}
@@ -38,6 +43,12 @@ request_in l = record {
   min = l.options.min;
   max = l.options.max;
 }
+
+-- the reply names no arena, or one of so many
+abbrev pub IsTellable : ℕ → KeptReply → Type 0
+IsTellable count (kept.Granted arena base len) = arena < count
+IsTellable count kept.Released = Unit {0}
+IsTellable count (kept.Refused why) = Unit {0}
 
 -- the answer to a request whose number isn't new
 abbrev pub IsAnswered : WorldState → RequestId → Reply → Type 0
@@ -124,6 +135,11 @@ pub record TaskTaken (cpu which : ℕ) (old new : WorldState) : Type 0 where
     tasks = set old.tasks cpu (Some (record { id = id; op = op }));
   }
 
+-- the arena at the place has this name
+pub record IsNamed (w : WorldState) (place : ℕ) (name : List ℕ) : Type 0 where
+  pub within : place < length w.names
+  pub is : arena_name w.names place ≡ name
+
 -- the CPU serves this request
 abbrev pub HasTask : WorldState → ℕ → RequestId → Op → Type 0
 HasTask w cpu id op = slice_get w.tasks cpu ≡ Some (Some (record { id = id; op = op }))
@@ -138,7 +154,7 @@ pub record TaskGranted (cpu : ℕ) (old new : WorldState) : Type 0 where
   pub receipt : ReceiptState
   pub serves : HasTask old cpu id (ops.Lease lease)
   pub holds : slice_get old.hands cpu ≡ Some (Some segment)
-  pub home : arena_name old.names segment.arena ≡ lease.arena
+  pub home : IsNamed old segment.arena lease.arena
   pub quantum : HasQuantum old.stock segment.arena terms.quantum
   pub request : terms.request ≡ request_in lease
   pub granted : IsGranted old.book book id segment terms receipt
@@ -165,6 +181,17 @@ pub record TaskRefused (cpu : ℕ) (why : Refusal) (old new : WorldState) : Type
     replies = old.replies ++ settled_reply old id (Refuse why) ∷ [];
   }
 
+-- the client of the request that the CPU serves has as many leases as one may have
+abbrev pub HasAllLeases : WorldState → ℕ → Type 0
+HasAllLeases w cpu = (id : RequestId) (op : Op) → HasTask w cpu id op
+    → MOST_LEASES ≤ length (account_in id.client w.book).leases
+
+-- the CPU serves a release of what is no lease of the request's incarnation
+abbrev pub HasNoSuchLease : WorldState → ℕ → Type 0
+HasNoSuchLease w cpu = (id : RequestId) (release : ReleaseLine) (arena : ℕ)
+    → HasTask w cpu id (ops.Release release) → IsNamed w arena release.arena
+    → find (is_lease id.incarnation arena release.base) (account_in id.client w.book).leases ≡ None
+
 -- the lease that a release names comes into the CPU's empty hand
 pub record TaskReleased (cpu : ℕ) (old new : WorldState) : Type 0 where
   pub id : RequestId
@@ -175,7 +202,7 @@ pub record TaskReleased (cpu : ℕ) (old new : WorldState) : Type 0 where
   pub receipt : ReceiptState
   pub serves : HasTask old cpu id (ops.Release release)
   pub empty : slice_get old.hands cpu ≡ Some None
-  pub home : arena_name old.names arena ≡ release.arena
+  pub home : IsNamed old arena release.arena
   pub released : IsReleased old.book book id arena release.base receipt segment
   pub after : new ≡ record old {
     hands = set old.hands cpu (Some segment);

@@ -1,9 +1,14 @@
 //! A world of events over a stock, a book of leases and the clients.
 #![tactic(auto)]
 
+mod booking;
 mod events;
+mod hands;
 mod laws;
 mod logs;
+mod names;
+mod parts;
+mod talking;
 mod tasks;
 
 pub use events::{Outcome, WorldEvent};

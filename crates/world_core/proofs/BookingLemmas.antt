@@ -27,7 +27,7 @@ use Rattle.world_core.specs.WorldState.{WorldState, arena_name, in_hands, Each}
 use Rattle.world_core.specs.Moves.{IsAnswered, settled_reply, again_to, HelloTaken, HelloRefused, AnsweredAtOnce, TaskTaken, HasTask, TaskGranted, TaskRefused, TaskReleased, TaskEnded, LeaseSwept}
 use Rattle.world_core.specs.IsWorld.{IsWorld, IsDue, IsOfLines}
 use Rattle.world_core.proofs.Members.{each_written, each_pushed, each_cons}
-use Rattle.world_core.proofs.Hands.{hand_leased}
+use Rattle.world_core.proofs.HandLemmas.{hand_leased}
 
 -- Answers by number.
 
@@ -198,11 +198,12 @@ settles w cpu hands book id op s is task enters for due accounts =
 
 pub granted_keeps : (cpu : ℕ) (w v : WorldState) → IsWorld w → TaskGranted cpu w v → IsWorld v
 granted_keeps cpu w v is m = subst IsWorld (sym m.after)
-    (settles w cpu (set w.hands cpu None) m.book m.id (ops.Lease m.lease) (Grant m.segment m.terms) is m.serves m.granted.entry m.home
+    (settles w cpu (set w.hands cpu None) m.book m.id (ops.Lease m.lease) (Grant m.segment m.terms) is m.serves m.granted.entry m.home.is
     (record {
       lease = m.lease;
       line = is.tasks cpu (Some (record { id = m.id; op = ops.Lease m.lease })) m.serves;
-      home = m.home;
+      within = m.home.within;
+      home = m.home.is;
       quantum = m.quantum;
       request = m.request;
     })
@@ -220,6 +221,6 @@ refused_keeps cpu why w v is m = subst IsWorld (sym m.after)
 
 pub released_keeps : (cpu : ℕ) (w v : WorldState) → IsWorld w → TaskReleased cpu w v → IsWorld v
 released_keeps cpu w v is m = subst IsWorld (sym m.after)
-    (settles w cpu (set w.hands cpu (Some m.segment)) m.book m.id (ops.Release m.release) (Return m.arena m.release.base) is m.serves m.released.entry (m.home, refl) tt
+    (settles w cpu (set w.hands cpu (Some m.segment)) m.book m.id (ops.Release m.release) (Return m.arena m.release.base) is m.serves m.released.entry (m.home.is, refl) tt
     (hand_leased w.stock w.hands (leased w.book) cpu None (Some m.segment) m.empty (leased m.book)
     (λ f. (let l = m.released.leases f in let e = sum_by-cons f m.segment [] in omega arith)) is.parts.accounts))

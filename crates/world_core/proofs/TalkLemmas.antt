@@ -59,6 +59,7 @@ due_more : (stock : List SpaceState) (names : List (List ℕ)) (requests : List 
 due_more stock names requests line (Settled id (Grant t terms)) due = record {
   lease = due.lease;
   line = among_more requests _ line due.line;
+  within = due.within;
   home = due.home;
   quantum = due.quantum;
   request = due.request;
