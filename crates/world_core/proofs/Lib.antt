@@ -4,3 +4,4 @@ mod TalkLemmas
 mod BookingLemmas
 mod Keeps
 mod Safety
+mod PartLemmas

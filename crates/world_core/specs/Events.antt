@@ -1,5 +1,5 @@
 -- The events, and what may become of a world at each.
-use Rattle.std.specs.Prelude.{◌≡◌, ◌⊎◌, ℕ, ◌<◌, true, List, [], ◌∷◌, length, slice_get, Any, Some, None, Ok}
+use Rattle.std.specs.Prelude.{◌≡◌, ◌⊎◌, ℕ, ◌<◌, true, List, [], ◌∷◌, length, slice_get, Some, None, Ok}
 use Rattle.deed_core.specs.Tag.{Tag}
 use Rattle.deed_core.specs.Request.{Fits}
 use Rattle.stock.specs.Steps.{HasQuantum}
@@ -10,6 +10,7 @@ use Rattle.lease_proto.specs.declared.lines.ReleaseLine.{ReleaseLine}
 use Rattle.lease_proto.specs.declared.lines.Line.{Line}
 use Rattle.lease_proto.specs.declared.lines.Op.{Op}
 use Rattle.lease_proto.specs.declared.lines.Op.TheVariants as ops
+use Rattle.lease_book.specs.Account.{Lease}
 use Rattle.lease_book.specs.BookState.{account_in}
 use Rattle.lease_client.specs.ClientState.{ClientState}
 use Rattle.lease_client.specs.Calls.{IsRestarted, IsSent, IsResent, may_restart, refusal}
@@ -17,7 +18,7 @@ use Rattle.world_core.specs.declared.events.WorldEvent.{WorldEvent}
 use Rattle.world_core.specs.declared.events.WorldEvent.TheVariants as events
 use Rattle.world_core.specs.declared.events.Outcome.{Outcome}
 use Rattle.world_core.specs.declared.events.Outcome.TheVariants.{Done, NotEnabled, NoMemory}
-use Rattle.world_core.specs.WorldState.{WorldState}
+use Rattle.world_core.specs.WorldState.{WorldState, IsAmong}
 use Rattle.world_core.specs.Moves.{request_in, HasTask, IsNamed, ClientSays, ClientHears, HelloTaken, HelloRefused, AnsweredAtOnce, TaskTaken, TaskGranted, TaskRefused, TaskReleased, TaskEnded, LeaseSwept, HasAllLeases, HasNoSuchLease}
 
 -- what a CPU would lease: its hand's segment is of the arena that the lease names, and fits it
@@ -43,8 +44,8 @@ IsIdle w cpu = (slice_get w.hands cpu ≡ Some None) × (slice_get w.tasks cpu �
 
 -- a lease of an incarnation of the client that has passed stands
 abbrev pub HasOldLease : WorldState → ℕ → Type 0
-HasOldLease w c = Any (λ l. l.incarnation < (account_in c w.book).incarnation)
-    (account_in c w.book).leases
+HasOldLease w c = (l : Lease) × IsAmong l (account_in c w.book).leases
+    × (l.incarnation < (account_in c w.book).incarnation)
 
 -- where an event can happen
 abbrev pub IsEnabled : WorldEvent → WorldState → Type 0

@@ -116,4 +116,28 @@ impl<D: Deed> WorldParts<D> {
         }
         self.tasks[cpu].is_none() && self.has_empty_hand(cpu)
     }
+
+    /// The place of the arena of the segment in the CPU's hand.
+    pub(crate) fn arena_in_hand(&self, cpu: usize) -> Option<usize>
+        ensures some { IfSome result (λ arena. (t : Tag)
+            × (slice_get self.now.hands cpu ≡ Some (Some t)) × (arena ≡ t.arena)) }
+        ensures none { IfNone result ((t : Tag)
+            → ¬ (slice_get self.now.hands cpu ≡ Some (Some t))) }
+    {
+        if cpu >= self.hands.len() {
+            return None;
+        }
+        arena_of(&self.hands[cpu])
+    }
+}
+
+/// The place of the arena of a hand's segment.
+fn arena_of<D: Deed>(hand: &Option<Segment<D>>) -> Option<usize>
+    ensures some { IfSome result (λ arena. (t : Tag) × (hand.now ≡ Some t) × (arena ≡ t.arena)) }
+    ensures none { IfNone result (hand.now ≡ None) }
+{
+    match hand {
+        Some(segment) => Some(segment.arena() as usize),
+        None => None,
+    }
 }

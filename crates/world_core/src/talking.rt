@@ -43,8 +43,10 @@ impl<D: Deed> WorldParts<D> {
                 self.requests.push_reserved(line);
                 return Outcome::Done;
             }
-            Err(SendFault::NoMemory(_)) => return Outcome::NoMemory,
-            Err(_) => return Outcome::NotEnabled,
+            Err(fault) => match fault {
+                SendFault::NoMemory(_) => return Outcome::NoMemory,
+                _ => return Outcome::NotEnabled,
+            },
         }
     }
 
@@ -55,11 +57,12 @@ impl<D: Deed> WorldParts<D> {
         if client >= self.clients.len() {
             return Outcome::NotEnabled;
         }
+        let Ok(()) = self.requests.reserve(1) else {
+            return Outcome::NoMemory;
+        };
         match self.clients[client].resend() {
             Ok(line) => {
-                let Ok(()) = self.requests.push(line) else {
-                    return Outcome::NoMemory;
-                };
+                self.requests.push_reserved(line);
                 return Outcome::Done;
             }
             Err(_) => return Outcome::NotEnabled,
