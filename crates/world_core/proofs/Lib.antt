@@ -5,3 +5,4 @@ mod BookingLemmas
 mod Keeps
 mod Safety
 mod PartLemmas
+mod BookLemmas

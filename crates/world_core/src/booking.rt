@@ -1,7 +1,5 @@
 //! What CPUs do with the book.
 ghost use Rattle.std.specs.Prelude.{◌≡◌, ◌⊎◌, ◌<◌, ℕ, length, IfSome, IfNone, Some, None};
-ghost use Rattle.deed_core.specs.Request.{Fits};
-ghost use Rattle.deed_core.specs.Tag.{Tag};
 ghost use Rattle.lease_terms.specs.Requests.{RequestId};
 ghost use Rattle.lease_book.specs.BookState.{account_in};
 ghost use Rattle.lease_book.specs.Answers.{IsAnswer, IsNew};
@@ -16,9 +14,9 @@ use crate::logs::{Label, Logged};
 use crate::names::{reply_to, request_in};
 use crate::parts::WorldParts;
 use crate::tasks::Task;
-use deed_core::{Deed, Request, Segment};
+use deed_core::Deed;
 use lease_book::{Answer, Book, NotLeased, Terms};
-use lease_proto::{Again, LeaseLine, Old, OutOfTurn, Refused, Reply};
+use lease_proto::{Again, LeaseLine, Old, Op, OutOfTurn, Refused, Reply};
 use lease_terms::{ClientId, Refusal, RequestId};
 
 /// The answer by a request's number, where it isn't new.
@@ -27,28 +25,6 @@ fn number_answer<D: Deed>(book: &Book<D>, id: RequestId) -> Option<Answer<D>>
     ensures answer { IfSome result (IsAnswer book.now book.now id (λ _. ⊥) ⊥) }
 {
     book.look(id).answer()
-}
-
-/// The segment, where it fits the request.
-fn fitting<D: Deed>(
-    hand: &Option<Segment<D>>,
-    quantum: u64,
-    request: &Request,
-) -> Option<Label>
-    requires { 0 < quantum }
-    ensures some { IfSome result (λ t. (hand.now ≡ Some t)
-        × Fits quantum request.now t.holding.range.base t.holding.range.len) }
-    ensures none { IfNone result ((t : Tag) → hand.now ≡ Some t
-        → ¬ Fits quantum request.now t.holding.range.base t.holding.range.len) }
-{
-    let Some(segment) = hand else {
-        return None;
-    };
-    if request.fits(quantum, &segment.range()) {
-        Some(Label::of(segment))
-    } else {
-        None
-    }
 }
 
 /// What a CPU may lease.
@@ -70,19 +46,22 @@ impl<D: Deed> WorldParts<D> {
         ensures none { IfNone result (¬ IsEnabled (WorldEvent.Settles cpu) self.now) }
     {
         let (id, lease) = self.lease_task(cpu)?;
-        let arena = self.arena_in_hand(cpu)?;
-        if arena >= self.names.len() || arena >= self.stock.count() {
+        let segment = self.in_hand(cpu)?;
+        let arena = segment.arena() as usize;
+        if arena >= self.names.len() {
             return None;
         }
-        let quantum = self.stock.quantum(arena);
         if self.names[arena].as_slice() != lease.arena.as_slice() {
             return None;
         }
-        let segment = fitting(&self.hands[cpu], quantum, &request_in(&lease))?;
+        let quantum = self.quantum(arena);
+        if !request_in(&lease).fits(quantum, &segment.range()) {
+            return None;
+        }
         Some(Grant {
             id,
             lease,
-            segment,
+            segment: Label::of(segment),
             quantum,
         })
     }
@@ -107,9 +86,9 @@ impl<D: Deed> WorldParts<D> {
     }
 
     /// The request that the CPU serves ends unsettled, with this reply.
-    fn end(&mut self, cpu: usize, reply: Reply) -> Outcome
-        requires task { (id : RequestId) × (op : Op) × HasTask self.old cpu id op
-            × (IsAnswered self.old id reply ⊎ (reply ≡ again_to id)) }
+    fn end(&mut self, cpu: usize, task: Task, reply: Reply) -> Outcome
+        requires task { HasTask self.old cpu task.id task.op }
+        requires answered { IsAnswered self.old task.id reply ⊎ (reply ≡ again_to task.id) }
         ensures { Tries (TaskEnded cpu) result self.old self.new }
     {
         let Ok(()) = self.replies.reserve(1) else {
@@ -125,22 +104,22 @@ impl<D: Deed> WorldParts<D> {
         requires world { IsWorld self.old }
         ensures { EndsAs (WorldEvent.Declines cpu refusal) result self.old self.new }
     {
-        let Some(Task { id, op: _ }) = self.task(cpu) else {
+        let Some(task) = self.task(cpu) else {
             return Outcome::NotEnabled;
         };
-        match number_answer(&self.book, id) {
+        match number_answer(&self.book, task.id) {
             Some(answer) => {
-                let reply = self.answered(id, answer);
-                return self.end(cpu, reply);
+                let reply = self.answered(task.id, answer);
+                return self.end(cpu, task, reply);
             }
-            None => return self.refuse(cpu, id, refusal),
+            None => return self.refuse(cpu, task, refusal),
         }
     }
 
     /// A new request is settled by a refusal.
-    fn refuse(&mut self, cpu: usize, id: RequestId, refusal: Refusal) -> Outcome
-        requires task { (op : Op) × HasTask self.old cpu id op }
-        requires fresh { IsNew (account_in id.client self.old.book) id }
+    fn refuse(&mut self, cpu: usize, task: Task, refusal: Refusal) -> Outcome
+        requires task { HasTask self.old cpu task.id task.op }
+        requires fresh { IsNew (account_in task.id.client self.old.book) task.id }
         ensures { Tries (TaskRefused cpu refusal) result self.old self.new }
     {
         let Ok(()) = self.log.reserve(1) else {
@@ -149,6 +128,7 @@ impl<D: Deed> WorldParts<D> {
         let Ok(()) = self.replies.reserve(1) else {
             return Outcome::NoMemory;
         };
+        let id = task.id;
         match self.book.refuse(id, refusal) {
             Answer::Refused(_) => {
                 self.tasks[cpu] = None;
@@ -165,17 +145,16 @@ impl<D: Deed> WorldParts<D> {
     pub(crate) fn give_up(&mut self, cpu: usize) -> Outcome
         ensures { EndsAs (WorldEvent.GivesUp cpu) result self.old self.new }
     {
-        let Some(Task { id, op: _ }) = self.task(cpu) else {
+        let Some(task) = self.task(cpu) else {
             return Outcome::NotEnabled;
         };
-        self.end(
-            cpu,
-            Reply::Again(Again {
-                client: id.client,
-                incarnation: id.incarnation,
-                number: id.number.quantity(),
-            }),
-        )
+        let id = task.id;
+        let reply = Reply::Again(Again {
+            client: id.client,
+            incarnation: id.incarnation,
+            number: id.number.quantity(),
+        });
+        self.end(cpu, task, reply)
     }
 
     /// A CPU leases its hand's segment to the request that it serves.
@@ -189,7 +168,8 @@ impl<D: Deed> WorldParts<D> {
         match number_answer(&self.book, grant.id) {
             Some(answer) => {
                 let reply = self.answered(grant.id, answer);
-                return self.end(cpu, reply);
+                let (id, op) = (grant.id, Op::Lease(grant.lease));
+                return self.end(cpu, Task { id, op }, reply);
             }
             None => return self.grant(cpu, &grant),
         }

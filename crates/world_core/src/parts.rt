@@ -1,6 +1,7 @@
 //! The parts of a world, and what is read off them.
 ghost use Rattle.std.specs.Prelude.{◌≡◌, ◌↔◌, ◌<◌, ℕ, length, IfSome, IfNone, IsTrue, Some, None, slice_get};
 ghost use Rattle.deed_core.specs.Tag.{Tag};
+ghost use Rattle.stock.specs.Steps.{HasQuantum};
 ghost use Rattle.lease_terms.specs.Requests.{RequestId};
 ghost use Rattle.lease_proto.specs.declared.lines.Op.{Op};
 ghost use Rattle.lease_proto.specs.declared.lines.LeaseLine.{LeaseLine};
@@ -117,27 +118,26 @@ impl<D: Deed> WorldParts<D> {
         self.tasks[cpu].is_none() && self.has_empty_hand(cpu)
     }
 
-    /// The place of the arena of the segment in the CPU's hand.
-    pub(crate) fn arena_in_hand(&self, cpu: usize) -> Option<usize>
-        ensures some { IfSome result (λ arena. (t : Tag)
-            × (slice_get self.now.hands cpu ≡ Some (Some t)) × (arena ≡ t.arena)) }
+    /// The segment in the CPU's hand.
+    pub(crate) fn in_hand(&self, cpu: usize) -> Option<&Segment<D>>
+        ensures some { IfSome result
+            (λ t. slice_get self.now.hands cpu ≡ Some (Some t.now)) }
         ensures none { IfNone result ((t : Tag)
             → ¬ (slice_get self.now.hands cpu ≡ Some (Some t))) }
     {
         if cpu >= self.hands.len() {
             return None;
         }
-        arena_of(&self.hands[cpu])
+        self.hands[cpu].as_ref()
     }
-}
 
-/// The place of the arena of a hand's segment.
-fn arena_of<D: Deed>(hand: &Option<Segment<D>>) -> Option<usize>
-    ensures some { IfSome result (λ arena. (t : Tag) × (hand.now ≡ Some t) × (arena ≡ t.arena)) }
-    ensures none { IfNone result (hand.now ≡ None) }
-{
-    match hand {
-        Some(segment) => Some(segment.arena() as usize),
-        None => None,
+    /// The quantum of the arena at the place.
+    pub(crate) fn quantum(&self, arena: usize) -> u64
+        requires world { IsWorld self.now }
+        requires within { arena < length self.now.names }
+        ensures value { HasQuantum self.now.stock arena result }
+        ensures some { 0 < result }
+    {
+        self.stock.quantum(arena)
     }
 }

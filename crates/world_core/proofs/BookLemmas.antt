@@ -1,0 +1,96 @@
+-- What calls of the book make of a world.
+use Rattle.std.proofs.Common.{◌≡◌, ℕ, ◌<◌, List, [], ◌∷◌, ◌++◌, length, set, Option, Some, None, refl, sym, subst, ap, ◌∙◌, inl, inr, arith}
+use Rattle.std.specs.Prelude.{slice_get}
+use Rattle.deed_core.specs.Tag.{Tag}
+use Rattle.deed_core.specs.Request.{Fits}
+use Rattle.deed_core.proofs.LawProofs.{slice_get_some}
+use Rattle.stock.specs.Spaces.{SpaceState}
+use Rattle.stock.specs.Steps.{HasQuantum}
+use Rattle.lease_terms.specs.Requests.{RequestId}
+use Rattle.lease_terms.specs.declared.refusals.Refusal.{Refusal}
+use Rattle.lease_proto.specs.declared.lines.LeaseLine.{LeaseLine}
+use Rattle.lease_proto.specs.declared.lines.Op.{Op}
+use Rattle.lease_proto.specs.declared.lines.Op.TheVariants as ops
+use Rattle.lease_proto.specs.declared.replies.Reply.{Reply}
+use Rattle.lease_book.specs.declared.receipts.KeptReply.{KeptReply}
+use Rattle.lease_book.specs.declared.receipts.Terms.{Terms}
+use Rattle.lease_book.specs.Receipts.{Kept, ReceiptState}
+use Rattle.lease_book.specs.Entry.{Entry, Settlement, Settled, Grant, Return, Refuse, kept, kept_reply_of}
+use Rattle.lease_book.specs.History.{incarnation, outcome_of}
+use Rattle.lease_book.specs.BookState.{BookState, account_in}
+use Rattle.lease_book.specs.Answers.{IsRepeated}
+use Rattle.lease_book.specs.Calls.{IsGranted, IsRefused}
+use Rattle.lease_book.proofs.LawProofs.{account_is, last_outcome, outcomes_stay}
+use Rattle.world_core.specs.WorldState.{WorldState, arena_name, IsAmong}
+use Rattle.world_core.specs.IsWorld.{IsWorld, IsDue}
+use Rattle.world_core.specs.Moves.{request_in, settled_reply, IsTellable, HasTask, TaskGranted, TaskRefused}
+use Rattle.world_core.specs.Events.{CanGrant, IsEnabled}
+use Rattle.world_core.specs.declared.events.WorldEvent.TheVariants as events
+
+-- what is settled names an arena of the world
+settled_tellable : (w : WorldState) (id : RequestId) (s : Settlement) (j : ℕ) → IsWorld w → slice_get w.entries j ≡ Some (Settled id s) → IsTellable (length w.names) (kept_reply_of s)
+settled_tellable w id (Grant t terms) j is at = (is.due j (Settled id (Grant t terms)) at).within
+settled_tellable w id (Return a b) j is at = tt
+settled_tellable w id (Refuse why) j is at = tt
+
+pub repeat_tellable : (w : WorldState) (id : RequestId) (r : ReceiptState) → IsWorld w → IsRepeated w.book (account_in id.client w.book) id r → IsTellable (length w.names) r.reply
+repeat_tellable w id r is again =
+    let here : IsRepeated w.book _ id r = subst (λ a. IsRepeated w.book a id r) (account_is w.entries w.book id.client is.book) again in
+    let k : Kept = record { number = id.number; reply = r.reply; terms = r.terms } in
+    let out = last_outcome w.entries id.client (incarnation id.client w.entries) k here.kept in
+    let entry = outcomes_stay.entry w.entries (record { client = id.client; incarnation = incarnation id.client w.entries; number = id.number }) k out in
+    subst (IsTellable (length w.names)) (sym (ap (λ (x : Kept). x.reply) entry.3)) (settled_tellable w _ entry.0 entry.1 is entry.2)
+
+-- the segment of a hand is leased
+pub grants : (w : WorldState) (cpu : ℕ) (id : RequestId) (lease : LeaseLine) (t : Tag) (quantum : ℕ) (book : BookState) (receipt : ReceiptState)
+    (hands : List (Option Tag)) (tasks : List _) (entries : List Entry) (replies : List Reply) → CanGrant w cpu id lease t quantum
+    → IsGranted w.book book id t (record { quantum = quantum; request = request_in lease }) receipt → hands ≡ set w.hands cpu None → tasks ≡ set w.tasks cpu None
+    → entries ≡ Settled id (Grant t (record { quantum = quantum; request = request_in lease })) ∷ w.entries
+    → replies ≡ w.replies ++ settled_reply w id (Grant t (record { quantum = quantum; request = request_in lease })) ∷ []
+    → TaskGranted cpu w (record w { hands = hands; tasks = tasks; book = book; entries = entries; replies = replies })
+grants w cpu id lease t quantum book receipt hands tasks entries replies can granted emptied ended more told = record {
+  id = id;
+  lease = lease;
+  segment = t;
+  terms = record { quantum = quantum; request = request_in lease };
+  book = book;
+  receipt = receipt;
+  serves = can.serves;
+  holds = can.holds;
+  home = can.home;
+  quantum = can.grid;
+  request = refl;
+  granted = granted;
+  after = λ j. record w { hands = emptied j; tasks = ended j; book = book; entries = more j; replies = told j };
+}
+
+-- a request is refused
+pub refuses : (w : WorldState) (cpu : ℕ) (id : RequestId) (op : Op) (why : Refusal) (book : BookState) (receipt : ReceiptState)
+    (hands : List (Option Tag)) (tasks : List _) (entries : List Entry) (replies : List Reply) → HasTask w cpu id op → IsRefused w.book book id why receipt
+    → hands ≡ w.hands → tasks ≡ set w.tasks cpu None → entries ≡ Settled id (Refuse why) ∷ w.entries → replies ≡ w.replies ++ settled_reply w id (Refuse why) ∷ []
+    → TaskRefused cpu why w (record w { hands = hands; tasks = tasks; book = book; entries = entries; replies = replies })
+refuses w cpu id op why book receipt hands tasks entries replies serves refused back ended more told = record {
+  id = id;
+  op = op;
+  book = book;
+  receipt = receipt;
+  serves = serves;
+  refused = refused;
+  after = λ j. record w { hands = back j; tasks = ended j; book = book; entries = more j; replies = told j };
+}
+
+-- a CPU that serves a lease can't grant a segment that doesn't fit it
+pub not_grantable : (w : WorldState) (cpu : ℕ) (id : RequestId) (lease : LeaseLine) (t : Tag) (quantum : ℕ) → IsWorld w → HasTask w cpu id (ops.Lease lease)
+    → slice_get w.hands cpu ≡ Some (Some t) → t.arena < length w.names → HasQuantum w.stock t.arena quantum
+    → ¬ Fits quantum (request_in lease) t.holding.range.base t.holding.range.len → ¬ IsEnabled (events.Settles cpu) w
+not_grantable w cpu id lease t quantum is serves holds within grid misfits (other, line, u, q, can) =
+    let tasks : Some (Some (record { id = other; op = ops.Lease line })) ≡ Some (Some (record { id = id; op = ops.Lease lease })) = sym can.serves ∙ serves in
+    let hands : Some (Some u) ≡ Some (Some t) = sym can.holds ∙ holds in
+    let lines : line ≡ lease = cc in
+    let tags : u ≡ t = cc in
+    let space = slice_get_some w.stock t.arena (let e = is.named in omega arith) in
+    let there : slice_get w.stock u.arena ≡ Some space.0 = ap (λ (x : Tag). slice_get w.stock x.arena) tags ∙ space.1 in
+    let quanta : q ≡ quantum = sym (can.grid space.0 there) ∙ grid space.0 space.1 in
+    let a : Fits quantum (request_in line) u.holding.range.base u.holding.range.len = subst (λ (n : ℕ). Fits n (request_in line) u.holding.range.base u.holding.range.len) quanta can.fits in
+    let b : Fits quantum (request_in lease) u.holding.range.base u.holding.range.len = subst (λ (l : LeaseLine). Fits quantum (request_in l) u.holding.range.base u.holding.range.len) lines a in
+    misfits (subst (λ (x : Tag). Fits quantum (request_in lease) x.holding.range.base x.holding.range.len) tags b)
