@@ -1,8 +1,9 @@
 -- What calls of the book make of a world.
-use Rattle.std.proofs.Common.{◌≡◌, ℕ, ◌<◌, List, [], ◌∷◌, ◌++◌, length, set, Option, Some, None, refl, sym, subst, ap, ◌∙◌, inl, inr, arith}
+use Rattle.std.proofs.Common.{◌≡◌, ℕ, zero, suc, ◌<◌, ◌≤◌, List, [], ◌∷◌, ◌++◌, length, set, Option, Some, None, refl, sym, subst, ap, ◌∙◌, inl, inr, arith}
 use Rattle.std.specs.Prelude.{slice_get}
 use Rattle.deed_core.specs.Tag.{Tag}
 use Rattle.deed_core.specs.Request.{Fits}
+use Rattle.deed_core.specs.declared.requests.Request.{Request}
 use Rattle.deed_core.proofs.LawProofs.{slice_get_some}
 use Rattle.stock.specs.Spaces.{SpaceState}
 use Rattle.stock.specs.Steps.{HasQuantum}
@@ -21,9 +22,12 @@ use Rattle.lease_book.specs.BookState.{BookState, account_in}
 use Rattle.lease_book.specs.Answers.{IsRepeated}
 use Rattle.lease_book.specs.Calls.{IsGranted, IsRefused}
 use Rattle.lease_book.proofs.LawProofs.{account_is, last_outcome, outcomes_stay}
-use Rattle.world_core.specs.WorldState.{WorldState, arena_name, IsAmong}
+use Rattle.lease_book.specs.declared.books.TheConstants.{MOST_LEASES}
+use Rattle.lease_history.specs.Told.{reply_to}
+use Rattle.world_core.specs.declared.tasks.Task.{Task}
+use Rattle.world_core.specs.WorldState.{WorldState, arena_name}
 use Rattle.world_core.specs.IsWorld.{IsWorld, IsDue}
-use Rattle.world_core.specs.Moves.{request_in, settled_reply, IsTellable, HasTask, TaskGranted, TaskRefused}
+use Rattle.world_core.specs.Moves.{request_in, settled_reply, IsTellable, HasTask, HasAllLeases, TaskGranted, TaskRefused}
 use Rattle.world_core.specs.Events.{CanGrant, IsEnabled}
 use Rattle.world_core.specs.declared.events.WorldEvent.TheVariants as events
 
@@ -42,31 +46,55 @@ repeat_tellable w id r is again =
     subst (IsTellable (length w.names)) (sym (ap (λ (x : Kept). x.reply) entry.3)) (settled_tellable w _ entry.0 entry.1 is entry.2)
 
 -- the segment of a hand is leased
-pub grants : (w : WorldState) (cpu : ℕ) (id : RequestId) (lease : LeaseLine) (t : Tag) (quantum : ℕ) (book : BookState) (receipt : ReceiptState)
-    (hands : List (Option Tag)) (tasks : List _) (entries : List Entry) (replies : List Reply) → CanGrant w cpu id lease t quantum
-    → IsGranted w.book book id t (record { quantum = quantum; request = request_in lease }) receipt → hands ≡ set w.hands cpu None → tasks ≡ set w.tasks cpu None
-    → entries ≡ Settled id (Grant t (record { quantum = quantum; request = request_in lease })) ∷ w.entries
-    → replies ≡ w.replies ++ settled_reply w id (Grant t (record { quantum = quantum; request = request_in lease })) ∷ []
+pub grants : (w : WorldState) (cpu : ℕ) (id : RequestId) (lease : LeaseLine) (t u : Tag) (quantum : ℕ) (request : Request) (book : BookState) (receipt : ReceiptState) (told : KeptReply) (reply : Reply)
+    (hands : List (Option Tag)) (tasks : List (Option Task)) (entries : List Entry) (replies : List Reply) → CanGrant w cpu id lease t quantum → u ≡ t → request ≡ request_in lease
+    → IsGranted w.book book id u (record { quantum = quantum; request = request }) receipt → told ≡ receipt.reply → reply ≡ reply_to (arena_name w.names) id told
+    → hands ≡ set w.hands cpu None → tasks ≡ set w.tasks cpu None
+    → entries ≡ Settled id (Grant t (record { quantum = quantum; request = request })) ∷ w.entries → replies ≡ w.replies ++ reply ∷ []
     → TaskGranted cpu w (record w { hands = hands; tasks = tasks; book = book; entries = entries; replies = replies })
-grants w cpu id lease t quantum book receipt hands tasks entries replies can granted emptied ended more told = record {
-  id = id;
-  lease = lease;
-  segment = t;
-  terms = record { quantum = quantum; request = request_in lease };
-  book = book;
-  receipt = receipt;
-  serves = can.serves;
-  holds = can.holds;
-  home = can.home;
-  quantum = can.grid;
-  request = refl;
-  granted = granted;
-  after = λ j. record w { hands = emptied j; tasks = ended j; book = book; entries = more j; replies = told j };
-}
+grants w cpu id lease t u quantum request book receipt told reply hands tasks entries replies can same asks granted is_kept is_told emptied ended more sent =
+    let here : CanGrant w cpu id lease u quantum = subst (λ (x : Tag). CanGrant w cpu id lease x quantum) (sym same) can in
+    let terms : Terms = record { quantum = quantum; request = request } in
+    let logged : entries ≡ Settled id (Grant u terms) ∷ w.entries = more ∙ ap (λ (x : Tag). Settled id (Grant x terms) ∷ w.entries) (sym same) in
+    let answers : replies ≡ w.replies ++ settled_reply w id (Grant u terms) ∷ [] =
+      sent ∙ ap (λ (x : Reply). w.replies ++ x ∷ []) (is_told ∙ ap (reply_to (arena_name w.names) id) (is_kept ∙ ap (λ (r : ReceiptState). r.reply) granted.receipt)) in
+    record {
+      id = id;
+      lease = lease;
+      segment = u;
+      terms = terms;
+      book = book;
+      receipt = receipt;
+      serves = here.serves;
+      holds = here.holds;
+      home = here.home;
+      quantum = here.grid;
+      request = asks;
+      granted = granted;
+      after = λ j. record w { hands = emptied j; tasks = ended j; book = book; entries = logged j; replies = answers j };
+    }
+
+-- a hand that got back what was taken out of it
+pub put_back : (hands : List (Option Tag)) (cpu : ℕ) (t u : Tag) (taken put : List (Option Tag)) → slice_get hands cpu ≡ Some (Some t) → taken ≡ set hands cpu None
+    → put ≡ set taken cpu (Some u) → u ≡ t → put ≡ hands
+put_back hands cpu t u taken put held out back same =
+    back ∙ (λ j. set (out j) cpu (Some (same j))) ∙ twice hands cpu held
+  where
+    twice : (xs : List (Option Tag)) (k : ℕ) → slice_get xs k ≡ Some (Some t) → set (set xs k None) k (Some t) ≡ xs
+    twice [] k at = absurd (let e : None ≡ Some (Some t) = at in cc)
+    twice (x ∷ xs) zero at = (let e : Some t ≡ x = cc in ap (λ (y : Option Tag). y ∷ xs) e)
+    twice (x ∷ xs) (suc k) at = ap (λ (ys : List (Option Tag)). x ∷ ys) (twice xs k at)
+
+pub all_leases : (w : WorldState) (cpu : ℕ) (id : RequestId) (op : Op) → HasTask w cpu id op → MOST_LEASES ≤ length (account_in id.client w.book).leases → HasAllLeases w cpu
+all_leases w cpu id op serves full = λ other what also.
+    let tasks : Some (Some (record { id = id; op = op })) ≡ Some (Some (record { id = other; op = what })) = sym serves ∙ also in
+    let task : ◌≡◌ {A = Task} (record { id = id; op = op }) (record { id = other; op = what }) = cc in
+    let same : id ≡ other = ap (λ (x : Task). x.id) task in
+    subst (λ (x : RequestId). MOST_LEASES ≤ length (account_in x.client w.book).leases) same full
 
 -- a request is refused
 pub refuses : (w : WorldState) (cpu : ℕ) (id : RequestId) (op : Op) (why : Refusal) (book : BookState) (receipt : ReceiptState)
-    (hands : List (Option Tag)) (tasks : List _) (entries : List Entry) (replies : List Reply) → HasTask w cpu id op → IsRefused w.book book id why receipt
+    (hands : List (Option Tag)) (tasks : List (Option Task)) (entries : List Entry) (replies : List Reply) → HasTask w cpu id op → IsRefused w.book book id why receipt
     → hands ≡ w.hands → tasks ≡ set w.tasks cpu None → entries ≡ Settled id (Refuse why) ∷ w.entries → replies ≡ w.replies ++ settled_reply w id (Refuse why) ∷ []
     → TaskRefused cpu why w (record w { hands = hands; tasks = tasks; book = book; entries = entries; replies = replies })
 refuses w cpu id op why book receipt hands tasks entries replies serves refused back ended more told = record {
@@ -86,6 +114,8 @@ pub not_grantable : (w : WorldState) (cpu : ℕ) (id : RequestId) (lease : Lease
 not_grantable w cpu id lease t quantum is serves holds within grid misfits (other, line, u, q, can) =
     let tasks : Some (Some (record { id = other; op = ops.Lease line })) ≡ Some (Some (record { id = id; op = ops.Lease lease })) = sym can.serves ∙ serves in
     let hands : Some (Some u) ≡ Some (Some t) = sym can.holds ∙ holds in
+    let task : ◌≡◌ {A = Task} (record { id = other; op = ops.Lease line }) (record { id = id; op = ops.Lease lease }) = cc in
+    let op : ops.Lease line ≡ ops.Lease lease = ap (λ (x : Task). x.op) task in
     let lines : line ≡ lease = cc in
     let tags : u ≡ t = cc in
     let space = slice_get_some w.stock t.arena (let e = is.named in omega arith) in
