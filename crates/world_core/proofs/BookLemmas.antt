@@ -1,6 +1,7 @@
 -- What calls of the book make of a world.
 use Rattle.std.proofs.Common.{◌≡◌, ℕ, zero, suc, ◌<◌, ◌≤◌, List, [], ◌∷◌, ◌++◌, length, set, Option, Some, None, refl, sym, subst, ap, ◌∙◌, inl, inr, arith}
 use Rattle.std.specs.Prelude.{slice_get}
+use Rattle.std.specs.List.{find}
 use Rattle.deed_core.specs.Tag.{Tag}
 use Rattle.deed_core.specs.Request.{Fits}
 use Rattle.deed_core.specs.declared.requests.Request.{Request}
@@ -10,6 +11,7 @@ use Rattle.stock.specs.Steps.{HasQuantum}
 use Rattle.lease_terms.specs.Requests.{RequestId}
 use Rattle.lease_terms.specs.declared.refusals.Refusal.{Refusal}
 use Rattle.lease_proto.specs.declared.lines.LeaseLine.{LeaseLine}
+use Rattle.lease_proto.specs.declared.lines.ReleaseLine.{ReleaseLine}
 use Rattle.lease_proto.specs.declared.lines.Op.{Op}
 use Rattle.lease_proto.specs.declared.lines.Op.TheVariants as ops
 use Rattle.lease_proto.specs.declared.replies.Reply.{Reply}
@@ -20,15 +22,16 @@ use Rattle.lease_book.specs.Entry.{Entry, Settlement, Settled, Grant, Return, Re
 use Rattle.lease_book.specs.History.{incarnation, outcome_of}
 use Rattle.lease_book.specs.BookState.{BookState, account_in}
 use Rattle.lease_book.specs.Answers.{IsRepeated}
-use Rattle.lease_book.specs.Calls.{IsGranted, IsRefused}
+use Rattle.lease_book.specs.Calls.{IsGranted, IsRefused, IsReleased}
+use Rattle.lease_book.specs.Account.{is_lease}
 use Rattle.lease_book.proofs.LawProofs.{account_is, last_outcome, outcomes_stay}
 use Rattle.lease_book.specs.declared.books.TheConstants.{MOST_LEASES}
 use Rattle.lease_history.specs.Told.{reply_to}
 use Rattle.world_core.specs.declared.tasks.Task.{Task}
 use Rattle.world_core.specs.WorldState.{WorldState, arena_name}
 use Rattle.world_core.specs.IsWorld.{IsWorld, IsDue}
-use Rattle.world_core.specs.Moves.{request_in, settled_reply, IsTellable, HasTask, HasAllLeases, TaskGranted, TaskRefused}
-use Rattle.world_core.specs.Events.{CanGrant, IsEnabled}
+use Rattle.world_core.specs.Moves.{request_in, settled_reply, IsTellable, HasTask, HasAllLeases, HasNoSuchLease, TaskGranted, TaskRefused, TaskReleased}
+use Rattle.world_core.specs.Events.{CanGrant, CanRelease, IsEnabled}
 use Rattle.world_core.specs.declared.events.WorldEvent.TheVariants as events
 
 -- what is settled names an arena of the world
@@ -124,3 +127,39 @@ not_grantable w cpu id lease t quantum is serves holds within grid misfits (othe
     let a : Fits quantum (request_in line) u.holding.range.base u.holding.range.len = subst (λ (n : ℕ). Fits n (request_in line) u.holding.range.base u.holding.range.len) quanta can.fits in
     let b : Fits quantum (request_in lease) u.holding.range.base u.holding.range.len = subst (λ (l : LeaseLine). Fits quantum (request_in l) u.holding.range.base u.holding.range.len) lines a in
     misfits (subst (λ (x : Tag). Fits quantum (request_in lease) x.holding.range.base x.holding.range.len) tags b)
+
+-- a lease comes back into a hand
+pub releases : (w : WorldState) (cpu : ℕ) (id : RequestId) (line : ReleaseLine) (arena : ℕ) (t : Tag) (book : BookState) (receipt : ReceiptState)
+    (hands : List (Option Tag)) (tasks : List (Option Task)) (entries : List Entry) (replies : List Reply) → CanRelease w cpu id line arena
+    → IsReleased w.book book id arena line.base receipt t → hands ≡ set w.hands cpu (Some t) → tasks ≡ set w.tasks cpu None → entries ≡ Settled id (Return arena line.base) ∷ w.entries
+    → replies ≡ w.replies ++ settled_reply w id (Return arena line.base) ∷ []
+    → TaskReleased cpu w (record w { hands = hands; tasks = tasks; book = book; entries = entries; replies = replies })
+releases w cpu id line arena t book receipt hands tasks entries replies can released held ended more told = record {
+  id = id;
+  release = line;
+  arena = arena;
+  segment = t;
+  book = book;
+  receipt = receipt;
+  serves = can.serves;
+  empty = can.empty;
+  home = can.home;
+  released = released;
+  after = λ j. record w { hands = held j; tasks = ended j; book = book; entries = more j; replies = told j };
+}
+
+pub no_such_lease : (w : WorldState) (cpu : ℕ) (id : RequestId) (line : ReleaseLine) (arena : ℕ) → IsWorld w → CanRelease w cpu id line arena
+    → find (is_lease id.incarnation arena line.base) (account_in id.client w.book).leases ≡ None → HasNoSuchLease w cpu
+no_such_lease w cpu id line arena is can none = λ other what place also home.
+    let tasks : Some (Some (record { id = id; op = ops.Release line })) ≡ Some (Some (record { id = other; op = ops.Release what })) = sym can.serves ∙ also in
+    let task : ◌≡◌ {A = Task} (record { id = id; op = ops.Release line }) (record { id = other; op = ops.Release what }) = cc in
+    let same : id ≡ other = ap (λ (x : Task). x.id) task in
+    let op : ops.Release line ≡ ops.Release what = ap (λ (x : Task). x.op) task in
+    let lines : line ≡ what = cc in
+    let named : arena_name w.names arena ≡ arena_name w.names place = can.home.is ∙ ap (λ (l : ReleaseLine). l.arena) lines ∙ sym home.is in
+    let places : arena ≡ place = is.names arena place home.within named in
+    let a : find (is_lease other.incarnation arena line.base) (account_in other.client w.book).leases ≡ None =
+      subst (λ (x : RequestId). find (is_lease x.incarnation arena line.base) (account_in x.client w.book).leases ≡ None) same none in
+    let b : find (is_lease other.incarnation place line.base) (account_in other.client w.book).leases ≡ None =
+      subst (λ (k : ℕ). find (is_lease other.incarnation k line.base) (account_in other.client w.book).leases ≡ None) places a in
+    subst (λ (l : ReleaseLine). find (is_lease other.incarnation place l.base) (account_in other.client w.book).leases ≡ None) lines b

@@ -71,6 +71,7 @@ pub hello_refused_keeps : (which : ℕ) (w v : WorldState) → IsWorld w → Hel
 hello_refused_keeps which w v is m = subst IsWorld (sym m.after) (record {
   parts = is.parts;
   named = is.named;
+  few = is.few;
   names = is.names;
   book = is.book;
   due = is.due;
@@ -85,6 +86,7 @@ pub answered_keeps : (which : ℕ) (w v : WorldState) → IsWorld w → Answered
 answered_keeps which w v is m = subst IsWorld (sym m.after) (record {
   parts = is.parts;
   named = is.named;
+  few = is.few;
   names = is.names;
   book = is.book;
   due = is.due;
@@ -99,6 +101,7 @@ pub ended_keeps : (cpu : ℕ) (w v : WorldState) → IsWorld w → TaskEnded cpu
 ended_keeps cpu w v is m = subst IsWorld (sym m.after) (record {
   parts = is.parts;
   named = is.named;
+  few = is.few;
   names = is.names;
   book = is.book;
   due = is.due;
@@ -116,6 +119,7 @@ pub taken_keeps : (cpu which : ℕ) (w v : WorldState) → IsWorld w → TaskTak
 taken_keeps cpu which w v is m = subst IsWorld (sym m.after) (record {
   parts = is.parts;
   named = is.named;
+  few = is.few;
   names = is.names;
   book = is.book;
   due = is.due;
@@ -136,6 +140,7 @@ hello_taken_keeps which w v is m =
     subst IsWorld (sym m.after) (record {
       parts = record { stock = is.parts.stock; accounts = subst (λ (leases : List Tag). Accounts w.stock (in_hands w.hands ++ leases)) (sym m.leases) is.parts.accounts };
       named = is.named;
+      few = is.few;
       names = is.names;
       book = now;
       due = each_cons (IsDue w.stock w.names w.requests) entry w.entries tt is.due;
@@ -161,6 +166,7 @@ swept_keeps cpu c w v is m =
             (λ f. (let l = m.swept.ended.leases f in let e = sum_by-cons f m.segment [] in omega arith)) is.parts.accounts;
       };
       named = is.named;
+      few = is.few;
       names = is.names;
       book = now;
       due = each_cons (IsDue w.stock w.names w.requests) entry w.entries tt is.due;
@@ -186,6 +192,7 @@ settles w cpu hands book id op s is task enters for due accounts =
     record {
       parts = record { stock = is.parts.stock; accounts = accounts };
       named = is.named;
+      few = is.few;
       names = is.names;
       book = now;
       due = each_cons (IsDue w.stock w.names w.requests) (Settled id s) w.entries due is.due;

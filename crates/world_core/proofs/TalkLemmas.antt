@@ -84,6 +84,7 @@ says : (w : WorldState) (place : ℕ) (c next : ClientState) (line : Line) → I
 says w place c next line is at goes own may = record {
   parts = is.parts;
   named = is.named;
+  few = is.few;
   names = is.names;
   book = is.book;
   due = λ k e there. due_more w.stock w.names w.requests line e (is.due k e there);
@@ -161,6 +162,7 @@ hear_keeps place which w v is m =
     subst IsWorld (sym m.after) (record {
       parts = is.parts;
       named = is.named;
+      few = is.few;
       names = is.names;
       book = is.book;
       due = is.due;

@@ -1,5 +1,5 @@
 -- What every world is.
-use Rattle.std.specs.Prelude.{◌≡◌, ◌≢◌, ◌⊎◌, ℕ, ◌<◌, ◌≤◌, nat_eq, List, length, map, slice_get, Option, Some, None}
+use Rattle.std.specs.Prelude.{◌≡◌, ◌≢◌, ◌⊎◌, ℕ, ◌<◌, ◌≤◌, ◌^◌, nat_eq, List, length, map, slice_get, Option, Some, None}
 use Rattle.std.specs.List.{IsDistinct}
 use Rattle.deed_core.specs.Tag.{Tag}
 use Rattle.stock.specs.Spaces.{SpaceState}
@@ -60,6 +60,7 @@ IsOfLines requests (Some task) = IsAmong (lines.Request task.id task.op) request
 pub record IsWorld (w : WorldState) : Type 0 where
   pub parts : IsAccounted w.stock (out_of_parts w)
   pub named : length w.names ≡ length w.stock
+  pub few : length w.names ≤ 2 ^ 32
   pub names : AreNames w.names
   pub book : IsHistory w.entries w.book
   pub due : Each (IsDue w.stock w.names w.requests) w.entries

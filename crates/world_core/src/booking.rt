@@ -20,7 +20,7 @@ use lease_proto::{Again, LeaseLine, Old, Op, OutOfTurn, Refused, Reply};
 use lease_terms::{ClientId, Refusal, RequestId};
 
 /// The answer by a request's number, where it isn't new.
-fn number_answer<D: Deed>(book: &Book<D>, id: RequestId) -> Option<Answer<D>>
+pub(crate) fn number_answer<D: Deed>(book: &Book<D>, id: RequestId) -> Option<Answer<D>>
     ensures new { IfNone result (IsNew (account_in id.client book.now) id) }
     ensures answer { IfSome result (IsAnswer book.now book.now id (λ _. ⊥) ⊥) }
 {
@@ -67,7 +67,7 @@ impl<D: Deed> WorldParts<D> {
     }
 
     /// The reply to a request whose number isn't new.
-    fn answered(&self, id: RequestId, answer: Answer<D>) -> Reply
+    pub(crate) fn answered(&self, id: RequestId, answer: Answer<D>) -> Reply
         requires world { IsWorld self.now }
         requires answer { IsAnswer self.now.book self.now.book id (λ _. ⊥) ⊥ answer }
         ensures { IsAnswered self.now id result }
@@ -86,7 +86,7 @@ impl<D: Deed> WorldParts<D> {
     }
 
     /// The request that the CPU serves ends unsettled, with this reply.
-    fn end(&mut self, cpu: usize, task: Task, reply: Reply) -> Outcome
+    pub(crate) fn end(&mut self, cpu: usize, task: Task, reply: Reply) -> Outcome
         requires task { HasTask self.old cpu task.id task.op }
         requires answered { IsAnswered self.old task.id reply ⊎ (reply ≡ again_to task.id) }
         ensures { Tries (TaskEnded cpu) result self.old self.new }

@@ -9,8 +9,9 @@ ghost use Rattle.lease_proto.specs.declared.lines.ReleaseLine.{ReleaseLine};
 ghost use Rattle.world_core.specs.declared.tasks.Task.{Task};
 ghost use Rattle.world_core.specs.IsWorld.{IsWorld};
 ghost use Rattle.world_core.specs.Moves.{HasTask};
-ghost use Rattle.world_core.specs.Events.{IsIdle};
+ghost use Rattle.world_core.specs.Events.{IsIdle, EndsAs};
 
+use crate::events::{Outcome, WorldEvent};
 use crate::logs::Logged;
 use crate::tasks::Task;
 use deed_core::{Deed, Segment};
@@ -139,5 +140,27 @@ impl<D: Deed> WorldParts<D> {
         ensures some { 0 < result }
     {
         self.stock.quantum(arena)
+    }
+
+    /// Lets an event happen.
+    pub(crate) fn step(&mut self, event: WorldEvent) -> Outcome
+        requires world { IsWorld self.old }
+        ensures { EndsAs event result self.old self.new }
+    {
+        match event {
+            WorldEvent::Restarts {
+                client,
+                incarnation,
+            } => self.restart(client, incarnation),
+            WorldEvent::Says { client, op } => self.send(client, op),
+            WorldEvent::Repeats { client } => self.resend(client),
+            WorldEvent::Hears { client, which } => self.hear(client, which),
+            WorldEvent::Looks { cpu, which } => self.look(cpu, which),
+            WorldEvent::Settles { cpu } => self.settle(cpu),
+            WorldEvent::Declines { cpu, refusal } => self.decline(cpu, refusal),
+            WorldEvent::GivesUp { cpu } => self.give_up(cpu),
+            WorldEvent::Releases { cpu } => self.release(cpu),
+            WorldEvent::Sweeps { cpu, client } => self.sweep(cpu, client),
+        }
     }
 }
