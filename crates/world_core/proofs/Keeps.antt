@@ -1,5 +1,5 @@
 -- Whatever happens, a world stays one.
-use Rattle.std.proofs.Common.{List, [], ◌∷◌, sym, subst, inl, inr}
+use Rattle.std.proofs.Common.{List, [], ◌∷◌, ◌++◌, refl, sym, subst, inl, inr}
 use Rattle.world_core.specs.declared.events.WorldEvent.{WorldEvent}
 use Rattle.world_core.specs.declared.events.WorldEvent.TheVariants as events
 use Rattle.world_core.specs.declared.events.Outcome.{Outcome}
@@ -38,3 +38,9 @@ end_keeps event NoMemory w v is same = subst IsWorld (sym same) is
 pub events_keep : (list : List WorldEvent) (w v : WorldState) → IsWorld w → HappensTo list w v → IsWorld v
 events_keep [] w v is run = subst IsWorld (sym run) is
 events_keep (event ∷ list) w v is (next, outcome, step, rest) = events_keep list next v (end_keeps event outcome w next is step) rest
+
+-- one event more
+pub happens_more : (list : List WorldEvent) (event : WorldEvent) (outcome : Outcome) (w mid v : WorldState) → HappensTo list w mid → EndsAs event outcome mid v
+    → HappensTo (list ++ event ∷ []) w v
+happens_more [] event outcome w mid v run last = (v, outcome, subst (λ (x : WorldState). EndsAs event outcome x v) run last, refl)
+happens_more (first ∷ list) event outcome w mid v (next, how, step, rest) last = (next, how, step, happens_more list event outcome next mid v rest last)

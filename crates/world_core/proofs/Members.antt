@@ -1,9 +1,10 @@
 -- Members of lists, as lists grow and change.
-use Rattle.std.proofs.Common.{◌≡◌, ◌≢◌, ℕ, zero, suc, false, List, [], ◌∷◌, ◌++◌, map, set, Some, None, refl, sym, subst, ap, ◌∙◌, inl, inr, arith}
+use Rattle.std.proofs.Common.{◌≡◌, ◌≢◌, ℕ, zero, suc, ◌+◌, false, List, [], ◌∷◌, ◌++◌, map, set, take, Some, None, refl, sym, subst, ap, ◌∙◌, inl, inr, arith}
 use Rattle.std.specs.Prelude.{slice_get, nat_eq}
 use Rattle.std.specs.List.{IsDistinct, AllByRecursion}
 use Rattle.std.proofs.lemmas.Bool.Decides.{nat_tests}
-use Rattle.std.proofs.lemmas.Map.Keys.{IsDistinct-head, IsDistinct-tail}
+use Rattle.std.proofs.lemmas.Map.Keys.{IsDistinct-head, IsDistinct-tail, IsDistinct-cons}
+use Rattle.std.proofs.lemmas.List.{map-append}
 use Rattle.deed_core.proofs.LawProofs.{written, pushed, slice_get_mapped}
 use Rattle.world_core.specs.WorldState.{Each, IsAmong}
 
@@ -55,3 +56,29 @@ one_place f (z ∷ xs) (suc j) zero x y distinct here there same =
     absurd (not_same (f z) (f x) head (ap f is ∙ sym same))
 one_place f (z ∷ xs) (suc j) (suc k) x y distinct here there same =
     ap suc (one_place f xs j k x y (IsDistinct-tail nat_eq (f z) (map f xs) distinct) here there same)
+
+take_suc : {X : Type 0} (xs : List X) (i : ℕ) (x : X) → slice_get xs i ≡ Some x → take (suc i) xs ≡ take i xs ++ x ∷ []
+take_suc [] i x at = absurd (let e : None ≡ Some x = at in cc)
+take_suc (y ∷ xs) zero x at = (let same : y ≡ x = cc in ap (λ z. z ∷ []) same)
+take_suc (y ∷ xs) (suc i) x at = ap (λ zs. y ∷ zs) (take_suc xs i x at)
+
+-- one member more of the front of a list
+pub take_next : {X : Type 0} (xs : List X) (i : ℕ) (x : X) → slice_get xs i ≡ Some x → take (i + 1) xs ≡ take i xs ++ x ∷ []
+take_next xs i x at =
+    let more : i + 1 ≡ suc i = omega arith in
+    ap (λ n. take n xs) more ∙ take_suc xs i x at
+
+later_differ : (P : ℕ → Type 0) (ns : List ℕ) (n : ℕ) → AllByRecursion P ns → P n → AllByRecursion P (ns ++ n ∷ [])
+later_differ P [] n all here = (here, tt)
+later_differ P (m ∷ ns) n all here = (all.0, later_differ P ns n all.1 here)
+
+-- one number more that none has yet
+pub distinct_more : {X : Type 0} (f : X → ℕ) (xs : List X) (y : X) → IsDistinct nat_eq (map f xs) → Each (λ x. f x ≢ f y) xs → IsDistinct nat_eq (map f (xs ++ y ∷ []))
+distinct_more f [] y distinct differ = IsDistinct-cons nat_eq (f y) [] tt distinct
+distinct_more f (x ∷ xs) y distinct differ =
+    let head = IsDistinct-head nat_eq (f x) (map f xs) distinct in
+    let here : nat_eq (f x) (f y) ≡ false = (let no = differ 0 x refl in grind (arith, nat_tests)) in
+    let all = later_differ (λ n. nat_eq (f x) n ≡ false) (map f xs) (f y) head here in
+    let same : map f (xs ++ y ∷ []) ≡ map f xs ++ f y ∷ [] = map-append f xs (y ∷ []) in
+    IsDistinct-cons nat_eq (f x) (map f (xs ++ y ∷ [])) (subst (AllByRecursion (λ n. nat_eq (f x) n ≡ false)) (sym same) all)
+      (distinct_more f xs y (IsDistinct-tail nat_eq (f x) (map f xs) distinct) (λ k z at. differ (suc k) z at))

@@ -10,6 +10,7 @@ mod looking;
 mod names;
 mod parts;
 mod releasing;
+mod setups;
 mod talking;
 mod tasks;
 mod worlds;

@@ -9,7 +9,7 @@ use std::marker::Model;
 
 /// A stock, CPUs, a book and its clients, with all lines and replies that were ever sent.
 pub struct World<D: Deed> {
-    parts: WorldParts<D>,
+    pub(crate) parts: WorldParts<D>,
 }
 
 impl<D: Deed> Model for World<D> {
@@ -47,6 +47,8 @@ impl<D: Deed> World<D> {
         for event in events {
             let _ = self.step(*event);
         }
+        // For its clause: a world is safe.
+        self.check();
     }
 
     /// What is true of every world. This does nothing: it is called for its clause.
