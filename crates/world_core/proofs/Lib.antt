@@ -6,3 +6,4 @@ mod Keeps
 mod Safety
 mod PartLemmas
 mod BookLemmas
+mod SetupLemmas

@@ -85,10 +85,11 @@ impl<D: Deed> World<D> {
     {
         // For its clause: the client is in its range.
         let _ = id.get();
-        let Ok(()) = self.parts.clients.reserve(1) else {
+        let parts = &mut self.parts;
+        let Ok(()) = parts.clients.reserve(1) else {
             return Err(AllocError);
         };
-        self.parts.clients.push_reserved(Client::new(alloc, id));
+        parts.clients.push_reserved(Client::new(alloc, id));
         Ok(())
     }
 }
