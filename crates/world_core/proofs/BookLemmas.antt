@@ -1,12 +1,11 @@
 -- What calls of the book make of a world.
-use Rattle.std.proofs.Common.{◌≡◌, ℕ, zero, suc, ◌<◌, ◌≤◌, List, [], ◌∷◌, ◌++◌, length, set, Option, Some, None, refl, sym, subst, ap, ◌∙◌, inl, inr, arith}
+use Rattle.std.proofs.Common.{◌≡◌, ℕ, zero, suc, ◌<◌, ◌≤◌, List, [], ◌∷◌, ◌++◌, length, set, Option, Some, None, sym, subst, ap, ◌∙◌, arith}
 use Rattle.std.specs.Prelude.{slice_get}
 use Rattle.std.specs.List.{find}
 use Rattle.deed_core.specs.Tag.{Tag}
 use Rattle.deed_core.specs.Request.{Fits}
 use Rattle.deed_core.specs.declared.requests.Request.{Request}
 use Rattle.deed_core.proofs.LawProofs.{slice_get_some}
-use Rattle.stock.specs.Spaces.{SpaceState}
 use Rattle.stock.specs.Steps.{HasQuantum}
 use Rattle.lease_terms.specs.Requests.{RequestId}
 use Rattle.lease_terms.specs.declared.refusals.Refusal.{Refusal}
@@ -18,8 +17,8 @@ use Rattle.lease_proto.specs.declared.replies.Reply.{Reply}
 use Rattle.lease_book.specs.declared.receipts.KeptReply.{KeptReply}
 use Rattle.lease_book.specs.declared.receipts.Terms.{Terms}
 use Rattle.lease_book.specs.Receipts.{Kept, ReceiptState}
-use Rattle.lease_book.specs.Entry.{Entry, Settlement, Settled, Grant, Return, Refuse, kept, kept_reply_of}
-use Rattle.lease_book.specs.History.{incarnation, outcome_of}
+use Rattle.lease_book.specs.Entry.{Entry, Settlement, Settled, Grant, Return, Refuse, kept_reply_of}
+use Rattle.lease_book.specs.History.{incarnation}
 use Rattle.lease_book.specs.BookState.{BookState, account_in}
 use Rattle.lease_book.specs.Answers.{IsRepeated}
 use Rattle.lease_book.specs.Calls.{IsGranted, IsRefused, IsReleased}
@@ -29,7 +28,7 @@ use Rattle.lease_book.specs.declared.books.TheConstants.{MOST_LEASES}
 use Rattle.lease_history.specs.Told.{reply_to}
 use Rattle.world_core.specs.declared.tasks.Task.{Task}
 use Rattle.world_core.specs.WorldState.{WorldState, arena_name}
-use Rattle.world_core.specs.IsWorld.{IsWorld, IsDue}
+use Rattle.world_core.specs.IsWorld.{IsWorld}
 use Rattle.world_core.specs.Moves.{request_in, settled_reply, IsTellable, HasTask, HasAllLeases, HasNoSuchLease, TaskGranted, TaskRefused, TaskReleased}
 use Rattle.world_core.specs.Events.{CanGrant, CanRelease, IsEnabled}
 use Rattle.world_core.specs.declared.events.WorldEvent.TheVariants as events
@@ -60,7 +59,7 @@ grants w cpu id lease t u quantum request book receipt told reply hands tasks en
     let terms : Terms = record { quantum = quantum; request = request } in
     let logged : entries ≡ Settled id (Grant u terms) ∷ w.entries = more ∙ ap (λ (x : Tag). Settled id (Grant x terms) ∷ w.entries) (sym same) in
     let answers : replies ≡ w.replies ++ settled_reply w id (Grant u terms) ∷ [] =
-      sent ∙ ap (λ (x : Reply). w.replies ++ x ∷ []) (is_told ∙ ap (reply_to (arena_name w.names) id) (is_kept ∙ ap (λ (r : ReceiptState). r.reply) granted.receipt)) in
+    sent ∙ ap (λ (x : Reply). w.replies ++ x ∷ []) (is_told ∙ ap (reply_to (arena_name w.names) id) (is_kept ∙ ap (λ (r : ReceiptState). r.reply) granted.receipt)) in
     record {
       id = id;
       lease = lease;
@@ -159,7 +158,7 @@ no_such_lease w cpu id line arena is can none = λ other what place also home.
     let named : arena_name w.names arena ≡ arena_name w.names place = can.home.is ∙ ap (λ (l : ReleaseLine). l.arena) lines ∙ sym home.is in
     let places : arena ≡ place = is.names arena place home.within named in
     let a : find (is_lease other.incarnation arena line.base) (account_in other.client w.book).leases ≡ None =
-      subst (λ (x : RequestId). find (is_lease x.incarnation arena line.base) (account_in x.client w.book).leases ≡ None) same none in
+    subst (λ (x : RequestId). find (is_lease x.incarnation arena line.base) (account_in x.client w.book).leases ≡ None) same none in
     let b : find (is_lease other.incarnation place line.base) (account_in other.client w.book).leases ≡ None =
-      subst (λ (k : ℕ). find (is_lease other.incarnation k line.base) (account_in other.client w.book).leases ≡ None) places a in
+    subst (λ (k : ℕ). find (is_lease other.incarnation k line.base) (account_in other.client w.book).leases ≡ None) places a in
     subst (λ (l : ReleaseLine). find (is_lease other.incarnation place l.base) (account_in other.client w.book).leases ≡ None) lines b

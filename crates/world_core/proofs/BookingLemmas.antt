@@ -1,6 +1,5 @@
 -- What CPUs do with the book keeps a world.
-use Rattle.std.proofs.Common.{◌≡◌, ◌⊎◌, ℕ, ◌≤◌, List, [], ◌∷◌, ◌++◌, set, Option, Some, None, refl, sym, subst, ap, ◌∙◌, inl, inr, arith}
-use Rattle.std.specs.Prelude.{slice_get}
+use Rattle.std.proofs.Common.{◌≡◌, ℕ, List, [], ◌∷◌, ◌++◌, set, Option, Some, None, refl, sym, subst, ap, inl, inr, arith}
 use Rattle.std.proofs.lemmas.List.Sums.{sum_by-cons}
 use Rattle.deed_core.specs.Tag.{Tag}
 use Rattle.stock.specs.Accounts.{Accounts}
@@ -16,15 +15,15 @@ use Rattle.lease_book.specs.declared.receipts.KeptReply.TheVariants as kept_repl
 use Rattle.lease_book.specs.Receipts.{Kept, ReceiptState}
 use Rattle.lease_book.specs.Entry.{Entry, Settlement, Settled, Hello, Swept, Grant, Return, Refuse, kept, kept_reply_of}
 use Rattle.lease_book.specs.Account.{Account}
-use Rattle.lease_book.specs.History.{incarnation, settled_in, greatest, outcome_of}
+use Rattle.lease_book.specs.History.{incarnation, outcome_of}
 use Rattle.lease_book.specs.BookState.{BookState, IsHistory, Enters, account_in, leased}
 use Rattle.lease_book.specs.Answers.{IsRepeated}
 use Rattle.lease_book.proofs.LawProofs.{account_is, last_outcome, outcomes_stay}
 use Rattle.lease_history.specs.Known.{IsFor}
 use Rattle.lease_history.specs.Told.{reply_to, MayTell}
 use Rattle.lease_history.proofs.LawProofs.{told_stays_told, hellos_keep_known, sweeps_keep_known, settlements_keep_known}
-use Rattle.world_core.specs.WorldState.{WorldState, arena_name, in_hands, Each}
-use Rattle.world_core.specs.Moves.{IsAnswered, settled_reply, again_to, HelloTaken, HelloRefused, AnsweredAtOnce, TaskTaken, HasTask, TaskGranted, TaskRefused, TaskReleased, TaskEnded, LeaseSwept}
+use Rattle.world_core.specs.WorldState.{WorldState, arena_name, in_hands}
+use Rattle.world_core.specs.Moves.{IsAnswered, settled_reply, HelloTaken, HelloRefused, AnsweredAtOnce, TaskTaken, HasTask, TaskGranted, TaskRefused, TaskReleased, TaskEnded, LeaseSwept}
 use Rattle.world_core.specs.IsWorld.{IsWorld, IsDue, IsOfLines}
 use Rattle.world_core.proofs.Members.{each_written, each_pushed, each_cons}
 use Rattle.world_core.proofs.HandLemmas.{hand_leased}

@@ -81,4 +81,4 @@ distinct_more f (x ∷ xs) y distinct differ =
     let all = later_differ (λ n. nat_eq (f x) n ≡ false) (map f xs) (f y) head here in
     let same : map f (xs ++ y ∷ []) ≡ map f xs ++ f y ∷ [] = map-append f xs (y ∷ []) in
     IsDistinct-cons nat_eq (f x) (map f (xs ++ y ∷ [])) (subst (AllByRecursion (λ n. nat_eq (f x) n ≡ false)) (sym same) all)
-      (distinct_more f xs y (IsDistinct-tail nat_eq (f x) (map f xs) distinct) (λ k z at. differ (suc k) z at))
+    (distinct_more f xs y (IsDistinct-tail nat_eq (f x) (map f xs) distinct) (λ k z at. differ (suc k) z at))

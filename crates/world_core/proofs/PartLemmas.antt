@@ -1,5 +1,5 @@
 -- What calls of the parts make of a world.
-use Rattle.std.proofs.Common.{◌≡◌, ◌≢◌, ℕ, zero, suc, Bool, true, false, List, [], ◌∷◌, ◌++◌, map, reverse, set, Option, Some, None, Ok, Err, refl, sym, subst, ap, ◌∙◌, inl, inr, arith}
+use Rattle.std.proofs.Common.{◌≡◌, ℕ, suc, Bool, true, false, List, [], ◌∷◌, ◌++◌, map, reverse, set, Option, Some, None, Err, refl, sym, subst, ap, ◌∙◌}
 use Rattle.std.specs.Prelude.{slice_get, if◌then◌else◌}
 use Rattle.std.specs.List.{find}
 use Rattle.std.proofs.lemmas.List.{reverse-append, map-append}
@@ -10,16 +10,14 @@ use Rattle.lease_proto.specs.declared.lines.Line.{Line}
 use Rattle.lease_proto.specs.declared.lines.Op.{Op}
 use Rattle.lease_book.specs.Entry.{Entry, Swept}
 use Rattle.lease_book.specs.BookState.{BookState, account_in}
-use Rattle.lease_book.specs.Account.{Lease, lease_of}
+use Rattle.lease_book.specs.Account.{lease_of}
 use Rattle.lease_book.specs.Calls.{IsSwept}
 use Rattle.lease_client.specs.ClientState.{ClientState}
 use Rattle.lease_client.specs.Calls.{IsSent, refusal}
 use Rattle.lease_client.specs.declared.faults.SendFault.{SendFault}
 use Rattle.lease_client.specs.declared.faults.SendFault.TheVariants.{NotOpen, Busy, NotHeld, Exhausted, NoMemory}
 use Rattle.world_core.specs.declared.logs.Logged.{Logged}
-use Rattle.world_core.specs.declared.logs.Logged.TheVariants as logged
 use Rattle.world_core.specs.WorldState.{WorldState, IsAmong, entry_of, entries_of}
-use Rattle.world_core.specs.Moves.{ClientSays, LeaseSwept}
 use Rattle.world_core.specs.Events.{EndsAs}
 use Rattle.world_core.specs.declared.events.WorldEvent.TheVariants as events
 use Rattle.world_core.specs.declared.events.Outcome.TheVariants.{Done}
@@ -60,15 +58,17 @@ not_sent op old new (NoMemory back) sent other = absurd (other back refl)
 pub said_again : (w : WorldState) (place : ℕ) (x : ClientState) (line : Line) (requests : List Line) → slice_get w.clients place ≡ Some x → x.outstanding ≡ Some line
     → requests ≡ w.requests ++ line ∷ [] → EndsAs (events.Repeats place) Done w (record w { requests = requests })
 said_again w place x line requests here out lines =
-    let same : w.clients ≡ set w.clients place x = sym (set_same w.clients place x here) in
-    ((x, line, here, out), record {
-      client = x;
-      next = x;
-      line = line;
-      at = here;
-      may = (out, refl);
-      after = λ j. record w { clients = same j; requests = lines j };
-    })
+    let same : w.clients ≡ set w.clients place x = sym (set_same w.clients place x here) in (
+      (x, line, here, out),
+      record {
+        client = x;
+        next = x;
+        line = line;
+        at = here;
+        may = (out, refl);
+        after = λ j. record w { clients = same j; requests = lines j };
+      },
+    )
 
 -- The book.
 
@@ -77,12 +77,14 @@ pub sweeps : (w : WorldState) (cpu c : ℕ) (id : RequestId) (t : Tag) (book : B
     → EndsAs (events.Sweeps cpu c) Done w (record w { hands = hands; book = book; entries = entries })
 sweeps w cpu c id t book entries hands empty swept more held =
     let mine : id.client ≡ c = swept.client in
-    let among : IsAmong (lease_of id t) (account_in c w.book).leases = subst (λ (d : ℕ). IsAmong (lease_of id t) (account_in d w.book).leases) mine (found_among _ _ _ swept.ended.lease) in
-    ((empty, (lease_of id t, among, swept.older)), record {
-      id = id;
-      segment = t;
-      book = book;
-      empty = empty;
-      swept = swept;
-      after = λ j. record w { hands = held j; book = book; entries = more j };
-    })
+    let among : IsAmong (lease_of id t) (account_in c w.book).leases = subst (λ (d : ℕ). IsAmong (lease_of id t) (account_in d w.book).leases) mine (found_among _ _ _ swept.ended.lease) in (
+      (empty, (lease_of id t, among, swept.older)),
+      record {
+        id = id;
+        segment = t;
+        book = book;
+        empty = empty;
+        swept = swept;
+        after = λ j. record w { hands = held j; book = book; entries = more j };
+      },
+    )

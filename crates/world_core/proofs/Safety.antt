@@ -1,5 +1,5 @@
 -- A world is safe.
-use Rattle.std.proofs.Common.{◌≡◌, ◌≢◌, ℕ, zero, suc, ◌+◌, ◌<◌, ◌≤◌, ◌==◌, Bool, true, false, List, [], ◌∷◌, ◌++◌, map, filter, length, Option, Some, None, refl, sym, subst, ap, ◌∙◌, inl, inr, arith}
+use Rattle.std.proofs.Common.{◌≡◌, ℕ, zero, suc, ◌<◌, ◌≤◌, ◌==◌, Bool, true, false, List, [], ◌∷◌, ◌++◌, map, filter, length, Some, None, refl, sym, subst, ap, arith}
 use Rattle.std.specs.Prelude.{slice_get, if◌then◌else◌, sum_by}
 use Rattle.std.specs.Str.{bytes_eq}
 use Rattle.std.proofs.lemmas.List.{append-nil}
@@ -8,16 +8,13 @@ use Rattle.std.proofs.lemmas.Bool.Decides.{nat_tests}
 use Rattle.std.proofs.lemmas.Slice.Eq.{bytes_eq-Decides}
 use Rattle.deed_core.specs.Tag.{Tag}
 use Rattle.deed_core.specs.Request.{Fits}
-use Rattle.deed_core.specs.Holding.{Holding}
 use Rattle.deed_core.specs.Covering.{covers, covers_held, covers_tag, covering_held}
 use Rattle.deed_core.specs.Selections.{is_of_arena}
 use Rattle.deed_core.specs.Weights.{of_arena}
 use Rattle.deed_core.proofs.LawProofs.{sum_by-map, sum_by-filter, slice_get_some}
-use Rattle.tag_arena.specs.ArenaState.{spans_of}
 use Rattle.stock.specs.Spaces.{SpaceState}
-use Rattle.stock.specs.Stocks.{IsStock}
 use Rattle.stock.specs.Accounts.{Accounts, IsAccounted}
-use Rattle.stock.specs.Sums.{Out, all_out, places_of, all_places, held_of}
+use Rattle.stock.specs.Sums.{all_out, places_of, held_of}
 use Rattle.stock.proofs.LawProofs.{one_place}
 use Rattle.lease_terms.specs.Requests.{RequestId}
 use Rattle.lease_proto.specs.declared.replies.Reply.{Reply}
@@ -26,7 +23,7 @@ use Rattle.lease_book.specs.Account.{Lease, Account}
 use Rattle.lease_book.specs.Entry.{Entry, Settled, Hello, Swept, Grant}
 use Rattle.lease_book.specs.declared.receipts.Terms.{Terms}
 use Rattle.lease_book.specs.History.{leases_of, AreOrderly}
-use Rattle.lease_book.specs.BookState.{account_in, segments, weight_of, leased, HasHistory}
+use Rattle.lease_book.specs.BookState.{segments, weight_of, leased}
 use Rattle.lease_book.proofs.LawProofs.{account_is, leases_are_the_clients}
 use Rattle.lease_client.specs.declared.held.HeldSegment.{HeldSegment}
 use Rattle.lease_client.specs.ClientState.{ClientState}
@@ -35,7 +32,7 @@ use Rattle.lease_history.specs.Told.{IsOutcome, MayTell}
 use Rattle.lease_history.proofs.LawProofs.{held_is_leased, replies_agree}
 use Rattle.world_core.specs.WorldState.{WorldState, arena_name, in_hands}
 use Rattle.world_core.specs.IsWorld.{IsWorld}
-use Rattle.world_core.specs.Safe.{out_of_world, IsInOnePlaceOf, HoldsLeases, has_unit, holders, SettlesIt, Safe, AlwaysSafe}
+use Rattle.world_core.specs.Safe.{out_of_world, has_unit, holders, SettlesIt, Safe, AlwaysSafe}
 use Rattle.world_core.proofs.Keeps.{events_keep}
 
 sum_le : {X : Type 0} (f g : X → ℕ) (xs : List X) → ((k : ℕ) (x : X) → slice_get xs k ≡ Some x → f x ≤ g x) → sum_by f xs ≤ sum_by g xs
@@ -59,10 +56,10 @@ all_held w is f =
     let names = arena_name w.names in
     let g : Tag → ℕ = λ t. f (told_segment names t) in
     let each = sum_le (λ (c : ClientState). sum_by f c.held) (λ (c : ClientState). weight_of g w.book c.id) w.clients
-        (λ k c at. (let h = held_is_leased names w.entries c f (is.known k c at) in
-            let le = in_le names c.incarnation f (leases_of c.id w.entries) in
-            let e : weight_of g w.book c.id ≡ sum_by g (segments (leases_of c.id w.entries)) = ap (λ (a : Account). sum_by g (segments a.leases)) (account_is w.entries w.book c.id is.book) in
-            omega arith)) in
+    (λ k c at. (let h = held_is_leased names w.entries c f (is.known k c at) in
+    let le = in_le names c.incarnation f (leases_of c.id w.entries) in
+    let e : weight_of g w.book c.id ≡ sum_by g (segments (leases_of c.id w.entries)) = ap (λ (a : Account). sum_by g (segments a.leases)) (account_is w.entries w.book c.id is.book) in
+    omega arith)) in
     let some = leases_are_the_clients.some w.book (map (λ (c : ClientState). c.id) w.clients) g (w.entries, is.book) is.ids in
     let e = sum_by-map (weight_of g w.book) (λ (c : ClientState). c.id) w.clients in
     omega arith

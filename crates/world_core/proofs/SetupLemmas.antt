@@ -1,6 +1,6 @@
 -- A world that is set up is one.
-use Rattle.std.proofs.Common.{◌≡◌, ◌≢◌, ℕ, ◌≤◌, ◌^◌, List, [], ◌∷◌, ◌++◌, length, Option, Some, None, refl, sym, subst, ap, ◌∙◌}
-use Rattle.std.specs.Prelude.{slice_get, nat_eq}
+use Rattle.std.proofs.Common.{◌≡◌, ◌≢◌, ℕ, ◌≤◌, ◌^◌, List, [], ◌∷◌, ◌++◌, length, Option, Some, None, refl, sym, subst, ap}
+use Rattle.std.specs.Prelude.{nat_eq}
 use Rattle.std.specs.Option.{option_to_list}
 use Rattle.std.specs.List.{IsDistinct}
 use Rattle.deed_core.specs.Tag.{Tag}
@@ -57,7 +57,7 @@ born stock names book hands tasks log clients requests replies sound balances na
     let qs = sym q in
     let rs = sym r in
     subst IsWorld (λ j. record { stock = stock; names = names; hands = hs j; tasks = ts j; book = book; entries = entries_of (ls j); clients = cs j; requests = qs j; replies = rs j })
-      (made stock names book sound balances named few apart empty)
+    (made stock names book sound balances named few apart empty)
 
 no_more : (hands : List (Option Tag)) → in_hands (hands ++ None ∷ []) ≡ in_hands hands
 no_more [] = refl

@@ -1,5 +1,5 @@
 -- What clients say and hear keeps a world.
-use Rattle.std.proofs.Common.{◌≡◌, ◌≢◌, ℕ, ◌≤◌, Bool, true, false, List, [], ◌∷◌, ◌++◌, map, set, Option, Some, None, Ok, refl, sym, subst, ap, ◌∙◌, inl, inr, arith}
+use Rattle.std.proofs.Common.{◌≡◌, ◌≢◌, ℕ, ◌≤◌, Bool, true, false, List, [], ◌∷◌, ◌++◌, set, Option, Some, None, Ok, refl, sym, subst, ap, ◌∙◌, inl, inr, arith}
 use Rattle.std.specs.Prelude.{slice_get, nat_eq, if◌then◌else◌}
 use Rattle.std.specs.List.{IsDistinct}
 use Rattle.deed_core.proofs.LawProofs.{written, map_set_same}
@@ -18,7 +18,7 @@ use Rattle.lease_client.specs.Runs.{Move, Restart, Send, Get, TakesMove}
 use Rattle.lease_client.proofs.LawProofs.{moves_in_turn, sent_stays_sent}
 use Rattle.lease_history.specs.Known.{IsKnown}
 use Rattle.lease_history.proofs.LawProofs.{moves_keep_known, replies_keep_known}
-use Rattle.world_core.specs.WorldState.{WorldState, arena_name, Each, IsAmong}
+use Rattle.world_core.specs.WorldState.{WorldState, arena_name, Each}
 use Rattle.world_core.specs.Moves.{ClientSays, ClientHears}
 use Rattle.world_core.specs.IsWorld.{IsWorld, MayBeSaid, IsDue, IsOfLines}
 use Rattle.world_core.specs.declared.tasks.Task.{Task}

@@ -1,5 +1,5 @@
 -- What every world is.
-use Rattle.std.specs.Prelude.{◌≡◌, ◌≢◌, ◌⊎◌, ℕ, ◌<◌, ◌≤◌, ◌^◌, nat_eq, List, length, map, slice_get, Option, Some, None}
+use Rattle.std.specs.Prelude.{◌≡◌, ℕ, ◌<◌, ◌≤◌, ◌^◌, nat_eq, List, length, map, Option, Some, None}
 use Rattle.std.specs.List.{IsDistinct}
 use Rattle.deed_core.specs.Tag.{Tag}
 use Rattle.stock.specs.Spaces.{SpaceState}
@@ -10,7 +10,7 @@ use Rattle.lease_proto.specs.declared.lines.LeaseLine.{LeaseLine}
 use Rattle.lease_proto.specs.declared.lines.Line.{Line}
 use Rattle.lease_proto.specs.declared.lines.Line.TheVariants as lines
 use Rattle.lease_proto.specs.declared.lines.Op.TheVariants as ops
-use Rattle.lease_book.specs.Entry.{Entry, Settlement, Settled, Hello, Swept, Grant, Return, Refuse}
+use Rattle.lease_book.specs.Entry.{Entry, Settled, Hello, Swept, Grant, Return, Refuse}
 use Rattle.lease_book.specs.BookState.{IsHistory}
 use Rattle.lease_book.specs.declared.receipts.Terms.{Terms}
 use Rattle.lease_client.specs.ClientState.{ClientState}

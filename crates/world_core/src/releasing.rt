@@ -85,8 +85,7 @@ impl<D: Deed> WorldParts<D> {
                 let (_receipt, segment) = released;
                 put(&mut self.hands, cpu, segment);
                 self.tasks[cpu] = None;
-                self.log
-                    .push_reserved(Logged::Released { id, arena, base });
+                self.log.push_reserved(Logged::Released { id, arena, base });
                 self.replies.push_reserved(Reply::Released(id));
                 return Outcome::Done;
             }

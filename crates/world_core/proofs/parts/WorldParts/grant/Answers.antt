@@ -1,7 +1,6 @@
-use Rattle.std.proofs.Common.{◌≡◌, ◌<◌, ◌++◌, [], ◌∷◌, sym, subst, ap, ◌∙◌, refl, length, List, ℕ, Some, None, set, inl, inr, arith, rules}
+use Rattle.std.proofs.Common.{◌≡◌, sym, subst, ap, ◌∙◌, refl, List, ℕ, Some, None, set, inl, inr, arith}
 use Rattle.std.specs.Prelude.{slice_get}
 use Rattle.std.proofs.lemmas.Option.{slice_get_within}
-use Rattle.deed_core.specs.Tag.{Tag}
 use Rattle.deed_core.proofs.LawProofs.{slice_get-set}
 use Rattle.lease_terms.specs.declared.refusals.Refusal.TheVariants.{Leases}
 use Rattle.lease_history.specs.Told.{reply_to}
@@ -36,9 +35,9 @@ returns-in-Ok-settle g c =
     let same : c.take-segment.result ≡ c.args.grant.now.segment = cc in
     let v : WorldState = record w { hands = c.take-segment.new.hands.items; tasks = set w.tasks c.args.cpu None; book = c.settle.new.self; entries = entries_of c.push_reserved.new.self.items; replies = c.push_reserved-in-Ok-settle.new.self.items } in
     let move = grants w c.args.cpu c.args.grant.now.id c.args.grant.now.lease c.args.grant.now.segment c.take-segment.result c.args.grant.now.quantum c.request_in-request.result c.settle.new.self c.in-Ok-settle.receipt c.reply.result c.reply_to.result
-      c.take-segment.new.hands.items (set w.tasks c.args.cpu None) (entries_of c.push_reserved.new.self.items) c.push_reserved-in-Ok-settle.new.self.items can same c.request_in-request.ensures c.in-Ok-settle.ensures.granted c.reply.ensures.value
-      (c.reply_to.ensures ∙ ap (λ (names : List (List ℕ)). reply_to (arena_name names) c.args.grant.now.id c.reply.result) c.deref.ensures.value)
-      c.take-segment.ensures.emptied refl (logged_on _ _ _ (onto _ _ _ _ c.push_reserved.ensures.items c.reserve.ensures.items)) (onto _ _ _ _ c.push_reserved-in-Ok-settle.ensures.items c.reserve-2.ensures.items) in
+    c.take-segment.new.hands.items (set w.tasks c.args.cpu None) (entries_of c.push_reserved.new.self.items) c.push_reserved-in-Ok-settle.new.self.items can same c.request_in-request.ensures c.in-Ok-settle.ensures.granted c.reply.ensures.value
+    (c.reply_to.ensures ∙ ap (λ (names : List (List ℕ)). reply_to (arena_name names) c.args.grant.now.id c.reply.result) c.deref.ensures.value)
+    c.take-segment.ensures.emptied refl (logged_on _ _ _ (onto _ _ _ _ c.push_reserved.ensures.items c.reserve.ensures.items)) (onto _ _ _ _ c.push_reserved-in-Ok-settle.ensures.items c.reserve-2.ensures.items) in
     inl (subst (λ (x : WorldState). TaskGranted c.args.cpu x v) view move)
 
 pub put-requires : goal.put-requires
@@ -68,7 +67,7 @@ returns-in-Refused g c =
     let told = rw c.in-Refused.is at c.in-Err.ensures.answer in
     let v : WorldState = record w { hands = c.put.new.hands.items; tasks = set w.tasks c.args.cpu None; book = c.settle.new.self; entries = entries_of c.push_reserved-in-Refused.new.self.items; replies = c.push_reserved-in-Refused-2.new.self.items } in
     let move = refuses w c.args.cpu c.args.grant.now.id _ Leases c.settle.new.self _ c.put.new.hands.items (set w.tasks c.args.cpu None) (entries_of c.push_reserved-in-Refused.new.self.items) c.push_reserved-in-Refused-2.new.self.items
-      can.serves told.0 back refl (logged_on _ _ _ (onto _ _ _ _ c.push_reserved-in-Refused.ensures.items c.reserve.ensures.items)) (onto _ _ _ _ c.push_reserved-in-Refused-2.ensures.items c.reserve-2.ensures.items) in
+    can.serves told.0 back refl (logged_on _ _ _ (onto _ _ _ _ c.push_reserved-in-Refused.ensures.items c.reserve.ensures.items)) (onto _ _ _ _ c.push_reserved-in-Refused-2.ensures.items c.reserve-2.ensures.items) in
     let all = all_leases w c.args.cpu c.args.grant.now.id _ can.serves told.1 in
     inr (subst (λ (x : WorldState). TaskRefused c.args.cpu Leases x v) view move, subst (λ (x : WorldState). HasAllLeases x c.args.cpu) view all)
 

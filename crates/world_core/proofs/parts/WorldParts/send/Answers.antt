@@ -1,10 +1,9 @@
-use Rattle.std.proofs.Common.{◌≡◌, ◌<◌, ◌++◌, true, false, [], ◌∷◌, sym, subst, ap, ◌∙◌, refl, length, Some, None, set, arith}
+use Rattle.std.proofs.Common.{◌≡◌, ◌<◌, sym, ap, ◌∙◌, length, Some, None, arith}
 use Rattle.std.specs.Prelude.{slice_get}
-use Rattle.deed_core.proofs.LawProofs.{slice_get_here, set_same}
-use Rattle.lease_client.specs.Calls.{may_restart, refusal}
+use Rattle.deed_core.proofs.LawProofs.{slice_get_here}
+use Rattle.lease_client.specs.Calls.{refusal}
 use Rattle.world_core.specs.WorldState.{WorldState, entries_of}
-use Rattle.world_core.proofs.PartLemmas.{unsaid, onto}
-use Rattle.lease_client.specs.Calls.{IsSent}
+use Rattle.world_core.proofs.PartLemmas.{unsaid}
 use Rattle.world_core.proofs.PartLemmas.{not_sent}
 use Rattle.world_core.proofs.parts.WorldParts.send.Goals as goal
 
@@ -14,9 +13,11 @@ returns-in_default-fault g c =
     let view : w ≡ c.args.self.now = c.self.view_is in
     let within : c.args.client < length w.clients = omega arith in
     let here : slice_get w.clients c.args.client ≡ Some c.index_mut.result.now = slice_get_here w.clients c.args.client c.index_mut.result.now within c.index_mut.ensures.value in
-    let failed = not_sent c.args.op _ _ c.in-Err.fault c.in-Err.ensures.sent (λ back e. c.in_default-fault.not-NoMemory back e) in
-    (λ can. absurd (
-        let there : slice_get w.clients c.args.client ≡ Some can.0 = ap (λ (v : WorldState). slice_get v.clients c.args.client) view ∙ can.1 in
-        let same : c.index_mut.result.now ≡ can.0 = cc in
-        let both : None ≡ Some c.in-Err.fault = sym can.2 ∙ ap (refusal c.args.op) (sym same) ∙ failed.0 in
-        cc), unsaid w c.args.client _ _ _ here failed.1 c.reserve.ensures.items ∙ view)
+    let failed = not_sent c.args.op _ _ c.in-Err.fault c.in-Err.ensures.sent (λ back e. c.in_default-fault.not-NoMemory back e) in (
+      λ can. absurd (
+          let there : slice_get w.clients c.args.client ≡ Some can.0 = ap (λ (v : WorldState). slice_get v.clients c.args.client) view ∙ can.1 in
+          let same : c.index_mut.result.now ≡ can.0 = cc in
+          let both : None ≡ Some c.in-Err.fault = sym can.2 ∙ ap (refusal c.args.op) (sym same) ∙ failed.0 in
+          cc),
+      unsaid w c.args.client _ _ _ here failed.1 c.reserve.ensures.items ∙ view,
+    )

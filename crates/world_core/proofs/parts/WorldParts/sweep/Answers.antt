@@ -1,14 +1,12 @@
-use Rattle.std.proofs.Common.{◌≡◌, ◌<◌, ◌++◌, true, false, [], ◌∷◌, sym, subst, ap, ◌∙◌, refl, length, Some, None, set, arith, rules}
+use Rattle.std.proofs.Common.{◌≡◌, ◌∷◌, subst, ap, ◌∙◌, Some, None, rules}
 use Rattle.std.specs.Prelude.{slice_get}
-use Rattle.deed_core.proofs.LawProofs.{slice_get_here, set_same}
 use Rattle.lease_book.specs.Entry.{Swept}
 use Rattle.world_core.specs.WorldState.{WorldState, entries_of}
-use Rattle.world_core.proofs.PartLemmas.{unsaid, onto}
+use Rattle.world_core.proofs.PartLemmas.{onto}
 use Rattle.world_core.proofs.PartLemmas.{sweeps}
 use Rattle.world_core.specs.Events.{EndsAs}
 use Rattle.world_core.specs.declared.events.WorldEvent.TheVariants as events
 use Rattle.world_core.specs.declared.events.Outcome.TheVariants.{Done}
-use Rattle.world_core.specs.declared.logs.Logged.TheVariants as logged
 use Rattle.world_core.proofs.PartLemmas.{logged_on}
 use Rattle.world_core.proofs.parts.WorldParts.sweep.Goals as goal
 

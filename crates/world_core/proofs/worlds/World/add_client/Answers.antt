@@ -1,5 +1,5 @@
 use Rattle.std.proofs.Common.{◌≡◌, ◌≢◌, [], sym, subst, ap, ◌∙◌, ◌∷◌, ◌++◌}
-use Rattle.lease_client.specs.ClientState.{ClientState, silent}
+use Rattle.lease_client.specs.ClientState.{ClientState}
 use Rattle.world_core.specs.WorldState.{WorldState, entries_of, Each}
 use Rattle.world_core.specs.IsWorld.{IsWorld}
 use Rattle.world_core.proofs.PartLemmas.{onto}
@@ -13,5 +13,5 @@ invariant_of-self-2 g c =
     let view : w ≡ c.args.self.now = inner ∙ c.self.view_is in
     let is = subst IsWorld (sym inner) c.self.invariant in
     client_added w c.args.id _ is (ap (λ (x : WorldState). x.entries) view ∙ c.requires.entries) (ap (λ (x : WorldState). x.requests) view ∙ c.requires.requests)
-      (subst (λ (x : WorldState). Each (λ (y : ClientState). y.id ≢ c.args.id) x.clients) (sym view) c.requires.fresh) c.get.ensures.range
-      (onto _ _ _ _ c.push_reserved.ensures.items c.reserve.ensures.items ∙ ap (λ (y : ClientState). w.clients ++ y ∷ []) c.new.ensures)
+    (subst (λ (x : WorldState). Each (λ (y : ClientState). y.id ≢ c.args.id) x.clients) (sym view) c.requires.fresh) c.get.ensures.range
+    (onto _ _ _ _ c.push_reserved.ensures.items c.reserve.ensures.items ∙ ap (λ (y : ClientState). w.clients ++ y ∷ []) c.new.ensures)

@@ -1,4 +1,4 @@
-use Rattle.std.proofs.Common.{◌≡◌, sym, subst}
+use Rattle.std.proofs.Common.{sym, subst}
 use Rattle.world_core.specs.WorldState.{WorldState, entries_of}
 use Rattle.world_core.specs.IsWorld.{IsWorld}
 use Rattle.world_core.proofs.PartLemmas.{onto}

@@ -12,4 +12,4 @@ loop-event-preserved g c =
     let events = c.args.events.now in
     let at : slice_get events c.loop-event.event-index ≡ Some c.event-item.result = slice_get_here events c.loop-event.event-index c.event-item.result c.loop-event-test.true c.event-item.is in
     subst (λ (list : List WorldEvent). HappensTo list c.args.self.now c.step.new.self) (sym (take_next events c.loop-event.event-index c.event-item.result at))
-      (happens_more (take c.loop-event.event-index events) c.event-item.result c.step.result c.args.self.now c.loop-event.self c.step.new.self c.loop-event.invariant c.step.ensures.ended)
+    (happens_more (take c.loop-event.event-index events) c.event-item.result c.step.result c.args.self.now c.loop-event.self c.step.new.self c.loop-event.invariant c.step.ensures.ended)
