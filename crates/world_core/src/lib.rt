@@ -11,8 +11,8 @@
 //! segments that they hold, and any two replies that settle one request are equal.
 //!
 //! Begin with [`World::step`] and `specs/Events.antt`: where each event can happen, and what may
-//! become of a world at it; `specs/Moves.antt` has the moves. Events on the stock (carving, freeing,
-//! slabs, magazines) aren't here yet, so units come into hands from leases alone.
+//! become of a world at it; `specs/Moves.antt` has the moves. Events on the stock (carving,
+//! freeing, slabs, magazines) aren't here yet, so units come into hands from leases alone.
 //!
 //! What it costs: a world keeps each line, reply and entry of the book for good. An event takes the
 //! time of its part's call, and a release looks the name of its arena up among all names.
