@@ -14,6 +14,6 @@ returns g c =
     let some = subst (λ (x : QuantumCacheState). HaveUnits (depot_rounds x.depot)) (sym c.self.view_is) c.requires.rounds in (
       (λ is.
           let none : c.units.result ≡ 0 = grind (arith, nat_tests) in
-          subst IsBareCache c.self.view_is (bare_cache here r.idle r.gap r.tail c.units.result (2 ^ 128 - 1) c.arena.ensures.sound some room c.report-report.ensures.kept c.units.ensures c.if-report-ne0.false c.if-report-ne0-2.false c.if-report-ne0-3.false none)),
-      (λ bare. eq-eqb c.units.result 0 (cache_bare here r.idle r.gap r.tail c.units.result (2 ^ 128 - 1) c.report-report.ensures.kept c.units.ensures (subst IsBareCache (sym c.self.view_is) bare)).3),
+          subst IsBareCache c.self.view_is (bare_cache here r.idle r.gap r.tail c.units.result (2 ^ 128 - 1) c.arena.ensures.sound some room c.report-report.ensures.deeds c.units.ensures c.if-report-ne0.false c.if-report-ne0-2.false c.if-report-ne0-3.false none)),
+      (λ bare. eq-eqb c.units.result 0 (cache_bare here r.idle r.gap r.tail c.units.result (2 ^ 128 - 1) c.report-report.ensures.deeds c.units.ensures (subst IsBareCache (sym c.self.view_is) bare)).3),
     )
