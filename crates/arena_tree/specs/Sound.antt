@@ -75,18 +75,8 @@ abbrev pub PushesRound : {E : Type 0} → Result (Unit {0}) E → ℕ → ℕ �
 PushesRound (Ok u) old new = new ≡ old + 1
 PushesRound (Err e) old new = new ≡ old
 
--- the rounds of a full magazine more, where the depot gave one
-abbrev pub GainsFull : {E : Type 0} → Result (Unit {0}) E → ℕ → ℕ → Type 0
-GainsFull (Ok u) old new = old < new
-GainsFull (Err e) old new = new ≡ old
-
--- the rounds of a full magazine less, where the depot took one
-abbrev pub LosesFull : {E : Type 0} → Result (Unit {0}) E → ℕ → ℕ → Type 0
-LosesFull (Ok u) old new = new < old
-LosesFull (Err e) old new = new ≡ old
-
 -- how many rounds the CPU has before and after: only its own events and exchanges with a depot
--- change that
+-- change that. (By how many an exchange does, the size of magazines says, which is none of these.)
 abbrev pub KeepsRounds : (e : Event) → AnswerTo e → ℕ → ℕ → Type 0
 KeepsRounds (Carve arena request) a old new = new ≡ old
 KeepsRounds (Free given) a old new = new ≡ old
@@ -95,9 +85,9 @@ KeepsRounds (SlabTake arena cache) a old new = new ≡ old
 KeepsRounds (SlabPut given) a old new = new ≡ old
 KeepsRounds (SlabAdd arena cache given) a old new = new ≡ old
 KeepsRounds (SlabReap arena cache) a old new = new ≡ old
-KeepsRounds (SwapFull arena cache) a old new = GainsFull a old new
-KeepsRounds (SwapEmpty arena cache) a old new = LosesFull a old new
-KeepsRounds (SwapFresh arena cache) a old new = LosesFull a old new
+KeepsRounds (SwapFull arena cache) a old new = Unit {0}
+KeepsRounds (SwapEmpty arena cache) a old new = Unit {0}
+KeepsRounds (SwapFresh arena cache) a old new = Unit {0}
 KeepsRounds (DepotReap arena cache) a old new = new ≡ old
 KeepsRounds (Pop arena cache) a old new = PopsRound a old new
 KeepsRounds (Push arena cache given) a old new = PushesRound a old new

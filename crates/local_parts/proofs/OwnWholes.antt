@@ -116,10 +116,10 @@ module _ (s : LocalState) (law : IsStock s.spaces) (k c : ℕ) (none : (j : ℕ)
   none_popped = unchanged_whole s s law same (Pop k c) (Ok None) (λ h b. sym b) (None, refl, inr (refl, none_served (λ o. Unit {0}), same)) (λ sizes. tt) refl refl
 
   pub none_pushed : (t : Tag) → WholeStep s (Push k c t) (Err (NoRoom t)) s
-  none_pushed t = unchanged_whole s s law same (Push k c t) (Err (NoRoom t)) (λ h b. sym b) (inr (refl, none_served (CanPush t k c), same)) (λ sizes. refl) tt refl
+  none_pushed t = unchanged_whole s s law same (Push k c t) (Err (NoRoom t)) (λ h b. sym b) (inr (refl, none_served (CanPush t k c), same)) (λ sizes. refl) refl refl
 
   pub none_changed : (size : ℕ) → WholeStep s (Change k c size) (Err NotGreater) s
-  none_changed size = unchanged_whole s s law same (Change k c size) (Err NotGreater) (λ h b. refl) (inr (inr (refl, none_served (CanChange size), same))) (λ sizes. tt) tt refl
+  none_changed size = unchanged_whole s s law same (Change k c size) (Err NotGreater) (λ h b. refl) (inr (inr (refl, none_served (CanChange size), same))) (λ sizes. tt) refl refl
 
   pub none_full : WholeStep s (SwapFull k c) (Err NoneFull) s
   none_full = unchanged_whole s s law same (SwapFull k c) (Err NoneFull) (λ h b. refl) (inr (refl, none_served (λ o. BothEmpty o.cpu), same)) (λ sizes. tt) tt refl
@@ -152,7 +152,7 @@ module _ (spaces : List SpaceState) (law : IsStock spaces) (old new : List (List
           setup = record { plans = refl; places = same_places k j _ old new on on.does.place };
         };
         sound = λ sizes. tt;
-        moved = tt;
+        moved = omega (arith, count_sum (cpu_rounds new), count_sum (cpu_rounds old), more (λ x. 1));
         goes = refl;
       }
 
@@ -165,7 +165,7 @@ module _ (spaces : List SpaceState) (law : IsStock spaces) (old new : List (List
       = λ can. on.does.2 (subst (λ x. CanPush t x.arena (x.cache + 1) x) (sym here)
       (subst (λ m. CanPush t m (served.0.cache + 1) served.0) (sym served.1.own.arena) (subst (λ m. CanPush t k (m + 1) served.0) (sym served.1.own.cache) (subst (λ m. CanPush t k m served.0) number can)))) in
       unchanged_whole (beside spaces old) (beside spaces new) law u (Push k c t) (Err (NoRoom same)) (λ h b. ap Some back ∙ sym b)
-      (inr (ap (λ x. Err (NoRoom x)) back, one_served (beside spaces old) k c j (CanPush t k c) number served.0 served.1 cannot, u)) (λ sizes. back) tt refl
+      (inr (ap (λ x. Err (NoRoom x)) back, one_served (beside spaces old) k c j (CanPush t k c) number served.0 served.1 cannot, u)) (λ sizes. back) (ap (λ x. length (cpu_rounds x)) u.cpu) refl
 
   pub change_whole : (size : ℕ) (r : Result (Unit {0}) ChangeFault) → OnOwn k j (OwnChanges size r) old new → WholeStep (beside spaces old) (Change k c size) r (beside spaces new)
   change_whole size (Ok tt) on =
@@ -178,17 +178,17 @@ module _ (spaces : List SpaceState) (law : IsStock spaces) (old new : List (List
           setup = record { plans = refl; places = same_places k j _ old new on on.does.place };
         };
         sound = λ sizes. tt;
-        moved = tt;
+        moved = omega (arith, count_sum (cpu_rounds new), count_sum (cpu_rounds old), sums (λ x. 1));
         goes = refl;
       }
   change_whole size (Err NoMemory) on =
       let u : IsUnchanged (beside spaces old) (beside spaces new) = record { spaces = refl; cpu = same_cpu k j _ old new on on.does } in
-      unchanged_whole (beside spaces old) (beside spaces new) law u (Change k c size) (Err NoMemory) (λ h b. refl) (inr (inl (refl, u))) (λ sizes. tt) tt refl
+      unchanged_whole (beside spaces old) (beside spaces new) law u (Change k c size) (Err NoMemory) (λ h b. refl) (inr (inl (refl, u))) (λ sizes. tt) (ap (λ x. length (cpu_rounds x)) u.cpu) refl
   change_whole size (Err NotGreater) on =
       let here = own_is k j _ old new on served.0 served.1.own in
       let u : IsUnchanged (beside spaces old) (beside spaces new) = record { spaces = refl; cpu = same_cpu k j _ old new on on.does.0 } in
       unchanged_whole (beside spaces old) (beside spaces new) law u (Change k c size) (Err NotGreater) (λ h b. refl)
-      (inr (inr (refl, one_served (beside spaces old) k c j (CanChange size) number served.0 served.1 (λ can. on.does.1 (subst (CanChange size) (sym here) can)), u))) (λ sizes. tt) tt refl
+      (inr (inr (refl, one_served (beside spaces old) k c j (CanChange size) number served.0 served.1 (λ can. on.does.1 (subst (CanChange size) (sym here) can)), u))) (λ sizes. tt) (ap (λ x. length (cpu_rounds x)) u.cpu) refl
   change_whole size (Err Stopped) on = absurd on.does
 
 -- the three exchanges

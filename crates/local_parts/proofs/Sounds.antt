@@ -18,7 +18,7 @@ use Rattle.std.proofs.Math.Nat.{mul-mod_left}
 use Rattle.deed_core.proofs.LawProofs.{power_some, rounds_once}
 use Rattle.tag_arena.specs.Outcomes.{Freed}
 use Rattle.slab_layer.specs.Calls.{ReapOf}
-use Rattle.arena_tree.specs.Sound.{IsFreed, IsSlabSpan}
+use Rattle.arena_tree.specs.Sound.{IsFirstOf, IsFreed, IsSlabSpan}
 use Rattle.stock.specs.Spaces.{HasCache}
 use Rattle.stock.specs.Stocks.{IsFrom}
 use Rattle.stock.specs.Steps.{OnArena, OnSlab, FreeIn, CanImport, IsRoundIn}
@@ -92,6 +92,17 @@ import_grant old new k n sizes span t stock range can on = record {
 
     len : t.holding.range.len ≡ rounded on.space.arena.quantum n
     len = ap (λ (x : Tag). x.holding.range.len) on.does.segment
+
+-- and it is the first of the span
+pub import_first : (old new : List SpaceState) (k n : ℕ) (sizes : List TreeArena) (span t : Tag) → IsStock old → IsRange span.holding.range
+    → ((s : SpaceState) → slice_get old k ≡ Some s → CanImport (plain_of n) span s) → OnArena k (λ a b. ImportOf a span (plain_of n) (Ok t) b) old new
+    → IsFirstOf (tree_of (plans_of old) sizes) k span n t
+import_first old new k n sizes span t stock range can on = record {
+  grant = import_grant old new k n sizes span t stock range can on;
+  root = ap (λ (x : Tag). x.holding.root) on.does.segment;
+  base = ap (λ (x : Tag). x.holding.range.base) on.does.segment;
+  within = (let len = ap (λ (x : Tag). x.holding.range.len) on.does.segment in let more = (can on.space on.at).room in omega (arith, len, more));
+}
 
 some_quantum : (old : List SpaceState) (k : ℕ) (s : SpaceState) → IsStock old → slice_get old k ≡ Some s → 0 < s.arena.quantum
 some_quantum old k s stock at = power_some s.arena.quantum (stock k s at).sound.divided.power

@@ -33,7 +33,7 @@ use Rattle.local_parts.specs.Cpus.{cpu_rounds}
 use Rattle.local_parts.specs.States.{LocalState, Conserves, tree_of}
 use Rattle.local_parts.specs.Words.{in_words, carve_word, import_word, put_word, add_word}
 use Rattle.local_parts.specs.Steps.{Does, WholeStep}
-use Rattle.local_parts.proofs.Sounds.{carve_good, carve_grant, no_fit_good, no_memory_good, bad_request, import_grant, chunk_here, freed_here, slab_here}
+use Rattle.local_parts.proofs.Sounds.{carve_good, carve_grant, no_fit_good, no_memory_good, bad_request, import_first, chunk_here, freed_here, slab_here}
 
 -- where the CPU keeps its rounds, a frame of the stock's is one with them
 pub with_rounds : (old new : List SpaceState) (rounds given left : List Tag) → Frames old given new left → (rest : List Tag) → Accounts old ((given ++ rounds) ++ rest) → Accounts new ((left ++ rounds) ++ rest)
@@ -64,10 +64,10 @@ module _ (old new : List SpaceState) (cpu : List (List OwnCacheState)) (law : Is
   module _ (was : IsStock old) where
     carve_cases : (k : ℕ) (q : Request) (r : Result Tag ArenaFault) → OnArena k (λ x y. CarveOf x q r y) old new → Frames old [] new (hand_after_carve r)
         → WholeStep (beside old cpu) (Carve k q) (in_words carve_word r) (beside new cpu)
-    carve_cases k q (Ok t) on frame = whole (Carve k q) (Ok t) None (Some t) (λ h b. b) (λ h. refl) frame ((Ok t, refl, on), refl) (λ sizes. (carve_good old new k q sizes t on, carve_grant old new k q sizes t was on)) tt refl
-    carve_cases k q (Err arena_fault.BadRequest) on frame = whole (Carve k q) _ None None (λ h b. b) (λ h. refl) frame ((Err arena_fault.BadRequest, refl, on), refl) (λ sizes. bad_request old new k q sizes on) tt refl
-    carve_cases k q (Err arena_fault.NoFit) on frame = whole (Carve k q) _ None None (λ h b. b) (λ h. refl) frame ((Err arena_fault.NoFit, refl, on), refl) (λ sizes. no_fit_good old new k q sizes on) tt refl
-    carve_cases k q (Err arena_fault.NoMemory) on frame = whole (Carve k q) _ None None (λ h b. b) (λ h. refl) frame ((Err arena_fault.NoMemory, refl, on), refl) (λ sizes. no_memory_good old new k q sizes on) tt refl
+    carve_cases k q (Ok t) on frame = whole (Carve k q) (Ok t) None (Some t) (λ h b. b) (λ h. refl) frame ((Ok t, refl, on), refl) (λ sizes. (carve_good old new k q sizes t on, carve_grant old new k q sizes t was on)) refl refl
+    carve_cases k q (Err arena_fault.BadRequest) on frame = whole (Carve k q) _ None None (λ h b. b) (λ h. refl) frame ((Err arena_fault.BadRequest, refl, on), refl) (λ sizes. bad_request old new k q sizes on) refl refl
+    carve_cases k q (Err arena_fault.NoFit) on frame = whole (Carve k q) _ None None (λ h b. b) (λ h. refl) frame ((Err arena_fault.NoFit, refl, on), refl) (λ sizes. no_fit_good old new k q sizes on) refl refl
+    carve_cases k q (Err arena_fault.NoMemory) on frame = whole (Carve k q) _ None None (λ h b. b) (λ h. refl) frame ((Err arena_fault.NoMemory, refl, on), refl) (λ sizes. no_memory_good old new k q sizes on) refl refl
 
     pub carve_whole : (k : ℕ) (q : Request) (r : Result Tag ArenaFault) (a : AnswerTo (Carve k q)) → a ≡ in_words carve_word r → OnArena k (λ x y. CarveOf x q r y) old new → Frames old [] new (hand_after_carve r)
         → WholeStep (beside old cpu) (Carve k q) a (beside new cpu)
@@ -87,10 +87,10 @@ module _ (old new : List SpaceState) (cpu : List (List OwnCacheState)) (law : Is
     import_cases : (k n : ℕ) (span : Tag) → IsRange span.holding.range → ((s : SpaceState) → slice_get old k ≡ Some s → CanImport (plain_of n) span s)
         → (r : Result Tag (SpanFault Tag)) → OnArena k (λ x y. ImportOf x span (plain_of n) r y) old new → Frames old (span ∷ []) new (hand_after_import r)
         → WholeStep (beside old cpu) (AddCarve k span n) (in_words import_word r) (beside new cpu)
-    import_cases k n span range can (Ok t) on frame = whole (AddCarve k span n) (Ok t) (Some span) (Some t) (λ h b. b) (λ h. refl) frame ((Ok t, refl, on), refl) (λ sizes. (import_grant old new k n sizes span t was range can on, tt)) tt refl
-    import_cases k n span range can (Err (span_fault.Overlaps t)) on frame = whole (AddCarve k span n) _ (Some span) (Some t) (λ h b. b) (λ h. refl) frame ((Err (span_fault.Overlaps t), refl, on), refl) (λ sizes. (tt, on.does.0.1)) tt refl
-    import_cases k n span range can (Err (span_fault.NotAligned t)) on frame = whole (AddCarve k span n) _ (Some span) (Some t) (λ h b. b) (λ h. refl) frame ((Err (span_fault.NotAligned t), refl, on), refl) (λ sizes. (tt, on.does.0.2)) tt refl
-    import_cases k n span range can (Err (span_fault.NoMemory t)) on frame = whole (AddCarve k span n) _ (Some span) (Some t) (λ h b. b) (λ h. refl) frame ((Err (span_fault.NoMemory t), refl, on), refl) (λ sizes. (tt, on.does.0.2)) tt refl
+    import_cases k n span range can (Ok t) on frame = whole (AddCarve k span n) (Ok t) (Some span) (Some t) (λ h b. b) (λ h. refl) frame ((Ok t, refl, on), refl) (λ sizes. (import_first old new k n sizes span t was range can on, tt)) refl refl
+    import_cases k n span range can (Err (span_fault.Overlaps t)) on frame = whole (AddCarve k span n) _ (Some span) (Some t) (λ h b. b) (λ h. refl) frame ((Err (span_fault.Overlaps t), refl, on), refl) (λ sizes. (tt, on.does.0.1)) refl refl
+    import_cases k n span range can (Err (span_fault.NotAligned t)) on frame = whole (AddCarve k span n) _ (Some span) (Some t) (λ h b. b) (λ h. refl) frame ((Err (span_fault.NotAligned t), refl, on), refl) (λ sizes. (tt, on.does.0.2)) refl refl
+    import_cases k n span range can (Err (span_fault.NoMemory t)) on frame = whole (AddCarve k span n) _ (Some span) (Some t) (λ h b. b) (λ h. refl) frame ((Err (span_fault.NoMemory t), refl, on), refl) (λ sizes. (tt, on.does.0.2)) refl refl
 
     pub import_whole : (k n : ℕ) (span : Tag) → IsRange span.holding.range → ((s : SpaceState) → slice_get old k ≡ Some s → CanImport (plain_of n) span s)
         → (q : Request) → q ≡ plain_of n → (r : Result Tag (SpanFault Tag)) (a : AnswerTo (AddCarve k span n)) → a ≡ in_words import_word r → OnArena k (λ x y. ImportOf x span q r y) old new → Frames old (span ∷ []) new (hand_after_import r)
@@ -117,37 +117,37 @@ module _ (old new : List SpaceState) (cpu : List (List OwnCacheState)) (law : Is
     module _ (k c j : ℕ) (number : c ≡ j + 1) where
       add_cases : (span : Tag) (r : Result Tag (AddFault Tag)) → OnSlab k j (λ x y. AddOf x span r y) old new → IfOk r (IsRoundIn old k j) → Frames old (span ∷ []) new (hand_after_add r)
           → WholeStep (beside old cpu) (SlabAdd k c span) (in_words add_word r) (beside new cpu)
-      add_cases span (Ok t) on chunk frame = whole (SlabAdd k c span) (Ok t) (Some span) (Some t) (λ h b. b) (λ h. refl) frame (inl (j, number, (Ok t, refl, on)), refl) (λ sizes. (chunk_here old sizes k j c on.space t was on.at number (chunk on.space on.at), tt)) tt refl
-      add_cases span (Err (add_fault.WrongSize t)) on chunk frame = whole (SlabAdd k c span) _ (Some span) (Some t) (λ h b. b) (λ h. refl) frame (inl (j, number, (Err (add_fault.WrongSize t), refl, on)), refl) (λ sizes. (tt, on.does.1.handed_back)) tt refl
-      add_cases span (Err (add_fault.Overlaps t)) on chunk frame = whole (SlabAdd k c span) _ (Some span) (Some t) (λ h b. b) (λ h. refl) frame (inl (j, number, (Err (add_fault.Overlaps t), refl, on)), refl) (λ sizes. (tt, on.does.2.handed_back)) tt refl
-      add_cases span (Err (add_fault.NoMemory t)) on chunk frame = whole (SlabAdd k c span) _ (Some span) (Some t) (λ h b. b) (λ h. refl) frame (inl (j, number, (Err (add_fault.NoMemory t), refl, on)), refl) (λ sizes. (tt, on.does.2.handed_back)) tt refl
+      add_cases span (Ok t) on chunk frame = whole (SlabAdd k c span) (Ok t) (Some span) (Some t) (λ h b. b) (λ h. refl) frame (inl (j, number, (Ok t, refl, on)), refl) (λ sizes. (chunk_here old sizes k j c on.space t was on.at number (chunk on.space on.at), tt)) refl refl
+      add_cases span (Err (add_fault.WrongSize t)) on chunk frame = whole (SlabAdd k c span) _ (Some span) (Some t) (λ h b. b) (λ h. refl) frame (inl (j, number, (Err (add_fault.WrongSize t), refl, on)), refl) (λ sizes. (tt, on.does.1.handed_back)) refl refl
+      add_cases span (Err (add_fault.Overlaps t)) on chunk frame = whole (SlabAdd k c span) _ (Some span) (Some t) (λ h b. b) (λ h. refl) frame (inl (j, number, (Err (add_fault.Overlaps t), refl, on)), refl) (λ sizes. (tt, on.does.2.handed_back)) refl refl
+      add_cases span (Err (add_fault.NoMemory t)) on chunk frame = whole (SlabAdd k c span) _ (Some span) (Some t) (λ h b. b) (λ h. refl) frame (inl (j, number, (Err (add_fault.NoMemory t), refl, on)), refl) (λ sizes. (tt, on.does.2.handed_back)) refl refl
 
       pub add_whole : (span : Tag) (r : Result Tag (AddFault Tag)) (a : AnswerTo (SlabAdd k c span)) → a ≡ in_words add_word r → OnSlab k j (λ x y. AddOf x span r y) old new → IfOk r (IsRoundIn old k j) → Frames old (span ∷ []) new (hand_after_add r)
           → WholeStep (beside old cpu) (SlabAdd k c span) a (beside new cpu)
       add_whole span r a told on chunk frame = subst (λ x. WholeStep (beside old cpu) (SlabAdd k c span) x (beside new cpu)) (sym told) (add_cases span r on chunk frame)
 
       pub take_whole : (o : Option Tag) → OnSlab k j (λ x y. TakeOf x o y) old new → IfSome o (IsRoundIn old k j) → Frames old [] new (option_to_list o) → WholeStep (beside old cpu) (SlabTake k c) (Ok o) (beside new cpu)
-      take_whole None on chunk frame = whole (SlabTake k c) (Ok None) None None (λ h b. b) (λ h. refl) frame ((None, refl, inl (j, number, on)), refl) (λ sizes. tt) tt refl
-      take_whole (Some t) on chunk frame = whole (SlabTake k c) (Ok (Some t)) None (Some t) (λ h b. b) (λ h. refl) frame ((Some t, refl, inl (j, number, on)), refl) (λ sizes. chunk_here old sizes k j c on.space t was on.at number (chunk on.space on.at)) tt refl
+      take_whole None on chunk frame = whole (SlabTake k c) (Ok None) None None (λ h b. b) (λ h. refl) frame ((None, refl, inl (j, number, on)), refl) (λ sizes. tt) refl refl
+      take_whole (Some t) on chunk frame = whole (SlabTake k c) (Ok (Some t)) None (Some t) (λ h b. b) (λ h. refl) frame ((Some t, refl, inl (j, number, on)), refl) (λ sizes. chunk_here old sizes k j c on.space t was on.at number (chunk on.space on.at)) refl refl
 
       pub reap_whole : (o : Option Tag) → OnSlab k j (λ x y. ReapOf x o y) old new → Frames old [] new (option_to_list o) → WholeStep (beside old cpu) (SlabReap k c) (Ok o) (beside new cpu)
-      reap_whole None on frame = whole (SlabReap k c) (Ok None) None None (λ h b. b) (λ h. refl) frame ((None, refl, inl (j, number, on)), refl) (λ sizes. tt) tt refl
-      reap_whole (Some t) on frame = whole (SlabReap k c) (Ok (Some t)) None (Some t) (λ h b. b) (λ h. refl) frame ((Some t, refl, inl (j, number, on)), refl) (λ sizes. slab_here old new sizes k j t was on) tt refl
+      reap_whole None on frame = whole (SlabReap k c) (Ok None) None None (λ h b. b) (λ h. refl) frame ((None, refl, inl (j, number, on)), refl) (λ sizes. tt) refl refl
+      reap_whole (Some t) on frame = whole (SlabReap k c) (Ok (Some t)) None (Some t) (λ h b. b) (λ h. refl) frame ((Some t, refl, inl (j, number, on)), refl) (λ sizes. slab_here old new sizes k j t was on) refl refl
 
       pub depot_reap_whole : (o : Option Tag) → OnDepot k j (λ x y. DepotReapOf x o y) old new → IfSome o (IsRoundIn old k j) → Frames old [] new (option_to_list o) → WholeStep (beside old cpu) (DepotReap k c) (Ok o) (beside new cpu)
-      depot_reap_whole None on chunk frame = whole (DepotReap k c) (Ok None) None None (λ h b. b) (λ h. refl) frame ((None, refl, inl (j, number, on)), refl) (λ sizes. tt) tt refl
-      depot_reap_whole (Some t) on chunk frame = whole (DepotReap k c) (Ok (Some t)) None (Some t) (λ h b. b) (λ h. refl) frame ((Some t, refl, inl (j, number, on)), refl) (λ sizes. chunk_here old sizes k j c on.space t was on.at number (chunk on.space on.at)) tt refl
+      depot_reap_whole None on chunk frame = whole (DepotReap k c) (Ok None) None None (λ h b. b) (λ h. refl) frame ((None, refl, inl (j, number, on)), refl) (λ sizes. tt) refl refl
+      depot_reap_whole (Some t) on chunk frame = whole (DepotReap k c) (Ok (Some t)) None (Some t) (λ h b. b) (λ h. refl) frame ((Some t, refl, inl (j, number, on)), refl) (λ sizes. chunk_here old sizes k j c on.space t was on.at number (chunk on.space on.at)) refl refl
 
 -- where there is no such cache
 module _ (spaces : List SpaceState) (cpu : List (List OwnCacheState)) (law : IsStock spaces) (k c : ℕ) (none : (j : ℕ) → c ≡ j + 1 → ¬ HasCache spaces k j) where
   pub none_taken : WholeStep (beside spaces cpu) (SlabTake k c) (Ok None) (beside spaces cpu)
-  none_taken = whole spaces spaces cpu law refl (SlabTake k c) (Ok None) None None (λ h b. b) (λ h. refl) (λ rest a. a) ((None, refl, inr (none, (refl, refl))), refl) (λ sizes. tt) tt refl
+  none_taken = whole spaces spaces cpu law refl (SlabTake k c) (Ok None) None None (λ h b. b) (λ h. refl) (λ rest a. a) ((None, refl, inr (none, (refl, refl))), refl) (λ sizes. tt) refl refl
 
   pub none_reaped : WholeStep (beside spaces cpu) (SlabReap k c) (Ok None) (beside spaces cpu)
-  none_reaped = whole spaces spaces cpu law refl (SlabReap k c) (Ok None) None None (λ h b. b) (λ h. refl) (λ rest a. a) ((None, refl, inr (none, (refl, refl))), refl) (λ sizes. tt) tt refl
+  none_reaped = whole spaces spaces cpu law refl (SlabReap k c) (Ok None) None None (λ h b. b) (λ h. refl) (λ rest a. a) ((None, refl, inr (none, (refl, refl))), refl) (λ sizes. tt) refl refl
 
   pub no_depot_reaped : WholeStep (beside spaces cpu) (DepotReap k c) (Ok None) (beside spaces cpu)
-  no_depot_reaped = whole spaces spaces cpu law refl (DepotReap k c) (Ok None) None None (λ h b. b) (λ h. refl) (λ rest a. a) ((None, refl, inr (none, (refl, refl))), refl) (λ sizes. tt) tt refl
+  no_depot_reaped = whole spaces spaces cpu law refl (DepotReap k c) (Ok None) None None (λ h b. b) (λ h. refl) (λ rest a. a) ((None, refl, inr (none, (refl, refl))), refl) (λ sizes. tt) refl refl
 
   pub none_added : (t : Tag) → WholeStep (beside spaces cpu) (SlabAdd k c t) (Err (WrongSize t)) (beside spaces cpu)
-  none_added t = whole spaces spaces cpu law refl (SlabAdd k c t) (Err (WrongSize t)) (Some t) (Some t) (λ h b. b) (λ h. refl) (λ rest a. a) (inr (none, (refl, refl)), refl) (λ sizes. (tt, refl)) tt refl
+  none_added t = whole spaces spaces cpu law refl (SlabAdd k c t) (Err (WrongSize t)) (Some t) (Some t) (λ h b. b) (λ h. refl) (λ rest a. a) (inr (none, (refl, refl)), refl) (λ sizes. (tt, refl)) refl refl
