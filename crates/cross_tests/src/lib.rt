@@ -26,6 +26,8 @@ mod base;
 #[cfg(test)]
 mod books;
 #[cfg(test)]
+mod climbs;
+#[cfg(test)]
 mod client;
 #[cfg(test)]
 mod desk;
