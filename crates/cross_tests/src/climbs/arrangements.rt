@@ -1,5 +1,5 @@
 //! A stock, what one CPU keeps of it, and how both are made and end.
-ghost use Rattle.std.specs.Prelude.{◌≡◌, ◌<◌, length, slice_get, Some, IsTrue};
+ghost use Rattle.std.specs.Prelude.{◌≡◌, ℕ, ◌<◌, ◌≤◌, length, slice_get, Some, IsTrue};
 ghost use Rattle.arena_tree.specs.declared.trees.TreeArena.{TreeArena};
 ghost use Rattle.arena_tree.specs.Trees.{nodes_of};
 ghost use Rattle.stock.specs.Spaces.{SpaceState, plans_of};
@@ -103,6 +103,7 @@ fn are_alike(stock: &Stock<PlainDeed>, tree: &Tree, end: usize) -> bool
 }
 
 /// Whether the stock has the arenas of the tree.
+#[tactic(auto, using(crate::proofs::ClimbTrees::same_nodes))]
 pub(super) fn is_set_up_as(stock: &Stock<PlainDeed>, tree: &Tree) -> bool
     ensures { IsTrue result
         → tree_of (plans_of stock.now) tree.now ≡ nodes_of tree.now }

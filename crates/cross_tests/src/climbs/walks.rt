@@ -154,3 +154,136 @@ fn three_levels(rt: HostRuntime) {
     run(&rt, &mut walk, &THREE_LEVELS);
     end(&rt, walk);
 }
+
+/// The second slab has colour 1.
+const COLOURS: [Step; 14] = [
+    Step::Alloc(0, 5, 0),
+    Step::Alloc(0, 5, 5),
+    Step::Alloc(0, 5, 10),
+    Step::Alloc(0, 5, 17),
+    Step::Units(0, 32),
+    Step::Free(0, 0),
+    Step::Free(0, 5),
+    Step::Free(0, 10),
+    Step::Free(0, 17),
+    Step::Drain,
+    Step::Tick,
+    Step::Reap(32),
+    Step::Units(0, 64),
+    Step::Reap(0),
+];
+
+#[test]
+fn colours(rt: HostRuntime) {
+    let mut setup = Setup::new(rt.alloc());
+    set(&rt, &mut setup, root(&rt, "d", 64, 1, Policy::Instant, 5));
+    let mut walk = begin(&rt, rt.alloc(), setup);
+    run(&rt, &mut walk, &COLOURS);
+    end(&rt, walk);
+}
+
+/// Last in, first out.
+const LAST_IN_FIRST_OUT: [Step; 19] = [
+    Step::Alloc(0, 1, 0),
+    Step::Alloc(0, 1, 1),
+    Step::Alloc(0, 1, 2),
+    Step::Alloc(0, 1, 3),
+    Step::Free(0, 0),
+    Step::Free(0, 1),
+    Step::Free(0, 2),
+    Step::Free(0, 3),
+    Step::Alloc(0, 1, 3),
+    Step::Alloc(0, 1, 2),
+    Step::Alloc(0, 1, 1),
+    Step::Alloc(0, 1, 0),
+    Step::Free(0, 0),
+    Step::Free(0, 1),
+    Step::Free(0, 2),
+    Step::Free(0, 3),
+    Step::Drain,
+    Step::Tick,
+    Step::Reap(16),
+];
+
+#[test]
+fn last_in_first_out(rt: HostRuntime) {
+    let mut setup = Setup::new(rt.alloc());
+    set(&rt, &mut setup, root(&rt, "d", 64, 1, Policy::Instant, 5));
+    let mut walk = begin(&rt, rt.alloc(), setup);
+    run(&rt, &mut walk, &LAST_IN_FIRST_OUT);
+    end(&rt, walk);
+}
+
+/// Seven rounds fill two magazines, and a third one goes to the depot.
+const REAPED: [Step; 20] = [
+    Step::Alloc(0, 1, 0),
+    Step::Alloc(0, 1, 1),
+    Step::Alloc(0, 1, 2),
+    Step::Alloc(0, 1, 3),
+    Step::Alloc(0, 1, 4),
+    Step::Alloc(0, 1, 5),
+    Step::Alloc(0, 1, 6),
+    Step::Free(0, 0),
+    Step::Free(0, 1),
+    Step::Free(0, 2),
+    Step::Free(0, 3),
+    Step::Free(0, 4),
+    Step::Free(0, 5),
+    Step::Free(0, 6),
+    Step::Units(0, 48),
+    Step::Drain,
+    Step::Tick,
+    Step::Reap(16),
+    Step::Alloc(0, 64, 0),
+    Step::Free(0, 0),
+];
+
+#[test]
+fn reaped(rt: HostRuntime) {
+    let mut setup = Setup::new(rt.alloc());
+    set(&rt, &mut setup, root(&rt, "d", 64, 1, Policy::Instant, 5));
+    let mut walk = begin(&rt, rt.alloc(), setup);
+    run(&rt, &mut walk, &REAPED);
+    end(&rt, walk);
+}
+
+/// Where no slab fits, the size itself is carved.
+const NO_ROOM_FOR_A_SLAB: [Step; 5] = [
+    Step::Alloc(0, 3, 0),
+    Step::Alloc(0, 2, 3),
+    Step::Free(0, 3),
+    Step::Units(0, 5),
+    Step::Free(0, 0),
+];
+
+#[test]
+fn no_room_for_a_slab(rt: HostRuntime) {
+    let mut setup = Setup::new(rt.alloc());
+    set(&rt, &mut setup, root(&rt, "s", 8, 1, Policy::Instant, 2));
+    let mut walk = begin(&rt, rt.alloc(), setup);
+    run(&rt, &mut walk, &NO_ROOM_FOR_A_SLAB);
+    end(&rt, walk);
+}
+
+/// Four arenas: a climb that goes well takes seven steps, one that finds no room four, and what
+/// goes back four.
+const FOUR_LEVELS: [Step; 6] = [
+    Step::NoFit(3, 9),
+    Step::Steps(4),
+    Step::Climb(3, 8, 0),
+    Step::Steps(7),
+    Step::HandBack(3, 0),
+    Step::Steps(4),
+];
+
+#[test]
+fn four_levels(rt: HostRuntime) {
+    let mut setup = Setup::new(rt.alloc());
+    set(&rt, &mut setup, root(&rt, "a", 8, 1, Policy::Best, 0));
+    set(&rt, &mut setup, child(&rt, "b", "a", 1, 0));
+    set(&rt, &mut setup, child(&rt, "c", "b", 1, 0));
+    set(&rt, &mut setup, child(&rt, "d", "c", 1, 0));
+    let mut walk = begin(&rt, rt.alloc(), setup);
+    run(&rt, &mut walk, &FOUR_LEVELS);
+    end(&rt, walk);
+}
