@@ -138,16 +138,28 @@ fn add_cache(rt: &impl Abort, alloc: Global, stock: &mut Stock<PlainDeed>, place
         .expect(rt, "a cache");
 }
 
+/// Adds the caches of the arena at the place, which has none.
+fn add_caches(
+    rt: &impl Abort,
+    alloc: Global,
+    stock: &mut Stock<PlainDeed>,
+    place: usize,
+    arena: &TreeArena,
+) {
+    let quantum = arena.quantum;
+    assert!(rt; quantum != 0);
+    for _cache in 0..arena.qcache_max / quantum {
+        add_cache(rt, alloc, stock, place, arena.slab_size);
+    }
+}
+
 /// The stock of a tree, whose first arena owns the range.
 fn stock_of(rt: &impl Abort, alloc: Global, tree: &Tree, range: Range) -> Stock<PlainDeed> {
     let mut stock = Stock::new(alloc);
-    for (place, arena) in tree.arenas().iter().enumerate() {
+    for place in 0..tree.len() {
+        let arena = tree.arena(place as u32);
         add_arena(rt, alloc, &mut stock, arena);
-        let quantum = arena.quantum;
-        assert!(rt; quantum != 0);
-        for _cache in 0..arena.qcache_max / quantum {
-            add_cache(rt, alloc, &mut stock, place, arena.slab_size);
-        }
+        add_caches(rt, alloc, &mut stock, place, arena);
     }
     own(rt, &mut stock, range);
     stock
