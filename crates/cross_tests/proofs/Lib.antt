@@ -1,1 +1,2 @@
 mod ClimbTrees
+mod ClimbNames

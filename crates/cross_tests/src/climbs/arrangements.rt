@@ -127,15 +127,19 @@ fn add_arena(rt: &impl Abort, alloc: Global, stock: &mut Stock<PlainDeed>, arena
 }
 
 /// Adds the next cache of an arena.
-fn add_cache(rt: &impl Abort, alloc: Global, stock: &mut Stock<PlainDeed>, place: usize, slab: u64) {
+fn add_cache(
+    rt: &impl Abort,
+    alloc: Global,
+    stock: &mut Stock<PlainDeed>,
+    place: usize,
+    slab: u64,
+) {
     assert!(rt; place < stock.count());
     let count = stock.cache_count(place);
     assert!(rt; count < 16);
     let least = (count as u128 + 1) * u128::from(stock.quantum(place));
     assert!(rt; least <= u128::from(slab));
-    stock
-        .add_cache(alloc, place, slab, 3)
-        .expect(rt, "a cache");
+    stock.add_cache(alloc, place, slab, 3).expect(rt, "a cache");
 }
 
 /// Adds the caches of the arena at the place, which has none.
