@@ -8,7 +8,7 @@
 //! rows of requests to a book of leases, `lines` has lines, replies and streams of the protocol,
 //! `client` what a client's core says to replies, `desk` what a desk answers, and `serving` streams
 //! of lines, failing ones too. `tree` has setups of arenas, what is refused of them, and the chains
-//! that they make. `climbs` has imports over one thread's parts, with the locked steps of each call.
+//! that they make. `climbs` has imports over one thread's parts, with the locked steps of each.
 //! `seat_deeds` has an arena over the deeds of running threads. `promises` cites
 //! what the layers above reckon with: one function for each call or law of the arena, the slab
 //! cache and the magazines, whose contract only its callee's clauses carry.
