@@ -1,0 +1,2 @@
+mod ClimbTrees
+mod ClimbNames

@@ -1,0 +1,72 @@
+//! One function for each call. Each makes sure that the stock has the tree's arenas, and keeps how
+//! many locked steps it took.
+use super::arrangements::{Walk, is_set_up_as};
+use arena_tree::{ClimbFault, climb_alloc, climb_free};
+use deed_core::{PlainDeed, Segment};
+use local_parts::Local;
+use std::process::Abort;
+
+/// What an allocation or a climb ended with: a segment, or that nothing fits.
+type Given = Result<Segment<PlainDeed>, ClimbFault<Segment<PlainDeed>>>;
+
+/// How many locked steps there were.
+fn steps_of(parts: Local<PlainDeed>) -> u64 {
+    let Local {
+        stock: _,
+        cpu: _,
+        tree: _,
+        alloc: _,
+        steps,
+    } = parts;
+    steps
+}
+
+/// A segment that was given; none where no arena of the chain has room.
+fn given(rt: &impl Abort, answer: Given) -> Option<Segment<PlainDeed>> {
+    match answer {
+        Ok(segment) => Some(segment),
+        Err(ClimbFault::NoFit) => None,
+        Err(_) => panic!(rt; "refused"),
+    }
+}
+
+/// So many units by a climb alone.
+pub(super) fn climb(
+    rt: &impl Abort,
+    walk: &mut Walk,
+    arena: u32,
+    size: u64,
+) -> Option<Segment<PlainDeed>> {
+    assert!(rt; is_set_up_as(&walk.stock, &walk.tree));
+    assert!(rt; (arena as usize) < walk.tree.len());
+    let mut parts = Local {
+        stock: &mut walk.stock,
+        cpu: &mut walk.cpu,
+        tree: &walk.tree,
+        alloc: walk.alloc,
+        steps: 0,
+    };
+    let answer = climb_alloc(&mut parts, walk.tree.chain(arena), size);
+    walk.steps = steps_of(parts);
+    given(rt, answer)
+}
+
+/// Hands a segment back by a climb alone.
+pub(super) fn hand_back(rt: &impl Abort, walk: &mut Walk, segment: Segment<PlainDeed>) {
+    let arena = segment.arena();
+    assert!(rt; is_set_up_as(&walk.stock, &walk.tree));
+    assert!(rt; (arena as usize) < walk.tree.len());
+    let mut parts = Local {
+        stock: &mut walk.stock,
+        cpu: &mut walk.cpu,
+        tree: &walk.tree,
+        alloc: walk.alloc,
+        steps: 0,
+    };
+    let answer = climb_free(&mut parts, walk.tree.chain(arena), segment);
+    walk.steps = steps_of(parts);
+    match answer {
+        Ok(()) => {}
+        Err(_) => panic!(rt; "a refused segment"),
+    }
+}
