@@ -8,7 +8,7 @@ ghost use Rattle.stock_audit.specs.Outside.{outside, segments_out};
 use deed_core::{Deed, PlainDeed, Range, Request, Route, Segment};
 use std::alloc::Global;
 use std::process::Abort;
-use stock::{Space, Stock};
+use stock::{Stock, StockSetup};
 use stock_audit::{ArenaSums, audit};
 use tag_arena::Policy;
 
@@ -16,19 +16,17 @@ use tag_arena::Policy;
 fn begin(rt: &impl Abort, alloc: Global) -> Stock<PlainDeed>
     ensures balances { Accounts result [] }
 {
-    let mut stock = Stock::new(alloc);
-    stock
-        .add_arena(alloc, None, 1, Policy::Best)
-        .expect(rt, "a root");
+    let mut setup = StockSetup::new(alloc);
+    setup.add_arena(None, 1, Policy::Best).expect(rt, "a root");
     let range = Range::new(0, 64).expect(rt, "a range");
-    match stock.add_span(0, PlainDeed::new(0, range)) {
+    match setup.add_span(0, PlainDeed::new(0, range)) {
         Ok(()) => {}
         Err(_) => panic!(rt; "a span"),
     }
-    stock
-        .add_arena(alloc, Some(0), 1, Policy::Best)
+    setup
+        .add_arena(Some(0), 1, Policy::Best)
         .expect(rt, "a child");
-    stock
+    setup.finish()
 }
 
 /// So many units of an arena.
@@ -109,23 +107,9 @@ fn end(rt: &impl Abort, mut stock: Stock<PlainDeed>) {
     assert!(rt; stock.count() == 2);
     let deed = stock.remove_owned(0).expect(rt, "a root");
     assert_eq!(rt; deed.close().len(), 64);
-    for _ in 0..2 {
-        end_space(rt, stock.take_last().expect(rt, "an arena"));
-    }
     match stock.close() {
         Ok(()) => {}
-        Err(_) => panic!(rt; "an arena is left"),
-    }
-}
-
-/// Ends an arena that holds nothing.
-fn end_space(rt: &impl Abort, space: Space<PlainDeed>) {
-    let (arena, caches) = space.into_parts();
-    assert!(rt; caches.is_empty());
-    caches.destroy_empty();
-    match arena.close() {
-        Ok(()) => {}
-        Err(_) => panic!(rt; "a free range"),
+        Err(_) => panic!(rt; "a deed is left"),
     }
 }
 

@@ -5,9 +5,9 @@ use Rattle.std.specs.Option.{option_or}
 use Rattle.std.proofs.lemmas.List.{drop-append-le, drop_all}
 use Rattle.std.proofs.lemmas.List.Folds.{find-append}
 use Rattle.std.proofs.Math.Seq.{drop-cons, drop-append-add}
-use Rattle.sorted_rows.specs.Order.{below, IsPlace}
+use Rattle.sorted_rows.specs.Order.{place_below, IsRankAt}
 use Rattle.sorted_rows.specs.Layout.{flat, IsLaid, IsSeat}
-use Rattle.sorted_rows.specs.Weights.{greatest, weighs, heavy_from}
+use Rattle.sorted_rows.specs.Weights.{greatest_weight, weighs, heavy_from}
 use Rattle.sorted_rows.proofs.PlaceLemmas.{below_is}
 use Rattle.sorted_rows.proofs.RowLemmas.{flat_at, any_of, place_in_seat}
 use Rattle.sorted_rows.proofs.WeightLemmas.{find_none}
@@ -37,14 +37,14 @@ module _ {X : Type 0} (p : X → Bool) where
 
 module _ {X : Type 0} (rank weight : X → ℕ) where
   -- a row whose greatest weight is too small
-  pub light_row : (least : ℕ) (r : List X) → greatest weight r < least → None ≡ find (weighs weight least) r
+  pub light_row : (least : ℕ) (r : List X) → greatest_weight weight r < least → None ≡ find (weighs weight least) r
   light_row least r lt = sym (find_none weight least r lt)
 
   -- what stands from the place of a key on, in its row and behind
-  pub from_place : (key : ℕ) (rows : List (List X)) (i q : ℕ) (r : List X) → IsLaid rank rows → i < length rows → r ≡ get_or rows i r → IsSeat rank key rows i → IsPlace rank key r q
-      → drop (below rank key (flat rows)) (flat rows) ≡ drop q r ++ flat (drop (suc i) rows)
+  pub from_place : (key : ℕ) (rows : List (List X)) (i q : ℕ) (r : List X) → IsLaid rank rows → i < length rows → r ≡ get_or rows i r → IsSeat rank key rows i → IsRankAt rank key r q
+      → drop (place_below rank key (flat rows)) (flat rows) ≡ drop q r ++ flat (drop (suc i) rows)
   from_place key rows i q r laid lt e seat place =
-      let at = place_in_seat rank key rows i q r lt seat (subst (λ xs. IsPlace rank key xs q) e place) in
+      let at = place_in_seat rank key rows i q r lt seat (subst (λ xs. IsRankAt rank key xs q) e place) in
       let a = flat (take i rows) in
       let b = flat (drop (suc i) rows) in
       let whole : flat rows ≡ a ++ (r ++ b) = rw e (flat_at rows i r lt) in
@@ -52,12 +52,12 @@ module _ {X : Type 0} (rank weight : X → ℕ) where
       let is = below_is rank key (flat rows) _ (any_of r 0 some) at in
       ap (λ n. drop n (flat rows)) is ∙ (ap (drop (length a + q)) whole ∙ (drop-append-add a (r ++ b) q ∙ drop-append-le q r b place.within))
 
-  pub heavy_here : (key least : ℕ) (rows : List (List X)) (i q : ℕ) (r : List X) (x : X) → IsLaid rank rows → i < length rows → r ≡ get_or rows i r → IsSeat rank key rows i → IsPlace rank key r q
+  pub heavy_here : (key least : ℕ) (rows : List (List X)) (i q : ℕ) (r : List X) (x : X) → IsLaid rank rows → i < length rows → r ≡ get_or rows i r → IsSeat rank key rows i → IsRankAt rank key r q
       → Some x ≡ find (weighs weight least) (drop q r) → Some x ≡ heavy_from rank weight key least (flat rows)
   heavy_here key least rows i q r x laid lt e seat place is =
       found_first (weighs weight least) (drop q r) (flat (drop (suc i) rows)) x is ∙ ap (find (weighs weight least)) (sym (from_place key rows i q r laid lt e seat place))
 
-  pub heavy_behind : (key least : ℕ) (rows : List (List X)) (i q : ℕ) (r : List X) (o : Option X) → IsLaid rank rows → i < length rows → r ≡ get_or rows i r → IsSeat rank key rows i → IsPlace rank key r q
+  pub heavy_behind : (key least : ℕ) (rows : List (List X)) (i q : ℕ) (r : List X) (o : Option X) → IsLaid rank rows → i < length rows → r ≡ get_or rows i r → IsSeat rank key rows i → IsRankAt rank key r q
       → None ≡ find (weighs weight least) (drop q r) → o ≡ find (weighs weight least) (flat (drop (i + 1) rows)) → o ≡ heavy_from rank weight key least (flat rows)
   heavy_behind key least rows i q r o laid lt e seat place is behind =
       let next : i + 1 ≡ suc i = omega arith in

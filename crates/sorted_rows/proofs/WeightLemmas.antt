@@ -5,49 +5,49 @@ use Rattle.std.proofs.Math.Seq.{drop-cons}
 use Rattle.std.specs.List.{find}
 use Rattle.std.specs.Option.{option_or}
 use Rattle.std.proofs.lemmas.List.Folds.{find-append}
-use Rattle.sorted_rows.specs.Weights.{greatest, weighs}
+use Rattle.sorted_rows.specs.Weights.{greatest_weight, weighs}
 
 module _ {X : Type 0} (weight : X → ℕ) where
-  pub greatest_none : greatest weight [] ≡ 0
-  unfolding greatest
+  pub greatest_none : greatest_weight weight [] ≡ 0
+  unfolding greatest_weight
   greatest_none = refl
 
-  greatest_head : (x : X) (xs : List X) → greatest weight (x ∷ xs) ≡ max (weight x) (greatest weight xs)
-  unfolding greatest
+  greatest_head : (x : X) (xs : List X) → greatest_weight weight (x ∷ xs) ≡ max (weight x) (greatest_weight weight xs)
+  unfolding greatest_weight
   greatest_head x xs = refl
 
-  pub greatest_append : (xs ys : List X) → greatest weight (xs ++ ys) ≡ max (greatest weight xs) (greatest weight ys)
-  greatest_append [] ys = let h : greatest weight ([] ++ ys) ≡ greatest weight ys = refl in omega (arith, h, greatest_none)
+  pub greatest_append : (xs ys : List X) → greatest_weight weight (xs ++ ys) ≡ max (greatest_weight weight xs) (greatest_weight weight ys)
+  greatest_append [] ys = let h : greatest_weight weight ([] ++ ys) ≡ greatest_weight weight ys = refl in omega (arith, h, greatest_none)
   greatest_append (x ∷ xs) ys =
       let h = greatest_append xs ys in
-      let e : greatest weight ((x ∷ xs) ++ ys) ≡ greatest weight (x ∷ (xs ++ ys)) = refl in
+      let e : greatest_weight weight ((x ∷ xs) ++ ys) ≡ greatest_weight weight (x ∷ (xs ++ ys)) = refl in
       omega (arith, h, e, greatest_head x xs, greatest_head x (xs ++ ys))
 
-  pub greatest_insert : (xs : List X) (p : ℕ) (x : X) → greatest weight (insert xs p x) ≡ max (weight x) (greatest weight xs)
+  pub greatest_insert : (xs : List X) (p : ℕ) (x : X) → greatest_weight weight (insert xs p x) ≡ max (weight x) (greatest_weight weight xs)
   greatest_insert xs p x =
       let parts = greatest_append (take p xs) (drop p xs) in
-      let whole = ap (greatest weight) (take-append-drop p xs) in
+      let whole = ap (greatest_weight weight) (take-append-drop p xs) in
       let out = greatest_append (take p xs) (x ∷ drop p xs) in
       omega (arith, parts, whole, out, greatest_head x (drop p xs))
 
-  pub greatest_remove : (xs : List X) (p : ℕ) (d : X) → p < length xs → greatest weight xs ≡ max (weight (get_or xs p d)) (greatest weight (remove xs p))
+  pub greatest_remove : (xs : List X) (p : ℕ) (d : X) → p < length xs → greatest_weight weight xs ≡ max (weight (get_or xs p d)) (greatest_weight weight (remove xs p))
   greatest_remove xs p d lt =
       let parts = greatest_append (take p xs) (drop p xs) in
-      let whole = ap (greatest weight) (take-append-drop p xs) in
-      let head = ap (greatest weight) (drop-cons xs p d lt) in
+      let whole = ap (greatest_weight weight) (take-append-drop p xs) in
+      let head = ap (greatest_weight weight) (drop-cons xs p d lt) in
       let out = greatest_append (take p xs) (drop (suc p) xs) in
       omega (arith, parts, whole, head, out, greatest_head (get_or xs p d) (drop (suc p) xs))
 
   -- one more of the first ones
-  pub greatest_more : (xs : List X) (k : ℕ) (d : X) → k < length xs → greatest weight (drop k xs) ≡ max (weight (get_or xs k d)) (greatest weight (drop (suc k) xs))
-  greatest_more xs k d lt = ap (greatest weight) (drop-cons xs k d lt) ∙ greatest_head _ _
+  pub greatest_more : (xs : List X) (k : ℕ) (d : X) → k < length xs → greatest_weight weight (drop k xs) ≡ max (weight (get_or xs k d)) (greatest_weight weight (drop (suc k) xs))
+  greatest_more xs k d lt = ap (greatest_weight weight) (drop-cons xs k d lt) ∙ greatest_head _ _
 
-  pub greatest_before : (xs : List X) (k : ℕ) (x : X) (top : ℕ) → 0 < k → k ≤ length xs → x ≡ get_or xs (k - 1) x → top ≡ greatest weight (drop k xs) → greatest weight (drop (k - 1) xs) ≡ max (weight x) top
+  pub greatest_before : (xs : List X) (k : ℕ) (x : X) (top : ℕ) → 0 < k → k ≤ length xs → x ≡ get_or xs (k - 1) x → top ≡ greatest_weight weight (drop k xs) → greatest_weight weight (drop (k - 1) xs) ≡ max (weight x) top
   greatest_before xs k x top some within is rest =
       let more = greatest_more xs (k - 1) x (omega arith) in
       let here = ap weight is in
       let next : suc (k - 1) ≡ k = omega arith in
-      let same = ap (λ n. greatest weight (drop n xs)) next in
+      let same = ap (λ n. greatest_weight weight (drop n xs)) next in
       omega (arith, more, here, same, rest)
 
   -- a search that has come to `k`
@@ -58,7 +58,7 @@ module _ {X : Type 0} (weight : X → ℕ) where
   find_next p xs k d lt is = rw (drop-cons xs k d lt, is) refl
 
   -- where none weighs so much, none is found
-  pub find_none : (least : ℕ) (xs : List X) → greatest weight xs < least → find (weighs weight least) xs ≡ None
+  pub find_none : (least : ℕ) (xs : List X) → greatest_weight weight xs < least → find (weighs weight least) xs ≡ None
   find_none least [] lt = refl
   find_none least (x ∷ xs) lt =
       let head = greatest_head x xs in
@@ -67,19 +67,19 @@ module _ {X : Type 0} (weight : X → ℕ) where
       search (rules, light, rest)
 
   -- the greatest weight after an entry was put in,
-  pub top_grows : (xs : List X) (p : ℕ) (x : X) (top w : ℕ) → top ≡ greatest weight xs → w ≡ weight x → top < w → w ≡ greatest weight (insert xs p x)
+  pub top_grows : (xs : List X) (p : ℕ) (x : X) (top w : ℕ) → top ≡ greatest_weight weight xs → w ≡ weight x → top < w → w ≡ greatest_weight weight (insert xs p x)
   top_grows xs p x top w is heavy more = let h = greatest_insert xs p x in omega (arith, h, is, heavy)
 
-  pub top_stays : (xs : List X) (p : ℕ) (x : X) (top w : ℕ) → top ≡ greatest weight xs → w ≡ weight x → w ≤ top → top ≡ greatest weight (insert xs p x)
+  pub top_stays : (xs : List X) (p : ℕ) (x : X) (top w : ℕ) → top ≡ greatest_weight weight xs → w ≡ weight x → w ≤ top → top ≡ greatest_weight weight (insert xs p x)
   top_stays xs p x top w is heavy less = let h = greatest_insert xs p x in omega (arith, h, is, heavy)
 
   -- after one was taken out that weighs less,
-  pub top_left : (xs : List X) (p : ℕ) (x : X) (top w : ℕ) → top ≡ greatest weight xs → w ≡ weight x → p < length xs → x ≡ get_or xs p x → w ≢ top → top ≡ greatest weight (remove xs p)
+  pub top_left : (xs : List X) (p : ℕ) (x : X) (top w : ℕ) → top ≡ greatest_weight weight xs → w ≡ weight x → p < length xs → x ≡ get_or xs p x → w ≢ top → top ≡ greatest_weight weight (remove xs p)
   top_left xs p x top w is heavy lt at other =
       let h = greatest_remove xs p x lt in
       let here = ap weight at in
       omega (arith, h, is, heavy, here, other)
 
   -- and after further ones were put behind
-  pub top_joined : (xs ys : List X) (top more most : ℕ) → top ≡ greatest weight xs → more ≡ greatest weight ys → most ≡ max top more → most ≡ greatest weight (xs ++ ys)
+  pub top_joined : (xs ys : List X) (top more most : ℕ) → top ≡ greatest_weight weight xs → more ≡ greatest_weight weight ys → most ≡ max top more → most ≡ greatest_weight weight (xs ++ ys)
   top_joined xs ys top more most is are so = let h = greatest_append xs ys in omega (arith, h, is, are, so)

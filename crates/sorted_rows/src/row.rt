@@ -2,8 +2,8 @@
 ghost use Rattle.std.specs.Prelude.{◌≡◌, ◌+◌, ◌<◌, ◌≤◌, [], ◌++◌, length, take, drop, insert};
 ghost use Rattle.std.specs.Prelude.{remove, slice_index_or, max, IfOk};
 ghost use Rattle.std.specs.List.{find};
-ghost use Rattle.sorted_rows.specs.Order.{Rises, IsPlace, FirstIs};
-ghost use Rattle.sorted_rows.specs.Weights.{greatest, weighs};
+ghost use Rattle.sorted_rows.specs.Order.{Rises, IsRankAt, FirstIs};
+ghost use Rattle.sorted_rows.specs.Weights.{greatest_weight, weighs};
 
 use crate::entries::RowEntry;
 use std::alloc::{AllocError, Global};
@@ -24,14 +24,14 @@ pub struct Row<T: RowEntry> {
 impl<T: RowEntry> Model for Row<T> {
     ghost use Rattle.std.specs.Prelude.{◌≡◌, ◌≤◌, List, vec_len, vec_capacity};
     ghost use Rattle.sorted_rows.specs.Order.{FirstIs};
-    ghost use Rattle.sorted_rows.specs.Weights.{greatest};
+    ghost use Rattle.sorted_rows.specs.Weights.{greatest_weight};
 
     ghost Value = { List T };
 
     ghost view = { λ r. r.items.items };
 
     ghost invariant = { λ r. (vec_len r.items ≤ 64) × (64 ≤ vec_capacity r.items)
-        × FirstIs T.rank r.first r.items.items × (r.top ≡ greatest T.weight r.items.items) };
+        × FirstIs T.rank r.first r.items.items × (r.top ≡ greatest_weight T.weight r.items.items) };
 }
 
 impl<T: RowEntry> Row<T> {
@@ -73,7 +73,7 @@ impl<T: RowEntry> Row<T> {
 
     /// The greatest weight of its entries; 0 where there is none.
     pub fn top(&self) -> u64
-        ensures { result ≡ greatest T.weight self.now }
+        ensures { result ≡ greatest_weight T.weight self.now }
     {
         self.top
     }
@@ -88,7 +88,7 @@ impl<T: RowEntry> Row<T> {
     /// How many entries stand below the key.
     pub fn below(&self, key: u128) -> usize
         requires { Rises T.rank self.now }
-        ensures { IsPlace T.rank key self.now result }
+        ensures { IsRankAt T.rank key self.now result }
     {
         below_in(&self.items, key)
     }
@@ -160,7 +160,7 @@ impl<T: RowEntry> Row<T> {
 /// How many entries stand below the key.
 fn below_in<T: RowEntry>(items: &[T], key: u128) -> usize
     requires { Rises T.rank items.now }
-    ensures { IsPlace T.rank key items.now result }
+    ensures { IsRankAt T.rank key items.now result }
 {
     let mut low = 0;
     let mut high = items.len();
@@ -194,7 +194,7 @@ fn greater(one: u64, other: u64) -> u64
 
 /// The greatest weight.
 fn greatest_in<T: RowEntry>(items: &[T]) -> u64
-    ensures { result ≡ greatest T.weight items.now }
+    ensures { result ≡ greatest_weight T.weight items.now }
 {
     let mut top = 0;
     let mut at = items.len();

@@ -1,6 +1,6 @@
 //! The list.
 ghost use Rattle.std.specs.Prelude.{◌≡◌, ◌≢◌, ◌<◌, ◌≤◌, [], length, max, All, Any, OnOk, OnErr};
-ghost use Rattle.sorted_rows.specs.Order.{Rises, PutsIn, TakesOut, StandsAt, first_from};
+ghost use Rattle.sorted_rows.specs.Order.{Rises, PutsIn, TakesOut, StandsAtKey, first_from};
 ghost use Rattle.sorted_rows.specs.Weights.{heavy_from};
 
 use crate::entries::RowEntry;
@@ -109,7 +109,7 @@ impl<T: RowEntry> Rows<T> {
     pub fn remove(&mut self, key: u128) -> T
         requires present { Any (λ x. T.rank x ≡ key) self.old.items }
         ensures items { TakesOut T.rank key self.old.items self.new.items }
-        ensures value { StandsAt T.rank key result self.old.items }
+        ensures value { StandsAtKey T.rank key result self.old.items }
         ensures room { self.new.room ≡ self.old.room }
     {
         let entry = take(&mut self.rows, &mut self.spare, key);

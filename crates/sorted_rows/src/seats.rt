@@ -1,7 +1,7 @@
 //! Rows of one list: where a key belongs, and how rows are edited, split and joined.
 ghost use Rattle.std.specs.Prelude.{◌≡◌, ◌≢◌, ◌+◌, ◌<◌, ◌≤◌, ℕ, suc, [], ◌∷◌, length, All, Any};
 ghost use Rattle.std.specs.Prelude.{IsTrue, ◌⊎◌, ◌↔◌, slice_index_or, vec_len, vec_capacity};
-ghost use Rattle.sorted_rows.specs.Order.{PutsIn, TakesOut, StandsAt, first_from};
+ghost use Rattle.sorted_rows.specs.Order.{PutsIn, TakesOut, StandsAtKey, first_from};
 ghost use Rattle.sorted_rows.specs.Layout.{flat, Short, IsLaid, IsLoose, IsSeat};
 
 use crate::entries::RowEntry;
@@ -130,7 +130,7 @@ fn remove_in<T: RowEntry>(rows: &mut Vec<Row<T>>, seat: usize, key: u128) -> T
     ensures loose { IsLoose T.rank seat rows.new.items }
     ensures short { Short rows.new.items }
     ensures items { TakesOut T.rank key (flat rows.old.items) (flat rows.new.items) }
-    ensures value { StandsAt T.rank key result (flat rows.old.items) }
+    ensures value { StandsAtKey T.rank key result (flat rows.old.items) }
     ensures size { length (flat rows.new.items) + 1 ≡ length (flat rows.old.items) }
     ensures len { vec_len rows.new ≡ vec_len rows.old }
     ensures capacity { vec_capacity rows.new ≡ vec_capacity rows.old }
@@ -210,7 +210,7 @@ pub fn take<T: RowEntry>(rows: &mut Vec<Row<T>>, spare: &mut Vec<Row<T>>, key: u
     ensures laid { IsLaid T.rank rows.new.items }
     ensures short { Short rows.new.items }
     ensures items { TakesOut T.rank key (flat rows.old.items) (flat rows.new.items) }
-    ensures value { StandsAt T.rank key result (flat rows.old.items) }
+    ensures value { StandsAtKey T.rank key result (flat rows.old.items) }
     ensures size { length (flat rows.new.items) + 1 ≡ length (flat rows.old.items) }
     ensures spare { All (λ r. r ≡ []) spare.new.items }
     ensures len { vec_len rows.new + vec_len spare.new ≡ vec_len rows.old + vec_len spare.old }

@@ -1,13 +1,13 @@
 use Rattle.std.proofs.Common.{length, ap, refl, ◌∙◌, sym, arith}
 use Rattle.std.proofs.lemmas.List.{drop_all}
-use Rattle.sorted_rows.specs.Weights.{greatest}
+use Rattle.sorted_rows.specs.Weights.{greatest_weight}
 use Rattle.sorted_rows.proofs.WeightLemmas.{greatest_before, greatest_none}
 use Rattle.sorted_rows.proofs.row.greatest_in.Goals as goal
 
 pub loop-at-init : goal.loop-at-init
 loop-at-init g c = record {
   within = omega arith;
-  top = sym (ap (greatest g.T.RowEntry.weight) (drop_all (length c.args.items.now) c.args.items.now (omega arith)) ∙ greatest_none g.T.RowEntry.weight);
+  top = sym (ap (greatest_weight g.T.RowEntry.weight) (drop_all (length c.args.items.now) c.args.items.now (omega arith)) ∙ greatest_none g.T.RowEntry.weight);
 }
 
 pub loop-at-preserved-then-weight-top : goal.loop-at-preserved-then-weight-top

@@ -1,0 +1,46 @@
+-- Whatever happens, a world stays one.
+use Rattle.std.proofs.Common.{List, [], ◌∷◌, ◌++◌, refl, sym, subst, inl, inr}
+use Rattle.world_core.specs.declared.events.WorldEvent.{WorldEvent}
+use Rattle.world_core.specs.declared.events.WorldEvent.TheVariants as events
+use Rattle.world_core.specs.declared.events.Outcome.{Outcome}
+use Rattle.world_core.specs.declared.events.Outcome.TheVariants.{Done, NotEnabled, NoMemory}
+use Rattle.world_core.specs.WorldState.{WorldState}
+use Rattle.world_core.specs.IsWorld.{IsWorld}
+use Rattle.world_core.specs.Events.{MovesBy, EndsAs, HappensTo}
+use Rattle.world_core.proofs.TalkLemmas.{restart_keeps, send_keeps, resend_keeps, hear_keeps}
+use Rattle.world_core.proofs.BookingLemmas.{hello_taken_keeps, hello_refused_keeps, answered_keeps, taken_keeps, granted_keeps, refused_keeps, released_keeps, ended_keeps, swept_keeps}
+
+pub moves_keep : (event : WorldEvent) (w v : WorldState) → IsWorld w → MovesBy event w v → IsWorld v
+moves_keep (events.Restarts c i) w v is m = restart_keeps c i w v is m
+moves_keep (events.Says c op) w v is m = send_keeps c op w v is m
+moves_keep (events.Repeats c) w v is m = resend_keeps c w v is m
+moves_keep (events.Hears c which) w v is m = hear_keeps c which w v is m
+moves_keep (events.Looks cpu which) w v is (inl m) = hello_taken_keeps which w v is m
+moves_keep (events.Looks cpu which) w v is (inr (inl m)) = hello_refused_keeps which w v is m
+moves_keep (events.Looks cpu which) w v is (inr (inr (inl m))) = answered_keeps which w v is m
+moves_keep (events.Looks cpu which) w v is (inr (inr (inr m))) = taken_keeps cpu which w v is m
+moves_keep (events.Settles cpu) w v is (inl m) = granted_keeps cpu w v is m
+moves_keep (events.Settles cpu) w v is (inr (inl (m, why))) = refused_keeps cpu _ w v is m
+moves_keep (events.Settles cpu) w v is (inr (inr m)) = ended_keeps cpu w v is m
+moves_keep (events.Declines cpu why) w v is (inl m) = refused_keeps cpu why w v is m
+moves_keep (events.Declines cpu why) w v is (inr m) = ended_keeps cpu w v is m
+moves_keep (events.GivesUp cpu) w v is m = ended_keeps cpu w v is m
+moves_keep (events.Releases cpu) w v is (inl m) = released_keeps cpu w v is m
+moves_keep (events.Releases cpu) w v is (inr (inl (m, why))) = refused_keeps cpu _ w v is m
+moves_keep (events.Releases cpu) w v is (inr (inr m)) = ended_keeps cpu w v is m
+moves_keep (events.Sweeps cpu c) w v is m = swept_keeps cpu c w v is m
+
+pub end_keeps : (event : WorldEvent) (outcome : Outcome) (w v : WorldState) → IsWorld w → EndsAs event outcome w v → IsWorld v
+end_keeps event Done w v is (enabled, m) = moves_keep event w v is m
+end_keeps event NotEnabled w v is (disabled, same) = subst IsWorld (sym same) is
+end_keeps event NoMemory w v is same = subst IsWorld (sym same) is
+
+pub events_keep : (list : List WorldEvent) (w v : WorldState) → IsWorld w → HappensTo list w v → IsWorld v
+events_keep [] w v is run = subst IsWorld (sym run) is
+events_keep (event ∷ list) w v is (next, outcome, step, rest) = events_keep list next v (end_keeps event outcome w next is step) rest
+
+-- one event more
+pub happens_more : (list : List WorldEvent) (event : WorldEvent) (outcome : Outcome) (w mid v : WorldState) → HappensTo list w mid → EndsAs event outcome mid v
+    → HappensTo (list ++ event ∷ []) w v
+happens_more [] event outcome w mid v run last = (v, outcome, subst (λ (x : WorldState). EndsAs event outcome x v) run last, refl)
+happens_more (first ∷ list) event outcome w mid v (next, how, step, rest) last = (next, how, step, happens_more list event outcome next mid v rest last)

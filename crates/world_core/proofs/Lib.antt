@@ -1,0 +1,9 @@
+mod Members
+mod HandLemmas
+mod TalkLemmas
+mod BookingLemmas
+mod Keeps
+mod Safety
+mod PartLemmas
+mod BookLemmas
+mod SetupLemmas

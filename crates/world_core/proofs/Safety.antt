@@ -1,0 +1,164 @@
+-- A world is safe.
+use Rattle.std.proofs.Common.{◌≡◌, ℕ, zero, suc, ◌<◌, ◌≤◌, ◌==◌, Bool, true, false, List, [], ◌∷◌, ◌++◌, map, filter, length, Some, None, refl, sym, subst, ap, arith}
+use Rattle.std.specs.Prelude.{slice_get, if◌then◌else◌, sum_by}
+use Rattle.std.specs.Str.{bytes_eq}
+use Rattle.std.proofs.lemmas.List.{append-nil}
+use Rattle.std.proofs.lemmas.List.Sums.{sum_by-cons, sum_by-append}
+use Rattle.std.proofs.lemmas.Bool.Decides.{nat_tests}
+use Rattle.std.proofs.lemmas.Slice.Eq.{bytes_eq-Decides}
+use Rattle.deed_core.specs.Tag.{Tag}
+use Rattle.deed_core.specs.Request.{Fits}
+use Rattle.deed_core.specs.Covering.{covers, covers_held, covers_tag, covering_held}
+use Rattle.deed_core.specs.Selections.{is_of_arena}
+use Rattle.deed_core.specs.Weights.{of_arena}
+use Rattle.deed_core.proofs.LawProofs.{sum_by-map, sum_by-filter, slice_get_some}
+use Rattle.stock.specs.Spaces.{SpaceState}
+use Rattle.stock.specs.Accounts.{Accounts, IsAccounted}
+use Rattle.stock.specs.Sums.{all_out, places_of, held_of}
+use Rattle.stock.proofs.LawProofs.{one_place}
+use Rattle.lease_terms.specs.Requests.{RequestId}
+use Rattle.lease_proto.specs.declared.replies.Reply.{Reply}
+use Rattle.lease_proto.specs.declared.replies.Reply.TheVariants as replies
+use Rattle.lease_book.specs.Account.{Lease, Account}
+use Rattle.lease_book.specs.Entry.{Entry, Settled, Hello, Swept, Grant}
+use Rattle.lease_book.specs.declared.receipts.Terms.{Terms}
+use Rattle.lease_book.specs.History.{leases_of, AreOrderly}
+use Rattle.lease_book.specs.BookState.{segments, weight_of, leased}
+use Rattle.lease_book.proofs.LawProofs.{account_is, leases_are_the_clients}
+use Rattle.lease_client.specs.declared.held.HeldSegment.{HeldSegment}
+use Rattle.lease_client.specs.ClientState.{ClientState}
+use Rattle.lease_history.specs.Known.{told_segment, weight_in}
+use Rattle.lease_history.specs.Told.{IsOutcome, MayTell}
+use Rattle.lease_history.proofs.LawProofs.{held_is_leased, replies_agree}
+use Rattle.world_core.specs.WorldState.{WorldState, arena_name, in_hands}
+use Rattle.world_core.specs.IsWorld.{IsWorld}
+use Rattle.world_core.specs.Safe.{out_of_world, has_unit, holders, SettlesIt, Safe, AlwaysSafe}
+use Rattle.world_core.proofs.Keeps.{events_keep}
+
+sum_le : {X : Type 0} (f g : X → ℕ) (xs : List X) → ((k : ℕ) (x : X) → slice_get xs k ≡ Some x → f x ≤ g x) → sum_by f xs ≤ sum_by g xs
+sum_le f g [] le = omega arith
+sum_le f g (x ∷ xs) le = omega (arith, le 0 x refl, sum_le f g xs (λ k y at. le (suc k) y at), sum_by-cons f x xs, sum_by-cons g x xs)
+
+-- what leases of an incarnation weigh is no more than what all weigh
+in_le : (names : ℕ → List ℕ) (i : ℕ) (f : HeldSegment → ℕ) (leases : List Lease) → sum_by (weight_in names i f) leases ≤ sum_by (λ t. f (told_segment names t)) (segments leases)
+in_le names i f leases =
+    let e = sum_by-map (λ (t : Tag). f (told_segment names t)) (λ (l : Lease). l.segment) leases in
+    omega (arith, e, sum_le (weight_in names i f) (λ (l : Lease). f (told_segment names l.segment)) leases (λ k l at. by l (i == l.incarnation)))
+  where
+    by : (l : Lease) (b : Bool) → (if b then f (told_segment names l.segment) else 0) ≤ f (told_segment names l.segment)
+    by l true = omega arith
+    by l false = omega arith
+
+-- what clients hold together is leased
+all_held : (w : WorldState) → IsWorld w → (f : HeldSegment → ℕ)
+    → sum_by (λ (c : ClientState). sum_by f c.held) w.clients ≤ sum_by (λ t. f (told_segment (arena_name w.names) t)) (leased w.book)
+all_held w is f =
+    let names = arena_name w.names in
+    let g : Tag → ℕ = λ t. f (told_segment names t) in
+    let each = sum_le (λ (c : ClientState). sum_by f c.held) (λ (c : ClientState). weight_of g w.book c.id) w.clients
+    (λ k c at. (let h = held_is_leased names w.entries c f (is.known k c at) in
+    let le = in_le names c.incarnation f (leases_of c.id w.entries) in
+    let e : weight_of g w.book c.id ≡ sum_by g (segments (leases_of c.id w.entries)) = ap (λ (a : Account). sum_by g (segments a.leases)) (account_is w.entries w.book c.id is.book) in
+    omega arith)) in
+    let some = leases_are_the_clients.some w.book (map (λ (c : ClientState). c.id) w.clients) g (w.entries, is.book) is.ids in
+    let e = sum_by-map (weight_of g w.book) (λ (c : ClientState). c.id) w.clients in
+    omega arith
+
+accounted : (w : WorldState) → IsWorld w → IsAccounted w.stock (all_out (out_of_world w))
+accounted w is = record {
+  stock = is.parts.stock;
+  accounts = subst (λ (leases : List Tag). Accounts w.stock (in_hands w.hands ++ leases)) (sym (append-nil (leased w.book))) is.parts.accounts;
+}
+
+same_name : (a b : List ℕ) → bytes_eq a b ≡ true → a ≡ b
+same_name a b is = (bytes_eq-Decides a b).0 is
+
+-- by its name a segment is of the arena at a place
+by_arena : (w : WorldState) → IsWorld w → (place unit : ℕ) → place < length w.names → (t : Tag)
+    → has_unit (arena_name w.names place) unit (told_segment (arena_name w.names) t) ≤ of_arena place (covers_tag unit) t
+by_arena w is place unit within t = by (bytes_eq (arena_name w.names t.arena) (arena_name w.names place)) refl
+  where
+    there : ℕ
+    there = covers unit t.holding.range
+
+    by : (b : Bool) → bytes_eq (arena_name w.names t.arena) (arena_name w.names place) ≡ b → (if b then there else 0) ≤ (if t.arena == place then there else 0)
+    by true same =
+        let home : t.arena ≡ place = is.names t.arena place within (same_name _ _ same) in
+        let yes : (t.arena == place) ≡ true = grind (arith, nat_tests) in
+        let e : (if t.arena == place then there else 0) ≡ there = ap (λ (b : Bool). if b then there else 0) yes in
+        omega arith
+    by false same = omega arith
+
+-- what is leased of an arena is in one of its places
+leased_le : (w : WorldState) → IsWorld w → (place unit : ℕ) (s : SpaceState) → slice_get w.stock place ≡ Some s
+    → sum_by (of_arena place (covers_tag unit)) (leased w.book) ≤ 1
+leased_le w is place unit s at =
+    let p = places_of w.stock (out_of_world w) s in
+    let one = one_place w.stock (out_of_world w) (accounted w is) place s at unit in
+    let id : s.arena.id ≡ place = (is.parts.stock place s at).id in
+    let kept : sum_by (of_arena place (covers_tag unit)) (leased w.book) ≡ sum_by (covers_tag unit) (filter (is_of_arena place) (leased w.book)) = sym (sum_by-filter (is_of_arena place) (covers_tag unit) (leased w.book)) in
+    let mapped : covering_held unit (held_of place (leased w.book)) ≡ sum_by (covers_tag unit) (filter (is_of_arena place) (leased w.book)) = sum_by-map (covers_held unit) (λ (t : Tag). t.holding) (filter (is_of_arena place) (leased w.book)) in
+    let here : covering_held unit p.leased ≡ covering_held unit (held_of place (leased w.book)) = ap (λ (k : ℕ). covering_held unit (held_of k (leased w.book))) id in
+    omega (
+      arith,
+      sum_by-append (covers_held unit) p.free (p.slab ++ (p.magazine ++ (p.exported ++ (p.leased ++ p.hand)))),
+      sum_by-append (covers_held unit) p.slab (p.magazine ++ (p.exported ++ (p.leased ++ p.hand))),
+      sum_by-append (covers_held unit) p.magazine (p.exported ++ (p.leased ++ p.hand)),
+      sum_by-append (covers_held unit) p.exported (p.leased ++ p.hand),
+      sum_by-append (covers_held unit) p.leased p.hand,
+      one.0,
+      one.1,
+    )
+
+apart_one : (w : WorldState) → IsWorld w → (place unit : ℕ) → place < length w.names → holders w place unit ≤ 1
+apart_one w is place unit within =
+    let space = slice_get_some w.stock place (let e = is.named in omega arith) in
+    let name = arena_name w.names place in
+    let all = all_held w is (has_unit name unit) in
+    let le = sum_le (λ (t : Tag). has_unit name unit (told_segment (arena_name w.names) t)) (of_arena place (covers_tag unit)) (leased w.book) (λ k t at. by_arena w is place unit within t) in
+    let one = leased_le w is place unit space.0 space.1 in
+    omega arith
+
+-- what a reply tells of the request that it settles
+told_of : (names : ℕ → List ℕ) (es : _) (id : RequestId) (reply : Reply) → MayTell names es reply → SettlesIt id reply → IsOutcome names es id reply
+told_of names es id (replies.Granted g) told of = subst (λ (i : RequestId). IsOutcome names es i (replies.Granted g)) of told
+told_of names es id (replies.Released named) told of = subst (λ (i : RequestId). IsOutcome names es i (replies.Released named)) of told
+told_of names es id (replies.Refused r) told of = subst (λ (i : RequestId). IsOutcome names es i (replies.Refused r)) of told
+told_of names es id (replies.Welcome r) told of = absurd of
+told_of names es id (replies.Old r) told of = absurd of
+told_of names es id (replies.Stale r) told of = absurd of
+told_of names es id (replies.Gap r) told of = absurd of
+told_of names es id (replies.Again r) told of = absurd of
+told_of names es id (replies.Error r) told of = absurd of
+
+-- a grant among orderly entries fits
+fits_in : (es : List Entry) (k : ℕ) (id : RequestId) (t : Tag) (terms : Terms) → AreOrderly es → slice_get es k ≡ Some (Settled id (Grant t terms))
+    → Fits terms.quantum terms.request t.holding.range.base t.holding.range.len
+fits_in [] k id t terms orderly at = absurd (let e : None ≡ Some (Settled id (Grant t terms)) = at in cc)
+fits_in (e ∷ es) zero id t terms orderly at =
+    let is : e ≡ Settled id (Grant t terms) = cc in
+    let there : AreOrderly (Settled id (Grant t terms) ∷ es) = subst (λ (x : Entry). AreOrderly (x ∷ es)) is orderly in
+    there.0.1.1
+fits_in (Hello c i ∷ es) (suc k) id t terms orderly at = fits_in es k id t terms orderly.2 at
+fits_in (Settled r s ∷ es) (suc k) id t terms orderly at = fits_in es k id t terms orderly.3 at
+fits_in (Swept c i a b ∷ es) (suc k) id t terms orderly at = fits_in es k id t terms orderly.1 at
+
+pub safe : (w : WorldState) → IsWorld w → Safe w
+safe w is = record {
+  places = λ k s at unit. (let one = one_place w.stock (out_of_world w) (accounted w is) k s at unit in record { once = one.0; one = one.1 });
+  book = is.book;
+  grants = λ id t terms among. record {
+    fits = fits_in w.entries among.0 id t terms is.book.orderly among.1;
+    asked = is.due among.0 (Settled id (Grant t terms)) among.1;
+  };
+  held = λ k c at f. held_is_leased (arena_name w.names) w.entries c f (is.known k c at);
+  apart = apart_one w is;
+  replies = λ id a b x y sa sb. replies_agree (arena_name w.names) w.entries id a b
+      (told_of (arena_name w.names) w.entries id a (is.told x.0 a x.1) sa)
+      (told_of (arena_name w.names) w.entries id b (is.told y.0 b y.1) sb);
+}
+
+pub always_safe : AlwaysSafe
+always_safe list start end is run =
+    let now = events_keep list start end is run in
+    (now, safe end now)

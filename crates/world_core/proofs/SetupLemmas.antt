@@ -1,0 +1,103 @@
+-- A world that is set up is one.
+use Rattle.std.proofs.Common.{◌≡◌, ◌≢◌, ℕ, ◌≤◌, ◌^◌, List, [], ◌∷◌, ◌++◌, length, Option, Some, None, refl, sym, subst, ap}
+use Rattle.std.specs.Prelude.{nat_eq}
+use Rattle.std.specs.Option.{option_to_list}
+use Rattle.std.specs.List.{IsDistinct}
+use Rattle.deed_core.specs.Tag.{Tag}
+use Rattle.stock.specs.Spaces.{SpaceState}
+use Rattle.stock.specs.Stocks.{IsStock}
+use Rattle.stock.specs.Accounts.{Accounts}
+use Rattle.lease_terms.specs.Ranges.{IsClient}
+use Rattle.lease_proto.specs.declared.lines.Line.{Line}
+use Rattle.lease_proto.specs.declared.replies.Reply.{Reply}
+use Rattle.lease_book.specs.Account.{Account}
+use Rattle.lease_book.specs.Entry.{Entry}
+use Rattle.lease_book.specs.BookState.{BookState, IsHistory, leased_by, leased}
+use Rattle.lease_client.specs.ClientState.{ClientState, silent}
+use Rattle.lease_history.specs.Known.{IsKnown}
+use Rattle.lease_history.proofs.LawProofs.{clients_begin_known}
+use Rattle.world_core.specs.declared.tasks.Task.{Task}
+use Rattle.world_core.specs.declared.logs.Logged.{Logged}
+use Rattle.world_core.specs.WorldState.{WorldState, arena_name, in_hands, entries_of, Each}
+use Rattle.world_core.specs.IsWorld.{IsWorld, AreNames, MayBeSaid, IsOfLines}
+use Rattle.world_core.proofs.Members.{each_pushed, distinct_more}
+
+nothing : {X : Type 0} (P : X → Type 0) → Each P []
+nothing P k x at = absurd (let e : None ≡ Some x = at in cc)
+
+none_twice : IsDistinct nat_eq []
+unfolding IsDistinct
+none_twice = tt
+
+made : (stock : List SpaceState) (names : List (List ℕ)) (book : BookState) → IsStock stock → Accounts stock [] → length names ≡ length stock → length names ≤ 2 ^ 32 → AreNames names
+    → IsHistory [] book → IsWorld (record { stock = stock; names = names; hands = []; tasks = []; book = book; entries = []; clients = []; requests = []; replies = [] })
+made stock names book sound balances named few apart empty = record {
+  parts = record { stock = sound; accounts = subst (λ (accounts : List Account). Accounts stock (in_hands [] ++ leased_by accounts)) (sym empty.accounts) balances };
+  named = named;
+  few = few;
+  names = apart;
+  book = empty;
+  due = nothing _;
+  ids = none_twice;
+  known = nothing _;
+  said = nothing _;
+  tasks = nothing _;
+  told = nothing _;
+}
+
+pub born : (stock : List SpaceState) (names : List (List ℕ)) (book : BookState) (hands : List (Option Tag)) (tasks : List (Option Task)) (log : List Logged) (clients : List ClientState)
+    (requests : List Line) (replies : List Reply) → IsStock stock → Accounts stock [] → length names ≡ length stock → length names ≤ 2 ^ 32 → AreNames names → IsHistory [] book
+    → hands ≡ [] → tasks ≡ [] → log ≡ [] → clients ≡ [] → requests ≡ [] → replies ≡ []
+    → IsWorld (record { stock = stock; names = names; hands = hands; tasks = tasks; book = book; entries = entries_of log; clients = clients; requests = requests; replies = replies })
+born stock names book hands tasks log clients requests replies sound balances named few apart empty h t l c q r =
+    let hs = sym h in
+    let ts = sym t in
+    let ls = sym l in
+    let cs = sym c in
+    let qs = sym q in
+    let rs = sym r in
+    subst IsWorld (λ j. record { stock = stock; names = names; hands = hs j; tasks = ts j; book = book; entries = entries_of (ls j); clients = cs j; requests = qs j; replies = rs j })
+    (made stock names book sound balances named few apart empty)
+
+no_more : (hands : List (Option Tag)) → in_hands (hands ++ None ∷ []) ≡ in_hands hands
+no_more [] = refl
+no_more (h ∷ hands) = ap (λ (ts : List Tag). option_to_list h ++ ts) (no_more hands)
+
+pub cpu_added : (w : WorldState) (hands : List (Option Tag)) (tasks : List (Option Task)) → IsWorld w → hands ≡ w.hands ++ None ∷ [] → tasks ≡ w.tasks ++ None ∷ []
+    → IsWorld (record w { hands = hands; tasks = tasks })
+cpu_added w hands tasks is h t =
+    let hs = sym h in
+    let ts = sym t in
+    subst IsWorld (λ j. record w { hands = hs j; tasks = ts j }) (record {
+      parts = record { stock = is.parts.stock; accounts = subst (λ (out : List Tag). Accounts w.stock (out ++ leased w.book)) (sym (no_more w.hands)) is.parts.accounts };
+      named = is.named;
+      few = is.few;
+      names = is.names;
+      book = is.book;
+      due = is.due;
+      ids = is.ids;
+      known = is.known;
+      said = is.said;
+      tasks = each_pushed (IsOfLines w.requests) w.tasks None is.tasks tt;
+      told = is.told;
+    })
+
+pub client_added : (w : WorldState) (id : ℕ) (clients : List ClientState) → IsWorld w → w.entries ≡ [] → w.requests ≡ [] → Each (λ c. c.id ≢ id) w.clients → IsClient id
+    → clients ≡ w.clients ++ silent id ∷ [] → IsWorld (record w { clients = clients })
+client_added w id clients is entries requests fresh range c =
+    let cs = sym c in
+    subst IsWorld (λ j. record w { clients = cs j }) (record {
+      parts = is.parts;
+      named = is.named;
+      few = is.few;
+      names = is.names;
+      book = is.book;
+      due = is.due;
+      ids = distinct_more (λ (x : ClientState). x.id) w.clients (silent id) is.ids fresh;
+      known = each_pushed (IsKnown (arena_name w.names) w.entries) w.clients (silent id) is.known
+          (subst (λ (es : List Entry). IsKnown (arena_name w.names) es (silent id)) (sym entries) (clients_begin_known (arena_name w.names) id range));
+      said = each_pushed (λ x. Each (MayBeSaid x) w.requests) w.clients (silent id) is.said
+          (subst (λ (ls : List Line). Each (MayBeSaid (silent id)) ls) (sym requests) (nothing (MayBeSaid (silent id))));
+      tasks = is.tasks;
+      told = is.told;
+    })

@@ -1,0 +1,71 @@
+-- What every world is.
+use Rattle.std.specs.Prelude.{◌≡◌, ℕ, ◌<◌, ◌≤◌, ◌^◌, nat_eq, List, length, map, Option, Some, None}
+use Rattle.std.specs.List.{IsDistinct}
+use Rattle.deed_core.specs.Tag.{Tag}
+use Rattle.stock.specs.Spaces.{SpaceState}
+use Rattle.stock.specs.Accounts.{IsAccounted}
+use Rattle.stock.specs.Steps.{HasQuantum}
+use Rattle.lease_terms.specs.Requests.{RequestId}
+use Rattle.lease_proto.specs.declared.lines.LeaseLine.{LeaseLine}
+use Rattle.lease_proto.specs.declared.lines.Line.{Line}
+use Rattle.lease_proto.specs.declared.lines.Line.TheVariants as lines
+use Rattle.lease_proto.specs.declared.lines.Op.TheVariants as ops
+use Rattle.lease_book.specs.Entry.{Entry, Settled, Hello, Swept, Grant, Return, Refuse}
+use Rattle.lease_book.specs.BookState.{IsHistory}
+use Rattle.lease_book.specs.declared.receipts.Terms.{Terms}
+use Rattle.lease_client.specs.ClientState.{ClientState}
+use Rattle.lease_client.specs.Runs.{MayBeSent}
+use Rattle.lease_history.specs.Known.{IsKnown}
+use Rattle.lease_history.specs.Told.{MayTell}
+use Rattle.world_core.specs.declared.tasks.Task.{Task}
+use Rattle.world_core.specs.WorldState.{WorldState, arena_name, out_of_parts, Each, IsAmong}
+use Rattle.world_core.specs.Moves.{request_in}
+
+-- no other place has the name of an arena
+abbrev pub AreNames : List (List ℕ) → Type 0
+AreNames names = (j k : ℕ) → k < length names → arena_name names j ≡ arena_name names k → j ≡ k
+
+-- what was granted to the request is what a line of this id asked for, by its arena's quantum
+pub record IsAsked (stock : List SpaceState) (names : List (List ℕ)) (requests : List Line)
+    (id : RequestId) (segment : Tag) (terms : Terms) : Type 0 where
+  pub lease : LeaseLine
+  pub line : IsAmong (lines.Request id (ops.Lease lease)) requests
+  pub within : segment.arena < length names
+  pub home : arena_name names segment.arena ≡ lease.arena
+  pub quantum : HasQuantum stock segment.arena terms.quantum
+  pub request : terms.request ≡ request_in lease
+
+-- so is each grant among the entries
+abbrev pub IsDue : List SpaceState → List (List ℕ) → List Line → Entry → Type 0
+IsDue stock names requests (Settled id (Grant segment terms)) =
+    IsAsked stock names requests id segment terms
+IsDue stock names requests (Settled id (Return arena base)) = Unit {0}
+IsDue stock names requests (Settled id (Refuse why)) = Unit {0}
+IsDue stock names requests (Hello c i) = Unit {0}
+IsDue stock names requests (Swept c i arena base) = Unit {0}
+
+-- if the line is the client's own, the client sent it
+abbrev pub MayBeSaid : ClientState → Line → Type 0
+MayBeSaid c (lines.Hello h) = h.client ≡ c.id → h.incarnation ≤ c.incarnation
+MayBeSaid c (lines.Request id op) = id.client ≡ c.id → MayBeSent id op c
+
+-- what a CPU serves was sent
+abbrev pub IsOfLines : List Line → Option Task → Type 0
+IsOfLines requests None = Unit {0}
+IsOfLines requests (Some task) = IsAmong (lines.Request task.id task.op) requests
+
+-- What the parts have given is in hands or leased; the book is what is read off the entries, of which
+-- each grant was asked for; the clients, each with an id of its own, are known to the book; lines were
+-- said by their clients, and the book may tell what was replied.
+pub record IsWorld (w : WorldState) : Type 0 where
+  pub parts : IsAccounted w.stock (out_of_parts w)
+  pub named : length w.names ≡ length w.stock
+  pub few : length w.names ≤ 2 ^ 32
+  pub names : AreNames w.names
+  pub book : IsHistory w.entries w.book
+  pub due : Each (IsDue w.stock w.names w.requests) w.entries
+  pub ids : IsDistinct nat_eq (map (λ c. c.id) w.clients)
+  pub known : Each (IsKnown (arena_name w.names) w.entries) w.clients
+  pub said : Each (λ c. Each (MayBeSaid c) w.requests) w.clients
+  pub tasks : Each (IsOfLines w.requests) w.tasks
+  pub told : Each (MayTell (arena_name w.names) w.entries) w.replies

@@ -1,0 +1,5 @@
+pub mod WorldState
+pub mod Moves
+pub mod IsWorld
+pub mod Events
+pub mod Safe

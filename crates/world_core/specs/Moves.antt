@@ -1,0 +1,237 @@
+-- What may become of a world at one event, each case by its condition and its move. The parts' own
+-- relations say what a call of them does; all that a move doesn't name stays.
+use Rattle.std.specs.Prelude.{◌≡◌, ◌⊎◌, ℕ, ◌<◌, ◌≤◌, List, [], ◌∷◌, ◌++◌, length, set, slice_get, Some, None}
+use Rattle.std.specs.List.{find}
+use Rattle.deed_core.specs.Tag.{Tag}
+use Rattle.deed_core.specs.declared.requests.Request.{Request}
+use Rattle.stock.specs.Steps.{HasQuantum}
+use Rattle.lease_terms.specs.Requests.{RequestId}
+use Rattle.lease_terms.specs.declared.refusals.Refusal.{Refusal}
+use Rattle.lease_proto.specs.declared.lines.HelloLine.{HelloLine}
+use Rattle.lease_proto.specs.declared.lines.LeaseLine.{LeaseLine}
+use Rattle.lease_proto.specs.declared.lines.ReleaseLine.{ReleaseLine}
+use Rattle.lease_proto.specs.declared.lines.Line.{Line}
+use Rattle.lease_proto.specs.declared.lines.Line.TheVariants as lines
+use Rattle.lease_proto.specs.declared.lines.Op.{Op}
+use Rattle.lease_proto.specs.declared.lines.Op.TheVariants as ops
+use Rattle.lease_proto.specs.declared.replies.Reply.{Reply}
+use Rattle.lease_proto.specs.declared.replies.Reply.TheVariants as replies
+use Rattle.lease_book.specs.declared.receipts.KeptReply.{KeptReply}
+use Rattle.lease_book.specs.declared.receipts.KeptReply.TheVariants as kept
+use Rattle.lease_book.specs.Receipts.{ReceiptState}
+use Rattle.lease_book.specs.Entry.{Settlement, Grant, Return, Refuse, Settled, Hello, Swept, kept_reply_of}
+use Rattle.lease_book.specs.BookState.{BookState, Enters, account_in, leased}
+use Rattle.lease_book.specs.Answers.{IsNew, IsRepeated, IsOld, IsStale, IsGap}
+use Rattle.lease_book.specs.Account.{is_lease}
+use Rattle.lease_book.specs.declared.books.TheConstants.{MOST_LEASES}
+use Rattle.lease_book.specs.Calls.{IsGranted, IsRefused, IsReleased, IsSwept}
+use Rattle.lease_book.specs.declared.receipts.Terms.{Terms}
+use Rattle.lease_client.specs.ClientState.{ClientState}
+use Rattle.lease_client.specs.Replies.{got}
+use Rattle.lease_history.specs.Told.{reply_to}
+use Rattle.world_core.specs.WorldState.{WorldState, arena_name}
+
+-- what a lease asks of its arena
+abbrev pub request_in : LeaseLine → Request
+request_in l = record {
+  size = l.size;
+  align = l.options.align;
+  phase = l.options.phase;
+  nocross = l.options.nocross;
+  min = l.options.min;
+  max = l.options.max;
+}
+
+-- the reply names no arena, or one of so many
+abbrev pub IsTellable : ℕ → KeptReply → Type 0
+IsTellable count (kept.Granted arena base len) = arena < count
+IsTellable count kept.Released = Unit {0}
+IsTellable count (kept.Refused why) = Unit {0}
+
+-- the answer to a request whose number isn't new
+abbrev pub IsAnswered : WorldState → RequestId → Reply → Type 0
+IsAnswered w id (replies.Old o) =
+    (o.client ≡ id.client) × IsOld (account_in id.client w.book) id o.current
+IsAnswered w id (replies.Stale o) = (o.id ≡ id) × IsStale (account_in id.client w.book) id o.last
+IsAnswered w id (replies.Gap o) = (o.id ≡ id) × IsGap (account_in id.client w.book) id o.last
+IsAnswered w id reply = (r : ReceiptState) × IsRepeated w.book (account_in id.client w.book) id r
+    × (reply ≡ reply_to (arena_name w.names) id r.reply)
+
+-- the reply to a request that is settled now
+abbrev pub settled_reply : WorldState → RequestId → Settlement → Reply
+settled_reply w id s = reply_to (arena_name w.names) id (kept_reply_of s)
+
+-- out of memory: nothing is settled
+abbrev pub again_to : RequestId → Reply
+again_to id = replies.Again
+    (record { client = id.client; incarnation = id.incarnation; number = id.number })
+
+-- the client at the place says the line, and goes on so
+pub record ClientSays (place : ℕ) (May : ClientState → ClientState → Line → Type 0)
+    (old new : WorldState) : Type 0 where
+  pub client : ClientState
+  pub next : ClientState
+  pub line : Line
+  pub at : slice_get old.clients place ≡ Some client
+  pub may : May client next line
+  pub after : new ≡ record old {
+    clients = set old.clients place next;
+    requests = old.requests ++ line ∷ [];
+  }
+
+-- the client gets a reply that was sent, its own or another's
+pub record ClientHears (place which : ℕ) (old new : WorldState) : Type 0 where
+  pub client : ClientState
+  pub reply : Reply
+  pub at : slice_get old.clients place ≡ Some client
+  pub sent : slice_get old.replies which ≡ Some reply
+  pub after : new ≡ record old { clients = set old.clients place (got reply client) }
+
+-- a hello that was sent comes, and is taken
+pub record HelloTaken (which : ℕ) (old new : WorldState) : Type 0 where
+  pub hello : HelloLine
+  pub book : BookState
+  pub sent : slice_get old.requests which ≡ Some (lines.Hello hello)
+  pub current : (account_in hello.client old.book).incarnation ≤ hello.incarnation
+  pub enters : Enters (Hello hello.client hello.incarnation) old.book book
+  pub leases : leased book ≡ leased old.book
+  pub after : new ≡ record old {
+    book = book;
+    entries = Hello hello.client hello.incarnation ∷ old.entries;
+    replies = old.replies ++ replies.Welcome
+        (record { client = hello.client; incarnation = hello.incarnation }) ∷ [];
+  }
+
+-- a hello that was sent comes, and is of an incarnation that has passed
+pub record HelloRefused (which : ℕ) (old new : WorldState) : Type 0 where
+  pub hello : HelloLine
+  pub sent : slice_get old.requests which ≡ Some (lines.Hello hello)
+  pub passed : hello.incarnation < (account_in hello.client old.book).incarnation
+  pub after : new ≡ record old {
+    replies = old.replies ++ replies.Old (record {
+      client = hello.client;
+      current = (account_in hello.client old.book).incarnation;
+    }) ∷ [];
+  }
+
+-- a request that was sent comes, and its number isn't new
+pub record AnsweredAtOnce (which : ℕ) (old new : WorldState) : Type 0 where
+  pub id : RequestId
+  pub op : Op
+  pub reply : Reply
+  pub sent : slice_get old.requests which ≡ Some (lines.Request id op)
+  pub answered : IsAnswered old id reply
+  pub after : new ≡ record old { replies = old.replies ++ reply ∷ [] }
+
+-- a request with a new number comes to an idle CPU, which serves it from now on
+pub record TaskTaken (cpu which : ℕ) (old new : WorldState) : Type 0 where
+  pub id : RequestId
+  pub op : Op
+  pub sent : slice_get old.requests which ≡ Some (lines.Request id op)
+  pub fresh : IsNew (account_in id.client old.book) id
+  pub after : new ≡ record old {
+    tasks = set old.tasks cpu (Some (record { id = id; op = op }));
+  }
+
+-- the arena at the place has this name
+pub record IsNamed (w : WorldState) (place : ℕ) (name : List ℕ) : Type 0 where
+  pub within : place < length w.names
+  pub is : arena_name w.names place ≡ name
+
+-- the CPU serves this request
+abbrev pub HasTask : WorldState → ℕ → RequestId → Op → Type 0
+HasTask w cpu id op = slice_get w.tasks cpu ≡ Some (Some (record { id = id; op = op }))
+
+-- the hand's segment, which is of the arena that the lease names and fits it, is leased
+pub record TaskGranted (cpu : ℕ) (old new : WorldState) : Type 0 where
+  pub id : RequestId
+  pub lease : LeaseLine
+  pub segment : Tag
+  pub terms : Terms
+  pub book : BookState
+  pub receipt : ReceiptState
+  pub serves : HasTask old cpu id (ops.Lease lease)
+  pub holds : slice_get old.hands cpu ≡ Some (Some segment)
+  pub home : IsNamed old segment.arena lease.arena
+  pub quantum : HasQuantum old.stock segment.arena terms.quantum
+  pub request : terms.request ≡ request_in lease
+  pub granted : IsGranted old.book book id segment terms receipt
+  pub after : new ≡ record old {
+    hands = set old.hands cpu None;
+    tasks = set old.tasks cpu None;
+    book = book;
+    entries = Settled id (Grant segment terms) ∷ old.entries;
+    replies = old.replies ++ settled_reply old id (Grant segment terms) ∷ [];
+  }
+
+-- the request is settled by a refusal, and hands stay as they are
+pub record TaskRefused (cpu : ℕ) (why : Refusal) (old new : WorldState) : Type 0 where
+  pub id : RequestId
+  pub op : Op
+  pub book : BookState
+  pub receipt : ReceiptState
+  pub serves : HasTask old cpu id op
+  pub refused : IsRefused old.book book id why receipt
+  pub after : new ≡ record old {
+    tasks = set old.tasks cpu None;
+    book = book;
+    entries = Settled id (Refuse why) ∷ old.entries;
+    replies = old.replies ++ settled_reply old id (Refuse why) ∷ [];
+  }
+
+-- the client of the request that the CPU serves has as many leases as one may have
+abbrev pub HasAllLeases : WorldState → ℕ → Type 0
+HasAllLeases w cpu = (id : RequestId) (op : Op) → HasTask w cpu id op
+    → MOST_LEASES ≤ length (account_in id.client w.book).leases
+
+-- the CPU serves a release of what is no lease of the request's incarnation
+abbrev pub HasNoSuchLease : WorldState → ℕ → Type 0
+HasNoSuchLease w cpu = (id : RequestId) (release : ReleaseLine) (arena : ℕ)
+    → HasTask w cpu id (ops.Release release) → IsNamed w arena release.arena
+    → find (is_lease id.incarnation arena release.base) (account_in id.client w.book).leases ≡ None
+
+-- the lease that a release names comes into the CPU's empty hand
+pub record TaskReleased (cpu : ℕ) (old new : WorldState) : Type 0 where
+  pub id : RequestId
+  pub release : ReleaseLine
+  pub arena : ℕ
+  pub segment : Tag
+  pub book : BookState
+  pub receipt : ReceiptState
+  pub serves : HasTask old cpu id (ops.Release release)
+  pub empty : slice_get old.hands cpu ≡ Some None
+  pub home : IsNamed old arena release.arena
+  pub released : IsReleased old.book book id arena release.base receipt segment
+  pub after : new ≡ record old {
+    hands = set old.hands cpu (Some segment);
+    tasks = set old.tasks cpu None;
+    book = book;
+    entries = Settled id (Return arena release.base) ∷ old.entries;
+    replies = old.replies ++ settled_reply old id (Return arena release.base) ∷ [];
+  }
+
+-- the request ends unsettled: its number isn't new any more, or memory was refused
+pub record TaskEnded (cpu : ℕ) (old new : WorldState) : Type 0 where
+  pub id : RequestId
+  pub op : Op
+  pub reply : Reply
+  pub serves : HasTask old cpu id op
+  pub answered : IsAnswered old id reply ⊎ (reply ≡ again_to id)
+  pub after : new ≡ record old {
+    tasks = set old.tasks cpu None;
+    replies = old.replies ++ reply ∷ [];
+  }
+
+-- a lease of an incarnation of the client that has passed comes into the CPU's empty hand
+pub record LeaseSwept (cpu client : ℕ) (old new : WorldState) : Type 0 where
+  pub id : RequestId
+  pub segment : Tag
+  pub book : BookState
+  pub empty : slice_get old.hands cpu ≡ Some None
+  pub swept : IsSwept old.book book client id segment
+  pub after : new ≡ record old {
+    hands = set old.hands cpu (Some segment);
+    book = book;
+    entries = Swept id.client id.incarnation segment.arena segment.holding.range.base
+        ∷ old.entries;
+  }

@@ -1,0 +1,84 @@
+-- What holds of every world, in the words of whoever relies on it.
+use Rattle.std.specs.Prelude.{◌≡◌, ◌<◌, ◌≤◌, ℕ, List, [], length, slice_get, Some, sum_by, if◌then◌else◌}
+use Rattle.std.specs.Str.{bytes_eq}
+use Rattle.deed_core.specs.Covering.{covers, covering_held}
+use Rattle.deed_core.specs.Request.{Fits}
+use Rattle.deed_core.specs.Tag.{Tag}
+use Rattle.tag_arena.specs.ArenaState.{spans_of}
+use Rattle.stock.specs.Spaces.{SpaceState}
+use Rattle.stock.specs.Sums.{Out, places_of, all_places}
+use Rattle.lease_terms.specs.Requests.{RequestId}
+use Rattle.lease_proto.specs.declared.replies.Reply.{Reply}
+use Rattle.lease_proto.specs.declared.replies.Reply.TheVariants as replies
+use Rattle.lease_book.specs.Entry.{Settled, Grant}
+use Rattle.lease_book.specs.History.{leases_of}
+use Rattle.lease_book.specs.BookState.{IsHistory, leased}
+use Rattle.lease_book.specs.declared.receipts.Terms.{Terms}
+use Rattle.lease_client.specs.declared.held.HeldSegment.{HeldSegment}
+use Rattle.lease_client.specs.ClientState.{ClientState}
+use Rattle.lease_history.specs.Known.{weight_in}
+use Rattle.world_core.specs.declared.events.WorldEvent.{WorldEvent}
+use Rattle.world_core.specs.WorldState.{WorldState, arena_name, in_hands, IsAmong, Each}
+use Rattle.world_core.specs.IsWorld.{IsWorld, IsAsked}
+use Rattle.world_core.specs.Events.{HappensTo}
+
+-- the segments that are in no part
+abbrev pub out_of_world : WorldState → Out
+out_of_world w = record { hands = in_hands w.hands; leases = leased w.book; rounds = [] }
+
+-- each unit of an arena's spans is in one place, and no other unit in any: free, at home in a slab, in
+-- a magazine, a child's span, leased, or in a hand
+pub record IsInOnePlaceOf (w : WorldState) (s : SpaceState) (unit : ℕ) : Type 0 where
+  pub once : covering_held unit (all_places (places_of w.stock (out_of_world w) s))
+      ≡ covering_held unit (spans_of s.arena)
+  pub one : covering_held unit (spans_of s.arena) ≤ 1
+
+-- a grant meets the line that asked for it, by its arena's quantum
+pub record IsMet (w : WorldState) (id : RequestId) (segment : Tag) (terms : Terms)
+    : Type 0 where
+  pub fits : Fits terms.quantum terms.request
+      segment.holding.range.base segment.holding.range.len
+  pub asked : IsAsked w.stock w.names w.requests id segment terms
+
+-- however segments are weighed, what a client holds weighs at most what is leased to it in its
+-- incarnation
+abbrev pub HoldsLeases : WorldState → ClientState → Type 0
+HoldsLeases w c = (f : HeldSegment → ℕ)
+    → sum_by f c.held
+    ≤ sum_by (weight_in (arena_name w.names) c.incarnation f) (leases_of c.id w.entries)
+
+-- 1 where the segment is of the arena of this name and has the unit
+abbrev pub has_unit : List ℕ → ℕ → HeldSegment → ℕ
+has_unit name unit s =
+    if bytes_eq s.arena name then covers unit (record { base = s.base; len = s.len }) else 0
+
+-- how many of the segments that clients hold have the unit of the arena at the place
+abbrev pub holders : WorldState → ℕ → ℕ → ℕ
+holders w place unit =
+    sum_by (λ c. sum_by (has_unit (arena_name w.names place) unit) c.held) w.clients
+
+-- the reply settles the request
+abbrev pub SettlesIt : RequestId → Reply → Type 0
+SettlesIt id (replies.Granted g) = g.id ≡ id
+SettlesIt id (replies.Released of) = of ≡ id
+SettlesIt id (replies.Refused r) = r.id ≡ id
+SettlesIt id reply = ⊥
+
+-- Units stand in one place each. The book is what is read off its entries. Each grant was asked for
+-- and fits. Clients hold what is leased to them, and no unit is in two segments that they hold. And
+-- any two replies that settle one request are equal.
+pub record Safe (w : WorldState) : Type 0 where
+  pub places : (k : ℕ) (s : SpaceState) → slice_get w.stock k ≡ Some s → (unit : ℕ)
+      → IsInOnePlaceOf w s unit
+  pub book : IsHistory w.entries w.book
+  pub grants : (id : RequestId) (segment : Tag) (terms : Terms)
+      → IsAmong (Settled id (Grant segment terms)) w.entries → IsMet w id segment terms
+  pub held : Each (HoldsLeases w) w.clients
+  pub apart : (place unit : ℕ) → place < length w.names → holders w place unit ≤ 1
+  pub replies : (id : RequestId) (a b : Reply) → IsAmong a w.replies → IsAmong b w.replies
+      → SettlesIt id a → SettlesIt id b → a ≡ b
+
+-- whatever happens to a world, it is safe
+abbrev pub AlwaysSafe : Type 0
+AlwaysSafe = (events : List WorldEvent) (start end : WorldState)
+    → IsWorld start → HappensTo events start end → IsWorld end × Safe end

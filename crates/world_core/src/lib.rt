@@ -1,0 +1,39 @@
+//! The world of events: a stock of arenas, CPUs with their hands, the book of leases, the clients,
+//! and all lines and replies that were ever sent, as one value on which events happen one after
+//! the other.
+//!
+//! It is a model that runs. Nothing in it is a copy of a part: the stock, the book and the clients
+//! are the parts themselves, and each event is one call of one of them. Lines and replies that were
+//! sent stay, so any of them may come at any time, any number of times, or never; a CPU stops
+//! between two events by having no further ones. Whatever list of events happens, the world stays
+//! one (`specs/IsWorld.antt`), and so it is safe (`specs/Safe.antt`): each unit is in one place,
+//! each grant was asked for and fits, what clients hold is leased to them and no unit is in two
+//! segments that they hold, and any two replies that settle one request are equal.
+//!
+//! Begin with [`World::step`] and `specs/Events.antt`: where each event can happen, and what may
+//! become of a world at it; `specs/Moves.antt` has the moves. Events on the stock (carving,
+//! freeing, slabs, magazines) aren't here yet, so units come into hands from leases alone.
+//!
+//! What it costs: a world keeps each line, reply and entry of the book for good. An event takes the
+//! time of its part's call, and a release looks the name of its arena up among all names.
+#![tactic(auto)]
+
+mod booking;
+mod events;
+mod hands;
+mod laws;
+mod logs;
+mod looking;
+mod names;
+mod parts;
+mod releasing;
+mod setups;
+mod talking;
+mod tasks;
+mod worlds;
+
+pub use events::{Outcome, WorldEvent};
+pub use laws::always_safe;
+pub use logs::{Label, Logged};
+pub use tasks::Task;
+pub use worlds::World;

@@ -1,0 +1,56 @@
+//! The names of arenas, and replies that tell them.
+ghost use Rattle.std.specs.Prelude.{◌≡◌, ◌≢◌, ◌<◌, ℕ, length, IfSome, IfNone};
+ghost use Rattle.lease_history.specs.Told.{reply_to};
+ghost use Rattle.world_core.specs.WorldState.{arena_name};
+ghost use Rattle.world_core.specs.Moves.{IsTellable, request_in as spec_request_in};
+
+use deed_core::Request;
+use lease_book::KeptReply;
+use lease_proto::{Granted, LeaseLine, Refused, Reply};
+use lease_terms::{Name, RequestId};
+
+/// The place of the arena with this name.
+pub(crate) fn place_of(names: &[Name], name: &Name) -> Option<usize>
+    ensures some { IfSome result
+        (λ k. (k < length names.now) × (arena_name names.now k ≡ name.now)) }
+    ensures none { IfNone result
+        ((k : ℕ) → k < length names.now → arena_name names.now k ≢ name.now) }
+{
+    for place in 0..names.len() {
+        if names[place].as_slice() == name.as_slice() {
+            return Some(place);
+        }
+    }
+    None
+}
+
+/// The reply to a request that was settled so.
+pub(crate) fn reply_to(names: &[Name], id: RequestId, kept: KeptReply) -> Reply
+    requires { IsTellable (length names.now) kept }
+    ensures { result ≡ reply_to (arena_name names.now) id kept }
+{
+    match kept {
+        KeptReply::Granted { arena, base, len } => Reply::Granted(Granted {
+            id,
+            arena: names[arena as usize],
+            base,
+            len,
+        }),
+        KeptReply::Released => Reply::Released(id),
+        KeptReply::Refused(refusal) => Reply::Refused(Refused { id, refusal }),
+    }
+}
+
+/// What a lease asks of its arena.
+pub(crate) fn request_in(lease: &LeaseLine) -> Request
+    ensures { result ≡ spec_request_in lease.now }
+{
+    Request {
+        size: lease.size.get(),
+        align: lease.options.align.get(),
+        phase: lease.options.phase.get(),
+        nocross: lease.options.nocross.get(),
+        min: lease.options.min.get(),
+        max: lease.options.max.get(),
+    }
+}
