@@ -19,6 +19,15 @@ returns-in_err-input-clause-err g c =
     rw (p.1, p.2) (setup_fails TakesSetupLine RefusesSetupLine CanTakeSetupLine IsDeskOf LeaseStep no_arenas c.take_setup.new.setup unread left
     (g.W.Write.contents (inner_of c.args.writer.now)) c.in_err-input.field-0.0 fails)
 
+pub returns-in_err-desk-clause-err : goal.returns-in_err-desk-clause-err
+returns-in_err-desk-clause-err g c =
+    let p = err_from_is_err_and c.from_residual-in_err-desk.result c.from_residual-in_err-desk.ensures.1 in
+    let unread = g.R.Read.remaining (inner_of c.args.reader.now) in
+    let mid = g.R.Read.remaining (inner_of c.take_setup.new.reader) in
+    let taken = subst (λ (s : SetupState). TakesSetup TakesSetupLine s unread mid c.take_setup.new.setup c.in_ok-input.input) c.new-setup.ensures c.in_ok-input.ensures.ok in
+    rw (p.1, p.2) (open_fails TakesSetupLine RefusesSetupLine CanTakeSetupLine IsDeskOf LeaseStep no_arenas c.take_setup.new.setup unread mid
+    (g.W.Write.contents (inner_of c.args.writer.now)) c.in_ok-input.input taken)
+
 pub returns-in_err-served-clause-err : goal.returns-in_err-served-clause-err
 returns-in_err-served-clause-err g c =
     let p = err_from_is_err_and c.from_residual-in_err-served.result c.from_residual-in_err-served.ensures.1 in
