@@ -132,9 +132,10 @@ line_first line more one =
     let all : frames_of (ended line ++ more) ≡ frame_of line ∷ frames_of more = rw (frames, rest) refl in
     all ∙ ap (λ f. f ∷ frames_of more) (sym (frame_of-take line))
 
-begins_frames : (front line rest left : List ℕ) → IsOneLine line → front ≡ ended line ++ rest
+-- of a front that goes on
+first_frames : (front line rest left : List ℕ) → IsOneLine line → front ≡ ended line ++ rest
     → frames_of (front ++ left) ≡ frame_of (take 256 line) ∷ frames_of (rest ++ left)
-begins_frames front line rest left one e =
+first_frames front line rest left one e =
     ap (λ l. frames_of (l ++ left)) e ∙ ap frames_of (append_assoc (ended line) rest left) ∙ line_first line (rest ++ left) one
 
 -- a line that is too long already stays so
@@ -165,7 +166,7 @@ module _ {S : Type 0} (takes : S → SetupLine → S → Type 0) (refuses : S �
   refuses_line made front line rest left word one e refused = (
     frame_of (take 256 line),
     frames_of (rest ++ left),
-    begins_frames front line rest left one e,
+    first_frames front line rest left one e,
     subst (λ r. RefusesRead refuses made r word) (sym (frame_setup (take 256 line))) refused,
   )
 
@@ -205,26 +206,27 @@ module _ {S : Type 0} (takes : S → SetupLine → S → Type 0) (refuses : S �
       subst (λ all. SetupRefused takes refuses first all number (config.Line why) made) (sym (read ∙ ap (λ l. input ++ l) end ∙ append-nil input))
       (front, setup, counted, sym (begins_setup-take front) ∙ begins, (Err why, [], rest_first front why one last, refl))
 
-module _ {S : Type 0} (takes : S → SetupLine → S → Type 0) (refuses : S → SetupLine → ConfigFault → Type 0) (can : S → SetupLine → Type 0) where
+module _ {S : Type 0} (takes : S → SetupLine → S → Type 0) (can : S → SetupLine → Type 0) where
   can_take_line : (made : S) (front line rest left : List ℕ) → IsOneLine line → front ≡ ended line ++ rest
       → CanTakeRead can made (setup_of (take 256 line)) → CanTakeFirst can made (front ++ left)
   can_take_line made front line rest left one e able = (
     frame_of (take 256 line),
     frames_of (rest ++ left),
-    begins_frames front line rest left one e,
+    first_frames front line rest left one e,
     subst (λ r. CanTakeRead can made r) (sym (frame_setup (take 256 line))) able,
   )
 
   -- a line that can be taken, however the input goes on
   goes_on : (first made : S) (unread left : Option (List ℕ)) (input front : List ℕ) (setup : SetsUp takes first input front made)
-      → Consumes unread left input → IsSetup front → ((more : List ℕ) → CanTakeFirst can made (front ++ more))
+      → Consumes unread left input → ((more : List ℕ) → CanTakeFirst can made (front ++ more))
       → IfSome unread (λ all. CanGoOn takes can first all made)
-  goes_on first made None left input front setup read begins able = tt
-  goes_on first made (Some xs) None input front setup read begins able = absurd read
-  goes_on first made (Some xs) (Some ys) input front setup read begins able =
+  goes_on first made None left input front setup read able = tt
+  goes_on first made (Some xs) None input front setup read able = absurd read
+  goes_on first made (Some xs) (Some ys) input front setup read able =
       subst (λ all. CanGoOn takes can first all made) (sym read)
-      (front ++ ys, (more_read takes first made input front ys setup).0, begins ys, able ys)
+      (front ++ ys, (more_read takes first made input front ys setup).0, able ys)
 
+module _ {S : Type 0} (takes : S → SetupLine → S → Type 0) (refuses : S → SetupLine → ConfigFault → Type 0) (can : S → SetupLine → Type 0) where
   pub line_fails : (first made last : S) (unread left : Option (List ℕ)) (input front line rest : List ℕ) (setup : SetsUp takes first input front made) (number : ℕ) (fault : ScriptFault)
       → Consumes unread left input → number ≡ length setup.lines + 1 → begins_setup (take 256 line) ≡ true → IsOneLine line → front ≡ ended line ++ rest
       → last ≡ made → LineFails refuses can made number (setup_of (take 256 line)) fault → SetupFails takes refuses can first unread left last fault
@@ -236,8 +238,7 @@ module _ {S : Type 0} (takes : S → SetupLine → S → Type 0) (refuses : S �
   line_fails first made last unread left input front line rest setup number Write read counted begins one e same fails = absurd fails
   line_fails first made last unread left input front line rest setup number Memory read counted begins one e same fails =
       subst (λ desk. IfSome unread (λ all. CanGoOn takes can first all desk)) (sym same)
-      (goes_on first made unread left input front setup read
-      (λ more. begins_by_line front line rest more e ∙ begins) (λ more. can_take_line made front line rest more one e fails))
+      (goes_on takes can first made unread left input front setup read (λ more. can_take_line takes can made front line rest more one e fails))
 
   -- a read that failed while a line had begun
   pub reading_fails : (first made : S) (unread mid left : Option (List ℕ)) (input front : List ℕ) (setup : SetsUp takes first input front made) (old : IntakeState) (before after : Bool)

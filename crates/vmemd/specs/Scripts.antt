@@ -92,12 +92,12 @@ module _ {S : Type 0} (can : S → SetupLine → Type 0) where
       × (frames_of input ≡ frame ∷ frames) × CanTakeRead made (frame >>= setup_of)
 
 module _ {S : Type 0} (takes : S → SetupLine → S → Type 0) (can : S → SetupLine → Type 0) where
-  -- after the setup lines that made this one comes a further one that it can take
+  -- an input is setup lines that are taken, and after them comes one that what they made can take
   abbrev pub CanGoOn : S → List ℕ → S → Type 0
   CanGoOn first input made = (rest : List ℕ) × SetsUp takes first input rest made
-      × (begins_setup rest ≡ true) × CanTakeFirst can made rest
+      × CanTakeFirst can made rest
 
-  -- no setup line was refused so far: the next can be taken, or there is none more
+  -- no setup line is refused: after those that are taken comes one that can be, or no setup line
   abbrev pub RefusesNone : S → List ℕ → Type 0
   RefusesNone first input = (made : S) × (CanGoOn first input made
       ⊎ ((lines : List ℕ) × SetsUp takes first input lines made × (begins_setup lines ≡ false)))

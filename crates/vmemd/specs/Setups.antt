@@ -36,7 +36,7 @@ module _ {S : Type 0} (takes : S → SetupLine → S → Type 0) where
 
 module _ {S : Type 0} (refuses : S → SetupLine → ConfigFault → Type 0)
     (can : S → SetupLine → Type 0) where
-  -- why a line isn't taken; memory is asked for only where it can be
+  -- why a line isn't taken; out of memory comes only for one that can be
   abbrev pub LineFails : S → ℕ → Result SetupLine LineFault → ScriptFault → Type 0
   LineFails made number read (Setup line word) = (line ≡ number)
       × RefusesRead refuses made read word

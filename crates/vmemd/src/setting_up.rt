@@ -27,7 +27,7 @@ pub trait SetUp {
     // what refuses a setup line, and why
     ghost refuses: { Self → SetupLine → ConfigFault → Type 0 };
 
-    // what can take a setup line: memory is asked for only then
+    // what can take a setup line: nothing speaks against it, and memory is asked for only then
     ghost can: { Self → SetupLine → Type 0 };
 
     /// Takes a setup line, or says why not and stays as it was.
