@@ -1,14 +1,14 @@
 -- Lemmas on a script's setup and the lines after it.
-use Rattle.std.proofs.Common.{◌≡◌, ◌≤◌, ◌+◌, ◌-◌, ◌^◌, ℕ, min, true, false, Option, Some, None, List, [], ◌∷◌, ◌++◌, refl, sym, ◌∙◌, ap, subst, IfSome, inl, inr, arith, append_assoc}
+use Rattle.std.proofs.Common.{◌≡◌, ℕ, true, false, Option, Some, None, List, [], ◌∷◌, ◌++◌, refl, sym, ◌∙◌, ap, subst, IfSome, inl, inr, append_assoc}
 use Rattle.std.proofs.lemmas.Bool.{cases_Bool}
 use Rattle.std.proofs.lemmas.List.{append-nil}
-use Rattle.std.specs.Io.KnownBytes.{Appends, Consumes, IsAtEnd}
+use Rattle.std.specs.Io.KnownBytes.{Consumes, IsAtEnd}
 use Rattle.std.proofs.KnownBytes.{Appends-nil, Consumes-trans}
-use Rattle.lease_proto.specs.Frames.{Frame, IsOneLine, frames_in, frames_of, rest_in, last_of}
+use Rattle.lease_proto.specs.Frames.{Frame, frames_in, frames_of, rest_in, last_of}
 use Rattle.lease_proto.specs.SetupLines.{begins_setup}
 use Rattle.lease_proto.specs.declared.setup_lines.SetupLine.{SetupLine}
-use Rattle.lease_proto.proofs.LawProofs.{frames_in-none, frames_in-append}
-use Rattle.lease_server.specs.Intakes.{IntakeState, hand_in, frames_on, frames_to_end}
+use Rattle.lease_proto.proofs.LawProofs.{frames_in-append}
+use Rattle.lease_server.specs.Intakes.{IntakeState, frames_on, frames_to_end}
 use Rattle.lease_server.specs.Serving.{Writes, WritesBefore, Stops, ServeFails}
 use Rattle.lease_server.specs.Watching.{Streams}
 use Rattle.lease_server.specs.declared.faults.ServeFault.{ServeFault}
@@ -17,7 +17,7 @@ use Rattle.lease_server.proofs.LawProofs.{hand_tells}
 use Rattle.vmemd.specs.declared.faults.ConfigFault.{ConfigFault}
 use Rattle.vmemd.specs.declared.faults.ScriptFault.{ScriptFault}
 use Rattle.vmemd.specs.declared.faults.ScriptFault.TheVariants.{Setup, Read, Write, Memory}
-use Rattle.vmemd.specs.Scripts.{SetsUp, CanGoOn, OpensDesk, RunsWhole, RunsSoFar, RunsFirst, RunFails, WritesFirst, SetupRefused, serving_fault}
+use Rattle.vmemd.specs.Scripts.{CanGoOn, OpensDesk, RunsWhole, RunsSoFar, RunsFirst, RunFails, WritesFirst, SetupRefused, serving_fault}
 use Rattle.vmemd.specs.Setups.{IsOther, TakesSetup, SetupFails}
 use Rattle.vmemd.proofs.SetupLemmas.{more_read}
 

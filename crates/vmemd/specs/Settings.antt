@@ -1,5 +1,5 @@
 -- What a setup line asks of a setup, and when it is refused with which word.
-use Rattle.std.specs.Prelude.{◌≡◌, ℕ, ◌<◌}
+use Rattle.std.specs.Prelude.{◌≡◌, ◌<◌}
 use Rattle.std.specs.Int.{IsPowerOfTwo}
 use Rattle.tag_arena.specs.declared.policies.Policy.{Policy}
 use Rattle.tag_arena.specs.declared.policies.Policy.TheVariants as policies
