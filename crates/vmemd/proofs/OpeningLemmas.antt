@@ -1,5 +1,5 @@
 -- Lemmas on the first word of a setup line.
-use Rattle.std.proofs.Common.{◌≡◌, ◌⊎◌, ℕ, ◌≤◌, ◌<◌, min, nat_le, zero, suc, true, false, List, [], ◌∷◌, ◌++◌, length, take, drop, refl, sym, ◌∙◌, ap, arith, codes, inl, inr}
+use Rattle.std.proofs.Common.{◌≡◌, ◌⊎◌, ℕ, ◌<◌, min, nat_le, zero, suc, true, false, List, [], ◌∷◌, ◌++◌, length, take, drop, refl, sym, ◌∙◌, ap, arith, codes, inl, inr}
 use Rattle.std.proofs.lemmas.Bool.{cases_Bool, or_cases, leb-true, leb-false}
 use Rattle.std.proofs.lemmas.List.{take_all, take-append-drop, take-append-le, length-append, length-take}
 use Rattle.std.proofs.lemmas.Slice.Eq.{bytes_eq-Decides}

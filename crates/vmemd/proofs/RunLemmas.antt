@@ -1,14 +1,14 @@
 -- Lemmas on a script's setup and the lines after it.
-use Rattle.std.proofs.Common.{◌≡◌, ◌≤◌, ◌+◌, ◌-◌, ◌^◌, ℕ, min, true, false, Option, Some, None, List, [], ◌∷◌, ◌++◌, refl, sym, ◌∙◌, ap, subst, IfSome, inl, inr, arith, append_assoc}
+use Rattle.std.proofs.Common.{◌≡◌, ℕ, true, false, Option, Some, None, List, [], ◌∷◌, ◌++◌, refl, sym, ◌∙◌, ap, subst, IfSome, inl, inr, append_assoc}
 use Rattle.std.proofs.lemmas.Bool.{cases_Bool}
 use Rattle.std.proofs.lemmas.List.{append-nil}
-use Rattle.std.specs.Io.KnownBytes.{Appends, Consumes, IsAtEnd}
+use Rattle.std.specs.Io.KnownBytes.{Consumes, IsAtEnd}
 use Rattle.std.proofs.KnownBytes.{Appends-nil, Consumes-trans}
-use Rattle.lease_proto.specs.Frames.{Frame, IsOneLine, frames_in, frames_of, rest_in, last_of}
+use Rattle.lease_proto.specs.Frames.{Frame, frames_in, frames_of, rest_in, last_of}
 use Rattle.lease_proto.specs.SetupLines.{begins_setup}
 use Rattle.lease_proto.specs.declared.setup_lines.SetupLine.{SetupLine}
-use Rattle.lease_proto.proofs.LawProofs.{frames_in-none, frames_in-append}
-use Rattle.lease_server.specs.Intakes.{IntakeState, hand_in, frames_on, frames_to_end}
+use Rattle.lease_proto.proofs.LawProofs.{frames_in-append}
+use Rattle.lease_server.specs.Intakes.{IntakeState, frames_on, frames_to_end}
 use Rattle.lease_server.specs.Serving.{Writes, WritesBefore, Stops, ServeFails}
 use Rattle.lease_server.specs.Watching.{Streams}
 use Rattle.lease_server.specs.declared.faults.ServeFault.{ServeFault}
@@ -17,7 +17,7 @@ use Rattle.lease_server.proofs.LawProofs.{hand_tells}
 use Rattle.vmemd.specs.declared.faults.ConfigFault.{ConfigFault}
 use Rattle.vmemd.specs.declared.faults.ScriptFault.{ScriptFault}
 use Rattle.vmemd.specs.declared.faults.ScriptFault.TheVariants.{Setup, Read, Write, Memory}
-use Rattle.vmemd.specs.Scripts.{SetsUp, OpensDesk, RunsWhole, RunsSoFar, RunsFirst, RunFails, WritesFirst, SetupRefused, serving_fault}
+use Rattle.vmemd.specs.Scripts.{CanGoOn, OpensDesk, RunsWhole, RunsSoFar, RunsFirst, RunFails, WritesFirst, SetupRefused, serving_fault}
 use Rattle.vmemd.specs.Setups.{IsOther, TakesSetup, SetupFails}
 use Rattle.vmemd.proofs.SetupLemmas.{more_read}
 
@@ -59,11 +59,11 @@ module _ {S : Type 0} (may_answer : S → List ℕ → List ℕ → S → Type 0
       ∙ append_assoc (frames_in [] (front ++ input)) (frames_in (rest_in [] (front ++ input)) ys) last in
       subst (λ frames. WritesFirst may_answer old frames a b) (sym (ap frames_of bytes ∙ more)) (first_of_more old new (frames_in [] (front ++ input)) _ a b before)
 
-module _ {S T : Type 0} (takes : S → SetupLine → S → Type 0) (refuses : S → SetupLine → ConfigFault → Type 0) (opens : S → T → Type 0)
-    (may_answer : T → List ℕ → List ℕ → T → Type 0) where
+module _ {S T : Type 0} (takes : S → SetupLine → S → Type 0) (refuses : S → SetupLine → ConfigFault → Type 0) (can : S → SetupLine → Type 0)
+    (opens : S → T → Type 0) (may_answer : T → List ℕ → List ℕ → T → Type 0) where
   -- a setup that ended early
-  pub setup_fails : (first last : S) (unread left a : Option (List ℕ)) (fault : ScriptFault) → SetupFails takes refuses first unread left last fault
-      → RunFails takes refuses opens may_answer first unread left a a fault
+  pub setup_fails : (first last : S) (unread left a : Option (List ℕ)) (fault : ScriptFault) → SetupFails takes refuses can first unread left last fault
+      → RunFails takes refuses can opens may_answer first unread left a a fault
   setup_fails first last unread left a (Setup line word) fails = (
     weaker unread (λ input. SetupRefused takes refuses first input line word last)
         (λ input. (made : S) × SetupRefused takes refuses first input line word made) (λ input is. (last, is)) fails,
@@ -71,13 +71,21 @@ module _ {S T : Type 0} (takes : S → SetupLine → S → Type 0) (refuses : S 
   )
   setup_fails first last unread left a Read (part, read, one) = (read.0, read.1, inl (part, last, read.2, one, Appends-nil a))
   setup_fails first last unread left a Write fails = absurd fails
-  setup_fails first last None left a Memory fails = tt
-  setup_fails first last (Some xs) left a Memory fails = inl (Appends-nil a)
+  setup_fails first last unread left a Memory fails =
+      weaker unread (λ input. CanGoOn takes can first input last) (λ input. RunsFirst takes can opens may_answer first input a a)
+      (λ input on. inl ((last, inl on), Appends-nil a)) fails
 
   -- no desk was opened
-  pub open_fails : (first : S) (unread a : Option (List ℕ)) → IfSome unread (λ input. RunsFirst takes opens may_answer first input a a)
-  open_fails first None a = tt
-  open_fails first (Some xs) a = inl (Appends-nil a)
+  pub open_fails : (first made : S) (unread mid a : Option (List ℕ)) (from : IntakeState) → TakesSetup takes first unread mid made from
+      → IfSome unread (λ input. RunsFirst takes can opens may_answer first input a a)
+  open_fails first made None mid a from is = tt
+  open_fails first made (Some xs) None a from is = absurd is.1.1
+  open_fails first made (Some xs) (Some ys) a from is =
+      let none : from.ended ≡ true → ys ≡ [] = λ e. (is.4 e).1 in
+      let other = stays_other from is.0 ys is.3 (λ e. (is.4 e).0) none in
+      let setup = (more_read takes first made is.1.0 is.0 ys is.1.2).0 in
+      subst (λ input. RunsFirst takes can opens may_answer first input a a) (sym is.1.1)
+      (inl ((made, inr (is.0 ++ ys, setup, other)), Appends-nil a))
 
   -- the lines after a setup, and the desk that it opens
   module _ (first made : S) (desk : T) (unread mid : Option (List ℕ)) (from : IntakeState) (is : TakesSetup takes first unread mid made from) (opened : opens made desk) where
@@ -122,7 +130,7 @@ module _ {S T : Type 0} (takes : S → SetupLine → S → Type 0) (refuses : S 
   -- serving them ended early
   pub serving_fails : (first made : S) (desk last : T) (unread : Option (List ℕ)) (from : IntakeState) (old new : Streams) (fault : ServeFault)
       → TakesSetup takes first unread old.unread made from → opens made desk → ServeFails may_answer from old new desk last fault
-      → RunFails takes refuses opens may_answer first unread new.unread old.written new.written (serving_fault fault)
+      → RunFails takes refuses can opens may_answer first unread new.unread old.written new.written (serving_fault fault)
   serving_fails first made desk last unread from old new serving.Read is opened (more, (going, read, writes), reader, writer) =
       read_fails first made desk unread old.unread from is opened last new.unread old.written new.written more going read writes
   serving_fails first made desk last unread from old new serving.Turns is opened (more, (going, read, writes), reader, writer, long, reads) =

@@ -15,7 +15,7 @@ use Rattle.lease_proto.specs.declared.setup_lines.SetupLine.{SetupLine}
 use Rattle.vmemd.specs.declared.faults.ConfigFault.{ConfigFault}
 use Rattle.vmemd.specs.declared.faults.ConfigFault.TheVariants as config
 use Rattle.lease_proto.specs.SetupLines.{setup_of, begins_setup}
-use Rattle.vmemd.specs.Scripts.{Makes, SetsUp, RefusesRead, RefusesFirst, SetupRefused, serving_fault}
+use Rattle.vmemd.specs.Scripts.{Makes, SetsUp, RefusesRead, RefusesFirst, SetupRefused, CanTakeRead, CanTakeFirst, CanGoOn, serving_fault}
 use Rattle.vmemd.specs.declared.faults.ScriptFault.{ScriptFault}
 use Rattle.vmemd.specs.declared.faults.ScriptFault.TheVariants.{Setup, Read, Write, Memory}
 use Rattle.vmemd.specs.Setups.{TakesLine, LineFails, SetupFails}
@@ -132,6 +132,12 @@ line_first line more one =
     let all : frames_of (ended line ++ more) ≡ frame_of line ∷ frames_of more = rw (frames, rest) refl in
     all ∙ ap (λ f. f ∷ frames_of more) (sym (frame_of-take line))
 
+-- of a front that goes on
+first_frames : (front line rest left : List ℕ) → IsOneLine line → front ≡ ended line ++ rest
+    → frames_of (front ++ left) ≡ frame_of (take 256 line) ∷ frames_of (rest ++ left)
+first_frames front line rest left one e =
+    ap (λ l. frames_of (l ++ left)) e ∙ ap frames_of (append_assoc (ended line) rest left) ∙ line_first line (rest ++ left) one
+
 -- a line that is too long already stays so
 long_goes_on : (line left : List ℕ) → 255 < length line → (frames : List Frame) × (frames_in line left ++ last_of (rest_in line left) ≡ Err TooLong ∷ frames)
 long_goes_on [] [] long = absurd (omega arith)
@@ -160,7 +166,7 @@ module _ {S : Type 0} (takes : S → SetupLine → S → Type 0) (refuses : S �
   refuses_line made front line rest left word one e refused = (
     frame_of (take 256 line),
     frames_of (rest ++ left),
-    ap (λ l. frames_of (l ++ left)) e ∙ ap frames_of (append_assoc (ended line) rest left) ∙ line_first line (rest ++ left) one,
+    first_frames front line rest left one e,
     subst (λ r. RefusesRead refuses made r word) (sym (frame_setup (take 256 line))) refused,
   )
 
@@ -200,30 +206,44 @@ module _ {S : Type 0} (takes : S → SetupLine → S → Type 0) (refuses : S �
       subst (λ all. SetupRefused takes refuses first all number (config.Line why) made) (sym (read ∙ ap (λ l. input ++ l) end ∙ append-nil input))
       (front, setup, counted, sym (begins_setup-take front) ∙ begins, (Err why, [], rest_first front why one last, refl))
 
-  -- whatever more there is to read, it follows the setup lines
-  pub whole_follows : (first made : S) (unread left : Option (List ℕ)) (input front : List ℕ) (setup : SetsUp takes first input front made) → Consumes unread left input
-      → IfSome unread (λ all. (rest : List ℕ) × (made : S) × SetsUp takes first all rest made)
-  whole_follows first made None left input front setup read = tt
-  whole_follows first made (Some xs) None input front setup read = absurd read
-  whole_follows first made (Some xs) (Some ys) input front setup read =
-      subst (λ all. (rest : List ℕ) × (made : S) × SetsUp takes first all rest made) (sym read) (front ++ ys, made, (more_read takes first made input front ys setup).0)
+module _ {S : Type 0} (takes : S → SetupLine → S → Type 0) (can : S → SetupLine → Type 0) where
+  can_take_line : (made : S) (front line rest left : List ℕ) → IsOneLine line → front ≡ ended line ++ rest
+      → CanTakeRead can made (setup_of (take 256 line)) → CanTakeFirst can made (front ++ left)
+  can_take_line made front line rest left one e able = (
+    frame_of (take 256 line),
+    frames_of (rest ++ left),
+    first_frames front line rest left one e,
+    subst (λ r. CanTakeRead can made r) (sym (frame_setup (take 256 line))) able,
+  )
 
+  -- a line that can be taken, however the input goes on
+  goes_on : (first made : S) (unread left : Option (List ℕ)) (input front : List ℕ) (setup : SetsUp takes first input front made)
+      → Consumes unread left input → ((more : List ℕ) → CanTakeFirst can made (front ++ more))
+      → IfSome unread (λ all. CanGoOn takes can first all made)
+  goes_on first made None left input front setup read able = tt
+  goes_on first made (Some xs) None input front setup read able = absurd read
+  goes_on first made (Some xs) (Some ys) input front setup read able =
+      subst (λ all. CanGoOn takes can first all made) (sym read)
+      (front ++ ys, (more_read takes first made input front ys setup).0, able ys)
+
+module _ {S : Type 0} (takes : S → SetupLine → S → Type 0) (refuses : S → SetupLine → ConfigFault → Type 0) (can : S → SetupLine → Type 0) where
   pub line_fails : (first made last : S) (unread left : Option (List ℕ)) (input front line rest : List ℕ) (setup : SetsUp takes first input front made) (number : ℕ) (fault : ScriptFault)
       → Consumes unread left input → number ≡ length setup.lines + 1 → begins_setup (take 256 line) ≡ true → IsOneLine line → front ≡ ended line ++ rest
-      → last ≡ made → LineFails refuses made number (setup_of (take 256 line)) fault → SetupFails takes refuses first unread left last fault
+      → last ≡ made → LineFails refuses can made number (setup_of (take 256 line)) fault → SetupFails takes refuses can first unread left last fault
   line_fails first made last unread left input front line rest setup number (Setup at word) read counted begins one e same fails =
       subst (λ desk. IfSome unread (λ all. SetupRefused takes refuses first all at word desk)) (sym same)
-      (refused_now first made unread left input front setup number at word read counted fails.0
-      (λ more. begins_by_line front line rest more e ∙ begins) (λ more. refuses_line made front line rest more word one e fails.1))
+      (refused_now takes refuses first made unread left input front setup number at word read counted fails.0
+      (λ more. begins_by_line front line rest more e ∙ begins) (λ more. refuses_line takes refuses made front line rest more word one e fails.1))
   line_fails first made last unread left input front line rest setup number Read read counted begins one e same fails = absurd fails
   line_fails first made last unread left input front line rest setup number Write read counted begins one e same fails = absurd fails
   line_fails first made last unread left input front line rest setup number Memory read counted begins one e same fails =
-      whole_follows first made unread left input front setup read
+      subst (λ desk. IfSome unread (λ all. CanGoOn takes can first all desk)) (sym same)
+      (goes_on takes can first made unread left input front setup read (λ more. can_take_line takes can made front line rest more one e fails))
 
   -- a read that failed while a line had begun
   pub reading_fails : (first made : S) (unread mid left : Option (List ℕ)) (input front : List ℕ) (setup : SetsUp takes first input front made) (old : IntakeState) (before after : Bool)
       (fault : ServeFault) → Consumes unread mid input → IsOneLine front → StopsReading old mid left before after fault
-      → SetupFails takes refuses first unread left made (serving_fault fault)
+      → SetupFails takes refuses can first unread left made (serving_fault fault)
   reading_fails first made unread mid left input front setup old before after serving.Read read one stops =
       (front, (input, Consumes-kept unread mid left input read stops.0, setup), one)
   reading_fails first made unread mid left input front setup old before after serving.Turns read one stops =

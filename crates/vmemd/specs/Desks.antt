@@ -4,7 +4,7 @@ use Rattle.arena_tree.specs.Settings.{SetupState}
 use Rattle.lease_desk.specs.Machine.{LeaseStep}
 use Rattle.lease_desk.specs.Opened.{IsDeskOf}
 use Rattle.vmemd.specs.Scripts.{RunsWhole, RunFails}
-use Rattle.vmemd.specs.Settings.{TakesSetupLine, RefusesSetupLine}
+use Rattle.vmemd.specs.Settings.{TakesSetupLine, RefusesSetupLine, CanTakeSetupLine}
 use Rattle.vmemd.specs.declared.faults.ScriptFault.{ScriptFault}
 
 -- a setup of no arena
@@ -20,5 +20,5 @@ ScriptEnds input before after =
 abbrev pub ScriptFails : Option (List ℕ) → Option (List ℕ) → Option (List ℕ) → Option (List ℕ)
     → ScriptFault → Type 0
 ScriptFails unread left before after fault =
-    RunFails TakesSetupLine RefusesSetupLine IsDeskOf LeaseStep no_arenas unread left before after
-    fault
+    RunFails TakesSetupLine RefusesSetupLine CanTakeSetupLine IsDeskOf LeaseStep no_arenas unread
+    left before after fault

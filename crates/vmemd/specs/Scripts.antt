@@ -50,10 +50,10 @@ Blames reader reads writer Read = IsSpent reader reads × (writer ≡ false)
 Blames reader reads writer Write = (reader ≡ false) × (writer ≡ true)
 Blames reader reads writer Memory = (reader ≡ false) × (writer ≡ false)
 
--- what doesn't take a line refuses it so, or is out of memory
-abbrev pub RefusedBy : (ConfigFault → Type 0) → SettingFault → Type 0
-RefusedBy refused (setting.Refused fault) = refused fault
-RefusedBy refused setting.Memory = Unit {0}
+-- what doesn't take a line refuses it so, or is out of memory for one that it can take
+abbrev pub RefusedBy : (ConfigFault → Type 0) → Type 0 → SettingFault → Type 0
+RefusedBy refused can (setting.Refused fault) = refused fault
+RefusedBy refused can setting.Memory = can
 
 module _ {S : Type 0} (takes : S → SetupLine → S → Type 0) where
   -- from one setup, these lines are taken one after another, and make the other
@@ -79,6 +79,28 @@ module _ {S : Type 0} (refuses : S → SetupLine → ConfigFault → Type 0) whe
   RefusesFirst made input word = (frame : Frame) × (frames : List Frame)
       × (frames_of input ≡ frame ∷ frames)
       × RefusesRead made (frame >>= setup_of) word
+
+module _ {S : Type 0} (can : S → SetupLine → Type 0) where
+  -- a setup can take what was read of a line: it is a setup line, and nothing speaks against it
+  abbrev pub CanTakeRead : S → Result SetupLine LineFault → Type 0
+  CanTakeRead made (Err fault) = ⊥
+  CanTakeRead made (Ok setting) = can made setting
+
+  -- a setup can take the line that an input begins with
+  abbrev pub CanTakeFirst : S → List ℕ → Type 0
+  CanTakeFirst made input = (frame : Frame) × (frames : List Frame)
+      × (frames_of input ≡ frame ∷ frames) × CanTakeRead made (frame >>= setup_of)
+
+module _ {S : Type 0} (takes : S → SetupLine → S → Type 0) (can : S → SetupLine → Type 0) where
+  -- an input is setup lines that are taken, and after them comes one that what they made can take
+  abbrev pub CanGoOn : S → List ℕ → S → Type 0
+  CanGoOn first input made = (rest : List ℕ) × SetsUp takes first input rest made
+      × CanTakeFirst can made rest
+
+  -- no setup line is refused: after those that are taken comes one that can be, or no setup line
+  abbrev pub RefusesNone : S → List ℕ → Type 0
+  RefusesNone first input = (made : S) × (CanGoOn first input made
+      ⊎ ((lines : List ℕ) × SetsUp takes first input lines made × (begins_setup lines ≡ false)))
 
 module _ {S : Type 0} (takes : S → SetupLine → S → Type 0)
     (refuses : S → SetupLine → ConfigFault → Type 0) where
@@ -130,15 +152,18 @@ module _ {S T : Type 0} (takes : S → SetupLine → S → Type 0) (opens : S �
       × OpensDesk takes opens first input lines desk
       × Stops may_answer desk (frames_of lines) before after
 
-  -- Of an input's answers the first are written whole, or none.
+module _ {S T : Type 0} (takes : S → SetupLine → S → Type 0) (can : S → SetupLine → Type 0)
+    (opens : S → T → Type 0) (may_answer : T → List ℕ → List ℕ → T → Type 0) where
+  -- Of an input's answers the first are written whole; or none, and no setup line was refused.
   abbrev pub RunsFirst : S → List ℕ → Option (List ℕ) → Option (List ℕ) → Type 0
-  RunsFirst first input before after = Appends before after []
+  RunsFirst first input before after =
+      (RefusesNone takes can first input × Appends before after [])
       ⊎ ((lines : List ℕ) × (desk : T) × OpensDesk takes opens first input lines desk
       × WritesFirst may_answer desk (frames_of lines) before after)
 
 module _ {S T : Type 0} (takes : S → SetupLine → S → Type 0)
-    (refuses : S → SetupLine → ConfigFault → Type 0) (opens : S → T → Type 0)
-    (may_answer : T → List ℕ → List ℕ → T → Type 0) where
+    (refuses : S → SetupLine → ConfigFault → Type 0) (can : S → SetupLine → Type 0)
+    (opens : S → T → Type 0) (may_answer : T → List ℕ → List ℕ → T → Type 0) where
   -- what a fault says of what was read and written
   abbrev pub RunFails : S → Option (List ℕ) → Option (List ℕ) → Option (List ℕ) → Option (List ℕ)
       → ScriptFault → Type 0
@@ -150,4 +175,4 @@ module _ {S T : Type 0} (takes : S → SetupLine → S → Type 0)
   RunFails first unread left before after Write = IfSome unread
       (λ input. RunStops takes opens may_answer first input before after)
   RunFails first unread left before after Memory = IfSome unread
-      (λ input. RunsFirst takes opens may_answer first input before after)
+      (λ input. RunsFirst takes can opens may_answer first input before after)

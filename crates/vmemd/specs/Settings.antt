@@ -1,9 +1,9 @@
 -- What a setup line asks of a setup, and when it is refused with which word.
-use Rattle.std.specs.Prelude.{◌≡◌, ℕ, ◌<◌}
+use Rattle.std.specs.Prelude.{◌≡◌, ◌<◌}
 use Rattle.std.specs.Int.{IsPowerOfTwo}
 use Rattle.tag_arena.specs.declared.policies.Policy.{Policy}
 use Rattle.tag_arena.specs.declared.policies.Policy.TheVariants as policies
-use Rattle.arena_tree.specs.Settings.{SetupState, TakesSetting, RefusesNewSpan}
+use Rattle.arena_tree.specs.Settings.{SetupState, TakesSetting, CanSet, RefusesNewSpan}
 use Rattle.arena_tree.specs.Setups.{HasRoom, RefusesRoot}
 use Rattle.arena_tree.specs.declared.settings.NewRoot.{NewRoot}
 use Rattle.arena_tree.specs.declared.settings.NewSpan.{NewSpan}
@@ -62,6 +62,12 @@ TakesSetupLine old (Root r) new = (r.qcache_max ≡ 0)
     × TakesSetting old (setting.Root (root_asked r)) new
 TakesSetupLine old (Child c) new = ⊥
 TakesSetupLine old (Span s) new = TakesSetting old (setting.Span (span_asked s)) new
+
+-- a setup can take what the line asks for: no child yet, and a root only without caches
+abbrev pub CanTakeSetupLine : SetupState → SetupLine → Type 0
+CanTakeSetupLine s (Root r) = (r.qcache_max ≡ 0) × CanSet s (setting.Root (root_asked r))
+CanTakeSetupLine s (Child c) = ⊥
+CanTakeSetupLine s (Span n) = CanSet s (setting.Span (span_asked n))
 
 -- why a setup refuses a root: as far as its quantum for its own reasons, then for its caches, and a
 -- root without caches for its range too

@@ -6,7 +6,7 @@ use Rattle.lease_proto.specs.declared.setup_lines.SetupLine.{SetupLine}
 use Rattle.lease_proto.specs.Frames.{IsOneLine}
 use Rattle.lease_proto.specs.SetupLines.{setup_of, begins_setup}
 use Rattle.lease_server.specs.Intakes.{IntakeState, hand_in}
-use Rattle.vmemd.specs.Scripts.{SetsUp, RefusesRead, SetupRefused}
+use Rattle.vmemd.specs.Scripts.{SetsUp, RefusesRead, SetupRefused, CanTakeRead, CanGoOn}
 use Rattle.vmemd.specs.declared.faults.ConfigFault.{ConfigFault}
 use Rattle.vmemd.specs.declared.faults.ScriptFault.{ScriptFault}
 use Rattle.vmemd.specs.declared.faults.ScriptFault.TheVariants.{Setup, Read, Write, Memory}
@@ -34,17 +34,18 @@ module _ {S : Type 0} (takes : S → SetupLine → S → Type 0) where
       × (input.ended ≡ false → IsOther rest)
       × (input.ended ≡ true → (begins_setup rest ≡ false) × IsAtEnd left)
 
-module _ {S : Type 0} (refuses : S → SetupLine → ConfigFault → Type 0) where
-  -- why a line isn't taken
+module _ {S : Type 0} (refuses : S → SetupLine → ConfigFault → Type 0)
+    (can : S → SetupLine → Type 0) where
+  -- why a line isn't taken; out of memory comes only for one that can be
   abbrev pub LineFails : S → ℕ → Result SetupLine LineFault → ScriptFault → Type 0
   LineFails made number read (Setup line word) = (line ≡ number)
       × RefusesRead refuses made read word
   LineFails made number read Read = ⊥
   LineFails made number read Write = ⊥
-  LineFails made number read Memory = Unit {0}
+  LineFails made number read Memory = CanTakeRead can made read
 
 module _ {S : Type 0} (takes : S → SetupLine → S → Type 0)
-    (refuses : S → SetupLine → ConfigFault → Type 0) where
+    (refuses : S → SetupLine → ConfigFault → Type 0) (can : S → SetupLine → Type 0) where
   -- why a setup ended early
   abbrev pub SetupFails : S → Option (List ℕ) → Option (List ℕ) → S → ScriptFault → Type 0
   SetupFails first unread left last (Setup line word) = IfSome unread
@@ -53,4 +54,4 @@ module _ {S : Type 0} (takes : S → SetupLine → S → Type 0)
       × ReadsSetup takes first unread left last part × IsOneLine part
   SetupFails first unread left last Write = ⊥
   SetupFails first unread left last Memory = IfSome unread
-      (λ input. (rest : List ℕ) × (made : S) × SetsUp takes first input rest made)
+      (λ input. CanGoOn takes can first input last)

@@ -27,10 +27,14 @@ pub trait SetUp {
     // what refuses a setup line, and why
     ghost refuses: { Self → SetupLine → ConfigFault → Type 0 };
 
+    // what can take a setup line: nothing speaks against it, and memory is asked for only then
+    ghost can: { Self → SetupLine → Type 0 };
+
     /// Takes a setup line, or says why not and stays as it was.
     fn set_up(&mut self, line: &SetupLine) -> Result<(), SettingFault>
         ensures taken { OnOk result (takes self.old line.now self.new) }
-        ensures refused { IfErr result (RefusedBy (refuses self.old line.now)) }
+        ensures refused { IfErr result (RefusedBy (refuses self.old line.now)
+            (can self.old line.now)) }
         ensures unchanged { OnErr result (self.new ≡ self.old) };
 }
 
@@ -43,7 +47,7 @@ pub fn take_setup<R: Read, S: SetUp>(
 ) -> Result<Intake, ScriptFault>
     ensures ok { IfOk result (TakesSetup S.takes setup.old (R.remaining (inner_of reader.old))
         (R.remaining (inner_of reader.new)) setup.new) }
-    ensures err { IfErr result (SetupFails S.takes S.refuses setup.old
+    ensures err { IfErr result (SetupFails S.takes S.refuses S.can setup.old
         (R.remaining (inner_of reader.old)) (R.remaining (inner_of reader.new)) setup.new) }
     ensures works { OnOk result (has_failed reader.new ≡ has_failed reader.old) }
     ensures failed { IsErrOf result ScriptFault.Read
@@ -115,7 +119,8 @@ fn refuse_rest(rest: &[u8], number: u64) -> Result<(), ScriptFault>
 /// Lets a setup take the line of this number, given without its line feed.
 fn take_line<S: SetUp>(line: &[u8], number: u64, setup: &mut S) -> Result<(), ScriptFault>
     ensures ok { OnOk result (TakesLine S.takes setup.old line.now setup.new) }
-    ensures err { IfErr result (LineFails S.refuses setup.old number (setup_of line.now)) }
+    ensures err { IfErr result (LineFails S.refuses S.can setup.old number
+        (setup_of line.now)) }
     ensures unchanged { OnErr result (setup.new ≡ setup.old) }
 {
     let setting = match SetupLine::read(line) {

@@ -1,6 +1,6 @@
 //! Setup lines, as a setup takes and refuses them.
 ghost use Rattle.std.specs.Prelude.{◌≡◌, ◌<◌, OnOk, OnErr, IfErr};
-ghost use Rattle.arena_tree.specs.Settings.{TakesSetting};
+ghost use Rattle.arena_tree.specs.Settings.{TakesSetting, CanSet};
 ghost use Rattle.arena_tree.specs.declared.settings.Setting.TheVariants as setting;
 ghost use Rattle.vmemd.specs.Scripts.{RefusedBy};
 ghost use Rattle.vmemd.specs.Settings as spec;
@@ -34,11 +34,13 @@ impl From<SetupFault> for SettingFault {
 }
 
 impl SetUp for Setup {
-    ghost use Rattle.vmemd.specs.Settings.{TakesSetupLine, RefusesSetupLine};
+    ghost use Rattle.vmemd.specs.Settings.{TakesSetupLine, RefusesSetupLine, CanTakeSetupLine};
 
     ghost takes = { TakesSetupLine };
 
     ghost refuses = { RefusesSetupLine };
+
+    ghost can = { CanTakeSetupLine };
 
     fn set_up(&mut self, line: &SetupLine) -> Result<(), SettingFault> {
         match line {
@@ -95,7 +97,8 @@ fn policy_of(word: PolicyWord) -> Policy
 fn add_root(setup: &mut Setup, root: &NewRoot) -> Result<(), SettingFault>
     ensures ok { OnOk result ((root.now.qcache_max ≡ 0)
         × TakesSetting setup.old (setting.Root root.now) setup.new) }
-    ensures refused { IfErr result (RefusedBy (RefusesRootAsked setup.old root.now)) }
+    ensures refused { IfErr result (RefusedBy (RefusesRootAsked setup.old root.now)
+        ((root.now.qcache_max ≡ 0) × CanSet setup.old (setting.Root root.now))) }
     ensures unchanged { OnErr result (setup.new ≡ setup.old) }
 {
     if root.qcache_max != 0 {

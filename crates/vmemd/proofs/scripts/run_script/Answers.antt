@@ -5,7 +5,7 @@ use Rattle.lease_desk.specs.Machine.{LeaseStep}
 use Rattle.lease_desk.specs.Opened.{IsDeskOf}
 use Rattle.lease_server.specs.Watching.{inner_of, streams_of}
 use Rattle.vmemd.specs.Desks.{no_arenas}
-use Rattle.vmemd.specs.Settings.{TakesSetupLine, RefusesSetupLine}
+use Rattle.vmemd.specs.Settings.{TakesSetupLine, RefusesSetupLine, CanTakeSetupLine}
 use Rattle.vmemd.specs.Setups.{SetupFails, TakesSetup}
 use Rattle.vmemd.proofs.RunLemmas.{setup_fails, open_fails, run_whole, serving_fails}
 use Rattle.vmemd.proofs.scripts.run_script.Goals as goal
@@ -15,9 +15,18 @@ returns-in_err-input-clause-err g c =
     let p = err_from_is_err_and c.from_residual.result c.from_residual.ensures.1 in
     let unread = g.R.Read.remaining (inner_of c.args.reader.now) in
     let left = g.R.Read.remaining (inner_of c.take_setup.new.reader) in
-    let fails = subst (λ (s : SetupState). SetupFails TakesSetupLine RefusesSetupLine s unread left c.take_setup.new.setup c.in_err-input.field-0.0) c.new-setup.ensures c.in_err-input.ensures.err in
-    rw (p.1, p.2) (setup_fails TakesSetupLine RefusesSetupLine IsDeskOf LeaseStep no_arenas c.take_setup.new.setup unread left
+    let fails = subst (λ (s : SetupState). SetupFails TakesSetupLine RefusesSetupLine CanTakeSetupLine s unread left c.take_setup.new.setup c.in_err-input.field-0.0) c.new-setup.ensures c.in_err-input.ensures.err in
+    rw (p.1, p.2) (setup_fails TakesSetupLine RefusesSetupLine CanTakeSetupLine IsDeskOf LeaseStep no_arenas c.take_setup.new.setup unread left
     (g.W.Write.contents (inner_of c.args.writer.now)) c.in_err-input.field-0.0 fails)
+
+pub returns-in_err-desk-clause-err : goal.returns-in_err-desk-clause-err
+returns-in_err-desk-clause-err g c =
+    let p = err_from_is_err_and c.from_residual-in_err-desk.result c.from_residual-in_err-desk.ensures.1 in
+    let unread = g.R.Read.remaining (inner_of c.args.reader.now) in
+    let mid = g.R.Read.remaining (inner_of c.take_setup.new.reader) in
+    let taken = subst (λ (s : SetupState). TakesSetup TakesSetupLine s unread mid c.take_setup.new.setup c.in_ok-input.input) c.new-setup.ensures c.in_ok-input.ensures.ok in
+    rw (p.1, p.2) (open_fails TakesSetupLine RefusesSetupLine CanTakeSetupLine IsDeskOf LeaseStep no_arenas c.take_setup.new.setup unread mid
+    (g.W.Write.contents (inner_of c.args.writer.now)) c.in_ok-input.input taken)
 
 pub returns-in_err-served-clause-err : goal.returns-in_err-served-clause-err
 returns-in_err-served-clause-err g c =
@@ -25,7 +34,7 @@ returns-in_err-served-clause-err g c =
     let unread = g.R.Read.remaining (inner_of c.args.reader.now) in
     let mid = g.R.Read.remaining (inner_of c.take_setup.new.reader) in
     let taken = subst (λ (s : SetupState). TakesSetup TakesSetupLine s unread mid c.take_setup.new.setup c.in_ok-input.input) c.new-setup.ensures c.in_ok-input.ensures.ok in
-    rw (p.1, p.2) (serving_fails TakesSetupLine RefusesSetupLine IsDeskOf LeaseStep no_arenas c.take_setup.new.setup c.in_ok-desk.desk c.serve-served.new.responder
+    rw (p.1, p.2) (serving_fails TakesSetupLine RefusesSetupLine CanTakeSetupLine IsDeskOf LeaseStep no_arenas c.take_setup.new.setup c.in_ok-desk.desk c.serve-served.new.responder
     unread c.in_ok-input.input
     (streams_of g.R.Read.remaining g.W.Write.contents c.take_setup.new.reader c.args.writer.now)
     (streams_of g.R.Read.remaining g.W.Write.contents c.serve-served.new.reader c.serve-served.new.writer)
@@ -36,6 +45,6 @@ returns-clause-ok g c =
     let unread = g.R.Read.remaining (inner_of c.args.reader.now) in
     let mid = g.R.Read.remaining (inner_of c.take_setup.new.reader) in
     let taken = subst (λ (s : SetupState). TakesSetup TakesSetupLine s unread mid c.take_setup.new.setup c.in_ok-input.input) c.new-setup.ensures c.in_ok-input.ensures.ok in
-    run_whole TakesSetupLine RefusesSetupLine IsDeskOf LeaseStep no_arenas c.take_setup.new.setup c.in_ok-desk.desk unread mid c.in_ok-input.input taken c.in_ok-desk.ensures
+    run_whole TakesSetupLine RefusesSetupLine CanTakeSetupLine IsDeskOf LeaseStep no_arenas c.take_setup.new.setup c.in_ok-desk.desk unread mid c.in_ok-input.input taken c.in_ok-desk.ensures
     c.serve-served.new.responder (g.W.Write.contents (inner_of c.args.writer.now)) (g.W.Write.contents (inner_of c.serve-served.new.writer))
     c.in_ok-served.ensures.ok.0

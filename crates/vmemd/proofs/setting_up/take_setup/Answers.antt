@@ -26,9 +26,9 @@ returns-in_err-take_line-in-Some-clause-err g c =
     let p = err_from_is_err_and c.from_residual.result c.from_residual.ensures.1 in
     let line : c.in-Some.line.now ≡ take 256 text = c.in-Some.ensures.some.1 ∙ first in
     let begins : begins_setup (take 256 text) ≡ true = ap begins_setup (sym line) ∙ sym c.begins_setup.ensures ∙ c.if-begins_setup.true in
-    let failed = subst (λ l. LineFails g.S.SetUp.refuses c.loop-line.setup c.loop-line.number (setup_of l) c.in_err-take_line-in-Some.field-0.0)
+    let failed = subst (λ l. LineFails g.S.SetUp.refuses g.S.SetUp.can c.loop-line.setup c.loop-line.number (setup_of l) c.in_err-take_line-in-Some.field-0.0)
     line c.in_err-take_line-in-Some.ensures.err in
-    rw (p.1, p.2) (line_fails g.S.SetUp.takes g.S.SetUp.refuses c.args.setup.now c.loop-line.setup c.take_line.new.setup
+    rw (p.1, p.2) (line_fails g.S.SetUp.takes g.S.SetUp.refuses g.S.SetUp.can c.args.setup.now c.loop-line.setup c.take_line.new.setup
     (g.R.Read.remaining (inner_of c.args.reader.now)) (g.R.Read.remaining (inner_of c.loop-line.reader))
     input front text rest setup c.loop-line.number c.in_err-take_line-in-Some.field-0.0 read counted begins one parts c.in_err-take_line-in-Some.ensures.unchanged failed)
 
@@ -90,7 +90,7 @@ returns-in_err-read_on-in-None-clause-err g c =
     let (input, read, front, setup, hand, counted, going, room, low, works, spent) = c.loop-line.invariant in
     let (one, first) = begun_at c.loop-line.input.hand front hand c.in-None.ensures.none in
     let p = err_from_is_err_and c.from_residual-in_err-read_on-in-None.result c.from_residual-in_err-read_on-in-None.ensures.1 in
-    rw (p.1, p.2) (reading_fails g.S.SetUp.takes g.S.SetUp.refuses c.args.setup.now c.loop-line.setup
+    rw (p.1, p.2) (reading_fails g.S.SetUp.takes g.S.SetUp.refuses g.S.SetUp.can c.args.setup.now c.loop-line.setup
     (g.R.Read.remaining (inner_of c.args.reader.now)) (g.R.Read.remaining (inner_of c.loop-line.reader)) (g.R.Read.remaining (inner_of c.read_on.new.reader))
     input front setup c.loop-line.input (has_failed c.loop-line.reader) (has_failed c.read_on.new.reader) c.in_err-read_on-in-None.field-0.0
     read one c.in_err-read_on-in-None.ensures.err)
