@@ -63,7 +63,11 @@ fn desk_of(
     policy: Policy,
 ) -> Desk {
     let mut setup = Setup::new(rt.alloc());
-    add(rt, &mut setup, root(rt, text, base, len, quantum, policy, 0));
+    add(
+        rt,
+        &mut setup,
+        root(rt, text, base, len, quantum, policy, 0),
+    );
     opened(rt, &setup)
 }
 
@@ -511,8 +515,7 @@ fn replies_are_appended(rt: HostRuntime) {
     ] {
         assert!(rt; desk.answer(line.as_bytes(), &mut out).is_ok());
     }
-    let replies =
-        "welcome 3 1\nerror word\ngranted 3 1 1 m 0 8\nclient 3 1 1 1\n\
+    let replies = "welcome 3 1\nerror word\ngranted 3 1 1 m 0 8\nclient 3 1 1 1\n\
          arena m free 56 slab 0 magazine 0 exported 0 leased 8 hand 0\nerror badline\n";
     assert_eq!(rt; out.as_slice(), replies.as_bytes());
     desk.close();

@@ -28,9 +28,9 @@ mod base;
 #[cfg(test)]
 mod books;
 #[cfg(test)]
-mod climbs;
-#[cfg(test)]
 mod client;
+#[cfg(test)]
+mod climbs;
 #[cfg(test)]
 mod desk;
 #[cfg(test)]

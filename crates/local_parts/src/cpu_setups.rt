@@ -86,7 +86,7 @@ impl<D: Deed> ArenaCaches<D> {
         // For its clause: what is always so of a stock.
         let _ = stock.count();
         let quantum = stock.quantum(arena);
-        let count = stock.cache_count(arena);
+        let count = stock.caches(arena);
         let mut row = ArenaCaches {
             caches: Vec::new(alloc),
         };

@@ -23,16 +23,6 @@ impl<D: Deed> Stock<D> {
         space.arena.quantum()
     }
 
-    /// How many quantum caches it has.
-    pub fn cache_count(&self, arena: usize) -> usize
-        requires within { arena < length self.now }
-        ensures value { (s : SpaceState) → slice_get self.now arena ≡ Some s
-            → result ≡ length s.caches }
-    {
-        let space = &self.spaces[arena];
-        space.caches.len()
-    }
-
     /// The arena that it imports from, if there is one.
     pub fn source(&self, arena: usize) -> Option<u32>
         requires within { arena < length self.now }
