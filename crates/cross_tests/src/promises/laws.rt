@@ -7,6 +7,7 @@ ghost use Rattle.deed_core.specs.SizeLaws.{RoundsUp, RoundsToTheLeast, RoundsOnc
 ghost use Rattle.deed_core.specs.SizeLaws.{PowerIsSome, SmallerPowerDivides};
 ghost use Rattle.deed_core.specs.SizeLaws.{PlainIsOfItsSize, PlainIsGood, FitsPlain};
 ghost use Rattle.slab_layer.specs.Laws.{NeverBoth, OutIsOfCache, TakesNoneExactly};
+ghost use Rattle.slab_layer.specs.Laws.{ReapsNoneExactly};
 ghost use Rattle.tag_arena.specs.Laws.{CarveIsOne, NoneServes, ChoiceServes};
 ghost use Rattle.tag_arena.specs.Laws.{TagsWeigh, AllocatedStand};
 
@@ -62,6 +63,7 @@ fn chunks()
     ensures never_both { NeverBoth }
     ensures out { OutIsOfCache }
     ensures takes_none { TakesNoneExactly }
+    ensures reaps_none { ReapsNoneExactly }
 {
     chunk_laws();
     move_laws();
