@@ -12,7 +12,8 @@
 //!
 //! Begin with [`World::step`] and `specs/Events.antt`: where each event can happen, and what may
 //! become of a world at it; `specs/Moves.antt` has the moves. Events on the stock (carving,
-//! freeing, slabs, magazines) aren't here yet, so units come into hands from leases alone.
+//! freeing, slabs, magazines) aren't here yet: so nothing comes into a hand of a new world, and no
+//! run of one reaches a grant. What holds of every list of events holds from any world that is one.
 //!
 //! What it costs: a world keeps each line, reply and entry of the book for good. An event takes the
 //! time of its part's call, and a release looks the name of its arena up among all names.
