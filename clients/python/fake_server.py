@@ -1,0 +1,145 @@
+"""A server for the client's tests: the lines of vmemd in plain Python, one at a time, over TCP; it
+cuts connections where it is told to."""
+import re
+import socket
+import threading
+
+MOST_LEASES = 1024
+
+
+class Book:
+    """What is leased, to whom; each arena has as many units as its number says, the lowest first."""
+
+    def __init__(self, arenas):
+        self.arenas, self.clients, self.settled, self.again = arenas, {}, 0, 0
+
+    def answer(self, line):
+        words = line.split(" ")
+        if self.again:
+            self.again -= 1
+            return f"again {words[1]} {words[2]} {words[3] if words[0] != 'hello' else 0}"
+        if words[0] == "hello":
+            return self.hello(int(words[1]), int(words[2]))
+        client, inc, number = map(int, words[1:4])
+        it = self.clients.get(client, {"inc": 0})
+        if inc != it["inc"]:
+            return f"old {client} {it['inc']}"
+        if number > it["last"] + 1:
+            return f"gap {client} {inc} {number} {it['last']}"
+        if number < it["last"]:
+            return f"stale {client} {inc} {number} {it['last']}"
+        if number == it["last"] + 1:
+            it["last"], self.settled = number, self.settled + 1
+            word, rest = getattr(self, words[0])(it, words[4:])
+            it["kept"] = f"{word} {client} {inc} {number}{rest}"
+        return it["kept"]
+
+    def hello(self, client, inc):
+        it = self.clients.get(client, {"inc": 0})
+        if inc < it["inc"]:
+            return f"old {client} {it['inc']}"
+        if inc > it["inc"]:
+            self.clients[client] = {"inc": inc, "last": 0, "kept": None, "leases": {}}
+        return f"welcome {client} {inc}"
+
+    def lease(self, it, words):
+        name, size = words[0], int(words[1])
+        if name not in self.arenas:
+            return "refused", " noarena"
+        if size == 0:
+            return "refused", " badrequest"
+        taken = sorted((base, base + length) for other in self.clients.values()
+                       for (arena, base), length in other["leases"].items() if arena == name)
+        base = 0
+        for start, end in taken:
+            if base + size <= start:
+                break
+            base = end
+        if base + size > self.arenas[name]:
+            return "refused", " nofit"
+        if len(it["leases"]) == MOST_LEASES:
+            return "refused", " leases"
+        it["leases"][name, base] = size
+        return "granted", f" {name} {base} {size}"
+
+    def release(self, it, words):
+        if words[0] not in self.arenas:
+            return "refused", " noarena"
+        if it["leases"].pop((words[0], int(words[1])), None) is None:
+            return "refused", " notyours"
+        return "released", ""
+
+
+class FakeServer:
+    """Serves each connection in a thread of its own.
+
+    Each cut is (direction, bytes): once so many bytes went in that direction ("in" or "out") since
+    the cut before, the connection ends there. `lines` are those that were answered."""
+
+    def __init__(self, arenas, cuts=()):
+        self.book, self.cuts, self.lines, self.gone = Book(arenas), list(cuts), [], 0
+        self.connections, self.replies, self.lock = 0, None, threading.Lock()
+        self.listener = socket.create_server(("127.0.0.1", 0))
+        self.port = self.listener.getsockname()[1]
+        threading.Thread(target=self.run, daemon=True).start()
+
+    def __enter__(self):
+        return self
+
+    def __exit__(self, *fault):
+        self.listener.shutdown(socket.SHUT_RDWR)
+        self.listener.close()
+
+    def run(self):
+        while True:
+            try:
+                link, _ = self.listener.accept()
+            except OSError:
+                return
+            self.connections += 1
+            link.setsockopt(socket.IPPROTO_TCP, socket.TCP_NODELAY, 1)
+            threading.Thread(target=self.serve, args=(link,), daemon=True).start()
+
+    def serve(self, link):
+        rest = b""
+        with link:
+            while True:
+                try:
+                    piece = link.recv(1)
+                except OSError:
+                    return
+                if not piece or self.is_cut("in"):
+                    return
+                rest += piece
+                if piece == b"\n":
+                    line, rest = rest[:-1].decode("ascii"), b""
+                    with self.lock:
+                        reply = self.answered(line)
+                    if not self.write(link, reply):
+                        return
+
+    def answered(self, line):
+        assert re.fullmatch("[a-z0-9]+( [a-z0-9]+)*", line) and len(line) <= 255, line
+        self.lines.append(line)
+        return self.replies.pop(0) if self.replies else self.book.answer(line)
+
+    def write(self, link, text):
+        for byte in f"{text}\n".encode("ascii"):
+            if self.is_cut("out"):
+                return False
+            try:
+                link.sendall(bytes([byte]))
+            except OSError:
+                return False
+        return True
+
+    def is_cut(self, direction):
+        """Counts a byte that goes in this direction; whether the connection is cut before it."""
+        if not self.cuts or self.cuts[0][0] != direction:
+            return False
+        self.gone += 1
+        if self.gone <= self.cuts[0][1]:
+            return False
+        self.cuts.pop(0)
+        self.gone = 0
+        return True

@@ -1,0 +1,256 @@
+"""Tests of the client over a server that is part of them: python3 -m unittest test_client"""
+import os
+import tempfile
+import threading
+import unittest
+
+import vmemd
+from fake_server import FakeServer
+
+
+def client_of(server, **options):
+    given = {"number": 7, "incarnation": 1, "timeout": 5.0, "patience": 5.0, **options}
+    return vmemd.Client("127.0.0.1", server.port, **given)
+
+
+class Calls(unittest.TestCase):
+    def test_lease_and_release(self):
+        with FakeServer({"m": 64}) as server, client_of(server) as client:
+            pool = client.pool("m")
+            with pool.lease(8) as first, pool.lease(4) as second:
+                self.assertEqual([first, second], [("m", 0, 8), ("m", 8, 4)])
+                self.assertEqual((first.end, client.held()), (8, [first, second]))
+            self.assertEqual(client.held(), [])
+            self.assertEqual(server.lines, ["hello 7 1", "lease 7 1 1 m 8", "lease 7 1 2 m 4",
+                                            "release 7 1 3 m 8", "release 7 1 4 m 0"])
+
+    def test_options_are_written_in_the_protocol_s_order(self):
+        with FakeServer({"m": 64}) as server, client_of(server) as client:
+            client.lease("m", 1, max=9, min=1, nocross=8, phase=2, align=4)
+            client.lease("m", 1, align=0, phase=0, nocross=0, min=0, max=vmemd.MOST)
+            self.assertEqual(server.lines[1:], [
+                "lease 7 1 1 m 1 align 4 phase 2 nocross 8 min 1 max 9", "lease 7 1 2 m 1"])
+
+    def test_each_refusal_is_an_exception_and_uses_a_number(self):
+        with FakeServer({"m": 2000}) as server, client_of(server) as client:
+            for fault, arena, size in ((vmemd.NoArena, "z", 1), (vmemd.BadRequest, "m", 0),
+                                       (vmemd.NoFit, "m", 2001)):
+                with self.assertRaises(fault) as raised:
+                    client.lease(arena, size)
+                self.assertIsInstance(raised.exception, vmemd.Refused)
+            first = client.lease("m", 1)
+            for _ in range(1023):
+                client.lease("m", 1)
+            with self.assertRaises(vmemd.TooManyLeases):
+                client.lease("m", 1)
+            del server.book.clients[7]["leases"]["m", 0]
+            with self.assertRaises(vmemd.NotYours):
+                client.release(first)
+            self.assertEqual(len(client.held()), 1023)
+            self.assertEqual(server.book.clients[7]["last"], 1029)
+
+    def test_a_lease_is_released_once(self):
+        with FakeServer({"m": 8}) as server, client_of(server) as client:
+            with client.lease("m", 8) as lease:
+                lease.release()
+            with self.assertRaises(ValueError):
+                lease.release()
+            again = client.lease("m", 8)
+            self.assertEqual((again, client.holds(lease)), (lease, False))
+            with self.assertRaises(ValueError):
+                lease.release()
+            self.assertTrue(client.holds(again))
+
+    def test_what_is_no_request_is_never_sent(self):
+        with FakeServer({"m": 8}) as server, client_of(server) as client:
+            for arena, size in (("M", 1), ("", 1), ("1m", 1), ("m" * 17, 1), ("m m", 1), ("m", -1),
+                                ("m", vmemd.MOST + 1), ("m", 1.0), ("m", True), ("m", "1")):
+                with self.assertRaises(ValueError):
+                    client.lease(arena, size)
+            self.assertEqual(server.lines, [])
+        for number in (0, 65537):
+            with self.assertRaises(ValueError):
+                vmemd.Client("127.0.0.1", 1, number)
+
+    def test_the_end_of_a_client_releases_all(self):
+        with FakeServer({"m": 8}) as server:
+            with client_of(server) as client:
+                client.lease("m", 1)
+                client.lease("m", 2)
+            self.assertEqual(server.book.clients[7]["leases"], {})
+
+    def test_threads_share_a_client(self):
+        with FakeServer({"m": 1000}) as server, client_of(server) as client:
+            pool = client.pool("m")
+
+            def use():
+                for _ in range(20):
+                    with pool.lease(3):
+                        pass
+
+            threads = [threading.Thread(target=use) for _ in range(8)]
+            for it in threads:
+                it.start()
+            for it in threads:
+                it.join()
+            self.assertEqual((server.book.settled, client.held()), (320, []))
+            self.assertEqual(len(server.lines), 321)
+
+
+class Cuts(unittest.TestCase):
+    def talk(self, server, **options):
+        with client_of(server, **options) as client:
+            first, second = client.lease("m", 8), client.lease("m", 4, align=4)
+            client.release(first)
+            third = client.lease("m", 2)
+            self.assertEqual([first, second, third], [("m", 0, 8), ("m", 8, 4), ("m", 0, 2)])
+            self.assertEqual(client.held(), [second, third])
+
+    def test_each_byte_of_the_conversation_may_be_the_last(self):
+        with FakeServer({"m": 64}) as server:
+            self.talk(server)
+            counts = {"in": sum(len(it) + 1 for it in server.lines), "out": 110}
+        for direction, count in counts.items():
+            for at in range(count):
+                with FakeServer({"m": 64}, [(direction, at)]) as server:
+                    self.talk(server)
+                    self.assertEqual(server.book.settled, 6, (direction, at))
+                    self.assertEqual(server.book.clients[7]["leases"], {})
+
+    def test_many_cuts(self):
+        for step in (1, 4, 9, 14, 23):
+            cuts = [("in", step), ("out", 2 * step), ("out", step)] * 2
+            with FakeServer({"m": 64}, cuts) as server:
+                self.talk(server, patience=20.0)
+                self.assertEqual(server.book.settled, 6)
+
+    def test_a_connection_for_each_request(self):
+        with FakeServer({"m": 64}) as server:
+            self.talk(server, keep=False)
+            self.assertEqual(server.connections, 7)
+
+    def test_again_is_asked_again(self):
+        with FakeServer({"m": 64}) as server:
+            server.book.again = 3
+            self.talk(server)
+            self.assertEqual(server.lines[:4], ["hello 7 1"] * 4)
+        with FakeServer({"m": 64}) as server, client_of(server, patience=0.05) as client:
+            client.lease("m", 1)
+            server.book.again = 1000
+            with self.assertRaises(vmemd.OutOfMemory):
+                client.lease("m", 1)
+            server.book.again = 0
+
+    def test_a_lease_that_nobody_was_told_of_is_given_back(self):
+        with FakeServer({"m": 64}) as server, client_of(server, patience=0.05) as client:
+            kept = client.lease("m", 8)
+            server.cuts = [("out", 0)] * 100
+            with self.assertRaises(vmemd.Unreachable):
+                client.lease("m", 4)
+            self.assertEqual(len(server.book.clients[7]["leases"]), 2)
+            server.cuts.clear()
+            self.assertEqual(client.lease("m", 2), ("m", 8, 2))
+            self.assertEqual(client.lease("m", 4), ("m", 10, 4))
+            self.assertEqual(client.held()[0], kept)
+            self.assertEqual(len(server.book.clients[7]["leases"]), 3)
+
+    def test_a_release_that_nobody_answered_is_sent_again(self):
+        with FakeServer({"m": 64}) as server, client_of(server, patience=0.05) as client:
+            lease = client.lease("m", 64)
+            server.cuts = [("in", 3)] * 100
+            with self.assertRaises(vmemd.Unreachable):
+                client.release(lease)
+            server.cuts.clear()
+            self.assertEqual(client.lease("m", 64), lease)
+
+    def test_no_server(self):
+        with FakeServer({}) as server:
+            port = server.port
+        client = vmemd.Client("127.0.0.1", port, 1, patience=0.05)
+        with self.assertRaises(vmemd.Unreachable):
+            client.lease("m", 1)
+
+
+class Incarnations(unittest.TestCase):
+    def test_the_file_keeps_the_last_one(self):
+        with tempfile.TemporaryDirectory() as folder, FakeServer({"m": 64}) as server:
+            file = os.path.join(folder, "incarnation")
+            for number in (1, 2, 3):
+                client = client_of(server, incarnations=file)
+                self.assertEqual(client.lease("m", 64), ("m", 0, 64))
+                self.assertEqual(client.incarnation, number)
+                self.assertEqual(vmemd.read_incarnation(file), number)
+                client.disconnect()
+
+    def test_without_a_file_the_clock_goes_on(self):
+        with FakeServer({"m": 64}) as server:
+            for _ in range(3):
+                client = client_of(server, incarnation=None)
+                self.assertEqual(client.lease("m", 64), ("m", 0, 64))
+                client.disconnect()
+
+    def test_one_that_is_too_low_is_raised(self):
+        with FakeServer({"m": 64}) as server:
+            with client_of(server, incarnation=10**18) as client:
+                client.lease("m", 1)
+            with client_of(server, incarnation=5) as client:
+                client.lease("m", 1)
+                self.assertEqual(client.incarnation, 10**18 + 1)
+
+    def test_one_that_was_superseded_holds_nothing(self):
+        with FakeServer({"m": 64}) as server, client_of(server) as first:
+            lease = first.lease("m", 64)
+            with client_of(server, incarnation=2) as second:
+                taken = second.lease("m", 64)
+                with self.assertRaises(vmemd.Superseded) as raised:
+                    first.lease("m", 1)
+                self.assertEqual((raised.exception.current, first.held()), (2, []))
+                self.assertFalse(first.holds(lease))
+                self.assertEqual(second.held(), [taken])
+            self.assertEqual(first.lease("m", 64), lease)
+            self.assertEqual(first.incarnation, 3)
+
+    def test_a_new_server_knows_nobody(self):
+        with FakeServer({"m": 64}) as server, client_of(server) as client:
+            client.lease("m", 64)
+            server.book.clients.clear()
+            with self.assertRaises(vmemd.Superseded) as raised:
+                client.lease("m", 1)
+            self.assertEqual(raised.exception.current, 0)
+            self.assertEqual(client.lease("m", 64), ("m", 0, 64))
+
+    def test_a_with_ends_also_where_the_lease_did(self):
+        with FakeServer({"m": 64}) as server, client_of(server) as client:
+            with self.assertRaises(vmemd.Superseded):
+                with client.lease("m", 1):
+                    server.book.clients.clear()
+                    client.lease("m", 1)
+
+
+class Answers(unittest.TestCase):
+    def test_what_answers_nothing_of_ours(self):
+        wrong = ["error word", "granted 7 1 2 m 0 1", "granted 7 2 1 m 0 1", "granted 8 1 1 m 0 1",
+                 "granted 7 1 1 z 0 1", "granted 7 1 1 m 0", "released 7 1 1", "stale 7 1 1 5",
+                 "gap 7 1 1 0", "refused 7 1 1 why", "welcome 7 1", "", "old 8 3", "old 7 x",
+                 "granted 7 1 1 m -1 1", "a" * 300]
+        for reply in wrong:
+            with FakeServer({"m": 64}) as server:
+                client = client_of(server)
+                client.restart()
+                server.replies = [reply]
+                with self.assertRaises(vmemd.ProtocolError, msg=reply):
+                    client.lease("m", 1)
+                self.assertEqual(client.held(), [])
+                client.disconnect()
+
+    def test_a_hello_is_answered_by_welcome_or_a_greater_one(self):
+        for reply in ("welcome 7 2", "welcome 8 1", "old 7 1", "old 7 0", "released 7 1 1"):
+            with FakeServer({"m": 64}) as server:
+                client, server.replies = client_of(server), [reply]
+                with self.assertRaises(vmemd.ProtocolError, msg=reply):
+                    client.lease("m", 1)
+                client.disconnect()
+
+
+if __name__ == "__main__":
+    unittest.main()

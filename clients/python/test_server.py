@@ -1,0 +1,203 @@
+"""Tests of the client over a running server: VMEMD=bin/vmemd python3 -m unittest test_server
+
+They start `$VMEMD serve`, and are left out where that program has no serve. VMEMD_SECONDS is how
+long the processes of `Crowd` run, 10 where it isn't set."""
+import multiprocessing
+import os
+import random
+import socket
+import subprocess
+import tempfile
+import threading
+import time
+import unittest
+
+import vmemd
+
+PROGRAM = os.environ.get("VMEMD", "")
+SECONDS = float(os.environ.get("VMEMD_SECONDS", "10"))
+CONFIG = "root m 0 4096 1 best 0\nroot pid 1 8 1 next 0\nroot q 0 64 4 instant 0\n"
+
+
+def has_serve():
+    if not PROGRAM:
+        return False
+    told = subprocess.run([PROGRAM, "--help"], capture_output=True, text=True, timeout=60)
+    return any(it.split()[:1] == ["serve"] for it in told.stdout.splitlines())
+
+
+@unittest.skipUnless(has_serve(), "VMEMD names no program with serve")
+class Served(unittest.TestCase):
+    """Each test has a server of its own; at its end it closes with status 0."""
+
+    workers = 4
+
+    def setUp(self):
+        self.folder = tempfile.TemporaryDirectory()
+        config = os.path.join(self.folder.name, "config")
+        with open(config, "w", encoding="ascii") as opened:
+            opened.write(CONFIG)
+        words = [PROGRAM, "serve", "127.0.0.1:0", config, str(self.workers)]
+        self.server = subprocess.Popen(words, stdin=subprocess.PIPE, stdout=subprocess.PIPE,
+                                       stderr=subprocess.PIPE, text=True)
+        told, _, address = self.server.stdout.readline().strip().partition(" ")
+        self.assertEqual(told, "listening")
+        self.port = int(address.rpartition(":")[2])
+
+    def tearDown(self):
+        out, _ = self.server.communicate(timeout=60)
+        self.folder.cleanup()
+        self.assertEqual((out, self.server.returncode), ("closed\n", 0))
+
+    def client(self, number, **options):
+        port = options.pop("port", self.port)
+        return vmemd.Client("127.0.0.1", port, number, **options)
+
+
+class Alone(Served):
+    def ask(self, text):
+        with socket.create_connection(("127.0.0.1", self.port), 30) as link:
+            link.sendall(text)
+            link.shutdown(socket.SHUT_WR)
+            with link.makefile("rb") as answers:
+                return answers.read()
+
+    def test_lines_of_a_socket(self):
+        lines = b"hello 1 1\nlease 1 1 1 m 8\nlease 1 1 1 m 8\naudit\nrelease 1 1 2 m 0\nhello"
+        replies = (b"welcome 1 1\ngranted 1 1 1 m 0 8\ngranted 1 1 1 m 0 8\nerror word\n"
+                   b"released 1 1 2\nerror badline\n")
+        self.assertEqual(self.ask(lines), replies)
+        self.assertEqual(self.ask(b"release 1 1 2 m 0\n"), b"released 1 1 2\n")
+
+    def test_numbers_come_round(self):
+        with self.client(1) as client:
+            pool, bases = client.pool("pid"), []
+            for _ in range(10):
+                with pool.lease(1) as number:
+                    bases.append(number.base)
+            self.assertEqual(bases, [1, 2, 3, 4, 5, 6, 7, 8, 1, 2])
+
+    def test_options_and_refusals(self):
+        with self.client(1) as client:
+            pool = client.pool("q")
+            self.assertEqual(pool.lease(5, align=16, min=20), ("q", 32, 8))
+            for fault, size, options in ((vmemd.BadRequest, 4, {"align": 2}),
+                                         (vmemd.BadRequest, 0, {}), (vmemd.NoFit, 64, {})):
+                with self.assertRaises(fault):
+                    pool.lease(size, **options)
+            with self.assertRaises(vmemd.NoArena):
+                client.lease("none", 1)
+
+    def test_a_greater_incarnation_ends_the_leases(self):
+        with self.client(1, incarnation=5) as first:
+            first.lease("m", 4096)
+            with self.client(1, incarnation=6) as second:
+                self.assertEqual(second.lease("m", 4096), ("m", 0, 4096))
+                with self.assertRaises(vmemd.Superseded):
+                    first.lease("m", 1)
+
+    def test_bad_connections_leave_the_others(self):
+        silent = socket.create_connection(("127.0.0.1", self.port))
+        half = socket.create_connection(("127.0.0.1", self.port))
+        half.sendall(b"hello 9 1\nlease 9 1 1 m")
+        with self.client(1) as client:
+            for number in range(200):
+                with socket.create_connection(("127.0.0.1", self.port)) as link:
+                    link.sendall(b"hello 2 1\n" * (number % 4) + b"\xff\x00 x")
+            client.lease("m", 4096)
+        for it in (silent, half):
+            it.close()
+
+
+class Cutter:
+    """Passes connections on to the server, and cuts each after some bytes."""
+
+    def __init__(self, port, rng):
+        self.port, self.rng = port, rng
+        self.listener = socket.create_server(("127.0.0.1", 0))
+        self.address = self.listener.getsockname()
+        threading.Thread(target=self.run, daemon=True).start()
+
+    def run(self):
+        while True:
+            try:
+                link, _ = self.listener.accept()
+                other = socket.create_connection(("127.0.0.1", self.port))
+            except OSError:
+                return
+            for it in (link, other):
+                it.setsockopt(socket.IPPROTO_TCP, socket.TCP_NODELAY, 1)
+            for pair in ((link, other), (other, link)):
+                count = self.rng.randint(0, 4000)
+                threading.Thread(target=self.pass_on, args=(*pair, count), daemon=True).start()
+
+    def pass_on(self, start, end, count):
+        try:
+            while count > 0:
+                piece = start.recv(min(count, 4096))
+                if not piece:
+                    break
+                end.sendall(piece)
+                count -= len(piece)
+        except OSError:
+            pass
+        for it in (start, end):
+            try:
+                it.shutdown(socket.SHUT_RDWR)
+            except OSError:
+                pass
+            it.close()
+
+
+def lease_and_release(number, port, owners, seconds, told):
+    """One process: leases and releases through a Cutter, and marks in `owners` whose each unit is."""
+    rng = random.Random(number)
+    cutter = Cutter(port, rng)
+    client = vmemd.Client("127.0.0.1", cutter.address[1], number, timeout=20.0)
+    ends, requests, wrong = time.monotonic() + seconds, 0, []
+    while time.monotonic() < ends:
+        held = client.held()
+        if held and rng.random() < 0.5:
+            lease = rng.choice(held)
+            owners[lease.base:lease.end] = bytes(lease.length)
+            lease.release()
+        else:
+            try:
+                lease = client.lease("m", rng.randint(1, 64), align=rng.choice((0, 0, 8)))
+            except vmemd.NoFit:
+                continue
+            if any(owners[lease.base:lease.end]):
+                wrong.append(tuple(lease))
+            owners[lease.base:lease.end] = bytes([number]) * lease.length
+        requests += 1
+    told.put((requests, wrong, [tuple(it) for it in client.held()]))
+    client.disconnect()
+
+
+class Crowd(Served):
+    workers = 8
+
+    def test_no_unit_is_in_two_hands(self):
+        owners, told = multiprocessing.Array("B", 4096, lock=False), multiprocessing.Queue()
+        words = [(it, self.port, owners, SECONDS, told) for it in range(1, 9)]
+        processes = [multiprocessing.Process(target=lease_and_release, args=it) for it in words]
+        for it in processes:
+            it.start()
+        ends = [told.get(timeout=SECONDS + 120) for _ in processes]
+        for it in processes:
+            it.join()
+        self.assertEqual([it for _, wrong, _ in ends for it in wrong], [])
+        self.assertGreater(min(requests for requests, _, _ in ends), 10)
+        held = sorted((base, base + length) for _, _, leases in ends for _, base, length in leases)
+        for (_, end), (start, _) in zip(held, held[1:]):
+            self.assertLessEqual(end, start)
+        for number in range(1, 9):
+            again = self.client(number)
+            again.restart()
+            again.disconnect()
+        with self.client(9) as client:
+            self.assertEqual(client.lease("m", 4096), ("m", 0, 4096))
+
+
+if __name__ == "__main__":
+    unittest.main()
