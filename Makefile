@@ -4,11 +4,15 @@
 # make edits  tries all edits, those of more-edits/ too, of JOBS=1 crates at a time, several
 #             in a check; make edits CRATE=NAME tries one crate's
 # make cases  runs bin/vmemd on tests/cases
+# make bench  measures bin/vmemd beside another server (bench/README.md); BENCH="--most 1000000"
+# make install PREFIX=/usr/local DESTDIR=  puts bin/vmemd, its pages and a systemd unit in place
 # make clean  removes what was built
 
-.PHONY: all test edits cases clean
+.PHONY: all test edits cases bench install clean
 
 JOBS = 1
+PREFIX = /usr/local
+BENCH =
 
 all:
 	cd crates/vmemd && rt run -- script < stdin > /dev/null
@@ -26,6 +30,25 @@ edits:
 
 cases: all
 	tools/cases bin/vmemd
+
+bench:
+	test -x bin/vmemd || $(MAKE) all
+	bench/run $(BENCH) bin/vmemd
+
+# (it installs what make has left as bin/vmemd, so that no proof runs as root)
+install:
+	test -x bin/vmemd || { echo "there is no bin/vmemd: make builds it" >&2; exit 1; }
+	install -d $(DESTDIR)$(PREFIX)/bin $(DESTDIR)$(PREFIX)/libexec
+	install -m 755 bin/vmemd $(DESTDIR)$(PREFIX)/bin/vmemd
+	install -m 755 packaging/vmemd-hold $(DESTDIR)$(PREFIX)/libexec/vmemd-hold
+	for n in 1 5; do \
+	  install -d $(DESTDIR)$(PREFIX)/share/man/man$$n; \
+	  tools/manpage docs/vmemd.$$n.md > $(DESTDIR)$(PREFIX)/share/man/man$$n/vmemd.$$n || exit 1; done
+	install -d $(DESTDIR)$(PREFIX)/share/doc/vmemd $(DESTDIR)$(PREFIX)/lib/systemd/system
+	install -m 644 examples/README.md examples/*.conf clients/python/vmemd.py \
+	  $(DESTDIR)$(PREFIX)/share/doc/vmemd
+	sed 's,@PREFIX@,$(PREFIX),g' packaging/vmemd.service.in \
+	  > $(DESTDIR)$(PREFIX)/lib/systemd/system/vmemd.service
 
 clean:
 	rm -rf bin crates/*/out

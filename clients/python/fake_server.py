@@ -8,7 +8,7 @@ MOST_LEASES = 1024
 
 
 class Book:
-    """What is leased, to whom; each arena has as many units as its number says, the lowest first."""
+    """What is leased, to whom; arenas are numbers of units, and the lowest free ones are taken."""
 
     def __init__(self, arenas):
         self.arenas, self.clients, self.settled, self.again = arenas, {}, 0, 0

@@ -150,7 +150,7 @@ class Cutter:
 
 
 def lease_and_release(number, port, owners, seconds, told):
-    """One process: leases and releases through a Cutter, and marks in `owners` whose each unit is."""
+    """One process: leases and releases through a Cutter; `owners` says whose each unit is."""
     rng = random.Random(number)
     cutter = Cutter(port, rng)
     client = vmemd.Client("127.0.0.1", cutter.address[1], number, timeout=20.0)
