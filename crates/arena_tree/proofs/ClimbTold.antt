@@ -1,6 +1,6 @@
 -- What climbs end with, by what was answered on their way.
-use Rattle.std.proofs.Common.{◌≡◌, ℕ, zero, suc, ◌<◌, List, [], ◌∷◌, ◌++◌, Option, Some, None, Result, Ok, Err, refl, sym, ap, subst, ◌∙◌, arith}
-use Rattle.std.proofs.lemmas.List.Elements.{All-cons, All-nil, All-append, Contains-append_left, Contains-append_right}
+use Rattle.std.proofs.Common.{◌≡◌, ℕ, zero, suc, ◌<◌, List, [], ◌∷◌, ◌++◌, Option, Some, None, Result, Ok, Err, refl, sym, ap, subst, ◌∙◌, arith, inl, inr}
+use Rattle.std.proofs.lemmas.List.Elements.{All-cons, All-nil, All-head, All-tail, All-append, Contains-append_left, Contains-append_right}
 use Rattle.deed_core.specs.Request.{IsGood, plain_of, rounded}
 use Rattle.deed_core.specs.Tag.{Tag}
 use Rattle.deed_core.proofs.LawProofs.{rounded_some, plain_is_good}
@@ -19,7 +19,7 @@ use Rattle.arena_tree.specs.Plans.{Plan, Done, Ask, then, Step, Path, Ran, Gives
 use Rattle.arena_tree.specs.Events.{Event, AnswerTo, Carve, Free, AddCarve}
 use Rattle.arena_tree.specs.Sound.{Sound, SoundCarve}
 use Rattle.arena_tree.specs.Climbs.{Returned, Climbed, return_plan, on_free, refused_memory, on_add, on_import, on_carve, climb_plan}
-use Rattle.arena_tree.specs.Told.{Answered, Tells, told_by, no_fit, no_fits, NoneFits, IsNoFit, WasRefused, ClimbTold, ReturnTold}
+use Rattle.arena_tree.specs.Told.{Answered, Tells, told_by, no_fit, no_fits, NoneFits, IsNoFit, WasRefused, IsTakenBack, OnlyTakenBack, WasTakenIn, RanOut, WasStopped, ClimbTold, ReturnTold}
 use Rattle.arena_tree.specs.Laws.{ClimbTells, ReturnTells, NoFitIsTold}
 use Rattle.arena_tree.proofs.Amounts.{chain_above}
 
@@ -50,38 +50,82 @@ module _ {S : Type 0} (step : S → (e : Event) → AnswerTo e → S → Type 0)
   pub ran_tells : {A : Type 0} (post : List Answered → A → Type 0) (p : Plan A) (s t : S) (a : A) → (r : Ran step tree count rounds p s t a) → Tells (tree s) post p [] → post (told_by (Step step tree count rounds) p s t a r.path []) a
   ran_tells post p s t a r w = path_tells post (tree s) p s t a [] refl r.path w
 
+-- what follows is so
+pub tells_so : {A : Type 0} (nodes : List Node) (post post' : List Answered → A → Type 0) (p : Plan A) (told : List Answered) → ((now : List Answered) (a : A) → post now a → post' now a) → Tells nodes post p told → Tells nodes post' p told
+tells_so nodes post post' (Done a) told f w = f told a w
+tells_so nodes post post' (Ask e g) told f w = λ x s. tells_so nodes post post' (g x) (answered e x ∷ told) f (w x s)
+
 -- what doesn't speak of the answers
 pub tells_gives : {A : Type 0} (nodes : List Node) (post : List Answered → A → Type 0) (post' : A → Type 0) (p : Plan A) (told : List Answered) → ((now : List Answered) (a : A) → post now a → post' a) → Tells nodes post p told → Gives nodes post' p
 tells_gives nodes post post' (Done a) told f w = f told a w
 tells_gives nodes post post' (Ask e g) told f w = λ x s. tells_gives nodes post post' (g x) (answered e x ∷ told) f (w x s)
 
--- the end of the chain isn't reached
-told_return : (nodes : List Node) (chain : List Level) (t : Tag) (told : List Answered) → IsChain nodes chain → first_id chain ≡ Some t.arena → Tells nodes ReturnTold (return_plan chain t) told
-told_return nodes [] t told is first = absurd (let e : None ≡ Some t.arena = first in cc)
-told_return nodes (l ∷ up) t told is first = freed (λ w now at. told_return nodes up w now is.2 at)
-  where
-    freed : ((w : Tag) (now : List Answered) → first_id up ≡ Some w.arena → Tells nodes ReturnTold (return_plan up w) now) → (x : Result (Option Tag) (FreeFault Tag)) → Sound nodes (Free t) x → Tells nodes ReturnTold (on_free (return_plan up) x) (answered (Free t) x ∷ told)
-    freed again (Ok None) s = tt
-    freed again (Ok (Some w)) s = again w (answered (Free t) (Ok (Some w)) ∷ told) (chain_above nodes l up t w is first (s.0).whole.1)
-    freed again (Err (freeing.BadFree x)) s = refl
-    freed again (Err (freeing.Stopped x)) s = tt
+refused_more : (t : Tag) (told before : List Answered) → WasRefused t told → WasRefused t (told ++ before)
+refused_more t [] before was = absurd was
+refused_more t (last ∷ told) before was = was
 
-told_refused : (nodes : List Node) (chain up : List Level) (n : ℕ) (t : Tag) (told : List Answered) → IsChain nodes up → first_id up ≡ Some t.arena → Tells nodes (ClimbTold nodes chain n) (then (return_plan up t) (λ r. Done (refused_memory r))) told
-told_refused nodes chain up n t told is first = tells_then nodes ReturnTold (ClimbTold nodes chain n) (return_plan up t) (λ r. Done (refused_memory r)) told (told_return nodes up t told is first) ends
+pub stopped_more : (told before : List Answered) → WasStopped told → WasStopped (told ++ before)
+stopped_more [] before was = absurd was
+stopped_more (last ∷ told) before was = was
+
+pub taken_in_more : (told before : List Answered) → WasTakenIn told → WasTakenIn (told ++ before)
+taken_in_more [] before was = absurd was
+taken_in_more (last ∷ told) before was = was
+
+pub ran_out_more : (told before : List Answered) → RanOut told → RanOut (told ++ before)
+ran_out_more [] before ran = absurd ran
+ran_out_more (last ∷ told) before (inl out) = inl out
+ran_out_more (last ∷ told) before (inr back) = inr (back.0, ran_out_more told before back.1)
+
+-- where it ran out of memory before
+pub ran_out_before : (told before : List Answered) → OnlyTakenBack told → RanOut before → RanOut (told ++ before)
+ran_out_before [] before back ran = ran
+ran_out_before (last ∷ told) before back ran =
+    inr (All-head (λ (a : Answered). IsTakenBack a.event a.answer) last told back, ran_out_before told before (All-tail (λ (a : Answered). IsTakenBack a.event a.answer) last told back) ran)
+
+one_back : (last : Answered) → IsTakenBack last.event last.answer → OnlyTakenBack (last ∷ [])
+one_back last back = All-cons (λ (a : Answered). IsTakenBack a.event a.answer) last [] back (All-nil (λ (a : Answered). IsTakenBack a.event a.answer))
+
+-- the end of the chain isn't reached
+pub return_tells : ReturnTells
+return_tells nodes [] t is first = absurd (let e : None ≡ Some t.arena = first in cc)
+return_tells nodes (l ∷ up) t is first = freed (λ w at. return_tells nodes up w is.2 at)
   where
-    ends : (r : Returned) (now : List Answered) → ReturnTold now r → ClimbTold nodes chain n now (refused_memory r)
-    ends (Ok u) now w = tt
-    ends (Err (returning.Stuck x)) now w = w
-    ends (Err (returning.Stopped x)) now w = tt
+    later : (w : Tag) (r : Returned) (now : List Answered) → TellsAfter ReturnTold (answered (Free t) (Ok (Some w)) ∷ []) now r → ReturnTold now r
+    later w (Ok u) now g = (
+      subst OnlyTakenBack (sym g.1) (All-append (λ (a : Answered). IsTakenBack a.event a.answer) g.0 (answered (Free t) (Ok (Some w)) ∷ []) (g.2).0 (one_back (answered (Free t) (Ok (Some w))) (Some w, refl))),
+      subst WasTakenIn (sym g.1) (taken_in_more g.0 (answered (Free t) (Ok (Some w)) ∷ []) (g.2).1),
+    )
+    later w (Err (returning.Stuck x)) now g = subst (WasRefused x) (sym g.1) (refused_more x g.0 (answered (Free t) (Ok (Some w)) ∷ []) g.2)
+    later w (Err (returning.Stopped x)) now g = subst WasStopped (sym g.1) (stopped_more g.0 (answered (Free t) (Ok (Some w)) ∷ []) g.2)
+
+    freed : ((w : Tag) → first_id up ≡ Some w.arena → Tells nodes ReturnTold (return_plan up w) []) → (x : Result (Option Tag) (FreeFault Tag)) → Sound nodes (Free t) x → Tells nodes ReturnTold (on_free (return_plan up) x) (answered (Free t) x ∷ [])
+    freed again (Ok None) s = (one_back (answered (Free t) (Ok None)) (None, refl), refl)
+    freed again (Ok (Some w)) s =
+        let before = answered (Free t) (Ok (Some w)) ∷ [] in
+        tells_so nodes (TellsAfter ReturnTold before) ReturnTold (return_plan up w) before (λ now r g. later w r now g)
+        (tells_own nodes ReturnTold (return_plan up w) [] before (again w (chain_above nodes l up t w is first (s.0).whole.1)))
+    freed again (Err (freeing.BadFree x)) s = refl
+    freed again (Err (freeing.Stopped x)) s = refl
+
+told_refused : (nodes : List Node) (chain up : List Level) (n : ℕ) (t : Tag) (told : List Answered) → IsChain nodes up → first_id up ≡ Some t.arena → RanOut told → Tells nodes (ClimbTold nodes chain n) (then (return_plan up t) (λ r. Done (refused_memory r))) told
+told_refused nodes chain up n t told is first ran =
+    tells_then nodes (TellsAfter ReturnTold told) (ClimbTold nodes chain n) (return_plan up t) (λ r. Done (refused_memory r)) told (tells_own nodes ReturnTold (return_plan up t) [] told (return_tells nodes up t is first)) ends
+  where
+    ends : (r : Returned) (now : List Answered) → TellsAfter ReturnTold told now r → ClimbTold nodes chain n now (refused_memory r)
+    ends (Ok u) now w = subst RanOut (sym w.1) (ran_out_before w.0 told (w.2).0 ran)
+    ends (Err (returning.Stuck x)) now w = subst (WasRefused x) (sym w.1) (refused_more x w.0 told w.2)
+    ends (Err (returning.Stopped x)) now w = subst WasStopped (sym w.1) (stopped_more w.0 told w.2)
 
 told_added : (nodes : List Node) (l : Level) (up : List Level) (n : ℕ) (given : Tag) (told : List Answered) (x : Result Tag (AddCarveFault Tag)) → IsChain nodes up → first_id up ≡ Some given.arena → Sound nodes (AddCarve l.id given n) x
     → Tells nodes (ClimbTold nodes (l ∷ up) n) (on_add up x) (answered (AddCarve l.id given n) x ∷ told)
 told_added nodes l up n given told (Ok t) is first s = (s.0).grant
 told_added nodes l up n given told (Err (adding.NotAligned t)) is first s = refl
 told_added nodes l up n given told (Err (adding.Overlaps t)) is first s = refl
-told_added nodes l up n given told (Err (adding.Stopped t)) is first s = tt
+told_added nodes l up n given told (Err (adding.Stopped t)) is first s = refl
 told_added nodes l up n given told (Err (adding.NoMemory t)) is first s =
     told_refused nodes (l ∷ up) up n t (answered (AddCarve l.id given n) (Err (adding.NoMemory t)) ∷ told) is (subst (λ (z : Tag). first_id up ≡ Some z.arena) (sym s.1) first)
+    (inl (ap (λ (z : Tag). Err (adding.NoMemory z)) s.1))
 
 -- some units are asked of the source for some units
 amount_some : (l k : Level) (up : List Level) (n : ℕ) → 0 < n → 0 < amount_of l (k ∷ up) n
@@ -95,25 +139,21 @@ bad_is_none : (quantum n : ℕ) → ¬ IsGood quantum (plain_of n) → n ≡ 0
 bad_is_none quantum zero bad = refl
 bad_is_none quantum (suc n) bad = absurd (bad (plain_is_good quantum (suc n) (omega arith)))
 
-refused_more : (t : Tag) (told before : List Answered) → WasRefused t told → WasRefused t (told ++ before)
-refused_more t [] before was = absurd was
-refused_more t (last ∷ told) before was = was
-
 told_imported : (nodes : List Node) (l k : Level) (up : List Level) (n : ℕ) → IsChain nodes (k ∷ up) → 0 < n → (r : Climbed) (now : List Answered) → TellsAfter (ClimbTold nodes (k ∷ up) (amount_of l (k ∷ up) n)) (no_fit l.id n ∷ []) now r
     → Tells nodes (ClimbTold nodes (l ∷ (k ∷ up)) n) (on_import (k ∷ up) l.id n r) now
 told_imported nodes l k up n is some (Ok span) now g = λ x s. told_added nodes l (k ∷ up) n span now x is (let here = (g.2).of_arena in cc) s
 told_imported nodes l k up n is some (Err climbing.BadRequest) now g = absurd (let a = amount_some l k up n some in let none = g.2 in omega (arith, a, none))
 told_imported nodes l k up n is some (Err climbing.NoFit) now g = g.1 ∙ ap (λ told. told ++ no_fit l.id n ∷ []) g.2
-told_imported nodes l k up n is some (Err climbing.NoMemory) now g = tt
+told_imported nodes l k up n is some (Err climbing.NoMemory) now g = subst RanOut (sym g.1) (ran_out_more g.0 (no_fit l.id n ∷ []) g.2)
 told_imported nodes l k up n is some (Err (climbing.Stuck t)) now g = subst (WasRefused t) (sym g.1) (refused_more t g.0 (no_fit l.id n ∷ []) g.2)
-told_imported nodes l k up n is some (Err (climbing.Stopped o)) now g = tt
+told_imported nodes l k up n is some (Err (climbing.Stopped o)) now g = subst WasStopped (sym g.1) (stopped_more g.0 (no_fit l.id n ∷ []) g.2)
 
 told_carved : (nodes : List Node) (l k : Level) (up : List Level) (n : ℕ) (x : Result Tag CarveFault) → IsChain nodes (k ∷ up) → Tells nodes (ClimbTold nodes (k ∷ up) (amount_of l (k ∷ up) n)) (climb_plan (k ∷ up) (amount_of l (k ∷ up) n)) []
     → SoundCarve nodes l.id (plain_of n) x → Tells nodes (ClimbTold nodes (l ∷ (k ∷ up)) n) (on_carve (climb_plan (k ∷ up) (amount_of l (k ∷ up) n)) (k ∷ up) l.id n x) (answered (Carve l.id (plain_of n)) x ∷ [])
 told_carved nodes l k up n (Ok t) is again s = s.1
 told_carved nodes l k up n (Err carving.BadRequest) is again s = bad_is_none (quantum_in nodes l.id) n s
-told_carved nodes l k up n (Err carving.NoMemory) is again s = tt
-told_carved nodes l k up n (Err carving.Stopped) is again s = tt
+told_carved nodes l k up n (Err carving.NoMemory) is again s = inl refl
+told_carved nodes l k up n (Err carving.Stopped) is again s = refl
 told_carved nodes l k up n (Err carving.NoFit) is again s =
     tells_then nodes (TellsAfter (ClimbTold nodes (k ∷ up) (amount_of l (k ∷ up) n)) (no_fit l.id n ∷ [])) (ClimbTold nodes (l ∷ (k ∷ up)) n) (climb_plan (k ∷ up) (amount_of l (k ∷ up) n)) (on_import (k ∷ up) l.id n) (no_fit l.id n ∷ [])
     (tells_own nodes (ClimbTold nodes (k ∷ up) (amount_of l (k ∷ up) n)) (climb_plan (k ∷ up) (amount_of l (k ∷ up) n)) [] (no_fit l.id n ∷ []) again) (told_imported nodes l k up n is s.size)
@@ -123,17 +163,14 @@ told_top : (nodes : List Node) (l : Level) (n : ℕ) (x : Result Tag CarveFault)
     → Tells nodes (ClimbTold nodes (l ∷ []) n) (on_carve (Done (Err climbing.NoFit)) [] l.id n x) (answered (Carve l.id (plain_of n)) x ∷ [])
 told_top nodes l n (Ok t) s = s.1
 told_top nodes l n (Err carving.BadRequest) s = bad_is_none (quantum_in nodes l.id) n s
-told_top nodes l n (Err carving.NoMemory) s = tt
-told_top nodes l n (Err carving.Stopped) s = tt
+told_top nodes l n (Err carving.NoMemory) s = inl refl
+told_top nodes l n (Err carving.Stopped) s = refl
 told_top nodes l n (Err carving.NoFit) s = refl
 
 pub climb_tells : ClimbTells
 climb_tells nodes [] n is = refl
 climb_tells nodes (l ∷ []) n is = λ x s. told_top nodes l n x s
 climb_tells nodes (l ∷ (k ∷ up)) n is = λ x s. told_carved nodes l k up n x is.2 (climb_tells nodes (k ∷ up) (amount_of l (k ∷ up) n) is.2) s
-
-pub return_tells : ReturnTells
-return_tells nodes chain t is first = told_return nodes chain t [] is first
 
 -- what is among some answers is among more
 pub none_fits_among : (chain : List Level) (n : ℕ) (told more : List Answered) → ((a : Answered) → Contains told a → Contains more a) → NoneFits chain n told → NoneFits chain n more

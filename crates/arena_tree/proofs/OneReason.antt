@@ -1,6 +1,7 @@
 -- What is asked for is refused for one reason.
-use Rattle.std.proofs.Common.{◌≡◌, ℕ, ◌<◌, ◌≤◌, List, length, slice_get, Option, Some, None, refl, sym, ap, subst, ◌∙◌, inl, inr, arith}
+use Rattle.std.proofs.Common.{◌≡◌, ℕ, ◌<◌, ◌≤◌, List, length, slice_get, Option, Some, None, refl, sym, subst, ◌∙◌, inl, inr, arith}
 use Rattle.deed_core.proofs.LawProofs.{slice_get_one}
+use Rattle.arena_tree.specs.declared.limits.TheConstants.{MOST_SPANS}
 use Rattle.arena_tree.specs.declared.levels.Level.{Level}
 use Rattle.arena_tree.specs.declared.trees.TreeArena.{TreeArena}
 use Rattle.arena_tree.specs.declared.setups.OwnedSpan.{OwnedSpan}
@@ -53,10 +54,10 @@ no_root s n why id x finds root = elim why [
       found imports.2 imports.5 (subst (λ (z : TreeArena). z.source ≡ None) one root.root)
 ]
 
-not_many : (s : SetupState) (n : NewSpan) (id : ℕ) → place_in n.name s.arenas ≡ Some id → 65536 ≤ span_count id s.spans → (id' : ℕ) (x : TreeArena) → HasSpanRoom s n id' x → ⊥
+not_many : (s : SetupState) (n : NewSpan) (id : ℕ) → place_in n.name s.arenas ≡ Some id → MOST_SPANS ≤ span_count id s.spans → (id' : ℕ) (x : TreeArena) → HasSpanRoom s n id' x → ⊥
 not_many s n id finds most id' x room =
     let same : id' ≡ id = one_place id' id room.finds finds in
-    let less : span_count id s.spans < 65536 = subst (λ k. span_count k s.spans < 65536) same room.few in
+    let less : span_count id s.spans < MOST_SPANS = subst (λ k. span_count k s.spans < MOST_SPANS) same room.few in
     omega (arith, most, less)
 
 can_there : (s : SetupState) (n : NewSpan) (id : ℕ) (x : TreeArena) → HasSpanRoom s n id x → (o : OwnedSpan) → BecomesSpan s n o → CanSpan s id x (new_range n)

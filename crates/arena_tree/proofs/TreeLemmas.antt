@@ -7,6 +7,7 @@ use Rattle.std.proofs.lemmas.Option.{slice_get_within}
 use Rattle.deed_core.proofs.LawProofs.{AllPairs-append, all_from, pushed, slice_get_some, slice_get_one, slice_get_mapped, power_some}
 use Rattle.arena_tree.specs.declared.levels.Level.{Level}
 use Rattle.arena_tree.specs.declared.trees.TreeArena.{TreeArena}
+use Rattle.arena_tree.specs.declared.limits.TheConstants.{MOST_ARENAS, LONGEST_CHAIN}
 use Rattle.arena_tree.specs.Chains.{IsChain, first_id, first_node}
 use Rattle.arena_tree.specs.Trees.{place_in, ChainFrom, IsArena, IsTree, ImportsFrom, level_of, node_of, nodes_of}
 use Rattle.arena_tree.specs.Stored.{AreChains, IsNewChain}
@@ -64,20 +65,21 @@ arena_more arenas y id x is = record {
   caches = is.caches;
   source = if_some x.source (ImportsFrom arenas id x) (ImportsFrom (arenas ++ y ∷ []) id x)
       (λ s from. (from.0, ((from.1).0, slice_get_more arenas y s (from.1).0 (from.1).1, (from.1).2))) is.source;
+  minimum = is.minimum;
 }
 
 -- what holds of each chain that is kept holds of each chain
-short_chains : (arenas : List TreeArena) (chains : List (Vec Level)) → AreChains arenas chains → (id : ℕ) (chain : List Level) → ChainFrom arenas (Some id) chain → length chain ≤ 4
+short_chains : (arenas : List TreeArena) (chains : List (Vec Level)) → AreChains arenas chains → (id : ℕ) (chain : List Level) → ChainFrom arenas (Some id) chain → length chain ≤ LONGEST_CHAIN
 short_chains arenas chains are id [] is = absurd is
 short_chains arenas chains are id (l ∷ up) is =
     let within : id < length arenas = slice_get_within arenas id is.0 is.1 in
     let kept = slice_get_some chains id (subst (λ n. id < n) (sym are.count) within) in
     let each = are.each id kept.0 kept.1 in
     let one : (kept.0).items ≡ l ∷ up = chain_one arenas (Some id) (kept.0).items (l ∷ up) each.0 is in
-    subst (λ (ls : List Level). length ls ≤ 4) one each.1
+    subst (λ (ls : List Level). length ls ≤ LONGEST_CHAIN) one each.1
 
 -- one arena more
-pub tree_more : (arenas : List TreeArena) (y : TreeArena) (chains : List (Vec Level)) → IsTree arenas → AreChains (arenas ++ y ∷ []) chains → length arenas < 32 → place_in y.name arenas ≡ None → IsArena arenas (length arenas) y
+pub tree_more : (arenas : List TreeArena) (y : TreeArena) (chains : List (Vec Level)) → IsTree arenas → AreChains (arenas ++ y ∷ []) chains → length arenas < MOST_ARENAS → place_in y.name arenas ≡ None → IsArena arenas (length arenas) y
     → IsTree (arenas ++ y ∷ [])
 tree_more arenas y chains tree are room free is = record {
   few = (let n = length-append arenas (y ∷ []) in omega (arith, room, n));
@@ -99,21 +101,21 @@ chains_more arenas y chains chain are new = record {
   each = λ id c at. elim (pushed chains id chain c at) [
     | inl here ↦
         let place : id ≡ length arenas = here.0 ∙ are.count in
-        let short : length (level_of (length arenas) y ∷ new.up) ≤ 4 = (let s = new.short in omega (arith, s)) in
-        let made : ChainFrom (arenas ++ y ∷ []) (Some (length arenas)) (level_of (length arenas) y ∷ new.up) × (length (level_of (length arenas) y ∷ new.up) ≤ 4) =
+        let short : length (level_of (length arenas) y ∷ new.up) ≤ LONGEST_CHAIN = (let s = new.short in omega (arith, s)) in
+        let made : ChainFrom (arenas ++ y ∷ []) (Some (length arenas)) (level_of (length arenas) y ∷ new.up) × (length (level_of (length arenas) y ∷ new.up) ≤ LONGEST_CHAIN) =
         ((y, slice_get_last arenas y, refl, chain_more arenas y y.source new.up new.above), short) in
-        subst (λ (z : Vec Level). ChainFrom (arenas ++ y ∷ []) (Some id) z.items × (length z.items ≤ 4)) (sym here.1)
-        (subst (λ k. ChainFrom (arenas ++ y ∷ []) (Some k) chain.items × (length chain.items ≤ 4)) (sym place)
-        (subst (λ (ls : List Level). ChainFrom (arenas ++ y ∷ []) (Some (length arenas)) ls × (length ls ≤ 4)) (sym new.is) made))
+        subst (λ (z : Vec Level). ChainFrom (arenas ++ y ∷ []) (Some id) z.items × (length z.items ≤ LONGEST_CHAIN)) (sym here.1)
+        (subst (λ k. ChainFrom (arenas ++ y ∷ []) (Some k) chain.items × (length chain.items ≤ LONGEST_CHAIN)) (sym place)
+        (subst (λ (ls : List Level). ChainFrom (arenas ++ y ∷ []) (Some (length arenas)) ls × (length ls ≤ LONGEST_CHAIN)) (sym new.is) made))
     | inr there ↦ (chain_more arenas y (Some id) c.items (are.each id c there).0, (are.each id c there).1)
   ];
 }
 
 -- the same, of what a tree stores
-pub put_keeps : (now items new : List TreeArena) (chains newer : List (Vec Level)) (y : TreeArena) (chain : Vec Level) → items ≡ now → IsTree items × AreChains items chains → length now < 32 → place_in y.name now ≡ None
+pub put_keeps : (now items new : List TreeArena) (chains newer : List (Vec Level)) (y : TreeArena) (chain : Vec Level) → items ≡ now → IsTree items × AreChains items chains → length now < MOST_ARENAS → place_in y.name now ≡ None
     → IsArena now (length now) y → IsNewChain now y chain.items → new ≡ items ++ y ∷ [] → newer ≡ chains ++ chain ∷ [] → IsTree new × AreChains new newer
 put_keeps now items new chains newer y chain is sound room free arena above put put_chain =
-    let room' : length items < 32 = subst (λ (s : List TreeArena). length s < 32) (sym is) room in
+    let room' : length items < MOST_ARENAS = subst (λ (s : List TreeArena). length s < MOST_ARENAS) (sym is) room in
     let free' : place_in y.name items ≡ None = subst (λ (s : List TreeArena). place_in y.name s ≡ None) (sym is) free in
     let arena' : IsArena items (length items) y = subst (λ (s : List TreeArena). IsArena s (length s) y) (sym is) arena in
     let above' : IsNewChain items y chain.items = subst (λ (s : List TreeArena). IsNewChain s y chain.items) (sym is) above in

@@ -7,7 +7,7 @@ use Rattle.std.proofs.lemmas.Option.{slice_get_within, get_or_from_slice_get}
 use Rattle.std.proofs.lemmas.Slice.Eq.{bytes_eq-Decides}
 use Rattle.std.proofs.lemmas.Bool.{ltb-false, lt-ltb, false_from_ne_true}
 use Rattle.arena_tree.specs.declared.trees.TreeArena.{TreeArena}
-use Rattle.arena_tree.specs.Trees.{place_in, IsTree}
+use Rattle.arena_tree.specs.Trees.{place_in}
 use Rattle.arena_tree.specs.Laws.{OwnName}
 
 -- none passes

@@ -47,7 +47,7 @@ refused_memory (Err (returning.Stopped t)) = Err (climbing.Stopped (Some t))
 abbrev pub give_back : List Level → Tag → Plan Climbed
 give_back up t = then (return_plan up t) (λ r. Done (refused_memory r))
 
--- the child is given the span, and carves n units of it; where memory is refused, the span is freed
+-- the child is given the span, and carves n units of it; out of memory for that, the span is freed
 -- upwards
 abbrev pub on_add : List Level → Result Tag (AddCarveFault Tag) → Plan Climbed
 on_add up (Ok t) = Done (Ok t)

@@ -42,14 +42,17 @@ ClimbGives = (nodes : List Node) (chain : List Level) (n : ℕ)
     → Gives nodes (λ (r : Climbed). IfOk r (IsGrantOf nodes chain n)) (climb_plan chain n)
 
 -- A climb in a chain of the tree tells a bad request for 0 units alone. Where it ends with NoFit it
--- has asked each arena of the chain to carve, in turn, and nothing else. It ends with a segment in
--- the hand that isn't its grant only where a part has just refused that, or by a stop.
+-- has asked each arena of the chain to carve, in turn, and nothing else. It is out of memory only
+-- where a carve or an import was, after which nothing was done but to free what it had carved. It
+-- ends with a segment in the hand that isn't its grant only where a part has just refused that, or
+-- was just stopped.
 abbrev pub ClimbTells : Type 0
 ClimbTells = (nodes : List Node) (chain : List Level) (n : ℕ) → IsChain nodes chain
     → Tells nodes (ClimbTold nodes chain n) (climb_plan chain n) []
 
 -- A hand back along the chain of the segment's arena is stuck only where a part has just refused
--- the segment: the end of the chain is never reached.
+-- the segment: the end of the chain is never reached. It is stopped only where a part just was, and
+-- ends well only where nothing but frees was asked and the last made no span whole.
 abbrev pub ReturnTells : Type 0
 ReturnTells = (nodes : List Node) (chain : List Level) (t : Tag) → IsChain nodes chain
     → first_id chain ≡ Some t.arena → Tells nodes ReturnTold (return_plan chain t) []

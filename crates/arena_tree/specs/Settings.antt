@@ -45,11 +45,12 @@ pub record IsRoot (arenas : List TreeArena) (id : ℕ) (x : TreeArena) : Type 0 
 abbrev pub IsOwned : List TreeArena → OwnedSpan → Type 0
 IsOwned arenas o = (x : TreeArena) × IsRoot arenas o.arena x × IsWholeRange x.quantum o.range
 
--- what is so of every setup
+-- what is so of every setup; a root comes with a span, and keeps it
 pub record IsSetup (s : SetupState) : Type 0 where
   pub owned : All (IsOwned s.arenas) s.spans
   pub apart : AllPairs (λ a b. ¬ Clash a b) s.spans
   pub few : (id : ℕ) → span_count id s.spans ≤ MOST_SPANS
+  pub rooted : (id : ℕ) (x : TreeArena) → IsRoot s.arenas id x → 0 < span_count id s.spans
 
 -- the range that a span asks for
 abbrev pub new_range : NewSpan → Extent

@@ -1,5 +1,5 @@
 -- What is so of every answer, whatever the parts are.
-use Rattle.std.specs.Prelude.{◌≡◌, ℕ, ◌+◌, ◌%◌, ◌<◌, ◌≤◌, List, Option, Some, None, Result, Ok, Err}
+use Rattle.std.specs.Prelude.{◌≡◌, ℕ, ◌+◌, ◌%◌, ◌≤◌, List, Option, Some, None, Result, Ok, Err}
 use Rattle.std.specs.Prelude.{IfOk, IfErr, IfSome}
 use Rattle.deed_core.specs.Tag.{Tag}
 use Rattle.deed_core.specs.Request.{IsGood, plain_of}

@@ -1,5 +1,6 @@
 -- What a list of steps ends with, by what was answered on its way.
-use Rattle.std.specs.Prelude.{◌≡◌, ℕ, List, [], ◌∷◌, ◌++◌, All, Contains, Result, Ok, Err}
+use Rattle.std.specs.Prelude.{◌≡◌, ◌⊎◌, ℕ, List, [], ◌∷◌, ◌++◌, All, Contains, Option, None}
+use Rattle.std.specs.Prelude.{Result, Ok, Err, true}
 use Rattle.deed_core.specs.Request.{plain_of}
 use Rattle.deed_core.specs.Tag.{Tag}
 use Rattle.arena_tree.specs.declared.levels.Level.{Level}
@@ -7,10 +8,13 @@ use Rattle.arena_tree.specs.declared.part_faults.CarveFault.TheVariants as carvi
 use Rattle.arena_tree.specs.declared.part_faults.FreeFault.TheVariants as freeing
 use Rattle.arena_tree.specs.declared.part_faults.AddCarveFault.{AddCarveFault}
 use Rattle.arena_tree.specs.declared.part_faults.AddCarveFault.TheVariants as adding
+use Rattle.arena_tree.specs.declared.part_faults.SlabAddFault.TheVariants as slabbing
 use Rattle.arena_tree.specs.declared.part_faults.ClimbFault.TheVariants as climbing
 use Rattle.arena_tree.specs.declared.part_faults.ReturnFault.TheVariants as returning
 use Rattle.arena_tree.specs.Chains.{Node, amount_of}
-use Rattle.arena_tree.specs.Events.{Event, AnswerTo, Carve, Free, AddCarve}
+use Rattle.arena_tree.specs.Events.{Event, AnswerTo, Carve, Free, AddCarve, SlabPut}
+use Rattle.arena_tree.specs.Events.{SlabAdd, Push}
+use Rattle.arena_tree.specs.Stops.{is_stopped}
 use Rattle.arena_tree.specs.Sound.{Sound}
 use Rattle.arena_tree.specs.Plans.{Plan, Done, Ask, Path}
 use Rattle.arena_tree.specs.Climbs.{Climbed, Returned, IsGrantOf}
@@ -78,19 +82,63 @@ abbrev pub WasRefused : Tag → List Answered → Type 0
 WasRefused t [] = ⊥
 WasRefused t (last ∷ told) = IsRefusalOf t last.event last.answer
 
+-- a carve, an import or a new slab was out of memory
+abbrev pub IsOutOfMemory : (e : Event) → AnswerTo e → Type 0
+IsOutOfMemory (Carve arena request) a = a ≡ Err carving.NoMemory
+IsOutOfMemory (Free given) a = ⊥
+IsOutOfMemory (AddCarve child given size) a = a ≡ Err (adding.NoMemory given)
+IsOutOfMemory (SlabAdd arena cache given) a = a ≡ Err (slabbing.NoMemory given)
+IsOutOfMemory _ a = ⊥
+
+-- a segment was freed
+abbrev pub IsTakenBack : (e : Event) → AnswerTo e → Type 0
+IsTakenBack (Carve arena request) a = ⊥
+IsTakenBack (Free given) a = (out : Option Tag) × (a ≡ Ok out)
+IsTakenBack _ a = ⊥
+
+-- nothing else was done
+abbrev pub OnlyTakenBack : List Answered → Type 0
+OnlyTakenBack told = All (λ a. IsTakenBack a.event a.answer) told
+
+-- one was out of memory, and after that segments were freed and nothing else was done
+abbrev pub RanOut : List Answered → Type 0
+RanOut [] = ⊥
+RanOut (last ∷ told) =
+    IsOutOfMemory last.event last.answer ⊎ (IsTakenBack last.event last.answer × RanOut told)
+
+-- a segment was taken in, and nothing came out
+abbrev pub IsTakenIn : (e : Event) → AnswerTo e → Type 0
+IsTakenIn (Carve arena request) a = ⊥
+IsTakenIn (Free given) a = a ≡ Ok None
+IsTakenIn (SlabPut given) a = a ≡ Ok tt
+IsTakenIn (Push arena cache given) a = a ≡ Ok tt
+IsTakenIn _ a = ⊥
+
+-- that was the last answer
+abbrev pub WasTakenIn : List Answered → Type 0
+WasTakenIn [] = ⊥
+WasTakenIn (last ∷ told) = IsTakenIn last.event last.answer
+
+-- the last was stopped
+abbrev pub WasStopped : List Answered → Type 0
+WasStopped [] = ⊥
+WasStopped (last ∷ told) = is_stopped last.event last.answer ≡ true
+
 -- what a climb ends with: a grant of the chain's first arena; for 0 units alone a bad request;
--- NoFit where each arena of the chain was asked to carve, and nothing else; a segment where a part
--- has just refused it
+-- NoFit where each arena of the chain was asked to carve, and nothing else; out of memory where a
+-- carve or an import was, and what was carved for it was freed; a segment where a part has just
+-- refused it; stopped where a part has just said so
 abbrev pub ClimbTold : List Node → List Level → ℕ → List Answered → Climbed → Type 0
 ClimbTold nodes chain n told (Ok t) = IsGrantOf nodes chain n t
 ClimbTold nodes chain n told (Err climbing.BadRequest) = n ≡ 0
 ClimbTold nodes chain n told (Err climbing.NoFit) = told ≡ no_fits chain n
-ClimbTold nodes chain n told (Err climbing.NoMemory) = Unit {0}
+ClimbTold nodes chain n told (Err climbing.NoMemory) = RanOut told
 ClimbTold nodes chain n told (Err (climbing.Stuck t)) = WasRefused t told
-ClimbTold nodes chain n told (Err (climbing.Stopped o)) = Unit {0}
+ClimbTold nodes chain n told (Err (climbing.Stopped o)) = WasStopped told
 
--- and a hand back
+-- and a hand back: it ends well where segments were freed and nothing else was done, and the last
+-- that was freed made no span whole
 abbrev pub ReturnTold : List Answered → Returned → Type 0
-ReturnTold told (Ok u) = Unit {0}
+ReturnTold told (Ok u) = OnlyTakenBack told × WasTakenIn told
 ReturnTold told (Err (returning.Stuck t)) = WasRefused t told
-ReturnTold told (Err (returning.Stopped t)) = Unit {0}
+ReturnTold told (Err (returning.Stopped t)) = WasStopped told

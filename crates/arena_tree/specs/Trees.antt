@@ -68,11 +68,12 @@ abbrev pub ImportsFrom : List TreeArena → ℕ → TreeArena → ℕ → Type 0
 ImportsFrom arenas id x source = (source < id) × ((y : TreeArena)
     × (slice_get arenas source ≡ Some y) × (x.quantum ≤ y.quantum))
 
--- an arena of the tree, with this number
+-- an arena of the tree, with this number; one without a source imports nothing
 pub record IsArena (arenas : List TreeArena) (id : ℕ) (x : TreeArena) : Type 0 where
   pub power : IsPowerOfTwo x.quantum
   pub caches : HasCaches x.quantum x.qcache_max x.slab_size
   pub source : IfSome x.source (ImportsFrom arenas id x)
+  pub minimum : x.source ≡ None → x.import_min ≡ 0
 
 -- what is so of every tree: at most 32 arenas, each with a name of its own, an earlier source and a
 -- chain of at most four

@@ -80,7 +80,7 @@ fn climb<S: Held, P: Parts<S>>(
     }
 }
 
-// Gives a span to the child, which carves from it. Where memory is refused, the span goes back.
+// Gives a span to the child, which carves from it. Where it is out of memory, the span goes back.
 #[tactic(auto, using(crate::proofs::Paths::ran_on))]
 fn descend<S: Held, P: Parts<S>>(
     parts: &mut P,

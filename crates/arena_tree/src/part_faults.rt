@@ -15,7 +15,7 @@ pub enum CarveFault {
     /// No free range serves the request.
     #[error("no fit")]
     NoFit,
-    /// Memory was refused.
+    /// Out of memory.
     #[error("out of memory")]
     NoMemory,
     /// Nothing was done.
@@ -37,7 +37,7 @@ pub enum AddCarveFault<S> {
     Overlaps(S),
     /// It isn't in whole quanta.
     NotAligned(S),
-    /// Memory was refused.
+    /// Out of memory.
     NoMemory(S),
     /// Nothing was done.
     Stopped(S),
@@ -59,7 +59,7 @@ pub enum SlabAddFault<S> {
     WrongSize(S),
     /// It has a unit in common with a slab that is here.
     Overlaps(S),
-    /// Memory was refused.
+    /// Out of memory.
     NoMemory(S),
     /// Nothing was done.
     Stopped(S),
@@ -99,7 +99,7 @@ pub enum SwapFreshFault {
     /// The depot's magazines have this size, and the CPU's another.
     #[error("the depot's magazines hold {0} rounds")]
     OldSize(usize),
-    /// Memory was refused.
+    /// Out of memory.
     #[error("out of memory")]
     NoMemory,
     /// Nothing was done.
@@ -118,7 +118,7 @@ pub enum PushFault<S> {
 /// Why a CPU's magazines didn't change to another size.
 #[derive(Clone, Copy, PartialEq, Eq, Debug, Error)]
 pub enum ChangeFault {
-    /// Memory was refused.
+    /// Out of memory.
     #[error("out of memory")]
     NoMemory,
     /// The size isn't greater than theirs.
@@ -135,7 +135,7 @@ pub enum ClimbFault<S> {
     BadRequest,
     /// No arena of the chain has room.
     NoFit,
-    /// Memory was refused.
+    /// Out of memory.
     NoMemory,
     /// A part refused this segment.
     Stuck(S),

@@ -1,5 +1,5 @@
 -- What an allocation tells.
-use Rattle.std.proofs.Common.{◌≡◌, ℕ, List, [], ◌∷◌, Option, Some, None, Result, Ok, Err, refl, sym, ap, inl, inr, ◌∙◌}
+use Rattle.std.proofs.Common.{◌≡◌, ℕ, true, List, [], ◌∷◌, Option, Some, None, Result, Ok, Err, refl, sym, ap, subst, inl, inr, ◌∙◌}
 use Rattle.deed_core.specs.Tag.{Tag}
 use Rattle.arena_tree.specs.declared.levels.Level.{Level}
 use Rattle.arena_tree.specs.declared.part_faults.ChangeFault.{ChangeFault}
@@ -14,16 +14,17 @@ use Rattle.arena_tree.specs.declared.part_faults.Stopped.{Stopped}
 use Rattle.arena_tree.specs.Chains.{Node, IsChain, IsCachedChunk, first_id}
 use Rattle.arena_tree.specs.Events.{SlabTake, SlabAdd, SwapFull, Pop, Change}
 use Rattle.arena_tree.specs.Sound.{Sound, SoundTake}
+use Rattle.arena_tree.specs.Stops.{refuses_by}
 use Rattle.arena_tree.specs.Plans.{Plan, Done, then, or_else}
 use Rattle.arena_tree.specs.Climbs.{Climbed, Returned, climb_plan, return_plan, refused_memory}
-use Rattle.arena_tree.specs.Told.{Answered, Tells, ClimbTold, ReturnTold}
-use Rattle.arena_tree.proofs.LawProofs.{tells_then, climb_tells, return_tells}
+use Rattle.arena_tree.specs.Told.{Answered, Tells, RanOut, WasStopped, ClimbTold, ReturnTold}
+use Rattle.arena_tree.proofs.LawProofs.{tells_then, ran_out_before, climb_tells, return_tells}
 use Rattle.quantum_cache.specs.Sizes.{cache_for}
 use Rattle.quantum_cache.specs.Allocs.{Stage, on_take, take_round, on_change_over, change_over, on_swap_full, take_from_depot, take_chunk, on_slab_add, make_slab, on_slab_climb, take_from_slab, alloc_cached, alloc_by}
 use Rattle.quantum_cache.specs.Served.{IsServedOf}
 use Rattle.quantum_cache.specs.Told.{AllocTold, AllocTells}
 use Rattle.quantum_cache.proofs.CacheSizes.{chunk_serves}
-use Rattle.quantum_cache.proofs.Tellings.{answered, After, IfNone, tells_after, tells_both, tells_so, just_refused, climb_none}
+use Rattle.quantum_cache.proofs.Tellings.{answered, After, IfNone, tells_after, tells_both, tells_so, just_refused, stopped_after, ran_out_after, climb_none}
 
 -- the last climb
 told_climb : (nodes : List Node) (l : Level) (up : List Level) (size : ℕ) (told : List Answered) → IsChain nodes (l ∷ up) → Tells nodes (AllocTold nodes (l ∷ up) size) (climb_plan (l ∷ up) size) told
@@ -35,9 +36,9 @@ told_climb nodes l up size told is =
     so now (Ok t) w = let g = w.0.2 in record { of_arena = g.of_arena; by = inl g.direct; fits = g.fits }
     so now (Err climbing.BadRequest) w = inl w.0.2
     so now (Err climbing.NoFit) w = (told, w.1 refl)
-    so now (Err climbing.NoMemory) w = tt
+    so now (Err climbing.NoMemory) w = ran_out_after w.0.0 told now w.0.1 w.0.2
     so now (Err (climbing.Stuck t)) w = just_refused t w.0.0 told now w.0.1 w.0.2
-    so now (Err (climbing.Stopped o)) w = tt
+    so now (Err (climbing.Stopped o)) w = stopped_after w.0.0 told now w.0.1 w.0.2
 
 module _ (nodes : List Node) (l : Level) (up : List Level) (size cache : ℕ) (is : IsChain nodes (l ∷ up)) (for : cache_for l size ≡ Some cache) where
   abbrev IfTold : List Answered → Stage → Type 0
@@ -54,14 +55,14 @@ module _ (nodes : List Node) (l : Level) (up : List Level) (size cache : ℕ) (i
   chunk : (t : Tag) → IsCachedChunk nodes l.id cache t → IsServedOf nodes l size t
   chunk t c = chunk_serves nodes l up size cache t is for c
 
-  told_take : (now : List Answered) (a : Result (Option Tag) Stopped) → SoundTake nodes l.id cache a → IfTold now (on_take a)
-  told_take now (Ok None) s = tt
-  told_take now (Ok (Some t)) s = chunk t s
-  told_take now (Err e) s = tt
+  told_take : (now : List Answered) (a : Result (Option Tag) Stopped) → SoundTake nodes l.id cache a → (refuses_by (λ (f : Stopped). true) a ≡ true → WasStopped now) → IfTold now (on_take a)
+  told_take now (Ok None) s stops = tt
+  told_take now (Ok (Some t)) s stops = chunk t s
+  told_take now (Err e) s stops = stops refl
 
   told_round : (told : List Answered) → Tells nodes IfTold (take_round l.id cache) told
   unfolding take_round
-  told_round told = λ x s. told_take (answered (Pop l.id cache) x ∷ told) x s
+  told_round told = λ x s. told_take (answered (Pop l.id cache) x ∷ told) x s (λ e. e)
 
   told_over : (m : ℕ) (told : List Answered) → Tells nodes IfTold (change_over l.id cache m) told
   unfolding change_over
@@ -71,7 +72,7 @@ module _ (nodes : List Node) (l : Level) (up : List Level) (size cache : ℕ) (i
       changed (Ok u) = tt
       changed (Err changing.NoMemory) = tt
       changed (Err changing.NotGreater) = tt
-      changed (Err changing.Stopped) = tt
+      changed (Err changing.Stopped) = refl
 
   told_depot : (told : List Answered) → Tells nodes IfTold (take_from_depot l.id cache) told
   unfolding take_from_depot
@@ -81,27 +82,27 @@ module _ (nodes : List Node) (l : Level) (up : List Level) (size cache : ℕ) (i
       swapped (Ok u) = told_round (answered (SwapFull l.id cache) (Ok u) ∷ told)
       swapped (Err (fulling.OldSize m)) = told_over m (answered (SwapFull l.id cache) (Err (fulling.OldSize m)) ∷ told)
       swapped (Err fulling.NoneFull) = tt
-      swapped (Err fulling.Stopped) = tt
+      swapped (Err fulling.Stopped) = refl
 
   told_chunk : (told : List Answered) → Tells nodes IfTold (take_chunk l.id cache) told
   unfolding take_chunk
-  told_chunk told = λ x s. told_take (answered (SlabTake l.id cache) x ∷ told) x s
+  told_chunk told = λ x s. told_take (answered (SlabTake l.id cache) x ∷ told) x s (λ e. e)
 
-  told_back : (t : Tag) (told : List Answered) → first_id (l ∷ up) ≡ Some t.arena → Tells nodes (AllocTold nodes (l ∷ up) size) (then (return_plan (l ∷ up) t) (λ r. Done (refused_memory r))) told
-  told_back t told first = tells_then nodes (After ReturnTold told) (AllocTold nodes (l ∷ up) size) (return_plan (l ∷ up) t) (λ r. Done (refused_memory r)) told (tells_after nodes ReturnTold told (return_plan (l ∷ up) t) [] (return_tells nodes (l ∷ up) t is first)) ends
+  told_back : (t : Tag) (told : List Answered) → first_id (l ∷ up) ≡ Some t.arena → RanOut told → Tells nodes (AllocTold nodes (l ∷ up) size) (then (return_plan (l ∷ up) t) (λ r. Done (refused_memory r))) told
+  told_back t told first ran = tells_then nodes (After ReturnTold told) (AllocTold nodes (l ∷ up) size) (return_plan (l ∷ up) t) (λ r. Done (refused_memory r)) told (tells_after nodes ReturnTold told (return_plan (l ∷ up) t) [] (return_tells nodes (l ∷ up) t is first)) ends
     where
       ends : (r : Returned) (now : List Answered) → After ReturnTold told now r → AllocTold nodes (l ∷ up) size now (refused_memory r)
-      ends (Ok u) now w = tt
+      ends (Ok u) now w = subst RanOut (sym w.1) (ran_out_before w.0 told (w.2).0 ran)
       ends (Err (returning.Stuck x)) now w = just_refused x w.0 told now w.1 w.2
-      ends (Err (returning.Stopped x)) now w = tt
+      ends (Err (returning.Stopped x)) now w = stopped_after w.0 told now w.1 w.2
 
   told_slab : (span : Tag) (told : List Answered) → span.arena ≡ l.id → (x : Result Tag (SlabAddFault Tag)) → Sound nodes (SlabAdd l.id cache span) x → Tells nodes (AllocTold nodes (l ∷ up) size) (on_slab_add (l ∷ up) x) (answered (SlabAdd l.id cache span) x ∷ told)
   told_slab span told here (Ok t) s = chunk t s.0
   told_slab span told here (Err (slabbing.WrongSize t)) s = refl
   told_slab span told here (Err (slabbing.Overlaps t)) s = refl
-  told_slab span told here (Err (slabbing.Stopped t)) s = tt
+  told_slab span told here (Err (slabbing.Stopped t)) s = refl
   told_slab span told here (Err (slabbing.NoMemory t)) s =
-      told_back t (answered (SlabAdd l.id cache span) (Err (slabbing.NoMemory t)) ∷ told) (ap Some (sym (ap (λ (z : Tag). z.arena) s.1 ∙ here)))
+      told_back t (answered (SlabAdd l.id cache span) (Err (slabbing.NoMemory t)) ∷ told) (ap Some (sym (ap (λ (z : Tag). z.arena) s.1 ∙ here))) (inl (ap (λ (z : Tag). Err (slabbing.NoMemory z)) s.1))
 
   told_climbed : (x : Climbed) (before now : List Answered) → After (ClimbTold nodes (l ∷ up) l.slab_size) before now x → Tells nodes IfTold (on_slab_climb (l ∷ up) l.id cache x) now
   unfolding make_slab
@@ -109,9 +110,9 @@ module _ (nodes : List Node) (l : Level) (up : List Level) (size cache : ℕ) (i
       tells_then nodes (AllocTold nodes (l ∷ up) size) IfTold (make_slab (l ∷ up) l.id cache span) (λ r. Done (Some r)) now (λ x s. told_slab span now (w.2).of_arena x s) (λ r told e. e)
   told_climbed (Err climbing.BadRequest) before now w = inr (w.2, (cache, for))
   told_climbed (Err climbing.NoFit) before now w = tt
-  told_climbed (Err climbing.NoMemory) before now w = tt
+  told_climbed (Err climbing.NoMemory) before now w = ran_out_after w.0 before now w.1 w.2
   told_climbed (Err (climbing.Stuck t)) before now w = just_refused t w.0 before now w.1 w.2
-  told_climbed (Err (climbing.Stopped o)) before now w = tt
+  told_climbed (Err (climbing.Stopped o)) before now w = stopped_after w.0 before now w.1 w.2
 
   told_import : (told : List Answered) → Tells nodes IfTold (take_from_slab (l ∷ up) l cache) told
   unfolding take_from_slab

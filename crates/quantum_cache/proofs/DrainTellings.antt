@@ -48,14 +48,14 @@ told_turn nodes arena cache told = λ x s. popped x
     ended : (r : Returned) (now : List Answered) → FreeTold now r → TurnTold arena cache now (on_put_back r)
     ended (Ok u) now w = tt
     ended (Err (returning.Stuck t)) now w = w
-    ended (Err (returning.Stopped t)) now w = tt
+    ended (Err (returning.Stopped t)) now w = w
 
     popped : (x : Result (Option Tag) Stopped) → Tells nodes (TurnTold arena cache) (on_drain_pop x) (answered (Pop arena cache) x ∷ told)
     popped (Ok None) = inl refl
     popped (Ok (Some t)) =
         let now : List Answered = answered (Pop arena cache) (Ok (Some t)) ∷ told in
         tells_then nodes FreeTold (TurnTold arena cache) (put_chunk t) (λ r. Done (on_put_back r)) now (told_put nodes t now) ended
-    popped (Err e) = tt
+    popped (Err e) = refl
 
 told_drain : (nodes : List Node) (turns arena cache : ℕ) (u : Unit {0}) (told : List Answered) → Tells nodes (KeyTold nodes (λ k (v : Unit {0}). drain_cache turns arena k) Live (Found arena) Fault cache u) (drain_cache turns arena cache) told
 told_drain nodes zero arena cache u told = tt

@@ -36,7 +36,7 @@ LookTold found now (Err f) = EmptyingTold now f
 returned_told : (found : List Answered → Type 0) (units : ℕ) (r : Returned) (now : List Answered) → FreeTold now r → LookTold found now (on_return units r)
 returned_told found units (Ok u) now w = tt
 returned_told found units (Err (returning.Stuck t)) now w = w
-returned_told found units (Err (returning.Stopped t)) now w = tt
+returned_told found units (Err (returning.Stopped t)) now w = w
 
 look_at_depot : (nodes : List Node) (arena cache : ℕ) (told : List Answered) → Tells nodes (LookTold (WasLast (DepotReap arena cache) (Ok None))) (reap_round arena cache) told
 unfolding reap_round
@@ -47,7 +47,7 @@ look_at_depot nodes arena cache told = λ x s. taken x
     taken (Ok (Some t)) =
         let now : List Answered = answered (DepotReap arena cache) (Ok (Some t)) ∷ told in
         tells_then nodes FreeTold (LookTold (WasLast (DepotReap arena cache) (Ok None))) (put_chunk t) (λ r. Done (on_return 0 r)) now (told_put nodes t now) (returned_told (WasLast (DepotReap arena cache) (Ok None)) 0)
-    taken (Err e) = tt
+    taken (Err e) = refl
 
 look_at_slabs : (nodes : List Node) (l : Level) (up : List Level) (cache : ℕ) (told : List Answered) → IsChain nodes (l ∷ up) → Tells nodes (LookTold (WasLast (SlabReap l.id cache) (Ok None))) (reap_slab (l ∷ up) l.id cache) told
 unfolding reap_slab
@@ -58,7 +58,7 @@ look_at_slabs nodes l up cache told is = taken
     taken (Ok (Some t)) s =
         let now : List Answered = answered (SlabReap l.id cache) (Ok (Some t)) ∷ told in
         tells_then nodes FreeTold (LookTold (WasLast (SlabReap l.id cache) (Ok None))) (return_plan (l ∷ up) t) (λ r. Done (on_return t.holding.range.len r)) now (told_return nodes (l ∷ up) t now is (ap Some (sym s.of_arena))) (returned_told (WasLast (SlabReap l.id cache) (Ok None)) t.holding.range.len)
-    taken (Err e) s = tt
+    taken (Err e) s = refl
 
 -- looks at one place, until there is nothing
 abbrev LooksTold : (List Answered → Type 0) → ℕ → List Answered → ReapEnd → Type 0

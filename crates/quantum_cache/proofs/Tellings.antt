@@ -13,8 +13,8 @@ use Rattle.arena_tree.specs.Chains.{Node, amount_of}
 use Rattle.arena_tree.specs.Climbs.{Climbed, Returned, return_plan, refused_memory, on_add, on_import, on_carve, climb_plan}
 use Rattle.arena_tree.specs.Events.{Event, AnswerTo, Carve, Free, AddCarve, SlabTake, SlabPut, SlabAdd, SlabReap, SwapFull, SwapEmpty, SwapFresh, DepotReap, Pop, Push, Change}
 use Rattle.arena_tree.specs.Plans.{Plan, Done, Ask, then}
-use Rattle.arena_tree.specs.Told.{Answered, Tells, IsRefusalOf, WasRefused}
-use Rattle.arena_tree.proofs.LawProofs.{tells_then}
+use Rattle.arena_tree.specs.Told.{Answered, Tells, IsRefusalOf, WasRefused, RanOut, WasTakenIn, WasStopped}
+use Rattle.arena_tree.proofs.LawProofs.{tells_then, stopped_more, taken_in_more, ran_out_more}
 use Rattle.quantum_cache.specs.Told.{PartRefuses, JustRefused, none_fitted}
 
 abbrev pub answered : (e : Event) → AnswerTo e → Answered
@@ -63,6 +63,16 @@ part_refuses t (Change arena cache size) a w = absurd w
 pub just_refused : (t : Tag) (news before now : List Answered) → now ≡ news ++ before → WasRefused t news → JustRefused t now
 just_refused t [] before now is w = absurd w
 just_refused t (last ∷ told) before now is w = subst (JustRefused t) (sym is) (part_refuses t last.event last.answer w)
+
+-- what was so of the last answers
+pub stopped_after : (news before now : List Answered) → now ≡ news ++ before → WasStopped news → WasStopped now
+stopped_after news before now is w = subst WasStopped (sym is) (stopped_more news before w)
+
+pub taken_in_after : (news before now : List Answered) → now ≡ news ++ before → WasTakenIn news → WasTakenIn now
+taken_in_after news before now is w = subst WasTakenIn (sym is) (taken_in_more news before w)
+
+pub ran_out_after : (news before now : List Answered) → now ≡ news ++ before → RanOut news → RanOut now
+ran_out_after news before now is w = subst RanOut (sym is) (ran_out_more news before w)
 
 -- a climb ends with NoFit only so
 abbrev pub IfNone : List Level → ℕ → List Answered → List Answered → Climbed → Type 0

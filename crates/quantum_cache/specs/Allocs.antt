@@ -63,8 +63,7 @@ take_from_depot arena cache = Ask (SwapFull arena cache) (on_swap_full arena cac
 unfoldable pub take_chunk : ℕ → ℕ → Plan Stage
 take_chunk arena cache = Ask (SlabTake arena cache) (λ a. Done (on_take a))
 
--- 4. a climb of the slab size, then slab_add; where that is refused memory, the span is freed
--- upwards
+-- 4. a climb of the slab size, then slab_add; out of memory for that, the span is freed upwards
 abbrev pub on_slab_add : List Level → Result Tag (SlabAddFault Tag) → Plan Climbed
 on_slab_add chain (Ok t) = Done (Ok t)
 on_slab_add chain (Err (slabbing.NoMemory t)) = give_back chain t

@@ -1,11 +1,12 @@
 -- The last look at a depot, a slab cache or the CPU's magazines, and what a drain and a reaping
 -- tell of it.
-use Rattle.std.specs.Prelude.{◌≡◌, ◌≢◌, ◌⊎◌, ℕ, ◌<◌, ◌≤◌, List, [], ◌∷◌, Some, None, Ok, Err, length, slice_get}
+use Rattle.std.specs.Prelude.{◌≡◌, ◌≢◌, ◌⊎◌, ℕ, ◌<◌, ◌≤◌, List, [], ◌∷◌, Some, None, Ok, Err}
+use Rattle.std.specs.Prelude.{length, slice_get}
 use Rattle.deed_core.specs.Tag.{Tag}
 use Rattle.arena_tree.specs.declared.trees.TreeArena.{TreeArena}
 use Rattle.arena_tree.specs.Chains.{Node, IsChain}
 use Rattle.arena_tree.specs.Events.{Event, AnswerTo, SlabReap, DepotReap, Pop}
-use Rattle.arena_tree.specs.Told.{Answered, Tells}
+use Rattle.arena_tree.specs.Told.{Answered, Tells, WasStopped}
 use Rattle.arena_tree.specs.Trees.{nodes_of, level_of}
 use Rattle.quantum_cache.specs.declared.emptying_faults.EmptyingFault.{EmptyingFault}
 use Rattle.quantum_cache.specs.declared.emptying_faults.EmptyingFault.TheVariants as emptying
@@ -30,10 +31,10 @@ abbrev pub OfEachCache : List TreeArena → (ℕ → ℕ → Type 0) → Type 0
 OfEachCache arenas P = (id cache : ℕ) (x : TreeArena) → slice_get arenas id ≡ Some x → 0 < cache
     → cache ≤ caches_in (level_of id x) → P id cache
 
--- a segment isn't placed only where a part has just refused it, or by a stop
+-- a segment isn't placed only where a part has just refused it, or was just stopped
 abbrev pub EmptyingTold : List Answered → EmptyingFault Tag → Type 0
 EmptyingTold told (emptying.Stuck t) = JustRefused t told
-EmptyingTold told (emptying.Stopped o) = Unit {0}
+EmptyingTold told (emptying.Stopped o) = WasStopped told
 
 -- a reaping ends before its limit only where its last looks found nothing
 abbrev pub ReapTold : List TreeArena → List Answered → ReapEnd → Type 0

@@ -1,5 +1,6 @@
 -- Which cache serves a size, and how many caches an arena has.
-use Rattle.std.specs.Prelude.{ℕ, ◌/◌, ◌&&◌, min, nat_lt, nat_le, Bool, Option, Some, None, if◌then◌else◌}
+use Rattle.std.specs.Prelude.{ℕ, ◌/◌, ◌&&◌, min, nat_lt, nat_le, Bool, Option, Some, None}
+use Rattle.std.specs.Prelude.{if◌then◌else◌}
 use Rattle.deed_core.specs.Request.{rounded}
 use Rattle.arena_tree.specs.declared.levels.Level.{Level}
 

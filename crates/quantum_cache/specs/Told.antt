@@ -13,7 +13,7 @@ use Rattle.arena_tree.specs.declared.part_faults.SlabPutFault.TheVariants as put
 use Rattle.arena_tree.specs.Chains.{Node, IsChain, amount_of, first_id}
 use Rattle.arena_tree.specs.Climbs.{Climbed, Returned}
 use Rattle.arena_tree.specs.Events.{Event, AnswerTo, Carve, Free, AddCarve, SlabPut, SlabAdd}
-use Rattle.arena_tree.specs.Told.{Answered, Tells, IsRefusalOf}
+use Rattle.arena_tree.specs.Told.{Answered, Tells, IsRefusalOf, RanOut, WasTakenIn, WasStopped}
 use Rattle.quantum_cache.specs.Allocs.{alloc_plan}
 use Rattle.quantum_cache.specs.Frees.{free_plan}
 use Rattle.quantum_cache.specs.Served.{IsServed, AsksForNone}
@@ -59,28 +59,30 @@ NoneFitted chain n told = (before : List Answered) × (told ≡ none_fitted chai
 
 -- what an allocation ends with: a segment that serves; for no units alone a bad request; NoFit
 -- where the last that was asked of each arena of the chain, the first among them, was a carve of the
--- size or of its import amount, which found no choice; a segment where a part has just refused it
+-- size or of its import amount, which found no choice; out of memory where a carve, an import or a
+-- new slab was, and what was carved for it was freed; a segment where a part has just refused it;
+-- stopped where a part has just said so
 abbrev pub AllocTold : List Node → List Level → ℕ → List Answered → Climbed → Type 0
 AllocTold nodes chain size told (Ok t) = IsServed nodes chain size t
 AllocTold nodes chain size told (Err climbing.BadRequest) = AsksForNone chain size
 AllocTold nodes chain size told (Err climbing.NoFit) = NoneFitted chain size told
-AllocTold nodes chain size told (Err climbing.NoMemory) = Unit {0}
+AllocTold nodes chain size told (Err climbing.NoMemory) = RanOut told
 AllocTold nodes chain size told (Err (climbing.Stuck t)) = JustRefused t told
-AllocTold nodes chain size told (Err (climbing.Stopped o)) = Unit {0}
+AllocTold nodes chain size told (Err (climbing.Stopped o)) = WasStopped told
 
--- a free
+-- a free: it ends well where a part has just taken the segment in
 abbrev pub FreeTold : List Answered → Returned → Type 0
-FreeTold told (Ok u) = Unit {0}
+FreeTold told (Ok u) = WasTakenIn told
 FreeTold told (Err (returning.Stuck t)) = JustRefused t told
-FreeTold told (Err (returning.Stopped t)) = Unit {0}
+FreeTold told (Err (returning.Stopped t)) = WasStopped told
 
 -- An allocation by a chain of the tree ends so.
 abbrev pub AllocTells : Type 0
 AllocTells = (nodes : List Node) (chain : List Level) (size : ℕ) → IsChain nodes chain
     → Tells nodes (AllocTold nodes chain size) (alloc_plan chain size) []
 
--- A free by the chain of the segment's arena is stuck only where a part has just refused the
--- segment.
+-- A free by the chain of the segment's arena ends well only where a part has just taken the
+-- segment, or the span that it made whole; it is stuck only where a part has just refused it.
 abbrev pub FreeTells : Type 0
 FreeTells = (nodes : List Node) (chain : List Level) (t : Tag) → IsChain nodes chain
     → first_id chain ≡ Some t.arena → Tells nodes FreeTold (free_plan chain t) []

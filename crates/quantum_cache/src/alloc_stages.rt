@@ -72,7 +72,7 @@ pub(crate) fn chunk<S: Held, P: Parts<S>>(parts: &mut P, arena: u32, cache: u8) 
     }
 }
 
-// The span becomes a slab, or goes back where memory is refused.
+// The span becomes a slab, or goes back where it is out of memory for that.
 #[tactic(auto, using(arena_tree::proofs::LawProofs::ran_then, arena_tree::proofs::LawProofs::ran_ask, arena_tree::proofs::LawProofs::ran_done), unfolding(crate::specs::Allocs::make_slab))]
 fn make_slab<S: Held, P: Parts<S>>(
     parts: &mut P,

@@ -1,6 +1,7 @@
 use Rattle.std.proofs.Common.{◌≡◌, ◌<◌, ◌≤◌, List, length, Some, subst, sym}
 use Rattle.std.specs.Prelude.{slice_get}
 use Rattle.deed_core.proofs.LawProofs.{slice_get_here}
+use Rattle.arena_tree.specs.declared.limits.TheConstants.{LONGEST_CHAIN}
 use Rattle.arena_tree.specs.declared.levels.Level.{Level}
 use Rattle.arena_tree.specs.declared.trees.TreeArena.{TreeArena}
 use Rattle.arena_tree.specs.Chains.{IsChain}
@@ -24,4 +25,4 @@ returns-clause-short c =
     let within : c.args.id < length xs = subst (λ n. c.args.id < n) (sym (c.self.invariant.1.count)) (subst (λ (s : List TreeArena). c.args.id < length s) (sym c.self.view_is) c.requires) in
     let here : slice_get xs c.args.id ≡ Some c.index.result.now = slice_get_here xs c.args.id c.index.result.now within c.index.ensures in
     let each = c.self.invariant.1.each c.args.id c.index.result.now here in
-    subst (λ (ls : List Level). length ls ≤ 4) (sym c.as_slice.ensures.value) each.1
+    subst (λ (ls : List Level). length ls ≤ LONGEST_CHAIN) (sym c.as_slice.ensures.value) each.1
