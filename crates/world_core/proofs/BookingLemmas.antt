@@ -2,7 +2,8 @@
 use Rattle.std.proofs.Common.{◌≡◌, ℕ, List, [], ◌∷◌, ◌++◌, set, Option, Some, None, refl, sym, subst, ap, inl, inr, arith}
 use Rattle.std.proofs.lemmas.List.Sums.{sum_by-cons}
 use Rattle.deed_core.specs.Tag.{Tag}
-use Rattle.stock.specs.Accounts.{Accounts}
+use Rattle.stock_audit.specs.Outside.{outside}
+use Rattle.stock_audit.specs.Accounted.{IsAccountedFor}
 use Rattle.lease_terms.specs.Requests.{RequestId}
 use Rattle.lease_terms.specs.declared.refusals.Refusal.{Refusal}
 use Rattle.lease_proto.specs.declared.lines.Line.TheVariants as lines
@@ -137,7 +138,7 @@ hello_taken_keeps which w v is m =
     let entry : Entry = Hello m.hello.client m.hello.incarnation in
     let now : IsHistory (entry ∷ w.entries) m.book = m.enters.history w.entries is.book in
     subst IsWorld (sym m.after) (record {
-      parts = record { stock = is.parts.stock; accounts = subst (λ (leases : List Tag). Accounts w.stock (in_hands w.hands ++ leases)) (sym m.leases) is.parts.accounts };
+      parts = subst (λ (leases : List Tag). IsAccountedFor w.stock (outside (in_hands w.hands) leases [])) (sym m.leases) is.parts;
       named = is.named;
       few = is.few;
       names = is.names;
@@ -159,11 +160,8 @@ swept_keeps cpu c w v is m =
     let mine : incarnation m.id.client w.entries ≡ incarnation c w.entries = ap (λ (d : ℕ). incarnation d w.entries) m.swept.client in
     let older = m.swept.older in
     subst IsWorld (sym m.after) (record {
-      parts = record {
-        stock = is.parts.stock;
-        accounts = hand_leased w.stock w.hands (leased w.book) cpu None (Some m.segment) m.empty (leased m.book)
-            (λ f. (let l = m.swept.ended.leases f in let e = sum_by-cons f m.segment [] in omega arith)) is.parts.accounts;
-      };
+      parts = hand_leased w.stock w.hands (leased w.book) [] cpu None (Some m.segment) m.empty (leased m.book)
+          (λ f. (let l = m.swept.ended.leases f in let e = sum_by-cons f m.segment [] in omega arith)) is.parts;
       named = is.named;
       few = is.few;
       names = is.names;
@@ -182,14 +180,14 @@ settled_told names es id s = outcome_told names (Settled id s ∷ es) id (kept_r
 -- a request is settled
 settles : (w : WorldState) (cpu : ℕ) (hands : List (Option Tag)) (book : BookState) (id : RequestId) (op : Op) (s : Settlement) → IsWorld w
     → HasTask w cpu id op → Enters (Settled id s) w.book book → IsFor (arena_name w.names) op s → IsDue w.stock w.names w.requests (Settled id s)
-    → Accounts w.stock (in_hands hands ++ leased book)
+    → IsAccountedFor w.stock (outside (in_hands hands) (leased book) [])
     → IsWorld (record w { hands = hands; tasks = set w.tasks cpu None; book = book; entries = Settled id s ∷ w.entries; replies = w.replies ++ settled_reply w id s ∷ [] })
 settles w cpu hands book id op s is task enters for due accounts =
     let names = arena_name w.names in
     let now : IsHistory (Settled id s ∷ w.entries) book = enters.history w.entries is.book in
     let line = is.tasks cpu (Some (record { id = id; op = op })) task in
     record {
-      parts = record { stock = is.parts.stock; accounts = accounts };
+      parts = accounts;
       named = is.named;
       few = is.few;
       names = is.names;
@@ -213,8 +211,8 @@ granted_keeps cpu w v is m = subst IsWorld (sym m.after)
       quantum = m.quantum;
       request = m.request;
     })
-    (hand_leased w.stock w.hands (leased w.book) cpu (Some m.segment) None m.holds (leased m.book)
-    (λ f. (let l = m.granted.leases f in let e = sum_by-cons f m.segment [] in omega arith)) is.parts.accounts))
+    (hand_leased w.stock w.hands (leased w.book) [] cpu (Some m.segment) None m.holds (leased m.book)
+    (λ f. (let l = m.granted.leases f in let e = sum_by-cons f m.segment [] in omega arith)) is.parts))
 
 refuse_for : (names : ℕ → List ℕ) (op : Op) (why : Refusal) → IsFor names op (Refuse why)
 refuse_for names (ops.Lease l) why = tt
@@ -223,10 +221,10 @@ refuse_for names (ops.Release r) why = tt
 pub refused_keeps : (cpu : ℕ) (why : Refusal) (w v : WorldState) → IsWorld w → TaskRefused cpu why w v → IsWorld v
 refused_keeps cpu why w v is m = subst IsWorld (sym m.after)
     (settles w cpu w.hands m.book m.id m.op (Refuse why) is m.serves m.refused.entry (refuse_for (arena_name w.names) m.op why) tt
-    (subst (λ (leases : List Tag). Accounts w.stock (in_hands w.hands ++ leases)) (sym m.refused.leases) is.parts.accounts))
+    (subst (λ (leases : List Tag). IsAccountedFor w.stock (outside (in_hands w.hands) leases [])) (sym m.refused.leases) is.parts))
 
 pub released_keeps : (cpu : ℕ) (w v : WorldState) → IsWorld w → TaskReleased cpu w v → IsWorld v
 released_keeps cpu w v is m = subst IsWorld (sym m.after)
     (settles w cpu (set w.hands cpu (Some m.segment)) m.book m.id (ops.Release m.release) (Return m.arena m.release.base) is m.serves m.released.entry (m.home.is, refl) tt
-    (hand_leased w.stock w.hands (leased w.book) cpu None (Some m.segment) m.empty (leased m.book)
-    (λ f. (let l = m.released.leases f in let e = sum_by-cons f m.segment [] in omega arith)) is.parts.accounts))
+    (hand_leased w.stock w.hands (leased w.book) [] cpu None (Some m.segment) m.empty (leased m.book)
+    (λ f. (let l = m.released.leases f in let e = sum_by-cons f m.segment [] in omega arith)) is.parts))

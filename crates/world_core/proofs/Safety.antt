@@ -2,7 +2,6 @@
 use Rattle.std.proofs.Common.{◌≡◌, ℕ, zero, suc, ◌<◌, ◌≤◌, ◌==◌, Bool, true, false, List, [], ◌∷◌, ◌++◌, map, filter, length, Some, None, refl, sym, subst, ap, arith}
 use Rattle.std.specs.Prelude.{slice_get, if◌then◌else◌, sum_by}
 use Rattle.std.specs.Str.{bytes_eq}
-use Rattle.std.proofs.lemmas.List.{append-nil}
 use Rattle.std.proofs.lemmas.List.Sums.{sum_by-cons, sum_by-append}
 use Rattle.std.proofs.lemmas.Bool.Decides.{nat_tests}
 use Rattle.std.proofs.lemmas.Slice.Eq.{bytes_eq-Decides}
@@ -13,9 +12,11 @@ use Rattle.deed_core.specs.Selections.{is_of_arena}
 use Rattle.deed_core.specs.Weights.{of_arena}
 use Rattle.deed_core.proofs.LawProofs.{sum_by-map, sum_by-filter, slice_get_some}
 use Rattle.stock.specs.Spaces.{SpaceState}
-use Rattle.stock.specs.Accounts.{Accounts, IsAccounted}
-use Rattle.stock.specs.Sums.{all_out, places_of, held_of}
+use Rattle.stock.specs.Accounts.{IsAccounted}
+use Rattle.stock.specs.Sums.{places_of, held_of}
 use Rattle.stock.proofs.LawProofs.{one_place}
+use Rattle.stock_audit.specs.Outside.{out_of, segments_out}
+use Rattle.stock_audit.proofs.LawProofs.{accounted_balances}
 use Rattle.lease_terms.specs.Requests.{RequestId}
 use Rattle.lease_proto.specs.declared.replies.Reply.{Reply}
 use Rattle.lease_proto.specs.declared.replies.Reply.TheVariants as replies
@@ -30,9 +31,9 @@ use Rattle.lease_client.specs.ClientState.{ClientState}
 use Rattle.lease_history.specs.Known.{told_segment, weight_in}
 use Rattle.lease_history.specs.Told.{IsOutcome, MayTell}
 use Rattle.lease_history.proofs.LawProofs.{held_is_leased, replies_agree}
-use Rattle.world_core.specs.WorldState.{WorldState, arena_name, in_hands}
+use Rattle.world_core.specs.WorldState.{WorldState, arena_name, outside_of}
 use Rattle.world_core.specs.IsWorld.{IsWorld}
-use Rattle.world_core.specs.Safe.{out_of_world, has_unit, holders, SettlesIt, Safe, AlwaysSafe}
+use Rattle.world_core.specs.Safe.{has_unit, holders, SettlesIt, Safe, AlwaysSafe}
 use Rattle.world_core.proofs.Keeps.{events_keep}
 
 sum_le : {X : Type 0} (f g : X → ℕ) (xs : List X) → ((k : ℕ) (x : X) → slice_get xs k ≡ Some x → f x ≤ g x) → sum_by f xs ≤ sum_by g xs
@@ -64,11 +65,8 @@ all_held w is f =
     let e = sum_by-map (weight_of g w.book) (λ (c : ClientState). c.id) w.clients in
     omega arith
 
-accounted : (w : WorldState) → IsWorld w → IsAccounted w.stock (all_out (out_of_world w))
-accounted w is = record {
-  stock = is.parts.stock;
-  accounts = subst (λ (leases : List Tag). Accounts w.stock (in_hands w.hands ++ leases)) (sym (append-nil (leased w.book))) is.parts.accounts;
-}
+accounted : (w : WorldState) → IsWorld w → IsAccounted w.stock (segments_out (outside_of w))
+accounted w is = accounted_balances w.stock (outside_of w) is.parts
 
 same_name : (a b : List ℕ) → bytes_eq a b ≡ true → a ≡ b
 same_name a b is = (bytes_eq-Decides a b).0 is
@@ -93,9 +91,9 @@ by_arena w is place unit within t = by (bytes_eq (arena_name w.names t.arena) (a
 leased_le : (w : WorldState) → IsWorld w → (place unit : ℕ) (s : SpaceState) → slice_get w.stock place ≡ Some s
     → sum_by (of_arena place (covers_tag unit)) (leased w.book) ≤ 1
 leased_le w is place unit s at =
-    let p = places_of w.stock (out_of_world w) s in
-    let one = one_place w.stock (out_of_world w) (accounted w is) place s at unit in
-    let id : s.arena.id ≡ place = (is.parts.stock place s at).id in
+    let p = places_of w.stock (out_of (outside_of w)) s in
+    let one = one_place w.stock (out_of (outside_of w)) (accounted w is) place s at unit in
+    let id : s.arena.id ≡ place = (is.parts.parts place s at).id in
     let kept : sum_by (of_arena place (covers_tag unit)) (leased w.book) ≡ sum_by (covers_tag unit) (filter (is_of_arena place) (leased w.book)) = sym (sum_by-filter (is_of_arena place) (covers_tag unit) (leased w.book)) in
     let mapped : covering_held unit (held_of place (leased w.book)) ≡ sum_by (covers_tag unit) (filter (is_of_arena place) (leased w.book)) = sum_by-map (covers_held unit) (λ (t : Tag). t.holding) (filter (is_of_arena place) (leased w.book)) in
     let here : covering_held unit p.leased ≡ covering_held unit (held_of place (leased w.book)) = ap (λ (k : ℕ). covering_held unit (held_of k (leased w.book))) id in
@@ -145,7 +143,8 @@ fits_in (Swept c i a b ∷ es) (suc k) id t terms orderly at = fits_in es k id t
 
 pub safe : (w : WorldState) → IsWorld w → Safe w
 safe w is = record {
-  places = λ k s at unit. (let one = one_place w.stock (out_of_world w) (accounted w is) k s at unit in record { once = one.0; one = one.1 });
+  parts = is.parts;
+  places = λ k s at unit. (let one = one_place w.stock (out_of (outside_of w)) (accounted w is) k s at unit in record { once = one.0; one = one.1 });
   book = is.book;
   grants = λ id t terms among. record {
     fits = fits_in w.entries among.0 id t terms is.book.orderly among.1;

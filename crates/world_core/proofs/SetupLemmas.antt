@@ -7,6 +7,9 @@ use Rattle.deed_core.specs.Tag.{Tag}
 use Rattle.stock.specs.Spaces.{SpaceState}
 use Rattle.stock.specs.Stocks.{IsStock}
 use Rattle.stock.specs.Accounts.{Accounts}
+use Rattle.stock_audit.specs.Outside.{outside}
+use Rattle.stock_audit.specs.Accounted.{IsAccountedFor}
+use Rattle.stock_audit.proofs.LawProofs.{fresh_is_accounted}
 use Rattle.lease_terms.specs.Ranges.{IsClient}
 use Rattle.lease_proto.specs.declared.lines.Line.{Line}
 use Rattle.lease_proto.specs.declared.replies.Reply.{Reply}
@@ -32,7 +35,8 @@ none_twice = tt
 made : (stock : List SpaceState) (names : List (List ℕ)) (book : BookState) → IsStock stock → Accounts stock [] → length names ≡ length stock → length names ≤ 2 ^ 32 → AreNames names
     → IsHistory [] book → IsWorld (record { stock = stock; names = names; hands = []; tasks = []; book = book; entries = []; clients = []; requests = []; replies = [] })
 made stock names book sound balances named few apart empty = record {
-  parts = record { stock = sound; accounts = subst (λ (accounts : List Account). Accounts stock (in_hands [] ++ leased_by accounts)) (sym empty.accounts) balances };
+  parts = subst (λ (accounts : List Account). IsAccountedFor stock (outside (in_hands []) (leased_by accounts) [])) (sym empty.accounts)
+      (fresh_is_accounted stock (record { stock = sound; accounts = balances }));
   named = named;
   few = few;
   names = apart;
@@ -69,7 +73,7 @@ cpu_added w hands tasks is h t =
     let hs = sym h in
     let ts = sym t in
     subst IsWorld (λ j. record w { hands = hs j; tasks = ts j }) (record {
-      parts = record { stock = is.parts.stock; accounts = subst (λ (out : List Tag). Accounts w.stock (out ++ leased w.book)) (sym (no_more w.hands)) is.parts.accounts };
+      parts = subst (λ (out : List Tag). IsAccountedFor w.stock (outside out (leased w.book) [])) (sym (no_more w.hands)) is.parts;
       named = is.named;
       few = is.few;
       names = is.names;

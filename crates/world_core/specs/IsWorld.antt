@@ -3,7 +3,7 @@ use Rattle.std.specs.Prelude.{◌≡◌, ℕ, ◌<◌, ◌≤◌, ◌^◌, nat_e
 use Rattle.std.specs.List.{IsDistinct}
 use Rattle.deed_core.specs.Tag.{Tag}
 use Rattle.stock.specs.Spaces.{SpaceState}
-use Rattle.stock.specs.Accounts.{IsAccounted}
+use Rattle.stock_audit.specs.Accounted.{IsAccountedFor}
 use Rattle.stock.specs.Steps.{HasQuantum}
 use Rattle.lease_terms.specs.Requests.{RequestId}
 use Rattle.lease_proto.specs.declared.lines.LeaseLine.{LeaseLine}
@@ -18,7 +18,7 @@ use Rattle.lease_client.specs.Runs.{MayBeSent}
 use Rattle.lease_history.specs.Known.{IsKnown}
 use Rattle.lease_history.specs.Told.{MayTell}
 use Rattle.world_core.specs.declared.tasks.Task.{Task}
-use Rattle.world_core.specs.WorldState.{WorldState, arena_name, out_of_parts, Each, IsAmong}
+use Rattle.world_core.specs.WorldState.{WorldState, arena_name, outside_of, Each, IsAmong}
 use Rattle.world_core.specs.Moves.{request_in}
 
 -- no other place has the name of an arena
@@ -58,7 +58,7 @@ IsOfLines requests (Some task) = IsAmong (lines.Request task.id task.op) request
 -- each grant was asked for; the clients, each with an id of its own, are known to the book; lines were
 -- said by their clients, and the book may tell what was replied.
 pub record IsWorld (w : WorldState) : Type 0 where
-  pub parts : IsAccounted w.stock (out_of_parts w)
+  pub parts : IsAccountedFor w.stock (outside_of w)
   pub named : length w.names ≡ length w.stock
   pub few : length w.names ≤ 2 ^ 32
   pub names : AreNames w.names

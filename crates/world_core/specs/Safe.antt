@@ -6,30 +6,28 @@ use Rattle.deed_core.specs.Request.{Fits}
 use Rattle.deed_core.specs.Tag.{Tag}
 use Rattle.tag_arena.specs.ArenaState.{spans_of}
 use Rattle.stock.specs.Spaces.{SpaceState}
-use Rattle.stock.specs.Sums.{Out, places_of, all_places}
+use Rattle.stock.specs.Sums.{places_of, all_places}
+use Rattle.stock_audit.specs.Outside.{out_of}
+use Rattle.stock_audit.specs.Accounted.{IsAccountedFor}
 use Rattle.lease_terms.specs.Requests.{RequestId}
 use Rattle.lease_proto.specs.declared.replies.Reply.{Reply}
 use Rattle.lease_proto.specs.declared.replies.Reply.TheVariants as replies
 use Rattle.lease_book.specs.Entry.{Settled, Grant}
 use Rattle.lease_book.specs.History.{leases_of}
-use Rattle.lease_book.specs.BookState.{IsHistory, leased}
+use Rattle.lease_book.specs.BookState.{IsHistory}
 use Rattle.lease_book.specs.declared.receipts.Terms.{Terms}
 use Rattle.lease_client.specs.declared.held.HeldSegment.{HeldSegment}
 use Rattle.lease_client.specs.ClientState.{ClientState}
 use Rattle.lease_history.specs.Known.{weight_in}
 use Rattle.world_core.specs.declared.events.WorldEvent.{WorldEvent}
-use Rattle.world_core.specs.WorldState.{WorldState, arena_name, in_hands, IsAmong, Each}
+use Rattle.world_core.specs.WorldState.{WorldState, arena_name, outside_of, IsAmong, Each}
 use Rattle.world_core.specs.IsWorld.{IsWorld, IsAsked}
 use Rattle.world_core.specs.Events.{HappensTo}
-
--- the segments that are in no part
-abbrev pub out_of_world : WorldState → Out
-out_of_world w = record { hands = in_hands w.hands; leases = leased w.book; rounds = [] }
 
 -- each unit of an arena's spans is in one place, and no other unit in any: free, at home in a slab, in
 -- a magazine, a child's span, leased, or in a hand
 pub record IsInOnePlaceOf (w : WorldState) (s : SpaceState) (unit : ℕ) : Type 0 where
-  pub once : covering_held unit (all_places (places_of w.stock (out_of_world w) s))
+  pub once : covering_held unit (all_places (places_of w.stock (out_of (outside_of w)) s))
       ≡ covering_held unit (spans_of s.arena)
   pub one : covering_held unit (spans_of s.arena) ≤ 1
 
@@ -64,10 +62,11 @@ SettlesIt id (replies.Released of) = of ≡ id
 SettlesIt id (replies.Refused r) = r.id ≡ id
 SettlesIt id reply = ⊥
 
--- Units stand in one place each. The book is what is read off its entries. Each grant was asked for
+-- All units are accounted for, and each stands in one place. The book is what is read off its entries. Each grant was asked for
 -- and fits. Clients hold what is leased to them, and no unit is in two segments that they hold. And
 -- any two replies that settle one request are equal.
 pub record Safe (w : WorldState) : Type 0 where
+  pub parts : IsAccountedFor w.stock (outside_of w)
   pub places : (k : ℕ) (s : SpaceState) → slice_get w.stock k ≡ Some s → (unit : ℕ)
       → IsInOnePlaceOf w s unit
   pub book : IsHistory w.entries w.book

@@ -1,9 +1,10 @@
 -- What contracts see of a world.
-use Rattle.std.specs.Prelude.{◌≡◌, ℕ, List, [], ◌++◌, get_or, slice_get, reverse, map, Option, Some}
+use Rattle.std.specs.Prelude.{◌≡◌, ℕ, List, [], get_or, slice_get, reverse, map, Option, Some}
 use Rattle.std.specs.List.{flat_map}
 use Rattle.std.specs.Option.{option_to_list}
 use Rattle.deed_core.specs.Tag.{Tag}
 use Rattle.stock.specs.Spaces.{SpaceState}
+use Rattle.stock_audit.specs.Outside.{Outside, outside}
 use Rattle.lease_proto.specs.declared.lines.Line.{Line}
 use Rattle.lease_proto.specs.declared.replies.Reply.{Reply}
 use Rattle.lease_book.specs.Entry.{Entry, Settled, Hello, Swept, Grant, Return, Refuse}
@@ -35,9 +36,9 @@ arena_name names k = get_or names k []
 abbrev pub in_hands : List (Option Tag) → List Tag
 in_hands hands = flat_map option_to_list hands
 
--- the segments that are in no part: in hands, and leased
-abbrev pub out_of_parts : WorldState → List Tag
-out_of_parts w = in_hands w.hands ++ leased w.book
+-- the segments that are out of the parts: in hands, and leased
+abbrev pub outside_of : WorldState → Outside
+outside_of w = outside (in_hands w.hands) (leased w.book) []
 
 -- it is so of each member of the list
 abbrev pub Each : {X : Type 0} → (X → Type 0) → List X → Type 0
