@@ -1,0 +1,46 @@
+-- Rounds stay chunks of their quantum cache.
+use Rattle.std.proofs.Common.{◌≡◌, ℕ, ◌+◌, List, [], ◌∷◌, ◌++◌, All, Option, Some, None, IfSome}
+use Rattle.std.specs.Option.{option_to_list}
+use Rattle.std.proofs.lemmas.List.Elements.{All-append, All-cons, All-nil, All-head, All-tail, All-same}
+use Rattle.deed_core.specs.Tag.{Tag}
+use Rattle.magazine_layer.specs.Magazines.{AreAmong}
+use Rattle.magazine_layer.proofs.LawProofs.{kinds_kept}
+
+module _ (P : Tag → Type 0) where
+  all_first : (xs ys : List Tag) → All P (xs ++ ys) → All P xs
+  all_first [] ys h = All-nil P
+  all_first (x ∷ xs) ys h = All-cons P x xs (All-head P x (xs ++ ys) h) (all_first xs ys (All-tail P x (xs ++ ys) h))
+
+  all_second : (xs ys : List Tag) → All P (xs ++ ys) → All P ys
+  all_second [] ys h = h
+  all_second (x ∷ xs) ys h = all_second xs ys (All-tail P x (xs ++ ys) h)
+
+  all_given : (r : Option Tag) (xs : List Tag) → All P (option_to_list r ++ xs) → IfSome r P
+  all_given None xs h = tt
+  all_given (Some t) xs h = All-head P t xs h
+
+  -- one came out, or none
+  pub left : (r : Option Tag) (old new : List Tag) → AreAmong (option_to_list r ++ new) old → All P old → All P new
+  left r old new among all = all_second (option_to_list r) new (kinds_kept P (option_to_list r ++ new) old among all)
+
+  pub given : (r : Option Tag) (old new : List Tag) → AreAmong (option_to_list r ++ new) old → All P old → IfSome r P
+  given r old new among all = all_given r new (kinds_kept P (option_to_list r ++ new) old among all)
+
+  -- one came in
+  pub taken : (t : Tag) (old new : List Tag) → AreAmong new (t ∷ old) → P t → All P old → All P new
+  taken t old new among is all = kinds_kept P new (t ∷ old) among (All-cons P t old is all)
+
+  -- some moved between a CPU and a depot
+  pub both : (a b c d : List Tag) → AreAmong (c ++ d) (a ++ b) → All P a → All P b → All P c × All P d
+  both a b c d among first second =
+      let all = kinds_kept P (c ++ d) (a ++ b) among (All-append P a b first second) in
+      (all_first c d all, all_second c d all)
+
+  -- with a magazine of no round
+  pub fresh : (m a b c d : List Tag) → m ≡ [] → AreAmong (c ++ d) (m ++ (a ++ b)) → All P a → All P b → All P c × All P d
+  fresh m a b c d none among first second =
+      let all = kinds_kept P (c ++ d) (m ++ (a ++ b)) among (All-append P m (a ++ b) (All-same P m [] none (All-nil P)) (All-append P a b first second)) in
+      (all_first c d all, all_second c d all)
+
+  pub among : (old new : List Tag) → AreAmong new old → All P old → All P new
+  among old new is all = kinds_kept P new old is all

@@ -1,0 +1,14 @@
+use Rattle.std.proofs.Common.{subst, IfSome}
+use Rattle.magazine_layer.specs.Magazines.{cache_rounds}
+use Rattle.lease_threads.specs.Kinds.{IsOfKind, KindRounds}
+use Rattle.lease_threads.proofs.RoundLaws.{left, given}
+use Rattle.lease_threads.proofs.cpu_rounds.KindRounds.pop.Goals as goal
+
+pub invariant_of-self : goal.invariant_of-self
+invariant_of-self g c =
+    record { some = c.self.invariant.some; rounds = left (IsOfKind c.self.inside.kind) c.take.result (cache_rounds c.self.inside.cpu) (cache_rounds c.take.new.self) c.take.ensures.kinds c.self.invariant.rounds }
+
+pub returns-clause-chunk : goal.returns-clause-chunk
+returns-clause-chunk g c =
+    subst (λ (r : KindRounds). IfSome c.take.result (IsOfKind r.kind)) c.self.view_is
+    (given (IsOfKind c.self.inside.kind) c.take.result (cache_rounds c.self.inside.cpu) (cache_rounds c.take.new.self) c.take.ensures.kinds c.self.invariant.rounds)

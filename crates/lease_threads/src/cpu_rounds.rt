@@ -1,0 +1,112 @@
+//! A CPU's magazines for one quantum cache.
+ghost use Rattle.std.specs.Prelude.{◌≡◌, ◌≢◌, ◌<◌, ◌↔◌, IsTrue, Err, IfOk, IfErr};
+ghost use Rattle.std.specs.Prelude.{IfSome, OnOk, OnErr};
+ghost use Rattle.magazine_layer.specs.Magazines.{BothEmpty, cache_rounds};
+ghost use Rattle.magazine_layer.specs.Magazines.{after_change};
+ghost use Rattle.magazine_layer.specs.Calls.{PopOf, PushOf};
+ghost use Rattle.lease_threads.specs.Kinds.{IsOfKind};
+ghost use Rattle.deed_core.specs.Covering.{units_tagged};
+
+use crate::kinds::CacheKind;
+use arena_tree::ChangeFault;
+use deed_core::{Deed, Segment};
+use magazine_layer::{CpuCache, is_magazine_size, two_empty};
+use std::alloc::{AllocError, Global};
+use std::marker::Model;
+
+/// How many rounds a new CPU's magazines hold.
+pub(crate) const FIRST_SIZE: usize = 3;
+
+/// What a CPU keeps for a quantum cache: all its rounds are chunks of it. It is never copied or
+/// dropped.
+pub(crate) struct KindRounds<D: Deed> {
+    pub(crate) kind: CacheKind,
+    pub(crate) cpu: CpuCache<D>,
+}
+
+impl<D: Deed> Model for KindRounds<D> {
+    ghost use Rattle.lease_threads.specs.Kinds.{KindRounds, AreKindRounds};
+
+    ghost Value = { KindRounds };
+
+    ghost view = { λ r. record { kind = r.kind; cpu = r.cpu } };
+
+    ghost invariant = { λ r. AreKindRounds (record { kind = r.kind; cpu = r.cpu }) };
+}
+
+impl<D: Deed> KindRounds<D> {
+    /// Two empty magazines of the first size.
+    pub(crate) fn new(alloc: Global, kind: CacheKind) -> Result<KindRounds<D>, AllocError>
+        requires { 0 < kind.quantum }
+        ensures kind { IfOk result (λ r. r.kind ≡ kind) }
+        ensures empty { IfOk result (λ r. BothEmpty r.cpu) }
+    {
+        let cpu = CpuCache::new(alloc, FIRST_SIZE)?;
+        Ok(KindRounds { kind, cpu })
+    }
+
+    /// Takes a round.
+    pub(crate) fn pop(&mut self) -> Option<Segment<D>>
+        ensures popped { PopOf self.old.cpu result self.new.cpu }
+        ensures chunk { IfSome result (IsOfKind self.old.kind) }
+        ensures quantum { 0 < self.old.kind.quantum }
+        ensures kind { self.new.kind ≡ self.old.kind }
+    {
+        self.cpu.take()
+    }
+
+    /// Keeps a chunk of its cache, if there is room. Another segment comes back.
+    pub(crate) fn push(&mut self, segment: Segment<D>) -> Result<(), Segment<D>>
+        ensures pushed { OnOk result (PushOf self.old.cpu segment result self.new.cpu) }
+        ensures handed_back { IfErr result (λ same. same ≡ segment) }
+        ensures unchanged { OnErr result (self.new ≡ self.old) }
+        ensures kind { self.new.kind ≡ self.old.kind }
+    {
+        if !self.kind.takes(&segment) {
+            return Err(segment);
+        }
+        self.cpu.give(segment)
+    }
+
+    /// Changes over to two new magazines of a greater size.
+    pub(crate) fn change(&mut self, alloc: Global, size: usize) -> Result<(), ChangeFault>
+        ensures changed { OnOk result (self.new.cpu ≡ after_change size self.old.cpu) }
+        ensures unchanged { OnErr result (self.new ≡ self.old) }
+        ensures goes { result ≢ Err ChangeFault.Stopped }
+        ensures kind { self.new.kind ≡ self.old.kind }
+    {
+        if !is_magazine_size(size) || size <= self.cpu.size() {
+            return Err(ChangeFault::NotGreater);
+        }
+        let Ok((loaded, previous)) = two_empty(alloc, size) else {
+            return Err(ChangeFault::NoMemory);
+        };
+        self.cpu.change(loaded, previous);
+        Ok(())
+    }
+
+    /// Whether both magazines are empty.
+    pub(crate) fn is_empty(&self) -> bool
+        ensures { IsTrue result ↔ BothEmpty self.now.cpu }
+    {
+        self.cpu.is_empty()
+    }
+
+    /// The units of its rounds.
+    pub(crate) fn units(&self) -> u128
+        ensures { result ≡ units_tagged (cache_rounds self.now.cpu) }
+    {
+        self.cpu.units()
+    }
+
+    /// Ends it, with no round.
+    pub(crate) fn end(self)
+        requires { BothEmpty self.cpu }
+    {
+        let KindRounds { kind: _, cpu } = self;
+        match cpu.close() {
+            Ok(()) => {}
+            Err(_) => unreachable!(),
+        }
+    }
+}
