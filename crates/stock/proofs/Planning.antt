@@ -100,7 +100,7 @@ module _ (rounds : ℕ) (x : TreeArena) (first : List SpaceState) where
         planned_now i = record { source = (here i).source; quantum = (here i).quantum; policy = (here i).policy; slab_sizes = sizes i }
 
         unused_now : IsNewSpace rounds on.space → IsNewSpace rounds now
-        unused_now new = record { arena = new.arena; caches = All-push (IsNewCache rounds) on.space.caches c new.caches (record { slabs = refl; depot = refl }) }
+        unused_now new = record { arena = new.arena; caches = All-push (IsNewCache rounds) on.space.caches c new.caches (record { slabs = refl; colour = refl; depot = refl }) }
 
 -- the arenas so far are those of the tree's front
 module _ (arenas : List TreeArena) (spaces : List SpaceState) (id : ℕ) (within : id < length arenas) (planned : plans_of spaces ≡ plans_for (take id arenas)) where

@@ -1,4 +1,5 @@
--- The accounts of a stock: what each part has handed out is in another part, or is out of all parts.
+-- The accounts of a stock: what each part has handed out is in another part, or is out of all
+-- parts.
 use Rattle.std.specs.Prelude.{◌≡◌, ℕ, ◌+◌, List, ◌++◌, sum_by}
 use Rattle.deed_core.specs.Tag.{Tag}
 use Rattle.deed_core.specs.Weights.{of_direct, of_cached}

@@ -1,5 +1,6 @@
 -- What follows from the accounts of a stock.
-use Rattle.std.specs.Prelude.{◌≡◌, ℕ, ◌+◌, ◌%◌, ◌<◌, ◌≤◌, List, ◌∷◌, AllPairs, length, slice_get, Some, None}
+use Rattle.std.specs.Prelude.{◌≡◌, ℕ, ◌+◌, ◌%◌, ◌<◌, ◌≤◌, List, ◌∷◌, AllPairs, length, slice_get}
+use Rattle.std.specs.Prelude.{Some, None}
 use Rattle.deed_core.specs.Extent.{Covers}
 use Rattle.deed_core.specs.Tag.{Tag}
 use Rattle.deed_core.specs.Covering.{covering_held, units_held}

@@ -18,9 +18,11 @@ plan_for x = record {
 abbrev pub plans_for : List TreeArena → List SpacePlan
 plans_for arenas = map plan_for arenas
 
--- a cache with no slab and no magazine, whose magazines take this many rounds
+-- a cache with no slab and no magazine, whose first slab has no colour, and whose magazines take
+-- this many rounds
 pub record IsNewCache (rounds : ℕ) (c : QuantumCacheState) : Type 0 where
   pub slabs : c.slab.slabs ≡ []
+  pub colour : c.slab.colour ≡ 0
   pub depot : c.depot ≡ new_depot rounds
 
 -- an arena with no span, whose caches have nothing

@@ -1,5 +1,6 @@
 -- A step of one part, which leaves all others as they are.
-use Rattle.std.specs.Prelude.{◌≡◌, ℕ, ◌+◌, ◌*◌, ◌%◌, ◌<◌, ◌≤◌, ◌⊎◌, List, [], ◌∷◌, ◌++◌, All, Contains, length, set, slice_get, Option, Some, Result, Err}
+use Rattle.std.specs.Prelude.{◌≡◌, ℕ, ◌+◌, ◌*◌, ◌%◌, ◌<◌, ◌≤◌, ◌⊎◌, List, [], ◌∷◌, ◌++◌, All}
+use Rattle.std.specs.Prelude.{Contains, length, set, slice_get, Option, Some, Result, Err}
 use Rattle.deed_core.specs.Tag.{Tag}
 use Rattle.deed_core.specs.Request.{IsGood, IsPlain, rounded}
 use Rattle.deed_core.specs.declared.requests.Request.{Request}
@@ -14,7 +15,8 @@ use Rattle.slab_layer.specs.Cache.{SlabCacheState, chunks_out}
 use Rattle.slab_layer.specs.Calls.{PutOf}
 use Rattle.magazine_layer.specs.Magazines.{CpuCacheState, cache_rounds}
 use Rattle.magazine_layer.specs.Depots.{DepotState, new_depot}
-use Rattle.stock.specs.Spaces.{SpaceState, QuantumCacheState, with_arena, with_caches, with_cache, with_slab, with_depot, IsCacheAt}
+use Rattle.stock.specs.Spaces.{SpaceState, QuantumCacheState, with_arena, with_caches, with_cache}
+use Rattle.stock.specs.Spaces.{with_slab, with_depot, IsCacheAt}
 use Rattle.stock.specs.Stocks.{IsRoundOf}
 
 -- the arena at the place changed so, and nothing else did

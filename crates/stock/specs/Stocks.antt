@@ -1,5 +1,6 @@
 -- What is so of a stock's parts, wherever the segments are that are out of them.
-use Rattle.std.specs.Prelude.{◌≡◌, ℕ, ◌+◌, ◌*◌, ◌%◌, ◌<◌, List, [], All, slice_get, Option, Some, None}
+use Rattle.std.specs.Prelude.{◌≡◌, ℕ, ◌+◌, ◌*◌, ◌%◌, ◌<◌, List, [], All, slice_get, Option, Some}
+use Rattle.std.specs.Prelude.{None}
 use Rattle.deed_core.specs.Tag.{Tag}
 use Rattle.deed_core.specs.Covering.{covering_held, covering_tags}
 use Rattle.deed_core.specs.declared.segments.Route.TheVariants.{Cached}
@@ -31,8 +32,8 @@ abbrev pub IsFrom : Option ℕ → Tag → Type 0
 IsFrom None t = ⊥
 IsFrom (Some p) t = t.arena ≡ p
 
--- the space at the place k, the arenas having these quanta: it imports from an arena that was set up
--- before, whose segments are in whole quanta of its own, and then it owns no span
+-- the space at the place k, the arenas having these quanta: it imports from an arena that was set
+-- up before, whose segments are in whole quanta of its own, and then it owns no span
 pub record IsSpaceAt (quanta : List ℕ) (k : ℕ) (s : SpaceState) : Type 0 where
   pub id : s.arena.id ≡ k
   pub sound : arenas.IsSound s.arena

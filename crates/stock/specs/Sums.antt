@@ -25,8 +25,8 @@ held segments = map (λ t. t.holding) segments
 abbrev pub held_of : ℕ → List Tag → List Holding
 held_of k segments = held (filter (is_of_arena k) segments)
 
--- the ranges of an arena, by where they are: free, at home in a slab, in a magazine of a depot or of
--- a CPU, a child's span, leased, or in a hand
+-- the ranges of an arena, by where they are: free, at home in a slab, in a magazine of a depot or
+-- of a CPU, a child's span, leased, or in a hand
 pub record Places : Type 0 where
   pub free : List Holding
   pub slab : List Holding

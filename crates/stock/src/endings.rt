@@ -1,8 +1,11 @@
 //! The end of a stock. Nothing is lost: one in which a deed lies is handed back.
-ghost use Rattle.std.specs.Prelude.{◌≡◌, ◌↔◌, [], All, IsTrue, IsOk, IfErr};
+ghost use Rattle.std.specs.Prelude.{◌≡◌, ◌↔◌, List, [], All, IsTrue, IsOk, IfErr};
+ghost use Rattle.deed_core.specs.Tag.{Tag};
 ghost use Rattle.tag_arena.specs.ArenaState.{spans_of};
 ghost use Rattle.magazine_layer.specs.Depots.{depot_rounds};
+ghost use Rattle.stock.specs.Accounts.{Accounts};
 ghost use Rattle.stock.specs.Endings.{IsBare, IsBareCache, HaveUnits, RoundsHaveUnits};
+ghost use Rattle.stock.specs.Endings.{IsReaped, IsTakenOut};
 
 use crate::spaces::{QuantumCache, Space};
 use crate::stocks::Stock;
@@ -11,10 +14,13 @@ use tag_arena::Arena;
 
 impl<D: Deed> Stock<D> {
     /// Ends a stock in which no deed lies, with its arenas, and hands back one in which a deed
-    /// lies. It takes no memory. A stock with no arena ends. Another is reaped first (`reap_all`), and
-    /// its owned spans are taken out (`remove_owned`): where nothing is out of it, it ends then.
+    /// lies. It takes no memory. A stock with no arena ends. Another is reaped first (`reap_all`),
+    /// and its owned spans are taken out (`remove_owned`): it ends then exactly where nothing is
+    /// out of it.
     pub fn close(self) -> Result<(), Stock<D>>
         ensures ok { IsOk result ↔ All IsBare self }
+        ensures nothing_out { (out : List Tag) → Accounts self out → All IsReaped self
+            → All IsTakenOut self → IsOk result ↔ (out ≡ []) }
         ensures handed_back { IfErr result (λ same. same ≡ self) }
     {
         if !are_bare(&self.spaces) {

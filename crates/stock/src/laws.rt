@@ -1,5 +1,5 @@
-//! What follows from the accounts of a stock. The functions do nothing: their contracts are the laws,
-//! and proofs/LawProofs.antt has them for the proofs of the crates above.
+//! What follows from the accounts of a stock. The functions do nothing: their contracts are the
+//! laws, and proofs/LawProofs.antt has them for the proofs of the crates above.
 ghost use Rattle.stock.specs.Laws.{IsInOnePlace, AddsUp, AlwaysTagged, AlwaysOut, AlwaysImports};
 ghost use Rattle.stock.specs.Laws.{AlwaysSlab, OutIsApart, OutWeighs, FramesThen};
 ghost use Rattle.stock.specs.Laws.{SourceStandsBefore, PlansStay, CachesStay};
@@ -26,8 +26,8 @@ pub fn apart_laws()
     ensures apart { OutIsApart }
 {}
 
-/// Frames compose, and a segment that goes from a hand to a lease or into a CPU's magazine stays out:
-/// no part changes.
+/// Frames compose, and a segment that goes from a hand to a lease or into a CPU's magazine stays
+/// out: no part changes.
 pub fn frame_laws()
     ensures weighs { OutWeighs }
     ensures then { FramesThen }
@@ -43,8 +43,8 @@ pub fn end_laws()
     ensures nothing_out { EndsWithNothingOut }
 {}
 
-/// The arenas of a stock stand in chains, which no step changes: it keeps the plans (`fixed`), and so
-/// how many arenas there are, their sources, quanta, policies and caches.
+/// The arenas of a stock stand in chains, which no step changes: it keeps the plans (`fixed`), and
+/// so how many arenas there are, their sources, quanta, policies and caches.
 pub fn chain_laws()
     ensures before { SourceStandsBefore }
     ensures plans { PlansStay }

@@ -1,5 +1,5 @@
-//! What one CPU keeps of one quantum cache: the events that are private to a CPU (pop, push, change)
-//! change no part, only the list of the segments that are out.
+//! What one CPU keeps of one quantum cache: the events that are private to a CPU (pop, push,
+//! change) change no part, only the list of the segments that are out.
 ghost use Rattle.std.specs.Prelude.{◌≡◌, ◌+◌, ◌<◌, ◌≤◌, ◌↔◌, [], length};
 ghost use Rattle.std.specs.Prelude.{IfSome, IfOk, IfErr, OnOk, IsOk, IsTrue};
 ghost use Rattle.magazine_layer.specs.Magazines.{IsSize, IsShaped, BothEmpty, BothFull};
@@ -21,8 +21,7 @@ use std::alloc::{AllocError, Global};
 use std::marker::Model;
 
 /// A CPU's cache of which all rounds are chunks of the quantum cache at this place of this arena,
-/// which has this quantum.
-/// It is never copied or dropped.
+/// which has this quantum. It is never copied or dropped.
 pub struct OwnCache<D: Deed> {
     arena: usize,
     cache: usize,

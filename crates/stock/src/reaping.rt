@@ -1,5 +1,5 @@
-//! All that lies in the caches goes home: rounds into their slabs, whole slabs into their arenas, and
-//! imported spans that become whole by that into their sources.
+//! All that lies in the caches goes home: rounds into their slabs, whole slabs into their arenas,
+//! and imported spans that become whole by that into their sources.
 ghost use Rattle.std.specs.Prelude.{◌≡◌, ℕ, ◌<◌, List, [], ◌∷◌, All, length, IsOk, OnOk};
 ghost use Rattle.deed_core.specs.Tag.{Tag};
 ghost use Rattle.slab_layer.specs.Slab.{IsComplete};
@@ -15,9 +15,9 @@ use deed_core::{Deed, Route, Segment};
 use slab_layer::PutFault;
 
 impl<D: Deed> Stock<D> {
-    /// Empties all depots into the slabs, frees each slab that is whole then, and each imported span
-    /// that becomes whole by that, up to its root. It takes no memory. A segment that its part refuses
-    /// comes out; that is never so where the accounts balance.
+    /// Empties all depots into the slabs, frees each slab that is whole then, and each imported
+    /// span that becomes whole by that, up to its root. It takes no memory. A segment that its part
+    /// refuses comes out; that is never so where the accounts balance.
     pub fn reap_all(&mut self) -> Result<(), Segment<D>>
         ensures reaped { OnOk result (All IsReaped self.new) }
         ensures frame { Frames self.old [] self.new (hand_after_reap result) }

@@ -1,6 +1,6 @@
 //! How a stock is made: it grows here and nowhere else, and nothing is out of it at the end.
-ghost use Rattle.std.specs.Prelude.{◌≡◌, ◌+◌, ◌^◌, ◌<◌, [], ◌∷◌, ◌++◌, length, slice_get, Some, None};
-ghost use Rattle.std.specs.Prelude.{All, IfOk, OnOk, OnErr};
+ghost use Rattle.std.specs.Prelude.{◌≡◌, ◌+◌, ◌^◌, ◌<◌, [], ◌∷◌, ◌++◌, length, slice_get};
+ghost use Rattle.std.specs.Prelude.{Some, None, All, IfOk, OnOk, OnErr};
 ghost use Rattle.std.specs.Int.{IsPowerOfTwo};
 ghost use Rattle.magazine_layer.specs.Magazines.{IsSize};
 ghost use Rattle.tag_arena.specs.Outcomes.{AddSpanOf};
@@ -56,8 +56,8 @@ impl<D: Deed> StockSetup<D> {
         }
     }
 
-    /// The arenas of a tree with their quantum caches, but with no span: each root's owned spans are
-    /// then added. Its magazines take `rounds` rounds.
+    /// The arenas of a tree with their quantum caches, but with no span: each root's owned spans
+    /// are then added. Its magazines take `rounds` rounds.
     pub fn of_tree(alloc: Global, tree: &Tree, rounds: usize) -> Result<StockSetup<D>, AllocError>
         requires rounds { IsSize rounds }
         ensures planned { IfOk result (λ spaces. plans_of spaces ≡ plans_for tree.now) }
@@ -139,8 +139,8 @@ impl<D: Deed> StockSetup<D> {
         self.stock.add_arena(self.alloc, source, quantum, policy)
     }
 
-    /// Adds an owned span to an arena that doesn't import. The deed is that of a root's whole range,
-    /// as it was opened.
+    /// Adds an owned span to an arena that doesn't import. The deed is that of a root's whole
+    /// range, as it was opened.
     pub fn add_span(&mut self, arena: usize, deed: D) -> Result<(), SpanFault<D>>
         requires within { arena < length self.old }
         requires root { (s : SpaceState) → slice_get self.old arena ≡ Some s → s.source ≡ None }

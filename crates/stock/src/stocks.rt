@@ -18,7 +18,8 @@ use std::alloc::{AllocError, Global};
 use std::marker::Model;
 use tag_arena::{Arena, Policy, SpanFault};
 
-/// Arenas with their quantum caches, each at the place of its number. It is never copied or dropped.
+/// Arenas with their quantum caches, each at the place of its number. It is never copied or
+/// dropped.
 pub struct Stock<D: Deed> {
     pub(crate) spaces: Vec<Space<D>>,
 }
@@ -91,8 +92,8 @@ impl<D: Deed> Stock<D> {
         Ok(())
     }
 
-    /// Adds an owned span to an arena that doesn't import. The deed is that of a root's whole range,
-    /// as it was opened.
+    /// Adds an owned span to an arena that doesn't import. The deed is that of a root's whole
+    /// range, as it was opened.
     pub(crate) fn add_span(&mut self, arena: usize, deed: D) -> Result<(), SpanFault<D>>
         requires within { arena < length self.old }
         requires root { (s : SpaceState) → slice_get self.old arena ≡ Some s → s.source ≡ None }

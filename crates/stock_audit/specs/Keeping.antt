@@ -66,7 +66,8 @@ pub record ReleaseMove (t : Tag) (before after : Outside) : Type 0 where
   pub leases : Loses before.leases after.leases t
   pub cpus : after.cpus ≡ before.cpus
 
--- the CPUs' caches are others, each of a quantum cache of the stock, with the same rounds in them all
+-- the CPUs' caches are others, each of a quantum cache of the stock, with the same rounds in them
+-- all
 pub record CpusMove (spaces : List SpaceState) (before after : Outside) : Type 0 where
   pub hands : after.hands ≡ before.hands
   pub leases : after.leases ≡ before.leases
