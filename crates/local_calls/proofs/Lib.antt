@@ -7,3 +7,6 @@ mod FreeWells
 mod EmptyingWells
 mod Refusals
 mod Steps
+mod CarvesNone
+mod StagesNone
+mod NoFits
