@@ -7,3 +7,9 @@ mod FreeWells
 mod EmptyingWells
 mod Refusals
 mod Steps
+mod CarvesNone
+mod StagesNone
+mod NoFits
+mod Walks
+mod CpuPlaces
+mod Drained

@@ -4,6 +4,7 @@ use Rattle.deed_core.specs.Tag.{Tag}
 use Rattle.deed_core.specs.declared.requests.Request.{Request}
 use Rattle.arena_tree.specs.declared.levels.Level.{Level}
 use Rattle.arena_tree.specs.declared.part_faults.CarveFault.{CarveFault}
+use Rattle.arena_tree.specs.declared.part_faults.CarveFault.TheVariants as carving
 use Rattle.arena_tree.specs.declared.part_faults.ClimbFault.TheVariants as climbing
 use Rattle.arena_tree.specs.declared.trees.TreeArena.{TreeArena}
 use Rattle.arena_tree.specs.Chains.{IsChain, first_id}
@@ -13,8 +14,11 @@ use Rattle.quantum_cache.specs.Allocs.{alloc_plan, xalloc_plan}
 use Rattle.quantum_cache.specs.Drains.{Drained, drain_plan}
 use Rattle.quantum_cache.specs.Frees.{free_plan}
 use Rattle.quantum_cache.specs.Reaps.{ReapEnd, reap_plan}
-use Rattle.local_parts.specs.States.{LocalState}
+use Rattle.stock.specs.Stocks.{IsStock}
+use Rattle.local_parts.specs.Cpus.{cpu_rounds, HasNoRounds}
+use Rattle.local_parts.specs.States.{LocalState, IsUnchanged}
 use Rattle.local_calls.specs.Asked.{CarvesWell, IsDone}
+use Rattle.local_calls.specs.NoFits.{NoneServesIn, NothingFits}
 use Rattle.local_calls.specs.Runs.{IsLocalOf, IsAccountedWith, RunsTo}
 
 -- an allocation gives a segment, or is refused with an empty hand: nothing is stuck or stopped
@@ -63,3 +67,24 @@ abbrev pub ReapAlwaysDone : Type 0
 ReapAlwaysDone = (arenas : List TreeArena) (limit : ℕ) (old new : LocalState) (others : List Tag)
     (a : ReapEnd) → IsLocalOf arenas old → IsAccountedWith old None others
     → RunsTo arenas (reap_plan arenas limit) old new a → IsDone a
+
+-- An allocation that ends with NoFit has found nothing that serves, in the parts as they were when
+-- it began, and leaves the stock as it was: at most the CPU has changed over, with no round.
+abbrev pub NoFitIsRight : Type 0
+NoFitIsRight = (arenas : List TreeArena) (chain : List Level) (size : ℕ) (old new : LocalState)
+    → IsStock old.spaces → RunsTo arenas (alloc_plan chain size) old new (Err climbing.NoFit)
+    → NothingFits old chain size × (new.spaces ≡ old.spaces)
+    × (cpu_rounds new.cpu ≡ cpu_rounds old.cpu)
+
+-- A constrained request: no address of the arena serves it, and nothing changes.
+abbrev pub XallocNoFitIsRight : Type 0
+XallocNoFitIsRight = (arenas : List TreeArena) (arena : ℕ) (request : Request)
+    (old new : LocalState) → IsStock old.spaces
+    → RunsTo arenas (xalloc_plan arena request) old new (Err carving.NoFit)
+    → NoneServesIn old.spaces arena request × IsUnchanged old new
+
+-- A drain that ends well leaves the CPU no round.
+abbrev pub DrainEmptiesCpu : Type 0
+DrainEmptiesCpu = (turns : ℕ) (arenas : List TreeArena) (old new : LocalState)
+    → IsLocalOf arenas old → RunsTo arenas (drain_plan turns arenas) old new (Ok tt)
+    → HasNoRounds new.cpu

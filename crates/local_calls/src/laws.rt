@@ -2,7 +2,8 @@
 //! contracts are the laws, and proofs/LawProofs.antt has them for the proofs of the crates above,
 //! with `run_seen`, by which a call's clause is a list of steps over states.
 ghost use Rattle.local_calls.specs.Laws.{AllocNeverStuck, XallocNeverStops, FreeAlwaysDone};
-ghost use Rattle.local_calls.specs.Laws.{DrainAlwaysDone, ReapAlwaysDone};
+ghost use Rattle.local_calls.specs.Laws.{DrainAlwaysDone, ReapAlwaysDone, NoFitIsRight};
+ghost use Rattle.local_calls.specs.Laws.{XallocNoFitIsRight, DrainEmptiesCpu};
 
 /// Nothing is stuck and nothing stops: what is out can always be freed, and an allocation is
 /// refused with an empty hand.
@@ -12,4 +13,17 @@ pub fn never_stuck_laws()
     ensures free { FreeAlwaysDone }
     ensures drain { DrainAlwaysDone }
     ensures reap { ReapAlwaysDone }
+{}
+
+/// What NoFit says, of the parts as they were before the call: the cache for the size has no chunk to
+/// give, and no address serves, neither in the arena nor in a source for what would be imported. The
+/// stock is unchanged.
+pub fn no_fit_laws()
+    ensures alloc { NoFitIsRight }
+    ensures xalloc { XallocNoFitIsRight }
+{}
+
+/// What a call leaves: a drain no round of the CPU, so that its caches can be closed.
+pub fn emptied_laws()
+    ensures drain { DrainEmptiesCpu }
 {}
