@@ -19,7 +19,9 @@ use crate::spaces::Space;
 use arena_tree::Setup;
 use deed_core::{PlainDeed, Range};
 use lease_book::Book;
-use lease_proto::{ErrorWord, LINE_ROOM, Line, Op, OperatorLine, Reply, ServedLine};
+use lease_proto::{
+    ErrorWord, LINE_ROOM, Line, LineFault, Op, OperatorLine, Reply, ServedLine,
+};
 use std::alloc::{AllocError, Global};
 use std::marker::Model;
 
@@ -132,6 +134,12 @@ impl Desk {
         match line {
             OperatorLine::Audit => audit(&self.spaces, out),
             OperatorLine::Clients => clients(&self.book, out),
+            // Not served yet.
+            OperatorLine::Cpu(_)
+            | OperatorLine::Offline(_)
+            | OperatorLine::Tick
+            | OperatorLine::Resize(_)
+            | OperatorLine::Reap => out.extend_from_slice(LineFault::Word.line()),
         }
     }
 

@@ -36,7 +36,7 @@ pub step : {A B : Type 0} (r : Result A LineFault) (f : A → Result B LineFault
 step (Ok a) f b e = (a, refl, e)
 step (Err fault) f b e = absurd (cc)
 
-number_within_says : (low high : ℕ) (o : Option ℕ) (n : ℕ) → number_within low high o ≡ Ok n → (o ≡ Some n) × (low ≤ n) × (n ≤ high)
+pub number_within_says : (low high : ℕ) (o : Option ℕ) (n : ℕ) → number_within low high o ≡ Ok n → (o ≡ Some n) × (low ≤ n) × (n ≤ high)
 number_within_says low high None n e = absurd (cc)
 number_within_says low high (Some m) n e = elim (cases_Bool (nat_le low m && nat_le m high)) [
   | inl fits ↦
@@ -70,7 +70,7 @@ told word key a b v e = elim (cases_Bool (bytes_eq word key)) [
 ]
 
 -- the same, of a list of words that stand for values
-named : {X : Type 0} (text : X → List ℕ) (word : List ℕ) (x : X) (rest : Result X LineFault) (v : X)
+pub named : {X : Type 0} (text : X → List ℕ) (word : List ℕ) (x : X) (rest : Result X LineFault) (v : X)
     → cond (bytes_eq word (text x)) (Ok x) rest ≡ Ok v → (word ≡ text v) ⊎ (rest ≡ Ok v)
 named text word x rest v e = elim (told word (text x) (Ok x) rest (Ok v) e) [
   | inl p ↦ let found = p.1 in let is : x ≡ v = cc in inl (p.0 ∙ ap text is)

@@ -6,6 +6,7 @@ pub mod Grammar
 pub mod Texts
 pub mod Requests
 pub mod Replies
+pub mod Cpus
 pub mod Operators
 pub mod Reports
 pub mod SetupLines

@@ -2,6 +2,7 @@
 use Rattle.std.specs.Prelude.{ℕ, List, ◌++◌, codes, decimal}
 use Rattle.lease_proto.specs.declared.reports.AuditLine.{AuditLine}
 use Rattle.lease_proto.specs.declared.reports.ClientLine.{ClientLine}
+use Rattle.lease_proto.specs.declared.reports.ReapedLine.{ReapedLine}
 
 -- how many units of an arena it has itself
 abbrev pub kept_text : AuditLine → List ℕ
@@ -24,3 +25,11 @@ audit_text r = codes "arena " ++ (r.name ++ sums_text r)
 abbrev pub client_text : ClientLine → List ℕ
 client_text r = codes "client " ++ decimal r.client ++ codes " " ++ decimal r.incarnation
     ++ codes " " ++ decimal r.last ++ codes " " ++ decimal r.leases ++ codes "\n"
+
+-- how many units the slabs had that went back
+abbrev pub reaped_text : ReapedLine → List ℕ
+reaped_text r = codes "reaped " ++ decimal r.units ++ codes "\n"
+
+-- what was asked for was done
+abbrev pub ok_text : List ℕ
+ok_text = codes "ok\n"

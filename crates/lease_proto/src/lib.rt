@@ -19,6 +19,7 @@
 //! crate `lease_server`, and answered by `lease_desk`.
 #![tactic(auto)]
 
+mod cpus;
 mod faults;
 mod framing;
 mod ids;
@@ -33,12 +34,15 @@ mod setup_lines;
 mod taking;
 mod writing;
 
+pub use cpus::CpuNumber;
 pub use faults::{ErrorWord, LineFault};
 pub use framing::{FramedLine, LineReader, fault_at_end, framing_law, line_feed_law};
-pub use limits::{LINE_ROOM, LONGEST_LINE, limit_law};
+pub use limits::{LAST_CPU, LINE_ROOM, LONGEST_LINE, limit_law};
 pub use lines::{HelloLine, LeaseLine, LeaseOptions, Line, Op, ReleaseLine, line_law};
 pub use numbers::number_law;
-pub use operators::{OperatorLine, ServedLine, served_law};
+pub use operators::{
+    MagazineSize, OperatorLine, ResizeLine, ServedLine, is_operator_word, served_law,
+};
 pub use replies::{Again, Granted, Old, OutOfTurn, Refused, Reply, Welcome, reply_law};
-pub use reports::{AuditLine, ClientLine};
+pub use reports::{AuditLine, ClientLine, ReapedLine, ok_line};
 pub use setup_lines::{ChildLine, PolicyWord, RootLine, SetupLine, SpanLine, is_setup_word};

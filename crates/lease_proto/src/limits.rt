@@ -1,5 +1,5 @@
-//! How long a line is at most. Code, contracts and proofs cite these by name, from
-//! `specs.declared.limits.TheConstants`. How much a setup sets up, `arena_tree` says.
+//! How long a line is at most, and which CPUs a line may name. Code, contracts and proofs cite these
+//! by name, from `specs.declared.limits.TheConstants`. How much a setup sets up, `arena_tree` says.
 ghost use Rattle.std.specs.Prelude.{◌≡◌, ◌+◌};
 
 /// The longest line, in bytes before its line feed.
@@ -9,8 +9,12 @@ pub const LONGEST_LINE: usize = 255;
 /// long.
 pub const LINE_ROOM: usize = LONGEST_LINE + 1;
 
+/// The last CPU that a line may name: CPUs are numbered from 0 on.
+pub const LAST_CPU: u32 = 63;
+
 /// The limits as the rules have them: who changes one changes it here, and nowhere else.
 pub fn limit_law()
     ensures line { LONGEST_LINE ≡ 255 }
     ensures room { LINE_ROOM ≡ LONGEST_LINE + 1 }
+    ensures cpus { LAST_CPU ≡ 63 }
 {}

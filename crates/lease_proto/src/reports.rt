@@ -2,7 +2,7 @@
 ghost use Rattle.std.specs.Prelude.{◌≡◌, ◌++◌, OnOk, OnErr};
 ghost use Rattle.std.specs.Io.{StartsWith};
 ghost use Rattle.lease_proto.specs.Reports.{audit_text, sums_text, kept_text, given_text};
-ghost use Rattle.lease_proto.specs.Reports.{client_text};
+ghost use Rattle.lease_proto.specs.Reports.{client_text, reaped_text, ok_text};
 
 use lease_terms::{ClientId, Name, Ordinal, Quantity};
 use std::alloc::AllocError;
@@ -96,4 +96,30 @@ impl ClientLine {
         let line = format!(in alloc; "client {client} {incarnation} {last} {leases}\n")?;
         out.extend_from_slice(line.as_bytes())
     }
+}
+
+/// `reaped U`: how many units the slabs had that went back to their arenas.
+#[derive(Clone, Copy, Debug, PartialEq, Eq)]
+pub struct ReapedLine {
+    pub units: u128,
+}
+
+impl ReapedLine {
+    /// Appends the line and a line feed. It fails only when out of memory.
+    pub fn write(&self, out: &mut Vec<u8>) -> Result<(), AllocError>
+        ensures ok { OnOk result (out.new.items ≡ out.old.items ++ reaped_text self.now) }
+        ensures unchanged { OnErr result (out.new.items ≡ out.old.items) }
+    {
+        let alloc = *out.allocator();
+        let units = self.units;
+        let line = format!(in alloc; "reaped {units}\n")?;
+        out.extend_from_slice(line.as_bytes())
+    }
+}
+
+/// The line that says that an operator's line was done, with its line feed.
+pub fn ok_line() -> &'static [u8]
+    ensures { result.now ≡ ok_text }
+{
+    b"ok\n"
 }
