@@ -5,3 +5,4 @@ pub mod Replies
 pub mod Operators
 pub mod Machine
 pub mod Laws
+pub mod AnswerLaws

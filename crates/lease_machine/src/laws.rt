@@ -2,6 +2,7 @@
 //! contracts are the laws, and `proofs/LawProofs.antt` hands their proofs on.
 ghost use Rattle.lease_machine.specs.Laws.{PicturesStay, SetupStays, UnitsHaveOnePlace};
 ghost use Rattle.lease_machine.specs.Laws.{LeasesAreApart, AuditTellsLeases, AuditIsWhole};
+ghost use Rattle.lease_machine.specs.AnswerLaws.{LinesRepeat};
 
 /// After any lines each unit is in one place, and no two leases of one space overlap.
 pub fn place_laws()
@@ -15,4 +16,9 @@ pub fn place_laws()
 pub fn audit_laws()
     ensures leases { AuditTellsLeases }
     ensures whole { AuditIsWhole }
+{}
+
+/// A request that comes again gets the bytes that it got.
+pub fn repeat_laws()
+    ensures { LinesRepeat }
 {}
