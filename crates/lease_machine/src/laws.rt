@@ -2,7 +2,7 @@
 //! contracts are the laws, and `proofs/LawProofs.antt` hands their proofs on.
 ghost use Rattle.lease_machine.specs.Laws.{PicturesStay, SetupStays, UnitsHaveOnePlace};
 ghost use Rattle.lease_machine.specs.Laws.{LeasesAreApart, AuditTellsLeases, AuditIsWhole};
-ghost use Rattle.lease_machine.specs.AnswerLaws.{LinesRepeat};
+ghost use Rattle.lease_machine.specs.AnswerLaws.{LinesRepeat, GrantsFit, KeptGrantsFit};
 
 /// After any lines each unit is in one place, and no two leases of one space overlap.
 pub fn place_laws()
@@ -21,4 +21,10 @@ pub fn audit_laws()
 /// A request that comes again gets the bytes that it got.
 pub fn repeat_laws()
     ensures { LinesRepeat }
+{}
+
+/// Each grant fits its own line; so does each that is kept, what it was made for.
+pub fn grant_laws()
+    ensures fits { GrantsFit }
+    ensures kept { KeptGrantsFit }
 {}
