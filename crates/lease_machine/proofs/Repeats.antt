@@ -28,7 +28,7 @@ use Rattle.lease_history.specs.Told.{reply_to}
 use Rattle.arena_tree.specs.declared.trees.TreeArena.{TreeArena}
 use Rattle.lease_machine.specs.Picture.{Picture, IsPicture, SameSetup, arena_named}
 use Rattle.lease_machine.specs.Replies.{IsKnownReply, IsKeptReply}
-use Rattle.lease_machine.specs.Operators.{Does, LeavesOff, OperatorStep}
+use Rattle.lease_machine.specs.Operators.{Performs, LeavesOff, OperatorStep}
 use Rattle.lease_machine.specs.Machine.{RequestStep, NewRequest, Sweeps, HelloStep, ClientStep, ServedStep, AnswersLine, LeaseStep, demand_of}
 use Rattle.lease_machine.specs.Laws.{Runs}
 use Rattle.lease_machine.specs.AnswerLaws.{written, IsKept, IsUnkept, IsRequestLine, IsOfOthers, AreOfOthers, LinesRepeat}
@@ -218,7 +218,7 @@ module _ (c : ℕ) where
   client_keeps (lines.Request id op) other old new history r does = request_keeps id other old new history op r does
 
 -- an operator's line changes nothing of the book
-does_keep : (o : OperatorLine) (old new : Picture) (text : List ℕ) → Does o old text new → new.book ≡ old.book
+does_keep : (o : OperatorLine) (old new : Picture) (text : List ℕ) → Performs o old text new → new.book ≡ old.book
 does_keep (operator.Cpu n) old new text does = ap (λ (d : Picture). d.book) does.1
 does_keep (operator.Offline n) old new text does = ap (λ (d : Picture). d.book) does.1.rest
 does_keep operator.Tick old new text does = ap (λ (d : Picture). d.book) does.1

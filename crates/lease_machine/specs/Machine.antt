@@ -36,8 +36,8 @@ use Rattle.lease_book.specs.Calls.{IsGranted, IsReleased, IsSwept}
 use Rattle.lease_book.specs.declared.books.TheConstants.{MOST_LEASES}
 use Rattle.lease_machine.specs.Picture.{Picture, IsPicture, SameSetup, BookAlone, Finds}
 use Rattle.lease_machine.specs.Moves.{SameNames, GoesBack}
-use Rattle.lease_machine.specs.Serving.{CanServe, Serves, ServesNone, ServesInVain, FallsBack}
-use Rattle.lease_machine.specs.Replies.{IsKnownReply, Refuses, reply_of_settled, again_of}
+use Rattle.lease_machine.specs.Serving.{CanServe, ServesWith, ServesNone, ServesInVain, FallsBack}
+use Rattle.lease_machine.specs.Replies.{IsKnownReply, SettlesRefusal, reply_of_settled, again_of}
 use Rattle.lease_machine.specs.Operators.{OperatorStep}
 
 -- what a lease asks of its arena
@@ -52,7 +52,7 @@ demand_of l = record {
 }
 
 -- the arena that the line names takes its request
-pub record Takes (d : Picture) (l : LeaseLine) (place : ℕ) (x : TreeArena) : Type 0 where
+pub record TakesDemand (d : Picture) (l : LeaseLine) (place : ℕ) (x : TreeArena) : Type 0 where
   pub finds : Finds d l.arena place x
   pub good : IsGood x.quantum (demand_of l)
 
@@ -60,9 +60,9 @@ pub record Takes (d : Picture) (l : LeaseLine) (place : ℕ) (x : TreeArena) : T
 pub record Grants (id : RequestId) (l : LeaseLine) (old new : Picture) (r : Reply) : Type 0 where
   pub place : ℕ
   pub arena : TreeArena
-  pub takes : Takes old l place arena
+  pub takes : TakesDemand old l place arena
   pub segment : Tag
-  pub serves : Serves place arena (demand_of l) segment old new
+  pub serves : ServesWith place arena (demand_of l) segment old new
   pub receipt : ReceiptState
   pub granted : IsGranted old.book new.book id segment
       (record { quantum = arena.quantum; request = demand_of l }) receipt
@@ -74,9 +74,9 @@ abbrev pub RefusesLease : RequestId → LeaseLine → Picture → Picture → Re
 RefusesLease id l old new NoArena = (place_in l.arena old.tree ≡ None) × BookAlone old new
 RefusesLease id l old new BadRequest = (place : ℕ) × (x : TreeArena) × Finds old l.arena place x
     × (¬ IsGood x.quantum (demand_of l)) × BookAlone old new
-RefusesLease id l old new NoFit = (place : ℕ) × (x : TreeArena) × Takes old l place x
+RefusesLease id l old new NoFit = (place : ℕ) × (x : TreeArena) × TakesDemand old l place x
     × ServesNone place x (demand_of l) old new
-RefusesLease id l old new Leases = (place : ℕ) × (x : TreeArena) × Takes old l place x
+RefusesLease id l old new Leases = (place : ℕ) × (x : TreeArena) × TakesDemand old l place x
     × CanServe old place x (demand_of l) × ServesInVain place x (demand_of l) old new
     × (MOST_LEASES ≤ length (account_in id.client old.book).leases)
 RefusesLease id l old new NotYours = ⊥
@@ -85,7 +85,7 @@ RefusesLease id l old new NotYours = ⊥
 pub record MissesLease (id : RequestId) (l : LeaseLine) (old new : Picture) : Type 0 where
   pub place : ℕ
   pub arena : TreeArena
-  pub takes : Takes old l place arena
+  pub takes : TakesDemand old l place arena
   pub can : CanServe old place arena (demand_of l)
   pub back : FallsBack place arena (demand_of l) old new
   pub names : SameNames old new
@@ -95,7 +95,7 @@ pub record MissesLease (id : RequestId) (l : LeaseLine) (old new : Picture) : Ty
 abbrev pub NewLease : RequestId → LeaseLine → Picture → Picture → Reply → Type 0
 NewLease id l old new (reply.Granted g) = Grants id l old new (reply.Granted g)
 NewLease id l old new (reply.Refused r) =
-    (why : Refusal) × Refuses id why old new (reply.Refused r) × RefusesLease id l old new why
+    (why : Refusal) × SettlesRefusal id why old new (reply.Refused r) × RefusesLease id l old new why
 NewLease id l old new (reply.Again a) =
     (reply.Again a ≡ again_of id) × MissesLease id l old new
 NewLease id l old new r = ⊥
@@ -121,7 +121,7 @@ RefusesRelease id l old why = ⊥
 abbrev pub NewRelease : RequestId → ReleaseLine → Picture → Picture → Reply → Type 0
 NewRelease id l old new (reply.Released p) = (p ≡ id) × Releases id l old new
 NewRelease id l old new (reply.Refused r) = (why : Refusal)
-    × Refuses id why old new (reply.Refused r) × RefusesRelease id l old why × BookAlone old new
+    × SettlesRefusal id why old new (reply.Refused r) × RefusesRelease id l old why × BookAlone old new
 NewRelease id l old new r = ⊥
 
 abbrev pub NewRequest : RequestId → Op → Picture → Picture → Reply → Type 0

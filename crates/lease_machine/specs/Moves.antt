@@ -67,7 +67,7 @@ abbrev pub arena_of : SpaceState → ArenaState
 arena_of s = s.arena
 
 -- each CPU but the selected one is as it was, and none came or went
-pub record OthersStay (old new : Picture) : Type 0 where
+pub record OtherCpusStay (old new : Picture) : Type 0 where
   pub numbers : map (λ c. c.number) new.cpus ≡ map (λ c. c.number) old.cpus
   pub others : filter (λ c. not (is_cpu old.selected c)) new.cpus
       ≡ filter (λ c. not (is_cpu old.selected c)) old.cpus
@@ -81,7 +81,7 @@ SameNames old new = (new.tree ≡ old.tree) × (new.selected ≡ old.selected)
 abbrev pub GoesBackBy : Route → Tag → Picture → Picture → Type 0
 GoesBackBy Direct t old new = Returns new.spaces t old.spaces × (new.cpus ≡ old.cpus)
 GoesBackBy (Cached k) t old new =
-    (map arena_of new.spaces ≡ map arena_of old.spaces) × OthersStay old new
+    (map arena_of new.spaces ≡ map arena_of old.spaces) × OtherCpusStay old new
 
 abbrev pub GoesBack : Tag → Picture → Picture → Type 0
 GoesBack t old new = SameNames old new × GoesBackBy t.route t old new

@@ -87,7 +87,7 @@ abbrev pub PartsAlone : Picture → Picture → Type 0
 PartsAlone old new = new ≡ record old { spaces = new.spaces }
 
 -- so many units, of whole slabs, went from the caches to their arenas, and nothing is left to reap
-pub record Reaps (units : ℕ) (old new : Picture) : Type 0 where
+pub record ReapsAll (units : ℕ) (old new : Picture) : Type 0 where
   pub parts : PartsAlone old new
   pub units_are : cached_units old ≡ cached_units new + units
   pub left : All (λ s. All IsReapedOut s.caches) new.spaces
@@ -123,17 +123,17 @@ abbrev pub client_told : ClientReport → List ℕ
 client_told r = client_text (client_line r)
 
 -- the answer to an operator's line
-abbrev pub Does : OperatorLine → Picture → List ℕ → Picture → Type 0
-Does (operator.Cpu n) old text new =
+abbrev pub Performs : OperatorLine → Picture → List ℕ → Picture → Type 0
+Performs (operator.Cpu n) old text new =
     (text ≡ ok_text) × (new ≡ record old { cpus = with_cpu n old; selected = n })
-Does (operator.Offline n) old text new = (text ≡ ok_text) × GoesOffline n old new
-Does operator.Tick old text new =
+Performs (operator.Offline n) old text new = (text ≡ ok_text) × GoesOffline n old new
+Performs operator.Tick old text new =
     (text ≡ ok_text) × (new ≡ record old { spaces = map (on_depots after_tick) old.spaces })
-Does (operator.Resize r) old text new = Resizes r.arena (rounds_of r.size) old text new
-Does operator.Reap old text new =
-    (units : ℕ) × (text ≡ reaped_text (record { units = units })) × Reaps units old new
-Does operator.Audit old text new = (text ≡ arenas_told old old.tree old.spaces) × (new ≡ old)
-Does operator.Clients old text new =
+Performs (operator.Resize r) old text new = Resizes r.arena (rounds_of r.size) old text new
+Performs operator.Reap old text new =
+    (units : ℕ) × (text ≡ reaped_text (record { units = units })) × ReapsAll units old new
+Performs operator.Audit old text new = (text ≡ arenas_told old old.tree old.spaces) × (new ≡ old)
+Performs operator.Clients old text new =
     (text ≡ flat_map client_told (map report_of old.book.accounts)) × (new ≡ old)
 
 -- what is left out of memory: a line that moves nothing but by what it makes first moves nothing,
@@ -150,4 +150,4 @@ LeavesOff operator.Clients old new = new ≡ old
 -- it changes no lease
 abbrev pub OperatorStep : OperatorLine → Picture → List ℕ → Picture → Type 0
 OperatorStep o old text new =
-    Does o old text new ⊎ ((text ≡ error_text Memory) × LeavesOff o old new)
+    Performs o old text new ⊎ ((text ≡ error_text Memory) × LeavesOff o old new)

@@ -15,7 +15,7 @@ use Rattle.stock_audit.specs.Chains.{IsReachable}
 use Rattle.local_parts.specs.Cpus.{IsOwnAt}
 use Rattle.lease_machine.specs.Picture.{Cpu, Picture, is_cpu, caches_of}
 use Rattle.lease_machine.specs.Moves.{HasPlace, HasPlaceUp, CarvesAt, Climbs, CarvesInVain}
-use Rattle.lease_machine.specs.Moves.{ClimbsInVain, OthersStay, GoesBack, SameNames}
+use Rattle.lease_machine.specs.Moves.{ClimbsInVain, OtherCpusStay, GoesBack, SameNames}
 
 abbrev pub own_or_none : Option Cpu → List (List OwnCacheState)
 own_or_none None = []
@@ -72,31 +72,31 @@ WasReachable d place t = (s : SpaceState) → slice_get d.spaces place ≡ Some 
 
 -- where the segment is from: of a constrained request one carve and nothing else; where no cache
 -- serves, a climb and nothing else; else what was reachable
-abbrev pub IsFrom : ℕ → TreeArena → Request → Tag → Picture → Picture → Type 0
-IsFrom place x q t old new =
+abbrev pub ComesFrom : ℕ → TreeArena → Request → Tag → Picture → Picture → Type 0
+ComesFrom place x q t old new =
     ((¬ IsPlain q) × CarvesAt place q t old.spaces new.spaces × (new.cpus ≡ old.cpus))
     ⊎ (IsPlain q × (¬ IsCachedIn x q)
     × Climbs (chain_in old.tree place) q.size t old.spaces new.spaces × (new.cpus ≡ old.cpus))
-    ⊎ (IsCachedIn x q × WasReachable old place t × OthersStay old new)
+    ⊎ (IsCachedIn x q × WasReachable old place t × OtherCpusStay old new)
 
 -- the request was served with the segment
-pub record Serves (place : ℕ) (x : TreeArena) (q : Request) (t : Tag) (old new : Picture)
+pub record ServesWith (place : ℕ) (x : TreeArena) (q : Request) (t : Tag) (old new : Picture)
     : Type 0 where
   pub arena : t.arena ≡ place
   pub fits : Fits x.quantum q t.holding.range.base t.holding.range.len
-  pub from : IsFrom place x q t old new
+  pub from : ComesFrom place x q t old new
   pub names : SameNames old new
 
 -- nothing serves it: only that where caches serve the selected CPU's magazines may have got greater
 pub record ServesNone (place : ℕ) (x : TreeArena) (q : Request) (old new : Picture) : Type 0 where
   pub none : ¬ CanServe old place x q
   pub spaces : new.spaces ≡ old.spaces
-  pub cpus : (new.cpus ≡ old.cpus) ⊎ (IsCachedIn x q × OthersStay old new)
+  pub cpus : (new.cpus ≡ old.cpus) ⊎ (IsCachedIn x q × OtherCpusStay old new)
   pub names : SameNames old new
 
 -- what it was served with went back
 abbrev pub ServesInVain : ℕ → TreeArena → Request → Picture → Picture → Type 0
-ServesInVain place x q old new = (t : Tag) × (mid : Picture) × Serves place x q t old mid
+ServesInVain place x q old new = (t : Tag) × (mid : Picture) × ServesWith place x q t old mid
     × GoesBack t mid new
 
 -- out of memory: nothing changed, or what was taken on the way went back
@@ -106,4 +106,4 @@ FallsBack place x q old new =
     ⊎ (IsPlain q × (¬ IsCachedIn x q)
     × ClimbsInVain (chain_in old.tree place) q.size old.spaces new.spaces
     × (new.cpus ≡ old.cpus))
-    ⊎ (IsCachedIn x q × OthersStay old new)
+    ⊎ (IsCachedIn x q × OtherCpusStay old new)
