@@ -1,4 +1,7 @@
 pub mod Places
 pub mod Repeats
 pub mod Fitting
+pub mod Rooms
+pub mod Freed
+pub mod NoRoom
 pub mod LawProofs

@@ -6,3 +6,4 @@ pub mod Operators
 pub mod Machine
 pub mod Laws
 pub mod AnswerLaws
+pub mod RoomLaws

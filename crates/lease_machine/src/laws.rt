@@ -3,6 +3,7 @@
 ghost use Rattle.lease_machine.specs.Laws.{PicturesStay, SetupStays, UnitsHaveOnePlace};
 ghost use Rattle.lease_machine.specs.Laws.{LeasesAreApart, AuditTellsLeases, AuditIsWhole};
 ghost use Rattle.lease_machine.specs.AnswerLaws.{LinesRepeat, GrantsFit, KeptGrantsFit};
+ghost use Rattle.lease_machine.specs.RoomLaws.{NoFitMeansTaken, FreedIsWhole, FirstLeaseIsServed};
 
 /// After any lines each unit is in one place, and no two leases of one space overlap.
 pub fn place_laws()
@@ -27,4 +28,12 @@ pub fn repeat_laws()
 pub fn grant_laws()
     ensures fits { GrantsFit }
     ensures kept { KeptGrantsFit }
+{}
+
+/// A request is refused for want of room only where there is none: in a system that was used
+/// however one likes, once all has come back, and at its first lease.
+pub fn no_fit_laws()
+    ensures taken { NoFitMeansTaken }
+    ensures freed { FreedIsWhole }
+    ensures first { FirstLeaseIsServed }
 {}
