@@ -64,13 +64,14 @@ granted_fits old new id l g does =
     ap (λ (k : ℕ). arena_named old.tree k) does.serves.arena ∙ ap name_or_none finds.here ∙ found_named old.tree l.arena does.place does.arena finds.first finds.here in
     let base : g.base ≡ t.holding.range.base = ap (λ (x : Granted). x.base) same in
     let len : g.len ≡ t.holding.range.len = ap (λ (x : Granted). x.len) same in
-    let fits : Fits does.arena.quantum (demand_of l) t.holding.range.base t.holding.range.len = does.serves.fits in
-    (
+    let fits : Fits does.arena.quantum (demand_of l) t.holding.range.base t.holding.range.len = does.serves.fits in (
       ap (λ (x : Granted). x.arena) same ∙ name,
-      (does.place,
-      does.arena,
-      finds,
-      subst (λ (b : ℕ). Fits does.arena.quantum (demand_of l) b g.len) (sym base) (subst (Fits does.arena.quantum (demand_of l) t.holding.range.base) (sym len) fits)),
+      (
+        does.place,
+        does.arena,
+        finds,
+        subst (λ (b : ℕ). Fits does.arena.quantum (demand_of l) b g.len) (sym base) (subst (Fits does.arena.quantum (demand_of l) t.holding.range.base) (sym len) fits),
+      ),
     )
 
 new_fits : (old new : Picture) (id : RequestId) (l : _) (r : Reply) → NewLease id l old new r → FitsLine old l r
@@ -86,11 +87,14 @@ new_fits old new id l (reply.Error x) does = tt
 
 pub grants_fit : GrantsFit
 grants_fit old new id l line text is read fresh step =
-    let a = request_answer old new id (ops.Lease l) line text read step in
-    (a.0, a.1, elim a.2 [
-      | inl known ↦ absurd (not_known old id a.0 fresh known.0)
-      | inr does ↦ new_fits old new id l a.0 does.1
-    ])
+    let a = request_answer old new id (ops.Lease l) line text read step in (
+      a.0,
+      a.1,
+      elim a.2 [
+        | inl known ↦ absurd (not_known old id a.0 fresh known.0)
+        | inr does ↦ new_fits old new id l a.0 does.1
+      ],
+    )
 
 -- what holds of each holds of one
 each_at : {X : Type 0} (P : X → Type 0) (xs : List X) (j : ℕ) (x : X) → AllByRecursion P xs → slice_get xs j ≡ Some x → P x
@@ -103,8 +107,7 @@ settled_fits d n (Grant t terms) k is home earned arena base len granted =
     let replied : replies.Granted arena base len ≡ replies.Granted t.arena t.holding.range.base t.holding.range.len = sym granted ∙ ap (λ (x : Kept). x.reply) is in
     let at_arena : arena ≡ t.arena = cc in
     let has : k.terms ≡ Some terms = ap (λ (x : Kept). x.terms) is in
-    let fits : Fits terms.quantum terms.request base len = subst (λ (o : Option Terms). IsEarned (replies.Granted arena base len) o) has (subst (λ (y : KeptReply). IsEarned y k.terms) granted earned) in
-    (
+    let fits : Fits terms.quantum terms.request base len = subst (λ (o : Option Terms). IsEarned (replies.Granted arena base len) o) has (subst (λ (y : KeptReply). IsEarned y k.terms) granted earned) in (
       home.0,
       terms,
       ap (slice_get d.tree) at_arena ∙ home.1,

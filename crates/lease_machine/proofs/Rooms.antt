@@ -40,11 +40,11 @@ module _ (spans : List Holding) (apart : AllPairs Apart spans) (u : ℕ) where
   same_span s t a b over_s over_t = elim (cases_lt a.0 b.0) [
     | inl lt ↦ absurd (earlier s t a b over_s over_t lt)
     | inr le ↦ elim (cases_lt b.0 a.0) [
-        | inl lt ↦ absurd (earlier t s b a over_t over_s lt)
-        | inr ge ↦
-            let same : a.0 ≡ b.0 = omega (arith, le, ge) in
-            sym a.2 ∙ ap (λ (k : ℕ). get_or spans k s) same ∙ any_default spans b.0 s t b.1 ∙ b.2
-      ]
+      | inl lt ↦ absurd (earlier t s b a over_t over_s lt)
+      | inr ge ↦
+          let same : a.0 ≡ b.0 = omega (arith, le, ge) in
+          sym a.2 ∙ ap (λ (k : ℕ). get_or spans k s) same ∙ any_default spans b.0 s t b.1 ∙ b.2
+    ]
   ]
 
 -- a run of free units lies in a free range
@@ -71,9 +71,9 @@ in_free a sound r run =
           (elim (edged.high t.1 has_t (record { from = inside.from; to = inside.to })) [
             | inl edge ↦ omega (arith, edge, ends, part.to)
             | inr taken ↦ elim (cases_lt (end_of f.1.range) (end_of r.range)) [
-                | inl short ↦ absurd (run.free (end_of f.1.range) (omega (arith, over.1), short) taken)
-                | inr long ↦ long
-              ]
+              | inl short ↦ absurd (run.free (end_of f.1.range) (omega (arith, over.1), short) taken)
+              | inr long ↦ long
+            ]
           ]) in
           (f.0, f.1, f.2, f.3, (over.0, to))
     ]

@@ -27,8 +27,8 @@ abbrev pub SetupStays : Type 0
 SetupStays = (old new : Picture) (frames : List Frame) (text : List ℕ)
     → Runs old frames text new → SameSetup old new
 
--- each unit of an arena's spans is in one place: free, in a slab, in a magazine, exported or leased;
--- and no other unit is in any
+-- each unit of an arena's spans is in one place: free, in a slab, in a magazine, exported or
+-- leased; and no other unit is in any
 abbrev pub UnitsHaveOnePlace : Type 0
 UnitsHaveOnePlace = (d : Picture) → IsPicture d → (k : ℕ) (s : SpaceState)
     → slice_get d.spaces k ≡ Some s → (u : ℕ)

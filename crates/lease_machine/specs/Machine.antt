@@ -95,7 +95,8 @@ pub record MissesLease (id : RequestId) (l : LeaseLine) (old new : Picture) : Ty
 abbrev pub NewLease : RequestId → LeaseLine → Picture → Picture → Reply → Type 0
 NewLease id l old new (reply.Granted g) = Grants id l old new (reply.Granted g)
 NewLease id l old new (reply.Refused r) =
-    (why : Refusal) × SettlesRefusal id why old new (reply.Refused r) × RefusesLease id l old new why
+    (why : Refusal) × SettlesRefusal id why old new (reply.Refused r)
+    × RefusesLease id l old new why
 NewLease id l old new (reply.Again a) =
     (reply.Again a ≡ again_of id) × MissesLease id l old new
 NewLease id l old new r = ⊥
@@ -121,7 +122,8 @@ RefusesRelease id l old why = ⊥
 abbrev pub NewRelease : RequestId → ReleaseLine → Picture → Picture → Reply → Type 0
 NewRelease id l old new (reply.Released p) = (p ≡ id) × Releases id l old new
 NewRelease id l old new (reply.Refused r) = (why : Refusal)
-    × SettlesRefusal id why old new (reply.Refused r) × RefusesRelease id l old why × BookAlone old new
+    × SettlesRefusal id why old new (reply.Refused r) × RefusesRelease id l old why
+    × BookAlone old new
 NewRelease id l old new r = ⊥
 
 abbrev pub NewRequest : RequestId → Op → Picture → Picture → Reply → Type 0

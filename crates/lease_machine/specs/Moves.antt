@@ -10,7 +10,9 @@ use Rattle.tag_arena.specs.Outcomes.{Carved, Imported, Freed}
 use Rattle.tag_arena.specs.Place.{Serves}
 use Rattle.arena_tree.specs.declared.levels.Level.{Level}
 use Rattle.arena_tree.specs.Chains.{amount_of}
-use Rattle.stock.specs.Spaces.{SpaceState}
+use Rattle.slab_layer.specs.Slab.{SlabState}
+use Rattle.slab_layer.specs.Cache.{SlabCacheState}
+use Rattle.stock.specs.Spaces.{SpaceState, QuantumCacheState}
 use Rattle.stock.specs.Steps.{OnArena}
 use Rattle.lease_machine.specs.Picture.{Picture, is_cpu}
 
@@ -19,8 +21,8 @@ abbrev pub HasPlace : List SpaceState → ℕ → Request → Type 0
 HasPlace spaces place q = (s : SpaceState) × (slice_get spaces place ≡ Some s)
     × ((base : ℕ) × Serves s.arena.quantum q s.arena.free base)
 
--- so does one of an arena of the chain: of the first so many units, of each other what the one below
--- it would import for them
+-- so does one of an arena of the chain: of the first so many units, of each other what the one
+-- below it would import for them
 abbrev pub HasPlaceUp : List SpaceState → List Level → ℕ → Type 0
 HasPlaceUp spaces [] n = ⊥
 HasPlaceUp spaces (l ∷ up) n =
@@ -35,8 +37,8 @@ abbrev pub ImportsAt : ℕ → Tag → ℕ → Tag → List SpaceState → List 
 ImportsAt place span n t old new =
     OnArena place (λ a b. Imported a span (plain_of n) t b) old new
 
--- the segment of so many units was carved in the first arena of the chain or, where no address of that
--- served, of a span that it imported from the next
+-- the segment of so many units was carved in the first arena of the chain or, where no address of
+-- that served, of a span that it imported from the next
 abbrev pub Climbs : List Level → ℕ → Tag → List SpaceState → List SpaceState → Type 0
 Climbs [] n t old new = ⊥
 Climbs (l ∷ up) n t old new = CarvesAt l.id (plain_of n) t old new
@@ -66,6 +68,21 @@ ClimbsInVain (l ∷ up) n old new = (new ≡ old)
 abbrev pub arena_of : SpaceState → ArenaState
 arena_of s = s.arena
 
+-- the slab, without which of its chunks are at home
+abbrev pub outline_of : SlabState → SlabState
+outline_of s = record s { home = [] }
+
+abbrev pub slab_outlines : QuantumCacheState → SlabCacheState
+slab_outlines c = record c.slab { slabs = map outline_of c.slab.slabs }
+
+abbrev pub outlines_of : SpaceState → List SlabCacheState
+outlines_of s = map slab_outlines s.caches
+
+-- the arenas are as they were, and so are the slabs, but for which chunks are at home
+pub record ArenasStay (old new : List SpaceState) : Type 0 where
+  pub arenas : map arena_of new ≡ map arena_of old
+  pub slabs : map outlines_of new ≡ map outlines_of old
+
 -- each CPU but the selected one is as it was, and none came or went
 pub record OtherCpusStay (old new : Picture) : Type 0 where
   pub numbers : map (λ c. c.number) new.cpus ≡ map (λ c. c.number) old.cpus
@@ -81,7 +98,7 @@ SameNames old new = (new.tree ≡ old.tree) × (new.selected ≡ old.selected)
 abbrev pub GoesBackBy : Route → Tag → Picture → Picture → Type 0
 GoesBackBy Direct t old new = Returns new.spaces t old.spaces × (new.cpus ≡ old.cpus)
 GoesBackBy (Cached k) t old new =
-    (map arena_of new.spaces ≡ map arena_of old.spaces) × OtherCpusStay old new
+    ArenasStay old.spaces new.spaces × OtherCpusStay old new
 
 abbrev pub GoesBack : Tag → Picture → Picture → Type 0
 GoesBack t old new = SameNames old new × GoesBackBy t.route t old new

@@ -22,7 +22,7 @@ use Rattle.lease_proto.specs.Faults.{error_text}
 use Rattle.lease_proto.specs.Operators.{rounds_of}
 use Rattle.lease_proto.specs.Reports.{audit_text, client_text, reaped_text, ok_text}
 use Rattle.lease_machine.specs.Picture.{Cpu, Picture, is_cpu, fresh_cpu, held_outside}
-use Rattle.lease_machine.specs.Moves.{arena_of}
+use Rattle.lease_machine.specs.Moves.{ArenasStay}
 
 -- the CPUs with that one, which is made if it is new
 abbrev pub with_cpu : ℕ → Picture → List Cpu
@@ -35,11 +35,11 @@ renewed n spaces c = if is_cpu n c then fresh_cpu n spaces else c
 abbrev pub depots_of : SpaceState → List DepotState
 depots_of s = map (λ c. c.depot) s.caches
 
--- the rounds of the CPU are at home in their slabs, and it begins anew; arenas, depots and all other
--- CPUs are as they were
+-- The rounds of the CPU are at home in their slabs, and it begins anew. Arenas and depots, which
+-- slabs there are, and all other CPUs are as they were.
 pub record GoesOffline (n : ℕ) (old new : Picture) : Type 0 where
   pub cpus : new.cpus ≡ map (renewed n old.spaces) old.cpus
-  pub arenas : map arena_of new.spaces ≡ map arena_of old.spaces
+  pub arenas : ArenasStay old.spaces new.spaces
   pub depots : map depots_of new.spaces ≡ map depots_of old.spaces
   pub rest : new ≡ record old { spaces = new.spaces; cpus = new.cpus }
 

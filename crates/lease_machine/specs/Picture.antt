@@ -21,8 +21,8 @@ pub record Cpu : Type 0 where
   pub number : ℕ
   pub caches : List (List OwnCacheState)
 
--- the arenas as they were set up, with their names, and what the stock has of each, both in order of
--- setup; the CPUs in order of making, and the number of the one that is selected; the book
+-- the arenas as they were set up, with their names, and what the stock has of each, both in order
+-- of setup; the CPUs in order of making, and the number of the one that is selected; the book
 pub record Picture : Type 0 where
   pub tree : List TreeArena
   pub spaces : List SpaceState
@@ -77,9 +77,9 @@ pub record AreCpus (spaces : List SpaceState) (cpus : List Cpu) (selected : ℕ)
   pub numbers : IsDistinct nat_eq (map (λ c. c.number) cpus)
   pub there : find (is_cpu selected) cpus ≢ None
 
--- What is so between any two lines: the stock is set up as the tree says; each unit is accounted for,
--- nothing being in a hand; the free ranges of each arena are the longest runs; and the book is what
--- is read off what happened to it.
+-- What is so between any two lines: the stock is set up as the tree says; each unit is accounted
+-- for, nothing being in a hand; the free ranges of each arena are the longest runs; and the book is
+-- what is read off what happened to it.
 pub record IsPicture (d : Picture) : Type 0 where
   pub tree : IsTree d.tree
   pub plans : plans_of d.spaces ≡ plans_for d.tree

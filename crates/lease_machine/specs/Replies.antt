@@ -36,7 +36,8 @@ again_of id = reply.Again
     (record { client = id.client; incarnation = id.incarnation; number = id.number })
 
 -- the new request is settled by a refusal
-pub record SettlesRefusal (id : RequestId) (why : Refusal) (old new : Picture) (r : Reply) : Type 0 where
+pub record SettlesRefusal (id : RequestId) (why : Refusal) (old new : Picture) (r : Reply)
+    : Type 0 where
   pub receipt : ReceiptState
   pub refused : IsRefused old.book new.book id why receipt
   pub reply : r ≡ reply_of_settled old id (Refuse why)

@@ -1,5 +1,6 @@
 -- What a request for a lease can be served with.
-use Rattle.std.specs.Prelude.{◌≡◌, ◌≢◌, ◌⊎◌, ℕ, ◌+◌, ◌*◌, ◌≤◌, List, [], slice_get, Option, Some, None}
+use Rattle.std.specs.Prelude.{◌≡◌, ◌≢◌, ◌⊎◌, ℕ, ◌+◌, ◌*◌, ◌≤◌, List, [], slice_get, Option}
+use Rattle.std.specs.Prelude.{Some, None}
 use Rattle.std.specs.List.{find}
 use Rattle.deed_core.specs.Extent.{Covers}
 use Rattle.deed_core.specs.Tag.{Tag}
@@ -45,8 +46,8 @@ pub record CacheFor (d : Picture) (place : ℕ) (x : TreeArena) (q : Request)
   pub shared : IsCacheAt d.spaces place cache c
   pub own : IsOwnAt (selected_caches d) place cache o
 
--- the selected CPU can take a chunk: one of its rounds, one of a full magazine of the depot's, which
--- is of the size of its own, or an idle one of a slab
+-- the selected CPU can take a chunk: one of its rounds, one of a full magazine of the depot's,
+-- which is of the size of its own, or an idle one of a slab
 abbrev pub CanTake : QuantumCacheState → OwnCacheState → Type 0
 CanTake c o = (own_rounds o ≢ [])
     ⊎ ((o.cpu.size ≡ c.depot.size) × (c.depot.full ≢ []))
