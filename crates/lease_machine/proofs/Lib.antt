@@ -1,5 +1,6 @@
 pub mod Places
 pub mod Repeats
+pub mod Agreeing
 pub mod Fitting
 pub mod Rooms
 pub mod Freed

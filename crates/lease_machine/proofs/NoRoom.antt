@@ -10,6 +10,10 @@ use Rattle.tag_arena.specs.ArenaState.{spans_of}
 use Rattle.tag_arena.specs.Layout.{IsRun}
 use Rattle.tag_arena.specs.Place.{ServesIn}
 use Rattle.arena_tree.specs.declared.trees.TreeArena.{TreeArena}
+use Rattle.arena_tree.specs.declared.levels.Level.{Level}
+use Rattle.arena_tree.specs.Chains.{amount_of}
+use Rattle.quantum_cache.specs.Caches.{chain_in}
+use Rattle.deed_core.specs.Request.{plain_of}
 use Rattle.stock.specs.Spaces.{SpaceState, SpacePlan, plan_of, plans_of, quantum_of}
 use Rattle.stock.specs.Setups.{plan_for, plans_for}
 use Rattle.lease_terms.specs.Requests.{RequestId}
@@ -33,12 +37,12 @@ use Rattle.lease_book.specs.Account.{Account}
 use Rattle.lease_book.specs.BookState.{BookState, HasHistory, account_in, or_nobody, leased, leased_by}
 use Rattle.lease_book.proofs.LawProofs.{entered_changes}
 use Rattle.lease_machine.specs.Picture.{Picture, IsPicture, Finds}
-use Rattle.lease_machine.specs.Moves.{HasPlace}
+use Rattle.lease_machine.specs.Moves.{HasPlaceUp}
 use Rattle.lease_machine.specs.Serving.{CanServe}
 use Rattle.lease_machine.specs.Replies.{SettlesRefusal, IsKnownReply, IsKeptReply}
 use Rattle.lease_machine.specs.Machine.{NewLease, RefusesLease, Grants, HelloStep, Sweeps, AnswersLine, demand_of}
 use Rattle.lease_machine.specs.AnswerLaws.{written}
-use Rattle.lease_machine.specs.RoomLaws.{FindsNoRoom, NamesArena, NothingIsKept, NoFitMeansTaken, FreedIsWhole, FirstLeaseIsServed, refusal_to}
+use Rattle.lease_machine.specs.RoomLaws.{FindsNoRoom, NamesArena, NothingIsKept, NoFitMeansTaken, NoFitMeansTakenUp, HasRunUp, FreedIsWhole, FirstLeaseIsServed, refusal_to}
 use Rattle.lease_machine.proofs.Repeats.{request_answer, history_of}
 use Rattle.lease_machine.proofs.Fitting.{not_known}
 use Rattle.lease_machine.proofs.Rooms.{run_serves, place_serves}
@@ -127,6 +131,22 @@ no_fit_means_taken old new id l x s is named found run base free serves =
       | inl known ↦ not_known old id a.0 found.fresh known.0
       | inr does ↦ new_no_fit id old new l a.0 does.1 (sym a.1 ∙ found.said) named.place x named.finds can
     ])
+
+-- what runs serve, the arenas of the chain do
+runs_up : (d : Picture) → IsPicture d → (chain : List Level) (n : ℕ) → HasRunUp d.spaces chain n → HasPlaceUp d.spaces chain n
+runs_up d is [] n has = absurd has
+runs_up d is (l ∷ up) n has = elim has [
+  | inl run ↦ inl (run.0, run.1, (run.2.1, run_serves run.0.arena (is.units.parts l.id run.0 run.1).sound (plain_of n) run.2.0 run.2.1 run.2.2 run.2.3))
+  | inr above ↦ inr (runs_up d is up (amount_of l up n) above)
+]
+
+pub no_fit_means_taken_up : NoFitMeansTakenUp
+no_fit_means_taken_up old new id l x place is finds plain found has =
+    let a = request_answer old new id (ops.Lease l) found.line found.text found.read found.step in
+    elim a.2 [
+      | inl known ↦ not_known old id a.0 found.fresh known.0
+      | inr does ↦ new_no_fit id old new l a.0 does.1 (sym a.1 ∙ found.said) place x finds (inr (inl (plain, runs_up old is (chain_in old.tree place) l.size has)))
+    ]
 
 pub freed_is_whole : FreedIsWhole
 freed_is_whole old new id l x s is kept named span base own serves found =

@@ -82,7 +82,7 @@ request_again d new id op k r is step = elim step [
 ]
 
 -- a reply that is kept is of the last number
-known_last : (d : Picture) (id : RequestId) (r : Reply) → IsKept r → IsKnownReply d id r → (k : Kept) × IsLast d.book id k × (r ≡ reply_to (arena_named d.tree) id k.reply)
+pub known_last : (d : Picture) (id : RequestId) (r : Reply) → IsKept r → IsKnownReply d id r → (k : Kept) × IsLast d.book id k × (r ≡ reply_to (arena_named d.tree) id k.reply)
 known_last d id r is known = by r is known
   where
     at : (x : Reply) → IsKeptReply d id x → (k : Kept) × IsLast d.book id k × (x ≡ reply_to (arena_named d.tree) id k.reply)

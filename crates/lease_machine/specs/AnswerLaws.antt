@@ -63,6 +63,15 @@ LinesRepeat = (old mid late new : Picture) (id : RequestId) (op again : Op)
     → IsRequestLine repeat id again → LeaseStep late repeat bytes new
     → ((bytes ≡ text) × (new ≡ late)) ⊎ IsUnkept text
 
+-- Any two answers to one request that settle it are the same bytes, whatever lines come between, the
+-- client's own among them.
+abbrev pub AnswersAgree : Type 0
+AnswersAgree = (old mid late new : Picture) (id : RequestId) (op again : Op)
+    (line text between repeat bytes : List ℕ) (frames : List Frame) → IsPicture old
+    → IsRequestLine line id op → LeaseStep old line text mid → Runs mid frames between late
+    → IsRequestLine repeat id again → LeaseStep late repeat bytes new
+    → (bytes ≡ text) ⊎ (IsUnkept text ⊎ IsUnkept bytes)
+
 -- what is granted is of the arena that the line names, and fits what it asks
 abbrev pub FitsLine : Picture → LeaseLine → Reply → Type 0
 FitsLine d l (reply.Granted g) = (g.arena ≡ l.arena) × ((place : ℕ) × (x : TreeArena)

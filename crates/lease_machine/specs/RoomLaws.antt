@@ -1,10 +1,15 @@
 -- When a request is refused for want of room.
-use Rattle.std.specs.Prelude.{◌≡◌, ◌≢◌, ℕ, List, [], All, Contains, slice_get, Some, Ok}
+use Rattle.std.specs.Prelude.{◌≡◌, ◌≢◌, ◌⊎◌, ℕ, List, [], ◌∷◌, All, Contains, slice_get, Some, Ok}
 use Rattle.deed_core.specs.Holding.{Holding}
+use Rattle.deed_core.specs.Request.{IsPlain, plain_of}
+use Rattle.deed_core.specs.declared.requests.Request.{Request}
 use Rattle.tag_arena.specs.ArenaState.{spans_of}
 use Rattle.tag_arena.specs.Layout.{IsRun}
 use Rattle.tag_arena.specs.Place.{ServesIn}
 use Rattle.arena_tree.specs.declared.trees.TreeArena.{TreeArena}
+use Rattle.arena_tree.specs.declared.levels.Level.{Level}
+use Rattle.arena_tree.specs.Chains.{amount_of}
+use Rattle.quantum_cache.specs.Caches.{chain_in}
 use Rattle.stock.specs.Spaces.{SpaceState}
 use Rattle.stock.specs.Endings.{IsReaped}
 use Rattle.stock_audit.specs.Outside.{all_rounds_out}
@@ -52,6 +57,25 @@ NoFitMeansTaken = (old new : Picture) (id : RequestId) (l : LeaseLine) (x : Tree
     (s : SpaceState) → IsPicture old → NamesArena old l x s → FindsNoRoom old new id l
     → (run : Holding) (base : ℕ) → IsRun (spans_of s.arena) s.arena.allocated run
     → ¬ ServesIn x.quantum (demand_of l) run base
+
+-- a run of free units of the arena at the place serves the request
+abbrev pub HasRun : List SpaceState → ℕ → Request → Type 0
+HasRun spaces place q = (s : SpaceState) × (slice_get spaces place ≡ Some s)
+    × ((run : Holding) × (base : ℕ) × IsRun (spans_of s.arena) s.arena.allocated run
+    × ServesIn s.arena.quantum q run base)
+
+-- so does one of an arena of the chain: of the first so many units, of each other what the one
+-- below it would import for them
+abbrev pub HasRunUp : List SpaceState → List Level → ℕ → Type 0
+HasRunUp spaces [] n = ⊥
+HasRunUp spaces (l ∷ up) n =
+    HasRun spaces l.id (plain_of n) ⊎ HasRunUp spaces up (amount_of l up n)
+
+-- and where the request isn't constrained, none of a source serves what would be imported for it
+abbrev pub NoFitMeansTakenUp : Type 0
+NoFitMeansTakenUp = (old new : Picture) (id : RequestId) (l : LeaseLine) (x : TreeArena) (place : ℕ)
+    → IsPicture old → Finds old l.arena place x → IsPlain (demand_of l) → FindsNoRoom old new id l
+    → ¬ HasRunUp old.spaces (chain_in old.tree place) l.size
 
 -- nothing is leased, no CPU and no depot has a round, and no slab is whole
 pub record NothingIsKept (d : Picture) : Type 0 where

@@ -2,8 +2,8 @@
 //! contracts are the laws, and `proofs/LawProofs.antt` hands their proofs on.
 ghost use Rattle.lease_machine.specs.Laws.{PicturesStay, SetupStays, UnitsHaveOnePlace};
 ghost use Rattle.lease_machine.specs.Laws.{LeasesAreApart, AuditTellsLeases, AuditIsWhole};
-ghost use Rattle.lease_machine.specs.AnswerLaws.{LinesRepeat, GrantsFit, KeptGrantsFit};
-ghost use Rattle.lease_machine.specs.RoomLaws.{NoFitMeansTaken, FreedIsWhole, FirstLeaseIsServed};
+ghost use Rattle.lease_machine.specs.AnswerLaws.{LinesRepeat, AnswersAgree, GrantsFit, KeptGrantsFit};
+ghost use Rattle.lease_machine.specs.RoomLaws.{NoFitMeansTaken, NoFitMeansTakenUp, FreedIsWhole, FirstLeaseIsServed};
 
 /// After any lines each unit is in one place, and no two leases of one space overlap.
 pub fn place_laws()
@@ -19,9 +19,10 @@ pub fn audit_laws()
     ensures whole { AuditIsWhole }
 {}
 
-/// A request that comes again gets the bytes that it got.
+/// A request that comes again gets the bytes that it got, and is never settled by others.
 pub fn repeat_laws()
-    ensures { LinesRepeat }
+    ensures repeats { LinesRepeat }
+    ensures agree { AnswersAgree }
 {}
 
 /// Each grant fits its own line; so does each that is kept, what it was made for.
@@ -34,6 +35,7 @@ pub fn grant_laws()
 /// however one likes, once all has come back, and at its first lease.
 pub fn no_fit_laws()
     ensures taken { NoFitMeansTaken }
+    ensures taken_up { NoFitMeansTakenUp }
     ensures freed { FreedIsWhole }
     ensures first { FirstLeaseIsServed }
 {}
