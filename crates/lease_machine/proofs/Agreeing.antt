@@ -1,0 +1,171 @@
+-- A request is settled once, whatever lines come.
+use Rattle.std.proofs.Common.{◌≡◌, ◌≢◌, ◌⊎◌, ℕ, ◌+◌, ◌<◌, refl, sym, subst, ap, ◌∙◌, inl, inr, List, [], ◌∷◌, ◌++◌, Option, Some, None, Ok, Err, Result, arith}
+use Rattle.std.proofs.lemmas.List.{append_assoc}
+use Rattle.deed_core.specs.Tag.{Tag}
+use Rattle.arena_tree.specs.declared.trees.TreeArena.{TreeArena}
+use Rattle.lease_terms.specs.Requests.{RequestId}
+use Rattle.lease_proto.specs.declared.faults.LineFault.{LineFault}
+use Rattle.lease_proto.specs.declared.lines.Line.{Line}
+use Rattle.lease_proto.specs.declared.lines.Line.TheVariants as lines
+use Rattle.lease_proto.specs.declared.lines.HelloLine.{HelloLine}
+use Rattle.lease_proto.specs.declared.lines.Op.{Op}
+use Rattle.lease_proto.specs.declared.lines.Op.TheVariants as ops
+use Rattle.lease_proto.specs.declared.operators.ServedLine.{ServedLine}
+use Rattle.lease_proto.specs.declared.operators.ServedLine.TheVariants as served
+use Rattle.lease_proto.specs.declared.replies.Reply.{Reply}
+use Rattle.lease_proto.specs.declared.replies.Reply.TheVariants as reply
+use Rattle.lease_proto.specs.Frames.{Frame}
+use Rattle.lease_proto.specs.Operators.{served_of}
+use Rattle.lease_book.specs.Entry.{Entry, Settlement, Settled, Hello, Swept, Grant, Refuse, Return}
+use Rattle.lease_book.specs.Receipts.{Kept}
+use Rattle.lease_book.specs.Account.{Account, number_of}
+use Rattle.lease_book.specs.History.{incarnation, account, last_in, outcome_of, AreOrderly}
+use Rattle.lease_book.specs.BookState.{BookState, IsHistory, Enters, account_in}
+use Rattle.lease_book.specs.Answers.{IsNew}
+use Rattle.lease_book.proofs.LawProofs.{account_is, last_outcome, outcomes_stay, numbers_settled_once}
+use Rattle.lease_history.specs.Told.{reply_to}
+use Rattle.lease_machine.specs.Picture.{Picture, IsPicture, arena_named}
+use Rattle.lease_machine.specs.Machine.{RequestStep, NewRequest, Sweeps, HelloStep, ClientStep, AnswersLine, demand_of}
+use Rattle.lease_machine.specs.Laws.{Runs}
+use Rattle.lease_machine.specs.AnswerLaws.{written, IsKept, AnswersAgree}
+use Rattle.lease_machine.proofs.Places.{setup_stays}
+use Rattle.lease_machine.proofs.Repeats.{IsLast, history_of, known_last, request_kept, request_answer, kept_or, operator_keeps}
+
+-- whatever history gives the old book, that and some entries more give the new one
+abbrev Grows : BookState → BookState → Type 0
+Grows old new = (es : List Entry) → IsHistory es old → (more : List Entry) × IsHistory (more ++ es) new
+
+grows_same : (old new : BookState) → new ≡ old → Grows old new
+grows_same old new same es is = ([], subst (IsHistory es) (sym same) is)
+
+grows_by : (e : Entry) (old new : BookState) → Enters e old new → Grows old new
+grows_by e old new entry es is = (e ∷ [], entry.history es is)
+
+grows_then : (old mid new : BookState) → Grows old mid → Grows mid new → Grows old new
+grows_then old mid new first second es is =
+    let a = first es is in
+    let b = second (a.0 ++ es) a.1 in
+    (b.0 ++ a.0, subst (λ (xs : List Entry). IsHistory xs new) (sym (append_assoc b.0 a.0 es)) b.1)
+
+abbrev BooksGrow : Picture → Picture → Type 0
+BooksGrow old new = Grows old.book new.book
+
+same_book : (old new : Picture) → new ≡ old → BooksGrow old new
+same_book old new same = grows_same old.book new.book (ap (λ (d : Picture). d.book) same)
+
+sweeps_grow : (c : ℕ) (ts : List Tag) (old new : Picture) → Sweeps c ts old new → BooksGrow old new
+sweeps_grow c [] old new same = same_book old new same
+sweeps_grow c (t ∷ ts) old new swept =
+    grows_then old.book swept.1.book new.book (grows_by (Swept swept.0.client swept.0.incarnation t.arena t.holding.range.base) old.book swept.1.book swept.2.ended.entry) (sweeps_grow c ts swept.1 new swept.4)
+
+hello_grows : (h : HelloLine) (old new : Picture) (r : Reply) → HelloStep h old new r → BooksGrow old new
+hello_grows h old new (reply.Welcome w) does =
+    let greets = does.1 in
+    grows_then old.book greets.greeted new.book (grows_by (Hello h.client h.incarnation) old.book greets.greeted greets.hello)
+    (sweeps_grow h.client greets.swept (record old { book = greets.greeted }) new greets.sweeps)
+hello_grows h old new (reply.Old o) does = same_book old new does.2
+hello_grows h old new (reply.Again a) does = same_book old new does.2
+hello_grows h old new (reply.Granted x) does = absurd does
+hello_grows h old new (reply.Released x) does = absurd does
+hello_grows h old new (reply.Refused x) does = absurd does
+hello_grows h old new (reply.Stale x) does = absurd does
+hello_grows h old new (reply.Gap x) does = absurd does
+hello_grows h old new (reply.Error x) does = absurd does
+
+lease_grows : (id : RequestId) (l : _) (old new : Picture) (r : Reply) → NewRequest id (ops.Lease l) old new r → BooksGrow old new
+lease_grows id l old new (reply.Granted g) does = grows_by (Settled id (Grant does.segment (record { quantum = does.arena.quantum; request = demand_of l }))) old.book new.book does.granted.entry
+lease_grows id l old new (reply.Refused x) does = grows_by (Settled id (Refuse does.0)) old.book new.book does.1.refused.entry
+lease_grows id l old new (reply.Again x) does = grows_same old.book new.book does.1.book
+lease_grows id l old new (reply.Released x) does = absurd does
+lease_grows id l old new (reply.Old x) does = absurd does
+lease_grows id l old new (reply.Stale x) does = absurd does
+lease_grows id l old new (reply.Gap x) does = absurd does
+lease_grows id l old new (reply.Welcome x) does = absurd does
+lease_grows id l old new (reply.Error x) does = absurd does
+
+release_grows : (id : RequestId) (l : _) (old new : Picture) (r : Reply) → NewRequest id (ops.Release l) old new r → BooksGrow old new
+release_grows id l old new (reply.Released p) does = grows_by (Settled id (Return does.1.place l.base)) old.book new.book does.1.released.entry
+release_grows id l old new (reply.Refused x) does = grows_by (Settled id (Refuse does.0)) old.book new.book does.1.refused.entry
+release_grows id l old new (reply.Granted x) does = absurd does
+release_grows id l old new (reply.Again x) does = absurd does
+release_grows id l old new (reply.Old x) does = absurd does
+release_grows id l old new (reply.Stale x) does = absurd does
+release_grows id l old new (reply.Gap x) does = absurd does
+release_grows id l old new (reply.Welcome x) does = absurd does
+release_grows id l old new (reply.Error x) does = absurd does
+
+new_grows : (id : RequestId) (op : Op) (old new : Picture) (r : Reply) → NewRequest id op old new r → BooksGrow old new
+new_grows id (ops.Lease l) old new r does = lease_grows id l old new r does
+new_grows id (ops.Release l) old new r does = release_grows id l old new r does
+
+client_grows : (line : Line) (old new : Picture) (r : Reply) → ClientStep line old new r → BooksGrow old new
+client_grows (lines.Hello h) old new r does = hello_grows h old new r does
+client_grows (lines.Request id op) old new r does = elim does [
+  | inl known ↦ same_book old new known.1
+  | inr fresh ↦ new_grows id op old new r fresh.1
+]
+
+answer_grows : (x : Result ServedLine LineFault) (old new : Picture) (text : List ℕ) → AnswersLine old x text new → BooksGrow old new
+answer_grows (Ok (served.Client l)) old new text does = client_grows l old new does.0 does.2
+answer_grows (Ok (served.Operator o)) old new text does = grows_same old.book new.book (operator_keeps o old new text does)
+answer_grows (Err fault) old new text does = same_book old new does.1
+
+run_grows : (frames : List Frame) (old new : Picture) (text : List ℕ) → Runs old frames text new → BooksGrow old new
+run_grows [] old new text run = same_book old new run.1
+run_grows (Ok line ∷ frames) old new text run = grows_then old.book run.2.book new.book (answer_grows (served_of line) old run.2 run.0 (run.3).answer) (run_grows frames run.2 new run.1 run.5)
+run_grows (Err fault ∷ frames) old new text run = run_grows frames old new run.0 run.2
+
+-- what is kept of the last number is its outcome
+last_is_outcome : (es : List Entry) (book : BookState) (id : RequestId) (k : Kept) → IsHistory es book → IsLast book id k → outcome_of id es ≡ Some k
+last_is_outcome es book id k history is =
+    let here : account_in id.client book ≡ account es id.client = account_is es book id.client history in
+    let at : id.incarnation ≡ incarnation id.client es = is.current ∙ ap (λ (a : Account). a.incarnation) here in
+    let last = sym (ap (λ (a : Account). a.kept) here) ∙ is.last in
+    let outcome = last_outcome es id.client (incarnation id.client es) k last in
+    let was : RequestId = record { client = id.client; incarnation = incarnation id.client es; number = k.number } in
+    let same : was ≡ id =
+    ap (λ (i : ℕ). record { client = id.client; incarnation = i; number = k.number }) (sym at) ∙ ap (λ (n : ℕ). record { client = id.client; incarnation = id.incarnation; number = n }) (sym is.number) in
+    subst (λ (q : RequestId). outcome_of q es ≡ Some k) same outcome
+
+-- a number that is new has none
+new_has_none : (es : List Entry) (book : BookState) (id : RequestId) → IsHistory es book → IsNew (account_in id.client book) id → outcome_of id es ≡ None
+new_has_none es book id history fresh =
+    let here : account_in id.client book ≡ account es id.client = account_is es book id.client history in
+    let at : id.incarnation ≡ incarnation id.client es = fresh.current ∙ ap (λ (a : Account). a.incarnation) here in
+    let next : id.number ≡ last_in id.client (incarnation id.client es) es + 1 = fresh.next ∙ ap (λ (a : Account). number_of a.kept + 1) here in
+    let below : last_in id.client id.incarnation es < id.number = subst (λ (i : ℕ). last_in id.client i es < id.number) (sym at) (omega (arith, next)) in
+    numbers_settled_once.unsettled es id below
+
+some_is_one : (o : Option Kept) (j k : Kept) → o ≡ Some j → o ≡ Some k → j ≡ k
+some_is_one o j k a b = (let e : Some j ≡ Some k = sym a ∙ b in cc)
+
+not_none : (o : Option Kept) (k : Kept) → o ≡ None → o ≡ Some k → ⊥
+not_none None k none some = (let e : None ≡ Some k = some in cc)
+not_none (Some j) k none some = (let e : Some j ≡ None = none in cc)
+
+pub answers_agree : AnswersAgree
+answers_agree old mid late new id op again line text between repeat bytes frames is read first run read_again second =
+    let a = request_answer old mid id op line text read first in
+    let b = request_answer late new id again repeat bytes read_again second in
+    elim (kept_or a.0) [
+      | inr not ↦ inr (inl (a.0, a.1, not))
+      | inl is_kept ↦ elim (kept_or b.0) [
+        | inr not ↦ inr (inr (b.0, b.1, not))
+        | inl also ↦
+            let last = request_kept old mid id (history_of old is) op a.0 a.2 is_kept in
+            let es : List Entry = first.picture.book.entries in
+            let outcome : outcome_of id es ≡ Some last.0 = last_is_outcome es mid.book id last.0 first.picture.book.history last.1 in
+            let grown = run_grows frames mid late between run es first.picture.book.history in
+            let all : List Entry = grown.0 ++ es in
+            let stays : outcome_of id all ≡ Some last.0 = outcomes_stay.later grown.0 es id last.0 grown.1.orderly outcome in
+            elim b.2 [
+              | inr fresh ↦ absurd (not_none (outcome_of id all) last.0 (new_has_none all late.book id grown.1 fresh.0) stays)
+              | inl known ↦
+                  let then_last = known_last late id b.0 also known.0 in
+                  let one : then_last.0 ≡ last.0 = some_is_one (outcome_of id all) then_last.0 last.0 (last_is_outcome all late.book id then_last.0 grown.1 then_last.1) stays in
+                  let tree : late.tree ≡ old.tree = (setup_stays mid late frames between run).tree ∙ first.setup.tree in
+                  let same : b.0 ≡ a.0 = then_last.2 ∙ ap (λ (k : Kept). reply_to (arena_named late.tree) id k.reply) one ∙ ap (λ (xs : List TreeArena). reply_to (arena_named xs) id last.0.reply) tree ∙ sym last.2 in
+                  inl (b.1 ∙ ap written same ∙ sym a.1)
+            ]
+      ]
+    ]

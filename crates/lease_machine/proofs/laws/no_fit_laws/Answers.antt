@@ -1,0 +1,14 @@
+use Rattle.lease_machine.proofs.NoRoom.{no_fit_means_taken, no_fit_means_taken_up, freed_is_whole, first_lease_is_served}
+use Rattle.lease_machine.proofs.laws.no_fit_laws.Goals as goal
+
+pub returns-clause-taken : goal.returns-clause-taken
+returns-clause-taken c = no_fit_means_taken
+
+pub returns-clause-freed : goal.returns-clause-freed
+returns-clause-freed c = freed_is_whole
+
+pub returns-clause-first : goal.returns-clause-first
+returns-clause-first c = first_lease_is_served
+
+pub returns-clause-taken_up : goal.returns-clause-taken_up
+returns-clause-taken_up c = no_fit_means_taken_up
