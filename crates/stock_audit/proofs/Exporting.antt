@@ -25,7 +25,7 @@ module _ (k : ℕ) (g : Tag → ℕ) where
   pub weighs_here : (t : Tag) → t.arena ≡ k → of_arena k g t ≡ g t
   weighs_here t is = (let test : nat_eq t.arena k ≡ true = grind (arith, nat_tests) in ap (λ b. cond b (g t) 0) test)
 
-  weighs_there : (t : Tag) → t.arena ≢ k → of_arena k g t ≡ 0
+  pub weighs_there : (t : Tag) → t.arena ≢ k → of_arena k g t ≡ 0
   weighs_there t other = (let test : nat_eq t.arena k ≡ false = grind (arith, nat_tests) in ap (λ b. cond b (g t) 0) test)
 
   -- of segments that are of one arena
