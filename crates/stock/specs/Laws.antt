@@ -1,10 +1,10 @@
 -- What follows from the accounts of a stock.
-use Rattle.std.specs.Prelude.{◌≡◌, ℕ, ◌+◌, ◌%◌, ◌<◌, ◌≤◌, List, ◌∷◌, AllPairs, length, slice_get}
-use Rattle.std.specs.Prelude.{Some, None}
+use Rattle.std.specs.Prelude.{◌≡◌, ◌≢◌, ℕ, ◌+◌, ◌%◌, ◌<◌, ◌≤◌, List, ◌∷◌, AllPairs, length}
+use Rattle.std.specs.Prelude.{slice_get, sum_by, Some, None}
 use Rattle.deed_core.specs.Extent.{Covers}
 use Rattle.deed_core.specs.Tag.{Tag}
 use Rattle.deed_core.specs.Covering.{covering_held, units_held}
-use Rattle.deed_core.specs.Weights.{Gains, Loses, WeighSame}
+use Rattle.deed_core.specs.Weights.{Gains, Loses, WeighSame, of_arena}
 use Rattle.deed_core.specs.declared.segments.Route.TheVariants.{Direct, Cached}
 use Rattle.tag_arena.specs.ArenaState.{spans_of, OnQuantum}
 use Rattle.tag_arena.specs.Calls.{IsClear}
@@ -12,7 +12,7 @@ use Rattle.slab_layer.specs.Calls.{OverlapsSlab}
 use Rattle.magazine_layer.specs.Magazines.{CpuCacheState, cache_rounds}
 use Rattle.stock.specs.Spaces.{SpaceState, QuantumCacheState, IsCacheAt, HasCache, plans_of}
 use Rattle.stock.specs.Stocks.{IsStock}
-use Rattle.stock.specs.Accounts.{Accounts, IsAccounted, Frames}
+use Rattle.stock.specs.Accounts.{Accounts, IsAccounted, Frames, allocated}
 use Rattle.stock.specs.Steps.{IsTaggedIn, IsOutOf}
 use Rattle.stock.specs.Sums.{Out, all_out, places_of, all_places, total, lengths_of}
 
@@ -121,3 +121,14 @@ PlansStay = (old new : List SpaceState) → plans_of new ≡ plans_of old → (l
 abbrev pub CachesStay : Type 0
 CachesStay = (old new : List SpaceState) → plans_of new ≡ plans_of old → (k j : ℕ)
     → HasCache old k j → HasCache new k j
+
+-- a weight of one arena's segments weighs those as before, and others nothing
+abbrev pub ArenaWeighs : Type 0
+ArenaWeighs = (p : ℕ) (f : Tag → ℕ) (t : Tag) → (t.arena ≡ p → of_arena p f t ≡ f t)
+    × (t.arena ≢ p → of_arena p f t ≡ 0)
+
+-- of what all arenas have allocated, those are what that arena has
+abbrev pub AllocatedOfArena : Type 0
+AllocatedOfArena = (spaces : List SpaceState) → IsStock spaces → (p : ℕ) (s : SpaceState)
+    → slice_get spaces p ≡ Some s → (f : Tag → ℕ)
+    → sum_by (allocated (of_arena p f)) spaces ≡ allocated f s

@@ -3,6 +3,7 @@
 ghost use Rattle.stock.specs.Laws.{IsInOnePlace, AddsUp, AlwaysTagged, AlwaysOut, AlwaysImports};
 ghost use Rattle.stock.specs.Laws.{AlwaysSlab, OutIsApart, OutWeighs, FramesThen};
 ghost use Rattle.stock.specs.Laws.{SourceStandsBefore, PlansStay, CachesStay};
+ghost use Rattle.stock.specs.Laws.{ArenaWeighs, AllocatedOfArena};
 ghost use Rattle.stock.specs.Endings.{EndsOnceReaped, EndsWithNothingOut};
 ghost use Rattle.stock.specs.Laws.{PopFrames, PushFrames, ChangeFrames};
 
@@ -49,4 +50,10 @@ pub fn chain_laws()
     ensures before { SourceStandsBefore }
     ensures plans { PlansStay }
     ensures caches { CachesStay }
+{}
+
+/// Weights of one arena's segments, and what that arena has allocated of all that arenas have.
+pub fn weight_laws()
+    ensures arena { ArenaWeighs }
+    ensures allocated { AllocatedOfArena }
 {}

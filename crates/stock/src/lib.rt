@@ -27,7 +27,9 @@ mod slab_steps;
 mod spaces;
 mod stocks;
 
-pub use laws::{apart_laws, chain_laws, end_laws, frame_laws, never_refused_laws, one_place_laws};
+pub use laws::{
+    apart_laws, chain_laws, end_laws, frame_laws, never_refused_laws, one_place_laws, weight_laws,
+};
 pub use own_caches::OwnCache;
 pub use setups::StockSetup;
 pub use spaces::{QuantumCache, Space};

@@ -19,7 +19,7 @@ use Rattle.stock_audit.proofs.Exporting.{imported_weigh, children_weigh, exporte
 
 module _ (spaces : List SpaceState) (out : Outside) (a : IsAccountedFor spaces out) (u : ℕ) where
   -- a child's spans are part of what its source exported
-  part_of_exported : (k p : ℕ) (s from : SpaceState) → slice_get spaces k ≡ Some s → s.source ≡ Some p → slice_get spaces p ≡ Some from → covering_held u (spans_of s.arena) ≤ (unit_of_arena u spaces out from).exported
+  pub part_of_exported : (k p : ℕ) (s from : SpaceState) → slice_get spaces k ≡ Some s → s.source ≡ Some p → slice_get spaces p ≡ Some from → covering_held u (spans_of s.arena) ≤ (unit_of_arena u spaces out from).exported
   part_of_exported k p s from at source there =
       let f = covers_held u in
       omega (
@@ -37,7 +37,7 @@ module _ (spaces : List SpaceState) (out : Outside) (a : IsAccountedFor spaces o
           ap (λ o. cond (is_source p o) (covering_held u (spans_of s.arena)) 0) source ∙ ap (λ b. cond b (covering_held u (spans_of s.arena)) 0) test
 
   -- what is exported is part of the spans
-  exported_in_spans : (p : ℕ) (from : SpaceState) → slice_get spaces p ≡ Some from → (unit_of_arena u spaces out from).exported ≤ covering_held u (spans_of from.arena)
+  pub exported_in_spans : (p : ℕ) (from : SpaceState) → slice_get spaces p ≡ Some from → (unit_of_arena u spaces out from).exported ≤ covering_held u (spans_of from.arena)
   exported_in_spans p from there = (let all = unit_adds_up spaces out a p from there u in omega (arith, all.0))
 
   pub source_stands : (k p : ℕ) (s : SpaceState) → slice_get spaces k ≡ Some s → s.source ≡ Some p → (from : SpaceState) × (slice_get spaces p ≡ Some from)

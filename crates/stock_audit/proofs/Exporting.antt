@@ -8,13 +8,14 @@ use Rattle.deed_core.specs.Tag.{Tag}
 use Rattle.deed_core.specs.Selections.{came_direct}
 use Rattle.deed_core.specs.Weights.{only, of_arena}
 use Rattle.deed_core.proofs.LawProofs.{sum_by-map, sum_by-flat_map, sum_by-filter, sum_at, sum_none, sum_alike, all_at, all_from, mapped}
-use Rattle.tag_arena.specs.ArenaState.{spans_of, ranges_of, direct}
+use Rattle.tag_arena.specs.ArenaState.{spans_of}
 use Rattle.tag_arena.proofs.LawProofs.{tags_weigh}
 use Rattle.slab_layer.specs.Cache.{span_tag, span_tags}
 use Rattle.stock.specs.Spaces.{SpaceState, QuantumCacheState, quanta_of}
 use Rattle.stock.specs.Stocks.{IsQuantumCache, IsFrom, IsSpaceAt, IsStock}
-use Rattle.stock.specs.Accounts.{allocated, imported, slabs}
+use Rattle.stock.specs.Accounts.{imported, slabs}
 use Rattle.stock.specs.Sums.{held, held_of}
+use Rattle.stock.proofs.LawProofs.{arena_weighs, allocated_of_arena}
 use Rattle.stock_audit.specs.Outside.{segments_out}
 use Rattle.stock_audit.specs.Chains.{is_source, is_child_of, spans_of_children, spans_of_slabs}
 use Rattle.stock_audit.specs.Laws.{ExportedIsChildren, AllocatedIsOut}
@@ -23,10 +24,10 @@ use Rattle.stock_audit.proofs.Placing.{held_weigh}
 -- a weight of one arena's segments
 module _ (k : ℕ) (g : Tag → ℕ) where
   pub weighs_here : (t : Tag) → t.arena ≡ k → of_arena k g t ≡ g t
-  weighs_here t is = (let test : nat_eq t.arena k ≡ true = grind (arith, nat_tests) in ap (λ b. cond b (g t) 0) test)
+  weighs_here = (λ t. (arena_weighs k g t).0)
 
-  weighs_there : (t : Tag) → t.arena ≢ k → of_arena k g t ≡ 0
-  weighs_there t other = (let test : nat_eq t.arena k ≡ false = grind (arith, nat_tests) in ap (λ b. cond b (g t) 0) test)
+  pub weighs_there : (t : Tag) → t.arena ≢ k → of_arena k g t ≡ 0
+  weighs_there = (λ t. (arena_weighs k g t).1)
 
   -- of segments that are of one arena
   pub all_here : (a : ℕ) (xs : List Tag) → All (λ t. t.arena ≡ a) xs → a ≡ k → sum_by (of_arena k g) xs ≡ sum_by g xs
@@ -35,26 +36,11 @@ module _ (k : ℕ) (g : Tag → ℕ) where
   pub none_here : (a : ℕ) (xs : List Tag) → All (λ t. t.arena ≡ a) xs → a ≢ k → sum_by (of_arena k g) xs ≡ 0
   none_here a xs home other = sum_none (of_arena k g) xs (λ i x at. weighs_there x (λ e. other (sym (all_at (λ t. t.arena ≡ a) xs i x home at) ∙ e)))
 
-  -- what is allocated in one arena
-  allocated_here : (s : SpaceState) → s.arena.id ≡ k → allocated (of_arena k g) s ≡ allocated g s
-  allocated_here s is =
-      let test : nat_eq s.arena.id k ≡ true = grind (arith, nat_tests) in
-      tags_weigh s.arena (of_arena k g) ∙ ap (λ b. sum_by (λ (h : Holding). cond b (g (direct s.arena.id h)) 0) (ranges_of s.arena.allocated)) test ∙ sym (tags_weigh s.arena g)
-
-  allocated_there : (s : SpaceState) → s.arena.id ≢ k → allocated (of_arena k g) s ≡ 0
-  allocated_there s other =
-      let test : nat_eq s.arena.id k ≡ false = grind (arith, nat_tests) in
-      tags_weigh s.arena (of_arena k g) ∙ ap (λ b. sum_by (λ (h : Holding). cond b (g (direct s.arena.id h)) 0) (ranges_of s.arena.allocated)) test
-      ∙ sum_none (λ (h : Holding). 0) (ranges_of s.arena.allocated) (λ j x at. refl)
-
   -- the spans of a cache's slabs are of its arena
   spans_home : (a n quantum : ℕ) (c : QuantumCacheState) → IsQuantumCache a n quantum c → All (λ t. t.arena ≡ a) (span_tags c.slab)
   spans_home a n quantum c is = all_from (λ t. t.arena ≡ a) (span_tags c.slab) (λ i x at. (let there = mapped (span_tag c.slab.arena) c.slab.slabs i x at in ap (λ (t : Tag). t.arena) there.2 ∙ is.arena))
 
   module _ (spaces : List SpaceState) (stock : IsStock spaces) (s : SpaceState) (at : slice_get spaces k ≡ Some s) where
-    allocated_of : sum_by (allocated (of_arena k g)) spaces ≡ allocated g s
-    allocated_of = sum_at (allocated (of_arena k g)) spaces k s at (λ j y there ne. allocated_there y (λ e. ne (sym (stock j y there).id ∙ e))) ∙ allocated_here s (stock k s at).id
-
     slabs_of : sum_by (slabs (of_arena k g)) spaces ≡ slabs g s
     slabs_of = sum_at (slabs (of_arena k g)) spaces k s at
         (λ i x there ne. sum_none (λ (c : QuantumCacheState). sum_by (of_arena k g) (span_tags c.slab)) x.caches (λ j c among. none_here i (span_tags c.slab) (spans_home i (j + 1) x.arena.quantum c ((stock i x there).caches j c among)) ne))
@@ -104,7 +90,7 @@ allocated_is_out spaces out a k s at f =
     omega (
       arith,
       a.accounts.exports (of_arena k g),
-      allocated_of k g spaces a.parts s at,
+      allocated_of_arena spaces a.parts k s at g,
       slabs_of k g spaces a.parts s at,
       children_weigh spaces a.parts k f,
       tags_weigh s.arena g,

@@ -6,6 +6,7 @@ mod Climbing
 mod Tops
 mod WholeSpaces
 mod Reaching
+mod Giving
 mod Counting
 mod Auditing
 pub mod LawProofs

@@ -58,7 +58,7 @@ module _ (spaces : List SpaceState) (out : Outside) (a : IsAccountedFor spaces o
       (λ s. either_counted (is_under tops r s) (f s) (g s) (unexported (unit_of_arena u spaces out s)) (apart s)) in
       omega (arith, each, sum_add (only (is_under tops r) f) (only (is_under tops r) g) spaces)
 
-  never_both : (j k : ℕ) (s x : SpaceState) → slice_get spaces j ≡ Some s → HasTop spaces j r → 0 < f s → slice_get spaces k ≡ Some x → HasTop spaces k r → 0 < g x → ⊥
+  pub never_both : (j k : ℕ) (s x : SpaceState) → slice_get spaces j ≡ Some s → HasTop spaces j r → 0 < f s → slice_get spaces k ≡ Some x → HasTop spaces k r → 0 < g x → ⊥
   never_both j k s x at up some there over more =
       let first = top_is_root spaces j r up in
       let all = space_unit_adds_up spaces out a tops (tops_stand spaces out a).1 r first.0 first.1 first.2 u in

@@ -1,7 +1,10 @@
 -- What is reachable up a chain of sources.
 use Rattle.std.specs.Prelude.{◌≡◌, ◌⊎◌, ℕ, ◌+◌, ◌==◌, ◌<◌, Bool, false, List, filter, flat_map}
 use Rattle.std.specs.Prelude.{slice_get, Option, Some, None}
+use Rattle.deed_core.specs.Extent.{Extent, Covers}
 use Rattle.deed_core.specs.Holding.{Holding}
+use Rattle.deed_core.specs.Request.{Fits}
+use Rattle.deed_core.specs.declared.requests.Request.{Request}
 use Rattle.deed_core.specs.Covering.{covers_held, covering_held}
 use Rattle.tag_arena.specs.ArenaState.{spans_of}
 use Rattle.slab_layer.specs.Cache as slab_layer
@@ -48,6 +51,12 @@ IsCached x = 0 < x.slab + x.magazine
 -- its caches
 abbrev pub IsReachable : List SpaceState → Outside → ℕ → SpaceState → ℕ → Type 0
 IsReachable spaces out k s u = IsFreeFor spaces u k ⊎ IsCached (unit_of_arena u spaces out s)
+
+-- the range fits the request, and the arena may serve it: each of its units is reachable
+pub record FitsIn (spaces : List SpaceState) (out : Outside) (k : ℕ) (s : SpaceState)
+    (q : Request) (e : Extent) : Type 0 where
+  pub fits : Fits s.arena.quantum q e.base e.len
+  pub reachable : (u : ℕ) → Covers e u → IsReachable spaces out k s u
 
 -- the arena imports from this one
 abbrev pub is_source : ℕ → Option ℕ → Bool

@@ -1,13 +1,14 @@
 -- The steps that a stock and the segments out of it take together.
-use Rattle.std.specs.Prelude.{◌≡◌, ℕ, List, ◌++◌, All, set, slice_get, Some}
+use Rattle.std.specs.Prelude.{◌≡◌, ◌≢◌, ◌⊎◌, ℕ, List, ◌++◌, All, set, slice_get, sum_by, Some}
 use Rattle.deed_core.specs.Tag.{Tag}
-use Rattle.deed_core.specs.Weights.{WeighSame, Gains, Loses}
+use Rattle.deed_core.specs.Weights.{WeighSame, Gains, Loses, of_arena}
 use Rattle.stock.specs.Spaces.{SpaceState, plans_of}
 use Rattle.stock.specs.Stocks.{IsStock}
 use Rattle.stock.specs.Accounts.{Frames}
 use Rattle.stock.specs.OwnCaches.{OwnCacheState, IsOwnCache, IsAtPlaceOf, own_rounds}
 use Rattle.stock_audit.specs.Outside.{Outside, all_rounds_out}
 use Rattle.stock_audit.specs.Accounted.{IsOwnIn}
+use Rattle.stock_audit.specs.Chains.{IsUpFrom}
 
 -- a call of a stock was given some segments and answered others: what the stock's own law and the
 -- clauses `frame` and `fixed` of each call say
@@ -65,6 +66,25 @@ pub record ReleaseMove (t : Tag) (before after : Outside) : Type 0 where
   pub hands : Gains before.hands after.hands t
   pub leases : Loses before.leases after.leases t
   pub cpus : after.cpus ≡ before.cpus
+
+-- a segment of the arena at the place k came into a hand, by whatever steps on the arenas up its
+-- chain and on its own caches, of the stock and of CPUs: all other arenas, caches and CPUs' rounds
+-- are as before, and so are owned spans and leases
+pub record IsGiven (k : ℕ) (t : Tag) (old new : List SpaceState) (before after : Outside)
+    : Type 0 where
+  pub home : t.arena ≡ k
+  pub fixed : plans_of new ≡ plans_of old
+  pub arenas : (b : ℕ) (s x : SpaceState) → slice_get old b ≡ Some s → slice_get new b ≡ Some x
+      → IsUpFrom old k b ⊎ (x.arena ≡ s.arena)
+  pub owned : (b : ℕ) (s x : SpaceState) → slice_get old b ≡ Some s → slice_get new b ≡ Some x
+      → x.arena.owned ≡ s.arena.owned
+  pub caches : (b : ℕ) (s x : SpaceState) → b ≢ k → slice_get old b ≡ Some s
+      → slice_get new b ≡ Some x → x.caches ≡ s.caches
+  pub rounds : (b : ℕ) → b ≢ k → (f : Tag → ℕ)
+      → sum_by (of_arena b f) (all_rounds_out after.cpus)
+      ≡ sum_by (of_arena b f) (all_rounds_out before.cpus)
+  pub hands : Gains before.hands after.hands t
+  pub leases : after.leases ≡ before.leases
 
 -- the CPUs' caches are others, each of a quantum cache of the stock, with the same rounds in them
 -- all

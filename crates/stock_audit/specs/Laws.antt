@@ -4,6 +4,8 @@ use Rattle.std.specs.Prelude.{slice_get, Some, None, sum_by}
 use Rattle.deed_core.specs.Holding.{Holding}
 use Rattle.deed_core.specs.Tag.{Tag}
 use Rattle.deed_core.specs.Extent.{Covers}
+use Rattle.deed_core.specs.Request.{Fits}
+use Rattle.deed_core.specs.declared.requests.Request.{Request}
 use Rattle.deed_core.specs.Covering.{covering_held, units_in, units_held}
 use Rattle.deed_core.specs.Selections.{came_direct}
 use Rattle.deed_core.specs.Weights.{only, of_arena}
@@ -17,8 +19,8 @@ use Rattle.stock_audit.specs.Outside.{Outside, nothing_out, out_of, segments_out
 use Rattle.stock_audit.specs.Audits.{sums_of_arena, units_of_arena_in}
 use Rattle.stock_audit.specs.Accounted.{IsAccountedFor}
 use Rattle.stock_audit.specs.Keeping.{IsStep, HandsMove, OnCpu, PopMove, PushMove, ChangeMove}
-use Rattle.stock_audit.specs.Keeping.{LeaseMove, ReleaseMove, CpusMove}
-use Rattle.stock_audit.specs.Chains.{IsUpFrom, IsFreeFor, IsReachable, AreTops, is_under}
+use Rattle.stock_audit.specs.Keeping.{LeaseMove, ReleaseMove, CpusMove, IsGiven}
+use Rattle.stock_audit.specs.Chains.{IsUpFrom, IsFreeFor, IsReachable, FitsIn, AreTops, is_under}
 use Rattle.stock_audit.specs.Chains.{unexported, unit_of_arena, spans_of_children, spans_of_slabs}
 
 -- the sums of each arena add up to the units of its spans
@@ -158,3 +160,27 @@ ReachableIsNotHeld = (spaces : List SpaceState) (out : Outside) → IsAccountedF
     → (k top u : ℕ) (s : SpaceState) → slice_get spaces k ≡ Some s
     → IsReachable spaces out k s u → HasTop spaces k top
     → All (λ t. HasTop spaces t.arena top → ¬ Covers t.holding.range u) (out.hands ++ out.leases)
+
+-- what is free in an arena up the chain is free for the arena: it is outside all spans below
+abbrev pub FreeAboveIsFree : Type 0
+FreeAboveIsFree = (spaces : List SpaceState) (out : Outside) → IsAccountedFor spaces out
+    → (k a u : ℕ) (s : SpaceState) → IsUpFrom spaces k a → slice_get spaces a ≡ Some s
+    → 0 < covering_held u s.arena.free → IsFreeFor spaces u k
+
+-- what is given was reachable, each unit of it: free in the arena, in its caches or its rounds, or
+-- outside its spans and free in an arena up its chain
+abbrev pub GivenWasReachable : Type 0
+GivenWasReachable = (old new : List SpaceState) (before after : Outside)
+    → IsAccountedFor old before → IsAccountedFor new after
+    → (k : ℕ) (t : Tag) → IsGiven k t old new before after
+    → (s : SpaceState) → slice_get old k ≡ Some s
+    → (u : ℕ) → Covers t.holding.range u → IsReachable old before k s u
+
+-- so what is given and fits the request was a place for it
+abbrev pub GivenFittedIn : Type 0
+GivenFittedIn = (old new : List SpaceState) (before after : Outside)
+    → IsAccountedFor old before → IsAccountedFor new after
+    → (k : ℕ) (t : Tag) → IsGiven k t old new before after
+    → (s : SpaceState) → slice_get old k ≡ Some s → (q : Request)
+    → Fits s.arena.quantum q t.holding.range.base t.holding.range.len
+    → FitsIn old before k s q t.holding.range

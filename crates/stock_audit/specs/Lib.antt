@@ -1,6 +1,6 @@
 pub mod Outside
 pub mod Audits
 pub mod Accounted
-pub mod Keeping
 pub mod Chains
+pub mod Keeping
 pub mod Laws

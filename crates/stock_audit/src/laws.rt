@@ -8,6 +8,7 @@ ghost use Rattle.stock_audit.specs.Laws.{ChildIsExported, ExportedIsChildren, Al
 ghost use Rattle.stock_audit.specs.Laws.{SpansAreOfSource, OutNeverOverlaps};
 ghost use Rattle.stock_audit.specs.Laws.{SpaceUnitAddsUp, SpaceAddsUp, TopsStand};
 ghost use Rattle.stock_audit.specs.Laws.{FreeIsNotOut, ReachableIsNotHeld};
+ghost use Rattle.stock_audit.specs.Laws.{FreeAboveIsFree, GivenWasReachable, GivenFittedIn};
 
 /// The six sums of an arena add up to its spans, by units and unit by unit.
 pub fn sum_laws()
@@ -57,4 +58,12 @@ pub fn space_laws()
     ensures lengths { SpaceAddsUp }
     ensures free { FreeIsNotOut }
     ensures reachable { ReachableIsNotHeld }
+{}
+
+/// What an arena gives was reachable: it was free in the arena, in its caches or in the CPUs' rounds
+/// of it, or free up its chain. What is free up the chain is what it may import.
+pub fn reach_laws()
+    ensures above { FreeAboveIsFree }
+    ensures given { GivenWasReachable }
+    ensures fitted { GivenFittedIn }
 {}

@@ -1,7 +1,6 @@
 use Rattle.std.proofs.Common.{◌≡◌, ◌-◌, ◌^◌, min, take, sum_by}
 use Rattle.deed_core.specs.Covering.{units_in}
 use Rattle.deed_core.specs.Weights.{of_arena}
-
 use Rattle.stock.specs.OwnCaches.{own_rounds}
 use Rattle.stock_audit.proofs.lists.rounds_units.Given as goal
 
