@@ -182,8 +182,8 @@ drain_empties_cpu turns arenas old new local path =
     let done = drain_empties arenas local.tree turns old new local.cpu path in
     let of : IsOf new = still_of old new done.0 local.cpu in
     all_from (λ row. All HasNoRound row) new.cpu (λ k row at. all_from HasNoRound row (λ j o among.
-        let p = within_plan new.spaces new.cpu of k j row o at among in
-        let plans : plans_of new.spaces ≡ plans_for arenas = done.0.setup.plans ∙ local.plans in
-        let x = mapped plan_for arenas k p.0 (ap (λ ps. slice_get ps k) (sym plans) ∙ p.1) in
-        let count : length p.0.slab_sizes ≡ x.0.qcache_max / x.0.quantum = ap (λ (q : SpacePlan). length q.slab_sizes) x.2 ∙ length-replicate (x.0.qcache_max / x.0.quantum) x.0.slab_size in
-        done.1 k (slice_get_within arenas k x.0 x.1) x.0 x.1 j (omega (arith, p.2, count)) row o at among))
+    let p = within_plan new.spaces new.cpu of k j row o at among in
+    let plans : plans_of new.spaces ≡ plans_for arenas = done.0.setup.plans ∙ local.plans in
+    let x = mapped plan_for arenas k p.0 (ap (λ ps. slice_get ps k) (sym plans) ∙ p.1) in
+    let count : length p.0.slab_sizes ≡ x.0.qcache_max / x.0.quantum = ap (λ (q : SpacePlan). length q.slab_sizes) x.2 ∙ length-replicate (x.0.qcache_max / x.0.quantum) x.0.slab_size in
+    done.1 k (slice_get_within arenas k x.0 x.1) x.0 x.1 j (omega (arith, p.2, count)) row o at among))

@@ -13,3 +13,5 @@ mod NoFits
 mod Walks
 mod CpuPlaces
 mod Drained
+mod ReapSteps
+mod Reaped

@@ -103,7 +103,7 @@ module _ (old new : LocalState) (k c : ℕ) where
         let rounds : own_rounds on.1.1.3.changed ≡ own_rounds on.1.1.3.own = ap (λ (x : CpuCacheState). x.previous ++ x.loaded) on.1.1.3.does.1.after in
         (on.1.0, own_rounds_same k on.1.1.0 _ old.cpu new.cpu on.1.1.3 rounds)
     | inr none ↦ elim none [
-      | inl memory ↦ (memory.1.spaces, ap cpu_rounds memory.1.cpu)
+      | inl memory ↦ (memory.2.spaces, ap cpu_rounds memory.2.cpu)
       | inr small ↦ (small.2.spaces, ap cpu_rounds small.2.cpu)
     ]
   ]

@@ -11,7 +11,7 @@ use Rattle.local_calls.specs.Runs.{SoundStep, RunsTo}
 
 -- what is kept by `Rel`; `Live` tells an end after which what was sought is so
 module _ {X F : Type 0} (arenas : List TreeArena) (Rel : LocalState → LocalState → Type 0) (same : (s : LocalState) → Rel s s) (trans : (s t u : LocalState) → Rel s t → Rel t u → Rel s u)
-  (Inv : LocalState → Type 0) (still : (s t : LocalState) → Rel s t → Inv s → Inv t) (Live : X → Type 0) (each : ℕ → X → Plan (Result X F)) (Q : ℕ → LocalState → Type 0) (keeps : (i : ℕ) (s t : LocalState) → Rel s t → Q i s → Q i t) where
+    (Inv : LocalState → Type 0) (still : (s t : LocalState) → Rel s t → Inv s → Inv t) (Live : X → Type 0) (each : ℕ → X → Plan (Result X F)) (Q : ℕ → LocalState → Type 0) (keeps : (i : ℕ) (s t : LocalState) → Rel s t → Q i s → Q i t) where
   -- the first, and what follows where it ended well
   ok_split : (i : ℕ) (x y : X) (next : X → Plan (Result X F)) (old new : LocalState) → RunsTo arenas (then (each i x) (if_ok next)) old new (Ok y) → (m : LocalState) × (z : X) × RunsTo arenas (each i x) old m (Ok z) × RunsTo arenas (next z) m new (Ok y)
   ok_split i x y next old new path =
@@ -38,8 +38,8 @@ module _ {X F : Type 0} (arenas : List TreeArena) (Rel : LocalState → LocalSta
               λ i low high. elim (cases_eq i (all - left)) [
                 | inl e ↦ subst (λ k. Q k new) (sym e) (keeps (all - left) split.0 new rest.0 here.1)
                 | inr ne ↦ after.1 i (omega (arith, low, ne)) high
-              ]
-            )
+              ],
+            ),
       )
 
   pub arenas_walk : (end : ℕ) → ((i : ℕ) (x y : X) (old new : LocalState) → i < end → Inv old → RunsTo arenas (each i x) old new (Ok y) → Rel old new × (Live y → Live x × Q i new))
@@ -58,6 +58,6 @@ module _ {X F : Type 0} (arenas : List TreeArena) (Rel : LocalState → LocalSta
               λ i low. elim (cases_eq i id) [
                 | inl e ↦ subst (λ k. Q k new) (sym e) (keeps id split.0 new rest.0 here.1)
                 | inr ne ↦ after.1 i (omega (arith, low, ne))
-              ]
-            )
+              ],
+            ),
       )

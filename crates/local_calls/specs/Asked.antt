@@ -1,4 +1,5 @@
--- What lists of steps ask of parts, and how they end where no part refuses what it is rightly asked.
+-- What lists of steps ask of parts, and how they end where no part refuses what it is rightly
+-- asked.
 use Rattle.std.specs.Prelude.{◌≡◌, ℕ, ◌/◌, ◌<◌, ◌≤◌, List, slice_get, Some, Result, Ok, Err}
 use Rattle.deed_core.specs.Tag.{Tag}
 use Rattle.deed_core.specs.declared.segments.Route.TheVariants.{Direct, Cached}
@@ -20,7 +21,9 @@ use Rattle.arena_tree.specs.declared.part_faults.SwapFullFault.{SwapFullFault}
 use Rattle.arena_tree.specs.declared.part_faults.SwapFullFault.TheVariants as fulling
 use Rattle.arena_tree.specs.declared.trees.TreeArena.{TreeArena}
 use Rattle.arena_tree.specs.Chains.{source_of}
-use Rattle.arena_tree.specs.Events.{Event, AnswerTo, Carve, Free, AddCarve, SlabTake, SlabPut, SlabAdd, SlabReap, SwapFull, SwapEmpty, SwapFresh, DepotReap, Pop, Push, Change}
+use Rattle.arena_tree.specs.Events.{Event, AnswerTo, Carve, Free, AddCarve, SlabTake, SlabPut}
+use Rattle.arena_tree.specs.Events.{SlabAdd, SlabReap, SwapFull, SwapEmpty, SwapFresh, DepotReap}
+use Rattle.arena_tree.specs.Events.{Pop, Push, Change}
 use Rattle.arena_tree.specs.Plans.{Plan, Done, Ask}
 use Rattle.arena_tree.specs.Sound.{Sound}
 use Rattle.arena_tree.specs.Trees.{nodes_of}

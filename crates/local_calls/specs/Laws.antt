@@ -1,5 +1,5 @@
 -- What the calls of quantum caches come to over one thread's parts.
-use Rattle.std.specs.Prelude.{◌≡◌, ℕ, List, Some, None, Result, Ok, Err}
+use Rattle.std.specs.Prelude.{◌≡◌, ◌<◌, ℕ, List, Some, None, Result, Ok, Err}
 use Rattle.deed_core.specs.Tag.{Tag}
 use Rattle.deed_core.specs.declared.requests.Request.{Request}
 use Rattle.arena_tree.specs.declared.levels.Level.{Level}
@@ -10,6 +10,7 @@ use Rattle.arena_tree.specs.declared.trees.TreeArena.{TreeArena}
 use Rattle.arena_tree.specs.Chains.{IsChain, first_id}
 use Rattle.arena_tree.specs.Climbs.{Climbed, Returned}
 use Rattle.arena_tree.specs.Trees.{nodes_of}
+use Rattle.quantum_cache.specs.declared.reaps.Reaping.{Reaping}
 use Rattle.quantum_cache.specs.Allocs.{alloc_plan, xalloc_plan}
 use Rattle.quantum_cache.specs.Drains.{Drained, drain_plan}
 use Rattle.quantum_cache.specs.Frees.{free_plan}
@@ -19,6 +20,7 @@ use Rattle.local_parts.specs.Cpus.{cpu_rounds, HasNoRounds}
 use Rattle.local_parts.specs.States.{LocalState, IsUnchanged}
 use Rattle.local_calls.specs.Asked.{CarvesWell, IsDone}
 use Rattle.local_calls.specs.NoFits.{NoneServesIn, NothingFits}
+use Rattle.local_calls.specs.Reaped.{NoneToReap}
 use Rattle.local_calls.specs.Runs.{IsLocalOf, IsAccountedWith, RunsTo}
 
 -- an allocation gives a segment, or is refused with an empty hand: nothing is stuck or stopped
@@ -88,3 +90,9 @@ abbrev pub DrainEmptiesCpu : Type 0
 DrainEmptiesCpu = (turns : ℕ) (arenas : List TreeArena) (old new : LocalState)
     → IsLocalOf arenas old → RunsTo arenas (drain_plan turns arenas) old new (Ok tt)
     → HasNoRounds new.cpu
+
+-- A reaping that ends before its limit leaves nothing that could be reaped.
+abbrev pub ReapLeavesNothing : Type 0
+ReapLeavesNothing = (arenas : List TreeArena) (limit : ℕ) (old new : LocalState) (r : Reaping)
+    → IsLocalOf arenas old → RunsTo arenas (reap_plan arenas limit) old new (Ok r) → 0 < r.left
+    → NoneToReap new.spaces

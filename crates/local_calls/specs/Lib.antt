@@ -1,4 +1,5 @@
 pub mod Asked
 pub mod NoFits
+pub mod Reaped
 pub mod Runs
 pub mod Laws

@@ -3,7 +3,7 @@
 //! with `run_seen`, by which a call's clause is a list of steps over states.
 ghost use Rattle.local_calls.specs.Laws.{AllocNeverStuck, XallocNeverStops, FreeAlwaysDone};
 ghost use Rattle.local_calls.specs.Laws.{DrainAlwaysDone, ReapAlwaysDone, NoFitIsRight};
-ghost use Rattle.local_calls.specs.Laws.{XallocNoFitIsRight, DrainEmptiesCpu};
+ghost use Rattle.local_calls.specs.Laws.{XallocNoFitIsRight, DrainEmptiesCpu, ReapLeavesNothing};
 
 /// Nothing is stuck and nothing stops: what is out can always be freed, and an allocation is
 /// refused with an empty hand.
@@ -15,15 +15,17 @@ pub fn never_stuck_laws()
     ensures reap { ReapAlwaysDone }
 {}
 
-/// What NoFit says, of the parts as they were before the call: the cache for the size has no chunk to
-/// give, and no address serves, neither in the arena nor in a source for what would be imported. The
-/// stock is unchanged.
+/// What NoFit says, of the parts as they were before the call: the cache for the size has no chunk
+/// to give, and no address serves, neither in the arena nor in a source for what would be imported.
+/// The stock is unchanged.
 pub fn no_fit_laws()
     ensures alloc { NoFitIsRight }
     ensures xalloc { XallocNoFitIsRight }
 {}
 
-/// What a call leaves: a drain no round of the CPU, so that its caches can be closed.
+/// What a call leaves: a drain no round of the CPU, so that its caches can be closed; a reaping that
+/// has looks left no round that may go and no complete slab.
 pub fn emptied_laws()
     ensures drain { DrainEmptiesCpu }
+    ensures reap { ReapLeavesNothing }
 {}

@@ -2,9 +2,12 @@
 //!
 //! A call of `quantum_cache` has one clause: its list of steps was gone through. Over `Local` more
 //! follows, where the parts are set up by a tree (`IsLocalOf`, specs/Runs.antt) and the accounts
-//! balance, whoever else holds segments: `laws` has it. No part refuses what it is rightly asked
-//! (specs/Asked.antt), so nothing is stuck, and nothing stops; and NoFit comes only where nothing fits
-//! (specs/NoFits.antt).
+//! balance, whoever else holds segments (`laws`):
+//!
+//! - no part refuses what it is rightly asked (specs/Asked.antt), so nothing is stuck or stops;
+//! - NoFit comes only where nothing fits (specs/NoFits.antt), and leaves the stock as it was;
+//! - a drain leaves the CPU no round, and a reaping nothing that could be reaped
+//!   (specs/Reaped.antt).
 #![tactic(auto)]
 
 mod laws;

@@ -1,6 +1,6 @@
 -- An exchange with a depot, by what the depot answered.
-use Rattle.std.proofs.Common.{◌≡◌, ℕ, sym, subst, List, Result}
-use Rattle.magazine_layer.specs.Magazines.{CpuCacheState, MagazineState, empty_magazine}
+use Rattle.std.proofs.Common.{◌≡◌, ℕ, subst, List, Result}
+use Rattle.magazine_layer.specs.Magazines.{MagazineState, BothEmpty, BothFull, empty_magazine}
 use Rattle.magazine_layer.specs.Depots.{DepotState}
 use Rattle.magazine_layer.specs.Calls.{SwapFullOf, SwapEmptyOf, PutFullOf}
 use Rattle.magazine_layer.specs.declared.faults.FullFault.{FullFault}
@@ -24,17 +24,17 @@ depot_does k j P Q old new so on =
     record { space = on.space; at = on.at; cache = on.cache; among = on.among; depot = on.depot; after = on.after; does = so on.cache.depot on.depot on.does }
 
 module _ (old new : List SpaceState) (o o' : OwnCacheState) (place : IsAtPlaceOf o o') (frame : Frames old (own_rounds o) new (own_rounds o')) (fixed : plans_of new ≡ plans_of old) (stock : IsStock new) where
-  pub full_exchanged : (r : Result (Unit {0}) FullFault) (a : Result (Unit {0}) SwapFullFault) → a ≡ in_words full_word r → OnDepot o.arena o.cache (λ d e. SwapFullOf o.cpu d r o'.cpu e) old new → OwnExchanges o.arena o.cache (SwapsFull a) old new o o'
-  full_exchanged r a told on = record { place = place; swapped = depot_does o.arena o.cache _ _ old new (λ d e did. record { r = r; did = did; told = told }) on; frame = frame; fixed = fixed; stock = stock }
+  pub full_exchanged : BothEmpty o.cpu → (r : Result (Unit {0}) FullFault) (a : Result (Unit {0}) SwapFullFault) → a ≡ in_words full_word r → OnDepot o.arena o.cache (λ d e. SwapFullOf o.cpu d r o'.cpu e) old new → OwnExchanges o.arena o.cache (SwapsFull a) old new o o'
+  full_exchanged empty r a told on = record { place = place; swapped = depot_does o.arena o.cache _ _ old new (λ d e did. record { empty = empty; r = r; did = did; told = told }) on; frame = frame; fixed = fixed; stock = stock }
 
-  pub empty_exchanged : (r : Result (Unit {0}) EmptyFault) (a : Result (Unit {0}) SwapEmptyFault) → a ≡ in_words empty_word r → OnDepot o.arena o.cache (λ d e. SwapEmptyOf o.cpu d r o'.cpu e) old new → OwnExchanges o.arena o.cache (SwapsEmpty a) old new o o'
-  empty_exchanged r a told on = record { place = place; swapped = depot_does o.arena o.cache _ _ old new (λ d e did. record { r = r; did = did; told = told }) on; frame = frame; fixed = fixed; stock = stock }
+  pub empty_exchanged : BothFull o.cpu → (r : Result (Unit {0}) EmptyFault) (a : Result (Unit {0}) SwapEmptyFault) → a ≡ in_words empty_word r → OnDepot o.arena o.cache (λ d e. SwapEmptyOf o.cpu d r o'.cpu e) old new → OwnExchanges o.arena o.cache (SwapsEmpty a) old new o o'
+  empty_exchanged full r a told on = record { place = place; swapped = depot_does o.arena o.cache _ _ old new (λ d e did. record { full = full; r = r; did = did; told = told }) on; frame = frame; fixed = fixed; stock = stock }
 
-  pub fresh_exchanged : (m : MagazineState) (r : Result (Unit {0}) (PutFullFault MagazineState)) (a : Result (Unit {0}) SwapFreshFault) → m ≡ empty_magazine o.cpu.size → a ≡ in_words fresh_word r
+  pub fresh_exchanged : BothFull o.cpu → (m : MagazineState) (r : Result (Unit {0}) (PutFullFault MagazineState)) (a : Result (Unit {0}) SwapFreshFault) → m ≡ empty_magazine o.cpu.size → a ≡ in_words fresh_word r
       → OnDepot o.arena o.cache (λ d e. PutFullOf o.cpu d m r o'.cpu e) old new → OwnExchanges o.arena o.cache (SwapsFresh a) old new o o'
-  fresh_exchanged m r a is told on = record {
+  fresh_exchanged full m r a is told on = record {
     place = place;
-    swapped = depot_does o.arena o.cache _ _ old new (λ d e did. record { r = r; did = subst (λ x. PutFullOf o.cpu d x r o'.cpu e) is did; told = told }) on;
+    swapped = depot_does o.arena o.cache _ _ old new (λ d e did. record { full = full; r = r; did = subst (λ x. PutFullOf o.cpu d x r o'.cpu e) is did; told = told }) on;
     frame = frame;
     fixed = fixed;
     stock = stock;

@@ -1,13 +1,13 @@
 -- What the proofs of the crates above cite, and all that they cite, of this crate: the laws of every
 -- list of steps, and how a path over parts that are seen as a state is one over states.
-use Rattle.std.proofs.Common.{◌≡◌, ◌∙◌, refl, sym, subst, ap, List, ◌++◌, Option, arith}
+use Rattle.std.proofs.Common.{◌≡◌, ◌∙◌, refl, sym, subst, ap, ◌++◌, arith}
 use Rattle.std.specs.Option.{option_to_list}
 use Rattle.std.proofs.lemmas.List.Sums.{sum_by-append}
 use Rattle.arena_tree.specs.Events.{Event, AnswerTo, hand_after}
 use Rattle.arena_tree.specs.Plans.{Plan, Done, Ask, Path}
-use Rattle.stock.specs.Accounts.{Accounts, IsAccounted}
+use Rattle.stock.specs.Accounts.{Accounts}
 use Rattle.stock.specs.Stocks.{IsStock}
-use Rattle.stock.specs.Sums.{Out, all_out}
+use Rattle.stock.specs.Sums.{all_out}
 use Rattle.stock.proofs.LawProofs.{out_weighs, one_place}
 use Rattle.local_parts.specs.Cpus.{cpu_rounds}
 use Rattle.local_parts.specs.States.{LocalState, out_of_stock}

@@ -1,5 +1,5 @@
 -- Each event of the CPU's magazines, with all that a step of `Parts` wants of it.
-use Rattle.std.proofs.Common.{◌≡◌, ℕ, ◌+◌, refl, sym, subst, ap, ◌∙◌, inl, inr, List, [], ◌∷◌, ◌++◌, length, Option, Some, None, Result, Ok, Err, IfSome, IfErr, false, arith}
+use Rattle.std.proofs.Common.{◌≡◌, ℕ, ◌+◌, refl, sym, subst, ap, ◌∙◌, inl, inr, List, [], ◌++◌, length, Option, Some, None, Result, Ok, Err, false, arith}
 use Rattle.std.specs.Prelude.{slice_get, sum_by}
 use Rattle.std.specs.Option.{option_to_list}
 use Rattle.std.proofs.lemmas.List.Sums.{sum_by-cons}
@@ -30,13 +30,13 @@ use Rattle.arena_tree.specs.Stops.{is_stopped, refuses_by, full_stops, empty_sto
 use Rattle.stock.specs.Spaces.{SpaceState, plans_of}
 use Rattle.stock.specs.Stocks.{IsStock, IsRoundOf}
 use Rattle.stock.specs.Accounts.{Accounts}
-use Rattle.stock.specs.OwnCaches.{OwnCacheState, IsAtPlaceOf, own_rounds}
+use Rattle.stock.specs.OwnCaches.{OwnCacheState, own_rounds}
 use Rattle.stock.specs.Steps.{OnDepot}
 use Rattle.local_parts.specs.Cpus.{IsOwnAt, OnOwn, own_places, cpu_rounds}
 use Rattle.local_parts.specs.States.{LocalState, IsReached, HasReached, IsUnchanged, Conserves, tree_of}
-use Rattle.local_parts.specs.OwnSteps.{NoneReached, CanPush, CanChange, ChangesTo, OnExchange, SwapsFull, SwapsEmpty, SwapsFresh}
+use Rattle.local_parts.specs.OwnSteps.{NoneReached, CanPush, CanChange, OnExchange, SwapsFull, SwapsEmpty, SwapsFresh}
 use Rattle.local_parts.specs.Words.{in_words, full_word, empty_word, fresh_word}
-use Rattle.local_parts.specs.OwnChanges.{OwnPops, OwnPushes, OwnChanges, OwnExchanges, OwnTries, OwnSwapsFull, OwnSwapsEmpty, OwnSwapsFresh}
+use Rattle.local_parts.specs.OwnChanges.{OwnPops, OwnPushes, OwnChanges, OwnTries, OwnSwapsFull, OwnSwapsEmpty, OwnSwapsFresh}
 use Rattle.local_parts.specs.Steps.{Does, WholeStep}
 use Rattle.local_parts.proofs.Sounds.{chunk_here}
 use Rattle.local_parts.proofs.Owns.{own_does, count_sum, own_sums, same_places, same_cpu, own_is, loses, gains, weigh_same, exchange_conserves, own_conserves}
@@ -144,9 +144,13 @@ module _ (spaces : List SpaceState) (law : IsStock spaces) (old new : List (List
   pub push_whole : (t : Tag) → OnOwn k j (OwnPushes t (Ok tt)) old new → WholeStep (beside spaces old) (Push k c t) (Ok tt) (beside spaces new)
   push_whole t on =
       let more = gains k j _ old new on t on.does.weights in
+      let here = own_is k j _ old new on served.0 served.1.own in
+      let chunk : IsRoundOf k c served.0.quantum t
+      = subst (λ m. IsRoundOf k m served.0.quantum t) (sym number) (subst (λ m. IsRoundOf k (m + 1) served.0.quantum t) served.1.own.cache
+      (subst (λ m. IsRoundOf m (served.0.cache + 1) served.0.quantum t) served.1.own.arena (subst (λ (x : OwnCacheState). IsRoundOf x.arena (x.cache + 1) x.quantum t) here on.does.chunk))) in
       record {
         step = record {
-          does = inl (refl, (refl, (j, number, served, own_does k j _ _ old new (λ o o' d. (d.place, d.pushed)) on)));
+          does = inl (refl, (j, number, (served.0, served.1, chunk)), (refl, (j, number, served, own_does k j _ _ old new (λ o o' d. (d.place, d.pushed)) on)));
           conserves = λ hand b. subst (λ h. Conserves (beside spaces old) h (beside spaces new) None) (sym b) (own_conserves spaces old new (Some t) None (λ f. omega (arith, more f, sum_by-cons f t [])));
           stock = law;
           setup = record { plans = refl; places = same_places k j _ old new on on.does.place };
@@ -182,8 +186,9 @@ module _ (spaces : List SpaceState) (law : IsStock spaces) (old new : List (List
         goes = refl;
       }
   change_whole size (Err NoMemory) on =
-      let u : IsUnchanged (beside spaces old) (beside spaces new) = record { spaces = refl; cpu = same_cpu k j _ old new on on.does } in
-      unchanged_whole (beside spaces old) (beside spaces new) law u (Change k c size) (Err NoMemory) (λ h b. refl) (inr (inl (refl, u))) (λ sizes. tt) (ap (λ x. length (cpu_rounds x)) u.cpu) refl
+      let here = own_is k j _ old new on served.0 served.1.own in
+      let u : IsUnchanged (beside spaces old) (beside spaces new) = record { spaces = refl; cpu = same_cpu k j _ old new on on.does.0 } in
+      unchanged_whole (beside spaces old) (beside spaces new) law u (Change k c size) (Err NoMemory) (λ h b. refl) (inr (inl (refl, (j, number, (served.0, served.1, subst (CanChange size) here on.does.1)), u))) (λ sizes. tt) (ap (λ x. length (cpu_rounds x)) u.cpu) refl
   change_whole size (Err NotGreater) on =
       let here = own_is k j _ old new on served.0 served.1.own in
       let u : IsUnchanged (beside spaces old) (beside spaces new) = record { spaces = refl; cpu = same_cpu k j _ old new on on.does.0 } in

@@ -1,18 +1,17 @@
 -- One of a CPU's caches changed: what that leaves of all its rounds, of its places and of the accounts.
-use Rattle.std.proofs.Common.{◌≡◌, ℕ, ◌+◌, ◌<◌, refl, sym, subst, ap, ◌∙◌, List, [], ◌∷◌, ◌++◌, map, length, set, Option, Some, None, arith}
+use Rattle.std.proofs.Common.{◌≡◌, ℕ, ◌+◌, refl, ap, ◌∙◌, List, [], ◌∷◌, ◌++◌, map, length, set, Option, Some, arith}
 use Rattle.std.specs.Prelude.{slice_get, sum_by}
 use Rattle.std.specs.Option.{option_to_list}
 use Rattle.std.proofs.lemmas.List.Sums.{sum_by-append, sum_by-cons}
 use Rattle.deed_core.specs.Tag.{Tag}
 use Rattle.deed_core.specs.Weights.{Gains, Loses, WeighSame}
 use Rattle.deed_core.proofs.LawProofs.{slice_get_one, map_set_same, set_same, sum_set, sum_by-flat_map}
-use Rattle.magazine_layer.specs.Magazines.{CpuCacheState}
 use Rattle.stock.specs.Spaces.{SpaceState}
 use Rattle.stock.specs.Accounts.{Accounts, Frames}
 use Rattle.stock.specs.OwnCaches.{OwnCacheState, IsAtPlaceOf, own_rounds}
 use Rattle.stock.proofs.LawProofs.{out_weighs}
 use Rattle.local_parts.specs.Cpus.{IsOwnAt, OnOwn, own_place, own_places, row_rounds, cpu_rounds}
-use Rattle.local_parts.specs.States.{LocalState, Conserves}
+use Rattle.local_parts.specs.States.{Conserves}
 
 pub own_does : (k j : ℕ) (P Q : OwnCacheState → OwnCacheState → Type 0) (old new : List (List OwnCacheState)) → ((o o' : OwnCacheState) → P o o' → Q o o') → OnOwn k j P old new → OnOwn k j Q old new
 own_does k j P Q old new so on = record { row = on.row; at = on.at; own = on.own; among = on.among; changed = on.changed; after = on.after; does = so on.own on.changed on.does }

@@ -1,7 +1,6 @@
 -- A step of one thread's parts as one of `Parts`.
 use Rattle.std.proofs.Common.{◌≡◌, ℕ, ◌+◌, ◌-◌, ◌^◌, min, List, Bool, true, false, length, sym, subst, ap, ◌∙◌}
 use Rattle.arena_tree.specs.declared.trees.TreeArena.{TreeArena}
-use Rattle.arena_tree.specs.Chains.{Node}
 use Rattle.arena_tree.specs.Events.{Event, AnswerTo, locks}
 use Rattle.arena_tree.specs.Stops.{is_stopped, Counts}
 use Rattle.arena_tree.specs.Plans.{Step}

@@ -1,13 +1,10 @@
 -- A CPU's cache at its place.
-use Rattle.std.proofs.Common.{◌≡◌, ℕ, ◌+◌, ◌<◌, ◌≤◌, refl, sym, subst, ap, ◌∙◌, List, [], ◌∷◌, map, length, set, get_or, Some, arith}
-use Rattle.std.specs.Prelude.{slice_get, sum_by}
+use Rattle.std.proofs.Common.{◌≡◌, ℕ, ◌<◌, sym, subst, ap, ◌∙◌, List, length, set, get_or, Some}
+use Rattle.std.specs.Prelude.{slice_get}
 use Rattle.std.proofs.lemmas.Option.{slice_get_within}
-use Rattle.std.proofs.lemmas.List.Sums.{sum_by-append}
-use Rattle.deed_core.specs.Tag.{Tag}
-use Rattle.deed_core.proofs.LawProofs.{slice_get_here, slice_get_one, map_set_same, sum_set, sum_by-flat_map}
-use Rattle.magazine_layer.specs.Magazines.{CpuCacheState, IsShaped, IsSize, cache_rounds}
-use Rattle.stock.specs.OwnCaches.{OwnCacheState, IsAtPlaceOf, own_rounds}
-use Rattle.local_parts.specs.Cpus.{IsOwnAt, OnOwn, own_place, own_places, row_rounds, cpu_rounds}
+use Rattle.deed_core.proofs.LawProofs.{slice_get_here, slice_get_one}
+use Rattle.stock.specs.OwnCaches.{OwnCacheState}
+use Rattle.local_parts.specs.Cpus.{IsOwnAt, OnOwn}
 
 abbrev HasOwn : List (List OwnCacheState) → ℕ → ℕ → Type 0
 HasOwn cpu k j = (o : OwnCacheState) × IsOwnAt cpu k j o

@@ -1,5 +1,5 @@
 -- What a stock's events answer is sound.
-use Rattle.std.proofs.Common.{◌≡◌, ◌≢◌, ℕ, ◌+◌, ◌*◌, ◌<◌, ◌≤◌, ◌^◌, ◌%◌, List, [], ◌∷◌, Option, Some, None, Result, Ok, Err, IfSome, All, Contains, inl, inr, ap, subst, sym, refl, ◌∙◌, suc, zero, length, arith}
+use Rattle.std.proofs.Common.{◌≡◌, ℕ, ◌+◌, ◌*◌, ◌<◌, ◌≤◌, ◌%◌, List, Option, Some, None, Ok, Err, IfSome, All, Contains, inl, inr, ap, subst, sym, refl, ◌∙◌, arith}
 use Rattle.std.specs.Prelude.{slice_get}
 use Rattle.deed_core.specs.Tag.{Tag}
 use Rattle.deed_core.specs.Extent.{IsRange}
@@ -8,7 +8,6 @@ use Rattle.deed_core.specs.declared.requests.Request.{Request}
 use Rattle.deed_core.specs.declared.segments.Route.TheVariants.{Direct, Cached}
 use Rattle.slab_layer.specs.Cache.{IsOnGrid}
 use Rattle.tag_arena.specs.Outcomes.{CarveOf, ImportOf}
-use Rattle.tag_arena.specs.declared.faults.ArenaFault.{ArenaFault}
 use Rattle.tag_arena.specs.declared.faults.ArenaFault.TheVariants as arena_fault
 use Rattle.arena_tree.specs.declared.trees.TreeArena.{TreeArena}
 use Rattle.arena_tree.specs.Chains.{IsGrant, IsCachedChunk, quantum_in, source_of}
@@ -16,14 +15,12 @@ use Rattle.stock.specs.Spaces.{SpaceState, plans_of}
 use Rattle.stock.specs.Stocks.{IsStock, IsRoundOf}
 use Rattle.std.proofs.Math.Nat.{mul-mod_left}
 use Rattle.deed_core.proofs.LawProofs.{power_some, rounds_once}
-use Rattle.tag_arena.specs.Outcomes.{Freed}
 use Rattle.slab_layer.specs.Calls.{ReapOf}
 use Rattle.arena_tree.specs.Sound.{IsFirstOf, IsFreed, IsSlabSpan}
-use Rattle.stock.specs.Spaces.{HasCache}
 use Rattle.stock.specs.Stocks.{IsFrom}
-use Rattle.stock.specs.Steps.{OnArena, OnSlab, FreeIn, CanImport, IsRoundIn}
+use Rattle.stock.specs.Steps.{OnArena, OnSlab, FreeIn, CanImport}
 use Rattle.local_parts.specs.States.{tree_of}
-use Rattle.local_parts.proofs.Trees.{quantum_here, source_here, within_tree}
+use Rattle.local_parts.proofs.Trees.{quantum_here, source_here}
 
 module _ (old new : List SpaceState) (k : ℕ) (q : Request) (sizes : List TreeArena) where
   -- grants

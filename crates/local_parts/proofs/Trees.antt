@@ -1,12 +1,11 @@
 -- What the tree says of a stock's arenas.
-use Rattle.std.proofs.Common.{◌≡◌, ℕ, suc, zero, ◌<◌, refl, sym, ap, ◌∙◌, List, [], ◌∷◌, map, length, Option, Some, None, arith}
+use Rattle.std.proofs.Common.{◌≡◌, ℕ, suc, zero, ◌<◌, refl, ap, List, [], ◌∷◌, length, Some, None, arith}
 use Rattle.std.specs.Prelude.{slice_get}
 use Rattle.deed_core.proofs.LawProofs.{slice_get_mapped}
 use Rattle.arena_tree.specs.declared.trees.TreeArena.{TreeArena}
 use Rattle.arena_tree.specs.Chains.{source_of, quantum_in}
-use Rattle.arena_tree.specs.Trees.{nodes_of}
 use Rattle.stock.specs.Spaces.{SpaceState, SpacePlan, plan_of, plans_of}
-use Rattle.local_parts.specs.States.{tree_of, IsTreeOf, sized_node}
+use Rattle.local_parts.specs.States.{tree_of}
 
 quantum_at : (plans : List SpacePlan) (sizes : List TreeArena) (k : ℕ) (p : SpacePlan) → slice_get plans k ≡ Some p → quantum_in (tree_of plans sizes) k ≡ p.quantum
 quantum_at [] sizes k p at = absurd (let e : None ≡ Some p = at in cc)

@@ -1,5 +1,5 @@
 -- Each event of the stock, with all that a step of `Parts` wants of it.
-use Rattle.std.proofs.Common.{◌≡◌, ℕ, ◌+◌, List, [], ◌∷◌, ◌++◌, Option, Some, None, Result, Ok, Err, IfSome, IfOk, ap, subst, sym, refl, ◌∙◌, inl, inr, length, false, append_assoc}
+use Rattle.std.proofs.Common.{◌≡◌, ℕ, ◌+◌, List, [], ◌∷◌, ◌++◌, Option, Some, None, Result, Ok, Err, IfSome, IfOk, subst, sym, refl, inl, inr, length, false, append_assoc}
 use Rattle.std.specs.Option.{option_to_list}
 use Rattle.deed_core.specs.Tag.{Tag}
 use Rattle.deed_core.specs.Extent.{IsRange}

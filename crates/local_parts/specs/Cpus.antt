@@ -2,7 +2,7 @@
 -- caches, by the quanta of a chunk.
 use Rattle.std.specs.Prelude.{◌≡◌, ℕ, zero, suc, ◌+◌, List, [], ◌∷◌, All, length, map, flat_map, set, slice_get, Some}
 use Rattle.deed_core.specs.Tag.{Tag}
-use Rattle.magazine_layer.specs.Magazines.{CpuCacheState, BothEmpty}
+use Rattle.magazine_layer.specs.Magazines.{BothEmpty}
 use Rattle.stock.specs.Spaces.{SpaceState, SpacePlan, plans_of}
 use Rattle.stock.specs.OwnCaches.{OwnCacheState, own_rounds}
 

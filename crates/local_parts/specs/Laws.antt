@@ -1,12 +1,11 @@
 -- What follows of every list of steps over one thread's parts, from what each of its events does.
-use Rattle.std.specs.Prelude.{◌≡◌, ℕ, ◌≤◌, List, ◌++◌, Option, Some, slice_get}
+use Rattle.std.specs.Prelude.{◌≡◌, ℕ, ◌≤◌, ◌++◌, Option, Some, slice_get}
 use Rattle.std.specs.Option.{option_to_list}
 use Rattle.deed_core.specs.Tag.{Tag}
 use Rattle.deed_core.specs.Covering.{covering_held}
 use Rattle.tag_arena.specs.ArenaState.{spans_of}
 use Rattle.arena_tree.specs.Plans.{Plan, Path, Handles}
 use Rattle.stock.specs.Spaces.{SpaceState}
-use Rattle.stock.specs.Stocks.{IsStock}
 use Rattle.stock.specs.Accounts.{IsAccounted}
 use Rattle.stock.specs.Sums.{Out, all_out, places_of, all_places}
 use Rattle.local_parts.specs.Cpus.{cpu_rounds}

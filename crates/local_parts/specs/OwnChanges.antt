@@ -33,6 +33,7 @@ pub record OwnPops (r : Option Tag) (o o' : OwnCacheState) : Type 0 where
 pub record OwnKeeps (t : Tag) (o o' : OwnCacheState) : Type 0 where
   pub place : IsAtPlaceOf o o'
   pub pushed : PushOf o.cpu t (Ok tt) o'.cpu
+  pub chunk : IsRoundOf o.arena (o.cache + 1) o.quantum t
   pub weights : Gains (own_rounds o) (own_rounds o') t
 
 -- or didn't
@@ -49,7 +50,7 @@ pub record OwnGrows (size : ℕ) (o o' : OwnCacheState) : Type 0 where
 -- or didn't
 abbrev pub OwnChanges : ℕ → Result (Unit {0}) ChangeFault → OwnCacheState → OwnCacheState → Type 0
 OwnChanges size (Ok _) o o' = OwnGrows size o o'
-OwnChanges size (Err NoMemory) o o' = o' ≡ o
+OwnChanges size (Err NoMemory) o o' = (o' ≡ o) × CanChange size o
 OwnChanges size (Err NotGreater) o o' = (o' ≡ o) × (¬ CanChange size o)
 OwnChanges size (Err Stopped) o o' = ⊥
 

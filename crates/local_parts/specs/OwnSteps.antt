@@ -42,6 +42,10 @@ OnExchange old k c P new = (j : ℕ) × (c ≡ j + 1) × HasReached old k j
 abbrev pub NoneReached : LocalState → ℕ → ℕ → (OwnCacheState → Type 0) → Type 0
 NoneReached s k c P = (j : ℕ) (o : OwnCacheState) → c ≡ j + 1 → IsReached s k j o → ¬ P o
 
+-- the CPU's cache that serves it is so
+abbrev pub OneReached : LocalState → ℕ → ℕ → (OwnCacheState → Type 0) → Type 0
+OneReached s k c P = (j : ℕ) × (c ≡ j + 1) × ((o : OwnCacheState) × IsReached s k j o × P o)
+
 -- a round was taken; none where both magazines are empty, or no cache serves it
 abbrev pub DoesPop : LocalState → ℕ → ℕ → Result (Option Tag) Stopped → LocalState → Type 0
 DoesPop old k c a new = (o : Option Tag) × (a ≡ Ok o) × (OnReached old k c (λ x y. PopOf x o y) new
@@ -56,7 +60,8 @@ pub record CanPush (t : Tag) (k c : ℕ) (o : OwnCacheState) : Type 0 where
 -- cache, or no cache serves it
 abbrev pub DoesPush : LocalState → ℕ → ℕ → Tag → Result (Unit {0}) (PushFault Tag) → LocalState
     → Type 0
-DoesPush old k c t a new = ((a ≡ Ok tt) × OnReached old k c (λ x y. PushOf x t (Ok tt) y) new)
+DoesPush old k c t a new = ((a ≡ Ok tt) × OneReached old k c (λ o. IsRoundOf k c o.quantum t)
+    × OnReached old k c (λ x y. PushOf x t (Ok tt) y) new)
     ⊎ ((a ≡ Err (NoRoom t)) × NoneReached old k c (CanPush t k c) × IsUnchanged old new)
 
 -- the size is one of a magazine, and greater than the CPU's
@@ -71,30 +76,33 @@ pub record ChangesTo (size : ℕ) (x y : CpuCacheState) : Type 0 where
   pub after : y ≡ after_change size x
 
 -- the CPU changed over; it is refused where the size isn't greater or none of a magazine, or no
--- cache serves it; or it is out of memory
+-- cache serves it; else it is out of memory
 abbrev pub DoesChange : LocalState → ℕ → ℕ → ℕ → Result (Unit {0}) ChangeFault → LocalState
     → Type 0
 DoesChange old k c size a new = ((a ≡ Ok tt) × OnReached old k c (ChangesTo size) new)
-    ⊎ ((a ≡ Err changing.NoMemory) × IsUnchanged old new)
+    ⊎ ((a ≡ Err changing.NoMemory) × OneReached old k c (CanChange size) × IsUnchanged old new)
     ⊎ ((a ≡ Err changing.NotGreater) × NoneReached old k c (CanChange size) × IsUnchanged old new)
 
--- a full magazine came for an empty one, or was refused
+-- both magazines being empty, a full one came for one of them, or was refused
 pub record SwapsFull (a : Result (Unit {0}) SwapFullFault) (x : CpuCacheState) (d : DepotState)
     (y : CpuCacheState) (e : DepotState) : Type 0 where
+  pub empty : BothEmpty x
   pub r : Result (Unit {0}) FullFault
   pub did : SwapFullOf x d r y e
   pub told : a ≡ in_words full_word r
 
--- an empty magazine came for a full one, or was refused
+-- both being full, an empty one came for one of them, or was refused
 pub record SwapsEmpty (a : Result (Unit {0}) SwapEmptyFault) (x : CpuCacheState) (d : DepotState)
     (y : CpuCacheState) (e : DepotState) : Type 0 where
+  pub full : BothFull x
   pub r : Result (Unit {0}) EmptyFault
   pub did : SwapEmptyOf x d r y e
   pub told : a ≡ in_words empty_word r
 
--- a fresh magazine of the CPU's size came for a full one, or was refused
+-- both being full, a fresh one of the CPU's size came for one of them, or was refused
 pub record SwapsFresh (a : Result (Unit {0}) SwapFreshFault) (x : CpuCacheState) (d : DepotState)
     (y : CpuCacheState) (e : DepotState) : Type 0 where
+  pub full : BothFull x
   pub r : Result (Unit {0}) (PutFullFault MagazineState)
   pub did : PutFullOf x d (empty_magazine x.size) r y e
   pub told : a ≡ in_words fresh_word r

@@ -1,10 +1,10 @@
 -- What a contract sees of one thread's parts: the stock's arenas, and one CPU's caches.
-use Rattle.std.specs.Prelude.{◌≡◌, ℕ, ◌+◌, ◌⊎◌, List, [], ◌∷◌, ◌++◌, Option}
+use Rattle.std.specs.Prelude.{◌≡◌, ℕ, List, [], ◌∷◌, ◌++◌, Option}
 use Rattle.std.specs.Option.{option_to_list}
 use Rattle.deed_core.specs.Tag.{Tag}
 use Rattle.arena_tree.specs.declared.trees.TreeArena.{TreeArena}
 use Rattle.arena_tree.specs.Chains.{Node}
-use Rattle.stock.specs.Spaces.{SpaceState, SpacePlan, plans_of, HasCache}
+use Rattle.stock.specs.Spaces.{SpaceState, SpacePlan, HasCache}
 use Rattle.stock.specs.Accounts.{Accounts}
 use Rattle.stock.specs.OwnCaches.{OwnCacheState}
 use Rattle.stock.specs.Steps.{HasQuantum}

@@ -1,5 +1,8 @@
 use Rattle.local_calls.proofs.LawProofs as laws
 use Rattle.local_calls.proofs.laws.emptied_laws.Goals as goal
 
-pub returns : goal.returns
-returns c = record { drain = laws.drain_empties_cpu }
+pub returns-clause-drain : goal.returns-clause-drain
+returns-clause-drain c = laws.drain_empties_cpu
+
+pub returns-clause-reap : goal.returns-clause-reap
+returns-clause-reap c = laws.reap_leaves_nothing

@@ -1,4 +1,4 @@
-use Rattle.std.proofs.Common.{sym, ap, ◌∙◌, ◌++◌, ◌∷◌, []}
+use Rattle.std.proofs.Common.{ap, ◌∙◌, ◌++◌, ◌∷◌, []}
 use Rattle.local_parts.proofs.NewCpus.{row_more, new_row_empty}
 use Rattle.local_parts.proofs.cpu_caches.ArenaCaches.fill.Goals as goal
 

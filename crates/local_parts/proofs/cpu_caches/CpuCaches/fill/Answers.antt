@@ -1,4 +1,4 @@
-use Rattle.std.proofs.Common.{◌<◌, ap, ◌∙◌, ◌++◌, ◌∷◌, [], length, arith}
+use Rattle.std.proofs.Common.{◌<◌, ◌∙◌, length, arith}
 use Rattle.local_parts.proofs.NewCpus.{cpu_more, new_cpu_empty}
 use Rattle.local_parts.proofs.cpu_caches.CpuCaches.fill.Goals as goal
 
