@@ -1,5 +1,5 @@
 -- What CPUs do with the book keeps a world.
-use Rattle.std.proofs.Common.{◌≡◌, ℕ, List, [], ◌∷◌, ◌++◌, set, Option, Some, None, refl, sym, subst, ap, inl, inr, arith}
+use Rattle.std.proofs.Common.{◌≡◌, ℕ, List, [], ◌∷◌, ◌++◌, set, Option, Some, None, refl, sym, subst, ap, arith}
 use Rattle.std.proofs.lemmas.List.Sums.{sum_by-cons}
 use Rattle.deed_core.specs.Tag.{Tag}
 use Rattle.stock_audit.specs.Outside.{outside}
@@ -24,7 +24,7 @@ use Rattle.lease_history.specs.Known.{IsFor}
 use Rattle.lease_history.specs.Told.{reply_to, MayTell}
 use Rattle.lease_history.proofs.LawProofs.{told_stays_told, hellos_keep_known, sweeps_keep_known, settlements_keep_known}
 use Rattle.world_core.specs.WorldState.{WorldState, arena_name, in_hands}
-use Rattle.world_core.specs.Moves.{IsAnswered, settled_reply, HelloTaken, HelloRefused, AnsweredAtOnce, TaskTaken, HasTask, TaskGranted, TaskRefused, TaskReleased, TaskEnded, LeaseSwept}
+use Rattle.world_core.specs.Moves.{IsAnswered, settled_reply, HelloTaken, HelloRefused, AnsweredAtOnce, TaskTaken, HasTask, TaskGranted, TaskRefused, TaskReleased, TaskEnded, TaskAnswered, TaskGivenUp, LeaseSwept}
 use Rattle.world_core.specs.IsWorld.{IsWorld, IsDue, IsOfLines}
 use Rattle.world_core.proofs.Members.{each_written, each_pushed, each_cons}
 use Rattle.world_core.proofs.HandLemmas.{hand_leased}
@@ -97,8 +97,9 @@ answered_keeps which w v is m = subst IsWorld (sym m.after) (record {
   told = each_pushed (MayTell (arena_name w.names) w.entries) w.replies m.reply is.told (answer_told w m.id m.reply is m.answered);
 })
 
-pub ended_keeps : (cpu : ℕ) (w v : WorldState) → IsWorld w → TaskEnded cpu w v → IsWorld v
-ended_keeps cpu w v is m = subst IsWorld (sym m.after) (record {
+ended_keeps : (cpu : ℕ) (May : RequestId → Reply → Type 0) (w v : WorldState) → IsWorld w → ((id : RequestId) (reply : Reply) → May id reply → MayTell (arena_name w.names) w.entries reply)
+    → TaskEnded cpu May w v → IsWorld v
+ended_keeps cpu May w v is tells m = subst IsWorld (sym m.after) (record {
   parts = is.parts;
   named = is.named;
   few = is.few;
@@ -109,11 +110,14 @@ ended_keeps cpu w v is m = subst IsWorld (sym m.after) (record {
   known = is.known;
   said = is.said;
   tasks = each_written (IsOfLines w.requests) w.tasks cpu None is.tasks tt;
-  told = each_pushed (MayTell (arena_name w.names) w.entries) w.replies m.reply is.told (elim m.answered [
-    | inl a ↦ answer_told w m.id m.reply is a
-    | inr again ↦ subst (MayTell (arena_name w.names) w.entries) (sym again) tt
-  ]);
+  told = each_pushed (MayTell (arena_name w.names) w.entries) w.replies m.reply is.told (tells m.id m.reply m.may);
 })
+
+pub answer_keeps : (cpu : ℕ) (w v : WorldState) → IsWorld w → TaskAnswered cpu w v → IsWorld v
+answer_keeps cpu w v is m = ended_keeps cpu _ w v is (λ id reply may. answer_told w id reply is may) m
+
+pub given_up_keeps : (cpu : ℕ) (w v : WorldState) → IsWorld w → TaskGivenUp cpu w v → IsWorld v
+given_up_keeps cpu w v is m = ended_keeps cpu _ w v is (λ id reply may. subst (MayTell (arena_name w.names) w.entries) (sym may) tt) m
 
 pub taken_keeps : (cpu which : ℕ) (w v : WorldState) → IsWorld w → TaskTaken cpu which w v → IsWorld v
 taken_keeps cpu which w v is m = subst IsWorld (sym m.after) (record {

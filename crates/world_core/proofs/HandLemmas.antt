@@ -15,7 +15,7 @@ use Rattle.stock_audit.proofs.LawProofs.{hand_steps_keep}
 use Rattle.world_core.specs.WorldState.{in_hands}
 
 -- a hand that changes, by weight
-hand_set : (f : Tag → ℕ) (hands : List (Option Tag)) (cpu : ℕ) (old new : Option Tag) → slice_get hands cpu ≡ Some old
+pub hand_set : (f : Tag → ℕ) (hands : List (Option Tag)) (cpu : ℕ) (old new : Option Tag) → slice_get hands cpu ≡ Some old
     → sum_by f (in_hands (set hands cpu new)) + sum_by f (option_to_list old) ≡ sum_by f (in_hands hands) + sum_by f (option_to_list new)
 hand_set f hands cpu old new at =
     let e = sum_set (λ o. sum_by f (option_to_list o)) hands cpu old new at in

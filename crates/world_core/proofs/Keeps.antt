@@ -1,14 +1,15 @@
 -- Whatever happens, a world stays one.
-use Rattle.std.proofs.Common.{List, [], ◌∷◌, ◌++◌, refl, sym, subst, inl, inr}
+use Rattle.std.proofs.Common.{List, [], ◌∷◌, ◌++◌, Some, None, refl, sym, subst, inl, inr}
 use Rattle.world_core.specs.declared.events.WorldEvent.{WorldEvent}
 use Rattle.world_core.specs.declared.events.WorldEvent.TheVariants as events
 use Rattle.world_core.specs.declared.events.Outcome.{Outcome}
-use Rattle.world_core.specs.declared.events.Outcome.TheVariants.{Done, NotEnabled, NoMemory}
+use Rattle.world_core.specs.declared.events.Outcome.TheVariants.{Done, NotEnabled, NoMemory, Refused}
 use Rattle.world_core.specs.WorldState.{WorldState}
 use Rattle.world_core.specs.IsWorld.{IsWorld}
 use Rattle.world_core.specs.Events.{MovesBy, EndsAs, HappensTo}
 use Rattle.world_core.proofs.TalkLemmas.{restart_keeps, send_keeps, resend_keeps, hear_keeps}
-use Rattle.world_core.proofs.BookingLemmas.{hello_taken_keeps, hello_refused_keeps, answered_keeps, taken_keeps, granted_keeps, refused_keeps, released_keeps, ended_keeps, swept_keeps}
+use Rattle.world_core.proofs.BookingLemmas.{hello_taken_keeps, hello_refused_keeps, answered_keeps, taken_keeps, granted_keeps, refused_keeps, released_keeps, answer_keeps, given_up_keeps, swept_keeps}
+use Rattle.world_core.proofs.StockLemmas.{hand_move_keeps}
 
 pub moves_keep : (event : WorldEvent) (w v : WorldState) → IsWorld w → MovesBy event w v → IsWorld v
 moves_keep (events.Restarts c i) w v is m = restart_keeps c i w v is m
@@ -21,26 +22,38 @@ moves_keep (events.Looks cpu which) w v is (inr (inr (inl m))) = answered_keeps 
 moves_keep (events.Looks cpu which) w v is (inr (inr (inr m))) = taken_keeps cpu which w v is m
 moves_keep (events.Settles cpu) w v is (inl m) = granted_keeps cpu w v is m
 moves_keep (events.Settles cpu) w v is (inr (inl (m, why))) = refused_keeps cpu _ w v is m
-moves_keep (events.Settles cpu) w v is (inr (inr m)) = ended_keeps cpu w v is m
+moves_keep (events.Settles cpu) w v is (inr (inr m)) = answer_keeps cpu w v is m
 moves_keep (events.Declines cpu why) w v is (inl m) = refused_keeps cpu why w v is m
-moves_keep (events.Declines cpu why) w v is (inr m) = ended_keeps cpu w v is m
-moves_keep (events.GivesUp cpu) w v is m = ended_keeps cpu w v is m
+moves_keep (events.Declines cpu why) w v is (inr m) = answer_keeps cpu w v is m
+moves_keep (events.GivesUp cpu) w v is m = given_up_keeps cpu w v is m
 moves_keep (events.Releases cpu) w v is (inl m) = released_keeps cpu w v is m
 moves_keep (events.Releases cpu) w v is (inr (inl (m, why))) = refused_keeps cpu _ w v is m
-moves_keep (events.Releases cpu) w v is (inr (inr m)) = ended_keeps cpu w v is m
+moves_keep (events.Releases cpu) w v is (inr (inr m)) = answer_keeps cpu w v is m
 moves_keep (events.Sweeps cpu c) w v is m = swept_keeps cpu c w v is m
+moves_keep (events.Carves cpu arena q) w v is (t, m) = hand_move_keeps cpu None (Some t) _ w v is m
+moves_keep (events.Frees cpu) w v is (t, back, m) = hand_move_keeps cpu (Some t) back _ w v is m
+moves_keep (events.AddCarves cpu child size) w v is (span, t, m) = hand_move_keeps cpu (Some span) (Some t) _ w v is m
+moves_keep (events.SlabTakes cpu arena cache) w v is (t, m) = hand_move_keeps cpu None (Some t) _ w v is m
+moves_keep (events.SlabPuts cpu) w v is (t, m) = hand_move_keeps cpu (Some t) None _ w v is m
+moves_keep (events.SlabAdds cpu arena cache) w v is (span, t, m) = hand_move_keeps cpu (Some span) (Some t) _ w v is m
+moves_keep (events.SlabReaps cpu arena cache) w v is (t, m) = hand_move_keeps cpu None (Some t) _ w v is m
 
 pub end_keeps : (event : WorldEvent) (outcome : Outcome) (w v : WorldState) → IsWorld w → EndsAs event outcome w v → IsWorld v
 end_keeps event Done w v is (enabled, m) = moves_keep event w v is m
 end_keeps event NotEnabled w v is (disabled, same) = subst IsWorld (sym same) is
-end_keeps event NoMemory w v is same = subst IsWorld (sym same) is
+end_keeps event (Refused why) w v is (refused, same) = subst IsWorld (sym same) is
+end_keeps event NoMemory w v is (may, same) = subst IsWorld (sym same) is
 
-pub events_keep : (list : List WorldEvent) (w v : WorldState) → IsWorld w → HappensTo list w v → IsWorld v
-events_keep [] w v is run = subst IsWorld (sym run) is
-events_keep (event ∷ list) w v is (next, outcome, step, rest) = events_keep list next v (end_keeps event outcome w next is step) rest
+pub events_keep : (list : List WorldEvent) (outcomes : List Outcome) (w v : WorldState) → IsWorld w → HappensTo list outcomes w v → IsWorld v
+events_keep [] [] w v is run = subst IsWorld (sym run) is
+events_keep [] (o ∷ outcomes) w v is run = absurd run
+events_keep (event ∷ list) [] w v is run = absurd run
+events_keep (event ∷ list) (outcome ∷ outcomes) w v is (next, step, rest) = events_keep list outcomes next v (end_keeps event outcome w next is step) rest
 
 -- one event more
-pub happens_more : (list : List WorldEvent) (event : WorldEvent) (outcome : Outcome) (w mid v : WorldState) → HappensTo list w mid → EndsAs event outcome mid v
-    → HappensTo (list ++ event ∷ []) w v
-happens_more [] event outcome w mid v run last = (v, outcome, subst (λ (x : WorldState). EndsAs event outcome x v) run last, refl)
-happens_more (first ∷ list) event outcome w mid v (next, how, step, rest) last = (next, how, step, happens_more list event outcome next mid v rest last)
+pub happens_more : (list : List WorldEvent) (outcomes : List Outcome) (event : WorldEvent) (outcome : Outcome) (w mid v : WorldState) → HappensTo list outcomes w mid → EndsAs event outcome mid v
+    → HappensTo (list ++ event ∷ []) (outcomes ++ outcome ∷ []) w v
+happens_more [] [] event outcome w mid v run last = (v, subst (λ (x : WorldState). EndsAs event outcome x v) run last, refl)
+happens_more [] (o ∷ outcomes) event outcome w mid v run last = absurd run
+happens_more (first ∷ list) [] event outcome w mid v run last = absurd run
+happens_more (first ∷ list) (o ∷ outcomes) event outcome w mid v (next, step, rest) last = (next, step, happens_more list outcomes event outcome next mid v rest last)

@@ -1,5 +1,7 @@
 mod Members
 mod HandLemmas
+mod StockLemmas
+mod CallLemmas
 mod TalkLemmas
 mod BookingLemmas
 mod Keeps

@@ -158,6 +158,6 @@ safe w is = record {
 }
 
 pub always_safe : AlwaysSafe
-always_safe list start end is run =
-    let now = events_keep list start end is run in
+always_safe list outcomes start end is run =
+    let now = events_keep list outcomes start end is run in
     (now, safe end now)

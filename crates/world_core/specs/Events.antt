@@ -1,8 +1,15 @@
 -- The events, and what may become of a world at each.
-use Rattle.std.specs.Prelude.{◌≡◌, ◌⊎◌, ℕ, ◌<◌, true, List, [], ◌∷◌, length, slice_get, Some, None, Ok}
+use Rattle.std.specs.Prelude.{◌≡◌, ◌≢◌, ◌⊎◌, ℕ, ◌<◌, true, false, All, List, [], ◌∷◌, length, slice_get, Option, Some, None, Ok}
 use Rattle.deed_core.specs.Tag.{Tag}
-use Rattle.deed_core.specs.Request.{Fits}
-use Rattle.stock.specs.Steps.{HasQuantum}
+use Rattle.deed_core.specs.Request.{Fits, IsGood, plain_of}
+use Rattle.deed_core.specs.declared.requests.Request.{Request}
+use Rattle.deed_core.specs.declared.segments.Route.TheVariants.{Direct}
+use Rattle.tag_arena.specs.ArenaState.{IsChosen}
+use Rattle.tag_arena.specs.Outcomes.{Carved, Imported}
+use Rattle.slab_layer.specs.Slab.{IsAllOut, IsComplete}
+use Rattle.slab_layer.specs.Calls.{TakeOf, AddOf, ReapOf}
+use Rattle.stock.specs.Spaces.{SpaceState, QuantumCacheState, IsCacheAt}
+use Rattle.stock.specs.Steps.{HasQuantum, OnArena, OnSlab, FreeIn, PutIn, CanImport, IsTaggedIn, IsOutOf}
 use Rattle.lease_terms.specs.Requests.{RequestId}
 use Rattle.lease_terms.specs.declared.refusals.Refusal.TheVariants.{NotYours, Leases}
 use Rattle.lease_proto.specs.declared.lines.LeaseLine.{LeaseLine}
@@ -14,12 +21,15 @@ use Rattle.lease_book.specs.Account.{Lease}
 use Rattle.lease_book.specs.BookState.{account_in}
 use Rattle.lease_client.specs.ClientState.{ClientState}
 use Rattle.lease_client.specs.Calls.{IsRestarted, IsSent, IsResent, may_restart, refusal}
+use Rattle.lease_client.specs.declared.faults.SendFault.TheVariants as sending
 use Rattle.world_core.specs.declared.events.WorldEvent.{WorldEvent}
 use Rattle.world_core.specs.declared.events.WorldEvent.TheVariants as events
 use Rattle.world_core.specs.declared.events.Outcome.{Outcome}
-use Rattle.world_core.specs.declared.events.Outcome.TheVariants.{Done, NotEnabled, NoMemory}
+use Rattle.world_core.specs.declared.events.EventFault.{EventFault}
+use Rattle.world_core.specs.declared.events.EventFault.TheVariants as faults
+use Rattle.world_core.specs.declared.events.Outcome.TheVariants.{Done, NotEnabled, NoMemory, Refused}
 use Rattle.world_core.specs.WorldState.{WorldState, IsAmong}
-use Rattle.world_core.specs.Moves.{request_in, HasTask, IsNamed, ClientSays, ClientHears, HelloTaken, HelloRefused, AnsweredAtOnce, TaskTaken, TaskGranted, TaskRefused, TaskReleased, TaskEnded, LeaseSwept, HasAllLeases, HasNoSuchLease}
+use Rattle.world_core.specs.Moves.{request_in, HasTask, IsNamed, ClientSays, ClientHears, HelloTaken, HelloRefused, AnsweredAtOnce, TaskTaken, TaskGranted, TaskRefused, TaskReleased, TaskAnswered, TaskGivenUp, HandMoves, LeaseSwept, HasAllLeases, HasNoSuchLease}
 
 -- what a CPU would lease: its hand's segment is of the arena that the lease names, and fits it
 pub record CanGrant (w : WorldState) (cpu : ℕ) (id : RequestId) (lease : LeaseLine) (segment : Tag)
@@ -47,7 +57,54 @@ abbrev pub HasOldLease : WorldState → ℕ → Type 0
 HasOldLease w c = (l : Lease) × IsAmong l (account_in c w.book).leases
     × (l.incarnation < (account_in c w.book).incarnation)
 
--- where an event can happen
+-- the CPU's hand has this, or nothing
+abbrev pub HasInHand : WorldState → ℕ → Option Tag → Type 0
+HasInHand w cpu held = slice_get w.hands cpu ≡ Some held
+
+-- what an arena would carve for the request: it is good, and the policy chooses a base
+pub record CanCarve (s : SpaceState) (q : Request) : Type 0 where
+  pub good : IsGood s.arena.quantum q
+  pub base : ℕ
+  pub chosen : IsChosen s.arena q (Some base)
+
+-- the hand has a span of the arena that came direct, and the cache stands there
+pub record HasSpanFor (w : WorldState) (cpu arena cache : ℕ) (span : Tag) (c : QuantumCacheState)
+    : Type 0 where
+  pub holds : HasInHand w cpu (Some span)
+  pub home : span.arena ≡ arena
+  pub route : span.route ≡ Direct
+  pub at : IsCacheAt w.stock arena cache c
+
+-- where an event can be tried: the client is there, or the CPU, its hand, its request and the
+-- message are as the event asks
+abbrev pub IsReady : WorldEvent → WorldState → Type 0
+IsReady (events.Restarts c i) w = c < length w.clients
+IsReady (events.Says c op) w = c < length w.clients
+IsReady (events.Repeats c) w = c < length w.clients
+IsReady (events.Hears c which) w = (c < length w.clients) × (which < length w.replies)
+IsReady (events.Looks cpu which) w = (which < length w.requests) × IsIdle w cpu
+IsReady (events.Settles cpu) w = (id : RequestId) × (lease : LeaseLine) × (segment : Tag)
+    × (quantum : ℕ) × CanGrant w cpu id lease segment quantum
+IsReady (events.Declines cpu why) w = (id : RequestId) × (op : Op) × HasTask w cpu id op
+IsReady (events.GivesUp cpu) w = (id : RequestId) × (op : Op) × HasTask w cpu id op
+IsReady (events.Releases cpu) w = (id : RequestId) × (release : ReleaseLine) × (arena : ℕ)
+    × CanRelease w cpu id release arena
+IsReady (events.Sweeps cpu c) w = HasInHand w cpu None × HasOldLease w c
+IsReady (events.Carves cpu arena q) w = HasInHand w cpu None × (arena < length w.stock)
+IsReady (events.Frees cpu) w = (t : Tag) × HasInHand w cpu (Some t) × IsTaggedIn w.stock t
+IsReady (events.AddCarves cpu child size) w = (span : Tag) × (s : SpaceState)
+    × HasInHand w cpu (Some span) × (slice_get w.stock child ≡ Some s)
+    × CanImport (plain_of size) span s
+IsReady (events.SlabTakes cpu arena cache) w = HasInHand w cpu None × (c : QuantumCacheState)
+    × IsCacheAt w.stock arena cache c × ¬ All IsAllOut c.slab.slabs
+IsReady (events.SlabPuts cpu) w = (t : Tag) × (j : ℕ)
+    × HasInHand w cpu (Some t) × IsOutOf w.stock j t
+IsReady (events.SlabAdds cpu arena cache) w = (span : Tag) × (c : QuantumCacheState)
+    × HasSpanFor w cpu arena cache span c
+IsReady (events.SlabReaps cpu arena cache) w = HasInHand w cpu None × (c : QuantumCacheState)
+    × IsCacheAt w.stock arena cache c × ¬ All (λ s. ¬ IsComplete s) c.slab.slabs
+
+-- where it can happen: where its part doesn't refuse it either
 abbrev pub IsEnabled : WorldEvent → WorldState → Type 0
 IsEnabled (events.Restarts c i) w =
     (x : ClientState) × (slice_get w.clients c ≡ Some x) × (may_restart i x ≡ true)
@@ -55,15 +112,44 @@ IsEnabled (events.Says c op) w =
     (x : ClientState) × (slice_get w.clients c ≡ Some x) × (refusal op x ≡ None)
 IsEnabled (events.Repeats c) w = (x : ClientState) × (line : Line)
     × (slice_get w.clients c ≡ Some x) × (x.outstanding ≡ Some line)
-IsEnabled (events.Hears c which) w = (c < length w.clients) × (which < length w.replies)
-IsEnabled (events.Looks cpu which) w = (which < length w.requests) × IsIdle w cpu
-IsEnabled (events.Settles cpu) w = (id : RequestId) × (lease : LeaseLine) × (segment : Tag)
-    × (quantum : ℕ) × CanGrant w cpu id lease segment quantum
-IsEnabled (events.Declines cpu why) w = (id : RequestId) × (op : Op) × HasTask w cpu id op
-IsEnabled (events.GivesUp cpu) w = (id : RequestId) × (op : Op) × HasTask w cpu id op
-IsEnabled (events.Releases cpu) w = (id : RequestId) × (release : ReleaseLine) × (arena : ℕ)
-    × CanRelease w cpu id release arena
-IsEnabled (events.Sweeps cpu c) w = (slice_get w.hands cpu ≡ Some None) × HasOldLease w c
+IsEnabled (events.Carves cpu arena q) w = HasInHand w cpu None × (s : SpaceState)
+    × (slice_get w.stock arena ≡ Some s) × CanCarve s q
+IsEnabled (events.SlabAdds cpu arena cache) w = (span : Tag) × (c : QuantumCacheState)
+    × HasSpanFor w cpu arena cache span c × (span.holding.range.len ≡ c.slab.slab_size)
+IsEnabled event w = IsReady event w
+
+-- why its part refuses an event that can be tried
+abbrev pub IsRefused : WorldEvent → EventFault → WorldState → Type 0
+IsRefused (events.Restarts c i) faults.NotGreater w =
+    (x : ClientState) × (slice_get w.clients c ≡ Some x) × (may_restart i x ≡ false)
+IsRefused (events.Says c op) faults.NotOpen w = (x : ClientState) × (back : Op)
+    × (slice_get w.clients c ≡ Some x) × (refusal op x ≡ Some (sending.NotOpen back))
+IsRefused (events.Says c op) faults.Busy w = (x : ClientState) × (back : Op)
+    × (slice_get w.clients c ≡ Some x) × (refusal op x ≡ Some (sending.Busy back))
+IsRefused (events.Says c op) faults.NotHeld w = (x : ClientState) × (back : Op)
+    × (slice_get w.clients c ≡ Some x) × (refusal op x ≡ Some (sending.NotHeld back))
+IsRefused (events.Says c op) faults.Exhausted w = (x : ClientState) × (back : Op)
+    × (slice_get w.clients c ≡ Some x) × (refusal op x ≡ Some (sending.Exhausted back))
+IsRefused (events.Repeats c) faults.Nothing w =
+    (x : ClientState) × (slice_get w.clients c ≡ Some x) × (x.outstanding ≡ None)
+IsRefused (events.Carves cpu arena q) faults.BadRequest w = HasInHand w cpu None
+    × (s : SpaceState) × (slice_get w.stock arena ≡ Some s) × ¬ IsGood s.arena.quantum q
+IsRefused (events.Carves cpu arena q) faults.NoFit w = HasInHand w cpu None × (s : SpaceState)
+    × (slice_get w.stock arena ≡ Some s) × IsGood s.arena.quantum q × IsChosen s.arena q None
+IsRefused (events.SlabAdds cpu arena cache) faults.WrongSize w = (span : Tag)
+    × (c : QuantumCacheState) × HasSpanFor w cpu arena cache span c
+    × (span.holding.range.len ≢ c.slab.slab_size)
+IsRefused event why w = ⊥
+
+-- where an event may ask for memory: some never do, and a sweep asks before it looks for a lease
+abbrev pub MayWantMemory : WorldEvent → WorldState → Type 0
+MayWantMemory (events.Hears c which) w = ⊥
+MayWantMemory (events.Sweeps cpu c) w = HasInHand w cpu None
+MayWantMemory (events.Frees cpu) w = ⊥
+MayWantMemory (events.SlabTakes cpu arena cache) w = ⊥
+MayWantMemory (events.SlabPuts cpu) w = ⊥
+MayWantMemory (events.SlabReaps cpu arena cache) w = ⊥
+MayWantMemory event w = IsReady event w
 
 -- the move of an event
 abbrev pub MovesBy : WorldEvent → (old new : WorldState) → Type 0
@@ -76,29 +162,47 @@ MovesBy (events.Looks cpu which) old new = HelloTaken which old new
     ⊎ HelloRefused which old new ⊎ AnsweredAtOnce which old new ⊎ TaskTaken cpu which old new
 MovesBy (events.Settles cpu) old new =
     TaskGranted cpu old new
-    ⊎ (TaskRefused cpu Leases old new × HasAllLeases old cpu) ⊎ TaskEnded cpu old new
-MovesBy (events.Declines cpu why) old new = TaskRefused cpu why old new ⊎ TaskEnded cpu old new
-MovesBy (events.GivesUp cpu) old new = TaskEnded cpu old new
+    ⊎ (TaskRefused cpu Leases old new × HasAllLeases old cpu) ⊎ TaskAnswered cpu old new
+MovesBy (events.Declines cpu why) old new = TaskRefused cpu why old new ⊎ TaskAnswered cpu old new
+MovesBy (events.GivesUp cpu) old new = TaskGivenUp cpu old new
 MovesBy (events.Releases cpu) old new =
     TaskReleased cpu old new
-    ⊎ (TaskRefused cpu NotYours old new × HasNoSuchLease old cpu) ⊎ TaskEnded cpu old new
+    ⊎ (TaskRefused cpu NotYours old new × HasNoSuchLease old cpu) ⊎ TaskAnswered cpu old new
 MovesBy (events.Sweeps cpu c) old new = LeaseSwept cpu c old new
+MovesBy (events.Carves cpu arena q) old new = (t : Tag)
+    × HandMoves cpu None (Some t) (OnArena arena (λ a b. Carved a q t b)) old new
+MovesBy (events.Frees cpu) old new = (t : Tag) × (back : Option Tag)
+    × HandMoves cpu (Some t) back (λ a b. FreeIn a t (Ok back) b) old new
+MovesBy (events.AddCarves cpu child size) old new = (span t : Tag)
+    × HandMoves cpu (Some span) (Some t)
+    (OnArena child (λ a b. Imported a span (plain_of size) t b)) old new
+MovesBy (events.SlabTakes cpu arena cache) old new = (t : Tag)
+    × HandMoves cpu None (Some t) (OnSlab arena cache (λ a b. TakeOf a (Some t) b)) old new
+MovesBy (events.SlabPuts cpu) old new = (t : Tag)
+    × HandMoves cpu (Some t) None (λ a b. PutIn a t (Ok tt) b) old new
+MovesBy (events.SlabAdds cpu arena cache) old new = (span t : Tag)
+    × HandMoves cpu (Some span) (Some t) (OnSlab arena cache (λ a b. AddOf a span (Ok t) b)) old new
+MovesBy (events.SlabReaps cpu arena cache) old new = (t : Tag)
+    × HandMoves cpu None (Some t) (OnSlab arena cache (λ a b. ReapOf a (Some t) b)) old new
 
--- how an event ends: by its move just where it can happen, memory aside, and else with no change
+-- how an event ends: by its move just where it can happen, memory aside; else, with no change, by its
+-- part's refusal, or as not enabled where it can't even be tried
 abbrev pub EndsAs : WorldEvent → Outcome → (old new : WorldState) → Type 0
 EndsAs event Done old new = IsEnabled event old × MovesBy event old new
-EndsAs event NotEnabled old new = (¬ IsEnabled event old) × (new ≡ old)
-EndsAs event NoMemory old new = new ≡ old
+EndsAs event NotEnabled old new = (¬ IsReady event old) × (new ≡ old)
+EndsAs event (Refused why) old new = IsRefused event why old × (new ≡ old)
+EndsAs event NoMemory old new = MayWantMemory event old × (new ≡ old)
 
 -- the move is made, or memory was refused
 abbrev pub Tries : (WorldState → WorldState → Type 0) → Outcome → (old new : WorldState) → Type 0
 Tries Move Done old new = Move old new
 Tries Move NotEnabled old new = ⊥
+Tries Move (Refused why) old new = ⊥
 Tries Move NoMemory old new = new ≡ old
 
--- events one after the other, each of which makes its move or changes nothing
-abbrev pub HappensTo : List WorldEvent → (old new : WorldState) → Type 0
-HappensTo [] old new = new ≡ old
-HappensTo (event ∷ events) old new =
-    (next : WorldState) × (outcome : Outcome) × EndsAs event outcome old next
-    × HappensTo events next new
+-- events one after the other, each with its outcome
+abbrev pub HappensTo : List WorldEvent → List Outcome → (old new : WorldState) → Type 0
+HappensTo [] [] old new = new ≡ old
+HappensTo (event ∷ events) (outcome ∷ outcomes) old new =
+    (next : WorldState) × EndsAs event outcome old next × HappensTo events outcomes next new
+HappensTo events outcomes old new = ⊥

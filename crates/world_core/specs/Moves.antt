@@ -1,10 +1,13 @@
 -- What may become of a world at one event, each case by its condition and its move. The parts' own
 -- relations say what a call of them does; all that a move doesn't name stays.
-use Rattle.std.specs.Prelude.{◌≡◌, ◌⊎◌, ℕ, ◌<◌, ◌≤◌, List, [], ◌∷◌, ◌++◌, length, set, slice_get, Some, None}
+use Rattle.std.specs.Prelude.{◌≡◌, ℕ, ◌<◌, ◌≤◌, List, [], ◌∷◌, ◌++◌, length, set, slice_get, Option, Some, None}
 use Rattle.std.specs.List.{find}
+use Rattle.std.specs.Option.{option_to_list}
 use Rattle.deed_core.specs.Tag.{Tag}
 use Rattle.deed_core.specs.declared.requests.Request.{Request}
+use Rattle.stock.specs.Spaces.{SpaceState}
 use Rattle.stock.specs.Steps.{HasQuantum}
+use Rattle.stock_audit.specs.Keeping.{IsStep}
 use Rattle.lease_terms.specs.Requests.{RequestId}
 use Rattle.lease_terms.specs.declared.refusals.Refusal.{Refusal}
 use Rattle.lease_proto.specs.declared.lines.HelloLine.{HelloLine}
@@ -210,17 +213,35 @@ pub record TaskReleased (cpu : ℕ) (old new : WorldState) : Type 0 where
     replies = old.replies ++ settled_reply old id (Return arena release.base) ∷ [];
   }
 
--- the request ends unsettled: its number isn't new any more, or memory was refused
-pub record TaskEnded (cpu : ℕ) (old new : WorldState) : Type 0 where
+-- the request ends unsettled, with a reply that may come
+pub record TaskEnded (cpu : ℕ) (May : RequestId → Reply → Type 0) (old new : WorldState)
+    : Type 0 where
   pub id : RequestId
   pub op : Op
   pub reply : Reply
   pub serves : HasTask old cpu id op
-  pub answered : IsAnswered old id reply ⊎ (reply ≡ again_to id)
+  pub may : May id reply
   pub after : new ≡ record old {
     tasks = set old.tasks cpu None;
     replies = old.replies ++ reply ∷ [];
   }
+
+-- its number isn't new any more
+abbrev pub TaskAnswered : ℕ → (old new : WorldState) → Type 0
+TaskAnswered cpu old new = TaskEnded cpu (IsAnswered old) old new
+
+-- out of memory
+abbrev pub TaskGivenUp : ℕ → (old new : WorldState) → Type 0
+TaskGivenUp cpu old new = TaskEnded cpu (λ id reply. reply ≡ again_to id) old new
+
+-- a part is given what the CPU's hand has, and the hand has what it answers
+pub record HandMoves (cpu : ℕ) (given answered : Option Tag)
+    (Does : (old new : List SpaceState) → Type 0) (old new : WorldState) : Type 0 where
+  pub stock : List SpaceState
+  pub holds : slice_get old.hands cpu ≡ Some given
+  pub does : Does old.stock stock
+  pub step : IsStep old.stock (option_to_list given) stock (option_to_list answered)
+  pub after : new ≡ record old { stock = stock; hands = set old.hands cpu answered }
 
 -- a lease of an incarnation of the client that has passed comes into the CPU's empty hand
 pub record LeaseSwept (cpu client : ℕ) (old new : WorldState) : Type 0 where

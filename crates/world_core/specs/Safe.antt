@@ -1,5 +1,5 @@
 -- What holds of every world, in the words of whoever relies on it.
-use Rattle.std.specs.Prelude.{◌≡◌, ◌<◌, ◌≤◌, ℕ, List, [], length, slice_get, Some, sum_by, if◌then◌else◌}
+use Rattle.std.specs.Prelude.{◌≡◌, ◌<◌, ◌≤◌, ℕ, List, length, slice_get, Some, sum_by, if◌then◌else◌}
 use Rattle.std.specs.Str.{bytes_eq}
 use Rattle.deed_core.specs.Covering.{covers, covering_held}
 use Rattle.deed_core.specs.Request.{Fits}
@@ -20,6 +20,7 @@ use Rattle.lease_client.specs.declared.held.HeldSegment.{HeldSegment}
 use Rattle.lease_client.specs.ClientState.{ClientState}
 use Rattle.lease_history.specs.Known.{weight_in}
 use Rattle.world_core.specs.declared.events.WorldEvent.{WorldEvent}
+use Rattle.world_core.specs.declared.events.Outcome.{Outcome}
 use Rattle.world_core.specs.WorldState.{WorldState, arena_name, outside_of, IsAmong, Each}
 use Rattle.world_core.specs.IsWorld.{IsWorld, IsAsked}
 use Rattle.world_core.specs.Events.{HappensTo}
@@ -79,5 +80,5 @@ pub record Safe (w : WorldState) : Type 0 where
 
 -- whatever happens to a world, it is safe
 abbrev pub AlwaysSafe : Type 0
-AlwaysSafe = (events : List WorldEvent) (start end : WorldState)
-    → IsWorld start → HappensTo events start end → IsWorld end × Safe end
+AlwaysSafe = (events : List WorldEvent) (outcomes : List Outcome) (start end : WorldState)
+    → IsWorld start → HappensTo events outcomes start end → IsWorld end × Safe end

@@ -5,8 +5,8 @@ ghost use Rattle.lease_book.specs.BookState.{account_in};
 ghost use Rattle.lease_book.specs.Answers.{IsAnswer, IsNew};
 ghost use Rattle.lease_proto.specs.declared.lines.Op.{Op};
 ghost use Rattle.world_core.specs.IsWorld.{IsWorld};
-ghost use Rattle.world_core.specs.Moves.{HasTask, IsAnswered, again_to, TaskEnded, TaskRefused, TaskGranted, HasAllLeases};
-ghost use Rattle.world_core.specs.Events.{EndsAs, Tries, CanGrant, IsEnabled};
+ghost use Rattle.world_core.specs.Moves.{HasTask, IsAnswered, TaskAnswered, TaskGivenUp, TaskRefused, TaskGranted, HasAllLeases};
+ghost use Rattle.world_core.specs.Events.{EndsAs, Tries, CanGrant, IsReady};
 
 use crate::events::{Outcome, WorldEvent};
 use crate::hands::{put, take};
@@ -43,7 +43,7 @@ impl<D: Deed> WorldParts<D> {
         requires world { IsWorld self.now }
         ensures some { IfSome result
             (λ g. CanGrant self.now cpu g.id g.lease g.segment g.quantum) }
-        ensures none { IfNone result (¬ IsEnabled (WorldEvent.Settles cpu) self.now) }
+        ensures none { IfNone result (¬ IsReady (WorldEvent.Settles cpu) self.now) }
     {
         let (id, lease) = self.lease_task(cpu)?;
         let segment = self.in_hand(cpu)?;
@@ -88,8 +88,8 @@ impl<D: Deed> WorldParts<D> {
     /// The request that the CPU serves ends unsettled, with this reply.
     pub(crate) fn end(&mut self, cpu: usize, task: Task, reply: Reply) -> Outcome
         requires task { HasTask self.old cpu task.id task.op }
-        requires answered { IsAnswered self.old task.id reply ⊎ (reply ≡ again_to task.id) }
-        ensures { Tries (TaskEnded cpu) result self.old self.new }
+        requires answered { IsAnswered self.old task.id reply }
+        ensures { Tries (TaskAnswered cpu) result self.old self.new }
     {
         let Ok(()) = self.replies.reserve(1) else {
             return Outcome::NoMemory;
@@ -148,13 +148,26 @@ impl<D: Deed> WorldParts<D> {
         let Some(task) = self.task(cpu) else {
             return Outcome::NotEnabled;
         };
+        self.abandon(cpu, task)
+    }
+
+    /// The request that the CPU serves ends unsettled: it is told to come again.
+    fn abandon(&mut self, cpu: usize, task: Task) -> Outcome
+        requires task { HasTask self.old cpu task.id task.op }
+        ensures { Tries (TaskGivenUp cpu) result self.old self.new }
+    {
+        let Ok(()) = self.replies.reserve(1) else {
+            return Outcome::NoMemory;
+        };
         let id = task.id;
-        let reply = Reply::Again(Again {
+        let again = Reply::Again(Again {
             client: id.client,
             incarnation: id.incarnation,
             number: id.number.quantity(),
         });
-        self.end(cpu, task, reply)
+        self.tasks[cpu] = None;
+        self.replies.push_reserved(again);
+        Outcome::Done
     }
 
     /// A CPU leases its hand's segment to the request that it serves.

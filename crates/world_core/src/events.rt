@@ -1,4 +1,5 @@
 //! What may happen to a world.
+use deed_core::Request;
 use lease_proto::Op;
 use lease_terms::{ClientId, Refusal};
 
@@ -7,25 +8,115 @@ use lease_terms::{ClientId, Refusal};
 #[derive(Clone, Copy, Debug, PartialEq, Eq)]
 pub enum WorldEvent {
     /// A client begins a greater incarnation: its hello is sent.
-    Restarts { client: usize, incarnation: u64 },
+    Restarts {
+        client: usize,
+        incarnation: u64,
+    },
     /// A client sends its next request.
-    Says { client: usize, op: Op },
+    Says {
+        client: usize,
+        op: Op,
+    },
     /// A client sends again what is outstanding.
-    Repeats { client: usize },
+    Repeats {
+        client: usize,
+    },
     /// A reply comes to a client, in whatever order, and as often as it likes.
-    Hears { client: usize, which: usize },
+    Hears {
+        client: usize,
+        which: usize,
+    },
     /// A line comes to a CPU. A hello is taken whole.
-    Looks { cpu: usize, which: usize },
+    Looks {
+        cpu: usize,
+        which: usize,
+    },
     /// A CPU leases its hand's segment to the request that it serves.
-    Settles { cpu: usize },
+    Settles {
+        cpu: usize,
+    },
     /// A CPU refuses the request that it serves.
-    Declines { cpu: usize, refusal: Refusal },
+    Declines {
+        cpu: usize,
+        refusal: Refusal,
+    },
     /// A CPU answers `again` to the request that it serves.
-    GivesUp { cpu: usize },
+    GivesUp {
+        cpu: usize,
+    },
     /// A CPU takes the lease into its hand that the release names that it serves.
-    Releases { cpu: usize },
+    Releases {
+        cpu: usize,
+    },
     /// A CPU takes a lease of an incarnation that has passed into its hand.
-    Sweeps { cpu: usize, client: ClientId },
+    Sweeps {
+        cpu: usize,
+        client: ClientId,
+    },
+    /// A CPU carves what the arena's policy chooses for the request.
+    Carves {
+        cpu: usize,
+        arena: usize,
+        request: Request,
+    },
+    /// A CPU frees its hand's segment. A span that becomes whole by that comes into the hand.
+    Frees {
+        cpu: usize,
+    },
+    /// A CPU gives its hand's segment to an arena that imports from the segment's, and gets `size`
+    /// units of it, rounded up.
+    AddCarves {
+        cpu: usize,
+        child: usize,
+        size: u64,
+    },
+    /// A CPU takes an idle chunk. Caches are named by their places in their arena: the first has
+    /// chunks of one quantum.
+    SlabTakes {
+        cpu: usize,
+        arena: usize,
+        cache: usize,
+    },
+    /// A CPU puts its hand's chunk back into its slab.
+    SlabPuts {
+        cpu: usize,
+    },
+    /// A CPU gives its hand's segment to a cache as a slab, and gets the first chunk.
+    SlabAdds {
+        cpu: usize,
+        arena: usize,
+        cache: usize,
+    },
+    /// A CPU takes a slab that has all its chunks.
+    SlabReaps {
+        cpu: usize,
+        arena: usize,
+        cache: usize,
+    },
+}
+
+/// Why a part refuses an event.
+#[derive(Clone, Copy, Debug, PartialEq, Eq)]
+pub enum EventFault {
+    /// The incarnation isn't above the client's and each that an accepted `old` named, or it is
+    /// above 2^62.
+    NotGreater,
+    /// No `welcome` has come yet to the client's hello.
+    NotOpen,
+    /// The client's last request waits for its reply.
+    Busy,
+    /// The client doesn't hold what it would release.
+    NotHeld,
+    /// The client has no number left.
+    Exhausted,
+    /// Nothing of the client's is outstanding.
+    Nothing,
+    /// No arena of this quantum takes such a request.
+    BadRequest,
+    /// No free range of the arena serves the request.
+    NoFit,
+    /// The segment hasn't the length of the cache's slabs.
+    WrongSize,
 }
 
 /// What became of an event.
@@ -35,6 +126,8 @@ pub enum Outcome {
     Done,
     /// A client, a CPU, its hand, its request or a message isn't as the event asks.
     NotEnabled,
+    /// The part that it asks refuses it.
+    Refused(EventFault),
     /// Out of memory.
     NoMemory,
 }

@@ -11,15 +11,15 @@
 //! segments that they hold, and any two replies that settle one request are equal.
 //!
 //! Begin with [`World::step`] and `specs/Events.antt`: where each event can happen, and what may
-//! become of a world at it; `specs/Moves.antt` has the moves. Events on the stock (carving,
-//! freeing, slabs, magazines) aren't here yet: so nothing comes into a hand of a new world, and no
-//! run of one reaches a grant. What holds of every list of events holds from any world that is one.
+//! become of a world at it; `specs/Moves.antt` has the moves. CPUs have no magazines yet. What holds
+//! of every list of events holds from any world that is one.
 //!
 //! What it costs: a world keeps each line, reply and entry of the book for good. An event takes the
 //! time of its part's call, and a release looks the name of its arena up among all names.
 #![tactic(auto)]
 
 mod booking;
+mod carving;
 mod events;
 mod hands;
 mod laws;
@@ -29,11 +29,12 @@ mod names;
 mod parts;
 mod releasing;
 mod setups;
+mod slabs;
 mod talking;
 mod tasks;
 mod worlds;
 
-pub use events::{Outcome, WorldEvent};
+pub use events::{EventFault, Outcome, WorldEvent};
 pub use laws::always_safe;
 pub use logs::{Label, Logged};
 pub use tasks::Task;

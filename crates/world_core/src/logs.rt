@@ -57,6 +57,20 @@ impl Label {
     {
         self.arena
     }
+
+    /// Where it came from.
+    pub fn route(&self) -> Route
+        ensures { result ≡ self.now.route }
+    {
+        self.route
+    }
+
+    /// How many units it has.
+    pub fn len(&self) -> u64
+        ensures { result ≡ self.now.holding.range.len }
+    {
+        self.len
+    }
 }
 
 /// An entry.

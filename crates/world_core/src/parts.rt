@@ -161,6 +161,17 @@ impl<D: Deed> WorldParts<D> {
             WorldEvent::GivesUp { cpu } => self.give_up(cpu),
             WorldEvent::Releases { cpu } => self.release(cpu),
             WorldEvent::Sweeps { cpu, client } => self.sweep(cpu, client),
+            WorldEvent::Carves {
+                cpu,
+                arena,
+                request,
+            } => self.carve(cpu, arena, &request),
+            WorldEvent::Frees { cpu } => self.free(cpu),
+            WorldEvent::AddCarves { cpu, child, size } => self.add_carve(cpu, child, size),
+            WorldEvent::SlabTakes { cpu, arena, cache } => self.slab_take(cpu, arena, cache),
+            WorldEvent::SlabPuts { cpu } => self.slab_put(cpu),
+            WorldEvent::SlabAdds { cpu, arena, cache } => self.slab_add(cpu, arena, cache),
+            WorldEvent::SlabReaps { cpu, arena, cache } => self.slab_reap(cpu, arena, cache),
         }
     }
 }

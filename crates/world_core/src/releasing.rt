@@ -4,7 +4,7 @@ ghost use Rattle.lease_book.specs.BookState.{account_in};
 ghost use Rattle.lease_book.specs.Answers.{IsNew};
 ghost use Rattle.world_core.specs.IsWorld.{IsWorld};
 ghost use Rattle.world_core.specs.Moves.{TaskReleased, TaskRefused, HasNoSuchLease};
-ghost use Rattle.world_core.specs.Events.{EndsAs, Tries, CanRelease, IsEnabled};
+ghost use Rattle.world_core.specs.Events.{EndsAs, Tries, CanRelease, IsReady};
 
 use crate::booking::number_answer;
 use crate::events::{Outcome, WorldEvent};
@@ -31,7 +31,7 @@ impl<D: Deed> WorldParts<D> {
     fn releasable(&self, cpu: usize) -> Option<Release>
         requires world { IsWorld self.now }
         ensures some { IfSome result (λ r. CanRelease self.now cpu r.id r.line r.arena) }
-        ensures none { IfNone result (¬ IsEnabled (WorldEvent.Releases cpu) self.now) }
+        ensures none { IfNone result (¬ IsReady (WorldEvent.Releases cpu) self.now) }
     {
         if !self.has_empty_hand(cpu) {
             return None;

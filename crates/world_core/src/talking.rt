@@ -2,7 +2,7 @@
 ghost use Rattle.std.specs.Prelude.{◌≡◌};
 ghost use Rattle.world_core.specs.Events.{EndsAs};
 
-use crate::events::{Outcome, WorldEvent};
+use crate::events::{EventFault, Outcome, WorldEvent};
 use crate::parts::WorldParts;
 use deed_core::Deed;
 use lease_client::SendFault;
@@ -24,7 +24,7 @@ impl<D: Deed> WorldParts<D> {
                 self.requests.push_reserved(line);
                 return Outcome::Done;
             }
-            Err(_) => return Outcome::NotEnabled,
+            Err(_) => return Outcome::Refused(EventFault::NotGreater),
         }
     }
 
@@ -44,8 +44,11 @@ impl<D: Deed> WorldParts<D> {
                 return Outcome::Done;
             }
             Err(fault) => match fault {
+                SendFault::NotOpen(_) => return Outcome::Refused(EventFault::NotOpen),
+                SendFault::Busy(_) => return Outcome::Refused(EventFault::Busy),
+                SendFault::NotHeld(_) => return Outcome::Refused(EventFault::NotHeld),
+                SendFault::Exhausted(_) => return Outcome::Refused(EventFault::Exhausted),
                 SendFault::NoMemory(_) => return Outcome::NoMemory,
-                _ => return Outcome::NotEnabled,
             },
         }
     }
@@ -65,7 +68,7 @@ impl<D: Deed> WorldParts<D> {
                 self.requests.push_reserved(line);
                 return Outcome::Done;
             }
-            Err(_) => return Outcome::NotEnabled,
+            Err(_) => return Outcome::Refused(EventFault::Nothing),
         }
     }
 

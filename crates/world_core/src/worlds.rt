@@ -1,10 +1,12 @@
 //! The world.
+ghost use Rattle.std.specs.Prelude.{◌≡◌, IfOk, OnErr};
 ghost use Rattle.world_core.specs.Events.{EndsAs, HappensTo};
 ghost use Rattle.world_core.specs.Safe.{Safe};
 
 use crate::events::{Outcome, WorldEvent};
 use crate::parts::WorldParts;
 use deed_core::Deed;
+use std::alloc::{AllocError, Global};
 use std::marker::Model;
 
 /// A stock, CPUs, a book and its clients, with all lines and replies that were ever sent.
@@ -39,16 +41,22 @@ impl<D: Deed> World<D> {
         self.parts.step(event)
     }
 
-    /// Lets events happen, one after the other.
-    pub fn run(&mut self, events: &[WorldEvent])
-        ensures happened { HappensTo events.now self.old self.new }
+    /// Lets events happen, one after the other, and tells what became of each. Where it is out of
+    /// memory for that list, nothing happens.
+    pub fn run(&mut self, alloc: Global, events: &[WorldEvent]) -> Result<Vec<Outcome>, AllocError>
+        ensures happened { IfOk result
+            (λ outcomes. HappensTo events.now outcomes.items self.old self.new) }
+        ensures err { OnErr result (self.new ≡ self.old) }
         ensures safe { Safe self.new }
     {
-        for event in events {
-            let _ = self.step(*event);
-        }
         // For its clause: a world is safe.
         self.check();
+        let mut outcomes = Vec::with_capacity(alloc, events.len())?;
+        for event in events {
+            outcomes.push_reserved(self.step(*event));
+        }
+        self.check();
+        Ok(outcomes)
     }
 
     /// What is true of every world. This does nothing: it is called for its clause.

@@ -1,9 +1,8 @@
-use Rattle.std.proofs.Common.{◌≡◌, ◌<◌, sym, subst, ap, ◌∙◌, length, Some, None, arith}
+use Rattle.std.proofs.Common.{◌≡◌, ◌<◌, sym, subst, ap, ◌∙◌, length, Some, arith}
 use Rattle.std.specs.Prelude.{slice_get}
 use Rattle.deed_core.proofs.LawProofs.{slice_get_here}
 use Rattle.world_core.specs.WorldState.{WorldState, entries_of}
 use Rattle.world_core.proofs.PartLemmas.{onto}
-use Rattle.lease_client.specs.ClientState.{ClientState}
 use Rattle.world_core.specs.Events.{EndsAs}
 use Rattle.world_core.specs.declared.events.WorldEvent.TheVariants as events
 use Rattle.world_core.specs.declared.events.Outcome.TheVariants.{Done}
@@ -25,10 +24,6 @@ returns-in-Err g c =
     let view : w ≡ c.args.self.now = c.self.view_is in
     let within : c.args.client < length w.clients = omega arith in
     let here : slice_get w.clients c.args.client ≡ Some c.index.result.now = slice_get_here w.clients c.args.client c.index.result.now within c.index.ensures in (
-      λ can. absurd (
-          let there : slice_get w.clients c.args.client ≡ Some can.0 = ap (λ (v : WorldState). slice_get v.clients c.args.client) view ∙ can.2 in
-          let same : c.index.result.now ≡ can.0 = cc in
-          let both : None ≡ Some can.1 = sym c.in-Err.ensures.resent ∙ ap (λ (x : ClientState). x.outstanding) same ∙ can.3 in
-          cc),
+      (c.index.result.now, ap (λ (v : WorldState). slice_get v.clients c.args.client) (sym view) ∙ here, c.in-Err.ensures.resent),
       (λ j. record w { requests = c.reserve.ensures.items j }) ∙ view,
     )

@@ -1,7 +1,6 @@
-use Rattle.std.proofs.Common.{◌≡◌, ◌<◌, true, false, sym, ap, ◌∙◌, length, Some, arith}
+use Rattle.std.proofs.Common.{◌≡◌, ◌<◌, sym, ap, ◌∙◌, length, Some, arith}
 use Rattle.std.specs.Prelude.{slice_get}
 use Rattle.deed_core.proofs.LawProofs.{slice_get_here}
-use Rattle.lease_client.specs.Calls.{may_restart}
 use Rattle.world_core.specs.WorldState.{WorldState, entries_of}
 use Rattle.world_core.proofs.PartLemmas.{unsaid}
 use Rattle.world_core.proofs.parts.WorldParts.restart.Goals as goal
@@ -13,10 +12,6 @@ returns-in-Err g c =
     let within : c.args.client < length w.clients = omega arith in
     let here : slice_get w.clients c.args.client ≡ Some c.index_mut.result.now = slice_get_here w.clients c.args.client c.index_mut.result.now within c.index_mut.ensures.value in
     let failed = c.in-Err.ensures.restarted in (
-      λ can. absurd (
-          let there : slice_get w.clients c.args.client ≡ Some can.0 = ap (λ (v : WorldState). slice_get v.clients c.args.client) view ∙ can.1 in
-          let same : c.index_mut.result.now ≡ can.0 = cc in
-          let both : true ≡ false = sym can.2 ∙ ap (may_restart c.args.incarnation) (sym same) ∙ failed.0 in
-          cc),
+      (c.index_mut.result.now, ap (λ (v : WorldState). slice_get v.clients c.args.client) (sym view) ∙ here, failed.0),
       unsaid w c.args.client _ _ _ here failed.1 c.reserve.ensures.items ∙ view,
     )
