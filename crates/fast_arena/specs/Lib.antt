@@ -1,0 +1,4 @@
+pub mod FreeTags
+pub mod Orders
+pub mod Slotted
+pub mod FreeRanges
