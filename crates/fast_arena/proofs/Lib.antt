@@ -4,3 +4,6 @@ pub mod Slotting
 pub mod Mirroring
 pub mod Indexing
 pub mod Starting
+pub mod Searching
+pub mod Fitting
+pub mod Lasting

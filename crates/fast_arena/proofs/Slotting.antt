@@ -2,7 +2,7 @@
 use Rattle.std.proofs.Common.{◌≡◌, ◌≢◌, ◌⊎◌, ⊎_elim, ℕ, zero, suc, ◌+◌, ◌-◌, ◌<◌, ◌≤◌, refl, sym, ap, subst, ◌∙◌, List, [], ◌∷◌, ◌++◌, length, get_or, set, take, All, AllPairs, Contains, Option, None, Some, is_some, count_by, cond, vec_len, vec_capacity, arith}
 use Rattle.std.proofs.lemmas.List.{get_or-set_same, get_or-set_other, get_or_append_left, get_or_push, get_or_past, length_push, length-set}
 use Rattle.std.proofs.lemmas.List.Elements.{All-push, All-contains, Contains-push, Contains-get_or}
-use Rattle.std.proofs.lemmas.List.Sums.{sum_by-set}
+use Rattle.std.proofs.lemmas.List.Sums.{sum_by-set, sum_by_push}
 use Rattle.std.specs.Global.{Vec}
 use Rattle.tag_arena.proofs.Members.{All-from_members, AllPairs-append, Contains-cases, Contains-nil}
 use Rattle.fast_arena.specs.FreeTags.{FreeTag, tag_at, SlotBecomes}
@@ -11,6 +11,10 @@ use Rattle.fast_arena.proofs.Listing.{None≢Some, AllPairs-one}
 
 abbrev pub one_of : Option FreeTag → ℕ
 one_of o = cond (is_some o) 1 0
+
+-- the slots but the last
+pub taken_last : (slots rest : List (Option FreeTag)) (o : Option FreeTag) → slots ≡ rest ++ o ∷ [] → taken slots ≡ taken rest + one_of o
+taken_last slots rest o is = ap taken is ∙ sum_by_push one_of rest o
 
 -- a tag lies in a slot that there is
 pub slot_within : (tags : List (Option FreeTag)) (k : ℕ) (t : FreeTag) → tag_at tags k ≡ Some t → k < length tags

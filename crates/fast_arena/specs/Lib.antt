@@ -2,3 +2,4 @@ pub mod FreeTags
 pub mod Orders
 pub mod Slotted
 pub mod FreeRanges
+pub mod Fits

@@ -1,13 +1,19 @@
 //! The free ranges of an arena, in the orders that its policy asks for.
 ghost use Rattle.std.specs.Prelude.{◌≡◌, ◌≢◌, ◌+◌, ◌<◌, ◌≤◌, ◌++◌, ◌∷◌, [], All, Any, OnOk, OnErr};
-ghost use Rattle.std.specs.Prelude.{length, map, max, IsTrue, ◌↔◌};
+ghost use Rattle.std.specs.Prelude.{◌^◌, length, max, true, IfSome};
+ghost use Rattle.std.specs.Int.{IsPowerOfTwo};
+ghost use Rattle.deed_core.specs.Request.{IsGood};
+ghost use Rattle.tag_arena.specs.Choice.{IsBestChoice};
 ghost use Rattle.tag_arena.specs.Neighbors.{Without};
+ghost use Rattle.fast_arena.specs.Fits.{base_of, IsFit, IsLastBy};
 ghost use Rattle.fast_arena.specs.FreeRanges.{keeps};
+ghost use Rattle.fast_arena.specs.declared.orders.Order.TheVariants.{Sizes};
 
-use crate::held_ranges::held_range_of;
+use crate::held_ranges::{HeldRange, held_range_of};
 use crate::orders::{Order, OrderedIndex};
+use crate::searches::{Fit, best_fit, last_by};
 use crate::slots::{Slots, TimedDeed};
-use deed_core::{Deed, LIMIT, Stored};
+use deed_core::{Deed, LIMIT, Request, Stored};
 use std::alloc::{AllocError, Global};
 use std::marker::Model;
 use tag_arena::Policy;
@@ -151,5 +157,49 @@ impl<D: Deed> FreeIndex<D> {
         self.lists.strike(slot, tag);
         self.rising.strike(slot, tag);
         self.slots.take(slot).into_deed()
+    }
+
+    /// How many free ranges there are.
+    pub fn len(&self) -> usize
+        ensures { result ≡ length self.now.ranges }
+    {
+        self.slots.taken()
+    }
+
+    /// Of the free ranges that begin at `base` or below it, the one that begins last.
+    pub fn last_by(&self, base: u64) -> Option<HeldRange>
+        requires { base ≤ 2 ^ 62 }
+        ensures { IsLastBy base self.now.ranges result }
+    {
+        last_by(&self.slots, &self.falling, base)
+    }
+
+    /// The best range that serves the request, and its least address that does. Under `next` there
+    /// is no index for it.
+    pub fn best(&self, quantum: u64, request: &Request) -> Option<Fit>
+        requires kept { keeps self.now.policy Sizes ≡ true }
+        requires quantum { IsPowerOfTwo quantum }
+        requires good { IsGood quantum request.now }
+        ensures choice { IsBestChoice quantum request.now self.now.ranges (base_of result) }
+        ensures placed { IfSome result (IsFit quantum request.now self.now.ranges) }
+    {
+        best_fit(&self.slots, &self.sizes, quantum, request)
+    }
+
+    /// Ends the index where no range is free.
+    pub fn destroy(self)
+        requires { self.ranges ≡ [] }
+    {
+        let FreeIndex {
+            policy: _,
+            slots,
+            falling: _,
+            sizes: _,
+            lists: _,
+            rising: _,
+            clock: _,
+            room: _,
+        } = self;
+        slots.destroy();
     }
 }

@@ -17,7 +17,10 @@ mod entries;
 mod free_index;
 mod held_ranges;
 mod orders;
+mod places;
+mod searches;
 mod slots;
 
 pub use free_index::FreeIndex;
 pub use held_ranges::{HeldRange, held_range_of};
+pub use searches::Fit;

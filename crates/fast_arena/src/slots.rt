@@ -188,4 +188,36 @@ impl<D: Deed> Slots<D> {
         };
         deed.tag()
     }
+
+    /// How many deeds lie in the slots.
+    pub fn taken(&self) -> usize
+        ensures { result ≡ taken self.now.tags }
+    {
+        self.slots.len() - self.vacant.len()
+    }
+
+    /// Ends the slots where no deed lies in any.
+    pub fn destroy(self)
+        requires { taken self.tags ≡ 0 }
+    {
+        let Slots {
+            slots,
+            vacant: _,
+            room: _,
+        } = self;
+        drop_vacant(slots);
+    }
+}
+
+/// Ends a vector of vacant slots.
+fn drop_vacant<D: Deed>(mut slots: Vec<Option<TimedDeed<D>>>)
+    requires { taken slots.items ≡ 0 }
+{
+    while let Some(slot) = slots.pop() {
+        match slot {
+            None => {}
+            Some(_) => unreachable!(),
+        }
+    }
+    slots.destroy_empty();
 }
