@@ -1,0 +1,9 @@
+pub mod Listing
+pub mod Aging
+pub mod Slotting
+pub mod Mirroring
+pub mod Indexing
+pub mod Starting
+pub mod Searching
+pub mod Fitting
+pub mod Lasting

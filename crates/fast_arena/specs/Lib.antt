@@ -1,0 +1,5 @@
+pub mod FreeTags
+pub mod Orders
+pub mod Slotted
+pub mod FreeRanges
+pub mod Fits

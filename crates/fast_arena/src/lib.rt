@@ -1,0 +1,26 @@
+//! The faster body of an arena. It is being built from below: so far the index of the free ranges.
+//!
+//! `FreeIndex` holds the deeds of the free ranges, which a contract sees as one list from the
+//! oldest to the newest. In it
+//!
+//! * `slots` has each deed in a slot of its own, with the time at which it became free;
+//! * `falling` has the ranges by base from the highest on, for the neighbours of a range;
+//! * `sizes` has them by length and base, under `best` and `instant`;
+//! * `lists` has them by power-of-two list, the newest first, under `instant`;
+//! * `rising` has them by base with their lengths as weights, under `next`.
+//!
+//! So a call looks at a few rows of each index, whatever the number of ranges. Once there is room
+//! nothing takes memory.
+#![tactic(auto)]
+
+mod entries;
+mod free_index;
+mod held_ranges;
+mod orders;
+mod places;
+mod searches;
+mod slots;
+
+pub use free_index::FreeIndex;
+pub use held_ranges::{HeldRange, held_range_of};
+pub use searches::Fit;
