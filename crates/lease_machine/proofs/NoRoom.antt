@@ -1,5 +1,5 @@
 -- The laws on `nofit`, in bytes.
-use Rattle.std.proofs.Common.{◌≡◌, ◌≢◌, ◌⊎◌, ℕ, suc, zero, ◌+◌, ◌<◌, ◌≤◌, refl, sym, subst, ap, ◌∙◌, inl, inr, List, [], ◌∷◌, ◌++◌, length, get_or, Contains, Option, Some, None, Ok, Result, arith}
+use Rattle.std.proofs.Common.{◌≡◌, ◌≢◌, ℕ, ◌+◌, refl, sym, subst, ap, ◌∙◌, inl, inr, List, [], ◌∷◌, ◌++◌, length, get_or, Option, Some, None, Ok, Result, arith}
 use Rattle.std.specs.Prelude.{slice_get, sum_by, codes, decimal, ◌==◌}
 use Rattle.std.specs.List.{find}
 use Rattle.std.proofs.lemmas.Bool.{cases_lt, cases_eq}
@@ -27,21 +27,19 @@ use Rattle.lease_proto.specs.declared.operators.ServedLine.{ServedLine}
 use Rattle.lease_proto.specs.declared.operators.ServedLine.TheVariants as served
 use Rattle.lease_proto.specs.declared.replies.Reply.{Reply}
 use Rattle.lease_proto.specs.declared.replies.Reply.TheVariants as reply
-use Rattle.lease_proto.specs.declared.replies.Refused.{Refused}
 use Rattle.lease_proto.specs.Frames.{ended}
-use Rattle.lease_proto.specs.Replies.{refusal_word}
 use Rattle.lease_book.specs.Entry.{Hello}
 use Rattle.lease_book.specs.Receipts.{Kept}
 use Rattle.lease_book.specs.Account.{Account}
-use Rattle.lease_book.specs.BookState.{BookState, HasHistory, account_in, or_nobody, leased, leased_by}
+use Rattle.lease_book.specs.BookState.{BookState, account_in, or_nobody, leased, leased_by}
 use Rattle.lease_book.proofs.LawProofs.{entered_changes}
 use Rattle.lease_machine.specs.Picture.{Picture, IsPicture, Finds}
 use Rattle.lease_machine.specs.Moves.{HasPlaceUp}
 use Rattle.lease_machine.specs.Serving.{CanServe}
-use Rattle.lease_machine.specs.Replies.{SettlesRefusal, IsKnownReply, IsKeptReply}
-use Rattle.lease_machine.specs.Machine.{NewLease, RefusesLease, Grants, HelloStep, Sweeps, AnswersLine, demand_of}
+use Rattle.lease_machine.specs.Replies.{IsKnownReply, IsKeptReply}
+use Rattle.lease_machine.specs.Machine.{NewLease, RefusesLease, HelloStep, Sweeps, AnswersLine, demand_of}
 use Rattle.lease_machine.specs.AnswerLaws.{written}
-use Rattle.lease_machine.specs.RoomLaws.{FindsNoRoom, NamesArena, NothingIsKept, NoFitMeansTaken, NoFitMeansTakenUp, HasRunUp, FreedIsWhole, FirstLeaseIsServed, refusal_to}
+use Rattle.lease_machine.specs.RoomLaws.{NamesArena, NothingIsKept, NoFitMeansTaken, NoFitMeansTakenUp, HasRunUp, FreedIsWhole, FirstLeaseIsServed, refusal_to}
 use Rattle.lease_machine.proofs.Repeats.{request_answer, history_of}
 use Rattle.lease_machine.proofs.Fitting.{not_known}
 use Rattle.lease_machine.proofs.Rooms.{run_serves, place_serves, plan_is}

@@ -1,18 +1,14 @@
 -- What is granted was in reach.
-use Rattle.std.proofs.Common.{◌≡◌, ◌≢◌, ◌⊎◌, ℕ, suc, zero, ◌+◌, ◌-◌, ◌*◌, ◌^◌, ◌<◌, ◌≤◌, refl, sym, subst, ap, ◌∙◌, inl, inr, List, [], ◌∷◌, length, set, All, Contains, Option, Some, None, arith}
-use Rattle.std.specs.Prelude.{slice_get, sum_by, min, max, IfSome}
-use Rattle.std.proofs.Math.Nat.{le-min}
-use Rattle.std.proofs.lemmas.Bool.{cases_lt}
-use Rattle.deed_core.specs.Extent.{Extent, Covers, Overlap, IsRange, end_of}
+use Rattle.std.proofs.Common.{◌≡◌, ℕ, suc, zero, ◌^◌, ◌<◌, ◌≤◌, refl, sym, subst, ap, ◌∙◌, inl, inr, List, [], ◌∷◌, All, Contains, Option, Some, None, arith}
+use Rattle.std.specs.Prelude.{slice_get, max, IfSome}
+use Rattle.deed_core.specs.Extent.{Extent, Covers, Overlap}
 use Rattle.deed_core.specs.Holding.{Holding}
 use Rattle.deed_core.specs.Tag.{Tag}
 use Rattle.deed_core.specs.Covering.{covers, covers_held, covering_held}
-use Rattle.deed_core.specs.Request.{IsPlain, Fits, plain_of, rounded}
+use Rattle.deed_core.specs.Request.{plain_of, rounded}
 use Rattle.deed_core.specs.declared.requests.Request.{Request}
-use Rattle.deed_core.proofs.LawProofs.{covers_is, counts_the_unit, contained_in_sum, sum_none, all_at, slice_get-set_other, rounds_up, plain_is_of_its_size, power_some}
-use Rattle.tag_arena.specs.ArenaState.{ArenaState, spans_of}
-use Rattle.tag_arena.specs.Layout.{IsPartOf}
-use Rattle.tag_arena.specs.Outcomes.{Carved}
+use Rattle.deed_core.proofs.LawProofs.{covers_is, counts_the_unit, contained_in_sum, sum_none, all_at, slice_get-set_other, rounds_up, power_some}
+use Rattle.tag_arena.specs.ArenaState.{spans_of}
 use Rattle.arena_tree.specs.declared.levels.Level.{Level}
 use Rattle.arena_tree.specs.declared.trees.TreeArena.{TreeArena}
 use Rattle.arena_tree.specs.Chains.{amount_of}
@@ -23,8 +19,7 @@ use Rattle.stock.specs.Setups.{plan_for}
 use Rattle.stock_audit.specs.Chains.{IsFreeFor, free, free_above}
 use Rattle.lease_machine.specs.Picture.{Picture, IsPicture}
 use Rattle.lease_machine.specs.Moves.{Climbs, CarvesAt, ImportsAt}
-use Rattle.lease_machine.specs.Serving.{WasReachable}
-use Rattle.lease_machine.specs.Machine.{Grants, demand_of}
+use Rattle.lease_machine.specs.Machine.{demand_of}
 use Rattle.lease_machine.specs.AnswerLaws.{GrantsWereReachable}
 use Rattle.lease_machine.proofs.Rooms.{plan_is}
 

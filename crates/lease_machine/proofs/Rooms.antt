@@ -1,21 +1,20 @@
 -- A request is refused for want of room only where there is none.
-use Rattle.std.proofs.Common.{◌≡◌, ◌≢◌, ◌⊎◌, ℕ, suc, zero, ◌+◌, ◌-◌, ◌<◌, ◌≤◌, Bool, true, false, refl, sym, subst, ap, ◌∙◌, inl, inr, List, [], ◌∷◌, ◌++◌, map, length, get_or, All, AllPairs, Any, Contains, Option, Some, None, Ok, arith}
-use Rattle.std.specs.Prelude.{slice_get, sum_by, codes, decimal}
+use Rattle.std.proofs.Common.{◌≡◌, ℕ, suc, zero, ◌<◌, ◌≤◌, refl, sym, subst, ap, ◌∙◌, inl, inr, List, [], ◌∷◌, length, get_or, AllPairs, Any, Contains, Option, Some, None, arith}
+use Rattle.std.specs.Prelude.{slice_get}
 use Rattle.std.proofs.lemmas.Bool.{cases_lt}
-use Rattle.std.proofs.lemmas.List.{length-append, get_or_append_left}
-use Rattle.deed_core.specs.Extent.{Extent, Covers, end_of}
+use Rattle.deed_core.specs.Extent.{Covers, end_of}
 use Rattle.deed_core.specs.Holding.{Holding, Apart}
 use Rattle.deed_core.specs.Request.{IsPlain, plain_of}
 use Rattle.deed_core.specs.declared.requests.Request.{Request}
 use Rattle.deed_core.proofs.LawProofs.{plain_is_of_its_size}
 use Rattle.tag_arena.specs.ArenaState.{ArenaState, IsSound, spans_of}
-use Rattle.tag_arena.specs.Layout.{IsRun, IsPartOf, IsAllocated, IsEdgedRun}
+use Rattle.tag_arena.specs.Layout.{IsRun, IsPartOf, IsEdgedRun}
 use Rattle.tag_arena.specs.Place.{Serves, ServesIn}
 use Rattle.arena_tree.specs.declared.trees.TreeArena.{TreeArena}
 use Rattle.quantum_cache.specs.Caches.{chain_on, chain_up, chain_in}
 use Rattle.stock.specs.Spaces.{SpaceState, plan_of, plans_of}
 use Rattle.stock.specs.Setups.{plan_for, plans_for}
-use Rattle.lease_machine.specs.Picture.{Picture, IsPicture, Finds}
+use Rattle.lease_machine.specs.Picture.{Picture, IsPicture}
 use Rattle.lease_machine.specs.Moves.{HasPlace, HasPlaceUp}
 use Rattle.lease_machine.specs.Serving.{CanServe}
 
