@@ -1,5 +1,5 @@
 -- A request is settled once, whatever lines come.
-use Rattle.std.proofs.Common.{◌≡◌, ◌≢◌, ◌⊎◌, ℕ, ◌+◌, ◌<◌, refl, sym, subst, ap, ◌∙◌, inl, inr, List, [], ◌∷◌, ◌++◌, Option, Some, None, Ok, Err, Result, arith}
+use Rattle.std.proofs.Common.{◌≡◌, ℕ, ◌+◌, ◌<◌, sym, subst, ap, ◌∙◌, inl, inr, List, [], ◌∷◌, ◌++◌, Option, Some, None, Ok, Err, Result, arith}
 use Rattle.std.proofs.lemmas.List.{append_assoc}
 use Rattle.deed_core.specs.Tag.{Tag}
 use Rattle.arena_tree.specs.declared.trees.TreeArena.{TreeArena}
@@ -16,18 +16,18 @@ use Rattle.lease_proto.specs.declared.replies.Reply.{Reply}
 use Rattle.lease_proto.specs.declared.replies.Reply.TheVariants as reply
 use Rattle.lease_proto.specs.Frames.{Frame}
 use Rattle.lease_proto.specs.Operators.{served_of}
-use Rattle.lease_book.specs.Entry.{Entry, Settlement, Settled, Hello, Swept, Grant, Refuse, Return}
+use Rattle.lease_book.specs.Entry.{Entry, Settled, Hello, Swept, Grant, Refuse, Return}
 use Rattle.lease_book.specs.Receipts.{Kept}
 use Rattle.lease_book.specs.Account.{Account, number_of}
-use Rattle.lease_book.specs.History.{incarnation, account, last_in, outcome_of, AreOrderly}
+use Rattle.lease_book.specs.History.{incarnation, account, last_in, outcome_of}
 use Rattle.lease_book.specs.BookState.{BookState, IsHistory, Enters, account_in}
 use Rattle.lease_book.specs.Answers.{IsNew}
 use Rattle.lease_book.proofs.LawProofs.{account_is, last_outcome, outcomes_stay, numbers_settled_once}
 use Rattle.lease_history.specs.Told.{reply_to}
-use Rattle.lease_machine.specs.Picture.{Picture, IsPicture, arena_named}
-use Rattle.lease_machine.specs.Machine.{RequestStep, NewRequest, Sweeps, HelloStep, ClientStep, AnswersLine, demand_of}
+use Rattle.lease_machine.specs.Picture.{Picture, arena_named}
+use Rattle.lease_machine.specs.Machine.{NewRequest, Sweeps, HelloStep, ClientStep, AnswersLine, demand_of}
 use Rattle.lease_machine.specs.Laws.{Runs}
-use Rattle.lease_machine.specs.AnswerLaws.{written, IsKept, AnswersAgree}
+use Rattle.lease_machine.specs.AnswerLaws.{written, AnswersAgree}
 use Rattle.lease_machine.proofs.Places.{setup_stays}
 use Rattle.lease_machine.proofs.Repeats.{IsLast, history_of, known_last, request_kept, request_answer, kept_or, operator_keeps}
 

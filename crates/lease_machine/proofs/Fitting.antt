@@ -1,5 +1,5 @@
 -- What is granted fits what was asked.
-use Rattle.std.proofs.Common.{◌≡◌, ℕ, ◌+◌, refl, sym, subst, ap, ◌∙◌, inl, inr, List, [], ◌∷◌, Bool, true, Option, Some, None, Ok, arith, position, slice_get, get_or, suc, zero}
+use Rattle.std.proofs.Common.{◌≡◌, ℕ, sym, subst, ap, ◌∙◌, inl, inr, List, [], ◌∷◌, true, Option, Some, None, arith, slice_get, get_or, suc, zero}
 use Rattle.std.specs.List.{AllByRecursion}
 use Rattle.std.specs.Str.{bytes_eq}
 use Rattle.std.proofs.lemmas.List.Quantifiers.{position-Some}
@@ -23,10 +23,10 @@ use Rattle.lease_book.specs.declared.receipts.KeptReply.{KeptReply}
 use Rattle.lease_book.specs.declared.receipts.KeptReply.TheVariants as replies
 use Rattle.lease_book.specs.declared.receipts.Terms.{Terms}
 use Rattle.lease_book.proofs.LawProofs.{account_is, last_outcome, outcomes_stay, outcome_earned}
-use Rattle.lease_machine.specs.Picture.{Picture, IsPicture, Finds, arena_named, name_or_none, IsEnteredIn, IsSettledIn}
-use Rattle.lease_machine.specs.Replies.{IsKnownReply, IsKeptReply, reply_of_settled}
+use Rattle.lease_machine.specs.Picture.{Picture, Finds, arena_named, name_or_none, IsEnteredIn, IsSettledIn}
+use Rattle.lease_machine.specs.Replies.{IsKnownReply, IsKeptReply}
 use Rattle.lease_machine.specs.Machine.{NewLease, Grants, demand_of}
-use Rattle.lease_machine.specs.AnswerLaws.{written, FitsLine, GrantsFit, IsFitting, KeptGrantsFit}
+use Rattle.lease_machine.specs.AnswerLaws.{FitsLine, GrantsFit, IsFitting, KeptGrantsFit}
 use Rattle.lease_machine.proofs.Repeats.{request_answer}
 
 -- a number that is new isn't known

@@ -1,7 +1,6 @@
 -- What is left of arenas of which nothing is leased and nothing cached.
-use Rattle.std.proofs.Common.{◌≡◌, ◌≢◌, ◌⊎◌, ℕ, suc, zero, ◌+◌, ◌<◌, ◌≤◌, Bool, true, false, refl, sym, subst, ap, ◌∙◌, inl, inr, List, [], ◌∷◌, ◌++◌, map, length, get_or, All, Contains, Option, Some, None, Ok, nat_eq, arith}
+use Rattle.std.proofs.Common.{◌≡◌, ℕ, suc, zero, ◌+◌, ◌<◌, ◌≤◌, Bool, true, false, refl, sym, subst, ap, ◌∙◌, List, [], ◌∷◌, ◌++◌, map, length, get_or, Contains, Option, Some, None, arith}
 use Rattle.std.specs.Prelude.{slice_get, sum_by, filter, cond}
-use Rattle.std.specs.List.{flat_map}
 use Rattle.std.specs.FinMap.{get}
 use Rattle.std.proofs.lemmas.Option.{slice_get_within}
 use Rattle.std.proofs.lemmas.Bool.Decides.{Decides-eqb}
@@ -15,21 +14,18 @@ use Rattle.deed_core.specs.Weights.{only, of_cached}
 use Rattle.deed_core.specs.Selections.{came_direct}
 use Rattle.deed_core.proofs.LawProofs.{all_at, sum_none, part_of_sum, sum_by-filter, sum_by-flat_map}
 use Rattle.tag_arena.specs.ArenaState.{ArenaState, IsSound, spans_of, ranges_of, tags_of, direct}
-use Rattle.tag_arena.specs.Layout.{IsRun, IsPartOf, IsAllocated}
+use Rattle.tag_arena.specs.Layout.{IsRun}
 use Rattle.tag_arena.proofs.LawProofs.{goes_empty, allocated_stand}
 use Rattle.slab_layer.specs.Slab.{SlabState}
 use Rattle.slab_layer.specs.Cache.{chunks_out, span_tag, span_tags}
 use Rattle.slab_layer.proofs.LawProofs.{reaped_out_is_empty}
 use Rattle.stock.specs.Spaces.{SpaceState, QuantumCacheState}
-use Rattle.stock.specs.Stocks.{IsStock}
 use Rattle.stock.specs.Accounts.{chunks, chunks_in, rounds, rounds_in}
 use Rattle.stock.specs.Endings.{IsReaped, IsReapedCache}
 use Rattle.stock.specs.Sums.{held, held_of}
-use Rattle.stock_audit.specs.Outside.{Outside, all_rounds_out, segments_out}
-use Rattle.stock_audit.specs.Accounted.{IsAccountedFor}
+use Rattle.stock_audit.specs.Outside.{all_rounds_out, segments_out}
 use Rattle.stock_audit.specs.Chains.{is_source, is_child_of, spans_of_children, spans_of_slabs}
 use Rattle.stock_audit.proofs.LawProofs.{allocated_is_out}
-use Rattle.lease_book.specs.BookState.{leased}
 use Rattle.lease_machine.specs.Picture.{Picture, IsPicture, held_outside}
 use Rattle.lease_machine.specs.RoomLaws.{NothingIsKept}
 

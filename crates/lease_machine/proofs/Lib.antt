@@ -4,5 +4,6 @@ pub mod Agreeing
 pub mod Fitting
 pub mod Rooms
 pub mod Freed
+pub mod Reaching
 pub mod NoRoom
 pub mod LawProofs

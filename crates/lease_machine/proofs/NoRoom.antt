@@ -1,5 +1,5 @@
 -- The laws on `nofit`, in bytes.
-use Rattle.std.proofs.Common.{◌≡◌, ◌≢◌, ◌⊎◌, ℕ, suc, zero, ◌+◌, ◌<◌, ◌≤◌, refl, sym, subst, ap, ◌∙◌, inl, inr, List, [], ◌∷◌, ◌++◌, length, get_or, Contains, Option, Some, None, Ok, Result, arith}
+use Rattle.std.proofs.Common.{◌≡◌, ◌≢◌, ℕ, ◌+◌, refl, sym, subst, ap, ◌∙◌, inl, inr, List, [], ◌∷◌, ◌++◌, length, get_or, Option, Some, None, Ok, Result, arith}
 use Rattle.std.specs.Prelude.{slice_get, sum_by, codes, decimal, ◌==◌}
 use Rattle.std.specs.List.{find}
 use Rattle.std.proofs.lemmas.Bool.{cases_lt, cases_eq}
@@ -14,8 +14,7 @@ use Rattle.arena_tree.specs.declared.levels.Level.{Level}
 use Rattle.arena_tree.specs.Chains.{amount_of}
 use Rattle.quantum_cache.specs.Caches.{chain_in}
 use Rattle.deed_core.specs.Request.{plain_of}
-use Rattle.stock.specs.Spaces.{SpaceState, SpacePlan, plan_of, plans_of, quantum_of}
-use Rattle.stock.specs.Setups.{plan_for, plans_for}
+use Rattle.stock.specs.Spaces.{SpaceState, SpacePlan}
 use Rattle.lease_terms.specs.Requests.{RequestId}
 use Rattle.lease_terms.specs.declared.refusals.Refusal.{Refusal}
 use Rattle.lease_terms.specs.declared.refusals.Refusal.TheVariants.{NoFit, BadRequest, NoArena, NotYours, Leases}
@@ -28,24 +27,22 @@ use Rattle.lease_proto.specs.declared.operators.ServedLine.{ServedLine}
 use Rattle.lease_proto.specs.declared.operators.ServedLine.TheVariants as served
 use Rattle.lease_proto.specs.declared.replies.Reply.{Reply}
 use Rattle.lease_proto.specs.declared.replies.Reply.TheVariants as reply
-use Rattle.lease_proto.specs.declared.replies.Refused.{Refused}
 use Rattle.lease_proto.specs.Frames.{ended}
-use Rattle.lease_proto.specs.Replies.{refusal_word}
 use Rattle.lease_book.specs.Entry.{Hello}
 use Rattle.lease_book.specs.Receipts.{Kept}
 use Rattle.lease_book.specs.Account.{Account}
-use Rattle.lease_book.specs.BookState.{BookState, HasHistory, account_in, or_nobody, leased, leased_by}
+use Rattle.lease_book.specs.BookState.{BookState, account_in, or_nobody, leased, leased_by}
 use Rattle.lease_book.proofs.LawProofs.{entered_changes}
 use Rattle.lease_machine.specs.Picture.{Picture, IsPicture, Finds}
 use Rattle.lease_machine.specs.Moves.{HasPlaceUp}
 use Rattle.lease_machine.specs.Serving.{CanServe}
-use Rattle.lease_machine.specs.Replies.{SettlesRefusal, IsKnownReply, IsKeptReply}
-use Rattle.lease_machine.specs.Machine.{NewLease, RefusesLease, Grants, HelloStep, Sweeps, AnswersLine, demand_of}
+use Rattle.lease_machine.specs.Replies.{IsKnownReply, IsKeptReply}
+use Rattle.lease_machine.specs.Machine.{NewLease, RefusesLease, HelloStep, Sweeps, AnswersLine, demand_of}
 use Rattle.lease_machine.specs.AnswerLaws.{written}
-use Rattle.lease_machine.specs.RoomLaws.{FindsNoRoom, NamesArena, NothingIsKept, NoFitMeansTaken, NoFitMeansTakenUp, HasRunUp, FreedIsWhole, FirstLeaseIsServed, refusal_to}
+use Rattle.lease_machine.specs.RoomLaws.{NamesArena, NothingIsKept, NoFitMeansTaken, NoFitMeansTakenUp, HasRunUp, FreedIsWhole, FirstLeaseIsServed, refusal_to}
 use Rattle.lease_machine.proofs.Repeats.{request_answer, history_of}
 use Rattle.lease_machine.proofs.Fitting.{not_known}
-use Rattle.lease_machine.proofs.Rooms.{run_serves, place_serves}
+use Rattle.lease_machine.proofs.Rooms.{run_serves, place_serves, plan_is}
 use Rattle.lease_machine.proofs.Freed.{span_is_run}
 
 module _ (id : RequestId) where
@@ -100,26 +97,12 @@ module _ (id : RequestId) where
       let same_arena : refused.1 ≡ x = (let e : Some refused.1 ≡ Some x = sym refused.2.finds.here ∙ ap (slice_get old.tree) same_place ∙ finds.here in cc) in
       refused.3.none (subst (λ (y : TreeArena). CanServe old refused.0 y (demand_of l)) (sym same_arena) (subst (λ (k : ℕ). CanServe old k x (demand_of l)) (sym same_place) can))
 
--- the arena's quantum is the one that it was set up with
-quantum_is : (d : Picture) → IsPicture d → (k : ℕ) (x : TreeArena) (s : SpaceState) → slice_get d.tree k ≡ Some x → slice_get d.spaces k ≡ Some s → s.arena.quantum ≡ x.quantum
-quantum_is d is k x s here at = by d.spaces d.tree k is.plans here at
-  where
-    by : (spaces : List SpaceState) (tree : List TreeArena) (k : ℕ) → plans_of spaces ≡ plans_for tree → slice_get tree k ≡ Some x → slice_get spaces k ≡ Some s → s.arena.quantum ≡ x.quantum
-    by [] tree k same here at = absurd (let e : None ≡ Some s = at in cc)
-    by (y ∷ ys) [] k same here at = absurd (let e : None ≡ Some x = here in cc)
-    by (y ∷ ys) (z ∷ zs) zero same here at =
-        let space : y ≡ s = (let e : Some y ≡ Some s = at in cc) in
-        let arena : z ≡ x = (let e : Some z ≡ Some x = here in cc) in
-        let plan : plan_of y ≡ plan_for z = cc in
-        sym (ap quantum_of space) ∙ ap (λ (p : SpacePlan). p.quantum) plan ∙ ap (λ (t : TreeArena). t.quantum) arena
-    by (y ∷ ys) (z ∷ zs) (suc k) same here at = by ys zs k (cc) here at
-
 -- an arena with a run of free units that serves can serve
 serves_can : (d : Picture) → IsPicture d → (q : _) (k : ℕ) (x : TreeArena) (s : SpaceState) → slice_get d.tree k ≡ Some x → slice_get d.spaces k ≡ Some s
     → (run : Holding) (base : ℕ) → IsRun (spans_of s.arena) s.arena.allocated run → ServesIn x.quantum q run base → ¬ ¬ CanServe d k x q
 serves_can d is q k x s here at run base free serves =
     let sound = (is.units.parts k s at).sound in
-    let same = quantum_is d is k x s here at in
+    let same : s.arena.quantum ≡ x.quantum = ap (λ (p : SpacePlan). p.quantum) (plan_is d is k x s here at) in
     let own = subst (λ (n : ℕ). ServesIn n q run base) (sym same) serves in
     place_serves d k x q here (s, at, (base, run_serves s.arena sound q run base free own))
 

@@ -1,16 +1,14 @@
 -- Each unit has one place, and leases are apart, after any lines.
-use Rattle.std.proofs.Common.{◌≡◌, ℕ, ◌<◌, refl, sym, subst, ap, ◌∙◌, List, [], ◌∷◌, ◌++◌, length, get_or, AllPairs, Some, Ok, Err, arith}
-use Rattle.std.specs.Prelude.{slice_get, map, sum_by}
+use Rattle.std.proofs.Common.{◌≡◌, ℕ, sym, subst, ap, ◌∙◌, List, [], ◌∷◌, ◌++◌, get_or, AllPairs, Ok, Err, arith}
+use Rattle.std.specs.Prelude.{map, sum_by}
 use Rattle.std.proofs.lemmas.List.{get_or_append_left, length-append}
-use Rattle.deed_core.specs.Covering.{units_in}
-use Rattle.stock.specs.Spaces.{SpaceState}
 use Rattle.stock.specs.Laws.{ApartUpChain}
 use Rattle.stock_audit.specs.Outside.{all_rounds_out}
 use Rattle.stock_audit.proofs.LawProofs.{audit_adds_up, unit_adds_up, units_weigh, out_never_overlaps}
 use Rattle.lease_book.specs.BookState.{leased, units_of_arena}
-use Rattle.lease_machine.specs.Picture.{Picture, IsPicture, SameSetup, held_outside, owned_by}
+use Rattle.lease_machine.specs.Picture.{Picture, IsPicture, held_outside, owned_by}
 use Rattle.lease_machine.specs.Operators.{sums_in}
-use Rattle.lease_machine.specs.Laws.{Runs, PicturesStay, SetupStays, UnitsHaveOnePlace, LeasesAreApart, AuditTellsLeases, AuditIsWhole}
+use Rattle.lease_machine.specs.Laws.{PicturesStay, SetupStays, UnitsHaveOnePlace, LeasesAreApart, AuditTellsLeases, AuditIsWhole}
 
 pub pictures_stay : PicturesStay
 pictures_stay old new [] text is run = subst IsPicture (sym run.1) is

@@ -1,8 +1,7 @@
 -- A request that comes again.
-use Rattle.std.proofs.Common.{◌≡◌, ◌≢◌, ◌⊎◌, ℕ, ◌+◌, ◌<◌, refl, sym, subst, ap, ◌∙◌, inl, inr, List, [], ◌∷◌, Option, Some, None, Ok, Err, Result, arith}
+use Rattle.std.proofs.Common.{◌≡◌, ◌≢◌, ◌⊎◌, ℕ, refl, sym, subst, ap, ◌∙◌, inl, inr, List, [], ◌∷◌, Option, Some, Ok, Err, Result, arith}
 use Rattle.deed_core.specs.Tag.{Tag}
 use Rattle.lease_terms.specs.Requests.{RequestId}
-use Rattle.lease_terms.specs.declared.refusals.Refusal.{Refusal}
 use Rattle.lease_proto.specs.declared.faults.LineFault.{LineFault}
 use Rattle.lease_proto.specs.declared.lines.Line.{Line}
 use Rattle.lease_proto.specs.declared.lines.Line.TheVariants as lines
@@ -26,12 +25,12 @@ use Rattle.lease_book.specs.Answers.{IsNew}
 use Rattle.lease_book.proofs.LawProofs.{entered_changes}
 use Rattle.lease_history.specs.Told.{reply_to}
 use Rattle.arena_tree.specs.declared.trees.TreeArena.{TreeArena}
-use Rattle.lease_machine.specs.Picture.{Picture, IsPicture, SameSetup, arena_named}
+use Rattle.lease_machine.specs.Picture.{Picture, IsPicture, arena_named}
 use Rattle.lease_machine.specs.Replies.{IsKnownReply, IsKeptReply}
 use Rattle.lease_machine.specs.Operators.{Performs, LeavesOff, OperatorStep}
-use Rattle.lease_machine.specs.Machine.{RequestStep, NewRequest, Sweeps, HelloStep, ClientStep, ServedStep, AnswersLine, LeaseStep, demand_of}
+use Rattle.lease_machine.specs.Machine.{RequestStep, NewRequest, Sweeps, HelloStep, ClientStep, AnswersLine, LeaseStep, demand_of}
 use Rattle.lease_machine.specs.Laws.{Runs}
-use Rattle.lease_machine.specs.AnswerLaws.{written, IsKept, IsUnkept, IsRequestLine, IsOfOthers, AreOfOthers, LinesRepeat}
+use Rattle.lease_machine.specs.AnswerLaws.{written, IsKept, IsRequestLine, AreOfOthers, LinesRepeat}
 use Rattle.lease_machine.proofs.Places.{setup_stays}
 
 -- the number is the client's last one, and this is kept of it

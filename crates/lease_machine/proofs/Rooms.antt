@@ -1,20 +1,20 @@
 -- A request is refused for want of room only where there is none.
-use Rattle.std.proofs.Common.{◌≡◌, ◌≢◌, ◌⊎◌, ℕ, suc, zero, ◌+◌, ◌-◌, ◌<◌, ◌≤◌, Bool, true, false, refl, sym, subst, ap, ◌∙◌, inl, inr, List, [], ◌∷◌, ◌++◌, map, length, get_or, All, AllPairs, Any, Contains, Option, Some, None, Ok, arith}
-use Rattle.std.specs.Prelude.{slice_get, sum_by, codes, decimal}
+use Rattle.std.proofs.Common.{◌≡◌, ℕ, suc, zero, ◌<◌, ◌≤◌, refl, sym, subst, ap, ◌∙◌, inl, inr, List, [], ◌∷◌, length, get_or, AllPairs, Any, Contains, Option, Some, None, arith}
+use Rattle.std.specs.Prelude.{slice_get}
 use Rattle.std.proofs.lemmas.Bool.{cases_lt}
-use Rattle.std.proofs.lemmas.List.{length-append, get_or_append_left}
-use Rattle.deed_core.specs.Extent.{Extent, Covers, end_of}
+use Rattle.deed_core.specs.Extent.{Covers, end_of}
 use Rattle.deed_core.specs.Holding.{Holding, Apart}
 use Rattle.deed_core.specs.Request.{IsPlain, plain_of}
 use Rattle.deed_core.specs.declared.requests.Request.{Request}
 use Rattle.deed_core.proofs.LawProofs.{plain_is_of_its_size}
 use Rattle.tag_arena.specs.ArenaState.{ArenaState, IsSound, spans_of}
-use Rattle.tag_arena.specs.Layout.{IsRun, IsPartOf, IsAllocated, IsEdgedRun}
+use Rattle.tag_arena.specs.Layout.{IsRun, IsPartOf, IsEdgedRun}
 use Rattle.tag_arena.specs.Place.{Serves, ServesIn}
 use Rattle.arena_tree.specs.declared.trees.TreeArena.{TreeArena}
 use Rattle.quantum_cache.specs.Caches.{chain_on, chain_up, chain_in}
-use Rattle.stock.specs.Spaces.{SpaceState}
-use Rattle.lease_machine.specs.Picture.{Picture, IsPicture, Finds}
+use Rattle.stock.specs.Spaces.{SpaceState, plan_of, plans_of}
+use Rattle.stock.specs.Setups.{plan_for, plans_for}
+use Rattle.lease_machine.specs.Picture.{Picture, IsPicture}
 use Rattle.lease_machine.specs.Moves.{HasPlace, HasPlaceUp}
 use Rattle.lease_machine.specs.Serving.{CanServe}
 
@@ -83,6 +83,20 @@ pub run_serves : (a : ArenaState) → IsSound a → (q : Request) (r : Holding) 
 run_serves a sound q r base run serves =
     let f = in_free a sound r run in
     (f.0, f.1, f.2, f.3, record { fits = serves.fits; from = omega (arith, serves.from, f.4.0); to = omega (arith, serves.to, f.4.1) })
+
+-- an arena is what it was set up as
+pub plan_is : (d : Picture) → IsPicture d → (k : ℕ) (x : TreeArena) (s : SpaceState) → slice_get d.tree k ≡ Some x → slice_get d.spaces k ≡ Some s → plan_of s ≡ plan_for x
+plan_is d is k x s here at = by d.spaces d.tree k is.plans here at
+  where
+    by : (spaces : List SpaceState) (tree : List TreeArena) (k : ℕ) → plans_of spaces ≡ plans_for tree → slice_get tree k ≡ Some x → slice_get spaces k ≡ Some s → plan_of s ≡ plan_for x
+    by [] tree k same here at = absurd (let e : None ≡ Some s = at in cc)
+    by (y ∷ ys) [] k same here at = absurd (let e : None ≡ Some x = here in cc)
+    by (y ∷ ys) (z ∷ zs) zero same here at =
+        let space : y ≡ s = (let e : Some y ≡ Some s = at in cc) in
+        let arena : z ≡ x = (let e : Some z ≡ Some x = here in cc) in
+        let plan : plan_of y ≡ plan_for z = cc in
+        sym (ap plan_of space) ∙ plan ∙ ap plan_for arena
+    by (y ∷ ys) (z ∷ zs) (suc k) same here at = by ys zs k (cc) here at
 
 -- an arena that has a place for it can serve a request
 pub place_serves : (d : Picture) (place : ℕ) (x : TreeArena) (q : Request) → slice_get d.tree place ≡ Some x → HasPlace d.spaces place q → ¬ ¬ CanServe d place x q

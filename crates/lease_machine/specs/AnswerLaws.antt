@@ -1,5 +1,5 @@
 -- What follows for the answers to requests.
-use Rattle.std.specs.Prelude.{◌≡◌, ◌≢◌, ◌⊎◌, ℕ, List, Option, Some, None, Ok, Err, slice_get}
+use Rattle.std.specs.Prelude.{◌≡◌, ◌≢◌, ◌⊎◌, ℕ, List, Some, Ok, Err, slice_get}
 use Rattle.std.specs.List.{AllByRecursion}
 use Rattle.deed_core.specs.Request.{Fits}
 use Rattle.arena_tree.specs.declared.trees.TreeArena.{TreeArena}
@@ -22,7 +22,8 @@ use Rattle.lease_book.specs.Answers.{IsNew}
 use Rattle.lease_book.specs.declared.receipts.Terms.{Terms}
 use Rattle.lease_book.specs.declared.receipts.KeptReply.TheVariants as kept
 use Rattle.lease_machine.specs.Picture.{Picture, IsPicture, Finds}
-use Rattle.lease_machine.specs.Machine.{LeaseStep, demand_of}
+use Rattle.lease_machine.specs.Serving.{WasReachable}
+use Rattle.lease_machine.specs.Machine.{LeaseStep, Grants, demand_of}
 use Rattle.lease_machine.specs.Laws.{Runs}
 
 -- the bytes of a reply, as they are written
@@ -63,8 +64,8 @@ LinesRepeat = (old mid late new : Picture) (id : RequestId) (op again : Op)
     → IsRequestLine repeat id again → LeaseStep late repeat bytes new
     → ((bytes ≡ text) × (new ≡ late)) ⊎ IsUnkept text
 
--- Any two answers to one request that settle it are the same bytes, whatever lines come between, the
--- client's own among them.
+-- Any two answers to one request that settle it are the same bytes, whatever lines come between,
+-- the client's own among them.
 abbrev pub AnswersAgree : Type 0
 AnswersAgree = (old mid late new : Picture) (id : RequestId) (op again : Op)
     (line text between repeat bytes : List ℕ) (frames : List Frame) → IsPicture old
@@ -95,3 +96,9 @@ IsFitting d k = (arena base len : ℕ) → k.reply ≡ kept.Granted arena base l
 abbrev pub KeptGrantsFit : Type 0
 KeptGrantsFit = (d : Picture) (c : ℕ) (k : Kept) → IsPicture d
     → (account_in c d.book).kept ≡ Some k → IsFitting d k
+
+-- what is granted was in reach: each unit of it was free in the arena or, outside its spans, in a
+-- source, or it was in a slab, a depot or a magazine of the selected CPU
+abbrev pub GrantsWereReachable : Type 0
+GrantsWereReachable = (old new : Picture) (id : RequestId) (l : LeaseLine) (r : Reply)
+    → IsPicture old → (g : Grants id l old new r) → WasReachable old g.place g.segment

@@ -29,7 +29,7 @@ use Rattle.lease_proto.specs.Operators.{served_of}
 use Rattle.lease_proto.specs.Replies.{reply_text}
 use Rattle.lease_book.specs.Account.{is_lease}
 use Rattle.lease_book.specs.Receipts.{ReceiptState}
-use Rattle.lease_book.specs.Entry.{Hello, Grant, Return}
+use Rattle.lease_book.specs.Entry.{Hello, Grant}
 use Rattle.lease_book.specs.BookState.{BookState, Enters, account_in, leased}
 use Rattle.lease_book.specs.Answers.{IsNew}
 use Rattle.lease_book.specs.Calls.{IsGranted, IsReleased, IsSwept}

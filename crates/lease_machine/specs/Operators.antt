@@ -1,5 +1,5 @@
 -- What an operator's line is answered.
-use Rattle.std.specs.Prelude.{◌≡◌, ◌⊎◌, ℕ, ◌+◌, ◌≤◌, ◌<◌, List, [], ◌∷◌, ◌++◌, All, Any, map, set}
+use Rattle.std.specs.Prelude.{◌≡◌, ◌⊎◌, ℕ, ◌+◌, ◌<◌, List, [], ◌∷◌, ◌++◌, All, Any, map, set}
 use Rattle.std.specs.Prelude.{nat_lt, if◌then◌else◌, sum_by, slice_get, Some, None}
 use Rattle.std.specs.List.{flat_map, list_any}
 use Rattle.slab_layer.specs.Slab.{IsComplete}
@@ -9,11 +9,9 @@ use Rattle.arena_tree.specs.Trees.{place_in}
 use Rattle.stock.specs.Spaces.{SpaceState, QuantumCacheState, with_caches, with_depot}
 use Rattle.stock.specs.Sums.{Sums}
 use Rattle.stock_audit.specs.Audits.{sums_of_arena}
-use Rattle.lease_book.specs.Account.{Account}
 use Rattle.lease_book.specs.Reports.{report_of}
 use Rattle.lease_book.specs.declared.reports.ClientReport.{ClientReport}
 use Rattle.lease_proto.specs.declared.faults.ErrorWord.TheVariants.{Memory, NoArena, Size}
-use Rattle.lease_proto.specs.declared.operators.ResizeLine.{ResizeLine}
 use Rattle.lease_proto.specs.declared.operators.OperatorLine.{OperatorLine}
 use Rattle.lease_proto.specs.declared.operators.OperatorLine.TheVariants as operator
 use Rattle.lease_proto.specs.declared.reports.AuditLine.{AuditLine}

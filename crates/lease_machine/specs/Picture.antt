@@ -1,9 +1,8 @@
 -- What is seen of a service of leases between two lines, when nothing is in a hand.
-use Rattle.std.specs.Prelude.{◌≡◌, ◌≢◌, ℕ, ◌<◌, ◌≤◌, ◌==◌, nat_eq, Bool, List, [], ◌∷◌, ◌++◌, All}
-use Rattle.std.specs.Prelude.{if◌then◌else◌, length, map, slice_get, Option, Some, None}
-use Rattle.std.specs.List.{find, flat_map, list_any, AllByRecursion, IsDistinct}
+use Rattle.std.specs.Prelude.{◌≡◌, ◌≢◌, ℕ, ◌==◌, nat_eq, Bool, List, [], All}
+use Rattle.std.specs.Prelude.{map, slice_get, Option, Some, None}
+use Rattle.std.specs.List.{find, flat_map, AllByRecursion, IsDistinct}
 use Rattle.deed_core.specs.Holding.{Holding}
-use Rattle.deed_core.specs.Tag.{Tag}
 use Rattle.arena_tree.specs.declared.trees.TreeArena.{TreeArena}
 use Rattle.arena_tree.specs.Trees.{IsTree, place_in}
 use Rattle.stock.specs.Spaces.{SpaceState, plans_of}

@@ -1,11 +1,11 @@
 -- The replies to requests.
-use Rattle.std.specs.Prelude.{◌≡◌, ℕ, List}
+use Rattle.std.specs.Prelude.{◌≡◌}
 use Rattle.lease_terms.specs.Requests.{RequestId}
 use Rattle.lease_terms.specs.declared.refusals.Refusal.{Refusal}
 use Rattle.lease_proto.specs.declared.replies.Reply.{Reply}
 use Rattle.lease_proto.specs.declared.replies.Reply.TheVariants as reply
 use Rattle.lease_book.specs.Receipts.{ReceiptState}
-use Rattle.lease_book.specs.Entry.{Settlement, Settled, Refuse, kept_reply_of}
+use Rattle.lease_book.specs.Entry.{Settlement, Refuse, kept_reply_of}
 use Rattle.lease_book.specs.BookState.{account_in}
 use Rattle.lease_book.specs.Answers.{IsRepeated, IsOld, IsStale, IsGap}
 use Rattle.lease_book.specs.Calls.{IsRefused}

@@ -4,7 +4,7 @@ use Rattle.std.specs.Prelude.{Some, None}
 use Rattle.std.specs.List.{find}
 use Rattle.deed_core.specs.Extent.{Covers}
 use Rattle.deed_core.specs.Tag.{Tag}
-use Rattle.deed_core.specs.Request.{Fits, IsPlain, IsGood, rounded}
+use Rattle.deed_core.specs.Request.{Fits, IsPlain, rounded}
 use Rattle.deed_core.specs.declared.requests.Request.{Request}
 use Rattle.slab_layer.specs.Cache.{idle_chunks}
 use Rattle.arena_tree.specs.declared.trees.TreeArena.{TreeArena}

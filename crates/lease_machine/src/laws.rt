@@ -2,8 +2,10 @@
 //! contracts are the laws, and `proofs/LawProofs.antt` hands their proofs on.
 ghost use Rattle.lease_machine.specs.Laws.{PicturesStay, SetupStays, UnitsHaveOnePlace};
 ghost use Rattle.lease_machine.specs.Laws.{LeasesAreApart, AuditTellsLeases, AuditIsWhole};
-ghost use Rattle.lease_machine.specs.AnswerLaws.{LinesRepeat, AnswersAgree, GrantsFit, KeptGrantsFit};
-ghost use Rattle.lease_machine.specs.RoomLaws.{NoFitMeansTaken, NoFitMeansTakenUp, FreedIsWhole, FirstLeaseIsServed};
+ghost use Rattle.lease_machine.specs.AnswerLaws.{LinesRepeat, AnswersAgree, GrantsFit};
+ghost use Rattle.lease_machine.specs.AnswerLaws.{KeptGrantsFit, GrantsWereReachable};
+ghost use Rattle.lease_machine.specs.RoomLaws.{NoFitMeansTaken, NoFitMeansTakenUp};
+ghost use Rattle.lease_machine.specs.RoomLaws.{FreedIsWhole, FirstLeaseIsServed};
 
 /// After any lines each unit is in one place, and no two leases of one space overlap.
 pub fn place_laws()
@@ -25,10 +27,12 @@ pub fn repeat_laws()
     ensures agree { AnswersAgree }
 {}
 
-/// Each grant fits its own line; so does each that is kept, what it was made for.
+/// Each grant fits its own line, and its units were in reach; each that is kept fits what it was
+/// made for.
 pub fn grant_laws()
     ensures fits { GrantsFit }
     ensures kept { KeptGrantsFit }
+    ensures reachable { GrantsWereReachable }
 {}
 
 /// A request is refused for want of room only where there is none: in a system that was used

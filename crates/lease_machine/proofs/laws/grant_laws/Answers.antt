@@ -1,4 +1,5 @@
 use Rattle.lease_machine.proofs.Fitting.{grants_fit, kept_grants_fit}
+use Rattle.lease_machine.proofs.Reaching.{grants_were_reachable}
 use Rattle.lease_machine.proofs.laws.grant_laws.Goals as goal
 
 pub returns-clause-fits : goal.returns-clause-fits
@@ -6,3 +7,6 @@ returns-clause-fits c = grants_fit
 
 pub returns-clause-kept : goal.returns-clause-kept
 returns-clause-kept c = kept_grants_fit
+
+pub returns-clause-reachable : goal.returns-clause-reachable
+returns-clause-reachable c = grants_were_reachable
