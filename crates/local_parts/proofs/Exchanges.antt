@@ -12,10 +12,10 @@ use Rattle.arena_tree.specs.declared.part_faults.SwapFreshFault.{SwapFreshFault}
 use Rattle.stock.specs.Spaces.{SpaceState, plans_of}
 use Rattle.stock.specs.Stocks.{IsStock}
 use Rattle.stock.specs.Accounts.{Frames}
-use Rattle.stock.specs.OwnCaches.{OwnCacheState, IsAtPlaceOf}
+use Rattle.stock.specs.OwnCaches.{OwnCacheState, IsAtPlaceOf, own_rounds}
 use Rattle.stock.specs.Steps.{OnDepot}
 use Rattle.local_parts.specs.Words.{in_words, full_word, empty_word, fresh_word}
-use Rattle.local_parts.specs.Cpus.{own_rounds}
+
 use Rattle.local_parts.specs.OwnSteps.{SwapsFull, SwapsEmpty, SwapsFresh}
 use Rattle.local_parts.specs.OwnChanges.{OwnExchanges}
 

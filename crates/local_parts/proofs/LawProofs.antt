@@ -10,13 +10,13 @@ use Rattle.stock.specs.Stocks.{IsStock}
 use Rattle.stock.specs.Sums.{Out, all_out}
 use Rattle.stock.proofs.LawProofs.{out_weighs, one_place}
 use Rattle.local_parts.specs.Cpus.{cpu_rounds}
-use Rattle.local_parts.specs.States.{LocalState, out_of}
+use Rattle.local_parts.specs.States.{LocalState, out_of_stock}
 use Rattle.local_parts.specs.Steps.{LocalStep, IsSetUpAs}
 use Rattle.local_parts.specs.Laws.{PlanConserves, PlanKeepsSetup, PlanInOnePlace, out_with}
 
 pub plan_conserves : (A : Type 0) → PlanConserves A
 plan_conserves A left (Done b) hand h old new a path rest acc =
-    subst (λ s. Accounts s.spaces (out_of s (left a) ++ rest)) path.0 (subst (λ x. Accounts old.spaces (out_of old (left x) ++ rest)) path.1 (subst (λ x. Accounts old.spaces (out_of old x ++ rest)) h acc))
+    subst (λ s. Accounts s.spaces (out_of_stock s (left a) ++ rest)) path.0 (subst (λ x. Accounts old.spaces (out_of_stock old (left x) ++ rest)) path.1 (subst (λ x. Accounts old.spaces (out_of_stock old x ++ rest)) h acc))
 plan_conserves A left (Ask e f) hand h old new a path rest acc =
     plan_conserves A left (f path.1) (hand_after e path.1 hand) (h.1 path.1) path.0 new a path.3 rest (path.2.conserves hand h.0 rest acc)
 
@@ -31,24 +31,24 @@ plan_keeps_stock A (Ask e f) old new a path law = plan_keeps_stock A (f path.1) 
 
 pub plan_in_one_place : (A : Type 0) → PlanInOnePlace A
 plan_in_one_place A left p hand h old new a path others accounted =
-    let before : Accounts old.spaces (out_of old hand ++ all_out others) = out_weighs old.spaces (all_out (out_with old hand others)) (out_of old hand ++ all_out others) (λ f. omega (
+    let before : Accounts old.spaces (out_of_stock old hand ++ all_out others) = out_weighs old.spaces (all_out (out_with old hand others)) (out_of_stock old hand ++ all_out others) (λ f. omega (
       arith,
       sum_by-append f (option_to_list hand ++ others.hands) (others.leases ++ (cpu_rounds old.cpu ++ others.rounds)),
       sum_by-append f (option_to_list hand) others.hands,
       sum_by-append f others.leases (cpu_rounds old.cpu ++ others.rounds),
       sum_by-append f (cpu_rounds old.cpu) others.rounds,
-      sum_by-append f (out_of old hand) (all_out others),
+      sum_by-append f (out_of_stock old hand) (all_out others),
       sum_by-append f (option_to_list hand) (cpu_rounds old.cpu),
       sum_by-append f others.hands (others.leases ++ others.rounds),
       sum_by-append f others.leases others.rounds,
     )) accounted.accounts in
-    let after : Accounts new.spaces (all_out (out_with new (left a) others)) = out_weighs new.spaces (out_of new (left a) ++ all_out others) (all_out (out_with new (left a) others)) (λ f. omega (
+    let after : Accounts new.spaces (all_out (out_with new (left a) others)) = out_weighs new.spaces (out_of_stock new (left a) ++ all_out others) (all_out (out_with new (left a) others)) (λ f. omega (
       arith,
       sum_by-append f (option_to_list (left a) ++ others.hands) (others.leases ++ (cpu_rounds new.cpu ++ others.rounds)),
       sum_by-append f (option_to_list (left a)) others.hands,
       sum_by-append f others.leases (cpu_rounds new.cpu ++ others.rounds),
       sum_by-append f (cpu_rounds new.cpu) others.rounds,
-      sum_by-append f (out_of new (left a)) (all_out others),
+      sum_by-append f (out_of_stock new (left a)) (all_out others),
       sum_by-append f (option_to_list (left a)) (cpu_rounds new.cpu),
       sum_by-append f others.hands (others.leases ++ others.rounds),
       sum_by-append f others.leases others.rounds,

@@ -30,11 +30,11 @@ use Rattle.arena_tree.specs.Stops.{is_stopped, refuses_by, full_stops, empty_sto
 use Rattle.stock.specs.Spaces.{SpaceState, plans_of}
 use Rattle.stock.specs.Stocks.{IsStock, IsRoundOf}
 use Rattle.stock.specs.Accounts.{Accounts}
-use Rattle.stock.specs.OwnCaches.{OwnCacheState, IsAtPlaceOf}
+use Rattle.stock.specs.OwnCaches.{OwnCacheState, IsAtPlaceOf, own_rounds}
 use Rattle.stock.specs.Steps.{OnDepot}
-use Rattle.local_parts.specs.Cpus.{IsOwnAt, OnOwn, own_places, own_rounds, cpu_rounds}
-use Rattle.local_parts.specs.States.{LocalState, IsServed, HasServed, IsUnchanged, Conserves, tree_of}
-use Rattle.local_parts.specs.OwnSteps.{NoneServed, CanPush, CanChange, ChangesTo, OnExchange, SwapsFull, SwapsEmpty, SwapsFresh}
+use Rattle.local_parts.specs.Cpus.{IsOwnAt, OnOwn, own_places, cpu_rounds}
+use Rattle.local_parts.specs.States.{LocalState, IsReached, HasReached, IsUnchanged, Conserves, tree_of}
+use Rattle.local_parts.specs.OwnSteps.{NoneReached, CanPush, CanChange, ChangesTo, OnExchange, SwapsFull, SwapsEmpty, SwapsFresh}
 use Rattle.local_parts.specs.Words.{in_words, full_word, empty_word, fresh_word}
 use Rattle.local_parts.specs.OwnChanges.{OwnPops, OwnPushes, OwnChanges, OwnExchanges, OwnTries, OwnSwapsFull, OwnSwapsEmpty, OwnSwapsFresh}
 use Rattle.local_parts.specs.Steps.{Does, WholeStep}
@@ -50,9 +50,9 @@ module _ (spaces : List SpaceState) (law : IsStock spaces) (old new : List (List
   abbrev is : LocalState
   is = beside spaces new
 
-  module _ (j : ℕ) (number : c ≡ j + 1) (served : HasServed was k j) where
+  module _ (j : ℕ) (number : c ≡ j + 1) (served : HasReached was k j) where
     -- the chunk that it gave
-    given_chunk : (sizes : List TreeArena) (o : OwnCacheState) (t : Tag) → IsOwnAt old k j o → IsRoundOf o.arena (o.cache + 1) o.quantum t → IsServed was k j o → IsCachedChunk (tree_of (plans_of spaces) sizes) k c t
+    given_chunk : (sizes : List TreeArena) (o : OwnCacheState) (t : Tag) → IsOwnAt old k j o → IsRoundOf o.arena (o.cache + 1) o.quantum t → IsReached was k j o → IsCachedChunk (tree_of (plans_of spaces) sizes) k c t
     given_chunk sizes o t at round here =
         let s = here.has.1 in
         chunk_here spaces sizes k j c s.space t law s.at number
@@ -105,11 +105,11 @@ module _ (old new : LocalState) (law : IsStock old.spaces) (u : IsUnchanged old 
   }
 
 -- no cache serves it
-module _ (s : LocalState) (law : IsStock s.spaces) (k c : ℕ) (none : (j : ℕ) (o : OwnCacheState) → c ≡ j + 1 → ¬ IsServed s k j o) where
+module _ (s : LocalState) (law : IsStock s.spaces) (k c : ℕ) (none : (j : ℕ) (o : OwnCacheState) → c ≡ j + 1 → ¬ IsReached s k j o) where
   same : IsUnchanged s s
   same = record { spaces = refl; cpu = refl }
 
-  none_served : (P : OwnCacheState → Type 0) → NoneServed s k c P
+  none_served : (P : OwnCacheState → Type 0) → NoneReached s k c P
   none_served P j o number served p = none j o number served
 
   pub none_popped : WholeStep s (Pop k c) (Ok None) s
@@ -131,7 +131,7 @@ module _ (s : LocalState) (law : IsStock s.spaces) (k c : ℕ) (none : (j : ℕ)
   none_fresh = unchanged_whole s s law same (SwapFresh k c) (Err freshing.NoMemory) (λ h b. refl) (inr (refl, same)) (λ sizes. tt) tt refl
 
 -- the one cache that serves it isn't so
-one_served : (s : LocalState) (k c j : ℕ) (P : OwnCacheState → Type 0) (number : c ≡ j + 1) (o : OwnCacheState) → IsServed s k j o → ¬ P o → NoneServed s k c P
+one_served : (s : LocalState) (k c j : ℕ) (P : OwnCacheState → Type 0) (number : c ≡ j + 1) (o : OwnCacheState) → IsReached s k j o → ¬ P o → NoneReached s k c P
 one_served s k c j P number o served isnt i x at there so =
     let places : i ≡ j = omega (arith, at, number) in
     let here : IsOwnAt s.cpu k j x = subst (λ m. IsOwnAt s.cpu k m x) places there.own in
@@ -139,7 +139,7 @@ one_served s k c j P number o served isnt i x at there so =
     let one : o ≡ x = slice_get_one served.own.row j o x served.own.among (ap (λ xs. slice_get xs j) rows ∙ here.among) in
     isnt (subst P (sym one) so)
 
-module _ (spaces : List SpaceState) (law : IsStock spaces) (old new : List (List OwnCacheState)) (k c j : ℕ) (number : c ≡ j + 1) (served : HasServed (beside spaces old) k j) where
+module _ (spaces : List SpaceState) (law : IsStock spaces) (old new : List (List OwnCacheState)) (k c j : ℕ) (number : c ≡ j + 1) (served : HasReached (beside spaces old) k j) where
   -- a refused segment is back
   pub push_whole : (t : Tag) → OnOwn k j (OwnPushes t (Ok tt)) old new → WholeStep (beside spaces old) (Push k c t) (Ok tt) (beside spaces new)
   push_whole t on =
@@ -192,7 +192,7 @@ module _ (spaces : List SpaceState) (law : IsStock spaces) (old new : List (List
   change_whole size (Err Stopped) on = absurd on.does
 
 -- the three exchanges
-module _ (old new : LocalState) (law : IsStock old.spaces) (k c j : ℕ) (number : c ≡ j + 1) (served : HasServed old k j) where
+module _ (old new : LocalState) (law : IsStock old.spaces) (k c j : ℕ) (number : c ≡ j + 1) (served : HasReached old k j) where
   tried : (P : CpuCacheState → DepotState → CpuCacheState → DepotState → Type 0) (why : OwnCacheState → Type 0) (e : Event) (a : AnswerTo e) → ((hand : Option Tag) → hand_after e a hand ≡ hand)
       → ((sizes : List TreeArena) → Sound (tree_of (plans_of old.spaces) sizes) e a) → ((m n : ℕ) → KeepsRounds e a m n) → is_stopped e a ≡ false
       → (OnExchange old k c P new → Does old e a new) → (why served.0 → IsUnchanged old new → Does old e a new)

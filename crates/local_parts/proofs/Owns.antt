@@ -9,9 +9,9 @@ use Rattle.deed_core.proofs.LawProofs.{slice_get_one, map_set_same, set_same, su
 use Rattle.magazine_layer.specs.Magazines.{CpuCacheState}
 use Rattle.stock.specs.Spaces.{SpaceState}
 use Rattle.stock.specs.Accounts.{Accounts, Frames}
-use Rattle.stock.specs.OwnCaches.{OwnCacheState, IsAtPlaceOf}
+use Rattle.stock.specs.OwnCaches.{OwnCacheState, IsAtPlaceOf, own_rounds}
 use Rattle.stock.proofs.LawProofs.{out_weighs}
-use Rattle.local_parts.specs.Cpus.{IsOwnAt, OnOwn, own_place, own_places, own_rounds, row_rounds, cpu_rounds}
+use Rattle.local_parts.specs.Cpus.{IsOwnAt, OnOwn, own_place, own_places, row_rounds, cpu_rounds}
 use Rattle.local_parts.specs.States.{LocalState, Conserves}
 
 pub own_does : (k j : ℕ) (P Q : OwnCacheState → OwnCacheState → Type 0) (old new : List (List OwnCacheState)) → ((o o' : OwnCacheState) → P o o' → Q o o') → OnOwn k j P old new → OnOwn k j Q old new

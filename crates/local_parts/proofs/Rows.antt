@@ -6,8 +6,8 @@ use Rattle.std.proofs.lemmas.List.Sums.{sum_by-append}
 use Rattle.deed_core.specs.Tag.{Tag}
 use Rattle.deed_core.proofs.LawProofs.{slice_get_here, slice_get_one, map_set_same, sum_set, sum_by-flat_map}
 use Rattle.magazine_layer.specs.Magazines.{CpuCacheState, IsShaped, IsSize, cache_rounds}
-use Rattle.stock.specs.OwnCaches.{OwnCacheState, IsAtPlaceOf}
-use Rattle.local_parts.specs.Cpus.{IsOwnAt, OnOwn, own_place, own_places, own_rounds, row_rounds, cpu_rounds}
+use Rattle.stock.specs.OwnCaches.{OwnCacheState, IsAtPlaceOf, own_rounds}
+use Rattle.local_parts.specs.Cpus.{IsOwnAt, OnOwn, own_place, own_places, row_rounds, cpu_rounds}
 
 abbrev HasOwn : List (List OwnCacheState) → ℕ → ℕ → Type 0
 HasOwn cpu k j = (o : OwnCacheState) × IsOwnAt cpu k j o

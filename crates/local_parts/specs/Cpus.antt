@@ -2,9 +2,9 @@
 -- caches, by the quanta of a chunk.
 use Rattle.std.specs.Prelude.{◌≡◌, ℕ, zero, suc, ◌+◌, List, [], ◌∷◌, All, length, map, flat_map, set, slice_get, Some}
 use Rattle.deed_core.specs.Tag.{Tag}
-use Rattle.magazine_layer.specs.Magazines.{CpuCacheState, BothEmpty, cache_rounds}
+use Rattle.magazine_layer.specs.Magazines.{CpuCacheState, BothEmpty}
 use Rattle.stock.specs.Spaces.{SpaceState, SpacePlan, plans_of}
-use Rattle.stock.specs.OwnCaches.{OwnCacheState}
+use Rattle.stock.specs.OwnCaches.{OwnCacheState, own_rounds}
 
 -- a quantum cache: the places of its arena and of itself, and the arena's quantum
 pub record CachePlace : Type 0 where
@@ -47,10 +47,7 @@ new_own size p = record {
 abbrev pub new_cpu : ℕ → List SpacePlan → List (List OwnCacheState)
 new_cpu size plans = map (map (new_own size)) (places_from 0 plans)
 
--- the rounds of a CPU: of one of its caches, of those of an arena, of all
-abbrev pub own_rounds : OwnCacheState → List Tag
-own_rounds o = cache_rounds o.cpu
-
+-- the rounds of a CPU: of its caches of an arena, of all
 abbrev pub row_rounds : List OwnCacheState → List Tag
 row_rounds row = flat_map own_rounds row
 

@@ -18,9 +18,8 @@ use Rattle.arena_tree.specs.declared.part_faults.SwapFreshFault.TheVariants as f
 use Rattle.stock.specs.Spaces.{SpaceState, plans_of}
 use Rattle.stock.specs.Stocks.{IsRoundOf, IsStock}
 use Rattle.stock.specs.Accounts.{Frames}
-use Rattle.stock.specs.OwnCaches.{OwnCacheState, IsAtPlaceOf}
+use Rattle.stock.specs.OwnCaches.{OwnCacheState, IsAtPlaceOf, own_rounds}
 use Rattle.stock.specs.Steps.{OnDepot}
-use Rattle.local_parts.specs.Cpus.{own_rounds}
 use Rattle.local_parts.specs.OwnSteps.{CanPush, CanChange, ChangesTo, SwapsFull, SwapsEmpty, SwapsFresh}
 
 -- it gave a round, or had none

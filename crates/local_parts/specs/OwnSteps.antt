@@ -23,29 +23,29 @@ use Rattle.stock.specs.OwnCaches.{OwnCacheState, IsAtPlaceOf}
 use Rattle.stock.specs.Steps.{OnDepot}
 use Rattle.local_parts.specs.Cpus.{OnOwn}
 use Rattle.local_parts.specs.Words.{in_words, full_word, empty_word, fresh_word}
-use Rattle.local_parts.specs.States.{LocalState, IsServed, HasServed, IsUnchanged}
+use Rattle.local_parts.specs.States.{LocalState, IsReached, HasReached, IsUnchanged}
 
 -- the CPU's cache that serves the arena's cache of c quanta changed so, and nothing else did
-abbrev pub OnServed : LocalState → ℕ → ℕ → (CpuCacheState → CpuCacheState → Type 0) → LocalState
+abbrev pub OnReached : LocalState → ℕ → ℕ → (CpuCacheState → CpuCacheState → Type 0) → LocalState
     → Type 0
-OnServed old k c P new = (new.spaces ≡ old.spaces) × ((j : ℕ) × (c ≡ j + 1) × HasServed old k j
+OnReached old k c P new = (new.spaces ≡ old.spaces) × ((j : ℕ) × (c ≡ j + 1) × HasReached old k j
     × OnOwn k j (λ o o'. IsAtPlaceOf o o' × P o.cpu o'.cpu) old.cpu new.cpu)
 
 -- it and the depot of that cache did
 abbrev pub OnExchange : LocalState → ℕ → ℕ
     → (CpuCacheState → DepotState → CpuCacheState → DepotState → Type 0) → LocalState → Type 0
-OnExchange old k c P new = (j : ℕ) × (c ≡ j + 1) × HasServed old k j
+OnExchange old k c P new = (j : ℕ) × (c ≡ j + 1) × HasReached old k j
     × OnOwn k j (λ o o'. IsAtPlaceOf o o'
     × OnDepot k j (λ d d'. P o.cpu d o'.cpu d') old.spaces new.spaces) old.cpu new.cpu
 
 -- the CPU has no cache that serves it and is so
-abbrev pub NoneServed : LocalState → ℕ → ℕ → (OwnCacheState → Type 0) → Type 0
-NoneServed s k c P = (j : ℕ) (o : OwnCacheState) → c ≡ j + 1 → IsServed s k j o → ¬ P o
+abbrev pub NoneReached : LocalState → ℕ → ℕ → (OwnCacheState → Type 0) → Type 0
+NoneReached s k c P = (j : ℕ) (o : OwnCacheState) → c ≡ j + 1 → IsReached s k j o → ¬ P o
 
 -- a round was taken; none where both magazines are empty, or no cache serves it
 abbrev pub DoesPop : LocalState → ℕ → ℕ → Result (Option Tag) Stopped → LocalState → Type 0
-DoesPop old k c a new = (o : Option Tag) × (a ≡ Ok o) × (OnServed old k c (λ x y. PopOf x o y) new
-    ⊎ ((o ≡ None) × NoneServed old k c (λ o. Unit {0}) × IsUnchanged old new))
+DoesPop old k c a new = (o : Option Tag) × (a ≡ Ok o) × (OnReached old k c (λ x y. PopOf x o y) new
+    ⊎ ((o ≡ None) × NoneReached old k c (λ o. Unit {0}) × IsUnchanged old new))
 
 -- the segment is a chunk of the cache, and the magazines have room for it
 pub record CanPush (t : Tag) (k c : ℕ) (o : OwnCacheState) : Type 0 where
@@ -56,8 +56,8 @@ pub record CanPush (t : Tag) (k c : ℕ) (o : OwnCacheState) : Type 0 where
 -- cache, or no cache serves it
 abbrev pub DoesPush : LocalState → ℕ → ℕ → Tag → Result (Unit {0}) (PushFault Tag) → LocalState
     → Type 0
-DoesPush old k c t a new = ((a ≡ Ok tt) × OnServed old k c (λ x y. PushOf x t (Ok tt) y) new)
-    ⊎ ((a ≡ Err (NoRoom t)) × NoneServed old k c (CanPush t k c) × IsUnchanged old new)
+DoesPush old k c t a new = ((a ≡ Ok tt) × OnReached old k c (λ x y. PushOf x t (Ok tt) y) new)
+    ⊎ ((a ≡ Err (NoRoom t)) × NoneReached old k c (CanPush t k c) × IsUnchanged old new)
 
 -- the size is one of a magazine, and greater than the CPU's
 pub record CanChange (size : ℕ) (o : OwnCacheState) : Type 0 where
@@ -74,9 +74,9 @@ pub record ChangesTo (size : ℕ) (x y : CpuCacheState) : Type 0 where
 -- cache serves it; or it is out of memory
 abbrev pub DoesChange : LocalState → ℕ → ℕ → ℕ → Result (Unit {0}) ChangeFault → LocalState
     → Type 0
-DoesChange old k c size a new = ((a ≡ Ok tt) × OnServed old k c (ChangesTo size) new)
+DoesChange old k c size a new = ((a ≡ Ok tt) × OnReached old k c (ChangesTo size) new)
     ⊎ ((a ≡ Err changing.NoMemory) × IsUnchanged old new)
-    ⊎ ((a ≡ Err changing.NotGreater) × NoneServed old k c (CanChange size) × IsUnchanged old new)
+    ⊎ ((a ≡ Err changing.NotGreater) × NoneReached old k c (CanChange size) × IsUnchanged old new)
 
 -- a full magazine came for an empty one, or was refused
 pub record SwapsFull (a : Result (Unit {0}) SwapFullFault) (x : CpuCacheState) (d : DepotState)
@@ -103,13 +103,13 @@ pub record SwapsFresh (a : Result (Unit {0}) SwapFreshFault) (x : CpuCacheState)
 abbrev pub DoesSwapFull : LocalState → ℕ → ℕ → Result (Unit {0}) SwapFullFault → LocalState
     → Type 0
 DoesSwapFull old k c a new = OnExchange old k c (SwapsFull a) new
-    ⊎ ((a ≡ Err NoneFull) × NoneServed old k c (λ o. BothEmpty o.cpu) × IsUnchanged old new)
+    ⊎ ((a ≡ Err NoneFull) × NoneReached old k c (λ o. BothEmpty o.cpu) × IsUnchanged old new)
 
 -- NoneEmpty comes too where the CPU's magazines aren't both full, or no cache serves it
 abbrev pub DoesSwapEmpty : LocalState → ℕ → ℕ → Result (Unit {0}) SwapEmptyFault → LocalState
     → Type 0
 DoesSwapEmpty old k c a new = OnExchange old k c (SwapsEmpty a) new
-    ⊎ ((a ≡ Err NoneEmpty) × NoneServed old k c (λ o. BothFull o.cpu) × IsUnchanged old new)
+    ⊎ ((a ≡ Err NoneEmpty) × NoneReached old k c (λ o. BothFull o.cpu) × IsUnchanged old new)
 
 -- NoMemory comes too where no magazine can be made, where the CPU's magazines aren't both full, or
 -- no cache serves it

@@ -48,22 +48,23 @@ IsTreeOf (p ∷ plans) (x ∷ sizes) =
     (x.source ≡ p.source) × (x.quantum ≡ p.quantum) × IsTreeOf plans sizes
 
 -- the CPU's cache at these places is one for the stock's quantum cache there
-pub record IsServed (s : LocalState) (k j : ℕ) (o : OwnCacheState) : Type 0 where
+pub record IsReached (s : LocalState) (k j : ℕ) (o : OwnCacheState) : Type 0 where
   pub has : HasCache s.spaces k j
   pub own : IsOwnAt s.cpu k j o
   pub quantum : HasQuantum s.spaces k o.quantum
 
-abbrev pub HasServed : LocalState → ℕ → ℕ → Type 0
-HasServed s k j = (o : OwnCacheState) × IsServed s k j o
+abbrev pub HasReached : LocalState → ℕ → ℕ → Type 0
+HasReached s k j = (o : OwnCacheState) × IsReached s k j o
 
 -- the segments that are out of the stock where the hand holds this: the hand's and the CPU's rounds
-abbrev pub out_of : LocalState → Option Tag → List Tag
-out_of s hand = option_to_list hand ++ cpu_rounds s.cpu
+abbrev pub out_of_stock : LocalState → Option Tag → List Tag
+out_of_stock s hand = option_to_list hand ++ cpu_rounds s.cpu
 
 -- whoever else holds segments, the accounts balance after it where they did before
 abbrev pub Conserves : LocalState → Option Tag → LocalState → Option Tag → Type 0
-Conserves old hand new left = (rest : List Tag) → Accounts old.spaces (out_of old hand ++ rest)
-    → Accounts new.spaces (out_of new left ++ rest)
+Conserves old hand new left = (rest : List Tag)
+    → Accounts old.spaces (out_of_stock old hand ++ rest)
+    → Accounts new.spaces (out_of_stock new left ++ rest)
 
 -- nothing changed
 pub record IsUnchanged (old new : LocalState) : Type 0 where

@@ -5,7 +5,7 @@ ghost use Rattle.stock.specs.OwnCaches.{OwnCacheState};
 ghost use Rattle.local_parts.specs.Cpus.{IsOwnAt, OnOwn};
 ghost use Rattle.local_parts.specs.OwnChanges.{OwnPops, OwnPushes, OwnChanges};
 ghost use Rattle.local_parts.specs.OwnChanges.{OwnSwapsFull, OwnSwapsEmpty, OwnSwapsFresh};
-ghost use Rattle.local_parts.specs.States.{HasServed};
+ghost use Rattle.local_parts.specs.States.{HasReached};
 
 use crate::own_changes::{change_own, push_own, swap_empty_own, swap_fresh_own, swap_full_own};
 use arena_tree::{ChangeFault, SwapEmptyFault, SwapFreshFault, SwapFullFault};
@@ -92,7 +92,7 @@ impl<D: Deed> CpuCaches<D> {
         arena: usize,
         cache: usize,
     ) -> Result<(), SwapFullFault>
-        requires { HasServed (record { spaces = stock.old; cpu = self.old }) arena cache }
+        requires { HasReached (record { spaces = stock.old; cpu = self.old }) arena cache }
         ensures { OnOwn arena cache (OwnSwapsFull result stock.old stock.new)
             self.old self.new }
     {
@@ -108,7 +108,7 @@ impl<D: Deed> CpuCaches<D> {
         arena: usize,
         cache: usize,
     ) -> Result<(), SwapEmptyFault>
-        requires { HasServed (record { spaces = stock.old; cpu = self.old }) arena cache }
+        requires { HasReached (record { spaces = stock.old; cpu = self.old }) arena cache }
         ensures { OnOwn arena cache (OwnSwapsEmpty result stock.old stock.new)
             self.old self.new }
     {
@@ -125,7 +125,7 @@ impl<D: Deed> CpuCaches<D> {
         arena: usize,
         cache: usize,
     ) -> Result<(), SwapFreshFault>
-        requires { HasServed (record { spaces = stock.old; cpu = self.old }) arena cache }
+        requires { HasReached (record { spaces = stock.old; cpu = self.old }) arena cache }
         ensures { OnOwn arena cache (OwnSwapsFresh result stock.old stock.new)
             self.old self.new }
     {

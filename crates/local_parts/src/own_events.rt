@@ -2,7 +2,7 @@
 ghost use Rattle.std.specs.Prelude.{◌≡◌, ℕ, ◌+◌, IfSome, IfNone};
 ghost use Rattle.arena_tree.specs.Events.{Pop, Push, Change, SwapFull, SwapEmpty, SwapFresh};
 ghost use Rattle.stock.specs.OwnCaches.{OwnCacheState};
-ghost use Rattle.local_parts.specs.States.{IsServed, HasServed};
+ghost use Rattle.local_parts.specs.States.{IsReached, HasReached};
 ghost use Rattle.local_parts.specs.Steps.{WholeStep};
 
 use crate::cpu_caches::CpuCaches;
@@ -14,9 +14,9 @@ use stock::Stock;
 // The place of the CPU's cache that serves the arena's cache of chunks of so many quanta.
 fn served<D: Deed>(stock: &Stock<D>, cpu: &CpuCaches<D>, arena: u32, cache: u8) -> Option<usize>
     ensures some { IfSome result (λ j. (cache ≡ j + 1)
-        × HasServed (record { spaces = stock.now; cpu = cpu.now }) arena j) }
+        × HasReached (record { spaces = stock.now; cpu = cpu.now }) arena j) }
     ensures none { IfNone result ((j : ℕ) (o : OwnCacheState) → cache ≡ j + 1
-        → ¬ IsServed (record { spaces = stock.now; cpu = cpu.now }) arena j o) }
+        → ¬ IsReached (record { spaces = stock.now; cpu = cpu.now }) arena j o) }
 {
     let Some(place) = stock.cache_at(arena, cache) else {
         return None;

@@ -11,8 +11,8 @@ use Rattle.stock.specs.Steps.{HasQuantum, AreRoundsOf, AreRoundsIn}
 use Rattle.stock.proofs.Members.{all_less, all_gains}
 
 -- of the arena's own quantum, and of the quantum that the CPU's cache keeps
-pub own_rounds : (spaces : List SpaceState) (k j q : ℕ) (cpu : CpuCacheState) → HasCache spaces k j → HasQuantum spaces k q → AreRoundsIn spaces k j cpu → AreRoundsOf k j q cpu
-own_rounds spaces k j q cpu has is rounds = subst (λ n. AreRoundsOf k j n cpu) (is has.1.space has.1.at) (rounds has.1.space has.1.at)
+pub are_own_rounds : (spaces : List SpaceState) (k j q : ℕ) (cpu : CpuCacheState) → HasCache spaces k j → HasQuantum spaces k q → AreRoundsIn spaces k j cpu → AreRoundsOf k j q cpu
+are_own_rounds spaces k j q cpu has is rounds = subst (λ n. AreRoundsOf k j n cpu) (is has.1.space has.1.at) (rounds has.1.space has.1.at)
 
 pub rounds_in : (spaces : List SpaceState) (k j q : ℕ) (cpu : CpuCacheState) → HasQuantum spaces k q → AreRoundsOf k j q cpu → AreRoundsIn spaces k j cpu
 rounds_in spaces k j q cpu is own s at = subst (λ n. AreRoundsOf k j n cpu) (sym (is s at)) own

@@ -1,6 +1,7 @@
 -- What a contract sees of a CPU's cache with its place.
-use Rattle.std.specs.Prelude.{◌≡◌, ℕ, ◌<◌}
-use Rattle.magazine_layer.specs.Magazines.{CpuCacheState}
+use Rattle.std.specs.Prelude.{◌≡◌, List, ℕ, ◌<◌}
+use Rattle.deed_core.specs.Tag.{Tag}
+use Rattle.magazine_layer.specs.Magazines.{CpuCacheState, cache_rounds}
 use Rattle.stock.specs.Steps.{AreRoundsOf}
 
 -- the places of the arena and the quantum cache that its rounds are chunks of, the arena's quantum,
@@ -10,6 +11,10 @@ pub record OwnCacheState : Type 0 where
   pub cache : ℕ
   pub quantum : ℕ
   pub cpu : CpuCacheState
+
+-- its rounds
+abbrev pub own_rounds : OwnCacheState → List Tag
+own_rounds o = cache_rounds o.cpu
 
 -- what every such cache is
 pub record IsOwnCache (o : OwnCacheState) : Type 0 where

@@ -11,8 +11,8 @@ use Rattle.deed_core.specs.Weights.{of_arena}
 use Rattle.deed_core.proofs.LawProofs.{slice_get_some, slice_get_one, sum_by-flat_map}
 use Rattle.stock.specs.Spaces.{SpaceState, QuantumCacheState, HasCache}
 use Rattle.stock.specs.Stocks.{IsRoundOf}
-use Rattle.stock.specs.OwnCaches.{OwnCacheState, IsOwnCache}
-use Rattle.stock_audit.specs.Outside.{own_rounds, all_rounds_out}
+use Rattle.stock.specs.OwnCaches.{OwnCacheState, IsOwnCache, own_rounds}
+use Rattle.stock_audit.specs.Outside.{all_rounds_out}
 use Rattle.stock_audit.specs.Audits.{units_of_arena_in}
 use Rattle.stock_audit.proofs.Placing.{held_weigh}
 use Rattle.stock_audit.proofs.Exporting.{all_here, none_here}

@@ -8,9 +8,9 @@ use Rattle.deed_core.specs.Weights.{WeighSame}
 use Rattle.deed_core.proofs.LawProofs.{all_at, sum_set, sum_by-flat_map}
 use Rattle.stock.specs.Spaces.{SpaceState, HasCache}
 use Rattle.stock.specs.Steps.{HasQuantum}
-use Rattle.stock.specs.OwnCaches.{OwnCacheState}
+use Rattle.stock.specs.OwnCaches.{OwnCacheState, own_rounds}
 use Rattle.stock.proofs.LawProofs.{out_weighs}
-use Rattle.stock_audit.specs.Outside.{Outside, nothing_out, own_rounds, all_rounds_out, segments_out}
+use Rattle.stock_audit.specs.Outside.{Outside, nothing_out, all_rounds_out, segments_out}
 use Rattle.stock_audit.specs.Accounted.{IsOwnIn, IsAccountedFor}
 use Rattle.stock_audit.specs.Keeping.{IsStep, OnCpu}
 use Rattle.stock_audit.specs.Laws.{FreshIsAccounted, AccountedBalances, HandStepsKeep, SwapsKeep, PopsKeep, PushesKeep, ChangesKeep, LeasesKeep, ReleasesKeep, CpusKeep}

@@ -50,6 +50,6 @@ told r = record {
 }
 
 -- it tells of the arena at the place, with these segments out
-abbrev pub Tells : List SpaceState → ℕ → Out → ArenaSums → Type 0
-Tells spaces arena out r = (s : SpaceState) → slice_get spaces arena ≡ Some s
+abbrev pub TellsSums : List SpaceState → ℕ → Out → ArenaSums → Type 0
+TellsSums spaces arena out r = (s : SpaceState) → slice_get spaces arena ≡ Some s
     → told r ≡ lengths_of (places_of spaces out s)

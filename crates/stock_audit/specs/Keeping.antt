@@ -5,8 +5,8 @@ use Rattle.deed_core.specs.Weights.{WeighSame, Gains, Loses}
 use Rattle.stock.specs.Spaces.{SpaceState, plans_of}
 use Rattle.stock.specs.Stocks.{IsStock}
 use Rattle.stock.specs.Accounts.{Frames}
-use Rattle.stock.specs.OwnCaches.{OwnCacheState, IsOwnCache, IsAtPlaceOf}
-use Rattle.stock_audit.specs.Outside.{Outside, own_rounds, all_rounds_out}
+use Rattle.stock.specs.OwnCaches.{OwnCacheState, IsOwnCache, IsAtPlaceOf, own_rounds}
+use Rattle.stock_audit.specs.Outside.{Outside, all_rounds_out}
 use Rattle.stock_audit.specs.Accounted.{IsOwnIn}
 
 -- a call of a stock was given some segments and answered others: what the stock's own law and the

@@ -9,11 +9,11 @@ use Rattle.deed_core.specs.Selections.{came_direct}
 use Rattle.deed_core.specs.Weights.{only, of_arena}
 use Rattle.tag_arena.specs.ArenaState.{spans_of, ranges_of}
 use Rattle.stock.specs.Spaces.{SpaceState}
-use Rattle.stock.specs.OwnCaches.{OwnCacheState}
+use Rattle.stock.specs.OwnCaches.{OwnCacheState, own_rounds}
 use Rattle.stock.specs.Accounts.{IsAccounted}
 use Rattle.stock.specs.Sums.{held_of, places_of, total}
 use Rattle.stock.specs.Laws.{HasTop, ApartUpChain}
-use Rattle.stock_audit.specs.Outside.{Outside, nothing_out, own_rounds, out_of, segments_out}
+use Rattle.stock_audit.specs.Outside.{Outside, nothing_out, out_of, segments_out}
 use Rattle.stock_audit.specs.Audits.{sums_of_arena, units_of_arena_in}
 use Rattle.stock_audit.specs.Accounted.{IsAccountedFor}
 use Rattle.stock_audit.specs.Keeping.{IsStep, HandsMove, OnCpu, PopMove, PushMove, ChangeMove}

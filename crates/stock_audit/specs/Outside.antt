@@ -1,8 +1,7 @@
 -- The segments that are out of a stock, by who has them.
 use Rattle.std.specs.Prelude.{List, [], flat_map}
 use Rattle.deed_core.specs.Tag.{Tag}
-use Rattle.magazine_layer.specs.Magazines.{cache_rounds}
-use Rattle.stock.specs.OwnCaches.{OwnCacheState}
+use Rattle.stock.specs.OwnCaches.{OwnCacheState, own_rounds}
 use Rattle.stock.specs.Sums.{Out, all_out}
 
 -- those in hands, those leased, and the caches of the CPUs, each with the rounds in it
@@ -18,11 +17,7 @@ outside hands leases cpus = record { hands = hands; leases = leases; cpus = cpus
 abbrev pub nothing_out : Outside
 nothing_out = outside [] [] []
 
--- the rounds of a CPU's cache
-abbrev pub own_rounds : OwnCacheState → List Tag
-own_rounds o = cache_rounds o.cpu
-
--- those of all
+-- the rounds of all these
 abbrev pub all_rounds_out : List OwnCacheState → List Tag
 all_rounds_out cpus = flat_map own_rounds cpus
 

@@ -7,7 +7,7 @@ ghost use Rattle.stock.specs.Spaces.{SpaceState};
 ghost use Rattle.stock.specs.Accounts.{Accounts};
 ghost use Rattle.stock.specs.Sums.{Out, held};
 ghost use Rattle.stock_audit.specs.Outside.{outside, out_of, segments_out};
-ghost use Rattle.stock_audit.specs.Audits.{IsTally, IsBalanced, IsReportOf, Tells};
+ghost use Rattle.stock_audit.specs.Audits.{IsTally, IsBalanced, IsReportOf, TellsSums};
 
 use crate::lists::{rounds_units, units_of};
 use deed_core::{Deed, Segment};
@@ -53,7 +53,7 @@ pub fn audit<D: Deed>(
 ) -> ArenaSums
     requires within { arena < length stock.now }
     requires balanced { Accounts stock.now (segments_out (outside hands.now leases.now cpus.now)) }
-    ensures { Tells stock.now arena (out_of (outside hands.now leases.now cpus.now)) result }
+    ensures { TellsSums stock.now arena (out_of (outside hands.now leases.now cpus.now)) result }
 {
     // For its clause: what is always so of a stock.
     let _ = stock.count();
@@ -71,7 +71,7 @@ pub fn audit<D: Deed>(
 pub fn audit_units<D: Deed>(stock: &Stock<D>, arena: usize, out: UnitsOut) -> ArenaSums
     requires within { arena < length stock.now }
     requires balanced { IsBalanced stock.now arena out }
-    ensures { (o : Out) → IsTally arena o out → Tells stock.now arena o result }
+    ensures { (o : Out) → IsTally arena o out → TellsSums stock.now arena o result }
 {
     let report = stock.arena_report(arena);
     sums_with(stock, arena, report, out)
@@ -87,7 +87,7 @@ fn sums_with<D: Deed>(
     requires within { arena < length stock.now }
     requires report { IsReportOf stock.now arena report }
     requires balanced { IsBalanced stock.now arena out }
-    ensures { (o : Out) → IsTally arena o out → Tells stock.now arena o result }
+    ensures { (o : Out) → IsTally arena o out → TellsSums stock.now arena o result }
 {
     // For its clause: what is always so of a stock.
     let _ = stock.count();

@@ -1,6 +1,6 @@
 use Rattle.std.proofs.Common.{◌≡◌, ◌≢◌, ◌≤◌, ◌<◌, ◌+◌, ℕ, min, length, take, sym, ◌∙◌, ap, sum_by, arith}
-use Rattle.stock_audit.specs.Outside.{own_rounds}
-use Rattle.stock.specs.OwnCaches.{OwnCacheState}
+
+use Rattle.stock.specs.OwnCaches.{OwnCacheState, own_rounds}
 use Rattle.stock_audit.proofs.Counting.{weight_of, one_more, all_counted, own_here, own_there, rounds_counted, stops_at}
 use Rattle.stock_audit.proofs.lists.rounds_units.Goals as goal
 use Rattle.stock_audit.proofs.lists.rounds_units.Goals.{then-place-arena, else-place-arena}

@@ -1,7 +1,8 @@
 use Rattle.std.proofs.Common.{◌≡◌, ◌-◌, ◌^◌, min, take, sum_by}
 use Rattle.deed_core.specs.Covering.{units_in}
 use Rattle.deed_core.specs.Weights.{of_arena}
-use Rattle.stock_audit.specs.Outside.{own_rounds}
+
+use Rattle.stock.specs.OwnCaches.{own_rounds}
 use Rattle.stock_audit.proofs.lists.rounds_units.Given as goal
 
 abbrev pub invariant-loop-cache : goal.invariant-loop-cache

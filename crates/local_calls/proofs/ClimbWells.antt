@@ -1,0 +1,92 @@
+-- Climbs and hand backs end well.
+use Rattle.std.proofs.Common.{◌≡◌, ℕ, List, [], ◌∷◌, Option, Some, None, Result, Ok, Err, sym, ap, subst, ◌∙◌}
+use Rattle.deed_core.specs.Tag.{Tag}
+use Rattle.deed_core.specs.Request.{plain_of}
+use Rattle.deed_core.specs.declared.segments.Route.TheVariants.{Direct}
+use Rattle.arena_tree.specs.declared.levels.Level.{Level}
+use Rattle.arena_tree.specs.declared.trees.TreeArena.{TreeArena}
+use Rattle.arena_tree.specs.declared.part_faults.CarveFault.{CarveFault}
+use Rattle.arena_tree.specs.declared.part_faults.CarveFault.TheVariants as carving
+use Rattle.arena_tree.specs.declared.part_faults.FreeFault.{FreeFault}
+use Rattle.arena_tree.specs.declared.part_faults.FreeFault.TheVariants as freeing
+use Rattle.arena_tree.specs.declared.part_faults.AddCarveFault.{AddCarveFault}
+use Rattle.arena_tree.specs.declared.part_faults.AddCarveFault.TheVariants as adding
+use Rattle.arena_tree.specs.declared.part_faults.ClimbFault.TheVariants as climbing
+use Rattle.arena_tree.specs.declared.part_faults.ReturnFault.TheVariants as returning
+use Rattle.arena_tree.specs.Chains.{IsChain, first_id, amount_of}
+use Rattle.arena_tree.specs.Climbs.{Climbed, Returned, IsGrantOf, return_plan, on_free, refused_memory, give_back, on_add, on_import, on_carve, climb_plan}
+use Rattle.arena_tree.specs.Events.{Carve, Free, AddCarve}
+use Rattle.arena_tree.specs.Plans.{Plan, Done, Ask, then}
+use Rattle.arena_tree.specs.Sound.{Sound}
+use Rattle.arena_tree.specs.Trees.{nodes_of}
+use Rattle.local_calls.specs.Asked.{GoesWell, IsDone, EndsWell}
+use Rattle.local_calls.proofs.Chains.{chain_source, chain_above}
+
+pub ends_then : {A B : Type 0} (arenas : List TreeArena) (post : A → Type 0) (post' : B → Type 0) (p : Plan A) (next : A → Plan B) → EndsWell arenas post p → ((a : A) → post a → EndsWell arenas post' (next a)) → EndsWell arenas post' (then p next)
+ends_then arenas post post' (Done a) next w f = f a w
+ends_then arenas post post' (Ask e g) next w f = (w.0, λ x s well. ends_then arenas post post' (g x) next (w.1 x s well) f)
+
+module _ (arenas : List TreeArena) where
+  -- a Direct segment of the chain's first arena goes back
+  pub well_return : (chain : List Level) (t : Tag) → IsChain (nodes_of arenas) chain → first_id chain ≡ Some t.arena → t.route ≡ Direct → EndsWell arenas (λ (r : Returned). IsDone r) (return_plan chain t)
+  well_return [] t is first direct = absurd (let e : None ≡ Some t.arena = first in cc)
+  well_return (l ∷ up) t is first direct = (direct, freed (λ w at way. well_return up w is.2 at way))
+    where
+      freed : ((w : Tag) → first_id up ≡ Some w.arena → w.route ≡ Direct → EndsWell arenas (λ (r : Returned). IsDone r) (return_plan up w)) → (x : Result (Option Tag) (FreeFault Tag)) → Sound (nodes_of arenas) (Free t) x → GoesWell (Free t) x
+          → EndsWell arenas (λ (r : Returned). IsDone r) (on_free (return_plan up) x)
+      freed again (Ok None) s well = tt
+      freed again (Ok (Some w)) s well = again w (chain_above (nodes_of arenas) l up t w is first (s.0).whole.1) (s.0).whole.0
+      freed again (Err (freeing.BadFree x)) s well = absurd well
+      freed again (Err (freeing.Stopped x)) s well = absurd well
+
+  -- a climb ends with a grant, or with an empty hand
+  abbrev pub ClimbsWell : List Level → ℕ → Climbed → Type 0
+  ClimbsWell chain n (Ok t) = IsGrantOf (nodes_of arenas) chain n t
+  ClimbsWell chain n (Err climbing.BadRequest) = Unit {0}
+  ClimbsWell chain n (Err climbing.NoFit) = Unit {0}
+  ClimbsWell chain n (Err climbing.NoMemory) = Unit {0}
+  ClimbsWell chain n (Err (climbing.Stuck t)) = ⊥
+  ClimbsWell chain n (Err (climbing.Stopped o)) = ⊥
+
+  pub well_refused : (post : Climbed → Type 0) → post (Err climbing.NoMemory) → (up : List Level) (t : Tag) → IsChain (nodes_of arenas) up → first_id up ≡ Some t.arena → t.route ≡ Direct → EndsWell arenas post (give_back up t)
+  well_refused post ok up t is first direct = ends_then arenas (λ (r : Returned). IsDone r) post (return_plan up t) (λ r. Done (refused_memory r)) (well_return up t is first direct) ends
+    where
+      ends : (r : Returned) → IsDone r → post (refused_memory r)
+      ends (Ok u) w = ok
+      ends (Err (returning.Stuck x)) w = absurd w
+      ends (Err (returning.Stopped x)) w = absurd w
+
+  well_added : (l : Level) (up : List Level) (n : ℕ) (span : Tag) (x : Result Tag (AddCarveFault Tag)) → IsChain (nodes_of arenas) up → first_id up ≡ Some span.arena → span.route ≡ Direct → Sound (nodes_of arenas) (AddCarve l.id span n) x → GoesWell (AddCarve l.id span n) x
+      → EndsWell arenas (ClimbsWell (l ∷ up) n) (on_add up x)
+  well_added l up n span (Ok t) is first direct s well = (s.0).grant
+  well_added l up n span (Err (adding.NoMemory t)) is first direct s well =
+      well_refused (ClimbsWell (l ∷ up) n) tt up t is (subst (λ (z : Tag). first_id up ≡ Some z.arena) (sym s.1) first) (subst (λ (z : Tag). z.route ≡ Direct) (sym s.1) direct)
+  well_added l up n span (Err (adding.Overlaps t)) is first direct s well = absurd well
+  well_added l up n span (Err (adding.NotAligned t)) is first direct s well = absurd well
+  well_added l up n span (Err (adding.Stopped t)) is first direct s well = absurd well
+
+  -- a grant is of the first arena
+  granted_first : (chain : List Level) (n : ℕ) (t : Tag) → IsGrantOf (nodes_of arenas) chain n t → (first_id chain ≡ Some t.arena) × (t.route ≡ Direct)
+  granted_first [] n t g = absurd g
+  granted_first (l ∷ up) n t g = (ap Some (sym g.of_arena), g.direct)
+
+  well_imported : (l : Level) (up : List Level) (n m : ℕ) → IsChain (nodes_of arenas) (l ∷ up) → (r : Climbed) → ClimbsWell up m r → EndsWell arenas (ClimbsWell (l ∷ up) n) (on_import up l.id n r)
+  well_imported l up n m is (Ok span) w =
+      let g = granted_first up m span w in
+      (record { source = chain_source (nodes_of arenas) l up is ∙ g.0; direct = g.1 }, λ x s well. well_added l up n span x is.2 g.0 g.1 s well)
+  well_imported l up n m is (Err climbing.BadRequest) w = tt
+  well_imported l up n m is (Err climbing.NoFit) w = tt
+  well_imported l up n m is (Err climbing.NoMemory) w = tt
+  well_imported l up n m is (Err (climbing.Stuck t)) w = absurd w
+  well_imported l up n m is (Err (climbing.Stopped o)) w = absurd w
+
+  pub well_climb : (chain : List Level) (n : ℕ) → IsChain (nodes_of arenas) chain → EndsWell arenas (ClimbsWell chain n) (climb_plan chain n)
+  well_climb [] n is = tt
+  well_climb (l ∷ up) n is = (tt, carved (well_climb up (amount_of l up n) is.2))
+    where
+      carved : EndsWell arenas (ClimbsWell up (amount_of l up n)) (climb_plan up (amount_of l up n)) → (x : Result Tag CarveFault) → Sound (nodes_of arenas) (Carve l.id (plain_of n)) x → GoesWell (Carve l.id (plain_of n)) x → EndsWell arenas (ClimbsWell (l ∷ up) n) (on_carve (climb_plan up (amount_of l up n)) up l.id n x)
+      carved again (Ok t) s well = s.1
+      carved again (Err carving.NoFit) s well = ends_then arenas (ClimbsWell up (amount_of l up n)) (ClimbsWell (l ∷ up) n) (climb_plan up (amount_of l up n)) (on_import up l.id n) again (well_imported l up n (amount_of l up n) is)
+      carved again (Err carving.BadRequest) s well = tt
+      carved again (Err carving.NoMemory) s well = tt
+      carved again (Err carving.Stopped) s well = absurd well

@@ -1,0 +1,121 @@
+-- What lists of steps ask of parts, and how they end where no part refuses what it is rightly asked.
+use Rattle.std.specs.Prelude.{◌≡◌, ℕ, ◌/◌, ◌<◌, ◌≤◌, List, slice_get, Some, Result, Ok, Err}
+use Rattle.deed_core.specs.Tag.{Tag}
+use Rattle.deed_core.specs.declared.segments.Route.TheVariants.{Direct, Cached}
+use Rattle.arena_tree.specs.declared.part_faults.AddCarveFault.{AddCarveFault}
+use Rattle.arena_tree.specs.declared.part_faults.AddCarveFault.TheVariants as adding
+use Rattle.arena_tree.specs.declared.part_faults.CarveFault.{CarveFault}
+use Rattle.arena_tree.specs.declared.part_faults.CarveFault.TheVariants as carving
+use Rattle.arena_tree.specs.declared.part_faults.ChangeFault.{ChangeFault}
+use Rattle.arena_tree.specs.declared.part_faults.ChangeFault.TheVariants as changing
+use Rattle.arena_tree.specs.declared.part_faults.PushFault.{PushFault}
+use Rattle.arena_tree.specs.declared.part_faults.PushFault.TheVariants as pushing
+use Rattle.arena_tree.specs.declared.part_faults.SlabAddFault.{SlabAddFault}
+use Rattle.arena_tree.specs.declared.part_faults.SlabAddFault.TheVariants as slabbing
+use Rattle.arena_tree.specs.declared.part_faults.SwapEmptyFault.{SwapEmptyFault}
+use Rattle.arena_tree.specs.declared.part_faults.SwapEmptyFault.TheVariants as emptying
+use Rattle.arena_tree.specs.declared.part_faults.SwapFreshFault.{SwapFreshFault}
+use Rattle.arena_tree.specs.declared.part_faults.SwapFreshFault.TheVariants as freshing
+use Rattle.arena_tree.specs.declared.part_faults.SwapFullFault.{SwapFullFault}
+use Rattle.arena_tree.specs.declared.part_faults.SwapFullFault.TheVariants as fulling
+use Rattle.arena_tree.specs.declared.trees.TreeArena.{TreeArena}
+use Rattle.arena_tree.specs.Chains.{source_of}
+use Rattle.arena_tree.specs.Events.{Event, AnswerTo, Carve, Free, AddCarve, SlabTake, SlabPut, SlabAdd, SlabReap, SwapFull, SwapEmpty, SwapFresh, DepotReap, Pop, Push, Change}
+use Rattle.arena_tree.specs.Plans.{Plan, Done, Ask}
+use Rattle.arena_tree.specs.Sound.{Sound}
+use Rattle.arena_tree.specs.Trees.{nodes_of}
+
+-- the arena has a cache of chunks of so many quanta, whose slabs are as long as the span
+pub record IsSlabLong (arenas : List TreeArena) (arena cache : ℕ) (span : Tag) : Type 0 where
+  pub level : TreeArena
+  pub at : slice_get arenas arena ≡ Some level
+  pub some : 0 < cache
+  pub most : cache ≤ level.qcache_max / level.quantum
+  pub long : span.holding.range.len ≡ level.slab_size
+
+-- a span that the arena's cache may cut a slab from
+pub record IsForSlab (arenas : List TreeArena) (arena cache : ℕ) (span : Tag) : Type 0 where
+  pub of_arena : span.arena ≡ arena
+  pub direct : span.route ≡ Direct
+  pub slab : IsSlabLong arenas arena cache span
+
+-- a span of the child's source
+pub record IsForChild (arenas : List TreeArena) (child : ℕ) (span : Tag) : Type 0 where
+  pub source : source_of (nodes_of arenas) child ≡ Some span.arena
+  pub direct : span.route ≡ Direct
+
+-- what is given is for the part that it is given to: no chunk is freed, no other segment is put
+-- into a slab, and what becomes a span is of the right arena and, for a slab, of the right length
+abbrev pub IsRightlyAsked : List TreeArena → Event → Type 0
+IsRightlyAsked arenas (Free given) = given.route ≡ Direct
+IsRightlyAsked arenas (AddCarve child given size) = IsForChild arenas child given
+IsRightlyAsked arenas (SlabPut given) = (k : ℕ) × (given.route ≡ Cached k)
+IsRightlyAsked arenas (SlabAdd arena cache given) = IsForSlab arenas arena cache given
+IsRightlyAsked arenas (Carve arena request) = Unit {0}
+IsRightlyAsked arenas _ = Unit {0}
+
+-- by the answer: done, or refused for want of room, of a magazine or of memory alone
+abbrev pub CarvesWell : Result Tag CarveFault → Type 0
+CarvesWell (Err carving.Stopped) = ⊥
+CarvesWell _ = Unit {0}
+
+abbrev pub AddsWell : Result Tag (AddCarveFault Tag) → Type 0
+AddsWell (Err (adding.Overlaps t)) = ⊥
+AddsWell (Err (adding.NotAligned t)) = ⊥
+AddsWell (Err (adding.Stopped t)) = ⊥
+AddsWell _ = Unit {0}
+
+abbrev pub SlabsWell : Result Tag (SlabAddFault Tag) → Type 0
+SlabsWell (Err (slabbing.WrongSize t)) = ⊥
+SlabsWell (Err (slabbing.Overlaps t)) = ⊥
+SlabsWell (Err (slabbing.Stopped t)) = ⊥
+SlabsWell _ = Unit {0}
+
+abbrev pub FillsWell : Result (Unit {0}) SwapFullFault → Type 0
+FillsWell (Err fulling.Stopped) = ⊥
+FillsWell _ = Unit {0}
+
+abbrev pub EmptiesWell : Result (Unit {0}) SwapEmptyFault → Type 0
+EmptiesWell (Err emptying.Stopped) = ⊥
+EmptiesWell _ = Unit {0}
+
+abbrev pub FreshensWell : Result (Unit {0}) SwapFreshFault → Type 0
+FreshensWell (Err freshing.Stopped) = ⊥
+FreshensWell _ = Unit {0}
+
+abbrev pub PushesWell : Result (Unit {0}) (PushFault Tag) → Type 0
+PushesWell (Err (pushing.Stopped t)) = ⊥
+PushesWell _ = Unit {0}
+
+abbrev pub ChangesWell : Result (Unit {0}) ChangeFault → Type 0
+ChangesWell (Err changing.Stopped) = ⊥
+ChangesWell _ = Unit {0}
+
+-- what is never refused is done
+abbrev pub IsDone : {A E : Type 0} → Result A E → Type 0
+IsDone (Ok a) = Unit {0}
+IsDone (Err e) = ⊥
+
+-- no part stops, and none refuses what is given to it but when out of memory
+abbrev pub GoesWell : (e : Event) → AnswerTo e → Type 0
+GoesWell (Carve arena request) a = CarvesWell a
+GoesWell (Free given) a = IsDone a
+GoesWell (AddCarve child given size) a = AddsWell a
+GoesWell (SlabTake arena cache) a = IsDone a
+GoesWell (SlabPut given) a = IsDone a
+GoesWell (SlabAdd arena cache given) a = SlabsWell a
+GoesWell (SlabReap arena cache) a = IsDone a
+GoesWell (SwapFull arena cache) a = FillsWell a
+GoesWell (SwapEmpty arena cache) a = EmptiesWell a
+GoesWell (SwapFresh arena cache) a = FreshensWell a
+GoesWell (DepotReap arena cache) a = IsDone a
+GoesWell (Pop arena cache) a = IsDone a
+GoesWell (Push arena cache given) a = PushesWell a
+GoesWell (Change arena cache size) a = ChangesWell a
+
+-- each part is rightly asked, and what it ends with is as said, where each answer is sound and all
+-- goes well
+abbrev pub EndsWell : {A : Type 0} → List TreeArena → (A → Type 0) → Plan A → Type 0
+EndsWell arenas post (Done a) = post a
+EndsWell arenas post (Ask e f) = IsRightlyAsked arenas e
+    × ((x : AnswerTo e) → Sound (nodes_of arenas) e x → GoesWell e x → EndsWell arenas post (f x))

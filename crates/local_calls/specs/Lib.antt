@@ -1,0 +1,4 @@
+pub mod Asked
+pub mod NoFits
+pub mod Runs
+pub mod Laws

@@ -1,0 +1,24 @@
+//! Laws of the calls of quantum caches over one thread's parts. The functions do nothing: their
+//! contracts are the laws, and proofs/LawProofs.antt has them for the proofs of the crates above,
+//! with `run_seen`, by which a call's clause is a list of steps over states.
+ghost use Rattle.local_calls.specs.Laws.{AllocNeverStuck, XallocNeverStops, FreeAlwaysDone};
+ghost use Rattle.local_calls.specs.Laws.{DrainAlwaysDone, ReapAlwaysDone, NoFitIsRight};
+ghost use Rattle.local_calls.specs.Laws.{XallocNoFitIsRight};
+
+/// Nothing is stuck and nothing stops: what is out can always be freed, and an allocation is
+/// refused with an empty hand.
+pub fn never_stuck_laws()
+    ensures alloc { AllocNeverStuck }
+    ensures xalloc { XallocNeverStops }
+    ensures free { FreeAlwaysDone }
+    ensures drain { DrainAlwaysDone }
+    ensures reap { ReapAlwaysDone }
+{}
+
+/// What NoFit says, of the parts as they were before the call: the cache for the size has no chunk to
+/// give, and no address serves, neither in the arena nor in a source for what would be imported. The
+/// stock is unchanged.
+pub fn no_fit_laws()
+    ensures alloc { NoFitIsRight }
+    ensures xalloc { XallocNoFitIsRight }
+{}
