@@ -1,5 +1,6 @@
 -- What the proofs of the crates above cite of this crate: the laws that its law functions state, and
 -- how a call's list of steps over `Local` is one over states.
+pub use Rattle.local_calls.proofs.Drained.{drain_empties_cpu}
 pub use Rattle.local_calls.proofs.NoFits.{no_fit_is_right, xalloc_no_fit_is_right}
 use Rattle.std.proofs.Common.{◌≡◌, ℕ, List, ap, subst, ◌∙◌}
 use Rattle.arena_tree.specs.declared.trees.TreeArena.{TreeArena}

@@ -10,3 +10,6 @@ mod Steps
 mod CarvesNone
 mod StagesNone
 mod NoFits
+mod Walks
+mod CpuPlaces
+mod Drained

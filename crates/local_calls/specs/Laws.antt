@@ -15,7 +15,7 @@ use Rattle.quantum_cache.specs.Drains.{Drained, drain_plan}
 use Rattle.quantum_cache.specs.Frees.{free_plan}
 use Rattle.quantum_cache.specs.Reaps.{ReapEnd, reap_plan}
 use Rattle.stock.specs.Stocks.{IsStock}
-use Rattle.local_parts.specs.Cpus.{cpu_rounds}
+use Rattle.local_parts.specs.Cpus.{cpu_rounds, HasNoRounds}
 use Rattle.local_parts.specs.States.{LocalState, IsUnchanged}
 use Rattle.local_calls.specs.Asked.{CarvesWell, IsDone}
 use Rattle.local_calls.specs.NoFits.{NoneServesIn, NothingFits}
@@ -82,3 +82,9 @@ XallocNoFitIsRight = (arenas : List TreeArena) (arena : ℕ) (request : Request)
     (old new : LocalState) → IsStock old.spaces
     → RunsTo arenas (xalloc_plan arena request) old new (Err carving.NoFit)
     → NoneServesIn old.spaces arena request × IsUnchanged old new
+
+-- A drain that ends well leaves the CPU no round.
+abbrev pub DrainEmptiesCpu : Type 0
+DrainEmptiesCpu = (turns : ℕ) (arenas : List TreeArena) (old new : LocalState)
+    → IsLocalOf arenas old → RunsTo arenas (drain_plan turns arenas) old new (Ok tt)
+    → HasNoRounds new.cpu

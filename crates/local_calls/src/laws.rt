@@ -3,7 +3,7 @@
 //! with `run_seen`, by which a call's clause is a list of steps over states.
 ghost use Rattle.local_calls.specs.Laws.{AllocNeverStuck, XallocNeverStops, FreeAlwaysDone};
 ghost use Rattle.local_calls.specs.Laws.{DrainAlwaysDone, ReapAlwaysDone, NoFitIsRight};
-ghost use Rattle.local_calls.specs.Laws.{XallocNoFitIsRight};
+ghost use Rattle.local_calls.specs.Laws.{XallocNoFitIsRight, DrainEmptiesCpu};
 
 /// Nothing is stuck and nothing stops: what is out can always be freed, and an allocation is
 /// refused with an empty hand.
@@ -21,4 +21,9 @@ pub fn never_stuck_laws()
 pub fn no_fit_laws()
     ensures alloc { NoFitIsRight }
     ensures xalloc { XallocNoFitIsRight }
+{}
+
+/// What a call leaves: a drain no round of the CPU, so that its caches can be closed.
+pub fn emptied_laws()
+    ensures drain { DrainEmptiesCpu }
 {}

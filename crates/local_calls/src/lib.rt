@@ -9,4 +9,4 @@
 
 mod laws;
 
-pub use laws::{never_stuck_laws, no_fit_laws};
+pub use laws::{emptied_laws, never_stuck_laws, no_fit_laws};
