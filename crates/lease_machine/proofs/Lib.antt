@@ -1,0 +1,4 @@
+pub mod Places
+pub mod Repeats
+pub mod Fitting
+pub mod LawProofs

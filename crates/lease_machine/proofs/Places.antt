@@ -1,0 +1,47 @@
+-- Each unit has one place, and leases are apart, after any lines.
+use Rattle.std.proofs.Common.{◌≡◌, ℕ, ◌<◌, refl, sym, subst, ap, ◌∙◌, List, [], ◌∷◌, ◌++◌, length, get_or, AllPairs, Some, Ok, Err, arith}
+use Rattle.std.specs.Prelude.{slice_get, map, sum_by}
+use Rattle.std.proofs.lemmas.List.{get_or_append_left, length-append}
+use Rattle.deed_core.specs.Covering.{units_in}
+use Rattle.stock.specs.Spaces.{SpaceState}
+use Rattle.stock.specs.Laws.{ApartUpChain}
+use Rattle.stock_audit.specs.Outside.{all_rounds_out}
+use Rattle.stock_audit.proofs.LawProofs.{audit_adds_up, unit_adds_up, units_weigh, out_never_overlaps}
+use Rattle.lease_book.specs.BookState.{leased, units_of_arena}
+use Rattle.lease_machine.specs.Picture.{Picture, IsPicture, SameSetup, held_outside, owned_by}
+use Rattle.lease_machine.specs.Operators.{sums_in}
+use Rattle.lease_machine.specs.Laws.{Runs, PicturesStay, SetupStays, UnitsHaveOnePlace, LeasesAreApart, AuditTellsLeases, AuditIsWhole}
+
+pub pictures_stay : PicturesStay
+pictures_stay old new [] text is run = subst IsPicture (sym run.1) is
+pictures_stay old new (Ok line ∷ frames) text is run = pictures_stay run.2 new frames run.1 (run.3).picture run.5
+pictures_stay old new (Err fault ∷ frames) text is run = pictures_stay old new frames run.0 is run.2
+
+pub setup_stays : SetupStays
+setup_stays old new [] text run = record { tree = ap (λ (d : Picture). d.tree) run.1; owned = ap (λ (d : Picture). map owned_by d.spaces) run.1 }
+setup_stays old new (Ok line ∷ frames) text run =
+    let rest = setup_stays run.2 new frames run.1 run.5 in
+    let first = (run.3).setup in
+    record { tree = rest.tree ∙ first.tree; owned = rest.owned ∙ first.owned }
+setup_stays old new (Err fault ∷ frames) text run = setup_stays old new frames run.0 run.2
+
+pub units_have_one_place : UnitsHaveOnePlace
+units_have_one_place d is k s at u = unit_adds_up d.spaces (held_outside d) is.units k s at u
+
+-- what holds of a list of pairs holds of a front of it
+front_pairs : {X : Type 0} (R : X → X → Type 0) (xs ys : List X) → AllPairs R (xs ++ ys) → AllPairs R xs
+front_pairs R xs ys all i j e lt below =
+    let whole = all i j e lt (omega (arith, below, length-append xs ys)) in
+    let first = get_or_append_left xs ys e i (omega (arith, lt, below)) in
+    let second = get_or_append_left xs ys e j below in
+    subst (λ x. R x (get_or xs j e)) first (subst (R (get_or (xs ++ ys) i e)) second whole)
+
+pub leases_are_apart : LeasesAreApart
+leases_are_apart d is = front_pairs (ApartUpChain d.spaces) (leased d.book) (all_rounds_out (held_outside d).cpus) (out_never_overlaps d.spaces (held_outside d) is.units)
+
+pub audit_tells_leases : AuditTellsLeases
+audit_tells_leases d is k s at =
+    subst (λ (n : ℕ). (sums_in d s).leased ≡ sum_by (units_of_arena n) (leased d.book)) (is.units.parts k s at).id (units_weigh s.arena.id (leased d.book))
+
+pub audit_is_whole : AuditIsWhole
+audit_is_whole d is k s at = audit_adds_up d.spaces (held_outside d) is.units k s at

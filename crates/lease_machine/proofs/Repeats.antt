@@ -1,0 +1,296 @@
+-- A request that comes again.
+use Rattle.std.proofs.Common.{◌≡◌, ◌≢◌, ◌⊎◌, ℕ, ◌+◌, ◌<◌, refl, sym, subst, ap, ◌∙◌, inl, inr, List, [], ◌∷◌, Option, Some, None, Ok, Err, Result, arith}
+use Rattle.deed_core.specs.Tag.{Tag}
+use Rattle.lease_terms.specs.Requests.{RequestId}
+use Rattle.lease_terms.specs.declared.refusals.Refusal.{Refusal}
+use Rattle.lease_proto.specs.declared.faults.LineFault.{LineFault}
+use Rattle.lease_proto.specs.declared.lines.Line.{Line}
+use Rattle.lease_proto.specs.declared.lines.Line.TheVariants as lines
+use Rattle.lease_proto.specs.declared.lines.HelloLine.{HelloLine}
+use Rattle.lease_proto.specs.declared.lines.Op.{Op}
+use Rattle.lease_proto.specs.declared.lines.Op.TheVariants as ops
+use Rattle.lease_proto.specs.declared.operators.OperatorLine.{OperatorLine}
+use Rattle.lease_proto.specs.declared.operators.OperatorLine.TheVariants as operator
+use Rattle.lease_proto.specs.declared.operators.ServedLine.{ServedLine}
+use Rattle.lease_proto.specs.declared.operators.ServedLine.TheVariants as served
+use Rattle.lease_proto.specs.declared.replies.Reply.{Reply}
+use Rattle.lease_proto.specs.declared.replies.Reply.TheVariants as reply
+use Rattle.lease_proto.specs.Frames.{Frame}
+use Rattle.lease_proto.specs.Operators.{served_of}
+use Rattle.lease_proto.specs.Requests.{client_of}
+use Rattle.lease_book.specs.Entry.{Entry, Settlement, Settled, Hello, Swept, Grant, Refuse, Return, kept, subject_of}
+use Rattle.lease_book.specs.Receipts.{Kept}
+use Rattle.lease_book.specs.Account.{Account, number_of}
+use Rattle.lease_book.specs.BookState.{BookState, HasHistory, Enters, account_in}
+use Rattle.lease_book.specs.Answers.{IsNew}
+use Rattle.lease_book.proofs.LawProofs.{entered_changes}
+use Rattle.lease_history.specs.Told.{reply_to}
+use Rattle.arena_tree.specs.declared.trees.TreeArena.{TreeArena}
+use Rattle.lease_machine.specs.Picture.{Picture, IsPicture, SameSetup, arena_named}
+use Rattle.lease_machine.specs.Replies.{IsKnownReply, IsKeptReply}
+use Rattle.lease_machine.specs.Operators.{Does, LeavesOff, OperatorStep}
+use Rattle.lease_machine.specs.Machine.{RequestStep, NewRequest, Sweeps, HelloStep, ClientStep, ServedStep, AnswersLine, LeaseStep, demand_of}
+use Rattle.lease_machine.specs.Laws.{Runs}
+use Rattle.lease_machine.specs.AnswerLaws.{written, IsKept, IsUnkept, IsRequestLine, IsOfOthers, AreOfOthers, LinesRepeat}
+use Rattle.lease_machine.proofs.Places.{setup_stays}
+
+-- the number is the client's last one, and this is kept of it
+pub record IsLast (book : BookState) (id : RequestId) (k : Kept) : Type 0 where
+  pub current : id.incarnation ≡ (account_in id.client book).incarnation
+  pub last : (account_in id.client book).kept ≡ Some k
+  pub number : id.number ≡ k.number
+
+pub history_of : (d : Picture) → IsPicture d → HasHistory d.book
+history_of d is = (is.book.entries, is.book.history)
+
+-- so it is after its entry
+pub settled_now : (old new : BookState) (id : RequestId) (s : Settlement) → HasHistory old → Enters (Settled id s) old new → IsLast new id (kept id.number s)
+settled_now old new id s history entry =
+    let after = entered_changes.settled old new id s history entry in
+    record {
+      current = sym (ap (λ (a : Account). a.incarnation) after);
+      last = ap (λ (a : Account). a.kept) after;
+      number = refl;
+    }
+
+-- and then it isn't new
+pub not_new : (book : BookState) (id : RequestId) (k : Kept) → IsLast book id k → IsNew (account_in id.client book) id → ⊥
+not_new book id k is new_number = omega (arith, new_number.next, is.number, ap (λ (o : Option Kept). number_of o) is.last)
+
+-- the reply to it
+by_kept : (d : Picture) (id : RequestId) (k : Kept) (r : Reply) → IsLast d.book id k → IsKeptReply d id r → r ≡ reply_to (arena_named d.tree) id k.reply
+by_kept d id k r is known =
+    let e : Some k ≡ Some (record { number = id.number; reply = known.0.reply; terms = known.0.terms }) = sym is.last ∙ known.1.kept in
+    let same : k ≡ record { number = id.number; reply = known.0.reply; terms = known.0.terms } = cc in
+    known.2 ∙ sym (ap (λ (x : Kept). reply_to (arena_named d.tree) id x.reply) same)
+
+kept_again : (d : Picture) (id : RequestId) (k : Kept) (r : Reply) → IsLast d.book id k → IsKnownReply d id r → r ≡ reply_to (arena_named d.tree) id k.reply
+kept_again d id k (reply.Old o) is known = absurd (known.1.other is.current)
+kept_again d id k (reply.Stale o) is known = absurd (omega (arith, known.1.last, known.1.below, is.number, ap (λ (o : Option Kept). number_of o) is.last))
+kept_again d id k (reply.Gap o) is known = absurd (omega (arith, known.1.last, known.1.above, is.number, ap (λ (o : Option Kept). number_of o) is.last))
+kept_again d id k (reply.Granted g) is known = by_kept d id k (reply.Granted g) is known
+kept_again d id k (reply.Released g) is known = by_kept d id k (reply.Released g) is known
+kept_again d id k (reply.Refused g) is known = by_kept d id k (reply.Refused g) is known
+kept_again d id k (reply.Welcome g) is known = by_kept d id k (reply.Welcome g) is known
+kept_again d id k (reply.Again g) is known = by_kept d id k (reply.Again g) is known
+kept_again d id k (reply.Error g) is known = by_kept d id k (reply.Error g) is known
+
+pub request_again : (d new : Picture) (id : RequestId) (op : Op) (k : Kept) (r : Reply) → IsLast d.book id k → RequestStep id op d new r → (r ≡ reply_to (arena_named d.tree) id k.reply) × (new ≡ d)
+request_again d new id op k r is step = elim step [
+  | inl known ↦ (kept_again d id k r is known.0, known.1)
+  | inr fresh ↦ absurd (not_new d.book id k is fresh.0)
+]
+
+-- a reply that is kept is of the last number
+known_last : (d : Picture) (id : RequestId) (r : Reply) → IsKept r → IsKnownReply d id r → (k : Kept) × IsLast d.book id k × (r ≡ reply_to (arena_named d.tree) id k.reply)
+known_last d id r is known = by r is known
+  where
+    at : (x : Reply) → IsKeptReply d id x → (k : Kept) × IsLast d.book id k × (x ≡ reply_to (arena_named d.tree) id k.reply)
+    at x known = (record { number = id.number; reply = known.0.reply; terms = known.0.terms }, record { current = known.1.current; last = known.1.kept; number = refl }, known.2)
+
+    by : (x : Reply) → IsKept x → IsKnownReply d id x → (k : Kept) × IsLast d.book id k × (x ≡ reply_to (arena_named d.tree) id k.reply)
+    by (reply.Granted g) is known = at (reply.Granted g) known
+    by (reply.Released g) is known = at (reply.Released g) known
+    by (reply.Refused g) is known = at (reply.Refused g) known
+    by (reply.Old o) is known = absurd is
+    by (reply.Stale o) is known = absurd is
+    by (reply.Gap o) is known = absurd is
+    by (reply.Welcome o) is known = absurd is
+    by (reply.Again o) is known = absurd is
+    by (reply.Error o) is known = absurd is
+
+module _ (old mid : Picture) (id : RequestId) (history : HasHistory old.book) where
+  abbrev Answered : Reply → Type 0
+  Answered r = (k : Kept) × IsLast mid.book id k × (r ≡ reply_to (arena_named old.tree) id k.reply)
+
+  new_lease_kept : (l : _) (r : Reply) → IsKept r → NewRequest id (ops.Lease l) old mid r → Answered r
+  new_lease_kept l (reply.Granted g) is does =
+      let s : Settlement = Grant does.segment (record { quantum = does.arena.quantum; request = demand_of l }) in
+      (kept id.number s, settled_now old.book mid.book id s history does.granted.entry, does.reply)
+  new_lease_kept l (reply.Refused x) is does = (kept id.number (Refuse does.0), settled_now old.book mid.book id (Refuse does.0) history does.1.refused.entry, does.1.reply)
+  new_lease_kept l (reply.Again x) is does = absurd is
+  new_lease_kept l (reply.Released x) is does = absurd does
+  new_lease_kept l (reply.Old x) is does = absurd is
+  new_lease_kept l (reply.Stale x) is does = absurd is
+  new_lease_kept l (reply.Gap x) is does = absurd is
+  new_lease_kept l (reply.Welcome x) is does = absurd is
+  new_lease_kept l (reply.Error x) is does = absurd is
+
+  new_release_kept : (l : _) (r : Reply) → IsKept r → NewRequest id (ops.Release l) old mid r → Answered r
+  new_release_kept l (reply.Released p) is does =
+      let s : Settlement = Return does.1.place l.base in
+      (kept id.number s, settled_now old.book mid.book id s history does.1.released.entry, ap (λ (x : RequestId). reply.Released x) does.0)
+  new_release_kept l (reply.Refused x) is does = (kept id.number (Refuse does.0), settled_now old.book mid.book id (Refuse does.0) history does.1.refused.entry, does.1.reply)
+  new_release_kept l (reply.Granted x) is does = absurd does
+  new_release_kept l (reply.Again x) is does = absurd is
+  new_release_kept l (reply.Old x) is does = absurd is
+  new_release_kept l (reply.Stale x) is does = absurd is
+  new_release_kept l (reply.Gap x) is does = absurd is
+  new_release_kept l (reply.Welcome x) is does = absurd is
+  new_release_kept l (reply.Error x) is does = absurd is
+
+  new_kept : (op : Op) (r : Reply) → IsKept r → NewRequest id op old mid r → Answered r
+  new_kept (ops.Lease l) r is does = new_lease_kept l r is does
+  new_kept (ops.Release l) r is does = new_release_kept l r is does
+
+  pub request_kept : (op : Op) (r : Reply) → RequestStep id op old mid r → IsKept r → Answered r
+  request_kept op r step is = elim step [
+    | inl known ↦
+        let last = known_last old id r is known.0 in
+        (last.0, subst (λ (d : Picture). IsLast d.book id last.0) (sym known.1) last.1, last.2)
+    | inr fresh ↦ new_kept op r is fresh.1
+  ]
+
+-- What other clients and operators ask leaves a client's account as it was.
+
+-- an entry about another client
+pub kept_by : (c : ℕ) (e : Entry) (old new : BookState) → HasHistory old → Enters e old new → c ≢ subject_of e → (account_in c new ≡ account_in c old) × HasHistory new
+kept_by c e old new history entry other = (entered_changes.others old new e c history entry other, (e ∷ history.0, entry.history history.0 history.1))
+
+sweeps_keep : (c d : ℕ) → c ≢ d → (ts : List Tag) (old new : Picture) → HasHistory old.book → Sweeps d ts old new → account_in c new.book ≡ account_in c old.book
+sweeps_keep c d other [] old new history same = ap (λ (x : Picture). account_in c x.book) same
+sweeps_keep c d other (t ∷ ts) old new history swept =
+    let id : RequestId = swept.0 in
+    let far : c ≢ id.client = (λ e. other (e ∙ swept.2.client)) in
+    let first = kept_by c (Swept id.client id.incarnation t.arena t.holding.range.base) old.book swept.1.book history swept.2.ended.entry far in
+    sweeps_keep c d other ts swept.1 new first.1 swept.4 ∙ first.0
+
+module _ (c : ℕ) where
+  abbrev SameAccount : Picture → Picture → Type 0
+  SameAccount old new = account_in c new.book ≡ account_in c old.book
+
+  same_picture : (old new : Picture) → new ≡ old → SameAccount old new
+  same_picture old new same = ap (λ (x : Picture). account_in c x.book) same
+
+  hello_keeps : (h : HelloLine) → h.client ≢ c → (old new : Picture) → HasHistory old.book → (r : Reply) → HelloStep h old new r → SameAccount old new
+  hello_keeps h other old new history (reply.Welcome w) does =
+      let welcomes = does.1 in
+      let far : c ≢ h.client = (λ e. other (sym e)) in
+      let first = kept_by c (Hello h.client h.incarnation) old.book welcomes.greeted history welcomes.hello far in
+      sweeps_keep c h.client far welcomes.swept (record old { book = welcomes.greeted }) new first.1 welcomes.sweeps ∙ first.0
+  hello_keeps h other old new history (reply.Old o) does = same_picture old new does.2
+  hello_keeps h other old new history (reply.Again a) does = same_picture old new does.2
+  hello_keeps h other old new history (reply.Granted x) does = absurd does
+  hello_keeps h other old new history (reply.Released x) does = absurd does
+  hello_keeps h other old new history (reply.Refused x) does = absurd does
+  hello_keeps h other old new history (reply.Stale x) does = absurd does
+  hello_keeps h other old new history (reply.Gap x) does = absurd does
+  hello_keeps h other old new history (reply.Error x) does = absurd does
+
+  module _ (id : RequestId) (other : id.client ≢ c) (old new : Picture) (history : HasHistory old.book) where
+    settled_keeps : (s : Settlement) → Enters (Settled id s) old.book new.book → SameAccount old new
+    settled_keeps s entry = (kept_by c (Settled id s) old.book new.book history entry (λ e. other (sym e))).0
+
+    lease_keeps : (l : _) (r : Reply) → NewRequest id (ops.Lease l) old new r → SameAccount old new
+    lease_keeps l (reply.Granted g) does = settled_keeps (Grant does.segment (record { quantum = does.arena.quantum; request = demand_of l })) does.granted.entry
+    lease_keeps l (reply.Refused x) does = settled_keeps (Refuse does.0) does.1.refused.entry
+    lease_keeps l (reply.Again x) does = ap (account_in c) does.1.book
+    lease_keeps l (reply.Released x) does = absurd does
+    lease_keeps l (reply.Old x) does = absurd does
+    lease_keeps l (reply.Stale x) does = absurd does
+    lease_keeps l (reply.Gap x) does = absurd does
+    lease_keeps l (reply.Welcome x) does = absurd does
+    lease_keeps l (reply.Error x) does = absurd does
+
+    release_keeps : (l : _) (r : Reply) → NewRequest id (ops.Release l) old new r → SameAccount old new
+    release_keeps l (reply.Released p) does = settled_keeps (Return does.1.place l.base) does.1.released.entry
+    release_keeps l (reply.Refused x) does = settled_keeps (Refuse does.0) does.1.refused.entry
+    release_keeps l (reply.Granted x) does = absurd does
+    release_keeps l (reply.Again x) does = absurd does
+    release_keeps l (reply.Old x) does = absurd does
+    release_keeps l (reply.Stale x) does = absurd does
+    release_keeps l (reply.Gap x) does = absurd does
+    release_keeps l (reply.Welcome x) does = absurd does
+    release_keeps l (reply.Error x) does = absurd does
+
+    new_keeps : (op : Op) (r : Reply) → NewRequest id op old new r → SameAccount old new
+    new_keeps (ops.Lease l) r does = lease_keeps l r does
+    new_keeps (ops.Release l) r does = release_keeps l r does
+
+    request_keeps : (op : Op) (r : Reply) → RequestStep id op old new r → SameAccount old new
+    request_keeps op r does = elim does [
+      | inl known ↦ same_picture old new known.1
+      | inr fresh ↦ new_keeps op r fresh.1
+    ]
+
+  client_keeps : (line : Line) → client_of line ≢ c → (old new : Picture) → HasHistory old.book → (r : Reply) → ClientStep line old new r → SameAccount old new
+  client_keeps (lines.Hello h) other old new history r does = hello_keeps h other old new history r does
+  client_keeps (lines.Request id op) other old new history r does = request_keeps id other old new history op r does
+
+-- an operator's line changes nothing of the book
+does_keep : (o : OperatorLine) (old new : Picture) (text : List ℕ) → Does o old text new → new.book ≡ old.book
+does_keep (operator.Cpu n) old new text does = ap (λ (d : Picture). d.book) does.1
+does_keep (operator.Offline n) old new text does = ap (λ (d : Picture). d.book) does.1.rest
+does_keep operator.Tick old new text does = ap (λ (d : Picture). d.book) does.1
+does_keep (operator.Resize m) old new text does = elim does [
+  | inl none ↦ ap (λ (d : Picture). d.book) none.2
+  | inr (inl size) ↦ ap (λ (d : Picture). d.book) size.6
+  | inr (inr rose) ↦ ap (λ (d : Picture). d.book) rose.6
+]
+does_keep operator.Reap old new text does = ap (λ (d : Picture). d.book) does.2.parts
+does_keep operator.Audit old new text does = ap (λ (d : Picture). d.book) does.1
+does_keep operator.Clients old new text does = ap (λ (d : Picture). d.book) does.1
+
+leaves_keep : (o : OperatorLine) (old new : Picture) → LeavesOff o old new → new.book ≡ old.book
+leaves_keep (operator.Cpu n) old new left = ap (λ (d : Picture). d.book) left
+leaves_keep (operator.Offline n) old new left = ap (λ (d : Picture). d.book) left
+leaves_keep operator.Tick old new left = absurd left
+leaves_keep (operator.Resize m) old new left = absurd left
+leaves_keep operator.Reap old new left = ap (λ (d : Picture). d.book) left
+leaves_keep operator.Audit old new left = ap (λ (d : Picture). d.book) left
+leaves_keep operator.Clients old new left = ap (λ (d : Picture). d.book) left
+
+pub operator_keeps : (o : OperatorLine) (old new : Picture) (text : List ℕ) → OperatorStep o old text new → new.book ≡ old.book
+operator_keeps o old new text step = elim step [
+  | inl does ↦ does_keep o old new text does
+  | inr left ↦ leaves_keep o old new left.1
+]
+
+answer_keeps : (c : ℕ) (x : Result ServedLine LineFault) → ((l : Line) → x ≡ Ok (served.Client l) → client_of l ≢ c) → (old new : Picture) (text : List ℕ) → HasHistory old.book
+    → AnswersLine old x text new → account_in c new.book ≡ account_in c old.book
+answer_keeps c (Ok (served.Client l)) others old new text history does = client_keeps c l (others l refl) old new history does.0 does.2
+answer_keeps c (Ok (served.Operator o)) others old new text history does = ap (account_in c) (operator_keeps o old new text does)
+answer_keeps c (Err fault) others old new text history does = ap (λ (x : Picture). account_in c x.book) does.1
+
+pub run_keeps : (c : ℕ) (frames : List Frame) (old new : Picture) (text : List ℕ) → IsPicture old → AreOfOthers c frames → Runs old frames text new → account_in c new.book ≡ account_in c old.book
+run_keeps c [] old new text is others run = ap (λ (x : Picture). account_in c x.book) run.1
+run_keeps c (Ok line ∷ frames) old new text is others run =
+    run_keeps c frames run.2 new run.1 (run.3).picture others.1 run.5 ∙ answer_keeps c (served_of line) others.0 old run.2 run.0 (history_of old is) (run.3).answer
+run_keeps c (Err fault ∷ frames) old new text is others run = run_keeps c frames old new run.0 is others.1 run.2
+
+still_last : (id : RequestId) (k : Kept) (old new : BookState) → account_in id.client new ≡ account_in id.client old → IsLast old id k → IsLast new id k
+still_last id k old new same last = record {
+  current = last.current ∙ sym (ap (λ (a : Account). a.incarnation) same);
+  last = ap (λ (a : Account). a.kept) same ∙ last.last;
+  number = last.number;
+}
+
+pub kept_or : (r : Reply) → IsKept r ⊎ (¬ IsKept r)
+kept_or (reply.Granted x) = inl tt
+kept_or (reply.Released x) = inl tt
+kept_or (reply.Refused x) = inl tt
+kept_or (reply.Welcome x) = inr (λ is. is)
+kept_or (reply.Old x) = inr (λ is. is)
+kept_or (reply.Stale x) = inr (λ is. is)
+kept_or (reply.Gap x) = inr (λ is. is)
+kept_or (reply.Again x) = inr (λ is. is)
+kept_or (reply.Error x) = inr (λ is. is)
+
+-- what bytes that are a request are answered
+pub request_answer : (old new : Picture) (id : RequestId) (op : Op) (line text : List ℕ) → IsRequestLine line id op → LeaseStep old line text new → (r : Reply) × (text ≡ written r) × RequestStep id op old new r
+request_answer old new id op line text read step = subst (λ (x : Result ServedLine LineFault). AnswersLine old x text new) read step.answer
+
+pub lines_repeat : LinesRepeat
+lines_repeat old mid late new id op again line text between repeat bytes frames is read first others run read_again second =
+    let a = request_answer old mid id op line text read first in
+    let b = request_answer late new id again repeat bytes read_again second in
+    elim (kept_or a.0) [
+      | inr not ↦ inr (a.0, a.1, not)
+      | inl is_kept ↦
+          let last = request_kept old mid id (history_of old is) op a.0 a.2 is_kept in
+          let late_last = still_last id last.0 mid.book late.book (run_keeps id.client frames mid late between first.picture others run) last.1 in
+          let two = request_again late new id again last.0 b.0 late_last b.2 in
+          let tree : late.tree ≡ old.tree = (setup_stays mid late frames between run).tree ∙ first.setup.tree in
+          let same : b.0 ≡ a.0 = two.0 ∙ ap (λ (xs : List TreeArena). reply_to (arena_named xs) id last.0.reply) tree ∙ sym last.2 in
+          inl (b.1 ∙ ap written same ∙ sym a.1, two.1)
+    ]

@@ -1,0 +1,88 @@
+-- What follows for the answers to requests.
+use Rattle.std.specs.Prelude.{◌≡◌, ◌≢◌, ◌⊎◌, ℕ, List, Option, Some, None, Ok, Err, slice_get}
+use Rattle.std.specs.List.{AllByRecursion}
+use Rattle.deed_core.specs.Request.{Fits}
+use Rattle.arena_tree.specs.declared.trees.TreeArena.{TreeArena}
+use Rattle.lease_terms.specs.Requests.{RequestId}
+use Rattle.lease_proto.specs.declared.lines.Line.{Line}
+use Rattle.lease_proto.specs.declared.lines.Line.TheVariants as lines
+use Rattle.lease_proto.specs.declared.lines.LeaseLine.{LeaseLine}
+use Rattle.lease_proto.specs.declared.lines.Op.{Op}
+use Rattle.lease_proto.specs.declared.lines.Op.TheVariants as ops
+use Rattle.lease_proto.specs.declared.operators.ServedLine.TheVariants as served
+use Rattle.lease_proto.specs.declared.replies.Reply.{Reply}
+use Rattle.lease_proto.specs.declared.replies.Reply.TheVariants as reply
+use Rattle.lease_proto.specs.Frames.{Frame, ended}
+use Rattle.lease_proto.specs.Operators.{served_of}
+use Rattle.lease_proto.specs.Replies.{reply_text}
+use Rattle.lease_proto.specs.Requests.{client_of}
+use Rattle.lease_book.specs.Receipts.{Kept}
+use Rattle.lease_book.specs.BookState.{account_in}
+use Rattle.lease_book.specs.Answers.{IsNew}
+use Rattle.lease_book.specs.declared.receipts.Terms.{Terms}
+use Rattle.lease_book.specs.declared.receipts.KeptReply.TheVariants as kept
+use Rattle.lease_machine.specs.Picture.{Picture, IsPicture, Finds}
+use Rattle.lease_machine.specs.Machine.{LeaseStep, demand_of}
+use Rattle.lease_machine.specs.Laws.{Runs}
+
+-- the bytes of a reply, as they are written
+abbrev pub written : Reply → List ℕ
+written r = ended (reply_text r)
+
+-- the reply is kept: its number is settled
+abbrev pub IsKept : Reply → Type 0
+IsKept (reply.Granted g) = Unit {0}
+IsKept (reply.Released id) = Unit {0}
+IsKept (reply.Refused x) = Unit {0}
+IsKept r = ⊥
+
+-- the bytes are of a reply that isn't
+abbrev pub IsUnkept : List ℕ → Type 0
+IsUnkept text = (r : Reply) × (text ≡ written r) × (¬ IsKept r)
+
+-- the bytes are this request
+abbrev pub IsRequestLine : List ℕ → RequestId → Op → Type 0
+IsRequestLine line id op = served_of line ≡ Ok (served.Client (lines.Request id op))
+
+-- no line of this client is among them: they are lines of others, of operators, or none
+abbrev pub IsOfOthers : ℕ → Frame → Type 0
+IsOfOthers c (Ok line) = (l : Line) → served_of line ≡ Ok (served.Client l) → client_of l ≢ c
+IsOfOthers c (Err fault) = Unit {0}
+
+abbrev pub AreOfOthers : ℕ → List Frame → Type 0
+AreOfOthers c frames = AllByRecursion (IsOfOthers c) frames
+
+-- A request that comes again, with whatever else in its line, also after any lines of other clients
+-- and of operators: it is answered by the same bytes, and nothing changes; but where its answer
+-- wasn't kept.
+abbrev pub LinesRepeat : Type 0
+LinesRepeat = (old mid late new : Picture) (id : RequestId) (op again : Op)
+    (line text between repeat bytes : List ℕ) (frames : List Frame) → IsPicture old
+    → IsRequestLine line id op → LeaseStep old line text mid
+    → AreOfOthers id.client frames → Runs mid frames between late
+    → IsRequestLine repeat id again → LeaseStep late repeat bytes new
+    → ((bytes ≡ text) × (new ≡ late)) ⊎ IsUnkept text
+
+-- what is granted is of the arena that the line names, and fits what it asks
+abbrev pub FitsLine : Picture → LeaseLine → Reply → Type 0
+FitsLine d l (reply.Granted g) = (g.arena ≡ l.arena) × ((place : ℕ) × (x : TreeArena)
+    × Finds d l.arena place x × Fits x.quantum (demand_of l) g.base g.len)
+FitsLine d l r = Unit {0}
+
+-- a new lease is answered by a reply that fits its line; so are its repeats, by the same bytes
+abbrev pub GrantsFit : Type 0
+GrantsFit = (old new : Picture) (id : RequestId) (l : LeaseLine) (line text : List ℕ)
+    → IsPicture old → IsRequestLine line id (ops.Lease l) → IsNew (account_in id.client old.book) id
+    → LeaseStep old line text new → (r : Reply) × (text ≡ written r) × FitsLine old l r
+
+-- the kept reply is no grant, or one of an arena whose units fit the request that it was made for
+abbrev pub IsFitting : Picture → Kept → Type 0
+IsFitting d k = (arena base len : ℕ) → k.reply ≡ kept.Granted arena base len
+    → (x : TreeArena) × (terms : Terms) × (slice_get d.tree arena ≡ Some x)
+    × (k.terms ≡ Some terms) × (terms.quantum ≡ x.quantum)
+    × Fits x.quantum terms.request base len
+
+-- so is each kept reply, however long ago its number was settled
+abbrev pub KeptGrantsFit : Type 0
+KeptGrantsFit = (d : Picture) (c : ℕ) (k : Kept) → IsPicture d
+    → (account_in c d.book).kept ≡ Some k → IsFitting d k

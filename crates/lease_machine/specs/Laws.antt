@@ -1,0 +1,51 @@
+-- What follows for each picture, and for each run of lines.
+use Rattle.std.specs.Prelude.{◌≡◌, ℕ, ◌≤◌, List, AllPairs, slice_get, Some, sum_by}
+use Rattle.deed_core.specs.Covering.{covering_held, units_held}
+use Rattle.tag_arena.specs.ArenaState.{spans_of}
+use Rattle.stock.specs.Spaces.{SpaceState}
+use Rattle.stock.specs.Sums.{total}
+use Rattle.stock.specs.Laws.{ApartUpChain}
+use Rattle.stock_audit.specs.Chains.{unit_of_arena}
+use Rattle.lease_book.specs.BookState.{leased, units_of_arena}
+use Rattle.lease_proto.specs.Frames.{Frame}
+use Rattle.lease_server.specs.Serving.{ServesLines}
+use Rattle.lease_machine.specs.Picture.{Picture, IsPicture, SameSetup, held_outside}
+use Rattle.lease_machine.specs.Operators.{sums_in}
+use Rattle.lease_machine.specs.Machine.{LeaseStep}
+
+-- these frames were answered with this text, one after another
+abbrev pub Runs : Picture → List Frame → List ℕ → Picture → Type 0
+Runs old frames text new = ServesLines LeaseStep old frames text new
+
+-- a run leaves a picture
+abbrev pub PicturesStay : Type 0
+PicturesStay = (old new : Picture) (frames : List Frame) (text : List ℕ) → IsPicture old
+    → Runs old frames text new → IsPicture new
+
+-- of the same arenas, with the same spans
+abbrev pub SetupStays : Type 0
+SetupStays = (old new : Picture) (frames : List Frame) (text : List ℕ)
+    → Runs old frames text new → SameSetup old new
+
+-- each unit of an arena's spans is in one place: free, in a slab, in a magazine, exported or leased;
+-- and no other unit is in any
+abbrev pub UnitsHaveOnePlace : Type 0
+UnitsHaveOnePlace = (d : Picture) → IsPicture d → (k : ℕ) (s : SpaceState)
+    → slice_get d.spaces k ≡ Some s → (u : ℕ)
+    → (total (unit_of_arena u d.spaces (held_outside d) s) ≡ covering_held u (spans_of s.arena))
+    × (covering_held u (spans_of s.arena) ≤ 1)
+
+-- no two leases overlap where their arenas have one top, be one's arena a source of the other's
+abbrev pub LeasesAreApart : Type 0
+LeasesAreApart = (d : Picture) → IsPicture d → AllPairs (ApartUpChain d.spaces) (leased d.book)
+
+-- what an audit calls leased is the sum of the book's leases
+abbrev pub AuditTellsLeases : Type 0
+AuditTellsLeases = (d : Picture) → IsPicture d → (k : ℕ) (s : SpaceState)
+    → slice_get d.spaces k ≡ Some s
+    → (sums_in d s).leased ≡ sum_by (units_of_arena k) (leased d.book)
+
+-- and its numbers add up to the units of the arena's spans
+abbrev pub AuditIsWhole : Type 0
+AuditIsWhole = (d : Picture) → IsPicture d → (k : ℕ) (s : SpaceState)
+    → slice_get d.spaces k ≡ Some s → total (sums_in d s) ≡ units_held (spans_of s.arena)

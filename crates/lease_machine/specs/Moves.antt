@@ -1,0 +1,87 @@
+-- How segments come from their arenas, and go back.
+use Rattle.std.specs.Prelude.{◌≡◌, ◌⊎◌, ℕ, List, [], ◌∷◌, map, filter, not, slice_get, Some, None}
+use Rattle.deed_core.specs.Tag.{Tag}
+use Rattle.deed_core.specs.Request.{plain_of}
+use Rattle.deed_core.specs.declared.requests.Request.{Request}
+use Rattle.deed_core.specs.declared.segments.Route.{Route}
+use Rattle.deed_core.specs.declared.segments.Route.TheVariants.{Direct, Cached}
+use Rattle.tag_arena.specs.ArenaState.{ArenaState}
+use Rattle.tag_arena.specs.Outcomes.{Carved, Imported, Freed}
+use Rattle.tag_arena.specs.Place.{Serves}
+use Rattle.arena_tree.specs.declared.levels.Level.{Level}
+use Rattle.arena_tree.specs.Chains.{amount_of}
+use Rattle.stock.specs.Spaces.{SpaceState}
+use Rattle.stock.specs.Steps.{OnArena}
+use Rattle.lease_machine.specs.Picture.{Picture, is_cpu}
+
+-- an address of the arena at the place serves the request
+abbrev pub HasPlace : List SpaceState → ℕ → Request → Type 0
+HasPlace spaces place q = (s : SpaceState) × (slice_get spaces place ≡ Some s)
+    × ((base : ℕ) × Serves s.arena.quantum q s.arena.free base)
+
+-- so does one of an arena of the chain: of the first so many units, of each other what the one below
+-- it would import for them
+abbrev pub HasPlaceUp : List SpaceState → List Level → ℕ → Type 0
+HasPlaceUp spaces [] n = ⊥
+HasPlaceUp spaces (l ∷ up) n =
+    HasPlace spaces l.id (plain_of n) ⊎ HasPlaceUp spaces up (amount_of l up n)
+
+-- the segment was carved for the request where the arena's policy chose, and nothing else changed
+abbrev pub CarvesAt : ℕ → Request → Tag → List SpaceState → List SpaceState → Type 0
+CarvesAt place q t old new = OnArena place (λ a b. Carved a q t b) old new
+
+-- the span was imported, and the segment is its first units
+abbrev pub ImportsAt : ℕ → Tag → ℕ → Tag → List SpaceState → List SpaceState → Type 0
+ImportsAt place span n t old new =
+    OnArena place (λ a b. Imported a span (plain_of n) t b) old new
+
+-- the segment of so many units was carved in the first arena of the chain or, where no address of that
+-- served, of a span that it imported from the next
+abbrev pub Climbs : List Level → ℕ → Tag → List SpaceState → List SpaceState → Type 0
+Climbs [] n t old new = ⊥
+Climbs (l ∷ up) n t old new = CarvesAt l.id (plain_of n) t old new
+    ⊎ ((¬ HasPlace old l.id (plain_of n)) × ((span : Tag) × (mid : List SpaceState)
+    × Climbs up (amount_of l up n) span old mid × ImportsAt l.id span n t mid new))
+
+-- the segment was freed; where that made an imported span whole, that went to its source, and so on
+pub data Returns (new : List SpaceState) : Tag → List SpaceState → Type 0 where
+  stays : (t : Tag) (old : List SpaceState)
+      → OnArena t.arena (λ a b. Freed a t None b) old new → Returns new t old
+  rises : (t whole : Tag) (old mid : List SpaceState)
+      → OnArena t.arena (λ a b. Freed a t (Some whole) b) old mid → Returns new whole mid
+      → Returns new t old
+
+-- nothing changed, or what was carved for the request went back
+abbrev pub CarvesInVain : ℕ → Request → List SpaceState → List SpaceState → Type 0
+CarvesInVain place q old new = (new ≡ old)
+    ⊎ ((t : Tag) × (mid : List SpaceState) × CarvesAt place q t old mid × Returns new t mid)
+
+-- nothing changed, or what was climbed for in an arena of the chain went back
+abbrev pub ClimbsInVain : List Level → ℕ → List SpaceState → List SpaceState → Type 0
+ClimbsInVain [] n old new = new ≡ old
+ClimbsInVain (l ∷ up) n old new = (new ≡ old)
+    ⊎ ((t : Tag) × (mid : List SpaceState) × Climbs (l ∷ up) n t old mid × Returns new t mid)
+    ⊎ ClimbsInVain up (amount_of l up n) old new
+
+abbrev pub arena_of : SpaceState → ArenaState
+arena_of s = s.arena
+
+-- each CPU but the selected one is as it was, and none came or went
+pub record OthersStay (old new : Picture) : Type 0 where
+  pub numbers : map (λ c. c.number) new.cpus ≡ map (λ c. c.number) old.cpus
+  pub others : filter (λ c. not (is_cpu old.selected c)) new.cpus
+      ≡ filter (λ c. not (is_cpu old.selected c)) old.cpus
+
+-- the same names, and the same CPU selected
+abbrev pub SameNames : Picture → Picture → Type 0
+SameNames old new = (new.tree ≡ old.tree) × (new.selected ≡ old.selected)
+
+-- the segment went back, by its route: what was carved to its arena, a chunk to the selected CPU's
+-- magazines, to its depot or its slab
+abbrev pub GoesBackBy : Route → Tag → Picture → Picture → Type 0
+GoesBackBy Direct t old new = Returns new.spaces t old.spaces × (new.cpus ≡ old.cpus)
+GoesBackBy (Cached k) t old new =
+    (map arena_of new.spaces ≡ map arena_of old.spaces) × OthersStay old new
+
+abbrev pub GoesBack : Tag → Picture → Picture → Type 0
+GoesBack t old new = SameNames old new × GoesBackBy t.route t old new

@@ -1,0 +1,153 @@
+-- What an operator's line is answered.
+use Rattle.std.specs.Prelude.{◌≡◌, ◌⊎◌, ℕ, ◌+◌, ◌≤◌, ◌<◌, List, [], ◌∷◌, ◌++◌, All, Any, map, set}
+use Rattle.std.specs.Prelude.{nat_lt, if◌then◌else◌, sum_by, slice_get, Some, None}
+use Rattle.std.specs.List.{flat_map, list_any}
+use Rattle.slab_layer.specs.Slab.{IsComplete}
+use Rattle.magazine_layer.specs.Depots.{DepotState, CanReap, after_tick, after_resize}
+use Rattle.arena_tree.specs.declared.trees.TreeArena.{TreeArena}
+use Rattle.arena_tree.specs.Trees.{place_in}
+use Rattle.stock.specs.Spaces.{SpaceState, QuantumCacheState, with_caches, with_depot}
+use Rattle.stock.specs.Sums.{Sums}
+use Rattle.stock_audit.specs.Audits.{sums_of_arena}
+use Rattle.lease_book.specs.Account.{Account}
+use Rattle.lease_book.specs.Reports.{report_of}
+use Rattle.lease_book.specs.declared.reports.ClientReport.{ClientReport}
+use Rattle.lease_proto.specs.declared.faults.ErrorWord.TheVariants.{Memory, NoArena, Size}
+use Rattle.lease_proto.specs.declared.operators.ResizeLine.{ResizeLine}
+use Rattle.lease_proto.specs.declared.operators.OperatorLine.{OperatorLine}
+use Rattle.lease_proto.specs.declared.operators.OperatorLine.TheVariants as operator
+use Rattle.lease_proto.specs.declared.reports.AuditLine.{AuditLine}
+use Rattle.lease_proto.specs.declared.reports.ClientLine.{ClientLine}
+use Rattle.lease_proto.specs.Faults.{error_text}
+use Rattle.lease_proto.specs.Operators.{rounds_of}
+use Rattle.lease_proto.specs.Reports.{audit_text, client_text, reaped_text, ok_text}
+use Rattle.lease_machine.specs.Picture.{Cpu, Picture, is_cpu, fresh_cpu, held_outside}
+use Rattle.lease_machine.specs.Moves.{arena_of}
+
+-- the CPUs with that one, which is made if it is new
+abbrev pub with_cpu : ℕ → Picture → List Cpu
+with_cpu n d = if list_any (is_cpu n) d.cpus then d.cpus else d.cpus ++ fresh_cpu n d.spaces ∷ []
+
+-- that CPU begins anew
+abbrev pub renewed : ℕ → List SpaceState → Cpu → Cpu
+renewed n spaces c = if is_cpu n c then fresh_cpu n spaces else c
+
+abbrev pub depots_of : SpaceState → List DepotState
+depots_of s = map (λ c. c.depot) s.caches
+
+-- the rounds of the CPU are at home in their slabs, and it begins anew; arenas, depots and all other
+-- CPUs are as they were
+pub record GoesOffline (n : ℕ) (old new : Picture) : Type 0 where
+  pub cpus : new.cpus ≡ map (renewed n old.spaces) old.cpus
+  pub arenas : map arena_of new.spaces ≡ map arena_of old.spaces
+  pub depots : map depots_of new.spaces ≡ map depots_of old.spaces
+  pub rest : new ≡ record old { spaces = new.spaces; cpus = new.cpus }
+
+-- the arena's depots changed so
+abbrev pub change_depot : (DepotState → DepotState) → QuantumCacheState → QuantumCacheState
+change_depot f c = with_depot (f c.depot) c
+
+abbrev pub on_depots : (DepotState → DepotState) → SpaceState → SpaceState
+on_depots f s = with_caches (map (change_depot f) s.caches) s
+
+-- the depot keeps magazines of this size from here on, if it is greater than its own
+abbrev pub resized : ℕ → DepotState → DepotState
+resized m d = if nat_lt d.size m then after_resize m d else d
+
+-- a depot of the arena has smaller magazines
+abbrev pub HasSmaller : ℕ → SpaceState → Type 0
+HasSmaller m s = Any (λ c. c.depot.size < m) s.caches
+
+-- the depots of the arena of this name rise, or why they don't
+abbrev pub Resizes : List ℕ → ℕ → Picture → List ℕ → Picture → Type 0
+Resizes name m old text new =
+    ((place_in name old.tree ≡ None) × (text ≡ error_text NoArena) × (new ≡ old))
+    ⊎ ((place : ℕ) × (s : SpaceState) × (place_in name old.tree ≡ Some place)
+    × (slice_get old.spaces place ≡ Some s) × (¬ HasSmaller m s)
+    × (text ≡ error_text Size) × (new ≡ old))
+    ⊎ ((place : ℕ) × (s : SpaceState) × (place_in name old.tree ≡ Some place)
+    × (slice_get old.spaces place ≡ Some s) × HasSmaller m s × (text ≡ ok_text)
+    × (new ≡ record old { spaces = set old.spaces place (on_depots (resized m) s) }))
+
+-- where the units of the arena are
+abbrev pub sums_in : Picture → SpaceState → Sums
+sums_in d s = sums_of_arena d.spaces (held_outside d) s
+
+-- how many are in slabs and magazines
+abbrev pub cached_units : Picture → ℕ
+cached_units d = sum_by (λ s. (sums_in d s).slab + (sums_in d s).magazine) d.spaces
+
+-- nothing of the cache may be reaped: no round of its depot, and no slab, as each has a chunk out
+pub record IsReapedOut (c : QuantumCacheState) : Type 0 where
+  pub rounds : ¬ CanReap c.depot
+  pub slabs : All (λ s. ¬ IsComplete s) c.slab.slabs
+
+-- only parts changed
+abbrev pub PartsAlone : Picture → Picture → Type 0
+PartsAlone old new = new ≡ record old { spaces = new.spaces }
+
+-- so many units, of whole slabs, went from the caches to their arenas, and nothing is left to reap
+pub record Reaps (units : ℕ) (old new : Picture) : Type 0 where
+  pub parts : PartsAlone old new
+  pub units_are : cached_units old ≡ cached_units new + units
+  pub left : All (λ s. All IsReapedOut s.caches) new.spaces
+
+abbrev pub audit_line : List ℕ → Sums → AuditLine
+audit_line name x = record {
+  name = name;
+  free = x.free;
+  slab = x.slab;
+  magazine = x.magazine;
+  exported = x.exported;
+  leased = x.leased;
+  hand = x.hand;
+}
+
+-- a line for each arena, in order of setup
+abbrev pub arenas_told : Picture → List TreeArena → List SpaceState → List ℕ
+arenas_told d [] spaces = []
+arenas_told d (x ∷ tree) [] = []
+arenas_told d (x ∷ tree) (s ∷ spaces) =
+    audit_text (audit_line x.name (sums_in d s)) ++ arenas_told d tree spaces
+
+abbrev pub client_line : ClientReport → ClientLine
+client_line r = record {
+  client = r.client;
+  incarnation = r.incarnation;
+  last = r.last;
+  leases = r.leases;
+}
+
+-- a line for a client
+abbrev pub client_told : ClientReport → List ℕ
+client_told r = client_text (client_line r)
+
+-- the answer to an operator's line
+abbrev pub Does : OperatorLine → Picture → List ℕ → Picture → Type 0
+Does (operator.Cpu n) old text new =
+    (text ≡ ok_text) × (new ≡ record old { cpus = with_cpu n old; selected = n })
+Does (operator.Offline n) old text new = (text ≡ ok_text) × GoesOffline n old new
+Does operator.Tick old text new =
+    (text ≡ ok_text) × (new ≡ record old { spaces = map (on_depots after_tick) old.spaces })
+Does (operator.Resize r) old text new = Resizes r.arena (rounds_of r.size) old text new
+Does operator.Reap old text new =
+    (units : ℕ) × (text ≡ reaped_text (record { units = units })) × Reaps units old new
+Does operator.Audit old text new = (text ≡ arenas_told old old.tree old.spaces) × (new ≡ old)
+Does operator.Clients old text new =
+    (text ≡ flat_map client_told (map report_of old.book.accounts)) × (new ≡ old)
+
+-- what is left out of memory: a line that moves nothing but by what it makes first moves nothing,
+-- and what a reaping moved stays moved
+abbrev pub LeavesOff : OperatorLine → Picture → Picture → Type 0
+LeavesOff (operator.Cpu n) old new = new ≡ old
+LeavesOff (operator.Offline n) old new = new ≡ old
+LeavesOff operator.Tick old new = ⊥
+LeavesOff (operator.Resize r) old new = ⊥
+LeavesOff operator.Reap old new = PartsAlone old new
+LeavesOff operator.Audit old new = new ≡ old
+LeavesOff operator.Clients old new = new ≡ old
+
+-- it changes no lease
+abbrev pub OperatorStep : OperatorLine → Picture → List ℕ → Picture → Type 0
+OperatorStep o old text new =
+    Does o old text new ⊎ ((text ≡ error_text Memory) × LeavesOff o old new)

@@ -1,0 +1,106 @@
+-- What is seen of a service of leases between two lines, when nothing is in a hand.
+use Rattle.std.specs.Prelude.{◌≡◌, ◌≢◌, ℕ, ◌<◌, ◌≤◌, ◌==◌, nat_eq, Bool, List, [], ◌∷◌, ◌++◌, All}
+use Rattle.std.specs.Prelude.{if◌then◌else◌, length, map, slice_get, Option, Some, None}
+use Rattle.std.specs.List.{find, flat_map, list_any, AllByRecursion, IsDistinct}
+use Rattle.deed_core.specs.Holding.{Holding}
+use Rattle.deed_core.specs.Tag.{Tag}
+use Rattle.arena_tree.specs.declared.trees.TreeArena.{TreeArena}
+use Rattle.arena_tree.specs.Trees.{IsTree, place_in}
+use Rattle.stock.specs.Spaces.{SpaceState, plans_of}
+use Rattle.stock.specs.Setups.{plans_for}
+use Rattle.stock.specs.OwnCaches.{OwnCacheState}
+use Rattle.stock_audit.specs.Outside.{Outside, outside}
+use Rattle.stock_audit.specs.Accounted.{IsAccountedFor}
+use Rattle.local_parts.specs.Cpus.{IsCpuOf, new_cpu}
+use Rattle.lease_proto.specs.Cpus.{IsCpu}
+use Rattle.lease_book.specs.Entry.{Entry, Settlement, Grant, Return, Refuse, Hello, Settled, Swept}
+use Rattle.lease_book.specs.BookState.{BookState, IsHistory, leased}
+
+-- a CPU by its number, and its caches of each arena
+pub record Cpu : Type 0 where
+  pub number : ℕ
+  pub caches : List (List OwnCacheState)
+
+-- the arenas as they were set up, with their names, and what the stock has of each, both in order of
+-- setup; the CPUs in order of making, and the number of the one that is selected; the book
+pub record Picture : Type 0 where
+  pub tree : List TreeArena
+  pub spaces : List SpaceState
+  pub cpus : List Cpu
+  pub selected : ℕ
+  pub book : BookState
+
+abbrev pub is_cpu : ℕ → Cpu → Bool
+is_cpu n c = c.number == n
+
+-- all caches of a CPU
+abbrev pub caches_of : Cpu → List OwnCacheState
+caches_of c = flat_map (λ row. row) c.caches
+
+-- what is out of the parts: leases, and rounds of CPUs
+abbrev pub held_outside : Picture → Outside
+held_outside d = outside [] (leased d.book) (flat_map caches_of d.cpus)
+
+-- a CPU with no round, whose magazines are of the least size
+abbrev pub fresh_cpu : ℕ → List SpaceState → Cpu
+fresh_cpu n spaces = record { number = n; caches = new_cpu 3 (plans_of spaces) }
+
+abbrev pub name_or_none : Option TreeArena → List ℕ
+name_or_none None = []
+name_or_none (Some x) = x.name
+
+-- the name of the arena at the place
+abbrev pub arena_named : List TreeArena → ℕ → List ℕ
+arena_named tree place = name_or_none (slice_get tree place)
+
+-- a grant is of one of the arenas, and was made by its quantum
+abbrev pub IsSettledIn : List TreeArena → Settlement → Type 0
+IsSettledIn tree (Grant t terms) =
+    (x : TreeArena) × (slice_get tree t.arena ≡ Some x) × (terms.quantum ≡ x.quantum)
+IsSettledIn tree (Return arena base) = Unit {0}
+IsSettledIn tree (Refuse why) = Unit {0}
+
+abbrev pub IsEnteredIn : List TreeArena → Entry → Type 0
+IsEnteredIn tree (Hello c i) = Unit {0}
+IsEnteredIn tree (Settled id s) = IsSettledIn tree s
+IsEnteredIn tree (Swept c i arena base) = Unit {0}
+
+-- some history gives the book, and each grant in it is of one of the arenas
+pub record IsBookOf (tree : List TreeArena) (book : BookState) : Type 0 where
+  pub entries : List Entry
+  pub history : IsHistory entries book
+  pub possible : AllByRecursion (IsEnteredIn tree) entries
+
+-- the CPUs have numbers of their own, each has caches for those of the stock, and one is selected
+pub record AreCpus (spaces : List SpaceState) (cpus : List Cpu) (selected : ℕ) : Type 0 where
+  pub each : All (λ c. IsCpu c.number × IsCpuOf spaces c.caches) cpus
+  pub numbers : IsDistinct nat_eq (map (λ c. c.number) cpus)
+  pub there : find (is_cpu selected) cpus ≢ None
+
+-- What is so between any two lines: the stock is set up as the tree says; each unit is accounted for,
+-- nothing being in a hand; the free ranges of each arena are the longest runs; and the book is what
+-- is read off what happened to it.
+pub record IsPicture (d : Picture) : Type 0 where
+  pub tree : IsTree d.tree
+  pub plans : plans_of d.spaces ≡ plans_for d.tree
+  pub units : IsAccountedFor d.spaces (held_outside d)
+  pub cpus : AreCpus d.spaces d.cpus d.selected
+  pub book : IsBookOf d.tree d.book
+
+-- the spans that an arena owns
+abbrev pub owned_by : SpaceState → List Holding
+owned_by s = s.arena.owned
+
+-- the arenas are those that were set up, with the spans that they own
+pub record SameSetup (old new : Picture) : Type 0 where
+  pub tree : new.tree ≡ old.tree
+  pub owned : map owned_by new.spaces ≡ map owned_by old.spaces
+
+-- at most the book changed
+abbrev pub BookAlone : Picture → Picture → Type 0
+BookAlone old new = new ≡ record old { book = new.book }
+
+-- the arena of this name stands at the place
+pub record Finds (d : Picture) (name : List ℕ) (place : ℕ) (x : TreeArena) : Type 0 where
+  pub first : place_in name d.tree ≡ Some place
+  pub here : slice_get d.tree place ≡ Some x

@@ -1,0 +1,12 @@
+//! The lease machine: what each line of the lease protocol may be answered, and what may change with
+//! it.
+//!
+//! It has no code. Begin with `specs/Machine.antt`, which says by cases on a line and its answer what
+//! that means for the book and for what is seen of the arenas (`specs/Picture.antt`);
+//! `specs/Serving.antt` says what a request for a lease can be served with, and `specs/Operators.antt`
+//! what operators are answered.
+#![tactic(auto)]
+
+mod laws;
+
+pub use laws::{audit_laws, grant_laws, place_laws, repeat_laws};
