@@ -48,6 +48,15 @@ impl<D: Deed> CpuCaches<D> {
         Ok(())
     }
 
+    /// Its caches for those of the arena at the place, by the quanta of a chunk.
+    pub fn of_arena(&self, arena: usize) -> &[OwnCache<D>]
+        requires { arena < length self.now }
+        ensures { slice_get self.now arena ≡ Some result.now }
+    {
+        let row = &self.rows[arena];
+        row.caches.as_slice()
+    }
+
     /// Whether it has no round.
     pub fn is_empty(&self) -> bool
         ensures { IsTrue result ↔ HasNoRounds self.now }

@@ -1,0 +1,29 @@
+-- One thread's parts, of a stock and a CPU, and what the lists of steps over them end with.
+use Rattle.std.specs.Prelude.{List, Result, Ok, Err}
+use Rattle.deed_core.specs.Tag.{Tag}
+use Rattle.tag_arena.specs.declared.faults.ArenaFault.{ArenaFault}
+use Rattle.tag_arena.specs.declared.faults.ArenaFault.TheVariants as arena
+use Rattle.arena_tree.specs.declared.part_faults.CarveFault.{CarveFault}
+use Rattle.arena_tree.specs.declared.part_faults.CarveFault.TheVariants as carving
+use Rattle.arena_tree.specs.declared.part_faults.ClimbFault.TheVariants as climbing
+use Rattle.arena_tree.specs.Climbs.{Climbed}
+use Rattle.stock.specs.Spaces.{SpaceState}
+use Rattle.stock.specs.OwnCaches.{OwnCacheState}
+use Rattle.local_parts.specs.States.{LocalState}
+
+abbrev pub parts_of : List SpaceState → List (List OwnCacheState) → LocalState
+parts_of spaces cpu = record { spaces = spaces; cpu = cpu }
+
+-- what an allocation ended with, by its answer: nothing is stuck and nothing stops
+abbrev pub climbed : Result Tag ArenaFault → Climbed
+climbed (Ok t) = Ok t
+climbed (Err arena.BadRequest) = Err climbing.BadRequest
+climbed (Err arena.NoFit) = Err climbing.NoFit
+climbed (Err arena.NoMemory) = Err climbing.NoMemory
+
+-- and one of a constrained request
+abbrev pub carved : Result Tag ArenaFault → Result Tag CarveFault
+carved (Ok t) = Ok t
+carved (Err arena.BadRequest) = Err carving.BadRequest
+carved (Err arena.NoFit) = Err carving.NoFit
+carved (Err arena.NoMemory) = Err carving.NoMemory
