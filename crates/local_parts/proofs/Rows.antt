@@ -1,10 +1,15 @@
 -- A CPU's cache at its place.
-use Rattle.std.proofs.Common.{◌≡◌, ℕ, ◌<◌, sym, subst, ap, ◌∙◌, List, length, set, get_or, Some}
-use Rattle.std.specs.Prelude.{slice_get}
+use Rattle.std.proofs.Common.{◌≡◌, ℕ, ◌+◌, ◌<◌, sym, subst, ap, ◌∙◌, List, [], ◌∷◌, ◌++◌, length, set, get_or, take, min, append-nil, Some, arith}
+use Rattle.std.specs.Prelude.{slice_get, sum_by}
+use Rattle.std.proofs.lemmas.Grind.{flat_map-append}
+use Rattle.std.proofs.lemmas.List.{take_more}
 use Rattle.std.proofs.lemmas.Option.{slice_get_within}
+use Rattle.deed_core.specs.Covering.{units_in, units_tagged}
+use Rattle.deed_core.specs.Tag.{Tag}
+use Rattle.std.proofs.lemmas.List.Sums.{sum_by-append}
 use Rattle.deed_core.proofs.LawProofs.{slice_get_here, slice_get_one}
-use Rattle.stock.specs.OwnCaches.{OwnCacheState}
-use Rattle.local_parts.specs.Cpus.{IsOwnAt, OnOwn}
+use Rattle.stock.specs.OwnCaches.{OwnCacheState, own_rounds}
+use Rattle.local_parts.specs.Cpus.{IsOwnAt, OnOwn, row_rounds}
 
 abbrev HasOwn : List (List OwnCacheState) → ℕ → ℕ → Type 0
 HasOwn cpu k j = (o : OwnCacheState) × IsOwnAt cpu k j o
@@ -37,3 +42,15 @@ on_own P cpu items k j row own changed o has at_read does = record {
   after = ap (λ xs. set xs k (set row j changed)) o.same;
   does = does;
 }
+
+-- the units of one cache more of a row
+pub row_more : (row : List OwnCacheState) (i : ℕ) (o : OwnCacheState) → i < length row → o ≡ get_or row i o → units_tagged (row_rounds (take (i + 1) row)) ≡ units_tagged (row_rounds (take i row)) + units_tagged (own_rounds o)
+row_more row i o within is =
+    let f : Tag → ℕ = λ t. units_in t.holding in
+    let both : row_rounds (take (i + 1) row) ≡ row_rounds (take i row) ++ own_rounds o =
+    ap row_rounds (take_more row i o within ∙ ap (λ x. take i row ++ x ∷ []) (sym is)) ∙ (flat_map-append own_rounds (take i row) (o ∷ []) ∙ ap (λ x. row_rounds (take i row) ++ x) (append-nil (own_rounds o))) in
+    ap (sum_by f) both ∙ sum_by-append f (row_rounds (take i row)) (own_rounds o)
+
+-- a sum that stops at the greatest number
+pub capped : (most total all part next sum : ℕ) → total ≡ min all most → sum ≡ all + part → next ≡ min (total + part) most → next ≡ min sum most
+capped most total all part next sum so_far more last = omega arith

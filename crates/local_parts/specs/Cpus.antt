@@ -1,6 +1,6 @@
 -- What a contract sees of one CPU's caches: of each arena, in order of setup, those of its quantum
 -- caches, by the quanta of a chunk.
-use Rattle.std.specs.Prelude.{◌≡◌, ℕ, zero, suc, ◌+◌, List, [], ◌∷◌, All, length, map, flat_map, set, slice_get, Some}
+use Rattle.std.specs.Prelude.{◌≡◌, ℕ, zero, suc, ◌+◌, List, [], ◌∷◌, All, length, map, flat_map, set, slice_get, Option, Some, None}
 use Rattle.deed_core.specs.Tag.{Tag}
 use Rattle.magazine_layer.specs.Magazines.{BothEmpty}
 use Rattle.stock.specs.Spaces.{SpaceState, SpacePlan, plans_of}
@@ -53,6 +53,14 @@ row_rounds row = flat_map own_rounds row
 
 abbrev pub cpu_rounds : List (List OwnCacheState) → List Tag
 cpu_rounds cpu = flat_map row_rounds cpu
+
+-- those of the arena at the place; none where there is no such arena
+abbrev pub rounds_of_row : Option (List OwnCacheState) → List Tag
+rounds_of_row None = []
+rounds_of_row (Some row) = row_rounds row
+
+abbrev pub arena_rounds : List (List OwnCacheState) → ℕ → List Tag
+arena_rounds cpu k = rounds_of_row (slice_get cpu k)
 
 -- both magazines are empty: of one, of all
 abbrev pub HasNoRound : OwnCacheState → Type 0

@@ -1,10 +1,11 @@
 //! How one CPU's caches are made, what they hold, and how they end.
-ghost use Rattle.std.specs.Prelude.{◌≡◌, ◌<◌, ◌↔◌, [], All, length, map};
+ghost use Rattle.std.specs.Prelude.{◌≡◌, ◌-◌, ◌^◌, ◌<◌, ◌↔◌, [], All, length, map, min};
 ghost use Rattle.std.specs.Prelude.{slice_get, Some, IfOk, IfErr, OnOk, IsOk, IsTrue};
+ghost use Rattle.deed_core.specs.Covering.{units_tagged};
 ghost use Rattle.magazine_layer.specs.Magazines.{IsSize};
 ghost use Rattle.stock.specs.Spaces.{SpaceState, plans_of};
 ghost use Rattle.local_parts.specs.Cpus.{IsCpuOf, new_own, new_cpu, row_places};
-ghost use Rattle.local_parts.specs.Cpus.{HasNoRound, HasNoRounds};
+ghost use Rattle.local_parts.specs.Cpus.{HasNoRound, HasNoRounds, row_rounds, arena_rounds};
 
 use crate::cpu_caches::{ArenaCaches, CpuCaches};
 use deed_core::Deed;
@@ -55,6 +56,18 @@ impl<D: Deed> CpuCaches<D> {
     {
         let row = &self.rows[arena];
         row.caches.as_slice()
+    }
+
+    /// The units of its rounds of the arena with this number, or 2^128 - 1 where they are more; 0
+    /// where there is no such arena.
+    pub fn units(&self, arena: usize) -> u128
+        ensures { result ≡ min (units_tagged (arena_rounds self.now arena)) (2 ^ 128 - 1) }
+    {
+        if arena >= self.rows.len() {
+            return 0;
+        }
+        let row = &self.rows[arena];
+        row.units()
     }
 
     /// Whether it has no round.
@@ -130,6 +143,17 @@ impl<D: Deed> ArenaCaches<D> {
             self.caches.push_reserved(own);
         }
         Ok(())
+    }
+
+    // The units of their rounds, or the greatest number where they are more.
+    fn units(&self) -> u128
+        ensures { result ≡ min (units_tagged (row_rounds self.now)) (2 ^ 128 - 1) }
+    {
+        let mut total: u128 = 0;
+        for own in &self.caches {
+            total = total.saturating_add(own.units());
+        }
+        total
     }
 
     // Whether they have no round.

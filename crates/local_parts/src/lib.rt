@@ -8,7 +8,8 @@
 //! cache, so that a forged segment is never given again.
 //!
 //! `CpuCaches` (cpu_caches) is one CPU's cache for each quantum cache of each arena: `new`
-//! makes them for a stock, and `close` ends them where they have no round.
+//! makes them for a stock, `units` tells what they hold of an arena, and `close` ends them where
+//! they have no round.
 //!
 //! `laws` has what follows of every list of steps: it conserves units whoever else holds
 //! segments, leaves the setup alone, and leaves each unit in one place.
