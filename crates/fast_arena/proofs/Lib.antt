@@ -7,3 +7,4 @@ pub mod Starting
 pub mod Searching
 pub mod Fitting
 pub mod Lasting
+pub mod Newest

@@ -1,12 +1,12 @@
 //! What a policy chooses among the free ranges.
-ghost use Rattle.std.specs.Prelude.{ℕ, ◌≤◌, ◌^◌, IfSome};
+ghost use Rattle.std.specs.Prelude.{ℕ, ◌<◌, ◌≤◌, ◌^◌, IfSome, MatchOption};
 ghost use Rattle.std.specs.Int.{IsPowerOfTwo};
 ghost use Rattle.deed_core.specs.Request.{IsGood};
-ghost use Rattle.tag_arena.specs.Choice.{IsBestChoice};
-ghost use Rattle.fast_arena.specs.FreeTags.{AreTags, ranges_by_age};
+ghost use Rattle.tag_arena.specs.Choice.{IsBestChoice, IsInstant, NoListServes};
+ghost use Rattle.fast_arena.specs.FreeTags.{AreTags, IsTimed, ranges_by_age};
 ghost use Rattle.fast_arena.specs.Orders.{Mirrors};
 ghost use Rattle.fast_arena.specs.Fits.{base_of, IsFit, IsLastBy};
-ghost use Rattle.fast_arena.specs.declared.orders.Order.TheVariants.{Falling, Sizes};
+ghost use Rattle.fast_arena.specs.declared.orders.Order.TheVariants.{Falling, Lists, Sizes};
 
 use crate::held_ranges::HeldRange;
 use crate::orders::OrderedIndex;
@@ -59,6 +59,39 @@ pub fn last_by<D: Deed>(slots: &Slots<D>, falling: &OrderedIndex, base: u64) -> 
     ensures { IsLastBy base (ranges_by_age slots.now.tags) result }
 {
     let Some(entry) = falling.first_from(LIMIT - base, 0) else {
+        return None;
+    };
+    Some(slots.tag(entry.slot).range())
+}
+
+/// The number of the least power-of-two list whose every member has room for `units`.
+fn least_list(units: u64) -> u32
+    requires { 0 < units }
+    ensures large { units ≤ 2 ^ result }
+    ensures least { (p : ℕ) → units ≤ 2 ^ p → result ≤ p }
+{
+    if units == 1 {
+        return 0;
+    }
+    (units - 1).ilog2() + 1
+}
+
+/// The newest range on the least power-of-two list whose every member has room for `units`.
+pub fn newest<D: Deed>(
+    slots: &Slots<D>,
+    lists: &OrderedIndex,
+    quantum: u64,
+    units: u64,
+) -> Option<HeldRange>
+    requires quantum { IsPowerOfTwo quantum }
+    requires units { quantum ≤ units }
+    requires timed { IsTimed slots.now.tags }
+    requires tags { (clock : ℕ) × (clock < 2 ^ 64) × AreTags clock slots.now.tags }
+    requires mirrors { Mirrors Lists lists.now.items slots.now.tags }
+    ensures { let free = ranges_by_age slots.now.tags in
+        MatchOption result (NoListServes quantum units free) (IsInstant quantum units free) }
+{
+    let Some(entry) = lists.first_from(least_list(units) as u64, 0) else {
         return None;
     };
     Some(slots.tag(entry.slot).range())
