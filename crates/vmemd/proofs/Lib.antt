@@ -2,3 +2,4 @@ pub mod OpeningLemmas
 pub mod SetupLemmas
 pub mod RunLemmas
 pub mod LawLemmas
+mod ConfigLemmas

@@ -157,11 +157,11 @@ long_first front left long one =
     (on.0, rw (frames_in-text [] front left one, rest_in-text [] front left one) on.1)
 
 -- a rest that the input ends
-rest_first : (rest : List ℕ) (why : LineFault) → IsOneLine rest → last_of (take 256 rest) ≡ Err why ∷ [] → frames_of rest ≡ Err why ∷ []
+pub rest_first : (rest : List ℕ) (why : LineFault) → IsOneLine rest → last_of (take 256 rest) ≡ Err why ∷ [] → frames_of rest ≡ Err why ∷ []
 rest_first rest why one last = rw (frames_in-none [] rest one, rest_in-none [] rest one) (sym (last_of-take rest) ∙ last)
 
 module _ {S : Type 0} (takes : S → SetupLine → S → Type 0) (refuses : S → SetupLine → ConfigFault → Type 0) where
-  refuses_line : (made : S) (front line rest left : List ℕ) (word : ConfigFault) → IsOneLine line → front ≡ ended line ++ rest
+  pub refuses_line : (made : S) (front line rest left : List ℕ) (word : ConfigFault) → IsOneLine line → front ≡ ended line ++ rest
       → RefusesRead refuses made (setup_of (take 256 line)) word → RefusesFirst refuses made (front ++ left) word
   refuses_line made front line rest left word one e refused = (
     frame_of (take 256 line),
@@ -207,7 +207,7 @@ module _ {S : Type 0} (takes : S → SetupLine → S → Type 0) (refuses : S �
       (front, setup, counted, sym (begins_setup-take front) ∙ begins, (Err why, [], rest_first front why one last, refl))
 
 module _ {S : Type 0} (takes : S → SetupLine → S → Type 0) (can : S → SetupLine → Type 0) where
-  can_take_line : (made : S) (front line rest left : List ℕ) → IsOneLine line → front ≡ ended line ++ rest
+  pub can_take_line : (made : S) (front line rest left : List ℕ) → IsOneLine line → front ≡ ended line ++ rest
       → CanTakeRead can made (setup_of (take 256 line)) → CanTakeFirst can made (front ++ left)
   can_take_line made front line rest left one e able = (
     frame_of (take 256 line),
@@ -217,7 +217,7 @@ module _ {S : Type 0} (takes : S → SetupLine → S → Type 0) (can : S → Se
   )
 
   -- a line that can be taken, however the input goes on
-  goes_on : (first made : S) (unread left : Option (List ℕ)) (input front : List ℕ) (setup : SetsUp takes first input front made)
+  pub goes_on : (first made : S) (unread left : Option (List ℕ)) (input front : List ℕ) (setup : SetsUp takes first input front made)
       → Consumes unread left input → ((more : List ℕ) → CanTakeFirst can made (front ++ more))
       → IfSome unread (λ all. CanGoOn takes can first all made)
   goes_on first made None left input front setup read able = tt

@@ -4,3 +4,4 @@ pub mod Settings
 pub mod Desks
 pub mod Commands
 pub mod Laws
+pub mod Configs

@@ -20,7 +20,7 @@ use Rattle.vmemd.specs.declared.faults.Unserved.TheVariants.{Children, Caches}
 use Rattle.vmemd.specs.declared.faults.ConfigFault.{ConfigFault}
 use Rattle.vmemd.specs.declared.faults.ConfigFault.TheVariants.{Line, NameTaken, TooMany, NoArena}
 use Rattle.vmemd.specs.declared.faults.ConfigFault.TheVariants.{ChainTooLong, BadQuantum, BadCache}
-use Rattle.vmemd.specs.declared.faults.ConfigFault.TheVariants.{BadRange, NotYet}
+use Rattle.vmemd.specs.declared.faults.ConfigFault.TheVariants.{BadRange, NotYet, SpanInServe}
 use Rattle.vmemd.specs.declared.faults.SettingFault.{SettingFault}
 use Rattle.vmemd.specs.declared.faults.SettingFault.TheVariants.{Refused, Memory}
 
@@ -80,6 +80,7 @@ RefusesRootAsked s r (NotYet Caches) = HasRoom s.arenas r.name × IsPowerOfTwo r
 RefusesRootAsked s r BadRange = (r.qcache_max ≡ 0) × RefusesRoot s.arenas r fault.BadRange
 RefusesRootAsked s r (NotYet Children) = ⊥
 RefusesRootAsked s r (Line why) = ⊥
+RefusesRootAsked s r SpanInServe = ⊥
 RefusesRootAsked s r NoArena = ⊥
 RefusesRootAsked s r ChainTooLong = ⊥
 RefusesRootAsked s r BadCache = ⊥

@@ -13,6 +13,7 @@
 #![tactic(auto)]
 
 pub mod commands;
+pub mod configs;
 pub mod endings;
 pub mod faults;
 pub mod laws;

@@ -117,7 +117,11 @@ fn refuse_rest(rest: &[u8], number: u64) -> Result<(), ScriptFault>
 }
 
 /// Lets a setup take the line of this number, given without its line feed.
-fn take_line<S: SetUp>(line: &[u8], number: u64, setup: &mut S) -> Result<(), ScriptFault>
+pub(crate) fn take_line<S: SetUp>(
+    line: &[u8],
+    number: u64,
+    setup: &mut S,
+) -> Result<(), ScriptFault>
     ensures ok { OnOk result (TakesLine S.takes setup.old line.now setup.new) }
     ensures err { IfErr result (LineFails S.refuses S.can setup.old number
         (setup_of line.now)) }
@@ -135,7 +139,7 @@ fn take_line<S: SetUp>(line: &[u8], number: u64, setup: &mut S) -> Result<(), Sc
 }
 
 /// The refusal of bytes that are no setup line.
-fn refusal(number: u64, fault: LineFault) -> ScriptFault
+pub(crate) fn refusal(number: u64, fault: LineFault) -> ScriptFault
     ensures { result ≡ ScriptFault.Setup number (ConfigFault.Line fault) }
 {
     ScriptFault::Setup {

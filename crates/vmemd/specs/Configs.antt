@@ -1,0 +1,67 @@
+-- What a CONFIG file sets up.
+use Rattle.std.specs.Prelude.{◌≡◌, ◌+◌, ℕ, List, [], length, Option, IfSome}
+use Rattle.lease_proto.specs.declared.setup_lines.SetupLine.{SetupLine}
+use Rattle.lease_proto.specs.declared.setup_lines.SetupLine.TheVariants.{Root, Child, Span}
+use Rattle.lease_proto.specs.Frames.{IsOneLine}
+use Rattle.arena_tree.specs.Settings.{SetupState}
+use Rattle.vmemd.specs.Scripts.{SetsUp, RefusesFirst, CanGoOn}
+use Rattle.vmemd.specs.Setups.{ReadsSetup}
+use Rattle.vmemd.specs.Settings.{TakesSetupLine, RefusesSetupLine, CanTakeSetupLine}
+use Rattle.vmemd.specs.Desks.{no_arenas}
+use Rattle.vmemd.specs.declared.faults.ConfigFault.{ConfigFault}
+use Rattle.vmemd.specs.declared.faults.ConfigFault.TheVariants.{SpanInServe}
+use Rattle.vmemd.specs.declared.faults.ScriptFault.{ScriptFault}
+use Rattle.vmemd.specs.declared.faults.ScriptFault.TheVariants.{Setup, Read, Write, Memory}
+
+-- a server's setup takes what a setup takes, but no further span
+abbrev pub TakesConfigLine : SetupState → SetupLine → SetupState → Type 0
+TakesConfigLine old (Root r) new = TakesSetupLine old (Root r) new
+TakesConfigLine old (Child c) new = TakesSetupLine old (Child c) new
+TakesConfigLine old (Span s) new = ⊥
+
+abbrev pub CanTakeConfigLine : SetupState → SetupLine → Type 0
+CanTakeConfigLine s (Root r) = CanTakeSetupLine s (Root r)
+CanTakeConfigLine s (Child c) = CanTakeSetupLine s (Child c)
+CanTakeConfigLine s (Span n) = ⊥
+
+-- it refuses each further span for that, and else what a setup refuses
+abbrev pub RefusesConfigLine : SetupState → SetupLine → ConfigFault → Type 0
+RefusesConfigLine s (Root r) word = RefusesSetupLine s (Root r) word
+RefusesConfigLine s (Child c) word = RefusesSetupLine s (Child c) word
+RefusesConfigLine s (Span n) word = word ≡ SpanInServe
+
+module _ {S : Type 0} (takes : S → SetupLine → S → Type 0) where
+  -- an input is setup lines that are all taken
+  abbrev pub MakesAll : S → Option (List ℕ) → S → Type 0
+  MakesAll first unread made = IfSome unread (λ input. SetsUp takes first input [] made)
+
+module _ {S : Type 0} (takes : S → SetupLine → S → Type 0)
+    (refuses : S → SetupLine → ConfigFault → Type 0) where
+  -- the first line that isn't taken has this number, and what the lines before it made refuses it
+  -- with this word
+  abbrev pub LineRefused : S → List ℕ → ℕ → ConfigFault → S → Type 0
+  LineRefused first input line word made = (rest : List ℕ)
+      × (setup : SetsUp takes first input rest made)
+      × (line ≡ length setup.lines + 1) × RefusesFirst refuses made rest word
+
+module _ {S : Type 0} (takes : S → SetupLine → S → Type 0)
+    (refuses : S → SetupLine → ConfigFault → Type 0) (can : S → SetupLine → Type 0) where
+  -- why the lines of an input aren't all taken
+  abbrev pub ConfigFails : S → Option (List ℕ) → Option (List ℕ) → S → ScriptFault → Type 0
+  ConfigFails first unread left last (Setup line word) = IfSome unread
+      (λ input. LineRefused takes refuses first input line word last)
+  ConfigFails first unread left last Read = (part : List ℕ)
+      × ReadsSetup takes first unread left last part × IsOneLine part
+  ConfigFails first unread left last Write = ⊥
+  ConfigFails first unread left last Memory = IfSome unread
+      (λ input. CanGoOn takes can first input last)
+
+-- CONFIG's lines make this setup
+abbrev pub ConfigMakes : Option (List ℕ) → SetupState → Type 0
+ConfigMakes unread made = MakesAll TakesConfigLine no_arenas unread made
+
+-- CONFIG isn't read or taken, and why
+abbrev pub ConfigRefuses : Option (List ℕ) → Option (List ℕ) → ScriptFault → Type 0
+ConfigRefuses unread left fault = (made : SetupState)
+    × ConfigFails TakesConfigLine RefusesConfigLine CanTakeConfigLine no_arenas unread left made
+    fault

@@ -1,0 +1,108 @@
+//! CONFIG: a file of setup lines alone, which a server is set up by.
+ghost use Rattle.std.specs.Prelude.{◌≡◌, ◌⊎◌, ◌∷◌, [], Err, OnOk, IfOk, IfErr, IsErrOf};
+ghost use Rattle.lease_proto.specs.Frames.{last_of};
+ghost use Rattle.lease_server.specs.Watching.{inner_of, has_failed, reads_of};
+ghost use Rattle.vmemd.specs.Scripts.{IsSpent};
+ghost use Rattle.vmemd.specs.Configs.{MakesAll, ConfigFails, ConfigMakes, ConfigRefuses};
+
+use crate::faults::{ConfigFault, ScriptFault, SettingFault};
+use crate::setting_up::{SetUp, refusal, take_line};
+use arena_tree::Setup;
+use lease_proto::{LineFault, SetupLine, fault_at_end};
+use lease_server::{Intake, Watched};
+use std::alloc::Global;
+use std::io::Read;
+use std::marker::Model;
+
+/// A setup for a server, whose roots have one span each.
+#[derive(Drop)]
+struct Config {
+    setup: Setup,
+}
+
+impl Model for Config {
+    ghost use Rattle.arena_tree.specs.Settings.{SetupState};
+
+    ghost Value = { SetupState };
+
+    ghost view = { λ c. c.setup };
+}
+
+impl SetUp for Config {
+    ghost use Rattle.vmemd.specs.Configs.{TakesConfigLine, RefusesConfigLine, CanTakeConfigLine};
+
+    ghost takes = { TakesConfigLine };
+
+    ghost refuses = { RefusesConfigLine };
+
+    ghost can = { CanTakeConfigLine };
+
+    fn set_up(&mut self, line: &SetupLine) -> Result<(), SettingFault> {
+        match line {
+            SetupLine::Span(_) => Err(SettingFault::Refused(ConfigFault::SpanInServe)),
+            SetupLine::Root(_) | SetupLine::Child(_) => self.setup.set_up(line),
+        }
+    }
+}
+
+/// The setup that the lines of CONFIG make. Each of them is a setup line, ended by a line feed; no
+/// line at all is a setup of no arena.
+pub fn read_config<R: Read>(alloc: Global, reader: &mut Watched<R>) -> Result<Setup, ScriptFault>
+    ensures ok { IfOk result (ConfigMakes (R.remaining (inner_of reader.old))) }
+    ensures err { IfErr result (ConfigRefuses (R.remaining (inner_of reader.old))
+        (R.remaining (inner_of reader.new))) }
+    ensures failed { IsErrOf result ScriptFault.Read
+        → IsSpent (has_failed reader.new) (reads_of reader.new) }
+    ensures kept { IfErr result (λ fault. (fault ≡ ScriptFault.Read)
+        ⊎ (has_failed reader.new ≡ has_failed reader.old)) }
+{
+    let mut config = Config {
+        setup: Setup::new(alloc),
+    };
+    take_all(reader, &mut config)?;
+    Ok(config.setup)
+}
+
+/// Takes all lines of an input. At a refused line the setup is what the lines before it made.
+fn take_all<R: Read, S: SetUp>(reader: &mut Watched<R>, setup: &mut S) -> Result<(), ScriptFault>
+    ensures ok { OnOk result (MakesAll S.takes setup.old (R.remaining (inner_of reader.old))
+        setup.new) }
+    ensures err { IfErr result (ConfigFails S.takes S.refuses S.can setup.old
+        (R.remaining (inner_of reader.old)) (R.remaining (inner_of reader.new)) setup.new) }
+    ensures failed { IsErrOf result ScriptFault.Read
+        → IsSpent (has_failed reader.new) (reads_of reader.new) }
+    ensures kept { IfErr result (λ fault. (fault ≡ ScriptFault.Read)
+        ⊎ (has_failed reader.new ≡ has_failed reader.old)) }
+{
+    // For its clause: reads are at most 2^64 - 1.
+    let _ = reader.reads();
+    let mut input = Intake::new();
+    let mut number = 1u64;
+    loop {
+        match input.first_line() {
+            Some(line) => {
+                take_line(line, number, setup)?;
+                input.pass();
+                number += 1;
+            }
+            None => {
+                if !input.read_on(reader)? {
+                    return refuse_unended(input.begun(), number);
+                }
+            }
+        }
+    }
+}
+
+/// Refuses a line that the input ends in: it has no line feed.
+fn refuse_unended(rest: &[u8], number: u64) -> Result<(), ScriptFault>
+    ensures ok { OnOk result (rest.now ≡ []) }
+    ensures err { IfErr result (λ fault. (word : LineFault)
+        × (fault ≡ ScriptFault.Setup number (ConfigFault.Line word))
+        × (last_of rest.now ≡ Err word ∷ [])) }
+{
+    match fault_at_end(rest) {
+        Some(fault) => Err(refusal(number, fault)),
+        None => Ok(()),
+    }
+}
