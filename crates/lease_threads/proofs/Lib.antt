@@ -1,1 +1,5 @@
 mod RoundLaws
+mod Imports
+mod Receipts
+mod Sounds
+mod Lengths

@@ -1,7 +1,7 @@
 -- Rounds stay chunks of their quantum cache.
 use Rattle.std.proofs.Common.{◌≡◌, ℕ, ◌+◌, List, [], ◌∷◌, ◌++◌, All, Option, Some, None, IfSome}
 use Rattle.std.specs.Option.{option_to_list}
-use Rattle.std.proofs.lemmas.List.Elements.{All-append, All-cons, All-nil, All-head, All-tail, All-same}
+use Rattle.std.proofs.lemmas.List.Elements.{All-append, All-cons, All-nil, All-head, All-tail, All-same, All-push}
 use Rattle.deed_core.specs.Tag.{Tag}
 use Rattle.magazine_layer.specs.Magazines.{AreAmong}
 use Rattle.magazine_layer.proofs.LawProofs.{kinds_kept}
@@ -44,3 +44,7 @@ module _ (P : Tag → Type 0) where
 
   pub among : (old new : List Tag) → AreAmong new old → All P old → All P new
   among old new is all = kinds_kept P new old is all
+
+-- one more is such
+pub all_pushed : {X : Type 0} (P : X → Type 0) (old mid new : List X) (x : X) → mid ≡ old → new ≡ mid ++ x ∷ [] → All P old → P x → All P new
+all_pushed P old mid new x same more all is = All-same P new (mid ++ x ∷ []) more (All-push P mid x (All-same P mid old same all) is)

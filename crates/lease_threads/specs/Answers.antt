@@ -14,12 +14,12 @@ abbrev pub GoesOn : List Node → (e : Event) → AnswerTo e → Type 0
 GoesOn nodes e a = Sound nodes e a × (is_stopped e a ≡ false)
 
 -- an arena under its lock, with the number of the arena that it imports from
-pub record ArenaPart : Type 0 where
+pub record ArenaPartState : Type 0 where
   pub source : Option ℕ
   pub arena : ArenaState
 
 -- all that it imported is of its source
-abbrev pub ImportsItsOwn : ArenaPart → Type 0
+abbrev pub ImportsItsOwn : ArenaPartState → Type 0
 ImportsItsOwn p = All (λ t. p.source ≡ Some t.arena) p.arena.imported
 
 -- the span of a slab of the quantum cache

@@ -12,25 +12,25 @@ abbrev pub IsOfKind : CacheKind → Tag → Type 0
 IsOfKind k t = IsSegmentOf k.arena (Cached k.number) (k.number * k.quantum) k.quantum t
 
 -- a CPU's magazines for a quantum cache
-pub record KindRounds : Type 0 where
+pub record KindRoundsState : Type 0 where
   pub kind : CacheKind
   pub cpu : CpuCacheState
 
 -- all their rounds are chunks of it
-pub record AreKindRounds (r : KindRounds) : Type 0 where
+pub record AreKindRounds (r : KindRoundsState) : Type 0 where
   pub some : 0 < r.kind.quantum
   pub rounds : All (IsOfKind r.kind) (cache_rounds r.cpu)
 
 -- a depot for a quantum cache
-pub record KindDepot : Type 0 where
+pub record KindDepotState : Type 0 where
   pub kind : CacheKind
   pub depot : DepotState
 
 -- and all its rounds
-pub record IsKindDepot (d : KindDepot) : Type 0 where
+pub record IsKindDepot (d : KindDepotState) : Type 0 where
   pub some : 0 < d.kind.quantum
   pub rounds : All (IsOfKind d.kind) (depot_rounds d.depot)
 
 -- how many rounds a CPU's magazines have
-abbrev pub rounds_in : List KindRounds → ℕ
+abbrev pub rounds_in : List KindRoundsState → ℕ
 rounds_in caches = sum_by (λ r. length (cache_rounds r.cpu)) caches

@@ -1,2 +1,5 @@
 pub mod Gates
 pub mod Kinds
+pub mod Answers
+pub mod Systems
+pub mod Replying

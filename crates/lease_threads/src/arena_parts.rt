@@ -1,8 +1,9 @@
 //! An arena as its lock keeps it. What lies there when the lock is taken is known by its type
 //! alone, so that each event looks whether it is the arena that is meant.
-ghost use Rattle.std.specs.Prelude.{◌≡◌, ◌<◌, ◌≤◌, List, Some, Ok, OnErr, IfOk};
+ghost use Rattle.std.specs.Prelude.{◌≡◌, ◌<◌, ◌≤◌, ◌↔◌, List, [], Some, Ok, IsOk, OnErr, IfOk, IfErr};
 ghost use Rattle.deed_core.specs.Request.{rounded, plain_of};
-ghost use Rattle.tag_arena.specs.Outcomes.{CarveOf, ImportOf, FreeOf};
+ghost use Rattle.tag_arena.specs.Outcomes.{CarveOf, ImportOf, FreeOf, RemoveOf};
+ghost use Rattle.std.specs.Option.{option_map};
 ghost use Rattle.arena_tree.specs.Chains.{Node, quantum_in, source_of};
 ghost use Rattle.arena_tree.specs.Events.{Carve, Free, AddCarve};
 ghost use Rattle.lease_threads.specs.Answers.{GoesOn};
@@ -25,9 +26,9 @@ impl<N: Name> Model for ArenaPart<N> {
     ghost use Rattle.std.specs.Ordering.{nat_cmp};
     ghost use Rattle.std.specs.FinMap as finmap;
     ghost use Rattle.deed_core.specs.Holding.{Holding};
-    ghost use Rattle.lease_threads.specs.Answers.{ArenaPart, ImportsItsOwn};
+    ghost use Rattle.lease_threads.specs.Answers.{ArenaPartState, ImportsItsOwn};
 
-    ghost Value = { ArenaPart };
+    ghost Value = { ArenaPartState };
 
     ghost coded = { Prim.hlevel
         (codes, finmap.code {X = Holding} {R = nat_cmp} coded_ℕ (Prim.hlevel codes)) };
@@ -121,6 +122,33 @@ impl<N: Name> ArenaPart<N> {
             Err(SpanFault::Overlaps(span)) => Err(AddCarveFault::Overlaps(span)),
             Err(SpanFault::NotAligned(span)) => Err(AddCarveFault::NotAligned(span)),
             Err(SpanFault::NoMemory(span)) => Err(AddCarveFault::NoMemory(span)),
+        }
+    }
+
+    /// Takes out the lowest owned span that is wholly free.
+    pub(crate) fn remove_owned(&mut self) -> Option<SeatDeed<N>>
+        ensures { RemoveOf self.old.arena (option_map (λ d. d) result) self.new.arena }
+    {
+        self.arena.remove_owned()
+    }
+
+    /// Ends an arena in which no deed lies, and hands back another.
+    pub(crate) fn close(self) -> Result<(), ArenaPart<N>>
+        ensures exactly { IsOk result ↔ (self.arena.free ≡ []) }
+        ensures handed_back { IfErr result (λ same. same ≡ self) }
+    {
+        let ArenaPart {
+            source,
+            arena,
+            opener,
+        } = self;
+        match arena.close() {
+            Ok(()) => Ok(()),
+            Err(arena) => Err(ArenaPart {
+                source,
+                arena,
+                opener,
+            }),
         }
     }
 }

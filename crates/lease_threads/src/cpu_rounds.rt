@@ -1,9 +1,10 @@
 //! A CPU's magazines for one quantum cache.
-ghost use Rattle.std.specs.Prelude.{◌≡◌, ◌≢◌, ◌<◌, ◌↔◌, IsTrue, Err, IfOk, IfErr};
+ghost use Rattle.std.specs.Prelude.{◌≡◌, ◌≢◌, ◌<◌, ◌↔◌, IsTrue, Ok, Err, IfOk, IfErr, length};
 ghost use Rattle.std.specs.Prelude.{IfSome, OnOk, OnErr};
-ghost use Rattle.magazine_layer.specs.Magazines.{BothEmpty, cache_rounds};
+ghost use Rattle.magazine_layer.specs.Magazines.{IsSize, BothEmpty, cache_rounds};
 ghost use Rattle.magazine_layer.specs.Magazines.{after_change};
 ghost use Rattle.magazine_layer.specs.Calls.{PopOf, PushOf};
+ghost use Rattle.arena_tree.specs.Sound.{PopsRound, PushesRound};
 ghost use Rattle.lease_threads.specs.Kinds.{IsOfKind};
 ghost use Rattle.deed_core.specs.Covering.{units_tagged};
 
@@ -25,9 +26,9 @@ pub(crate) struct KindRounds<D: Deed> {
 }
 
 impl<D: Deed> Model for KindRounds<D> {
-    ghost use Rattle.lease_threads.specs.Kinds.{KindRounds, AreKindRounds};
+    ghost use Rattle.lease_threads.specs.Kinds.{KindRoundsState, AreKindRounds};
 
-    ghost Value = { KindRounds };
+    ghost Value = { KindRoundsState };
 
     ghost view = { λ r. record { kind = r.kind; cpu = r.cpu } };
 
@@ -49,6 +50,8 @@ impl<D: Deed> KindRounds<D> {
     pub(crate) fn pop(&mut self) -> Option<Segment<D>>
         ensures popped { PopOf self.old.cpu result self.new.cpu }
         ensures chunk { IfSome result (IsOfKind self.old.kind) }
+        ensures fewer { PopsRound (Ok result)
+            (length (cache_rounds self.old.cpu)) (length (cache_rounds self.new.cpu)) }
         ensures quantum { 0 < self.old.kind.quantum }
         ensures kind { self.new.kind ≡ self.old.kind }
     {
@@ -58,6 +61,8 @@ impl<D: Deed> KindRounds<D> {
     /// Keeps a chunk of its cache, if there is room. Another segment comes back.
     pub(crate) fn push(&mut self, segment: Segment<D>) -> Result<(), Segment<D>>
         ensures pushed { OnOk result (PushOf self.old.cpu segment result self.new.cpu) }
+        ensures more { PushesRound result
+            (length (cache_rounds self.old.cpu)) (length (cache_rounds self.new.cpu)) }
         ensures handed_back { IfErr result (λ same. same ≡ segment) }
         ensures unchanged { OnErr result (self.new ≡ self.old) }
         ensures kind { self.new.kind ≡ self.old.kind }
@@ -71,6 +76,7 @@ impl<D: Deed> KindRounds<D> {
     /// Changes over to two new magazines of a greater size.
     pub(crate) fn change(&mut self, alloc: Global, size: usize) -> Result<(), ChangeFault>
         ensures changed { OnOk result (self.new.cpu ≡ after_change size self.old.cpu) }
+        ensures as_many { length (cache_rounds self.new.cpu) ≡ length (cache_rounds self.old.cpu) }
         ensures unchanged { OnErr result (self.new ≡ self.old) }
         ensures goes { result ≢ Err ChangeFault.Stopped }
         ensures kind { self.new.kind ≡ self.old.kind }
@@ -83,6 +89,14 @@ impl<D: Deed> KindRounds<D> {
         };
         self.cpu.change(loaded, previous);
         Ok(())
+    }
+
+    /// How many rounds each of its two magazines holds.
+    pub(crate) fn size(&self) -> usize
+        ensures value { result ≡ self.now.cpu.size }
+        ensures size { IsSize result }
+    {
+        self.cpu.size()
     }
 
     /// Whether both magazines are empty.

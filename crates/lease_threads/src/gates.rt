@@ -1,5 +1,5 @@
 //! Gates: who lets a request go on.
-ghost use Rattle.std.specs.Prelude.{◌≡◌, ◌⊎◌, true, OnErr};
+ghost use Rattle.std.specs.Prelude.{◌≡◌, ◌⊎◌, true, false, OnErr};
 ghost use Rattle.lease_threads.specs.Gates.{MayStop};
 
 /// What may happen next: one call on one part under its lock, or one change of the CPU's own
@@ -85,6 +85,17 @@ impl Steps {
         Steps {
             cpu,
             turn: 0,
+            noted: false,
+        }
+    }
+
+    /// The same count, for a list of steps in which no Stop was said yet.
+    pub(crate) fn anew(&self) -> Steps
+        ensures { result.noted ≡ false }
+    {
+        Steps {
+            cpu: self.cpu,
+            turn: self.turn,
             noted: false,
         }
     }

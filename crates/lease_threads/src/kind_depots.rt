@@ -1,5 +1,5 @@
 //! A depot as its lock keeps it, and its exchanges with a CPU.
-ghost use Rattle.std.specs.Prelude.{◌≡◌, ◌≢◌, ◌<◌, ◌↔◌, [], Err, OnErr, IsOk, IfSome, IfErr, OnOk};
+ghost use Rattle.std.specs.Prelude.{◌≡◌, ◌≢◌, ◌<◌, ◌↔◌, [], Some, Err, OnErr, IsOk, IfSome, IfErr, OnOk};
 ghost use Rattle.magazine_layer.specs.Magazines.{IsSize, BothFull};
 ghost use Rattle.magazine_layer.specs.Depots.{new_depot, after_tick, depot_rounds};
 ghost use Rattle.magazine_layer.specs.Calls.{DepotReapOf, ResizeOf};
@@ -20,9 +20,9 @@ pub(crate) struct KindDepot<D: Deed> {
 }
 
 impl<D: Deed> Model for KindDepot<D> {
-    ghost use Rattle.lease_threads.specs.Kinds.{KindDepot, IsKindDepot};
+    ghost use Rattle.lease_threads.specs.Kinds.{KindDepotState, IsKindDepot};
 
-    ghost Value = { KindDepot };
+    ghost Value = { KindDepotState };
 
     ghost view = { λ d. record { kind = d.kind; depot = d.depot } };
 
@@ -136,6 +136,18 @@ impl<D: Deed> KindDepot<D> {
         ensures kind { self.new.kind ≡ self.old.kind }
     {
         self.depot.reap()
+    }
+
+    /// The same of the depot of this quantum cache; another has none.
+    pub(crate) fn reap_of(&mut self, kind: &CacheKind) -> Option<Segment<D>>
+        ensures chunk { IfSome result (IsOfKind kind.now) }
+        ensures event { IfSome result (λ t.
+            DepotReapOf self.old.depot (Some t) self.new.depot) }
+    {
+        if !self.kind.is(kind) {
+            return None;
+        }
+        self.reap()
     }
 
     /// Ends one that has no round, and hands back one that has.

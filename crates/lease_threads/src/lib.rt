@@ -1,9 +1,28 @@
-//! The running system.
+//! The running system: each arena, slab cache, depot and the book under a lock of its own. So far
+//! its parts are here, and how one CPU reaches them; requests and the system's ends come next.
+//!
+//! `System` (systems) has beside the locks what is fixed at setup: the arenas and the roots that
+//! they own. Under the locks stand the parts of the stock: `ArenaPart` (arena_parts), the slab cache
+//! (slab_parts), `KindDepot` (kind_depots), `MarkedBook` (marked_books). What lies there when a lock
+//! is taken is known by its type alone, so each event looks whether it is the part that is meant.
+//! `Running` (running) is `arena_tree::Parts` over them: each event of a shared part takes its lock,
+//! and no other (locked_events, own_events), and asks the gate (gates) before. A `Cpu` (cpus) has a
+//! hand and two magazines for each quantum cache (cpu_rounds), and needs no lock.
 #![tactic(auto)]
 
+mod arena_parts;
 mod cpu_rounds;
+mod cpus;
 mod gates;
 mod kind_depots;
 mod kinds;
+mod locked_events;
+mod marked_books;
+mod own_events;
+mod running;
+mod slab_parts;
+mod systems;
 
+pub use cpus::Cpu;
 pub use gates::{EventName, Gate, NextStep, OpenGate, Pass, RequestStopped};
+pub use systems::System;

@@ -1,6 +1,8 @@
-use Rattle.std.proofs.Common.{subst, IfSome}
+use Rattle.std.proofs.Common.{subst, IfSome, Ok, length}
+use Rattle.arena_tree.specs.Sound.{PopsRound}
 use Rattle.magazine_layer.specs.Magazines.{cache_rounds}
-use Rattle.lease_threads.specs.Kinds.{IsOfKind, KindRounds}
+use Rattle.lease_threads.specs.Kinds.{IsOfKind, KindRoundsState}
+use Rattle.lease_threads.proofs.Lengths.{pops_length}
 use Rattle.lease_threads.proofs.RoundLaws.{left, given}
 use Rattle.lease_threads.proofs.cpu_rounds.KindRounds.pop.Goals as goal
 
@@ -10,5 +12,9 @@ invariant_of-self g c =
 
 pub returns-clause-chunk : goal.returns-clause-chunk
 returns-clause-chunk g c =
-    subst (λ (r : KindRounds). IfSome c.take.result (IsOfKind r.kind)) c.self.view_is
+    subst (λ (r : KindRoundsState). IfSome c.take.result (IsOfKind r.kind)) c.self.view_is
     (given (IsOfKind c.self.inside.kind) c.take.result (cache_rounds c.self.inside.cpu) (cache_rounds c.take.new.self) c.take.ensures.kinds c.self.invariant.rounds)
+
+pub returns-clause-fewer : goal.returns-clause-fewer
+returns-clause-fewer g c =
+    subst (λ (r : KindRoundsState). PopsRound (Ok c.take.result) (length (cache_rounds r.cpu)) (length (cache_rounds c.take.new.self))) c.self.view_is (pops_length c.self.inside.cpu c.take.new.self c.take.result c.take.ensures.of)

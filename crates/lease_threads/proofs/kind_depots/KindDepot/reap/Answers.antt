@@ -1,6 +1,6 @@
 use Rattle.std.proofs.Common.{subst, IfSome}
 use Rattle.magazine_layer.specs.Depots.{depot_rounds}
-use Rattle.lease_threads.specs.Kinds.{IsOfKind, KindDepot}
+use Rattle.lease_threads.specs.Kinds.{IsOfKind, KindDepotState}
 use Rattle.lease_threads.proofs.RoundLaws.{left, given}
 use Rattle.lease_threads.proofs.kind_depots.KindDepot.reap.Goals as goal
 
@@ -10,5 +10,5 @@ invariant_of-self g c =
 
 pub returns-clause-chunk : goal.returns-clause-chunk
 returns-clause-chunk g c =
-    subst (λ (d : KindDepot). IfSome c.reap.result (IsOfKind d.kind)) c.self.view_is
+    subst (λ (d : KindDepotState). IfSome c.reap.result (IsOfKind d.kind)) c.self.view_is
     (given (IsOfKind c.self.inside.kind) c.reap.result (depot_rounds c.self.inside.depot) (depot_rounds c.reap.new.self) c.reap.ensures.kinds c.self.invariant.rounds)

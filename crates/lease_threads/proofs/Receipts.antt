@@ -1,0 +1,52 @@
+-- Receipts of a book whose mark is of this root.
+use Rattle.std.proofs.Common.{◌≡◌, ◌∙◌, ℕ, ap, sym, subst, Option, Some, None, IfSome}
+use Rattle.lease_terms.specs.Requests.{RequestId}
+use Rattle.lease_terms.specs.declared.refusals.Refusal.{Refusal}
+use Rattle.deed_core.specs.Tag.{Tag}
+use Rattle.deed_core.specs.Request.{Fits}
+use Rattle.lease_book.specs.Receipts.{ReceiptState, IsEarned}
+use Rattle.lease_book.specs.BookState.{BookState, account_in}
+use Rattle.lease_book.specs.Entry.{Settlement, Grant, Return, Refuse, kept}
+use Rattle.lease_book.specs.Answers.{receipt, IsLook, IsAnswer, IsRepeated, answer_of}
+use Rattle.lease_book.specs.Calls.{IsGranted, IsRefused, IsReleased}
+use Rattle.lease_book.specs.declared.answers.Answer.{Answer}
+use Rattle.lease_book.specs.declared.answers.Answer.TheVariants as answer
+use Rattle.lease_book.specs.declared.answers.Look.{Look}
+use Rattle.lease_book.specs.declared.answers.Look.TheVariants as look
+use Rattle.lease_book.specs.declared.receipts.Terms.{Terms}
+use Rattle.lease_threads.specs.Replying.{mark_root, IsReceiptOf, HasReceiptOf}
+
+module _ (book : BookState) (id : RequestId) (mark : book.mark.root ≡ mark_root) where
+  pub repeated : (v : ReceiptState) → IsRepeated book (account_in id.client book) id v → IsReceiptOf id v
+  repeated v is = record { book = is.of_book ∙ mark; request = is.request; earned = is.earned }
+
+  made : (s : Settlement) (v : ReceiptState) → IsEarned (kept id.number s).reply (kept id.number s).terms → v ≡ receipt book id (kept id.number s) → IsReceiptOf id v
+  made s v earned is = record {
+    book = ap (λ (r : ReceiptState). r.book) is ∙ mark;
+    request = ap (λ (r : ReceiptState). r.id) is;
+    earned = subst (λ (r : ReceiptState). IsEarned r.reply r.terms) (sym is) earned;
+  }
+
+  pub refused : (now : BookState) (why : Refusal) (v : ReceiptState) → IsRefused book now id why v → IsReceiptOf id v
+  refused now why v is = made (Refuse why) v tt is.receipt
+
+  pub granted : (now : BookState) (t : Tag) (terms : Terms) (v : ReceiptState) → Fits terms.quantum terms.request t.holding.range.base t.holding.range.len → IsGranted book now id t terms v → IsReceiptOf id v
+  granted now t terms v fits is = made (Grant t terms) v fits is.receipt
+
+  pub released : (now : BookState) (arena base : ℕ) (v : ReceiptState) (t : Tag) → IsReleased book now id arena base v t → IsReceiptOf id v
+  released now arena base v t is = made (Return arena base) v tt is.receipt
+
+  pub looked : {D : Type 0} (l : Look D) → IsLook book (account_in id.client book) id l → IfSome (answer_of l) (HasReceiptOf id)
+  looked look.New is = tt
+  looked (look.Kept v) is = repeated v is
+  looked (look.Old current) is = tt
+  looked (look.Stale last) is = tt
+  looked (look.Gap last) is = tt
+
+  pub answered : {D : Type 0} (now : BookState) (why : ReceiptState → Type 0) (again : Type 0) → ((v : ReceiptState) → why v → IsReceiptOf id v) → (a : Answer D) → IsAnswer book now id why again a → HasReceiptOf id a
+  answered now why again is (answer.Kept v) of = repeated v of.0
+  answered now why again is (answer.Refused v) of = is v of
+  answered now why again is (answer.Old current) of = tt
+  answered now why again is (answer.Stale last) of = tt
+  answered now why again is (answer.Gap last) of = tt
+  answered now why again is answer.Again of = tt

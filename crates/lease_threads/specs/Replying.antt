@@ -1,0 +1,80 @@
+-- What a line may be answered, as far as can be told where nothing is known of the book.
+use Rattle.std.specs.Prelude.{◌≡◌, ℕ, ◌*◌, List, Option, Some, None, slice_get}
+use Rattle.lease_terms.specs.Requests.{RequestId}
+use Rattle.arena_tree.specs.declared.limits.TheConstants.{MOST_ARENAS, MOST_SPANS}
+use Rattle.arena_tree.specs.declared.trees.TreeArena.{TreeArena}
+use Rattle.lease_book.specs.Receipts.{ReceiptState, IsEarned}
+use Rattle.lease_book.specs.declared.answers.Answer.{Answer}
+use Rattle.lease_book.specs.declared.answers.Answer.TheVariants as answer
+use Rattle.lease_book.specs.declared.receipts.KeptReply.{KeptReply}
+use Rattle.lease_book.specs.declared.receipts.KeptReply.TheVariants as kept
+use Rattle.lease_proto.specs.declared.lines.Line.{Line}
+use Rattle.lease_proto.specs.declared.lines.Line.TheVariants as lines
+use Rattle.lease_proto.specs.declared.lines.HelloLine.{HelloLine}
+use Rattle.lease_proto.specs.declared.replies.Reply.{Reply}
+use Rattle.lease_proto.specs.declared.replies.Reply.TheVariants as reply
+
+-- the root of the mark of a system's book: the one after those of all arenas
+abbrev pub mark_root : ℕ
+mark_root = MOST_ARENAS * MOST_SPANS
+
+-- a receipt of the system's book for this request: a grant meets the request that it was made for
+pub record IsReceiptOf (id : RequestId) (v : ReceiptState) : Type 0 where
+  pub book : v.book ≡ mark_root
+  pub request : v.id ≡ id
+  pub earned : IsEarned v.reply v.terms
+
+-- so is each receipt in the book's answer
+abbrev pub HasReceiptOf : {D : Type 0} → RequestId → Answer D → Type 0
+HasReceiptOf id (answer.Kept v) = IsReceiptOf id v
+HasReceiptOf id (answer.Refused v) = IsReceiptOf id v
+HasReceiptOf id (answer.Old current) = Unit {0}
+HasReceiptOf id (answer.Stale last) = Unit {0}
+HasReceiptOf id (answer.Gap last) = Unit {0}
+HasReceiptOf id answer.Again = Unit {0}
+
+-- the reply to the request says what was settled; an arena is told by its name
+abbrev pub TellsSettled : List TreeArena → RequestId → KeptReply → Reply → Type 0
+TellsSettled arenas id (kept.Granted arena base len) r = (x : TreeArena)
+    × (slice_get arenas arena ≡ Some x)
+    × (r ≡ reply.Granted (record { id = id; arena = x.name; base = base; len = len }))
+TellsSettled arenas id kept.Released r = r ≡ reply.Released id
+TellsSettled arenas id (kept.Refused why) r =
+    r ≡ reply.Refused (record { id = id; refusal = why })
+
+-- nothing was settled, and the reply is to this request
+abbrev pub IsUnsettledTo : RequestId → Reply → Type 0
+IsUnsettledTo id (reply.Old o) = o.client ≡ id.client
+IsUnsettledTo id (reply.Stale o) = o.id ≡ id
+IsUnsettledTo id (reply.Gap o) = o.id ≡ id
+IsUnsettledTo id (reply.Again a) =
+    (a.client ≡ id.client) × (a.incarnation ≡ id.incarnation) × (a.number ≡ id.number)
+IsUnsettledTo id _ = ⊥
+
+-- the reply says what the receipt says; without a receipt nothing was settled
+pub record IsSettledBy (arenas : List TreeArena) (id : RequestId) (r : Reply) (v : ReceiptState)
+    : Type 0 where
+  pub receipt : IsReceiptOf id v
+  pub tells : TellsSettled arenas id v.reply r
+
+abbrev pub IsReplyTo : List TreeArena → RequestId → Reply → Option ReceiptState → Type 0
+IsReplyTo arenas id r (Some v) = IsSettledBy arenas id r v
+IsReplyTo arenas id r None = IsUnsettledTo id r
+
+-- the reply to a hello; of an `again` the number is 0
+abbrev pub IsGreeting : HelloLine → Reply → Type 0
+IsGreeting h (reply.Welcome w) = (w.client ≡ h.client) × (w.incarnation ≡ h.incarnation)
+IsGreeting h (reply.Old o) = o.client ≡ h.client
+IsGreeting h (reply.Again a) =
+    (a.client ≡ h.client) × (a.incarnation ≡ h.incarnation) × (a.number ≡ 0)
+IsGreeting h _ = ⊥
+
+-- what a line is answered, with a receipt just where something was settled
+abbrev pub IsAnswerTo : List TreeArena → Line → Reply → Option ReceiptState → Type 0
+IsAnswerTo arenas (lines.Hello h) r v = IsGreeting h r × (v ≡ None)
+IsAnswerTo arenas (lines.Request id op) r v = IsReplyTo arenas id r v
+
+-- it may be sent once more
+abbrev pub IsAgain : Reply → Type 0
+IsAgain (reply.Again a) = Unit {0}
+IsAgain _ = ⊥

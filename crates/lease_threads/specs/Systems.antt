@@ -1,0 +1,25 @@
+-- What a contract sees of a system and of a CPU.
+use Rattle.std.specs.Prelude.{◌≡◌, ℕ, ◌+◌, List, [], Option, sum_by}
+use Rattle.std.specs.Option.{option_to_list}
+use Rattle.deed_core.specs.Covering.{units_tagged}
+use Rattle.deed_core.specs.Holding.{Holding}
+use Rattle.deed_core.specs.Tag.{Tag}
+use Rattle.magazine_layer.specs.Magazines.{cache_rounds}
+use Rattle.arena_tree.specs.declared.trees.TreeArena.{TreeArena}
+use Rattle.lease_threads.specs.Kinds.{KindRoundsState}
+
+-- its arenas by number, and the roots that they own, in order of setup: what stands beside the locks
+pub record SystemState : Type 0 where
+  pub arenas : List TreeArena
+  pub roots : List Holding
+
+-- a CPU: its number, its hand, and its magazines
+pub record CpuState : Type 0 where
+  pub number : ℕ
+  pub hand : Option Tag
+  pub caches : List KindRoundsState
+
+-- the units of its hand and of all its rounds
+abbrev pub cpu_units : CpuState → ℕ
+cpu_units c = units_tagged (option_to_list c.hand)
+    + sum_by (λ r. units_tagged (cache_rounds r.cpu)) c.caches

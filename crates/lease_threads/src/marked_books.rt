@@ -1,0 +1,127 @@
+//! The book of leases as its lock keeps it.
+ghost use Rattle.std.specs.Prelude.{◌≡◌, [], IfNone, IfSome, IfOk, IfErr, OnOk, OnErr};
+ghost use Rattle.deed_core.specs.Request.{Fits};
+ghost use Rattle.lease_book.specs.Answers.{IsNew, IsAnswer, IsHelloFault};
+ghost use Rattle.lease_book.specs.BookState.{Enters, account_in, leased};
+ghost use Rattle.lease_book.specs.Calls.{IsGranted, IsRefused, IsReleased, IsSwept, IsEnded};
+ghost use Rattle.lease_book.specs.Entry.{Hello};
+ghost use Rattle.lease_terms.specs.Requests.{RequestId};
+ghost use Rattle.lease_threads.specs.Replying.{IsReceiptOf, HasReceiptOf};
+
+use arena_tree::{MOST_ARENAS, MOST_SPANS};
+use deed_core::{Request, Segment};
+use deed_table::{Name, Root, SeatDeed};
+use lease_book::{Answer, Book, HelloFault, NotLeased, Receipt};
+use lease_proto::HelloLine;
+use lease_terms::{ClientId, Quantity, Refusal, RequestId};
+use std::marker::Model;
+
+/// The number of the root of the book's mark: the one after those of all arenas.
+pub(crate) const MARK: u32 = (MOST_ARENAS * MOST_SPANS) as u32;
+
+/// The book, with the root of its mark, which has that number.
+pub(crate) struct MarkedBook<N: Name> {
+    pub(crate) book: Book<SeatDeed<N>>,
+    pub(crate) mark: Root<N>,
+}
+
+impl<N: Name> Model for MarkedBook<N> {
+    ghost use Rattle.std.specs.Prelude.{◌≡◌};
+    ghost use Rattle.lease_book.specs.BookState.{BookState};
+    ghost use Rattle.lease_threads.specs.Replying.{mark_root};
+
+    ghost Value = { BookState };
+
+    ghost view = { λ b. b.book };
+
+    ghost invariant = { λ b. (b.book.mark ≡ b.mark) × (b.mark.root ≡ mark_root) };
+}
+
+impl<N: Name> MarkedBook<N> {
+    /// Takes a hello.
+    pub(crate) fn hello(&mut self, hello: &HelloLine) -> Result<(), HelloFault>
+        ensures event { OnOk result
+            (Enters (Hello hello.now.client hello.now.incarnation) self.old self.new) }
+        ensures refused { IfErr result
+            (IsHelloFault (account_in hello.now.client self.old).incarnation
+            hello.now.incarnation) }
+        ensures unchanged { OnErr result (self.new ≡ self.old) }
+    {
+        self.book.hello(hello.client, hello.incarnation)
+    }
+
+    /// Ends a lease of an older incarnation of the client.
+    pub(crate) fn sweep(&mut self, client: ClientId) -> Option<Segment<SeatDeed<N>>>
+        ensures event { IfSome result (λ t. (id : RequestId)
+            × IsSwept self.old self.new client id t) }
+        ensures unchanged { IfNone result (self.new ≡ self.old) }
+    {
+        match self.book.sweep(client) {
+            Some((_, segment)) => Some(segment),
+            None => None,
+        }
+    }
+
+    /// Ends a lease, whichever.
+    pub(crate) fn take_lease(&mut self) -> Option<Segment<SeatDeed<N>>>
+        ensures event { IfSome result (λ t. (id : RequestId) × IsEnded self.old self.new id t) }
+        ensures none { IfNone result (leased self.old ≡ []) }
+        ensures unchanged { IfNone result (self.new ≡ self.old) }
+    {
+        match self.book.take_lease() {
+            Some((_, segment)) => Some(segment),
+            None => None,
+        }
+    }
+
+    /// The answer to a request whose number isn't new.
+    pub(crate) fn look(&self, id: RequestId) -> Option<Answer<SeatDeed<N>>>
+        ensures receipt { IfSome result (HasReceiptOf id) }
+        ensures new { IfNone result (IsNew (account_in id.client self.now) id) }
+    {
+        let look = self.book.look(id);
+        look.answer()
+    }
+
+    /// Settles a request by a refusal.
+    pub(crate) fn refuse(&mut self, id: RequestId, why: Refusal) -> Answer<SeatDeed<N>>
+        ensures receipt { HasReceiptOf id result }
+        ensures event { IsAnswer self.old self.new id (IsRefused self.old self.new id why) ⊥ result }
+    {
+        self.book.refuse(id, why)
+    }
+
+    /// Settles a request by a grant of the segment.
+    pub(crate) fn settle(
+        &mut self,
+        id: RequestId,
+        quantum: u64,
+        request: &Request,
+        segment: Segment<SeatDeed<N>>,
+    ) -> Result<Receipt<SeatDeed<N>>, NotLeased<Segment<SeatDeed<N>>, SeatDeed<N>>>
+        requires fits { Fits quantum request.now
+            segment.holding.range.base segment.holding.range.len }
+        ensures receipt { IfOk result (IsReceiptOf id) }
+        ensures answer { IfErr result (λ e. HasReceiptOf id e.answer) }
+        ensures event { IfOk result (IsGranted self.old self.new id segment
+            (record { quantum = quantum; request = request.now })) }
+        ensures handed_back { IfErr result (λ e. e.segment ≡ segment) }
+    {
+        let arena = segment.arena();
+        self.book.settle(id, arena, quantum, request, segment)
+    }
+
+    /// Settles a request by a release.
+    pub(crate) fn release(
+        &mut self,
+        id: RequestId,
+        arena: u32,
+        base: Quantity,
+    ) -> Result<(Receipt<SeatDeed<N>>, Segment<SeatDeed<N>>), Answer<SeatDeed<N>>>
+        ensures receipt { IfOk result (λ r. IsReceiptOf id r.0) }
+        ensures answer { IfErr result (HasReceiptOf id) }
+        ensures event { IfOk result (λ r. IsReleased self.old self.new id arena base r.0 r.1) }
+    {
+        self.book.release(id, arena, base)
+    }
+}
