@@ -22,10 +22,14 @@ use Rattle.slab_layer.specs.Calls.{TakeOf, ReapOf, AddOf, IsNext}
 use Rattle.slab_layer.specs.declared.faults.AddFault.{AddFault}
 use Rattle.slab_layer.specs.declared.faults.AddFault.TheVariants as adding
 use Rattle.slab_layer.specs.declared.faults.PutFault.TheVariants as putting
-use Rattle.stock.specs.Spaces.{SpaceState, QuantumCacheState, IsCacheAt, with_arena, with_slab, with_caches, plans_of}
+use Rattle.magazine_layer.specs.Magazines.{IsSize}
+use Rattle.magazine_layer.specs.Depots.{DepotState, Begins, CanReap, after_trim, after_tick}
+use Rattle.magazine_layer.specs.Calls.{DepotReapOf, ResizeOf}
+use Rattle.magazine_layer.specs.declared.faults.NotGreater.{NotGreater}
+use Rattle.stock.specs.Spaces.{SpaceState, QuantumCacheState, IsCacheAt, with_arena, with_slab, with_depot, with_caches, plans_of}
 use Rattle.stock.specs.Stocks.{IsStock}
 use Rattle.stock.specs.Accounts.{IsAccounted, Frames}
-use Rattle.stock.specs.Steps.{OnArena, OnSlab, FreeIn, PutIn, CanImport, IsTaggedIn, IsOnGridOf}
+use Rattle.stock.specs.Steps.{OnArena, OnSlab, OnDepot, FreeIn, PutIn, CanImport, IsTaggedIn, IsOnGridOf}
 use Rattle.stock.specs.Answers.{NeverOverlaps, OnlyForMemory}
 use Rattle.stock.proofs.LawProofs.{always_tagged, always_out, out_weighs}
 use Rattle.stock_audit.specs.Outside.{all_rounds_out}
@@ -168,7 +172,7 @@ imports w cpu child size span t q stock taken hands ready held asks on sound fra
 -- a chunk that was taken was idle
 was_idle : (old new : SlabCacheState) (t : Tag) → TakeOf old (Some t) new → ¬ All IsAllOut old.slabs
 was_idle old new t (i, j, s, takes) = λ all. (let out : IsAllOut s = here all takes.next in
-  absurd (false≢true (sym (out j false takes.lowest.within) ∙ takes.lowest.idle)))
+    absurd (false≢true (sym (out j false takes.lowest.within) ∙ takes.lowest.idle)))
   where
     here : All IsAllOut old.slabs → IsNext i s old.slabs → IsAllOut s
     here all (inl low) = subst IsAllOut low.stands.is (all i s low.stands.within)
@@ -192,7 +196,7 @@ pub takes_none : (w : WorldState) (cpu arena cache : ℕ) (stock : List SpaceSta
 takes_none w cpu arena cache stock on =
     let same = slab_same arena cache _ w.stock stock on on.does.1 in (
       λ ready. (let is : on.cache ≡ ready.1 = one_cache w.stock arena cache on.cache ready.1 (record { space = on.space; at = on.at; among = on.among }) ready.2 in
-      ready.3 (subst (λ (c : QuantumCacheState). All IsAllOut c.slab.slabs) is on.does.0)),
+          ready.3 (subst (λ (c : QuantumCacheState). All IsAllOut c.slab.slabs) is on.does.0)),
       λ j. record w { stock = same j },
     )
 
@@ -209,7 +213,7 @@ pub reaps_none : (w : WorldState) (cpu arena cache : ℕ) (stock : List SpaceSta
 reaps_none w cpu arena cache stock on =
     let same = slab_same arena cache _ w.stock stock on on.does.1 in (
       λ ready. (let is : on.cache ≡ ready.1 = one_cache w.stock arena cache on.cache ready.1 (record { space = on.space; at = on.at; among = on.among }) ready.2 in
-      ready.3 (subst (λ (c : QuantumCacheState). All (λ s. ¬ IsComplete s) c.slab.slabs) is on.does.0)),
+          ready.3 (subst (λ (c : QuantumCacheState). All (λ s. ¬ IsComplete s) c.slab.slabs) is on.does.0)),
       λ j. record w { stock = same j },
     )
 
@@ -284,6 +288,54 @@ import_wants_memory w cpu child size span back q stock taken hands ready held on
     let stays = arena_same child _ w.stock stock on on.does.1 in
     let again = put_same w.hands taken hands cpu span back held out put on.does.0.2 in
     (ready, λ j. record w { stock = stays j; hands = again j })
+
+-- Depots.
+
+depot_same : (k j : ℕ) (P : DepotState → DepotState → Type 0) (old new : List SpaceState) (on : OnDepot k j P old new) → on.depot ≡ on.cache.depot → new ≡ old
+depot_same k j P old new on same =
+    let caches : set on.space.caches j (with_depot on.depot on.cache) ≡ on.space.caches = ap (λ (x : DepotState). set on.space.caches j (with_depot x on.cache)) same ∙ set_same on.space.caches j on.cache on.among in
+    on.after ∙ ap (λ (cs : List QuantumCacheState). set old k (with_caches cs on.space)) caches ∙ set_same old k on.space on.at
+
+begins_reap : (d begun : DepotState) → Begins (after_trim d) begun → CanReap d
+begins_reap d begun (inl draining) = inl draining.0
+begins_reap d begun (inr (inl old)) = inr (inl (subst (λ (xs : List (List Tag)). 0 < length xs) (sym old.oldest) (omega arith)))
+begins_reap d begun (inr (inr full)) = inr (inr full.some)
+
+pub reaps_round : (w : WorldState) (cpu arena cache : ℕ) (t : Tag) (stock : List SpaceState) (hands : List (Option Tag)) → HasInHand w cpu None
+    → OnDepot arena cache (λ a b. DepotReapOf a (Some t) b) w.stock stock → IsStock stock → Frames w.stock [] stock (t ∷ []) → plans_of stock ≡ plans_of w.stock → hands ≡ set w.hands cpu (Some t)
+    → EndsAs (events.DepotReaps cpu arena cache) Done w (record w { stock = stock; hands = hands })
+reaps_round w cpu arena cache t stock hands empty on sound frame fixed moved = (
+  (empty, on.cache, record { space = on.space; at = on.at; among = on.among }, begins_reap on.cache.depot on.does.0 on.does.1),
+  (t, hand_moves w cpu None (Some t) _ stock hands empty on (record { stock = sound; frame = frame; fixed = fixed }) moved),
+)
+
+pub reaps_no_round : (w : WorldState) (cpu arena cache : ℕ) (stock : List SpaceState) → OnDepot arena cache (λ a b. DepotReapOf a None b) w.stock stock
+    → IsStock stock → Frames w.stock [] stock [] → plans_of stock ≡ plans_of w.stock → EndsAs (events.DepotReaps cpu arena cache) NotEnabled w (record w { stock = stock })
+reaps_no_round w cpu arena cache stock on sound frame fixed = (
+  λ ready. (let is : on.cache ≡ ready.1 = one_cache w.stock arena cache on.cache ready.1 (record { space = on.space; at = on.at; among = on.among }) ready.2 in
+      on.does.0 (subst (λ (c : QuantumCacheState). CanReap c.depot) (sym is) ready.3)),
+  inr (record { stock = stock; does = on; step = record { stock = sound; frame = frame; fixed = fixed }; after = refl }),
+)
+
+pub ticks : (w : WorldState) (arena cache : ℕ) (stock : List SpaceState) → OnDepot arena cache (λ a b. b ≡ after_tick a) w.stock stock
+    → IsStock stock → Frames w.stock [] stock [] → plans_of stock ≡ plans_of w.stock → EndsAs (events.Ticks arena cache) Done w (record w { stock = stock })
+ticks w arena cache stock on sound frame fixed = (
+  (on.cache, record { space = on.space; at = on.at; among = on.among }),
+  record { stock = stock; does = on; step = record { stock = sound; frame = frame; fixed = fixed }; after = refl },
+)
+
+pub resizes : (w : WorldState) (arena cache size : ℕ) (stock : List SpaceState) → IsSize size → OnDepot arena cache (λ a b. ResizeOf a size (Ok tt) b) w.stock stock
+    → IsStock stock → Frames w.stock [] stock [] → plans_of stock ≡ plans_of w.stock → EndsAs (events.Resizes arena cache size) Done w (record w { stock = stock })
+resizes w arena cache size stock sized on sound frame fixed = (
+  (on.cache, record { space = on.space; at = on.at; among = on.among }, sized, on.does.0),
+  record { stock = stock; does = on; step = record { stock = sound; frame = frame; fixed = fixed }; after = refl },
+)
+
+pub resize_is_no_greater : (w : WorldState) (arena cache size : ℕ) (stock : List SpaceState) (fault : NotGreater) → IsSize size → OnDepot arena cache (λ a b. ResizeOf a size (Err fault) b) w.stock stock
+    → EndsAs (events.Resizes arena cache size) (Refused faults.NotGreater) w (record w { stock = stock })
+resize_is_no_greater w arena cache size stock fault sized on =
+    let same = depot_same arena cache _ w.stock stock on on.does.1 in
+    ((on.cache, record { space = on.space; at = on.at; among = on.among }, sized, on.does.0), λ j. record w { stock = same j })
 
 -- Tries.
 

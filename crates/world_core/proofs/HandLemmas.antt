@@ -1,5 +1,5 @@
 -- What is out of the parts, as hands and leases change.
-use Rattle.std.proofs.Common.{◌≡◌, ℕ, ◌+◌, List, ◌++◌, set, Option, Some, None, refl, arith}
+use Rattle.std.proofs.Common.{◌≡◌, ℕ, ◌+◌, List, [], ◌++◌, set, Option, Some, None, refl, arith}
 use Rattle.std.specs.Prelude.{slice_get, sum_by}
 use Rattle.std.specs.Option.{option_to_list}
 use Rattle.std.proofs.lemmas.List.Sums.{sum_by-append}
@@ -20,6 +20,17 @@ pub hand_set : (f : Tag → ℕ) (hands : List (Option Tag)) (cpu : ℕ) (old ne
 hand_set f hands cpu old new at =
     let e = sum_set (λ o. sum_by f (option_to_list o)) hands cpu old new at in
     omega (arith, e, sum_by-flat_map f option_to_list (set hands cpu new), sum_by-flat_map f option_to_list hands)
+
+-- a part did something with no hand
+pub part_moved : (spaces after : List SpaceState) (hands leases : List Tag) (cpus : List OwnCacheState) → IsStep spaces [] after [] → IsAccountedFor spaces (outside hands leases cpus)
+    → IsAccountedFor after (outside hands leases cpus)
+part_moved spaces after hands leases cpus step a = hand_steps_keep spaces after [] [] (outside hands leases cpus) (outside hands leases cpus) a step (record {
+  rest = hands;
+  gave = λ f. refl;
+  took = λ f. refl;
+  leases = refl;
+  cpus = refl;
+})
 
 module _ (spaces : List SpaceState) (hands : List (Option Tag)) (leases : List Tag) (cpus : List OwnCacheState) (cpu : ℕ) (old new : Option Tag) (at : slice_get hands cpu ≡ Some old) where
   -- a part was given what the hand had, and answered what it has now

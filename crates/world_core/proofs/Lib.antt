@@ -5,6 +5,7 @@ mod CallLemmas
 mod TalkLemmas
 mod BookingLemmas
 mod Keeps
+mod HeldLemmas
 mod Safety
 mod PartLemmas
 mod BookLemmas

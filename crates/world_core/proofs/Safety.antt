@@ -1,19 +1,11 @@
 -- A world is safe.
-use Rattle.std.proofs.Common.{◌≡◌, ℕ, zero, suc, ◌<◌, ◌≤◌, ◌==◌, Bool, true, false, List, [], ◌∷◌, ◌++◌, map, filter, length, Some, None, refl, sym, subst, ap, arith}
+use Rattle.std.proofs.Common.{◌≡◌, ℕ, zero, suc, ◌≤◌, ◌==◌, Bool, true, false, List, [], ◌∷◌, map, Some, None, refl, subst, ap, arith}
 use Rattle.std.specs.Prelude.{slice_get, if◌then◌else◌, sum_by}
-use Rattle.std.specs.Str.{bytes_eq}
-use Rattle.std.proofs.lemmas.List.Sums.{sum_by-cons, sum_by-append}
-use Rattle.std.proofs.lemmas.Bool.Decides.{nat_tests}
-use Rattle.std.proofs.lemmas.Slice.Eq.{bytes_eq-Decides}
+use Rattle.std.proofs.lemmas.List.Sums.{sum_by-cons}
 use Rattle.deed_core.specs.Tag.{Tag}
 use Rattle.deed_core.specs.Request.{Fits}
-use Rattle.deed_core.specs.Covering.{covers, covers_held, covers_tag, covering_held}
-use Rattle.deed_core.specs.Selections.{is_of_arena}
-use Rattle.deed_core.specs.Weights.{of_arena}
-use Rattle.deed_core.proofs.LawProofs.{sum_by-map, sum_by-filter, slice_get_some}
-use Rattle.stock.specs.Spaces.{SpaceState}
+use Rattle.deed_core.proofs.LawProofs.{sum_by-map}
 use Rattle.stock.specs.Accounts.{IsAccounted}
-use Rattle.stock.specs.Sums.{places_of, held_of}
 use Rattle.stock.proofs.LawProofs.{one_place}
 use Rattle.stock_audit.specs.Outside.{out_of, segments_out}
 use Rattle.stock_audit.proofs.LawProofs.{accounted_balances}
@@ -33,8 +25,9 @@ use Rattle.lease_history.specs.Told.{IsOutcome, MayTell}
 use Rattle.lease_history.proofs.LawProofs.{held_is_leased, replies_agree}
 use Rattle.world_core.specs.WorldState.{WorldState, arena_name, outside_of}
 use Rattle.world_core.specs.IsWorld.{IsWorld}
-use Rattle.world_core.specs.Safe.{has_unit, holders, SettlesIt, Safe, AlwaysSafe}
+use Rattle.world_core.specs.Safe.{SettlesIt, Safe, AlwaysSafe}
 use Rattle.world_core.proofs.Keeps.{events_keep}
+use Rattle.world_core.proofs.HeldLemmas.{held_apart}
 
 sum_le : {X : Type 0} (f g : X → ℕ) (xs : List X) → ((k : ℕ) (x : X) → slice_get xs k ≡ Some x → f x ≤ g x) → sum_by f xs ≤ sum_by g xs
 sum_le f g [] le = omega arith
@@ -67,55 +60,6 @@ all_held w is f =
 
 accounted : (w : WorldState) → IsWorld w → IsAccounted w.stock (segments_out (outside_of w))
 accounted w is = accounted_balances w.stock (outside_of w) is.parts
-
-same_name : (a b : List ℕ) → bytes_eq a b ≡ true → a ≡ b
-same_name a b is = (bytes_eq-Decides a b).0 is
-
--- by its name a segment is of the arena at a place
-by_arena : (w : WorldState) → IsWorld w → (place unit : ℕ) → place < length w.names → (t : Tag)
-    → has_unit (arena_name w.names place) unit (told_segment (arena_name w.names) t) ≤ of_arena place (covers_tag unit) t
-by_arena w is place unit within t = by (bytes_eq (arena_name w.names t.arena) (arena_name w.names place)) refl
-  where
-    there : ℕ
-    there = covers unit t.holding.range
-
-    by : (b : Bool) → bytes_eq (arena_name w.names t.arena) (arena_name w.names place) ≡ b → (if b then there else 0) ≤ (if t.arena == place then there else 0)
-    by true same =
-        let home : t.arena ≡ place = is.names t.arena place within (same_name _ _ same) in
-        let yes : (t.arena == place) ≡ true = grind (arith, nat_tests) in
-        let e : (if t.arena == place then there else 0) ≡ there = ap (λ (b : Bool). if b then there else 0) yes in
-        omega arith
-    by false same = omega arith
-
--- what is leased of an arena is in one of its places
-leased_le : (w : WorldState) → IsWorld w → (place unit : ℕ) (s : SpaceState) → slice_get w.stock place ≡ Some s
-    → sum_by (of_arena place (covers_tag unit)) (leased w.book) ≤ 1
-leased_le w is place unit s at =
-    let p = places_of w.stock (out_of (outside_of w)) s in
-    let one = one_place w.stock (out_of (outside_of w)) (accounted w is) place s at unit in
-    let id : s.arena.id ≡ place = (is.parts.parts place s at).id in
-    let kept : sum_by (of_arena place (covers_tag unit)) (leased w.book) ≡ sum_by (covers_tag unit) (filter (is_of_arena place) (leased w.book)) = sym (sum_by-filter (is_of_arena place) (covers_tag unit) (leased w.book)) in
-    let mapped : covering_held unit (held_of place (leased w.book)) ≡ sum_by (covers_tag unit) (filter (is_of_arena place) (leased w.book)) = sum_by-map (covers_held unit) (λ (t : Tag). t.holding) (filter (is_of_arena place) (leased w.book)) in
-    let here : covering_held unit p.leased ≡ covering_held unit (held_of place (leased w.book)) = ap (λ (k : ℕ). covering_held unit (held_of k (leased w.book))) id in
-    omega (
-      arith,
-      sum_by-append (covers_held unit) p.free (p.slab ++ (p.magazine ++ (p.exported ++ (p.leased ++ p.hand)))),
-      sum_by-append (covers_held unit) p.slab (p.magazine ++ (p.exported ++ (p.leased ++ p.hand))),
-      sum_by-append (covers_held unit) p.magazine (p.exported ++ (p.leased ++ p.hand)),
-      sum_by-append (covers_held unit) p.exported (p.leased ++ p.hand),
-      sum_by-append (covers_held unit) p.leased p.hand,
-      one.0,
-      one.1,
-    )
-
-apart_one : (w : WorldState) → IsWorld w → (place unit : ℕ) → place < length w.names → holders w place unit ≤ 1
-apart_one w is place unit within =
-    let space = slice_get_some w.stock place (let e = is.named in omega arith) in
-    let name = arena_name w.names place in
-    let all = all_held w is (has_unit name unit) in
-    let le = sum_le (λ (t : Tag). has_unit name unit (told_segment (arena_name w.names) t)) (of_arena place (covers_tag unit)) (leased w.book) (λ k t at. by_arena w is place unit within t) in
-    let one = leased_le w is place unit space.0 space.1 in
-    omega arith
 
 -- what a reply tells of the request that it settles
 told_of : (names : ℕ → List ℕ) (es : _) (id : RequestId) (reply : Reply) → MayTell names es reply → SettlesIt id reply → IsOutcome names es id reply
@@ -151,7 +95,7 @@ safe w is = record {
     asked = is.due among.0 (Settled id (Grant t terms)) among.1;
   };
   held = λ k c at f. held_is_leased (arena_name w.names) w.entries c f (is.known k c at);
-  apart = apart_one w is;
+  apart = held_apart w is (all_held w is);
   replies = λ id a b x y sa sb. replies_agree (arena_name w.names) w.entries id a b
       (told_of (arena_name w.names) w.entries id a (is.told x.0 a x.1) sa)
       (told_of (arena_name w.names) w.entries id b (is.told y.0 b y.1) sb);

@@ -12,10 +12,10 @@ use Rattle.stock_audit.specs.Keeping.{IsStep}
 use Rattle.lease_proto.specs.declared.lines.Line.{Line}
 use Rattle.lease_book.specs.Entry.{Entry, Settled, Hello, Swept, Grant, Return, Refuse}
 use Rattle.lease_book.specs.BookState.{leased}
-use Rattle.world_core.specs.WorldState.{WorldState}
-use Rattle.world_core.specs.Moves.{HandMoves}
+use Rattle.world_core.specs.WorldState.{WorldState, in_hands}
+use Rattle.world_core.specs.Moves.{HandMoves, PartMoves}
 use Rattle.world_core.specs.IsWorld.{IsWorld, IsDue}
-use Rattle.world_core.proofs.HandLemmas.{hand_moved}
+use Rattle.world_core.proofs.HandLemmas.{hand_moved, part_moved}
 
 -- an arena keeps its quantum
 quantum_stays : (old new : List SpaceState) → plans_of new ≡ plans_of old → (k q : ℕ) → HasQuantum old k q → HasQuantum new k q
@@ -39,6 +39,24 @@ due_stays old new names requests (Settled id (Return a b)) fixed due = tt
 due_stays old new names requests (Settled id (Refuse why)) fixed due = tt
 due_stays old new names requests (Hello c i) fixed due = tt
 due_stays old new names requests (Swept c i a b) fixed due = tt
+
+-- whatever a part does with no hand
+pub part_move_keeps : (Does : List SpaceState → List SpaceState → Type 0) (w v : WorldState) → IsWorld w → PartMoves Does w v → IsWorld v
+part_move_keeps Does w v is m =
+    let stay = plans_stay w.stock m.stock m.step.fixed in
+    subst IsWorld (sym m.after) (record {
+      parts = part_moved w.stock m.stock (in_hands w.hands) (leased w.book) [] m.step is.parts;
+      named = is.named ∙ sym stay.0;
+      few = is.few;
+      names = is.names;
+      book = is.book;
+      due = λ k e at. due_stays w.stock m.stock w.names w.requests e m.step.fixed (is.due k e at);
+      ids = is.ids;
+      known = is.known;
+      said = is.said;
+      tasks = is.tasks;
+      told = is.told;
+    })
 
 -- whatever a part does with a hand
 pub hand_move_keeps : (cpu : ℕ) (given answered : Option Tag) (Does : List SpaceState → List SpaceState → Type 0) (w v : WorldState) → IsWorld w → HandMoves cpu given answered Does w v → IsWorld v

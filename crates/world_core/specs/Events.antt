@@ -1,5 +1,5 @@
 -- The events, and what may become of a world at each.
-use Rattle.std.specs.Prelude.{◌≡◌, ◌≢◌, ◌⊎◌, ℕ, ◌<◌, true, false, All, List, [], ◌∷◌, length, slice_get, Option, Some, None, Ok}
+use Rattle.std.specs.Prelude.{◌≡◌, ◌≢◌, ◌⊎◌, ℕ, ◌<◌, ◌≤◌, true, false, All, List, [], ◌∷◌, length, slice_get, Option, Some, None, Ok}
 use Rattle.deed_core.specs.Tag.{Tag}
 use Rattle.deed_core.specs.Request.{Fits, IsGood, plain_of}
 use Rattle.deed_core.specs.declared.requests.Request.{Request}
@@ -8,8 +8,11 @@ use Rattle.tag_arena.specs.ArenaState.{IsChosen}
 use Rattle.tag_arena.specs.Outcomes.{Carved, Imported}
 use Rattle.slab_layer.specs.Slab.{IsAllOut, IsComplete}
 use Rattle.slab_layer.specs.Calls.{TakeOf, AddOf, ReapOf}
-use Rattle.stock.specs.Spaces.{SpaceState, QuantumCacheState, IsCacheAt}
-use Rattle.stock.specs.Steps.{HasQuantum, OnArena, OnSlab, FreeIn, PutIn, CanImport, IsTaggedIn, IsOutOf}
+use Rattle.magazine_layer.specs.Magazines.{IsSize}
+use Rattle.magazine_layer.specs.Depots.{CanReap, after_tick}
+use Rattle.magazine_layer.specs.Calls.{DepotReapOf, ResizeOf}
+use Rattle.stock.specs.Spaces.{SpaceState, QuantumCacheState, IsCacheAt, HasCache}
+use Rattle.stock.specs.Steps.{HasQuantum, OnArena, OnSlab, OnDepot, FreeIn, PutIn, CanImport, IsTaggedIn, IsOutOf}
 use Rattle.lease_terms.specs.Requests.{RequestId}
 use Rattle.lease_terms.specs.declared.refusals.Refusal.TheVariants.{NotYours, Leases}
 use Rattle.lease_proto.specs.declared.lines.LeaseLine.{LeaseLine}
@@ -29,7 +32,7 @@ use Rattle.world_core.specs.declared.events.EventFault.{EventFault}
 use Rattle.world_core.specs.declared.events.EventFault.TheVariants as faults
 use Rattle.world_core.specs.declared.events.Outcome.TheVariants.{Done, NotEnabled, NoMemory, Refused}
 use Rattle.world_core.specs.WorldState.{WorldState, IsAmong}
-use Rattle.world_core.specs.Moves.{request_in, HasTask, IsNamed, ClientSays, ClientHears, HelloTaken, HelloRefused, AnsweredAtOnce, TaskTaken, TaskGranted, TaskRefused, TaskReleased, TaskAnswered, TaskGivenUp, HandMoves, LeaseSwept, HasAllLeases, HasNoSuchLease}
+use Rattle.world_core.specs.Moves.{request_in, HasTask, IsNamed, ClientSays, ClientHears, HelloTaken, HelloRefused, AnsweredAtOnce, TaskTaken, TaskGranted, TaskRefused, TaskReleased, TaskAnswered, TaskGivenUp, HandMoves, PartMoves, LeaseSwept, HasAllLeases, HasNoSuchLease}
 
 -- what a CPU would lease: its hand's segment is of the arena that the lease names, and fits it
 pub record CanGrant (w : WorldState) (cpu : ℕ) (id : RequestId) (lease : LeaseLine) (segment : Tag)
@@ -103,6 +106,10 @@ IsReady (events.SlabAdds cpu arena cache) w = (span : Tag) × (c : QuantumCacheS
     × HasSpanFor w cpu arena cache span c
 IsReady (events.SlabReaps cpu arena cache) w = HasInHand w cpu None × (c : QuantumCacheState)
     × IsCacheAt w.stock arena cache c × ¬ All (λ s. ¬ IsComplete s) c.slab.slabs
+IsReady (events.DepotReaps cpu arena cache) w = HasInHand w cpu None × (c : QuantumCacheState)
+    × IsCacheAt w.stock arena cache c × CanReap c.depot
+IsReady (events.Ticks arena cache) w = HasCache w.stock arena cache
+IsReady (events.Resizes arena cache size) w = HasCache w.stock arena cache × IsSize size
 
 -- where it can happen: where its part doesn't refuse it either
 abbrev pub IsEnabled : WorldEvent → WorldState → Type 0
@@ -116,6 +123,8 @@ IsEnabled (events.Carves cpu arena q) w = HasInHand w cpu None × (s : SpaceStat
     × (slice_get w.stock arena ≡ Some s) × CanCarve s q
 IsEnabled (events.SlabAdds cpu arena cache) w = (span : Tag) × (c : QuantumCacheState)
     × HasSpanFor w cpu arena cache span c × (span.holding.range.len ≡ c.slab.slab_size)
+IsEnabled (events.Resizes arena cache size) w = (c : QuantumCacheState)
+    × IsCacheAt w.stock arena cache c × IsSize size × (c.depot.size < size)
 IsEnabled event w = IsReady event w
 
 -- why its part refuses an event that can be tried
@@ -139,6 +148,8 @@ IsRefused (events.Carves cpu arena q) faults.NoFit w = HasInHand w cpu None × (
 IsRefused (events.SlabAdds cpu arena cache) faults.WrongSize w = (span : Tag)
     × (c : QuantumCacheState) × HasSpanFor w cpu arena cache span c
     × (span.holding.range.len ≢ c.slab.slab_size)
+IsRefused (events.Resizes arena cache size) faults.NotGreater w = (c : QuantumCacheState)
+    × IsCacheAt w.stock arena cache c × IsSize size × (size ≤ c.depot.size)
 IsRefused event why w = ⊥
 
 -- where an event may ask for memory: some never do, and a sweep asks before it looks for a lease
@@ -149,6 +160,9 @@ MayWantMemory (events.Frees cpu) w = ⊥
 MayWantMemory (events.SlabTakes cpu arena cache) w = ⊥
 MayWantMemory (events.SlabPuts cpu) w = ⊥
 MayWantMemory (events.SlabReaps cpu arena cache) w = ⊥
+MayWantMemory (events.DepotReaps cpu arena cache) w = ⊥
+MayWantMemory (events.Ticks arena cache) w = ⊥
+MayWantMemory (events.Resizes arena cache size) w = ⊥
 MayWantMemory event w = IsReady event w
 
 -- the move of an event
@@ -184,12 +198,25 @@ MovesBy (events.SlabAdds cpu arena cache) old new = (span t : Tag)
     × HandMoves cpu (Some span) (Some t) (OnSlab arena cache (λ a b. AddOf a span (Ok t) b)) old new
 MovesBy (events.SlabReaps cpu arena cache) old new = (t : Tag)
     × HandMoves cpu None (Some t) (OnSlab arena cache (λ a b. ReapOf a (Some t) b)) old new
+MovesBy (events.DepotReaps cpu arena cache) old new = (t : Tag)
+    × HandMoves cpu None (Some t) (OnDepot arena cache (λ a b. DepotReapOf a (Some t) b)) old new
+MovesBy (events.Ticks arena cache) old new =
+    PartMoves (OnDepot arena cache (λ a b. b ≡ after_tick a)) old new
+MovesBy (events.Resizes arena cache size) old new =
+    PartMoves (OnDepot arena cache (λ a b. ResizeOf a size (Ok tt) b)) old new
 
--- how an event ends: by its move just where it can happen, memory aside; else, with no change, by its
--- part's refusal, or as not enabled where it can't even be tried
+-- an event that can't be tried changes nothing, but that a depot with no round to reap lets its
+-- spare empty magazines go
+abbrev pub LeavesAll : WorldEvent → (old new : WorldState) → Type 0
+LeavesAll (events.DepotReaps cpu arena cache) old new = (new ≡ old)
+    ⊎ PartMoves (OnDepot arena cache (λ a b. DepotReapOf a None b)) old new
+LeavesAll event old new = new ≡ old
+
+-- how an event ends: by its move just where it can happen, memory aside; else, with no change, by
+-- its part's refusal, or as not enabled where it can't even be tried
 abbrev pub EndsAs : WorldEvent → Outcome → (old new : WorldState) → Type 0
 EndsAs event Done old new = IsEnabled event old × MovesBy event old new
-EndsAs event NotEnabled old new = (¬ IsReady event old) × (new ≡ old)
+EndsAs event NotEnabled old new = (¬ IsReady event old) × LeavesAll event old new
 EndsAs event (Refused why) old new = IsRefused event why old × (new ≡ old)
 EndsAs event NoMemory old new = MayWantMemory event old × (new ≡ old)
 

@@ -243,6 +243,14 @@ pub record HandMoves (cpu : ℕ) (given answered : Option Tag)
   pub step : IsStep old.stock (option_to_list given) stock (option_to_list answered)
   pub after : new ≡ record old { stock = stock; hands = set old.hands cpu answered }
 
+-- a part does so with no hand
+pub record PartMoves (Does : (old new : List SpaceState) → Type 0) (old new : WorldState)
+    : Type 0 where
+  pub stock : List SpaceState
+  pub does : Does old.stock stock
+  pub step : IsStep old.stock [] stock []
+  pub after : new ≡ record old { stock = stock }
+
 -- a lease of an incarnation of the client that has passed comes into the CPU's empty hand
 pub record LeaseSwept (cpu client : ℕ) (old new : WorldState) : Type 0 where
   pub id : RequestId

@@ -1,11 +1,12 @@
 -- What holds of every world, in the words of whoever relies on it.
-use Rattle.std.specs.Prelude.{◌≡◌, ◌<◌, ◌≤◌, ℕ, List, length, slice_get, Some, sum_by, if◌then◌else◌}
-use Rattle.std.specs.Str.{bytes_eq}
-use Rattle.deed_core.specs.Covering.{covers, covering_held}
+use Rattle.std.specs.Prelude.{◌≡◌, ◌≤◌, ℕ, List, slice_get, Some, sum_by}
+use Rattle.deed_core.specs.Covering.{covering_held}
+use Rattle.deed_core.specs.Extent.{Covers}
 use Rattle.deed_core.specs.Request.{Fits}
 use Rattle.deed_core.specs.Tag.{Tag}
 use Rattle.tag_arena.specs.ArenaState.{spans_of}
 use Rattle.stock.specs.Spaces.{SpaceState}
+use Rattle.stock.specs.Laws.{HasTop}
 use Rattle.stock.specs.Sums.{places_of, all_places}
 use Rattle.stock_audit.specs.Outside.{out_of}
 use Rattle.stock_audit.specs.Accounted.{IsAccountedFor}
@@ -22,11 +23,12 @@ use Rattle.lease_history.specs.Known.{weight_in}
 use Rattle.world_core.specs.declared.events.WorldEvent.{WorldEvent}
 use Rattle.world_core.specs.declared.events.Outcome.{Outcome}
 use Rattle.world_core.specs.WorldState.{WorldState, arena_name, outside_of, IsAmong, Each}
+use Rattle.world_core.specs.Moves.{IsNamed}
 use Rattle.world_core.specs.IsWorld.{IsWorld, IsAsked}
 use Rattle.world_core.specs.Events.{HappensTo}
 
--- each unit of an arena's spans is in one place, and no other unit in any: free, at home in a slab, in
--- a magazine, a child's span, leased, or in a hand
+-- each unit of an arena's spans is in one place, and no other unit in any: free, at home in a slab,
+-- in a magazine, a child's span, leased, or in a hand
 pub record IsInOnePlaceOf (w : WorldState) (s : SpaceState) (unit : ℕ) : Type 0 where
   pub once : covering_held unit (all_places (places_of w.stock (out_of (outside_of w)) s))
       ≡ covering_held unit (spans_of s.arena)
@@ -46,15 +48,20 @@ HoldsLeases w c = (f : HeldSegment → ℕ)
     → sum_by f c.held
     ≤ sum_by (weight_in (arena_name w.names) c.incarnation f) (leases_of c.id w.entries)
 
--- 1 where the segment is of the arena of this name and has the unit
-abbrev pub has_unit : List ℕ → ℕ → HeldSegment → ℕ
-has_unit name unit s =
-    if bytes_eq s.arena name then covers unit (record { base = s.base; len = s.len }) else 0
+-- the segment that a client holds is of an arena of the space with this top, and has the unit
+pub record CoversIn (w : WorldState) (top unit : ℕ) (s : HeldSegment) : Type 0 where
+  pub place : ℕ
+  pub named : IsNamed w place s.arena
+  pub under : HasTop w.stock place top
+  pub has : Covers (record { base = s.base; len = s.len }) unit
 
--- how many of the segments that clients hold have the unit of the arena at the place
-abbrev pub holders : WorldState → ℕ → ℕ → ℕ
-holders w place unit =
-    sum_by (λ c. sum_by (has_unit (arena_name w.names place) unit) c.held) w.clients
+-- no unit of a space is in two segments that clients hold: the two are one, in one place of one
+-- client's list
+abbrev pub HeldApart : WorldState → Type 0
+HeldApart w = (top unit : ℕ) (c d i j : ℕ) (x y : ClientState) (s t : HeldSegment)
+    → slice_get w.clients c ≡ Some x → slice_get x.held i ≡ Some s
+    → slice_get w.clients d ≡ Some y → slice_get y.held j ≡ Some t
+    → CoversIn w top unit s → CoversIn w top unit t → (c ≡ d) × (i ≡ j)
 
 -- the reply settles the request
 abbrev pub SettlesIt : RequestId → Reply → Type 0
@@ -63,9 +70,9 @@ SettlesIt id (replies.Released of) = of ≡ id
 SettlesIt id (replies.Refused r) = r.id ≡ id
 SettlesIt id reply = ⊥
 
--- All units are accounted for, and each stands in one place. The book is what is read off its entries. Each grant was asked for
--- and fits. Clients hold what is leased to them, and no unit is in two segments that they hold. And
--- any two replies that settle one request are equal.
+-- All units are accounted for, and each stands in one place. The book is what is read off its
+-- entries. Each grant was asked for and fits. Clients hold what is leased to them, and no unit of a
+-- space is in two segments that they hold. And any two replies that settle one request are equal.
 pub record Safe (w : WorldState) : Type 0 where
   pub parts : IsAccountedFor w.stock (outside_of w)
   pub places : (k : ℕ) (s : SpaceState) → slice_get w.stock k ≡ Some s → (unit : ℕ)
@@ -74,7 +81,7 @@ pub record Safe (w : WorldState) : Type 0 where
   pub grants : (id : RequestId) (segment : Tag) (terms : Terms)
       → IsAmong (Settled id (Grant segment terms)) w.entries → IsMet w id segment terms
   pub held : Each (HoldsLeases w) w.clients
-  pub apart : (place unit : ℕ) → place < length w.names → holders w place unit ≤ 1
+  pub apart : HeldApart w
   pub replies : (id : RequestId) (a b : Reply) → IsAmong a w.replies → IsAmong b w.replies
       → SettlesIt id a → SettlesIt id b → a ≡ b
 

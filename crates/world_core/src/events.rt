@@ -93,13 +93,30 @@ pub enum WorldEvent {
         arena: usize,
         cache: usize,
     },
+    /// A CPU takes a round that may be reaped out of the depot of a cache.
+    DepotReaps {
+        cpu: usize,
+        arena: usize,
+        cache: usize,
+    },
+    /// An interval begins in a depot.
+    Ticks {
+        arena: usize,
+        cache: usize,
+    },
+    /// A depot keeps magazines of a greater size from here on.
+    Resizes {
+        arena: usize,
+        cache: usize,
+        size: usize,
+    },
 }
 
 /// Why a part refuses an event.
 #[derive(Clone, Copy, Debug, PartialEq, Eq)]
 pub enum EventFault {
     /// The incarnation isn't above the client's and each that an accepted `old` named, or it is
-    /// above 2^62.
+    /// above 2^62. Or the size isn't above the depot's.
     NotGreater,
     /// No `welcome` has come yet to the client's hello.
     NotOpen,

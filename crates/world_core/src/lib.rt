@@ -7,12 +7,13 @@
 //! sent stay, so any of them may come at any time, any number of times, or never; a CPU stops
 //! between two events by having no further ones. Whatever list of events happens, the world stays
 //! one (`specs/IsWorld.antt`), and so it is safe (`specs/Safe.antt`): each unit is in one place,
-//! each grant was asked for and fits, what clients hold is leased to them and no unit is in two
-//! segments that they hold, and any two replies that settle one request are equal.
+//! each grant was asked for and fits, what clients hold is leased to them and no unit of a space is
+//! in two segments that they hold, and any two replies that settle one request are equal.
 //!
-//! Begin with [`World::step`] and `specs/Events.antt`: where each event can happen, and what may
-//! become of a world at it; `specs/Moves.antt` has the moves. CPUs have no magazines yet. What holds
-//! of every list of events holds from any world that is one.
+//! Begin with [`World::step`] and `specs/Events.antt`: where each event can be tried, where it can
+//! happen, why its part refuses it, and what may become of a world at it; `specs/Moves.antt` has the
+//! moves. CPUs have no magazines here yet, and none fails. What holds of every list of events holds
+//! from any world that is one.
 //!
 //! What it costs: a world keeps each line, reply and entry of the book for good. An event takes the
 //! time of its part's call, and a release looks the name of its arena up among all names.
@@ -20,6 +21,7 @@
 
 mod booking;
 mod carving;
+mod depots;
 mod events;
 mod hands;
 mod laws;

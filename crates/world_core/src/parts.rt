@@ -172,6 +172,9 @@ impl<D: Deed> WorldParts<D> {
             WorldEvent::SlabPuts { cpu } => self.slab_put(cpu),
             WorldEvent::SlabAdds { cpu, arena, cache } => self.slab_add(cpu, arena, cache),
             WorldEvent::SlabReaps { cpu, arena, cache } => self.slab_reap(cpu, arena, cache),
+            WorldEvent::DepotReaps { cpu, arena, cache } => self.depot_reap(cpu, arena, cache),
+            WorldEvent::Ticks { arena, cache } => self.tick(arena, cache),
+            WorldEvent::Resizes { arena, cache, size } => self.resize(arena, cache, size),
         }
     }
 }

@@ -1,0 +1,192 @@
+-- No two segments that clients hold have a unit of a space in common.
+use Rattle.std.proofs.Common.{◌≡◌, ◌≢◌, ◌⊎◌, ℕ, zero, suc, ◌+◌, ◌<◌, ◌≤◌, ◌==◌, Bool, true, false, ◌||◌, List, [], ◌∷◌, ◌++◌, get_or, Some, None, refl, sym, subst, ap, ◌∙◌, inl, inr, arith}
+use Rattle.std.specs.Prelude.{slice_get, if◌then◌else◌, sum_by}
+use Rattle.std.specs.Str.{bytes_eq}
+use Rattle.std.proofs.lemmas.Option.{slice_get_within, get_or_from_slice_get}
+use Rattle.std.proofs.lemmas.List.Sums.{sum_by-cons, sum_by-append}
+use Rattle.std.proofs.lemmas.Bool.Decides.{nat_tests}
+use Rattle.std.proofs.lemmas.Slice.Eq.{bytes_eq-Decides}
+use Rattle.deed_core.specs.Tag.{Tag}
+use Rattle.deed_core.specs.Extent.{Extent, Covers}
+use Rattle.deed_core.specs.Covering.{covers}
+use Rattle.deed_core.proofs.LawProofs.{covers_is}
+use Rattle.stock.specs.Laws.{HasTop, ApartUpChain}
+use Rattle.stock_audit.specs.Outside.{segments_out}
+use Rattle.stock_audit.proofs.LawProofs.{out_never_overlaps}
+use Rattle.lease_book.specs.BookState.{leased}
+use Rattle.lease_client.specs.declared.held.HeldSegment.{HeldSegment}
+use Rattle.lease_client.specs.ClientState.{ClientState}
+use Rattle.lease_history.specs.Known.{told_segment}
+use Rattle.world_core.specs.WorldState.{WorldState, arena_name, in_hands, outside_of}
+use Rattle.world_core.specs.IsWorld.{IsWorld}
+use Rattle.world_core.specs.Safe.{CoversIn, HeldApart}
+
+-- Sums of lists.
+
+at_place : {X : Type 0} (f : X → ℕ) (xs : List X) (i : ℕ) (x : X) → slice_get xs i ≡ Some x → f x ≤ sum_by f xs
+at_place f [] i x at = absurd (let e : None ≡ Some x = at in cc)
+at_place f (y ∷ xs) zero x at = (let same : f y ≡ f x = ap f (let e : y ≡ x = cc in e) in omega (arith, sum_by-cons f y xs))
+at_place f (y ∷ xs) (suc i) x at = omega (arith, at_place f xs i x at, sum_by-cons f y xs)
+
+-- two members at two places
+at_places : {X : Type 0} (f : X → ℕ) (xs : List X) (i j : ℕ) (x y : X) → i ≢ j → slice_get xs i ≡ Some x → slice_get xs j ≡ Some y → f x + f y ≤ sum_by f xs
+at_places f [] i j x y differ here there = absurd (let e : None ≡ Some x = here in cc)
+at_places f (z ∷ xs) zero zero x y differ here there = absurd (differ refl)
+at_places f (z ∷ xs) zero (suc j) x y differ here there = (let same : f z ≡ f x = ap f (let e : z ≡ x = cc in e) in omega (arith, at_place f xs j y there, sum_by-cons f z xs))
+at_places f (z ∷ xs) (suc i) zero x y differ here there = (let same : f z ≡ f y = ap f (let e : z ≡ y = cc in e) in omega (arith, at_place f xs i x here, sum_by-cons f z xs))
+at_places f (z ∷ xs) (suc i) (suc j) x y differ here there = omega (arith, at_places f xs i j x y (λ e. differ (ap suc e)) here there, sum_by-cons f z xs)
+
+all_nothing : {X : Type 0} (f : X → ℕ) (xs : List X) → ((i : ℕ) (x : X) → slice_get xs i ≡ Some x → f x ≡ 0) → sum_by f xs ≡ 0
+all_nothing f [] none = refl
+all_nothing f (x ∷ xs) none = omega (arith, none 0 x refl, all_nothing f xs (λ i y at. none (suc i) y at), sum_by-cons f x xs)
+
+-- where no two members weigh something, and none more than 1
+at_most_one : {X : Type 0} (f : X → ℕ) (xs : List X) → ((x : X) → f x ≤ 1) → ((i j : ℕ) (x y : X) → i < j → slice_get xs i ≡ Some x → slice_get xs j ≡ Some y → 0 < f x → f y ≡ 0) → sum_by f xs ≤ 1
+at_most_one f [] le apart = omega arith
+at_most_one f (x ∷ xs) le apart = elim (some_or_none (f x)) [
+  | inl none ↦ omega (arith, none, at_most_one f xs le (λ i j y z before a b. apart (suc i) (suc j) y z (omega arith) a b), sum_by-cons f x xs)
+  | inr some ↦ omega (arith, le x, all_nothing f xs (λ j y at. apart 0 (suc j) x y (omega arith) refl at some), sum_by-cons f x xs)
+]
+  where
+    some_or_none : (n : ℕ) → (n ≡ 0) ⊎ (0 < n)
+    some_or_none zero = inl refl
+    some_or_none (suc n) = inr (omega arith)
+
+-- What weighs.
+
+-- 1 where the segment is of one of the two arenas and has the unit
+weight : List ℕ → List ℕ → ℕ → HeldSegment → ℕ
+weight a b unit h = if bytes_eq h.arena a || bytes_eq h.arena b then covers unit (record { base = h.base; len = h.len }) else 0
+
+same_bytes : (a b : List ℕ) → bytes_eq a b ≡ true → a ≡ b
+same_bytes a b is = (bytes_eq-Decides a b).0 is
+
+covers_le : (unit : ℕ) (e : Extent) → covers unit e ≤ 1
+covers_le unit e = elim (covers_is unit e) [
+  | inl is ↦ omega (arith, is.0)
+  | inr is ↦ omega (arith, is.0)
+]
+
+weight_le : (a b : List ℕ) (unit : ℕ) (h : HeldSegment) → weight a b unit h ≤ 1
+unfolding weight
+weight_le a b unit h = by (bytes_eq h.arena a || bytes_eq h.arena b)
+  where
+    by : (x : Bool) → (if x then covers unit (record { base = h.base; len = h.len }) else 0) ≤ 1
+    by true = covers_le unit (record { base = h.base; len = h.len })
+    by false = omega arith
+
+-- what weighs something is of one of them, and has the unit
+weight_some : (a b : List ℕ) (unit : ℕ) (h : HeldSegment) → 0 < weight a b unit h → ((h.arena ≡ a) ⊎ (h.arena ≡ b)) × Covers (record { base = h.base; len = h.len }) unit
+unfolding weight
+weight_some a b unit h = by (bytes_eq h.arena a) (bytes_eq h.arena b) refl refl
+  where
+    e : Extent
+    e = record { base = h.base; len = h.len }
+
+    has : 0 < covers unit e → Covers e unit
+    has some = elim (covers_is unit e) [
+      | inl is ↦ (is.1, is.2)
+      | inr is ↦ absurd (omega (arith, is.0, some))
+    ]
+
+    by : (x y : Bool) → bytes_eq h.arena a ≡ x → bytes_eq h.arena b ≡ y → 0 < (if x || y then covers unit e else 0) → ((h.arena ≡ a) ⊎ (h.arena ≡ b)) × Covers e unit
+    by true y p q some = (inl (same_bytes h.arena a p), has some)
+    by false true p q some = (inr (same_bytes h.arena b q), has some)
+    by false false p q some = absurd (omega (arith, some))
+
+weighs : (a b : List ℕ) (unit : ℕ) (h : HeldSegment) → (h.arena ≡ a) ⊎ (h.arena ≡ b) → Covers (record { base = h.base; len = h.len }) unit → 1 ≤ weight a b unit h
+unfolding weight
+weighs a b unit h home has = by (bytes_eq h.arena a) (bytes_eq h.arena b) refl refl
+  where
+    e : Extent
+    e = record { base = h.base; len = h.len }
+
+    one : 1 ≤ covers unit e
+    one = elim (covers_is unit e) [
+      | inl is ↦ omega (arith, is.0)
+      | inr is ↦ elim is.1 [
+        | inl low ↦ absurd (omega (arith, low, has.0))
+        | inr high ↦ absurd (omega (arith, high, has.1))
+      ]
+    ]
+
+    neither : bytes_eq h.arena a ≡ false → bytes_eq h.arena b ≡ false → ⊥
+    neither p q = elim home [
+      | inl is ↦ (let t : bytes_eq h.arena a ≡ true = (bytes_eq-Decides h.arena a).1 is in absurd (let x : true ≡ false = sym t ∙ p in cc))
+      | inr is ↦ (let t : bytes_eq h.arena b ≡ true = (bytes_eq-Decides h.arena b).1 is in absurd (let x : true ≡ false = sym t ∙ q in cc))
+    ]
+
+    by : (x y : Bool) → bytes_eq h.arena a ≡ x → bytes_eq h.arena b ≡ y → 1 ≤ (if x || y then covers unit e else 0)
+    by true y p q = one
+    by false true p q = one
+    by false false p q = absurd (neither p q)
+
+-- Segments that are out.
+
+module _ (w : WorldState) (is : IsWorld w) (top unit : ℕ) (s t : HeldSegment) (first : CoversIn w top unit s) (second : CoversIn w top unit t) where
+  abbrev told_weight : Tag → ℕ
+  told_weight x = weight s.arena t.arena unit (told_segment (arena_name w.names) x)
+
+  -- what weighs something is in the space and has the unit
+  in_space : (x : Tag) → 0 < told_weight x → HasTop w.stock x.arena top × Covers x.holding.range unit
+  in_space x some =
+      let is_some = weight_some s.arena t.arena unit (told_segment (arena_name w.names) x) some in
+      let home : HasTop w.stock x.arena top = elim is_some.0 [
+        | inl a ↦ subst (λ (k : ℕ). HasTop w.stock k top) (sym (is.names x.arena first.place first.named.within (a ∙ sym first.named.is))) first.under
+        | inr b ↦ subst (λ (k : ℕ). HasTop w.stock k top) (sym (is.names x.arena second.place second.named.within (b ∙ sym second.named.is))) second.under
+      ] in
+      (home, is_some.1)
+
+  one_out : sum_by told_weight (segments_out (outside_of w)) ≤ 1
+  one_out = at_most_one told_weight (segments_out (outside_of w)) (λ x. weight_le s.arena t.arena unit (told_segment (arena_name w.names) x)) apart
+    where
+      out : List Tag
+      out = segments_out (outside_of w)
+
+      pair : (i j : ℕ) (x y : Tag) → i < j → slice_get out i ≡ Some x → slice_get out j ≡ Some y → ApartUpChain w.stock x y
+      pair i j x y before here there =
+          let p = out_never_overlaps w.stock (outside_of w) is.parts i j x before (slice_get_within out j y there) in
+          let a = get_or_from_slice_get out i x x here in
+          let b = get_or_from_slice_get out j y x there in
+          subst (λ (z : Tag). ApartUpChain w.stock x z) b (subst (λ (z : Tag). ApartUpChain w.stock z (get_or out j x)) a p)
+
+      nothing : (n : ℕ) → (0 < n → ⊥) → n ≡ 0
+      nothing zero none = refl
+      nothing (suc n) none = absurd (none (omega arith))
+
+      apart : (i j : ℕ) (x y : Tag) → i < j → slice_get out i ≡ Some x → slice_get out j ≡ Some y → 0 < told_weight x → told_weight y ≡ 0
+      apart i j x y before here there some = nothing (told_weight y) (λ more.
+          pair i j x y before here there top (in_space x some).0 (in_space y more).0 unit (in_space x some).1 (in_space y more).1)
+
+  one_leased : sum_by told_weight (leased w.book) ≤ 1
+  one_leased = omega (arith, one_out, sum_by-append told_weight (in_hands w.hands) (leased w.book ++ []), sum_by-append told_weight (leased w.book) [])
+
+-- so one place alone
+pub held_apart : (w : WorldState) → IsWorld w
+    → ((f : HeldSegment → ℕ) → sum_by (λ (c : ClientState). sum_by f c.held) w.clients ≤ sum_by (λ x. f (told_segment (arena_name w.names) x)) (leased w.book)) → HeldApart w
+held_apart w is all top unit c d i j x y s t client member other another first second =
+    elim (same_number c d) [
+      | inl one ↦ elim (same_number i j) [
+        | inl place ↦ (one, place)
+        | inr differ ↦ absurd (let same : x ≡ y = (let e : Some x ≡ Some y = sym client ∙ ap (slice_get w.clients) one ∙ other in cc) in
+            let there : slice_get x.held j ≡ Some t = ap (λ (z : ClientState). slice_get z.held j) same ∙ another in
+            omega (arith, low, high, most, at_places (weight s.arena t.arena unit) x.held i j s t differ member there, at_place (λ (z : ClientState). sum_by (weight s.arena t.arena unit) z.held) w.clients c x client))
+      ]
+      | inr differ ↦ absurd (omega (arith, low, high, most, at_places (λ (z : ClientState). sum_by (weight s.arena t.arena unit) z.held) w.clients c d x y differ client other, at_place (weight s.arena t.arena unit) x.held i s member, at_place (weight s.arena t.arena unit) y.held j t another))
+    ]
+  where
+    same_number : (m n : ℕ) → (m ≡ n) ⊎ (m ≢ n)
+    same_number m n = by (m == n) refl
+      where
+        by : (b : Bool) → (m == n) ≡ b → (m ≡ n) ⊎ (m ≢ n)
+        by true e = inl (grind (arith, nat_tests))
+        by false e = inr (λ same. grind (arith, nat_tests))
+
+    low : 1 ≤ weight s.arena t.arena unit s
+    low = weighs s.arena t.arena unit s (inl refl) first.has
+
+    high : 1 ≤ weight s.arena t.arena unit t
+    high = weighs s.arena t.arena unit t (inr refl) second.has
+
+    most : sum_by (λ (z : ClientState). sum_by (weight s.arena t.arena unit) z.held) w.clients ≤ 1
+    most = omega (arith, all (weight s.arena t.arena unit), one_leased w is top unit s t first second)

@@ -1,0 +1,68 @@
+//! What happens to the depots of quantum caches.
+ghost use Rattle.std.specs.Prelude.{◌↔◌, IsTrue};
+ghost use Rattle.magazine_layer.specs.Magazines.{IsSize};
+ghost use Rattle.world_core.specs.IsWorld.{IsWorld};
+ghost use Rattle.world_core.specs.Events.{EndsAs};
+
+use crate::events::{EventFault, Outcome, WorldEvent};
+use crate::hands::put;
+use crate::parts::WorldParts;
+use deed_core::Deed;
+
+/// Whether a magazine can have this size.
+fn is_magazine_size(size: usize) -> bool
+    ensures { IsTrue result ↔ IsSize size }
+{
+    size == 3 || size == 7 || size == 15 || size == 31
+}
+
+impl<D: Deed> WorldParts<D> {
+    /// A CPU with an empty hand takes a round that may be reaped.
+    pub(crate) fn depot_reap(&mut self, cpu: usize, arena: usize, cache: usize) -> Outcome
+        requires world { IsWorld self.old }
+        ensures { EndsAs (WorldEvent.DepotReaps cpu arena cache) result self.old self.new }
+    {
+        if !self.has_empty_hand(cpu) || !self.stock.has_cache(arena, cache) {
+            return Outcome::NotEnabled;
+        }
+        let reaped = self.stock.depot_reap(arena, cache);
+        // For its clause, here and below: what is always so of a stock.
+        let _ = self.stock.count();
+        match reaped {
+            Some(round) => {
+                put(&mut self.hands, cpu, round);
+                return Outcome::Done;
+            }
+            None => return Outcome::NotEnabled,
+        }
+    }
+
+    /// An interval begins in a depot.
+    pub(crate) fn tick(&mut self, arena: usize, cache: usize) -> Outcome
+        requires world { IsWorld self.old }
+        ensures { EndsAs (WorldEvent.Ticks arena cache) result self.old self.new }
+    {
+        if !self.stock.has_cache(arena, cache) {
+            return Outcome::NotEnabled;
+        }
+        self.stock.tick(arena, cache);
+        let _ = self.stock.count();
+        Outcome::Done
+    }
+
+    /// A depot keeps magazines of a greater size from here on.
+    pub(crate) fn resize(&mut self, arena: usize, cache: usize, size: usize) -> Outcome
+        requires world { IsWorld self.old }
+        ensures { EndsAs (WorldEvent.Resizes arena cache size) result self.old self.new }
+    {
+        if !self.stock.has_cache(arena, cache) || !is_magazine_size(size) {
+            return Outcome::NotEnabled;
+        }
+        let resized = self.stock.resize(arena, cache, size);
+        let _ = self.stock.count();
+        match resized {
+            Ok(()) => return Outcome::Done,
+            Err(_) => return Outcome::Refused(EventFault::NotGreater),
+        }
+    }
+}
