@@ -5,5 +5,6 @@ pub mod Fitting
 pub mod Rooms
 pub mod Freed
 pub mod Reaching
+pub mod FreshCpus
 pub mod NoRoom
 pub mod LawProofs

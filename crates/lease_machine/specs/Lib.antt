@@ -7,3 +7,4 @@ pub mod Machine
 pub mod Laws
 pub mod AnswerLaws
 pub mod RoomLaws
+pub mod CpuLaws

@@ -1,11 +1,19 @@
 //! What follows for each picture, and for each run of lines. The functions do nothing: their
 //! contracts are the laws, and `proofs/LawProofs.antt` hands their proofs on.
+ghost use Rattle.lease_machine.specs.CpuLaws.{FreshIsPicture, SelectedIsPicture, FreshCpuFits};
 ghost use Rattle.lease_machine.specs.Laws.{PicturesStay, SetupStays, UnitsHaveOnePlace};
 ghost use Rattle.lease_machine.specs.Laws.{LeasesAreApart, AuditTellsLeases, AuditIsWhole};
 ghost use Rattle.lease_machine.specs.AnswerLaws.{LinesRepeat, AnswersAgree, GrantsFit};
 ghost use Rattle.lease_machine.specs.AnswerLaws.{KeptGrantsFit, GrantsWereReachable};
 ghost use Rattle.lease_machine.specs.RoomLaws.{NoFitMeansTaken, NoFitMeansTakenUp};
 ghost use Rattle.lease_machine.specs.RoomLaws.{FreedIsWhole, FirstLeaseIsServed};
+
+/// What a desk begins with is a picture, and it stays one when a CPU is selected.
+pub fn picture_laws()
+    ensures fresh { FreshIsPicture }
+    ensures selected { SelectedIsPicture }
+    ensures cpu { FreshCpuFits }
+{}
 
 /// After any lines each unit is in one place, and no two leases of one space overlap.
 pub fn place_laws()
