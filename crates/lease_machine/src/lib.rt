@@ -10,6 +10,4 @@
 
 mod laws;
 
-pub use laws::{
-    audit_laws, grant_laws, no_fit_laws, picture_laws, place_laws, repeat_laws,
-};
+pub use laws::{audit_laws, grant_laws, no_fit_laws, picture_laws, place_laws, repeat_laws};
