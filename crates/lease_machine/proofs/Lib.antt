@@ -6,5 +6,6 @@ pub mod Rooms
 pub mod Freed
 pub mod Reaching
 pub mod FreshCpus
+pub mod CachedSizes
 pub mod NoRoom
 pub mod LawProofs

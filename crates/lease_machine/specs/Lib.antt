@@ -8,3 +8,4 @@ pub mod Laws
 pub mod AnswerLaws
 pub mod RoomLaws
 pub mod CpuLaws
+pub mod CacheLaws

@@ -1,6 +1,7 @@
 //! What follows for each picture, and for each run of lines. The functions do nothing: their
 //! contracts are the laws, and `proofs/LawProofs.antt` hands their proofs on.
 ghost use Rattle.lease_machine.specs.CpuLaws.{FreshIsPicture, SelectedIsPicture, FreshCpuFits};
+ghost use Rattle.lease_machine.specs.CacheLaws.{CachedByNumber};
 ghost use Rattle.lease_machine.specs.Laws.{PicturesStay, SetupStays, UnitsHaveOnePlace};
 ghost use Rattle.lease_machine.specs.Laws.{LeasesAreApart, AuditTellsLeases, AuditIsWhole};
 ghost use Rattle.lease_machine.specs.AnswerLaws.{LinesRepeat, AnswersAgree, GrantsFit};
@@ -50,4 +51,9 @@ pub fn no_fit_laws()
     ensures taken_up { NoFitMeansTakenUp }
     ensures freed { FreedIsWhole }
     ensures first { FirstLeaseIsServed }
+{}
+
+/// Which quantum cache serves a request.
+pub fn cache_laws()
+    ensures { CachedByNumber }
 {}
