@@ -8,3 +8,4 @@ pub use Rattle.lease_machine.proofs.Agreeing.{answers_agree}
 pub use Rattle.lease_machine.proofs.Reaching.{grants_were_reachable}
 pub use Rattle.lease_machine.proofs.FreshCpus.{fresh_is_picture, selected_is_picture, fresh_cpu_fits}
 pub use Rattle.lease_machine.proofs.CachedSizes.{cached_by_number}
+pub use Rattle.lease_machine.proofs.Fewer.{fewer_fit_too}

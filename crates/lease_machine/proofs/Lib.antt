@@ -7,5 +7,6 @@ pub mod Freed
 pub mod Reaching
 pub mod FreshCpus
 pub mod CachedSizes
+pub mod Fewer
 pub mod NoRoom
 pub mod LawProofs

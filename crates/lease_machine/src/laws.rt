@@ -7,7 +7,7 @@ ghost use Rattle.lease_machine.specs.Laws.{LeasesAreApart, AuditTellsLeases, Aud
 ghost use Rattle.lease_machine.specs.AnswerLaws.{LinesRepeat, AnswersAgree, GrantsFit};
 ghost use Rattle.lease_machine.specs.AnswerLaws.{KeptGrantsFit, GrantsWereReachable};
 ghost use Rattle.lease_machine.specs.RoomLaws.{NoFitMeansTaken, NoFitMeansTakenUp};
-ghost use Rattle.lease_machine.specs.RoomLaws.{FreedIsWhole, FirstLeaseIsServed};
+ghost use Rattle.lease_machine.specs.RoomLaws.{FreedIsWhole, FirstLeaseIsServed, FewerFitToo};
 
 /// What a desk begins with is a picture, and it stays one when a CPU is selected.
 pub fn picture_laws()
@@ -51,6 +51,7 @@ pub fn no_fit_laws()
     ensures taken_up { NoFitMeansTakenUp }
     ensures freed { FreedIsWhole }
     ensures first { FirstLeaseIsServed }
+    ensures fewer { FewerFitToo }
 {}
 
 /// Which quantum cache serves a request.
