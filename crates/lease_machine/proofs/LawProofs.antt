@@ -6,3 +6,6 @@ pub use Rattle.lease_machine.proofs.Fitting.{grants_fit, kept_grants_fit}
 pub use Rattle.lease_machine.proofs.NoRoom.{no_fit_means_taken, no_fit_means_taken_up, freed_is_whole, first_lease_is_served}
 pub use Rattle.lease_machine.proofs.Agreeing.{answers_agree}
 pub use Rattle.lease_machine.proofs.Reaching.{grants_were_reachable}
+pub use Rattle.lease_machine.proofs.FreshCpus.{fresh_is_picture, selected_is_picture, fresh_cpu_fits}
+pub use Rattle.lease_machine.proofs.CachedSizes.{cached_by_number}
+pub use Rattle.lease_machine.proofs.Fewer.{fewer_fit_too}

@@ -5,5 +5,8 @@ pub mod Fitting
 pub mod Rooms
 pub mod Freed
 pub mod Reaching
+pub mod FreshCpus
+pub mod CachedSizes
+pub mod Fewer
 pub mod NoRoom
 pub mod LawProofs

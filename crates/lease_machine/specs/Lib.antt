@@ -7,3 +7,5 @@ pub mod Machine
 pub mod Laws
 pub mod AnswerLaws
 pub mod RoomLaws
+pub mod CpuLaws
+pub mod CacheLaws

@@ -1,7 +1,7 @@
 -- What is seen of a service of leases between two lines, when nothing is in a hand.
-use Rattle.std.specs.Prelude.{◌≡◌, ◌≢◌, ℕ, ◌==◌, nat_eq, Bool, List, [], All}
+use Rattle.std.specs.Prelude.{◌≡◌, ◌≢◌, ℕ, ◌==◌, Bool, List, [], All, AllPairs}
 use Rattle.std.specs.Prelude.{map, slice_get, Option, Some, None}
-use Rattle.std.specs.List.{find, flat_map, AllByRecursion, IsDistinct}
+use Rattle.std.specs.List.{find, flat_map, AllByRecursion}
 use Rattle.deed_core.specs.Holding.{Holding}
 use Rattle.arena_tree.specs.declared.trees.TreeArena.{TreeArena}
 use Rattle.arena_tree.specs.Trees.{IsTree, place_in}
@@ -73,7 +73,7 @@ pub record IsBookOf (tree : List TreeArena) (book : BookState) : Type 0 where
 -- the CPUs have numbers of their own, each has caches for those of the stock, and one is selected
 pub record AreCpus (spaces : List SpaceState) (cpus : List Cpu) (selected : ℕ) : Type 0 where
   pub each : All (λ c. IsCpu c.number × IsCpuOf spaces c.caches) cpus
-  pub numbers : IsDistinct nat_eq (map (λ c. c.number) cpus)
+  pub numbers : AllPairs (λ a b. a.number ≢ b.number) cpus
   pub there : find (is_cpu selected) cpus ≢ None
 
 -- What is so between any two lines: the stock is set up as the tree says; each unit is accounted

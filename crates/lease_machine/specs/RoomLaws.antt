@@ -1,5 +1,5 @@
 -- When a request is refused for want of room.
-use Rattle.std.specs.Prelude.{◌≡◌, ◌≢◌, ◌⊎◌, ℕ, List, [], ◌∷◌, All, Contains, slice_get, Some, Ok}
+use Rattle.std.specs.Prelude.{◌≡◌, ◌≢◌, ◌⊎◌, ℕ, ◌≤◌, List, [], ◌∷◌, All, Contains, slice_get, Some, Ok}
 use Rattle.deed_core.specs.Holding.{Holding}
 use Rattle.deed_core.specs.Request.{IsPlain, plain_of}
 use Rattle.deed_core.specs.declared.requests.Request.{Request}
@@ -27,6 +27,7 @@ use Rattle.lease_proto.specs.Operators.{served_of}
 use Rattle.lease_book.specs.BookState.{leased, account_in}
 use Rattle.lease_book.specs.Answers.{IsNew}
 use Rattle.lease_machine.specs.Picture.{Picture, IsPicture, Finds, held_outside}
+use Rattle.lease_machine.specs.Moves.{HasPlaceUp}
 use Rattle.lease_machine.specs.Machine.{LeaseStep, demand_of}
 use Rattle.lease_machine.specs.AnswerLaws.{written, IsRequestLine}
 
@@ -100,3 +101,10 @@ FirstLeaseIsServed = (start mid new : Picture) (hello greeting lease text : List
     → IsRequestLine lease id (ops.Lease l) → LeaseStep mid lease text new
     → (span : Holding) (base : ℕ) → Contains s.arena.owned span
     → ServesIn x.quantum (demand_of l) span base → text ≢ written (refusal_to id NoFit)
+
+-- where an arena of the chain has a place for so many units, and for what would be imported for
+-- them, one has a place for fewer
+abbrev pub FewerFitToo : Type 0
+FewerFitToo = (d : Picture) (place n most : ℕ) → IsPicture d → n ≤ most
+    → HasPlaceUp d.spaces (chain_in d.tree place) most
+    → HasPlaceUp d.spaces (chain_in d.tree place) n

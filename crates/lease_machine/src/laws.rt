@@ -1,11 +1,20 @@
 //! What follows for each picture, and for each run of lines. The functions do nothing: their
 //! contracts are the laws, and `proofs/LawProofs.antt` hands their proofs on.
+ghost use Rattle.lease_machine.specs.CpuLaws.{FreshIsPicture, SelectedIsPicture, FreshCpuFits};
+ghost use Rattle.lease_machine.specs.CacheLaws.{CachedByNumber};
 ghost use Rattle.lease_machine.specs.Laws.{PicturesStay, SetupStays, UnitsHaveOnePlace};
 ghost use Rattle.lease_machine.specs.Laws.{LeasesAreApart, AuditTellsLeases, AuditIsWhole};
 ghost use Rattle.lease_machine.specs.AnswerLaws.{LinesRepeat, AnswersAgree, GrantsFit};
 ghost use Rattle.lease_machine.specs.AnswerLaws.{KeptGrantsFit, GrantsWereReachable};
 ghost use Rattle.lease_machine.specs.RoomLaws.{NoFitMeansTaken, NoFitMeansTakenUp};
-ghost use Rattle.lease_machine.specs.RoomLaws.{FreedIsWhole, FirstLeaseIsServed};
+ghost use Rattle.lease_machine.specs.RoomLaws.{FreedIsWhole, FirstLeaseIsServed, FewerFitToo};
+
+/// What a desk begins with is a picture, and it stays one when a CPU is selected.
+pub fn picture_laws()
+    ensures fresh { FreshIsPicture }
+    ensures selected { SelectedIsPicture }
+    ensures cpu { FreshCpuFits }
+{}
 
 /// After any lines each unit is in one place, and no two leases of one space overlap.
 pub fn place_laws()
@@ -42,4 +51,10 @@ pub fn no_fit_laws()
     ensures taken_up { NoFitMeansTakenUp }
     ensures freed { FreedIsWhole }
     ensures first { FirstLeaseIsServed }
+    ensures fewer { FewerFitToo }
+{}
+
+/// Which quantum cache serves a request.
+pub fn cache_laws()
+    ensures { CachedByNumber }
 {}

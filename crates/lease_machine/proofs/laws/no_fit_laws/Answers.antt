@@ -1,4 +1,5 @@
 use Rattle.lease_machine.proofs.NoRoom.{no_fit_means_taken, no_fit_means_taken_up, freed_is_whole, first_lease_is_served}
+use Rattle.lease_machine.proofs.Fewer.{fewer_fit_too}
 use Rattle.lease_machine.proofs.laws.no_fit_laws.Goals as goal
 
 pub returns-clause-taken : goal.returns-clause-taken
@@ -12,3 +13,6 @@ returns-clause-first c = first_lease_is_served
 
 pub returns-clause-taken_up : goal.returns-clause-taken_up
 returns-clause-taken_up c = no_fit_means_taken_up
+
+pub returns-clause-fewer : goal.returns-clause-fewer
+returns-clause-fewer c = fewer_fit_too

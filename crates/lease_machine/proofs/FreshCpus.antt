@@ -1,0 +1,207 @@
+-- A CPU that is new has caches for those of the stock, and no round.
+use Rattle.std.proofs.Common.{◌≡◌, ◌≢◌, ◌⊎◌, ℕ, suc, zero, ◌+◌, ◌<◌, ◌≤◌, Bool, true, false, not, cond, ◌||◌, ◌==◌, get_or, refl, sym, subst, ap, ◌∙◌, inl, inr, List, [], ◌∷◌, ◌++◌, map, length, All, AllPairs, Option, Some, None, arith}
+use Rattle.std.specs.Prelude.{slice_get, sum_by, if◌then◌else◌}
+use Rattle.std.specs.List.{find, flat_map, list_any, IsDistinct, AllByRecursion}
+use Rattle.std.proofs.lemmas.Bool.Decides.{Decides-eqb}
+use Rattle.std.proofs.lemmas.List.{append-nil, length-map}
+use Rattle.std.proofs.lemmas.List.Elements.{All-cons, All-append, All-nil}
+use Rattle.std.proofs.lemmas.Grind.{flat_map-append}
+use Rattle.deed_core.specs.Tag.{Tag}
+use Rattle.deed_core.proofs.LawProofs.{mapped, power_some, slice_get_some, AllPairs-append}
+use Rattle.arena_tree.specs.declared.trees.TreeArena.{TreeArena}
+use Rattle.stock.specs.Spaces.{SpaceState, SpacePlan, QuantumCacheState, plan_of, plans_of, slab_size_of, HasCache}
+use Rattle.stock.specs.Stocks.{IsStock}
+use Rattle.stock.specs.OwnCaches.{OwnCacheState, own_rounds}
+use Rattle.stock_audit.specs.Outside.{all_rounds_out, outside, nothing_out}
+use Rattle.stock_audit.specs.Accounted.{IsOwnIn, IsAccountedFor}
+use Rattle.stock_audit.proofs.LawProofs.{fresh_is_accounted, cpus_keep}
+use Rattle.local_parts.specs.Cpus.{CachePlace, IsCpuOf, own_place, own_places, row_places, places_from, new_own, new_cpu}
+use Rattle.lease_proto.specs.Cpus.{IsCpu}
+use Rattle.lease_book.specs.BookState.{leased, leased_by}
+use Rattle.lease_machine.specs.Picture.{Cpu, Picture, IsPicture, AreCpus, is_cpu, caches_of, fresh_cpu, held_outside}
+use Rattle.lease_machine.specs.Operators.{with_cpu}
+use Rattle.lease_machine.specs.CpuLaws.{FreshIsPicture, SelectedIsPicture, FreshCpuFits}
+
+abbrev joined : List (List OwnCacheState) → List OwnCacheState
+joined rows = flat_map (λ row. row) rows
+
+module _ (P : OwnCacheState → Type 0) where
+  all_row : (arena quantum j count : ℕ) → ((i : ℕ) → i < j + count → P (new_own 3 (record { arena = arena; cache = i; quantum = quantum }))) → All P (map (new_own 3) (row_places arena quantum j count))
+  all_row arena quantum j zero each = All-nil P
+  all_row arena quantum j (suc count) each =
+      All-cons P (new_own 3 (record { arena = arena; cache = j; quantum = quantum })) (map (new_own 3) (row_places arena quantum (j + 1) count)) (each j (omega arith))
+      (all_row arena quantum (j + 1) count (λ i below. each i (omega (arith, below))))
+
+  all_rows : (k : ℕ) (plans : List SpacePlan) → ((i : ℕ) (p : SpacePlan) → slice_get plans i ≡ Some p → (j : ℕ) → j < length p.slab_sizes → P (new_own 3 (record { arena = k + i; cache = j; quantum = p.quantum })))
+      → All P (joined (map (map (new_own 3)) (places_from k plans)))
+  all_rows k [] each = All-nil P
+  all_rows k (p ∷ plans) each =
+      All-append P (map (new_own 3) (row_places k p.quantum 0 (length p.slab_sizes))) (joined (map (map (new_own 3)) (places_from (k + 1) plans)))
+      (all_row k p.quantum 0 (length p.slab_sizes) (λ j below. subst (λ (n : ℕ). P (new_own 3 (record { arena = n; cache = j; quantum = p.quantum }))) (omega arith) (each 0 p refl j (omega (arith, below)))))
+      (all_rows (k + 1) plans (λ i q at j below. subst (λ (n : ℕ). P (new_own 3 (record { arena = n; cache = j; quantum = q.quantum }))) (omega arith) (each (suc i) q at j below)))
+
+-- its places are the stock's
+same_places : (ps : List CachePlace) → map own_place (map (new_own 3) ps) ≡ ps
+same_places [] = refl
+same_places (p ∷ ps) = ap (λ (qs : List CachePlace). p ∷ qs) (same_places ps)
+
+same_rows : (rows : List (List CachePlace)) → own_places (map (map (new_own 3)) rows) ≡ rows
+same_rows [] = refl
+same_rows (row ∷ rows) = ap (λ (r : List CachePlace). r ∷ own_places (map (map (new_own 3)) rows)) (same_places row) ∙ ap (λ (rs : List (List CachePlace)). row ∷ rs) (same_rows rows)
+
+no_round : (os : List OwnCacheState) → All (λ o. own_rounds o ≡ []) os → all_rounds_out os ≡ []
+no_round [] none = refl
+no_round (o ∷ os) none =
+    ap (λ (ts : List Tag). ts ++ all_rounds_out os) (none 0 o (omega arith)) ∙ no_round os (λ i e below. none (suc i) e (omega (arith, below)))
+
+module _ (spaces : List SpaceState) (n : ℕ) where
+  pub fresh_places : IsCpuOf spaces (fresh_cpu n spaces).caches
+  fresh_places = same_rows (places_from 0 (plans_of spaces))
+
+  pub fresh_rounds : all_rounds_out (caches_of (fresh_cpu n spaces)) ≡ []
+  fresh_rounds = no_round (caches_of (fresh_cpu n spaces)) (all_rows (λ o. own_rounds o ≡ []) 0 (plans_of spaces) (λ i p at j below. refl))
+
+  own_at : IsStock spaces → (i : ℕ) (p : SpacePlan) → slice_get (plans_of spaces) i ≡ Some p → (j : ℕ) → j < length p.slab_sizes → IsOwnIn spaces (new_own 3 (record { arena = i; cache = j; quantum = p.quantum }))
+  own_at stock i p at j below =
+      let s = mapped plan_of spaces i p at in
+      let quantum : p.quantum ≡ s.0.arena.quantum = ap (λ (x : SpacePlan). x.quantum) s.2 in
+      let some : 0 < s.0.arena.quantum = power_some s.0.arena.quantum (stock i s.0 s.1).sound.divided.power in
+      let count : length p.slab_sizes ≡ length s.0.caches = ap (λ (x : SpacePlan). length x.slab_sizes) s.2 ∙ length-map s.0.caches slab_size_of in
+      let c = slice_get_some s.0.caches j (omega (arith, below, count)) in
+      record {
+        own = record { some = subst (λ (q : ℕ). 0 < q) (sym quantum) some; rounds = All-nil _ };
+        has = (c.0, record { space = s.0; at = s.1; among = c.1 });
+        quantum = λ y there. (
+            let e : Some s.0 ≡ Some y = sym s.1 ∙ there in
+            let same : s.0 ≡ y = cc in
+            sym (ap (λ (x : SpaceState). x.arena.quantum) same) ∙ sym quantum
+            );
+      }
+
+  pub fresh_own : IsStock spaces → All (IsOwnIn spaces) (caches_of (fresh_cpu n spaces))
+  fresh_own stock = all_rows (IsOwnIn spaces) 0 (plans_of spaces) (λ i p at j below.
+      subst (λ (k : ℕ). IsOwnIn spaces (new_own 3 (record { arena = k; cache = j; quantum = p.quantum }))) (omega arith) (own_at stock i p at j below))
+
+-- a test that passes finds one
+found_by : (b any : Bool) (c : Cpu) (rest : Option Cpu) → (any ≡ true → rest ≢ None) → (b || any) ≡ true → cond b (Some c) rest ≢ None
+found_by true any c rest later is none = (let e : Some c ≡ None = none in cc)
+found_by false any c rest later is none = later is none
+
+found : (test : Cpu → Bool) (cs : List Cpu) → list_any test cs ≡ true → find test cs ≢ None
+found test [] is none = (let e : false ≡ true = is in cc)
+found test (c ∷ cs) is none = found_by (test c) (list_any test cs) c (find test cs) (found test cs) is none
+
+found_last : (test : Cpu → Bool) (cs : List Cpu) (c : Cpu) → test c ≡ true → find test (cs ++ c ∷ []) ≢ None
+found_last test [] c is none = (let e : Some c ≡ None = sym (ap (λ (b : Bool). cond b (Some c) None) is) ∙ none in cc)
+found_last test (x ∷ cs) c is none = by (test x) (find test (cs ++ c ∷ [])) (found_last test cs c is) none
+  where
+    by : (b : Bool) (rest : Option Cpu) → rest ≢ None → cond b (Some x) rest ≡ None → ⊥
+    by true rest some none = (let e : Some x ≡ None = none in cc)
+    by false rest some none = some none
+
+or_false : (a b : Bool) → (a || b) ≡ false → (a ≡ false) × (b ≡ false)
+or_false true b e = absurd (let f : true ≡ false = e in cc)
+or_false false b e = (refl, e)
+
+none_at : (test : Cpu → Bool) (cs : List Cpu) → list_any test cs ≡ false → (i : ℕ) (d : Cpu) → i < length cs → test (get_or cs i d) ≡ false
+none_at test [] none i d below = absurd (omega (arith, below))
+none_at test (x ∷ cs) none zero d below = (or_false (test x) (list_any test cs) none).0
+none_at test (x ∷ cs) none (suc i) d below = none_at test cs (or_false (test x) (list_any test cs) none).1 i d (omega (arith, below))
+
+-- a number that none has is new
+numbers_push : (n : ℕ) (cs : List Cpu) (c : Cpu) → c.number ≡ n → list_any (is_cpu n) cs ≡ false → AllPairs (λ a b. a.number ≢ b.number) cs → AllPairs (λ a b. a.number ≢ b.number) (cs ++ c ∷ [])
+numbers_push n cs c is none apart = AllPairs-append (λ a b. a.number ≢ b.number) cs (c ∷ []) apart (λ i j e lt below. absurd (omega (arith, lt, below))) (λ i d below j e last same.
+    (let first : j ≡ 0 = omega (arith, last) in
+    let is_last : get_or (c ∷ []) j e ≡ c = ap (λ (k : ℕ). get_or (c ∷ []) k e) first in
+    let number : (get_or cs i d).number ≡ n = same ∙ ap (λ (z : Cpu). z.number) is_last ∙ is in
+    let yes : is_cpu n (get_or cs i d) ≡ true = (Decides-eqb (get_or cs i d).number n).1 number in
+    let e : false ≡ true = sym (none_at (is_cpu n) cs none i d below) ∙ yes in
+    cc))
+
+same_number : (n : ℕ) → (n == n) ≡ true
+same_number n = (Decides-eqb n n).1 refl
+
+-- what is out with one CPU more, which has no round
+rounds_push : (cs : List Cpu) (c : Cpu) → all_rounds_out (caches_of c) ≡ [] → all_rounds_out (flat_map caches_of (cs ++ c ∷ [])) ≡ all_rounds_out (flat_map caches_of cs)
+rounds_push cs c none =
+    let all : flat_map caches_of (cs ++ c ∷ []) ≡ flat_map caches_of cs ++ (caches_of c ++ []) = flat_map-append caches_of cs (c ∷ []) in
+    ap all_rounds_out all ∙ flat_map-append own_rounds (flat_map caches_of cs) (caches_of c ++ [])
+    ∙ ap (λ (os : List OwnCacheState). all_rounds_out (flat_map caches_of cs) ++ all_rounds_out os) (append-nil (caches_of c))
+    ∙ ap (λ (ts : List Tag). all_rounds_out (flat_map caches_of cs) ++ ts) none ∙ append-nil (all_rounds_out (flat_map caches_of cs))
+
+abbrev IsCpuIn : List SpaceState → Cpu → Type 0
+IsCpuIn spaces c = IsCpu c.number × IsCpuOf spaces c.caches
+
+module _ (d : Picture) (n : ℕ) (is : IsPicture d) (in_range : IsCpu n) where
+  abbrev fresh : Cpu
+  fresh = fresh_cpu n d.spaces
+
+  select_old : list_any (is_cpu n) d.cpus ≡ true → IsPicture (record d { selected = n })
+  select_old there = record {
+    tree = is.tree;
+    plans = is.plans;
+    units = is.units;
+    cpus = record { each = is.cpus.each; numbers = is.cpus.numbers; there = found (is_cpu n) d.cpus there };
+    book = is.book;
+  }
+
+  select_new : list_any (is_cpu n) d.cpus ≡ false → IsPicture (record d { cpus = d.cpus ++ fresh ∷ []; selected = n })
+  select_new none =
+      let caches : flat_map caches_of (d.cpus ++ fresh ∷ []) ≡ flat_map caches_of d.cpus ++ (caches_of fresh ++ []) = flat_map-append caches_of d.cpus (fresh ∷ []) in
+      let own : All (IsOwnIn d.spaces) (caches_of fresh ++ []) = subst (λ (os : List OwnCacheState). All (IsOwnIn d.spaces) os) (sym (append-nil (caches_of fresh))) (fresh_own d.spaces n is.units.parts) in
+      record {
+        tree = is.tree;
+        plans = is.plans;
+        units = cpus_keep d.spaces (held_outside d) (held_outside (record d { cpus = d.cpus ++ fresh ∷ []; selected = n })) is.units (record {
+          hands = refl;
+          leases = refl;
+          rounds = λ f. ap (sum_by f) (sym (rounds_push d.cpus fresh (fresh_rounds d.spaces n)));
+          own = subst (λ (os : List OwnCacheState). All (IsOwnIn d.spaces) os) (sym caches) (All-append (IsOwnIn d.spaces) (flat_map caches_of d.cpus) (caches_of fresh ++ []) is.units.cpus own);
+        });
+        cpus = record {
+          each = All-append (IsCpuIn d.spaces) d.cpus (fresh ∷ []) is.cpus.each (All-cons (IsCpuIn d.spaces) fresh [] (in_range, fresh_places d.spaces n) (All-nil (IsCpuIn d.spaces)));
+          numbers = numbers_push n d.cpus fresh refl none is.cpus.numbers;
+          there = found_last (is_cpu n) d.cpus fresh (same_number n);
+        };
+        book = is.book;
+      }
+
+pub selected_is_picture : SelectedIsPicture
+selected_is_picture d n is in_range = by (list_any (is_cpu n) d.cpus) refl
+  where
+    by : (b : Bool) → list_any (is_cpu n) d.cpus ≡ b → IsPicture (record d { cpus = cond b d.cpus (d.cpus ++ fresh_cpu n d.spaces ∷ []); selected = n })
+    by true there = select_old d n is in_range there
+    by false none = select_new d n is in_range none
+
+pub fresh_is_picture : FreshIsPicture
+fresh_is_picture tree spaces book is_tree plans accounted history =
+    let none : book.accounts ≡ [] = history.accounts in
+    let leases : leased book ≡ [] = ap leased_by none in
+    let c : Cpu = fresh_cpu 0 spaces in
+    let caches : List OwnCacheState = caches_of c ++ [] in
+    let own : All (IsOwnIn spaces) caches = subst (λ (os : List OwnCacheState). All (IsOwnIn spaces) os) (sym (append-nil (caches_of c))) (fresh_own spaces 0 accounted.stock) in
+    let rounds : all_rounds_out caches ≡ [] = ap all_rounds_out (append-nil (caches_of c)) ∙ fresh_rounds spaces 0 in
+    let first : IsAccountedFor spaces (outside [] [] caches) = cpus_keep spaces nothing_out (outside [] [] caches) (fresh_is_accounted spaces accounted) (record {
+      hands = refl;
+      leases = refl;
+      rounds = λ f. ap (sum_by f) (sym rounds);
+      own = own;
+    }) in
+    record {
+      tree = is_tree;
+      plans = plans;
+      units = subst (λ (ts : List Tag). IsAccountedFor spaces (outside [] ts caches)) (sym leases) first;
+      cpus = record {
+        each = All-cons (IsCpuIn spaces) c [] (omega arith, fresh_places spaces 0) (All-nil (IsCpuIn spaces));
+        numbers = λ i j e lt below. absurd (omega (arith, lt, below));
+        there = λ none. (let e : Some c ≡ None = none in cc);
+      };
+      book = record { entries = []; history = history; possible = tt };
+    }
+
+pub fresh_cpu_fits : FreshCpuFits
+fresh_cpu_fits = record {
+  of = fresh_places;
+  none = fresh_rounds;
+  own = fresh_own;
+}
