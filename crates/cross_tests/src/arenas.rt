@@ -478,7 +478,7 @@ fn words(rt: HostRuntime) -> Result<(), Fail> {
     for (fault, word) in [
         (ArenaFault::BadRequest, "bad request"),
         (ArenaFault::NoFit, "no fit"),
-        (ArenaFault::NoMemory, "no memory"),
+        (ArenaFault::NoMemory, "out of memory"),
     ] {
         let text = format!(in rt.alloc(); "{fault}")?;
         assert_eq!(rt; text.as_str(), word);

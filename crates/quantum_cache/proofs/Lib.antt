@@ -15,6 +15,7 @@ mod LookTellings
 mod PlacingPaths
 mod ReapBounds
 mod ReapTellings
+mod Runs
 mod Tellings
 mod Turns
 mod Walks

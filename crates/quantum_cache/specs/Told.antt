@@ -58,10 +58,10 @@ abbrev pub NoneFitted : List Level → ℕ → List Answered → Type 0
 NoneFitted chain n told = (before : List Answered) × (told ≡ none_fitted chain n before)
 
 -- what an allocation ends with: a segment that serves; for no units alone a bad request; NoFit
--- where the last that was asked of each arena of the chain, the first among them, was a carve of the
--- size or of its import amount, which found no choice; out of memory where a carve, an import or a
--- new slab was, and what was carved for it was freed; a segment where a part has just refused it;
--- stopped where a part has just said so
+-- where the last that was asked of each arena of the chain, the first among them, was a carve of
+-- the size or of its import amount, which found no choice; out of memory where a carve, an import
+-- or a new slab was, and what was carved for it was freed; a segment where a part has just refused
+-- it; stopped where a part has just said so
 abbrev pub AllocTold : List Node → List Level → ℕ → List Answered → Climbed → Type 0
 AllocTold nodes chain size told (Ok t) = IsServed nodes chain size t
 AllocTold nodes chain size told (Err climbing.BadRequest) = AsksForNone chain size

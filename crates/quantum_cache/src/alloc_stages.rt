@@ -3,7 +3,8 @@ ghost use Rattle.std.specs.Prelude.{◌≡◌, ◌<◌, ◌%◌, length, Some};
 ghost use Rattle.arena_tree.specs.Chains.{IsChain, first_id, quantum_in};
 ghost use Rattle.arena_tree.specs.Plans.{Ran};
 ghost use Rattle.arena_tree.specs.Tags.{tag_climb, tag_climb_fault};
-ghost use Rattle.quantum_cache.specs.Allocs.{tag_stage, on_no_slab, take_round, take_from_depot, change_over, take_chunk, make_slab, take_from_slab};
+ghost use Rattle.quantum_cache.specs.Allocs.{tag_stage, on_no_slab, take_round, take_from_depot};
+ghost use Rattle.quantum_cache.specs.Allocs.{change_over, take_chunk, make_slab, take_from_slab};
 
 use arena_tree::{
     ChangeFault, ClimbFault, Level, Parts, ReturnFault, SlabAddFault, SwapFullFault, climb_alloc,
@@ -15,7 +16,7 @@ use deed_core::{Held, Route};
 pub(crate) type Stage<S> = Option<Result<S, ClimbFault<S>>>;
 
 /// A round of the CPU's own.
-#[tactic(auto, using(arena_tree::proofs::LawProofs::ran_ask, arena_tree::proofs::LawProofs::ran_done), unfolding(crate::specs::Allocs::take_round))]
+#[tactic(auto, using(crate::proofs::Runs::asks), unfolding(crate::specs::Allocs::take_round))]
 pub(crate) fn round<S: Held, P: Parts<S>>(parts: &mut P, arena: u32, cache: u8) -> Stage<S>
     ensures ran { Ran P.step P.tree P.count P.rounds (take_round arena cache)
         parts.old parts.new (tag_stage S.tag result) }
@@ -29,7 +30,7 @@ pub(crate) fn round<S: Held, P: Parts<S>>(parts: &mut P, arena: u32, cache: u8) 
 }
 
 // The CPU changes over to magazines of this size, and the next stage is tried.
-#[tactic(auto, using(arena_tree::proofs::LawProofs::ran_ask, arena_tree::proofs::LawProofs::ran_done), unfolding(crate::specs::Allocs::change_over))]
+#[tactic(auto, using(crate::proofs::Runs::asks), unfolding(crate::specs::Allocs::change_over))]
 fn change_over<S: Held, P: Parts<S>>(parts: &mut P, arena: u32, cache: u8, size: usize) -> Stage<S>
     ensures ran { Ran P.step P.tree P.count P.rounds (change_over arena cache size)
         parts.old parts.new (tag_stage S.tag result) }
@@ -44,7 +45,7 @@ fn change_over<S: Held, P: Parts<S>>(parts: &mut P, arena: u32, cache: u8, size:
 }
 
 /// An exchange for a full magazine of the depot, then a round.
-#[tactic(auto, using(arena_tree::proofs::LawProofs::ran_ask, arena_tree::proofs::LawProofs::ran_done), unfolding(crate::specs::Allocs::take_from_depot))]
+#[tactic(auto, using(crate::proofs::Runs::asks), unfolding(crate::specs::Allocs::take_from_depot))]
 pub(crate) fn depot_round<S: Held, P: Parts<S>>(parts: &mut P, arena: u32, cache: u8) -> Stage<S>
     ensures ran { Ran P.step P.tree P.count P.rounds (take_from_depot arena cache)
         parts.old parts.new (tag_stage S.tag result) }
@@ -59,7 +60,7 @@ pub(crate) fn depot_round<S: Held, P: Parts<S>>(parts: &mut P, arena: u32, cache
 }
 
 /// An idle chunk of a slab.
-#[tactic(auto, using(arena_tree::proofs::LawProofs::ran_ask, arena_tree::proofs::LawProofs::ran_done), unfolding(crate::specs::Allocs::take_chunk))]
+#[tactic(auto, using(crate::proofs::Runs::asks), unfolding(crate::specs::Allocs::take_chunk))]
 pub(crate) fn chunk<S: Held, P: Parts<S>>(parts: &mut P, arena: u32, cache: u8) -> Stage<S>
     ensures ran { Ran P.step P.tree P.count P.rounds (take_chunk arena cache)
         parts.old parts.new (tag_stage S.tag result) }
@@ -73,7 +74,7 @@ pub(crate) fn chunk<S: Held, P: Parts<S>>(parts: &mut P, arena: u32, cache: u8) 
 }
 
 // The span becomes a slab, or goes back where it is out of memory for that.
-#[tactic(auto, using(arena_tree::proofs::LawProofs::ran_then, arena_tree::proofs::LawProofs::ran_ask, arena_tree::proofs::LawProofs::ran_done), unfolding(crate::specs::Allocs::make_slab))]
+#[tactic(auto, using(crate::proofs::Runs::goes_on), unfolding(crate::specs::Allocs::make_slab))]
 fn make_slab<S: Held, P: Parts<S>>(
     parts: &mut P,
     chain: &[Level],
@@ -118,7 +119,7 @@ fn unless_no_fit<S: Held>(fault: ClimbFault<S>) -> Stage<S>
 }
 
 /// The first chunk of a new slab.
-#[tactic(auto, using(arena_tree::proofs::LawProofs::ran_then, arena_tree::proofs::LawProofs::ran_done), unfolding(crate::specs::Allocs::take_from_slab))]
+#[tactic(auto, using(crate::proofs::Runs::ends), unfolding(crate::specs::Allocs::take_from_slab))]
 pub(crate) fn slab_chunk<S: Held, P: Parts<S>>(
     parts: &mut P,
     chain: &[Level],

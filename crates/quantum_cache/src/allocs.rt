@@ -87,7 +87,7 @@ pub fn alloc<S: Held, P: Parts<S>>(
 }
 
 /// Gives a segment of the arena that meets the request. It never imports, and goes past the caches.
-#[tactic(auto, using(arena_tree::proofs::LawProofs::ran_ask, arena_tree::proofs::LawProofs::ran_done))]
+#[tactic(auto, using(crate::proofs::Runs::asks))]
 pub fn xalloc<S: Held, P: Parts<S>>(
     parts: &mut P,
     arena: u32,

@@ -2,7 +2,8 @@
 ghost use Rattle.std.specs.Prelude.{◌≡◌, ℕ, ◌+◌, ◌<◌, ◌≤◌, All, IfNone, length};
 ghost use Rattle.arena_tree.specs.Plans.{Ran};
 ghost use Rattle.quantum_cache.specs.Caches.{over_caches, over_arenas, chain_in};
-ghost use Rattle.quantum_cache.specs.Drains.{tag_turn, drain_turn, drain_end, tag_emptied, drain_cache, drain_arena, drain_plan};
+ghost use Rattle.quantum_cache.specs.Drains.{tag_turn, drain_turn, drain_end, tag_emptied};
+ghost use Rattle.quantum_cache.specs.Drains.{drain_cache, drain_arena, drain_plan};
 ghost use Rattle.quantum_cache.specs.Sizes.{caches_in};
 
 use crate::emptying_faults::EmptyingFault;
@@ -12,7 +13,7 @@ use arena_tree::{Level, Parts, ReturnFault, Tree};
 use deed_core::Held;
 
 // A round goes to its slab. None where there may be more.
-#[tactic(auto, using(arena_tree::proofs::LawProofs::ran_then, arena_tree::proofs::LawProofs::ran_ask, arena_tree::proofs::LawProofs::ran_done), unfolding(crate::specs::Drains::drain_turn))]
+#[tactic(auto, using(crate::proofs::Runs::goes_on), unfolding(crate::specs::Drains::drain_turn))]
 fn drain_one<S: Held, P: Parts<S>>(
     parts: &mut P,
     arena: u32,

@@ -3,7 +3,8 @@ ghost use Rattle.std.specs.Prelude.{◌≡◌, ◌+◌, ◌≤◌, Some, length}
 ghost use Rattle.arena_tree.specs.Chains.{IsChain, first_id};
 ghost use Rattle.arena_tree.specs.Plans.{Ran};
 ghost use Rattle.arena_tree.specs.Tags.{tag_return};
-ghost use Rattle.quantum_cache.specs.Frees.{tag_placing, push_round, push_changed, push_fresh, push_exchanged, put_chunk, free_cached, free_plan};
+ghost use Rattle.quantum_cache.specs.Frees.{tag_placing, push_round, push_changed, push_fresh};
+ghost use Rattle.quantum_cache.specs.Frees.{push_exchanged, put_chunk, free_cached, free_plan};
 ghost use Rattle.quantum_cache.specs.Laws.{free_most};
 
 use crate::placings::Placing;
@@ -14,7 +15,7 @@ use arena_tree::{
 use deed_core::{Held, Route};
 
 // Into the CPU's own magazines.
-#[tactic(auto, using(arena_tree::proofs::LawProofs::ran_ask, arena_tree::proofs::LawProofs::ran_done), unfolding(crate::specs::Frees::push_round))]
+#[tactic(auto, using(crate::proofs::Runs::asks), unfolding(crate::specs::Frees::push_round))]
 fn push<S: Held, P: Parts<S>>(parts: &mut P, arena: u32, cache: u8, segment: S) -> Placing<S>
     ensures ran { Ran P.step P.tree P.count P.rounds (push_round arena cache (S.tag segment))
         parts.old parts.new (tag_placing S.tag result) }
@@ -28,7 +29,7 @@ fn push<S: Held, P: Parts<S>>(parts: &mut P, arena: u32, cache: u8, segment: S) 
 }
 
 // After the CPU changed over to magazines of this size.
-#[tactic(auto, using(arena_tree::proofs::LawProofs::ran_ask, arena_tree::proofs::LawProofs::ran_done), unfolding(crate::specs::Frees::push_changed))]
+#[tactic(auto, using(crate::proofs::Runs::asks), unfolding(crate::specs::Frees::push_changed))]
 fn change_and_push<S: Held, P: Parts<S>>(
     parts: &mut P,
     arena: u32,
@@ -50,7 +51,7 @@ fn change_and_push<S: Held, P: Parts<S>>(
 }
 
 // After a full magazine was exchanged for one that was made.
-#[tactic(auto, using(arena_tree::proofs::LawProofs::ran_ask, arena_tree::proofs::LawProofs::ran_done), unfolding(crate::specs::Frees::push_fresh))]
+#[tactic(auto, using(crate::proofs::Runs::asks), unfolding(crate::specs::Frees::push_fresh))]
 fn freshen_and_push<S: Held, P: Parts<S>>(
     parts: &mut P,
     arena: u32,
@@ -70,7 +71,7 @@ fn freshen_and_push<S: Held, P: Parts<S>>(
 }
 
 // After a full magazine was exchanged for an empty one of the depot, or for one that was made.
-#[tactic(auto, using(arena_tree::proofs::LawProofs::ran_ask, arena_tree::proofs::LawProofs::ran_done), unfolding(crate::specs::Frees::push_exchanged))]
+#[tactic(auto, using(crate::proofs::Runs::asks), unfolding(crate::specs::Frees::push_exchanged))]
 fn exchange_and_push<S: Held, P: Parts<S>>(
     parts: &mut P,
     arena: u32,
@@ -90,7 +91,7 @@ fn exchange_and_push<S: Held, P: Parts<S>>(
 }
 
 /// Puts a chunk back into its slab.
-#[tactic(auto, using(arena_tree::proofs::LawProofs::ran_ask, arena_tree::proofs::LawProofs::ran_done), unfolding(crate::specs::Frees::put_chunk))]
+#[tactic(auto, using(crate::proofs::Runs::asks), unfolding(crate::specs::Frees::put_chunk))]
 pub(crate) fn put_back<S: Held, P: Parts<S>>(
     parts: &mut P,
     segment: S,

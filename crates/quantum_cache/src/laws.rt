@@ -1,6 +1,8 @@
 //! Laws of the lists of steps, for the proofs of the layers above. The functions do nothing: their
 //! contracts are the laws, and proofs/LawProofs.antt hands them on.
-ghost use Rattle.quantum_cache.specs.Laws.{AllocHandles, XallocHandles, FreeHandles, DrainHandles, ReapArenaHandles, ReapHandles, AllocIsShort, FreeIsShort, ReapIsShort};
+ghost use Rattle.quantum_cache.specs.Laws.{AllocHandles, XallocHandles, FreeHandles, DrainHandles};
+ghost use Rattle.quantum_cache.specs.Laws.{ReapArenaHandles, ReapHandles, AllocIsShort};
+ghost use Rattle.quantum_cache.specs.Laws.{FreeIsShort, ReapIsShort};
 ghost use Rattle.quantum_cache.specs.Looks.{DrainTells, ReapTells};
 ghost use Rattle.quantum_cache.specs.Told.{AllocTells, FreeTells};
 

@@ -6,7 +6,8 @@ ghost use Rattle.arena_tree.specs.Chains.{IsChain, first_id};
 ghost use Rattle.arena_tree.specs.Plans.{Ran};
 ghost use Rattle.arena_tree.specs.Trees.{nodes_of};
 ghost use Rattle.quantum_cache.specs.Caches.{over_caches, over_arenas, chain_in};
-ghost use Rattle.quantum_cache.specs.Reaps.{CanCount, tag_reaped, tag_reap, reap_round, reap_slab, reap_by, reap_cache, reap_arena_plan, reap_plan};
+ghost use Rattle.quantum_cache.specs.Reaps.{CanCount, tag_reaped, tag_reap, reap_round, reap_slab};
+ghost use Rattle.quantum_cache.specs.Reaps.{reap_by, reap_cache, reap_arena_plan, reap_plan};
 
 use crate::emptying_faults::EmptyingFault;
 use crate::frees::put_back;
@@ -31,7 +32,7 @@ pub struct ReapFault<S> {
 }
 
 // One round of the depot goes to its slab. None where there is none.
-#[tactic(auto, using(arena_tree::proofs::LawProofs::ran_then, arena_tree::proofs::LawProofs::ran_ask, arena_tree::proofs::LawProofs::ran_done), unfolding(crate::specs::Reaps::reap_round))]
+#[tactic(auto, using(crate::proofs::Runs::goes_on), unfolding(crate::specs::Reaps::reap_round))]
 fn one_round<S: Held, P: Parts<S>>(
     parts: &mut P,
     arena: u32,
@@ -54,7 +55,7 @@ fn one_round<S: Held, P: Parts<S>>(
 }
 
 // One complete slab goes to its arena: its units. None where there is none.
-#[tactic(auto, using(arena_tree::proofs::LawProofs::ran_then, arena_tree::proofs::LawProofs::ran_ask, arena_tree::proofs::LawProofs::ran_done), unfolding(crate::specs::Reaps::reap_slab))]
+#[tactic(auto, using(crate::proofs::Runs::goes_on), unfolding(crate::specs::Reaps::reap_slab))]
 fn one_slab<S: Held, P: Parts<S>>(
     parts: &mut P,
     chain: &[Level],
@@ -137,7 +138,7 @@ fn reap_slabs<S: Held, P: Parts<S>>(
 }
 
 // One cache: the rounds of its depot, and then its slabs.
-#[tactic(auto, using(arena_tree::proofs::LawProofs::ran_then, arena_tree::proofs::LawProofs::ran_done), unfolding(crate::specs::Reaps::reap_cache))]
+#[tactic(auto, using(crate::proofs::Runs::ends), unfolding(crate::specs::Reaps::reap_cache))]
 fn reap_cache<S: Held, P: Parts<S>>(
     parts: &mut P,
     chain: &[Level],

@@ -108,7 +108,7 @@ module _ (old new : List SpaceState) (before after : Outside) (o : IsAccountedFo
   up = (tops_stand old before o).1 k s at
 
   own : (x : SpaceState) × (slice_get new k ≡ Some x) × (x.source ≡ s.source)
-  own = now old new g.fixed k s at
+  own = now old new g.steps.fixed k s at
 
   mine_here : 0 < mine own.0
   mine_here = omega (arith, weighs_here own.0.arena.id (covers_tag u) t (g.home ∙ sym (n.parts k own.0 own.1).id), (counts_the_unit u t.holding.range).1.1 has)
@@ -127,14 +127,14 @@ module _ (old new : List SpaceState) (before after : Outside) (o : IsAccountedFo
   nowhere_else : (b : ℕ) (y : SpaceState) → slice_get new b ≡ Some y → HasTop new b r → unexported (New y) ≤ mine y
   nowhere_else b y there over = elim (cases_eq (others y) 0) [
     | inl none ↦ omega (arith, none)
-    | inr more ↦ absurd (never_both new after n u r others mine both b k y own.0 there over (omega (arith, more)) own.1 (top_stays old new g.fixed k r up) mine_here)
+    | inr more ↦ absurd (never_both new after n u r others mine both b k y own.0 there over (omega (arith, more)) own.1 (top_stays old new g.steps.fixed k r up) mine_here)
   ]
 
   -- it is a unit of the space, and was one
   was_in_space : 0 < sum_by (only (is_under (tops_stand old before o).0 r) (λ x. unexported (Old x))) old
   was_in_space =
       let top = top_is_root old k r up in
-      let later = now old new g.fixed r top.0 top.1 in
+      let later = now old new g.steps.fixed r top.0 top.1 in
       let all = space_unit_adds_up old before o (tops_stand old before o).0 (tops_stand old before o).1 r top.0 top.1 top.2 u in
       let mine_all = unit_adds_up new after n k own.0 own.1 u in
       omega (
@@ -142,8 +142,8 @@ module _ (old new : List SpaceState) (before after : Outside) (o : IsAccountedFo
         all.0,
         root_spans old before o u r top.0 top.1 top.2,
         root_spans new after n u r later.0 later.1 (later.2 ∙ top.2),
-        ap (λ (hs : List Holding). covering_held u hs) (g.owned r top.0 later.0 top.1 later.1),
-        spans_are_of_source new after n k r own.0 later.0 (up_to_top new k r (top_stays old new g.fixed k r up)) own.1 later.1 u,
+        ap (λ (hs : List Holding). covering_held u hs) (g.steps.owned r top.0 later.0 top.1 later.1),
+        spans_are_of_source new after n k r own.0 later.0 (up_to_top new k r (top_stays old new g.steps.fixed k r up)) own.1 later.1 u,
         mine_all.0,
         in_hand own.0,
         mine_here,
@@ -163,28 +163,28 @@ module _ (old new : List SpaceState) (before after : Outside) (o : IsAccountedFo
     )
 
     leased_same : (New y).leased ≡ (Old x).leased
-    leased_same = ap (λ (ts : List Tag). sum_by (covers_held u) (held_of y.arena.id ts)) g.leases ∙ ap (λ i. sum_by (covers_held u) (held_of i before.leases)) home
+    leased_same = ap (λ (ts : List Tag). sum_by (covers_held u) (held_of y.arena.id ts)) g.steps.leases ∙ ap (λ i. sum_by (covers_held u) (held_of i before.leases)) home
 
     slab_same : b ≢ k → (New y).slab ≡ (Old x).slab
-    slab_same ne = ap (λ (cs : List QuantumCacheState). sum_by (covers_held u) (flat_map (λ c. deeds_of c.slab) cs)) (g.caches b x y ne was is)
+    slab_same ne = ap (λ (cs : List QuantumCacheState). sum_by (covers_held u) (flat_map (λ c. deeds_of c.slab) cs)) (g.steps.caches b x y ne was is)
 
     magazine_same : b ≢ k → (New y).magazine ≡ (Old x).magazine
     magazine_same ne = omega (
       arith,
       sum_by-append (covers_held u) (flat_map (λ (c : QuantumCacheState). held (depot_rounds c.depot)) y.caches) (held_of y.arena.id (all_rounds_out after.cpus)),
       sum_by-append (covers_held u) (flat_map (λ (c : QuantumCacheState). held (depot_rounds c.depot)) x.caches) (held_of x.arena.id (all_rounds_out before.cpus)),
-      ap (λ (cs : List QuantumCacheState). sum_by (covers_held u) (flat_map (λ c. held (depot_rounds c.depot)) cs)) (g.caches b x y ne was is),
+      ap (λ (cs : List QuantumCacheState). sum_by (covers_held u) (flat_map (λ c. held (depot_rounds c.depot)) cs)) (g.steps.caches b x y ne was is),
       ap (λ i. sum_by (covers_held u) (held_of i (all_rounds_out after.cpus))) (n.parts b y is).id,
       ap (λ i. sum_by (covers_held u) (held_of i (all_rounds_out before.cpus))) (o.parts b x was).id,
       held_weigh b (covers_held u) (all_rounds_out after.cpus),
       held_weigh b (covers_held u) (all_rounds_out before.cpus),
-      g.rounds b ne (covers_tag u),
+      g.steps.rounds b ne (covers_tag u),
     )
 
     -- where it was
     was_at : HasTop old b r → 0 < unexported (Old x) → IsReachable old before k s u
     was_at over some =
-        let least = nowhere_else b y is (top_stays old new g.fixed b r over) in
+        let least = nowhere_else b y is (top_stays old new g.steps.fixed b r over) in
         let hand = hand_gained in
         let leased = leased_same in
         elim (cases_eq b k) [
@@ -200,7 +200,7 @@ module _ (old new : List SpaceState) (before after : Outside) (o : IsAccountedFo
               let slab = slab_same ne in
               let magazine = magazine_same ne in
               let free_was : 0 < covering_held u x.arena.free = omega (arith, least, hand, leased, none, slab, magazine, some) in
-              elim (g.arenas b x y was is) [
+              elim (g.steps.arenas b x y was is) [
                 | inl chain ↦ inl (free_above_is_free old before o k b u x chain was free_was)
                 | inr same ↦ absurd (let still = ap (λ (z : ArenaState). covering_held u z.free) same in omega (arith, least, none, still, free_was))
               ]
@@ -210,7 +210,7 @@ module _ (old new : List SpaceState) (before after : Outside) (o : IsAccountedFo
   was_reachable =
       let found = sum_some (only (is_under (tops_stand old before o).0 r) (λ x. unexported (Old x))) old was_in_space in
       let part = either_some (is_under (tops_stand old before o).0 r found.1) (unexported (Old found.1)) found.3 in
-      let later = now old new g.fixed found.0 found.1 found.2 in
+      let later = now old new g.steps.fixed found.0 found.1 found.2 in
       let id = (o.parts found.0 found.1 found.2).id in
       let test : nat_eq ((tops_stand old before o).0 found.0) r ≡ true = ap (λ i. nat_eq ((tops_stand old before o).0 i) r) (sym id) ∙ part.0 in
       let top : (tops_stand old before o).0 found.0 ≡ r = grind (arith, nat_tests) in

@@ -7,6 +7,7 @@ mod Tops
 mod WholeSpaces
 mod Reaching
 mod Giving
+mod OffChain
 mod Counting
 mod Auditing
 pub mod LawProofs

@@ -67,12 +67,10 @@ pub record ReleaseMove (t : Tag) (before after : Outside) : Type 0 where
   pub leases : Loses before.leases after.leases t
   pub cpus : after.cpus ≡ before.cpus
 
--- a segment of the arena at the place k came into a hand, by whatever steps on the arenas up its
--- chain and on its own caches, of the stock and of CPUs: all other arenas, caches and CPUs' rounds
--- are as before, and so are owned spans and leases
-pub record IsGiven (k : ℕ) (t : Tag) (old new : List SpaceState) (before after : Outside)
-    : Type 0 where
-  pub home : t.arena ≡ k
+-- whatever steps were taken, they were on the arenas up the chain from the place k and on the
+-- caches of that one, of the stock and of CPUs: all other arenas, caches and rounds are as before,
+-- and so are owned spans and leases
+pub record StaysOffChain (k : ℕ) (old new : List SpaceState) (before after : Outside) : Type 0 where
   pub fixed : plans_of new ≡ plans_of old
   pub arenas : (b : ℕ) (s x : SpaceState) → slice_get old b ≡ Some s → slice_get new b ≡ Some x
       → IsUpFrom old k b ⊎ (x.arena ≡ s.arena)
@@ -83,8 +81,14 @@ pub record IsGiven (k : ℕ) (t : Tag) (old new : List SpaceState) (before after
   pub rounds : (b : ℕ) → b ≢ k → (f : Tag → ℕ)
       → sum_by (of_arena b f) (all_rounds_out after.cpus)
       ≡ sum_by (of_arena b f) (all_rounds_out before.cpus)
-  pub hands : Gains before.hands after.hands t
   pub leases : after.leases ≡ before.leases
+
+-- a segment of the arena came into a hand by such steps
+pub record IsGiven (k : ℕ) (t : Tag) (old new : List SpaceState) (before after : Outside)
+    : Type 0 where
+  pub home : t.arena ≡ k
+  pub steps : StaysOffChain k old new before after
+  pub hands : Gains before.hands after.hands t
 
 -- the CPUs' caches are others, each of a quantum cache of the stock, with the same rounds in them
 -- all

@@ -1,5 +1,6 @@
 -- What follows for a stock and the segments that are out of it.
-use Rattle.std.specs.Prelude.{◌≡◌, ℕ, ◌+◌, ◌<◌, ◌≤◌, List, [], ◌++◌, All, AllPairs, filter}
+use Rattle.std.specs.Prelude.{◌≡◌, ◌≢◌, ℕ, ◌+◌, ◌<◌, ◌≤◌, List, [], ◌++◌, All, AllPairs, filter}
+use Rattle.std.specs.Prelude.{set}
 use Rattle.std.specs.Prelude.{slice_get, Some, None, sum_by}
 use Rattle.deed_core.specs.Holding.{Holding}
 use Rattle.deed_core.specs.Tag.{Tag}
@@ -9,17 +10,18 @@ use Rattle.deed_core.specs.declared.requests.Request.{Request}
 use Rattle.deed_core.specs.Covering.{covering_held, units_in, units_held}
 use Rattle.deed_core.specs.Selections.{came_direct}
 use Rattle.deed_core.specs.Weights.{only, of_arena}
-use Rattle.tag_arena.specs.ArenaState.{spans_of, ranges_of}
-use Rattle.stock.specs.Spaces.{SpaceState}
+use Rattle.tag_arena.specs.ArenaState.{ArenaState, spans_of, ranges_of}
+use Rattle.stock.specs.Spaces.{SpaceState, QuantumCacheState, plans_of, with_arena, with_caches}
 use Rattle.stock.specs.OwnCaches.{OwnCacheState, own_rounds}
 use Rattle.stock.specs.Accounts.{IsAccounted}
 use Rattle.stock.specs.Sums.{held_of, places_of, total}
 use Rattle.stock.specs.Laws.{HasTop, ApartUpChain}
-use Rattle.stock_audit.specs.Outside.{Outside, nothing_out, out_of, segments_out}
+use Rattle.stock_audit.specs.Outside.{Outside, nothing_out, out_of, segments_out, all_rounds_out}
 use Rattle.stock_audit.specs.Audits.{sums_of_arena, units_of_arena_in}
 use Rattle.stock_audit.specs.Accounted.{IsAccountedFor}
 use Rattle.stock_audit.specs.Keeping.{IsStep, HandsMove, OnCpu, PopMove, PushMove, ChangeMove}
 use Rattle.stock_audit.specs.Keeping.{LeaseMove, ReleaseMove, CpusMove, IsGiven}
+use Rattle.stock_audit.specs.Keeping.{StaysOffChain}
 use Rattle.stock_audit.specs.Chains.{IsUpFrom, IsFreeFor, IsReachable, FitsIn, AreTops, is_under}
 use Rattle.stock_audit.specs.Chains.{unexported, unit_of_arena, spans_of_children, spans_of_slabs}
 
@@ -184,3 +186,32 @@ GivenFittedIn = (old new : List SpaceState) (before after : Outside)
     → (s : SpaceState) → slice_get old k ≡ Some s → (q : Request)
     → Fits s.arena.quantum q t.holding.range.base t.holding.range.len
     → FitsIn old before k s q t.holding.range
+
+-- no step is such, and such steps one after another are
+abbrev pub NoStepOffChain : Type 0
+NoStepOffChain = (k : ℕ) (spaces : List SpaceState) (before after : Outside)
+    → after.leases ≡ before.leases → after.cpus ≡ before.cpus
+    → StaysOffChain k spaces spaces before after
+
+abbrev pub OffChainThen : Type 0
+OffChainThen = (k : ℕ) (old mid new : List SpaceState) (before between after : Outside)
+    → StaysOffChain k old mid before between → StaysOffChain k mid new between after
+    → StaysOffChain k old new before after
+
+-- an arena of the chain changed, and keeps its owned spans
+abbrev pub ArenaStepOffChain : Type 0
+ArenaStepOffChain = (k b : ℕ) (old new : List SpaceState) (before after : Outside)
+    (s : SpaceState) (a : ArenaState) → IsUpFrom old k b → slice_get old b ≡ Some s
+    → new ≡ set old b (with_arena a s) → plans_of new ≡ plans_of old
+    → a.owned ≡ s.arena.owned → after.leases ≡ before.leases → after.cpus ≡ before.cpus
+    → StaysOffChain k old new before after
+
+-- the caches of the first one did, or the CPUs' rounds of it
+abbrev pub CacheStepOffChain : Type 0
+CacheStepOffChain = (k : ℕ) (old new : List SpaceState) (before after : Outside)
+    (s : SpaceState) (cs : List QuantumCacheState) → slice_get old k ≡ Some s
+    → new ≡ set old k (with_caches cs s) → plans_of new ≡ plans_of old
+    → after.leases ≡ before.leases
+    → ((b : ℕ) → b ≢ k → (f : Tag → ℕ) → sum_by (of_arena b f) (all_rounds_out after.cpus)
+    ≡ sum_by (of_arena b f) (all_rounds_out before.cpus))
+    → StaysOffChain k old new before after

@@ -9,6 +9,8 @@ ghost use Rattle.stock_audit.specs.Laws.{SpansAreOfSource, OutNeverOverlaps};
 ghost use Rattle.stock_audit.specs.Laws.{SpaceUnitAddsUp, SpaceAddsUp, TopsStand};
 ghost use Rattle.stock_audit.specs.Laws.{FreeIsNotOut, ReachableIsNotHeld};
 ghost use Rattle.stock_audit.specs.Laws.{FreeAboveIsFree, GivenWasReachable, GivenFittedIn};
+ghost use Rattle.stock_audit.specs.Laws.{NoStepOffChain, OffChainThen};
+ghost use Rattle.stock_audit.specs.Laws.{ArenaStepOffChain, CacheStepOffChain};
 
 /// The six sums of an arena add up to its spans, by units and unit by unit.
 pub fn sum_laws()
@@ -60,10 +62,19 @@ pub fn space_laws()
     ensures reachable { ReachableIsNotHeld }
 {}
 
-/// What an arena gives was reachable: it was free in the arena, in its caches or in the CPUs' rounds
-/// of it, or free up its chain. What is free up the chain is what it may import.
+/// What an arena gives was reachable: it was free in the arena, in its caches or in the CPUs'
+/// rounds of it, or free up its chain. What is free up the chain is what it may import.
 pub fn reach_laws()
     ensures above { FreeAboveIsFree }
     ensures given { GivenWasReachable }
     ensures fitted { GivenFittedIn }
+{}
+
+/// Which steps stay off all but a chain and its first arena's caches, so that what they give was
+/// reachable.
+pub fn off_chain_laws()
+    ensures none { NoStepOffChain }
+    ensures then { OffChainThen }
+    ensures arena { ArenaStepOffChain }
+    ensures cache { CacheStepOffChain }
 {}

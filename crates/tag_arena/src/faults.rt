@@ -14,7 +14,7 @@ pub enum ArenaFault {
     #[error("no fit")]
     NoFit,
     /// A growth or a split was refused.
-    #[error("no memory")]
+    #[error("out of memory")]
     NoMemory,
 }
 
