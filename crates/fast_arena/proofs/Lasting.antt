@@ -1,5 +1,6 @@
 -- The range that begins last, by the falling index.
-use Rattle.std.proofs.Common.{◌≡◌, ℕ, ◌+◌, ◌-◌, ◌*◌, ◌^◌, ◌<◌, ◌≤◌, ap, List, All, Contains, Option, None, Some, arith}
+use Rattle.std.proofs.Common.{◌≡◌, ℕ, ◌+◌, ◌-◌, ◌*◌, ◌^◌, ◌<◌, ◌≤◌, ap, subst, List, All, Contains, Option, None, Some, arith}
+use Rattle.deed_core.specs.Extent.{IsRange}
 use Rattle.tag_arena.proofs.Members.{All-from_members}
 use Rattle.sorted_rows.specs.Order.{Rises, first_from}
 use Rattle.fast_arena.specs.declared.entries.Entry.{Entry}
@@ -39,3 +40,9 @@ module _ (base clock : ℕ) (items : List Entry) (tags : List (Option FreeTag)) 
             let least = first.least (entry_of Falling w.0 w.1) (m.into w.0 w.1 w.2) (omega (arith, b, low, top)) in
             omega (arith, least, rank_e, top, top_t, b),
       )
+
+-- each free range is a range
+pub all_ranges : (clock : ℕ) (tags : List (Option FreeTag)) → AreTags clock tags → All (λ r. IsRange r.range) (ranges_by_age tags)
+all_ranges clock tags are =
+    All-from_members (λ r. IsRange r.range) (ranges_by_age tags)
+    (λ r h. let w = tag_of_free tags r h in subst (λ x. IsRange x.range) w.3 (are w.0 w.1 w.2).range)

@@ -1,9 +1,10 @@
 //! The free ranges of an arena, in the orders that its policy asks for.
 ghost use Rattle.std.specs.Prelude.{◌≡◌, ◌≢◌, ◌+◌, ◌<◌, ◌≤◌, ◌++◌, ◌∷◌, [], All, Any, OnOk, OnErr};
-ghost use Rattle.std.specs.Prelude.{◌^◌, length, max, true, IfSome};
+ghost use Rattle.std.specs.Prelude.{◌%◌, ◌^◌, length, max, true, IfSome};
 ghost use Rattle.std.specs.Int.{IsPowerOfTwo};
 ghost use Rattle.deed_core.specs.Request.{IsGood};
-ghost use Rattle.tag_arena.specs.Choice.{IsBestChoice};
+ghost use Rattle.tag_arena.specs.Choice.{IsBestChoice, IsInstantChoice};
+ghost use Rattle.tag_arena.specs.declared.policies.Policy.TheVariants.{Instant};
 ghost use Rattle.tag_arena.specs.Neighbors.{Without};
 ghost use Rattle.fast_arena.specs.Fits.{base_of, IsFit, IsLastBy};
 ghost use Rattle.fast_arena.specs.FreeRanges.{keeps};
@@ -11,7 +12,7 @@ ghost use Rattle.fast_arena.specs.declared.orders.Order.TheVariants.{Sizes};
 
 use crate::held_ranges::{HeldRange, held_range_of};
 use crate::orders::{Order, OrderedIndex};
-use crate::searches::{Fit, best_fit, last_by};
+use crate::searches::{Fit, best_fit, last_by, newest};
 use crate::slots::{Slots, TimedDeed};
 use deed_core::{Deed, LIMIT, Request, Stored};
 use std::alloc::{AllocError, Global};
@@ -184,6 +185,34 @@ impl<D: Deed> FreeIndex<D> {
         ensures placed { IfSome result (IsFit quantum request.now self.now.ranges) }
     {
         best_fit(&self.slots, &self.sizes, quantum, request)
+    }
+
+    /// As from power-of-two lists: for a request without constraints the newest range of the least
+    /// list whose every member has room, and else, or where there is no such list, the best. It is
+    /// for `instant`, which alone has the lists.
+    pub fn instant(&self, quantum: u64, request: &Request) -> Option<Fit>
+        requires kept { self.now.policy ≡ Instant }
+        requires quantum { IsPowerOfTwo quantum }
+        requires good { IsGood quantum request.now }
+        requires aligned { All (λ r. r.range.base % quantum ≡ 0) self.now.ranges }
+        ensures choice { IsInstantChoice quantum request.now self.now.ranges (base_of result) }
+        ensures placed { IfSome result (IsFit quantum request.now self.now.ranges) }
+    {
+        // The clock is read for the proof alone.
+        let _clock = self.clock;
+        if request.is_constrained() {
+            return self.best(quantum, request);
+        }
+        let Some(units) = request.units(quantum) else {
+            return self.best(quantum, request);
+        };
+        let Some(range) = newest(&self.slots, &self.lists, quantum, units) else {
+            return self.best(quantum, request);
+        };
+        Some(Fit {
+            range,
+            base: range.base(),
+        })
     }
 
     /// Ends the index where no range is free.
