@@ -22,7 +22,7 @@ pub const ACCEPT_PAUSE: u64 = 20;
 /// Serves one connection after another, and gives the worker back once the flag is raised and the
 /// connection that it serves has ended: it looks at the flag after each accepted connection, and
 /// serves none that it accepted later. A connection's fault ends that connection alone.
-pub fn accept_loop<R: Wait + Clock, K: Worker>(
+pub fn worker_loop<R: Wait + Clock, K: Worker>(
     rt: &R,
     alloc: Global,
     listener: &TcpListener,
