@@ -1,10 +1,10 @@
 -- What has a place for some units has one for fewer.
-use Rattle.std.proofs.Common.{◌≡◌, ℕ, suc, zero, ◌+◌, ◌-◌, ◌^◌, ◌<◌, ◌≤◌, refl, sym, subst, ap, ◌∙◌, inl, inr, List, [], ◌∷◌, Option, Some, None, arith}
-use Rattle.std.specs.Prelude.{slice_get, min, max}
+use Rattle.std.proofs.Common.{◌≡◌, ℕ, suc, zero, ◌<◌, ◌≤◌, refl, inl, inr, List, [], ◌∷◌, Option, Some, None, arith}
+use Rattle.std.specs.Prelude.{slice_get, max}
 use Rattle.deed_core.specs.Holding.{Holding}
 use Rattle.deed_core.specs.Request.{plain_of, rounded}
 use Rattle.deed_core.proofs.LawProofs.{rounds_up, rounds_to_the_least, power_some}
-use Rattle.tag_arena.specs.Place.{Serves, ServesIn}
+use Rattle.tag_arena.specs.Place.{ServesIn}
 use Rattle.arena_tree.specs.declared.levels.Level.{Level}
 use Rattle.arena_tree.specs.declared.trees.TreeArena.{TreeArena}
 use Rattle.arena_tree.specs.Chains.{amount_of}
@@ -12,7 +12,6 @@ use Rattle.arena_tree.specs.Trees.{IsTree}
 use Rattle.quantum_cache.specs.Caches.{chain_on, chain_up, chain_in}
 use Rattle.stock.specs.Spaces.{SpaceState}
 use Rattle.stock.specs.Stocks.{IsStock}
-use Rattle.lease_machine.specs.Picture.{Picture, IsPicture}
 use Rattle.lease_machine.specs.Moves.{HasPlaceUp}
 use Rattle.lease_machine.specs.RoomLaws.{FewerFitToo}
 

@@ -1,25 +1,23 @@
 -- A CPU that is new has caches for those of the stock, and no round.
-use Rattle.std.proofs.Common.{◌≡◌, ◌≢◌, ◌⊎◌, ℕ, suc, zero, ◌+◌, ◌<◌, ◌≤◌, Bool, true, false, not, cond, ◌||◌, ◌==◌, get_or, refl, sym, subst, ap, ◌∙◌, inl, inr, List, [], ◌∷◌, ◌++◌, map, length, All, AllPairs, Option, Some, None, arith}
-use Rattle.std.specs.Prelude.{slice_get, sum_by, if◌then◌else◌}
-use Rattle.std.specs.List.{find, flat_map, list_any, IsDistinct, AllByRecursion}
+use Rattle.std.proofs.Common.{◌≡◌, ◌≢◌, ℕ, suc, zero, ◌+◌, ◌<◌, Bool, true, false, cond, ◌||◌, ◌==◌, get_or, refl, sym, subst, ap, ◌∙◌, List, [], ◌∷◌, ◌++◌, map, length, All, AllPairs, Option, Some, None, arith}
+use Rattle.std.specs.Prelude.{slice_get, sum_by}
+use Rattle.std.specs.List.{find, flat_map, list_any}
 use Rattle.std.proofs.lemmas.Bool.Decides.{Decides-eqb}
 use Rattle.std.proofs.lemmas.List.{append-nil, length-map}
 use Rattle.std.proofs.lemmas.List.Elements.{All-cons, All-append, All-nil}
 use Rattle.std.proofs.lemmas.Grind.{flat_map-append}
 use Rattle.deed_core.specs.Tag.{Tag}
 use Rattle.deed_core.proofs.LawProofs.{mapped, power_some, slice_get_some, AllPairs-append}
-use Rattle.arena_tree.specs.declared.trees.TreeArena.{TreeArena}
-use Rattle.stock.specs.Spaces.{SpaceState, SpacePlan, QuantumCacheState, plan_of, plans_of, slab_size_of, HasCache}
+use Rattle.stock.specs.Spaces.{SpaceState, SpacePlan, plan_of, plans_of, slab_size_of}
 use Rattle.stock.specs.Stocks.{IsStock}
 use Rattle.stock.specs.OwnCaches.{OwnCacheState, own_rounds}
 use Rattle.stock_audit.specs.Outside.{all_rounds_out, outside, nothing_out}
 use Rattle.stock_audit.specs.Accounted.{IsOwnIn, IsAccountedFor}
 use Rattle.stock_audit.proofs.LawProofs.{fresh_is_accounted, cpus_keep}
-use Rattle.local_parts.specs.Cpus.{CachePlace, IsCpuOf, own_place, own_places, row_places, places_from, new_own, new_cpu}
+use Rattle.local_parts.specs.Cpus.{CachePlace, IsCpuOf, own_place, own_places, row_places, places_from, new_own}
 use Rattle.lease_proto.specs.Cpus.{IsCpu}
 use Rattle.lease_book.specs.BookState.{leased, leased_by}
-use Rattle.lease_machine.specs.Picture.{Cpu, Picture, IsPicture, AreCpus, is_cpu, caches_of, fresh_cpu, held_outside}
-use Rattle.lease_machine.specs.Operators.{with_cpu}
+use Rattle.lease_machine.specs.Picture.{Cpu, Picture, IsPicture, is_cpu, caches_of, fresh_cpu, held_outside}
 use Rattle.lease_machine.specs.CpuLaws.{FreshIsPicture, SelectedIsPicture, FreshCpuFits}
 
 abbrev joined : List (List OwnCacheState) → List OwnCacheState

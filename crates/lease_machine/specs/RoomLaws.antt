@@ -1,5 +1,6 @@
 -- When a request is refused for want of room.
-use Rattle.std.specs.Prelude.{◌≡◌, ◌≢◌, ◌⊎◌, ℕ, ◌≤◌, List, [], ◌∷◌, All, Contains, slice_get, Some, Ok}
+use Rattle.std.specs.Prelude.{◌≡◌, ◌≢◌, ◌⊎◌, ℕ, ◌≤◌, List, [], ◌∷◌, All, Contains, slice_get}
+use Rattle.std.specs.Prelude.{Some, Ok}
 use Rattle.deed_core.specs.Holding.{Holding}
 use Rattle.deed_core.specs.Request.{IsPlain, plain_of}
 use Rattle.deed_core.specs.declared.requests.Request.{Request}
