@@ -1,6 +1,6 @@
 -- Free ranges in slots, and their order of becoming free.
-use Rattle.std.specs.Prelude.{◌≡◌, ◌≢◌, ℕ, ◌+◌, ◌*◌, ◌^◌, ◌<◌, ◌≤◌, List, [], ◌∷◌, map, insert, Option, Some}
-use Rattle.std.specs.Prelude.{None, slice_index_or}
+use Rattle.std.specs.Prelude.{◌≡◌, ◌≢◌, ℕ, ◌*◌, ◌^◌, ◌<◌, ◌≤◌, List, [], ◌∷◌, map, insert}
+use Rattle.std.specs.Prelude.{Option, Some, None, slice_index_or}
 use Rattle.deed_core.specs.Extent.{IsRange}
 use Rattle.deed_core.specs.Holding.{Holding}
 use Rattle.sorted_rows.specs.Order.{place_below}
@@ -24,7 +24,8 @@ abbrev pub tag_at : List (Option FreeTag) → ℕ → Option FreeTag
 tag_at tags k = slice_index_or tags k None
 
 -- one slot has changed
-pub record SlotBecomes (old new : List (Option FreeTag)) (k : ℕ) (tag : Option FreeTag) : Type 0 where
+pub record SlotBecomes (old new : List (Option FreeTag)) (k : ℕ)
+    (tag : Option FreeTag) : Type 0 where
   pub changed : tag_at new k ≡ tag
   pub others : (j : ℕ) → j ≢ k → tag_at new j ≡ tag_at old j
 

@@ -1,6 +1,6 @@
 -- The orders in which free ranges are kept.
-use Rattle.std.specs.Prelude.{◌≡◌, ◌≢◌, ℕ, ◌+◌, ◌-◌, ◌*◌, ◌^◌, ◌<◌, ◌≤◌, Bool, true, false, List, [], Contains}
-use Rattle.std.specs.Prelude.{Option, Some, None, length, count_by, is_some, All, Any}
+use Rattle.std.specs.Prelude.{◌≡◌, ◌≢◌, ℕ, ◌+◌, ◌-◌, ◌*◌, ◌^◌, ◌<◌, ◌≤◌, Bool, true, false}
+use Rattle.std.specs.Prelude.{List, Contains, Option, Some, length, count_by, is_some, All, Any}
 use Rattle.sorted_rows.specs.Layout.{Listing}
 use Rattle.sorted_rows.specs.Order.{PutsIn, TakesOut}
 use Rattle.fast_arena.specs.declared.entries.Entry.{Entry}
@@ -28,7 +28,8 @@ pub record Ordered : Type 0 where
   pub room : ℕ
 
 -- the entries are those of the tags
-pub record Mirrors (order : Order) (items : List Entry) (tags : List (Option FreeTag)) : Type 0 where
+pub record Mirrors (order : Order) (items : List Entry)
+    (tags : List (Option FreeTag)) : Type 0 where
   pub from : (e : Entry) → Contains items e
       → (t : FreeTag) × (tag_at tags e.slot ≡ Some t) × (e ≡ entry_of order e.slot t)
   pub into : (k : ℕ) (t : FreeTag) → tag_at tags k ≡ Some t → Contains items (entry_of order k t)

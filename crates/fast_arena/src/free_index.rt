@@ -1,6 +1,6 @@
 //! The free ranges of an arena, in the orders that its policy asks for.
 ghost use Rattle.std.specs.Prelude.{◌≡◌, ◌≢◌, ◌+◌, ◌<◌, ◌≤◌, ◌++◌, ◌∷◌, [], All, Any, OnOk, OnErr};
-ghost use Rattle.std.specs.Prelude.{◌%◌, ◌^◌, length, max, true, IfSome};
+ghost use Rattle.std.specs.Prelude.{◌-◌, ◌%◌, ◌^◌, length, max, true, IfSome};
 ghost use Rattle.std.specs.Int.{IsPowerOfTwo};
 ghost use Rattle.deed_core.specs.Request.{IsGood};
 ghost use Rattle.tag_arena.specs.Choice.{IsBestChoice, IsInstantChoice};
@@ -87,6 +87,7 @@ impl<D: Deed> FreeIndex<D> {
         ensures policy { result.policy ≡ policy }
         ensures ranges { result.ranges ≡ [] }
         ensures room { result.room ≡ 0 }
+        ensures ticks { result.ticks ≡ 2 ^ 64 - 1 }
     {
         FreeIndex {
             policy,
@@ -165,6 +166,20 @@ impl<D: Deed> FreeIndex<D> {
         ensures { result ≡ length self.now.ranges }
     {
         self.slots.taken()
+    }
+
+    /// How many free ranges there may be before it needs more room.
+    pub fn room(&self) -> usize
+        ensures { result ≡ self.now.room }
+    {
+        self.room
+    }
+
+    /// How many more ranges may become free before the clock has run out.
+    pub fn ticks(&self) -> u64
+        ensures { result ≡ self.now.ticks }
+    {
+        u64::MAX - self.clock
     }
 
     /// Of the free ranges that begin at `base` or below it, the one that begins last.
