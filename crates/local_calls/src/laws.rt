@@ -23,8 +23,8 @@ pub fn no_fit_laws()
     ensures xalloc { XallocNoFitIsRight }
 {}
 
-/// What a call leaves: a drain no round of the CPU, so that its caches can be closed; a reaping that
-/// has looks left no round that may go and no complete slab.
+/// What a call leaves: a drain no round of the CPU, so that its caches can be closed; a reaping
+/// that has looks left no round that may go and no complete slab.
 pub fn emptied_laws()
     ensures drain { DrainEmptiesCpu }
     ensures reap { ReapLeavesNothing }
