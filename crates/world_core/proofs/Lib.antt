@@ -10,3 +10,4 @@ mod Safety
 mod PartLemmas
 mod BookLemmas
 mod SetupLemmas
+mod AuditLemmas

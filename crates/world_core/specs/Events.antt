@@ -128,29 +128,29 @@ IsEnabled (events.Resizes arena cache size) w = (c : QuantumCacheState)
 IsEnabled event w = IsReady event w
 
 -- why its part refuses an event that can be tried
-abbrev pub IsRefused : WorldEvent → EventFault → WorldState → Type 0
-IsRefused (events.Restarts c i) faults.NotGreater w =
+abbrev pub PartRefuses : WorldEvent → EventFault → WorldState → Type 0
+PartRefuses (events.Restarts c i) faults.NotGreater w =
     (x : ClientState) × (slice_get w.clients c ≡ Some x) × (may_restart i x ≡ false)
-IsRefused (events.Says c op) faults.NotOpen w = (x : ClientState) × (back : Op)
+PartRefuses (events.Says c op) faults.NotOpen w = (x : ClientState) × (back : Op)
     × (slice_get w.clients c ≡ Some x) × (refusal op x ≡ Some (sending.NotOpen back))
-IsRefused (events.Says c op) faults.Busy w = (x : ClientState) × (back : Op)
+PartRefuses (events.Says c op) faults.Busy w = (x : ClientState) × (back : Op)
     × (slice_get w.clients c ≡ Some x) × (refusal op x ≡ Some (sending.Busy back))
-IsRefused (events.Says c op) faults.NotHeld w = (x : ClientState) × (back : Op)
+PartRefuses (events.Says c op) faults.NotHeld w = (x : ClientState) × (back : Op)
     × (slice_get w.clients c ≡ Some x) × (refusal op x ≡ Some (sending.NotHeld back))
-IsRefused (events.Says c op) faults.Exhausted w = (x : ClientState) × (back : Op)
+PartRefuses (events.Says c op) faults.Exhausted w = (x : ClientState) × (back : Op)
     × (slice_get w.clients c ≡ Some x) × (refusal op x ≡ Some (sending.Exhausted back))
-IsRefused (events.Repeats c) faults.Nothing w =
+PartRefuses (events.Repeats c) faults.Nothing w =
     (x : ClientState) × (slice_get w.clients c ≡ Some x) × (x.outstanding ≡ None)
-IsRefused (events.Carves cpu arena q) faults.BadRequest w = HasInHand w cpu None
+PartRefuses (events.Carves cpu arena q) faults.BadRequest w = HasInHand w cpu None
     × (s : SpaceState) × (slice_get w.stock arena ≡ Some s) × ¬ IsGood s.arena.quantum q
-IsRefused (events.Carves cpu arena q) faults.NoFit w = HasInHand w cpu None × (s : SpaceState)
+PartRefuses (events.Carves cpu arena q) faults.NoFit w = HasInHand w cpu None × (s : SpaceState)
     × (slice_get w.stock arena ≡ Some s) × IsGood s.arena.quantum q × IsChosen s.arena q None
-IsRefused (events.SlabAdds cpu arena cache) faults.WrongSize w = (span : Tag)
+PartRefuses (events.SlabAdds cpu arena cache) faults.WrongSize w = (span : Tag)
     × (c : QuantumCacheState) × HasSpanFor w cpu arena cache span c
     × (span.holding.range.len ≢ c.slab.slab_size)
-IsRefused (events.Resizes arena cache size) faults.NotGreater w = (c : QuantumCacheState)
+PartRefuses (events.Resizes arena cache size) faults.NotGreater w = (c : QuantumCacheState)
     × IsCacheAt w.stock arena cache c × IsSize size × (size ≤ c.depot.size)
-IsRefused event why w = ⊥
+PartRefuses event why w = ⊥
 
 -- where an event may ask for memory: some never do, and a sweep asks before it looks for a lease
 abbrev pub MayWantMemory : WorldEvent → WorldState → Type 0
@@ -217,7 +217,7 @@ LeavesAll event old new = new ≡ old
 abbrev pub EndsAs : WorldEvent → Outcome → (old new : WorldState) → Type 0
 EndsAs event Done old new = IsEnabled event old × MovesBy event old new
 EndsAs event NotEnabled old new = (¬ IsReady event old) × LeavesAll event old new
-EndsAs event (Refused why) old new = IsRefused event why old × (new ≡ old)
+EndsAs event (Refused why) old new = PartRefuses event why old × (new ≡ old)
 EndsAs event NoMemory old new = MayWantMemory event old × (new ≡ old)
 
 -- the move is made, or memory was refused

@@ -19,6 +19,7 @@
 //! time of its part's call, and a release looks the name of its arena up among all names.
 #![tactic(auto)]
 
+mod audits;
 mod booking;
 mod carving;
 mod depots;

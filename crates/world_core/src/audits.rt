@@ -1,0 +1,68 @@
+//! Where the units of a world's arenas are.
+ghost use Rattle.std.specs.Prelude.{◌≡◌, ◌<◌, ◌≤◌, ◌^◌, length, sum_by};
+ghost use Rattle.std.specs.Option.{option_to_list};
+ghost use Rattle.deed_core.specs.Covering.{units_in};
+ghost use Rattle.deed_core.specs.Weights.{of_arena};
+ghost use Rattle.stock_audit.specs.Outside.{out_of};
+ghost use Rattle.stock_audit.specs.Audits.{TellsSums, units_of_arena_in};
+ghost use Rattle.world_core.specs.WorldState.{in_hands, outside_of};
+ghost use Rattle.world_core.specs.IsWorld.{IsWorld};
+
+use crate::parts::WorldParts;
+use crate::worlds::World;
+use deed_core::{Deed, Segment};
+use stock_audit::{ArenaSums, UnitsOut, audit_units};
+
+/// The units of the arena's segment in a hand, or 0.
+fn units_in_hand<D: Deed>(hand: &Option<Segment<D>>, arena: usize) -> u64
+    ensures value { result ≡ sum_by (of_arena arena (λ t. units_in t.holding))
+        (option_to_list hand.now) }
+    ensures small { result ≤ 2 ^ 62 }
+{
+    let Some(segment) = hand.as_ref() else {
+        return 0;
+    };
+    if segment.arena() as usize != arena {
+        return 0;
+    }
+    segment.range().len()
+}
+
+/// The units of the arena's segments in hands.
+fn units_in_hands<D: Deed>(hands: &[Option<Segment<D>>], arena: usize) -> u128
+    ensures { result ≡ units_of_arena_in arena (in_hands hands.now) }
+{
+    // For its clause: there are fewer than 2^64.
+    let _ = hands.len();
+    let mut units: u128 = 0;
+    for hand in hands {
+        units += u128::from(units_in_hand(hand, arena));
+    }
+    units
+}
+
+impl<D: Deed> WorldParts<D> {
+    /// The sums of the arena at the place.
+    pub(crate) fn audit(&self, arena: usize) -> ArenaSums
+        requires world { IsWorld self.now }
+        requires within { arena < length self.now.names }
+        ensures { TellsSums self.now.stock arena (out_of (outside_of self.now)) result }
+    {
+        let out = UnitsOut {
+            rounds: 0,
+            leased: self.book.units(arena as u32),
+            hand: units_in_hands(&self.hands, arena),
+        };
+        audit_units(&self.stock, arena, out)
+    }
+}
+
+impl<D: Deed> World<D> {
+    /// The units of the arena at the place, by where they are. It takes no memory.
+    pub fn audit(&self, arena: usize) -> ArenaSums
+        requires within { arena < length self.now.names }
+        ensures { TellsSums self.now.stock arena (out_of (outside_of self.now)) result }
+    {
+        self.parts.audit(arena)
+    }
+}
