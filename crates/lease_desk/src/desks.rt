@@ -19,9 +19,7 @@ use crate::spaces::Space;
 use arena_tree::Setup;
 use deed_core::{PlainDeed, Range};
 use lease_book::Book;
-use lease_proto::{
-    ErrorWord, LINE_ROOM, Line, LineFault, Op, OperatorLine, Reply, ServedLine,
-};
+use lease_proto::{ErrorWord, LINE_ROOM, Line, LineFault, Op, OperatorLine, Reply, ServedLine};
 use std::alloc::{AllocError, Global};
 use std::marker::Model;
 
