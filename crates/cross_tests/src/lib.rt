@@ -8,8 +8,8 @@
 //! rows of requests to a book of leases, `lines` has lines, replies and streams of the protocol,
 //! `client` what a client's core says to replies, `desk` what a desk answers, and `serving` streams
 //! of lines, failing ones too. `tree` has setups of arenas, what is refused of them, and the chains
-//! that they make; `stocks` has forty events on a stock, `stock_sums` the audits of a chain of two
-//! arenas, `climbs` imports over one thread's parts, with the locked steps of each. `seat_deeds`
+//! that they make; `stocks` has a script of events on a stock, `stock_sums` the audits of two arenas
+//! in a chain, `climbs` imports over one thread's parts, with the locked steps of each. `seat_deeds`
 //! has an arena over the deeds of running threads. `promises` cites
 //! what the layers above reckon with: one function for each call or law of the arena, the slab
 //! cache and the magazines, whose contract only its callee's clauses carry.
