@@ -1,7 +1,9 @@
-//! Forty-one events on a stock of two arenas, of which the second imports from the first and has
-//! quantum caches. After each the units in each place are compared with numbers counted by hand.
-ghost use Rattle.std.specs.Prelude.{◌≡◌, ◌+◌};
+//! Fifty-six events on a stock of two arenas, of which the second imports from the first and has
+//! quantum caches, whose slabs have colour gaps and tails. After each the units in each place are
+//! compared with numbers counted by hand.
+ghost use Rattle.std.specs.Prelude.{[]};
 ghost use Rattle.stock.specs.Spaces.{HasCache};
+ghost use Rattle.stock.specs.Accounts.{Accounts};
 
 use arena_tree::{NewChild, NewRoot, Setting, Setup};
 use deed_core::{Deed, PlainDeed, Request, Route, Segment};
@@ -18,7 +20,8 @@ type Sums = [u128; 6];
 const NONE: Sums = [0, 0, 0, 0, 0, 0];
 
 /// What happens. The segment that an event moves is the last in the hand, and what it answers is the
-/// last in the hand afterwards. The CPU's cache is of chunks of one unit of the second arena.
+/// last in the hand afterwards. A cache is one of the second arena, named by the units of a chunk;
+/// the CPU's is of chunks of five.
 #[derive(Clone, Copy, PartialEq, Eq, Debug)]
 enum Event {
     /// Of the arena with this number, so many units.
@@ -28,14 +31,18 @@ enum Event {
     Import(u64),
     Lease,
     Release,
-    SlabAdd,
-    SlabTake,
+    SlabAdd(u8),
+    SlabTake(u8),
     SlabPut,
-    SlabReap,
+    SlabReap(u8),
     Push,
     Pop,
+    SwapFull,
+    SwapEmpty,
     SwapFresh,
-    /// To magazines of seven rounds.
+    /// The depot keeps magazines of seven rounds from here on.
+    Resize,
+    /// The CPU changes from magazines of three rounds to magazines of seven.
     Change,
     Tick,
     DepotReap,
@@ -43,48 +50,67 @@ enum Event {
     Remove,
 }
 
-/// Each event, and the sums of both arenas after it.
-const SCRIPT: [(Event, Sums, Sums); 41] = [
-    (Event::Carve(0, 16), [48, 0, 0, 0, 0, 16], NONE),
-    (Event::Import(4), [48, 0, 0, 16, 0, 0], [12, 0, 0, 0, 0, 4]),
-    (Event::Lease, [48, 0, 0, 16, 0, 0], [12, 0, 0, 0, 4, 0]),
-    (Event::Carve(1, 8), [48, 0, 0, 16, 0, 0], [4, 0, 0, 0, 4, 8]),
-    (Event::SlabAdd, [48, 0, 0, 16, 0, 0], [4, 7, 0, 0, 4, 1]),
-    (Event::Push, [48, 0, 0, 16, 0, 0], [4, 7, 1, 0, 4, 0]),
-    (Event::SlabTake, [48, 0, 0, 16, 0, 0], [4, 6, 1, 0, 4, 1]),
-    (Event::Push, [48, 0, 0, 16, 0, 0], [4, 6, 2, 0, 4, 0]),
-    (Event::SlabTake, [48, 0, 0, 16, 0, 0], [4, 5, 2, 0, 4, 1]),
-    (Event::Push, [48, 0, 0, 16, 0, 0], [4, 5, 3, 0, 4, 0]),
-    (Event::SlabTake, [48, 0, 0, 16, 0, 0], [4, 4, 3, 0, 4, 1]),
-    (Event::Push, [48, 0, 0, 16, 0, 0], [4, 4, 4, 0, 4, 0]),
-    (Event::SlabTake, [48, 0, 0, 16, 0, 0], [4, 3, 4, 0, 4, 1]),
-    (Event::Push, [48, 0, 0, 16, 0, 0], [4, 3, 5, 0, 4, 0]),
-    (Event::SlabTake, [48, 0, 0, 16, 0, 0], [4, 2, 5, 0, 4, 1]),
-    (Event::Push, [48, 0, 0, 16, 0, 0], [4, 2, 6, 0, 4, 0]),
-    (Event::SwapFresh, [48, 0, 0, 16, 0, 0], [4, 2, 6, 0, 4, 0]),
-    (Event::SlabTake, [48, 0, 0, 16, 0, 0], [4, 1, 6, 0, 4, 1]),
-    (Event::Push, [48, 0, 0, 16, 0, 0], [4, 1, 7, 0, 4, 0]),
-    (Event::Pop, [48, 0, 0, 16, 0, 0], [4, 1, 6, 0, 4, 1]),
-    (Event::SlabPut, [48, 0, 0, 16, 0, 0], [4, 2, 6, 0, 4, 0]),
-    (Event::Tick, [48, 0, 0, 16, 0, 0], [4, 2, 6, 0, 4, 0]),
-    (Event::DepotReap, [48, 0, 0, 16, 0, 0], [4, 2, 5, 0, 4, 1]),
-    (Event::SlabPut, [48, 0, 0, 16, 0, 0], [4, 3, 5, 0, 4, 0]),
-    (Event::DepotReap, [48, 0, 0, 16, 0, 0], [4, 3, 4, 0, 4, 1]),
-    (Event::SlabPut, [48, 0, 0, 16, 0, 0], [4, 4, 4, 0, 4, 0]),
-    (Event::DepotReap, [48, 0, 0, 16, 0, 0], [4, 4, 3, 0, 4, 1]),
-    (Event::SlabPut, [48, 0, 0, 16, 0, 0], [4, 5, 3, 0, 4, 0]),
-    (Event::Change, [48, 0, 0, 16, 0, 0], [4, 5, 3, 0, 4, 0]),
-    (Event::Pop, [48, 0, 0, 16, 0, 0], [4, 5, 2, 0, 4, 1]),
-    (Event::SlabPut, [48, 0, 0, 16, 0, 0], [4, 6, 2, 0, 4, 0]),
-    (Event::Pop, [48, 0, 0, 16, 0, 0], [4, 6, 1, 0, 4, 1]),
-    (Event::SlabPut, [48, 0, 0, 16, 0, 0], [4, 7, 1, 0, 4, 0]),
-    (Event::Pop, [48, 0, 0, 16, 0, 0], [4, 7, 0, 0, 4, 1]),
-    (Event::SlabPut, [48, 0, 0, 16, 0, 0], [4, 8, 0, 0, 4, 0]),
-    (Event::SlabReap, [48, 0, 0, 16, 0, 0], [4, 0, 0, 0, 4, 8]),
-    (Event::Free, [48, 0, 0, 16, 0, 0], [12, 0, 0, 0, 4, 0]),
-    (Event::Release, [48, 0, 0, 16, 0, 0], [12, 0, 0, 0, 0, 4]),
-    (Event::Free, [48, 0, 0, 0, 0, 16], NONE),
-    (Event::Free, [64, 0, 0, 0, 0, 0], NONE),
+/// The first arena while the second has its span.
+const EXPORTED: Sums = [64, 0, 0, 64, 0, 0];
+
+/// Each event, and the sums of both arenas after it. A slab of 16 units has three chunks of five and
+/// a unit over: the first slab's is its tail, the second's its gap. Chunks of three leave one too.
+const SCRIPT: [(Event, Sums, Sums); 56] = [
+    (Event::Carve(0, 64), [64, 0, 0, 0, 0, 64], NONE),
+    (Event::Import(16), EXPORTED, [48, 0, 0, 0, 0, 16]),
+    (Event::SlabAdd(5), EXPORTED, [48, 11, 0, 0, 0, 5]),
+    (Event::Push, EXPORTED, [48, 11, 5, 0, 0, 0]),
+    (Event::SlabTake(5), EXPORTED, [48, 6, 5, 0, 0, 5]),
+    (Event::Push, EXPORTED, [48, 6, 10, 0, 0, 0]),
+    (Event::SlabTake(5), EXPORTED, [48, 1, 10, 0, 0, 5]),
+    (Event::Push, EXPORTED, [48, 1, 15, 0, 0, 0]),
+    (Event::Carve(1, 16), EXPORTED, [32, 1, 15, 0, 0, 16]),
+    (Event::SlabAdd(5), EXPORTED, [32, 12, 15, 0, 0, 5]),
+    (Event::Push, EXPORTED, [32, 12, 20, 0, 0, 0]),
+    (Event::SlabTake(5), EXPORTED, [32, 7, 20, 0, 0, 5]),
+    (Event::Push, EXPORTED, [32, 7, 25, 0, 0, 0]),
+    (Event::SlabTake(5), EXPORTED, [32, 2, 25, 0, 0, 5]),
+    (Event::Push, EXPORTED, [32, 2, 30, 0, 0, 0]),
+    (Event::SwapFresh, EXPORTED, [32, 2, 30, 0, 0, 0]),
+    (Event::Pop, EXPORTED, [32, 2, 25, 0, 0, 5]),
+    (Event::Lease, EXPORTED, [32, 2, 25, 0, 5, 0]),
+    (Event::Pop, EXPORTED, [32, 2, 20, 0, 5, 5]),
+    (Event::SlabPut, EXPORTED, [32, 7, 20, 0, 5, 0]),
+    (Event::Pop, EXPORTED, [32, 7, 15, 0, 5, 5]),
+    (Event::SlabPut, EXPORTED, [32, 12, 15, 0, 5, 0]),
+    (Event::SwapFull, EXPORTED, [32, 12, 15, 0, 5, 0]),
+    (Event::SlabTake(5), EXPORTED, [32, 7, 15, 0, 5, 5]),
+    (Event::Push, EXPORTED, [32, 7, 20, 0, 5, 0]),
+    (Event::SlabTake(5), EXPORTED, [32, 2, 20, 0, 5, 5]),
+    (Event::Push, EXPORTED, [32, 2, 25, 0, 5, 0]),
+    (Event::Release, EXPORTED, [32, 2, 25, 0, 0, 5]),
+    (Event::Push, EXPORTED, [32, 2, 30, 0, 0, 0]),
+    (Event::SwapEmpty, EXPORTED, [32, 2, 30, 0, 0, 0]),
+    (Event::Resize, EXPORTED, [32, 2, 30, 0, 0, 0]),
+    (Event::Change, EXPORTED, [32, 2, 30, 0, 0, 0]),
+    (Event::Carve(1, 16), EXPORTED, [16, 2, 30, 0, 0, 16]),
+    (Event::SlabAdd(3), EXPORTED, [16, 15, 30, 0, 0, 3]),
+    (Event::SlabPut, EXPORTED, [16, 18, 30, 0, 0, 0]),
+    (Event::SlabReap(3), EXPORTED, [16, 2, 30, 0, 0, 16]),
+    (Event::Free, EXPORTED, [32, 2, 30, 0, 0, 0]),
+    (Event::Tick, EXPORTED, [32, 2, 30, 0, 0, 0]),
+    (Event::DepotReap, EXPORTED, [32, 2, 25, 0, 0, 5]),
+    (Event::SlabPut, EXPORTED, [32, 7, 25, 0, 0, 0]),
+    (Event::DepotReap, EXPORTED, [32, 7, 20, 0, 0, 5]),
+    (Event::SlabPut, EXPORTED, [32, 12, 20, 0, 0, 0]),
+    (Event::DepotReap, EXPORTED, [32, 12, 15, 0, 0, 5]),
+    (Event::SlabPut, EXPORTED, [32, 17, 15, 0, 0, 0]),
+    (Event::Pop, EXPORTED, [32, 17, 10, 0, 0, 5]),
+    (Event::SlabPut, EXPORTED, [32, 22, 10, 0, 0, 0]),
+    (Event::Pop, EXPORTED, [32, 22, 5, 0, 0, 5]),
+    (Event::SlabPut, EXPORTED, [32, 27, 5, 0, 0, 0]),
+    (Event::Pop, EXPORTED, [32, 27, 0, 0, 0, 5]),
+    (Event::SlabPut, EXPORTED, [32, 32, 0, 0, 0, 0]),
+    (Event::SlabReap(5), EXPORTED, [32, 16, 0, 0, 0, 16]),
+    (Event::Free, EXPORTED, [48, 16, 0, 0, 0, 0]),
+    (Event::SlabReap(5), EXPORTED, [48, 0, 0, 0, 0, 16]),
+    (Event::Free, [64, 0, 0, 0, 0, 64], NONE),
+    (Event::Free, [128, 0, 0, 0, 0, 0], NONE),
     (Event::Remove, NONE, NONE),
 ];
 
@@ -97,11 +123,11 @@ struct Walk {
     leases: Vec<Segment<PlainDeed>>,
 }
 
-/// The place of the second arena's cache of chunks of one unit.
-fn cache(rt: &impl Abort, stock: &Stock<PlainDeed>) -> usize
+/// The place of the second arena's cache of chunks of so many units.
+fn cache(rt: &impl Abort, stock: &Stock<PlainDeed>, units: u8) -> usize
     ensures { HasCache stock.now 1 result }
 {
-    stock.cache_at(1, 1).expect(rt, "a cache")
+    stock.cache_at(1, units).expect(rt, "a cache")
 }
 
 /// The units of the segments of an arena.
@@ -131,23 +157,23 @@ fn name(rt: &impl Abort, text: &str) -> Name {
     Name::new(text.as_bytes()).expect(rt, "a name")
 }
 
-/// A root of 64 units, and a child of it that caches sizes of one and two units, by slabs of eight.
-fn two_arenas(rt: &impl Abort, alloc: Global) -> Setup {
+/// A root of 128 units, and a child of it. Both cache sizes of one to five units, by slabs of 16.
+pub(crate) fn two_arenas(rt: &impl Abort, alloc: Global) -> Setup {
     let mut setup = Setup::new(alloc);
     let root = NewRoot {
         name: name(rt, "root"),
         base: 0,
-        len: 64,
+        len: 128,
         quantum: 1,
         policy: Policy::Best,
-        qcache_max: 0,
+        qcache_max: 5,
     };
     let child = NewChild {
         name: name(rt, "child"),
         source: name(rt, "root"),
         quantum: 1,
         policy: Policy::Best,
-        qcache_max: 2,
+        qcache_max: 5,
         import_min: 0,
     };
     setup.add(&Setting::Root(root)).expect(rt, "a root");
@@ -156,7 +182,9 @@ fn two_arenas(rt: &impl Abort, alloc: Global) -> Setup {
 }
 
 /// A stock of them, with the root's span.
-fn stock_of(rt: &impl Abort, alloc: Global, setup: &Setup) -> Stock<PlainDeed> {
+pub(crate) fn stock_of(rt: &impl Abort, alloc: Global, setup: &Setup) -> Stock<PlainDeed>
+    ensures balances { Accounts result [] }
+{
     let mut stock = match StockSetup::of_tree(alloc, setup.tree(), 3) {
         Ok(stock) => stock,
         Err(_) => panic!(rt; "arenas"),
@@ -174,11 +202,11 @@ fn stock_of(rt: &impl Abort, alloc: Global, setup: &Setup) -> Stock<PlainDeed> {
     stock.finish()
 }
 
-/// The stock, and a CPU with chunks of one unit.
+/// The stock, and a CPU with chunks of five units.
 fn begin(rt: &impl Abort, alloc: Global) -> Walk {
     let setup = two_arenas(rt, alloc);
     let stock = stock_of(rt, alloc, &setup);
-    let cpu = match OwnCache::new(alloc, 1, 0, 1, 3) {
+    let cpu = match OwnCache::new(alloc, 1, 4, 1, 3) {
         Ok(cpu) => cpu,
         Err(_) => panic!(rt; "a cache of a CPU"),
     };
@@ -207,9 +235,9 @@ fn import(rt: &impl Abort, walk: &mut Walk, size: u64) -> Segment<PlainDeed> {
 }
 
 /// The span in the hand becomes a slab.
-fn slab_add(rt: &impl Abort, walk: &mut Walk) -> Segment<PlainDeed> {
+fn slab_add(rt: &impl Abort, walk: &mut Walk, units: u8) -> Segment<PlainDeed> {
     let span = last(rt, &mut walk.hand);
-    let place = cache(rt, &walk.stock);
+    let place = cache(rt, &walk.stock, units);
     assert_eq!(rt; span.arena(), 1);
     assert_eq!(rt; span.route(), Route::Direct);
     assert_eq!(rt; walk.stock.quantum(1), 1);
@@ -221,7 +249,6 @@ fn slab_add(rt: &impl Abort, walk: &mut Walk) -> Segment<PlainDeed> {
 
 /// An event that answers a segment, which goes into the hand.
 fn answered(rt: &impl Abort, walk: &mut Walk, event: Event) -> Option<Segment<PlainDeed>> {
-    let place = cache(rt, &walk.stock);
     match event {
         Event::Carve(arena, size) => {
             assert!(rt; arena < walk.stock.count());
@@ -239,18 +266,26 @@ fn answered(rt: &impl Abort, walk: &mut Walk, event: Event) -> Option<Segment<Pl
         }
         Event::Import(size) => Some(import(rt, walk, size)),
         Event::Release => walk.leases.pop(),
-        Event::SlabAdd => Some(slab_add(rt, walk)),
-        Event::SlabTake => walk.stock.slab_take(1, place),
-        Event::SlabReap => walk.stock.slab_reap(1, place),
+        Event::SlabAdd(units) => Some(slab_add(rt, walk, units)),
+        Event::SlabTake(units) => {
+            let place = cache(rt, &walk.stock, units);
+            walk.stock.slab_take(1, place)
+        }
+        Event::SlabReap(units) => {
+            let place = cache(rt, &walk.stock, units);
+            walk.stock.slab_reap(1, place)
+        }
         Event::Pop => walk.cpu.pop(),
-        Event::DepotReap => walk.stock.depot_reap(1, place),
+        Event::DepotReap => {
+            let place = cache(rt, &walk.stock, 5);
+            walk.stock.depot_reap(1, place)
+        }
         _ => None,
     }
 }
 
 /// An event that answers none.
 fn silent(rt: &impl Abort, walk: &mut Walk, event: Event) {
-    let place = cache(rt, &walk.stock);
     match event {
         Event::Lease => {
             let segment = last(rt, &mut walk.hand);
@@ -264,13 +299,20 @@ fn silent(rt: &impl Abort, walk: &mut Walk, event: Event) {
                 Err(_) => panic!(rt; "a put"),
             }
         }
-        Event::SwapFresh => swap_fresh(rt, walk),
+        Event::SwapFull | Event::SwapEmpty | Event::SwapFresh => swap(rt, walk, event),
+        Event::Resize => {
+            let place = cache(rt, &walk.stock, 5);
+            assert!(rt; walk.stock.resize(1, place, 7).is_ok());
+        }
         Event::Change => change(rt, walk),
-        Event::Tick => walk.stock.tick(1, place),
+        Event::Tick => {
+            let place = cache(rt, &walk.stock, 5);
+            walk.stock.tick(1, place);
+        }
         Event::Remove => {
             assert!(rt; walk.stock.count() == 2);
             let deed = walk.stock.remove_owned(0).expect(rt, "a root");
-            assert_eq!(rt; deed.close().len(), 64);
+            assert_eq!(rt; deed.close().len(), 128);
         }
         _ => {}
     }
@@ -283,6 +325,27 @@ fn push(rt: &impl Abort, walk: &mut Walk) {
     match walk.cpu.push(segment) {
         Ok(()) => {}
         Err(_) => panic!(rt; "a push"),
+    }
+}
+
+/// The CPU exchanges a magazine with its depot.
+fn swap(rt: &impl Abort, walk: &mut Walk, event: Event) {
+    let (arena, cache) = walk.cpu.place();
+    assert!(rt; arena < walk.stock.count());
+    assert!(rt; walk.stock.quantum(arena) == walk.cpu.quantum());
+    assert!(rt; walk.stock.has_cache(arena, cache));
+    match event {
+        Event::SwapFull => {
+            assert!(rt; walk.cpu.is_empty());
+            assert!(rt; walk.cpu.swap_full(&mut walk.stock).is_ok());
+            assert!(rt; !walk.cpu.is_empty());
+        }
+        Event::SwapEmpty => {
+            assert!(rt; walk.cpu.is_full());
+            assert!(rt; walk.cpu.swap_empty(&mut walk.stock).is_ok());
+            assert!(rt; !walk.cpu.is_full());
+        }
+        _ => swap_fresh(rt, walk),
     }
 }
 
@@ -315,42 +378,36 @@ fn change(rt: &impl Abort, walk: &mut Walk) {
         Err(_) => panic!(rt; "a magazine"),
     };
     walk.cpu.change(loaded, previous);
+    assert_eq!(rt; walk.cpu.size(), 7);
+}
+
+/// The units in the slabs and in the depot of one of the second arena's caches.
+fn cached(rt: &impl Abort, stock: &Stock<PlainDeed>, units: u8) -> (u128, u128) {
+    let place = cache(rt, stock, units);
+    let report = stock.slab_report(1, place);
+    let kept = report.idle.wrapping_add(report.gap);
+    (
+        u128::from(kept.wrapping_add(report.tail)),
+        stock.depot_units(1, place),
+    )
 }
 
 /// The units in each place of an arena.
 fn sums(rt: &impl Abort, walk: &Walk, arena: usize) -> Sums {
     assert!(rt; walk.stock.count() == 2 && arena < 2);
     let free = walk.stock.arena_report(arena).free;
-    let exported = if arena == 0 {
-        walk.stock.arena_report(1).span
-    } else {
-        0
-    };
-    let mut slab = 0;
-    let mut magazine = 0;
-    if arena == 1 {
-        let place = cache(rt, &walk.stock);
-        let report = walk.stock.slab_report(1, place);
-        slab = u128::from(
-            report
-                .idle
-                .wrapping_add(report.gap)
-                .wrapping_add(report.tail),
-        );
-        magazine = walk
-            .stock
-            .depot_units(1, place)
-            .wrapping_add(walk.cpu.units());
-    }
     let leased = units(&walk.leases, arena);
-    [
-        free,
-        slab,
-        magazine,
-        exported,
-        leased,
-        units(&walk.hand, arena),
-    ]
+    let hand = units(&walk.hand, arena);
+    if arena == 0 {
+        let exported = walk.stock.arena_report(1).span;
+        return [free, 0, 0, exported, leased, hand];
+    }
+    let (threes, none) = cached(rt, &walk.stock, 3);
+    assert_eq!(rt; none, 0);
+    let (fives, depot) = cached(rt, &walk.stock, 5);
+    let slab = threes.wrapping_add(fives);
+    let magazine = depot.wrapping_add(walk.cpu.units());
+    [free, slab, magazine, 0, leased, hand]
 }
 
 /// Ends what is left: nothing.
@@ -376,7 +433,7 @@ fn end(rt: &impl Abort, walk: Walk) {
 }
 
 #[test]
-fn forty_one_events(rt: HostRuntime) {
+fn fifty_six_events(rt: HostRuntime) {
     let mut walk = begin(&rt, rt.alloc());
     for (event, first, second) in SCRIPT {
         let answer = answered(&rt, &mut walk, event);
