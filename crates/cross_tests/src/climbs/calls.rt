@@ -4,6 +4,7 @@ use super::arrangements::{Walk, is_set_up_as};
 use arena_tree::{ClimbFault, climb_alloc, climb_free};
 use deed_core::{PlainDeed, Segment};
 use local_parts::Local;
+use quantum_cache::{alloc, drain, free, reap};
 use std::process::Abort;
 
 /// What an allocation or a climb ended with: a segment, or that nothing fits.
@@ -51,6 +52,27 @@ pub(super) fn climb(
     given(rt, answer)
 }
 
+/// So many units, by the caches where they serve.
+pub(super) fn allocate(
+    rt: &impl Abort,
+    walk: &mut Walk,
+    arena: u32,
+    size: u64,
+) -> Option<Segment<PlainDeed>> {
+    assert!(rt; is_set_up_as(&walk.stock, &walk.tree));
+    assert!(rt; (arena as usize) < walk.tree.len());
+    let mut parts = Local {
+        stock: &mut walk.stock,
+        cpu: &mut walk.cpu,
+        tree: &walk.tree,
+        alloc: walk.alloc,
+        steps: 0,
+    };
+    let answer = alloc(&mut parts, walk.tree.chain(arena), size);
+    walk.steps = steps_of(parts);
+    given(rt, answer)
+}
+
 /// Hands a segment back by a climb alone.
 pub(super) fn hand_back(rt: &impl Abort, walk: &mut Walk, segment: Segment<PlainDeed>) {
     let arena = segment.arena();
@@ -67,6 +89,61 @@ pub(super) fn hand_back(rt: &impl Abort, walk: &mut Walk, segment: Segment<Plain
     walk.steps = steps_of(parts);
     match answer {
         Ok(()) => {}
+        Err(_) => panic!(rt; "a refused segment"),
+    }
+}
+
+/// Frees a segment, into the CPU's magazines where it is a round.
+pub(super) fn release(rt: &impl Abort, walk: &mut Walk, segment: Segment<PlainDeed>) {
+    let arena = segment.arena();
+    assert!(rt; is_set_up_as(&walk.stock, &walk.tree));
+    assert!(rt; (arena as usize) < walk.tree.len());
+    let mut parts = Local {
+        stock: &mut walk.stock,
+        cpu: &mut walk.cpu,
+        tree: &walk.tree,
+        alloc: walk.alloc,
+        steps: 0,
+    };
+    let answer = free(&mut parts, walk.tree.chain(arena), segment);
+    walk.steps = steps_of(parts);
+    match answer {
+        Ok(()) => {}
+        Err(_) => panic!(rt; "a refused segment"),
+    }
+}
+
+/// Empties the CPU's magazines.
+pub(super) fn empty(rt: &impl Abort, walk: &mut Walk) {
+    let mut parts = Local {
+        stock: &mut walk.stock,
+        cpu: &mut walk.cpu,
+        tree: &walk.tree,
+        alloc: walk.alloc,
+        steps: 0,
+    };
+    let answer = drain(&mut parts, &walk.tree);
+    walk.steps = steps_of(parts);
+    match answer {
+        Ok(()) => {}
+        Err(_) => panic!(rt; "a refused round"),
+    }
+}
+
+/// Reaps all arenas in at most 1,024 looks: the units of the slabs that it reaped.
+pub(super) fn reap_all(rt: &impl Abort, walk: &mut Walk) -> u128 {
+    assert!(rt; is_set_up_as(&walk.stock, &walk.tree));
+    let mut parts = Local {
+        stock: &mut walk.stock,
+        cpu: &mut walk.cpu,
+        tree: &walk.tree,
+        alloc: walk.alloc,
+        steps: 0,
+    };
+    let answer = reap(&mut parts, &walk.tree, 1024);
+    walk.steps = steps_of(parts);
+    match answer {
+        Ok(reaping) => reaping.units,
         Err(_) => panic!(rt; "a refused segment"),
     }
 }

@@ -1,6 +1,6 @@
 //! The rows, call by call.
 use super::arrangements::{Walk, begin, child, end, root, set};
-use super::calls::{climb, hand_back};
+use super::calls::{allocate, climb, empty, hand_back, reap_all, release};
 use arena_tree::Setup;
 use deed_core::{PlainDeed, Segment};
 use std::process::Abort;
@@ -10,15 +10,23 @@ use tag_arena::Policy;
 #[derive(Clone, Copy, PartialEq, Eq, Debug)]
 enum Step {
     /// Of the arena with this number, so many units: the base.
+    Alloc(u32, u64, u64),
+    /// By a climb alone.
     Climb(u32, u64, u64),
     /// A climb finds no room for so many units.
     NoFit(u32, u64),
     /// The segment of this arena with this base.
+    Free(u32, u64),
     HandBack(u32, u64),
     /// So many locked steps were taken by the last call.
     Steps(u64),
     /// So many units of the arena are free.
     Units(usize, u128),
+    /// The CPU's magazines are emptied.
+    Drain,
+    Tick,
+    /// Slabs of so many units are reaped.
+    Reap(u128),
 }
 
 fn keep(rt: &impl Abort, walk: &mut Walk, segment: Option<Segment<PlainDeed>>, base: u64) {
@@ -48,6 +56,16 @@ fn none(rt: &impl Abort, segment: Option<Segment<PlainDeed>>) {
     }
 }
 
+/// An interval of each depot of the first arena ends.
+fn tick(rt: &impl Abort, walk: &mut Walk) {
+    for cache in 1..17 {
+        if let Some(place) = walk.stock.cache_at(0, cache) {
+            walk.stock.tick(0, place);
+        }
+    }
+    assert!(rt; walk.stock.count() > 0);
+}
+
 fn free_units(rt: &impl Abort, walk: &Walk, arena: usize) -> u128 {
     assert!(rt; arena < walk.stock.count());
     walk.stock.arena_report(arena).free
@@ -55,17 +73,28 @@ fn free_units(rt: &impl Abort, walk: &Walk, arena: usize) -> u128 {
 
 fn go(rt: &impl Abort, walk: &mut Walk, step: Step) {
     match step {
+        Step::Alloc(arena, size, base) => {
+            let answer = allocate(rt, walk, arena, size);
+            keep(rt, walk, answer, base);
+        }
         Step::Climb(arena, size, base) => {
             let answer = climb(rt, walk, arena, size);
             keep(rt, walk, answer, base);
         }
         Step::NoFit(arena, size) => none(rt, climb(rt, walk, arena, size)),
+        Step::Free(arena, base) => {
+            let segment = held(rt, walk, arena, base);
+            release(rt, walk, segment);
+        }
         Step::HandBack(arena, base) => {
             let segment = held(rt, walk, arena, base);
             hand_back(rt, walk, segment);
         }
         Step::Steps(steps) => assert_eq!(rt; walk.steps, steps),
         Step::Units(arena, units) => assert_eq!(rt; free_units(rt, walk, arena), units),
+        Step::Drain => empty(rt, walk),
+        Step::Tick => tick(rt, walk),
+        Step::Reap(units) => assert_eq!(rt; reap_all(rt, walk), units),
     }
 }
 
@@ -77,18 +106,18 @@ fn run(rt: &impl Abort, walk: &mut Walk, steps: &[Step]) {
 
 /// A span goes back once its last segment is freed.
 const SPAN_GOES_BACK: [Step; 12] = [
-    Step::Climb(1, 4, 0),
+    Step::Alloc(1, 4, 0),
     Step::Steps(3),
-    Step::Climb(0, 8, 16),
+    Step::Alloc(0, 8, 16),
     Step::Steps(1),
     Step::Units(0, 40),
     Step::Units(1, 12),
-    Step::HandBack(1, 0),
+    Step::Free(1, 0),
     Step::Steps(2),
-    Step::Climb(0, 8, 0),
+    Step::Alloc(0, 8, 0),
     Step::Units(0, 48),
-    Step::HandBack(0, 16),
-    Step::HandBack(0, 0),
+    Step::Free(0, 16),
+    Step::Free(0, 0),
 ];
 
 #[test]
@@ -123,6 +152,116 @@ fn three_levels(rt: HostRuntime) {
     set(&rt, &mut setup, child(&rt, "c", "b", 1, 6));
     let mut walk = begin(&rt, rt.alloc(), setup);
     run(&rt, &mut walk, &THREE_LEVELS);
+    end(&rt, walk);
+}
+
+/// The second slab has colour 1.
+const COLOURS: [Step; 14] = [
+    Step::Alloc(0, 5, 0),
+    Step::Alloc(0, 5, 5),
+    Step::Alloc(0, 5, 10),
+    Step::Alloc(0, 5, 17),
+    Step::Units(0, 32),
+    Step::Free(0, 0),
+    Step::Free(0, 5),
+    Step::Free(0, 10),
+    Step::Free(0, 17),
+    Step::Drain,
+    Step::Tick,
+    Step::Reap(32),
+    Step::Units(0, 64),
+    Step::Reap(0),
+];
+
+#[test]
+fn colours(rt: HostRuntime) {
+    let mut setup = Setup::new(rt.alloc());
+    set(&rt, &mut setup, root(&rt, "d", 64, 1, Policy::Instant, 5));
+    let mut walk = begin(&rt, rt.alloc(), setup);
+    run(&rt, &mut walk, &COLOURS);
+    end(&rt, walk);
+}
+
+/// Last in, first out.
+const LAST_IN_FIRST_OUT: [Step; 19] = [
+    Step::Alloc(0, 1, 0),
+    Step::Alloc(0, 1, 1),
+    Step::Alloc(0, 1, 2),
+    Step::Alloc(0, 1, 3),
+    Step::Free(0, 0),
+    Step::Free(0, 1),
+    Step::Free(0, 2),
+    Step::Free(0, 3),
+    Step::Alloc(0, 1, 3),
+    Step::Alloc(0, 1, 2),
+    Step::Alloc(0, 1, 1),
+    Step::Alloc(0, 1, 0),
+    Step::Free(0, 0),
+    Step::Free(0, 1),
+    Step::Free(0, 2),
+    Step::Free(0, 3),
+    Step::Drain,
+    Step::Tick,
+    Step::Reap(16),
+];
+
+#[test]
+fn last_in_first_out(rt: HostRuntime) {
+    let mut setup = Setup::new(rt.alloc());
+    set(&rt, &mut setup, root(&rt, "d", 64, 1, Policy::Instant, 5));
+    let mut walk = begin(&rt, rt.alloc(), setup);
+    run(&rt, &mut walk, &LAST_IN_FIRST_OUT);
+    end(&rt, walk);
+}
+
+/// Seven rounds fill two magazines, and a third one goes to the depot.
+const REAPED: [Step; 20] = [
+    Step::Alloc(0, 1, 0),
+    Step::Alloc(0, 1, 1),
+    Step::Alloc(0, 1, 2),
+    Step::Alloc(0, 1, 3),
+    Step::Alloc(0, 1, 4),
+    Step::Alloc(0, 1, 5),
+    Step::Alloc(0, 1, 6),
+    Step::Free(0, 0),
+    Step::Free(0, 1),
+    Step::Free(0, 2),
+    Step::Free(0, 3),
+    Step::Free(0, 4),
+    Step::Free(0, 5),
+    Step::Free(0, 6),
+    Step::Units(0, 48),
+    Step::Drain,
+    Step::Tick,
+    Step::Reap(16),
+    Step::Alloc(0, 64, 0),
+    Step::Free(0, 0),
+];
+
+#[test]
+fn reaped(rt: HostRuntime) {
+    let mut setup = Setup::new(rt.alloc());
+    set(&rt, &mut setup, root(&rt, "d", 64, 1, Policy::Instant, 5));
+    let mut walk = begin(&rt, rt.alloc(), setup);
+    run(&rt, &mut walk, &REAPED);
+    end(&rt, walk);
+}
+
+/// Where no slab fits, the size itself is carved.
+const NO_ROOM_FOR_A_SLAB: [Step; 5] = [
+    Step::Alloc(0, 3, 0),
+    Step::Alloc(0, 2, 3),
+    Step::Free(0, 3),
+    Step::Units(0, 5),
+    Step::Free(0, 0),
+];
+
+#[test]
+fn no_room_for_a_slab(rt: HostRuntime) {
+    let mut setup = Setup::new(rt.alloc());
+    set(&rt, &mut setup, root(&rt, "s", 8, 1, Policy::Instant, 2));
+    let mut walk = begin(&rt, rt.alloc(), setup);
+    run(&rt, &mut walk, &NO_ROOM_FOR_A_SLAB);
     end(&rt, walk);
 }
 
