@@ -1,16 +1,14 @@
-//! The audits of two arenas, of which the second imports from the first, after a few events, with
-//! numbers counted by hand: without caches, and with slabs, a gap and tails, and a CPU's magazines.
+//! The sums of two arenas, of which the second imports from the first, after a few events, with
+//! numbers counted by hand.
 ghost use Rattle.std.specs.Prelude.{[], ◌∷◌};
 ghost use Rattle.std.specs.Option.{option_to_list};
 ghost use Rattle.stock.specs.Accounts.{Accounts, Frames};
-ghost use Rattle.stock.specs.OwnCaches.{own_rounds};
 ghost use Rattle.stock_audit.specs.Outside.{outside, segments_out};
 
-use crate::stocks::{stock_of, two_arenas};
 use deed_core::{Deed, PlainDeed, Range, Request, Route, Segment};
 use std::alloc::Global;
 use std::process::Abort;
-use stock::{OwnCache, Stock, StockSetup};
+use stock::{Stock, StockSetup};
 use stock_audit::{ArenaSums, audit};
 use tag_arena::Policy;
 
@@ -88,49 +86,6 @@ fn sums(free: u128, exported: u128, leased: u128, hand: u128) -> ArenaSums {
     }
 }
 
-/// The span of the first arena becomes a slab of chunks of five units.
-fn slab_add(
-    rt: &impl Abort,
-    stock: &mut Stock<PlainDeed>,
-    span: Segment<PlainDeed>,
-) -> Segment<PlainDeed>
-    ensures frame { Frames stock.old (span ∷ []) stock.new (result ∷ []) }
-{
-    let place = stock.cache_at(0, 5).expect(rt, "a cache");
-    assert_eq!(rt; span.arena(), 0);
-    assert_eq!(rt; span.route(), Route::Direct);
-    assert_eq!(rt; stock.quantum(0), 1);
-    match stock.slab_add(0, place, span) {
-        Ok(first) => first,
-        Err(_) => panic!(rt; "a slab"),
-    }
-}
-
-/// A chunk becomes a round of a CPU.
-#[tactic(auto, using(stock::proofs::LawProofs::pushes))]
-fn push(
-    rt: &impl Abort,
-    stock: &Stock<PlainDeed>,
-    cpu: &mut OwnCache<PlainDeed>,
-    chunk: Segment<PlainDeed>,
-)
-    ensures frame { Frames stock.now (chunk ∷ own_rounds cpu.old) stock.now (own_rounds cpu.new) }
-{
-    assert!(rt; cpu.takes(&chunk));
-    match cpu.push(chunk) {
-        Ok(()) => {}
-        Err(_) => panic!(rt; "a push"),
-    }
-}
-
-/// A chunk goes home.
-fn put(rt: &impl Abort, stock: &mut Stock<PlainDeed>, chunk: Segment<PlainDeed>) {
-    match stock.slab_put(chunk) {
-        Ok(()) => {}
-        Err(_) => panic!(rt; "a put"),
-    }
-}
-
 /// The sums of both arenas are these.
 fn tells(
     rt: &impl Abort,
@@ -192,83 +147,4 @@ fn sums_of_a_chain(rt: HostRuntime) {
     }
     tells(&rt, &stock, &[], &[], sums(64, 0, 0, 0), sums(0, 0, 0, 0));
     end(&rt, stock);
-}
-
-/// The sums of the first arena are these, in the order free, slab, magazine, exported, leased, hand.
-fn audits(
-    rt: &impl Abort,
-    stock: &Stock<PlainDeed>,
-    hand: &[Segment<PlainDeed>],
-    leases: &[Segment<PlainDeed>],
-    cpus: &[OwnCache<PlainDeed>],
-    sums: [u128; 6],
-)
-    requires balances { Accounts stock.now
-        (segments_out (outside hand.now leases.now cpus.now)) }
-{
-    assert!(rt; stock.count() == 2);
-    let told = audit(stock, 0, hand, leases, cpus);
-    let [free, slab, magazine, exported, leased, hand] = sums;
-    assert_eq!(rt; told.free, free);
-    assert_eq!(rt; told.slab, slab);
-    assert_eq!(rt; told.magazine, magazine);
-    assert_eq!(rt; told.exported, exported);
-    assert_eq!(rt; told.leased, leased);
-    assert_eq!(rt; told.hand, hand);
-}
-
-/// All goes home: the caches are reaped, and the root is taken out.
-fn end_reaped(rt: &impl Abort, mut stock: Stock<PlainDeed>) {
-    match stock.reap_all() {
-        Ok(()) => {}
-        Err(_) => panic!(rt; "a reaping"),
-    }
-    assert!(rt; stock.count() == 2);
-    let deed = stock.remove_owned(0).expect(rt, "a root");
-    assert_eq!(rt; deed.close().len(), 128);
-    match stock.close() {
-        Ok(()) => {}
-        Err(_) => panic!(rt; "a deed is left"),
-    }
-}
-
-/// Of each of two slabs of 16 units the first chunk is out: one in a CPU, one leased. The first slab
-/// has a tail of one unit, the second a gap; what is left of both are two chunks and that unit.
-#[test]
-fn sums_with_caches(rt: HostRuntime) {
-    let setup = two_arenas(&rt, rt.alloc());
-    let mut stock = stock_of(&rt, rt.alloc(), &setup);
-    let mut cpu = match OwnCache::new(rt.alloc(), 0, 4, 1, 3) {
-        Ok(cpu) => cpu,
-        Err(_) => panic!(&rt; "a cache of a CPU"),
-    };
-    let span = carve(&rt, &mut stock, 16);
-    let chunk = slab_add(&rt, &mut stock, span);
-    push(&rt, &stock, &mut cpu, chunk);
-    let cpus = [cpu];
-    audits(&rt, &stock, &[], &[], &cpus, [112, 11, 5, 0, 0, 0]);
-    let span = carve(&rt, &mut stock, 16);
-    let leases = [slab_add(&rt, &mut stock, span)];
-    audits(&rt, &stock, &[], &leases, &cpus, [96, 22, 5, 0, 5, 0]);
-    let span = carve(&rt, &mut stock, 16);
-    let hand = [import(&rt, &mut stock, span, 4)];
-    audits(&rt, &stock, &hand, &leases, &cpus, [80, 22, 5, 16, 5, 0]);
-    let [first] = hand;
-    let hand = [free(&rt, &mut stock, first).expect(&rt, "a whole span")];
-    audits(&rt, &stock, &hand, &leases, &cpus, [80, 22, 5, 0, 5, 16]);
-    let [span] = hand;
-    match free(&rt, &mut stock, span) {
-        None => {}
-        Some(_) => panic!(&rt; "a span"),
-    }
-    let [chunk] = leases;
-    put(&rt, &mut stock, chunk);
-    let [mut cpu] = cpus;
-    let round = cpu.pop().expect(&rt, "a round");
-    put(&rt, &mut stock, round);
-    match cpu.close() {
-        Ok(()) => {}
-        Err(_) => panic!(&rt; "a round of a CPU"),
-    }
-    end_reaped(&rt, stock);
 }
