@@ -80,7 +80,11 @@ impl<N: Name, R: Wait, G: Gate> Parts<Segment<SeatDeed<N>>> for Running<'_, N, R
         add_carve_in(self.system, self.rt, child, segment, size)
     }
 
-    fn slab_take(&mut self, arena: u32, cache: u8) -> Result<Option<Segment<SeatDeed<N>>>, Stopped> {
+    fn slab_take(
+        &mut self,
+        arena: u32,
+        cache: u8,
+    ) -> Result<Option<Segment<SeatDeed<N>>>, Stopped> {
         if self.steps.stops(self.gate, EventName::SlabTake) {
             return Err(Stopped);
         }
@@ -112,7 +116,11 @@ impl<N: Name, R: Wait, G: Gate> Parts<Segment<SeatDeed<N>>> for Running<'_, N, R
         slab_add_in(self.system, self.rt, arena, cache, segment)
     }
 
-    fn slab_reap(&mut self, arena: u32, cache: u8) -> Result<Option<Segment<SeatDeed<N>>>, Stopped> {
+    fn slab_reap(
+        &mut self,
+        arena: u32,
+        cache: u8,
+    ) -> Result<Option<Segment<SeatDeed<N>>>, Stopped> {
         if self.steps.stops(self.gate, EventName::SlabReap) {
             return Err(Stopped);
         }

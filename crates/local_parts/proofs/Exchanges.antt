@@ -15,7 +15,6 @@ use Rattle.stock.specs.Accounts.{Frames}
 use Rattle.stock.specs.OwnCaches.{OwnCacheState, IsAtPlaceOf, own_rounds}
 use Rattle.stock.specs.Steps.{OnDepot}
 use Rattle.local_parts.specs.Words.{in_words, full_word, empty_word, fresh_word}
-
 use Rattle.local_parts.specs.OwnSteps.{SwapsFull, SwapsEmpty, SwapsFresh}
 use Rattle.local_parts.specs.OwnChanges.{OwnExchanges}
 
