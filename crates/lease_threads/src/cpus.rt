@@ -35,11 +35,7 @@ impl<N: Name> Model for Cpu<N> {
 impl<N: Name> Cpu<N> {
     /// A CPU of the system, with an empty hand and empty magazines; None where the number is above
     /// 63. The number is a label: each Cpu is one of its own.
-    pub fn new(
-        alloc: Global,
-        system: &System<N>,
-        number: u32,
-    ) -> Result<Option<Cpu<N>>, AllocError>
+    pub fn new(alloc: Global, system: &System<N>, number: u32) -> Result<Option<Cpu<N>>, AllocError>
         ensures exactly { IfOk result (λ cpu. cpu ≡ None ↔ MOST_CPUS ≤ number) }
         ensures empty { IfOk result (λ cpu. IfSome cpu (λ c. c.hand ≡ None)) }
         ensures no_round { IfOk result (λ cpu. IfSome cpu

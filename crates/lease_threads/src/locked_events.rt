@@ -10,9 +10,7 @@ ghost use Rattle.lease_threads.specs.Answers.{GoesOn};
 use crate::cpus::quantum_of;
 use crate::slab_parts::{add_slab, reap_slab, take_chunk};
 use crate::systems::System;
-use arena_tree::{
-    AddCarveFault, CarveFault, FreeFault, SlabAddFault, SlabPutFault, Stopped, Tree,
-};
+use arena_tree::{AddCarveFault, CarveFault, FreeFault, SlabAddFault, SlabPutFault, Stopped, Tree};
 use deed_core::{Request, Route, Segment};
 use deed_table::{Name, SeatDeed};
 use slab_layer::PutFault;

@@ -36,7 +36,8 @@ pub(crate) struct Running<'a, N: Name, R: Wait, G: Gate> {
 
 impl<N: Name, R: Wait, G: Gate> Parts<Segment<SeatDeed<N>>> for Running<'_, N, R, G> {
     ghost step = { λ s e a t.
-        NotesStops G.may_stop s.gate.now t.gate.now s.steps.noted t.steps.noted };
+        NotesStops G.may_stop s.gate.now t.gate.now s.steps.noted t.steps.noted
+        × (t.caches.ghost_name ≡ s.caches.ghost_name) };
 
     ghost tree = { λ s. nodes_of s.system.now.arenas };
 
@@ -80,7 +81,11 @@ impl<N: Name, R: Wait, G: Gate> Parts<Segment<SeatDeed<N>>> for Running<'_, N, R
         add_carve_in(self.system, self.rt, child, segment, size)
     }
 
-    fn slab_take(&mut self, arena: u32, cache: u8) -> Result<Option<Segment<SeatDeed<N>>>, Stopped> {
+    fn slab_take(
+        &mut self,
+        arena: u32,
+        cache: u8,
+    ) -> Result<Option<Segment<SeatDeed<N>>>, Stopped> {
         if self.steps.stops(self.gate, EventName::SlabTake) {
             return Err(Stopped);
         }
@@ -112,7 +117,11 @@ impl<N: Name, R: Wait, G: Gate> Parts<Segment<SeatDeed<N>>> for Running<'_, N, R
         slab_add_in(self.system, self.rt, arena, cache, segment)
     }
 
-    fn slab_reap(&mut self, arena: u32, cache: u8) -> Result<Option<Segment<SeatDeed<N>>>, Stopped> {
+    fn slab_reap(
+        &mut self,
+        arena: u32,
+        cache: u8,
+    ) -> Result<Option<Segment<SeatDeed<N>>>, Stopped> {
         if self.steps.stops(self.gate, EventName::SlabReap) {
             return Err(Stopped);
         }
