@@ -1,12 +1,12 @@
 -- How many rounds a CPU has, after a call and in all.
-use Rattle.std.proofs.Common.{◌≡◌, ℕ, ◌+◌, List, [], ◌∷◌, ◌++◌, length, Option, Some, None, Result, Ok, Err, ap, sym, arith, set}
-use Rattle.std.specs.Prelude.{slice_get, sum_by}
+use Rattle.std.proofs.Common.{◌≡◌, ℕ, ◌+◌, List, [], ◌∷◌, length, Option, Some, None, Ok, ap, arith, set}
+use Rattle.std.specs.Prelude.{slice_get}
 use Rattle.std.proofs.lemmas.List.{length-append}
 use Rattle.deed_core.specs.Tag.{Tag}
 use Rattle.deed_core.proofs.LawProofs.{sum_set}
-use Rattle.magazine_layer.specs.Magazines.{CpuCacheState, Pops, Of_loaded, Of_previous, Pushes, On_loaded, On_previous, cache_rounds}
-use Rattle.magazine_layer.specs.Calls.{PopOf, PushOf}
-use Rattle.arena_tree.specs.Sound.{PopsRound, PushesRound}
+use Rattle.magazine_layer.specs.Magazines.{CpuCacheState, Of_loaded, Of_previous, Pushes, On_loaded, On_previous, cache_rounds}
+use Rattle.magazine_layer.specs.Calls.{PopOf}
+use Rattle.arena_tree.specs.Sound.{PopsRound}
 use Rattle.lease_threads.specs.Kinds.{KindRoundsState, rounds_in}
 
 abbrev rounds_of : CpuCacheState → ℕ

@@ -2,4 +2,5 @@ mod RoundLaws
 mod Imports
 mod Receipts
 mod Sounds
+mod Runs
 mod Lengths

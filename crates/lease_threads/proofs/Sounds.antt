@@ -1,12 +1,12 @@
 -- What the tree says of an arena, chunks of its caches, and steps of a running system.
-use Rattle.std.proofs.Common.{◌≡◌, ◌≢◌, Result, Ok, Err, ◌⊎◌, ℕ, suc, zero, ◌+◌, ◌-◌, ◌*◌, ◌^◌, ◌<◌, ◌≤◌, min, List, [], ◌∷◌, Bool, true, false, Option, Some, None, IfSome, IfOk, IfErr, inl, inr, sym, subst, ap, ◌∙◌, refl, length, map, arith}
+use Rattle.std.proofs.Common.{◌≡◌, ◌≢◌, Result, Ok, Err, ℕ, suc, zero, ◌+◌, ◌-◌, ◌*◌, ◌^◌, ◌<◌, min, List, [], ◌∷◌, Bool, true, false, Option, Some, None, IfSome, IfOk, IfErr, inl, inr, sym, subst, ap, ◌∙◌, refl, length, arith}
 use Rattle.std.specs.Prelude.{slice_get}
 use Rattle.std.proofs.Math.Nat.{mul-mod_left}
 use Rattle.deed_core.specs.Tag.{Tag}
-use Rattle.deed_core.specs.Request.{Fits, rounded, plain_of, IsPlain}
+use Rattle.deed_core.specs.Request.{Fits, plain_of, IsPlain}
 use Rattle.deed_core.specs.declared.requests.Request.{Request}
 use Rattle.deed_core.specs.declared.segments.Route.TheVariants.{Cached}
-use Rattle.deed_core.proofs.LawProofs.{rounds_once, sum_set, slice_get_here}
+use Rattle.deed_core.proofs.LawProofs.{rounds_once}
 use Rattle.arena_tree.specs.declared.trees.TreeArena.{TreeArena}
 use Rattle.arena_tree.specs.Chains.{Node, IsCachedChunk, quantum_in, source_of, first_id}
 use Rattle.arena_tree.specs.declared.levels.Level.{Level}

@@ -1,5 +1,5 @@
 -- What the parts of a running system answer.
-use Rattle.std.specs.Prelude.{◌≡◌, ℕ, ◌%◌, List, All, Option, Some, Bool, false}
+use Rattle.std.specs.Prelude.{◌≡◌, ℕ, ◌%◌, List, All, Option, Some, false}
 use Rattle.deed_core.specs.Tag.{Tag}
 use Rattle.deed_core.specs.declared.segments.Route.TheVariants.{Direct}
 use Rattle.tag_arena.specs.ArenaState.{ArenaState}

@@ -1,5 +1,5 @@
 -- Quantum caches, and what a contract sees of a CPU's magazines and of a depot with theirs.
-use Rattle.std.specs.Prelude.{◌≡◌, ℕ, ◌*◌, ◌<◌, List, All, length, sum_by}
+use Rattle.std.specs.Prelude.{ℕ, ◌*◌, ◌<◌, List, All, length, sum_by}
 use Rattle.deed_core.specs.Tag.{Tag}
 use Rattle.deed_core.specs.declared.segments.Route.TheVariants.{Cached}
 use Rattle.slab_layer.specs.Cache.{IsSegmentOf}

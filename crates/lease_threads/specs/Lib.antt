@@ -2,4 +2,5 @@ pub mod Gates
 pub mod Kinds
 pub mod Answers
 pub mod Systems
+pub mod Hands
 pub mod Replying

@@ -1,5 +1,5 @@
 -- What a contract sees of a system and of a CPU.
-use Rattle.std.specs.Prelude.{◌≡◌, ℕ, ◌+◌, List, [], Option, sum_by}
+use Rattle.std.specs.Prelude.{ℕ, ◌+◌, List, Option, sum_by}
 use Rattle.std.specs.Option.{option_to_list}
 use Rattle.deed_core.specs.Covering.{units_tagged}
 use Rattle.deed_core.specs.Holding.{Holding}

@@ -1,10 +1,11 @@
 //! The CPU of a worker.
-ghost use Rattle.std.specs.Prelude.{◌≡◌, ◌<◌, ◌≤◌, ◌↔◌, All, Some, None, length};
+ghost use Rattle.std.specs.Prelude.{◌≡◌, ◌-◌, ◌^◌, ◌<◌, ◌≤◌, ◌↔◌, All, Some, None, length, min};
 ghost use Rattle.std.specs.Prelude.{IfOk, IfSome, IsTrue};
 ghost use Rattle.magazine_layer.specs.Magazines.{BothEmpty};
 ghost use Rattle.arena_tree.specs.Chains.{quantum_in};
 ghost use Rattle.arena_tree.specs.Trees.{nodes_of};
 ghost use Rattle.arena_tree.specs.declared.limits.TheConstants.{MOST_CPUS};
+ghost use Rattle.lease_threads.specs.Systems.{cpu_units};
 
 use crate::cpu_rounds::KindRounds;
 use crate::kinds::CacheKind;
@@ -74,6 +75,20 @@ impl<N: Name> Cpu<N> {
         ensures { result ≡ self.now.number }
     {
         self.number
+    }
+
+    /// The units of its hand and of its magazines; it stays at the greatest number.
+    pub fn units(&self) -> u128
+        ensures { result ≡ min (cpu_units self.now) (2 ^ 128 - 1) }
+    {
+        let mut units = match &self.hand {
+            None => 0,
+            Some(segment) => u128::from(segment.range().len()),
+        };
+        for own in &self.caches {
+            units = units.saturating_add(own.units());
+        }
+        units
     }
 
     /// Takes a segment into the empty hand.

@@ -1,5 +1,6 @@
 //! The running system: each arena, slab cache, depot and the book under a lock of its own. So far
-//! its parts are here, and how one CPU reaches them; requests and the system's ends come next.
+//! its parts are here, how one CPU reaches them, requests, upkeep and the end of a CPU; how a system
+//! is made and shut comes next.
 //!
 //! `System` (systems) has beside the locks what is fixed at setup: the arenas and the roots that
 //! they own. Under the locks stand the parts of the stock: `ArenaPart` (arena_parts), the slab cache
@@ -7,7 +8,10 @@
 //! is taken is known by its type alone, so each event looks whether it is the part that is meant.
 //! `Running` (running) is `arena_tree::Parts` over them: each event of a shared part takes its lock,
 //! and no other (locked_events, own_events), and asks the gate (gates) before. A `Cpu` (cpus) has a
-//! hand and two magazines for each quantum cache (cpu_rounds), and needs no lock.
+//! hand and two magazines for each quantum cache (cpu_rounds), and needs no lock. `request`
+//! (requests) answers one line by the lists of steps of `quantum_cache` (lists) and by the book's
+//! receipts (replies); `tick`, `resize` and `reap` (upkeep) keep the system in shape, and `retire`
+//! (retiring) ends a CPU.
 #![tactic(auto)]
 
 mod arena_parts;
@@ -16,12 +20,17 @@ mod cpus;
 mod gates;
 mod kind_depots;
 mod kinds;
+mod lists;
 mod locked_events;
 mod marked_books;
 mod own_events;
+mod replies;
+mod requests;
+mod retiring;
 mod running;
 mod slab_parts;
 mod systems;
+mod upkeep;
 
 pub use cpus::Cpu;
 pub use gates::{EventName, Gate, NextStep, OpenGate, Pass, RequestStopped};

@@ -36,7 +36,8 @@ pub(crate) struct Running<'a, N: Name, R: Wait, G: Gate> {
 
 impl<N: Name, R: Wait, G: Gate> Parts<Segment<SeatDeed<N>>> for Running<'_, N, R, G> {
     ghost step = { λ s e a t.
-        NotesStops G.may_stop s.gate.now t.gate.now s.steps.noted t.steps.noted };
+        NotesStops G.may_stop s.gate.now t.gate.now s.steps.noted t.steps.noted
+        × (t.caches.ghost_name ≡ s.caches.ghost_name) };
 
     ghost tree = { λ s. nodes_of s.system.now.arenas };
 

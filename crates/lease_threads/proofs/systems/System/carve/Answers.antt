@@ -1,0 +1,6 @@
+use Rattle.std.proofs.Common.{sym}
+use Rattle.lease_threads.proofs.Runs.{ran_leaves}
+use Rattle.lease_threads.proofs.systems.System.carve.Goals as goal
+
+pub shape_of-cpu-inside : goal.shape_of-cpu-inside
+shape_of-cpu-inside g c = sym (ran_leaves _ _ _ _ (λ s. s.caches.ghost_name) (λ s t e x d. d.1) _ _ _ _ c.xalloc-carved.ensures.ran)

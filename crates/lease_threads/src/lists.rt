@@ -1,0 +1,202 @@
+//! The lists of steps of `quantum_cache`, over the parts of a system as one CPU reaches them. A
+//! segment that isn't placed stays in the CPU's hand.
+ghost use Rattle.std.specs.Prelude.{◌≡◌, ◌<◌, None, Err, true, length, Option, IfOk, IfErr, OnErr};
+ghost use Rattle.deed_core.specs.Request.{Fits, IsPlain};
+ghost use Rattle.deed_core.specs.Tag.{Tag};
+ghost use Rattle.arena_tree.specs.Chains.{quantum_in};
+ghost use Rattle.arena_tree.specs.Trees.{nodes_of};
+ghost use Rattle.lease_threads.specs.Gates.{MayStop};
+ghost use Rattle.lease_threads.specs.Hands.{LeavesHand};
+
+use crate::cpus::Cpu;
+use crate::gates::{Gate, RequestStopped, Steps};
+use crate::running::Running;
+use crate::systems::System;
+use arena_tree::{CarveFault, ClimbFault, ReturnFault};
+use deed_core::{Request, Segment};
+use deed_table::{Name, SeatDeed};
+use lease_terms::Refusal;
+use quantum_cache::{alloc, free, xalloc};
+use std::sync::Wait;
+
+/// Why a request got no segment.
+pub(crate) enum Unserved {
+    /// It is refused so.
+    Refused(Refusal),
+    /// Out of memory, or a part refused a segment, which is in the hand.
+    Again,
+    /// The gate said Stop.
+    Stopped,
+}
+
+impl<N: Name> System<N> {
+    /// Gives a segment of the arena for the request: by its caches and its sources where that is
+    /// unconstrained, else by one carve.
+    pub(crate) fn serve<R: Wait, G: Gate>(
+        &self,
+        rt: &R,
+        cpu: &mut Cpu<N>,
+        gate: &G,
+        steps: &mut Steps,
+        arena: u32,
+        request: &Request,
+    ) -> Result<Segment<SeatDeed<N>>, Unserved>
+        requires within { arena < length self.now.arenas }
+        requires hand { cpu.old.hand ≡ None }
+        ensures arena { IfOk result (λ t. t.arena ≡ arena) }
+        ensures fits { IfOk result (λ t. Fits (quantum_in (nodes_of self.now.arenas) arena)
+            request.now t.holding.range.base t.holding.range.len) }
+        ensures hand { IfOk result (λ _. cpu.new.hand ≡ None) }
+        ensures refused { IfErr result (λ why. LeavesHand why cpu.new.hand) }
+        ensures stopped { result ≡ Err Unserved.Stopped → MayStop G.may_stop gate.now }
+    {
+        if request.is_constrained() {
+            self.carve(rt, cpu, gate, steps, arena, request)
+        } else {
+            self.allocate(rt, cpu, gate, steps, arena, request)
+        }
+    }
+
+    fn carve<R: Wait, G: Gate>(
+        &self,
+        rt: &R,
+        cpu: &mut Cpu<N>,
+        gate: &G,
+        steps: &mut Steps,
+        arena: u32,
+        request: &Request,
+    ) -> Result<Segment<SeatDeed<N>>, Unserved>
+        requires within { arena < length self.now.arenas }
+        requires hand { cpu.old.hand ≡ None }
+        ensures arena { IfOk result (λ t. t.arena ≡ arena) }
+        ensures fits { IfOk result (λ t. Fits (quantum_in (nodes_of self.now.arenas) arena)
+            request.now t.holding.range.base t.holding.range.len) }
+        ensures hand { IfOk result (λ _. cpu.new.hand ≡ None) }
+        ensures refused { IfErr result (λ why. LeavesHand why cpu.new.hand) }
+        ensures stopped { result ≡ Err Unserved.Stopped → MayStop G.may_stop gate.now }
+    {
+        let mut running = Running {
+            system: self,
+            rt,
+            gate,
+            caches: &mut cpu.caches,
+            steps: steps.anew(),
+            count: 0,
+        };
+        let carved = xalloc(&mut running, arena, request);
+        *steps = running.steps;
+        match carved {
+            Ok(segment) => Ok(segment),
+            Err(CarveFault::BadRequest) => Err(Unserved::Refused(Refusal::BadRequest)),
+            Err(CarveFault::NoFit) => Err(Unserved::Refused(Refusal::NoFit)),
+            Err(CarveFault::NoMemory) => Err(Unserved::Again),
+            Err(CarveFault::Stopped) => Err(stop_or_again(steps)),
+        }
+    }
+
+    fn allocate<R: Wait, G: Gate>(
+        &self,
+        rt: &R,
+        cpu: &mut Cpu<N>,
+        gate: &G,
+        steps: &mut Steps,
+        arena: u32,
+        request: &Request,
+    ) -> Result<Segment<SeatDeed<N>>, Unserved>
+        requires within { arena < length self.now.arenas }
+        requires hand { cpu.old.hand ≡ None }
+        requires plain { IsPlain request.now }
+        ensures arena { IfOk result (λ t. t.arena ≡ arena) }
+        ensures fits { IfOk result (λ t. Fits (quantum_in (nodes_of self.now.arenas) arena)
+            request.now t.holding.range.base t.holding.range.len) }
+        ensures hand { IfOk result (λ _. cpu.new.hand ≡ None) }
+        ensures refused { IfErr result (λ why. LeavesHand why cpu.new.hand) }
+        ensures stopped { result ≡ Err Unserved.Stopped → MayStop G.may_stop gate.now }
+    {
+        let chain = self.tree.chain(arena);
+        let mut running = Running {
+            system: self,
+            rt,
+            gate,
+            caches: &mut cpu.caches,
+            steps: steps.anew(),
+            count: 0,
+        };
+        let allocated = alloc(&mut running, chain, request.size);
+        *steps = running.steps;
+        match allocated {
+            Ok(segment) => Ok(segment),
+            Err(ClimbFault::BadRequest) => Err(Unserved::Refused(Refusal::BadRequest)),
+            Err(ClimbFault::NoFit) => Err(Unserved::Refused(Refusal::NoFit)),
+            Err(ClimbFault::NoMemory) => Err(Unserved::Again),
+            Err(ClimbFault::Stuck(segment)) => {
+                cpu.hold(segment);
+                Err(Unserved::Again)
+            }
+            Err(ClimbFault::Stopped(hand)) => {
+                if let Some(segment) = hand {
+                    cpu.hold(segment);
+                }
+                Err(stop_or_again(steps))
+            }
+        }
+    }
+
+    /// Frees the hand, if it holds a segment, and says whether it is empty then.
+    pub(crate) fn place_hand<R: Wait, G: Gate>(
+        &self,
+        rt: &R,
+        cpu: &mut Cpu<N>,
+        gate: &G,
+        steps: &mut Steps,
+    ) -> Result<bool, RequestStopped>
+        ensures empty { IfOk result (λ placed. placed ≡ true → cpu.new.hand ≡ None) }
+        ensures stopped { OnErr result (MayStop G.may_stop gate.now) }
+    {
+        let Some(segment) = cpu.hand.take() else {
+            return Ok(true);
+        };
+        let arena = segment.arena();
+        if arena as usize >= self.tree.len() {
+            cpu.hold(segment);
+            return Ok(false);
+        }
+        let chain = self.tree.chain(arena);
+        let mut running = Running {
+            system: self,
+            rt,
+            gate,
+            caches: &mut cpu.caches,
+            steps: steps.anew(),
+            count: 0,
+        };
+        let freed = free(&mut running, chain, segment);
+        *steps = running.steps;
+        match freed {
+            Ok(()) => Ok(true),
+            Err(ReturnFault::Stuck(segment)) => {
+                cpu.hold(segment);
+                Ok(false)
+            }
+            Err(ReturnFault::Stopped(segment)) => {
+                cpu.hold(segment);
+                if steps.noted {
+                    return Err(RequestStopped);
+                }
+                Ok(false)
+            }
+        }
+    }
+}
+
+// A stop that the gate said; any other comes to nothing.
+fn stop_or_again(steps: &Steps) -> Unserved
+    ensures said { result ≡ Unserved.Stopped → steps.now.noted ≡ true }
+    ensures never_refused { (hand : Option Tag) → LeavesHand result hand }
+{
+    if steps.noted {
+        Unserved::Stopped
+    } else {
+        Unserved::Again
+    }
+}

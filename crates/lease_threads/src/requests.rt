@@ -1,0 +1,285 @@
+//! Answering one line.
+ghost use Rattle.std.specs.Prelude.{◌≡◌, ◌<◌, None, length, IfOk, IfErr, IfSome, OnErr, true};
+ghost use Rattle.deed_core.specs.Request.{Fits};
+ghost use Rattle.arena_tree.specs.Chains.{quantum_in};
+ghost use Rattle.arena_tree.specs.Trees.{nodes_of};
+ghost use Rattle.lease_threads.specs.Gates.{MayStop};
+ghost use Rattle.lease_threads.specs.Replying.{IsAnswerTo, IsReplyTo, IsGreeting, IsAgain};
+ghost use Rattle.lease_threads.specs.Replying.{IsReceiptOf, HasReceiptOf};
+
+use crate::cpus::{Cpu, quantum_of};
+use crate::gates::{EventName, Gate, RequestStopped, Steps};
+use crate::lists::Unserved;
+use crate::replies::{Told, again_to, answered, hello_again, not_welcome, told};
+use crate::systems::System;
+use deed_core::{Request, Segment};
+use deed_table::{Name, SeatDeed};
+use lease_book::{Answer, HelloFault, NotLeased, Receipt};
+use lease_proto::{HelloLine, LeaseLine, Line, Op, ReleaseLine, Reply, Welcome};
+use lease_terms::{ClientId, Quantity, Refusal, RequestId};
+use std::sync::Wait;
+
+// What a lease asks of its arena.
+fn demand_of(lease: &LeaseLine) -> Request {
+    Request {
+        size: lease.size.get(),
+        align: lease.options.align.get(),
+        phase: lease.options.phase.get(),
+        nocross: lease.options.nocross.get(),
+        min: lease.options.min.get(),
+        max: lease.options.max.get(),
+    }
+}
+
+impl<N: Name> System<N> {
+    /// Answers one line of a client. The gate is asked before each step; where it says Stop the
+    /// request ends there, and the CPU keeps its hand and its magazines. A segment that can't be
+    /// placed stays in the hand: each request tries to place it first, and is answered `again`
+    /// while it can't.
+    pub fn request<R: Wait, G: Gate>(
+        &self,
+        rt: &R,
+        cpu: &mut Cpu<N>,
+        gate: &G,
+        line: &Line,
+    ) -> Result<(Reply, Option<Receipt<SeatDeed<N>>>), RequestStopped>
+        ensures answers { IfOk result (λ r. IsAnswerTo self.now.arenas line.now r.0 r.1) }
+        ensures held { IfOk result (λ r. IfSome cpu.new.hand (λ _. IsAgain r.0)) }
+        ensures stopped { OnErr result (MayStop G.may_stop gate.now) }
+    {
+        let mut steps = Steps::new(cpu.number());
+        match line {
+            Line::Hello(hello) => {
+                let reply = self.greet(rt, cpu, gate, &mut steps, hello)?;
+                Ok((reply, None))
+            }
+            Line::Request(id, op) => {
+                if !self.place_hand(rt, cpu, gate, &mut steps)? {
+                    return Ok((again_to(*id), None));
+                }
+                match op {
+                    Op::Lease(lease) => self.lease(rt, cpu, gate, &mut steps, *id, lease),
+                    Op::Release(release) => self.release(rt, cpu, gate, &mut steps, *id, release),
+                }
+            }
+        }
+    }
+
+    // Takes a hello, and frees the client's leases of older incarnations.
+    fn greet<R: Wait, G: Gate>(
+        &self,
+        rt: &R,
+        cpu: &mut Cpu<N>,
+        gate: &G,
+        steps: &mut Steps,
+        hello: &HelloLine,
+    ) -> Result<Reply, RequestStopped>
+        ensures greeting { IfOk result (IsGreeting hello.now) }
+        ensures held { IfOk result (λ r. IfSome cpu.new.hand (λ _. IsAgain r)) }
+        ensures stopped { OnErr result (MayStop G.may_stop gate.now) }
+    {
+        if !self.place_hand(rt, cpu, gate, steps)? {
+            return Ok(hello_again(hello));
+        }
+        steps.ask(gate, EventName::Look)?;
+        if let Err(fault) = self.enter(rt, hello) {
+            return Ok(not_welcome(hello, fault));
+        }
+        if !self.sweep(rt, cpu, gate, steps, hello.client)? {
+            return Ok(hello_again(hello));
+        }
+        Ok(Reply::Welcome(Welcome {
+            client: hello.client,
+            incarnation: hello.incarnation,
+        }))
+    }
+
+    fn enter<R: Wait>(&self, rt: &R, hello: &HelloLine) -> Result<(), HelloFault> {
+        self.book.lock(rt).hello(hello)
+    }
+
+    // Says whether all leases of older incarnations were placed.
+    fn sweep<R: Wait, G: Gate>(
+        &self,
+        rt: &R,
+        cpu: &mut Cpu<N>,
+        gate: &G,
+        steps: &mut Steps,
+        client: ClientId,
+    ) -> Result<bool, RequestStopped>
+        requires { cpu.old.hand ≡ None }
+        ensures empty { IfOk result (λ placed. placed ≡ true → cpu.new.hand ≡ None) }
+        ensures stopped { OnErr result (MayStop G.may_stop gate.now) }
+    {
+        for _ in rt.forever() {
+            steps.ask(gate, EventName::Sweep)?;
+            match self.swept(rt, client) {
+                None => break,
+                Some(segment) => cpu.hold(segment),
+            }
+            if !self.place_hand(rt, cpu, gate, steps)? {
+                return Ok(false);
+            }
+        }
+        Ok(true)
+    }
+
+    fn swept<R: Wait>(&self, rt: &R, client: ClientId) -> Option<Segment<SeatDeed<N>>> {
+        self.book.lock(rt).sweep(client)
+    }
+
+    fn lease<R: Wait, G: Gate>(
+        &self,
+        rt: &R,
+        cpu: &mut Cpu<N>,
+        gate: &G,
+        steps: &mut Steps,
+        id: RequestId,
+        lease: &LeaseLine,
+    ) -> Result<Told<N>, RequestStopped>
+        requires { cpu.old.hand ≡ None }
+        ensures told { IfOk result (λ r. IsReplyTo self.now.arenas id r.0 r.1) }
+        ensures held { IfOk result (λ r. IfSome cpu.new.hand (λ _. IsAgain r.0)) }
+        ensures stopped { OnErr result (MayStop G.may_stop gate.now) }
+    {
+        steps.ask(gate, EventName::Look)?;
+        if let Some(answer) = self.look(rt, id) {
+            return Ok(answered(&self.tree, id, answer));
+        }
+        let Some(arena) = self.tree.find(&lease.arena) else {
+            return self.refuse(rt, gate, steps, id, Refusal::NoArena);
+        };
+        let request = demand_of(lease);
+        match self.serve(rt, cpu, gate, steps, arena, &request) {
+            Ok(segment) => self.grant(rt, cpu, gate, steps, id, arena, &request, segment),
+            Err(Unserved::Refused(why)) => self.refuse(rt, gate, steps, id, why),
+            Err(Unserved::Again) => Ok((again_to(id), None)),
+            Err(Unserved::Stopped) => Err(RequestStopped),
+        }
+    }
+
+    fn look<R: Wait>(&self, rt: &R, id: RequestId) -> Option<Answer<SeatDeed<N>>>
+        ensures { IfSome result (HasReceiptOf id) }
+    {
+        self.book.lock(rt).look(id)
+    }
+
+    // Settles a new request by a refusal.
+    fn refuse<R: Wait, G: Gate>(
+        &self,
+        rt: &R,
+        gate: &G,
+        steps: &mut Steps,
+        id: RequestId,
+        why: Refusal,
+    ) -> Result<Told<N>, RequestStopped>
+        ensures told { IfOk result (λ r. IsReplyTo self.now.arenas id r.0 r.1) }
+        ensures stopped { OnErr result (MayStop G.may_stop gate.now) }
+    {
+        steps.ask(gate, EventName::Settle)?;
+        let answer = self.settle_refusal(rt, id, why);
+        Ok(answered(&self.tree, id, answer))
+    }
+
+    fn settle_refusal<R: Wait>(&self, rt: &R, id: RequestId, why: Refusal) -> Answer<SeatDeed<N>>
+        ensures { HasReceiptOf id result }
+    {
+        self.book.lock(rt).refuse(id, why)
+    }
+
+    // Settles a new request by a segment of its arena, or frees that again.
+    fn grant<R: Wait, G: Gate>(
+        &self,
+        rt: &R,
+        cpu: &mut Cpu<N>,
+        gate: &G,
+        steps: &mut Steps,
+        id: RequestId,
+        arena: u32,
+        request: &Request,
+        segment: Segment<SeatDeed<N>>,
+    ) -> Result<Told<N>, RequestStopped>
+        requires within { arena < length self.now.arenas }
+        requires hand { cpu.old.hand ≡ None }
+        requires fits { Fits (quantum_in (nodes_of self.now.arenas) arena) request.now
+            segment.holding.range.base segment.holding.range.len }
+        ensures told { IfOk result (λ r. IsReplyTo self.now.arenas id r.0 r.1) }
+        ensures held { IfOk result (λ r. IfSome cpu.new.hand (λ _. IsAgain r.0)) }
+        ensures stopped { OnErr result (MayStop G.may_stop gate.now) }
+    {
+        if steps.stops(gate, EventName::Settle) {
+            cpu.hold(segment);
+            return Err(RequestStopped);
+        }
+        let quantum = quantum_of(&self.tree, arena);
+        match self.settle(rt, id, quantum, request, segment) {
+            Ok(receipt) => Ok(told(&self.tree, id, receipt)),
+            Err(NotLeased { segment, answer }) => {
+                cpu.hold(segment);
+                if !self.place_hand(rt, cpu, gate, steps)? {
+                    return Ok((again_to(id), None));
+                }
+                Ok(answered(&self.tree, id, answer))
+            }
+        }
+    }
+
+    fn settle<R: Wait>(
+        &self,
+        rt: &R,
+        id: RequestId,
+        quantum: u64,
+        request: &Request,
+        segment: Segment<SeatDeed<N>>,
+    ) -> Result<Receipt<SeatDeed<N>>, NotLeased<Segment<SeatDeed<N>>, SeatDeed<N>>>
+        requires { Fits quantum request.now
+            segment.holding.range.base segment.holding.range.len }
+        ensures receipt { IfOk result (IsReceiptOf id) }
+        ensures answer { IfErr result (λ e. HasReceiptOf id e.answer) }
+    {
+        self.book.lock(rt).settle(id, quantum, request, segment)
+    }
+
+    fn release<R: Wait, G: Gate>(
+        &self,
+        rt: &R,
+        cpu: &mut Cpu<N>,
+        gate: &G,
+        steps: &mut Steps,
+        id: RequestId,
+        release: &ReleaseLine,
+    ) -> Result<Told<N>, RequestStopped>
+        requires { cpu.old.hand ≡ None }
+        ensures told { IfOk result (λ r. IsReplyTo self.now.arenas id r.0 r.1) }
+        ensures held { IfOk result (λ r. IfSome cpu.new.hand (λ _. IsAgain r.0)) }
+        ensures stopped { OnErr result (MayStop G.may_stop gate.now) }
+    {
+        let Some(arena) = self.tree.find(&release.arena) else {
+            return self.refuse(rt, gate, steps, id, Refusal::NoArena);
+        };
+        steps.ask(gate, EventName::Release)?;
+        match self.released(rt, id, arena, release.base) {
+            Ok((receipt, segment)) => {
+                cpu.hold(segment);
+                if !self.place_hand(rt, cpu, gate, steps)? {
+                    return Ok((again_to(id), None));
+                }
+                Ok(told(&self.tree, id, receipt))
+            }
+            Err(answer) => Ok(answered(&self.tree, id, answer)),
+        }
+    }
+
+    fn released<R: Wait>(
+        &self,
+        rt: &R,
+        id: RequestId,
+        arena: u32,
+        base: Quantity,
+    ) -> Result<(Receipt<SeatDeed<N>>, Segment<SeatDeed<N>>), Answer<SeatDeed<N>>>
+        ensures receipt { IfOk result (λ r. IsReceiptOf id r.0) }
+        ensures answer { IfErr result (HasReceiptOf id) }
+    {
+        self.book.lock(rt).release(id, arena, base)
+    }
+}

@@ -1,0 +1,78 @@
+//! What keeps a system in shape while it runs: intervals, sizes of magazines, reaping.
+ghost use Rattle.std.specs.Prelude.{◌≡◌, None, OnErr};
+ghost use Rattle.magazine_layer.specs.Magazines.{IsSize};
+
+use crate::cpus::Cpu;
+use crate::gates::{OpenGate, Steps};
+use crate::running::Running;
+use crate::systems::System;
+use deed_table::Name;
+use quantum_cache::{EmptyingFault, ReapFault, reap_arena};
+use std::sync::Wait;
+
+impl<N: Name> System<N> {
+    /// Begins an interval in each depot, one after another.
+    pub fn tick<R: Wait>(&self, rt: &R) {
+        for place in &self.places {
+            for cache in &place.caches {
+                cache.depot.lock(rt).tick();
+            }
+        }
+    }
+
+    /// Has the depots of the arena keep magazines of this size from here on, and says whether one
+    /// of them kept smaller ones before.
+    pub fn resize<R: Wait>(&self, rt: &R, arena: u32, size: usize) -> bool
+        requires { IsSize size }
+    {
+        let Some(place) = self.places.get(arena as usize) else {
+            return false;
+        };
+        let mut rose = false;
+        for cache in &place.caches {
+            if cache.depot.lock(rt).resize(size).is_ok() {
+                rose = true;
+            }
+        }
+        rose
+    }
+
+    /// Moves rounds that the depots of the arena may let go to their slabs, and slabs of which no
+    /// chunk is out to the arena, in at most `limit` looks: the units of those slabs. It tries to
+    /// place the CPU's hand first, and answers 0 while it can't.
+    pub fn reap<R: Wait>(&self, rt: &R, cpu: &mut Cpu<N>, arena: u32, limit: u64) -> u128 {
+        let mut steps = Steps::new(cpu.number());
+        match self.place_hand(rt, cpu, &OpenGate, &mut steps) {
+            Ok(true) => self.reap_empty(rt, cpu, arena, limit),
+            _ => 0,
+        }
+    }
+
+    fn reap_empty<R: Wait>(&self, rt: &R, cpu: &mut Cpu<N>, arena: u32, limit: u64) -> u128
+        requires { cpu.old.hand ≡ None }
+    {
+        if arena as usize >= self.tree.len() {
+            return 0;
+        }
+        let chain = self.tree.chain(arena);
+        let mut running = Running {
+            system: self,
+            rt,
+            gate: &OpenGate,
+            caches: &mut cpu.caches,
+            steps: Steps::new(0),
+            count: 0,
+        };
+        match reap_arena(&mut running, chain, limit) {
+            Ok(reaping) => reaping.units,
+            Err(ReapFault { reaping, cause }) => {
+                match cause {
+                    EmptyingFault::Stuck(segment) => cpu.hold(segment),
+                    EmptyingFault::Stopped(Some(segment)) => cpu.hold(segment),
+                    EmptyingFault::Stopped(None) => {}
+                }
+                reaping.units
+            }
+        }
+    }
+}
