@@ -61,6 +61,7 @@ pub record Grants (id : RequestId) (l : LeaseLine) (old new : Picture) (r : Repl
   pub place : ℕ
   pub arena : TreeArena
   pub takes : TakesDemand old l place arena
+  pub can : CanServe old place arena (demand_of l)
   pub segment : Tag
   pub serves : ServesWith place arena (demand_of l) segment old new
   pub receipt : ReceiptState

@@ -58,12 +58,13 @@ abbrev pub CarvesInVain : ℕ → Request → List SpaceState → List SpaceStat
 CarvesInVain place q old new = (new ≡ old)
     ⊎ ((t : Tag) × (mid : List SpaceState) × CarvesAt place q t old mid × Returns new t mid)
 
--- nothing changed, or what was climbed for in an arena of the chain went back
+-- nothing changed, or what was climbed for in an arena of the chain went back: no address of those
+-- before it served
 abbrev pub ClimbsInVain : List Level → ℕ → List SpaceState → List SpaceState → Type 0
 ClimbsInVain [] n old new = new ≡ old
 ClimbsInVain (l ∷ up) n old new = (new ≡ old)
     ⊎ ((t : Tag) × (mid : List SpaceState) × Climbs (l ∷ up) n t old mid × Returns new t mid)
-    ⊎ ClimbsInVain up (amount_of l up n) old new
+    ⊎ ((¬ HasPlace old l.id (plain_of n)) × ClimbsInVain up (amount_of l up n) old new)
 
 abbrev pub arena_of : SpaceState → ArenaState
 arena_of s = s.arena
