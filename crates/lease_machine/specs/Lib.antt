@@ -1,5 +1,6 @@
 pub mod Picture
 pub mod Moves
+pub mod Chunks
 pub mod Serving
 pub mod Replies
 pub mod Operators

@@ -35,7 +35,8 @@ use Rattle.lease_book.specs.Answers.{IsNew}
 use Rattle.lease_book.specs.Calls.{IsGranted, IsReleased, IsSwept}
 use Rattle.lease_book.specs.declared.books.TheConstants.{MOST_LEASES}
 use Rattle.lease_machine.specs.Picture.{Picture, IsPicture, SameSetup, BookAlone, Finds}
-use Rattle.lease_machine.specs.Moves.{SameNames, GoesBack}
+use Rattle.lease_machine.specs.Moves.{SameNames}
+use Rattle.lease_machine.specs.Chunks.{GoesBack}
 use Rattle.lease_machine.specs.Serving.{CanServe, ServesWith, ServesNone, ServesInVain, FallsBack}
 use Rattle.lease_machine.specs.Replies.{IsKnownReply, SettlesRefusal, reply_of_settled, again_of}
 use Rattle.lease_machine.specs.Operators.{OperatorStep}
