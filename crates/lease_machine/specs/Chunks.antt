@@ -26,8 +26,8 @@ own_or_none (Some c) = c.caches
 abbrev pub selected_caches : Picture → List (List OwnCacheState)
 selected_caches d = own_or_none (find (is_cpu d.selected) d.cpus)
 
--- of all caches of CPUs at most one changed, and that so: the selected CPU's at the place j of those
--- of the arena at the place k
+-- of all caches of CPUs at most one changed, and that so: the selected CPU's at the place j of
+-- those of the arena at the place k
 pub record OnSelected (k j : ℕ) (P : CpuCacheState → CpuCacheState → Type 0) (old new : Picture)
     : Type 0 where
   pub others : OtherCpusStay old new
@@ -40,14 +40,14 @@ abbrev pub TakesOwn : Tag → CpuCacheState → DepotState → CpuCacheState →
 TakesOwn t c d c' d' = (Pops t c c' × (d' ≡ d))
     ⊎ (BothEmpty c × ((full : CpuCacheState) × SwapsForFull c d full d' × Pops t full c'))
 
--- neither has one: the depot no full magazine, or one of another size, to which the CPU then changes
--- over, if there is memory for it
+-- neither has one: the depot no full magazine, or one of another size, to which the CPU then
+-- changes over, if there is memory for it
 abbrev pub LacksRounds : DepotState → CpuCacheState → CpuCacheState → Type 0
 LacksRounds d c c' = BothEmpty c × (((c.size ≡ d.size) × (d.full ≡ []) × (c' ≡ c))
     ⊎ ((c.size ≢ d.size) × ((c' ≡ c) ⊎ (c' ≡ after_change d.size c))))
 
--- the chunk was a round of the cache at the place j of the arena at the place k, which is c; nothing
--- else changed
+-- the chunk was a round of the cache at the place j of the arena at the place k, which is c;
+-- nothing else changed
 abbrev pub WasRound : ℕ → ℕ → QuantumCacheState → Tag → Picture → Picture → Type 0
 WasRound k j c t old new = (d : DepotState)
     × OnSelected k j (λ a b. TakesOwn t a c.depot b d) old new
@@ -88,8 +88,8 @@ abbrev pub ComesHome : ℕ → ℕ → QuantumCacheState → Tag → Picture →
 ComesHome k j c t old new = OnSelected k j (HasNoRoom c.depot) old new
     × OnSlab k j (λ a b. PutOf a t (Ok tt) b) old.spaces new.spaces
 
--- the segment went back, by its route: what was carved to its arena, a chunk to the cache that it is
--- of; and nothing else changed
+-- the segment went back, by its route: what was carved to its arena, a chunk to the cache that it
+-- is of; and nothing else changed
 abbrev pub GoesBackBy : Route → Tag → Picture → Picture → Type 0
 GoesBackBy Direct t old new = Returns new.spaces t old.spaces × (new.cpus ≡ old.cpus)
 GoesBackBy (Cached number) t old new = (j : ℕ) × (c : QuantumCacheState) × (number ≡ j + 1)
