@@ -32,8 +32,8 @@ abbrev pub SelectedIsPicture : Type 0
 SelectedIsPicture = (d : Picture) (n : ℕ) → IsPicture d → IsCpu n
     → IsPicture (record d { cpus = with_cpu n d; selected = n })
 
--- a CPU that is new has no round, and a cache for each quantum cache of the stock, with magazines no
--- greater than its depot's
+-- a CPU that is new has no round, and a cache for each quantum cache of the stock, with magazines
+-- no greater than its depot's
 pub record FreshCpuFits : Type 0 where
   pub of : (spaces : List SpaceState) (n : ℕ) → IsCpuOf spaces (fresh_cpu n spaces).caches
   pub none : (spaces : List SpaceState) (n : ℕ)

@@ -10,3 +10,4 @@ pub mod AnswerLaws
 pub mod RoomLaws
 pub mod CpuLaws
 pub mod CacheLaws
+pub mod StepLaws

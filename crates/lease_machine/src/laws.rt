@@ -10,6 +10,9 @@ ghost use Rattle.lease_machine.specs.AnswerLaws.{KeptGrantsFit, GrantsWereReacha
 ghost use Rattle.lease_machine.specs.RoomLaws.{NoFitMeansTaken, NoFitMeansTakenUp};
 ghost use Rattle.lease_machine.specs.RoomLaws.{FreedIsWhole, FirstLeaseIsServed, FewerFitToo};
 ghost use Rattle.lease_machine.specs.RoomLaws.{NeverBoth};
+ghost use Rattle.lease_machine.specs.StepLaws.{FaultsAreAnswered, KnownAreAnswered};
+ghost use Rattle.lease_machine.specs.StepLaws.{OldHellosAreAnswered, AuditsAreAnswered};
+ghost use Rattle.lease_machine.specs.StepLaws.{ClientsAreTold, CpusAreSelected};
 
 /// What a desk begins with is a picture, and it stays one when a CPU is selected.
 pub fn picture_laws()
@@ -62,4 +65,14 @@ pub fn no_fit_laws()
 /// Which quantum cache serves a request.
 pub fn cache_laws()
     ensures { CachedByNumber }
+{}
+
+/// From each picture these lines can be answered: the machine isn't empty.
+pub fn step_laws()
+    ensures faults { FaultsAreAnswered }
+    ensures known { KnownAreAnswered }
+    ensures old_hellos { OldHellosAreAnswered }
+    ensures audits { AuditsAreAnswered }
+    ensures clients { ClientsAreTold }
+    ensures cpus { CpusAreSelected }
 {}
