@@ -10,4 +10,5 @@ pub mod CachedSizes
 pub mod Fewer
 pub mod NoRoom
 pub mod Stepping
+pub mod Ticking
 pub mod LawProofs

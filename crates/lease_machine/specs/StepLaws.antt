@@ -50,3 +50,8 @@ ClientsAreTold = (d : Picture) (line : List ℕ) → IsPicture d
 abbrev pub CpusAreSelected : Type 0
 CpusAreSelected = (d : Picture) (line : List ℕ) (n : ℕ) → IsPicture d → IsCpu n
     → served_of line ≡ Ok (served.Operator (operator.Cpu n)) → HasAnswer d line
+
+-- a tick
+abbrev pub TicksAreAnswered : Type 0
+TicksAreAnswered = (d : Picture) (line : List ℕ) → IsPicture d
+    → served_of line ≡ Ok (served.Operator operator.Tick) → HasAnswer d line

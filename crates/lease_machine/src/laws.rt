@@ -12,7 +12,7 @@ ghost use Rattle.lease_machine.specs.RoomLaws.{FreedIsWhole, FirstLeaseIsServed,
 ghost use Rattle.lease_machine.specs.RoomLaws.{NeverBoth};
 ghost use Rattle.lease_machine.specs.StepLaws.{FaultsAreAnswered, KnownAreAnswered};
 ghost use Rattle.lease_machine.specs.StepLaws.{OldHellosAreAnswered, AuditsAreAnswered};
-ghost use Rattle.lease_machine.specs.StepLaws.{ClientsAreTold, CpusAreSelected};
+ghost use Rattle.lease_machine.specs.StepLaws.{ClientsAreTold, CpusAreSelected, TicksAreAnswered};
 
 /// What a desk begins with is a picture, and it stays one when a CPU is selected.
 pub fn picture_laws()
@@ -75,4 +75,5 @@ pub fn step_laws()
     ensures audits { AuditsAreAnswered }
     ensures clients { ClientsAreTold }
     ensures cpus { CpusAreSelected }
+    ensures ticks { TicksAreAnswered }
 {}

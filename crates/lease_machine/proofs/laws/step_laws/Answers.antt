@@ -1,4 +1,5 @@
 use Rattle.lease_machine.proofs.Stepping.{faults_are_answered, known_are_answered, old_hellos_are_answered, audits_are_answered, clients_are_told, cpus_are_selected}
+use Rattle.lease_machine.proofs.Ticking.{ticks_are_answered}
 use Rattle.lease_machine.proofs.laws.step_laws.Goals as goal
 
 pub returns-clause-faults : goal.returns-clause-faults
@@ -18,3 +19,6 @@ returns-clause-clients c = clients_are_told
 
 pub returns-clause-cpus : goal.returns-clause-cpus
 returns-clause-cpus c = cpus_are_selected
+
+pub returns-clause-ticks : goal.returns-clause-ticks
+returns-clause-ticks c = ticks_are_answered
