@@ -8,6 +8,6 @@ pub use Rattle.lease_machine.proofs.Agreeing.{answers_agree, repeats_fit}
 pub use Rattle.lease_machine.proofs.Reaching.{grants_were_reachable}
 pub use Rattle.lease_machine.proofs.FreshCpus.{fresh_is_picture, selected_is_picture, fresh_cpu_fits}
 pub use Rattle.lease_machine.proofs.CachedSizes.{cached_by_number}
-pub use Rattle.lease_machine.proofs.Stepping.{faults_are_answered, known_are_answered, old_hellos_are_answered, audits_are_answered, clients_are_told, cpus_are_selected}
+pub use Rattle.lease_machine.proofs.Stepping.{faults_are_answered, known_are_answered, old_hellos_are_answered, audits_are_answered, clients_are_told, cpus_are_selected, vain_resizes_are_answered}
 pub use Rattle.lease_machine.proofs.Ticking.{ticks_are_answered}
 pub use Rattle.lease_machine.proofs.Fewer.{fewer_fit_too}

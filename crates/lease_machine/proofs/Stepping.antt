@@ -1,9 +1,10 @@
 -- From each picture there is a step of these lines.
-use Rattle.std.proofs.Common.{◌≡◌, ℕ, refl, sym, subst, inl, List, Err, Result}
+use Rattle.std.proofs.Common.{◌≡◌, ℕ, refl, sym, subst, inl, inr, List, Err, Result}
 use Rattle.lease_proto.specs.declared.faults.LineFault.{LineFault}
 use Rattle.lease_proto.specs.declared.operators.ServedLine.{ServedLine}
 use Rattle.lease_proto.specs.declared.replies.Reply.TheVariants as reply
-use Rattle.lease_proto.specs.Faults.{error_line}
+use Rattle.lease_proto.specs.declared.faults.ErrorWord.TheVariants.{NoArena, Size}
+use Rattle.lease_proto.specs.Faults.{error_line, error_text}
 use Rattle.lease_proto.specs.Operators.{served_of}
 use Rattle.lease_proto.specs.Reports.{ok_text}
 use Rattle.lease_book.specs.BookState.{account_in}
@@ -14,7 +15,7 @@ use Rattle.lease_machine.specs.Picture.{Picture, IsPicture}
 use Rattle.lease_machine.specs.Operators.{arenas_told, client_told, with_cpu}
 use Rattle.lease_machine.specs.Machine.{AnswersLine, LeaseStep}
 use Rattle.lease_machine.specs.AnswerLaws.{written}
-use Rattle.lease_machine.specs.StepLaws.{FaultsAreAnswered, KnownAreAnswered, OldHellosAreAnswered, AuditsAreAnswered, ClientsAreTold, CpusAreSelected}
+use Rattle.lease_machine.specs.StepLaws.{FaultsAreAnswered, KnownAreAnswered, OldHellosAreAnswered, AuditsAreAnswered, ClientsAreTold, CpusAreSelected, VainResizesAreAnswered}
 use Rattle.lease_machine.proofs.FreshCpus.{selected_is_picture}
 
 module _ (d : Picture) (is : IsPicture d) (line : List ℕ) (x : Result ServedLine LineFault) (read : served_of line ≡ x) where
@@ -55,3 +56,9 @@ cpus_are_selected d line n is in_range read =
       setup = record { tree = refl; owned = refl };
       picture = selected_is_picture d n is in_range;
     })
+
+pub vain_resizes_are_answered : VainResizesAreAnswered
+vain_resizes_are_answered d line r is read vain = elim vain [
+  | inl none ↦ (error_text NoArena, d, stays d is line _ read (error_text NoArena) (inl (inl (none, refl, refl))))
+  | inr size ↦ (error_text Size, d, stays d is line _ read (error_text Size) (inl (inr (inl (size.0, size.1, size.2, size.3, size.4, refl, refl)))))
+]

@@ -1,17 +1,21 @@
 -- That lines have answers: from each picture there is a step of these.
-use Rattle.std.specs.Prelude.{◌≡◌, ℕ, ◌<◌, List, Ok, Err}
+use Rattle.std.specs.Prelude.{◌≡◌, ◌⊎◌, ℕ, ◌<◌, List, slice_get, Some, None, Ok, Err}
+use Rattle.arena_tree.specs.Trees.{place_in}
+use Rattle.stock.specs.Spaces.{SpaceState}
 use Rattle.lease_terms.specs.Requests.{RequestId}
 use Rattle.lease_proto.specs.declared.faults.LineFault.{LineFault}
 use Rattle.lease_proto.specs.declared.lines.Line.TheVariants as lines
 use Rattle.lease_proto.specs.declared.lines.HelloLine.{HelloLine}
 use Rattle.lease_proto.specs.declared.lines.Op.{Op}
 use Rattle.lease_proto.specs.declared.operators.OperatorLine.TheVariants as operator
+use Rattle.lease_proto.specs.declared.operators.ResizeLine.{ResizeLine}
 use Rattle.lease_proto.specs.declared.operators.ServedLine.TheVariants as served
 use Rattle.lease_proto.specs.declared.replies.Reply.{Reply}
 use Rattle.lease_proto.specs.Cpus.{IsCpu}
-use Rattle.lease_proto.specs.Operators.{served_of}
+use Rattle.lease_proto.specs.Operators.{served_of, rounds_of}
 use Rattle.lease_book.specs.BookState.{account_in}
 use Rattle.lease_machine.specs.Picture.{Picture, IsPicture}
+use Rattle.lease_machine.specs.Operators.{HasSmaller}
 use Rattle.lease_machine.specs.Replies.{IsKnownReply}
 use Rattle.lease_machine.specs.Machine.{LeaseStep}
 use Rattle.lease_machine.specs.AnswerLaws.{written, IsRequestLine}
@@ -55,3 +59,12 @@ CpusAreSelected = (d : Picture) (line : List ℕ) (n : ℕ) → IsPicture d → 
 abbrev pub TicksAreAnswered : Type 0
 TicksAreAnswered = (d : Picture) (line : List ℕ) → IsPicture d
     → served_of line ≡ Ok (served.Operator operator.Tick) → HasAnswer d line
+
+-- a new size for the magazines of an arena that isn't there, or of one with no smaller ones
+abbrev pub VainResizesAreAnswered : Type 0
+VainResizesAreAnswered = (d : Picture) (line : List ℕ) (r : ResizeLine) → IsPicture d
+    → served_of line ≡ Ok (served.Operator (operator.Resize r))
+    → (place_in r.arena d.tree ≡ None) ⊎ ((place : ℕ) × (s : SpaceState)
+    × (place_in r.arena d.tree ≡ Some place) × (slice_get d.spaces place ≡ Some s)
+    × (¬ HasSmaller (rounds_of r.size) s))
+    → HasAnswer d line

@@ -13,6 +13,7 @@ ghost use Rattle.lease_machine.specs.RoomLaws.{NeverBoth};
 ghost use Rattle.lease_machine.specs.StepLaws.{FaultsAreAnswered, KnownAreAnswered};
 ghost use Rattle.lease_machine.specs.StepLaws.{OldHellosAreAnswered, AuditsAreAnswered};
 ghost use Rattle.lease_machine.specs.StepLaws.{ClientsAreTold, CpusAreSelected, TicksAreAnswered};
+ghost use Rattle.lease_machine.specs.StepLaws.{VainResizesAreAnswered};
 
 /// What a desk begins with is a picture, and it stays one when a CPU is selected.
 pub fn picture_laws()
@@ -76,4 +77,5 @@ pub fn step_laws()
     ensures clients { ClientsAreTold }
     ensures cpus { CpusAreSelected }
     ensures ticks { TicksAreAnswered }
+    ensures vain_resizes { VainResizesAreAnswered }
 {}

@@ -1,4 +1,4 @@
-use Rattle.lease_machine.proofs.Stepping.{faults_are_answered, known_are_answered, old_hellos_are_answered, audits_are_answered, clients_are_told, cpus_are_selected}
+use Rattle.lease_machine.proofs.Stepping.{faults_are_answered, known_are_answered, old_hellos_are_answered, audits_are_answered, clients_are_told, cpus_are_selected, vain_resizes_are_answered}
 use Rattle.lease_machine.proofs.Ticking.{ticks_are_answered}
 use Rattle.lease_machine.proofs.laws.step_laws.Goals as goal
 
@@ -22,3 +22,6 @@ returns-clause-cpus c = cpus_are_selected
 
 pub returns-clause-ticks : goal.returns-clause-ticks
 returns-clause-ticks c = ticks_are_answered
+
+pub returns-clause-vain_resizes : goal.returns-clause-vain_resizes
+returns-clause-vain_resizes c = vain_resizes_are_answered
