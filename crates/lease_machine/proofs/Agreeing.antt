@@ -27,8 +27,9 @@ use Rattle.lease_history.specs.Told.{reply_to}
 use Rattle.lease_machine.specs.Picture.{Picture, arena_named}
 use Rattle.lease_machine.specs.Machine.{NewRequest, Sweeps, HelloStep, ClientStep, AnswersLine, demand_of}
 use Rattle.lease_machine.specs.Laws.{Runs}
-use Rattle.lease_machine.specs.AnswerLaws.{written, AnswersAgree}
+use Rattle.lease_machine.specs.AnswerLaws.{written, AnswersAgree, RepeatsFit}
 use Rattle.lease_machine.proofs.Places.{setup_stays}
+use Rattle.lease_machine.proofs.Fitting.{grants_fit}
 use Rattle.lease_machine.proofs.Repeats.{IsLast, history_of, known_last, request_kept, request_answer, kept_or, operator_keeps}
 
 -- whatever history gives the old book, that and some entries more give the new one
@@ -168,4 +169,11 @@ answers_agree old mid late new id op again line text between repeat bytes frames
                   inl (b.1 ∙ ap written same ∙ sym a.1)
             ]
       ]
+    ]
+
+pub repeats_fit : RepeatsFit
+repeats_fit old mid late new id l again line text between repeat bytes frames is read fresh first run read_again second =
+    elim (answers_agree old mid late new id (ops.Lease l) again line text between repeat bytes frames is read first run read_again second) [
+      | inl same ↦ (let fits = grants_fit old mid id l line text is read fresh first in inl (fits.0, same ∙ fits.1, fits.2))
+      | inr unkept ↦ inr unkept
     ]

@@ -1,5 +1,5 @@
 -- A CPU that is new has caches for those of the stock, and no round.
-use Rattle.std.proofs.Common.{◌≡◌, ◌≢◌, ℕ, suc, zero, ◌+◌, ◌<◌, Bool, true, false, cond, ◌||◌, ◌==◌, get_or, refl, sym, subst, ap, ◌∙◌, List, [], ◌∷◌, ◌++◌, map, length, All, AllPairs, Option, Some, None, arith}
+use Rattle.std.proofs.Common.{◌≡◌, ◌≢◌, ℕ, suc, zero, ◌+◌, ◌<◌, Bool, true, false, cond, ◌||◌, ◌==◌, get_or, ◌≤◌, inl, inr, refl, sym, subst, ap, ◌∙◌, List, [], ◌∷◌, ◌++◌, map, length, All, AllPairs, Option, Some, None, arith}
 use Rattle.std.specs.Prelude.{slice_get, sum_by}
 use Rattle.std.specs.List.{find, flat_map, list_any}
 use Rattle.std.proofs.lemmas.Bool.Decides.{Decides-eqb}
@@ -8,6 +8,7 @@ use Rattle.std.proofs.lemmas.List.Elements.{All-cons, All-append, All-nil}
 use Rattle.std.proofs.lemmas.Grind.{flat_map-append}
 use Rattle.deed_core.specs.Tag.{Tag}
 use Rattle.deed_core.proofs.LawProofs.{mapped, power_some, slice_get_some, AllPairs-append}
+use Rattle.magazine_layer.specs.Magazines.{IsSize}
 use Rattle.stock.specs.Spaces.{SpaceState, SpacePlan, plan_of, plans_of, slab_size_of}
 use Rattle.stock.specs.Stocks.{IsStock}
 use Rattle.stock.specs.OwnCaches.{OwnCacheState, own_rounds}
@@ -17,7 +18,7 @@ use Rattle.stock_audit.proofs.LawProofs.{fresh_is_accounted, cpus_keep}
 use Rattle.local_parts.specs.Cpus.{CachePlace, IsCpuOf, own_place, own_places, row_places, places_from, new_own}
 use Rattle.lease_proto.specs.Cpus.{IsCpu}
 use Rattle.lease_book.specs.BookState.{leased, leased_by}
-use Rattle.lease_machine.specs.Picture.{Cpu, Picture, IsPicture, is_cpu, caches_of, fresh_cpu, held_outside}
+use Rattle.lease_machine.specs.Picture.{Cpu, Picture, IsPicture, IsShapedIn, is_cpu, caches_of, fresh_cpu, held_outside}
 use Rattle.lease_machine.specs.CpuLaws.{FreshIsPicture, SelectedIsPicture, FreshCpuFits}
 
 abbrev joined : List (List OwnCacheState) → List OwnCacheState
@@ -80,6 +81,21 @@ module _ (spaces : List SpaceState) (n : ℕ) where
   fresh_own stock = all_rows (IsOwnIn spaces) 0 (plans_of spaces) (λ i p at j below.
       subst (λ (k : ℕ). IsOwnIn spaces (new_own 3 (record { arena = k; cache = j; quantum = p.quantum }))) (omega arith) (own_at stock i p at j below))
 
+  three_least : (m : ℕ) → IsSize m → 3 ≤ m
+  three_least m (inl is) = omega (arith, is)
+  three_least m (inr (inl is)) = omega (arith, is)
+  three_least m (inr (inr (inl is))) = omega (arith, is)
+  three_least m (inr (inr (inr is))) = omega (arith, is)
+
+  shaped_at : IsStock spaces → (k j quantum : ℕ) → IsShapedIn spaces (new_own 3 (record { arena = k; cache = j; quantum = quantum }))
+  shaped_at stock k j quantum = record {
+    shape = record { sized = inl refl; most = omega arith; whole = inl refl };
+    most = λ c at. three_least c.depot.size ((stock k at.space at.at).caches j c at.among).depot.sized;
+  }
+
+  pub fresh_shapes : IsStock spaces → All (IsShapedIn spaces) (caches_of (fresh_cpu n spaces))
+  fresh_shapes stock = all_rows (IsShapedIn spaces) 0 (plans_of spaces) (λ i p at j below. shaped_at stock (0 + i) j p.quantum)
+
 -- a test that passes finds one
 found_by : (b any : Bool) (c : Cpu) (rest : Option Cpu) → (any ≡ true → rest ≢ None) → (b || any) ≡ true → cond b (Some c) rest ≢ None
 found_by true any c rest later is none = (let e : Some c ≡ None = none in cc)
@@ -130,6 +146,9 @@ rounds_push cs c none =
 abbrev IsCpuIn : List SpaceState → Cpu → Type 0
 IsCpuIn spaces c = IsCpu c.number × IsCpuOf spaces c.caches
 
+abbrev HasShapes : List SpaceState → Cpu → Type 0
+HasShapes spaces c = All (IsShapedIn spaces) (caches_of c)
+
 module _ (d : Picture) (n : ℕ) (is : IsPicture d) (in_range : IsCpu n) where
   abbrev fresh : Cpu
   fresh = fresh_cpu n d.spaces
@@ -139,7 +158,7 @@ module _ (d : Picture) (n : ℕ) (is : IsPicture d) (in_range : IsCpu n) where
     tree = is.tree;
     plans = is.plans;
     units = is.units;
-    cpus = record { each = is.cpus.each; numbers = is.cpus.numbers; there = found (is_cpu n) d.cpus there };
+    cpus = record { each = is.cpus.each; shapes = is.cpus.shapes; numbers = is.cpus.numbers; there = found (is_cpu n) d.cpus there };
     book = is.book;
   }
 
@@ -158,6 +177,7 @@ module _ (d : Picture) (n : ℕ) (is : IsPicture d) (in_range : IsCpu n) where
         });
         cpus = record {
           each = All-append (IsCpuIn d.spaces) d.cpus (fresh ∷ []) is.cpus.each (All-cons (IsCpuIn d.spaces) fresh [] (in_range, fresh_places d.spaces n) (All-nil (IsCpuIn d.spaces)));
+          shapes = All-append (HasShapes d.spaces) d.cpus (fresh ∷ []) is.cpus.shapes (All-cons (HasShapes d.spaces) fresh [] (fresh_shapes d.spaces n is.units.parts) (All-nil (HasShapes d.spaces)));
           numbers = numbers_push n d.cpus fresh refl none is.cpus.numbers;
           there = found_last (is_cpu n) d.cpus fresh (same_number n);
         };
@@ -191,6 +211,7 @@ fresh_is_picture tree spaces book is_tree plans accounted history =
       units = subst (λ (ts : List Tag). IsAccountedFor spaces (outside [] ts caches)) (sym leases) first;
       cpus = record {
         each = All-cons (IsCpuIn spaces) c [] (omega arith, fresh_places spaces 0) (All-nil (IsCpuIn spaces));
+        shapes = All-cons (HasShapes spaces) c [] (fresh_shapes spaces 0 accounted.stock) (All-nil (HasShapes spaces));
         numbers = λ i j e lt below. absurd (omega (arith, lt, below));
         there = λ none. (let e : Some c ≡ None = none in cc);
       };
@@ -202,4 +223,5 @@ fresh_cpu_fits = record {
   of = fresh_places;
   none = fresh_rounds;
   own = fresh_own;
+  shapes = fresh_shapes;
 }

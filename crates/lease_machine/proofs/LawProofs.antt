@@ -1,11 +1,13 @@
 -- What the proofs of the crates above cite, and all that they cite, of this crate: the laws that its
 -- law functions state.
-pub use Rattle.lease_machine.proofs.Places.{pictures_stay, setup_stays, units_have_one_place, leases_are_apart, audit_tells_leases, audit_is_whole}
+pub use Rattle.lease_machine.proofs.Places.{pictures_stay, setup_stays, units_have_one_place, leases_are_apart, audit_tells_leases, audit_is_whole, audit_is_told}
 pub use Rattle.lease_machine.proofs.Repeats.{lines_repeat}
 pub use Rattle.lease_machine.proofs.Fitting.{grants_fit, kept_grants_fit}
-pub use Rattle.lease_machine.proofs.NoRoom.{no_fit_means_taken, no_fit_means_taken_up, freed_is_whole, first_lease_is_served}
-pub use Rattle.lease_machine.proofs.Agreeing.{answers_agree}
+pub use Rattle.lease_machine.proofs.NoRoom.{no_fit_means_taken, no_fit_means_taken_up, freed_is_whole, first_lease_is_served, never_both}
+pub use Rattle.lease_machine.proofs.Agreeing.{answers_agree, repeats_fit}
 pub use Rattle.lease_machine.proofs.Reaching.{grants_were_reachable}
 pub use Rattle.lease_machine.proofs.FreshCpus.{fresh_is_picture, selected_is_picture, fresh_cpu_fits}
 pub use Rattle.lease_machine.proofs.CachedSizes.{cached_by_number}
+pub use Rattle.lease_machine.proofs.Stepping.{faults_are_answered, known_are_answered, old_hellos_are_answered, audits_are_answered, clients_are_told, cpus_are_selected, vain_resizes_are_answered}
+pub use Rattle.lease_machine.proofs.Ticking.{ticks_are_answered}
 pub use Rattle.lease_machine.proofs.Fewer.{fewer_fit_too}

@@ -9,4 +9,6 @@ pub mod FreshCpus
 pub mod CachedSizes
 pub mod Fewer
 pub mod NoRoom
+pub mod Stepping
+pub mod Ticking
 pub mod LawProofs

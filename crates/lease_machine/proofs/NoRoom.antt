@@ -39,7 +39,7 @@ use Rattle.lease_machine.specs.Serving.{CanServe}
 use Rattle.lease_machine.specs.Replies.{IsKnownReply, IsKeptReply}
 use Rattle.lease_machine.specs.Machine.{NewLease, RefusesLease, HelloStep, Sweeps, AnswersLine, demand_of}
 use Rattle.lease_machine.specs.AnswerLaws.{written}
-use Rattle.lease_machine.specs.RoomLaws.{NamesArena, NothingIsKept, NoFitMeansTaken, NoFitMeansTakenUp, HasRunUp, FreedIsWhole, FirstLeaseIsServed, refusal_to}
+use Rattle.lease_machine.specs.RoomLaws.{NamesArena, NothingIsKept, NoFitMeansTaken, NoFitMeansTakenUp, NeverBoth, HasRunUp, FreedIsWhole, FirstLeaseIsServed, refusal_to}
 use Rattle.lease_machine.proofs.Repeats.{request_answer, history_of}
 use Rattle.lease_machine.proofs.Fitting.{not_known}
 use Rattle.lease_machine.proofs.Rooms.{run_serves, place_serves, plan_is}
@@ -114,6 +114,14 @@ no_fit_means_taken old new id l x s is named found run base free serves =
       | inl known ↦ not_known old id a.0 found.fresh known.0
       | inr does ↦ new_no_fit id old new l a.0 does.1 (sym a.1 ∙ found.said) named.place x named.finds can
     ])
+
+pub never_both : NeverBoth
+never_both old new other id l r g found =
+    let a = request_answer old other id (ops.Lease l) found.line found.text found.read found.step in
+    elim a.2 [
+      | inl known ↦ not_known old id a.0 found.fresh known.0
+      | inr does ↦ new_no_fit id old other l a.0 does.1 (sym a.1 ∙ found.said) g.place g.arena g.takes.finds g.can
+    ]
 
 -- what runs serve, the arenas of the chain do
 runs_up : (d : Picture) → IsPicture d → (chain : List Level) (n : ℕ) → HasRunUp d.spaces chain n → HasPlaceUp d.spaces chain n

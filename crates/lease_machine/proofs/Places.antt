@@ -1,14 +1,19 @@
 -- Each unit has one place, and leases are apart, after any lines.
-use Rattle.std.proofs.Common.{◌≡◌, ℕ, sym, subst, ap, ◌∙◌, List, [], ◌∷◌, ◌++◌, get_or, AllPairs, Ok, Err, arith}
-use Rattle.std.specs.Prelude.{map, sum_by}
+use Rattle.std.proofs.Common.{◌≡◌, ℕ, refl, inl, inr, sym, subst, ap, ◌∙◌, List, [], ◌∷◌, ◌++◌, get_or, AllPairs, Ok, Err, arith}
+use Rattle.std.specs.Prelude.{map, sum_by, codes}
 use Rattle.std.proofs.lemmas.List.{get_or_append_left, length-append}
 use Rattle.stock.specs.Laws.{ApartUpChain}
 use Rattle.stock_audit.specs.Outside.{all_rounds_out}
 use Rattle.stock_audit.proofs.LawProofs.{audit_adds_up, unit_adds_up, units_weigh, out_never_overlaps}
+use Rattle.lease_proto.specs.declared.operators.OperatorLine.TheVariants as operator
+use Rattle.lease_proto.specs.declared.operators.ServedLine.TheVariants as served
+use Rattle.lease_proto.specs.Operators.{served_of}
+use Rattle.lease_proto.specs.Operators as reading
 use Rattle.lease_book.specs.BookState.{leased, units_of_arena}
 use Rattle.lease_machine.specs.Picture.{Picture, IsPicture, held_outside, owned_by}
 use Rattle.lease_machine.specs.Operators.{sums_in}
-use Rattle.lease_machine.specs.Laws.{PicturesStay, SetupStays, UnitsHaveOnePlace, LeasesAreApart, AuditTellsLeases, AuditIsWhole}
+use Rattle.lease_machine.specs.Machine.{AnswersLine}
+use Rattle.lease_machine.specs.Laws.{PicturesStay, SetupStays, UnitsHaveOnePlace, LeasesAreApart, AuditTellsLeases, AuditIsWhole, AuditIsTold}
 
 pub pictures_stay : PicturesStay
 pictures_stay old new [] text is run = subst IsPicture (sym run.1) is
@@ -43,3 +48,13 @@ audit_tells_leases d is k s at =
 
 pub audit_is_whole : AuditIsWhole
 audit_is_whole d is k s at = audit_adds_up d.spaces (held_outside d) is.units k s at
+
+audit_read : served_of (codes "audit") ≡ Ok (served.Operator operator.Audit)
+unfolding served_of reading.served_in reading.operator_in
+audit_read = refl
+
+pub audit_is_told : AuditIsTold
+audit_is_told old new text step = elim (subst (λ x. AnswersLine old x text new) audit_read step.answer) [
+  | inl told ↦ (inl told.0, told.1)
+  | inr out ↦ (inr out.0, out.1)
+]

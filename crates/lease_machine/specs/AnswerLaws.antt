@@ -85,6 +85,16 @@ GrantsFit = (old new : Picture) (id : RequestId) (l : LeaseLine) (line text : Li
     → IsPicture old → IsRequestLine line id (ops.Lease l) → IsNew (account_in id.client old.book) id
     → LeaseStep old line text new → (r : Reply) × (text ≡ written r) × FitsLine old l r
 
+-- Whatever lines come between, each answer to the same number that settles it is a reply that fits
+-- the line by which it was asked first.
+abbrev pub RepeatsFit : Type 0
+RepeatsFit = (old mid late new : Picture) (id : RequestId) (l : LeaseLine) (again : Op)
+    (line text between repeat bytes : List ℕ) (frames : List Frame) → IsPicture old
+    → IsRequestLine line id (ops.Lease l) → IsNew (account_in id.client old.book) id
+    → LeaseStep old line text mid → Runs mid frames between late
+    → IsRequestLine repeat id again → LeaseStep late repeat bytes new
+    → ((r : Reply) × (bytes ≡ written r) × FitsLine old l r) ⊎ (IsUnkept text ⊎ IsUnkept bytes)
+
 -- the kept reply is no grant, or one of an arena whose units fit the request that it was made for
 abbrev pub IsFitting : Picture → Kept → Type 0
 IsFitting d k = (arena base len : ℕ) → k.reply ≡ kept.Granted arena base len

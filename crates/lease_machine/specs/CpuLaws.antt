@@ -11,7 +11,8 @@ use Rattle.stock_audit.specs.Accounted.{IsOwnIn}
 use Rattle.local_parts.specs.Cpus.{IsCpuOf}
 use Rattle.lease_proto.specs.Cpus.{IsCpu}
 use Rattle.lease_book.specs.BookState.{BookState, IsHistory}
-use Rattle.lease_machine.specs.Picture.{Picture, IsPicture, caches_of, fresh_cpu}
+use Rattle.lease_machine.specs.Picture.{Picture, IsPicture, IsShapedIn, caches_of}
+use Rattle.lease_machine.specs.Picture.{fresh_cpu}
 use Rattle.lease_machine.specs.Operators.{with_cpu}
 
 -- a stock with the arenas of a tree and nothing out, CPU 0, and a book of which nothing happened
@@ -31,10 +32,13 @@ abbrev pub SelectedIsPicture : Type 0
 SelectedIsPicture = (d : Picture) (n : ℕ) → IsPicture d → IsCpu n
     → IsPicture (record d { cpus = with_cpu n d; selected = n })
 
--- a CPU that is new has no round, and a cache for each quantum cache of the stock
+-- a CPU that is new has no round, and a cache for each quantum cache of the stock, with magazines
+-- no greater than its depot's
 pub record FreshCpuFits : Type 0 where
   pub of : (spaces : List SpaceState) (n : ℕ) → IsCpuOf spaces (fresh_cpu n spaces).caches
   pub none : (spaces : List SpaceState) (n : ℕ)
       → all_rounds_out (caches_of (fresh_cpu n spaces)) ≡ []
   pub own : (spaces : List SpaceState) (n : ℕ) → IsStock spaces
       → All (IsOwnIn spaces) (caches_of (fresh_cpu n spaces))
+  pub shapes : (spaces : List SpaceState) (n : ℕ) → IsStock spaces
+      → All (IsShapedIn spaces) (caches_of (fresh_cpu n spaces))

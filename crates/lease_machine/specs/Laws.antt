@@ -1,5 +1,5 @@
 -- What follows for each picture, and for each run of lines.
-use Rattle.std.specs.Prelude.{◌≡◌, ℕ, ◌≤◌, List, AllPairs, slice_get, Some, sum_by}
+use Rattle.std.specs.Prelude.{◌≡◌, ◌⊎◌, ℕ, ◌≤◌, codes, List, AllPairs, slice_get, Some, sum_by}
 use Rattle.deed_core.specs.Covering.{covering_held, units_held}
 use Rattle.tag_arena.specs.ArenaState.{spans_of}
 use Rattle.stock.specs.Spaces.{SpaceState}
@@ -7,10 +7,12 @@ use Rattle.stock.specs.Sums.{total}
 use Rattle.stock.specs.Laws.{ApartUpChain}
 use Rattle.stock_audit.specs.Chains.{unit_of_arena}
 use Rattle.lease_book.specs.BookState.{leased, units_of_arena}
+use Rattle.lease_proto.specs.declared.faults.ErrorWord.TheVariants.{Memory}
+use Rattle.lease_proto.specs.Faults.{error_text}
 use Rattle.lease_proto.specs.Frames.{Frame}
 use Rattle.lease_server.specs.Serving.{ServesLines}
 use Rattle.lease_machine.specs.Picture.{Picture, IsPicture, SameSetup, held_outside}
-use Rattle.lease_machine.specs.Operators.{sums_in}
+use Rattle.lease_machine.specs.Operators.{sums_in, arenas_told}
 use Rattle.lease_machine.specs.Machine.{LeaseStep}
 
 -- these frames were answered with this text, one after another
@@ -38,6 +40,12 @@ UnitsHaveOnePlace = (d : Picture) → IsPicture d → (k : ℕ) (s : SpaceState)
 -- no two leases overlap where their arenas have one top, be one's arena a source of the other's
 abbrev pub LeasesAreApart : Type 0
 LeasesAreApart = (d : Picture) → IsPicture d → AllPairs (ApartUpChain d.spaces) (leased d.book)
+
+-- the line `audit` is answered by what is told of each arena, unless out of memory, and nothing
+-- changes
+abbrev pub AuditIsTold : Type 0
+AuditIsTold = (old new : Picture) (text : List ℕ) → LeaseStep old (codes "audit") text new
+    → ((text ≡ arenas_told old old.tree old.spaces) ⊎ (text ≡ error_text Memory)) × (new ≡ old)
 
 -- what an audit calls leased is the sum of the book's leases
 abbrev pub AuditTellsLeases : Type 0

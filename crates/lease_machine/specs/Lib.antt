@@ -1,5 +1,6 @@
 pub mod Picture
 pub mod Moves
+pub mod Chunks
 pub mod Serving
 pub mod Replies
 pub mod Operators
@@ -9,3 +10,4 @@ pub mod AnswerLaws
 pub mod RoomLaws
 pub mod CpuLaws
 pub mod CacheLaws
+pub mod StepLaws

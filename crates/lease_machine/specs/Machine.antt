@@ -35,7 +35,8 @@ use Rattle.lease_book.specs.Answers.{IsNew}
 use Rattle.lease_book.specs.Calls.{IsGranted, IsReleased, IsSwept}
 use Rattle.lease_book.specs.declared.books.TheConstants.{MOST_LEASES}
 use Rattle.lease_machine.specs.Picture.{Picture, IsPicture, SameSetup, BookAlone, Finds}
-use Rattle.lease_machine.specs.Moves.{SameNames, GoesBack}
+use Rattle.lease_machine.specs.Moves.{SameNames}
+use Rattle.lease_machine.specs.Chunks.{GoesBack}
 use Rattle.lease_machine.specs.Serving.{CanServe, ServesWith, ServesNone, ServesInVain, FallsBack}
 use Rattle.lease_machine.specs.Replies.{IsKnownReply, SettlesRefusal, reply_of_settled, again_of}
 use Rattle.lease_machine.specs.Operators.{OperatorStep}
@@ -61,6 +62,7 @@ pub record Grants (id : RequestId) (l : LeaseLine) (old new : Picture) (r : Repl
   pub place : ℕ
   pub arena : TreeArena
   pub takes : TakesDemand old l place arena
+  pub can : CanServe old place arena (demand_of l)
   pub segment : Tag
   pub serves : ServesWith place arena (demand_of l) segment old new
   pub receipt : ReceiptState

@@ -1,10 +1,8 @@
--- How segments come from their arenas, and go back.
+-- How segments come from their arenas, and go back to them.
 use Rattle.std.specs.Prelude.{◌≡◌, ◌⊎◌, ℕ, List, [], ◌∷◌, map, filter, not, slice_get, Some, None}
 use Rattle.deed_core.specs.Tag.{Tag}
 use Rattle.deed_core.specs.Request.{plain_of}
 use Rattle.deed_core.specs.declared.requests.Request.{Request}
-use Rattle.deed_core.specs.declared.segments.Route.{Route}
-use Rattle.deed_core.specs.declared.segments.Route.TheVariants.{Direct, Cached}
 use Rattle.tag_arena.specs.ArenaState.{ArenaState}
 use Rattle.tag_arena.specs.Outcomes.{Carved, Imported, Freed}
 use Rattle.tag_arena.specs.Place.{Serves}
@@ -58,12 +56,13 @@ abbrev pub CarvesInVain : ℕ → Request → List SpaceState → List SpaceStat
 CarvesInVain place q old new = (new ≡ old)
     ⊎ ((t : Tag) × (mid : List SpaceState) × CarvesAt place q t old mid × Returns new t mid)
 
--- nothing changed, or what was climbed for in an arena of the chain went back
+-- nothing changed, or what was climbed for in an arena of the chain went back: no address of those
+-- before it served
 abbrev pub ClimbsInVain : List Level → ℕ → List SpaceState → List SpaceState → Type 0
 ClimbsInVain [] n old new = new ≡ old
 ClimbsInVain (l ∷ up) n old new = (new ≡ old)
     ⊎ ((t : Tag) × (mid : List SpaceState) × Climbs (l ∷ up) n t old mid × Returns new t mid)
-    ⊎ ClimbsInVain up (amount_of l up n) old new
+    ⊎ ((¬ HasPlace old l.id (plain_of n)) × ClimbsInVain up (amount_of l up n) old new)
 
 abbrev pub arena_of : SpaceState → ArenaState
 arena_of s = s.arena
@@ -92,13 +91,3 @@ pub record OtherCpusStay (old new : Picture) : Type 0 where
 -- the same names, and the same CPU selected
 abbrev pub SameNames : Picture → Picture → Type 0
 SameNames old new = (new.tree ≡ old.tree) × (new.selected ≡ old.selected)
-
--- the segment went back, by its route: what was carved to its arena, a chunk to the selected CPU's
--- magazines, to its depot or its slab
-abbrev pub GoesBackBy : Route → Tag → Picture → Picture → Type 0
-GoesBackBy Direct t old new = Returns new.spaces t old.spaces × (new.cpus ≡ old.cpus)
-GoesBackBy (Cached k) t old new =
-    ArenasStay old.spaces new.spaces × OtherCpusStay old new
-
-abbrev pub GoesBack : Tag → Picture → Picture → Type 0
-GoesBack t old new = SameNames old new × GoesBackBy t.route t old new

@@ -1,12 +1,15 @@
 -- What an operator's line is answered.
-use Rattle.std.specs.Prelude.{◌≡◌, ◌⊎◌, ℕ, ◌+◌, ◌<◌, List, [], ◌∷◌, ◌++◌, All, Any, map, set}
+use Rattle.std.specs.Prelude.{◌≡◌, ◌≢◌, ◌⊎◌, ℕ, ◌+◌, ◌-◌, ◌<◌, Bool, List, [], ◌∷◌, ◌++◌, All}
+use Rattle.std.specs.Prelude.{Any, map, filter, drop, set}
 use Rattle.std.specs.Prelude.{nat_lt, if◌then◌else◌, sum_by, slice_get, Some, None}
-use Rattle.std.specs.List.{flat_map, list_any}
-use Rattle.slab_layer.specs.Slab.{IsComplete}
+use Rattle.std.specs.List.{find, flat_map, list_any}
+use Rattle.slab_layer.specs.Slab.{SlabState, IsComplete}
+use Rattle.slab_layer.specs.Cache.{SlabCacheState}
 use Rattle.magazine_layer.specs.Depots.{DepotState, CanReap, after_tick, after_resize}
 use Rattle.arena_tree.specs.declared.trees.TreeArena.{TreeArena}
 use Rattle.arena_tree.specs.Trees.{place_in}
-use Rattle.stock.specs.Spaces.{SpaceState, QuantumCacheState, with_caches, with_depot}
+use Rattle.stock.specs.Spaces.{SpaceState, QuantumCacheState, IsCacheAt, with_caches}
+use Rattle.stock.specs.Spaces.{with_depot}
 use Rattle.stock.specs.Sums.{Sums}
 use Rattle.stock_audit.specs.Audits.{sums_of_arena}
 use Rattle.lease_book.specs.Reports.{report_of}
@@ -20,7 +23,7 @@ use Rattle.lease_proto.specs.Faults.{error_text}
 use Rattle.lease_proto.specs.Operators.{rounds_of}
 use Rattle.lease_proto.specs.Reports.{audit_text, client_text, reaped_text, ok_text}
 use Rattle.lease_machine.specs.Picture.{Cpu, Picture, is_cpu, fresh_cpu, held_outside}
-use Rattle.lease_machine.specs.Moves.{ArenasStay}
+use Rattle.lease_machine.specs.Moves.{ArenasStay, outline_of}
 
 -- the CPUs with that one, which is made if it is new
 abbrev pub with_cpu : ℕ → Picture → List Cpu
@@ -84,10 +87,37 @@ pub record IsReapedOut (c : QuantumCacheState) : Type 0 where
 abbrev pub PartsAlone : Picture → Picture → Type 0
 PartsAlone old new = new ≡ record old { spaces = new.spaces }
 
--- so many units, of whole slabs, went from the caches to their arenas, and nothing is left to reap
+-- what reaping leaves of a depot: the magazines inside the working sets
+abbrev pub after_reap : DepotState → DepotState
+after_reap d = record d {
+  full = drop d.full_reapable d.full;
+  full_reapable = 0;
+  empty = d.empty - d.empty_reapable;
+  empty_reapable = 0;
+  old_full = [];
+  draining = [];
+}
+
+-- some slabs went; each other is as it was, but for which chunks are at home, and so is the colour
+-- of the next
+pub record LosesSlabs (old new : SlabCacheState) : Type 0 where
+  pub stays : SlabState → Bool
+  pub slabs : map outline_of new.slabs ≡ filter stays (map outline_of old.slabs)
+  pub rest : new ≡ record old { slabs = new.slabs }
+
+-- where the arena's next search begins
+abbrev pub rover_of : SpaceState → ℕ
+rover_of s = s.arena.rover
+
+-- so many units, of whole slabs, went from the caches to their arenas, which search on from where
+-- they did, and nothing is left to reap
 pub record ReapsAll (units : ℕ) (old new : Picture) : Type 0 where
   pub parts : PartsAlone old new
   pub units_are : cached_units old ≡ cached_units new + units
+  pub depots : map depots_of new.spaces ≡ map (λ s. map after_reap (depots_of s)) old.spaces
+  pub slabs : (k j : ℕ) (c x : QuantumCacheState) → IsCacheAt old.spaces k j c
+      → IsCacheAt new.spaces k j x → LosesSlabs c.slab x.slab
+  pub rovers : map rover_of new.spaces ≡ map rover_of old.spaces
   pub left : All (λ s. All IsReapedOut s.caches) new.spaces
 
 abbrev pub audit_line : List ℕ → Sums → AuditLine
@@ -135,13 +165,13 @@ Performs operator.Clients old text new =
     (text ≡ flat_map client_told (map report_of old.book.accounts)) × (new ≡ old)
 
 -- what is left out of memory: a line that moves nothing but by what it makes first moves nothing,
--- and what a reaping moved stays moved
+-- nor is a CPU made anew that never was; a reaping takes no memory, and is whole or didn't begin
 abbrev pub LeavesOff : OperatorLine → Picture → Picture → Type 0
 LeavesOff (operator.Cpu n) old new = new ≡ old
-LeavesOff (operator.Offline n) old new = new ≡ old
+LeavesOff (operator.Offline n) old new = (find (is_cpu n) old.cpus ≢ None) × (new ≡ old)
 LeavesOff operator.Tick old new = ⊥
 LeavesOff (operator.Resize r) old new = ⊥
-LeavesOff operator.Reap old new = PartsAlone old new
+LeavesOff operator.Reap old new = (new ≡ old) ⊎ ((units : ℕ) × ReapsAll units old new)
 LeavesOff operator.Audit old new = new ≡ old
 LeavesOff operator.Clients old new = new ≡ old
 

@@ -1,11 +1,13 @@
 -- What is seen of a service of leases between two lines, when nothing is in a hand.
-use Rattle.std.specs.Prelude.{◌≡◌, ◌≢◌, ℕ, ◌==◌, Bool, List, [], All, AllPairs}
+use Rattle.std.specs.Prelude.{◌≡◌, ◌≢◌, ℕ, ◌≤◌, ◌==◌, Bool, List, [], ◌∷◌, All, AllPairs}
 use Rattle.std.specs.Prelude.{map, slice_get, Option, Some, None}
 use Rattle.std.specs.List.{find, flat_map, AllByRecursion}
 use Rattle.deed_core.specs.Holding.{Holding}
+use Rattle.deed_core.specs.Tag.{Tag}
 use Rattle.arena_tree.specs.declared.trees.TreeArena.{TreeArena}
 use Rattle.arena_tree.specs.Trees.{IsTree, place_in}
-use Rattle.stock.specs.Spaces.{SpaceState, plans_of}
+use Rattle.magazine_layer.specs.Magazines.{IsShaped}
+use Rattle.stock.specs.Spaces.{SpaceState, QuantumCacheState, IsCacheAt, plans_of}
 use Rattle.stock.specs.Setups.{plans_for}
 use Rattle.stock.specs.OwnCaches.{OwnCacheState}
 use Rattle.stock_audit.specs.Outside.{Outside, outside}
@@ -70,9 +72,17 @@ pub record IsBookOf (tree : List TreeArena) (book : BookState) : Type 0 where
   pub history : IsHistory entries book
   pub possible : AllByRecursion (IsEnteredIn tree) entries
 
--- the CPUs have numbers of their own, each has caches for those of the stock, and one is selected
+-- its magazines are as they are kept, and no greater than those of its depot
+pub record IsShapedIn (spaces : List SpaceState) (o : OwnCacheState) : Type 0 where
+  pub shape : IsShaped o.cpu
+  pub most : (c : QuantumCacheState) → IsCacheAt spaces o.arena o.cache c
+      → o.cpu.size ≤ c.depot.size
+
+-- the CPUs have numbers of their own, each has caches for those of the stock, with magazines that
+-- their depots can take, and one is selected
 pub record AreCpus (spaces : List SpaceState) (cpus : List Cpu) (selected : ℕ) : Type 0 where
   pub each : All (λ c. IsCpu c.number × IsCpuOf spaces c.caches) cpus
+  pub shapes : All (λ c. All (IsShapedIn spaces) (caches_of c)) cpus
   pub numbers : AllPairs (λ a b. a.number ≢ b.number) cpus
   pub there : find (is_cpu selected) cpus ≢ None
 
@@ -85,6 +95,13 @@ pub record IsPicture (d : Picture) : Type 0 where
   pub units : IsAccountedFor d.spaces (held_outside d)
   pub cpus : AreCpus d.spaces d.cpus d.selected
   pub book : IsBookOf d.tree d.book
+
+-- the same on the way from one line to the next, with this segment in a hand
+pub record HoldsInHand (t : Tag) (d : Picture) : Type 0 where
+  pub plans : plans_of d.spaces ≡ plans_for d.tree
+  pub units : IsAccountedFor d.spaces
+      (outside (t ∷ []) (leased d.book) (flat_map caches_of d.cpus))
+  pub cpus : AreCpus d.spaces d.cpus d.selected
 
 -- the spans that an arena owns
 abbrev pub owned_by : SpaceState → List Holding

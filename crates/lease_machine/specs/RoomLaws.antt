@@ -29,7 +29,7 @@ use Rattle.lease_book.specs.BookState.{leased, account_in}
 use Rattle.lease_book.specs.Answers.{IsNew}
 use Rattle.lease_machine.specs.Picture.{Picture, IsPicture, Finds, held_outside}
 use Rattle.lease_machine.specs.Moves.{HasPlaceUp}
-use Rattle.lease_machine.specs.Machine.{LeaseStep, demand_of}
+use Rattle.lease_machine.specs.Machine.{LeaseStep, Grants, demand_of}
 use Rattle.lease_machine.specs.AnswerLaws.{written, IsRequestLine}
 
 -- the request is refused so
@@ -59,6 +59,11 @@ NoFitMeansTaken = (old new : Picture) (id : RequestId) (l : LeaseLine) (x : Tree
     (s : SpaceState) → IsPicture old → NamesArena old l x s → FindsNoRoom old new id l
     → (run : Holding) (base : ℕ) → IsRun (spans_of s.arena) s.arena.allocated run
     → ¬ ServesIn x.quantum (demand_of l) run base
+
+-- no picture lets one request be granted and be refused so
+abbrev pub NeverBoth : Type 0
+NeverBoth = (old new other : Picture) (id : RequestId) (l : LeaseLine) (r : Reply)
+    → Grants id l old new r → ¬ FindsNoRoom old other id l
 
 -- a run of free units of the arena at the place serves the request
 abbrev pub HasRun : List SpaceState → ℕ → Request → Type 0

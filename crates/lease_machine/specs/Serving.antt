@@ -14,17 +14,11 @@ use Rattle.stock.specs.OwnCaches.{OwnCacheState, own_rounds}
 use Rattle.stock_audit.specs.Outside.{Outside, outside}
 use Rattle.stock_audit.specs.Chains.{IsReachable}
 use Rattle.local_parts.specs.Cpus.{IsOwnAt}
-use Rattle.lease_machine.specs.Picture.{Cpu, Picture, is_cpu, caches_of}
+use Rattle.lease_machine.specs.Picture.{Cpu, Picture, HoldsInHand, is_cpu, caches_of}
 use Rattle.lease_machine.specs.Moves.{HasPlace, HasPlaceUp, CarvesAt, Climbs, CarvesInVain}
-use Rattle.lease_machine.specs.Moves.{ClimbsInVain, OtherCpusStay, GoesBack, SameNames}
-
-abbrev pub own_or_none : Option Cpu → List (List OwnCacheState)
-own_or_none None = []
-own_or_none (Some c) = c.caches
-
--- the caches of the selected CPU
-abbrev pub selected_caches : Picture → List (List OwnCacheState)
-selected_caches d = own_or_none (find (is_cpu d.selected) d.cpus)
+use Rattle.lease_machine.specs.Moves.{ClimbsInVain, SameNames}
+use Rattle.lease_machine.specs.Chunks.{selected_caches, OnSelected, LacksRounds, WasRound, WasIdle}
+use Rattle.lease_machine.specs.Chunks.{LacksChunks, IsOfNewSlab, GoesBack}
 
 abbrev pub all_or_none : Option Cpu → List OwnCacheState
 all_or_none None = []
@@ -71,14 +65,25 @@ abbrev pub WasReachable : Picture → ℕ → Tag → Type 0
 WasReachable d place t = (s : SpaceState) → slice_get d.spaces place ≡ Some s → (u : ℕ)
     → Covers t.holding.range u → IsReachable d.spaces (selected_outside d) place s u
 
+-- how the arena's caches served it: by a round, by an idle chunk, by one of a new slab or, where no
+-- slab fits, by a climb for the request itself; and nothing else changed
+abbrev pub CachesServe : ℕ → TreeArena → Request → Tag → Picture → Picture → Type 0
+CachesServe place x q t old new = (c : QuantumCacheState) × (o : OwnCacheState)
+    × (f : CacheFor old place x q c o)
+    × (WasRound place f.cache c t old new ⊎ WasIdle place f.cache c t old new
+    ⊎ (LacksChunks place f.cache c old new
+    × (IsOfNewSlab (chain_in old.tree place) x.slab_size place f.cache t old.spaces new.spaces
+    ⊎ ((¬ HasPlaceUp old.spaces (chain_in old.tree place) x.slab_size)
+    × Climbs (chain_in old.tree place) q.size t old.spaces new.spaces))))
+
 -- where the segment is from: of a constrained request one carve and nothing else; where no cache
--- serves, a climb and nothing else; else what was reachable
+-- serves, a climb and nothing else; else of the caches, and of what was reachable
 abbrev pub ComesFrom : ℕ → TreeArena → Request → Tag → Picture → Picture → Type 0
 ComesFrom place x q t old new =
     ((¬ IsPlain q) × CarvesAt place q t old.spaces new.spaces × (new.cpus ≡ old.cpus))
     ⊎ (IsPlain q × (¬ IsCachedIn x q)
     × Climbs (chain_in old.tree place) q.size t old.spaces new.spaces × (new.cpus ≡ old.cpus))
-    ⊎ (IsCachedIn x q × WasReachable old place t × OtherCpusStay old new)
+    ⊎ (IsCachedIn x q × WasReachable old place t × CachesServe place x q t old new)
 
 -- the request was served with the segment
 pub record ServesWith (place : ℕ) (x : TreeArena) (q : Request) (t : Tag) (old new : Picture)
@@ -88,17 +93,31 @@ pub record ServesWith (place : ℕ) (x : TreeArena) (q : Request) (t : Tag) (old
   pub from : ComesFrom place x q t old new
   pub names : SameNames old new
 
+-- the CPU's cache for it has no round, and at most changed over; no other cache of a CPU changed
+abbrev pub LooksInVain : ℕ → TreeArena → Request → Picture → Picture → Type 0
+LooksInVain place x q old new = (c : QuantumCacheState) × (o : OwnCacheState)
+    × (f : CacheFor old place x q c o) × OnSelected place f.cache (LacksRounds c.depot) old new
+
 -- nothing serves it: only that where caches serve the selected CPU's magazines may have got greater
 pub record ServesNone (place : ℕ) (x : TreeArena) (q : Request) (old new : Picture) : Type 0 where
   pub none : ¬ CanServe old place x q
   pub spaces : new.spaces ≡ old.spaces
-  pub cpus : (new.cpus ≡ old.cpus) ⊎ (IsCachedIn x q × OtherCpusStay old new)
+  pub cpus : (new.cpus ≡ old.cpus) ⊎ (IsCachedIn x q × LooksInVain place x q old new)
   pub names : SameNames old new
 
 -- what it was served with went back
 abbrev pub ServesInVain : ℕ → TreeArena → Request → Picture → Picture → Type 0
-ServesInVain place x q old new = (t : Tag) × (mid : Picture) × ServesWith place x q t old mid
-    × GoesBack t mid new
+ServesInVain place x q old new = (t : Tag) × (mid : Picture) × (mid.book ≡ old.book)
+    × HoldsInHand t mid × ServesWith place x q t old mid × GoesBack t mid new
+
+-- its caches have no chunk, and what was climbed for went back: for a slab, or where none fits for
+-- the request itself
+abbrev pub SlabsInVain : ℕ → TreeArena → Request → Picture → Picture → Type 0
+SlabsInVain place x q old new = (c : QuantumCacheState) × (o : OwnCacheState)
+    × (f : CacheFor old place x q c o) × LacksChunks place f.cache c old new
+    × (ClimbsInVain (chain_in old.tree place) x.slab_size old.spaces new.spaces
+    ⊎ ((¬ HasPlaceUp old.spaces (chain_in old.tree place) x.slab_size)
+    × ClimbsInVain (chain_in old.tree place) q.size old.spaces new.spaces))
 
 -- out of memory: nothing changed, or what was taken on the way went back
 abbrev pub FallsBack : ℕ → TreeArena → Request → Picture → Picture → Type 0
@@ -107,4 +126,5 @@ FallsBack place x q old new =
     ⊎ (IsPlain q × (¬ IsCachedIn x q)
     × ClimbsInVain (chain_in old.tree place) q.size old.spaces new.spaces
     × (new.cpus ≡ old.cpus))
-    ⊎ (IsCachedIn x q × OtherCpusStay old new)
+    ⊎ (IsCachedIn x q × (((new.spaces ≡ old.spaces) × (new.cpus ≡ old.cpus))
+    ⊎ SlabsInVain place x q old new ⊎ ServesInVain place x q old new))

@@ -4,10 +4,16 @@ ghost use Rattle.lease_machine.specs.CpuLaws.{FreshIsPicture, SelectedIsPicture,
 ghost use Rattle.lease_machine.specs.CacheLaws.{CachedByNumber};
 ghost use Rattle.lease_machine.specs.Laws.{PicturesStay, SetupStays, UnitsHaveOnePlace};
 ghost use Rattle.lease_machine.specs.Laws.{LeasesAreApart, AuditTellsLeases, AuditIsWhole};
+ghost use Rattle.lease_machine.specs.Laws.{AuditIsTold};
 ghost use Rattle.lease_machine.specs.AnswerLaws.{LinesRepeat, AnswersAgree, GrantsFit};
-ghost use Rattle.lease_machine.specs.AnswerLaws.{KeptGrantsFit, GrantsWereReachable};
+ghost use Rattle.lease_machine.specs.AnswerLaws.{KeptGrantsFit, GrantsWereReachable, RepeatsFit};
 ghost use Rattle.lease_machine.specs.RoomLaws.{NoFitMeansTaken, NoFitMeansTakenUp};
 ghost use Rattle.lease_machine.specs.RoomLaws.{FreedIsWhole, FirstLeaseIsServed, FewerFitToo};
+ghost use Rattle.lease_machine.specs.RoomLaws.{NeverBoth};
+ghost use Rattle.lease_machine.specs.StepLaws.{FaultsAreAnswered, KnownAreAnswered};
+ghost use Rattle.lease_machine.specs.StepLaws.{OldHellosAreAnswered, AuditsAreAnswered};
+ghost use Rattle.lease_machine.specs.StepLaws.{ClientsAreTold, CpusAreSelected, TicksAreAnswered};
+ghost use Rattle.lease_machine.specs.StepLaws.{VainResizesAreAnswered};
 
 /// What a desk begins with is a picture, and it stays one when a CPU is selected.
 pub fn picture_laws()
@@ -26,6 +32,7 @@ pub fn place_laws()
 
 /// An audit tells the book's leases, and all units of the spans.
 pub fn audit_laws()
+    ensures told { AuditIsTold }
     ensures leases { AuditTellsLeases }
     ensures whole { AuditIsWhole }
 {}
@@ -36,11 +43,12 @@ pub fn repeat_laws()
     ensures agree { AnswersAgree }
 {}
 
-/// Each grant fits its own line, and its units were in reach; each that is kept fits what it was
-/// made for.
+/// Each grant fits its own line, however often it is asked again, and its units were in reach; each
+/// that is kept fits what it was made for.
 pub fn grant_laws()
     ensures fits { GrantsFit }
     ensures kept { KeptGrantsFit }
+    ensures repeats { RepeatsFit }
     ensures reachable { GrantsWereReachable }
 {}
 
@@ -52,9 +60,22 @@ pub fn no_fit_laws()
     ensures freed { FreedIsWhole }
     ensures first { FirstLeaseIsServed }
     ensures fewer { FewerFitToo }
+    ensures never_both { NeverBoth }
 {}
 
 /// Which quantum cache serves a request.
 pub fn cache_laws()
     ensures { CachedByNumber }
+{}
+
+/// From each picture these lines can be answered: the machine isn't empty.
+pub fn step_laws()
+    ensures faults { FaultsAreAnswered }
+    ensures known { KnownAreAnswered }
+    ensures old_hellos { OldHellosAreAnswered }
+    ensures audits { AuditsAreAnswered }
+    ensures clients { ClientsAreTold }
+    ensures cpus { CpusAreSelected }
+    ensures ticks { TicksAreAnswered }
+    ensures vain_resizes { VainResizesAreAnswered }
 {}

@@ -3,13 +3,16 @@
 //!
 //! It has no code. Begin with `specs/Machine.antt`, which says by cases on a line and its answer
 //! what that means for the book and for what is seen of the arenas (`specs/Picture.antt`);
-//! `specs/Serving.antt` says what a request for a lease can be served with, and
-//! `specs/Operators.antt` what operators are answered. The laws say what follows for each picture
-//! and for each run of lines (`specs/Laws.antt`, `specs/AnswerLaws.antt`, `specs/RoomLaws.antt`).
+//! `specs/Serving.antt` says what a request for a lease can be served with, `specs/Moves.antt` and
+//! `specs/Chunks.antt` how segments come and go back, and `specs/Operators.antt` what operators are
+//! answered. The laws say what follows for each picture and for each run of lines
+//! (`specs/Laws.antt`, `specs/AnswerLaws.antt`, `specs/RoomLaws.antt`), and of which lines each
+//! picture has an answer (`specs/StepLaws.antt`).
 #![tactic(auto)]
 
 mod laws;
 
 pub use laws::{
     audit_laws, cache_laws, grant_laws, no_fit_laws, picture_laws, place_laws, repeat_laws,
+    step_laws,
 };

@@ -1,5 +1,6 @@
 use Rattle.lease_machine.proofs.Fitting.{grants_fit, kept_grants_fit}
 use Rattle.lease_machine.proofs.Reaching.{grants_were_reachable}
+use Rattle.lease_machine.proofs.Agreeing.{repeats_fit}
 use Rattle.lease_machine.proofs.laws.grant_laws.Goals as goal
 
 pub returns-clause-fits : goal.returns-clause-fits
@@ -10,3 +11,6 @@ returns-clause-kept c = kept_grants_fit
 
 pub returns-clause-reachable : goal.returns-clause-reachable
 returns-clause-reachable c = grants_were_reachable
+
+pub returns-clause-repeats : goal.returns-clause-repeats
+returns-clause-repeats c = repeats_fit

@@ -1,4 +1,4 @@
-use Rattle.lease_machine.proofs.NoRoom.{no_fit_means_taken, no_fit_means_taken_up, freed_is_whole, first_lease_is_served}
+use Rattle.lease_machine.proofs.NoRoom.{no_fit_means_taken, no_fit_means_taken_up, freed_is_whole, first_lease_is_served, never_both}
 use Rattle.lease_machine.proofs.Fewer.{fewer_fit_too}
 use Rattle.lease_machine.proofs.laws.no_fit_laws.Goals as goal
 
@@ -16,3 +16,6 @@ returns-clause-taken_up c = no_fit_means_taken_up
 
 pub returns-clause-fewer : goal.returns-clause-fewer
 returns-clause-fewer c = fewer_fit_too
+
+pub returns-clause-never_both : goal.returns-clause-never_both
+returns-clause-never_both c = never_both

@@ -1,0 +1,100 @@
+-- How chunks come from an arena's quantum caches, and go back.
+use Rattle.std.specs.Prelude.{◌≡◌, ◌≢◌, ◌⊎◌, ℕ, ◌+◌, List, [], Option, Some, None, Ok}
+use Rattle.std.specs.List.{find}
+use Rattle.deed_core.specs.Tag.{Tag}
+use Rattle.deed_core.specs.declared.segments.Route.{Route}
+use Rattle.deed_core.specs.declared.segments.Route.TheVariants.{Direct, Cached}
+use Rattle.arena_tree.specs.declared.levels.Level.{Level}
+use Rattle.magazine_layer.specs.Magazines.{CpuCacheState, BothEmpty, BothFull, Pops, Pushes}
+use Rattle.magazine_layer.specs.Magazines.{after_change}
+use Rattle.magazine_layer.specs.Depots.{DepotState, SwapsForFull}
+use Rattle.magazine_layer.specs.Rounds.{MakesRoom, NeedsMemory, cpu_depot}
+use Rattle.slab_layer.specs.Cache.{idle_chunks}
+use Rattle.slab_layer.specs.Calls.{TakeOf, PutOf, AddOf}
+use Rattle.stock.specs.Spaces.{SpaceState, QuantumCacheState, IsCacheAt}
+use Rattle.stock.specs.OwnCaches.{OwnCacheState, IsAtPlaceOf}
+use Rattle.stock.specs.Steps.{OnSlab, OnDepot}
+use Rattle.local_parts.specs.Cpus.{OnOwn}
+use Rattle.lease_machine.specs.Picture.{Cpu, Picture, is_cpu}
+use Rattle.lease_machine.specs.Moves.{Climbs, Returns, OtherCpusStay, SameNames}
+
+abbrev pub own_or_none : Option Cpu → List (List OwnCacheState)
+own_or_none None = []
+own_or_none (Some c) = c.caches
+
+-- the caches of the selected CPU
+abbrev pub selected_caches : Picture → List (List OwnCacheState)
+selected_caches d = own_or_none (find (is_cpu d.selected) d.cpus)
+
+-- of all caches of CPUs at most one changed, and that so: the selected CPU's at the place j of
+-- those of the arena at the place k
+pub record OnSelected (k j : ℕ) (P : CpuCacheState → CpuCacheState → Type 0) (old new : Picture)
+    : Type 0 where
+  pub others : OtherCpusStay old new
+  pub own : OnOwn k j (λ o p. IsAtPlaceOf o p × P o.cpu p.cpu) (selected_caches old)
+      (selected_caches new)
+
+-- the chunk is the CPU's last round or, where it has none, the last of the depot's newest full
+-- magazine
+abbrev pub TakesOwn : Tag → CpuCacheState → DepotState → CpuCacheState → DepotState → Type 0
+TakesOwn t c d c' d' = (Pops t c c' × (d' ≡ d))
+    ⊎ (BothEmpty c × ((full : CpuCacheState) × SwapsForFull c d full d' × Pops t full c'))
+
+-- neither has one: the depot no full magazine, or one of another size, to which the CPU then
+-- changes over, if there is memory for it
+abbrev pub LacksRounds : DepotState → CpuCacheState → CpuCacheState → Type 0
+LacksRounds d c c' = BothEmpty c × (((c.size ≡ d.size) × (d.full ≡ []) × (c' ≡ c))
+    ⊎ ((c.size ≢ d.size) × ((c' ≡ c) ⊎ (c' ≡ after_change d.size c))))
+
+-- the chunk was a round of the cache at the place j of the arena at the place k, which is c;
+-- nothing else changed
+abbrev pub WasRound : ℕ → ℕ → QuantumCacheState → Tag → Picture → Picture → Type 0
+WasRound k j c t old new = (d : DepotState)
+    × OnSelected k j (λ a b. TakesOwn t a c.depot b d) old new
+    × OnDepot k j (λ a b. b ≡ d) old.spaces new.spaces
+
+-- there is no round, and it was an idle one of its slabs
+abbrev pub WasIdle : ℕ → ℕ → QuantumCacheState → Tag → Picture → Picture → Type 0
+WasIdle k j c t old new = OnSelected k j (LacksRounds c.depot) old new
+    × OnSlab k j (λ a b. TakeOf a (Some t) b) old.spaces new.spaces
+
+-- there is no round, and no idle chunk
+abbrev pub LacksChunks : ℕ → ℕ → QuantumCacheState → Picture → Picture → Type 0
+LacksChunks k j c old new =
+    OnSelected k j (LacksRounds c.depot) old new × (idle_chunks c.slab ≡ [])
+
+-- it is the first of a new slab of so many units, whose span was climbed for
+abbrev pub IsOfNewSlab : List Level → ℕ → ℕ → ℕ → Tag → List SpaceState → List SpaceState → Type 0
+IsOfNewSlab chain units k j t old new = (span : Tag) × (mid : List SpaceState)
+    × Climbs chain units span old mid × OnSlab k j (λ a b. AddOf a span (Ok t) b) mid new
+
+-- the chunk is a round again: of the CPU's, which has room or makes it
+abbrev pub KeepsOwn : Tag → CpuCacheState → DepotState → CpuCacheState → DepotState → Type 0
+KeepsOwn t c d c' d' = (Pushes t c c' × (d' ≡ d))
+    ⊎ (BothFull c × ((made : CpuCacheState) × (exchanges : ℕ)
+    × MakesRoom (cpu_depot c d) (cpu_depot made d') exchanges × Pushes t made c'))
+
+-- the CPU has no room, and makes none without memory
+abbrev pub HasNoRoom : DepotState → CpuCacheState → CpuCacheState → Type 0
+HasNoRoom d c c' = BothFull c × NeedsMemory (cpu_depot c d) × (c' ≡ c)
+
+-- where a chunk goes back to: to the rounds, or else home into its slab
+abbrev pub BecomesRound : ℕ → ℕ → QuantumCacheState → Tag → Picture → Picture → Type 0
+BecomesRound k j c t old new = (d : DepotState)
+    × OnSelected k j (λ a b. KeepsOwn t a c.depot b d) old new
+    × OnDepot k j (λ a b. b ≡ d) old.spaces new.spaces
+
+abbrev pub ComesHome : ℕ → ℕ → QuantumCacheState → Tag → Picture → Picture → Type 0
+ComesHome k j c t old new = OnSelected k j (HasNoRoom c.depot) old new
+    × OnSlab k j (λ a b. PutOf a t (Ok tt) b) old.spaces new.spaces
+
+-- the segment went back, by its route: what was carved to its arena, a chunk to the cache that it
+-- is of; and nothing else changed
+abbrev pub GoesBackBy : Route → Tag → Picture → Picture → Type 0
+GoesBackBy Direct t old new = Returns new.spaces t old.spaces × (new.cpus ≡ old.cpus)
+GoesBackBy (Cached number) t old new = (j : ℕ) × (c : QuantumCacheState) × (number ≡ j + 1)
+    × IsCacheAt old.spaces t.arena j c
+    × (BecomesRound t.arena j c t old new ⊎ ComesHome t.arena j c t old new)
+
+abbrev pub GoesBack : Tag → Picture → Picture → Type 0
+GoesBack t old new = SameNames old new × GoesBackBy t.route t old new
