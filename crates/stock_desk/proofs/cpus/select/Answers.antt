@@ -1,4 +1,4 @@
-use Rattle.std.proofs.Common.{◌≡◌, refl, sym, ap, ◌∙◌, List, [], ◌∷◌, ◌++◌, length, position, slice_get, Some, None, arith}
+use Rattle.std.proofs.Common.{◌≡◌, refl, sym, ap, ◌∙◌, List, [], ◌∷◌, ◌++◌, length, position, slice_get, None, arith}
 use Rattle.stock.specs.OwnCaches.{OwnCacheState}
 use Rattle.lease_machine.specs.Picture.{Cpu, is_cpu}
 use Rattle.stock_desk.proofs.NumberedCpus.{found_cpu, with_old, with_new, last_cpu}
