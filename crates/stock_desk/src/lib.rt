@@ -2,11 +2,12 @@
 //! together answer the lines of the lease protocol and of its operator. Of it stand the calls over
 //! one thread's parts (calls), an operator's choice of a CPU (cpus), his intervals and magazine
 //! sizes (depots), what he is told of the clients (telling), and replies that need no arena
-//! (answers).
+//! (answers, settling).
 #![tactic(auto)]
 
 mod answers;
 mod calls;
 mod cpus;
 mod depots;
+mod settling;
 mod telling;
