@@ -5,7 +5,7 @@ use Rattle.deed_core.specs.Tag.{Tag}
 use Rattle.arena_tree.specs.declared.levels.Level.{Level}
 use Rattle.arena_tree.specs.declared.part_faults.ClimbFault.{ClimbFault}
 use Rattle.arena_tree.specs.declared.part_faults.ClimbFault.TheVariants.{BadRequest, NoFit, NoMemory, Stuck, Stopped}
-use Rattle.arena_tree.specs.Tags.{tag_climb_fault, tag_option}
+use Rattle.arena_tree.specs.Tags.{tag_climb_fault}
 use Rattle.std.specs.Prelude.{None}
 use Rattle.arena_tree.specs.declared.trees.TreeArena.{TreeArena}
 use Rattle.arena_tree.specs.Chains.{Node, first_id}

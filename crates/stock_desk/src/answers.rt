@@ -3,10 +3,12 @@ ghost use Rattle.std.specs.Prelude.{◌≡◌};
 ghost use Rattle.lease_machine.specs.Machine as machine;
 ghost use Rattle.lease_machine.specs.Replies.{again_of};
 ghost use Rattle.stock_desk.specs.Hellos.{hello_refused};
+ghost use Rattle.stock_desk.specs.Telling.{IsGivenIn, CanName, reply_of_kept, reply_to_answer};
 
-use deed_core::Request;
-use lease_book::HelloFault;
-use lease_proto::{Again, HelloLine, LeaseLine, Old, Reply};
+use arena_tree::Tree;
+use deed_core::{PlainDeed, Request};
+use lease_book::{Answer, HelloFault, KeptReply};
+use lease_proto::{Again, Granted, HelloLine, LeaseLine, Old, OutOfTurn, Refused, Reply};
 use lease_terms::{Quantity, RequestId};
 
 /// What a lease asks of its arena.
@@ -48,5 +50,43 @@ pub(crate) fn refused(hello: &HelloLine, fault: &HelloFault) -> Reply
             incarnation: hello.incarnation,
             number: Quantity::ZERO,
         }),
+    }
+}
+
+/// The reply that was settled for the request.
+pub(crate) fn settled(tree: &Tree, id: RequestId, reply: KeptReply) -> Reply
+    requires { IsGivenIn tree.now reply }
+    ensures { result ≡ reply_of_kept tree.now id reply }
+{
+    match reply {
+        KeptReply::Granted { arena, base, len } => {
+            let found = tree.arena(arena);
+            Reply::Granted(Granted {
+                id,
+                arena: found.name,
+                base,
+                len,
+            })
+        }
+        KeptReply::Released => Reply::Released(id),
+        KeptReply::Refused(refusal) => Reply::Refused(Refused { id, refusal }),
+    }
+}
+
+/// The reply that the book's answer is.
+pub(crate) fn answered(tree: &Tree, id: RequestId, answer: Answer<PlainDeed>) -> Reply
+    requires { CanName tree.now answer }
+    ensures { result ≡ reply_to_answer tree.now id answer }
+{
+    match answer {
+        Answer::Kept(receipt) => settled(tree, id, receipt.reply()),
+        Answer::Refused(receipt) => settled(tree, id, receipt.reply()),
+        Answer::Old(current) => Reply::Old(Old {
+            client: id.client,
+            current,
+        }),
+        Answer::Stale(last) => Reply::Stale(OutOfTurn { id, last }),
+        Answer::Gap(last) => Reply::Gap(OutOfTurn { id, last }),
+        Answer::Again => again(id),
     }
 }

@@ -1,18 +1,8 @@
-use Rattle.std.proofs.Common.{length, ◌<◌, sym, subst, ap, ◌≡◌, ◌∙◌, Ok, Err, ℕ, suc, Some, None, arith}
-use Rattle.arena_tree.specs.declared.levels.Level.{Level}
-use Rattle.deed_core.specs.Tag.{Tag}
-use Rattle.arena_tree.specs.Chains.{IsChain}
-use Rattle.quantum_cache.specs.Caches.{chain_in}
-use Rattle.quantum_cache.specs.Allocs.{alloc_plan, xalloc_plan}
-use Rattle.quantum_cache.specs.Frees.{free_plan}
-use Rattle.quantum_cache.proofs.LawProofs.{chain_is}
+use Rattle.std.proofs.Common.{length, ◌<◌, ℕ, suc, arith}
 use Rattle.local_parts.specs.Cpus.{cpu_rounds}
-use Rattle.local_calls.proofs.LawProofs.{alloc_never_stuck, free_always_done, drain_always_done, drain_empties_cpu, reap_always_done}
-use Rattle.local_calls.specs.Laws.{AllocsWell}
-use Rattle.local_calls.specs.Runs.{RunsTo}
-use Rattle.local_parts.specs.States.{LocalState}
-use Rattle.stock_desk.specs.Parts.{parts_of, climbed}
-use Rattle.stock_desk.proofs.Runs.{ran_leaves, local_nodes, ran_here, chain_first, within_nodes, same_fault}
+use Rattle.local_calls.proofs.LawProofs.{drain_always_done, drain_empties_cpu}
+use Rattle.stock_desk.specs.Parts.{parts_of}
+use Rattle.stock_desk.proofs.Runs.{ran_leaves, local_nodes, ran_here}
 use Rattle.stock_desk.proofs.calls.drain_over.Goals as goal
 
 pub unreachable-requires : goal.unreachable-requires
