@@ -50,12 +50,15 @@ clients_are_told d line is read =
 
 pub cpus_are_selected : CpusAreSelected
 cpus_are_selected d line n is in_range read =
-    let new : Picture = record d { cpus = with_cpu n d; selected = n } in
-    (ok_text, new, record {
-      answer = subst (λ (y : Result ServedLine LineFault). AnswersLine d y ok_text new) (sym read) (inl (refl, refl));
-      setup = record { tree = refl; owned = refl };
-      picture = selected_is_picture d n is in_range;
-    })
+    let new : Picture = record d { cpus = with_cpu n d; selected = n } in (
+      ok_text,
+      new,
+      record {
+        answer = subst (λ (y : Result ServedLine LineFault). AnswersLine d y ok_text new) (sym read) (inl (refl, refl));
+        setup = record { tree = refl; owned = refl };
+        picture = selected_is_picture d n is in_range;
+      },
+    )
 
 pub vain_resizes_are_answered : VainResizesAreAnswered
 vain_resizes_are_answered d line r is read vain = elim vain [

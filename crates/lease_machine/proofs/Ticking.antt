@@ -122,8 +122,12 @@ module _ (d : Picture) (is : IsPicture d) where
   }
 
 pub ticks_are_answered : TicksAreAnswered
-ticks_are_answered d line is read = (ok_text, after d is, record {
-  answer = subst (λ (y : Result ServedLine LineFault). AnswersLine d y ok_text (after d is)) (sym read) (inl (refl, refl));
-  setup = record { tree = refl; owned = maps_same ticked owned_by (λ s. refl) d.spaces };
-  picture = picture_stays d is;
-})
+ticks_are_answered d line is read = (
+  ok_text,
+  after d is,
+  record {
+    answer = subst (λ (y : Result ServedLine LineFault). AnswersLine d y ok_text (after d is)) (sym read) (inl (refl, refl));
+    setup = record { tree = refl; owned = maps_same ticked owned_by (λ s. refl) d.spaces };
+    picture = picture_stays d is;
+  },
+)

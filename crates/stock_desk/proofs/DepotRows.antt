@@ -109,12 +109,15 @@ module _ (m k i : ℕ) (rose : Bool) (old mid new : List SpaceState) (r : RowRes
         row = row_more (resized m) k i old mid r.row (λ a b. ResizeOf a m (Err x) b) new d (d.does.1 ∙ sym (resized_stays m d.cache.depot d.does.0));
         told = elim r.told [
           | inl one ↦ inl one
-          | inr none ↦ inr (none.0, λ j c below at. elim (cases_eq j i) [
+          | inr none ↦ inr (
+            none.0,
+            λ j c below at. elim (cases_eq j i) [
               | inl e ↦
                   let here : slice_get r.row.space.caches i ≡ Some c = ap (slice_get r.row.space.caches) (sym e) ∙ at in
                   subst (λ (c : QuantumCacheState). m ≤ c.depot.size) (slice_get_one r.row.space.caches i d.cache c among here) d.does.0
               | inr ne ↦ none.1 j c (omega (arith, below, ne)) at
-            ])
+            ],
+          )
         ];
       }
 
@@ -132,13 +135,15 @@ module _ (m k i : ℕ) (old new : List SpaceState) where
     | inr none ↦
         let s = r.row.space in
         let stays : (j : ℕ) (c : QuantumCacheState) → slice_get s.caches j ≡ Some c → m ≤ c.depot.size = λ j c at. (let within = slice_get_within s.caches j c at in none.1 j c (omega (arith, within, all)) at) in
-        let same : map (change_depot (resized m)) s.caches ≡ s.caches = changed_none (change_depot (resized m)) s.caches (λ j c at. ap (λ (x : DepotState). with_depot x c) (resized_stays m c.depot (stays j c at))) in
-        (s, r.row.at,
-        (λ smaller. (let (j, c, within, is, less) = smaller in
-            let most = stays j c (slice_get-get_or s.caches j c within ∙ ap Some is) in
-            absurd (omega (arith, most, less)))),
-        refl,
-        row_whole (resized m) k i old new r.row all ∙ ap (λ (cs : List QuantumCacheState). set old k (with_caches cs s)) same ∙ set_same old k s r.row.at)
+        let same : map (change_depot (resized m)) s.caches ≡ s.caches = changed_none (change_depot (resized m)) s.caches (λ j c at. ap (λ (x : DepotState). with_depot x c) (resized_stays m c.depot (stays j c at))) in (
+          s,
+          r.row.at,
+          (λ smaller. (let (j, c, within, is, less) = smaller in
+              let most = stays j c (slice_get-get_or s.caches j c within ∙ ap Some is) in
+              absurd (omega (arith, most, less)))),
+          refl,
+          row_whole (resized m) k i old new r.row all ∙ ap (λ (cs : List QuantumCacheState). set old k (with_caches cs s)) same ∙ set_same old k s r.row.at,
+        )
   ]
 
 -- the line of the operator

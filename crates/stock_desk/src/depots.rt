@@ -53,11 +53,7 @@ pub(crate) fn resize(
 }
 
 /// Has the depots of an arena keep magazines of so many rounds, if one has smaller ones.
-fn resize_arena(
-    stock: &mut Stock<PlainDeed>,
-    arena: usize,
-    rounds: usize,
-) -> Result<(), ErrorWord>
+fn resize_arena(stock: &mut Stock<PlainDeed>, arena: usize, rounds: usize) -> Result<(), ErrorWord>
     requires within { arena < length stock.old }
     requires size { IsSize rounds }
     ensures { ResizesAt arena rounds stock.old result stock.new }

@@ -15,11 +15,11 @@ resize-requires-clause-has c =
 
 pub loop-cache-preserved : goal.loop-cache-preserved
 loop-cache-preserved c = elim c.match-resize.branch [
-    | in-Ok w ↦ subst (λ b. RowResized c.args.rounds c.args.arena (c.loop-cache.cache + 1) b c.args.stock.now c.resize.new.self) (sym w.rose-is)
-        (resize_rises c.args.rounds c.args.arena c.loop-cache.cache c.loop-cache.rose c.args.stock.now c.loop-cache.stock c.resize.new.self c.loop-cache.invariant _ w.in-Ok.ensures.resized)
-    | in-Err w ↦ subst (λ b. RowResized c.args.rounds c.args.arena (c.loop-cache.cache + 1) b c.args.stock.now c.resize.new.self) (sym w.rose-is)
-        (resize_stays c.args.rounds c.args.arena c.loop-cache.cache c.loop-cache.rose c.args.stock.now c.loop-cache.stock c.resize.new.self c.loop-cache.invariant _ w.in-Err.ensures.resized)
-  ]
+  | in-Ok w ↦ subst (λ b. RowResized c.args.rounds c.args.arena (c.loop-cache.cache + 1) b c.args.stock.now c.resize.new.self) (sym w.rose-is)
+      (resize_rises c.args.rounds c.args.arena c.loop-cache.cache c.loop-cache.rose c.args.stock.now c.loop-cache.stock c.resize.new.self c.loop-cache.invariant _ w.in-Ok.ensures.resized)
+  | in-Err w ↦ subst (λ b. RowResized c.args.rounds c.args.arena (c.loop-cache.cache + 1) b c.args.stock.now c.resize.new.self) (sym w.rose-is)
+      (resize_stays c.args.rounds c.args.arena c.loop-cache.cache c.loop-cache.rose c.args.stock.now c.loop-cache.stock c.resize.new.self c.loop-cache.invariant _ w.in-Err.ensures.resized)
+]
 
 pub returns-then-rose : goal.returns-then-rose
 returns-then-rose c =

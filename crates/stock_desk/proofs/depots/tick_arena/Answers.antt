@@ -22,5 +22,7 @@ pub returns : goal.returns
 returns c =
     let count = c.caches-cache-end.ensures.value c.loop-cache.invariant.space c.loop-cache.invariant.at in
     let all : c.loop-cache.cache ≡ length c.loop-cache.invariant.space.caches = omega (arith, count) in
-    record { ticked = λ s at. row_whole after_tick c.args.arena c.loop-cache.cache c.args.stock.now c.loop-cache.stock c.loop-cache.invariant all
-        ∙ ap (λ (x : SpaceState). set c.args.stock.now c.args.arena (on_depots after_tick x)) (slice_get_one c.args.stock.now c.args.arena c.loop-cache.invariant.space s c.loop-cache.invariant.at at) }
+    record {
+      ticked = λ s at. row_whole after_tick c.args.arena c.loop-cache.cache c.args.stock.now c.loop-cache.stock c.loop-cache.invariant all
+          ∙ ap (λ (x : SpaceState). set c.args.stock.now c.args.arena (on_depots after_tick x)) (slice_get_one c.args.stock.now c.args.arena c.loop-cache.invariant.space s c.loop-cache.invariant.at at);
+    }
