@@ -9,11 +9,11 @@
 //! `client` what a client's core says to replies, `desk` what a desk answers, `serving` streams of
 //! lines, failing ones too, and `connections` those of a worker, one after another. `tree` has
 //! setups of arenas, what is refused of them, and the chains that they make; `stocks` has a script
-//! of events on a stock, `stock_sums` the audits of two arenas in a chain, `climbs` calls of one CPU
-//! over one thread's parts, with the locked steps of each. `seat_deeds` has an arena over the deeds
-//! of running threads. `promises` cites what the layers above reckon with: one function for each
-//! call or law of the arena, the slab cache and the magazines, whose contract only its callee's
-//! clauses carry.
+//! of events on a stock, `stock_sums` the audits of two arenas in a chain, `climbs` calls of one
+//! CPU over one thread's parts, with the locked steps of each. `seat_deeds` has an arena over the
+//! deeds of running threads. `promises` cites what the layers above reckon with: one function for
+//! each call or law of the arena, the slab cache and the magazines, whose contract only its
+//! callee's clauses carry.
 //!
 //! Each test is proved safe before it runs, and what that takes depends on its form: under a second
 //! where it is a table of rows and one call, ten to twenty where it is a chain of ten assertions

@@ -69,7 +69,8 @@ alone_in first words =
 unfoldable pub operator_in : List ℕ → List (List ℕ) → Result OperatorLine LineFault
 operator_in first words =
     if bytes_eq first (codes "cpu") then (cpu_line_in words >>= λ n. Ok (operator.Cpu n))
-    else if bytes_eq first (codes "offline") then (cpu_line_in words >>= λ n. Ok (operator.Offline n))
+    else if bytes_eq first (codes "offline")
+    then (cpu_line_in words >>= λ n. Ok (operator.Offline n))
     else if bytes_eq first (codes "resize") then resize_in words
     else alone_in first words
 

@@ -10,8 +10,8 @@
 //!   spare:  [ ] [ ]                                         a row for each that a split may need
 //! ```
 //!
-//! An entry is found by two binary searches. A row that comes to 64 is halved; neighbours with 32 or
-//! fewer together are put together. So with n entries an insert or a remove moves at most 64
+//! An entry is found by two binary searches. A row that comes to 64 is halved; neighbours with 32
+//! or fewer together are put together. So with n entries an insert or a remove moves at most 64
 //! entries and n / 16 rows' headers, and no call is recursive. Once `Rows::reserve` has made room,
 //! `insert` and `remove` take no memory and can't fail: a spare row is there for each split.
 //!

@@ -125,7 +125,8 @@ impl<T: RowEntry> Rows<T> {
     }
 
     /// The first entry, from the first at or above the key on, that weighs as much as `least` or
-    /// more. Rows of lighter entries are passed by, so it looks at one number for 22 to 63 of these.
+    /// more. Rows of lighter entries are passed by, so it looks at one number for 22 to 63 of
+    /// these.
     pub fn least_weighing(&self, key: u128, least: u64) -> Option<T>
         ensures { result ≡ heavy_from T.rank T.weight key least self.now.items }
     {
