@@ -18,3 +18,4 @@ mod Ending
 mod Chains
 mod Homeward
 pub mod LawProofs
+pub mod Owning

@@ -19,6 +19,7 @@ mod arena_steps;
 mod depot_steps;
 mod endings;
 mod laws;
+mod making;
 mod own_caches;
 mod reaping;
 mod reports;
