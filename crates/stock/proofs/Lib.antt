@@ -17,5 +17,6 @@ mod Planning
 mod Ending
 mod Chains
 mod Homeward
+mod Lasting
+mod Owning
 pub mod LawProofs
-pub mod Owning
