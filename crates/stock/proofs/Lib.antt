@@ -19,4 +19,5 @@ mod Chains
 mod Homeward
 mod Lasting
 mod Owning
+mod Numbering
 pub mod LawProofs

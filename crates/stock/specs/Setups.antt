@@ -1,5 +1,5 @@
 -- What a stock is set up as by a setup: the arenas of its tree, and the spans that its roots own.
-use Rattle.std.specs.Prelude.{◌≡◌, ℕ, ◌/◌, ◌==◌, if◌then◌else◌, List, [], ◌∷◌, All, map, replicate}
+use Rattle.std.specs.Prelude.{◌≡◌, ℕ, ◌+◌, ◌/◌, ◌==◌, if◌then◌else◌, List, [], ◌∷◌, All, map, replicate}
 use Rattle.std.specs.Prelude.{slice_get, Some}
 use Rattle.std.specs.FinMap as finmap
 use Rattle.deed_core.specs.Holding.{Holding}
@@ -39,6 +39,12 @@ pub record IsNewSpace (rounds : ℕ) (s : SpaceState) : Type 0 where
 -- there is one deed for each owned span, of its range and in its order
 abbrev pub AreDeedsOf : List OwnedSpan → List Holding → Type 0
 AreDeedsOf spans deeds = map (λ h. h.range) deeds ≡ map (λ o. o.range) spans
+
+-- a deed for each span, each of a root of its own, the numbers from this one on
+abbrev pub numbered_deeds : ℕ → List OwnedSpan → List Holding
+numbered_deeds root [] = []
+numbered_deeds root (o ∷ spans) =
+    record { root = root; range = o.range } ∷ numbered_deeds (root + 1) spans
 
 -- those of the deeds whose spans are this arena's
 abbrev pub deeds_owned : ℕ → List OwnedSpan → List Holding → List Holding

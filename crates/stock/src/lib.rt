@@ -21,6 +21,7 @@ mod endings;
 mod laws;
 mod making;
 mod own_caches;
+mod plain_stocks;
 mod reaping;
 mod reports;
 mod setups;
@@ -32,6 +33,7 @@ pub use laws::{
     apart_laws, chain_laws, end_laws, frame_laws, never_refused_laws, one_place_laws, weight_laws,
 };
 pub use own_caches::OwnCache;
+pub use plain_stocks::plain_stock;
 pub use setups::StockSetup;
 pub use spaces::{QuantumCache, Space};
 pub use stocks::Stock;
