@@ -2,6 +2,7 @@
 -- how a call's list of steps over `Local` is one over states.
 pub use Rattle.local_calls.proofs.Drained.{drain_empties_cpu}
 pub use Rattle.local_calls.proofs.Reaped.{reap_leaves_nothing}
+pub use Rattle.local_calls.proofs.ReapLooks.{reap_takes_few_looks, reap_without_limit}
 pub use Rattle.local_calls.proofs.NoFits.{no_fit_is_right, xalloc_no_fit_is_right}
 use Rattle.std.proofs.Common.{◌≡◌, ℕ, List, ap, subst, ◌∙◌}
 use Rattle.arena_tree.specs.declared.trees.TreeArena.{TreeArena}
