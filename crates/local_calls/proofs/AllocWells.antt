@@ -21,7 +21,7 @@ use Rattle.arena_tree.specs.Sound.{Sound}
 use Rattle.arena_tree.specs.Trees.{nodes_of, IsTree}
 use Rattle.quantum_cache.specs.Allocs.{Stage, on_take, take_round, on_change_over, change_over, on_swap_full, take_from_depot, take_chunk, on_slab_add, make_slab, on_slab_climb, take_from_slab, alloc_cached, alloc_by, alloc_plan, xalloc_plan}
 use Rattle.quantum_cache.specs.Sizes.{cache_for}
-use Rattle.local_calls.specs.Asked.{GoesWell, IsDone, FillsWell, ChangesWell, CarvesWell, EndsWell, IsForSlab}
+use Rattle.local_calls.specs.Asked.{GoesWell, DoesWell, FillsWell, ChangesWell, CarvesWell, EndsWell, IsForSlab}
 use Rattle.local_calls.specs.Laws.{AllocsWell}
 use Rattle.local_calls.proofs.ClimbWells.{ends_then, ClimbsWell, well_climb, well_refused}
 use Rattle.local_calls.proofs.Slabs.{for_slab}
@@ -39,7 +39,7 @@ module _ (arenas : List TreeArena) where
       go None w' = next
       go (Some r) w' = w'
 
-  well_take : (a : Result (Option Tag) Stopped) → IsDone a → StageWell (on_take a)
+  well_take : (a : Result (Option Tag) Stopped) → DoesWell a → StageWell (on_take a)
   well_take (Ok None) well = tt
   well_take (Ok (Some t)) well = tt
   well_take (Err e) well = absurd well

@@ -19,7 +19,7 @@ use Rattle.arena_tree.specs.Events.{Carve, Free, AddCarve}
 use Rattle.arena_tree.specs.Plans.{Plan, Done, Ask, then}
 use Rattle.arena_tree.specs.Sound.{Sound}
 use Rattle.arena_tree.specs.Trees.{nodes_of}
-use Rattle.local_calls.specs.Asked.{GoesWell, IsDone, EndsWell}
+use Rattle.local_calls.specs.Asked.{GoesWell, DoesWell, EndsWell}
 use Rattle.local_calls.proofs.Chains.{chain_source, chain_above}
 
 pub ends_then : {A B : Type 0} (arenas : List TreeArena) (post : A → Type 0) (post' : B → Type 0) (p : Plan A) (next : A → Plan B) → EndsWell arenas post p → ((a : A) → post a → EndsWell arenas post' (next a)) → EndsWell arenas post' (then p next)
@@ -28,12 +28,12 @@ ends_then arenas post post' (Ask e g) next w f = (w.0, λ x s well. ends_then ar
 
 module _ (arenas : List TreeArena) where
   -- a Direct segment of the chain's first arena goes back
-  pub well_return : (chain : List Level) (t : Tag) → IsChain (nodes_of arenas) chain → first_id chain ≡ Some t.arena → t.route ≡ Direct → EndsWell arenas (λ (r : Returned). IsDone r) (return_plan chain t)
+  pub well_return : (chain : List Level) (t : Tag) → IsChain (nodes_of arenas) chain → first_id chain ≡ Some t.arena → t.route ≡ Direct → EndsWell arenas (λ (r : Returned). DoesWell r) (return_plan chain t)
   well_return [] t is first direct = absurd (let e : None ≡ Some t.arena = first in cc)
   well_return (l ∷ up) t is first direct = (direct, freed (λ w at way. well_return up w is.2 at way))
     where
-      freed : ((w : Tag) → first_id up ≡ Some w.arena → w.route ≡ Direct → EndsWell arenas (λ (r : Returned). IsDone r) (return_plan up w)) → (x : Result (Option Tag) (FreeFault Tag)) → Sound (nodes_of arenas) (Free t) x → GoesWell (Free t) x
-          → EndsWell arenas (λ (r : Returned). IsDone r) (on_free (return_plan up) x)
+      freed : ((w : Tag) → first_id up ≡ Some w.arena → w.route ≡ Direct → EndsWell arenas (λ (r : Returned). DoesWell r) (return_plan up w)) → (x : Result (Option Tag) (FreeFault Tag)) → Sound (nodes_of arenas) (Free t) x → GoesWell (Free t) x
+          → EndsWell arenas (λ (r : Returned). DoesWell r) (on_free (return_plan up) x)
       freed again (Ok None) s well = tt
       freed again (Ok (Some w)) s well = again w (chain_above (nodes_of arenas) l up t w is first (s.0).whole.1) (s.0).whole.0
       freed again (Err (freeing.BadFree x)) s well = absurd well
@@ -49,9 +49,9 @@ module _ (arenas : List TreeArena) where
   ClimbsWell chain n (Err (climbing.Stopped o)) = ⊥
 
   pub well_refused : (post : Climbed → Type 0) → post (Err climbing.NoMemory) → (up : List Level) (t : Tag) → IsChain (nodes_of arenas) up → first_id up ≡ Some t.arena → t.route ≡ Direct → EndsWell arenas post (give_back up t)
-  well_refused post ok up t is first direct = ends_then arenas (λ (r : Returned). IsDone r) post (return_plan up t) (λ r. Done (refused_memory r)) (well_return up t is first direct) ends
+  well_refused post ok up t is first direct = ends_then arenas (λ (r : Returned). DoesWell r) post (return_plan up t) (λ r. Done (refused_memory r)) (well_return up t is first direct) ends
     where
-      ends : (r : Returned) → IsDone r → post (refused_memory r)
+      ends : (r : Returned) → DoesWell r → post (refused_memory r)
       ends (Ok u) w = ok
       ends (Err (returning.Stuck x)) w = absurd w
       ends (Err (returning.Stopped x)) w = absurd w

@@ -136,14 +136,18 @@ quotient_most quantum most n some le = elim (cases_lt n (most / quantum)) [
   | inr ok ↦ ok
 ]
 
+pub few_caches : (arenas : List TreeArena) → IsTree arenas → (id : ℕ) (x : TreeArena) → slice_get arenas id ≡ Some x → x.qcache_max / x.quantum ≤ MOST_CACHES
+few_caches arenas tree id x at =
+    let arena : IsArena arenas id x = tree.each id x at in
+    quotient_most x.quantum x.qcache_max MOST_CACHES (power_some x.quantum arena.power) arena.caches.1
+
 pub all_caches : (arenas : List TreeArena) → IsTree arenas → (l : Level) (up : List Level) → IsChain (nodes_of arenas) (l ∷ up) → (x : TreeArena) → slice_get arenas l.id ≡ Some x → caches_in l ≡ x.qcache_max / x.quantum
 all_caches arenas tree l up is x at =
     let here = first_arena arenas l up is in
     let same : here.0 ≡ x = slice_get_one arenas l.id here.0 x here.1 at in
-    let arena : IsArena arenas l.id x = tree.each l.id x at in
     let quantum : l.quantum ≡ x.quantum = ap (λ (n : Node). n.quantum) here.2 ∙ ap (λ (y : TreeArena). y.quantum) same in
     let most : l.qcache_max ≡ x.qcache_max = ap (λ (n : Node). n.qcache_max) here.2 ∙ ap (λ (y : TreeArena). y.qcache_max) same in
-    let few : x.qcache_max / x.quantum ≤ MOST_CACHES = quotient_most x.quantum x.qcache_max MOST_CACHES (power_some x.quantum arena.power) arena.caches.1 in
+    let few : x.qcache_max / x.quantum ≤ MOST_CACHES = few_caches arenas tree l.id x at in
     ap (λ q. min (l.qcache_max / q) 255) quantum ∙ (ap (λ m. min (m / x.quantum) 255) most ∙ omega (arith, few))
 
 module _ (arenas : List TreeArena) (tree : IsTree arenas) (turns : ℕ) where

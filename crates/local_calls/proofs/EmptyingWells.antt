@@ -16,7 +16,7 @@ use Rattle.quantum_cache.specs.declared.reaps.Reaping.{Reaping}
 use Rattle.quantum_cache.specs.Frees.{put_chunk}
 use Rattle.quantum_cache.specs.Reaps.{Reaped, ReapEnd, on_return, on_depot_reap, reap_round, on_slab_reap, reap_slab, on_look, up_to, reap_by, reap_cache, reap_arena_plan, reap_plan}
 use Rattle.quantum_cache.specs.Sizes.{caches_in}
-use Rattle.local_calls.specs.Asked.{IsDone, EndsWell}
+use Rattle.local_calls.specs.Asked.{DoesWell, EndsWell}
 use Rattle.local_calls.specs.Laws.{DrainsWell}
 use Rattle.local_calls.proofs.ClimbWells.{ends_then, well_return}
 use Rattle.local_calls.proofs.FreeWells.{well_put}
@@ -45,13 +45,13 @@ module _ (arenas : List TreeArena) where
   unfolding drain_turn
   well_turn arena cache = (tt, popped)
     where
-      ended : (r : Returned) → IsDone r → TurnsWell (on_put_back r)
+      ended : (r : Returned) → DoesWell r → TurnsWell (on_put_back r)
       ended (Ok u) well = tt
       ended (Err f) well = absurd well
 
-      popped : (x : Result (Option Tag) Stopped) → Sound (nodes_of arenas) (Pop arena cache) x → IsDone x → EndsWell arenas TurnsWell (on_drain_pop x)
+      popped : (x : Result (Option Tag) Stopped) → Sound (nodes_of arenas) (Pop arena cache) x → DoesWell x → EndsWell arenas TurnsWell (on_drain_pop x)
       popped (Ok None) s well = tt
-      popped (Ok (Some t)) s well = ends_then arenas (λ (r : Returned). IsDone r) TurnsWell (put_chunk t) (λ r. Done (on_put_back r)) (well_put arenas t cache s.cached) ended
+      popped (Ok (Some t)) s well = ends_then arenas (λ (r : Returned). DoesWell r) TurnsWell (put_chunk t) (λ r. Done (on_put_back r)) (well_put arenas t cache s.cached) ended
       popped (Err e) s well = absurd well
 
   well_drain_cache : (turns arena cache : ℕ) → EndsWell arenas DrainsWell (drain_cache turns arena cache)
@@ -70,49 +70,49 @@ module _ (arenas : List TreeArena) where
   well_drain turns = ends_arenas arenas DrainsWell (λ u. tt) (λ id (u : Unit {0}). drain_arena turns (chain_in arenas id)) (length arenas) (λ id u less. well_drain_arena turns (chain_in arenas id)) tt
 
   -- a reaping
-  well_returned : (units : ℕ) (r : Returned) → IsDone r → IsDone (on_return units r)
+  well_returned : (units : ℕ) (r : Returned) → DoesWell r → DoesWell (on_return units r)
   well_returned units (Ok u) well = tt
   well_returned units (Err f) well = absurd well
 
-  well_reap_round : (arena cache : ℕ) → EndsWell arenas (λ (r : Reaped). IsDone r) (reap_round arena cache)
+  well_reap_round : (arena cache : ℕ) → EndsWell arenas (λ (r : Reaped). DoesWell r) (reap_round arena cache)
   unfolding reap_round
   well_reap_round arena cache = (tt, taken)
     where
-      taken : (x : Result (Option Tag) Stopped) → Sound (nodes_of arenas) (DepotReap arena cache) x → IsDone x → EndsWell arenas (λ (r : Reaped). IsDone r) (on_depot_reap x)
+      taken : (x : Result (Option Tag) Stopped) → Sound (nodes_of arenas) (DepotReap arena cache) x → DoesWell x → EndsWell arenas (λ (r : Reaped). DoesWell r) (on_depot_reap x)
       taken (Ok None) s well = tt
-      taken (Ok (Some t)) s well = ends_then arenas (λ (r : Returned). IsDone r) (λ (r : Reaped). IsDone r) (put_chunk t) (λ r. Done (on_return 0 r)) (well_put arenas t cache s.cached) (well_returned 0)
+      taken (Ok (Some t)) s well = ends_then arenas (λ (r : Returned). DoesWell r) (λ (r : Reaped). DoesWell r) (put_chunk t) (λ r. Done (on_return 0 r)) (well_put arenas t cache s.cached) (well_returned 0)
       taken (Err e) s well = absurd well
 
-  well_reap_slab : (chain : List Level) (arena cache : ℕ) → IsChain (nodes_of arenas) chain → first_id chain ≡ Some arena → EndsWell arenas (λ (r : Reaped). IsDone r) (reap_slab chain arena cache)
+  well_reap_slab : (chain : List Level) (arena cache : ℕ) → IsChain (nodes_of arenas) chain → first_id chain ≡ Some arena → EndsWell arenas (λ (r : Reaped). DoesWell r) (reap_slab chain arena cache)
   unfolding reap_slab
   well_reap_slab chain arena cache is first = (tt, taken)
     where
-      taken : (x : Result (Option Tag) Stopped) → Sound (nodes_of arenas) (SlabReap arena cache) x → IsDone x → EndsWell arenas (λ (r : Reaped). IsDone r) (on_slab_reap chain x)
+      taken : (x : Result (Option Tag) Stopped) → Sound (nodes_of arenas) (SlabReap arena cache) x → DoesWell x → EndsWell arenas (λ (r : Reaped). DoesWell r) (on_slab_reap chain x)
       taken (Ok None) s well = tt
-      taken (Ok (Some t)) s well = ends_then arenas (λ (r : Returned). IsDone r) (λ (r : Reaped). IsDone r) (return_plan chain t) (λ r. Done (on_return t.holding.range.len r)) (well_return arenas chain t is (first ∙ ap Some (sym s.of_arena)) s.direct) (well_returned t.holding.range.len)
+      taken (Ok (Some t)) s well = ends_then arenas (λ (r : Returned). DoesWell r) (λ (r : Reaped). DoesWell r) (return_plan chain t) (λ r. Done (on_return t.holding.range.len r)) (well_return arenas chain t is (first ∙ ap Some (sym s.of_arena)) s.direct) (well_returned t.holding.range.len)
       taken (Err e) s well = absurd well
 
-  well_up_to : (p : Plan Reaped) → EndsWell arenas (λ (r : Reaped). IsDone r) p → (n units : ℕ) → EndsWell arenas (λ (r : ReapEnd). IsDone r) (up_to p n units)
+  well_up_to : (p : Plan Reaped) → EndsWell arenas (λ (r : Reaped). DoesWell r) p → (n units : ℕ) → EndsWell arenas (λ (r : ReapEnd). DoesWell r) (up_to p n units)
   well_up_to p w zero units = tt
-  well_up_to p w (suc n) units = ends_then arenas (λ (r : Reaped). IsDone r) (λ (r : ReapEnd). IsDone r) p (on_look (up_to p n) n units) w (looked (well_up_to p w n))
+  well_up_to p w (suc n) units = ends_then arenas (λ (r : Reaped). DoesWell r) (λ (r : ReapEnd). DoesWell r) p (on_look (up_to p n) n units) w (looked (well_up_to p w n))
     where
-      looked : ((sum : ℕ) → EndsWell arenas (λ (r : ReapEnd). IsDone r) (up_to p n sum)) → (a : Reaped) → IsDone a → EndsWell arenas (λ (r : ReapEnd). IsDone r) (on_look (up_to p n) n units a)
+      looked : ((sum : ℕ) → EndsWell arenas (λ (r : ReapEnd). DoesWell r) (up_to p n sum)) → (a : Reaped) → DoesWell a → EndsWell arenas (λ (r : ReapEnd). DoesWell r) (on_look (up_to p n) n units a)
       looked again (Ok (Some more)) well = again _
       looked again (Ok None) well = tt
       looked again (Err f) well = absurd well
 
-  well_reap_cache : (chain : List Level) (arena cache : ℕ) → IsChain (nodes_of arenas) chain → first_id chain ≡ Some arena → (r : Reaping) → EndsWell arenas (λ (a : ReapEnd). IsDone a) (reap_cache chain arena cache r)
+  well_reap_cache : (chain : List Level) (arena cache : ℕ) → IsChain (nodes_of arenas) chain → first_id chain ≡ Some arena → (r : Reaping) → EndsWell arenas (λ (a : ReapEnd). DoesWell a) (reap_cache chain arena cache r)
   unfolding reap_cache
   well_reap_cache chain arena cache is first r =
-      ends_then arenas (λ (a : ReapEnd). IsDone a) (λ (a : ReapEnd). IsDone a) (reap_by (reap_round arena cache) r) (if_ok (reap_by (reap_slab chain arena cache))) (well_up_to (reap_round arena cache) (well_reap_round arena cache) r.left r.units) slabs
+      ends_then arenas (λ (a : ReapEnd). DoesWell a) (λ (a : ReapEnd). DoesWell a) (reap_by (reap_round arena cache) r) (if_ok (reap_by (reap_slab chain arena cache))) (well_up_to (reap_round arena cache) (well_reap_round arena cache) r.left r.units) slabs
     where
-      slabs : (a : ReapEnd) → IsDone a → EndsWell arenas (λ (b : ReapEnd). IsDone b) (if_ok (reap_by (reap_slab chain arena cache)) a)
+      slabs : (a : ReapEnd) → DoesWell a → EndsWell arenas (λ (b : ReapEnd). DoesWell b) (if_ok (reap_by (reap_slab chain arena cache)) a)
       slabs (Ok x) well = well_up_to (reap_slab chain arena cache) (well_reap_slab chain arena cache is first) x.left x.units
       slabs (Err f) well = absurd well
 
-  pub well_reap_arena : (chain : List Level) → IsChain (nodes_of arenas) chain → (r : Reaping) → EndsWell arenas (λ (a : ReapEnd). IsDone a) (reap_arena_plan chain r)
+  pub well_reap_arena : (chain : List Level) → IsChain (nodes_of arenas) chain → (r : Reaping) → EndsWell arenas (λ (a : ReapEnd). DoesWell a) (reap_arena_plan chain r)
   well_reap_arena [] is r = tt
-  well_reap_arena (l ∷ up) is r = ends_caches arenas (λ (a : ReapEnd). IsDone a) (λ x. tt) (reap_cache (l ∷ up) l.id) (λ k. well_reap_cache (l ∷ up) l.id k is refl) (caches_in l) (caches_in l) r
+  well_reap_arena (l ∷ up) is r = ends_caches arenas (λ (a : ReapEnd). DoesWell a) (λ x. tt) (reap_cache (l ∷ up) l.id) (λ k. well_reap_cache (l ∷ up) l.id k is refl) (caches_in l) (caches_in l) r
 
-  pub well_reap : ((id : ℕ) → id < length arenas → IsChain (nodes_of arenas) (chain_in arenas id)) → (limit : ℕ) → EndsWell arenas (λ (a : ReapEnd). IsDone a) (reap_plan arenas limit)
-  well_reap are limit = ends_arenas arenas (λ (a : ReapEnd). IsDone a) (λ x. tt) (λ id. reap_arena_plan (chain_in arenas id)) (length arenas) (λ id r less. well_reap_arena (chain_in arenas id) (are id less) r) (record { left = limit; units = 0 })
+  pub well_reap : ((id : ℕ) → id < length arenas → IsChain (nodes_of arenas) (chain_in arenas id)) → (limit : ℕ) → EndsWell arenas (λ (a : ReapEnd). DoesWell a) (reap_plan arenas limit)
+  well_reap are limit = ends_arenas arenas (λ (a : ReapEnd). DoesWell a) (λ x. tt) (λ id. reap_arena_plan (chain_in arenas id)) (length arenas) (λ id r less. well_reap_arena (chain_in arenas id) (are id less) r) (record { left = limit; units = 0 })

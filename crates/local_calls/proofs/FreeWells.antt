@@ -23,7 +23,7 @@ use Rattle.arena_tree.specs.Trees.{nodes_of}
 use Rattle.quantum_cache.specs.declared.placings.Placing.{Placing}
 use Rattle.quantum_cache.specs.declared.placings.Placing.TheVariants.{Placed, Left, Stopped}
 use Rattle.quantum_cache.specs.Frees.{or_next, on_push, push_round, on_change, push_changed, on_swap_fresh, push_fresh, on_swap_empty, push_exchanged, on_slab_put, put_chunk, free_cached, free_by, free_plan}
-use Rattle.local_calls.specs.Asked.{IsDone, PushesWell, ChangesWell, EmptiesWell, FreshensWell, EndsWell}
+use Rattle.local_calls.specs.Asked.{DoesWell, PushesWell, ChangesWell, EmptiesWell, FreshensWell, EndsWell}
 use Rattle.local_calls.proofs.ClimbWells.{ends_then, well_return}
 
 -- what is left of a chunk is a chunk
@@ -33,11 +33,11 @@ PlacesWell (Left t) = (k : ℕ) × (t.route ≡ Cached k)
 PlacesWell (Stopped t) = ⊥
 
 module _ (arenas : List TreeArena) where
-  pub well_put : (t : Tag) (k : ℕ) → t.route ≡ Cached k → EndsWell arenas (λ (r : Returned). IsDone r) (put_chunk t)
+  pub well_put : (t : Tag) (k : ℕ) → t.route ≡ Cached k → EndsWell arenas (λ (r : Returned). DoesWell r) (put_chunk t)
   unfolding put_chunk
   well_put t k cached = ((k, cached), done)
     where
-      done : (x : Result (Unit {0}) (SlabPutFault Tag)) → Sound (nodes_of arenas) (SlabPut t) x → IsDone x → IsDone (on_slab_put x)
+      done : (x : Result (Unit {0}) (SlabPutFault Tag)) → Sound (nodes_of arenas) (SlabPut t) x → DoesWell x → DoesWell (on_slab_put x)
       done (Ok u) s well = tt
       done (Err f) s well = absurd well
 
@@ -81,19 +81,19 @@ module _ (arenas : List TreeArena) where
         done (Err (emptying.OldSize m)) s well = well_changed m
         done (Err emptying.Stopped) s well = absurd well
 
-  well_or_next : (p : Plan (Placing Tag)) (q : Tag → Plan Returned) → EndsWell arenas PlacesWell p → ((t : Tag) (k : ℕ) → t.route ≡ Cached k → EndsWell arenas (λ (r : Returned). IsDone r) (q t)) → EndsWell arenas (λ (r : Returned). IsDone r) (then p (or_next q))
-  well_or_next p q w next = ends_then arenas PlacesWell (λ (r : Returned). IsDone r) p (or_next q) w go
+  well_or_next : (p : Plan (Placing Tag)) (q : Tag → Plan Returned) → EndsWell arenas PlacesWell p → ((t : Tag) (k : ℕ) → t.route ≡ Cached k → EndsWell arenas (λ (r : Returned). DoesWell r) (q t)) → EndsWell arenas (λ (r : Returned). DoesWell r) (then p (or_next q))
+  well_or_next p q w next = ends_then arenas PlacesWell (λ (r : Returned). DoesWell r) p (or_next q) w go
     where
-      go : (a : Placing Tag) → PlacesWell a → EndsWell arenas (λ (r : Returned). IsDone r) (or_next q a)
+      go : (a : Placing Tag) → PlacesWell a → EndsWell arenas (λ (r : Returned). DoesWell r) (or_next q a)
       go Placed w' = tt
       go (Left t) w' = next t w'.0 w'.1
       go (Stopped t) w' = absurd w'
 
-  well_by : (route : Route) (chain : List Level) (t : Tag) → t.route ≡ route → IsChain (nodes_of arenas) chain → first_id chain ≡ Some t.arena → EndsWell arenas (λ (r : Returned). IsDone r) (free_by route chain t)
+  well_by : (route : Route) (chain : List Level) (t : Tag) → t.route ≡ route → IsChain (nodes_of arenas) chain → first_id chain ≡ Some t.arena → EndsWell arenas (λ (r : Returned). DoesWell r) (free_by route chain t)
   unfolding free_cached
   well_by Direct chain t by is first = well_return arenas chain t is first by
   well_by (Cached cache) chain t by is first =
       well_or_next (push_round t.arena cache t) _ (well_push t.arena cache t cache by) (λ x k e. well_or_next (push_exchanged t.arena cache x) _ (well_exchanged t.arena cache x k e) well_put)
 
-  pub well_free : (chain : List Level) (t : Tag) → IsChain (nodes_of arenas) chain → first_id chain ≡ Some t.arena → EndsWell arenas (λ (r : Returned). IsDone r) (free_plan chain t)
+  pub well_free : (chain : List Level) (t : Tag) → IsChain (nodes_of arenas) chain → first_id chain ≡ Some t.arena → EndsWell arenas (λ (r : Returned). DoesWell r) (free_plan chain t)
   well_free chain t is first = well_by t.route chain t refl is first

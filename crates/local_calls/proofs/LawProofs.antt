@@ -2,6 +2,7 @@
 -- how a call's list of steps over `Local` is one over states.
 pub use Rattle.local_calls.proofs.Drained.{drain_empties_cpu}
 pub use Rattle.local_calls.proofs.Reaped.{reap_leaves_nothing}
+pub use Rattle.local_calls.proofs.ReapLooks.{reap_takes_few_looks, reap_without_limit}
 pub use Rattle.local_calls.proofs.NoFits.{no_fit_is_right, xalloc_no_fit_is_right}
 use Rattle.std.proofs.Common.{◌≡◌, ℕ, List, ap, subst, ◌∙◌}
 use Rattle.arena_tree.specs.declared.trees.TreeArena.{TreeArena}
@@ -19,7 +20,7 @@ use Rattle.quantum_cache.specs.Reaps.{ReapEnd, reap_plan}
 use Rattle.quantum_cache.proofs.LawProofs.{alloc_handles, xalloc_handles, free_handles, drain_handles, reap_handles}
 use Rattle.local_parts.specs.States.{LocalState}
 use Rattle.local_parts.specs.Steps.{LocalStep}
-use Rattle.local_calls.specs.Asked.{CarvesWell, IsDone}
+use Rattle.local_calls.specs.Asked.{CarvesWell, DoesWell}
 use Rattle.local_calls.specs.Laws.{AllocsWell, DrainsWell, AllocNeverStuck, XallocNeverStops, FreeAlwaysDone, DrainAlwaysDone, ReapAlwaysDone}
 use Rattle.local_calls.specs.Runs.{RunsTo}
 use Rattle.local_calls.proofs.Chains.{tree_chain}
@@ -38,7 +39,7 @@ xalloc_never_stops arenas arena request old new others a local accounted path =
 
 pub free_always_done : FreeAlwaysDone
 free_always_done arenas chain t old new others a is first local accounted path =
-    run_ends_well arenas (λ r. IsDone r) return_left (free_plan chain t) _ others (free_handles chain t) (well_free arenas chain t is first) old new a local.plans accounted path
+    run_ends_well arenas (λ r. DoesWell r) return_left (free_plan chain t) _ others (free_handles chain t) (well_free arenas chain t is first) old new a local.plans accounted path
 
 pub drain_always_done : DrainAlwaysDone
 drain_always_done turns arenas old new others a local accounted path =
@@ -46,7 +47,7 @@ drain_always_done turns arenas old new others a local accounted path =
 
 pub reap_always_done : ReapAlwaysDone
 reap_always_done arenas limit old new others a local accounted path =
-    run_ends_well arenas (λ (r : ReapEnd). IsDone r) reap_left (reap_plan arenas limit) _ others (reap_handles arenas limit) (well_reap arenas (λ id less. (tree_chain arenas local.tree id less).0) limit) old new a local.plans accounted path
+    run_ends_well arenas (λ (r : ReapEnd). DoesWell r) reap_left (reap_plan arenas limit) _ others (reap_handles arenas limit) (well_reap arenas (λ id less. (tree_chain arenas local.tree id less).0) limit) old new a local.plans accounted path
 
 -- a call's list of steps over parts that are seen as a state
 pub run_seen : {S A : Type 0} (arenas : List TreeArena) (see : S → LocalState) (step : S → (e : Event) → AnswerTo e → S → Type 0) (tree : S → List Node) (count rounds : S → ℕ)

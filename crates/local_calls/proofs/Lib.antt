@@ -15,3 +15,5 @@ mod CpuPlaces
 mod Drained
 mod ReapSteps
 mod Reaped
+mod Findable
+mod ReapLooks

@@ -41,7 +41,7 @@ use Rattle.stock.proofs.LawProofs.{always_tagged, always_out, always_imports, al
 use Rattle.local_parts.specs.SharedSteps.{DoesCarve, DoesFree, DoesImport, DoesPut, DoesAdd}
 use Rattle.local_parts.specs.Words.{in_words, carve_word, import_word, put_word, add_word}
 use Rattle.local_calls.proofs.Chains.{source_at}
-use Rattle.local_calls.specs.Asked.{IsForSlab, IsForChild, CarvesWell, AddsWell, SlabsWell, IsDone}
+use Rattle.local_calls.specs.Asked.{IsForSlab, IsForChild, CarvesWell, AddsWell, SlabsWell, DoesWell}
 
 -- what stands among equal members
 one_of_same : (n i y z : ℕ) → slice_get (replicate n y) i ≡ Some z → z ≡ y
@@ -69,10 +69,10 @@ module _ (arenas : List TreeArena) (old new : List SpaceState) (plans : plans_of
 
   module _ (t : Tag) (rest : List Tag) (accounted : IsAccounted old (t ∷ rest)) where
     -- what is out can be freed
-    pub free_well : (a : Result (Option Tag) (FreeFault Tag)) → t.route ≡ Direct → DoesFree old t a new → IsDone a
-    free_well a direct does = subst IsDone (sym does.1) (words does.0 does.2)
+    pub free_well : (a : Result (Option Tag) (FreeFault Tag)) → t.route ≡ Direct → DoesFree old t a new → DoesWell a
+    free_well a direct does = subst DoesWell (sym does.1) (words does.0 does.2)
       where
-        words : (r : Result (Option Tag) Tag) → FreeIn old t r new → IsDone (in_words BadFree r)
+        words : (r : Result (Option Tag) Tag) → FreeIn old t r new → DoesWell (in_words BadFree r)
         words (Ok o) is = tt
         words (Err same) is =
             let tagged = always_tagged old t rest accounted direct in
@@ -96,10 +96,10 @@ module _ (arenas : List TreeArena) (old new : List SpaceState) (plans : plans_of
     none_out k cached none = let out = always_out old t k rest accounted cached in none out.0 out.2.cache out.2.route out.2.at
 
     -- a chunk can be put back
-    pub put_well : (a : Result (Unit {0}) (SlabPutFault Tag)) (k : ℕ) → t.route ≡ Cached k → DoesPut old t a new → IsDone a
-    put_well a k cached does = subst IsDone (sym does.1) (words does.0 does.2)
+    pub put_well : (a : Result (Unit {0}) (SlabPutFault Tag)) (k : ℕ) → t.route ≡ Cached k → DoesPut old t a new → DoesWell a
+    put_well a k cached does = subst DoesWell (sym does.1) (words does.0 does.2)
       where
-        words : (r : Result (Unit {0}) (PutFault Tag)) → PutIn old t r new → IsDone (in_words put_word r)
+        words : (r : Result (Unit {0}) (PutFault Tag)) → PutIn old t r new → DoesWell (in_words put_word r)
         words (Ok o) is = tt
         words (Err (put_fault.NotMine back)) is = elim is [
           | inl on ↦ on.2.does.0 (out_here k on.0 cached on.1 on.2.space on.2.cache on.2.at on.2.among)

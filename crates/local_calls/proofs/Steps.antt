@@ -24,7 +24,7 @@ use Rattle.local_parts.specs.OwnSteps.{DoesPush, DoesChange, DoesSwapFull, DoesS
 use Rattle.local_parts.specs.States.{LocalState}
 use Rattle.local_parts.specs.Steps.{LocalStep}
 use Rattle.local_parts.specs.Words.{in_words, full_word, empty_word, fresh_word}
-use Rattle.local_calls.specs.Asked.{IsRightlyAsked, GoesWell, IsDone, FillsWell, EmptiesWell, FreshensWell, PushesWell, ChangesWell, EndsWell}
+use Rattle.local_calls.specs.Asked.{IsRightlyAsked, GoesWell, DoesWell, FillsWell, EmptiesWell, FreshensWell, PushesWell, ChangesWell, EndsWell}
 use Rattle.local_calls.specs.Runs.{IsAccountedWith, RunsTo}
 use Rattle.local_calls.proofs.Refusals.{carve_well, free_well, put_well, import_well, slab_well}
 
@@ -86,15 +86,15 @@ module _ (arenas : List TreeArena) (old new : LocalState) (plans : plans_of old.
   goes_well (Carve k q) a step begins asked = carve_well arenas old.spaces new.spaces plans k q a step.does.0
   goes_well (Free t) a step begins asked = free_well arenas old.spaces new.spaces plans t (cpu_rounds old.cpu ++ others) (in_hand t begins) a asked step.does.0
   goes_well (AddCarve child t n) a step begins asked = import_well arenas old.spaces new.spaces plans t (cpu_rounds old.cpu ++ others) (in_hand t begins) child n a asked step.does.0
-  goes_well (SlabTake k c) a step begins asked = subst (λ (x : AnswerTo (SlabTake k c)). IsDone x) (sym step.does.0.1) tt
+  goes_well (SlabTake k c) a step begins asked = subst (λ (x : AnswerTo (SlabTake k c)). DoesWell x) (sym step.does.0.1) tt
   goes_well (SlabPut t) a step begins asked = put_well arenas old.spaces new.spaces plans t (cpu_rounds old.cpu ++ others) (in_hand t begins) a asked.0 asked.1 step.does.0
   goes_well (SlabAdd k c t) a step begins asked = slab_well arenas old.spaces new.spaces plans t (cpu_rounds old.cpu ++ others) (in_hand t begins) k c a asked step.does.0
-  goes_well (SlabReap k c) a step begins asked = subst (λ (x : AnswerTo (SlabReap k c)). IsDone x) (sym step.does.0.1) tt
+  goes_well (SlabReap k c) a step begins asked = subst (λ (x : AnswerTo (SlabReap k c)). DoesWell x) (sym step.does.0.1) tt
   goes_well (SwapFull k c) a step begins asked = swapped_full old new k c a step.does
   goes_well (SwapEmpty k c) a step begins asked = swapped_empty old new k c a step.does
   goes_well (SwapFresh k c) a step begins asked = swapped_fresh old new k c a step.does
-  goes_well (DepotReap k c) a step begins asked = subst (λ (x : AnswerTo (DepotReap k c)). IsDone x) (sym step.does.0.1) tt
-  goes_well (Pop k c) a step begins asked = subst (λ (x : AnswerTo (Pop k c)). IsDone x) (sym step.does.1) tt
+  goes_well (DepotReap k c) a step begins asked = subst (λ (x : AnswerTo (DepotReap k c)). DoesWell x) (sym step.does.0.1) tt
+  goes_well (Pop k c) a step begins asked = subst (λ (x : AnswerTo (Pop k c)). DoesWell x) (sym step.does.1) tt
   goes_well (Push k c t) a step begins asked = pushed_well old new k c t a step.does
   goes_well (Change k c size) a step begins asked = changed_well old new k c size a step.does
 

@@ -95,24 +95,24 @@ ChangesWell (Err changing.Stopped) = ⊥
 ChangesWell _ = Unit {0}
 
 -- what is never refused is done
-abbrev pub IsDone : {A E : Type 0} → Result A E → Type 0
-IsDone (Ok a) = Unit {0}
-IsDone (Err e) = ⊥
+abbrev pub DoesWell : {A E : Type 0} → Result A E → Type 0
+DoesWell (Ok a) = Unit {0}
+DoesWell (Err e) = ⊥
 
 -- no part stops, and none refuses what is given to it but when out of memory
 abbrev pub GoesWell : (e : Event) → AnswerTo e → Type 0
 GoesWell (Carve arena request) a = CarvesWell a
-GoesWell (Free given) a = IsDone a
+GoesWell (Free given) a = DoesWell a
 GoesWell (AddCarve child given size) a = AddsWell a
-GoesWell (SlabTake arena cache) a = IsDone a
-GoesWell (SlabPut given) a = IsDone a
+GoesWell (SlabTake arena cache) a = DoesWell a
+GoesWell (SlabPut given) a = DoesWell a
 GoesWell (SlabAdd arena cache given) a = SlabsWell a
-GoesWell (SlabReap arena cache) a = IsDone a
+GoesWell (SlabReap arena cache) a = DoesWell a
 GoesWell (SwapFull arena cache) a = FillsWell a
 GoesWell (SwapEmpty arena cache) a = EmptiesWell a
 GoesWell (SwapFresh arena cache) a = FreshensWell a
-GoesWell (DepotReap arena cache) a = IsDone a
-GoesWell (Pop arena cache) a = IsDone a
+GoesWell (DepotReap arena cache) a = DoesWell a
+GoesWell (Pop arena cache) a = DoesWell a
 GoesWell (Push arena cache given) a = PushesWell a
 GoesWell (Change arena cache size) a = ChangesWell a
 

@@ -18,7 +18,7 @@ use Rattle.quantum_cache.specs.Reaps.{ReapEnd, reap_plan}
 use Rattle.stock.specs.Stocks.{IsStock}
 use Rattle.local_parts.specs.Cpus.{cpu_rounds, HasNoRounds}
 use Rattle.local_parts.specs.States.{LocalState, IsUnchanged}
-use Rattle.local_calls.specs.Asked.{CarvesWell, IsDone}
+use Rattle.local_calls.specs.Asked.{CarvesWell, DoesWell}
 use Rattle.local_calls.specs.NoFits.{NoneServesIn, NothingFits}
 use Rattle.local_calls.specs.Reaped.{NoneToReap}
 use Rattle.local_calls.specs.Runs.{IsLocalOf, IsAccountedWith, RunsTo}
@@ -57,7 +57,7 @@ abbrev pub FreeAlwaysDone : Type 0
 FreeAlwaysDone = (arenas : List TreeArena) (chain : List Level) (t : Tag) (old new : LocalState)
     (others : List Tag) (a : Returned) → IsChain (nodes_of arenas) chain
     → first_id chain ≡ Some t.arena → IsLocalOf arenas old → IsAccountedWith old (Some t) others
-    → RunsTo arenas (free_plan chain t) old new a → IsDone a
+    → RunsTo arenas (free_plan chain t) old new a → DoesWell a
 
 -- A drain ends well, and so does a reaping.
 abbrev pub DrainAlwaysDone : Type 0
@@ -68,7 +68,7 @@ DrainAlwaysDone = (turns : ℕ) (arenas : List TreeArena) (old new : LocalState)
 abbrev pub ReapAlwaysDone : Type 0
 ReapAlwaysDone = (arenas : List TreeArena) (limit : ℕ) (old new : LocalState) (others : List Tag)
     (a : ReapEnd) → IsLocalOf arenas old → IsAccountedWith old None others
-    → RunsTo arenas (reap_plan arenas limit) old new a → IsDone a
+    → RunsTo arenas (reap_plan arenas limit) old new a → DoesWell a
 
 -- An allocation that ends with NoFit has found nothing that serves, in the parts as they were when
 -- it began, and leaves the stock as it was: at most the CPU has changed over, with no round.

@@ -3,3 +3,4 @@ pub mod NoFits
 pub mod Reaped
 pub mod Runs
 pub mod Laws
+pub mod Looks

@@ -7,4 +7,5 @@ mod Owns
 mod OwnWholes
 mod PartSteps
 mod NewCpus
+mod NoRounds
 pub mod LawProofs

@@ -1,5 +1,5 @@
 -- What follows of every list of steps over one thread's parts, from what each of its events does.
-use Rattle.std.specs.Prelude.{◌≡◌, ℕ, ◌≤◌, ◌++◌, Option, Some, slice_get}
+use Rattle.std.specs.Prelude.{◌≡◌, ℕ, ◌≤◌, ◌↔◌, List, [], ◌++◌, Option, Some, slice_get}
 use Rattle.std.specs.Option.{option_to_list}
 use Rattle.deed_core.specs.Tag.{Tag}
 use Rattle.deed_core.specs.Covering.{covering_held}
@@ -8,7 +8,8 @@ use Rattle.arena_tree.specs.Plans.{Plan, Path, Handles}
 use Rattle.stock.specs.Spaces.{SpaceState}
 use Rattle.stock.specs.Accounts.{IsAccounted}
 use Rattle.stock.specs.Sums.{Out, all_out, places_of, all_places}
-use Rattle.local_parts.specs.Cpus.{cpu_rounds}
+use Rattle.stock.specs.OwnCaches.{OwnCacheState}
+use Rattle.local_parts.specs.Cpus.{HasNoRounds, cpu_rounds}
 use Rattle.local_parts.specs.States.{LocalState, Conserves}
 use Rattle.local_parts.specs.Steps.{LocalStep, IsSetUpAs}
 
@@ -40,3 +41,7 @@ PlanInOnePlace A = (left : A → Option Tag) (p : Plan A) (hand : Option Tag) �
     → (covering_held u (all_places (places_of new.spaces (out_with new (left a) others) s))
     ≡ covering_held u (spans_of s.arena))
     × (covering_held u (spans_of s.arena) ≤ 1)
+
+-- A CPU's magazines are all empty just where it holds nothing that is out of the stock.
+abbrev pub EmptyHasNoRounds : Type 0
+EmptyHasNoRounds = (cpu : List (List OwnCacheState)) → HasNoRounds cpu ↔ (cpu_rounds cpu ≡ [])

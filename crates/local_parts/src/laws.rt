@@ -1,11 +1,17 @@
-//! What follows of every list of steps over one thread's parts. The function does nothing: its
-//! contract is the laws, over all that a list of steps may end with, and proofs/LawProofs.antt has
-//! them for the proofs of the crates above.
+//! What follows of every list of steps over one thread's parts, and of empty magazines. The
+//! functions do nothing: their contracts are the laws, the first's over all that a list of steps may
+//! end with, and proofs/LawProofs.antt has them for the proofs of the crates above.
 ghost use Rattle.local_parts.specs.Laws.{PlanConserves, PlanKeepsSetup, PlanInOnePlace};
+ghost use Rattle.local_parts.specs.Laws.{EmptyHasNoRounds};
 
 /// Every list of steps conserves units, leaves the setup alone, and leaves each unit in one place.
 pub fn local_laws<A>()
     ensures conserves { PlanConserves A }
     ensures setup { PlanKeepsSetup A }
     ensures place { PlanInOnePlace A }
+{}
+
+/// A CPU's caches can be closed just where they hold nothing that is out of the stock.
+pub fn empty_cpu_law()
+    ensures none { EmptyHasNoRounds }
 {}

@@ -28,5 +28,5 @@ mod own_changes;
 mod own_events;
 
 pub use cpu_caches::CpuCaches;
-pub use laws::local_laws;
+pub use laws::{empty_cpu_law, local_laws};
 pub use locals::Local;

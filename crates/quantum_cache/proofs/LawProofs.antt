@@ -10,6 +10,6 @@ pub use Rattle.quantum_cache.proofs.EmptyingHands.{drain_handles, reap_arena_han
 pub use Rattle.quantum_cache.proofs.FreeBounds.{free_is_short}
 pub use Rattle.quantum_cache.proofs.FreeHands.{free_handles}
 pub use Rattle.quantum_cache.proofs.FreeTellings.{free_tells}
-pub use Rattle.quantum_cache.proofs.ReapBounds.{reap_is_short}
-pub use Rattle.quantum_cache.proofs.ReapTellings.{reap_tells}
+pub use Rattle.quantum_cache.proofs.ReapBounds.{reap_arena_is_short, reap_is_short}
+pub use Rattle.quantum_cache.proofs.ReapTellings.{reap_arena_tells, reap_tells}
 pub use Rattle.quantum_cache.proofs.Tellings.{tells_after, tells_both, tells_so, tells_any}

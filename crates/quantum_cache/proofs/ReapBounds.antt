@@ -12,7 +12,7 @@ use Rattle.arena_tree.proofs.LawProofs.{within_then, within_return}
 use Rattle.quantum_cache.specs.declared.reaps.Reaping.{Reaping}
 use Rattle.quantum_cache.specs.Caches.{chain_on, chain_up, chain_in, if_ok, over_caches, over_arenas}
 use Rattle.quantum_cache.specs.Frees.{put_chunk}
-use Rattle.quantum_cache.specs.Laws.{looks_left, ReapIsShort}
+use Rattle.quantum_cache.specs.Laws.{looks_left, ReapArenaIsShort, ReapIsShort}
 use Rattle.quantum_cache.specs.Reaps.{Reaped, ReapEnd, on_return, on_depot_reap, reap_round, on_slab_reap, reap_slab, on_look, up_to, reap_by, reap_cache, reap_arena_plan, reap_plan}
 use Rattle.quantum_cache.specs.Sizes.{caches_in}
 
@@ -107,3 +107,8 @@ pub reap_is_short : ReapIsShort
 reap_is_short arenas limit =
     counted_within (Paid limit) (λ (r : ReapEnd). 5 * (limit - looks_left r)) (reap_plan arenas limit) 0 (λ r m le. omega (arith, le))
     (paid_arenas limit (λ id. reap_arena_plan (chain_in arenas id)) (λ id. paid_arena limit (chain_in arenas id) (short_up 4 arenas (Some id))) (length arenas) (record { left = limit; units = 0 }) 0 (omega arith))
+
+pub reap_arena_is_short : ReapArenaIsShort
+reap_arena_is_short chain limit short =
+    counted_within (Paid limit) (λ (r : ReapEnd). 5 * (limit - looks_left r)) (reap_arena_plan chain (record { left = limit; units = 0 })) 0 (λ r m le. omega (arith, le))
+    (paid_arena limit chain short (record { left = limit; units = 0 }) 0 (omega arith))

@@ -19,7 +19,7 @@ use Rattle.quantum_cache.specs.declared.reaps.Reaping.{Reaping}
 use Rattle.quantum_cache.specs.declared.reaps.ReapFault.{ReapFault}
 use Rattle.quantum_cache.specs.Caches.{chain_on, chain_up, chain_in, if_ok}
 use Rattle.quantum_cache.specs.Frees.{put_chunk}
-use Rattle.quantum_cache.specs.Looks.{WasLast, NothingToReap, EmptyingTold, ReapTold, ReapTells}
+use Rattle.quantum_cache.specs.Looks.{WasLast, NothingToReap, EmptyingTold, ReapTold, ReapArenaTold, ReapArenaTells, ReapTells}
 use Rattle.quantum_cache.specs.Reaps.{Reaped, ReapEnd, on_return, on_depot_reap, reap_round, on_slab_reap, reap_slab, on_look, up_to, reap_by, reap_cache, reap_arena_plan, reap_plan}
 use Rattle.quantum_cache.specs.Sizes.{caches_in}
 use Rattle.quantum_cache.specs.Told.{FreeTold}
@@ -190,3 +190,14 @@ module _ (arenas : List TreeArena) (chains : (id : ℕ) → id < length arenas �
 
 pub reap_tells : ReapTells
 reap_tells arenas limit chains = tells_reap arenas chains limit
+
+pub reap_arena_tells : ReapArenaTells
+reap_arena_tells nodes [] limit is = λ live. tt
+reap_arena_tells nodes (l ∷ up) limit is =
+    let start : Reaping = record { left = limit; units = 0 } in
+    tells_so nodes (KeysTold nodes (reap_cache (l ∷ up) l.id) Live (λ now k. NothingToReap now l.id k) Fault (λ k. (caches_in l - caches_in l < k) × (k ≤ caches_in l)) start) (ReapArenaTold (l ∷ up)) (reap_arena_plan (l ∷ up) start) [] all
+    (arena_told nodes l up start [] is)
+  where
+    all : (now : List Answered) (a : ReapEnd) → KeysTold nodes (reap_cache (l ∷ up) l.id) Live (λ now' k. NothingToReap now' l.id k) Fault (λ k. (caches_in l - caches_in l < k) × (k ≤ caches_in l)) (record { left = limit; units = 0 }) now a → ReapArenaTold (l ∷ up) now a
+    all now (Ok z) w = λ live cache some most. w.0 cache (omega (arith, some), most) live
+    all now (Err f) w = w

@@ -92,3 +92,9 @@ abbrev pub ReapIsShort : Type 0
 ReapIsShort = (arenas : List TreeArena) (limit : ℕ)
     → Within (λ (r : ReapEnd). (1 + LONGEST_CHAIN) * (limit - looks_left r))
     (reap_plan arenas limit) 0
+
+-- So does one of an arena by its chain, four at most.
+abbrev pub ReapArenaIsShort : Type 0
+ReapArenaIsShort = (chain : List Level) (limit : ℕ) → length chain ≤ LONGEST_CHAIN
+    → Within (λ (r : ReapEnd). (1 + LONGEST_CHAIN) * (limit - looks_left r))
+    (reap_arena_plan chain (record { left = limit; units = 0 })) 0

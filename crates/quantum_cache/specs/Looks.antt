@@ -3,6 +3,7 @@
 use Rattle.std.specs.Prelude.{◌≡◌, ◌≢◌, ◌⊎◌, ℕ, ◌<◌, ◌≤◌, List, [], ◌∷◌, Some, None, Ok, Err}
 use Rattle.std.specs.Prelude.{length, slice_get}
 use Rattle.deed_core.specs.Tag.{Tag}
+use Rattle.arena_tree.specs.declared.levels.Level.{Level}
 use Rattle.arena_tree.specs.declared.trees.TreeArena.{TreeArena}
 use Rattle.arena_tree.specs.Chains.{Node, IsChain}
 use Rattle.arena_tree.specs.Events.{Event, AnswerTo, SlabReap, DepotReap, Pop}
@@ -12,7 +13,7 @@ use Rattle.quantum_cache.specs.declared.emptying_faults.EmptyingFault.{EmptyingF
 use Rattle.quantum_cache.specs.declared.emptying_faults.EmptyingFault.TheVariants as emptying
 use Rattle.quantum_cache.specs.Caches.{chain_in}
 use Rattle.quantum_cache.specs.Drains.{Drained, drain_plan}
-use Rattle.quantum_cache.specs.Reaps.{ReapEnd, reap_plan}
+use Rattle.quantum_cache.specs.Reaps.{ReapEnd, reap_arena_plan, reap_plan}
 use Rattle.quantum_cache.specs.Sizes.{caches_in}
 use Rattle.quantum_cache.specs.Told.{JustRefused}
 
@@ -31,6 +32,11 @@ abbrev pub OfEachCache : List TreeArena → (ℕ → ℕ → Type 0) → Type 0
 OfEachCache arenas P = (id cache : ℕ) (x : TreeArena) → slice_get arenas id ≡ Some x → 0 < cache
     → cache ≤ caches_in (level_of id x) → P id cache
 
+-- it is so of each cache of the chain's first arena
+abbrev pub OfEachCacheIn : List Level → (ℕ → ℕ → Type 0) → Type 0
+OfEachCacheIn [] P = Unit {0}
+OfEachCacheIn (l ∷ up) P = (cache : ℕ) → 0 < cache → cache ≤ caches_in l → P l.id cache
+
 -- a segment isn't placed only where a part has just refused it, or was just stopped
 abbrev pub EmptyingTold : List Answered → EmptyingFault Tag → Type 0
 EmptyingTold told (emptying.Stuck t) = JustRefused t told
@@ -40,6 +46,11 @@ EmptyingTold told (emptying.Stopped o) = WasStopped told
 abbrev pub ReapTold : List TreeArena → List Answered → ReapEnd → Type 0
 ReapTold arenas told (Ok r) = 0 < r.left → OfEachCache arenas (NothingToReap told)
 ReapTold arenas told (Err f) = EmptyingTold told f.cause
+
+-- and so does one of a single arena
+abbrev pub ReapArenaTold : List Level → List Answered → ReapEnd → Type 0
+ReapArenaTold chain told (Ok r) = 0 < r.left → OfEachCacheIn chain (NothingToReap told)
+ReapArenaTold chain told (Err f) = EmptyingTold told f.cause
 
 -- a drain ends well only where the last pop of each cache found nothing
 abbrev pub DrainTold : List TreeArena → List Answered → Drained → Type 0
@@ -53,6 +64,12 @@ abbrev pub ReapTells : Type 0
 ReapTells = (arenas : List TreeArena) (limit : ℕ)
     → ((id : ℕ) → id < length arenas → IsChain (nodes_of arenas) (chain_in arenas id))
     → Tells (nodes_of arenas) (ReapTold arenas) (reap_plan arenas limit) []
+
+-- So does one of an arena by a chain of the tree.
+abbrev pub ReapArenaTells : Type 0
+ReapArenaTells = (nodes : List Node) (chain : List Level) (limit : ℕ) → IsChain nodes chain
+    → Tells nodes (ReapArenaTold chain)
+    (reap_arena_plan chain (record { left = limit; units = 0 })) []
 
 -- And a drain.
 abbrev pub DrainTells : Type 0

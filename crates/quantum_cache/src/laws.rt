@@ -2,8 +2,8 @@
 //! contracts are the laws, and proofs/LawProofs.antt hands them on.
 ghost use Rattle.quantum_cache.specs.Laws.{AllocHandles, XallocHandles, FreeHandles, DrainHandles};
 ghost use Rattle.quantum_cache.specs.Laws.{ReapArenaHandles, ReapHandles, AllocIsShort};
-ghost use Rattle.quantum_cache.specs.Laws.{FreeIsShort, ReapIsShort};
-ghost use Rattle.quantum_cache.specs.Looks.{DrainTells, ReapTells};
+ghost use Rattle.quantum_cache.specs.Laws.{FreeIsShort, ReapArenaIsShort, ReapIsShort};
+ghost use Rattle.quantum_cache.specs.Looks.{DrainTells, ReapArenaTells, ReapTells};
 ghost use Rattle.quantum_cache.specs.Told.{AllocTells, FreeTells};
 
 /// What each call leaves in the hand: no segment is lost.
@@ -22,6 +22,7 @@ pub fn told_laws()
     ensures alloc { AllocTells }
     ensures free { FreeTells }
     ensures drain { DrainTells }
+    ensures reap_arena { ReapArenaTells }
     ensures reap { ReapTells }
 {}
 
@@ -29,5 +30,6 @@ pub fn told_laws()
 pub fn lock_laws()
     ensures alloc { AllocIsShort }
     ensures free { FreeIsShort }
+    ensures reap_arena { ReapArenaIsShort }
     ensures reap { ReapIsShort }
 {}

@@ -246,6 +246,8 @@ pub fn reap_arena<S: Held, P: Parts<S>>(
     ensures ran { Ran P.step P.tree P.count P.rounds
         (reap_arena_plan chain.now (record { left = limit; units = 0 }))
         parts.old parts.new (tag_reap S.tag result) }
+    ensures few { length chain.now ≤ LONGEST_CHAIN → P.count parts.new ≤ P.count parts.old
+        + (1 + LONGEST_CHAIN) * (limit - looks_left (tag_reap S.tag result)) }
     ensures tree { P.tree parts.new ≡ P.tree parts.old }
 {
     let start = Reaping {

@@ -1,4 +1,4 @@
-//! A stock, what one CPU keeps of it, and how both are made and end.
+//! A stock, what two CPUs keep of it, and how all are made and end.
 ghost use Rattle.std.specs.Prelude.{◌≡◌, ℕ, ◌<◌, ◌≤◌, length, slice_get, Some, IsTrue};
 ghost use Rattle.arena_tree.specs.declared.trees.TreeArena.{TreeArena};
 ghost use Rattle.arena_tree.specs.Trees.{nodes_of};
@@ -6,7 +6,7 @@ ghost use Rattle.stock.specs.Spaces.{SpaceState, plans_of};
 ghost use Rattle.local_parts.specs.States.{tree_of};
 
 use arena_tree::{NewChild, NewRoot, Setting, Setup, Tree, TreeArena};
-use deed_core::{PlainDeed, Range, Segment};
+use deed_core::{Deed, PlainDeed, Segment};
 use lease_terms::Name;
 use local_parts::CpuCaches;
 use std::alloc::Global;
@@ -14,13 +14,16 @@ use std::process::Abort;
 use stock::{Stock, StockSetup};
 use tag_arena::Policy;
 
-/// A tree, its stock with one CPU's caches, and the segments that are out.
-pub(super) struct Walk {
+/// A tree, its stock with two CPUs' caches, and the segments that are out.
+pub(super) struct Walk<D: Deed> {
     pub(super) alloc: Global,
     pub(super) tree: Tree,
-    pub(super) stock: Stock<PlainDeed>,
-    pub(super) cpu: CpuCaches<PlainDeed>,
-    pub(super) held: Vec<Segment<PlainDeed>>,
+    pub(super) stock: Stock<D>,
+    /// Those of the CPU that calls.
+    pub(super) cpu: CpuCaches<D>,
+    /// Those of the other one.
+    pub(super) other: CpuCaches<D>,
+    pub(super) held: Vec<Segment<D>>,
     /// The locked steps of the last call.
     pub(super) steps: u64,
 }
@@ -59,12 +62,24 @@ pub(super) fn child(
     quantum: u64,
     import_min: u64,
 ) -> Setting {
+    caching_child(rt, text, source, quantum, 0, import_min)
+}
+
+/// A child that caches sizes up to this one.
+pub(super) fn caching_child(
+    rt: &impl Abort,
+    text: &str,
+    source: &str,
+    quantum: u64,
+    qcache_max: u64,
+    import_min: u64,
+) -> Setting {
     Setting::Child(NewChild {
         name: name(rt, text),
         source: name(rt, source),
         quantum,
         policy: Policy::Best,
-        qcache_max: 0,
+        qcache_max,
         import_min,
     })
 }
@@ -75,7 +90,7 @@ pub(super) fn set(rt: &impl Abort, setup: &mut Setup, setting: Setting) {
 }
 
 /// Whether the arena at the place is the tree's.
-fn is_alike(stock: &Stock<PlainDeed>, tree: &Tree, place: usize) -> bool
+fn is_alike<D: Deed>(stock: &Stock<D>, tree: &Tree, place: usize) -> bool
     requires stock { place < length stock.now }
     requires tree { place < length tree.now }
     ensures { IsTrue result → (s : SpaceState) (x : TreeArena)
@@ -89,7 +104,7 @@ fn is_alike(stock: &Stock<PlainDeed>, tree: &Tree, place: usize) -> bool
 }
 
 /// Whether the arenas below the place are.
-fn are_alike(stock: &Stock<PlainDeed>, tree: &Tree, end: usize) -> bool
+fn are_alike<D: Deed>(stock: &Stock<D>, tree: &Tree, end: usize) -> bool
     requires stock { length stock.now ≡ length tree.now }
     requires tree { end ≤ length tree.now }
     ensures { IsTrue result → (k : ℕ) (s : SpaceState) (x : TreeArena) → k < end
@@ -104,68 +119,86 @@ fn are_alike(stock: &Stock<PlainDeed>, tree: &Tree, end: usize) -> bool
 
 /// Whether the stock has the arenas of the tree.
 #[tactic(auto, using(crate::proofs::ClimbTrees::same_nodes))]
-pub(super) fn is_set_up_as(stock: &Stock<PlainDeed>, tree: &Tree) -> bool
+pub(super) fn is_set_up_as<D: Deed>(stock: &Stock<D>, tree: &Tree) -> bool
     ensures { IsTrue result
         → tree_of (plans_of stock.now) tree.now ≡ nodes_of tree.now }
 {
     stock.count() == tree.len() && are_alike(stock, tree, tree.len())
 }
 
-/// The stock of a tree, whose first arena owns the range.
-fn stock_of(rt: &impl Abort, alloc: Global, tree: &Tree, range: Range) -> Stock<PlainDeed> {
+/// The stock of a tree, whose first arena owns the deed.
+fn stock_of<D: Deed>(rt: &impl Abort, alloc: Global, tree: &Tree, deed: D) -> Stock<D> {
     let mut setup = match StockSetup::of_tree(alloc, tree, 3) {
         Ok(setup) => setup,
         Err(_) => panic!(rt; "arenas"),
     };
     assert!(rt; setup.count() > 0);
     assert_eq!(rt; setup.source(0), None);
-    match setup.add_span(0, PlainDeed::new(0, range)) {
+    match setup.add_span(0, deed) {
         Ok(()) => {}
         Err(_) => panic!(rt; "a span"),
     }
     setup.finish()
 }
 
-/// A stock for the setup, which has one span, and a CPU.
-pub(super) fn begin(rt: &impl Abort, alloc: Global, setup: Setup) -> Walk {
-    assert!(rt; setup.spans().len() == 1);
-    let range = setup.spans()[0].range;
-    let tree = setup.into_tree();
-    let stock = stock_of(rt, alloc, &tree, range);
-    let cpu = match CpuCaches::new(alloc, &stock, 3) {
+/// A new CPU.
+fn cpu_of<D: Deed>(rt: &impl Abort, alloc: Global, stock: &Stock<D>) -> CpuCaches<D> {
+    match CpuCaches::new(alloc, stock, 3) {
         Ok(cpu) => cpu,
         Err(_) => panic!(rt; "a CPU"),
-    };
+    }
+}
+
+/// A stock for the setup, which has one span, and two CPUs.
+pub(super) fn begin(rt: &impl Abort, alloc: Global, setup: Setup) -> Walk<PlainDeed> {
+    assert!(rt; setup.spans().len() == 1);
+    let range = setup.spans()[0].range;
+    begin_with(rt, alloc, setup.into_tree(), PlainDeed::new(0, range))
+}
+
+/// A stock for the tree, whose first arena owns the deed, and two CPUs.
+pub(super) fn begin_with<D: Deed>(rt: &impl Abort, alloc: Global, tree: Tree, deed: D) -> Walk<D> {
+    let stock = stock_of(rt, alloc, &tree, deed);
+    let cpu = cpu_of(rt, alloc, &stock);
+    let other = cpu_of(rt, alloc, &stock);
     Walk {
         alloc,
         tree,
         stock,
         cpu,
+        other,
         held: Vec::new(alloc),
         steps: 0,
     }
 }
 
-/// Ends what is left: the first arena's span, and nothing else.
-pub(super) fn end(rt: &impl Abort, walk: Walk) {
+fn close<D: Deed>(rt: &impl Abort, cpu: CpuCaches<D>) {
+    match cpu.close() {
+        Ok(()) => {}
+        Err(_) => panic!(rt; "a round of the CPU"),
+    }
+}
+
+/// Ends what is left: the first arena's deed, and nothing else.
+pub(super) fn end<D: Deed>(rt: &impl Abort, walk: Walk<D>) -> D {
     let Walk {
         alloc: _,
         tree: _,
         mut stock,
         cpu,
+        other,
         held,
         steps: _,
     } = walk;
     assert!(rt; held.is_empty());
     held.destroy_empty();
-    match cpu.close() {
-        Ok(()) => {}
-        Err(_) => panic!(rt; "a round of the CPU"),
-    }
+    close(rt, cpu);
+    close(rt, other);
     assert!(rt; stock.count() > 0);
-    let _root = stock.remove_owned(0).expect(rt, "a root").close();
+    let root = stock.remove_owned(0).expect(rt, "a root");
     match stock.close() {
         Ok(()) => {}
         Err(_) => panic!(rt; "a deed is left"),
     }
+    root
 }

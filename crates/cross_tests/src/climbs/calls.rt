@@ -2,16 +2,17 @@
 //! many locked steps it took.
 use super::arrangements::{Walk, is_set_up_as};
 use arena_tree::{ClimbFault, climb_alloc, climb_free};
-use deed_core::{PlainDeed, Segment};
+use deed_core::{Deed, Segment};
 use local_parts::Local;
 use quantum_cache::{alloc, drain, free, reap};
+use std::mem;
 use std::process::Abort;
 
 /// What an allocation or a climb ended with: a segment, or that nothing fits.
-type Given = Result<Segment<PlainDeed>, ClimbFault<Segment<PlainDeed>>>;
+type Given<D> = Result<Segment<D>, ClimbFault<Segment<D>>>;
 
 /// How many locked steps there were.
-fn steps_of(parts: Local<PlainDeed>) -> u64 {
+fn steps_of<D: Deed>(parts: Local<D>) -> u64 {
     let Local {
         stock: _,
         cpu: _,
@@ -23,7 +24,7 @@ fn steps_of(parts: Local<PlainDeed>) -> u64 {
 }
 
 /// A segment that was given; none where no arena of the chain has room.
-fn given(rt: &impl Abort, answer: Given) -> Option<Segment<PlainDeed>> {
+fn given<D: Deed>(rt: &impl Abort, answer: Given<D>) -> Option<Segment<D>> {
     match answer {
         Ok(segment) => Some(segment),
         Err(ClimbFault::NoFit) => None,
@@ -32,12 +33,12 @@ fn given(rt: &impl Abort, answer: Given) -> Option<Segment<PlainDeed>> {
 }
 
 /// So many units by a climb alone.
-pub(super) fn climb(
+pub(super) fn climb<D: Deed>(
     rt: &impl Abort,
-    walk: &mut Walk,
+    walk: &mut Walk<D>,
     arena: u32,
     size: u64,
-) -> Option<Segment<PlainDeed>> {
+) -> Option<Segment<D>> {
     assert!(rt; is_set_up_as(&walk.stock, &walk.tree));
     assert!(rt; (arena as usize) < walk.tree.len());
     let mut parts = Local {
@@ -53,12 +54,30 @@ pub(super) fn climb(
 }
 
 /// So many units, by the caches where they serve.
-pub(super) fn allocate(
+pub(super) fn allocate<D: Deed>(
     rt: &impl Abort,
-    walk: &mut Walk,
+    walk: &mut Walk<D>,
     arena: u32,
     size: u64,
-) -> Option<Segment<PlainDeed>> {
+) -> Option<Segment<D>> {
+    let answer = attempt(rt, walk, arena, size);
+    given(rt, answer)
+}
+
+/// The same, out of memory.
+pub(super) fn allocate_without_memory<D: Deed>(
+    rt: &impl Abort,
+    walk: &mut Walk<D>,
+    arena: u32,
+    size: u64,
+) {
+    match attempt(rt, walk, arena, size) {
+        Err(ClimbFault::NoMemory) => {}
+        _ => panic!(rt; "memory"),
+    }
+}
+
+fn attempt<D: Deed>(rt: &impl Abort, walk: &mut Walk<D>, arena: u32, size: u64) -> Given<D> {
     assert!(rt; is_set_up_as(&walk.stock, &walk.tree));
     assert!(rt; (arena as usize) < walk.tree.len());
     let mut parts = Local {
@@ -70,11 +89,11 @@ pub(super) fn allocate(
     };
     let answer = alloc(&mut parts, walk.tree.chain(arena), size);
     walk.steps = steps_of(parts);
-    given(rt, answer)
+    answer
 }
 
 /// Hands a segment back by a climb alone.
-pub(super) fn hand_back(rt: &impl Abort, walk: &mut Walk, segment: Segment<PlainDeed>) {
+pub(super) fn hand_back<D: Deed>(rt: &impl Abort, walk: &mut Walk<D>, segment: Segment<D>) {
     let arena = segment.arena();
     assert!(rt; is_set_up_as(&walk.stock, &walk.tree));
     assert!(rt; (arena as usize) < walk.tree.len());
@@ -94,7 +113,7 @@ pub(super) fn hand_back(rt: &impl Abort, walk: &mut Walk, segment: Segment<Plain
 }
 
 /// Frees a segment, into the CPU's magazines where it is a round.
-pub(super) fn release(rt: &impl Abort, walk: &mut Walk, segment: Segment<PlainDeed>) {
+pub(super) fn release<D: Deed>(rt: &impl Abort, walk: &mut Walk<D>, segment: Segment<D>) {
     let arena = segment.arena();
     assert!(rt; is_set_up_as(&walk.stock, &walk.tree));
     assert!(rt; (arena as usize) < walk.tree.len());
@@ -114,7 +133,7 @@ pub(super) fn release(rt: &impl Abort, walk: &mut Walk, segment: Segment<PlainDe
 }
 
 /// Empties the CPU's magazines.
-pub(super) fn empty(rt: &impl Abort, walk: &mut Walk) {
+pub(super) fn empty<D: Deed>(rt: &impl Abort, walk: &mut Walk<D>) {
     let mut parts = Local {
         stock: &mut walk.stock,
         cpu: &mut walk.cpu,
@@ -131,7 +150,7 @@ pub(super) fn empty(rt: &impl Abort, walk: &mut Walk) {
 }
 
 /// Reaps all arenas in at most 1,024 looks: the units of the slabs that it reaped.
-pub(super) fn reap_all(rt: &impl Abort, walk: &mut Walk) -> u128 {
+pub(super) fn reap_all<D: Deed>(rt: &impl Abort, walk: &mut Walk<D>) -> u128 {
     assert!(rt; is_set_up_as(&walk.stock, &walk.tree));
     let mut parts = Local {
         stock: &mut walk.stock,
@@ -146,4 +165,19 @@ pub(super) fn reap_all(rt: &impl Abort, walk: &mut Walk) -> u128 {
         Ok(reaping) => reaping.units,
         Err(_) => panic!(rt; "a refused segment"),
     }
+}
+
+/// An interval of each depot of the first arena ends.
+pub(super) fn tick<D: Deed>(rt: &impl Abort, walk: &mut Walk<D>) {
+    for cache in 1..17 {
+        if let Some(place) = walk.stock.cache_at(0, cache) {
+            walk.stock.tick(0, place);
+        }
+    }
+    assert!(rt; walk.stock.count() > 0);
+}
+
+/// The other CPU calls from here on.
+pub(super) fn change_cpus<D: Deed>(walk: &mut Walk<D>) {
+    mem::swap(&mut walk.cpu, &mut walk.other);
 }

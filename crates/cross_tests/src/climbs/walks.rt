@@ -1,6 +1,7 @@
 //! The rows, call by call.
 use super::arrangements::{Walk, begin, child, end, root, set};
-use super::calls::{allocate, climb, empty, hand_back, reap_all, release};
+use super::calls::{allocate, change_cpus, climb, empty, hand_back, reap_all, release, tick};
+use super::sums::{free_units, magazine_units, slab_units};
 use arena_tree::Setup;
 use deed_core::{PlainDeed, Segment};
 use std::process::Abort;
@@ -22,6 +23,12 @@ enum Step {
     Steps(u64),
     /// So many units of the arena are free.
     Units(usize, u128),
+    /// So many lie in its slabs, out to nobody.
+    Slabs(u32, u128),
+    /// So many in magazines, of depots and of both CPUs.
+    Magazines(u32, u128),
+    /// The other CPU calls from here on.
+    OtherCpu,
     /// The CPU's magazines are emptied.
     Drain,
     Tick,
@@ -29,7 +36,12 @@ enum Step {
     Reap(u128),
 }
 
-fn keep(rt: &impl Abort, walk: &mut Walk, segment: Option<Segment<PlainDeed>>, base: u64) {
+fn keep(
+    rt: &impl Abort,
+    walk: &mut Walk<PlainDeed>,
+    segment: Option<Segment<PlainDeed>>,
+    base: u64,
+) {
     let segment = segment.expect(rt, "a segment");
     assert_eq!(rt; segment.range().base(), base);
     match walk.held.push(segment) {
@@ -39,7 +51,7 @@ fn keep(rt: &impl Abort, walk: &mut Walk, segment: Option<Segment<PlainDeed>>, b
 }
 
 /// The segment of this arena with this base.
-fn held(rt: &impl Abort, walk: &mut Walk, arena: u32, base: u64) -> Segment<PlainDeed> {
+fn held(rt: &impl Abort, walk: &mut Walk<PlainDeed>, arena: u32, base: u64) -> Segment<PlainDeed> {
     let place = walk
         .held
         .iter()
@@ -56,22 +68,7 @@ fn none(rt: &impl Abort, segment: Option<Segment<PlainDeed>>) {
     }
 }
 
-/// An interval of each depot of the first arena ends.
-fn tick(rt: &impl Abort, walk: &mut Walk) {
-    for cache in 1..17 {
-        if let Some(place) = walk.stock.cache_at(0, cache) {
-            walk.stock.tick(0, place);
-        }
-    }
-    assert!(rt; walk.stock.count() > 0);
-}
-
-fn free_units(rt: &impl Abort, walk: &Walk, arena: usize) -> u128 {
-    assert!(rt; arena < walk.stock.count());
-    walk.stock.arena_report(arena).free
-}
-
-fn go(rt: &impl Abort, walk: &mut Walk, step: Step) {
+fn go(rt: &impl Abort, walk: &mut Walk<PlainDeed>, step: Step) {
     match step {
         Step::Alloc(arena, size, base) => {
             let answer = allocate(rt, walk, arena, size);
@@ -92,13 +89,16 @@ fn go(rt: &impl Abort, walk: &mut Walk, step: Step) {
         }
         Step::Steps(steps) => assert_eq!(rt; walk.steps, steps),
         Step::Units(arena, units) => assert_eq!(rt; free_units(rt, walk, arena), units),
+        Step::Slabs(arena, units) => assert_eq!(rt; slab_units(walk, arena), units),
+        Step::Magazines(arena, units) => assert_eq!(rt; magazine_units(walk, arena), units),
+        Step::OtherCpu => change_cpus(walk),
         Step::Drain => empty(rt, walk),
         Step::Tick => tick(rt, walk),
         Step::Reap(units) => assert_eq!(rt; reap_all(rt, walk), units),
     }
 }
 
-fn run(rt: &impl Abort, walk: &mut Walk, steps: &[Step]) {
+fn run(rt: &impl Abort, walk: &mut Walk<PlainDeed>, steps: &[Step]) {
     for step in steps {
         go(rt, walk, *step);
     }
@@ -127,7 +127,7 @@ fn a_span_goes_back(rt: HostRuntime) {
     set(&rt, &mut setup, child(&rt, "c", "r", 1, 16));
     let mut walk = begin(&rt, rt.alloc(), setup);
     run(&rt, &mut walk, &SPAN_GOES_BACK);
-    end(&rt, walk);
+    let _root = end(&rt, walk).close();
 }
 
 /// Amounts in whole quanta of each source, with an import minimum.
@@ -152,16 +152,18 @@ fn three_levels(rt: HostRuntime) {
     set(&rt, &mut setup, child(&rt, "c", "b", 1, 6));
     let mut walk = begin(&rt, rt.alloc(), setup);
     run(&rt, &mut walk, &THREE_LEVELS);
-    end(&rt, walk);
+    let _root = end(&rt, walk).close();
 }
 
 /// The second slab has colour 1.
-const COLOURS: [Step; 14] = [
+const COLOURS: [Step; 16] = [
     Step::Alloc(0, 5, 0),
     Step::Alloc(0, 5, 5),
     Step::Alloc(0, 5, 10),
     Step::Alloc(0, 5, 17),
     Step::Units(0, 32),
+    Step::Slabs(0, 12),
+    Step::Magazines(0, 0),
     Step::Free(0, 0),
     Step::Free(0, 5),
     Step::Free(0, 10),
@@ -179,7 +181,7 @@ fn colours(rt: HostRuntime) {
     set(&rt, &mut setup, root(&rt, "d", 64, 1, Policy::Instant, 5));
     let mut walk = begin(&rt, rt.alloc(), setup);
     run(&rt, &mut walk, &COLOURS);
-    end(&rt, walk);
+    let _root = end(&rt, walk).close();
 }
 
 /// Last in, first out.
@@ -211,11 +213,11 @@ fn last_in_first_out(rt: HostRuntime) {
     set(&rt, &mut setup, root(&rt, "d", 64, 1, Policy::Instant, 5));
     let mut walk = begin(&rt, rt.alloc(), setup);
     run(&rt, &mut walk, &LAST_IN_FIRST_OUT);
-    end(&rt, walk);
+    let _root = end(&rt, walk).close();
 }
 
 /// Seven rounds fill two magazines, and a third one goes to the depot.
-const REAPED: [Step; 20] = [
+const REAPED: [Step; 25] = [
     Step::Alloc(0, 1, 0),
     Step::Alloc(0, 1, 1),
     Step::Alloc(0, 1, 2),
@@ -231,9 +233,14 @@ const REAPED: [Step; 20] = [
     Step::Free(0, 5),
     Step::Free(0, 6),
     Step::Units(0, 48),
+    Step::Slabs(0, 9),
+    Step::Magazines(0, 7),
     Step::Drain,
+    Step::Reap(0),
     Step::Tick,
     Step::Reap(16),
+    Step::Slabs(0, 0),
+    Step::Magazines(0, 0),
     Step::Alloc(0, 64, 0),
     Step::Free(0, 0),
 ];
@@ -244,15 +251,44 @@ fn reaped(rt: HostRuntime) {
     set(&rt, &mut setup, root(&rt, "d", 64, 1, Policy::Instant, 5));
     let mut walk = begin(&rt, rt.alloc(), setup);
     run(&rt, &mut walk, &REAPED);
-    end(&rt, walk);
+    let _root = end(&rt, walk).close();
+}
+
+/// What one CPU freed is its own: another one gets the next chunk.
+const TWO_CPUS: [Step; 14] = [
+    Step::Alloc(0, 1, 0),
+    Step::Free(0, 0),
+    Step::OtherCpu,
+    Step::Alloc(0, 1, 1),
+    Step::Steps(2),
+    Step::Magazines(0, 1),
+    Step::OtherCpu,
+    Step::Alloc(0, 1, 0),
+    Step::Steps(0),
+    Step::Free(0, 0),
+    Step::Free(0, 1),
+    Step::Drain,
+    Step::Reap(16),
+    Step::Units(0, 64),
+];
+
+#[test]
+fn two_cpus(rt: HostRuntime) {
+    let mut setup = Setup::new(rt.alloc());
+    set(&rt, &mut setup, root(&rt, "d", 64, 1, Policy::Instant, 5));
+    let mut walk = begin(&rt, rt.alloc(), setup);
+    run(&rt, &mut walk, &TWO_CPUS);
+    let _root = end(&rt, walk).close();
 }
 
 /// Where no slab fits, the size itself is carved.
-const NO_ROOM_FOR_A_SLAB: [Step; 5] = [
+const NO_ROOM_FOR_A_SLAB: [Step; 7] = [
     Step::Alloc(0, 3, 0),
     Step::Alloc(0, 2, 3),
     Step::Free(0, 3),
     Step::Units(0, 5),
+    Step::Slabs(0, 0),
+    Step::Magazines(0, 0),
     Step::Free(0, 0),
 ];
 
@@ -262,7 +298,7 @@ fn no_room_for_a_slab(rt: HostRuntime) {
     set(&rt, &mut setup, root(&rt, "s", 8, 1, Policy::Instant, 2));
     let mut walk = begin(&rt, rt.alloc(), setup);
     run(&rt, &mut walk, &NO_ROOM_FOR_A_SLAB);
-    end(&rt, walk);
+    let _root = end(&rt, walk).close();
 }
 
 /// Four arenas: a climb that goes well takes seven steps, one that finds no room four, and what
@@ -285,5 +321,5 @@ fn four_levels(rt: HostRuntime) {
     set(&rt, &mut setup, child(&rt, "d", "c", 1, 0));
     let mut walk = begin(&rt, rt.alloc(), setup);
     run(&rt, &mut walk, &FOUR_LEVELS);
-    end(&rt, walk);
+    let _root = end(&rt, walk).close();
 }

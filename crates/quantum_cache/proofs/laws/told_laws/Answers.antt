@@ -1,6 +1,6 @@
 use Rattle.quantum_cache.proofs.AllocTellings.{alloc_tells}
 use Rattle.quantum_cache.proofs.FreeTellings.{free_tells}
-use Rattle.quantum_cache.proofs.ReapTellings.{reap_tells}
+use Rattle.quantum_cache.proofs.ReapTellings.{reap_arena_tells, reap_tells}
 use Rattle.quantum_cache.proofs.DrainTellings.{drain_tells}
 use Rattle.quantum_cache.proofs.laws.told_laws.Goals as goal
 
@@ -15,3 +15,6 @@ returns-clause-reap c = reap_tells
 
 pub returns-clause-drain : goal.returns-clause-drain
 returns-clause-drain c = drain_tells
+
+pub returns-clause-reap_arena : goal.returns-clause-reap_arena
+returns-clause-reap_arena c = reap_arena_tells
