@@ -4,3 +4,4 @@ mod Receipts
 mod Sounds
 mod Runs
 mod Lengths
+mod Ends

@@ -3,4 +3,5 @@ pub mod Kinds
 pub mod Answers
 pub mod Systems
 pub mod Hands
+pub mod Ends
 pub mod Replying

@@ -1,6 +1,6 @@
 //! The running system: each arena, slab cache, depot and the book under a lock of its own. So far
-//! its parts are here, how one CPU reaches them, requests, upkeep and the end of a CPU; how a system
-//! is made and shut comes next.
+//! its parts are here, how one CPU reaches them, requests, upkeep, the end of a CPU and that of a
+//! system; how a system is made comes next.
 //!
 //! `System` (systems) has beside the locks what is fixed at setup: the arenas and the roots that
 //! they own. Under the locks stand the parts of the stock: `ArenaPart` (arena_parts), the slab cache
@@ -11,12 +11,17 @@
 //! hand and two magazines for each quantum cache (cpu_rounds), and needs no lock. `request`
 //! (requests) answers one line by the lists of steps of `quantum_cache` (lists) and by the book's
 //! receipts (replies); `tick`, `resize` and `reap` (upkeep) keep the system in shape, and `retire`
-//! (retiring) ends a CPU.
+//! (retiring) ends a CPU. `shut` (shutting) ends a system: all that lies in its parts is placed
+//! (emptying), its roots are closed (closing), and its parts are taken from under their locks
+//! (ending).
 #![tactic(auto)]
 
 mod arena_parts;
+mod closing;
 mod cpu_rounds;
 mod cpus;
+mod emptying;
+mod ending;
 mod gates;
 mod kind_depots;
 mod kinds;
@@ -28,10 +33,12 @@ mod replies;
 mod requests;
 mod retiring;
 mod running;
+mod shutting;
 mod slab_parts;
 mod systems;
 mod upkeep;
 
 pub use cpus::Cpu;
 pub use gates::{EventName, Gate, NextStep, OpenGate, Pass, RequestStopped};
+pub use shutting::{Halted, ShutFault, Unshut};
 pub use systems::System;
