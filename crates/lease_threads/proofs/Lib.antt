@@ -5,3 +5,6 @@ mod Sounds
 mod Runs
 mod Lengths
 mod Ends
+mod Slabs
+mod Spans
+mod Wholes
