@@ -4,3 +4,7 @@ mod Receipts
 mod Sounds
 mod Runs
 mod Lengths
+mod Ends
+mod Slabs
+mod Spans
+mod Wholes

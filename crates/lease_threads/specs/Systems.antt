@@ -1,7 +1,8 @@
 -- What a contract sees of a system and of a CPU.
-use Rattle.std.specs.Prelude.{ℕ, ◌+◌, List, Option, sum_by}
+use Rattle.std.specs.Prelude.{ℕ, ◌+◌, List, Option, map, sum_by}
 use Rattle.std.specs.Option.{option_to_list}
 use Rattle.deed_core.specs.Covering.{units_tagged}
+use Rattle.deed_core.specs.Extent.{Extent}
 use Rattle.deed_core.specs.Holding.{Holding}
 use Rattle.deed_core.specs.Tag.{Tag}
 use Rattle.magazine_layer.specs.Magazines.{cache_rounds}
@@ -12,6 +13,10 @@ use Rattle.lease_threads.specs.Kinds.{KindRoundsState}
 pub record SystemState : Type 0 where
   pub arenas : List TreeArena
   pub roots : List Holding
+
+-- their ranges
+abbrev pub root_ranges : SystemState → List Extent
+root_ranges s = map (λ r. r.range) s.roots
 
 -- a CPU: its number, its hand, and its magazines
 pub record CpuState : Type 0 where

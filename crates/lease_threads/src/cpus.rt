@@ -5,12 +5,13 @@ ghost use Rattle.magazine_layer.specs.Magazines.{BothEmpty};
 ghost use Rattle.arena_tree.specs.Chains.{quantum_in};
 ghost use Rattle.arena_tree.specs.Trees.{nodes_of};
 ghost use Rattle.arena_tree.specs.declared.limits.TheConstants.{MOST_CPUS};
+ghost use Rattle.lease_threads.specs.Openings.{caches_of};
 ghost use Rattle.lease_threads.specs.Systems.{cpu_units};
 
 use crate::cpu_rounds::KindRounds;
 use crate::kinds::CacheKind;
 use crate::systems::System;
-use arena_tree::{MOST_CPUS, Tree};
+use arena_tree::{MOST_CPUS, Tree, TreeArena};
 use deed_core::Segment;
 use deed_table::{Name, SeatDeed};
 use std::alloc::{AllocError, Global};
@@ -180,9 +181,14 @@ pub(crate) fn quantum_of(tree: &Tree, arena: u32) -> u64
 /// How many quantum caches an arena has; they are numbered from 1 on.
 pub(crate) fn cache_count(tree: &Tree, arena: u32) -> u8
     requires { arena < length tree.now }
+    ensures { result ≡ caches_of tree.now arena }
 {
-    let quantum = quantum_of(tree, arena);
-    (tree.arena(arena).qcache_max / quantum).min(255) as u8
+    let TreeArena {
+        quantum,
+        qcache_max,
+        ..
+    } = *tree.arena(arena);
+    (qcache_max / quantum).min(255) as u8
 }
 
 // Ends magazines that have no round.

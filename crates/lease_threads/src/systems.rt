@@ -2,6 +2,7 @@
 ghost use Rattle.std.specs.Prelude.{◌≡◌, ◌<◌, IfSome};
 ghost use Rattle.arena_tree.specs.Chains.{quantum_in};
 ghost use Rattle.arena_tree.specs.Trees.{nodes_of};
+ghost use Rattle.lease_threads.specs.Ends.{name_in};
 
 use crate::arena_parts::ArenaPart;
 use crate::cpus::quantum_of;
@@ -10,6 +11,7 @@ use crate::kinds::CacheKind;
 use crate::marked_books::MarkedBook;
 use arena_tree::Tree;
 use deed_table::{Name, Root, SeatDeed};
+use lease_terms::Name as ArenaName;
 use slab_layer::SlabCache;
 use std::alloc::Global;
 use std::marker::Model;
@@ -62,6 +64,16 @@ impl<N: Name> System<N> {
         ensures { result.now ≡ self.now.arenas }
     {
         &self.tree
+    }
+
+    /// The name of the arena with this number.
+    pub(crate) fn name_of(&self, arena: u32) -> Option<ArenaName>
+        ensures { result ≡ name_in self.now.arenas arena }
+    {
+        if arena as usize >= self.tree.len() {
+            return None;
+        }
+        Some(self.tree.arena(arena).name)
     }
 
     /// The quantum cache of the arena with this number, if the arena stands.

@@ -1,0 +1,96 @@
+//! How the roots of a system are closed.
+ghost use Rattle.std.specs.Prelude.{◌≡◌, ◌+◌, ◌<◌, ◌≤◌, ◌++◌, [], length, None, IfOk, OnOk, IfErr, true};
+ghost use Rattle.std.specs.Prelude.{vec_len, vec_capacity};
+ghost use Rattle.lease_threads.specs.Systems.{root_ranges};
+
+use crate::cpus::Cpu;
+use crate::systems::{ArenaPlace, OwnedRoot, System};
+use deed_core::{Range, Route, Segment, insert_reserved};
+use deed_table::{Name, Root, SeatDeed, close};
+use std::sync::Wait;
+
+/// Takes the span of each root out of its arena and closes the root by its deed, in their order,
+/// and says whether that was done with all. A deed that isn't the whole root's is in the hand.
+pub(crate) fn close_roots<N: Name, R: Wait>(
+    rt: &R,
+    closed: &mut Vec<Range>,
+    system: &mut System<N>,
+    cpu: &mut Cpu<N>,
+) -> bool
+    requires room { vec_len closed.old + length system.old.roots ≤ vec_capacity closed.old }
+    requires hand { cpu.old.hand ≡ None }
+    ensures room { vec_len closed.new + length system.new.roots ≤ vec_capacity closed.new }
+    ensures arenas { system.new.arenas ≡ system.old.arenas }
+    ensures ranges { closed.new.items ++ root_ranges system.new
+        ≡ closed.old.items ++ root_ranges system.old }
+    ensures all { result ≡ true → (system.new.roots ≡ []) × (cpu.new.hand ≡ None) }
+{
+    while !system.roots.is_empty() {
+        if !close_first(rt, closed, system, cpu) {
+            return false;
+        }
+    }
+    true
+}
+
+// The same of the first root that isn't closed.
+fn close_first<N: Name, R: Wait>(
+    rt: &R,
+    closed: &mut Vec<Range>,
+    system: &mut System<N>,
+    cpu: &mut Cpu<N>,
+) -> bool
+    requires some { 0 < length system.old.roots }
+    requires room { vec_len closed.old + length system.old.roots ≤ vec_capacity closed.old }
+    requires hand { cpu.old.hand ≡ None }
+    ensures room { vec_len closed.new + length system.new.roots ≤ vec_capacity closed.new }
+    ensures arenas { system.new.arenas ≡ system.old.arenas }
+    ensures ranges { closed.new.items ++ root_ranges system.new
+        ≡ closed.old.items ++ root_ranges system.old }
+    ensures closed { result ≡ true → (cpu.new.hand ≡ None)
+        × (length system.new.roots + 1 ≡ length system.old.roots) }
+{
+    let OwnedRoot { arena, root } = system.roots.remove(0);
+    match close_root(rt, &system.places, arena, root, cpu) {
+        Ok(range) => {
+            closed.push_reserved(range);
+            true
+        }
+        Err(root) => {
+            insert_reserved(&mut system.roots, 0, OwnedRoot { arena, root });
+            false
+        }
+    }
+}
+
+// Takes the span of the root out of its arena, and closes the root by its deed.
+fn close_root<N: Name, R: Wait>(
+    rt: &R,
+    places: &[ArenaPlace<N>],
+    arena: u32,
+    root: Root<N>,
+    cpu: &mut Cpu<N>,
+) -> Result<Range, Root<N>>
+    requires hand { cpu.old.hand ≡ None }
+    ensures range { IfOk result (λ range. range ≡ root.range) }
+    ensures hand { OnOk result (cpu.new.hand ≡ None) }
+    ensures handed_back { IfErr result (λ same. same ≡ root) }
+{
+    let Some(place) = places.get(arena as usize) else {
+        return Err(root);
+    };
+    let Some(deed) = take_span(rt, place) else {
+        return Err(root);
+    };
+    match close(root, deed) {
+        Ok(range) => Ok(range),
+        Err((root, deed)) => {
+            cpu.hold(Segment::new(arena, Route::Direct, deed));
+            Err(root)
+        }
+    }
+}
+
+fn take_span<N: Name, R: Wait>(rt: &R, place: &ArenaPlace<N>) -> Option<SeatDeed<N>> {
+    place.part.lock(rt).remove_owned()
+}

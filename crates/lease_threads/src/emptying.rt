@@ -1,0 +1,70 @@
+//! What a system does with all that lies in its parts when it ends: leases are ended, depots and
+//! slabs are emptied, and what comes of them goes back to its arena and up the chain.
+ghost use Rattle.std.specs.Prelude.{◌≡◌, None, true};
+
+use crate::cpus::Cpu;
+use crate::gates::{OpenGate, Steps};
+use crate::systems::System;
+use deed_core::Segment;
+use deed_table::{Name, SeatDeed};
+use std::sync::Wait;
+
+impl<N: Name> System<N> {
+    /// Ends all leases, and empties all depots and slabs. Where a segment can't be placed it ends
+    /// there, and the segment is in the CPU's hand.
+    pub(crate) fn empty_parts<R: Wait>(&self, rt: &R, cpu: &mut Cpu<N>) -> bool
+        ensures { result ≡ true → cpu.new.hand ≡ None }
+    {
+        self.end_leases(rt, cpu) && self.reap_all(rt, cpu)
+    }
+
+    // Ends all leases, one after another, and says whether each was placed.
+    fn end_leases<R: Wait>(&self, rt: &R, cpu: &mut Cpu<N>) -> bool
+        ensures { result ≡ true → cpu.new.hand ≡ None }
+    {
+        if !self.settle_hand(rt, cpu) {
+            return false;
+        }
+        for _ in rt.forever() {
+            let Some(segment) = self.take_lease(rt) else {
+                break;
+            };
+            cpu.hold(segment);
+            if !self.settle_hand(rt, cpu) {
+                return false;
+            }
+        }
+        true
+    }
+
+    fn take_lease<R: Wait>(&self, rt: &R) -> Option<Segment<SeatDeed<N>>> {
+        self.book.lock(rt).take_lease()
+    }
+
+    // Places the hand, and says whether it is empty then.
+    fn settle_hand<R: Wait>(&self, rt: &R, cpu: &mut Cpu<N>) -> bool
+        ensures { result ≡ true → cpu.new.hand ≡ None }
+    {
+        let mut steps = Steps::new(cpu.number());
+        match self.place_hand(rt, cpu, &OpenGate, &mut steps) {
+            Ok(placed) => placed,
+            Err(_) => false,
+        }
+    }
+
+    // Empties all depots and slabs, the last arena first, and says whether each segment was placed.
+    fn reap_all<R: Wait>(&self, rt: &R, cpu: &mut Cpu<N>) -> bool
+        requires { cpu.old.hand ≡ None }
+        ensures { result ≡ true → cpu.new.hand ≡ None }
+    {
+        self.tick(rt);
+        let count = self.tree.len() as u32;
+        for below in 0..count {
+            self.reap(rt, cpu, count - 1 - below, u64::MAX);
+            if cpu.hand.is_some() {
+                return false;
+            }
+        }
+        true
+    }
+}

@@ -1,0 +1,257 @@
+//! How a system is made.
+ghost use Rattle.std.specs.Prelude.{◌≡◌, ◌+◌, ◌*◌, ◌<◌, ◌≤◌, ◌↔◌, ◌++◌, [], length, map, take};
+ghost use Rattle.std.specs.Prelude.{IsTrue, IfOk, IfErr, OnOk};
+ghost use Rattle.std.specs.Option.{option_map, option_to_list};
+ghost use Rattle.std.specs.Prelude.{vec_len, vec_capacity};
+ghost use Rattle.arena_tree.specs.declared.limits.TheConstants.{MOST_ARENAS, MOST_SPANS};
+ghost use Rattle.lease_threads.specs.Openings.{OneSpanEach, IsSystemOf, RefusesSystem, root_of};
+ghost use Rattle.lease_threads.specs.Openings.{roots_of, new_root, AreFrom};
+ghost use Rattle.lease_threads.specs.Replying.{mark_root};
+
+use crate::marked_books::{MARK, MarkedBook};
+use crate::new_arenas::NewArena;
+use crate::systems::{ArenaPlace, OwnedRoot, System};
+use arena_tree::{OwnedSpan, Setup, Tree};
+use deed_core::Range;
+use deed_table::{Ground, Name, Opener, Root};
+use lease_book::Book;
+use std::alloc::{AllocError, Global};
+use std::marker::Model;
+use std::sync::Mutex;
+
+/// Why a system isn't made. The setup comes back as it was.
+pub enum SystemFault {
+    /// An arena owns a further span.
+    Span(Setup),
+    /// Out of memory.
+    NoMemory(Setup),
+}
+
+impl<N: Name> System<N> {
+    /// The arenas of a setup, with all units free and no lease. An arena may own one span, since
+    /// the roots stand beside the locks. The ground is used up, also where no system is made.
+    pub fn new(alloc: Global, ground: Ground, setup: Setup) -> Result<System<N>, SystemFault>
+        requires { ground ≡ N.table }
+        ensures made { IfOk result (IsSystemOf setup) }
+        ensures refused { IfErr result (RefusesSystem setup) }
+    {
+        if !are_one_each(setup.spans()) {
+            return Err(SystemFault::Span(setup));
+        }
+        let Ok(room) = Room::new(alloc, setup.tree().len()) else {
+            return Err(SystemFault::NoMemory(setup));
+        };
+        match open_all(alloc, &setup, ground.start()) {
+            Ok((made, book)) => Ok(room.fill(alloc, setup.into_tree(), made, book)),
+            Err(AllocError) => {
+                room.end();
+                Err(SystemFault::NoMemory(setup))
+            }
+        }
+    }
+}
+
+// Whether the spans stand in order of their arenas, one each.
+fn are_one_each(spans: &[OwnedSpan]) -> bool
+    ensures { IsTrue result ↔ OneSpanEach spans.now }
+{
+    spans.is_sorted_by(|a, b| a.arena < b.arena)
+}
+
+// The next span, where the arena owns it; the index is then on the one after it. No span before the
+// index is of this arena or of a later one.
+fn next_span(spans: &[OwnedSpan], index: &mut usize, arena: u32) -> Option<Range>
+    requires one { OneSpanEach spans.now }
+    requires within { index.old ≤ length spans.now }
+    requires from { AreFrom arena index.old spans.now }
+    ensures within { index.new ≤ length spans.now }
+    ensures from { AreFrom (arena + 1) index.new spans.now }
+    ensures taken { map root_of (take index.new spans.now)
+        ≡ map root_of (take index.old spans.now)
+        ++ option_to_list (option_map (new_root arena) result) }
+{
+    let span = spans.get(*index)?;
+    if span.arena != arena {
+        return None;
+    }
+    *index += 1;
+    Some(span.range)
+}
+
+// Opens the arenas, each with the span that it owns, and the book.
+fn open_all<N: Name>(
+    alloc: Global,
+    setup: &Setup,
+    mut rest: Opener<N>,
+) -> Result<(Vec<NewArena<N>>, MarkedBook<N>), AllocError>
+    requires one { OneSpanEach setup.now.spans }
+    requires all { (rest.first ≡ 0) × (mark_root < rest.left) }
+    ensures count { IfOk result (λ r. vec_len r.0 ≡ length setup.now.arenas) }
+    ensures roots { IfOk result (λ r. roots_of r.0.items ≡ map root_of setup.now.spans) }
+{
+    let mut numbers = rest.share(u64::from(MARK))?;
+    let mut made = Vec::with_capacity(alloc, setup.tree().len())?;
+    if open_each(alloc, setup, &mut numbers, &mut made).is_err() {
+        end_all(made);
+        return Err(AllocError);
+    }
+    match open_book(alloc, &mut rest) {
+        Ok(book) => Ok((made, book)),
+        Err(refused) => {
+            end_all(made);
+            Err(refused)
+        }
+    }
+}
+
+// Opens each arena. The spans stand in order of their arenas.
+fn open_each<N: Name>(
+    alloc: Global,
+    setup: &Setup,
+    numbers: &mut Opener<N>,
+    made: &mut Vec<NewArena<N>>,
+) -> Result<(), AllocError>
+    requires one { OneSpanEach setup.now.spans }
+    requires none { made.old.items ≡ [] }
+    requires room { length setup.now.arenas ≤ vec_capacity made.old }
+    requires numbers { (numbers.old.first ≡ 0) × (MOST_ARENAS * MOST_SPANS ≤ numbers.old.left) }
+    ensures count { OnOk result (vec_len made.new ≡ length setup.now.arenas) }
+    ensures roots { OnOk result (roots_of made.new.items ≡ map root_of setup.now.spans) }
+{
+    let mut index = 0;
+    for id in 0..setup.tree().len() as u32 {
+        let span = next_span(setup.spans(), &mut index, id);
+        let opened = NewArena::open(alloc, setup.tree(), id, span, numbers)?;
+        made.push_reserved(opened);
+    }
+    Ok(())
+}
+
+// Ends what was opened.
+fn end_all<N: Name>(mut made: Vec<NewArena<N>>) {
+    while let Some(arena) = made.pop() {
+        arena.end();
+    }
+    made.destroy_empty();
+}
+
+// The book, with a mark of its own.
+fn open_book<N: Name>(alloc: Global, rest: &mut Opener<N>) -> Result<MarkedBook<N>, AllocError>
+    requires { (rest.old.first ≡ mark_root) × (0 < rest.old.left) }
+{
+    let (mark, deed) = rest.open_root(Range::new(0, 1).unwrap())?;
+    Ok(MarkedBook {
+        book: Book::new(alloc, deed),
+        mark,
+    })
+}
+
+// Room for so many arenas of a system and for a root of each.
+struct Room<N: Name> {
+    count: usize,
+    places: Vec<ArenaPlace<N>>,
+    roots: Vec<OwnedRoot<N>>,
+}
+
+impl<N: Name> Model for Room<N> {
+    ghost use Rattle.std.specs.Prelude.{◌≡◌, ◌≤◌, ℕ, vec_len, vec_capacity};
+
+    ghost Value = { ℕ };
+
+    ghost view = { λ r. r.count };
+
+    ghost invariant = { λ r. (vec_len r.places ≡ 0) × (vec_len r.roots ≡ 0)
+        × (r.count ≤ vec_capacity r.places) × (r.count ≤ vec_capacity r.roots) };
+}
+
+impl<N: Name> Room<N> {
+    fn new(alloc: Global, count: usize) -> Result<Room<N>, AllocError>
+        ensures { IfOk result (λ room. room ≡ count) }
+    {
+        let places = Vec::with_capacity(alloc, count)?;
+        let Ok(roots) = Vec::with_capacity(alloc, count) else {
+            places.destroy_empty();
+            return Err(AllocError);
+        };
+        Ok(Room {
+            count,
+            places,
+            roots,
+        })
+    }
+
+    // The system of these arenas, with this book.
+    fn fill(
+        self,
+        alloc: Global,
+        tree: Tree,
+        made: Vec<NewArena<N>>,
+        book: MarkedBook<N>,
+    ) -> System<N>
+        requires { vec_len made ≤ self }
+        ensures arenas { result.arenas ≡ tree }
+        ensures roots { result.roots ≡ roots_of made.items }
+    {
+        let Room {
+            count: _,
+            mut places,
+            mut roots,
+        } = self;
+        lock_all(made, &mut places, &mut roots);
+        System {
+            alloc,
+            tree,
+            roots,
+            places,
+            book: Mutex::new(book),
+        }
+    }
+
+    fn end(self) {
+        let Room {
+            count: _,
+            places,
+            roots,
+        } = self;
+        places.destroy_empty();
+        roots.destroy_empty();
+    }
+}
+
+// Puts each arena under its lock, and its root beside it.
+fn lock_all<N: Name>(
+    mut made: Vec<NewArena<N>>,
+    places: &mut Vec<ArenaPlace<N>>,
+    roots: &mut Vec<OwnedRoot<N>>,
+)
+    requires places { vec_len places.old + vec_len made ≤ vec_capacity places.old }
+    requires roots { vec_len roots.old + vec_len made ≤ vec_capacity roots.old }
+    ensures { map (λ r. r.root) roots.new.items
+        ≡ map (λ r. r.root) roots.old.items ++ roots_of made.items }
+{
+    let mut before: usize = 0;
+    let mut arena: u32 = 0;
+    while !made.is_empty() {
+        let opened = made.remove(0);
+        let count = opened.cache_count();
+        let (place, root) = opened.lock(before);
+        places.push_reserved(place);
+        push_root(roots, arena, root);
+        before = before.saturating_add(count);
+        arena = arena.saturating_add(1);
+    }
+    made.destroy_empty();
+}
+
+// Adds the root, if there is one.
+fn push_root<N: Name>(roots: &mut Vec<OwnedRoot<N>>, arena: u32, root: Option<Root<N>>)
+    requires { vec_len roots.old < vec_capacity roots.old }
+    ensures roots { map (λ r. r.root) roots.new.items
+        ≡ map (λ r. r.root) roots.old.items ++ option_to_list root }
+    ensures len { vec_len roots.new ≤ vec_len roots.old + 1 }
+    ensures room { vec_capacity roots.new ≡ vec_capacity roots.old }
+{
+    if let Some(root) = root {
+        roots.push_reserved(OwnedRoot { arena, root });
+    }
+}
