@@ -5,7 +5,7 @@ use Rattle.std.proofs.lemmas.List.{length-map}
 use Rattle.std.proofs.lemmas.Option.{slice_get_within}
 use Rattle.deed_core.proofs.LawProofs.{slice_get_one, slice_get_some, slice_get_mapped}
 use Rattle.stock.specs.Spaces.{SpaceState, SpacePlan, slab_size_of, plan_of, plans_of, quantum_of}
-use Rattle.stock.specs.Laws.{SourceStandsBefore, IsSetUpAs, PlansStay, CachesStay}
+use Rattle.stock.specs.Laws.{SourceStandsBefore, IsSetUpAlike, PlansStay, CachesStay}
 use Rattle.stock.proofs.CacheSteps.{number_within, has_cache}
 
 pub source_stands_before : SourceStandsBefore
@@ -15,7 +15,7 @@ source_stands_before spaces stock k p s at from =
     let y = slice_get_some spaces p (omega (arith, lt, slice_get_within spaces k s at)) in
     (lt, (y.0, y.1, is.nests p (quantum_of y.0) from (slice_get_mapped quantum_of spaces p y.0 y.1)))
 
-set_up_as : (old new : List SpaceState) → plans_of new ≡ plans_of old → (k : ℕ) (s t : SpaceState) → slice_get old k ≡ Some s → slice_get new k ≡ Some t → IsSetUpAs s t
+set_up_as : (old new : List SpaceState) → plans_of new ≡ plans_of old → (k : ℕ) (s t : SpaceState) → slice_get old k ≡ Some s → slice_get new k ≡ Some t → IsSetUpAlike s t
 set_up_as old new same k s t at there =
     let mine = slice_get_mapped plan_of old k s at in
     let its = ap (λ (ps : List SpacePlan). slice_get ps k) (sym same) ∙ slice_get_mapped plan_of new k t there in

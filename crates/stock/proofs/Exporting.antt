@@ -13,7 +13,7 @@ use Rattle.deed_core.specs.Tag.{Tag}
 use Rattle.deed_core.specs.Covering.{covers_tag}
 use Rattle.deed_core.specs.Weights.{of_direct, of_arena, one_at}
 use Rattle.deed_core.specs.declared.segments.Route.TheVariants.{Direct}
-use Rattle.deed_core.proofs.LawProofs.{contains_at, overlap_covers_twice, counts_where_it_is, one_at_itself, sum_some, sum_at, sum_none, part_of_sum, contained_in_sum, mapped_contains, contains_mapped, slice_get_mapped}
+use Rattle.deed_core.proofs.LawProofs.{contains_at, overlap_covers_twice, counts_where_it_is, one_at_itself, sum_some, sum_at, sum_none, part_of_sum, contained_in_sum, mapped_contains, contains_mapped, slice_get_mapped, slice_get_one}
 use Rattle.tag_arena.specs.ArenaState.{ArenaState, spans_of, ranges_of, tags_of, direct, OnQuantum}
 use Rattle.tag_arena.proofs.LawProofs.{allocated_stand, tags_weigh, spans_once}
 use Rattle.slab_layer.specs.Slab.{SlabState}
@@ -111,6 +111,12 @@ module _ (spaces : List SpaceState) (stock : IsStock spaces) where
 
     pub out_tagged : IsTaggedIn spaces t
     out_tagged = (let one = one_at_itself t in tagged_by t (omega (arith, one, beside (one_at t))))
+
+    -- it is on its arena's grid
+    pub on_grid_of : (s : SpaceState) → slice_get spaces t.arena ≡ Some s → t.holding.range.base % s.arena.quantum ≡ 0
+    on_grid_of s at =
+        let in_t = out_tagged in
+        subst (λ (x : SpaceState). t.holding.range.base % x.arena.quantum ≡ 0) (slice_get_one spaces t.arena in_t.space s in_t.at at) (tagged_grid t in_t).1.0
 
     -- no unit of it is in another segment that weighs beside it
     apart_from : (x : Tag) → x.arena ≡ t.arena → 0 < x.holding.range.len → ((f : Tag → ℕ) → f t + f x ≤ sum_by (allocated f) spaces) → ¬ Overlap x.holding.range t.holding.range

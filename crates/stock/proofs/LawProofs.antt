@@ -1,7 +1,7 @@
 -- What the proofs of the crates above cite, and all that they cite, of this crate: the laws that its
 -- law functions state.
-use Rattle.stock.specs.Laws.{AlwaysTagged, AlwaysOut, AlwaysImports, AlwaysSlab, ArenaWeighs, AllocatedOfArena}
-use Rattle.stock.proofs.Exporting.{arena_here, arena_there, allocated_of, out_tagged, clear_for_child, aligned_for_child, clear_of_slabs}
+use Rattle.stock.specs.Laws.{AlwaysTagged, AlwaysOut, AlwaysImports, AlwaysSlab, AlwaysOnGrid, ArenaWeighs, AllocatedOfArena}
+use Rattle.stock.proofs.Exporting.{arena_here, arena_there, allocated_of, out_tagged, clear_for_child, aligned_for_child, clear_of_slabs, on_grid_of}
 use Rattle.stock.proofs.SlabCalls as chunks
 pub use Rattle.stock.proofs.OnePlaces.{one_place, adds_up}
 pub use Rattle.stock.proofs.Apart.{out_is_apart}
@@ -21,6 +21,9 @@ always_imports spaces span rest accounted route k s at source =
 
 pub always_slab : AlwaysSlab
 always_slab spaces span rest accounted route j c there = clear_of_slabs spaces accounted.stock span rest route accounted.accounts there.space j c there.at there.among
+
+pub always_on_grid : AlwaysOnGrid
+always_on_grid spaces span rest accounted route s at = on_grid_of spaces accounted.stock span rest route accounted.accounts s at
 
 pub arena_weighs : ArenaWeighs
 arena_weighs p f t = (arena_here p f t, arena_there p f t)

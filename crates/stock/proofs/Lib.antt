@@ -17,4 +17,7 @@ mod Planning
 mod Ending
 mod Chains
 mod Homeward
+mod Lasting
+mod Owning
+mod Numbering
 pub mod LawProofs

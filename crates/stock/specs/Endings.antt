@@ -1,5 +1,7 @@
 -- When a stock ends, and what is so of one that was reaped.
-use Rattle.std.specs.Prelude.{◌≡◌, ◌⊎◌, ℕ, ◌<◌, List, [], ◌∷◌, All, Contains, Result, Ok, Err}
+use Rattle.std.specs.Prelude.{◌≡◌, ◌⊎◌, ℕ, ◌<◌, List, [], ◌∷◌, All, Contains, map, Result, Ok}
+use Rattle.std.specs.Prelude.{Err}
+use Rattle.deed_core.specs.Holding.{Holding}
 use Rattle.deed_core.specs.Tag.{Tag}
 use Rattle.tag_arena.specs.ArenaState.{spans_of}
 use Rattle.slab_layer.specs.Slab.{IsComplete}
@@ -72,6 +74,21 @@ DepotsStay old new = (i n : ℕ) (c : QuantumCacheState) → IsCacheAt new i n c
 abbrev pub AllCachesStay : List SpaceState → List SpaceState → Type 0
 AllCachesStay old new = (i n : ℕ) (c : QuantumCacheState) → IsCacheAt new i n c
     → IsCacheAt old i n c
+
+-- what stays of an arena whatever is reaped: its owned spans, and how many rounds the magazines of
+-- its depots take
+pub record Lasting : Type 0 where
+  pub owned : List Holding
+  pub sizes : List ℕ
+
+abbrev pub depot_size_of : QuantumCacheState → ℕ
+depot_size_of c = c.depot.size
+
+abbrev pub lasting_of : SpaceState → Lasting
+lasting_of s = record { owned = s.arena.owned; sizes = map depot_size_of s.caches }
+
+abbrev pub lastings_of : List SpaceState → List Lasting
+lastings_of spaces = map lasting_of spaces
 
 -- what is left in the hand where a part refused it
 abbrev pub hand_after_reap : Result (Unit {0}) Tag → List Tag

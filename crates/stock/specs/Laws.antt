@@ -13,7 +13,7 @@ use Rattle.magazine_layer.specs.Magazines.{CpuCacheState, cache_rounds}
 use Rattle.stock.specs.Spaces.{SpaceState, QuantumCacheState, IsCacheAt, HasCache, plans_of}
 use Rattle.stock.specs.Stocks.{IsStock}
 use Rattle.stock.specs.Accounts.{Accounts, IsAccounted, Frames, allocated}
-use Rattle.stock.specs.Steps.{IsTaggedIn, IsOutOf}
+use Rattle.stock.specs.Steps.{IsTaggedIn, IsOutOf, IsOnGridOf}
 use Rattle.stock.specs.Sums.{Out, all_out, places_of, all_places, total, lengths_of}
 
 -- each unit of an arena's spans is in one place, and no other unit in any
@@ -53,6 +53,11 @@ abbrev pub AlwaysSlab : Type 0
 AlwaysSlab = (spaces : List SpaceState) (span : Tag) (rest : List Tag)
     → IsAccounted spaces (span ∷ rest) → span.route ≡ Direct
     → (j : ℕ) (c : QuantumCacheState) → IsCacheAt spaces span.arena j c → ¬ OverlapsSlab span c.slab
+
+-- and begins on its arena's grid, as the span of a slab has to
+abbrev pub AlwaysOnGrid : Type 0
+AlwaysOnGrid = (spaces : List SpaceState) (span : Tag) (rest : List Tag)
+    → IsAccounted spaces (span ∷ rest) → span.route ≡ Direct → IsOnGridOf spaces span.arena span
 
 -- the arena at the top of the chain of sources from the arena at the place
 pub data HasTop (spaces : List SpaceState) : ℕ → ℕ → Type 0 where
@@ -105,7 +110,7 @@ SourceStandsBefore = (spaces : List SpaceState) → IsStock spaces → (k p : �
     × (slice_get spaces p ≡ Some y) × (y.arena.quantum % s.arena.quantum ≡ 0))
 
 -- the two are set up alike
-pub record IsSetUpAs (s t : SpaceState) : Type 0 where
+pub record IsSetUpAlike (s t : SpaceState) : Type 0 where
   pub source : t.source ≡ s.source
   pub quantum : t.arena.quantum ≡ s.arena.quantum
   pub policy : t.arena.policy ≡ s.arena.policy
@@ -115,7 +120,7 @@ pub record IsSetUpAs (s t : SpaceState) : Type 0 where
 abbrev pub PlansStay : Type 0
 PlansStay = (old new : List SpaceState) → plans_of new ≡ plans_of old → (length new ≡ length old)
     × ((k : ℕ) (s t : SpaceState) → slice_get old k ≡ Some s → slice_get new k ≡ Some t
-    → IsSetUpAs s t)
+    → IsSetUpAlike s t)
 
 -- so each cache still stands
 abbrev pub CachesStay : Type 0

@@ -8,3 +8,4 @@ pub mod Sums
 pub mod Laws
 pub mod Endings
 pub mod Setups
+pub mod Owning

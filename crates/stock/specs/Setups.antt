@@ -1,9 +1,15 @@
--- What a stock is set up as by the arenas of a tree.
-use Rattle.std.specs.Prelude.{◌≡◌, ℕ, ◌/◌, List, [], All, map, replicate}
-use Rattle.tag_arena.specs.ArenaState.{empty_arena}
+-- What a stock is set up as by a setup: the arenas of its tree, and the spans that its roots own.
+use Rattle.std.specs.Prelude.{◌≡◌, ℕ, ◌+◌, ◌/◌, ◌==◌, if◌then◌else◌, List, [], ◌∷◌, All, map, replicate}
+use Rattle.std.specs.Prelude.{slice_get, Some}
+use Rattle.std.specs.FinMap as finmap
+use Rattle.deed_core.specs.Holding.{Holding}
+use Rattle.tag_arena.specs.declared.policies.Policy.{Policy}
+use Rattle.tag_arena.specs.ArenaState.{ArenaState, empty_arena}
 use Rattle.magazine_layer.specs.Depots.{new_depot}
 use Rattle.arena_tree.specs.declared.trees.TreeArena.{TreeArena}
-use Rattle.stock.specs.Spaces.{SpaceState, QuantumCacheState, SpacePlan}
+use Rattle.arena_tree.specs.declared.setups.OwnedSpan.{OwnedSpan}
+use Rattle.arena_tree.specs.Settings.{SetupState}
+use Rattle.stock.specs.Spaces.{SpaceState, QuantumCacheState, SpacePlan, plans_of}
 
 -- what an arena of a tree is set up as: it has a cache for each multiple of its quantum up to the
 -- greatest cached size, each with slabs of its one slab size
@@ -29,3 +35,47 @@ pub record IsNewCache (rounds : ℕ) (c : QuantumCacheState) : Type 0 where
 pub record IsNewSpace (rounds : ℕ) (s : SpaceState) : Type 0 where
   pub arena : s.arena ≡ empty_arena s.arena.id s.arena.quantum s.arena.policy
   pub caches : All (IsNewCache rounds) s.caches
+
+-- there is one deed for each owned span, of its range and in its order
+abbrev pub AreDeedsOf : List OwnedSpan → List Holding → Type 0
+AreDeedsOf spans deeds = map (λ h. h.range) deeds ≡ map (λ o. o.range) spans
+
+-- a deed for each span, each of a root of its own, the numbers from this one on
+abbrev pub numbered_deeds : ℕ → List OwnedSpan → List Holding
+numbered_deeds root [] = []
+numbered_deeds root (o ∷ spans) =
+    record { root = root; range = o.range } ∷ numbered_deeds (root + 1) spans
+
+-- those of the deeds whose spans are this arena's
+abbrev pub deeds_owned : ℕ → List OwnedSpan → List Holding → List Holding
+deeds_owned arena [] deeds = []
+deeds_owned arena (o ∷ spans) [] = []
+deeds_owned arena (o ∷ spans) (h ∷ deeds) = if o.arena == arena
+    then h ∷ deeds_owned arena spans deeds else deeds_owned arena spans deeds
+
+-- an arena that owns these spans, each wholly free, and has imported and carved nothing
+abbrev pub unused_arena : ℕ → ℕ → Policy → List Holding → ArenaState
+unused_arena id quantum policy spans = record {
+  id = id;
+  quantum = quantum;
+  policy = policy;
+  owned = spans;
+  imported = [];
+  free = spans;
+  allocated = finmap.empty;
+  rover = 0;
+}
+
+-- the arena of this number owns these spans, all of them free, and its caches have nothing
+pub record IsUnused (rounds id : ℕ) (spans : List Holding) (s : SpaceState) : Type 0 where
+  pub arena : s.arena ≡ unused_arena id s.arena.quantum s.arena.policy spans
+  pub caches : All (IsNewCache rounds) s.caches
+
+-- the stock has the arenas of the setup in their order, each with its source, quantum, policy and
+-- caches, and owning just the setup's spans of that arena, each once and whole, as these deeds; no
+-- unit of them was carved yet, and no slab or magazine is there
+pub record IsSetUpFrom (setup : SetupState) (deeds : List Holding) (rounds : ℕ)
+    (spaces : List SpaceState) : Type 0 where
+  pub plans : plans_of spaces ≡ plans_for setup.arenas
+  pub unused : (k : ℕ) (s : SpaceState) → slice_get spaces k ≡ Some s
+      → IsUnused rounds k (deeds_owned k setup.spans deeds) s

@@ -1,7 +1,7 @@
 //! What follows from the accounts of a stock. The functions do nothing: their contracts are the
 //! laws, and proofs/LawProofs.antt has them for the proofs of the crates above.
 ghost use Rattle.stock.specs.Laws.{IsInOnePlace, AddsUp, AlwaysTagged, AlwaysOut, AlwaysImports};
-ghost use Rattle.stock.specs.Laws.{AlwaysSlab, OutIsApart, OutWeighs, FramesThen};
+ghost use Rattle.stock.specs.Laws.{AlwaysSlab, AlwaysOnGrid, OutIsApart, OutWeighs, FramesThen};
 ghost use Rattle.stock.specs.Laws.{SourceStandsBefore, PlansStay, CachesStay};
 ghost use Rattle.stock.specs.Laws.{ArenaWeighs, AllocatedOfArena};
 ghost use Rattle.stock.specs.Endings.{EndsOnceReaped, EndsWithNothingOut};
@@ -20,6 +20,7 @@ pub fn never_refused_laws()
     ensures out { AlwaysOut }
     ensures imports { AlwaysImports }
     ensures slab { AlwaysSlab }
+    ensures grid { AlwaysOnGrid }
 {}
 
 /// No two segments that are out overlap, up the whole chain of sources.

@@ -9,6 +9,7 @@ ghost use Rattle.stock.specs.Accounts.{Accounts, Frames};
 ghost use Rattle.stock.specs.Steps.{IsRoundIn};
 ghost use Rattle.stock.specs.Endings.{IsReaped, IsReapedAt, IsReapedCache, hand_after_reap};
 ghost use Rattle.stock.specs.Endings.{OthersStay, OtherArenasStay, DepotsStay, AllCachesStay};
+ghost use Rattle.stock.specs.Endings.{lastings_of};
 
 use crate::stocks::Stock;
 use deed_core::{Deed, Route, Segment};
@@ -22,6 +23,7 @@ impl<D: Deed> Stock<D> {
         ensures reaped { OnOk result (All IsReaped self.new) }
         ensures frame { Frames self.old [] self.new (hand_after_reap result) }
         ensures fixed { plans_of self.new ≡ plans_of self.old }
+        ensures lasts { lastings_of self.new ≡ lastings_of self.old }
         ensures never { (rest : List Tag) → Accounts self.old rest → IsOk result }
     {
         for arena in 0..self.count() {
@@ -37,6 +39,7 @@ impl<D: Deed> Stock<D> {
         ensures others { OtherArenasStay arena self.old self.new }
         ensures frame { Frames self.old [] self.new (hand_after_reap result) }
         ensures fixed { plans_of self.new ≡ plans_of self.old }
+        ensures lasts { lastings_of self.new ≡ lastings_of self.old }
         ensures never { (rest : List Tag) → Accounts self.old rest → IsOk result }
     {
         for cache in 0..self.caches(arena) {
@@ -52,6 +55,7 @@ impl<D: Deed> Stock<D> {
         ensures others { OthersStay arena cache self.old self.new }
         ensures frame { Frames self.old [] self.new (hand_after_reap result) }
         ensures fixed { plans_of self.new ≡ plans_of self.old }
+        ensures lasts { lastings_of self.new ≡ lastings_of self.old }
         ensures never { (rest : List Tag) → Accounts self.old rest → IsOk result }
     {
         self.empty_depot(arena, cache)?;
@@ -66,6 +70,7 @@ impl<D: Deed> Stock<D> {
         ensures others { OthersStay arena cache self.old self.new }
         ensures frame { Frames self.old [] self.new (hand_after_reap result) }
         ensures fixed { plans_of self.new ≡ plans_of self.old }
+        ensures lasts { lastings_of self.new ≡ lastings_of self.old }
         ensures never { (rest : List Tag) → Accounts self.old rest → IsOk result }
     {
         self.tick(arena, cache);
@@ -83,6 +88,7 @@ impl<D: Deed> Stock<D> {
         ensures depots { DepotsStay self.old self.new }
         ensures frame { Frames self.old (round ∷ []) self.new (hand_after_reap result) }
         ensures fixed { plans_of self.new ≡ plans_of self.old }
+        ensures lasts { lastings_of self.new ≡ lastings_of self.old }
         ensures never { (rest : List Tag) → Accounts self.old (round ∷ rest) → IsOk result }
     {
         match self.slab_put(round) {
@@ -101,6 +107,7 @@ impl<D: Deed> Stock<D> {
         ensures depots { DepotsStay self.old self.new }
         ensures frame { Frames self.old [] self.new (hand_after_reap result) }
         ensures fixed { plans_of self.new ≡ plans_of self.old }
+        ensures lasts { lastings_of self.new ≡ lastings_of self.old }
         ensures never { (rest : List Tag) → Accounts self.old rest → IsOk result }
     {
         while let Some(span) = self.slab_reap(arena, cache) {
@@ -114,6 +121,7 @@ impl<D: Deed> Stock<D> {
         ensures caches { AllCachesStay self.old self.new }
         ensures frame { Frames self.old (segment ∷ []) self.new (hand_after_reap result) }
         ensures fixed { plans_of self.new ≡ plans_of self.old }
+        ensures lasts { lastings_of self.new ≡ lastings_of self.old }
         ensures never { segment.route ≡ Route.Direct → (rest : List Tag)
             → Accounts self.old (segment ∷ rest) → IsOk result }
     {

@@ -1,6 +1,7 @@
-//! The stock. What grows one is called by `StockSetup` alone.
-ghost use Rattle.std.specs.Prelude.{◌≡◌, ◌+◌, ◌^◌, ◌<◌, [], ◌∷◌, ◌++◌, length, slice_get, None};
-ghost use Rattle.std.specs.Prelude.{OnOk, OnErr};
+//! The stock. What grows one is called by `setups` alone.
+ghost use Rattle.std.specs.Prelude.{◌≡◌, ◌+◌, ◌^◌, ◌<◌, [], ◌∷◌, ◌++◌, length, slice_get, Some, None};
+ghost use Rattle.std.specs.Prelude.{OnOk, OnErr, IfSome};
+ghost use Rattle.deed_core.specs.Weights.{Loses};
 ghost use Rattle.std.specs.Int.{IsPowerOfTwo};
 ghost use Rattle.magazine_layer.specs.Magazines.{IsSize};
 ghost use Rattle.std.specs.Option.{option_map};
@@ -111,6 +112,9 @@ impl<D: Deed> Stock<D> {
         requires within { arena < length self.old }
         ensures removed { OnArena arena (λ a b. RemoveOf a (option_map D.holding result) b)
             self.old self.new }
+        ensures loses { IfSome result (λ deed. (s t : SpaceState)
+            → slice_get self.old arena ≡ Some s → slice_get self.new arena ≡ Some t
+            → Loses s.arena.owned t.arena.owned (D.holding deed)) }
         ensures frame { Frames self.old [] self.new [] }
         ensures fixed { plans_of self.new ≡ plans_of self.old }
     {

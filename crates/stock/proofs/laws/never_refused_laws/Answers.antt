@@ -12,3 +12,6 @@ returns-clause-imports c = laws.always_imports
 
 pub returns-clause-slab : goal.returns-clause-slab
 returns-clause-slab c = laws.always_slab
+
+pub returns-clause-grid : goal.returns-clause-grid
+returns-clause-grid c = laws.always_on_grid

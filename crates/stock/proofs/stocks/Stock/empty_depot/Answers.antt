@@ -3,6 +3,7 @@ use Rattle.magazine_layer.specs.Depots.{after_tick}
 use Rattle.magazine_layer.specs.Calls.{DepotReapOf}
 use Rattle.stock.proofs.Chains.{caches_stay}
 use Rattle.stock.proofs.Homeward.{others_then, depot_others, depot_done, depot_may, depot_smaller, tick_may, round_there}
+use Rattle.stock.proofs.Lasting.{lasts_on_tick, lasts_on_reap}
 use Rattle.stock.proofs.stocks.Stock.empty_depot.Goals as goal
 
 pub loop-round-init : goal.loop-round-init
@@ -11,6 +12,7 @@ loop-round-init g c = record {
   others = depot_others c.args.self.now c.tick.new.self c.args.arena c.args.cache (λ a b. b ≡ after_tick a) c.tick.ensures.ticked;
   frame = c.tick.ensures.frame;
   fixed = c.tick.ensures.fixed;
+  lasts = lasts_on_tick c.args.self.now c.tick.new.self c.args.arena c.args.cache c.tick.ensures.ticked;
 }
 
 pub depot_reap-requires : goal.depot_reap-requires
@@ -35,6 +37,7 @@ loop-round-preserved g c =
       others = others_then c.args.arena c.args.cache c.args.self.now c.depot_reap.new.self c.put_home.new.self (others_then c.args.arena c.args.cache c.args.self.now c.loop-round.self c.depot_reap.new.self i.others (depot_others c.loop-round.self c.depot_reap.new.self c.args.arena c.args.cache (λ a b. DepotReapOf a (Some c.in-Some.round) b) c.in-Some.ensures.reaped)) c.put_home.ensures.others;
       frame = λ rest a. c.in_ok-put_home.ensures.frame rest (c.in-Some.ensures.frame rest (i.frame rest a));
       fixed = c.put_home.ensures.fixed ∙ c.depot_reap.ensures.fixed ∙ i.fixed;
+      lasts = c.put_home.ensures.lasts ∙ lasts_on_reap c.loop-round.self c.depot_reap.new.self c.args.arena c.args.cache (Some c.in-Some.round) c.in-Some.ensures.reaped ∙ i.lasts;
     }
 
 pub returns-in_err-put_home-clause-others : goal.returns-in_err-put_home-clause-others
@@ -45,3 +48,9 @@ returns-clause-emptied g c = depot_done c.loop-round.self c.depot_reap.new.self 
 
 pub returns-clause-others : goal.returns-clause-others
 returns-clause-others g c = others_then c.args.arena c.args.cache c.args.self.now c.loop-round.self c.depot_reap.new.self c.loop-round.invariant.others (depot_others c.loop-round.self c.depot_reap.new.self c.args.arena c.args.cache (λ a b. DepotReapOf a None b) c.in_default.ensures.reaped)
+
+pub returns-in_err-put_home-clause-lasts : goal.returns-in_err-put_home-clause-lasts
+returns-in_err-put_home-clause-lasts g c = c.put_home.ensures.lasts ∙ lasts_on_reap c.loop-round.self c.depot_reap.new.self c.args.arena c.args.cache (Some c.in-Some.round) c.in-Some.ensures.reaped ∙ c.loop-round.invariant.lasts
+
+pub returns-clause-lasts : goal.returns-clause-lasts
+returns-clause-lasts g c = lasts_on_reap c.loop-round.self c.depot_reap.new.self c.args.arena c.args.cache None c.in_default.ensures.reaped ∙ c.loop-round.invariant.lasts

@@ -3,7 +3,7 @@ use Rattle.std.specs.Option.{option_to_list}
 use Rattle.deed_core.specs.declared.segments.Route.TheVariants.{Direct}
 use Rattle.stock.specs.Spaces.{plans_of}
 use Rattle.stock.specs.Accounts.{Frames}
-use Rattle.stock.specs.Endings.{AllCachesStay}
+use Rattle.stock.specs.Endings.{AllCachesStay, lastings_of}
 use Rattle.stock.proofs.Homeward.{height}
 use Rattle.stock.proofs.stocks.Stock.free_up.Given as goal
 
@@ -12,6 +12,7 @@ invariant-loop-left g l = record {
   caches : AllCachesStay l.fn.self l.self;
   frame : Frames l.fn.self (l.fn.segment ∷ []) l.self (option_to_list l.left);
   fixed : plans_of l.self ≡ plans_of l.fn.self;
+  lasts : lastings_of l.self ≡ lastings_of l.fn.self;
   direct : IfSome l.left (λ t. t.route ≡ Direct);
 }
 

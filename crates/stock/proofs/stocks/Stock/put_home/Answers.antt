@@ -1,5 +1,6 @@
 use Rattle.std.proofs.Common.{◌+◌}
 use Rattle.stock.proofs.Homeward.{put_others, put_depots}
+use Rattle.stock.proofs.Lasting.{lasts_on_put}
 use Rattle.stock.proofs.stocks.Stock.put_home.Goals as goal
 
 pub returns-in-Ok-clause-others : goal.returns-in-Ok-clause-others
@@ -29,3 +30,12 @@ pub returns-in-Err-AtHome-clause-never : goal.returns-in-Err-AtHome-clause-never
 returns-in-Err-AtHome-clause-never g c rest a =
     let route = (c.requires.chunk c.requires.has.1.space c.requires.has.1.at).by in
     c.in-Err-AtHome.ensures.never (c.args.cache + 1) route rest a
+
+pub returns-in-Ok-clause-lasts : goal.returns-in-Ok-clause-lasts
+returns-in-Ok-clause-lasts g c = lasts_on_put c.args.self.now c.slab_put.new.self c.args.round c.slab_put.result c.slab_put.ensures.put
+
+pub returns-in-Err-NotMine-clause-lasts : goal.returns-in-Err-NotMine-clause-lasts
+returns-in-Err-NotMine-clause-lasts g c = lasts_on_put c.args.self.now c.slab_put.new.self c.args.round c.slab_put.result c.slab_put.ensures.put
+
+pub returns-in-Err-AtHome-clause-lasts : goal.returns-in-Err-AtHome-clause-lasts
+returns-in-Err-AtHome-clause-lasts g c = lasts_on_put c.args.self.now c.slab_put.new.self c.args.round c.slab_put.result c.slab_put.ensures.put

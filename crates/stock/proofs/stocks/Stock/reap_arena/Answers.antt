@@ -3,7 +3,7 @@ use Rattle.stock.proofs.Homeward.{has_there, reaped_more, reaped_each, arenas_th
 use Rattle.stock.proofs.stocks.Stock.reap_arena.Goals as goal
 
 pub loop-cache-init : goal.loop-cache-init
-loop-cache-init g c = record { reaped = λ j lt. absurd (omega (arith, lt)); others = λ i n x there. inl there; frame = λ rest a. a; fixed = refl }
+loop-cache-init g c = record { reaped = λ j lt. absurd (omega (arith, lt)); others = λ i n x there. inl there; frame = λ rest a. a; fixed = refl; lasts = refl }
 
 pub reap_cache-requires : goal.reap_cache-requires
 reap_cache-requires g c = record { has = has_there c.args.self.now c.loop-cache.self c.args.arena c.caches-cache-end.result c.loop-cache.invariant.fixed c.requires.within c.caches-cache-end.ensures.value c.loop-cache.cache c.loop-cache-test.true }
@@ -16,6 +16,7 @@ loop-cache-preserved g c =
       others = arenas_then c.args.arena c.loop-cache.cache c.args.self.now c.loop-cache.self c.reap_cache.new.self i.others c.reap_cache.ensures.others;
       frame = λ rest a. c.in_ok-reap_cache.ensures.frame rest (i.frame rest a);
       fixed = c.reap_cache.ensures.fixed ∙ i.fixed;
+      lasts = c.reap_cache.ensures.lasts ∙ i.lasts;
     }
 
 pub returns-in_err-reap_cache-clause-others : goal.returns-in_err-reap_cache-clause-others

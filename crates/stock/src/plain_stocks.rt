@@ -1,0 +1,52 @@
+//! A stock over plain deeds, for one thread.
+ghost use Rattle.std.specs.Prelude.{◌≡◌, IfOk, []};
+ghost use Rattle.magazine_layer.specs.Magazines.{IsSize};
+ghost use Rattle.stock.specs.Accounts.{Accounts};
+ghost use Rattle.stock.specs.Setups.{IsSetUpFrom, numbered_deeds};
+
+use crate::stocks::Stock;
+use arena_tree::Setup;
+use deed_core::PlainDeed;
+use std::alloc::{AllocError, Global};
+
+/// The stock of a setup, of which each owned span is a root of its own: its place among them. Its
+/// magazines take `rounds` rounds.
+pub fn plain_stock(
+    alloc: Global,
+    setup: &Setup,
+    rounds: usize,
+) -> Result<Stock<PlainDeed>, AllocError>
+    requires rounds { IsSize rounds }
+    ensures set_up { IfOk result
+        (IsSetUpFrom setup.now (numbered_deeds 0 setup.now.spans) rounds) }
+    ensures nothing_out { IfOk result (λ spaces. Accounts spaces []) }
+{
+    let deeds = plain_deeds(alloc, setup)?;
+    match Stock::of(alloc, setup, rounds, deeds) {
+        Ok(stock) => Ok(stock),
+        Err(deeds) => {
+            close_all(deeds);
+            Err(AllocError)
+        }
+    }
+}
+
+fn plain_deeds(alloc: Global, setup: &Setup) -> Result<Vec<PlainDeed>, AllocError>
+    ensures { IfOk result (λ deeds. deeds.items ≡ numbered_deeds 0 setup.now.spans) }
+{
+    // For its clause: what is so of every tree.
+    let _ = setup.tree();
+    let spans = setup.spans();
+    let mut deeds = Vec::with_capacity(alloc, spans.len())?;
+    for place in 0..spans.len() {
+        deeds.push_reserved(PlainDeed::new(place as u32, spans[place].range));
+    }
+    Ok(deeds)
+}
+
+fn close_all(mut deeds: Vec<PlainDeed>) {
+    while let Some(deed) = deeds.pop() {
+        let _ = deed.close();
+    }
+    deeds.destroy_empty();
+}
