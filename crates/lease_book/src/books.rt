@@ -2,14 +2,14 @@
 ghost use Rattle.std.specs.Prelude.{◌≡◌, ◌==◌, ◌<◌, ◌≤◌, ◌↔◌, List, [], length, All, IsOk, IsNone};
 ghost use Rattle.std.specs.Prelude.{OnOk, OnErr, IfOk, IfErr, IfSome, IfNone, Some, None};
 ghost use Rattle.std.specs.Prelude.{slice_get, sum_by};
-ghost use Rattle.std.specs.List.{find};
+ghost use Rattle.std.specs.List.{find, list_any};
 ghost use Rattle.std.specs.Option.{option_map};
 ghost use Rattle.deed_core.specs.Request.{Fits};
 ghost use Rattle.lease_terms.specs.Requests.{IsRequestId};
 ghost use Rattle.lease_terms.specs.declared.values.TheConstants.{LAST_CLIENT};
 ghost use Rattle.lease_book.specs.Receipts.{Kept};
 ghost use Rattle.lease_book.specs.Entry.{Entry, Hello, kept};
-ghost use Rattle.lease_book.specs.Account.{last, is_lease};
+ghost use Rattle.lease_book.specs.Account.{last, is_lease, is_older};
 ghost use Rattle.lease_book.specs.History.{account, clients_of};
 ghost use Rattle.lease_book.specs.BookState.{BookState, IsHistory, HasHistory, Enters, account_in};
 ghost use Rattle.lease_book.specs.BookState.{leased, leased_in, units_of_arena};
@@ -227,6 +227,17 @@ impl<D: Deed> Book<D> {
         let segment = self.accounts.take(index, lease).into_segment();
         let kept = self.accounts.keep(index, id, KeptReply::Released, None);
         Ok((self.receipt(id, kept), segment))
+    }
+
+    /// Whether a lease of an older incarnation of the client stands: `sweep` gives one just then.
+    pub fn can_sweep(&self, client: ClientId) -> bool
+        ensures { result ≡ list_any (is_older (account_in client self.now).incarnation)
+            (account_in client self.now).leases }
+    {
+        let Some((index, standing)) = self.account(client) else {
+            return false;
+        };
+        self.accounts.leases(index).has_older(standing.incarnation)
     }
 
     /// Ends a lease of an older incarnation of the client, and gives it with the request that was

@@ -1,7 +1,7 @@
 //! The leases of one client, in order of grant.
 ghost use Rattle.std.specs.Prelude.{◌≡◌, ◌+◌, ◌*◌, ◌^◌, ◌<◌, ◌≤◌, [], ◌∷◌, ◌++◌, length, OnOk};
 ghost use Rattle.std.specs.Prelude.{OnErr, IfErr, Some, slice_get, position, sum_by};
-ghost use Rattle.std.specs.List.{remove};
+ghost use Rattle.std.specs.List.{list_any, remove};
 ghost use Rattle.lease_terms.specs.declared.values.TheConstants.{LARGEST};
 ghost use Rattle.lease_book.specs.Account.{Lease, is_lease, is_older, lease_of, granted_request};
 ghost use Rattle.lease_book.specs.BookState.{units_of_lease};
@@ -154,6 +154,13 @@ impl<D: Deed> Leases<D> {
         ensures { result ≡ position (is_older incarnation) self.now }
     {
         self.held.iter().position(|held| held.is_older(incarnation))
+    }
+
+    /// Whether there is one.
+    pub(crate) fn has_older(&self, incarnation: Ordinal) -> bool
+        ensures { result ≡ list_any (is_older incarnation) self.now }
+    {
+        self.held.iter().any(|held| held.is_older(incarnation))
     }
 
     /// Takes the lease at an index out.

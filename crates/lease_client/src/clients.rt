@@ -1,6 +1,6 @@
 //! The client.
 ghost use Rattle.std.specs.Prelude.{◌≡◌, ◌+◌, ◌≤◌, ◌^◌, ◌<◌, ◌⊎◌, ◌↔◌, max, IfOk, IfSome, IfNone};
-ghost use Rattle.std.specs.Prelude.{IsSome, true, false};
+ghost use Rattle.std.specs.Prelude.{IsOk, OnOk, IfErr, IsSome, Some, None, true, false};
 ghost use Rattle.lease_client.specs.Calls.{ReadsBack};
 ghost use Rattle.lease_client.specs.ClientState.{silent, IsSound};
 
@@ -53,6 +53,7 @@ impl Model for Client {
 
 impl Client {
     ghost use Rattle.lease_client.specs.Calls.{IsRestarted, IsSent, IsResent, may_restart, next_id};
+    ghost use Rattle.lease_client.specs.Calls.{refusal};
     ghost use Rattle.lease_client.specs.Replies.{got, got_answer, accepts, is_ahead};
 
     /// A client that never said hello: it has to restart before it may send.
@@ -95,6 +96,23 @@ impl Client {
         Ok(hello)
     }
 
+    /// Whether this incarnation may begin: `restart` takes it just then.
+    pub fn may_restart(&self, incarnation: u64) -> bool
+        ensures { result ≡ may_restart incarnation self.now }
+    {
+        self.greater(incarnation).is_some()
+    }
+
+    /// Whether this may be sent, and the first reason why not: `send` gives the same, unless it is
+    /// out of memory.
+    pub fn may_send(&self, op: Op) -> Result<(), SendFault>
+        ensures ok { IsOk result ↔ (refusal op self.now ≡ None) }
+        ensures err { IfErr result (λ fault. refusal op self.now ≡ Some fault) }
+    {
+        let _ = self.admit(op)?;
+        Ok(())
+    }
+
     /// Gives the line that asks for this with the next number. A release ends at once what the
     /// client holds of its arena and base: stop using it before. Only a lease wants memory, for
     /// the segment that may come.
@@ -102,18 +120,7 @@ impl Client {
         ensures sent { IsSent op self.old self.new result }
         ensures reads_back { IfOk result ReadsBack }
     {
-        if !self.is_open {
-            return Err(SendFault::NotOpen(op));
-        }
-        if self.outstanding.is_some() {
-            return Err(SendFault::Busy(op));
-        }
-        if !is_of_held(&op, &self.held) {
-            return Err(SendFault::NotHeld(op));
-        }
-        let Some(id) = self.next_id() else {
-            return Err(SendFault::Exhausted(op));
-        };
+        let id = self.admit(op)?;
         let Ok(()) = prepare(&mut self.held, &op) else {
             return Err(SendFault::NoMemory(op));
         };
@@ -172,6 +179,29 @@ impl Client {
         ensures { IsSound self.now }
     {
         let _ = &self.held;
+    }
+
+    /// The id of the next request, where this may be sent.
+    fn admit(&self, op: Op) -> Result<RequestId, SendFault>
+        ensures id { IfOk result (λ id. id ≡ next_id self.now) }
+        ensures open { OnOk result (self.now.is_open ≡ true) }
+        ensures left { OnOk result (self.now.next ≤ 2 ^ 62) }
+        ensures ok { IsOk result ↔ (refusal op self.now ≡ None) }
+        ensures err { IfErr result (λ fault. refusal op self.now ≡ Some fault) }
+    {
+        if !self.is_open {
+            return Err(SendFault::NotOpen(op));
+        }
+        if self.outstanding.is_some() {
+            return Err(SendFault::Busy(op));
+        }
+        if !is_of_held(&op, &self.held) {
+            return Err(SendFault::NotHeld(op));
+        }
+        let Some(id) = self.next_id() else {
+            return Err(SendFault::Exhausted(op));
+        };
+        Ok(id)
     }
 
     /// The id of the next request.

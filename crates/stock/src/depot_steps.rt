@@ -1,13 +1,13 @@
 //! The events on the depot of a quantum cache: swap_full, swap_empty (with an empty magazine of the
 //! depot's or a fresh one), note (a tick or a resize) and depot_reap.
-ghost use Rattle.std.specs.Prelude.{◌≡◌, ◌+◌, [], ◌∷◌, IfSome};
+ghost use Rattle.std.specs.Prelude.{◌≡◌, ◌↔◌, ◌+◌, [], ◌∷◌, IfSome, IsTrue};
 ghost use Rattle.std.specs.Option.{option_to_list};
 ghost use Rattle.magazine_layer.specs.Magazines.{IsSize, IsShaped, BothEmpty, BothFull};
 ghost use Rattle.magazine_layer.specs.Magazines.{cache_rounds};
-ghost use Rattle.magazine_layer.specs.Depots.{after_tick};
+ghost use Rattle.magazine_layer.specs.Depots.{CanReap, after_tick};
 ghost use Rattle.magazine_layer.specs.Calls.{SwapFullOf, SwapEmptyOf, PutFullOf, ResizeOf};
 ghost use Rattle.magazine_layer.specs.Calls.{DepotReapOf};
-ghost use Rattle.stock.specs.Spaces.{HasCache, plans_of};
+ghost use Rattle.stock.specs.Spaces.{QuantumCacheState, IsCacheAt, HasCache, plans_of};
 ghost use Rattle.stock.specs.Accounts.{Frames};
 ghost use Rattle.stock.specs.Steps.{OnDepot, IsRoundIn, AreRoundsIn};
 
@@ -108,6 +108,17 @@ impl<D: Deed> Stock<D> {
         let space = &mut self.spaces[arena];
         let opened = &mut space.caches[cache];
         opened.depot.resize(size)
+    }
+
+    /// Whether a round may be reaped out of a depot: `depot_reap` gives one just then.
+    pub fn can_reap(&self, arena: usize, cache: usize) -> bool
+        requires has { HasCache self.now arena cache }
+        ensures { (c : QuantumCacheState) → IsCacheAt self.now arena cache c
+            → IsTrue result ↔ CanReap c.depot }
+    {
+        let space = &self.spaces[arena];
+        let opened = &space.caches[cache];
+        opened.depot.can_reap()
     }
 
     /// Takes a round that may be reaped out of a depot. It takes no memory.

@@ -139,11 +139,11 @@ carve_fits_none w cpu arena q stock empty on =
     let same = arena_same arena _ w.stock stock on (on.does.1) in
     ((empty, on.space, on.at, on.does.0.0, on.does.0.1), λ j. record w { stock = same j })
 
-pub carve_wants_memory : (w : WorldState) (cpu arena : ℕ) (q : Request) (stock : List SpaceState) → HasInHand w cpu None → arena < length w.stock
+pub carve_wants_memory : (w : WorldState) (cpu arena : ℕ) (q : Request) (stock : List SpaceState) → HasInHand w cpu None
     → OnArena arena (λ a b. RefusesCarve a q arena_faults.NoMemory × (b ≡ a)) w.stock stock → EndsAs (events.Carves cpu arena q) NoMemory w (record w { stock = stock })
-carve_wants_memory w cpu arena q stock empty within on =
+carve_wants_memory w cpu arena q stock empty on =
     let same = arena_same arena _ w.stock stock on (on.does.1) in
-    ((empty, within), λ j. record w { stock = same j })
+    ((empty, on.space, on.at, record { good = on.does.0.0; base = on.does.0.1.0; chosen = on.does.0.1.1 }), λ j. record w { stock = same j })
 
 freed_is_tagged : (stock : List SpaceState) (t : Tag) (back : Option Tag) (new : List SpaceState) → FreeIn stock t (Ok back) new → IsTaggedIn stock t
 freed_is_tagged stock t back new (inl on) = record { space = on.space; at = on.at; tagged = on.does.mine }
@@ -255,7 +255,7 @@ module _ (w : WorldState) (cpu arena cache : ℕ) (span : Tag) (held : HasInHand
   slab_wants_memory back stock taken hands on out put =
       let stays = slab_same arena cache _ w.stock stock on on.does.2.unchanged in
       let again = put_same w.hands taken hands cpu span back held out put on.does.2.handed_back in
-      ((span, on.cache, has_span _ stock on), λ j. record w { stock = stays j; hands = again j })
+      ((span, on.cache, has_span _ stock on, on.does.0), λ j. record w { stock = stays j; hands = again j })
 
 pub never_overlaps : (fault : AddFault Tag) → ((b : Tag) → fault ≡ adding.WrongSize b → ⊥) → ((b : Tag) → fault ≡ adding.NoMemory b → ⊥) → NeverOverlaps (Err fault) → ⊥
 never_overlaps (adding.WrongSize b) size memory never = size b refl
@@ -305,17 +305,15 @@ pub reaps_round : (w : WorldState) (cpu arena cache : ℕ) (t : Tag) (stock : Li
     → OnDepot arena cache (λ a b. DepotReapOf a (Some t) b) w.stock stock → IsStock stock → Frames w.stock [] stock (t ∷ []) → plans_of stock ≡ plans_of w.stock → hands ≡ set w.hands cpu (Some t)
     → EndsAs (events.DepotReaps cpu arena cache) Done w (record w { stock = stock; hands = hands })
 reaps_round w cpu arena cache t stock hands empty on sound frame fixed moved = (
-  (empty, on.cache, record { space = on.space; at = on.at; among = on.among }, begins_reap on.cache.depot on.does.0 on.does.1),
+  (empty, (on.cache, record { space = on.space; at = on.at; among = on.among }, begins_reap on.cache.depot on.does.0 on.does.1)),
   (t, hand_moves w cpu None (Some t) _ stock hands empty on (record { stock = sound; frame = frame; fixed = fixed }) moved),
 )
 
-pub reaps_no_round : (w : WorldState) (cpu arena cache : ℕ) (stock : List SpaceState) → OnDepot arena cache (λ a b. DepotReapOf a None b) w.stock stock
-    → IsStock stock → Frames w.stock [] stock [] → plans_of stock ≡ plans_of w.stock → EndsAs (events.DepotReaps cpu arena cache) NotEnabled w (record w { stock = stock })
-reaps_no_round w cpu arena cache stock on sound frame fixed = (
-  λ ready. (let is : on.cache ≡ ready.1 = one_cache w.stock arena cache on.cache ready.1 (record { space = on.space; at = on.at; among = on.among }) ready.2 in
-      on.does.0 (subst (λ (c : QuantumCacheState). CanReap c.depot) (sym is) ready.3)),
-  inr (record { stock = stock; does = on; step = record { stock = sound; frame = frame; fixed = fixed }; after = refl }),
-)
+-- where a round may be reaped, one is
+pub reaps_no_round : (stock new : List SpaceState) (arena cache : ℕ) → OnDepot arena cache (λ a b. DepotReapOf a None b) stock new → (c : QuantumCacheState) × IsCacheAt stock arena cache c × CanReap c.depot → ⊥
+reaps_no_round stock new arena cache on (c, at, can) =
+    let is : on.cache ≡ c = one_cache stock arena cache on.cache c (record { space = on.space; at = on.at; among = on.among }) at in
+    on.does.0 (subst (λ (x : QuantumCacheState). CanReap x.depot) (sym is) can)
 
 pub ticks : (w : WorldState) (arena cache : ℕ) (stock : List SpaceState) → OnDepot arena cache (λ a b. b ≡ after_tick a) w.stock stock
     → IsStock stock → Frames w.stock [] stock [] → plans_of stock ≡ plans_of w.stock → EndsAs (events.Ticks arena cache) Done w (record w { stock = stock })

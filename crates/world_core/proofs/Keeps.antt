@@ -6,7 +6,7 @@ use Rattle.world_core.specs.declared.events.Outcome.{Outcome}
 use Rattle.world_core.specs.declared.events.Outcome.TheVariants.{Done, NotEnabled, NoMemory, Refused}
 use Rattle.world_core.specs.WorldState.{WorldState}
 use Rattle.world_core.specs.IsWorld.{IsWorld}
-use Rattle.world_core.specs.Events.{MovesBy, LeavesAll, EndsAs, HappensTo}
+use Rattle.world_core.specs.Events.{MovesBy, EndsAs, HappensTo}
 use Rattle.world_core.proofs.TalkLemmas.{restart_keeps, send_keeps, resend_keeps, hear_keeps}
 use Rattle.world_core.proofs.BookingLemmas.{hello_taken_keeps, hello_refused_keeps, answered_keeps, taken_keeps, granted_keeps, refused_keeps, released_keeps, answer_keeps, given_up_keeps, swept_keeps}
 use Rattle.world_core.proofs.StockLemmas.{hand_move_keeps, part_move_keeps}
@@ -41,32 +41,9 @@ moves_keep (events.DepotReaps cpu arena cache) w v is (t, m) = hand_move_keeps c
 moves_keep (events.Ticks arena cache) w v is m = part_move_keeps _ w v is m
 moves_keep (events.Resizes arena cache size) w v is m = part_move_keeps _ w v is m
 
-leaves_keep : (event : WorldEvent) (w v : WorldState) → IsWorld w → LeavesAll event w v → IsWorld v
-leaves_keep (events.Restarts c i) w v is same = subst IsWorld (sym same) is
-leaves_keep (events.Says c op) w v is same = subst IsWorld (sym same) is
-leaves_keep (events.Repeats c) w v is same = subst IsWorld (sym same) is
-leaves_keep (events.Hears c which) w v is same = subst IsWorld (sym same) is
-leaves_keep (events.Looks cpu which) w v is same = subst IsWorld (sym same) is
-leaves_keep (events.Settles cpu) w v is same = subst IsWorld (sym same) is
-leaves_keep (events.Declines cpu why) w v is same = subst IsWorld (sym same) is
-leaves_keep (events.GivesUp cpu) w v is same = subst IsWorld (sym same) is
-leaves_keep (events.Releases cpu) w v is same = subst IsWorld (sym same) is
-leaves_keep (events.Sweeps cpu c) w v is same = subst IsWorld (sym same) is
-leaves_keep (events.Carves cpu arena q) w v is same = subst IsWorld (sym same) is
-leaves_keep (events.Frees cpu) w v is same = subst IsWorld (sym same) is
-leaves_keep (events.AddCarves cpu child size) w v is same = subst IsWorld (sym same) is
-leaves_keep (events.SlabTakes cpu arena cache) w v is same = subst IsWorld (sym same) is
-leaves_keep (events.SlabPuts cpu) w v is same = subst IsWorld (sym same) is
-leaves_keep (events.SlabAdds cpu arena cache) w v is same = subst IsWorld (sym same) is
-leaves_keep (events.SlabReaps cpu arena cache) w v is same = subst IsWorld (sym same) is
-leaves_keep (events.DepotReaps cpu arena cache) w v is (inl same) = subst IsWorld (sym same) is
-leaves_keep (events.DepotReaps cpu arena cache) w v is (inr m) = part_move_keeps _ w v is m
-leaves_keep (events.Ticks arena cache) w v is same = subst IsWorld (sym same) is
-leaves_keep (events.Resizes arena cache size) w v is same = subst IsWorld (sym same) is
-
 pub end_keeps : (event : WorldEvent) (outcome : Outcome) (w v : WorldState) → IsWorld w → EndsAs event outcome w v → IsWorld v
 end_keeps event Done w v is (enabled, m) = moves_keep event w v is m
-end_keeps event NotEnabled w v is (disabled, leaves) = leaves_keep event w v is leaves
+end_keeps event NotEnabled w v is (disabled, same) = subst IsWorld (sym same) is
 end_keeps event (Refused why) w v is (refused, same) = subst IsWorld (sym same) is
 end_keeps event NoMemory w v is (may, same) = subst IsWorld (sym same) is
 

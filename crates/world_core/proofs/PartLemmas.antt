@@ -1,7 +1,10 @@
 -- What calls of the parts make of a world.
-use Rattle.std.proofs.Common.{◌≡◌, ℕ, suc, Bool, true, false, List, [], ◌∷◌, ◌++◌, map, reverse, set, Option, Some, None, Err, refl, sym, subst, ap, ◌∙◌}
+use Rattle.std.proofs.Common.{◌≡◌, ◌<◌, ◌||◌, nat_lt, ℕ, suc, Bool, true, false, List, [], ◌∷◌, ◌++◌, map, reverse, set, Option, Some, None, Err, refl, sym, subst, ap, ◌∙◌}
 use Rattle.std.specs.Prelude.{slice_get, if◌then◌else◌}
-use Rattle.std.specs.List.{find}
+use Rattle.std.specs.List.{find, list_any}
+use Rattle.std.proofs.lemmas.Bool.{ltb-true, lt-ltb, false≢true}
+use Rattle.std.proofs.lemmas.List.Folds.{list_any_at}
+use Rattle.std.proofs.lemmas.Option.{slice_get_within, get_or_from_slice_get}
 use Rattle.std.proofs.lemmas.List.{reverse-append, map-append}
 use Rattle.deed_core.specs.Tag.{Tag}
 use Rattle.deed_core.proofs.LawProofs.{set_same}
@@ -10,7 +13,7 @@ use Rattle.lease_proto.specs.declared.lines.Line.{Line}
 use Rattle.lease_proto.specs.declared.lines.Op.{Op}
 use Rattle.lease_book.specs.Entry.{Entry, Swept}
 use Rattle.lease_book.specs.BookState.{BookState, account_in}
-use Rattle.lease_book.specs.Account.{lease_of}
+use Rattle.lease_book.specs.Account.{Lease, lease_of, is_older}
 use Rattle.lease_book.specs.Calls.{IsSwept}
 use Rattle.lease_client.specs.ClientState.{ClientState}
 use Rattle.lease_client.specs.Calls.{IsSent, refusal}
@@ -71,6 +74,21 @@ said_again w place x line requests here out lines =
     )
 
 -- The book.
+
+-- the test for a lease of an incarnation before this one finds one that stands
+pub old_lease_found : (i : ℕ) (xs : List Lease) → list_any (is_older i) xs ≡ true → (l : Lease) × IsAmong l xs × (l.incarnation < i)
+old_lease_found i [] is = absurd (false≢true is)
+old_lease_found i (x ∷ xs) is = by (nat_lt x.incarnation i) refl (old_lease_found i xs) is
+  where
+    by : (b : Bool) → nat_lt x.incarnation i ≡ b → (list_any (is_older i) xs ≡ true → (l : Lease) × IsAmong l xs × (l.incarnation < i)) → (b || list_any (is_older i) xs) ≡ true
+        → (l : Lease) × IsAmong l (x ∷ xs) × (l.incarnation < i)
+    by true older more is = (x, (0, refl), ltb-true _ _ older)
+    by false newer more is = (let rest = more is in (rest.0, (suc rest.1.0, rest.1.1), rest.2))
+
+-- and each that stands
+pub old_lease_counts : (i : ℕ) (xs : List Lease) (l : Lease) (k : ℕ) → slice_get xs k ≡ Some l → l.incarnation < i → list_any (is_older i) xs ≡ true
+old_lease_counts i xs l k at older =
+    list_any_at (is_older i) xs k l (slice_get_within xs k l at) (ap (is_older i) (get_or_from_slice_get xs k l l at) ∙ lt-ltb _ _ older)
 
 pub sweeps : (w : WorldState) (cpu c : ℕ) (id : RequestId) (t : Tag) (book : BookState) (entries : List Entry) (hands : List (Option Tag)) → slice_get w.hands cpu ≡ Some None
     → IsSwept w.book book c id t → entries ≡ Swept id.client id.incarnation t.arena t.holding.range.base ∷ w.entries → hands ≡ set w.hands cpu (Some t)

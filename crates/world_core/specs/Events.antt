@@ -64,6 +64,11 @@ HasOldLease w c = (l : Lease) × IsAmong l (account_in c w.book).leases
 abbrev pub HasInHand : WorldState → ℕ → Option Tag → Type 0
 HasInHand w cpu held = slice_get w.hands cpu ≡ Some held
 
+-- a round of the cache's depot may be reaped
+abbrev pub HasRoundToReap : WorldState → ℕ → ℕ → Type 0
+HasRoundToReap w arena cache = (c : QuantumCacheState) × IsCacheAt w.stock arena cache c
+    × CanReap c.depot
+
 -- what an arena would carve for the request: it is good, and the policy chooses a base
 pub record CanCarve (s : SpaceState) (q : Request) : Type 0 where
   pub good : IsGood s.arena.quantum q
@@ -106,8 +111,8 @@ IsReady (events.SlabAdds cpu arena cache) w = (span : Tag) × (c : QuantumCacheS
     × HasSpanFor w cpu arena cache span c
 IsReady (events.SlabReaps cpu arena cache) w = HasInHand w cpu None × (c : QuantumCacheState)
     × IsCacheAt w.stock arena cache c × ¬ All (λ s. ¬ IsComplete s) c.slab.slabs
-IsReady (events.DepotReaps cpu arena cache) w = HasInHand w cpu None × (c : QuantumCacheState)
-    × IsCacheAt w.stock arena cache c × CanReap c.depot
+IsReady (events.DepotReaps cpu arena cache) w =
+    HasInHand w cpu None × HasRoundToReap w arena cache
 IsReady (events.Ticks arena cache) w = HasCache w.stock arena cache
 IsReady (events.Resizes arena cache size) w = HasCache w.stock arena cache × IsSize size
 
@@ -152,10 +157,9 @@ PartRefuses (events.Resizes arena cache size) faults.NotGreater w = (c : Quantum
     × IsCacheAt w.stock arena cache c × IsSize size × (size ≤ c.depot.size)
 PartRefuses event why w = ⊥
 
--- where an event may ask for memory: some never do, and a sweep asks before it looks for a lease
+-- where an event may want memory: only where it can happen, and some events never do
 abbrev pub MayWantMemory : WorldEvent → WorldState → Type 0
 MayWantMemory (events.Hears c which) w = ⊥
-MayWantMemory (events.Sweeps cpu c) w = HasInHand w cpu None
 MayWantMemory (events.Frees cpu) w = ⊥
 MayWantMemory (events.SlabTakes cpu arena cache) w = ⊥
 MayWantMemory (events.SlabPuts cpu) w = ⊥
@@ -163,7 +167,7 @@ MayWantMemory (events.SlabReaps cpu arena cache) w = ⊥
 MayWantMemory (events.DepotReaps cpu arena cache) w = ⊥
 MayWantMemory (events.Ticks arena cache) w = ⊥
 MayWantMemory (events.Resizes arena cache size) w = ⊥
-MayWantMemory event w = IsReady event w
+MayWantMemory event w = IsEnabled event w
 
 -- the move of an event
 abbrev pub MovesBy : WorldEvent → (old new : WorldState) → Type 0
@@ -205,18 +209,11 @@ MovesBy (events.Ticks arena cache) old new =
 MovesBy (events.Resizes arena cache size) old new =
     PartMoves (OnDepot arena cache (λ a b. ResizeOf a size (Ok tt) b)) old new
 
--- an event that can't be tried changes nothing, but that a depot with no round to reap lets its
--- spare empty magazines go
-abbrev pub LeavesAll : WorldEvent → (old new : WorldState) → Type 0
-LeavesAll (events.DepotReaps cpu arena cache) old new = (new ≡ old)
-    ⊎ PartMoves (OnDepot arena cache (λ a b. DepotReapOf a None b)) old new
-LeavesAll event old new = new ≡ old
-
--- how an event ends: by its move just where it can happen, memory aside; else, with no change, by
--- its part's refusal, or as not enabled where it can't even be tried
+-- how an event ends: by its move where it can happen, or, there alone, out of memory; else by its
+-- part's refusal, or as not enabled where it can't even be tried. But for the move nothing changes
 abbrev pub EndsAs : WorldEvent → Outcome → (old new : WorldState) → Type 0
 EndsAs event Done old new = IsEnabled event old × MovesBy event old new
-EndsAs event NotEnabled old new = (¬ IsReady event old) × LeavesAll event old new
+EndsAs event NotEnabled old new = (¬ IsReady event old) × (new ≡ old)
 EndsAs event (Refused why) old new = PartRefuses event why old × (new ≡ old)
 EndsAs event NoMemory old new = MayWantMemory event old × (new ≡ old)
 

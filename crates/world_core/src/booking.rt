@@ -1,12 +1,13 @@
 //! What CPUs do with the book.
-ghost use Rattle.std.specs.Prelude.{◌≡◌, ◌⊎◌, ◌<◌, ℕ, length, IfSome, IfNone, Some, None};
+ghost use Rattle.std.specs.Prelude.{◌≡◌, ◌⊎◌, ◌↔◌, ◌<◌, ℕ, length, IfSome, IfNone, IsTrue};
+ghost use Rattle.std.specs.Prelude.{Some, None};
 ghost use Rattle.lease_terms.specs.Requests.{RequestId};
 ghost use Rattle.lease_book.specs.BookState.{account_in};
 ghost use Rattle.lease_book.specs.Answers.{IsAnswer, IsNew};
 ghost use Rattle.lease_proto.specs.declared.lines.Op.{Op};
 ghost use Rattle.world_core.specs.IsWorld.{IsWorld};
 ghost use Rattle.world_core.specs.Moves.{HasTask, IsAnswered, TaskAnswered, TaskGivenUp, TaskRefused, TaskGranted, HasAllLeases};
-ghost use Rattle.world_core.specs.Events.{EndsAs, Tries, CanGrant, IsReady};
+ghost use Rattle.world_core.specs.Events.{EndsAs, Tries, CanGrant, HasOldLease, IsReady};
 
 use crate::events::{Outcome, WorldEvent};
 use crate::hands::{put, take};
@@ -253,7 +254,7 @@ impl<D: Deed> WorldParts<D> {
     pub(crate) fn sweep(&mut self, cpu: usize, client: ClientId) -> Outcome
         ensures { EndsAs (WorldEvent.Sweeps cpu client) result self.old self.new }
     {
-        if !self.has_empty_hand(cpu) {
+        if !self.has_empty_hand(cpu) || !self.has_old_lease(client) {
             return Outcome::NotEnabled;
         }
         let Ok(()) = self.log.reserve(1) else {
@@ -272,7 +273,14 @@ impl<D: Deed> WorldParts<D> {
                 put(&mut self.hands, cpu, segment);
                 return Outcome::Done;
             }
-            None => return Outcome::NotEnabled,
+            None => unreachable!(),
         }
+    }
+
+    /// Whether a lease of an incarnation of the client that has passed stands.
+    fn has_old_lease(&self, client: ClientId) -> bool
+        ensures { IsTrue result ↔ HasOldLease self.now client }
+    {
+        self.book.can_sweep(client)
     }
 }

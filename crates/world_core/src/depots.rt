@@ -2,7 +2,7 @@
 ghost use Rattle.std.specs.Prelude.{◌↔◌, IsTrue};
 ghost use Rattle.magazine_layer.specs.Magazines.{IsSize};
 ghost use Rattle.world_core.specs.IsWorld.{IsWorld};
-ghost use Rattle.world_core.specs.Events.{EndsAs};
+ghost use Rattle.world_core.specs.Events.{EndsAs, HasRoundToReap};
 
 use crate::events::{EventFault, Outcome, WorldEvent};
 use crate::hands::put;
@@ -22,7 +22,7 @@ impl<D: Deed> WorldParts<D> {
         requires world { IsWorld self.old }
         ensures { EndsAs (WorldEvent.DepotReaps cpu arena cache) result self.old self.new }
     {
-        if !self.has_empty_hand(cpu) || !self.stock.has_cache(arena, cache) {
+        if !self.has_empty_hand(cpu) || !self.has_round_to_reap(arena, cache) {
             return Outcome::NotEnabled;
         }
         let reaped = self.stock.depot_reap(arena, cache);
@@ -33,8 +33,15 @@ impl<D: Deed> WorldParts<D> {
                 put(&mut self.hands, cpu, round);
                 return Outcome::Done;
             }
-            None => return Outcome::NotEnabled,
+            None => unreachable!(),
         }
+    }
+
+    /// Whether the cache stands there, and a round of its depot may be reaped.
+    fn has_round_to_reap(&self, arena: usize, cache: usize) -> bool
+        ensures { IsTrue result ↔ HasRoundToReap self.now arena cache }
+    {
+        self.stock.has_cache(arena, cache) && self.stock.can_reap(arena, cache)
     }
 
     /// An interval begins in a depot.

@@ -1,6 +1,7 @@
 //! What clients say and hear.
-ghost use Rattle.std.specs.Prelude.{◌≡◌};
-ghost use Rattle.world_core.specs.Events.{EndsAs};
+ghost use Rattle.std.specs.Prelude.{◌≡◌, ◌<◌, length, IfSome, IfNone};
+ghost use Rattle.std.specs.Bool.{OnTrue, OnFalse};
+ghost use Rattle.world_core.specs.Events.{EndsAs, IsEnabled, PartRefuses};
 
 use crate::events::{EventFault, Outcome, WorldEvent};
 use crate::parts::WorldParts;
@@ -16,6 +17,9 @@ impl<D: Deed> WorldParts<D> {
         if client >= self.clients.len() {
             return Outcome::NotEnabled;
         }
+        if !self.may_restart(client, incarnation) {
+            return Outcome::Refused(EventFault::NotGreater);
+        }
         let Ok(()) = self.requests.reserve(1) else {
             return Outcome::NoMemory;
         };
@@ -24,8 +28,19 @@ impl<D: Deed> WorldParts<D> {
                 self.requests.push_reserved(line);
                 return Outcome::Done;
             }
-            Err(_) => return Outcome::Refused(EventFault::NotGreater),
+            Err(_) => unreachable!(),
         }
+    }
+
+    /// Whether the client may begin this incarnation.
+    fn may_restart(&self, client: usize, incarnation: u64) -> bool
+        requires within { client < length self.now.clients }
+        ensures on { OnTrue result
+            (IsEnabled (WorldEvent.Restarts client incarnation) self.now) }
+        ensures off { OnFalse result
+            (PartRefuses (WorldEvent.Restarts client incarnation) EventFault.NotGreater self.now) }
+    {
+        self.clients[client].may_restart(incarnation)
     }
 
     /// A client sends its next request.
@@ -35,20 +50,34 @@ impl<D: Deed> WorldParts<D> {
         if client >= self.clients.len() {
             return Outcome::NotEnabled;
         }
+        if let Some(why) = self.why_not_sent(client, &op) {
+            return Outcome::Refused(why);
+        }
         let Ok(()) = self.requests.reserve(1) else {
             return Outcome::NoMemory;
         };
-        match self.clients[client].send(op) {
-            Ok(line) => {
-                self.requests.push_reserved(line);
-                return Outcome::Done;
-            }
+        let Ok(line) = self.clients[client].send(op) else {
+            return Outcome::NoMemory;
+        };
+        self.requests.push_reserved(line);
+        Outcome::Done
+    }
+
+    /// Why the client may not send this, if it mayn't.
+    fn why_not_sent(&self, client: usize, op: &Op) -> Option<EventFault>
+        requires within { client < length self.now.clients }
+        ensures some { IfSome result
+            (λ why. PartRefuses (WorldEvent.Says client op.now) why self.now) }
+        ensures none { IfNone result (IsEnabled (WorldEvent.Says client op.now) self.now) }
+    {
+        match self.clients[client].may_send(*op) {
+            Ok(()) => return None,
             Err(fault) => match fault {
-                SendFault::NotOpen(_) => return Outcome::Refused(EventFault::NotOpen),
-                SendFault::Busy(_) => return Outcome::Refused(EventFault::Busy),
-                SendFault::NotHeld(_) => return Outcome::Refused(EventFault::NotHeld),
-                SendFault::Exhausted(_) => return Outcome::Refused(EventFault::Exhausted),
-                SendFault::NoMemory(_) => return Outcome::NoMemory,
+                SendFault::NotOpen(_) => return Some(EventFault::NotOpen),
+                SendFault::Busy(_) => return Some(EventFault::Busy),
+                SendFault::NotHeld(_) => return Some(EventFault::NotHeld),
+                SendFault::Exhausted(_) => return Some(EventFault::Exhausted),
+                SendFault::NoMemory(_) => unreachable!(),
             },
         }
     }
@@ -60,11 +89,11 @@ impl<D: Deed> WorldParts<D> {
         if client >= self.clients.len() {
             return Outcome::NotEnabled;
         }
-        let Ok(()) = self.requests.reserve(1) else {
-            return Outcome::NoMemory;
-        };
         match self.clients[client].resend() {
             Ok(line) => {
+                let Ok(()) = self.requests.reserve(1) else {
+                    return Outcome::NoMemory;
+                };
                 self.requests.push_reserved(line);
                 return Outcome::Done;
             }

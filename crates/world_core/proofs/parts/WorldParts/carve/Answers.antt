@@ -1,4 +1,4 @@
-use Rattle.std.proofs.Common.{◌≡◌, ◌<◌, None, length, subst, ap, ◌∙◌, arith, rules}
+use Rattle.std.proofs.Common.{◌≡◌, None, subst, ap, ◌∙◌, rules}
 use Rattle.std.specs.Prelude.{slice_get}
 use Rattle.world_core.specs.WorldState.{WorldState, entries_of}
 use Rattle.world_core.specs.Events.{EndsAs, HasInHand}
@@ -40,7 +40,6 @@ returns-in-NoMemory g c =
     let w : WorldState = record { stock = c.self.inside.stock; names = c.self.inside.names.items; hands = c.self.inside.hands.items; tasks = c.self.inside.tasks.items; book = c.self.inside.book; entries = entries_of c.self.inside.log.items; clients = c.self.inside.clients.items; requests = c.self.inside.requests.items; replies = c.self.inside.replies.items } in
     let view : w ≡ c.args.self.now = c.self.view_is in
     let empty : HasInHand w c.args.cpu None = (let e : HasInHand c.args.self.now c.args.cpu None = search rules in ap (λ (x : WorldState). slice_get x.hands c.args.cpu) view ∙ e) in
-    let within : c.args.arena < length w.stock = omega arith in
     let v : WorldState = record w { stock = c.carve-carved.new.self } in
     subst (λ x. EndsAs (events.Carves c.args.cpu c.args.arena c.args.request.now) NoMemory x v) view
-    (carve_wants_memory w c.args.cpu c.args.arena c.args.request.now c.carve-carved.new.self empty within (rw c.in-NoMemory.is at c.in-Err.ensures.carved))
+    (carve_wants_memory w c.args.cpu c.args.arena c.args.request.now c.carve-carved.new.self empty (rw c.in-NoMemory.is at c.in-Err.ensures.carved))

@@ -3,8 +3,8 @@ use Rattle.std.specs.Prelude.{slice_get}
 use Rattle.world_core.specs.WorldState.{WorldState, entries_of}
 use Rattle.world_core.specs.Events.{EndsAs, HasInHand}
 use Rattle.world_core.specs.declared.events.WorldEvent.TheVariants as events
-use Rattle.world_core.specs.declared.events.Outcome.TheVariants.{Done, NotEnabled}
-use Rattle.world_core.proofs.CallLemmas.{reaps_round, reaps_no_round}
+use Rattle.world_core.specs.declared.events.Outcome.TheVariants.{Done}
+use Rattle.world_core.proofs.CallLemmas.{reaps_round}
 use Rattle.world_core.proofs.parts.WorldParts.depot_reap.Goals as goal
 
 pub returns-in-Some : goal.returns-in-Some
@@ -15,11 +15,3 @@ returns-in-Some g c =
     let v : WorldState = record w { stock = c.depot_reap-reaped.new.self; hands = c.put.new.hands.items } in
     subst (λ x. EndsAs (events.DepotReaps c.args.cpu c.args.arena c.args.cache) Done x v) view
     (reaps_round w c.args.cpu c.args.arena c.args.cache c.in-Some.round c.depot_reap-reaped.new.self c.put.new.hands.items empty c.in-Some.ensures.reaped c.count.ensures.stock c.in-Some.ensures.frame c.in-Some.ensures.fixed c.put.ensures)
-
-pub returns-in-None : goal.returns-in-None
-returns-in-None g c =
-    let w : WorldState = record { stock = c.self.inside.stock; names = c.self.inside.names.items; hands = c.self.inside.hands.items; tasks = c.self.inside.tasks.items; book = c.self.inside.book; entries = entries_of c.self.inside.log.items; clients = c.self.inside.clients.items; requests = c.self.inside.requests.items; replies = c.self.inside.replies.items } in
-    let view : w ≡ c.args.self.now = c.self.view_is in
-    let v : WorldState = record w { stock = c.depot_reap-reaped.new.self } in
-    subst (λ x. EndsAs (events.DepotReaps c.args.cpu c.args.arena c.args.cache) NotEnabled x v) view
-    (reaps_no_round w c.args.cpu c.args.arena c.args.cache c.depot_reap-reaped.new.self c.in-None.ensures.reaped c.count.ensures.stock c.in-None.ensures.frame c.in-None.ensures.fixed)
