@@ -18,4 +18,6 @@ pub mod FreeSteps
 pub mod Shapes
 pub mod HeldLaws
 pub mod FreeLaws
+pub mod ClimbSteps
+pub mod XallocLaws
 pub mod LawProofs

@@ -1,12 +1,20 @@
 -- What the calls of quantum caches over one thread's parts come to for a picture.
-use Rattle.std.specs.Prelude.{◌≡◌, ◌<◌, List, [], ◌∷◌, Some, None, Ok, length}
+use Rattle.std.specs.Prelude.{◌≡◌, ℕ, ◌<◌, List, [], ◌∷◌, Some, None, Result, Ok, Err, length}
+use Rattle.std.specs.Prelude.{slice_get}
 use Rattle.deed_core.specs.Tag.{Tag}
+use Rattle.deed_core.specs.Request.{IsGood, IsPlain}
+use Rattle.deed_core.specs.declared.requests.Request.{Request}
+use Rattle.arena_tree.specs.declared.part_faults.CarveFault.{CarveFault}
+use Rattle.arena_tree.specs.declared.part_faults.CarveFault.TheVariants as carving
+use Rattle.arena_tree.specs.declared.trees.TreeArena.{TreeArena}
+use Rattle.quantum_cache.specs.Allocs.{xalloc_plan}
 use Rattle.quantum_cache.specs.Caches.{chain_in}
 use Rattle.quantum_cache.specs.Frees.{free_plan}
 use Rattle.local_parts.specs.States.{LocalState}
 use Rattle.local_calls.specs.Runs.{IsLocalOf, IsAccountedWith, RunsTo}
 use Rattle.lease_machine.specs.Picture.{Picture, SameSetup}
 use Rattle.lease_machine.specs.Chunks.{GoesBack}
+use Rattle.lease_machine.specs.Serving.{CanServe, ServesWith, ServesNone, FallsBack}
 use Rattle.lease_machine.specs.Held.{IsHeld, parts_in, with_parts}
 
 -- the parts that the selected CPU reaches are set up by the tree, and their accounts balance
@@ -26,3 +34,21 @@ abbrev pub FreeGoesBack : Type 0
 FreeGoesBack = (d : Picture) (t : Tag) (s : LocalState) → IsHeld (t ∷ []) d
     → RunsTo d.tree (free_plan (chain_in d.tree t.arena) t) (parts_in d) s (Ok tt)
     → GoesBack t d (with_parts s d) × IsHeld [] (with_parts s d) × SameSetup d (with_parts s d)
+
+-- what becomes of a constrained request for a segment of the arena, by the answer
+abbrev pub IsCarvedFor : ℕ → TreeArena → Request → Picture → Result Tag CarveFault → Picture
+    → Type 0
+IsCarvedFor place x q d (Ok t) new = IsGood x.quantum q × CanServe d place x q
+    × ServesWith place x q t d new × IsHeld (t ∷ []) new × SameSetup d new
+IsCarvedFor place x q d (Err carving.BadRequest) new = (¬ IsGood x.quantum q) × (new ≡ d)
+IsCarvedFor place x q d (Err carving.NoFit) new = IsGood x.quantum q
+    × ServesNone place x q d new × (new ≡ d)
+IsCarvedFor place x q d (Err carving.NoMemory) new = IsGood x.quantum q × CanServe d place x q
+    × FallsBack place x q d new × (new ≡ d)
+IsCarvedFor place x q d (Err carving.Stopped) new = ⊥
+
+abbrev pub XallocCarves : Type 0
+XallocCarves = (d : Picture) (place : ℕ) (x : TreeArena) (q : Request) (s : LocalState)
+    (a : Result Tag CarveFault) → IsHeld [] d → slice_get d.tree place ≡ Some x → ¬ IsPlain q
+    → RunsTo d.tree (xalloc_plan place q) (parts_in d) s a
+    → IsCarvedFor place x q d a (with_parts s d)

@@ -1,4 +1,5 @@
 use Rattle.lease_machine.proofs.HeldLaws.{held_is_local, hand_is_local}
+use Rattle.lease_machine.proofs.XallocLaws.{xalloc_carves}
 use Rattle.lease_machine.proofs.FreeLaws.{free_goes_back}
 use Rattle.lease_machine.proofs.laws.call_laws.Goals as goal
 
@@ -10,3 +11,6 @@ returns-clause-local c = held_is_local
 
 pub returns-clause-hand : goal.returns-clause-hand
 returns-clause-hand c = hand_is_local
+
+pub returns-clause-xalloc : goal.returns-clause-xalloc
+returns-clause-xalloc c = xalloc_carves
