@@ -20,4 +20,5 @@ pub mod HeldLaws
 pub mod FreeLaws
 pub mod ClimbSteps
 pub mod XallocLaws
+pub mod AllocLaws
 pub mod LawProofs

@@ -1,6 +1,7 @@
 //! What follows for each picture, and for each run of lines. The functions do nothing: their
 //! contracts are the laws, and `proofs/LawProofs.antt` hands their proofs on.
-ghost use Rattle.lease_machine.specs.CallLaws.{HeldIsLocal, HandIsLocal, FreeGoesBack, XallocCarves};
+ghost use Rattle.lease_machine.specs.CallLaws.{HeldIsLocal, HandIsLocal, FreeGoesBack};
+ghost use Rattle.lease_machine.specs.CallLaws.{XallocCarves, AllocClimbs};
 ghost use Rattle.lease_machine.specs.CpuLaws.{FreshIsPicture, SelectedIsPicture, FreshCpuFits};
 ghost use Rattle.lease_machine.specs.CacheLaws.{CachedByNumber};
 ghost use Rattle.lease_machine.specs.Laws.{PicturesStay, SetupStays, UnitsHaveOnePlace};
@@ -87,4 +88,5 @@ pub fn call_laws()
     ensures hand { HandIsLocal }
     ensures free { FreeGoesBack }
     ensures xalloc { XallocCarves }
+    ensures alloc { AllocClimbs }
 {}

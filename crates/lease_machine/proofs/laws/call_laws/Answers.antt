@@ -1,5 +1,6 @@
 use Rattle.lease_machine.proofs.HeldLaws.{held_is_local, hand_is_local}
 use Rattle.lease_machine.proofs.XallocLaws.{xalloc_carves}
+use Rattle.lease_machine.proofs.AllocLaws.{alloc_climbs}
 use Rattle.lease_machine.proofs.FreeLaws.{free_goes_back}
 use Rattle.lease_machine.proofs.laws.call_laws.Goals as goal
 
@@ -14,3 +15,6 @@ returns-clause-hand c = hand_is_local
 
 pub returns-clause-xalloc : goal.returns-clause-xalloc
 returns-clause-xalloc c = xalloc_carves
+
+pub returns-clause-alloc : goal.returns-clause-alloc
+returns-clause-alloc c = alloc_climbs
