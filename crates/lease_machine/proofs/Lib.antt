@@ -21,4 +21,5 @@ pub mod FreeLaws
 pub mod ClimbSteps
 pub mod XallocLaws
 pub mod AllocLaws
+pub mod DrainLaws
 pub mod LawProofs

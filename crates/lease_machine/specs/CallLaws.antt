@@ -1,6 +1,7 @@
 -- What the calls of quantum caches over one thread's parts come to for a picture.
 use Rattle.std.specs.Prelude.{◌≡◌, ℕ, ◌<◌, List, [], ◌∷◌, Some, None, Result, Ok, Err, length}
-use Rattle.std.specs.Prelude.{slice_get}
+use Rattle.std.specs.Prelude.{slice_get, map}
+use Rattle.std.specs.List.{find}
 use Rattle.deed_core.specs.Tag.{Tag}
 use Rattle.deed_core.specs.Request.{IsGood, IsPlain}
 use Rattle.deed_core.specs.declared.requests.Request.{Request}
@@ -11,12 +12,15 @@ use Rattle.arena_tree.specs.declared.trees.TreeArena.{TreeArena}
 use Rattle.arena_tree.specs.Climbs.{Climbed}
 use Rattle.quantum_cache.specs.Allocs.{alloc_plan, xalloc_plan}
 use Rattle.quantum_cache.specs.Caches.{chain_in}
+use Rattle.quantum_cache.specs.Drains.{drain_plan}
 use Rattle.quantum_cache.specs.Frees.{free_plan}
+use Rattle.stock.specs.Spaces.{SpaceState}
 use Rattle.local_parts.specs.States.{LocalState}
 use Rattle.local_calls.specs.Runs.{IsLocalOf, IsAccountedWith, RunsTo}
-use Rattle.lease_machine.specs.Picture.{Picture, SameSetup}
+use Rattle.lease_machine.specs.Picture.{Cpu, Picture, SameSetup, is_cpu}
 use Rattle.lease_machine.specs.Chunks.{GoesBack}
 use Rattle.lease_machine.specs.Serving.{IsCachedIn, CanServe, ServesWith, ServesNone, FallsBack}
+use Rattle.lease_machine.specs.Operators.{GoesOffline, renewed}
 use Rattle.lease_machine.specs.Held.{IsHeld, parts_in, with_parts}
 
 -- the parts that the selected CPU reaches are set up by the tree, and their accounts balance
@@ -72,3 +76,24 @@ AllocClimbs = (d : Picture) (place : ℕ) (x : TreeArena) (q : Request) (s : Loc
     (a : Climbed) → IsHeld [] d → slice_get d.tree place ≡ Some x → IsPlain q → ¬ IsCachedIn x q
     → RunsTo d.tree (alloc_plan (chain_in d.tree place) q.size) (parts_in d) s a
     → IsClimbedFor place x q d a (with_parts s d)
+
+-- the parts that a CPU reaches, selected or not
+abbrev pub parts_of_cpu : Picture → Cpu → LocalState
+parts_of_cpu d c = record { spaces = d.spaces; cpu = c.caches }
+
+abbrev pub OfflineIsLocal : Type 0
+OfflineIsLocal = (d : Picture) (n : ℕ) (c : Cpu) → IsHeld [] d → find (is_cpu n) d.cpus ≡ Some c
+    → IsLocalOf d.tree (parts_of_cpu d c)
+    × ((others : List Tag) × IsAccountedWith (parts_of_cpu d c) None others)
+
+-- its caches begin anew, over these arenas
+abbrev pub begun_anew : ℕ → List SpaceState → Picture → Picture
+begun_anew n spaces d = record d { spaces = spaces; cpus = map (renewed n d.spaces) d.cpus }
+
+-- a CPU that is drained, and then begins anew, went offline
+abbrev pub DrainGoesOffline : Type 0
+DrainGoesOffline = (d : Picture) (n turns : ℕ) (c : Cpu) (s : LocalState) → IsHeld [] d
+    → find (is_cpu n) d.cpus ≡ Some c
+    → RunsTo d.tree (drain_plan turns d.tree) (parts_of_cpu d c) s (Ok tt)
+    → GoesOffline n d (begun_anew n s.spaces d) × IsHeld [] (begun_anew n s.spaces d)
+    × SameSetup d (begun_anew n s.spaces d)

@@ -2,6 +2,7 @@
 //! contracts are the laws, and `proofs/LawProofs.antt` hands their proofs on.
 ghost use Rattle.lease_machine.specs.CallLaws.{HeldIsLocal, HandIsLocal, FreeGoesBack};
 ghost use Rattle.lease_machine.specs.CallLaws.{XallocCarves, AllocClimbs};
+ghost use Rattle.lease_machine.specs.CallLaws.{OfflineIsLocal, DrainGoesOffline};
 ghost use Rattle.lease_machine.specs.CpuLaws.{FreshIsPicture, SelectedIsPicture, FreshCpuFits};
 ghost use Rattle.lease_machine.specs.CacheLaws.{CachedByNumber};
 ghost use Rattle.lease_machine.specs.Laws.{PicturesStay, SetupStays, UnitsHaveOnePlace};
@@ -89,4 +90,6 @@ pub fn call_laws()
     ensures free { FreeGoesBack }
     ensures xalloc { XallocCarves }
     ensures alloc { AllocClimbs }
+    ensures offline { OfflineIsLocal }
+    ensures drain { DrainGoesOffline }
 {}
