@@ -11,4 +11,15 @@ pub mod Fewer
 pub mod NoRoom
 pub mod Stepping
 pub mod Ticking
+pub mod CpuRows
+pub mod Lasting
+pub mod Focus
+pub mod FreeSteps
+pub mod Shapes
+pub mod HeldLaws
+pub mod FreeLaws
+pub mod ClimbSteps
+pub mod XallocLaws
+pub mod AllocLaws
+pub mod DrainLaws
 pub mod LawProofs
