@@ -1,7 +1,6 @@
 -- What a drain leaves of a CPU's rounds, and CPUs that are ended one after another.
-use Rattle.std.proofs.Common.{◌≡◌, ℕ, suc, zero, ◌+◌, ◌<◌, refl, sym, subst, ap, ◌∙◌, List, [], ◌∷◌, ◌++◌, length, All, Some, None, Ok, arith}
-use Rattle.std.specs.Prelude.{slice_get, sum_by}
-use Rattle.std.specs.List.{flat_map}
+use Rattle.std.proofs.Common.{◌≡◌, ℕ, suc, zero, refl, sym, subst, ap, ◌∙◌, List, [], ◌∷◌, ◌++◌, length, All, Some, None, Ok, arith}
+use Rattle.std.specs.Prelude.{slice_get}
 use Rattle.std.proofs.lemmas.List.{append-nil}
 use Rattle.std.proofs.lemmas.List.Sums.{sum_by-append}
 use Rattle.std.proofs.lemmas.Grind.{flat_map-append}
@@ -14,10 +13,10 @@ use Rattle.quantum_cache.specs.Drains.{Drained, drain_plan}
 use Rattle.quantum_cache.specs.Laws.{drain_left}
 use Rattle.quantum_cache.proofs.LawProofs.{drain_handles}
 use Rattle.stock.specs.Accounts.{Accounts}
-use Rattle.stock.specs.OwnCaches.{OwnCacheState, own_rounds}
+use Rattle.stock.specs.OwnCaches.{OwnCacheState}
 use Rattle.stock.specs.Spaces.{SpaceState, SpacePlan, plans_of}
 use Rattle.stock.proofs.LawProofs.{out_weighs}
-use Rattle.local_parts.specs.Cpus.{IsCpuOf, HasNoRound, HasNoRounds, own_places, places_from, row_rounds, cpu_rounds}
+use Rattle.local_parts.specs.Cpus.{IsCpuOf, HasNoRound, HasNoRounds, places_from, row_rounds, cpu_rounds}
 use Rattle.local_parts.specs.States.{LocalState}
 use Rattle.local_parts.specs.Steps.{LocalStep}
 use Rattle.local_parts.proofs.LawProofs.{plan_conserves, plan_keeps_setup, path_seen}

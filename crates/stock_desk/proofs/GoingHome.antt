@@ -1,7 +1,5 @@
 -- Segments that go home, one after another.
-use Rattle.std.proofs.Common.{◌≡◌, ℕ, suc, ◌+◌, ◌<◌, refl, List, [], ◌∷◌, ◌++◌, Option, Some, None, IfSome, arith}
-use Rattle.std.specs.Prelude.{sum_by}
-use Rattle.std.specs.Option.{option_to_list}
+use Rattle.std.proofs.Common.{◌≡◌, ℕ, suc, ◌<◌, List, ◌∷◌, ◌++◌, Option, Some, None, IfSome, arith}
 use Rattle.std.proofs.lemmas.List.Sums.{sum_by-append, sum_by-cons}
 use Rattle.deed_core.specs.Tag.{Tag}
 use Rattle.deed_core.specs.Weights.{Loses}

@@ -1,5 +1,5 @@
 -- Owned spans of the arenas of a stock are taken out, one after another.
-use Rattle.std.proofs.Common.{◌≡◌, ◌≢◌, ℕ, suc, zero, ◌+◌, ◌<◌, ◌≤◌, Bool, true, false, cond, not, ◌==◌, inl, inr, refl, sym, subst, ap, ◌∙◌, List, [], ◌∷◌, length, map, filter, set, All, Contains, Option, Some, None, get_or, arith}
+use Rattle.std.proofs.Common.{◌≡◌, ◌≢◌, ℕ, suc, zero, ◌+◌, ◌<◌, ◌≤◌, Bool, true, false, cond, not, ◌==◌, inl, inr, sym, subst, ap, ◌∙◌, List, [], ◌∷◌, length, filter, set, All, Contains, Option, Some, None, get_or, arith}
 use Rattle.std.specs.Prelude.{slice_get}
 use Rattle.std.proofs.lemmas.Bool.Decides.{Decides-eqb}
 use Rattle.std.proofs.lemmas.Bool.{cases_eq}
@@ -8,7 +8,7 @@ use Rattle.std.proofs.lemmas.Option.{slice_get_within}
 use Rattle.deed_core.specs.Holding.{Holding}
 use Rattle.deed_core.proofs.LawProofs.{slice_get-set, slice_get-set_other, written, set_same, slice_get_one, all_at, all_from}
 use Rattle.tag_arena.specs.ArenaState.{ArenaState}
-use Rattle.tag_arena.specs.Calls.{IsLowestWhole, after_remove, without}
+use Rattle.tag_arena.specs.Calls.{without}
 use Rattle.tag_arena.specs.Outcomes.{RemoveOf}
 use Rattle.stock.specs.Spaces.{SpaceState, with_arena, plan_of, plans_of}
 use Rattle.stock.specs.Steps.{OnArena}

@@ -1,5 +1,4 @@
-use Rattle.std.proofs.Common.{◌∙◌, [], Some}
-use Rattle.std.specs.Option.{option_map}
+use Rattle.std.proofs.Common.{◌∙◌, []}
 use Rattle.stock_desk.proofs.TakingOut.{fewer_owned, others_same, reaped_stays, none_left}
 use Rattle.stock_desk.proofs.closings.take_out.Goals as goal
 

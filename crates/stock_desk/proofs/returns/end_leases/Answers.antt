@@ -1,4 +1,3 @@
-use Rattle.std.proofs.Common.{◌∙◌}
 use Rattle.stock_desk.proofs.GoingHome.{lease_ends}
 use Rattle.lease_book.specs.BookState.{leased}
 use Rattle.stock_desk.proofs.returns.end_leases.Goals as goal

@@ -1,5 +1,4 @@
 use Rattle.std.proofs.Common.{◌∙◌, sym, subst}
-use Rattle.lease_proto.specs.declared.replies.Reply.{Reply}
 use Rattle.lease_machine.specs.Replies.{IsKnownReply}
 use Rattle.stock_desk.proofs.KnownAnswers.{known_of, known_named, known_told}
 use Rattle.stock_desk.proofs.settling.known.Goals as goal
