@@ -11,4 +11,11 @@ pub mod Fewer
 pub mod NoRoom
 pub mod Stepping
 pub mod Ticking
+pub mod CpuRows
+pub mod Lasting
+pub mod Focus
+pub mod FreeSteps
+pub mod Shapes
+pub mod HeldLaws
+pub mod FreeLaws
 pub mod LawProofs

@@ -1,6 +1,7 @@
 pub mod Picture
 pub mod Moves
 pub mod Chunks
+pub mod Held
 pub mod Serving
 pub mod Replies
 pub mod Operators
@@ -11,3 +12,4 @@ pub mod RoomLaws
 pub mod CpuLaws
 pub mod CacheLaws
 pub mod StepLaws
+pub mod CallLaws

@@ -1,5 +1,6 @@
 //! What follows for each picture, and for each run of lines. The functions do nothing: their
 //! contracts are the laws, and `proofs/LawProofs.antt` hands their proofs on.
+ghost use Rattle.lease_machine.specs.CallLaws.{HeldIsLocal, HandIsLocal, FreeGoesBack};
 ghost use Rattle.lease_machine.specs.CpuLaws.{FreshIsPicture, SelectedIsPicture, FreshCpuFits};
 ghost use Rattle.lease_machine.specs.CacheLaws.{CachedByNumber};
 ghost use Rattle.lease_machine.specs.Laws.{PicturesStay, SetupStays, UnitsHaveOnePlace};
@@ -78,4 +79,11 @@ pub fn step_laws()
     ensures cpus { CpusAreSelected }
     ensures ticks { TicksAreAnswered }
     ensures vain_resizes { VainResizesAreAnswered }
+{}
+
+/// What the calls of quantum caches over one thread's parts come to for a picture.
+pub fn call_laws()
+    ensures local { HeldIsLocal }
+    ensures hand { HandIsLocal }
+    ensures free { FreeGoesBack }
 {}

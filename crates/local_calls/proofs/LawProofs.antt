@@ -2,6 +2,8 @@
 -- how a call's list of steps over `Local` is one over states.
 pub use Rattle.local_calls.proofs.Drained.{drain_empties_cpu}
 pub use Rattle.local_calls.proofs.Reaped.{reap_leaves_nothing}
+pub use Rattle.local_calls.proofs.CpuPlaces.{reached_here}
+pub use Rattle.local_calls.proofs.Chains.{tree_chain}
 pub use Rattle.local_calls.proofs.NoFits.{no_fit_is_right, xalloc_no_fit_is_right}
 use Rattle.std.proofs.Common.{◌≡◌, ℕ, List, ap, subst, ◌∙◌}
 use Rattle.arena_tree.specs.declared.trees.TreeArena.{TreeArena}
@@ -22,7 +24,7 @@ use Rattle.local_parts.specs.Steps.{LocalStep}
 use Rattle.local_calls.specs.Asked.{CarvesWell, IsDone}
 use Rattle.local_calls.specs.Laws.{AllocsWell, DrainsWell, AllocNeverStuck, XallocNeverStops, FreeAlwaysDone, DrainAlwaysDone, ReapAlwaysDone}
 use Rattle.local_calls.specs.Runs.{RunsTo}
-use Rattle.local_calls.proofs.Chains.{tree_chain}
+
 use Rattle.local_calls.proofs.AllocWells.{well_alloc, well_xalloc}
 use Rattle.local_calls.proofs.FreeWells.{well_free}
 use Rattle.local_calls.proofs.EmptyingWells.{well_drain, well_reap}
