@@ -16,14 +16,14 @@ module _ (n : ℕ) (cs : List Cpu) where
   abbrev first : ℕ
   first = position_or_len (is_cpu n) cs
 
-  first_is : (k : ℕ) → position (is_cpu n) cs ≡ Some k → (k ≡ first) × (first < length cs)
+  pub first_is : (k : ℕ) → position (is_cpu n) cs ≡ Some k → (k ≡ first) × (first < length cs)
   first_is k at = by (nat_lt first (length cs)) refl at
     where
       by : (b : Bool) → nat_lt first (length cs) ≡ b → cond b (Some first) None ≡ Some k → (k ≡ first) × (first < length cs)
       by true less at = ((let e : Some first ≡ Some k = at in cc), ltb-true _ _ less)
       by false less at = absurd (let e : None ≡ Some k = at in cc)
 
-  none_is : position (is_cpu n) cs ≡ None → length cs ≤ first
+  pub none_is : position (is_cpu n) cs ≡ None → length cs ≤ first
   none_is at = by (nat_lt first (length cs)) refl at
     where
       by : (b : Bool) → nat_lt first (length cs) ≡ b → cond b (Some first) None ≡ None → length cs ≤ first

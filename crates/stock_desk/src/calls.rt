@@ -1,13 +1,15 @@
 //! The lists of steps over one thread's parts: a stock and a CPU that are lent. Each needs
 //! that they are set up by the tree, and that the accounts balance, whoever else holds segments: so
 //! nothing is stuck, and each clause says that a list of steps was gone through.
-ghost use Rattle.std.specs.Prelude.{◌≡◌, ◌+◌, ◌-◌, ◌^◌, ◌<◌, ℕ, length, Some, None, Ok, Err, List};
+ghost use Rattle.std.specs.Prelude.{◌≡◌, ◌+◌, ◌++◌, ◌-◌, ◌^◌, ◌<◌, ℕ, length, Some, None, Ok, Err, List};
 ghost use Rattle.deed_core.specs.Tag.{Tag};
 ghost use Rattle.quantum_cache.specs.Allocs.{alloc_plan, xalloc_plan};
 ghost use Rattle.quantum_cache.specs.Caches.{chain_in};
 ghost use Rattle.quantum_cache.specs.Drains.{drain_plan};
 ghost use Rattle.quantum_cache.specs.Frees.{free_plan};
 ghost use Rattle.quantum_cache.specs.Reaps.{reap_plan};
+ghost use Rattle.stock.specs.Accounts.{Accounts};
+ghost use Rattle.stock.specs.Spaces.{plans_of};
 ghost use Rattle.local_parts.specs.Cpus.{cpu_rounds, HasNoRounds};
 ghost use Rattle.local_calls.specs.Laws.{AllocsWell};
 ghost use Rattle.local_calls.specs.Runs.{IsLocalOf, IsAccountedWith, RunsTo};
@@ -115,6 +117,10 @@ pub(crate) fn drain_over(parts: &mut Local<'_, PlainDeed>)
         (parts_of parts.old.stock.now parts.old.cpu.now)
         (parts_of parts.new.stock.now parts.new.cpu.now) (Ok tt) }
     ensures empty { HasNoRounds parts.new.cpu.now }
+    ensures out { (others : List Tag)
+        → Accounts parts.old.stock.now (cpu_rounds parts.old.cpu.now ++ others)
+        → Accounts parts.new.stock.now others }
+    ensures fixed { plans_of parts.new.stock.now ≡ plans_of parts.old.stock.now }
     ensures same_stock { parts.new.stock.ghost_name ≡ parts.old.stock.ghost_name }
     ensures same_cpu { parts.new.cpu.ghost_name ≡ parts.old.cpu.ghost_name }
 {

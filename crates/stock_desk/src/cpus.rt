@@ -51,7 +51,7 @@ pub(crate) fn select(
 }
 
 /// Where the CPU of this number stands.
-fn place_of(cpus: &[Cpu], number: CpuNumber) -> Option<usize>
+pub(crate) fn place_of(cpus: &[Cpu], number: CpuNumber) -> Option<usize>
     ensures { result ≡ position (is_cpu number) cpus.now }
 {
     cpus.iter().position(|cpu| cpu.number.get() == number.get())

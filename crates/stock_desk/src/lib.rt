@@ -1,13 +1,19 @@
 //! The desk of one thread: arenas by name with their caches, CPUs, and the book of leases, which
 //! together answer the lines of the lease protocol and of its operator. Of it stand the calls over
 //! one thread's parts (calls), an operator's choice of a CPU (cpus), his intervals and magazine
-//! sizes (depots), what he is told of the clients (telling), and replies that need no arena
-//! (answers, settling).
+//! sizes (depots), what he is told of the arenas and clients (telling), replies (answers,
+//! settling), segments that are taken back (supplies, takings), and how leases (returns), CPUs
+//! (emptyings) and the stock (closings) end.
 #![tactic(auto)]
 
 mod answers;
 mod calls;
+mod closings;
 mod cpus;
 mod depots;
+mod emptyings;
+mod returns;
 mod settling;
+mod supplies;
+mod takings;
 mod telling;

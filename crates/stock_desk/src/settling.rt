@@ -1,9 +1,9 @@
-//! The refusal of a new request.
-ghost use Rattle.std.specs.Prelude.{◌≡◌};
+//! What the book has on a request, and the refusal of a new one.
+ghost use Rattle.std.specs.Prelude.{◌≡◌, MatchOption};
 ghost use Rattle.lease_book.specs.Answers.{IsNew};
 ghost use Rattle.lease_book.specs.BookState.{account_in};
-ghost use Rattle.lease_machine.specs.Picture.{Picture};
-ghost use Rattle.lease_machine.specs.Replies.{SettlesRefusal};
+ghost use Rattle.lease_machine.specs.Picture.{Picture, IsPicture};
+ghost use Rattle.lease_machine.specs.Replies.{IsKnownReply, SettlesRefusal};
 
 use crate::answers::answered;
 use arena_tree::Tree;
@@ -11,6 +11,18 @@ use deed_core::PlainDeed;
 use lease_book::Book;
 use lease_proto::Reply;
 use lease_terms::{Refusal, RequestId};
+
+/// The reply to a request whose number isn't new.
+pub(crate) fn known(tree: &Tree, book: &Book<PlainDeed>, id: RequestId) -> Option<Reply>
+    requires { (d : Picture) × IsPicture d × (d.tree ≡ tree.now) × (d.book ≡ book.now) }
+    ensures { MatchOption result
+        (IsNew (account_in id.client book.now) id)
+        (λ r. (d : Picture) → d.tree ≡ tree.now → d.book ≡ book.now → IsKnownReply d id r) }
+{
+    let look = book.look(id);
+    let answer = look.answer()?;
+    Some(answered(tree, id, answer))
+}
 
 /// Settles a new request by a refusal.
 pub(crate) fn refuse(
