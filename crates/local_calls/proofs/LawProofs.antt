@@ -25,7 +25,6 @@ use Rattle.local_parts.specs.Steps.{LocalStep}
 use Rattle.local_calls.specs.Asked.{CarvesWell, DoesWell}
 use Rattle.local_calls.specs.Laws.{AllocsWell, DrainsWell, AllocNeverStuck, XallocNeverStops, FreeAlwaysDone, DrainAlwaysDone, ReapAlwaysDone}
 use Rattle.local_calls.specs.Runs.{RunsTo}
-
 use Rattle.local_calls.proofs.AllocWells.{well_alloc, well_xalloc}
 use Rattle.local_calls.proofs.FreeWells.{well_free}
 use Rattle.local_calls.proofs.EmptyingWells.{well_drain, well_reap}

@@ -59,7 +59,11 @@ impl<D: Deed> StockSetup<D> {
 
     /// The arenas of a tree with their quantum caches, but with no span: each root's owned spans
     /// are then added. Its magazines take `rounds` rounds.
-    pub(crate) fn of_tree(alloc: Global, tree: &Tree, rounds: usize) -> Result<StockSetup<D>, AllocError>
+    pub(crate) fn of_tree(
+        alloc: Global,
+        tree: &Tree,
+        rounds: usize,
+    ) -> Result<StockSetup<D>, AllocError>
         requires rounds { IsSize rounds }
         ensures planned { IfOk result (λ spaces. plans_of spaces ≡ plans_for tree.now) }
         ensures unused { IfOk result (λ spaces. All (IsNewSpace rounds) spaces) }

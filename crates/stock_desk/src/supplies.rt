@@ -34,10 +34,10 @@ impl Model for Supply {
         (codes, finmap.code {X = Holding} {R = nat_cmp} coded_ℕ (Prim.hlevel codes)) };
 
     ghost view = { λ s. record {
-        tree = s.tree;
-        spaces = s.stock;
-        cpus = s.cpus.items;
-        selected = s.selected;
+      tree = s.tree;
+      spaces = s.stock;
+      cpus = s.cpus.items;
+      selected = s.selected;
     } };
 }
 

@@ -27,7 +27,13 @@ impl Supply {
     {
         let place = self.place();
         let cpu = &mut self.cpus[place];
-        free_with(self.alloc, &self.tree, &mut self.stock, &mut cpu.caches, segment);
+        free_with(
+            self.alloc,
+            &self.tree,
+            &mut self.stock,
+            &mut cpu.caches,
+            segment,
+        );
     }
 }
 
