@@ -259,12 +259,33 @@ fn sums_with_caches(rt: HostRuntime) {
     audits(&rt, &stock, &[], &[], &cpu, [112, 11, 5, 0, 0, 0]);
     let span = carve(&rt, &mut stock, 16);
     let lease = slab_add(&rt, &mut stock, span);
-    audits(&rt, &stock, &[], from_ref(&lease), &cpu, [96, 22, 5, 0, 5, 0]);
+    audits(
+        &rt,
+        &stock,
+        &[],
+        from_ref(&lease),
+        &cpu,
+        [96, 22, 5, 0, 5, 0],
+    );
     let span = carve(&rt, &mut stock, 16);
     let first = import(&rt, &mut stock, span, 4);
-    audits(&rt, &stock, from_ref(&first), from_ref(&lease), &cpu, [80, 22, 5, 16, 5, 0]);
+    audits(
+        &rt,
+        &stock,
+        from_ref(&first),
+        from_ref(&lease),
+        &cpu,
+        [80, 22, 5, 16, 5, 0],
+    );
     let span = free(&rt, &mut stock, first).expect(&rt, "a whole span");
-    audits(&rt, &stock, from_ref(&span), from_ref(&lease), &cpu, [80, 22, 5, 0, 5, 16]);
+    audits(
+        &rt,
+        &stock,
+        from_ref(&span),
+        from_ref(&lease),
+        &cpu,
+        [80, 22, 5, 0, 5, 16],
+    );
     match free(&rt, &mut stock, span) {
         None => {}
         Some(_) => panic!(rt; "a span"),
