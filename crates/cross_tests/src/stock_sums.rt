@@ -1,32 +1,45 @@
-//! The sums of two arenas, of which the second imports from the first, after a few events, with
-//! numbers counted by hand.
+//! The audits of two arenas, of which the second imports from the first, after a few events, with
+//! numbers counted by hand: without caches, and with slabs, a gap and tails, and a CPU's magazines.
 ghost use Rattle.std.specs.Prelude.{[], ◌∷◌};
 ghost use Rattle.std.specs.Option.{option_to_list};
 ghost use Rattle.stock.specs.Accounts.{Accounts, Frames};
+ghost use Rattle.stock.specs.OwnCaches.{own_rounds};
 ghost use Rattle.stock_audit.specs.Outside.{outside, segments_out};
 
-use deed_core::{Deed, PlainDeed, Range, Request, Route, Segment};
+use crate::stocks::{name, stock_of, two_arenas};
+use arena_tree::{NewChild, NewRoot, Setting, Setup};
+use deed_core::{Deed, PlainDeed, Request, Route, Segment};
 use std::alloc::Global;
 use std::process::Abort;
-use stock::{Stock, StockSetup};
+use std::slice::from_ref;
+use stock::{OwnCache, Stock, plain_stock};
 use stock_audit::{ArenaSums, audit};
 use tag_arena::Policy;
 
-/// A root of 64 units, and a child of it.
+/// A root of 64 units, and a child of it, neither with caches.
 fn begin(rt: &impl Abort, alloc: Global) -> Stock<PlainDeed>
     ensures balances { Accounts result [] }
 {
-    let mut setup = StockSetup::new(alloc);
-    setup.add_arena(None, 1, Policy::Best).expect(rt, "a root");
-    let range = Range::new(0, 64).expect(rt, "a range");
-    match setup.add_span(0, PlainDeed::new(0, range)) {
-        Ok(()) => {}
-        Err(_) => panic!(rt; "a span"),
-    }
-    setup
-        .add_arena(Some(0), 1, Policy::Best)
-        .expect(rt, "a child");
-    setup.finish()
+    let mut setup = Setup::new(alloc);
+    let root = NewRoot {
+        name: name(rt, "root"),
+        base: 0,
+        len: 64,
+        quantum: 1,
+        policy: Policy::Best,
+        qcache_max: 0,
+    };
+    let child = NewChild {
+        name: name(rt, "child"),
+        source: name(rt, "root"),
+        quantum: 1,
+        policy: Policy::Best,
+        qcache_max: 0,
+        import_min: 0,
+    };
+    setup.add(&Setting::Root(root)).expect(rt, "a root");
+    setup.add(&Setting::Child(child)).expect(rt, "a child");
+    plain_stock(alloc, &setup, 3).expect(rt, "a stock")
 }
 
 /// So many units of an arena.
@@ -83,6 +96,49 @@ fn sums(free: u128, exported: u128, leased: u128, hand: u128) -> ArenaSums {
         exported,
         leased,
         hand,
+    }
+}
+
+/// The span of the first arena becomes a slab of chunks of five units.
+fn slab_add(
+    rt: &impl Abort,
+    stock: &mut Stock<PlainDeed>,
+    span: Segment<PlainDeed>,
+) -> Segment<PlainDeed>
+    ensures frame { Frames stock.old (span ∷ []) stock.new (result ∷ []) }
+{
+    let place = stock.cache_at(0, 5).expect(rt, "a cache");
+    assert_eq!(rt; span.arena(), 0);
+    assert_eq!(rt; span.route(), Route::Direct);
+    assert_eq!(rt; stock.quantum(0), 1);
+    match stock.slab_add(0, place, span) {
+        Ok(first) => first,
+        Err(_) => panic!(rt; "a slab"),
+    }
+}
+
+/// A chunk becomes a round of a CPU.
+#[tactic(auto, using(stock::proofs::LawProofs::pushes))]
+fn push(
+    rt: &impl Abort,
+    stock: &Stock<PlainDeed>,
+    cpu: &mut OwnCache<PlainDeed>,
+    chunk: Segment<PlainDeed>,
+)
+    ensures frame { Frames stock.now (chunk ∷ own_rounds cpu.old) stock.now (own_rounds cpu.new) }
+{
+    assert!(rt; cpu.takes(&chunk));
+    match cpu.push(chunk) {
+        Ok(()) => {}
+        Err(_) => panic!(rt; "a push"),
+    }
+}
+
+/// A chunk goes home.
+fn put(rt: &impl Abort, stock: &mut Stock<PlainDeed>, chunk: Segment<PlainDeed>) {
+    match stock.slab_put(chunk) {
+        Ok(()) => {}
+        Err(_) => panic!(rt; "a put"),
     }
 }
 
@@ -147,4 +203,99 @@ fn sums_of_a_chain(rt: HostRuntime) {
     }
     tells(&rt, &stock, &[], &[], sums(64, 0, 0, 0), sums(0, 0, 0, 0));
     end(&rt, stock);
+}
+
+/// The sums of the first arena are these, in the order free, slab, magazine, exported, leased, hand.
+fn audits(
+    rt: &impl Abort,
+    stock: &Stock<PlainDeed>,
+    hand: &[Segment<PlainDeed>],
+    leases: &[Segment<PlainDeed>],
+    cpu: &OwnCache<PlainDeed>,
+    sums: [u128; 6],
+)
+    requires balances { Accounts stock.now
+        (segments_out (outside hand.now leases.now (cpu.now ∷ []))) }
+{
+    assert!(rt; stock.count() == 2);
+    let told = audit(stock, 0, hand, leases, from_ref(cpu));
+    let [free, slab, magazine, exported, leased, hand] = sums;
+    assert_eq!(rt; told.free, free);
+    assert_eq!(rt; told.slab, slab);
+    assert_eq!(rt; told.magazine, magazine);
+    assert_eq!(rt; told.exported, exported);
+    assert_eq!(rt; told.leased, leased);
+    assert_eq!(rt; told.hand, hand);
+}
+
+/// All goes home: the caches are reaped, and the root is taken out.
+fn end_reaped(rt: &impl Abort, mut stock: Stock<PlainDeed>) {
+    match stock.reap_all() {
+        Ok(()) => {}
+        Err(_) => panic!(rt; "a reaping"),
+    }
+    assert!(rt; stock.count() == 2);
+    let deed = stock.remove_owned(0).expect(rt, "a root");
+    assert_eq!(rt; deed.close().len(), 128);
+    match stock.close() {
+        Ok(()) => {}
+        Err(_) => panic!(rt; "a deed is left"),
+    }
+}
+
+/// Of each of two slabs of 16 units the first chunk is out: one in a CPU, one leased. The first slab
+/// has a tail of one unit, the second a gap; what is left of both are two chunks and that unit.
+#[test]
+fn sums_with_caches(rt: HostRuntime) {
+    let setup = two_arenas(&rt, rt.alloc());
+    let mut stock = stock_of(&rt, rt.alloc(), &setup);
+    let mut cpu = match OwnCache::new(rt.alloc(), 0, 4, 1, 3) {
+        Ok(cpu) => cpu,
+        Err(_) => panic!(rt; "a cache of a CPU"),
+    };
+    let span = carve(&rt, &mut stock, 16);
+    let chunk = slab_add(&rt, &mut stock, span);
+    push(&rt, &stock, &mut cpu, chunk);
+    audits(&rt, &stock, &[], &[], &cpu, [112, 11, 5, 0, 0, 0]);
+    let span = carve(&rt, &mut stock, 16);
+    let lease = slab_add(&rt, &mut stock, span);
+    audits(
+        &rt,
+        &stock,
+        &[],
+        from_ref(&lease),
+        &cpu,
+        [96, 22, 5, 0, 5, 0],
+    );
+    let span = carve(&rt, &mut stock, 16);
+    let first = import(&rt, &mut stock, span, 4);
+    audits(
+        &rt,
+        &stock,
+        from_ref(&first),
+        from_ref(&lease),
+        &cpu,
+        [80, 22, 5, 16, 5, 0],
+    );
+    let span = free(&rt, &mut stock, first).expect(&rt, "a whole span");
+    audits(
+        &rt,
+        &stock,
+        from_ref(&span),
+        from_ref(&lease),
+        &cpu,
+        [80, 22, 5, 0, 5, 16],
+    );
+    match free(&rt, &mut stock, span) {
+        None => {}
+        Some(_) => panic!(rt; "a span"),
+    }
+    put(&rt, &mut stock, lease);
+    let round = cpu.pop().expect(&rt, "a round");
+    put(&rt, &mut stock, round);
+    match cpu.close() {
+        Ok(()) => {}
+        Err(_) => panic!(rt; "a round of a CPU"),
+    }
+    end_reaped(&rt, stock);
 }

@@ -11,7 +11,7 @@ use lease_terms::Name;
 use magazine_layer::Magazine;
 use std::alloc::Global;
 use std::process::Abort;
-use stock::{OwnCache, Stock, StockSetup};
+use stock::{OwnCache, Stock, plain_stock};
 use tag_arena::Policy;
 
 /// The units of one arena: free, in slabs, in magazines, exported, leased, in the hand.
@@ -153,7 +153,7 @@ fn keep(rt: &impl Abort, segments: &mut Vec<Segment<PlainDeed>>, segment: Segmen
     }
 }
 
-fn name(rt: &impl Abort, text: &str) -> Name {
+pub(crate) fn name(rt: &impl Abort, text: &str) -> Name {
     Name::new(text.as_bytes()).expect(rt, "a name")
 }
 
@@ -185,21 +185,7 @@ pub(crate) fn two_arenas(rt: &impl Abort, alloc: Global) -> Setup {
 pub(crate) fn stock_of(rt: &impl Abort, alloc: Global, setup: &Setup) -> Stock<PlainDeed>
     ensures balances { Accounts result [] }
 {
-    let mut stock = match StockSetup::of_tree(alloc, setup.tree(), 3) {
-        Ok(stock) => stock,
-        Err(_) => panic!(rt; "arenas"),
-    };
-    for span in setup.spans() {
-        let arena = span.arena as usize;
-        assert!(rt; arena < stock.count());
-        assert_eq!(rt; stock.source(arena), None);
-        let deed = PlainDeed::new(span.arena, span.range);
-        match stock.add_span(arena, deed) {
-            Ok(()) => {}
-            Err(_) => panic!(rt; "a span"),
-        }
-    }
-    stock.finish()
+    plain_stock(alloc, setup, 3).expect(rt, "a stock")
 }
 
 /// The stock, and a CPU with chunks of five units.
