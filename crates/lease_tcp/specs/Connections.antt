@@ -15,17 +15,17 @@ unread_intake = record { hand = hand_in [] []; reads = 0; ended = false }
 
 module _ {K : Type 0} (may_reply : K → Line → Reply → K → Type 0) (may_tidy : K → K → Type 0) where
   -- the lines for a worker may get this answer
-  abbrev pub AnswersLine : ClientLines K → List ℕ → List ℕ → ClientLines K → Type 0
-  AnswersLine old line text new = MayAnswer may_reply (worker_of old) line text (worker_of new)
+  abbrev pub WorkerMayAnswer : ClientLines K → List ℕ → List ℕ → ClientLines K → Type 0
+  WorkerMayAnswer old line text new = MayAnswer may_reply (worker_of old) line text (worker_of new)
 
   -- all lines of a connection are answered, and the worker tidied after them
   abbrev pub Serves : Streams → Streams → ClientLines K → ClientLines K → Type 0
   Serves old new first last = (mid : ClientLines K)
-      × ServesAll AnswersLine (unread_intake.hand) old new first mid
+      × ServesAll WorkerMayAnswer (unread_intake.hand) old new first mid
       × may_tidy (worker_of mid) (worker_of last)
 
   -- the connection had a fault, as the line server tells it, and the worker tidied after it
   abbrev pub BreaksOff : Streams → Streams → ClientLines K → ClientLines K → ServeFault → Type 0
   BreaksOff old new first last fault = (mid : ClientLines K)
-      × ServeFails AnswersLine unread_intake old new first mid fault
+      × ServeFails WorkerMayAnswer unread_intake old new first mid fault
       × may_tidy (worker_of mid) (worker_of last)
