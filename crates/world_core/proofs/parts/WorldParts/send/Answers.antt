@@ -7,7 +7,7 @@ use Rattle.world_core.proofs.parts.WorldParts.send.Goals as goal
 
 pub returns-in-NotOpen : goal.returns-in-NotOpen
 returns-in-NotOpen g c =
-    let w : WorldState = record { stock = c.self.inside.stock; names = c.self.inside.names.items; hands = c.self.inside.hands.items; tasks = c.self.inside.tasks.items; book = c.self.inside.book; entries = entries_of c.self.inside.log.items; clients = c.self.inside.clients.items; requests = c.self.inside.requests.items; replies = c.self.inside.replies.items } in
+    let w : WorldState = record { stock = c.self.inside.stock; names = c.self.inside.names.items; owners = c.self.inside.owners.items; caches = c.self.inside.caches.items; hands = c.self.inside.hands.items; tasks = c.self.inside.tasks.items; book = c.self.inside.book; entries = entries_of c.self.inside.log.items; clients = c.self.inside.clients.items; requests = c.self.inside.requests.items; replies = c.self.inside.replies.items } in
     let view : w ≡ c.args.self.now = c.self.view_is in
     let within : c.args.client < length w.clients = omega arith in
     let here : slice_get w.clients c.args.client ≡ Some c.index_mut.result.now = slice_get_here w.clients c.args.client c.index_mut.result.now within c.index_mut.ensures.value in
@@ -18,7 +18,7 @@ returns-in-NotOpen g c =
 
 pub returns-in-Busy : goal.returns-in-Busy
 returns-in-Busy g c =
-    let w : WorldState = record { stock = c.self.inside.stock; names = c.self.inside.names.items; hands = c.self.inside.hands.items; tasks = c.self.inside.tasks.items; book = c.self.inside.book; entries = entries_of c.self.inside.log.items; clients = c.self.inside.clients.items; requests = c.self.inside.requests.items; replies = c.self.inside.replies.items } in
+    let w : WorldState = record { stock = c.self.inside.stock; names = c.self.inside.names.items; owners = c.self.inside.owners.items; caches = c.self.inside.caches.items; hands = c.self.inside.hands.items; tasks = c.self.inside.tasks.items; book = c.self.inside.book; entries = entries_of c.self.inside.log.items; clients = c.self.inside.clients.items; requests = c.self.inside.requests.items; replies = c.self.inside.replies.items } in
     let view : w ≡ c.args.self.now = c.self.view_is in
     let within : c.args.client < length w.clients = omega arith in
     let here : slice_get w.clients c.args.client ≡ Some c.index_mut.result.now = slice_get_here w.clients c.args.client c.index_mut.result.now within c.index_mut.ensures.value in
@@ -29,7 +29,7 @@ returns-in-Busy g c =
 
 pub returns-in-NotHeld : goal.returns-in-NotHeld
 returns-in-NotHeld g c =
-    let w : WorldState = record { stock = c.self.inside.stock; names = c.self.inside.names.items; hands = c.self.inside.hands.items; tasks = c.self.inside.tasks.items; book = c.self.inside.book; entries = entries_of c.self.inside.log.items; clients = c.self.inside.clients.items; requests = c.self.inside.requests.items; replies = c.self.inside.replies.items } in
+    let w : WorldState = record { stock = c.self.inside.stock; names = c.self.inside.names.items; owners = c.self.inside.owners.items; caches = c.self.inside.caches.items; hands = c.self.inside.hands.items; tasks = c.self.inside.tasks.items; book = c.self.inside.book; entries = entries_of c.self.inside.log.items; clients = c.self.inside.clients.items; requests = c.self.inside.requests.items; replies = c.self.inside.replies.items } in
     let view : w ≡ c.args.self.now = c.self.view_is in
     let within : c.args.client < length w.clients = omega arith in
     let here : slice_get w.clients c.args.client ≡ Some c.index_mut.result.now = slice_get_here w.clients c.args.client c.index_mut.result.now within c.index_mut.ensures.value in
@@ -40,7 +40,7 @@ returns-in-NotHeld g c =
 
 pub returns-in-Exhausted : goal.returns-in-Exhausted
 returns-in-Exhausted g c =
-    let w : WorldState = record { stock = c.self.inside.stock; names = c.self.inside.names.items; hands = c.self.inside.hands.items; tasks = c.self.inside.tasks.items; book = c.self.inside.book; entries = entries_of c.self.inside.log.items; clients = c.self.inside.clients.items; requests = c.self.inside.requests.items; replies = c.self.inside.replies.items } in
+    let w : WorldState = record { stock = c.self.inside.stock; names = c.self.inside.names.items; owners = c.self.inside.owners.items; caches = c.self.inside.caches.items; hands = c.self.inside.hands.items; tasks = c.self.inside.tasks.items; book = c.self.inside.book; entries = entries_of c.self.inside.log.items; clients = c.self.inside.clients.items; requests = c.self.inside.requests.items; replies = c.self.inside.replies.items } in
     let view : w ≡ c.args.self.now = c.self.view_is in
     let within : c.args.client < length w.clients = omega arith in
     let here : slice_get w.clients c.args.client ≡ Some c.index_mut.result.now = slice_get_here w.clients c.args.client c.index_mut.result.now within c.index_mut.ensures.value in

@@ -12,7 +12,7 @@ use Rattle.world_core.proofs.parts.WorldParts.sweep.Goals as goal
 
 pub returns-in-Some : goal.returns-in-Some
 returns-in-Some g c =
-    let w : WorldState = record { stock = c.self.inside.stock; names = c.self.inside.names.items; hands = c.self.inside.hands.items; tasks = c.self.inside.tasks.items; book = c.self.inside.book; entries = entries_of c.self.inside.log.items; clients = c.self.inside.clients.items; requests = c.self.inside.requests.items; replies = c.self.inside.replies.items } in
+    let w : WorldState = record { stock = c.self.inside.stock; names = c.self.inside.names.items; owners = c.self.inside.owners.items; caches = c.self.inside.caches.items; hands = c.self.inside.hands.items; tasks = c.self.inside.tasks.items; book = c.self.inside.book; entries = entries_of c.self.inside.log.items; clients = c.self.inside.clients.items; requests = c.self.inside.requests.items; replies = c.self.inside.replies.items } in
     let view : w ≡ c.args.self.now = c.self.view_is in
     let v : WorldState = record w { hands = c.put.new.hands.items; book = c.sweep.new.self; entries = entries_of c.push_reserved.new.self.items } in
     let empty : slice_get w.hands c.args.cpu ≡ Some None = (let e : slice_get c.args.self.now.hands c.args.cpu ≡ Some None = search rules in ap (λ (x : WorldState). slice_get x.hands c.args.cpu) view ∙ e) in
