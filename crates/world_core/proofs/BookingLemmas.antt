@@ -79,6 +79,8 @@ hello_refused_keeps which w v is m = subst IsWorld (sym m.after) (record {
   known = is.known;
   said = is.said;
   tasks = is.tasks;
+  own = is.own;
+  shaped = is.shaped;
   told = each_pushed (MayTell (arena_name w.names) w.entries) w.replies _ is.told (let there = present w m.hello.client is in omega arith);
 })
 
@@ -94,6 +96,8 @@ answered_keeps which w v is m = subst IsWorld (sym m.after) (record {
   known = is.known;
   said = is.said;
   tasks = is.tasks;
+  own = is.own;
+  shaped = is.shaped;
   told = each_pushed (MayTell (arena_name w.names) w.entries) w.replies m.reply is.told (answer_told w m.id m.reply is m.answered);
 })
 
@@ -110,6 +114,8 @@ ended_keeps cpu May w v is tells m = subst IsWorld (sym m.after) (record {
   known = is.known;
   said = is.said;
   tasks = each_written (IsOfLines w.requests) w.tasks cpu None is.tasks tt;
+  own = is.own;
+  shaped = is.shaped;
   told = each_pushed (MayTell (arena_name w.names) w.entries) w.replies m.reply is.told (tells m.id m.reply m.may);
 })
 
@@ -131,6 +137,8 @@ taken_keeps cpu which w v is m = subst IsWorld (sym m.after) (record {
   known = is.known;
   said = is.said;
   tasks = each_written (IsOfLines w.requests) w.tasks cpu (Some (record { id = m.id; op = m.op })) is.tasks (which, m.sent);
+  own = is.own;
+  shaped = is.shaped;
   told = is.told;
 })
 
@@ -142,7 +150,7 @@ hello_taken_keeps which w v is m =
     let entry : Entry = Hello m.hello.client m.hello.incarnation in
     let now : IsHistory (entry ∷ w.entries) m.book = m.enters.history w.entries is.book in
     subst IsWorld (sym m.after) (record {
-      parts = subst (λ (leases : List Tag). IsAccountedFor w.stock (outside (in_hands w.hands) leases [])) (sym m.leases) is.parts;
+      parts = subst (λ (leases : List Tag). IsAccountedFor w.stock (outside (in_hands w.hands) leases w.caches)) (sym m.leases) is.parts;
       named = is.named;
       few = is.few;
       names = is.names;
@@ -152,6 +160,8 @@ hello_taken_keeps which w v is m =
       known = λ k c at. hellos_keep_known names w.entries c m.hello.client m.hello.incarnation (is.known k c at) (is.said k c at which (lines.Hello m.hello) m.sent);
       said = is.said;
       tasks = is.tasks;
+      own = is.own;
+      shaped = is.shaped;
       told = each_pushed (MayTell names (entry ∷ w.entries)) w.replies _ (λ k r at. told_stays_told names entry w.entries r now.orderly (is.told k r at)) tt;
     })
 
@@ -164,7 +174,7 @@ swept_keeps cpu c w v is m =
     let mine : incarnation m.id.client w.entries ≡ incarnation c w.entries = ap (λ (d : ℕ). incarnation d w.entries) m.swept.client in
     let older = m.swept.older in
     subst IsWorld (sym m.after) (record {
-      parts = hand_leased w.stock w.hands (leased w.book) [] cpu None (Some m.segment) m.empty (leased m.book)
+      parts = hand_leased w.stock w.hands (leased w.book) w.caches cpu None (Some m.segment) m.empty (leased m.book)
           (λ f. (let l = m.swept.ended.leases f in let e = sum_by-cons f m.segment [] in omega arith)) is.parts;
       named = is.named;
       few = is.few;
@@ -175,6 +185,8 @@ swept_keeps cpu c w v is m =
       known = λ k x at. sweeps_keep_known names w.entries x m.id.client m.id.incarnation m.segment.arena m.segment.holding.range.base (is.known k x at) (omega arith);
       said = is.said;
       tasks = is.tasks;
+      own = is.own;
+      shaped = is.shaped;
       told = λ k r at. told_stays_told names entry w.entries r now.orderly (is.told k r at);
     })
 
@@ -184,7 +196,7 @@ settled_told names es id s = outcome_told names (Settled id s ∷ es) id (kept_r
 -- a request is settled
 settles : (w : WorldState) (cpu : ℕ) (hands : List (Option Tag)) (book : BookState) (id : RequestId) (op : Op) (s : Settlement) → IsWorld w
     → HasTask w cpu id op → Enters (Settled id s) w.book book → IsFor (arena_name w.names) op s → IsDue w.stock w.names w.requests (Settled id s)
-    → IsAccountedFor w.stock (outside (in_hands hands) (leased book) [])
+    → IsAccountedFor w.stock (outside (in_hands hands) (leased book) w.caches)
     → IsWorld (record w { hands = hands; tasks = set w.tasks cpu None; book = book; entries = Settled id s ∷ w.entries; replies = w.replies ++ settled_reply w id s ∷ [] })
 settles w cpu hands book id op s is task enters for due accounts =
     let names = arena_name w.names in
@@ -201,6 +213,8 @@ settles w cpu hands book id op s is task enters for due accounts =
       known = λ k c at. settlements_keep_known names w.entries c id op s (is.known k c at) now.orderly for (is.said k c at line.0 (lines.Request id op) line.1);
       said = is.said;
       tasks = each_written (IsOfLines w.requests) w.tasks cpu None is.tasks tt;
+      own = is.own;
+      shaped = is.shaped;
       told = each_pushed (MayTell names (Settled id s ∷ w.entries)) w.replies _ (λ k r at. told_stays_told names (Settled id s) w.entries r now.orderly (is.told k r at)) (settled_told names w.entries id s);
     }
 
@@ -215,7 +229,7 @@ granted_keeps cpu w v is m = subst IsWorld (sym m.after)
       quantum = m.quantum;
       request = m.request;
     })
-    (hand_leased w.stock w.hands (leased w.book) [] cpu (Some m.segment) None m.holds (leased m.book)
+    (hand_leased w.stock w.hands (leased w.book) w.caches cpu (Some m.segment) None m.holds (leased m.book)
     (λ f. (let l = m.granted.leases f in let e = sum_by-cons f m.segment [] in omega arith)) is.parts))
 
 refuse_for : (names : ℕ → List ℕ) (op : Op) (why : Refusal) → IsFor names op (Refuse why)
@@ -225,10 +239,10 @@ refuse_for names (ops.Release r) why = tt
 pub refused_keeps : (cpu : ℕ) (why : Refusal) (w v : WorldState) → IsWorld w → TaskRefused cpu why w v → IsWorld v
 refused_keeps cpu why w v is m = subst IsWorld (sym m.after)
     (settles w cpu w.hands m.book m.id m.op (Refuse why) is m.serves m.refused.entry (refuse_for (arena_name w.names) m.op why) tt
-    (subst (λ (leases : List Tag). IsAccountedFor w.stock (outside (in_hands w.hands) leases [])) (sym m.refused.leases) is.parts))
+    (subst (λ (leases : List Tag). IsAccountedFor w.stock (outside (in_hands w.hands) leases w.caches)) (sym m.refused.leases) is.parts))
 
 pub released_keeps : (cpu : ℕ) (w v : WorldState) → IsWorld w → TaskReleased cpu w v → IsWorld v
 released_keeps cpu w v is m = subst IsWorld (sym m.after)
     (settles w cpu (set w.hands cpu (Some m.segment)) m.book m.id (ops.Release m.release) (Return m.arena m.release.base) is m.serves m.released.entry (m.home.is, refl) tt
-    (hand_leased w.stock w.hands (leased w.book) [] cpu None (Some m.segment) m.empty (leased m.book)
+    (hand_leased w.stock w.hands (leased w.book) w.caches cpu None (Some m.segment) m.empty (leased m.book)
     (λ f. (let l = m.released.leases f in let e = sum_by-cons f m.segment [] in omega arith)) is.parts))

@@ -74,12 +74,12 @@ not_empty w cpu t a b = (let e : Some (Some t) ≡ Some None = sym a ∙ b in ab
 
 -- what else is out
 abbrev pub others : WorldState → ℕ → List Tag
-others w cpu = in_hands (set w.hands cpu None) ++ (leased w.book ++ all_rounds_out [])
+others w cpu = in_hands (set w.hands cpu None) ++ (leased w.book ++ all_rounds_out w.caches)
 
 -- what is in a hand is out
 pub held_out : (w : WorldState) (cpu : ℕ) (t : Tag) → IsWorld w → HasInHand w cpu (Some t) → IsAccounted w.stock (t ∷ others w cpu)
 held_out w cpu t is held =
-    let rest : List Tag = leased w.book ++ all_rounds_out [] in
+    let rest : List Tag = leased w.book ++ all_rounds_out w.caches in
     record {
       stock = is.parts.parts;
       accounts = out_weighs w.stock (in_hands w.hands ++ rest) (t ∷ others w cpu) (λ f. omega (
@@ -291,7 +291,7 @@ import_wants_memory w cpu child size span back q stock taken hands ready held on
 
 -- Depots.
 
-depot_same : (k j : ℕ) (P : DepotState → DepotState → Type 0) (old new : List SpaceState) (on : OnDepot k j P old new) → on.depot ≡ on.cache.depot → new ≡ old
+pub depot_same : (k j : ℕ) (P : DepotState → DepotState → Type 0) (old new : List SpaceState) (on : OnDepot k j P old new) → on.depot ≡ on.cache.depot → new ≡ old
 depot_same k j P old new on same =
     let caches : set on.space.caches j (with_depot on.depot on.cache) ≡ on.space.caches = ap (λ (x : DepotState). set on.space.caches j (with_depot x on.cache)) same ∙ set_same on.space.caches j on.cache on.among in
     on.after ∙ ap (λ (cs : List QuantumCacheState). set old k (with_caches cs on.space)) caches ∙ set_same old k on.space on.at

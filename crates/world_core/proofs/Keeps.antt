@@ -10,6 +10,7 @@ use Rattle.world_core.specs.Events.{MovesBy, EndsAs, HappensTo}
 use Rattle.world_core.proofs.TalkLemmas.{restart_keeps, send_keeps, resend_keeps, hear_keeps}
 use Rattle.world_core.proofs.BookingLemmas.{hello_taken_keeps, hello_refused_keeps, answered_keeps, taken_keeps, granted_keeps, refused_keeps, released_keeps, answer_keeps, given_up_keeps, swept_keeps}
 use Rattle.world_core.proofs.StockLemmas.{hand_move_keeps, part_move_keeps}
+use Rattle.world_core.proofs.OwnLemmas.{popped_keeps, pushed_keeps, own_move_keeps}
 
 pub moves_keep : (event : WorldEvent) (w v : WorldState) → IsWorld w → MovesBy event w v → IsWorld v
 moves_keep (events.Restarts c i) w v is m = restart_keeps c i w v is m
@@ -38,6 +39,12 @@ moves_keep (events.SlabPuts cpu) w v is (t, m) = hand_move_keeps cpu (Some t) No
 moves_keep (events.SlabAdds cpu arena cache) w v is (span, t, m) = hand_move_keeps cpu (Some span) (Some t) _ w v is m
 moves_keep (events.SlabReaps cpu arena cache) w v is (t, m) = hand_move_keeps cpu None (Some t) _ w v is m
 moves_keep (events.DepotReaps cpu arena cache) w v is (t, m) = hand_move_keeps cpu None (Some t) _ w v is m
+moves_keep (events.Pops cpu arena cache) w v is m = popped_keeps cpu arena cache w v is m
+moves_keep (events.Pushes cpu) w v is m = pushed_keeps cpu w v is m
+moves_keep (events.SwapsFull cpu arena cache) w v is m = own_move_keeps cpu arena cache _ w v is m
+moves_keep (events.SwapsEmpty cpu arena cache) w v is m = own_move_keeps cpu arena cache _ w v is m
+moves_keep (events.SwapsFresh cpu arena cache) w v is m = own_move_keeps cpu arena cache _ w v is m
+moves_keep (events.Changes cpu arena cache size) w v is m = own_move_keeps cpu arena cache _ w v is m
 moves_keep (events.Ticks arena cache) w v is m = part_move_keeps _ w v is m
 moves_keep (events.Resizes arena cache size) w v is m = part_move_keeps _ w v is m
 

@@ -11,3 +11,5 @@ mod PartLemmas
 mod BookLemmas
 mod SetupLemmas
 mod AuditLemmas
+mod OwnLemmas
+mod SwapLemmas

@@ -5,6 +5,7 @@ use Rattle.std.specs.Option.{option_to_list}
 use Rattle.std.specs.List.{IsDistinct}
 use Rattle.deed_core.specs.Tag.{Tag}
 use Rattle.stock.specs.Spaces.{SpaceState}
+use Rattle.stock.specs.OwnCaches.{OwnCacheState}
 use Rattle.stock.specs.Stocks.{IsStock}
 use Rattle.stock.specs.Accounts.{Accounts}
 use Rattle.stock_audit.specs.Outside.{outside}
@@ -22,7 +23,7 @@ use Rattle.lease_history.proofs.LawProofs.{clients_begin_known}
 use Rattle.world_core.specs.declared.tasks.Task.{Task}
 use Rattle.world_core.specs.declared.logs.Logged.{Logged}
 use Rattle.world_core.specs.WorldState.{WorldState, arena_name, in_hands, entries_of, Each}
-use Rattle.world_core.specs.IsWorld.{IsWorld, AreNames, MayBeSaid, IsOfLines}
+use Rattle.world_core.specs.IsWorld.{IsWorld, AreNames, AreLone, MayBeSaid, IsOfLines}
 use Rattle.world_core.proofs.Members.{each_pushed, distinct_more}
 
 nothing : {X : Type 0} (P : X → Type 0) → Each P []
@@ -32,8 +33,11 @@ none_twice : IsDistinct nat_eq []
 unfolding IsDistinct
 none_twice = tt
 
+no_caches : AreLone [] []
+no_caches = record { owned = refl; lone = λ i j cpu o p x y here there arena cache. absurd (let e : None ≡ Some o = here in cc) }
+
 made : (stock : List SpaceState) (names : List (List ℕ)) (book : BookState) → IsStock stock → Accounts stock [] → length names ≡ length stock → length names ≤ 2 ^ 32 → AreNames names
-    → IsHistory [] book → IsWorld (record { stock = stock; names = names; hands = []; tasks = []; book = book; entries = []; clients = []; requests = []; replies = [] })
+    → IsHistory [] book → IsWorld (record { stock = stock; names = names; hands = []; tasks = []; owners = []; caches = []; book = book; entries = []; clients = []; requests = []; replies = [] })
 made stock names book sound balances named few apart empty = record {
   parts = subst (λ (accounts : List Account). IsAccountedFor stock (outside (in_hands []) (leased_by accounts) [])) (sym empty.accounts)
       (fresh_is_accounted stock (record { stock = sound; accounts = balances }));
@@ -46,21 +50,25 @@ made stock names book sound balances named few apart empty = record {
   known = nothing _;
   said = nothing _;
   tasks = nothing _;
+  own = no_caches;
+  shaped = nothing _;
   told = nothing _;
 }
 
-pub born : (stock : List SpaceState) (names : List (List ℕ)) (book : BookState) (hands : List (Option Tag)) (tasks : List (Option Task)) (log : List Logged) (clients : List ClientState)
+pub born : (stock : List SpaceState) (names : List (List ℕ)) (book : BookState) (hands : List (Option Tag)) (tasks : List (Option Task)) (owners : List ℕ) (caches : List OwnCacheState) (log : List Logged) (clients : List ClientState)
     (requests : List Line) (replies : List Reply) → IsStock stock → Accounts stock [] → length names ≡ length stock → length names ≤ 2 ^ 32 → AreNames names → IsHistory [] book
-    → hands ≡ [] → tasks ≡ [] → log ≡ [] → clients ≡ [] → requests ≡ [] → replies ≡ []
-    → IsWorld (record { stock = stock; names = names; hands = hands; tasks = tasks; book = book; entries = entries_of log; clients = clients; requests = requests; replies = replies })
-born stock names book hands tasks log clients requests replies sound balances named few apart empty h t l c q r =
+    → hands ≡ [] → tasks ≡ [] → owners ≡ [] → caches ≡ [] → log ≡ [] → clients ≡ [] → requests ≡ [] → replies ≡ []
+    → IsWorld (record { stock = stock; names = names; hands = hands; tasks = tasks; owners = owners; caches = caches; book = book; entries = entries_of log; clients = clients; requests = requests; replies = replies })
+born stock names book hands tasks owners caches log clients requests replies sound balances named few apart empty h t o x l c q r =
     let hs = sym h in
     let ts = sym t in
+    let os = sym o in
+    let xs = sym x in
     let ls = sym l in
     let cs = sym c in
     let qs = sym q in
     let rs = sym r in
-    subst IsWorld (λ j. record { stock = stock; names = names; hands = hs j; tasks = ts j; book = book; entries = entries_of (ls j); clients = cs j; requests = qs j; replies = rs j })
+    subst IsWorld (λ j. record { stock = stock; names = names; hands = hs j; tasks = ts j; owners = os j; caches = xs j; book = book; entries = entries_of (ls j); clients = cs j; requests = qs j; replies = rs j })
     (made stock names book sound balances named few apart empty)
 
 no_more : (hands : List (Option Tag)) → in_hands (hands ++ None ∷ []) ≡ in_hands hands
@@ -73,7 +81,7 @@ cpu_added w hands tasks is h t =
     let hs = sym h in
     let ts = sym t in
     subst IsWorld (λ j. record w { hands = hs j; tasks = ts j }) (record {
-      parts = subst (λ (out : List Tag). IsAccountedFor w.stock (outside out (leased w.book) [])) (sym (no_more w.hands)) is.parts;
+      parts = subst (λ (out : List Tag). IsAccountedFor w.stock (outside out (leased w.book) w.caches)) (sym (no_more w.hands)) is.parts;
       named = is.named;
       few = is.few;
       names = is.names;
@@ -83,6 +91,8 @@ cpu_added w hands tasks is h t =
       known = is.known;
       said = is.said;
       tasks = each_pushed (IsOfLines w.requests) w.tasks None is.tasks tt;
+      own = is.own;
+      shaped = is.shaped;
       told = is.told;
     })
 
@@ -103,5 +113,7 @@ client_added w id clients is entries requests fresh range c =
       said = each_pushed (λ x. Each (MayBeSaid x) w.requests) w.clients (silent id) is.said
           (subst (λ (ls : List Line). Each (MayBeSaid (silent id)) ls) (sym requests) (nothing (MayBeSaid (silent id))));
       tasks = is.tasks;
+      own = is.own;
+      shaped = is.shaped;
       told = is.told;
     })

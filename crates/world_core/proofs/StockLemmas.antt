@@ -26,7 +26,7 @@ quantum_stays old new fixed k q has s at =
     (stay.1 k before.0 s before.1 at).quantum ∙ has before.0 before.1
 
 -- so what was granted is still what was asked for
-due_stays : (old new : List SpaceState) (names : List (List ℕ)) (requests : List Line) (e : Entry) → plans_of new ≡ plans_of old → IsDue old names requests e → IsDue new names requests e
+pub due_stays : (old new : List SpaceState) (names : List (List ℕ)) (requests : List Line) (e : Entry) → plans_of new ≡ plans_of old → IsDue old names requests e → IsDue new names requests e
 due_stays old new names requests (Settled id (Grant t terms)) fixed due = record {
   lease = due.lease;
   line = due.line;
@@ -45,7 +45,7 @@ pub part_move_keeps : (Does : List SpaceState → List SpaceState → Type 0) (w
 part_move_keeps Does w v is m =
     let stay = plans_stay w.stock m.stock m.step.fixed in
     subst IsWorld (sym m.after) (record {
-      parts = part_moved w.stock m.stock (in_hands w.hands) (leased w.book) [] m.step is.parts;
+      parts = part_moved w.stock m.stock (in_hands w.hands) (leased w.book) w.caches m.step is.parts;
       named = is.named ∙ sym stay.0;
       few = is.few;
       names = is.names;
@@ -55,6 +55,8 @@ part_move_keeps Does w v is m =
       known = is.known;
       said = is.said;
       tasks = is.tasks;
+      own = is.own;
+      shaped = is.shaped;
       told = is.told;
     })
 
@@ -63,7 +65,7 @@ pub hand_move_keeps : (cpu : ℕ) (given answered : Option Tag) (Does : List Spa
 hand_move_keeps cpu given answered Does w v is m =
     let stay = plans_stay w.stock m.stock m.step.fixed in
     subst IsWorld (sym m.after) (record {
-      parts = hand_moved w.stock w.hands (leased w.book) [] cpu given answered m.holds m.stock m.step is.parts;
+      parts = hand_moved w.stock w.hands (leased w.book) w.caches cpu given answered m.holds m.stock m.step is.parts;
       named = is.named ∙ sym stay.0;
       few = is.few;
       names = is.names;
@@ -73,6 +75,8 @@ hand_move_keeps cpu given answered Does w v is m =
       known = is.known;
       said = is.said;
       tasks = is.tasks;
+      own = is.own;
+      shaped = is.shaped;
       told = is.told;
     })
 

@@ -97,6 +97,8 @@ says w place c next line is at goes own may = record {
         (not_own x line (λ e. other.0 (one_place (λ (y : ClientState). y.id) w.clients k place x c is.ids other.1 at (sym e ∙ own))))
   ];
   tasks = λ k o there. lines_more w.requests line o (is.tasks k o there);
+  own = is.own;
+  shaped = is.shaped;
   told = is.told;
 }
 
@@ -170,5 +172,7 @@ hear_keeps place which w v is m =
       known = each_written (IsKnown (arena_name w.names) w.entries) w.clients place next is.known goes.known;
       said = each_written (λ x. Each (MayBeSaid x) w.requests) w.clients place next is.said (λ j l here. goes.said l (is.said place c m.at j l here));
       tasks = is.tasks;
+      own = is.own;
+      shaped = is.shaped;
       told = is.told;
     })

@@ -1,5 +1,5 @@
 -- The events, and what may become of a world at each.
-use Rattle.std.specs.Prelude.{◌≡◌, ◌≢◌, ◌⊎◌, ℕ, ◌<◌, ◌≤◌, true, false, All, List, [], ◌∷◌, length, slice_get, Option, Some, None, Ok}
+use Rattle.std.specs.Prelude.{◌≡◌, ◌≢◌, ◌⊎◌, ℕ, ◌<◌, ◌≤◌, true, false, All, List, [], ◌∷◌, length, slice_get, Option, Some, None, Ok, Err}
 use Rattle.deed_core.specs.Tag.{Tag}
 use Rattle.deed_core.specs.Request.{Fits, IsGood, plain_of}
 use Rattle.deed_core.specs.declared.requests.Request.{Request}
@@ -8,10 +8,11 @@ use Rattle.tag_arena.specs.ArenaState.{IsChosen}
 use Rattle.tag_arena.specs.Outcomes.{Carved, Imported}
 use Rattle.slab_layer.specs.Slab.{IsAllOut, IsComplete}
 use Rattle.slab_layer.specs.Calls.{TakeOf, AddOf, ReapOf}
-use Rattle.magazine_layer.specs.Magazines.{IsSize}
-use Rattle.magazine_layer.specs.Depots.{CanReap, after_tick}
-use Rattle.magazine_layer.specs.Calls.{DepotReapOf, ResizeOf}
+use Rattle.magazine_layer.specs.Magazines.{CpuCacheState, IsSize, BothEmpty, BothFull, empty_magazine, after_change}
+use Rattle.magazine_layer.specs.Depots.{DepotState, CanReap, after_tick}
+use Rattle.magazine_layer.specs.Calls.{DepotReapOf, ResizeOf, SwapFullOf, SwapEmptyOf, PutFullOf}
 use Rattle.stock.specs.Spaces.{SpaceState, QuantumCacheState, IsCacheAt, HasCache}
+use Rattle.stock.specs.OwnCaches.{OwnCacheState}
 use Rattle.stock.specs.Steps.{HasQuantum, OnArena, OnSlab, OnDepot, FreeIn, PutIn, CanImport, IsTaggedIn, IsOutOf}
 use Rattle.lease_terms.specs.Requests.{RequestId}
 use Rattle.lease_terms.specs.declared.refusals.Refusal.TheVariants.{NotYours, Leases}
@@ -32,7 +33,7 @@ use Rattle.world_core.specs.declared.events.EventFault.{EventFault}
 use Rattle.world_core.specs.declared.events.EventFault.TheVariants as faults
 use Rattle.world_core.specs.declared.events.Outcome.TheVariants.{Done, NotEnabled, NoMemory, Refused}
 use Rattle.world_core.specs.WorldState.{WorldState, IsAmong}
-use Rattle.world_core.specs.Moves.{request_in, HasTask, IsNamed, ClientSays, ClientHears, HelloTaken, HelloRefused, AnsweredAtOnce, TaskTaken, TaskGranted, TaskRefused, TaskReleased, TaskAnswered, TaskGivenUp, HandMoves, PartMoves, LeaseSwept, HasAllLeases, HasNoSuchLease}
+use Rattle.world_core.specs.Moves.{request_in, HasTask, IsNamed, ClientSays, ClientHears, HelloTaken, HelloRefused, AnsweredAtOnce, TaskTaken, TaskGranted, TaskRefused, TaskReleased, TaskAnswered, TaskGivenUp, HandMoves, PartMoves, LeaseSwept, IsOwnFor, TakesHand, RoundPopped, RoundPushed, OwnMoves, HasAllLeases, HasNoSuchLease}
 
 -- what a CPU would lease: its hand's segment is of the arena that the lease names, and fits it
 pub record CanGrant (w : WorldState) (cpu : ℕ) (id : RequestId) (lease : LeaseLine) (segment : Tag)
@@ -83,6 +84,36 @@ pub record HasSpanFor (w : WorldState) (cpu arena cache : ℕ) (span : Tag) (c :
   pub route : span.route ≡ Direct
   pub at : IsCacheAt w.stock arena cache c
 
+-- the CPU's own cache for this quantum cache is so
+pub record HasOwn (w : WorldState) (cpu arena cache : ℕ) (Is : CpuCacheState → Type 0)
+    : Type 0 where
+  pub place : ℕ
+  pub own : OwnCacheState
+  pub here : IsOwnFor w cpu arena cache place own
+  pub is : Is own.cpu
+
+-- one of its own caches takes what its hand has, and has room for it
+pub record CanPush (w : WorldState) (cpu : ℕ) : Type 0 where
+  pub place : ℕ
+  pub own : OwnCacheState
+  pub chunk : Tag
+  pub takes : TakesHand w cpu place own chunk
+  pub room : ¬ BothFull own.cpu
+
+-- magazines of this size may take the place of smaller ones
+abbrev pub CanChange : ℕ → CpuCacheState → Type 0
+CanChange size c = IsSize size × (c.size < size)
+
+-- the depot of the CPU's own cache, where the two are so
+pub record HasDepot (w : WorldState) (cpu arena cache : ℕ)
+    (Are : CpuCacheState → DepotState → Type 0) : Type 0 where
+  pub place : ℕ
+  pub own : OwnCacheState
+  pub depot : QuantumCacheState
+  pub here : IsOwnFor w cpu arena cache place own
+  pub at : IsCacheAt w.stock arena cache depot
+  pub are : Are own.cpu depot.depot
+
 -- where an event can be tried: the client is there, or the CPU, its hand, its request and the
 -- message are as the event asks
 abbrev pub IsReady : WorldEvent → WorldState → Type 0
@@ -113,6 +144,13 @@ IsReady (events.SlabReaps cpu arena cache) w = HasInHand w cpu None × (c : Quan
     × IsCacheAt w.stock arena cache c × ¬ All (λ s. ¬ IsComplete s) c.slab.slabs
 IsReady (events.DepotReaps cpu arena cache) w =
     HasInHand w cpu None × HasRoundToReap w arena cache
+IsReady (events.Pops cpu arena cache) w = HasInHand w cpu None
+    × HasOwn w cpu arena cache (λ c. ¬ BothEmpty c)
+IsReady (events.Pushes cpu) w = CanPush w cpu
+IsReady (events.SwapsFull cpu arena cache) w = HasOwn w cpu arena cache BothEmpty
+IsReady (events.SwapsEmpty cpu arena cache) w = HasOwn w cpu arena cache BothFull
+IsReady (events.SwapsFresh cpu arena cache) w = HasOwn w cpu arena cache BothFull
+IsReady (events.Changes cpu arena cache size) w = HasOwn w cpu arena cache (CanChange size)
 IsReady (events.Ticks arena cache) w = HasCache w.stock arena cache
 IsReady (events.Resizes arena cache size) w = HasCache w.stock arena cache × IsSize size
 
@@ -130,6 +168,12 @@ IsEnabled (events.SlabAdds cpu arena cache) w = (span : Tag) × (c : QuantumCach
     × HasSpanFor w cpu arena cache span c × (span.holding.range.len ≡ c.slab.slab_size)
 IsEnabled (events.Resizes arena cache size) w = (c : QuantumCacheState)
     × IsCacheAt w.stock arena cache c × IsSize size × (c.depot.size < size)
+IsEnabled (events.SwapsFull cpu arena cache) w = HasDepot w cpu arena cache
+    (λ c d. BothEmpty c × (c.size ≡ d.size) × (d.full ≢ []))
+IsEnabled (events.SwapsEmpty cpu arena cache) w = HasDepot w cpu arena cache
+    (λ c d. BothFull c × (c.size ≡ d.size) × (d.empty ≢ 0))
+IsEnabled (events.SwapsFresh cpu arena cache) w = HasDepot w cpu arena cache
+    (λ c d. BothFull c × (c.size ≡ d.size))
 IsEnabled event w = IsReady event w
 
 -- why its part refuses an event that can be tried
@@ -155,6 +199,16 @@ PartRefuses (events.SlabAdds cpu arena cache) faults.WrongSize w = (span : Tag)
     × (span.holding.range.len ≢ c.slab.slab_size)
 PartRefuses (events.Resizes arena cache size) faults.NotGreater w = (c : QuantumCacheState)
     × IsCacheAt w.stock arena cache c × IsSize size × (size ≤ c.depot.size)
+PartRefuses (events.SwapsFull cpu arena cache) faults.OldSize w =
+    HasDepot w cpu arena cache (λ c d. BothEmpty c × (c.size ≢ d.size))
+PartRefuses (events.SwapsFull cpu arena cache) faults.NoneFull w =
+    HasDepot w cpu arena cache (λ c d. BothEmpty c × (c.size ≡ d.size) × (d.full ≡ []))
+PartRefuses (events.SwapsEmpty cpu arena cache) faults.OldSize w =
+    HasDepot w cpu arena cache (λ c d. BothFull c × (c.size ≢ d.size))
+PartRefuses (events.SwapsEmpty cpu arena cache) faults.NoneEmpty w =
+    HasDepot w cpu arena cache (λ c d. BothFull c × (c.size ≡ d.size) × (d.empty ≡ 0))
+PartRefuses (events.SwapsFresh cpu arena cache) faults.OldSize w =
+    HasDepot w cpu arena cache (λ c d. BothFull c × (c.size ≢ d.size))
 PartRefuses event why w = ⊥
 
 -- where an event may want memory: only where it can happen, and some events never do
@@ -165,6 +219,10 @@ MayWantMemory (events.SlabTakes cpu arena cache) w = ⊥
 MayWantMemory (events.SlabPuts cpu) w = ⊥
 MayWantMemory (events.SlabReaps cpu arena cache) w = ⊥
 MayWantMemory (events.DepotReaps cpu arena cache) w = ⊥
+MayWantMemory (events.Pops cpu arena cache) w = ⊥
+MayWantMemory (events.Pushes cpu) w = ⊥
+MayWantMemory (events.SwapsFull cpu arena cache) w = ⊥
+MayWantMemory (events.SwapsEmpty cpu arena cache) w = ⊥
 MayWantMemory (events.Ticks arena cache) w = ⊥
 MayWantMemory (events.Resizes arena cache size) w = ⊥
 MayWantMemory event w = IsEnabled event w
@@ -204,6 +262,17 @@ MovesBy (events.SlabReaps cpu arena cache) old new = (t : Tag)
     × HandMoves cpu None (Some t) (OnSlab arena cache (λ a b. ReapOf a (Some t) b)) old new
 MovesBy (events.DepotReaps cpu arena cache) old new = (t : Tag)
     × HandMoves cpu None (Some t) (OnDepot arena cache (λ a b. DepotReapOf a (Some t) b)) old new
+MovesBy (events.Pops cpu arena cache) old new = RoundPopped cpu arena cache old new
+MovesBy (events.Pushes cpu) old new = RoundPushed cpu old new
+MovesBy (events.SwapsFull cpu arena cache) old new = OwnMoves cpu arena cache
+    (λ c x s v. OnDepot arena cache (λ d e. SwapFullOf c d (Ok tt) x e) s v) old new
+MovesBy (events.SwapsEmpty cpu arena cache) old new = OwnMoves cpu arena cache
+    (λ c x s v. OnDepot arena cache (λ d e. SwapEmptyOf c d (Ok tt) x e) s v) old new
+MovesBy (events.SwapsFresh cpu arena cache) old new = OwnMoves cpu arena cache
+    (λ c x s v. OnDepot arena cache (λ d e. PutFullOf c d (empty_magazine c.size) (Ok tt) x e) s v)
+    old new
+MovesBy (events.Changes cpu arena cache size) old new = OwnMoves cpu arena cache
+    (λ c x s v. (x ≡ after_change size c) × (v ≡ s)) old new
 MovesBy (events.Ticks arena cache) old new =
     PartMoves (OnDepot arena cache (λ a b. b ≡ after_tick a)) old new
 MovesBy (events.Resizes arena cache size) old new =

@@ -1,10 +1,12 @@
 -- What every world is.
-use Rattle.std.specs.Prelude.{◌≡◌, ℕ, ◌<◌, ◌≤◌, ◌^◌, nat_eq, List, length, map, Option, Some, None}
+use Rattle.std.specs.Prelude.{◌≡◌, ℕ, ◌<◌, ◌≤◌, ◌^◌, nat_eq, List, length, map, slice_get, Option, Some, None}
 use Rattle.std.specs.List.{IsDistinct}
 use Rattle.deed_core.specs.Tag.{Tag}
 use Rattle.stock.specs.Spaces.{SpaceState}
 use Rattle.stock_audit.specs.Accounted.{IsAccountedFor}
 use Rattle.stock.specs.Steps.{HasQuantum}
+use Rattle.stock.specs.OwnCaches.{OwnCacheState}
+use Rattle.magazine_layer.specs.Magazines.{IsShaped}
 use Rattle.lease_terms.specs.Requests.{RequestId}
 use Rattle.lease_proto.specs.declared.lines.LeaseLine.{LeaseLine}
 use Rattle.lease_proto.specs.declared.lines.Line.{Line}
@@ -54,7 +56,15 @@ abbrev pub IsOfLines : List Line → Option Task → Type 0
 IsOfLines requests None = Unit {0}
 IsOfLines requests (Some task) = IsAmong (lines.Request task.id task.op) requests
 
--- What the parts have given is in hands or leased; the book is what is read off the entries, of which
+-- each cache has its CPU, and no CPU has two for one quantum cache
+pub record AreLone (owners : List ℕ) (caches : List OwnCacheState) : Type 0 where
+  pub owned : length owners ≡ length caches
+  pub lone : (i j cpu : ℕ) (o p : OwnCacheState) → slice_get owners i ≡ Some cpu
+      → slice_get owners j ≡ Some cpu → slice_get caches i ≡ Some o → slice_get caches j ≡ Some p
+      → o.arena ≡ p.arena → o.cache ≡ p.cache → i ≡ j
+
+-- What the parts have given is in hands, in CPUs' caches or leased; loaded magazines have at most
+-- their size, and previous ones none or as many; the book is what is read off the entries, of which
 -- each grant was asked for; the clients, each with an id of its own, are known to the book; lines were
 -- said by their clients, and the book may tell what was replied.
 pub record IsWorld (w : WorldState) : Type 0 where
@@ -68,4 +78,6 @@ pub record IsWorld (w : WorldState) : Type 0 where
   pub known : Each (IsKnown (arena_name w.names) w.entries) w.clients
   pub said : Each (λ c. Each (MayBeSaid c) w.requests) w.clients
   pub tasks : Each (IsOfLines w.requests) w.tasks
+  pub own : AreLone w.owners w.caches
+  pub shaped : Each (λ o. IsShaped o.cpu) w.caches
   pub told : Each (MayTell (arena_name w.names) w.entries) w.replies

@@ -1,12 +1,16 @@
 -- What may become of a world at one event, each case by its condition and its move. The parts' own
 -- relations say what a call of them does; all that a move doesn't name stays.
-use Rattle.std.specs.Prelude.{◌≡◌, ℕ, ◌<◌, ◌≤◌, List, [], ◌∷◌, ◌++◌, length, set, slice_get, Option, Some, None}
+use Rattle.std.specs.Prelude.{◌≡◌, ℕ, ◌+◌, ◌<◌, ◌≤◌, List, [], ◌∷◌, ◌++◌, length, set, slice_get, sum_by, Option, Some, None, Ok}
 use Rattle.std.specs.List.{find}
 use Rattle.std.specs.Option.{option_to_list}
 use Rattle.deed_core.specs.Tag.{Tag}
 use Rattle.deed_core.specs.declared.requests.Request.{Request}
 use Rattle.stock.specs.Spaces.{SpaceState}
+use Rattle.magazine_layer.specs.Magazines.{CpuCacheState, IsShaped}
+use Rattle.magazine_layer.specs.Calls.{PopOf, PushOf}
+use Rattle.stock.specs.OwnCaches.{OwnCacheState, IsOwnCache, IsAtPlaceOf, own_rounds}
 use Rattle.stock.specs.Steps.{HasQuantum}
+use Rattle.stock.specs.Stocks.{IsRoundOf}
 use Rattle.stock_audit.specs.Keeping.{IsStep}
 use Rattle.lease_terms.specs.Requests.{RequestId}
 use Rattle.lease_terms.specs.declared.refusals.Refusal.{Refusal}
@@ -264,3 +268,75 @@ pub record LeaseSwept (cpu client : ℕ) (old new : WorldState) : Type 0 where
     entries = Swept id.client id.incarnation segment.arena segment.holding.range.base
         ∷ old.entries;
   }
+
+-- the cache at this place of the list is the CPU's
+pub record IsOwnOf (w : WorldState) (cpu place : ℕ) (own : OwnCacheState) : Type 0 where
+  pub owner : slice_get w.owners place ≡ Some cpu
+  pub at : slice_get w.caches place ≡ Some own
+
+-- and is its cache for this quantum cache
+pub record IsOwnFor (w : WorldState) (cpu arena cache place : ℕ) (own : OwnCacheState)
+    : Type 0 where
+  pub mine : IsOwnOf w cpu place own
+  pub home : own.arena ≡ arena
+  pub number : own.cache ≡ cache
+
+-- it is for what the CPU's hand has
+pub record TakesHand (w : WorldState) (cpu place : ℕ) (own : OwnCacheState) (chunk : Tag)
+    : Type 0 where
+  pub holds : slice_get w.hands cpu ≡ Some (Some chunk)
+  pub mine : IsOwnOf w cpu place own
+  pub takes : IsRoundOf own.arena (own.cache + 1) own.quantum chunk
+
+-- it becomes another for the same, which is well formed too
+pub record OwnGoesOn (own next : OwnCacheState) : Type 0 where
+  pub same : IsAtPlaceOf own next
+  pub sound : IsOwnCache next
+  pub shaped : IsShaped next.cpu
+
+-- a cache of the CPU at this place of the list is given what the CPU's hand has, and the hand has
+-- what it answers
+pub record RoundMoves (cpu place : ℕ) (own next : OwnCacheState) (given answered : Option Tag)
+    (old new : WorldState) : Type 0 where
+  pub holds : slice_get old.hands cpu ≡ Some given
+  pub goes : OwnGoesOn own next
+  pub even : (f : Tag → ℕ) → sum_by f (own_rounds own) + sum_by f (option_to_list given)
+      ≡ sum_by f (own_rounds next) + sum_by f (option_to_list answered)
+  pub after : new ≡ record old {
+    hands = set old.hands cpu answered;
+    caches = set old.caches place next;
+  }
+
+-- the CPU's own cache for this quantum cache gives a round into its empty hand
+pub record RoundPopped (cpu arena cache : ℕ) (old new : WorldState) : Type 0 where
+  pub place : ℕ
+  pub own : OwnCacheState
+  pub next : OwnCacheState
+  pub round : Tag
+  pub here : IsOwnFor old cpu arena cache place own
+  pub pops : PopOf own.cpu (Some round) next.cpu
+  pub moves : RoundMoves cpu place own next None (Some round) old new
+
+-- the hand's chunk becomes a round of the CPU's own cache for it
+pub record RoundPushed (cpu : ℕ) (old new : WorldState) : Type 0 where
+  pub place : ℕ
+  pub own : OwnCacheState
+  pub next : OwnCacheState
+  pub chunk : Tag
+  pub takes : TakesHand old cpu place own chunk
+  pub pushes : PushOf own.cpu chunk (Ok tt) next.cpu
+  pub moves : RoundMoves cpu place own next (Some chunk) None old new
+
+-- the CPU's own cache for this quantum cache does so with the stock, and no hand
+pub record OwnMoves (cpu arena cache : ℕ)
+    (Does : (old new : CpuCacheState) → (before after : List SpaceState) → Type 0)
+    (old new : WorldState) : Type 0 where
+  pub place : ℕ
+  pub own : OwnCacheState
+  pub next : OwnCacheState
+  pub stock : List SpaceState
+  pub here : IsOwnFor old cpu arena cache place own
+  pub does : Does own.cpu next.cpu old.stock stock
+  pub goes : OwnGoesOn own next
+  pub step : IsStep old.stock (own_rounds own) stock (own_rounds next)
+  pub after : new ≡ record old { stock = stock; caches = set old.caches place next }

@@ -4,6 +4,7 @@ use Rattle.std.specs.List.{flat_map}
 use Rattle.std.specs.Option.{option_to_list}
 use Rattle.deed_core.specs.Tag.{Tag}
 use Rattle.stock.specs.Spaces.{SpaceState}
+use Rattle.stock.specs.OwnCaches.{OwnCacheState}
 use Rattle.stock_audit.specs.Outside.{Outside, outside}
 use Rattle.lease_proto.specs.declared.lines.Line.{Line}
 use Rattle.lease_proto.specs.declared.replies.Reply.{Reply}
@@ -15,13 +16,15 @@ use Rattle.world_core.specs.declared.logs.Logged.{Logged}
 use Rattle.world_core.specs.declared.logs.Logged.TheVariants as logged
 
 -- the parts, and the name of each arena; of each CPU the segment in its hand and the request that it
--- serves; the book, with the list of all its entries, newest first; the clients; and all lines and
+-- serves; the caches of all CPUs, with the CPU of each; the book, with the list of all its entries, newest first; the clients; and all lines and
 -- replies that were ever sent, oldest first
 pub record WorldState : Type 0 where
   pub stock : List SpaceState
   pub names : List (List ℕ)
   pub hands : List (Option Tag)
   pub tasks : List (Option Task)
+  pub owners : List ℕ
+  pub caches : List OwnCacheState
   pub book : BookState
   pub entries : List Entry
   pub clients : List ClientState
@@ -36,9 +39,9 @@ arena_name names k = get_or names k []
 abbrev pub in_hands : List (Option Tag) → List Tag
 in_hands hands = flat_map option_to_list hands
 
--- the segments that are out of the parts: in hands, and leased
+-- the segments that are out of the parts: in hands, leased, and in the caches of CPUs
 abbrev pub outside_of : WorldState → Outside
-outside_of w = outside (in_hands w.hands) (leased w.book) []
+outside_of w = outside (in_hands w.hands) (leased w.book) w.caches
 
 -- it is so of each member of the list
 abbrev pub Each : {X : Type 0} → (X → Type 0) → List X → Type 0

@@ -11,7 +11,7 @@ ghost use Rattle.world_core.specs.IsWorld.{IsWorld};
 use crate::parts::WorldParts;
 use crate::worlds::World;
 use deed_core::{Deed, Segment};
-use stock_audit::{ArenaSums, UnitsOut, audit_units};
+use stock_audit::{ArenaSums, UnitsOut, audit_units, rounds_units};
 
 /// The units of the arena's segment in a hand, or 0.
 fn units_in_hand<D: Deed>(hand: &Option<Segment<D>>, arena: usize) -> u64
@@ -48,8 +48,11 @@ impl<D: Deed> WorldParts<D> {
         requires within { arena < length self.now.names }
         ensures { TellsSums self.now.stock arena (out_of (outside_of self.now)) result }
     {
+        // For their clauses: what is always so of a stock, and its arena's units.
+        let _ = self.stock.count();
+        let _ = self.stock.arena_report(arena);
         let out = UnitsOut {
-            rounds: 0,
+            rounds: rounds_units(&self.caches, arena),
             leased: self.book.units(arena as u32),
             hand: units_in_hands(&self.hands, arena),
         };

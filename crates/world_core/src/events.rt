@@ -99,6 +99,41 @@ pub enum WorldEvent {
         arena: usize,
         cache: usize,
     },
+    /// A CPU takes a round out of its own cache into its hand.
+    Pops {
+        cpu: usize,
+        arena: usize,
+        cache: usize,
+    },
+    /// A CPU puts its hand's chunk into its own cache of those chunks, as a round.
+    Pushes {
+        cpu: usize,
+    },
+    /// A CPU whose own cache has two empty magazines gets a full one for one of them.
+    SwapsFull {
+        cpu: usize,
+        arena: usize,
+        cache: usize,
+    },
+    /// A CPU whose own cache has two full magazines gets an empty one for one of them.
+    SwapsEmpty {
+        cpu: usize,
+        arena: usize,
+        cache: usize,
+    },
+    /// The same with a magazine that is made for it.
+    SwapsFresh {
+        cpu: usize,
+        arena: usize,
+        cache: usize,
+    },
+    /// A CPU's own cache gets two magazines of a greater size, and all its rounds are in the first.
+    Changes {
+        cpu: usize,
+        arena: usize,
+        cache: usize,
+        size: usize,
+    },
     /// An interval begins in a depot.
     Ticks {
         arena: usize,
@@ -134,6 +169,12 @@ pub enum EventFault {
     NoFit,
     /// The segment hasn't the length of the cache's slabs.
     WrongSize,
+    /// The CPU's magazines are of another size than the depot's.
+    OldSize,
+    /// No full magazine stands in the depot.
+    NoneFull,
+    /// No empty magazine stands in the depot.
+    NoneEmpty,
 }
 
 /// What became of an event.

@@ -12,8 +12,8 @@
 //!
 //! Begin with [`World::step`] and `specs/Events.antt`: where each event can be tried, where it can
 //! happen, why its part refuses it, and what may become of a world at it; `specs/Moves.antt` has the
-//! moves. CPUs have no magazines here yet, and none fails. What holds of every list of events holds
-//! from any world that is one.
+//! moves. No CPU fails here yet, and none gets its own caches by a public call yet. What holds of
+//! every list of events holds from any world that is one.
 //!
 //! What it costs: a world keeps each line, reply and entry of the book for good. An event takes the
 //! time of its part's call, and a release looks the name of its arena up among all names.
@@ -31,8 +31,10 @@ mod looking;
 mod names;
 mod parts;
 mod releasing;
+mod rounds;
 mod setups;
 mod slabs;
+mod swaps;
 mod talking;
 mod tasks;
 mod worlds;

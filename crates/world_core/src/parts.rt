@@ -19,15 +19,19 @@ use lease_book::Book;
 use lease_client::Client;
 use lease_proto::{LeaseLine, Line, Op, ReleaseLine, Reply};
 use lease_terms::{Name, RequestId};
+use std::alloc::Global;
 use std::marker::Model;
-use stock::Stock;
+use stock::{OwnCache, Stock};
 
 /// All that a world has.
 pub(crate) struct WorldParts<D: Deed> {
+    pub(crate) alloc: Global,
     pub(crate) stock: Stock<D>,
     pub(crate) names: Vec<Name>,
     pub(crate) hands: Vec<Option<Segment<D>>>,
     pub(crate) tasks: Vec<Option<Task>>,
+    pub(crate) owners: Vec<usize>,
+    pub(crate) caches: Vec<OwnCache<D>>,
     pub(crate) book: Book<D>,
     pub(crate) log: Vec<Logged>,
     pub(crate) clients: Vec<Client>,
@@ -52,6 +56,8 @@ impl<D: Deed> Model for WorldParts<D> {
       names = w.names.items;
       hands = w.hands.items;
       tasks = w.tasks.items;
+      owners = w.owners.items;
+      caches = w.caches.items;
       book = w.book;
       entries = entries_of w.log.items;
       clients = w.clients.items;
@@ -173,6 +179,17 @@ impl<D: Deed> WorldParts<D> {
             WorldEvent::SlabAdds { cpu, arena, cache } => self.slab_add(cpu, arena, cache),
             WorldEvent::SlabReaps { cpu, arena, cache } => self.slab_reap(cpu, arena, cache),
             WorldEvent::DepotReaps { cpu, arena, cache } => self.depot_reap(cpu, arena, cache),
+            WorldEvent::Pops { cpu, arena, cache } => self.pop(cpu, arena, cache),
+            WorldEvent::Pushes { cpu } => self.push(cpu),
+            WorldEvent::SwapsFull { cpu, arena, cache } => self.swap_full(cpu, arena, cache),
+            WorldEvent::SwapsEmpty { cpu, arena, cache } => self.swap_empty(cpu, arena, cache),
+            WorldEvent::SwapsFresh { cpu, arena, cache } => self.swap_fresh(cpu, arena, cache),
+            WorldEvent::Changes {
+                cpu,
+                arena,
+                cache,
+                size,
+            } => self.change(cpu, arena, cache, size),
             WorldEvent::Ticks { arena, cache } => self.tick(arena, cache),
             WorldEvent::Resizes { arena, cache, size } => self.resize(arena, cache, size),
         }

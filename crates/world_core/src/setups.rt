@@ -29,6 +29,8 @@ impl<D: Deed> World<D> {
           names = names.items;
           hands = [];
           tasks = [];
+          owners = [];
+          caches = [];
           book = book;
           entries = [];
           clients = [];
@@ -40,10 +42,13 @@ impl<D: Deed> World<D> {
         let _ = stock.count();
         World {
             parts: WorldParts {
+                alloc,
                 stock,
                 names,
                 hands: Vec::new(alloc),
                 tasks: Vec::new(alloc),
+                owners: Vec::new(alloc),
+                caches: Vec::new(alloc),
                 book,
                 log: Vec::new(alloc),
                 clients: Vec::new(alloc),
