@@ -11,3 +11,4 @@ mod PartLemmas
 mod BookLemmas
 mod SetupLemmas
 mod AuditLemmas
+mod MakingLemmas
