@@ -13,3 +13,4 @@ mod SetupLemmas
 mod AuditLemmas
 mod OwnLemmas
 mod SwapLemmas
+mod MakingLemmas

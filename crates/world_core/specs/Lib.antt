@@ -3,3 +3,4 @@ pub mod Moves
 pub mod IsWorld
 pub mod Events
 pub mod Safe
+pub mod Setups

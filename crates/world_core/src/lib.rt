@@ -10,6 +10,7 @@
 //! each grant was asked for and fits, what clients hold is leased to them and no unit of a space is
 //! in two segments that they hold, and any two replies that settle one request are equal.
 //!
+//! [`World::new`] makes one of a setup: all spans are free, CPUs are idle, and nothing was said.
 //! Begin with [`World::step`] and `specs/Events.antt`: where each event can be tried, where it can
 //! happen, why its part refuses it, and what may become of a world at it; `specs/Moves.antt` has the
 //! moves. No CPU fails here yet, and none gets its own caches by a public call yet. What holds of
@@ -28,6 +29,7 @@ mod hands;
 mod laws;
 mod logs;
 mod looking;
+mod making;
 mod names;
 mod parts;
 mod releasing;

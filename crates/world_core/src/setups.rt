@@ -18,7 +18,7 @@ use stock::Stock;
 impl<D: Deed> World<D> {
     /// A world with no CPU and no client, of a stock of which nothing is out, the names of its
     /// arenas, and a book to which nothing has happened.
-    pub fn new(alloc: Global, stock: Stock<D>, names: Vec<Name>, book: Book<D>) -> World<D>
+    pub fn of_parts(alloc: Global, stock: Stock<D>, names: Vec<Name>, book: Book<D>) -> World<D>
         requires balances { Accounts stock [] }
         requires named { length names.items ≡ length stock }
         requires few { length names.items ≤ 2 ^ 32 }

@@ -1,0 +1,78 @@
+//! A world is made of a setup: all that can fail comes before there is a segment.
+ghost use Rattle.std.specs.Prelude.{◌≡◌, ◌+◌, ◌<◌, ◌≤◌, ◌++◌, All, true, map, IfOk, None};
+ghost use Rattle.std.specs.Prelude.{replicate, vec_len, vec_capacity};
+ghost use Rattle.lease_terms.specs.Names.{is_name};
+ghost use Rattle.world_core.specs.Setups.{IsSetUp};
+
+use crate::parts::WorldParts;
+use crate::worlds::World;
+use arena_tree::{Setup, Tree};
+use deed_core::{PlainDeed, Range};
+use lease_book::Book;
+use lease_terms::Name;
+use std::alloc::{AllocError, Global};
+use stock::plain_stock;
+
+/// The rounds of the first magazines.
+const FIRST_MAGAZINE_SIZE: usize = 3;
+
+impl World<PlainDeed> {
+    /// The world of a setup: all its spans are free, and so many CPUs, 1 to 64, have nothing to do.
+    /// Nothing was said or leased yet, and there is no client: `add_client` adds one.
+    pub fn new(alloc: Global, setup: &Setup, cpus: usize) -> Result<World<PlainDeed>, AllocError>
+        requires some { 0 < cpus }
+        requires few { cpus ≤ 64 }
+        ensures { IfOk result (IsSetUp setup.now cpus) }
+    {
+        let names = names_of(alloc, setup.tree())?;
+        let mut tasks = Vec::with_capacity(alloc, cpus)?;
+        let mut hands = Vec::with_capacity(alloc, cpus)?;
+        let Ok(stock) = plain_stock(alloc, setup, FIRST_MAGAZINE_SIZE) else {
+            hands.destroy_empty();
+            return Err(AllocError);
+        };
+        // For its clause: what is always so of a stock.
+        let _ = stock.count();
+        fill_empty(&mut tasks, cpus);
+        fill_empty(&mut hands, cpus);
+        let mark = PlainDeed::new(0, Range::new(0, 1).unwrap());
+        Ok(World {
+            parts: WorldParts {
+                stock,
+                names,
+                hands,
+                tasks,
+                book: Book::new(alloc, mark),
+                log: Vec::new(alloc),
+                clients: Vec::new(alloc),
+                requests: Vec::new(alloc),
+                replies: Vec::new(alloc),
+            },
+        })
+    }
+}
+
+/// The names of the arenas.
+fn names_of(alloc: Global, tree: &Tree) -> Result<Vec<Name>, AllocError>
+    ensures value { IfOk result (λ names. names.items ≡ map (λ x. x.name) tree.now) }
+    ensures names { IfOk result (λ names. All (λ name. is_name name ≡ true) names.items) }
+{
+    let arenas = tree.arenas();
+    let mut names = Vec::with_capacity(alloc, arenas.len())?;
+    for arena in arenas {
+        // For its clause: a name has a byte.
+        let _ = arena.name.as_slice();
+        names.push_reserved(arena.name);
+    }
+    Ok(names)
+}
+
+/// Adds so many that are empty: hands, or CPUs that serve nothing.
+fn fill_empty<T>(list: &mut Vec<Option<T>>, count: usize)
+    requires room { vec_len list.old + count ≤ vec_capacity list.old }
+    ensures { list.new.items ≡ list.old.items ++ replicate count None }
+{
+    for _ in 0..count {
+        list.push_reserved(None);
+    }
+}
