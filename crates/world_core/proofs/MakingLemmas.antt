@@ -73,7 +73,7 @@ with_cpus w cpus hands tasks is h t =
     let hs = sym h in
     let ts = sym t in
     subst IsWorld (λ j. record w { hands = hs j; tasks = ts j }) (record {
-      parts = subst (λ (out : List Tag). IsAccountedFor w.stock (outside out (leased w.book) [])) (sym (none_held cpus)) is.parts;
+      parts = subst (λ (out : List Tag). IsAccountedFor w.stock (outside out (leased w.book) w.caches)) (sym (none_held cpus)) is.parts;
       named = is.named;
       few = is.few;
       names = is.names;
@@ -83,5 +83,7 @@ with_cpus w cpus hands tasks is h t =
       known = is.known;
       said = is.said;
       tasks = none_served w.requests cpus;
+      own = is.own;
+      shaped = is.shaped;
       told = is.told;
     })

@@ -89,6 +89,7 @@ pub safe : (w : WorldState) → IsWorld w → Safe w
 safe w is = record {
   parts = is.parts;
   places = λ k s at unit. (let one = one_place w.stock (out_of (outside_of w)) (accounted w is) k s at unit in record { once = one.0; one = one.1 });
+  magazines = is.shaped;
   book = is.book;
   grants = λ id t terms among. record {
     fits = fits_in w.entries among.0 id t terms is.book.orderly among.1;

@@ -8,6 +8,7 @@ use Rattle.tag_arena.specs.ArenaState.{spans_of}
 use Rattle.stock.specs.Spaces.{SpaceState}
 use Rattle.stock.specs.Laws.{HasTop}
 use Rattle.stock.specs.Sums.{places_of, all_places}
+use Rattle.magazine_layer.specs.Magazines.{IsShaped}
 use Rattle.stock_audit.specs.Outside.{out_of}
 use Rattle.stock_audit.specs.Accounted.{IsAccountedFor}
 use Rattle.lease_terms.specs.Requests.{RequestId}
@@ -70,13 +71,14 @@ SettlesIt id (replies.Released of) = of ≡ id
 SettlesIt id (replies.Refused r) = r.id ≡ id
 SettlesIt id reply = ⊥
 
--- All units are accounted for, and each stands in one place. The book is what is read off its
--- entries. Each grant was asked for and fits. Clients hold what is leased to them, and no unit of a
+-- All units are accounted for, and each stands in one place. A CPU's loaded magazine has at most its
+-- size, and its previous one none or as many. The book is what is read off its entries. Each grant was asked for and fits. Clients hold what is leased to them, and no unit of a
 -- space is in two segments that they hold. And any two replies that settle one request are equal.
 pub record Safe (w : WorldState) : Type 0 where
   pub parts : IsAccountedFor w.stock (outside_of w)
   pub places : (k : ℕ) (s : SpaceState) → slice_get w.stock k ≡ Some s → (unit : ℕ)
       → IsInOnePlaceOf w s unit
+  pub magazines : Each (λ o. IsShaped o.cpu) w.caches
   pub book : IsHistory w.entries w.book
   pub grants : (id : RequestId) (segment : Tag) (terms : Terms)
       → IsAmong (Settled id (Grant segment terms)) w.entries → IsMet w id segment terms

@@ -16,7 +16,8 @@ use Rattle.world_core.specs.declared.logs.Logged.{Logged}
 use Rattle.world_core.specs.declared.logs.Logged.TheVariants as logged
 
 -- the parts, and the name of each arena; of each CPU the segment in its hand and the request that it
--- serves; the caches of all CPUs, with the CPU of each; the book, with the list of all its entries, newest first; the clients; and all lines and
+-- serves; the caches of all CPUs, with the CPU of each; the book, with the list of all its entries,
+-- newest first; the clients; and all lines and
 -- replies that were ever sent, oldest first
 pub record WorldState : Type 0 where
   pub stock : List SpaceState

@@ -38,10 +38,13 @@ impl World<PlainDeed> {
         let mark = PlainDeed::new(0, Range::new(0, 1).unwrap());
         Ok(World {
             parts: WorldParts {
+                alloc,
                 stock,
                 names,
                 hands,
                 tasks,
+                owners: Vec::new(alloc),
+                caches: Vec::new(alloc),
                 book: Book::new(alloc, mark),
                 log: Vec::new(alloc),
                 clients: Vec::new(alloc),

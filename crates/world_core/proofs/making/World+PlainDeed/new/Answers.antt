@@ -19,9 +19,9 @@ invariant_of-result c =
     let alike : map plan_of stock ≡ map plan_for arenas = c.in-Ok.ensures.set_up.plans in
     let count : length names ≡ length stock = as_many arenas names is ∙ sym (length-map arenas plan_for) ∙ sym (ap length alike) ∙ length-map stock plan_of in
     let few : length names ≤ 2 ^ 32 = (let f : length arenas ≤ 32 = c.tree.ensures.tree.few in let n : length names ≡ length arenas = as_many arenas names is in omega (arith, f, n)) in
-    let w : WorldState = record { stock = stock; names = names; hands = []; tasks = []; book = c.new-2.result; entries = entries_of c.new-3.result.items; clients = c.new-4.result.items; requests = c.new-5.result.items; replies = c.new-6.result.items } in
-    let idle = born stock names c.new-2.result [] [] c.new-3.result.items c.new-4.result.items c.new-5.result.items c.new-6.result.items c.count.ensures.stock c.in-Ok.ensures.nothing_out count few
-    (are_names arenas names is c.tree.ensures.tree.names c.in_ok-names.ensures.names) c.new-2.ensures.empty refl refl c.new-3.ensures.items c.new-4.ensures.items c.new-5.ensures.items c.new-6.ensures.items in
+    let w : WorldState = record { stock = stock; names = names; hands = []; tasks = []; owners = c.new-2.result.items; caches = c.new-3.result.items; book = c.new-4.result; entries = entries_of c.new-5.result.items; clients = c.new-6.result.items; requests = c.new-7.result.items; replies = c.new-8.result.items } in
+    let idle = born stock names c.new-4.result [] [] c.new-2.result.items c.new-3.result.items c.new-5.result.items c.new-6.result.items c.new-7.result.items c.new-8.result.items c.count.ensures.stock c.in-Ok.ensures.nothing_out count few
+    (are_names arenas names is c.tree.ensures.tree.names c.in_ok-names.ensures.names) c.new-4.ensures.empty refl refl c.new-2.ensures.items c.new-3.ensures.items c.new-5.ensures.items c.new-6.ensures.items c.new-7.ensures.items c.new-8.ensures.items in
     with_cpus w c.args.cpus c.fill_empty-2.new.list.items c.fill_empty.new.list.items idle
     (c.fill_empty-2.ensures ∙ ap (λ (xs : List (Option Tag)). xs ++ replicate c.args.cpus None) c.in_ok-hands.ensures.items)
     (c.fill_empty.ensures ∙ ap (λ (xs : List (Option Task)). xs ++ replicate c.args.cpus None) c.in_ok-tasks.ensures.items)

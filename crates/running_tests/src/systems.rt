@@ -1,0 +1,128 @@
+//! What the tests share: settings, lines, and a system from its making to its end.
+ghost use Rattle.std.specs.Prelude.{◌≡◌};
+
+mod gates;
+mod rows;
+mod soak;
+
+use arena_tree::{NewChild, NewRoot, Setting, Setup};
+use deed_core::Range;
+use deed_table::{Ground, Name};
+use lease_proto::{Line, Reply};
+use lease_terms::Name as ArenaName;
+use lease_threads::{Cpu, OpenGate, RequestStopped, System};
+use std::alloc::AllocGlobal;
+use std::process::Abort;
+use std::sync::Wait;
+use tag_arena::Policy;
+
+fn root(rt: &impl Abort, setup: &mut Setup, name: &str, base: u64, len: u64, qcache_max: u64) {
+    let name = ArenaName::new(name.as_bytes()).expect(rt, "a name");
+    let root = NewRoot {
+        name,
+        base,
+        len,
+        quantum: 1,
+        policy: Policy::Best,
+        qcache_max,
+    };
+    setup.add(&Setting::Root(root)).expect(rt, "a root");
+}
+
+// An arena that imports 16 units or more of another, and caches up to 5.
+fn child(rt: &impl Abort, setup: &mut Setup, name: &str, source: &str) {
+    let child = NewChild {
+        name: ArenaName::new(name.as_bytes()).expect(rt, "a name"),
+        source: ArenaName::new(source.as_bytes()).expect(rt, "a name"),
+        quantum: 1,
+        policy: Policy::Best,
+        qcache_max: 5,
+        import_min: 16,
+    };
+    setup.add(&Setting::Child(child)).expect(rt, "a child");
+}
+
+fn line(rt: &impl Abort, text: &str) -> Line {
+    Line::read(text.as_bytes()).expect(rt, "a line")
+}
+
+fn same(rt: &(impl Abort + AllocGlobal), reply: &Reply, text: &str) {
+    let mut out = Vec::new(rt.alloc());
+    reply.write(&mut out).expect(rt, "room");
+    out.pop();
+    assert!(rt; out.as_slice() == text.as_bytes(), "another reply");
+}
+
+// Ends the test, with what it held.
+fn stuck<X, R: Abort>(rt: &R, held: X) -> ! {
+    let _held = held;
+    panic!(rt; "refused")
+}
+
+fn ask<N: Name, R: Abort + Wait + AllocGlobal>(
+    rt: &R,
+    system: &System<N>,
+    cpu: &mut Cpu<N>,
+    text: &str,
+    wanted: &str,
+) {
+    match system.request(rt, cpu, &OpenGate, &line(rt, text)) {
+        Ok((reply, _)) => same(rt, &reply, wanted),
+        Err(RequestStopped) => panic!(rt; "stopped"),
+    }
+}
+
+fn cpu<N: Name, R: Abort + AllocGlobal>(rt: &R, system: &System<N>, number: u32) -> Cpu<N> {
+    match Cpu::new(rt.alloc(), system, number) {
+        Ok(Some(cpu)) => cpu,
+        _ => panic!(rt; "no cpu"),
+    }
+}
+
+fn made<N: Name, R: Abort + AllocGlobal>(rt: &R, ground: Ground, setup: Setup) -> System<N>
+    requires { ground ≡ N.table }
+{
+    match System::new(rt.alloc(), ground, setup) {
+        Ok(system) => system,
+        Err(_) => panic!(rt; "memory"),
+    }
+}
+
+fn retire<N: Name, R: Abort + Wait>(rt: &R, system: &System<N>, cpu: Cpu<N>) {
+    match system.retire(rt, cpu) {
+        Ok(()) => {}
+        Err(cpu) => stuck(rt, cpu),
+    }
+}
+
+// Shuts the system, which has these ranges.
+fn shut<N: Name, R: Abort + Wait>(rt: &R, system: System<N>, wanted: &[(u64, u64)]) {
+    match system.shut(rt) {
+        Ok(ranges) => have(rt, &ranges, wanted),
+        Err(fault) => stuck(rt, fault),
+    }
+}
+
+fn have(rt: &impl Abort, ranges: &[Range], wanted: &[(u64, u64)]) {
+    assert!(rt; ranges.len() == wanted.len());
+    for (range, (base, len)) in ranges.iter().zip(wanted) {
+        assert!(rt; range.base() == *base && range.len() == *len);
+    }
+}
+
+// Asks each line, a line of the text and then its answer, of one Cpu or of two in turn.
+fn ask_all<N: Name, R: Abort + Wait + AllocGlobal>(
+    rt: &R,
+    system: &System<N>,
+    one: &mut Cpu<N>,
+    two: &mut Cpu<N>,
+    rows: &[(&str, &str)],
+) {
+    for (place, (text, wanted)) in rows.iter().enumerate() {
+        if place % 2 == 0 {
+            ask(rt, system, one, text, wanted);
+        } else {
+            ask(rt, system, two, text, wanted);
+        }
+    }
+}

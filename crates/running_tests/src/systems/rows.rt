@@ -1,0 +1,177 @@
+//! Lines and their answers, the lines asked of two CPUs in turn.
+ghost use Rattle.std.specs.Prelude.{◌≡◌};
+
+use super::{ask, ask_all, child, cpu, have, made, retire, root, shut, stuck};
+use arena_tree::Setup;
+use deed_table::{Ground, Name};
+use lease_threads::{Halted, ShutFault, System};
+use std::alloc::AllocGlobal;
+use std::marker::Brand;
+use std::process::Abort;
+use std::sync::Wait;
+use std::test::Fail;
+
+#[test]
+fn read_back(rt: HostRuntime) -> Result<(), Fail> {
+    let mut setup = Setup::new(rt.alloc());
+    root(&rt, &mut setup, "m", 0, 4, 0);
+    read_back_in::<Brand, _>(&rt, Ground::new(rt.alloc())?, setup);
+    Ok(())
+}
+
+fn read_back_in<N: Name, R: Abort + Wait + AllocGlobal>(rt: &R, ground: Ground, setup: Setup)
+    requires { ground ≡ N.table }
+{
+    let system: System<N> = made(rt, ground, setup);
+    let mut one = cpu(rt, &system, 0);
+    let mut two = cpu(rt, &system, 1);
+    let rows = [
+        ("hello 1 1", "welcome 1 1"),
+        ("hello 2 1", "welcome 2 1"),
+        ("lease 1 1 1 m 4", "granted 1 1 1 m 0 4"),
+        ("lease 1 1 1 m 4", "granted 1 1 1 m 0 4"),
+        ("lease 2 1 1 m 4", "refused 2 1 1 nofit"),
+        ("release 1 1 2 m 0", "released 1 1 2"),
+        ("release 1 1 2 m 0", "released 1 1 2"),
+        ("lease 2 1 2 m 4", "granted 2 1 2 m 0 4"),
+        ("lease 2 1 3 z 4", "refused 2 1 3 noarena"),
+        ("hello 2 2", "welcome 2 2"),
+        ("lease 1 1 3 m 4", "granted 1 1 3 m 0 4"),
+        ("hello 1 0", "welcome 1 1"),
+    ];
+    ask_all(rt, &system, &mut one, &mut two, &rows[..11]);
+    retire(rt, &system, one);
+    retire(rt, &system, two);
+    shut(rt, system, &[(0, 4)]);
+}
+
+#[test]
+fn reap_running(rt: HostRuntime) -> Result<(), Fail> {
+    let mut setup = Setup::new(rt.alloc());
+    root(&rt, &mut setup, "d", 0, 64, 5);
+    reaped::<Brand, _>(&rt, Ground::new(rt.alloc())?, setup);
+    Ok(())
+}
+
+fn reaped<N: Name, R: Abort + Wait + AllocGlobal>(rt: &R, ground: Ground, setup: Setup)
+    requires { ground ≡ N.table }
+{
+    let system: System<N> = made(rt, ground, setup);
+    let mut one = cpu(rt, &system, 0);
+    let mut two = cpu(rt, &system, 1);
+    let rows = [
+        ("hello 1 1", "welcome 1 1"),
+        ("lease 1 1 1 d 1", "granted 1 1 1 d 0 1"),
+        ("lease 1 1 2 d 1", "granted 1 1 2 d 1 1"),
+        ("lease 1 1 3 d 1", "granted 1 1 3 d 2 1"),
+        ("lease 1 1 4 d 1", "granted 1 1 4 d 3 1"),
+        ("lease 1 1 5 d 1", "granted 1 1 5 d 4 1"),
+        ("lease 1 1 6 d 1", "granted 1 1 6 d 5 1"),
+        ("lease 1 1 7 d 1", "granted 1 1 7 d 6 1"),
+        ("release 1 1 8 d 0", "released 1 1 8"),
+        ("release 1 1 9 d 1", "released 1 1 9"),
+        ("release 1 1 10 d 2", "released 1 1 10"),
+        ("release 1 1 11 d 3", "released 1 1 11"),
+        ("release 1 1 12 d 4", "released 1 1 12"),
+        ("release 1 1 13 d 5", "released 1 1 13"),
+        ("release 1 1 14 d 6", "released 1 1 14"),
+    ];
+    for (text, wanted) in &rows {
+        ask(rt, &system, &mut one, text, wanted);
+        system.tick(rt);
+        assert!(rt; system.reap(rt, &mut two, 0, 1024) == 0);
+    }
+    assert!(rt; one.units() > 0);
+    retire(rt, &system, one);
+    system.tick(rt);
+    assert!(rt; system.reap(rt, &mut two, 0, 1024) == 16);
+    assert!(rt; two.units() == 0);
+    ask(
+        rt,
+        &system,
+        &mut two,
+        "lease 1 1 15 d 64",
+        "granted 1 1 15 d 0 64",
+    );
+    assert!(rt; system.resize(rt, 0, 7));
+    assert!(rt; !system.resize(rt, 0, 7));
+    retire(rt, &system, two);
+    shut(rt, system, &[(0, 64)]);
+}
+
+#[test]
+fn shut_whole(rt: HostRuntime) -> Result<(), Fail> {
+    let mut setup = Setup::new(rt.alloc());
+    root(&rt, &mut setup, "a", 0, 64, 0);
+    child(&rt, &mut setup, "b", "a");
+    root(&rt, &mut setup, "d", 64, 64, 5);
+    whole::<Brand, _>(&rt, Ground::new(rt.alloc())?, setup);
+    Ok(())
+}
+
+fn whole<N: Name, R: Abort + Wait + AllocGlobal>(rt: &R, ground: Ground, setup: Setup)
+    requires { ground ≡ N.table }
+{
+    let system: System<N> = made(rt, ground, setup);
+    let mut one = cpu(rt, &system, 0);
+    let mut two = cpu(rt, &system, 1);
+    let rows = [
+        ("hello 1 1", "welcome 1 1"),
+        ("lease 1 1 1 b 5", "granted 1 1 1 b 0 5"),
+        ("lease 1 1 2 b 20", "granted 1 1 2 b 16 20"),
+        ("lease 1 1 3 d 2", "granted 1 1 3 d 64 2"),
+        ("release 1 1 4 b 0", "released 1 1 4"),
+        ("lease 1 1 5 d 9 align 16 phase 3", "granted 1 1 5 d 83 9"),
+    ];
+    ask_all(rt, &system, &mut one, &mut two, &rows);
+    retire(rt, &system, one);
+    retire(rt, &system, two);
+    shut(rt, system, &[(0, 64), (64, 64)]);
+}
+
+#[test]
+fn shut_goes_on(rt: HostRuntime) -> Result<(), Fail> {
+    let mut setup = Setup::new(rt.alloc());
+    root(&rt, &mut setup, "m", 0, 8, 0);
+    root(&rt, &mut setup, "d", 64, 64, 5);
+    goes_on::<Brand, _>(&rt, Ground::new(rt.alloc())?, setup);
+    Ok(())
+}
+
+// A CPU still has a round of the second arena when the system is shut, and is retired then.
+fn goes_on<N: Name, R: Abort + Wait + AllocGlobal>(rt: &R, ground: Ground, setup: Setup)
+    requires { ground ≡ N.table }
+{
+    let system: System<N> = made(rt, ground, setup);
+    let mut one = cpu(rt, &system, 0);
+    let rows = [
+        ("hello 1 1", "welcome 1 1"),
+        ("lease 1 1 1 m 8", "granted 1 1 1 m 0 8"),
+        ("lease 1 1 2 d 1", "granted 1 1 2 d 64 1"),
+        ("release 1 1 3 d 64", "released 1 1 3"),
+    ];
+    for (text, wanted) in &rows {
+        ask(rt, &system, &mut one, text, wanted);
+    }
+    assert!(rt; one.units() == 1);
+    let halted = halt(rt, system);
+    assert!(rt; halted.segment().is_none());
+    match halted.place() {
+        Some(name) => assert!(rt; name.as_slice() == "d".as_bytes()),
+        None => panic!(rt; "no place"),
+    }
+    retire(rt, halted.system(), one);
+    match ShutFault::Stuck(halted).again(rt) {
+        Ok(ranges) => have(rt, &ranges, &[(0, 8), (64, 64)]),
+        Err(fault) => stuck(rt, fault),
+    }
+}
+
+// Shuts a system of which a unit is out.
+fn halt<N: Name, R: Abort + Wait>(rt: &R, system: System<N>) -> Halted<N> {
+    match system.shut(rt) {
+        Ok(_) => panic!(rt; "a unit is out"),
+        Err(ShutFault::NoMemory(system)) => stuck(rt, system),
+        Err(ShutFault::Stuck(halted)) => halted,
+    }
+}
