@@ -211,7 +211,8 @@ PartRefuses (events.SwapsFresh cpu arena cache) faults.OldSize w =
     HasDepot w cpu arena cache (λ c d. BothFull c × (c.size ≢ d.size))
 PartRefuses event why w = ⊥
 
--- where an event may want memory: only where it can happen, and some events never do
+-- where an event may want memory: only where it can happen, and some events never do; the new
+-- magazine of a swap is made before the depot tells whether it takes its size
 abbrev pub MayWantMemory : WorldEvent → WorldState → Type 0
 MayWantMemory (events.Hears c which) w = ⊥
 MayWantMemory (events.Frees cpu) w = ⊥
@@ -225,6 +226,8 @@ MayWantMemory (events.SwapsFull cpu arena cache) w = ⊥
 MayWantMemory (events.SwapsEmpty cpu arena cache) w = ⊥
 MayWantMemory (events.Ticks arena cache) w = ⊥
 MayWantMemory (events.Resizes arena cache size) w = ⊥
+MayWantMemory (events.SwapsFresh cpu arena cache) w =
+    IsReady (events.SwapsFresh cpu arena cache) w
 MayWantMemory event w = IsEnabled event w
 
 -- the move of an event
