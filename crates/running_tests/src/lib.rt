@@ -1,7 +1,8 @@
 //! Tests of running systems by their public calls: several CPUs and threads, from setup to shut. It
 //! has no code of its own, and stands apart from `cross_tests` since its tests wait for locks.
 //!
-//! `systems::rows` has lines and their answers, asked of two CPUs in turn, and how a system ends;
+//! `systems::conversations` has setups with lines and what they are answered, the same as of a
+//! script; `rows` has lines and their answers, asked of two CPUs in turn, and how a system ends;
 //! `gates` has requests that a gate holds or stops, in two threads; `soak` has four workers for ten
 //! seconds, after which no two leases overlap and each root comes back whole.
 #![tactic(auto)]

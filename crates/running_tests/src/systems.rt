@@ -1,6 +1,7 @@
 //! What the tests share: settings, lines, and a system from its making to its end.
 ghost use Rattle.std.specs.Prelude.{◌≡◌};
 
+mod conversations;
 mod gates;
 mod rows;
 mod soak;

@@ -4,6 +4,7 @@ use super::arrangements::{Walk, is_set_up_as};
 use arena_tree::{ClimbFault, climb_alloc, climb_free};
 use deed_core::{Deed, Segment};
 use local_parts::Local;
+use magazine_layer::is_magazine_size;
 use quantum_cache::{alloc, drain, free, reap};
 use std::mem;
 use std::process::Abort;
@@ -175,6 +176,16 @@ pub(super) fn tick<D: Deed>(rt: &impl Abort, walk: &mut Walk<D>) {
         }
     }
     assert!(rt; walk.stock.count() > 0);
+}
+
+/// The depots of the first arena keep magazines of this size from here on.
+pub(super) fn resize<D: Deed>(rt: &impl Abort, walk: &mut Walk<D>, size: usize) {
+    assert!(rt; is_magazine_size(size));
+    for cache in 1..17 {
+        if let Some(place) = walk.stock.cache_at(0, cache) {
+            assert!(rt; walk.stock.resize(0, place, size).is_ok());
+        }
+    }
 }
 
 /// The other CPU calls from here on.

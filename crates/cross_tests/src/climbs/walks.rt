@@ -1,6 +1,7 @@
 //! The rows, call by call.
 use super::arrangements::{Walk, begin, child, end, root, set};
-use super::calls::{allocate, change_cpus, climb, empty, hand_back, reap_all, release, tick};
+use super::calls::{allocate, change_cpus, climb, empty, hand_back, reap_all, release};
+use super::calls::{resize, tick};
 use super::sums::{free_units, magazine_units, slab_units};
 use arena_tree::Setup;
 use deed_core::{PlainDeed, Segment};
@@ -32,6 +33,8 @@ enum Step {
     /// The CPU's magazines are emptied.
     Drain,
     Tick,
+    /// The depots keep magazines of so many rounds from here on.
+    Resize(usize),
     /// Slabs of so many units are reaped.
     Reap(u128),
 }
@@ -94,6 +97,7 @@ fn go(rt: &impl Abort, walk: &mut Walk<PlainDeed>, step: Step) {
         Step::OtherCpu => change_cpus(walk),
         Step::Drain => empty(rt, walk),
         Step::Tick => tick(rt, walk),
+        Step::Resize(size) => resize(rt, walk, size),
         Step::Reap(units) => assert_eq!(rt; reap_all(rt, walk), units),
     }
 }
@@ -278,6 +282,62 @@ fn two_cpus(rt: HostRuntime) {
     set(&rt, &mut setup, root(&rt, "d", 64, 1, Policy::Instant, 5));
     let mut walk = begin(&rt, rt.alloc(), setup);
     run(&rt, &mut walk, &TWO_CPUS);
+    let _root = end(&rt, walk).close();
+}
+
+/// Depots keep greater magazines. A CPU goes over to these where it would exchange one: when both of
+/// its own are full, by the exchange that is refused, and when both are empty.
+const MAGAZINES_GET_GREATER: [Step; 42] = [
+    Step::Alloc(0, 1, 0),
+    Step::Alloc(0, 1, 1),
+    Step::Alloc(0, 1, 2),
+    Step::Alloc(0, 1, 3),
+    Step::Alloc(0, 1, 4),
+    Step::Alloc(0, 1, 5),
+    Step::Alloc(0, 1, 6),
+    Step::Alloc(0, 1, 7),
+    Step::Resize(7),
+    Step::Free(0, 0),
+    Step::Free(0, 1),
+    Step::Free(0, 2),
+    Step::Free(0, 3),
+    Step::Free(0, 4),
+    Step::Free(0, 5),
+    Step::Steps(0),
+    Step::Free(0, 6),
+    Step::Steps(1),
+    Step::Free(0, 7),
+    Step::Steps(0),
+    Step::Magazines(0, 8),
+    Step::Drain,
+    Step::OtherCpu,
+    Step::Alloc(0, 1, 0),
+    Step::Steps(2),
+    Step::Alloc(0, 1, 1),
+    Step::Alloc(0, 1, 2),
+    Step::Alloc(0, 1, 3),
+    Step::Alloc(0, 1, 4),
+    Step::Alloc(0, 1, 5),
+    Step::Alloc(0, 1, 6),
+    Step::Free(0, 0),
+    Step::Free(0, 1),
+    Step::Free(0, 2),
+    Step::Free(0, 3),
+    Step::Free(0, 4),
+    Step::Free(0, 5),
+    Step::Free(0, 6),
+    Step::Steps(0),
+    Step::Drain,
+    Step::Reap(16),
+    Step::Units(0, 64),
+];
+
+#[test]
+fn magazines_get_greater(rt: HostRuntime) {
+    let mut setup = Setup::new(rt.alloc());
+    set(&rt, &mut setup, root(&rt, "d", 64, 1, Policy::Instant, 5));
+    let mut walk = begin(&rt, rt.alloc(), setup);
+    run(&rt, &mut walk, &MAGAZINES_GET_GREATER);
     let _root = end(&rt, walk).close();
 }
 

@@ -4,7 +4,7 @@ ghost use Rattle.std.specs.Prelude.{◌≡◌};
 use super::{ask, cpu, line, made, retire, root, same, shut, stuck};
 use arena_tree::Setup;
 use deed_table::{Ground, Name};
-use lease_threads::{EventName, Gate, NextStep, OpenGate, Pass, RequestStopped, System};
+use lease_threads::{Cpu, EventName, Gate, NextStep, Pass, RequestStopped, System};
 use std::alloc::AllocGlobal;
 use std::marker::Brand;
 use std::process::Abort;
@@ -16,10 +16,11 @@ use std::thread;
 use std::thread::Threads;
 use std::time::Duration;
 
-/// Holds a settle until the flag is raised, for 10,000 looks at most.
+/// Raises `held` at a settle, and holds it until `answered` is raised, for 10,000 looks at most.
 #[derive(Drop)]
 struct Hold<'a, R: Clock> {
     rt: &'a R,
+    held: &'a AtomicBool,
     answered: &'a AtomicBool,
 }
 
@@ -33,6 +34,7 @@ impl<R: Clock> Gate for Hold<'_, R> {
         if step.event != EventName::Settle {
             return Pass::Go;
         }
+        self.held.store(true, Ordering::SeqCst);
         if raised(self.rt, self.answered) {
             Pass::Go
         } else {
@@ -70,12 +72,12 @@ fn at_once<N: Name + Send + Sync, R: Abort + Wait + Threads + Clock + AllocGloba
     requires { ground ≡ N.table }
 {
     let system: System<N> = made(rt, ground, setup);
-    let (running, answered) = (AtomicBool::new(false), AtomicBool::new(false));
-    let (shared, runs, ends) = (&system, &running, &answered);
+    let (held, answered) = (AtomicBool::new(false), AtomicBool::new(false));
+    let (shared, waits, ends) = (&system, &held, &answered);
     thread::join(
         rt,
-        move || second(rt, shared, runs, ends),
-        move || first(rt, shared, runs, ends),
+        move || second(rt, shared, waits, ends),
+        move || first(rt, shared, waits, ends),
     );
     shut(rt, system, &[(0, 8), (8, 8)]);
 }
@@ -83,13 +85,12 @@ fn at_once<N: Name + Send + Sync, R: Abort + Wait + Threads + Clock + AllocGloba
 fn first<N: Name, R: Abort + Wait + Clock + AllocGlobal>(
     rt: &R,
     system: &System<N>,
-    running: &AtomicBool,
+    held: &AtomicBool,
     answered: &AtomicBool,
 ) {
-    assert!(rt; raised(rt, running), "worker 2 doesn't run");
     let mut cpu = cpu(rt, system, 0);
     ask(rt, system, &mut cpu, "hello 1 1", "welcome 1 1");
-    let gate = Hold { rt, answered };
+    let gate = Hold { rt, held, answered };
     match system.request(rt, &mut cpu, &gate, &line(rt, "lease 1 1 1 m 4")) {
         Ok((reply, _)) => same(rt, &reply, "granted 1 1 1 m 0 4"),
         Err(RequestStopped) => panic!(rt; "call 2 wasn't answered beside call 1"),
@@ -97,22 +98,29 @@ fn first<N: Name, R: Abort + Wait + Clock + AllocGlobal>(
     retire(rt, system, cpu);
 }
 
+// Asks once call 1 is held before its settle, which then waits for the answers.
 fn second<N: Name, R: Abort + Wait + Clock + AllocGlobal>(
     rt: &R,
     system: &System<N>,
-    running: &AtomicBool,
+    held: &AtomicBool,
     answered: &AtomicBool,
 ) {
     let mut cpu = cpu(rt, system, 1);
-    running.store(true, Ordering::SeqCst);
+    assert!(rt; raised(rt, held), "call 1 isn't held");
     ask(rt, system, &mut cpu, "hello 2 1", "welcome 2 1");
-    // In another arena: call 1 holds no lock while its gate waits, and may have carved or not.
     ask(
         rt,
         system,
         &mut cpu,
-        "lease 2 1 1 p 4",
-        "granted 2 1 1 p 8 4",
+        "lease 2 1 1 m 4",
+        "granted 2 1 1 m 4 4",
+    );
+    ask(
+        rt,
+        system,
+        &mut cpu,
+        "lease 2 1 2 p 4",
+        "granted 2 1 2 p 8 4",
     );
     answered.store(true, Ordering::SeqCst);
     retire(rt, system, cpu);
@@ -136,36 +144,120 @@ impl Gate for StopAt {
     }
 }
 
-#[test]
-fn drain_step(rt: HostRuntime) -> Result<(), Fail> {
-    for turn in 0..12 {
-        let mut setup = Setup::new(rt.alloc());
-        root(&rt, &mut setup, "d", 0, 64, 5);
-        drained::<Brand, _>(&rt, Ground::new(rt.alloc())?, setup, turn);
+// Asks a line that its gate stops before a step. The CPU then holds so many units.
+fn stop<N: Name, R: Abort + Wait>(
+    rt: &R,
+    system: &System<N>,
+    cpu: &mut Cpu<N>,
+    text: &str,
+    turn: u64,
+    units: u128,
+) {
+    match system.request(rt, cpu, &StopAt(turn), &line(rt, text)) {
+        Ok(_) => panic!(rt; "it wasn't stopped"),
+        Err(RequestStopped) => {}
     }
-    Ok(())
+    assert_eq!(rt; cpu.units(), units);
 }
 
-// A Cpu is stopped before a step of a lease and of a release, and another places what it holds.
-fn drained<N: Name, R: Abort + Wait + AllocGlobal>(rt: &R, ground: Ground, setup: Setup, turn: u64)
-    requires { ground ≡ N.table }
-{
-    let system: System<N> = made(rt, ground, setup);
-    let mut one = cpu(rt, &system, 0);
-    let mut two = cpu(rt, &system, 1);
-    ask(rt, &system, &mut one, "hello 1 1", "welcome 1 1");
-    let _ = system.request(rt, &mut one, &StopAt(turn), &line(rt, "lease 1 1 1 d 1"));
-    let _ = system.request(rt, &mut two, &OpenGate, &line(rt, "lease 1 1 1 d 1"));
-    let _ = system.request(
-        rt,
-        &mut one,
-        &StopAt(turn % 3),
-        &line(rt, "release 1 1 2 d 0"),
-    );
+// A CPU fails, what it has is placed, and another one is asked the same.
+fn taken_up<N: Name, R: Abort + Wait + AllocGlobal>(
+    rt: &R,
+    system: System<N>,
+    one: Cpu<N>,
+    text: &str,
+    wanted: &str,
+) {
     match system.drain_failed(rt, one) {
         Ok(()) => {}
         Err(cpu) => stuck(rt, cpu),
     }
+    let mut two = cpu(rt, &system, 1);
+    ask(rt, &system, &mut two, text, wanted);
     retire(rt, &system, two);
+    shut(rt, system, &[(0, 64)]);
+}
+
+/// What a CPU holds before each step of a lease: the look, the pop, the swap for a full magazine,
+/// the chunk, the carve of a slab, the slab, the settle.
+const HELD_AT: [u128; 7] = [0, 0, 0, 0, 0, 16, 1];
+
+#[test]
+fn drain_step(rt: HostRuntime) -> Result<(), Fail> {
+    for turn in 0..7 {
+        let mut setup = Setup::new(rt.alloc());
+        root(&rt, &mut setup, "d", 0, 64, 5);
+        lease_stopped::<Brand, _>(&rt, Ground::new(rt.alloc())?, setup, turn);
+    }
+    for turn in 0..2 {
+        let mut setup = Setup::new(rt.alloc());
+        root(&rt, &mut setup, "d", 0, 64, 5);
+        release_stopped::<Brand, _>(&rt, Ground::new(rt.alloc())?, setup, turn);
+    }
+    Ok(())
+}
+
+fn lease_stopped<N: Name, R: Abort + Wait + AllocGlobal>(
+    rt: &R,
+    ground: Ground,
+    setup: Setup,
+    turn: usize,
+)
+    requires { ground ≡ N.table }
+{
+    let system: System<N> = made(rt, ground, setup);
+    let mut one = cpu(rt, &system, 0);
+    ask(rt, &system, &mut one, "hello 1 1", "welcome 1 1");
+    let lease = "lease 1 1 1 d 1";
+    let held = HELD_AT.get(turn).expect(rt, "a step");
+    stop(rt, &system, &mut one, lease, turn as u64, *held);
+    taken_up(rt, system, one, lease, "granted 1 1 1 d 0 1");
+}
+
+// Before the release nothing is held, and before the push the chunk.
+fn release_stopped<N: Name, R: Abort + Wait + AllocGlobal>(
+    rt: &R,
+    ground: Ground,
+    setup: Setup,
+    turn: u64,
+)
+    requires { ground ≡ N.table }
+{
+    let system: System<N> = made(rt, ground, setup);
+    let mut one = cpu(rt, &system, 0);
+    ask(rt, &system, &mut one, "hello 1 1", "welcome 1 1");
+    ask(
+        rt,
+        &system,
+        &mut one,
+        "lease 1 1 1 d 1",
+        "granted 1 1 1 d 0 1",
+    );
+    let release = "release 1 1 2 d 0";
+    stop(rt, &system, &mut one, release, turn, u128::from(turn));
+    taken_up(rt, system, one, release, "released 1 1 2");
+}
+
+/// What a stopped request left in the hand is placed before the next line is served: else there
+/// would be no room for it.
+#[test]
+fn hand_is_placed_first(rt: HostRuntime) -> Result<(), Fail> {
+    let mut setup = Setup::new(rt.alloc());
+    root(&rt, &mut setup, "m", 0, 64, 0);
+    placed_first::<Brand, _>(&rt, Ground::new(rt.alloc())?, setup);
+    Ok(())
+}
+
+fn placed_first<N: Name, R: Abort + Wait + AllocGlobal>(rt: &R, ground: Ground, setup: Setup)
+    requires { ground ≡ N.table }
+{
+    let system: System<N> = made(rt, ground, setup);
+    let mut one = cpu(rt, &system, 0);
+    ask(rt, &system, &mut one, "hello 1 1", "welcome 1 1");
+    let lease = "lease 1 1 1 m 64";
+    stop(rt, &system, &mut one, lease, 2, 64);
+    ask(rt, &system, &mut one, lease, "granted 1 1 1 m 0 64");
+    assert!(rt; one.units() == 0);
+    retire(rt, &system, one);
     shut(rt, system, &[(0, 64)]);
 }

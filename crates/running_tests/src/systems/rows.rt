@@ -37,9 +37,8 @@ fn read_back_in<N: Name, R: Abort + Wait + AllocGlobal>(rt: &R, ground: Ground, 
         ("lease 2 1 3 z 4", "refused 2 1 3 noarena"),
         ("hello 2 2", "welcome 2 2"),
         ("lease 1 1 3 m 4", "granted 1 1 3 m 0 4"),
-        ("hello 1 0", "welcome 1 1"),
     ];
-    ask_all(rt, &system, &mut one, &mut two, &rows[..11]);
+    ask_all(rt, &system, &mut one, &mut two, &rows);
     retire(rt, &system, one);
     retire(rt, &system, two);
     shut(rt, system, &[(0, 4)]);

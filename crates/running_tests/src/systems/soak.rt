@@ -76,11 +76,12 @@ fn soaked<N: Name + Send + Sync, R: Abort + Wait + Threads + Clock + AllocGlobal
     shut(rt, system, &[(0, 1024), (1024, 1024)]);
 }
 
-// Each worker got and released segments, and no lease of one overlaps one of another. All arenas
-// have units of their own, or those that they got of another.
+// Each worker got and released segments, and no two leases overlap. All arenas have units of their
+// own, or those that they got of another.
 fn are_apart(rt: &impl Abort, all: &[Tended]) {
     for (place, one) in all.iter().enumerate() {
         assert!(rt; one.grants > 100 && one.releases > 100);
+        are_all_apart(rt, one.client.held());
         for (later, other) in all.iter().enumerate() {
             if place < later {
                 is_apart(rt, one.client.held(), other.client.held());
@@ -89,13 +90,27 @@ fn are_apart(rt: &impl Abort, all: &[Tended]) {
     }
 }
 
+fn are_all_apart(rt: &impl Abort, held: &[HeldSegment]) {
+    for (place, one) in held.iter().enumerate() {
+        for (later, other) in held.iter().enumerate() {
+            if place < later {
+                apart(rt, one, other);
+            }
+        }
+    }
+}
+
 fn is_apart(rt: &impl Abort, ones: &[HeldSegment], others: &[HeldSegment]) {
     for one in ones {
         for other in others {
-            let apart = end(one) <= other.base.get() || end(other) <= one.base.get();
-            assert!(rt; apart, "two leases overlap");
+            apart(rt, one, other);
         }
     }
+}
+
+fn apart(rt: &impl Abort, one: &HeldSegment, other: &HeldSegment) {
+    let apart = end(one) <= other.base.get() || end(other) <= one.base.get();
+    assert!(rt; apart, "two leases overlap");
 }
 
 fn end(segment: &HeldSegment) -> u64 {

@@ -1,5 +1,8 @@
 use Rattle.running_tests.proofs.systems.gates.drain_step.Given as goal
 
--- the table that was just made
-abbrev pub ghosts-drained : goal.ghosts-drained
-ghosts-drained g a = record { table = a.ground }
+-- the tables that were just made
+abbrev pub ghosts-lease_stopped : goal.ghosts-lease_stopped
+ghosts-lease_stopped g a = record { table = a.ground }
+
+abbrev pub ghosts-release_stopped : goal.ghosts-release_stopped
+ghosts-release_stopped g a = record { table = a.ground }
