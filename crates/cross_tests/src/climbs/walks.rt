@@ -1,7 +1,8 @@
 //! The rows, call by call.
 use super::arrangements::{Walk, begin, child, end, root, set};
-use super::calls::{allocate, change_cpus, climb, empty, hand_back, reap_all, release};
-use super::calls::{resize, tick};
+use super::calls::{
+    allocate, change_cpus, climb, empty, hand_back, reap_all, release, resize, tick,
+};
 use super::sums::{free_units, magazine_units, slab_units};
 use arena_tree::Setup;
 use deed_core::{PlainDeed, Segment};
