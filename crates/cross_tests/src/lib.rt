@@ -5,15 +5,12 @@
 //! its own. `base` is for `deed_core` and `refusing_deed`, `tables` for `deed_table`. `arenas` has
 //! rows of calls of an arena, over plain deeds and over deeds one of whose splits is refused;
 //! `slabs` the same of a slab cache; `magazines` runs over a CPU's cache and its depot. `books` has
-//! rows of requests to a book of leases, `lines` has lines, replies and streams of the protocol,
-//! `client` what a client's core says to replies, `desk` what a desk answers, `serving` streams of
-//! lines, failing ones too, and `connections` those of a worker, one after another. `tree` has
-//! setups of arenas, what is refused of them, and the chains that they make; `stocks` has a script
-//! of events on a stock, `stock_sums` the audits of two arenas in a chain, `climbs` calls of one
-//! CPU over one thread's parts, with the locked steps of each. `seat_deeds` has an arena over the
-//! deeds of running threads. `promises` cites what the layers above reckon with: one function for
-//! each call or law of the arena, the slab cache and the magazines, whose contract only its
-//! callee's clauses carry.
+//! rows of requests to a book of leases, `client` what a client's core says to replies.
+//! `seat_deeds` has an arena over the deeds of running threads. `promises` cites what the layers
+//! above reckon with: one function for each call or law of the arena, the slab cache and the
+//! magazines, whose contract only its callee's clauses carry. Tests of setups and stocks stand in
+//! `stock_tests`, those of lines and desks in `line_tests`, those of the running system in
+//! `running_tests`.
 //!
 //! Each test is proved safe before it runs, and what that takes depends on its form: under a second
 //! where it is a table of rows and one call, ten to twenty where it is a chain of ten assertions
@@ -31,28 +28,12 @@ mod books;
 #[cfg(test)]
 mod client;
 #[cfg(test)]
-mod climbs;
-#[cfg(test)]
-mod connections;
-#[cfg(test)]
-mod desk;
-#[cfg(test)]
-mod lines;
-#[cfg(test)]
 mod magazines;
 #[cfg(test)]
 mod promises;
 #[cfg(test)]
 mod seat_deeds;
 #[cfg(test)]
-mod serving;
-#[cfg(test)]
 mod slabs;
 #[cfg(test)]
-mod stock_sums;
-#[cfg(test)]
-mod stocks;
-#[cfg(test)]
 mod tables;
-#[cfg(test)]
-mod tree;

@@ -6,6 +6,7 @@ use super::calls::{
 use super::sums::{free_units, magazine_units, slab_units};
 use arena_tree::Setup;
 use deed_core::{PlainDeed, Segment};
+use std::alloc::Global;
 use std::process::Abort;
 use tag_arena::Policy;
 
@@ -160,6 +161,15 @@ fn three_levels(rt: HostRuntime) {
     let _root = end(&rt, walk).close();
 }
 
+/// An arena of 64 units with caches, over which the steps run.
+fn walk_cached(rt: &impl Abort, alloc: Global, steps: &[Step]) {
+    let mut setup = Setup::new(alloc);
+    set(rt, &mut setup, root(rt, "d", 64, 1, Policy::Instant, 5));
+    let mut walk = begin(rt, alloc, setup);
+    run(rt, &mut walk, steps);
+    let _root = end(rt, walk).close();
+}
+
 /// The second slab has colour 1.
 const COLOURS: [Step; 16] = [
     Step::Alloc(0, 5, 0),
@@ -182,11 +192,7 @@ const COLOURS: [Step; 16] = [
 
 #[test]
 fn colours(rt: HostRuntime) {
-    let mut setup = Setup::new(rt.alloc());
-    set(&rt, &mut setup, root(&rt, "d", 64, 1, Policy::Instant, 5));
-    let mut walk = begin(&rt, rt.alloc(), setup);
-    run(&rt, &mut walk, &COLOURS);
-    let _root = end(&rt, walk).close();
+    walk_cached(&rt, rt.alloc(), &COLOURS);
 }
 
 /// Last in, first out.
@@ -214,11 +220,7 @@ const LAST_IN_FIRST_OUT: [Step; 19] = [
 
 #[test]
 fn last_in_first_out(rt: HostRuntime) {
-    let mut setup = Setup::new(rt.alloc());
-    set(&rt, &mut setup, root(&rt, "d", 64, 1, Policy::Instant, 5));
-    let mut walk = begin(&rt, rt.alloc(), setup);
-    run(&rt, &mut walk, &LAST_IN_FIRST_OUT);
-    let _root = end(&rt, walk).close();
+    walk_cached(&rt, rt.alloc(), &LAST_IN_FIRST_OUT);
 }
 
 /// Seven rounds fill two magazines, and a third one goes to the depot.
@@ -252,11 +254,7 @@ const REAPED: [Step; 25] = [
 
 #[test]
 fn reaped(rt: HostRuntime) {
-    let mut setup = Setup::new(rt.alloc());
-    set(&rt, &mut setup, root(&rt, "d", 64, 1, Policy::Instant, 5));
-    let mut walk = begin(&rt, rt.alloc(), setup);
-    run(&rt, &mut walk, &REAPED);
-    let _root = end(&rt, walk).close();
+    walk_cached(&rt, rt.alloc(), &REAPED);
 }
 
 /// What one CPU freed is its own: another one gets the next chunk.
@@ -279,11 +277,7 @@ const TWO_CPUS: [Step; 14] = [
 
 #[test]
 fn two_cpus(rt: HostRuntime) {
-    let mut setup = Setup::new(rt.alloc());
-    set(&rt, &mut setup, root(&rt, "d", 64, 1, Policy::Instant, 5));
-    let mut walk = begin(&rt, rt.alloc(), setup);
-    run(&rt, &mut walk, &TWO_CPUS);
-    let _root = end(&rt, walk).close();
+    walk_cached(&rt, rt.alloc(), &TWO_CPUS);
 }
 
 /// Depots keep greater magazines. A CPU goes over to these where it would exchange one: when both of
@@ -335,11 +329,7 @@ const MAGAZINES_GET_GREATER: [Step; 42] = [
 
 #[test]
 fn magazines_get_greater(rt: HostRuntime) {
-    let mut setup = Setup::new(rt.alloc());
-    set(&rt, &mut setup, root(&rt, "d", 64, 1, Policy::Instant, 5));
-    let mut walk = begin(&rt, rt.alloc(), setup);
-    run(&rt, &mut walk, &MAGAZINES_GET_GREATER);
-    let _root = end(&rt, walk).close();
+    walk_cached(&rt, rt.alloc(), &MAGAZINES_GET_GREATER);
 }
 
 /// Where no slab fits, the size itself is carved.

@@ -1,5 +1,5 @@
 use Rattle.std.proofs.Common.{◌≡◌, false}
-use Rattle.cross_tests.proofs.lines.transcript.Given as goal
+use Rattle.line_tests.proofs.lines.transcript.Given as goal
 
 abbrev pub invariant-loop-byte : goal.invariant-loop-byte
 invariant-loop-byte l = l.reader.whole ≡ false

@@ -1,6 +1,6 @@
 use Rattle.std.proofs.Common.{sym}
-use Rattle.cross_tests.proofs.ClimbNames.{turns_leave}
-use Rattle.cross_tests.proofs.climbs.calls.empty.Goals as goal
+use Rattle.stock_tests.proofs.ClimbNames.{turns_leave}
+use Rattle.stock_tests.proofs.climbs.calls.empty.Goals as goal
 
 pub shape_of-walk : goal.shape_of-walk
 shape_of-walk g c = sym (turns_leave _ _ _ _ (λ s. s.cpu.ghost_name) (λ s e x t d. d.2) _ _ _ _ _ c.drain-answer.ensures.ran)

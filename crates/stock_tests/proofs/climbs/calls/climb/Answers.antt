@@ -1,6 +1,6 @@
 use Rattle.std.proofs.Common.{sym}
-use Rattle.cross_tests.proofs.ClimbNames.{ran_leaves}
-use Rattle.cross_tests.proofs.climbs.calls.climb.Goals as goal
+use Rattle.stock_tests.proofs.ClimbNames.{ran_leaves}
+use Rattle.stock_tests.proofs.climbs.calls.climb.Goals as goal
 
 pub shape_of-walk : goal.shape_of-walk
 shape_of-walk g c = sym (ran_leaves _ _ _ _ (λ s. s.cpu.ghost_name) (λ s e x t d. d.2) _ _ _ _ c.climb_alloc-answer.ensures.ran)

@@ -1,5 +1,5 @@
 use Rattle.std.proofs.Common.{◌≡◌, false, length}
-use Rattle.cross_tests.proofs.lines.take_piece.Given as goal
+use Rattle.line_tests.proofs.lines.take_piece.Given as goal
 
 abbrev pub invariant-loop-piece : goal.invariant-loop-piece
 invariant-loop-piece l = l.reader.whole ≡ false
