@@ -14,7 +14,7 @@ use Rattle.magazine_layer.specs.Depots.{DepotState, after_tick, after_trim, Begi
 use Rattle.magazine_layer.specs.Calls.{DepotReapOf}
 use Rattle.stock.specs.Spaces.{SpaceState, QuantumCacheState, with_arena, with_cache, with_slab, with_depot}
 use Rattle.stock.specs.Steps.{OnSlab, OnDepot, FreeIn, PutIn}
-use Rattle.stock.specs.Endings.{Lasting, depot_size_of, lasting_of, lastings_of}
+use Rattle.stock.specs.Endings.{depot_size_of, lasting_of, lastings_of}
 
 -- an arena was written
 lasts_there : (old new : List SpaceState) (k : ℕ) (s x : SpaceState) → slice_get old k ≡ Some s → new ≡ set old k x → lasting_of x ≡ lasting_of s → lastings_of new ≡ lastings_of old

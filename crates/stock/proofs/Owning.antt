@@ -1,17 +1,16 @@
 -- A stock that is being made of a setup and the deeds of its spans.
-use Rattle.std.proofs.Common.{◌≡◌, ◌≢◌, ℕ, ◌+◌, ◌<◌, ◌≤◌, ◌==◌, true, false, refl, sym, subst, ap, ◌∙◌, inl, inr, List, [], ◌∷◌, ◌++◌, map, reverse, drop, length, set, All, Option, Some, None, arith, eq-eqb}
+use Rattle.std.proofs.Common.{◌≡◌, ◌≢◌, ℕ, ◌+◌, ◌<◌, ◌==◌, true, false, refl, sym, subst, ap, ◌∙◌, inl, inr, List, [], ◌∷◌, ◌++◌, map, reverse, drop, length, set, All, Some, None, arith, eq-eqb}
 use Rattle.std.specs.Prelude.{slice_get, sum_by}
 use Rattle.std.proofs.lemmas.Bool.{ne_eqb}
 use Rattle.std.proofs.lemmas.List.{append-nil, append_assoc, drop_more, length-map, reverse-append, map-append}
 use Rattle.std.proofs.lemmas.List.Elements.{All-nil, All-set}
 use Rattle.std.proofs.lemmas.List.Sums.{sum_by-cons, sum_by_push}
-use Rattle.std.proofs.lemmas.List.Sorted.{sum_by-IsPermutation}
 use Rattle.std.proofs.lemmas.Option.{slice_get_within, get_or_from_slice_get}
 use Rattle.deed_core.specs.Extent.{Extent}
 use Rattle.deed_core.specs.Holding.{Holding}
 use Rattle.deed_core.specs.Tag.{Tag}
 use Rattle.deed_core.specs.Weights.{Loses}
-use Rattle.deed_core.proofs.LawProofs.{written, slice_get_some, slice_get_one, slice_get_mapped, all_at, all_from, sum_set, sum_none, set_same, slice_get-set, slice_get-set_other}
+use Rattle.deed_core.proofs.LawProofs.{written, slice_get_one, slice_get_mapped, all_at, all_from, sum_set, sum_none, set_same, slice_get-set, slice_get-set_other}
 use Rattle.tag_arena.specs.ArenaState.{ArenaState, empty_arena}
 use Rattle.tag_arena.specs.Calls.{after_add}
 use Rattle.slab_layer.specs.Slab.{SlabState, IsComplete}

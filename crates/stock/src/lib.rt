@@ -11,8 +11,10 @@
 //! `reap_all` and `close` go through all parts: a stock ends by the first, by `remove_owned` until
 //! it gives none, and by the second, exactly where nothing is out of it (`end_laws`).
 //!
-//! Begin with `StockSetup` in `setups`, which makes a `Stock`, and with that in `stocks`;
-//! `specs/Steps.antt` has the steps, and `laws` what follows from the accounts.
+//! Begin with `Stock::of` in `making`, which makes a `Stock` of a setup (`plain_stock` does over
+//! plain deeds), and with its calls in `stocks`; `specs/Setups.antt` says what a stock is set up
+//! as, `specs/Steps.antt` has the steps, and `laws` what follows from the accounts. A stock is made
+//! so and grows by nothing else.
 #![tactic(auto)]
 
 mod arena_steps;
@@ -34,6 +36,5 @@ pub use laws::{
 };
 pub use own_caches::OwnCache;
 pub use plain_stocks::plain_stock;
-pub use setups::StockSetup;
 pub use spaces::{QuantumCache, Space};
 pub use stocks::Stock;

@@ -1,4 +1,5 @@
-//! How a stock is made: it grows here and nowhere else, and nothing is out of it at the end.
+//! How a stock grows: here and nowhere else, and nothing is out of it at the end. Of a setup it is
+//! made by `Stock::of`.
 ghost use Rattle.std.specs.Prelude.{◌≡◌, ◌+◌, ◌^◌, ◌<◌, [], ◌∷◌, ◌++◌, length, slice_get};
 ghost use Rattle.std.specs.Prelude.{Some, None, All, IfOk, OnOk, OnErr};
 ghost use Rattle.std.specs.Int.{IsPowerOfTwo};
@@ -21,7 +22,7 @@ use tag_arena::{Policy, SpanFault};
 
 /// A stock that is being made: the arenas so far, with their spans and quantum caches. It is never
 /// copied or dropped: `finish` ends it.
-pub struct StockSetup<D: Deed> {
+pub(crate) struct StockSetup<D: Deed> {
     alloc: Global,
     stock: Stock<D>,
 }
@@ -47,7 +48,7 @@ impl<D: Deed> Model for StockSetup<D> {
 
 impl<D: Deed> StockSetup<D> {
     /// No arena.
-    pub fn new(alloc: Global) -> StockSetup<D>
+    pub(crate) fn new(alloc: Global) -> StockSetup<D>
         ensures { result ≡ [] }
     {
         StockSetup {
@@ -58,7 +59,11 @@ impl<D: Deed> StockSetup<D> {
 
     /// The arenas of a tree with their quantum caches, but with no span: each root's owned spans
     /// are then added. Its magazines take `rounds` rounds.
-    pub fn of_tree(alloc: Global, tree: &Tree, rounds: usize) -> Result<StockSetup<D>, AllocError>
+    pub(crate) fn of_tree(
+        alloc: Global,
+        tree: &Tree,
+        rounds: usize,
+    ) -> Result<StockSetup<D>, AllocError>
         requires rounds { IsSize rounds }
         ensures planned { IfOk result (λ spaces. plans_of spaces ≡ plans_for tree.now) }
         ensures unused { IfOk result (λ spaces. All (IsNewSpace rounds) spaces) }
@@ -105,25 +110,16 @@ impl<D: Deed> StockSetup<D> {
 
     /// How many arenas there are. It takes constant time, so its clauses are the way to know what
     /// is always so of a stock that is being made.
-    pub fn count(&self) -> usize
+    pub(crate) fn count(&self) -> usize
         ensures value { result ≡ length self.now }
         ensures stock { IsStock self.now }
     {
         self.stock.count()
     }
 
-    /// The arena that the one at the place imports from, if there is one.
-    pub fn source(&self, arena: usize) -> Option<u32>
-        requires within { arena < length self.now }
-        ensures value { (s : SpaceState) → slice_get self.now arena ≡ Some s
-            → result ≡ s.source }
-    {
-        self.stock.source(arena)
-    }
-
     /// Adds an arena with no span and no cache, which imports from the source, if there is one. Its
     /// number is its place, in order of coming. `quantum` counts units.
-    pub fn add_arena(
+    pub(crate) fn add_arena(
         &mut self,
         source: Option<u32>,
         quantum: u64,
@@ -141,7 +137,7 @@ impl<D: Deed> StockSetup<D> {
 
     /// Adds an owned span to an arena that doesn't import. The deed is that of a root's whole
     /// range, as it was opened.
-    pub fn add_span(&mut self, arena: usize, deed: D) -> Result<(), SpanFault<D>>
+    pub(crate) fn add_span(&mut self, arena: usize, deed: D) -> Result<(), SpanFault<D>>
         requires within { arena < length self.old }
         requires root { (s : SpaceState) → slice_get self.old arena ≡ Some s → s.source ≡ None }
         ensures added { OnArena arena (λ a b. AddSpanOf a deed (D.holding deed) result b)
@@ -153,7 +149,7 @@ impl<D: Deed> StockSetup<D> {
 
     /// Adds the next quantum cache to an arena: the first has chunks of one quantum. Its slabs have
     /// `slab_size` units, and its magazines `rounds` rounds.
-    pub fn add_cache(
+    pub(crate) fn add_cache(
         &mut self,
         arena: usize,
         slab_size: u64,
@@ -170,7 +166,7 @@ impl<D: Deed> StockSetup<D> {
     }
 
     /// The stock. Nothing is out of it: no segment was carved yet.
-    pub fn finish(self) -> Stock<D>
+    pub(crate) fn finish(self) -> Stock<D>
         ensures value { result ≡ self }
         ensures nothing_out { Accounts result [] }
     {

@@ -1,4 +1,4 @@
-//! The stock. What grows one is called by `StockSetup` alone.
+//! The stock. What grows one is called by `setups` alone.
 ghost use Rattle.std.specs.Prelude.{◌≡◌, ◌+◌, ◌^◌, ◌<◌, [], ◌∷◌, ◌++◌, length, slice_get, Some, None};
 ghost use Rattle.std.specs.Prelude.{OnOk, OnErr, IfSome};
 ghost use Rattle.deed_core.specs.Weights.{Loses};

@@ -1,6 +1,7 @@
--- A stock that has a tree's arenas is seen as that tree.
-use Rattle.std.proofs.Common.{◌≡◌, ℕ, suc, ◌<◌, refl, List, [], ◌∷◌, length, Some, arith}
+-- A stock that has a tree's arenas is seen as that tree; the only span of a setup.
+use Rattle.std.proofs.Common.{◌≡◌, ℕ, suc, ◌<◌, refl, List, [], ◌∷◌, length, map, Some, arith}
 use Rattle.std.specs.Prelude.{slice_get}
+use Rattle.arena_tree.specs.declared.setups.OwnedSpan.{OwnedSpan}
 use Rattle.arena_tree.specs.declared.trees.TreeArena.{TreeArena}
 use Rattle.arena_tree.specs.Trees.{nodes_of, node_of}
 use Rattle.stock.specs.Spaces.{SpaceState, plan_of, plans_of}
@@ -14,3 +15,9 @@ same_nodes [] [] same each = refl
 same_nodes [] (x ∷ arenas) same each = absurd (omega (arith, same))
 same_nodes (s ∷ spaces) [] same each = absurd (omega (arith, same))
 same_nodes (s ∷ spaces) (x ∷ arenas) same each = let first = each 0 s x (omega (arith)) refl refl in let one = same_node s x first.0 first.1 in let rest = same_nodes spaces arenas (omega (arith, same)) (λ k t y lt a b. each (suc k) t y (omega (arith, lt)) a b) in cc
+
+-- the ranges of a list of one span
+pub one_range : (spans : List OwnedSpan) (o : OwnedSpan) → length spans ≡ 1 → slice_get spans 0 ≡ Some o → map (λ (x : OwnedSpan). x.range) spans ≡ o.range ∷ []
+one_range [] o one at = absurd (omega (arith, one))
+one_range (x ∷ []) o one at = (let same : Some x ≡ Some o = at in cc)
+one_range (x ∷ y ∷ more) o one at = absurd (omega (arith, one))

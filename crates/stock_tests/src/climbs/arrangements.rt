@@ -1,17 +1,17 @@
 //! A stock, what two CPUs keep of it, and how all are made and end.
-ghost use Rattle.std.specs.Prelude.{◌≡◌, ℕ, ◌<◌, ◌≤◌, length, slice_get, Some, IsTrue};
+ghost use Rattle.std.specs.Prelude.{◌≡◌, ℕ, ◌<◌, ◌≤◌, [], ◌∷◌, length, map, slice_get, Some, IsTrue};
 ghost use Rattle.arena_tree.specs.declared.trees.TreeArena.{TreeArena};
 ghost use Rattle.arena_tree.specs.Trees.{nodes_of};
 ghost use Rattle.stock.specs.Spaces.{SpaceState, plans_of};
 ghost use Rattle.local_parts.specs.States.{tree_of};
 
 use arena_tree::{NewChild, NewRoot, Setting, Setup, Tree, TreeArena};
-use deed_core::{Deed, PlainDeed, Segment};
+use deed_core::{Deed, PlainDeed, Range, Segment};
 use lease_terms::Name;
 use local_parts::CpuCaches;
 use std::alloc::Global;
 use std::process::Abort;
-use stock::{Stock, StockSetup};
+use stock::{Stock, plain_stock};
 use tag_arena::Policy;
 
 /// A tree, its stock with two CPUs' caches, and the segments that are out.
@@ -126,19 +126,26 @@ pub(super) fn is_set_up_as<D: Deed>(stock: &Stock<D>, tree: &Tree) -> bool
     stock.count() == tree.len() && are_alike(stock, tree, tree.len())
 }
 
-/// The stock of a tree, whose first arena owns the deed.
-fn stock_of<D: Deed>(rt: &impl Abort, alloc: Global, tree: &Tree, deed: D) -> Stock<D> {
-    let mut setup = match StockSetup::of_tree(alloc, tree, 3) {
-        Ok(setup) => setup,
-        Err(_) => panic!(rt; "arenas"),
-    };
-    assert!(rt; setup.count() > 0);
-    assert_eq!(rt; setup.source(0), None);
-    match setup.add_span(0, deed) {
-        Ok(()) => {}
-        Err(_) => panic!(rt; "a span"),
+/// The range of a setup's only span.
+#[tactic(auto, using(crate::proofs::ClimbTrees::one_range))]
+pub(super) fn only_range(rt: &impl Abort, setup: &Setup) -> Range
+    ensures { map (λ o. o.range) setup.now.spans ≡ result ∷ [] }
+{
+    let spans = setup.spans();
+    assert!(rt; spans.len() == 1);
+    spans[0].range
+}
+
+/// The stock of a setup with one span, of which this is the deed.
+fn stock_of<D: Deed>(rt: &impl Abort, alloc: Global, setup: &Setup, deed: D) -> Stock<D>
+    requires { map (λ o. o.range) setup.now.spans ≡ (D.holding deed).range ∷ [] }
+{
+    let mut deeds = Vec::with_capacity(alloc, 1).expect(rt, "room");
+    deeds.push_reserved(deed);
+    match Stock::of(alloc, setup, 3, deeds) {
+        Ok(stock) => stock,
+        Err(_) => panic!(rt; "a stock"),
     }
-    setup.finish()
 }
 
 /// A new CPU.
@@ -149,16 +156,21 @@ fn cpu_of<D: Deed>(rt: &impl Abort, alloc: Global, stock: &Stock<D>) -> CpuCache
     }
 }
 
-/// A stock for the setup, which has one span, and two CPUs.
+/// A stock for the setup, over plain deeds, and two CPUs.
 pub(super) fn begin(rt: &impl Abort, alloc: Global, setup: Setup) -> Walk<PlainDeed> {
-    assert!(rt; setup.spans().len() == 1);
-    let range = setup.spans()[0].range;
-    begin_with(rt, alloc, setup.into_tree(), PlainDeed::new(0, range))
+    let stock = plain_stock(alloc, &setup, 3).expect(rt, "a stock");
+    arranged(rt, alloc, setup.into_tree(), stock)
 }
 
-/// A stock for the tree, whose first arena owns the deed, and two CPUs.
-pub(super) fn begin_with<D: Deed>(rt: &impl Abort, alloc: Global, tree: Tree, deed: D) -> Walk<D> {
-    let stock = stock_of(rt, alloc, &tree, deed);
+/// A stock for the setup, which has one span, of which this is the deed, and two CPUs.
+pub(super) fn begin_with<D: Deed>(rt: &impl Abort, alloc: Global, setup: Setup, deed: D) -> Walk<D>
+    requires { map (λ o. o.range) setup.spans ≡ (D.holding deed).range ∷ [] }
+{
+    let stock = stock_of(rt, alloc, &setup, deed);
+    arranged(rt, alloc, setup.into_tree(), stock)
+}
+
+fn arranged<D: Deed>(rt: &impl Abort, alloc: Global, tree: Tree, stock: Stock<D>) -> Walk<D> {
     let cpu = cpu_of(rt, alloc, &stock);
     let other = cpu_of(rt, alloc, &stock);
     Walk {

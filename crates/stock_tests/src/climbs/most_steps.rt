@@ -1,5 +1,5 @@
 //! An allocation that takes as many locked steps as one may.
-use super::arrangements::{begin_with, caching_child, child, end, root, set};
+use super::arrangements::{begin_with, caching_child, child, end, only_range, root, set};
 use super::calls::allocate_without_memory;
 use super::sums::free_units;
 use arena_tree::Setup;
@@ -16,9 +16,8 @@ fn sixteen_steps(rt: HostRuntime) {
     set(&rt, &mut setup, child(&rt, "b", "a", 1, 0));
     set(&rt, &mut setup, child(&rt, "c", "b", 1, 0));
     set(&rt, &mut setup, caching_child(&rt, "d", "c", 1, 5, 2));
-    assert!(rt; setup.spans().len() == 1);
-    let deed = RefusingDeed::new(0, setup.spans()[0].range, 1);
-    let mut walk = begin_with(&rt, rt.alloc(), setup.into_tree(), deed);
+    let deed = RefusingDeed::new(0, only_range(&rt, &setup), 1);
+    let mut walk = begin_with(&rt, rt.alloc(), setup, deed);
     allocate_without_memory(&rt, &mut walk, 3, 1);
     assert_eq!(rt; walk.steps, 16);
     assert_eq!(rt; free_units(&rt, &walk, 0), 8);

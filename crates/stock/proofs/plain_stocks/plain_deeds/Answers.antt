@@ -1,8 +1,5 @@
-use Rattle.std.proofs.Common.{◌∙◌, ◌++◌, sym, ap, [], drop, length, arith}
-use Rattle.std.proofs.lemmas.List.{append-nil, drop_all}
-use Rattle.deed_core.proofs.LawProofs.{slice_get_here}
-use Rattle.stock.specs.Setups.{numbered_deeds}
-use Rattle.stock.proofs.Numbering.{numbered_more, few_spans}
+use Rattle.std.proofs.Common.{ap, length, arith}
+use Rattle.stock.proofs.Numbering.{few_spans}
 use Rattle.stock.proofs.plain_stocks.plain_deeds.Goals as goal
 
 pub overflow_cast-place : goal.overflow_cast-place

@@ -1,6 +1,6 @@
 use Rattle.std.proofs.Common.{sym, subst, ◌∙◌, List}
 use Rattle.deed_core.specs.Holding.{Holding}
-use Rattle.stock.specs.Setups.{AreDeedsOf, IsSetUpFrom}
+use Rattle.stock.specs.Setups.{AreDeedsOf}
 use Rattle.stock.proofs.Numbering.{are_deeds, map_same}
 use Rattle.stock.proofs.plain_stocks.plain_stock.Goals as goal
 

@@ -1,14 +1,11 @@
-use Rattle.std.proofs.Common.{◌≡◌, ℕ, ◌+◌, ◌<◌, ◌≤◌, refl, sym, subst, ap, ◌∙◌, inl, inr, false, true, [], All, map, length, arith}
-use Rattle.std.specs.Prelude.{slice_get, sum_by, IsOk}
+use Rattle.std.proofs.Common.{◌≡◌, refl, sym, subst, ap, ◌∙◌, inl, inr, false, true, [], All, map, length, arith}
+use Rattle.std.specs.Prelude.{slice_get, IsOk}
 use Rattle.std.proofs.lemmas.Bool.{cases_eq}
 use Rattle.std.proofs.lemmas.List.{length-map}
 use Rattle.std.proofs.lemmas.Option.{slice_get_within}
-use Rattle.deed_core.specs.Holding.{Holding}
 use Rattle.deed_core.proofs.LawProofs.{all_from}
-use Rattle.stock.specs.Spaces.{SpaceState}
 use Rattle.stock.specs.Accounts.{Accounts}
 use Rattle.stock.specs.Endings.{IsTakenOut}
-use Rattle.stock.specs.Owning.{owned_in}
 use Rattle.stock.proofs.Chains.{plans_stay}
 use Rattle.stock.proofs.Owning.{each_one, bare_owns_none}
 use Rattle.stock.proofs.setups.StockSetup.give_back.Goals as goal

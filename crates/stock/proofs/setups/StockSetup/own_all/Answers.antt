@@ -1,6 +1,5 @@
-use Rattle.std.proofs.Common.{◌≡◌, ℕ, ◌+◌, refl, sym, subst, ap, ◌∙◌, List, [], ◌∷◌, ◌++◌, map, reverse, drop, length, All, Some, arith}
+use Rattle.std.proofs.Common.{◌≡◌, ◌+◌, refl, sym, subst, ap, ◌∙◌, List, [], ◌∷◌, ◌++◌, map, reverse, drop, length, All, Some, arith}
 use Rattle.std.specs.Prelude.{slice_get, sum_by}
-use Rattle.std.specs.Option.{option_to_list}
 use Rattle.std.proofs.lemmas.List.{length-map, length-reverse, drop_all}
 use Rattle.std.proofs.lemmas.Grind.{common_steps}
 use Rattle.deed_core.specs.Holding.{Holding}
@@ -8,7 +7,6 @@ use Rattle.deed_core.proofs.LawProofs.{slice_get_here}
 use Rattle.arena_tree.specs.declared.setups.OwnedSpan.{OwnedSpan}
 use Rattle.stock.specs.Spaces.{SpaceState}
 use Rattle.stock.specs.Endings.{IsReaped}
-use Rattle.stock.specs.Setups.{IsNewSpace}
 use Rattle.stock.specs.Owning.{owned_in}
 use Rattle.stock.proofs.Owning.{IsOwning, begun, drop_here, popped, some_left, turned, span_within, span_of_root, owned_more, owned_whole, owning_is_reaped}
 use Rattle.stock.proofs.setups.StockSetup.own_all.Goals as goal

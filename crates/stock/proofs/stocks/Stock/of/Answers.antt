@@ -1,10 +1,9 @@
-use Rattle.std.proofs.Common.{◌≡◌, ◌+◌, ◌≤◌, sym, subst, ap, ◌∙◌, List, map, reverse, length, arith}
+use Rattle.std.proofs.Common.{sym, subst, ap, ◌∙◌, List, map, reverse, arith}
 use Rattle.std.specs.Prelude.{sum_by}
 use Rattle.std.proofs.lemmas.List.{length-map, reverse-reverse}
 use Rattle.deed_core.specs.Holding.{Holding}
 use Rattle.stock.specs.Spaces.{SpaceState}
 use Rattle.stock.specs.Setups.{IsSetUpFrom}
-use Rattle.stock.specs.Owning.{owned_in}
 use Rattle.stock.proofs.Owning.{each_one, turned}
 use Rattle.stock.proofs.stocks.Stock.of.Goals as goal
 

@@ -1,12 +1,10 @@
-use Rattle.std.proofs.Common.{◌≡◌, ◌+◌, ◌≤◌, ◌<◌, refl, sym, subst, ap, ◌∙◌, List, [], ◌∷◌, ◌++◌, map, length, arith}
-use Rattle.std.specs.Prelude.{Some, None, slice_get, sum_by}
-use Rattle.std.specs.Option.{option_map}
+use Rattle.std.proofs.Common.{sym, subst, ap, ◌∙◌, [], ◌∷◌, map, arith}
+use Rattle.std.specs.Prelude.{Some, None, sum_by}
 use Rattle.std.proofs.lemmas.List.{length-map, map-append}
 use Rattle.std.proofs.lemmas.List.Sums.{sum_by_push}
-use Rattle.deed_core.specs.Holding.{Holding}
 use Rattle.deed_core.proofs.LawProofs.{slice_get_one}
 use Rattle.tag_arena.specs.Outcomes.{RemoveOf}
-use Rattle.stock.specs.Spaces.{SpaceState, with_arena}
+use Rattle.stock.specs.Spaces.{with_arena}
 use Rattle.stock.specs.Endings.{IsTakenOut}
 use Rattle.stock.specs.Owning.{owned_in}
 use Rattle.stock.proofs.Owning.{others_stay, there_now, stay_reaped, owns_less, each_one, same_there}

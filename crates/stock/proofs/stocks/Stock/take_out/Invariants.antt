@@ -1,4 +1,4 @@
-use Rattle.std.proofs.Common.{◌≡◌, ◌≢◌, ℕ, ◌+◌, ◌≤◌, [], All, map, length, vec_len, vec_capacity, Some}
+use Rattle.std.proofs.Common.{◌≡◌, ◌≢◌, ℕ, ◌+◌, [], All, map, vec_capacity}
 use Rattle.std.specs.Prelude.{slice_get, sum_by}
 use Rattle.deed_core.specs.Holding.{Holding}
 use Rattle.stock.specs.Spaces.{plans_of}
