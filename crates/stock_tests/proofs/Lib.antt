@@ -1,2 +1,3 @@
 mod ClimbTrees
 mod ClimbNames
+mod ScriptFrames

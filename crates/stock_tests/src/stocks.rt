@@ -1,61 +1,35 @@
 //! Fifty-six events on a stock of two arenas, of which the second imports from the first and has
-//! quantum caches, whose slabs have colour gaps and tails. After each the units in each place are
-//! compared with numbers counted by hand.
-ghost use Rattle.std.specs.Prelude.{[]};
-ghost use Rattle.stock.specs.Spaces.{HasCache};
+//! quantum caches, whose slabs have colour gaps and tails. After each the sums that an audit tells
+//! are compared with numbers counted by hand.
+ghost use Rattle.std.specs.Prelude.{[], ◌++◌};
+ghost use Rattle.std.specs.Option.{option_to_list};
+ghost use Rattle.deed_core.specs.Weights.{WeighSame};
 ghost use Rattle.stock.specs.Accounts.{Accounts};
+ghost use Rattle.stock.specs.OwnCaches.{own_rounds};
+ghost use Rattle.stock_tests.specs.Walks.{Balances};
 
+use crate::stock_events::{Event, moved};
 use arena_tree::{NewChild, NewRoot, Setting, Setup};
-use deed_core::{Deed, PlainDeed, Request, Route, Segment};
+use deed_core::{PlainDeed, Segment};
 use lease_terms::Name;
-use magazine_layer::Magazine;
 use std::alloc::Global;
 use std::process::Abort;
+use std::slice::from_ref;
 use stock::{OwnCache, Stock, plain_stock};
+use stock_audit::audit;
 use tag_arena::Policy;
 
 /// The units of one arena: free, in slabs, in magazines, exported, leased, in the hand.
-type Sums = [u128; 6];
+type Counts = [u128; 6];
 
-const NONE: Sums = [0, 0, 0, 0, 0, 0];
-
-/// What happens. The segment that an event moves is the last in the hand, and what it answers is the
-/// last in the hand afterwards. A cache is one of the second arena, named by the units of a chunk;
-/// the CPU's is of chunks of five.
-#[derive(Clone, Copy, PartialEq, Eq, Debug)]
-enum Event {
-    /// Of the arena with this number, so many units.
-    Carve(usize, u64),
-    Free,
-    /// The span goes into the second arena, of which so many units are carved.
-    Import(u64),
-    Lease,
-    Release,
-    SlabAdd(u8),
-    SlabTake(u8),
-    SlabPut,
-    SlabReap(u8),
-    Push,
-    Pop,
-    SwapFull,
-    SwapEmpty,
-    SwapFresh,
-    /// The depot keeps magazines of seven rounds from here on.
-    Resize,
-    /// The CPU changes from magazines of three rounds to magazines of seven.
-    Change,
-    Tick,
-    DepotReap,
-    /// The root goes out of the first arena.
-    Remove,
-}
+const NONE: Counts = [0, 0, 0, 0, 0, 0];
 
 /// The first arena while the second has its span.
-const EXPORTED: Sums = [64, 0, 0, 64, 0, 0];
+const EXPORTED: Counts = [64, 0, 0, 64, 0, 0];
 
 /// Each event, and the sums of both arenas after it. A slab of 16 units has three chunks of five and
 /// a unit over: the first slab's is its tail, the second's its gap. Chunks of three leave one too.
-const SCRIPT: [(Event, Sums, Sums); 56] = [
+const SCRIPT: [(Event, Counts, Counts); 56] = [
     (Event::Carve(0, 64), [64, 0, 0, 0, 0, 64], NONE),
     (Event::Import(16), EXPORTED, [48, 0, 0, 0, 0, 16]),
     (Event::SlabAdd(5), EXPORTED, [48, 11, 0, 0, 0, 5]),
@@ -123,36 +97,6 @@ struct Walk {
     leases: Vec<Segment<PlainDeed>>,
 }
 
-/// The place of the second arena's cache of chunks of so many units.
-fn cache(rt: &impl Abort, stock: &Stock<PlainDeed>, units: u8) -> usize
-    ensures { HasCache stock.now 1 result }
-{
-    stock.cache_at(1, units).expect(rt, "a cache")
-}
-
-/// The units of the segments of an arena.
-fn units(segments: &[Segment<PlainDeed>], arena: usize) -> u128 {
-    let mut sum: u128 = 0;
-    for segment in segments {
-        if segment.arena() as usize == arena {
-            sum = sum.wrapping_add(u128::from(segment.range().len()));
-        }
-    }
-    sum
-}
-
-/// What was taken out of the hand.
-fn last(rt: &impl Abort, segments: &mut Vec<Segment<PlainDeed>>) -> Segment<PlainDeed> {
-    segments.pop().expect(rt, "a segment in the hand")
-}
-
-fn keep(rt: &impl Abort, segments: &mut Vec<Segment<PlainDeed>>, segment: Segment<PlainDeed>) {
-    match segments.push(segment) {
-        Ok(()) => {}
-        Err(_) => panic!(rt; "memory"),
-    }
-}
-
 pub(crate) fn name(rt: &impl Abort, text: &str) -> Name {
     Name::new(text.as_bytes()).expect(rt, "a name")
 }
@@ -189,7 +133,9 @@ pub(crate) fn stock_of(rt: &impl Abort, alloc: Global, setup: &Setup) -> Stock<P
 }
 
 /// The stock, and a CPU with chunks of five units.
-fn begin(rt: &impl Abort, alloc: Global) -> Walk {
+fn begin(rt: &impl Abort, alloc: Global) -> Walk
+    ensures { Balances result.stock result.hand.items result.leases.items result.cpu }
+{
     let setup = two_arenas(rt, alloc);
     let stock = stock_of(rt, alloc, &setup);
     let cpu = match OwnCache::new(alloc, 1, 4, 1, 3) {
@@ -205,195 +151,86 @@ fn begin(rt: &impl Abort, alloc: Global) -> Walk {
     }
 }
 
-/// The span in the hand goes into the second arena.
-fn import(rt: &impl Abort, walk: &mut Walk, size: u64) -> Segment<PlainDeed> {
-    let span = last(rt, &mut walk.hand);
-    let request = Request::plain(size);
-    assert!(rt; walk.stock.count() == 2);
-    assert_eq!(rt; walk.stock.source(1), Some(span.arena()));
-    assert_eq!(rt; walk.stock.quantum(1), 1);
-    assert_eq!(rt; span.route(), Route::Direct);
-    assert!(rt; size != 0 && size <= span.range().len());
-    match walk.stock.add_carve(1, span, &request) {
-        Ok(first) => first,
-        Err(_) => panic!(rt; "an import"),
+/// What the event takes out of the hand, if it takes anything.
+fn taken(
+    rt: &impl Abort,
+    hand: &mut Vec<Segment<PlainDeed>>,
+    event: Event,
+) -> Option<Segment<PlainDeed>>
+    ensures { WeighSame hand.old.items (option_to_list result ++ hand.new.items) }
+{
+    if !event.takes() {
+        return None;
     }
+    let segment = hand.pop().expect(rt, "a segment in the hand");
+    Some(segment)
 }
 
-/// The span in the hand becomes a slab.
-fn slab_add(rt: &impl Abort, walk: &mut Walk, units: u8) -> Segment<PlainDeed> {
-    let span = last(rt, &mut walk.hand);
-    let place = cache(rt, &walk.stock, units);
-    assert_eq!(rt; span.arena(), 1);
-    assert_eq!(rt; span.route(), Route::Direct);
-    assert_eq!(rt; walk.stock.quantum(1), 1);
-    match walk.stock.slab_add(1, place, span) {
-        Ok(first) => first,
-        Err(_) => panic!(rt; "a slab"),
-    }
-}
-
-/// An event that answers a segment, which goes into the hand.
-fn answered(rt: &impl Abort, walk: &mut Walk, event: Event) -> Option<Segment<PlainDeed>> {
-    match event {
-        Event::Carve(arena, size) => {
-            assert!(rt; arena < walk.stock.count());
-            match walk.stock.carve(arena, &Request::plain(size)) {
-                Ok(segment) => Some(segment),
-                Err(_) => panic!(rt; "a carve"),
-            }
-        }
-        Event::Free => {
-            let segment = last(rt, &mut walk.hand);
-            match walk.stock.free(segment) {
-                Ok(back) => back,
-                Err(_) => panic!(rt; "a free"),
-            }
-        }
-        Event::Import(size) => Some(import(rt, walk, size)),
-        Event::Release => walk.leases.pop(),
-        Event::SlabAdd(units) => Some(slab_add(rt, walk, units)),
-        Event::SlabTake(units) => {
-            let place = cache(rt, &walk.stock, units);
-            walk.stock.slab_take(1, place)
-        }
-        Event::SlabReap(units) => {
-            let place = cache(rt, &walk.stock, units);
-            walk.stock.slab_reap(1, place)
-        }
-        Event::Pop => walk.cpu.pop(),
-        Event::DepotReap => {
-            let place = cache(rt, &walk.stock, 5);
-            walk.stock.depot_reap(1, place)
-        }
-        _ => None,
-    }
-}
-
-/// An event that answers none.
-fn silent(rt: &impl Abort, walk: &mut Walk, event: Event) {
-    match event {
-        Event::Lease => {
-            let segment = last(rt, &mut walk.hand);
-            keep(rt, &mut walk.leases, segment);
-        }
-        Event::Push => push(rt, walk),
-        Event::SlabPut => {
-            let segment = last(rt, &mut walk.hand);
-            match walk.stock.slab_put(segment) {
-                Ok(()) => {}
-                Err(_) => panic!(rt; "a put"),
-            }
-        }
-        Event::SwapFull | Event::SwapEmpty | Event::SwapFresh => swap(rt, walk, event),
-        Event::Resize => {
-            let place = cache(rt, &walk.stock, 5);
-            assert!(rt; walk.stock.resize(1, place, 7).is_ok());
-        }
-        Event::Change => change(rt, walk),
-        Event::Tick => {
-            let place = cache(rt, &walk.stock, 5);
-            walk.stock.tick(1, place);
-        }
-        Event::Remove => {
-            assert!(rt; walk.stock.count() == 2);
-            let deed = walk.stock.remove_owned(0).expect(rt, "a root");
-            assert_eq!(rt; deed.close().len(), 128);
-        }
-        _ => {}
-    }
-}
-
-/// The chunk in the hand becomes a round of the CPU.
-fn push(rt: &impl Abort, walk: &mut Walk) {
-    let segment = last(rt, &mut walk.hand);
-    assert!(rt; walk.cpu.takes(&segment));
-    match walk.cpu.push(segment) {
+/// What was answered goes into the hand.
+fn keep(rt: &impl Abort, hand: &mut Vec<Segment<PlainDeed>>, answer: Option<Segment<PlainDeed>>)
+    ensures { WeighSame (option_to_list answer ++ hand.old.items) hand.new.items }
+{
+    let Some(segment) = answer else {
+        return;
+    };
+    match hand.push(segment) {
         Ok(()) => {}
-        Err(_) => panic!(rt; "a push"),
+        Err(_) => panic!(rt; "memory"),
     }
 }
 
-/// The CPU exchanges a magazine with its depot.
-fn swap(rt: &impl Abort, walk: &mut Walk, event: Event) {
-    let (arena, cache) = walk.cpu.place();
-    assert!(rt; arena < walk.stock.count());
-    assert!(rt; walk.stock.quantum(arena) == walk.cpu.quantum());
-    assert!(rt; walk.stock.has_cache(arena, cache));
-    match event {
-        Event::SwapFull => {
-            assert!(rt; walk.cpu.is_empty());
-            assert!(rt; walk.cpu.swap_full(&mut walk.stock).is_ok());
-            assert!(rt; !walk.cpu.is_empty());
-        }
-        Event::SwapEmpty => {
-            assert!(rt; walk.cpu.is_full());
-            assert!(rt; walk.cpu.swap_empty(&mut walk.stock).is_ok());
-            assert!(rt; !walk.cpu.is_full());
-        }
-        _ => swap_fresh(rt, walk),
-    }
-}
-
-/// The CPU gets a fresh magazine for a full one.
-fn swap_fresh(rt: &impl Abort, walk: &mut Walk) {
-    let (arena, cache) = walk.cpu.place();
-    assert!(rt; arena < walk.stock.count());
-    assert!(rt; walk.stock.quantum(arena) == walk.cpu.quantum());
-    assert!(rt; walk.stock.has_cache(arena, cache));
-    assert!(rt; walk.cpu.is_full());
-    let magazine = match Magazine::new(walk.alloc, 3) {
-        Ok(magazine) => magazine,
-        Err(_) => panic!(rt; "a magazine"),
-    };
-    match walk.cpu.swap_fresh(&mut walk.stock, magazine) {
+/// The last of the one goes over to the other.
+fn pass(rt: &impl Abort, from: &mut Vec<Segment<PlainDeed>>, to: &mut Vec<Segment<PlainDeed>>)
+    ensures { WeighSame (from.old.items ++ to.old.items) (from.new.items ++ to.new.items) }
+{
+    let segment = from.pop().expect(rt, "a segment");
+    match to.push(segment) {
         Ok(()) => {}
-        Err(_) => panic!(rt; "a swap"),
+        Err(_) => panic!(rt; "memory"),
     }
 }
 
-/// The CPU changes to greater magazines.
-fn change(rt: &impl Abort, walk: &mut Walk) {
-    assert_eq!(rt; walk.cpu.size(), 3);
-    let loaded = match Magazine::new(walk.alloc, 7) {
-        Ok(magazine) => magazine,
-        Err(_) => panic!(rt; "a magazine"),
-    };
-    let previous = match Magazine::new(walk.alloc, 7) {
-        Ok(magazine) => magazine,
-        Err(_) => panic!(rt; "a magazine"),
-    };
-    walk.cpu.change(loaded, previous);
-    assert_eq!(rt; walk.cpu.size(), 7);
+/// An event that is no change of leases.
+fn run(rt: &impl Abort, walk: &mut Walk, event: Event)
+    requires { Balances walk.old.stock walk.old.hand.items walk.old.leases.items walk.old.cpu }
+    ensures { Balances walk.new.stock walk.new.hand.items walk.new.leases.items walk.new.cpu }
+{
+    let given = taken(rt, &mut walk.hand, event);
+    let answer = moved(rt, walk.alloc, &mut walk.stock, &mut walk.cpu, event, given);
+    keep(rt, &mut walk.hand, answer);
 }
 
-/// The units in the slabs and in the depot of one of the second arena's caches.
-fn cached(rt: &impl Abort, stock: &Stock<PlainDeed>, units: u8) -> (u128, u128) {
-    let place = cache(rt, stock, units);
-    let report = stock.slab_report(1, place);
-    let kept = report.idle.wrapping_add(report.gap);
-    (
-        u128::from(kept.wrapping_add(report.tail)),
-        stock.depot_units(1, place),
-    )
-}
-
-/// The units in each place of an arena.
-fn sums(rt: &impl Abort, walk: &Walk, arena: usize) -> Sums {
-    assert!(rt; walk.stock.count() == 2 && arena < 2);
-    let free = walk.stock.arena_report(arena).free;
-    let leased = units(&walk.leases, arena);
-    let hand = units(&walk.hand, arena);
-    if arena == 0 {
-        let exported = walk.stock.arena_report(1).span;
-        return [free, 0, 0, exported, leased, hand];
+/// An event.
+fn step(rt: &impl Abort, walk: &mut Walk, event: Event)
+    requires { Balances walk.old.stock walk.old.hand.items walk.old.leases.items walk.old.cpu }
+    ensures { Balances walk.new.stock walk.new.hand.items walk.new.leases.items walk.new.cpu }
+{
+    match event {
+        Event::Lease => pass(rt, &mut walk.hand, &mut walk.leases),
+        Event::Release => pass(rt, &mut walk.leases, &mut walk.hand),
+        _ => run(rt, walk, event),
     }
-    let (threes, none) = cached(rt, &walk.stock, 3);
-    assert_eq!(rt; none, 0);
-    let (fives, depot) = cached(rt, &walk.stock, 5);
-    let slab = threes.wrapping_add(fives);
-    let magazine = depot.wrapping_add(walk.cpu.units());
-    [free, slab, magazine, 0, leased, hand]
+}
+
+/// An audit of the arena tells these sums.
+fn tells(rt: &impl Abort, walk: &Walk, arena: usize, counts: Counts)
+    requires { Balances walk.now.stock walk.now.hand.items walk.now.leases.items walk.now.cpu }
+{
+    assert!(rt; arena < walk.stock.count());
+    let told = audit(
+        &walk.stock,
+        arena,
+        &walk.hand,
+        &walk.leases,
+        from_ref(&walk.cpu),
+    );
+    let [free, slab, magazine, exported, leased, hand] = counts;
+    assert_eq!(rt; told.free, free);
+    assert_eq!(rt; told.slab, slab);
+    assert_eq!(rt; told.magazine, magazine);
+    assert_eq!(rt; told.exported, exported);
+    assert_eq!(rt; told.leased, leased);
+    assert_eq!(rt; told.hand, hand);
 }
 
 /// Ends what is left: nothing.
@@ -422,14 +259,9 @@ fn end(rt: &impl Abort, walk: Walk) {
 fn fifty_six_events(rt: HostRuntime) {
     let mut walk = begin(&rt, rt.alloc());
     for (event, first, second) in SCRIPT {
-        let answer = answered(&rt, &mut walk, event);
-        if let Some(segment) = answer {
-            keep(&rt, &mut walk.hand, segment);
-        } else {
-            silent(&rt, &mut walk, event);
-        }
-        assert_eq!(rt; sums(&rt, &walk, 0), first);
-        assert_eq!(rt; sums(&rt, &walk, 1), second);
+        step(&rt, &mut walk, event);
+        tells(&rt, &walk, 0, first);
+        tells(&rt, &walk, 1, second);
     }
     end(&rt, walk);
 }
