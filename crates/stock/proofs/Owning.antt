@@ -1,23 +1,23 @@
 -- A stock that is being made of a setup and the deeds of its spans.
-use Rattle.std.proofs.Common.{◌≡◌, ◌≢◌, ℕ, ◌+◌, ◌<◌, ◌==◌, true, false, refl, sym, subst, ap, ◌∙◌, inl, inr, List, [], ◌∷◌, ◌++◌, map, reverse, drop, length, set, All, Some, None, arith, eq-eqb}
-use Rattle.std.specs.Prelude.{slice_get, sum_by}
+use Rattle.std.proofs.Common.{◌≡◌, ◌≢◌, ℕ, ◌+◌, suc, ◌<◌, ◌==◌, true, false, refl, sym, subst, ap, ◌∙◌, inl, inr, List, [], ◌∷◌, ◌++◌, map, reverse, drop, length, set, All, Some, None, arith, eq-eqb}
+use Rattle.std.specs.Prelude.{get_or, slice_get, sum_by}
 use Rattle.std.proofs.lemmas.Bool.{ne_eqb}
 use Rattle.std.proofs.lemmas.List.{append-nil, append_assoc, drop_more, length-map, reverse-append, map-append}
 use Rattle.std.proofs.lemmas.List.Elements.{All-nil, All-set}
 use Rattle.std.proofs.lemmas.List.Sums.{sum_by-cons, sum_by_push}
 use Rattle.std.proofs.lemmas.Option.{slice_get_within, get_or_from_slice_get}
-use Rattle.deed_core.specs.Extent.{Extent}
+use Rattle.deed_core.specs.Extent.{Extent, Overlap}
 use Rattle.deed_core.specs.Holding.{Holding}
 use Rattle.deed_core.specs.Tag.{Tag}
 use Rattle.deed_core.specs.Weights.{Loses}
-use Rattle.deed_core.proofs.LawProofs.{written, slice_get_one, slice_get_mapped, all_at, all_from, sum_set, sum_none, set_same, slice_get-set, slice_get-set_other}
-use Rattle.tag_arena.specs.ArenaState.{ArenaState, empty_arena}
-use Rattle.tag_arena.specs.Calls.{after_add}
+use Rattle.deed_core.proofs.LawProofs.{pushed, written, slice_get_one, slice_get_mapped, all_at, all_from, sum_set, sum_none, set_same, slice_get-set, slice_get-set_other}
+use Rattle.tag_arena.specs.ArenaState.{ArenaState, OnQuantum, empty_arena}
+use Rattle.tag_arena.specs.Calls.{IsClear, after_add}
 use Rattle.slab_layer.specs.Slab.{SlabState, IsComplete}
 use Rattle.magazine_layer.specs.Depots.{depot_rounds}
 use Rattle.arena_tree.specs.declared.trees.TreeArena.{TreeArena}
 use Rattle.arena_tree.specs.declared.setups.OwnedSpan.{OwnedSpan}
-use Rattle.arena_tree.specs.Settings.{SetupState, IsSetup, IsOwned}
+use Rattle.arena_tree.specs.Settings.{SetupState, IsSetup, IsOwned, Clash}
 use Rattle.stock.specs.Spaces.{SpaceState, QuantumCacheState, SpacePlan, plan_of, plans_of, with_arena}
 use Rattle.stock.specs.Stocks.{IsStock}
 use Rattle.stock.specs.Steps.{OnArena}
@@ -70,6 +70,9 @@ module _ (setup : SetupState) (sound : IsSetup setup) (spaces : List SpaceState)
     pub span_of_root : (s : SpaceState) → slice_get spaces o.arena ≡ Some s → s.source ≡ None
     span_of_root s there = ap (λ (p : SpacePlan). p.source) (is_plan o.arena owner.0 s owner.1.here there) ∙ owner.1.root
 
+    pub span_on_grid : (s : SpaceState) → slice_get spaces o.arena ≡ Some s → OnQuantum s.arena.quantum o.range
+    span_on_grid s there = subst (λ q. OnQuantum q o.range) (sym (ap (λ (p : SpacePlan). p.quantum) (is_plan o.arena owner.0 s owner.1.here there))) owner.2.1
+
 -- a span more
 grown : (a b : ArenaState) (k : ℕ) (h : Holding) → a ≡ unused_arena k a.quantum a.policy a.owned → b ≡ after_add a h → b ≡ unused_arena k b.quantum b.policy b.owned
 grown a b k h is after = subst (λ (x : ArenaState). x ≡ unused_arena k x.quantum x.policy x.owned) (sym after) (ap (λ (x : ArenaState). after_add x h) is)
@@ -82,13 +85,15 @@ module _ (setup : SetupState) (all : List Holding) (rounds : ℕ) where
     pub unused : (k : ℕ) (s : SpaceState) → slice_get spaces k ≡ Some s → IsUnused rounds k s.arena.owned s
     pub owned : (k : ℕ) (s : SpaceState) → slice_get spaces k ≡ Some s → deeds_owned k setup.spans all ≡ s.arena.owned ++ deeds_owned k left rest
     pub same : AreOwnedOrLeft all spaces rest
+    pub apart : (i j : ℕ) (a b : OwnedSpan) → i < j → slice_get left i ≡ Some a → slice_get left j ≡ Some b → ¬ Clash a b
+    pub clear : (k j : ℕ) (s : SpaceState) (o : OwnedSpan) → slice_get spaces k ≡ Some s → slice_get left j ≡ Some o → o.arena ≡ k → All (λ h. ¬ Overlap h.range o.range) s.arena.owned
 
   module _ (spaces : List SpaceState) (stock : IsStock spaces) (new : All (IsNewSpace rounds) spaces) where
     owns_none : (k : ℕ) (s : SpaceState) → slice_get spaces k ≡ Some s → s.arena.owned ≡ []
     owns_none k s at = ap (λ (a : ArenaState). a.owned) (all_at (IsNewSpace rounds) spaces k s new at).arena
 
-    pub begun : AreDeedsOf setup.spans all → plans_of spaces ≡ plans_for setup.arenas → IsOwning setup.spans all spaces
-    begun deeds plans = record {
+    pub begun : IsSetup setup → AreDeedsOf setup.spans all → plans_of spaces ≡ plans_for setup.arenas → IsOwning setup.spans all spaces
+    begun sound deeds plans = record {
       deeds = deeds;
       plans = plans;
       unused = λ k s at. record {
@@ -97,7 +102,22 @@ module _ (setup : SetupState) (all : List Holding) (rounds : ℕ) where
       };
       owned = λ k s at. ap (λ (os : List Holding). os ++ deeds_owned k setup.spans all) (sym (owns_none k s at));
       same = λ f. (let none = sum_none (owned_in f) spaces (λ k s at. ap (sum_by f) (owns_none k s at)) in omega (arith, none));
+      apart = λ i j a b lt x y.
+          let one : get_or setup.spans i b ≡ a = get_or_from_slice_get setup.spans i a b x in
+          let two : get_or setup.spans j b ≡ b = get_or_from_slice_get setup.spans j b b y in
+          subst (λ z. ¬ Clash a z) two (subst (λ z. ¬ Clash z (get_or setup.spans j b)) one (sound.apart i j b lt (slice_get_within setup.spans j b y)));
+      clear = λ k j s o at there here. subst (λ (hs : List Holding). All (λ h. ¬ Overlap h.range o.range) hs) (sym (owns_none k s at)) (All-nil (λ (h : Holding). ¬ Overlap h.range o.range));
     }
+
+  -- nothing is in the way of the next span
+  module _ (o : OwnedSpan) (left : List OwnedSpan) (h : Holding) (rest : List Holding) (spaces : List SpaceState) (is : IsOwning (o ∷ left) (h ∷ rest) spaces) where
+    pub range_here : h.range ≡ o.range
+    range_here = (let e : h.range ∷ map (λ (x : Holding). x.range) rest ≡ o.range ∷ map (λ (x : OwnedSpan). x.range) left = is.deeds in cc)
+
+    pub clear_here : (s : SpaceState) → slice_get spaces o.arena ≡ Some s → IsClear s.arena h.range
+    clear_here s at =
+        subst (λ e. IsClear s.arena e) (sym range_here) (subst (λ (a : ArenaState). IsClear a o.range) (sym (is.unused o.arena s at).arena)
+        (subst (λ (hs : List Holding). All (λ g. ¬ Overlap g.range o.range) hs) (sym (append-nil s.arena.owned)) (is.clear o.arena 0 s o at refl refl)))
 
   module _ (o : OwnedSpan) (left : List OwnedSpan) (h : Holding) (rest : List Holding) (old new : List SpaceState) (is : IsOwning (o ∷ left) (h ∷ rest) old) (on : OnArena o.arena (λ a b. b ≡ after_add a h) old new) (fixed : plans_of new ≡ plans_of old) where
     at_new : (k : ℕ) (s : SpaceState) → slice_get new k ≡ Some s → slice_get (set old o.arena (with_arena on.arena on.space)) k ≡ Some s
@@ -120,6 +140,16 @@ module _ (setup : SetupState) (all : List Holding) (rounds : ℕ) where
         let not : (o.arena == k) ≡ false = ne_eqb o.arena k (λ e. other (sym e)) in
         is.owned k s at ∙ rw not refl
 
+    clear_more : (j : ℕ) (p : OwnedSpan) → slice_get left j ≡ Some p → p.arena ≡ o.arena → All (λ g. ¬ Overlap g.range p.range) on.arena.owned
+    clear_more j p there same =
+        let apart : ¬ Clash o p = is.apart 0 (suc j) o p (omega (arith)) refl there in
+        let before = is.clear o.arena (suc j) on.space p on.at there same in
+        subst (λ (hs : List Holding). All (λ g. ¬ Overlap g.range p.range) hs) (sym more_owned)
+        (all_from (λ (g : Holding). ¬ Overlap g.range p.range) (on.space.arena.owned ++ h ∷ []) (λ n g got. elim (pushed on.space.arena.owned n h g got) [
+          | inl last ↦ subst (λ (x : Holding). ¬ Overlap x.range p.range) (sym last.1) (λ over. apart (sym same, subst (λ e. Overlap e p.range) (range_here o left h rest old is) over))
+          | inr earlier ↦ all_at (λ (x : Holding). ¬ Overlap x.range p.range) on.space.arena.owned n g before earlier
+        ]))
+
     pub owned_more : IsOwning left rest new
     owned_more = record {
       deeds = (let e : h.range ∷ map (λ (x : Holding). x.range) rest ≡ o.range ∷ map (λ (x : OwnedSpan). x.range) left = is.deeds in cc);
@@ -139,6 +169,11 @@ module _ (setup : SetupState) (all : List Holding) (rounds : ℕ) where
           let grows : sum_by f on.arena.owned ≡ sum_by f on.space.arena.owned + f h = ap (sum_by f) more_owned ∙ sum_by_push f on.space.arena.owned h in
           let after = ap (sum_by (owned_in f)) on.after in
           omega (arith, is.same f, set_is, grows, after, sum_by-cons f h rest);
+      apart = λ i j a b lt x y. is.apart (suc i) (suc j) a b (omega (arith, lt)) x y;
+      clear = λ k j s p at there same. elim (written old o.arena k (with_arena on.arena on.space) s (at_new k s at)) [
+        | inl here ↦ subst (λ (x : SpaceState). All (λ g. ¬ Overlap g.range p.range) x.arena.owned) (sym here.1) (clear_more j p there (same ∙ here.0))
+        | inr other ↦ is.clear k (suc j) s p other.1 there same
+      ];
     }
 
   pub owned_whole : (left : List OwnedSpan) (rest : List Holding) (spaces : List SpaceState) → left ≡ [] → IsOwning left rest spaces → IsSetUpFrom setup all rounds spaces

@@ -5,7 +5,8 @@ ghost use Rattle.std.specs.Prelude.{vec_len, vec_capacity};
 ghost use Rattle.deed_core.specs.Holding.{Holding};
 ghost use Rattle.deed_core.specs.Weights.{WeighSame};
 ghost use Rattle.magazine_layer.specs.Magazines.{IsSize};
-ghost use Rattle.tag_arena.specs.Calls.{after_add};
+ghost use Rattle.tag_arena.specs.ArenaState.{OnQuantum};
+ghost use Rattle.tag_arena.specs.Calls.{IsClear, after_add};
 ghost use Rattle.stock.specs.Spaces.{SpaceState, plans_of};
 ghost use Rattle.stock.specs.Accounts.{Accounts, Frames};
 ghost use Rattle.stock.specs.Steps.{OnArena};
@@ -23,8 +24,9 @@ use tag_arena::SpanFault;
 impl<D: Deed> Stock<D> {
     /// The stock of a setup: all its arenas with their quantum caches, and all its owned spans, of
     /// which these are the deeds, in the setup's order. Its magazines take `rounds` rounds. It has
-    /// no names; an arena's place is its number in the setup. Where memory is refused, all deeds
-    /// come back, in any order.
+    /// no names; an arena's place is its number in the setup. It fails for want of memory alone: no
+    /// span of a setup overlaps another of its arena or is off its grid. All deeds come back then,
+    /// in any order, since those that were spans already are taken out again, the lowest first.
     pub fn of(
         alloc: Global,
         setup: &Setup,
@@ -83,10 +85,14 @@ impl<D: Deed> StockSetup<D> {
         Ok(())
     }
 
-    /// Adds a span, of which this is the deed.
+    /// Adds a span, of which this is the deed, and hands back one for which there is no memory.
     fn own(&mut self, arena: usize, deed: D) -> Result<(), D>
         requires within { arena < length self.old }
         requires root { (s : SpaceState) → slice_get self.old arena ≡ Some s → s.source ≡ None }
+        requires clear { (s : SpaceState) → slice_get self.old arena ≡ Some s
+            → IsClear s.arena (D.holding deed).range }
+        requires grid { (s : SpaceState) → slice_get self.old arena ≡ Some s
+            → OnQuantum s.arena.quantum (D.holding deed).range }
         ensures added { OnOk result (OnArena arena (λ a b. b ≡ after_add a (D.holding deed))
             self.old self.new) }
         ensures fixed { plans_of self.new ≡ plans_of self.old }
@@ -95,9 +101,8 @@ impl<D: Deed> StockSetup<D> {
     {
         match self.add_span(arena, deed) {
             Ok(()) => Ok(()),
-            Err(SpanFault::Overlaps(deed)) => Err(deed),
-            Err(SpanFault::NotAligned(deed)) => Err(deed),
             Err(SpanFault::NoMemory(deed)) => Err(deed),
+            Err(_) => unreachable!(),
         }
     }
 

@@ -6,11 +6,5 @@ returns-in-Ok-clause-added g c =
     let on = c.in-Ok.ensures.added in
     record { space = on.space; at = on.at; arena = on.arena; after = on.after; does = on.does.2 }
 
-pub returns-in-Err-Overlaps-clause-unchanged : goal.returns-in-Err-Overlaps-clause-unchanged
-returns-in-Err-Overlaps-clause-unchanged g c = (let on = c.in-Err-Overlaps.ensures.added in same_there c.args.self.now c.add_span.new.self c.args.arena on.space on.arena on.at on.after on.does.1)
-
-pub returns-in-Err-NotAligned-clause-unchanged : goal.returns-in-Err-NotAligned-clause-unchanged
-returns-in-Err-NotAligned-clause-unchanged g c = (let on = c.in-Err-NotAligned.ensures.added in same_there c.args.self.now c.add_span.new.self c.args.arena on.space on.arena on.at on.after on.does.1)
-
 pub returns-in-Err-NoMemory-clause-unchanged : goal.returns-in-Err-NoMemory-clause-unchanged
 returns-in-Err-NoMemory-clause-unchanged g c = (let on = c.in-Err-NoMemory.ensures.added in same_there c.args.self.now c.add_span.new.self c.args.arena on.space on.arena on.at on.after on.does.1)
