@@ -13,9 +13,9 @@ use std::alloc::Global;
 use std::process::Abort;
 use stock::{OwnCache, Stock};
 
-/// What happens. The segment that an event moves is the last in the hand, and what it answers is the
-/// last in the hand afterwards. A cache is one of the second arena, named by the units of a chunk;
-/// the CPU's is of chunks of five.
+/// What happens. The segment that an event moves is the last in the hand, and what it answers is
+/// the last in the hand afterwards. A cache is one of the second arena, named by the units of a
+/// chunk; the CPU's is of chunks of five.
 #[derive(Clone, Copy, PartialEq, Eq, Debug)]
 pub(crate) enum Event {
     /// Of the arena with this number, so many units.

@@ -27,8 +27,9 @@ const NONE: Counts = [0, 0, 0, 0, 0, 0];
 /// The first arena while the second has its span.
 const EXPORTED: Counts = [64, 0, 0, 64, 0, 0];
 
-/// Each event, and the sums of both arenas after it. A slab of 16 units has three chunks of five and
-/// a unit over: the first slab's is its tail, the second's its gap. Chunks of three leave one too.
+/// Each event, and the sums of both arenas after it. A slab of 16 units has three chunks of five
+/// and a unit over: the first slab's is its tail, the second's its gap. Chunks of three leave one
+/// too.
 const SCRIPT: [(Event, Counts, Counts); 56] = [
     (Event::Carve(0, 64), [64, 0, 0, 0, 0, 64], NONE),
     (Event::Import(16), EXPORTED, [48, 0, 0, 0, 0, 16]),
