@@ -22,4 +22,10 @@ pub mod ClimbSteps
 pub mod XallocLaws
 pub mod AllocLaws
 pub mod DrainLaws
+pub mod Lengths
+pub mod Takings
+pub mod ReapEvents
+pub mod ReapWalks
+pub mod CachedUnits
+pub mod ReapLaws
 pub mod LawProofs
