@@ -12,6 +12,7 @@ mod closings;
 mod cpus;
 mod depots;
 mod emptyings;
+mod offlines;
 mod returns;
 mod settling;
 mod supplies;
