@@ -22,4 +22,8 @@ pub mod ClimbSteps
 pub mod XallocLaws
 pub mod AllocLaws
 pub mod DrainLaws
+pub mod AllocSteps
+pub mod SlabSteps
+pub mod Reached
+pub mod CachedLaws
 pub mod LawProofs
