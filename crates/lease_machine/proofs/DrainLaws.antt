@@ -121,7 +121,7 @@ outlines_put : (i j : ℕ) (s : SlabState) (slabs : List SlabState) → StandsAt
 outlines_put i j s slabs stands =
     map_set_same outline_of slabs i s (with_chunk s j true) (slice_get_here slabs i s stands.within (sym stands.is)) refl
 
-put_outline : (t : Tag) (r : Result (Unit {0}) (PutFault Tag)) (a b : SlabCacheState) → PutOf a t r b → record b { slabs = map outline_of b.slabs } ≡ record a { slabs = map outline_of a.slabs }
+pub put_outline : (t : Tag) (r : Result (Unit {0}) (PutFault Tag)) (a b : SlabCacheState) → PutOf a t r b → record b { slabs = map outline_of b.slabs } ≡ record a { slabs = map outline_of a.slabs }
 put_outline t (Ok u) a b is =
     let puts = is.3 in
     ap (λ (z : SlabCacheState). record z { slabs = map outline_of z.slabs }) puts.after ∙ ap (λ ss. record a { slabs = ss }) (outlines_put is.0 is.1 is.2 a.slabs puts.chunk.stands)

@@ -22,4 +22,14 @@ pub mod ClimbSteps
 pub mod XallocLaws
 pub mod AllocLaws
 pub mod DrainLaws
+pub mod Lengths
+pub mod Takings
+pub mod ReapEvents
+pub mod ReapWalks
+pub mod CachedUnits
+pub mod ReapLaws
+pub mod AllocSteps
+pub mod SlabSteps
+pub mod Reached
+pub mod CachedLaws
 pub mod LawProofs

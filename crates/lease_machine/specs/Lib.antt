@@ -13,3 +13,4 @@ pub mod CpuLaws
 pub mod CacheLaws
 pub mod StepLaws
 pub mod CallLaws
+pub mod ReapLaws

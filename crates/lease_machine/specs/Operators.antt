@@ -120,6 +120,20 @@ pub record ReapsAll (units : ℕ) (old new : Picture) : Type 0 where
   pub rovers : map rover_of new.spaces ≡ map rover_of old.spaces
   pub left : All (λ s. All IsReapedOut s.caches) new.spaces
 
+-- what reaping leaves of an arena's depots
+abbrev pub depots_reaped : SpaceState → List DepotState
+depots_reaped s = map after_reap (depots_of s)
+
+-- the same of a reaping that may have been broken off: reaping leaves of the new depots what it
+-- leaves of the old ones
+pub record ReapsSome (units : ℕ) (old new : Picture) : Type 0 where
+  pub parts : PartsAlone old new
+  pub units_are : cached_units old ≡ cached_units new + units
+  pub depots : map depots_reaped new.spaces ≡ map depots_reaped old.spaces
+  pub slabs : (k j : ℕ) (c x : QuantumCacheState) → IsCacheAt old.spaces k j c
+      → IsCacheAt new.spaces k j x → LosesSlabs c.slab x.slab
+  pub rovers : map rover_of new.spaces ≡ map rover_of old.spaces
+
 abbrev pub audit_line : List ℕ → Sums → AuditLine
 audit_line name x = record {
   name = name;

@@ -1,8 +1,9 @@
 //! What follows for each picture, and for each run of lines. The functions do nothing: their
 //! contracts are the laws, and `proofs/LawProofs.antt` hands their proofs on.
 ghost use Rattle.lease_machine.specs.CallLaws.{HeldIsLocal, HandIsLocal, FreeGoesBack};
-ghost use Rattle.lease_machine.specs.CallLaws.{XallocCarves, AllocClimbs};
+ghost use Rattle.lease_machine.specs.CallLaws.{XallocCarves, AllocClimbs, AllocFromCaches};
 ghost use Rattle.lease_machine.specs.CallLaws.{OfflineIsLocal, DrainGoesOffline};
+ghost use Rattle.lease_machine.specs.ReapLaws.{ReapReaps, ReapsNone, ReapingsAdd, CachedUnitsFit};
 ghost use Rattle.lease_machine.specs.CpuLaws.{FreshIsPicture, SelectedIsPicture, FreshCpuFits};
 ghost use Rattle.lease_machine.specs.CacheLaws.{CachedByNumber};
 ghost use Rattle.lease_machine.specs.Laws.{PicturesStay, SetupStays, UnitsHaveOnePlace};
@@ -90,6 +91,16 @@ pub fn call_laws()
     ensures free { FreeGoesBack }
     ensures xalloc { XallocCarves }
     ensures alloc { AllocClimbs }
+    ensures caches { AllocFromCaches }
     ensures offline { OfflineIsLocal }
     ensures drain { DrainGoesOffline }
+{}
+
+/// What a reaping comes to. One with no look left may have left something: another begins where it
+/// ended, and what both did adds up.
+pub fn reap_laws()
+    ensures reap { ReapReaps }
+    ensures none { ReapsNone }
+    ensures add { ReapingsAdd }
+    ensures fit { CachedUnitsFit }
 {}

@@ -14,5 +14,5 @@ mod laws;
 
 pub use laws::{
     audit_laws, cache_laws, call_laws, grant_laws, no_fit_laws, picture_laws, place_laws,
-    repeat_laws, step_laws,
+    reap_laws, repeat_laws, step_laws,
 };

@@ -56,9 +56,9 @@ OthersSame k c old new = (i n : ℕ) (d : QuantumCacheState) → IsCacheAt new i
 same_caches : (old new : List SpaceState) → new ≡ old → CachesSame old new
 same_caches old new e i n d there = subst (λ xs. IsCacheAt xs i n d) e there
 
--- a depot of which no round may go
+-- a depot of which no round may go, and no empty magazine
 abbrev pub DepotStands : List SpaceState → ℕ → ℕ → Type 0
-DepotStands spaces k j = (d : QuantumCacheState) → IsCacheAt spaces k j d → ¬ CanReap d.depot
+DepotStands spaces k j = (d : QuantumCacheState) → IsCacheAt spaces k j d → (¬ CanReap d.depot) × (d.depot.empty_reapable ≡ 0)
 
 -- slabs of which none is complete
 abbrev pub SlabsStand : List SpaceState → ℕ → ℕ → Type 0
@@ -92,15 +92,16 @@ module _ (old new : List SpaceState) where
       | inl on ↦
           let o = on.2 in
           let did : (¬ CanReap o.cache.depot) × (o.depot ≡ after_trim o.cache.depot) = subst (λ r. DepotReapOf o.cache.depot r o.depot) nothing o.does in
-          let trimmed : ¬ CanReap o.depot = subst (λ (d : DepotState). ¬ CanReap d) (sym did.1) did.0 in (
+          let trimmed : ¬ CanReap o.depot = subst (λ (d : DepotState). ¬ CanReap d) (sym did.1) did.0 in
+          let empty : o.depot.empty_reapable ≡ 0 = ap (λ (d : DepotState). d.empty_reapable) did.1 in (
             λ i n was d there. elim (cache_written old new k on.0 o.space (with_depot o.depot o.cache) o.at o.after i n d there) [
               | inl here ↦
                   let before = was o.cache (record { space = o.space; at = ap (slice_get old) here.0 ∙ o.at; among = ap (slice_get o.space.caches) here.1 ∙ o.among }) in
-                  subst HasNoneToReap (sym here.2) (record { rounds = trimmed; slabs = before.slabs })
+                  subst HasNoneToReap (sym here.2) (record { rounds = trimmed; empty = empty; slabs = before.slabs })
               | inr other ↦ was d other.1
             ],
             λ j number d there. elim (cache_written old new k on.0 o.space (with_depot o.depot o.cache) o.at o.after k j d there) [
-              | inl here ↦ subst (λ (q : QuantumCacheState). ¬ CanReap q.depot) (sym here.2) trimmed
+              | inl here ↦ subst (λ (q : QuantumCacheState). (¬ CanReap q.depot) × (q.depot.empty_reapable ≡ 0)) (sym here.2) (trimmed, empty)
               | inr other ↦ absurd (other.0 (refl, one_place c j on.0 number on.1))
             ],
           )
@@ -163,7 +164,7 @@ module _ (old new : List SpaceState) where
             λ i n was d there. elim (cache_written old new k on.0 o.space (with_slab o.slab o.cache) o.at o.after i n d there) [
               | inl here ↦
                   let before = was o.cache (record { space = o.space; at = ap (slice_get old) here.0 ∙ o.at; among = ap (slice_get o.space.caches) here.1 ∙ o.among }) in
-                  subst (λ (q : QuantumCacheState). ¬ CanReap q.depot) (sym here.2) before
+                  subst (λ (q : QuantumCacheState). (¬ CanReap q.depot) × (q.depot.empty_reapable ≡ 0)) (sym here.2) before
               | inr other ↦ was d other.1
             ],
           )

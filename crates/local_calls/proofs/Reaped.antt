@@ -189,7 +189,7 @@ module _ (arenas : List TreeArena) where
             λ some.
                 let before : 0 < z.left = omega (arith, some, spans.1) in (
                   omega (arith, before, rounds.1),
-                  λ j number d there. record { rounds = spans.0.depots k j (rounds.2 before j number) d there; slabs = spans.2 some j number d there },
+                  λ j number d there. (let stands = spans.0.depots k j (rounds.2 before j number) d there in record { rounds = stands.0; empty = stands.1; slabs = spans.2 some j number d there }),
                 ),
           )
 

@@ -24,11 +24,11 @@ findable_in spaces = sum_by findable_of spaces
 abbrev pub looks_enough : List SpaceState → ℕ
 looks_enough spaces = findable_in spaces + 2 * MOST_CACHES * length spaces
 
--- A reaping takes no more looks than are enough.
+-- A reaping takes no more looks than are enough for what it doesn't leave to be found.
 abbrev pub ReapTakesFewLooks : Type 0
 ReapTakesFewLooks = (arenas : List TreeArena) (limit : ℕ) (old new : LocalState) (r : Reaping)
     → IsLocalOf arenas old → RunsTo arenas (reap_plan arenas limit) old new (Ok r)
-    → limit ≤ r.left + looks_enough old.spaces
+    → limit + findable_in new.spaces ≤ r.left + looks_enough old.spaces
 
 -- So one whose limit is greater leaves nothing that could be reaped.
 abbrev pub ReapWithoutLimit : Type 0

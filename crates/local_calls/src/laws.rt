@@ -24,7 +24,7 @@ pub fn no_fit_laws()
 {}
 
 /// What a call leaves: a drain no round of the CPU, so that its caches can be closed; a reaping
-/// that has looks left no round that may go and no complete slab.
+/// that has looks left no round and no empty magazine that may go, and no complete slab.
 pub fn emptied_laws()
     ensures drain { DrainEmptiesCpu }
     ensures reap { ReapLeavesNothing }

@@ -1,0 +1,36 @@
+-- What a reaping over one thread's parts comes to for a picture.
+use Rattle.std.specs.Prelude.{◌≡◌, ℕ, ◌+◌, ◌*◌, ◌^◌, ◌<◌, ◌≤◌, [], Ok, length}
+use Rattle.quantum_cache.specs.declared.reaps.Reaping.{Reaping}
+use Rattle.quantum_cache.specs.Reaps.{reap_plan}
+use Rattle.local_parts.specs.States.{LocalState}
+use Rattle.local_calls.specs.Looks.{findable_in}
+use Rattle.local_calls.specs.Runs.{RunsTo}
+use Rattle.lease_machine.specs.Picture.{Picture, SameSetup}
+use Rattle.lease_machine.specs.Operators.{ReapsSome, ReapsAll, cached_units}
+use Rattle.lease_machine.specs.Held.{IsHeld, parts_in, with_parts}
+
+-- A reaping that ended, whatever its limit. Where looks are left, it left nothing. Where none is, it
+-- found almost as much as it might look for, and another may begin where it ended.
+pub record ReapedTo (limit : ℕ) (d : Picture) (r : Reaping) (s : LocalState) : Type 0 where
+  pub some : ReapsSome r.units d (with_parts s d)
+  pub all : 0 < r.left → ReapsAll r.units d (with_parts s d)
+  pub held : IsHeld [] (with_parts s d)
+  pub setup : SameSetup d (with_parts s d)
+  pub parts : s ≡ parts_in (with_parts s d)
+  pub fewer : limit + findable_in s.spaces ≤ r.left + findable_in d.spaces + 32 * length d.tree
+
+abbrev pub ReapReaps : Type 0
+ReapReaps = (d : Picture) (limit : ℕ) (s : LocalState) (r : Reaping) → IsHeld [] d
+    → RunsTo d.tree (reap_plan d.tree limit) (parts_in d) s (Ok r) → ReapedTo limit d r s
+
+-- none, and one reaping after another
+abbrev pub ReapsNone : Type 0
+ReapsNone = (d : Picture) → ReapsSome 0 d d
+
+abbrev pub ReapingsAdd : Type 0
+ReapingsAdd = (m n : ℕ) (d e f : Picture) → ReapsSome m d e
+    → (ReapsSome n e f → ReapsSome (m + n) d f) × (ReapsAll n e f → ReapsAll (m + n) d f)
+
+-- the units in caches are those of arenas, each of which has at most 2^62
+abbrev pub CachedUnitsFit : Type 0
+CachedUnitsFit = (d : Picture) → IsHeld [] d → cached_units d ≤ 2 ^ 62 * length d.tree
