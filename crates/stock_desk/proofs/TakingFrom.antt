@@ -3,13 +3,11 @@ use Rattle.std.proofs.Common.{◌≡◌, ℕ, ◌^◌, ◌<◌, ◌≤◌, inl, 
 use Rattle.std.specs.Prelude.{slice_get}
 use Rattle.std.proofs.lemmas.Bool.{cases_lt}
 use Rattle.deed_core.specs.Tag.{Tag}
-use Rattle.deed_core.specs.Request.{IsGood, IsPlain, plain_of, rounded}
+use Rattle.deed_core.specs.Request.{IsPlain, plain_of, rounded}
 use Rattle.deed_core.specs.declared.requests.Request.{Request}
 use Rattle.tag_arena.specs.declared.faults.ArenaFault.{ArenaFault}
 use Rattle.tag_arena.specs.declared.faults.ArenaFault.TheVariants as arena
-use Rattle.arena_tree.specs.declared.part_faults.ClimbFault.TheVariants as climbing
 use Rattle.arena_tree.specs.declared.trees.TreeArena.{TreeArena}
-use Rattle.arena_tree.specs.Climbs.{Climbed}
 use Rattle.quantum_cache.specs.Allocs.{alloc_plan, xalloc_plan}
 use Rattle.quantum_cache.specs.Caches.{chain_in}
 use Rattle.local_parts.specs.States.{LocalState}
@@ -17,10 +15,10 @@ use Rattle.local_calls.specs.Runs.{IsLocalOf, IsAccountedWith, RunsTo}
 use Rattle.lease_machine.specs.Picture.{Cpu, Picture, SameSetup, is_cpu}
 use Rattle.lease_machine.specs.Moves.{SameNames}
 use Rattle.lease_machine.specs.Chunks.{selected_caches, own_or_none}
-use Rattle.lease_machine.specs.Serving.{IsCachedIn, CanServe, ServesWith, ServesNone, FallsBack}
+use Rattle.lease_machine.specs.Serving.{IsCachedIn}
 use Rattle.lease_machine.specs.Held.{IsHeld, parts_in, with_parts}
-use Rattle.lease_machine.specs.CallLaws.{IsCarvedFor, IsClimbedFor}
-use Rattle.lease_machine.proofs.LawProofs.{held_is_local, xalloc_carves, alloc_climbs}
+use Rattle.lease_machine.specs.CallLaws.{IsCarvedFor, IsClimbedFor, IsFromCaches}
+use Rattle.lease_machine.proofs.LawProofs.{held_is_local, xalloc_carves, alloc_climbs, alloc_from_caches}
 use Rattle.stock_desk.specs.Parts.{parts_of, climbed, carved}
 use Rattle.stock_desk.specs.Takings.{Takes}
 use Rattle.stock_desk.proofs.SelectedCpu.{found_here, written_caches}
@@ -43,25 +41,6 @@ taken_if_climbed place x q d (Ok t) new held names is = record { good = is.0; ca
 taken_if_climbed place x q d (Err arena.BadRequest) new held names is = is
 taken_if_climbed place x q d (Err arena.NoFit) new held names is = record { good = is.0; none = is.1; held = stays_held d new is.2 held; setup = stays_set_up d new is.2 }
 taken_if_climbed place x q d (Err arena.NoMemory) new held names is = record { good = is.0; can = is.1; back = is.2; names = names; held = is.3; setup = is.4 }
-
--- LAW
-abbrev pub IsFromCaches : ℕ → TreeArena → Request → Picture → Climbed → Picture → Type 0
-IsFromCaches place x q d (Ok t) new = IsGood x.quantum q × CanServe d place x q
-    × ServesWith place x q t d new × IsHeld (t ∷ []) new × SameSetup d new
-IsFromCaches place x q d (Err climbing.BadRequest) new = (¬ IsGood x.quantum q) × (new ≡ d)
-IsFromCaches place x q d (Err climbing.NoFit) new = IsGood x.quantum q
-    × ServesNone place x q d new × IsHeld [] new × SameSetup d new
-IsFromCaches place x q d (Err climbing.NoMemory) new = IsGood x.quantum q × CanServe d place x q
-    × FallsBack place x q d new × IsHeld [] new × SameSetup d new
-IsFromCaches place x q d (Err (climbing.Stuck t)) new = ⊥
-IsFromCaches place x q d (Err (climbing.Stopped o)) new = ⊥
-
-abbrev pub AllocFromCaches : Type 0
-AllocFromCaches = (d : Picture) (place : ℕ) (x : TreeArena) (q : Request) (s : LocalState)
-    (a : Climbed) → IsHeld [] d → slice_get d.tree place ≡ Some x → IsPlain q → IsCachedIn x q
-    → RunsTo d.tree (alloc_plan (chain_in d.tree place) q.size) (parts_in d) s a
-    → IsFromCaches place x q d a (with_parts s d)
--- END
 
 taken_if_from_caches : (place : ℕ) (x : TreeArena) (q : Request) (d : Picture) (a : Result Tag ArenaFault) (new : Picture) → SameNames d new → IsFromCaches place x q d (climbed a) new → Takes place x q a d new
 taken_if_from_caches place x q d (Ok t) new names is = record { good = is.0; can = is.1; serves = is.2; held = is.3; setup = is.4 }
@@ -112,20 +91,20 @@ module _ (d : Picture) (k : ℕ) (c : Cpu) (first : position (is_cpu d.selected)
       reached_so : RunsTo d.tree (alloc_plan (chain_in d.tree place) size) (parts_in d) s (climbed a)
       reached_so = subst (λ (p : LocalState). RunsTo d.tree (alloc_plan (chain_in d.tree place) size) p s (climbed a)) (sym same_parts) ran
 
-      pub climbed_so : ¬ IsCachedIn x (plain_of size) → Takes place x (plain_of size) a d (after s)
+      climbed_so : ¬ IsCachedIn x (plain_of size) → Takes place x (plain_of size) a d (after s)
       climbed_so not_cached =
           subst (Takes place x (plain_of size) a d) (is_after s)
           (taken_if_climbed place x (plain_of size) d a (with_parts s d) held (refl, refl)
           (alloc_climbs d place x (plain_of size) s (climbed a) held here (of_size_is_plain size) not_cached reached_so))
 
-      pub given_so : AllocFromCaches → IsCachedIn x (plain_of size) → Takes place x (plain_of size) a d (after s)
-      given_so from_caches cached =
+      given_so : IsCachedIn x (plain_of size) → Takes place x (plain_of size) a d (after s)
+      given_so cached =
           subst (Takes place x (plain_of size) a d) (is_after s)
           (taken_if_from_caches place x (plain_of size) d a (with_parts s d) (refl, refl)
-          (from_caches d place x (plain_of size) s (climbed a) held here (of_size_is_plain size) cached reached_so))
+          (alloc_from_caches d place x (plain_of size) s (climbed a) held here (of_size_is_plain size) cached reached_so))
 
-      pub allocated_by : AllocFromCaches → Takes place x (plain_of size) a d (after s)
-      allocated_by from_caches = elim (cases_lt x.qcache_max (rounded x.quantum size)) [
+      pub allocated_so : Takes place x (plain_of size) a d (after s)
+      allocated_so = elim (cases_lt x.qcache_max (rounded x.quantum size)) [
         | inl greater ↦ climbed_so (λ cached. (let within = cached.1 in omega (arith, greater, within)))
-        | inr within ↦ given_so from_caches (of_size_is_plain size, omega (arith, within))
+        | inr within ↦ given_so (of_size_is_plain size, omega (arith, within))
       ]

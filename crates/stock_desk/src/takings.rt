@@ -44,11 +44,7 @@ impl Supply {
     }
 
     /// Gives a segment of the arena for a request that says where it may stand. It never imports.
-    fn carve(
-        &mut self,
-        arena: u32,
-        request: &Request,
-    ) -> Result<Segment<PlainDeed>, ArenaFault>
+    fn carve(&mut self, arena: u32, request: &Request) -> Result<Segment<PlainDeed>, ArenaFault>
         requires held { (b : BookState) × IsHeld [] (pictured b self.old) }
         requires within { arena < length self.old.tree }
         requires constrained { ¬ IsPlain request.now }
