@@ -64,7 +64,7 @@ module _ (d : Picture) (k : ℕ) (c : Cpu) (first : position (is_cpu d.selected)
   reached : selected_caches d ≡ c.caches
   reached = ap own_or_none (found_here d.selected d.cpus k c first at)
 
-  same_parts : parts_in d ≡ parts_of d.spaces c.caches
+  pub same_parts : parts_in d ≡ parts_of d.spaces c.caches
   same_parts = ap (parts_of d.spaces) reached
 
   pub take_local : IsLocalOf d.tree (parts_of d.spaces c.caches)
