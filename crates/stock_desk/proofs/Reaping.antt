@@ -4,7 +4,6 @@ use Rattle.std.specs.Prelude.{slice_get}
 use Rattle.quantum_cache.specs.declared.reaps.Reaping.{Reaping}
 use Rattle.quantum_cache.specs.Reaps.{reap_plan}
 use Rattle.local_parts.specs.States.{LocalState}
-use Rattle.local_calls.specs.Looks.{findable_in}
 use Rattle.local_calls.specs.Runs.{RunsTo}
 use Rattle.lease_machine.specs.Picture.{Cpu, Picture, SameSetup, is_cpu}
 use Rattle.lease_machine.specs.Operators.{ReapsSome}
@@ -45,11 +44,6 @@ module _ (d e f : Picture) (units : ℕ) (r : Reaping) (so : IsReapedSoFar units
   units_fit held =
       let few : length d.tree ≤ 32 = held.tree.few in
       omega (arith, both.units_are, cached_units_fit d held, few)
-
-  pub fewer_left : r.left ≡ 0 → findable_in f.spaces < findable_in e.spaces
-  fewer_left none =
-      let few : length e.tree ≤ 32 = so.held.tree.few in
-      omega (arith, once.fewer, none, few)
 
   pub all_reaped : 0 < r.left → IsReapedSo (units + r.units) d f
   all_reaped left = record { reaps = (reapings_add units r.units d e f so.some).1 (once.all left); held = once.held; setup = same }
