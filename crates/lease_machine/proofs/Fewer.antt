@@ -74,5 +74,8 @@ chain_quanta tree is zero o = tt
 chain_quanta tree is (suc m) None = tt
 chain_quanta tree is (suc m) (Some p) = on_quanta tree is p (chain_up m tree) (slice_get tree p) refl (λ x. chain_quanta tree is m x.source)
 
+pub fewer_fit : (tree : List TreeArena) (spaces : List SpaceState) (place n most : ℕ) → IsTree tree → IsStock spaces → n ≤ most → HasPlaceUp spaces (chain_in tree place) most → HasPlaceUp spaces (chain_in tree place) n
+fewer_fit tree spaces place n most is stock le has = fewer_up spaces stock (chain_in tree place) (chain_quanta tree is 4 (Some place)) n most le has
+
 pub fewer_fit_too : FewerFitToo
-fewer_fit_too d place n most is le has = fewer_up d.spaces is.units.parts (chain_in d.tree place) (chain_quanta d.tree is.tree 4 (Some place)) n most le has
+fewer_fit_too d place n most is le has = fewer_fit d.tree d.spaces place n most is.tree is.units.parts le has

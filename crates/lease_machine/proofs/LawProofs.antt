@@ -15,6 +15,7 @@ pub use Rattle.lease_machine.proofs.HeldLaws.{held_is_local, hand_is_local}
 pub use Rattle.lease_machine.proofs.FreeLaws.{free_goes_back}
 pub use Rattle.lease_machine.proofs.XallocLaws.{xalloc_carves}
 pub use Rattle.lease_machine.proofs.AllocLaws.{alloc_climbs}
+pub use Rattle.lease_machine.proofs.CachedLaws.{alloc_from_caches}
 pub use Rattle.lease_machine.proofs.DrainLaws.{offline_is_local, drain_goes_offline}
 pub use Rattle.lease_machine.proofs.CachedUnits.{cached_units_fit}
 pub use Rattle.lease_machine.proofs.ReapLaws.{reap_reaps, reaps_none, reapings_add}

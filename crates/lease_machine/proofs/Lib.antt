@@ -28,4 +28,8 @@ pub mod ReapEvents
 pub mod ReapWalks
 pub mod CachedUnits
 pub mod ReapLaws
+pub mod AllocSteps
+pub mod SlabSteps
+pub mod Reached
+pub mod CachedLaws
 pub mod LawProofs

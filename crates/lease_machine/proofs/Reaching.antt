@@ -7,21 +7,21 @@ use Rattle.deed_core.specs.Tag.{Tag}
 use Rattle.deed_core.specs.Covering.{covers, covers_held, covering_held}
 use Rattle.deed_core.specs.Request.{plain_of, rounded}
 use Rattle.deed_core.specs.declared.requests.Request.{Request}
-use Rattle.deed_core.proofs.LawProofs.{covers_is, counts_the_unit, contained_in_sum, sum_none, all_at, slice_get-set_other, rounds_up, power_some}
+use Rattle.deed_core.proofs.LawProofs.{covers_is, counts_the_unit, contained_in_sum, sum_none, all_at, slice_get-set_other, slice_get_mapped, slice_get_one, rounds_up, power_some}
 use Rattle.tag_arena.specs.ArenaState.{spans_of}
 use Rattle.arena_tree.specs.declared.levels.Level.{Level}
 use Rattle.arena_tree.specs.declared.trees.TreeArena.{TreeArena}
 use Rattle.arena_tree.specs.Chains.{amount_of}
-use Rattle.arena_tree.specs.Trees.{level_of, ImportsFrom}
+use Rattle.arena_tree.specs.Trees.{IsTree, level_of, ImportsFrom}
 use Rattle.quantum_cache.specs.Caches.{chain_on, chain_up}
-use Rattle.stock.specs.Spaces.{SpaceState, SpacePlan, plan_of}
-use Rattle.stock.specs.Setups.{plan_for}
+use Rattle.stock.specs.Spaces.{SpaceState, SpacePlan, plan_of, plans_of}
+use Rattle.stock.specs.Setups.{plan_for, plans_for}
+use Rattle.stock.specs.Stocks.{IsStock}
 use Rattle.stock_audit.specs.Chains.{IsFreeFor, free, free_above}
-use Rattle.lease_machine.specs.Picture.{Picture, IsPicture}
+use Rattle.lease_machine.specs.Picture.{Picture}
 use Rattle.lease_machine.specs.Moves.{Climbs, CarvesAt, ImportsAt}
 use Rattle.lease_machine.specs.Machine.{demand_of}
 use Rattle.lease_machine.specs.AnswerLaws.{GrantsWereReachable}
-use Rattle.lease_machine.proofs.Rooms.{plan_is}
 
 -- a unit that a member covers is covered
 covered_once : (u : ℕ) (hs : List Holding) (h : Holding) → Contains hs h → Covers h.range u → 0 < covering_held u hs
@@ -69,10 +69,15 @@ none_up : (m : ℕ) (tree : List TreeArena) → chain_up m tree None ≡ []
 none_up zero tree = refl
 none_up (suc m) tree = refl
 
-module _ (d : Picture) (is : IsPicture d) where
+module _ (d : Picture) (tree : IsTree d.tree) (plans : plans_of d.spaces ≡ plans_for d.tree) (parts : IsStock d.spaces) where
+  -- an arena is what it was set up as
+  plan_here : (k : ℕ) (x : TreeArena) (s : SpaceState) → slice_get d.tree k ≡ Some x → slice_get d.spaces k ≡ Some s → plan_of s ≡ plan_for x
+  plan_here k x s here at =
+      slice_get_one (plans_of d.spaces) k (plan_of s) (plan_for x) (slice_get_mapped plan_of d.spaces k s at) (ap (λ ps. slice_get ps k) plans ∙ slice_get_mapped plan_for d.tree k x here)
+
   -- a source stands before
   source_before : (k p : ℕ) (x : TreeArena) → slice_get d.tree k ≡ Some x → x.source ≡ Some p → p < k
-  source_before k p x here from = by x.source from (is.tree.each k x here).source
+  source_before k p x here from = by x.source from (tree.each k x here).source
     where
       by : (o : Option ℕ) → o ≡ Some p → IfSome o (ImportsFrom d.tree k x) → p < k
       by None from own = absurd (let e : None ≡ Some p = from in cc)
@@ -91,7 +96,7 @@ module _ (d : Picture) (is : IsPicture d) where
 
   on_first : (p n : ℕ) (t : Tag) (old new : List SpaceState) (again : Option ℕ → List Level) (o : Option TreeArena) → slice_get d.tree p ≡ o → Climbs (chain_on again p o) n t old new → HasFirst (chain_on again p o)
   on_first p n t old new again None at climbs = absurd climbs
-  on_first p n t old new again (Some x) at climbs = power_some x.quantum (is.tree.each p x at).power
+  on_first p n t old new again (Some x) at climbs = power_some x.quantum (tree.each p x at).power
 
   climbs_first : (m p n : ℕ) (t : Tag) (old new : List SpaceState) → Climbs (chain_up m d.tree (Some p)) n t old new → HasFirst (chain_up m d.tree (Some p))
   climbs_first zero p n t old new climbs = absurd climbs
@@ -110,7 +115,7 @@ module _ (d : Picture) (is : IsPicture d) where
       free k o.space o.at (covered_once u o.space.arena.free carves.range carves.among (omega (arith, carves.inside.from, over.0), omega (arith, carves.inside.to, over.1)))
 
   quantum_some : (k : ℕ) (s : SpaceState) → slice_get d.spaces k ≡ Some s → 0 < s.arena.quantum
-  quantum_some k s at = power_some s.arena.quantum (is.units.parts k s at).sound.divided.power
+  quantum_some k s at = power_some s.arena.quantum (parts k s at).sound.divided.power
 
   abbrev pub ReachesAll : ℕ → Type 0
   ReachesAll m = (p n : ℕ) (t : Tag) (new : List SpaceState) → Climbs (chain_up m d.tree (Some p)) n t d.spaces new → IsReached p n t
@@ -125,7 +130,7 @@ module _ (d : Picture) (is : IsPicture d) where
       let reached : IsReached p (amount_of l up n) span = rest p (amount_of l up n) span mid climbs in
       let before : AreBefore k up = chain_before k m (Some p) (λ q e. source_before k q x here (from ∙ e)) in
       let at : slice_get d.spaces k ≡ Some i.space = sym (others_stay k up (amount_of l up n) span d.spaces mid before climbs) ∙ i.at in
-      let plan : plan_of i.space ≡ plan_for x = plan_is d is k x i.space here at in
+      let plan : plan_of i.space ≡ plan_for x = plan_here k x i.space here at in
       let quantum : i.space.arena.quantum ≡ x.quantum = ap (λ (y : SpacePlan). y.quantum) plan in
       let source : i.space.source ≡ Some p = ap (λ (y : SpacePlan). y.source) plan ∙ from in
       let does = i.does in
@@ -163,7 +168,7 @@ module _ (d : Picture) (is : IsPicture d) where
 
 pub grants_were_reachable : GrantsWereReachable
 grants_were_reachable old new id l r is g s at u over = elim g.serves.from [
-  | inl carved ↦ inl (carve_reaches old is g.place (demand_of l) g.segment new.spaces carved.1 u over)
-  | inr (inl climbed) ↦ inl ((climbs_reach old is 4 g.place l.size g.segment new.spaces climbed.2).free_for u over)
+  | inl carved ↦ inl (carve_reaches old is.tree is.plans is.units.parts g.place (demand_of l) g.segment new.spaces carved.1 u over)
+  | inr (inl climbed) ↦ inl ((climbs_reach old is.tree is.plans is.units.parts 4 g.place l.size g.segment new.spaces climbed.2).free_for u over)
   | inr (inr cached) ↦ cached.1 s at u over
 ]

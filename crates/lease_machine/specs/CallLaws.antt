@@ -77,6 +77,24 @@ AllocClimbs = (d : Picture) (place : ℕ) (x : TreeArena) (q : Request) (s : Loc
     → RunsTo d.tree (alloc_plan (chain_in d.tree place) q.size) (parts_in d) s a
     → IsClimbedFor place x q d a (with_parts s d)
 
+-- and of one that a cache serves: where nothing fits, the CPU may still have changed over
+abbrev pub IsFromCaches : ℕ → TreeArena → Request → Picture → Climbed → Picture → Type 0
+IsFromCaches place x q d (Ok t) new = IsGood x.quantum q × CanServe d place x q
+    × ServesWith place x q t d new × IsHeld (t ∷ []) new × SameSetup d new
+IsFromCaches place x q d (Err climbing.BadRequest) new = (¬ IsGood x.quantum q) × (new ≡ d)
+IsFromCaches place x q d (Err climbing.NoFit) new = IsGood x.quantum q
+    × ServesNone place x q d new × IsHeld [] new × SameSetup d new
+IsFromCaches place x q d (Err climbing.NoMemory) new = IsGood x.quantum q × CanServe d place x q
+    × FallsBack place x q d new × IsHeld [] new × SameSetup d new
+IsFromCaches place x q d (Err (climbing.Stuck t)) new = ⊥
+IsFromCaches place x q d (Err (climbing.Stopped o)) new = ⊥
+
+abbrev pub AllocFromCaches : Type 0
+AllocFromCaches = (d : Picture) (place : ℕ) (x : TreeArena) (q : Request) (s : LocalState)
+    (a : Climbed) → IsHeld [] d → slice_get d.tree place ≡ Some x → IsPlain q → IsCachedIn x q
+    → RunsTo d.tree (alloc_plan (chain_in d.tree place) q.size) (parts_in d) s a
+    → IsFromCaches place x q d a (with_parts s d)
+
 -- the parts that a CPU reaches, selected or not
 abbrev pub parts_of_cpu : Picture → Cpu → LocalState
 parts_of_cpu d c = record { spaces = d.spaces; cpu = c.caches }

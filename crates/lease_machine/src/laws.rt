@@ -1,7 +1,7 @@
 //! What follows for each picture, and for each run of lines. The functions do nothing: their
 //! contracts are the laws, and `proofs/LawProofs.antt` hands their proofs on.
 ghost use Rattle.lease_machine.specs.CallLaws.{HeldIsLocal, HandIsLocal, FreeGoesBack};
-ghost use Rattle.lease_machine.specs.CallLaws.{XallocCarves, AllocClimbs};
+ghost use Rattle.lease_machine.specs.CallLaws.{XallocCarves, AllocClimbs, AllocFromCaches};
 ghost use Rattle.lease_machine.specs.CallLaws.{OfflineIsLocal, DrainGoesOffline};
 ghost use Rattle.lease_machine.specs.ReapLaws.{ReapReaps, ReapsNone, ReapingsAdd, CachedUnitsFit};
 ghost use Rattle.lease_machine.specs.CpuLaws.{FreshIsPicture, SelectedIsPicture, FreshCpuFits};
@@ -91,6 +91,7 @@ pub fn call_laws()
     ensures free { FreeGoesBack }
     ensures xalloc { XallocCarves }
     ensures alloc { AllocClimbs }
+    ensures caches { AllocFromCaches }
     ensures offline { OfflineIsLocal }
     ensures drain { DrainGoesOffline }
 {}

@@ -4,9 +4,13 @@ use Rattle.std.specs.Prelude.{slice_get}
 use Rattle.std.specs.List.{find, position_or_len}
 use Rattle.std.proofs.lemmas.Bool.{cases_eq, cases_lt}
 use Rattle.std.proofs.lemmas.Bool.Decides.{Decides-eqb}
+use Rattle.std.proofs.lemmas.List.Sums.{fails_before_first}
 use Rattle.std.proofs.lemmas.Option.{slice_get_within, get_or_from_slice_get}
 use Rattle.stock.specs.OwnCaches.{OwnCacheState}
-use Rattle.lease_machine.specs.Picture.{Cpu, is_cpu}
+use Rattle.stock.specs.Spaces.{SpaceState, plans_of}
+use Rattle.local_parts.specs.Cpus.{new_cpu}
+use Rattle.lease_machine.specs.Picture.{Cpu, is_cpu, fresh_cpu}
+use Rattle.lease_machine.specs.Operators.{renewed}
 use Rattle.lease_machine.specs.Held.{with_caches_of}
 use Rattle.stock_desk.proofs.NumberedCpus.{first_is, none_is, found_cpu}
 use Rattle.stock_desk.proofs.FirstChanged.{changed_none}
@@ -85,3 +89,16 @@ module _ (n : ℕ) (cs : List Cpu) (apart : AllPairs (λ a b. a.number ≢ b.num
   written_caches rows =
       let here : with_caches_of n rows c ≡ record { number = c.number; caches = rows } = ap (λ (b : Bool). cond b (record { number = c.number; caches = rows }) c) (it_is n c it_has) in
       ap (set cs k) (sym here) ∙ set_one (with_caches_of n rows) cs k c at (λ i x ne there. ap (λ (b : Bool). cond b (record { number = x.number; caches = rows }) x) (not_it n x (other_has i x ne there)))
+
+  -- the CPU began anew where it stands
+  pub renewed_caches : (spaces : List SpaceState) → set cs k (record { number = c.number; caches = new_cpu 3 (plans_of spaces) }) ≡ map (renewed n spaces) cs
+  renewed_caches spaces =
+      let here : renewed n spaces c ≡ record { number = c.number; caches = new_cpu 3 (plans_of spaces) } = ap (λ (b : Bool). cond b (fresh_cpu n spaces) c) (it_is n c it_has) ∙ ap (λ (i : ℕ). record { number = i; caches = new_cpu 3 (plans_of spaces) }) (sym it_has) in
+      ap (set cs k) (sym here) ∙ set_one (renewed n spaces) cs k c at (λ i x ne there. ap (λ (b : Bool). cond b (fresh_cpu n spaces) x) (not_it n x (other_has i x ne there)))
+
+-- none begins anew where none has the number
+pub renewed_none : (n : ℕ) (cs : List Cpu) (spaces : List SpaceState) → position (is_cpu n) cs ≡ None → map (renewed n spaces) cs ≡ cs
+renewed_none n cs spaces none = changed_none (renewed n spaces) cs (λ i x there.
+    (let within = slice_get_within cs i x there in
+    let other : is_cpu n x ≡ false = ap (is_cpu n) (sym (get_or_from_slice_get cs i x x there)) ∙ fails_before_first (is_cpu n) cs i x (omega (arith, within, none_is n cs none)) in
+    ap (λ (b : Bool). cond b (fresh_cpu n spaces) x) other))

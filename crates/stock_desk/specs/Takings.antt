@@ -1,9 +1,49 @@
--- What becomes of a segment that is taken back.
-use Rattle.std.specs.Prelude.{[]}
+-- What becomes of a request for a segment.
+use Rattle.std.specs.Prelude.{◌≡◌, ℕ, List, [], ◌∷◌, Result, Ok, Err}
 use Rattle.deed_core.specs.Tag.{Tag}
+use Rattle.deed_core.specs.Request.{IsGood}
+use Rattle.deed_core.specs.declared.requests.Request.{Request}
+use Rattle.tag_arena.specs.declared.faults.ArenaFault.{ArenaFault}
+use Rattle.tag_arena.specs.declared.faults.ArenaFault.TheVariants.{BadRequest, NoFit, NoMemory}
+use Rattle.arena_tree.specs.declared.trees.TreeArena.{TreeArena}
 use Rattle.lease_machine.specs.Picture.{Picture, SameSetup}
+use Rattle.lease_machine.specs.Moves.{SameNames}
 use Rattle.lease_machine.specs.Chunks.{GoesBack}
+use Rattle.lease_machine.specs.Serving.{CanServe, ServesWith, ServesNone, FallsBack}
 use Rattle.lease_machine.specs.Held.{IsHeld}
+
+-- a segment that serves it is in the hand
+pub record IsServed (place : ℕ) (x : TreeArena) (q : Request) (t : Tag) (old new : Picture)
+    : Type 0 where
+  pub good : IsGood x.quantum q
+  pub can : CanServe old place x q
+  pub serves : ServesWith place x q t old new
+  pub held : IsHeld (t ∷ []) new
+  pub setup : SameSetup old new
+
+-- nothing does
+pub record IsUnserved (place : ℕ) (x : TreeArena) (q : Request) (old new : Picture)
+    : Type 0 where
+  pub good : IsGood x.quantum q
+  pub none : ServesNone place x q old new
+  pub held : IsHeld [] new
+  pub setup : SameSetup old new
+
+-- out of memory
+pub record IsMissed (place : ℕ) (x : TreeArena) (q : Request) (old new : Picture) : Type 0 where
+  pub good : IsGood x.quantum q
+  pub can : CanServe old place x q
+  pub back : FallsBack place x q old new
+  pub names : SameNames old new
+  pub held : IsHeld [] new
+  pub setup : SameSetup old new
+
+-- by what came of it
+abbrev pub Takes : ℕ → TreeArena → Request → Result Tag ArenaFault → Picture → Picture → Type 0
+Takes place x q (Ok t) old new = IsServed place x q t old new
+Takes place x q (Err BadRequest) old new = (¬ IsGood x.quantum q) × (new ≡ old)
+Takes place x q (Err NoFit) old new = IsUnserved place x q old new
+Takes place x q (Err NoMemory) old new = IsMissed place x q old new
 
 -- the segment went back from the hand
 pub record IsPutBack (t : Tag) (old new : Picture) : Type 0 where

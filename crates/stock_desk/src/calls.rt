@@ -18,7 +18,7 @@ ghost use Rattle.stock_desk.specs.Parts.{parts_of, climbed, carved};
 use arena_tree::{CarveFault, ClimbFault};
 use deed_core::{PlainDeed, Request, Segment};
 use local_parts::Local;
-use quantum_cache::{alloc, drain, free, reap, xalloc};
+use quantum_cache::{Reaping, alloc, drain, free, reap, xalloc};
 use tag_arena::ArenaFault;
 
 /// Gives a segment of the arena that meets the request. It never imports.
@@ -131,22 +131,21 @@ pub(crate) fn drain_over(parts: &mut Local<'_, PlainDeed>)
     }
 }
 
-/// Reaps all caches of all arenas. It gives the units of the slabs that it reaped.
-pub(crate) fn reap_over(parts: &mut Local<'_, PlainDeed>) -> u128
+/// Reaps all caches of all arenas, by at most 2^64 - 1 looks.
+pub(crate) fn reap_over(parts: &mut Local<'_, PlainDeed>) -> Reaping
     requires local { IsLocalOf parts.old.tree.now
         (parts_of parts.old.stock.now parts.old.cpu.now) }
     requires out { (others : List Tag) × IsAccountedWith
         (parts_of parts.old.stock.now parts.old.cpu.now) None others }
-    ensures ran { (left : ℕ) × RunsTo parts.old.tree.now
-        (reap_plan parts.old.tree.now (2 ^ 64 - 1))
+    ensures ran { RunsTo parts.old.tree.now (reap_plan parts.old.tree.now (2 ^ 64 - 1))
         (parts_of parts.old.stock.now parts.old.cpu.now)
-        (parts_of parts.new.stock.now parts.new.cpu.now) (Ok (record { left = left; units = result })) }
+        (parts_of parts.new.stock.now parts.new.cpu.now) (Ok result) }
     ensures same_stock { parts.new.stock.ghost_name ≡ parts.old.stock.ghost_name }
     ensures same_cpu { parts.new.cpu.ghost_name ≡ parts.old.cpu.ghost_name }
 {
     let tree = parts.tree;
     match reap(parts, tree, u64::MAX) {
-        Ok(reaping) => reaping.units,
+        Ok(reaping) => reaping,
         Err(_) => unreachable!(),
     }
 }

@@ -2,8 +2,9 @@
 //! together answer the lines of the lease protocol and of its operator. Of it stand the calls over
 //! one thread's parts (calls), an operator's choice of a CPU (cpus), his intervals and magazine
 //! sizes (depots), what he is told of the arenas and clients (telling), replies (answers,
-//! settling), segments that are taken back (supplies, takings), and how leases (returns), CPUs
-//! (emptyings) and the stock (closings) end.
+//! settling), segments that are given and taken back (supplies, takings), CPUs that go offline
+//! (offlines), what is reaped (reapings), and how leases (returns), CPUs (emptyings) and the stock
+//! (closings) end.
 #![tactic(auto)]
 
 mod answers;
@@ -12,6 +13,8 @@ mod closings;
 mod cpus;
 mod depots;
 mod emptyings;
+mod offlines;
+mod reapings;
 mod returns;
 mod settling;
 mod supplies;

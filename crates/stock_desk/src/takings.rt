@@ -1,24 +1,89 @@
-//! Segments that a supply takes back, by the list of steps over the selected CPU.
-ghost use Rattle.std.specs.Prelude.{◌<◌, List, [], ◌∷◌, length, Some, Ok};
+//! Segments that a supply gives and takes back, by the lists of steps over the selected CPU.
+ghost use Rattle.std.specs.Prelude.{◌≡◌, ◌<◌, List, [], ◌∷◌, length, slice_get, Some, None, Ok};
+ghost use Rattle.deed_core.specs.Request.{IsPlain, plain_of};
 ghost use Rattle.deed_core.specs.Tag.{Tag};
+ghost use Rattle.arena_tree.specs.declared.trees.TreeArena.{TreeArena};
+ghost use Rattle.quantum_cache.specs.Allocs.{alloc_plan, xalloc_plan};
 ghost use Rattle.quantum_cache.specs.Caches.{chain_in};
 ghost use Rattle.quantum_cache.specs.Frees.{free_plan};
 ghost use Rattle.local_calls.specs.Runs.{IsLocalOf, IsAccountedWith, RunsTo};
 ghost use Rattle.lease_book.specs.BookState.{BookState};
 ghost use Rattle.lease_machine.specs.Held.{IsHeld};
-ghost use Rattle.stock_desk.specs.Parts.{parts_of};
+ghost use Rattle.stock_desk.specs.Parts.{parts_of, climbed, carved};
 ghost use Rattle.stock_desk.specs.Supplies.{pictured};
-ghost use Rattle.stock_desk.specs.Takings.{IsPutBack};
+ghost use Rattle.stock_desk.specs.Takings.{Takes, IsPutBack};
 
-use crate::calls::free_over;
+use crate::calls::{alloc_over, carve_over, free_over};
 use crate::supplies::Supply;
 use arena_tree::Tree;
-use deed_core::{PlainDeed, Segment};
+use deed_core::{PlainDeed, Request, Segment};
 use local_parts::{CpuCaches, Local};
 use std::alloc::Global;
 use stock::Stock;
+use tag_arena::ArenaFault;
 
 impl Supply {
+    /// Gives a segment of the arena for a request: through the caches and by imports, where it is
+    /// unconstrained.
+    pub(crate) fn take(
+        &mut self,
+        arena: u32,
+        request: &Request,
+    ) -> Result<Segment<PlainDeed>, ArenaFault>
+        requires held { (b : BookState) × IsHeld [] (pictured b self.old) }
+        requires within { arena < length self.old.tree }
+        ensures { (b : BookState) (x : TreeArena) → IsHeld [] (pictured b self.old)
+            → slice_get self.old.tree arena ≡ Some x
+            → Takes arena x request.now result (pictured b self.old) (pictured b self.new) }
+    {
+        if request.is_constrained() {
+            self.carve(arena, request)
+        } else {
+            self.allocate(arena, request.size)
+        }
+    }
+
+    /// Gives a segment of the arena for a request that says where it may stand. It never imports.
+    fn carve(&mut self, arena: u32, request: &Request) -> Result<Segment<PlainDeed>, ArenaFault>
+        requires held { (b : BookState) × IsHeld [] (pictured b self.old) }
+        requires within { arena < length self.old.tree }
+        requires constrained { ¬ IsPlain request.now }
+        ensures { (b : BookState) (x : TreeArena) → IsHeld [] (pictured b self.old)
+            → slice_get self.old.tree arena ≡ Some x
+            → Takes arena x request.now result (pictured b self.old) (pictured b self.new) }
+    {
+        let place = self.place();
+        let cpu = &mut self.cpus[place];
+        carve_with(
+            self.alloc,
+            &self.tree,
+            &mut self.stock,
+            &mut cpu.caches,
+            arena,
+            request,
+        )
+    }
+
+    /// Gives so many units of the arena, through its caches and by imports.
+    fn allocate(&mut self, arena: u32, size: u64) -> Result<Segment<PlainDeed>, ArenaFault>
+        requires held { (b : BookState) × IsHeld [] (pictured b self.old) }
+        requires within { arena < length self.old.tree }
+        ensures { (b : BookState) (x : TreeArena) → IsHeld [] (pictured b self.old)
+            → slice_get self.old.tree arena ≡ Some x
+            → Takes arena x (plain_of size) result (pictured b self.old) (pictured b self.new) }
+    {
+        let place = self.place();
+        let cpu = &mut self.cpus[place];
+        alloc_with(
+            self.alloc,
+            &self.tree,
+            &mut self.stock,
+            &mut cpu.caches,
+            arena,
+            size,
+        )
+    }
+
     /// Takes a segment back: a round into the selected CPU's magazines, where that can be.
     pub(crate) fn put_back(&mut self, segment: Segment<PlainDeed>)
         requires held { (b : BookState) × IsHeld (segment ∷ []) (pictured b self.old) }
@@ -35,6 +100,74 @@ impl Supply {
             segment,
         );
     }
+}
+
+/// Gives a segment of the arena that meets the request, over these parts.
+fn carve_with(
+    alloc: Global,
+    tree: &Tree,
+    stock: &mut Stock<PlainDeed>,
+    cpu: &mut CpuCaches<PlainDeed>,
+    arena: u32,
+    request: &Request,
+) -> Result<Segment<PlainDeed>, ArenaFault>
+    requires local { IsLocalOf tree.now (parts_of stock.old cpu.old) }
+    requires arena { arena < length tree.now }
+    requires out { (others : List Tag)
+        × IsAccountedWith (parts_of stock.old cpu.old) None others }
+    ensures ran { RunsTo tree.now (xalloc_plan arena request.now)
+        (parts_of stock.old cpu.old) (parts_of stock.new cpu.new) (carved result) }
+{
+    let mut parts = Local {
+        stock: &mut *stock,
+        cpu: &mut *cpu,
+        tree,
+        alloc,
+        steps: 0,
+    };
+    let given = carve_over(&mut parts, arena, request);
+    let Local {
+        stock: _,
+        cpu: _,
+        tree: _,
+        alloc: _,
+        steps: _,
+    } = parts;
+    given
+}
+
+/// Gives so many units of the arena, over these parts.
+fn alloc_with(
+    alloc: Global,
+    tree: &Tree,
+    stock: &mut Stock<PlainDeed>,
+    cpu: &mut CpuCaches<PlainDeed>,
+    arena: u32,
+    size: u64,
+) -> Result<Segment<PlainDeed>, ArenaFault>
+    requires local { IsLocalOf tree.now (parts_of stock.old cpu.old) }
+    requires arena { arena < length tree.now }
+    requires out { (others : List Tag)
+        × IsAccountedWith (parts_of stock.old cpu.old) None others }
+    ensures ran { RunsTo tree.now (alloc_plan (chain_in tree.now arena) size)
+        (parts_of stock.old cpu.old) (parts_of stock.new cpu.new) (climbed result) }
+{
+    let mut parts = Local {
+        stock: &mut *stock,
+        cpu: &mut *cpu,
+        tree,
+        alloc,
+        steps: 0,
+    };
+    let given = alloc_over(&mut parts, arena, size);
+    let Local {
+        stock: _,
+        cpu: _,
+        tree: _,
+        alloc: _,
+        steps: _,
+    } = parts;
+    given
 }
 
 /// Takes a segment back over these parts.

@@ -12,7 +12,7 @@ unreachable-requires c =
     reap_always_done c.args.parts.now.tree.now _ (parts_of c.args.parts.now.stock.now c.args.parts.now.cpu.now) (parts_of c.reap.new.parts.stock.now c.reap.new.parts.cpu.now) others _ c.requires.local out (ran_here c.args.parts.now.tree.now (λ s. parts_of s.stock.now s.cpu.now) _ _ _ _ (λ s t e x d. d.0) _ _ _ _ (local_nodes c.args.parts.now.tree.now (parts_of c.args.parts.now.stock.now c.args.parts.now.cpu.now) c.requires.local) c.in-Err.ensures.ran)
 
 pub returns-clause-ran : goal.returns-clause-ran
-returns-clause-ran c = (c.in-Ok.reaping.left, (ran_here c.args.parts.now.tree.now (λ s. parts_of s.stock.now s.cpu.now) _ _ _ _ (λ s t e x d. d.0) _ _ _ _ (local_nodes c.args.parts.now.tree.now (parts_of c.args.parts.now.stock.now c.args.parts.now.cpu.now) c.requires.local) c.in-Ok.ensures.ran))
+returns-clause-ran c = ran_here c.args.parts.now.tree.now (λ s. parts_of s.stock.now s.cpu.now) _ _ _ _ (λ s t e x d. d.0) _ _ _ _ (local_nodes c.args.parts.now.tree.now (parts_of c.args.parts.now.stock.now c.args.parts.now.cpu.now) c.requires.local) c.in-Ok.ensures.ran
 
 pub returns-clause-same_stock : goal.returns-clause-same_stock
 returns-clause-same_stock c = ran_leaves _ _ _ _ (λ s. s.stock.ghost_name) (λ s e x t d. d.1) _ _ _ _ c.reap.ensures.ran

@@ -1,0 +1,37 @@
+//! CPUs that go offline.
+ghost use Rattle.std.specs.Prelude.{◌≡◌, ◌≢◌, [], None, OnOk, OnErr};
+ghost use Rattle.std.specs.List.{find};
+ghost use Rattle.lease_book.specs.BookState.{BookState};
+ghost use Rattle.lease_machine.specs.Held.{IsHeld};
+ghost use Rattle.lease_machine.specs.Picture.{is_cpu};
+ghost use Rattle.stock_desk.specs.Operating.{IsOffline};
+ghost use Rattle.stock_desk.specs.Supplies.{pictured};
+
+use crate::cpus::{FIRST_ROUNDS, place_of};
+use crate::emptyings::empty;
+use crate::supplies::Supply;
+use lease_proto::CpuNumber;
+use local_parts::CpuCaches;
+use std::alloc::AllocError;
+use std::mem;
+
+impl Supply {
+    /// Puts all rounds of the CPU of this number into their slabs, and has it begin anew; nothing
+    /// where it was never made. Out of memory, for its new magazines, changes nothing.
+    pub(crate) fn offline(&mut self, number: CpuNumber) -> Result<(), AllocError>
+        requires held { (b : BookState) × IsHeld [] (pictured b self.old) }
+        ensures ok { OnOk result ((b : BookState) → IsHeld [] (pictured b self.old)
+            → IsOffline number (pictured b self.old) (pictured b self.new)) }
+        ensures err { OnErr result ((find (is_cpu number) self.old.cpus ≢ None)
+            × (self.new ≡ self.old)) }
+    {
+        let Some(place) = place_of(self.cpus.as_slice(), number) else {
+            return Ok(());
+        };
+        let fresh = CpuCaches::new(self.alloc, &self.stock, FIRST_ROUNDS)?;
+        let cpu = &mut self.cpus[place];
+        let old = mem::replace(&mut cpu.caches, fresh);
+        empty(self.alloc, &self.tree, &mut self.stock, old);
+        Ok(())
+    }
+}

@@ -1,0 +1,80 @@
+//! What depots and slabs no longer need.
+ghost use Rattle.std.specs.Prelude.{◌≡◌, ◌-◌, ◌^◌, List, [], None, Ok};
+ghost use Rattle.deed_core.specs.Tag.{Tag};
+ghost use Rattle.quantum_cache.specs.Reaps.{reap_plan};
+ghost use Rattle.local_calls.specs.Runs.{IsLocalOf, IsAccountedWith, RunsTo};
+ghost use Rattle.lease_book.specs.BookState.{BookState};
+ghost use Rattle.lease_machine.specs.Held.{IsHeld};
+ghost use Rattle.stock_desk.specs.Operating.{IsReapedOnce, IsReapedSo};
+ghost use Rattle.stock_desk.specs.Parts.{parts_of};
+ghost use Rattle.stock_desk.specs.Supplies.{pictured};
+
+use crate::calls::reap_over;
+use crate::supplies::Supply;
+use arena_tree::Tree;
+use deed_core::PlainDeed;
+use local_parts::{CpuCaches, Local};
+use quantum_cache::Reaping;
+use std::alloc::Global;
+use stock::Stock;
+
+impl Supply {
+    /// Puts the rounds that depots may let go into their slabs, and frees the slabs of which no
+    /// chunk is out. It gives how many units these slabs had.
+    pub(crate) fn reap(&mut self) -> u128
+        requires held { (b : BookState) × IsHeld [] (pictured b self.old) }
+        ensures { (b : BookState) → IsHeld [] (pictured b self.old)
+            → IsReapedSo result (pictured b self.old) (pictured b self.new) }
+    {
+        let mut units: u128 = 0;
+        'turns: loop {
+            let reaping = self.reap_once();
+            units += reaping.units;
+            if reaping.left > 0 {
+                return units;
+            }
+        }
+    }
+
+    /// Reaps until nothing is left to reap, or 2^64 - 1 looks were taken.
+    fn reap_once(&mut self) -> Reaping
+        requires held { (b : BookState) × IsHeld [] (pictured b self.old) }
+        ensures { (b : BookState) → IsHeld [] (pictured b self.old)
+            → IsReapedOnce result (pictured b self.old) (pictured b self.new) }
+    {
+        let place = self.place();
+        let cpu = &mut self.cpus[place];
+        reap_with(self.alloc, &self.tree, &mut self.stock, &mut cpu.caches)
+    }
+}
+
+/// Reaps all caches of all arenas over these parts, by at most 2^64 - 1 looks.
+fn reap_with(
+    alloc: Global,
+    tree: &Tree,
+    stock: &mut Stock<PlainDeed>,
+    cpu: &mut CpuCaches<PlainDeed>,
+) -> Reaping
+    requires local { IsLocalOf tree.now (parts_of stock.old cpu.old) }
+    requires out { (others : List Tag)
+        × IsAccountedWith (parts_of stock.old cpu.old) None others }
+    ensures ran { RunsTo tree.now (reap_plan tree.now (2 ^ 64 - 1))
+        (parts_of stock.old cpu.old) (parts_of stock.new cpu.new) (Ok result) }
+{
+    let mut parts = Local {
+        stock: &mut *stock,
+        cpu: &mut *cpu,
+        tree,
+        alloc,
+        steps: 0,
+    };
+    let reaping = reap_over(&mut parts);
+    let Local {
+        stock: _,
+        cpu: _,
+        tree: _,
+        alloc: _,
+        steps: _,
+    } = parts;
+    reaping
+}
