@@ -2,9 +2,9 @@
 //! together answer the lines of the lease protocol and of its operator. Of it stand the calls over
 //! one thread's parts (calls), an operator's choice of a CPU (cpus), his intervals and magazine
 //! sizes (depots), what he is told of the arenas and clients (telling), replies (answers,
-//! settling), segments that are taken back (supplies, takings), hellos (hellos) and releases (releasing),
-//! a supply's begin (openings), and how leases (returns), CPUs (emptyings) and the stock (closings)
-//! end.
+//! settling), segments that are taken back (supplies, takings), hellos (hellos) and releases
+//! (releasing), a supply's begin (openings), and how leases (returns), CPUs (emptyings) and the
+//! stock (closings) end.
 #![tactic(auto)]
 
 mod answers;
