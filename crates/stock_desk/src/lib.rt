@@ -5,6 +5,9 @@
 //! settling), segments that are given and taken back (supplies, takings), CPUs that go offline
 //! (offlines), what is reaped (reapings), and how leases (returns), CPUs (emptyings) and the stock
 //! (closings) end.
+//! settling), segments that are taken back (supplies, takings), hellos (hellos) and releases
+//! (releasing), a supply's begin (openings), and how leases (returns), CPUs (emptyings) and the
+//! stock (closings) end.
 #![tactic(auto)]
 
 mod answers;
@@ -15,6 +18,9 @@ mod depots;
 mod emptyings;
 mod offlines;
 mod reapings;
+mod hellos;
+mod openings;
+mod releasing;
 mod returns;
 mod settling;
 mod supplies;
