@@ -11,7 +11,7 @@ use std::marker::Model;
 use stock::Stock;
 
 /// How many rounds the magazines of a new CPU take.
-const FIRST_ROUNDS: usize = 3;
+pub(crate) const FIRST_ROUNDS: usize = 3;
 
 /// A CPU by its number, with its caches of each arena. It is never copied or dropped.
 pub(crate) struct Cpu {

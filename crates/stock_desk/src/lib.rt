@@ -2,8 +2,8 @@
 //! together answer the lines of the lease protocol and of its operator. Of it stand the calls over
 //! one thread's parts (calls), an operator's choice of a CPU (cpus), his intervals and magazine
 //! sizes (depots), what he is told of the arenas and clients (telling), replies (answers,
-//! settling), segments that are taken back (supplies, takings), and how leases (returns), CPUs
-//! (emptyings) and the stock (closings) end.
+//! settling), segments that are taken back (supplies, takings), what a setup gives (openings), and
+//! how leases (returns), CPUs (emptyings) and the stock (closings) end.
 #![tactic(auto)]
 
 mod answers;
@@ -12,6 +12,7 @@ mod closings;
 mod cpus;
 mod depots;
 mod emptyings;
+mod openings;
 mod returns;
 mod settling;
 mod supplies;

@@ -1,0 +1,65 @@
+//! A supply, as a setup has it.
+ghost use Rattle.std.specs.Prelude.{◌≡◌, [], ◌∷◌, IfOk};
+ghost use Rattle.lease_book.specs.BookState.{BookState, IsHistory};
+ghost use Rattle.lease_machine.specs.Picture.{IsPicture, fresh_cpu};
+ghost use Rattle.lease_machine.specs.RoomLaws.{NothingIsKept};
+ghost use Rattle.stock_desk.specs.Openings.{IsOpenedFrom};
+ghost use Rattle.stock_desk.specs.Supplies.{pictured};
+
+use crate::closings::close_stock;
+use crate::cpus::{Cpu, FIRST_ROUNDS};
+use crate::supplies::Supply;
+use arena_tree::Setup;
+use deed_core::PlainDeed;
+use lease_proto::CpuNumber;
+use local_parts::CpuCaches;
+use std::alloc::{AllocError, Global};
+use stock::{Stock, plain_stock};
+
+/// The arenas of a setup with their caches and spans, all free, and the first CPU, selected. Memory
+/// alone can be refused, and then what was made is closed.
+pub(crate) fn open_supply(alloc: Global, setup: Setup) -> Result<Supply, AllocError>
+    ensures opened { IfOk result (λ supply. (b : BookState) → IsHistory [] b
+        → IsOpenedFrom setup (pictured b supply)) }
+    ensures picture { IfOk result (λ supply. (b : BookState) → IsHistory [] b
+        → IsPicture (pictured b supply)) }
+    ensures unused { IfOk result (λ supply. (b : BookState) → IsHistory [] b
+        → NothingIsKept (pictured b supply)) }
+{
+    // For its clause: what is so of every tree.
+    let _ = setup.tree();
+    let stock = plain_stock(alloc, &setup, FIRST_ROUNDS)?;
+    // For its clause: what is always so of a stock.
+    let _ = stock.count();
+    match first_cpu(alloc, &stock) {
+        Ok(cpus) => Ok(Supply {
+            alloc,
+            tree: setup.into_tree(),
+            stock,
+            cpus,
+            selected: CpuNumber::FIRST,
+        }),
+        Err(error) => {
+            close_stock(stock);
+            Err(error)
+        }
+    }
+}
+
+/// The first CPU alone.
+fn first_cpu(alloc: Global, stock: &Stock<PlainDeed>) -> Result<Vec<Cpu>, AllocError>
+    ensures { IfOk result (λ cpus. cpus.items ≡ fresh_cpu 0 stock.now ∷ []) }
+{
+    let mut cpus = Vec::with_capacity(alloc, 1)?;
+    match CpuCaches::new(alloc, stock, FIRST_ROUNDS) {
+        Ok(caches) => {
+            let number = CpuNumber::FIRST;
+            cpus.push_reserved(Cpu { number, caches });
+            Ok(cpus)
+        }
+        Err(error) => {
+            cpus.destroy_empty();
+            Err(error)
+        }
+    }
+}
