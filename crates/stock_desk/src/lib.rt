@@ -3,7 +3,8 @@
 //! one thread's parts (calls), an operator's choice of a CPU (cpus), his intervals and magazine
 //! sizes (depots), what he is told of the arenas and clients (telling), replies (answers,
 //! settling), segments that are taken back (supplies, takings), what a setup gives (openings), and
-//! how leases (returns), CPUs (emptyings) and the stock (closings) end.
+//! how leases (returns), CPUs (emptyings) and the stock (closings) end. The desk itself stands in
+//! desks.
 #![tactic(auto)]
 
 mod answers;
@@ -11,6 +12,7 @@ mod calls;
 mod closings;
 mod cpus;
 mod depots;
+mod desks;
 mod emptyings;
 mod openings;
 mod returns;
@@ -18,3 +20,5 @@ mod settling;
 mod supplies;
 mod takings;
 mod telling;
+
+pub use desks::Desk;
