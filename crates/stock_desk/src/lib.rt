@@ -2,9 +2,9 @@
 //! together answer the lines of the lease protocol and of its operator. Of it stand the calls over
 //! one thread's parts (calls), an operator's choice of a CPU (cpus), his intervals and magazine
 //! sizes (depots), what he is told of the arenas and clients (telling), replies (answers,
-//! settling), segments that are taken back (supplies, takings), what a setup gives (openings), and
-//! how leases (returns), CPUs (emptyings) and the stock (closings) end. The desk itself stands in
-//! desks.
+//! settling), segments that are taken back (supplies, takings), hellos and releases (hellos,
+//! releasing), what a setup gives (openings), and how leases (returns), CPUs (emptyings) and the
+//! stock (closings) end. The desk itself stands in desks.
 #![tactic(auto)]
 
 mod answers;
@@ -14,7 +14,9 @@ mod cpus;
 mod depots;
 mod desks;
 mod emptyings;
+mod hellos;
 mod openings;
+mod releasing;
 mod returns;
 mod settling;
 mod supplies;
