@@ -1,19 +1,45 @@
--- The first picture.
-use Rattle.std.proofs.Common.{◌≡◌, ℕ, sym, subst, List, [], ◌∷◌}
+-- What a setup gives is a picture, of which nothing is kept.
+use Rattle.std.proofs.Common.{◌≡◌, sym, subst, ap, ◌∙◌, List, [], ◌∷◌, length, All, arith}
+use Rattle.std.specs.List.{flat_map}
+use Rattle.std.proofs.lemmas.List.{append-nil}
+use Rattle.deed_core.specs.Holding.{Holding}
+use Rattle.deed_core.proofs.LawProofs.{all_at, all_from}
+use Rattle.magazine_layer.specs.Depots.{depot_rounds}
 use Rattle.arena_tree.specs.declared.trees.TreeArena.{TreeArena}
 use Rattle.arena_tree.specs.Settings.{SetupState}
 use Rattle.arena_tree.specs.Trees.{IsTree}
-use Rattle.stock.specs.Accounts.{Accounts}
-use Rattle.stock.specs.Setups.{plans_for}
-use Rattle.stock.specs.Spaces.{plans_of}
-use Rattle.stock.specs.Stocks.{IsStock}
-use Rattle.lease_book.specs.BookState.{BookState, IsHistory}
-use Rattle.lease_machine.specs.Picture.{Cpu, IsPicture, fresh_cpu}
-use Rattle.lease_machine.proofs.LawProofs.{fresh_is_picture}
-use Rattle.stock_desk.specs.Supplies.{SupplyState, IsSupplyOf, pictured}
+use Rattle.stock.specs.Accounts.{IsAccounted}
+use Rattle.stock.specs.Endings.{IsReaped, IsReapedCache}
+use Rattle.stock.specs.Setups.{IsSetUpFrom, IsNewCache, plans_for}
+use Rattle.stock.specs.Spaces.{SpaceState}
+use Rattle.stock_audit.specs.Outside.{all_rounds_out}
+use Rattle.lease_book.specs.BookState.{BookState, IsHistory, leased_by}
+use Rattle.lease_machine.specs.Picture.{Cpu, Picture, IsPicture, caches_of, fresh_cpu}
+use Rattle.lease_machine.specs.RoomLaws.{NothingIsKept}
+use Rattle.lease_machine.proofs.LawProofs.{fresh_is_picture, fresh_cpu_fits}
 
-pub opened_is_picture : (setup : SetupState) (s : SupplyState) → IsSupplyOf setup s → IsTree setup.arenas → IsStock s.spaces → Accounts s.spaces [] → (b : BookState) → IsHistory [] b → IsPicture (pictured b s)
-opened_is_picture setup s is tree stock accounts b history =
-    let first = fresh_is_picture s.tree s.spaces b (subst IsTree (sym is.tree) tree) (subst (λ (ts : List TreeArena). plans_of s.spaces ≡ plans_for ts) (sym is.tree) is.stock.plans) (record { stock = stock; accounts = accounts }) history in
-    subst (λ (cs : List Cpu). IsPicture (record { tree = s.tree; spaces = s.spaces; cpus = cs; selected = s.selected; book = b })) (sym is.cpus)
-    (subst (λ (n : ℕ). IsPicture (record { tree = s.tree; spaces = s.spaces; cpus = fresh_cpu 0 s.spaces ∷ []; selected = n; book = b })) (sym is.selected) first)
+module _ (setup : SetupState) (deeds : List Holding) (spaces : List SpaceState) (up : IsSetUpFrom setup deeds 3 spaces) where
+  -- no cache of it has anything
+  all_reaped : All IsReaped spaces
+  all_reaped = all_from IsReaped spaces (λ k s at. all_from IsReapedCache s.caches (λ j c among.
+      (let new = all_at (IsNewCache 3) s.caches j c (up.unused k s at).caches among in
+      record {
+        rounds = ap depot_rounds new.depot;
+        slabs = λ i s below. absurd (omega (arith, below, ap length new.slabs));
+      })))
+
+  module _ (tree : List TreeArena) (cpus : List Cpu) (b : BookState) (named : tree ≡ setup.arenas) (one : cpus ≡ fresh_cpu 0 spaces ∷ []) (history : IsHistory [] b) where
+    abbrev begun : List Cpu → Picture
+    begun cs = record { tree = tree; spaces = spaces; cpus = cs; selected = 0; book = b }
+
+    pub begins_picture : IsTree setup.arenas → IsAccounted spaces [] → IsPicture (begun cpus)
+    begins_picture is accounted =
+        subst (λ (cs : List Cpu). IsPicture (begun cs)) (sym one)
+        (fresh_is_picture tree spaces b (subst IsTree (sym named) is) (up.plans ∙ ap plans_for (sym named)) accounted history)
+
+    pub begins_unused : NothingIsKept (begun cpus)
+    begins_unused = record {
+      leases = ap leased_by history.accounts;
+      rounds = ap (λ (cs : List Cpu). all_rounds_out (flat_map caches_of cs)) one ∙ ap all_rounds_out (append-nil (caches_of (fresh_cpu 0 spaces))) ∙ fresh_cpu_fits.none spaces 0;
+      reaped = all_reaped;
+    }

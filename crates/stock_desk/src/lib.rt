@@ -2,12 +2,10 @@
 //! together answer the lines of the lease protocol and of its operator. Of it stand the calls over
 //! one thread's parts (calls), an operator's choice of a CPU (cpus), his intervals and magazine
 //! sizes (depots), what he is told of the arenas and clients (telling), replies (answers,
-//! settling), segments that are given and taken back (supplies, takings), CPUs that go offline
-//! (offlines), what is reaped (reapings), and how leases (returns), CPUs (emptyings) and the stock
-//! (closings) end.
-//! settling), segments that are taken back (supplies, takings), hellos (hellos) and releases
-//! (releasing), a supply's begin (openings), and how leases (returns), CPUs (emptyings) and the
-//! stock (closings) end.
+//! settling), segments that are given and taken back (supplies, takings), hellos and releases
+//! (hellos, releasing), CPUs that go offline (offlines), what is reaped (reapings), what a setup
+//! gives (openings), and how leases (returns), CPUs (emptyings) and the stock (closings) end. The
+//! desk itself stands in desks.
 #![tactic(auto)]
 
 mod answers;
@@ -15,14 +13,17 @@ mod calls;
 mod closings;
 mod cpus;
 mod depots;
+mod desks;
 mod emptyings;
-mod offlines;
-mod reapings;
 mod hellos;
+mod offlines;
 mod openings;
+mod reapings;
 mod releasing;
 mod returns;
 mod settling;
 mod supplies;
 mod takings;
 mod telling;
+
+pub use desks::Desk;

@@ -1,33 +1,36 @@
 //! A supply, as a setup has it.
-ghost use Rattle.std.specs.Prelude.{◌≡◌, ◌∷◌, [], IfOk};
+ghost use Rattle.std.specs.Prelude.{◌≡◌, [], ◌∷◌, IfOk};
 ghost use Rattle.lease_book.specs.BookState.{BookState, IsHistory};
 ghost use Rattle.lease_machine.specs.Picture.{IsPicture, fresh_cpu};
-ghost use Rattle.stock_desk.specs.Supplies.{IsSupplyOf, pictured};
+ghost use Rattle.lease_machine.specs.RoomLaws.{NothingIsKept};
+ghost use Rattle.stock_desk.specs.Openings.{IsOpenedFrom};
+ghost use Rattle.stock_desk.specs.Supplies.{pictured};
 
 use crate::closings::close_stock;
 use crate::cpus::{Cpu, FIRST_ROUNDS};
 use crate::supplies::Supply;
-use arena_tree::{MOST_ARENAS, MOST_SPANS, Setup};
+use arena_tree::Setup;
 use deed_core::PlainDeed;
 use lease_proto::CpuNumber;
 use local_parts::CpuCaches;
 use std::alloc::{AllocError, Global};
 use stock::{Stock, plain_stock};
 
-/// The root of the book's mark: no span's, since they are numbered from 0 on.
-pub(crate) const MARK: u32 = (MOST_ARENAS * MOST_SPANS) as u32;
-
-/// The arenas of a setup with their caches and spans, all free, and the first CPU, selected. Where
-/// memory is refused, what was made is closed.
+/// The arenas of a setup with their caches and spans, all free, and the first CPU, selected. Memory
+/// alone can be refused, and then what was made is closed.
 pub(crate) fn open_supply(alloc: Global, setup: Setup) -> Result<Supply, AllocError>
-    ensures opened { IfOk result (IsSupplyOf setup) }
-    ensures picture { IfOk result (λ s. (b : BookState) → IsHistory [] b
-        → IsPicture (pictured b s)) }
+    ensures opened { IfOk result (λ supply. (b : BookState) → IsHistory [] b
+        → IsOpenedFrom setup (pictured b supply)) }
+    ensures picture { IfOk result (λ supply. (b : BookState) → IsHistory [] b
+        → IsPicture (pictured b supply)) }
+    ensures unused { IfOk result (λ supply. (b : BookState) → IsHistory [] b
+        → NothingIsKept (pictured b supply)) }
 {
-    let stock = plain_stock(alloc, &setup, FIRST_ROUNDS)?;
-    // For their clauses: what is always so of a stock, and of a setup's arenas.
-    let _ = stock.count();
+    // For its clause: what is so of every tree.
     let _ = setup.tree();
+    let stock = plain_stock(alloc, &setup, FIRST_ROUNDS)?;
+    // For its clause: what is always so of a stock.
+    let _ = stock.count();
     match first_cpu(alloc, &stock) {
         Ok(cpus) => Ok(Supply {
             alloc,
