@@ -6,7 +6,7 @@ pub use Rattle.local_calls.proofs.ReapLooks.{reap_takes_few_looks, reap_without_
 pub use Rattle.local_calls.proofs.CpuPlaces.{reached_here}
 pub use Rattle.local_calls.proofs.Chains.{tree_chain}
 pub use Rattle.local_calls.proofs.NoFits.{no_fit_is_right, xalloc_no_fit_is_right}
-use Rattle.std.proofs.Common.{◌≡◌, ℕ, List, ap, subst, ◌∙◌}
+use Rattle.std.proofs.Common.{◌≡◌, ℕ, ◌<◌, List, length, Some, None, Ok, Err, refl, ap, subst, ◌∙◌}
 use Rattle.arena_tree.specs.declared.trees.TreeArena.{TreeArena}
 use Rattle.arena_tree.specs.Chains.{Node}
 use Rattle.arena_tree.specs.Climbs.{climb_left, return_left}
@@ -15,18 +15,20 @@ use Rattle.arena_tree.specs.Plans.{Plan, Done, Ask, Step, Path}
 use Rattle.arena_tree.specs.Sound.{Sound}
 use Rattle.arena_tree.specs.Trees.{nodes_of}
 use Rattle.quantum_cache.specs.Allocs.{alloc_plan, xalloc_plan}
-use Rattle.quantum_cache.specs.Drains.{drain_plan}
+use Rattle.quantum_cache.specs.Drains.{Drained, drain_plan}
 use Rattle.quantum_cache.specs.Frees.{free_plan}
 use Rattle.quantum_cache.specs.Laws.{carve_left, drain_left, reap_left}
 use Rattle.quantum_cache.specs.Reaps.{ReapEnd, reap_plan}
 use Rattle.quantum_cache.proofs.LawProofs.{alloc_handles, xalloc_handles, free_handles, drain_handles, reap_handles}
+use Rattle.local_parts.specs.Cpus.{HasNoRounds, cpu_rounds}
 use Rattle.local_parts.specs.States.{LocalState}
 use Rattle.local_parts.specs.Steps.{LocalStep}
 use Rattle.local_calls.specs.Asked.{CarvesWell, DoesWell}
-use Rattle.local_calls.specs.Laws.{AllocsWell, DrainsWell, AllocNeverStuck, XallocNeverStops, FreeAlwaysDone, DrainAlwaysDone, ReapAlwaysDone}
+use Rattle.local_calls.specs.Laws.{AllocsWell, DrainsWell, AllocNeverStuck, XallocNeverStops, FreeAlwaysDone, DrainAlwaysDone, DrainWithTurns, ReapAlwaysDone}
 use Rattle.local_calls.specs.Runs.{RunsTo}
 use Rattle.local_calls.proofs.AllocWells.{well_alloc, well_xalloc}
 use Rattle.local_calls.proofs.FreeWells.{well_free}
+use Rattle.local_calls.proofs.DrainTurns.{turns_last}
 use Rattle.local_calls.proofs.EmptyingWells.{well_drain, well_reap}
 use Rattle.local_calls.proofs.Steps.{run_ends_well}
 
@@ -45,6 +47,16 @@ free_always_done arenas chain t old new others a is first local accounted path =
 pub drain_always_done : DrainAlwaysDone
 drain_always_done turns arenas old new others a local accounted path =
     run_ends_well arenas DrainsWell drain_left (drain_plan turns arenas) _ others (drain_handles turns arenas) (well_drain arenas turns) old new a local.plans accounted path
+
+-- the turns don't run out, and nothing is stuck or stops
+pub drain_with_turns : DrainWithTurns
+drain_with_turns turns arenas old new others a local accounted more path =
+    ended a (turns_last arenas turns old new a more path) (drain_always_done turns arenas old new others a local accounted path) path
+  where
+    ended : (r : Drained) → ¬ (r ≡ Err None) → DrainsWell r → RunsTo arenas (drain_plan turns arenas) old new r → (r ≡ Ok tt) × HasNoRounds new.cpu
+    ended (Ok u) last well run = (refl, drain_empties_cpu turns arenas old new local run)
+    ended (Err None) last well run = absurd (last refl)
+    ended (Err (Some f)) last well run = absurd well
 
 pub reap_always_done : ReapAlwaysDone
 reap_always_done arenas limit old new others a local accounted path =

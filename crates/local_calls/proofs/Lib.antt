@@ -13,6 +13,7 @@ mod NoFits
 mod Walks
 mod CpuPlaces
 mod Drained
+mod DrainTurns
 mod ReapSteps
 mod Reaped
 mod Findable

@@ -1,5 +1,5 @@
 -- What the calls of quantum caches come to over one thread's parts.
-use Rattle.std.specs.Prelude.{◌≡◌, ◌<◌, ℕ, List, Some, None, Result, Ok, Err}
+use Rattle.std.specs.Prelude.{◌≡◌, ◌<◌, ℕ, List, length, Some, None, Result, Ok, Err}
 use Rattle.deed_core.specs.Tag.{Tag}
 use Rattle.deed_core.specs.declared.requests.Request.{Request}
 use Rattle.arena_tree.specs.declared.levels.Level.{Level}
@@ -32,7 +32,8 @@ AllocsWell (Err climbing.NoMemory) = Unit {0}
 AllocsWell (Err (climbing.Stuck t)) = ⊥
 AllocsWell (Err (climbing.Stopped o)) = ⊥
 
--- a drain ends with all rounds placed, unless its turns ran out
+-- a drain ends with all rounds placed, unless its turns ran out, of which DrainWithTurns says how
+-- many are enough
 abbrev pub DrainsWell : Drained → Type 0
 DrainsWell (Ok u) = Unit {0}
 DrainsWell (Err None) = Unit {0}
@@ -90,6 +91,14 @@ abbrev pub DrainEmptiesCpu : Type 0
 DrainEmptiesCpu = (turns : ℕ) (arenas : List TreeArena) (old new : LocalState)
     → IsLocalOf arenas old → RunsTo arenas (drain_plan turns arenas) old new (Ok tt)
     → HasNoRounds new.cpu
+
+-- A drain with more turns than the CPU has rounds ends well, whoever else holds segments: its turns
+-- don't run out.
+abbrev pub DrainWithTurns : Type 0
+DrainWithTurns = (turns : ℕ) (arenas : List TreeArena) (old new : LocalState) (others : List Tag)
+    (a : Drained) → IsLocalOf arenas old → IsAccountedWith old None others
+    → length (cpu_rounds old.cpu) < turns → RunsTo arenas (drain_plan turns arenas) old new a
+    → (a ≡ Ok tt) × HasNoRounds new.cpu
 
 -- A reaping that ends before its limit leaves nothing that could be reaped.
 abbrev pub ReapLeavesNothing : Type 0

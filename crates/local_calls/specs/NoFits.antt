@@ -29,7 +29,7 @@ abbrev pub HasNoRoundOf : LocalState → ℕ → ℕ → Type 0
 HasNoRoundOf s arena cache = (j : ℕ) (o : OwnCacheState) → cache ≡ j + 1
     → IsReached s arena j o → BothEmpty o.cpu
 
--- the depot has no full magazine of the CPU's size
+-- where the CPU's magazines are of the depot's size, the depot has no full one
 abbrev pub HasNoFullOf : LocalState → ℕ → ℕ → Type 0
 HasNoFullOf s arena cache = (j : ℕ) (o : OwnCacheState) (c : QuantumCacheState) → cache ≡ j + 1
     → IsReached s arena j o → IsCacheAt s.spaces arena j c → o.cpu.size ≡ c.depot.size
@@ -40,7 +40,7 @@ abbrev pub HasNoChunkOf : List SpaceState → ℕ → ℕ → Type 0
 HasNoChunkOf spaces arena cache = (j : ℕ) (c : QuantumCacheState) → cache ≡ j + 1
     → IsCacheAt spaces arena j c → All IsAllOut c.slab.slabs
 
--- what a cache gives a chunk from is empty, and there is no room for a slab
+-- the cache has no chunk to give, and no address serves for a new slab
 pub record NoneInCache (s : LocalState) (l : Level) (up : List Level) (cache : ℕ) : Type 0 where
   pub magazines : HasNoRoundOf s l.id cache
   pub depot : HasNoFullOf s l.id cache
@@ -51,7 +51,7 @@ abbrev pub NoneInCacheBy : Option ℕ → LocalState → Level → List Level �
 NoneInCacheBy None s l up = Unit {0}
 NoneInCacheBy (Some cache) s l up = NoneInCache s l up cache
 
--- nothing serves an allocation of so many units: not the cache for that size, nor any address
+-- nothing serves an allocation of so many units: neither the cache for that size nor any address
 abbrev pub NothingFits : LocalState → List Level → ℕ → Type 0
 NothingFits s [] size = Unit {0}
 NothingFits s (l ∷ up) size =

@@ -3,7 +3,8 @@
 //! with `run_seen`, by which a call's clause is a list of steps over states.
 ghost use Rattle.local_calls.specs.Laws.{AllocNeverStuck, XallocNeverStops, FreeAlwaysDone};
 ghost use Rattle.local_calls.specs.Laws.{DrainAlwaysDone, ReapAlwaysDone, NoFitIsRight};
-ghost use Rattle.local_calls.specs.Laws.{XallocNoFitIsRight, DrainEmptiesCpu, ReapLeavesNothing};
+ghost use Rattle.local_calls.specs.Laws.{XallocNoFitIsRight, DrainEmptiesCpu, DrainWithTurns};
+ghost use Rattle.local_calls.specs.Laws.{ReapLeavesNothing};
 
 /// Nothing is stuck and nothing stops: what is out can always be freed, and an allocation is
 /// refused with an empty hand.
@@ -23,9 +24,11 @@ pub fn no_fit_laws()
     ensures xalloc { XallocNoFitIsRight }
 {}
 
-/// What a call leaves: a drain no round of the CPU, so that its caches can be closed; a reaping
-/// that has looks left no round and no empty magazine that may go, and no complete slab.
+/// What a call leaves: a drain no round of the CPU, so that its caches can be closed; more turns
+/// than the CPU has rounds are enough. A reaping that has looks left leaves no round and no empty
+/// magazine that may go, and no complete slab.
 pub fn emptied_laws()
     ensures drain { DrainEmptiesCpu }
+    ensures turns { DrainWithTurns }
     ensures reap { ReapLeavesNothing }
 {}

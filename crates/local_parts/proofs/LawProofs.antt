@@ -1,6 +1,7 @@
 -- What the proofs of the crates above cite, and all that they cite, of this crate: the laws of every
 -- list of steps, and how a path over parts that are seen as a state is one over states.
 pub use Rattle.local_parts.proofs.NoRounds.{empty_has_no_rounds}
+pub use Rattle.local_parts.proofs.PopsRounds.{pop_takes_round}
 use Rattle.std.proofs.Common.{◌≡◌, ◌∙◌, refl, sym, subst, ap, ◌++◌, arith}
 use Rattle.std.specs.Option.{option_to_list}
 use Rattle.std.proofs.lemmas.List.Sums.{sum_by-append}

@@ -8,4 +8,5 @@ mod OwnWholes
 mod PartSteps
 mod NewCpus
 mod NoRounds
+mod PopsRounds
 pub mod LawProofs

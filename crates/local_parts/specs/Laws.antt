@@ -1,9 +1,11 @@
 -- What follows of every list of steps over one thread's parts, from what each of its events does.
-use Rattle.std.specs.Prelude.{◌≡◌, ℕ, ◌≤◌, ◌↔◌, List, [], ◌++◌, Option, Some, slice_get}
+use Rattle.std.specs.Prelude.{◌≡◌, ℕ, ◌+◌, ◌≤◌, ◌↔◌, List, [], ◌++◌, length, Option, Some, Ok}
+use Rattle.std.specs.Prelude.{slice_get}
 use Rattle.std.specs.Option.{option_to_list}
 use Rattle.deed_core.specs.Tag.{Tag}
 use Rattle.deed_core.specs.Covering.{covering_held}
 use Rattle.tag_arena.specs.ArenaState.{spans_of}
+use Rattle.arena_tree.specs.Events.{Pop}
 use Rattle.arena_tree.specs.Plans.{Plan, Path, Handles}
 use Rattle.stock.specs.Spaces.{SpaceState}
 use Rattle.stock.specs.Accounts.{IsAccounted}
@@ -45,3 +47,9 @@ PlanInOnePlace A = (left : A → Option Tag) (p : Plan A) (hand : Option Tag) �
 -- A CPU's magazines are all empty just where it holds nothing that is out of the stock.
 abbrev pub EmptyHasNoRounds : Type 0
 EmptyHasNoRounds = (cpu : List (List OwnCacheState)) → HasNoRounds cpu ↔ (cpu_rounds cpu ≡ [])
+
+-- A pop that gives a round leaves the CPU one round less.
+abbrev pub PopTakesRound : Type 0
+PopTakesRound = (old new : LocalState) (arena cache : ℕ) (t : Tag)
+    → LocalStep old (Pop arena cache) (Ok (Some t)) new
+    → length (cpu_rounds new.cpu) + 1 ≡ length (cpu_rounds old.cpu)

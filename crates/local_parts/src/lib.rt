@@ -12,7 +12,7 @@
 //! they have no round.
 //!
 //! `laws` has what follows of every list of steps: it conserves units whoever else holds
-//! segments, leaves the setup alone, and leaves each unit in one place.
+//! segments, leaves the setup alone, and leaves each unit in one place. A pop takes one round.
 //!
 //! An event takes constant time beside what its part takes. To make a CPU's caches, and to end
 //! them, goes over all of them.
@@ -28,5 +28,5 @@ mod own_changes;
 mod own_events;
 
 pub use cpu_caches::CpuCaches;
-pub use laws::{empty_cpu_law, local_laws};
+pub use laws::{empty_cpu_law, local_laws, pop_law};
 pub use locals::Local;
