@@ -1,2 +1,3 @@
 pub mod Replying
 pub mod Connections
+pub mod Workers

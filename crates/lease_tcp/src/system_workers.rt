@@ -1,0 +1,97 @@
+//! A worker of a running system.
+ghost use Rattle.std.specs.Prelude.{◌≡◌};
+
+use crate::loops::worker_loop;
+use crate::workers::Worker;
+use deed_table::Name;
+use lease_proto::{Line, Reply};
+use lease_threads::{Cpu, OpenGate, System};
+use std::alloc::Global;
+use std::marker::Model;
+use std::net::TcpListener;
+use std::sync::Wait;
+use std::sync::atomic::AtomicBool;
+use std::time::Clock;
+
+/// In how many steps a worker reaps an arena after a connection, at most.
+pub const REAP_LIMIT: u64 = 1024;
+
+/// A worker that answers by a system which others share, over a CPU of its own. `into_cpu` ends it.
+/// A contract sees the arenas of its system and its CPU.
+pub struct SystemWorker<'a, N: Name, R: Wait> {
+    rt: &'a R,
+    system: &'a System<N>,
+    cpu: Cpu<N>,
+}
+
+impl<'a, N: Name, R: Wait> Model for SystemWorker<'a, N, R> {
+    ghost use Rattle.lease_tcp.specs.Workers.{WorkerState};
+
+    ghost Value = { WorkerState };
+
+    ghost view = { λ w. record { arenas = w.system.now.arenas; cpu = w.cpu } };
+}
+
+impl<'a, N: Name, R: Wait> SystemWorker<'a, N, R> {
+    /// A worker of this system. The CPU is one of it.
+    pub fn new(rt: &'a R, system: &'a System<N>, cpu: Cpu<N>) -> SystemWorker<'a, N, R>
+        ensures arenas { result.arenas ≡ system.entry.now.arenas }
+        ensures cpu { result.cpu ≡ cpu }
+    {
+        SystemWorker { rt, system, cpu }
+    }
+
+    /// Its CPU, with what the CPU's hand and magazines hold.
+    pub fn into_cpu(self) -> Cpu<N>
+        ensures { result ≡ self.entry.cpu }
+    {
+        let SystemWorker {
+            rt: _,
+            system: _,
+            cpu,
+        } = self;
+        cpu
+    }
+}
+
+impl<N: Name, R: Wait> Worker for SystemWorker<'_, N, R> {
+    ghost use Rattle.std.specs.Prelude.{◌≡◌};
+    ghost use Rattle.lease_tcp.specs.Workers.{MayReply};
+
+    ghost may_reply = { MayReply };
+
+    ghost may_tidy = { λ old new. new.arenas ≡ old.arenas };
+
+    fn reply(&mut self, line: &Line) -> Reply {
+        match self.system.request(self.rt, &mut self.cpu, &OpenGate, line) {
+            Ok((reply, _)) => reply,
+            Err(_) => unreachable!(),
+        }
+    }
+
+    fn tidy(&mut self) {
+        reap_each(self.rt, self.system, &mut self.cpu);
+        self.system.tick(self.rt);
+    }
+}
+
+// Reaps each arena. Children come before their sources: what they hand back can be reaped there.
+fn reap_each<N: Name, R: Wait>(rt: &R, system: &System<N>, cpu: &mut Cpu<N>) {
+    for arena in (0..system.tree().len() as u32).rev() {
+        let _ = system.reap(rt, cpu, arena, REAP_LIMIT);
+    }
+}
+
+/// Serves one connection of the listener after another by the system, as `worker_loop` does, and
+/// gives the CPU back once the flag is raised and the accepted connection has ended.
+pub fn accept_loop<N: Name, R: Wait + Clock>(
+    rt: &R,
+    alloc: Global,
+    listener: &TcpListener,
+    system: &System<N>,
+    cpu: Cpu<N>,
+    stop: &AtomicBool,
+) -> Cpu<N> {
+    let worker = SystemWorker::new(rt, system, cpu);
+    worker_loop(rt, alloc, listener, worker, stop).into_cpu()
+}
