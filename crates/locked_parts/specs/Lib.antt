@@ -1,0 +1,4 @@
+pub mod Gates
+pub mod Kinds
+pub mod States
+pub mod Answers
