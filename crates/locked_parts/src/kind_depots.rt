@@ -1,9 +1,10 @@
 //! A depot as its lock keeps it, and its exchanges with a CPU.
-ghost use Rattle.std.specs.Prelude.{◌≡◌, ◌≢◌, ◌<◌, ◌↔◌, [], Some, Err, OnErr, IsOk, IfSome, IfErr, OnOk};
+ghost use Rattle.std.specs.Prelude.{◌≡◌, ◌≢◌, ◌<◌, ◌↔◌, [], Some, Err, IsOk, IfSome, IfErr, OnOk};
 ghost use Rattle.magazine_layer.specs.Magazines.{IsSize, BothFull};
 ghost use Rattle.magazine_layer.specs.Depots.{new_depot, after_tick, depot_rounds};
 ghost use Rattle.magazine_layer.specs.Calls.{DepotReapOf, ResizeOf};
 ghost use Rattle.locked_parts.specs.Kinds.{IsOfKind};
+ghost use Rattle.locked_parts.specs.Swaps.{GivesFull, GivesEmpty, TakesFull};
 
 use crate::cpu_rounds::KindRounds;
 use crate::kinds::CacheKind;
@@ -53,8 +54,8 @@ impl<D: Deed> KindDepot<D> {
     /// Gives a CPU of this cache, whose magazines are both empty, a full one. Another CPU finds
     /// none.
     pub(crate) fn swap_full(&mut self, cpu: &mut KindRounds<D>) -> Result<(), SwapFullFault>
+        ensures event { GivesFull cpu.old self.old result cpu.new self.new }
         ensures kind { cpu.new.kind ≡ cpu.old.kind }
-        ensures unchanged { OnErr result (cpu.new ≡ cpu.old) }
         ensures goes { result ≢ Err SwapFullFault.Stopped }
     {
         if !self.kind.is(&cpu.kind) || !cpu.is_empty() {
@@ -70,8 +71,8 @@ impl<D: Deed> KindDepot<D> {
     /// Gives a CPU of this cache, whose magazines are both full, an empty one. Another CPU finds
     /// none.
     pub(crate) fn swap_empty(&mut self, cpu: &mut KindRounds<D>) -> Result<(), SwapEmptyFault>
+        ensures event { GivesEmpty cpu.old self.old result cpu.new self.new }
         ensures kind { cpu.new.kind ≡ cpu.old.kind }
-        ensures unchanged { OnErr result (cpu.new ≡ cpu.old) }
         ensures goes { result ≢ Err SwapEmptyFault.Stopped }
     {
         if !self.kind.is(&cpu.kind) || !cpu.cpu.is_full() {
@@ -91,8 +92,8 @@ impl<D: Deed> KindDepot<D> {
         magazine: Magazine<D>,
     ) -> Result<(), SwapFreshFault>
         requires { magazine.rounds ≡ [] }
+        ensures event { TakesFull magazine cpu.old self.old result cpu.new self.new }
         ensures kind { cpu.new.kind ≡ cpu.old.kind }
-        ensures unchanged { OnErr result (cpu.new ≡ cpu.old) }
         ensures goes { result ≢ Err SwapFreshFault.Stopped }
     {
         if !self.kind.is(&cpu.kind) || !cpu.cpu.is_full() {

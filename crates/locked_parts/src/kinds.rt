@@ -34,7 +34,7 @@ impl CacheKind {
 
     /// Whether it is the same.
     pub fn is(&self, other: &CacheKind) -> bool
-        ensures { IsTrue result → self.now ≡ other.now }
+        ensures { IsTrue result ↔ (self.now ≡ other.now) }
     {
         self.arena == other.arena && self.number == other.number && self.quantum == other.quantum
     }
