@@ -1,10 +1,4 @@
-mod RoundLaws
-mod Imports
 mod Receipts
-mod Sounds
 mod Runs
-mod Lengths
 mod Ends
-mod Slabs
 mod Spans
-mod Wholes

@@ -1,6 +1,3 @@
-pub mod Gates
-pub mod Kinds
-pub mod Answers
 pub mod Systems
 pub mod Hands
 pub mod Openings

@@ -1,6 +1,6 @@
 -- A system as it is made.
-use Rattle.std.specs.Prelude.{◌≡◌, ℕ, ◌*◌, ◌/◌, ◌<◌, ◌≤◌, List, AllPairs, length, map, min}
-use Rattle.std.specs.Prelude.{Option, Some, None, slice_get, slice_index_or}
+use Rattle.std.specs.Prelude.{◌≡◌, ℕ, ◌*◌, ◌<◌, ◌≤◌, List, AllPairs, length, map}
+use Rattle.std.specs.Prelude.{Option, slice_index_or}
 use Rattle.std.specs.List.{flat_map}
 use Rattle.std.specs.Option.{option_to_list}
 use Rattle.deed_core.specs.Extent.{Extent}
@@ -8,7 +8,6 @@ use Rattle.deed_core.specs.Holding.{Holding}
 use Rattle.arena_tree.specs.Settings.{SetupState}
 use Rattle.arena_tree.specs.declared.limits.TheConstants.{MOST_SPANS}
 use Rattle.arena_tree.specs.declared.setups.OwnedSpan.{OwnedSpan}
-use Rattle.arena_tree.specs.declared.trees.TreeArena.{TreeArena}
 use Rattle.lease_threads.specs.Systems.{SystemState}
 use Rattle.lease_threads.specs.declared.openings.SystemFault.{SystemFault}
 use Rattle.lease_threads.specs.declared.openings.SystemFault.TheVariants.{Span, NoMemory}
@@ -44,11 +43,3 @@ RefusesSystem setup (NoMemory same) = (same ≡ setup) × OneSpanEach setup.span
 -- those of the arenas that own a span
 abbrev pub roots_of : List (Option Holding) → List Holding
 roots_of roots = flat_map option_to_list roots
-
--- how many quantum caches an arena has
-abbrev pub caches_if : Option TreeArena → ℕ
-caches_if None = 0
-caches_if (Some x) = min (x.qcache_max / x.quantum) 255
-
-abbrev pub caches_of : List TreeArena → ℕ → ℕ
-caches_of arenas id = caches_if (slice_get arenas id)

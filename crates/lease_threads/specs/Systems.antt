@@ -1,13 +1,13 @@
 -- What a contract sees of a system and of a CPU.
-use Rattle.std.specs.Prelude.{ℕ, ◌+◌, List, Option, map, sum_by}
+use Rattle.std.specs.Prelude.{◌≡◌, ℕ, ◌+◌, List, All, Option, None, map, sum_by}
 use Rattle.std.specs.Option.{option_to_list}
 use Rattle.deed_core.specs.Covering.{units_tagged}
 use Rattle.deed_core.specs.Extent.{Extent}
 use Rattle.deed_core.specs.Holding.{Holding}
 use Rattle.deed_core.specs.Tag.{Tag}
-use Rattle.magazine_layer.specs.Magazines.{cache_rounds}
+use Rattle.magazine_layer.specs.Magazines.{BothEmpty, cache_rounds}
 use Rattle.arena_tree.specs.declared.trees.TreeArena.{TreeArena}
-use Rattle.lease_threads.specs.Kinds.{KindRoundsState}
+use Rattle.locked_parts.specs.Kinds.{KindRoundsState}
 
 -- its arenas by number, and the roots that they own, in order of setup: what stands beside the locks
 pub record SystemState : Type 0 where
@@ -28,3 +28,7 @@ pub record CpuState : Type 0 where
 abbrev pub cpu_units : CpuState → ℕ
 cpu_units c = units_tagged (option_to_list c.hand)
     + sum_by (λ r. units_tagged (cache_rounds r.cpu)) c.caches
+
+-- it holds no segment, in its hand or as a round
+abbrev pub HoldsNothing : CpuState → Type 0
+HoldsNothing c = (c.hand ≡ None) × All (λ r. BothEmpty r.cpu) c.caches

@@ -4,9 +4,10 @@ ghost use Rattle.std.specs.Prelude.{vec_len, vec_capacity};
 ghost use Rattle.lease_threads.specs.Systems.{root_ranges};
 
 use crate::cpus::Cpu;
-use crate::systems::{ArenaPlace, OwnedRoot, System};
+use crate::systems::{OwnedRoot, System};
 use deed_core::{Range, Route, Segment, insert_reserved};
-use deed_table::{Name, Root, SeatDeed, close};
+use deed_table::{Name, Root, close};
+use locked_parts::LockedParts;
 use std::sync::Wait;
 
 /// Takes the span of each root out of its arena and closes the root by its deed, in their order,
@@ -51,7 +52,7 @@ fn close_first<N: Name, R: Wait>(
         × (length system.new.roots + 1 ≡ length system.old.roots) }
 {
     let OwnedRoot { arena, root } = system.roots.remove(0);
-    match close_root(rt, &system.places, arena, root, cpu) {
+    match close_root(rt, &system.parts, arena, root, cpu) {
         Ok(range) => {
             closed.push_reserved(range);
             true
@@ -66,7 +67,7 @@ fn close_first<N: Name, R: Wait>(
 // Takes the span of the root out of its arena, and closes the root by its deed.
 fn close_root<N: Name, R: Wait>(
     rt: &R,
-    places: &[ArenaPlace<N>],
+    parts: &LockedParts<N>,
     arena: u32,
     root: Root<N>,
     cpu: &mut Cpu<N>,
@@ -76,10 +77,7 @@ fn close_root<N: Name, R: Wait>(
     ensures hand { OnOk result (cpu.new.hand ≡ None) }
     ensures handed_back { IfErr result (λ same. same ≡ root) }
 {
-    let Some(place) = places.get(arena as usize) else {
-        return Err(root);
-    };
-    let Some(deed) = take_span(rt, place) else {
+    let Some(deed) = parts.remove_owned(rt, arena) else {
         return Err(root);
     };
     match close(root, deed) {
@@ -89,8 +87,4 @@ fn close_root<N: Name, R: Wait>(
             Err(root)
         }
     }
-}
-
-fn take_span<N: Name, R: Wait>(rt: &R, place: &ArenaPlace<N>) -> Option<SeatDeed<N>> {
-    place.part.lock(rt).remove_owned()
 }

@@ -1,19 +1,15 @@
 //! The CPU of a worker.
-ghost use Rattle.std.specs.Prelude.{◌≡◌, ◌-◌, ◌^◌, ◌<◌, ◌≤◌, ◌↔◌, All, Some, None, length, min};
+ghost use Rattle.std.specs.Prelude.{◌≡◌, ◌-◌, ◌^◌, ◌≤◌, ◌↔◌, All, Some, None, min};
 ghost use Rattle.std.specs.Prelude.{IfOk, IfSome, IsTrue};
 ghost use Rattle.magazine_layer.specs.Magazines.{BothEmpty};
-ghost use Rattle.arena_tree.specs.Chains.{quantum_in};
-ghost use Rattle.arena_tree.specs.Trees.{nodes_of};
 ghost use Rattle.arena_tree.specs.declared.limits.TheConstants.{MOST_CPUS};
-ghost use Rattle.lease_threads.specs.Openings.{caches_of};
 ghost use Rattle.lease_threads.specs.Systems.{cpu_units};
 
-use crate::cpu_rounds::KindRounds;
-use crate::kinds::CacheKind;
 use crate::systems::System;
-use arena_tree::{MOST_CPUS, Tree, TreeArena};
+use arena_tree::MOST_CPUS;
 use deed_core::Segment;
 use deed_table::{Name, SeatDeed};
+use locked_parts::{KindRounds, end_rounds, new_rounds};
 use std::alloc::{AllocError, Global};
 use std::marker::Model;
 
@@ -39,6 +35,7 @@ impl<N: Name> Cpu<N> {
     /// 63. The number is a label: each Cpu is one of its own.
     pub fn new(alloc: Global, system: &System<N>, number: u32) -> Result<Option<Cpu<N>>, AllocError>
         ensures exactly { IfOk result (λ cpu. cpu ≡ None ↔ MOST_CPUS ≤ number) }
+        ensures number { IfOk result (λ cpu. IfSome cpu (λ c. c.number ≡ number)) }
         ensures empty { IfOk result (λ cpu. IfSome cpu (λ c. c.hand ≡ None)) }
         ensures no_round { IfOk result (λ cpu. IfSome cpu
             (λ c. All (λ r. BothEmpty r.cpu) c.caches)) }
@@ -46,18 +43,12 @@ impl<N: Name> Cpu<N> {
         if number as usize >= MOST_CPUS {
             return Ok(None);
         }
-        let mut caches = Vec::new(alloc);
-        match fill(alloc, system.tree(), &mut caches) {
-            Ok(()) => Ok(Some(Cpu {
-                number,
-                hand: None,
-                caches,
-            })),
-            Err(refused) => {
-                end_caches(caches);
-                Err(refused)
-            }
-        }
+        let caches = new_rounds(alloc, system.tree())?;
+        Ok(Some(Cpu {
+            number,
+            hand: None,
+            caches,
+        }))
     }
 
     /// A CPU with no magazines.
@@ -95,7 +86,8 @@ impl<N: Name> Cpu<N> {
     /// Takes a segment into the empty hand.
     pub(crate) fn hold(&mut self, segment: Segment<SeatDeed<N>>)
         requires { self.old.hand ≡ None }
-        ensures { self.new.hand ≡ Some segment }
+        ensures { self.new
+            ≡ record { number = self.old.number; hand = Some segment; caches = self.old.caches } }
     {
         match self.hand.replace(segment) {
             None => {}
@@ -120,83 +112,10 @@ impl<N: Name> Cpu<N> {
             hand,
             caches,
         } = self;
-        end_caches(caches);
+        end_rounds(caches);
         match hand {
             None => {}
             Some(_) => unreachable!(),
         }
     }
-}
-
-// Adds two magazines for each quantum cache of each arena.
-fn fill<N: Name>(
-    alloc: Global,
-    tree: &Tree,
-    caches: &mut Vec<KindRounds<SeatDeed<N>>>,
-) -> Result<(), AllocError>
-    requires { All (λ r. BothEmpty r.cpu) caches.old.items }
-    ensures { All (λ r. BothEmpty r.cpu) caches.new.items }
-{
-    for arena in 0..tree.len() as u32 {
-        fill_arena(alloc, tree, arena, caches)?;
-    }
-    Ok(())
-}
-
-fn fill_arena<N: Name>(
-    alloc: Global,
-    tree: &Tree,
-    arena: u32,
-    caches: &mut Vec<KindRounds<SeatDeed<N>>>,
-) -> Result<(), AllocError>
-    requires within { arena < length tree.now }
-    requires empty { All (λ r. BothEmpty r.cpu) caches.old.items }
-    ensures { All (λ r. BothEmpty r.cpu) caches.new.items }
-{
-    let quantum = quantum_of(tree, arena);
-    for number in 1..=cache_count(tree, arena) {
-        caches.reserve(1)?;
-        let own = KindRounds::new(
-            alloc,
-            CacheKind {
-                arena,
-                number,
-                quantum,
-            },
-        )?;
-        caches.push_reserved(own);
-    }
-    Ok(())
-}
-
-/// The quantum of an arena.
-pub(crate) fn quantum_of(tree: &Tree, arena: u32) -> u64
-    requires { arena < length tree.now }
-    ensures value { quantum_in (nodes_of tree.now) arena ≡ result }
-    ensures some { 0 < result }
-{
-    tree.arena(arena).quantum
-}
-
-/// How many quantum caches an arena has; they are numbered from 1 on.
-pub(crate) fn cache_count(tree: &Tree, arena: u32) -> u8
-    requires { arena < length tree.now }
-    ensures { result ≡ caches_of tree.now arena }
-{
-    let TreeArena {
-        quantum,
-        qcache_max,
-        ..
-    } = *tree.arena(arena);
-    (qcache_max / quantum).min(255) as u8
-}
-
-// Ends magazines that have no round.
-fn end_caches<N: Name>(mut caches: Vec<KindRounds<SeatDeed<N>>>)
-    requires { All (λ r. BothEmpty r.cpu) caches.items }
-{
-    while let Some(own) = caches.pop() {
-        own.end();
-    }
-    caches.destroy_empty();
 }

@@ -3,10 +3,10 @@
 ghost use Rattle.std.specs.Prelude.{◌≡◌, None, true};
 
 use crate::cpus::Cpu;
-use crate::gates::{OpenGate, Steps};
 use crate::systems::System;
 use deed_core::Segment;
 use deed_table::{Name, SeatDeed};
+use locked_parts::{OpenGate, Steps};
 use std::sync::Wait;
 
 impl<N: Name> System<N> {
@@ -58,7 +58,7 @@ impl<N: Name> System<N> {
         ensures { result ≡ true → cpu.new.hand ≡ None }
     {
         self.tick(rt);
-        let count = self.tree.len() as u32;
+        let count = self.parts.tree().len() as u32;
         for below in 0..count {
             self.reap(rt, cpu, count - 1 - below, u64::MAX);
             if cpu.hand.is_some() {

@@ -1,12 +1,9 @@
-//! How the parts of a system are taken from under their locks and ended.
-ghost use Rattle.std.specs.Prelude.{◌≡◌, [], IfErr, true};
+//! How the parts and the book of a system are ended.
+ghost use Rattle.std.specs.Prelude.{◌≡◌, [], IfErr};
 
-use crate::cpu_rounds::FIRST_SIZE;
-use crate::kind_depots::KindDepot;
 use crate::marked_books::MarkedBook;
-use crate::systems::{ArenaPlace, CachePlace, System};
+use crate::systems::System;
 use deed_table::{Name, close};
-use std::alloc::Global;
 use std::sync::Mutex;
 
 /// Ends a system with no root of an arena, and closes the root of its book's mark, or hands it back
@@ -17,32 +14,22 @@ pub(crate) fn end_parts<N: Name>(system: System<N>) -> Result<(), System<N>>
     ensures { IfErr result (λ same. same ≡ system) }
 {
     let System {
-        alloc,
-        tree,
+        mut parts,
         roots,
-        mut places,
         book,
     } = system;
-    if !end_places(alloc, &mut places) {
-        return Err(System {
-            alloc,
-            tree,
-            roots,
-            places,
-            book,
-        });
+    if !parts.end_arenas() {
+        return Err(System { parts, roots, book });
     }
     match end_book(book.into_inner()) {
         Ok(()) => {
-            places.destroy_empty();
+            parts.end();
             roots.destroy_empty();
             Ok(())
         }
         Err(book) => Err(System {
-            alloc,
-            tree,
+            parts,
             roots,
-            places,
             book: Mutex::new(book),
         }),
     }
@@ -57,76 +44,5 @@ fn end_book<N: Name>(book: MarkedBook<N>) -> Result<(), MarkedBook<N>> {
             Err(_) => unreachable!(),
         },
         Err(book) => Err(MarkedBook { book, mark }),
-    }
-}
-
-// Ends arenas in which no deed lies, the last first.
-fn end_places<N: Name>(alloc: Global, places: &mut Vec<ArenaPlace<N>>) -> bool
-    ensures { result ≡ true → places.new.items ≡ [] }
-{
-    while let Some(place) = places.pop() {
-        if let Err(place) = end_place(alloc, place) {
-            places.push_reserved(place);
-            return false;
-        }
-    }
-    true
-}
-
-fn end_place<N: Name>(alloc: Global, place: ArenaPlace<N>) -> Result<(), ArenaPlace<N>> {
-    let ArenaPlace {
-        part,
-        mut caches,
-        before,
-    } = place;
-    if !end_caches(alloc, &mut caches) {
-        return Err(ArenaPlace {
-            part,
-            caches,
-            before,
-        });
-    }
-    match part.into_inner().close() {
-        Ok(()) => {
-            caches.destroy_empty();
-            Ok(())
-        }
-        Err(part) => Err(ArenaPlace {
-            part: Mutex::new(part),
-            caches,
-            before,
-        }),
-    }
-}
-
-// Ends quantum caches in which no deed lies, the last first.
-fn end_caches<N: Name>(alloc: Global, caches: &mut Vec<CachePlace<N>>) -> bool
-    ensures { result ≡ true → caches.new.items ≡ [] }
-{
-    while let Some(cache) = caches.pop() {
-        if let Err(cache) = end_cache(alloc, cache) {
-            caches.push_reserved(cache);
-            return false;
-        }
-    }
-    true
-}
-
-fn end_cache<N: Name>(alloc: Global, cache: CachePlace<N>) -> Result<(), CachePlace<N>> {
-    let CachePlace { slab, depot } = cache;
-    let depot = depot.into_inner();
-    let kind = depot.kind();
-    match depot.close() {
-        Ok(()) => match slab.into_inner().close() {
-            Ok(()) => Ok(()),
-            Err(slab) => Err(CachePlace {
-                slab: Mutex::new(slab),
-                depot: Mutex::new(KindDepot::new(alloc, kind, FIRST_SIZE)),
-            }),
-        },
-        Err(depot) => Err(CachePlace {
-            slab,
-            depot: Mutex::new(depot),
-        }),
     }
 }

@@ -5,17 +5,16 @@ ghost use Rattle.deed_core.specs.Request.{Fits, IsPlain};
 ghost use Rattle.deed_core.specs.Tag.{Tag};
 ghost use Rattle.arena_tree.specs.Chains.{quantum_in};
 ghost use Rattle.arena_tree.specs.Trees.{nodes_of};
-ghost use Rattle.lease_threads.specs.Gates.{MayStop};
+ghost use Rattle.locked_parts.specs.Gates.{MayStop};
 ghost use Rattle.lease_threads.specs.Hands.{LeavesHand};
 
 use crate::cpus::Cpu;
-use crate::gates::{Gate, RequestStopped, Steps};
-use crate::running::Running;
 use crate::systems::System;
 use arena_tree::{CarveFault, ClimbFault, ReturnFault};
 use deed_core::{Request, Segment};
 use deed_table::{Name, SeatDeed};
 use lease_terms::Refusal;
+use locked_parts::{Gate, RequestStopped, Running, Steps};
 use quantum_cache::{alloc, free, xalloc};
 use std::sync::Wait;
 
@@ -46,6 +45,7 @@ impl<N: Name> System<N> {
         ensures arena { IfOk result (λ t. t.arena ≡ arena) }
         ensures fits { IfOk result (λ t. Fits (quantum_in (nodes_of self.now.arenas) arena)
             request.now t.holding.range.base t.holding.range.len) }
+        ensures number { cpu.new.number ≡ cpu.old.number }
         ensures hand { IfOk result (λ _. cpu.new.hand ≡ None) }
         ensures refused { IfErr result (λ why. LeavesHand why cpu.new.hand) }
         ensures stopped { result ≡ Err Unserved.Stopped → MayStop G.may_stop gate.now }
@@ -71,12 +71,13 @@ impl<N: Name> System<N> {
         ensures arena { IfOk result (λ t. t.arena ≡ arena) }
         ensures fits { IfOk result (λ t. Fits (quantum_in (nodes_of self.now.arenas) arena)
             request.now t.holding.range.base t.holding.range.len) }
+        ensures number { cpu.new.number ≡ cpu.old.number }
         ensures hand { IfOk result (λ _. cpu.new.hand ≡ None) }
         ensures refused { IfErr result (λ why. LeavesHand why cpu.new.hand) }
         ensures stopped { result ≡ Err Unserved.Stopped → MayStop G.may_stop gate.now }
     {
         let mut running = Running {
-            system: self,
+            parts: &self.parts,
             rt,
             gate,
             caches: &mut cpu.caches,
@@ -109,13 +110,14 @@ impl<N: Name> System<N> {
         ensures arena { IfOk result (λ t. t.arena ≡ arena) }
         ensures fits { IfOk result (λ t. Fits (quantum_in (nodes_of self.now.arenas) arena)
             request.now t.holding.range.base t.holding.range.len) }
+        ensures number { cpu.new.number ≡ cpu.old.number }
         ensures hand { IfOk result (λ _. cpu.new.hand ≡ None) }
         ensures refused { IfErr result (λ why. LeavesHand why cpu.new.hand) }
         ensures stopped { result ≡ Err Unserved.Stopped → MayStop G.may_stop gate.now }
     {
-        let chain = self.tree.chain(arena);
+        let chain = self.parts.tree().chain(arena);
         let mut running = Running {
-            system: self,
+            parts: &self.parts,
             rt,
             gate,
             caches: &mut cpu.caches,
@@ -150,6 +152,7 @@ impl<N: Name> System<N> {
         gate: &G,
         steps: &mut Steps,
     ) -> Result<bool, RequestStopped>
+        ensures number { cpu.new.number ≡ cpu.old.number }
         ensures empty { IfOk result (λ placed. placed ≡ true → cpu.new.hand ≡ None) }
         ensures stopped { OnErr result (MayStop G.may_stop gate.now) }
     {
@@ -157,13 +160,13 @@ impl<N: Name> System<N> {
             return Ok(true);
         };
         let arena = segment.arena();
-        if arena as usize >= self.tree.len() {
+        if arena as usize >= self.parts.tree().len() {
             cpu.hold(segment);
             return Ok(false);
         }
-        let chain = self.tree.chain(arena);
+        let chain = self.parts.tree().chain(arena);
         let mut running = Running {
-            system: self,
+            parts: &self.parts,
             rt,
             gate,
             caches: &mut cpu.caches,

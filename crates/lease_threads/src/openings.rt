@@ -9,12 +9,12 @@ ghost use Rattle.lease_threads.specs.Openings.{roots_of, new_root, AreFrom};
 ghost use Rattle.lease_threads.specs.Replying.{mark_root};
 
 use crate::marked_books::{MARK, MarkedBook};
-use crate::new_arenas::NewArena;
-use crate::systems::{ArenaPlace, OwnedRoot, System};
+use crate::systems::{OwnedRoot, System};
 use arena_tree::{OwnedSpan, Setup, Tree};
 use deed_core::Range;
 use deed_table::{Ground, Name, Opener, Root};
 use lease_book::Book;
+use locked_parts::{ArenaPlace, LockedParts, NewArena};
 use std::alloc::{AllocError, Global};
 use std::marker::Model;
 use std::sync::Mutex;
@@ -199,10 +199,8 @@ impl<N: Name> Room<N> {
         } = self;
         lock_all(made, &mut places, &mut roots);
         System {
-            alloc,
-            tree,
+            parts: LockedParts::new(alloc, tree, places),
             roots,
-            places,
             book: Mutex::new(book),
         }
     }

@@ -3,12 +3,11 @@ ghost use Rattle.std.specs.Prelude.{◌≡◌, ◌<◌, None, length, IfOk, IfEr
 ghost use Rattle.deed_core.specs.Request.{Fits};
 ghost use Rattle.arena_tree.specs.Chains.{quantum_in};
 ghost use Rattle.arena_tree.specs.Trees.{nodes_of};
-ghost use Rattle.lease_threads.specs.Gates.{MayStop};
+ghost use Rattle.locked_parts.specs.Gates.{MayStop};
 ghost use Rattle.lease_threads.specs.Replying.{IsAnswerTo, IsReplyTo, IsGreeting, IsAgain};
 ghost use Rattle.lease_threads.specs.Replying.{IsReceiptOf, HasReceiptOf};
 
-use crate::cpus::{Cpu, quantum_of};
-use crate::gates::{EventName, Gate, RequestStopped, Steps};
+use crate::cpus::Cpu;
 use crate::lists::Unserved;
 use crate::replies::{Told, again_to, answered, hello_again, not_welcome, told};
 use crate::systems::System;
@@ -17,6 +16,7 @@ use deed_table::{Name, SeatDeed};
 use lease_book::{Answer, HelloFault, NotLeased, Receipt};
 use lease_proto::{HelloLine, LeaseLine, Line, Op, ReleaseLine, Reply, Welcome};
 use lease_terms::{ClientId, Quantity, Refusal, RequestId};
+use locked_parts::{EventName, Gate, RequestStopped, Steps, quantum_of};
 use std::sync::Wait;
 
 // What a lease asks of its arena.
@@ -44,6 +44,7 @@ impl<N: Name> System<N> {
         line: &Line,
     ) -> Result<(Reply, Option<Receipt<SeatDeed<N>>>), RequestStopped>
         ensures answers { IfOk result (λ r. IsAnswerTo self.now.arenas line.now r.0 r.1) }
+        ensures number { cpu.new.number ≡ cpu.old.number }
         ensures held { IfOk result (λ r. IfSome cpu.new.hand (λ _. IsAgain r.0)) }
         ensures stopped { OnErr result (MayStop G.may_stop gate.now) }
     {
@@ -75,6 +76,7 @@ impl<N: Name> System<N> {
         hello: &HelloLine,
     ) -> Result<Reply, RequestStopped>
         ensures greeting { IfOk result (IsGreeting hello.now) }
+        ensures number { cpu.new.number ≡ cpu.old.number }
         ensures held { IfOk result (λ r. IfSome cpu.new.hand (λ _. IsAgain r)) }
         ensures stopped { OnErr result (MayStop G.may_stop gate.now) }
     {
@@ -108,6 +110,7 @@ impl<N: Name> System<N> {
         client: ClientId,
     ) -> Result<bool, RequestStopped>
         requires { cpu.old.hand ≡ None }
+        ensures number { cpu.new.number ≡ cpu.old.number }
         ensures empty { IfOk result (λ placed. placed ≡ true → cpu.new.hand ≡ None) }
         ensures stopped { OnErr result (MayStop G.may_stop gate.now) }
     {
@@ -139,14 +142,15 @@ impl<N: Name> System<N> {
     ) -> Result<Told<N>, RequestStopped>
         requires { cpu.old.hand ≡ None }
         ensures told { IfOk result (λ r. IsReplyTo self.now.arenas id r.0 r.1) }
+        ensures number { cpu.new.number ≡ cpu.old.number }
         ensures held { IfOk result (λ r. IfSome cpu.new.hand (λ _. IsAgain r.0)) }
         ensures stopped { OnErr result (MayStop G.may_stop gate.now) }
     {
         steps.ask(gate, EventName::Look)?;
         if let Some(answer) = self.look(rt, id) {
-            return Ok(answered(&self.tree, id, answer));
+            return Ok(answered(self.tree(), id, answer));
         }
-        let Some(arena) = self.tree.find(&lease.arena) else {
+        let Some(arena) = self.tree().find(&lease.arena) else {
             return self.refuse(rt, gate, steps, id, Refusal::NoArena);
         };
         let request = demand_of(lease);
@@ -178,7 +182,7 @@ impl<N: Name> System<N> {
     {
         steps.ask(gate, EventName::Settle)?;
         let answer = self.settle_refusal(rt, id, why);
-        Ok(answered(&self.tree, id, answer))
+        Ok(answered(self.tree(), id, answer))
     }
 
     fn settle_refusal<R: Wait>(&self, rt: &R, id: RequestId, why: Refusal) -> Answer<SeatDeed<N>>
@@ -204,6 +208,7 @@ impl<N: Name> System<N> {
         requires fits { Fits (quantum_in (nodes_of self.now.arenas) arena) request.now
             segment.holding.range.base segment.holding.range.len }
         ensures told { IfOk result (λ r. IsReplyTo self.now.arenas id r.0 r.1) }
+        ensures number { cpu.new.number ≡ cpu.old.number }
         ensures held { IfOk result (λ r. IfSome cpu.new.hand (λ _. IsAgain r.0)) }
         ensures stopped { OnErr result (MayStop G.may_stop gate.now) }
     {
@@ -211,15 +216,15 @@ impl<N: Name> System<N> {
             cpu.hold(segment);
             return Err(RequestStopped);
         }
-        let quantum = quantum_of(&self.tree, arena);
+        let quantum = quantum_of(self.tree(), arena);
         match self.settle(rt, id, quantum, request, segment) {
-            Ok(receipt) => Ok(told(&self.tree, id, receipt)),
+            Ok(receipt) => Ok(told(self.tree(), id, receipt)),
             Err(NotLeased { segment, answer }) => {
                 cpu.hold(segment);
                 if !self.place_hand(rt, cpu, gate, steps)? {
                     return Ok((again_to(id), None));
                 }
-                Ok(answered(&self.tree, id, answer))
+                Ok(answered(self.tree(), id, answer))
             }
         }
     }
@@ -251,10 +256,11 @@ impl<N: Name> System<N> {
     ) -> Result<Told<N>, RequestStopped>
         requires { cpu.old.hand ≡ None }
         ensures told { IfOk result (λ r. IsReplyTo self.now.arenas id r.0 r.1) }
+        ensures number { cpu.new.number ≡ cpu.old.number }
         ensures held { IfOk result (λ r. IfSome cpu.new.hand (λ _. IsAgain r.0)) }
         ensures stopped { OnErr result (MayStop G.may_stop gate.now) }
     {
-        let Some(arena) = self.tree.find(&release.arena) else {
+        let Some(arena) = self.tree().find(&release.arena) else {
             return self.refuse(rt, gate, steps, id, Refusal::NoArena);
         };
         steps.ask(gate, EventName::Release)?;
@@ -264,9 +270,9 @@ impl<N: Name> System<N> {
                 if !self.place_hand(rt, cpu, gate, steps)? {
                     return Ok((again_to(id), None));
                 }
-                Ok(told(&self.tree, id, receipt))
+                Ok(told(self.tree(), id, receipt))
             }
-            Err(answer) => Ok(answered(&self.tree, id, answer)),
+            Err(answer) => Ok(answered(self.tree(), id, answer)),
         }
     }
 

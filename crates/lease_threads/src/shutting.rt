@@ -139,7 +139,7 @@ impl<N: Name> System<N> {
         ensures ranges { IfOk result (λ ranges. ranges.items ≡ root_ranges self) }
         ensures rest { IfErr result (IsLeftOf self) }
     {
-        let alloc = self.alloc;
+        let alloc = self.parts.alloc();
         let Ok(closed) = Vec::with_capacity(alloc, self.roots.len()) else {
             return Err(ShutFault::NoMemory(self));
         };

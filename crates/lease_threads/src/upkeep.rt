@@ -1,46 +1,39 @@
 //! What keeps a system in shape while it runs: intervals, sizes of magazines, reaping.
-ghost use Rattle.std.specs.Prelude.{◌≡◌, None, OnErr};
+ghost use Rattle.std.specs.Prelude.{◌≡◌, ◌≤◌, None, OnErr, false, length};
 ghost use Rattle.magazine_layer.specs.Magazines.{IsSize};
 
 use crate::cpus::Cpu;
-use crate::gates::{OpenGate, Steps};
-use crate::running::Running;
 use crate::systems::System;
 use deed_table::Name;
+use locked_parts::{OpenGate, Running, Steps};
 use quantum_cache::{EmptyingFault, ReapFault, reap_arena};
 use std::sync::Wait;
 
 impl<N: Name> System<N> {
     /// Begins an interval in each depot, one after another.
     pub fn tick<R: Wait>(&self, rt: &R) {
-        for place in &self.places {
-            for cache in &place.caches {
-                cache.depot.lock(rt).tick();
-            }
-        }
+        self.parts.tick(rt);
     }
 
     /// Has the depots of the arena keep magazines of this size from here on, and says whether one
     /// of them kept smaller ones before.
     pub fn resize<R: Wait>(&self, rt: &R, arena: u32, size: usize) -> bool
         requires { IsSize size }
+        ensures no_arena { length self.now.arenas ≤ arena → result ≡ false }
     {
-        let Some(place) = self.places.get(arena as usize) else {
+        if arena as usize >= self.tree().len() {
             return false;
-        };
-        let mut rose = false;
-        for cache in &place.caches {
-            if cache.depot.lock(rt).resize(size).is_ok() {
-                rose = true;
-            }
         }
-        rose
+        self.parts.resize(rt, arena, size)
     }
 
     /// Moves rounds that the depots of the arena may let go to their slabs, and slabs of which no
     /// chunk is out to the arena, in at most `limit` looks: the units of those slabs. It tries to
     /// place the CPU's hand first, and answers 0 while it can't.
-    pub fn reap<R: Wait>(&self, rt: &R, cpu: &mut Cpu<N>, arena: u32, limit: u64) -> u128 {
+    pub fn reap<R: Wait>(&self, rt: &R, cpu: &mut Cpu<N>, arena: u32, limit: u64) -> u128
+        ensures number { cpu.new.number ≡ cpu.old.number }
+        ensures no_arena { length self.now.arenas ≤ arena → result ≡ 0 }
+    {
         let mut steps = Steps::new(cpu.number());
         match self.place_hand(rt, cpu, &OpenGate, &mut steps) {
             Ok(true) => self.reap_empty(rt, cpu, arena, limit),
@@ -50,13 +43,15 @@ impl<N: Name> System<N> {
 
     fn reap_empty<R: Wait>(&self, rt: &R, cpu: &mut Cpu<N>, arena: u32, limit: u64) -> u128
         requires { cpu.old.hand ≡ None }
+        ensures number { cpu.new.number ≡ cpu.old.number }
+        ensures no_arena { length self.now.arenas ≤ arena → result ≡ 0 }
     {
-        if arena as usize >= self.tree.len() {
+        if arena as usize >= self.parts.tree().len() {
             return 0;
         }
-        let chain = self.tree.chain(arena);
+        let chain = self.parts.tree().chain(arena);
         let mut running = Running {
-            system: self,
+            parts: &self.parts,
             rt,
             gate: &OpenGate,
             caches: &mut cpu.caches,

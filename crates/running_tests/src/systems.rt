@@ -3,6 +3,7 @@ ghost use Rattle.std.specs.Prelude.{◌≡◌};
 
 mod conversations;
 mod gates;
+mod orders;
 mod rows;
 mod soak;
 

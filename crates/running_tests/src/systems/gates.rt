@@ -26,7 +26,7 @@ struct Hold<'a, R: Clock> {
 
 impl<R: Clock> Gate for Hold<'_, R> {
     ghost use Rattle.std.specs.Prelude.{◌≡◌};
-    ghost use Rattle.lease_threads.specs.declared.gates.EventName.TheVariants.{Settle};
+    ghost use Rattle.locked_parts.specs.declared.gates.EventName.TheVariants.{Settle};
 
     ghost may_stop = { λ _ step. step.event ≡ Settle };
 

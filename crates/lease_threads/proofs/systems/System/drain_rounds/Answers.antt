@@ -1,5 +1,5 @@
 use Rattle.std.proofs.Common.{sym, suc, arith}
-use Rattle.lease_threads.specs.Kinds.{rounds_in}
+use Rattle.locked_parts.specs.Kinds.{rounds_in}
 use Rattle.lease_threads.proofs.Runs.{ran_leaves}
 use Rattle.lease_threads.proofs.systems.System.drain_rounds.Goals as goal
 

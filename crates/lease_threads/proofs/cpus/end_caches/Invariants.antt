@@ -1,9 +1,0 @@
-use Rattle.std.proofs.Common.{All, vec_len}
-use Rattle.magazine_layer.specs.Magazines.{BothEmpty}
-use Rattle.lease_threads.proofs.cpus.end_caches.Given as goal
-
-abbrev pub invariant-loop-own : goal.invariant-loop-own
-invariant-loop-own g l = All (λ r. BothEmpty r.cpu) l.caches.items
-
-abbrev pub decreases-loop-own : goal.decreases-loop-own
-decreases-loop-own g l = vec_len l.caches

@@ -1,6 +1,0 @@
-use Rattle.std.proofs.Common.{All}
-use Rattle.magazine_layer.specs.Magazines.{BothEmpty}
-use Rattle.lease_threads.proofs.cpus.fill_arena.Given as goal
-
-abbrev pub invariant-loop-number : goal.invariant-loop-number
-invariant-loop-number g l = All (λ r. BothEmpty r.cpu) l.caches.items

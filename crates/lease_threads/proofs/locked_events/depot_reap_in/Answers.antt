@@ -1,7 +1,0 @@
-use Rattle.std.proofs.Common.{refl}
-use Rattle.arena_tree.specs.Trees.{nodes_of}
-use Rattle.lease_threads.proofs.Sounds.{cached_given}
-use Rattle.lease_threads.proofs.locked_events.depot_reap_in.Goals as goal
-
-pub returns : goal.returns
-returns g c = (cached_given (nodes_of c.args.system.now.arenas) c.args.arena c.args.cache c.in-Some.kind c.reap_of.result c.in-Some.ensures.kind c.reap_of.ensures.chunk, refl)

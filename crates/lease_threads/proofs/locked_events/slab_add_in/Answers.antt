@@ -1,6 +1,0 @@
-use Rattle.arena_tree.specs.Trees.{nodes_of}
-use Rattle.lease_threads.proofs.Sounds.{slab_goes}
-use Rattle.lease_threads.proofs.locked_events.slab_add_in.Goals as goal
-
-pub returns : goal.returns
-returns g c = slab_goes (nodes_of c.args.system.now.arenas) c.args.arena c.args.cache c.in-Some.kind c.args.span c.add_slab.result c.in-Some.ensures.kind c.add_slab.ensures.chunk c.add_slab.ensures.handed_back

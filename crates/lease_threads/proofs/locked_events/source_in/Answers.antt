@@ -1,5 +1,0 @@
-use Rattle.lease_threads.proofs.Sounds.{source_at}
-use Rattle.lease_threads.proofs.locked_events.source_in.Goals as goal
-
-pub returns : goal.returns
-returns c = source_at c.args.tree.now c.args.arena c.arena.result.now c.arena.ensures.here

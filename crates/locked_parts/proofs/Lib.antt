@@ -1,0 +1,6 @@
+mod RoundLaws
+mod Imports
+mod Sounds
+mod Lengths
+mod Slabs
+mod Wholes

@@ -1,0 +1,10 @@
+use Rattle.deed_core.proofs.LawProofs.{power_some}
+use Rattle.locked_parts.proofs.Slabs.{room_for}
+use Rattle.locked_parts.proofs.new_caches.new_cache.Goals as goal
+
+pub new-requires-clause-room : goal.new-requires-clause-room
+new-requires-clause-room g c =
+    room_for c.args.tree.now c.args.arena c.args.number c.arena.result.now c.arena.ensures.here c.arena.ensures.arena.caches (power_some c.arena.result.now.quantum c.arena.ensures.arena.power) c.requires.number.0 c.requires.number.1
+
+pub new-requires-clause-quantum : goal.new-requires-clause-quantum
+new-requires-clause-quantum g c = power_some c.arena.result.now.quantum c.arena.ensures.arena.power

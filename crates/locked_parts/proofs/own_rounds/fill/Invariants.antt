@@ -1,0 +1,6 @@
+use Rattle.std.proofs.Common.{All}
+use Rattle.magazine_layer.specs.Magazines.{BothEmpty}
+use Rattle.locked_parts.proofs.own_rounds.fill.Given as goal
+
+abbrev pub invariant-loop-arena : goal.invariant-loop-arena
+invariant-loop-arena g l = All (λ r. BothEmpty r.cpu) l.caches.items

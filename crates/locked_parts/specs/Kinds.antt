@@ -1,0 +1,46 @@
+-- Quantum caches, and what a contract sees of a CPU's magazines and of a depot with theirs.
+use Rattle.std.specs.Prelude.{ℕ, ◌*◌, ◌/◌, ◌<◌, List, All, length, sum_by, min}
+use Rattle.std.specs.Prelude.{Option, Some, None, slice_get}
+use Rattle.arena_tree.specs.declared.trees.TreeArena.{TreeArena}
+use Rattle.deed_core.specs.Tag.{Tag}
+use Rattle.deed_core.specs.declared.segments.Route.TheVariants.{Cached}
+use Rattle.slab_layer.specs.Cache.{IsSegmentOf}
+use Rattle.magazine_layer.specs.Magazines.{CpuCacheState, cache_rounds}
+use Rattle.magazine_layer.specs.Depots.{DepotState, depot_rounds}
+use Rattle.locked_parts.specs.declared.kinds.CacheKind.{CacheKind}
+
+-- a chunk of the quantum cache
+abbrev pub IsOfKind : CacheKind → Tag → Type 0
+IsOfKind k t = IsSegmentOf k.arena (Cached k.number) (k.number * k.quantum) k.quantum t
+
+-- a CPU's magazines for a quantum cache
+pub record KindRoundsState : Type 0 where
+  pub kind : CacheKind
+  pub cpu : CpuCacheState
+
+-- all their rounds are chunks of it
+pub record AreKindRounds (r : KindRoundsState) : Type 0 where
+  pub some : 0 < r.kind.quantum
+  pub rounds : All (IsOfKind r.kind) (cache_rounds r.cpu)
+
+-- a depot for a quantum cache
+pub record KindDepotState : Type 0 where
+  pub kind : CacheKind
+  pub depot : DepotState
+
+-- and all its rounds
+pub record IsKindDepot (d : KindDepotState) : Type 0 where
+  pub some : 0 < d.kind.quantum
+  pub rounds : All (IsOfKind d.kind) (depot_rounds d.depot)
+
+-- how many rounds a CPU's magazines have
+abbrev pub rounds_in : List KindRoundsState → ℕ
+rounds_in caches = sum_by (λ r. length (cache_rounds r.cpu)) caches
+
+-- how many quantum caches an arena has
+abbrev pub caches_if : Option TreeArena → ℕ
+caches_if None = 0
+caches_if (Some x) = min (x.qcache_max / x.quantum) 255
+
+abbrev pub caches_of : List TreeArena → ℕ → ℕ
+caches_of arenas id = caches_if (slice_get arenas id)

@@ -1,0 +1,5 @@
+pub mod Gates
+pub mod Kinds
+pub mod Swaps
+pub mod States
+pub mod Answers

@@ -1,0 +1,154 @@
+//! An arena as its lock keeps it. What lies there when the lock is taken is known by its type
+//! alone, so that each event looks whether it is the arena that is meant.
+ghost use Rattle.std.specs.Prelude.{◌≡◌, ◌<◌, ◌≤◌, ◌↔◌, List, [], Some, Ok, IsOk, OnErr, IfOk, IfErr};
+ghost use Rattle.deed_core.specs.Request.{rounded, plain_of};
+ghost use Rattle.tag_arena.specs.Outcomes.{CarveOf, ImportOf, FreeOf, RemoveOf};
+ghost use Rattle.std.specs.Option.{option_map};
+ghost use Rattle.arena_tree.specs.Chains.{Node, quantum_in, source_of};
+ghost use Rattle.arena_tree.specs.Events.{Carve, Free, AddCarve};
+ghost use Rattle.locked_parts.specs.Answers.{GoesOn};
+
+use arena_tree::{AddCarveFault, CarveFault, FreeFault};
+use deed_core::{Request, Route, Segment};
+use deed_table::{Name, Opener, SeatDeed};
+use std::marker::Model;
+use tag_arena::{Arena, ArenaFault, SpanFault};
+
+/// An arena, the number of its source, if it has one, and the opener of its further roots.
+pub(crate) struct ArenaPart<N: Name> {
+    pub(crate) source: Option<u32>,
+    pub(crate) arena: Arena<SeatDeed<N>>,
+    pub(crate) opener: Opener<N>,
+}
+
+impl<N: Name> Model for ArenaPart<N> {
+    ghost use Rattle.std.specs.Coded.{codes, coded_ℕ};
+    ghost use Rattle.std.specs.Ordering.{nat_cmp};
+    ghost use Rattle.std.specs.FinMap as finmap;
+    ghost use Rattle.deed_core.specs.Holding.{Holding};
+    ghost use Rattle.locked_parts.specs.Answers.{ArenaPartState, ImportsItsOwn};
+
+    ghost Value = { ArenaPartState };
+
+    ghost coded = { Prim.hlevel
+        (codes, finmap.code {X = Holding} {R = nat_cmp} coded_ℕ (Prim.hlevel codes)) };
+
+    ghost view = { λ p. record { source = p.source; arena = p.arena } };
+
+    ghost invariant = { λ p. ImportsItsOwn (record { source = p.source; arena = p.arena }) };
+}
+
+impl<N: Name> ArenaPart<N> {
+    /// Carves a segment for the request from the arena with this number and quantum. Where another
+    /// stands here, nothing is done.
+    pub(crate) fn carve(
+        &mut self,
+        id: u32,
+        quantum: u64,
+        request: &Request,
+    ) -> Result<Segment<SeatDeed<N>>, CarveFault>
+        requires { 0 < quantum }
+        ensures sound { (nodes : List Node) → quantum_in nodes id ≡ quantum
+            → GoesOn nodes (Carve id request.now) result }
+        ensures event { IfOk result (λ t.
+            CarveOf self.old.arena request.now (Ok t) self.new.arena) }
+        ensures unchanged { OnErr result (self.new ≡ self.old) }
+    {
+        if !request.is_good(quantum) {
+            return Err(CarveFault::BadRequest);
+        }
+        if self.arena.id() != id || self.arena.quantum() != quantum {
+            return Err(CarveFault::NoMemory);
+        }
+        match self.arena.xalloc(request) {
+            Ok(segment) => Ok(segment),
+            Err(ArenaFault::NoFit) => Err(CarveFault::NoFit),
+            Err(ArenaFault::NoMemory) => Err(CarveFault::NoMemory),
+            Err(ArenaFault::BadRequest) => Err(CarveFault::NoMemory),
+        }
+    }
+
+    /// Frees a segment of the arena, which has this source. Where another stands here, it is
+    /// refused.
+    pub(crate) fn free(
+        &mut self,
+        source: Option<u32>,
+        segment: Segment<SeatDeed<N>>,
+    ) -> Result<Option<Segment<SeatDeed<N>>>, FreeFault<Segment<SeatDeed<N>>>>
+        ensures sound { (nodes : List Node) → source_of nodes segment.arena ≡ source
+            → GoesOn nodes (Free segment) result }
+        ensures event { IfOk result (λ back.
+            FreeOf self.old.arena segment (Ok back) self.new.arena) }
+        ensures unchanged { OnErr result (self.new ≡ self.old) }
+    {
+        if self.source != source {
+            return Err(FreeFault::BadFree(segment));
+        }
+        match self.arena.free(segment) {
+            Ok(back) => Ok(back),
+            Err(segment) => Err(FreeFault::BadFree(segment)),
+        }
+    }
+
+    /// Adds a span of its source to the arena with this number and quantum, and carves its first
+    /// units. Where another stands here, it is refused.
+    pub(crate) fn add_carve(
+        &mut self,
+        id: u32,
+        quantum: u64,
+        span: Segment<SeatDeed<N>>,
+        size: u64,
+    ) -> Result<Segment<SeatDeed<N>>, AddCarveFault<Segment<SeatDeed<N>>>>
+        requires some { 0 < size }
+        requires room { rounded quantum size ≤ span.holding.range.len }
+        requires direct { span.route ≡ Route.Direct }
+        ensures sound { (nodes : List Node) → quantum_in nodes id ≡ quantum
+            → GoesOn nodes (AddCarve id span size) result }
+        ensures event { IfOk result (λ t.
+            ImportOf self.old.arena span (plain_of size) (Ok t) self.new.arena) }
+        ensures unchanged { OnErr result (self.new ≡ self.old) }
+    {
+        if self.source != Some(span.arena()) {
+            return Err(AddCarveFault::Overlaps(span));
+        }
+        if self.arena.id() != id || self.arena.quantum() != quantum {
+            return Err(AddCarveFault::Overlaps(span));
+        }
+        // For its clause: what is always so of a range.
+        let _ = span.range();
+        let request = Request::plain(size);
+        match self.arena.add_span_and_carve(span, &request) {
+            Ok(segment) => Ok(segment),
+            Err(SpanFault::Overlaps(span)) => Err(AddCarveFault::Overlaps(span)),
+            Err(SpanFault::NotAligned(span)) => Err(AddCarveFault::NotAligned(span)),
+            Err(SpanFault::NoMemory(span)) => Err(AddCarveFault::NoMemory(span)),
+        }
+    }
+
+    /// Takes out the lowest owned span that is wholly free.
+    pub(crate) fn remove_owned(&mut self) -> Option<SeatDeed<N>>
+        ensures { RemoveOf self.old.arena (option_map (λ d. d) result) self.new.arena }
+    {
+        self.arena.remove_owned()
+    }
+
+    /// Ends an arena in which no deed lies, and hands back another.
+    pub(crate) fn close(self) -> Result<(), ArenaPart<N>>
+        ensures exactly { IsOk result ↔ (self.arena.free ≡ []) }
+        ensures handed_back { IfErr result (λ same. same ≡ self) }
+    {
+        let ArenaPart {
+            source,
+            arena,
+            opener,
+        } = self;
+        match arena.close() {
+            Ok(()) => Ok(()),
+            Err(arena) => Err(ArenaPart {
+                source,
+                arena,
+                opener,
+            }),
+        }
+    }
+}

@@ -1,0 +1,174 @@
+//! A depot as its lock keeps it, and its exchanges with a CPU.
+ghost use Rattle.std.specs.Prelude.{◌≡◌, ◌≢◌, ◌<◌, ◌↔◌, [], Some, Err, IsOk, IfSome, IfErr, OnOk};
+ghost use Rattle.magazine_layer.specs.Magazines.{IsSize, BothFull};
+ghost use Rattle.magazine_layer.specs.Depots.{new_depot, after_tick, depot_rounds};
+ghost use Rattle.magazine_layer.specs.Calls.{DepotReapOf, ResizeOf};
+ghost use Rattle.locked_parts.specs.Kinds.{IsOfKind};
+ghost use Rattle.locked_parts.specs.Swaps.{GivesFull, GivesEmpty, TakesFull};
+
+use crate::cpu_rounds::KindRounds;
+use crate::kinds::CacheKind;
+use arena_tree::{SwapEmptyFault, SwapFreshFault, SwapFullFault};
+use deed_core::{Deed, Segment};
+use magazine_layer::{Depot, EmptyFault, FullFault, Magazine, NotGreater, PutFullFault};
+use std::alloc::Global;
+use std::marker::Model;
+
+/// The magazines of a quantum cache that no CPU has: all their rounds are chunks of it.
+pub(crate) struct KindDepot<D: Deed> {
+    kind: CacheKind,
+    depot: Depot<D>,
+}
+
+impl<D: Deed> Model for KindDepot<D> {
+    ghost use Rattle.locked_parts.specs.Kinds.{KindDepotState, IsKindDepot};
+
+    ghost Value = { KindDepotState };
+
+    ghost view = { λ d. record { kind = d.kind; depot = d.depot } };
+
+    ghost invariant = { λ d. IsKindDepot (record { kind = d.kind; depot = d.depot }) };
+}
+
+impl<D: Deed> KindDepot<D> {
+    /// A depot with no magazine.
+    pub(crate) fn new(alloc: Global, kind: CacheKind, size: usize) -> KindDepot<D>
+        requires quantum { 0 < kind.quantum }
+        requires size { IsSize size }
+        ensures { result ≡ record { kind = kind; depot = new_depot size } }
+    {
+        KindDepot {
+            kind,
+            depot: Depot::new(alloc, size),
+        }
+    }
+
+    /// The quantum cache.
+    pub(crate) fn kind(&self) -> CacheKind
+        ensures value { result ≡ self.now.kind }
+        ensures quantum { 0 < result.quantum }
+    {
+        self.kind
+    }
+
+    /// Gives a CPU of this cache, whose magazines are both empty, a full one. Another CPU finds
+    /// none.
+    pub(crate) fn swap_full(&mut self, cpu: &mut KindRounds<D>) -> Result<(), SwapFullFault>
+        ensures event { GivesFull cpu.old self.old result cpu.new self.new }
+        ensures kind { cpu.new.kind ≡ cpu.old.kind }
+        ensures goes { result ≢ Err SwapFullFault.Stopped }
+    {
+        if !self.kind.is(&cpu.kind) || !cpu.is_empty() {
+            return Err(SwapFullFault::NoneFull);
+        }
+        match self.depot.swap_for_full(&mut cpu.cpu) {
+            Ok(()) => Ok(()),
+            Err(FullFault::OldSize(size)) => Err(SwapFullFault::OldSize(size)),
+            Err(FullFault::NoneFull) => Err(SwapFullFault::NoneFull),
+        }
+    }
+
+    /// Gives a CPU of this cache, whose magazines are both full, an empty one. Another CPU finds
+    /// none.
+    pub(crate) fn swap_empty(&mut self, cpu: &mut KindRounds<D>) -> Result<(), SwapEmptyFault>
+        ensures event { GivesEmpty cpu.old self.old result cpu.new self.new }
+        ensures kind { cpu.new.kind ≡ cpu.old.kind }
+        ensures goes { result ≢ Err SwapEmptyFault.Stopped }
+    {
+        if !self.kind.is(&cpu.kind) || !cpu.cpu.is_full() {
+            return Err(SwapEmptyFault::NoneEmpty);
+        }
+        match self.depot.swap_for_empty(&mut cpu.cpu) {
+            Ok(()) => Ok(()),
+            Err(EmptyFault::OldSize(size)) => Err(SwapEmptyFault::OldSize(size)),
+            Err(EmptyFault::NoneEmpty) => Err(SwapEmptyFault::NoneEmpty),
+        }
+    }
+
+    /// The same by this magazine, which is empty, in place of one that it has.
+    pub(crate) fn swap_fresh(
+        &mut self,
+        cpu: &mut KindRounds<D>,
+        magazine: Magazine<D>,
+    ) -> Result<(), SwapFreshFault>
+        requires { magazine.rounds ≡ [] }
+        ensures event { TakesFull magazine cpu.old self.old result cpu.new self.new }
+        ensures kind { cpu.new.kind ≡ cpu.old.kind }
+        ensures goes { result ≢ Err SwapFreshFault.Stopped }
+    {
+        if !self.kind.is(&cpu.kind) || !cpu.cpu.is_full() {
+            end_empty(magazine);
+            return Err(SwapFreshFault::NoMemory);
+        }
+        match self.depot.put_full(&mut cpu.cpu, magazine) {
+            Ok(()) => Ok(()),
+            Err(PutFullFault::OldSize(size, magazine)) => {
+                end_empty(magazine);
+                Err(SwapFreshFault::OldSize(size))
+            }
+            Err(PutFullFault::NoMemory(magazine)) => {
+                end_empty(magazine);
+                Err(SwapFreshFault::NoMemory)
+            }
+        }
+    }
+
+    /// Begins an interval.
+    pub(crate) fn tick(&mut self)
+        ensures { self.new ≡ record { kind = self.old.kind; depot = after_tick self.old.depot } }
+    {
+        self.depot.tick();
+    }
+
+    /// Has magazines of a greater size from here on.
+    pub(crate) fn resize(&mut self, size: usize) -> Result<(), NotGreater>
+        requires { IsSize size }
+        ensures resized { ResizeOf self.old.depot size result self.new.depot }
+        ensures kind { self.new.kind ≡ self.old.kind }
+    {
+        self.depot.resize(size)
+    }
+
+    /// Takes a round that may be reaped, if there is one.
+    pub(crate) fn reap(&mut self) -> Option<Segment<D>>
+        ensures reaped { DepotReapOf self.old.depot result self.new.depot }
+        ensures chunk { IfSome result (IsOfKind self.old.kind) }
+        ensures quantum { 0 < self.old.kind.quantum }
+        ensures kind { self.new.kind ≡ self.old.kind }
+    {
+        self.depot.reap()
+    }
+
+    /// The same of the depot of this quantum cache; another has none.
+    pub(crate) fn reap_of(&mut self, kind: &CacheKind) -> Option<Segment<D>>
+        ensures chunk { IfSome result (IsOfKind kind.now) }
+        ensures event { IfSome result (λ t.
+            DepotReapOf self.old.depot (Some t) self.new.depot) }
+    {
+        if !self.kind.is(kind) {
+            return None;
+        }
+        self.reap()
+    }
+
+    /// Ends one that has no round, and hands back one that has.
+    pub(crate) fn close(self) -> Result<(), KindDepot<D>>
+        ensures exactly { IsOk result ↔ (depot_rounds self.depot ≡ []) }
+        ensures handed_back { IfErr result (λ same. same ≡ self) }
+    {
+        let KindDepot { kind, depot } = self;
+        match depot.close() {
+            Ok(()) => Ok(()),
+            Err(depot) => Err(KindDepot { kind, depot }),
+        }
+    }
+}
+
+fn end_empty<D: Deed>(magazine: Magazine<D>)
+    requires { magazine.rounds ≡ [] }
+{
+    match magazine.discard() {
+        Ok(()) => {}
+        Err(_) => unreachable!(),
+    }
+}

@@ -1,0 +1,35 @@
+//! The parts of a running system, each under a lock of its own, and who reaches them.
+//!
+//! Under the locks stand the parts of the stock: `ArenaPart` (arena_parts), the slab cache
+//! (slab_parts) and `KindDepot` (kind_depots). What lies there when a lock is taken is known by its
+//! type alone, so each event looks whether it is the part that is meant. `LockedParts` (parts) has
+//! them by the numbers of their arenas; they are made of arenas as they stand before their locks
+//! (new_arenas, new_caches), and ended by taking them from under the locks (ending).
+//!
+//! `Running` (running) is `arena_tree::Parts` over them for one CPU, which has two magazines for
+//! each quantum cache (cpu_rounds, own_rounds): each event of a shared part takes its lock, and no
+//! other (locked_events, own_events), and asks the gate (gates) before.
+#![tactic(auto)]
+
+mod arena_parts;
+mod cpu_rounds;
+mod ending;
+mod gates;
+mod kind_depots;
+mod kinds;
+mod locked_events;
+mod new_arenas;
+mod new_caches;
+mod own_events;
+mod own_rounds;
+mod parts;
+mod running;
+mod slab_parts;
+
+pub use cpu_rounds::KindRounds;
+pub use gates::{EventName, Gate, NextStep, OpenGate, Pass, RequestStopped, Steps};
+pub use kinds::{CacheKind, quantum_of};
+pub use new_arenas::NewArena;
+pub use own_rounds::{end_rounds, new_rounds};
+pub use parts::{ArenaPlace, LockedParts};
+pub use running::Running;

@@ -1,0 +1,179 @@
+//! The events of arenas, slabs and depots in a parts. Each takes one lock.
+ghost use Rattle.std.specs.Prelude.{◌≡◌, ◌<◌, ◌≤◌, ◌%◌, Some, length};
+ghost use Rattle.deed_core.specs.Request.{rounded};
+ghost use Rattle.arena_tree.specs.Chains.{source_of, quantum_in};
+ghost use Rattle.arena_tree.specs.Events.{Carve, Free, AddCarve, SlabTake, SlabPut, SlabAdd};
+ghost use Rattle.arena_tree.specs.Events.{SlabReap, DepotReap};
+ghost use Rattle.arena_tree.specs.Trees.{nodes_of};
+ghost use Rattle.locked_parts.specs.Answers.{GoesOn};
+
+use crate::kinds::quantum_of;
+use crate::parts::LockedParts;
+use crate::slab_parts::{add_slab, reap_slab, take_chunk};
+use arena_tree::{AddCarveFault, CarveFault, FreeFault, SlabAddFault, SlabPutFault, Stopped, Tree};
+use deed_core::{Request, Route, Segment};
+use deed_table::{Name, SeatDeed};
+use slab_layer::PutFault;
+use std::sync::Wait;
+
+pub(crate) fn carve_in<N: Name, R: Wait>(
+    parts: &LockedParts<N>,
+    rt: &R,
+    arena: u32,
+    request: &Request,
+) -> Result<Segment<SeatDeed<N>>, CarveFault>
+    requires { arena < length parts.now.arenas }
+    ensures { GoesOn (nodes_of parts.now.arenas) (Carve arena request.now) result }
+{
+    let quantum = quantum_of(parts.tree(), arena);
+    let Some(place) = parts.places.get(arena as usize) else {
+        if request.is_good(quantum) {
+            return Err(CarveFault::NoMemory);
+        }
+        return Err(CarveFault::BadRequest);
+    };
+    place.part.lock(rt).carve(arena, quantum, request)
+}
+
+// The source of an arena.
+fn source_in(tree: &Tree, arena: u32) -> Option<u32>
+    requires { arena < length tree.now }
+    ensures { source_of (nodes_of tree.now) arena ≡ result }
+{
+    tree.arena(arena).source
+}
+
+pub(crate) fn free_in<N: Name, R: Wait>(
+    parts: &LockedParts<N>,
+    rt: &R,
+    segment: Segment<SeatDeed<N>>,
+) -> Result<Option<Segment<SeatDeed<N>>>, FreeFault<Segment<SeatDeed<N>>>>
+    ensures { GoesOn (nodes_of parts.now.arenas) (Free segment) result }
+{
+    let arena = segment.arena();
+    if arena as usize >= parts.tree().len() {
+        return Err(FreeFault::BadFree(segment));
+    }
+    let source = source_in(parts.tree(), arena);
+    let Some(place) = parts.places.get(arena as usize) else {
+        return Err(FreeFault::BadFree(segment));
+    };
+    place.part.lock(rt).free(source, segment)
+}
+
+pub(crate) fn add_carve_in<N: Name, R: Wait>(
+    parts: &LockedParts<N>,
+    rt: &R,
+    child: u32,
+    span: Segment<SeatDeed<N>>,
+    size: u64,
+) -> Result<Segment<SeatDeed<N>>, AddCarveFault<Segment<SeatDeed<N>>>>
+    requires child { child < length parts.now.arenas }
+    requires some { 0 < size }
+    requires room { rounded (quantum_in (nodes_of parts.now.arenas) child) size
+        ≤ span.holding.range.len }
+    requires direct { span.route ≡ Route.Direct }
+    ensures { GoesOn (nodes_of parts.now.arenas) (AddCarve child span size) result }
+{
+    let quantum = quantum_of(parts.tree(), child);
+    let Some(place) = parts.places.get(child as usize) else {
+        return Err(AddCarveFault::Overlaps(span));
+    };
+    place.part.lock(rt).add_carve(child, quantum, span, size)
+}
+
+pub(crate) fn slab_take_in<N: Name, R: Wait>(
+    parts: &LockedParts<N>,
+    rt: &R,
+    arena: u32,
+    cache: u8,
+) -> Result<Option<Segment<SeatDeed<N>>>, Stopped>
+    ensures { GoesOn (nodes_of parts.now.arenas) (SlabTake arena cache) result }
+{
+    let Some(kind) = parts.kind(arena, cache) else {
+        return Ok(None);
+    };
+    let Some(place) = parts.cache(arena, cache) else {
+        return Ok(None);
+    };
+    let mut slab = place.slab.lock(rt);
+    Ok(take_chunk(&mut slab, &kind))
+}
+
+pub(crate) fn slab_put_in<N: Name, R: Wait>(
+    parts: &LockedParts<N>,
+    rt: &R,
+    segment: Segment<SeatDeed<N>>,
+) -> Result<(), SlabPutFault<Segment<SeatDeed<N>>>>
+    ensures { GoesOn (nodes_of parts.now.arenas) (SlabPut segment) result }
+{
+    let Route::Cached(number) = segment.route() else {
+        return Err(SlabPutFault::NotMine(segment));
+    };
+    let Some(place) = parts.cache(segment.arena(), number) else {
+        return Err(SlabPutFault::NotMine(segment));
+    };
+    match place.slab.lock(rt).put(segment) {
+        Ok(()) => Ok(()),
+        Err(PutFault::NotMine(segment)) => Err(SlabPutFault::NotMine(segment)),
+        Err(PutFault::AtHome(segment)) => Err(SlabPutFault::AtHome(segment)),
+    }
+}
+
+pub(crate) fn slab_add_in<N: Name, R: Wait>(
+    parts: &LockedParts<N>,
+    rt: &R,
+    arena: u32,
+    cache: u8,
+    span: Segment<SeatDeed<N>>,
+) -> Result<Segment<SeatDeed<N>>, SlabAddFault<Segment<SeatDeed<N>>>>
+    requires of_arena { span.arena ≡ arena }
+    requires direct { span.route ≡ Route.Direct }
+    requires grid { span.holding.range.base % quantum_in (nodes_of parts.now.arenas) arena ≡ 0 }
+    ensures { GoesOn (nodes_of parts.now.arenas) (SlabAdd arena cache span) result }
+{
+    let Some(kind) = parts.kind(arena, cache) else {
+        return Err(SlabAddFault::WrongSize(span));
+    };
+    let Some(place) = parts.cache(arena, cache) else {
+        return Err(SlabAddFault::WrongSize(span));
+    };
+    let mut slab = place.slab.lock(rt);
+    add_slab(&mut slab, &kind, span)
+}
+
+pub(crate) fn slab_reap_in<N: Name, R: Wait>(
+    parts: &LockedParts<N>,
+    rt: &R,
+    arena: u32,
+    cache: u8,
+) -> Result<Option<Segment<SeatDeed<N>>>, Stopped>
+    ensures { GoesOn (nodes_of parts.now.arenas) (SlabReap arena cache) result }
+{
+    let Some(kind) = parts.kind(arena, cache) else {
+        return Ok(None);
+    };
+    let Some(place) = parts.cache(arena, cache) else {
+        return Ok(None);
+    };
+    let mut slab = place.slab.lock(rt);
+    Ok(reap_slab(&mut slab, &kind))
+}
+
+pub(crate) fn depot_reap_in<N: Name, R: Wait>(
+    parts: &LockedParts<N>,
+    rt: &R,
+    arena: u32,
+    cache: u8,
+) -> Result<Option<Segment<SeatDeed<N>>>, Stopped>
+    ensures { GoesOn (nodes_of parts.now.arenas) (DepotReap arena cache) result }
+{
+    let Some(kind) = parts.kind(arena, cache) else {
+        return Ok(None);
+    };
+    let Some(place) = parts.cache(arena, cache) else {
+        return Ok(None);
+    };
+    let mut depot = place.depot.lock(rt);
+    Ok(depot.reap_of(&kind))
+}

@@ -1,0 +1,112 @@
+//! Quantum caches as they are made, before they are put under their locks.
+ghost use Rattle.std.specs.Prelude.{◌≡◌, ◌+◌, ◌<◌, ◌≤◌, length, vec_len, vec_capacity};
+ghost use Rattle.locked_parts.specs.Kinds.{caches_of};
+
+use crate::cpu_rounds::FIRST_SIZE;
+use crate::kind_depots::KindDepot;
+use crate::kinds::CacheKind;
+use crate::parts::CachePlace;
+use arena_tree::{Tree, TreeArena};
+use deed_table::{Name, SeatDeed};
+use slab_layer::SlabCache;
+use std::alloc::Global;
+use std::marker::Model;
+use std::sync::Mutex;
+
+/// A quantum cache with no slab and no magazine.
+pub(crate) struct NewCache<N: Name> {
+    slab: SlabCache<SeatDeed<N>>,
+    depot: KindDepot<SeatDeed<N>>,
+}
+
+impl<N: Name> Model for NewCache<N> {
+    ghost use Rattle.std.specs.Prelude.{◌≡◌, []};
+    ghost use Rattle.slab_layer.specs.Cache.{deeds_of};
+    ghost use Rattle.magazine_layer.specs.Depots.{depot_rounds};
+    ghost use Rattle.locked_parts.specs.declared.kinds.CacheKind.{CacheKind};
+
+    ghost Value = { CacheKind };
+
+    ghost view = { λ c. c.depot.kind };
+
+    ghost invariant = { λ c. (deeds_of c.slab ≡ []) × (depot_rounds c.depot.depot ≡ []) };
+}
+
+impl<N: Name> NewCache<N> {
+    fn lock(self) -> CachePlace<N> {
+        let NewCache { slab, depot } = self;
+        CachePlace {
+            slab: Mutex::new(slab),
+            depot: Mutex::new(depot),
+        }
+    }
+
+    fn end(self) {
+        let NewCache { slab, depot } = self;
+        match slab.close() {
+            Ok(()) => {}
+            Err(_) => unreachable!(),
+        }
+        match depot.close() {
+            Ok(()) => {}
+            Err(_) => unreachable!(),
+        }
+    }
+}
+
+// The new cache for `number` quanta of an arena.
+fn new_cache<N: Name>(alloc: Global, tree: &Tree, arena: u32, number: u8) -> NewCache<N>
+    requires within { arena < length tree.now }
+    requires number { (1 ≤ number) × (number ≤ caches_of tree.now arena) }
+{
+    let TreeArena {
+        quantum,
+        slab_size,
+        ..
+    } = *tree.arena(arena);
+    let kind = CacheKind {
+        arena,
+        number,
+        quantum,
+    };
+    NewCache {
+        slab: SlabCache::new(alloc, arena, number, quantum, slab_size),
+        depot: KindDepot::new(alloc, kind, FIRST_SIZE),
+    }
+}
+
+/// Adds the new caches of an arena, for which there is room.
+pub(crate) fn add_caches<N: Name>(
+    alloc: Global,
+    tree: &Tree,
+    arena: u32,
+    count: u8,
+    caches: &mut Vec<NewCache<N>>,
+)
+    requires within { arena < length tree.now }
+    requires count { count ≡ caches_of tree.now arena }
+    requires room { vec_len caches.old + count ≤ vec_capacity caches.old }
+    ensures { vec_len caches.new ≡ vec_len caches.old + count }
+{
+    for number in 1..=count {
+        caches.push_reserved(new_cache(alloc, tree, arena, number));
+    }
+}
+
+/// Ends them.
+pub(crate) fn end_caches<N: Name>(mut caches: Vec<NewCache<N>>) {
+    while let Some(cache) = caches.pop() {
+        cache.end();
+    }
+    caches.destroy_empty();
+}
+
+/// Puts them under their locks, in their order.
+pub(crate) fn lock_caches<N: Name>(mut caches: Vec<NewCache<N>>, locked: &mut Vec<CachePlace<N>>)
+    requires { vec_len locked.old + vec_len caches ≤ vec_capacity locked.old }
+{
+    while !caches.is_empty() {
+        locked.push_reserved(caches.remove(0).lock());
+    }
+    caches.destroy_empty();
+}

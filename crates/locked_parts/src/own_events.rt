@@ -1,0 +1,169 @@
+//! The events of a CPU's own magazines, by themselves and with a depot of the parts.
+ghost use Rattle.std.specs.Prelude.{◌≡◌, ◌≢◌, ◌<◌, Some, Err, IfSome, length, slice_get};
+ghost use Rattle.arena_tree.specs.Events.{Pop, Push, Change};
+ghost use Rattle.arena_tree.specs.Sound.{PopsRound, PushesRound};
+ghost use Rattle.arena_tree.specs.Trees.{nodes_of};
+ghost use Rattle.locked_parts.specs.Answers.{GoesOn};
+ghost use Rattle.locked_parts.specs.Kinds.{KindRoundsState, rounds_in};
+
+use crate::cpu_rounds::KindRounds;
+use crate::kinds::CacheKind;
+use crate::parts::LockedParts;
+use arena_tree::{ChangeFault, PushFault, Stopped, SwapEmptyFault, SwapFreshFault, SwapFullFault};
+use deed_core::Segment;
+use deed_table::{Name, SeatDeed};
+use magazine_layer::Magazine;
+use std::sync::Wait;
+
+// Where the CPU keeps its magazines for the cache.
+fn own_at<N: Name>(
+    parts: &LockedParts<N>,
+    caches: &[KindRounds<SeatDeed<N>>],
+    kind: &CacheKind,
+) -> Option<usize>
+    ensures within { IfSome result (λ place. place < length caches.now) }
+    ensures kind { IfSome result (λ place. (o : KindRoundsState)
+        × (slice_get caches.now place ≡ Some o) × (o.kind ≡ kind.now)) }
+{
+    let place = parts.own_place(kind.arena, kind.number);
+    if place >= caches.len() {
+        return None;
+    }
+    let own = &caches[place];
+    if !own.kind.is(kind) {
+        return None;
+    }
+    Some(place)
+}
+
+pub(crate) fn pop_in<N: Name>(
+    parts: &LockedParts<N>,
+    caches: &mut Vec<KindRounds<SeatDeed<N>>>,
+    arena: u32,
+    cache: u8,
+) -> Result<Option<Segment<SeatDeed<N>>>, Stopped>
+    ensures goes { GoesOn (nodes_of parts.now.arenas) (Pop arena cache) result }
+    ensures moved { PopsRound result (rounds_in caches.old.items) (rounds_in caches.new.items) }
+{
+    let Some(kind) = parts.kind(arena, cache) else {
+        return Ok(None);
+    };
+    let Some(place) = own_at(parts, caches, &kind) else {
+        return Ok(None);
+    };
+    let own = &mut caches[place];
+    Ok(own.pop())
+}
+
+pub(crate) fn push_in<N: Name>(
+    parts: &LockedParts<N>,
+    caches: &mut Vec<KindRounds<SeatDeed<N>>>,
+    arena: u32,
+    cache: u8,
+    segment: Segment<SeatDeed<N>>,
+) -> Result<(), PushFault<Segment<SeatDeed<N>>>>
+    ensures goes { GoesOn (nodes_of parts.now.arenas) (Push arena cache segment) result }
+    ensures moved { PushesRound result (rounds_in caches.old.items) (rounds_in caches.new.items) }
+{
+    let Some(kind) = parts.kind(arena, cache) else {
+        return Err(PushFault::NoRoom(segment));
+    };
+    let Some(place) = own_at(parts, caches, &kind) else {
+        return Err(PushFault::NoRoom(segment));
+    };
+    let own = &mut caches[place];
+    match own.push(segment) {
+        Ok(()) => Ok(()),
+        Err(segment) => Err(PushFault::NoRoom(segment)),
+    }
+}
+
+pub(crate) fn change_in<N: Name>(
+    parts: &LockedParts<N>,
+    caches: &mut Vec<KindRounds<SeatDeed<N>>>,
+    arena: u32,
+    cache: u8,
+    size: usize,
+) -> Result<(), ChangeFault>
+    ensures goes { GoesOn (nodes_of parts.now.arenas) (Change arena cache size) result }
+    ensures moved { rounds_in caches.new.items ≡ rounds_in caches.old.items }
+{
+    let Some(kind) = parts.kind(arena, cache) else {
+        return Err(ChangeFault::NotGreater);
+    };
+    let Some(place) = own_at(parts, caches, &kind) else {
+        return Err(ChangeFault::NotGreater);
+    };
+    let own = &mut caches[place];
+    own.change(parts.alloc, size)
+}
+
+pub(crate) fn swap_full_in<N: Name, R: Wait>(
+    parts: &LockedParts<N>,
+    rt: &R,
+    caches: &mut Vec<KindRounds<SeatDeed<N>>>,
+    arena: u32,
+    cache: u8,
+) -> Result<(), SwapFullFault>
+    ensures { result ≢ Err SwapFullFault.Stopped }
+{
+    let Some(kind) = parts.kind(arena, cache) else {
+        return Err(SwapFullFault::NoneFull);
+    };
+    let Some(own) = own_at(parts, caches, &kind) else {
+        return Err(SwapFullFault::NoneFull);
+    };
+    let Some(place) = parts.cache(arena, cache) else {
+        return Err(SwapFullFault::NoneFull);
+    };
+    let mut depot = place.depot.lock(rt);
+    depot.swap_full(&mut caches[own])
+}
+
+pub(crate) fn swap_empty_in<N: Name, R: Wait>(
+    parts: &LockedParts<N>,
+    rt: &R,
+    caches: &mut Vec<KindRounds<SeatDeed<N>>>,
+    arena: u32,
+    cache: u8,
+) -> Result<(), SwapEmptyFault>
+    ensures { result ≢ Err SwapEmptyFault.Stopped }
+{
+    let Some(kind) = parts.kind(arena, cache) else {
+        return Err(SwapEmptyFault::NoneEmpty);
+    };
+    let Some(own) = own_at(parts, caches, &kind) else {
+        return Err(SwapEmptyFault::NoneEmpty);
+    };
+    let Some(place) = parts.cache(arena, cache) else {
+        return Err(SwapEmptyFault::NoneEmpty);
+    };
+    let mut depot = place.depot.lock(rt);
+    depot.swap_empty(&mut caches[own])
+}
+
+pub(crate) fn swap_fresh_in<N: Name, R: Wait>(
+    parts: &LockedParts<N>,
+    rt: &R,
+    caches: &mut Vec<KindRounds<SeatDeed<N>>>,
+    arena: u32,
+    cache: u8,
+) -> Result<(), SwapFreshFault>
+    ensures { result ≢ Err SwapFreshFault.Stopped }
+{
+    let Some(kind) = parts.kind(arena, cache) else {
+        return Err(SwapFreshFault::NoMemory);
+    };
+    let Some(own) = own_at(parts, caches, &kind) else {
+        return Err(SwapFreshFault::NoMemory);
+    };
+    let Some(place) = parts.cache(arena, cache) else {
+        return Err(SwapFreshFault::NoMemory);
+    };
+    let size = caches[own].size();
+    let Ok(magazine) = Magazine::new(parts.alloc, size) else {
+        return Err(SwapFreshFault::NoMemory);
+    };
+    let mut depot = place.depot.lock(rt);
+    depot.swap_fresh(&mut caches[own], magazine)
+}

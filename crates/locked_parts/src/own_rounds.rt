@@ -1,0 +1,77 @@
+//! All magazines of one CPU.
+ghost use Rattle.std.specs.Prelude.{◌≡◌, ◌<◌, All, length, IfOk};
+ghost use Rattle.magazine_layer.specs.Magazines.{BothEmpty};
+
+use crate::cpu_rounds::KindRounds;
+use crate::kinds::{CacheKind, cache_count, quantum_of};
+use arena_tree::Tree;
+use deed_table::{Name, SeatDeed};
+use std::alloc::{AllocError, Global};
+
+/// Two empty magazines of the first size for each quantum cache of each arena, in their order.
+pub fn new_rounds<N: Name>(
+    alloc: Global,
+    tree: &Tree,
+) -> Result<Vec<KindRounds<SeatDeed<N>>>, AllocError>
+    ensures { IfOk result (λ caches. All (λ r. BothEmpty r.cpu) caches.items) }
+{
+    let mut caches = Vec::new(alloc);
+    match fill(alloc, tree, &mut caches) {
+        Ok(()) => Ok(caches),
+        Err(refused) => {
+            end_rounds(caches);
+            Err(refused)
+        }
+    }
+}
+
+// Adds two magazines for each quantum cache of each arena.
+fn fill<N: Name>(
+    alloc: Global,
+    tree: &Tree,
+    caches: &mut Vec<KindRounds<SeatDeed<N>>>,
+) -> Result<(), AllocError>
+    requires { All (λ r. BothEmpty r.cpu) caches.old.items }
+    ensures { All (λ r. BothEmpty r.cpu) caches.new.items }
+{
+    for arena in 0..tree.len() as u32 {
+        fill_arena(alloc, tree, arena, caches)?;
+    }
+    Ok(())
+}
+
+fn fill_arena<N: Name>(
+    alloc: Global,
+    tree: &Tree,
+    arena: u32,
+    caches: &mut Vec<KindRounds<SeatDeed<N>>>,
+) -> Result<(), AllocError>
+    requires within { arena < length tree.now }
+    requires empty { All (λ r. BothEmpty r.cpu) caches.old.items }
+    ensures { All (λ r. BothEmpty r.cpu) caches.new.items }
+{
+    let quantum = quantum_of(tree, arena);
+    for number in 1..=cache_count(tree, arena) {
+        caches.reserve(1)?;
+        let own = KindRounds::new(
+            alloc,
+            CacheKind {
+                arena,
+                number,
+                quantum,
+            },
+        )?;
+        caches.push_reserved(own);
+    }
+    Ok(())
+}
+
+/// Ends magazines that have no round.
+pub fn end_rounds<N: Name>(mut caches: Vec<KindRounds<SeatDeed<N>>>)
+    requires { All (λ r. BothEmpty r.cpu) caches.items }
+{
+    while let Some(own) = caches.pop() {
+        own.end();
+    }
+    caches.destroy_empty();
+}

@@ -1,0 +1,139 @@
+//! The parts of a system, each under its lock.
+ghost use Rattle.std.specs.Prelude.{◌≡◌, ◌<◌, IfSome, length};
+ghost use Rattle.arena_tree.specs.Chains.{quantum_in};
+ghost use Rattle.arena_tree.specs.Trees.{nodes_of};
+ghost use Rattle.magazine_layer.specs.Magazines.{IsSize};
+
+use crate::arena_parts::ArenaPart;
+use crate::kind_depots::KindDepot;
+use crate::kinds::{CacheKind, quantum_of};
+use arena_tree::Tree;
+use deed_table::{Name, SeatDeed};
+use slab_layer::SlabCache;
+use std::alloc::Global;
+use std::marker::Model;
+use std::sync::{Mutex, Wait};
+
+/// A quantum cache: its slabs and its depot, each under its lock.
+pub(crate) struct CachePlace<N: Name> {
+    pub(crate) slab: Mutex<SlabCache<SeatDeed<N>>>,
+    pub(crate) depot: Mutex<KindDepot<SeatDeed<N>>>,
+}
+
+/// An arena under its lock, and its quantum caches by their numbers, from 1 on.
+pub struct ArenaPlace<N: Name> {
+    pub(crate) part: Mutex<ArenaPart<N>>,
+    pub(crate) caches: Vec<CachePlace<N>>,
+    /// How many quantum caches the arenas before it have.
+    pub(crate) before: usize,
+}
+
+/// Arenas with their quantum caches, each part under a lock of its own. A contract sees the arenas
+/// as they were set up, and how many stand, which are the first ones.
+pub struct LockedParts<N: Name> {
+    pub(crate) alloc: Global,
+    pub(crate) tree: Tree,
+    pub(crate) places: Vec<ArenaPlace<N>>,
+}
+
+impl<N: Name> Model for LockedParts<N> {
+    ghost use Rattle.std.specs.Prelude.{vec_len};
+    ghost use Rattle.locked_parts.specs.States.{PartsState};
+
+    ghost Value = { PartsState };
+
+    ghost view = { λ p. record { arenas = p.tree; standing = vec_len p.places } };
+}
+
+impl<N: Name> LockedParts<N> {
+    /// The arenas of a tree, in their order, under their locks.
+    pub fn new(alloc: Global, tree: Tree, places: Vec<ArenaPlace<N>>) -> LockedParts<N>
+        ensures arenas { result.arenas ≡ tree }
+        ensures standing { result.standing ≡ length places.items }
+    {
+        LockedParts {
+            alloc,
+            tree,
+            places,
+        }
+    }
+
+    /// What new magazines are made with.
+    pub fn alloc(&self) -> Global {
+        self.alloc
+    }
+
+    /// The arenas as they were set up.
+    pub fn tree(&self) -> &Tree
+        ensures { result.now ≡ self.now.arenas }
+    {
+        &self.tree
+    }
+
+    /// The quantum cache of the arena with this number, if the arena was set up.
+    pub(crate) fn kind(&self, arena: u32, number: u8) -> Option<CacheKind>
+        ensures kind { IfSome result (λ k. (k.arena ≡ arena) × (k.number ≡ number)
+            × (0 < k.quantum) × (quantum_in (nodes_of self.now.arenas) arena ≡ k.quantum)) }
+    {
+        if arena as usize >= self.tree.len() {
+            return None;
+        }
+        let quantum = quantum_of(&self.tree, arena);
+        Some(CacheKind {
+            arena,
+            number,
+            quantum,
+        })
+    }
+
+    /// Where that cache is kept.
+    pub(crate) fn cache(&self, arena: u32, number: u8) -> Option<&CachePlace<N>> {
+        if number == 0 {
+            return None;
+        }
+        let place = self.places.get(arena as usize)?;
+        place.caches.get(number as usize - 1)
+    }
+
+    /// Where a CPU keeps its magazines for that cache.
+    pub(crate) fn own_place(&self, arena: u32, number: u8) -> usize {
+        match self.places.get(arena as usize) {
+            Some(place) => place
+                .before
+                .saturating_add((number as usize).saturating_sub(1)),
+            None => usize::MAX,
+        }
+    }
+
+    /// Begins an interval in each depot, one after another.
+    pub fn tick<R: Wait>(&self, rt: &R) {
+        for place in &self.places {
+            for cache in &place.caches {
+                cache.depot.lock(rt).tick();
+            }
+        }
+    }
+
+    /// Has the depots of the arena keep magazines of this size from here on, and says whether one
+    /// of them kept smaller ones before.
+    pub fn resize<R: Wait>(&self, rt: &R, arena: u32, size: usize) -> bool
+        requires { IsSize size }
+    {
+        let Some(place) = self.places.get(arena as usize) else {
+            return false;
+        };
+        let mut rose = false;
+        for cache in &place.caches {
+            if cache.depot.lock(rt).resize(size).is_ok() {
+                rose = true;
+            }
+        }
+        rose
+    }
+
+    /// Takes the lowest owned span that is wholly free out of the arena with this number.
+    pub fn remove_owned<R: Wait>(&self, rt: &R, arena: u32) -> Option<SeatDeed<N>> {
+        let place = self.places.get(arena as usize)?;
+        place.part.lock(rt).remove_owned()
+    }
+}

@@ -1,0 +1,197 @@
+//! The parts of a system as one CPU reaches them: each event of a shared part takes that part's
+//! lock, and no other, and calls one method on what it finds there. Before each event the gate is
+//! asked.
+ghost use Rattle.std.specs.Prelude.{◌≡◌};
+ghost use Rattle.arena_tree.specs.Trees.{nodes_of};
+ghost use Rattle.locked_parts.specs.Gates.{NotesStops};
+ghost use Rattle.locked_parts.specs.Kinds.{rounds_in};
+
+use crate::cpu_rounds::KindRounds;
+use crate::gates::{EventName, Gate, Steps};
+use crate::locked_events::{
+    add_carve_in, carve_in, depot_reap_in, free_in, slab_add_in, slab_put_in, slab_reap_in,
+    slab_take_in,
+};
+use crate::own_events::{change_in, pop_in, push_in, swap_empty_in, swap_fresh_in, swap_full_in};
+use crate::parts::LockedParts;
+use arena_tree::{
+    AddCarveFault, CarveFault, ChangeFault, FreeFault, Parts, PushFault, SlabAddFault,
+    SlabPutFault, Stopped, SwapEmptyFault, SwapFreshFault, SwapFullFault,
+};
+use deed_core::{Request, Segment};
+use deed_table::{Name, SeatDeed};
+use std::sync::Wait;
+
+/// The parts, the runtime, a gate and the magazines of one CPU, all lent.
+#[derive(Drop)]
+pub struct Running<'a, N: Name, R: Wait, G: Gate> {
+    pub parts: &'a LockedParts<N>,
+    pub rt: &'a R,
+    pub gate: &'a G,
+    pub caches: &'a mut Vec<KindRounds<SeatDeed<N>>>,
+    pub steps: Steps,
+    /// How many events of shared parts there were.
+    pub count: u64,
+}
+
+impl<N: Name, R: Wait, G: Gate> Parts<Segment<SeatDeed<N>>> for Running<'_, N, R, G> {
+    ghost step = { λ s e a t.
+        NotesStops G.may_stop s.gate.now t.gate.now s.steps.noted t.steps.noted
+        × (t.caches.ghost_name ≡ s.caches.ghost_name) };
+
+    ghost tree = { λ s. nodes_of s.parts.now.arenas };
+
+    ghost count = { λ s. s.count };
+
+    ghost rounds = { λ s. rounds_in s.caches.now.items };
+
+    fn steps(&self) -> u64 {
+        self.count
+    }
+
+    fn carve(&mut self, arena: u32, request: &Request) -> Result<Segment<SeatDeed<N>>, CarveFault> {
+        if self.steps.stops(self.gate, EventName::Carve) {
+            return Err(CarveFault::Stopped);
+        }
+        self.count = self.count.saturating_add(1);
+        carve_in(self.parts, self.rt, arena, request)
+    }
+
+    fn free(
+        &mut self,
+        segment: Segment<SeatDeed<N>>,
+    ) -> Result<Option<Segment<SeatDeed<N>>>, FreeFault<Segment<SeatDeed<N>>>> {
+        if self.steps.stops(self.gate, EventName::Free) {
+            return Err(FreeFault::Stopped(segment));
+        }
+        self.count = self.count.saturating_add(1);
+        free_in(self.parts, self.rt, segment)
+    }
+
+    fn add_carve(
+        &mut self,
+        child: u32,
+        segment: Segment<SeatDeed<N>>,
+        size: u64,
+    ) -> Result<Segment<SeatDeed<N>>, AddCarveFault<Segment<SeatDeed<N>>>> {
+        if self.steps.stops(self.gate, EventName::AddCarve) {
+            return Err(AddCarveFault::Stopped(segment));
+        }
+        self.count = self.count.saturating_add(1);
+        add_carve_in(self.parts, self.rt, child, segment, size)
+    }
+
+    fn slab_take(
+        &mut self,
+        arena: u32,
+        cache: u8,
+    ) -> Result<Option<Segment<SeatDeed<N>>>, Stopped> {
+        if self.steps.stops(self.gate, EventName::SlabTake) {
+            return Err(Stopped);
+        }
+        self.count = self.count.saturating_add(1);
+        slab_take_in(self.parts, self.rt, arena, cache)
+    }
+
+    fn slab_put(
+        &mut self,
+        segment: Segment<SeatDeed<N>>,
+    ) -> Result<(), SlabPutFault<Segment<SeatDeed<N>>>> {
+        if self.steps.stops(self.gate, EventName::SlabPut) {
+            return Err(SlabPutFault::Stopped(segment));
+        }
+        self.count = self.count.saturating_add(1);
+        slab_put_in(self.parts, self.rt, segment)
+    }
+
+    fn slab_add(
+        &mut self,
+        arena: u32,
+        cache: u8,
+        segment: Segment<SeatDeed<N>>,
+    ) -> Result<Segment<SeatDeed<N>>, SlabAddFault<Segment<SeatDeed<N>>>> {
+        if self.steps.stops(self.gate, EventName::SlabAdd) {
+            return Err(SlabAddFault::Stopped(segment));
+        }
+        self.count = self.count.saturating_add(1);
+        slab_add_in(self.parts, self.rt, arena, cache, segment)
+    }
+
+    fn slab_reap(
+        &mut self,
+        arena: u32,
+        cache: u8,
+    ) -> Result<Option<Segment<SeatDeed<N>>>, Stopped> {
+        if self.steps.stops(self.gate, EventName::SlabReap) {
+            return Err(Stopped);
+        }
+        self.count = self.count.saturating_add(1);
+        slab_reap_in(self.parts, self.rt, arena, cache)
+    }
+
+    fn swap_full(&mut self, arena: u32, cache: u8) -> Result<(), SwapFullFault> {
+        if self.steps.stops(self.gate, EventName::SwapFull) {
+            return Err(SwapFullFault::Stopped);
+        }
+        self.count = self.count.saturating_add(1);
+        swap_full_in(self.parts, self.rt, self.caches, arena, cache)
+    }
+
+    fn swap_empty(&mut self, arena: u32, cache: u8) -> Result<(), SwapEmptyFault> {
+        if self.steps.stops(self.gate, EventName::SwapEmpty) {
+            return Err(SwapEmptyFault::Stopped);
+        }
+        self.count = self.count.saturating_add(1);
+        swap_empty_in(self.parts, self.rt, self.caches, arena, cache)
+    }
+
+    fn swap_fresh(&mut self, arena: u32, cache: u8) -> Result<(), SwapFreshFault> {
+        if self.steps.stops(self.gate, EventName::SwapEmpty) {
+            return Err(SwapFreshFault::Stopped);
+        }
+        self.count = self.count.saturating_add(1);
+        swap_fresh_in(self.parts, self.rt, self.caches, arena, cache)
+    }
+
+    fn depot_reap(
+        &mut self,
+        arena: u32,
+        cache: u8,
+    ) -> Result<Option<Segment<SeatDeed<N>>>, Stopped> {
+        if self.steps.stops(self.gate, EventName::DepotReap) {
+            return Err(Stopped);
+        }
+        self.count = self.count.saturating_add(1);
+        depot_reap_in(self.parts, self.rt, arena, cache)
+    }
+
+    fn pop(&mut self, arena: u32, cache: u8) -> Result<Option<Segment<SeatDeed<N>>>, Stopped> {
+        if self.steps.stops(self.gate, EventName::Pop) {
+            return Err(Stopped);
+        }
+        // For its range, which the count of steps has to keep; here and below.
+        let _count = self.count;
+        pop_in(self.parts, self.caches, arena, cache)
+    }
+
+    fn push(
+        &mut self,
+        arena: u32,
+        cache: u8,
+        segment: Segment<SeatDeed<N>>,
+    ) -> Result<(), PushFault<Segment<SeatDeed<N>>>> {
+        if self.steps.stops(self.gate, EventName::Push) {
+            return Err(PushFault::Stopped(segment));
+        }
+        let _count = self.count;
+        push_in(self.parts, self.caches, arena, cache, segment)
+    }
+
+    fn change(&mut self, arena: u32, cache: u8, size: usize) -> Result<(), ChangeFault> {
+        if self.steps.stops(self.gate, EventName::Change) {
+            return Err(ChangeFault::Stopped);
+        }
+        let _count = self.count;
+        change_in(self.parts, self.caches, arena, cache, size)
+    }
+}

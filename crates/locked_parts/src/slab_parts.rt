@@ -1,0 +1,67 @@
+//! The events of a slab cache under its lock. Each looks whether it is the cache that is meant.
+ghost use Rattle.std.specs.Prelude.{◌≡◌, IsTrue, false, IfSome, IfOk, IfErr, Ok, Some, OnErr, IfNone};
+ghost use Rattle.slab_layer.specs.Calls.{TakeOf, AddOf, ReapOf};
+ghost use Rattle.arena_tree.specs.Events.{slab_back};
+ghost use Rattle.locked_parts.specs.Answers.{IsSpanOfKind};
+ghost use Rattle.locked_parts.specs.Kinds.{IsOfKind};
+ghost use Rattle.arena_tree.specs.Stops.{slab_stops};
+
+use crate::kinds::CacheKind;
+use arena_tree::SlabAddFault;
+use deed_core::{Deed, Segment};
+use slab_layer::{AddFault, SlabCache};
+
+// Whether the cache is that.
+fn is_kind<D: Deed>(slab: &SlabCache<D>, kind: &CacheKind) -> bool
+    ensures { IsTrue result → (slab.now.arena ≡ kind.now.arena)
+        × (slab.now.k ≡ kind.now.number) × (slab.now.quantum ≡ kind.now.quantum) }
+{
+    slab.arena() == kind.arena && slab.k() == kind.number && slab.quantum() == kind.quantum
+}
+
+/// Takes a chunk, if one is idle.
+pub(crate) fn take_chunk<D: Deed>(slab: &mut SlabCache<D>, kind: &CacheKind) -> Option<Segment<D>>
+    ensures chunk { IfSome result (IsOfKind kind.now) }
+    ensures event { IfSome result (λ t. TakeOf slab.old (Some t) slab.new) }
+    ensures unchanged { IfNone result (slab.new ≡ slab.old) }
+{
+    if !is_kind(slab, kind) {
+        return None;
+    }
+    slab.take()
+}
+
+/// Makes a slab of a span, and takes its first chunk.
+pub(crate) fn add_slab<D: Deed>(
+    slab: &mut SlabCache<D>,
+    kind: &CacheKind,
+    span: Segment<D>,
+) -> Result<Segment<D>, SlabAddFault<Segment<D>>>
+    requires { IsSpanOfKind kind.now span }
+    ensures chunk { IfOk result (IsOfKind kind.now) }
+    ensures event { IfOk result (λ t. AddOf slab.old span (Ok t) slab.new) }
+    ensures handed_back { IfErr result (λ f. (slab_back f ≡ span) × (slab_stops f ≡ false)) }
+    ensures unchanged { OnErr result (slab.new ≡ slab.old) }
+{
+    if !is_kind(slab, kind) {
+        return Err(SlabAddFault::WrongSize(span));
+    }
+    match slab.add(span) {
+        Ok(chunk) => Ok(chunk),
+        Err(AddFault::WrongSize(span)) => Err(SlabAddFault::WrongSize(span)),
+        Err(AddFault::Overlaps(span)) => Err(SlabAddFault::Overlaps(span)),
+        Err(AddFault::NoMemory(span)) => Err(SlabAddFault::NoMemory(span)),
+    }
+}
+
+/// Takes the span of a slab of which no chunk is out, if there is one.
+pub(crate) fn reap_slab<D: Deed>(slab: &mut SlabCache<D>, kind: &CacheKind) -> Option<Segment<D>>
+    ensures span { IfSome result (IsSpanOfKind kind.now) }
+    ensures event { IfSome result (λ t. ReapOf slab.old (Some t) slab.new) }
+    ensures unchanged { IfNone result (slab.new ≡ slab.old) }
+{
+    if !is_kind(slab, kind) {
+        return None;
+    }
+    slab.reap()
+}
