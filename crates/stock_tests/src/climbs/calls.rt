@@ -1,11 +1,11 @@
 //! One function for each call. Each makes sure that the stock has the tree's arenas, and keeps how
 //! many locked steps it took.
 use super::arrangements::{Walk, is_set_up_as};
-use arena_tree::{ClimbFault, climb_alloc, climb_free};
-use deed_core::{Deed, Segment};
+use arena_tree::{CarveFault, ClimbFault, climb_alloc, climb_free};
+use deed_core::{Deed, Request, Segment};
 use local_parts::Local;
 use magazine_layer::is_magazine_size;
-use quantum_cache::{alloc, drain, free, reap};
+use quantum_cache::{Reaping, alloc, drain, free, reap, reap_arena, xalloc};
 use std::mem;
 use std::process::Abort;
 
@@ -93,6 +93,27 @@ fn attempt<D: Deed>(rt: &impl Abort, walk: &mut Walk<D>, arena: u32, size: u64) 
     answer
 }
 
+/// What the arena itself gives for the request.
+pub(super) fn carve<D: Deed>(
+    rt: &impl Abort,
+    walk: &mut Walk<D>,
+    arena: u32,
+    request: &Request,
+) -> Result<Segment<D>, CarveFault> {
+    assert!(rt; is_set_up_as(&walk.stock, &walk.tree));
+    assert!(rt; (arena as usize) < walk.tree.len());
+    let mut parts = Local {
+        stock: &mut walk.stock,
+        cpu: &mut walk.cpu,
+        tree: &walk.tree,
+        alloc: walk.alloc,
+        steps: 0,
+    };
+    let answer = xalloc(&mut parts, arena, request);
+    walk.steps = steps_of(parts);
+    answer
+}
+
 /// Hands a segment back by a climb alone.
 pub(super) fn hand_back<D: Deed>(rt: &impl Abort, walk: &mut Walk<D>, segment: Segment<D>) {
     let arena = segment.arena();
@@ -164,6 +185,30 @@ pub(super) fn reap_all<D: Deed>(rt: &impl Abort, walk: &mut Walk<D>) -> u128 {
     walk.steps = steps_of(parts);
     match answer {
         Ok(reaping) => reaping.units,
+        Err(_) => panic!(rt; "a refused segment"),
+    }
+}
+
+/// Reaps one arena in at most so many looks.
+pub(super) fn reap_one<D: Deed>(
+    rt: &impl Abort,
+    walk: &mut Walk<D>,
+    arena: u32,
+    limit: u64,
+) -> Reaping {
+    assert!(rt; is_set_up_as(&walk.stock, &walk.tree));
+    assert!(rt; (arena as usize) < walk.tree.len());
+    let mut parts = Local {
+        stock: &mut walk.stock,
+        cpu: &mut walk.cpu,
+        tree: &walk.tree,
+        alloc: walk.alloc,
+        steps: 0,
+    };
+    let answer = reap_arena(&mut parts, walk.tree.chain(arena), limit);
+    walk.steps = steps_of(parts);
+    match answer {
+        Ok(reaping) => reaping,
         Err(_) => panic!(rt; "a refused segment"),
     }
 }
