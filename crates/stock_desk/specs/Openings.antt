@@ -6,8 +6,8 @@ use Rattle.lease_book.specs.BookState.{IsHistory}
 use Rattle.lease_machine.specs.Picture.{Picture, fresh_cpu}
 
 -- it has the setup's arenas by their names, with its spans, all of them free, and with caches whose
--- magazines take three rounds and of which none is there yet; CPU 0 alone, which is selected and has
--- no round; and a book of which nothing happened
+-- magazines take three rounds and of which none is there yet; CPU 0 alone, which is selected and
+-- has no round; and a book of which nothing happened
 pub record IsOpenedFrom (setup : SetupState) (d : Picture) : Type 0 where
   pub tree : d.tree ≡ setup.arenas
   pub stock : IsSetUpFrom setup (numbered_deeds 0 setup.spans) 3 d.spaces

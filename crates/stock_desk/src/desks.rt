@@ -44,8 +44,8 @@ impl Model for Desk {
 }
 
 impl Desk {
-    /// A desk with the arenas, caches and spans of a setup, all free, one CPU, and no client. Memory
-    /// alone can be refused, and then nothing was opened.
+    /// A desk with the arenas, caches and spans of a setup, all free, one CPU, and no client.
+    /// Memory alone can be refused, and then nothing was opened.
     pub fn open(alloc: Global, setup: Setup) -> Result<Desk, AllocError>
         ensures opened { IfOk result (IsOpenedFrom setup) }
         ensures picture { IfOk result IsPicture }
@@ -60,8 +60,8 @@ impl Desk {
         })
     }
 
-    /// Ends the desk: frees all leases, empties all CPUs and caches, takes out all spans, and closes
-    /// their deeds and the book's mark. It takes no memory.
+    /// Ends the desk: frees all leases, empties all CPUs and caches, takes out all spans, and
+    /// closes their deeds and the book's mark. It takes no memory.
     pub fn close(self) {
         let Desk { supply, mut book } = self;
         let Supply {
