@@ -1,5 +1,5 @@
 //! Requests that an arena itself serves: they go past its caches, and import nothing.
-use super::arrangements::{Walk, begin, begin_with, child, end, root, set};
+use super::arrangements::{Walk, begin, begin_with, child, end, only_range, root, set};
 use super::calls::{allocate, carve, empty, reap_all, release};
 use super::sums::{free_units, magazine_units};
 use arena_tree::{CarveFault, Setup};
@@ -164,9 +164,8 @@ fn no_import(rt: HostRuntime) {
 fn out_of_memory(rt: HostRuntime) {
     let mut setup = Setup::new(rt.alloc());
     set(&rt, &mut setup, root(&rt, "a", 8, 1, Policy::Best, 0));
-    assert!(rt; setup.spans().len() == 1);
-    let deed = RefusingDeed::new(0, setup.spans()[0].range, 0);
-    let mut walk = begin_with(&rt, rt.alloc(), setup.into_tree(), deed);
+    let deed = RefusingDeed::new(0, only_range(&rt, &setup), 0);
+    let mut walk = begin_with(&rt, rt.alloc(), setup, deed);
     assert_eq!(rt;
         base_of(&rt, &mut walk, 0, between(4, 2, 8)),
         Err(CarveFault::NoMemory)
