@@ -15,7 +15,7 @@ use Rattle.lease_machine.specs.Picture.{Picture}
 use Rattle.lease_machine.specs.Replies.{SettlesRefusal}
 use Rattle.stock_desk.specs.Telling.{IsGivenIn, CanName, reply_of_kept, reply_to_answer}
 
-not_repeated : (book : BookState) (a : Account) (id : RequestId) (v : ReceiptState) → IsNew a id → IsRepeated book a id v → ⊥
+pub not_repeated : (book : BookState) (a : Account) (id : RequestId) (v : ReceiptState) → IsNew a id → IsRepeated book a id v → ⊥
 not_repeated book a id v new rep =
     let l : last a ≡ id.number = ap number_of rep.kept in
     omega (arith, new.next, l)

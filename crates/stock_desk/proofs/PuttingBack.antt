@@ -1,16 +1,14 @@
 -- A segment that goes back over the parts of the selected CPU.
-use Rattle.std.proofs.Common.{◌≡◌, ℕ, ◌<◌, sym, subst, ap, ◌∙◌, List, [], ◌∷◌, ◌++◌, length, map, set, position, Some, Ok}
+use Rattle.std.proofs.Common.{◌≡◌, ℕ, ◌<◌, sym, subst, ap, List, [], ◌∷◌, length, set, position, Some, Ok}
 use Rattle.std.specs.Prelude.{slice_get}
 use Rattle.deed_core.specs.Tag.{Tag}
 use Rattle.quantum_cache.specs.Caches.{chain_in}
 use Rattle.quantum_cache.specs.Frees.{free_plan}
-use Rattle.stock.specs.OwnCaches.{OwnCacheState}
-use Rattle.stock.specs.Spaces.{SpaceState}
 use Rattle.local_parts.specs.States.{LocalState}
 use Rattle.local_calls.specs.Runs.{IsLocalOf, IsAccountedWith, RunsTo}
-use Rattle.lease_machine.specs.Picture.{Cpu, Picture, SameSetup, is_cpu}
-use Rattle.lease_machine.specs.Chunks.{GoesBack, selected_caches, own_or_none}
-use Rattle.lease_machine.specs.Held.{IsHeld, parts_in, with_parts}
+use Rattle.lease_machine.specs.Picture.{Cpu, Picture, is_cpu}
+use Rattle.lease_machine.specs.Chunks.{selected_caches, own_or_none}
+use Rattle.lease_machine.specs.Held.{IsHeld, parts_in}
 use Rattle.lease_machine.proofs.LawProofs.{hand_is_local, free_goes_back}
 use Rattle.stock_desk.specs.Parts.{parts_of}
 use Rattle.stock_desk.specs.Takings.{IsPutBack}

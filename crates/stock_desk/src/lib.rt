@@ -3,8 +3,9 @@
 //! one thread's parts (calls), an operator's choice of a CPU (cpus), his intervals and magazine
 //! sizes (depots), what he is told of the arenas and clients (telling), replies (answers,
 //! settling), segments that are given and taken back (supplies, takings), CPUs that go offline
-//! (offlines), what is reaped (reapings), and how leases (returns), CPUs (emptyings) and the stock
-//! (closings) end.
+//! (offlines), what is reaped (reapings), hellos (hellos), leases (leasing) and releases
+//! (releasing), a supply's begin (openings), and how leases (returns), CPUs (emptyings) and the
+//! stock (closings) end.
 #![tactic(auto)]
 
 mod answers;
@@ -13,8 +14,12 @@ mod closings;
 mod cpus;
 mod depots;
 mod emptyings;
+mod hellos;
+mod leasing;
 mod offlines;
+mod openings;
 mod reapings;
+mod releasing;
 mod returns;
 mod settling;
 mod supplies;

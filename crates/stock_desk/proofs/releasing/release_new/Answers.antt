@@ -1,0 +1,67 @@
+use Rattle.std.proofs.Common.{◌≡◌, refl, sym, subst, None}
+use Rattle.std.specs.List.{find}
+use Rattle.deed_core.proofs.LawProofs.{slice_get_some}
+use Rattle.lease_proto.specs.declared.replies.Reply.{Reply}
+use Rattle.lease_terms.specs.declared.refusals.Refusal.TheVariants as why
+use Rattle.lease_book.specs.Account.{is_lease}
+use Rattle.lease_book.specs.BookState.{account_in}
+use Rattle.stock_desk.specs.Supplies.{pictured}
+use Rattle.stock_desk.specs.Telling.{reply_to_answer}
+use Rattle.stock_desk.proofs.BookMoves.{released_in_hand, released_book}
+use Rattle.stock_desk.proofs.Outcomes.{Outcome, answer_named, answer_told, outcome_is_picture, release_refused}
+use Rattle.stock_desk.proofs.Sweeping.{back_is_picture, setup_from, back_from}
+use Rattle.stock_desk.proofs.releasing.release_new.Goals as goal
+
+pub put_back-requires : goal.put_back-requires
+put_back-requires c = record {
+  held = (
+    c.release.new.self,
+    released_in_hand (pictured c.args.book.now c.args.supply.now) c.release.new.self c.args.id c.args.arena c.args.line.now.base c.in-Ok.field-0-0 c.in-Ok.segment c.in-Ok.ensures.released c.requires.picture,
+  );
+}
+
+pub answered-requires : goal.answered-requires
+answered-requires c =
+    answer_named c.supply.inside.tree c.args.book.now c.release.new.self c.args.id why.NotYours (find (is_lease c.args.id.incarnation c.args.arena c.args.line.now.base) (account_in c.args.id.client c.args.book.now).leases ≡ None) ⊥
+    c.requires.new c.in-Err.answer c.in-Err.ensures.answer
+
+pub returns-in-Ok-clause-picture : goal.returns-in-Ok-clause-picture
+returns-in-Ok-clause-picture c =
+    let before = pictured c.args.book.now c.args.supply.now in
+    let held = released_in_hand before c.release.new.self c.args.id c.args.arena c.args.line.now.base c.in-Ok.field-0-0 c.in-Ok.segment c.in-Ok.ensures.released c.requires.picture in
+    back_is_picture c.in-Ok.segment c.args.supply.now c.put_back.new.self c.release.new.self (c.put_back.ensures c.release.new.self held)
+    (released_book before c.release.new.self c.args.id c.args.arena c.args.line.now.base c.in-Ok.field-0-0 c.in-Ok.segment c.in-Ok.ensures.released c.requires.picture)
+
+pub returns-in-Ok-clause-setup : goal.returns-in-Ok-clause-setup
+returns-in-Ok-clause-setup c =
+    let held = released_in_hand (pictured c.args.book.now c.args.supply.now) c.release.new.self c.args.id c.args.arena c.args.line.now.base c.in-Ok.field-0-0 c.in-Ok.segment c.in-Ok.ensures.released c.requires.picture in
+    setup_from c.in-Ok.segment c.args.supply.now c.put_back.new.self c.release.new.self c.args.book.now (c.put_back.ensures c.release.new.self held)
+
+pub returns-in-Ok-clause-step : goal.returns-in-Ok-clause-step
+returns-in-Ok-clause-step c =
+    let held = released_in_hand (pictured c.args.book.now c.args.supply.now) c.release.new.self c.args.id c.args.arena c.args.line.now.base c.in-Ok.field-0-0 c.in-Ok.segment c.in-Ok.ensures.released c.requires.picture in
+    let here = slice_get_some c.args.supply.now.tree c.args.arena c.requires.within in (
+      refl,
+      record {
+        place = c.args.arena;
+        arena = here.0;
+        finds = record { first = c.requires.first; here = here.1 };
+        segment = c.in-Ok.segment;
+        receipt = c.in-Ok.field-0-0;
+        released = c.in-Ok.ensures.released;
+        back = back_from c.in-Ok.segment c.args.supply.now c.put_back.new.self c.release.new.self c.args.book.now (c.put_back.ensures c.release.new.self held);
+      },
+    )
+
+pub returns-in-Err-clause-picture : goal.returns-in-Err-clause-picture
+returns-in-Err-clause-picture c =
+    let gone = find (is_lease c.args.id.incarnation c.args.arena c.args.line.now.base) (account_in c.args.id.client c.args.book.now).leases ≡ None in
+    let told = answer_told c.supply.inside.tree c.args.book.now c.release.new.self c.args.id why.NotYours gone ⊥ c.requires.new c.in-Err.answer c.in-Err.ensures.answer in
+    outcome_is_picture c.args.supply.now c.args.book.now c.release.new.self c.args.id why.NotYours gone ⊥ (reply_to_answer c.supply.inside.tree c.args.id c.in-Err.answer) told c.requires.picture
+
+pub returns-in-Err-clause-step : goal.returns-in-Err-clause-step
+returns-in-Err-clause-step c =
+    let gone = find (is_lease c.args.id.incarnation c.args.arena c.args.line.now.base) (account_in c.args.id.client c.args.book.now).leases ≡ None in
+    let told = answer_told c.supply.inside.tree c.args.book.now c.release.new.self c.args.id why.NotYours gone ⊥ c.requires.new c.in-Err.answer c.in-Err.ensures.answer in
+    release_refused c.args.supply.now c.args.book.now c.release.new.self c.args.id c.args.line.now c.args.arena c.answered.result c.requires.first
+    (subst (λ (r : Reply). Outcome c.args.book.now c.release.new.self c.args.id why.NotYours gone ⊥ r) (sym c.answered.ensures) told)

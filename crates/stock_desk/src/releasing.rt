@@ -1,0 +1,65 @@
+//! The answer to a release.
+ghost use Rattle.std.specs.Prelude.{◌≡◌, ◌<◌, length, Some};
+ghost use Rattle.arena_tree.specs.Trees.{place_in};
+ghost use Rattle.lease_book.specs.Answers.{IsNew};
+ghost use Rattle.lease_book.specs.BookState.{account_in};
+ghost use Rattle.lease_proto.specs.declared.lines.Op.TheVariants as ops;
+ghost use Rattle.lease_machine.specs.Machine.{RequestStep, NewRelease};
+ghost use Rattle.lease_machine.specs.Picture.{IsPicture, SameSetup};
+ghost use Rattle.stock_desk.specs.Supplies.{pictured};
+
+use crate::answers::answered;
+use crate::settling::{known, refuse};
+use crate::supplies::Supply;
+use deed_core::PlainDeed;
+use lease_book::Book;
+use lease_proto::{ReleaseLine, Reply};
+use lease_terms::{Refusal, RequestId};
+
+/// Answers a release.
+pub(crate) fn release(
+    supply: &mut Supply,
+    book: &mut Book<PlainDeed>,
+    id: RequestId,
+    line: &ReleaseLine,
+) -> Reply
+    requires picture { IsPicture (pictured book.old supply.old) }
+    ensures picture { IsPicture (pictured book.new supply.new) }
+    ensures setup { SameSetup (pictured book.old supply.old) (pictured book.new supply.new) }
+    ensures step { RequestStep id (ops.Release line.now)
+        (pictured book.old supply.old) (pictured book.new supply.new) result }
+{
+    match known(&supply.tree, book, id) {
+        Some(reply) => reply,
+        None => match supply.tree.find(&line.arena) {
+            Some(arena) => release_new(supply, book, id, line, arena),
+            None => refuse(&supply.tree, book, id, Refusal::NoArena),
+        },
+    }
+}
+
+/// Answers a new release of a lease in the arena.
+fn release_new(
+    supply: &mut Supply,
+    book: &mut Book<PlainDeed>,
+    id: RequestId,
+    line: &ReleaseLine,
+    arena: u32,
+) -> Reply
+    requires picture { IsPicture (pictured book.old supply.old) }
+    requires new { IsNew (account_in id.client book.old) id }
+    requires first { place_in line.now.arena supply.old.tree ≡ Some arena }
+    requires within { arena < length supply.old.tree }
+    ensures picture { IsPicture (pictured book.new supply.new) }
+    ensures setup { SameSetup (pictured book.old supply.old) (pictured book.new supply.new) }
+    ensures step { NewRelease id line.now
+        (pictured book.old supply.old) (pictured book.new supply.new) result }
+{
+    match book.release(id, arena, line.base) {
+        Ok((_, segment)) => {
+            supply.put_back(segment);
+            Reply::Released(id)
+        }
+        Err(answer) => answered(&supply.tree, id, answer),
+    }
+}
