@@ -150,27 +150,27 @@ module _ (id : RequestId) (l : LeaseLine) (place : ℕ) (t : Tag) (before : Pict
     pub kept_step : (A : Type 0) (r : Reply) → Outcome a b id why.Leases Full A r → NewLease id l before (pictured b u) r
     kept_step A r outcome = elim outcome [
       | inl o ↦ subst (NewLease id l before (pictured b u)) (sym o.3) (
-          why.Leases,
-          record { receipt = o.0; refused = subst (λ (z : BookState). IsRefused z b id why.Leases o.0) taken.book o.1; reply = refl },
-          (
-            place,
-            x,
-            record { finds = taken.finds; good = taken.served.good },
-            taken.served.can,
-            (t, pictured a s, taken.book, in_hand t (pictured a s) taken.served.held, taken.served.serves, went_back),
-            subst (λ (z : BookState). MOST_LEASES ≤ length (account_in id.client z).leases) taken.book o.2,
-          ),
-        )
+        why.Leases,
+        record { receipt = o.0; refused = subst (λ (z : BookState). IsRefused z b id why.Leases o.0) taken.book o.1; reply = refl },
+        (
+          place,
+          x,
+          record { finds = taken.finds; good = taken.served.good },
+          taken.served.can,
+          (t, pictured a s, taken.book, in_hand t (pictured a s) taken.served.held, taken.served.serves, went_back),
+          subst (λ (z : BookState). MOST_LEASES ≤ length (account_in id.client z).leases) taken.book o.2,
+        ),
+      )
       | inr o ↦ subst (NewLease id l before (pictured b u)) (sym o.2) (
-          refl,
-          record {
-            place = place;
-            arena = x;
-            takes = record { finds = taken.finds; good = taken.served.good };
-            can = taken.served.can;
-            back = falls_back place x (demand_of l) t before (pictured a s) (pictured b u) taken.book (in_hand t (pictured a s) taken.served.held) taken.served.serves went_back;
-            names = (back.back.0.0 ∙ taken.served.serves.names.0, back.back.0.1 ∙ taken.served.serves.names.1);
-            book = o.1 ∙ taken.book;
-          },
-        )
+        refl,
+        record {
+          place = place;
+          arena = x;
+          takes = record { finds = taken.finds; good = taken.served.good };
+          can = taken.served.can;
+          back = falls_back place x (demand_of l) t before (pictured a s) (pictured b u) taken.book (in_hand t (pictured a s) taken.served.held) taken.served.serves went_back;
+          names = (back.back.0.0 ∙ taken.served.serves.names.0, back.back.0.1 ∙ taken.served.serves.names.1);
+          book = o.1 ∙ taken.book;
+        },
+      )
     ]

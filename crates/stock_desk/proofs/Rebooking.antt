@@ -39,13 +39,18 @@ module _ (old new : Picture) (b : BookState) where
   goes_back_from t back = (back.0, goes_by t.route t back.1)
 
   cached_then : (place : ℕ) (x : TreeArena) (q : Request) (t : Tag) → CachesServe place x q t old new → CachesServe place x q t old (rebooked new b)
-  cached_then place x q t s = (s.0, s.1, s.2, elim s.3 [
-    | inl round ↦ inl (round.0, selected_then place s.2.cache _ round.1, round.2)
-    | inr rest ↦ inr (elim rest [
-      | inl idle ↦ inl (selected_then place s.2.cache _ idle.0, idle.1)
-      | inr lacks ↦ inr ((selected_then place s.2.cache _ lacks.0.0, lacks.0.1), lacks.1)
-    ])
-  ])
+  cached_then place x q t s = (
+    s.0,
+    s.1,
+    s.2,
+    elim s.3 [
+      | inl round ↦ inl (round.0, selected_then place s.2.cache _ round.1, round.2)
+      | inr rest ↦ inr (elim rest [
+        | inl idle ↦ inl (selected_then place s.2.cache _ idle.0, idle.1)
+        | inr lacks ↦ inr ((selected_then place s.2.cache _ lacks.0.0, lacks.0.1), lacks.1)
+      ])
+    ],
+  )
 
   comes_then : (place : ℕ) (x : TreeArena) (q : Request) (t : Tag) → ComesFrom place x q t old new → ComesFrom place x q t old (rebooked new b)
   comes_then place x q t from = elim from [

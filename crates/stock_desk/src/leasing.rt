@@ -61,7 +61,7 @@ fn lease_new(
         Ok(segment) => grant(supply, book, id, line, arena, segment),
         Err(ArenaFault::BadRequest) => refuse(&supply.tree, book, id, Refusal::BadRequest),
         Err(ArenaFault::NoFit) => refuse(&supply.tree, book, id, Refusal::NoFit),
-        Err(_) => again(id),
+        Err(ArenaFault::NoMemory) => again(id),
     }
 }
 
