@@ -1,22 +1,17 @@
 -- What becomes of a new lease: by what its arena gave, and what the book made of that.
-use Rattle.std.proofs.Common.{◌≡◌, ◌⊎◌, ◌≤◌, ◌<◌, ℕ, refl, sym, subst, ap, ◌∙◌, inl, inr, List, [], ◌∷◌, Some, None, length}
+use Rattle.std.proofs.Common.{◌≡◌, ◌≤◌, ℕ, refl, sym, subst, ap, ◌∙◌, inl, inr, List, [], ◌∷◌, Some, length}
 use Rattle.std.specs.Prelude.{slice_get}
 use Rattle.deed_core.specs.Tag.{Tag}
 use Rattle.deed_core.proofs.LawProofs.{slice_get_one}
-use Rattle.deed_core.specs.Request.{IsGood}
 use Rattle.deed_core.specs.declared.requests.Request.{Request}
 use Rattle.deed_core.specs.declared.segments.Route.{Route}
 use Rattle.deed_core.specs.declared.segments.Route.TheVariants.{Direct}
 use Rattle.arena_tree.specs.declared.levels.Level.{Level}
 use Rattle.arena_tree.specs.declared.trees.TreeArena.{TreeArena}
-use Rattle.arena_tree.specs.Trees.{place_in}
 use Rattle.lease_terms.specs.Requests.{RequestId}
-use Rattle.lease_terms.specs.declared.refusals.Refusal.{Refusal}
 use Rattle.lease_terms.specs.declared.refusals.Refusal.TheVariants as why
 use Rattle.lease_proto.specs.declared.lines.LeaseLine.{LeaseLine}
 use Rattle.lease_proto.specs.declared.replies.Reply.{Reply}
-use Rattle.lease_proto.specs.declared.replies.Reply.TheVariants as reply
-use Rattle.lease_book.specs.Answers.{IsNew}
 use Rattle.lease_book.specs.BookState.{BookState, account_in}
 use Rattle.lease_book.specs.Calls.{IsGranted, IsRefused}
 use Rattle.lease_book.specs.Entry.{Grant, Refuse, Settled}
@@ -31,9 +26,9 @@ use Rattle.lease_machine.specs.Chunks.{GoesBack, GoesBackBy}
 use Rattle.lease_machine.specs.Held.{IsHeld}
 use Rattle.lease_machine.specs.Machine.{NewLease, demand_of}
 use Rattle.lease_machine.specs.Moves.{Climbs, ClimbsInVain, Returns}
-use Rattle.lease_machine.specs.Picture.{Picture, IsPicture, IsBookOf, HoldsInHand, Finds, SameSetup}
-use Rattle.lease_machine.specs.Replies.{SettlesRefusal, reply_of_settled, again_of}
-use Rattle.lease_machine.specs.Serving.{ServesWith, FallsBack, ServesInVain}
+use Rattle.lease_machine.specs.Picture.{Picture, IsPicture, IsBookOf, HoldsInHand, SameSetup}
+use Rattle.lease_machine.specs.Replies.{reply_of_settled}
+use Rattle.lease_machine.specs.Serving.{ServesWith, FallsBack}
 use Rattle.stock_desk.specs.Leasing.{IsTaken}
 use Rattle.stock_desk.specs.Supplies.{SupplyState, pictured}
 use Rattle.stock_desk.specs.Takings.{IsPutBack}

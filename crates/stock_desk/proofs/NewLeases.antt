@@ -1,6 +1,5 @@
 -- New leases that come to no segment.
-use Rattle.std.proofs.Common.{◌≡◌, ℕ, refl, sym, subst, ap, ◌∙◌, List, [], Some, None}
-use Rattle.std.specs.Prelude.{slice_get}
+use Rattle.std.proofs.Common.{◌≡◌, ℕ, refl, sym, subst, ap, List, [], None}
 use Rattle.deed_core.specs.Request.{IsGood}
 use Rattle.arena_tree.specs.declared.trees.TreeArena.{TreeArena}
 use Rattle.arena_tree.specs.Trees.{place_in}
@@ -18,7 +17,7 @@ use Rattle.lease_machine.specs.Replies.{SettlesRefusal, again_of}
 use Rattle.stock_desk.specs.Supplies.{SupplyState, pictured}
 use Rattle.stock_desk.specs.Leasing.{IsTaken}
 use Rattle.stock_desk.specs.Takings.{IsServed, IsUnserved, IsMissed}
-use Rattle.stock_desk.proofs.BookMoves.{picture_of, refused_is_picture}
+use Rattle.stock_desk.proofs.BookMoves.{picture_of}
 use Rattle.stock_desk.proofs.Outcomes.{settled_so}
 use Rattle.stock_desk.proofs.Rebooking.{none_then}
 

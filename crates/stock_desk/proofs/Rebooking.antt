@@ -1,6 +1,6 @@
 -- What is said of a step from one picture to another, where it isn't said of their books, holds with
 -- other books.
-use Rattle.std.proofs.Common.{◌≡◌, ℕ, inl, inr}
+use Rattle.std.proofs.Common.{ℕ, inl, inr}
 use Rattle.deed_core.specs.Tag.{Tag}
 use Rattle.deed_core.specs.declared.requests.Request.{Request}
 use Rattle.deed_core.specs.declared.segments.Route.{Route}

@@ -1,12 +1,10 @@
-use Rattle.std.proofs.Common.{◌≡◌, ◌<◌, ℕ, refl, sym, subst, ap, List, [], length, map, Err}
+use Rattle.std.proofs.Common.{◌<◌, refl, sym, subst, ap, List, length, map, Err}
 use Rattle.deed_core.specs.Request.{IsGood}
 use Rattle.deed_core.specs.declared.requests.Request.{Request}
 use Rattle.deed_core.proofs.LawProofs.{slice_get_some}
 use Rattle.tag_arena.specs.declared.faults.ArenaFault.{ArenaFault}
-use Rattle.tag_arena.specs.declared.faults.ArenaFault.TheVariants as fault
 use Rattle.arena_tree.specs.declared.trees.TreeArena.{TreeArena}
 use Rattle.lease_terms.specs.declared.refusals.Refusal.TheVariants as why
-use Rattle.lease_proto.specs.declared.replies.Reply.{Reply}
 use Rattle.lease_machine.specs.Machine.{NewLease}
 use Rattle.lease_machine.specs.Picture.{Picture, IsPicture, owned_by}
 use Rattle.stock_desk.specs.Supplies.{SupplyState, pictured}
