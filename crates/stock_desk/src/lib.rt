@@ -4,8 +4,8 @@
 //! sizes (depots), what he is told of the arenas and clients (telling), replies (answers,
 //! settling), segments that are given and taken back (supplies, takings), CPUs that go offline
 //! (offlines), what is reaped (reapings), hellos (hellos), leases (leasing) and releases
-//! (releasing), a supply's begin (openings), and how leases (returns), CPUs (emptyings) and the
-//! stock (closings) end.
+//! (releasing), of which each client's line is one (replying), a supply's begin (openings), and
+//! how leases (returns), CPUs (emptyings) and the stock (closings) end.
 #![tactic(auto)]
 
 mod answers;
@@ -20,6 +20,7 @@ mod offlines;
 mod openings;
 mod reapings;
 mod releasing;
+mod replying;
 mod returns;
 mod settling;
 mod supplies;
