@@ -1,5 +1,5 @@
 -- A CPU that goes offline, by what drains it.
-use Rattle.std.proofs.Common.{◌≡◌, ◌≢◌, ℕ, suc, ◌<◌, refl, sym, subst, ap, ◌∙◌, List, [], ◌++◌, length, map, set, position, Some, None, Result, Ok, Err, OnErr, arith}
+use Rattle.std.proofs.Common.{◌≡◌, ◌≢◌, ℕ, suc, ◌<◌, refl, sym, subst, ◌∙◌, List, [], ◌++◌, length, set, position, Some, None, Result, Ok, Err, OnErr, arith}
 use Rattle.std.specs.Prelude.{slice_get}
 use Rattle.std.specs.List.{find}
 use Rattle.deed_core.specs.Tag.{Tag}

@@ -1,5 +1,5 @@
 -- Reapings over the parts of the selected CPU, one after another.
-use Rattle.std.proofs.Common.{◌≡◌, ℕ, ◌+◌, ◌*◌, ◌-◌, ◌^◌, ◌<◌, ◌≤◌, refl, sym, subst, ap, ◌∙◌, [], length, set, position, Some, Ok, arith}
+use Rattle.std.proofs.Common.{◌≡◌, ℕ, ◌+◌, ◌-◌, ◌^◌, ◌<◌, ◌≤◌, refl, sym, subst, ◌∙◌, [], length, set, position, Some, Ok, arith}
 use Rattle.std.specs.Prelude.{slice_get}
 use Rattle.quantum_cache.specs.declared.reaps.Reaping.{Reaping}
 use Rattle.quantum_cache.specs.Reaps.{reap_plan}

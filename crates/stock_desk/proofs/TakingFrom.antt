@@ -1,5 +1,5 @@
 -- A segment that is taken over the parts of the selected CPU.
-use Rattle.std.proofs.Common.{◌≡◌, ℕ, ◌^◌, ◌<◌, ◌≤◌, inl, inr, refl, sym, subst, ap, ◌∙◌, List, [], ◌∷◌, length, map, set, position, Some, None, Result, Ok, Err, arith}
+use Rattle.std.proofs.Common.{◌≡◌, ℕ, ◌^◌, inl, inr, refl, sym, subst, ap, ◌∙◌, List, [], set, position, Some, None, Result, Ok, Err, arith}
 use Rattle.std.specs.Prelude.{slice_get}
 use Rattle.std.proofs.lemmas.Bool.{cases_lt}
 use Rattle.deed_core.specs.Tag.{Tag}

@@ -1,5 +1,5 @@
 -- What becomes of a request for a segment.
-use Rattle.std.specs.Prelude.{◌≡◌, ℕ, List, [], ◌∷◌, Result, Ok, Err}
+use Rattle.std.specs.Prelude.{◌≡◌, ℕ, [], ◌∷◌, Result, Ok, Err}
 use Rattle.deed_core.specs.Tag.{Tag}
 use Rattle.deed_core.specs.Request.{IsGood}
 use Rattle.deed_core.specs.declared.requests.Request.{Request}

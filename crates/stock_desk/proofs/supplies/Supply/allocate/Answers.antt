@@ -7,7 +7,7 @@ use Rattle.lease_machine.specs.Held.{IsHeld}
 use Rattle.stock_desk.specs.Parts.{parts_of}
 use Rattle.stock_desk.specs.Supplies.{SupplyState, pictured}
 use Rattle.stock_desk.specs.Takings.{Takes}
-use Rattle.stock_desk.proofs.TakingFrom.{take_local, take_out, allocated_so}
+use Rattle.stock_desk.proofs.TakingFrom.{take_out, allocated_so}
 use Rattle.stock_desk.proofs.supplies.Supply.allocate.Goals as goal
 
 pub alloc_with-requires-clause-out : goal.alloc_with-requires-clause-out

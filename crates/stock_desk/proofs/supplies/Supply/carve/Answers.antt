@@ -6,7 +6,7 @@ use Rattle.lease_machine.specs.Held.{IsHeld}
 use Rattle.stock_desk.specs.Parts.{parts_of}
 use Rattle.stock_desk.specs.Supplies.{SupplyState, pictured}
 use Rattle.stock_desk.specs.Takings.{Takes}
-use Rattle.stock_desk.proofs.TakingFrom.{take_local, take_out, carved_so}
+use Rattle.stock_desk.proofs.TakingFrom.{take_out, carved_so}
 use Rattle.stock_desk.proofs.supplies.Supply.carve.Goals as goal
 
 pub carve_with-requires-clause-out : goal.carve_with-requires-clause-out
