@@ -18,6 +18,7 @@ mod emptyings;
 mod hellos;
 mod offlines;
 mod openings;
+mod operating;
 mod reapings;
 mod releasing;
 mod returns;
