@@ -9,7 +9,8 @@ pub use Rattle.lease_machine.proofs.Reaching.{grants_were_reachable}
 pub use Rattle.lease_machine.proofs.FreshCpus.{fresh_is_picture, selected_is_picture, fresh_cpu_fits}
 pub use Rattle.lease_machine.proofs.CachedSizes.{cached_by_number}
 pub use Rattle.lease_machine.proofs.Stepping.{faults_are_answered, known_are_answered, old_hellos_are_answered, audits_are_answered, clients_are_told, cpus_are_selected, vain_resizes_are_answered}
-pub use Rattle.lease_machine.proofs.Ticking.{ticks_are_answered}
+pub use Rattle.lease_machine.proofs.Ticking.{ticks_are_answered, ticks_keep}
+pub use Rattle.lease_machine.proofs.Resizing.{resizes_keep}
 pub use Rattle.lease_machine.proofs.Fewer.{fewer_fit_too}
 pub use Rattle.lease_machine.proofs.HeldLaws.{held_is_local, hand_is_local}
 pub use Rattle.lease_machine.proofs.FreeLaws.{free_goes_back}

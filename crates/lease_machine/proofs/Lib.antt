@@ -11,6 +11,7 @@ pub mod Fewer
 pub mod NoRoom
 pub mod Stepping
 pub mod Ticking
+pub mod Resizing
 pub mod CpuRows
 pub mod Lasting
 pub mod Focus

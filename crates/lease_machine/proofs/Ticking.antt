@@ -19,13 +19,13 @@ use Rattle.lease_proto.specs.Reports.{ok_text}
 use Rattle.lease_machine.specs.Picture.{Picture, IsPicture, IsShapedIn, held_outside, owned_by}
 use Rattle.lease_machine.specs.Operators.{change_depot, on_depots}
 use Rattle.lease_machine.specs.Machine.{AnswersLine}
-use Rattle.lease_machine.specs.StepLaws.{TicksAreAnswered}
+use Rattle.lease_machine.specs.StepLaws.{TicksAreAnswered, TicksKeep}
 
-sums_same : {X : Type 0} (h : X → X) (g : X → ℕ) → ((x : X) → g (h x) ≡ g x) → (xs : List X) → sum_by g (map h xs) ≡ sum_by g xs
+pub sums_same : {X : Type 0} (h : X → X) (g : X → ℕ) → ((x : X) → g (h x) ≡ g x) → (xs : List X) → sum_by g (map h xs) ≡ sum_by g xs
 sums_same h g same [] = refl
 sums_same h g same (x ∷ xs) = omega (arith, sum_by-cons g (h x) (map h xs), sum_by-cons g x xs, same x, sums_same h g same xs)
 
-maps_same : {X Y : Type 0} (h : X → X) (g : X → Y) → ((x : X) → g (h x) ≡ g x) → (xs : List X) → map g (map h xs) ≡ map g xs
+pub maps_same : {X Y : Type 0} (h : X → X) (g : X → Y) → ((x : X) → g (h x) ≡ g x) → (xs : List X) → map g (map h xs) ≡ map g xs
 maps_same h g same [] = refl
 maps_same h g same (x ∷ xs) = ap (λ y. y ∷ map g (map h xs)) (same x) ∙ ap (λ ys. g x ∷ ys) (maps_same h g same xs)
 
@@ -35,7 +35,7 @@ ticked s = on_depots after_tick s
 abbrev ticked_cache : QuantumCacheState → QuantumCacheState
 ticked_cache c = change_depot after_tick c
 
-abbrev with_sizes : SpaceState → List ℕ → SpacePlan
+abbrev pub with_sizes : SpaceState → List ℕ → SpacePlan
 with_sizes s sizes = record { source = s.source; quantum = s.arena.quantum; policy = s.arena.policy; slab_sizes = sizes }
 
 plans_same : (spaces : List SpaceState) → plans_of (map ticked spaces) ≡ plans_of spaces
@@ -120,6 +120,9 @@ module _ (d : Picture) (is : IsPicture d) where
     };
     book = is.book;
   }
+
+pub ticks_keep : TicksKeep
+ticks_keep d is = (picture_stays d is, record { tree = refl; owned = maps_same ticked owned_by (λ s. refl) d.spaces })
 
 pub ticks_are_answered : TicksAreAnswered
 ticks_are_answered d line is read = (

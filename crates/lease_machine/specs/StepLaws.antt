@@ -1,5 +1,6 @@
 -- That lines have answers: from each picture there is a step of these.
-use Rattle.std.specs.Prelude.{◌≡◌, ◌⊎◌, ℕ, ◌<◌, List, slice_get, Some, None, Ok, Err}
+use Rattle.std.specs.Prelude.{◌≡◌, ◌⊎◌, ℕ, ◌<◌, List, map, slice_get, Some, None, Ok, Err}
+use Rattle.magazine_layer.specs.Depots.{after_tick}
 use Rattle.arena_tree.specs.Trees.{place_in}
 use Rattle.stock.specs.Spaces.{SpaceState}
 use Rattle.lease_terms.specs.Requests.{RequestId}
@@ -14,8 +15,8 @@ use Rattle.lease_proto.specs.declared.replies.Reply.{Reply}
 use Rattle.lease_proto.specs.Cpus.{IsCpu}
 use Rattle.lease_proto.specs.Operators.{served_of, rounds_of}
 use Rattle.lease_book.specs.BookState.{account_in}
-use Rattle.lease_machine.specs.Picture.{Picture, IsPicture}
-use Rattle.lease_machine.specs.Operators.{HasSmaller}
+use Rattle.lease_machine.specs.Picture.{Picture, IsPicture, SameSetup}
+use Rattle.lease_machine.specs.Operators.{HasSmaller, Resizes, on_depots}
 use Rattle.lease_machine.specs.Replies.{IsKnownReply}
 use Rattle.lease_machine.specs.Machine.{LeaseStep}
 use Rattle.lease_machine.specs.AnswerLaws.{written, IsRequestLine}
@@ -68,3 +69,14 @@ VainResizesAreAnswered = (d : Picture) (line : List ℕ) (r : ResizeLine) → Is
     × (place_in r.arena d.tree ≡ Some place) × (slice_get d.spaces place ≡ Some s)
     × (¬ HasSmaller (rounds_of r.size) s))
     → HasAnswer d line
+
+-- an interval that begins in each depot leaves a picture of the same setup
+abbrev pub TicksKeep : Type 0
+TicksKeep = (d : Picture) → IsPicture d
+    → IsPicture (record d { spaces = map (on_depots after_tick) d.spaces })
+    × SameSetup d (record d { spaces = map (on_depots after_tick) d.spaces })
+
+-- and so do greater magazines
+abbrev pub ResizesKeep : Type 0
+ResizesKeep = (old new : Picture) (r : ResizeLine) (text : List ℕ) → IsPicture old
+    → Resizes r.arena (rounds_of r.size) old text new → IsPicture new × SameSetup old new

@@ -17,7 +17,7 @@ ghost use Rattle.lease_machine.specs.RoomLaws.{NeverBoth};
 ghost use Rattle.lease_machine.specs.StepLaws.{FaultsAreAnswered, KnownAreAnswered};
 ghost use Rattle.lease_machine.specs.StepLaws.{OldHellosAreAnswered, AuditsAreAnswered};
 ghost use Rattle.lease_machine.specs.StepLaws.{ClientsAreTold, CpusAreSelected, TicksAreAnswered};
-ghost use Rattle.lease_machine.specs.StepLaws.{VainResizesAreAnswered};
+ghost use Rattle.lease_machine.specs.StepLaws.{VainResizesAreAnswered, TicksKeep, ResizesKeep};
 
 /// What a desk begins with is a picture, and it stays one when a CPU is selected.
 pub fn picture_laws()
@@ -82,6 +82,8 @@ pub fn step_laws()
     ensures cpus { CpusAreSelected }
     ensures ticks { TicksAreAnswered }
     ensures vain_resizes { VainResizesAreAnswered }
+    ensures ticks_keep { TicksKeep }
+    ensures resizes_keep { ResizesKeep }
 {}
 
 /// What the calls of quantum caches over one thread's parts come to for a picture.

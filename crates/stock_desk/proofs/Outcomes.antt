@@ -63,7 +63,7 @@ release_refused s old new id l place r first outcome = elim outcome [
 ]
 
 -- a reply that settles it is this refusal
-settled_so : (old new : Picture) (id : RequestId) (refusal : Refusal) (r : Reply) → SettlesRefusal id refusal old new r → r ≡ reply.Refused (record { id = id; refusal = refusal })
+pub settled_so : (old new : Picture) (id : RequestId) (refusal : Refusal) (r : Reply) → SettlesRefusal id refusal old new r → r ≡ reply.Refused (record { id = id; refusal = refusal })
 settled_so old new id refusal r said = said.reply
 
 -- a new release that names no arena

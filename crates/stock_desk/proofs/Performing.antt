@@ -9,12 +9,14 @@ use Rattle.lease_proto.specs.declared.faults.ErrorWord.{ErrorWord}
 use Rattle.lease_proto.specs.declared.faults.ErrorWord.TheVariants as word
 use Rattle.lease_proto.specs.declared.faults.LineFault.TheVariants as fault
 use Rattle.lease_proto.specs.declared.operators.OperatorLine.TheVariants as operator
+use Rattle.lease_proto.specs.declared.operators.ResizeLine.{ResizeLine}
+use Rattle.lease_proto.specs.Operators.{rounds_of}
 use Rattle.lease_book.specs.BookState.{BookState}
 use Rattle.stock.specs.Spaces.{SpaceState}
 use Rattle.lease_machine.specs.Picture.{Cpu, Picture, IsPicture, IsBookOf, SameSetup}
-use Rattle.lease_machine.specs.Operators.{on_depots, with_cpu}
+use Rattle.lease_machine.specs.Operators.{Resizes, on_depots, with_cpu}
 use Rattle.lease_machine.specs.Held.{IsHeld}
-use Rattle.lease_machine.proofs.LawProofs.{ticks_are_answered, selected_is_picture}
+use Rattle.lease_machine.proofs.LawProofs.{ticks_keep, resizes_keep, selected_is_picture}
 use Rattle.stock_desk.specs.Operating.{Keeps, IsPerformed}
 use Rattle.stock_desk.specs.Supplies.{SupplyState, pictured}
 use Rattle.stock_desk.proofs.BookMoves.{picture_of}
@@ -42,12 +44,7 @@ pub keeps_selected : (d : Picture) (n : ℕ) → IsPicture d → IsCpu n → Kee
 keeps_selected d n is in_range = record { setup = record { tree = refl; owned = refl }; picture = selected_is_picture d n is in_range }
 
 pub keeps_ticked : (d : Picture) → IsPicture d → Keeps d (record d { spaces = map (on_depots after_tick) d.spaces })
-keeps_ticked d is =
-    let (text, new, step) = ticks_are_answered d (codes "tick") is refl in
-    elim step.answer [
-      | inl done ↦ record { setup = subst (SameSetup d) done.1 step.setup; picture = subst IsPicture done.1 step.picture }
-      | inr left ↦ absurd left.1
-    ]
+keeps_ticked d is = let kept = ticks_keep d is in record { setup = kept.1; picture = kept.0 }
 
 module _ (b : BookState) (s : SupplyState) (text : List ℕ) (is : IsPicture (pictured b s)) where
   pub selected_so : (n : ℕ) (cs : List Cpu) → IsCpu n → text ≡ ok_text → cs ≡ with_cpu n (pictured b s) → IsPerformed (operator.Cpu n) (pictured b s) text (pictured b (record s { cpus = cs; selected = n }))
@@ -61,6 +58,11 @@ module _ (b : BookState) (s : SupplyState) (text : List ℕ) (is : IsPicture (pi
     performs = (said, ap (λ (xs : List SpaceState). pictured b (record s { spaces = xs })) made);
     kept = subst (λ (xs : List SpaceState). Keeps (pictured b s) (pictured b (record s { spaces = xs }))) (sym made) (keeps_ticked (pictured b s) is);
   }
+
+  pub resized_so : (r : ResizeLine) (spaces : List SpaceState) → Resizes r.arena (rounds_of r.size) (pictured b s) text (pictured b (record s { spaces = spaces })) → IsPerformed (operator.Resize r) (pictured b s) text (pictured b (record s { spaces = spaces }))
+  resized_so r spaces resizes =
+      let kept = resizes_keep (pictured b s) (pictured b (record s { spaces = spaces })) r text is resizes in
+      record { performs = resizes; kept = record { setup = kept.1; picture = kept.0 } }
 
 pub on_err_map : {A E : Type 0} (r : Result A E) (P Q : Type 0) → (P → Q) → OnErr r P → OnErr r Q
 on_err_map (Ok x) P Q f p = tt

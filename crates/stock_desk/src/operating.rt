@@ -88,11 +88,7 @@ fn tell_all(
 }
 
 /// Selects a CPU, which is made if it is new. Out of memory changes nothing.
-fn tell_cpu(
-    supply: &mut Supply,
-    number: CpuNumber,
-    out: &mut Vec<u8>,
-) -> Result<(), AllocError>
+fn tell_cpu(supply: &mut Supply, number: CpuNumber, out: &mut Vec<u8>) -> Result<(), AllocError>
     requires room { vec_len out.old + LINE_ROOM ≤ vec_capacity out.old }
     ensures ok { OnOk result ((reply : List ℕ) × (out.new.items ≡ out.old.items ++ reply)
         × ((b : BookState) → IsPicture (pictured b supply.old) → IsPerformed (operator.Cpu number)
@@ -109,11 +105,7 @@ fn tell_cpu(
 }
 
 /// Puts all rounds of a CPU into their slabs. Out of memory changes nothing.
-fn tell_offline(
-    supply: &mut Supply,
-    number: CpuNumber,
-    out: &mut Vec<u8>,
-) -> Result<(), AllocError>
+fn tell_offline(supply: &mut Supply, number: CpuNumber, out: &mut Vec<u8>) -> Result<(), AllocError>
     requires held { (b : BookState) × IsPicture (pictured b supply.old) }
     requires room { vec_len out.old + LINE_ROOM ≤ vec_capacity out.old }
     ensures ok { OnOk result ((reply : List ℕ) × (out.new.items ≡ out.old.items ++ reply)

@@ -11,7 +11,7 @@ use Rattle.stock_desk.proofs.operating.tell_all.Goals as goal
 
 pub returns-in-Offline-clause-left : goal.returns-in-Offline-clause-left
 returns-in-Offline-clause-left c = on_err_map c.tell_offline.result _ _
-    (λ left. subst (λ (o : OperatorLine). LeavesOff o (pictured c.args.book.now c.args.supply.now) (pictured c.args.book.now c.tell_offline.new.supply)) c.in-Offline.is (left c.args.book.now))
+    (λ left. subst (λ (o : OperatorLine). LeavesOff o (pictured c.args.book.now c.args.supply.now) (pictured c.args.book.now c.tell_offline.new.supply)) (sym c.in-Offline.is) (left c.args.book.now))
     c.tell_offline.ensures.left
 
 pub returns-in-Audit-clause-ok : goal.returns-in-Audit-clause-ok
@@ -21,12 +21,12 @@ returns-in-Audit-clause-ok c =
     (λ told. (
       arenas_told d d.tree d.spaces,
       told d c.requires.picture
-      (record {
-        arenas = ap (λ (s : SupplyState). s.tree) (sym c.supply.view_is);
-        stock = ap (λ (s : SupplyState). s.spaces) (sym c.supply.view_is);
-        made = ap (λ (s : SupplyState). s.cpus) (sym c.supply.view_is) ∙ sym c.as_slice.ensures.value;
-        ledger = refl;
-      }),
-      subst (λ (o : OperatorLine). IsPerformed o d (arenas_told d d.tree d.spaces) d) c.in-Audit.is (record { performs = (refl, refl); kept = keeps_none d c.requires.picture }),
+          (record {
+            arenas = ap (λ (s : SupplyState). s.tree) (sym c.supply.view_is);
+            stock = ap (λ (s : SupplyState). s.spaces) (sym c.supply.view_is);
+            made = ap (λ (s : SupplyState). s.cpus) (sym c.supply.view_is) ∙ sym c.as_slice.ensures.value;
+            ledger = refl;
+          }),
+      subst (λ (o : OperatorLine). IsPerformed o d (arenas_told d d.tree d.spaces) d) (sym c.in-Audit.is) (record { performs = (refl, refl); kept = keeps_none d c.requires.picture }),
     ))
     c.audit.ensures.ok

@@ -11,8 +11,8 @@ returns c = (
   c.ok_line.result.now,
   c.say.ensures,
   λ b is. (
-    let s : SupplyState = record { tree = c.supply.inside.tree; spaces = c.supply.inside.stock; cpus = c.supply.inside.cpus.items; selected = c.supply.inside.selected } in
-    subst (λ (x : SupplyState). IsPerformed operator.Tick (pictured b x) c.ok_line.result.now (pictured b (record s { spaces = c.tick.new.stock }))) c.supply.view_is
-    (ticked_so b s c.ok_line.result.now (subst (λ (x : SupplyState). IsPicture (pictured b x)) (sym c.supply.view_is) is) c.tick.new.stock c.ok_line.ensures c.tick.ensures.ticked)
-  ),
+      let s : SupplyState = record { tree = c.supply.inside.tree; spaces = c.supply.inside.stock; cpus = c.supply.inside.cpus.items; selected = c.supply.inside.selected } in
+      subst (λ (x : SupplyState). IsPerformed operator.Tick (pictured b x) c.ok_line.result.now (pictured b (record s { spaces = c.tick.new.stock }))) c.supply.view_is
+      (ticked_so b s c.ok_line.result.now (subst (λ (x : SupplyState). IsPicture (pictured b x)) (sym c.supply.view_is) is) c.tick.new.stock c.ok_line.ensures c.tick.ensures.ticked)
+      ),
 )

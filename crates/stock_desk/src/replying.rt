@@ -1,0 +1,27 @@
+//! The reply to a client's line.
+ghost use Rattle.lease_machine.specs.Machine.{ClientStep};
+ghost use Rattle.lease_machine.specs.Picture.{IsPicture, SameSetup};
+ghost use Rattle.stock_desk.specs.Supplies.{pictured};
+
+use crate::hellos::greet;
+use crate::leasing::lease;
+use crate::releasing::release;
+use crate::supplies::Supply;
+use deed_core::PlainDeed;
+use lease_book::Book;
+use lease_proto::{Line, Op, Reply};
+
+/// Replies to the line of a client.
+pub(crate) fn reply(supply: &mut Supply, book: &mut Book<PlainDeed>, line: &Line) -> Reply
+    requires picture { IsPicture (pictured book.old supply.old) }
+    ensures picture { IsPicture (pictured book.new supply.new) }
+    ensures setup { SameSetup (pictured book.old supply.old) (pictured book.new supply.new) }
+    ensures step { ClientStep line.now
+        (pictured book.old supply.old) (pictured book.new supply.new) result }
+{
+    match line {
+        Line::Hello(hello) => greet(supply, book, hello),
+        Line::Request(id, Op::Lease(op)) => lease(supply, book, *id, op),
+        Line::Request(id, Op::Release(op)) => release(supply, book, *id, op),
+    }
+}
