@@ -1,9 +1,10 @@
 -- What operators' lines do to a picture.
-use Rattle.std.specs.Prelude.{ℕ, ◌+◌, ◌*◌, ◌-◌, ◌^◌, ◌<◌, ◌≤◌, [], length}
+use Rattle.std.specs.Prelude.{ℕ, ◌+◌, ◌*◌, ◌-◌, ◌^◌, ◌<◌, ◌≤◌, List, [], length}
 use Rattle.quantum_cache.specs.declared.reaps.Reaping.{Reaping}
 use Rattle.local_calls.specs.Looks.{findable_in}
-use Rattle.lease_machine.specs.Picture.{Picture, SameSetup}
-use Rattle.lease_machine.specs.Operators.{GoesOffline, ReapsSome, ReapsAll}
+use Rattle.lease_proto.specs.declared.operators.OperatorLine.{OperatorLine}
+use Rattle.lease_machine.specs.Picture.{Picture, IsPicture, SameSetup}
+use Rattle.lease_machine.specs.Operators.{GoesOffline, ReapsSome, ReapsAll, Performs}
 use Rattle.lease_machine.specs.Held.{IsHeld}
 
 -- a CPU went offline
@@ -27,3 +28,14 @@ pub record IsReapedSo (units : ℕ) (old new : Picture) : Type 0 where
   pub reaps : ReapsAll units old new
   pub held : IsHeld [] new
   pub setup : SameSetup old new
+
+-- what holds after each line
+pub record Keeps (old new : Picture) : Type 0 where
+  pub setup : SameSetup old new
+  pub picture : IsPicture new
+
+-- what the operator asked for was done, and answered so
+pub record IsPerformed (o : OperatorLine) (old : Picture) (text : List ℕ) (new : Picture)
+    : Type 0 where
+  pub performs : Performs o old text new
+  pub kept : Keeps old new

@@ -1,18 +1,25 @@
 //! The desk.
-ghost use Rattle.std.specs.Prelude.{◌≡◌, ◌*◌, IfOk};
+ghost use Rattle.std.specs.Prelude.{◌≡◌, ◌*◌, ◌++◌, ◌+◌, ◌≤◌, ℕ, List, IfOk, OnOk, OnErr, vec_len};
+ghost use Rattle.std.specs.Vec.{vec_capacity};
 ghost use Rattle.arena_tree.specs.declared.limits.TheConstants.{MOST_ARENAS, MOST_SPANS};
+ghost use Rattle.lease_proto.specs.declared.limits.TheConstants.{LINE_ROOM};
+ghost use Rattle.lease_machine.specs.Machine.{LeaseStep, ServedStep};
 ghost use Rattle.lease_machine.specs.Picture.{IsPicture};
 ghost use Rattle.lease_machine.specs.RoomLaws.{NothingIsKept};
 ghost use Rattle.stock_desk.specs.Openings.{IsOpenedFrom};
+ghost use Rattle.stock_desk.specs.Operating.{Keeps};
 
 use crate::closings::close_stock;
 use crate::emptyings::empty_all;
 use crate::openings::open_supply;
+use crate::operating::tell;
+use crate::replying::reply;
 use crate::returns::end_leases;
 use crate::supplies::Supply;
 use arena_tree::{MOST_ARENAS, MOST_SPANS, Setup};
 use deed_core::{PlainDeed, Range};
 use lease_book::Book;
+use lease_proto::{LINE_ROOM, ServedLine};
 use std::alloc::{AllocError, Global};
 use std::marker::Model;
 
@@ -58,6 +65,41 @@ impl Desk {
             supply,
             book: Book::new(alloc, mark),
         })
+    }
+
+    /// Answers one line, which is given without its line feed: appends its reply lines. Room for a
+    /// reply is made before the line is served, so that a refused answer takes no effect.
+    pub fn answer(&mut self, line: &[u8], out: &mut Vec<u8>) -> Result<(), AllocError>
+        ensures ok { OnOk result ((reply : List ℕ) × (out.new.items ≡ out.old.items ++ reply)
+            × LeaseStep self.old line.now reply self.new) }
+        ensures err { OnErr result (out.new.items ≡ out.old.items) }
+        ensures unchanged { OnErr result (self.new ≡ self.old) }
+    {
+        out.reserve(LINE_ROOM)?;
+        match ServedLine::read(line) {
+            Ok(line) => self.serve(&line, out),
+            Err(fault) => {
+                // For its clause: the type keeps a picture.
+                let _ = &self.book;
+                out.extend_from_slice(fault.line())
+            }
+        }
+    }
+
+    /// Answers a line for which there is room.
+    fn serve(&mut self, line: &ServedLine, out: &mut Vec<u8>) -> Result<(), AllocError>
+        requires room { vec_len out.old + LINE_ROOM ≤ vec_capacity out.old }
+        ensures ok { OnOk result ((reply : List ℕ) × (out.new.items ≡ out.old.items ++ reply)
+            × ServedStep line.now self.old reply self.new) }
+        ensures err { OnErr result (out.new.items ≡ out.old.items) }
+        ensures unchanged { OnErr result (self.new ≡ self.old) }
+        ensures kept { Keeps self.old self.new }
+    {
+        match line {
+            // There is room, so that this isn't refused.
+            ServedLine::Client(line) => reply(&mut self.supply, &mut self.book, line).write(out),
+            ServedLine::Operator(line) => tell(&mut self.supply, &self.book, *line, out),
+        }
     }
 
     /// Ends the desk: frees all leases, empties all CPUs and caches, takes out all spans, and

@@ -2,10 +2,11 @@
 //! together answer the lines of the lease protocol and of its operator. Of it stand the calls over
 //! one thread's parts (calls), an operator's choice of a CPU (cpus), his intervals and magazine
 //! sizes (depots), what he is told of the arenas and clients (telling), replies (answers,
-//! settling), segments that are given and taken back (supplies, takings), CPUs that go offline
-//! (offlines), what is reaped (reapings), hellos, leases and releases (hellos, leasing, releasing),
-//! of which each client's line is one (replying), what a setup gives (openings), and how leases
-//! (returns), CPUs (emptyings) and the stock (closings) end. The desk itself stands in desks.
+//! settling, replying), segments that are given and taken back (supplies, takings), leases, hellos
+//! and releases (leasing, hellos, releasing), the answers to an operator (operating), CPUs that go
+//! offline (offlines), what is reaped (reapings), what a setup gives (openings), and how leases
+//! (returns), CPUs (emptyings) and the stock (closings) end. The desk itself stands in desks, and
+//! what a server asks of it in responding.
 #![tactic(auto)]
 
 mod answers;
@@ -19,9 +20,11 @@ mod hellos;
 mod leasing;
 mod offlines;
 mod openings;
+mod operating;
 mod reapings;
 mod releasing;
 mod replying;
+mod responding;
 mod returns;
 mod settling;
 mod supplies;
