@@ -29,9 +29,16 @@ run_fails old new Shut p = absurd p
 pub run_closes : (old mid new : Streams) (u : Unit {0}) (r : Result (Unit {0}) RunFault) → Attends old mid (Ok u) → new.unread ≡ mid.unread → Closes mid.written new.written new.writer_failed r → Runs old new r
 run_closes old mid new u (Ok x) (address, told, end) same p = (address, Appends-trans old.written mid.written new.written (listening_line address) closed_line told p, rw same end)
 run_closes old mid new u (Err Shut) (address, told, end) same p = (address, Appends-trans old.written mid.written new.written (listening_line address) closed_line told p, rw same end)
-run_closes old mid new u (Err Write) (address, told, end) same ((written, unwritten, split, appends), failed) =
-    (address, (listening_line address ++ written, unwritten, ap (λ l. listening_line address ++ l) split ∙ sym (append_assoc (listening_line address) written unwritten),
-      Appends-trans old.written mid.written new.written (listening_line address) written told appends), failed)
+run_closes old mid new u (Err Write) (address, told, end) same ((written, unwritten, split, appends), failed) = (
+  address,
+  (
+    listening_line address ++ written,
+    unwritten,
+    ap (λ l. listening_line address ++ l) split ∙ sym (append_assoc (listening_line address) written unwritten),
+    Appends-trans old.written mid.written new.written (listening_line address) written told appends,
+  ),
+  failed,
+)
 run_closes old mid new u (Err Read) a same p = absurd p
 run_closes old mid new u (Err Listen) a same p = absurd p
 run_closes old mid new u (Err Memory) a same p = absurd p

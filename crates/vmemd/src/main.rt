@@ -85,11 +85,13 @@ fn answer_words<
     };
     match read_words(rt.alloc(), words.as_slice()) {
         Ok(GivenWords::Script) => end_script(rt, answer_input(rt)),
-        Ok(GivenWords::Serve {
-            address,
-            config,
-            workers,
-        }) => serve(rt, address, config, u32::from(workers)),
+        Ok(
+            GivenWords::Serve {
+                address,
+                config,
+                workers,
+            },
+        ) => serve(rt, address, config, u32::from(workers)),
         Err(fault) => end_words(rt, &mut Watched::new(io::writer(rt)), &fault),
     }
 }

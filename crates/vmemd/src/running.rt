@@ -68,13 +68,7 @@ pub fn run_serve<
         + AllocGlobal,
     I: Read + Drop,
     W: Write + Drop,
->(
-    rt: &R,
-    address: &str,
-    setup: Setup,
-    workers: u32,
-    console: Console<I, W>,
-) -> Ran<I, W>
+>(rt: &R, address: &str, setup: Setup, workers: u32, console: Console<I, W>) -> Ran<I, W>
     ensures { Runs (console_streams I.remaining W.contents console)
         (console_streams I.remaining W.contents result.console) result.ended }
 {
@@ -134,9 +128,9 @@ fn run_named<
 }
 
 // Tells that the server closed, where it came to its end.
-#[tactic(auto, using(crate::proofs::RunningLemmas::run_fails, crate::proofs::RunningLemmas::run_closes))]
 fn close<I: Read, W: Write>(ran: Ran<I, W>, stuck: bool) -> Ran<I, W>
-    ensures { (old : Streams) → Attends old (console_streams I.remaining W.contents ran.console) ran.ended
+    ensures { (old : Streams)
+        → Attends old (console_streams I.remaining W.contents ran.console) ran.ended
         → Runs old (console_streams I.remaining W.contents result.console) result.ended }
 {
     let Ran { ended, console } = ran;
@@ -152,7 +146,8 @@ fn close<I: Read, W: Write>(ran: Ran<I, W>, stuck: bool) -> Ran<I, W>
 }
 
 fn tell_closed<W: Write>(out: &mut Watched<W>, stuck: bool) -> Result<(), RunFault>
-    ensures { Closes (W.contents (inner_of out.old)) (W.contents (inner_of out.new)) (has_failed out.new) result }
+    ensures { Closes (W.contents (inner_of out.old)) (W.contents (inner_of out.new))
+        (has_failed out.new) result }
 {
     if deliver(out, b"closed\n").is_err() {
         return Err(RunFault::Write);
@@ -292,13 +287,7 @@ fn are_ready<R: Wait + Clock>(rt: &R, signals: &Signals, workers: u32) -> bool {
 fn work<
     N: Name,
     R: Net<Listener = TcpListener, Stream = TcpStream> + Wait + Clock + Eprint + AllocGlobal,
->(
-    rt: &R,
-    listener: &TcpListener,
-    system: &System<N>,
-    signals: &Signals,
-    number: u32,
-) {
+>(rt: &R, listener: &TcpListener, system: &System<N>, signals: &Signals, number: u32) {
     let Ok(Some(cpu)) = Cpu::new(rt.alloc(), system, number) else {
         signals.starve();
         return;
