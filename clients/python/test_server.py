@@ -6,6 +6,7 @@ import multiprocessing
 import os
 import random
 import socket
+import struct
 import subprocess
 import tempfile
 import threading
@@ -107,6 +108,57 @@ class Alone(Served):
             client.lease("m", 4096)
         for it in (silent, half):
             it.close()
+
+    def test_a_peer_that_never_reads_leaves_the_others(self):
+        with socket.create_connection(("127.0.0.1", self.port)) as deaf:
+            deaf.settimeout(2)
+            with self.assertRaises(TimeoutError):
+                for _ in range(100_000):
+                    deaf.sendall(b"hello 9 1\n" * 1000)
+            with self.client(1) as client:
+                client.lease("m", 4096)
+
+    def test_connections_cut_in_a_reply_leave_the_others(self):
+        for number in range(200):
+            link = socket.create_connection(("127.0.0.1", self.port), 30)
+            link.setsockopt(socket.SOL_SOCKET, socket.SO_LINGER, struct.pack("ii", 1, 0))
+            link.sendall(b"hello 2 1\n" * 500)
+            self.assertTrue(b"welcome 2 1\n".startswith(link.recv(1 + number % 12)))
+            link.close()
+        with self.client(1) as client:
+            client.lease("m", 4096)
+
+    def test_more_connections_than_workers_wait(self):
+        address = ("127.0.0.1", self.port)
+        held = [socket.create_connection(address, 30) for _ in range(self.workers)]
+        for it in held:
+            it.sendall(b"hello 2 1\n")
+            self.assertEqual(it.recv(12), b"welcome 2 1\n")
+        with socket.create_connection(address, 1) as later:
+            later.sendall(b"hello 3 1\n")
+            with self.assertRaises(TimeoutError):
+                later.recv(12)
+            held[0].close()
+            later.settimeout(30)
+            self.assertEqual(later.recv(12), b"welcome 3 1\n")
+        for it in held:
+            it.close()
+
+    def memory(self):
+        """The server's resident memory, in KiB."""
+        with open(f"/proc/{self.server.pid}/status", encoding="ascii") as status:
+            told = dict(it.split(":", 1) for it in status)
+        return int(told["VmRSS"].split()[0])
+
+    @unittest.skipUnless(os.path.exists("/proc/self/status"), "memory is told in /proc")
+    def test_ten_thousand_connections_take_no_more_memory(self):
+        lines = b"hello 1 1\nlease 1 1 1 m 8\nrelease 1 1 2 m 0\n"
+        for _ in range(1000):
+            self.ask(lines)
+        before = self.memory()
+        for _ in range(9000):
+            self.ask(lines)
+        self.assertLess(self.memory() - before, 1024)
 
 
 class Cutter:

@@ -3,3 +3,4 @@ pub mod SetupLemmas
 pub mod RunLemmas
 pub mod LawLemmas
 mod ConfigLemmas
+mod RunningLemmas

@@ -1,7 +1,11 @@
 -- The words of the command line, and how a program ends that they are for no part of.
-use Rattle.std.specs.Prelude.{◌≡◌, ◌≢◌, ◌⊎◌, ℕ, Bool, List, ◌∷◌, [], Option, true, false, codes}
+use Rattle.std.specs.Prelude.{◌≡◌, ◌≢◌, ◌⊎◌, ℕ, Bool, List, ◌∷◌, [], Option, Some, true, false}
+use Rattle.std.specs.Prelude.{codes, pos}
 use Rattle.std.specs.Io.KnownBytes.{Appends, Keeps}
-use Rattle.clap.specs.Words.{App, Kinds, IsAmong, new_app, with_subcommand, kind_of}
+use Rattle.clap.specs.Words.{App, Kinds, IsAmong, Rule, new_app, new_rule, with_rule}
+use Rattle.clap.specs.Words.{with_subcommand, kind_of}
+use Rattle.clap.specs.declared.builder.action.ArgAction.TheVariants.{Set}
+use Rattle.clap.specs.declared.builder.value_parser.ValueParser.TheVariants.{Signed}
 use Rattle.clap.specs.declared.error.Error.{Error}
 use Rattle.clap.specs.declared.error.kind.ErrorKind.{ErrorKind}
 use Rattle.clap.specs.declared.error.kind.ErrorKind.TheVariants as kind
@@ -21,9 +25,23 @@ bare_program = record (new_app (codes "vmemd")) {
   };
 }
 
--- the program's command, which has to have the one subcommand `script`
+-- a word that has to stand in its place
+abbrev pub required_word : List ℕ → Rule
+required_word id = record (new_rule id) { required = true; action = Some Set }
+
+-- how many workers serve, from 1 to 64
+abbrev pub workers_word : Rule
+workers_word = record (required_word (codes "WORKERS")) { parser = Some (Signed (pos 1) (pos 64)) }
+
+-- the subcommand `serve ADDRESS CONFIG WORKERS`
+abbrev pub serve_command : App
+serve_command = with_rule (with_rule (with_rule (new_app (codes "serve"))
+    (required_word (codes "ADDRESS"))) (required_word (codes "CONFIG"))) workers_word
+
+-- the program's command, which has to have one of the subcommands `script` and `serve`
 abbrev pub program : App
-program = with_subcommand bare_program (new_app (codes "script")).top
+program = with_subcommand (with_subcommand bare_program (new_app (codes "script")).top)
+    serve_command.top
 
 -- `vmemd script`
 abbrev pub script_words : List (List ℕ)

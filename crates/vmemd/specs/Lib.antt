@@ -5,3 +5,4 @@ pub mod Desks
 pub mod Commands
 pub mod Laws
 pub mod Configs
+pub mod Running

@@ -1,18 +1,25 @@
 //! The words of the command line.
 
-ghost use Rattle.std.specs.Prelude.{◌≡◌, ◌≢◌, [], IfOk, IfErr, OnOk, map};
-ghost use Rattle.clap.specs.Words.{app_of, fault_of, kind_of};
+ghost use Rattle.std.specs.Prelude.{◌≡◌, ◌≢◌, [], IfOk, IfErr, OnOk, false, map};
+ghost use Rattle.clap.specs.Words.{app_of, fault_of, kind_of, rule_of};
 ghost use Rattle.vmemd.specs.Commands.{program, script_words, FailsWords, IsTold};
+ghost use Rattle.vmemd.specs.Commands.{required_word, workers_word};
 
 use clap::error::ErrorKind;
-use clap::{Command, Error};
+use clap::{Arg, ArgAction, ArgMatches, Command, Error};
 use std::alloc::{AllocError, AllocFailed, Global};
 
 /// What the words after the program's name ask for.
 #[derive(Clone, Copy, Debug, PartialEq, Eq)]
-pub enum GivenWords {
+pub enum GivenWords<'a> {
     /// `script`: answer standard input on standard output.
     Script,
+    /// `serve ADDRESS CONFIG WORKERS`: answer connections to the address. Workers are 1 to 64.
+    Serve {
+        address: &'a str,
+        config: &'a str,
+        workers: u8,
+    },
 }
 
 /// Why the words are for no part of the program.
@@ -141,9 +148,25 @@ answers
   granted 1 1 1 m 32 8
 since 32 is the first multiple of 16 from 20 on.";
 
+/// What `serve` does, for its help.
+const SERVE_HELP: &str = "\
+Answers clients over TCP, until standard input ends.
+
+ADDRESS is an address and a port, as 127.0.0.1:7070; with port 0 the system chooses one. CONFIG is a
+file of setup lines, root and child alone. WORKERS is how many connections are served at a time: a
+client that stays connected holds a worker, and more connections than workers wait until one ends.
+
+Once it listens it prints listening ADDRESS, with the real port. The lines of clients and their
+answers are those of a script; lines of operators are answered by error word. A connection that
+fails, or says nothing for ten minutes, ends alone; leases don't end with a connection.
+
+What comes on standard input is ignored. When it ends, no further connection is served, those being
+served end when their clients end them, all leases end, and it prints closed. So keep standard input
+open as long as the server is to run.";
+
 const STATUS_HELP: &str = "\
-Exit status: 0 at the end of the input, and after help or the version; 1 where reading, writing or
-memory fails; 2 for other words than these and for a setup line that is refused.";
+Exit status: 0 at the end of the input, and after help or the version; 1 where reading, writing,
+listening or memory fails; 2 for other words than these and for a setup line that is refused.";
 
 fn command<'a>(alloc: Global) -> Result<Command<'a>, AllocError>
     ensures { IfOk result (λ c. app_of c ≡ program) }
@@ -152,6 +175,15 @@ fn command<'a>(alloc: Global) -> Result<Command<'a>, AllocError>
         .about("Answer standard input on standard output")
         .long_about(SCRIPT_HELP)
         .after_help(STATUS_HELP);
+    let address = required(alloc, "ADDRESS").help("Where to listen, as 127.0.0.1:7070");
+    let config = required(alloc, "CONFIG").help("A file of setup lines");
+    let serve = Command::new(alloc, "serve")
+        .about("Answer clients over TCP")
+        .long_about(SERVE_HELP)
+        .after_help(STATUS_HELP)
+        .arg(address)?
+        .arg(config)?
+        .arg(workers(alloc))?;
     Command::new(alloc, "vmemd")
         .version(VERSION)
         .about("Leases ranges of whole numbers to clients, over lines of text")
@@ -159,22 +191,51 @@ fn command<'a>(alloc: Global) -> Result<Command<'a>, AllocError>
         .subcommand_required(true)
         .arg_required_else_help(true)
         .disable_help_subcommand(true)
-        .subcommand(script)
+        .subcommand(script)?
+        .subcommand(serve)
+}
+
+fn workers<'a>(alloc: Global) -> Arg<'a>
+    ensures rule { rule_of result ≡ workers_word }
+    ensures local { result.global ≡ false }
+{
+    required(alloc, "WORKERS")
+        .value_parser(clap::value_parser!(u8).range(1..=64))
+        .help("How many connections are served at a time, 1 to 64")
+}
+
+fn required<'a>(alloc: Global, id: &'a str) -> Arg<'a>
+    ensures rule { rule_of result ≡ required_word id.entry.now }
+    ensures local { result.global ≡ false }
+{
+    Arg::new(alloc, id).required(true).action(ArgAction::Set)
 }
 
 /// Reads the words, of which the first is the program's name.
-pub fn read_words<'a>(alloc: Global, words: &'a [&'a str]) -> Result<GivenWords, WordsFault>
+pub fn read_words<'a>(alloc: Global, words: &'a [&'a str]) -> Result<GivenWords<'a>, WordsFault>
     // `vmemd script` is refused only where memory is.
     ensures script { map (λ w. w.now) words.now ≡ script_words
         → IfErr result (λ fault. fault ≡ WordsFault.Memory) }
-    // What is taken is without fault, as clap reads a program with this one command.
+    // What is taken is without fault, as clap reads a program with these commands.
     ensures ok { OnOk result (fault_of program (map (λ w. w.now) words.now) ≡ []) }
     // What isn't taken has the fault that clap finds.
     ensures err { IfErr result (FailsWords (fault_of program (map (λ w. w.now) words.now))) }
 {
     match command(alloc)?.try_get_matches_from(words) {
-        Ok(_matches) => Ok(GivenWords::Script),
+        Ok(matches) => Ok(given(&matches)),
         Err(error) => Err(words_fault(alloc, error)),
+    }
+}
+
+/// What matches ask for. clap has seen that the words of `serve` are there, and its number in range.
+fn given<'a>(matches: &ArgMatches<'a>) -> GivenWords<'a> {
+    match matches.subcommand() {
+        Some(("serve", of)) => GivenWords::Serve {
+            address: of.get_str("ADDRESS").unwrap_or(""),
+            config: of.get_str("CONFIG").unwrap_or(""),
+            workers: of.get_one::<u8>("WORKERS").unwrap_or(1),
+        },
+        _ => GivenWords::Script,
     }
 }
 

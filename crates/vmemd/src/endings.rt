@@ -3,13 +3,18 @@ ghost use Rattle.std.specs.Prelude.{◌≡◌, false, OnOk, OnErr};
 ghost use Rattle.std.specs.Process.{exit_status};
 ghost use Rattle.lease_server.specs.Watching.{inner_of, has_failed};
 ghost use Rattle.vmemd.specs.Commands.{EndsWords};
+ghost use Rattle.vmemd.specs.Running.{run_status};
 ghost use Rattle.vmemd.specs.Scripts.{exit_of, status_of};
 
 use crate::commands::WordsFault;
 use crate::faults::ScriptFault;
+use crate::running::RunFault;
 use lease_server::{Watched, deliver};
 use std::io::Write;
 use std::process::ExitCode;
+
+/// The exit status of each fault of a server.
+const RUN_FAULT: u8 = 1;
 
 /// The exit status where the words are a mistake.
 const USAGE: u8 = 2;
@@ -50,6 +55,21 @@ pub fn end_words<R: Eprint, W: Write>(
             ExitCode::from(USAGE)
         }
         WordsFault::Memory => fail(rt, ScriptFault::Memory),
+    }
+}
+
+/// Ends a server. A fault is told on standard error, but for `Shut`, which was told when it was
+/// found.
+pub fn end_run<R: Eprint>(rt: &R, ran: Result<(), RunFault>) -> ExitCode
+    ensures { exit_status result ≡ run_status ran }
+{
+    match ran {
+        Ok(()) => ExitCode::SUCCESS,
+        Err(RunFault::Shut) => ExitCode::from(RUN_FAULT),
+        Err(fault) => {
+            let _ = eprintln!(rt; "vmemd: {fault}");
+            ExitCode::from(RUN_FAULT)
+        }
     }
 }
 

@@ -17,30 +17,42 @@ pub mod configs;
 pub mod endings;
 pub mod faults;
 pub mod laws;
+pub mod running;
 pub mod scripts;
 pub mod setting_up;
 pub mod settings;
+pub mod signals;
 #[cfg(test)]
 mod tests;
 
 use crate::commands::{GivenWords, WordsFault, read_words};
-use crate::endings::{end_script, end_words};
+use crate::configs::read_config;
+use crate::endings::{end_run, end_script, end_words};
 use crate::faults::ScriptFault;
+use crate::running::{Console, RunFault, run_serve};
 use crate::scripts::run_script;
+use arena_tree::Setup;
 use lease_server::Watched;
+use log::{Log, info};
+use std::fs::File;
 use std::io;
 use std::io::ErrorKind;
+use std::net::{Net, TcpListener, TcpStream};
 use std::process::ExitCode;
+use std::rt::Files;
+use std::sync::Wait;
+use std::thread::Threads;
+use std::time::Clock;
 
 fn main(rt: HostRuntime) -> ExitCode {
     match read_arguments(&rt) {
-        Ok(GivenWords::Script) => end_script(&rt, answer_input(&rt)),
+        Ok(texts) => answer_words(&rt, texts.as_slice()),
         Err(fault) => end_words(&rt, &mut Watched::new(io::writer(&rt)), &fault),
     }
 }
 
-/// The program's arguments, without the name that it was called by.
-fn arguments_of(rt: &HostRuntime) -> Result<Vec<String>, WordsFault> {
+/// The words of the command line. Its texts call the program `vmemd`, whatever it was called by.
+fn read_arguments(rt: &HostRuntime) -> Result<Vec<String>, WordsFault> {
     let arguments = match std::env::args(rt) {
         Ok(arguments) => arguments,
         Err(error) if error.kind() == ErrorKind::OutOfMemory => return Err(WordsFault::Memory),
@@ -53,16 +65,44 @@ fn arguments_of(rt: &HostRuntime) -> Result<Vec<String>, WordsFault> {
     Ok(texts)
 }
 
-/// What the program's arguments ask for. Its texts call it `vmemd`, whatever it was called by.
-fn read_arguments(rt: &HostRuntime) -> Result<GivenWords, WordsFault> {
-    let alloc = rt.alloc();
-    let texts = arguments_of(rt)?;
-    let mut words: Vec<&str> = Vec::new(alloc);
+/// Does what the words ask for.
+fn answer_words<
+    R: Input
+        + Print
+        + Eprint
+        + Log
+        + Files
+        + Net<Listener = TcpListener, Stream = TcpStream>
+        + Threads
+        + Wait
+        + Clock
+        + Sync
+        + AllocGlobal,
+>(rt: &R, texts: &[String]) -> ExitCode {
+    let words = match words_of(rt, texts) {
+        Ok(words) => words,
+        Err(fault) => return end_words(rt, &mut Watched::new(io::writer(rt)), &fault),
+    };
+    match read_words(rt.alloc(), words.as_slice()) {
+        Ok(GivenWords::Script) => end_script(rt, answer_input(rt)),
+        Ok(
+            GivenWords::Serve {
+                address,
+                config,
+                workers,
+            },
+        ) => serve(rt, address, config, u32::from(workers)),
+        Err(fault) => end_words(rt, &mut Watched::new(io::writer(rt)), &fault),
+    }
+}
+
+fn words_of<'a, R: AllocGlobal>(rt: &R, texts: &'a [String]) -> Result<Vec<&'a str>, WordsFault> {
+    let mut words: Vec<&'a str> = Vec::new(rt.alloc());
     words.push("vmemd")?;
-    for text in &texts {
+    for text in texts {
         words.push(text.as_str())?;
     }
-    read_words(alloc, words.as_slice())
+    Ok(words)
 }
 
 /// Answers standard input on standard output.
@@ -70,4 +110,40 @@ fn answer_input<R: Input + Print + AllocGlobal>(rt: &R) -> Result<(), ScriptFaul
     let mut reader = Watched::new(rt.reader());
     let mut writer = Watched::new(io::writer(rt));
     run_script(rt.alloc(), &mut reader, &mut writer)
+}
+
+/// Reads CONFIG, and serves until standard input ends.
+fn serve<
+    R: Input
+        + Print
+        + Eprint
+        + Log
+        + Files
+        + Net<Listener = TcpListener, Stream = TcpStream>
+        + Threads
+        + Wait
+        + Clock
+        + Sync
+        + AllocGlobal,
+>(rt: &R, address: &str, config: &str, workers: u32) -> ExitCode {
+    let setup = match setup_of(rt, config) {
+        Ok(setup) => setup,
+        Err(fault) => return end_script(rt, Err(fault)),
+    };
+    let console = Console {
+        input: Watched::new(rt.reader()),
+        out: Watched::new(io::writer(rt)),
+    };
+    let ended = run_serve(rt, address, setup, workers, console).ended;
+    if matches!(ended, Ok(()) | Err(RunFault::Shut)) {
+        info!(rt; "vmemd closed");
+    }
+    end_run(rt, ended)
+}
+
+fn setup_of<R: Files + AllocGlobal>(rt: &R, config: &str) -> Result<Setup, ScriptFault> {
+    match File::open(rt, config) {
+        Ok(file) => read_config(rt.alloc(), &mut Watched::new(file)),
+        Err(_) => Err(ScriptFault::Read),
+    }
 }

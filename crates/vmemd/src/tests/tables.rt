@@ -309,11 +309,12 @@ Usage: vmemd <COMMAND>
 
 Commands:
   script  Answer standard input on standard output
+  serve   Answer clients over TCP
 
 Options:
   -h, --help     Print help
   -V, --version  Print version
 
-Exit status: 0 at the end of the input, and after help or the version; 1 where reading, writing or
-memory fails; 2 for other words than these and for a setup line that is refused.
+Exit status: 0 at the end of the input, and after help or the version; 1 where reading, writing,
+listening or memory fails; 2 for other words than these and for a setup line that is refused.
 ";

@@ -33,7 +33,7 @@ returns-in-Err-clause-script c = λ are. c.words_fault.ensures.memory (c.in-Err.
 pub returns-in-Ok-clause-ok : goal.returns-in-Ok-clause-ok
 returns-in-Ok-clause-ok c =
     let words = map (λ w. w.now) c.args.words.now in
-    subst (λ a. is_simple_and_free a ≡ true → FailsBy (fault_of a words) (Ok c.in-Ok._matches)) c.in_ok-command.ensures c.in-Ok.ensures.kinds is_plain
+    subst (λ a. is_simple_and_free a ≡ true → FailsBy (fault_of a words) (Ok c.in-Ok.matches)) c.in_ok-command.ensures c.in-Ok.ensures.kinds is_plain
 
 pub returns-in-Err-clause-err : goal.returns-in-Err-clause-err
 returns-in-Err-clause-err c =

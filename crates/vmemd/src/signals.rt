@@ -1,0 +1,64 @@
+//! What the workers of a server share beside its system.
+
+use std::sync::atomic::{AtomicBool, AtomicU64, Ordering};
+
+/// What tells workers to stop, and what they tell.
+#[derive(Drop)]
+pub struct Signals {
+    stop: AtomicBool,
+    ready: AtomicU64,
+    starved: AtomicBool,
+    stuck: AtomicBool,
+}
+
+impl Signals {
+    /// None is raised.
+    pub fn new() -> Signals {
+        Signals {
+            stop: AtomicBool::new(false),
+            ready: AtomicU64::new(0),
+            starved: AtomicBool::new(false),
+            stuck: AtomicBool::new(false),
+        }
+    }
+
+    /// Has each worker end after the connection that it serves.
+    pub fn stop(&self) {
+        self.stop.store(true, Ordering::SeqCst);
+    }
+
+    /// The flag that `stop` raises.
+    pub fn flag(&self) -> &AtomicBool {
+        &self.stop
+    }
+
+    /// Tells that one more worker has its CPU.
+    pub fn add_ready(&self) {
+        self.ready.fetch_add(1, Ordering::SeqCst);
+    }
+
+    /// How many workers have their CPU.
+    pub fn ready(&self) -> u64 {
+        self.ready.load(Ordering::SeqCst)
+    }
+
+    /// Tells that a worker was refused memory for its CPU.
+    pub fn starve(&self) {
+        self.starved.store(true, Ordering::SeqCst);
+    }
+
+    /// Whether a worker was.
+    pub fn is_starved(&self) -> bool {
+        self.starved.load(Ordering::SeqCst)
+    }
+
+    /// Tells that something could not be put back at once, and says whether it is the first time.
+    pub fn note_stuck(&self) -> bool {
+        !self.stuck.swap(true, Ordering::SeqCst)
+    }
+
+    /// Whether something could not be put back at once.
+    pub fn is_stuck(&self) -> bool {
+        self.stuck.load(Ordering::SeqCst)
+    }
+}
