@@ -1,12 +1,13 @@
 //! The answers to an operator's lines.
-ghost use Rattle.std.specs.Prelude.{◌≡◌, ◌⊎◌, ◌++◌, ◌+◌, ◌≤◌, ℕ, List, length, OnOk, OnErr, vec_len};
+ghost use Rattle.std.specs.Prelude.{◌≡◌, ◌⊎◌, ◌++◌, ◌+◌, ◌≤◌, ℕ, List, length};
+ghost use Rattle.std.specs.Prelude.{OnOk, OnErr, vec_len};
 ghost use Rattle.std.specs.Io.{StartsWith};
 ghost use Rattle.std.specs.Vec.{vec_capacity};
 ghost use Rattle.lease_book.specs.BookState.{BookState};
 ghost use Rattle.lease_proto.specs.declared.limits.TheConstants.{LINE_ROOM};
 ghost use Rattle.lease_proto.specs.declared.operators.OperatorLine.TheVariants as operator;
 ghost use Rattle.lease_machine.specs.Operators.{LeavesOff, OperatorStep};
-ghost use Rattle.lease_machine.specs.Picture.{IsPicture, SameSetup};
+ghost use Rattle.lease_machine.specs.Picture.{IsPicture};
 ghost use Rattle.stock_desk.specs.Depots.{outcome_text};
 ghost use Rattle.stock_desk.specs.Operating.{Keeps, IsPerformed};
 ghost use Rattle.stock_desk.specs.Supplies.{pictured};
