@@ -366,11 +366,14 @@ def run(script):
         number += 1
         if word:
             return [], f"vmemd: line {number}: {word}"
+    last = "toolong" if len(rest) > 255 else "badline"
+    if number == len(lines) and rest.split(" ")[0] in SETUP:
+        return [], f"vmemd: line {number + 1}: {last}"
     rules.open()
     for line in lines[number:]:
         answers += rules.answer(line)
     if rest:
-        answers.append(f"error {'toolong' if len(rest) > 255 else 'badline'}")
+        answers.append(f"error {last}")
     return answers, None
 
 
