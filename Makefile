@@ -22,8 +22,9 @@ all:
 # rt ci leaves the programs that it proved and ran under crates/vmemd/out, and the cases run on them.
 test:
 	tools/edits --apply-only
-	rt ci; proved=$$?; tools/cases; ran=$$?; tools/random_scripts; random=$$?; \
-	tools/client_tests; clients=$$?; test "$$proved $$ran $$random $$clients" = "0 0 0 0"
+	rt ci; proved=$$?; tools/cases; ran=$$?; tools/random_scripts; plain=$$?; \
+	tools/random_scripts --all --count 60; random=$$?; \
+	tools/client_tests; clients=$$?; test "$$proved $$ran $$plain $$random $$clients" = "0 0 0 0 0"
 
 edits:
 	tools/edits --together --jobs $(JOBS) $(CRATE)
