@@ -3,4 +3,5 @@ pub mod SetupLemmas
 pub mod RunLemmas
 pub mod LawLemmas
 mod ConfigLemmas
+mod SettingLemmas
 mod RunningLemmas

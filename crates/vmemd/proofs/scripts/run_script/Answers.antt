@@ -1,10 +1,9 @@
 use Rattle.std.proofs.Common.{subst}
 use Rattle.std.proofs.lemmas.Result.{err_from_is_err_and}
 use Rattle.arena_tree.specs.Settings.{SetupState}
-use Rattle.lease_desk.specs.Machine.{LeaseStep}
-use Rattle.lease_desk.specs.Opened.{IsDeskOf}
+use Rattle.lease_machine.specs.Machine.{LeaseStep}
 use Rattle.lease_server.specs.Watching.{inner_of, streams_of}
-use Rattle.vmemd.specs.Desks.{no_arenas}
+use Rattle.vmemd.specs.Desks.{IsDeskOf, no_arenas}
 use Rattle.vmemd.specs.Settings.{TakesSetupLine, RefusesSetupLine, CanTakeSetupLine}
 use Rattle.vmemd.specs.Setups.{SetupFails, TakesSetup}
 use Rattle.vmemd.proofs.RunLemmas.{setup_fails, open_fails, run_whole, serving_fails}
