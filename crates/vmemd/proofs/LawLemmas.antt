@@ -1,14 +1,17 @@
 -- What holds over a whole script, from the laws of the lease machine.
-use Rattle.std.proofs.Common.{◌≡◌, refl, sym, ◌∙◌, ap, subst, List, [], ◌∷◌, ◌++◌, ℕ, Ok, Err, append_assoc}
+use Rattle.std.proofs.Common.{◌≡◌, refl, sym, ◌∙◌, ap, subst, List, [], ◌∷◌, ◌++◌, ℕ, All, Ok, Err, append_assoc}
+use Rattle.arena_tree.specs.declared.trees.TreeArena.{TreeArena}
 use Rattle.lease_proto.specs.Frames.{Frame}
 use Rattle.lease_proto.specs.Faults.{error_line}
 use Rattle.lease_machine.specs.Picture.{Picture, IsPicture}
 use Rattle.lease_machine.specs.Laws.{Runs}
-use Rattle.lease_machine.proofs.LawProofs.{pictures_stay, units_have_one_place, leases_are_apart, audit_is_told, audit_tells_leases, audit_is_whole}
+use Rattle.lease_machine.proofs.LawProofs.{pictures_stay, setup_stays, units_have_one_place, leases_are_apart, audit_is_told, audit_tells_leases, audit_is_whole}
 use Rattle.lease_machine.proofs.LawProofs.{lines_repeat, answers_agree, grants_fit, repeats_fit, first_lease_is_served, freed_is_whole}
 use Rattle.vmemd.specs.Desks.{IsDeskOf}
+use Rattle.vmemd.proofs.SpanLemmas.{span_there}
+use Rattle.vmemd.proofs.UncachedLemmas.{nothing_kept}
 use Rattle.vmemd.specs.Laws.{Script, ScriptsSplit, ScriptLeasesStayApart, ScriptUnitsHaveOnePlace, ScriptAuditIsTold, ScriptAuditIsWhole}
-use Rattle.vmemd.specs.Laws.{ScriptLinesRepeat, ScriptAnswersAgree, ScriptGrantsFit, ScriptRepeatsFit, ScriptFirstLeaseIsServed, ScriptFreedIsWhole}
+use Rattle.vmemd.specs.Laws.{ScriptLinesRepeat, ScriptAnswersAgree, ScriptGrantsFit, ScriptRepeatsFit, ScriptFirstLeaseIsServed, ScriptFreedIsWhole, ScriptReturnedIsWhole}
 
 -- what a script leaves is a picture
 script_picture : (last : Picture) → Script last → IsPicture last
@@ -65,11 +68,21 @@ script_repeats_fit id l first second frames a fresh =
 pub script_first_lease : ScriptFirstLeaseIsServed
 script_first_lease start mid new s hello greeting lease text h id l none is_hello greets asks answers fits =
     let begun : start ≡ s.desk = (subst (λ (frames : List Frame). Runs s.desk frames s.text start) none s.serves).1 in
-    let opened = subst (λ (d : Picture). IsDeskOf s.made d) (sym begun) s.opened in
-    first_lease_is_served start mid new hello greeting lease text h id l fits.0 fits.1 opened.picture opened.unused opened.opened.book.accounts
-    fits.4 is_hello greets asks answers fits.2 fits.3 fits.5 fits.6
+    let opened : IsDeskOf s.made start = subst (λ (d : Picture). IsDeskOf s.made d) (sym begun) s.opened in
+    let there = span_there s.made s.desk start l s.opened (setup_stays s.desk start s.frames s.text s.serves) fits in
+    first_lease_is_served start mid new hello greeting lease text h id l fits.arena there.space opened.picture opened.unused opened.opened.book.accounts
+    there.names is_hello greets asks answers there.span fits.base there.owns there.serves
 
 pub script_freed_whole : ScriptFreedIsWhole
 script_freed_whole old new id l line text a none asks fresh fits said =
-    freed_is_whole old new id l fits.0 fits.1 (script_picture old a.script) none fits.4 fits.2 fits.3 fits.5 fits.6
+    let s = a.script in
+    let there = span_there s.made s.desk old l s.opened (setup_stays s.desk old s.frames s.text s.serves) fits in
+    freed_is_whole old new id l fits.arena there.space (script_picture old s) none there.names there.span fits.base there.owns there.serves
     (record { line = line; text = text; read = asks; fresh = fresh; step = a.step; said = said })
+
+pub script_returned_whole : ScriptReturnedIsWhole
+script_returned_whole old new id l line text a uncached none asks fresh fits =
+    let s = a.script in
+    let tree : old.tree ≡ s.made.arenas = (setup_stays s.desk old s.frames s.text s.serves).tree ∙ s.opened.opened.tree in
+    let bare = subst (λ (t : List TreeArena). All (λ x. x.qcache_max ≡ 0) t) (sym tree) uncached in
+    script_freed_whole old new id l line text a (nothing_kept old (script_picture old s) bare none) asks fresh fits

@@ -1,12 +1,14 @@
 -- What holds over a whole script.
-use Rattle.std.specs.Prelude.{◌≡◌, ◌≢◌, ◌⊎◌, ◌≤◌, ℕ, List, [], ◌++◌, AllPairs, Contains, codes, sum_by}
-use Rattle.std.specs.Prelude.{slice_get, Some, Ok}
+use Rattle.std.specs.Prelude.{◌≡◌, ◌≢◌, ◌⊎◌, ◌≤◌, ◌+◌, ℕ, List, [], ◌++◌, All, AllPairs, Contains}
+use Rattle.std.specs.Prelude.{codes, sum_by, slice_get, Some, Ok}
 use Rattle.deed_core.specs.Covering.{covering_held, units_held}
-use Rattle.deed_core.specs.Holding.{Holding}
+use Rattle.deed_core.specs.Extent.{end_of}
+use Rattle.deed_core.specs.Request.{Fits}
 use Rattle.tag_arena.specs.ArenaState.{spans_of}
-use Rattle.tag_arena.specs.Place.{ServesIn}
 use Rattle.arena_tree.specs.declared.trees.TreeArena.{TreeArena}
+use Rattle.arena_tree.specs.declared.setups.OwnedSpan.{OwnedSpan}
 use Rattle.arena_tree.specs.Settings.{SetupState}
+use Rattle.arena_tree.specs.Trees.{place_in}
 use Rattle.stock.specs.Spaces.{SpaceState}
 use Rattle.stock.specs.Sums.{total}
 use Rattle.stock.specs.Laws.{ApartUpChain}
@@ -31,7 +33,7 @@ use Rattle.lease_machine.specs.Operators.{sums_in, arenas_told}
 use Rattle.lease_machine.specs.Machine.{LeaseStep, demand_of}
 use Rattle.lease_machine.specs.Laws.{Runs}
 use Rattle.lease_machine.specs.AnswerLaws.{written, IsUnkept, IsRequestLine, AreOfOthers, FitsLine}
-use Rattle.lease_machine.specs.RoomLaws.{NamesArena, NothingIsKept, refusal_to}
+use Rattle.lease_machine.specs.RoomLaws.{NothingIsKept, refusal_to}
 use Rattle.vmemd.specs.Scripts.{Makes}
 use Rattle.vmemd.specs.Settings.{TakesSetupLine}
 use Rattle.vmemd.specs.Desks.{IsDeskOf, no_arenas}
@@ -135,24 +137,41 @@ ScriptRepeatsFit = (id : RequestId) (l : LeaseLine) (first second : List ℕ) (f
     → IsNew (account_in id.client a.old.book) id
     → ((r : Reply) × (second ≡ written r) × FitsLine a.old l r) ⊎ (IsUnkept first ⊎ IsUnkept second)
 
--- the lease fits in a span that its arena owns
-abbrev pub FitsInSpan : Picture → LeaseLine → Type 0
-FitsInSpan d l = (x : TreeArena) × (s : SpaceState) × (span : Holding) × (base : ℕ)
-    × NamesArena d l x s × Contains s.arena.owned span × ServesIn x.quantum (demand_of l) span base
+-- the lease fits in a span that the setup gives the arena that it names
+pub record FitsInSpan (made : SetupState) (l : LeaseLine) : Type 0 where
+  pub arena : TreeArena
+  pub span : OwnedSpan
+  pub base : ℕ
+  pub len : ℕ
+  pub named : place_in l.arena made.arenas ≡ Some span.arena
+  pub here : slice_get made.arenas span.arena ≡ Some arena
+  pub owned : Contains made.spans span
+  pub fits : Fits arena.quantum (demand_of l) base len
+  pub from : span.range.base ≤ base
+  pub to : base + len ≤ end_of span.range
 
--- The first line is a hello, and the second a lease that fits in a span that its arena owns, whoever
--- asks and by whatever number: it isn't answered `nofit`.
+-- The first line is a hello, and the second a lease that fits in a span, whoever asks and by whatever
+-- number: it isn't answered `nofit`.
 abbrev pub ScriptFirstLeaseIsServed : Type 0
 ScriptFirstLeaseIsServed = (start mid new : Picture) (s : Script start)
     (hello greeting lease text : List ℕ) (h : HelloLine) (id : RequestId) (l : LeaseLine)
     → s.frames ≡ [] → served_of hello ≡ Ok (served.Client (lines.Hello h))
     → LeaseStep start hello greeting mid → IsRequestLine lease id (ops.Lease l)
-    → LeaseStep mid lease text new → FitsInSpan start l → text ≢ written (refusal_to id NoFit)
+    → LeaseStep mid lease text new → FitsInSpan s.made l
+    → text ≢ written (refusal_to id NoFit)
 
--- once nothing is leased or kept, a lease of a new number that fits in a span that its arena owns
--- isn't answered so, however all was used before
+-- once nothing is leased or kept, a lease of a new number that fits in a span isn't answered so,
+-- however all was used before
 abbrev pub ScriptFreedIsWhole : Type 0
 ScriptFreedIsWhole = (old new : Picture) (id : RequestId) (l : LeaseLine) (line text : List ℕ)
-    → AnswersNext old line text new → NothingIsKept old → IsRequestLine line id (ops.Lease l)
-    → IsNew (account_in id.client old.book) id → FitsInSpan old l
+    → (a : AnswersNext old line text new) → NothingIsKept old
+    → IsRequestLine line id (ops.Lease l) → IsNew (account_in id.client old.book) id
+    → FitsInSpan a.script.made l → text ≢ written (refusal_to id NoFit)
+
+-- and where no arena of the setup has caches, nor is it once nothing is leased
+abbrev pub ScriptReturnedIsWhole : Type 0
+ScriptReturnedIsWhole = (old new : Picture) (id : RequestId) (l : LeaseLine) (line text : List ℕ)
+    → (a : AnswersNext old line text new) → All (λ x. x.qcache_max ≡ 0) a.script.made.arenas
+    → leased old.book ≡ [] → IsRequestLine line id (ops.Lease l)
+    → IsNew (account_in id.client old.book) id → FitsInSpan a.script.made l
     → text ≢ written (refusal_to id NoFit)

@@ -3,6 +3,7 @@ ghost use Rattle.vmemd.specs.Laws.{ScriptsSplit, ScriptLeasesStayApart, ScriptUn
 ghost use Rattle.vmemd.specs.Laws.{ScriptAuditIsTold, ScriptAuditIsWhole};
 ghost use Rattle.vmemd.specs.Laws.{ScriptLinesRepeat, ScriptAnswersAgree, ScriptGrantsFit};
 ghost use Rattle.vmemd.specs.Laws.{ScriptRepeatsFit, ScriptFirstLeaseIsServed, ScriptFreedIsWhole};
+ghost use Rattle.vmemd.specs.Laws.{ScriptReturnedIsWhole};
 
 /// Whatever setup lines are taken, and whatever lines the desk that they open answers then: after
 /// each of them no two leases of one space overlap, each unit is in one place, and an audit tells
@@ -23,4 +24,5 @@ pub fn answer_laws()
     ensures repeats_fit { ScriptRepeatsFit }
     ensures first { ScriptFirstLeaseIsServed }
     ensures freed { ScriptFreedIsWhole }
+    ensures returned { ScriptReturnedIsWhole }
 {}
