@@ -5,10 +5,11 @@
 #             in a check; make edits CRATE=NAME tries one crate's
 # make cases  runs bin/vmemd on tests/cases
 # make bench  measures bin/vmemd beside another server (bench/README.md); BENCH="--most 1000000"
+# make bench-serve  measures its server beside Redis, where that is there (bench/README.md)
 # make install PREFIX=/usr/local DESTDIR=  puts bin/vmemd, its pages and a systemd unit in place
 # make clean  removes what was built
 
-.PHONY: all test edits cases bench install clean
+.PHONY: all test edits cases bench bench-serve install clean
 
 JOBS = 1
 PREFIX = /usr/local
@@ -35,6 +36,10 @@ cases: all
 bench:
 	test -x bin/vmemd || $(MAKE) all
 	bench/run $(BENCH) bin/vmemd
+
+bench-serve:
+	test -x bin/vmemd || $(MAKE) all
+	bench/serve $(BENCH) bin/vmemd
 
 # (it installs what make has left as bin/vmemd, so that no proof runs as root)
 install:

@@ -35,10 +35,10 @@ class Served(unittest.TestCase):
 
     def setUp(self):
         self.folder = tempfile.TemporaryDirectory()
-        config = os.path.join(self.folder.name, "config")
-        with open(config, "w", encoding="ascii") as opened:
+        self.config = os.path.join(self.folder.name, "config")
+        with open(self.config, "w", encoding="ascii") as opened:
             opened.write(CONFIG)
-        words = [PROGRAM, "serve", "127.0.0.1:0", config, str(self.workers)]
+        words = [PROGRAM, "serve", "127.0.0.1:0", self.config, str(self.workers)]
         self.server = subprocess.Popen(words, stdin=subprocess.PIPE, stdout=subprocess.PIPE,
                                        stderr=subprocess.PIPE, text=True)
         told, _, address = self.server.stdout.readline().strip().partition(" ")
@@ -127,6 +127,12 @@ class Alone(Served):
             link.close()
         with self.client(1) as client:
             client.lease("m", 4096)
+
+    def test_an_address_that_is_taken(self):
+        words = [PROGRAM, "serve", f"127.0.0.1:{self.port}", self.config, "1"]
+        ran = subprocess.run(words, stdin=subprocess.DEVNULL, capture_output=True, text=True,
+                             timeout=60)
+        self.assertEqual((ran.stdout, ran.stderr, ran.returncode), ("", "vmemd: listen\n", 1))
 
     def test_more_connections_than_workers_wait(self):
         address = ("127.0.0.1", self.port)
@@ -240,15 +246,40 @@ class Crowd(Served):
             it.join()
         self.assertEqual([it for _, wrong, _ in ends for it in wrong], [])
         self.assertGreater(min(requests for requests, _, _ in ends), 10)
-        held = sorted((base, base + length) for _, _, leases in ends for _, base, length in leases)
-        for (_, end), (start, _) in zip(held, held[1:]):
-            self.assertLessEqual(end, start)
+        held = [lease for _, _, leases in ends for lease in leases]
+        rest = [self.client(number) for number in range(9, 14)]
+        self.are_whole(held + [tuple(it) for client in rest for it in self.take_all(client)])
+        for client in rest:
+            client.release_all()
+            client.disconnect()
         for number in range(1, 9):
             again = self.client(number)
             again.restart()
             again.disconnect()
         with self.client(9) as client:
             self.assertEqual(client.lease("m", 4096), ("m", 0, 4096))
+
+    def take_all(self, client):
+        """Leases of all free units, in pieces of 64 and less, as many as a client may have."""
+        try:
+            for size in (64, 32, 16, 8, 4, 2, 1):
+                while self.fits(client, size):
+                    pass
+        except vmemd.TooManyLeases:
+            pass
+        return client.held()
+
+    def fits(self, client, size):
+        try:
+            return client.lease("m", size)
+        except vmemd.NoFit:
+            return None
+
+    def are_whole(self, leases):
+        """Each unit of the arena lies in one lease, and in no other."""
+        ranges = sorted((base, base + length) for _, base, length in leases)
+        self.assertEqual(ranges[0][0], 0)
+        self.assertEqual([end for _, end in ranges], [start for start, _ in ranges[1:]] + [4096])
 
 
 if __name__ == "__main__":

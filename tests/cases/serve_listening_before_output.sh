@@ -1,0 +1,1 @@
+"$vmemd" serve nowhere /dev/stdin 1 > /dev/full
