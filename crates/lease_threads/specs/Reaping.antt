@@ -28,7 +28,7 @@ abbrev pub HasReaped : ReapEnd → ℕ → Option Tag → Type 0
 HasReaped (Ok r) units hand = (units ≡ r.units) × (hand ≡ None)
 HasReaped (Err f) units hand = (units ≡ f.reaping.units) × (hand ≡ unplaced f.cause)
 
--- the looks at the depots and slab caches of the first arena of its chain, so many at most, ended so
+-- the looks at the depots and slab caches of the chain's first arena, so many at most, ended so
 abbrev pub Reaps : List TreeArena → (arena limit units : ℕ) → Option Tag → Type 0
 Reaps arenas arena limit units hand = (chain : List Level) × ChainFrom arenas (Some arena) chain
     × (end : ReapEnd) × HasReaped end units hand
