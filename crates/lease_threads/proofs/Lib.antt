@@ -2,3 +2,4 @@ mod Receipts
 mod Runs
 mod Ends
 mod Spans
+mod Reaped

@@ -3,3 +3,4 @@ pub mod Hands
 pub mod Openings
 pub mod Ends
 pub mod Replying
+pub mod Reaping

@@ -1,6 +1,7 @@
 //! The lists of steps of `quantum_cache`, over the parts of a system as one CPU reaches them. A
 //! segment that isn't placed stays in the CPU's hand.
-ghost use Rattle.std.specs.Prelude.{◌≡◌, ◌<◌, None, Err, true, length, Option, IfOk, IfErr, OnErr};
+ghost use Rattle.std.specs.Prelude.{◌≡◌, ◌≢◌, ◌<◌, None, Err, true, false, length, Option};
+ghost use Rattle.std.specs.Prelude.{IfOk, IfErr, OnErr};
 ghost use Rattle.deed_core.specs.Request.{Fits, IsPlain};
 ghost use Rattle.deed_core.specs.Tag.{Tag};
 ghost use Rattle.arena_tree.specs.Chains.{quantum_in};
@@ -154,6 +155,8 @@ impl<N: Name> System<N> {
     ) -> Result<bool, RequestStopped>
         ensures number { cpu.new.number ≡ cpu.old.number }
         ensures empty { IfOk result (λ placed. placed ≡ true → cpu.new.hand ≡ None) }
+        ensures kept { IfOk result (λ placed. placed ≡ false
+            → (cpu.old.hand ≢ None) × (cpu.new.hand ≢ None)) }
         ensures stopped { OnErr result (MayStop G.may_stop gate.now) }
     {
         let Some(segment) = cpu.hand.take() else {

@@ -1,6 +1,7 @@
 //! What keeps a system in shape while it runs: intervals, sizes of magazines, reaping.
-ghost use Rattle.std.specs.Prelude.{◌≡◌, ◌≤◌, None, OnErr, false, length};
+ghost use Rattle.std.specs.Prelude.{◌≡◌, ◌⊎◌, ◌<◌, ◌≤◌, None, false, length};
 ghost use Rattle.magazine_layer.specs.Magazines.{IsSize};
+ghost use Rattle.lease_threads.specs.Reaping.{Reaps, KeepsHand};
 
 use crate::cpus::Cpu;
 use crate::systems::System;
@@ -32,18 +33,24 @@ impl<N: Name> System<N> {
     /// place the CPU's hand first, and answers 0 while it can't.
     pub fn reap<R: Wait>(&self, rt: &R, cpu: &mut Cpu<N>, arena: u32, limit: u64) -> u128
         ensures number { cpu.new.number ≡ cpu.old.number }
+        ensures reaped { arena < length self.now.arenas
+            → KeepsHand cpu.old.hand cpu.new.hand result
+            ⊎ Reaps self.now.arenas arena limit result cpu.new.hand }
         ensures no_arena { length self.now.arenas ≤ arena → result ≡ 0 }
     {
         let mut steps = Steps::new(cpu.number());
         match self.place_hand(rt, cpu, &OpenGate, &mut steps) {
             Ok(true) => self.reap_empty(rt, cpu, arena, limit),
-            _ => 0,
+            Ok(false) => 0,
+            Err(_) => 0,
         }
     }
 
     fn reap_empty<R: Wait>(&self, rt: &R, cpu: &mut Cpu<N>, arena: u32, limit: u64) -> u128
         requires { cpu.old.hand ≡ None }
         ensures number { cpu.new.number ≡ cpu.old.number }
+        ensures reaped { arena < length self.now.arenas
+            → Reaps self.now.arenas arena limit result cpu.new.hand }
         ensures no_arena { length self.now.arenas ≤ arena → result ≡ 0 }
     {
         if arena as usize >= self.parts.tree().len() {
