@@ -8,3 +8,6 @@ pub mod Searching
 pub mod Fitting
 pub mod Lasting
 pub mod Newest
+pub mod Weighing
+pub mod Roving
+pub mod Neighboring

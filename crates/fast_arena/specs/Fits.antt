@@ -2,7 +2,7 @@
 use Rattle.std.specs.Prelude.{ℕ, ◌<◌, ◌≤◌, List, All, Contains, Option, Some, None}
 use Rattle.deed_core.specs.Holding.{Holding}
 use Rattle.deed_core.specs.declared.requests.Request.{Request}
-use Rattle.tag_arena.specs.Place.{ServesIn}
+use Rattle.tag_arena.specs.Place.{IsLeast, Serves, ServesIn}
 use Rattle.fast_arena.specs.declared.searches.Fit.{Fit}
 
 -- the address alone
@@ -20,3 +20,12 @@ abbrev pub IsLastBy : ℕ → List Holding → Option Holding → Type 0
 IsLastBy base free None = All (λ r. base < r.range.base) free
 IsLastBy base free (Some h) = Contains free h × (h.range.base ≤ base)
     × ((r : Holding) → Contains free r → r.range.base ≤ base → r.range.base ≤ h.range.base)
+
+-- the least address from `start` on that serves, or none where no such address does
+abbrev pub IsEarliest : ℕ → Request → List Holding → ℕ → Option ℕ → Type 0
+IsEarliest quantum q free start choice = IsLeast (λ b. Serves quantum q free b × (start ≤ b)) choice
+
+-- no range that begins below `from` serves at `start` or past it
+abbrev pub NoneBelow : ℕ → Request → List Holding → (start from : ℕ) → Type 0
+NoneBelow quantum q free start from = (r : Holding) (b : ℕ) → Contains free r
+    → r.range.base < from → ServesIn quantum q r b → start ≤ b → ⊥

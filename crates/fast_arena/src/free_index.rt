@@ -1,16 +1,21 @@
 //! The free ranges of an arena, in the orders that its policy asks for.
 ghost use Rattle.std.specs.Prelude.{◌≡◌, ◌≢◌, ◌+◌, ◌<◌, ◌≤◌, ◌++◌, ◌∷◌, [], All, Any, OnOk, OnErr};
-ghost use Rattle.std.specs.Prelude.{◌-◌, ◌%◌, ◌^◌, length, max, true, IfSome};
+ghost use Rattle.std.specs.Prelude.{◌-◌, ◌%◌, ◌^◌, length, max, true, AllPairs, IfSome};
 ghost use Rattle.std.specs.Int.{IsPowerOfTwo};
+ghost use Rattle.deed_core.specs.Extent.{IsRange};
+ghost use Rattle.deed_core.specs.Holding.{Apart};
 ghost use Rattle.deed_core.specs.Request.{IsGood};
-ghost use Rattle.tag_arena.specs.Choice.{IsBestChoice, IsInstantChoice};
-ghost use Rattle.tag_arena.specs.declared.policies.Policy.TheVariants.{Instant};
-ghost use Rattle.tag_arena.specs.Neighbors.{Without};
+ghost use Rattle.tag_arena.specs.Choice.{IsBestChoice, IsChoice, IsInstantChoice, IsNextChoice};
+ghost use Rattle.tag_arena.specs.declared.policies.Policy.TheVariants.{Instant, Next};
+ghost use Rattle.tag_arena.specs.Layout.{IsPartOf};
+ghost use Rattle.tag_arena.specs.Neighbors.{IsBeside, Merges, TakesLeft, TakesRight, Without};
 ghost use Rattle.fast_arena.specs.Fits.{base_of, IsFit, IsLastBy};
 ghost use Rattle.fast_arena.specs.FreeRanges.{keeps};
 ghost use Rattle.fast_arena.specs.declared.orders.Order.TheVariants.{Sizes};
 
+use crate::earliest::next_fit;
 use crate::held_ranges::{HeldRange, held_range_of};
+use crate::merges::{join_left, join_right};
 use crate::orders::{Order, OrderedIndex};
 use crate::searches::{Fit, best_fit, last_by, newest};
 use crate::slots::{Slots, TimedDeed};
@@ -161,9 +166,11 @@ impl<D: Deed> FreeIndex<D> {
         self.slots.take(slot).into_deed()
     }
 
-    /// How many free ranges there are.
+    /// How many free ranges there are. It takes constant time, so its clauses are the way to know
+    /// what is always so of them.
     pub fn len(&self) -> usize
-        ensures { result ≡ length self.now.ranges }
+        ensures len { result ≡ length self.now.ranges }
+        ensures ranges { All (λ r. IsRange r.range) self.now.ranges }
     {
         self.slots.taken()
     }
@@ -228,6 +235,99 @@ impl<D: Deed> FreeIndex<D> {
             range,
             base: range.base(),
         })
+    }
+
+    /// The least address at or past the rover that serves the request, else the least that does. It
+    /// is for `next`, which alone has the order that it asks for.
+    pub fn next(&self, rover: u64, quantum: u64, request: &Request) -> Option<Fit>
+        requires kept { self.now.policy ≡ Next }
+        requires quantum { IsPowerOfTwo quantum }
+        requires good { IsGood quantum request.now }
+        requires rover { rover ≤ 2 ^ 62 }
+        requires apart { AllPairs Apart self.now.ranges }
+        ensures choice { let free = self.now.ranges in
+            IsNextChoice quantum request.now free rover (base_of result) }
+        ensures placed { IfSome result (IsFit quantum request.now self.now.ranges) }
+    {
+        next_fit(
+            &self.slots,
+            &self.falling,
+            &self.rising,
+            rover,
+            quantum,
+            request,
+        )
+    }
+
+    /// What the policy chooses.
+    pub fn chosen(&self, rover: u64, quantum: u64, request: &Request) -> Option<Fit>
+        requires quantum { IsPowerOfTwo quantum }
+        requires good { IsGood quantum request.now }
+        requires rover { rover ≤ 2 ^ 62 }
+        requires aligned { All (λ r. r.range.base % quantum ≡ 0) self.now.ranges }
+        requires apart { AllPairs Apart self.now.ranges }
+        ensures choice { let free = self.now.ranges in
+            IsChoice self.now.policy quantum request.now free rover (base_of result) }
+        ensures placed { IfSome result (IsFit quantum request.now self.now.ranges) }
+    {
+        match self.policy {
+            Policy::Best => self.best(quantum, request),
+            Policy::Next => self.next(rover, quantum, request),
+            Policy::Instant => self.instant(quantum, request),
+        }
+    }
+
+    /// Takes out the free range that ends at `base`, unless the span begins there.
+    fn take_left(&mut self, start: u64, base: u64) -> Option<Stored<D>>
+        requires start { start ≤ base }
+        requires base { base ≤ 2 ^ 62 }
+        requires apart { AllPairs Apart self.old.ranges }
+        ensures taken { TakesLeft start base self.old.ranges result self.new.ranges }
+        ensures rest { self.new ≡ record self.old { ranges = self.new.ranges } }
+    {
+        if base == start {
+            return None;
+        }
+        // For its clause: each free range has units.
+        let _ = self.len();
+        let range = self.last_by(base - 1)?;
+        if range.end() != base {
+            return None;
+        }
+        Some(self.take(range.base()))
+    }
+
+    /// Takes out the free range that begins at `end`, unless the span ends there.
+    fn take_right(&mut self, end: u64, limit: u64) -> Option<Stored<D>>
+        requires end { end ≤ limit }
+        requires limit { limit ≤ 2 ^ 62 }
+        ensures taken { TakesRight end limit self.old.ranges result self.new.ranges }
+        ensures rest { self.new ≡ record self.old { ranges = self.new.ranges } }
+    {
+        if end == limit {
+            return None;
+        }
+        let range = self.last_by(end)?;
+        if range.base() != end {
+            return None;
+        }
+        Some(self.take(end))
+    }
+
+    /// The deed and its free neighbours inside the span, which are taken out. It takes no memory.
+    pub fn merge(&mut self, span: HeldRange, deed: Stored<D>) -> Stored<D>
+        requires inside { IsPartOf span deed }
+        requires some { 0 < deed.range.len }
+        requires beside { All (IsBeside span) self.old.ranges }
+        requires apart { AllPairs Apart self.old.ranges }
+        ensures merges { Merges span deed self.old.ranges result self.new.ranges }
+        ensures rest { self.new ≡ record self.old { ranges = self.new.ranges } }
+    {
+        let range = deed.range();
+        let left = self.take_left(span.base(), range.base());
+        let right = self.take_right(range.end(), span.end());
+        let low = join_left(left, deed);
+        join_right(low, right)
     }
 
     /// Ends the index where no range is free.

@@ -1,4 +1,5 @@
-//! The faster body of an arena. It is being built from below: so far the index of the free ranges.
+//! The faster body of an arena. It is being built from below: so far the index of the free ranges,
+//! what each policy chooses in it, and merging. Carving, spans, tags and the arena aren't there.
 //!
 //! `FreeIndex` holds the deeds of the free ranges, which a contract sees as one list from the
 //! oldest to the newest. In it
@@ -9,13 +10,18 @@
 //! * `lists` has them by power-of-two list, the newest first, under `instant`;
 //! * `rising` has them by base with their lengths as weights, under `next`.
 //!
+//! `FreeIndex::chosen` gives what the policy chooses, and `FreeIndex::merge` takes out the neighbors
+//! of a range that comes back, both in the words of `tag_arena`'s own clauses.
+//!
 //! So a call looks at a few rows of each index, whatever the number of ranges. Once there is room
 //! nothing takes memory.
 #![tactic(auto)]
 
+mod earliest;
 mod entries;
 mod free_index;
 mod held_ranges;
+mod merges;
 mod orders;
 mod places;
 mod searches;

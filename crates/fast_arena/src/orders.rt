@@ -3,6 +3,7 @@ ghost use Rattle.std.specs.Prelude.{◌≡◌, ◌≤◌, ◌+◌, ◌*◌, ◌^
 ghost use Rattle.fast_arena.specs.Orders.{entry_of, rank_of, IsAbsent, IsPresent, HasPlace};
 ghost use Rattle.fast_arena.specs.Orders.{PutsEntry, TakesEntry};
 ghost use Rattle.sorted_rows.specs.Order.{Rises, first_from};
+ghost use Rattle.sorted_rows.specs.Weights.{heavy_from};
 
 use crate::entries::{Entry, key_of};
 use crate::slots::Tag;
@@ -140,5 +141,16 @@ impl OrderedIndex {
     {
         let _ = self.rows.len();
         self.rows.least_from(key_of(major, minor))
+    }
+
+    /// The first entry, from the first at or above the key of two numbers on, that weighs as much as
+    /// `least` or more.
+    pub fn first_weighing(&self, major: u64, minor: u64, least: u64) -> Option<Entry>
+        ensures first { let key = major * 2 ^ 64 + minor in
+            result ≡ heavy_from rank_of (λ e. e.minor) key least self.now.items }
+        ensures rises { Rises rank_of self.now.items }
+    {
+        let _ = self.rows.len();
+        self.rows.least_weighing(key_of(major, minor), least)
     }
 }
