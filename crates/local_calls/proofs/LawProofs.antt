@@ -3,10 +3,11 @@
 pub use Rattle.local_calls.proofs.Drained.{drain_empties_cpu}
 pub use Rattle.local_calls.proofs.Reaped.{reap_leaves_nothing}
 pub use Rattle.local_calls.proofs.ReapLooks.{reap_takes_few_looks, reap_without_limit}
+pub use Rattle.local_calls.proofs.ArenaReaps.{reap_arena_always_done, reap_arena_leaves_nothing, reap_arena_brings_nothing, reap_arena_takes_few_looks}
 pub use Rattle.local_calls.proofs.CpuPlaces.{reached_here}
 pub use Rattle.local_calls.proofs.Chains.{tree_chain}
 pub use Rattle.local_calls.proofs.NoFits.{no_fit_is_right, xalloc_no_fit_is_right}
-use Rattle.std.proofs.Common.{◌≡◌, ℕ, ◌<◌, List, length, Some, None, Ok, Err, refl, ap, subst, ◌∙◌}
+use Rattle.std.proofs.Common.{◌≡◌, ℕ, List, Some, None, Ok, Err, refl, ap, subst, ◌∙◌}
 use Rattle.arena_tree.specs.declared.trees.TreeArena.{TreeArena}
 use Rattle.arena_tree.specs.Chains.{Node}
 use Rattle.arena_tree.specs.Climbs.{climb_left, return_left}
@@ -20,7 +21,7 @@ use Rattle.quantum_cache.specs.Frees.{free_plan}
 use Rattle.quantum_cache.specs.Laws.{carve_left, drain_left, reap_left}
 use Rattle.quantum_cache.specs.Reaps.{ReapEnd, reap_plan}
 use Rattle.quantum_cache.proofs.LawProofs.{alloc_handles, xalloc_handles, free_handles, drain_handles, reap_handles}
-use Rattle.local_parts.specs.Cpus.{HasNoRounds, cpu_rounds}
+use Rattle.local_parts.specs.Cpus.{HasNoRounds}
 use Rattle.local_parts.specs.States.{LocalState}
 use Rattle.local_parts.specs.Steps.{LocalStep}
 use Rattle.local_calls.specs.Asked.{CarvesWell, DoesWell}

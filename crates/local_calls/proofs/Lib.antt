@@ -18,3 +18,4 @@ mod ReapSteps
 mod Reaped
 mod Findable
 mod ReapLooks
+mod ArenaReaps

@@ -164,7 +164,7 @@ module _ (arenas : List TreeArena) where
         omega (arith, first, rest, times)
 
   module _ (tree : IsTree arenas) where
-    arena_pays : (chain : List Level) → IsChain (nodes_of arenas) chain → (x y : Reaping) (old new : LocalState) → RunsTo arenas (reap_arena_plan chain x) old new (Ok y) → x.left + found new ≤ y.left + found old + 32
+    pub arena_pays : (chain : List Level) → IsChain (nodes_of arenas) chain → (x y : Reaping) (old new : LocalState) → RunsTo arenas (reap_arena_plan chain x) old new (Ok y) → x.left + found new ≤ y.left + found old + 32
     arena_pays [] is x y old new path =
         let same : found old ≡ found new = ap found path.0 in
         let left : x.left ≡ y.left = (let e : Ok x ≡ Ok y = path.1 in let d : x ≡ y = cc in ap (λ (r : Reaping). r.left) d) in

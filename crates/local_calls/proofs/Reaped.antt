@@ -17,6 +17,7 @@ use Rattle.arena_tree.specs.Events.{Free, SlabReap, DepotReap}
 use Rattle.arena_tree.specs.Plans.{Plan, Done, then}
 use Rattle.arena_tree.specs.Trees.{nodes_of, IsTree}
 use Rattle.arena_tree.proofs.LawProofs.{path_split}
+use Rattle.stock.specs.Setups.{plans_for}
 use Rattle.stock.specs.Spaces.{SpacePlan, IsCacheAt, plans_of, slab_size_of}
 use Rattle.quantum_cache.specs.declared.emptying_faults.EmptyingFault.TheVariants as emptying
 use Rattle.quantum_cache.specs.declared.reaps.Reaping.{Reaping}
@@ -26,7 +27,7 @@ use Rattle.quantum_cache.specs.Reaps.{Reaped, ReapEnd, on_return, on_depot_reap,
 use Rattle.quantum_cache.specs.Sizes.{caches_in}
 use Rattle.local_parts.specs.States.{LocalState}
 use Rattle.local_calls.specs.Laws.{ReapLeavesNothing}
-use Rattle.local_calls.specs.Reaped.{NoneToReapAt}
+use Rattle.local_calls.specs.Reaped.{NoneToReapAt, NoneToReapIn}
 use Rattle.local_calls.specs.Runs.{SoundStep, RunsTo}
 use Rattle.local_calls.proofs.Chains.{tree_chain}
 use Rattle.local_calls.proofs.Drained.{all_caches}
@@ -194,11 +195,11 @@ module _ (arenas : List TreeArena) where
           )
 
 -- the caches of one arena are reaped
-abbrev ArenaReaped : List TreeArena → ℕ → LocalState → Type 0
+abbrev pub ArenaReaped : List TreeArena → ℕ → LocalState → Type 0
 ArenaReaped arenas id s = (x : TreeArena) → slice_get arenas id ≡ Some x → (j : ℕ) → j < x.qcache_max / x.quantum → NoneToReapAt s.spaces id j
 
 module _ (arenas : List TreeArena) (tree : IsTree arenas) where
-  arena_reaped : (chain : List Level) (id : ℕ) → IsChain (nodes_of arenas) chain → first_id chain ≡ Some id → (x y : Reaping) (old new : LocalState) → RunsTo arenas (reap_arena_plan chain x) old new (Ok y) → ReapKeeps old new × (0 < y.left → (0 < x.left) × ArenaReaped arenas id new)
+  pub arena_reaped : (chain : List Level) (id : ℕ) → IsChain (nodes_of arenas) chain → first_id chain ≡ Some id → (x y : Reaping) (old new : LocalState) → RunsTo arenas (reap_arena_plan chain x) old new (Ok y) → ReapKeeps old new × (0 < y.left → (0 < x.left) × ArenaReaped arenas id new)
   arena_reaped [] id is first x y old new path = absurd (let e : None ≡ Some id = first in cc)
   arena_reaped (l ∷ up) id is first x y old new path =
       let here : l.id ≡ id = (let e : Some l.id ≡ Some id = first in cc) in
@@ -224,9 +225,15 @@ module _ (arenas : List TreeArena) (tree : IsTree arenas) where
       (record { left = limit; units = 0 }) y old new tt path in
       (walk.0, λ some. (walk.1 some).1)
 
+-- so all that stand in the stock are, where the stock is the tree's
+pub all_of_arena : (arenas : List TreeArena) (s : LocalState) → plans_of s.spaces ≡ plans_for arenas → (k : ℕ) → ArenaReaped arenas k s → NoneToReapIn s.spaces k
+all_of_arena arenas s plans k done j c there =
+    let x = planned arenas s.spaces s.spaces plans k there.space there.at in
+    let count : length there.space.caches ≡ x.0.qcache_max / x.0.quantum = sym (length-map there.space.caches slab_size_of) ∙ (ap (λ (p : SpacePlan). length p.slab_sizes) x.2 ∙ length-replicate (x.0.qcache_max / x.0.quantum) x.0.slab_size) in
+    done x.0 x.1 j (omega (arith, slice_get_within there.space.caches j c there.among, count)) c there
+
 pub reap_leaves_nothing : ReapLeavesNothing
 reap_leaves_nothing arenas limit old new r local path some k j c there =
     let done = all_reaped arenas local.tree limit r old new path in
     let x = planned arenas new.spaces new.spaces (done.0.plans ∙ local.plans) k there.space there.at in
-    let count : length there.space.caches ≡ x.0.qcache_max / x.0.quantum = sym (length-map there.space.caches slab_size_of) ∙ (ap (λ (p : SpacePlan). length p.slab_sizes) x.2 ∙ length-replicate (x.0.qcache_max / x.0.quantum) x.0.slab_size) in
-    done.1 some k (slice_get_within arenas k x.0 x.1) x.0 x.1 j (omega (arith, slice_get_within there.space.caches j c there.among, count)) c there
+    all_of_arena arenas new (done.0.plans ∙ local.plans) k (done.1 some k (slice_get_within arenas k x.0 x.1)) j c there

@@ -4,3 +4,4 @@ pub mod Reaped
 pub mod Runs
 pub mod Laws
 pub mod Looks
+pub mod ArenaReaps

@@ -14,6 +14,10 @@ pub record HasNoneToReap (c : QuantumCacheState) : Type 0 where
 abbrev pub NoneToReapAt : List SpaceState → ℕ → ℕ → Type 0
 NoneToReapAt spaces k j = (c : QuantumCacheState) → IsCacheAt spaces k j c → HasNoneToReap c
 
+-- of all caches of an arena
+abbrev pub NoneToReapIn : List SpaceState → ℕ → Type 0
+NoneToReapIn spaces k = (j : ℕ) → NoneToReapAt spaces k j
+
 -- of all
 abbrev pub NoneToReap : List SpaceState → Type 0
 NoneToReap spaces = (k j : ℕ) → NoneToReapAt spaces k j
