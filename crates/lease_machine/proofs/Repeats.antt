@@ -231,14 +231,11 @@ does_keep operator.Audit old new text does = ap (λ (d : Picture). d.book) does.
 does_keep operator.Clients old new text does = ap (λ (d : Picture). d.book) does.1
 
 leaves_keep : (o : OperatorLine) (old new : Picture) → LeavesOff o old new → new.book ≡ old.book
-leaves_keep (operator.Cpu n) old new left = ap (λ (d : Picture). d.book) left
+leaves_keep (operator.Cpu n) old new left = ap (λ (d : Picture). d.book) left.1
 leaves_keep (operator.Offline n) old new left = ap (λ (d : Picture). d.book) left.1
 leaves_keep operator.Tick old new left = absurd left
 leaves_keep (operator.Resize m) old new left = absurd left
-leaves_keep operator.Reap old new left = elim left [
-  | inl same ↦ ap (λ (d : Picture). d.book) same
-  | inr reaped ↦ ap (λ (d : Picture). d.book) reaped.1.parts
-]
+leaves_keep operator.Reap old new left = ap (λ (d : Picture). d.book) left.1.parts
 leaves_keep operator.Audit old new left = ap (λ (d : Picture). d.book) left
 leaves_keep operator.Clients old new left = ap (λ (d : Picture). d.book) left
 

@@ -1,6 +1,6 @@
 -- What an operator's line is answered.
 use Rattle.std.specs.Prelude.{◌≡◌, ◌≢◌, ◌⊎◌, ℕ, ◌+◌, ◌-◌, ◌<◌, Bool, List, [], ◌∷◌, ◌++◌, All}
-use Rattle.std.specs.Prelude.{Any, map, filter, drop, set}
+use Rattle.std.specs.Prelude.{Any, false, map, filter, drop, set}
 use Rattle.std.specs.Prelude.{nat_lt, if◌then◌else◌, sum_by, slice_get, Some, None}
 use Rattle.std.specs.List.{find, flat_map, list_any}
 use Rattle.slab_layer.specs.Slab.{SlabState, IsComplete}
@@ -178,14 +178,15 @@ Performs operator.Audit old text new = (text ≡ arenas_told old old.tree old.sp
 Performs operator.Clients old text new =
     (text ≡ flat_map client_told (map report_of old.book.accounts)) × (new ≡ old)
 
--- what is left out of memory: a line that moves nothing but by what it makes first moves nothing,
--- nor is a CPU made anew that never was; a reaping takes no memory, and is whole or didn't begin
+-- What is left out of memory: a line that moves nothing but by what it makes first moves nothing. No
+-- CPU asks for memory that is there when it is selected, nor one that never was when it goes offline.
+-- A reaping takes none, and is whole: only the line that tells of it finds no room.
 abbrev pub LeavesOff : OperatorLine → Picture → Picture → Type 0
-LeavesOff (operator.Cpu n) old new = new ≡ old
+LeavesOff (operator.Cpu n) old new = (list_any (is_cpu n) old.cpus ≡ false) × (new ≡ old)
 LeavesOff (operator.Offline n) old new = (find (is_cpu n) old.cpus ≢ None) × (new ≡ old)
 LeavesOff operator.Tick old new = ⊥
 LeavesOff (operator.Resize r) old new = ⊥
-LeavesOff operator.Reap old new = (new ≡ old) ⊎ ((units : ℕ) × ReapsAll units old new)
+LeavesOff operator.Reap old new = (units : ℕ) × ReapsAll units old new
 LeavesOff operator.Audit old new = new ≡ old
 LeavesOff operator.Clients old new = new ≡ old
 

@@ -1,5 +1,5 @@
 -- Where the CPU of a number stands.
-use Rattle.std.proofs.Common.{◌≡◌, ℕ, ◌<◌, ◌≤◌, Bool, true, false, cond, nat_lt, refl, sym, ap, ◌∙◌, List, [], ◌∷◌, ◌++◌, length, get_or, position, Some, None, arith}
+use Rattle.std.proofs.Common.{◌≡◌, ℕ, ◌<◌, ◌≤◌, Bool, true, false, cond, nat_lt, refl, sym, ap, ◌∙◌, List, [], ◌∷◌, ◌++◌, length, get_or, position, Some, None, Result, Ok, Err, OnErr, arith}
 use Rattle.std.specs.Prelude.{slice_get}
 use Rattle.std.specs.List.{position_or_len, list_any}
 use Rattle.std.proofs.lemmas.Bool.{ltb-true, ltb-false}
@@ -48,11 +48,16 @@ module _ (n : ℕ) (cs : List Cpu) where
       let any : list_any (is_cpu n) cs ≡ true = list_any_at (is_cpu n) cs k c (slice_get_within cs k c here) (passes k c at) in
       sym (ap (λ (b : Bool). cond b d.cpus (d.cpus ++ fresh_cpu n d.spaces ∷ [])) (ap (list_any (is_cpu n)) same ∙ any) ∙ same)
 
+  -- where it isn't found there is none
+  pub none_there : position (is_cpu n) cs ≡ None → list_any (is_cpu n) cs ≡ false
+  none_there at =
+      let late = none_is at in
+      list_any_none (is_cpu n) cs (λ i c within. fails_before_first (is_cpu n) cs i c (omega (arith, late, within)))
+
   -- where it isn't one is
   pub with_new : position (is_cpu n) cs ≡ None → (d : Picture) (spaces : List SpaceState) → d.cpus ≡ cs → d.spaces ≡ spaces → cs ++ fresh_cpu n spaces ∷ [] ≡ with_cpu n d
   with_new at d spaces same here =
-      let late = none_is at in
-      let none : list_any (is_cpu n) cs ≡ false = list_any_none (is_cpu n) cs (λ i c within. fails_before_first (is_cpu n) cs i c (omega (arith, late, within))) in
+      let none = none_there at in
       sym (ap (λ (b : Bool). cond b d.cpus (d.cpus ++ fresh_cpu n d.spaces ∷ [])) (ap (list_any (is_cpu n)) same ∙ none)
       ∙ (ap (λ (xs : List Cpu). xs ++ fresh_cpu n d.spaces ∷ []) same ∙ ap (λ (s : List SpaceState). cs ++ fresh_cpu n s ∷ []) here))
 
@@ -60,3 +65,8 @@ module _ (n : ℕ) (cs : List Cpu) where
 pub last_cpu : (cs : List Cpu) (c : Cpu) → slice_get (cs ++ c ∷ []) (length cs) ≡ Some c
 last_cpu [] c = refl
 last_cpu (x ∷ cs) c = last_cpu cs c
+
+-- what holds anyway holds of a refusal
+pub on_err : {A E : Type 0} (r : Result A E) (P : Type 0) → P → OnErr r P
+on_err (Ok x) P p = tt
+on_err (Err e) P p = p

@@ -1,5 +1,6 @@
 //! The CPUs that an operator's lines name, in order of making.
-ghost use Rattle.std.specs.Prelude.{◌≡◌, position, slice_get, Some, IfOk, OnOk, OnErr};
+ghost use Rattle.std.specs.Prelude.{◌≡◌, position, slice_get, Some, false, IfOk, OnOk, OnErr};
+ghost use Rattle.std.specs.List.{list_any};
 ghost use Rattle.lease_machine.specs.Operators.{with_cpu};
 ghost use Rattle.lease_machine.specs.Picture.{Cpu, Picture, is_cpu};
 
@@ -39,6 +40,7 @@ pub(crate) fn select(
     ensures ok { OnOk result ((d : Picture) → d.cpus ≡ cpus.old.items → d.spaces ≡ stock.now
         → cpus.new.items ≡ with_cpu number d) }
     ensures err { OnErr result (cpus.new.items ≡ cpus.old.items) }
+    ensures lacked { OnErr result (list_any (is_cpu number) cpus.old.items ≡ false) }
 {
     if let Some(place) = place_of(cpus.as_slice(), number) {
         return Ok(place);

@@ -88,13 +88,16 @@ fn tell_all(
     }
 }
 
-/// Selects a CPU, which is made if it is new. Out of memory changes nothing.
+/// Selects a CPU, which is made if it is new: only then memory is asked for. Out of it changes
+/// nothing.
 fn tell_cpu(supply: &mut Supply, number: CpuNumber, out: &mut Vec<u8>) -> Result<(), AllocError>
     requires room { vec_len out.old + LINE_ROOM ≤ vec_capacity out.old }
     ensures ok { OnOk result ((reply : List ℕ) × (out.new.items ≡ out.old.items ++ reply)
         × ((b : BookState) → IsPicture (pictured b supply.old) → IsPerformed (operator.Cpu number)
         (pictured b supply.old) reply (pictured b supply.new))) }
     ensures err { OnErr result (out.new.items ≡ out.old.items) }
+    ensures left { OnErr result ((b : BookState) → LeavesOff (operator.Cpu number)
+        (pictured b supply.old) (pictured b supply.new)) }
     ensures unchanged { OnErr result (supply.new ≡ supply.old) }
 {
     // For its clause: which CPUs there may be.

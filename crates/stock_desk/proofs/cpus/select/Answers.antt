@@ -1,7 +1,7 @@
 use Rattle.std.proofs.Common.{◌≡◌, refl, sym, ap, ◌∙◌, List, [], ◌∷◌, ◌++◌, length, position, slice_get, None, arith}
 use Rattle.stock.specs.OwnCaches.{OwnCacheState}
 use Rattle.lease_machine.specs.Picture.{Cpu, is_cpu}
-use Rattle.stock_desk.proofs.NumberedCpus.{found_cpu, with_old, with_new, last_cpu}
+use Rattle.stock_desk.proofs.NumberedCpus.{found_cpu, with_old, with_new, none_there, last_cpu, on_err}
 use Rattle.stock_desk.proofs.cpus.select.Goals as goal
 
 pub returns-in-Some-clause-place : goal.returns-in-Some-clause-place
@@ -26,3 +26,17 @@ returns-clause-ok c d same here =
     ∙ ap (λ (xs : List Cpu). xs ++ cpu ∷ []) c.in_ok-reserve.ensures.items
     ∙ ap (λ (rows : List (List OwnCacheState)). c.args.cpus.now.items ++ record { number = c.args.number; caches = rows } ∷ []) c.in_ok-caches.ensures.made
     ∙ with_new c.args.number c.args.cpus.now.items (ap (position (is_cpu c.args.number)) (sym c.as_slice.ensures.value) ∙ none) d c.args.stock.now same here
+
+pub returns-in_err-reserve-clause-lacked : goal.returns-in_err-reserve-clause-lacked
+returns-in_err-reserve-clause-lacked c =
+    let left = c.in_default.is in
+    let gave = c.place_of.ensures in
+    let none : position (is_cpu c.args.number) c.as_slice.result.now ≡ None = cc in
+    on_err c.from_residual.result _ (none_there c.args.number c.args.cpus.now.items (ap (position (is_cpu c.args.number)) (sym c.as_slice.ensures.value) ∙ none))
+
+pub returns-in_err-caches-clause-lacked : goal.returns-in_err-caches-clause-lacked
+returns-in_err-caches-clause-lacked c =
+    let left = c.in_default.is in
+    let gave = c.place_of.ensures in
+    let none : position (is_cpu c.args.number) c.as_slice.result.now ≡ None = cc in
+    on_err c.from_residual-in_err-caches.result _ (none_there c.args.number c.args.cpus.now.items (ap (position (is_cpu c.args.number)) (sym c.as_slice.ensures.value) ∙ none))

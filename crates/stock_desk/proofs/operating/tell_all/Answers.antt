@@ -9,6 +9,11 @@ use Rattle.stock_desk.proofs.Balances.{on_ok}
 use Rattle.stock_desk.proofs.Performing.{on_err_map, keeps_none}
 use Rattle.stock_desk.proofs.operating.tell_all.Goals as goal
 
+pub returns-in-Cpu-clause-left : goal.returns-in-Cpu-clause-left
+returns-in-Cpu-clause-left c = on_err_map c.tell_cpu.result _ _
+    (λ left. subst (λ (o : OperatorLine). LeavesOff o (pictured c.args.book.now c.args.supply.now) (pictured c.args.book.now c.tell_cpu.new.supply)) (sym c.in-Cpu.is) (left c.args.book.now))
+    c.tell_cpu.ensures.left
+
 pub returns-in-Offline-clause-left : goal.returns-in-Offline-clause-left
 returns-in-Offline-clause-left c = on_err_map c.tell_offline.result _ _
     (λ left. subst (λ (o : OperatorLine). LeavesOff o (pictured c.args.book.now c.args.supply.now) (pictured c.args.book.now c.tell_offline.new.supply)) (sym c.in-Offline.is) (left c.args.book.now))
