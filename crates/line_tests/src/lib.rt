@@ -1,14 +1,22 @@
 //! Tests of lines and what answers them, by public calls. It has no code of its own, and stands
 //! apart from `cross_tests` so that neither waits for the other's crates.
 //!
-//! `lines` has lines, replies and streams of the protocol, `desk` what a desk answers, `serving`
-//! streams of lines, failing ones too, and `connections` those of a worker, one after another.
+//! `lines` has lines, replies and streams of the protocol, `desk` what a desk answers over roots,
+//! `desk_caches` over imports and caches, `desk_limits` at its limits and out of memory, by
+//! `asking`; `serving` has streams of lines, failing ones too, and `connections` those of a worker,
+//! one after another.
 #![tactic(auto)]
 
+#[cfg(test)]
+mod asking;
 #[cfg(test)]
 mod connections;
 #[cfg(test)]
 mod desk;
+#[cfg(test)]
+mod desk_caches;
+#[cfg(test)]
+mod desk_limits;
 #[cfg(test)]
 mod lines;
 #[cfg(test)]
