@@ -1,8 +1,10 @@
 -- What a script writes that begins with no arena, and is answered by a lease desk.
 use Rattle.std.specs.Prelude.{ℕ, List, [], Option}
 use Rattle.arena_tree.specs.Settings.{SetupState}
-use Rattle.lease_desk.specs.Machine.{LeaseStep}
-use Rattle.lease_desk.specs.Opened.{IsDeskOf}
+use Rattle.lease_machine.specs.Picture.{Picture, IsPicture}
+use Rattle.lease_machine.specs.Machine.{LeaseStep}
+use Rattle.lease_machine.specs.RoomLaws.{NothingIsKept}
+use Rattle.stock_desk.specs.Openings.{IsOpenedFrom}
 use Rattle.vmemd.specs.Scripts.{RunsWhole, RunFails}
 use Rattle.vmemd.specs.Settings.{TakesSetupLine, RefusesSetupLine, CanTakeSetupLine}
 use Rattle.vmemd.specs.declared.faults.ScriptFault.{ScriptFault}
@@ -10,6 +12,12 @@ use Rattle.vmemd.specs.declared.faults.ScriptFault.{ScriptFault}
 -- a setup of no arena
 abbrev pub no_arenas : SetupState
 no_arenas = record { arenas = []; spans = [] }
+
+-- the desk that a setup opens, on which no line was answered yet
+pub record IsDeskOf (setup : SetupState) (desk : Picture) : Type 0 where
+  pub opened : IsOpenedFrom setup desk
+  pub picture : IsPicture desk
+  pub unused : NothingIsKept desk
 
 -- A script is answered to its end.
 abbrev pub ScriptEnds : List ℕ → Option (List ℕ) → Option (List ℕ) → Type 0

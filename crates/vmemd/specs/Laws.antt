@@ -1,34 +1,177 @@
 -- What holds over a whole script.
-use Rattle.std.specs.Prelude.{◌≡◌, ℕ, List, AllPairs, slice_get, Some}
+use Rattle.std.specs.Prelude.{◌≡◌, ◌≢◌, ◌⊎◌, ◌≤◌, ◌+◌, ℕ, List, [], ◌++◌, All, AllPairs, Contains}
+use Rattle.std.specs.Prelude.{codes, sum_by, slice_get, Some, Ok}
+use Rattle.deed_core.specs.Covering.{covering_held, units_held}
+use Rattle.deed_core.specs.Extent.{end_of}
+use Rattle.deed_core.specs.Request.{Fits}
+use Rattle.tag_arena.specs.ArenaState.{spans_of}
+use Rattle.arena_tree.specs.declared.trees.TreeArena.{TreeArena}
+use Rattle.arena_tree.specs.declared.setups.OwnedSpan.{OwnedSpan}
 use Rattle.arena_tree.specs.Settings.{SetupState}
-use Rattle.lease_book.specs.BookState.{leased}
+use Rattle.arena_tree.specs.Trees.{place_in}
+use Rattle.stock.specs.Spaces.{SpaceState}
+use Rattle.stock.specs.Sums.{total}
+use Rattle.stock.specs.Laws.{ApartUpChain}
+use Rattle.stock_audit.specs.Chains.{unit_of_arena}
+use Rattle.lease_terms.specs.Requests.{RequestId}
+use Rattle.lease_terms.specs.declared.refusals.Refusal.TheVariants.{NoFit}
+use Rattle.lease_book.specs.Answers.{IsNew}
+use Rattle.lease_book.specs.BookState.{account_in, leased, units_of_arena}
+use Rattle.lease_proto.specs.declared.faults.ErrorWord.TheVariants.{Memory}
+use Rattle.lease_proto.specs.declared.lines.HelloLine.{HelloLine}
+use Rattle.lease_proto.specs.declared.lines.LeaseLine.{LeaseLine}
+use Rattle.lease_proto.specs.declared.lines.Line.TheVariants as lines
+use Rattle.lease_proto.specs.declared.lines.Op.{Op}
+use Rattle.lease_proto.specs.declared.lines.Op.TheVariants as ops
+use Rattle.lease_proto.specs.declared.operators.ServedLine.TheVariants as served
+use Rattle.lease_proto.specs.declared.replies.Reply.{Reply}
+use Rattle.lease_proto.specs.Faults.{error_text}
 use Rattle.lease_proto.specs.Frames.{Frame}
-use Rattle.lease_server.specs.Serving.{ServesLines}
-use Rattle.lease_desk.specs.DeskState.{NamedArenaState, DeskState, OnePlace}
-use Rattle.lease_desk.specs.Machine.{LeaseStep}
-use Rattle.lease_desk.specs.Opened.{IsDeskOf}
-use Rattle.lease_desk.specs.Laws.{AreApart}
+use Rattle.lease_proto.specs.Operators.{served_of}
+use Rattle.lease_machine.specs.Picture.{Picture, held_outside}
+use Rattle.lease_machine.specs.Operators.{sums_in, arenas_told}
+use Rattle.lease_machine.specs.Machine.{LeaseStep, demand_of}
+use Rattle.lease_machine.specs.Laws.{Runs}
+use Rattle.lease_machine.specs.AnswerLaws.{written, IsUnkept, IsRequestLine, AreOfOthers, FitsLine}
+use Rattle.lease_machine.specs.RoomLaws.{NothingIsKept, refusal_to}
 use Rattle.vmemd.specs.Scripts.{Makes}
 use Rattle.vmemd.specs.Settings.{TakesSetupLine}
-use Rattle.vmemd.specs.Desks.{no_arenas}
+use Rattle.vmemd.specs.Desks.{IsDeskOf, no_arenas}
 
 -- setup lines that are taken, the desk that what they make opens, and then the frames of lines with
 -- what is written for them
-pub record Script (last : DeskState) : Type 0 where
+pub record Script (last : Picture) : Type 0 where
   pub setup : List (List ℕ)
   pub made : SetupState
-  pub desk : DeskState
+  pub desk : Picture
   pub frames : List Frame
   pub text : List ℕ
   pub makes : Makes TakesSetupLine no_arenas setup made
   pub opened : IsDeskOf made desk
-  pub serves : ServesLines LeaseStep desk frames text last
+  pub serves : Runs desk frames text last
 
--- after every script no unit is in two leases of one arena
+-- a script as far as a line, and then that line with what is written for it
+pub record AnswersNext (old : Picture) (line text : List ℕ) (new : Picture) : Type 0 where
+  pub script : Script old
+  pub step : LeaseStep old line text new
+
+-- A script is one as far as each of its frames, and goes on from there: its text is what is written
+-- for the first ones, and then what is for the others.
+abbrev pub ScriptsSplit : Type 0
+ScriptsSplit = (last : Picture) (s : Script last) (front rest : List Frame)
+    → s.frames ≡ front ++ rest
+    → (mid : Picture) × (first : Script mid) × (first.frames ≡ front)
+    × ((later : List ℕ) × Runs mid rest later last × (s.text ≡ first.text ++ later))
+
+-- after every script no two leases overlap where their arenas have one top, be one's arena a source
+-- of the other's
 abbrev pub ScriptLeasesStayApart : Type 0
-ScriptLeasesStayApart = (last : DeskState) → Script last → AllPairs AreApart (leased last.book)
+ScriptLeasesStayApart = (last : Picture) → Script last
+    → AllPairs (ApartUpChain last.spaces) (leased last.book)
 
--- after every script each unit of an arena's spans is in one place
+-- and each unit of an arena's spans is in one place, and no other unit in any
 abbrev pub ScriptUnitsHaveOnePlace : Type 0
-ScriptUnitsHaveOnePlace = (last : DeskState) → Script last → (k : ℕ) (x : NamedArenaState)
-    → slice_get last.arenas k ≡ Some x → OnePlace k x last.book
+ScriptUnitsHaveOnePlace = (last : Picture) → Script last → (k : ℕ) (s : SpaceState)
+    → slice_get last.spaces k ≡ Some s → (u : ℕ)
+    → (total (unit_of_arena u last.spaces (held_outside last) s)
+    ≡ covering_held u (spans_of s.arena))
+    × (covering_held u (spans_of s.arena) ≤ 1)
+
+-- the line `audit` is answered by what is told of each arena, unless out of memory, and nothing
+-- changes
+abbrev pub ScriptAuditIsTold : Type 0
+ScriptAuditIsTold = (old new : Picture) (text : List ℕ) → AnswersNext old (codes "audit") text new
+    → ((text ≡ arenas_told old old.tree old.spaces) ⊎ (text ≡ error_text Memory)) × (new ≡ old)
+
+-- what it calls leased are the book's leases, and its numbers add up to the arena's units
+abbrev pub ScriptAuditIsWhole : Type 0
+ScriptAuditIsWhole = (last : Picture) → Script last → (k : ℕ) (s : SpaceState)
+    → slice_get last.spaces k ≡ Some s
+    → ((sums_in last s).leased ≡ sum_by (units_of_arena k) (leased last.book))
+    × (total (sums_in last s) ≡ units_held (spans_of s.arena))
+
+-- In a script a request is answered so; then come these frames, and then the request again, with
+-- whatever else in its line.
+pub record AsksTwice (id : RequestId) (op : Op) (first : List ℕ) (frames : List Frame)
+    (second : List ℕ) : Type 0 where
+  pub line : List ℕ
+  pub between : List ℕ
+  pub repeat : List ℕ
+  pub again : Op
+  pub old : Picture
+  pub mid : Picture
+  pub late : Picture
+  pub new : Picture
+  pub asks : IsRequestLine line id op
+  pub answers : AnswersNext old line first mid
+  pub goes_on : Runs mid frames between late
+  pub asks_again : IsRequestLine repeat id again
+  pub answers_again : LeaseStep late repeat second new
+
+-- After lines of others and of operators it is answered by the same bytes, and nothing changes; but
+-- where its answer wasn't kept.
+abbrev pub ScriptLinesRepeat : Type 0
+ScriptLinesRepeat = (id : RequestId) (op : Op) (first second : List ℕ) (frames : List Frame)
+    → (a : AsksTwice id op first frames second) → AreOfOthers id.client frames
+    → ((second ≡ first) × (a.new ≡ a.late)) ⊎ IsUnkept first
+
+-- After any lines, its own client's among them, both answers are the same bytes where both settle
+-- it.
+abbrev pub ScriptAnswersAgree : Type 0
+ScriptAnswersAgree = (id : RequestId) (op : Op) (first second : List ℕ) (frames : List Frame)
+    → AsksTwice id op first frames second
+    → (second ≡ first) ⊎ (IsUnkept first ⊎ IsUnkept second)
+
+-- a lease of a new number is answered by a reply that fits its line: what is granted is of the
+-- arena that it names, and as it asks
+abbrev pub ScriptGrantsFit : Type 0
+ScriptGrantsFit = (old new : Picture) (id : RequestId) (l : LeaseLine) (line text : List ℕ)
+    → AnswersNext old line text new → IsRequestLine line id (ops.Lease l)
+    → IsNew (account_in id.client old.book) id
+    → (r : Reply) × (text ≡ written r) × FitsLine old l r
+
+-- so is each repeat of it that settles it, after any lines: it fits the first line
+abbrev pub ScriptRepeatsFit : Type 0
+ScriptRepeatsFit = (id : RequestId) (l : LeaseLine) (first second : List ℕ) (frames : List Frame)
+    → (a : AsksTwice id (ops.Lease l) first frames second)
+    → IsNew (account_in id.client a.old.book) id
+    → ((r : Reply) × (second ≡ written r) × FitsLine a.old l r) ⊎ (IsUnkept first ⊎ IsUnkept second)
+
+-- the lease fits in a span that the setup gives the arena that it names
+pub record FitsInSpan (made : SetupState) (l : LeaseLine) : Type 0 where
+  pub arena : TreeArena
+  pub span : OwnedSpan
+  pub base : ℕ
+  pub len : ℕ
+  pub named : place_in l.arena made.arenas ≡ Some span.arena
+  pub here : slice_get made.arenas span.arena ≡ Some arena
+  pub owned : Contains made.spans span
+  pub fits : Fits arena.quantum (demand_of l) base len
+  pub from : span.range.base ≤ base
+  pub to : base + len ≤ end_of span.range
+
+-- The first line is a hello, and the second a lease that fits in a span, whoever asks and by whatever
+-- number: it isn't answered `nofit`.
+abbrev pub ScriptFirstLeaseIsServed : Type 0
+ScriptFirstLeaseIsServed = (start mid new : Picture) (s : Script start)
+    (hello greeting lease text : List ℕ) (h : HelloLine) (id : RequestId) (l : LeaseLine)
+    → s.frames ≡ [] → served_of hello ≡ Ok (served.Client (lines.Hello h))
+    → LeaseStep start hello greeting mid → IsRequestLine lease id (ops.Lease l)
+    → LeaseStep mid lease text new → FitsInSpan s.made l
+    → text ≢ written (refusal_to id NoFit)
+
+-- once nothing is leased or kept, a lease of a new number that fits in a span isn't answered so,
+-- however all was used before
+abbrev pub ScriptFreedIsWhole : Type 0
+ScriptFreedIsWhole = (old new : Picture) (id : RequestId) (l : LeaseLine) (line text : List ℕ)
+    → (a : AnswersNext old line text new) → NothingIsKept old
+    → IsRequestLine line id (ops.Lease l) → IsNew (account_in id.client old.book) id
+    → FitsInSpan a.script.made l → text ≢ written (refusal_to id NoFit)
+
+-- and where no arena of the setup has caches, nor is it once nothing is leased
+abbrev pub ScriptReturnedIsWhole : Type 0
+ScriptReturnedIsWhole = (old new : Picture) (id : RequestId) (l : LeaseLine) (line text : List ℕ)
+    → (a : AnswersNext old line text new) → All (λ x. x.qcache_max ≡ 0) a.script.made.arenas
+    → leased old.book ≡ [] → IsRequestLine line id (ops.Lease l)
+    → IsNew (account_in id.client old.book) id → FitsInSpan a.script.made l
+    → text ≢ written (refusal_to id NoFit)

@@ -69,14 +69,21 @@ line feed. Words in capitals stand here for what you write. Numbers are decimal,
 zero, from 0 to 2^62. A name begins with a letter and has at most 16 characters.
 
 Setup lines come first, and print nothing. The first other line ends the setup, also an empty one;
-there are no comments. A root or span line after that is answered by error word.
+there are no comments. A setup line after that is answered by error word.
   root NAME BASE LEN QUANTUM POLICY QMAX   an arena: its units are the numbers from BASE to
                                            BASE + LEN - 1, leased in whole quanta. QUANTUM is a
-                                           power of two, BASE and LEN are multiples of it, and
-                                           QMAX is 0
-  span NAME BASE LEN                       a further span of that arena, of whole quanta too
+                                           power of two, BASE and LEN are multiples of it
+  span NAME BASE LEN                       a further span of that root, of whole quanta too
+  child NAME SOURCE QUANTUM POLICY QMAX IMPORTMIN
+                                           an arena that imports what it needs from arena SOURCE,
+                                           IMPORTMIN units at least at a time, and gives each
+                                           import back once it is wholly free. QUANTUM is a power
+                                           of two, at most that of SOURCE
+QMAX is 0, or a multiple of QUANTUM and at most 16 of it: then a lease of at most QMAX units with no
+option comes from a cache of its size. A cache cuts slabs into pieces, and keeps pieces that came
+back in magazines of CPUs and in a depot, from which they are leased again.
 
-POLICY says which units a lease gets, of all free ones that fit it:
+POLICY says which units a lease or a slab gets, of all free ones that fit it:
   best     the lowest in the shortest free range (measured whole), of equally short ones the lowest
            range
   next     the lowest from the end of the lease given last, be it ended or not; where there are none,
@@ -115,7 +122,8 @@ Answers to clients:
   granted C I N NAME BASE LEN   the lease has LEN units from BASE on
   released C I N                the lease is given back
   refused C I N WORD            noarena: no arena has this name; badrequest: the request is bad;
-                                nofit: no free units fit it; leases: the client has 1024 leases;
+                                nofit: no free units fit it, nor what would be imported for it;
+                                leases: the client has 1024 leases;
                                 notyours: incarnation I has no lease that begins at BASE
   old C V                       the client's incarnation is V, not I: it says hello with an I above
                                 V. V is 0 before its first hello
@@ -125,10 +133,20 @@ Answers to clients:
                                 N is 0 for a hello
 Each refused answer counts as the answer to its N; old, stale, gap, again and error don't.
 
-Lines of operators:
-  audit     for each arena: arena NAME free F slab S magazine M exported E leased L hand H, in
-            units: F are in no lease, L are in one; S, M, E and H are 0 in this version
-  clients   for each client: client C I LAST LEASES, its last request and how many leases it has
+Lines of operators, which are answered by error memory where memory is out:
+  cpu N           the lines that follow go through the magazines of CPU N, from 0 to 63, and no more
+                  through those of another. At first they go through those of CPU 0. Answer: ok
+  offline N       what is in the magazines of CPU N goes back to the slabs. Answer: ok
+  tick            an interval begins, after which depots know what they needed in it. Answer: ok
+  resize NAME M   the magazines of arena NAME take M pieces from now on: 3, 7, 15 or 31. Answer: ok,
+                  error noarena, or error size where they take so many already or there is no cache
+  reap            depots give what they didn't need back to the slabs, and slabs that are whole
+                  again go back to their arenas. Answer: reaped U, the units of those slabs
+  audit           for each arena: arena NAME free F slab S magazine M exported E leased L hand H, in
+                  units: F are free, S in slabs, M in magazines, E imported by others, L leased, and
+                  H on the way, which are none between two lines
+  clients         for each client: client C I LAST LEASES, its last request and how many leases it
+                  has
 
 A line that is none of these is answered by error and a word, and does nothing: toolong (above 255
 bytes), badline (a space too many, another byte, no line feed; too few words or too many, an option
@@ -136,10 +154,12 @@ that is unknown, out of order, twice or without its number), word (no line begin
 number, or out of its range).
 
 A refused setup line ends the program with vmemd: line K: WORD, and nothing is written. WORD is
-toolong, badline, word or number where the line is no root or span line as above; name where the
-name is taken; many above 32 arenas or 65536 spans of one; noarena where a span's arena isn't there;
-quantum where it is no power of two; cache where QMAX isn't 0; or range where LEN is 0, or the span
-ends above 2^62, isn't of whole quanta or overlaps another of its arena.
+toolong, badline, word or number where the line is no setup line as above; name where the name is
+taken; many above 32 arenas or 65536 spans of one; noarena where there is no such source, or no such
+root for a span; chain where a source's source, and so on, would make a chain of five arenas;
+quantum where it is no power of two, or above the source's; cache where QMAX isn't as above, or is
+above a third of 2^62; or range where LEN is 0, or the span ends above 2^62, isn't of whole quanta
+or overlaps another of its arena.
 
 Example:
   printf 'root m 0 64 1 best 0\\nhello 1 1\\nlease 1 1 1 m 8 align 16 min 20\\n' | vmemd script

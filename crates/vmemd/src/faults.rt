@@ -5,20 +5,7 @@ use lease_server::ServeFault;
 use std::alloc::AllocError;
 use thiserror::Error;
 
-/// What a setup line may ask for and this program doesn't serve yet.
-#[derive(Clone, Copy, Debug, PartialEq, Eq, Error)]
-pub enum Unserved {
-    /// A `child` line.
-    #[error("word")]
-    Children,
-    /// A QMAX other than 0.
-    #[error("cache")]
-    Caches,
-}
-
-/// Why a setup line is refused, by its word. They stand in the order in which they are looked for,
-/// but for `NotYet`: `Children` comes after the line's own refusals, and `Caches` in the place of
-/// `BadCache`.
+/// Why a setup line is refused, by its word. They stand in the order in which they are looked for.
 #[derive(Clone, Copy, Debug, PartialEq, Eq, Error)]
 pub enum ConfigFault {
     /// The bytes are no setup line.
@@ -49,8 +36,6 @@ pub enum ConfigFault {
     /// The span is empty, ends above 2^62, isn't of whole quanta, or overlaps another of its arena.
     #[error("range")]
     BadRange,
-    #[error("{0}")]
-    NotYet(Unserved),
 }
 
 /// Why a setup doesn't take a line that was read.

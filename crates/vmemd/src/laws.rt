@@ -1,10 +1,28 @@
-//! What holds over a whole script. The function does nothing: its contract is the laws.
-ghost use Rattle.vmemd.specs.Laws.{ScriptLeasesStayApart, ScriptUnitsHaveOnePlace};
+//! What holds over a whole script. The functions do nothing: their contracts are the laws.
+ghost use Rattle.vmemd.specs.Laws.{ScriptsSplit, ScriptLeasesStayApart, ScriptUnitsHaveOnePlace};
+ghost use Rattle.vmemd.specs.Laws.{ScriptAuditIsTold, ScriptAuditIsWhole};
+ghost use Rattle.vmemd.specs.Laws.{ScriptLinesRepeat, ScriptAnswersAgree, ScriptGrantsFit};
+ghost use Rattle.vmemd.specs.Laws.{ScriptRepeatsFit, ScriptFirstLeaseIsServed, ScriptFreedIsWhole};
+ghost use Rattle.vmemd.specs.Laws.{ScriptReturnedIsWhole};
 
 /// Whatever setup lines are taken, and whatever lines the desk that they open answers then: after
-/// each of them no two leases of one arena overlap, and each unit stands in one place. What
-/// `run_script` writes is such a script.
+/// each of them no two leases of one space overlap, each unit is in one place, and an audit tells
+/// all of them. What `run_script` writes is such a script.
 pub fn script_laws()
+    ensures split { ScriptsSplit }
     ensures apart { ScriptLeasesStayApart }
     ensures places { ScriptUnitsHaveOnePlace }
+    ensures told { ScriptAuditIsTold }
+    ensures whole { ScriptAuditIsWhole }
+{}
+
+/// What a script answers to requests, in bytes: to one that comes again, and to leases.
+pub fn answer_laws()
+    ensures repeats { ScriptLinesRepeat }
+    ensures agree { ScriptAnswersAgree }
+    ensures fit { ScriptGrantsFit }
+    ensures repeats_fit { ScriptRepeatsFit }
+    ensures first { ScriptFirstLeaseIsServed }
+    ensures freed { ScriptFreedIsWhole }
+    ensures returned { ScriptReturnedIsWhole }
 {}

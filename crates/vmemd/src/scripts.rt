@@ -8,14 +8,15 @@ ghost use Rattle.vmemd.specs.Desks.{ScriptEnds, ScriptFails};
 use crate::faults::ScriptFault;
 use crate::setting_up::take_setup;
 use arena_tree::Setup;
-use lease_desk::Desk;
 use lease_server::{Watched, serve};
 use std::alloc::Global;
 use std::io::{Read, Write};
+use stock_desk::Desk;
 
 /// Runs a script: setup lines and then the lines of clients and operators, from the reader to the
 /// writer, by one thread. Units are numbers and have no owner elsewhere. At its end, and at any
-/// fault, all leases are freed, all spans taken out and their deeds closed, which takes no memory.
+/// fault, all leases are freed, all CPUs and caches emptied, all spans taken out and their deeds
+/// closed, which takes no memory.
 pub fn run_script<R: Read, W: Write>(
     alloc: Global,
     reader: &mut Watched<R>,
@@ -39,7 +40,7 @@ pub fn run_script<R: Read, W: Write>(
 {
     let mut setup = Setup::new(alloc);
     let mut input = take_setup(reader, &mut setup)?;
-    let mut desk = Desk::open(alloc, &setup)?;
+    let mut desk = Desk::open(alloc, setup)?;
     let served = serve(alloc, &mut input, reader, writer, &mut desk);
     desk.close();
     served?;

@@ -1,15 +1,11 @@
 //! Setup lines, as a setup takes and refuses them.
-ghost use Rattle.std.specs.Prelude.{◌≡◌, ◌<◌, OnOk, OnErr, IfErr};
-ghost use Rattle.arena_tree.specs.Settings.{TakesSetting, CanSet};
-ghost use Rattle.arena_tree.specs.declared.settings.Setting.TheVariants as setting;
-ghost use Rattle.vmemd.specs.Scripts.{RefusedBy};
+ghost use Rattle.std.specs.Prelude.{◌≡◌};
 ghost use Rattle.vmemd.specs.Settings as spec;
-ghost use Rattle.vmemd.specs.Settings.{RefusesRootAsked};
 
-use crate::faults::{ConfigFault, SettingFault, Unserved};
+use crate::faults::{ConfigFault, SettingFault};
 use crate::setting_up::SetUp;
-use arena_tree::{NewRoot, NewSpan, Setting, Setup, SetupFault};
-use lease_proto::{PolicyWord, RootLine, SetupLine, SpanLine};
+use arena_tree::{NewChild, NewRoot, NewSpan, Setting, Setup, SetupFault};
+use lease_proto::{ChildLine, PolicyWord, RootLine, SetupLine, SpanLine};
 use tag_arena::Policy;
 
 impl From<SetupFault> for SettingFault {
@@ -43,17 +39,19 @@ impl SetUp for Setup {
     ghost can = { CanTakeSetupLine };
 
     fn set_up(&mut self, line: &SetupLine) -> Result<(), SettingFault> {
-        match line {
-            SetupLine::Root(line) => add_root(self, &root_asked(line)),
-            SetupLine::Child(_) => {
-                let word = ConfigFault::NotYet(Unserved::Children);
-                Err(SettingFault::Refused(word))
-            }
-            SetupLine::Span(line) => {
-                self.add(&Setting::Span(span_asked(line)))?;
-                Ok(())
-            }
-        }
+        self.add(&setting_asked(line))?;
+        Ok(())
+    }
+}
+
+/// What a line asks for.
+fn setting_asked(line: &SetupLine) -> Setting
+    ensures { result ≡ spec.setting_asked line.now }
+{
+    match line {
+        SetupLine::Root(line) => Setting::Root(root_asked(line)),
+        SetupLine::Child(line) => Setting::Child(child_asked(line)),
+        SetupLine::Span(line) => Setting::Span(span_asked(line)),
     }
 }
 
@@ -68,6 +66,20 @@ fn root_asked(line: &RootLine) -> NewRoot
         quantum: line.quantum.get(),
         policy: policy_of(line.policy),
         qcache_max: line.qcache_max.get(),
+    }
+}
+
+/// The child that a line asks for.
+fn child_asked(line: &ChildLine) -> NewChild
+    ensures { result ≡ spec.child_asked line.now }
+{
+    NewChild {
+        name: line.name,
+        source: line.source,
+        quantum: line.quantum.get(),
+        policy: policy_of(line.policy),
+        qcache_max: line.qcache_max.get(),
+        import_min: line.import_min.get(),
     }
 }
 
@@ -90,33 +102,5 @@ fn policy_of(word: PolicyWord) -> Policy
         PolicyWord::Instant => Policy::Instant,
         PolicyWord::Best => Policy::Best,
         PolicyWord::Next => Policy::Next,
-    }
-}
-
-/// Adds a root without caches.
-fn add_root(setup: &mut Setup, root: &NewRoot) -> Result<(), SettingFault>
-    ensures ok { OnOk result ((root.now.qcache_max ≡ 0)
-        × TakesSetting setup.old (setting.Root root.now) setup.new) }
-    ensures refused { IfErr result (RefusedBy (RefusesRootAsked setup.old root.now)
-        ((root.now.qcache_max ≡ 0) × CanSet setup.old (setting.Root root.now))) }
-    ensures unchanged { OnErr result (setup.new ≡ setup.old) }
-{
-    if root.qcache_max != 0 {
-        return Err(SettingFault::Refused(refusal_with_caches(setup, root)));
-    }
-    setup.add(&Setting::Root(*root))?;
-    Ok(())
-}
-
-/// Why a root with caches is refused: what speaks against it before them, or else that it has them.
-fn refusal_with_caches(setup: &Setup, root: &NewRoot) -> ConfigFault
-    requires { 0 < root.now.qcache_max }
-    ensures { RefusesRootAsked setup.now root.now result }
-{
-    match setup.tree().judge_root(root) {
-        Err(SetupFault::NameTaken) => ConfigFault::NameTaken,
-        Err(SetupFault::TooMany) => ConfigFault::TooMany,
-        Err(SetupFault::BadQuantum) => ConfigFault::BadQuantum,
-        Ok(_) | Err(_) => ConfigFault::NotYet(Unserved::Caches),
     }
 }

@@ -7,7 +7,7 @@ pub struct Row {
     pub output: &'static [u8],
 }
 
-pub const ROWS: [Row; 15] = [
+pub const ROWS: [Row; 18] = [
     Row {
         shows: "nothing in, nothing out",
         input: b"",
@@ -232,10 +232,74 @@ pub const ROWS: [Row; 15] = [
               granted 1 1 2 m 4 4\n\
               stale 1 1 1 2\n",
     },
+    Row {
+        shows: "an arena imports at least so much, and gives it back once it is free",
+        input: b"root s 0 64 1 best 0\n\
+              child c s 1 best 0 16\n\
+              hello 1 1\n\
+              lease 1 1 1 c 4\n\
+              audit\n\
+              release 1 1 2 c 0\n\
+              audit\n",
+        output: b"welcome 1 1\n\
+              granted 1 1 1 c 0 4\n\
+              arena s free 48 slab 0 magazine 0 exported 16 leased 0 hand 0\n\
+              arena c free 12 slab 0 magazine 0 exported 0 leased 4 hand 0\n\
+              released 1 1 2\n\
+              arena s free 64 slab 0 magazine 0 exported 0 leased 0 hand 0\n\
+              arena c free 0 slab 0 magazine 0 exported 0 leased 0 hand 0\n",
+    },
+    Row {
+        shows: "a released unit waits in the CPU's magazine, goes back to its slab, and is reaped",
+        input: b"root m 0 64 1 best 4\n\
+              hello 1 1\n\
+              lease 1 1 1 m 4\n\
+              audit\n\
+              release 1 1 2 m 0\n\
+              audit\n\
+              offline 0\n\
+              audit\n\
+              reap\n\
+              audit\n",
+        output: b"welcome 1 1\n\
+              granted 1 1 1 m 0 4\n\
+              arena m free 48 slab 12 magazine 0 exported 0 leased 4 hand 0\n\
+              released 1 1 2\n\
+              arena m free 48 slab 12 magazine 4 exported 0 leased 0 hand 0\n\
+              ok\n\
+              arena m free 48 slab 16 magazine 0 exported 0 leased 0 hand 0\n\
+              reaped 16\n\
+              arena m free 64 slab 0 magazine 0 exported 0 leased 0 hand 0\n",
+    },
+    Row {
+        shows: "what operators are refused",
+        input: b"root m 0 64 1 best 4\n\
+              root p 0 8 1 best 0\n\
+              cpu 63\n\
+              cpu 64\n\
+              tick\n\
+              resize m 7\n\
+              resize m 7\n\
+              resize m 8\n\
+              resize p 7\n\
+              resize q 7\n\
+              offline 5\n\
+              reap\n",
+        output: b"ok\n\
+              error number\n\
+              ok\n\
+              ok\n\
+              error size\n\
+              error number\n\
+              error size\n\
+              error noarena\n\
+              ok\n\
+              reaped 0\n",
+    },
 ];
 
 /// Setup lines, the number of the one that is refused, and its word.
-pub const REFUSED: [(&[u8], u64, &str); 25] = [
+pub const REFUSED: [(&[u8], u64, &str); 31] = [
     (
         b"root top 4611686018427387888 17 1 best 0\nhello 1 1\n",
         1,
@@ -246,9 +310,13 @@ pub const REFUSED: [(&[u8], u64, &str); 25] = [
     (b"span b 8 8\n", 1, "noarena"),
     (b"root a 0 8 3 best 5\n", 1, "quantum"),
     (b"root a 0 8 0 best 0\n", 1, "quantum"),
-    (b"root a 0 9 2 best 4\n", 1, "cache"),
-    (b"root a 0 8 2 best 3\n", 1, "cache"),
-    (b"root a 0 8 1 instant 5\n", 1, "cache"),
+    (b"root a 0 9 2 best 3\n", 1, "cache"),
+    (b"root a 0 8 2 best 34\n", 1, "cache"),
+    (
+        b"root a 0 8 288230376151711744 best 1729382256910270464\n",
+        1,
+        "cache",
+    ),
     (b"root a 0 8 1 best 0\nroot a 0 8 1 best 5\n", 2, "name"),
     (b"root a 0 9 2 best 0\n", 1, "range"),
     (b"root a 1 8 2 best 0\n", 1, "range"),
@@ -258,7 +326,26 @@ pub const REFUSED: [(&[u8], u64, &str); 25] = [
         3,
         "range",
     ),
-    (b"root a 0 8 1 best 0\nchild b a 1 best 0 8\n", 2, "word"),
+    (b"root a 0 9 2 best 4\n", 1, "range"),
+    (b"root a 0 8 1 best 0\nchild a c 1 best 0 0\n", 2, "name"),
+    (
+        b"root a 0 8 1 best 0\nchild b c 3 best 17 0\n",
+        2,
+        "noarena",
+    ),
+    (
+        b"root a 0 8 1 best 0\nchild b a 1 best 0 0\nchild c b 1 best 0 0\n\
+          child d c 1 best 0 0\nchild e d 2 best 0 0\n",
+        5,
+        "chain",
+    ),
+    (b"root a 0 8 2 best 0\nchild b a 4 best 3 0\n", 2, "quantum"),
+    (b"root a 0 8 2 best 0\nchild b a 1 best 17 0\n", 2, "cache"),
+    (
+        b"root a 0 8 1 best 0\nchild b a 1 best 0 0\nspan b 8 8\n",
+        3,
+        "noarena",
+    ),
     (b"child b a 1 best 0\n", 1, "badline"),
     (b"root a 0 8 1 worst 0\n", 1, "badline"),
     (b"root a 0 8 1 best\n", 1, "badline"),
