@@ -4,6 +4,7 @@ pub mod RunLemmas
 pub mod SpanLemmas
 pub mod UncachedLemmas
 pub mod LawLemmas
+mod CommandLemmas
 mod ConfigLemmas
 mod SettingLemmas
 mod RunningLemmas

@@ -1,14 +1,17 @@
 -- The words of the command line, and how a program ends that they are for no part of.
 use Rattle.std.specs.Prelude.{◌≡◌, ◌≢◌, ◌⊎◌, ℕ, Bool, List, ◌∷◌, [], Option, Some, true, false}
-use Rattle.std.specs.Prelude.{codes, pos}
+use Rattle.std.specs.Prelude.{codes, pos, unwrap_or, ◌≤◌}
+use Rattle.std.specs.Fmt.{decimal}
 use Rattle.std.specs.Io.KnownBytes.{Appends, Keeps}
 use Rattle.clap.specs.Words.{App, Kinds, IsAmong, Rule, new_app, new_rule, with_rule}
-use Rattle.clap.specs.Words.{with_subcommand, kind_of}
+use Rattle.clap.specs.Words.{with_subcommand, kind_of, Row, first_of, one_of}
 use Rattle.clap.specs.declared.builder.action.ArgAction.TheVariants.{Set}
 use Rattle.clap.specs.declared.builder.value_parser.ValueParser.TheVariants.{Signed}
 use Rattle.clap.specs.declared.error.Error.{Error}
 use Rattle.clap.specs.declared.error.kind.ErrorKind.{ErrorKind}
 use Rattle.clap.specs.declared.error.kind.ErrorKind.TheVariants as kind
+use Rattle.vmemd.specs.declared.commands.GivenWords.{GivenWords}
+use Rattle.vmemd.specs.declared.commands.GivenWords.TheVariants.{Script, Serve}
 use Rattle.vmemd.specs.declared.commands.WordsFault.{WordsFault}
 use Rattle.vmemd.specs.declared.commands.WordsFault.TheVariants.{Asked, Mistaken, NotText, Memory}
 use Rattle.vmemd.specs.declared.faults.ScriptFault.TheVariants as script
@@ -46,6 +49,21 @@ program = with_subcommand (with_subcommand bare_program (new_app (codes "script"
 -- `vmemd script`
 abbrev pub script_words : List (List ℕ)
 script_words = codes "vmemd" ∷ codes "script" ∷ []
+
+-- workers are 1 to 64, and those that WORKERS says
+abbrev pub GivesWorkers : List Row → ℕ → Type 0
+GivesWorkers rows workers = (1 ≤ workers) × (workers ≤ 64) × ((n : ℕ)
+    → one_of (codes "WORKERS") rows ≡ Some (decimal n) → 1 ≤ n → n ≤ 64 → workers ≡ n)
+
+-- what is given, by the name of the command that clap finds and the values of its words: all but
+-- `serve` is a script
+abbrev pub IsGivenBy : Option (List ℕ × List Row) → GivenWords → Type 0
+IsGivenBy found (Serve address config workers) = (rows : List Row)
+    × (found ≡ Some (codes "serve", rows))
+    × (address.now ≡ unwrap_or (first_of (codes "ADDRESS") rows) [])
+    × (config.now ≡ unwrap_or (first_of (codes "CONFIG") rows) [])
+    × GivesWorkers rows workers
+IsGivenBy found Script = (rows : List Row) → found ≢ Some (codes "serve", rows)
 
 -- help or the version was asked for
 abbrev pub IsAskedFor : ErrorKind → Type 0

@@ -1,8 +1,9 @@
 //! The words of the command line.
 
 ghost use Rattle.std.specs.Prelude.{◌≡◌, ◌≢◌, [], IfOk, IfErr, OnOk, false, map};
-ghost use Rattle.clap.specs.Words.{app_of, fault_of, kind_of, rule_of};
-ghost use Rattle.vmemd.specs.Commands.{program, script_words, FailsWords, IsTold};
+ghost use Rattle.clap.specs.Words.{app_of, fault_of, kind_of, rule_of, subcommand_of};
+ghost use Rattle.clap.specs.Words.{subcommand_rows_of};
+ghost use Rattle.vmemd.specs.Commands.{program, script_words, FailsWords, IsGivenBy, IsTold};
 ghost use Rattle.vmemd.specs.Commands.{required_word, workers_word};
 
 use clap::error::ErrorKind;
@@ -238,6 +239,8 @@ pub fn read_words<'a>(alloc: Global, words: &'a [&'a str]) -> Result<GivenWords<
         → IfErr result (λ fault. fault ≡ WordsFault.Memory) }
     // What is taken is without fault, as clap reads a program with these commands.
     ensures ok { OnOk result (fault_of program (map (λ w. w.now) words.now) ≡ []) }
+    // It is the command that clap finds in them; the workers of `serve` are 1 to 64.
+    ensures given { IfOk result (IsGivenBy (subcommand_of program (map (λ w. w.now) words.now))) }
     // What isn't taken has the fault that clap finds.
     ensures err { IfErr result (FailsWords (fault_of program (map (λ w. w.now) words.now))) }
 {
@@ -247,13 +250,16 @@ pub fn read_words<'a>(alloc: Global, words: &'a [&'a str]) -> Result<GivenWords<
     }
 }
 
-/// What matches ask for. clap has seen that the words of `serve` are there, and its number in range.
-fn given<'a>(matches: &ArgMatches<'a>) -> GivenWords<'a> {
+/// What matches ask for. clap has seen that the words of `serve` are there, and that its number is
+/// 1 to 64.
+fn given<'a>(matches: &ArgMatches<'a>) -> GivenWords<'a>
+    ensures { IsGivenBy (subcommand_rows_of matches.now) result }
+{
     match matches.subcommand() {
         Some(("serve", of)) => GivenWords::Serve {
             address: of.get_str("ADDRESS").unwrap_or(""),
             config: of.get_str("CONFIG").unwrap_or(""),
-            workers: of.get_one::<u8>("WORKERS").unwrap_or(1),
+            workers: of.get_one::<u8>("WORKERS").unwrap_or(1).clamp(1, 64),
         },
         _ => GivenWords::Script,
     }

@@ -1,6 +1,7 @@
 //! Whole scripts, with what they have to write; scripts that come a byte at a time or are cut
 //! short, and streams that fail.
 
+mod serving;
 mod tables;
 
 use self::tables::{ASKED, MISTAKEN, REFUSED, ROWS};

@@ -1,11 +1,12 @@
 use Rattle.std.proofs.Common.{◌≡◌, ◌∙◌, ap₂, refl, true, Ok, inl, inr, sym, subst, map}
 use Rattle.clap.specs.Words.{takes, kind_of, fault_of, is_simple_and_free, FailsBy, HasKind, IsAmong, Kinds}
+use Rattle.clap.specs.Words.{HasMatchesOf, is_simple, subcommand_of, subcommand_rows_of}
 use Rattle.clap.specs.declared.error.Error.{Error}
 use Rattle.clap.specs.declared.error.kind.ErrorKind.TheVariants as kind
 use Rattle.clap.proofs.OnLiterals.{clap_on_literals}
 use Rattle.vmemd.specs.declared.commands.WordsFault.{WordsFault}
 use Rattle.vmemd.specs.declared.commands.WordsFault.TheVariants.{Asked, Mistaken, NotText, Memory}
-use Rattle.vmemd.specs.Commands.{program, script_words, FailsWords, IsTold}
+use Rattle.vmemd.specs.Commands.{program, script_words, FailsWords, IsGivenBy, IsTold}
 use Rattle.vmemd.proofs.commands.read_words.Goals as goal
 
 is_taken : takes program script_words ≡ true
@@ -15,6 +16,10 @@ is_taken = refl
 is_plain : is_simple_and_free program ≡ true
 unfolding clap_on_literals
 is_plain = refl
+
+is_known : is_simple program ≡ true
+unfolding clap_on_literals
+is_known = refl
 
 -- what is told of one of these faults
 told : (kinds : Kinds) (error : Error) (fault : WordsFault) → HasKind kinds error → IsTold error fault → FailsWords kinds fault
@@ -41,3 +46,10 @@ returns-in-Err-clause-err c =
     told (fault_of program words) c.in-Err.error c.words_fault.result
     (subst (λ a. is_simple_and_free a ≡ true → HasKind (fault_of a words) c.in-Err.error) c.in_ok-command.ensures c.in-Err.ensures.kinds is_plain)
     c.words_fault.ensures.told
+
+pub returns-in-Ok-clause-given : goal.returns-in-Ok-clause-given
+returns-in-Ok-clause-given c =
+    let words = map (λ w. w.now) c.args.words.now in
+    let found : subcommand_rows_of c.in-Ok.matches ≡ subcommand_of program words =
+    (subst (λ a. HasMatchesOf a words c.in-Ok.matches) c.in_ok-command.ensures c.in-Ok.ensures.matches is_known).1 in
+    subst (λ f. IsGivenBy f c.given.result) found c.given.ensures

@@ -1,0 +1,153 @@
+//! A server and its clients, both in this process, over loopback.
+
+use super::{Mishap, Pieces};
+use crate::configs::read_config;
+use crate::running::{Console, run_serve};
+use lease_server::Watched;
+use std::alloc::AllocGlobal;
+use std::io::{Read, Write};
+use std::net::{Net, Shutdown, TcpListener, TcpStream};
+use std::process::Abort;
+use std::sync::Wait;
+use std::thread::Threads;
+use std::time::Clock;
+use std::{io, thread};
+
+/// The longest line of a server's console.
+const CONSOLE_LINE: usize = 64;
+
+/// CONFIG, lines of clients, and what they are answered.
+struct Talk {
+    config: &'static [u8],
+    lines: &'static [u8],
+    replies: &'static [u8],
+}
+
+const TALKS: [Talk; 4] = [
+    Talk {
+        config: b"root m 0 64 1 best 0\n",
+        lines: b"hello 1 1\nlease 1 1 1 m 8\nrelease 1 1 2 m 0\n",
+        replies: b"welcome 1 1\ngranted 1 1 1 m 0 8\nreleased 1 1 2\n",
+    },
+    Talk {
+        config: b"root m 0 64 1 best 0\n",
+        lines: b"hello 1 1\n\
+              lease 1 1 1 m 5 align 8 phase 3 nocross 8\n\
+              lease 1 1 2 m 6 align 8 phase 3 nocross 8\n",
+        replies: b"welcome 1 1\ngranted 1 1 1 m 3 5\nrefused 1 1 2 nofit\n",
+    },
+    Talk {
+        config: b"root m 0 64 1 best 0\n",
+        lines: b"hello 1 1\nlease 1 1 1 m 8\nlease 1 1 1 m 8\n",
+        replies: b"welcome 1 1\ngranted 1 1 1 m 0 8\ngranted 1 1 1 m 0 8\n",
+    },
+    Talk {
+        config: b"root p 1 4 1 best 0\n",
+        lines: b"hello 1 1\n\
+              lease 1 1 1 p 4\n\
+              hello 1 2\n\
+              hello 2 1\n\
+              lease 2 1 1 p 4\n\
+              lease 1 1 1 p 4\n",
+        replies: b"welcome 1 1\n\
+              granted 1 1 1 p 1 4\n\
+              welcome 1 2\n\
+              welcome 2 1\n\
+              granted 2 1 1 p 1 4\n\
+              old 1 2\n",
+    },
+];
+
+#[test]
+fn tcp_rows(rt: HostRuntime) {
+    for talk in &TALKS {
+        for workers in [1, 3] {
+            serve_talk(&rt, talk, workers);
+        }
+    }
+}
+
+// A server whose console is a connection too: its other end reads the address from it, asks the
+// lines there, ends the server's input, and reads that it closed.
+fn serve_talk<
+    R: Net<Listener = TcpListener, Stream = TcpStream>
+        + Threads
+        + Wait
+        + Clock
+        + Eprint
+        + Abort
+        + Sync
+        + AllocGlobal,
+>(rt: &R, talk: &Talk, workers: u32) {
+    let control = TcpListener::bind(rt, "127.0.0.1:0").expect(rt, "a port");
+    let address = control.local_addr().expect(rt, "an address");
+    let user = TcpStream::connect(rt, address).expect(rt, "a connection");
+    let (console, _) = control.accept().expect(rt, "a connection");
+    let ends = [&user, &console];
+    let (_, ()) = thread::join(
+        rt,
+        move || run_server(rt, talk.config, workers, ends[1]),
+        move || use_server(rt, talk, ends[0]),
+    );
+}
+
+fn run_server<
+    R: Net<Listener = TcpListener, Stream = TcpStream>
+        + Threads
+        + Wait
+        + Clock
+        + Eprint
+        + Abort
+        + Sync
+        + AllocGlobal,
+>(rt: &R, config: &'static [u8], workers: u32, console: &TcpStream) {
+    let mut reader = Watched::new(Pieces {
+        rest: config,
+        size: 4096,
+        mishap: Mishap::None,
+        reads: 0,
+    });
+    let setup = read_config(rt.alloc(), &mut reader).expect(rt, "a setup");
+    let streams = Console {
+        input: Watched::new(console),
+        out: Watched::new(console),
+    };
+    let ran = run_serve(rt, "127.0.0.1:0", setup, workers, streams);
+    console.shutdown(Shutdown::Both).expect(rt, "an end");
+    assert!(rt; ran.ended.is_ok(), "a fault");
+}
+
+fn use_server<R: Net<Listener = TcpListener, Stream = TcpStream> + Abort + AllocGlobal>(
+    rt: &R,
+    talk: &Talk,
+    console: &TcpStream,
+) {
+    let told = read_line(rt, console);
+    let text = std::str::from_utf8(told.as_slice()).expect(rt, "a text");
+    let Some(address) = text.strip_prefix("listening ") else {
+        panic!(rt; "not listening");
+    };
+    let mut client = TcpStream::connect(rt, address).expect(rt, "a connection");
+    client.write_all(talk.lines).expect(rt, "a peer");
+    client.shutdown(Shutdown::Write).expect(rt, "an end");
+    let replies = io::read_to_string(rt.alloc(), client).expect(rt, "replies");
+    assert!(rt; replies.as_bytes() == talk.replies, "other replies");
+    console.shutdown(Shutdown::Write).expect(rt, "an end");
+    let rest = io::read_to_string(rt.alloc(), console).expect(rt, "an end");
+    assert!(rt; rest.as_bytes() == b"closed\n".as_slice(), "not closed");
+}
+
+// A line, without its line feed.
+fn read_line<R: Abort + AllocGlobal>(rt: &R, stream: &TcpStream) -> Vec<u8> {
+    let mut line = Vec::new(rt.alloc());
+    let mut reader = stream;
+    for _ in 0..CONSOLE_LINE {
+        let mut byte = [0u8; 1];
+        let count = reader.read(&mut byte).expect(rt, "a byte");
+        if count == 0 || byte[0] == b'\n' {
+            break;
+        }
+        line.push(byte[0]).expect(rt, "room");
+    }
+    line
+}
