@@ -1,7 +1,6 @@
 -- What CPUs' own caches do, and that a world stays one by it.
 use Rattle.std.proofs.Common.{◌≡◌, ◌⊎◌, ℕ, ◌+◌, ◌<◌, List, [], ◌∷◌, ◌++◌, length, set, Option, Some, None, Ok, Err, refl, sym, subst, ap, ◌∙◌, inl, inr, arith}
-use Rattle.std.specs.Prelude.{slice_get, sum_by}
-use Rattle.std.specs.Option.{option_to_list}
+use Rattle.std.specs.Prelude.{slice_get}
 use Rattle.std.proofs.lemmas.Bool.{cases_order}
 use Rattle.std.proofs.lemmas.List.{length-set, length-append}
 use Rattle.std.proofs.lemmas.List.Sums.{sum_by-cons}
@@ -9,11 +8,9 @@ use Rattle.deed_core.specs.Tag.{Tag}
 use Rattle.deed_core.specs.Weights.{Gains, Loses}
 use Rattle.deed_core.specs.declared.segments.Route.TheVariants.{Cached}
 use Rattle.deed_core.proofs.LawProofs.{written, all_at, set_same, slice_get_one}
-use Rattle.magazine_layer.specs.Magazines.{CpuCacheState, IsShaped, BothEmpty, BothFull, Pops, Of_loaded, Of_previous, Pushes, On_loaded, On_previous}
+use Rattle.magazine_layer.specs.Magazines.{CpuCacheState, IsShaped, BothEmpty, BothFull, Of_loaded, Of_previous, On_loaded, On_previous}
 use Rattle.magazine_layer.specs.Calls.{PopOf, PushOf}
-use Rattle.stock.specs.Spaces.{SpaceState, HasCache, plans_of}
-use Rattle.stock.specs.Stocks.{IsRoundOf}
-use Rattle.stock.specs.Steps.{HasQuantum}
+use Rattle.stock.specs.Spaces.{SpaceState}
 use Rattle.stock.specs.OwnCaches.{OwnCacheState, IsOwnCache, IsAtPlaceOf, own_rounds}
 use Rattle.stock.proofs.LawProofs.{plans_stay}
 use Rattle.stock_audit.specs.Outside.{outside}
@@ -21,8 +18,8 @@ use Rattle.stock_audit.specs.Accounted.{IsAccountedFor, IsOwnIn}
 use Rattle.stock_audit.specs.Keeping.{OnCpu}
 use Rattle.stock_audit.proofs.LawProofs.{pops_keep, pushes_keep, swaps_keep}
 use Rattle.lease_book.specs.BookState.{leased}
-use Rattle.world_core.specs.WorldState.{WorldState, in_hands, outside_of, Each}
-use Rattle.world_core.specs.Moves.{IsOwnOf, IsOwnFor, OwnGoesOn, TakesHand, RoundMoves, RoundPopped, RoundPushed, OwnMoves}
+use Rattle.world_core.specs.WorldState.{WorldState, in_hands, outside_of}
+use Rattle.world_core.specs.Moves.{IsOwnFor, OwnGoesOn, TakesHand, RoundMoves, RoundPopped, RoundPushed, OwnMoves}
 use Rattle.world_core.specs.IsWorld.{IsWorld, AreInOrder, IsBefore}
 use Rattle.world_core.specs.Events.{EndsAs, HasInHand}
 use Rattle.world_core.specs.declared.events.WorldEvent.TheVariants as events

@@ -1,5 +1,5 @@
 -- The own caches that CPUs begin with.
-use Rattle.std.proofs.Common.{◌≡◌, ◌⊎◌, ℕ, zero, suc, ◌+◌, ◌/◌, ◌<◌, List, [], ◌∷◌, ◌++◌, map, flat_map, replicate, take, length, Some, None, refl, sym, subst, ap, ◌∙◌, inl, inr, arith}
+use Rattle.std.proofs.Common.{◌≡◌, ◌⊎◌, ℕ, zero, suc, ◌+◌, ◌/◌, ◌<◌, List, [], ◌∷◌, ◌++◌, replicate, take, length, Some, None, refl, sym, subst, ap, ◌∙◌, inl, inr, arith}
 use Rattle.std.specs.Prelude.{slice_get, sum_by}
 use Rattle.std.proofs.lemmas.List.{length-append, length-map, length-replicate, length-take-le, replicate-append-replicate, append-nil, append_assoc}
 use Rattle.std.proofs.Math.Numerals.{add-one}
@@ -9,15 +9,14 @@ use Rattle.deed_core.proofs.LawProofs.{pushed, mapped, slice_get_mapped, slice_g
 use Rattle.magazine_layer.specs.Magazines.{IsShaped}
 use Rattle.arena_tree.specs.declared.trees.TreeArena.{TreeArena}
 use Rattle.arena_tree.specs.Trees.{IsTree}
-use Rattle.stock.specs.Spaces.{SpaceState, SpacePlan, HasCache, plan_of, plans_of, slab_size_of}
+use Rattle.stock.specs.Spaces.{SpaceState, SpacePlan, plan_of, plans_of, slab_size_of}
 use Rattle.stock.specs.Setups.{plan_for, plans_for}
-use Rattle.stock.specs.Steps.{HasQuantum}
 use Rattle.stock.specs.OwnCaches.{OwnCacheState, own_rounds}
 use Rattle.stock_audit.specs.Outside.{outside, all_rounds_out}
 use Rattle.stock_audit.specs.Accounted.{IsOwnIn}
 use Rattle.stock_audit.proofs.LawProofs.{cpus_keep}
 use Rattle.lease_book.specs.BookState.{leased}
-use Rattle.world_core.specs.WorldState.{WorldState, in_hands, outside_of}
+use Rattle.world_core.specs.WorldState.{WorldState, in_hands}
 use Rattle.world_core.specs.IsWorld.{IsWorld, AreInOrder, IsBefore}
 use Rattle.world_core.proofs.Members.{take_next}
 use Rattle.world_core.specs.Setups.{empty_own, own_row, own_rows, own_caches, own_owners}

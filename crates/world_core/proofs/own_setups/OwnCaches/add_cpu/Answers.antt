@@ -1,7 +1,3 @@
-use Rattle.std.proofs.Common.{◌≡◌, ◌<◌, length, replicate, sym, ap, ◌∙◌, ◌++◌, arith}
-use Rattle.std.proofs.lemmas.List.{take_all}
-use Rattle.arena_tree.specs.declared.trees.TreeArena.{TreeArena}
-use Rattle.world_core.specs.Setups.{own_rows}
 use Rattle.world_core.proofs.OwnSetups.{rows_more, owners_more}
 use Rattle.world_core.proofs.own_setups.OwnCaches.add_cpu.Goals as goal
 

@@ -1,16 +1,15 @@
-use Rattle.std.proofs.Common.{◌≡◌, ◌<◌, ℕ, None, Some, set, length, refl, sym, subst, ap, ◌∙◌, arith}
+use Rattle.std.proofs.Common.{◌≡◌, ◌<◌, None, Some, set, length, sym, subst, ap, ◌∙◌, arith}
 use Rattle.std.specs.Prelude.{slice_get}
 use Rattle.std.proofs.lemmas.Option.{slice_get_within}
-use Rattle.deed_core.proofs.LawProofs.{slice_get_here, slice_get_one, slice_get-set_other}
+use Rattle.deed_core.proofs.LawProofs.{slice_get_here, slice_get_one}
 use Rattle.deed_core.specs.Tag.{Tag}
 use Rattle.stock.specs.OwnCaches.{OwnCacheState}
 use Rattle.world_core.specs.WorldState.{WorldState, entries_of}
-use Rattle.world_core.specs.IsWorld.{IsWorld}
-use Rattle.world_core.specs.Moves.{failing, HasRoundAt, IsFirstWithRound}
+use Rattle.world_core.specs.Moves.{IsFirstWithRound}
 use Rattle.world_core.specs.Events.{EndsAs, HasInHand}
 use Rattle.world_core.specs.declared.events.WorldEvent.TheVariants as events
-use Rattle.world_core.specs.declared.events.Outcome.TheVariants.{Done, NotEnabled}
-use Rattle.world_core.proofs.AdoptLemmas.{adopts_hand, adopts_round, set_past}
+use Rattle.world_core.specs.declared.events.Outcome.TheVariants.{Done}
+use Rattle.world_core.proofs.AdoptLemmas.{adopts_round}
 use Rattle.world_core.proofs.parts.WorldParts.adopt_round.Goals as goal
 
 pub returns-in-Some-popped : goal.returns-in-Some-popped

@@ -1,4 +1,4 @@
-use Rattle.std.proofs.Common.{◌≡◌, ◌<◌, ℕ, refl, arith, None, Some, set, sym, subst, ap, ◌∙◌, rules}
+use Rattle.std.proofs.Common.{◌≡◌, ◌<◌, ℕ, refl, arith, Some, set, sym, subst, ap, ◌∙◌}
 use Rattle.std.specs.Prelude.{slice_get}
 use Rattle.std.proofs.lemmas.Option.{slice_get_within}
 use Rattle.deed_core.proofs.LawProofs.{slice_get_here}
@@ -8,12 +8,9 @@ use Rattle.world_core.specs.IsWorld.{IsWorld}
 use Rattle.world_core.specs.Moves.{IsOwnFor}
 use Rattle.world_core.specs.Events.{EndsAs, CanChange}
 use Rattle.world_core.specs.declared.events.WorldEvent.TheVariants as events
-use Rattle.world_core.specs.declared.events.EventFault.TheVariants as faults
-use Rattle.world_core.specs.declared.events.Outcome.TheVariants.{Done, Refused, NoMemory, NotEnabled}
-use Rattle.world_core.proofs.OwnLemmas.{found_own, own_in}
+use Rattle.world_core.specs.declared.events.Outcome.TheVariants.{Done, NoMemory, NotEnabled}
+use Rattle.world_core.proofs.OwnLemmas.{found_own}
 use Rattle.magazine_layer.specs.Magazines.{IsSize, MagazineState, after_change}
-use Rattle.stock_audit.specs.Accounted.{IsOwnIn}
-use Rattle.std.proofs.lemmas.Bool.{false≢true}
 use Rattle.deed_core.proofs.LawProofs.{set_same}
 use Rattle.world_core.proofs.SwapLemmas.{not_so, so, changes, has_room}
 use Rattle.world_core.proofs.parts.WorldParts.change.Goals as goal

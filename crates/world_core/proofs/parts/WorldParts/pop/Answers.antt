@@ -8,7 +8,6 @@ use Rattle.world_core.specs.IsWorld.{IsWorld}
 use Rattle.world_core.specs.Moves.{IsOwnFor}
 use Rattle.world_core.specs.Events.{EndsAs, HasInHand}
 use Rattle.world_core.specs.declared.events.WorldEvent.TheVariants as events
-use Rattle.world_core.specs.declared.events.EventFault.TheVariants as faults
 use Rattle.world_core.specs.declared.events.Outcome.TheVariants.{Done, NotEnabled}
 use Rattle.world_core.proofs.OwnLemmas.{found_own, pops_round, pops_none}
 use Rattle.world_core.proofs.parts.WorldParts.pop.Goals as goal

@@ -1,4 +1,4 @@
-use Rattle.std.proofs.Common.{◌≡◌, None, Some, set, sym, subst, ap, ◌∙◌, rules}
+use Rattle.std.proofs.Common.{◌≡◌, Some, set, sym, subst}
 use Rattle.std.specs.Prelude.{slice_get}
 use Rattle.std.proofs.lemmas.Option.{slice_get_within}
 use Rattle.deed_core.proofs.LawProofs.{slice_get_here}
@@ -6,9 +6,8 @@ use Rattle.stock.specs.OwnCaches.{OwnCacheState}
 use Rattle.world_core.specs.WorldState.{WorldState, entries_of}
 use Rattle.world_core.specs.IsWorld.{IsWorld}
 use Rattle.world_core.specs.Moves.{TakesHand}
-use Rattle.world_core.specs.Events.{EndsAs, HasInHand}
+use Rattle.world_core.specs.Events.{EndsAs}
 use Rattle.world_core.specs.declared.events.WorldEvent.TheVariants as events
-use Rattle.world_core.specs.declared.events.EventFault.TheVariants as faults
 use Rattle.world_core.specs.declared.events.Outcome.TheVariants.{Done, NotEnabled}
 use Rattle.world_core.proofs.OwnLemmas.{found_taking, pushes_chunk, pushes_none}
 use Rattle.deed_core.specs.Tag.{Tag}
