@@ -1,5 +1,5 @@
 -- What is out of the parts, by its units.
-use Rattle.std.proofs.Common.{◌≡◌, ℕ, ◌≤◌, Some, sym, subst, ap, ◌∙◌, sum_by, arith}
+use Rattle.std.proofs.Common.{◌≡◌, ℕ, ◌≤◌, Some, sym, ap, ◌∙◌, sum_by, arith}
 use Rattle.std.specs.Prelude.{slice_get, flat_map}
 use Rattle.std.proofs.lemmas.List.Sums.{sum_by-append}
 use Rattle.stock_audit.specs.Outside.{out_of, all_rounds_out}

@@ -32,6 +32,17 @@ part_moved spaces after hands leases cpus step a = hand_steps_keep spaces after 
   cpus = refl;
 })
 
+-- segments pass from hand to hand
+pub hands_pass : (spaces : List SpaceState) (hands more leases : List Tag) (cpus : List OwnCacheState) → ((f : Tag → ℕ) → sum_by f more ≡ sum_by f hands) → IsAccountedFor spaces (outside hands leases cpus)
+    → IsAccountedFor spaces (outside more leases cpus)
+hands_pass spaces hands more leases cpus even a = hand_steps_keep spaces spaces [] [] (outside hands leases cpus) (outside more leases cpus) a (record { stock = a.parts; frame = λ rest x. x; fixed = refl }) (record {
+  rest = hands;
+  gave = λ f. refl;
+  took = λ f. even f;
+  leases = refl;
+  cpus = refl;
+})
+
 module _ (spaces : List SpaceState) (hands : List (Option Tag)) (leases : List Tag) (cpus : List OwnCacheState) (cpu : ℕ) (old new : Option Tag) (at : slice_get hands cpu ≡ Some old) where
   -- a part was given what the hand had, and answered what it has now
   pub hand_moved : (after : List SpaceState) → IsStep spaces (option_to_list old) after (option_to_list new)

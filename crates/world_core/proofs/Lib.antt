@@ -14,3 +14,7 @@ mod AuditLemmas
 mod OwnLemmas
 mod SwapLemmas
 mod MakingLemmas
+mod OwnSetups
+mod AdoptLemmas
+mod TakingOut
+mod GoingHome

@@ -1,5 +1,5 @@
 -- A world that is made of a setup is one.
-use Rattle.std.proofs.Common.{◌≡◌, ◌≢◌, ℕ, zero, suc, ◌<◌, ◌≤◌, ◌^◌, nat_lt, Bool, true, false, All, AllPairs, List, [], ◌∷◌, ◌++◌, map, replicate, length, Option, Some, None, unwrap_or, refl, sym, subst, ap, ◌∙◌, arith}
+use Rattle.std.proofs.Common.{◌≡◌, ◌≢◌, ℕ, zero, suc, ◌<◌, nat_lt, Bool, true, false, All, AllPairs, List, [], map, replicate, length, Option, Some, None, unwrap_or, refl, sym, subst, ap, ◌∙◌, arith}
 use Rattle.std.specs.Prelude.{slice_get, get_or}
 use Rattle.std.proofs.lemmas.Bool.{ltb-true, ltb-false, false≢true}
 use Rattle.std.proofs.lemmas.List.{length-map}
@@ -8,20 +8,13 @@ use Rattle.deed_core.specs.Tag.{Tag}
 use Rattle.deed_core.proofs.LawProofs.{slice_get_some, slice_get_mapped}
 use Rattle.arena_tree.specs.declared.trees.TreeArena.{TreeArena}
 use Rattle.lease_terms.specs.Names.{is_name}
-use Rattle.stock.specs.Spaces.{SpaceState}
-use Rattle.stock.specs.Stocks.{IsStock}
-use Rattle.stock.specs.Accounts.{Accounts}
 use Rattle.stock_audit.specs.Outside.{outside}
 use Rattle.stock_audit.specs.Accounted.{IsAccountedFor}
 use Rattle.lease_proto.specs.declared.lines.Line.{Line}
-use Rattle.lease_proto.specs.declared.replies.Reply.{Reply}
-use Rattle.lease_book.specs.BookState.{BookState, IsHistory, leased}
-use Rattle.lease_client.specs.ClientState.{ClientState}
+use Rattle.lease_book.specs.BookState.{leased}
 use Rattle.world_core.specs.declared.tasks.Task.{Task}
-use Rattle.world_core.specs.declared.logs.Logged.{Logged}
-use Rattle.world_core.specs.WorldState.{WorldState, arena_name, in_hands, entries_of, Each}
+use Rattle.world_core.specs.WorldState.{WorldState, arena_name, in_hands, Each}
 use Rattle.world_core.specs.IsWorld.{IsWorld, AreNames, IsOfLines}
-use Rattle.world_core.proofs.SetupLemmas.{born}
 
 -- Names.
 

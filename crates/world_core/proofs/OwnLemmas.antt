@@ -1,18 +1,16 @@
 -- What CPUs' own caches do, and that a world stays one by it.
 use Rattle.std.proofs.Common.{◌≡◌, ◌⊎◌, ℕ, ◌+◌, ◌<◌, List, [], ◌∷◌, ◌++◌, length, set, Option, Some, None, Ok, Err, refl, sym, subst, ap, ◌∙◌, inl, inr, arith}
-use Rattle.std.specs.Prelude.{slice_get, sum_by}
-use Rattle.std.specs.Option.{option_to_list}
+use Rattle.std.specs.Prelude.{slice_get}
+use Rattle.std.proofs.lemmas.Bool.{cases_order}
 use Rattle.std.proofs.lemmas.List.{length-set, length-append}
 use Rattle.std.proofs.lemmas.List.Sums.{sum_by-cons}
 use Rattle.deed_core.specs.Tag.{Tag}
 use Rattle.deed_core.specs.Weights.{Gains, Loses}
 use Rattle.deed_core.specs.declared.segments.Route.TheVariants.{Cached}
 use Rattle.deed_core.proofs.LawProofs.{written, all_at, set_same, slice_get_one}
-use Rattle.magazine_layer.specs.Magazines.{CpuCacheState, IsShaped, BothEmpty, BothFull, Pops, Of_loaded, Of_previous, Pushes, On_loaded, On_previous}
+use Rattle.magazine_layer.specs.Magazines.{CpuCacheState, IsShaped, BothEmpty, BothFull, Of_loaded, Of_previous, On_loaded, On_previous}
 use Rattle.magazine_layer.specs.Calls.{PopOf, PushOf}
-use Rattle.stock.specs.Spaces.{SpaceState, HasCache, plans_of}
-use Rattle.stock.specs.Stocks.{IsRoundOf}
-use Rattle.stock.specs.Steps.{HasQuantum}
+use Rattle.stock.specs.Spaces.{SpaceState}
 use Rattle.stock.specs.OwnCaches.{OwnCacheState, IsOwnCache, IsAtPlaceOf, own_rounds}
 use Rattle.stock.proofs.LawProofs.{plans_stay}
 use Rattle.stock_audit.specs.Outside.{outside}
@@ -20,9 +18,9 @@ use Rattle.stock_audit.specs.Accounted.{IsAccountedFor, IsOwnIn}
 use Rattle.stock_audit.specs.Keeping.{OnCpu}
 use Rattle.stock_audit.proofs.LawProofs.{pops_keep, pushes_keep, swaps_keep}
 use Rattle.lease_book.specs.BookState.{leased}
-use Rattle.world_core.specs.WorldState.{WorldState, in_hands, outside_of, Each}
-use Rattle.world_core.specs.Moves.{IsOwnOf, IsOwnFor, OwnGoesOn, TakesHand, RoundMoves, RoundPopped, RoundPushed, OwnMoves}
-use Rattle.world_core.specs.IsWorld.{IsWorld, AreLone}
+use Rattle.world_core.specs.WorldState.{WorldState, in_hands, outside_of}
+use Rattle.world_core.specs.Moves.{IsOwnFor, OwnGoesOn, TakesHand, RoundMoves, RoundPopped, RoundPushed, OwnMoves}
+use Rattle.world_core.specs.IsWorld.{IsWorld, AreInOrder, IsBefore}
 use Rattle.world_core.specs.Events.{EndsAs, HasInHand}
 use Rattle.world_core.specs.declared.events.WorldEvent.TheVariants as events
 use Rattle.world_core.specs.declared.events.Outcome.TheVariants.{Done, NotEnabled}
@@ -46,19 +44,37 @@ stood caches place k own next o at same there = elim (written caches place k nex
   | inr other ↦ (o, other.1, refl, refl)
 ]
 
-still_lone : (owners : List ℕ) (caches : List OwnCacheState) (place : ℕ) (own next : OwnCacheState) → AreLone owners caches → slice_get caches place ≡ Some own → IsAtPlaceOf own next
-    → AreLone owners (set caches place next)
-still_lone owners caches place own next are at same = record {
+still_ordered : (owners : List ℕ) (caches : List OwnCacheState) (place : ℕ) (own next : OwnCacheState) → AreInOrder owners caches → slice_get caches place ≡ Some own → IsAtPlaceOf own next
+    → AreInOrder owners (set caches place next)
+still_ordered owners caches place own next are at same = record {
   owned = are.owned ∙ sym (length-set caches place next);
-  lone = λ i j cpu o p mine yours here there home number. (let a = stood caches place i own next o at same here in
+  order = λ i j cpu o p less mine here yours there. (let a = stood caches place i own next o at same here in
       let b = stood caches place j own next p at same there in
-      are.lone i j cpu a.0 b.0 mine yours a.1 b.1 (sym a.2 ∙ home ∙ b.2) (sym a.3 ∙ number ∙ b.3));
+      before o p a.0 b.0 (sym a.2) (sym b.2) (sym a.3) (sym b.3) (are.order i j cpu a.0 b.0 less mine a.1 yours b.1));
 }
+  where
+    before : (o p a b : OwnCacheState) → a.arena ≡ o.arena → b.arena ≡ p.arena → a.cache ≡ o.cache → b.cache ≡ p.cache → IsBefore a b → IsBefore o p
+    before o p a b oa pa oc pc (inl less) = inl (omega (arith, oa, pa, less))
+    before o p a b oa pa oc pc (inr (home, less)) = inr (sym oa ∙ home ∙ pa, omega (arith, oc, pc, less))
+
+-- so no two of a CPU are for one quantum cache
+lone : (owners : List ℕ) (caches : List OwnCacheState) → AreInOrder owners caches → (i j cpu : ℕ) (o p : OwnCacheState) → slice_get owners i ≡ Some cpu → slice_get owners j ≡ Some cpu → slice_get caches i ≡ Some o
+    → slice_get caches j ≡ Some p → o.arena ≡ p.arena → o.cache ≡ p.cache → i ≡ j
+lone owners caches are i j cpu o p mine yours here there home number = by (cases_order i j)
+  where
+    unless : (a b : OwnCacheState) → a.arena ≡ b.arena → a.cache ≡ b.cache → IsBefore a b → ⊥
+    unless a b home number (inl less) = omega (arith, home, less)
+    unless a b home number (inr (same, less)) = omega (arith, number, less)
+
+    by : (i ≡ j) ⊎ ((i < j) ⊎ (j < i)) → i ≡ j
+    by (inl same) = same
+    by (inr (inl less)) = absurd (unless o p home number (are.order i j cpu o p less mine here yours there))
+    by (inr (inr more)) = absurd (unless p o (sym home) (sym number) (are.order j i cpu p o more yours there mine here))
 
 -- a CPU has one for a quantum cache
 pub one_own : (w : WorldState) (cpu arena cache i j : ℕ) (o p : OwnCacheState) → IsWorld w → IsOwnFor w cpu arena cache i o → IsOwnFor w cpu arena cache j p → o ≡ p
 one_own w cpu arena cache i j o p is a b =
-    let same : i ≡ j = is.own.lone i j cpu o p a.mine.owner b.mine.owner a.mine.at b.mine.at (a.home ∙ sym b.home) (a.number ∙ sym b.number) in
+    let same : i ≡ j = lone w.owners w.caches is.own i j cpu o p a.mine.owner b.mine.owner a.mine.at b.mine.at (a.home ∙ sym b.home) (a.number ∙ sym b.number) in
     slice_get_one w.caches j o p (subst (λ (k : ℕ). slice_get w.caches k ≡ Some o) same a.mine.at) b.mine.at
 
 -- the one that was found
@@ -73,7 +89,7 @@ one_taking w cpu i j o p t u is a b =
     let home : o.arena ≡ p.arena = sym a.takes.from ∙ ap (λ (x : Tag). x.arena) tag ∙ b.takes.from in
     let route : Cached (o.cache + 1) ≡ Cached (p.cache + 1) = sym a.takes.by ∙ ap (λ (x : Tag). x.route) tag ∙ b.takes.by in
     let number : o.cache ≡ p.cache = (let e : o.cache + 1 ≡ p.cache + 1 = cc in omega arith) in
-    let same : i ≡ j = is.own.lone i j cpu o p a.mine.owner b.mine.owner a.mine.at b.mine.at home number in
+    let same : i ≡ j = lone w.owners w.caches is.own i j cpu o p a.mine.owner b.mine.owner a.mine.at b.mine.at home number in
     slice_get_one w.caches j o p (subst (λ (k : ℕ). slice_get w.caches k ≡ Some o) same a.mine.at) b.mine.at
 
 pub found_taking : (w : WorldState) (cpu place : ℕ) (own : OwnCacheState) (t : Tag) → (o : OwnCacheState) × (u : Tag) × TakesHand w cpu place o u → slice_get w.caches place ≡ Some own → HasInHand w cpu (Some t)
@@ -89,9 +105,9 @@ own_in w place own is at = all_at (IsOwnIn w.stock) w.caches place own is.parts.
 
 -- What keeps a world.
 
-module _ (cpu place : ℕ) (own next : OwnCacheState) (w v : WorldState) (is : IsWorld w) (mine : IsOwnOf w cpu place own) where
+module _ (cpu place : ℕ) (own next : OwnCacheState) (w v : WorldState) (is : IsWorld w) (at : slice_get w.caches place ≡ Some own) where
   on_cpu : (hands : List (Option Tag)) → OwnGoesOn own next → OnCpu place own next (outside_of w) (outside (in_hands hands) (leased w.book) (set w.caches place next))
-  on_cpu hands goes = record { at = mine.at; own = goes.sound; place = goes.same; cpus = refl; leases = refl }
+  on_cpu hands goes = record { at = at; own = goes.sound; place = goes.same; cpus = refl; leases = refl }
 
   round_kept : (given answered : Option Tag) → (m : RoundMoves cpu place own next given answered w v)
       → IsAccountedFor w.stock (outside (in_hands (set w.hands cpu answered)) (leased w.book) (set w.caches place next)) → IsWorld v
@@ -106,12 +122,12 @@ module _ (cpu place : ℕ) (own next : OwnCacheState) (w v : WorldState) (is : I
     known = is.known;
     said = is.said;
     tasks = is.tasks;
-    own = still_lone w.owners w.caches place own next is.own mine.at m.goes.same;
+    own = still_ordered w.owners w.caches place own next is.own at m.goes.same;
     shaped = each_written (λ (o : OwnCacheState). IsShaped o.cpu) w.caches place next is.shaped m.goes.shaped;
     told = is.told;
   })
 
-  pop_kept : (t : Tag) → RoundMoves cpu place own next None (Some t) w v → IsWorld v
+  pub pop_kept : (t : Tag) → RoundMoves cpu place own next None (Some t) w v → IsWorld v
   pop_kept t m = round_kept None (Some t) m (pops_keep w.stock place own next t (outside_of w) (outside (in_hands (set w.hands cpu (Some t))) (leased w.book) (set w.caches place next)) is.parts (record {
     on = on_cpu (set w.hands cpu (Some t)) m.goes;
     rounds = λ f. omega (arith, m.even f, sum_by-cons f t []);
@@ -126,17 +142,17 @@ module _ (cpu place : ℕ) (own next : OwnCacheState) (w v : WorldState) (is : I
   }))
 
 pub popped_keeps : (cpu arena cache : ℕ) (w v : WorldState) → IsWorld w → RoundPopped cpu arena cache w v → IsWorld v
-popped_keeps cpu arena cache w v is m = pop_kept cpu m.place m.own m.next w v is m.here.mine m.round m.moves
+popped_keeps cpu arena cache w v is m = pop_kept cpu m.place m.own m.next w v is m.here.mine.at m.round m.moves
 
 pub pushed_keeps : (cpu : ℕ) (w v : WorldState) → IsWorld w → RoundPushed cpu w v → IsWorld v
-pushed_keeps cpu w v is m = push_kept cpu m.place m.own m.next w v is m.takes.mine m.chunk m.moves
+pushed_keeps cpu w v is m = push_kept cpu m.place m.own m.next w v is m.takes.mine.at m.chunk m.moves
 
 pub own_move_keeps : (cpu arena cache : ℕ) (Does : (old new : CpuCacheState) → (before after : List SpaceState) → Type 0) (w v : WorldState) → IsWorld w → OwnMoves cpu arena cache Does w v → IsWorld v
 own_move_keeps cpu arena cache Does w v is m =
     let stay = plans_stay w.stock m.stock m.step.fixed in
     subst IsWorld (sym m.after) (record {
       parts = swaps_keep w.stock m.stock m.place m.own m.next (outside_of w) (outside (in_hands w.hands) (leased w.book) (set w.caches m.place m.next)) is.parts m.step
-          (on_cpu cpu m.place m.own m.next w v is m.here.mine w.hands m.goes) refl;
+          (on_cpu cpu m.place m.own m.next w v is m.here.mine.at w.hands m.goes) refl;
       named = is.named ∙ sym stay.0;
       few = is.few;
       names = is.names;
@@ -146,7 +162,7 @@ own_move_keeps cpu arena cache Does w v is m =
       known = is.known;
       said = is.said;
       tasks = is.tasks;
-      own = still_lone w.owners w.caches m.place m.own m.next is.own m.here.mine.at m.goes.same;
+      own = still_ordered w.owners w.caches m.place m.own m.next is.own m.here.mine.at m.goes.same;
       shaped = each_written (λ (o : OwnCacheState). IsShaped o.cpu) w.caches m.place m.next is.shaped m.goes.shaped;
       told = is.told;
     })

@@ -1,5 +1,5 @@
 -- A world that is set up is one.
-use Rattle.std.proofs.Common.{◌≡◌, ◌≢◌, ℕ, ◌≤◌, ◌^◌, List, [], ◌∷◌, ◌++◌, length, Option, Some, None, refl, sym, subst, ap}
+use Rattle.std.proofs.Common.{◌≡◌, ◌≢◌, ℕ, Bool, ◌≤◌, ◌^◌, List, [], ◌∷◌, ◌++◌, length, Option, Some, None, refl, sym, subst, ap}
 use Rattle.std.specs.Prelude.{nat_eq}
 use Rattle.std.specs.Option.{option_to_list}
 use Rattle.std.specs.List.{IsDistinct}
@@ -23,7 +23,7 @@ use Rattle.lease_history.proofs.LawProofs.{clients_begin_known}
 use Rattle.world_core.specs.declared.tasks.Task.{Task}
 use Rattle.world_core.specs.declared.logs.Logged.{Logged}
 use Rattle.world_core.specs.WorldState.{WorldState, arena_name, in_hands, entries_of, Each}
-use Rattle.world_core.specs.IsWorld.{IsWorld, AreNames, AreLone, MayBeSaid, IsOfLines}
+use Rattle.world_core.specs.IsWorld.{IsWorld, AreNames, AreInOrder, MayBeSaid, IsOfLines}
 use Rattle.world_core.proofs.Members.{each_pushed, distinct_more}
 
 nothing : {X : Type 0} (P : X → Type 0) → Each P []
@@ -33,12 +33,12 @@ none_twice : IsDistinct nat_eq []
 unfolding IsDistinct
 none_twice = tt
 
-no_caches : AreLone [] []
-no_caches = record { owned = refl; lone = λ i j cpu o p x y here there arena cache. absurd (let e : None ≡ Some o = here in cc) }
+no_caches : AreInOrder [] []
+no_caches = record { owned = refl; order = λ i j cpu o p less mine here yours there. absurd (let e : None ≡ Some o = here in cc) }
 
-made : (stock : List SpaceState) (names : List (List ℕ)) (book : BookState) → IsStock stock → Accounts stock [] → length names ≡ length stock → length names ≤ 2 ^ 32 → AreNames names
-    → IsHistory [] book → IsWorld (record { stock = stock; names = names; hands = []; tasks = []; owners = []; caches = []; book = book; entries = []; clients = []; requests = []; replies = [] })
-made stock names book sound balances named few apart empty = record {
+made : (stock : List SpaceState) (names : List (List ℕ)) (failed : List Bool) (book : BookState) → IsStock stock → Accounts stock [] → length names ≡ length stock → length names ≤ 2 ^ 32 → AreNames names
+    → IsHistory [] book → IsWorld (record { stock = stock; names = names; hands = []; tasks = []; failed = failed; owners = []; caches = []; book = book; entries = []; clients = []; requests = []; replies = [] })
+made stock names failed book sound balances named few apart empty = record {
   parts = subst (λ (accounts : List Account). IsAccountedFor stock (outside (in_hands []) (leased_by accounts) [])) (sym empty.accounts)
       (fresh_is_accounted stock (record { stock = sound; accounts = balances }));
   named = named;
@@ -55,11 +55,11 @@ made stock names book sound balances named few apart empty = record {
   told = nothing _;
 }
 
-pub born : (stock : List SpaceState) (names : List (List ℕ)) (book : BookState) (hands : List (Option Tag)) (tasks : List (Option Task)) (owners : List ℕ) (caches : List OwnCacheState) (log : List Logged) (clients : List ClientState)
+pub born : (stock : List SpaceState) (names : List (List ℕ)) (book : BookState) (hands : List (Option Tag)) (tasks : List (Option Task)) (failed : List Bool) (owners : List ℕ) (caches : List OwnCacheState) (log : List Logged) (clients : List ClientState)
     (requests : List Line) (replies : List Reply) → IsStock stock → Accounts stock [] → length names ≡ length stock → length names ≤ 2 ^ 32 → AreNames names → IsHistory [] book
     → hands ≡ [] → tasks ≡ [] → owners ≡ [] → caches ≡ [] → log ≡ [] → clients ≡ [] → requests ≡ [] → replies ≡ []
-    → IsWorld (record { stock = stock; names = names; hands = hands; tasks = tasks; owners = owners; caches = caches; book = book; entries = entries_of log; clients = clients; requests = requests; replies = replies })
-born stock names book hands tasks owners caches log clients requests replies sound balances named few apart empty h t o x l c q r =
+    → IsWorld (record { stock = stock; names = names; hands = hands; tasks = tasks; failed = failed; owners = owners; caches = caches; book = book; entries = entries_of log; clients = clients; requests = requests; replies = replies })
+born stock names book hands tasks failed owners caches log clients requests replies sound balances named few apart empty h t o x l c q r =
     let hs = sym h in
     let ts = sym t in
     let os = sym o in
@@ -68,19 +68,19 @@ born stock names book hands tasks owners caches log clients requests replies sou
     let cs = sym c in
     let qs = sym q in
     let rs = sym r in
-    subst IsWorld (λ j. record { stock = stock; names = names; hands = hs j; tasks = ts j; owners = os j; caches = xs j; book = book; entries = entries_of (ls j); clients = cs j; requests = qs j; replies = rs j })
-    (made stock names book sound balances named few apart empty)
+    subst IsWorld (λ j. record { stock = stock; names = names; hands = hs j; tasks = ts j; failed = failed; owners = os j; caches = xs j; book = book; entries = entries_of (ls j); clients = cs j; requests = qs j; replies = rs j })
+    (made stock names failed book sound balances named few apart empty)
 
 no_more : (hands : List (Option Tag)) → in_hands (hands ++ None ∷ []) ≡ in_hands hands
 no_more [] = refl
 no_more (h ∷ hands) = ap (λ (ts : List Tag). option_to_list h ++ ts) (no_more hands)
 
-pub cpu_added : (w : WorldState) (hands : List (Option Tag)) (tasks : List (Option Task)) → IsWorld w → hands ≡ w.hands ++ None ∷ [] → tasks ≡ w.tasks ++ None ∷ []
-    → IsWorld (record w { hands = hands; tasks = tasks })
-cpu_added w hands tasks is h t =
+pub cpu_added : (w : WorldState) (hands : List (Option Tag)) (tasks : List (Option Task)) (failed : List Bool) → IsWorld w → hands ≡ w.hands ++ None ∷ [] → tasks ≡ w.tasks ++ None ∷ []
+    → IsWorld (record w { hands = hands; tasks = tasks; failed = failed })
+cpu_added w hands tasks failed is h t =
     let hs = sym h in
     let ts = sym t in
-    subst IsWorld (λ j. record w { hands = hs j; tasks = ts j }) (record {
+    subst IsWorld (λ j. record w { hands = hs j; tasks = ts j; failed = failed }) (record {
       parts = subst (λ (out : List Tag). IsAccountedFor w.stock (outside out (leased w.book) w.caches)) (sym (no_more w.hands)) is.parts;
       named = is.named;
       few = is.few;

@@ -1,5 +1,5 @@
 -- What calls of the stock make of a world.
-use Rattle.std.proofs.Common.{◌≡◌, ℕ, List, [], set, Option, Some, sym, subst, ◌∙◌, arith}
+use Rattle.std.proofs.Common.{◌≡◌, ℕ, List, set, Option, Some, sym, subst, ◌∙◌, arith}
 use Rattle.std.specs.Prelude.{slice_get}
 use Rattle.std.specs.Option.{option_to_list}
 use Rattle.std.proofs.lemmas.Option.{slice_get_within}

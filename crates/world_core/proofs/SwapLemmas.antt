@@ -1,9 +1,7 @@
 -- How swaps with depots end events, and changes of magazines.
-use Rattle.std.proofs.Common.{◌≡◌, ◌≢◌, ◌⊎◌, ℕ, ◌+◌, ◌<◌, ◌≤◌, List, [], ◌∷◌, ◌++◌, length, set, Option, Some, None, Ok, Err, refl, sym, subst, ap, ◌∙◌, inl, inr, arith}
-use Rattle.std.specs.Prelude.{slice_get, sum_by}
+use Rattle.std.proofs.Common.{◌≡◌, ◌≢◌, ◌⊎◌, ℕ, ◌+◌, ◌<◌, ◌≤◌, List, [], ◌∷◌, ◌++◌, length, set, Ok, Err, refl, sym, subst, ap, ◌∙◌, inl, inr, arith}
 use Rattle.std.proofs.lemmas.List.{length-append}
 use Rattle.std.proofs.lemmas.List.Sums.{sum_by-append}
-use Rattle.deed_core.specs.Tag.{Tag}
 use Rattle.deed_core.specs.Weights.{WeighSame}
 use Rattle.magazine_layer.specs.Magazines.{CpuCacheState, MagazineState, IsSize, IsShaped, BothEmpty, BothFull, cache_rounds, empty_magazine, after_change}
 use Rattle.magazine_layer.specs.Depots.{DepotState}
@@ -24,7 +22,7 @@ use Rattle.world_core.specs.IsWorld.{IsWorld}
 use Rattle.world_core.specs.Events.{EndsAs, HasOwn, HasDepot, CanChange}
 use Rattle.world_core.specs.declared.events.WorldEvent.TheVariants as events
 use Rattle.world_core.specs.declared.events.EventFault.TheVariants as faults
-use Rattle.world_core.specs.declared.events.Outcome.TheVariants.{Done, NotEnabled, NoMemory, Refused}
+use Rattle.world_core.specs.declared.events.Outcome.TheVariants.{Done, NoMemory, Refused}
 use Rattle.world_core.proofs.CallLemmas.{depot_same}
 use Rattle.world_core.proofs.OwnLemmas.{one_own, caches_same}
 

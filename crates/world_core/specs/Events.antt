@@ -1,5 +1,5 @@
 -- The events, and what may become of a world at each.
-use Rattle.std.specs.Prelude.{◌≡◌, ◌≢◌, ◌⊎◌, ℕ, ◌<◌, ◌≤◌, true, false, All, List, [], ◌∷◌, length, slice_get, Option, Some, None, Ok, Err}
+use Rattle.std.specs.Prelude.{◌≡◌, ◌≢◌, ◌⊎◌, ℕ, ◌<◌, ◌≤◌, true, false, All, List, [], ◌∷◌, length, slice_get, Option, Some, None, Ok}
 use Rattle.deed_core.specs.Tag.{Tag}
 use Rattle.deed_core.specs.Request.{Fits, IsGood, plain_of}
 use Rattle.deed_core.specs.declared.requests.Request.{Request}
@@ -33,7 +33,7 @@ use Rattle.world_core.specs.declared.events.EventFault.{EventFault}
 use Rattle.world_core.specs.declared.events.EventFault.TheVariants as faults
 use Rattle.world_core.specs.declared.events.Outcome.TheVariants.{Done, NotEnabled, NoMemory, Refused}
 use Rattle.world_core.specs.WorldState.{WorldState, IsAmong}
-use Rattle.world_core.specs.Moves.{request_in, HasTask, IsNamed, ClientSays, ClientHears, HelloTaken, HelloRefused, AnsweredAtOnce, TaskTaken, TaskGranted, TaskRefused, TaskReleased, TaskAnswered, TaskGivenUp, HandMoves, PartMoves, LeaseSwept, IsOwnFor, TakesHand, RoundPopped, RoundPushed, OwnMoves, HasAllLeases, HasNoSuchLease}
+use Rattle.world_core.specs.Moves.{request_in, HasTask, IsNamed, ClientSays, ClientHears, HelloTaken, HelloRefused, AnsweredAtOnce, TaskTaken, TaskGranted, TaskRefused, TaskReleased, TaskAnswered, TaskGivenUp, HandMoves, PartMoves, LeaseSwept, IsOwnFor, TakesHand, RoundPopped, RoundPushed, HasRoundAt, HandAdopted, RoundAdopted, OwnMoves, HasAllLeases, HasNoSuchLease}
 
 -- what a CPU would lease: its hand's segment is of the arena that the lease names, and fits it
 pub record CanGrant (w : WorldState) (cpu : ℕ) (id : RequestId) (lease : LeaseLine) (segment : Tag)
@@ -114,6 +114,11 @@ pub record HasDepot (w : WorldState) (cpu arena cache : ℕ)
   pub at : IsCacheAt w.stock arena cache depot
   pub are : Are own.cpu depot.depot
 
+-- the CPU has a segment in its hand, or a round in a cache of its own
+abbrev pub HasSegment : WorldState → ℕ → Type 0
+HasSegment w cpu = ((t : Tag) × HasInHand w cpu (Some t))
+    ⊎ ((place : ℕ) × (own : OwnCacheState) × HasRoundAt w cpu place own)
+
 -- where an event can be tried: the client is there, or the CPU, its hand, its request and the
 -- message are as the event asks
 abbrev pub IsReady : WorldEvent → WorldState → Type 0
@@ -151,6 +156,8 @@ IsReady (events.SwapsFull cpu arena cache) w = HasOwn w cpu arena cache BothEmpt
 IsReady (events.SwapsEmpty cpu arena cache) w = HasOwn w cpu arena cache BothFull
 IsReady (events.SwapsFresh cpu arena cache) w = HasOwn w cpu arena cache BothFull
 IsReady (events.Changes cpu arena cache size) w = HasOwn w cpu arena cache (CanChange size)
+IsReady (events.Adopts cpu other) w = (cpu ≢ other) × (other < length w.failed)
+    × HasInHand w cpu None × HasSegment w other
 IsReady (events.Ticks arena cache) w = HasCache w.stock arena cache
 IsReady (events.Resizes arena cache size) w = HasCache w.stock arena cache × IsSize size
 
@@ -222,6 +229,7 @@ MayWantMemory (events.SlabReaps cpu arena cache) w = ⊥
 MayWantMemory (events.DepotReaps cpu arena cache) w = ⊥
 MayWantMemory (events.Pops cpu arena cache) w = ⊥
 MayWantMemory (events.Pushes cpu) w = ⊥
+MayWantMemory (events.Adopts cpu other) w = ⊥
 MayWantMemory (events.SwapsFull cpu arena cache) w = ⊥
 MayWantMemory (events.SwapsEmpty cpu arena cache) w = ⊥
 MayWantMemory (events.Ticks arena cache) w = ⊥
@@ -276,18 +284,57 @@ MovesBy (events.SwapsFresh cpu arena cache) old new = OwnMoves cpu arena cache
     old new
 MovesBy (events.Changes cpu arena cache size) old new = OwnMoves cpu arena cache
     (λ c x s v. (x ≡ after_change size c) × (v ≡ s)) old new
+MovesBy (events.Adopts cpu other) old new =
+    HandAdopted cpu other old new ⊎ RoundAdopted cpu other old new
 MovesBy (events.Ticks arena cache) old new =
     PartMoves (OnDepot arena cache (λ a b. b ≡ after_tick a)) old new
 MovesBy (events.Resizes arena cache size) old new =
     PartMoves (OnDepot arena cache (λ a b. ResizeOf a size (Ok tt) b)) old new
 
--- how an event ends: by its move where it can happen, or, there alone, out of memory; else by its
--- part's refusal, or as not enabled where it can't even be tried. But for the move nothing changes
+-- how an event ends that isn't of a CPU that has failed: by its move where it can happen, or, there
+-- alone, out of memory; else by its part's refusal, or as not enabled where it can't even be tried.
+-- But for the move nothing changes
 abbrev pub EndsAs : WorldEvent → Outcome → (old new : WorldState) → Type 0
 EndsAs event Done old new = IsEnabled event old × MovesBy event old new
 EndsAs event NotEnabled old new = (¬ IsReady event old) × (new ≡ old)
 EndsAs event (Refused why) old new = PartRefuses event why old × (new ≡ old)
 EndsAs event NoMemory old new = MayWantMemory event old × (new ≡ old)
+
+-- the CPU whose event it is, if it is a CPU's
+abbrev pub cpu_of : WorldEvent → Option ℕ
+cpu_of (events.Looks cpu which) = Some cpu
+cpu_of (events.Settles cpu) = Some cpu
+cpu_of (events.Declines cpu why) = Some cpu
+cpu_of (events.GivesUp cpu) = Some cpu
+cpu_of (events.Releases cpu) = Some cpu
+cpu_of (events.Sweeps cpu c) = Some cpu
+cpu_of (events.Carves cpu arena q) = Some cpu
+cpu_of (events.Frees cpu) = Some cpu
+cpu_of (events.AddCarves cpu child size) = Some cpu
+cpu_of (events.SlabTakes cpu arena cache) = Some cpu
+cpu_of (events.SlabPuts cpu) = Some cpu
+cpu_of (events.SlabAdds cpu arena cache) = Some cpu
+cpu_of (events.SlabReaps cpu arena cache) = Some cpu
+cpu_of (events.DepotReaps cpu arena cache) = Some cpu
+cpu_of (events.Pops cpu arena cache) = Some cpu
+cpu_of (events.Pushes cpu) = Some cpu
+cpu_of (events.SwapsFull cpu arena cache) = Some cpu
+cpu_of (events.SwapsEmpty cpu arena cache) = Some cpu
+cpu_of (events.SwapsFresh cpu arena cache) = Some cpu
+cpu_of (events.Changes cpu arena cache size) = Some cpu
+cpu_of (events.Adopts cpu other) = Some cpu
+cpu_of event = None
+
+-- it is of a CPU that has failed
+abbrev pub IsOfFailed : WorldEvent → WorldState → Type 0
+IsOfFailed event w = (cpu : ℕ) × (cpu_of event ≡ Some cpu) × (slice_get w.failed cpu ≡ Some true)
+
+-- what becomes of an event: one of a CPU that has failed isn't enabled and changes nothing, and any
+-- other ends as said above
+abbrev pub HappensAs : WorldEvent → Outcome → (old new : WorldState) → Type 0
+HappensAs event outcome old new =
+    (IsOfFailed event old × (outcome ≡ NotEnabled) × (new ≡ old))
+    ⊎ ((¬ IsOfFailed event old) × EndsAs event outcome old new)
 
 -- the move is made, or memory was refused
 abbrev pub Tries : (WorldState → WorldState → Type 0) → Outcome → (old new : WorldState) → Type 0
@@ -300,5 +347,5 @@ Tries Move NoMemory old new = new ≡ old
 abbrev pub HappensTo : List WorldEvent → List Outcome → (old new : WorldState) → Type 0
 HappensTo [] [] old new = new ≡ old
 HappensTo (event ∷ events) (outcome ∷ outcomes) old new =
-    (next : WorldState) × EndsAs event outcome old next × HappensTo events outcomes next new
+    (next : WorldState) × HappensAs event outcome old next × HappensTo events outcomes next new
 HappensTo events outcomes old new = ⊥

@@ -1,5 +1,5 @@
 -- What every world is.
-use Rattle.std.specs.Prelude.{◌≡◌, ℕ, ◌<◌, ◌≤◌, ◌^◌, nat_eq, List, length, map, slice_get, Option, Some, None}
+use Rattle.std.specs.Prelude.{◌≡◌, ◌⊎◌, ℕ, ◌<◌, ◌≤◌, ◌^◌, nat_eq, List, length, map, slice_get, Option, Some, None}
 use Rattle.std.specs.List.{IsDistinct}
 use Rattle.deed_core.specs.Tag.{Tag}
 use Rattle.stock.specs.Spaces.{SpaceState}
@@ -56,12 +56,17 @@ abbrev pub IsOfLines : List Line → Option Task → Type 0
 IsOfLines requests None = Unit {0}
 IsOfLines requests (Some task) = IsAmong (lines.Request task.id task.op) requests
 
--- each cache has its CPU, and no CPU has two for one quantum cache
-pub record AreLone (owners : List ℕ) (caches : List OwnCacheState) : Type 0 where
+-- the one is for a cache that stands before the other's: of an earlier arena, or of the same with a
+-- smaller number
+abbrev pub IsBefore : OwnCacheState → OwnCacheState → Type 0
+IsBefore o p = (o.arena < p.arena) ⊎ ((o.arena ≡ p.arena) × (o.cache < p.cache))
+
+-- each cache has its CPU, and those of one CPU stand by arena and then by number
+pub record AreInOrder (owners : List ℕ) (caches : List OwnCacheState) : Type 0 where
   pub owned : length owners ≡ length caches
-  pub lone : (i j cpu : ℕ) (o p : OwnCacheState) → slice_get owners i ≡ Some cpu
-      → slice_get owners j ≡ Some cpu → slice_get caches i ≡ Some o → slice_get caches j ≡ Some p
-      → o.arena ≡ p.arena → o.cache ≡ p.cache → i ≡ j
+  pub order : (i j cpu : ℕ) (o p : OwnCacheState) → i < j
+      → slice_get owners i ≡ Some cpu → slice_get caches i ≡ Some o
+      → slice_get owners j ≡ Some cpu → slice_get caches j ≡ Some p → IsBefore o p
 
 -- What the parts have given is in hands, in CPUs' caches or leased; loaded magazines have at most
 -- their size, and previous ones none or as many; the book is what is read off the entries, of which
@@ -78,6 +83,6 @@ pub record IsWorld (w : WorldState) : Type 0 where
   pub known : Each (IsKnown (arena_name w.names) w.entries) w.clients
   pub said : Each (λ c. Each (MayBeSaid c) w.requests) w.clients
   pub tasks : Each (IsOfLines w.requests) w.tasks
-  pub own : AreLone w.owners w.caches
+  pub own : AreInOrder w.owners w.caches
   pub shaped : Each (λ o. IsShaped o.cpu) w.caches
   pub told : Each (MayTell (arena_name w.names) w.entries) w.replies

@@ -4,3 +4,4 @@ pub mod IsWorld
 pub mod Events
 pub mod Safe
 pub mod Setups
+pub mod Ends

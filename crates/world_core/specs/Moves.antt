@@ -1,12 +1,12 @@
 -- What may become of a world at one event, each case by its condition and its move. The parts' own
 -- relations say what a call of them does; all that a move doesn't name stays.
-use Rattle.std.specs.Prelude.{◌≡◌, ℕ, ◌+◌, ◌<◌, ◌≤◌, List, [], ◌∷◌, ◌++◌, length, set, slice_get, sum_by, Option, Some, None, Ok}
+use Rattle.std.specs.Prelude.{◌≡◌, ℕ, true, ◌+◌, ◌<◌, ◌≤◌, List, [], ◌∷◌, ◌++◌, length, set, slice_get, sum_by, Option, Some, None, Ok}
 use Rattle.std.specs.List.{find}
 use Rattle.std.specs.Option.{option_to_list}
 use Rattle.deed_core.specs.Tag.{Tag}
 use Rattle.deed_core.specs.declared.requests.Request.{Request}
 use Rattle.stock.specs.Spaces.{SpaceState}
-use Rattle.magazine_layer.specs.Magazines.{CpuCacheState, IsShaped}
+use Rattle.magazine_layer.specs.Magazines.{CpuCacheState, IsShaped, BothEmpty}
 use Rattle.magazine_layer.specs.Calls.{PopOf, PushOf}
 use Rattle.stock.specs.OwnCaches.{OwnCacheState, IsOwnCache, IsAtPlaceOf, own_rounds}
 use Rattle.stock.specs.Steps.{HasQuantum}
@@ -340,3 +340,39 @@ pub record OwnMoves (cpu arena cache : ℕ)
   pub goes : OwnGoesOn own next
   pub step : IsStep old.stock (own_rounds own) stock (own_rounds next)
   pub after : new ≡ record old { stock = stock; caches = set old.caches place next }
+
+-- the CPU has failed, and what it served is forgotten
+abbrev pub failing : ℕ → WorldState → WorldState
+failing cpu w = record w { tasks = set w.tasks cpu None; failed = set w.failed cpu true }
+
+-- the segment in another CPU's hand comes into the CPU's empty hand; the other has failed
+pub record HandAdopted (cpu other : ℕ) (old new : WorldState) : Type 0 where
+  pub segment : Tag
+  pub empty : slice_get old.hands cpu ≡ Some None
+  pub holds : slice_get old.hands other ≡ Some (Some segment)
+  pub after : new ≡ failing other
+      (record old { hands = set (set old.hands other None) cpu (Some segment) })
+
+-- the CPU's own cache at this place of the list has a round
+pub record HasRoundAt (w : WorldState) (cpu place : ℕ) (own : OwnCacheState) : Type 0 where
+  pub mine : IsOwnOf w cpu place own
+  pub some : ¬ BothEmpty own.cpu
+
+-- and none of its caches before has one
+pub record IsFirstWithRound (w : WorldState) (cpu place : ℕ) (own : OwnCacheState) : Type 0 where
+  pub has : HasRoundAt w cpu place own
+  pub first : (k : ℕ) (o : OwnCacheState) → k < place → ¬ HasRoundAt w cpu k o
+
+-- where another CPU's hand has nothing, the round that the first of its own caches with any gives
+-- comes into the CPU's empty hand; the other has failed
+pub record RoundAdopted (cpu other : ℕ) (old new : WorldState) : Type 0 where
+  pub place : ℕ
+  pub own : OwnCacheState
+  pub next : OwnCacheState
+  pub round : Tag
+  pub between : WorldState
+  pub none : (t : Tag) → ¬ (slice_get old.hands other ≡ Some (Some t))
+  pub first : IsFirstWithRound old other place own
+  pub pops : PopOf own.cpu (Some round) next.cpu
+  pub moves : RoundMoves cpu place own next None (Some round) old between
+  pub after : new ≡ failing other between

@@ -1,5 +1,5 @@
 -- What contracts see of a world.
-use Rattle.std.specs.Prelude.{◌≡◌, ℕ, List, [], get_or, slice_get, reverse, map, Option, Some}
+use Rattle.std.specs.Prelude.{◌≡◌, ℕ, Bool, List, [], get_or, slice_get, reverse, map, Option, Some}
 use Rattle.std.specs.List.{flat_map}
 use Rattle.std.specs.Option.{option_to_list}
 use Rattle.deed_core.specs.Tag.{Tag}
@@ -15,15 +15,16 @@ use Rattle.world_core.specs.declared.tasks.Task.{Task}
 use Rattle.world_core.specs.declared.logs.Logged.{Logged}
 use Rattle.world_core.specs.declared.logs.Logged.TheVariants as logged
 
--- the parts, and the name of each arena; of each CPU the segment in its hand and the request that it
--- serves; the caches of all CPUs, with the CPU of each; the book, with the list of all its entries,
--- newest first; the clients; and all lines and
--- replies that were ever sent, oldest first
+-- the parts, and the name of each arena; of each CPU the segment in its hand, the request that it
+-- serves, and whether it has failed; the caches of all CPUs, with the CPU of each; the book, with
+-- the list of all its entries, newest first; the clients; and all lines and replies that were ever
+-- sent, oldest first
 pub record WorldState : Type 0 where
   pub stock : List SpaceState
   pub names : List (List ℕ)
   pub hands : List (Option Tag)
   pub tasks : List (Option Task)
+  pub failed : List Bool
   pub owners : List ℕ
   pub caches : List OwnCacheState
   pub book : BookState

@@ -1,4 +1,7 @@
 //! What may happen to a world.
+ghost use Rattle.std.specs.Prelude.{◌≡◌};
+ghost use Rattle.world_core.specs.Events.{cpu_of};
+
 use deed_core::Request;
 use lease_proto::Op;
 use lease_terms::{ClientId, Refusal};
@@ -134,6 +137,12 @@ pub enum WorldEvent {
         cache: usize,
         size: usize,
     },
+    /// A CPU takes over what another has that has failed: its hand's segment, or else one of its
+    /// rounds. Who is named so has failed from then on, and has no further events.
+    Adopts {
+        cpu: usize,
+        other: usize,
+    },
     /// An interval begins in a depot.
     Ticks {
         arena: usize,
@@ -188,4 +197,34 @@ pub enum Outcome {
     Refused(EventFault),
     /// Out of memory.
     NoMemory,
+}
+
+/// The CPU whose event it is, if it is a CPU's.
+pub(crate) fn cpu_of(event: &WorldEvent) -> Option<usize>
+    ensures { result ≡ cpu_of event.now }
+{
+    match *event {
+        WorldEvent::Looks { cpu, .. } => Some(cpu),
+        WorldEvent::Settles { cpu, .. } => Some(cpu),
+        WorldEvent::Declines { cpu, .. } => Some(cpu),
+        WorldEvent::GivesUp { cpu, .. } => Some(cpu),
+        WorldEvent::Releases { cpu, .. } => Some(cpu),
+        WorldEvent::Sweeps { cpu, .. } => Some(cpu),
+        WorldEvent::Carves { cpu, .. } => Some(cpu),
+        WorldEvent::Frees { cpu, .. } => Some(cpu),
+        WorldEvent::AddCarves { cpu, .. } => Some(cpu),
+        WorldEvent::SlabTakes { cpu, .. } => Some(cpu),
+        WorldEvent::SlabPuts { cpu, .. } => Some(cpu),
+        WorldEvent::SlabAdds { cpu, .. } => Some(cpu),
+        WorldEvent::SlabReaps { cpu, .. } => Some(cpu),
+        WorldEvent::DepotReaps { cpu, .. } => Some(cpu),
+        WorldEvent::Pops { cpu, .. } => Some(cpu),
+        WorldEvent::Pushes { cpu, .. } => Some(cpu),
+        WorldEvent::SwapsFull { cpu, .. } => Some(cpu),
+        WorldEvent::SwapsEmpty { cpu, .. } => Some(cpu),
+        WorldEvent::SwapsFresh { cpu, .. } => Some(cpu),
+        WorldEvent::Changes { cpu, .. } => Some(cpu),
+        WorldEvent::Adopts { cpu, .. } => Some(cpu),
+        _ => None,
+    }
 }

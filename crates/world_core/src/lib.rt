@@ -10,20 +10,25 @@
 //! each grant was asked for and fits, what clients hold is leased to them and no unit of a space is
 //! in two segments that they hold, and any two replies that settle one request are equal.
 //!
-//! [`World::new`] makes one of a setup: all spans are free, CPUs are idle, and nothing was said.
-//! Begin with [`World::step`] and `specs/Events.antt`: where each event can be tried, where it can
-//! happen, why its part refuses it, and what may become of a world at it; `specs/Moves.antt` has the
-//! moves. No CPU fails here yet, and none gets its own caches by a public call yet. What holds of
-//! every list of events holds from any world that is one.
+//! [`World::new`] makes one of a setup: all spans are free, CPUs are idle, each with empty caches
+//! of its own, and nothing was said; [`World::end`] takes one apart whatever is out, and closes
+//! each deed. Begin with [`World::step`] and `specs/Events.antt`: where each event can be tried,
+//! where it can happen, why its part refuses it, and what may become of a world at it;
+//! `specs/Moves.antt` has the moves. A CPU that another adopts from has failed: it has no further
+//! events, and what it had goes to others, one segment an event. What holds of every list of events
+//! holds from any world that is one.
 //!
 //! What it costs: a world keeps each line, reply and entry of the book for good. An event takes the
 //! time of its part's call, and a release looks the name of its arena up among all names.
 #![tactic(auto)]
 
+mod adopting;
 mod audits;
 mod booking;
 mod carving;
+mod closing;
 mod depots;
+mod ending;
 mod events;
 mod hands;
 mod laws;
@@ -31,8 +36,11 @@ mod logs;
 mod looking;
 mod making;
 mod names;
+mod own_setups;
 mod parts;
 mod releasing;
+mod reports;
+mod returning;
 mod rounds;
 mod setups;
 mod slabs;

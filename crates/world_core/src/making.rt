@@ -1,9 +1,10 @@
 //! A world is made of a setup: all that can fail comes before there is a segment.
 ghost use Rattle.std.specs.Prelude.{◌≡◌, ◌+◌, ◌<◌, ◌≤◌, ◌++◌, All, true, map, IfOk, None};
-ghost use Rattle.std.specs.Prelude.{replicate, vec_len, vec_capacity};
+ghost use Rattle.std.specs.Prelude.{replicate, false, vec_len, vec_capacity};
 ghost use Rattle.lease_terms.specs.Names.{is_name};
 ghost use Rattle.world_core.specs.Setups.{IsSetUp};
 
+use crate::own_setups::{FIRST_MAGAZINE_SIZE, OwnCaches};
 use crate::parts::WorldParts;
 use crate::worlds::World;
 use arena_tree::{Setup, Tree};
@@ -13,12 +14,10 @@ use lease_terms::Name;
 use std::alloc::{AllocError, Global};
 use stock::plain_stock;
 
-/// The rounds of the first magazines.
-const FIRST_MAGAZINE_SIZE: usize = 3;
-
 impl World<PlainDeed> {
-    /// The world of a setup: all its spans are free, and so many CPUs, 1 to 64, have nothing to do.
-    /// Nothing was said or leased yet, and there is no client: `add_client` adds one.
+    /// The world of a setup: all its spans are free, and so many CPUs, 1 to 64, have nothing to do,
+    /// each with empty caches of its own. Nothing was said or leased yet, and there is no client:
+    /// `add_client` adds one.
     pub fn new(alloc: Global, setup: &Setup, cpus: usize) -> Result<World<PlainDeed>, AllocError>
         requires some { 0 < cpus }
         requires few { cpus ≤ 64 }
@@ -26,11 +25,18 @@ impl World<PlainDeed> {
     {
         let names = names_of(alloc, setup.tree())?;
         let mut tasks = Vec::with_capacity(alloc, cpus)?;
+        let failed = vec![in alloc; false; cpus]?;
         let mut hands = Vec::with_capacity(alloc, cpus)?;
-        let Ok(stock) = plain_stock(alloc, setup, FIRST_MAGAZINE_SIZE) else {
+        let Ok(own) = OwnCaches::of(alloc, setup.tree(), cpus) else {
             hands.destroy_empty();
             return Err(AllocError);
         };
+        let Ok(stock) = plain_stock(alloc, setup, FIRST_MAGAZINE_SIZE) else {
+            own.close();
+            hands.destroy_empty();
+            return Err(AllocError);
+        };
+        let OwnCaches { owners, caches } = own;
         // For its clause: what is always so of a stock.
         let _ = stock.count();
         fill_empty(&mut tasks, cpus);
@@ -43,8 +49,9 @@ impl World<PlainDeed> {
                 names,
                 hands,
                 tasks,
-                owners: Vec::new(alloc),
-                caches: Vec::new(alloc),
+                failed,
+                owners,
+                caches,
                 book: Book::new(alloc, mark),
                 log: Vec::new(alloc),
                 clients: Vec::new(alloc),

@@ -9,7 +9,7 @@ ghost use Rattle.lease_proto.specs.declared.lines.ReleaseLine.{ReleaseLine};
 ghost use Rattle.world_core.specs.declared.tasks.Task.{Task};
 ghost use Rattle.world_core.specs.IsWorld.{IsWorld};
 ghost use Rattle.world_core.specs.Moves.{HasTask};
-ghost use Rattle.world_core.specs.Events.{IsIdle, EndsAs};
+ghost use Rattle.world_core.specs.Events.{IsIdle, EndsAs, HappensAs};
 
 use crate::events::{Outcome, WorldEvent};
 use crate::logs::Logged;
@@ -30,6 +30,7 @@ pub(crate) struct WorldParts<D: Deed> {
     pub(crate) names: Vec<Name>,
     pub(crate) hands: Vec<Option<Segment<D>>>,
     pub(crate) tasks: Vec<Option<Task>>,
+    pub(crate) failed: Vec<bool>,
     pub(crate) owners: Vec<usize>,
     pub(crate) caches: Vec<OwnCache<D>>,
     pub(crate) book: Book<D>,
@@ -56,6 +57,7 @@ impl<D: Deed> Model for WorldParts<D> {
       names = w.names.items;
       hands = w.hands.items;
       tasks = w.tasks.items;
+      failed = w.failed.items;
       owners = w.owners.items;
       caches = w.caches.items;
       book = w.book;
@@ -151,6 +153,17 @@ impl<D: Deed> WorldParts<D> {
     /// Lets an event happen.
     pub(crate) fn step(&mut self, event: WorldEvent) -> Outcome
         requires world { IsWorld self.old }
+        ensures { HappensAs event result self.old self.new }
+    {
+        if self.is_of_failed(&event) {
+            return Outcome::NotEnabled;
+        }
+        self.happen(event)
+    }
+
+    /// The same where it isn't of a CPU that has failed.
+    fn happen(&mut self, event: WorldEvent) -> Outcome
+        requires world { IsWorld self.old }
         ensures { EndsAs event result self.old self.new }
     {
         match event {
@@ -190,6 +203,7 @@ impl<D: Deed> WorldParts<D> {
                 cache,
                 size,
             } => self.change(cpu, arena, cache, size),
+            WorldEvent::Adopts { cpu, other } => self.adopt(cpu, other),
             WorldEvent::Ticks { arena, cache } => self.tick(arena, cache),
             WorldEvent::Resizes { arena, cache, size } => self.resize(arena, cache, size),
         }

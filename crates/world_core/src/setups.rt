@@ -1,5 +1,5 @@
 //! How a world is set up.
-ghost use Rattle.std.specs.Prelude.{◌≡◌, ◌≢◌, ◌≤◌, ◌^◌, [], ◌∷◌, ◌++◌, length, OnOk, OnErr, None};
+ghost use Rattle.std.specs.Prelude.{◌≡◌, ◌≢◌, ◌≤◌, ◌^◌, [], ◌∷◌, ◌++◌, length, OnOk, OnErr, None, false};
 ghost use Rattle.stock.specs.Accounts.{Accounts};
 ghost use Rattle.lease_book.specs.BookState.{IsHistory};
 ghost use Rattle.lease_client.specs.ClientState.{silent};
@@ -29,6 +29,7 @@ impl<D: Deed> World<D> {
           names = names.items;
           hands = [];
           tasks = [];
+          failed = [];
           owners = [];
           caches = [];
           book = book;
@@ -47,6 +48,7 @@ impl<D: Deed> World<D> {
                 names,
                 hands: Vec::new(alloc),
                 tasks: Vec::new(alloc),
+                failed: Vec::new(alloc),
                 owners: Vec::new(alloc),
                 caches: Vec::new(alloc),
                 book,
@@ -63,6 +65,7 @@ impl<D: Deed> World<D> {
         ensures added { OnOk result (self.new ≡ record self.old {
           hands = self.old.hands ++ None ∷ [];
           tasks = self.old.tasks ++ None ∷ [];
+          failed = self.old.failed ++ false ∷ [];
         }) }
         ensures err { OnErr result (self.new ≡ self.old) }
     {
@@ -73,8 +76,12 @@ impl<D: Deed> World<D> {
         let Ok(()) = parts.tasks.reserve(1) else {
             return Err(AllocError);
         };
+        let Ok(()) = parts.failed.reserve(1) else {
+            return Err(AllocError);
+        };
         parts.hands.push_reserved(None);
         parts.tasks.push_reserved(None);
+        parts.failed.push_reserved(false);
         Ok(())
     }
 

@@ -1,6 +1,6 @@
 //! The world.
 ghost use Rattle.std.specs.Prelude.{◌≡◌, IfOk, OnErr};
-ghost use Rattle.world_core.specs.Events.{EndsAs, HappensTo};
+ghost use Rattle.world_core.specs.Events.{HappensAs, HappensTo};
 ghost use Rattle.world_core.specs.Safe.{Safe};
 
 use crate::events::{Outcome, WorldEvent};
@@ -35,7 +35,7 @@ impl<D: Deed> Model for World<D> {
 impl<D: Deed> World<D> {
     /// Lets an event happen.
     pub fn step(&mut self, event: WorldEvent) -> Outcome
-        ensures ended { EndsAs event result self.old self.new }
+        ensures ended { HappensAs event result self.old self.new }
         ensures safe { Safe self.new }
     {
         self.parts.step(event)

@@ -9,7 +9,7 @@ use Rattle.world_core.proofs.parts.WorldParts.add_carve.Goals as goal
 
 pub returns-in-Ok : goal.returns-in-Ok
 returns-in-Ok g c =
-    let w : WorldState = record { stock = c.self.inside.stock; names = c.self.inside.names.items; owners = c.self.inside.owners.items; caches = c.self.inside.caches.items; hands = c.self.inside.hands.items; tasks = c.self.inside.tasks.items; book = c.self.inside.book; entries = entries_of c.self.inside.log.items; clients = c.self.inside.clients.items; requests = c.self.inside.requests.items; replies = c.self.inside.replies.items } in
+    let w : WorldState = record { stock = c.self.inside.stock; names = c.self.inside.names.items; owners = c.self.inside.owners.items; caches = c.self.inside.caches.items; hands = c.self.inside.hands.items; tasks = c.self.inside.tasks.items; failed = c.self.inside.failed.items; book = c.self.inside.book; entries = entries_of c.self.inside.log.items; clients = c.self.inside.clients.items; requests = c.self.inside.requests.items; replies = c.self.inside.replies.items } in
     let view : w ≡ c.args.self.now = c.self.view_is in
     let ready : IsReady (events.AddCarves c.args.cpu c.args.child c.args.size) w = (let e : IsReady (events.AddCarves c.args.cpu c.args.child c.args.size) c.args.self.now = search rules in subst (λ (x : WorldState). IsReady (events.AddCarves c.args.cpu c.args.child c.args.size) x) (sym view) e) in
     let v : WorldState = record w { stock = c.add_carve-imported.new.self; hands = c.put.new.hands.items } in
@@ -18,13 +18,13 @@ returns-in-Ok g c =
 
 pub put-requires-in-NoMemory : goal.put-requires-in-NoMemory
 put-requires-in-NoMemory g c =
-    let w : WorldState = record { stock = c.self.inside.stock; names = c.self.inside.names.items; owners = c.self.inside.owners.items; caches = c.self.inside.caches.items; hands = c.self.inside.hands.items; tasks = c.self.inside.tasks.items; book = c.self.inside.book; entries = entries_of c.self.inside.log.items; clients = c.self.inside.clients.items; requests = c.self.inside.requests.items; replies = c.self.inside.replies.items } in
+    let w : WorldState = record { stock = c.self.inside.stock; names = c.self.inside.names.items; owners = c.self.inside.owners.items; caches = c.self.inside.caches.items; hands = c.self.inside.hands.items; tasks = c.self.inside.tasks.items; failed = c.self.inside.failed.items; book = c.self.inside.book; entries = entries_of c.self.inside.log.items; clients = c.self.inside.clients.items; requests = c.self.inside.requests.items; replies = c.self.inside.replies.items } in
     let view : w ≡ c.args.self.now = c.self.view_is in
     record { empty = emptied w.hands c.take-span.new.hands.items c.args.cpu c.take-span.result c.take-span.ensures.held c.take-span.ensures.emptied }
 
 pub returns-in-NoMemory : goal.returns-in-NoMemory
 returns-in-NoMemory g c =
-    let w : WorldState = record { stock = c.self.inside.stock; names = c.self.inside.names.items; owners = c.self.inside.owners.items; caches = c.self.inside.caches.items; hands = c.self.inside.hands.items; tasks = c.self.inside.tasks.items; book = c.self.inside.book; entries = entries_of c.self.inside.log.items; clients = c.self.inside.clients.items; requests = c.self.inside.requests.items; replies = c.self.inside.replies.items } in
+    let w : WorldState = record { stock = c.self.inside.stock; names = c.self.inside.names.items; owners = c.self.inside.owners.items; caches = c.self.inside.caches.items; hands = c.self.inside.hands.items; tasks = c.self.inside.tasks.items; failed = c.self.inside.failed.items; book = c.self.inside.book; entries = entries_of c.self.inside.log.items; clients = c.self.inside.clients.items; requests = c.self.inside.requests.items; replies = c.self.inside.replies.items } in
     let view : w ≡ c.args.self.now = c.self.view_is in
     let ready : IsReady (events.AddCarves c.args.cpu c.args.child c.args.size) w = (let e : IsReady (events.AddCarves c.args.cpu c.args.child c.args.size) c.args.self.now = search rules in subst (λ (x : WorldState). IsReady (events.AddCarves c.args.cpu c.args.child c.args.size) x) (sym view) e) in
     let v : WorldState = record w { stock = c.add_carve-imported.new.self; hands = c.put-in-NoMemory.new.hands.items } in
@@ -33,14 +33,14 @@ returns-in-NoMemory g c =
 
 pub unreachable-requires : goal.unreachable-requires
 unreachable-requires g c =
-    let w : WorldState = record { stock = c.self.inside.stock; names = c.self.inside.names.items; owners = c.self.inside.owners.items; caches = c.self.inside.caches.items; hands = c.self.inside.hands.items; tasks = c.self.inside.tasks.items; book = c.self.inside.book; entries = entries_of c.self.inside.log.items; clients = c.self.inside.clients.items; requests = c.self.inside.requests.items; replies = c.self.inside.replies.items } in
+    let w : WorldState = record { stock = c.self.inside.stock; names = c.self.inside.names.items; owners = c.self.inside.owners.items; caches = c.self.inside.caches.items; hands = c.self.inside.hands.items; tasks = c.self.inside.tasks.items; failed = c.self.inside.failed.items; book = c.self.inside.book; entries = entries_of c.self.inside.log.items; clients = c.self.inside.clients.items; requests = c.self.inside.requests.items; replies = c.self.inside.replies.items } in
     let view : w ≡ c.args.self.now = c.self.view_is in
     let world : IsWorld w = subst IsWorld (sym view) c.requires.world in
     only_memory c.in-Err.fault (λ b e. c.in_default.not-NoMemory b e) (c.in-Err.ensures.never (others w c.args.cpu) (held_out w c.args.cpu c.take-span.result world c.take-span.ensures.held).accounts)
 
 pub add_carve-imported-requires : goal.add_carve-imported-requires
 add_carve-imported-requires g c =
-    let w : WorldState = record { stock = c.self.inside.stock; names = c.self.inside.names.items; owners = c.self.inside.owners.items; caches = c.self.inside.caches.items; hands = c.self.inside.hands.items; tasks = c.self.inside.tasks.items; book = c.self.inside.book; entries = entries_of c.self.inside.log.items; clients = c.self.inside.clients.items; requests = c.self.inside.requests.items; replies = c.self.inside.replies.items } in
+    let w : WorldState = record { stock = c.self.inside.stock; names = c.self.inside.names.items; owners = c.self.inside.owners.items; caches = c.self.inside.caches.items; hands = c.self.inside.hands.items; tasks = c.self.inside.tasks.items; failed = c.self.inside.failed.items; book = c.self.inside.book; entries = entries_of c.self.inside.log.items; clients = c.self.inside.clients.items; requests = c.self.inside.requests.items; replies = c.self.inside.replies.items } in
     let view : w ≡ c.args.self.now = c.self.view_is in
     let ready : IsReady (events.AddCarves c.args.cpu c.args.child c.args.size) w = (let e : IsReady (events.AddCarves c.args.cpu c.args.child c.args.size) c.args.self.now = search rules in subst (λ (x : WorldState). IsReady (events.AddCarves c.args.cpu c.args.child c.args.size) x) (sym view) e) in
     record {

@@ -12,7 +12,7 @@ use Rattle.world_core.proofs.parts.WorldParts.audit.Goals as goal
 
 pub audit_units-requires-clause-balanced : goal.audit_units-requires-clause-balanced
 audit_units-requires-clause-balanced g c =
-    let w : WorldState = record { stock = c.self.inside.stock; names = c.self.inside.names.items; owners = c.self.inside.owners.items; caches = c.self.inside.caches.items; hands = c.self.inside.hands.items; tasks = c.self.inside.tasks.items; book = c.self.inside.book; entries = entries_of c.self.inside.log.items; clients = c.self.inside.clients.items; requests = c.self.inside.requests.items; replies = c.self.inside.replies.items } in
+    let w : WorldState = record { stock = c.self.inside.stock; names = c.self.inside.names.items; owners = c.self.inside.owners.items; caches = c.self.inside.caches.items; hands = c.self.inside.hands.items; tasks = c.self.inside.tasks.items; failed = c.self.inside.failed.items; book = c.self.inside.book; entries = entries_of c.self.inside.log.items; clients = c.self.inside.clients.items; requests = c.self.inside.requests.items; replies = c.self.inside.replies.items } in
     let view : w ≡ c.args.self.now = c.self.view_is in
     let world : IsWorld w = subst IsWorld (sym view) c.requires.world in
     let within : c.args.arena < length w.stock = omega (arith, world.named, ap (λ (x : WorldState). length x.names) view, c.requires.within) in
@@ -25,7 +25,7 @@ audit_units-requires-clause-balanced g c =
 
 pub returns : goal.returns
 returns g c =
-    let w : WorldState = record { stock = c.self.inside.stock; names = c.self.inside.names.items; owners = c.self.inside.owners.items; caches = c.self.inside.caches.items; hands = c.self.inside.hands.items; tasks = c.self.inside.tasks.items; book = c.self.inside.book; entries = entries_of c.self.inside.log.items; clients = c.self.inside.clients.items; requests = c.self.inside.requests.items; replies = c.self.inside.replies.items } in
+    let w : WorldState = record { stock = c.self.inside.stock; names = c.self.inside.names.items; owners = c.self.inside.owners.items; caches = c.self.inside.caches.items; hands = c.self.inside.hands.items; tasks = c.self.inside.tasks.items; failed = c.self.inside.failed.items; book = c.self.inside.book; entries = entries_of c.self.inside.log.items; clients = c.self.inside.clients.items; requests = c.self.inside.requests.items; replies = c.self.inside.replies.items } in
     let view : w ≡ c.args.self.now = c.self.view_is in
     let world : IsWorld w = subst IsWorld (sym view) c.requires.world in
     let within : c.args.arena < length w.stock = omega (arith, world.named, ap (λ (x : WorldState). length x.names) view, c.requires.within) in

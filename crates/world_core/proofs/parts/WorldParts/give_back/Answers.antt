@@ -10,7 +10,7 @@ use Rattle.world_core.proofs.parts.WorldParts.give_back.Goals as goal
 
 pub returns-in-Ok-release : goal.returns-in-Ok-release
 returns-in-Ok-release g c =
-    let w : WorldState = record { stock = c.self.inside.stock; names = c.self.inside.names.items; owners = c.self.inside.owners.items; caches = c.self.inside.caches.items; hands = c.self.inside.hands.items; tasks = c.self.inside.tasks.items; book = c.self.inside.book; entries = entries_of c.self.inside.log.items; clients = c.self.inside.clients.items; requests = c.self.inside.requests.items; replies = c.self.inside.replies.items } in
+    let w : WorldState = record { stock = c.self.inside.stock; names = c.self.inside.names.items; owners = c.self.inside.owners.items; caches = c.self.inside.caches.items; hands = c.self.inside.hands.items; tasks = c.self.inside.tasks.items; failed = c.self.inside.failed.items; book = c.self.inside.book; entries = entries_of c.self.inside.log.items; clients = c.self.inside.clients.items; requests = c.self.inside.requests.items; replies = c.self.inside.replies.items } in
     let view : w ≡ c.args.self.now = c.self.view_is in
     let can = subst (λ (x : WorldState). CanRelease x c.args.cpu c.args.release.now.id c.args.release.now.line c.args.release.now.arena) (sym view) c.requires.can in
     let v : WorldState = record w { hands = c.put.new.hands.items; tasks = set w.tasks c.args.cpu None; book = c.release.new.self; entries = entries_of c.push_reserved.new.self.items; replies = c.push_reserved-in-Ok-release.new.self.items } in
@@ -20,7 +20,7 @@ returns-in-Ok-release g c =
 
 pub returns-in-Refused : goal.returns-in-Refused
 returns-in-Refused g c =
-    let w : WorldState = record { stock = c.self.inside.stock; names = c.self.inside.names.items; owners = c.self.inside.owners.items; caches = c.self.inside.caches.items; hands = c.self.inside.hands.items; tasks = c.self.inside.tasks.items; book = c.self.inside.book; entries = entries_of c.self.inside.log.items; clients = c.self.inside.clients.items; requests = c.self.inside.requests.items; replies = c.self.inside.replies.items } in
+    let w : WorldState = record { stock = c.self.inside.stock; names = c.self.inside.names.items; owners = c.self.inside.owners.items; caches = c.self.inside.caches.items; hands = c.self.inside.hands.items; tasks = c.self.inside.tasks.items; failed = c.self.inside.failed.items; book = c.self.inside.book; entries = entries_of c.self.inside.log.items; clients = c.self.inside.clients.items; requests = c.self.inside.requests.items; replies = c.self.inside.replies.items } in
     let view : w ≡ c.args.self.now = c.self.view_is in
     let can = subst (λ (x : WorldState). CanRelease x c.args.cpu c.args.release.now.id c.args.release.now.line c.args.release.now.arena) (sym view) c.requires.can in
     let world = subst IsWorld (sym view) c.requires.world in

@@ -13,14 +13,14 @@ use Rattle.world_core.proofs.parts.WorldParts.grant.Goals as goal
 
 pub take-segment-requires : goal.take-segment-requires
 take-segment-requires g c =
-    let w : WorldState = record { stock = c.self.inside.stock; names = c.self.inside.names.items; owners = c.self.inside.owners.items; caches = c.self.inside.caches.items; hands = c.self.inside.hands.items; tasks = c.self.inside.tasks.items; book = c.self.inside.book; entries = entries_of c.self.inside.log.items; clients = c.self.inside.clients.items; requests = c.self.inside.requests.items; replies = c.self.inside.replies.items } in
+    let w : WorldState = record { stock = c.self.inside.stock; names = c.self.inside.names.items; owners = c.self.inside.owners.items; caches = c.self.inside.caches.items; hands = c.self.inside.hands.items; tasks = c.self.inside.tasks.items; failed = c.self.inside.failed.items; book = c.self.inside.book; entries = entries_of c.self.inside.log.items; clients = c.self.inside.clients.items; requests = c.self.inside.requests.items; replies = c.self.inside.replies.items } in
     let view : w ≡ c.args.self.now = c.self.view_is in
     let can = subst (λ (x : WorldState). CanGrant x c.args.cpu c.args.grant.now.id c.args.grant.now.lease c.args.grant.now.segment c.args.grant.now.quantum) (sym view) c.requires.can in
     record { held = (c.args.grant.now.segment, can.holds) }
 
 pub index_mut-requires : goal.index_mut-requires
 index_mut-requires g c =
-    let w : WorldState = record { stock = c.self.inside.stock; names = c.self.inside.names.items; owners = c.self.inside.owners.items; caches = c.self.inside.caches.items; hands = c.self.inside.hands.items; tasks = c.self.inside.tasks.items; book = c.self.inside.book; entries = entries_of c.self.inside.log.items; clients = c.self.inside.clients.items; requests = c.self.inside.requests.items; replies = c.self.inside.replies.items } in
+    let w : WorldState = record { stock = c.self.inside.stock; names = c.self.inside.names.items; owners = c.self.inside.owners.items; caches = c.self.inside.caches.items; hands = c.self.inside.hands.items; tasks = c.self.inside.tasks.items; failed = c.self.inside.failed.items; book = c.self.inside.book; entries = entries_of c.self.inside.log.items; clients = c.self.inside.clients.items; requests = c.self.inside.requests.items; replies = c.self.inside.replies.items } in
     let view : w ≡ c.args.self.now = c.self.view_is in
     let can = subst (λ (x : WorldState). CanGrant x c.args.cpu c.args.grant.now.id c.args.grant.now.lease c.args.grant.now.segment c.args.grant.now.quantum) (sym view) c.requires.can in
     let within = slice_get_within w.tasks c.args.cpu _ can.serves in
@@ -28,7 +28,7 @@ index_mut-requires g c =
 
 pub returns-in-Ok-settle : goal.returns-in-Ok-settle
 returns-in-Ok-settle g c =
-    let w : WorldState = record { stock = c.self.inside.stock; names = c.self.inside.names.items; owners = c.self.inside.owners.items; caches = c.self.inside.caches.items; hands = c.self.inside.hands.items; tasks = c.self.inside.tasks.items; book = c.self.inside.book; entries = entries_of c.self.inside.log.items; clients = c.self.inside.clients.items; requests = c.self.inside.requests.items; replies = c.self.inside.replies.items } in
+    let w : WorldState = record { stock = c.self.inside.stock; names = c.self.inside.names.items; owners = c.self.inside.owners.items; caches = c.self.inside.caches.items; hands = c.self.inside.hands.items; tasks = c.self.inside.tasks.items; failed = c.self.inside.failed.items; book = c.self.inside.book; entries = entries_of c.self.inside.log.items; clients = c.self.inside.clients.items; requests = c.self.inside.requests.items; replies = c.self.inside.replies.items } in
     let view : w ≡ c.args.self.now = c.self.view_is in
     let can = subst (λ (x : WorldState). CanGrant x c.args.cpu c.args.grant.now.id c.args.grant.now.lease c.args.grant.now.segment c.args.grant.now.quantum) (sym view) c.requires.can in
     let held : Some (Some c.take-segment.result) ≡ Some (Some c.args.grant.now.segment) = sym c.take-segment.ensures.held ∙ can.holds in
@@ -42,7 +42,7 @@ returns-in-Ok-settle g c =
 
 pub put-requires : goal.put-requires
 put-requires g c =
-    let w : WorldState = record { stock = c.self.inside.stock; names = c.self.inside.names.items; owners = c.self.inside.owners.items; caches = c.self.inside.caches.items; hands = c.self.inside.hands.items; tasks = c.self.inside.tasks.items; book = c.self.inside.book; entries = entries_of c.self.inside.log.items; clients = c.self.inside.clients.items; requests = c.self.inside.requests.items; replies = c.self.inside.replies.items } in
+    let w : WorldState = record { stock = c.self.inside.stock; names = c.self.inside.names.items; owners = c.self.inside.owners.items; caches = c.self.inside.caches.items; hands = c.self.inside.hands.items; tasks = c.self.inside.tasks.items; failed = c.self.inside.failed.items; book = c.self.inside.book; entries = entries_of c.self.inside.log.items; clients = c.self.inside.clients.items; requests = c.self.inside.requests.items; replies = c.self.inside.replies.items } in
     let view : w ≡ c.args.self.now = c.self.view_is in
     let can = subst (λ (x : WorldState). CanGrant x c.args.cpu c.args.grant.now.id c.args.grant.now.lease c.args.grant.now.segment c.args.grant.now.quantum) (sym view) c.requires.can in
     let within = slice_get_within w.hands c.args.cpu _ can.holds in
@@ -50,7 +50,7 @@ put-requires g c =
 
 pub index_mut-requires-in-Refused : goal.index_mut-requires-in-Refused
 index_mut-requires-in-Refused g c =
-    let w : WorldState = record { stock = c.self.inside.stock; names = c.self.inside.names.items; owners = c.self.inside.owners.items; caches = c.self.inside.caches.items; hands = c.self.inside.hands.items; tasks = c.self.inside.tasks.items; book = c.self.inside.book; entries = entries_of c.self.inside.log.items; clients = c.self.inside.clients.items; requests = c.self.inside.requests.items; replies = c.self.inside.replies.items } in
+    let w : WorldState = record { stock = c.self.inside.stock; names = c.self.inside.names.items; owners = c.self.inside.owners.items; caches = c.self.inside.caches.items; hands = c.self.inside.hands.items; tasks = c.self.inside.tasks.items; failed = c.self.inside.failed.items; book = c.self.inside.book; entries = entries_of c.self.inside.log.items; clients = c.self.inside.clients.items; requests = c.self.inside.requests.items; replies = c.self.inside.replies.items } in
     let view : w ≡ c.args.self.now = c.self.view_is in
     let can = subst (λ (x : WorldState). CanGrant x c.args.cpu c.args.grant.now.id c.args.grant.now.lease c.args.grant.now.segment c.args.grant.now.quantum) (sym view) c.requires.can in
     let within = slice_get_within w.tasks c.args.cpu _ can.serves in
@@ -58,7 +58,7 @@ index_mut-requires-in-Refused g c =
 
 pub returns-in-Refused : goal.returns-in-Refused
 returns-in-Refused g c =
-    let w : WorldState = record { stock = c.self.inside.stock; names = c.self.inside.names.items; owners = c.self.inside.owners.items; caches = c.self.inside.caches.items; hands = c.self.inside.hands.items; tasks = c.self.inside.tasks.items; book = c.self.inside.book; entries = entries_of c.self.inside.log.items; clients = c.self.inside.clients.items; requests = c.self.inside.requests.items; replies = c.self.inside.replies.items } in
+    let w : WorldState = record { stock = c.self.inside.stock; names = c.self.inside.names.items; owners = c.self.inside.owners.items; caches = c.self.inside.caches.items; hands = c.self.inside.hands.items; tasks = c.self.inside.tasks.items; failed = c.self.inside.failed.items; book = c.self.inside.book; entries = entries_of c.self.inside.log.items; clients = c.self.inside.clients.items; requests = c.self.inside.requests.items; replies = c.self.inside.replies.items } in
     let view : w ≡ c.args.self.now = c.self.view_is in
     let can = subst (λ (x : WorldState). CanGrant x c.args.cpu c.args.grant.now.id c.args.grant.now.lease c.args.grant.now.segment c.args.grant.now.quantum) (sym view) c.requires.can in
     let held : Some (Some c.take-segment.result) ≡ Some (Some c.args.grant.now.segment) = sym c.take-segment.ensures.held ∙ can.holds in
@@ -73,7 +73,7 @@ returns-in-Refused g c =
 
 pub returns-in-Again : goal.returns-in-Again
 returns-in-Again g c =
-    let w : WorldState = record { stock = c.self.inside.stock; names = c.self.inside.names.items; owners = c.self.inside.owners.items; caches = c.self.inside.caches.items; hands = c.self.inside.hands.items; tasks = c.self.inside.tasks.items; book = c.self.inside.book; entries = entries_of c.self.inside.log.items; clients = c.self.inside.clients.items; requests = c.self.inside.requests.items; replies = c.self.inside.replies.items } in
+    let w : WorldState = record { stock = c.self.inside.stock; names = c.self.inside.names.items; owners = c.self.inside.owners.items; caches = c.self.inside.caches.items; hands = c.self.inside.hands.items; tasks = c.self.inside.tasks.items; failed = c.self.inside.failed.items; book = c.self.inside.book; entries = entries_of c.self.inside.log.items; clients = c.self.inside.clients.items; requests = c.self.inside.requests.items; replies = c.self.inside.replies.items } in
     let view : w ≡ c.args.self.now = c.self.view_is in
     let can = subst (λ (x : WorldState). CanGrant x c.args.cpu c.args.grant.now.id c.args.grant.now.lease c.args.grant.now.segment c.args.grant.now.quantum) (sym view) c.requires.can in
     let held : Some (Some c.take-segment.result) ≡ Some (Some c.args.grant.now.segment) = sym c.take-segment.ensures.held ∙ can.holds in

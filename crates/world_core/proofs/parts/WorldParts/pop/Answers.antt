@@ -8,14 +8,13 @@ use Rattle.world_core.specs.IsWorld.{IsWorld}
 use Rattle.world_core.specs.Moves.{IsOwnFor}
 use Rattle.world_core.specs.Events.{EndsAs, HasInHand}
 use Rattle.world_core.specs.declared.events.WorldEvent.TheVariants as events
-use Rattle.world_core.specs.declared.events.EventFault.TheVariants as faults
 use Rattle.world_core.specs.declared.events.Outcome.TheVariants.{Done, NotEnabled}
 use Rattle.world_core.proofs.OwnLemmas.{found_own, pops_round, pops_none}
 use Rattle.world_core.proofs.parts.WorldParts.pop.Goals as goal
 
 pub returns-in-Some-popped : goal.returns-in-Some-popped
 returns-in-Some-popped g c =
-    let w : WorldState = record { stock = c.self.inside.stock; names = c.self.inside.names.items; hands = c.self.inside.hands.items; tasks = c.self.inside.tasks.items; owners = c.self.inside.owners.items; caches = c.self.inside.caches.items; book = c.self.inside.book; entries = entries_of c.self.inside.log.items; clients = c.self.inside.clients.items; requests = c.self.inside.requests.items; replies = c.self.inside.replies.items } in
+    let w : WorldState = record { stock = c.self.inside.stock; names = c.self.inside.names.items; hands = c.self.inside.hands.items; tasks = c.self.inside.tasks.items; failed = c.self.inside.failed.items; owners = c.self.inside.owners.items; caches = c.self.inside.caches.items; book = c.self.inside.book; entries = entries_of c.self.inside.log.items; clients = c.self.inside.clients.items; requests = c.self.inside.requests.items; replies = c.self.inside.replies.items } in
     let view : w ≡ c.args.self.now = c.self.view_is in
     let world : IsWorld w = subst IsWorld (sym view) c.requires.world in
     let empty : HasInHand w c.args.cpu None = (let e : HasInHand c.args.self.now c.args.cpu None = search rules in ap (λ (x : WorldState). slice_get x.hands c.args.cpu) view ∙ e) in
@@ -30,7 +29,7 @@ returns-in-Some-popped g c =
 
 pub returns-in-None : goal.returns-in-None
 returns-in-None g c =
-    let w : WorldState = record { stock = c.self.inside.stock; names = c.self.inside.names.items; hands = c.self.inside.hands.items; tasks = c.self.inside.tasks.items; owners = c.self.inside.owners.items; caches = c.self.inside.caches.items; book = c.self.inside.book; entries = entries_of c.self.inside.log.items; clients = c.self.inside.clients.items; requests = c.self.inside.requests.items; replies = c.self.inside.replies.items } in
+    let w : WorldState = record { stock = c.self.inside.stock; names = c.self.inside.names.items; hands = c.self.inside.hands.items; tasks = c.self.inside.tasks.items; failed = c.self.inside.failed.items; owners = c.self.inside.owners.items; caches = c.self.inside.caches.items; book = c.self.inside.book; entries = entries_of c.self.inside.log.items; clients = c.self.inside.clients.items; requests = c.self.inside.requests.items; replies = c.self.inside.replies.items } in
     let view : w ≡ c.args.self.now = c.self.view_is in
     let world : IsWorld w = subst IsWorld (sym view) c.requires.world in
     let empty : HasInHand w c.args.cpu None = (let e : HasInHand c.args.self.now c.args.cpu None = search rules in ap (λ (x : WorldState). slice_get x.hands c.args.cpu) view ∙ e) in

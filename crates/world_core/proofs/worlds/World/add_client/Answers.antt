@@ -8,7 +8,7 @@ use Rattle.world_core.proofs.worlds.World.add_client.Goals as goal
 
 pub invariant_of-self-2 : goal.invariant_of-self-2
 invariant_of-self-2 g c =
-    let w : WorldState = record { stock = c.parts.inside.stock; names = c.parts.inside.names.items; owners = c.parts.inside.owners.items; caches = c.parts.inside.caches.items; hands = c.parts.inside.hands.items; tasks = c.parts.inside.tasks.items; book = c.parts.inside.book; entries = entries_of c.parts.inside.log.items; clients = c.parts.inside.clients.items; requests = c.parts.inside.requests.items; replies = c.parts.inside.replies.items } in
+    let w : WorldState = record { stock = c.parts.inside.stock; names = c.parts.inside.names.items; owners = c.parts.inside.owners.items; caches = c.parts.inside.caches.items; hands = c.parts.inside.hands.items; tasks = c.parts.inside.tasks.items; failed = c.parts.inside.failed.items; book = c.parts.inside.book; entries = entries_of c.parts.inside.log.items; clients = c.parts.inside.clients.items; requests = c.parts.inside.requests.items; replies = c.parts.inside.replies.items } in
     let inner : w ≡ c.self.inside.parts = c.parts.view_is in
     let view : w ≡ c.args.self.now = inner ∙ c.self.view_is in
     let is = subst IsWorld (sym inner) c.self.invariant in

@@ -1,0 +1,123 @@
+//! Segments that go back into the stock, at a world's end. Nothing here takes memory.
+ghost use Rattle.std.specs.Prelude.{◌≡◌, ◌<◌, List, ◌∷◌, ◌++◌, [], IfSome};
+ghost use Rattle.std.specs.Option.{option_to_list};
+ghost use Rattle.deed_core.specs.Tag.{Tag};
+ghost use Rattle.lease_book.specs.BookState.{leased};
+ghost use Rattle.stock.specs.Accounts.{Accounts};
+ghost use Rattle.stock.specs.OwnCaches.{own_rounds};
+ghost use Rattle.stock_audit.specs.Outside.{all_rounds_out};
+ghost use Rattle.world_core.specs.WorldState.{in_hands};
+
+use deed_core::{PlainDeed, Route, Segment};
+use lease_book::Book;
+use stock::{OwnCache, Stock};
+
+/// Takes back what hands have.
+pub(crate) fn empty_hands(stock: &mut Stock<PlainDeed>, mut hands: Vec<Option<Segment<PlainDeed>>>)
+    requires { (others : List Tag) × Accounts stock.old (in_hands hands.items ++ others) }
+    ensures { (others : List Tag) → Accounts stock.old (in_hands hands.items ++ others)
+        → Accounts stock.new others }
+{
+    while let Some(hand) = hands.pop() {
+        empty_hand(stock, hand);
+    }
+    hands.destroy_empty();
+}
+
+/// Takes back what a hand has.
+fn empty_hand(stock: &mut Stock<PlainDeed>, hand: Option<Segment<PlainDeed>>)
+    requires { (others : List Tag) × Accounts stock.old (option_to_list hand ++ others) }
+    ensures { (others : List Tag) → Accounts stock.old (option_to_list hand ++ others)
+        → Accounts stock.new others }
+{
+    match hand {
+        Some(segment) => put_home(stock, segment),
+        None => {}
+    }
+}
+
+/// Ends every lease, and takes its segment back.
+pub(crate) fn end_leases(stock: &mut Stock<PlainDeed>, book: &mut Book<PlainDeed>)
+    requires { (others : List Tag) × Accounts stock.old (leased book.old ++ others) }
+    ensures none { leased book.new ≡ [] }
+    ensures out { (others : List Tag) → Accounts stock.old (leased book.old ++ others)
+        → Accounts stock.new others }
+{
+    while let Some((_, segment)) = book.take_lease() {
+        put_home(stock, segment);
+    }
+}
+
+/// Ends CPUs' own caches, and takes their rounds back.
+pub(crate) fn end_caches(stock: &mut Stock<PlainDeed>, mut caches: Vec<OwnCache<PlainDeed>>)
+    requires { (others : List Tag) × Accounts stock.old (all_rounds_out caches.items ++ others) }
+    ensures { (others : List Tag) → Accounts stock.old (all_rounds_out caches.items ++ others)
+        → Accounts stock.new others }
+{
+    while let Some(own) = caches.pop() {
+        end_cache(stock, own);
+    }
+    caches.destroy_empty();
+}
+
+/// Ends a CPU's own cache, and takes its rounds back.
+fn end_cache(stock: &mut Stock<PlainDeed>, mut own: OwnCache<PlainDeed>)
+    requires { (others : List Tag) × Accounts stock.old (own_rounds own ++ others) }
+    ensures { (others : List Tag) → Accounts stock.old (own_rounds own ++ others)
+        → Accounts stock.new others }
+{
+    while let Some(round) = own.pop() {
+        put_home(stock, round);
+    }
+    match own.close() {
+        Ok(()) => {}
+        Err(_) => unreachable!(),
+    }
+}
+
+/// Takes a segment back that is out: a chunk into its slab, another to its arena.
+fn put_home(stock: &mut Stock<PlainDeed>, segment: Segment<PlainDeed>)
+    requires { (rest : List Tag) × Accounts stock.old (segment ∷ rest) }
+    ensures { (rest : List Tag) → Accounts stock.old (segment ∷ rest)
+        → Accounts stock.new rest }
+{
+    // For its clause: what is always so of a stock.
+    let _ = stock.count();
+    match segment.route() {
+        Route::Direct => free_up(stock, segment),
+        Route::Cached(_) => match stock.slab_put(segment) {
+            Ok(()) => {}
+            Err(_) => unreachable!(),
+        },
+    }
+}
+
+/// Frees a segment, and each imported span that becomes whole by that in its source.
+fn free_up(stock: &mut Stock<PlainDeed>, segment: Segment<PlainDeed>)
+    requires direct { segment.route ≡ Route.Direct }
+    requires out { (rest : List Tag) × Accounts stock.old (segment ∷ rest) }
+    ensures { (rest : List Tag) → Accounts stock.old (segment ∷ rest)
+        → Accounts stock.new rest }
+{
+    let mut left = free_one(stock, segment);
+    while let Some(span) = left {
+        left = free_one(stock, span);
+    }
+}
+
+/// Frees a segment, and gives the imported span that becomes whole by that.
+fn free_one(stock: &mut Stock<PlainDeed>, segment: Segment<PlainDeed>) -> Option<Segment<PlainDeed>>
+    requires direct { segment.route ≡ Route.Direct }
+    requires out { (rest : List Tag) × Accounts stock.old (segment ∷ rest) }
+    ensures out { (rest : List Tag) → Accounts stock.old (segment ∷ rest)
+        → Accounts stock.new (option_to_list result ++ rest) }
+    ensures above { IfSome result
+        (λ span. (span.route ≡ Route.Direct) × (span.arena < segment.arena)) }
+{
+    // For its clause: what is always so of a stock.
+    let _ = stock.count();
+    match stock.free(segment) {
+        Ok(left) => left,
+        Err(_) => unreachable!(),
+    }
+}
