@@ -76,10 +76,11 @@ there are no comments. A setup line after that is answered by error word.
                                            power of two, BASE and LEN are multiples of it
   span NAME BASE LEN                       a further span of that root, of whole quanta too
   child NAME SOURCE QUANTUM POLICY QMAX IMPORTMIN
-                                           an arena that imports what it needs from arena SOURCE,
-                                           IMPORTMIN units at least at a time, and gives each
-                                           import back once it is wholly free. QUANTUM is a power
-                                           of two, at most that of SOURCE
+                                           an arena that imports from arena SOURCE what leases
+                                           with no option need, IMPORTMIN units at least at a
+                                           time, and gives each import back once it is wholly
+                                           free. QUANTUM is a power of two, at most that of
+                                           SOURCE
 QMAX is 0, or a multiple of QUANTUM and at most 16 of it: then a lease of at most QMAX units with no
 option comes from a cache of its size. A cache cuts slabs into pieces, and keeps pieces that came
 back in magazines of CPUs and in a depot, from which they are leased again.
@@ -87,8 +88,8 @@ back in magazines of CPUs and in a depot, from which they are leased again.
 POLICY says which units a lease or a slab gets, of all free ones that fit it:
   best     the lowest in the shortest free range (measured whole), of equally short ones the lowest
            range
-  next     the lowest from the end of the lease given last, be it ended or not; where there are none,
-           the lowest of all. So numbers come round before they are used again
+  next     the lowest from the end of the lease given last, be it ended or not; where there is
+           none, the lowest of all. So numbers come round before they are used again
   instant  for a lease with no option: a free range of 2^i quanta or more, but below 2^(i+1), is of
            kind i. The lease gets the front of the newest range of the least kind that has one and
            whose 2^i quanta are enough. Where no kind is so, and for a lease with an option, as best
@@ -107,23 +108,24 @@ begins at 1 again.
 The options of a lease, each at most once and in this order (in another, the line is answered by
 error badline, and its N isn't used). A lease is the LEN units from BASE on, in one span; LEN is
 SIZE rounded up to whole quanta, and BASE a multiple of QUANTUM:
-  align A     BASE is a multiple of A, where no phase P follows
-  phase P     only after align A: BASE divided by A leaves the remainder P, and not 0
+  align A     BASE is a multiple of A
+  phase P     only after align A: BASE is P above a multiple of A
   nocross X   the lease lies between two neighbouring multiples of X, and may begin or end on them:
               with nocross 8 it may be the units 3 to 7, or 8 to 15, but not 6 to 9
   min L       BASE is at least L
   max H       the lease ends at H or before: unit H itself isn't in it
-Without an option, or where A, P, X or L is 0 or H is 2^62, there is no such condition. A request
-is bad where a condition has an A or X that is no power of two or no multiple of QUANTUM; a P that
-isn't below A or is no multiple of QUANTUM; an X below LEN; or an L, or 0 with no min, that isn't
-below H. So it is where SIZE is 0. L and H need be no multiples of QUANTUM.
+Without an option, or where A, X or L is 0 or H is 2^62, there is no such condition. A request is
+bad where a condition has an A or X that is no power of two or no multiple of QUANTUM; a P that
+isn't below A, as any above 0 with no align, or is no multiple of QUANTUM; an X below LEN; or an L
+that isn't below H. So it is where SIZE or H is 0. L and H need be no multiples of QUANTUM.
 
 Answers to clients:
   welcome C I                   the hello is taken
   granted C I N NAME BASE LEN   the lease has LEN units from BASE on
   released C I N                the lease is given back
   refused C I N WORD            noarena: no arena has this name; badrequest: the request is bad;
-                                nofit: no free units fit it, nor what would be imported for it;
+                                nofit: no free units fit it, nor, for a lease with no option,
+                                what would be imported for it;
                                 leases: the client has 1024 leases;
                                 notyours: incarnation I has no lease that begins at BASE
   old C V                       the client's incarnation is V, not I: it says hello with an I above
