@@ -10,8 +10,8 @@
 //! * `lists` has them by power-of-two list, the newest first, under `instant`;
 //! * `rising` has them by base with their lengths as weights, under `next`.
 //!
-//! `FreeIndex::chosen` gives what the policy chooses, and `FreeIndex::merge` takes out the neighbors
-//! of a range that comes back, both in the words of `tag_arena`'s own clauses.
+//! `FreeIndex::chosen` gives what the policy chooses, and `FreeIndex::merge` takes out the
+//! neighbors of a range that comes back, both in the words of `tag_arena`'s own clauses.
 //!
 //! So a call looks at a few rows of each index, whatever the number of ranges. Once there is room
 //! nothing takes memory.

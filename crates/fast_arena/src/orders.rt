@@ -143,8 +143,8 @@ impl OrderedIndex {
         self.rows.least_from(key_of(major, minor))
     }
 
-    /// The first entry, from the first at or above the key of two numbers on, that weighs as much as
-    /// `least` or more.
+    /// The first entry, from the first at or above the key of two numbers on, that weighs as much
+    /// as `least` or more.
     pub fn first_weighing(&self, major: u64, minor: u64, least: u64) -> Option<Entry>
         ensures first { let key = major * 2 ^ 64 + minor in
             result ≡ heavy_from rank_of (λ e. e.minor) key least self.now.items }

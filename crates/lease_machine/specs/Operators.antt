@@ -178,9 +178,9 @@ Performs operator.Audit old text new = (text ≡ arenas_told old old.tree old.sp
 Performs operator.Clients old text new =
     (text ≡ flat_map client_told (map report_of old.book.accounts)) × (new ≡ old)
 
--- What is left out of memory: a line that moves nothing but by what it makes first moves nothing. No
--- CPU asks for memory that is there when it is selected, nor one that never was when it goes offline.
--- A reaping takes none, and is whole: only the line that tells of it finds no room.
+-- What is left out of memory: a line that moves nothing but by what it makes first moves nothing.
+-- No CPU asks for memory that is there when it is selected, nor one that never was when it goes
+-- offline. A reaping takes none, and is whole: only the line that tells of it finds no room.
 abbrev pub LeavesOff : OperatorLine → Picture → Picture → Type 0
 LeavesOff (operator.Cpu n) old new = (list_any (is_cpu n) old.cpus ≡ false) × (new ≡ old)
 LeavesOff (operator.Offline n) old new = (find (is_cpu n) old.cpus ≢ None) × (new ≡ old)

@@ -9,8 +9,8 @@ use Rattle.lease_machine.specs.Picture.{Picture, SameSetup}
 use Rattle.lease_machine.specs.Operators.{ReapsSome, ReapsAll, cached_units}
 use Rattle.lease_machine.specs.Held.{IsHeld, parts_in, with_parts}
 
--- A reaping that ended, whatever its limit. Where looks are left, it left nothing. Where none is, it
--- found almost as much as it might look for, and another may begin where it ended.
+-- A reaping that ended, whatever its limit. Where looks are left, it left nothing. Where none is,
+-- it found almost as much as it might look for, and another may begin where it ended.
 pub record ReapedTo (limit : ℕ) (d : Picture) (r : Reaping) (s : LocalState) : Type 0 where
   pub some : ReapsSome r.units d (with_parts s d)
   pub all : 0 < r.left → ReapsAll r.units d (with_parts s d)

@@ -16,7 +16,7 @@
 //!
 //! To read a line looks at each of its bytes, at most `LONGEST_LINE`, a few times and takes no
 //! memory; to write one takes at most `LINE_ROOM` bytes of the buffer. The lines are served by the
-//! crate `lease_server`, and answered by `lease_desk`.
+//! crate `lease_server`, and answered by `stock_desk`.
 #![tactic(auto)]
 
 mod cpus;

@@ -1,5 +1,6 @@
 //! How long a line is at most, and which CPUs a line may name. Code, contracts and proofs cite
-//! these by name, from `specs.declared.limits.TheConstants`. How much a setup sets up, `arena_tree` says.
+//! these by name, from `specs.declared.limits.TheConstants`. How much a setup sets up, `arena_tree`
+//! says.
 ghost use Rattle.std.specs.Prelude.{◌≡◌, ◌+◌};
 
 /// The longest line, in bytes before its line feed.

@@ -9,9 +9,9 @@ use lease_server::{Intake, ServeFault, Watched, serve};
 use std::alloc::Global;
 use std::io::{Read, Write};
 
-/// Serves a connection to its end, or to its fault, and lets the worker tidy after it. At each fault
-/// the lines before it are answered as `lease_server`'s `serve` says, and the worker can serve the
-/// next connection.
+/// Serves a connection to its end, or to its fault, and lets the worker tidy after it. At each
+/// fault the lines before it are answered as `lease_server`'s `serve` says, and the worker can
+/// serve the next connection.
 pub fn serve_connection<R: Read, W: Write, K: Worker>(
     alloc: Global,
     reader: &mut Watched<R>,

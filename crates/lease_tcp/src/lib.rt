@@ -2,9 +2,9 @@
 //!
 //! A `Worker` (workers) answers a client's line by a reply, and tidies after each connection.
 //! `ClientLines` (replying) makes a responder of one, which reads lines and writes replies, so that
-//! the line server can serve any stream by it. `serve_connection` (connections) serves one, over any
-//! reader and writer; `worker_loop` (loops) those of a listener, one after another. `SystemWorker`
-//! (system_workers) is a worker of a running system, and `accept_loop` its loop.
+//! the line server can serve any stream by it. `serve_connection` (connections) serves one, over
+//! any reader and writer; `worker_loop` (loops) those of a listener, one after another.
+//! `SystemWorker` (system_workers) is a worker of a running system, and `accept_loop` its loop.
 //!
 //! What a line may be answered is stated in specs/Replying.antt, and what a connection leaves in
 //! specs/Connections.antt. Of a socket no contract can say what it gives or takes.

@@ -9,7 +9,8 @@ use Rattle.magazine_layer.specs.Magazines.{BothEmpty, cache_rounds}
 use Rattle.arena_tree.specs.declared.trees.TreeArena.{TreeArena}
 use Rattle.locked_parts.specs.Kinds.{KindRoundsState}
 
--- its arenas by number, and the roots that they own, in order of setup: what stands beside the locks
+-- its arenas by number, and the roots that they own, in order of setup: what stands beside the
+-- locks
 pub record SystemState : Type 0 where
   pub arenas : List TreeArena
   pub roots : List Holding

@@ -86,7 +86,8 @@ impl<N: Name> MarkedBook<N> {
     /// Settles a request by a refusal.
     pub(crate) fn refuse(&mut self, id: RequestId, why: Refusal) -> Answer<SeatDeed<N>>
         ensures receipt { HasReceiptOf id result }
-        ensures event { IsAnswer self.old self.new id (IsRefused self.old self.new id why) ⊥ result }
+        ensures event { IsAnswer self.old self.new id
+            (IsRefused self.old self.new id why) ⊥ result }
     {
         self.book.refuse(id, why)
     }

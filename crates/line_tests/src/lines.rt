@@ -414,9 +414,8 @@ fn check_every_cut(
 #[test]
 fn a_stream_is_the_same_however_it_is_cut(rt: HostRuntime) -> Result<(), Fail> {
     let alloc = rt.alloc();
-    let input =
-        b"lease 1 1 1 m\nlease 1 1 01 m 4\nfrob\nhello 1  1\nhello 1 1\nlease 1 1 3 m 4\n\nhello 1 1\
-        \r\nhello 1 18446744073709551617\nrelease 1 1 2 m 0";
+    let input = b"lease 1 1 1 m\nlease 1 1 01 m 4\nfrob\nhello 1  1\nhello 1 1\nlease 1 1 3 m 4\n\n\
+        hello 1 1\r\nhello 1 18446744073709551617\nrelease 1 1 2 m 0";
     let expected =
         b"error badline\nerror number\nerror word\nerror badline\nhello 1 1\nlease 1 1 3 m 4\n\
         error badline\nerror badline\nerror number\nerror badline\n";

@@ -1,6 +1,7 @@
 -- What a contract sees of one CPU's caches: of each arena, in order of setup, those of its quantum
 -- caches, by the quanta of a chunk.
-use Rattle.std.specs.Prelude.{◌≡◌, ℕ, zero, suc, ◌+◌, List, [], ◌∷◌, All, length, map, flat_map, set, slice_get, Option, Some, None}
+use Rattle.std.specs.Prelude.{◌≡◌, ℕ, zero, suc, ◌+◌, List, [], ◌∷◌, All, length, map, flat_map}
+use Rattle.std.specs.Prelude.{set, slice_get, Option, Some, None}
 use Rattle.deed_core.specs.Tag.{Tag}
 use Rattle.magazine_layer.specs.Magazines.{BothEmpty}
 use Rattle.stock.specs.Spaces.{SpaceState, SpacePlan, plans_of}
@@ -28,7 +29,8 @@ row_places arena quantum j (suc count) =
 -- those of each arena, from the number k on
 abbrev pub places_from : ℕ → List SpacePlan → List (List CachePlace)
 places_from k [] = []
-places_from k (p ∷ plans) = row_places k p.quantum 0 (length p.slab_sizes) ∷ places_from (k + 1) plans
+places_from k (p ∷ plans) =
+    row_places k p.quantum 0 (length p.slab_sizes) ∷ places_from (k + 1) plans
 
 -- the CPU has a cache for each quantum cache of the stock, and no other
 abbrev pub IsCpuOf : List SpaceState → List (List OwnCacheState) → Type 0

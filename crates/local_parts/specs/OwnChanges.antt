@@ -8,7 +8,8 @@ use Rattle.magazine_layer.specs.Calls.{PopOf, PushOf}
 use Rattle.magazine_layer.specs.declared.faults.PutFullFault.{PutFullFault}
 use Rattle.magazine_layer.specs.declared.faults.PutFullFault.TheVariants as fresh_fault
 use Rattle.arena_tree.specs.declared.part_faults.ChangeFault.{ChangeFault}
-use Rattle.arena_tree.specs.declared.part_faults.ChangeFault.TheVariants.{NotGreater, NoMemory, Stopped}
+use Rattle.arena_tree.specs.declared.part_faults.ChangeFault.TheVariants.{NotGreater, NoMemory}
+use Rattle.arena_tree.specs.declared.part_faults.ChangeFault.TheVariants.{Stopped}
 use Rattle.arena_tree.specs.declared.part_faults.SwapFullFault.{SwapFullFault}
 use Rattle.arena_tree.specs.declared.part_faults.SwapFullFault.TheVariants.{NoneFull}
 use Rattle.arena_tree.specs.declared.part_faults.SwapEmptyFault.{SwapEmptyFault}
@@ -20,7 +21,8 @@ use Rattle.stock.specs.Stocks.{IsRoundOf, IsStock}
 use Rattle.stock.specs.Accounts.{Frames}
 use Rattle.stock.specs.OwnCaches.{OwnCacheState, IsAtPlaceOf, own_rounds}
 use Rattle.stock.specs.Steps.{OnDepot}
-use Rattle.local_parts.specs.OwnSteps.{CanPush, CanChange, ChangesTo, SwapsFull, SwapsEmpty, SwapsFresh}
+use Rattle.local_parts.specs.OwnSteps.{CanPush, CanChange, ChangesTo, SwapsFull, SwapsEmpty}
+use Rattle.local_parts.specs.OwnSteps.{SwapsFresh}
 
 -- it gave a round, or had none
 pub record OwnPops (r : Option Tag) (o o' : OwnCacheState) : Type 0 where

@@ -1,7 +1,8 @@
 -- The events of the CPU's magazines: exchanges with a depot, and the three that are its own.
 use Rattle.std.specs.Prelude.{◌≡◌, ℕ, ◌+◌, ◌<◌, ◌⊎◌, Option, None, Result, Ok, Err}
 use Rattle.deed_core.specs.Tag.{Tag}
-use Rattle.magazine_layer.specs.Magazines.{CpuCacheState, MagazineState, IsSize, BothEmpty, BothFull, empty_magazine, after_change}
+use Rattle.magazine_layer.specs.Magazines.{CpuCacheState, MagazineState, IsSize, BothEmpty}
+use Rattle.magazine_layer.specs.Magazines.{BothFull, empty_magazine, after_change}
 use Rattle.magazine_layer.specs.Depots.{DepotState}
 use Rattle.magazine_layer.specs.Calls.{PopOf, PushOf, SwapFullOf, SwapEmptyOf, PutFullOf}
 use Rattle.magazine_layer.specs.declared.faults.FullFault.{FullFault}

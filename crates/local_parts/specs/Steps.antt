@@ -1,7 +1,9 @@
 -- One event of one thread's parts.
 use Rattle.std.specs.Prelude.{◌≡◌, List, Option, length, false}
 use Rattle.deed_core.specs.Tag.{Tag}
-use Rattle.arena_tree.specs.Events.{Event, AnswerTo, BeginsWith, hand_after, Carve, Free, AddCarve, SlabTake, SlabPut, SlabAdd, SlabReap, SwapFull, SwapEmpty, SwapFresh, DepotReap, Pop, Push, Change}
+use Rattle.arena_tree.specs.Events.{Event, AnswerTo, BeginsWith, hand_after, Carve, Free, AddCarve}
+use Rattle.arena_tree.specs.Events.{SlabTake, SlabPut, SlabAdd, SlabReap, SwapFull, SwapEmpty}
+use Rattle.arena_tree.specs.Events.{SwapFresh, DepotReap, Pop, Push, Change}
 use Rattle.arena_tree.specs.declared.trees.TreeArena.{TreeArena}
 use Rattle.arena_tree.specs.Sound.{Sound, KeepsRounds}
 use Rattle.arena_tree.specs.Stops.{is_stopped}
@@ -9,8 +11,10 @@ use Rattle.stock.specs.Spaces.{plans_of}
 use Rattle.stock.specs.Stocks.{IsStock}
 use Rattle.local_parts.specs.Cpus.{own_places, cpu_rounds}
 use Rattle.local_parts.specs.States.{LocalState, Conserves, tree_of}
-use Rattle.local_parts.specs.SharedSteps.{DoesCarve, DoesFree, DoesImport, DoesTake, DoesPut, DoesAdd, DoesReap, DoesDepotReap}
-use Rattle.local_parts.specs.OwnSteps.{DoesPop, DoesPush, DoesChange, DoesSwapFull, DoesSwapEmpty, DoesSwapFresh}
+use Rattle.local_parts.specs.SharedSteps.{DoesCarve, DoesFree, DoesImport, DoesTake, DoesPut}
+use Rattle.local_parts.specs.SharedSteps.{DoesAdd, DoesReap, DoesDepotReap}
+use Rattle.local_parts.specs.OwnSteps.{DoesPop, DoesPush, DoesChange, DoesSwapFull, DoesSwapEmpty}
+use Rattle.local_parts.specs.OwnSteps.{DoesSwapFresh}
 
 -- what each event did, by its answer; Stopped never comes
 abbrev pub Does : LocalState → (e : Event) → AnswerTo e → LocalState → Type 0

@@ -1,5 +1,6 @@
 //! The events of a slab cache under its lock. Each looks whether it is the cache that is meant.
-ghost use Rattle.std.specs.Prelude.{◌≡◌, IsTrue, false, IfSome, IfOk, IfErr, Ok, Some, OnErr, IfNone};
+ghost use Rattle.std.specs.Prelude.{◌≡◌, IsTrue, false, IfSome, IfOk, IfErr, Ok, Some, OnErr};
+ghost use Rattle.std.specs.Prelude.{IfNone};
 ghost use Rattle.slab_layer.specs.Calls.{TakeOf, AddOf, ReapOf};
 ghost use Rattle.arena_tree.specs.Events.{slab_back};
 ghost use Rattle.locked_parts.specs.Answers.{IsSpanOfKind};

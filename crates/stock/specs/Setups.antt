@@ -1,5 +1,6 @@
 -- What a stock is set up as by a setup: the arenas of its tree, and the spans that its roots own.
-use Rattle.std.specs.Prelude.{◌≡◌, ℕ, ◌+◌, ◌/◌, ◌==◌, if◌then◌else◌, List, [], ◌∷◌, All, map, replicate}
+use Rattle.std.specs.Prelude.{◌≡◌, ℕ, ◌+◌, ◌/◌, ◌==◌, if◌then◌else◌, List, [], ◌∷◌, All, map}
+use Rattle.std.specs.Prelude.{replicate}
 use Rattle.std.specs.Prelude.{slice_get, Some}
 use Rattle.std.specs.FinMap as finmap
 use Rattle.deed_core.specs.Holding.{Holding}

@@ -3,9 +3,9 @@
 //!
 //! What moves segments among the parts (the lists of steps, one thread's program, the world of
 //! events, the running system) speaks of a stock by its plain data, `SpaceState`, in order of
-//! setup. Each call here is one event on one part: its contract is that part's own relation, with all else
-//! unchanged, and its frame law. `specs/Accounts.antt` says what always balances, relative to the
-//! list of the segments that are out of all parts: in hands, leased, or rounds of CPUs.
+//! setup. Each call here is one event on one part: its contract is that part's own relation, with
+//! all else unchanged, and its frame law. `specs/Accounts.antt` says what always balances, relative
+//! to the list of the segments that are out of all parts: in hands, leased, or rounds of CPUs.
 //!
 //! A call finds its part by its place, in constant time, and costs what the part's own call does.
 //! `reap_all` and `close` go through all parts: a stock ends by the first, by `remove_owned` until

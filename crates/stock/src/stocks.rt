@@ -1,5 +1,6 @@
 //! The stock. What grows one is called by `setups` alone.
-ghost use Rattle.std.specs.Prelude.{◌≡◌, ◌+◌, ◌^◌, ◌<◌, [], ◌∷◌, ◌++◌, length, slice_get, Some, None};
+ghost use Rattle.std.specs.Prelude.{◌≡◌, ◌+◌, ◌^◌, ◌<◌, [], ◌∷◌, ◌++◌, length, slice_get, Some};
+ghost use Rattle.std.specs.Prelude.{None};
 ghost use Rattle.std.specs.Prelude.{OnOk, OnErr, IfSome};
 ghost use Rattle.deed_core.specs.Weights.{Loses};
 ghost use Rattle.std.specs.Int.{IsPowerOfTwo};

@@ -1,7 +1,8 @@
 //! The lists of steps over one thread's parts: a stock and a CPU that are lent. Each needs
 //! that they are set up by the tree, and that the accounts balance, whoever else holds segments: so
 //! nothing is stuck, and each clause says that a list of steps was gone through.
-ghost use Rattle.std.specs.Prelude.{◌≡◌, ◌+◌, ◌++◌, ◌-◌, ◌^◌, ◌<◌, ℕ, length, Some, None, Ok, Err, List};
+ghost use Rattle.std.specs.Prelude.{◌≡◌, ◌+◌, ◌++◌, ◌-◌, ◌^◌, ◌<◌, ℕ, length, Some, None, Ok, Err};
+ghost use Rattle.std.specs.Prelude.{List};
 ghost use Rattle.deed_core.specs.Tag.{Tag};
 ghost use Rattle.quantum_cache.specs.Allocs.{alloc_plan, xalloc_plan};
 ghost use Rattle.quantum_cache.specs.Caches.{chain_in};

@@ -60,7 +60,8 @@ fn free_one(stock: &mut Stock<PlainDeed>, segment: Segment<PlainDeed>) -> Option
     requires out { (rest : List Tag) × Accounts stock.old (segment ∷ rest) }
     ensures out { (rest : List Tag) → Accounts stock.old (segment ∷ rest)
         → Accounts stock.new (option_to_list result ++ rest) }
-    ensures above { IfSome result (λ span. (span.route ≡ Route.Direct) × (span.arena < segment.arena)) }
+    ensures above { IfSome result (λ span. (span.route ≡ Route.Direct)
+        × (span.arena < segment.arena)) }
     ensures fixed { plans_of stock.new ≡ plans_of stock.old }
 {
     // For its clause: what is always so of a stock.

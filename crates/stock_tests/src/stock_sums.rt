@@ -205,7 +205,8 @@ fn sums_of_a_chain(rt: HostRuntime) {
     end(&rt, stock);
 }
 
-/// The sums of the first arena are these, in the order free, slab, magazine, exported, leased, hand.
+/// The sums of the first arena are these, in the order free, slab, magazine, exported, leased,
+/// hand.
 fn audits(
     rt: &impl Abort,
     stock: &Stock<PlainDeed>,
@@ -243,8 +244,9 @@ fn end_reaped(rt: &impl Abort, mut stock: Stock<PlainDeed>) {
     }
 }
 
-/// Of each of two slabs of 16 units the first chunk is out: one in a CPU, one leased. The first slab
-/// has a tail of one unit, the second a gap; what is left of both are two chunks and that unit.
+/// Of each of two slabs of 16 units the first chunk is out: one in a CPU, one leased. The first
+/// slab has a tail of one unit, the second a gap; what is left of both are two chunks and that
+/// unit.
 #[test]
 fn sums_with_caches(rt: HostRuntime) {
     let setup = two_arenas(&rt, rt.alloc());

@@ -150,8 +150,8 @@ pub record FitsInSpan (made : SetupState) (l : LeaseLine) : Type 0 where
   pub from : span.range.base ≤ base
   pub to : base + len ≤ end_of span.range
 
--- The first line is a hello, and the second a lease that fits in a span, whoever asks and by whatever
--- number: it isn't answered `nofit`.
+-- The first line is a hello, and the second a lease that fits in a span, whoever asks and by
+-- whatever number: it isn't answered `nofit`.
 abbrev pub ScriptFirstLeaseIsServed : Type 0
 ScriptFirstLeaseIsServed = (start mid new : Picture) (s : Script start)
     (hello greeting lease text : List ℕ) (h : HelloLine) (id : RequestId) (l : LeaseLine)

@@ -256,7 +256,8 @@ fn tell_address<W: Write>(
 // Reads the input to its end.
 fn pass_over<R: Wait, I: Read>(rt: &R, input: &mut Watched<I>) -> Result<(), RunFault>
     ensures end { OnOk result (IsAtEnd (I.remaining (inner_of input.new))) }
-    ensures failed { IfErr result (λ fault. (fault ≡ RunFault.Read) × (has_failed input.new ≡ true)) }
+    ensures failed { IfErr result (λ fault. (fault ≡ RunFault.Read)
+        × (has_failed input.new ≡ true)) }
 {
     let mut buffer = [0u8; 4096];
     for _ in rt.forever() {

@@ -1,5 +1,6 @@
 -- The events, and what may become of a world at each.
-use Rattle.std.specs.Prelude.{◌≡◌, ◌≢◌, ◌⊎◌, ℕ, ◌<◌, ◌≤◌, true, false, All, List, [], ◌∷◌, length, slice_get, Option, Some, None, Ok}
+use Rattle.std.specs.Prelude.{◌≡◌, ◌≢◌, ◌⊎◌, ℕ, ◌<◌, ◌≤◌, true, false, All, List, [], ◌∷◌, length}
+use Rattle.std.specs.Prelude.{slice_get, Option, Some, None, Ok}
 use Rattle.deed_core.specs.Tag.{Tag}
 use Rattle.deed_core.specs.Request.{Fits, IsGood, plain_of}
 use Rattle.deed_core.specs.declared.requests.Request.{Request}
@@ -8,12 +9,14 @@ use Rattle.tag_arena.specs.ArenaState.{IsChosen}
 use Rattle.tag_arena.specs.Outcomes.{Carved, Imported}
 use Rattle.slab_layer.specs.Slab.{IsAllOut, IsComplete}
 use Rattle.slab_layer.specs.Calls.{TakeOf, AddOf, ReapOf}
-use Rattle.magazine_layer.specs.Magazines.{CpuCacheState, IsSize, BothEmpty, BothFull, empty_magazine, after_change}
+use Rattle.magazine_layer.specs.Magazines.{CpuCacheState, IsSize, BothEmpty, BothFull}
+use Rattle.magazine_layer.specs.Magazines.{empty_magazine, after_change}
 use Rattle.magazine_layer.specs.Depots.{DepotState, CanReap, after_tick}
 use Rattle.magazine_layer.specs.Calls.{DepotReapOf, ResizeOf, SwapFullOf, SwapEmptyOf, PutFullOf}
 use Rattle.stock.specs.Spaces.{SpaceState, QuantumCacheState, IsCacheAt, HasCache}
 use Rattle.stock.specs.OwnCaches.{OwnCacheState}
-use Rattle.stock.specs.Steps.{HasQuantum, OnArena, OnSlab, OnDepot, FreeIn, PutIn, CanImport, IsTaggedIn, IsOutOf}
+use Rattle.stock.specs.Steps.{HasQuantum, OnArena, OnSlab, OnDepot, FreeIn, PutIn, CanImport}
+use Rattle.stock.specs.Steps.{IsTaggedIn, IsOutOf}
 use Rattle.lease_terms.specs.Requests.{RequestId}
 use Rattle.lease_terms.specs.declared.refusals.Refusal.TheVariants.{NotYours, Leases}
 use Rattle.lease_proto.specs.declared.lines.LeaseLine.{LeaseLine}
@@ -31,9 +34,15 @@ use Rattle.world_core.specs.declared.events.WorldEvent.TheVariants as events
 use Rattle.world_core.specs.declared.events.Outcome.{Outcome}
 use Rattle.world_core.specs.declared.events.EventFault.{EventFault}
 use Rattle.world_core.specs.declared.events.EventFault.TheVariants as faults
-use Rattle.world_core.specs.declared.events.Outcome.TheVariants.{Done, NotEnabled, NoMemory, Refused}
+use Rattle.world_core.specs.declared.events.Outcome.TheVariants.{Done, NotEnabled, NoMemory}
+use Rattle.world_core.specs.declared.events.Outcome.TheVariants.{Refused}
 use Rattle.world_core.specs.WorldState.{WorldState, IsAmong}
-use Rattle.world_core.specs.Moves.{request_in, HasTask, IsNamed, ClientSays, ClientHears, HelloTaken, HelloRefused, AnsweredAtOnce, TaskTaken, TaskGranted, TaskRefused, TaskReleased, TaskAnswered, TaskGivenUp, HandMoves, PartMoves, LeaseSwept, IsOwnFor, TakesHand, RoundPopped, RoundPushed, HasRoundAt, HandAdopted, RoundAdopted, OwnMoves, HasAllLeases, HasNoSuchLease}
+use Rattle.world_core.specs.Moves.{request_in, HasTask, IsNamed, ClientSays, ClientHears}
+use Rattle.world_core.specs.Moves.{HelloTaken, HelloRefused, AnsweredAtOnce, TaskTaken, TaskGranted}
+use Rattle.world_core.specs.Moves.{TaskRefused, TaskReleased, TaskAnswered, TaskGivenUp, HandMoves}
+use Rattle.world_core.specs.Moves.{PartMoves, LeaseSwept, IsOwnFor, TakesHand, RoundPopped}
+use Rattle.world_core.specs.Moves.{RoundPushed, HasRoundAt, HandAdopted, RoundAdopted, OwnMoves}
+use Rattle.world_core.specs.Moves.{HasAllLeases, HasNoSuchLease}
 
 -- what a CPU would lease: its hand's segment is of the arena that the lease names, and fits it
 pub record CanGrant (w : WorldState) (cpu : ℕ) (id : RequestId) (lease : LeaseLine) (segment : Tag)
@@ -240,7 +249,8 @@ MayWantMemory event w = IsEnabled event w
 
 -- the move of an event
 abbrev pub MovesBy : WorldEvent → (old new : WorldState) → Type 0
-MovesBy (events.Restarts c i) old new = ClientSays c (λ x y line. IsRestarted i x y (Ok line)) old new
+MovesBy (events.Restarts c i) old new =
+    ClientSays c (λ x y line. IsRestarted i x y (Ok line)) old new
 MovesBy (events.Says c op) old new = ClientSays c (λ x y line. IsSent op x y (Ok line)) old new
 MovesBy (events.Repeats c) old new =
     ClientSays c (λ x y line. IsResent x (Ok line) × (y ≡ x)) old new

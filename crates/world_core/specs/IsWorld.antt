@@ -1,5 +1,6 @@
 -- What every world is.
-use Rattle.std.specs.Prelude.{◌≡◌, ◌⊎◌, ℕ, ◌<◌, ◌≤◌, ◌^◌, nat_eq, List, length, map, slice_get, Option, Some, None}
+use Rattle.std.specs.Prelude.{◌≡◌, ◌⊎◌, ℕ, ◌<◌, ◌≤◌, ◌^◌, nat_eq, List, length, map, slice_get}
+use Rattle.std.specs.Prelude.{Option, Some, None}
 use Rattle.std.specs.List.{IsDistinct}
 use Rattle.deed_core.specs.Tag.{Tag}
 use Rattle.stock.specs.Spaces.{SpaceState}
@@ -70,8 +71,8 @@ pub record AreInOrder (owners : List ℕ) (caches : List OwnCacheState) : Type 0
 
 -- What the parts have given is in hands, in CPUs' caches or leased; loaded magazines have at most
 -- their size, and previous ones none or as many; the book is what is read off the entries, of which
--- each grant was asked for; the clients, each with an id of its own, are known to the book; lines were
--- said by their clients, and the book may tell what was replied.
+-- each grant was asked for; the clients, each with an id of its own, are known to the book; lines
+-- were said by their clients, and the book may tell what was replied.
 pub record IsWorld (w : WorldState) : Type 0 where
   pub parts : IsAccountedFor w.stock (outside_of w)
   pub named : length w.names ≡ length w.stock

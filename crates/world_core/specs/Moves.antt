@@ -1,6 +1,7 @@
 -- What may become of a world at one event, each case by its condition and its move. The parts' own
 -- relations say what a call of them does; all that a move doesn't name stays.
-use Rattle.std.specs.Prelude.{◌≡◌, ℕ, true, ◌+◌, ◌<◌, ◌≤◌, List, [], ◌∷◌, ◌++◌, length, set, slice_get, sum_by, Option, Some, None, Ok}
+use Rattle.std.specs.Prelude.{◌≡◌, ℕ, true, ◌+◌, ◌<◌, ◌≤◌, List, [], ◌∷◌, ◌++◌, length, set}
+use Rattle.std.specs.Prelude.{slice_get, sum_by, Option, Some, None, Ok}
 use Rattle.std.specs.List.{find}
 use Rattle.std.specs.Option.{option_to_list}
 use Rattle.deed_core.specs.Tag.{Tag}
@@ -26,7 +27,8 @@ use Rattle.lease_proto.specs.declared.replies.Reply.TheVariants as replies
 use Rattle.lease_book.specs.declared.receipts.KeptReply.{KeptReply}
 use Rattle.lease_book.specs.declared.receipts.KeptReply.TheVariants as kept
 use Rattle.lease_book.specs.Receipts.{ReceiptState}
-use Rattle.lease_book.specs.Entry.{Settlement, Grant, Return, Refuse, Settled, Hello, Swept, kept_reply_of}
+use Rattle.lease_book.specs.Entry.{Settlement, Grant, Return, Refuse, Settled, Hello, Swept}
+use Rattle.lease_book.specs.Entry.{kept_reply_of}
 use Rattle.lease_book.specs.BookState.{BookState, Enters, account_in, leased}
 use Rattle.lease_book.specs.Answers.{IsNew, IsRepeated, IsOld, IsStale, IsGap}
 use Rattle.lease_book.specs.Account.{is_lease}

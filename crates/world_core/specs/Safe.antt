@@ -71,9 +71,10 @@ SettlesIt id (replies.Released of) = of ≡ id
 SettlesIt id (replies.Refused r) = r.id ≡ id
 SettlesIt id reply = ⊥
 
--- All units are accounted for, and each stands in one place. A CPU's loaded magazine has at most its
--- size, and its previous one none or as many. The book is what is read off its entries. Each grant was asked for and fits. Clients hold what is leased to them, and no unit of a
--- space is in two segments that they hold. And any two replies that settle one request are equal.
+-- All units are accounted for, and each stands in one place. A CPU's loaded magazine has at most
+-- its size, and its previous one none or as many. The book is what is read off its entries. Each
+-- grant was asked for and fits. Clients hold what is leased to them, and no unit of a space is in
+-- two segments that they hold. And any two replies that settle one request are equal.
 pub record Safe (w : WorldState) : Type 0 where
   pub parts : IsAccountedFor w.stock (outside_of w)
   pub places : (k : ℕ) (s : SpaceState) → slice_get w.stock k ≡ Some s → (unit : ℕ)

@@ -1,5 +1,6 @@
 -- What a world is set up as.
-use Rattle.std.specs.Prelude.{◌≡◌, ℕ, false, zero, suc, ◌+◌, ◌/◌, List, [], ◌∷◌, ◌++◌, length, map, replicate, None}
+use Rattle.std.specs.Prelude.{◌≡◌, ℕ, false, zero, suc, ◌+◌, ◌/◌, List, [], ◌∷◌, ◌++◌, length, map}
+use Rattle.std.specs.Prelude.{replicate, None}
 use Rattle.arena_tree.specs.declared.trees.TreeArena.{TreeArena}
 use Rattle.arena_tree.specs.Settings.{SetupState}
 use Rattle.magazine_layer.specs.Magazines.{BothEmpty}

@@ -6,7 +6,8 @@ ghost use Rattle.lease_book.specs.BookState.{account_in};
 ghost use Rattle.lease_book.specs.Answers.{IsAnswer, IsNew};
 ghost use Rattle.lease_proto.specs.declared.lines.Op.{Op};
 ghost use Rattle.world_core.specs.IsWorld.{IsWorld};
-ghost use Rattle.world_core.specs.Moves.{HasTask, IsAnswered, TaskAnswered, TaskGivenUp, TaskRefused, TaskGranted, HasAllLeases};
+ghost use Rattle.world_core.specs.Moves.{HasTask, IsAnswered, TaskAnswered, TaskGivenUp};
+ghost use Rattle.world_core.specs.Moves.{TaskRefused, TaskGranted, HasAllLeases};
 ghost use Rattle.world_core.specs.Events.{EndsAs, Tries, CanGrant, HasOldLease, IsReady};
 
 use crate::events::{Outcome, WorldEvent};

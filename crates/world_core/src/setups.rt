@@ -1,5 +1,6 @@
 //! How a world is set up.
-ghost use Rattle.std.specs.Prelude.{◌≡◌, ◌≢◌, ◌≤◌, ◌^◌, [], ◌∷◌, ◌++◌, length, OnOk, OnErr, None, false};
+ghost use Rattle.std.specs.Prelude.{◌≡◌, ◌≢◌, ◌≤◌, ◌^◌, [], ◌∷◌, ◌++◌, length, OnOk, OnErr, None};
+ghost use Rattle.std.specs.Prelude.{false};
 ghost use Rattle.stock.specs.Accounts.{Accounts};
 ghost use Rattle.lease_book.specs.BookState.{IsHistory};
 ghost use Rattle.lease_client.specs.ClientState.{silent};

@@ -24,8 +24,8 @@ const SOAK: u64 = 10;
 /// How many segments a worker holds at most.
 const MOST_HELD: usize = 64;
 
-/// What a worker's client has at the end, and how many lines were answered, grants and releases among
-/// them.
+/// What a worker's client has at the end, and how many lines were answered, grants and releases
+/// among them.
 #[derive(Drop)]
 struct Tended {
     client: Client,

@@ -6,9 +6,9 @@ use arena_tree::Setup;
 use refusing_deed::RefusingDeed;
 use tag_arena::Policy;
 
-/// Sixteen over four arenas: no full magazine, no chunk, no room for a slab in any of the four; then
-/// four carves, the last of which gives two units, and three imports, the last of which would split
-/// them and is out of memory; so they go back over three arenas.
+/// Sixteen over four arenas: no full magazine, no chunk, no room for a slab in any of the four;
+/// then four carves, the last of which gives two units, and three imports, the last of which would
+/// split them and is out of memory; so they go back over three arenas.
 #[test]
 fn sixteen_steps(rt: HostRuntime) {
     let mut setup = Setup::new(rt.alloc());

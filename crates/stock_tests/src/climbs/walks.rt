@@ -280,8 +280,8 @@ fn two_cpus(rt: HostRuntime) {
     walk_cached(&rt, rt.alloc(), &TWO_CPUS);
 }
 
-/// Depots keep greater magazines. A CPU goes over to these where it would exchange one: when both of
-/// its own are full, by the exchange that is refused, and when both are empty.
+/// Depots keep greater magazines. A CPU goes over to these where it would exchange one: when both
+/// of its own are full, by the exchange that is refused, and when both are empty.
 const MAGAZINES_GET_GREATER: [Step; 42] = [
     Step::Alloc(0, 1, 0),
     Step::Alloc(0, 1, 1),
