@@ -1,0 +1,25 @@
+//! Tests of worlds by their public calls. It has no code of its own.
+//!
+//! `stories` has worlds to which each event of a list happens, with what clients hold, what was
+//! replied and what audits tell in the end; `refusals` each named refusal of an event that a test
+//! can reach, at which nothing moves; `failing` a CPU that fails after each of its events in turn;
+//! `walks` a hundred thousand events at random, along which the sums and what clients hold are
+//! looked at. What they share stands in `worlds`; `picks`, `chances` and `kinds` are for the walk.
+#![tactic(auto)]
+
+#[cfg(test)]
+mod chances;
+#[cfg(test)]
+mod failing;
+#[cfg(test)]
+mod kinds;
+#[cfg(test)]
+mod picks;
+#[cfg(test)]
+mod refusals;
+#[cfg(test)]
+mod stories;
+#[cfg(test)]
+mod walks;
+#[cfg(test)]
+mod worlds;

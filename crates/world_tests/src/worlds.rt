@@ -1,0 +1,204 @@
+//! What the tests share: a world with its clients, what they ask for, and how a world is looked at.
+ghost use Rattle.std.specs.Prelude.{◌≡◌, ◌<◌, ◌≤◌};
+
+use arena_tree::{NewChild, NewRoot, Setting, Setup};
+use deed_core::{PlainDeed, Request};
+use lease_proto::{LeaseLine, LeaseOptions, Op, ReleaseLine};
+use lease_terms::{ClientId, Name, Quantity};
+use std::alloc::{AllocGlobal, Global};
+use std::process::Abort;
+use stock_audit::ArenaSums;
+use tag_arena::Policy;
+use world_core::{Outcome, World, WorldEvent};
+
+/// The units of one arena: free, in slabs, in magazines, exported, leased, in hands.
+pub(crate) type Counts = [u128; 6];
+
+pub(crate) fn name(rt: &impl Abort, text: &str) -> Name {
+    Name::new(text.as_bytes()).expect(rt, "a name")
+}
+
+pub(crate) fn units(rt: &impl Abort, units: u64) -> Quantity {
+    Quantity::new(units).expect(rt, "a quantity")
+}
+
+/// The client with this number.
+pub(crate) fn client(rt: &impl Abort, number: u32) -> ClientId
+    ensures { result ≡ number }
+{
+    ClientId::new(number).expect(rt, "a client")
+}
+
+/// A root of so many units from `base` on, which has caches for up to `qcache_max`.
+pub(crate) fn root(
+    rt: &impl Abort,
+    setup: &mut Setup,
+    text: &str,
+    base: u64,
+    len: u64,
+    policy: Policy,
+    qcache_max: u64,
+) {
+    let root = NewRoot {
+        name: name(rt, text),
+        base,
+        len,
+        quantum: 1,
+        policy,
+        qcache_max,
+    };
+    setup.add(&Setting::Root(root)).expect(rt, "a root");
+}
+
+/// An arena that imports `import_min` units or more of its source.
+pub(crate) fn child(
+    rt: &impl Abort,
+    setup: &mut Setup,
+    text: &str,
+    source: &str,
+    policy: Policy,
+    qcache_max: u64,
+    import_min: u64,
+) {
+    let child = NewChild {
+        name: name(rt, text),
+        source: name(rt, source),
+        quantum: 1,
+        policy,
+        qcache_max,
+        import_min,
+    };
+    setup.add(&Setting::Child(child)).expect(rt, "a child");
+}
+
+/// The world of the setup, with the clients 1, 2 and so on.
+pub(crate) fn world_of(
+    rt: &impl Abort,
+    alloc: Global,
+    setup: &Setup,
+    cpus: usize,
+    clients: u32,
+) -> World<PlainDeed>
+    requires some { 0 < cpus }
+    requires few { cpus ≤ 64 }
+{
+    let mut made = match World::new(alloc, setup, cpus) {
+        Ok(world) => world,
+        Err(_) => panic!(rt; "memory"),
+    };
+    for place in 0..clients {
+        let id = client(rt, place + 1);
+        match made.add_client(alloc, id) {
+            Ok(()) => {}
+            Err(_) => panic!(rt; "memory"),
+        }
+    }
+    made
+}
+
+/// Asks for so many units of the arena.
+pub(crate) fn lease(rt: &impl Abort, arena: &str, size: u64) -> Op {
+    Op::Lease(LeaseLine {
+        arena: name(rt, arena),
+        size: units(rt, size),
+        options: LeaseOptions::none(),
+    })
+}
+
+/// Gives back what begins at this base of the arena.
+pub(crate) fn release(rt: &impl Abort, arena: &str, base: u64) -> Op {
+    Op::Release(ReleaseLine {
+        arena: name(rt, arena),
+        base: units(rt, base),
+    })
+}
+
+/// The client begins this incarnation.
+pub(crate) fn restarts(client: usize, incarnation: u64) -> WorldEvent {
+    WorldEvent::Restarts {
+        client,
+        incarnation,
+    }
+}
+
+/// The client hears this reply.
+pub(crate) fn hears(client: usize, which: usize) -> WorldEvent {
+    WorldEvent::Hears { client, which }
+}
+
+/// The CPU carves so many units of the arena.
+pub(crate) fn carves(cpu: usize, arena: usize, size: u64) -> WorldEvent {
+    WorldEvent::Carves {
+        cpu,
+        arena,
+        request: Request::plain(size),
+    }
+}
+
+/// The event ends so.
+pub(crate) fn ends(
+    rt: &impl Abort,
+    world: &mut World<PlainDeed>,
+    event: WorldEvent,
+    wanted: Outcome,
+) {
+    let outcome = world.step(event);
+    assert!(rt; outcome == wanted, "{event:?}: {outcome:?}");
+}
+
+/// Each of the events happens.
+pub(crate) fn all_done(rt: &impl Abort, world: &mut World<PlainDeed>, events: &[WorldEvent]) {
+    for event in events {
+        ends(rt, world, *event, Outcome::Done);
+    }
+}
+
+/// The sums of the arena at the place.
+pub(crate) fn sums(rt: &impl Abort, world: &World<PlainDeed>, arena: usize) -> ArenaSums {
+    assert!(rt; arena < world.arenas(), "no arena");
+    world.audit(arena)
+}
+
+/// The sums of the arena at the place are these.
+pub(crate) fn tells(rt: &impl Abort, world: &World<PlainDeed>, arena: usize, counts: Counts) {
+    let [free, slab, magazine, exported, leased, hand] = counts;
+    let wanted = ArenaSums {
+        free,
+        slab,
+        magazine,
+        exported,
+        leased,
+        hand,
+    };
+    let told = sums(rt, world, arena);
+    assert!(rt; told == wanted, "{told:?}");
+}
+
+/// The client at the place holds just these, each by its base and length.
+pub(crate) fn holds(
+    rt: &impl Abort,
+    world: &World<PlainDeed>,
+    client: usize,
+    wanted: &[(u64, u64)],
+) {
+    let held = world.held(client).expect(rt, "a client");
+    assert!(rt; held.len() == wanted.len(), "{held:?}");
+    for (segment, (base, len)) in held.iter().zip(wanted) {
+        assert!(rt;
+            segment.base.get() == *base && segment.len.get() == *len,
+            "{segment:?}"
+        );
+    }
+}
+
+/// All replies, each as it is written, are these lines.
+pub(crate) fn replied<R: Abort + AllocGlobal>(rt: &R, world: &World<PlainDeed>, wanted: &[&str]) {
+    let replies = world.replies();
+    assert!(rt; replies.len() == wanted.len(), "{replies:?}");
+    for (reply, text) in replies.iter().zip(wanted) {
+        let mut out = Vec::new(rt.alloc());
+        reply.write(&mut out).expect(rt, "memory");
+        out.pop();
+        assert!(rt; out.as_slice() == text.as_bytes(), "{reply:?}");
+    }
+}
