@@ -1,6 +1,6 @@
 -- When a stock ends, and what is so of one that was reaped.
-use Rattle.std.specs.Prelude.{◌≡◌, ◌⊎◌, ℕ, ◌<◌, List, [], ◌∷◌, All, Contains, map, Result, Ok}
-use Rattle.std.specs.Prelude.{Err}
+use Rattle.std.specs.Prelude.{◌≡◌, ◌≢◌, ◌⊎◌, ℕ, ◌<◌, List, [], ◌∷◌, All, Contains, map}
+use Rattle.std.specs.Prelude.{slice_get, Some, Result, Ok, Err}
 use Rattle.deed_core.specs.Holding.{Holding}
 use Rattle.deed_core.specs.Tag.{Tag}
 use Rattle.tag_arena.specs.ArenaState.{spans_of}
@@ -40,6 +40,14 @@ IsReaped s = All IsReapedCache s.caches
 -- no owned span of the arena is wholly free, so that none is left to take out
 abbrev pub IsTakenOut : SpaceState → Type 0
 IsTakenOut s = All (λ h. ¬ Contains s.arena.free h) s.arena.owned
+
+-- none is left in the arena of this index
+abbrev pub IsTakenOutAt : List SpaceState → ℕ → Type 0
+IsTakenOutAt spaces k = (s : SpaceState) → slice_get spaces k ≡ Some s → IsTakenOut s
+
+-- all arenas but the one of this index are as they were
+abbrev pub OthersAreSame : ℕ → List SpaceState → List SpaceState → Type 0
+OthersAreSame k old new = (i : ℕ) → i ≢ k → slice_get new i ≡ slice_get old i
 
 -- where nothing is out, a stock ends once its caches are reaped and its owned spans taken out
 abbrev pub EndsOnceReaped : Type 0

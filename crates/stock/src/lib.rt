@@ -9,7 +9,8 @@
 //!
 //! A call finds its part by its place, in constant time, and costs what the part's own call does.
 //! `reap_all` and `close` go through all parts: a stock ends by the first, by `remove_owned` until
-//! it gives none, and by the second, exactly where nothing is out of it (`end_laws`).
+//! it gives none, and by the second, exactly where nothing is out of it (`end_laws`). `put_back`
+//! takes back what is out, and `close_plain_stock` does all of that over plain deeds.
 //!
 //! Begin with `Stock::of` in `making`, which makes a `Stock` of a setup (`plain_stock` does over
 //! plain deeds), and with its calls in `stocks`; `specs/Setups.antt` says what a stock is set up
@@ -35,6 +36,6 @@ pub use laws::{
     apart_laws, chain_laws, end_laws, frame_laws, never_refused_laws, one_place_laws, weight_laws,
 };
 pub use own_caches::OwnCache;
-pub use plain_stocks::plain_stock;
+pub use plain_stocks::{close_plain_stock, plain_stock};
 pub use spaces::{QuantumCache, Space};
 pub use stocks::Stock;

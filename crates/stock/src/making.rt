@@ -1,5 +1,5 @@
 //! How a stock is made of a setup and the deeds of its spans: whole, or not at all.
-ghost use Rattle.std.specs.Prelude.{◌≡◌, ◌≢◌, ℕ, ◌+◌, ◌<◌, ◌≤◌, [], All, IfOk, IfErr, OnOk, OnErr};
+ghost use Rattle.std.specs.Prelude.{◌≡◌, ℕ, ◌+◌, ◌<◌, ◌≤◌, [], All, IfOk, IfErr, OnOk, OnErr};
 ghost use Rattle.std.specs.Prelude.{length, map, reverse, slice_get, sum_by, Some, None};
 ghost use Rattle.std.specs.Prelude.{vec_len, vec_capacity};
 ghost use Rattle.deed_core.specs.Holding.{Holding};
@@ -10,7 +10,7 @@ ghost use Rattle.tag_arena.specs.Calls.{IsClear, after_add};
 ghost use Rattle.stock.specs.Spaces.{SpaceState, plans_of};
 ghost use Rattle.stock.specs.Accounts.{Accounts, Frames};
 ghost use Rattle.stock.specs.Steps.{OnArena};
-ghost use Rattle.stock.specs.Endings.{IsReaped, IsTakenOut};
+ghost use Rattle.stock.specs.Endings.{IsReaped, IsTakenOutAt, OthersAreSame};
 ghost use Rattle.stock.specs.Setups.{AreDeedsOf, IsSetUpFrom, IsNewSpace, plans_for};
 ghost use Rattle.stock.specs.Owning.{owned_in, AreOwnedOrLeft};
 
@@ -131,8 +131,8 @@ impl<D: Deed> Stock<D> {
         requires within { arena < length self.old }
         requires room { sum_by (owned_in (λ h. 1)) self.old + vec_len deeds.old
             ≤ vec_capacity deeds.old }
-        ensures taken { (s : SpaceState) → slice_get self.new arena ≡ Some s → IsTakenOut s }
-        ensures others { (k : ℕ) → k ≢ arena → slice_get self.new k ≡ slice_get self.old k }
+        ensures taken { IsTakenOutAt self.new arena }
+        ensures others { OthersAreSame arena self.old self.new }
         ensures reaped { All IsReaped self.old → All IsReaped self.new }
         ensures same { (f : Holding → ℕ) → sum_by (owned_in f) self.old
             + sum_by f (map D.holding deeds.old.items) ≡ sum_by (owned_in f) self.new

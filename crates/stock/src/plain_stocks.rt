@@ -1,8 +1,10 @@
 //! A stock over plain deeds, for one thread.
-ghost use Rattle.std.specs.Prelude.{◌≡◌, IfOk, []};
+ghost use Rattle.std.specs.Prelude.{◌≡◌, ◌<◌, IfOk, [], All, length};
 ghost use Rattle.magazine_layer.specs.Magazines.{IsSize};
 ghost use Rattle.stock.specs.Accounts.{Accounts};
+ghost use Rattle.stock.specs.Endings.{IsReaped, IsTakenOut, IsTakenOutAt, OthersAreSame};
 ghost use Rattle.stock.specs.Setups.{IsSetUpFrom, numbered_deeds};
+ghost use Rattle.stock.specs.Spaces.{plans_of};
 
 use crate::stocks::Stock;
 use arena_tree::Setup;
@@ -49,4 +51,50 @@ fn close_all(mut deeds: Vec<PlainDeed>) {
         let _ = deed.close();
     }
     deeds.destroy_empty();
+}
+
+/// Ends a stock of which nothing is out: all that lies in its caches goes home, its owned spans are
+/// taken out, and their deeds closed. It takes no memory.
+pub fn close_plain_stock(stock: Stock<PlainDeed>)
+    requires { Accounts stock [] }
+{
+    let mut stock = stock;
+    match stock.reap_all() {
+        Ok(()) => {}
+        Err(_) => unreachable!(),
+    }
+    close_owned(&mut stock);
+    match stock.close() {
+        Ok(()) => {}
+        Err(_) => unreachable!(),
+    }
+}
+
+/// Takes out each owned span that is wholly free, and closes its deed.
+fn close_owned(stock: &mut Stock<PlainDeed>)
+    requires balanced { Accounts stock.old [] }
+    requires reaped { All IsReaped stock.old }
+    ensures balanced { Accounts stock.new [] }
+    ensures reaped { All IsReaped stock.new }
+    ensures taken { All IsTakenOut stock.new }
+{
+    for arena in 0..stock.count() {
+        close_owned_by(stock, arena);
+    }
+}
+
+/// The same of one arena.
+fn close_owned_by(stock: &mut Stock<PlainDeed>, arena: usize)
+    requires within { arena < length stock.old }
+    requires balanced { Accounts stock.old [] }
+    requires reaped { All IsReaped stock.old }
+    ensures balanced { Accounts stock.new [] }
+    ensures reaped { All IsReaped stock.new }
+    ensures taken { IsTakenOutAt stock.new arena }
+    ensures others { OthersAreSame arena stock.old stock.new }
+    ensures fixed { plans_of stock.new ≡ plans_of stock.old }
+{
+    while let Some(deed) = stock.remove_owned(arena) {
+        let _ = deed.close();
+    }
 }

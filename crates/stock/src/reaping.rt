@@ -135,4 +135,23 @@ impl<D: Deed> Stock<D> {
         }
         Ok(())
     }
+
+    /// Takes a segment back that is out: a chunk into its slab, another into its arena, and each
+    /// imported span that becomes whole by that into its source. It takes no memory. A segment that
+    /// its part refuses comes out; that is never so where the accounts balance.
+    pub fn put_back(&mut self, segment: Segment<D>) -> Result<(), Segment<D>>
+        ensures frame { Frames self.old (segment ∷ []) self.new (hand_after_reap result) }
+        ensures fixed { plans_of self.new ≡ plans_of self.old }
+        ensures lasts { lastings_of self.new ≡ lastings_of self.old }
+        ensures never { (rest : List Tag) → Accounts self.old (segment ∷ rest) → IsOk result }
+    {
+        match segment.route() {
+            Route::Direct => self.free_up(segment),
+            Route::Cached(_) => match self.slab_put(segment) {
+                Ok(()) => Ok(()),
+                Err(PutFault::NotMine(segment)) => Err(segment),
+                Err(PutFault::AtHome(segment)) => Err(segment),
+            },
+        }
+    }
 }

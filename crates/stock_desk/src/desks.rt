@@ -9,7 +9,6 @@ ghost use Rattle.lease_machine.specs.RoomLaws.{NothingIsKept};
 ghost use Rattle.stock_desk.specs.Openings.{IsOpenedFrom};
 ghost use Rattle.stock_desk.specs.Operating.{Keeps};
 
-use crate::closings::close_stock;
 use crate::emptyings::empty_all;
 use crate::openings::open_supply;
 use crate::operating::tell;
@@ -20,6 +19,7 @@ use arena_tree::{MOST_ARENAS, MOST_SPANS, Setup};
 use deed_core::{PlainDeed, Range};
 use lease_book::Book;
 use lease_proto::{LINE_ROOM, ServedLine};
+use stock::close_plain_stock;
 use std::alloc::{AllocError, Global};
 use std::marker::Model;
 
@@ -121,6 +121,6 @@ impl Desk {
             Err(_) => unreachable!(),
         }
         empty_all(alloc, &tree, &mut stock, cpus);
-        close_stock(stock);
+        close_plain_stock(stock);
     }
 }

@@ -5,13 +5,12 @@
 //! settling, replying), segments that are given and taken back (supplies, takings), leases, hellos
 //! and releases (leasing, hellos, releasing), the answers to an operator (operating), CPUs that go
 //! offline (offlines), what is reaped (reapings), what a setup gives (openings), and how leases
-//! (returns), CPUs (emptyings) and the stock (closings) end. The desk itself stands in desks, and
-//! what a server asks of it in responding.
+//! (returns) and CPUs (emptyings) end. The desk itself stands in desks, and what a server asks of
+//! it in responding.
 #![tactic(auto)]
 
 mod answers;
 mod calls;
-mod closings;
 mod cpus;
 mod depots;
 mod desks;

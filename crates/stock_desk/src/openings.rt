@@ -6,7 +6,6 @@ ghost use Rattle.lease_machine.specs.RoomLaws.{NothingIsKept};
 ghost use Rattle.stock_desk.specs.Openings.{IsOpenedFrom};
 ghost use Rattle.stock_desk.specs.Supplies.{pictured};
 
-use crate::closings::close_stock;
 use crate::cpus::{Cpu, FIRST_ROUNDS};
 use crate::supplies::Supply;
 use arena_tree::Setup;
@@ -14,7 +13,7 @@ use deed_core::PlainDeed;
 use lease_proto::CpuNumber;
 use local_parts::CpuCaches;
 use std::alloc::{AllocError, Global};
-use stock::{Stock, plain_stock};
+use stock::{Stock, close_plain_stock, plain_stock};
 
 /// The arenas of a setup with their caches and spans, all free, and the first CPU, selected. Memory
 /// alone can be refused, and then what was made is closed.
@@ -40,7 +39,7 @@ pub(crate) fn open_supply(alloc: Global, setup: Setup) -> Result<Supply, AllocEr
             selected: CpuNumber::FIRST,
         }),
         Err(error) => {
-            close_stock(stock);
+            close_plain_stock(stock);
             Err(error)
         }
     }

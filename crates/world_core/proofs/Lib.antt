@@ -16,5 +16,4 @@ mod SwapLemmas
 mod MakingLemmas
 mod OwnSetups
 mod AdoptLemmas
-mod TakingOut
 mod GoingHome

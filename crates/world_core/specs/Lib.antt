@@ -4,4 +4,3 @@ pub mod IsWorld
 pub mod Events
 pub mod Safe
 pub mod Setups
-pub mod Ends

@@ -1,9 +1,9 @@
 //! The end of a world.
-use crate::closing::close_stock;
 use crate::parts::WorldParts;
 use crate::returning::{empty_hands, end_caches, end_leases};
 use crate::worlds::World;
 use deed_core::PlainDeed;
+use stock::close_plain_stock;
 
 impl World<PlainDeed> {
     /// Ends the world: all that hands, CPUs' caches and leases have goes home, and so does all that
@@ -29,7 +29,7 @@ impl World<PlainDeed> {
         empty_hands(&mut stock, hands);
         end_leases(&mut stock, &mut book);
         end_caches(&mut stock, caches);
-        close_stock(stock);
+        close_plain_stock(stock);
         match book.close() {
             Ok(mark) => {
                 let _ = mark.close();

@@ -26,7 +26,6 @@ mod adopting;
 mod audits;
 mod booking;
 mod carving;
-mod closing;
 mod depots;
 mod ending;
 mod events;

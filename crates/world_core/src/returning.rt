@@ -1,5 +1,5 @@
 //! Segments that go back into the stock, at a world's end. Nothing here takes memory.
-ghost use Rattle.std.specs.Prelude.{◌≡◌, ◌<◌, List, ◌∷◌, ◌++◌, [], IfSome};
+ghost use Rattle.std.specs.Prelude.{◌≡◌, List, ◌∷◌, ◌++◌, []};
 ghost use Rattle.std.specs.Option.{option_to_list};
 ghost use Rattle.deed_core.specs.Tag.{Tag};
 ghost use Rattle.lease_book.specs.BookState.{leased};
@@ -8,7 +8,7 @@ ghost use Rattle.stock.specs.OwnCaches.{own_rounds};
 ghost use Rattle.stock_audit.specs.Outside.{all_rounds_out};
 ghost use Rattle.world_core.specs.WorldState.{in_hands};
 
-use deed_core::{PlainDeed, Route, Segment};
+use deed_core::{PlainDeed, Segment};
 use lease_book::Book;
 use stock::{OwnCache, Stock};
 
@@ -75,49 +75,14 @@ fn end_cache(stock: &mut Stock<PlainDeed>, mut own: OwnCache<PlainDeed>)
     }
 }
 
-/// Takes a segment back that is out: a chunk into its slab, another to its arena.
+/// Takes a segment back that is out.
 fn put_home(stock: &mut Stock<PlainDeed>, segment: Segment<PlainDeed>)
     requires { (rest : List Tag) × Accounts stock.old (segment ∷ rest) }
     ensures { (rest : List Tag) → Accounts stock.old (segment ∷ rest)
         → Accounts stock.new rest }
 {
-    // For its clause: what is always so of a stock.
-    let _ = stock.count();
-    match segment.route() {
-        Route::Direct => free_up(stock, segment),
-        Route::Cached(_) => match stock.slab_put(segment) {
-            Ok(()) => {}
-            Err(_) => unreachable!(),
-        },
-    }
-}
-
-/// Frees a segment, and each imported span that becomes whole by that in its source.
-fn free_up(stock: &mut Stock<PlainDeed>, segment: Segment<PlainDeed>)
-    requires direct { segment.route ≡ Route.Direct }
-    requires out { (rest : List Tag) × Accounts stock.old (segment ∷ rest) }
-    ensures { (rest : List Tag) → Accounts stock.old (segment ∷ rest)
-        → Accounts stock.new rest }
-{
-    let mut left = free_one(stock, segment);
-    while let Some(span) = left {
-        left = free_one(stock, span);
-    }
-}
-
-/// Frees a segment, and gives the imported span that becomes whole by that.
-fn free_one(stock: &mut Stock<PlainDeed>, segment: Segment<PlainDeed>) -> Option<Segment<PlainDeed>>
-    requires direct { segment.route ≡ Route.Direct }
-    requires out { (rest : List Tag) × Accounts stock.old (segment ∷ rest) }
-    ensures out { (rest : List Tag) → Accounts stock.old (segment ∷ rest)
-        → Accounts stock.new (option_to_list result ++ rest) }
-    ensures above { IfSome result
-        (λ span. (span.route ≡ Route.Direct) × (span.arena < segment.arena)) }
-{
-    // For its clause: what is always so of a stock.
-    let _ = stock.count();
-    match stock.free(segment) {
-        Ok(left) => left,
+    match stock.put_back(segment) {
+        Ok(()) => {}
         Err(_) => unreachable!(),
     }
 }

@@ -1,10 +1,10 @@
 use Rattle.std.proofs.Common.{◌≡◌, [], All}
+use Rattle.std.specs.Prelude.{sum_by}
 use Rattle.stock.specs.Accounts.{Accounts}
-use Rattle.stock.specs.Endings.{IsReaped}
+use Rattle.stock.specs.Endings.{IsReaped, OthersAreSame}
+use Rattle.stock.specs.Owning.{owned_in}
 use Rattle.stock.specs.Spaces.{plans_of}
-use Rattle.stock_desk.specs.Outs.{OthersAreSame}
-use Rattle.stock_desk.proofs.TakingOut.{owned_count}
-use Rattle.stock_desk.proofs.closings.take_out.Given as goal
+use Rattle.stock.proofs.plain_stocks.close_owned_by.Given as goal
 
 abbrev pub invariant-loop-deed : goal.invariant-loop-deed
 invariant-loop-deed l = record {
@@ -15,4 +15,4 @@ invariant-loop-deed l = record {
 }
 
 abbrev pub decreases-loop-deed : goal.decreases-loop-deed
-decreases-loop-deed l = owned_count l.stock l.fn.arena
+decreases-loop-deed l = sum_by (owned_in (λ h. 1)) l.stock
