@@ -23,5 +23,5 @@ loop-arena-preserved c =
 pub returns-clause-taken : goal.returns-clause-taken
 returns-clause-taken c =
     let i = c.loop-arena.invariant in
-    let many = (plans_stay c.args.stock c.loop-arena.stock i.fixed).0 in
+    let many = (plans_stay c.args.stock.now c.loop-arena.stock i.fixed).0 in
     all_from IsTakenOut c.loop-arena.stock (λ k s at. i.taken k (omega (arith, slice_get_within c.loop-arena.stock k s at, many, c.count-arena-end.ensures.value)) s at)
