@@ -83,4 +83,15 @@ impl<D: Deed> Stock<D> {
         let opened = &space.caches[cache];
         opened.depot.units()
     }
+
+    /// How many rounds the magazines of its depot hold.
+    pub fn depot_size(&self, arena: usize, cache: usize) -> usize
+        requires has { HasCache self.now arena cache }
+        ensures { (c : QuantumCacheState) → IsCacheAt self.now arena cache c
+            → result ≡ c.depot.size }
+    {
+        let space = &self.spaces[arena];
+        let opened = &space.caches[cache];
+        opened.depot.size()
+    }
 }

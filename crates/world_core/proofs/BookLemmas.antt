@@ -14,22 +14,23 @@ use Rattle.lease_proto.specs.declared.lines.ReleaseLine.{ReleaseLine}
 use Rattle.lease_proto.specs.declared.lines.Op.{Op}
 use Rattle.lease_proto.specs.declared.lines.Op.TheVariants as ops
 use Rattle.lease_proto.specs.declared.replies.Reply.{Reply}
+use Rattle.lease_proto.specs.declared.replies.Reply.TheVariants as replies
 use Rattle.lease_book.specs.declared.receipts.KeptReply.{KeptReply}
 use Rattle.lease_book.specs.declared.receipts.Terms.{Terms}
 use Rattle.lease_book.specs.Receipts.{Kept, ReceiptState}
 use Rattle.lease_book.specs.Entry.{Entry, Settlement, Settled, Grant, Return, Refuse, kept_reply_of}
 use Rattle.lease_book.specs.History.{incarnation}
 use Rattle.lease_book.specs.BookState.{BookState, account_in}
-use Rattle.lease_book.specs.Answers.{IsRepeated}
+use Rattle.lease_book.specs.Answers.{IsRepeated, IsNew}
 use Rattle.lease_book.specs.Calls.{IsGranted, IsRefused, IsReleased}
-use Rattle.lease_book.specs.Account.{is_lease}
+use Rattle.lease_book.specs.Account.{Account, last, number_of, is_lease}
 use Rattle.lease_book.proofs.LawProofs.{account_is, last_outcome, outcomes_stay}
 use Rattle.lease_book.specs.declared.books.TheConstants.{MOST_LEASES}
 use Rattle.lease_history.specs.Told.{reply_to}
 use Rattle.world_core.specs.declared.tasks.Task.{Task}
 use Rattle.world_core.specs.WorldState.{WorldState, arena_name}
 use Rattle.world_core.specs.IsWorld.{IsWorld}
-use Rattle.world_core.specs.Moves.{request_in, settled_reply, IsTellable, HasTask, HasAllLeases, HasNoSuchLease, TaskGranted, TaskRefused, TaskReleased}
+use Rattle.world_core.specs.Moves.{request_in, settled_reply, IsAnswered, IsTellable, HasTask, HasAllLeases, HasNoSuchLease, TaskGranted, TaskRefused, TaskReleased}
 use Rattle.world_core.specs.Events.{CanGrant, CanRelease, IsEnabled}
 use Rattle.world_core.specs.declared.events.WorldEvent.TheVariants as events
 
@@ -38,6 +39,16 @@ settled_tellable : (w : WorldState) (id : RequestId) (s : Settlement) (j : ℕ) 
 settled_tellable w id (Grant t terms) j is at = (is.due j (Settled id (Grant t terms)) at).within
 settled_tellable w id (Return a b) j is at = tt
 settled_tellable w id (Refuse why) j is at = tt
+
+-- what is answered by its number isn't new
+not_both : (book : BookState) (a : Account) (id : RequestId) (r : ReceiptState) → IsRepeated book a id r → IsNew a id → ⊥
+not_both book a id r again fresh = (let e : last a ≡ id.number = ap number_of again.kept in omega (arith, e, fresh.next))
+
+pub answered_is_old : (w : WorldState) (id : RequestId) (reply : Reply) → IsAnswered w id reply → ¬ IsNew (account_in id.client w.book) id
+answered_is_old w id (replies.Old o) told fresh = told.1.other fresh.current
+answered_is_old w id (replies.Stale o) told fresh = omega (arith, told.1.last, told.1.below, fresh.next)
+answered_is_old w id (replies.Gap o) told fresh = omega (arith, told.1.last, told.1.above, fresh.next)
+answered_is_old w id reply told fresh = not_both w.book (account_in id.client w.book) id told.0 told.1 fresh
 
 pub repeat_tellable : (w : WorldState) (id : RequestId) (r : ReceiptState) → IsWorld w → IsRepeated w.book (account_in id.client w.book) id r → IsTellable (length w.names) r.reply
 repeat_tellable w id r is again =

@@ -8,7 +8,7 @@ use Rattle.deed_core.proofs.LawProofs.{sum_by-map}
 use Rattle.stock.specs.Accounts.{IsAccounted}
 use Rattle.stock.proofs.LawProofs.{one_place}
 use Rattle.stock_audit.specs.Outside.{out_of, segments_out}
-use Rattle.stock_audit.proofs.LawProofs.{accounted_balances}
+use Rattle.stock_audit.proofs.LawProofs.{accounted_balances, allocated_is_out, exported_is_children}
 use Rattle.lease_terms.specs.Requests.{RequestId}
 use Rattle.lease_proto.specs.declared.replies.Reply.{Reply}
 use Rattle.lease_proto.specs.declared.replies.Reply.TheVariants as replies
@@ -89,6 +89,10 @@ pub safe : (w : WorldState) → IsWorld w → Safe w
 safe w is = record {
   parts = is.parts;
   places = λ k s at unit. (let one = one_place w.stock (out_of (outside_of w)) (accounted w is) k s at unit in record { once = one.0; one = one.1 });
+  exports = λ k s at. record {
+    allocated = λ f. allocated_is_out w.stock (outside_of w) is.parts k s at f;
+    exported = λ f. exported_is_children w.stock (outside_of w) is.parts k s at f;
+  };
   magazines = is.shaped;
   book = is.book;
   grants = λ id t terms among. record {

@@ -9,7 +9,7 @@ use Rattle.magazine_layer.specs.Calls.{SwapFullOf, SwapEmptyOf, PutFullOf}
 use Rattle.magazine_layer.specs.declared.faults.FullFault.TheVariants as fulling
 use Rattle.magazine_layer.specs.declared.faults.EmptyFault.TheVariants as emptying
 use Rattle.magazine_layer.specs.declared.faults.PutFullFault.TheVariants as putting
-use Rattle.stock.specs.Spaces.{SpaceState, plans_of}
+use Rattle.stock.specs.Spaces.{SpaceState, QuantumCacheState, IsCacheAt, HasCache, plans_of}
 use Rattle.stock.specs.Stocks.{IsStock}
 use Rattle.stock.specs.Accounts.{Frames}
 use Rattle.stock.specs.Steps.{OnDepot}
@@ -24,7 +24,7 @@ use Rattle.world_core.specs.declared.events.WorldEvent.TheVariants as events
 use Rattle.world_core.specs.declared.events.EventFault.TheVariants as faults
 use Rattle.world_core.specs.declared.events.Outcome.TheVariants.{Done, NoMemory, Refused}
 use Rattle.world_core.proofs.CallLemmas.{depot_same}
-use Rattle.world_core.proofs.OwnLemmas.{one_own, caches_same}
+use Rattle.world_core.proofs.OwnLemmas.{one_own, own_in, caches_same}
 
 not_nil : {X : Type 0} (xs : List X) (x : X) → xs ++ x ∷ [] ≡ [] → ⊥
 not_nil xs x is = (let e = ap length is in omega (arith, e, length-append xs (x ∷ [])))
@@ -122,10 +122,31 @@ module _ (w : WorldState) (cpu arena cache place : ℕ) (own : OwnCacheState) (i
             let on = depot_of _ w.stock stock put in
             (has_depot _ stock _ on (both, on.does.sized.0), moved _ on step))
 
-  pub changes : (size : ℕ) (next : OwnCacheState) (caches : List OwnCacheState) → CanChange size own.cpu → next.cpu ≡ after_change size own.cpu → WeighSame (own_rounds own) (own_rounds next)
+  -- the quantum cache that it is for stands
+  pub cache_stands : HasCache w.stock arena cache
+  cache_stands = subst (λ (k : ℕ). HasCache w.stock k cache) here.home (subst (λ (j : ℕ). HasCache w.stock own.arena j) here.number (own_in w place own is here.mine.at).has)
+
+  -- where its magazines may change, the new ones are greater
+  pub grows : (size : ℕ) → HasDepot w cpu arena cache (CanChange size) → IsSize size × (own.cpu.size < size)
+  grows size ready = subst (λ (o : OwnCacheState). IsSize size × (o.cpu.size < size)) (one_own w cpu arena cache ready.place place ready.own own is ready.here here) (ready.are.0, ready.are.1)
+
+  -- the depot's size being told, they may change
+  pub may_change : (size told : ℕ) → ((c : QuantumCacheState) → IsCacheAt w.stock arena cache c → told ≡ c.depot.size) → IsSize size → own.cpu.size < size → size ≤ told
+      → HasDepot w cpu arena cache (CanChange size)
+  may_change size told tells sized greater least = (let has = cache_stands in
+      record { place = place; own = own; depot = has.0; here = here; at = has.1; are = (sized, greater, omega (arith, least, tells has.0 has.1)) })
+
+  -- or they may not
+  pub may_not_shrink : (size : ℕ) → size ≤ own.cpu.size → ¬ HasDepot w cpu arena cache (CanChange size)
+  may_not_shrink size less ready = (let can = grows size ready in omega (arith, can.1, less))
+
+  pub may_not_pass : (size told : ℕ) → ((c : QuantumCacheState) → IsCacheAt w.stock arena cache c → told ≡ c.depot.size) → told < size → ¬ HasDepot w cpu arena cache (CanChange size)
+  may_not_pass size told tells less ready = omega (arith, less, ready.are.2, tells ready.depot ready.at)
+
+  pub changes : (size : ℕ) (next : OwnCacheState) (caches : List OwnCacheState) → HasDepot w cpu arena cache (CanChange size) → next.cpu ≡ after_change size own.cpu → WeighSame (own_rounds own) (own_rounds next)
       → IsAtPlaceOf own next → IsOwnCache next → IsShaped next.cpu → caches ≡ set w.caches place next → EndsAs (events.Changes cpu arena cache size) Done w (record w { caches = caches })
   changes size next caches can changed weights same sound shaped gone = (
-    so (CanChange size) can,
+    can,
     moved next same w.stock caches gone sound shaped (λ c x s v. (x ≡ after_change size c) × (v ≡ s)) (changed, refl) (record {
       stock = is.parts.parts;
       frame = λ rest a. out_weighs w.stock (own_rounds own ++ rest) (own_rounds next ++ rest)

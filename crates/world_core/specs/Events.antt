@@ -18,13 +18,16 @@ use Rattle.stock.specs.OwnCaches.{OwnCacheState}
 use Rattle.stock.specs.Steps.{HasQuantum, OnArena, OnSlab, OnDepot, FreeIn, PutIn, CanImport}
 use Rattle.stock.specs.Steps.{IsTaggedIn, IsOutOf}
 use Rattle.lease_terms.specs.Requests.{RequestId}
-use Rattle.lease_terms.specs.declared.refusals.Refusal.TheVariants.{NotYours, Leases}
+use Rattle.lease_terms.specs.declared.refusals.Refusal.{Refusal}
+use Rattle.lease_terms.specs.declared.refusals.Refusal.TheVariants as refusals
 use Rattle.lease_proto.specs.declared.lines.LeaseLine.{LeaseLine}
 use Rattle.lease_proto.specs.declared.lines.ReleaseLine.{ReleaseLine}
 use Rattle.lease_proto.specs.declared.lines.Line.{Line}
+use Rattle.lease_proto.specs.declared.lines.Line.TheVariants as lines
 use Rattle.lease_proto.specs.declared.lines.Op.{Op}
 use Rattle.lease_proto.specs.declared.lines.Op.TheVariants as ops
 use Rattle.lease_book.specs.Account.{Lease}
+use Rattle.lease_book.specs.Answers.{IsNew}
 use Rattle.lease_book.specs.BookState.{account_in}
 use Rattle.lease_client.specs.ClientState.{ClientState}
 use Rattle.lease_client.specs.Calls.{IsRestarted, IsSent, IsResent, may_restart, refusal}
@@ -60,6 +63,12 @@ pub record CanRelease (w : WorldState) (cpu : ℕ) (id : RequestId) (release : R
   pub serves : HasTask w cpu id (ops.Release release)
   pub empty : slice_get w.hands cpu ≡ Some None
   pub home : IsNamed w arena release.arena
+
+-- a CPU may decline a request for this; the others are the book's to find
+abbrev pub MayDecline : Refusal → Type 0
+MayDecline refusals.NotYours = ⊥
+MayDecline refusals.Leases = ⊥
+MayDecline why = Unit {0}
 
 -- a CPU has nothing to do
 abbrev pub IsIdle : WorldState → ℕ → Type 0
@@ -109,10 +118,6 @@ pub record CanPush (w : WorldState) (cpu : ℕ) : Type 0 where
   pub takes : TakesHand w cpu place own chunk
   pub room : ¬ BothFull own.cpu
 
--- magazines of this size may take the place of smaller ones
-abbrev pub CanChange : ℕ → CpuCacheState → Type 0
-CanChange size c = IsSize size × (c.size < size)
-
 -- the depot of the CPU's own cache, where the two are so
 pub record HasDepot (w : WorldState) (cpu arena cache : ℕ)
     (Are : CpuCacheState → DepotState → Type 0) : Type 0 where
@@ -122,6 +127,11 @@ pub record HasDepot (w : WorldState) (cpu arena cache : ℕ)
   pub here : IsOwnFor w cpu arena cache place own
   pub at : IsCacheAt w.stock arena cache depot
   pub are : Are own.cpu depot.depot
+
+-- magazines of this size may take the place of the CPU's: they are greater, and no greater than the
+-- depot's
+abbrev pub CanChange : ℕ → CpuCacheState → DepotState → Type 0
+CanChange size c d = IsSize size × (c.size < size) × (size ≤ d.size)
 
 -- the CPU has a segment in its hand, or a round in a cache of its own
 abbrev pub HasSegment : WorldState → ℕ → Type 0
@@ -138,7 +148,8 @@ IsReady (events.Hears c which) w = (c < length w.clients) × (which < length w.r
 IsReady (events.Looks cpu which) w = (which < length w.requests) × IsIdle w cpu
 IsReady (events.Settles cpu) w = (id : RequestId) × (lease : LeaseLine) × (segment : Tag)
     × (quantum : ℕ) × CanGrant w cpu id lease segment quantum
-IsReady (events.Declines cpu why) w = (id : RequestId) × (op : Op) × HasTask w cpu id op
+IsReady (events.Declines cpu why) w = MayDecline why
+    × (id : RequestId) × (op : Op) × HasTask w cpu id op
 IsReady (events.GivesUp cpu) w = (id : RequestId) × (op : Op) × HasTask w cpu id op
 IsReady (events.Releases cpu) w = (id : RequestId) × (release : ReleaseLine) × (arena : ℕ)
     × CanRelease w cpu id release arena
@@ -164,7 +175,7 @@ IsReady (events.Pushes cpu) w = CanPush w cpu
 IsReady (events.SwapsFull cpu arena cache) w = HasOwn w cpu arena cache BothEmpty
 IsReady (events.SwapsEmpty cpu arena cache) w = HasOwn w cpu arena cache BothFull
 IsReady (events.SwapsFresh cpu arena cache) w = HasOwn w cpu arena cache BothFull
-IsReady (events.Changes cpu arena cache size) w = HasOwn w cpu arena cache (CanChange size)
+IsReady (events.Changes cpu arena cache size) w = HasDepot w cpu arena cache (CanChange size)
 IsReady (events.Adopts cpu other) w = (cpu ≢ other) × (other < length w.failed)
     × HasInHand w cpu None × HasSegment w other
 IsReady (events.Ticks arena cache) w = HasCache w.stock arena cache
@@ -227,10 +238,18 @@ PartRefuses (events.SwapsFresh cpu arena cache) faults.OldSize w =
     HasDepot w cpu arena cache (λ c d. BothFull c × (c.size ≢ d.size))
 PartRefuses event why w = ⊥
 
+-- the line that comes is a request whose number is new: nothing is written at such a look
+abbrev pub BringsNew : ℕ → WorldState → Type 0
+BringsNew which w = (id : RequestId) × (op : Op)
+    × (slice_get w.requests which ≡ Some (lines.Request id op))
+    × IsNew (account_in id.client w.book) id
+
 -- where an event may want memory: only where it can happen, and some events never do; the new
 -- magazine of a swap is made before the depot tells whether it takes its size
 abbrev pub MayWantMemory : WorldEvent → WorldState → Type 0
 MayWantMemory (events.Hears c which) w = ⊥
+MayWantMemory (events.Looks cpu which) w =
+    IsReady (events.Looks cpu which) w × ¬ BringsNew which w
 MayWantMemory (events.Frees cpu) w = ⊥
 MayWantMemory (events.SlabTakes cpu arena cache) w = ⊥
 MayWantMemory (events.SlabPuts cpu) w = ⊥
@@ -259,12 +278,14 @@ MovesBy (events.Looks cpu which) old new = HelloTaken which old new
     ⊎ HelloRefused which old new ⊎ AnsweredAtOnce which old new ⊎ TaskTaken cpu which old new
 MovesBy (events.Settles cpu) old new =
     TaskGranted cpu old new
-    ⊎ (TaskRefused cpu Leases old new × HasAllLeases old cpu) ⊎ TaskAnswered cpu old new
+    ⊎ (TaskRefused cpu refusals.Leases old new × HasAllLeases old cpu)
+    ⊎ TaskAnswered cpu old new
 MovesBy (events.Declines cpu why) old new = TaskRefused cpu why old new ⊎ TaskAnswered cpu old new
 MovesBy (events.GivesUp cpu) old new = TaskGivenUp cpu old new
 MovesBy (events.Releases cpu) old new =
     TaskReleased cpu old new
-    ⊎ (TaskRefused cpu NotYours old new × HasNoSuchLease old cpu) ⊎ TaskAnswered cpu old new
+    ⊎ (TaskRefused cpu refusals.NotYours old new × HasNoSuchLease old cpu)
+    ⊎ TaskAnswered cpu old new
 MovesBy (events.Sweeps cpu c) old new = LeaseSwept cpu c old new
 MovesBy (events.Carves cpu arena q) old new = (t : Tag)
     × HandMoves cpu None (Some t) (OnArena arena (λ a b. Carved a q t b)) old new

@@ -1,15 +1,18 @@
 -- What holds of every world, in the words of whoever relies on it.
-use Rattle.std.specs.Prelude.{◌≡◌, ◌≤◌, ℕ, List, slice_get, Some, sum_by}
+use Rattle.std.specs.Prelude.{◌≡◌, ◌+◌, ◌≤◌, ℕ, List, filter, slice_get, Some, sum_by}
 use Rattle.deed_core.specs.Covering.{covering_held}
 use Rattle.deed_core.specs.Extent.{Covers}
+use Rattle.deed_core.specs.Holding.{Holding}
 use Rattle.deed_core.specs.Request.{Fits}
+use Rattle.deed_core.specs.Selections.{came_direct}
 use Rattle.deed_core.specs.Tag.{Tag}
-use Rattle.tag_arena.specs.ArenaState.{spans_of}
+use Rattle.tag_arena.specs.ArenaState.{spans_of, ranges_of}
 use Rattle.stock.specs.Spaces.{SpaceState}
 use Rattle.stock.specs.Laws.{HasTop}
-use Rattle.stock.specs.Sums.{places_of, all_places}
+use Rattle.stock.specs.Sums.{held_of, places_of, all_places}
 use Rattle.magazine_layer.specs.Magazines.{IsShaped}
-use Rattle.stock_audit.specs.Outside.{out_of}
+use Rattle.stock_audit.specs.Outside.{out_of, segments_out}
+use Rattle.stock_audit.specs.Chains.{spans_of_children, spans_of_slabs}
 use Rattle.stock_audit.specs.Accounted.{IsAccountedFor}
 use Rattle.lease_terms.specs.Requests.{RequestId}
 use Rattle.lease_proto.specs.declared.replies.Reply.{Reply}
@@ -34,6 +37,17 @@ pub record IsInOnePlaceOf (w : WorldState) (s : SpaceState) (unit : ℕ) : Type 
   pub once : covering_held unit (all_places (places_of w.stock (out_of (outside_of w)) s))
       ≡ covering_held unit (spans_of s.arena)
   pub one : covering_held unit (spans_of s.arena) ≤ 1
+
+-- however ranges are weighed: what the arena at the place has allocated are its direct segments in
+-- hands and leased, the spans of its slabs, and the spans of the arenas that import from it, each
+-- once; and the last are what it exported
+pub record ExportsSpans (w : WorldState) (k : ℕ) (s : SpaceState) : Type 0 where
+  pub allocated : (f : Holding → ℕ) → sum_by f (ranges_of s.arena.allocated)
+      ≡ sum_by f (held_of k (filter came_direct (segments_out (outside_of w))))
+      + (sum_by f (spans_of_slabs s) + sum_by f (spans_of_children k w.stock))
+  pub exported : (f : Holding → ℕ)
+      → sum_by f (places_of w.stock (out_of (outside_of w)) s).exported
+      ≡ sum_by f (spans_of_children k w.stock)
 
 -- a grant meets the line that asked for it, by its arena's quantum
 pub record IsMet (w : WorldState) (id : RequestId) (segment : Tag) (terms : Terms)
@@ -71,14 +85,16 @@ SettlesIt id (replies.Released of) = of ≡ id
 SettlesIt id (replies.Refused r) = r.id ≡ id
 SettlesIt id reply = ⊥
 
--- All units are accounted for, and each stands in one place. A CPU's loaded magazine has at most
--- its size, and its previous one none or as many. The book is what is read off its entries. Each
--- grant was asked for and fits. Clients hold what is leased to them, and no unit of a space is in
--- two segments that they hold. And any two replies that settle one request are equal.
+-- All units are accounted for, each stands in one place, and what an arena exported are the spans
+-- of those that import from it. A CPU's loaded magazine has at most its size, and its previous one
+-- none or as many. The book is what is read off its entries. Each grant was asked for and fits.
+-- Clients hold what is leased to them, and no unit of a space is in two segments that they hold.
+-- And any two replies that settle one request are equal.
 pub record Safe (w : WorldState) : Type 0 where
   pub parts : IsAccountedFor w.stock (outside_of w)
   pub places : (k : ℕ) (s : SpaceState) → slice_get w.stock k ≡ Some s → (unit : ℕ)
       → IsInOnePlaceOf w s unit
+  pub exports : (k : ℕ) (s : SpaceState) → slice_get w.stock k ≡ Some s → ExportsSpans w k s
   pub magazines : Each (λ o. IsShaped o.cpu) w.caches
   pub book : IsHistory w.entries w.book
   pub grants : (id : RequestId) (segment : Tag) (terms : Terms)

@@ -8,7 +8,8 @@ ghost use Rattle.lease_proto.specs.declared.lines.Op.{Op};
 ghost use Rattle.world_core.specs.IsWorld.{IsWorld};
 ghost use Rattle.world_core.specs.Moves.{HasTask, IsAnswered, TaskAnswered, TaskGivenUp};
 ghost use Rattle.world_core.specs.Moves.{TaskRefused, TaskGranted, HasAllLeases};
-ghost use Rattle.world_core.specs.Events.{EndsAs, Tries, CanGrant, HasOldLease, IsReady};
+ghost use Rattle.world_core.specs.Events.{EndsAs, Tries, CanGrant, MayDecline, HasOldLease};
+ghost use Rattle.world_core.specs.Events.{IsReady};
 
 use crate::events::{Outcome, WorldEvent};
 use crate::hands::{put, take};
@@ -27,6 +28,19 @@ pub(crate) fn number_answer<D: Deed>(book: &Book<D>, id: RequestId) -> Option<An
     ensures answer { IfSome result (IsAnswer book.now book.now id (λ _. ⊥) ⊥) }
 {
     book.look(id).answer()
+}
+
+/// Whether a CPU may decline a request for this. The others are the book's to find.
+fn may_decline(refusal: Refusal) -> bool
+    ensures { IsTrue result ↔ MayDecline refusal }
+{
+    match refusal {
+        Refusal::NoFit => true,
+        Refusal::BadRequest => true,
+        Refusal::NoArena => true,
+        Refusal::NotYours => false,
+        Refusal::Leases => false,
+    }
 }
 
 /// What a CPU may lease.
@@ -106,6 +120,9 @@ impl<D: Deed> WorldParts<D> {
         requires world { IsWorld self.old }
         ensures { EndsAs (WorldEvent.Declines cpu refusal) result self.old self.new }
     {
+        if !may_decline(refusal) {
+            return Outcome::NotEnabled;
+        }
         let Some(task) = self.task(cpu) else {
             return Outcome::NotEnabled;
         };

@@ -1,6 +1,5 @@
 //! What happens to the depots of quantum caches.
 ghost use Rattle.std.specs.Prelude.{◌↔◌, IsTrue};
-ghost use Rattle.magazine_layer.specs.Magazines.{IsSize};
 ghost use Rattle.world_core.specs.IsWorld.{IsWorld};
 ghost use Rattle.world_core.specs.Events.{EndsAs, HasRoundToReap};
 
@@ -8,13 +7,7 @@ use crate::events::{EventFault, Outcome, WorldEvent};
 use crate::hands::put;
 use crate::parts::WorldParts;
 use deed_core::Deed;
-
-/// Whether a magazine can have this size.
-fn is_magazine_size(size: usize) -> bool
-    ensures { IsTrue result ↔ IsSize size }
-{
-    size == 3 || size == 7 || size == 15 || size == 31
-}
+use magazine_layer::is_magazine_size;
 
 impl<D: Deed> WorldParts<D> {
     /// A CPU with an empty hand takes a round that may be reaped.

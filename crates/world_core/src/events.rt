@@ -38,7 +38,8 @@ pub enum WorldEvent {
     Settles {
         cpu: usize,
     },
-    /// A CPU refuses the request that it serves.
+    /// A CPU refuses the request that it serves: nothing fits it, it is a bad one, or no arena has
+    /// its name.
     Declines {
         cpu: usize,
         refusal: Refusal,
@@ -130,7 +131,8 @@ pub enum WorldEvent {
         arena: usize,
         cache: usize,
     },
-    /// A CPU's own cache gets two magazines of a greater size, and all its rounds are in the first.
+    /// A CPU's own cache gets two magazines of a greater size, at most its depot's, and all its
+    /// rounds are in the first.
     Changes {
         cpu: usize,
         arena: usize,

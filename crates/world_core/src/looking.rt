@@ -1,6 +1,8 @@
 //! Lines that come to CPUs.
 ghost use Rattle.std.specs.Prelude.{◌≡◌, ◌⊎◌, Some, slice_get};
 ghost use Rattle.lease_proto.specs.declared.lines.Line.{Line};
+ghost use Rattle.lease_book.specs.BookState.{account_in};
+ghost use Rattle.lease_book.specs.Answers.{IsNew};
 ghost use Rattle.world_core.specs.IsWorld.{IsWorld};
 ghost use Rattle.world_core.specs.Moves.{HelloTaken, HelloRefused, AnsweredAtOnce, TaskTaken};
 ghost use Rattle.world_core.specs.Events.{EndsAs, Tries, IsIdle};
@@ -73,8 +75,10 @@ impl<D: Deed> WorldParts<D> {
         requires world { IsWorld self.old }
         requires idle { IsIdle self.old cpu }
         requires sent { slice_get self.old.requests which ≡ Some (Line.Request task.id task.op) }
-        ensures { Tries (λ old new. AnsweredAtOnce which old new ⊎ TaskTaken cpu which old new)
-            result self.old self.new }
+        ensures done { Tries (λ old new. AnsweredAtOnce which old new
+            ⊎ TaskTaken cpu which old new) result self.old self.new }
+        ensures memory { result ≡ Outcome.NoMemory
+            → ¬ IsNew (account_in task.id.client self.old.book) task.id }
     {
         match number_answer(&self.book, task.id) {
             Some(answer) => {

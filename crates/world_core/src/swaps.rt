@@ -1,7 +1,9 @@
 //! What CPUs' own caches swap with depots, and that they change to other magazines.
-ghost use Rattle.std.specs.Prelude.{◌≡◌, []};
+ghost use Rattle.std.specs.Prelude.{◌≡◌, [], IfSome, IfNone};
+ghost use Rattle.stock.specs.OwnCaches.{OwnCacheState};
 ghost use Rattle.world_core.specs.IsWorld.{IsWorld};
-ghost use Rattle.world_core.specs.Events.{EndsAs};
+ghost use Rattle.world_core.specs.Moves.{IsOwnFor};
+ghost use Rattle.world_core.specs.Events.{EndsAs, IsReady};
 
 use crate::events::{EventFault, Outcome, WorldEvent};
 use crate::parts::WorldParts;
@@ -101,24 +103,40 @@ impl<D: Deed> WorldParts<D> {
         }
     }
 
-    /// A CPU's own cache gets two magazines of a greater size.
+    /// The place of the CPU's own cache for this quantum cache, where magazines of this size may
+    /// take the place of its own: they are greater, and no greater than the depot's.
+    fn place_to_change(&self, cpu: usize, arena: usize, cache: usize, size: usize) -> Option<usize>
+        requires world { IsWorld self.now }
+        ensures some { IfSome result
+            (λ k. (o : OwnCacheState) × IsOwnFor self.now cpu arena cache k o) }
+        ensures ready { IfSome result
+            (λ k. IsReady (WorldEvent.Changes cpu arena cache size) self.now) }
+        ensures none { IfNone result
+            (¬ IsReady (WorldEvent.Changes cpu arena cache size) self.now) }
+    {
+        if !is_magazine_size(size) {
+            return None;
+        }
+        let place = self.own_place(cpu, arena, cache)?;
+        let own = &self.caches[place];
+        if size <= own.size() || self.stock.depot_size(arena, cache) < size {
+            return None;
+        }
+        Some(place)
+    }
+
+    /// A CPU's own cache gets two magazines of a greater size, which is at most its depot's.
     pub(crate) fn change(&mut self, cpu: usize, arena: usize, cache: usize, size: usize) -> Outcome
         requires world { IsWorld self.old }
         ensures { EndsAs (WorldEvent.Changes cpu arena cache size) result self.old self.new }
     {
-        if !is_magazine_size(size) {
-            return Outcome::NotEnabled;
-        }
-        let Some(place) = self.own_place(cpu, arena, cache) else {
+        let Some(place) = self.place_to_change(cpu, arena, cache, size) else {
             return Outcome::NotEnabled;
         };
-        let own = &mut self.caches[place];
-        if size <= own.size() {
-            return Outcome::NotEnabled;
-        }
         let Ok((loaded, previous)) = two_empty(self.alloc, size) else {
             return Outcome::NoMemory;
         };
+        let own = &mut self.caches[place];
         own.change(loaded, previous);
         let _ = own.place();
         let _ = own.size();

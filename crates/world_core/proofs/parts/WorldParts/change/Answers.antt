@@ -1,47 +1,18 @@
-use Rattle.std.proofs.Common.{◌≡◌, ◌<◌, ℕ, refl, arith, Some, set, sym, subst, ap, ◌∙◌}
+use Rattle.std.proofs.Common.{◌≡◌, ℕ, arith, Some, set, sym, subst, ap, ◌∙◌}
 use Rattle.std.specs.Prelude.{slice_get}
 use Rattle.std.proofs.lemmas.Option.{slice_get_within}
 use Rattle.deed_core.proofs.LawProofs.{slice_get_here}
+use Rattle.magazine_layer.specs.Magazines.{MagazineState, after_change}
 use Rattle.stock.specs.OwnCaches.{OwnCacheState}
 use Rattle.world_core.specs.WorldState.{WorldState, entries_of}
 use Rattle.world_core.specs.IsWorld.{IsWorld}
 use Rattle.world_core.specs.Moves.{IsOwnFor}
-use Rattle.world_core.specs.Events.{EndsAs, CanChange}
+use Rattle.world_core.specs.Events.{EndsAs, HasDepot, CanChange}
 use Rattle.world_core.specs.declared.events.WorldEvent.TheVariants as events
-use Rattle.world_core.specs.declared.events.Outcome.TheVariants.{Done, NoMemory, NotEnabled}
+use Rattle.world_core.specs.declared.events.Outcome.TheVariants.{Done}
 use Rattle.world_core.proofs.OwnLemmas.{found_own}
-use Rattle.magazine_layer.specs.Magazines.{IsSize, MagazineState, after_change}
-use Rattle.deed_core.proofs.LawProofs.{set_same}
-use Rattle.world_core.proofs.SwapLemmas.{not_so, so, changes, has_room}
+use Rattle.world_core.proofs.SwapLemmas.{grows, changes, has_room}
 use Rattle.world_core.proofs.parts.WorldParts.change.Goals as goal
-
-pub returns-then-size : goal.returns-then-size
-returns-then-size g c =
-    let w : WorldState = record { stock = c.self.inside.stock; names = c.self.inside.names.items; hands = c.self.inside.hands.items; tasks = c.self.inside.tasks.items; failed = c.self.inside.failed.items; owners = c.self.inside.owners.items; caches = c.self.inside.caches.items; book = c.self.inside.book; entries = entries_of c.self.inside.log.items; clients = c.self.inside.clients.items; requests = c.self.inside.requests.items; replies = c.self.inside.replies.items } in
-    let view : w ≡ c.args.self.now = c.self.view_is in
-    let world : IsWorld w = subst IsWorld (sym view) c.requires.world in
-    let own : OwnCacheState = c.index_mut-own.result.now in
-    let found = subst (λ (x : WorldState). (o : OwnCacheState) × IsOwnFor x c.args.cpu c.args.arena c.args.cache c.in-Some.place o) (sym view) c.in-Some.ensures.some in
-    let at : slice_get w.caches c.in-Some.place ≡ Some own = slice_get_here w.caches c.in-Some.place own (slice_get_within w.caches c.in-Some.place found.0 found.1.mine.at) c.index_mut-own.ensures.value in
-    let here : IsOwnFor w c.args.cpu c.args.arena c.args.cache c.in-Some.place own = found_own w c.args.cpu c.args.arena c.args.cache c.in-Some.place own found at in
-    let v : WorldState = record w { caches = set w.caches c.in-Some.place own } in
-    subst (λ x. EndsAs (events.Changes c.args.cpu c.args.arena c.args.cache c.args.size) NotEnabled x v) view
-    (not_so w c.args.cpu c.args.arena c.args.cache c.in-Some.place own world here (CanChange c.args.size) (λ can. omega (arith, can.1, c.size.ensures.value)), λ j. record w { caches = set_same w.caches c.in-Some.place own at j })
-
-pub returns-in_default-two_empty : goal.returns-in_default-two_empty
-returns-in_default-two_empty g c =
-    let w : WorldState = record { stock = c.self.inside.stock; names = c.self.inside.names.items; hands = c.self.inside.hands.items; tasks = c.self.inside.tasks.items; failed = c.self.inside.failed.items; owners = c.self.inside.owners.items; caches = c.self.inside.caches.items; book = c.self.inside.book; entries = entries_of c.self.inside.log.items; clients = c.self.inside.clients.items; requests = c.self.inside.requests.items; replies = c.self.inside.replies.items } in
-    let view : w ≡ c.args.self.now = c.self.view_is in
-    let world : IsWorld w = subst IsWorld (sym view) c.requires.world in
-    let own : OwnCacheState = c.index_mut-own.result.now in
-    let found = subst (λ (x : WorldState). (o : OwnCacheState) × IsOwnFor x c.args.cpu c.args.arena c.args.cache c.in-Some.place o) (sym view) c.in-Some.ensures.some in
-    let at : slice_get w.caches c.in-Some.place ≡ Some own = slice_get_here w.caches c.in-Some.place own (slice_get_within w.caches c.in-Some.place found.0 found.1.mine.at) c.index_mut-own.ensures.value in
-    let here : IsOwnFor w c.args.cpu c.args.arena c.args.cache c.in-Some.place own = found_own w c.args.cpu c.args.arena c.args.cache c.in-Some.place own found at in
-    let sized : IsSize c.args.size = c.if-not-is_magazine_size.ensures.value.0 refl in
-    let less : own.cpu.size < c.args.size = omega (arith, c.size.ensures.value) in
-    let v : WorldState = record w { caches = set w.caches c.in-Some.place own } in
-    subst (λ x. EndsAs (events.Changes c.args.cpu c.args.arena c.args.cache c.args.size) NoMemory x v) view
-    (so w c.args.cpu c.args.arena c.args.cache c.in-Some.place own world here (CanChange c.args.size) (sized, less), λ j. record w { caches = set_same w.caches c.in-Some.place own at j })
 
 pub change-requires-clause-room : goal.change-requires-clause-room
 change-requires-clause-room g c =
@@ -52,10 +23,10 @@ change-requires-clause-room g c =
     let found = subst (λ (x : WorldState). (o : OwnCacheState) × IsOwnFor x c.args.cpu c.args.arena c.args.cache c.in-Some.place o) (sym view) c.in-Some.ensures.some in
     let at : slice_get w.caches c.in-Some.place ≡ Some own = slice_get_here w.caches c.in-Some.place own (slice_get_within w.caches c.in-Some.place found.0 found.1.mine.at) c.index_mut-own.ensures.value in
     let here : IsOwnFor w c.args.cpu c.args.arena c.args.cache c.in-Some.place own = found_own w c.args.cpu c.args.arena c.args.cache c.in-Some.place own found at in
-    let sized : IsSize c.args.size = c.if-not-is_magazine_size.ensures.value.0 refl in
-    let less : own.cpu.size < c.args.size = omega (arith, c.size.ensures.value) in
+    let ready : HasDepot w c.args.cpu c.args.arena c.args.cache (CanChange c.args.size) = subst (λ (x : WorldState). HasDepot x c.args.cpu c.args.arena c.args.cache (CanChange c.args.size)) (sym view) c.in-Some.ensures.ready in
+    let can = grows w c.args.cpu c.args.arena c.args.cache c.in-Some.place own world here c.args.size ready in
     let size : c.in-Ok.loaded.size ≡ c.args.size = ap (λ (m : MagazineState). m.size) c.in-Ok.ensures.first in
-    omega (arith, size, has_room own.cpu c.args.size c.size.ensures.shape sized less)
+    omega (arith, size, has_room own.cpu c.args.size (world.shaped c.in-Some.place own at) can.0 can.1)
 
 pub returns : goal.returns
 returns g c =
@@ -66,11 +37,11 @@ returns g c =
     let found = subst (λ (x : WorldState). (o : OwnCacheState) × IsOwnFor x c.args.cpu c.args.arena c.args.cache c.in-Some.place o) (sym view) c.in-Some.ensures.some in
     let at : slice_get w.caches c.in-Some.place ≡ Some own = slice_get_here w.caches c.in-Some.place own (slice_get_within w.caches c.in-Some.place found.0 found.1.mine.at) c.index_mut-own.ensures.value in
     let here : IsOwnFor w c.args.cpu c.args.arena c.args.cache c.in-Some.place own = found_own w c.args.cpu c.args.arena c.args.cache c.in-Some.place own found at in
-    let sized : IsSize c.args.size = c.if-not-is_magazine_size.ensures.value.0 refl in
-    let less : own.cpu.size < c.args.size = omega (arith, c.size.ensures.value) in
+    let ready : HasDepot w c.args.cpu c.args.arena c.args.cache (CanChange c.args.size) = subst (λ (x : WorldState). HasDepot x c.args.cpu c.args.arena c.args.cache (CanChange c.args.size)) (sym view) c.in-Some.ensures.ready in
+    let can = grows w c.args.cpu c.args.arena c.args.cache c.in-Some.place own world here c.args.size ready in
     let size : c.in-Ok.loaded.size ≡ c.args.size = ap (λ (m : MagazineState). m.size) c.in-Ok.ensures.first in
     let next : OwnCacheState = c.change.new.self in
     let changed : next.cpu ≡ after_change c.args.size own.cpu = c.change.ensures.changed ∙ ap (λ (n : ℕ). after_change n own.cpu) size in
     let v : WorldState = record w { caches = set w.caches c.in-Some.place next } in
     subst (λ x. EndsAs (events.Changes c.args.cpu c.args.arena c.args.cache c.args.size) Done x v) view
-    (changes w c.args.cpu c.args.arena c.args.cache c.in-Some.place own world here c.args.size next _ (sized, less) changed c.change.ensures.weights c.change.ensures.place c.place.ensures.own c.size-2.ensures.shape (λ j. set w.caches c.in-Some.place next))
+    (changes w c.args.cpu c.args.arena c.args.cache c.in-Some.place own world here c.args.size next _ ready changed c.change.ensures.weights c.change.ensures.place c.place.ensures.own c.size.ensures.shape (λ j. set w.caches c.in-Some.place next))
