@@ -12,7 +12,7 @@
 //! * `rising` has them by base with their lengths as weights, under `next`.
 //!
 //! `FreeIndex::chosen` gives what the policy chooses, `FreeIndex::carve` cuts a piece out of a free
-//! range, and `FreeIndex::give_back` takes a piece back and merges it with its neighbors, all in the
+//! range, and `FreeIndex::give_back` takes a piece back and merges it with its neighbors, in the
 //! words of `tag_arena`'s own clauses.
 //!
 //! So a call looks at a few rows of each index, whatever the number of ranges. Once there is room
