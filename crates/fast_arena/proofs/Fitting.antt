@@ -1,18 +1,17 @@
 -- The best range by the index of sizes.
-use Rattle.std.proofs.Common.{◌≡◌, ◌≢◌, ◌⊎◌, ℕ, zero, suc, ◌+◌, ◌-◌, ◌*◌, ◌^◌, ◌<◌, ◌≤◌, refl, sym, ap, subst, ◌∙◌, inl, inr, ⊎_elim, List, [], ◌∷◌, length, get_or, Any, Contains, Option, None, Some, arith}
+use Rattle.std.proofs.Common.{◌≡◌, ℕ, ◌+◌, ◌*◌, ◌^◌, ◌<◌, ◌≤◌, sym, ap, subst, ◌∙◌, inl, inr, ⊎_elim, List, get_or, Contains, Option, None, Some, arith}
 use Rattle.std.proofs.lemmas.List.{get_or_default}
 use Rattle.std.proofs.lemmas.Bool.{cases_lt}
-use Rattle.deed_core.specs.Extent.{end_of}
 use Rattle.deed_core.specs.Holding.{Holding}
 use Rattle.deed_core.specs.Request.{rounded}
 use Rattle.deed_core.specs.declared.requests.Request.{Request}
-use Rattle.tag_arena.specs.Place.{IsLeast, Serves, ServesIn}
-use Rattle.tag_arena.specs.Choice.{ComesFirst, IsBest}
+use Rattle.tag_arena.specs.Place.{Serves, ServesIn}
+use Rattle.tag_arena.specs.Choice.{IsBest}
 use Rattle.tag_arena.proofs.SpanLists.{Contains-from_map}
-use Rattle.sorted_rows.specs.Order.{Rises, first_from, place_below}
+use Rattle.sorted_rows.specs.Order.{Rises, first_from}
 use Rattle.fast_arena.specs.declared.entries.Entry.{Entry}
 use Rattle.fast_arena.specs.declared.orders.Order.TheVariants.{Sizes}
-use Rattle.fast_arena.specs.FreeTags.{FreeTag, range_of, tag_at, by_age, ranges_by_age, AreTags}
+use Rattle.fast_arena.specs.FreeTags.{FreeTag, range_of, tag_at, by_age, ranges_by_age}
 use Rattle.fast_arena.specs.Orders.{rank_of, entry_of, Mirrors}
 use Rattle.fast_arena.proofs.Listing.{Some-injective}
 use Rattle.fast_arena.proofs.Aging.{from_by_age}

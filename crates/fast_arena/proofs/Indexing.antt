@@ -1,7 +1,7 @@
 -- The index of the free ranges, with one more and one less.
-use Rattle.std.proofs.Common.{◌≡◌, ◌≢◌, ◌⊎◌, ℕ, zero, suc, ◌+◌, ◌-◌, ◌*◌, ◌^◌, ◌<◌, ◌≤◌, refl, sym, ap, subst, ◌∙◌, inl, inr, ⊎_elim, Bool, true, false, List, [], ◌∷◌, ◌++◌, length, get_or, map, insert, remove, All, Any, Contains, HoldsAt, Option, None, Some, slice_get, arith}
-use Rattle.std.proofs.lemmas.List.{get_or-map, length-map, map_push, get_or_default}
-use Rattle.std.proofs.lemmas.List.Elements.{All-contains, Contains-get_or}
+use Rattle.std.proofs.Common.{◌≡◌, ◌≢◌, ℕ, ◌+◌, ◌-◌, ◌*◌, ◌^◌, ◌<◌, ◌≤◌, sym, ap, subst, ◌∙◌, ⊎_elim, List, [], ◌∷◌, ◌++◌, length, map, All, Any, Contains, Option, None, Some, slice_get, arith}
+use Rattle.std.proofs.lemmas.List.{get_or-map, length-map, map_push}
+use Rattle.std.proofs.lemmas.List.Elements.{All-contains}
 use Rattle.std.proofs.lemmas.Option.{slice_get-get_or}
 use Rattle.deed_core.specs.Extent.{IsRange}
 use Rattle.deed_core.specs.Holding.{Holding}
@@ -9,16 +9,15 @@ use Rattle.tag_arena.specs.declared.policies.Policy.{Policy}
 use Rattle.tag_arena.specs.Neighbors.{Without}
 use Rattle.tag_arena.proofs.SpanLists.{Contains-map, Contains-from_map}
 use Rattle.sorted_rows.specs.Order.{Rises, first_from, place_below}
-use Rattle.fast_arena.specs.declared.entries.Entry.{Entry}
 use Rattle.fast_arena.specs.declared.orders.Order.{Order}
 use Rattle.fast_arena.specs.declared.orders.Order.TheVariants.{Falling, Sizes, Lists, Rising}
-use Rattle.fast_arena.specs.FreeTags.{FreeTag, range_of, since_of, tag_at, SlotBecomes, by_age, ranges_by_age, IsTag, IsTimed, AreTags}
+use Rattle.fast_arena.specs.FreeTags.{FreeTag, range_of, tag_at, SlotBecomes, by_age, ranges_by_age, IsTag, IsTimed, AreTags}
 use Rattle.fast_arena.specs.Orders.{rank_of, entry_of, Ordered, Mirrors, KeepsUp, HasPlace, IsAbsent, IsPresent}
 use Rattle.fast_arena.specs.Slotted.{SlotTable, taken}
-use Rattle.fast_arena.specs.FreeRanges.{IsKept, IsIndexed, keeps}
-use Rattle.fast_arena.proofs.Listing.{None≢Some, Some-injective, map-remove, place_of_member}
+use Rattle.fast_arena.specs.FreeRanges.{IsKept, IsIndexed}
+use Rattle.fast_arena.proofs.Listing.{map-remove, place_of_member}
 use Rattle.fast_arena.proofs.Aging.{in_by_age, from_by_age, length-by_age, put_cases, timed_put, aged_put, take_cases, timed_take, aged_take}
-use Rattle.fast_arena.proofs.Mirroring.{slot_is, place_for, absent_for, present_for}
+use Rattle.fast_arena.proofs.Mirroring.{place_for, absent_for, present_for}
 
 -- the range of a tag is one of the free ranges
 pub range_is_free : (tags : List (Option FreeTag)) (k : ℕ) (t : FreeTag) → tag_at tags k ≡ Some t → Contains (ranges_by_age tags) t.range

@@ -11,3 +11,5 @@ pub mod Newest
 pub mod Weighing
 pub mod Roving
 pub mod Neighboring
+pub mod Cutting
+pub mod Rejoining

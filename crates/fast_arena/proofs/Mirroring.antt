@@ -1,8 +1,7 @@
 -- Indexes that have the tags of the slots.
-use Rattle.std.proofs.Common.{◌≡◌, ◌≢◌, ◌⊎◌, ℕ, zero, suc, ◌+◌, ◌-◌, ◌*◌, ◌^◌, ◌<◌, ◌≤◌, refl, sym, ap, subst, ◌∙◌, inl, inr, ⊎_elim, Bool, true, false, List, [], ◌∷◌, length, get_or, insert, remove, All, Any, Contains, Option, None, Some, arith}
+use Rattle.std.proofs.Common.{◌≡◌, ◌≢◌, ℕ, ◌+◌, ◌^◌, ◌<◌, refl, sym, ap, subst, ◌∙◌, ⊎_elim, Bool, true, false, List, length, insert, remove, All, Any, Contains, Option, None, Some, arith}
 use Rattle.std.proofs.lemmas.List.{get_or_default}
 use Rattle.std.proofs.lemmas.List.Edits.{length-insert, length-remove}
-use Rattle.std.proofs.lemmas.Bool.{cases_order}
 use Rattle.tag_arena.proofs.Members.{All-from_members, Contains-remove, remove_kept, remove_pairs}
 use Rattle.tag_arena.specs.declared.policies.Policy.{Policy}
 use Rattle.sorted_rows.specs.Order.{Rises, PutsIn, TakesOut, place_below}
@@ -12,8 +11,8 @@ use Rattle.fast_arena.specs.declared.orders.Order.TheVariants.{Falling, Sizes, L
 use Rattle.fast_arena.specs.FreeTags.{FreeTag, tag_at, SlotBecomes, IsTag, AreTags}
 use Rattle.fast_arena.specs.Orders.{rank_of, entry_of, Ordered, Mirrors, KeepsUp, IsAbsent, IsPresent, HasPlace, PutsEntry, TakesEntry}
 use Rattle.fast_arena.specs.Slotted.{SlotTable, taken}
-use Rattle.fast_arena.specs.FreeRanges.{IsKept, keeps}
-use Rattle.fast_arena.proofs.Listing.{None≢Some, Some-injective, Contains-inserted, Contains-insert, Contains-insert_cases, rank_at_place, place_of_member}
+use Rattle.fast_arena.specs.FreeRanges.{IsKept}
+use Rattle.fast_arena.proofs.Listing.{Some-injective, Contains-inserted, Contains-insert, Contains-insert_cases, rank_at_place, place_of_member}
 use Rattle.fast_arena.proofs.Aging.{put_cases, put_kept, take_cases}
 
 -- an entry names its slot

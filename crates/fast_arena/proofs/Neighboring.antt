@@ -1,5 +1,5 @@
 -- The free neighbours of a range, by the last that begins below it.
-use Rattle.std.proofs.Common.{◌≡◌, ◌≢◌, ◌⊎◌, ℕ, ◌+◌, ◌-◌, ◌<◌, ◌≤◌, sym, ap, subst, ◌∙◌, inl, inr, ⊎_elim, List, All, AllPairs, Contains, Option, None, Some, IfSome, arith}
+use Rattle.std.proofs.Common.{◌≡◌, ◌≢◌, ℕ, ◌-◌, ◌<◌, sym, ap, ◌∙◌, ⊎_elim, List, All, AllPairs, Contains, Option, None, Some, IfSome, arith}
 use Rattle.std.proofs.lemmas.Bool.{cases_lt}
 use Rattle.std.proofs.lemmas.List.Elements.{All-contains}
 use Rattle.deed_core.specs.Extent.{IsRange, end_of}
@@ -27,6 +27,14 @@ module _ (free : List Holding) (ranges : All (λ r. IsRange r.range) free) (apar
   -- the range that is taken is the one that was found
   pub taken_is : (h r : Holding) (new : List Holding) → Contains free h → Without free r new → r.range.base ≡ h.range.base → r ≡ h
   taken_is h r new in-h out same = same_begin free ranges apart r h (without_member free new r out) in-h same
+
+  -- a free range is the last that begins at its base or below
+  pub last_is : (range : Holding) (o : Option Holding) → IsLastBy range.range.base free o → Contains free range → o ≡ Some range
+  last_is range None last in-r = let lt = All-contains (λ r. range.range.base < r.range.base) free range last in-r in absurd (omega (arith, lt))
+  last_is range (Some h) last in-r =
+      let le = last.2 range in-r (omega arith) in
+      let low = last.1 in
+      ap (λ x. Some x) (same_begin free ranges apart h range last.0 in-r (omega (arith, le, low)))
 
 -- where the last that begins at the end or below doesn't begin there, none does
 pub none_begins : (free : List Holding) (end : ℕ) (h : Holding) → IsLastBy end free (Some h) → h.range.base ≢ end → All (λ r. r.range.base ≢ end) free

@@ -1,5 +1,5 @@
 -- The least address from a start on, by the index of bases.
-use Rattle.std.proofs.Common.{◌≡◌, ◌⊎◌, ℕ, zero, suc, ◌+◌, ◌-◌, ◌*◌, ◌^◌, ◌<◌, ◌≤◌, max, refl, sym, ap, subst, ◌∙◌, inl, inr, ⊎_elim, List, length, All, AllPairs, Any, Contains, Option, None, Some, arith}
+use Rattle.std.proofs.Common.{◌≡◌, ℕ, ◌+◌, ◌*◌, ◌^◌, ◌<◌, ◌≤◌, max, ap, subst, ⊎_elim, List, All, AllPairs, Contains, Option, None, Some, arith}
 use Rattle.std.proofs.lemmas.Bool.{cases_lt}
 use Rattle.std.proofs.lemmas.List.Elements.{All-contains}
 use Rattle.deed_core.specs.Extent.{IsRange, end_of}
@@ -7,13 +7,12 @@ use Rattle.deed_core.specs.Holding.{Holding, Apart}
 use Rattle.deed_core.specs.Request.{rounded}
 use Rattle.deed_core.specs.declared.requests.Request.{Request}
 use Rattle.tag_arena.specs.Place.{IsLeast, Serves, ServesIn}
-use Rattle.tag_arena.specs.Choice.{IsNextChoice}
 use Rattle.tag_arena.proofs.Ranges.{apart_or_share, same_where_shared, Any-member, member-Any}
 use Rattle.sorted_rows.specs.Order.{Rises}
 use Rattle.sorted_rows.specs.Weights.{heavy_from}
 use Rattle.fast_arena.specs.declared.entries.Entry.{Entry}
 use Rattle.fast_arena.specs.declared.orders.Order.TheVariants.{Rising}
-use Rattle.fast_arena.specs.FreeTags.{FreeTag, tag_at, ranges_by_age, AreTags}
+use Rattle.fast_arena.specs.FreeTags.{FreeTag, ranges_by_age, AreTags}
 use Rattle.fast_arena.specs.Orders.{rank_of, entry_of, Mirrors}
 use Rattle.fast_arena.specs.Fits.{IsEarliest, IsLastBy, NoneBelow}
 use Rattle.fast_arena.proofs.Fitting.{tag_of_free}

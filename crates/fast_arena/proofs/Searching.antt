@@ -1,9 +1,9 @@
 -- First entries from a key on.
-use Rattle.std.proofs.Common.{◌≡◌, ◌≢◌, ◌⊎◌, ℕ, zero, suc, ◌+◌, ◌-◌, ◌*◌, ◌^◌, ◌<◌, ◌≤◌, refl, sym, ap, subst, ◌∙◌, inl, inr, ⊎_elim, List, [], ◌∷◌, length, get_or, slice_get, Any, Contains, Option, None, Some, arith}
+use Rattle.std.proofs.Common.{◌≡◌, ℕ, ◌-◌, ◌<◌, ◌≤◌, sym, ap, ◌∙◌, ⊎_elim, List, length, get_or, Contains, None, Some, arith}
 use Rattle.std.proofs.lemmas.List.{get_or_default}
 use Rattle.std.proofs.lemmas.Bool.{cases_lt}
 use Rattle.std.proofs.lemmas.Option.{slice_get_cases}
-use Rattle.sorted_rows.specs.Order.{Rises, IsRankAt, first_from, place_below}
+use Rattle.sorted_rows.specs.Order.{Rises, first_from, place_below}
 use Rattle.fast_arena.proofs.Listing.{None≢Some, Some-injective, rank_at_place}
 
 module _ {X : Type 0} (rank : X → ℕ) (key : ℕ) (xs : List X) (rises : Rises rank xs) where

@@ -1,13 +1,14 @@
 -- Slots that are filled and emptied.
-use Rattle.std.proofs.Common.{◌≡◌, ◌≢◌, ◌⊎◌, ⊎_elim, ℕ, zero, suc, ◌+◌, ◌-◌, ◌<◌, ◌≤◌, refl, sym, ap, subst, ◌∙◌, List, [], ◌∷◌, ◌++◌, length, get_or, set, take, All, AllPairs, Contains, Option, None, Some, is_some, count_by, cond, vec_len, vec_capacity, arith}
-use Rattle.std.proofs.lemmas.List.{get_or-set_same, get_or-set_other, get_or_append_left, get_or_push, get_or_past, length_push, length-set}
-use Rattle.std.proofs.lemmas.List.Elements.{All-push, All-contains, Contains-push, Contains-get_or}
+use Rattle.std.proofs.Common.{◌≡◌, ◌≢◌, ⊎_elim, ℕ, ◌+◌, ◌<◌, refl, sym, ap, subst, ◌∙◌, List, [], ◌∷◌, ◌++◌, length, get_or, set, All, AllPairs, Contains, Option, None, Some, is_some, cond, vec_len, vec_capacity, arith}
+use Rattle.std.proofs.lemmas.List.{get_or-set_same, get_or-set_other, get_or_append_left, get_or_push, get_or_default, get_or_past, length_push, length-set, set-set, set-get_or}
+use Rattle.std.proofs.lemmas.List.Elements.{All-push, All-contains, Contains-push}
 use Rattle.std.proofs.lemmas.List.Sums.{sum_by-set, sum_by_push}
 use Rattle.std.specs.Global.{Vec}
+use Rattle.deed_core.specs.Holding.{Holding}
 use Rattle.tag_arena.proofs.Members.{All-from_members, AllPairs-append, Contains-cases, Contains-nil}
 use Rattle.fast_arena.specs.FreeTags.{FreeTag, tag_at, SlotBecomes}
 use Rattle.fast_arena.specs.Slotted.{taken, IsSlotted}
-use Rattle.fast_arena.proofs.Listing.{None≢Some, AllPairs-one}
+use Rattle.fast_arena.proofs.Listing.{None≢Some, Some-injective, AllPairs-one}
 
 abbrev pub one_of : Option FreeTag → ℕ
 one_of o = cond (is_some o) 1 0
@@ -89,3 +90,32 @@ module _ (slots new : Vec (Option FreeTag)) (vacant more : Vec ℕ) (room k : �
         slots_hold = omega (arith, s.slots_hold, same);
         vacant_holds = omega (arith, s.vacant_holds, capacity);
       }
+
+-- a slot whose deed was taken out and put back
+pub set_back : (tags : List (Option FreeTag)) (k : ℕ) (o p : Option FreeTag) → p ≡ tag_at tags k → set (set tags k o) k p ≡ tags
+set_back tags k o p is = set-set tags k o p ∙ (ap (set tags k) is ∙ set-get_or tags k None)
+
+-- slots in which the same lies
+pub slotted_same : (slots new : Vec (Option FreeTag)) (vacant : Vec ℕ) (room : ℕ) → IsSlotted slots vacant room → new.items ≡ slots.items → vec_capacity new ≡ vec_capacity slots → IsSlotted new vacant room
+slotted_same slots new vacant room s is same =
+    let long = ap length is in
+    let count = ap taken is in
+    record {
+      empty = subst (λ l. All (λ k. (k < length l) × (tag_at l k ≡ None)) vacant.items) (sym is) s.empty;
+      apart = s.apart;
+      counted = omega (arith, s.counted, long, count);
+      within = omega (arith, s.within, long);
+      slots_hold = omega (arith, s.slots_hold, same);
+      vacant_holds = s.vacant_holds;
+    }
+
+-- a tag, by what it was made of
+pub tag_is : (made t : FreeTag) (range : Holding) (since power : ℕ) → made ≡ record { range = range; since = since; power = power } → range ≡ t.range → since ≡ t.since → power ≡ t.power → made ≡ t
+tag_is made t range since power is range_is since_is power_is =
+    is ∙ (ap (λ (h : Holding). record { range = h; since = since; power = power }) range_is
+    ∙ (ap (λ (n : ℕ). record { range = t.range; since = n; power = power }) since_is
+    ∙ ap (λ (n : ℕ). record { range = t.range; since = t.since; power = n }) power_is))
+
+-- what was taken out of a slot is what lay there
+pub taken_is : (tags : List (Option FreeTag)) (k : ℕ) (t u : FreeTag) (o d : Option FreeTag) → tag_at tags k ≡ Some t → o ≡ Some u → o ≡ d → d ≡ get_or tags k d → u ≡ t
+taken_is tags k t u o d here is read at = Some-injective (sym is ∙ (read ∙ (at ∙ (get_or_default tags k d None (slot_within tags k t here) ∙ here))))

@@ -1,13 +1,13 @@
 -- An index with nothing in it, and one with more room.
-use Rattle.std.proofs.Common.{◌≡◌, ℕ, ◌+◌, ◌≤◌, refl, sym, ap, subst, ◌∙◌, Bool, true, false, List, [], length, max, Contains, Option, None, Some, arith}
+use Rattle.std.proofs.Common.{◌≡◌, ℕ, ◌≤◌, refl, sym, ap, subst, ◌∙◌, Bool, true, false, List, [], max, Option, arith}
 use Rattle.tag_arena.specs.declared.policies.Policy.{Policy}
 use Rattle.tag_arena.proofs.Members.{Contains-nil}
 use Rattle.fast_arena.specs.declared.entries.Entry.{Entry}
 use Rattle.fast_arena.specs.declared.orders.Order.{Order}
 use Rattle.fast_arena.specs.declared.orders.Order.TheVariants.{Falling, Sizes, Lists, Rising}
-use Rattle.fast_arena.specs.FreeTags.{FreeTag, tag_at, by_age, ranges_by_age, IsTimed, AreTags}
-use Rattle.fast_arena.specs.Orders.{Ordered, Mirrors, KeepsUp, entry_of}
-use Rattle.fast_arena.specs.Slotted.{SlotTable, taken}
+use Rattle.fast_arena.specs.FreeTags.{FreeTag, by_age, ranges_by_age, IsTimed, AreTags}
+use Rattle.fast_arena.specs.Orders.{Ordered, Mirrors, KeepsUp}
+use Rattle.fast_arena.specs.Slotted.{SlotTable}
 use Rattle.fast_arena.specs.FreeRanges.{IsKept, IsIndexed, keeps}
 use Rattle.fast_arena.proofs.Listing.{None≢Some}
 

@@ -3,3 +3,5 @@ pub mod Orders
 pub mod Slotted
 pub mod FreeRanges
 pub mod Fits
+pub mod Cuts
+pub mod Returns

@@ -1,7 +1,6 @@
 -- The orders in which free ranges are kept.
 use Rattle.std.specs.Prelude.{◌≡◌, ◌≢◌, ℕ, ◌+◌, ◌-◌, ◌*◌, ◌^◌, ◌<◌, ◌≤◌, Bool, true, false}
 use Rattle.std.specs.Prelude.{List, Contains, Option, Some, length, count_by, is_some, All, Any}
-use Rattle.sorted_rows.specs.Layout.{Listing}
 use Rattle.sorted_rows.specs.Order.{PutsIn, TakesOut}
 use Rattle.fast_arena.specs.declared.entries.Entry.{Entry}
 use Rattle.fast_arena.specs.declared.orders.Order.{Order}

@@ -1,18 +1,23 @@
 //! The free ranges of an arena, in the orders that its policy asks for.
 ghost use Rattle.std.specs.Prelude.{◌≡◌, ◌≢◌, ◌+◌, ◌<◌, ◌≤◌, ◌++◌, ◌∷◌, [], All, Any, OnOk, OnErr};
-ghost use Rattle.std.specs.Prelude.{◌-◌, ◌%◌, ◌^◌, length, max, true, AllPairs, IfSome};
+ghost use Rattle.std.specs.Prelude.{◌-◌, ◌%◌, ◌^◌, length, max, true, AllPairs, Contains, IfOk};
+ghost use Rattle.std.specs.Prelude.{IfSome, option_to_list};
 ghost use Rattle.std.specs.Int.{IsPowerOfTwo};
-ghost use Rattle.deed_core.specs.Extent.{IsRange};
+ghost use Rattle.deed_core.specs.Extent.{IsRange, end_of};
 ghost use Rattle.deed_core.specs.Holding.{Apart};
 ghost use Rattle.deed_core.specs.Request.{IsGood};
+ghost use Rattle.tag_arena.specs.Calls.{part};
 ghost use Rattle.tag_arena.specs.Choice.{IsBestChoice, IsChoice, IsInstantChoice, IsNextChoice};
 ghost use Rattle.tag_arena.specs.declared.policies.Policy.TheVariants.{Instant, Next};
 ghost use Rattle.tag_arena.specs.Layout.{IsPartOf};
 ghost use Rattle.tag_arena.specs.Neighbors.{IsBeside, Merges, TakesLeft, TakesRight, Without};
+ghost use Rattle.fast_arena.specs.Cuts.{CarvesOut, IsCut};
 ghost use Rattle.fast_arena.specs.Fits.{base_of, IsFit, IsLastBy};
 ghost use Rattle.fast_arena.specs.FreeRanges.{keeps};
+ghost use Rattle.fast_arena.specs.Returns.{ComesBack};
 ghost use Rattle.fast_arena.specs.declared.orders.Order.TheVariants.{Sizes};
 
+use crate::cuts::Cut;
 use crate::earliest::next_fit;
 use crate::held_ranges::{HeldRange, held_range_of};
 use crate::merges::{join_left, join_right};
@@ -328,6 +333,96 @@ impl<D: Deed> FreeIndex<D> {
         let right = self.take_right(range.end(), span.end());
         let low = join_left(left, deed);
         join_right(low, right)
+    }
+
+    /// A piece of a span comes back. With its free neighbours it is the newest range; where that is
+    /// the whole of a span that was lent, it is handed back. It takes no memory.
+    pub fn give_back(&mut self, span: HeldRange, lent: bool, deed: Stored<D>) -> Option<Stored<D>>
+        requires inside { IsPartOf span deed }
+        requires some { 0 < deed.range.len }
+        requires beside { All (IsBeside span) self.old.ranges }
+        requires apart { AllPairs Apart self.old.ranges }
+        requires clear { All (Apart deed) self.old.ranges }
+        requires room { length self.old.ranges < self.old.room }
+        requires ticks { 0 < self.old.ticks }
+        ensures returned { ComesBack lent span deed self.old.ranges self.new.ranges result }
+        ensures setup { (self.new.policy ≡ self.old.policy) × (self.new.room ≡ self.old.room) }
+        ensures ticks { self.old.ticks ≤ self.new.ticks + 1 }
+    {
+        let merged = self.merge(span, deed);
+        if lent && held_range_of(&merged) == span {
+            return Some(merged);
+        }
+        self.insert(merged);
+        None
+    }
+
+    /// Cuts the units from `base` to `end` out of a free range, which is free no more.
+    fn cut(&mut self, range: HeldRange, base: u64, end: u64) -> Result<Cut<D>, AllocError>
+        requires among { Contains self.old.ranges range }
+        requires from { range.range.base ≤ base }
+        requires some { base < end }
+        requires to { end ≤ end_of range.range }
+        ensures cut { IfOk result (λ cut. IsCut range base end cut.low cut.piece cut.high) }
+        ensures ranges { OnOk result (Without self.old.ranges range self.new.ranges) }
+        ensures unchanged { OnErr result (self.new.ranges ≡ self.old.ranges) }
+        ensures rest { self.new ≡ record self.old { ranges = self.new.ranges } }
+    {
+        let Some(entry) = self.falling.first_from(LIMIT - range.base(), 0) else {
+            unreachable!()
+        };
+        let slot = entry.slot;
+        let tag = self.slots.tag(slot);
+        let cut = self.slots.cut(slot, tag, base, end)?;
+        self.falling.strike(slot, tag);
+        self.sizes.strike(slot, tag);
+        self.lists.strike(slot, tag);
+        self.rising.strike(slot, tag);
+        Ok(cut)
+    }
+
+    /// A rest, if there is one, becomes free.
+    fn insert_rest(&mut self, rest: Option<Stored<D>>)
+        requires absent { IfSome rest (λ h.
+            All (λ r. r.range.base ≢ h.range.base) self.old.ranges) }
+        requires room { length self.old.ranges < self.old.room }
+        requires ticks { 0 < self.old.ticks }
+        ensures ranges { self.new.ranges ≡ self.old.ranges ++ option_to_list rest }
+        ensures policy { self.new.policy ≡ self.old.policy }
+        ensures room { self.new.room ≡ self.old.room }
+        ensures ticks { self.old.ticks ≤ self.new.ticks + 1 }
+    {
+        match rest {
+            Some(rest) => self.insert(rest),
+            None => {}
+        }
+    }
+
+    /// Carves `len` units from `base` on out of a free range, whose rests become free, the low one
+    /// first. Where a split is refused, all is as it was.
+    pub fn carve(&mut self, range: HeldRange, base: u64, len: u64) -> Result<Stored<D>, AllocError>
+        requires among { Contains self.old.ranges range }
+        requires some { 0 < len }
+        requires from { range.range.base ≤ base }
+        requires to { base + len ≤ end_of range.range }
+        requires apart { AllPairs Apart self.old.ranges }
+        requires room { length self.old.ranges < self.old.room }
+        requires ticks { 1 < self.old.ticks }
+        ensures piece { IfOk result (λ piece. piece ≡ part range base len) }
+        ensures carved { IfOk result (λ piece.
+            CarvesOut range piece self.old.ranges self.new.ranges) }
+        ensures unchanged { OnErr result (self.new ≡ self.old) }
+        ensures setup { (self.new.policy ≡ self.old.policy) × (self.new.room ≡ self.old.room) }
+        ensures len { length self.new.ranges ≤ length self.old.ranges + 1 }
+        ensures ticks { self.old.ticks ≤ self.new.ticks + 2 }
+    {
+        // For their clauses: each of these ranges has units.
+        let _ = range.end();
+        let _ = self.len();
+        let Cut { low, piece, high } = self.cut(range, base, base + len)?;
+        self.insert_rest(low);
+        self.insert_rest(high);
+        Ok(piece)
     }
 
     /// Ends the index where no range is free.

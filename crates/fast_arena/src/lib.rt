@@ -1,5 +1,6 @@
 //! The faster body of an arena. It is being built from below: so far the index of the free ranges,
-//! what each policy chooses in it, and merging. Carving, spans, tags and the arena aren't there.
+//! what each policy chooses in it, carving, and what comes back. Spans, tags and the arena aren't
+//! there.
 //!
 //! `FreeIndex` holds the deeds of the free ranges, which a contract sees as one list from the
 //! oldest to the newest. In it
@@ -10,13 +11,15 @@
 //! * `lists` has them by power-of-two list, the newest first, under `instant`;
 //! * `rising` has them by base with their lengths as weights, under `next`.
 //!
-//! `FreeIndex::chosen` gives what the policy chooses, and `FreeIndex::merge` takes out the
-//! neighbors of a range that comes back, both in the words of `tag_arena`'s own clauses.
+//! `FreeIndex::chosen` gives what the policy chooses, `FreeIndex::carve` cuts a piece out of a free
+//! range, and `FreeIndex::give_back` takes a piece back and merges it with its neighbors, in the
+//! words of `tag_arena`'s own clauses.
 //!
 //! So a call looks at a few rows of each index, whatever the number of ranges. Once there is room
 //! nothing takes memory.
 #![tactic(auto)]
 
+mod cuts;
 mod earliest;
 mod entries;
 mod free_index;

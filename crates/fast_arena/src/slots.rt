@@ -1,10 +1,12 @@
 //! Deeds of free ranges in numbered slots.
 ghost use Rattle.std.specs.Prelude.{◌≡◌, ◌+◌, ◌<◌, ◌≤◌, [], None, Some, OnOk, OnErr, IsTrue, ◌↔◌};
-ghost use Rattle.std.specs.Prelude.{All, max};
-ghost use Rattle.deed_core.specs.Extent.{IsRange};
+ghost use Rattle.std.specs.Prelude.{All, max, IfOk};
+ghost use Rattle.deed_core.specs.Extent.{IsRange, end_of};
+ghost use Rattle.fast_arena.specs.Cuts.{IsCut};
 ghost use Rattle.fast_arena.specs.FreeTags.{FreeTag, tag_at, SlotBecomes};
 ghost use Rattle.fast_arena.specs.Slotted.{taken};
 
+use crate::cuts::{Cut, cut_out};
 use crate::held_ranges::{HeldRange, held_range_of};
 use deed_core::{Deed, Stored};
 use std::alloc::{AllocError, Global};
@@ -176,6 +178,39 @@ impl<D: Deed> Slots<D> {
         };
         self.vacant.push_reserved(slot);
         deed
+    }
+
+    /// Cuts the units from `base` to `end` out of the deed in a slot, which is vacant then. Where a
+    /// split is refused, all is as it was.
+    pub fn cut(&mut self, at: usize, tag: Tag, base: u64, end: u64) -> Result<Cut<D>, AllocError>
+        requires here { tag_at self.old.tags at ≡ Some tag }
+        requires from { tag.range.range.base ≤ base }
+        requires some { base < end }
+        requires to { end ≤ end_of tag.range.range }
+        ensures cut { let whole = tag.range in
+            IfOk result (λ cut. IsCut whole base end cut.low cut.piece cut.high) }
+        ensures becomes { OnOk result (SlotBecomes self.old.tags self.new.tags at None) }
+        ensures taken { OnOk result (taken self.new.tags + 1 ≡ taken self.old.tags) }
+        ensures unchanged { OnErr result (self.new.tags ≡ self.old.tags) }
+        ensures room { self.new.room ≡ self.old.room }
+    {
+        let Some(timed) = self.slots[at].take() else {
+            unreachable!()
+        };
+        match cut_out(timed.into_deed(), base, end) {
+            Ok(cut) => {
+                self.vacant.push_reserved(at);
+                Ok(cut)
+            }
+            Err(same) => {
+                let timed = TimedDeed::new(same, tag.since(), tag.power());
+                match self.slots[at].replace(timed) {
+                    None => {}
+                    Some(_) => unreachable!(),
+                }
+                Err(AllocError)
+            }
+        }
     }
 
     /// What lies in a slot.

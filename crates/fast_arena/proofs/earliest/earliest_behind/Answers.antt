@@ -1,10 +1,8 @@
-use Rattle.std.proofs.Common.{◌≡◌, ℕ, ◌+◌, ◌*◌, ◌-◌, ◌^◌, ◌<◌, ◌≤◌, Contains, Some, None, refl, sym, ap, ◌∙◌, subst, arith}
+use Rattle.std.proofs.Common.{ℕ, ◌+◌, ◌*◌, ◌^◌, ◌<◌, ◌≤◌, Contains, sym, ap, ◌∙◌, subst, arith}
 use Rattle.deed_core.specs.Holding.{Holding}
 use Rattle.deed_core.specs.Request.{rounded}
 use Rattle.tag_arena.specs.Place.{ServesIn}
-use Rattle.fast_arena.specs.declared.entries.Entry.{Entry}
-use Rattle.fast_arena.specs.FreeTags.{FreeTag, tag_at, ranges_by_age}
-use Rattle.fast_arena.specs.Fits.{IsFit}
+use Rattle.fast_arena.specs.FreeTags.{ranges_by_age}
 use Rattle.fast_arena.specs.Orders.{rank_of, entry_of}
 use Rattle.fast_arena.specs.declared.orders.Order.TheVariants.{Rising}
 use Rattle.fast_arena.proofs.Listing.{Some-injective}

@@ -1,9 +1,9 @@
-use Rattle.std.proofs.Common.{None, Some, subst}
+use Rattle.std.proofs.Common.{subst}
 use Rattle.tag_arena.proofs.Granting.{rounded_some}
 use Rattle.fast_arena.specs.FreeTags.{ranges_by_age}
 use Rattle.fast_arena.specs.Fits.{IsLastBy}
 use Rattle.fast_arena.proofs.Lasting.{all_ranges}
-use Rattle.fast_arena.proofs.Roving.{below_last, by_last, by_none, earliest_here}
+use Rattle.fast_arena.proofs.Roving.{by_last, by_none}
 use Rattle.fast_arena.proofs.earliest.earliest_fit.Goals as goal
 use Rattle.fast_arena.proofs.earliest.earliest_fit.Goals.{in-Some+in_default-least_in, in_default}
 

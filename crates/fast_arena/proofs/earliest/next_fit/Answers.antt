@@ -1,4 +1,4 @@
-use Rattle.std.proofs.Common.{None, Some, refl, ap, ◌∙◌, sym, subst}
+use Rattle.std.proofs.Common.{None, Some, refl, ap, subst}
 use Rattle.fast_arena.specs.FreeTags.{ranges_by_age}
 use Rattle.fast_arena.specs.Fits.{base_of, IsEarliest}
 use Rattle.fast_arena.proofs.Roving.{past_rover, from_min}

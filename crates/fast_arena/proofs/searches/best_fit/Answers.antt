@@ -1,8 +1,7 @@
-use Rattle.std.proofs.Common.{Contains, ◌≡◌, ℕ, ◌+◌, ◌*◌, ◌^◌, ◌<◌, ◌≤◌, Some, None, refl, sym, ap, ◌∙◌, subst, arith}
+use Rattle.std.proofs.Common.{Contains, ◌≡◌, ℕ, ◌+◌, ◌*◌, ◌^◌, ◌<◌, ◌≤◌, Some, sym, ap, ◌∙◌, subst, arith}
 use Rattle.sorted_rows.specs.Order.{place_below}
 use Rattle.tag_arena.specs.Place.{ServesIn}
 use Rattle.fast_arena.specs.FreeTags.{FreeTag, tag_at, ranges_by_age}
-use Rattle.fast_arena.specs.Fits.{IsFit}
 use Rattle.fast_arena.specs.Orders.{rank_of, entry_of}
 use Rattle.fast_arena.specs.declared.orders.Order.TheVariants.{Sizes}
 use Rattle.fast_arena.proofs.Listing.{Some-injective}

@@ -1,4 +1,4 @@
-use Rattle.std.proofs.Common.{◌≡◌, Some, None, sym, ap, ◌∙◌, subst}
+use Rattle.std.proofs.Common.{Some, sym, ap, ◌∙◌, subst}
 use Rattle.sorted_rows.specs.Order.{place_below}
 use Rattle.fast_arena.specs.FreeTags.{ranges_by_age}
 use Rattle.fast_arena.specs.Fits.{IsLastBy}

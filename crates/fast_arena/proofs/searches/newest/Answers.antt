@@ -1,4 +1,4 @@
-use Rattle.std.proofs.Common.{◌≡◌, ℕ, ◌+◌, ◌*◌, ◌^◌, Some, None, sym, ap, ◌∙◌, subst}
+use Rattle.std.proofs.Common.{ℕ, ◌+◌, ◌*◌, ◌^◌, sym, ap, ◌∙◌, subst}
 use Rattle.sorted_rows.specs.Order.{place_below}
 use Rattle.tag_arena.specs.Choice.{IsInstant}
 use Rattle.fast_arena.specs.FreeTags.{ranges_by_age}

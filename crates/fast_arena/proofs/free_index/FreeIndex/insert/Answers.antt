@@ -1,6 +1,5 @@
-use Rattle.std.proofs.Common.{◌≡◌, ◌≢◌, ◌+◌, ◌-◌, ◌<◌, ◌^◌, ◌++◌, ◌∷◌, [], Some, None, All, length, refl, sym, ap, ◌∙◌, subst, arith}
-use Rattle.deed_core.specs.Holding.{Holding}
-use Rattle.fast_arena.specs.FreeTags.{FreeTag, SlotBecomes, IsTag, ranges_by_age}
+use Rattle.std.proofs.Common.{◌≡◌, ◌≢◌, ◌+◌, ◌++◌, ◌∷◌, [], Some, All, length, sym, ap, ◌∙◌, subst, arith}
+use Rattle.fast_arena.specs.FreeTags.{SlotBecomes, ranges_by_age}
 use Rattle.fast_arena.specs.declared.orders.Order.TheVariants.{Falling, Sizes, Lists, Rising}
 use Rattle.fast_arena.proofs.Mirroring.{kept_put}
 use Rattle.fast_arena.proofs.Indexing.{taken_below, newer, place_in, absent_in, new_tag, indexed_put, ranges_put}

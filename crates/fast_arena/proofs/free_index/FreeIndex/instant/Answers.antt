@@ -1,4 +1,4 @@
-use Rattle.std.proofs.Common.{◌≡◌, ℕ, ◌^◌, ◌<◌, ◌≤◌, All, Contains, inr, sym, ap, subst, arith}
+use Rattle.std.proofs.Common.{◌^◌, ◌<◌, All, Contains, inr, ap, subst, arith}
 use Rattle.std.proofs.lemmas.List.Elements.{All-contains}
 use Rattle.deed_core.specs.Extent.{IsRange}
 use Rattle.deed_core.specs.Request.{IsPlain, rounded}

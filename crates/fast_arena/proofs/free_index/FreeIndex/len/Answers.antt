@@ -1,4 +1,4 @@
-use Rattle.std.proofs.Common.{◌≡◌, All, length, ap, subst, arith}
+use Rattle.std.proofs.Common.{All, length, ap, subst, arith}
 use Rattle.deed_core.specs.Extent.{IsRange}
 use Rattle.std.proofs.lemmas.List.{length-map}
 use Rattle.fast_arena.specs.FreeTags.{range_of, by_age}

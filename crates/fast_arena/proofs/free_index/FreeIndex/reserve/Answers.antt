@@ -1,4 +1,4 @@
-use Rattle.std.proofs.Common.{◌≡◌, ◌+◌, ◌≤◌, refl, sym, ap, ◌∙◌, subst, max, arith}
+use Rattle.std.proofs.Common.{refl, arith}
 use Rattle.fast_arena.specs.declared.orders.Order.TheVariants.{Falling, Sizes, Lists, Rising}
 use Rattle.fast_arena.proofs.Starting.{kept_grown, kept_wide, indexed_same}
 use Rattle.fast_arena.proofs.free_index.FreeIndex.reserve.Goals as goal

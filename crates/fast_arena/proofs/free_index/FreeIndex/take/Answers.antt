@@ -1,4 +1,4 @@
-use Rattle.std.proofs.Common.{◌≡◌, ◌+◌, ◌≤◌, Some, None, Any, refl, sym, ap, ◌∙◌, subst, arith}
+use Rattle.std.proofs.Common.{◌≡◌, Any, sym, ap, ◌∙◌, subst, arith}
 use Rattle.tag_arena.specs.Neighbors.{Without}
 use Rattle.fast_arena.specs.FreeTags.{tag_at, ranges_by_age}
 use Rattle.fast_arena.specs.Orders.{entry_of}

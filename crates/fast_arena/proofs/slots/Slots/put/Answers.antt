@@ -1,4 +1,4 @@
-use Rattle.std.proofs.Common.{◌≡◌, Some, slice_set, ap, ◌∙◌, sym, subst, refl, arith}
+use Rattle.std.proofs.Common.{Some, slice_set, ap, sym, subst, refl, arith}
 use Rattle.fast_arena.specs.FreeTags.{SlotBecomes}
 use Rattle.fast_arena.specs.Slotted.{taken}
 use Rattle.fast_arena.proofs.Slotting.{filled, one_of, slot_set, taken_set, vacant_last}

@@ -1,4 +1,4 @@
-use Rattle.std.proofs.Common.{◌≡◌, Some, None, slice_set, ap, ◌∙◌, sym, subst, refl, arith}
+use Rattle.std.proofs.Common.{None, slice_set, ap, ◌∙◌, subst, refl}
 use Rattle.fast_arena.specs.FreeTags.{SlotBecomes, tag_at}
 use Rattle.fast_arena.proofs.Slotting.{emptied, slot_set, slot_within}
 use Rattle.fast_arena.proofs.slots.Slots.take.Goals as goal
