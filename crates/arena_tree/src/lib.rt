@@ -36,7 +36,7 @@ mod trees;
 pub use climbs::{climb_alloc, climb_free};
 pub use laws::{climb_laws, setup_laws};
 pub use levels::Level;
-pub use limits::{LONGEST_CHAIN, MOST_ARENAS, MOST_CACHES, MOST_CPUS, MOST_SPANS, setup_limit_law};
+pub use limits::{LONGEST_CHAIN, MOST_ARENAS, MOST_CACHES, MOST_SPANS, setup_limit_law};
 pub use part_faults::{
     AddCarveFault, CarveFault, ChangeFault, ClimbFault, FreeFault, PushFault, ReturnFault,
     SlabAddFault, SlabPutFault, Stopped, SwapEmptyFault, SwapFreshFault, SwapFullFault,

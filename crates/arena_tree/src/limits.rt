@@ -7,9 +7,6 @@ pub const MOST_ARENAS: usize = 32;
 /// How many spans an arena owns at most.
 pub const MOST_SPANS: usize = 65536;
 
-/// How many CPUs there are at most. They go by the numbers below this.
-pub const MOST_CPUS: usize = 64;
-
 /// How many arenas a chain has at most.
 pub const LONGEST_CHAIN: usize = 4;
 
@@ -20,7 +17,6 @@ pub const MOST_CACHES: u64 = 16;
 pub fn setup_limit_law()
     ensures arenas { MOST_ARENAS ≡ 32 }
     ensures spans { MOST_SPANS ≡ 65536 }
-    ensures cpus { MOST_CPUS ≡ 64 }
     ensures chain { LONGEST_CHAIN ≡ 4 }
     ensures caches { MOST_CACHES ≡ 16 }
 {}

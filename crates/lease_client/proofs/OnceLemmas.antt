@@ -1,6 +1,7 @@
 -- A reply counts once.
-use Rattle.std.proofs.Common.{◌≡◌, ◌⊎◌, inl, inr, ℕ, ◌+◌, ◌<◌, ◌≤◌, ◌^◌, ◌&&◌, ◌==◌, max, Bool, true, false, List, [], ◌∷◌, Option, Some, None, refl, sym, ap, subst, ◌∙◌, arith}
+use Rattle.std.proofs.Common.{◌≡◌, ◌⊎◌, inl, inr, ℕ, ◌+◌, ◌<◌, ◌≤◌, ◌&&◌, ◌==◌, max, Bool, true, false, List, [], ◌∷◌, Option, Some, None, refl, sym, ap, subst, ◌∙◌, arith}
 use Rattle.std.proofs.lemmas.Bool.{false≢true, and_parts, and_left, and_right, or_from, le-ltb, eqb-true, ne_eqb, cond-false}
+use Rattle.lease_terms.specs.declared.values.TheConstants.{LARGEST}
 use Rattle.lease_terms.specs.Requests.{RequestId}
 use Rattle.lease_proto.specs.declared.lines.Line.{Line}
 use Rattle.lease_proto.specs.declared.lines.Line.TheVariants as lines
@@ -171,7 +172,7 @@ not_above : (a : ℕ) (b : ℕ) (P : Type 0) → (a < b) ⊎ ((a ≡ b) × P) �
 not_above a b P (inl low) = omega arith
 not_above a b P (inr at) = omega (arith, at.0)
 
-past_restarted : (past : Reply) (i : ℕ) (old new : ClientState) → (old.incarnation < i) × (old.floor < i) × (i ≤ 2 ^ 62) → new.incarnation ≡ i → Past past old → Past past new
+past_restarted : (past : Reply) (i : ℕ) (old new : ClientState) → (old.incarnation < i) × (old.floor < i) × (i ≤ LARGEST) → new.incarnation ≡ i → Past past old → Past past new
 past_restarted (replies.Welcome w) i old new may is past = inl (let low = not_above _ _ _ past in omega (arith, may.0))
 past_restarted (replies.Granted g) i old new may is past = inl (let low = not_above _ _ _ past in omega (arith, may.0))
 past_restarted (replies.Released id) i old new may is past = inl (let low = not_above _ _ _ past in omega (arith, may.0))

@@ -1,6 +1,7 @@
 -- What a reply leaves as it was.
-use Rattle.std.proofs.Common.{◌≡◌, ℕ, ◌≤◌, ◌^◌, ◌&&◌, nat_lt, nat_le, Bool, true, false, not, cond, Option, Some, None, is_some, refl, sym, subst, arith}
+use Rattle.std.proofs.Common.{◌≡◌, ℕ, ◌≤◌, ◌&&◌, nat_lt, nat_le, Bool, true, false, not, cond, Option, Some, None, is_some, refl, sym, subst, arith}
 use Rattle.std.proofs.lemmas.Bool.{false≢true, cond_both, and_parts, leb-true, ltb-true, ltb-false}
+use Rattle.lease_terms.specs.declared.values.TheConstants.{LARGEST}
 use Rattle.lease_proto.specs.declared.lines.Line.{Line}
 use Rattle.lease_proto.specs.declared.lines.Line.TheVariants as lines
 use Rattle.lease_proto.specs.declared.replies.Welcome.{Welcome}
@@ -37,12 +38,12 @@ none_is (Some x) is = absurd (false≢true (sym is))
 pub moves_in_turn : MovesAreInTurn
 moves_in_turn = record {
   restart = λ i c is.
-      let parts = and_parts (nat_lt c.incarnation i) (nat_lt c.floor i && nat_le i (2 ^ 62)) is in
-      let rest = and_parts (nat_lt c.floor i) (nat_le i (2 ^ 62)) parts.1 in
-      (ltb-true c.incarnation i parts.0, ltb-true c.floor i rest.0, leb-true i (2 ^ 62) rest.1);
+      let parts = and_parts (nat_lt c.incarnation i) (nat_lt c.floor i && nat_le i LARGEST) is in
+      let rest = and_parts (nat_lt c.floor i) (nat_le i LARGEST) parts.1 in
+      (ltb-true c.incarnation i parts.0, ltb-true c.floor i rest.0, leb-true i LARGEST rest.1);
   send = λ op c is.
-      let parts = none_of c.is_open (is_some c.outstanding) (is_of_held op c.held) (nat_lt (2 ^ 62) c.next) _ _ _ _ is in
-      (parts.0, none_is c.outstanding parts.1, ltb-false (2 ^ 62) c.next parts.3);
+      let parts = none_of c.is_open (is_some c.outstanding) (is_of_held op c.held) (nat_lt LARGEST c.next) _ _ _ _ is in
+      (parts.0, none_is c.outstanding parts.1, ltb-false LARGEST c.next parts.3);
 }
 
 -- What is true of every client stays so.

@@ -1,6 +1,7 @@
 -- What holds of every client stays so.
-use Rattle.std.proofs.Common.{◌≡◌, ◌+◌, ◌≤◌, ◌^◌, Bool, true, false, not, cond, List, [], ◌∷◌, filter, Some, refl, ap, arith, rules}
+use Rattle.std.proofs.Common.{◌≡◌, ◌+◌, ◌≤◌, Bool, true, false, not, cond, List, [], ◌∷◌, filter, Some, refl, ap, arith, rules}
 use Rattle.std.specs.List.{list_any}
+use Rattle.lease_terms.specs.declared.values.TheConstants.{LARGEST}
 use Rattle.lease_terms.specs.Requests.{RequestId}
 use Rattle.lease_proto.specs.declared.lines.Line.TheVariants as lines
 use Rattle.lease_proto.specs.declared.lines.Op.{Op}
@@ -25,7 +26,7 @@ has_ended (ops.Lease l) held = tt
 has_ended (ops.Release r) held = list_any-filter_not (is_at r.arena r.base) held
 
 pub sound_sent : (op : Op) (c : ClientState) (id : RequestId) (held : List HeldSegment) → IsSound c
-    → c.is_open ≡ true → c.next ≤ 2 ^ 62 → id ≡ next_id c → held ≡ held_after op c.held
+    → c.is_open ≡ true → c.next ≤ LARGEST → id ≡ next_id c → held ≡ held_after op c.held
     → IsSound (record c { next = c.next + 1; outstanding = Some (lines.Request id op); held = held })
 sound_sent op c id held is opened few names ends = record {
   id = is.id;

@@ -1,7 +1,8 @@
 -- What a client's calls come to, by their answers.
-use Rattle.std.specs.Prelude.{◌≡◌, ℕ, ◌+◌, ◌^◌, ◌&&◌, nat_lt, nat_le, Bool, true, false, not, List}
+use Rattle.std.specs.Prelude.{◌≡◌, ℕ, ◌+◌, ◌&&◌, nat_lt, nat_le, Bool, true, false, not, List}
 use Rattle.std.specs.Prelude.{[], filter, Option, Some, None, is_some, Result, Ok, Err}
 use Rattle.std.specs.Prelude.{if◌then◌else◌}
+use Rattle.lease_terms.specs.declared.values.TheConstants.{LARGEST}
 use Rattle.lease_terms.specs.Requests.{RequestId}
 use Rattle.lease_proto.specs.declared.lines.Line.{Line}
 use Rattle.lease_proto.specs.declared.lines.Line.TheVariants as lines
@@ -23,7 +24,7 @@ ReadsBack line = line_of (text_of line) ≡ Ok line
 
 -- an incarnation may begin that is above the client's and above each that an accepted `old` named
 abbrev pub may_restart : ℕ → ClientState → Bool
-may_restart i c = nat_lt c.incarnation i && (nat_lt c.floor i && nat_le i (2 ^ 62))
+may_restart i c = nat_lt c.incarnation i && (nat_lt c.floor i && nat_le i LARGEST)
 
 abbrev pub own_hello : ℕ → ClientState → Line
 own_hello i c = lines.Hello (record { client = c.id; incarnation = i })
@@ -56,7 +57,7 @@ refusal op c =
     if not c.is_open then Some (NotOpen op)
     else if is_some c.outstanding then Some (Busy op)
     else if not (is_of_held op c.held) then Some (NotHeld op)
-    else if nat_lt (2 ^ 62) c.next then Some (Exhausted op)
+    else if nat_lt LARGEST c.next then Some (Exhausted op)
     else None
 
 -- the id of the next request

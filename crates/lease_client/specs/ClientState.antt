@@ -1,8 +1,9 @@
 -- What contracts see of a client.
-use Rattle.std.specs.Prelude.{◌≡◌, ℕ, ◌+◌, ◌≤◌, ◌^◌, ◌==◌, ◌&&◌, Bool, true, false, List, []}
+use Rattle.std.specs.Prelude.{◌≡◌, ℕ, ◌+◌, ◌≤◌, ◌==◌, ◌&&◌, Bool, true, false, List, []}
 use Rattle.std.specs.Prelude.{Option, Some, None}
 use Rattle.std.specs.List.{list_any}
 use Rattle.std.specs.Str.{bytes_eq}
+use Rattle.lease_terms.specs.declared.values.TheConstants.{LARGEST}
 use Rattle.lease_terms.specs.Ranges.{IsClient, IsQuantity}
 use Rattle.lease_proto.specs.declared.lines.Line.{Line}
 use Rattle.lease_proto.specs.declared.lines.Line.TheVariants as lines
@@ -61,7 +62,7 @@ pub record IsSound (c : ClientState) : Type 0 where
   pub id : IsClient c.id
   pub incarnation : IsQuantity c.incarnation
   pub first : 1 ≤ c.next
-  pub last : c.next ≤ 2 ^ 62 + 1
+  pub last : c.next ≤ LARGEST + 1
   pub begun : c.is_open ≡ true → 1 ≤ c.incarnation
   pub closed : c.is_open ≡ false → c.held ≡ []
   pub outstanding : IsOwn c c.outstanding

@@ -1,6 +1,7 @@
 -- What holds of every client.
-use Rattle.std.specs.Prelude.{◌≡◌, ◌≢◌, ◌⊎◌, ◌↔◌, ℕ, ◌+◌, ◌<◌, ◌≤◌, ◌^◌, true, List, [], None, Some}
+use Rattle.std.specs.Prelude.{◌≡◌, ◌≢◌, ◌⊎◌, ◌↔◌, ℕ, ◌+◌, ◌<◌, ◌≤◌, true, List, [], None, Some}
 use Rattle.std.specs.List.{Contains}
+use Rattle.lease_terms.specs.declared.values.TheConstants.{LARGEST}
 use Rattle.lease_terms.specs.Requests.{RequestId}
 use Rattle.lease_proto.specs.declared.lines.Op.{Op}
 use Rattle.lease_proto.specs.declared.lines.Op.TheVariants as ops
@@ -23,9 +24,9 @@ MovesKeepSound =
 -- nothing is outstanding
 pub record MovesAreInTurn : Type 0 where
   pub restart : (i : ℕ) (c : ClientState) → may_restart i c ≡ true
-      → (c.incarnation < i) × (c.floor < i) × (i ≤ 2 ^ 62)
+      → (c.incarnation < i) × (c.floor < i) × (i ≤ LARGEST)
   pub send : (op : Op) (c : ClientState) → refusal op c ≡ None
-      → (c.is_open ≡ true) × (c.outstanding ≡ None) × (c.next ≤ 2 ^ 62)
+      → (c.is_open ≡ true) × (c.outstanding ≡ None) × (c.next ≤ LARGEST)
 
 -- a request that may be on its way may be so ever after
 abbrev pub SentStaysSent : Type 0

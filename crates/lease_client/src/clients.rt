@@ -1,6 +1,7 @@
 //! The client.
-ghost use Rattle.std.specs.Prelude.{◌≡◌, ◌+◌, ◌≤◌, ◌^◌, ◌<◌, ◌⊎◌, ◌↔◌, max, IfOk, IfSome, IfNone};
+ghost use Rattle.std.specs.Prelude.{◌≡◌, ◌+◌, ◌≤◌, ◌<◌, ◌⊎◌, ◌↔◌, max, IfOk, IfSome, IfNone};
 ghost use Rattle.std.specs.Prelude.{IsOk, OnOk, IfErr, IsSome, Some, None, true, false};
+ghost use Rattle.lease_terms.specs.declared.values.TheConstants.{LARGEST};
 ghost use Rattle.lease_client.specs.Calls.{ReadsBack};
 ghost use Rattle.lease_client.specs.ClientState.{silent, IsSound};
 
@@ -31,7 +32,7 @@ pub struct Client {
     id: ClientId,
     incarnation: Quantity,
     floor: Quantity,
-    // 2^62 + 1 where no number is left.
+    // `LARGEST` + 1 where no number is left.
     next: u64,
     outstanding: Option<Line>,
     is_open: bool,
@@ -185,7 +186,7 @@ impl Client {
     fn admit(&self, op: Op) -> Result<RequestId, SendFault>
         ensures id { IfOk result (λ id. id ≡ next_id self.now) }
         ensures open { OnOk result (self.now.is_open ≡ true) }
-        ensures left { OnOk result (self.now.next ≤ 2 ^ 62) }
+        ensures left { OnOk result (self.now.next ≤ LARGEST) }
         ensures ok { IsOk result ↔ (refusal op self.now ≡ None) }
         ensures err { IfErr result (λ fault. refusal op self.now ≡ Some fault) }
     {
@@ -208,7 +209,7 @@ impl Client {
     fn next_id(&self) -> Option<RequestId>
         requires { self.now.is_open ≡ true }
         ensures some { IfSome result (λ id. id ≡ next_id self.now) }
-        ensures exactly { IsSome result ↔ (self.now.next ≤ 2 ^ 62) }
+        ensures exactly { IsSome result ↔ (self.now.next ≤ LARGEST) }
     {
         Some(RequestId {
             client: self.id,

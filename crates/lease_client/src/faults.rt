@@ -3,7 +3,7 @@ use lease_proto::Op;
 use thiserror::Error;
 
 /// The incarnation isn't above the client's and each that an accepted `old` named, or it is above
-/// 2^62.
+/// `LARGEST`.
 #[derive(Clone, Copy, Debug, PartialEq, Eq, Error)]
 #[error("not a greater incarnation")]
 pub struct NotGreater;
@@ -26,7 +26,7 @@ pub enum SendFault {
     /// A release of what the client doesn't hold.
     #[error("not held")]
     NotHeld(Op),
-    /// The number 2^62 was sent: the client has to restart.
+    /// The number `LARGEST` was sent: the client has to restart.
     #[error("no number is left")]
     Exhausted(Op),
     /// Out of memory: there is no room for the segment that a lease may be granted.

@@ -3,6 +3,7 @@ use Rattle.std.proofs.Common.{All, ◌≡◌, ℕ, ◌+◌, ◌-◌, ◌*◌, �
 use Rattle.std.specs.Prelude.{slice_get}
 use Rattle.std.proofs.lemmas.List.{length-map}
 use Rattle.deed_core.proofs.LawProofs.{all_from, mapped, slice_get_mapped, slice_get_one}
+use Rattle.arena_tree.specs.declared.limits.TheConstants.{MOST_CACHES}
 use Rattle.arena_tree.specs.Plans.{Plan}
 use Rattle.magazine_layer.specs.Depots.{DepotState, CanReap}
 use Rattle.stock.specs.Setups.{plan_for}
@@ -125,7 +126,7 @@ module _ (d : Picture) (limit : ℕ) (s : LocalState) (r : Reaping) (held : IsHe
         left = all_out s.spaces none;
       }
 
-  looks : limit + findable_in s.spaces ≤ r.left + findable_in d.spaces + 32 * length d.tree
+  looks : limit + findable_in s.spaces ≤ r.left + findable_in d.spaces + 2 * MOST_CACHES * length d.tree
   looks =
       let few = reap_takes_few_looks d.tree limit was s r (local d d.selected c found None held) run in
       let count : length d.spaces ≡ length d.tree = sym (length-map d.spaces plan_of) ∙ (ap length held.plans ∙ length-map d.tree plan_for) in

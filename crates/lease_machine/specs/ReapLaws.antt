@@ -1,5 +1,6 @@
 -- What a reaping over one thread's parts comes to for a picture.
 use Rattle.std.specs.Prelude.{◌≡◌, ℕ, ◌+◌, ◌*◌, ◌^◌, ◌<◌, ◌≤◌, [], Ok, length}
+use Rattle.arena_tree.specs.declared.limits.TheConstants.{MOST_CACHES}
 use Rattle.quantum_cache.specs.declared.reaps.Reaping.{Reaping}
 use Rattle.quantum_cache.specs.Reaps.{reap_plan}
 use Rattle.local_parts.specs.States.{LocalState}
@@ -17,7 +18,8 @@ pub record ReapedTo (limit : ℕ) (d : Picture) (r : Reaping) (s : LocalState) :
   pub held : IsHeld [] (with_parts s d)
   pub setup : SameSetup d (with_parts s d)
   pub parts : s ≡ parts_in (with_parts s d)
-  pub fewer : limit + findable_in s.spaces ≤ r.left + findable_in d.spaces + 32 * length d.tree
+  pub fewer : limit + findable_in s.spaces
+      ≤ r.left + findable_in d.spaces + 2 * MOST_CACHES * length d.tree
 
 abbrev pub ReapReaps : Type 0
 ReapReaps = (d : Picture) (limit : ℕ) (s : LocalState) (r : Reaping) → IsHeld [] d

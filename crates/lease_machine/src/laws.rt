@@ -82,8 +82,12 @@ pub fn step_laws()
     ensures cpus { CpusAreSelected }
     ensures ticks { TicksAreAnswered }
     ensures vain_resizes { VainResizesAreAnswered }
-    ensures ticks_keep { TicksKeep }
-    ensures resizes_keep { ResizesKeep }
+{}
+
+/// What a tick and greater magazines leave is a picture of the same setup.
+pub fn depot_laws()
+    ensures ticks { TicksKeep }
+    ensures resizes { ResizesKeep }
 {}
 
 /// What the calls of quantum caches over one thread's parts come to for a picture.

@@ -37,7 +37,7 @@ mod writing;
 pub use cpus::CpuNumber;
 pub use faults::{ErrorWord, LineFault};
 pub use framing::{FramedLine, LineReader, fault_at_end, framing_law, line_feed_law};
-pub use limits::{LAST_CPU, LINE_ROOM, LONGEST_LINE, limit_law};
+pub use limits::{LAST_CPU, LINE_ROOM, LONGEST_LINE, MOST_CPUS, limit_law};
 pub use lines::{HelloLine, LeaseLine, LeaseOptions, Line, Op, ReleaseLine, line_law};
 pub use numbers::number_law;
 pub use operators::{

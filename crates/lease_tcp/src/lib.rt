@@ -8,6 +8,12 @@
 //!
 //! What a line may be answered is stated in specs/Replying.antt, and what a connection leaves in
 //! specs/Connections.antt. Of a socket no contract can say what it gives or takes.
+//!
+//! Each byte is looked at a few times, and a line costs what its worker does. A `SystemWorker` does
+//! a request of its system for each; after a connection it reaps each arena, by at most
+//! `REAP_LIMIT` looks, and ticks each depot. A connection has its worker to itself until it ends,
+//! or is silent for `SILENCE_LIMIT` seconds, and takes memory for the replies to the lines of one
+//! read.
 #![tactic(auto)]
 
 mod connections;

@@ -2,13 +2,13 @@
 ghost use Rattle.std.specs.Prelude.{◌≡◌, ◌-◌, ◌^◌, ◌≤◌, ◌↔◌, All, Some, None, min};
 ghost use Rattle.std.specs.Prelude.{IfOk, IfSome, IsTrue};
 ghost use Rattle.magazine_layer.specs.Magazines.{BothEmpty};
-ghost use Rattle.arena_tree.specs.declared.limits.TheConstants.{MOST_CPUS};
+ghost use Rattle.lease_proto.specs.declared.limits.TheConstants.{MOST_CPUS};
 ghost use Rattle.lease_threads.specs.Systems.{cpu_units};
 
 use crate::systems::System;
-use arena_tree::MOST_CPUS;
 use deed_core::Segment;
 use deed_table::{Name, SeatDeed};
+use lease_proto::MOST_CPUS;
 use locked_parts::{KindRounds, end_rounds, new_rounds};
 use std::alloc::{AllocError, Global};
 use std::marker::Model;
@@ -31,8 +31,8 @@ impl<N: Name> Model for Cpu<N> {
 }
 
 impl<N: Name> Cpu<N> {
-    /// A CPU of the system, with an empty hand and empty magazines; None where the number is above
-    /// 63. The number is a label: each Cpu is one of its own.
+    /// A CPU of the system, with an empty hand and empty magazines; None where the number is
+    /// `MOST_CPUS` or above. The number is a label: each Cpu is one of its own.
     pub fn new(alloc: Global, system: &System<N>, number: u32) -> Result<Option<Cpu<N>>, AllocError>
         ensures exactly { IfOk result (λ cpu. cpu ≡ None ↔ MOST_CPUS ≤ number) }
         ensures number { IfOk result (λ cpu. IfSome cpu (λ c. c.number ≡ number)) }
@@ -40,7 +40,7 @@ impl<N: Name> Cpu<N> {
         ensures no_round { IfOk result (λ cpu. IfSome cpu
             (λ c. All (λ r. BothEmpty r.cpu) c.caches)) }
     {
-        if number as usize >= MOST_CPUS {
+        if number >= MOST_CPUS {
             return Ok(None);
         }
         let caches = new_rounds(alloc, system.tree())?;

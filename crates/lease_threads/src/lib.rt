@@ -10,6 +10,13 @@
 //! `reap` (upkeep) keep the system in shape, and `retire` (retiring) ends a CPU. `shut` (shutting)
 //! ends a system: all that lies in its parts is placed (emptying), its roots are closed (closing),
 //! and its parts and its book are ended (ending).
+//!
+//! A request takes the book's lock twice at most, and the locks of its list of steps, of which
+//! `quantum_cache` says how many they are at most, by the length of a chain. A hello takes the
+//! book's lock twice, and once more, with a free, for each lease that it ends. A lock is held for
+//! one event on its part. `tick` and `resize` take that of one depot after another, `reap` those
+//! for each round and slab that goes, `retire` those for each round of the CPU. `shut` goes over
+//! all parts and leases.
 #![tactic(auto)]
 
 mod closing;

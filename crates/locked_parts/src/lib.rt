@@ -9,6 +9,11 @@
 //! `Running` (running) is `arena_tree::Parts` over them for one CPU, which has two magazines for
 //! each quantum cache (cpu_rounds, own_rounds): each event of a shared part takes its lock, and no
 //! other (locked_events, own_events), and asks the gate (gates) before.
+//!
+//! A part is found by its number, in constant time. An event costs what the part's own call does
+//! (`tag_arena`, `slab_layer`, `magazine_layer`) and a few looks whether it is the part that is
+//! meant; one of the CPU's own magazines takes constant time and no lock. `tick` and `resize` take
+//! the locks of depots one after another. A CPU keeps two magazines for each quantum cache.
 #![tactic(auto)]
 
 mod arena_parts;

@@ -62,3 +62,9 @@ module _ {X : Type 0} (rank weight : X → ℕ) where
   heavy_behind key least rows i q r o laid lt e seat place is behind =
       let next : i + 1 ≡ suc i = omega arith in
       behind ∙ (ap (λ n. find (weighs weight least) (flat (drop n rows))) next ∙ (sym (found_behind (weighs weight least) (drop q r) (flat (drop (suc i) rows)) is) ∙ ap (find (weighs weight least)) (sym (from_place key rows i q r laid lt e seat place))))
+
+-- what heavy_after finds in the rows from one on
+pub ruleset found_from = (row_has, row_lacks, none_left, light_row)
+
+-- where least_weighing finds it: in the key's row, or in those behind
+pub ruleset found_heavy = (heavy_here, heavy_behind)

@@ -83,3 +83,9 @@ module _ {X : Type 0} (weight : X → ℕ) where
   -- and after further ones were put behind
   pub top_joined : (xs ys : List X) (top more most : ℕ) → top ≡ greatest_weight weight xs → more ≡ greatest_weight weight ys → most ≡ max top more → most ≡ greatest_weight weight (xs ++ ys)
   top_joined xs ys top more most is are so = let h = greatest_append xs ys in omega (arith, h, is, are, so)
+
+-- the greatest weight with one entry more
+pub ruleset top_inserted = (top_grows, top_stays)
+
+-- the greatest weights of two rows that become one, and an empty one
+pub ruleset tops_joined = (top_joined, greatest_none)

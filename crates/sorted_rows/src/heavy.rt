@@ -8,7 +8,7 @@ use crate::entries::RowEntry;
 use crate::row::Row;
 use crate::seats::seat_of;
 
-#[tactic(auto, using(crate::proofs::HeavyLemmas::heavy_here, crate::proofs::HeavyLemmas::heavy_behind))]
+#[tactic(auto, using(crate::proofs::HeavyLemmas::found_heavy))]
 /// The first, from the first at or above the key on, that weighs as much as `least` or more.
 pub fn least_weighing<T: RowEntry>(rows: &[Row<T>], key: u128, least: u64) -> Option<T>
     requires laid { IsLaid T.rank rows.now }
@@ -26,7 +26,7 @@ pub fn least_weighing<T: RowEntry>(rows: &[Row<T>], key: u128, least: u64) -> Op
     }
 }
 
-#[tactic(auto, using(crate::proofs::HeavyLemmas::row_has, crate::proofs::HeavyLemmas::row_lacks, crate::proofs::HeavyLemmas::none_left, crate::proofs::HeavyLemmas::light_row))]
+#[tactic(auto, using(crate::proofs::HeavyLemmas::found_from))]
 /// The first that weighs so much, from a row on.
 fn heavy_after<T: RowEntry>(rows: &[Row<T>], from: usize, least: u64) -> Option<T>
     ensures { result ≡ find (weighs T.weight least) (flat (drop from rows.now)) }

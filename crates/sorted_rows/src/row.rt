@@ -93,7 +93,7 @@ impl<T: RowEntry> Row<T> {
         below_in(&self.items, key)
     }
 
-    #[tactic(auto, using(crate::proofs::WeightLemmas::top_grows, crate::proofs::WeightLemmas::top_stays))]
+    #[tactic(auto, using(crate::proofs::WeightLemmas::top_inserted))]
     pub fn insert(&mut self, at: usize, entry: T)
         requires at { at ≤ length self.old }
         requires room { length self.old < 64 }
@@ -141,7 +141,7 @@ impl<T: RowEntry> Row<T> {
     }
 
     /// Moves all entries of the next row here.
-    #[tactic(auto, using(crate::proofs::WeightLemmas::top_joined, crate::proofs::WeightLemmas::greatest_none))]
+    #[tactic(auto, using(crate::proofs::WeightLemmas::tops_joined))]
     pub fn join(&mut self, next: &mut Row<T>)
         requires room { length self.old + length next.old ≤ 64 }
         ensures items { self.new ≡ self.old ++ next.old }

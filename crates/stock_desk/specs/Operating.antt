@@ -1,5 +1,6 @@
 -- What operators' lines do to a picture.
 use Rattle.std.specs.Prelude.{ℕ, ◌+◌, ◌*◌, ◌-◌, ◌^◌, ◌<◌, ◌≤◌, List, [], length}
+use Rattle.arena_tree.specs.declared.limits.TheConstants.{MOST_CACHES}
 use Rattle.quantum_cache.specs.declared.reaps.Reaping.{Reaping}
 use Rattle.local_calls.specs.Looks.{findable_in}
 use Rattle.lease_proto.specs.declared.operators.OperatorLine.{OperatorLine}
@@ -19,7 +20,7 @@ pub record IsReapedOnce (r : Reaping) (old new : Picture) : Type 0 where
   pub some : ReapsSome r.units old new
   pub all : 0 < r.left → ReapsAll r.units old new
   pub fewer : 2 ^ 64 - 1 + findable_in new.spaces
-      ≤ r.left + findable_in old.spaces + 32 * length old.tree
+      ≤ r.left + findable_in old.spaces + 2 * MOST_CACHES * length old.tree
   pub held : IsHeld [] new
   pub setup : SameSetup old new
 

@@ -7,6 +7,13 @@
 //! offline (offlines), what is reaped (reapings), what a setup gives (openings), and how leases
 //! (returns) and CPUs (emptyings) end. The desk itself stands in desks, and what a server asks of
 //! it in responding.
+//!
+//! A client's line costs what the calls of `quantum_cache` and of the book do, and a look at the
+//! names of the arenas and the numbers of the CPUs, which are few; a hello one free for each lease
+//! that it ends. Of an operator's lines `tick` and `resize` go over depots, `offline` over the
+//! rounds of one CPU, `reap` over the rounds and slabs that may go, `audit` for each arena over all
+//! its parts, the CPUs' magazines and all leases, `clients` over all clients. `close` takes leases,
+//! rounds, slabs and spans back one by one, and takes no memory.
 #![tactic(auto)]
 
 mod answers;

@@ -1,6 +1,5 @@
 use Rattle.lease_machine.proofs.Stepping.{faults_are_answered, known_are_answered, old_hellos_are_answered, audits_are_answered, clients_are_told, cpus_are_selected, vain_resizes_are_answered}
-use Rattle.lease_machine.proofs.Ticking.{ticks_are_answered, ticks_keep}
-use Rattle.lease_machine.proofs.Resizing.{resizes_keep}
+use Rattle.lease_machine.proofs.Ticking.{ticks_are_answered}
 use Rattle.lease_machine.proofs.laws.step_laws.Goals as goal
 
 pub returns-clause-faults : goal.returns-clause-faults
@@ -26,9 +25,3 @@ returns-clause-ticks c = ticks_are_answered
 
 pub returns-clause-vain_resizes : goal.returns-clause-vain_resizes
 returns-clause-vain_resizes c = vain_resizes_are_answered
-
-pub returns-clause-ticks_keep : goal.returns-clause-ticks_keep
-returns-clause-ticks_keep c = ticks_keep
-
-pub returns-clause-resizes_keep : goal.returns-clause-resizes_keep
-returns-clause-resizes_keep c = resizes_keep
