@@ -4,6 +4,7 @@ pub use Rattle.lease_machine.proofs.Places.{pictures_stay, setup_stays, units_ha
 pub use Rattle.lease_machine.proofs.Repeats.{lines_repeat}
 pub use Rattle.lease_machine.proofs.Fitting.{grants_fit, kept_grants_fit}
 pub use Rattle.lease_machine.proofs.NoRoom.{no_fit_means_taken, no_fit_means_taken_up, freed_is_whole, first_lease_is_served, never_both}
+pub use Rattle.lease_machine.proofs.Emptied.{reap_leaves_none, offline_has_no_round, tick_and_reap_empty, again_means_room}
 pub use Rattle.lease_machine.proofs.Agreeing.{answers_agree, repeats_fit}
 pub use Rattle.lease_machine.proofs.Reaching.{grants_were_reachable}
 pub use Rattle.lease_machine.proofs.FreshCpus.{fresh_is_picture, selected_is_picture, fresh_cpu_fits}

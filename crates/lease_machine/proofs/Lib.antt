@@ -29,6 +29,7 @@ pub mod ReapEvents
 pub mod ReapWalks
 pub mod CachedUnits
 pub mod ReapLaws
+pub mod Emptied
 pub mod AllocSteps
 pub mod SlabSteps
 pub mod Reached

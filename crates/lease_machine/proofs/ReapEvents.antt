@@ -21,13 +21,13 @@ use Rattle.magazine_layer.specs.Depots.{DepotState, Begins, after_trim}
 use Rattle.arena_tree.specs.declared.part_faults.FreeFault.{FreeFault}
 use Rattle.arena_tree.specs.declared.part_faults.SlabPutFault.{SlabPutFault}
 use Rattle.arena_tree.specs.declared.part_faults.Stopped.{Stopped}
-use Rattle.stock.specs.Spaces.{SpaceState, QuantumCacheState, with_depot, with_slab}
+use Rattle.stock.specs.Spaces.{SpaceState, QuantumCacheState, with_arena, with_depot, with_slab}
 use Rattle.stock.specs.Stocks.{IsStock}
 use Rattle.local_parts.specs.SharedSteps.{DoesFree, DoesPut, DoesReap, DoesDepotReap}
 use Rattle.lease_machine.specs.Moves.{outline_of}
-use Rattle.lease_machine.specs.Operators.{LosesSlabs, after_reap}
+use Rattle.lease_machine.specs.Operators.{LosesSlabs, LosesSpans, after_reap}
 use Rattle.lease_machine.proofs.DrainLaws.{put_outline}
-use Rattle.lease_machine.proofs.Takings.{Takes, takes_none, cache_takes, arena_takes, loses_none, span_units, slab_units}
+use Rattle.lease_machine.proofs.Takings.{Takes, takes_none, cache_takes, arena_takes, loses_none, keeps_spans, span_units, slab_units}
 
 same_takes : (old new : List SpaceState) → new ≡ old → Takes 0 old new
 same_takes old new same = subst (Takes 0 old) (sym same) (takes_none old)
@@ -41,9 +41,21 @@ free_rover : (t : Tag) (r : Result (Option Tag) Tag) (a b : ArenaState) → Free
 free_rover t (Ok back) a b is = leaves_rover a b t.holding is.frees.merged back is.frees.after
 free_rover t (Err same) a b is = ap (λ (x : ArenaState). x.rover) is.2
 
+-- and the spans that were imported, but for one that goes back
+leaves_spans : (s : SpaceState) (b : ArenaState) (piece merged : Holding) (back : Option Tag) → LeavesFree s.arena piece merged back b → LosesSpans s (with_arena b s)
+leaves_spans s b piece merged None is = keeps_spans s (with_arena b s) (ap (λ (x : ArenaState). x.imported) is.1)
+leaves_spans s b piece merged (Some t) is = record {
+  stays = λ x. not (x.holding.range.base == merged.range.base);
+  imported = ap (λ (x : ArenaState). x.imported) is.2;
+}
+
+free_spans : (t : Tag) (r : Result (Option Tag) Tag) (s : SpaceState) (b : ArenaState) → FreeOf s.arena t r b → LosesSpans s (with_arena b s)
+free_spans t (Ok back) s b is = leaves_spans s b t.holding is.frees.merged back is.frees.after
+free_spans t (Err same) s b is = keeps_spans s (with_arena b s) (ap (λ (x : ArenaState). x.imported) is.2)
+
 pub free_takes : (old new : List SpaceState) (t : Tag) (a : Result (Option Tag) (FreeFault Tag)) → DoesFree old t a new → Takes 0 old new
 free_takes old new t a does = elim does.2 [
-  | inl on ↦ arena_takes old new t.arena on.space on.arena on.at on.after (free_rover t does.0 on.space.arena on.arena on.does)
+  | inl on ↦ arena_takes old new t.arena on.space on.arena on.at on.after (free_rover t does.0 on.space.arena on.arena on.does) (free_spans t does.0 on.space on.arena on.does)
   | inr none ↦ same_takes old new none.2
 ]
 

@@ -19,14 +19,14 @@ use Rattle.local_calls.specs.Runs.{RunsTo}
 use Rattle.local_calls.proofs.LawProofs.{reap_leaves_nothing, reap_takes_few_looks}
 use Rattle.lease_machine.specs.Held.{IsHeld, parts_in, with_parts}
 use Rattle.lease_machine.specs.Moves.{outline_of}
-use Rattle.lease_machine.specs.Operators.{IsReapedOut, LosesSlabs, ReapsAll, ReapsSome, after_reap, cached_units, depots_of, depots_reaped, rover_of}
+use Rattle.lease_machine.specs.Operators.{IsReapedOut, LosesSlabs, LosesSpans, ReapsAll, ReapsSome, after_reap, cached_units, depots_of, depots_reaped, rover_of}
 use Rattle.lease_machine.specs.Picture.{Cpu, Picture, SameSetup, held_outside, is_cpu}
 use Rattle.lease_machine.specs.ReapLaws.{ReapedTo, ReapReaps, ReapsNone, ReapingsAdd}
 use Rattle.lease_machine.proofs.CachedUnits.{units_gone}
 use Rattle.lease_machine.proofs.FreeLaws.{cpus_same, parts_are, selected_then}
 use Rattle.lease_machine.proofs.HeldLaws.{local, reach, there_is}
 use Rattle.lease_machine.proofs.ReapWalks.{Leaves, reap_leaves}
-use Rattle.lease_machine.proofs.Takings.{Takes, loses_none, loses_then}
+use Rattle.lease_machine.proofs.Takings.{Takes, loses_none, loses_then, keeps_spans, spans_then}
 use Rattle.lease_machine.proofs.XallocLaws.{held_same}
 
 -- what gives the same of each
@@ -111,6 +111,12 @@ module _ (d : Picture) (limit : ℕ) (s : LocalState) (r : Reaping) (held : IsHe
       let same : y.0 ≡ a = slice_get_one at.space.caches j y.0 a (ap (λ (z : SpaceState). slice_get z.caches j) (sym space) ∙ y.1.among) at.among in
       subst (λ (z : QuantumCacheState). LosesSlabs z.slab x.slab) same y.2
 
+  spans : (k : ℕ) (a x : SpaceState) → slice_get d.spaces k ≡ Some a → slice_get s.spaces k ≡ Some x → LosesSpans a x
+  spans k a x at there =
+      let y = takes.spans k x there in
+      let same : y.0 ≡ a = slice_get_one d.spaces k y.0 a y.1 at in
+      subst (λ (z : SpaceState). LosesSpans z x) same y.2
+
   units : cached_units d ≡ cached_units plain + r.units
   units = units_gone d.spaces s.spaces (held_outside d) r.units held.units held_plain.units same_length takes.weigh
 
@@ -123,6 +129,7 @@ module _ (d : Picture) (limit : ℕ) (s : LocalState) (r : Reaping) (held : IsHe
         depots = all_settled s.spaces none ∙ takes.depots;
         slabs = slabs;
         rovers = takes.rovers;
+        spans = spans;
         left = all_out s.spaces none;
       }
 
@@ -134,7 +141,7 @@ module _ (d : Picture) (limit : ℕ) (s : LocalState) (r : Reaping) (held : IsHe
 
   pub reaped : ReapedTo limit d r s
   reaped = record {
-    some = subst (ReapsSome r.units d) plain_is (record { parts = refl; units_are = units; depots = takes.depots; slabs = slabs; rovers = takes.rovers });
+    some = subst (ReapsSome r.units d) plain_is (record { parts = refl; units_are = units; depots = takes.depots; slabs = slabs; rovers = takes.rovers; spans = spans });
     all = λ some. subst (ReapsAll r.units d) plain_is (reaps_all some);
     held = after.0;
     setup = after.1;
@@ -159,7 +166,14 @@ reaps_none d = record {
       loses_none c.slab x.slab (ap (λ (z : QuantumCacheState). map outline_of z.slab.slabs) same) (ap (λ (z : QuantumCacheState). record z.slab { slabs = x.slab.slabs }) same)
       );
   rovers = refl;
+  spans = λ k s x at there. (let same : x ≡ s = slice_get_one d.spaces k x s there at in keeps_spans s x (ap (λ (z : SpaceState). z.arena.imported) same));
 }
+
+-- an arena stands where one stood that was seen so
+space_stood : {Y : Type 0} (old new : List SpaceState) (see after : SpaceState → Y) → map see new ≡ map after old → (k : ℕ) (x : SpaceState) → slice_get new k ≡ Some x → (z : SpaceState) × (slice_get old k ≡ Some z)
+space_stood old new see after same k x at =
+    let m = mapped after old k (see x) (ap (λ ls. slice_get ls k) (sym same) ∙ slice_get_mapped see new k x at) in
+    (m.0, m.1)
 
 -- a cache stands where one stood whose depot was left so
 stood : (old new : List SpaceState) (see : SpaceState → List DepotState) → map see new ≡ map depots_reaped old → (k j : ℕ) (s : SpaceState) (y : DepotState) → slice_get new k ≡ Some s → slice_get (see s) j ≡ Some y → (z : QuantumCacheState) × IsCacheAt old k j z
@@ -180,6 +194,12 @@ reapings_add m n d e f first = (some, all)
         let y = mid k j x there in
         loses_then c.slab y.0.slab x.slab (first.slabs k j c y.0 at y.1) (second k j y.0 x y.1 there)
 
+    spans_between : map rover_of f.spaces ≡ map rover_of e.spaces → ((k : ℕ) (s x : SpaceState) → slice_get e.spaces k ≡ Some s → slice_get f.spaces k ≡ Some x → LosesSpans s x)
+        → (k : ℕ) (s x : SpaceState) → slice_get d.spaces k ≡ Some s → slice_get f.spaces k ≡ Some x → LosesSpans s x
+    spans_between rovers second k s x at there =
+        let y = space_stood e.spaces f.spaces rover_of rover_of rovers k x there in
+        spans_then s y.0 x (first.spans k s y.0 at y.1) (second k y.0 x y.1 there)
+
     some : ReapsSome n e f → ReapsSome (m + n) d f
     some second = record {
       parts = second.parts ∙ ap (λ (z : Picture). record z { spaces = f.spaces }) first.parts;
@@ -188,6 +208,7 @@ reapings_add m n d e f first = (some, all)
       slabs = slabs_then (λ k j x there. stood e.spaces f.spaces depots_reaped second.depots k j there.space (after_reap x.depot) there.at
           (slice_get_mapped after_reap (depots_of there.space) j x.depot (slice_get_mapped (λ (c : QuantumCacheState). c.depot) there.space.caches j x there.among))) second.slabs;
       rovers = second.rovers ∙ first.rovers;
+      spans = spans_between second.rovers second.spans;
     }
 
     all : ReapsAll n e f → ReapsAll (m + n) d f
@@ -197,5 +218,6 @@ reapings_add m n d e f first = (some, all)
       depots = second.depots ∙ first.depots;
       slabs = slabs_then (λ k j x there. stood e.spaces f.spaces depots_of second.depots k j there.space x.depot there.at (slice_get_mapped (λ (c : QuantumCacheState). c.depot) there.space.caches j x there.among)) second.slabs;
       rovers = second.rovers ∙ first.rovers;
+      spans = spans_between second.rovers second.spans;
       left = second.left;
     }

@@ -11,7 +11,7 @@ use Rattle.magazine_layer.specs.Depots.{DepotState}
 use Rattle.stock.specs.Spaces.{SpaceState, QuantumCacheState, IsCacheAt, with_cache, with_arena}
 use Rattle.tag_arena.specs.ArenaState.{ArenaState}
 use Rattle.lease_machine.specs.Moves.{outline_of}
-use Rattle.lease_machine.specs.Operators.{LosesSlabs, after_reap, depots_of, depots_reaped, rover_of}
+use Rattle.lease_machine.specs.Operators.{LosesSlabs, LosesSpans, after_reap, depots_of, depots_reaped, rover_of}
 
 -- the units of the spans of slabs
 abbrev pub span_units : SlabState → ℕ
@@ -48,12 +48,22 @@ loses_then a b c first second = record {
   rest = second.rest ∙ ap (λ (z : SlabCacheState). record z { slabs = c.slabs }) first.rest;
 }
 
+pub keeps_spans : (a b : SpaceState) → b.arena.imported ≡ a.arena.imported → LosesSpans a b
+keeps_spans a b same = record { stays = λ t. true; imported = same ∙ sym (filter_none a.arena.imported) }
+
+pub spans_then : (a b c : SpaceState) → LosesSpans a b → LosesSpans b c → LosesSpans a c
+spans_then a b c first second = record {
+  stays = λ t. first.stays t && second.stays t;
+  imported = second.imported ∙ (ap (filter second.stays) first.imported ∙ filter_twice first.stays second.stays a.arena.imported);
+}
+
 -- so many units of slabs were taken out
 pub record Takes (units : ℕ) (old new : List SpaceState) : Type 0 where
   pub weigh : sum_by slab_units_of old ≡ sum_by slab_units_of new + units
   pub depots : map depots_reaped new ≡ map depots_reaped old
   pub slabs : (k j : ℕ) (x : QuantumCacheState) → IsCacheAt new k j x → (c : QuantumCacheState) × IsCacheAt old k j c × LosesSlabs c.slab x.slab
   pub rovers : map rover_of new ≡ map rover_of old
+  pub spans : (k : ℕ) (x : SpaceState) → slice_get new k ≡ Some x → (s : SpaceState) × (slice_get old k ≡ Some s) × LosesSpans s x
 
 pub takes_none : (spaces : List SpaceState) → Takes 0 spaces spaces
 takes_none spaces = record {
@@ -61,6 +71,7 @@ takes_none spaces = record {
   depots = refl;
   slabs = λ k j x there. (x, there, loses_none x.slab x.slab refl refl);
   rovers = refl;
+  spans = λ k x there. (x, there, keeps_spans x x refl);
 }
 
 pub takes_then : (m n : ℕ) (a b c : List SpaceState) → Takes m a b → Takes n b c → Takes (m + n) a c
@@ -73,6 +84,11 @@ takes_then m n a b c first second = record {
       (z.0, z.1, loses_then z.0.slab y.0.slab x.slab z.2 y.2)
       );
   rovers = second.rovers ∙ first.rovers;
+  spans = λ k x there. (
+      let y = second.spans k x there in
+      let z = first.spans k y.0 y.1 in
+      (z.0, z.1, spans_then z.0 y.0 x z.2 y.2)
+      );
 }
 
 -- where one cache was written over
@@ -105,11 +121,15 @@ module _ (old new : List SpaceState) (k j : ℕ) (space : SpaceState) (c d : Qua
         );
     slabs = one_cache loses;
     rovers = ap (map rover_of) after ∙ map_set_same rover_of old k space (with_cache j d space) at refl;
+    spans = λ i x there. elim (written old k i (with_cache j d space) x (ap (λ xs. slice_get xs i) (sym after) ∙ there)) [
+      | inl here ↦ (space, ap (slice_get old) here.0 ∙ at, keeps_spans space x (ap (λ (s : SpaceState). s.arena.imported) here.1))
+      | inr other ↦ (x, other.1, keeps_spans x x refl)
+    ];
   }
 
 -- where an arena was, and it searches on from where it did
-pub arena_takes : (old new : List SpaceState) (k : ℕ) (space : SpaceState) (a : ArenaState) → slice_get old k ≡ Some space → new ≡ set old k (with_arena a space) → a.rover ≡ space.arena.rover → Takes 0 old new
-arena_takes old new k space a at after rover = record {
+pub arena_takes : (old new : List SpaceState) (k : ℕ) (space : SpaceState) (a : ArenaState) → slice_get old k ≡ Some space → new ≡ set old k (with_arena a space) → a.rover ≡ space.arena.rover → LosesSpans space (with_arena a space) → Takes 0 old new
+arena_takes old new k space a at after rover loses = record {
   weigh = (
       let outer = sum_set slab_units_of old k space (with_arena a space) at in
       let now = ap (sum_by slab_units_of) after in
@@ -121,4 +141,8 @@ arena_takes old new k space a at after rover = record {
     | inr other ↦ (x, record { space = there.space; at = other.1; among = there.among }, loses_none x.slab x.slab refl refl)
   ];
   rovers = ap (map rover_of) after ∙ map_set_same rover_of old k space (with_arena a space) at rover;
+  spans = λ i x there. elim (written old k i (with_arena a space) x (ap (λ xs. slice_get xs i) (sym after) ∙ there)) [
+    | inl here ↦ (space, ap (slice_get old) here.0 ∙ at, subst (LosesSpans space) (sym here.1) loses)
+    | inr other ↦ (x, other.1, keeps_spans x x refl)
+  ];
 }

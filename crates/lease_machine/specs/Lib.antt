@@ -9,6 +9,7 @@ pub mod Machine
 pub mod Laws
 pub mod AnswerLaws
 pub mod RoomLaws
+pub mod EmptyingLaws
 pub mod CpuLaws
 pub mod CacheLaws
 pub mod StepLaws

@@ -3,6 +3,7 @@ use Rattle.std.specs.Prelude.{◌≡◌, ◌≢◌, ◌⊎◌, ℕ, ◌+◌, ◌
 use Rattle.std.specs.Prelude.{Any, false, map, filter, drop, set}
 use Rattle.std.specs.Prelude.{nat_lt, if◌then◌else◌, sum_by, slice_get, Some, None}
 use Rattle.std.specs.List.{find, flat_map, list_any}
+use Rattle.deed_core.specs.Tag.{Tag}
 use Rattle.slab_layer.specs.Slab.{SlabState, IsComplete}
 use Rattle.slab_layer.specs.Cache.{SlabCacheState}
 use Rattle.magazine_layer.specs.Depots.{DepotState, CanReap, after_tick, after_resize}
@@ -109,8 +110,13 @@ pub record LosesSlabs (old new : SlabCacheState) : Type 0 where
 abbrev pub rover_of : SpaceState → ℕ
 rover_of s = s.arena.rover
 
--- so many units, of whole slabs, went from the caches to their arenas, which search on from where
--- they did, and nothing is left to reap
+-- some of the spans that the arena imported went back to its source, and none came
+pub record LosesSpans (old new : SpaceState) : Type 0 where
+  pub stays : Tag → Bool
+  pub imported : new.arena.imported ≡ filter stays old.arena.imported
+
+-- so many units, of whole slabs, went from the caches to their arenas, which import nothing for it
+-- and search on from where they did, and nothing is left to reap
 pub record ReapsAll (units : ℕ) (old new : Picture) : Type 0 where
   pub parts : PartsAlone old new
   pub units_are : cached_units old ≡ cached_units new + units
@@ -118,6 +124,8 @@ pub record ReapsAll (units : ℕ) (old new : Picture) : Type 0 where
   pub slabs : (k j : ℕ) (c x : QuantumCacheState) → IsCacheAt old.spaces k j c
       → IsCacheAt new.spaces k j x → LosesSlabs c.slab x.slab
   pub rovers : map rover_of new.spaces ≡ map rover_of old.spaces
+  pub spans : (k : ℕ) (s x : SpaceState) → slice_get old.spaces k ≡ Some s
+      → slice_get new.spaces k ≡ Some x → LosesSpans s x
   pub left : All (λ s. All IsReapedOut s.caches) new.spaces
 
 -- what reaping leaves of an arena's depots
@@ -133,6 +141,8 @@ pub record ReapsSome (units : ℕ) (old new : Picture) : Type 0 where
   pub slabs : (k j : ℕ) (c x : QuantumCacheState) → IsCacheAt old.spaces k j c
       → IsCacheAt new.spaces k j x → LosesSlabs c.slab x.slab
   pub rovers : map rover_of new.spaces ≡ map rover_of old.spaces
+  pub spans : (k : ℕ) (s x : SpaceState) → slice_get old.spaces k ≡ Some s
+      → slice_get new.spaces k ≡ Some x → LosesSpans s x
 
 abbrev pub audit_line : List ℕ → Sums → AuditLine
 audit_line name x = record {

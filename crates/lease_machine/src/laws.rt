@@ -14,6 +14,8 @@ ghost use Rattle.lease_machine.specs.AnswerLaws.{KeptGrantsFit, GrantsWereReacha
 ghost use Rattle.lease_machine.specs.RoomLaws.{NoFitMeansTaken, NoFitMeansTakenUp};
 ghost use Rattle.lease_machine.specs.RoomLaws.{FreedIsWhole, FirstLeaseIsServed, FewerFitToo};
 ghost use Rattle.lease_machine.specs.RoomLaws.{NeverBoth};
+ghost use Rattle.lease_machine.specs.EmptyingLaws.{ReapLeavesNone, OfflineHasNoRound};
+ghost use Rattle.lease_machine.specs.EmptyingLaws.{TickAndReapEmpty, AgainMeansRoom};
 ghost use Rattle.lease_machine.specs.StepLaws.{FaultsAreAnswered, KnownAreAnswered};
 ghost use Rattle.lease_machine.specs.StepLaws.{OldHellosAreAnswered, AuditsAreAnswered};
 ghost use Rattle.lease_machine.specs.StepLaws.{ClientsAreTold, CpusAreSelected, TicksAreAnswered};
@@ -65,6 +67,15 @@ pub fn no_fit_laws()
     ensures first { FirstLeaseIsServed }
     ensures fewer { FewerFitToo }
     ensures never_both { NeverBoth }
+{}
+
+/// A reaping leaves nothing to reap, and a CPU that goes offline no round; so once nothing is leased
+/// lines can empty all caches. A lease is to be asked for again only where something serves it.
+pub fn emptying_laws()
+    ensures reaped { ReapLeavesNone }
+    ensures offline { OfflineHasNoRound }
+    ensures emptied { TickAndReapEmpty }
+    ensures again { AgainMeansRoom }
 {}
 
 /// Which quantum cache serves a request.

@@ -6,13 +6,13 @@
 //! `specs/Serving.antt` says what a request for a lease can be served with, `specs/Moves.antt` and
 //! `specs/Chunks.antt` how segments come and go back, and `specs/Operators.antt` what operators are
 //! answered. The laws say what follows for each picture and for each run of lines
-//! (`specs/Laws.antt`, `specs/AnswerLaws.antt`, `specs/RoomLaws.antt`), and which lines have an
-//! answer in each picture (`specs/StepLaws.antt`).
+//! (`specs/Laws.antt`, `specs/AnswerLaws.antt`, `specs/RoomLaws.antt`, `specs/EmptyingLaws.antt`),
+//! and which lines have an answer in each picture (`specs/StepLaws.antt`).
 #![tactic(auto)]
 
 mod laws;
 
 pub use laws::{
-    audit_laws, cache_laws, call_laws, depot_laws, grant_laws, no_fit_laws, picture_laws,
-    place_laws, reap_laws, repeat_laws, step_laws,
+    audit_laws, cache_laws, call_laws, depot_laws, emptying_laws, grant_laws, no_fit_laws,
+    picture_laws, place_laws, reap_laws, repeat_laws, step_laws,
 };
