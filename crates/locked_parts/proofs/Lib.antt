@@ -4,3 +4,4 @@ mod Sounds
 mod Lengths
 mod Slabs
 mod Wholes
+mod Walks

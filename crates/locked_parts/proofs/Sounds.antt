@@ -1,5 +1,5 @@
 -- What the tree says of an arena, and chunks of its caches.
-use Rattle.std.proofs.Common.{◌≡◌, Result, Ok, Err, ℕ, suc, zero, ◌-◌, ◌*◌, ◌<◌, min, List, [], ◌∷◌, false, Option, Some, None, IfSome, IfOk, IfErr, sym, subst, ap, ◌∙◌, refl, arith}
+use Rattle.std.proofs.Common.{◌≡◌, Result, Ok, Err, ℕ, suc, zero, ◌*◌, ◌<◌, List, [], ◌∷◌, false, Option, Some, None, IfSome, IfOk, IfErr, sym, subst, ap, ◌∙◌, refl, arith}
 use Rattle.std.specs.Prelude.{slice_get}
 use Rattle.std.proofs.Math.Nat.{mul-mod_left}
 use Rattle.deed_core.specs.Tag.{Tag}

@@ -1,10 +1,10 @@
 -- Quantum caches, and what a contract sees of a CPU's magazines and of a depot with theirs.
-use Rattle.std.specs.Prelude.{ℕ, ◌*◌, ◌/◌, ◌<◌, List, All, length, sum_by, min}
+use Rattle.std.specs.Prelude.{◌≡◌, ℕ, ◌*◌, ◌/◌, ◌<◌, List, All, length, sum_by, min}
 use Rattle.std.specs.Prelude.{Option, Some, None, slice_get}
 use Rattle.arena_tree.specs.declared.trees.TreeArena.{TreeArena}
 use Rattle.deed_core.specs.Tag.{Tag}
 use Rattle.deed_core.specs.declared.segments.Route.TheVariants.{Cached}
-use Rattle.slab_layer.specs.Cache.{IsSegmentOf}
+use Rattle.slab_layer.specs.Cache.{IsSegmentOf, SlabCacheState}
 use Rattle.magazine_layer.specs.Magazines.{CpuCacheState, cache_rounds}
 use Rattle.magazine_layer.specs.Depots.{DepotState, depot_rounds}
 use Rattle.locked_parts.specs.declared.kinds.CacheKind.{CacheKind}
@@ -12,6 +12,10 @@ use Rattle.locked_parts.specs.declared.kinds.CacheKind.{CacheKind}
 -- a chunk of the quantum cache
 abbrev pub IsOfKind : CacheKind → Tag → Type 0
 IsOfKind k t = IsSegmentOf k.arena (Cached k.number) (k.number * k.quantum) k.quantum t
+
+-- the slabs of the quantum cache
+abbrev pub AreSlabsOf : CacheKind → SlabCacheState → Type 0
+AreSlabsOf k c = (c.arena ≡ k.arena) × (c.k ≡ k.number) × (c.quantum ≡ k.quantum)
 
 -- a CPU's magazines for a quantum cache
 pub record KindRoundsState : Type 0 where

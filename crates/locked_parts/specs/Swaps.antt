@@ -1,6 +1,7 @@
 -- What an exchange of a CPU's magazines with a depot under its lock comes to. A depot of another
 -- cache has nothing for the CPU.
-use Rattle.std.specs.Prelude.{◌≡◌, ◌≢◌, ◌⊎◌, [], Result, Ok, Err}
+use Rattle.std.specs.Prelude.{◌≡◌, ◌≢◌, ◌⊎◌, ℕ, List, [], Some, Result, Ok, Err}
+use Rattle.std.specs.Prelude.{slice_get, slice_set}
 use Rattle.magazine_layer.specs.Magazines.{CpuCacheState, MagazineState, BothEmpty, BothFull}
 use Rattle.magazine_layer.specs.Depots.{DepotState, SwapsForFull, SwapsForEmpty, PutsFull}
 use Rattle.arena_tree.specs.declared.part_faults.SwapFullFault.{SwapFullFault}
@@ -19,6 +20,19 @@ pub record Exchanges (P : CpuCacheState → DepotState → CpuCacheState → Dep
   pub does : P c.cpu d.depot c'.cpu d'.depot
   pub cpu_kind : c'.kind ≡ c.kind
   pub depot_kind : d'.kind ≡ d.kind
+
+-- the magazines that a CPU has for this cache of an arena, and no others, changed so with a depot
+pub record ExchangesIn (P : CpuCacheState → DepotState → CpuCacheState → DepotState → Type 0)
+    (arena cache : ℕ) (old new : List KindRoundsState) : Type 0 where
+  pub place : ℕ
+  pub own : KindRoundsState
+  pub after : KindRoundsState
+  pub depot : KindDepotState
+  pub depot_after : KindDepotState
+  pub stands : slice_get old place ≡ Some own
+  pub of_cache : (own.kind.arena ≡ arena) × (own.kind.number ≡ cache)
+  pub does : Exchanges P own depot after depot_after
+  pub rest : new ≡ slice_set old place after
 
 -- neither changed
 abbrev pub NoExchange : KindRoundsState → KindDepotState → KindRoundsState → KindDepotState → Type 0

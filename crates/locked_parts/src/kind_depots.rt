@@ -1,7 +1,9 @@
 //! A depot as its lock keeps it, and its exchanges with a CPU.
-ghost use Rattle.std.specs.Prelude.{◌≡◌, ◌≢◌, ◌<◌, ◌↔◌, [], Some, Err, IsOk, IfSome, IfErr, OnOk};
+ghost use Rattle.std.specs.Prelude.{◌≡◌, ◌≢◌, ◌<◌, ◌↔◌, [], Some, Err, IsOk, IfSome, IfErr};
+ghost use Rattle.std.specs.Prelude.{◌≤◌, true, false, IfNone, OnOk};
 ghost use Rattle.magazine_layer.specs.Magazines.{IsSize, BothFull};
-ghost use Rattle.magazine_layer.specs.Depots.{new_depot, after_tick, depot_rounds};
+ghost use Rattle.magazine_layer.specs.Depots.{new_depot, after_tick, after_resize, depot_rounds};
+ghost use Rattle.magazine_layer.specs.Depots.{CanReap};
 ghost use Rattle.magazine_layer.specs.Calls.{DepotReapOf, ResizeOf};
 ghost use Rattle.locked_parts.specs.Kinds.{IsOfKind};
 ghost use Rattle.locked_parts.specs.Swaps.{GivesFull, GivesEmpty, TakesFull};
@@ -120,6 +122,17 @@ impl<D: Deed> KindDepot<D> {
         self.depot.tick();
     }
 
+    /// The same in the depot of this quantum cache; another is left as it was.
+    pub(crate) fn tick_of(&mut self, kind: &CacheKind)
+        ensures begun { self.old.kind ≡ kind.now → self.new.depot ≡ after_tick self.old.depot }
+        ensures other { self.old.kind ≢ kind.now → self.new ≡ self.old }
+        ensures kind { self.new.kind ≡ self.old.kind }
+    {
+        if self.kind.is(kind) {
+            self.tick();
+        }
+    }
+
     /// Has magazines of a greater size from here on.
     pub(crate) fn resize(&mut self, size: usize) -> Result<(), NotGreater>
         requires { IsSize size }
@@ -127,6 +140,28 @@ impl<D: Deed> KindDepot<D> {
         ensures kind { self.new.kind ≡ self.old.kind }
     {
         self.depot.resize(size)
+    }
+
+    /// The same in the depot of this quantum cache, and says whether it had smaller ones; another
+    /// is left as it was.
+    pub(crate) fn resize_of(&mut self, kind: &CacheKind, size: usize) -> bool
+        requires { IsSize size }
+        ensures rose { result ≡ true → (self.old.kind ≡ kind.now)
+            × (self.old.depot.size < size) × (self.new.depot ≡ after_resize size self.old.depot) }
+        ensures same { result ≡ false → (self.old.kind ≡ kind.now → size ≤ self.old.depot.size)
+            × (self.new ≡ self.old) }
+        ensures greater { result ≡ true → 3 < size }
+        ensures kind { self.new.kind ≡ self.old.kind }
+    {
+        if !self.kind.is(kind) {
+            return false;
+        }
+        // For its clause: what is always so of a depot.
+        let _ = self.depot.size();
+        match self.resize(size) {
+            Ok(()) => true,
+            Err(NotGreater) => false,
+        }
     }
 
     /// Takes a round that may be reaped, if there is one.
@@ -144,6 +179,7 @@ impl<D: Deed> KindDepot<D> {
         ensures chunk { IfSome result (IsOfKind kind.now) }
         ensures event { IfSome result (λ t.
             DepotReapOf self.old.depot (Some t) self.new.depot) }
+        ensures none { IfNone result (self.old.kind ≡ kind.now → ¬ CanReap self.old.depot) }
     {
         if !self.kind.is(kind) {
             return None;

@@ -1,10 +1,14 @@
 //! The events of a CPU's own magazines, by themselves and with a depot of the parts.
 ghost use Rattle.std.specs.Prelude.{◌≡◌, ◌≢◌, ◌<◌, Some, Err, IfSome, length, slice_get};
+ghost use Rattle.std.specs.Prelude.{OnOk, OnErr};
 ghost use Rattle.arena_tree.specs.Events.{Pop, Push, Change};
 ghost use Rattle.arena_tree.specs.Sound.{PopsRound, PushesRound};
 ghost use Rattle.arena_tree.specs.Trees.{nodes_of};
+ghost use Rattle.magazine_layer.specs.Depots.{SwapsForFull, SwapsForEmpty, PutsFull};
+ghost use Rattle.magazine_layer.specs.Magazines.{BothEmpty, BothFull, empty_magazine};
 ghost use Rattle.locked_parts.specs.Answers.{GoesOn};
 ghost use Rattle.locked_parts.specs.Kinds.{KindRoundsState, rounds_in};
+ghost use Rattle.locked_parts.specs.Swaps.{ExchangesIn};
 
 use crate::cpu_rounds::KindRounds;
 use crate::kinds::CacheKind;
@@ -105,7 +109,11 @@ pub(crate) fn swap_full_in<N: Name, R: Wait>(
     arena: u32,
     cache: u8,
 ) -> Result<(), SwapFullFault>
-    ensures { result ≢ Err SwapFullFault.Stopped }
+    ensures exchanged { OnOk result (ExchangesIn
+        (λ c d c' d'. BothEmpty c × SwapsForFull c d c' d')
+        arena cache caches.old.items caches.new.items) }
+    ensures unchanged { OnErr result (caches.new.items ≡ caches.old.items) }
+    ensures goes { result ≢ Err SwapFullFault.Stopped }
 {
     let Some(kind) = parts.kind(arena, cache) else {
         return Err(SwapFullFault::NoneFull);
@@ -127,7 +135,11 @@ pub(crate) fn swap_empty_in<N: Name, R: Wait>(
     arena: u32,
     cache: u8,
 ) -> Result<(), SwapEmptyFault>
-    ensures { result ≢ Err SwapEmptyFault.Stopped }
+    ensures exchanged { OnOk result (ExchangesIn
+        (λ c d c' d'. BothFull c × SwapsForEmpty c d c' d')
+        arena cache caches.old.items caches.new.items) }
+    ensures unchanged { OnErr result (caches.new.items ≡ caches.old.items) }
+    ensures goes { result ≢ Err SwapEmptyFault.Stopped }
 {
     let Some(kind) = parts.kind(arena, cache) else {
         return Err(SwapEmptyFault::NoneEmpty);
@@ -149,7 +161,11 @@ pub(crate) fn swap_fresh_in<N: Name, R: Wait>(
     arena: u32,
     cache: u8,
 ) -> Result<(), SwapFreshFault>
-    ensures { result ≢ Err SwapFreshFault.Stopped }
+    ensures exchanged { OnOk result (ExchangesIn
+        (λ c d c' d'. BothFull c × PutsFull (empty_magazine c.size) c d c' d')
+        arena cache caches.old.items caches.new.items) }
+    ensures unchanged { OnErr result (caches.new.items ≡ caches.old.items) }
+    ensures goes { result ≢ Err SwapFreshFault.Stopped }
 {
     let Some(kind) = parts.kind(arena, cache) else {
         return Err(SwapFreshFault::NoMemory);

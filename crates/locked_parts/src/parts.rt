@@ -1,12 +1,15 @@
 //! The parts of a system, each under its lock.
-ghost use Rattle.std.specs.Prelude.{◌≡◌, ◌<◌, IfSome, length};
+ghost use Rattle.std.specs.Prelude.{◌≡◌, ◌<◌, IfSome, length, true};
 ghost use Rattle.arena_tree.specs.Chains.{quantum_in};
 ghost use Rattle.arena_tree.specs.Trees.{nodes_of};
+ghost use Rattle.locked_parts.specs.Kinds.{caches_of};
 ghost use Rattle.magazine_layer.specs.Magazines.{IsSize};
 
 use crate::arena_parts::ArenaPart;
+use crate::depot_walks::{resize_each, tick_each};
 use crate::kind_depots::KindDepot;
 use crate::kinds::{CacheKind, quantum_of};
+use crate::locked_depots::LockedDepots;
 use arena_tree::Tree;
 use deed_table::{Name, SeatDeed};
 use slab_layer::SlabCache;
@@ -107,28 +110,19 @@ impl<N: Name> LockedParts<N> {
 
     /// Begins an interval in each depot, one after another.
     pub fn tick<R: Wait>(&self, rt: &R) {
-        for place in &self.places {
-            for cache in &place.caches {
-                cache.depot.lock(rt).tick();
-            }
-        }
+        let mut depots = LockedDepots { parts: self, rt };
+        tick_each(&mut depots, &self.tree);
     }
 
     /// Has the depots of the arena keep magazines of this size from here on, and says whether one
     /// of them kept smaller ones before.
     pub fn resize<R: Wait>(&self, rt: &R, arena: u32, size: usize) -> bool
-        requires { IsSize size }
+        requires within { arena < length self.now.arenas }
+        requires size { IsSize size }
+        ensures rose { result ≡ true → (3 < size) × (0 < caches_of self.now.arenas arena) }
     {
-        let Some(place) = self.places.get(arena as usize) else {
-            return false;
-        };
-        let mut rose = false;
-        for cache in &place.caches {
-            if cache.depot.lock(rt).resize(size).is_ok() {
-                rose = true;
-            }
-        }
-        rose
+        let mut depots = LockedDepots { parts: self, rt };
+        resize_each(&mut depots, &self.tree, arena, size)
     }
 
     /// Takes the lowest owned span that is wholly free out of the arena with this number.

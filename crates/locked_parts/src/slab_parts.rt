@@ -1,10 +1,11 @@
 //! The events of a slab cache under its lock. Each looks whether it is the cache that is meant.
-ghost use Rattle.std.specs.Prelude.{◌≡◌, IsTrue, false, IfSome, IfOk, IfErr, Ok, Some, OnErr};
+ghost use Rattle.std.specs.Prelude.{◌≡◌, ◌↔◌, All, IsTrue, false, IfSome, IfOk, IfErr, Ok, Some, OnErr};
 ghost use Rattle.std.specs.Prelude.{IfNone};
 ghost use Rattle.slab_layer.specs.Calls.{TakeOf, AddOf, ReapOf};
+ghost use Rattle.slab_layer.specs.Slab.{IsAllOut, IsComplete};
 ghost use Rattle.arena_tree.specs.Events.{slab_back};
 ghost use Rattle.locked_parts.specs.Answers.{IsSpanOfKind};
-ghost use Rattle.locked_parts.specs.Kinds.{IsOfKind};
+ghost use Rattle.locked_parts.specs.Kinds.{IsOfKind, AreSlabsOf};
 ghost use Rattle.arena_tree.specs.Stops.{slab_stops};
 
 use crate::kinds::CacheKind;
@@ -14,8 +15,7 @@ use slab_layer::{AddFault, SlabCache};
 
 // Whether the cache is that.
 fn is_kind<D: Deed>(slab: &SlabCache<D>, kind: &CacheKind) -> bool
-    ensures { IsTrue result → (slab.now.arena ≡ kind.now.arena)
-        × (slab.now.k ≡ kind.now.number) × (slab.now.quantum ≡ kind.now.quantum) }
+    ensures { IsTrue result ↔ AreSlabsOf kind.now slab.now }
 {
     slab.arena() == kind.arena && slab.k() == kind.number && slab.quantum() == kind.quantum
 }
@@ -24,6 +24,7 @@ fn is_kind<D: Deed>(slab: &SlabCache<D>, kind: &CacheKind) -> bool
 pub(crate) fn take_chunk<D: Deed>(slab: &mut SlabCache<D>, kind: &CacheKind) -> Option<Segment<D>>
     ensures chunk { IfSome result (IsOfKind kind.now) }
     ensures event { IfSome result (λ t. TakeOf slab.old (Some t) slab.new) }
+    ensures none { IfNone result (AreSlabsOf kind.now slab.old → All IsAllOut slab.old.slabs) }
     ensures unchanged { IfNone result (slab.new ≡ slab.old) }
 {
     if !is_kind(slab, kind) {
@@ -59,6 +60,8 @@ pub(crate) fn add_slab<D: Deed>(
 pub(crate) fn reap_slab<D: Deed>(slab: &mut SlabCache<D>, kind: &CacheKind) -> Option<Segment<D>>
     ensures span { IfSome result (IsSpanOfKind kind.now) }
     ensures event { IfSome result (λ t. ReapOf slab.old (Some t) slab.new) }
+    ensures none { IfNone result (AreSlabsOf kind.now slab.old
+        → All (λ s. ¬ IsComplete s) slab.old.slabs) }
     ensures unchanged { IfNone result (slab.new ≡ slab.old) }
 {
     if !is_kind(slab, kind) {

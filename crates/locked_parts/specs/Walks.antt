@@ -1,0 +1,27 @@
+-- Walks over the depots of quantum caches, in order of arenas and of caches, whatever keeps them.
+use Rattle.std.specs.Prelude.{◌≡◌, ◌||◌, ℕ, zero, suc, Bool, false, List}
+use Rattle.arena_tree.specs.declared.trees.TreeArena.{TreeArena}
+use Rattle.locked_parts.specs.Kinds.{caches_of}
+
+-- an interval begins in the depots of the arena's first caches, so many, one after another
+abbrev pub TicksCaches : {S : Type 0} → (S → ℕ → ℕ → S → Type 0) → (arena count : ℕ) → S → S
+    → Type 0
+TicksCaches ticks arena zero s t = t ≡ s
+TicksCaches {S} ticks arena (suc n) s t = (m : S)
+    × TicksCaches ticks arena n s m × ticks m arena (suc n) t
+
+-- and in those of the first arenas, so many
+abbrev pub TicksArenas : {S : Type 0} → (S → ℕ → ℕ → S → Type 0) → List TreeArena → ℕ → S → S
+    → Type 0
+TicksArenas ticks arenas zero s t = t ≡ s
+TicksArenas {S} ticks arenas (suc n) s t = (m : S)
+    × TicksArenas ticks arenas n s m × TicksCaches ticks n (caches_of arenas n) m t
+
+-- the depots of the arena's first caches, so many, are asked one after another to keep magazines of
+-- this size, and whether one of them rose
+abbrev pub ResizesCaches : {S : Type 0} → (S → ℕ → ℕ → ℕ → Bool → S → Type 0)
+    → (arena size count : ℕ) → S → Bool → S → Type 0
+ResizesCaches resizes arena size zero s rose t = (t ≡ s) × (rose ≡ false)
+ResizesCaches {S} resizes arena size (suc n) s rose t = (m : S) × (before one : Bool)
+    × ResizesCaches resizes arena size n s before m × resizes m arena (suc n) size one t
+    × (rose ≡ before || one)

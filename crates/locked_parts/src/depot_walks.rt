@@ -1,0 +1,69 @@
+//! Walks over the depots of quantum caches, whatever keeps them: each depot once, in order.
+ghost use Rattle.std.specs.Prelude.{◌≡◌, ◌<◌, length};
+ghost use Rattle.magazine_layer.specs.Magazines.{IsSize};
+ghost use Rattle.locked_parts.specs.Kinds.{caches_of};
+ghost use Rattle.locked_parts.specs.Walks.{TicksCaches, TicksArenas, ResizesCaches};
+
+use crate::kinds::cache_count;
+use arena_tree::Tree;
+
+/// The depots of quantum caches, by the numbers of their arenas and their own.
+pub(crate) trait Depots {
+    ghost use Rattle.std.specs.Prelude.{ℕ, Bool};
+    ghost use Rattle.magazine_layer.specs.Magazines.{IsSize};
+
+    // an interval began in the depot of this cache
+    ghost ticks: { Self → ℕ → ℕ → Self → Type 0 };
+
+    // that depot was asked to keep magazines of this size, and said whether it had smaller ones
+    ghost resizes: { Self → ℕ → ℕ → ℕ → Bool → Self → Type 0 };
+
+    /// Begins an interval.
+    fn tick(&mut self, arena: u32, cache: u8)
+        ensures { ticks self.old arena cache self.new };
+
+    /// Asks for magazines of this size from here on, and says whether the depot had smaller ones.
+    fn resize(&mut self, arena: u32, cache: u8, size: usize) -> bool
+        requires { IsSize size }
+        ensures { resizes self.old arena cache size result self.new };
+}
+
+/// Begins an interval in each depot of the arenas, one after another.
+pub(crate) fn tick_each<D: Depots>(depots: &mut D, tree: &Tree)
+    ensures { TicksArenas D.ticks tree.now (length tree.now) depots.old depots.new }
+{
+    for arena in 0..tree.len() as u32 {
+        tick_caches(depots, arena, cache_count(tree, arena));
+    }
+}
+
+fn tick_caches<D: Depots>(depots: &mut D, arena: u32, count: u8)
+    ensures { TicksCaches D.ticks arena count depots.old depots.new }
+{
+    for before in 0..count {
+        depots.tick(arena, before + 1);
+    }
+}
+
+/// Asks each depot of the arena for magazines of this size, one after another, and says whether one
+/// of them had smaller ones.
+pub(crate) fn resize_each<D: Depots>(depots: &mut D, tree: &Tree, arena: u32, size: usize) -> bool
+    requires within { arena < length tree.now }
+    requires size { IsSize size }
+    ensures { ResizesCaches D.resizes arena size (caches_of tree.now arena)
+        depots.old result depots.new }
+{
+    resize_caches(depots, arena, cache_count(tree, arena), size)
+}
+
+fn resize_caches<D: Depots>(depots: &mut D, arena: u32, count: u8, size: usize) -> bool
+    requires { IsSize size }
+    ensures { ResizesCaches D.resizes arena size count depots.old result depots.new }
+{
+    let mut rose = false;
+    for before in 0..count {
+        let one = depots.resize(arena, before + 1, size);
+        rose = rose || one;
+    }
+    rose
+}

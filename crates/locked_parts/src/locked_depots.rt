@@ -1,0 +1,45 @@
+//! The depots of the parts under their locks, as a walk reaches them.
+ghost use Rattle.std.specs.Prelude.{◌≡◌, ◌<◌, true};
+ghost use Rattle.magazine_layer.specs.Magazines.{IsSize};
+
+use crate::depot_walks::Depots;
+use crate::parts::LockedParts;
+use deed_table::Name;
+use std::sync::Wait;
+
+/// The parts and the runtime, both lent. Each call takes the lock of one depot, and no other.
+#[derive(Drop)]
+pub(crate) struct LockedDepots<'a, N: Name, R: Wait> {
+    pub(crate) parts: &'a LockedParts<N>,
+    pub(crate) rt: &'a R,
+}
+
+impl<N: Name, R: Wait> Depots for LockedDepots<'_, N, R> {
+    ghost use Rattle.std.specs.Prelude.{◌≡◌, ◌<◌, true};
+
+    // What the depot is lies behind its lock.
+    ghost ticks = { λ s _ _ t. t.parts.now ≡ s.parts.now };
+
+    ghost resizes = { λ s _ _ size rose t. (t.parts.now ≡ s.parts.now)
+        × (rose ≡ true → 3 < size) };
+
+    fn tick(&mut self, arena: u32, cache: u8) {
+        let Some(kind) = self.parts.kind(arena, cache) else {
+            return;
+        };
+        let Some(place) = self.parts.cache(arena, cache) else {
+            return;
+        };
+        place.depot.lock(self.rt).tick_of(&kind);
+    }
+
+    fn resize(&mut self, arena: u32, cache: u8, size: usize) -> bool {
+        let Some(kind) = self.parts.kind(arena, cache) else {
+            return false;
+        };
+        let Some(place) = self.parts.cache(arena, cache) else {
+            return false;
+        };
+        place.depot.lock(self.rt).resize_of(&kind, size)
+    }
+}
