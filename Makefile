@@ -48,13 +48,14 @@ install:
 	install -m 755 bin/vmemd $(DESTDIR)$(PREFIX)/bin/vmemd
 	install -m 755 packaging/vmemd-hold $(DESTDIR)$(PREFIX)/libexec/vmemd-hold
 	for n in 1 5; do \
-	  install -d $(DESTDIR)$(PREFIX)/share/man/man$$n; \
-	  tools/manpage docs/vmemd.$$n.md > $(DESTDIR)$(PREFIX)/share/man/man$$n/vmemd.$$n || exit 1; done
-	install -d $(DESTDIR)$(PREFIX)/share/doc/vmemd $(DESTDIR)$(PREFIX)/lib/systemd/system
+	  page=$(DESTDIR)$(PREFIX)/share/man/man$$n/vmemd.$$n; \
+	  install -D -m 644 /dev/null $$page && tools/manpage docs/vmemd.$$n.md > $$page || exit 1; done
+	install -d $(DESTDIR)$(PREFIX)/share/doc/vmemd
 	install -m 644 examples/README.md examples/*.conf clients/python/vmemd.py \
 	  $(DESTDIR)$(PREFIX)/share/doc/vmemd
-	sed 's,@PREFIX@,$(PREFIX),g' packaging/vmemd.service.in \
-	  > $(DESTDIR)$(PREFIX)/lib/systemd/system/vmemd.service
+	unit=$(DESTDIR)$(PREFIX)/lib/systemd/system/vmemd.service; \
+	  install -D -m 644 /dev/null $$unit && \
+	  sed 's,@PREFIX@,$(PREFIX),g' packaging/vmemd.service.in > $$unit
 
 clean:
 	rm -rf bin crates/*/out

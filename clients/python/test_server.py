@@ -32,12 +32,13 @@ class Served(unittest.TestCase):
     """Each test has a server of its own; at its end it closes with status 0."""
 
     workers = 4
+    config_lines = CONFIG
 
     def setUp(self):
         self.folder = tempfile.TemporaryDirectory()
         self.config = os.path.join(self.folder.name, "config")
         with open(self.config, "w", encoding="ascii") as opened:
-            opened.write(CONFIG)
+            opened.write(self.config_lines)
         words = [PROGRAM, "serve", "127.0.0.1:0", self.config, str(self.workers)]
         self.server = subprocess.Popen(words, stdin=subprocess.PIPE, stdout=subprocess.PIPE,
                                        stderr=subprocess.PIPE, text=True)
@@ -96,6 +97,15 @@ class Alone(Served):
                 self.assertEqual(second.lease("m", 4096), ("m", 0, 4096))
                 with self.assertRaises(vmemd.Superseded):
                     first.lease("m", 1)
+
+    def test_half_a_line_waits_for_its_rest(self):
+        with socket.create_connection(("127.0.0.1", self.port), 30) as half:
+            half.sendall(b"hello 9 1\nhello 9")
+            self.assertEqual(half.recv(100), b"welcome 9 1\n")
+            with self.client(1) as client:
+                client.lease("m", 4096)
+            half.sendall(b" 1\n")
+            self.assertEqual(half.recv(100), b"welcome 9 1\n")
 
     def test_bad_connections_leave_the_others(self):
         silent = socket.create_connection(("127.0.0.1", self.port))
@@ -165,6 +175,28 @@ class Alone(Served):
         for _ in range(9000):
             self.ask(lines)
         self.assertLess(self.memory() - before, 1024)
+
+
+class OneWorker(Served):
+    workers = 1
+    config_lines = "root d 0 48 1 instant 5\n"
+
+    def test_what_connections_left_is_reaped_after_them(self):
+        """Nine leases of 5 are the chunks of three slabs of 16. Released in order, those of the
+        first slab fill the depot's magazine, and the others the worker's two."""
+        with self.client(1) as client:
+            chunks = [client.lease("d", 5) for _ in range(9)]
+            self.assertEqual([it.base // 16 for it in chunks], [0, 0, 0, 1, 1, 1, 2, 2, 2])
+            for it in chunks:
+                it.release()
+            with self.assertRaises(vmemd.NoFit):
+                client.lease("d", 16)
+        # (after that connection an interval of the depot's began, in which nothing was taken)
+        with self.client(2) as client:
+            with self.assertRaises(vmemd.NoFit):
+                client.lease("d", 16)
+        with self.client(3) as client:
+            self.assertEqual(client.lease("d", 16), ("d", 0, 16))
 
 
 class Cutter:
@@ -246,18 +278,28 @@ class Crowd(Served):
             it.join()
         self.assertEqual([it for _, wrong, _ in ends for it in wrong], [])
         self.assertGreater(min(requests for requests, _, _ in ends), 10)
-        held = [lease for _, _, leases in ends for lease in leases]
+        self.audit([lease for _, _, leases in ends for lease in leases])
+        self.run_again()
+
+    def audit(self, held):
+        """What the processes held at their end and leases of all that is left are the arena."""
         rest = [self.client(number) for number in range(9, 14)]
         self.are_whole(held + [tuple(it) for client in rest for it in self.take_all(client)])
         for client in rest:
             client.release_all()
             client.disconnect()
-        for number in range(1, 9):
-            again = self.client(number)
-            again.restart()
-            again.disconnect()
-        with self.client(9) as client:
-            self.assertEqual(client.lease("m", 4096), ("m", 0, 4096))
+
+    def run_again(self):
+        """A second run of the eight: each begins a greater incarnation, which ends the leases that
+        its first run left. Once all have, each leases the whole arena in one piece, in turn."""
+        second = [self.client(number) for number in range(1, 9)]
+        for client in second:
+            client.restart()
+            client.disconnect()
+        for client in second:
+            with client.lease("m", 4096) as whole:
+                self.assertEqual(whole, ("m", 0, 4096))
+            client.disconnect()
 
     def take_all(self, client):
         """Leases of all free units, in pieces of 64 and less, as many as a client may have."""

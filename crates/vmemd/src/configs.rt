@@ -1,7 +1,8 @@
 //! CONFIG: a file of setup lines alone, which a server is set up by.
-ghost use Rattle.std.specs.Prelude.{◌≡◌, ◌⊎◌, ◌∷◌, [], Err, OnOk, IfOk, IfErr, IsErrOf};
+ghost use Rattle.std.specs.Prelude.{◌≡◌, ◌≤◌, ◌+◌, ◌⊎◌, ◌∷◌, [], Err, OnOk, IfOk, IfErr, IsErrOf};
 ghost use Rattle.lease_proto.specs.Frames.{last_of};
 ghost use Rattle.lease_server.specs.Watching.{inner_of, has_failed, reads_of};
+ghost use Rattle.lease_server.specs.declared.intakes.TheConstants.{MOST_READS};
 ghost use Rattle.vmemd.specs.Scripts.{IsSpent};
 ghost use Rattle.vmemd.specs.Configs.{MakesAll, ConfigFails, ConfigMakes, ConfigRefuses};
 
@@ -55,6 +56,8 @@ pub fn read_config<R: Read>(alloc: Global, reader: &mut Watched<R>) -> Result<Se
         → IsSpent (has_failed reader.new) (reads_of reader.new) }
     ensures kept { IfErr result (λ fault. (fault ≡ ScriptFault.Read)
         ⊎ (has_failed reader.new ≡ has_failed reader.old)) }
+    ensures works { OnOk result (has_failed reader.new ≡ has_failed reader.old) }
+    ensures bound { reads_of reader.new ≤ reads_of reader.old + MOST_READS }
 {
     let mut config = Config {
         setup: Setup::new(alloc),
@@ -73,6 +76,8 @@ fn take_all<R: Read, S: SetUp>(reader: &mut Watched<R>, setup: &mut S) -> Result
         → IsSpent (has_failed reader.new) (reads_of reader.new) }
     ensures kept { IfErr result (λ fault. (fault ≡ ScriptFault.Read)
         ⊎ (has_failed reader.new ≡ has_failed reader.old)) }
+    ensures works { OnOk result (has_failed reader.new ≡ has_failed reader.old) }
+    ensures bound { reads_of reader.new ≤ reads_of reader.old + MOST_READS }
 {
     // For its clause: reads are at most 2^64 - 1.
     let _ = reader.reads();

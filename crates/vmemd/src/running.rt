@@ -1,5 +1,5 @@
 //! A server: its workers, and how they begin and end.
-ghost use Rattle.std.specs.Prelude.{◌≡◌, true, OnOk, IfErr, Err};
+ghost use Rattle.std.specs.Prelude.{◌≡◌, true, false, OnOk, IfErr, IsErrOf, Err};
 ghost use Rattle.std.specs.Io.KnownBytes.{IsAtEnd};
 ghost use Rattle.lease_server.specs.Watching.{Streams, has_failed, inner_of};
 ghost use Rattle.vmemd.specs.Running.{Attends, Closes, Runs, Tells, console_streams};
@@ -129,9 +129,10 @@ fn run_named<
 
 // Tells that the server closed, where it came to its end.
 fn close<I: Read, W: Write>(ran: Ran<I, W>, stuck: bool) -> Ran<I, W>
-    ensures { (old : Streams)
+    ensures runs { (old : Streams)
         → Attends old (console_streams I.remaining W.contents ran.console) ran.ended
         → Runs old (console_streams I.remaining W.contents result.console) result.ended }
+    ensures stuck { OnOk result.ended (stuck ≡ false) }
 {
     let Ran { ended, console } = ran;
     let Console { input, mut out } = console;
@@ -146,8 +147,10 @@ fn close<I: Read, W: Write>(ran: Ran<I, W>, stuck: bool) -> Ran<I, W>
 }
 
 fn tell_closed<W: Write>(out: &mut Watched<W>, stuck: bool) -> Result<(), RunFault>
-    ensures { Closes (W.contents (inner_of out.old)) (W.contents (inner_of out.new))
+    ensures closes { Closes (W.contents (inner_of out.old)) (W.contents (inner_of out.new))
         (has_failed out.new) result }
+    ensures stuck { OnOk result (stuck ≡ false) }
+    ensures shut { IsErrOf result RunFault.Shut → stuck ≡ true }
 {
     if deliver(out, b"closed\n").is_err() {
         return Err(RunFault::Write);
@@ -351,8 +354,8 @@ fn shut_rest<N: Name, R: Wait + Eprint>(rt: &R, fault: Unshut<N>, signals: &Sign
     unreachable!()
 }
 
-// Tells, the first time, that something can't be put back at once.
-fn tell_stuck<R: Eprint>(rt: &R, signals: &Signals) {
+/// Tells, the first time, that something can't be put back at once.
+pub(crate) fn tell_stuck<R: Eprint>(rt: &R, signals: &Signals) {
     if signals.note_stuck() {
         let _ = eprintln!(rt; "vmemd: {}", RunFault::Shut);
     }

@@ -3,6 +3,7 @@
 
 mod serving;
 mod tables;
+mod telling;
 
 use self::tables::{ASKED, MISTAKEN, REFUSED, ROWS};
 use crate::commands::{GivenWords, WordsFault, read_words};

@@ -5,13 +5,13 @@ use Rattle.vmemd.proofs.RunningLemmas.{run_fails, run_closes}
 use Rattle.vmemd.proofs.running.close.Goals as goal
 use Rattle.vmemd.proofs.running.close.Goals.{in-Ok, in-Err}
 
-pub returns : goal.returns
-returns g c = λ old a.
+pub returns-clause-runs : goal.returns-clause-runs
+returns-clause-runs g c = λ old a.
     let mid = console_streams g.I.Read.remaining g.W.Write.contents c.args.ran.console in
     let new = console_streams g.I.Read.remaining g.W.Write.contents record { input = c.args.ran.console.input; out = c.match-ended.out } in
     elim c.match-ended.branch [
       | in-Ok w ↦
-          let closes : Closes mid.written new.written new.writer_failed c.match-ended.ended = rw (w.ended-is, w.out-is) w.tell_closed-ended.ensures in
+          let closes : Closes mid.written new.written new.writer_failed c.match-ended.ended = rw (w.ended-is, w.out-is) w.tell_closed-ended.ensures.closes in
           run_closes old mid new tt c.match-ended.ended (subst (λ e. Attends old mid e) w.in-Ok.is a) refl closes
       | in-Err w ↦
           let fails = run_fails old mid w.in-Err.fault (subst (λ e. Attends old mid e) w.in-Err.is a) in

@@ -3,4 +3,4 @@ use Rattle.vmemd.proofs.running.run_named.Goals as goal
 
 pub returns : goal.returns
 returns g c =
-    c.close.ensures (console_streams g.I.Read.remaining g.W.Write.contents c.args.console) c.serve_all-ran.ensures
+    c.close.ensures.runs (console_streams g.I.Read.remaining g.W.Write.contents c.args.console) c.serve_all-ran.ensures

@@ -1,0 +1,176 @@
+//! What is told on standard error where a server ends or doesn't begin, whole, with the status.
+
+use super::{Mishap, Pieces};
+use crate::commands::{GivenWords, read_words};
+use crate::configs::read_config;
+use crate::endings::{end_run, end_script, end_words};
+use crate::faults::ScriptFault;
+use crate::running::{RunFault, tell_stuck};
+use crate::signals::Signals;
+use lease_server::Watched;
+use std::alloc::Global;
+use std::cell::RefCell;
+use std::fmt::Display;
+use std::io;
+use std::io::ErrorKind;
+use std::process::ExitCode;
+use std::test::Fail;
+
+/// Keeps what is told on standard error.
+struct Told {
+    alloc: Global,
+    text: RefCell<Vec<u8>>,
+}
+
+impl Told {
+    fn new(alloc: Global) -> Told {
+        Told {
+            alloc,
+            text: RefCell::new(Vec::new(alloc)),
+        }
+    }
+
+    fn into_text(self) -> Vec<u8> {
+        let Told { alloc: _, text } = self;
+        text.into_inner()
+    }
+
+    fn keep<D: Display>(&self, value: &D, end: &str) -> io::Result<()> {
+        let (Ok(shown), Ok(mut text)) = (
+            format!(in self.alloc; "{value}{end}"),
+            self.text.try_borrow_mut(),
+        ) else {
+            return Err(io::Error::from(ErrorKind::OutOfMemory));
+        };
+        match text.extend_from_slice(shown.as_bytes()) {
+            Ok(()) => Ok(()),
+            Err(_) => Err(io::Error::from(ErrorKind::OutOfMemory)),
+        }
+    }
+}
+
+impl Eprint for Told {
+    fn eprint<D: Display + Drop>(&self, value: D) -> io::Result<()> {
+        self.keep(&value, "")
+    }
+
+    fn eprintln<D: Display + Drop>(&self, value: D) -> io::Result<()> {
+        self.keep(&value, "\n")
+    }
+}
+
+/// How a server ends, what is told of it then, and the status. `Shut` was told when it was found.
+const ENDS: [(Result<(), RunFault>, &str, u8); 6] = [
+    (Ok(()), "", 0),
+    (Err(RunFault::Read), "vmemd: read\n", 1),
+    (Err(RunFault::Write), "vmemd: write\n", 1),
+    (Err(RunFault::Listen), "vmemd: listen\n", 1),
+    (Err(RunFault::Memory), "vmemd: memory\n", 1),
+    (Err(RunFault::Shut), "", 1),
+];
+
+#[test]
+fn ends_of_servers(rt: HostRuntime) {
+    for (ended, text, status) in &ENDS {
+        let told = Told::new(rt.alloc());
+        let code = end_run(&told, *ended);
+        assert_eq!(rt; told.into_text().as_slice(), text.as_bytes());
+        assert_eq!(rt; code, ExitCode::from(*status));
+    }
+}
+
+#[test]
+fn stuck_is_told_once(rt: HostRuntime) {
+    let told = Told::new(rt.alloc());
+    let signals = Signals::new();
+    assert!(rt; !signals.is_stuck());
+    for _ in 0..3 {
+        tell_stuck(&told, &signals);
+        assert!(rt; signals.is_stuck());
+    }
+    assert_eq!(rt; told.into_text().as_slice(), b"vmemd: shut\n".as_slice());
+}
+
+/// CONFIGs that are refused, and what is told of them.
+const CONFIGS: [(&[u8], &str); 6] = [
+    (
+        b"root m 0 8 1 best 0\nspan m 8 8\n",
+        "vmemd: line 2: span\n",
+    ),
+    (b"root m 0 8 1 best 0", "vmemd: line 1: badline\n"),
+    (b"root m 0 8 1 best 0\n\n", "vmemd: line 2: badline\n"),
+    (b"root m 0 8 1 best 0\naudit\n", "vmemd: line 2: word\n"),
+    (
+        b"root m 0 8 1 best 0\nchild c m 1 best x 0\n",
+        "vmemd: line 2: number\n",
+    ),
+    (
+        b"root m 0 8 1 best 0\nchild c m 1 best 0 0\nroot c 0 8 1 best 0\n",
+        "vmemd: line 3: name\n",
+    ),
+];
+
+#[test]
+fn refused_configs(rt: HostRuntime) -> Result<(), Fail> {
+    for (config, text) in &CONFIGS {
+        for size in [4096, 1] {
+            let Err(fault) = read(rt.alloc(), config, size, Mishap::None) else {
+                return Err(Fail::from("a refused line was taken"));
+            };
+            let told = Told::new(rt.alloc());
+            let code = end_script(&told, Err(fault));
+            assert_eq!(rt; told.into_text().as_slice(), text.as_bytes());
+            assert_eq!(rt; code, ExitCode::from(2));
+        }
+    }
+    Ok(())
+}
+
+#[test]
+fn each_read_of_a_config_failing(rt: HostRuntime) {
+    let config = b"root m 0 8 1 best 0\n";
+    for at in 1..=21 {
+        let fails = read(rt.alloc(), config, 1, Mishap::Fails { at });
+        assert_eq!(rt; fails, Err(ScriptFault::Read), "at {at}");
+        let goes_on = read(rt.alloc(), config, 1, Mishap::IsInterrupted { at });
+        assert_eq!(rt; goes_on, Ok(1), "at {at}");
+    }
+}
+
+/// How many arenas a CONFIG makes that comes in pieces of at most `size` bytes.
+fn read(alloc: Global, config: &[u8], size: usize, mishap: Mishap) -> Result<usize, ScriptFault> {
+    let mut reader = Watched::new(Pieces {
+        rest: config,
+        size,
+        mishap,
+        reads: 0,
+    });
+    let setup = read_config(alloc, &mut reader)?;
+    Ok(setup.tree().len())
+}
+
+#[test]
+fn words_of_a_server(rt: HostRuntime) -> Result<(), Fail> {
+    let alloc = rt.alloc();
+    match read_words(alloc, &["vmemd", "serve", "x", "y", "64"]) {
+        Ok(words) => {
+            let wanted = GivenWords::Serve {
+                address: "x",
+                config: "y",
+                workers: 64,
+            };
+            assert_eq!(rt; words, wanted);
+        }
+        Err(_fault) => return Err(Fail::from("`serve` was not taken")),
+    }
+    for workers in ["0", "65", "-1", "x", ""] {
+        let Err(fault) = read_words(alloc, &["vmemd", "serve", "x", "y", workers]) else {
+            return Err(Fail::from("other workers were taken"));
+        };
+        let told = Told::new(alloc);
+        let code = end_words(&told, &mut Watched::new(Vec::new(alloc)), &fault);
+        assert!(rt; !told.into_text().is_empty(), "{workers}");
+        assert_eq!(rt; code, ExitCode::from(2), "{workers}");
+    }
+    Ok(())
+}
