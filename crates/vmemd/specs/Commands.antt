@@ -10,6 +10,7 @@ use Rattle.clap.specs.declared.builder.value_parser.ValueParser.TheVariants.{Sig
 use Rattle.clap.specs.declared.error.Error.{Error}
 use Rattle.clap.specs.declared.error.kind.ErrorKind.{ErrorKind}
 use Rattle.clap.specs.declared.error.kind.ErrorKind.TheVariants as kind
+use Rattle.vmemd.specs.declared.commands.TheConstants.{MOST_WORKERS}
 use Rattle.vmemd.specs.declared.commands.GivenWords.{GivenWords}
 use Rattle.vmemd.specs.declared.commands.GivenWords.TheVariants.{Script, Serve}
 use Rattle.vmemd.specs.declared.commands.WordsFault.{WordsFault}
@@ -32,9 +33,11 @@ bare_program = record (new_app (codes "vmemd")) {
 abbrev pub required_word : List ℕ → Rule
 required_word id = record (new_rule id) { required = true; action = Some Set }
 
--- how many workers serve, from 1 to 64
+-- how many workers serve, from 1 on
 abbrev pub workers_word : Rule
-workers_word = record (required_word (codes "WORKERS")) { parser = Some (Signed (pos 1) (pos 64)) }
+workers_word = record (required_word (codes "WORKERS")) {
+  parser = Some (Signed (pos 1) (pos MOST_WORKERS));
+}
 
 -- the subcommand `serve ADDRESS CONFIG WORKERS`
 abbrev pub serve_command : App
@@ -50,10 +53,10 @@ program = with_subcommand (with_subcommand bare_program (new_app (codes "script"
 abbrev pub script_words : List (List ℕ)
 script_words = codes "vmemd" ∷ codes "script" ∷ []
 
--- workers are 1 to 64, and those that WORKERS says
+-- there is a worker and no more than there may be, and they are as many as WORKERS says
 abbrev pub GivesWorkers : List Row → ℕ → Type 0
-GivesWorkers rows workers = (1 ≤ workers) × (workers ≤ 64) × ((n : ℕ)
-    → one_of (codes "WORKERS") rows ≡ Some (decimal n) → 1 ≤ n → n ≤ 64 → workers ≡ n)
+GivesWorkers rows workers = (1 ≤ workers) × (workers ≤ MOST_WORKERS) × ((n : ℕ)
+    → one_of (codes "WORKERS") rows ≡ Some (decimal n) → 1 ≤ n → n ≤ MOST_WORKERS → workers ≡ n)
 
 -- what is given, by the name of the command that clap finds and the values of its words: all but
 -- `serve` is a script

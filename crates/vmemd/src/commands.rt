@@ -5,17 +5,29 @@ ghost use Rattle.clap.specs.Words.{app_of, fault_of, kind_of, rule_of, subcomman
 ghost use Rattle.clap.specs.Words.{subcommand_rows_of};
 ghost use Rattle.vmemd.specs.Commands.{program, script_words, FailsWords, IsGivenBy, IsTold};
 ghost use Rattle.vmemd.specs.Commands.{required_word, workers_word};
+ghost use Rattle.vmemd.specs.declared.commands.TheConstants.{MOST_WORKERS};
+ghost use Rattle.lease_proto.specs.declared.limits.TheConstants.{MOST_CPUS};
 
 use clap::error::ErrorKind;
 use clap::{Arg, ArgAction, ArgMatches, Command, Error};
+use lease_proto::MOST_CPUS;
 use std::alloc::{AllocError, AllocFailed, Global};
+
+/// How many workers a server has at most: each goes by a CPU of its own.
+pub const MOST_WORKERS: u8 = MOST_CPUS as u8;
+
+/// That many are all CPUs.
+pub fn worker_law()
+    ensures { MOST_WORKERS ≡ MOST_CPUS }
+{}
 
 /// What the words after the program's name ask for.
 #[derive(Clone, Copy, Debug, PartialEq, Eq)]
 pub enum GivenWords<'a> {
     /// `script`: answer standard input on standard output.
     Script,
-    /// `serve ADDRESS CONFIG WORKERS`: answer connections to the address. Workers are 1 to 64.
+    /// `serve ADDRESS CONFIG WORKERS`: answer connections to the address. Workers are 1 to
+    /// `MOST_WORKERS`.
     Serve {
         address: &'a str,
         config: &'a str,
@@ -61,6 +73,11 @@ impl<T: Drop> From<AllocFailed<T>> for WordsFault {
 /// The program's version, which `--version` tells.
 pub const VERSION: &str = "0.1.0";
 
+/// What the program does, for its help.
+const PROGRAM_HELP: &str = "\
+Leases ranges of whole numbers to clients, over lines of text. What lines there are, and how they
+are answered, is told by: vmemd script --help";
+
 /// The lines of a script, for its help.
 const SCRIPT_HELP: &str = "\
 Answers the lines of standard input on standard output, one line at a time.
@@ -82,7 +99,7 @@ there are no comments. A setup line after that is answered by error word.
                                            free. QUANTUM is a power of two, at most that of
                                            SOURCE
 QMAX is 0, or a multiple of QUANTUM and at most 16 of it: then a lease of at most QMAX units with no
-option comes from a cache of its size. A cache cuts slabs into pieces, and keeps pieces that came
+option comes from a cache of its size. A cache cuts slabs into chunks, and keeps chunks that came
 back in magazines of CPUs and in a depot, from which they are leased again.
 
 POLICY says which units a lease or a slab gets, of all free ones that fit it:
@@ -114,10 +131,11 @@ SIZE rounded up to whole quanta, and BASE a multiple of QUANTUM:
               with nocross 8 it may be the units 3 to 7, or 8 to 15, but not 6 to 9
   min L       BASE is at least L
   max H       the lease ends at H or before: unit H itself isn't in it
-Without an option, or where A, X or L is 0 or H is 2^62, there is no such condition. A request is
-bad where a condition has an A or X that is no power of two or no multiple of QUANTUM; a P that
-isn't below A, as any above 0 with no align, or is no multiple of QUANTUM; an X below LEN; or an L
-that isn't below H. So it is where SIZE or H is 0. L and H need be no multiples of QUANTUM.
+Without an option, or where A, X or L is 0 or H is 2^62, there is no such condition. A lease with a
+condition gets units that are free in its arena: nothing is imported for it, and no cache is asked.
+A request is bad where a condition has an A or X that is no power of two or no multiple of QUANTUM;
+a P that isn't below A, as any above 0 with no align, or is no multiple of QUANTUM; an X below LEN;
+or an L that isn't below H. So it is where SIZE or H is 0. L and H need be no multiples of QUANTUM.
 
 Answers to clients:
   welcome C I                   the hello is taken
@@ -141,8 +159,9 @@ Lines of operators, which are answered by error memory where memory is out:
                   through those of another. At first they go through those of CPU 0. Answer: ok
   offline N       what is in the magazines of CPU N goes back to the slabs. Answer: ok
   tick            an interval begins, after which depots know what they needed in it. Answer: ok
-  resize NAME M   the magazines of arena NAME take M pieces from now on: 3, 7, 15 or 31. Answer: ok,
-                  error noarena, or error size where they take so many already or there is no cache
+  resize NAME M   the magazines of arena NAME take M chunks from now on: 3, 7, 15 or 31; at first
+                  they take 3. Answer: ok, error noarena, or error size where they take as many or
+                  more already or there is no cache
   reap            depots give what they didn't need back to the slabs, and slabs that are whole
                   again go back to their arenas. Answer: reaped U, the units of those slabs
   audit           for each arena: arena NAME free F slab S magazine M exported E leased L hand H, in
@@ -159,33 +178,41 @@ number, or out of its range).
 A refused setup line ends the program with vmemd: line K: WORD, and nothing is written. WORD is
 toolong, badline, word or number where the line is no setup line as above; name where the name is
 taken; many above 32 arenas or 65536 spans of one; noarena where there is no such source, or no such
-root for a span; chain where a source's source, and so on, would make a chain of five arenas;
-quantum where it is no power of two, or above the source's; cache where QMAX isn't as above, or is
-above a third of 2^62; or range where LEN is 0, or the span ends above 2^62, isn't of whole quanta
-or overlaps another of its arena.
+root for a span; chain where the arena, its source, that one's source, and so on, would be a chain
+of more than 4 arenas; quantum where it is no power of two, or above the source's; cache where QMAX
+isn't as above, or is above a third of 2^62; or range where LEN is 0, or the span ends above 2^62,
+isn't of whole quanta or overlaps another of its arena.
 
-Example:
-  printf 'root m 0 64 1 best 0\\nhello 1 1\\nlease 1 1 1 m 8 align 16 min 20\\n' | vmemd script
-answers
+Example: the lines
+  root m 0 64 1 best 0
+  hello 1 1
+  lease 1 1 1 m 8 align 16 min 20
+  lease 1 1 2 m 5 align 8 phase 3 nocross 8 min 8 max 32
+are answered by
   welcome 1 1
   granted 1 1 1 m 32 8
-since 32 is the first multiple of 16 from 20 on.";
+  granted 1 1 2 m 11 5
+since 32 is the first multiple of 16 from 20 on, and 11 the first number from 8 on that is 3 above a
+multiple of 8; the units 11 to 15 lie between 8 and 16.";
 
 /// What `serve` does, for its help.
 const SERVE_HELP: &str = "\
 Answers clients over TCP, until standard input ends.
 
 ADDRESS is an address and a port, as 127.0.0.1:7070; with port 0 the system chooses one. CONFIG is a
-file of setup lines, root and child alone. WORKERS is how many connections are served at a time: a
-client that stays connected holds a worker, and more connections than workers wait until one ends.
+file of setup lines, root and child alone, as vmemd script --help tells them. WORKERS, 1 to 64, is
+how many connections are served at a time: a client that stays connected holds a worker, and more
+connections than workers wait until one ends.
 
 Once it listens it prints listening ADDRESS, with the real port. The lines of clients and their
 answers are those of a script; lines of operators are answered by error word. A connection that
-fails, or says nothing for ten minutes, ends alone; leases don't end with a connection.
+fails, or says nothing or takes no answer for ten minutes, ends alone; leases don't end with a
+connection.
 
 What comes on standard input is ignored. When it ends, no further connection is served, those being
 served end when their clients end them, all leases end, and it prints closed. So keep standard input
-open as long as the server is to run.";
+open as long as the server is to run. Where a number can't be put back at once then, it says
+vmemd: shut, tries until it can, and ends with status 1.";
 
 const STATUS_HELP: &str = "\
 Exit status: 0 at the end of the input, and after help or the version; 1 where reading, writing,
@@ -209,7 +236,7 @@ fn command<'a>(alloc: Global) -> Result<Command<'a>, AllocError>
         .arg(workers(alloc))?;
     Command::new(alloc, "vmemd")
         .version(VERSION)
-        .about("Leases ranges of whole numbers to clients, over lines of text")
+        .about(PROGRAM_HELP)
         .after_help(STATUS_HELP)
         .subcommand_required(true)
         .arg_required_else_help(true)
@@ -223,7 +250,7 @@ fn workers<'a>(alloc: Global) -> Arg<'a>
     ensures local { result.global ≡ false }
 {
     required(alloc, "WORKERS")
-        .value_parser(clap::value_parser!(u8).range(1..=64))
+        .value_parser(clap::value_parser!(u8).range(1..=i64::from(MOST_WORKERS)))
         .help("How many connections are served at a time, 1 to 64")
 }
 
@@ -241,7 +268,7 @@ pub fn read_words<'a>(alloc: Global, words: &'a [&'a str]) -> Result<GivenWords<
         → IfErr result (λ fault. fault ≡ WordsFault.Memory) }
     // What is taken is without fault, as clap reads a program with these commands.
     ensures ok { OnOk result (fault_of program (map (λ w. w.now) words.now) ≡ []) }
-    // It is the command that clap finds in them; the workers of `serve` are 1 to 64.
+    // It is the command that clap finds in them; the workers of `serve` are 1 to `MOST_WORKERS`.
     ensures given { IfOk result (IsGivenBy (subcommand_of program (map (λ w. w.now) words.now))) }
     // What isn't taken has the fault that clap finds.
     ensures err { IfErr result (FailsWords (fault_of program (map (λ w. w.now) words.now))) }
@@ -253,7 +280,7 @@ pub fn read_words<'a>(alloc: Global, words: &'a [&'a str]) -> Result<GivenWords<
 }
 
 /// What matches ask for. clap has seen that the words of `serve` are there, and that its number is
-/// 1 to 64.
+/// 1 to `MOST_WORKERS`.
 fn given<'a>(matches: &ArgMatches<'a>) -> GivenWords<'a>
     ensures { IsGivenBy (subcommand_rows_of matches.now) result }
 {
@@ -261,7 +288,10 @@ fn given<'a>(matches: &ArgMatches<'a>) -> GivenWords<'a>
         Some(("serve", of)) => GivenWords::Serve {
             address: of.get_str("ADDRESS").unwrap_or(""),
             config: of.get_str("CONFIG").unwrap_or(""),
-            workers: of.get_one::<u8>("WORKERS").unwrap_or(1).clamp(1, 64),
+            workers: of
+                .get_one::<u8>("WORKERS")
+                .unwrap_or(1)
+                .clamp(1, MOST_WORKERS),
         },
         _ => GivenWords::Script,
     }

@@ -7,7 +7,7 @@ ghost use Rattle.vmemd.specs.Scripts.{IsSpent};
 ghost use Rattle.vmemd.specs.Configs.{MakesAll, ConfigFails, ConfigMakes, ConfigRefuses};
 
 use crate::faults::{ConfigFault, ScriptFault, SettingFault};
-use crate::setting_up::{SetUp, refusal, take_line};
+use crate::setting_up::{SetupBuilder, refusal, take_line};
 use arena_tree::Setup;
 use lease_proto::{LineFault, SetupLine, fault_at_end};
 use lease_server::{Intake, Watched};
@@ -29,7 +29,7 @@ impl Model for Config {
     ghost view = { λ c. c.setup };
 }
 
-impl SetUp for Config {
+impl SetupBuilder for Config {
     ghost use Rattle.vmemd.specs.Configs.{TakesConfigLine, RefusesConfigLine, CanTakeConfigLine};
 
     ghost takes = { TakesConfigLine };
@@ -67,7 +67,10 @@ pub fn read_config<R: Read>(alloc: Global, reader: &mut Watched<R>) -> Result<Se
 }
 
 /// Takes all lines of an input. At a refused line the setup is what the lines before it made.
-fn take_all<R: Read, S: SetUp>(reader: &mut Watched<R>, setup: &mut S) -> Result<(), ScriptFault>
+fn take_all<R: Read, S: SetupBuilder>(
+    reader: &mut Watched<R>,
+    setup: &mut S,
+) -> Result<(), ScriptFault>
     ensures ok { OnOk result (MakesAll S.takes setup.old (R.remaining (inner_of reader.old))
         setup.new) }
     ensures err { IfErr result (ConfigFails S.takes S.refuses S.can setup.old

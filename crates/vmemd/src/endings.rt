@@ -10,6 +10,7 @@ use crate::commands::WordsFault;
 use crate::faults::ScriptFault;
 use crate::running::RunFault;
 use lease_server::{Watched, deliver};
+use std::fmt::Display;
 use std::io::Write;
 use std::process::ExitCode;
 
@@ -19,8 +20,7 @@ const RUN_FAULT: u8 = 1;
 /// The exit status where the words are a mistake.
 const USAGE: u8 = 2;
 
-/// Ends a script. A fault is told on standard error; where that can't be written, the status alone
-/// tells it.
+/// Ends a script. A fault is told on standard error.
 pub fn end_script<R: Eprint>(rt: &R, ran: Result<(), ScriptFault>) -> ExitCode
     ensures { exit_status result ≡ status_of ran }
 {
@@ -51,7 +51,7 @@ pub fn end_words<R: Eprint, W: Write>(
             ExitCode::from(USAGE)
         }
         WordsFault::NotText => {
-            let _ = eprintln!(rt; "vmemd: an argument isn't text");
+            tell_fault(rt, "an argument isn't text");
             ExitCode::from(USAGE)
         }
         WordsFault::Memory => fail(rt, ScriptFault::Memory),
@@ -67,7 +67,7 @@ pub fn end_run<R: Eprint>(rt: &R, ran: Result<(), RunFault>) -> ExitCode
         Ok(()) => ExitCode::SUCCESS,
         Err(RunFault::Shut) => ExitCode::from(RUN_FAULT),
         Err(fault) => {
-            let _ = eprintln!(rt; "vmemd: {fault}");
+            tell_fault(rt, fault);
             ExitCode::from(RUN_FAULT)
         }
     }
@@ -77,6 +77,11 @@ pub fn end_run<R: Eprint>(rt: &R, ran: Result<(), RunFault>) -> ExitCode
 fn fail<R: Eprint>(rt: &R, fault: ScriptFault) -> ExitCode
     ensures { exit_status result ≡ exit_of fault }
 {
-    let _ = eprintln!(rt; "vmemd: {fault}");
+    tell_fault(rt, fault);
     ExitCode::from(fault.exit())
+}
+
+/// Tells a fault on standard error. Where that can't be written, the status alone tells it.
+pub(crate) fn tell_fault<R: Eprint, F: Display + Drop>(rt: &R, fault: F) {
+    let _ = eprintln!(rt; "vmemd: {fault}");
 }

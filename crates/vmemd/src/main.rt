@@ -2,14 +2,24 @@
 //!
 //! `vmemd script` answers standard input on standard output (scripts): one intake reads the input,
 //! its setup lines are taken first (setting_up), by a setup of arenas (settings), and then a lease
-//! desk is opened from the setup and answers the others. The words of the command line and the help
-//! are in commands, the exit statuses in endings.
+//! desk is opened from the setup and answers the others.
+//!
+//! `vmemd serve` answers clients over TCP (running): the setup comes from a file (configs), a
+//! running system is made of it, and each worker serves one connection after another over a CPU of
+//! its own, until standard input ends and the system is shut (signals tell the workers).
+//!
+//! The words of the command line and the help are in commands, why a run ends early in faults, the
+//! exit statuses in endings.
 //!
 //! What a script writes is stated in specs/Scripts.antt, for any setup and any desk, and in
 //! specs/Desks.antt for these two; which setup line is refused with which word, in
 //! specs/Settings.antt; what holds after each script, in specs/Laws.antt; which bytes are a setup
-//! line, in the crate `lease_proto`. A script costs what its setup and its desk do for each line,
-//! and a read for each 4,096 bytes or less.
+//! line, in the crate `lease_proto`. What CONFIG makes is stated in specs/Configs.antt, and what a
+//! server writes and how it ends in specs/Running.antt; what it answers, in `lease_tcp`.
+//!
+//! A script costs what its setup and its desk do for each line, and a read for each 4,096 bytes or
+//! less. A server has a thread for each worker, at most `MOST_WORKERS`, and costs what its system
+//! does for each line.
 #![tactic(auto)]
 
 pub mod commands;

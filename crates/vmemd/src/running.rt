@@ -4,6 +4,7 @@ ghost use Rattle.std.specs.Io.KnownBytes.{IsAtEnd};
 ghost use Rattle.lease_server.specs.Watching.{Streams, has_failed, inner_of};
 ghost use Rattle.vmemd.specs.Running.{Attends, Closes, Runs, Tells, console_streams};
 
+use crate::endings::tell_fault;
 use crate::signals::Signals;
 use arena_tree::Setup;
 use deed_table::{Ground, Name};
@@ -57,7 +58,7 @@ pub struct Ran<I, W> {
 /// Serves clients at an address, by so many workers, until the input ends; its bytes are ignored.
 /// The first line written is `listening ADDRESS`, with the real port, and the last one `closed`. A
 /// worker serves one connection after another, until its peer ends it or it fails. Workers are 1 to
-/// 64; with more it answers `Memory`, and with none nobody is served.
+/// `MOST_WORKERS`; with more it answers `Memory`, and with none nobody is served.
 pub fn run_serve<
     R: Net<Listener = TcpListener, Stream = TcpStream>
         + Threads
@@ -357,6 +358,6 @@ fn shut_rest<N: Name, R: Wait + Eprint>(rt: &R, fault: Unshut<N>, signals: &Sign
 /// Tells, the first time, that something can't be put back at once.
 pub(crate) fn tell_stuck<R: Eprint>(rt: &R, signals: &Signals) {
     if signals.note_stuck() {
-        let _ = eprintln!(rt; "vmemd: {}", RunFault::Shut);
+        tell_fault(rt, RunFault::Shut);
     }
 }

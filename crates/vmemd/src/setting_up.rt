@@ -16,8 +16,8 @@ use lease_server::{Intake, Watched};
 use memchr::memchr2;
 use std::io::Read;
 
-/// What setup lines make.
-pub trait SetUp {
+/// What is built of setup lines, one after another.
+pub trait SetupBuilder {
     ghost use Rattle.lease_proto.specs.declared.setup_lines.SetupLine.{SetupLine};
     ghost use Rattle.vmemd.specs.declared.faults.ConfigFault.{ConfigFault};
 
@@ -41,7 +41,7 @@ pub trait SetUp {
 /// Takes the setup lines that the input begins with, and gives what was read and not taken: the
 /// lines after them. At a refused line the setup is what the lines before it made. A setup line
 /// that is too long is refused as soon as that shows.
-pub fn take_setup<R: Read, S: SetUp>(
+pub fn take_setup<R: Read, S: SetupBuilder>(
     reader: &mut Watched<R>,
     setup: &mut S,
 ) -> Result<Intake, ScriptFault>
@@ -117,7 +117,7 @@ fn refuse_rest(rest: &[u8], number: u64) -> Result<(), ScriptFault>
 }
 
 /// Lets a setup take the line of this number, given without its line feed.
-pub(crate) fn take_line<S: SetUp>(
+pub(crate) fn take_line<S: SetupBuilder>(
     line: &[u8],
     number: u64,
     setup: &mut S,

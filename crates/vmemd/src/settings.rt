@@ -3,7 +3,7 @@ ghost use Rattle.std.specs.Prelude.{◌≡◌};
 ghost use Rattle.vmemd.specs.Settings as spec;
 
 use crate::faults::{ConfigFault, SettingFault};
-use crate::setting_up::SetUp;
+use crate::setting_up::SetupBuilder;
 use arena_tree::{NewChild, NewRoot, NewSpan, Setting, Setup, SetupFault};
 use lease_proto::{ChildLine, PolicyWord, RootLine, SetupLine, SpanLine};
 use tag_arena::Policy;
@@ -29,7 +29,7 @@ impl From<SetupFault> for SettingFault {
     }
 }
 
-impl SetUp for Setup {
+impl SetupBuilder for Setup {
     ghost use Rattle.vmemd.specs.Settings.{TakesSetupLine, RefusesSetupLine, CanTakeSetupLine};
 
     ghost takes = { TakesSetupLine };

@@ -390,7 +390,8 @@ pub const MISTAKEN: [(&[&str], &str); 4] = [
 ];
 
 const PROGRAM_HELP: &str = "\
-Leases ranges of whole numbers to clients, over lines of text
+Leases ranges of whole numbers to clients, over lines of text. What lines there are, and how they
+are answered, is told by: vmemd script --help
 
 Usage: vmemd <COMMAND>
 

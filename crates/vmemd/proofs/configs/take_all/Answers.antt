@@ -19,7 +19,7 @@ use Rattle.vmemd.proofs.configs.take_all.Goals as goal
 
 pub loop-line-init : goal.loop-line-init
 loop-line-init g c =
-    let none = none_taken g.S.SetUp.takes c.args.setup.now in
+    let none = none_taken g.S.SetupBuilder.takes c.args.setup.now in
     let reads = reads_of c.args.reader.now in
     let least : reads ≡ min (reads + 0) (2 ^ 64 - 1) = omega (arith, c.reads.ensures) in
     rw c.new-input.ensures ([], Consumes-nil _, [], none.0, refl, none.1, refl, omega arith, omega arith, refl, least)
@@ -30,9 +30,9 @@ returns-in_err-take_line-in-Some-clause-err g c =
     let (text, rest, one, parts, first, behind) = line_at c.loop-line.input.hand front hand c.in-Some.ensures.some.0 in
     let p = err_from_is_err_and c.from_residual.result c.from_residual.ensures.1 in
     let line : c.in-Some.line.now ≡ take 256 text = c.in-Some.ensures.some.1 ∙ first in
-    let failed = subst (λ l. LineFails g.S.SetUp.refuses g.S.SetUp.can c.loop-line.setup c.loop-line.number (setup_of l) c.in_err-take_line-in-Some.field-0.0)
+    let failed = subst (λ l. LineFails g.S.SetupBuilder.refuses g.S.SetupBuilder.can c.loop-line.setup c.loop-line.number (setup_of l) c.in_err-take_line-in-Some.field-0.0)
     line c.in_err-take_line-in-Some.ensures.err in
-    rw (p.1, p.2) (line_not_taken g.S.SetUp.takes g.S.SetUp.refuses g.S.SetUp.can c.args.setup.now c.loop-line.setup c.take_line.new.setup
+    rw (p.1, p.2) (line_not_taken g.S.SetupBuilder.takes g.S.SetupBuilder.refuses g.S.SetupBuilder.can c.args.setup.now c.loop-line.setup c.take_line.new.setup
     (g.R.Read.remaining (inner_of c.args.reader.now)) (g.R.Read.remaining (inner_of c.loop-line.reader))
     input front text rest setup c.loop-line.number c.in_err-take_line-in-Some.field-0.0 read counted one parts c.in_err-take_line-in-Some.ensures.unchanged failed)
 
@@ -48,8 +48,8 @@ loop-line-preserved-in-Some g c =
     let (input, read, front, setup, hand, counted, going, room, low, works, spent) = c.loop-line.invariant in
     let (text, rest, one, parts, first, behind) = line_at c.loop-line.input.hand front hand c.in-Some.ensures.some.0 in
     let line : c.in-Some.line.now ≡ take 256 text = c.in-Some.ensures.some.1 ∙ first in
-    let taken = subst (λ l. TakesLine g.S.SetUp.takes c.loop-line.setup l c.take_line.new.setup) line c.in_ok-take_line-in-Some.ensures.ok in
-    let more = one_taken g.S.SetUp.takes c.args.setup.now c.loop-line.setup c.take_line.new.setup input front text rest setup taken parts in
+    let taken = subst (λ l. TakesLine g.S.SetupBuilder.takes c.loop-line.setup l c.take_line.new.setup) line c.in_ok-take_line-in-Some.ensures.ok in
+    let more = one_taken g.S.SetupBuilder.takes c.args.setup.now c.loop-line.setup c.take_line.new.setup input front text rest setup taken parts in
     let less = size-passed c.loop-line.input.hand c.in-Some.ensures.some.0 in
     rw c.pass.ensures (
       input,
@@ -70,7 +70,7 @@ returns-in_err-read_on-in-None-clause-err g c =
     let (input, read, front, setup, hand, counted, going, room, low, works, spent) = c.loop-line.invariant in
     let (one, first) = begun_at c.loop-line.input.hand front hand c.in-None.ensures.none in
     let p = err_from_is_err_and c.from_residual-in_err-read_on-in-None.result c.from_residual-in_err-read_on-in-None.ensures.1 in
-    rw (p.1, p.2) (reading_stops g.S.SetUp.takes g.S.SetUp.refuses g.S.SetUp.can c.args.setup.now c.loop-line.setup
+    rw (p.1, p.2) (reading_stops g.S.SetupBuilder.takes g.S.SetupBuilder.refuses g.S.SetupBuilder.can c.args.setup.now c.loop-line.setup
     (g.R.Read.remaining (inner_of c.args.reader.now)) (g.R.Read.remaining (inner_of c.loop-line.reader)) (g.R.Read.remaining (inner_of c.read_on.new.reader))
     input front setup c.loop-line.input (has_failed c.loop-line.reader) (has_failed c.read_on.new.reader) c.in_err-read_on-in-None.field-0.0
     read one c.in_err-read_on-in-None.ensures.err)
@@ -88,8 +88,8 @@ returns-then-not-branch-clause-ok g c =
     let left = g.R.Read.remaining (inner_of c.read_on.new.reader) in
     let all : Consumes unread left input =
     subst (λ l. Consumes unread left l) (ap (λ l. input ++ l) nothing ∙ append-nil input) (Consumes-trans _ _ _ input piece read consumes) in
-    at_ok c.refuse_unended.result (c.begun.result.now ≡ []) (MakesAll g.S.SetUp.takes c.args.setup.now unread c.loop-line.setup)
-    (λ none. all_taken g.S.SetUp.takes g.S.SetUp.refuses c.args.setup.now c.loop-line.setup unread left input front setup all is_end (none_of_front front (sym line ∙ none)))
+    at_ok c.refuse_unended.result (c.begun.result.now ≡ []) (MakesAll g.S.SetupBuilder.takes c.args.setup.now unread c.loop-line.setup)
+    (λ none. all_taken g.S.SetupBuilder.takes g.S.SetupBuilder.refuses c.args.setup.now c.loop-line.setup unread left input front setup all is_end (none_of_front front (sym line ∙ none)))
     c.refuse_unended.ensures.ok
 
 pub returns-then-not-branch-clause-err : goal.returns-then-not-branch-clause-err
@@ -105,12 +105,12 @@ returns-then-not-branch-clause-err g c =
     let left = g.R.Read.remaining (inner_of c.read_on.new.reader) in
     let all : Consumes unread left input =
     subst (λ l. Consumes unread left l) (ap (λ l. input ++ l) nothing ∙ append-nil input) (Consumes-trans _ _ _ input piece read consumes) in
-    let fails : ScriptFault → Type 0 = ConfigFails g.S.SetUp.takes g.S.SetUp.refuses g.S.SetUp.can c.args.setup.now unread left c.loop-line.setup in
+    let fails : ScriptFault → Type 0 = ConfigFails g.S.SetupBuilder.takes g.S.SetupBuilder.refuses g.S.SetupBuilder.can c.args.setup.now unread left c.loop-line.setup in
     let ends : ScriptFault → Type 0 = λ (fault : ScriptFault). (why : LineFault) × (fault ≡ Setup c.loop-line.number (Line why)) × (last_of c.begun.result.now ≡ Err why ∷ []) in
     at_err c.refuse_unended.result ends fails
     (λ (fault : ScriptFault) (e : ends fault).
     subst fails (sym e.1)
-    (unended_refused g.S.SetUp.takes g.S.SetUp.refuses c.args.setup.now c.loop-line.setup unread left input front setup c.loop-line.number e.0 all is_end counted one
+    (unended_refused g.S.SetupBuilder.takes g.S.SetupBuilder.refuses c.args.setup.now c.loop-line.setup unread left input front setup c.loop-line.number e.0 all is_end counted one
     (subst (λ l. last_of l ≡ Err e.0 ∷ []) line e.2)))
     c.refuse_unended.ensures.err
 
@@ -135,7 +135,7 @@ loop-line-preserved g c =
     let (some, fresh, not_ended, once) = more on in
     let size = ap size_at next in
     let fits = size-hand_in c.loop-line.input.hand.line piece in
-    let grown = more_read g.S.SetUp.takes c.args.setup.now c.loop-line.setup input front piece setup in (
+    let grown = more_read g.S.SetupBuilder.takes c.args.setup.now c.loop-line.setup input front piece setup in (
       input ++ piece,
       Consumes-trans _ _ _ input piece read consumes,
       front ++ piece,

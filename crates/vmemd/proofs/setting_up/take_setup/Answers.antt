@@ -14,7 +14,7 @@ use Rattle.vmemd.proofs.setting_up.take_setup.Goals as goal
 
 pub loop-line-init : goal.loop-line-init
 loop-line-init g c =
-    let none = none_taken g.S.SetUp.takes c.args.setup.now in
+    let none = none_taken g.S.SetupBuilder.takes c.args.setup.now in
     let reads = reads_of c.args.reader.now in
     let least : reads ≡ min (reads + 0) (2 ^ 64 - 1) = omega (arith, c.reads.ensures) in
     rw c.new-input.ensures ([], Consumes-nil _, [], none.0, refl, none.1, refl, omega arith, omega arith, refl, least)
@@ -26,9 +26,9 @@ returns-in_err-take_line-in-Some-clause-err g c =
     let p = err_from_is_err_and c.from_residual.result c.from_residual.ensures.1 in
     let line : c.in-Some.line.now ≡ take 256 text = c.in-Some.ensures.some.1 ∙ first in
     let begins : begins_setup (take 256 text) ≡ true = ap begins_setup (sym line) ∙ sym c.begins_setup.ensures ∙ c.if-begins_setup.true in
-    let failed = subst (λ l. LineFails g.S.SetUp.refuses g.S.SetUp.can c.loop-line.setup c.loop-line.number (setup_of l) c.in_err-take_line-in-Some.field-0.0)
+    let failed = subst (λ l. LineFails g.S.SetupBuilder.refuses g.S.SetupBuilder.can c.loop-line.setup c.loop-line.number (setup_of l) c.in_err-take_line-in-Some.field-0.0)
     line c.in_err-take_line-in-Some.ensures.err in
-    rw (p.1, p.2) (line_fails g.S.SetUp.takes g.S.SetUp.refuses g.S.SetUp.can c.args.setup.now c.loop-line.setup c.take_line.new.setup
+    rw (p.1, p.2) (line_fails g.S.SetupBuilder.takes g.S.SetupBuilder.refuses g.S.SetupBuilder.can c.args.setup.now c.loop-line.setup c.take_line.new.setup
     (g.R.Read.remaining (inner_of c.args.reader.now)) (g.R.Read.remaining (inner_of c.loop-line.reader))
     input front text rest setup c.loop-line.number c.in_err-take_line-in-Some.field-0.0 read counted begins one parts c.in_err-take_line-in-Some.ensures.unchanged failed)
 
@@ -44,8 +44,8 @@ loop-line-preserved-then-begins_setup g c =
     let (input, read, front, setup, hand, counted, going, room, low, works, spent) = c.loop-line.invariant in
     let (text, rest, one, parts, first, behind) = line_at c.loop-line.input.hand front hand c.in-Some.ensures.some.0 in
     let line : c.in-Some.line.now ≡ take 256 text = c.in-Some.ensures.some.1 ∙ first in
-    let taken = subst (λ l. TakesLine g.S.SetUp.takes c.loop-line.setup l c.take_line.new.setup) line c.in_ok-take_line-in-Some.ensures.ok in
-    let more = one_taken g.S.SetUp.takes c.args.setup.now c.loop-line.setup c.take_line.new.setup input front text rest setup taken parts in
+    let taken = subst (λ l. TakesLine g.S.SetupBuilder.takes c.loop-line.setup l c.take_line.new.setup) line c.in_ok-take_line-in-Some.ensures.ok in
+    let more = one_taken g.S.SetupBuilder.takes c.args.setup.now c.loop-line.setup c.take_line.new.setup input front text rest setup taken parts in
     let less = size-passed c.loop-line.input.hand c.in-Some.ensures.some.0 in
     rw c.pass.ensures (
       input,
@@ -81,7 +81,7 @@ returns-in_err-refuse_long-in-None-clause-err g c =
     let line : c.begun.result.now ≡ take 256 front = c.begun.ensures ∙ first in
     let p = err_from_is_err_and c.from_residual-in_err-refuse_long-in-None.result c.from_residual-in_err-refuse_long-in-None.ensures.1 in
     let e = c.in_err-refuse_long-in-None.ensures in
-    rw (p.1, p.2, e.0) (refused_long g.S.SetUp.takes g.S.SetUp.refuses c.args.setup.now c.loop-line.setup
+    rw (p.1, p.2, e.0) (refused_long g.S.SetupBuilder.takes g.S.SetupBuilder.refuses c.args.setup.now c.loop-line.setup
     (g.R.Read.remaining (inner_of c.args.reader.now)) (g.R.Read.remaining (inner_of c.loop-line.reader))
     input front setup c.loop-line.number read counted one (subst (λ l. 255 < length l) line e.1) (ap begins_setup (sym line) ∙ e.2))
 
@@ -90,7 +90,7 @@ returns-in_err-read_on-in-None-clause-err g c =
     let (input, read, front, setup, hand, counted, going, room, low, works, spent) = c.loop-line.invariant in
     let (one, first) = begun_at c.loop-line.input.hand front hand c.in-None.ensures.none in
     let p = err_from_is_err_and c.from_residual-in_err-read_on-in-None.result c.from_residual-in_err-read_on-in-None.ensures.1 in
-    rw (p.1, p.2) (reading_fails g.S.SetUp.takes g.S.SetUp.refuses g.S.SetUp.can c.args.setup.now c.loop-line.setup
+    rw (p.1, p.2) (reading_fails g.S.SetupBuilder.takes g.S.SetupBuilder.refuses g.S.SetupBuilder.can c.args.setup.now c.loop-line.setup
     (g.R.Read.remaining (inner_of c.args.reader.now)) (g.R.Read.remaining (inner_of c.loop-line.reader)) (g.R.Read.remaining (inner_of c.read_on.new.reader))
     input front setup c.loop-line.input (has_failed c.loop-line.reader) (has_failed c.read_on.new.reader) c.in_err-read_on-in-None.field-0.0
     read one c.in_err-read_on-in-None.ensures.err)
@@ -110,7 +110,7 @@ returns-in_err-refuse_rest-in-None-clause-err g c =
     let left = g.R.Read.remaining (inner_of c.read_on.new.reader) in
     let all : Consumes unread left input =
     subst (λ l. Consumes unread left l) (ap (λ l. input ++ l) nothing ∙ append-nil input) (Consumes-trans _ _ _ input piece read consumes) in
-    rw (p.1, p.2, is) (refused_rest g.S.SetUp.takes g.S.SetUp.refuses c.args.setup.now c.loop-line.setup unread left
+    rw (p.1, p.2, is) (refused_rest g.S.SetupBuilder.takes g.S.SetupBuilder.refuses c.args.setup.now c.loop-line.setup unread left
     input front setup c.loop-line.number why all is_end counted one (subst (λ l. last_of l ≡ Err why ∷ []) line last) (ap begins_setup (sym line) ∙ begins))
 
 pub returns-then-not-branch-clause-ok : goal.returns-then-not-branch-clause-ok
@@ -154,7 +154,7 @@ loop-line-preserved g c =
     let (some, fresh, not_ended, once) = more on in
     let size = ap size_at next in
     let fits = size-hand_in c.loop-line.input.hand.line piece in
-    let grown = more_read g.S.SetUp.takes c.args.setup.now c.loop-line.setup input front piece setup in (
+    let grown = more_read g.S.SetupBuilder.takes c.args.setup.now c.loop-line.setup input front piece setup in (
       input ++ piece,
       Consumes-trans _ _ _ input piece read consumes,
       front ++ piece,

@@ -8,7 +8,7 @@ use Rattle.vmemd.proofs.setting_up.take_setup.Given as goal
 
 abbrev pub invariant-loop-line : goal.invariant-loop-line
 invariant-loop-line g l = (input : List ℕ) × Consumes (g.R.Read.remaining (inner_of l.fn.reader)) (g.R.Read.remaining (inner_of l.reader)) input
-    × (front : List ℕ) × (setup : SetsUp g.S.SetUp.takes l.fn.setup input front l.setup)
+    × (front : List ℕ) × (setup : SetsUp g.S.SetupBuilder.takes l.fn.setup input front l.setup)
     × (l.input.hand ≡ hand_in [] front)
     × (l.number ≡ length setup.lines + 1)
     × (l.input.ended ≡ false)
