@@ -3,15 +3,15 @@ use Rattle.std.proofs.Common.{◌≡◌, refl, sym, ◌∙◌, ap, subst, List, 
 use Rattle.arena_tree.specs.declared.trees.TreeArena.{TreeArena}
 use Rattle.lease_proto.specs.Frames.{Frame}
 use Rattle.lease_proto.specs.Faults.{error_line}
-use Rattle.lease_machine.specs.Picture.{Picture, IsPicture}
+use Rattle.lease_machine.specs.Picture.{Picture, IsPicture, SameSetup}
 use Rattle.lease_machine.specs.Laws.{Runs}
 use Rattle.lease_machine.proofs.LawProofs.{pictures_stay, setup_stays, units_have_one_place, leases_are_apart, audit_is_told, audit_tells_leases, audit_is_whole}
-use Rattle.lease_machine.proofs.LawProofs.{lines_repeat, answers_agree, grants_fit, repeats_fit, first_lease_is_served, freed_is_whole}
+use Rattle.lease_machine.proofs.LawProofs.{lines_repeat, answers_agree, grants_fit, repeats_fit, first_lease_is_served, freed_is_whole, tick_and_reap_empty}
 use Rattle.vmemd.specs.Desks.{IsDeskOf}
 use Rattle.vmemd.proofs.SpanLemmas.{span_there}
 use Rattle.vmemd.proofs.UncachedLemmas.{nothing_kept}
 use Rattle.vmemd.specs.Laws.{Script, ScriptsSplit, ScriptLeasesStayApart, ScriptUnitsHaveOnePlace, ScriptAuditIsTold, ScriptAuditIsWhole}
-use Rattle.vmemd.specs.Laws.{ScriptLinesRepeat, ScriptAnswersAgree, ScriptGrantsFit, ScriptRepeatsFit, ScriptFirstLeaseIsServed, ScriptFreedIsWhole, ScriptReturnedIsWhole}
+use Rattle.vmemd.specs.Laws.{ScriptLinesRepeat, ScriptAnswersAgree, ScriptGrantsFit, ScriptRepeatsFit, ScriptFirstLeaseIsServed, ScriptFreedIsWhole, ScriptReturnedIsWhole, ScriptEmptiedIsWhole}
 
 -- what a script leaves is a picture
 script_picture : (last : Picture) → Script last → IsPicture last
@@ -86,3 +86,13 @@ script_returned_whole old new id l line text a uncached none asks fresh fits =
     let tree : old.tree ≡ s.made.arenas = (setup_stays s.desk old s.frames s.text s.serves).tree ∙ s.opened.opened.tree in
     let bare = subst (λ (t : List TreeArena). All (λ x. x.qcache_max ≡ 0) t) (sym tree) uncached in
     script_freed_whole old new id l line text a (nothing_kept old (script_picture old s) bare none) asks fresh fits
+
+pub script_emptied_whole : ScriptEmptiedIsWhole
+script_emptied_whole old mid late new id l told reaped line text a free none second asks fresh answers fits said =
+    let s = a.script in
+    let before = setup_stays s.desk old s.frames s.text s.serves in
+    let first = a.step.setup in
+    let after : SameSetup s.desk late = record { tree = second.setup.tree ∙ (first.tree ∙ before.tree); owned = second.setup.owned ∙ (first.owned ∙ before.owned) } in
+    let there = span_there s.made s.desk late l s.opened after fits in
+    freed_is_whole late new id l fits.arena there.space second.picture (tick_and_reap_empty old mid late told reaped free none a.step second) there.names there.span fits.base there.owns there.serves
+    (record { line = line; text = text; read = asks; fresh = fresh; step = answers; said = said })

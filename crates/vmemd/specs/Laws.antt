@@ -34,6 +34,7 @@ use Rattle.lease_machine.specs.Machine.{LeaseStep, demand_of}
 use Rattle.lease_machine.specs.Laws.{Runs}
 use Rattle.lease_machine.specs.AnswerLaws.{written, IsUnkept, IsRequestLine, AreOfOthers, FitsLine}
 use Rattle.lease_machine.specs.RoomLaws.{NothingIsKept, refusal_to}
+use Rattle.lease_machine.specs.EmptyingLaws.{HasNoRound}
 use Rattle.vmemd.specs.Scripts.{Makes}
 use Rattle.vmemd.specs.Settings.{TakesSetupLine}
 use Rattle.vmemd.specs.Desks.{IsDeskOf, no_arenas}
@@ -174,4 +175,13 @@ ScriptReturnedIsWhole = (old new : Picture) (id : RequestId) (l : LeaseLine) (li
     → (a : AnswersNext old line text new) → All (λ x. x.qcache_max ≡ 0) a.script.made.arenas
     → leased old.book ≡ [] → IsRequestLine line id (ops.Lease l)
     → IsNew (account_in id.client old.book) id → FitsInSpan a.script.made l
+    → text ≢ written (refusal_to id NoFit)
+
+-- and where CPUs have no round, `tick` and `reap` are enough for that
+abbrev pub ScriptEmptiedIsWhole : Type 0
+ScriptEmptiedIsWhole = (old mid late new : Picture) (id : RequestId) (l : LeaseLine)
+    (told reaped line text : List ℕ) → (a : AnswersNext old (codes "tick") told mid)
+    → leased old.book ≡ [] → All HasNoRound old.cpus → LeaseStep mid (codes "reap") reaped late
+    → IsRequestLine line id (ops.Lease l) → IsNew (account_in id.client late.book) id
+    → LeaseStep late line text new → FitsInSpan a.script.made l
     → text ≢ written (refusal_to id NoFit)

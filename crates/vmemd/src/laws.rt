@@ -3,7 +3,7 @@ ghost use Rattle.vmemd.specs.Laws.{ScriptsSplit, ScriptLeasesStayApart, ScriptUn
 ghost use Rattle.vmemd.specs.Laws.{ScriptAuditIsTold, ScriptAuditIsWhole};
 ghost use Rattle.vmemd.specs.Laws.{ScriptLinesRepeat, ScriptAnswersAgree, ScriptGrantsFit};
 ghost use Rattle.vmemd.specs.Laws.{ScriptRepeatsFit, ScriptFirstLeaseIsServed, ScriptFreedIsWhole};
-ghost use Rattle.vmemd.specs.Laws.{ScriptReturnedIsWhole};
+ghost use Rattle.vmemd.specs.Laws.{ScriptReturnedIsWhole, ScriptEmptiedIsWhole};
 
 /// Whatever setup lines are taken, and whatever lines the desk that they open answers then: after
 /// each of them no two leases of one space overlap, each unit is in one place, and an audit tells
@@ -25,4 +25,10 @@ pub fn answer_laws()
     ensures first { ScriptFirstLeaseIsServed }
     ensures freed { ScriptFreedIsWhole }
     ensures returned { ScriptReturnedIsWhole }
+{}
+
+/// Once nothing is leased and CPUs have no round, two lines empty all caches, and what fits in a span
+/// has room.
+pub fn emptying_laws()
+    ensures emptied { ScriptEmptiedIsWhole }
 {}
