@@ -157,6 +157,7 @@ impl<N: Name> System<N> {
         ensures empty { IfOk result (λ placed. placed ≡ true → cpu.new.hand ≡ None) }
         ensures kept { IfOk result (λ placed. placed ≡ false
             → (cpu.old.hand ≢ None) × (cpu.new.hand ≢ None)) }
+        ensures kept_at_stop { OnErr result ((cpu.old.hand ≢ None) × (cpu.new.hand ≢ None)) }
         ensures stopped { OnErr result (MayStop G.may_stop gate.now) }
     {
         let Some(segment) = cpu.hand.take() else {

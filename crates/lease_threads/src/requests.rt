@@ -1,5 +1,6 @@
 //! Answering one line.
-ghost use Rattle.std.specs.Prelude.{◌≡◌, ◌<◌, None, length, IfOk, IfErr, IfSome, OnErr, true};
+ghost use Rattle.std.specs.Prelude.{◌≡◌, ◌≢◌, ◌<◌, None, length, true};
+ghost use Rattle.std.specs.Prelude.{IfOk, IfErr, IfSome, OnErr};
 ghost use Rattle.deed_core.specs.Request.{Fits};
 ghost use Rattle.arena_tree.specs.Chains.{quantum_in};
 ghost use Rattle.arena_tree.specs.Trees.{nodes_of};
@@ -208,6 +209,7 @@ impl<N: Name> System<N> {
         requires fits { Fits (quantum_in (nodes_of self.now.arenas) arena) request.now
             segment.holding.range.base segment.holding.range.len }
         ensures told { IfOk result (λ r. IsReplyTo self.now.arenas id r.0 r.1) }
+        ensures kept { OnErr result (cpu.new.hand ≢ None) }
         ensures number { cpu.new.number ≡ cpu.old.number }
         ensures held { IfOk result (λ r. IfSome cpu.new.hand (λ _. IsAgain r.0)) }
         ensures stopped { OnErr result (MayStop G.may_stop gate.now) }

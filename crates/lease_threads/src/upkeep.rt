@@ -1,6 +1,7 @@
 //! What keeps a system in shape while it runs: intervals, sizes of magazines, reaping.
-ghost use Rattle.std.specs.Prelude.{◌≡◌, ◌⊎◌, ◌<◌, ◌≤◌, None, false, length};
+ghost use Rattle.std.specs.Prelude.{◌≡◌, ◌⊎◌, ◌<◌, ◌≤◌, None, true, length};
 ghost use Rattle.magazine_layer.specs.Magazines.{IsSize};
+ghost use Rattle.locked_parts.specs.Kinds.{caches_of};
 ghost use Rattle.lease_threads.specs.Reaping.{Reaps, KeepsHand};
 
 use crate::cpus::Cpu;
@@ -11,7 +12,7 @@ use quantum_cache::{EmptyingFault, ReapFault, reap_arena};
 use std::sync::Wait;
 
 impl<N: Name> System<N> {
-    /// Begins an interval in each depot, one after another.
+    /// Begins an interval in each depot, one after another, in order of setup.
     pub fn tick<R: Wait>(&self, rt: &R) {
         self.parts.tick(rt);
     }
@@ -20,7 +21,8 @@ impl<N: Name> System<N> {
     /// of them kept smaller ones before.
     pub fn resize<R: Wait>(&self, rt: &R, arena: u32, size: usize) -> bool
         requires { IsSize size }
-        ensures no_arena { length self.now.arenas ≤ arena → result ≡ false }
+        ensures rose { result ≡ true → (3 < size) × (arena < length self.now.arenas)
+            × (0 < caches_of self.now.arenas arena) }
     {
         if arena as usize >= self.tree().len() {
             return false;
