@@ -19,9 +19,9 @@ use arena_tree::{MOST_ARENAS, MOST_SPANS, Setup};
 use deed_core::{PlainDeed, Range};
 use lease_book::Book;
 use lease_proto::{LINE_ROOM, ServedLine};
-use stock::close_plain_stock;
 use std::alloc::{AllocError, Global};
 use std::marker::Model;
+use stock::close_plain_stock;
 
 /// The root of the book's mark: the number after those of all roots of spans.
 const MARK: u32 = (MOST_ARENAS * MOST_SPANS) as u32;
