@@ -69,8 +69,9 @@ pub fn no_fit_laws()
     ensures never_both { NeverBoth }
 {}
 
-/// A reaping leaves nothing to reap, and a CPU that goes offline no round; so once nothing is leased
-/// lines can empty all caches. A lease is to be asked for again only where something serves it.
+/// A reaping leaves nothing to reap, and a CPU that goes offline no round; so once nothing is
+/// leased lines can empty all caches. A lease is to be asked for again only where something serves
+/// it.
 pub fn emptying_laws()
     ensures reaped { ReapLeavesNone }
     ensures offline { OfflineHasNoRound }

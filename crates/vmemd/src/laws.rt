@@ -27,8 +27,8 @@ pub fn answer_laws()
     ensures returned { ScriptReturnedIsWhole }
 {}
 
-/// Once nothing is leased and CPUs have no round, two lines empty all caches, and what fits in a span
-/// has room.
+/// Once nothing is leased and CPUs have no round, two lines empty all caches, and what fits in a
+/// span has room.
 pub fn emptying_laws()
     ensures emptied { ScriptEmptiedIsWhole }
 {}
