@@ -42,7 +42,7 @@ IsRefused climbing.NoMemory = Unit {0}
 IsRefused (climbing.Stuck t) = Unit {0}
 IsRefused (climbing.Stopped o) = Unit {0}
 
--- a descent: one, and where memory is refused one for each arena above
+-- a descent: one, and out of memory one for each arena above
 pub within_added : (most : Climbed → ℕ) (up : List Level) (x : Result Tag (AddCarveFault Tag)) (n : ℕ) → ((t : Tag) → n ≤ most (Ok t)) → ((f : ClimbFault Tag) → IsRefused f → n + length up ≤ most (Err f)) → Within most (on_add up x) n
 within_added most up (Ok t) n ok err = ok t
 within_added most up (Err (adding.Overlaps t)) n ok err = let h = err (climbing.Stuck t) tt in omega arith

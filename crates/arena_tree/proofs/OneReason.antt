@@ -11,7 +11,7 @@ use Rattle.arena_tree.specs.declared.settings.NewSpan.{NewSpan}
 use Rattle.arena_tree.specs.declared.settings.Setting.TheVariants.{Root, Child, Span}
 use Rattle.arena_tree.specs.declared.setup_faults.SetupFault.{SetupFault}
 use Rattle.arena_tree.specs.declared.setup_faults.SetupFault.TheVariants.{NameTaken, TooMany, NoArena, ChainTooLong, BadQuantum, BadCache, BadRange, NoMemory}
-use Rattle.arena_tree.specs.Trees.{place_in, ChainFrom}
+use Rattle.arena_tree.specs.Trees.{index_in, ChainFrom}
 use Rattle.arena_tree.specs.Setups.{HasRoom, IsFull, HasSource, IsChildQuantum, RefusesRoot, RefusesChild}
 use Rattle.arena_tree.specs.Settings.{SetupState, RefusesNewSpan, IsRoot, HasSpanRoom, CanSpan, BecomesSpan, new_range, span_count}
 use Rattle.arena_tree.specs.Laws.{OneRefusal}
@@ -20,9 +20,9 @@ use Rattle.arena_tree.proofs.TreeLemmas.{chain_one}
 found : {X : Type 0} {o : Option X} (x : X) → o ≡ Some x → o ≡ None → ⊥
 found x some none = let e : Some x ≡ None = sym some ∙ none in cc
 
--- a name has one place
-one_place : {o : Option ℕ} (i j : ℕ) → o ≡ Some i → o ≡ Some j → i ≡ j
-one_place i j at there = let e : Some i ≡ Some j = sym at ∙ there in cc
+-- a name has one index
+one_index : {o : Option ℕ} (i j : ℕ) → o ≡ Some i → o ≡ Some j → i ≡ j
+one_index i j at there = let e : Some i ≡ Some j = sym at ∙ there in cc
 
 not_full : (arenas : List TreeArena) (name : List ℕ) → IsFull arenas name → HasRoom arenas name → ⊥
 not_full arenas name full room = let most = full.1 in let less = room.1 in omega (arith, most, less)
@@ -30,39 +30,39 @@ not_full arenas name full room = let most = full.1 in let less = room.1 in omega
 has_source : (arenas : List TreeArena) (c : NewChild) → IsChildQuantum arenas c → HasSource arenas c
 has_source arenas c is = ((is.1).0, (is.1).1, (is.1).2)
 
-no_source_there : (arenas : List TreeArena) (c : NewChild) → place_in c.source arenas ≡ None → HasSource arenas c → ⊥
+no_source_there : (arenas : List TreeArena) (c : NewChild) → index_in c.source arenas ≡ None → HasSource arenas c → ⊥
 no_source_there arenas c none has = found has.0 (has.2).finds none
 
 -- a chain that takes one more isn't too long
-not_long : (arenas : List TreeArena) (c : NewChild) (id : ℕ) (up : List Level) → place_in c.source arenas ≡ Some id → ChainFrom arenas (Some id) up → 4 ≤ length up → HasSource arenas c → ⊥
+not_long : (arenas : List TreeArena) (c : NewChild) (id : ℕ) (up : List Level) → index_in c.source arenas ≡ Some id → ChainFrom arenas (Some id) up → 4 ≤ length up → HasSource arenas c → ⊥
 not_long arenas c id up finds chain long has =
     let short = (has.2).short in
-    let same : has.0 ≡ id = one_place has.0 id (has.2).finds finds in
+    let same : has.0 ≡ id = one_index has.0 id (has.2).finds finds in
     let other : ChainFrom arenas (Some id) short.0 = subst (λ k. ChainFrom arenas (Some k) short.0) same short.1 in
     let one : up ≡ short.0 = chain_one arenas (Some id) up short.0 chain other in
     let less : length up < 4 = subst (λ (ls : List Level). length ls < 4) (sym one) short.2 in
     omega (arith, long, less)
 
 -- an arena that imports is no root
-no_root : (s : SetupState) (n : NewSpan) → RefusesNewSpan s n NoArena → (id : ℕ) (x : TreeArena) → place_in n.name s.arenas ≡ Some id → IsRoot s.arenas id x → ⊥
+no_root : (s : SetupState) (n : NewSpan) → RefusesNewSpan s n NoArena → (id : ℕ) (x : TreeArena) → index_in n.name s.arenas ≡ Some id → IsRoot s.arenas id x → ⊥
 no_root s n why id x finds root = elim why [
   | inl none ↦ found id finds none
   | inr imports ↦
-      let same : imports.0 ≡ id = one_place imports.0 id imports.3 finds in
+      let same : imports.0 ≡ id = one_index imports.0 id imports.3 finds in
       let there : slice_get s.arenas id ≡ Some imports.1 = subst (λ k. slice_get s.arenas k ≡ Some imports.1) same imports.4 in
       let one : x ≡ imports.1 = slice_get_one s.arenas id x imports.1 root.here there in
       found imports.2 imports.5 (subst (λ (z : TreeArena). z.source ≡ None) one root.root)
 ]
 
-not_many : (s : SetupState) (n : NewSpan) (id : ℕ) → place_in n.name s.arenas ≡ Some id → MOST_SPANS ≤ span_count id s.spans → (id' : ℕ) (x : TreeArena) → HasSpanRoom s n id' x → ⊥
+not_many : (s : SetupState) (n : NewSpan) (id : ℕ) → index_in n.name s.arenas ≡ Some id → MOST_SPANS ≤ span_count id s.spans → (id' : ℕ) (x : TreeArena) → HasSpanRoom s n id' x → ⊥
 not_many s n id finds most id' x room =
-    let same : id' ≡ id = one_place id' id room.finds finds in
+    let same : id' ≡ id = one_index id' id room.finds finds in
     let less : span_count id s.spans < MOST_SPANS = subst (λ k. span_count k s.spans < MOST_SPANS) same room.few in
     omega (arith, most, less)
 
 can_there : (s : SetupState) (n : NewSpan) (id : ℕ) (x : TreeArena) → HasSpanRoom s n id x → (o : OwnedSpan) → BecomesSpan s n o → CanSpan s id x (new_range n)
 can_there s n id x room o is =
-    let same : o.arena ≡ id = one_place o.arena id is.room.finds room.finds in
+    let same : o.arena ≡ id = one_index o.arena id is.room.finds room.finds in
     let there : slice_get s.arenas id ≡ Some is.arena = subst (λ k. slice_get s.arenas k ≡ Some is.arena) same is.room.root.here in
     let one : is.arena ≡ x = slice_get_one s.arenas id is.arena x there room.root.here in
     subst (λ (z : TreeArena). CanSpan s id z (new_range n)) one (subst (λ k. CanSpan s k is.arena (new_range n)) same is.can)

@@ -106,11 +106,11 @@ child_answered old new c (Err f) spans added same setup = subst (λ (s : List Tr
 
 pub root_answered : (old new : List TreeArena) (r : NewRoot) (spans newer : List OwnedSpan) (o : OwnedSpan) → AddsRoot r old new → newer ≡ spans ++ o ∷ [] → o.arena ≡ length old → o.range ≡ root_range r
     → IsSetup (setup_state old spans) → IsSetup (setup_state new newer)
-root_answered old new r spans newer o added put place range setup =
+root_answered old new r spans newer o added put index range setup =
     let is = added.becomes.is in
     let whole : IsWholeRange added.arena.quantum (root_range r) = subst (λ (x : TreeArena). IsWholeRange x.quantum (root_range r)) (sym is) added.becomes.can.range in
     root_added old new added.arena spans newer (root_range r) added.added
-    (put ∙ ap (λ (x : OwnedSpan). spans ++ x ∷ []) (ap (λ k. record { arena = k; range = o.range }) place ∙ ap (λ e. record { arena = length old; range = e }) range))
+    (put ∙ ap (λ (x : OwnedSpan). spans ++ x ∷ []) (ap (λ k. record { arena = k; range = o.range }) index ∙ ap (λ e. record { arena = length old; range = e }) range))
     (ap (λ (x : TreeArena). x.source) is) whole setup
 
 pub span_answered : (arenas : List TreeArena) (spans newer : List OwnedSpan) (n : NewSpan) (o : OwnedSpan) → BecomesSpan (setup_state arenas spans) n o

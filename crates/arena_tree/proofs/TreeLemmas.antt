@@ -9,7 +9,7 @@ use Rattle.arena_tree.specs.declared.levels.Level.{Level}
 use Rattle.arena_tree.specs.declared.trees.TreeArena.{TreeArena}
 use Rattle.arena_tree.specs.declared.limits.TheConstants.{MOST_ARENAS, LONGEST_CHAIN}
 use Rattle.arena_tree.specs.Chains.{IsChain, first_id, first_node}
-use Rattle.arena_tree.specs.Trees.{place_in, ChainFrom, IsArena, IsTree, ImportsFrom, level_of, node_of, nodes_of}
+use Rattle.arena_tree.specs.Trees.{index_in, ChainFrom, IsArena, IsTree, ImportsFrom, level_of, node_of, nodes_of}
 use Rattle.arena_tree.specs.Stored.{AreChains, IsNewChain}
 use Rattle.arena_tree.proofs.TreeNames.{not_named}
 
@@ -79,7 +79,7 @@ short_chains arenas chains are id (l ∷ up) is =
     subst (λ (ls : List Level). length ls ≤ LONGEST_CHAIN) one each.1
 
 -- one arena more
-pub tree_more : (arenas : List TreeArena) (y : TreeArena) (chains : List (Vec Level)) → IsTree arenas → AreChains (arenas ++ y ∷ []) chains → length arenas < MOST_ARENAS → place_in y.name arenas ≡ None → IsArena arenas (length arenas) y
+pub tree_more : (arenas : List TreeArena) (y : TreeArena) (chains : List (Vec Level)) → IsTree arenas → AreChains (arenas ++ y ∷ []) chains → length arenas < MOST_ARENAS → index_in y.name arenas ≡ None → IsArena arenas (length arenas) y
     → IsTree (arenas ++ y ∷ [])
 tree_more arenas y chains tree are room free is = record {
   few = (let n = length-append arenas (y ∷ []) in omega (arith, room, n));
@@ -100,23 +100,23 @@ chains_more arenas y chains chain are new = record {
   count = (let n = length-append arenas (y ∷ []) in let m = length-append chains (chain ∷ []) in let c = are.count in omega (arith, n, m, c));
   each = λ id c at. elim (pushed chains id chain c at) [
     | inl here ↦
-        let place : id ≡ length arenas = here.0 ∙ are.count in
+        let index : id ≡ length arenas = here.0 ∙ are.count in
         let short : length (level_of (length arenas) y ∷ new.up) ≤ LONGEST_CHAIN = (let s = new.short in omega (arith, s)) in
         let made : ChainFrom (arenas ++ y ∷ []) (Some (length arenas)) (level_of (length arenas) y ∷ new.up) × (length (level_of (length arenas) y ∷ new.up) ≤ LONGEST_CHAIN) =
         ((y, slice_get_last arenas y, refl, chain_more arenas y y.source new.up new.above), short) in
         subst (λ (z : Vec Level). ChainFrom (arenas ++ y ∷ []) (Some id) z.items × (length z.items ≤ LONGEST_CHAIN)) (sym here.1)
-        (subst (λ k. ChainFrom (arenas ++ y ∷ []) (Some k) chain.items × (length chain.items ≤ LONGEST_CHAIN)) (sym place)
+        (subst (λ k. ChainFrom (arenas ++ y ∷ []) (Some k) chain.items × (length chain.items ≤ LONGEST_CHAIN)) (sym index)
         (subst (λ (ls : List Level). ChainFrom (arenas ++ y ∷ []) (Some (length arenas)) ls × (length ls ≤ LONGEST_CHAIN)) (sym new.is) made))
     | inr there ↦ (chain_more arenas y (Some id) c.items (are.each id c there).0, (are.each id c there).1)
   ];
 }
 
 -- the same, of what a tree stores
-pub put_keeps : (now items new : List TreeArena) (chains newer : List (Vec Level)) (y : TreeArena) (chain : Vec Level) → items ≡ now → IsTree items × AreChains items chains → length now < MOST_ARENAS → place_in y.name now ≡ None
+pub put_keeps : (now items new : List TreeArena) (chains newer : List (Vec Level)) (y : TreeArena) (chain : Vec Level) → items ≡ now → IsTree items × AreChains items chains → length now < MOST_ARENAS → index_in y.name now ≡ None
     → IsArena now (length now) y → IsNewChain now y chain.items → new ≡ items ++ y ∷ [] → newer ≡ chains ++ chain ∷ [] → IsTree new × AreChains new newer
 put_keeps now items new chains newer y chain is sound room free arena above put put_chain =
     let room' : length items < MOST_ARENAS = subst (λ (s : List TreeArena). length s < MOST_ARENAS) (sym is) room in
-    let free' : place_in y.name items ≡ None = subst (λ (s : List TreeArena). place_in y.name s ≡ None) (sym is) free in
+    let free' : index_in y.name items ≡ None = subst (λ (s : List TreeArena). index_in y.name s ≡ None) (sym is) free in
     let arena' : IsArena items (length items) y = subst (λ (s : List TreeArena). IsArena s (length s) y) (sym is) arena in
     let above' : IsNewChain items y chain.items = subst (λ (s : List TreeArena). IsNewChain s y chain.items) (sym is) above in
     let more : AreChains (items ++ y ∷ []) (chains ++ chain ∷ []) = chains_more items y chains chain sound.1 above' in (

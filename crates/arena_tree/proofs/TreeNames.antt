@@ -7,7 +7,7 @@ use Rattle.std.proofs.lemmas.Option.{slice_get_within, get_or_from_slice_get}
 use Rattle.std.proofs.lemmas.Slice.Eq.{bytes_eq-Decides}
 use Rattle.std.proofs.lemmas.Bool.{ltb-false, lt-ltb, false_from_ne_true}
 use Rattle.arena_tree.specs.declared.trees.TreeArena.{TreeArena}
-use Rattle.arena_tree.specs.Trees.{place_in}
+use Rattle.arena_tree.specs.Trees.{index_in}
 use Rattle.arena_tree.specs.Laws.{OwnName}
 
 -- none passes
@@ -19,7 +19,7 @@ none_passes test xs at = by (nat_lt (position_or_len test xs) (length xs)) refl 
     by false less at = ltb-false _ _ less
 
 -- a name that isn't found is none of theirs
-pub not_named : (name : List ℕ) (arenas : List TreeArena) → place_in name arenas ≡ None → (k : ℕ) (x : TreeArena) → slice_get arenas k ≡ Some x → x.name ≢ name
+pub not_named : (name : List ℕ) (arenas : List TreeArena) → index_in name arenas ≡ None → (k : ℕ) (x : TreeArena) → slice_get arenas k ≡ Some x → x.name ≢ name
 not_named name arenas none k x at same =
     let test = λ (z : TreeArena). bytes_eq z.name name in
     let late : length arenas ≤ position_or_len test arenas = none_passes test arenas none in
@@ -44,6 +44,6 @@ own_name arenas id x tree at =
     let within : id < length arenas = slice_get_within arenas id x at in
     let here : get_or arenas id x ≡ x = get_or_from_slice_get arenas id x x at in
     let mine : test (get_or arenas id x) ≡ true = ap test here ∙ (bytes_eq-Decides x.name x.name).1 refl in
-    let place : position_or_len test arenas ≡ id = position_or_len_is test arenas id x (omega (arith, within)) (other_name arenas tree.names id x at) (λ _. mine) in
-    let less : nat_lt (position_or_len test arenas) (length arenas) ≡ true = lt-ltb (position_or_len test arenas) (length arenas) (omega (arith, place, within)) in
+    let index : position_or_len test arenas ≡ id = position_or_len_is test arenas id x (omega (arith, within)) (other_name arenas tree.names id x at) (λ _. mine) in
+    let less : nat_lt (position_or_len test arenas) (length arenas) ≡ true = lt-ltb (position_or_len test arenas) (length arenas) (omega (arith, index, within)) in
     cc

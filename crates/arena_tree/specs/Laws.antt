@@ -7,7 +7,7 @@ use Rattle.arena_tree.specs.Plans.{Within, Handles, Gives}
 use Rattle.arena_tree.specs.Climbs.{Climbed, Returned, climb_plan, return_plan, climb_left}
 use Rattle.arena_tree.specs.Climbs.{return_left, climb_most, IsGrantOf}
 use Rattle.arena_tree.specs.Told.{Tells, ClimbTold, ReturnTold, NoneFits, OnlyNoFit, no_fits}
-use Rattle.arena_tree.specs.Trees.{IsTree, place_in}
+use Rattle.arena_tree.specs.Trees.{IsTree, index_in}
 use Rattle.arena_tree.specs.Settings.{SetupState, RefusesSetting}
 use Rattle.arena_tree.specs.declared.levels.Level.{Level}
 use Rattle.arena_tree.specs.declared.settings.Setting.{Setting}
@@ -72,4 +72,4 @@ OneRefusal = (s : SetupState) (setting : Setting) (f g : SetupFault)
 -- An arena of a tree is found by its name.
 abbrev pub OwnName : Type 0
 OwnName = (arenas : List TreeArena) (id : ℕ) (x : TreeArena) → IsTree arenas
-    → slice_get arenas id ≡ Some x → place_in x.name arenas ≡ Some id
+    → slice_get arenas id ≡ Some x → index_in x.name arenas ≡ Some id

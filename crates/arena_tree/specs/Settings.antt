@@ -15,7 +15,7 @@ use Rattle.arena_tree.specs.declared.setup_faults.SetupFault.TheVariants.{NameTa
 use Rattle.arena_tree.specs.declared.setup_faults.SetupFault.TheVariants.{NoArena, ChainTooLong}
 use Rattle.arena_tree.specs.declared.setup_faults.SetupFault.TheVariants.{BadQuantum, BadCache}
 use Rattle.arena_tree.specs.declared.setup_faults.SetupFault.TheVariants.{BadRange, NoMemory}
-use Rattle.arena_tree.specs.Trees.{place_in, IsWholeRange}
+use Rattle.arena_tree.specs.Trees.{index_in, IsWholeRange}
 use Rattle.arena_tree.specs.Setups.{root_range, CanRoot, CanChild, RefusesRoot, RefusesChild}
 use Rattle.arena_tree.specs.Setups.{AddsRoot, AddsChild}
 
@@ -58,7 +58,7 @@ new_range n = record { base = n.base; len = n.len }
 
 -- the root that a span is asked for, which may own one more
 pub record HasSpanRoom (s : SetupState) (n : NewSpan) (id : ℕ) (x : TreeArena) : Type 0 where
-  pub finds : place_in n.name s.arenas ≡ Some id
+  pub finds : index_in n.name s.arenas ≡ Some id
   pub root : IsRoot s.arenas id x
   pub few : span_count id s.spans < MOST_SPANS
 
@@ -69,7 +69,7 @@ CanSpan s id x e = IsWholeRange x.quantum e
 
 -- the arena of this name imports its spans
 abbrev pub IsImporter : SetupState → List ℕ → Type 0
-IsImporter s name = (id : ℕ) × (x : TreeArena) × (source : ℕ) × (place_in name s.arenas ≡ Some id)
+IsImporter s name = (id : ℕ) × (x : TreeArena) × (source : ℕ) × (index_in name s.arenas ≡ Some id)
     × (slice_get s.arenas id ≡ Some x) × (x.source ≡ Some source)
 
 -- nothing speaks against the span, and this is what the root comes to own
@@ -81,8 +81,8 @@ pub record BecomesSpan (s : SetupState) (n : NewSpan) (o : OwnedSpan) : Type 0 w
 
 -- why a span is refused; memory is asked for only where nothing speaks against it
 abbrev pub RefusesNewSpan : SetupState → NewSpan → SetupFault → Type 0
-RefusesNewSpan s n NoArena = (place_in n.name s.arenas ≡ None) ⊎ IsImporter s n.name
-RefusesNewSpan s n TooMany = (id : ℕ) × (x : TreeArena) × (place_in n.name s.arenas ≡ Some id)
+RefusesNewSpan s n NoArena = (index_in n.name s.arenas ≡ None) ⊎ IsImporter s n.name
+RefusesNewSpan s n TooMany = (id : ℕ) × (x : TreeArena) × (index_in n.name s.arenas ≡ Some id)
     × IsRoot s.arenas id x × (MOST_SPANS ≤ span_count id s.spans)
 RefusesNewSpan s n BadRange = (id : ℕ) × (x : TreeArena) × HasSpanRoom s n id x
     × (¬ CanSpan s id x (new_range n))

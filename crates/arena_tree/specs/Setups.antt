@@ -13,18 +13,18 @@ use Rattle.arena_tree.specs.declared.setup_faults.SetupFault.TheVariants.{NameTa
 use Rattle.arena_tree.specs.declared.setup_faults.SetupFault.TheVariants.{NoArena, ChainTooLong}
 use Rattle.arena_tree.specs.declared.setup_faults.SetupFault.TheVariants.{BadQuantum, BadCache}
 use Rattle.arena_tree.specs.declared.setup_faults.SetupFault.TheVariants.{BadRange, NoMemory}
-use Rattle.arena_tree.specs.Trees.{place_in, ChainFrom, IsWholeRange, CanCache, HasCaches}
+use Rattle.arena_tree.specs.Trees.{index_in, ChainFrom, IsWholeRange, CanCache, HasCaches}
 
 -- an arena has the name
 abbrev pub IsTaken : List TreeArena → List ℕ → Type 0
-IsTaken arenas name = (id : ℕ) × (place_in name arenas ≡ Some id)
+IsTaken arenas name = (id : ℕ) × (index_in name arenas ≡ Some id)
 
 -- the name is free, and there is room for one more
 abbrev pub HasRoom : List TreeArena → List ℕ → Type 0
-HasRoom arenas name = (place_in name arenas ≡ None) × (length arenas < MOST_ARENAS)
+HasRoom arenas name = (index_in name arenas ≡ None) × (length arenas < MOST_ARENAS)
 
 abbrev pub IsFull : List TreeArena → List ℕ → Type 0
-IsFull arenas name = (place_in name arenas ≡ None) × (MOST_ARENAS ≤ length arenas)
+IsFull arenas name = (index_in name arenas ≡ None) × (MOST_ARENAS ≤ length arenas)
 
 -- the range that a root asks for
 abbrev pub root_range : NewRoot → Extent
@@ -51,7 +51,7 @@ RefusesRoot arenas r NoMemory = CanRoot arenas r
 
 -- the source is this arena, and its chain takes one more
 pub record IsSource (arenas : List TreeArena) (c : NewChild) (id : ℕ) (y : TreeArena) : Type 0 where
-  pub finds : place_in c.source arenas ≡ Some id
+  pub finds : index_in c.source arenas ≡ Some id
   pub here : slice_get arenas id ≡ Some y
   pub short : (up : List Level) × ChainFrom arenas (Some id) up × (length up < LONGEST_CHAIN)
 
@@ -72,9 +72,9 @@ pub record CanChild (arenas : List TreeArena) (c : NewChild) : Type 0 where
 abbrev pub RefusesChild : List TreeArena → NewChild → SetupFault → Type 0
 RefusesChild arenas c NameTaken = IsTaken arenas c.name
 RefusesChild arenas c TooMany = IsFull arenas c.name
-RefusesChild arenas c NoArena = HasRoom arenas c.name × (place_in c.source arenas ≡ None)
+RefusesChild arenas c NoArena = HasRoom arenas c.name × (index_in c.source arenas ≡ None)
 RefusesChild arenas c ChainTooLong = HasRoom arenas c.name × ((id : ℕ) × (up : List Level)
-    × (place_in c.source arenas ≡ Some id) × ChainFrom arenas (Some id) up
+    × (index_in c.source arenas ≡ Some id) × ChainFrom arenas (Some id) up
     × (LONGEST_CHAIN ≤ length up))
 RefusesChild arenas c BadQuantum = HasRoom arenas c.name × HasSource arenas c
     × (¬ IsChildQuantum arenas c)

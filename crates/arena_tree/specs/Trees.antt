@@ -11,8 +11,8 @@ use Rattle.arena_tree.specs.declared.trees.TreeArena.{TreeArena}
 use Rattle.arena_tree.specs.Chains.{Node}
 
 -- the number of the arena of this name
-abbrev pub place_in : List ℕ → List TreeArena → Option ℕ
-place_in name arenas = position (λ x. bytes_eq x.name name) arenas
+abbrev pub index_in : List ℕ → List TreeArena → Option ℕ
+index_in name arenas = position (λ x. bytes_eq x.name name) arenas
 
 -- what lists of steps need of an arena
 abbrev pub level_of : ℕ → TreeArena → Level

@@ -64,7 +64,7 @@ impl Setup {
         &self.tree
     }
 
-    /// The owned spans, in order of coming. A span's place is a number that no other span has.
+    /// The owned spans, in order of coming. A span's index is a number that no other span has.
     pub fn spans(&self) -> &[OwnedSpan]
         ensures value { result.now ≡ self.now.spans }
         ensures setup { IsSetup self.now }

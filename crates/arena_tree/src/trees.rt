@@ -3,7 +3,7 @@ ghost use Rattle.std.specs.Prelude.{◌≡◌, ◌≢◌, ◌<◌, ◌≤◌, Li
 ghost use Rattle.std.specs.Prelude.{slice_get, Some, IfSome, IfOk, IfErr, OnOk, OnErr};
 ghost use Rattle.std.specs.Str.{bytes_eq};
 ghost use Rattle.arena_tree.specs.Chains.{IsChain};
-ghost use Rattle.arena_tree.specs.Trees.{place_in, level_of, nodes_of, ChainFrom, IsArena, IsTree};
+ghost use Rattle.arena_tree.specs.Trees.{index_in, level_of, nodes_of, ChainFrom, IsArena, IsTree};
 ghost use Rattle.arena_tree.specs.Stored.{IsNewChain};
 ghost use Rattle.arena_tree.specs.Setups.{BecomesRoot, BecomesChild, RefusesRoot, RefusesChild};
 ghost use Rattle.arena_tree.specs.Setups.{AddsRoot, AddsChild};
@@ -19,7 +19,7 @@ use std::alloc::{AllocError, Global};
 use std::marker::Model;
 use tag_arena::Policy;
 
-/// An arena of a tree. Its number is its place, in order of coming.
+/// An arena of a tree. Its number is its index, in order of coming.
 #[derive(Clone, Copy, Debug, PartialEq, Eq)]
 pub struct TreeArena {
     pub name: Name,
@@ -87,12 +87,12 @@ impl Tree {
 
     /// The number of the arena of this name.
     pub fn find(&self, name: &Name) -> Option<u32>
-        ensures place { result ≡ place_in name.now self.now }
+        ensures index { result ≡ index_in name.now self.now }
         ensures within { IfSome result (λ id. id < length self.now) }
     {
         let text = name.as_slice();
         match position_of(&self.arenas, text) {
-            Some(place) => Some(place as u32),
+            Some(index) => Some(index as u32),
             None => None,
         }
     }
@@ -217,7 +217,7 @@ impl Tree {
     /// Adds an arena that nothing speaks against, with its chain.
     fn put(&mut self, arena: TreeArena, chain: Vec<Level>) -> Result<(), AllocError>
         requires few { length self.old < MOST_ARENAS }
-        requires name { place_in arena.name self.old ≡ None }
+        requires name { index_in arena.name self.old ≡ None }
         requires arena { IsArena self.old (length self.old) arena }
         requires chain { IsNewChain self.old arena chain.items }
         ensures ok { OnOk result (self.new ≡ self.old ++ arena ∷ []) }

@@ -6,7 +6,7 @@ use Rattle.atomic_table.proofs.Lists.{set_else}
 use Rattle.deed_core.proofs.LawProofs.{sum_by-smaller, sum_add}
 use Rattle.deed_table.specs.declared.views.View.{View}
 use Rattle.deed_table.specs.Piece.{piece_at, covering_of, count_of, CoverOnce}
-use Rattle.deed_table.specs.View.{spent}
+use Rattle.deed_table.specs.View.{spent_view}
 use Rattle.deed_table.specs.Rule.{is_left, CoversOnceEach, EachUnitOnce, OneSeatEach, LeftHasNoRange}
 use Rattle.deed_table.specs.Seated.{NoTwoOverlap}
 use Rattle.deed_table.proofs.Sums.{sum_by-set_at, le-sum_by}
@@ -17,10 +17,10 @@ pub units_once : EachUnitOnce
 units_once views k root unit is_open = let a = k.each root unit in let b = k.one_place root in let c = opened_le views root unit in omega arith
 
 -- two views at two places weigh no more than all
-two_le : (f : View → ℕ) (views : List View) (i j : ℕ) (v w : View) → get_elem? views i ≡ some v → get_elem? views j ≡ some w → j ≢ i → f v + f w ≤ sum_by f views + f spent
+two_le : (f : View → ℕ) (views : List View) (i j : ℕ) (v w : View) → get_elem? views i ≡ some v → get_elem? views j ≡ some w → j ≢ i → f v + f w ≤ sum_by f views + f spent_view
 two_le f views i j v w at too apart =
-    let a = sum_by-set_at f views i v spent at in
-    let b = le-sum_by f (set views i spent) j w (set_else views i j spent apart ∙ too) in
+    let a = sum_by-set_at f views i v spent_view at in
+    let b = le-sum_by f (set views i spent_view) j w (set_else views i j spent_view apart ∙ too) in
     omega arith
 
 -- two seats cover no unit of a root twice

@@ -9,7 +9,7 @@ use Rattle.deed_core.specs.Extent.{Extent}
 use Rattle.deed_table.specs.declared.views.Piece.{Piece}
 use Rattle.deed_table.specs.declared.views.View.{View}
 use Rattle.deed_table.specs.Piece.{covers_of, covering_of, is_of, count_of, first_piece, other_pieces, CutsFirst, CoverOnce}
-use Rattle.deed_table.specs.View.{numbers_of, spent, low_part, high_part, merged, beside, first_part, other_part, numbers_below, numbers_after, opened_at, AreJoinable, NoneLeft}
+use Rattle.deed_table.specs.View.{numbers_of, spent_view, low_part, high_part, merged_view, beside, first_part, other_part, numbers_below, numbers_after, opened_at, AreJoinable, NoneLeft}
 use Rattle.deed_table.specs.Rule.{is_left, CoversOnceEach}
 use Rattle.deed_table.proofs.Sums.{sum_by-set_at, sum_by-split, sum_by-join, le-sum_by}
 use Rattle.deed_table.proofs.Covers.{one_if, none_covered, one_covered, covering_cut, covering_merged, covering_le}
@@ -30,7 +30,7 @@ pub record Even (a b c d : View) : Type 0 where
   pub roots : (root unit : ℕ) → rooted root unit a + rooted root unit b ≡ rooted root unit c + rooted root unit d
   pub numbers : (root : ℕ) → stood root a + stood root b ≡ stood root c + stood root d
 
-pub keeps_split : (views : List View) (i : ℕ) (v low high : View) → CoversOnceEach views → get_elem? views i ≡ some v → Even low high v spent → CoversOnceEach (set views i low ++ high ∷ [])
+pub keeps_split : (views : List View) (i : ℕ) (v low high : View) → CoversOnceEach views → get_elem? views i ≡ some v → Even low high v spent_view → CoversOnceEach (set views i low ++ high ∷ [])
 keeps_split views i v low high k at e =
     record {
       each = λ root unit.
@@ -38,26 +38,26 @@ keeps_split views i v low high k at e =
           let b = sum_by-split (rooted root unit) views i v low high at (omega (arith, e.roots root unit)) in
           a ∙ (k.each root unit ∙ sym b);
       one_place = λ root.
-          let a = sum_by-split (stood root) views i v low high at (let z = none_covered root (numbers_of spent) refl in omega (arith, e.numbers root)) in
+          let a = sum_by-split (stood root) views i v low high at (let z = none_covered root (numbers_of spent_view) refl in omega (arith, e.numbers root)) in
           let b = k.one_place root in
           omega arith;
     }
 
-pub keeps_join : (views : List View) (i j : ℕ) (v w both : View) → CoversOnceEach views → get_elem? views i ≡ some v → get_elem? (set views i both) j ≡ some w → Even both spent v w
-    → CoversOnceEach (set (set views i both) j spent)
+pub keeps_join : (views : List View) (i j : ℕ) (v w both : View) → CoversOnceEach views → get_elem? views i ≡ some v → get_elem? (set views i both) j ≡ some w → Even both spent_view v w
+    → CoversOnceEach (set (set views i both) j spent_view)
 keeps_join views i j v w both k at too e =
     record {
       each = λ root unit.
-          let a = sum_by-join (ranged root unit) views i j v w both spent at too (e.ranges root unit) in
-          let b = sum_by-join (rooted root unit) views i j v w both spent at too (e.roots root unit) in
+          let a = sum_by-join (ranged root unit) views i j v w both spent_view at too (e.ranges root unit) in
+          let b = sum_by-join (rooted root unit) views i j v w both spent_view at too (e.roots root unit) in
           a ∙ (k.each root unit ∙ sym b);
       one_place = λ root.
-          let a = sum_by-join (stood root) views i j v w both spent at too (e.numbers root) in
+          let a = sum_by-join (stood root) views i j v w both spent_view at too (e.numbers root) in
           let b = k.one_place root in
           omega arith;
     }
 
-pub even_cut : (at : ℕ) (v : View) → CutsFirst at v.ranges → Even (low_part at v) (high_part at v) v spent
+pub even_cut : (at : ℕ) (v : View) → CutsFirst at v.ranges → Even (low_part at v) (high_part at v) v spent_view
 even_cut at v inside =
     record {
       ranges = λ root unit. let c = covering_cut root unit at v.ranges inside in omega arith;
@@ -65,33 +65,33 @@ even_cut at v inside =
       numbers = λ root. refl;
     }
 
-pub even_merged : (v w : View) → AreJoinable v w → Even (merged v w) spent v w
+pub even_merged : (v w : View) → AreJoinable v w → Even (merged_view v w) spent_view v w
 even_merged v w can =
     record {
       ranges = λ root unit. let c = covering_merged root unit v.ranges w.ranges can.0 in omega arith;
       roots = λ root unit. let c = sum_by-append (covers_of root unit) v.roots w.roots in omega arith;
       numbers = λ root.
           let a = sum_by-append (is_of root) v.roots w.roots in
-          let z = none_covered root (numbers_of spent) refl in
+          let z = none_covered root (numbers_of spent_view) refl in
           let x = none_covered root (numbers_of v) can.1 in
           let y = none_covered root (numbers_of w) can.2 in
           omega arith;
     }
 
-pub even_beside : (v w : View) → NoneLeft v w → Even (beside v w) spent v w
+pub even_beside : (v w : View) → NoneLeft v w → Even (beside v w) spent_view v w
 even_beside v w none =
     record {
       ranges = λ root unit. let c = sum_by-append (covers_of root unit) v.ranges w.ranges in omega arith;
       roots = λ root unit. let c = sum_by-append (covers_of root unit) v.roots w.roots in omega arith;
       numbers = λ root.
           let a = sum_by-append (is_of root) v.roots w.roots in
-          let z = none_covered root (numbers_of spent) refl in
+          let z = none_covered root (numbers_of spent_view) refl in
           let x = none_covered root (numbers_of v) none.0 in
           let y = none_covered root (numbers_of w) none.1 in
           omega arith;
     }
 
-pub even_part : (v : View) → Even (first_part v) (other_part v) v spent
+pub even_part : (v : View) → Even (first_part v) (other_part v) v spent_view
 even_part v =
     record {
       ranges = λ root unit. by root unit v.ranges;
@@ -104,14 +104,14 @@ even_part v =
     by root unit (p ∷ ps) = omega (arith, sum_by-cons (covers_of root unit) p ps)
 
 -- an opener, whose numbers are shared
-pub even_share : (n : ℕ) (v : View) → n ≤ v.left → Even (numbers_after n v) (numbers_below n v) v spent
+pub even_share : (n : ℕ) (v : View) → n ≤ v.left → Even (numbers_after n v) (numbers_below n v) v spent_view
 even_share n v left =
     record {
       ranges = λ root unit. refl;
       roots = λ root unit. refl;
       numbers = λ root.
           let c = covers_cut root (numbers_of (numbers_below n v)) (numbers_of (numbers_after n v)) (numbers_of v) refl refl (omega arith) in
-          let z = none_covered root (numbers_of spent) refl in
+          let z = none_covered root (numbers_of spent_view) refl in
           omega arith;
     }
 
@@ -147,7 +147,7 @@ keeps_open views i v e k at no_ranges no_roots one =
           let a = sum_by-set_at (stood root) views i v w at in
           let b = k.one_place root in
           let x : count_of root v.roots ≡ 0 = ap (count_of root) no_roots in
-          let y = none_covered root (numbers_of spent) refl in
+          let y = none_covered root (numbers_of spent_view) refl in
           let z : is_left root v ≡ one_if (root == v.first) = one_covered root (numbers_of v) one in
           omega arith;
     }

@@ -6,10 +6,11 @@ use Rattle.std.specs.Prelude.{◌≡◌, ◌≢◌, ℕ, ◌^◌, ◌<◌, ◌�
 use Rattle.deed_core.specs.Extent.{Extent}
 use Rattle.deed_table.specs.declared.views.View.{View}
 use Rattle.deed_table.specs.Piece.{CutsFirst}
-use Rattle.deed_table.specs.View.{opener, spent, low_part, high_part, merged, beside, first_part}
+use Rattle.deed_table.specs.View.{opener, spent_view, low_part, high_part, merged_view, beside}
+use Rattle.deed_table.specs.View.{first_part}
 use Rattle.deed_table.specs.View.{other_part, numbers_below, numbers_after, opened_at, AreJoinable}
 use Rattle.deed_table.specs.View.{NoneLeft}
-use Rattle.deed_table.specs.Rule.{CoversOnceEach, opened, covered}
+use Rattle.deed_table.specs.Rule.{CoversOnceEach, open_count, cover_count}
 
 -- the seat i gives a part of its view to a new seat
 abbrev pub SplitsInto : List View → List View → ℕ → View → View → View → Type 0
@@ -20,7 +21,7 @@ SplitsInto old new i v kept given =
 abbrev pub JoinsInto : List View → List View → ℕ → ℕ → View → View → View → Type 0
 JoinsInto old new i j v w both =
     (get_elem? old i ≡ some v) × (get_elem? old j ≡ some w) × (j ≢ i)
-    × (new ≡ set (set old i both) j spent)
+    × (new ≡ set (set old i both) j spent_view)
 
 pub data Steps (old new : List View) : Type 0 where
   -- a deed is cut
@@ -32,7 +33,7 @@ pub data Steps (old new : List View) : Type 0 where
   shares : (i n : ℕ) (v : View) →
       SplitsInto old new i v (numbers_after n v) (numbers_below n v) → n ≤ v.left → Steps old new
   -- two deeds that touch are made one
-  merges : (i j : ℕ) (v w : View) → JoinsInto old new i j v w (merged v w) →
+  merges : (i j : ℕ) (v w : View) → JoinsInto old new i j v w (merged_view v w) →
       AreJoinable v w → Steps old new
   -- two deeds are put beside each other
   gathers : (i j : ℕ) (v w : View) → JoinsInto old new i j v w (beside v w) →
@@ -61,5 +62,5 @@ RunsKeepRule = (later : List (List View)) → AreSteps (opener 0 (2 ^ 32) ∷ []
 -- once a unit is opened, it is covered once after any number of steps
 abbrev pub OpenedStaysCovered : Type 0
 OpenedStaysCovered = (now : List View) (later : List (List View)) → CoversOnceEach now →
-    AreSteps now later → (root unit : ℕ) → 0 < opened root unit now →
-    covered root unit (last_view now later) ≡ 1
+    AreSteps now later → (root unit : ℕ) → 0 < open_count root unit now →
+    cover_count root unit (last_view now later) ≡ 1

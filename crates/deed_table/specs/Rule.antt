@@ -7,32 +7,32 @@ use Rattle.deed_core.specs.Extent.{Extent}
 use Rattle.deed_core.specs.Covering.{covers}
 use Rattle.deed_table.specs.declared.views.View.{View}
 use Rattle.deed_table.specs.Piece.{covering_of, count_of, CoverOnce}
-use Rattle.deed_table.specs.View.{numbers_of, opened_at, spent}
+use Rattle.deed_table.specs.View.{numbers_of, opened_at, spent_view}
 
 -- 1 where the root number is one of those left to the seat, else 0
 abbrev pub is_left : ℕ → View → ℕ
 is_left root v = covers root (numbers_of v)
 
 -- how many ranges of all views cover the unit of the root
-abbrev pub covered : ℕ → ℕ → List View → ℕ
-covered root unit views = sum_by (λ v. covering_of root unit v.ranges) views
+abbrev pub cover_count : ℕ → ℕ → List View → ℕ
+cover_count root unit views = sum_by (λ v. covering_of root unit v.ranges) views
 
 -- how many opened roots of all views have this number and this unit
-abbrev pub opened : ℕ → ℕ → List View → ℕ
-opened root unit views = sum_by (λ v. covering_of root unit v.roots) views
+abbrev pub open_count : ℕ → ℕ → List View → ℕ
+open_count root unit views = sum_by (λ v. covering_of root unit v.roots) views
 
 -- in how many views the root number is left
 abbrev pub left_in : ℕ → List View → ℕ
 left_in root views = sum_by (is_left root) views
 
 -- in how many places the root number stands: as an opened root's, or as one that is left
-abbrev pub standing : ℕ → List View → ℕ
-standing root views = sum_by (λ v. count_of root v.roots + is_left root v) views
+abbrev pub standing_count : ℕ → List View → ℕ
+standing_count root views = sum_by (λ v. count_of root v.roots + is_left root v) views
 
 -- Each unit is covered as often as it is opened, and each root number stands in one place at most
 pub record CoversOnceEach (views : List View) : Type 0 where
-  pub each : (root unit : ℕ) → covered root unit views ≡ opened root unit views
-  pub one_place : (root : ℕ) → standing root views ≤ 1
+  pub each : (root unit : ℕ) → cover_count root unit views ≡ open_count root unit views
+  pub one_place : (root : ℕ) → standing_count root views ≤ 1
 
 -- a seat's view, and the slots that it has, which are none
 abbrev pub Sitter : Type 0
@@ -49,7 +49,7 @@ Opens range step old found new = new ≡ (opened_at range old.0, old.1)
 -- from the opening of a root on, each of its units lies in one range of one view
 abbrev pub EachUnitOnce : Type 0
 EachUnitOnce = (views : List View) → CoversOnceEach views → (root unit : ℕ) →
-    0 < opened root unit views → covered root unit views ≡ 1
+    0 < open_count root unit views → cover_count root unit views ≡ 1
 
 -- no unit lies in ranges of two seats
 abbrev pub OneSeatEach : Type 0
@@ -60,10 +60,11 @@ OneSeatEach = (views : List View) → CoversOnceEach views → (i j : ℕ) (v w 
 -- a number that is left is left to one seat, and has no range
 abbrev pub LeftHasNoRange : Type 0
 LeftHasNoRange = (views : List View) → CoversOnceEach views → (root : ℕ) →
-    0 < left_in root views → (left_in root views ≡ 1) × ((unit : ℕ) → covered root unit views ≡ 0)
+    0 < left_in root views
+    → (left_in root views ≡ 1) × ((unit : ℕ) → cover_count root unit views ≡ 0)
 
 -- a seat that was joined into another covers nothing, opened nothing, and has no number left
 abbrev pub SpentIsEmpty : Type 0
 SpentIsEmpty = (root unit : ℕ) →
-    (covering_of root unit spent.ranges ≡ 0) × (count_of root spent.roots ≡ 0)
-    × (is_left root spent ≡ 0)
+    (covering_of root unit spent_view.ranges ≡ 0) × (count_of root spent_view.roots ≡ 0)
+    × (is_left root spent_view ≡ 0)

@@ -10,7 +10,7 @@ use Rattle.deed_table.specs.Piece.{piece_of}
 use Rattle.deed_table.specs.Rule.{Sitter, CoversOnceEach}
 
 -- the root numbers that are left to an opener
-pub record Numbers : Type 0 where
+pub record OpenerState : Type 0 where
   pub first : ℕ
   pub left : ℕ
 

@@ -15,8 +15,8 @@ abbrev pub opener : ℕ → ℕ → View
 opener first left = record { ranges = []; roots = []; first = first; left = left }
 
 -- nothing at all: a seat that was joined into another
-abbrev pub spent : View
-spent = opener 0 0
+abbrev pub spent_view : View
+spent_view = opener 0 0
 
 -- these ranges and opened roots, and no number left
 abbrev pub holder : List Piece → List Piece → View
@@ -30,8 +30,8 @@ abbrev pub high_part : ℕ → View → View
 high_part at v = holder (high_pieces at v.ranges) []
 
 -- what two views cover, with ranges that touch made one
-abbrev pub merged : View → View → View
-merged v w = holder (merged_pieces v.ranges w.ranges) (v.roots ++ w.roots)
+abbrev pub merged_view : View → View → View
+merged_view v w = holder (merged_pieces v.ranges w.ranges) (v.roots ++ w.roots)
 
 -- what two views cover, beside each other
 abbrev pub beside : View → View → View

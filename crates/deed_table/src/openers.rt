@@ -2,7 +2,7 @@
 ghost use Rattle.std.specs.Prelude.{◌≡◌, ◌+◌, ◌-◌, ◌^◌, ◌<◌, ◌≤◌, [], IfOk, OnOk, OnErr};
 ghost use Rattle.std.specs.Arc.{arc_value};
 ghost use Rattle.atomic_table.specs.Seated.{TableId, table_id_coded};
-ghost use Rattle.deed_table.specs.Seated.{AreAt, Numbers};
+ghost use Rattle.deed_table.specs.Seated.{AreAt, OpenerState};
 ghost use Rattle.deed_table.specs.View.{opener};
 
 use crate::deeds::SeatDeed;
@@ -76,7 +76,7 @@ pub struct Opener<N: Name> {
 }
 
 impl<N: Name> Model for Opener<N> {
-    ghost Value = { Numbers };
+    ghost Value = { OpenerState };
 
     ghost view = { λ o. record { first = o.first; left = o.left } };
 

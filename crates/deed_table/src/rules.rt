@@ -34,22 +34,22 @@ impl<C: Chosen> Split<View> for CutAt<C> {
 pub struct Merge;
 
 impl Join<View> for Merge {
-    ghost use Rattle.deed_table.specs.View.{merged, spent};
+    ghost use Rattle.deed_table.specs.View.{merged_view, spent_view};
 
-    ghost both = { merged };
+    ghost both = { merged_view };
 
-    ghost spent = { spent };
+    ghost spent = { spent_view };
 }
 
 /// Two views lie beside each other.
 pub struct Beside;
 
 impl Join<View> for Beside {
-    ghost use Rattle.deed_table.specs.View.{beside, spent};
+    ghost use Rattle.deed_table.specs.View.{beside, spent_view};
 
     ghost both = { beside };
 
-    ghost spent = { spent };
+    ghost spent = { spent_view };
 }
 
 /// The first range stays, and the others go to a new seat.

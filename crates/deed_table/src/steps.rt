@@ -4,7 +4,8 @@
 ghost use Rattle.std.specs.Prelude.{◌≡◌, ◌≤◌, []};
 ghost use Rattle.deed_table.specs.Name.{SitsAt};
 ghost use Rattle.deed_table.specs.Piece.{CutsFirst, CoverOnce};
-ghost use Rattle.deed_table.specs.View.{AreJoinable, NoneLeft, low_part, high_part, merged, beside};
+ghost use Rattle.deed_table.specs.View.{AreJoinable, NoneLeft, low_part, high_part, merged_view};
+ghost use Rattle.deed_table.specs.View.{beside};
 ghost use Rattle.deed_table.specs.View.{first_part, other_part, numbers_below, numbers_after};
 ghost use Rattle.deed_table.specs.View.{opened_at};
 
@@ -41,7 +42,7 @@ pub(crate) fn merge(table: &DeedTable, seat: &mut Seat<(), View>, other: Seat<()
     requires other { (other.table_id ≡ table.now.shared.table_id) × (other.me.1 ≡ []) }
     requires meets { AreJoinable seat.old.me.0 other.me.0 }
     ensures table { seat.new.table_id ≡ seat.old.table_id }
-    ensures view { seat.new.me ≡ (merged seat.old.me.0 other.me.0, seat.old.me.1) }
+    ensures view { seat.new.me ≡ (merged_view seat.old.me.0 other.me.0, seat.old.me.1) }
 {
     table.shared.join_seat::<Merge>(seat, other);
 }

@@ -8,7 +8,7 @@ use Rattle.tag_arena.proofs.Members.{All-from_members, Contains-nil, Contains-re
 use Rattle.sorted_rows.specs.Order.{Rises, place_below}
 use Rattle.sorted_rows.proofs.PlaceLemmas.{rises_insert}
 use Rattle.fast_arena.specs.FreeTags.{FreeTag, since_of, tag_at, SlotBecomes, by_age, IsTimed}
-use Rattle.fast_arena.specs.Slotted.{taken}
+use Rattle.fast_arena.specs.Slotted.{taken_count}
 use Rattle.fast_arena.proofs.Slotting.{one_of}
 use Rattle.fast_arena.proofs.Listing.{None≢Some, Some-injective, Contains-inserted, Contains-insert, Contains-insert_cases, AllPairs-remove, rank_at_place, same_rising, rises_push}
 
@@ -47,7 +47,7 @@ rises_by_age (Some t ∷ rest) timed =
     let rec = rises_by_age rest (timed_rest (Some t) rest timed) in
     rises_insert since_of (by_age rest) (place_below since_of t.since (by_age rest)) t rec (rank_at_place since_of t.since (by_age rest) rec) (absent_time t rest timed)
 
-pub length-by_age : (tags : List (Option FreeTag)) → IsTimed tags → length (by_age tags) ≡ taken tags
+pub length-by_age : (tags : List (Option FreeTag)) → IsTimed tags → length (by_age tags) ≡ taken_count tags
 unfolding by_age
 length-by_age [] timed = refl
 length-by_age (None ∷ rest) timed = let h = length-by_age rest (timed_rest None rest timed) in omega (arith, h)

@@ -17,20 +17,20 @@ use Rattle.fast_arena.specs.declared.orders.Order.TheVariants.{Falling}
 use Rattle.fast_arena.specs.Cuts.{CarvesOut, IsCut}
 use Rattle.fast_arena.specs.FreeRanges.{IsIndexed}
 use Rattle.fast_arena.specs.FreeTags.{FreeTag, tag_at, ranges_by_age}
-use Rattle.fast_arena.specs.Orders.{rank_of, entry_of, Ordered}
-use Rattle.fast_arena.specs.Slotted.{SlotTable}
+use Rattle.fast_arena.specs.Orders.{rank_of, entry_of, OrderedIndexState}
+use Rattle.fast_arena.specs.Slotted.{SlotsState}
 use Rattle.fast_arena.proofs.Fitting.{tag_of_free}
 use Rattle.fast_arena.proofs.Indexing.{found_first}
 
 -- the tag of a free range is found by its base
-pub found_range : (policy : Policy) (s : SlotTable) (f z l r : Ordered) (clock room : ℕ) → IsIndexed policy s f z l r clock room → (range : Holding) (base : ℕ) → Rises rank_of f.items → Contains (ranges_by_age s.tags) range → base ≡ range.range.base
+pub found_range : (policy : Policy) (s : SlotsState) (f z l r : OrderedIndexState) (clock room : ℕ) → IsIndexed policy s f z l r clock room → (range : Holding) (base : ℕ) → Rises rank_of f.items → Contains (ranges_by_age s.tags) range → base ≡ range.range.base
     → (k : ℕ) × (t : FreeTag) × (tag_at s.tags k ≡ Some t) × (t.range ≡ range) × (first_from rank_of ((2 ^ 62 - base) * 2 ^ 64 + 0) f.items ≡ Some (entry_of Falling k t))
 found_range policy s f z l r clock room x range base rises among base_is =
     let w = tag_of_free s.tags range among in
     (w.0, w.1, w.2, w.3, found_first policy s f z l r clock room x w.0 w.1 base rises w.2 (ap (λ h. h.range.base) w.3 ∙ sym base_is))
 
 -- the same slots
-pub same_table : (s s2 : SlotTable) → s2.tags ≡ s.tags → s2.room ≡ s.room → s2 ≡ s
+pub same_table : (s s2 : SlotsState) → s2.tags ≡ s.tags → s2.room ≡ s.room → s2 ≡ s
 same_table s s2 tags room = ap (λ (l : List (Option FreeTag)). record { tags = l; room = s2.room }) tags ∙ ap (λ (n : ℕ). record { tags = s.tags; room = n }) room
 
 module _ (old mid : List Holding) (range : Holding) (ranges : All (λ r. IsRange r.range) old) (apart : AllPairs Apart old) (out : Without old range mid) where

@@ -9,7 +9,7 @@ use Rattle.tag_arena.specs.Place.{Serves, ServesIn}
 use Rattle.tag_arena.specs.Choice.{IsBest}
 use Rattle.tag_arena.proofs.SpanLists.{Contains-from_map}
 use Rattle.sorted_rows.specs.Order.{Rises, first_from}
-use Rattle.fast_arena.specs.declared.entries.Entry.{Entry}
+use Rattle.fast_arena.specs.declared.entries.IndexEntry.{IndexEntry}
 use Rattle.fast_arena.specs.declared.orders.Order.TheVariants.{Sizes}
 use Rattle.fast_arena.specs.FreeTags.{FreeTag, range_of, tag_at, by_age, ranges_by_age}
 use Rattle.fast_arena.specs.Orders.{rank_of, entry_of, Mirrors}
@@ -43,7 +43,7 @@ served_first quantum q tags units is k t here below b serves =
     let to = serves.to in
     omega (arith, is, below, from, to)
 
-module _ (quantum : ℕ) (q : Request) (items : List Entry) (tags : List (Option FreeTag)) (m : Mirrors Sizes items tags) (rises : Rises rank_of items) where
+module _ (quantum : ℕ) (q : Request) (items : List IndexEntry) (tags : List (Option FreeTag)) (m : Mirrors Sizes items tags) (rises : Rises rank_of items) where
   -- no range below a key serves
   abbrev pub Served : ℕ → Type 0
   Served key = (k : ℕ) (t : FreeTag) → tag_at tags k ≡ Some t → rank_of (entry_of Sizes k t) < key → (b : ℕ) → ServesIn quantum q t.range b → ⊥
@@ -54,7 +54,7 @@ module _ (quantum : ℕ) (q : Request) (items : List Entry) (tags : List (Option
       let one = same_member rank_of items (entry_of Sizes k t) (entry_of Sizes j u) rises (m.into k t at_k) (m.into j u at_j) same in
       Some-injective (sym at_k ∙ (ap (λ e. tag_at tags e.slot) one ∙ at_j))
 
-  module _ (key : ℕ) (e : Entry) (t : FreeTag) (first : IsFirst rank_of key items rises e) (at : tag_at tags e.slot ≡ Some t) (is : e ≡ entry_of Sizes e.slot t) where
+  module _ (key : ℕ) (e : IndexEntry) (t : FreeTag) (first : IsFirst rank_of key items rises e) (at : tag_at tags e.slot ≡ Some t) (is : e ≡ entry_of Sizes e.slot t) where
     pub served_more : (next : ℕ) → next ≡ rank_of e + 1 → Served key → ((b : ℕ) → ServesIn quantum q t.range b → ⊥) → Served next
     served_more next more served none k u here below b serves =
         ⊎_elim (λ lt. served k u here lt b serves)

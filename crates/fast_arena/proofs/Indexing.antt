@@ -12,9 +12,9 @@ use Rattle.sorted_rows.specs.Order.{Rises, first_from, place_below}
 use Rattle.fast_arena.specs.declared.orders.Order.{Order}
 use Rattle.fast_arena.specs.declared.orders.Order.TheVariants.{Falling, Sizes, Lists, Rising}
 use Rattle.fast_arena.specs.FreeTags.{FreeTag, range_of, tag_at, SlotBecomes, by_age, ranges_by_age, IsTag, IsTimed, AreTags}
-use Rattle.fast_arena.specs.Orders.{rank_of, entry_of, Ordered, Mirrors, KeepsUp, HasPlace, IsAbsent, IsPresent}
-use Rattle.fast_arena.specs.Slotted.{SlotTable, taken}
-use Rattle.fast_arena.specs.FreeRanges.{IsKept, IsIndexed}
+use Rattle.fast_arena.specs.Orders.{rank_of, entry_of, OrderedIndexState, Mirrors, KeepsUp, HasRoomForOne, IsAbsent, IsPresent}
+use Rattle.fast_arena.specs.Slotted.{SlotsState, taken_count}
+use Rattle.fast_arena.specs.FreeRanges.{MeetsPolicy, IsIndexed}
 use Rattle.fast_arena.proofs.Listing.{map-remove, place_of_member}
 use Rattle.fast_arena.proofs.Aging.{in_by_age, from_by_age, length-by_age, put_cases, timed_put, aged_put, take_cases, timed_take, aged_take}
 use Rattle.fast_arena.proofs.Mirroring.{place_for, absent_for, present_for}
@@ -30,7 +30,7 @@ tag_of_range tags P h =
     let r = from_by_age tags w.0 w.1 in
     (r.0, w.0, r.1, subst P (sym w.2) h.4)
 
-pub taken_below : (tags : List (Option FreeTag)) (room : ℕ) → IsTimed tags → length (ranges_by_age tags) < room → taken tags < room
+pub taken_below : (tags : List (Option FreeTag)) (room : ℕ) → IsTimed tags → length (ranges_by_age tags) < room → taken_count tags < room
 taken_below tags room timed lt = omega (arith, lt, length-by_age tags timed, length-map (by_age tags) range_of)
 
 pub tags_later : (clock : ℕ) (tags : List (Option FreeTag)) → AreTags clock tags → AreTags (clock + 1) tags
@@ -52,9 +52,9 @@ module _ (clock k : ℕ) (old new : List (Option FreeTag)) (t : FreeTag) (are : 
       let h = newer now j u here in
       (All-contains (λ r. r.range.base ≢ t.range.range.base) (ranges_by_age old) u.range absent (range_is_free old j u here), omega (arith, h))
 
-module _ (policy : Policy) (s s2 : SlotTable) (f z l r f2 z2 l2 r2 : Ordered) (clock room k : ℕ) (t : FreeTag) (x : IsIndexed policy s f z l r clock room) where
+module _ (policy : Policy) (s s2 : SlotsState) (f z l r f2 z2 l2 r2 : OrderedIndexState) (clock room k : ℕ) (t : FreeTag) (x : IsIndexed policy s f z l r clock room) where
   pub indexed_put : tag_at s.tags k ≡ None → SlotBecomes s.tags s2.tags k (Some t) → s2.room ≡ s.room → IsTag (clock + 1) t → t.since ≡ clock + 1
-      → IsKept policy Falling s2 room f2 → IsKept policy Sizes s2 room z2 → IsKept policy Lists s2 room l2 → IsKept policy Rising s2 room r2 → IsIndexed policy s2 f2 z2 l2 r2 (clock + 1) room
+      → MeetsPolicy policy Falling s2 room f2 → MeetsPolicy policy Sizes s2 room z2 → MeetsPolicy policy Lists s2 room l2 → MeetsPolicy policy Rising s2 room r2 → IsIndexed policy s2 f2 z2 l2 r2 (clock + 1) room
   indexed_put vacant becomes same is now hf hz hl hr =
       let later = newer clock k s.tags s2.tags t x.tags now in
       record {
@@ -68,7 +68,7 @@ module _ (policy : Policy) (s s2 : SlotTable) (f z l r f2 z2 l2 r2 : Ordered) (c
       }
 
   pub indexed_take : tag_at s.tags k ≡ Some t → SlotBecomes s.tags s2.tags k None → s2.room ≡ s.room
-      → IsKept policy Falling s2 room f2 → IsKept policy Sizes s2 room z2 → IsKept policy Lists s2 room l2 → IsKept policy Rising s2 room r2 → IsIndexed policy s2 f2 z2 l2 r2 clock room
+      → MeetsPolicy policy Falling s2 room f2 → MeetsPolicy policy Sizes s2 room z2 → MeetsPolicy policy Lists s2 room l2 → MeetsPolicy policy Rising s2 room r2 → IsIndexed policy s2 f2 z2 l2 r2 clock room
   indexed_take here becomes same hf hz hl hr = record {
     timed = timed_take s.tags s2.tags k t x.timed here becomes;
     tags = λ j u stays. x.tags j u (take_cases s.tags s2.tags k t becomes j u stays).1;
@@ -90,7 +90,7 @@ module _ (old new : List (Option FreeTag)) (k : ℕ) (t : FreeTag) (timed : IsTi
       (a.0, omega (arith, a.1, length-map (by_age old) range_of), (λ d. get_or-map range_of (by_age old) a.0 t d a.1 ∙ ap range_of (a.2 t)), ap (map range_of) a.3 ∙ map-remove range_of (by_age old) a.0)
 
 -- where the range stands that begins at a base
-module _ (policy : Policy) (s : SlotTable) (f z l r : Ordered) (clock room : ℕ) (x : IsIndexed policy s f z l r clock room) where
+module _ (policy : Policy) (s : SlotsState) (f z l r : OrderedIndexState) (clock room : ℕ) (x : IsIndexed policy s f z l r clock room) where
   pub falling_mirrors : Mirrors Falling f.items s.tags
   falling_mirrors =
       let up = subst (λ b. KeepsUp b f.order f.items f.room s.tags room) x.falling.kept_is x.falling.keeps_up in
@@ -105,8 +105,8 @@ module _ (policy : Policy) (s : SlotTable) (f z l r : Ordered) (clock room : ℕ
       ap (λ p. slice_get f.items p) place ∙ (slice_get-get_or f.items c.0 e0 c.1 ∙ ap (λ e. Some e) c.2)
 
 -- what a kept index asks before a range is put in
-module _ (policy : Policy) (order : Order) (s : SlotTable) (room : ℕ) (i : Ordered) (is : IsKept policy order s room i) where
-  pub place_in : IsTimed s.tags → length (ranges_by_age s.tags) < room → HasPlace i.kept i.items i.room
+module _ (policy : Policy) (order : Order) (s : SlotsState) (room : ℕ) (i : OrderedIndexState) (is : MeetsPolicy policy order s room i) where
+  pub place_in : IsTimed s.tags → length (ranges_by_age s.tags) < room → HasRoomForOne i.kept i.items i.room
   place_in timed lt = place_for i.kept i.order i.items i.room room s.tags is.keeps_up (taken_below s.tags room timed lt)
 
   pub absent_in : (clock k : ℕ) (t : FreeTag) → AreTags clock s.tags → IsTag (clock + 1) t → t.since ≡ clock + 1 → clock + 1 < 2 ^ 64 → All (λ r. r.range.base ≢ t.range.range.base) (ranges_by_age s.tags) → IsAbsent i.kept i.items (rank_of (entry_of i.order k t))

@@ -3,7 +3,7 @@ use Rattle.std.proofs.Common.{◌≡◌, ℕ, ◌+◌, ◌-◌, ◌*◌, ◌^◌
 use Rattle.deed_core.specs.Extent.{IsRange}
 use Rattle.tag_arena.proofs.Members.{All-from_members}
 use Rattle.sorted_rows.specs.Order.{Rises, first_from}
-use Rattle.fast_arena.specs.declared.entries.Entry.{Entry}
+use Rattle.fast_arena.specs.declared.entries.IndexEntry.{IndexEntry}
 use Rattle.fast_arena.specs.declared.orders.Order.TheVariants.{Falling}
 use Rattle.fast_arena.specs.FreeTags.{FreeTag, tag_at, ranges_by_age, AreTags}
 use Rattle.fast_arena.specs.Fits.{IsLastBy}
@@ -16,7 +16,7 @@ use Rattle.fast_arena.proofs.Searching.{IsFirst, none_from}
 abbrev pub falling_key : ℕ → ℕ
 falling_key base = (2 ^ 62 - base) * 2 ^ 64 + 0
 
-module _ (base clock : ℕ) (items : List Entry) (tags : List (Option FreeTag)) (m : Mirrors Falling items tags) (rises : Rises rank_of items) (are : AreTags clock tags) (le : base ≤ 2 ^ 62) where
+module _ (base clock : ℕ) (items : List IndexEntry) (tags : List (Option FreeTag)) (m : Mirrors Falling items tags) (rises : Rises rank_of items) (are : AreTags clock tags) (le : base ≤ 2 ^ 62) where
   pub none_by : first_from rank_of (falling_key base) items ≡ None → IsLastBy base (ranges_by_age tags) None
   none_by none =
       All-from_members (λ r. base < r.range.base) (ranges_by_age tags)
@@ -27,7 +27,7 @@ module _ (base clock : ℕ) (items : List Entry) (tags : List (Option FreeTag)) 
       let b = ap (λ x. x.range.base) w.3 in
       omega (arith, below, top, b, le))
 
-  pub some_by : (e : Entry) (t : FreeTag) → IsFirst rank_of (falling_key base) items rises e → tag_at tags e.slot ≡ Some t → e ≡ entry_of Falling e.slot t → IsLastBy base (ranges_by_age tags) (Some t.range)
+  pub some_by : (e : IndexEntry) (t : FreeTag) → IsFirst rank_of (falling_key base) items rises e → tag_at tags e.slot ≡ Some t → e ≡ entry_of Falling e.slot t → IsLastBy base (ranges_by_age tags) (Some t.range)
   some_by e t first at is =
       let rank_e = ap rank_of is in
       let top_t = (are e.slot t at).range.below in (

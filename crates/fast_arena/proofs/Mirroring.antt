@@ -5,13 +5,13 @@ use Rattle.std.proofs.lemmas.List.Edits.{length-insert, length-remove}
 use Rattle.tag_arena.proofs.Members.{All-from_members, Contains-remove, remove_kept, remove_pairs}
 use Rattle.tag_arena.specs.declared.policies.Policy.{Policy}
 use Rattle.sorted_rows.specs.Order.{Rises, PutsIn, TakesOut, place_below}
-use Rattle.fast_arena.specs.declared.entries.Entry.{Entry}
+use Rattle.fast_arena.specs.declared.entries.IndexEntry.{IndexEntry}
 use Rattle.fast_arena.specs.declared.orders.Order.{Order}
 use Rattle.fast_arena.specs.declared.orders.Order.TheVariants.{Falling, Sizes, Lists, Rising}
 use Rattle.fast_arena.specs.FreeTags.{FreeTag, tag_at, SlotBecomes, IsTag, AreTags}
-use Rattle.fast_arena.specs.Orders.{rank_of, entry_of, Ordered, Mirrors, KeepsUp, IsAbsent, IsPresent, HasPlace, PutsEntry, TakesEntry}
-use Rattle.fast_arena.specs.Slotted.{SlotTable, taken}
-use Rattle.fast_arena.specs.FreeRanges.{IsKept}
+use Rattle.fast_arena.specs.Orders.{rank_of, entry_of, OrderedIndexState, Mirrors, KeepsUp, IsAbsent, IsPresent, HasRoomForOne, PutsEntry, TakesEntry}
+use Rattle.fast_arena.specs.Slotted.{SlotsState, taken_count}
+use Rattle.fast_arena.specs.FreeRanges.{MeetsPolicy}
 use Rattle.fast_arena.proofs.Listing.{Some-injective, Contains-inserted, Contains-insert, Contains-insert_cases, rank_at_place, place_of_member}
 use Rattle.fast_arena.proofs.Aging.{put_cases, put_kept, take_cases}
 
@@ -29,7 +29,7 @@ ranks_differ Sizes clock j k u t hu ht fits base since e = let a = hu.range.belo
 ranks_differ Lists clock j k u t hu ht fits base since e = let a = hu.since in let b = ht.since in omega (arith, a, b, fits, since, e)
 ranks_differ Rising clock j k u t hu ht fits base since e = let a = hu.range.below in let b = ht.range.below in omega (arith, a, b, base, e)
 
-module _ (order : Order) (items : List Entry) (tags : List (Option FreeTag)) (m : Mirrors order items tags) where
+module _ (order : Order) (items : List IndexEntry) (tags : List (Option FreeTag)) (m : Mirrors order items tags) where
   -- no entry has the key of a tag that differs from all
   pub absent_entry : (clock k : ℕ) (t : FreeTag) → AreTags clock tags → IsTag clock t → clock < 2 ^ 64 → ((j : ℕ) (u : FreeTag) → tag_at tags j ≡ Some u → (u.range.range.base ≢ t.range.range.base) × (u.since ≢ t.since)) → All (λ e. rank_of e ≢ rank_of (entry_of order k t)) items
   absent_entry clock k t are is fits differs =
@@ -43,12 +43,12 @@ module _ (order : Order) (items : List Entry) (tags : List (Option FreeTag)) (m 
   present_entry k t here = let c = m.into k t here in (c.0, entry_of order k t, c.1, c.2, refl)
 
   -- one more
-  pub mirrors_put : (new : List (Option FreeTag)) (items2 : List Entry) (k : ℕ) (t : FreeTag) → tag_at tags k ≡ None → SlotBecomes tags new k (Some t) → ((j : ℕ) (u : FreeTag) → tag_at tags j ≡ Some u → u.since < t.since)
-      → taken new ≡ taken tags + 1 → Rises rank_of items → PutsIn rank_of (entry_of order k t) items items2 → Mirrors order items2 new
+  pub mirrors_put : (new : List (Option FreeTag)) (items2 : List IndexEntry) (k : ℕ) (t : FreeTag) → tag_at tags k ≡ None → SlotBecomes tags new k (Some t) → ((j : ℕ) (u : FreeTag) → tag_at tags j ≡ Some u → u.since < t.since)
+      → taken_count new ≡ taken_count tags + 1 → Rises rank_of items → PutsIn rank_of (entry_of order k t) items items2 → Mirrors order items2 new
   mirrors_put new items2 k t vacant becomes newer count rises puts =
       let e0 = entry_of order k t in
       let p = place_below rank_of (rank_of e0) items in
-      let into_new : (e : Entry) → Contains (insert items p e0) e → Contains items2 e = λ e h. subst (λ l. Contains l e) (sym puts) h in
+      let into_new : (e : IndexEntry) → Contains (insert items p e0) e → Contains items2 e = λ e h. subst (λ l. Contains l e) (sym puts) h in
       record {
         from = λ e h.
             ⊎_elim
@@ -69,7 +69,7 @@ module _ (order : Order) (items : List Entry) (tags : List (Option FreeTag)) (m 
       }
 
   -- one less
-  pub mirrors_take : (new : List (Option FreeTag)) (items2 : List Entry) (k : ℕ) (t : FreeTag) → tag_at tags k ≡ Some t → SlotBecomes tags new k None → taken new + 1 ≡ taken tags → Rises rank_of items
+  pub mirrors_take : (new : List (Option FreeTag)) (items2 : List IndexEntry) (k : ℕ) (t : FreeTag) → tag_at tags k ≡ Some t → SlotBecomes tags new k None → taken_count new + 1 ≡ taken_count tags → Rises rank_of items
       → TakesOut rank_of (rank_of (entry_of order k t)) items items2 → ((j : ℕ) (u : FreeTag) → tag_at new j ≡ Some u → (j ≢ k) × (tag_at tags j ≡ Some u)) → Mirrors order items2 new
   mirrors_take new items2 k t here becomes count rises takes cases =
       let e0 = entry_of order k t in
@@ -101,42 +101,42 @@ module _ (order : Order) (items : List Entry) (tags : List (Option FreeTag)) (m 
       }
 
 -- the same for an index that may not be kept
-pub place_for : (kept : Bool) (order : Order) (items : List Entry) (room wanted : ℕ) (tags : List (Option FreeTag)) → KeepsUp kept order items room tags wanted → taken tags < wanted → HasPlace kept items room
+pub place_for : (kept : Bool) (order : Order) (items : List IndexEntry) (room wanted : ℕ) (tags : List (Option FreeTag)) → KeepsUp kept order items room tags wanted → taken_count tags < wanted → HasRoomForOne kept items room
 place_for true order items room wanted tags h lt = omega (arith, h.0.count, h.1, lt)
 place_for false order items room wanted tags h lt = tt
 
-pub absent_for : (kept : Bool) (order : Order) (items : List Entry) (room wanted : ℕ) (tags : List (Option FreeTag)) (clock k : ℕ) (t : FreeTag) → KeepsUp kept order items room tags wanted → AreTags clock tags → IsTag clock t → clock < 2 ^ 64
+pub absent_for : (kept : Bool) (order : Order) (items : List IndexEntry) (room wanted : ℕ) (tags : List (Option FreeTag)) (clock k : ℕ) (t : FreeTag) → KeepsUp kept order items room tags wanted → AreTags clock tags → IsTag clock t → clock < 2 ^ 64
     → ((j : ℕ) (u : FreeTag) → tag_at tags j ≡ Some u → (u.range.range.base ≢ t.range.range.base) × (u.since ≢ t.since)) → IsAbsent kept items (rank_of (entry_of order k t))
 absent_for true order items room wanted tags clock k t h are is fits differs = absent_entry order items tags h.0 clock k t are is fits differs
 absent_for false order items room wanted tags clock k t h are is fits differs = tt
 
-pub present_for : (kept : Bool) (order : Order) (items : List Entry) (room wanted : ℕ) (tags : List (Option FreeTag)) (k : ℕ) (t : FreeTag) → KeepsUp kept order items room tags wanted → tag_at tags k ≡ Some t → IsPresent kept items (rank_of (entry_of order k t))
+pub present_for : (kept : Bool) (order : Order) (items : List IndexEntry) (room wanted : ℕ) (tags : List (Option FreeTag)) (k : ℕ) (t : FreeTag) → KeepsUp kept order items room tags wanted → tag_at tags k ≡ Some t → IsPresent kept items (rank_of (entry_of order k t))
 present_for true order items room wanted tags k t h here = present_entry order items tags h.0 k t here
 present_for false order items room wanted tags k t h here = tt
 
-put_for : (kept : Bool) (order : Order) (items items2 : List Entry) (room wanted : ℕ) (tags new : List (Option FreeTag)) (k : ℕ) (t : FreeTag) → KeepsUp kept order items room tags wanted → tag_at tags k ≡ None → SlotBecomes tags new k (Some t)
-    → ((j : ℕ) (u : FreeTag) → tag_at tags j ≡ Some u → u.since < t.since) → taken new ≡ taken tags + 1 → Rises rank_of items → PutsEntry kept (entry_of order k t) items items2 → KeepsUp kept order items2 room new wanted
+put_for : (kept : Bool) (order : Order) (items items2 : List IndexEntry) (room wanted : ℕ) (tags new : List (Option FreeTag)) (k : ℕ) (t : FreeTag) → KeepsUp kept order items room tags wanted → tag_at tags k ≡ None → SlotBecomes tags new k (Some t)
+    → ((j : ℕ) (u : FreeTag) → tag_at tags j ≡ Some u → u.since < t.since) → taken_count new ≡ taken_count tags + 1 → Rises rank_of items → PutsEntry kept (entry_of order k t) items items2 → KeepsUp kept order items2 room new wanted
 put_for true order items items2 room wanted tags new k t h vacant becomes newer count rises puts = (mirrors_put order items tags h.0 new items2 k t vacant becomes newer count rises puts, h.1)
 put_for false order items items2 room wanted tags new k t h vacant becomes newer count rises puts = tt
 
-take_for : (kept : Bool) (order : Order) (items items2 : List Entry) (room wanted : ℕ) (tags new : List (Option FreeTag)) (k : ℕ) (t : FreeTag) → KeepsUp kept order items room tags wanted → tag_at tags k ≡ Some t → SlotBecomes tags new k None
-    → taken new + 1 ≡ taken tags → Rises rank_of items → TakesEntry kept (rank_of (entry_of order k t)) items items2 → ((j : ℕ) (u : FreeTag) → tag_at new j ≡ Some u → (j ≢ k) × (tag_at tags j ≡ Some u)) → KeepsUp kept order items2 room new wanted
+take_for : (kept : Bool) (order : Order) (items items2 : List IndexEntry) (room wanted : ℕ) (tags new : List (Option FreeTag)) (k : ℕ) (t : FreeTag) → KeepsUp kept order items room tags wanted → tag_at tags k ≡ Some t → SlotBecomes tags new k None
+    → taken_count new + 1 ≡ taken_count tags → Rises rank_of items → TakesEntry kept (rank_of (entry_of order k t)) items items2 → ((j : ℕ) (u : FreeTag) → tag_at new j ≡ Some u → (j ≢ k) × (tag_at tags j ≡ Some u)) → KeepsUp kept order items2 room new wanted
 take_for true order items items2 room wanted tags new k t h here becomes count rises takes cases = (mirrors_take order items tags h.0 new items2 k t here becomes count rises takes cases, h.1)
 take_for false order items items2 room wanted tags new k t h here becomes count rises takes cases = tt
 
 -- an index of an order, with one more and one less
-module _ (policy : Policy) (order : Order) (old new : SlotTable) (room : ℕ) (i i2 : Ordered) (is : IsKept policy order old room i) (rest : i2 ≡ record i { items = i2.items }) where
-  kept_so : KeepsUp i.kept i.order i2.items i.room new.tags room → IsKept policy order new room i2
+module _ (policy : Policy) (order : Order) (old new : SlotsState) (room : ℕ) (i i2 : OrderedIndexState) (is : MeetsPolicy policy order old room i) (rest : i2 ≡ record i { items = i2.items }) where
+  kept_so : KeepsUp i.kept i.order i2.items i.room new.tags room → MeetsPolicy policy order new room i2
   kept_so h = record {
     order_is = ap (λ x. x.order) rest ∙ is.order_is;
     kept_is = ap (λ x. x.kept) rest ∙ is.kept_is;
     keeps_up = subst (λ x. KeepsUp x.kept x.order i2.items x.room new.tags room) (sym rest) h;
   }
 
-  pub kept_put : (k : ℕ) (t : FreeTag) → tag_at old.tags k ≡ None → SlotBecomes old.tags new.tags k (Some t) → ((j : ℕ) (u : FreeTag) → tag_at old.tags j ≡ Some u → u.since < t.since) → taken new.tags ≡ taken old.tags + 1
-      → Rises rank_of i.items → PutsEntry i.kept (entry_of i.order k t) i.items i2.items → IsKept policy order new room i2
+  pub kept_put : (k : ℕ) (t : FreeTag) → tag_at old.tags k ≡ None → SlotBecomes old.tags new.tags k (Some t) → ((j : ℕ) (u : FreeTag) → tag_at old.tags j ≡ Some u → u.since < t.since) → taken_count new.tags ≡ taken_count old.tags + 1
+      → Rises rank_of i.items → PutsEntry i.kept (entry_of i.order k t) i.items i2.items → MeetsPolicy policy order new room i2
   kept_put k t vacant becomes newer count rises puts = kept_so (put_for i.kept i.order i.items i2.items i.room room old.tags new.tags k t is.keeps_up vacant becomes newer count rises puts)
 
-  pub kept_take : (k : ℕ) (t : FreeTag) → tag_at old.tags k ≡ Some t → SlotBecomes old.tags new.tags k None → taken new.tags + 1 ≡ taken old.tags → Rises rank_of i.items
-      → TakesEntry i.kept (rank_of (entry_of i.order k t)) i.items i2.items → IsKept policy order new room i2
+  pub kept_take : (k : ℕ) (t : FreeTag) → tag_at old.tags k ≡ Some t → SlotBecomes old.tags new.tags k None → taken_count new.tags + 1 ≡ taken_count old.tags → Rises rank_of i.items
+      → TakesEntry i.kept (rank_of (entry_of i.order k t)) i.items i2.items → MeetsPolicy policy order new room i2
   kept_take k t here becomes count rises takes = kept_so (take_for i.kept i.order i.items i2.items i.room room old.tags new.tags k t is.keeps_up here becomes count rises takes (λ j u e. take_cases old.tags new.tags k t becomes j u e))

@@ -11,7 +11,7 @@ use Rattle.deed_core.specs.Holding.{Holding}
 use Rattle.tag_arena.specs.Choice.{OnList, ListServes, NoListServes, IsInstant}
 use Rattle.tag_arena.proofs.PowerLists.{one_list}
 use Rattle.sorted_rows.specs.Order.{Rises, first_from}
-use Rattle.fast_arena.specs.declared.entries.Entry.{Entry}
+use Rattle.fast_arena.specs.declared.entries.IndexEntry.{IndexEntry}
 use Rattle.fast_arena.specs.declared.orders.Order.TheVariants.{Lists}
 use Rattle.fast_arena.specs.FreeTags.{FreeTag, range_of, since_of, tag_at, by_age, ranges_by_age, AreTags, IsTimed}
 use Rattle.fast_arena.specs.Orders.{rank_of, entry_of, Mirrors}
@@ -50,7 +50,7 @@ module _ (quantum j : ℕ) (is : quantum ≡ 2 ^ j) where
       let same : 2 ^ p ≡ 2 ^ (i + j) = ap (λ n. 2 ^ n) e in
       (omega (arith, low, same, list_power i), omega (arith, high, same, next_list i))
 
-module _ (quantum units list clock : ℕ) (items : List Entry) (tags : List (Option FreeTag)) (power : IsPowerOfTwo quantum) (m : Mirrors Lists items tags) (rises : Rises rank_of items) (fits : clock < 2 ^ 64) (are : AreTags clock tags) (least : (p : ℕ) → units ≤ 2 ^ p → list ≤ p) where
+module _ (quantum units list clock : ℕ) (items : List IndexEntry) (tags : List (Option FreeTag)) (power : IsPowerOfTwo quantum) (m : Mirrors Lists items tags) (rises : Rises rank_of items) (fits : clock < 2 ^ 64) (are : AreTags clock tags) (least : (p : ℕ) → units ≤ 2 ^ p → list ≤ p) where
   abbrev list_key : ℕ
   list_key = list * 2 ^ 64 + 0
 
@@ -69,7 +69,7 @@ module _ (quantum units list clock : ℕ) (items : List Entry) (tags : List (Opt
       let below = none_from rank_of list_key items rises none (entry_of Lists w.0 w.1) (m.into w.0 w.1 w.2) in
       omega (arith, below, l.1)
 
-  module _ (large : units ≤ 2 ^ list) (some : quantum ≤ units) (timed : IsTimed tags) (e : Entry) (t : FreeTag) (first : IsFirst rank_of list_key items rises e) (at : tag_at tags e.slot ≡ Some t) (is : e ≡ entry_of Lists e.slot t) where
+  module _ (large : units ≤ 2 ^ list) (some : quantum ≤ units) (timed : IsTimed tags) (e : IndexEntry) (t : FreeTag) (first : IsFirst rank_of list_key items rises e) (at : tag_at tags e.slot ≡ Some t) (is : e ≡ entry_of Lists e.slot t) where
     its_list : list ≤ t.power
     its_list = let from = first.from in let rank = ap rank_of is in let since = (are e.slot t at).since in omega (arith, from, rank, since, fits)
 

@@ -10,7 +10,7 @@ use Rattle.tag_arena.specs.Place.{IsLeast, Serves, ServesIn}
 use Rattle.tag_arena.proofs.Ranges.{apart_or_share, same_where_shared, Any-member, member-Any}
 use Rattle.sorted_rows.specs.Order.{Rises}
 use Rattle.sorted_rows.specs.Weights.{heavy_from}
-use Rattle.fast_arena.specs.declared.entries.Entry.{Entry}
+use Rattle.fast_arena.specs.declared.entries.IndexEntry.{IndexEntry}
 use Rattle.fast_arena.specs.declared.orders.Order.TheVariants.{Rising}
 use Rattle.fast_arena.specs.FreeTags.{FreeTag, ranges_by_age, AreTags}
 use Rattle.fast_arena.specs.Orders.{rank_of, entry_of, Mirrors}
@@ -98,8 +98,8 @@ module _ (free : List Holding) (ranges : All (λ r. IsRange r.range) free) (apar
     by_none last r b h lt serves past = let over = All-contains (λ x. start < x.range.base) free r last h in omega (arith, over, lt)
 
 -- what the index passes by
-module _ (units from clock : ℕ) (items : List Entry) (tags : List (Option FreeTag)) (m : Mirrors Rising items tags) (rises : Rises rank_of items) (are : AreTags clock tags) where
-  pub light_between : (e : Entry) (t : FreeTag) → IsHeavy rank_of (λ x. x.minor) (from * 2 ^ 64 + 0) units items rises e → e ≡ entry_of Rising e.slot t → (r : Holding) → Contains (ranges_by_age tags) r → from ≤ r.range.base → r.range.base < t.range.range.base → r.range.len < units
+module _ (units from clock : ℕ) (items : List IndexEntry) (tags : List (Option FreeTag)) (m : Mirrors Rising items tags) (rises : Rises rank_of items) (are : AreTags clock tags) where
+  pub light_between : (e : IndexEntry) (t : FreeTag) → IsHeavy rank_of (λ x. x.minor) (from * 2 ^ 64 + 0) units items rises e → e ≡ entry_of Rising e.slot t → (r : Holding) → Contains (ranges_by_age tags) r → from ≤ r.range.base → r.range.base < t.range.range.base → r.range.len < units
   light_between e t heavy is r h low lt =
       let w = tag_of_free tags r h in
       let rank_e = ap rank_of is in

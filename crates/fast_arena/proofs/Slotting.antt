@@ -7,15 +7,15 @@ use Rattle.std.specs.Global.{Vec}
 use Rattle.deed_core.specs.Holding.{Holding}
 use Rattle.tag_arena.proofs.Members.{All-from_members, AllPairs-append, Contains-cases, Contains-nil}
 use Rattle.fast_arena.specs.FreeTags.{FreeTag, tag_at, SlotBecomes}
-use Rattle.fast_arena.specs.Slotted.{taken, IsSlotted}
+use Rattle.fast_arena.specs.Slotted.{taken_count, IsSlotted}
 use Rattle.fast_arena.proofs.Listing.{None≢Some, Some-injective, AllPairs-one}
 
 abbrev pub one_of : Option FreeTag → ℕ
 one_of o = cond (is_some o) 1 0
 
 -- the slots but the last
-pub taken_last : (slots rest : List (Option FreeTag)) (o : Option FreeTag) → slots ≡ rest ++ o ∷ [] → taken slots ≡ taken rest + one_of o
-taken_last slots rest o is = ap taken is ∙ sum_by_push one_of rest o
+pub taken_last : (slots rest : List (Option FreeTag)) (o : Option FreeTag) → slots ≡ rest ++ o ∷ [] → taken_count slots ≡ taken_count rest + one_of o
+taken_last slots rest o is = ap taken_count is ∙ sum_by_push one_of rest o
 
 -- a tag lies in a slot that there is
 pub slot_within : (tags : List (Option FreeTag)) (k : ℕ) (t : FreeTag) → tag_at tags k ≡ Some t → k < length tags
@@ -28,7 +28,7 @@ module _ (old : List (Option FreeTag)) (k : ℕ) (o : Option FreeTag) (lt : k < 
     others = λ j ne. get_or-set_other old k j o None ne;
   }
 
-  pub taken_set : taken (set old k o) + cond (is_some (tag_at old k)) 1 0 ≡ taken old + cond (is_some o) 1 0
+  pub taken_set : taken_count (set old k o) + cond (is_some (tag_at old k)) 1 0 ≡ taken_count old + cond (is_some o) 1 0
   taken_set = sum_by-set one_of old k o None lt
 
 -- a vacant slot that is filled
@@ -43,7 +43,7 @@ module _ (slots : Vec (Option FreeTag)) (vacant rest : Vec ℕ) (room k : ℕ) (
       let count = taken_set slots.items k (Some t) lt in
       let was = ap one_of vacant_last.1 in
       let apart : AllPairs (λ j i. j ≢ i) (rest.items ++ k ∷ []) = subst (AllPairs (λ j i. j ≢ i)) popped s.apart in
-      let now = ap taken is in
+      let now = ap taken_count is in
       record {
         empty = λ p d below.
             let inside : p < length (rest.items ++ k ∷ []) = omega (arith, below, length_push rest.items k) in
@@ -63,11 +63,11 @@ module _ (slots : Vec (Option FreeTag)) (vacant rest : Vec ℕ) (room k : ℕ) (
 
 -- a slot that is emptied
 module _ (slots new : Vec (Option FreeTag)) (vacant more : Vec ℕ) (room k : ℕ) (t : FreeTag) (s : IsSlotted slots vacant room) (here : tag_at slots.items k ≡ Some t) (is : new.items ≡ set slots.items k None) (pushed : more.items ≡ vacant.items ++ k ∷ []) where
-  pub one_taken : taken new.items + 1 ≡ taken slots.items
+  pub one_taken : taken_count new.items + 1 ≡ taken_count slots.items
   one_taken =
       let count = taken_set slots.items k None (slot_within slots.items k t here) in
       let was = ap one_of here in
-      let now = ap taken is in
+      let now = ap taken_count is in
       omega (arith, count, was, now)
 
   pub emptied : vec_len more ≡ vec_len vacant + 1 → vec_capacity more ≡ vec_capacity vacant → vec_capacity new ≡ vec_capacity slots → IsSlotted new more room
@@ -99,7 +99,7 @@ set_back tags k o p is = set-set tags k o p ∙ (ap (set tags k) is ∙ set-get_
 pub slotted_same : (slots new : Vec (Option FreeTag)) (vacant : Vec ℕ) (room : ℕ) → IsSlotted slots vacant room → new.items ≡ slots.items → vec_capacity new ≡ vec_capacity slots → IsSlotted new vacant room
 slotted_same slots new vacant room s is same =
     let long = ap length is in
-    let count = ap taken is in
+    let count = ap taken_count is in
     record {
       empty = subst (λ l. All (λ k. (k < length l) × (tag_at l k ≡ None)) vacant.items) (sym is) s.empty;
       apart = s.apart;

@@ -6,12 +6,12 @@ use Rattle.tag_arena.specs.declared.policies.Policy.TheVariants.{Best, Next, Ins
 use Rattle.fast_arena.specs.declared.orders.Order.{Order}
 use Rattle.fast_arena.specs.declared.orders.Order.TheVariants.{Falling, Sizes, Lists, Rising}
 use Rattle.fast_arena.specs.FreeTags.{IsTimed, AreTags}
-use Rattle.fast_arena.specs.Orders.{Ordered, KeepsUp}
-use Rattle.fast_arena.specs.Slotted.{SlotTable}
+use Rattle.fast_arena.specs.Orders.{OrderedIndexState, KeepsUp}
+use Rattle.fast_arena.specs.Slotted.{SlotsState}
 
 -- the free ranges from the oldest to the newest, how many there may be, and how many more may
 -- become free
-pub record FreeRanges : Type 0 where
+pub record FreeIndexState : Type 0 where
   pub policy : Policy
   pub ranges : List Holding
   pub room : ℕ
@@ -31,19 +31,19 @@ keeps Next Lists = false
 keeps Next Rising = true
 
 -- an index in this order has what its policy asks for
-pub record IsKept (policy : Policy) (order : Order) (s : SlotTable) (room : ℕ)
-    (i : Ordered) : Type 0 where
+pub record MeetsPolicy (policy : Policy) (order : Order) (s : SlotsState) (room : ℕ)
+    (i : OrderedIndexState) : Type 0 where
   pub order_is : i.order ≡ order
   pub kept_is : i.kept ≡ keeps policy order
   pub keeps_up : KeepsUp i.kept i.order i.items i.room s.tags room
 
 -- each index has the tags of the slots
-pub record IsIndexed (policy : Policy) (s : SlotTable) (down size list up : Ordered)
+pub record IsIndexed (policy : Policy) (s : SlotsState) (down size list up : OrderedIndexState)
     (clock room : ℕ) : Type 0 where
   pub timed : IsTimed s.tags
   pub tags : AreTags clock s.tags
   pub slots_room : room ≤ s.room
-  pub falling : IsKept policy Falling s room down
-  pub sizes : IsKept policy Sizes s room size
-  pub lists : IsKept policy Lists s room list
-  pub rising : IsKept policy Rising s room up
+  pub falling : MeetsPolicy policy Falling s room down
+  pub sizes : MeetsPolicy policy Sizes s room size
+  pub lists : MeetsPolicy policy Lists s room list
+  pub rising : MeetsPolicy policy Rising s room up

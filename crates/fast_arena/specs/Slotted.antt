@@ -5,19 +5,19 @@ use Rattle.std.specs.Global.{Vec}
 use Rattle.fast_arena.specs.FreeTags.{FreeTag, tag_at}
 
 -- what a contract sees of slots: what lies in each, and how many deeds may lie in them
-pub record SlotTable : Type 0 where
+pub record SlotsState : Type 0 where
   pub tags : List (Option FreeTag)
   pub room : ℕ
 
 -- how many slots are taken
-abbrev pub taken : List (Option FreeTag) → ℕ
-taken tags = count_by is_some tags
+abbrev pub taken_count : List (Option FreeTag) → ℕ
+taken_count tags = count_by is_some tags
 
 -- the vacant slots are known, each once, and there is room
 pub record IsSlotted (slots : Vec (Option FreeTag)) (vacant : Vec ℕ) (room : ℕ) : Type 0 where
   pub empty : All (λ k. (k < length slots.items) × (tag_at slots.items k ≡ None)) vacant.items
   pub apart : AllPairs (λ j k. j ≢ k) vacant.items
-  pub counted : vec_len vacant + taken slots.items ≡ vec_len slots
+  pub counted : vec_len vacant + taken_count slots.items ≡ vec_len slots
   pub within : vec_len slots ≤ room
   pub slots_hold : room ≤ vec_capacity slots
   pub vacant_holds : room ≤ vec_capacity vacant

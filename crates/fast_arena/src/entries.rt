@@ -5,7 +5,7 @@ use sorted_rows::RowEntry;
 
 /// A free range in one order: the two numbers of its key, and its slot.
 #[derive(Clone, Copy, Debug)]
-pub struct Entry {
+pub struct IndexEntry {
     pub major: u64,
     pub minor: u64,
     pub slot: usize,
@@ -18,7 +18,7 @@ pub fn key_of(major: u64, minor: u64) -> u128
     (major as u128) * (1 << 64) + minor as u128
 }
 
-impl RowEntry for Entry {
+impl RowEntry for IndexEntry {
     ghost use Rattle.fast_arena.specs.Orders.{rank_of};
 
     ghost rank = { rank_of };

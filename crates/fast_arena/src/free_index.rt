@@ -45,9 +45,9 @@ pub struct FreeIndex<D: Deed> {
 impl<D: Deed> Model for FreeIndex<D> {
     ghost use Rattle.std.specs.Prelude.{◌-◌, ◌^◌};
     ghost use Rattle.fast_arena.specs.FreeTags.{ranges_by_age};
-    ghost use Rattle.fast_arena.specs.FreeRanges.{FreeRanges, IsIndexed};
+    ghost use Rattle.fast_arena.specs.FreeRanges.{FreeIndexState, IsIndexed};
 
-    ghost Value = { FreeRanges };
+    ghost Value = { FreeIndexState };
 
     ghost view = { λ f. record {
       policy = f.policy;

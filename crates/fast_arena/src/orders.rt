@@ -1,12 +1,12 @@
 //! One index of the free ranges, in one order.
 ghost use Rattle.std.specs.Prelude.{◌≡◌, ◌≤◌, ◌+◌, ◌*◌, ◌^◌, [], max, OnOk, true};
-ghost use Rattle.fast_arena.specs.Orders.{entry_of, rank_of, IsAbsent, IsPresent, HasPlace};
+ghost use Rattle.fast_arena.specs.Orders.{entry_of, rank_of, IsAbsent, IsPresent, HasRoomForOne};
 ghost use Rattle.fast_arena.specs.Orders.{PutsEntry, TakesEntry};
 ghost use Rattle.sorted_rows.specs.Order.{Rises, first_from};
 ghost use Rattle.sorted_rows.specs.Weights.{heavy_from};
 
-use crate::entries::{Entry, key_of};
-use crate::slots::Tag;
+use crate::entries::{IndexEntry, key_of};
+use crate::slots::SlotTag;
 use deed_core::LIMIT;
 use sorted_rows::Rows;
 use std::alloc::{AllocError, Global};
@@ -26,27 +26,27 @@ pub enum Order {
 }
 
 /// The entry of a free range.
-pub fn entry_of(order: Order, slot: usize, tag: Tag) -> Entry
+pub fn entry_of(order: Order, slot: usize, tag: SlotTag) -> IndexEntry
     ensures { result ≡ entry_of order slot tag }
 {
     let range = tag.range();
     match order {
-        Order::Falling => Entry {
+        Order::Falling => IndexEntry {
             major: LIMIT - range.base(),
             minor: 0,
             slot,
         },
-        Order::Sizes => Entry {
+        Order::Sizes => IndexEntry {
             major: range.len(),
             minor: range.base(),
             slot,
         },
-        Order::Lists => Entry {
+        Order::Lists => IndexEntry {
             major: tag.power() as u64,
             minor: u64::MAX - tag.since(),
             slot,
         },
-        Order::Rising => Entry {
+        Order::Rising => IndexEntry {
             major: range.base(),
             minor: range.len(),
             slot,
@@ -59,13 +59,13 @@ pub fn entry_of(order: Order, slot: usize, tag: Tag) -> Entry
 pub struct OrderedIndex {
     order: Order,
     kept: bool,
-    rows: Rows<Entry>,
+    rows: Rows<IndexEntry>,
 }
 
 impl Model for OrderedIndex {
-    ghost use Rattle.fast_arena.specs.Orders.{Ordered};
+    ghost use Rattle.fast_arena.specs.Orders.{OrderedIndexState};
 
-    ghost Value = { Ordered };
+    ghost Value = { OrderedIndexState };
 
     ghost view = { λ i. record {
       order = i.order;
@@ -102,8 +102,8 @@ impl OrderedIndex {
     }
 
     /// Puts in the entry of a free range, where it is kept.
-    pub fn enter(&mut self, slot: usize, tag: Tag)
-        requires room { HasPlace self.old.kept self.old.items self.old.room }
+    pub fn enter(&mut self, slot: usize, tag: SlotTag)
+        requires room { HasRoomForOne self.old.kept self.old.items self.old.room }
         requires absent { let entry = entry_of self.old.order slot tag in
             IsAbsent self.old.kept self.old.items (rank_of entry) }
         ensures items { let entry = entry_of self.old.order slot tag in
@@ -118,7 +118,7 @@ impl OrderedIndex {
     }
 
     /// Takes out the entry of a free range, where it is kept.
-    pub fn strike(&mut self, slot: usize, tag: Tag)
+    pub fn strike(&mut self, slot: usize, tag: SlotTag)
         requires present { let entry = entry_of self.old.order slot tag in
             IsPresent self.old.kept self.old.items (rank_of entry) }
         ensures items { let entry = entry_of self.old.order slot tag in
@@ -134,7 +134,7 @@ impl OrderedIndex {
     }
 
     /// The first entry at or above the key of two numbers.
-    pub fn first_from(&self, major: u64, minor: u64) -> Option<Entry>
+    pub fn first_from(&self, major: u64, minor: u64) -> Option<IndexEntry>
         ensures first { let key = major * 2 ^ 64 + minor in
             result ≡ first_from rank_of key self.now.items }
         ensures rises { Rises rank_of self.now.items }
@@ -145,7 +145,7 @@ impl OrderedIndex {
 
     /// The first entry, from the first at or above the key of two numbers on, that weighs as much
     /// as `least` or more.
-    pub fn first_weighing(&self, major: u64, minor: u64, least: u64) -> Option<Entry>
+    pub fn first_weighing(&self, major: u64, minor: u64, least: u64) -> Option<IndexEntry>
         ensures first { let key = major * 2 ^ 64 + minor in
             result ≡ heavy_from rank_of (λ e. e.minor) key least self.now.items }
         ensures rises { Rises rank_of self.now.items }

@@ -4,7 +4,7 @@ ghost use Rattle.std.specs.Prelude.{All, max, IfOk};
 ghost use Rattle.deed_core.specs.Extent.{IsRange, end_of};
 ghost use Rattle.fast_arena.specs.Cuts.{IsCut};
 ghost use Rattle.fast_arena.specs.FreeTags.{FreeTag, tag_at, SlotBecomes};
-ghost use Rattle.fast_arena.specs.Slotted.{taken};
+ghost use Rattle.fast_arena.specs.Slotted.{taken_count};
 
 use crate::cuts::{Cut, cut_out};
 use crate::held_ranges::{HeldRange, held_range_of};
@@ -47,10 +47,10 @@ impl<D: Deed> TimedDeed<D> {
         deed
     }
 
-    pub fn tag(&self) -> Tag
+    pub fn tag(&self) -> SlotTag
         ensures { result ≡ self.now }
     {
-        Tag {
+        SlotTag {
             range: held_range_of(&self.deed),
             since: self.since,
             power: self.power,
@@ -60,13 +60,13 @@ impl<D: Deed> TimedDeed<D> {
 
 /// What is known of a free range, as plain data.
 #[derive(Clone, Copy, Debug)]
-pub struct Tag {
+pub struct SlotTag {
     range: HeldRange,
     since: u64,
     power: u32,
 }
 
-impl Model for Tag {
+impl Model for SlotTag {
     ghost use Rattle.fast_arena.specs.FreeTags.{FreeTag};
 
     ghost Value = { FreeTag };
@@ -76,7 +76,7 @@ impl Model for Tag {
     ghost inverse = { λ t. record { range = t.range; since = t.since; power = t.power } };
 }
 
-impl Tag {
+impl SlotTag {
     pub fn range(&self) -> HeldRange
         ensures value { result ≡ self.now.range }
         ensures range { IsRange self.now.range.range }
@@ -106,9 +106,9 @@ pub struct Slots<D: Deed> {
 }
 
 impl<D: Deed> Model for Slots<D> {
-    ghost use Rattle.fast_arena.specs.Slotted.{SlotTable, IsSlotted};
+    ghost use Rattle.fast_arena.specs.Slotted.{SlotsState, IsSlotted};
 
-    ghost Value = { SlotTable };
+    ghost Value = { SlotsState };
 
     ghost view = { λ s. record { tags = s.slots.items; room = s.room } };
 
@@ -144,10 +144,10 @@ impl<D: Deed> Slots<D> {
 
     /// Puts a deed in a slot, whose number it tells. It takes no memory.
     pub fn put(&mut self, deed: TimedDeed<D>) -> usize
-        requires { taken self.old.tags < self.old.room }
+        requires { taken_count self.old.tags < self.old.room }
         ensures vacant { tag_at self.old.tags result ≡ None }
         ensures becomes { SlotBecomes self.old.tags self.new.tags result (Some deed) }
-        ensures taken { taken self.new.tags ≡ taken self.old.tags + 1 }
+        ensures taken { taken_count self.new.tags ≡ taken_count self.old.tags + 1 }
         ensures room { self.new.room ≡ self.old.room }
     {
         match self.vacant.pop() {
@@ -170,7 +170,7 @@ impl<D: Deed> Slots<D> {
         requires { (t : FreeTag) × (tag_at self.old.tags slot ≡ Some t) }
         ensures value { Some result ≡ tag_at self.old.tags slot }
         ensures becomes { SlotBecomes self.old.tags self.new.tags slot None }
-        ensures taken { taken self.new.tags + 1 ≡ taken self.old.tags }
+        ensures taken { taken_count self.new.tags + 1 ≡ taken_count self.old.tags }
         ensures room { self.new.room ≡ self.old.room }
     {
         let Some(deed) = self.slots[slot].take() else {
@@ -182,7 +182,13 @@ impl<D: Deed> Slots<D> {
 
     /// Cuts the units from `base` to `end` out of the deed in a slot, which is vacant then. Where a
     /// split is refused, all is as it was.
-    pub fn cut(&mut self, at: usize, tag: Tag, base: u64, end: u64) -> Result<Cut<D>, AllocError>
+    pub fn cut(
+        &mut self,
+        at: usize,
+        tag: SlotTag,
+        base: u64,
+        end: u64,
+    ) -> Result<Cut<D>, AllocError>
         requires here { tag_at self.old.tags at ≡ Some tag }
         requires from { tag.range.range.base ≤ base }
         requires some { base < end }
@@ -190,7 +196,7 @@ impl<D: Deed> Slots<D> {
         ensures cut { let whole = tag.range in
             IfOk result (λ cut. IsCut whole base end cut.low cut.piece cut.high) }
         ensures becomes { OnOk result (SlotBecomes self.old.tags self.new.tags at None) }
-        ensures taken { OnOk result (taken self.new.tags + 1 ≡ taken self.old.tags) }
+        ensures taken { OnOk result (taken_count self.new.tags + 1 ≡ taken_count self.old.tags) }
         ensures unchanged { OnErr result (self.new.tags ≡ self.old.tags) }
         ensures room { self.new.room ≡ self.old.room }
     {
@@ -214,7 +220,7 @@ impl<D: Deed> Slots<D> {
     }
 
     /// What lies in a slot.
-    pub fn tag(&self, slot: usize) -> Tag
+    pub fn tag(&self, slot: usize) -> SlotTag
         requires { (t : FreeTag) × (tag_at self.now.tags slot ≡ Some t) }
         ensures { Some result ≡ tag_at self.now.tags slot }
     {
@@ -226,14 +232,14 @@ impl<D: Deed> Slots<D> {
 
     /// How many deeds lie in the slots.
     pub fn taken(&self) -> usize
-        ensures { result ≡ taken self.now.tags }
+        ensures { result ≡ taken_count self.now.tags }
     {
         self.slots.len() - self.vacant.len()
     }
 
     /// Ends the slots where no deed lies in any.
     pub fn destroy(self)
-        requires { taken self.tags ≡ 0 }
+        requires { taken_count self.tags ≡ 0 }
     {
         let Slots {
             slots,
@@ -246,7 +252,7 @@ impl<D: Deed> Slots<D> {
 
 /// Ends a vector of vacant slots.
 fn drop_vacant<D: Deed>(mut slots: Vec<Option<TimedDeed<D>>>)
-    requires { taken slots.items ≡ 0 }
+    requires { taken_count slots.items ≡ 0 }
 {
     while let Some(slot) = slots.pop() {
         match slot {

@@ -7,11 +7,11 @@ use Rattle.std.proofs.lemmas.Bool.{eqb-true}
 use Rattle.deed_core.specs.Tag.{Tag}
 use Rattle.deed_core.specs.Weights.{Gains, Loses}
 use Rattle.lease_book.specs.Receipts.{Kept, ReceiptState, IsEarned}
-use Rattle.lease_book.specs.Entry.{Settlement, Entry, Hello, Settled, Swept, Grant, Return, Refuse, kept}
+use Rattle.lease_book.specs.Entry.{Settlement, Entry, Hello, Settled, Swept, Grant, Return, Refuse, kept_settlement}
 use Rattle.lease_book.specs.Account.{Lease, Account, number_of, is_lease, without_first, lease_of, granted_request, leases_after}
 use Rattle.lease_book.specs.Shelf.{account_with, changed_at, standing_of, with_standing, with_leases}
 use Rattle.lease_book.specs.History.{incarnation, clients_of, kept_of, account, IsProper}
-use Rattle.lease_book.specs.BookState.{BookState, HasHistory, Enters, nobody, or_nobody, account_in, segments, leased_by, leased}
+use Rattle.lease_book.specs.BookState.{BookState, HasHistory, Enters, nobody, or_nobody, account_in, segments, leased_by, leased_segments}
 use Rattle.lease_book.specs.Answers.{receipt, IsNew}
 use Rattle.lease_book.specs.Calls.{IsFound, IsGranted, IsRefused, IsReleased, IsEnded}
 use Rattle.lease_book.specs.declared.accounts.Standing.{Standing}
@@ -116,7 +116,7 @@ loses_lease accounts i k a x at there f =
 
 -- an account after the request was settled
 abbrev pub settled_as : RequestId → Settlement → Account → Account
-settled_as id how a = with_standing (record { incarnation = id.incarnation; kept = Some (kept id.number how) }) (with_leases (leases_after id how) a)
+settled_as id how a = with_standing (record { incarnation = id.incarnation; kept = Some (kept_settlement id.number how) }) (with_leases (leases_after id how) a)
 
 pub settles : (old new : BookState) (id : RequestId) (index : ℕ) (how : Settlement) → IsFound old id.client index → IsNew (account_in id.client old) id
     → IsRequestId id → IsProper (account_in id.client old).leases id how → new.mark ≡ old.mark → new.accounts ≡ changed_at old.accounts index (settled_as id how) → Enters (Settled id how) old new
@@ -214,30 +214,30 @@ pub of_found : (P : Account → Type 0) (book : BookState) (c place : ℕ) → I
 of_found P book c place found holds = subst (λ (o : Option Account). IfSome o P) found.at holds
 
 pub refuses : (old now : BookState) (id : RequestId) (index : ℕ) (why : Refusal) (k : Kept) (r : ReceiptState) → IsFound old id.client index → IsNew (account_in id.client old) id → IsRequestId id
-    → k ≡ kept id.number (Refuse why) → r ≡ receipt old id k → now.mark ≡ old.mark
+    → k ≡ kept_settlement id.number (Refuse why) → r ≡ receipt old id k → now.mark ≡ old.mark
     → now.accounts ≡ changed_at old.accounts index (with_standing (record { incarnation = id.incarnation; kept = Some k })) → IsRefused old now id why r
 refuses old now id index why k r found fresh told is_kept is_receipt mark after =
-    let after' : now.accounts ≡ changed_at old.accounts index (with_standing (record { incarnation = id.incarnation; kept = Some (kept id.number (Refuse why)) })) =
+    let after' : now.accounts ≡ changed_at old.accounts index (with_standing (record { incarnation = id.incarnation; kept = Some (kept_settlement id.number (Refuse why)) })) =
     after ∙ ap (λ (x : Kept). changed_at old.accounts index (with_standing (record { incarnation = id.incarnation; kept = Some x }))) is_kept in
     record {
       new = fresh;
       receipt = is_receipt ∙ ap (receipt old id) is_kept;
       entry = settles old now id index (Refuse why) found fresh told tt mark after';
-      leases = ap leased_by after' ∙ leased_standing old.accounts index (record { incarnation = id.incarnation; kept = Some (kept id.number (Refuse why)) });
+      leases = ap leased_by after' ∙ leased_standing old.accounts index (record { incarnation = id.incarnation; kept = Some (kept_settlement id.number (Refuse why)) });
     }
 
 pub grants : (old now : BookState) (mid : List Account) (id : RequestId) (index : ℕ) (t : Tag) (terms : Terms) (k : Kept) (r : ReceiptState) → IsFound old id.client index
     → IsNew (account_in id.client old) id → IsRequestId id → IsRange t.holding.range × Fits terms.quantum terms.request t.holding.range.base t.holding.range.len
-    → length (account_in id.client old).leases < 1024 → k ≡ kept id.number (Grant t terms) → r ≡ receipt old id k → now.mark ≡ old.mark
+    → length (account_in id.client old).leases < 1024 → k ≡ kept_settlement id.number (Grant t terms) → r ≡ receipt old id k → now.mark ≡ old.mark
     → mid ≡ changed_at old.accounts index (with_leases (λ ls. ls ++ lease_of id t ∷ []))
     → now.accounts ≡ changed_at mid index (with_standing (record { incarnation = id.incarnation; kept = Some k })) → IsGranted old now id t terms r
 grants old now mid id index t terms k r found fresh told meets room is_kept is_receipt mark leased_mid after =
-    let s : Standing = record { incarnation = id.incarnation; kept = Some (kept id.number (Grant t terms)) } in
+    let s : Standing = record { incarnation = id.incarnation; kept = Some (kept_settlement id.number (Grant t terms)) } in
     let after' : now.accounts ≡ changed_at mid index (with_standing s) =
     after ∙ ap (λ (y : Kept). changed_at mid index (with_standing (record { incarnation = id.incarnation; kept = Some y }))) is_kept in
     let both : now.accounts ≡ changed_at old.accounts index (settled_as id (Grant t terms)) =
     after' ∙ ap (λ (xs : List Account). changed_at xs index (with_standing s)) leased_mid ∙ changed_twice old.accounts index (with_leases (λ ls. ls ++ lease_of id t ∷ [])) (with_standing s) in
-    let stands : leased now ≡ leased_by (changed_at old.accounts index (with_leases (λ ls. ls ++ lease_of id t ∷ []))) = ap leased_by after' ∙ leased_standing mid index s ∙ ap leased_by leased_mid in
+    let stands : leased_segments now ≡ leased_by (changed_at old.accounts index (with_leases (λ ls. ls ++ lease_of id t ∷ []))) = ap leased_by after' ∙ leased_standing mid index s ∙ ap leased_by leased_mid in
     record {
       new = fresh;
       room = room;
@@ -249,12 +249,12 @@ grants old now mid id index t terms k r found fresh told meets room is_kept is_r
 pub releases : (old now : BookState) (mid : List Account) (id : RequestId) (arena base index at : ℕ) (l : Lease) (k : Kept) (r : ReceiptState) → IsFound old id.client index
     → IsNew (account_in id.client old) id → IsRequestId id → IsQuantity base
     → IsFirst (is_lease id.incarnation arena base) (account_in id.client old).leases at → slice_get (account_in id.client old).leases at ≡ Some l
-    → k ≡ kept id.number (Return arena base) → r ≡ receipt old id k → now.mark ≡ old.mark → mid ≡ changed_at old.accounts index (with_leases (λ ls. remove ls at))
+    → k ≡ kept_settlement id.number (Return arena base) → r ≡ receipt old id k → now.mark ≡ old.mark → mid ≡ changed_at old.accounts index (with_leases (λ ls. remove ls at))
     → now.accounts ≡ changed_at mid index (with_standing (record { incarnation = id.incarnation; kept = Some k })) → IsReleased old now id arena base r l.segment
 releases old now mid id arena base index at l k r found fresh told in_range first here is_kept is_receipt mark taken_mid after =
     let i : ℕ = id.incarnation in
     let a : Account = account_in id.client old in
-    let s : Standing = record { incarnation = i; kept = Some (kept id.number (Return arena base)) } in
+    let s : Standing = record { incarnation = i; kept = Some (kept_settlement id.number (Return arena base)) } in
     let passes : is_lease i arena base l ≡ true = subst (λ (o : Option Lease). IfSome o (λ x. is_lease i arena base x ≡ true)) here first.passes in
     let says = is_lease_says i arena base l passes in
     let after' : now.accounts ≡ changed_at mid index (with_standing s) = after ∙ ap (λ (y : Kept). changed_at mid index (with_standing (record { incarnation = i; kept = Some y }))) is_kept in
@@ -263,7 +263,7 @@ releases old now mid id arena base index at l k r found fresh told in_range firs
     let entered_as : now.accounts ≡ changed_at old.accounts index (settled_as id (Return arena base)) =
     both ∙ changed_alike old.accounts index a (λ b. with_standing s (with_leases (λ ls. remove ls at) b)) (settled_as id (Return arena base)) found.at
     (ap (λ (ls : List Lease). with_standing s (with_leases (λ x. ls) a)) (sym first.left)) in
-    let stands : leased now ≡ leased_by (changed_at old.accounts index (with_leases (λ ls. remove ls at))) = ap leased_by after' ∙ leased_standing mid index s ∙ ap leased_by taken_mid in
+    let stands : leased_segments now ≡ leased_by (changed_at old.accounts index (with_leases (λ ls. remove ls at))) = ap leased_by after' ∙ leased_standing mid index s ∙ ap leased_by taken_mid in
     record {
       granted = l.number;
       new = fresh;
@@ -291,7 +291,7 @@ granted_segment : (arena : ℕ) (range : Extent) (reply : KeptReply) (t : Tag) �
 granted_segment arena range reply t is of_arena of_range = is ∙ (λ j. Granted (sym of_arena j) (of_range j).base (of_range j).len)
 
 pub kept_grant : (n arena : ℕ) (range : Extent) (reply : KeptReply) (t : Tag) (terms : Terms) (k : Kept) → k ≡ record { number = n; reply = reply; terms = Some terms } → reply ≡ Granted arena range.base range.len
-    → t.arena ≡ arena → range ≡ t.holding.range → k ≡ kept n (Grant t terms)
+    → t.arena ≡ arena → range ≡ t.holding.range → k ≡ kept_settlement n (Grant t terms)
 kept_grant n arena range reply t terms k is granted of_arena of_range =
     is ∙ ap (λ (r : KeptReply). record { number = n; reply = r; terms = Some terms }) (granted_segment arena range reply t granted of_arena of_range)
 
@@ -339,7 +339,7 @@ module _ (before old : BookState) (is : before ≡ old) (id : RequestId) (index 
   fresh_before : IsNew (account_in id.client before) id
   fresh_before = subst (λ (b : BookState). IsNew (account_in id.client b) id) (sym is) fresh
 
-  pub refused_at : (accounts : List Account) (why : Refusal) (k : Kept) (r : ReceiptState) → k ≡ kept id.number (Refuse why) → r ≡ receipt before id k
+  pub refused_at : (accounts : List Account) (why : Refusal) (k : Kept) (r : ReceiptState) → k ≡ kept_settlement id.number (Refuse why) → r ≡ receipt before id k
       → accounts ≡ changed_at before.accounts index (with_standing (record { incarnation = id.incarnation; kept = Some k })) → HasHistory before
       → HasHistory (record { mark = before.mark; accounts = accounts }) × IsRefused old (record { mark = before.mark; accounts = accounts }) id why r
   refused_at accounts why k r is_kept is_receipt after had =
@@ -348,7 +348,7 @@ module _ (before old : BookState) (is : before ≡ old) (id : RequestId) (index 
       (goes_on (Settled id (Refuse why)) before now refused.entry had, subst (λ (b : BookState). IsRefused b now id why r) is refused)
 
   pub granted_at : (mid accounts : List Account) (t : Tag) (terms : Terms) (k : Kept) (r : ReceiptState) → IsRange t.holding.range × Fits terms.quantum terms.request t.holding.range.base t.holding.range.len → length (account_in id.client old).leases < 1024
-      → k ≡ kept id.number (Grant t terms) → r ≡ receipt before id k
+      → k ≡ kept_settlement id.number (Grant t terms) → r ≡ receipt before id k
       → mid ≡ changed_at before.accounts index (with_leases (λ ls. ls ++ lease_of id t ∷ []))
       → accounts ≡ changed_at mid index (with_standing (record { incarnation = id.incarnation; kept = Some k })) → HasHistory before
       → HasHistory (record { mark = before.mark; accounts = accounts }) × IsGranted old (record { mark = before.mark; accounts = accounts }) id t terms r
@@ -360,7 +360,7 @@ module _ (before old : BookState) (is : before ≡ old) (id : RequestId) (index 
 
   pub released_at : (mid accounts : List Account) (arena base at : ℕ) (l : Lease) (t : Tag) (k : Kept) (r : ReceiptState) → t ≡ l.segment → IsQuantity base
       → IsFirst (is_lease id.incarnation arena base) (account_in id.client old).leases at
-      → IfSome (slice_get before.accounts index) (λ a. slice_get a.leases at ≡ Some l) → k ≡ kept id.number (Return arena base) → r ≡ receipt before id k
+      → IfSome (slice_get before.accounts index) (λ a. slice_get a.leases at ≡ Some l) → k ≡ kept_settlement id.number (Return arena base) → r ≡ receipt before id k
       → mid ≡ changed_at before.accounts index (with_leases (λ ls. remove ls at)) → accounts ≡ changed_at mid index (with_standing (record { incarnation = id.incarnation; kept = Some k })) → HasHistory before
       → HasHistory (record { mark = before.mark; accounts = accounts }) × IsReleased old (record { mark = before.mark; accounts = accounts }) id arena base r t
   released_at mid accounts arena base at l t k r of_lease in_range first there is_kept is_receipt taken_mid after had =
@@ -433,5 +433,5 @@ greeted_first before old accounts c i is none client ordinal after had =
     (goes_on (Hello c i) old now enters (subst HasHistory is had), enters)
 
 -- what is leased stays where an incarnation or a reply is written
-pub leased_at : (before old : BookState) (accounts : List Account) (place : ℕ) (s : Standing) → before ≡ old → accounts ≡ changed_at before.accounts place (with_standing s) → leased_by accounts ≡ leased old
-leased_at before old accounts place s is after = ap leased_by after ∙ leased_standing before.accounts place s ∙ ap leased is
+pub leased_at : (before old : BookState) (accounts : List Account) (place : ℕ) (s : Standing) → before ≡ old → accounts ≡ changed_at before.accounts place (with_standing s) → leased_by accounts ≡ leased_segments old
+leased_at before old accounts place s is after = ap leased_by after ∙ leased_standing before.accounts place s ∙ ap leased_segments is

@@ -8,10 +8,10 @@ use Rattle.deed_core.specs.Tag.{Tag}
 use Rattle.lease_terms.specs.Ranges.{IsClient, IsOrdinal, IsQuantity}
 use Rattle.lease_terms.specs.Requests.{RequestId, IsRequestId}
 use Rattle.lease_book.specs.Receipts.{Kept, IsEarned}
-use Rattle.lease_book.specs.Entry.{Settlement, Grant, Return, Refuse, Entry, Hello, Settled, Swept, subject_of, kept, kept_reply_of, terms_of}
+use Rattle.lease_book.specs.Entry.{Settlement, Grant, Return, Refuse, Entry, Hello, Settled, Swept, subject_of, kept_settlement, kept_reply_of, terms_of}
 use Rattle.lease_book.specs.Account.{Lease, Account, is_lease, without_first, lease_of, granted_request, leases_after}
 use Rattle.lease_book.specs.History.{incarnation, leases_of, clients_of, kept_of, outcome_of, account, IsProper, AreOrderly}
-use Rattle.lease_book.specs.BookState.{BookState, IsHistory, HasHistory, Enters, account_in, clients_in, weight_of, segments, leased_by, leased}
+use Rattle.lease_book.specs.BookState.{BookState, IsHistory, HasHistory, Enters, account_in, clients_in, weight_of, segments, leased_by, leased_segments}
 use Rattle.lease_book.specs.ClientLaws.{EnteredChanges, LeasesAreTheClients, IsReplyInRange, IsInBounds, BooksAreInBounds}
 use Rattle.lease_book.specs.declared.books.TheConstants.{MOST_LEASES}
 use Rattle.lease_book.proofs.HistoryLemmas.{has, account_is, account_unknown}
@@ -39,13 +39,13 @@ hello_entered old new c i had enters above =
     ∙ (λ j. record { client = c; incarnation = i; kept = None; leases = (sym before j).leases })
 
 settled_entered : (old new : BookState) (id : RequestId) (s : Settlement) → HasHistory old → Enters (Settled id s) old new
-    → account_in id.client new ≡ record { client = id.client; incarnation = id.incarnation; kept = Some (kept id.number s); leases = leases_after id s (account_in id.client old).leases }
+    → account_in id.client new ≡ record { client = id.client; incarnation = id.incarnation; kept = Some (kept_settlement id.number s); leases = leases_after id s (account_in id.client old).leases }
 settled_entered old new id s had enters =
     let es : List Entry = had.0 in
     let before = account_is es old id.client had.1 in
     let after : IsHistory (Settled id s ∷ es) new = enters.history es had.1 in
     account_is (Settled id s ∷ es) new id.client after ∙ settled_own es id s after.orderly.1 after.orderly.2
-    ∙ (λ j. record { client = id.client; incarnation = id.incarnation; kept = Some (kept id.number s); leases = leases_after id s (sym before j).leases })
+    ∙ (λ j. record { client = id.client; incarnation = id.incarnation; kept = Some (kept_settlement id.number s); leases = leases_after id s (sym before j).leases })
 
 swept_entered : (old new : BookState) (c i arena base : ℕ) → HasHistory old → Enters (Swept c i arena base) old new
     → account_in c new
@@ -144,7 +144,7 @@ sum_of_clients f es [] = refl
 sum_of_clients f es (c ∷ cs) =
     omega (arith, sum_of_clients f es cs, sum_by-cons (λ c. sum_by f (segments (leases_of c es))) c cs, sum_by-leased_by f (account es c) (map (account es) cs))
 
-leases_of_all : (book : BookState) (f : Tag → ℕ) → HasHistory book → sum_by (weight_of f book) (clients_in book) ≡ sum_by f (leased book)
+leases_of_all : (book : BookState) (f : Tag → ℕ) → HasHistory book → sum_by (weight_of f book) (clients_in book) ≡ sum_by f (leased_segments book)
 leases_of_all book f had =
     let es : List Entry = had.0 in
     ap (sum_by (weight_of f book)) (clients_are es book had.1)
@@ -158,13 +158,13 @@ weighs_nothing book f had c none =
     let unknown : has c (clients_of es) ≡ false = ap (has c) (sym (clients_are es book had.1)) ∙ none in
     ap (λ (a : Account). sum_by f (segments a.leases)) (account_is es book c had.1 ∙ account_unknown c es had.1.orderly unknown)
 
-leases_of_some : (book : BookState) (cs : List ℕ) (f : Tag → ℕ) → HasHistory book → IsDistinct nat_eq cs → sum_by (weight_of f book) cs ≤ sum_by f (leased book)
+leases_of_some : (book : BookState) (cs : List ℕ) (f : Tag → ℕ) → HasHistory book → IsDistinct nat_eq cs → sum_by (weight_of f book) cs ≤ sum_by f (leased_segments book)
 leases_of_some book cs f had apart =
     let less = sum_within (weight_of f book) cs (clients_in book) apart (λ c is none. weighs_nothing book f had c none) in
     omega (arith, less, leases_of_all book f had)
 
 leases_together : (book : BookState) (cs : List ℕ) (f : Tag → ℕ) → HasHistory book → IsDistinct nat_eq cs
-    → ((c : ℕ) → has c cs ≡ false → (account_in c book).leases ≡ []) → sum_by (weight_of f book) cs ≡ sum_by f (leased book)
+    → ((c : ℕ) → has c cs ≡ false → (account_in c book).leases ≡ []) → sum_by (weight_of f book) cs ≡ sum_by f (leased_segments book)
 leases_together book cs f had apart none =
     let less = leases_of_some book cs f had apart in
     let more = sum_within (weight_of f book) (clients_in book) cs (clients_apart book had) (λ c is past. ap (λ (ls : List Lease). sum_by f (segments ls)) (none c past)) in
@@ -256,7 +256,7 @@ kept_bound es c orderly = by (kept_of c es) refl
 
 lease_bound : (es : List Entry) (c : ℕ) → AreOrderly es → (l : Lease) → WasGranted es c l → IsRequestId (granted_request c l) × IsRange l.segment.holding.range
 lease_bound es c orderly l was =
-    let of = outcome_entry es (granted_request c l) (kept l.number (Grant l.segment was.0)) was.1 in
+    let of = outcome_entry es (granted_request c l) (kept_settlement l.number (Grant l.segment was.0)) was.1 in
     let range = entry_in_range es of.1 (granted_request c l) of.0 orderly of.2 in
     (range.0, subst IsReplyInRange (ap (λ (x : Kept). x.reply) (sym of.3)) (reply_in_range range.1.0 (granted_request c l) of.0 range.1.1))
 

@@ -4,7 +4,7 @@ use Rattle.std.specs.List.{AllByRecursion, IsDistinct}
 use Rattle.std.proofs.lemmas.Bool.{or_parts, eqb-false, ne_eqb, le-ltb}
 use Rattle.lease_terms.specs.Requests.{RequestId}
 use Rattle.lease_book.specs.Receipts.{Kept}
-use Rattle.lease_book.specs.Entry.{Settlement, Entry, Hello, Settled, Swept, kept}
+use Rattle.lease_book.specs.Entry.{Settlement, Entry, Hello, Settled, Swept, kept_settlement}
 use Rattle.lease_book.specs.Account.{Account, number_of, is_lease, without_first, leases_after}
 use Rattle.lease_book.specs.Shelf.{changed_at, with_standing, with_leases}
 use Rattle.lease_book.specs.History.{incarnation, settled_in, higher, greatest, leases_of, clients_of, kept_of, account, AreOrderly}
@@ -99,7 +99,7 @@ pub settled_others : (es : List Entry) (id : RequestId) (s : Settlement) (d : �
 settled_others es id s d other = λ j. record {
   client = d;
   incarnation = incarnation d es;
-  kept = greatest (cond (other j && nat_eq (incarnation d es) id.incarnation) (kept id.number s ∷ settled_in d (incarnation d es) es) (settled_in d (incarnation d es) es));
+  kept = greatest (cond (other j && nat_eq (incarnation d es) id.incarnation) (kept_settlement id.number s ∷ settled_in d (incarnation d es) es) (settled_in d (incarnation d es) es));
   leases = cond (other j) (leases_after id s (leases_of d es)) (leases_of d es);
 }
 
@@ -109,20 +109,20 @@ higher_next k (Some m) next = ap (λ (b : Bool). cond b (Some m) (Some k)) (le-l
 
 pub settled_own : (es : List Entry) (id : RequestId) (s : Settlement) → id.incarnation ≡ incarnation id.client es → id.number ≡ number_of (kept_of id.client es) + 1
     → account (Settled id s ∷ es) id.client
-    ≡ with_standing (record { incarnation = id.incarnation; kept = Some (kept id.number s) }) (with_leases (leases_after id s) (account es id.client))
+    ≡ with_standing (record { incarnation = id.incarnation; kept = Some (kept_settlement id.number s) }) (with_leases (leases_after id s) (account es id.client))
 settled_own es id s current next =
     let c : ℕ = id.client in
     let same : nat_eq c c ≡ true = eq-eqb c c refl in
     let now : nat_eq (incarnation c es) id.incarnation ≡ true = eq-eqb (incarnation c es) id.incarnation (sym current) in
     let first : account (Settled id s ∷ es) c
-    ≡ record { client = c; incarnation = incarnation c es; kept = higher (kept id.number s) (kept_of c es); leases = leases_after id s (leases_of c es) } =
+    ≡ record { client = c; incarnation = incarnation c es; kept = higher (kept_settlement id.number s) (kept_of c es); leases = leases_after id s (leases_of c es) } =
     λ j. record {
       client = c;
       incarnation = incarnation c es;
-      kept = greatest (cond (same j && now j) (kept id.number s ∷ settled_in c (incarnation c es) es) (settled_in c (incarnation c es) es));
+      kept = greatest (cond (same j && now j) (kept_settlement id.number s ∷ settled_in c (incarnation c es) es) (settled_in c (incarnation c es) es));
       leases = cond (same j) (leases_after id s (leases_of c es)) (leases_of c es);
     } in
-    let highest : higher (kept id.number s) (kept_of c es) ≡ Some (kept id.number s) = higher_next (kept id.number s) (kept_of c es) next in
+    let highest : higher (kept_settlement id.number s) (kept_of c es) ≡ Some (kept_settlement id.number s) = higher_next (kept_settlement id.number s) (kept_of c es) next in
     first ∙ (λ j. record { client = c; incarnation = sym current j; kept = highest j; leases = leases_after id s (leases_of c es) })
 
 -- A lease that ended.

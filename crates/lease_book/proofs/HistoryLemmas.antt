@@ -2,7 +2,7 @@
 use Rattle.std.proofs.Common.{◌≡◌, ℕ, ◌<◌, ◌≤◌, Bool, true, false, cond, ◌&&◌, ◌||◌, nat_eq, List, [], ◌∷◌, ◌++◌, map, Some, None, refl, sym, ap, subst, ◌∙◌, arith}
 use Rattle.std.specs.List.{find, list_any}
 use Rattle.std.proofs.lemmas.Bool.{or_parts, or_from, eqb-true, ne_eqb}
-use Rattle.lease_book.specs.Entry.{Entry, Hello, Settled, Swept, kept}
+use Rattle.lease_book.specs.Entry.{Entry, Hello, Settled, Swept, kept_settlement}
 use Rattle.lease_book.specs.Account.{Account, is_lease, without_first, leases_after}
 use Rattle.lease_book.specs.History.{incarnation, settled_in, greatest, leases_of, clients_of, account, AreOrderly}
 use Rattle.lease_book.specs.BookState.{BookState, IsHistory, nobody, or_nobody, account_in}
@@ -46,7 +46,7 @@ settled_unknown c i [] orderly none = refl
 settled_unknown c i (Hello d j ∷ older) orderly none = settled_unknown c i older orderly.2 (not_among c d j older none).0
 settled_unknown c i (Settled id s ∷ older) orderly none =
     let other = other_client c id.client id.incarnation older orderly.0.0.incarnation.0 orderly.1 none in
-    (λ k. cond (other k && nat_eq i id.incarnation) (kept id.number s ∷ settled_in c i older) (settled_in c i older))
+    (λ k. cond (other k && nat_eq i id.incarnation) (kept_settlement id.number s ∷ settled_in c i older) (settled_in c i older))
     ∙ settled_unknown c i older orderly.3 none
 settled_unknown c i (Swept d j a b ∷ older) orderly none = settled_unknown c i older orderly.1 none
 
@@ -80,11 +80,11 @@ fresh c i (Hello d j ∷ older) orderly above = fresh c i older orderly.2 (by (n
 fresh c i (Settled id s ∷ older) orderly above = by (nat_eq c id.client) refl (fresh c i older orderly.3 above)
   where
     by : (b : Bool) → nat_eq c id.client ≡ b → settled_in c i older ≡ []
-        → cond (b && nat_eq i id.incarnation) (kept id.number s ∷ settled_in c i older) (settled_in c i older) ≡ []
+        → cond (b && nat_eq i id.incarnation) (kept_settlement id.number s ∷ settled_in c i older) (settled_in c i older) ≡ []
     by true is rest =
         let later : nat_eq i id.incarnation ≡ false =
         ne_eqb i id.incarnation (λ e. absurd (omega (arith, orderly.1, ap (λ (k : ℕ). incarnation k older) (eqb-true c id.client is), above, e))) in
-        (λ k. cond (later k) (kept id.number s ∷ settled_in c i older) (settled_in c i older)) ∙ rest
+        (λ k. cond (later k) (kept_settlement id.number s ∷ settled_in c i older) (settled_in c i older)) ∙ rest
     by false is rest = rest
 fresh c i (Swept d j a b ∷ older) orderly above = fresh c i older orderly.1 above
 

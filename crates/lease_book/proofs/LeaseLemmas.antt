@@ -3,7 +3,7 @@ use Rattle.std.proofs.Common.{◌≡◌, ℕ, Bool, true, false, cond, nat_eq, L
 use Rattle.std.specs.List.{AllByRecursion}
 use Rattle.std.proofs.lemmas.Bool.{eqb-true}
 use Rattle.lease_terms.specs.Requests.{RequestId}
-use Rattle.lease_book.specs.Entry.{Settlement, Grant, Return, Refuse, Entry, Hello, Settled, Swept, kept}
+use Rattle.lease_book.specs.Entry.{Settlement, Grant, Return, Refuse, Entry, Hello, Settled, Swept, kept_settlement}
 use Rattle.lease_book.specs.Account.{Lease, is_lease, without_first, lease_of, granted_request, leases_after}
 use Rattle.lease_book.specs.History.{leases_of, outcome_of, AreOrderly}
 use Rattle.lease_book.specs.NumberLaws.{LeasesWereGranted}
@@ -14,7 +14,7 @@ use Rattle.lease_book.proofs.NumberLemmas.{own_outcome, outcome_stays}
 -- Each lease was granted.
 
 abbrev pub WasGranted : List Entry → ℕ → Lease → Type 0
-WasGranted es c l = (terms : Terms) × (outcome_of (granted_request c l) es ≡ Some (kept l.number (Grant l.segment terms)))
+WasGranted es c l = (terms : Terms) × (outcome_of (granted_request c l) es ≡ Some (kept_settlement l.number (Grant l.segment terms)))
 
 granted_after : (es : List Entry) (c : ℕ) (id : RequestId) (s : Settlement) (ls : List Lease) → c ≡ id.client → AllByRecursion (WasGranted (Settled id s ∷ es) c) ls
     → AllByRecursion (WasGranted (Settled id s ∷ es) c) (leases_after id s ls)
@@ -32,7 +32,7 @@ granted (Hello d i ∷ older) c orderly = granted older c orderly.2
 granted (Settled id s ∷ older) c orderly =
     by (nat_eq c id.client) refl
     (each_is (WasGranted older c) (WasGranted (Settled id s ∷ older) c) (leases_of c older)
-    (λ l was. (was.0, outcome_stays (Settled id s) older (granted_request c l) (kept l.number (Grant l.segment was.0)) orderly was.1)) (granted older c orderly.3))
+    (λ l was. (was.0, outcome_stays (Settled id s) older (granted_request c l) (kept_settlement l.number (Grant l.segment was.0)) orderly was.1)) (granted older c orderly.3))
   where
     by : (b : Bool) → nat_eq c id.client ≡ b → AllByRecursion (WasGranted (Settled id s ∷ older) c) (leases_of c older)
         → AllByRecursion (WasGranted (Settled id s ∷ older) c) (cond b (leases_after id s (leases_of c older)) (leases_of c older))

@@ -4,7 +4,7 @@ use Rattle.std.specs.List.{find}
 use Rattle.std.proofs.lemmas.Bool.{and_from, and_parts, eqb-true, eqb-false, ltb-true, ltb-false, ne_eqb}
 use Rattle.lease_terms.specs.Requests.{RequestId}
 use Rattle.lease_book.specs.Receipts.{Kept}
-use Rattle.lease_book.specs.Entry.{Settlement, Entry, Hello, Settled, Swept, kept}
+use Rattle.lease_book.specs.Entry.{Settlement, Entry, Hello, Settled, Swept, kept_settlement}
 use Rattle.lease_book.specs.Account.{number_of}
 use Rattle.lease_book.specs.History.{settled_in, higher, greatest, last_in, outcome_of, AreOrderly}
 use Rattle.lease_book.specs.NumberLaws.{SettledForIncarnation, OutcomesStay, NumbersAreSettledOnce, down_from}
@@ -25,13 +25,13 @@ of_says c i id is =
 pub of_itself : (id : RequestId) → is_of id.client id.incarnation id ≡ true
 of_itself id = and_from _ _ (eq-eqb id.client id.client refl) (eq-eqb id.incarnation id.incarnation refl)
 
-own_more : (es : List Entry) (id : RequestId) (s : Settlement) → settled_in id.client id.incarnation (Settled id s ∷ es) ≡ kept id.number s ∷ settled_in id.client id.incarnation es
-own_more es id s = λ j. cond (of_itself id j) (kept id.number s ∷ settled_in id.client id.incarnation es) (settled_in id.client id.incarnation es)
+own_more : (es : List Entry) (id : RequestId) (s : Settlement) → settled_in id.client id.incarnation (Settled id s ∷ es) ≡ kept_settlement id.number s ∷ settled_in id.client id.incarnation es
+own_more es id s = λ j. cond (of_itself id j) (kept_settlement id.number s ∷ settled_in id.client id.incarnation es) (settled_in id.client id.incarnation es)
 
 others_same : (es : List Entry) (id : RequestId) (s : Settlement) (c i : ℕ) → ¬ ((c ≡ id.client) × (i ≡ id.incarnation)) → settled_in c i (Settled id s ∷ es) ≡ settled_in c i es
 others_same es id s c i other = by (is_of c i id) refl
   where
-    by : (b : Bool) → is_of c i id ≡ b → cond b (kept id.number s ∷ settled_in c i es) (settled_in c i es) ≡ settled_in c i es
+    by : (b : Bool) → is_of c i id ≡ b → cond b (kept_settlement id.number s ∷ settled_in c i es) (settled_in c i es) ≡ settled_in c i es
     by true is = absurd (other (of_says c i id is))
     by false is = refl
 
@@ -95,14 +95,14 @@ last_more (Hello d j) es c i = omega arith
 last_more (Swept d j a b) es c i = omega arith
 last_more (Settled id s) es c i = by (is_of c i id)
   where
-    by : (b : Bool) → last_in c i es ≤ number_of (greatest (cond b (kept id.number s ∷ settled_in c i es) (settled_in c i es)))
-    by true = (higher_both (kept id.number s) (greatest (settled_in c i es))).1
+    by : (b : Bool) → last_in c i es ≤ number_of (greatest (cond b (kept_settlement id.number s ∷ settled_in c i es) (settled_in c i es)))
+    by true = (higher_both (kept_settlement id.number s) (greatest (settled_in c i es))).1
     by false = omega arith
 
 last_own : (es : List Entry) (id : RequestId) (s : Settlement) → id.number ≤ last_in id.client id.incarnation (Settled id s ∷ es)
 last_own es id s =
-    let more : last_in id.client id.incarnation (Settled id s ∷ es) ≡ number_of (higher (kept id.number s) (greatest (settled_in id.client id.incarnation es))) = ap (λ (ks : List Kept). number_of (greatest ks)) (own_more es id s) in
-    omega (arith, more, (higher_both (kept id.number s) (greatest (settled_in id.client id.incarnation es))).0)
+    let more : last_in id.client id.incarnation (Settled id s ∷ es) ≡ number_of (higher (kept_settlement id.number s) (greatest (settled_in id.client id.incarnation es))) = ap (λ (ks : List Kept). number_of (greatest ks)) (own_more es id s) in
+    omega (arith, more, (higher_both (kept_settlement id.number s) (greatest (settled_in id.client id.incarnation es))).0)
 
 entry_below : (es : List Entry) (id : RequestId) (s : Settlement) (k : ℕ) → slice_get es k ≡ Some (Settled id s) → id.number ≤ last_in id.client id.incarnation es
 entry_below [] id s k at = absurd (cc)
@@ -122,21 +122,21 @@ older_orderly (Swept c i a b) es orderly = orderly.1
 
 -- Outcomes.
 
-pub own_outcome : (es : List Entry) (id : RequestId) (s : Settlement) → outcome_of id (Settled id s ∷ es) ≡ Some (kept id.number s)
+pub own_outcome : (es : List Entry) (id : RequestId) (s : Settlement) → outcome_of id (Settled id s ∷ es) ≡ Some (kept_settlement id.number s)
 own_outcome es id s = ap (find (λ k. nat_eq id.number k.number)) (own_more es id s)
-    ∙ (λ j. cond (eq-eqb id.number id.number refl j) (Some (kept id.number s)) (outcome_of id es))
+    ∙ (λ j. cond (eq-eqb id.number id.number refl j) (Some (kept_settlement id.number s)) (outcome_of id es))
 
 other_outcome : (es : List Entry) (id : RequestId) (s : Settlement) (other : RequestId) → other ≢ id → outcome_of other (Settled id s ∷ es) ≡ outcome_of other es
 other_outcome es id s other differs = by (is_of other.client other.incarnation id) refl
   where
-    here : (b : Bool) → nat_eq other.number id.number ≡ b → (other.client ≡ id.client) × (other.incarnation ≡ id.incarnation) → cond b (Some (kept id.number s)) (outcome_of other es) ≡ outcome_of other es
+    here : (b : Bool) → nat_eq other.number id.number ≡ b → (other.client ≡ id.client) × (other.incarnation ≡ id.incarnation) → cond b (Some (kept_settlement id.number s)) (outcome_of other es) ≡ outcome_of other es
     here false is of = refl
     here true is of =
         let number : other.number ≡ id.number = eqb-true other.number id.number is in
         absurd (differs (λ j. record { client = of.0 j; incarnation = of.1 j; number = number j }))
 
     by : (b : Bool) → is_of other.client other.incarnation id ≡ b
-        → find (λ k. nat_eq other.number k.number) (cond b (kept id.number s ∷ settled_in other.client other.incarnation es) (settled_in other.client other.incarnation es)) ≡ outcome_of other es
+        → find (λ k. nat_eq other.number k.number) (cond b (kept_settlement id.number s ∷ settled_in other.client other.incarnation es) (settled_in other.client other.incarnation es)) ≡ outcome_of other es
     by false is = refl
     by true is = here (nat_eq other.number id.number) refl (of_says other.client other.incarnation id is)
 
@@ -146,14 +146,14 @@ outcome_stays (Swept c i a b) es id k orderly at = at
 outcome_stays (Settled d s) es id k orderly at = by (is_of id.client id.incarnation d) refl
   where
     by : (b : Bool) → is_of id.client id.incarnation d ≡ b
-        → find (λ m. nat_eq id.number m.number) (cond b (kept d.number s ∷ settled_in id.client id.incarnation es) (settled_in id.client id.incarnation es)) ≡ Some k
+        → find (λ m. nat_eq id.number m.number) (cond b (kept_settlement d.number s ∷ settled_in id.client id.incarnation es) (settled_in id.client id.incarnation es)) ≡ Some k
     by false is = at
     by true is =
         let of = of_says id.client id.incarnation d is in
         let last : last_in id.client id.incarnation es ≡ last_in d.client d.incarnation es = λ j. last_in (of.0 j) (of.1 j) es in
         let below = (found_number (settled_in id.client id.incarnation es) id.number k at).1 in
         let differs : nat_eq id.number d.number ≡ false = ne_eqb id.number d.number (λ e. absurd (omega (arith, e, last, below, next_of es d s orderly))) in
-        (λ j. cond (differs j) (Some (kept d.number s)) (outcome_of id es)) ∙ at
+        (λ j. cond (differs j) (Some (kept_settlement d.number s)) (outcome_of id es)) ∙ at
 
 outcome_later : (more es : List Entry) (id : RequestId) (k : Kept) → AreOrderly (more ++ es) → outcome_of id es ≡ Some k → outcome_of id (more ++ es) ≡ Some k
 outcome_later [] es id k orderly at = at
@@ -162,7 +162,7 @@ outcome_later (e ∷ more) es id k orderly at =
 
 -- the entry that an outcome is of
 abbrev OfEntry : List Entry → RequestId → Kept → Type 0
-OfEntry es id k = (s : Settlement) × (j : ℕ) × (slice_get es j ≡ Some (Settled id s)) × (k ≡ kept id.number s)
+OfEntry es id k = (s : Settlement) × (j : ℕ) × (slice_get es j ≡ Some (Settled id s)) × (k ≡ kept_settlement id.number s)
 
 one_later : (e : Entry) (es : List Entry) (id : RequestId) (k : Kept) → OfEntry es id k → OfEntry (e ∷ es) id k
 one_later e es id k of = (of.0, suc of.1, of.2, of.3)
@@ -173,17 +173,17 @@ outcome_entry (Hello c i ∷ older) id k at = one_later (Hello c i) older id k (
 outcome_entry (Swept c i a b ∷ older) id k at = one_later (Swept c i a b) older id k (outcome_entry older id k at)
 outcome_entry (Settled d s ∷ older) id k at = by (is_of id.client id.incarnation d) refl at (outcome_entry older id k)
   where
-    here : (b : Bool) → nat_eq id.number d.number ≡ b → (id.client ≡ d.client) × (id.incarnation ≡ d.incarnation) → cond b (Some (kept d.number s)) (outcome_of id older) ≡ Some k
+    here : (b : Bool) → nat_eq id.number d.number ≡ b → (id.client ≡ d.client) × (id.incarnation ≡ d.incarnation) → cond b (Some (kept_settlement d.number s)) (outcome_of id older) ≡ Some k
         → (outcome_of id older ≡ Some k → OfEntry older id k) → OfEntry (Settled d s ∷ older) id k
     here false is of at rest = one_later (Settled d s) older id k (rest at)
     here true is of at rest =
         let number : id.number ≡ d.number = eqb-true id.number d.number is in
         let same : d ≡ id = λ j. record { client = sym of.0 j; incarnation = sym of.1 j; number = sym number j } in
-        let told : k ≡ kept d.number s = cc in
-        (s, 0, ap (λ (x : RequestId). Some (Settled x s)) same, told ∙ ap (λ (n : ℕ). kept n s) (sym number))
+        let told : k ≡ kept_settlement d.number s = cc in
+        (s, 0, ap (λ (x : RequestId). Some (Settled x s)) same, told ∙ ap (λ (n : ℕ). kept_settlement n s) (sym number))
 
     by : (b : Bool) → is_of id.client id.incarnation d ≡ b
-        → find (λ m. nat_eq id.number m.number) (cond b (kept d.number s ∷ settled_in id.client id.incarnation older) (settled_in id.client id.incarnation older)) ≡ Some k
+        → find (λ m. nat_eq id.number m.number) (cond b (kept_settlement d.number s ∷ settled_in id.client id.incarnation older) (settled_in id.client id.incarnation older)) ≡ Some k
         → (outcome_of id older ≡ Some k → OfEntry older id k) → OfEntry (Settled d s ∷ older) id k
     by false is at rest = one_later (Settled d s) older id k (rest at)
     by true is at rest = here (nat_eq id.number d.number) refl (of_says id.client id.incarnation d is) at rest
@@ -215,15 +215,15 @@ in_turn (Swept d j a b ∷ older) c i orderly = in_turn older c i orderly.1
 in_turn (Settled id s ∷ older) c i orderly = by (is_of c i id) refl (in_turn older c i orderly.3)
   where
     by : (b : Bool) → is_of c i id ≡ b → map (λ (k : Kept). k.number) (settled_in c i older) ≡ down_from (last_in c i older)
-        → map (λ (k : Kept). k.number) (cond b (kept id.number s ∷ settled_in c i older) (settled_in c i older))
-        ≡ down_from (number_of (greatest (cond b (kept id.number s ∷ settled_in c i older) (settled_in c i older))))
+        → map (λ (k : Kept). k.number) (cond b (kept_settlement id.number s ∷ settled_in c i older) (settled_in c i older))
+        ≡ down_from (number_of (greatest (cond b (kept_settlement id.number s ∷ settled_in c i older) (settled_in c i older))))
     by false is rest = rest
     by true is rest =
         let of = of_says c i id is in
         let last : last_in c i older ≡ last_in id.client id.incarnation older = λ j. last_in (of.0 j) (of.1 j) older in
         let plus : id.number ≡ last_in c i older + 1 = omega (arith, next_of older id s orderly, last) in
         let next : id.number ≡ suc (last_in c i older) = omega (arith, plus) in
-        let top : higher (kept id.number s) (greatest (settled_in c i older)) ≡ Some (kept id.number s) = higher_next (kept id.number s) (greatest (settled_in c i older)) plus in
+        let top : higher (kept_settlement id.number s) (greatest (settled_in c i older)) ≡ Some (kept_settlement id.number s) = higher_next (kept_settlement id.number s) (greatest (settled_in c i older)) plus in
         (λ j. next j ∷ rest j) ∙ ap down_from (sym next ∙ ap number_of (sym top))
 
 find_in_turn : (ks : List Kept) (n m : ℕ) → map (λ (k : Kept). k.number) ks ≡ down_from n → 1 ≤ m → m ≤ n → (k : Kept) × (find (λ x. nat_eq m x.number) ks ≡ Some k)

@@ -46,8 +46,8 @@ abbrev pub leased_by : List Account → List Tag
 leased_by accounts = flat_map (λ a. segments a.leases) accounts
 
 -- all segments that are leased
-abbrev pub leased : BookState → List Tag
-leased book = leased_by book.accounts
+abbrev pub leased_segments : BookState → List Tag
+leased_segments book = leased_by book.accounts
 
 -- its clients, in order of first hello
 abbrev pub clients_in : BookState → List ℕ

@@ -6,9 +6,9 @@ use Rattle.deed_core.specs.Weights.{Gains, Loses}
 use Rattle.lease_terms.specs.Requests.{RequestId}
 use Rattle.lease_terms.specs.declared.refusals.Refusal.{Refusal}
 use Rattle.lease_book.specs.Receipts.{ReceiptState}
-use Rattle.lease_book.specs.Entry.{Settled, Swept, Grant, Return, Refuse, kept}
+use Rattle.lease_book.specs.Entry.{Settled, Swept, Grant, Return, Refuse, kept_settlement}
 use Rattle.lease_book.specs.Account.{is_lease, lease_of}
-use Rattle.lease_book.specs.BookState.{BookState, Enters, account_in, leased}
+use Rattle.lease_book.specs.BookState.{BookState, Enters, account_in, leased_segments}
 use Rattle.lease_book.specs.Answers.{receipt, IsNew}
 use Rattle.lease_book.specs.declared.books.TheConstants.{MOST_LEASES}
 use Rattle.lease_book.specs.declared.receipts.Terms.{Terms}
@@ -24,17 +24,17 @@ pub record IsGranted (old now : BookState) (id : RequestId) (t : Tag) (terms : T
     (r : ReceiptState) : Type 0 where
   pub new : IsNew (account_in id.client old) id
   pub room : length (account_in id.client old).leases < MOST_LEASES
-  pub receipt : r ≡ receipt old id (kept id.number (Grant t terms))
+  pub receipt : r ≡ receipt old id (kept_settlement id.number (Grant t terms))
   pub entry : Enters (Settled id (Grant t terms)) old now
-  pub leases : Gains (leased old) (leased now) t
+  pub leases : Gains (leased_segments old) (leased_segments now) t
 
 -- the new request is settled by a refusal
 pub record IsRefused (old now : BookState) (id : RequestId) (why : Refusal)
     (r : ReceiptState) : Type 0 where
   pub new : IsNew (account_in id.client old) id
-  pub receipt : r ≡ receipt old id (kept id.number (Refuse why))
+  pub receipt : r ≡ receipt old id (kept_settlement id.number (Refuse why))
   pub entry : Enters (Settled id (Refuse why)) old now
-  pub leases : leased now ≡ leased old
+  pub leases : leased_segments now ≡ leased_segments old
 
 -- the new request is settled by the release of a lease, which a request with the number `granted`
 -- was granted
@@ -46,16 +46,16 @@ pub record IsReleased (old now : BookState) (id : RequestId) (arena base : ℕ)
       ≡ Some (record { incarnation = id.incarnation; number = granted; segment = t })
   pub of_arena : t.arena ≡ arena
   pub at_base : t.holding.range.base ≡ base
-  pub receipt : r ≡ receipt old id (kept id.number (Return arena base))
+  pub receipt : r ≡ receipt old id (kept_settlement id.number (Return arena base))
   pub entry : Enters (Settled id (Return arena base)) old now
-  pub leases : Loses (leased old) (leased now) t
+  pub leases : Loses (leased_segments old) (leased_segments now) t
 
 -- the lease that this request was granted ended with no request
 pub record IsEnded (old now : BookState) (id : RequestId) (t : Tag) : Type 0 where
   pub lease : find (is_lease id.incarnation t.arena t.holding.range.base)
       (account_in id.client old).leases ≡ Some (lease_of id t)
   pub entry : Enters (Swept id.client id.incarnation t.arena t.holding.range.base) old now
-  pub leases : Loses (leased old) (leased now) t
+  pub leases : Loses (leased_segments old) (leased_segments now) t
 
 -- a lease of an older incarnation of the client ended
 pub record IsSwept (old now : BookState) (c : ℕ) (id : RequestId) (t : Tag) : Type 0 where

@@ -6,11 +6,12 @@ use Rattle.deed_core.specs.Extent.{IsRange}
 use Rattle.deed_core.specs.Tag.{Tag}
 use Rattle.lease_terms.specs.Ranges.{IsClient, IsOrdinal, IsQuantity}
 use Rattle.lease_terms.specs.Requests.{RequestId, IsRequestId}
-use Rattle.lease_book.specs.Entry.{Settlement, Entry, Hello, Settled, Swept, subject_of, kept}
+use Rattle.lease_book.specs.Entry.{Settlement, Entry, Hello, Settled, Swept, subject_of}
+use Rattle.lease_book.specs.Entry.{kept_settlement}
 use Rattle.lease_book.specs.Account.{Account, is_lease, without_first, granted_request}
 use Rattle.lease_book.specs.Account.{leases_after}
 use Rattle.lease_book.specs.BookState.{BookState, HasHistory, Enters, account_in, clients_in}
-use Rattle.lease_book.specs.BookState.{weight_of, leased}
+use Rattle.lease_book.specs.BookState.{weight_of, leased_segments}
 use Rattle.lease_book.specs.declared.books.TheConstants.{MOST_LEASES}
 use Rattle.lease_book.specs.declared.receipts.KeptReply.{KeptReply}
 use Rattle.lease_book.specs.declared.receipts.KeptReply.TheVariants.{Granted, Released, Refused}
@@ -32,7 +33,7 @@ pub record EnteredChanges : Type 0 where
       → account_in id.client new ≡ record {
         client = id.client;
         incarnation = id.incarnation;
-        kept = Some (kept id.number s);
+        kept = Some (kept_settlement id.number s);
         leases = leases_after id s (account_in id.client old).leases;
       }
   pub swept : (old new : BookState) (c i arena base : ℕ) → HasHistory old
@@ -50,15 +51,16 @@ pub record EnteredChanges : Type 0 where
 pub record LeasesAreTheClients : Type 0 where
   pub apart : (book : BookState) → HasHistory book → IsDistinct nat_eq (clients_in book)
   pub all : (book : BookState) (f : Tag → ℕ) → HasHistory book
-      → sum_by (weight_of f book) (clients_in book) ≡ sum_by f (leased book)
+      → sum_by (weight_of f book) (clients_in book) ≡ sum_by f (leased_segments book)
   -- any clients, each taken once, have no more than that together
   pub some : (book : BookState) (clients : List ℕ) (f : Tag → ℕ) → HasHistory book
-      → IsDistinct nat_eq clients → sum_by (weight_of f book) clients ≤ sum_by f (leased book)
+      → IsDistinct nat_eq clients
+      → sum_by (weight_of f book) clients ≤ sum_by f (leased_segments book)
   -- and just that, where no other client has a lease
   pub together : (book : BookState) (clients : List ℕ) (f : Tag → ℕ) → HasHistory book
       → IsDistinct nat_eq clients
       → ((c : ℕ) → list_any (λ d. c == d) clients ≡ false → (account_in c book).leases ≡ [])
-      → sum_by (weight_of f book) clients ≡ sum_by f (leased book)
+      → sum_by (weight_of f book) clients ≡ sum_by f (leased_segments book)
 
 -- the units that a reply names are in the range of units
 abbrev pub IsReplyInRange : KeptReply → Type 0

@@ -41,5 +41,5 @@ terms_of (Return arena base) = None
 terms_of (Refuse why) = None
 
 -- what is kept of a settled number
-abbrev pub kept : ℕ → Settlement → Kept
-kept number s = record { number = number; reply = kept_reply_of s; terms = terms_of s }
+abbrev pub kept_settlement : ℕ → Settlement → Kept
+kept_settlement number s = record { number = number; reply = kept_reply_of s; terms = terms_of s }

@@ -8,7 +8,7 @@ use Rattle.lease_terms.specs.Ranges.{IsClient, IsOrdinal, IsQuantity}
 use Rattle.lease_terms.specs.Requests.{RequestId, IsRequestId}
 use Rattle.lease_book.specs.Receipts.{Kept}
 use Rattle.lease_book.specs.Entry.{Settlement, Grant, Return, Refuse, Entry, Hello, Settled, Swept}
-use Rattle.lease_book.specs.Entry.{kept}
+use Rattle.lease_book.specs.Entry.{kept_settlement}
 use Rattle.lease_book.specs.declared.books.TheConstants.{MOST_LEASES}
 use Rattle.lease_book.specs.Account.{Lease, Account, number_of, is_lease, without_first}
 use Rattle.lease_book.specs.Account.{leases_after}
@@ -25,7 +25,8 @@ abbrev pub settled_in : ℕ → ℕ → List Entry → List Kept
 settled_in c i [] = []
 settled_in c i (Hello d j ∷ older) = settled_in c i older
 settled_in c i (Settled id s ∷ older) =
-    if (c == id.client) && (i == id.incarnation) then kept id.number s ∷ settled_in c i older
+    if (c == id.client) && (i == id.incarnation)
+    then kept_settlement id.number s ∷ settled_in c i older
     else settled_in c i older
 settled_in c i (Swept d j a b ∷ older) = settled_in c i older
 

@@ -2,7 +2,7 @@
 use Rattle.std.specs.Prelude.{◌≡◌, ℕ, ◌+◌, ◌<◌, ◌≤◌, ◌≢◌, Bool, List, ◌∷◌, All, Some, None, sum_by}
 use Rattle.std.specs.List.{find}
 use Rattle.lease_terms.specs.Requests.{RequestId}
-use Rattle.lease_book.specs.Entry.{Settlement, Entry, Hello, Settled, Swept, kept}
+use Rattle.lease_book.specs.Entry.{Settlement, Entry, Hello, Settled, Swept, kept_settlement}
 use Rattle.lease_book.specs.Account.{Lease, is_lease, without_first, leases_after}
 use Rattle.lease_book.specs.History.{incarnation, leases_of, kept_of, account, AreOrderly}
 use Rattle.lease_book.specs.BookState.{BookState, IsHistory, HasHistory, account_in}
@@ -35,7 +35,7 @@ pub record SettledChanges : Type 0 where
       ≡ record {
         client = id.client;
         incarnation = id.incarnation;
-        kept = Some (kept id.number s);
+        kept = Some (kept_settlement id.number s);
         leases = leases_after id s (leases_of id.client es);
       }
   pub others : (es : List Entry) (id : RequestId) (s : Settlement) (d : ℕ)

@@ -3,7 +3,7 @@ use Rattle.std.specs.Prelude.{◌≡◌, ◌≢◌, ℕ, zero, suc, ◌<◌, ◌
 use Rattle.std.specs.Prelude.{None, slice_get}
 use Rattle.lease_terms.specs.Requests.{RequestId}
 use Rattle.lease_book.specs.Receipts.{Kept, IsEarned}
-use Rattle.lease_book.specs.Entry.{Settlement, Grant, Entry, Settled, kept}
+use Rattle.lease_book.specs.Entry.{Settlement, Grant, Entry, Settled, kept_settlement}
 use Rattle.lease_book.specs.Account.{granted_request}
 use Rattle.lease_book.specs.History.{incarnation, settled_in, greatest, last_in, outcome_of}
 use Rattle.lease_book.specs.History.{leases_of, AreOrderly}
@@ -13,7 +13,7 @@ use Rattle.lease_book.specs.declared.receipts.Terms.{Terms}
 pub record SettledForIncarnation : Type 0 where
   pub own : (es : List Entry) (id : RequestId) (s : Settlement)
       → settled_in id.client id.incarnation (Settled id s ∷ es)
-      ≡ kept id.number s ∷ settled_in id.client id.incarnation es
+      ≡ kept_settlement id.number s ∷ settled_in id.client id.incarnation es
   pub others : (es : List Entry) (id : RequestId) (s : Settlement) (c i : ℕ)
       → ¬ ((c ≡ id.client) × (i ≡ id.incarnation))
       → settled_in c i (Settled id s ∷ es) ≡ settled_in c i es
@@ -23,14 +23,14 @@ pub record SettledForIncarnation : Type 0 where
 -- an outcome is that of one entry, and stays, whatever comes after
 pub record OutcomesStay : Type 0 where
   pub own : (es : List Entry) (id : RequestId) (s : Settlement)
-      → outcome_of id (Settled id s ∷ es) ≡ Some (kept id.number s)
+      → outcome_of id (Settled id s ∷ es) ≡ Some (kept_settlement id.number s)
   pub others : (es : List Entry) (id : RequestId) (s : Settlement) (other : RequestId)
       → other ≢ id → outcome_of other (Settled id s ∷ es) ≡ outcome_of other es
   pub later : (more es : List Entry) (id : RequestId) (k : Kept) → AreOrderly (more ++ es)
       → outcome_of id es ≡ Some k → outcome_of id (more ++ es) ≡ Some k
   pub entry : (es : List Entry) (id : RequestId) (k : Kept) → outcome_of id es ≡ Some k
       → (s : Settlement) × (j : ℕ)
-      × (slice_get es j ≡ Some (Settled id s)) × (k ≡ kept id.number s)
+      × (slice_get es j ≡ Some (Settled id s)) × (k ≡ kept_settlement id.number s)
 
 -- the reply with the greatest number, which is kept of the current incarnation, is the outcome of
 -- that number
@@ -67,5 +67,6 @@ abbrev pub LeasesWereGranted : Type 0
 LeasesWereGranted =
     (es : List Entry) (c : ℕ) → AreOrderly es
     → All (λ l. (terms : Terms)
-    × (outcome_of (granted_request c l) es ≡ Some (kept l.number (Grant l.segment terms))))
+    × (outcome_of (granted_request c l) es
+    ≡ Some (kept_settlement l.number (Grant l.segment terms))))
     (leases_of c es)

@@ -8,11 +8,11 @@ ghost use Rattle.deed_core.specs.Request.{Fits};
 ghost use Rattle.lease_terms.specs.Requests.{IsRequestId};
 ghost use Rattle.lease_terms.specs.declared.values.TheConstants.{LAST_CLIENT};
 ghost use Rattle.lease_book.specs.Receipts.{Kept};
-ghost use Rattle.lease_book.specs.Entry.{Entry, Hello, kept};
+ghost use Rattle.lease_book.specs.Entry.{Entry, Hello, kept_settlement};
 ghost use Rattle.lease_book.specs.Account.{last, is_lease, is_older};
 ghost use Rattle.lease_book.specs.History.{account, clients_of};
 ghost use Rattle.lease_book.specs.BookState.{BookState, IsHistory, HasHistory, Enters, account_in};
-ghost use Rattle.lease_book.specs.BookState.{leased, leased_in, units_of_arena};
+ghost use Rattle.lease_book.specs.BookState.{leased_segments, leased_in, units_of_arena};
 ghost use Rattle.lease_book.specs.Reports.{report_of};
 ghost use Rattle.lease_book.specs.declared.books.TheConstants.{MOST_LEASES};
 
@@ -77,7 +77,7 @@ impl<D: Deed> Book<D> {
 
     /// Ends a book of no leases, and gives its mark back.
     pub fn close(mut self) -> Result<D, Book<D>>
-        ensures exactly { IsOk result ↔ (leased self ≡ []) }
+        ensures exactly { IsOk result ↔ (leased_segments self ≡ []) }
         ensures mark { IfOk result (λ mark. D.holding mark ≡ self.mark) }
         ensures handed_back { IfErr result (λ book. book ≡ self) }
     {
@@ -95,7 +95,7 @@ impl<D: Deed> Book<D> {
         ensures taken { OnOk result (Enters (Hello client incarnation) self.old self.new) }
         ensures known { incarnation ≡ (account_in client self.old).incarnation
             → self.new ≡ self.old }
-        ensures leases { leased self.new ≡ leased self.old }
+        ensures leases { leased_segments self.new ≡ leased_segments self.old }
         ensures current { OnOk result ((account_in client self.old).incarnation ≤ incarnation) }
         ensures refused { IfErr result
             (IsHelloFault (account_in client self.old).incarnation incarnation) }
@@ -259,7 +259,7 @@ impl<D: Deed> Book<D> {
     /// client once.
     pub fn take_lease(&mut self) -> Option<(RequestId, Segment<D>)>
         ensures taken { IfSome result (λ r. IsEnded self.old self.new r.0 r.1) }
-        ensures exactly { IsNone result ↔ (leased self.old ≡ []) }
+        ensures exactly { IsNone result ↔ (leased_segments self.old ≡ []) }
         ensures unchanged { IfNone result (self.new ≡ self.old) }
     {
         let index = self.accounts.first_leased()?;
@@ -269,7 +269,7 @@ impl<D: Deed> Book<D> {
 
     /// The units of the arena that are leased.
     pub fn units(&self, arena: u32) -> u128
-        ensures value { result ≡ sum_by (units_of_arena arena) (leased self.now) }
+        ensures value { result ≡ sum_by (units_of_arena arena) (leased_segments self.now) }
         ensures history { (entries : List Entry)
             → IsHistory entries self.now
             → result ≡ sum_by (units_of_arena arena) (leased_in entries) }

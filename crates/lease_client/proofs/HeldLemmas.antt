@@ -11,7 +11,7 @@ use Rattle.lease_proto.specs.declared.replies.Reply.TheVariants as replies
 use Rattle.lease_client.specs.declared.held.HeldSegment.{HeldSegment}
 use Rattle.lease_client.specs.Answers.{answers_one}
 use Rattle.lease_client.specs.ClientState.{ClientState, is_at}
-use Rattle.lease_client.specs.Replies.{is_ahead, accepts, accepted, got, segment_of}
+use Rattle.lease_client.specs.Replies.{is_ahead, accepts, after_accept, got, segment_of}
 use Rattle.lease_client.specs.Runs.{Move, Restart, Send, Get, TakesMove, Run, Ends, Keeps, IsHeldSince}
 use Rattle.lease_client.specs.Laws.{HeldIsSinceGrant}
 use Rattle.lease_client.proofs.ReplyLemmas.{got_by}
@@ -72,7 +72,7 @@ old_is_ahead o c accept = elim (or_cases (is_ahead (replies.Old o) c) (answers_o
 same_came : (s : HeldSegment) (reply : Reply) (c : ClientState) → is_ahead reply c ≡ false → Contains c.held s → Came s (Get reply) c
 same_came s reply c behind has = inl (has, λ ahead. both_ways _ behind ahead)
 
-accepted_came : (s : HeldSegment) (reply : Reply) (c : ClientState) → accepts reply c ≡ true → Contains (accepted reply c).held s → Came s (Get reply) c
+accepted_came : (s : HeldSegment) (reply : Reply) (c : ClientState) → accepts reply c ≡ true → Contains (after_accept reply c).held s → Came s (Get reply) c
 accepted_came s (replies.Old o) c accept has = absurd (contains_none s has)
 accepted_came s (replies.Granted g) c accept has = elim (Contains-push_cases c.held (segment_of g) s has) as (λ _. Came s (Get (replies.Granted g)) c) [
   | inl held ↦ same_came s _ c refl held
@@ -99,7 +99,7 @@ came s (Get reply) old new makes has =
     (subst (λ (c : ClientState). Contains c.held s) makes has)
 
 accepted_stays : (s : HeldSegment) (reply : Reply) (c : ClientState) → accepts reply c ≡ true → (Ends s (Get reply) c → ⊥) → Contains c.held s
-    → Contains (accepted reply c).held s
+    → Contains (after_accept reply c).held s
 accepted_stays s (replies.Old o) c accept kept has = absurd (kept (old_is_ahead o c accept))
 accepted_stays s (replies.Granted g) c accept kept has = Contains-append_left c.held (segment_of g ∷ []) s has
 accepted_stays s (replies.Welcome w) c accept kept has = has

@@ -12,7 +12,7 @@ use Rattle.lease_proto.specs.declared.replies.Reply.{Reply}
 use Rattle.lease_proto.specs.declared.replies.Reply.TheVariants as replies
 use Rattle.lease_client.specs.Answers.{is_same_request, answers, answers_one}
 use Rattle.lease_client.specs.ClientState.{ClientState, IsSound, IsOwn}
-use Rattle.lease_client.specs.Replies.{is_ahead, accepts, accepted, got}
+use Rattle.lease_client.specs.Replies.{is_ahead, accepts, after_accept, got}
 use Rattle.lease_client.specs.Runs.{Move, Restart, Send, Get, TakesMove, Run, waiting, IsDone, MayBeSent}
 use Rattle.lease_client.specs.Laws.{RepliesCountOnce, SentStaysSent}
 use Rattle.lease_client.proofs.ReplyLemmas.{got_by, moves_in_turn, moves_keep_sound}
@@ -43,7 +43,7 @@ Past (replies.Error e) c = Unit {0}
 -- What is past changes nothing.
 
 ignored : (reply : Reply) (c : ClientState) → accepts reply c ≡ false → got reply c ≡ c
-ignored reply c no_it = cond-false (accepts reply c) (accepted reply c) c no_it
+ignored reply c no_it = cond-false (accepts reply c) (after_accept reply c) c no_it
 
 below_differs : (a b : ℕ) → a < b → (a == b) ≡ false
 below_differs a b low = ne_eqb a b (λ is. omega (arith, is))
@@ -125,7 +125,7 @@ record Settles (old new : ClientState) : Type 0 where
   next : new.next ≡ old.next
   idle : new.outstanding ≡ None
 
-settles : (reply : Reply) (c : ClientState) → Settles c (accepted reply c)
+settles : (reply : Reply) (c : ClientState) → Settles c (after_accept reply c)
 settles (replies.Welcome w) c = record { incarnation = refl; next = refl; idle = refl }
 settles (replies.Granted g) c = record { incarnation = refl; next = refl; idle = refl }
 settles (replies.Released id) c = record { incarnation = refl; next = refl; idle = refl }
@@ -137,7 +137,7 @@ settles (replies.Again a) c = record { incarnation = refl; next = refl; idle = r
 settles (replies.Error e) c = record { incarnation = refl; next = refl; idle = refl }
 
 -- a closed client accepts an `old` alone
-closed_accepts : (v : ℕ) (reply : Reply) (c : ClientState) → Closed v c → accepts reply c ≡ true → Closed v (accepted reply c)
+closed_accepts : (v : ℕ) (reply : Reply) (c : ClientState) → Closed v c → accepts reply c ≡ true → Closed v (after_accept reply c)
 closed_accepts v (replies.Old o) c is accept = record { floor = omega (arith, is.floor); shut = refl; idle = refl; none = refl }
 closed_accepts v (replies.Welcome w) c is accept = absurd (false≢true (ap (answers_one (replies.Welcome w)) (sym is.idle) ∙ accept))
 closed_accepts v (replies.Granted g) c is accept = absurd (false≢true (ap (answers_one (replies.Granted g)) (sym is.idle) ∙ accept))
@@ -154,7 +154,7 @@ done_settles id old new is (inr at) =
     let none : waiting new.outstanding ≡ 0 = ap waiting is.idle in
     inr (at.0 ∙ sym is.incarnation, omega (arith, at.1, is.next, none))
 
-past_accepted : (past reply : Reply) (c : ClientState) → accepts reply c ≡ true → Past past c → Past past (accepted reply c)
+past_accepted : (past reply : Reply) (c : ClientState) → accepts reply c ≡ true → Past past c → Past past (after_accept reply c)
 past_accepted (replies.Welcome w) reply c accept (inl low) = inl (let is = settles reply c in omega (arith, is.incarnation))
 past_accepted (replies.Welcome w) reply c accept (inr at) =
     let is = settles reply c in inr (at.0 ∙ sym is.incarnation, ap is_hello is.idle)
@@ -265,7 +265,7 @@ took_refused r c None is own new settled = absurd (false≢true is)
 took_refused r c (Some (lines.Hello h)) is own new settled = absurd (false≢true is)
 took_refused r c (Some (lines.Request id op)) is own new settled = done_own r.id id c is own.1 own.2 new settled
 
-past_after : (reply : Reply) (c : ClientState) → IsSound c → accepts reply c ≡ true → Past reply (accepted reply c)
+past_after : (reply : Reply) (c : ClientState) → IsSound c → accepts reply c ≡ true → Past reply (after_accept reply c)
 past_after (replies.Welcome w) c is accept = inr (took_welcome w c c.outstanding accept is.outstanding, refl)
 past_after (replies.Granted g) c is accept = took_granted g c c.outstanding accept is.outstanding _ (settles (replies.Granted g) c)
 past_after (replies.Released id) c is accept = took_released id c c.outstanding accept is.outstanding _ (settles (replies.Released id) c)
@@ -299,11 +299,11 @@ sent_restarted id op i old own above waits =
     omega arith
 
 sent_accepted : (id : RequestId) (op : Op) (reply : Reply) (old : ClientState) → IsOwn old old.outstanding
-    → old.outstanding ≡ Some (lines.Request id op) → IsDone id (accepted reply old)
+    → old.outstanding ≡ Some (lines.Request id op) → IsDone id (after_accept reply old)
 sent_accepted id op reply old own waits =
     let mine : IsOwn old (Some (lines.Request id op)) = subst (IsOwn old) waits own in
     let is = settles reply old in
-    let none : waiting (accepted reply old).outstanding ≡ 0 = ap waiting is.idle in
+    let none : waiting (after_accept reply old).outstanding ≡ 0 = ap waiting is.idle in
     let next : id.number + 1 ≡ old.next = mine.2 in
     inr (mine.1 ∙ sym is.incarnation, omega (arith, is.next, none, next))
 

@@ -10,16 +10,16 @@ use Rattle.lease_proto.specs.declared.replies.Reply.{Reply}
 use Rattle.lease_proto.specs.declared.replies.Reply.TheVariants as replies
 use Rattle.lease_client.specs.Answers.{answers_one}
 use Rattle.lease_client.specs.ClientState.{ClientState, IsSound, IsOwn}
-use Rattle.lease_client.specs.Replies.{accepts, accepted, got}
-use Rattle.lease_client.specs.Calls.{may_restart, restarted, is_of_held}
+use Rattle.lease_client.specs.Replies.{accepts, after_accept, got}
+use Rattle.lease_client.specs.Calls.{may_restart, after_restart, is_of_held}
 use Rattle.lease_client.specs.Laws.{MovesAreInTurn}
 use Rattle.lease_client.specs.Runs.{Move, Restart, Send, Get, TakesMove}
 use Rattle.lease_client.proofs.SoundLemmas.{sound_sent}
 
 -- what is known of a client that got a reply: it accepted it, or it is as before
 pub got_by : (P : ClientState → Type 0) (reply : Reply) (c : ClientState)
-    → (accepts reply c ≡ true → P (accepted reply c)) → (accepts reply c ≡ false → P c) → P (got reply c)
-got_by P reply c accept ignore = cond_both (accepts reply c) (accepted reply c) c P accept ignore
+    → (accepts reply c ≡ true → P (after_accept reply c)) → (accepts reply c ≡ false → P c) → P (got reply c)
+got_by P reply c accept ignore = cond_both (accepts reply c) (after_accept reply c) c P accept ignore
 
 -- where none of four reasons stands
 none_of : {A : Type 0} (opened busy held out : Bool) (w x y z : A)
@@ -48,7 +48,7 @@ moves_in_turn = record {
 
 -- What is true of every client stays so.
 
-sound_restarted : (i : ℕ) (c : ClientState) → IsSound c → may_restart i c ≡ true → IsSound (restarted i c)
+sound_restarted : (i : ℕ) (c : ClientState) → IsSound c → may_restart i c ≡ true → IsSound (after_restart i c)
 sound_restarted i c is may = let turn = moves_in_turn.restart i c may in record {
   id = is.id;
   incarnation = turn.2;
@@ -83,7 +83,7 @@ idle c is = record {
   outstanding = tt;
 }
 
-sound_accepted : (reply : Reply) (c : ClientState) → IsSound c → accepts reply c ≡ true → IsSound (accepted reply c)
+sound_accepted : (reply : Reply) (c : ClientState) → IsSound c → accepts reply c ≡ true → IsSound (after_accept reply c)
 sound_accepted (replies.Welcome w) c is yes_it = record {
   id = is.id;
   incarnation = is.incarnation;

@@ -30,8 +30,8 @@ abbrev pub own_hello : ℕ → ClientState → Line
 own_hello i c = lines.Hello (record { client = c.id; incarnation = i })
 
 -- the client in a new incarnation: it holds nothing, and its hello is outstanding
-abbrev pub restarted : ℕ → ClientState → ClientState
-restarted i c = record {
+abbrev pub after_restart : ℕ → ClientState → ClientState
+after_restart i c = record {
   id = c.id;
   incarnation = i;
   floor = c.floor;
@@ -43,7 +43,7 @@ restarted i c = record {
 
 abbrev pub IsRestarted : ℕ → (old new : ClientState) → Result Line NotGreater → Type 0
 IsRestarted i old new (Ok line) =
-    (may_restart i old ≡ true) × (line ≡ own_hello i old) × (new ≡ restarted i old)
+    (may_restart i old ≡ true) × (line ≡ own_hello i old) × (new ≡ after_restart i old)
 IsRestarted i old new (Err fault) = (may_restart i old ≡ false) × (new ≡ old)
 
 -- a release is of something that is held
@@ -73,8 +73,8 @@ held_after (ops.Lease l) held = held
 held_after (ops.Release r) held = filter (λ s. not (is_at r.arena r.base s)) held
 
 -- the client after it sent this with its next number
-abbrev pub sent : Op → ClientState → ClientState
-sent op c = record c {
+abbrev pub after_send : Op → ClientState → ClientState
+after_send op c = record c {
   next = c.next + 1;
   outstanding = Some (next_request op c);
   held = held_after op c.held;
@@ -87,7 +87,7 @@ WantsMemory (ops.Release r) = ⊥
 
 abbrev pub IsSent : Op → (old new : ClientState) → Result Line SendFault → Type 0
 IsSent op old new (Ok line) =
-    (refusal op old ≡ None) × (line ≡ next_request op old) × (new ≡ sent op old)
+    (refusal op old ≡ None) × (line ≡ next_request op old) × (new ≡ after_send op old)
 IsSent op old new (Err (NoMemory back)) =
     (refusal op old ≡ None) × WantsMemory op × (back ≡ op) × (new ≡ old)
 IsSent op old new (Err fault) = (refusal op old ≡ Some fault) × (new ≡ old)

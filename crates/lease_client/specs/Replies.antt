@@ -24,21 +24,21 @@ segment_of g = record { arena = g.arena; base = g.base; len = g.len }
 
 -- the client after it accepted the reply, which ends what was outstanding: a `welcome` opens it, a
 -- `granted` adds to what it holds, and after an `old` it is closed and holds nothing
-abbrev pub accepted : Reply → ClientState → ClientState
-accepted (replies.Welcome w) c = record c { outstanding = None; is_open = true }
-accepted (replies.Granted g) c =
+abbrev pub after_accept : Reply → ClientState → ClientState
+after_accept (replies.Welcome w) c = record c { outstanding = None; is_open = true }
+after_accept (replies.Granted g) c =
     record c { outstanding = None; held = c.held ++ segment_of g ∷ [] }
-accepted (replies.Old o) c = record c {
+after_accept (replies.Old o) c = record c {
   floor = max c.floor o.current;
   outstanding = None;
   is_open = false;
   held = [];
 }
-accepted reply c = record c { outstanding = None }
+after_accept reply c = record c { outstanding = None }
 
 -- the client after it got the reply
 abbrev pub got : Reply → ClientState → ClientState
-got reply c = if accepts reply c then accepted reply c else c
+got reply c = if accepts reply c then after_accept reply c else c
 
 abbrev pub got_answer : Reply → ClientState → Got
 got_answer reply c = if accepts reply c then Accepted else Ignored

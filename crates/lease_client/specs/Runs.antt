@@ -12,7 +12,7 @@ use Rattle.lease_client.specs.declared.held.HeldSegment.{HeldSegment}
 use Rattle.lease_client.specs.Answers.{answers_one}
 use Rattle.lease_client.specs.ClientState.{ClientState, is_at}
 use Rattle.lease_client.specs.Replies.{is_ahead, segment_of, got}
-use Rattle.lease_client.specs.Calls.{may_restart, restarted, refusal, sent}
+use Rattle.lease_client.specs.Calls.{may_restart, after_restart, refusal, after_send}
 
 -- what may change a client
 pub data Move : Type 0 where
@@ -22,8 +22,8 @@ pub data Move : Type 0 where
 
 -- the move may be made, and what the client is then
 abbrev pub TakesMove : Move → (old new : ClientState) → Type 0
-TakesMove (Restart i) old new = (may_restart i old ≡ true) × (new ≡ restarted i old)
-TakesMove (Send op) old new = (refusal op old ≡ None) × (new ≡ sent op old)
+TakesMove (Restart i) old new = (may_restart i old ≡ true) × (new ≡ after_restart i old)
+TakesMove (Send op) old new = (refusal op old ≡ None) × (new ≡ after_send op old)
 TakesMove (Get reply) old new = new ≡ got reply old
 
 -- one move after the other

@@ -9,7 +9,7 @@ use Rattle.lease_proto.specs.declared.lines.Line.TheVariants as lines
 use Rattle.lease_proto.specs.declared.lines.Op.{Op}
 use Rattle.lease_proto.specs.declared.lines.Op.TheVariants as ops
 use Rattle.lease_book.specs.Receipts.{Kept}
-use Rattle.lease_book.specs.Entry.{Entry, Settlement, Settled, Grant, Return, Refuse, kept}
+use Rattle.lease_book.specs.Entry.{Entry, Settlement, Settled, Grant, Return, Refuse, kept_settlement}
 use Rattle.lease_book.specs.Account.{Lease, number_of, is_lease, without_first, leases_after, lease_of}
 use Rattle.lease_book.specs.History.{incarnation, settled_in, higher, greatest, last_in, outcome_of, leases_of}
 use Rattle.lease_book.proofs.LawProofs.{settled_for_incarnation, outcomes_stay}
@@ -164,7 +164,7 @@ weight_le names i f g le l = by (i == l.incarnation)
 own_held : (names : ℕ → List ℕ) (i : ℕ) (id : RequestId) (op : Op) (s : Settlement) (held : List HeldSegment) (leases : List Lease)
     → i ≡ id.incarnation → IsFor names op s → HasEnded op held
     → ((f : HeldSegment → ℕ) → sum_by f held ≤ sum_by (weight_in names i f) leases) → (f : HeldSegment → ℕ) → (es : List Entry)
-    → outcome_of id es ≡ Some (kept id.number s)
+    → outcome_of id es ≡ Some (kept_settlement id.number s)
     → sum_by f held + weight_due names f es (Some (lines.Request id op)) ≤ sum_by (weight_in names i f) (leases_after id s leases)
 own_held names i id (ops.Lease l) (Grant t terms) held leases inc is ended le f es outcome =
     let due : weight_kept names f (outcome_of id es) ≡ f (told_segment names t) = ap (weight_kept names f) outcome in
@@ -196,7 +196,7 @@ own_settled names es c id op s know is client inc next waits =
     let number : id.number + 1 ≡ c.next = own.2 in
     let settled : last_in id.client id.incarnation (Settled id s ∷ es) ≡ id.number
     = ap (λ (ks : List Kept). number_of (greatest ks)) (settled_for_incarnation.own es id s)
-    ∙ higher_than (kept id.number s) (greatest (settled_in id.client id.incarnation es)) (omega (arith, next)) in
+    ∙ higher_than (kept_settlement id.number s) (greatest (settled_in id.client id.incarnation es)) (omega (arith, next)) in
     let last : last_in c.id c.incarnation (Settled id s ∷ es) ≡ id.number
     = ap (λ (n : ℕ). last_in n c.incarnation (Settled id s ∷ es)) client ∙ (ap (λ (n : ℕ). last_in id.client n (Settled id s ∷ es)) inc ∙ settled) in
     let leases : leases_of c.id (Settled id s ∷ es) ≡ leases_after id s (leases_of c.id es)

@@ -18,7 +18,7 @@ use Rattle.lease_book.proofs.LawProofs.{outcomes_stay, numbers_settled_once}
 use Rattle.lease_client.specs.declared.held.HeldSegment.{HeldSegment}
 use Rattle.lease_client.specs.Answers.{is_same_request, answers, answers_one}
 use Rattle.lease_client.specs.ClientState.{ClientState, IsSound, IsOwn}
-use Rattle.lease_client.specs.Replies.{is_ahead, accepts, accepted, got, segment_of}
+use Rattle.lease_client.specs.Replies.{is_ahead, accepts, after_accept, got, segment_of}
 use Rattle.lease_client.specs.Runs.{Get}
 use Rattle.lease_client.proofs.LawProofs.{moves_keep_sound}
 use Rattle.lease_history.specs.Known.{weight_told, weight_kept, weight_due, IsKnown}
@@ -61,9 +61,9 @@ replies_agree names es id a b one other =
 
 -- What is accepted.
 
-sound_accepted : (reply : Reply) (c : ClientState) → IsSound c → accepts reply c ≡ true → IsSound (accepted reply c)
+sound_accepted : (reply : Reply) (c : ClientState) → IsSound c → accepts reply c ≡ true → IsSound (after_accept reply c)
 sound_accepted reply c is accept =
-    subst IsSound (cond-true (accepts reply c) (accepted reply c) c accept) (moves_keep_sound (Get reply) c (got reply c) is refl)
+    subst IsSound (cond-true (accepts reply c) (after_accept reply c) c accept) (moves_keep_sound (Get reply) c (got reply c) is refl)
 
 -- nothing is outstanding any more, and what was due is held at most
 known_ends : (names : ℕ → List ℕ) (es : List Entry) (c : ClientState) (opened : Bool) (held : List HeldSegment) → IsKnown names es c
@@ -156,7 +156,7 @@ answers_none reply none (Some line) = none line
 
 -- a reply that answers no line isn't accepted, and an `old` from the book isn't news
 never : (names : ℕ → List ℕ) (es : List Entry) (c : ClientState) (reply : Reply) → accepts reply c ≡ answers_one reply c.outstanding
-    → ((line : Line) → answers reply line ≡ false) → accepts reply c ≡ true → IsKnown names es (accepted reply c)
+    → ((line : Line) → answers reply line ≡ false) → accepts reply c ≡ true → IsKnown names es (after_accept reply c)
 never names es c reply is none accept = absurd (both_ways (accepts reply c) (is ∙ answers_none reply none c.outstanding) accept)
 
 old_is_no_news : (names : ℕ → List ℕ) (es : List Entry) (c : ClientState) (o : Old) → IsKnown names es c
@@ -167,7 +167,7 @@ old_is_no_news names es c o know may ahead =
     omega (arith, may, ltb-true c.incarnation o.current parts.1, know.behind)
 
 known_accepted : (names : ℕ → List ℕ) (es : List Entry) (c : ClientState) (reply : Reply) → IsKnown names es c → MayTell names es reply
-    → accepts reply c ≡ true → IsKnown names es (accepted reply c)
+    → accepts reply c ≡ true → IsKnown names es (after_accept reply c)
 known_accepted names es c (replies.Welcome w) know may accept =
     known_ends names es c true c.held know (sound_accepted (replies.Welcome w) c know.sound accept)
     (omega (arith, first_next c w c.outstanding know.sound.outstanding accept)) (λ f. omega arith)
@@ -182,7 +182,7 @@ known_accepted names es c (replies.Refused r) know may accept =
     known_ends names es c c.is_open c.held know (sound_accepted (replies.Refused r) c know.sound accept)
     (refused_last names es c r c.outstanding know.sound.outstanding accept may) (λ f. omega arith)
 known_accepted names es c (replies.Old o) know may accept =
-    elim (or_cases (is_ahead (replies.Old o) c) (answers_one (replies.Old o) c.outstanding) accept) as (λ _. IsKnown names es (accepted (replies.Old o) c)) [
+    elim (or_cases (is_ahead (replies.Old o) c) (answers_one (replies.Old o) c.outstanding) accept) as (λ _. IsKnown names es (after_accept (replies.Old o) c)) [
       | inl ahead ↦ absurd (old_is_no_news names es c o know may ahead)
       | inr one ↦ absurd (both_ways (answers_one (replies.Old o) c.outstanding) (answers_none (replies.Old o) (λ line. refl) c.outstanding) one)
     ]
@@ -193,4 +193,4 @@ known_accepted names es c (replies.Error e) know may accept = never names es c (
 
 pub replies_keep_known : RepliesKeepKnown
 replies_keep_known names es c reply know may =
-    cond_both (accepts reply c) (accepted reply c) c (IsKnown names es) (λ accept. known_accepted names es c reply know may accept) (λ _. know)
+    cond_both (accepts reply c) (after_accept reply c) c (IsKnown names es) (λ accept. known_accepted names es c reply know may accept) (λ _. know)

@@ -9,7 +9,7 @@ use Rattle.lease_book.specs.History.{incarnation, leases_of, AreOrderly}
 use Rattle.lease_client.specs.declared.held.HeldSegment.{HeldSegment}
 use Rattle.lease_client.specs.ClientState.{ClientState, silent}
 use Rattle.lease_client.specs.Replies.{got}
-use Rattle.lease_client.specs.Calls.{may_restart, restarted, refusal, sent}
+use Rattle.lease_client.specs.Calls.{may_restart, after_restart, refusal, after_send}
 use Rattle.lease_client.specs.Runs.{MayBeSent}
 use Rattle.lease_history.specs.Known.{weight_in, IsKnown, IsFor}
 use Rattle.lease_history.specs.Told.{IsOutcome, MayTell}
@@ -22,9 +22,9 @@ ClientsBeginKnown = (names : ℕ → List ℕ) (id : ℕ) → IsClient id → Is
 pub record MovesKeepKnown : Type 0 where
   pub restart : (names : ℕ → List ℕ) (entries : List Entry) (c : ClientState) (i : ℕ)
       → AreOrderly entries → IsKnown names entries c → may_restart i c ≡ true
-      → IsKnown names entries (restarted i c)
+      → IsKnown names entries (after_restart i c)
   pub send : (names : ℕ → List ℕ) (entries : List Entry) (c : ClientState) (op : Op)
-      → IsKnown names entries c → refusal op c ≡ None → IsKnown names entries (sent op c)
+      → IsKnown names entries c → refusal op c ≡ None → IsKnown names entries (after_send op c)
 
 -- and that gets a reply that the book gave
 abbrev pub RepliesKeepKnown : Type 0

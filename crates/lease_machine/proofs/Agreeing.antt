@@ -27,8 +27,8 @@ use Rattle.lease_history.specs.Told.{reply_to}
 use Rattle.lease_machine.specs.Picture.{Picture, arena_named}
 use Rattle.lease_machine.specs.Machine.{NewRequest, Sweeps, HelloStep, ClientStep, AnswersLine, demand_of}
 use Rattle.lease_machine.specs.Laws.{Runs}
-use Rattle.lease_machine.specs.AnswerLaws.{written, AnswersAgree, RepeatsFit}
-use Rattle.lease_machine.proofs.Places.{setup_stays}
+use Rattle.lease_machine.specs.AnswerLaws.{reply_bytes, AnswersAgree, RepeatsFit}
+use Rattle.lease_machine.proofs.Homes.{setup_stays}
 use Rattle.lease_machine.proofs.Fitting.{grants_fit}
 use Rattle.lease_machine.proofs.Repeats.{IsLast, history_of, known_last, request_kept, request_answer, kept_or, operator_keeps}
 
@@ -85,7 +85,7 @@ lease_grows id l old new (reply.Welcome x) does = absurd does
 lease_grows id l old new (reply.Error x) does = absurd does
 
 release_grows : (id : RequestId) (l : _) (old new : Picture) (r : Reply) → NewRequest id (ops.Release l) old new r → BooksGrow old new
-release_grows id l old new (reply.Released p) does = grows_by (Settled id (Return does.1.place l.base)) old.book new.book does.1.released.entry
+release_grows id l old new (reply.Released p) does = grows_by (Settled id (Return does.1.index l.base)) old.book new.book does.1.released.entry
 release_grows id l old new (reply.Refused x) does = grows_by (Settled id (Refuse does.0)) old.book new.book does.1.refused.entry
 release_grows id l old new (reply.Granted x) does = absurd does
 release_grows id l old new (reply.Again x) does = absurd does
@@ -166,7 +166,7 @@ answers_agree old mid late new id op again line text between repeat bytes frames
                   let one : then_last.0 ≡ last.0 = some_is_one (outcome_of id all) then_last.0 last.0 (last_is_outcome all late.book id then_last.0 grown.1 then_last.1) stays in
                   let tree : late.tree ≡ old.tree = (setup_stays mid late frames between run).tree ∙ first.setup.tree in
                   let same : b.0 ≡ a.0 = then_last.2 ∙ ap (λ (k : Kept). reply_to (arena_named late.tree) id k.reply) one ∙ ap (λ (xs : List TreeArena). reply_to (arena_named xs) id last.0.reply) tree ∙ sym last.2 in
-                  inl (b.1 ∙ ap written same ∙ sym a.1)
+                  inl (b.1 ∙ ap reply_bytes same ∙ sym a.1)
             ]
       ]
     ]

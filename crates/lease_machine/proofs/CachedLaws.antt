@@ -25,8 +25,8 @@ use Rattle.lease_machine.proofs.XallocLaws.{held_after, last_after, picture_same
 use Rattle.lease_machine.specs.CallLaws.{AllocFromCaches, IsFromCaches}
 use Rattle.lease_machine.specs.Chunks.{LacksChunks, LacksRounds, OnSelected, TakesOwn, WasIdle, WasRound}
 use Rattle.lease_machine.specs.Held.{IsHeld, with_parts}
-use Rattle.lease_machine.specs.Moves.{ClimbsInVain, HasPlaceUp}
-use Rattle.lease_machine.specs.Picture.{Cpu, Picture, SameSetup, is_cpu}
+use Rattle.lease_machine.specs.Moves.{ClimbsInVain, HasBaseUp}
+use Rattle.lease_machine.specs.Picture.{NumberedCpu, Picture, SameSetup, is_cpu}
 use Rattle.lease_machine.specs.Serving.{CacheFor, CachesServe, CanServe, CanTake, HasChunk, IsCachedIn, WasReachable}
 use Rattle.local_calls.specs.Laws.{AllocsWell}
 use Rattle.local_calls.specs.Runs.{RunsTo}
@@ -67,16 +67,16 @@ same_quanta i j quantum some same =
     let e : i + 1 ≡ j + 1 = sym (mul-div_left (i + 1) some) ∙ (ap (λ (n : ℕ). n / quantum) same ∙ mul-div_left (j + 1) some) in
     omega (arith, e)
 
-module _ (d : Picture) (place : ℕ) (x : TreeArena) (q : Request) (s : LocalState) (held : IsHeld [] d) (here : slice_get d.tree place ≡ Some x) (c : Cpu) (found : find (is_cpu d.selected) d.cpus ≡ Some c) (plain : IsPlain q) (a : Climbed)
-    (run : RunsTo d.tree (alloc_plan (chain_in d.tree place) q.size) (reach d d.selected c found None held) s a) (cached : IsCachedIn x q) where
+module _ (d : Picture) (index : ℕ) (x : TreeArena) (q : Request) (s : LocalState) (held : IsHeld [] d) (here : slice_get d.tree index ≡ Some x) (c : NumberedCpu) (found : find (is_cpu d.selected) d.cpus ≡ Some c) (plain : IsPlain q) (a : Climbed)
+    (run : RunsTo d.tree (alloc_plan (chain_in d.tree index) q.size) (reach d d.selected c found None held) s a) (cached : IsCachedIn x q) where
   abbrev was : LocalState
   was = reach d d.selected c found None held
 
   abbrev chain : List Level
-  chain = chain_in d.tree place
+  chain = chain_in d.tree index
 
   abbrev level : Level
-  level = level_of place x
+  level = level_of index x
 
   abbrev above : List Level
   above = chain_up 3 d.tree x.source
@@ -88,27 +88,27 @@ module _ (d : Picture) (place : ℕ) (x : TreeArena) (q : Request) (s : LocalSta
   law = held.units.parts
 
   stage_run : RunsTo d.tree (alloc_by (cache_for level q.size) (level ∷ above) level q.size) was s a
-  stage_run = subst (λ z. RunsTo d.tree (alloc_plan z q.size) was s a) (allocs.chain_begins d.tree place x here) run
+  stage_run = subst (λ z. RunsTo d.tree (alloc_plan z q.size) was s a) (allocs.chain_begins d.tree index x here) run
 
   -- no units are asked for
-  nothing_asked : q.size ≡ 0 → IsFromCaches place x q d a then_d
+  nothing_asked : q.size ≡ 0 → IsFromCaches index x q d a then_d
   nothing_asked zero =
       let none : cache_for level q.size ≡ None = ap (cache_for level) zero in
       let climb : RunsTo d.tree (climb_plan (level ∷ above) q.size) was s a = subst (λ o. RunsTo d.tree (alloc_by o (level ∷ above) level q.size) was s a) none stage_run in
       let bad : a ≡ Err climbing.BadRequest = allocs.none_asked d.tree level above was s a law (subst (λ n. RunsTo d.tree (climb_plan (level ∷ above) n) was s a) zero climb) in
       let spaces : s.spaces ≡ d.spaces = subst (λ z. Climbings (level ∷ above) q.size z d.spaces s.spaces) bad (climb_ends d.tree (level ∷ above) q.size was s a law climb) in
-      subst (λ z. IsFromCaches place x q d z then_d) (sym bad)
-      ((λ good. omega (arith, zero, good.size)), picture_same d place x q s held here c found spaces (climb_cpu d.tree (level ∷ above) q.size was s a climb))
+      subst (λ z. IsFromCaches index x q d z then_d) (sym bad)
+      ((λ good. omega (arith, zero, good.size)), picture_same d index x q s held here c found spaces (climb_cpu d.tree (level ∷ above) q.size was s a climb))
 
   module _ (some : 0 < q.size) (j : ℕ) (number : cache_for level q.size ≡ Some (j + 1)) (size : rounded x.quantum q.size ≡ (j + 1) * x.quantum) where
-    arena_is : IsArena d.tree place x
-    arena_is = held.tree.each place x here
+    arena_is : IsArena d.tree index x
+    arena_is = held.tree.each index x here
 
     positive : 0 < x.quantum
     positive = power_some x.quantum arena_is.power
 
     good : IsGood x.quantum q
-    good = allocs.good_plain d place x q s held here c found plain a run some
+    good = allocs.good_plain d index x q s held here c found plain a run some
 
     -- a slab has room for the size
     small : q.size ≤ x.slab_size
@@ -119,19 +119,19 @@ module _ (d : Picture) (place : ℕ) (x : TreeArena) (q : Request) (s : LocalSta
         omega (arith, next, cached.1, up)
 
     -- the cache that serves it
-    stands : (y : QuantumCacheState) × IsCacheAt d.spaces place j y
+    stands : (y : QuantumCacheState) × IsCacheAt d.spaces index j y
     stands =
-        let y = space_here d place x q s held here c found in
-        let plan : plan_of y.0 ≡ plan_for x = slice_get_one (plans_of d.spaces) place (plan_of y.0) (plan_for x) (slice_get_mapped plan_of d.spaces place y.0 y.1) (ap (λ ps. slice_get ps place) held.plans ∙ slice_get_mapped plan_for d.tree place x here) in
+        let y = space_here d index x q s held here c found in
+        let plan : plan_of y.0 ≡ plan_for x = slice_get_one (plans_of d.spaces) index (plan_of y.0) (plan_for x) (slice_get_mapped plan_of d.spaces index y.0 y.1) (ap (λ ps. slice_get ps index) held.plans ∙ slice_get_mapped plan_for d.tree index x here) in
         let count : length y.0.caches ≡ x.qcache_max / x.quantum = sym (length-map y.0.caches slab_size_of) ∙ (ap (λ (p : SpacePlan). length p.slab_sizes) plan ∙ length-replicate (x.qcache_max / x.quantum) x.slab_size) in
         let most : (j + 1) * x.quantum ≤ x.qcache_max = subst (λ n. n ≤ x.qcache_max) size cached.1 in
         let within : j + 1 ≤ x.qcache_max / x.quantum = (le-div_iff_mul-le {k = x.quantum} {x = j + 1} {y = x.qcache_max} positive).1 most in
         let z = slice_get_some y.0.caches j (omega (arith, within, count)) in
         (z.0, record { space = y.0; at = y.1; among = z.1 })
 
-    module _ (f : Focus was place j) where
+    module _ (f : Focus was index j) where
       own_fits : FitsIn d.spaces f.own
-      own_fits = fits_before d d.selected c found None held d.spaces refl place j f.row f.own f.row_at f.own_at
+      own_fits = fits_before d d.selected c found None held d.spaces refl index j f.row f.own f.row_at f.own_at
 
       sized : IsSize f.own.cpu.size
       sized = own_fits.shaped.shape.sized
@@ -139,39 +139,39 @@ module _ (d : Picture) (place : ℕ) (x : TreeArena) (q : Request) (s : LocalSta
       ends : Ends d.tree chain level q.size j was f sized law a s
       ends =
           let by : RunsTo d.tree (alloc_cached (level ∷ above) level (j + 1) q.size) was s a = subst (λ o. RunsTo d.tree (alloc_by o (level ∷ above) level q.size) was s a) number stage_run in
-          alloc_ends d.tree chain level q.size j was f sized law s a (subst (λ z. RunsTo d.tree (alloc_cached z level (j + 1) q.size) was s a) (sym (allocs.chain_begins d.tree place x here)) by)
+          alloc_ends d.tree chain level q.size j was f sized law s a (subst (λ z. RunsTo d.tree (alloc_cached z level (j + 1) q.size) was s a) (sym (allocs.chain_begins d.tree index x here)) by)
 
-      abbrev mine : CacheFor d place x q f.cache f.own
+      abbrev mine : CacheFor d index x q f.cache f.own
       mine = record {
         cache = j;
         size = size;
         shared = record { space = f.space; at = f.at; among = f.among };
-        own = subst (λ rows. IsOwnAt rows place j f.own) (sym (selected_is d c found)) (record { row = f.row; at = f.row_at; among = f.own_at; arena = f.arena; cache = f.number });
+        own = subst (λ rows. IsOwnAt rows index j f.own) (sym (selected_is d c found)) (record { row = f.row; at = f.row_at; among = f.own_at; arena = f.arena; cache = f.number });
       }
 
       last : all_last s.spaces ≡ all_last d.spaces
       last = last_after climb_left (alloc_plan chain q.size) d d.selected c found None held (alloc_handles chain q.size) s a run
 
       -- the magazines fit then
-      kept : (y : CpuCacheState) (z : QuantumCacheState) → FitsFor (Round_ was place j f law own_fits) f.cache.depot.size y → s.cpu ≡ (there was place j f y z).cpu → IsHeld (hands_of (climb_left a)) then_d × SameSetup d then_d
+      kept : (y : CpuCacheState) (z : QuantumCacheState) → FitsFor (Round_ was index j f law own_fits) f.cache.depot.size y → s.cpu ≡ (there was index j f y z).cpu → IsHeld (hands_of (climb_left a)) then_d × SameSetup d then_d
       kept y z fit cpu =
           held_after climb_left (alloc_plan chain q.size) d d.selected c found None held (alloc_handles chain q.size) s a run
-          (subst (λ rows. Everywhere (FitsIn s.spaces) rows) (sym cpu) (there_all (FitsIn s.spaces) was place j f y z (fits_before d d.selected c found None held s.spaces last) (fits_again was place j f law own_fits y s.spaces last fit)))
+          (subst (λ rows. Everywhere (FitsIn s.spaces) rows) (sym cpu) (there_all (FitsIn s.spaces) was index j f y z (fits_before d d.selected c found None held s.spaces last) (fits_again was index j f law own_fits y s.spaces last fit)))
 
-      lacks_kept : (y : CpuCacheState) (z : QuantumCacheState) → LacksRounds f.cache.depot f.own.cpu y → s.cpu ≡ (there was place j f y z).cpu → IsHeld (hands_of (climb_left a)) then_d × SameSetup d then_d
-      lacks_kept y z lacks cpu = kept y z (lacks_fit (Round_ was place j f law own_fits) f.cache.depot.size f.own.cpu y f.cache.depot refl (depot_sized was place j f law own_fits) (focus_fits was place j f law own_fits) lacks) cpu
+      lacks_kept : (y : CpuCacheState) (z : QuantumCacheState) → LacksRounds f.cache.depot f.own.cpu y → s.cpu ≡ (there was index j f y z).cpu → IsHeld (hands_of (climb_left a)) then_d × SameSetup d then_d
+      lacks_kept y z lacks cpu = kept y z (lacks_fit (Round_ was index j f law own_fits) f.cache.depot.size f.own.cpu y f.cache.depot refl (depot_sized was index j f law own_fits) (focus_fits was index j f law own_fits) lacks) cpu
 
-      on_own : (P : CpuCacheState → CpuCacheState → Type 0) (y : CpuCacheState) (z : QuantumCacheState) → s.cpu ≡ (there was place j f y z).cpu → P f.own.cpu y → OnSelected place j P d then_d
-      on_own P y z cpu so = on_selected d c found s place j P (own_becomes was place j f P y s.cpu cpu so)
+      on_own : (P : CpuCacheState → CpuCacheState → Type 0) (y : CpuCacheState) (z : QuantumCacheState) → s.cpu ≡ (there was index j f y z).cpu → P f.own.cpu y → OnSelected index j P d then_d
+      on_own P y z cpu so = on_selected d c found s index j P (own_becomes was index j f P y s.cpu cpu so)
 
       -- a segment that was given
       module _ (t : Tag) (is : a ≡ Ok t) where
         given : IsServedOf (nodes_of d.tree) level q.size t
-        given = subst (λ z. IfOk z (IsServed (nodes_of d.tree) (level ∷ above) q.size)) is (allocs.served d place x q s held here c found plain a run)
+        given = subst (λ z. IfOk z (IsServed (nodes_of d.tree) (level ∷ above) q.size)) is (allocs.served d index x q s held here c found plain a run)
 
-        granted : CanServe d place x q → WasReachable d place t → CachesServe place x q t d then_d → IsHeld (hands_of (climb_left a)) then_d × SameSetup d then_d → IsFromCaches place x q d (Ok t) then_d
+        granted : CanServe d index x q → WasReachable d index t → CachesServe index x q t d then_d → IsHeld (hands_of (climb_left a)) then_d × SameSetup d then_d → IsFromCaches index x q d (Ok t) then_d
         granted can was_there serves after =
-            let fits : Fits x.quantum q t.holding.range.base t.holding.range.len = subst (λ z. Fits x.quantum z t.holding.range.base t.holding.range.len) (sym ((plain_is_of_its_size q).0 plain)) (subst (λ n. Fits n (plain_of q.size) t.holding.range.base t.holding.range.len) (allocs.quantum_of_place d.tree place x here) given.fits) in (
+            let fits : Fits x.quantum q t.holding.range.base t.holding.range.len = subst (λ z. Fits x.quantum z t.holding.range.base t.holding.range.len) (sym ((plain_is_of_its_size q).0 plain)) (subst (λ n. Fits n (plain_of q.size) t.holding.range.base t.holding.range.len) (allocs.quantum_of_index d.tree index x here) given.fits) in (
               good,
               can,
               record { arena = given.of_arena; fits = fits; from = inr (inr (cached, was_there, serves)); names = (refl, refl) },
@@ -179,53 +179,53 @@ module _ (d : Picture) (place : ℕ) (x : TreeArena) (q : Request) (s : LocalSta
               after.1,
             )
 
-        can_take : CanTake f.cache f.own → CanServe d place x q
+        can_take : CanTake f.cache f.own → CanServe d index x q
         can_take can = inl (cached, (f.cache, f.own, mine, can))
 
-        round_given : IsRound d.tree was place j f sized t s → IsFromCaches place x q d (Ok t) then_d
+        round_given : IsRound d.tree was index j f sized t s → IsFromCaches index x q d (Ok t) then_d
         round_given r =
             let y = r.0 in
             let e = r.1 in
-            let cpu : s.cpu ≡ (there was place j f y (with_depot e f.cache)).cpu = ap (λ (z : LocalState). z.cpu) r.2 in
-            let round : WasRound place j f.cache t d then_d = (e, on_own (λ m n. TakesOwn t m f.cache.depot n e) y (with_depot e f.cache) cpu r.3, depot_becomes was place j f (λ m n. n ≡ e) e s.spaces (ap (λ (z : LocalState). z.spaces) r.2) refl) in
-            let fit = takes_fit (Round_ was place j f law own_fits) f.cache.depot.size t f.own.cpu y f.cache.depot e (depot_fulls was place j f law own_fits) (focus_fits was place j f law own_fits) r.3 in
+            let cpu : s.cpu ≡ (there was index j f y (with_depot e f.cache)).cpu = ap (λ (z : LocalState). z.cpu) r.2 in
+            let round : WasRound index j f.cache t d then_d = (e, on_own (λ m n. TakesOwn t m f.cache.depot n e) y (with_depot e f.cache) cpu r.3, depot_becomes was index j f (λ m n. n ≡ e) e s.spaces (ap (λ (z : LocalState). z.spaces) r.2) refl) in
+            let fit = takes_fit (Round_ was index j f law own_fits) f.cache.depot.size t f.own.cpu y f.cache.depot e (depot_fulls was index j f law own_fits) (focus_fits was index j f law own_fits) r.3 in
             let after = kept y (with_depot e f.cache) fit cpu in
             elim r.3 [
               | inl pops ↦
                   let among : IsAmong t (own_rounds f.own) = pops_among t f.own.cpu y pops.0 in
-                  granted (can_take (inl (among_some t (own_rounds f.own) among))) (own_reached d c found place j f law t given.of_arena among) (f.cache, f.own, mine, inl round) after
+                  granted (can_take (inl (among_some t (own_rounds f.own) among))) (own_reached d c found index j f law t given.of_arena among) (f.cache, f.own, mine, inl round) after
               | inr swapped ↦
                   let among = full_among t f.own.cpu swapped.1.0 y f.cache.depot e swapped.0 swapped.1.1 swapped.1.2 in
                   let full = full_some t f.own.cpu swapped.1.0 y f.cache.depot e swapped.0 swapped.1.1 swapped.1.2 in
-                  granted (can_take (inr (inl (swapped.1.1.sized, full)))) (depot_reached d c found place j f law t given.of_arena among) (f.cache, f.own, mine, inl round) after
+                  granted (can_take (inr (inl (swapped.1.1.sized, full)))) (depot_reached d c found index j f law t given.of_arena among) (f.cache, f.own, mine, inl round) after
             ]
 
-        idle_given : IsIdle d.tree chain level q.size j was f sized law t s → IsFromCaches place x q d (Ok t) then_d
+        idle_given : IsIdle d.tree chain level q.size j was f sized law t s → IsFromCaches index x q d (Ok t) then_d
         idle_given r =
             let y = r.0 in
             let z = r.1 in
-            let cpu : s.cpu ≡ (there was place j f y (with_slab z f.cache)).cpu = ap (λ (w : LocalState). w.cpu) r.2 in
-            let idle : WasIdle place j f.cache t d then_d = (on_own (LacksRounds f.cache.depot) y (with_slab z f.cache) cpu r.3, slab_becomes was place j f (λ m n. TakeOf m (Some t) n) z s.spaces (ap (λ (w : LocalState). w.spaces) r.2) r.4) in
+            let cpu : s.cpu ≡ (there was index j f y (with_slab z f.cache)).cpu = ap (λ (w : LocalState). w.cpu) r.2 in
+            let idle : WasIdle index j f.cache t d then_d = (on_own (LacksRounds f.cache.depot) y (with_slab z f.cache) cpu r.3, slab_becomes was index j f (λ m n. TakeOf m (Some t) n) z s.spaces (ap (λ (w : LocalState). w.spaces) r.2) r.4) in
             let takes = r.4.3 in
             let at : StandsAt r.4.0 r.4.2 f.cache.slab.slabs = (elim takes.next [ inl low ↦ low.stands | inr low ↦ low.1.stands ]) in
             granted (can_take (inr (inr (some_idle f.cache.slab r.4.0 r.4.1 r.4.2 at takes.lowest))))
-            (idle_reached d c found place j f law t given.of_arena r.4.0 r.4.1 r.4.2 at takes.lowest (ap (λ (w : Tag). w.holding) takes.tag)) (f.cache, f.own, mine, inr (inl idle)) (lacks_kept y (with_slab z f.cache) r.3 cpu)
+            (idle_reached d c found index j f law t given.of_arena r.4.0 r.4.1 r.4.2 at takes.lowest (ap (λ (w : Tag). w.holding) takes.tag)) (f.cache, f.own, mine, inr (inl idle)) (lacks_kept y (with_slab z f.cache) r.3 cpu)
 
         -- a unit of the first chunk is one of the span
-        cut_inside : (mid : List SpaceState) (span : Tag) (u : ℕ) → (cut : OnSlab place j (λ m n. (i : ℕ) × Adds i m n span t) mid s.spaces) → IsStock mid → Covers t.holding.range u → Covers span.holding.range u
+        cut_inside : (mid : List SpaceState) (span : Tag) (u : ℕ) → (cut : OnSlab index j (λ m n. (i : ℕ) × Adds i m n span t) mid s.spaces) → IsStock mid → Covers t.holding.range u → Covers span.holding.range u
         cut_inside mid span u cut mid_law over =
             let slab = cut.cache.slab in
-            let sound = ((mid_law place cut.space cut.at).caches j cut.cache cut.among).sound in
+            let sound = ((mid_law index cut.space cut.at).caches j cut.cache cut.among).sound in
             let adds = cut.does.1 in
             let base : t.holding.range.base ≡ span.holding.range.base + slab.colour + 0 * chunk_of slab = ap (λ (w : Tag). w.holding.range.base) adds.tag in
             let len : t.holding.range.len ≡ chunk_of slab = ap (λ (w : Tag). w.holding.range.len) adds.tag in
             let fits : slab.colour + chunk_of slab ≤ slab.slab_size = chunk_within slab.slab_size (chunk_of slab) slab.colour sound.some sound.room sound.colour in
             (omega (arith, base, over.0), omega (arith, base, len, fits, adds.size, over.1))
 
-      lacks_chunks : (b : Climbed) → (l : IsLast d.tree chain level q.size j was f sized law b s) → LacksChunks place j f.cache d then_d
+      lacks_chunks : (b : Climbed) → (l : IsLast d.tree chain level q.size j was f sized law b s) → LacksChunks index j f.cache d then_d
       lacks_chunks b l = (on_own (LacksRounds f.cache.depot) l.0 f.cache l.3 l.1, none_idle f.cache.slab l.2)
 
-      last_given : (t : Tag) (is : a ≡ Ok t) → IsLast d.tree chain level q.size j was f sized law (Ok t) s → IsFromCaches place x q d (Ok t) then_d
+      last_given : (t : Tag) (is : a ≡ Ok t) → IsLast d.tree chain level q.size j was f sized law (Ok t) s → IsFromCaches index x q d (Ok t) then_d
       last_given t is l =
           let lacks = lacks_chunks (Ok t) l in
           let after = lacks_kept l.0 f.cache l.1 l.3 in
@@ -233,23 +233,23 @@ module _ (d : Picture) (place : ℕ) (x : TreeArena) (q : Request) (s : LocalSta
             | inl cut ↦
                 let span = cut.0 in
                 let mid = cut.1 in
-                let reached = climbs_reach d held.tree held.plans law 4 place x.slab_size span mid cut.2 in
-                granted t is (inr (inl (plain, fewer_fit d.tree d.spaces place q.size x.slab_size held.tree law small (climbs_has chain x.slab_size span d.spaces mid law cut.2))))
+                let reached = climbs_reach d held.tree held.plans law 4 index x.slab_size span mid cut.2 in
+                granted t is (inr (inl (plain, fewer_fit d.tree d.spaces index q.size x.slab_size held.tree law small (climbs_has chain x.slab_size span d.spaces mid law cut.2))))
                 (λ y at u over. inl (reached.free_for u (cut_inside t is mid span u cut.3 cut.4 over))) (f.cache, f.own, mine, inr (inr (lacks, inl (span, mid, cut.2, cut.3)))) after
             | inr climbed ↦
-                let reached = climbs_reach d held.tree held.plans law 4 place q.size t s.spaces climbed.1 in
+                let reached = climbs_reach d held.tree held.plans law 4 index q.size t s.spaces climbed.1 in
                 granted t is (inr (inl (plain, climbs_has chain q.size t d.spaces s.spaces law climbed.1)))
                 (λ y at u over. inl (reached.free_for u over)) (f.cache, f.own, mine, inr (inr (lacks, inr (climbed.0, climbed.1)))) after
           ]
 
       -- where the cache has none, no cache for the size has one
-      no_chunk : (y : CpuCacheState) → LacksRounds f.cache.depot f.own.cpu y → All IsAllOut f.cache.slab.slabs → ¬ HasChunk d place x q
+      no_chunk : (y : CpuCacheState) → LacksRounds f.cache.depot f.own.cpu y → All IsAllOut f.cache.slab.slabs → ¬ HasChunk d index x q
       no_chunk y lacks out has =
           let g = has.2 in
           let same : g.cache ≡ j = same_quanta g.cache j x.quantum positive (sym g.size ∙ size) in
-          let space : g.shared.space ≡ f.space = slice_get_one d.spaces place g.shared.space f.space g.shared.at f.at in
+          let space : g.shared.space ≡ f.space = slice_get_one d.spaces index g.shared.space f.space g.shared.at f.at in
           let cache : has.0 ≡ f.cache = slice_get_one f.space.caches j has.0 f.cache (ap (λ (z : SpaceState). slice_get z.caches j) (sym space) ∙ (ap (slice_get g.shared.space.caches) (sym same) ∙ g.shared.among)) f.among in
-          let row : g.own.row ≡ f.row = slice_get_one c.caches place g.own.row f.row (ap (λ rows. slice_get rows place) (sym (selected_is d c found)) ∙ g.own.at) f.row_at in
+          let row : g.own.row ≡ f.row = slice_get_one c.caches index g.own.row f.row (ap (λ rows. slice_get rows index) (sym (selected_is d c found)) ∙ g.own.at) f.row_at in
           let own : has.1 ≡ f.own = slice_get_one f.row j has.1 f.own (ap (λ r. slice_get r j) (sym row) ∙ (ap (slice_get g.own.row) (sym same) ∙ g.own.among)) f.own_at in
           let can : CanTake f.cache f.own = subst (λ o. CanTake f.cache o) own (subst (λ z. CanTake z has.1) cache has.3) in
           elim can [
@@ -260,7 +260,7 @@ module _ (d : Picture) (place : ℕ) (x : TreeArena) (q : Request) (s : LocalSta
             ]
           ]
 
-      no_fit : a ≡ Err climbing.NoFit → IsLast d.tree chain level q.size j was f sized law (Err climbing.NoFit) s → IsFromCaches place x q d (Err climbing.NoFit) then_d
+      no_fit : a ≡ Err climbing.NoFit → IsLast d.tree chain level q.size j was f sized law (Err climbing.NoFit) s → IsFromCaches index x q d (Err climbing.NoFit) then_d
       no_fit is l =
           let after = lacks_kept l.0 f.cache l.1 l.3 in (
             good,
@@ -280,27 +280,27 @@ module _ (d : Picture) (place : ℕ) (x : TreeArena) (q : Request) (s : LocalSta
             after.1,
           )
 
-      no_memory : a ≡ Err climbing.NoMemory → IsLast d.tree chain level q.size j was f sized law (Err climbing.NoMemory) s → IsFromCaches place x q d (Err climbing.NoMemory) then_d
+      no_memory : a ≡ Err climbing.NoMemory → IsLast d.tree chain level q.size j was f sized law (Err climbing.NoMemory) s → IsFromCaches index x q d (Err climbing.NoMemory) then_d
       no_memory is l =
           let after = lacks_kept l.0 f.cache l.1 l.3 in
           let lacks = lacks_chunks (Err climbing.NoMemory) l in
-          let place_up : HasPlaceUp d.spaces chain q.size = (elim l.4 [
-            | inl slab ↦ fewer_fit d.tree d.spaces place q.size x.slab_size held.tree law small slab.0
+          let base_up : HasBaseUp d.spaces chain q.size = (elim l.4 [
+            | inl slab ↦ fewer_fit d.tree d.spaces index q.size x.slab_size held.tree law small slab.0
             | inr climb ↦ climb.1
           ]) in
-          let vain : ClimbsInVain chain x.slab_size d.spaces s.spaces ⊎ ((¬ HasPlaceUp d.spaces chain x.slab_size) × ClimbsInVain chain q.size d.spaces s.spaces) = (elim l.4 [
+          let vain : ClimbsInVain chain x.slab_size d.spaces s.spaces ⊎ ((¬ HasBaseUp d.spaces chain x.slab_size) × ClimbsInVain chain q.size d.spaces s.spaces) = (elim l.4 [
             | inl slab ↦ inl slab.1
             | inr climb ↦ inr (climb.0, climb.2)
           ]) in (
             good,
-            inr (inl (plain, place_up)),
+            inr (inl (plain, base_up)),
             inr (inr (cached, inr (inl (f.cache, f.own, mine, lacks, vain)))),
             subst (λ z. IsHeld (hands_of (climb_left z)) then_d) is after.0,
             after.1,
           )
 
       not_bad : a ≡ Err climbing.BadRequest → ⊥
-      not_bad is = elim (allocs.asks_none d place x q s held here c found plain a run is) [
+      not_bad is = elim (allocs.asks_none d index x q s held here c found plain a run is) [
         | inl asked ↦ omega (arith, asked, some)
         | inr none ↦ omega (arith, none.0, small, some)
       ]
@@ -313,9 +313,9 @@ module _ (d : Picture) (place : ℕ) (x : TreeArena) (q : Request) (s : LocalSta
         | inr (inr l) ↦ subst (λ z. IsLast d.tree chain level q.size j was f sized law z s) is l
       ]
 
-      given_so : (t : Tag) → a ≡ Ok t → IsFromCaches place x q d (Ok t) then_d
+      given_so : (t : Tag) → a ≡ Ok t → IsFromCaches index x q d (Ok t) then_d
       given_so t is = elim ends [
-        | inl round ↦ round_given t is (subst (λ z. IsRound d.tree was place j f sized z s) (one round.0 round.1) round.2)
+        | inl round ↦ round_given t is (subst (λ z. IsRound d.tree was index j f sized z s) (one round.0 round.1) round.2)
         | inr (inl idle) ↦ idle_given t is (subst (λ z. IsIdle d.tree chain level q.size j was f sized law z s) (one idle.0 idle.1) idle.2)
         | inr (inr l) ↦ last_given t is (subst (λ z. IsLast d.tree chain level q.size j was f sized law z s) is l)
       ]
@@ -324,9 +324,9 @@ module _ (d : Picture) (place : ℕ) (x : TreeArena) (q : Request) (s : LocalSta
           one y e = (let both : Ok y ≡ Ok t = sym e ∙ is in cc)
 
       ends_well : AllocsWell a
-      ends_well = allocs.ends_well d place x q s held here c found plain a run
+      ends_well = allocs.ends_well d index x q s held here c found plain a run
 
-      by : (b : Climbed) → a ≡ b → IsFromCaches place x q d b then_d
+      by : (b : Climbed) → a ≡ b → IsFromCaches index x q d b then_d
       by (Ok t) is = given_so t is
       by (Err climbing.BadRequest) is = absurd (not_bad is)
       by (Err climbing.NoFit) is = no_fit is (refused (Err climbing.NoFit) is (λ t e. (let y : Err climbing.NoFit ≡ Ok t = e in cc)))
@@ -334,20 +334,20 @@ module _ (d : Picture) (place : ℕ) (x : TreeArena) (q : Request) (s : LocalSta
       by (Err (climbing.Stuck t)) is = subst AllocsWell is ends_well
       by (Err (climbing.Stopped o)) is = subst AllocsWell is ends_well
 
-    numbered : IsFromCaches place x q d a then_d
-    numbered = by (focus_at was place j stands.0 (of_stock d d.selected c found None held []) stands.1) a refl
+    numbered : IsFromCaches index x q d a then_d
+    numbered = by (focus_at was index j stands.0 (of_stock d d.selected c found None held []) stands.1) a refl
 
-  from_caches : IsFromCaches place x q d a then_d
+  from_caches : IsFromCaches index x q d a then_d
   from_caches = elim (cases_lt 0 q.size) [
-    | inl some ↦ told some (cache_for level q.size) refl (cached_by_number d.tree place x q held.tree here plain some)
+    | inl some ↦ told some (cache_for level q.size) refl (cached_by_number d.tree index x q held.tree here plain some)
     | inr none ↦ nothing_asked (omega (arith, none))
   ]
     where
-      told : 0 < q.size → (o : Option ℕ) → cache_for level q.size ≡ o → MatchOption o (¬ IsCachedIn x q) (λ n. IsCachedIn x q × ((cache : ℕ) × (n ≡ cache + 1) × (rounded x.quantum q.size ≡ (cache + 1) * x.quantum))) → IsFromCaches place x q d a then_d
+      told : 0 < q.size → (o : Option ℕ) → cache_for level q.size ≡ o → MatchOption o (¬ IsCachedIn x q) (λ n. IsCachedIn x q × ((cache : ℕ) × (n ≡ cache + 1) × (rounded x.quantum q.size ≡ (cache + 1) * x.quantum))) → IsFromCaches index x q d a then_d
       told some None is by = absurd (by cached)
       told some (Some n) is by = numbered some by.1.0 (is ∙ ap (λ (z : ℕ). Some z) by.1.1) by.1.2
 
 pub alloc_from_caches : AllocFromCaches
-alloc_from_caches d place x q s a held here plain cached run =
+alloc_from_caches d index x q s a held here plain cached run =
     let c = there_is (find (is_cpu d.selected) d.cpus) held.cpus.there in
-    from_caches d place x q s held here c.0 c.1 plain a (subst (λ (z : LocalState). RunsTo d.tree (alloc_plan (chain_in d.tree place) q.size) z s a) (parts_are d c.0 c.1) run) cached
+    from_caches d index x q s held here c.0 c.1 plain a (subst (λ (z : LocalState). RunsTo d.tree (alloc_plan (chain_in d.tree index) q.size) z s a) (parts_are d c.0 c.1) run) cached

@@ -31,9 +31,9 @@ one_more : (k quantum units : ℕ) → units ≡ k * quantum → 0 < units → (
 one_more zero quantum units is some = absurd (omega (arith, is, some))
 one_more (suc j) quantum units is some = (j, omega arith)
 
-module _ (place : ℕ) (x : TreeArena) (q : Request) (plain : IsPlain q) (some : 0 < q.size) (positive : 0 < x.quantum) (few : x.qcache_max ≤ 16 * x.quantum) where
+module _ (index : ℕ) (x : TreeArena) (q : Request) (plain : IsPlain q) (some : 0 < q.size) (positive : 0 < x.quantum) (few : x.qcache_max ≤ 16 * x.quantum) where
   abbrev level : Level
-  level = level_of place x
+  level = level_of index x
 
   abbrev units : ℕ
   units = rounded x.quantum q.size
@@ -77,11 +77,11 @@ module _ (place : ℕ) (x : TreeArena) (q : Request) (plain : IsPlain q) (some :
   by_test false e (inr above) = λ cached. omega (arith, cached.1, above)
 
 pub cached_by_number : CachedByNumber
-cached_by_number tree place x q is here plain some =
-    let own = is.each place x here in
+cached_by_number tree index x q is here plain some =
+    let own = is.each index x here in
     let positive : 0 < x.quantum = power_some x.quantum own.power in
     let few : x.qcache_max ≤ 16 * x.quantum = own.caches.1 in
-    by_test place x q plain some positive few (is_cached (level_of place x) q.size) refl
+    by_test index x q plain some positive few (is_cached (level_of index x) q.size) refl
     (elim (cases_lt x.qcache_max (rounded x.quantum q.size)) [
       | inl above ↦ inr above
       | inr most ↦ inl most

@@ -17,7 +17,7 @@ use Rattle.slab_layer.specs.Slab.{SlabState}
 use Rattle.stock.specs.Setups.{plan_for}
 use Rattle.stock.specs.Spaces.{SpaceState, QuantumCacheState, plan_of}
 use Rattle.stock.specs.Stocks.{IsStock}
-use Rattle.stock.specs.Sums.{held, held_of, total}
+use Rattle.stock.specs.Sums.{holdings_of, held_of, total}
 use Rattle.stock_audit.specs.Accounted.{IsAccountedFor}
 use Rattle.stock_audit.specs.Audits.{sums_of_arena}
 use Rattle.stock_audit.specs.Chains.{spans_of_slabs, spans_of_children}
@@ -32,9 +32,9 @@ use Rattle.lease_machine.proofs.Takings.{slab_units, slab_units_of, span_units}
 
 -- the spans of an arena's slabs, by length
 spans_weigh : (s : SpaceState) → sum_by units_in (spans_of_slabs s) ≡ slab_units_of s
-spans_weigh s = sum_by-flat_map units_in (λ (c : QuantumCacheState). held (span_tags c.slab)) s.caches ∙ sum_alike (λ (c : QuantumCacheState). sum_by units_in (held (span_tags c.slab))) slab_units s.caches (λ k c at. each c)
+spans_weigh s = sum_by-flat_map units_in (λ (c : QuantumCacheState). holdings_of (span_tags c.slab)) s.caches ∙ sum_alike (λ (c : QuantumCacheState). sum_by units_in (holdings_of (span_tags c.slab))) slab_units s.caches (λ k c at. each c)
   where
-    each : (c : QuantumCacheState) → sum_by units_in (held (span_tags c.slab)) ≡ slab_units c
+    each : (c : QuantumCacheState) → sum_by units_in (holdings_of (span_tags c.slab)) ≡ slab_units c
     each c = sum_by-map units_in (λ (t : Tag). t.holding) (span_tags c.slab) ∙ sum_by-map (λ (t : Tag). units_in t.holding) (span_tag c.slab.arena) c.slab.slabs
 
 -- what of an arena is out, and didn't come from a cache, and all that is out but rounds

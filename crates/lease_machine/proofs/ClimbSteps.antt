@@ -17,7 +17,7 @@ use Rattle.deed_core.specs.Tag.{Tag}
 use Rattle.deed_core.specs.declared.requests.Request.{Request}
 use Rattle.lease_machine.proofs.Focus.{there}
 use Rattle.lease_machine.proofs.FreeLaws.{returns_so}
-use Rattle.lease_machine.specs.Moves.{CarvesAt, Climbs, ClimbsInVain, HasPlace, HasPlaceUp, ImportsAt, Returns}
+use Rattle.lease_machine.specs.Moves.{CarvesAt, Climbs, ClimbsInVain, HasBase, HasBaseUp, ImportsAt, Returns}
 use Rattle.local_calls.specs.Runs.{RunsTo, SoundStep}
 use Rattle.local_parts.specs.SharedSteps.{DoesCarve}
 use Rattle.local_parts.specs.States.{LocalState}
@@ -51,8 +51,8 @@ module _ (old new : List SpaceState) (k : ℕ) (q : Request) (law : IsStock old)
   abbrev pub Carvings : Result Tag CarveFault → Type 0
   Carvings (Ok t) = CarvesAt k q t old new
   Carvings (Err carving.BadRequest) = ((s : SpaceState) → slice_get old k ≡ Some s → ¬ IsGood s.arena.quantum q) × (new ≡ old)
-  Carvings (Err carving.NoFit) = ((s : SpaceState) → slice_get old k ≡ Some s → IsGood s.arena.quantum q) × (¬ HasPlace old k q) × (new ≡ old)
-  Carvings (Err carving.NoMemory) = ((s : SpaceState) → slice_get old k ≡ Some s → IsGood s.arena.quantum q) × HasPlace old k q × (new ≡ old)
+  Carvings (Err carving.NoFit) = ((s : SpaceState) → slice_get old k ≡ Some s → IsGood s.arena.quantum q) × (¬ HasBase old k q) × (new ≡ old)
+  Carvings (Err carving.NoMemory) = ((s : SpaceState) → slice_get old k ≡ Some s → IsGood s.arena.quantum q) × HasBase old k q × (new ≡ old)
   Carvings (Err carving.Stopped) = ⊥
 
   same_arena : (P : ArenaState → ArenaState → Type 0) (on : OnArena k P old new) → on.arena ≡ on.space.arena → new ≡ old
@@ -79,11 +79,11 @@ module _ (old new : List SpaceState) (k : ℕ) (q : Request) (law : IsStock old)
   pub does_carve : (a : Result Tag CarveFault) → DoesCarve old k q a new → Carvings a
   does_carve a does = subst Carvings (sym does.1) (carved_so does.0 does.2)
 
--- what was carved had a place, and is good
-pub carves_has : (old new : List SpaceState) (k : ℕ) (q : Request) (t : Tag) → IsStock old → CarvesAt k q t old new → HasPlace old k q
+-- what was carved had a base, and is good
+pub carves_has : (old new : List SpaceState) (k : ℕ) (q : Request) (t : Tag) → IsStock old → CarvesAt k q t old new → HasBase old k q
 carves_has old new k q t law on = (on.space, on.at, (t.holding.range.base, choice_serves on.space.arena q t.holding.range.base (law k on.space on.at).sound on.does.chosen))
 
-pub climbs_has : (chain : List Level) (n : ℕ) (t : Tag) (old new : List SpaceState) → IsStock old → Climbs chain n t old new → HasPlaceUp old chain n
+pub climbs_has : (chain : List Level) (n : ℕ) (t : Tag) (old new : List SpaceState) → IsStock old → Climbs chain n t old new → HasBaseUp old chain n
 climbs_has [] n t old new law climbs = absurd climbs
 climbs_has (l ∷ up) n t old new law climbs = elim climbs [
   | inl carves ↦ inl (carves_has old new l.id (plain_of n) t law carves)
@@ -94,8 +94,8 @@ climbs_has (l ∷ up) n t old new law climbs = elim climbs [
 abbrev pub Climbings : List Level → ℕ → Climbed → List SpaceState → List SpaceState → Type 0
 Climbings chain n (Ok t) old new = Climbs chain n t old new
 Climbings chain n (Err climbing.BadRequest) old new = new ≡ old
-Climbings chain n (Err climbing.NoFit) old new = (¬ HasPlaceUp old chain n) × (new ≡ old)
-Climbings chain n (Err climbing.NoMemory) old new = HasPlaceUp old chain n × ClimbsInVain chain n old new
+Climbings chain n (Err climbing.NoFit) old new = (¬ HasBaseUp old chain n) × (new ≡ old)
+Climbings chain n (Err climbing.NoMemory) old new = HasBaseUp old chain n × ClimbsInVain chain n old new
 Climbings chain n (Err (climbing.Stuck t)) old new = Unit {0}
 Climbings chain n (Err (climbing.Stopped o)) old new = Unit {0}
 
@@ -170,7 +170,7 @@ module _ (arenas : List TreeArena) where
   ]
 
   -- a span that came, and what the arena did with it
-  module _ (l : Level) (up : List Level) (n : ℕ) (span : Tag) (old : List SpaceState) (m new : LocalState) (a : Climbed) (law : IsStock old) (none : ¬ HasPlace old l.id (plain_of n)) (upper : Climbs up (amount_of l up n) span old m.spaces) where
+  module _ (l : Level) (up : List Level) (n : ℕ) (span : Tag) (old : List SpaceState) (m new : LocalState) (a : Climbed) (law : IsStock old) (none : ¬ HasBase old l.id (plain_of n)) (upper : Climbs up (amount_of l up n) span old m.spaces) where
     told : (r : Result Tag (SpanFault Tag)) (t : Tag) → Ok t ≡ in_words import_word r → r ≡ Ok t
     told (Ok y) t e = (let x : Ok t ≡ Ok y = e in let same : t ≡ y = cc in ap Ok (sym same))
     told (Err f) t e = absurd (let x : Ok t ≡ Err (import_word f) = e in cc)
@@ -201,8 +201,8 @@ module _ (arenas : List TreeArena) where
     added_so (Err (adding.NotAligned y)) k add end = nothing_said (l ∷ up) n a old new.spaces (y, inl (sym end.1))
     added_so (Err (adding.Stopped y)) k add end = nothing_said (l ∷ up) n a old new.spaces (y, inr (sym end.1))
 
-  -- what came of the climb above, once nothing had a place here
-  module _ (l : Level) (up : List Level) (n : ℕ) (old : List SpaceState) (new : LocalState) (a : Climbed) (law : IsStock old) (none : ¬ HasPlace old l.id (plain_of n)) where
+  -- what came of the climb above, once nothing had a base here
+  module _ (l : Level) (up : List Level) (n : ℕ) (old : List SpaceState) (new : LocalState) (a : Climbed) (law : IsStock old) (none : ¬ HasBase old l.id (plain_of n)) where
     imported_so : (r : Climbed) (m : LocalState) → Climbings up (amount_of l up n) r old m.spaces → RunsTo arenas (on_import up l.id n r) m new a → Climbings (l ∷ up) n a old new.spaces
     imported_so (Ok span) m first last = added_so l up n span old m new a law none first last.1 last.0 last.2 last.3
     imported_so (Err climbing.NoFit) m first last = subst (λ z. Climbings (l ∷ up) n z old new.spaces) last.1 ((λ has. elim has [ inl here ↦ none here | inr there ↦ first.0 there ]), ap (λ (s : LocalState). s.spaces) (sym last.0) ∙ first.1)

@@ -1,7 +1,7 @@
 -- The CPUs, of which one has other caches.
 -- all members of all rows are so where all of each are
 use Rattle.lease_machine.specs.Held.{with_caches_of}
-use Rattle.lease_machine.specs.Picture.{Cpu, is_cpu}
+use Rattle.lease_machine.specs.Picture.{NumberedCpu, is_cpu}
 use Rattle.local_parts.specs.Cpus.{cpu_rounds, row_rounds}
 use Rattle.std.proofs.Common.{All, AllPairs, Bool, List, None, Some, [], ap, arith, cond, false, filter, find, flat_map, get_or, length, map, not, refl, slice_get, suc, sym, true, ℕ, ◌++◌, ◌<◌, ◌==◌, ◌∙◌, ◌∷◌, ◌≡◌, ◌≢◌}
 use Rattle.std.proofs.lemmas.Bool.Decides.{Decides-eqb}
@@ -33,25 +33,25 @@ pub rounds_flat : (rows : List (List OwnCacheState)) → cpu_rounds rows ≡ all
 rounds_flat [] = refl
 rounds_flat (row ∷ rows) = ap (λ ts. row_rounds row ++ ts) (rounds_flat rows) ∙ sym (flat_map-append own_rounds row (flat_map (λ r. r) rows))
 
-abbrev pub with_rows : List (List OwnCacheState) → Cpu → Cpu
+abbrev pub with_rows : List (List OwnCacheState) → NumberedCpu → NumberedCpu
 with_rows rows c = record { number = c.number; caches = rows }
 
 -- a list of CPUs round one of them
-pub record Round (n : ℕ) (rows : List (List OwnCacheState)) (cs : List Cpu) (c : Cpu) : Type 0 where
-  pub front : List Cpu
-  pub back : List Cpu
+pub record Round (n : ℕ) (rows : List (List OwnCacheState)) (cs : List NumberedCpu) (c : NumberedCpu) : Type 0 where
+  pub front : List NumberedCpu
+  pub back : List NumberedCpu
   pub is : cs ≡ front ++ c ∷ back
   pub then_is : map (with_caches_of n rows) cs ≡ front ++ with_rows rows c ∷ back
   pub number : c.number ≡ n
 
 module _ (n : ℕ) (rows : List (List OwnCacheState)) where
-  abbrev becomes : Cpu → Cpu
+  abbrev becomes : NumberedCpu → NumberedCpu
   becomes c = with_caches_of n rows c
 
-  abbrev by_test : Bool → Cpu → Cpu
+  abbrev by_test : Bool → NumberedCpu → NumberedCpu
   by_test b c = cond b (with_rows rows c) c
 
-  none_later : (cs : List Cpu) → find (is_cpu n) cs ≡ None → map becomes cs ≡ cs
+  none_later : (cs : List NumberedCpu) → find (is_cpu n) cs ≡ None → map becomes cs ≡ cs
   none_later [] none = refl
   none_later (x ∷ xs) none = by (is_cpu n x) refl (none_later xs)
     where
@@ -61,7 +61,7 @@ module _ (n : ℕ) (rows : List (List OwnCacheState)) where
           let rest : find (is_cpu n) xs ≡ None = sym (ap (λ b. cond b (Some x) (find (is_cpu n) xs)) is) ∙ none in
           ap (λ b. by_test b x ∷ map becomes xs) is ∙ ap (λ ys. x ∷ ys) (again rest)
 
-  apart_none : (cs : List Cpu) → ((i : ℕ) (x : Cpu) → slice_get cs i ≡ Some x → x.number ≢ n) → find (is_cpu n) cs ≡ None
+  apart_none : (cs : List NumberedCpu) → ((i : ℕ) (x : NumberedCpu) → slice_get cs i ≡ Some x → x.number ≢ n) → find (is_cpu n) cs ≡ None
   apart_none [] apart = refl
   apart_none (x ∷ xs) apart = ap (λ b. cond b (Some x) (find (is_cpu n) xs)) (not_it (is_cpu n x) refl) ∙ apart_none xs (λ i y at. apart (suc i) y at)
     where
@@ -69,11 +69,11 @@ module _ (n : ℕ) (rows : List (List OwnCacheState)) where
       not_it true is = absurd (apart 0 x refl ((Decides-eqb x.number n).0 is))
       not_it false is = is
 
-  pub round : (cs : List Cpu) (c : Cpu) → find (is_cpu n) cs ≡ Some c → AllPairs (λ a b. a.number ≢ b.number) cs → Round n rows cs c
+  pub round : (cs : List NumberedCpu) (c : NumberedCpu) → find (is_cpu n) cs ≡ Some c → AllPairs (λ a b. a.number ≢ b.number) cs → Round n rows cs c
   round [] c found apart = absurd (let e : None ≡ Some c = found in cc)
   round (x ∷ xs) c found apart = by (is_cpu n x) refl (λ later. round xs c later tail)
     where
-      tail : AllPairs (λ (a b : Cpu). a.number ≢ b.number) xs
+      tail : AllPairs (λ (a b : NumberedCpu). a.number ≢ b.number) xs
       tail = λ i j d less within. apart (suc i) (suc j) d (omega (arith, less)) (omega (arith, within))
 
       by : (b : Bool) → is_cpu n x ≡ b → (find (is_cpu n) xs ≡ Some c → Round n rows xs c) → Round n rows (x ∷ xs) c
@@ -82,13 +82,13 @@ module _ (n : ℕ) (rows : List (List OwnCacheState)) where
           let same : x ≡ c = cc in
           let number : x.number ≡ n = (Decides-eqb x.number n).0 is in
           let none : find (is_cpu n) xs ≡ None = apart_none xs (λ i y at same_number.
-          apart 0 (suc i) y (omega arith) (omega (arith, slice_get_within xs i y at)) (number ∙ sym (ap (λ (z : Cpu). z.number) (get_or_from_slice_get xs i y y at) ∙ same_number))) in
+          apart 0 (suc i) y (omega arith) (omega (arith, slice_get_within xs i y at)) (number ∙ sym (ap (λ (z : NumberedCpu). z.number) (get_or_from_slice_get xs i y y at) ∙ same_number))) in
           record {
             front = [];
             back = xs;
             is = ap (λ z. z ∷ xs) same;
             then_is = ap (λ b. by_test b x ∷ map becomes xs) is ∙ (ap (λ ys. with_rows rows x ∷ ys) (none_later xs none) ∙ ap (λ z. with_rows rows z ∷ xs) same);
-            number = ap (λ (z : Cpu). z.number) (sym same) ∙ number;
+            number = ap (λ (z : NumberedCpu). z.number) (sym same) ∙ number;
           }
       by false is again =
           let later : find (is_cpu n) xs ≡ Some c = sym (ap (λ b. cond b (Some x) (find (is_cpu n) xs)) is) ∙ found in
@@ -102,7 +102,7 @@ module _ (n : ℕ) (rows : List (List OwnCacheState)) where
           }
 
   -- it is found among them
-  pub found_then : (cs : List Cpu) (c : Cpu) → find (is_cpu n) cs ≡ Some c → find (is_cpu n) (map becomes cs) ≡ Some (with_rows rows c)
+  pub found_then : (cs : List NumberedCpu) (c : NumberedCpu) → find (is_cpu n) cs ≡ Some c → find (is_cpu n) (map becomes cs) ≡ Some (with_rows rows c)
   found_then [] c found = absurd (let e : None ≡ Some c = found in cc)
   found_then (x ∷ xs) c found = by (is_cpu n x) refl (found_then xs c)
     where
@@ -116,21 +116,21 @@ module _ (n : ℕ) (rows : List (List OwnCacheState)) where
           ap (λ b. find (is_cpu n) (by_test b x ∷ map becomes xs)) is ∙ (ap (λ b. cond b (Some x) (find (is_cpu n) (map becomes xs))) is ∙ again later)
 
   -- the numbers stay, and so do the others
-  number_stays : (x : Cpu) → (becomes x).number ≡ x.number
+  number_stays : (x : NumberedCpu) → (becomes x).number ≡ x.number
   number_stays x = by (is_cpu n x)
     where
       by : (b : Bool) → (by_test b x).number ≡ x.number
       by true = refl
       by false = refl
 
-  pub numbers_stay : (cs : List Cpu) → map (λ (c : Cpu). c.number) (map becomes cs) ≡ map (λ (c : Cpu). c.number) cs
+  pub numbers_stay : (cs : List NumberedCpu) → map (λ (c : NumberedCpu). c.number) (map becomes cs) ≡ map (λ (c : NumberedCpu). c.number) cs
   numbers_stay [] = refl
-  numbers_stay (x ∷ xs) = ap (λ m. m ∷ map (λ (c : Cpu). c.number) (map becomes xs)) (number_stays x) ∙ ap (λ ms. x.number ∷ ms) (numbers_stay xs)
+  numbers_stay (x ∷ xs) = ap (λ m. m ∷ map (λ (c : NumberedCpu). c.number) (map becomes xs)) (number_stays x) ∙ ap (λ ms. x.number ∷ ms) (numbers_stay xs)
 
-  abbrev others_in : List Cpu → List Cpu
-  others_in cs = filter (λ (c : Cpu). not (is_cpu n c)) cs
+  abbrev others_in : List NumberedCpu → List NumberedCpu
+  others_in cs = filter (λ (c : NumberedCpu). not (is_cpu n c)) cs
 
-  pub others_stay_so : (cs : List Cpu) → others_in (map becomes cs) ≡ others_in cs
+  pub others_stay_so : (cs : List NumberedCpu) → others_in (map becomes cs) ≡ others_in cs
   others_stay_so [] = refl
   others_stay_so (x ∷ xs) = by (is_cpu n x) refl (others_stay_so xs)
     where
@@ -140,23 +140,23 @@ module _ (n : ℕ) (rows : List (List OwnCacheState)) where
       by false is again =
           ap (λ b. others_in (by_test b x ∷ map becomes xs)) is ∙ ap (λ ys. cond (not (is_cpu n x)) (x ∷ ys) ys) again
 
-  pub numbers_apart : (cs : List Cpu) → AllPairs (λ a b. a.number ≢ b.number) cs → AllPairs (λ a b. a.number ≢ b.number) (map becomes cs)
+  pub numbers_apart : (cs : List NumberedCpu) → AllPairs (λ a b. a.number ≢ b.number) cs → AllPairs (λ a b. a.number ≢ b.number) (map becomes cs)
   numbers_apart cs apart i j d less within same =
       let short : j < length cs = omega (arith, within, length-map cs becomes) in
       let first : get_or (map becomes cs) i d ≡ becomes (get_or cs i d) = get_or-map becomes cs i d d (omega (arith, less, short)) in
       let second : get_or (map becomes cs) j d ≡ becomes (get_or cs j d) = get_or-map becomes cs j d d short in
-      apart i j d less short (sym (ap (λ (c : Cpu). c.number) first ∙ number_stays (get_or cs i d)) ∙ (same ∙ (ap (λ (c : Cpu). c.number) second ∙ number_stays (get_or cs j d))))
+      apart i j d less short (sym (ap (λ (c : NumberedCpu). c.number) first ∙ number_stays (get_or cs i d)) ∙ (same ∙ (ap (λ (c : NumberedCpu). c.number) second ∙ number_stays (get_or cs j d))))
 
   -- what all are, and the one is then, all are then
-  pub all_become : (P : Cpu → Type 0) (cs : List Cpu) → All P cs → ((c : Cpu) → P c → P (with_rows rows c)) → All P (map becomes cs)
+  pub all_become : (P : NumberedCpu → Type 0) (cs : List NumberedCpu) → All P cs → ((c : NumberedCpu) → P c → P (with_rows rows c)) → All P (map becomes cs)
   all_become P cs all one = All-map P becomes cs (All-weaker P (λ c. P (becomes c)) (λ c is. by c (is_cpu n c) is) cs all)
     where
-      by : (c : Cpu) (b : Bool) → P c → P (by_test b c)
+      by : (c : NumberedCpu) (b : Bool) → P c → P (by_test b c)
       by c true is = one c is
       by c false is = is
 
   -- whichever is found, is found
-  pub still_found : (m : ℕ) (cs : List Cpu) → find (is_cpu m) cs ≢ None → find (is_cpu m) (map becomes cs) ≢ None
+  pub still_found : (m : ℕ) (cs : List NumberedCpu) → find (is_cpu m) cs ≢ None → find (is_cpu m) (map becomes cs) ≢ None
   still_found m [] some = some
   still_found m (x ∷ xs) some = by (is_cpu m x) refl (still_found m xs)
     where

@@ -17,8 +17,8 @@ use Rattle.lease_machine.proofs.Lasting.{all_last, run_lasts}
 use Rattle.lease_machine.specs.CallLaws.{DrainGoesOffline, OfflineIsLocal}
 use Rattle.lease_machine.specs.Held.{IsHeld, with_caches_of}
 use Rattle.lease_machine.specs.Moves.{arena_of, outline_of, outlines_of, slab_outlines}
-use Rattle.lease_machine.specs.Operators.{GoesOffline, depots_of, renewed}
-use Rattle.lease_machine.specs.Picture.{Cpu, IsShapedIn, Picture, SameSetup, fresh_cpu, is_cpu}
+use Rattle.lease_machine.specs.Operators.{GoesOffline, depots_of, after_renewal}
+use Rattle.lease_machine.specs.Picture.{NumberedCpu, IsShapedIn, Picture, SameSetup, fresh_cpu, is_cpu}
 use Rattle.local_calls.proofs.LawProofs.{drain_empties_cpu}
 use Rattle.local_calls.specs.Runs.{RunsTo, SoundStep}
 use Rattle.local_parts.proofs.LawProofs.{plan_conserves, plan_keeps_setup, plan_keeps_stock}
@@ -182,17 +182,17 @@ no_rounds (row ∷ rows) none = ap (λ ts. ts ++ cpu_rounds rows) (in_row row (A
         ap (λ ts. ts ++ row_rounds os) (ap (λ ts. ts ++ o.cpu.loaded) first.previous_empty ∙ first.loaded_empty) ∙ in_row os (All-tail HasNoRound o os empty)
 
 -- a CPU that begins anew is one with the caches of a new one
-renewed_is : (n : ℕ) (spaces : List SpaceState) (cs : List Cpu) → map (renewed n spaces) cs ≡ map (with_caches_of n (fresh_cpu n spaces).caches) cs
+renewed_is : (n : ℕ) (spaces : List SpaceState) (cs : List NumberedCpu) → map (after_renewal n spaces) cs ≡ map (with_caches_of n (fresh_cpu n spaces).caches) cs
 renewed_is n spaces [] = refl
-renewed_is n spaces (x ∷ xs) = ap (λ y. y ∷ map (renewed n spaces) xs) (by (is_cpu n x) refl) ∙ ap (λ ys. with_caches_of n (fresh_cpu n spaces).caches x ∷ ys) (renewed_is n spaces xs)
+renewed_is n spaces (x ∷ xs) = ap (λ y. y ∷ map (after_renewal n spaces) xs) (by (is_cpu n x) refl) ∙ ap (λ ys. with_caches_of n (fresh_cpu n spaces).caches x ∷ ys) (renewed_is n spaces xs)
   where
-    by : (b : Bool) → is_cpu n x ≡ b → renewed n spaces x ≡ with_caches_of n (fresh_cpu n spaces).caches x
+    by : (b : Bool) → is_cpu n x ≡ b → after_renewal n spaces x ≡ with_caches_of n (fresh_cpu n spaces).caches x
     by true is =
         let number : x.number ≡ n = (Decides-eqb x.number n).0 is in
         ap (λ b. cond b (fresh_cpu n spaces) x) is ∙ (ap (λ m. record { number = m; caches = (fresh_cpu n spaces).caches }) (sym number) ∙ sym (ap (λ b. cond b (record { number = x.number; caches = (fresh_cpu n spaces).caches }) x) is))
     by false is = ap (λ b. cond b (fresh_cpu n spaces) x) is ∙ sym (ap (λ b. cond b (record { number = x.number; caches = (fresh_cpu n spaces).caches }) x) is)
 
-module _ (d : Picture) (n : ℕ) (turns : ℕ) (c : Cpu) (s : LocalState) (held : IsHeld [] d) (found : find (is_cpu n) d.cpus ≡ Some c) (run : RunsTo d.tree (drain_plan turns d.tree) (reach d n c found None held) s (Ok tt)) where
+module _ (d : Picture) (n : ℕ) (turns : ℕ) (c : NumberedCpu) (s : LocalState) (held : IsHeld [] d) (found : find (is_cpu n) d.cpus ≡ Some c) (run : RunsTo d.tree (drain_plan turns d.tree) (reach d n c found None held) s (Ok tt)) where
   abbrev was : LocalState
   was = reach d n c found None held
 
@@ -218,7 +218,7 @@ module _ (d : Picture) (n : ℕ) (turns : ℕ) (c : Cpu) (s : LocalState) (held 
   conserves rest accounts = subst (λ ts. Accounts s.spaces (ts ++ rest)) rounds_gone (plan_conserves Drained drain_left (drain_plan turns d.tree) None (drain_handles turns d.tree) was s (Ok tt) path rest accounts)
 
   set_up : IsSetUpAs was then_s
-  set_up = record { plans = setup.plans; places = fresh_cpu_fits.of d.spaces n ∙ sym (of_stock d n c found None held []) }
+  set_up = record { plans = setup.plans; indexes = fresh_cpu_fits.of d.spaces n ∙ sym (of_stock d n c found None held []) }
 
   same_fresh : (fresh_cpu n s.spaces).caches ≡ anew
   same_fresh = ap (new_cpu 3) setup.plans
@@ -236,7 +236,7 @@ module _ (d : Picture) (n : ℕ) (turns : ℕ) (c : Cpu) (s : LocalState) (held 
   same_still = asks_keep IsDraining (λ z. map still z.spaces) (nodes_of d.tree) (draining_still (nodes_of d.tree)) (drain_plan turns d.tree) (drain_asks turns d.tree) was s (Ok tt) run
 
   abbrev new : Picture
-  new = record d { spaces = s.spaces; cpus = map (renewed n d.spaces) d.cpus }
+  new = record d { spaces = s.spaces; cpus = map (after_renewal n d.spaces) d.cpus }
 
   offline : GoesOffline n d new
   offline = record {
@@ -251,7 +251,7 @@ module _ (d : Picture) (n : ℕ) (turns : ℕ) (c : Cpu) (s : LocalState) (held 
 
   pub drained : GoesOffline n d new × IsHeld [] new × SameSetup d new
   drained =
-      let cpus : map (with_caches_of n anew) d.cpus ≡ map (renewed n d.spaces) d.cpus = sym (renewed_is n d.spaces d.cpus) in
+      let cpus : map (with_caches_of n anew) d.cpus ≡ map (after_renewal n d.spaces) d.cpus = sym (renewed_is n d.spaces d.cpus) in
       let held_new = held_then d n c found None held then_s None law conserves set_up last fits in
       let setup_new = same_setup d n c found None held then_s None law conserves set_up last fits in (
         offline,

@@ -21,13 +21,13 @@ use Rattle.lease_proto.specs.declared.replies.Reply.{Reply}
 use Rattle.lease_proto.specs.declared.replies.Reply.TheVariants as reply
 use Rattle.lease_proto.specs.Operators.{served_of}
 use Rattle.lease_proto.specs.Operators as reading
-use Rattle.lease_book.specs.BookState.{leased}
-use Rattle.lease_machine.specs.Picture.{Cpu, Picture, Finds, caches_of, fresh_cpu, held_outside, is_cpu}
-use Rattle.lease_machine.specs.Operators.{IsReapedOut, ReapsAll, after_reap, change_depot, depots_of, depots_reaped, on_depots, renewed}
+use Rattle.lease_book.specs.BookState.{leased_segments}
+use Rattle.lease_machine.specs.Picture.{NumberedCpu, Picture, Finds, caches_of, fresh_cpu, held_outside, is_cpu}
+use Rattle.lease_machine.specs.Operators.{IsReapedOut, ReapsAll, after_reap, change_depot, depots_of, depots_reaped, on_depots, after_renewal}
 use Rattle.lease_machine.specs.Serving.{CanServe}
 use Rattle.lease_machine.specs.Replies.{again_of}
 use Rattle.lease_machine.specs.Machine.{LeaseStep, AnswersLine, NewLease, demand_of}
-use Rattle.lease_machine.specs.AnswerLaws.{written}
+use Rattle.lease_machine.specs.AnswerLaws.{reply_bytes}
 use Rattle.lease_machine.specs.EmptyingLaws.{HasNoRound, ReapLeavesNone, OfflineHasNoRound, TickAndReapEmpty, AgainMeansRoom}
 use Rattle.lease_machine.proofs.Fitting.{not_known}
 use Rattle.lease_machine.proofs.FreshCpus.{fresh_cpu_fits}
@@ -61,7 +61,7 @@ reap_leaves_none old new text step = (all_reaped old new text step).1.left
 bare_depot : (d : DepotState) → depot_rounds (after_reap (after_tick d)) ≡ []
 bare_depot d = ap (λ (ms : List (List Tag)). all_rounds ms ++ []) (drop-length d.full)
 
-no_rounds : (cpus : List Cpu) → All HasNoRound cpus → all_rounds_out (flat_map caches_of cpus) ≡ []
+no_rounds : (cpus : List NumberedCpu) → All HasNoRound cpus → all_rounds_out (flat_map caches_of cpus) ≡ []
 no_rounds [] none = refl
 no_rounds (c ∷ cpus) none =
     let first : HasNoRound c = all_at HasNoRound (c ∷ cpus) 0 c none refl in
@@ -91,8 +91,8 @@ module _ (old mid new : Picture) (units : ℕ) (ticked : mid ≡ record old { sp
       record { rounds = depot_bare k j s c at among; slabs = (all_at IsReapedOut s.caches j c out among).slabs }
       )))
 
-  pub book : leased new.book ≡ leased old.book
-  book = ap (λ (d : Picture). leased d.book) all.parts ∙ ap (λ (d : Picture). leased d.book) ticked
+  pub book : leased_segments new.book ≡ leased_segments old.book
+  book = ap (λ (d : Picture). leased_segments d.book) all.parts ∙ ap (λ (d : Picture). leased_segments d.book) ticked
 
   pub cpus : (held_outside new).cpus ≡ (held_outside old).cpus
   cpus = ap (λ (d : Picture). (held_outside d).cpus) all.parts ∙ ap (λ (d : Picture). (held_outside d).cpus) ticked
@@ -108,18 +108,18 @@ tick_and_reap_empty old mid new told text free none first second =
     }
 
 -- a CPU that is new has no round, and each other is as it was
-renewed_so : (n : ℕ) (spaces : List SpaceState) (all : List Cpu) (k : ℕ) (c x : Cpu) → slice_get all k ≡ Some c → x ≡ renewed n spaces c → HasNoRound x ⊎ ((x.number ≢ n) × Contains all x)
+renewed_so : (n : ℕ) (spaces : List SpaceState) (all : List NumberedCpu) (k : ℕ) (c x : NumberedCpu) → slice_get all k ≡ Some c → x ≡ after_renewal n spaces c → HasNoRound x ⊎ ((x.number ≢ n) × Contains all x)
 renewed_so n spaces all k c x at is = by (is_cpu n c) refl
   where
     by : (b : Bool) → is_cpu n c ≡ b → HasNoRound x ⊎ ((x.number ≢ n) × Contains all x)
     by true test =
         let fresh : x ≡ fresh_cpu n spaces = is ∙ ap (λ b. cond b (fresh_cpu n spaces) c) test in
-        inl (ap (λ (y : Cpu). all_rounds_out (caches_of y)) fresh ∙ fresh_cpu_fits.none spaces n)
+        inl (ap (λ (y : NumberedCpu). all_rounds_out (caches_of y)) fresh ∙ fresh_cpu_fits.none spaces n)
     by false test =
         let same : x ≡ c = is ∙ ap (λ b. cond b (fresh_cpu n spaces) c) test in
         inr (
           λ e. (
-              let yes : is_cpu n c ≡ true = (Decides-eqb c.number n).1 (ap (λ (y : Cpu). y.number) (sym same) ∙ e) in
+              let yes : is_cpu n c ≡ true = (Decides-eqb c.number n).1 (ap (λ (y : NumberedCpu). y.number) (sym same) ∙ e) in
               let wrong : true ≡ false = sym yes ∙ test in
               cc
               ),
@@ -128,17 +128,17 @@ renewed_so n spaces all k c x at is = by (is_cpu n c) refl
 
 pub offline_has_no_round : OfflineHasNoRound
 offline_has_no_round old new n line text read step = elim (subst (λ x. AnswersLine old x text new) read step.answer) [
-  | inl did ↦ inr (all_from (λ (c : Cpu). HasNoRound c ⊎ ((c.number ≢ n) × Contains old.cpus c)) new.cpus (λ k x at. (
-      let m = mapped (renewed n old.spaces) old.cpus k x (ap (λ (cs : List Cpu). slice_get cs k) (sym did.1.cpus) ∙ at) in
+  | inl did ↦ inr (all_from (λ (c : NumberedCpu). HasNoRound c ⊎ ((c.number ≢ n) × Contains old.cpus c)) new.cpus (λ k x at. (
+      let m = mapped (after_renewal n old.spaces) old.cpus k x (ap (λ (cs : List NumberedCpu). slice_get cs k) (sym did.1.cpus) ∙ at) in
       renewed_so n old.spaces old.cpus k m.0 x m.1 m.2
       )))
   | inr out ↦ inl out.0
 ]
 
 -- what serves a new lease that is to be asked for again
-new_again : (id : RequestId) (old new : Picture) (l : LeaseLine) (r : Reply) → NewLease id l old new r → written r ≡ written (again_of id)
-    → (place : ℕ) × (x : TreeArena) × Finds old l.arena place x × CanServe old place x (demand_of l)
-new_again id old new l (reply.Again a) does same = (does.1.place, does.1.arena, does.1.takes.finds, does.1.can)
+new_again : (id : RequestId) (old new : Picture) (l : LeaseLine) (r : Reply) → NewLease id l old new r → reply_bytes r ≡ reply_bytes (again_of id)
+    → (index : ℕ) × (x : TreeArena) × Finds old l.arena index x × CanServe old index x (demand_of l)
+new_again id old new l (reply.Again a) does same = (does.1.index, does.1.arena, does.1.takes.finds, does.1.can)
 new_again id old new l (reply.Granted g) does same = absurd (let e : 103 ≡ 97 = ap (λ xs. get_or xs 0 0) same in omega (arith, e))
 new_again id old new l (reply.Refused x) does same = absurd (let e : 114 ≡ 97 = ap (λ xs. get_or xs 0 0) same in omega (arith, e))
 new_again id old new l (reply.Released x) does same = absurd does

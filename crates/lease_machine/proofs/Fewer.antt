@@ -1,4 +1,4 @@
--- What has a place for some units has one for fewer.
+-- What has a base for some units has one for fewer.
 use Rattle.std.proofs.Common.{◌≡◌, ℕ, suc, zero, ◌<◌, ◌≤◌, refl, inl, inr, List, [], ◌∷◌, Option, Some, None, arith}
 use Rattle.std.specs.Prelude.{slice_get, max}
 use Rattle.deed_core.specs.Holding.{Holding}
@@ -12,7 +12,7 @@ use Rattle.arena_tree.specs.Trees.{IsTree}
 use Rattle.quantum_cache.specs.Caches.{chain_on, chain_up, chain_in}
 use Rattle.stock.specs.Spaces.{SpaceState}
 use Rattle.stock.specs.Stocks.{IsStock}
-use Rattle.lease_machine.specs.Moves.{HasPlaceUp}
+use Rattle.lease_machine.specs.Moves.{HasBaseUp}
 use Rattle.lease_machine.specs.RoomLaws.{FewerFitToo}
 
 rounded_fewer : (quantum n most : ℕ) → 0 < quantum → n ≤ most → rounded quantum n ≤ rounded quantum most
@@ -48,20 +48,20 @@ amount_fewer l s up n most own above le =
     let second = rounded_fewer s.quantum (max (rounded l.quantum n) l.import_min) (max (rounded l.quantum most) l.import_min) above asked in
     omega (arith, second)
 
-fewer_up : (spaces : List SpaceState) → IsStock spaces → (chain : List Level) → HaveQuanta chain → (n most : ℕ) → n ≤ most → HasPlaceUp spaces chain most → HasPlaceUp spaces chain n
+fewer_up : (spaces : List SpaceState) → IsStock spaces → (chain : List Level) → HaveQuanta chain → (n most : ℕ) → n ≤ most → HasBaseUp spaces chain most → HasBaseUp spaces chain n
 fewer_up spaces stock [] quanta n most le has = absurd has
 fewer_up spaces stock (l ∷ []) quanta n most le has = elim has [
-  | inl place ↦
-      let some = power_some place.0.arena.quantum (stock l.id place.0 place.1).sound.divided.power in
-      let r = place.2.1 in
-      inl (place.0, place.1, (place.2.0, (r.0, r.1, r.2, r.3, serves_fewer place.0.arena.quantum n most place.2.0 r.1 some le r.4)))
+  | inl index ↦
+      let some = power_some index.0.arena.quantum (stock l.id index.0 index.1).sound.divided.power in
+      let r = index.2.1 in
+      inl (index.0, index.1, (index.2.0, (r.0, r.1, r.2, r.3, serves_fewer index.0.arena.quantum n most index.2.0 r.1 some le r.4)))
   | inr none ↦ absurd none
 ]
 fewer_up spaces stock (l ∷ (s ∷ up)) quanta n most le has = elim has [
-  | inl place ↦
-      let some = power_some place.0.arena.quantum (stock l.id place.0 place.1).sound.divided.power in
-      let r = place.2.1 in
-      inl (place.0, place.1, (place.2.0, (r.0, r.1, r.2, r.3, serves_fewer place.0.arena.quantum n most place.2.0 r.1 some le r.4)))
+  | inl index ↦
+      let some = power_some index.0.arena.quantum (stock l.id index.0 index.1).sound.divided.power in
+      let r = index.2.1 in
+      inl (index.0, index.1, (index.2.0, (r.0, r.1, r.2, r.3, serves_fewer index.0.arena.quantum n most index.2.0 r.1 some le r.4)))
   | inr above ↦ inr (fewer_up spaces stock (s ∷ up) quanta.1 (amount_of l (s ∷ up) n) (amount_of l (s ∷ up) most) (amount_fewer l s up n most quanta.0 quanta.1.0 le) above)
 ]
 
@@ -74,8 +74,8 @@ chain_quanta tree is zero o = tt
 chain_quanta tree is (suc m) None = tt
 chain_quanta tree is (suc m) (Some p) = on_quanta tree is p (chain_up m tree) (slice_get tree p) refl (λ x. chain_quanta tree is m x.source)
 
-pub fewer_fit : (tree : List TreeArena) (spaces : List SpaceState) (place n most : ℕ) → IsTree tree → IsStock spaces → n ≤ most → HasPlaceUp spaces (chain_in tree place) most → HasPlaceUp spaces (chain_in tree place) n
-fewer_fit tree spaces place n most is stock le has = fewer_up spaces stock (chain_in tree place) (chain_quanta tree is 4 (Some place)) n most le has
+pub fewer_fit : (tree : List TreeArena) (spaces : List SpaceState) (index n most : ℕ) → IsTree tree → IsStock spaces → n ≤ most → HasBaseUp spaces (chain_in tree index) most → HasBaseUp spaces (chain_in tree index) n
+fewer_fit tree spaces index n most is stock le has = fewer_up spaces stock (chain_in tree index) (chain_quanta tree is 4 (Some index)) n most le has
 
 pub fewer_fit_too : FewerFitToo
-fewer_fit_too d place n most is le has = fewer_fit d.tree d.spaces place n most is.tree is.units.parts le has
+fewer_fit_too d index n most is le has = fewer_fit d.tree d.spaces index n most is.tree is.units.parts le has

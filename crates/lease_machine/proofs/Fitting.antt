@@ -7,13 +7,13 @@ use Rattle.std.proofs.lemmas.Option.{get_or_from_slice_get}
 use Rattle.std.proofs.lemmas.Slice.Eq.{bytes_eq-Decides}
 use Rattle.deed_core.specs.Request.{Fits}
 use Rattle.arena_tree.specs.declared.trees.TreeArena.{TreeArena}
-use Rattle.arena_tree.specs.Trees.{place_in}
+use Rattle.arena_tree.specs.Trees.{index_in}
 use Rattle.lease_terms.specs.Requests.{RequestId}
 use Rattle.lease_proto.specs.declared.lines.Op.TheVariants as ops
 use Rattle.lease_proto.specs.declared.replies.Reply.{Reply}
 use Rattle.lease_proto.specs.declared.replies.Reply.TheVariants as reply
 use Rattle.lease_proto.specs.declared.replies.Granted.{Granted}
-use Rattle.lease_book.specs.Entry.{Entry, Settlement, Settled, Grant, Return, Refuse, kept}
+use Rattle.lease_book.specs.Entry.{Entry, Settlement, Settled, Grant, Return, Refuse, kept_settlement}
 use Rattle.lease_book.specs.Receipts.{Kept, IsEarned}
 use Rattle.lease_book.specs.Account.{Account, number_of}
 use Rattle.lease_book.specs.History.{incarnation, account, outcome_of}
@@ -48,26 +48,26 @@ not_known d id r fresh known = by r known
     by (reply.Error x) known = at (reply.Error x) known
 
 -- the arena that is found has the name
-pub found_named : (tree : List TreeArena) (name : List ℕ) (place : ℕ) (x : TreeArena) → place_in name tree ≡ Some place → slice_get tree place ≡ Some x → x.name ≡ name
-found_named tree name place x first at =
-    let passes : bytes_eq (get_or tree place x).name name ≡ true = (position-Some (λ (z : TreeArena). bytes_eq z.name name) tree place x first).1 in
-    let here : get_or tree place x ≡ x = get_or_from_slice_get tree place x x at in
-    sym (ap (λ (z : TreeArena). z.name) here) ∙ (bytes_eq-Decides (get_or tree place x).name name).0 passes
+pub found_named : (tree : List TreeArena) (name : List ℕ) (index : ℕ) (x : TreeArena) → index_in name tree ≡ Some index → slice_get tree index ≡ Some x → x.name ≡ name
+found_named tree name index x first at =
+    let passes : bytes_eq (get_or tree index x).name name ≡ true = (position-Some (λ (z : TreeArena). bytes_eq z.name name) tree index x first).1 in
+    let here : get_or tree index x ≡ x = get_or_from_slice_get tree index x x at in
+    sym (ap (λ (z : TreeArena). z.name) here) ∙ (bytes_eq-Decides (get_or tree index x).name name).0 passes
 
 granted_fits : (old new : Picture) (id : RequestId) (l : _) (g : Granted) → Grants id l old new (reply.Granted g) → FitsLine old l (reply.Granted g)
 granted_fits old new id l g does =
     let t = does.segment in
     let is : reply.Granted g ≡ reply.Granted (record { id = id; arena = arena_named old.tree t.arena; base = t.holding.range.base; len = t.holding.range.len }) = does.reply in
     let same : g ≡ record { id = id; arena = arena_named old.tree t.arena; base = t.holding.range.base; len = t.holding.range.len } = cc in
-    let finds : Finds old l.arena does.place does.arena = does.takes.finds in
+    let finds : Finds old l.arena does.index does.arena = does.takes.finds in
     let name : arena_named old.tree t.arena ≡ l.arena =
-    ap (λ (k : ℕ). arena_named old.tree k) does.serves.arena ∙ ap name_or_none finds.here ∙ found_named old.tree l.arena does.place does.arena finds.first finds.here in
+    ap (λ (k : ℕ). arena_named old.tree k) does.serves.arena ∙ ap name_or_none finds.here ∙ found_named old.tree l.arena does.index does.arena finds.first finds.here in
     let base : g.base ≡ t.holding.range.base = ap (λ (x : Granted). x.base) same in
     let len : g.len ≡ t.holding.range.len = ap (λ (x : Granted). x.len) same in
     let fits : Fits does.arena.quantum (demand_of l) t.holding.range.base t.holding.range.len = does.serves.fits in (
       ap (λ (x : Granted). x.arena) same ∙ name,
       (
-        does.place,
+        does.index,
         does.arena,
         finds,
         subst (λ (b : ℕ). Fits does.arena.quantum (demand_of l) b g.len) (sym base) (subst (Fits does.arena.quantum (demand_of l) t.holding.range.base) (sym len) fits),
@@ -102,7 +102,7 @@ each_at P [] j x all at = absurd (let e : None ≡ Some x = at in cc)
 each_at P (y ∷ ys) zero x all at = (let e : Some y ≡ Some x = at in let same : y ≡ x = cc in subst P same all.0)
 each_at P (y ∷ ys) (suc j) x all at = each_at P ys j x all.1 at
 
-settled_fits : (d : Picture) (n : ℕ) (s : Settlement) (k : Kept) → k ≡ kept n s → IsSettledIn d.tree s → IsEarned k.reply k.terms → IsFitting d k
+settled_fits : (d : Picture) (n : ℕ) (s : Settlement) (k : Kept) → k ≡ kept_settlement n s → IsSettledIn d.tree s → IsEarned k.reply k.terms → IsFitting d k
 settled_fits d n (Grant t terms) k is home earned arena base len granted =
     let replied : replies.Granted arena base len ≡ replies.Granted t.arena t.holding.range.base t.holding.range.len = sym granted ∙ ap (λ (x : Kept). x.reply) is in
     let at_arena : arena ≡ t.arena = cc in

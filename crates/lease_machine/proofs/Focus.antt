@@ -21,7 +21,7 @@ use Rattle.std.proofs.Common.{Err, List, Ok, Option, Result, Some, ap, arith, in
 use Rattle.std.proofs.lemmas.Bool.{cases_eq}
 use Rattle.std.proofs.lemmas.List.{set-set}
 use Rattle.std.proofs.lemmas.Option.{slice_get_within}
-use Rattle.stock.specs.OwnCaches.{IsAtPlaceOf, OwnCacheState}
+use Rattle.stock.specs.OwnCaches.{IsAtIndexesOf, OwnCacheState}
 use Rattle.stock.specs.Spaces.{QuantumCacheState, SpaceState, with_cache, with_caches, with_depot, with_slab}
 use Rattle.stock.specs.Steps.{OnDepot, OnSlab}
 use Rattle.stock.specs.Stocks.{IsRoundOf}
@@ -101,7 +101,7 @@ module _ (s : LocalState) (k j : ℕ) (f : Focus s k j) where
   }
 
   -- from what is there then, the relations
-  pub own_becomes : (P : CpuCacheState → CpuCacheState → Type 0) (y : CpuCacheState) (new : List (List OwnCacheState)) → new ≡ set s.cpu k (set f.row j (own_with y)) → P f.own.cpu y → OnOwn k j (λ o p. IsAtPlaceOf o p × P o.cpu p.cpu) s.cpu new
+  pub own_becomes : (P : CpuCacheState → CpuCacheState → Type 0) (y : CpuCacheState) (new : List (List OwnCacheState)) → new ≡ set s.cpu k (set f.row j (own_with y)) → P f.own.cpu y → OnOwn k j (λ o p. IsAtIndexesOf o p × P o.cpu p.cpu) s.cpu new
   own_becomes P y new is so = record {
     row = f.row;
     at = f.row_at;
@@ -122,7 +122,7 @@ module _ (s : LocalState) (k j : ℕ) (f : Focus s k j) where
     same_then : (new : LocalState) → IsUnchanged (there x q) new → new ≡ there x q
     same_then new u = λ i. record { spaces = u.spaces i; cpu = u.cpu i }
 
-    cpu_on : (P : CpuCacheState → CpuCacheState → Type 0) (new : List (List OwnCacheState)) → OnOwn k j (λ o p. IsAtPlaceOf o p × P o.cpu p.cpu) (there x q).cpu new → (y : CpuCacheState) × (new ≡ (there y q).cpu) × P x y
+    cpu_on : (P : CpuCacheState → CpuCacheState → Type 0) (new : List (List OwnCacheState)) → OnOwn k j (λ o p. IsAtIndexesOf o p × P o.cpu p.cpu) (there x q).cpu new → (y : CpuCacheState) × (new ≡ (there y q).cpu) × P x y
     cpu_on P new on =
         let row : on.row ≡ set f.row j (own_with x) = slice_get_one (there x q).cpu k on.row (set f.row j (own_with x)) on.at (row_there x) in
         let own : on.own ≡ own_with x = slice_get_one on.row j on.own (own_with x) on.among (ap (λ r. slice_get r j) row ∙ own_there x) in
@@ -165,7 +165,7 @@ module _ (s : LocalState) (k j : ℕ) (f : Focus s k j) where
     reached_on : (P : CpuCacheState → CpuCacheState → Type 0) (new : LocalState) → OnReached (there x q) k (j + 1) P new → (y : CpuCacheState) × (new ≡ there y q) × P x y
     reached_on P new on =
         let here : on.1.0 ≡ j = omega (arith, on.1.1) in
-        let c = cpu_on P new.cpu (subst (λ i. OnOwn k i (λ o p. IsAtPlaceOf o p × P o.cpu p.cpu) (there x q).cpu new.cpu) here on.1.3) in
+        let c = cpu_on P new.cpu (subst (λ i. OnOwn k i (λ o p. IsAtIndexesOf o p × P o.cpu p.cpu) (there x q).cpu new.cpu) here on.1.3) in
         (c.0, (λ i. record { spaces = on.0 i; cpu = c.1 i }), c.2)
 
     pub popped : (a : Result (Option Tag) Stopped) (new : LocalState) → DoesPop (there x q) k (j + 1) a new → (r : Option Tag) × (a ≡ Ok r) × ((y : CpuCacheState) × (new ≡ there y q) × PopOf x r y)
@@ -202,7 +202,7 @@ module _ (s : LocalState) (k j : ℕ) (f : Focus s k j) where
     exchanged : (P : CpuCacheState → DepotState → CpuCacheState → DepotState → Type 0) (new : LocalState) → OnExchange (there x q) k (j + 1) P new → (y : CpuCacheState) × (d : DepotState) × (new ≡ there y (with_depot d q)) × P x q.depot y d
     exchanged P new on =
         let here : on.0 ≡ j = omega (arith, on.1) in
-        let c = cpu_on (λ o p. OnDepot k j (λ d e. P o d p e) (there x q).spaces new.spaces) new.cpu (subst (λ i. OnOwn k i (λ o p. IsAtPlaceOf o p × OnDepot k i (λ d e. P o.cpu d p.cpu e) (there x q).spaces new.spaces) (there x q).cpu new.cpu) here on.3) in
+        let c = cpu_on (λ o p. OnDepot k j (λ d e. P o d p e) (there x q).spaces new.spaces) new.cpu (subst (λ i. OnOwn k i (λ o p. IsAtIndexesOf o p × OnDepot k i (λ d e. P o.cpu d p.cpu e) (there x q).spaces new.spaces) (there x q).cpu new.cpu) here on.3) in
         let d = depot_on (λ a b. P x a c.0 b) new.spaces c.2 in
         (c.0, d.0, (λ i. record { spaces = d.1 i; cpu = c.1 i }), d.2)
 

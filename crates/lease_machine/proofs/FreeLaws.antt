@@ -21,10 +21,10 @@ use Rattle.lease_machine.specs.Chunks.{BecomesRound, ComesHome, GoesBack, GoesBa
 use Rattle.lease_machine.specs.Held.{IsHeld, parts_in, with_parts}
 use Rattle.lease_machine.specs.Moves.{OtherCpusStay, Returns}
 use Rattle.lease_machine.specs.Moves.Returns.{rises, stays}
-use Rattle.lease_machine.specs.Picture.{Cpu, Picture, SameSetup, is_cpu}
+use Rattle.lease_machine.specs.Picture.{NumberedCpu, Picture, SameSetup, is_cpu}
 use Rattle.local_calls.specs.Runs.{RunsTo, SoundStep}
 use Rattle.local_parts.proofs.LawProofs.{path_seen, plan_conserves, plan_keeps_setup, plan_keeps_stock}
-use Rattle.local_parts.specs.Cpus.{CachePlace, IsCpuOf, OnOwn, own_place, own_places, places_from, row_places}
+use Rattle.local_parts.specs.Cpus.{CacheIndexes, IsCpuOf, OnOwn, own_index, own_indexes, indexes_from, row_indexes}
 use Rattle.local_parts.specs.States.{LocalState}
 use Rattle.local_parts.specs.Steps.{IsSetUpAs, LocalStep}
 use Rattle.local_parts.specs.Words.{in_words}
@@ -41,7 +41,7 @@ use Rattle.std.proofs.lemmas.List.{length-map}
 use Rattle.std.proofs.lemmas.List.Elements.{All-contains}
 use Rattle.std.proofs.lemmas.Option.{slice_get_within}
 use Rattle.stock.proofs.LawProofs.{always_out}
-use Rattle.stock.specs.OwnCaches.{IsAtPlaceOf, OwnCacheState}
+use Rattle.stock.specs.OwnCaches.{IsAtIndexesOf, OwnCacheState}
 use Rattle.stock.specs.Spaces.{IsCacheAt, QuantumCacheState, SpacePlan, SpaceState, plan_of, plans_of, slab_size_of, with_depot, with_slab}
 use Rattle.stock.specs.Steps.{FreeIn, IsOutOf, OnArena}
 use Rattle.stock.specs.Stocks.{IsQuantumCache, IsRoundOf, IsStock}
@@ -71,27 +71,27 @@ returns_so arenas (l ∷ up) t old new path = by path.2.step.does.0.0 path.2.ste
         let rest = subst (λ a. RunsTo arenas (on_free (return_plan up) a) path.0 new (Ok tt)) told path.3 in
         absurd (let e : Err (returning.Stuck y) ≡ Ok tt = rest.1 in cc)
 
--- the places of a CPU
-at_row : (arena quantum i count j : ℕ) → j < count → slice_get (row_places arena quantum i count) j ≡ Some (record { arena = arena; cache = i + j; quantum = quantum })
+-- the indexes of a CPU
+at_row : (arena quantum i count j : ℕ) → j < count → slice_get (row_indexes arena quantum i count) j ≡ Some (record { arena = arena; cache = i + j; quantum = quantum })
 at_row arena quantum i zero j less = absurd (omega (arith, less))
 at_row arena quantum i (suc count) zero less = ap (λ n. Some (record { arena = arena; cache = n; quantum = quantum })) (omega arith)
 at_row arena quantum i (suc count) (suc j) less = at_row arena quantum (i + 1) count j (omega (arith, less)) ∙ ap (λ n. Some (record { arena = arena; cache = n; quantum = quantum })) (omega arith)
 
-at_places : (n : ℕ) (plans : List SpacePlan) (k : ℕ) (p : SpacePlan) → slice_get plans k ≡ Some p → slice_get (places_from n plans) k ≡ Some (row_places (n + k) p.quantum 0 (length p.slab_sizes))
-at_places n [] k p at = absurd (let e : None ≡ Some p = at in cc)
-at_places n (q ∷ plans) zero p at = let e : Some q ≡ Some p = at in let is : q ≡ p = cc in ap (λ (z : SpacePlan). Some (row_places n z.quantum 0 (length z.slab_sizes))) is ∙ ap (λ m. Some (row_places m p.quantum 0 (length p.slab_sizes))) (omega arith)
-at_places n (q ∷ plans) (suc k) p at = at_places (n + 1) plans k p at ∙ ap (λ m. Some (row_places m p.quantum 0 (length p.slab_sizes))) (omega arith)
+at_indexes : (n : ℕ) (plans : List SpacePlan) (k : ℕ) (p : SpacePlan) → slice_get plans k ≡ Some p → slice_get (indexes_from n plans) k ≡ Some (row_indexes (n + k) p.quantum 0 (length p.slab_sizes))
+at_indexes n [] k p at = absurd (let e : None ≡ Some p = at in cc)
+at_indexes n (q ∷ plans) zero p at = let e : Some q ≡ Some p = at in let is : q ≡ p = cc in ap (λ (z : SpacePlan). Some (row_indexes n z.quantum 0 (length z.slab_sizes))) is ∙ ap (λ m. Some (row_indexes m p.quantum 0 (length p.slab_sizes))) (omega arith)
+at_indexes n (q ∷ plans) (suc k) p at = at_indexes (n + 1) plans k p at ∙ ap (λ m. Some (row_indexes m p.quantum 0 (length p.slab_sizes))) (omega arith)
 
 -- a CPU of the stock has a cache for each quantum cache
 pub focus_at : (s : LocalState) (k j : ℕ) (c : QuantumCacheState) → IsCpuOf s.spaces s.cpu → IsCacheAt s.spaces k j c → Focus s k j
 focus_at s k j c of at =
     let p : SpacePlan = plan_of at.space in
     let plan : slice_get (plans_of s.spaces) k ≡ Some p = slice_get_mapped plan_of s.spaces k at.space at.at in
-    let places : slice_get (own_places s.cpu) k ≡ Some (row_places k p.quantum 0 (length p.slab_sizes)) = ap (λ ps. slice_get ps k) of ∙ (at_places 0 (plans_of s.spaces) k p plan ∙ ap (λ m. Some (row_places m p.quantum 0 (length p.slab_sizes))) (omega arith)) in
-    let row = mapped (map own_place) s.cpu k (row_places k p.quantum 0 (length p.slab_sizes)) places in
+    let indexes : slice_get (own_indexes s.cpu) k ≡ Some (row_indexes k p.quantum 0 (length p.slab_sizes)) = ap (λ ps. slice_get ps k) of ∙ (at_indexes 0 (plans_of s.spaces) k p plan ∙ ap (λ m. Some (row_indexes m p.quantum 0 (length p.slab_sizes))) (omega arith)) in
+    let row = mapped (map own_index) s.cpu k (row_indexes k p.quantum 0 (length p.slab_sizes)) indexes in
     let within : j < length at.space.caches = slice_get_within at.space.caches j c at.among in
-    let place : slice_get (map own_place row.0) j ≡ Some (record { arena = k; cache = j; quantum = p.quantum }) = ap (λ ps. slice_get ps j) (sym row.2) ∙ (at_row k p.quantum 0 (length p.slab_sizes) j (omega (arith, within, length-map at.space.caches slab_size_of)) ∙ ap (λ n. Some (record { arena = k; cache = n; quantum = p.quantum })) (omega arith)) in
-    let own = mapped own_place row.0 j (record { arena = k; cache = j; quantum = p.quantum }) place in
+    let index : slice_get (map own_index row.0) j ≡ Some (record { arena = k; cache = j; quantum = p.quantum }) = ap (λ ps. slice_get ps j) (sym row.2) ∙ (at_row k p.quantum 0 (length p.slab_sizes) j (omega (arith, within, length-map at.space.caches slab_size_of)) ∙ ap (λ n. Some (record { arena = k; cache = n; quantum = p.quantum })) (omega arith)) in
+    let own = mapped own_index row.0 j (record { arena = k; cache = j; quantum = p.quantum }) index in
     record {
       space = at.space;
       at = at.at;
@@ -101,9 +101,9 @@ focus_at s k j c of at =
       row_at = row.1;
       own = own.0;
       own_at = own.1;
-      arena = ap (λ (x : CachePlace). x.arena) (sym own.2);
-      number = ap (λ (x : CachePlace). x.cache) (sym own.2);
-      quantum = ap (λ (x : CachePlace). x.quantum) (sym own.2);
+      arena = ap (λ (x : CacheIndexes). x.arena) (sym own.2);
+      number = ap (λ (x : CacheIndexes). x.cache) (sym own.2);
+      quantum = ap (λ (x : CacheIndexes). x.quantum) (sym own.2);
     }
 
 -- where one cache became another, all are so if that one is
@@ -132,7 +132,7 @@ out_round spaces k j t out law here =
     }
 
 -- the same parts are those of the selected CPU
-module _ (d : Picture) (c : Cpu) (found : find (is_cpu d.selected) d.cpus ≡ Some c) where
+module _ (d : Picture) (c : NumberedCpu) (found : find (is_cpu d.selected) d.cpus ≡ Some c) where
   pub selected_is : selected_caches d ≡ c.caches
   selected_is = ap own_or_none found
 
@@ -151,10 +151,10 @@ module _ (d : Picture) (c : Cpu) (found : find (is_cpu d.selected) d.cpus ≡ So
       let r = round d.selected s.cpu d.cpus c found apart in
       r.then_is ∙ (ap (λ rows. r.front ++ with_rows rows c ∷ r.back) same ∙ sym r.is)
 
-  pub on_selected : (s : LocalState) (k j : ℕ) (P : CpuCacheState → CpuCacheState → Type 0) → OnOwn k j (λ o p. IsAtPlaceOf o p × P o.cpu p.cpu) c.caches s.cpu → OnSelected k j P d (with_parts s d)
+  pub on_selected : (s : LocalState) (k j : ℕ) (P : CpuCacheState → CpuCacheState → Type 0) → OnOwn k j (λ o p. IsAtIndexesOf o p × P o.cpu p.cpu) c.caches s.cpu → OnSelected k j P d (with_parts s d)
   on_selected s k j P on = record {
     others = others_are s;
-    own = subst (λ rows. OnOwn k j (λ o p. IsAtPlaceOf o p × P o.cpu p.cpu) rows (selected_caches (with_parts s d))) (sym selected_is) (subst (λ rows. OnOwn k j (λ o p. IsAtPlaceOf o p × P o.cpu p.cpu) c.caches rows) (sym (selected_then s)) on);
+    own = subst (λ rows. OnOwn k j (λ o p. IsAtIndexesOf o p × P o.cpu p.cpu) rows (selected_caches (with_parts s d))) (sym selected_is) (subst (λ rows. OnOwn k j (λ o p. IsAtIndexesOf o p × P o.cpu p.cpu) c.caches rows) (sym (selected_then s)) on);
   }
 
 -- a run over those parts, as one of local steps
@@ -162,7 +162,7 @@ pub seen : {A : Type 0} (arenas : List TreeArena) (p : Plan A) (old new : LocalS
 seen {A} arenas p old new a path = path_seen A LocalState (λ s. s) (SoundStep (nodes_of arenas)) (λ s t e x step. step.step) p old new a path
 
 -- what a CPU's caches are before
-pub fits_before : (d : Picture) (n : ℕ) (c : Cpu) (found : find (is_cpu n) d.cpus ≡ Some c) (hand : Option Tag) (held : IsHeld (hands_of hand) d) (new : List SpaceState) → all_last new ≡ all_last d.spaces → Everywhere (FitsIn new) c.caches
+pub fits_before : (d : Picture) (n : ℕ) (c : NumberedCpu) (found : find (is_cpu n) d.cpus ≡ Some c) (hand : Option Tag) (held : IsHeld (hands_of hand) d) (new : List SpaceState) → all_last new ≡ all_last d.spaces → Everywhere (FitsIn new) c.caches
 fits_before d n c found hand held new last k j row o at among = record {
   shaped = shaped_last d.spaces new last o (shaped_here d n c found hand held [] k j row o at among);
   rounds = (own_here d n c found hand held [] k j row o at among).own.rounds;
@@ -206,7 +206,7 @@ module _ (s : LocalState) (k j : ℕ) (f : Focus s k j) (law : IsStock s.spaces)
     rounds = subst (λ i. All (IsRoundOf i (f.own.cache + 1) f.own.quantum) (cache_rounds y)) (sym f.arena) (subst (λ i. All (IsRoundOf k (i + 1) f.own.quantum) (cache_rounds y)) (sym f.number) is.rounds);
   }
 
-module _ (d : Picture) (t : Tag) (s : LocalState) (held : IsHeld (t ∷ []) d) (c : Cpu) (found : find (is_cpu d.selected) d.cpus ≡ Some c) (run : RunsTo d.tree (free_plan (chain_in d.tree t.arena) t) (reach d d.selected c found (Some t) held) s (Ok tt)) where
+module _ (d : Picture) (t : Tag) (s : LocalState) (held : IsHeld (t ∷ []) d) (c : NumberedCpu) (found : find (is_cpu d.selected) d.cpus ≡ Some c) (run : RunsTo d.tree (free_plan (chain_in d.tree t.arena) t) (reach d d.selected c found (Some t) held) s (Ok tt)) where
   abbrev was : LocalState
   was = reach d d.selected c found (Some t) held
 

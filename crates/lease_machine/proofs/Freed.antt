@@ -22,7 +22,7 @@ use Rattle.slab_layer.proofs.LawProofs.{reaped_out_is_empty}
 use Rattle.stock.specs.Spaces.{SpaceState, QuantumCacheState}
 use Rattle.stock.specs.Accounts.{chunks, chunks_in, rounds, rounds_in}
 use Rattle.stock.specs.Endings.{IsReaped, IsReapedCache}
-use Rattle.stock.specs.Sums.{held, held_of}
+use Rattle.stock.specs.Sums.{holdings_of, held_of}
 use Rattle.stock_audit.specs.Outside.{all_rounds_out, segments_out}
 use Rattle.stock_audit.specs.Chains.{is_source, is_child_of, spans_of_children, spans_of_slabs}
 use Rattle.stock_audit.proofs.LawProofs.{allocated_is_out}
@@ -68,9 +68,9 @@ module _ (d : Picture) (is : IsPicture d) (kept : NothingIsKept d) where
       (nothing (chunks_out c.slab) (omega (arith, total, none, no_rounds f, part_of_sum (chunks f) d.spaces k s at, part_of_sum (chunks_in f) s.caches j c among)))
 
   no_slabs : (k : ℕ) (s : SpaceState) → slice_get d.spaces k ≡ Some s → (f : Holding → ℕ) → sum_by f (spans_of_slabs s) ≡ 0
-  no_slabs k s at f = sum_by-flat_map f (λ (c : QuantumCacheState). held (span_tags c.slab)) s.caches
-      ∙ sum_none (λ (c : QuantumCacheState). sum_by f (held (span_tags c.slab))) s.caches (λ j c among.
-      ap (λ (ss : List SlabState). sum_by f (held (map (span_tag c.slab.arena) ss))) (no_slab k s at j c among))
+  no_slabs k s at f = sum_by-flat_map f (λ (c : QuantumCacheState). holdings_of (span_tags c.slab)) s.caches
+      ∙ sum_none (λ (c : QuantumCacheState). sum_by f (holdings_of (span_tags c.slab))) s.caches (λ j c among.
+      ap (λ (ss : List SlabState). sum_by f (holdings_of (map (span_tag c.slab.arena) ss))) (no_slab k s at j c among))
 
   no_tags : (a : ArenaState) → ranges_of a.allocated ≡ [] → tags_of a ≡ []
   no_tags a none = ap (map (direct a.id)) none

@@ -15,38 +15,38 @@ use Rattle.stock.specs.OwnCaches.{OwnCacheState, own_rounds}
 use Rattle.stock_audit.specs.Outside.{all_rounds_out, outside, nothing_out}
 use Rattle.stock_audit.specs.Accounted.{IsOwnIn, IsAccountedFor}
 use Rattle.stock_audit.proofs.LawProofs.{fresh_is_accounted, cpus_keep}
-use Rattle.local_parts.specs.Cpus.{CachePlace, IsCpuOf, own_place, own_places, row_places, places_from, new_own}
+use Rattle.local_parts.specs.Cpus.{CacheIndexes, IsCpuOf, own_index, own_indexes, row_indexes, indexes_from, new_own}
 use Rattle.lease_proto.specs.Cpus.{IsCpu}
-use Rattle.lease_book.specs.BookState.{leased, leased_by}
-use Rattle.lease_machine.specs.Picture.{Cpu, Picture, IsPicture, IsShapedIn, is_cpu, caches_of, fresh_cpu, held_outside}
+use Rattle.lease_book.specs.BookState.{leased_segments, leased_by}
+use Rattle.lease_machine.specs.Picture.{NumberedCpu, Picture, IsPicture, IsShapedIn, is_cpu, caches_of, fresh_cpu, held_outside}
 use Rattle.lease_machine.specs.CpuLaws.{FreshIsPicture, SelectedIsPicture, FreshCpuFits}
 
 abbrev joined : List (List OwnCacheState) → List OwnCacheState
 joined rows = flat_map (λ row. row) rows
 
 module _ (P : OwnCacheState → Type 0) where
-  all_row : (arena quantum j count : ℕ) → ((i : ℕ) → i < j + count → P (new_own 3 (record { arena = arena; cache = i; quantum = quantum }))) → All P (map (new_own 3) (row_places arena quantum j count))
+  all_row : (arena quantum j count : ℕ) → ((i : ℕ) → i < j + count → P (new_own 3 (record { arena = arena; cache = i; quantum = quantum }))) → All P (map (new_own 3) (row_indexes arena quantum j count))
   all_row arena quantum j zero each = All-nil P
   all_row arena quantum j (suc count) each =
-      All-cons P (new_own 3 (record { arena = arena; cache = j; quantum = quantum })) (map (new_own 3) (row_places arena quantum (j + 1) count)) (each j (omega arith))
+      All-cons P (new_own 3 (record { arena = arena; cache = j; quantum = quantum })) (map (new_own 3) (row_indexes arena quantum (j + 1) count)) (each j (omega arith))
       (all_row arena quantum (j + 1) count (λ i below. each i (omega (arith, below))))
 
   all_rows : (k : ℕ) (plans : List SpacePlan) → ((i : ℕ) (p : SpacePlan) → slice_get plans i ≡ Some p → (j : ℕ) → j < length p.slab_sizes → P (new_own 3 (record { arena = k + i; cache = j; quantum = p.quantum })))
-      → All P (joined (map (map (new_own 3)) (places_from k plans)))
+      → All P (joined (map (map (new_own 3)) (indexes_from k plans)))
   all_rows k [] each = All-nil P
   all_rows k (p ∷ plans) each =
-      All-append P (map (new_own 3) (row_places k p.quantum 0 (length p.slab_sizes))) (joined (map (map (new_own 3)) (places_from (k + 1) plans)))
+      All-append P (map (new_own 3) (row_indexes k p.quantum 0 (length p.slab_sizes))) (joined (map (map (new_own 3)) (indexes_from (k + 1) plans)))
       (all_row k p.quantum 0 (length p.slab_sizes) (λ j below. subst (λ (n : ℕ). P (new_own 3 (record { arena = n; cache = j; quantum = p.quantum }))) (omega arith) (each 0 p refl j (omega (arith, below)))))
       (all_rows (k + 1) plans (λ i q at j below. subst (λ (n : ℕ). P (new_own 3 (record { arena = n; cache = j; quantum = q.quantum }))) (omega arith) (each (suc i) q at j below)))
 
--- its places are the stock's
-same_places : (ps : List CachePlace) → map own_place (map (new_own 3) ps) ≡ ps
-same_places [] = refl
-same_places (p ∷ ps) = ap (λ (qs : List CachePlace). p ∷ qs) (same_places ps)
+-- its indexes are the stock's
+same_indexes : (ps : List CacheIndexes) → map own_index (map (new_own 3) ps) ≡ ps
+same_indexes [] = refl
+same_indexes (p ∷ ps) = ap (λ (qs : List CacheIndexes). p ∷ qs) (same_indexes ps)
 
-same_rows : (rows : List (List CachePlace)) → own_places (map (map (new_own 3)) rows) ≡ rows
+same_rows : (rows : List (List CacheIndexes)) → own_indexes (map (map (new_own 3)) rows) ≡ rows
 same_rows [] = refl
-same_rows (row ∷ rows) = ap (λ (r : List CachePlace). r ∷ own_places (map (map (new_own 3)) rows)) (same_places row) ∙ ap (λ (rs : List (List CachePlace)). row ∷ rs) (same_rows rows)
+same_rows (row ∷ rows) = ap (λ (r : List CacheIndexes). r ∷ own_indexes (map (map (new_own 3)) rows)) (same_indexes row) ∙ ap (λ (rs : List (List CacheIndexes)). row ∷ rs) (same_rows rows)
 
 no_round : (os : List OwnCacheState) → All (λ o. own_rounds o ≡ []) os → all_rounds_out os ≡ []
 no_round [] none = refl
@@ -54,8 +54,8 @@ no_round (o ∷ os) none =
     ap (λ (ts : List Tag). ts ++ all_rounds_out os) (none 0 o (omega arith)) ∙ no_round os (λ i e below. none (suc i) e (omega (arith, below)))
 
 module _ (spaces : List SpaceState) (n : ℕ) where
-  pub fresh_places : IsCpuOf spaces (fresh_cpu n spaces).caches
-  fresh_places = same_rows (places_from 0 (plans_of spaces))
+  pub fresh_indexes : IsCpuOf spaces (fresh_cpu n spaces).caches
+  fresh_indexes = same_rows (indexes_from 0 (plans_of spaces))
 
   pub fresh_rounds : all_rounds_out (caches_of (fresh_cpu n spaces)) ≡ []
   fresh_rounds = no_round (caches_of (fresh_cpu n spaces)) (all_rows (λ o. own_rounds o ≡ []) 0 (plans_of spaces) (λ i p at j below. refl))
@@ -97,19 +97,19 @@ module _ (spaces : List SpaceState) (n : ℕ) where
   fresh_shapes stock = all_rows (IsShapedIn spaces) 0 (plans_of spaces) (λ i p at j below. shaped_at stock (0 + i) j p.quantum)
 
 -- a test that passes finds one
-found_by : (b any : Bool) (c : Cpu) (rest : Option Cpu) → (any ≡ true → rest ≢ None) → (b || any) ≡ true → cond b (Some c) rest ≢ None
+found_by : (b any : Bool) (c : NumberedCpu) (rest : Option NumberedCpu) → (any ≡ true → rest ≢ None) → (b || any) ≡ true → cond b (Some c) rest ≢ None
 found_by true any c rest later is none = (let e : Some c ≡ None = none in cc)
 found_by false any c rest later is none = later is none
 
-found : (test : Cpu → Bool) (cs : List Cpu) → list_any test cs ≡ true → find test cs ≢ None
+found : (test : NumberedCpu → Bool) (cs : List NumberedCpu) → list_any test cs ≡ true → find test cs ≢ None
 found test [] is none = (let e : false ≡ true = is in cc)
 found test (c ∷ cs) is none = found_by (test c) (list_any test cs) c (find test cs) (found test cs) is none
 
-found_last : (test : Cpu → Bool) (cs : List Cpu) (c : Cpu) → test c ≡ true → find test (cs ++ c ∷ []) ≢ None
+found_last : (test : NumberedCpu → Bool) (cs : List NumberedCpu) (c : NumberedCpu) → test c ≡ true → find test (cs ++ c ∷ []) ≢ None
 found_last test [] c is none = (let e : Some c ≡ None = sym (ap (λ (b : Bool). cond b (Some c) None) is) ∙ none in cc)
 found_last test (x ∷ cs) c is none = by (test x) (find test (cs ++ c ∷ [])) (found_last test cs c is) none
   where
-    by : (b : Bool) (rest : Option Cpu) → rest ≢ None → cond b (Some x) rest ≡ None → ⊥
+    by : (b : Bool) (rest : Option NumberedCpu) → rest ≢ None → cond b (Some x) rest ≡ None → ⊥
     by true rest some none = (let e : Some x ≡ None = none in cc)
     by false rest some none = some none
 
@@ -117,17 +117,17 @@ or_false : (a b : Bool) → (a || b) ≡ false → (a ≡ false) × (b ≡ false
 or_false true b e = absurd (let f : true ≡ false = e in cc)
 or_false false b e = (refl, e)
 
-none_at : (test : Cpu → Bool) (cs : List Cpu) → list_any test cs ≡ false → (i : ℕ) (d : Cpu) → i < length cs → test (get_or cs i d) ≡ false
+none_at : (test : NumberedCpu → Bool) (cs : List NumberedCpu) → list_any test cs ≡ false → (i : ℕ) (d : NumberedCpu) → i < length cs → test (get_or cs i d) ≡ false
 none_at test [] none i d below = absurd (omega (arith, below))
 none_at test (x ∷ cs) none zero d below = (or_false (test x) (list_any test cs) none).0
 none_at test (x ∷ cs) none (suc i) d below = none_at test cs (or_false (test x) (list_any test cs) none).1 i d (omega (arith, below))
 
 -- a number that none has is new
-numbers_push : (n : ℕ) (cs : List Cpu) (c : Cpu) → c.number ≡ n → list_any (is_cpu n) cs ≡ false → AllPairs (λ a b. a.number ≢ b.number) cs → AllPairs (λ a b. a.number ≢ b.number) (cs ++ c ∷ [])
+numbers_push : (n : ℕ) (cs : List NumberedCpu) (c : NumberedCpu) → c.number ≡ n → list_any (is_cpu n) cs ≡ false → AllPairs (λ a b. a.number ≢ b.number) cs → AllPairs (λ a b. a.number ≢ b.number) (cs ++ c ∷ [])
 numbers_push n cs c is none apart = AllPairs-append (λ a b. a.number ≢ b.number) cs (c ∷ []) apart (λ i j e lt below. absurd (omega (arith, lt, below))) (λ i d below j e last same.
     (let first : j ≡ 0 = omega (arith, last) in
     let is_last : get_or (c ∷ []) j e ≡ c = ap (λ (k : ℕ). get_or (c ∷ []) k e) first in
-    let number : (get_or cs i d).number ≡ n = same ∙ ap (λ (z : Cpu). z.number) is_last ∙ is in
+    let number : (get_or cs i d).number ≡ n = same ∙ ap (λ (z : NumberedCpu). z.number) is_last ∙ is in
     let yes : is_cpu n (get_or cs i d) ≡ true = (Decides-eqb (get_or cs i d).number n).1 number in
     let e : false ≡ true = sym (none_at (is_cpu n) cs none i d below) ∙ yes in
     cc))
@@ -136,21 +136,21 @@ same_number : (n : ℕ) → (n == n) ≡ true
 same_number n = (Decides-eqb n n).1 refl
 
 -- what is out with one CPU more, which has no round
-rounds_push : (cs : List Cpu) (c : Cpu) → all_rounds_out (caches_of c) ≡ [] → all_rounds_out (flat_map caches_of (cs ++ c ∷ [])) ≡ all_rounds_out (flat_map caches_of cs)
+rounds_push : (cs : List NumberedCpu) (c : NumberedCpu) → all_rounds_out (caches_of c) ≡ [] → all_rounds_out (flat_map caches_of (cs ++ c ∷ [])) ≡ all_rounds_out (flat_map caches_of cs)
 rounds_push cs c none =
     let all : flat_map caches_of (cs ++ c ∷ []) ≡ flat_map caches_of cs ++ (caches_of c ++ []) = flat_map-append caches_of cs (c ∷ []) in
     ap all_rounds_out all ∙ flat_map-append own_rounds (flat_map caches_of cs) (caches_of c ++ [])
     ∙ ap (λ (os : List OwnCacheState). all_rounds_out (flat_map caches_of cs) ++ all_rounds_out os) (append-nil (caches_of c))
     ∙ ap (λ (ts : List Tag). all_rounds_out (flat_map caches_of cs) ++ ts) none ∙ append-nil (all_rounds_out (flat_map caches_of cs))
 
-abbrev IsCpuIn : List SpaceState → Cpu → Type 0
+abbrev IsCpuIn : List SpaceState → NumberedCpu → Type 0
 IsCpuIn spaces c = IsCpu c.number × IsCpuOf spaces c.caches
 
-abbrev HasShapes : List SpaceState → Cpu → Type 0
+abbrev HasShapes : List SpaceState → NumberedCpu → Type 0
 HasShapes spaces c = All (IsShapedIn spaces) (caches_of c)
 
 module _ (d : Picture) (n : ℕ) (is : IsPicture d) (in_range : IsCpu n) where
-  abbrev fresh : Cpu
+  abbrev fresh : NumberedCpu
   fresh = fresh_cpu n d.spaces
 
   select_old : list_any (is_cpu n) d.cpus ≡ true → IsPicture (record d { selected = n })
@@ -176,7 +176,7 @@ module _ (d : Picture) (n : ℕ) (is : IsPicture d) (in_range : IsCpu n) where
           own = subst (λ (os : List OwnCacheState). All (IsOwnIn d.spaces) os) (sym caches) (All-append (IsOwnIn d.spaces) (flat_map caches_of d.cpus) (caches_of fresh ++ []) is.units.cpus own);
         });
         cpus = record {
-          each = All-append (IsCpuIn d.spaces) d.cpus (fresh ∷ []) is.cpus.each (All-cons (IsCpuIn d.spaces) fresh [] (in_range, fresh_places d.spaces n) (All-nil (IsCpuIn d.spaces)));
+          each = All-append (IsCpuIn d.spaces) d.cpus (fresh ∷ []) is.cpus.each (All-cons (IsCpuIn d.spaces) fresh [] (in_range, fresh_indexes d.spaces n) (All-nil (IsCpuIn d.spaces)));
           shapes = All-append (HasShapes d.spaces) d.cpus (fresh ∷ []) is.cpus.shapes (All-cons (HasShapes d.spaces) fresh [] (fresh_shapes d.spaces n is.units.parts) (All-nil (HasShapes d.spaces)));
           numbers = numbers_push n d.cpus fresh refl none is.cpus.numbers;
           there = found_last (is_cpu n) d.cpus fresh (same_number n);
@@ -194,8 +194,8 @@ selected_is_picture d n is in_range = by (list_any (is_cpu n) d.cpus) refl
 pub fresh_is_picture : FreshIsPicture
 fresh_is_picture tree spaces book is_tree plans accounted history =
     let none : book.accounts ≡ [] = history.accounts in
-    let leases : leased book ≡ [] = ap leased_by none in
-    let c : Cpu = fresh_cpu 0 spaces in
+    let leases : leased_segments book ≡ [] = ap leased_by none in
+    let c : NumberedCpu = fresh_cpu 0 spaces in
     let caches : List OwnCacheState = caches_of c ++ [] in
     let own : All (IsOwnIn spaces) caches = subst (λ (os : List OwnCacheState). All (IsOwnIn spaces) os) (sym (append-nil (caches_of c))) (fresh_own spaces 0 accounted.stock) in
     let rounds : all_rounds_out caches ≡ [] = ap all_rounds_out (append-nil (caches_of c)) ∙ fresh_rounds spaces 0 in
@@ -210,7 +210,7 @@ fresh_is_picture tree spaces book is_tree plans accounted history =
       plans = plans;
       units = subst (λ (ts : List Tag). IsAccountedFor spaces (outside [] ts caches)) (sym leases) first;
       cpus = record {
-        each = All-cons (IsCpuIn spaces) c [] (omega arith, fresh_places spaces 0) (All-nil (IsCpuIn spaces));
+        each = All-cons (IsCpuIn spaces) c [] (omega arith, fresh_indexes spaces 0) (All-nil (IsCpuIn spaces));
         shapes = All-cons (HasShapes spaces) c [] (fresh_shapes spaces 0 accounted.stock) (All-nil (HasShapes spaces));
         numbers = λ i j e lt below. absurd (omega (arith, lt, below));
         there = λ none. (let e : Some c ≡ None = none in cc);
@@ -220,7 +220,7 @@ fresh_is_picture tree spaces book is_tree plans accounted history =
 
 pub fresh_cpu_fits : FreshCpuFits
 fresh_cpu_fits = record {
-  of = fresh_places;
+  of = fresh_indexes;
   none = fresh_rounds;
   own = fresh_own;
   shapes = fresh_shapes;

@@ -5,17 +5,17 @@ use Rattle.deed_core.specs.Tag.{Tag}
 use Rattle.deed_core.specs.Weights.{WeighSame}
 use Rattle.deed_core.specs.declared.segments.Route.{Route}
 use Rattle.deed_core.specs.declared.segments.Route.TheVariants.{Cached, Direct}
-use Rattle.lease_book.specs.BookState.{leased}
+use Rattle.lease_book.specs.BookState.{leased_segments}
 use Rattle.lease_machine.proofs.CpuRows.{Round, all_back, all_become, all_front, each_all, flat_all, numbers_apart, round, rounds_flat, still_found, with_rows}
 use Rattle.lease_machine.proofs.Lasting.{all_last, owned_stay, size_stood}
 use Rattle.lease_machine.specs.CallLaws.{HandIsLocal, HeldIsLocal}
 use Rattle.lease_machine.specs.Chunks.{own_or_none}
 use Rattle.lease_machine.specs.Held.{IsHeld, with_caches_of}
-use Rattle.lease_machine.specs.Picture.{AreCpus, Cpu, IsShapedIn, Picture, SameSetup, caches_of, is_cpu}
+use Rattle.lease_machine.specs.Picture.{AreCpus, NumberedCpu, IsShapedIn, Picture, SameSetup, caches_of, is_cpu}
 use Rattle.lease_proto.specs.Cpus.{IsCpu}
 use Rattle.local_calls.proofs.LawProofs.{reached_here}
 use Rattle.local_calls.specs.Runs.{IsAccountedWith, IsLocalOf}
-use Rattle.local_parts.specs.Cpus.{IsCpuOf, cpu_rounds, own_places, places_from}
+use Rattle.local_parts.specs.Cpus.{IsCpuOf, cpu_rounds, own_indexes, indexes_from}
 use Rattle.local_parts.specs.States.{Conserves, LocalState, out_of_stock}
 use Rattle.local_parts.specs.Steps.{IsSetUpAs}
 use Rattle.std.proofs.Common.{All, List, None, Option, Some, [], ap, arith, find, flat_map, length, map, refl, slice_get, subst, sum_by, sym, ℕ, ◌++◌, ◌<◌, ◌∙◌, ◌∷◌, ◌≡◌, ◌≢◌, ◌≤◌}
@@ -39,7 +39,7 @@ use Rattle.stock_audit.specs.Outside.{all_rounds_out, outside}
 abbrev pub hands_of : Option Tag → List Tag
 hands_of hand = option_to_list hand
 
-pub there_is : (o : Option Cpu) → o ≢ None → (c : Cpu) × (o ≡ Some c)
+pub there_is : (o : Option NumberedCpu) → o ≢ None → (c : NumberedCpu) × (o ≡ Some c)
 there_is None some = absurd (some refl)
 there_is (Some c) some = (c, refl)
 
@@ -57,7 +57,7 @@ weigh hands rounds leases front back f = omega (
   sum_by-append f front back,
 )
 
--- each cache of the CPU at its place
+-- each cache of the CPU at its index
 abbrev pub Everywhere : (OwnCacheState → Type 0) → List (List OwnCacheState) → Type 0
 Everywhere Q cpu = (k j : ℕ) (row : List OwnCacheState) (o : OwnCacheState) → slice_get cpu k ≡ Some row → slice_get row j ≡ Some o → Q o
 
@@ -82,7 +82,7 @@ shaped_last old new last o is = record {
       );
 }
 
-module _ (d : Picture) (n : ℕ) (c : Cpu) (found : find (is_cpu n) d.cpus ≡ Some c) (hand : Option Tag) (held : IsHeld (hands_of hand) d) where
+module _ (d : Picture) (n : ℕ) (c : NumberedCpu) (found : find (is_cpu n) d.cpus ≡ Some c) (hand : Option Tag) (held : IsHeld (hands_of hand) d) where
   abbrev pub reach : LocalState
   reach = record { spaces = d.spaces; cpu = c.caches }
 
@@ -97,19 +97,19 @@ module _ (d : Picture) (n : ℕ) (c : Cpu) (found : find (is_cpu n) d.cpus ≡ S
     back = all_rounds_out (flat_map caches_of r.back)
 
     abbrev pub others : List Tag
-    others = leased d.book ++ (front ++ back)
+    others = leased_segments d.book ++ (front ++ back)
 
-    rounds_round : (x : Cpu) → all_rounds_out (flat_map caches_of (r.front ++ x ∷ r.back)) ≡ front ++ (cpu_rounds x.caches ++ back)
+    rounds_round : (x : NumberedCpu) → all_rounds_out (flat_map caches_of (r.front ++ x ∷ r.back)) ≡ front ++ (cpu_rounds x.caches ++ back)
     rounds_round x =
         ap all_rounds_out (flat_map-append caches_of r.front (x ∷ r.back)) ∙ (flat_map-append own_rounds (flat_map caches_of r.front) (caches_of x ++ flat_map caches_of r.back)
         ∙ ap (λ ts. front ++ ts) (flat_map-append own_rounds (caches_of x) (flat_map caches_of r.back) ∙ ap (λ ts. ts ++ back) (sym (rounds_flat x.caches))))
 
     pub balanced : Accounts d.spaces (out_of_stock reach hand ++ others)
-    balanced = out_weighs d.spaces (hands_of hand ++ (leased d.book ++ (front ++ (cpu_rounds c.caches ++ back)))) (out_of_stock reach hand ++ others)
-        (weigh (hands_of hand) (cpu_rounds c.caches) (leased d.book) front back)
-        (subst (λ ts. Accounts d.spaces (hands_of hand ++ (leased d.book ++ ts))) (ap (λ cs. all_rounds_out (flat_map caches_of cs)) r.is ∙ rounds_round c) held.units.accounts)
+    balanced = out_weighs d.spaces (hands_of hand ++ (leased_segments d.book ++ (front ++ (cpu_rounds c.caches ++ back)))) (out_of_stock reach hand ++ others)
+        (weigh (hands_of hand) (cpu_rounds c.caches) (leased_segments d.book) front back)
+        (subst (λ ts. Accounts d.spaces (hands_of hand ++ (leased_segments d.book ++ ts))) (ap (λ cs. all_rounds_out (flat_map caches_of cs)) r.is ∙ rounds_round c) held.units.accounts)
 
-    of_each : (P : Cpu → Type 0) → All P d.cpus → P c
+    of_each : (P : NumberedCpu → Type 0) → All P d.cpus → P c
     of_each P all = All-head P c r.back (all_back P r.front (c ∷ r.back) (subst (All P) r.is all))
 
     pub of_stock : IsCpuOf d.spaces c.caches
@@ -147,22 +147,22 @@ module _ (d : Picture) (n : ℕ) (c : Cpu) (found : find (is_cpu n) d.cpus ≡ S
     abbrev rr : Round n s.cpu d.cpus c
     rr = r s.cpu
 
-    before : IsAccountedFor d.spaces (outside (out_of_stock reach hand) (leased d.book) (flat_map caches_of (rr.front ++ rr.back)))
+    before : IsAccountedFor d.spaces (outside (out_of_stock reach hand) (leased_segments d.book) (flat_map caches_of (rr.front ++ rr.back)))
     before = record {
       parts = held.units.parts;
-      accounts = subst (λ ts. Accounts d.spaces (out_of_stock reach hand ++ (leased d.book ++ ts))) (sym (rounds_others s.cpu)) (balanced s.cpu);
+      accounts = subst (λ ts. Accounts d.spaces (out_of_stock reach hand ++ (leased_segments d.book ++ ts))) (sym (rounds_others s.cpu)) (balanced s.cpu);
       runs = held.units.runs;
       grid = held.units.grid;
       cpus = own_others s.cpu;
     }
 
-    after : IsAccountedFor s.spaces (outside (out_of_stock s left) (leased d.book) (flat_map caches_of (rr.front ++ rr.back)))
+    after : IsAccountedFor s.spaces (outside (out_of_stock s left) (leased_segments d.book) (flat_map caches_of (rr.front ++ rr.back)))
     after = hand_steps_keep d.spaces s.spaces (out_of_stock reach hand) (out_of_stock s left) _ _ before
         (record { stock = law; frame = conserves; fixed = setup.plans })
         (record { rest = []; gave = λ f. ap (sum_by f) (sym (append-nil (out_of_stock reach hand))); took = λ f. ap (sum_by f) (sym (append-nil (out_of_stock s left))); leases = refl; cpus = refl })
 
     of_then : IsCpuOf s.spaces s.cpu
-    of_then = setup.places ∙ (of_stock s.cpu ∙ ap (places_from 0) (sym setup.plans))
+    of_then = setup.indexes ∙ (of_stock s.cpu ∙ ap (indexes_from 0) (sym setup.plans))
 
     own_then : Everywhere (IsOwnIn s.spaces) s.cpu
     own_then k j row o at among =
@@ -178,7 +178,7 @@ module _ (d : Picture) (n : ℕ) (c : Cpu) (found : find (is_cpu n) d.cpus ≡ S
           quantum = subst (λ i. HasQuantum s.spaces i o.quantum) (sym here.own.arena) here.quantum;
         }
 
-    abbrev new_cpu : Cpu
+    abbrev new_cpu : NumberedCpu
     new_cpu = with_rows s.cpu c
 
     own_all : All (IsOwnIn s.spaces) (flat_map caches_of (rr.front ++ new_cpu ∷ rr.back))
@@ -187,15 +187,15 @@ module _ (d : Picture) (n : ℕ) (c : Cpu) (found : find (is_cpu n) d.cpus ≡ S
         flat_all (IsOwnIn s.spaces) caches_of (rr.front ++ new_cpu ∷ rr.back) (All-append (λ x. All (IsOwnIn s.spaces) (caches_of x)) rr.front (new_cpu ∷ rr.back) (all_front (λ x. All (IsOwnIn s.spaces) (caches_of x)) rr.front rr.back rest)
         (All-cons (λ x. All (IsOwnIn s.spaces) (caches_of x)) new_cpu rr.back (all_everywhere (IsOwnIn s.spaces) s.cpu own_then) (all_back (λ x. All (IsOwnIn s.spaces) (caches_of x)) rr.front rr.back rest)))
 
-    units : IsAccountedFor s.spaces (outside (hands_of left) (leased d.book) (flat_map caches_of (map (with_caches_of n s.cpu) d.cpus)))
+    units : IsAccountedFor s.spaces (outside (hands_of left) (leased_segments d.book) (flat_map caches_of (map (with_caches_of n s.cpu) d.cpus)))
     units =
         let is : all_rounds_out (flat_map caches_of (map (with_caches_of n s.cpu) d.cpus)) ≡ front s.cpu ++ (cpu_rounds s.cpu ++ back s.cpu) = ap (λ cs. all_rounds_out (flat_map caches_of cs)) rr.then_is ∙ rounds_round s.cpu new_cpu in
-        let first : Accounts s.spaces (out_of_stock s left ++ (leased d.book ++ (front s.cpu ++ back s.cpu))) = subst (λ ts. Accounts s.spaces (out_of_stock s left ++ (leased d.book ++ ts))) (rounds_others s.cpu) after.accounts in
-        let second : Accounts s.spaces (hands_of left ++ (leased d.book ++ (front s.cpu ++ (cpu_rounds s.cpu ++ back s.cpu)))) =
-        out_weighs s.spaces (out_of_stock s left ++ (leased d.book ++ (front s.cpu ++ back s.cpu))) (hands_of left ++ (leased d.book ++ (front s.cpu ++ (cpu_rounds s.cpu ++ back s.cpu)))) (λ f. sym (weigh (hands_of left) (cpu_rounds s.cpu) (leased d.book) (front s.cpu) (back s.cpu) f)) first in
+        let first : Accounts s.spaces (out_of_stock s left ++ (leased_segments d.book ++ (front s.cpu ++ back s.cpu))) = subst (λ ts. Accounts s.spaces (out_of_stock s left ++ (leased_segments d.book ++ ts))) (rounds_others s.cpu) after.accounts in
+        let second : Accounts s.spaces (hands_of left ++ (leased_segments d.book ++ (front s.cpu ++ (cpu_rounds s.cpu ++ back s.cpu)))) =
+        out_weighs s.spaces (out_of_stock s left ++ (leased_segments d.book ++ (front s.cpu ++ back s.cpu))) (hands_of left ++ (leased_segments d.book ++ (front s.cpu ++ (cpu_rounds s.cpu ++ back s.cpu)))) (λ f. sym (weigh (hands_of left) (cpu_rounds s.cpu) (leased_segments d.book) (front s.cpu) (back s.cpu) f)) first in
         record {
           parts = after.parts;
-          accounts = subst (λ ts. Accounts s.spaces (hands_of left ++ (leased d.book ++ ts))) (sym is) second;
+          accounts = subst (λ ts. Accounts s.spaces (hands_of left ++ (leased_segments d.book ++ ts))) (sym is) second;
           runs = after.runs;
           grid = after.grid;
           cpus = subst (λ cs. All (IsOwnIn s.spaces) (flat_map caches_of cs)) (sym rr.then_is) own_all;
@@ -204,7 +204,7 @@ module _ (d : Picture) (n : ℕ) (c : Cpu) (found : find (is_cpu n) d.cpus ≡ S
     cpus_then : AreCpus s.spaces (map (with_caches_of n s.cpu) d.cpus) d.selected
     cpus_then = record {
       each = all_become n s.cpu (λ x. IsCpu x.number × IsCpuOf s.spaces x.caches) d.cpus
-          (subst (λ (ps : List SpacePlan). All (λ x. IsCpu x.number × (own_places x.caches ≡ places_from 0 ps)) d.cpus) (sym setup.plans) held.cpus.each)
+          (subst (λ (ps : List SpacePlan). All (λ x. IsCpu x.number × (own_indexes x.caches ≡ indexes_from 0 ps)) d.cpus) (sym setup.plans) held.cpus.each)
           (λ x is. (is.0, of_then));
       shapes = all_become n s.cpu (λ x. All (IsShapedIn s.spaces) (caches_of x)) d.cpus
           (All-weaker (λ x. All (IsShapedIn d.spaces) (caches_of x)) (λ x. All (IsShapedIn s.spaces) (caches_of x)) (λ x all. All-weaker (IsShapedIn d.spaces) (IsShapedIn s.spaces) (shaped_last d.spaces s.spaces last) (caches_of x) all) d.cpus held.cpus.shapes)
@@ -223,7 +223,7 @@ module _ (d : Picture) (n : ℕ) (c : Cpu) (found : find (is_cpu n) d.cpus ≡ S
 pub held_is_local : HeldIsLocal
 held_is_local d held =
     let c = there_is (find (is_cpu d.selected) d.cpus) held.cpus.there in
-    let see : (o : Option Cpu) → LocalState = λ o. record { spaces = d.spaces; cpu = own_or_none o } in (
+    let see : (o : Option NumberedCpu) → LocalState = λ o. record { spaces = d.spaces; cpu = own_or_none o } in (
       subst (λ o. IsLocalOf d.tree (see o)) (sym c.1) (local d d.selected c.0 c.1 None held),
       (others d d.selected c.0 c.1 None held [], subst (λ o. IsAccountedWith (see o) None (others d d.selected c.0 c.1 None held [])) (sym c.1) (accounted_here d d.selected c.0 c.1 None held)),
     )
@@ -244,7 +244,7 @@ out_within tree spaces t rest plans is = by t.route refl
 pub hand_is_local : HandIsLocal
 hand_is_local d t held =
     let c = there_is (find (is_cpu d.selected) d.cpus) held.cpus.there in
-    let see : (o : Option Cpu) → LocalState = λ o. record { spaces = d.spaces; cpu = own_or_none o } in (
+    let see : (o : Option NumberedCpu) → LocalState = λ o. record { spaces = d.spaces; cpu = own_or_none o } in (
       subst (λ o. IsLocalOf d.tree (see o)) (sym c.1) (local d d.selected c.0 c.1 (Some t) held),
       out_within d.tree d.spaces t _ held.plans (accounted_here d d.selected c.0 c.1 (Some t) held),
       (others d d.selected c.0 c.1 (Some t) held [], subst (λ o. IsAccountedWith (see o) (Some t) (others d d.selected c.0 c.1 (Some t) held [])) (sym c.1) (accounted_here d d.selected c.0 c.1 (Some t) held)),

@@ -1,4 +1,4 @@
-pub mod Places
+pub mod Homes
 pub mod Repeats
 pub mod Agreeing
 pub mod Fitting

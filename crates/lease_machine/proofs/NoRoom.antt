@@ -27,27 +27,27 @@ use Rattle.lease_proto.specs.declared.operators.ServedLine.{ServedLine}
 use Rattle.lease_proto.specs.declared.operators.ServedLine.TheVariants as served
 use Rattle.lease_proto.specs.declared.replies.Reply.{Reply}
 use Rattle.lease_proto.specs.declared.replies.Reply.TheVariants as reply
-use Rattle.lease_proto.specs.Frames.{ended}
+use Rattle.lease_proto.specs.Frames.{with_line_feed}
 use Rattle.lease_book.specs.Entry.{Hello}
 use Rattle.lease_book.specs.Receipts.{Kept}
 use Rattle.lease_book.specs.Account.{Account}
-use Rattle.lease_book.specs.BookState.{BookState, account_in, or_nobody, leased, leased_by}
+use Rattle.lease_book.specs.BookState.{BookState, account_in, or_nobody, leased_segments, leased_by}
 use Rattle.lease_book.proofs.LawProofs.{entered_changes}
 use Rattle.lease_machine.specs.Picture.{Picture, IsPicture, Finds}
-use Rattle.lease_machine.specs.Moves.{HasPlaceUp}
+use Rattle.lease_machine.specs.Moves.{HasBaseUp}
 use Rattle.lease_machine.specs.Serving.{CanServe}
 use Rattle.lease_machine.specs.Replies.{IsKnownReply, IsKeptReply}
 use Rattle.lease_machine.specs.Machine.{NewLease, RefusesLease, HelloStep, Sweeps, AnswersLine, demand_of}
-use Rattle.lease_machine.specs.AnswerLaws.{written}
-use Rattle.lease_machine.specs.RoomLaws.{NamesArena, NothingIsKept, NoFitMeansTaken, NoFitMeansTakenUp, NeverBoth, HasRunUp, FreedIsWhole, FirstLeaseIsServed, refusal_to}
+use Rattle.lease_machine.specs.AnswerLaws.{reply_bytes}
+use Rattle.lease_machine.specs.RoomLaws.{NamesArena, NothingIsKept, NoFitMeansTaken, NoFitMeansTakenUp, NeverGrantedAndRefused, HasRunUp, FreedIsWhole, FirstLeaseIsServed, refusal_to}
 use Rattle.lease_machine.proofs.Repeats.{request_answer, history_of}
 use Rattle.lease_machine.proofs.Fitting.{not_known}
-use Rattle.lease_machine.proofs.Rooms.{run_serves, place_serves, plan_is}
+use Rattle.lease_machine.proofs.Rooms.{run_serves, base_serves, plan_is}
 use Rattle.lease_machine.proofs.Freed.{span_is_run}
 
 module _ (id : RequestId) where
   abbrev refusal_with : List ℕ → List ℕ
-  refusal_with w = ended (codes "refused" ++ ((32 ∷ decimal id.client) ++ ((32 ∷ decimal id.incarnation) ++ ((32 ∷ decimal id.number) ++ ((32 ∷ w) ++ [])))))
+  refusal_with w = with_line_feed (codes "refused" ++ ((32 ∷ decimal id.client) ++ ((32 ∷ decimal id.incarnation) ++ ((32 ∷ decimal id.number) ++ ((32 ∷ w) ++ [])))))
 
   -- refusals with words of two lengths differ
   words_differ : (v w : List ℕ) → length v ≢ length w → refusal_with v ≢ refusal_with w
@@ -71,7 +71,7 @@ module _ (id : RequestId) where
             length-append (32 ∷ x) [],
           )
 
-  word_is : (why : Refusal) → written (refusal_to id why) ≡ written (refusal_to id NoFit) → why ≡ NoFit
+  word_is : (why : Refusal) → reply_bytes (refusal_to id why) ≡ reply_bytes (refusal_to id NoFit) → why ≡ NoFit
   word_is NoFit same = refl
   word_is BadRequest same = absurd (words_differ (codes "badrequest") (codes "nofit") (λ e. omega (arith, e)) same)
   word_is NoArena same = absurd (words_differ (codes "noarena") (codes "nofit") (λ e. omega (arith, e)) same)
@@ -79,23 +79,23 @@ module _ (id : RequestId) where
   word_is Leases same = absurd (words_differ (codes "leases") (codes "nofit") (λ e. omega (arith, e)) same)
 
   -- a new lease that is answered so names no arena that can serve it
-  new_no_fit : (old new : Picture) (l : LeaseLine) (r : Reply) → NewLease id l old new r → written r ≡ written (refusal_to id NoFit)
-      → (place : ℕ) (x : TreeArena) → Finds old l.arena place x → CanServe old place x (demand_of l) → ⊥
-  new_no_fit old new l (reply.Granted g) does same place x finds can = (let e : 103 ≡ 114 = ap (λ xs. get_or xs 0 0) same in omega (arith, e))
-  new_no_fit old new l (reply.Again a) does same place x finds can = (let e : 97 ≡ 114 = ap (λ xs. get_or xs 0 0) same in omega (arith, e))
-  new_no_fit old new l (reply.Released a) does same place x finds can = does
-  new_no_fit old new l (reply.Old a) does same place x finds can = does
-  new_no_fit old new l (reply.Stale a) does same place x finds can = does
-  new_no_fit old new l (reply.Gap a) does same place x finds can = does
-  new_no_fit old new l (reply.Welcome a) does same place x finds can = does
-  new_no_fit old new l (reply.Error a) does same place x finds can = does
-  new_no_fit old new l (reply.Refused r) does same place x finds can =
+  new_no_fit : (old new : Picture) (l : LeaseLine) (r : Reply) → NewLease id l old new r → reply_bytes r ≡ reply_bytes (refusal_to id NoFit)
+      → (index : ℕ) (x : TreeArena) → Finds old l.arena index x → CanServe old index x (demand_of l) → ⊥
+  new_no_fit old new l (reply.Granted g) does same index x finds can = (let e : 103 ≡ 114 = ap (λ xs. get_or xs 0 0) same in omega (arith, e))
+  new_no_fit old new l (reply.Again a) does same index x finds can = (let e : 97 ≡ 114 = ap (λ xs. get_or xs 0 0) same in omega (arith, e))
+  new_no_fit old new l (reply.Released a) does same index x finds can = does
+  new_no_fit old new l (reply.Old a) does same index x finds can = does
+  new_no_fit old new l (reply.Stale a) does same index x finds can = does
+  new_no_fit old new l (reply.Gap a) does same index x finds can = does
+  new_no_fit old new l (reply.Welcome a) does same index x finds can = does
+  new_no_fit old new l (reply.Error a) does same index x finds can = does
+  new_no_fit old new l (reply.Refused r) does same index x finds can =
       let is : reply.Refused r ≡ refusal_to id does.0 = does.1.reply in
-      let why : does.0 ≡ NoFit = word_is does.0 (sym (ap written is) ∙ same) in
+      let why : does.0 ≡ NoFit = word_is does.0 (sym (ap reply_bytes is) ∙ same) in
       let refused : RefusesLease id l old new NoFit = subst (RefusesLease id l old new) why does.2 in
-      let same_place : refused.0 ≡ place = (let e : Some refused.0 ≡ Some place = sym refused.2.finds.first ∙ finds.first in cc) in
-      let same_arena : refused.1 ≡ x = (let e : Some refused.1 ≡ Some x = sym refused.2.finds.here ∙ ap (slice_get old.tree) same_place ∙ finds.here in cc) in
-      refused.3.none (subst (λ (y : TreeArena). CanServe old refused.0 y (demand_of l)) (sym same_arena) (subst (λ (k : ℕ). CanServe old k x (demand_of l)) (sym same_place) can))
+      let same_index : refused.0 ≡ index = (let e : Some refused.0 ≡ Some index = sym refused.2.finds.first ∙ finds.first in cc) in
+      let same_arena : refused.1 ≡ x = (let e : Some refused.1 ≡ Some x = sym refused.2.finds.here ∙ ap (slice_get old.tree) same_index ∙ finds.here in cc) in
+      refused.3.none (subst (λ (y : TreeArena). CanServe old refused.0 y (demand_of l)) (sym same_arena) (subst (λ (k : ℕ). CanServe old k x (demand_of l)) (sym same_index) can))
 
 -- an arena with a run of free units that serves can serve
 serves_can : (d : Picture) → IsPicture d → (q : _) (k : ℕ) (x : TreeArena) (s : SpaceState) → slice_get d.tree k ≡ Some x → slice_get d.spaces k ≡ Some s
@@ -104,27 +104,27 @@ serves_can d is q k x s here at run base free serves =
     let sound = (is.units.parts k s at).sound in
     let same : s.arena.quantum ≡ x.quantum = ap (λ (p : SpacePlan). p.quantum) (plan_is d is k x s here at) in
     let own = subst (λ (n : ℕ). ServesIn n q run base) (sym same) serves in
-    place_serves d k x q here (s, at, (base, run_serves s.arena sound q run base free own))
+    base_serves d k x q here (s, at, (base, run_serves s.arena sound q run base free own))
 
 pub no_fit_means_taken : NoFitMeansTaken
 no_fit_means_taken old new id l x s is named found run base free serves =
     let a = request_answer old new id (ops.Lease l) found.line found.text found.read found.step in
-    serves_can old is (demand_of l) named.place x s named.finds.here named.here run base free serves
+    serves_can old is (demand_of l) named.index x s named.finds.here named.here run base free serves
     (λ can. elim a.2 [
       | inl known ↦ not_known old id a.0 found.fresh known.0
-      | inr does ↦ new_no_fit id old new l a.0 does.1 (sym a.1 ∙ found.said) named.place x named.finds can
+      | inr does ↦ new_no_fit id old new l a.0 does.1 (sym a.1 ∙ found.said) named.index x named.finds can
     ])
 
-pub never_both : NeverBoth
+pub never_both : NeverGrantedAndRefused
 never_both old new other id l r g found =
     let a = request_answer old other id (ops.Lease l) found.line found.text found.read found.step in
     elim a.2 [
       | inl known ↦ not_known old id a.0 found.fresh known.0
-      | inr does ↦ new_no_fit id old other l a.0 does.1 (sym a.1 ∙ found.said) g.place g.arena g.takes.finds g.can
+      | inr does ↦ new_no_fit id old other l a.0 does.1 (sym a.1 ∙ found.said) g.index g.arena g.takes.finds g.can
     ]
 
 -- what runs serve, the arenas of the chain do
-runs_up : (d : Picture) → IsPicture d → (chain : List Level) (n : ℕ) → HasRunUp d.spaces chain n → HasPlaceUp d.spaces chain n
+runs_up : (d : Picture) → IsPicture d → (chain : List Level) (n : ℕ) → HasRunUp d.spaces chain n → HasBaseUp d.spaces chain n
 runs_up d is [] n has = absurd has
 runs_up d is (l ∷ up) n has = elim has [
   | inl run ↦ inl (run.0, run.1, (run.2.1, run_serves run.0.arena (is.units.parts l.id run.0 run.1).sound (plain_of n) run.2.0 run.2.1 run.2.2 run.2.3))
@@ -132,16 +132,16 @@ runs_up d is (l ∷ up) n has = elim has [
 ]
 
 pub no_fit_means_taken_up : NoFitMeansTakenUp
-no_fit_means_taken_up old new id l x place is finds plain found has =
+no_fit_means_taken_up old new id l x index is finds plain found has =
     let a = request_answer old new id (ops.Lease l) found.line found.text found.read found.step in
     elim a.2 [
       | inl known ↦ not_known old id a.0 found.fresh known.0
-      | inr does ↦ new_no_fit id old new l a.0 does.1 (sym a.1 ∙ found.said) place x finds (inr (inl (plain, runs_up old is (chain_in old.tree place) l.size has)))
+      | inr does ↦ new_no_fit id old new l a.0 does.1 (sym a.1 ∙ found.said) index x finds (inr (inl (plain, runs_up old is (chain_in old.tree index) l.size has)))
     ]
 
 pub freed_is_whole : FreedIsWhole
 freed_is_whole old new id l x s is kept named span base own serves found =
-    no_fit_means_taken old new id l x s is named found span base (span_is_run old is kept named.place s named.here span own) serves
+    no_fit_means_taken old new id l x s is named found span base (span_is_run old is kept named.index s named.here span own) serves
 
 -- The first line of all, and the first lease.
 
@@ -156,7 +156,7 @@ no_kept_reply : (d : Picture) (id : RequestId) (r : Reply) → KeepsNothing d.bo
 no_kept_reply d id r none known = none_some (account_in id.client d.book).kept (record { number = id.number; reply = known.0.reply; terms = known.0.terms }) (none id.client) known.1.kept
 
 -- with no reply kept, the answer by a number isn't `nofit`
-no_known : (d : Picture) (id : RequestId) (r : Reply) → KeepsNothing d.book → IsKnownReply d id r → written r ≢ written (refusal_to id NoFit)
+no_known : (d : Picture) (id : RequestId) (r : Reply) → KeepsNothing d.book → IsKnownReply d id r → reply_bytes r ≢ reply_bytes (refusal_to id NoFit)
 no_known d id (reply.Old o) none known same = (let e : 111 ≡ 114 = ap (λ xs. get_or xs 0 0) same in omega (arith, e))
 no_known d id (reply.Stale o) none known same = (let e : 115 ≡ 114 = ap (λ xs. get_or xs 0 0) same in omega (arith, e))
 no_known d id (reply.Gap o) none known same = (let e : 103 ≡ 114 = ap (λ xs. get_or xs 0 0) same in omega (arith, e))
@@ -172,11 +172,11 @@ module _ (start : Picture) (is : IsPicture start) (empty : start.book.accounts �
   none_there : (c : ℕ) → account_in c start.book ≡ or_nobody c None
   none_there c = ap (λ (xs : List Account). or_nobody c (find (λ a. c == a.client) xs)) empty
 
-  nothing_leased : leased start.book ≡ []
+  nothing_leased : leased_segments start.book ≡ []
   nothing_leased = ap leased_by empty
 
   -- where nothing is leased, nothing is swept
-  no_sweeps : (c : ℕ) (ts : List Tag) (old new : Picture) → leased old.book ≡ [] → Sweeps c ts old new → new ≡ old
+  no_sweeps : (c : ℕ) (ts : List Tag) (old new : Picture) → leased_segments old.book ≡ [] → Sweeps c ts old new → new ≡ old
   no_sweeps c [] old new none same = same
   no_sweeps c (t ∷ ts) old new none swept =
       let f : Tag → ℕ = λ x. 1 in
@@ -186,14 +186,14 @@ module _ (start : Picture) (is : IsPicture start) (empty : start.book.accounts �
   pub record Greeted (mid : Picture) : Type 0 where
     pub book : BookState
     pub after : mid ≡ record start { book = book }
-    pub leases : leased book ≡ []
+    pub leases : leased_segments book ≡ []
     pub kept : KeepsNothing book
 
   hello_greets : (h : HelloLine) (mid : Picture) (r : Reply) → HelloStep h start mid r → Greeted mid
   hello_greets h mid (reply.Welcome w) does =
       let greets = does.1 in
       let book : BookState = greets.greeted in
-      let leases : leased book ≡ [] = greets.leases ∙ nothing_leased in
+      let leases : leased_segments book ≡ [] = greets.leases ∙ nothing_leased in
       let history = history_of start is in
       let own : (account_in h.client book).kept ≡ None =
       (elim (cases_lt 0 h.incarnation) [
@@ -232,7 +232,7 @@ first_lease_is_served start mid new hello greeting lease text h id l x s is kept
     let a = request_answer mid new id (ops.Lease l) lease text read_lease second in
     let after : mid ≡ record start { book = book } = greeted.after in
     let kept_mid : NothingIsKept mid = subst NothingIsKept (sym after) (record { leases = greeted.leases; rounds = kept.rounds; reaped = kept.reaped }) in
-    let named_mid : NamesArena mid l x s = subst (λ (d : Picture). NamesArena d l x s) (sym after) (record { place = named.place; finds = record { first = named.finds.first; here = named.finds.here }; here = named.here }) in
+    let named_mid : NamesArena mid l x s = subst (λ (d : Picture). NamesArena d l x s) (sym after) (record { index = named.index; finds = record { first = named.finds.first; here = named.finds.here }; here = named.here }) in
     let keeps : KeepsNothing mid.book = subst (λ (d : Picture). KeepsNothing d.book) (sym after) greeted.kept in
     elim a.2 [
       | inl known ↦ no_known mid id a.0 keeps known.0 (sym a.1 ∙ said)

@@ -8,7 +8,7 @@ use Rattle.deed_core.specs.Tag.{Tag}
 use Rattle.deed_core.specs.Weights.{of_arena}
 use Rattle.lease_machine.proofs.CpuRows.{rounds_flat}
 use Rattle.lease_machine.proofs.Focus.{Focus}
-use Rattle.lease_machine.specs.Picture.{Cpu, Picture, is_cpu}
+use Rattle.lease_machine.specs.Picture.{NumberedCpu, Picture, is_cpu}
 use Rattle.lease_machine.specs.Serving.{WasReachable, all_or_none}
 use Rattle.local_parts.specs.Cpus.{cpu_rounds, row_rounds}
 use Rattle.magazine_layer.specs.Depots.{DepotState, SwapsForFull, all_rounds, depot_rounds}
@@ -27,10 +27,10 @@ use Rattle.std.specs.Prelude.{filter}
 use Rattle.stock.specs.OwnCaches.{own_rounds}
 use Rattle.stock.specs.Spaces.{QuantumCacheState, SpaceState}
 use Rattle.stock.specs.Stocks.{IsStock}
-use Rattle.stock.specs.Sums.{held, held_of}
+use Rattle.stock.specs.Sums.{holdings_of, held_of}
 use Rattle.stock_audit.specs.Outside.{all_rounds_out}
 
--- what stands at a place that passes is part of what passes
+-- what stands at an index that passes is part of what passes
 module _ {X : Type 0} (g : X → ℕ) where
   head : (b : Bool) (y : X) (ys : List X) → b ≡ true → g y ≤ sum_by g (cond b (y ∷ ys) ys)
   head true y ys is = omega (arith, sum_by-cons g y ys)
@@ -131,7 +131,7 @@ module _ (t : Tag) (x y z : CpuCacheState) (d e : DepotState) (empty : BothEmpty
   pub full_some : d.full ≢ []
   full_some none = (let n : length d.full ≡ 0 = ap length none in let m : length d.full ≡ length e.full + 1 = ap length swaps.newest ∙ length-append e.full (y.loaded ∷ []) in omega (arith, n, m))
 
-module _ (d : Picture) (c : Cpu) (found : find (is_cpu d.selected) d.cpus ≡ Some c) (place j : ℕ) (f : Focus (record { spaces = d.spaces; cpu = c.caches }) place j) (law : IsStock d.spaces) (t : Tag) (home : t.arena ≡ place) where
+module _ (d : Picture) (c : NumberedCpu) (found : find (is_cpu d.selected) d.cpus ≡ Some c) (index j : ℕ) (f : Focus (record { spaces = d.spaces; cpu = c.caches }) index j) (law : IsStock d.spaces) (t : Tag) (home : t.arena ≡ index) where
   -- a unit of it, as segments of the arena are counted
   abbrev unit : ℕ → ℕ → Tag → ℕ
   unit k u = of_arena k (λ x. covers_held u x.holding)
@@ -142,10 +142,10 @@ module _ (d : Picture) (c : Cpu) (found : find (is_cpu d.selected) d.cpus ≡ So
   rounds_here : all_rounds_out (all_or_none (find (is_cpu d.selected) d.cpus)) ≡ cpu_rounds c.caches
   rounds_here = ap (λ o. all_rounds_out (all_or_none o)) found ∙ sym (rounds_flat c.caches)
 
-  pub own_reached : IsAmong t (own_rounds f.own) → WasReachable d place t
+  pub own_reached : IsAmong t (own_rounds f.own) → WasReachable d index t
   own_reached among s at u over =
       let k : ℕ = s.arena.id in
-      let is : t.arena ≡ k = home ∙ sym (law place s at).id in
+      let is : t.arena ≡ k = home ∙ sym (law index s at).id in
       let rounds : List Tag = all_rounds_out (all_or_none (find (is_cpu d.selected) d.cpus)) in
       inr (omega (
         arith,
@@ -153,19 +153,19 @@ module _ (d : Picture) (c : Cpu) (found : find (is_cpu d.selected) d.cpus ≡ So
         among (unit k u),
         part_of_sum (λ o. sum_by (unit k u) (own_rounds o)) f.row j f.own f.own_at,
         sum_by-flat_map (unit k u) own_rounds f.row,
-        part_of_sum (λ row. sum_by (unit k u) (row_rounds row)) c.caches place f.row f.row_at,
+        part_of_sum (λ row. sum_by (unit k u) (row_rounds row)) c.caches index f.row f.row_at,
         sum_by-flat_map (unit k u) row_rounds c.caches,
         ap (sum_by (unit k u)) rounds_here,
         sum_by-filter (is_of_arena k) (λ (x : Tag). covers_held u x.holding) rounds,
         sum_by-map (covers_held u) (λ (x : Tag). x.holding) (filter (is_of_arena k) rounds),
-        sum_by-append (covers_held u) (flat_map (λ (q : QuantumCacheState). held (depot_rounds q.depot)) s.caches) (held_of k rounds),
+        sum_by-append (covers_held u) (flat_map (λ (q : QuantumCacheState). holdings_of (depot_rounds q.depot)) s.caches) (held_of k rounds),
       ))
 
   -- the cache that stands there
-  stands : (s : SpaceState) → slice_get d.spaces place ≡ Some s → slice_get s.caches j ≡ Some f.cache
+  stands : (s : SpaceState) → slice_get d.spaces index ≡ Some s → slice_get s.caches j ≡ Some f.cache
   stands s at = (let both : Some s ≡ Some f.space = sym at ∙ f.at in let one : s ≡ f.space = cc in ap (λ (z : SpaceState). slice_get z.caches j) one ∙ f.among)
 
-  pub depot_reached : IsAmong t (all_rounds f.cache.depot.full) → WasReachable d place t
+  pub depot_reached : IsAmong t (all_rounds f.cache.depot.full) → WasReachable d index t
   depot_reached among s at u over =
       let g : Tag → ℕ = λ x. covers_held u x.holding in
       let depot : DepotState = f.cache.depot in
@@ -177,12 +177,12 @@ module _ (d : Picture) (c : Cpu) (found : find (is_cpu d.selected) d.cpus ≡ So
         sum_by-append g (all_rounds depot.old_full) (all_rounds depot.full ++ depot.draining),
         sum_by-append g (all_rounds depot.full) depot.draining,
         sum_by-map (covers_held u) (λ (x : Tag). x.holding) (depot_rounds depot),
-        part_of_sum (λ (q : QuantumCacheState). sum_by (covers_held u) (held (depot_rounds q.depot))) s.caches j f.cache (stands s at),
-        sum_by-flat_map (covers_held u) (λ (q : QuantumCacheState). held (depot_rounds q.depot)) s.caches,
-        sum_by-append (covers_held u) (flat_map (λ (q : QuantumCacheState). held (depot_rounds q.depot)) s.caches) (held_of s.arena.id rounds),
+        part_of_sum (λ (q : QuantumCacheState). sum_by (covers_held u) (holdings_of (depot_rounds q.depot))) s.caches j f.cache (stands s at),
+        sum_by-flat_map (covers_held u) (λ (q : QuantumCacheState). holdings_of (depot_rounds q.depot)) s.caches,
+        sum_by-append (covers_held u) (flat_map (λ (q : QuantumCacheState). holdings_of (depot_rounds q.depot)) s.caches) (held_of s.arena.id rounds),
       ))
 
-  pub idle_reached : (i n : ℕ) (b : SlabState) → StandsAt i b f.cache.slab.slabs → IsLowestIdle n b.home → t.holding ≡ chunk_at b n → WasReachable d place t
+  pub idle_reached : (i n : ℕ) (b : SlabState) → StandsAt i b f.cache.slab.slabs → IsLowestIdle n b.home → t.holding ≡ chunk_at b n → WasReachable d index t
   idle_reached i n b stands_at idle is s at u over = inr (omega (
     arith,
     (counts_the_unit u t.holding.range).1.1 over,

@@ -35,7 +35,7 @@ covered_never u hs e clear over = sum_none (covers_held u) hs (λ i h at.
       | inr isnt ↦ isnt.0
     ])
 
--- the arenas of the chain stand before this place
+-- the arenas of the chain stand before this index
 abbrev AreBefore : ℕ → List Level → Type 0
 AreBefore k [] = Unit {0}
 AreBefore k (l ∷ up) = (l.id < k) × AreBefore k up
@@ -168,7 +168,7 @@ module _ (d : Picture) (tree : IsTree d.tree) (plans : plans_of d.spaces ≡ pla
 
 pub grants_were_reachable : GrantsWereReachable
 grants_were_reachable old new id l r is g s at u over = elim g.serves.from [
-  | inl carved ↦ inl (carve_reaches old is.tree is.plans is.units.parts g.place (demand_of l) g.segment new.spaces carved.1 u over)
-  | inr (inl climbed) ↦ inl ((climbs_reach old is.tree is.plans is.units.parts 4 g.place l.size g.segment new.spaces climbed.2).free_for u over)
+  | inl carved ↦ inl (carve_reaches old is.tree is.plans is.units.parts g.index (demand_of l) g.segment new.spaces carved.1 u over)
+  | inr (inl climbed) ↦ inl ((climbs_reach old is.tree is.plans is.units.parts 4 g.index l.size g.segment new.spaces climbed.2).free_for u over)
   | inr (inr cached) ↦ cached.1 s at u over
 ]

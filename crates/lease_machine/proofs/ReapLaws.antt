@@ -20,7 +20,7 @@ use Rattle.local_calls.proofs.LawProofs.{reap_leaves_nothing, reap_takes_few_loo
 use Rattle.lease_machine.specs.Held.{IsHeld, parts_in, with_parts}
 use Rattle.lease_machine.specs.Moves.{outline_of}
 use Rattle.lease_machine.specs.Operators.{IsReapedOut, LosesSlabs, LosesSpans, ReapsAll, ReapsSome, after_reap, cached_units, depots_of, depots_reaped, rover_of}
-use Rattle.lease_machine.specs.Picture.{Cpu, Picture, SameSetup, held_outside, is_cpu}
+use Rattle.lease_machine.specs.Picture.{NumberedCpu, Picture, SameSetup, held_outside, is_cpu}
 use Rattle.lease_machine.specs.ReapLaws.{ReapedTo, ReapReaps, ReapsNone, ReapingsAdd}
 use Rattle.lease_machine.proofs.CachedUnits.{units_gone}
 use Rattle.lease_machine.proofs.FreeLaws.{cpus_same, parts_are, selected_then}
@@ -77,7 +77,7 @@ all_settled spaces none = map_alike depots_of depots_reaped spaces (λ k s at. s
 all_out : (spaces : List SpaceState) → NoneToReap spaces → All (λ (s : SpaceState). All IsReapedOut s.caches) spaces
 all_out spaces none = all_from (λ (s : SpaceState). All IsReapedOut s.caches) spaces (λ k s at. all_from IsReapedOut s.caches (λ j c among. (let has = none k j c (record { space = s; at = at; among = among }) in record { rounds = has.rounds; slabs = has.slabs })))
 
-module _ (d : Picture) (limit : ℕ) (s : LocalState) (r : Reaping) (held : IsHeld [] d) (c : Cpu) (found : find (is_cpu d.selected) d.cpus ≡ Some c) (run : RunsTo d.tree (reap_plan d.tree limit) (reach d d.selected c found None held) s (Ok r)) where
+module _ (d : Picture) (limit : ℕ) (s : LocalState) (r : Reaping) (held : IsHeld [] d) (c : NumberedCpu) (found : find (is_cpu d.selected) d.cpus ≡ Some c) (run : RunsTo d.tree (reap_plan d.tree limit) (reach d d.selected c found None held) s (Ok r)) where
   abbrev was : LocalState
   was = reach d d.selected c found None held
 

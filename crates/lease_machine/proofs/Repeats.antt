@@ -17,7 +17,7 @@ use Rattle.lease_proto.specs.declared.replies.Reply.TheVariants as reply
 use Rattle.lease_proto.specs.Frames.{Frame}
 use Rattle.lease_proto.specs.Operators.{served_of}
 use Rattle.lease_proto.specs.Requests.{client_of}
-use Rattle.lease_book.specs.Entry.{Entry, Settlement, Settled, Hello, Swept, Grant, Refuse, Return, kept, subject_of}
+use Rattle.lease_book.specs.Entry.{Entry, Settlement, Settled, Hello, Swept, Grant, Refuse, Return, kept_settlement, subject_of}
 use Rattle.lease_book.specs.Receipts.{Kept}
 use Rattle.lease_book.specs.Account.{Account, number_of}
 use Rattle.lease_book.specs.BookState.{BookState, HasHistory, Enters, account_in}
@@ -30,8 +30,8 @@ use Rattle.lease_machine.specs.Replies.{IsKnownReply, IsKeptReply}
 use Rattle.lease_machine.specs.Operators.{Performs, LeavesOff, OperatorStep}
 use Rattle.lease_machine.specs.Machine.{RequestStep, NewRequest, Sweeps, HelloStep, ClientStep, AnswersLine, LeaseStep, demand_of}
 use Rattle.lease_machine.specs.Laws.{Runs}
-use Rattle.lease_machine.specs.AnswerLaws.{written, IsKept, IsRequestLine, AreOfOthers, LinesRepeat}
-use Rattle.lease_machine.proofs.Places.{setup_stays}
+use Rattle.lease_machine.specs.AnswerLaws.{reply_bytes, IsKept, IsRequestLine, AreOfOthers, LinesRepeat}
+use Rattle.lease_machine.proofs.Homes.{setup_stays}
 
 -- the number is the client's last one, and this is kept of it
 pub record IsLast (book : BookState) (id : RequestId) (k : Kept) : Type 0 where
@@ -43,7 +43,7 @@ pub history_of : (d : Picture) → IsPicture d → HasHistory d.book
 history_of d is = (is.book.entries, is.book.history)
 
 -- so it is after its entry
-pub settled_now : (old new : BookState) (id : RequestId) (s : Settlement) → HasHistory old → Enters (Settled id s) old new → IsLast new id (kept id.number s)
+pub settled_now : (old new : BookState) (id : RequestId) (s : Settlement) → HasHistory old → Enters (Settled id s) old new → IsLast new id (kept_settlement id.number s)
 settled_now old new id s history entry =
     let after = entered_changes.settled old new id s history entry in
     record {
@@ -105,8 +105,8 @@ module _ (old mid : Picture) (id : RequestId) (history : HasHistory old.book) wh
   new_lease_kept : (l : _) (r : Reply) → IsKept r → NewRequest id (ops.Lease l) old mid r → Answered r
   new_lease_kept l (reply.Granted g) is does =
       let s : Settlement = Grant does.segment (record { quantum = does.arena.quantum; request = demand_of l }) in
-      (kept id.number s, settled_now old.book mid.book id s history does.granted.entry, does.reply)
-  new_lease_kept l (reply.Refused x) is does = (kept id.number (Refuse does.0), settled_now old.book mid.book id (Refuse does.0) history does.1.refused.entry, does.1.reply)
+      (kept_settlement id.number s, settled_now old.book mid.book id s history does.granted.entry, does.reply)
+  new_lease_kept l (reply.Refused x) is does = (kept_settlement id.number (Refuse does.0), settled_now old.book mid.book id (Refuse does.0) history does.1.refused.entry, does.1.reply)
   new_lease_kept l (reply.Again x) is does = absurd is
   new_lease_kept l (reply.Released x) is does = absurd does
   new_lease_kept l (reply.Old x) is does = absurd is
@@ -117,9 +117,9 @@ module _ (old mid : Picture) (id : RequestId) (history : HasHistory old.book) wh
 
   new_release_kept : (l : _) (r : Reply) → IsKept r → NewRequest id (ops.Release l) old mid r → Answered r
   new_release_kept l (reply.Released p) is does =
-      let s : Settlement = Return does.1.place l.base in
-      (kept id.number s, settled_now old.book mid.book id s history does.1.released.entry, ap (λ (x : RequestId). reply.Released x) does.0)
-  new_release_kept l (reply.Refused x) is does = (kept id.number (Refuse does.0), settled_now old.book mid.book id (Refuse does.0) history does.1.refused.entry, does.1.reply)
+      let s : Settlement = Return does.1.index l.base in
+      (kept_settlement id.number s, settled_now old.book mid.book id s history does.1.released.entry, ap (λ (x : RequestId). reply.Released x) does.0)
+  new_release_kept l (reply.Refused x) is does = (kept_settlement id.number (Refuse does.0), settled_now old.book mid.book id (Refuse does.0) history does.1.refused.entry, does.1.reply)
   new_release_kept l (reply.Granted x) is does = absurd does
   new_release_kept l (reply.Again x) is does = absurd is
   new_release_kept l (reply.Old x) is does = absurd is
@@ -192,7 +192,7 @@ module _ (c : ℕ) where
     lease_keeps l (reply.Error x) does = absurd does
 
     release_keeps : (l : _) (r : Reply) → NewRequest id (ops.Release l) old new r → SameAccount old new
-    release_keeps l (reply.Released p) does = settled_keeps (Return does.1.place l.base) does.1.released.entry
+    release_keeps l (reply.Released p) does = settled_keeps (Return does.1.index l.base) does.1.released.entry
     release_keeps l (reply.Refused x) does = settled_keeps (Refuse does.0) does.1.refused.entry
     release_keeps l (reply.Granted x) does = absurd does
     release_keeps l (reply.Again x) does = absurd does
@@ -276,7 +276,7 @@ kept_or (reply.Again x) = inr (λ is. is)
 kept_or (reply.Error x) = inr (λ is. is)
 
 -- what bytes that are a request are answered
-pub request_answer : (old new : Picture) (id : RequestId) (op : Op) (line text : List ℕ) → IsRequestLine line id op → LeaseStep old line text new → (r : Reply) × (text ≡ written r) × RequestStep id op old new r
+pub request_answer : (old new : Picture) (id : RequestId) (op : Op) (line text : List ℕ) → IsRequestLine line id op → LeaseStep old line text new → (r : Reply) × (text ≡ reply_bytes r) × RequestStep id op old new r
 request_answer old new id op line text read step = subst (λ (x : Result ServedLine LineFault). AnswersLine old x text new) read step.answer
 
 pub lines_repeat : LinesRepeat
@@ -291,5 +291,5 @@ lines_repeat old mid late new id op again line text between repeat bytes frames 
           let two = request_again late new id again last.0 b.0 late_last b.2 in
           let tree : late.tree ≡ old.tree = (setup_stays mid late frames between run).tree ∙ first.setup.tree in
           let same : b.0 ≡ a.0 = two.0 ∙ ap (λ (xs : List TreeArena). reply_to (arena_named xs) id last.0.reply) tree ∙ sym last.2 in
-          inl (b.1 ∙ ap written same ∙ sym a.1, two.1)
+          inl (b.1 ∙ ap reply_bytes same ∙ sym a.1, two.1)
     ]

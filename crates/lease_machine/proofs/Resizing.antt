@@ -16,19 +16,19 @@ use Rattle.stock.specs.OwnCaches.{OwnCacheState}
 use Rattle.stock_audit.specs.Accounted.{IsAccountedFor}
 use Rattle.stock_audit.specs.Outside.{Outside}
 use Rattle.stock_audit.proofs.LawProofs.{hand_steps_keep}
-use Rattle.local_parts.specs.Cpus.{own_places, places_from}
+use Rattle.local_parts.specs.Cpus.{own_indexes, indexes_from}
 use Rattle.lease_proto.specs.declared.operators.MagazineSize.{MagazineSize}
 use Rattle.lease_proto.specs.declared.operators.MagazineSize.TheVariants as size
 use Rattle.lease_proto.specs.Cpus.{IsCpu}
-use Rattle.lease_proto.specs.Operators.{rounds_of}
+use Rattle.lease_proto.specs.Operators.{rounds_named}
 use Rattle.lease_machine.specs.Picture.{Picture, IsPicture, IsShapedIn, SameSetup, held_outside, owned_by}
-use Rattle.lease_machine.specs.Operators.{change_depot, on_depots, resized}
+use Rattle.lease_machine.specs.Operators.{change_depot, on_depots, after_rise}
 use Rattle.lease_machine.specs.StepLaws.{ResizesKeep}
 use Rattle.lease_machine.proofs.Ticking.{sums_same, maps_same, with_sizes}
 
 module _ (m : ℕ) (taken : IsSize m) where
   -- a depot with smaller magazines rises, and any other stays
-  rises_or_stays : (d : DepotState) → ((d.size < m) × (resized m d ≡ after_resize m d)) ⊎ (resized m d ≡ d)
+  rises_or_stays : (d : DepotState) → ((d.size < m) × (after_rise m d ≡ after_resize m d)) ⊎ (after_rise m d ≡ d)
   rises_or_stays d =
       elim (cases_lt d.size m) [
         | inl less ↦ inl (less, ap (λ (b : Bool). cond b (after_resize m d) d) (lt-ltb d.size m less))
@@ -44,7 +44,7 @@ module _ (m : ℕ) (taken : IsSize m) where
       let Q : List Tag → Type 0 = λ x. 0 < length x in
       All-weaker P Q (λ x same. let some : 0 < n = size_some n is in omega arith) full whole
 
-  depot_stays : (d : DepotState) → IsDepot d → IsDepot (resized m d)
+  depot_stays : (d : DepotState) → IsDepot d → IsDepot (after_rise m d)
   depot_stays d is =
       let Q : List Tag → Type 0 = λ x. 0 < length x in
       elim (rises_or_stays d) [
@@ -58,7 +58,7 @@ module _ (m : ℕ) (taken : IsSize m) where
         | inr same ↦ subst IsDepot (sym same) is
       ]
 
-  rounds_stay : (d : DepotState) → depot_rounds (resized m d) ≡ depot_rounds d
+  rounds_stay : (d : DepotState) → depot_rounds (after_rise m d) ≡ depot_rounds d
   rounds_stay d = elim (rises_or_stays d) [
     | inl rises ↦ ap depot_rounds rises.1
         ∙ ap (λ (ts : List Tag). ts ++ d.draining) (flat_map-append (λ (x : List Tag). x) d.old_full d.full)
@@ -66,27 +66,27 @@ module _ (m : ℕ) (taken : IsSize m) where
     | inr same ↦ ap depot_rounds same
   ]
 
-  size_grows : (d : DepotState) → d.size ≤ (resized m d).size
+  size_grows : (d : DepotState) → d.size ≤ (after_rise m d).size
   size_grows d = elim (rises_or_stays d) [
-    | inl rises ↦ let is : (resized m d).size ≡ m = ap (λ (x : DepotState). x.size) rises.1 in omega (arith, rises.0, is)
-    | inr same ↦ let is : (resized m d).size ≡ d.size = ap (λ (x : DepotState). x.size) same in omega (arith, is)
+    | inl rises ↦ let is : (after_rise m d).size ≡ m = ap (λ (x : DepotState). x.size) rises.1 in omega (arith, rises.0, is)
+    | inr same ↦ let is : (after_rise m d).size ≡ d.size = ap (λ (x : DepotState). x.size) same in omega (arith, is)
   ]
 
   abbrev risen_cache : QuantumCacheState → QuantumCacheState
-  risen_cache c = change_depot (resized m) c
+  risen_cache c = change_depot (after_rise m) c
 
   abbrev risen : SpaceState → SpaceState
-  risen s = on_depots (resized m) s
+  risen s = on_depots (after_rise m) s
 
-  cache_stays : (place number quantum : ℕ) (c : QuantumCacheState) → IsQuantumCache place number quantum c → IsQuantumCache place number quantum (risen_cache c)
-  cache_stays place number quantum c is = record {
+  cache_stays : (index number quantum : ℕ) (c : QuantumCacheState) → IsQuantumCache index number quantum c → IsQuantumCache index number quantum (risen_cache c)
+  cache_stays index number quantum c is = record {
     arena = is.arena;
     k = is.k;
     quantum_is = is.quantum_is;
     sound = is.sound;
     tiled = is.tiled;
     depot = depot_stays c.depot is.depot;
-    rounds = subst (λ (ts : List Tag). All (IsRoundOf place number quantum) ts) (sym (rounds_stay c.depot)) is.rounds;
+    rounds = subst (λ (ts : List Tag). All (IsRoundOf index number quantum) ts) (sym (rounds_stay c.depot)) is.rounds;
   }
 
   space_stays : (quanta : List ℕ) (k : ℕ) (s : SpaceState) → IsSpaceAt quanta k s → IsSpaceAt quanta k (risen s)
@@ -103,21 +103,21 @@ module _ (m : ℕ) (taken : IsSize m) where
         );
   }
 
-  module _ (spaces : List SpaceState) (place : ℕ) (s : SpaceState) (at : slice_get spaces place ≡ Some s) where
+  module _ (spaces : List SpaceState) (index : ℕ) (s : SpaceState) (at : slice_get spaces index ≡ Some s) where
     abbrev spaces_then : List SpaceState
-    spaces_then = set spaces place (risen s)
+    spaces_then = set spaces index (risen s)
 
     sums_stay : (g : SpaceState → ℕ) → g (risen s) ≡ g s → sum_by g spaces_then ≡ sum_by g spaces
-    sums_stay g same = omega (arith, sum_set g spaces place s (risen s) at, same)
+    sums_stay g same = omega (arith, sum_set g spaces index s (risen s) at, same)
 
     plans_stay : plans_of spaces_then ≡ plans_of spaces
-    plans_stay = map_set_same plan_of spaces place s (risen s) at (ap (with_sizes s) (maps_same risen_cache slab_size_of (λ c. refl) s.caches))
+    plans_stay = map_set_same plan_of spaces index s (risen s) at (ap (with_sizes s) (maps_same risen_cache slab_size_of (λ c. refl) s.caches))
 
     quanta_stay : quanta_of spaces_then ≡ quanta_of spaces
-    quanta_stay = map_set_same quantum_of spaces place s (risen s) at refl
+    quanta_stay = map_set_same quantum_of spaces index s (risen s) at refl
 
     stock_stays : IsStock spaces → IsStock spaces_then
-    stock_stays is k x here = subst (λ (qs : List ℕ). IsSpaceAt qs k x) (sym quanta_stay) (elim (written spaces place k (risen s) x here) [
+    stock_stays is k x here = subst (λ (qs : List ℕ). IsSpaceAt qs k x) (sym quanta_stay) (elim (written spaces index k (risen s) x here) [
       | inl this ↦ subst (IsSpaceAt (quanta_of spaces) k) (sym this.1) (space_stays (quanta_of spaces) k s (is k s (ap (slice_get spaces) this.0 ∙ at)))
       | inr other ↦ is k x other.1
     ])
@@ -143,7 +143,7 @@ module _ (m : ℕ) (taken : IsSize m) where
         (record { rest = out.hands; gave = λ f. refl; took = λ f. refl; leases = refl; cpus = refl })
 
     cache_then : (k j : ℕ) (c : QuantumCacheState) → IsCacheAt spaces_then k j c → (x : QuantumCacheState) × IsCacheAt spaces k j x × (x.depot.size ≤ c.depot.size)
-    cache_then k j c is = elim (written spaces place k (risen s) is.space is.at) [
+    cache_then k j c is = elim (written spaces index k (risen s) is.space is.at) [
       | inl this ↦
           let among : slice_get (risen s).caches j ≡ Some c = ap (λ (y : SpaceState). slice_get y.caches j) (sym this.1) ∙ is.among in
           let n = mapped risen_cache s.caches j c among in
@@ -161,25 +161,25 @@ module _ (m : ℕ) (taken : IsSize m) where
           );
     }
 
-  module _ (d : Picture) (is : IsPicture d) (place : ℕ) (s : SpaceState) (at : slice_get d.spaces place ≡ Some s) where
-    picture_stays : IsPicture (record d { spaces = spaces_then d.spaces place s at })
+  module _ (d : Picture) (is : IsPicture d) (index : ℕ) (s : SpaceState) (at : slice_get d.spaces index ≡ Some s) where
+    picture_stays : IsPicture (record d { spaces = spaces_then d.spaces index s at })
     picture_stays = record {
       tree = is.tree;
-      plans = plans_stay d.spaces place s at ∙ is.plans;
-      units = units_stay d.spaces place s at (held_outside d) is.units;
+      plans = plans_stay d.spaces index s at ∙ is.plans;
+      units = units_stay d.spaces index s at (held_outside d) is.units;
       cpus = record {
-        each = subst (λ (ps : List SpacePlan). All (λ c. IsCpu c.number × (own_places c.caches ≡ places_from 0 ps)) d.cpus) (sym (plans_stay d.spaces place s at)) is.cpus.each;
-        shapes = λ i c below j o within. shape_stays d.spaces place s at _ (is.cpus.shapes i c below j o within);
+        each = subst (λ (ps : List SpacePlan). All (λ c. IsCpu c.number × (own_indexes c.caches ≡ indexes_from 0 ps)) d.cpus) (sym (plans_stay d.spaces index s at)) is.cpus.each;
+        shapes = λ i c below j o within. shape_stays d.spaces index s at _ (is.cpus.shapes i c below j o within);
         numbers = is.cpus.numbers;
         there = is.cpus.there;
       };
       book = is.book;
     }
 
-    setup_stays : SameSetup d (record d { spaces = spaces_then d.spaces place s at })
-    setup_stays = record { tree = refl; owned = map_set_same owned_by d.spaces place s (risen s) at refl }
+    setup_stays : SameSetup d (record d { spaces = spaces_then d.spaces index s at })
+    setup_stays = record { tree = refl; owned = map_set_same owned_by d.spaces index s (risen s) at refl }
 
-is_size : (z : MagazineSize) → IsSize (rounds_of z)
+is_size : (z : MagazineSize) → IsSize (rounds_named z)
 is_size size.Three = inl refl
 is_size size.Seven = inr (inl refl)
 is_size size.Fifteen = inr (inr (inl refl))
@@ -197,7 +197,7 @@ resizes_keep old new r text is does = elim does [
   | inr some ↦ elim some [
     | inl great ↦ nothing_moves old new is great.6
     | inr rises ↦
-        let m = rounds_of r.size in
+        let m = rounds_named r.size in
         subst (Keeps old) (sym rises.6) (picture_stays m (is_size r.size) old is rises.0 rises.1 rises.3, setup_stays m (is_size r.size) old is rises.0 rises.1 rises.3)
   ]
 ]

@@ -15,7 +15,7 @@ use Rattle.quantum_cache.specs.Caches.{chain_on, chain_up, chain_in}
 use Rattle.stock.specs.Spaces.{SpaceState, plan_of, plans_of}
 use Rattle.stock.specs.Setups.{plan_for, plans_for}
 use Rattle.lease_machine.specs.Picture.{Picture, IsPicture}
-use Rattle.lease_machine.specs.Moves.{HasPlace, HasPlaceUp}
+use Rattle.lease_machine.specs.Moves.{HasBase, HasBaseUp}
 use Rattle.lease_machine.specs.Serving.{CanServe}
 
 any_default : (xs : List Holding) (k : ℕ) (x y : Holding) → k < length xs → get_or xs k x ≡ get_or xs k y
@@ -98,12 +98,12 @@ plan_is d is k x s here at = by d.spaces d.tree k is.plans here at
         sym (ap plan_of space) ∙ plan ∙ ap plan_for arena
     by (y ∷ ys) (z ∷ zs) (suc k) same here at = by ys zs k (cc) here at
 
--- an arena that has a place for it can serve a request
-pub place_serves : (d : Picture) (place : ℕ) (x : TreeArena) (q : Request) → slice_get d.tree place ≡ Some x → HasPlace d.spaces place q → ¬ ¬ CanServe d place x q
-place_serves d place x q here has none =
+-- an arena that has a base for it can serve a request
+pub base_serves : (d : Picture) (index : ℕ) (x : TreeArena) (q : Request) → slice_get d.tree index ≡ Some x → HasBase d.spaces index q → ¬ ¬ CanServe d index x q
+base_serves d index x q here has none =
     let not_plain : IsPlain q → ⊥ = (λ plain.
     (let is : q ≡ plain_of q.size = (plain_is_of_its_size q).0 plain in
-    let has_plain : HasPlace d.spaces place (plain_of q.size) = subst (λ (r : Request). HasPlace d.spaces place r) is has in
-    let up : HasPlaceUp d.spaces (chain_in d.tree place) q.size = subst (λ (o : Option TreeArena). HasPlaceUp d.spaces (chain_on (chain_up 3 d.tree) place o) q.size) (sym here) (inl has_plain) in
+    let has_plain : HasBase d.spaces index (plain_of q.size) = subst (λ (r : Request). HasBase d.spaces index r) is has in
+    let up : HasBaseUp d.spaces (chain_in d.tree index) q.size = subst (λ (o : Option TreeArena). HasBaseUp d.spaces (chain_on (chain_up 3 d.tree) index o) q.size) (sym here) (inl has_plain) in
     none (inr (inl (plain, up))))) in
     none (inr (inr (not_plain, has)))

@@ -14,7 +14,7 @@ use Rattle.lease_machine.proofs.ClimbSteps.{Climbings, IsStuck, climb_cpu, climb
 use Rattle.lease_machine.proofs.Focus.{Focus, itself, there}
 use Rattle.lease_machine.proofs.FreeLaws.{seen}
 use Rattle.lease_machine.specs.Chunks.{LacksRounds}
-use Rattle.lease_machine.specs.Moves.{Climbs, ClimbsInVain, HasPlaceUp, Returns}
+use Rattle.lease_machine.specs.Moves.{Climbs, ClimbsInVain, HasBaseUp, Returns}
 use Rattle.local_calls.specs.Runs.{RunsTo, SoundStep}
 use Rattle.local_parts.proofs.LawProofs.{plan_keeps_stock}
 use Rattle.local_parts.specs.States.{LocalState}
@@ -57,11 +57,11 @@ module _ (arenas : List TreeArena) (chain : List Level) (l : Level) (size j : �
 
   -- by the answer
   abbrev pub LastStages : Climbed → List SpaceState → List SpaceState → Type 0
-  LastStages (Ok t) old new = IsCut t old new ⊎ ((¬ HasPlaceUp old chain l.slab_size) × Climbs chain size t old new)
+  LastStages (Ok t) old new = IsCut t old new ⊎ ((¬ HasBaseUp old chain l.slab_size) × Climbs chain size t old new)
   LastStages (Err climbing.BadRequest) old new = Unit {0}
-  LastStages (Err climbing.NoFit) old new = (¬ HasPlaceUp old chain l.slab_size) × (¬ HasPlaceUp old chain size) × (new ≡ old)
-  LastStages (Err climbing.NoMemory) old new = (HasPlaceUp old chain l.slab_size × ClimbsInVain chain l.slab_size old new)
-      ⊎ ((¬ HasPlaceUp old chain l.slab_size) × HasPlaceUp old chain size × ClimbsInVain chain size old new)
+  LastStages (Err climbing.NoFit) old new = (¬ HasBaseUp old chain l.slab_size) × (¬ HasBaseUp old chain size) × (new ≡ old)
+  LastStages (Err climbing.NoMemory) old new = (HasBaseUp old chain l.slab_size × ClimbsInVain chain l.slab_size old new)
+      ⊎ ((¬ HasBaseUp old chain l.slab_size) × HasBaseUp old chain size × ClimbsInVain chain size old new)
   LastStages (Err (climbing.Stuck t)) old new = Unit {0}
   LastStages (Err (climbing.Stopped o)) old new = Unit {0}
 
@@ -114,10 +114,10 @@ module _ (arenas : List TreeArena) (chain : List Level) (l : Level) (size j : �
     unfolding make_slab
     span_cut law mid climbs path = (slab_made path.1 path.0 law mid climbs path.2 path.3, slab_cpu path.1 path.0 path.2.step.does.1 path.3)
 
-  -- the fourth stage: what ends the allocation, or nothing, where no span for a slab has a place
+  -- the fourth stage: what ends the allocation, or nothing, where no span for a slab has a base
   abbrev pub SlabStage : LocalState → LocalState → Stage → Type 0
   SlabStage old new r = ((a : Climbed) × (r ≡ Some a) × LastStages a old.spaces new.spaces × (new.cpu ≡ old.cpu))
-      ⊎ ((r ≡ None) × (¬ HasPlaceUp old.spaces chain l.slab_size) × (new.spaces ≡ old.spaces) × (new.cpu ≡ old.cpu))
+      ⊎ ((r ≡ None) × (¬ HasBaseUp old.spaces chain l.slab_size) × (new.spaces ≡ old.spaces) × (new.cpu ≡ old.cpu))
 
   pub slab_stage : (old new : LocalState) (r : Stage) → IsStock old.spaces → RunsTo arenas (take_from_slab chain l (j + 1)) old new r → SlabStage old new r
   unfolding take_from_slab
@@ -141,7 +141,7 @@ module _ (arenas : List TreeArena) (chain : List Level) (l : Level) (size j : �
       by m (Err (climbing.Stopped o)) on cpu mid rest = ended m (Err (climbing.Stopped o)) cpu rest.0 rest.1 tt
 
   -- the last
-  size_stage : (a : Climbed) (old new : List SpaceState) → (¬ HasPlaceUp old chain l.slab_size) → Climbings chain size a old new → LastStages a old new
+  size_stage : (a : Climbed) (old new : List SpaceState) → (¬ HasBaseUp old chain l.slab_size) → Climbings chain size a old new → LastStages a old new
   size_stage (Ok t) old new none on = inr (none, on)
   size_stage (Err climbing.BadRequest) old new none on = tt
   size_stage (Err climbing.NoFit) old new none on = (none, on.0, on.1)
@@ -182,7 +182,7 @@ module _ (arenas : List TreeArena) (chain : List Level) (l : Level) (size j : �
           | inr none ↦
               let rest = subst (λ r. RunsTo arenas (or_else (climb_plan chain size) r) p.0 new a) none.0 p.3 in
               let same : p.0.spaces ≡ s.spaces = none.2 ∙ spaces in
-              let has : ¬ HasPlaceUp s.spaces chain l.slab_size = subst (λ xs. ¬ HasPlaceUp xs chain l.slab_size) spaces none.1 in
+              let has : ¬ HasBaseUp s.spaces chain l.slab_size = subst (λ xs. ¬ HasBaseUp xs chain l.slab_size) spaces none.1 in
               let on : Climbings chain size a s.spaces new.spaces = subst (λ xs. Climbings chain size a xs new.spaces) same (climb_ends arenas chain size p.0 new a (subst IsStock (sym same) law) rest) in
               (y, lacks, out, climb_cpu arenas chain size p.0 new a rest ∙ (none.3 ∙ cpu), size_stage a s.spaces new.spaces has on)
         ]

@@ -14,7 +14,7 @@ use Rattle.std.specs.Prelude.{map}
 use Rattle.lease_machine.specs.Picture.{Picture, IsPicture}
 use Rattle.lease_machine.specs.Operators.{arenas_told, client_told, with_cpu}
 use Rattle.lease_machine.specs.Machine.{AnswersLine, LeaseStep}
-use Rattle.lease_machine.specs.AnswerLaws.{written}
+use Rattle.lease_machine.specs.AnswerLaws.{reply_bytes}
 use Rattle.lease_machine.specs.StepLaws.{FaultsAreAnswered, KnownAreAnswered, OldHellosAreAnswered, AuditsAreAnswered, ClientsAreTold, CpusAreSelected, VainResizesAreAnswered}
 use Rattle.lease_machine.proofs.FreshCpus.{selected_is_picture}
 
@@ -31,12 +31,12 @@ pub faults_are_answered : FaultsAreAnswered
 faults_are_answered d line fault is read = (error_line fault, d, stays d is line (Err fault) read (error_line fault) (refl, refl))
 
 pub known_are_answered : KnownAreAnswered
-known_are_answered d line id op r is read known = stays d is line _ read (written r) (r, refl, inl (known, refl))
+known_are_answered d line id op r is read known = stays d is line _ read (reply_bytes r) (r, refl, inl (known, refl))
 
 pub old_hellos_are_answered : OldHellosAreAnswered
 old_hellos_are_answered d line h is read below =
     let r = reply.Old (record { client = h.client; current = (account_in h.client d.book).incarnation }) in
-    (written r, d, stays d is line _ read (written r) (r, refl, (refl, below, refl)))
+    (reply_bytes r, d, stays d is line _ read (reply_bytes r) (r, refl, (refl, below, refl)))
 
 pub audits_are_answered : AuditsAreAnswered
 audits_are_answered d line is read =

@@ -11,7 +11,7 @@ use Rattle.stock.specs.OwnCaches.{OwnCacheState}
 use Rattle.stock_audit.specs.Accounted.{IsAccountedFor}
 use Rattle.stock_audit.specs.Outside.{Outside}
 use Rattle.stock_audit.proofs.LawProofs.{hand_steps_keep}
-use Rattle.local_parts.specs.Cpus.{own_places, places_from}
+use Rattle.local_parts.specs.Cpus.{own_indexes, indexes_from}
 use Rattle.lease_proto.specs.declared.faults.LineFault.{LineFault}
 use Rattle.lease_proto.specs.declared.operators.ServedLine.{ServedLine}
 use Rattle.lease_proto.specs.Cpus.{IsCpu}
@@ -41,8 +41,8 @@ with_sizes s sizes = record { source = s.source; quantum = s.arena.quantum; poli
 plans_same : (spaces : List SpaceState) → plans_of (map ticked spaces) ≡ plans_of spaces
 plans_same spaces = maps_same ticked plan_of (λ s. ap (with_sizes s) (maps_same ticked_cache slab_size_of (λ c. refl) s.caches)) spaces
 
-cache_stays : (place number quantum : ℕ) (c : QuantumCacheState) → IsQuantumCache place number quantum c → IsQuantumCache place number quantum (ticked_cache c)
-cache_stays place number quantum c is = record {
+cache_stays : (index number quantum : ℕ) (c : QuantumCacheState) → IsQuantumCache index number quantum c → IsQuantumCache index number quantum (ticked_cache c)
+cache_stays index number quantum c is = record {
   arena = is.arena;
   k = is.k;
   quantum_is = is.quantum_is;
@@ -113,7 +113,7 @@ module _ (d : Picture) (is : IsPicture d) where
     plans = plans_same d.spaces ∙ is.plans;
     units = units_stay d.spaces (held_outside d) is.units;
     cpus = record {
-      each = subst (λ (ps : List SpacePlan). All (λ c. IsCpu c.number × (own_places c.caches ≡ places_from 0 ps)) d.cpus) (sym (plans_same d.spaces)) is.cpus.each;
+      each = subst (λ (ps : List SpacePlan). All (λ c. IsCpu c.number × (own_indexes c.caches ≡ indexes_from 0 ps)) d.cpus) (sym (plans_same d.spaces)) is.cpus.each;
       shapes = λ i c below j o within. shape_stays d.spaces _ (is.cpus.shapes i c below j o within);
       numbers = is.cpus.numbers;
       there = is.cpus.there;

@@ -12,7 +12,7 @@ use Rattle.lease_proto.specs.declared.lines.Op.TheVariants as ops
 use Rattle.lease_proto.specs.declared.operators.ServedLine.TheVariants as served
 use Rattle.lease_proto.specs.declared.replies.Reply.{Reply}
 use Rattle.lease_proto.specs.declared.replies.Reply.TheVariants as reply
-use Rattle.lease_proto.specs.Frames.{Frame, ended}
+use Rattle.lease_proto.specs.Frames.{Frame, with_line_feed}
 use Rattle.lease_proto.specs.Operators.{served_of}
 use Rattle.lease_proto.specs.Replies.{reply_text}
 use Rattle.lease_proto.specs.Requests.{client_of}
@@ -27,8 +27,8 @@ use Rattle.lease_machine.specs.Machine.{LeaseStep, Grants, demand_of}
 use Rattle.lease_machine.specs.Laws.{Runs}
 
 -- the bytes of a reply, as they are written
-abbrev pub written : Reply → List ℕ
-written r = ended (reply_text r)
+abbrev pub reply_bytes : Reply → List ℕ
+reply_bytes r = with_line_feed (reply_text r)
 
 -- the reply is kept: its number is settled
 abbrev pub IsKept : Reply → Type 0
@@ -39,7 +39,7 @@ IsKept r = ⊥
 
 -- the bytes are of a reply that isn't
 abbrev pub IsUnkept : List ℕ → Type 0
-IsUnkept text = (r : Reply) × (text ≡ written r) × (¬ IsKept r)
+IsUnkept text = (r : Reply) × (text ≡ reply_bytes r) × (¬ IsKept r)
 
 -- the bytes are this request
 abbrev pub IsRequestLine : List ℕ → RequestId → Op → Type 0
@@ -75,15 +75,15 @@ AnswersAgree = (old mid late new : Picture) (id : RequestId) (op again : Op)
 
 -- what is granted is of the arena that the line names, and fits what it asks
 abbrev pub FitsLine : Picture → LeaseLine → Reply → Type 0
-FitsLine d l (reply.Granted g) = (g.arena ≡ l.arena) × ((place : ℕ) × (x : TreeArena)
-    × Finds d l.arena place x × Fits x.quantum (demand_of l) g.base g.len)
+FitsLine d l (reply.Granted g) = (g.arena ≡ l.arena) × ((index : ℕ) × (x : TreeArena)
+    × Finds d l.arena index x × Fits x.quantum (demand_of l) g.base g.len)
 FitsLine d l r = Unit {0}
 
 -- a new lease is answered by a reply that fits its line; so are its repeats, by the same bytes
 abbrev pub GrantsFit : Type 0
 GrantsFit = (old new : Picture) (id : RequestId) (l : LeaseLine) (line text : List ℕ)
     → IsPicture old → IsRequestLine line id (ops.Lease l) → IsNew (account_in id.client old.book) id
-    → LeaseStep old line text new → (r : Reply) × (text ≡ written r) × FitsLine old l r
+    → LeaseStep old line text new → (r : Reply) × (text ≡ reply_bytes r) × FitsLine old l r
 
 -- Whatever lines come between, each answer to the same number that settles it is a reply that fits
 -- the line by which it was asked first.
@@ -93,7 +93,7 @@ RepeatsFit = (old mid late new : Picture) (id : RequestId) (l : LeaseLine) (agai
     → IsRequestLine line id (ops.Lease l) → IsNew (account_in id.client old.book) id
     → LeaseStep old line text mid → Runs mid frames between late
     → IsRequestLine repeat id again → LeaseStep late repeat bytes new
-    → ((r : Reply) × (bytes ≡ written r) × FitsLine old l r) ⊎ (IsUnkept text ⊎ IsUnkept bytes)
+    → ((r : Reply) × (bytes ≡ reply_bytes r) × FitsLine old l r) ⊎ (IsUnkept text ⊎ IsUnkept bytes)
 
 -- the kept reply is no grant, or one of an arena whose units fit the request that it was made for
 abbrev pub IsFitting : Picture → Kept → Type 0
@@ -111,4 +111,4 @@ KeptGrantsFit = (d : Picture) (c : ℕ) (k : Kept) → IsPicture d
 -- source, or it was in a slab, a depot or a magazine of the selected CPU
 abbrev pub GrantsWereReachable : Type 0
 GrantsWereReachable = (old new : Picture) (id : RequestId) (l : LeaseLine) (r : Reply)
-    → IsPicture old → (g : Grants id l old new r) → WasReachable old g.place g.segment
+    → IsPicture old → (g : Grants id l old new r) → WasReachable old g.index g.segment

@@ -10,8 +10,8 @@ use Rattle.lease_machine.specs.Serving.{IsCachedIn}
 -- an arena serves a request by its caches just where the lists of steps have a cache for its size:
 -- the one whose chunks are as long
 abbrev pub CachedByNumber : Type 0
-CachedByNumber = (tree : List TreeArena) (place : ℕ) (x : TreeArena) (q : Request) → IsTree tree
-    → slice_get tree place ≡ Some x → IsPlain q → 0 < q.size
-    → MatchOption (cache_for (level_of place x) q.size) (¬ IsCachedIn x q)
+CachedByNumber = (tree : List TreeArena) (index : ℕ) (x : TreeArena) (q : Request) → IsTree tree
+    → slice_get tree index ≡ Some x → IsPlain q → 0 < q.size
+    → MatchOption (cache_for (level_of index x) q.size) (¬ IsCachedIn x q)
     (λ number. IsCachedIn x q × ((cache : ℕ) × (number ≡ cache + 1)
     × (rounded x.quantum q.size ≡ (cache + 1) * x.quantum)))

@@ -17,10 +17,10 @@ use Rattle.quantum_cache.specs.Frees.{free_plan}
 use Rattle.stock.specs.Spaces.{SpaceState}
 use Rattle.local_parts.specs.States.{LocalState}
 use Rattle.local_calls.specs.Runs.{IsLocalOf, IsAccountedWith, RunsTo}
-use Rattle.lease_machine.specs.Picture.{Cpu, Picture, SameSetup, is_cpu}
+use Rattle.lease_machine.specs.Picture.{NumberedCpu, Picture, SameSetup, is_cpu}
 use Rattle.lease_machine.specs.Chunks.{GoesBack}
 use Rattle.lease_machine.specs.Serving.{IsCachedIn, CanServe, ServesWith, ServesNone, FallsBack}
-use Rattle.lease_machine.specs.Operators.{GoesOffline, renewed}
+use Rattle.lease_machine.specs.Operators.{GoesOffline, after_renewal}
 use Rattle.lease_machine.specs.Held.{IsHeld, parts_in, with_parts}
 
 -- the parts that the selected CPU reaches are set up by the tree, and their accounts balance
@@ -44,73 +44,74 @@ FreeGoesBack = (d : Picture) (t : Tag) (s : LocalState) → IsHeld (t ∷ []) d
 -- what becomes of a constrained request for a segment of the arena, by the answer
 abbrev pub IsCarvedFor : ℕ → TreeArena → Request → Picture → Result Tag CarveFault → Picture
     → Type 0
-IsCarvedFor place x q d (Ok t) new = IsGood x.quantum q × CanServe d place x q
-    × ServesWith place x q t d new × IsHeld (t ∷ []) new × SameSetup d new
-IsCarvedFor place x q d (Err carving.BadRequest) new = (¬ IsGood x.quantum q) × (new ≡ d)
-IsCarvedFor place x q d (Err carving.NoFit) new = IsGood x.quantum q
-    × ServesNone place x q d new × (new ≡ d)
-IsCarvedFor place x q d (Err carving.NoMemory) new = IsGood x.quantum q × CanServe d place x q
-    × FallsBack place x q d new × (new ≡ d)
-IsCarvedFor place x q d (Err carving.Stopped) new = ⊥
+IsCarvedFor index x q d (Ok t) new = IsGood x.quantum q × CanServe d index x q
+    × ServesWith index x q t d new × IsHeld (t ∷ []) new × SameSetup d new
+IsCarvedFor index x q d (Err carving.BadRequest) new = (¬ IsGood x.quantum q) × (new ≡ d)
+IsCarvedFor index x q d (Err carving.NoFit) new = IsGood x.quantum q
+    × ServesNone index x q d new × (new ≡ d)
+IsCarvedFor index x q d (Err carving.NoMemory) new = IsGood x.quantum q × CanServe d index x q
+    × FallsBack index x q d new × (new ≡ d)
+IsCarvedFor index x q d (Err carving.Stopped) new = ⊥
 
 abbrev pub XallocCarves : Type 0
-XallocCarves = (d : Picture) (place : ℕ) (x : TreeArena) (q : Request) (s : LocalState)
-    (a : Result Tag CarveFault) → IsHeld [] d → slice_get d.tree place ≡ Some x → ¬ IsPlain q
-    → RunsTo d.tree (xalloc_plan place q) (parts_in d) s a
-    → IsCarvedFor place x q d a (with_parts s d)
+XallocCarves = (d : Picture) (index : ℕ) (x : TreeArena) (q : Request) (s : LocalState)
+    (a : Result Tag CarveFault) → IsHeld [] d → slice_get d.tree index ≡ Some x → ¬ IsPlain q
+    → RunsTo d.tree (xalloc_plan index q) (parts_in d) s a
+    → IsCarvedFor index x q d a (with_parts s d)
 
 -- and of any other whose size no cache serves
 abbrev pub IsClimbedFor : ℕ → TreeArena → Request → Picture → Climbed → Picture → Type 0
-IsClimbedFor place x q d (Ok t) new = IsGood x.quantum q × CanServe d place x q
-    × ServesWith place x q t d new × IsHeld (t ∷ []) new × SameSetup d new
-IsClimbedFor place x q d (Err climbing.BadRequest) new = (¬ IsGood x.quantum q) × (new ≡ d)
-IsClimbedFor place x q d (Err climbing.NoFit) new = IsGood x.quantum q
-    × ServesNone place x q d new × (new ≡ d)
-IsClimbedFor place x q d (Err climbing.NoMemory) new = IsGood x.quantum q × CanServe d place x q
-    × FallsBack place x q d new × IsHeld [] new × SameSetup d new
-IsClimbedFor place x q d (Err (climbing.Stuck t)) new = ⊥
-IsClimbedFor place x q d (Err (climbing.Stopped o)) new = ⊥
+IsClimbedFor index x q d (Ok t) new = IsGood x.quantum q × CanServe d index x q
+    × ServesWith index x q t d new × IsHeld (t ∷ []) new × SameSetup d new
+IsClimbedFor index x q d (Err climbing.BadRequest) new = (¬ IsGood x.quantum q) × (new ≡ d)
+IsClimbedFor index x q d (Err climbing.NoFit) new = IsGood x.quantum q
+    × ServesNone index x q d new × (new ≡ d)
+IsClimbedFor index x q d (Err climbing.NoMemory) new = IsGood x.quantum q × CanServe d index x q
+    × FallsBack index x q d new × IsHeld [] new × SameSetup d new
+IsClimbedFor index x q d (Err (climbing.Stuck t)) new = ⊥
+IsClimbedFor index x q d (Err (climbing.Stopped o)) new = ⊥
 
 abbrev pub AllocClimbs : Type 0
-AllocClimbs = (d : Picture) (place : ℕ) (x : TreeArena) (q : Request) (s : LocalState)
-    (a : Climbed) → IsHeld [] d → slice_get d.tree place ≡ Some x → IsPlain q → ¬ IsCachedIn x q
-    → RunsTo d.tree (alloc_plan (chain_in d.tree place) q.size) (parts_in d) s a
-    → IsClimbedFor place x q d a (with_parts s d)
+AllocClimbs = (d : Picture) (index : ℕ) (x : TreeArena) (q : Request) (s : LocalState)
+    (a : Climbed) → IsHeld [] d → slice_get d.tree index ≡ Some x → IsPlain q → ¬ IsCachedIn x q
+    → RunsTo d.tree (alloc_plan (chain_in d.tree index) q.size) (parts_in d) s a
+    → IsClimbedFor index x q d a (with_parts s d)
 
 -- and of one that a cache serves: where nothing fits, the CPU may still have changed over
 abbrev pub IsFromCaches : ℕ → TreeArena → Request → Picture → Climbed → Picture → Type 0
-IsFromCaches place x q d (Ok t) new = IsGood x.quantum q × CanServe d place x q
-    × ServesWith place x q t d new × IsHeld (t ∷ []) new × SameSetup d new
-IsFromCaches place x q d (Err climbing.BadRequest) new = (¬ IsGood x.quantum q) × (new ≡ d)
-IsFromCaches place x q d (Err climbing.NoFit) new = IsGood x.quantum q
-    × ServesNone place x q d new × IsHeld [] new × SameSetup d new
-IsFromCaches place x q d (Err climbing.NoMemory) new = IsGood x.quantum q × CanServe d place x q
-    × FallsBack place x q d new × IsHeld [] new × SameSetup d new
-IsFromCaches place x q d (Err (climbing.Stuck t)) new = ⊥
-IsFromCaches place x q d (Err (climbing.Stopped o)) new = ⊥
+IsFromCaches index x q d (Ok t) new = IsGood x.quantum q × CanServe d index x q
+    × ServesWith index x q t d new × IsHeld (t ∷ []) new × SameSetup d new
+IsFromCaches index x q d (Err climbing.BadRequest) new = (¬ IsGood x.quantum q) × (new ≡ d)
+IsFromCaches index x q d (Err climbing.NoFit) new = IsGood x.quantum q
+    × ServesNone index x q d new × IsHeld [] new × SameSetup d new
+IsFromCaches index x q d (Err climbing.NoMemory) new = IsGood x.quantum q × CanServe d index x q
+    × FallsBack index x q d new × IsHeld [] new × SameSetup d new
+IsFromCaches index x q d (Err (climbing.Stuck t)) new = ⊥
+IsFromCaches index x q d (Err (climbing.Stopped o)) new = ⊥
 
 abbrev pub AllocFromCaches : Type 0
-AllocFromCaches = (d : Picture) (place : ℕ) (x : TreeArena) (q : Request) (s : LocalState)
-    (a : Climbed) → IsHeld [] d → slice_get d.tree place ≡ Some x → IsPlain q → IsCachedIn x q
-    → RunsTo d.tree (alloc_plan (chain_in d.tree place) q.size) (parts_in d) s a
-    → IsFromCaches place x q d a (with_parts s d)
+AllocFromCaches = (d : Picture) (index : ℕ) (x : TreeArena) (q : Request) (s : LocalState)
+    (a : Climbed) → IsHeld [] d → slice_get d.tree index ≡ Some x → IsPlain q → IsCachedIn x q
+    → RunsTo d.tree (alloc_plan (chain_in d.tree index) q.size) (parts_in d) s a
+    → IsFromCaches index x q d a (with_parts s d)
 
 -- the parts that a CPU reaches, selected or not
-abbrev pub parts_of_cpu : Picture → Cpu → LocalState
+abbrev pub parts_of_cpu : Picture → NumberedCpu → LocalState
 parts_of_cpu d c = record { spaces = d.spaces; cpu = c.caches }
 
 abbrev pub OfflineIsLocal : Type 0
-OfflineIsLocal = (d : Picture) (n : ℕ) (c : Cpu) → IsHeld [] d → find (is_cpu n) d.cpus ≡ Some c
+OfflineIsLocal = (d : Picture) (n : ℕ) (c : NumberedCpu) → IsHeld [] d
+    → find (is_cpu n) d.cpus ≡ Some c
     → IsLocalOf d.tree (parts_of_cpu d c)
     × ((others : List Tag) × IsAccountedWith (parts_of_cpu d c) None others)
 
 -- its caches begin anew, over these arenas
 abbrev pub begun_anew : ℕ → List SpaceState → Picture → Picture
-begun_anew n spaces d = record d { spaces = spaces; cpus = map (renewed n d.spaces) d.cpus }
+begun_anew n spaces d = record d { spaces = spaces; cpus = map (after_renewal n d.spaces) d.cpus }
 
 -- a CPU that is drained, and then begins anew, went offline
 abbrev pub DrainGoesOffline : Type 0
-DrainGoesOffline = (d : Picture) (n turns : ℕ) (c : Cpu) (s : LocalState) → IsHeld [] d
+DrainGoesOffline = (d : Picture) (n turns : ℕ) (c : NumberedCpu) (s : LocalState) → IsHeld [] d
     → find (is_cpu n) d.cpus ≡ Some c
     → RunsTo d.tree (drain_plan turns d.tree) (parts_of_cpu d c) s (Ok tt)
     → GoesOffline n d (begun_anew n s.spaces d) × IsHeld [] (begun_anew n s.spaces d)

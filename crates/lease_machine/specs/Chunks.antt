@@ -12,13 +12,13 @@ use Rattle.magazine_layer.specs.Rounds.{MakesRoom, NeedsMemory, cpu_depot}
 use Rattle.slab_layer.specs.Cache.{idle_chunks}
 use Rattle.slab_layer.specs.Calls.{TakeOf, PutOf, AddOf}
 use Rattle.stock.specs.Spaces.{SpaceState, QuantumCacheState, IsCacheAt}
-use Rattle.stock.specs.OwnCaches.{OwnCacheState, IsAtPlaceOf}
+use Rattle.stock.specs.OwnCaches.{OwnCacheState, IsAtIndexesOf}
 use Rattle.stock.specs.Steps.{OnSlab, OnDepot}
 use Rattle.local_parts.specs.Cpus.{OnOwn}
-use Rattle.lease_machine.specs.Picture.{Cpu, Picture, is_cpu}
+use Rattle.lease_machine.specs.Picture.{NumberedCpu, Picture, is_cpu}
 use Rattle.lease_machine.specs.Moves.{Climbs, Returns, OtherCpusStay, SameNames}
 
-abbrev pub own_or_none : Option Cpu → List (List OwnCacheState)
+abbrev pub own_or_none : Option NumberedCpu → List (List OwnCacheState)
 own_or_none None = []
 own_or_none (Some c) = c.caches
 
@@ -26,12 +26,12 @@ own_or_none (Some c) = c.caches
 abbrev pub selected_caches : Picture → List (List OwnCacheState)
 selected_caches d = own_or_none (find (is_cpu d.selected) d.cpus)
 
--- of all caches of CPUs at most one changed, and that so: the selected CPU's at the place j of
--- those of the arena at the place k
+-- of all caches of CPUs at most one changed, and that so: the selected CPU's at the index j of
+-- those of the arena at the index k
 pub record OnSelected (k j : ℕ) (P : CpuCacheState → CpuCacheState → Type 0) (old new : Picture)
     : Type 0 where
   pub others : OtherCpusStay old new
-  pub own : OnOwn k j (λ o p. IsAtPlaceOf o p × P o.cpu p.cpu) (selected_caches old)
+  pub own : OnOwn k j (λ o p. IsAtIndexesOf o p × P o.cpu p.cpu) (selected_caches old)
       (selected_caches new)
 
 -- the chunk is the CPU's last round or, where it has none, the last of the depot's newest full
@@ -46,7 +46,7 @@ abbrev pub LacksRounds : DepotState → CpuCacheState → CpuCacheState → Type
 LacksRounds d c c' = BothEmpty c × (((c.size ≡ d.size) × (d.full ≡ []) × (c' ≡ c))
     ⊎ ((c.size ≢ d.size) × ((c' ≡ c) ⊎ (c' ≡ after_change d.size c))))
 
--- the chunk was a round of the cache at the place j of the arena at the place k, which is c;
+-- the chunk was a round of the cache at the index j of the arena at the index k, which is c;
 -- nothing else changed
 abbrev pub WasRound : ℕ → ℕ → QuantumCacheState → Tag → Picture → Picture → Type 0
 WasRound k j c t old new = (d : DepotState)

@@ -3,7 +3,7 @@ use Rattle.std.specs.Prelude.{◌≡◌, ◌≢◌, ◌⊎◌, ℕ, codes, List,
 use Rattle.arena_tree.specs.declared.trees.TreeArena.{TreeArena}
 use Rattle.stock_audit.specs.Outside.{all_rounds_out}
 use Rattle.lease_terms.specs.Requests.{RequestId}
-use Rattle.lease_book.specs.BookState.{leased, account_in}
+use Rattle.lease_book.specs.BookState.{leased_segments, account_in}
 use Rattle.lease_book.specs.Answers.{IsNew}
 use Rattle.lease_proto.specs.declared.faults.ErrorWord.TheVariants.{Memory}
 use Rattle.lease_proto.specs.declared.lines.LeaseLine.{LeaseLine}
@@ -12,16 +12,16 @@ use Rattle.lease_proto.specs.declared.operators.OperatorLine.TheVariants as oper
 use Rattle.lease_proto.specs.declared.operators.ServedLine.TheVariants as served
 use Rattle.lease_proto.specs.Faults.{error_text}
 use Rattle.lease_proto.specs.Operators.{served_of}
-use Rattle.lease_machine.specs.Picture.{Cpu, Picture, Finds, caches_of}
+use Rattle.lease_machine.specs.Picture.{NumberedCpu, Picture, Finds, caches_of}
 use Rattle.lease_machine.specs.Operators.{IsReapedOut}
 use Rattle.lease_machine.specs.Serving.{CanServe}
 use Rattle.lease_machine.specs.Replies.{again_of}
 use Rattle.lease_machine.specs.Machine.{LeaseStep, demand_of}
-use Rattle.lease_machine.specs.AnswerLaws.{written, IsRequestLine}
+use Rattle.lease_machine.specs.AnswerLaws.{reply_bytes, IsRequestLine}
 use Rattle.lease_machine.specs.RoomLaws.{NothingIsKept}
 
 -- the magazines of the CPU are empty
-abbrev pub HasNoRound : Cpu → Type 0
+abbrev pub HasNoRound : NumberedCpu → Type 0
 HasNoRound c = all_rounds_out (caches_of c) ≡ []
 
 -- the line `reap`, whatever it is answered, leaves no round that may be reaped, and no complete
@@ -40,7 +40,7 @@ OfflineHasNoRound = (old new : Picture) (n : ℕ) (line text : List ℕ)
 
 -- where nothing is leased and no CPU has a round, `tick` and then `reap` leave nothing kept
 abbrev pub TickAndReapEmpty : Type 0
-TickAndReapEmpty = (old mid new : Picture) (told text : List ℕ) → leased old.book ≡ []
+TickAndReapEmpty = (old mid new : Picture) (told text : List ℕ) → leased_segments old.book ≡ []
     → All HasNoRound old.cpus → LeaseStep old (codes "tick") told mid
     → LeaseStep mid (codes "reap") text new → NothingIsKept new
 
@@ -48,6 +48,6 @@ TickAndReapEmpty = (old mid new : Picture) (told text : List ℕ) → leased old
 abbrev pub AgainMeansRoom : Type 0
 AgainMeansRoom = (old new : Picture) (id : RequestId) (l : LeaseLine) (line text : List ℕ)
     → IsRequestLine line id (ops.Lease l) → IsNew (account_in id.client old.book) id
-    → LeaseStep old line text new → text ≡ written (again_of id)
-    → (place : ℕ) × (x : TreeArena) × Finds old l.arena place x
-    × CanServe old place x (demand_of l)
+    → LeaseStep old line text new → text ≡ reply_bytes (again_of id)
+    → (index : ℕ) × (x : TreeArena) × Finds old l.arena index x
+    × CanServe old index x (demand_of l)

@@ -9,8 +9,8 @@ use Rattle.stock.specs.OwnCaches.{OwnCacheState}
 use Rattle.stock_audit.specs.Outside.{outside}
 use Rattle.stock_audit.specs.Accounted.{IsAccountedFor}
 use Rattle.local_parts.specs.States.{LocalState}
-use Rattle.lease_book.specs.BookState.{leased}
-use Rattle.lease_machine.specs.Picture.{Cpu, Picture, AreCpus, is_cpu, caches_of}
+use Rattle.lease_book.specs.BookState.{leased_segments}
+use Rattle.lease_machine.specs.Picture.{NumberedCpu, Picture, AreCpus, is_cpu, caches_of}
 use Rattle.lease_machine.specs.Chunks.{selected_caches}
 
 -- the parts that the selected CPU reaches
@@ -18,7 +18,7 @@ abbrev pub parts_in : Picture → LocalState
 parts_in d = record { spaces = d.spaces; cpu = selected_caches d }
 
 -- the CPU's caches became these, if it is the one of this number
-abbrev pub with_caches_of : ℕ → List (List OwnCacheState) → Cpu → Cpu
+abbrev pub with_caches_of : ℕ → List (List OwnCacheState) → NumberedCpu → NumberedCpu
 with_caches_of n rows c = if is_cpu n c then record { number = c.number; caches = rows } else c
 
 -- the picture with those parts as they became
@@ -29,5 +29,6 @@ with_parts s d = record d { spaces = s.spaces; cpus = map (with_caches_of d.sele
 pub record IsHeld (hands : List Tag) (d : Picture) : Type 0 where
   pub tree : IsTree d.tree
   pub plans : plans_of d.spaces ≡ plans_for d.tree
-  pub units : IsAccountedFor d.spaces (outside hands (leased d.book) (flat_map caches_of d.cpus))
+  pub units : IsAccountedFor d.spaces
+      (outside hands (leased_segments d.book) (flat_map caches_of d.cpus))
   pub cpus : AreCpus d.spaces d.cpus d.selected

@@ -6,7 +6,7 @@ use Rattle.stock.specs.Spaces.{SpaceState}
 use Rattle.stock.specs.Sums.{total}
 use Rattle.stock.specs.Laws.{ApartUpChain}
 use Rattle.stock_audit.specs.Chains.{unit_of_arena}
-use Rattle.lease_book.specs.BookState.{leased, units_of_arena}
+use Rattle.lease_book.specs.BookState.{leased_segments, units_of_arena}
 use Rattle.lease_proto.specs.declared.faults.ErrorWord.TheVariants.{Memory}
 use Rattle.lease_proto.specs.Faults.{error_text}
 use Rattle.lease_proto.specs.Frames.{Frame}
@@ -29,17 +29,18 @@ abbrev pub SetupStays : Type 0
 SetupStays = (old new : Picture) (frames : List Frame) (text : List ℕ)
     → Runs old frames text new → SameSetup old new
 
--- each unit of an arena's spans is in one place: free, in a slab, in a magazine, exported or
+-- each unit of an arena's spans is in one home: free, in a slab, in a magazine, exported or
 -- leased; and no other unit is in any
-abbrev pub UnitsHaveOnePlace : Type 0
-UnitsHaveOnePlace = (d : Picture) → IsPicture d → (k : ℕ) (s : SpaceState)
+abbrev pub UnitsHaveOneHome : Type 0
+UnitsHaveOneHome = (d : Picture) → IsPicture d → (k : ℕ) (s : SpaceState)
     → slice_get d.spaces k ≡ Some s → (u : ℕ)
     → (total (unit_of_arena u d.spaces (held_outside d) s) ≡ covering_held u (spans_of s.arena))
     × (covering_held u (spans_of s.arena) ≤ 1)
 
 -- no two leases overlap where their arenas have one top, be one's arena a source of the other's
 abbrev pub LeasesAreApart : Type 0
-LeasesAreApart = (d : Picture) → IsPicture d → AllPairs (ApartUpChain d.spaces) (leased d.book)
+LeasesAreApart = (d : Picture) → IsPicture d
+    → AllPairs (ApartUpChain d.spaces) (leased_segments d.book)
 
 -- the line `audit` is answered by what is told of each arena, unless out of memory, and nothing
 -- changes
@@ -51,7 +52,7 @@ AuditIsTold = (old new : Picture) (text : List ℕ) → LeaseStep old (codes "au
 abbrev pub AuditTellsLeases : Type 0
 AuditTellsLeases = (d : Picture) → IsPicture d → (k : ℕ) (s : SpaceState)
     → slice_get d.spaces k ≡ Some s
-    → (sums_in d s).leased ≡ sum_by (units_of_arena k) (leased d.book)
+    → (sums_in d s).leased ≡ sum_by (units_of_arena k) (leased_segments d.book)
 
 -- and its numbers add up to the units of the arena's spans
 abbrev pub AuditIsWhole : Type 0

@@ -6,7 +6,7 @@ use Rattle.deed_core.specs.Tag.{Tag}
 use Rattle.deed_core.specs.Request.{IsGood}
 use Rattle.deed_core.specs.declared.requests.Request.{Request}
 use Rattle.arena_tree.specs.declared.trees.TreeArena.{TreeArena}
-use Rattle.arena_tree.specs.Trees.{place_in}
+use Rattle.arena_tree.specs.Trees.{index_in}
 use Rattle.lease_terms.specs.Requests.{RequestId}
 use Rattle.lease_terms.specs.declared.refusals.Refusal.{Refusal}
 use Rattle.lease_terms.specs.declared.refusals.Refusal.TheVariants.{NoFit, BadRequest, NoArena}
@@ -24,13 +24,13 @@ use Rattle.lease_proto.specs.declared.operators.ServedLine.TheVariants as served
 use Rattle.lease_proto.specs.declared.replies.Reply.{Reply}
 use Rattle.lease_proto.specs.declared.replies.Reply.TheVariants as reply
 use Rattle.lease_proto.specs.Faults.{error_line}
-use Rattle.lease_proto.specs.Frames.{ended}
+use Rattle.lease_proto.specs.Frames.{with_line_feed}
 use Rattle.lease_proto.specs.Operators.{served_of}
 use Rattle.lease_proto.specs.Replies.{reply_text}
 use Rattle.lease_book.specs.Account.{is_lease}
 use Rattle.lease_book.specs.Receipts.{ReceiptState}
 use Rattle.lease_book.specs.Entry.{Hello, Grant}
-use Rattle.lease_book.specs.BookState.{BookState, Enters, account_in, leased}
+use Rattle.lease_book.specs.BookState.{BookState, Enters, account_in, leased_segments}
 use Rattle.lease_book.specs.Answers.{IsNew}
 use Rattle.lease_book.specs.Calls.{IsGranted, IsReleased, IsSwept}
 use Rattle.lease_book.specs.declared.books.TheConstants.{MOST_LEASES}
@@ -53,18 +53,18 @@ demand_of l = record {
 }
 
 -- the arena that the line names takes its request
-pub record TakesDemand (d : Picture) (l : LeaseLine) (place : ℕ) (x : TreeArena) : Type 0 where
-  pub finds : Finds d l.arena place x
+pub record TakesDemand (d : Picture) (l : LeaseLine) (index : ℕ) (x : TreeArena) : Type 0 where
+  pub finds : Finds d l.arena index x
   pub good : IsGood x.quantum (demand_of l)
 
 -- the arena serves the request, and what serves it is leased
 pub record Grants (id : RequestId) (l : LeaseLine) (old new : Picture) (r : Reply) : Type 0 where
-  pub place : ℕ
+  pub index : ℕ
   pub arena : TreeArena
-  pub takes : TakesDemand old l place arena
-  pub can : CanServe old place arena (demand_of l)
+  pub takes : TakesDemand old l index arena
+  pub can : CanServe old index arena (demand_of l)
   pub segment : Tag
-  pub serves : ServesWith place arena (demand_of l) segment old new
+  pub serves : ServesWith index arena (demand_of l) segment old new
   pub receipt : ReceiptState
   pub granted : IsGranted old.book new.book id segment
       (record { quantum = arena.quantum; request = demand_of l }) receipt
@@ -73,23 +73,23 @@ pub record Grants (id : RequestId) (l : LeaseLine) (old new : Picture) (r : Repl
 
 -- why a new lease is refused: the first of these that is so
 abbrev pub RefusesLease : RequestId → LeaseLine → Picture → Picture → Refusal → Type 0
-RefusesLease id l old new NoArena = (place_in l.arena old.tree ≡ None) × BookAlone old new
-RefusesLease id l old new BadRequest = (place : ℕ) × (x : TreeArena) × Finds old l.arena place x
+RefusesLease id l old new NoArena = (index_in l.arena old.tree ≡ None) × BookAlone old new
+RefusesLease id l old new BadRequest = (index : ℕ) × (x : TreeArena) × Finds old l.arena index x
     × (¬ IsGood x.quantum (demand_of l)) × BookAlone old new
-RefusesLease id l old new NoFit = (place : ℕ) × (x : TreeArena) × TakesDemand old l place x
-    × ServesNone place x (demand_of l) old new
-RefusesLease id l old new Leases = (place : ℕ) × (x : TreeArena) × TakesDemand old l place x
-    × CanServe old place x (demand_of l) × ServesInVain place x (demand_of l) old new
+RefusesLease id l old new NoFit = (index : ℕ) × (x : TreeArena) × TakesDemand old l index x
+    × ServesNone index x (demand_of l) old new
+RefusesLease id l old new Leases = (index : ℕ) × (x : TreeArena) × TakesDemand old l index x
+    × CanServe old index x (demand_of l) × ServesInVain index x (demand_of l) old new
     × (MOST_LEASES ≤ length (account_in id.client old.book).leases)
 RefusesLease id l old new NotYours = ⊥
 
 -- out of memory: something serves the request, and nothing is settled
 pub record MissesLease (id : RequestId) (l : LeaseLine) (old new : Picture) : Type 0 where
-  pub place : ℕ
+  pub index : ℕ
   pub arena : TreeArena
-  pub takes : TakesDemand old l place arena
-  pub can : CanServe old place arena (demand_of l)
-  pub back : FallsBack place arena (demand_of l) old new
+  pub takes : TakesDemand old l index arena
+  pub can : CanServe old index arena (demand_of l)
+  pub back : FallsBack index arena (demand_of l) old new
   pub names : SameNames old new
   pub book : new.book ≡ old.book
 
@@ -105,19 +105,19 @@ NewLease id l old new r = ⊥
 
 -- the lease ends, and its segment goes back
 pub record Releases (id : RequestId) (l : ReleaseLine) (old new : Picture) : Type 0 where
-  pub place : ℕ
+  pub index : ℕ
   pub arena : TreeArena
-  pub finds : Finds old l.arena place arena
+  pub finds : Finds old l.arena index arena
   pub segment : Tag
   pub receipt : ReceiptState
-  pub released : IsReleased old.book new.book id place l.base receipt segment
+  pub released : IsReleased old.book new.book id index l.base receipt segment
   pub back : GoesBack segment old new
 
 -- why a new release is refused
 abbrev pub RefusesRelease : RequestId → ReleaseLine → Picture → Refusal → Type 0
-RefusesRelease id l old NoArena = place_in l.arena old.tree ≡ None
-RefusesRelease id l old NotYours = (place : ℕ) × (place_in l.arena old.tree ≡ Some place)
-    × (find (is_lease id.incarnation place l.base) (account_in id.client old.book).leases ≡ None)
+RefusesRelease id l old NoArena = index_in l.arena old.tree ≡ None
+RefusesRelease id l old NotYours = (index : ℕ) × (index_in l.arena old.tree ≡ Some index)
+    × (find (is_lease id.incarnation index l.base) (account_in id.client old.book).leases ≡ None)
 RefusesRelease id l old why = ⊥
 
 -- the answer to a new release
@@ -149,7 +149,7 @@ pub record Welcomes (c i : ℕ) (old new : Picture) : Type 0 where
   pub current : (account_in c old.book).incarnation ≤ i
   pub greeted : BookState
   pub hello : Enters (Hello c i) old.book greeted
-  pub leases : leased greeted ≡ leased old.book
+  pub leases : leased_segments greeted ≡ leased_segments old.book
   pub swept : List Tag
   pub sweeps : Sweeps c swept (record old { book = greeted }) new
   pub left : All (λ l. i ≤ l.incarnation) (account_in c new.book).leases
@@ -175,7 +175,7 @@ ClientStep (lines.Request id op) old new r = RequestStep id op old new r
 -- the bytes that answer a line
 abbrev pub ServedStep : ServedLine → Picture → List ℕ → Picture → Type 0
 ServedStep (served.Client l) old text new =
-    (r : Reply) × (text ≡ ended (reply_text r)) × ClientStep l old new r
+    (r : Reply) × (text ≡ with_line_feed (reply_text r)) × ClientStep l old new r
 ServedStep (served.Operator o) old text new = OperatorStep o old text new
 
 -- the bytes that answer the bytes of a line, by what line they are

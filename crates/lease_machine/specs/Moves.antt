@@ -14,33 +14,33 @@ use Rattle.stock.specs.Spaces.{SpaceState, QuantumCacheState}
 use Rattle.stock.specs.Steps.{OnArena}
 use Rattle.lease_machine.specs.Picture.{Picture, is_cpu}
 
--- an address of the arena at the place serves the request
-abbrev pub HasPlace : List SpaceState → ℕ → Request → Type 0
-HasPlace spaces place q = (s : SpaceState) × (slice_get spaces place ≡ Some s)
+-- an address of the arena at the index serves the request
+abbrev pub HasBase : List SpaceState → ℕ → Request → Type 0
+HasBase spaces index q = (s : SpaceState) × (slice_get spaces index ≡ Some s)
     × ((base : ℕ) × Serves s.arena.quantum q s.arena.free base)
 
 -- so does one of an arena of the chain: of the first so many units, of each other what the one
 -- below it would import for them
-abbrev pub HasPlaceUp : List SpaceState → List Level → ℕ → Type 0
-HasPlaceUp spaces [] n = ⊥
-HasPlaceUp spaces (l ∷ up) n =
-    HasPlace spaces l.id (plain_of n) ⊎ HasPlaceUp spaces up (amount_of l up n)
+abbrev pub HasBaseUp : List SpaceState → List Level → ℕ → Type 0
+HasBaseUp spaces [] n = ⊥
+HasBaseUp spaces (l ∷ up) n =
+    HasBase spaces l.id (plain_of n) ⊎ HasBaseUp spaces up (amount_of l up n)
 
 -- the segment was carved for the request where the arena's policy chose, and nothing else changed
 abbrev pub CarvesAt : ℕ → Request → Tag → List SpaceState → List SpaceState → Type 0
-CarvesAt place q t old new = OnArena place (λ a b. Carved a q t b) old new
+CarvesAt index q t old new = OnArena index (λ a b. Carved a q t b) old new
 
 -- the span was imported, and the segment is its first units
 abbrev pub ImportsAt : ℕ → Tag → ℕ → Tag → List SpaceState → List SpaceState → Type 0
-ImportsAt place span n t old new =
-    OnArena place (λ a b. Imported a span (plain_of n) t b) old new
+ImportsAt index span n t old new =
+    OnArena index (λ a b. Imported a span (plain_of n) t b) old new
 
 -- the segment of so many units was carved in the first arena of the chain or, where no address of
 -- that served, of a span that it imported from the next
 abbrev pub Climbs : List Level → ℕ → Tag → List SpaceState → List SpaceState → Type 0
 Climbs [] n t old new = ⊥
 Climbs (l ∷ up) n t old new = CarvesAt l.id (plain_of n) t old new
-    ⊎ ((¬ HasPlace old l.id (plain_of n)) × ((span : Tag) × (mid : List SpaceState)
+    ⊎ ((¬ HasBase old l.id (plain_of n)) × ((span : Tag) × (mid : List SpaceState)
     × Climbs up (amount_of l up n) span old mid × ImportsAt l.id span n t mid new))
 
 -- the segment was freed; where that made an imported span whole, that went to its source, and so on
@@ -53,8 +53,8 @@ pub data Returns (new : List SpaceState) : Tag → List SpaceState → Type 0 wh
 
 -- nothing changed, or what was carved for the request went back
 abbrev pub CarvesInVain : ℕ → Request → List SpaceState → List SpaceState → Type 0
-CarvesInVain place q old new = (new ≡ old)
-    ⊎ ((t : Tag) × (mid : List SpaceState) × CarvesAt place q t old mid × Returns new t mid)
+CarvesInVain index q old new = (new ≡ old)
+    ⊎ ((t : Tag) × (mid : List SpaceState) × CarvesAt index q t old mid × Returns new t mid)
 
 -- nothing changed, or what was climbed for in an arena of the chain went back: no address of those
 -- before it served
@@ -62,7 +62,7 @@ abbrev pub ClimbsInVain : List Level → ℕ → List SpaceState → List SpaceS
 ClimbsInVain [] n old new = new ≡ old
 ClimbsInVain (l ∷ up) n old new = (new ≡ old)
     ⊎ ((t : Tag) × (mid : List SpaceState) × Climbs (l ∷ up) n t old mid × Returns new t mid)
-    ⊎ ((¬ HasPlace old l.id (plain_of n)) × ClimbsInVain up (amount_of l up n) old new)
+    ⊎ ((¬ HasBase old l.id (plain_of n)) × ClimbsInVain up (amount_of l up n) old new)
 
 abbrev pub arena_of : SpaceState → ArenaState
 arena_of s = s.arena

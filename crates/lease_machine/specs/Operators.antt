@@ -8,7 +8,7 @@ use Rattle.slab_layer.specs.Slab.{SlabState, IsComplete}
 use Rattle.slab_layer.specs.Cache.{SlabCacheState}
 use Rattle.magazine_layer.specs.Depots.{DepotState, CanReap, after_tick, after_resize}
 use Rattle.arena_tree.specs.declared.trees.TreeArena.{TreeArena}
-use Rattle.arena_tree.specs.Trees.{place_in}
+use Rattle.arena_tree.specs.Trees.{index_in}
 use Rattle.stock.specs.Spaces.{SpaceState, QuantumCacheState, IsCacheAt, with_caches}
 use Rattle.stock.specs.Spaces.{with_depot}
 use Rattle.stock.specs.Sums.{Sums}
@@ -21,18 +21,18 @@ use Rattle.lease_proto.specs.declared.operators.OperatorLine.TheVariants as oper
 use Rattle.lease_proto.specs.declared.reports.AuditLine.{AuditLine}
 use Rattle.lease_proto.specs.declared.reports.ClientLine.{ClientLine}
 use Rattle.lease_proto.specs.Faults.{error_text}
-use Rattle.lease_proto.specs.Operators.{rounds_of}
+use Rattle.lease_proto.specs.Operators.{rounds_named}
 use Rattle.lease_proto.specs.Reports.{audit_text, client_text, reaped_text, ok_text}
-use Rattle.lease_machine.specs.Picture.{Cpu, Picture, is_cpu, fresh_cpu, held_outside}
+use Rattle.lease_machine.specs.Picture.{NumberedCpu, Picture, is_cpu, fresh_cpu, held_outside}
 use Rattle.lease_machine.specs.Moves.{ArenasStay, outline_of}
 
 -- the CPUs with that one, which is made if it is new
-abbrev pub with_cpu : ℕ → Picture → List Cpu
+abbrev pub with_cpu : ℕ → Picture → List NumberedCpu
 with_cpu n d = if list_any (is_cpu n) d.cpus then d.cpus else d.cpus ++ fresh_cpu n d.spaces ∷ []
 
 -- that CPU begins anew
-abbrev pub renewed : ℕ → List SpaceState → Cpu → Cpu
-renewed n spaces c = if is_cpu n c then fresh_cpu n spaces else c
+abbrev pub after_renewal : ℕ → List SpaceState → NumberedCpu → NumberedCpu
+after_renewal n spaces c = if is_cpu n c then fresh_cpu n spaces else c
 
 abbrev pub depots_of : SpaceState → List DepotState
 depots_of s = map (λ c. c.depot) s.caches
@@ -40,7 +40,7 @@ depots_of s = map (λ c. c.depot) s.caches
 -- The rounds of the CPU are at home in their slabs, and it begins anew. Arenas and depots, which
 -- slabs there are, and all other CPUs are as they were.
 pub record GoesOffline (n : ℕ) (old new : Picture) : Type 0 where
-  pub cpus : new.cpus ≡ map (renewed n old.spaces) old.cpus
+  pub cpus : new.cpus ≡ map (after_renewal n old.spaces) old.cpus
   pub arenas : ArenasStay old.spaces new.spaces
   pub depots : map depots_of new.spaces ≡ map depots_of old.spaces
   pub rest : new ≡ record old { spaces = new.spaces; cpus = new.cpus }
@@ -53,8 +53,8 @@ abbrev pub on_depots : (DepotState → DepotState) → SpaceState → SpaceState
 on_depots f s = with_caches (map (change_depot f) s.caches) s
 
 -- the depot keeps magazines of this size from here on, if it is greater than its own
-abbrev pub resized : ℕ → DepotState → DepotState
-resized m d = if nat_lt d.size m then after_resize m d else d
+abbrev pub after_rise : ℕ → DepotState → DepotState
+after_rise m d = if nat_lt d.size m then after_resize m d else d
 
 -- a depot of the arena has smaller magazines
 abbrev pub HasSmaller : ℕ → SpaceState → Type 0
@@ -63,13 +63,13 @@ HasSmaller m s = Any (λ c. c.depot.size < m) s.caches
 -- the depots of the arena of this name rise, or why they don't
 abbrev pub Resizes : List ℕ → ℕ → Picture → List ℕ → Picture → Type 0
 Resizes name m old text new =
-    ((place_in name old.tree ≡ None) × (text ≡ error_text NoArena) × (new ≡ old))
-    ⊎ ((place : ℕ) × (s : SpaceState) × (place_in name old.tree ≡ Some place)
-    × (slice_get old.spaces place ≡ Some s) × (¬ HasSmaller m s)
+    ((index_in name old.tree ≡ None) × (text ≡ error_text NoArena) × (new ≡ old))
+    ⊎ ((index : ℕ) × (s : SpaceState) × (index_in name old.tree ≡ Some index)
+    × (slice_get old.spaces index ≡ Some s) × (¬ HasSmaller m s)
     × (text ≡ error_text Size) × (new ≡ old))
-    ⊎ ((place : ℕ) × (s : SpaceState) × (place_in name old.tree ≡ Some place)
-    × (slice_get old.spaces place ≡ Some s) × HasSmaller m s × (text ≡ ok_text)
-    × (new ≡ record old { spaces = set old.spaces place (on_depots (resized m) s) }))
+    ⊎ ((index : ℕ) × (s : SpaceState) × (index_in name old.tree ≡ Some index)
+    × (slice_get old.spaces index ≡ Some s) × HasSmaller m s × (text ≡ ok_text)
+    × (new ≡ record old { spaces = set old.spaces index (on_depots (after_rise m) s) }))
 
 -- where the units of the arena are
 abbrev pub sums_in : Picture → SpaceState → Sums
@@ -181,7 +181,7 @@ Performs (operator.Cpu n) old text new =
 Performs (operator.Offline n) old text new = (text ≡ ok_text) × GoesOffline n old new
 Performs operator.Tick old text new =
     (text ≡ ok_text) × (new ≡ record old { spaces = map (on_depots after_tick) old.spaces })
-Performs (operator.Resize r) old text new = Resizes r.arena (rounds_of r.size) old text new
+Performs (operator.Resize r) old text new = Resizes r.arena (rounds_named r.size) old text new
 Performs operator.Reap old text new =
     (units : ℕ) × (text ≡ reaped_text (record { units = units })) × ReapsAll units old new
 Performs operator.Audit old text new = (text ≡ arenas_told old old.tree old.spaces) × (new ≡ old)

@@ -5,7 +5,7 @@ use Rattle.std.specs.List.{find, flat_map, AllByRecursion}
 use Rattle.deed_core.specs.Holding.{Holding}
 use Rattle.deed_core.specs.Tag.{Tag}
 use Rattle.arena_tree.specs.declared.trees.TreeArena.{TreeArena}
-use Rattle.arena_tree.specs.Trees.{IsTree, place_in}
+use Rattle.arena_tree.specs.Trees.{IsTree, index_in}
 use Rattle.magazine_layer.specs.Magazines.{IsShaped}
 use Rattle.stock.specs.Spaces.{SpaceState, QuantumCacheState, IsCacheAt, plans_of}
 use Rattle.stock.specs.Setups.{plans_for}
@@ -15,10 +15,10 @@ use Rattle.stock_audit.specs.Accounted.{IsAccountedFor}
 use Rattle.local_parts.specs.Cpus.{IsCpuOf, new_cpu}
 use Rattle.lease_proto.specs.Cpus.{IsCpu}
 use Rattle.lease_book.specs.Entry.{Entry, Settlement, Grant, Return, Refuse, Hello, Settled, Swept}
-use Rattle.lease_book.specs.BookState.{BookState, IsHistory, leased}
+use Rattle.lease_book.specs.BookState.{BookState, IsHistory, leased_segments}
 
 -- a CPU by its number, and its caches of each arena
-pub record Cpu : Type 0 where
+pub record NumberedCpu : Type 0 where
   pub number : ℕ
   pub caches : List (List OwnCacheState)
 
@@ -27,32 +27,32 @@ pub record Cpu : Type 0 where
 pub record Picture : Type 0 where
   pub tree : List TreeArena
   pub spaces : List SpaceState
-  pub cpus : List Cpu
+  pub cpus : List NumberedCpu
   pub selected : ℕ
   pub book : BookState
 
-abbrev pub is_cpu : ℕ → Cpu → Bool
+abbrev pub is_cpu : ℕ → NumberedCpu → Bool
 is_cpu n c = c.number == n
 
 -- all caches of a CPU
-abbrev pub caches_of : Cpu → List OwnCacheState
+abbrev pub caches_of : NumberedCpu → List OwnCacheState
 caches_of c = flat_map (λ row. row) c.caches
 
 -- what is out of the parts: leases, and rounds of CPUs
 abbrev pub held_outside : Picture → Outside
-held_outside d = outside [] (leased d.book) (flat_map caches_of d.cpus)
+held_outside d = outside [] (leased_segments d.book) (flat_map caches_of d.cpus)
 
 -- a CPU with no round, whose magazines are of the least size
-abbrev pub fresh_cpu : ℕ → List SpaceState → Cpu
+abbrev pub fresh_cpu : ℕ → List SpaceState → NumberedCpu
 fresh_cpu n spaces = record { number = n; caches = new_cpu 3 (plans_of spaces) }
 
 abbrev pub name_or_none : Option TreeArena → List ℕ
 name_or_none None = []
 name_or_none (Some x) = x.name
 
--- the name of the arena at the place
+-- the name of the arena at the index
 abbrev pub arena_named : List TreeArena → ℕ → List ℕ
-arena_named tree place = name_or_none (slice_get tree place)
+arena_named tree index = name_or_none (slice_get tree index)
 
 -- a grant is of one of the arenas, and was made by its quantum
 abbrev pub IsSettledIn : List TreeArena → Settlement → Type 0
@@ -80,7 +80,8 @@ pub record IsShapedIn (spaces : List SpaceState) (o : OwnCacheState) : Type 0 wh
 
 -- the CPUs have numbers of their own, each has caches for those of the stock, with magazines that
 -- their depots can take, and one is selected
-pub record AreCpus (spaces : List SpaceState) (cpus : List Cpu) (selected : ℕ) : Type 0 where
+pub record AreCpus (spaces : List SpaceState) (cpus : List NumberedCpu) (selected : ℕ)
+    : Type 0 where
   pub each : All (λ c. IsCpu c.number × IsCpuOf spaces c.caches) cpus
   pub shapes : All (λ c. All (IsShapedIn spaces) (caches_of c)) cpus
   pub numbers : AllPairs (λ a b. a.number ≢ b.number) cpus
@@ -100,7 +101,7 @@ pub record IsPicture (d : Picture) : Type 0 where
 pub record HoldsInHand (t : Tag) (d : Picture) : Type 0 where
   pub plans : plans_of d.spaces ≡ plans_for d.tree
   pub units : IsAccountedFor d.spaces
-      (outside (t ∷ []) (leased d.book) (flat_map caches_of d.cpus))
+      (outside (t ∷ []) (leased_segments d.book) (flat_map caches_of d.cpus))
   pub cpus : AreCpus d.spaces d.cpus d.selected
 
 -- the spans that an arena owns
@@ -116,7 +117,7 @@ pub record SameSetup (old new : Picture) : Type 0 where
 abbrev pub BookAlone : Picture → Picture → Type 0
 BookAlone old new = new ≡ record old { book = new.book }
 
--- the arena of this name stands at the place
-pub record Finds (d : Picture) (name : List ℕ) (place : ℕ) (x : TreeArena) : Type 0 where
-  pub first : place_in name d.tree ≡ Some place
-  pub here : slice_get d.tree place ≡ Some x
+-- the arena of this name stands at the index
+pub record Finds (d : Picture) (name : List ℕ) (index : ℕ) (x : TreeArena) : Type 0 where
+  pub first : index_in name d.tree ≡ Some index
+  pub here : slice_get d.tree index ≡ Some x

@@ -25,12 +25,12 @@ use Rattle.lease_proto.specs.declared.operators.ServedLine.TheVariants as served
 use Rattle.lease_proto.specs.declared.replies.Reply.{Reply}
 use Rattle.lease_proto.specs.declared.replies.Reply.TheVariants as reply
 use Rattle.lease_proto.specs.Operators.{served_of}
-use Rattle.lease_book.specs.BookState.{leased, account_in}
+use Rattle.lease_book.specs.BookState.{leased_segments, account_in}
 use Rattle.lease_book.specs.Answers.{IsNew}
 use Rattle.lease_machine.specs.Picture.{Picture, IsPicture, Finds, held_outside}
-use Rattle.lease_machine.specs.Moves.{HasPlaceUp}
+use Rattle.lease_machine.specs.Moves.{HasBaseUp}
 use Rattle.lease_machine.specs.Machine.{LeaseStep, Grants, demand_of}
-use Rattle.lease_machine.specs.AnswerLaws.{written, IsRequestLine}
+use Rattle.lease_machine.specs.AnswerLaws.{reply_bytes, IsRequestLine}
 
 -- the request is refused so
 abbrev pub refusal_to : RequestId → Refusal → Reply
@@ -43,14 +43,14 @@ pub record FindsNoRoom (old new : Picture) (id : RequestId) (l : LeaseLine) : Ty
   pub read : IsRequestLine line id (ops.Lease l)
   pub fresh : IsNew (account_in id.client old.book) id
   pub step : LeaseStep old line text new
-  pub said : text ≡ written (refusal_to id NoFit)
+  pub said : text ≡ reply_bytes (refusal_to id NoFit)
 
--- the line names the arena at the place, which is so
+-- the line names the arena at the index, which is so
 pub record NamesArena (d : Picture) (l : LeaseLine) (x : TreeArena) (s : SpaceState)
     : Type 0 where
-  pub place : ℕ
-  pub finds : Finds d l.arena place x
-  pub here : slice_get d.spaces place ≡ Some s
+  pub index : ℕ
+  pub finds : Finds d l.arena index x
+  pub here : slice_get d.spaces index ≡ Some s
 
 -- then each run of free units inside one span is too short for what is asked, or stands wrong:
 -- however the arena was used, and whether caches serve it or not
@@ -61,13 +61,13 @@ NoFitMeansTaken = (old new : Picture) (id : RequestId) (l : LeaseLine) (x : Tree
     → ¬ ServesIn x.quantum (demand_of l) run base
 
 -- no picture lets one request be granted and be refused so
-abbrev pub NeverBoth : Type 0
-NeverBoth = (old new other : Picture) (id : RequestId) (l : LeaseLine) (r : Reply)
+abbrev pub NeverGrantedAndRefused : Type 0
+NeverGrantedAndRefused = (old new other : Picture) (id : RequestId) (l : LeaseLine) (r : Reply)
     → Grants id l old new r → ¬ FindsNoRoom old other id l
 
--- a run of free units of the arena at the place serves the request
+-- a run of free units of the arena at the index serves the request
 abbrev pub HasRun : List SpaceState → ℕ → Request → Type 0
-HasRun spaces place q = (s : SpaceState) × (slice_get spaces place ≡ Some s)
+HasRun spaces index q = (s : SpaceState) × (slice_get spaces index ≡ Some s)
     × ((run : Holding) × (base : ℕ) × IsRun (spans_of s.arena) s.arena.allocated run
     × ServesIn s.arena.quantum q run base)
 
@@ -80,13 +80,13 @@ HasRunUp spaces (l ∷ up) n =
 
 -- and where the request isn't constrained, none of a source serves what would be imported for it
 abbrev pub NoFitMeansTakenUp : Type 0
-NoFitMeansTakenUp = (old new : Picture) (id : RequestId) (l : LeaseLine) (x : TreeArena) (place : ℕ)
-    → IsPicture old → Finds old l.arena place x → IsPlain (demand_of l) → FindsNoRoom old new id l
-    → ¬ HasRunUp old.spaces (chain_in old.tree place) l.size
+NoFitMeansTakenUp = (old new : Picture) (id : RequestId) (l : LeaseLine) (x : TreeArena) (index : ℕ)
+    → IsPicture old → Finds old l.arena index x → IsPlain (demand_of l) → FindsNoRoom old new id l
+    → ¬ HasRunUp old.spaces (chain_in old.tree index) l.size
 
 -- nothing is leased, no CPU and no depot has a round, and no slab is whole
 pub record NothingIsKept (d : Picture) : Type 0 where
-  pub leases : leased d.book ≡ []
+  pub leases : leased_segments d.book ≡ []
   pub rounds : all_rounds_out (held_outside d).cpus ≡ []
   pub reaped : All IsReaped d.spaces
 
@@ -106,11 +106,11 @@ FirstLeaseIsServed = (start mid new : Picture) (hello greeting lease text : List
     → served_of hello ≡ Ok (served.Client (lines.Hello h)) → LeaseStep start hello greeting mid
     → IsRequestLine lease id (ops.Lease l) → LeaseStep mid lease text new
     → (span : Holding) (base : ℕ) → Contains s.arena.owned span
-    → ServesIn x.quantum (demand_of l) span base → text ≢ written (refusal_to id NoFit)
+    → ServesIn x.quantum (demand_of l) span base → text ≢ reply_bytes (refusal_to id NoFit)
 
--- where an arena of the chain has a place for so many units, and for what would be imported for
--- them, one has a place for fewer
+-- where an arena of the chain has a base for so many units, and for what would be imported for
+-- them, one has a base for fewer
 abbrev pub FewerFitToo : Type 0
-FewerFitToo = (d : Picture) (place n most : ℕ) → IsPicture d → n ≤ most
-    → HasPlaceUp d.spaces (chain_in d.tree place) most
-    → HasPlaceUp d.spaces (chain_in d.tree place) n
+FewerFitToo = (d : Picture) (index n most : ℕ) → IsPicture d → n ≤ most
+    → HasBaseUp d.spaces (chain_in d.tree index) most
+    → HasBaseUp d.spaces (chain_in d.tree index) n

@@ -14,13 +14,13 @@ use Rattle.stock.specs.OwnCaches.{OwnCacheState, own_rounds}
 use Rattle.stock_audit.specs.Outside.{Outside, outside}
 use Rattle.stock_audit.specs.Chains.{IsReachable}
 use Rattle.local_parts.specs.Cpus.{IsOwnAt}
-use Rattle.lease_machine.specs.Picture.{Cpu, Picture, HoldsInHand, is_cpu, caches_of}
-use Rattle.lease_machine.specs.Moves.{HasPlace, HasPlaceUp, CarvesAt, Climbs, CarvesInVain}
+use Rattle.lease_machine.specs.Picture.{NumberedCpu, Picture, HoldsInHand, is_cpu, caches_of}
+use Rattle.lease_machine.specs.Moves.{HasBase, HasBaseUp, CarvesAt, Climbs, CarvesInVain}
 use Rattle.lease_machine.specs.Moves.{ClimbsInVain, SameNames}
 use Rattle.lease_machine.specs.Chunks.{selected_caches, OnSelected, LacksRounds, WasRound, WasIdle}
 use Rattle.lease_machine.specs.Chunks.{LacksChunks, IsOfNewSlab, GoesBack}
 
-abbrev pub all_or_none : Option Cpu → List OwnCacheState
+abbrev pub all_or_none : Option NumberedCpu → List OwnCacheState
 all_or_none None = []
 all_or_none (Some c) = caches_of c
 
@@ -33,12 +33,12 @@ abbrev pub IsCachedIn : TreeArena → Request → Type 0
 IsCachedIn x q = IsPlain q × (rounded x.quantum q.size ≤ x.qcache_max)
 
 -- the quantum cache whose chunks are so long, with the selected CPU's cache for it
-pub record CacheFor (d : Picture) (place : ℕ) (x : TreeArena) (q : Request)
+pub record CacheFor (d : Picture) (index : ℕ) (x : TreeArena) (q : Request)
     (c : QuantumCacheState) (o : OwnCacheState) : Type 0 where
   pub cache : ℕ
   pub size : rounded x.quantum q.size ≡ (cache + 1) * x.quantum
-  pub shared : IsCacheAt d.spaces place cache c
-  pub own : IsOwnAt (selected_caches d) place cache o
+  pub shared : IsCacheAt d.spaces index cache c
+  pub own : IsOwnAt (selected_caches d) index cache o
 
 -- the selected CPU can take a chunk: one of its rounds, one of a full magazine of the depot's,
 -- which is of the size of its own, or an idle one of a slab
@@ -48,83 +48,83 @@ CanTake c o = (own_rounds o ≢ [])
     ⊎ (idle_chunks c.slab ≢ [])
 
 abbrev pub HasChunk : Picture → ℕ → TreeArena → Request → Type 0
-HasChunk d place x q =
-    (c : QuantumCacheState) × (o : OwnCacheState) × CacheFor d place x q c o × CanTake c o
+HasChunk d index x q =
+    (c : QuantumCacheState) × (o : OwnCacheState) × CacheFor d index x q c o × CanTake c o
 
 -- Something serves the request: of the arena's caches, where it has some for it; for one that isn't
 -- constrained an address of the arena, or one of its sources, from which it would import; for one
 -- that is, an address of the arena alone.
 abbrev pub CanServe : Picture → ℕ → TreeArena → Request → Type 0
-CanServe d place x q = (IsCachedIn x q × HasChunk d place x q)
-    ⊎ (IsPlain q × HasPlaceUp d.spaces (chain_in d.tree place) q.size)
-    ⊎ ((¬ IsPlain q) × HasPlace d.spaces place q)
+CanServe d index x q = (IsCachedIn x q × HasChunk d index x q)
+    ⊎ (IsPlain q × HasBaseUp d.spaces (chain_in d.tree index) q.size)
+    ⊎ ((¬ IsPlain q) × HasBase d.spaces index q)
 
 -- each unit of the segment was free in the arena or, outside its spans, in a source, or it was in a
 -- slab, a depot or a magazine of the selected CPU
 abbrev pub WasReachable : Picture → ℕ → Tag → Type 0
-WasReachable d place t = (s : SpaceState) → slice_get d.spaces place ≡ Some s → (u : ℕ)
-    → Covers t.holding.range u → IsReachable d.spaces (selected_outside d) place s u
+WasReachable d index t = (s : SpaceState) → slice_get d.spaces index ≡ Some s → (u : ℕ)
+    → Covers t.holding.range u → IsReachable d.spaces (selected_outside d) index s u
 
 -- how the arena's caches served it: by a round, by an idle chunk, by one of a new slab or, where no
 -- slab fits, by a climb for the request itself; and nothing else changed
 abbrev pub CachesServe : ℕ → TreeArena → Request → Tag → Picture → Picture → Type 0
-CachesServe place x q t old new = (c : QuantumCacheState) × (o : OwnCacheState)
-    × (f : CacheFor old place x q c o)
-    × (WasRound place f.cache c t old new ⊎ WasIdle place f.cache c t old new
-    ⊎ (LacksChunks place f.cache c old new
-    × (IsOfNewSlab (chain_in old.tree place) x.slab_size place f.cache t old.spaces new.spaces
-    ⊎ ((¬ HasPlaceUp old.spaces (chain_in old.tree place) x.slab_size)
-    × Climbs (chain_in old.tree place) q.size t old.spaces new.spaces))))
+CachesServe index x q t old new = (c : QuantumCacheState) × (o : OwnCacheState)
+    × (f : CacheFor old index x q c o)
+    × (WasRound index f.cache c t old new ⊎ WasIdle index f.cache c t old new
+    ⊎ (LacksChunks index f.cache c old new
+    × (IsOfNewSlab (chain_in old.tree index) x.slab_size index f.cache t old.spaces new.spaces
+    ⊎ ((¬ HasBaseUp old.spaces (chain_in old.tree index) x.slab_size)
+    × Climbs (chain_in old.tree index) q.size t old.spaces new.spaces))))
 
 -- where the segment is from: of a constrained request one carve and nothing else; where no cache
 -- serves, a climb and nothing else; else of the caches, and of what was reachable
 abbrev pub ComesFrom : ℕ → TreeArena → Request → Tag → Picture → Picture → Type 0
-ComesFrom place x q t old new =
-    ((¬ IsPlain q) × CarvesAt place q t old.spaces new.spaces × (new.cpus ≡ old.cpus))
+ComesFrom index x q t old new =
+    ((¬ IsPlain q) × CarvesAt index q t old.spaces new.spaces × (new.cpus ≡ old.cpus))
     ⊎ (IsPlain q × (¬ IsCachedIn x q)
-    × Climbs (chain_in old.tree place) q.size t old.spaces new.spaces × (new.cpus ≡ old.cpus))
-    ⊎ (IsCachedIn x q × WasReachable old place t × CachesServe place x q t old new)
+    × Climbs (chain_in old.tree index) q.size t old.spaces new.spaces × (new.cpus ≡ old.cpus))
+    ⊎ (IsCachedIn x q × WasReachable old index t × CachesServe index x q t old new)
 
 -- the request was served with the segment
-pub record ServesWith (place : ℕ) (x : TreeArena) (q : Request) (t : Tag) (old new : Picture)
+pub record ServesWith (index : ℕ) (x : TreeArena) (q : Request) (t : Tag) (old new : Picture)
     : Type 0 where
-  pub arena : t.arena ≡ place
+  pub arena : t.arena ≡ index
   pub fits : Fits x.quantum q t.holding.range.base t.holding.range.len
-  pub from : ComesFrom place x q t old new
+  pub from : ComesFrom index x q t old new
   pub names : SameNames old new
 
 -- the CPU's cache for it has no round, and at most changed over; no other cache of a CPU changed
 abbrev pub LooksInVain : ℕ → TreeArena → Request → Picture → Picture → Type 0
-LooksInVain place x q old new = (c : QuantumCacheState) × (o : OwnCacheState)
-    × (f : CacheFor old place x q c o) × OnSelected place f.cache (LacksRounds c.depot) old new
+LooksInVain index x q old new = (c : QuantumCacheState) × (o : OwnCacheState)
+    × (f : CacheFor old index x q c o) × OnSelected index f.cache (LacksRounds c.depot) old new
 
 -- nothing serves it: only that where caches serve the selected CPU's magazines may have got greater
-pub record ServesNone (place : ℕ) (x : TreeArena) (q : Request) (old new : Picture) : Type 0 where
-  pub none : ¬ CanServe old place x q
+pub record ServesNone (index : ℕ) (x : TreeArena) (q : Request) (old new : Picture) : Type 0 where
+  pub none : ¬ CanServe old index x q
   pub spaces : new.spaces ≡ old.spaces
-  pub cpus : (new.cpus ≡ old.cpus) ⊎ (IsCachedIn x q × LooksInVain place x q old new)
+  pub cpus : (new.cpus ≡ old.cpus) ⊎ (IsCachedIn x q × LooksInVain index x q old new)
   pub names : SameNames old new
 
 -- what it was served with went back
 abbrev pub ServesInVain : ℕ → TreeArena → Request → Picture → Picture → Type 0
-ServesInVain place x q old new = (t : Tag) × (mid : Picture) × (mid.book ≡ old.book)
-    × HoldsInHand t mid × ServesWith place x q t old mid × GoesBack t mid new
+ServesInVain index x q old new = (t : Tag) × (mid : Picture) × (mid.book ≡ old.book)
+    × HoldsInHand t mid × ServesWith index x q t old mid × GoesBack t mid new
 
 -- its caches have no chunk, and what was climbed for went back: for a slab, or where none fits for
 -- the request itself
 abbrev pub SlabsInVain : ℕ → TreeArena → Request → Picture → Picture → Type 0
-SlabsInVain place x q old new = (c : QuantumCacheState) × (o : OwnCacheState)
-    × (f : CacheFor old place x q c o) × LacksChunks place f.cache c old new
-    × (ClimbsInVain (chain_in old.tree place) x.slab_size old.spaces new.spaces
-    ⊎ ((¬ HasPlaceUp old.spaces (chain_in old.tree place) x.slab_size)
-    × ClimbsInVain (chain_in old.tree place) q.size old.spaces new.spaces))
+SlabsInVain index x q old new = (c : QuantumCacheState) × (o : OwnCacheState)
+    × (f : CacheFor old index x q c o) × LacksChunks index f.cache c old new
+    × (ClimbsInVain (chain_in old.tree index) x.slab_size old.spaces new.spaces
+    ⊎ ((¬ HasBaseUp old.spaces (chain_in old.tree index) x.slab_size)
+    × ClimbsInVain (chain_in old.tree index) q.size old.spaces new.spaces))
 
 -- out of memory: nothing changed, or what was taken on the way went back
 abbrev pub FallsBack : ℕ → TreeArena → Request → Picture → Picture → Type 0
-FallsBack place x q old new =
-    ((¬ IsPlain q) × CarvesInVain place q old.spaces new.spaces × (new.cpus ≡ old.cpus))
+FallsBack index x q old new =
+    ((¬ IsPlain q) × CarvesInVain index q old.spaces new.spaces × (new.cpus ≡ old.cpus))
     ⊎ (IsPlain q × (¬ IsCachedIn x q)
-    × ClimbsInVain (chain_in old.tree place) q.size old.spaces new.spaces
+    × ClimbsInVain (chain_in old.tree index) q.size old.spaces new.spaces
     × (new.cpus ≡ old.cpus))
     ⊎ (IsCachedIn x q × (((new.spaces ≡ old.spaces) × (new.cpus ≡ old.cpus))
-    ⊎ SlabsInVain place x q old new ⊎ ServesInVain place x q old new))
+    ⊎ SlabsInVain index x q old new ⊎ ServesInVain index x q old new))

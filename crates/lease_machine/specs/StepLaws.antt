@@ -1,7 +1,7 @@
 -- That lines have answers: from each picture there is a step of these.
 use Rattle.std.specs.Prelude.{◌≡◌, ◌⊎◌, ℕ, ◌<◌, List, map, slice_get, Some, None, Ok, Err}
 use Rattle.magazine_layer.specs.Depots.{after_tick}
-use Rattle.arena_tree.specs.Trees.{place_in}
+use Rattle.arena_tree.specs.Trees.{index_in}
 use Rattle.stock.specs.Spaces.{SpaceState}
 use Rattle.lease_terms.specs.Requests.{RequestId}
 use Rattle.lease_proto.specs.declared.faults.LineFault.{LineFault}
@@ -13,13 +13,13 @@ use Rattle.lease_proto.specs.declared.operators.ResizeLine.{ResizeLine}
 use Rattle.lease_proto.specs.declared.operators.ServedLine.TheVariants as served
 use Rattle.lease_proto.specs.declared.replies.Reply.{Reply}
 use Rattle.lease_proto.specs.Cpus.{IsCpu}
-use Rattle.lease_proto.specs.Operators.{served_of, rounds_of}
+use Rattle.lease_proto.specs.Operators.{served_of, rounds_named}
 use Rattle.lease_book.specs.BookState.{account_in}
 use Rattle.lease_machine.specs.Picture.{Picture, IsPicture, SameSetup}
 use Rattle.lease_machine.specs.Operators.{HasSmaller, Resizes, on_depots}
 use Rattle.lease_machine.specs.Replies.{IsKnownReply}
 use Rattle.lease_machine.specs.Machine.{LeaseStep}
-use Rattle.lease_machine.specs.AnswerLaws.{written, IsRequestLine}
+use Rattle.lease_machine.specs.AnswerLaws.{reply_bytes, IsRequestLine}
 
 -- there is an answer to the line
 abbrev pub HasAnswer : Picture → List ℕ → Type 0
@@ -34,7 +34,7 @@ FaultsAreAnswered = (d : Picture) (line : List ℕ) (fault : LineFault) → IsPi
 abbrev pub KnownAreAnswered : Type 0
 KnownAreAnswered = (d : Picture) (line : List ℕ) (id : RequestId) (op : Op) (r : Reply)
     → IsPicture d → IsRequestLine line id op → IsKnownReply d id r
-    → LeaseStep d line (written r) d
+    → LeaseStep d line (reply_bytes r) d
 
 -- a hello of an older incarnation than the client's
 abbrev pub OldHellosAreAnswered : Type 0
@@ -65,9 +65,9 @@ TicksAreAnswered = (d : Picture) (line : List ℕ) → IsPicture d
 abbrev pub VainResizesAreAnswered : Type 0
 VainResizesAreAnswered = (d : Picture) (line : List ℕ) (r : ResizeLine) → IsPicture d
     → served_of line ≡ Ok (served.Operator (operator.Resize r))
-    → (place_in r.arena d.tree ≡ None) ⊎ ((place : ℕ) × (s : SpaceState)
-    × (place_in r.arena d.tree ≡ Some place) × (slice_get d.spaces place ≡ Some s)
-    × (¬ HasSmaller (rounds_of r.size) s))
+    → (index_in r.arena d.tree ≡ None) ⊎ ((index : ℕ) × (s : SpaceState)
+    × (index_in r.arena d.tree ≡ Some index) × (slice_get d.spaces index ≡ Some s)
+    × (¬ HasSmaller (rounds_named r.size) s))
     → HasAnswer d line
 
 -- an interval that begins in each depot leaves a picture of the same setup
@@ -79,4 +79,4 @@ TicksKeep = (d : Picture) → IsPicture d
 -- and so do greater magazines
 abbrev pub ResizesKeep : Type 0
 ResizesKeep = (old new : Picture) (r : ResizeLine) (text : List ℕ) → IsPicture old
-    → Resizes r.arena (rounds_of r.size) old text new → IsPicture new × SameSetup old new
+    → Resizes r.arena (rounds_named r.size) old text new → IsPicture new × SameSetup old new

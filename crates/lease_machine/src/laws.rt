@@ -6,14 +6,14 @@ ghost use Rattle.lease_machine.specs.CallLaws.{OfflineIsLocal, DrainGoesOffline}
 ghost use Rattle.lease_machine.specs.ReapLaws.{ReapReaps, ReapsNone, ReapingsAdd, CachedUnitsFit};
 ghost use Rattle.lease_machine.specs.CpuLaws.{FreshIsPicture, SelectedIsPicture, FreshCpuFits};
 ghost use Rattle.lease_machine.specs.CacheLaws.{CachedByNumber};
-ghost use Rattle.lease_machine.specs.Laws.{PicturesStay, SetupStays, UnitsHaveOnePlace};
+ghost use Rattle.lease_machine.specs.Laws.{PicturesStay, SetupStays, UnitsHaveOneHome};
 ghost use Rattle.lease_machine.specs.Laws.{LeasesAreApart, AuditTellsLeases, AuditIsWhole};
 ghost use Rattle.lease_machine.specs.Laws.{AuditIsTold};
 ghost use Rattle.lease_machine.specs.AnswerLaws.{LinesRepeat, AnswersAgree, GrantsFit};
 ghost use Rattle.lease_machine.specs.AnswerLaws.{KeptGrantsFit, GrantsWereReachable, RepeatsFit};
 ghost use Rattle.lease_machine.specs.RoomLaws.{NoFitMeansTaken, NoFitMeansTakenUp};
 ghost use Rattle.lease_machine.specs.RoomLaws.{FreedIsWhole, FirstLeaseIsServed, FewerFitToo};
-ghost use Rattle.lease_machine.specs.RoomLaws.{NeverBoth};
+ghost use Rattle.lease_machine.specs.RoomLaws.{NeverGrantedAndRefused};
 ghost use Rattle.lease_machine.specs.EmptyingLaws.{ReapLeavesNone, OfflineHasNoRound};
 ghost use Rattle.lease_machine.specs.EmptyingLaws.{TickAndReapEmpty, AgainMeansRoom};
 ghost use Rattle.lease_machine.specs.StepLaws.{FaultsAreAnswered, KnownAreAnswered};
@@ -28,11 +28,11 @@ pub fn picture_laws()
     ensures cpu { FreshCpuFits }
 {}
 
-/// After any lines each unit is in one place, and no two leases of one space overlap.
-pub fn place_laws()
+/// After any lines each unit is in one home, and no two leases of one space overlap.
+pub fn home_laws()
     ensures stay { PicturesStay }
     ensures setup { SetupStays }
-    ensures place { UnitsHaveOnePlace }
+    ensures home { UnitsHaveOneHome }
     ensures apart { LeasesAreApart }
 {}
 
@@ -66,7 +66,7 @@ pub fn no_fit_laws()
     ensures freed { FreedIsWhole }
     ensures first { FirstLeaseIsServed }
     ensures fewer { FewerFitToo }
-    ensures never_both { NeverBoth }
+    ensures never_both { NeverGrantedAndRefused }
 {}
 
 /// A reaping leaves nothing to reap, and a CPU that goes offline no round; so once nothing is

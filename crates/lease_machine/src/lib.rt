@@ -13,6 +13,6 @@
 mod laws;
 
 pub use laws::{
-    audit_laws, cache_laws, call_laws, depot_laws, emptying_laws, grant_laws, no_fit_laws,
-    picture_laws, place_laws, reap_laws, repeat_laws, step_laws,
+    audit_laws, cache_laws, call_laws, depot_laws, emptying_laws, grant_laws, home_laws,
+    no_fit_laws, picture_laws, reap_laws, repeat_laws, step_laws,
 };

@@ -5,7 +5,7 @@ use Rattle.std.proofs.lemmas.Bool.{ne_eqb, cases_Bool, cases_eq, leb-true, leb-f
 use Rattle.std.proofs.Math.Seq.{take-append-add}
 use Rattle.std.specs.List.{flat_map, AllByRecursion}
 use Rattle.lease_proto.specs.declared.limits.TheConstants.{LONGEST_LINE, LINE_ROOM}
-use Rattle.lease_proto.specs.Frames.{frame_of, last_of, frames_in, rest_in, ended, IsOneLine, FramesAreLines, InputIsLines}
+use Rattle.lease_proto.specs.Frames.{frame_of, last_of, frames_in, rest_in, with_line_feed, IsOneLine, FramesAreLines, InputIsLines}
 use Rattle.lease_proto.specs.declared.faults.LineFault.TheVariants.{TooLong, BadLine}
 
 -- text with no line feed goes onto the line begun
@@ -40,10 +40,10 @@ rest_in-append line (x ∷ xs) bs =
     ]
 
 -- a line that its line feed ends
-pub frames_in-ended : (line text : List ℕ) → IsOneLine text → frames_in line (ended text) ≡ frame_of (line ++ text) ∷ []
+pub frames_in-ended : (line text : List ℕ) → IsOneLine text → frames_in line (with_line_feed text) ≡ frame_of (line ++ text) ∷ []
 frames_in-ended line text one = frames_in-text line text (10 ∷ []) one
 
-pub rest_in-ended : (line text : List ℕ) → IsOneLine text → rest_in line (ended text) ≡ []
+pub rest_in-ended : (line text : List ℕ) → IsOneLine text → rest_in line (with_line_feed text) ≡ []
 rest_in-ended line text one = rest_in-text line text (10 ∷ []) one
 
 pub frames_in-none : (line text : List ℕ) → IsOneLine text → frames_in line text ≡ []
@@ -93,27 +93,27 @@ rest_in-take line (b ∷ bs) =
     ≡ take LINE_ROOM (cond t (rest_in [] bs) (rest_in (line ++ b ∷ []) bs))) [ true ↦ refl | false ↦ same ]
 
 -- what follows one line that is ended
-one_more : (text bs : List ℕ) → IsOneLine text → (frames_in [] (ended text ++ bs) ≡ frame_of text ∷ frames_in [] bs) × (rest_in [] (ended text ++ bs) ≡ rest_in [] bs)
+one_more : (text bs : List ℕ) → IsOneLine text → (frames_in [] (with_line_feed text ++ bs) ≡ frame_of text ∷ frames_in [] bs) × (rest_in [] (with_line_feed text ++ bs) ≡ rest_in [] bs)
 one_more text bs one = (
-  frames_in-append [] (ended text) bs ∙ rw (frames_in-ended [] text one, rest_in-ended [] text one) refl,
-  rest_in-append [] (ended text) bs ∙ rw (rest_in-ended [] text one) refl,
+  frames_in-append [] (with_line_feed text) bs ∙ rw (frames_in-ended [] text one, rest_in-ended [] text one) refl,
+  rest_in-append [] (with_line_feed text) bs ∙ rw (rest_in-ended [] text one) refl,
 )
 
 pub framed : FramesAreLines
 framed [] rest none one = rw (frames_in-none [] rest one, rest_in-none [] rest one) refl
 framed (line ∷ lines) rest each one =
-    let step = one_more line (flat_map ended lines ++ rest) each.0 in
-    rw (append_assoc (ended line) (flat_map ended lines) rest, step.0, step.1)
+    let step = one_more line (flat_map with_line_feed lines ++ rest) each.0 in
+    rw (append_assoc (with_line_feed line) (flat_map with_line_feed lines) rest, step.0, step.1)
     (ap (λ r. frame_of line ∷ r) (framed lines rest each.1 one))
 
 -- an input that is made of lines and a rest
 abbrev InputIs : List ℕ → Type 0
 InputIs input = (lines : List (List ℕ)) × (rest : List ℕ) × AllByRecursion IsOneLine lines × IsOneLine rest
-    × (input ≡ flat_map ended lines ++ rest)
+    × (input ≡ flat_map with_line_feed lines ++ rest)
 
 -- a byte that is no line feed, in front of one
 onto : (b : ℕ) (bs : List ℕ) → b ≢ 10 → (lines : List (List ℕ)) (rest : List ℕ) → AllByRecursion IsOneLine lines → IsOneLine rest
-    → bs ≡ flat_map ended lines ++ rest → InputIs (b ∷ bs)
+    → bs ≡ flat_map with_line_feed lines ++ rest → InputIs (b ∷ bs)
 onto b bs other [] rest each one is = ([], b ∷ rest, tt, (other, one), ap (λ r. b ∷ r) is)
 onto b bs other (line ∷ lines) rest each one is = ((b ∷ line) ∷ lines, rest, ((other, each.0), each.1), one, ap (λ r. b ∷ r) is)
 
@@ -138,7 +138,7 @@ one_line [] none = tt
 one_line (x ∷ xs) none = (none 0 (omega arith), one_line xs (λ k below. none (suc k) (omega arith)))
 
 -- the bytes up to a line feed
-pub up_to : (piece : List ℕ) (i : ℕ) → i < length piece → get_or piece i 0 ≡ 10 → take (i + 1) piece ≡ ended (take i piece)
+pub up_to : (piece : List ℕ) (i : ℕ) → i < length piece → get_or piece i 0 ≡ 10 → take (i + 1) piece ≡ with_line_feed (take i piece)
 up_to piece i below is = take_more piece i 0 below ∙ ap (λ b. take i piece ++ b ∷ []) is
 
 pub one_line_before : (piece : List ℕ) (i : ℕ) → i < length piece → ((k : ℕ) → k < i → get_or piece k 0 ≢ 10) → IsOneLine (take i piece)

@@ -37,8 +37,8 @@ abbrev pub frames_of : List ℕ → List Frame
 frames_of input = frames_in [] input ++ last_of (rest_in [] input)
 
 -- a line with its line feed
-abbrev pub ended : List ℕ → List ℕ
-ended line = line ++ 10 ∷ []
+abbrev pub with_line_feed : List ℕ → List ℕ
+with_line_feed line = line ++ 10 ∷ []
 
 -- no line feed stands in it
 abbrev pub IsOneLine : List ℕ → Type 0
@@ -54,13 +54,13 @@ pub record IsWholeLine (text : List ℕ) : Type 0 where
 abbrev pub FramesAreLines : Type 0
 FramesAreLines = (lines : List (List ℕ)) (rest : List ℕ)
     → AllByRecursion IsOneLine lines → IsOneLine rest
-    → frames_of (flat_map ended lines ++ rest) ≡ map frame_of lines ++ last_of rest
+    → frames_of (flat_map with_line_feed lines ++ rest) ≡ map frame_of lines ++ last_of rest
 
 -- each input is made so
 abbrev pub InputIsLines : Type 0
 InputIsLines = (input : List ℕ) → (lines : List (List ℕ)) × (rest : List ℕ)
     × AllByRecursion IsOneLine lines × IsOneLine rest
-    × (input ≡ flat_map ended lines ++ rest)
+    × (input ≡ flat_map with_line_feed lines ++ rest)
 
 -- bytes in two parts: the frames of the first, and then of the second, behind the line that the
 -- first leaves unended
@@ -90,8 +90,8 @@ TextEndsNoLine = (line text : List ℕ) → IsOneLine text
 -- with its line feed it ends the line begun, and no other
 abbrev pub LineFeedEndsLine : Type 0
 LineFeedEndsLine = (line text : List ℕ) → IsOneLine text
-    → (frames_in line (ended text) ≡ frame_of (line ++ text) ∷ [])
-    × (rest_in line (ended text) ≡ [])
+    → (frames_in line (with_line_feed text) ≡ frame_of (line ++ text) ∷ [])
+    × (rest_in line (with_line_feed text) ≡ [])
 
 -- text of which no place is a line feed has none
 abbrev pub NoPlaceIsLineFeed : Type 0

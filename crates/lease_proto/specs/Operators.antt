@@ -18,11 +18,11 @@ use Rattle.lease_proto.specs.Grammar.{word_at, end_at, line_of, line_of_first}
 use Rattle.lease_proto.specs.Texts.{sentence}
 
 -- how many rounds a magazine takes
-abbrev pub rounds_of : MagazineSize → ℕ
-rounds_of size.Three = 3
-rounds_of size.Seven = 7
-rounds_of size.Fifteen = 15
-rounds_of size.ThirtyOne = 31
+abbrev pub rounds_named : MagazineSize → ℕ
+rounds_named size.Three = 3
+rounds_named size.Seven = 7
+rounds_named size.Fifteen = 15
+rounds_named size.ThirtyOne = 31
 
 abbrev pub size_word : MagazineSize → List ℕ
 size_word size.Three = codes "3"

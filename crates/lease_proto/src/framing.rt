@@ -3,7 +3,8 @@ ghost use Rattle.std.specs.Prelude.{◌≡◌, ◌≤◌, ◌<◌, ℕ, List, []
 ghost use Rattle.std.specs.Prelude.{false};
 ghost use Rattle.std.specs.Prelude.{if◌then◌else◌, IfSome, IfNone};
 ghost use Rattle.lease_proto.specs.declared.limits.TheConstants.{LINE_ROOM};
-ghost use Rattle.lease_proto.specs.Frames.{LineReaderState, IsOneLine, ended, frame_of, last_of};
+ghost use Rattle.lease_proto.specs.Frames.{LineReaderState, IsOneLine, with_line_feed, frame_of};
+ghost use Rattle.lease_proto.specs.Frames.{last_of};
 ghost use Rattle.lease_proto.specs.Frames.{frames_in, rest_in, frame_view, faults_of};
 ghost use Rattle.lease_proto.specs.Frames.{FramesAreLines};
 ghost use Rattle.lease_proto.specs.Frames.{InputIsLines, PiecesAreOne, FrontIsEnough, TextGoesOn};
@@ -59,7 +60,7 @@ impl LineReader {
             × (frames_in self.old.line (take result piece.now) ≡ frame_of self.new.line ∷ [])
             × (rest_in self.old.line (take result piece.now) ≡ []) }
         ensures text { (text : List ℕ) × IsOneLine text
-            × (take result piece.now ≡ (if self.new.whole then ended text else text))
+            × (take result piece.now ≡ (if self.new.whole then with_line_feed text else text))
             × (self.new.line ≡ take LINE_ROOM (self.old.line ++ text)) }
     {
         match memchr(b'\n', piece) {

@@ -1,7 +1,7 @@
 //! The lines of a client.
 ghost use Rattle.std.specs.Prelude.{◌≡◌, ◌++◌, IsOk, OnOk, OnErr, [], ◌∷◌, ◌+◌, ◌*◌, ◌≤◌, ℕ, List};
 ghost use Rattle.std.specs.Prelude.{Some, vec_len};
-ghost use Rattle.lease_proto.specs.Frames.{ended};
+ghost use Rattle.lease_proto.specs.Frames.{with_line_feed};
 ghost use Rattle.lease_proto.specs.Grammar.{line_of, line_of_first, hello_in, lease_in, release_in};
 ghost use Rattle.lease_proto.specs.Requests.{client_of, incarnation_of, request_of, op_of};
 ghost use Rattle.lease_proto.specs.declared.lines.TheConstants.{OPTIONS_ROOM};
@@ -266,7 +266,8 @@ impl Line {
     /// Appends the line and a line feed. An option of no constraint is left out. It fails only when
     /// out of memory, and never where there is room for `LINE_ROOM` bytes more.
     pub fn write(&self, out: &mut Vec<u8>) -> Result<(), AllocError>
-        ensures ok { OnOk result (out.new.items ≡ out.old.items ++ ended (text_of self.now)) }
+        ensures ok { OnOk result
+            (out.new.items ≡ out.old.items ++ with_line_feed (text_of self.now)) }
         ensures unchanged { OnErr result (out.new.items ≡ out.old.items) }
         ensures succeeds { vec_len out.old + LINE_ROOM ≤ vec_capacity out.old → IsOk result }
         ensures capacity { vec_capacity out.old ≤ vec_capacity out.new }

@@ -1,7 +1,7 @@
 //! The lines of an operator, and what may be served after a setup.
 ghost use Rattle.std.specs.Prelude.{◌≡◌};
 ghost use Rattle.lease_proto.specs.Operators.{cpu_line_in, resize_in, size_in, operator_in};
-ghost use Rattle.lease_proto.specs.Operators.{served_in, served_of, rounds_of};
+ghost use Rattle.lease_proto.specs.Operators.{served_in, served_of, rounds_named};
 ghost use Rattle.lease_proto.specs.Operators.{ClientsAreServed, OperatorsAreServed};
 ghost use Rattle.lease_proto.specs.Operators as spec;
 
@@ -24,7 +24,7 @@ pub enum MagazineSize {
 impl MagazineSize {
     /// That many.
     pub fn rounds(self) -> usize
-        ensures { result ≡ rounds_of self }
+        ensures { result ≡ rounds_named self }
     {
         match self {
             MagazineSize::Three => 3,

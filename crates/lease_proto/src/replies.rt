@@ -1,7 +1,7 @@
 //! The replies to a client's lines.
 ghost use Rattle.std.specs.Prelude.{◌≡◌, ◌++◌, IsOk, OnOk, OnErr, ◌∷◌, ◌+◌, ◌*◌, ◌≤◌, ℕ, List};
 ghost use Rattle.std.specs.Prelude.{vec_len, length};
-ghost use Rattle.lease_proto.specs.Frames.{ended};
+ghost use Rattle.lease_proto.specs.Frames.{with_line_feed};
 ghost use Rattle.lease_proto.specs.Replies.{reply_of, reply_text, first_reply_word, welcome_in};
 ghost use Rattle.lease_proto.specs.Replies.{granted_in, released_in, refused_in, old_in};
 ghost use Rattle.lease_proto.specs.Replies.{out_of_turn_in, again_in, error_in, welcome_words};
@@ -332,7 +332,8 @@ impl Reply {
     /// Appends the reply and a line feed. It fails only when out of memory, and never where there
     /// is room for `LINE_ROOM` bytes more.
     pub fn write(&self, out: &mut Vec<u8>) -> Result<(), AllocError>
-        ensures ok { OnOk result (out.new.items ≡ out.old.items ++ ended (reply_text self.now)) }
+        ensures ok { OnOk result
+            (out.new.items ≡ out.old.items ++ with_line_feed (reply_text self.now)) }
         ensures unchanged { OnErr result (out.new.items ≡ out.old.items) }
         ensures succeeds { vec_len out.old + LINE_ROOM ≤ vec_capacity out.old → IsOk result }
         ensures capacity { vec_capacity out.old ≤ vec_capacity out.new }

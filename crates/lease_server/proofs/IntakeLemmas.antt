@@ -3,7 +3,7 @@ use Rattle.std.proofs.Common.{◌≡◌, ◌≢◌, ◌==◌, ◌⊎◌, ℕ, �
 use Rattle.std.proofs.lemmas.List.{append-nil, take-take, take_all, take_min, take-append-drop, drop-take, length-take}
 use Rattle.std.proofs.Math.Seq.{drop-nil, drop-length}
 use Rattle.std.proofs.lemmas.Bool.{ne_eqb, cases_Bool, cases_eq}
-use Rattle.lease_proto.specs.Frames.{Frame, LineReaderState, frame_of, frames_in, rest_in, last_of, ended, IsOneLine}
+use Rattle.lease_proto.specs.Frames.{Frame, LineReaderState, frame_of, frames_in, rest_in, last_of, with_line_feed, IsOneLine}
 use Rattle.lease_proto.proofs.LawProofs.{frame_of-take, frames_in-take, rest_in-take, last_of-take, frames_in-append, rest_in-append, one_line, one_line_before, up_to}
 use Rattle.lease_server.specs.Serving.{SameFront}
 use Rattle.lease_server.specs.Intakes.{AtHand, hand_in, frames_at, begun_at, frames_on, frames_to_end, hand_of, HandTells, HandIsWhole, HandIsBegun, HandGoesOn}
@@ -21,7 +21,7 @@ hand_in-none line text one = ap (hand_in line) (sym (append-nil text)) ∙ hand_
 
 -- its line feed ends the line
 pub hand_in-ended : (line text more : List ℕ) → IsOneLine text
-    → hand_in line (ended text ++ more) ≡ record { line = take 256 (line ++ text); whole = true; rest = more }
+    → hand_in line (with_line_feed text ++ more) ≡ record { line = take 256 (line ++ text); whole = true; rest = more }
 hand_in-ended line text more one = ap (hand_in line) (append_assoc text (10 ∷ []) more) ∙ hand_in-text line text (10 ∷ more) one
 
 -- the whole lines are those that end in the bytes
@@ -144,7 +144,7 @@ pub hand_found : (held : LineReaderState) (piece : List ℕ) (hand : AtHand) (i 
     → i < length piece → get_or piece i 0 ≡ 10 → ((k : ℕ) → k < i → get_or piece k 0 ≢ 10)
     → hand ≡ record { line = take 256 (take i piece); whole = true; rest = drop (i + 1) piece }
 hand_found held piece hand i is unended empty below there none =
-    let parts : piece ≡ ended (take i piece) ++ drop (i + 1) piece =
+    let parts : piece ≡ with_line_feed (take i piece) ++ drop (i + 1) piece =
     sym (take-append-drop (i + 1) piece) ∙ ap (λ l. l ++ drop (i + 1) piece) (up_to piece i below there) in
     hand_is_in held piece hand is unended ∙ ap (λ l. hand_in l piece) empty ∙ ap (hand_in []) parts
     ∙ hand_in-ended [] (take i piece) (drop (i + 1) piece) (one_line_before piece i below none)
@@ -191,11 +191,11 @@ not_begun held s e (inr (inr same)) unended some = absurd (omega (arith, same, s
 -- what a line reader that was fed has at hand
 pub fed : (old new : LineReaderState) (piece : List ℕ) (n : ℕ) → old.whole ≡ false
     → (new.whole ≡ false → n ≡ length piece)
-    → (text : List ℕ) × IsOneLine text × (take n piece ≡ (if new.whole then ended text else text)) × (new.line ≡ take 256 (old.line ++ text))
+    → (text : List ℕ) × IsOneLine text × (take n piece ≡ (if new.whole then with_line_feed text else text)) × (new.line ≡ take 256 (old.line ++ text))
     → hand_of new (drop n piece) ≡ hand_in old.line piece
 fed old new piece n unended all (text, one, parts, line) = elim (cases_Bool new.whole) [
   | inl is ↦
-      let here : take n piece ≡ ended text = parts ∙ rw is refl in
+      let here : take n piece ≡ with_line_feed text = parts ∙ rw is refl in
       let whole : hand_of new (drop n piece) ≡ record { line = new.line; whole = true; rest = drop n piece } = rw is refl in
       whole ∙ ap (λ l. record { line = l; whole = true; rest = drop n piece }) line
       ∙ sym (ap (hand_in old.line) (sym (take-append-drop n piece) ∙ ap (λ l. l ++ drop n piece) here) ∙ hand_in-ended old.line text (drop n piece) one)
@@ -213,7 +213,7 @@ fed old new piece n unended all (text, one, parts, line) = elim (cases_Bool new.
 -- a line reader that was fed what it had behind it, where no line ends there
 pub held_all : (old new : LineReaderState) (piece : List ℕ) (n : ℕ) → (hand_of old piece).whole ≡ false
     → (new.whole ≡ false → n ≡ length piece)
-    → (text : List ℕ) × IsOneLine text × (take n piece ≡ (if new.whole then ended text else text)) × (new.line ≡ take 256 (old.line ++ text))
+    → (text : List ℕ) × IsOneLine text × (take n piece ≡ (if new.whole then with_line_feed text else text)) × (new.line ≡ take 256 (old.line ++ text))
     → new ≡ record { line = (hand_of old piece).line; whole = false }
 held_all old new piece n unended all given =
     let (closed, same, one) = hand_open old piece (hand_of old piece) refl unended in

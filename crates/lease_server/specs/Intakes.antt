@@ -2,7 +2,7 @@
 use Rattle.std.specs.Prelude.{◌≡◌, ◌==◌, ◌≤◌, ◌<◌, ◌+◌, ◌^◌, ℕ, Bool, true, false}
 use Rattle.std.specs.Prelude.{List, [], ◌∷◌, ◌++◌, length, take, if◌then◌else◌, Option}
 use Rattle.std.specs.Io.KnownBytes.{Consumes, IsAtEnd, Keeps}
-use Rattle.lease_proto.specs.Frames.{Frame, IsOneLine, ended, frame_of, frames_in, rest_in}
+use Rattle.lease_proto.specs.Frames.{Frame, IsOneLine, with_line_feed, frame_of, frames_in, rest_in}
 use Rattle.lease_proto.specs.Frames.{frames_of, last_of, LineReaderState}
 use Rattle.lease_proto.specs.declared.limits.TheConstants.{LINE_ROOM}
 use Rattle.lease_server.specs.declared.intakes.TheConstants.{MOST_READS, PIECE}
@@ -82,7 +82,7 @@ HandTells = (bytes more : List ℕ)
 -- a line is whole where a line feed came: it is the text before the first one
 abbrev pub HandIsWhole : Type 0
 HandIsWhole = (line bytes : List ℕ) → (hand_in line bytes).whole ≡ true
-    → (text : List ℕ) × (rest : List ℕ) × IsOneLine text × (bytes ≡ ended text ++ rest)
+    → (text : List ℕ) × (rest : List ℕ) × IsOneLine text × (bytes ≡ with_line_feed text ++ rest)
     × (hand_in line bytes
     ≡ record { line = take LINE_ROOM (line ++ text); whole = true; rest = rest })
 

@@ -16,6 +16,6 @@ pub trait Responder {
     fn answer(&mut self, line: &[u8], out: &mut Vec<u8>) -> Result<(), AllocError>
         ensures ok { OnOk result ((reply : List ℕ) × (out.new.items ≡ out.old.items ++ reply)
             × may_answer self.old line.now reply self.new) }
-        ensures err { OnErr result (out.new.items ≡ out.old.items) }
+        ensures unwritten { OnErr result (out.new.items ≡ out.old.items) }
         ensures unchanged { OnErr result (self.new ≡ self.old) };
 }

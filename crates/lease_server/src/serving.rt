@@ -118,7 +118,7 @@ fn answer_line<P: Responder>(
 ) -> Result<(), AllocError>
     ensures ok { OnOk result (Answers P.may_answer responder.old (frame_of line.now ∷ [])
         out.old.items out.new.items responder.new) }
-    ensures err { OnErr result (out.new.items ≡ out.old.items) }
+    ensures unwritten { OnErr result (out.new.items ≡ out.old.items) }
     ensures unchanged { OnErr result (responder.new ≡ responder.old) }
 {
     if line.len() <= LONGEST_LINE {

@@ -19,8 +19,8 @@ module _ {K : Type 0} (may_reply : K → Line → Reply → K → Type 0) (may_t
   WorkerMayAnswer old line text new = MayAnswer may_reply (worker_of old) line text (worker_of new)
 
   -- all lines of a connection are answered, and the worker tidied after them
-  abbrev pub Serves : Streams → Streams → ClientLines K → ClientLines K → Type 0
-  Serves old new first last = (mid : ClientLines K)
+  abbrev pub ServesConnection : Streams → Streams → ClientLines K → ClientLines K → Type 0
+  ServesConnection old new first last = (mid : ClientLines K)
       × ServesAll WorkerMayAnswer (unread_intake.hand) old new first mid
       × may_tidy (worker_of mid) (worker_of last)
 

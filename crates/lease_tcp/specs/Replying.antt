@@ -4,7 +4,7 @@ use Rattle.lease_proto.specs.declared.faults.LineFault.{LineFault}
 use Rattle.lease_proto.specs.declared.lines.Line.{Line}
 use Rattle.lease_proto.specs.declared.replies.Reply.{Reply}
 use Rattle.lease_proto.specs.Faults.{error_line}
-use Rattle.lease_proto.specs.Frames.{ended}
+use Rattle.lease_proto.specs.Frames.{with_line_feed}
 use Rattle.lease_proto.specs.Grammar.{line_of}
 use Rattle.lease_proto.specs.Replies.{reply_text}
 use Rattle.lease_tcp.specs.declared.replying.ClientLines.{ClientLines}
@@ -18,7 +18,7 @@ module _ {K : Type 0} (may_reply : K → Line → Reply → K → Type 0) where
   -- worker stays as it was
   abbrev pub AnswersRead : K → Result Line LineFault → List ℕ → K → Type 0
   AnswersRead old (Ok line) text new = (reply : Reply) × may_reply old line reply new
-      × (text ≡ ended (reply_text reply))
+      × (text ≡ with_line_feed (reply_text reply))
   AnswersRead old (Err fault) text new = (text ≡ error_line fault) × (new ≡ old)
 
   -- the same, of a line's bytes without the line feed

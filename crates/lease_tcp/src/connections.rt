@@ -1,7 +1,7 @@
 //! One connection, over any reader and writer.
 ghost use Rattle.std.specs.Prelude.{◌≡◌, [], false, OnOk, IfErr};
 ghost use Rattle.lease_server.specs.Watching.{inner_of, has_failed, streams_of};
-ghost use Rattle.lease_tcp.specs.Connections.{Serves, BreaksOff};
+ghost use Rattle.lease_tcp.specs.Connections.{ServesConnection, BreaksOff};
 
 use crate::replying::ClientLines;
 use crate::workers::Worker;
@@ -19,7 +19,7 @@ pub fn serve_connection<R: Read, W: Write, K: Worker>(
     lines: &mut ClientLines<K>,
 ) -> Result<(), ServeFault>
     requires { (has_failed reader.old ≡ false) × (has_failed writer.old ≡ false) }
-    ensures ok { OnOk result (Serves K.may_reply K.may_tidy
+    ensures ok { OnOk result (ServesConnection K.may_reply K.may_tidy
         (streams_of R.remaining W.contents reader.old writer.old)
         (streams_of R.remaining W.contents reader.new writer.new) lines.old lines.new) }
     ensures err { IfErr result (BreaksOff K.may_reply K.may_tidy

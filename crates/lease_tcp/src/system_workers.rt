@@ -25,9 +25,9 @@ pub struct SystemWorker<'a, N: Name, R: Wait> {
 }
 
 impl<'a, N: Name, R: Wait> Model for SystemWorker<'a, N, R> {
-    ghost use Rattle.lease_tcp.specs.Workers.{WorkerState};
+    ghost use Rattle.lease_tcp.specs.Workers.{SystemWorkerState};
 
-    ghost Value = { WorkerState };
+    ghost Value = { SystemWorkerState };
 
     ghost view = { λ w. record { arenas = w.system.now.arenas; cpu = w.cpu } };
 }

@@ -12,7 +12,7 @@ use Rattle.quantum_cache.specs.declared.emptying_faults.EmptyingFault.{EmptyingF
 use Rattle.quantum_cache.specs.declared.reaps.Reaping.{Reaping}
 use Rattle.quantum_cache.specs.Drains.{tag_emptying_fault}
 use Rattle.quantum_cache.specs.Reaps.{ReapEnd, reap_arena_plan}
-use Rattle.lease_threads.specs.Reaping.{EndsSoundly, HasReaped, Reaps, unplaced}
+use Rattle.lease_threads.specs.Reaping.{EndsSoundly, HasReaped, ReapsSoundly, unplaced}
 
 path_ends : {S A : Type 0} (step : S → (e : Event) → AnswerTo e → S → Type 0) (tree : S → List Node) (count rounds : S → ℕ) (nodes : List Node) (p : Plan A) (s t : S) (a : A) → tree s ≡ nodes → Path (Step step tree count rounds) p s t a → EndsSoundly nodes p a
 path_ends step tree count rounds nodes (Done b) s t a is d = d.1
@@ -21,6 +21,6 @@ path_ends step tree count rounds nodes (Ask e f) s t a is d =
 
 -- its answers were sound
 pub ran_reaps : {S : Type 0} (step : S → (e : Event) → AnswerTo e → S → Type 0) (tree : S → List Node) (count rounds : S → ℕ) (arenas chained : List TreeArena) (arena limit units : ℕ) (hand : Option Tag) (chain : List Level) (s t : S) (end : ReapEnd)
-    → Ran step tree count rounds (reap_arena_plan chain (record { left = limit; units = 0 })) s t end → tree s ≡ nodes_of arenas → chained ≡ arenas → ChainFrom chained (Some arena) chain → HasReaped end units hand → Reaps arenas arena limit units hand
+    → Ran step tree count rounds (reap_arena_plan chain (record { left = limit; units = 0 })) s t end → tree s ≡ nodes_of arenas → chained ≡ arenas → ChainFrom chained (Some arena) chain → HasReaped end units hand → ReapsSoundly arenas arena limit units hand
 ran_reaps step tree count rounds arenas chained arena limit units hand chain s t end ran seen is from has =
     (chain, subst (λ xs. ChainFrom xs (Some arena) chain) is from, end, has, path_ends step tree count rounds (nodes_of arenas) (reap_arena_plan chain (record { left = limit; units = 0 })) s t end seen ran.path)

@@ -6,7 +6,7 @@ use Rattle.deed_core.specs.Tag.{Tag}
 use Rattle.deed_core.specs.Request.{Fits}
 use Rattle.lease_book.specs.Receipts.{ReceiptState, IsEarned}
 use Rattle.lease_book.specs.BookState.{BookState, account_in}
-use Rattle.lease_book.specs.Entry.{Settlement, Grant, Return, Refuse, kept}
+use Rattle.lease_book.specs.Entry.{Settlement, Grant, Return, Refuse, kept_settlement}
 use Rattle.lease_book.specs.Answers.{receipt, IsLook, IsAnswer, IsRepeated, answer_of}
 use Rattle.lease_book.specs.Calls.{IsGranted, IsRefused, IsReleased}
 use Rattle.lease_book.specs.declared.answers.Answer.{Answer}
@@ -20,7 +20,7 @@ module _ (book : BookState) (id : RequestId) (mark : book.mark.root ≡ mark_roo
   pub repeated : (v : ReceiptState) → IsRepeated book (account_in id.client book) id v → IsReceiptOf id v
   repeated v is = record { book = is.of_book ∙ mark; request = is.request; earned = is.earned }
 
-  made : (s : Settlement) (v : ReceiptState) → IsEarned (kept id.number s).reply (kept id.number s).terms → v ≡ receipt book id (kept id.number s) → IsReceiptOf id v
+  made : (s : Settlement) (v : ReceiptState) → IsEarned (kept_settlement id.number s).reply (kept_settlement id.number s).terms → v ≡ receipt book id (kept_settlement id.number s) → IsReceiptOf id v
   made s v earned is = record {
     book = ap (λ (r : ReceiptState). r.book) is ∙ mark;
     request = ap (λ (r : ReceiptState). r.id) is;

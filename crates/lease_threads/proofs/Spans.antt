@@ -36,15 +36,15 @@ one_each (x ∷ xs) false (k, within, other) =
     ((λ no. (let e : false ≡ true = no in absurd (cc))), (λ one. (let less = one k (k + 1) x (omega (arith)) within in let is = lt-ltb (slice_index_or (x ∷ xs) k x).arena (slice_index_or (x ∷ xs) (k + 1) x).arena less in let e : false ≡ true = other x ∙ is in absurd (cc))))
 
 -- the next span is the arena's: those after it are of later arenas
-pub after_taken : (spans : List OwnedSpan) (place arena : ℕ) → OneSpanEach spans → AreFrom arena place spans → AreFrom (arena + 1) (place + 1) spans
-after_taken spans place arena one from k d above within =
-    let here = from place d (omega (arith)) (omega (arith, above, within)) in
-    let less = one place k d (omega (arith, above)) within in
+pub after_taken : (spans : List OwnedSpan) (index arena : ℕ) → OneSpanEach spans → AreFrom arena index spans → AreFrom (arena + 1) (index + 1) spans
+after_taken spans index arena one from k d above within =
+    let here = from index d (omega (arith)) (omega (arith, above, within)) in
+    let less = one index k d (omega (arith, above)) within in
     omega (arith, here, less)
 
 -- it is of another
-pub after_other : (spans : List OwnedSpan) (place arena : ℕ) (s : OwnedSpan) → s ≡ slice_index_or spans place s → (s.arena ≡ arena → ⊥) → OneSpanEach spans → AreFrom arena place spans → AreFrom (arena + 1) place spans
-after_other spans place arena s here other one from k d above within =
+pub after_other : (spans : List OwnedSpan) (index arena : ℕ) (s : OwnedSpan) → s ≡ slice_index_or spans index s → (s.arena ≡ arena → ⊥) → OneSpanEach spans → AreFrom arena index spans → AreFrom (arena + 1) index spans
+after_other spans index arena s here other one from k d above within =
     elim (eq-or-lt_of_le above) [
       | inl same ↦
           (let at : slice_index_or spans k d ≡ s = get_or_from_slice_get spans k s d (slice_get-get_or spans k s within ∙ ap Some (subst (λ n. slice_index_or spans n s ≡ s) same (sym here))) in
@@ -53,8 +53,8 @@ after_other spans place arena s here other one from k d above within =
           let not : (slice_index_or spans k d).arena ≡ arena → ⊥ = λ e. other (sym is ∙ e) in
           omega (arith, least, not))
       | inr below ↦
-          (let least = from place d (omega (arith)) (omega (arith, below, within)) in
-          let less = one place k d below within in
+          (let least = from index d (omega (arith)) (omega (arith, below, within)) in
+          let less = one index k d below within in
           omega (arith, least, less))
     ]
 
@@ -67,15 +67,15 @@ opened_more made new o span first arena before after more is number had took =
     last = append-nil (option_to_list o) ∙ ap option_to_list is ∙ ap (λ n. option_to_list (option_map (λ r. record { root = n; range = r }) span)) number
 
 -- no span is left after the last arena
-pub all_taken : (setup : SetupState) (place count : ℕ) → IsSetup setup → AreFrom count place setup.spans → length setup.arenas ≤ count → place ≤ length setup.spans → take place setup.spans ≡ setup.spans
-all_taken setup place count is from all within =
+pub all_taken : (setup : SetupState) (index count : ℕ) → IsSetup setup → AreFrom count index setup.spans → length setup.arenas ≤ count → index ≤ length setup.spans → take index setup.spans ≡ setup.spans
+all_taken setup index count is from all within =
     elim (eq-or-lt_of_le within) [
       | inl same ↦ ap (λ n. take n setup.spans) same ∙ take-length setup.spans
-      | inr left ↦ absurd (omega (arith, all, from place nothing (omega (arith)) left, low left))
+      | inr left ↦ absurd (omega (arith, all, from index nothing (omega (arith)) left, low left))
     ]
   where
     nothing : OwnedSpan
     nothing = record { arena = 0; range = record { base = 0; len = 0 } }
 
-    low : place < length setup.spans → (slice_index_or setup.spans place nothing).arena < length setup.arenas
-    low left = (let owned = is.owned place nothing left in slice_get_within setup.arenas (slice_index_or setup.spans place nothing).arena owned.0 owned.1.here)
+    low : index < length setup.spans → (slice_index_or setup.spans index nothing).arena < length setup.arenas
+    low left = (let owned = is.owned index nothing left in slice_get_within setup.arenas (slice_index_or setup.spans index nothing).arena owned.0 owned.1.here)

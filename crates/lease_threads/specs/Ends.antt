@@ -25,5 +25,5 @@ IsLeftOf s (NoMemory same) = same ≡ s
 IsLeftOf s (Stuck h) = (h.system.arenas ≡ s.arenas) × (all_ranges h ≡ root_ranges s)
 
 -- the name of the arena with this number
-abbrev pub name_in : List TreeArena → ℕ → Option (List ℕ)
-name_in arenas id = option_map (λ x. x.name) (slice_get arenas id)
+abbrev pub name_at : List TreeArena → ℕ → Option (List ℕ)
+name_at arenas id = option_map (λ x. x.name) (slice_get arenas id)

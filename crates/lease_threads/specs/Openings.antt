@@ -24,9 +24,9 @@ OneSpanEach spans = AllPairs (λ a b. a.arena < b.arena) spans
 abbrev pub new_root : ℕ → Extent → Holding
 new_root arena range = root_of (record { arena = arena; range = range })
 
--- from this place on the spans are of this arena or of later ones
+-- from this index on the spans are of this arena or of later ones
 abbrev pub AreFrom : ℕ → ℕ → List OwnedSpan → Type 0
-AreFrom arena place spans = (k : ℕ) (d : OwnedSpan) → place ≤ k → k < length spans
+AreFrom arena index spans = (k : ℕ) (d : OwnedSpan) → index ≤ k → k < length spans
     → arena ≤ (slice_index_or spans k d).arena
 
 -- the system has the arenas of the setup, and a root for each of its spans

@@ -29,8 +29,9 @@ HasReaped (Ok r) units hand = (units ≡ r.units) × (hand ≡ None)
 HasReaped (Err f) units hand = (units ≡ f.reaping.units) × (hand ≡ unplaced f.cause)
 
 -- the looks at the depots and slab caches of the chain's first arena, so many at most, ended so
-abbrev pub Reaps : List TreeArena → (arena limit units : ℕ) → Option Tag → Type 0
-Reaps arenas arena limit units hand = (chain : List Level) × ChainFrom arenas (Some arena) chain
+abbrev pub ReapsSoundly : List TreeArena → (arena limit units : ℕ) → Option Tag → Type 0
+ReapsSoundly arenas arena limit units hand = (chain : List Level)
+    × ChainFrom arenas (Some arena) chain
     × (end : ReapEnd) × HasReaped end units hand
     × EndsSoundly (nodes_of arenas)
     (reap_arena_plan chain (record { left = limit; units = 0 })) end

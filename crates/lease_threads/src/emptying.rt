@@ -6,7 +6,7 @@ use crate::cpus::Cpu;
 use crate::systems::System;
 use deed_core::Segment;
 use deed_table::{Name, SeatDeed};
-use locked_parts::{OpenGate, Steps};
+use locked_parts::{OpenGate, StepCount};
 use std::sync::Wait;
 
 impl<N: Name> System<N> {
@@ -45,7 +45,7 @@ impl<N: Name> System<N> {
     fn settle_hand<R: Wait>(&self, rt: &R, cpu: &mut Cpu<N>) -> bool
         ensures { result ≡ true → cpu.new.hand ≡ None }
     {
-        let mut steps = Steps::new(cpu.number());
+        let mut steps = StepCount::new(cpu.number());
         match self.place_hand(rt, cpu, &OpenGate, &mut steps) {
             Ok(placed) => placed,
             Err(_) => false,

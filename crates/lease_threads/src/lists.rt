@@ -15,7 +15,7 @@ use arena_tree::{CarveFault, ClimbFault, ReturnFault};
 use deed_core::{Request, Segment};
 use deed_table::{Name, SeatDeed};
 use lease_terms::Refusal;
-use locked_parts::{Gate, RequestStopped, Running, Steps};
+use locked_parts::{Gate, RequestStopped, Running, StepCount};
 use quantum_cache::{alloc, free, xalloc};
 use std::sync::Wait;
 
@@ -37,7 +37,7 @@ impl<N: Name> System<N> {
         rt: &R,
         cpu: &mut Cpu<N>,
         gate: &G,
-        steps: &mut Steps,
+        steps: &mut StepCount,
         arena: u32,
         request: &Request,
     ) -> Result<Segment<SeatDeed<N>>, Unserved>
@@ -63,7 +63,7 @@ impl<N: Name> System<N> {
         rt: &R,
         cpu: &mut Cpu<N>,
         gate: &G,
-        steps: &mut Steps,
+        steps: &mut StepCount,
         arena: u32,
         request: &Request,
     ) -> Result<Segment<SeatDeed<N>>, Unserved>
@@ -101,7 +101,7 @@ impl<N: Name> System<N> {
         rt: &R,
         cpu: &mut Cpu<N>,
         gate: &G,
-        steps: &mut Steps,
+        steps: &mut StepCount,
         arena: u32,
         request: &Request,
     ) -> Result<Segment<SeatDeed<N>>, Unserved>
@@ -151,7 +151,7 @@ impl<N: Name> System<N> {
         rt: &R,
         cpu: &mut Cpu<N>,
         gate: &G,
-        steps: &mut Steps,
+        steps: &mut StepCount,
     ) -> Result<bool, RequestStopped>
         ensures number { cpu.new.number ≡ cpu.old.number }
         ensures empty { IfOk result (λ placed. placed ≡ true → cpu.new.hand ≡ None) }
@@ -197,7 +197,7 @@ impl<N: Name> System<N> {
 }
 
 // A stop that the gate said; any other comes to nothing.
-fn stop_or_again(steps: &Steps) -> Unserved
+fn stop_or_again(steps: &StepCount) -> Unserved
     ensures said { result ≡ Unserved.Stopped → steps.now.noted ≡ true }
     ensures never_refused { (hand : Option Tag) → LeavesHand result hand }
 {

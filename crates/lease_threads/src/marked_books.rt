@@ -2,7 +2,7 @@
 ghost use Rattle.std.specs.Prelude.{◌≡◌, [], IfNone, IfSome, IfOk, IfErr, OnOk, OnErr};
 ghost use Rattle.deed_core.specs.Request.{Fits};
 ghost use Rattle.lease_book.specs.Answers.{IsNew, IsAnswer, IsHelloFault};
-ghost use Rattle.lease_book.specs.BookState.{Enters, account_in, leased};
+ghost use Rattle.lease_book.specs.BookState.{Enters, account_in, leased_segments};
 ghost use Rattle.lease_book.specs.Calls.{IsGranted, IsRefused, IsReleased, IsSwept, IsEnded};
 ghost use Rattle.lease_book.specs.Entry.{Hello};
 ghost use Rattle.lease_terms.specs.Requests.{RequestId};
@@ -65,7 +65,7 @@ impl<N: Name> MarkedBook<N> {
     /// Ends a lease, whichever.
     pub(crate) fn take_lease(&mut self) -> Option<Segment<SeatDeed<N>>>
         ensures event { IfSome result (λ t. (id : RequestId) × IsEnded self.old self.new id t) }
-        ensures none { IfNone result (leased self.old ≡ []) }
+        ensures none { IfNone result (leased_segments self.old ≡ []) }
         ensures unchanged { IfNone result (self.new ≡ self.old) }
     {
         match self.book.take_lease() {

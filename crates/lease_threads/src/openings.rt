@@ -14,7 +14,7 @@ use arena_tree::{OwnedSpan, Setup, Tree};
 use deed_core::Range;
 use deed_table::{Ground, Name, Opener, Root};
 use lease_book::Book;
-use locked_parts::{ArenaPlace, LockedParts, NewArena};
+use locked_parts::{LockedArena, LockedParts, NewArena};
 use std::alloc::{AllocError, Global};
 use std::marker::Model;
 use std::sync::Mutex;
@@ -149,7 +149,7 @@ fn open_book<N: Name>(alloc: Global, rest: &mut Opener<N>) -> Result<MarkedBook<
 // Room for so many arenas of a system and for a root of each.
 struct Room<N: Name> {
     count: usize,
-    places: Vec<ArenaPlace<N>>,
+    arenas: Vec<LockedArena<N>>,
     roots: Vec<OwnedRoot<N>>,
 }
 
@@ -160,22 +160,22 @@ impl<N: Name> Model for Room<N> {
 
     ghost view = { λ r. r.count };
 
-    ghost invariant = { λ r. (vec_len r.places ≡ 0) × (vec_len r.roots ≡ 0)
-        × (r.count ≤ vec_capacity r.places) × (r.count ≤ vec_capacity r.roots) };
+    ghost invariant = { λ r. (vec_len r.arenas ≡ 0) × (vec_len r.roots ≡ 0)
+        × (r.count ≤ vec_capacity r.arenas) × (r.count ≤ vec_capacity r.roots) };
 }
 
 impl<N: Name> Room<N> {
     fn new(alloc: Global, count: usize) -> Result<Room<N>, AllocError>
         ensures { IfOk result (λ room. room ≡ count) }
     {
-        let places = Vec::with_capacity(alloc, count)?;
+        let arenas = Vec::with_capacity(alloc, count)?;
         let Ok(roots) = Vec::with_capacity(alloc, count) else {
-            places.destroy_empty();
+            arenas.destroy_empty();
             return Err(AllocError);
         };
         Ok(Room {
             count,
-            places,
+            arenas,
             roots,
         })
     }
@@ -194,12 +194,12 @@ impl<N: Name> Room<N> {
     {
         let Room {
             count: _,
-            mut places,
+            mut arenas,
             mut roots,
         } = self;
-        lock_all(made, &mut places, &mut roots);
+        lock_all(made, &mut arenas, &mut roots);
         System {
-            parts: LockedParts::new(alloc, tree, places),
+            parts: LockedParts::new(alloc, tree, arenas),
             roots,
             book: Mutex::new(book),
         }
@@ -208,10 +208,10 @@ impl<N: Name> Room<N> {
     fn end(self) {
         let Room {
             count: _,
-            places,
+            arenas,
             roots,
         } = self;
-        places.destroy_empty();
+        arenas.destroy_empty();
         roots.destroy_empty();
     }
 }
@@ -219,10 +219,10 @@ impl<N: Name> Room<N> {
 // Puts each arena under its lock, and its root beside it.
 fn lock_all<N: Name>(
     mut made: Vec<NewArena<N>>,
-    places: &mut Vec<ArenaPlace<N>>,
+    arenas: &mut Vec<LockedArena<N>>,
     roots: &mut Vec<OwnedRoot<N>>,
 )
-    requires places { vec_len places.old + vec_len made ≤ vec_capacity places.old }
+    requires arenas { vec_len arenas.old + vec_len made ≤ vec_capacity arenas.old }
     requires roots { vec_len roots.old + vec_len made ≤ vec_capacity roots.old }
     ensures { map (λ r. r.root) roots.new.items
         ≡ map (λ r. r.root) roots.old.items ++ roots_of made.items }
@@ -232,8 +232,8 @@ fn lock_all<N: Name>(
     while !made.is_empty() {
         let opened = made.remove(0);
         let count = opened.cache_count();
-        let (place, root) = opened.lock(before);
-        places.push_reserved(place);
+        let (locked, root) = opened.lock(before);
+        arenas.push_reserved(locked);
         push_root(roots, arena, root);
         before = before.saturating_add(count);
         arena = arena.saturating_add(1);

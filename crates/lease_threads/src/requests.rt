@@ -17,7 +17,7 @@ use deed_table::{Name, SeatDeed};
 use lease_book::{Answer, HelloFault, NotLeased, Receipt};
 use lease_proto::{HelloLine, LeaseLine, Line, Op, ReleaseLine, Reply, Welcome};
 use lease_terms::{ClientId, Quantity, Refusal, RequestId};
-use locked_parts::{EventName, Gate, RequestStopped, Steps, quantum_of};
+use locked_parts::{EventName, Gate, RequestStopped, StepCount, quantum_of};
 use std::sync::Wait;
 
 // What a lease asks of its arena.
@@ -49,7 +49,7 @@ impl<N: Name> System<N> {
         ensures held { IfOk result (λ r. IfSome cpu.new.hand (λ _. IsAgain r.0)) }
         ensures stopped { OnErr result (MayStop G.may_stop gate.now) }
     {
-        let mut steps = Steps::new(cpu.number());
+        let mut steps = StepCount::new(cpu.number());
         match line {
             Line::Hello(hello) => {
                 let reply = self.greet(rt, cpu, gate, &mut steps, hello)?;
@@ -73,7 +73,7 @@ impl<N: Name> System<N> {
         rt: &R,
         cpu: &mut Cpu<N>,
         gate: &G,
-        steps: &mut Steps,
+        steps: &mut StepCount,
         hello: &HelloLine,
     ) -> Result<Reply, RequestStopped>
         ensures greeting { IfOk result (IsGreeting hello.now) }
@@ -107,7 +107,7 @@ impl<N: Name> System<N> {
         rt: &R,
         cpu: &mut Cpu<N>,
         gate: &G,
-        steps: &mut Steps,
+        steps: &mut StepCount,
         client: ClientId,
     ) -> Result<bool, RequestStopped>
         requires { cpu.old.hand ≡ None }
@@ -137,7 +137,7 @@ impl<N: Name> System<N> {
         rt: &R,
         cpu: &mut Cpu<N>,
         gate: &G,
-        steps: &mut Steps,
+        steps: &mut StepCount,
         id: RequestId,
         lease: &LeaseLine,
     ) -> Result<Told<N>, RequestStopped>
@@ -174,7 +174,7 @@ impl<N: Name> System<N> {
         &self,
         rt: &R,
         gate: &G,
-        steps: &mut Steps,
+        steps: &mut StepCount,
         id: RequestId,
         why: Refusal,
     ) -> Result<Told<N>, RequestStopped>
@@ -198,7 +198,7 @@ impl<N: Name> System<N> {
         rt: &R,
         cpu: &mut Cpu<N>,
         gate: &G,
-        steps: &mut Steps,
+        steps: &mut StepCount,
         id: RequestId,
         arena: u32,
         request: &Request,
@@ -252,7 +252,7 @@ impl<N: Name> System<N> {
         rt: &R,
         cpu: &mut Cpu<N>,
         gate: &G,
-        steps: &mut Steps,
+        steps: &mut StepCount,
         id: RequestId,
         release: &ReleaseLine,
     ) -> Result<Told<N>, RequestStopped>

@@ -5,7 +5,7 @@ ghost use Rattle.lease_threads.specs.Systems.{HoldsNothing};
 use crate::cpus::Cpu;
 use crate::systems::System;
 use deed_table::Name;
-use locked_parts::{OpenGate, Running, Steps};
+use locked_parts::{OpenGate, Running, StepCount};
 use quantum_cache::{EmptyingFault, drain};
 use std::sync::Wait;
 
@@ -38,7 +38,7 @@ impl<N: Name> System<N> {
     fn empty<R: Wait>(&self, rt: &R, cpu: &mut Cpu<N>)
         ensures { cpu.new.number ≡ cpu.old.number }
     {
-        let mut steps = Steps::new(cpu.number());
+        let mut steps = StepCount::new(cpu.number());
         if let Ok(true) = self.place_hand(rt, cpu, &OpenGate, &mut steps) {
             self.drain_rounds(rt, cpu);
         }
@@ -53,7 +53,7 @@ impl<N: Name> System<N> {
             rt,
             gate: &OpenGate,
             caches: &mut cpu.caches,
-            steps: Steps::new(0),
+            steps: StepCount::new(0),
             count: 0,
         };
         match drain(&mut running, self.parts.tree()) {

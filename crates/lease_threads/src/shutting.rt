@@ -1,6 +1,6 @@
 //! The end of a system.
 ghost use Rattle.std.specs.Prelude.{◌≡◌, [], IfOk, IfErr, IfSome, IfNone, Some, None, true};
-ghost use Rattle.lease_threads.specs.Ends.{all_ranges, IsLeftOf, name_in};
+ghost use Rattle.lease_threads.specs.Ends.{all_ranges, IsLeftOf, name_at};
 ghost use Rattle.lease_threads.specs.Systems.{SystemState, root_ranges};
 
 use crate::closing::close_roots;
@@ -48,9 +48,9 @@ pub type Unshut<N> = ShutFault<System<N>, Halted<N>>;
 impl<N: Name> Halted<N> {
     /// The arena where the end stopped: that of the segment, or else the first whose root isn't
     /// closed.
-    pub fn place(&self) -> Option<ArenaName>
+    pub fn stopped_at(&self) -> Option<ArenaName>
         ensures { IfSome self.now.segment (λ t.
-            result ≡ name_in self.now.system.arenas t.arena) }
+            result ≡ name_at self.now.system.arenas t.arena) }
     {
         let arena = match &self.cpu.hand {
             Some(segment) => segment.arena(),

@@ -1,6 +1,6 @@
 //! The system: what stands beside the locks, and what stands under them.
 ghost use Rattle.std.specs.Prelude.{◌≡◌};
-ghost use Rattle.lease_threads.specs.Ends.{name_in};
+ghost use Rattle.lease_threads.specs.Ends.{name_at};
 
 use crate::marked_books::MarkedBook;
 use arena_tree::Tree;
@@ -45,7 +45,7 @@ impl<N: Name> System<N> {
 
     /// The name of the arena with this number.
     pub(crate) fn name_of(&self, arena: u32) -> Option<ArenaName>
-        ensures { result ≡ name_in self.now.arenas arena }
+        ensures { result ≡ name_at self.now.arenas arena }
     {
         let tree = self.parts.tree();
         if arena as usize >= tree.len() {

@@ -1,13 +1,13 @@
 //! What keeps a system in shape while it runs: intervals, sizes of magazines, reaping.
 ghost use Rattle.std.specs.Prelude.{◌≡◌, ◌⊎◌, ◌<◌, ◌≤◌, None, true, length};
 ghost use Rattle.magazine_layer.specs.Magazines.{IsSize};
-ghost use Rattle.locked_parts.specs.Kinds.{caches_of};
-ghost use Rattle.lease_threads.specs.Reaping.{Reaps, KeepsHand};
+ghost use Rattle.locked_parts.specs.Kinds.{count_of_caches};
+ghost use Rattle.lease_threads.specs.Reaping.{ReapsSoundly, KeepsHand};
 
 use crate::cpus::Cpu;
 use crate::systems::System;
 use deed_table::Name;
-use locked_parts::{OpenGate, Running, Steps};
+use locked_parts::{OpenGate, Running, StepCount};
 use quantum_cache::{EmptyingFault, ReapFault, reap_arena};
 use std::sync::Wait;
 
@@ -22,7 +22,7 @@ impl<N: Name> System<N> {
     pub fn resize<R: Wait>(&self, rt: &R, arena: u32, size: usize) -> bool
         requires { IsSize size }
         ensures rose { result ≡ true → (3 < size) × (arena < length self.now.arenas)
-            × (0 < caches_of self.now.arenas arena) }
+            × (0 < count_of_caches self.now.arenas arena) }
     {
         if arena as usize >= self.tree().len() {
             return false;
@@ -37,10 +37,10 @@ impl<N: Name> System<N> {
         ensures number { cpu.new.number ≡ cpu.old.number }
         ensures reaped { arena < length self.now.arenas
             → KeepsHand cpu.old.hand cpu.new.hand result
-            ⊎ Reaps self.now.arenas arena limit result cpu.new.hand }
+            ⊎ ReapsSoundly self.now.arenas arena limit result cpu.new.hand }
         ensures no_arena { length self.now.arenas ≤ arena → result ≡ 0 }
     {
-        let mut steps = Steps::new(cpu.number());
+        let mut steps = StepCount::new(cpu.number());
         match self.place_hand(rt, cpu, &OpenGate, &mut steps) {
             Ok(true) => self.reap_empty(rt, cpu, arena, limit),
             Ok(false) => 0,
@@ -52,7 +52,7 @@ impl<N: Name> System<N> {
         requires { cpu.old.hand ≡ None }
         ensures number { cpu.new.number ≡ cpu.old.number }
         ensures reaped { arena < length self.now.arenas
-            → Reaps self.now.arenas arena limit result cpu.new.hand }
+            → ReapsSoundly self.now.arenas arena limit result cpu.new.hand }
         ensures no_arena { length self.now.arenas ≤ arena → result ≡ 0 }
     {
         if arena as usize >= self.parts.tree().len() {
@@ -64,7 +64,7 @@ impl<N: Name> System<N> {
             rt,
             gate: &OpenGate,
             caches: &mut cpu.caches,
-            steps: Steps::new(0),
+            steps: StepCount::new(0),
             count: 0,
         };
         match reap_arena(&mut running, chain, limit) {

@@ -1,4 +1,4 @@
-//! The limits of a desk and of its setup, and want of memory.
+//! The limits of a desk and of its setup, and out of memory.
 use crate::asking::{add, ask, desk_of, opened, root, span};
 use arena_tree::{MOST_ARENAS, MOST_SPANS, Setting, Setup, SetupFault};
 use std::alloc::AllocGlobal;
@@ -113,13 +113,13 @@ fn operators_lines(rt: HostRuntime) {
     desk.close();
 }
 
-/// Whether an answer says that memory was refused.
+/// Whether an answer says out of memory.
 fn is_refusal(text: &[u8]) -> bool {
     text.starts_with(b"again ") || text == b"error memory\n".as_slice()
 }
 
-/// The line gets its reply behind what is there: at once, or at the second time where memory was
-/// refused once.
+/// The line gets its reply behind what is there: at once, or at the second time where it was out
+/// of memory once.
 fn ask_twice(rt: &(impl Abort + AllocGlobal), desk: &mut Desk, line: &str, reply: &str) {
     let mut out = Vec::new(rt.alloc());
     for _ in 0..2 {
@@ -133,7 +133,7 @@ fn ask_twice(rt: &(impl Abort + AllocGlobal), desk: &mut Desk, line: &str, reply
     panic!(rt; "refused twice");
 }
 
-/// Adds what is asked for: at once, or at the second time where memory was refused once.
+/// Adds what is asked for: at once, or at the second time where it was out of memory once.
 fn add_twice(rt: &impl Abort, setup: &mut Setup, setting: Setting) {
     match setup.add(&setting) {
         Ok(()) => {}

@@ -28,7 +28,7 @@ use Rattle.quantum_cache.specs.Caches.{chain_in}
 use Rattle.quantum_cache.specs.Drains.{Turn, on_put_back, on_drain_pop, drain_turn, on_turn, drain_cache, drain_arena, drain_plan}
 use Rattle.quantum_cache.specs.Frees.{on_slab_put, put_chunk}
 use Rattle.quantum_cache.specs.Sizes.{caches_in}
-use Rattle.local_parts.specs.Cpus.{IsCpuOf, HasNoRound, places_from}
+use Rattle.local_parts.specs.Cpus.{IsCpuOf, HasNoRound, indexes_from}
 use Rattle.local_parts.specs.OwnSteps.{DoesPop}
 use Rattle.local_parts.specs.States.{LocalState}
 use Rattle.local_parts.specs.Steps.{IsSetUpAs}
@@ -36,7 +36,7 @@ use Rattle.local_calls.specs.Laws.{DrainEmptiesCpu}
 use Rattle.local_calls.specs.NoFits.{HasNoRoundOf}
 use Rattle.local_calls.specs.Runs.{SoundStep, RunsTo}
 use Rattle.local_calls.proofs.Chains.{tree_chain, first_arena}
-use Rattle.local_calls.proofs.CpuPlaces.{EmptyAt, own_written, empty_pops, reached_here, within_plan}
+use Rattle.local_calls.proofs.CpuIndexes.{EmptyAt, own_written, empty_pops, reached_here, within_plan}
 use Rattle.local_calls.proofs.StagesNone.{popped_none}
 use Rattle.local_calls.proofs.Walks.{caches_walk, arenas_walk}
 
@@ -46,11 +46,11 @@ record Keeps (old new : LocalState) : Type 0 where
   empty : (k j : ℕ) → EmptyAt old.cpu k j → EmptyAt new.cpu k j
 
 keeps_same : (s : LocalState) → Keeps s s
-keeps_same s = record { setup = record { plans = refl; places = refl }; empty = λ k j e. e }
+keeps_same s = record { setup = record { plans = refl; indexes = refl }; empty = λ k j e. e }
 
 keeps_then : (s t u : LocalState) → Keeps s t → Keeps t u → Keeps s u
 keeps_then s t u a b = record {
-  setup = record { plans = b.setup.plans ∙ a.setup.plans; places = b.setup.places ∙ a.setup.places };
+  setup = record { plans = b.setup.plans ∙ a.setup.plans; indexes = b.setup.indexes ∙ a.setup.indexes };
   empty = λ k j e. b.empty k j (a.empty k j e);
 }
 
@@ -59,7 +59,7 @@ abbrev IsOf : LocalState → Type 0
 IsOf s = IsCpuOf s.spaces s.cpu
 
 still_of : (s t : LocalState) → Keeps s t → IsOf s → IsOf t
-still_of s t keeps of = keeps.setup.places ∙ (of ∙ ap (places_from 0) (sym keeps.setup.plans))
+still_of s t keeps of = keeps.setup.indexes ∙ (of ∙ ap (indexes_from 0) (sym keeps.setup.plans))
 
 -- a pop
 pop_empty : (old new : LocalState) (k c : ℕ) (a : Result (Option Tag) Stopped) → DoesPop old k c a new → (i n : ℕ) → EmptyAt old.cpu i n → EmptyAt new.cpu i n

@@ -4,7 +4,7 @@ pub use Rattle.local_calls.proofs.Drained.{drain_empties_cpu}
 pub use Rattle.local_calls.proofs.Reaped.{reap_leaves_nothing}
 pub use Rattle.local_calls.proofs.ReapLooks.{reap_takes_few_looks, reap_without_limit}
 pub use Rattle.local_calls.proofs.ArenaReaps.{reap_arena_always_done, reap_arena_leaves_nothing, reap_arena_brings_nothing, reap_arena_takes_few_looks}
-pub use Rattle.local_calls.proofs.CpuPlaces.{reached_here}
+pub use Rattle.local_calls.proofs.CpuIndexes.{reached_here}
 pub use Rattle.local_calls.proofs.Chains.{tree_chain}
 pub use Rattle.local_calls.proofs.NoFits.{no_fit_is_right, xalloc_no_fit_is_right}
 use Rattle.std.proofs.Common.{◌≡◌, ℕ, List, Some, None, Ok, Err, refl, ap, subst, ◌∙◌}

@@ -11,7 +11,7 @@ mod CarvesNone
 mod StagesNone
 mod NoFits
 mod Walks
-mod CpuPlaces
+mod CpuIndexes
 mod Drained
 mod DrainTurns
 mod ReapSteps

@@ -38,7 +38,7 @@ use Rattle.local_calls.specs.Laws.{NoFitIsRight, XallocNoFitIsRight}
 use Rattle.local_calls.specs.NoFits.{HasNoRoundOf, HasNoFullOf, HasNoChunkOf, NoneServesUp, NoneInCacheBy}
 use Rattle.local_calls.specs.Runs.{SoundStep, RunsTo}
 use Rattle.local_calls.proofs.CarvesNone.{carve_none, given_back, climb_none}
-use Rattle.local_calls.proofs.StagesNone.{own_is, own_same, one_place, cache_one, popped_none, taken_none, changed_over, swapped_some}
+use Rattle.local_calls.proofs.StagesNone.{own_is, own_same, one_index, cache_one, popped_none, taken_none, changed_over, swapped_some}
 
 -- a stage that gives nothing
 module _ (arenas : List TreeArena) (k c : ℕ) where
@@ -78,7 +78,7 @@ module _ (arenas : List TreeArena) (k c : ℕ) where
     exchange_is : (a : Result (Unit {0}) SwapFullFault) (on : OnExchange old k c (SwapsFull a) new) (P : CpuCacheState → DepotState → Type 0) → P on.3.own.cpu on.3.does.1.cache.depot
         → (j : ℕ) (o : OwnCacheState) (q : QuantumCacheState) → c ≡ j + 1 → IsReached old k j o → IsCacheAt old.spaces k j q → P o.cpu q.depot
     exchange_is a on P is j o q number reached there =
-        let here : on.0 ≡ j = one_place c on.0 j on.1 number in
+        let here : on.0 ≡ j = one_index c on.0 j on.1 number in
         let own : on.3.own ≡ o = own_is k on.0 _ old.cpu new.cpu on.3 o (subst (λ i. IsOwnAt old.cpu k i o) (sym here) reached.own) in
         let d = on.3.does.1 in
         let cache : d.cache ≡ q = cache_one old.spaces k j d.space d.cache q d.at (ap (slice_get d.space.caches) (sym here) ∙ d.among) there in

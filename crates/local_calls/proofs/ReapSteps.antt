@@ -13,9 +13,9 @@ use Rattle.arena_tree.specs.declared.part_faults.SlabPutFault.{SlabPutFault}
 use Rattle.stock.specs.Spaces.{SpaceState, QuantumCacheState, IsCacheAt, with_arena, with_cache, with_slab, with_depot}
 use Rattle.local_parts.specs.SharedSteps.{DoesFree, DoesPut, DoesReap, DoesDepotReap}
 use Rattle.local_calls.specs.Reaped.{HasNoneToReap, NoneToReapAt}
-use Rattle.local_calls.proofs.StagesNone.{one_place, cache_one}
+use Rattle.local_calls.proofs.StagesNone.{one_index, cache_one}
 
--- after a cache was written over, what stands at a place is that one or stood there
+-- after a cache was written over, what stands at an index is that one or stood there
 cache_written : (old new : List SpaceState) (k j : ℕ) (space : SpaceState) (c : QuantumCacheState) → slice_get old k ≡ Some space → new ≡ set old k (with_cache j c space) → (i n : ℕ) (d : QuantumCacheState) → IsCacheAt new i n d
     → ((i ≡ k) × (n ≡ j) × (d ≡ c)) ⊎ ((¬ ((i ≡ k) × (n ≡ j))) × IsCacheAt old i n d)
 cache_written old new k j space c at after i n d there = elim (written old k i (with_cache j c space) there.space (ap (λ xs. slice_get xs i) (sym after) ∙ there.at)) [
@@ -49,7 +49,7 @@ can_reap d begun begins = elim begins [
 abbrev pub CachesSame : List SpaceState → List SpaceState → Type 0
 CachesSame old new = (i n : ℕ) (d : QuantumCacheState) → IsCacheAt new i n d → IsCacheAt old i n d
 
--- but for the one at the place
+-- but for the one at the index
 abbrev pub OthersSame : ℕ → ℕ → List SpaceState → List SpaceState → Type 0
 OthersSame k c old new = (i n : ℕ) (d : QuantumCacheState) → IsCacheAt new i n d → ((i ≡ k) × (c ≡ n + 1)) ⊎ IsCacheAt old i n d
 
@@ -102,7 +102,7 @@ module _ (old new : List SpaceState) where
             ],
             λ j number d there. elim (cache_written old new k on.0 o.space (with_depot o.depot o.cache) o.at o.after k j d there) [
               | inl here ↦ subst (λ (q : QuantumCacheState). (¬ CanReap q.depot) × (q.depot.empty_reapable ≡ 0)) (sym here.2) (trimmed, empty)
-              | inr other ↦ absurd (other.0 (refl, one_place c j on.0 number on.1))
+              | inr other ↦ absurd (other.0 (refl, one_index c j on.0 number on.1))
             ],
           )
       | inr none ↦ (λ i n was d there. was d (same_caches old new none.1.1 i n d there), λ j number d there. absurd (none.0 j number (d, same_caches old new none.1.1 k j d there)))
@@ -118,7 +118,7 @@ module _ (old new : List SpaceState) where
           let o = on.2 in
           let did : ReapsRound t (after_trim o.cache.depot) o.depot = subst (λ r. DepotReapOf o.cache.depot r o.depot) something o.does in (
             λ j number was.
-                let there : IsCacheAt old k j o.cache = record { space = o.space; at = o.at; among = ap (slice_get o.space.caches) (one_place c j on.0 number on.1) ∙ o.among } in
+                let there : IsCacheAt old k j o.cache = record { space = o.space; at = o.at; among = ap (slice_get o.space.caches) (one_index c j on.0 number on.1) ∙ o.among } in
                 (was o.cache there).rounds (can_reap o.cache.depot did.0 did.1),
             λ i n d there. elim (cache_written old new k on.0 o.space (with_depot o.depot o.cache) o.at o.after i n d there) [
               | inl here ↦ inl (here.0, on.1 ∙ ap (λ m. m + 1) (sym here.1))
@@ -140,7 +140,7 @@ module _ (old new : List SpaceState) where
           let cache : with_cache on.0 (with_slab o.slab o.cache) o.space ≡ o.space =
           ap (λ x. with_cache on.0 (with_slab x o.cache) o.space) did.1 ∙ ap (λ cs. record { arena = o.space.arena; source = o.space.source; caches = cs }) (set_same o.space.caches on.0 o.cache o.among) in (
             o.after ∙ ap (set old k) cache ∙ set_same old k o.space o.at,
-            λ j number d there. subst (λ (x : QuantumCacheState). All (λ s. ¬ IsComplete s) x.slab.slabs) (cache_one old k j o.space o.cache d o.at (ap (slice_get o.space.caches) (one_place c j on.0 number on.1) ∙ o.among) there) did.0,
+            λ j number d there. subst (λ (x : QuantumCacheState). All (λ s. ¬ IsComplete s) x.slab.slabs) (cache_one old k j o.space o.cache d o.at (ap (slice_get o.space.caches) (one_index c j on.0 number on.1) ∙ o.among) there) did.0,
           )
       | inr none ↦ (none.1.1, λ j number d there. absurd (none.0 j number (d, there)))
     ]
@@ -155,7 +155,7 @@ module _ (old new : List SpaceState) where
           let o = on.2 in
           let did : (i : ℕ) × (s : SlabState) × Reaps i s o.cache.slab o.slab t = subst (λ r. ReapOf o.cache.slab r o.slab) something o.does in (
             λ j number was.
-                let there : IsCacheAt old k j o.cache = record { space = o.space; at = o.at; among = ap (slice_get o.space.caches) (one_place c j on.0 number on.1) ∙ o.among } in
+                let there : IsCacheAt old k j o.cache = record { space = o.space; at = o.at; among = ap (slice_get o.space.caches) (one_index c j on.0 number on.1) ∙ o.among } in
                 (was o.cache there).slabs did.0 did.1 did.2.lowest.stands.within (subst IsComplete (sym did.2.lowest.stands.is) did.2.lowest.so),
             λ i n d there. elim (cache_written old new k on.0 o.space (with_slab o.slab o.cache) o.at o.after i n d there) [
               | inl here ↦ inl (here.0, on.1 ∙ ap (λ m. m + 1) (sym here.1))

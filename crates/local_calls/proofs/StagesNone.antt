@@ -10,7 +10,7 @@ use Rattle.magazine_layer.specs.Depots.{IsDepot, SwapsForFull}
 use Rattle.magazine_layer.specs.Magazines.{CpuCacheState, BothEmpty, IsSize}
 use Rattle.magazine_layer.specs.declared.faults.FullFault.{FullFault}
 use Rattle.arena_tree.specs.declared.part_faults.ChangeFault.{ChangeFault}
-use Rattle.stock.specs.OwnCaches.{OwnCacheState, IsAtPlaceOf, own_rounds}
+use Rattle.stock.specs.OwnCaches.{OwnCacheState, IsAtIndexesOf, own_rounds}
 use Rattle.stock.specs.Spaces.{SpaceState, QuantumCacheState, IsCacheAt, with_cache, with_slab, plans_of}
 use Rattle.stock.specs.Stocks.{IsStock}
 use Rattle.stock.proofs.LawProofs.{plans_stay, caches_stay}
@@ -34,7 +34,7 @@ module _ (k j : ℕ) (P : OwnCacheState → OwnCacheState → Type 0) (old new :
       let row : on.row ≡ at.row = slice_get_one old k on.row at.row on.at at.at in
       slice_get_one on.row j on.own o on.among (ap (λ xs. slice_get xs j) row ∙ at.among)
 
-  pub own_same : IsAtPlaceOf on.own on.changed → on.changed.cpu ≡ on.own.cpu → new ≡ old
+  pub own_same : IsAtIndexesOf on.own on.changed → on.changed.cpu ≡ on.own.cpu → new ≡ old
   own_same p cpu =
       let e : on.changed ≡ on.own = λ i. record { arena = p.arena i; cache = p.cache i; quantum = p.quantum i; cpu = cpu i } in
       on.after ∙ ap (λ x. set old k (set on.row j x)) e ∙ ap (set old k) (set_same on.row j on.own on.among) ∙ set_same old k on.row on.at
@@ -49,11 +49,11 @@ module _ (k j : ℕ) (P : OwnCacheState → OwnCacheState → Type 0) (old new :
   pub changed_among : slice_get (set on.row j on.changed) j ≡ Some on.changed
   changed_among = slice_get-set on.row j on.changed (slice_get_within on.row j on.own on.among)
 
--- a number's place is one
-pub one_place : (c j i : ℕ) → c ≡ j + 1 → c ≡ i + 1 → j ≡ i
-one_place c j i a b = omega (arith, a, b)
+-- a number's index is one
+pub one_index : (c j i : ℕ) → c ≡ j + 1 → c ≡ i + 1 → j ≡ i
+one_index c j i a b = omega (arith, a, b)
 
--- two caches at one place are one
+-- two caches at one index are one
 pub cache_one : (spaces : List SpaceState) (k j : ℕ) (s : SpaceState) (c d : QuantumCacheState) → slice_get spaces k ≡ Some s → slice_get s.caches j ≡ Some c → IsCacheAt spaces k j d → c ≡ d
 cache_one spaces k j s c d at among there =
     slice_get_one s.caches j c d among (ap (λ (x : SpaceState). slice_get x.caches j) (slice_get_one spaces k s there.space at there.at) ∙ there.among)
@@ -65,7 +65,7 @@ module _ (old new : LocalState) (k c : ℕ) where
     | inl on ↦ (
       record { spaces = on.0; cpu = own_same k on.1.0 _ old.cpu new.cpu on.1.3 on.1.3.does.0 (empty on.1.3.own.cpu on.1.3.changed.cpu on.1.3.does.1).1 },
       λ j o number is.
-          let here : on.1.0 ≡ j = one_place c on.1.0 j on.1.1 number in
+          let here : on.1.0 ≡ j = one_index c on.1.0 j on.1.1 number in
           let there : IsOwnAt old.cpu k on.1.0 o = subst (λ i. IsOwnAt old.cpu k i o) (sym here) is.own in
           subst (λ (x : OwnCacheState). BothEmpty x.cpu) (own_is k on.1.0 _ old.cpu new.cpu on.1.3 o there) (empty on.1.3.own.cpu on.1.3.changed.cpu on.1.3.does.1).0,
     )
@@ -88,7 +88,7 @@ module _ (old new : LocalState) (k c : ℕ) where
         let cache : with_cache on.0 (with_slab o.slab o.cache) o.space ≡ o.space =
         ap (λ x. with_cache on.0 x o.space) slab ∙ ap (λ cs. record { arena = o.space.arena; source = o.space.source; caches = cs }) (set_same o.space.caches on.0 o.cache o.among) in (
           o.after ∙ ap (set old.spaces k) cache ∙ set_same old.spaces k o.space o.at,
-          λ j d number there. subst (λ (x : QuantumCacheState). All IsAllOut x.slab.slabs) (cache_one old.spaces k j o.space o.cache d o.at (ap (slice_get o.space.caches) (sym (one_place c on.0 j on.1 number)) ∙ o.among) there) out.0,
+          λ j d number there. subst (λ (x : QuantumCacheState). All IsAllOut x.slab.slabs) (cache_one old.spaces k j o.space o.cache d o.at (ap (slice_get o.space.caches) (sym (one_index c on.0 j on.1 number)) ∙ o.among) there) out.0,
         )
     | inr none ↦ (none.1.1, λ j d number there. absurd (none.0 j number (d, there)))
   ]
@@ -138,19 +138,19 @@ module _ (old new : LocalState) (k c : ℕ) (law : IsStock old.spaces) (fixed : 
   still =
       let o = on.2.0 in
       let is : on.3.own ≡ o = own_is k on.0 _ old.cpu new.cpu on.3 o on.2.1.own in
-      let place : IsAtPlaceOf on.3.own on.3.changed = on.3.does.0 in
+      let index : IsAtIndexesOf on.3.own on.3.changed = on.3.does.0 in
       record {
         has = caches_stay old.spaces new.spaces fixed k on.0 on.2.1.has;
         own = record {
           row = set on.3.row on.0 on.3.changed;
           at = changed_at k on.0 _ old.cpu new.cpu on.3;
           among = changed_among k on.0 _ old.cpu new.cpu on.3;
-          arena = place.arena ∙ (ap (λ (x : OwnCacheState). x.arena) is ∙ on.2.1.own.arena);
-          cache = place.cache ∙ (ap (λ (x : OwnCacheState). x.cache) is ∙ on.2.1.own.cache);
+          arena = index.arena ∙ (ap (λ (x : OwnCacheState). x.arena) is ∙ on.2.1.own.arena);
+          cache = index.cache ∙ (ap (λ (x : OwnCacheState). x.cache) is ∙ on.2.1.own.cache);
         };
         quantum = λ s at.
             let d = on.3.does.1 in
-            ((plans_stay old.spaces new.spaces fixed).1 k d.space s d.at at).quantum ∙ (on.2.1.quantum d.space d.at ∙ sym (place.quantum ∙ ap (λ (x : OwnCacheState). x.quantum) is));
+            ((plans_stay old.spaces new.spaces fixed).1 k d.space s d.at at).quantum ∙ (on.2.1.quantum d.space d.at ∙ sym (index.quantum ∙ ap (λ (x : OwnCacheState). x.quantum) is));
       }
 
   -- so a pop finds one

@@ -57,7 +57,7 @@ IsRightlyAsked arenas (SlabAdd arena cache given) = IsForSlab arenas arena cache
 IsRightlyAsked arenas (Carve arena request) = Unit {0}
 IsRightlyAsked arenas _ = Unit {0}
 
--- by the answer: done, or refused for want of room, of a magazine or of memory alone
+-- by the answer: done, refused for want of room or of a magazine, or out of memory
 abbrev pub CarvesWell : Result Tag CarveFault → Type 0
 CarvesWell (Err carving.Stopped) = ⊥
 CarvesWell _ = Unit {0}

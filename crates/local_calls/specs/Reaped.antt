@@ -10,7 +10,7 @@ pub record HasNoneToReap (c : QuantumCacheState) : Type 0 where
   pub empty : c.depot.empty_reapable ≡ 0
   pub slabs : All (λ s. ¬ IsComplete s) c.slab.slabs
 
--- it is so of the cache at the place
+-- it is so of the cache at the index
 abbrev pub NoneToReapAt : List SpaceState → ℕ → ℕ → Type 0
 NoneToReapAt spaces k j = (c : QuantumCacheState) → IsCacheAt spaces k j c → HasNoneToReap c
 

@@ -10,11 +10,11 @@ use Rattle.arena_tree.specs.Plans.{Plan, Done, Ask, Path}
 use Rattle.stock.specs.Accounts.{Accounts}
 use Rattle.stock.specs.Stocks.{IsStock}
 use Rattle.stock.specs.Sums.{all_out}
-use Rattle.stock.proofs.LawProofs.{out_weighs, one_place}
+use Rattle.stock.proofs.LawProofs.{out_weighs, one_home}
 use Rattle.local_parts.specs.Cpus.{cpu_rounds}
 use Rattle.local_parts.specs.States.{LocalState, out_of_stock}
 use Rattle.local_parts.specs.Steps.{LocalStep, IsSetUpAs}
-use Rattle.local_parts.specs.Laws.{PlanConserves, PlanKeepsSetup, PlanInOnePlace, out_with}
+use Rattle.local_parts.specs.Laws.{PlanConserves, PlanKeepsSetup, PlanInOneHome, out_with}
 
 pub plan_conserves : (A : Type 0) → PlanConserves A
 plan_conserves A left (Done b) hand h old new a path rest acc =
@@ -23,16 +23,16 @@ plan_conserves A left (Ask e f) hand h old new a path rest acc =
     plan_conserves A left (f path.1) (hand_after e path.1 hand) (h.1 path.1) path.0 new a path.3 rest (path.2.conserves hand h.0 rest acc)
 
 pub plan_keeps_setup : (A : Type 0) → PlanKeepsSetup A
-plan_keeps_setup A (Done b) old new a path = subst (IsSetUpAs old) path.0 (record { plans = refl; places = refl })
+plan_keeps_setup A (Done b) old new a path = subst (IsSetUpAs old) path.0 (record { plans = refl; indexes = refl })
 plan_keeps_setup A (Ask e f) old new a path =
-    let later = plan_keeps_setup A (f path.1) path.0 new a path.3 in record { plans = later.plans ∙ path.2.setup.plans; places = later.places ∙ path.2.setup.places }
+    let later = plan_keeps_setup A (f path.1) path.0 new a path.3 in record { plans = later.plans ∙ path.2.setup.plans; indexes = later.indexes ∙ path.2.setup.indexes }
 
 pub plan_keeps_stock : (A : Type 0) (p : Plan A) (old new : LocalState) (a : A) → Path LocalStep p old new a → IsStock old.spaces → IsStock new.spaces
 plan_keeps_stock A (Done b) old new a path law = subst (λ (s : LocalState). IsStock s.spaces) path.0 law
 plan_keeps_stock A (Ask e f) old new a path law = plan_keeps_stock A (f path.1) path.0 new a path.3 path.2.stock
 
-pub plan_in_one_place : (A : Type 0) → PlanInOnePlace A
-plan_in_one_place A left p hand h old new a path others accounted =
+pub plan_in_one_home : (A : Type 0) → PlanInOneHome A
+plan_in_one_home A left p hand h old new a path others accounted =
     let before : Accounts old.spaces (out_of_stock old hand ++ all_out others) = out_weighs old.spaces (all_out (out_with old hand others)) (out_of_stock old hand ++ all_out others) (λ f. omega (
       arith,
       sum_by-append f (option_to_list hand ++ others.hands) (others.leases ++ (cpu_rounds old.cpu ++ others.rounds)),
@@ -55,7 +55,7 @@ plan_in_one_place A left p hand h old new a path others accounted =
       sum_by-append f others.hands (others.leases ++ others.rounds),
       sum_by-append f others.leases others.rounds,
     )) (plan_conserves A left p hand h old new a path (all_out others) before) in
-    one_place new.spaces (out_with new (left a) others) (record { stock = plan_keeps_stock A p old new a path accounted.stock; accounts = after })
+    one_home new.spaces (out_with new (left a) others) (record { stock = plan_keeps_stock A p old new a path accounted.stock; accounts = after })
 
 -- what is seen of each step along a path, as a state
 pub path_seen : (A S : Type 0) (see : S → LocalState) (step : S → (e : Event) → AnswerTo e → S → Type 0) → ((s t : S) (e : Event) (x : AnswerTo e) → step s e x t → LocalStep (see s) e x (see t))

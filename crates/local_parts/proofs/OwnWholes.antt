@@ -32,14 +32,14 @@ use Rattle.stock.specs.Stocks.{IsStock, IsRoundOf}
 use Rattle.stock.specs.Accounts.{Accounts}
 use Rattle.stock.specs.OwnCaches.{OwnCacheState, own_rounds}
 use Rattle.stock.specs.Steps.{OnDepot}
-use Rattle.local_parts.specs.Cpus.{IsOwnAt, OnOwn, own_places, cpu_rounds}
+use Rattle.local_parts.specs.Cpus.{IsOwnAt, OnOwn, own_indexes, cpu_rounds}
 use Rattle.local_parts.specs.States.{LocalState, IsReached, HasReached, IsUnchanged, Conserves, tree_of}
 use Rattle.local_parts.specs.OwnSteps.{NoneReached, CanPush, CanChange, OnExchange, SwapsFull, SwapsEmpty, SwapsFresh}
 use Rattle.local_parts.specs.Words.{in_words, full_word, empty_word, fresh_word}
 use Rattle.local_parts.specs.OwnChanges.{OwnPops, OwnPushes, OwnChanges, OwnTries, OwnSwapsFull, OwnSwapsEmpty, OwnSwapsFresh}
 use Rattle.local_parts.specs.Steps.{Does, WholeStep}
 use Rattle.local_parts.proofs.Sounds.{chunk_here}
-use Rattle.local_parts.proofs.Owns.{own_does, count_sum, own_sums, same_places, same_cpu, own_is, loses, gains, weigh_same, exchange_conserves, own_conserves}
+use Rattle.local_parts.proofs.Owns.{own_does, count_sum, own_sums, same_indexes, same_cpu, own_is, loses, gains, weigh_same, exchange_conserves, own_conserves}
 use Rattle.local_parts.proofs.Wholes.{beside}
 
 -- the magazines alone
@@ -64,10 +64,10 @@ module _ (spaces : List SpaceState) (law : IsStock spaces) (old new : List (List
         let sums : (f : Tag → ℕ) → sum_by f (cpu_rounds new) ≡ sum_by f (cpu_rounds old) = λ f. omega (arith, own_sums k j _ old new on f, ap (sum_by f) same) in
         record {
           step = record {
-            does = (None, refl, inl (refl, (j, number, served, own_does k j _ _ old new (λ o o' d. (d.place, d.popped)) on)));
+            does = (None, refl, inl (refl, (j, number, served, own_does k j _ _ old new (λ o o' d. (d.index, d.popped)) on)));
             conserves = λ hand b. subst (λ h. Conserves was h is None) (sym b) (own_conserves spaces old new None None (λ f. omega (arith, sums f)));
             stock = law;
-            setup = record { plans = refl; places = same_places k j _ old new on on.does.place };
+            setup = record { plans = refl; indexes = same_indexes k j _ old new on on.does.index };
           };
           sound = λ sizes. tt;
           moved = omega (arith, count_sum (cpu_rounds new), count_sum (cpu_rounds old), sums (λ x. 1));
@@ -77,10 +77,10 @@ module _ (spaces : List SpaceState) (law : IsStock spaces) (old new : List (List
         let less = loses k j _ old new on t on.does.weights in
         record {
           step = record {
-            does = (Some t, refl, inl (refl, (j, number, served, own_does k j _ _ old new (λ o o' d. (d.place, d.popped)) on)));
+            does = (Some t, refl, inl (refl, (j, number, served, own_does k j _ _ old new (λ o o' d. (d.index, d.popped)) on)));
             conserves = λ hand b. subst (λ h. Conserves was h is (Some t)) (sym b) (own_conserves spaces old new None (Some t) (λ f. omega (arith, less f, sum_by-cons f t [])));
             stock = law;
-            setup = record { plans = refl; places = same_places k j _ old new on on.does.place };
+            setup = record { plans = refl; indexes = same_indexes k j _ old new on on.does.index };
           };
           sound = λ sizes. (let here = own_is k j _ old new on served.0 served.1.own in given_chunk sizes served.0 t served.1.own (subst (λ (x : OwnCacheState). IsRoundOf x.arena (x.cache + 1) x.quantum t) here on.does.chunk) served.1);
           moved = omega (arith, count_sum (cpu_rounds new), count_sum (cpu_rounds old), less (λ x. 1));
@@ -97,7 +97,7 @@ module _ (old new : LocalState) (law : IsStock old.spaces) (u : IsUnchanged old 
       conserves = λ hand b rest acc. subst (λ h. Accounts new.spaces ((option_to_list h ++ cpu_rounds new.cpu) ++ rest)) (sym (ends hand b))
           (subst (λ x. Accounts x ((option_to_list hand ++ cpu_rounds new.cpu) ++ rest)) (sym u.spaces) (subst (λ x. Accounts old.spaces ((option_to_list hand ++ cpu_rounds x) ++ rest)) (sym u.cpu) acc));
       stock = subst IsStock (sym u.spaces) law;
-      setup = record { plans = ap plans_of u.spaces; places = ap own_places u.cpu };
+      setup = record { plans = ap plans_of u.spaces; indexes = ap own_indexes u.cpu };
     };
     sound = sound;
     moved = moved;
@@ -133,8 +133,8 @@ module _ (s : LocalState) (law : IsStock s.spaces) (k c : ℕ) (none : (j : ℕ)
 -- the one cache that serves it isn't so
 one_served : (s : LocalState) (k c j : ℕ) (P : OwnCacheState → Type 0) (number : c ≡ j + 1) (o : OwnCacheState) → IsReached s k j o → ¬ P o → NoneReached s k c P
 one_served s k c j P number o served isnt i x at there so =
-    let places : i ≡ j = omega (arith, at, number) in
-    let here : IsOwnAt s.cpu k j x = subst (λ m. IsOwnAt s.cpu k m x) places there.own in
+    let indexes : i ≡ j = omega (arith, at, number) in
+    let here : IsOwnAt s.cpu k j x = subst (λ m. IsOwnAt s.cpu k m x) indexes there.own in
     let rows : served.own.row ≡ here.row = slice_get_one s.cpu k served.own.row here.row served.own.at here.at in
     let one : o ≡ x = slice_get_one served.own.row j o x served.own.among (ap (λ xs. slice_get xs j) rows ∙ here.among) in
     isnt (subst P (sym one) so)
@@ -150,10 +150,10 @@ module _ (spaces : List SpaceState) (law : IsStock spaces) (old new : List (List
       (subst (λ m. IsRoundOf m (served.0.cache + 1) served.0.quantum t) served.1.own.arena (subst (λ (x : OwnCacheState). IsRoundOf x.arena (x.cache + 1) x.quantum t) here on.does.chunk))) in
       record {
         step = record {
-          does = inl (refl, (j, number, (served.0, served.1, chunk)), (refl, (j, number, served, own_does k j _ _ old new (λ o o' d. (d.place, d.pushed)) on)));
+          does = inl (refl, (j, number, (served.0, served.1, chunk)), (refl, (j, number, served, own_does k j _ _ old new (λ o o' d. (d.index, d.pushed)) on)));
           conserves = λ hand b. subst (λ h. Conserves (beside spaces old) h (beside spaces new) None) (sym b) (own_conserves spaces old new (Some t) None (λ f. omega (arith, more f, sum_by-cons f t [])));
           stock = law;
-          setup = record { plans = refl; places = same_places k j _ old new on on.does.place };
+          setup = record { plans = refl; indexes = same_indexes k j _ old new on on.does.index };
         };
         sound = λ sizes. tt;
         moved = omega (arith, count_sum (cpu_rounds new), count_sum (cpu_rounds old), more (λ x. 1));
@@ -176,10 +176,10 @@ module _ (spaces : List SpaceState) (law : IsStock spaces) (old new : List (List
       let sums = weigh_same k j _ old new on on.does.weights in
       record {
         step = record {
-          does = inl (refl, (refl, (j, number, served, own_does k j _ _ old new (λ o o' d. (d.place, d.changed)) on)));
+          does = inl (refl, (refl, (j, number, served, own_does k j _ _ old new (λ o o' d. (d.index, d.changed)) on)));
           conserves = λ hand b. own_conserves spaces old new hand hand (λ f. omega (arith, sums f));
           stock = law;
-          setup = record { plans = refl; places = same_places k j _ old new on on.does.place };
+          setup = record { plans = refl; indexes = same_indexes k j _ old new on on.does.index };
         };
         sound = λ sizes. tt;
         moved = omega (arith, count_sum (cpu_rounds new), count_sum (cpu_rounds old), sums (λ x. 1));
@@ -210,10 +210,10 @@ module _ (old new : LocalState) (law : IsStock old.spaces) (k c j : ℕ) (number
       = subst (λ m. OnDepot k m (λ d d'. P on.own.cpu d on.changed.cpu d') old.spaces new.spaces) cache (subst (λ m. OnDepot m on.own.cache (λ d d'. P on.own.cpu d on.changed.cpu d') old.spaces new.spaces) arena x.swapped) in
       record {
         step = record {
-          does = did (j, number, served, record { row = on.row; at = on.at; own = on.own; among = on.among; changed = on.changed; after = on.after; does = (x.place, at) });
+          does = did (j, number, served, record { row = on.row; at = on.at; own = on.own; among = on.among; changed = on.changed; after = on.after; does = (x.index, at) });
           conserves = λ hand b. subst (Conserves old hand new) (sym (ends hand)) (exchange_conserves k j _ old.cpu new.cpu on old.spaces new.spaces x.frame hand);
           stock = x.stock;
-          setup = record { plans = x.fixed; places = same_places k j _ old.cpu new.cpu on x.place };
+          setup = record { plans = x.fixed; indexes = same_indexes k j _ old.cpu new.cpu on x.index };
         };
         sound = sound;
         moved = moved (length (cpu_rounds old.cpu)) (length (cpu_rounds new.cpu));

@@ -1,4 +1,4 @@
--- One of a CPU's caches changed: what that leaves of all its rounds, of its places and of the accounts.
+-- One of a CPU's caches changed: what that leaves of all its rounds, of its indexes and of the accounts.
 use Rattle.std.proofs.Common.{◌≡◌, ℕ, ◌+◌, refl, ap, ◌∙◌, List, [], ◌∷◌, ◌++◌, map, length, set, Option, Some, arith}
 use Rattle.std.specs.Prelude.{slice_get, sum_by}
 use Rattle.std.specs.Option.{option_to_list}
@@ -8,9 +8,9 @@ use Rattle.deed_core.specs.Weights.{Gains, Loses, WeighSame}
 use Rattle.deed_core.proofs.LawProofs.{slice_get_one, map_set_same, set_same, sum_set, sum_by-flat_map}
 use Rattle.stock.specs.Spaces.{SpaceState}
 use Rattle.stock.specs.Accounts.{Accounts, Frames}
-use Rattle.stock.specs.OwnCaches.{OwnCacheState, IsAtPlaceOf, own_rounds}
+use Rattle.stock.specs.OwnCaches.{OwnCacheState, IsAtIndexesOf, own_rounds}
 use Rattle.stock.proofs.LawProofs.{out_weighs}
-use Rattle.local_parts.specs.Cpus.{IsOwnAt, OnOwn, own_place, own_places, row_rounds, cpu_rounds}
+use Rattle.local_parts.specs.Cpus.{IsOwnAt, OnOwn, own_index, own_indexes, row_rounds, cpu_rounds}
 use Rattle.local_parts.specs.States.{Conserves}
 
 pub own_does : (k j : ℕ) (P Q : OwnCacheState → OwnCacheState → Type 0) (old new : List (List OwnCacheState)) → ((o o' : OwnCacheState) → P o o' → Q o o') → OnOwn k j P old new → OnOwn k j Q old new
@@ -41,9 +41,9 @@ module _ (k j : ℕ) (P : OwnCacheState → OwnCacheState → Type 0) (old new :
   pub own_sums : (f : Tag → ℕ) → sum_by f (cpu_rounds new) + sum_by f (own_rounds on.own) ≡ sum_by f (cpu_rounds old) + sum_by f (own_rounds on.changed)
   own_sums f = omega (arith, ap (λ xs. sum_by f (cpu_rounds xs)) on.after, sums_set f old k j on.row on.own on.changed on.at on.among)
 
-  pub same_places : IsAtPlaceOf on.own on.changed → own_places new ≡ own_places old
-  same_places p = ap own_places on.after ∙ map_set_same (map own_place) old k on.row (set on.row j on.changed) on.at
-      (map_set_same own_place on.row j on.own on.changed on.among (λ i. record { arena = p.arena i; cache = p.cache i; quantum = p.quantum i }))
+  pub same_indexes : IsAtIndexesOf on.own on.changed → own_indexes new ≡ own_indexes old
+  same_indexes p = ap own_indexes on.after ∙ map_set_same (map own_index) old k on.row (set on.row j on.changed) on.at
+      (map_set_same own_index on.row j on.own on.changed on.among (λ i. record { arena = p.arena i; cache = p.cache i; quantum = p.quantum i }))
 
   pub same_cpu : on.changed ≡ on.own → new ≡ old
   same_cpu e = on.after ∙ ap (λ x. set old k (set on.row j x)) e ∙ ap (set old k) (set_same on.row j on.own on.among) ∙ set_same old k on.row on.at

@@ -1,4 +1,4 @@
--- A CPU's cache at its place.
+-- A CPU's cache at its index.
 use Rattle.std.proofs.Common.{◌≡◌, ℕ, ◌+◌, ◌<◌, sym, subst, ap, ◌∙◌, List, [], ◌∷◌, ◌++◌, length, set, get_or, take, min, append-nil, Some, arith}
 use Rattle.std.specs.Prelude.{slice_get, sum_by}
 use Rattle.std.proofs.lemmas.Grind.{flat_map-append}
@@ -17,7 +17,7 @@ HasOwn cpu k j = (o : OwnCacheState) × IsOwnAt cpu k j o
 pub row_within : (cpu : List (List OwnCacheState)) (k j : ℕ) → HasOwn cpu k j → k < length cpu
 row_within cpu k j has = slice_get_within cpu k has.1.row has.1.at
 
--- the rows lie in `items`, and the row at the place was read
+-- the rows lie in `items`, and the row at the index was read
 pub record OpensRow (cpu items : List (List OwnCacheState)) (k : ℕ) (row : List OwnCacheState) : Type 0 where
   pub same : items ≡ cpu
   pub at : slice_get cpu k ≡ Some row

@@ -54,7 +54,7 @@ module _ (old new : List SpaceState) (cpu : List (List OwnCacheState)) (law : Is
       conserves = λ hand b. subst (λ h. Conserves (beside old cpu) hand (beside new cpu) h) (sym (ends hand))
           (subst (λ h. Conserves (beside old cpu) h (beside new cpu) left) (sym (begins hand b)) (with_rounds old new (cpu_rounds cpu) (option_to_list given) (option_to_list left) frame));
       stock = law;
-      setup = record { plans = fixed; places = refl };
+      setup = record { plans = fixed; indexes = refl };
     };
     sound = sound;
     moved = moved;

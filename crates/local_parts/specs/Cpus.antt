@@ -7,37 +7,37 @@ use Rattle.magazine_layer.specs.Magazines.{BothEmpty}
 use Rattle.stock.specs.Spaces.{SpaceState, SpacePlan, plans_of}
 use Rattle.stock.specs.OwnCaches.{OwnCacheState, own_rounds}
 
--- a quantum cache: the places of its arena and of itself, and the arena's quantum
-pub record CachePlace : Type 0 where
+-- a quantum cache: the indexes of its arena and of itself, and the arena's quantum
+pub record CacheIndexes : Type 0 where
   pub arena : ℕ
   pub cache : ℕ
   pub quantum : ℕ
 
 -- the quantum cache that a CPU's cache was made for
-abbrev pub own_place : OwnCacheState → CachePlace
-own_place o = record { arena = o.arena; cache = o.cache; quantum = o.quantum }
+abbrev pub own_index : OwnCacheState → CacheIndexes
+own_index o = record { arena = o.arena; cache = o.cache; quantum = o.quantum }
 
-abbrev pub own_places : List (List OwnCacheState) → List (List CachePlace)
-own_places cpu = map (map own_place) cpu
+abbrev pub own_indexes : List (List OwnCacheState) → List (List CacheIndexes)
+own_indexes cpu = map (map own_index) cpu
 
--- the quantum caches of an arena: so many, from the place j on
-abbrev pub row_places : ℕ → ℕ → ℕ → ℕ → List CachePlace
-row_places arena quantum j zero = []
-row_places arena quantum j (suc count) =
-    record { arena = arena; cache = j; quantum = quantum } ∷ row_places arena quantum (j + 1) count
+-- the quantum caches of an arena: so many, from the index j on
+abbrev pub row_indexes : ℕ → ℕ → ℕ → ℕ → List CacheIndexes
+row_indexes arena quantum j zero = []
+row_indexes arena quantum j (suc count) =
+    record { arena = arena; cache = j; quantum = quantum } ∷ row_indexes arena quantum (j + 1) count
 
 -- those of each arena, from the number k on
-abbrev pub places_from : ℕ → List SpacePlan → List (List CachePlace)
-places_from k [] = []
-places_from k (p ∷ plans) =
-    row_places k p.quantum 0 (length p.slab_sizes) ∷ places_from (k + 1) plans
+abbrev pub indexes_from : ℕ → List SpacePlan → List (List CacheIndexes)
+indexes_from k [] = []
+indexes_from k (p ∷ plans) =
+    row_indexes k p.quantum 0 (length p.slab_sizes) ∷ indexes_from (k + 1) plans
 
 -- the CPU has a cache for each quantum cache of the stock, and no other
 abbrev pub IsCpuOf : List SpaceState → List (List OwnCacheState) → Type 0
-IsCpuOf spaces cpu = own_places cpu ≡ places_from 0 (plans_of spaces)
+IsCpuOf spaces cpu = own_indexes cpu ≡ indexes_from 0 (plans_of spaces)
 
 -- a CPU's cache that is new: two empty magazines of this size
-abbrev pub new_own : ℕ → CachePlace → OwnCacheState
+abbrev pub new_own : ℕ → CacheIndexes → OwnCacheState
 new_own size p = record {
   arena = p.arena;
   cache = p.cache;
@@ -47,7 +47,7 @@ new_own size p = record {
 
 -- a CPU that is new, for a stock that was set up so
 abbrev pub new_cpu : ℕ → List SpacePlan → List (List OwnCacheState)
-new_cpu size plans = map (map (new_own size)) (places_from 0 plans)
+new_cpu size plans = map (map (new_own size)) (indexes_from 0 plans)
 
 -- the rounds of a CPU: of its caches of an arena, of all
 abbrev pub row_rounds : List OwnCacheState → List Tag
@@ -56,7 +56,7 @@ row_rounds row = flat_map own_rounds row
 abbrev pub cpu_rounds : List (List OwnCacheState) → List Tag
 cpu_rounds cpu = flat_map row_rounds cpu
 
--- those of the arena at the place; none where there is no such arena
+-- those of the arena at the index; none where there is no such arena
 abbrev pub rounds_of_row : Option (List OwnCacheState) → List Tag
 rounds_of_row None = []
 rounds_of_row (Some row) = row_rounds row
@@ -71,7 +71,7 @@ HasNoRound o = BothEmpty o.cpu
 abbrev pub HasNoRounds : List (List OwnCacheState) → Type 0
 HasNoRounds cpu = All (λ row. All HasNoRound row) cpu
 
--- the CPU's cache stands at the place j of those of the arena at the place k, and is made for it
+-- the CPU's cache stands at the index j of those of the arena at the index k, and is made for it
 pub record IsOwnAt (cpu : List (List OwnCacheState)) (k j : ℕ) (o : OwnCacheState) : Type 0 where
   pub row : List OwnCacheState
   pub at : slice_get cpu k ≡ Some row
@@ -79,7 +79,7 @@ pub record IsOwnAt (cpu : List (List OwnCacheState)) (k j : ℕ) (o : OwnCacheSt
   pub arena : o.arena ≡ k
   pub cache : o.cache ≡ j
 
--- the cache at the place j of an arena's row changed so, and nothing else did
+-- the cache at the index j of an arena's row changed so, and nothing else did
 pub record OnRow (j : ℕ) (P : OwnCacheState → OwnCacheState → Type 0)
     (old new : List OwnCacheState) : Type 0 where
   pub own : OwnCacheState
@@ -88,7 +88,7 @@ pub record OnRow (j : ℕ) (P : OwnCacheState → OwnCacheState → Type 0)
   pub after : new ≡ set old j changed
   pub does : P own changed
 
--- the CPU's cache at the place j of the arena at the place k did
+-- the CPU's cache at the index j of the arena at the index k did
 pub record OnOwn (k j : ℕ) (P : OwnCacheState → OwnCacheState → Type 0)
     (old new : List (List OwnCacheState)) : Type 0 where
   pub row : List OwnCacheState

@@ -9,7 +9,7 @@ use Rattle.arena_tree.specs.Events.{Pop}
 use Rattle.arena_tree.specs.Plans.{Plan, Path, Handles}
 use Rattle.stock.specs.Spaces.{SpaceState}
 use Rattle.stock.specs.Accounts.{IsAccounted}
-use Rattle.stock.specs.Sums.{Out, all_out, places_of, all_places}
+use Rattle.stock.specs.Sums.{Out, all_out, homes_of, all_homes}
 use Rattle.stock.specs.OwnCaches.{OwnCacheState}
 use Rattle.local_parts.specs.Cpus.{HasNoRounds, cpu_rounds}
 use Rattle.local_parts.specs.States.{LocalState, Conserves}
@@ -34,13 +34,13 @@ out_with s hand others = record {
   rounds = cpu_rounds s.cpu ++ others.rounds;
 }
 
--- After it each unit of an arena's spans is in one place, and no other unit in any.
-abbrev pub PlanInOnePlace : Type 0 → Type 0
-PlanInOnePlace A = (left : A → Option Tag) (p : Plan A) (hand : Option Tag) → Handles left p hand
+-- After it each unit of an arena's spans is in one home, and no other unit in any.
+abbrev pub PlanInOneHome : Type 0 → Type 0
+PlanInOneHome A = (left : A → Option Tag) (p : Plan A) (hand : Option Tag) → Handles left p hand
     → (old new : LocalState) (a : A) → Path LocalStep p old new a
     → (others : Out) → IsAccounted old.spaces (all_out (out_with old hand others))
     → (k : ℕ) (s : SpaceState) → slice_get new.spaces k ≡ Some s → (u : ℕ)
-    → (covering_held u (all_places (places_of new.spaces (out_with new (left a) others) s))
+    → (covering_held u (all_homes (homes_of new.spaces (out_with new (left a) others) s))
     ≡ covering_held u (spans_of s.arena))
     × (covering_held u (spans_of s.arena) ≤ 1)
 

@@ -19,21 +19,21 @@ use Rattle.arena_tree.specs.declared.part_faults.SwapFreshFault.TheVariants as f
 use Rattle.stock.specs.Spaces.{SpaceState, plans_of}
 use Rattle.stock.specs.Stocks.{IsRoundOf, IsStock}
 use Rattle.stock.specs.Accounts.{Frames}
-use Rattle.stock.specs.OwnCaches.{OwnCacheState, IsAtPlaceOf, own_rounds}
+use Rattle.stock.specs.OwnCaches.{OwnCacheState, IsAtIndexesOf, own_rounds}
 use Rattle.stock.specs.Steps.{OnDepot}
 use Rattle.local_parts.specs.OwnSteps.{CanPush, CanChange, ChangesTo, SwapsFull, SwapsEmpty}
 use Rattle.local_parts.specs.OwnSteps.{SwapsFresh}
 
 -- it gave a round, or had none
 pub record OwnPops (r : Option Tag) (o o' : OwnCacheState) : Type 0 where
-  pub place : IsAtPlaceOf o o'
+  pub index : IsAtIndexesOf o o'
   pub popped : PopOf o.cpu r o'.cpu
   pub weights : IfSome r (Loses (own_rounds o) (own_rounds o'))
   pub chunk : IfSome r (IsRoundOf o.arena (o.cache + 1) o.quantum)
 
 -- it kept the segment
 pub record OwnKeeps (t : Tag) (o o' : OwnCacheState) : Type 0 where
-  pub place : IsAtPlaceOf o o'
+  pub index : IsAtIndexesOf o o'
   pub pushed : PushOf o.cpu t (Ok tt) o'.cpu
   pub chunk : IsRoundOf o.arena (o.cache + 1) o.quantum t
   pub weights : Gains (own_rounds o) (own_rounds o') t
@@ -45,7 +45,7 @@ OwnPushes t (Err same) o o' = (same ≡ t) × (o' ≡ o) × (¬ CanPush t o.aren
 
 -- it changed over
 pub record OwnGrows (size : ℕ) (o o' : OwnCacheState) : Type 0 where
-  pub place : IsAtPlaceOf o o'
+  pub index : IsAtIndexesOf o o'
   pub changed : ChangesTo size o.cpu o'.cpu
   pub weights : WeighSame (own_rounds o) (own_rounds o')
 
@@ -56,11 +56,11 @@ OwnChanges size (Err NoMemory) o o' = (o' ≡ o) × CanChange size o
 OwnChanges size (Err NotGreater) o o' = (o' ≡ o) × (¬ CanChange size o)
 OwnChanges size (Err Stopped) o o' = ⊥
 
--- it exchanged a magazine with the depot of the stock's cache at that place, or was refused there
+-- it exchanged a magazine with the depot of the stock's cache at that index, or was refused there
 pub record OwnExchanges (k j : ℕ)
     (P : CpuCacheState → DepotState → CpuCacheState → DepotState → Type 0)
     (old new : List SpaceState) (o o' : OwnCacheState) : Type 0 where
-  pub place : IsAtPlaceOf o o'
+  pub index : IsAtIndexesOf o o'
   pub swapped : OnDepot k j (λ d d'. P o.cpu d o'.cpu d') old new
   pub frame : Frames old (own_rounds o) new (own_rounds o')
   pub fixed : plans_of new ≡ plans_of old

@@ -20,7 +20,7 @@ use Rattle.arena_tree.specs.declared.part_faults.ChangeFault.{ChangeFault}
 use Rattle.arena_tree.specs.declared.part_faults.ChangeFault.TheVariants as changing
 use Rattle.arena_tree.specs.declared.part_faults.Stopped.{Stopped}
 use Rattle.stock.specs.Stocks.{IsRoundOf}
-use Rattle.stock.specs.OwnCaches.{OwnCacheState, IsAtPlaceOf}
+use Rattle.stock.specs.OwnCaches.{OwnCacheState, IsAtIndexesOf}
 use Rattle.stock.specs.Steps.{OnDepot}
 use Rattle.local_parts.specs.Cpus.{OnOwn}
 use Rattle.local_parts.specs.Words.{in_words, full_word, empty_word, fresh_word}
@@ -30,13 +30,13 @@ use Rattle.local_parts.specs.States.{LocalState, IsReached, HasReached, IsUnchan
 abbrev pub OnReached : LocalState → ℕ → ℕ → (CpuCacheState → CpuCacheState → Type 0) → LocalState
     → Type 0
 OnReached old k c P new = (new.spaces ≡ old.spaces) × ((j : ℕ) × (c ≡ j + 1) × HasReached old k j
-    × OnOwn k j (λ o o'. IsAtPlaceOf o o' × P o.cpu o'.cpu) old.cpu new.cpu)
+    × OnOwn k j (λ o o'. IsAtIndexesOf o o' × P o.cpu o'.cpu) old.cpu new.cpu)
 
 -- it and the depot of that cache did
 abbrev pub OnExchange : LocalState → ℕ → ℕ
     → (CpuCacheState → DepotState → CpuCacheState → DepotState → Type 0) → LocalState → Type 0
 OnExchange old k c P new = (j : ℕ) × (c ≡ j + 1) × HasReached old k j
-    × OnOwn k j (λ o o'. IsAtPlaceOf o o'
+    × OnOwn k j (λ o o'. IsAtIndexesOf o o'
     × OnDepot k j (λ d d'. P o.cpu d o'.cpu d') old.spaces new.spaces) old.cpu new.cpu
 
 -- the CPU has no cache that serves it and is so

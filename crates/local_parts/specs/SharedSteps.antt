@@ -40,7 +40,7 @@ abbrev pub DoesImport : List SpaceState → ℕ → Tag → ℕ → Result Tag (
 DoesImport old k span n a new = (r : Result Tag (SpanFault Tag)) × (a ≡ in_words import_word r)
     × OnArena k (λ x y. ImportOf x span (plain_of n) r y) old new
 
--- the arena's cache of c quanta stands at the place j, of which the first is so; else the second is
+-- the arena's cache of c quanta stands at the index j, of which the first is so; else the second is
 abbrev pub OfCache : List SpaceState → ℕ → ℕ → (ℕ → Type 0) → Type 0 → Type 0
 OfCache spaces k c there none = ((j : ℕ) × (c ≡ j + 1) × there j)
     ⊎ (((j : ℕ) → c ≡ j + 1 → ¬ HasCache spaces k j) × none)

@@ -47,7 +47,7 @@ IsTreeOf (p ∷ plans) [] = ⊥
 IsTreeOf (p ∷ plans) (x ∷ sizes) =
     (x.source ≡ p.source) × (x.quantum ≡ p.quantum) × IsTreeOf plans sizes
 
--- the CPU's cache at these places is one for the stock's quantum cache there
+-- the CPU's cache at these indexes is one for the stock's quantum cache there
 pub record IsReached (s : LocalState) (k j : ℕ) (o : OwnCacheState) : Type 0 where
   pub has : HasCache s.spaces k j
   pub own : IsOwnAt s.cpu k j o

@@ -9,7 +9,7 @@ use Rattle.arena_tree.specs.Sound.{Sound, KeepsRounds}
 use Rattle.arena_tree.specs.Stops.{is_stopped}
 use Rattle.stock.specs.Spaces.{plans_of}
 use Rattle.stock.specs.Stocks.{IsStock}
-use Rattle.local_parts.specs.Cpus.{own_places, cpu_rounds}
+use Rattle.local_parts.specs.Cpus.{own_indexes, cpu_rounds}
 use Rattle.local_parts.specs.States.{LocalState, Conserves, tree_of}
 use Rattle.local_parts.specs.SharedSteps.{DoesCarve, DoesFree, DoesImport, DoesTake, DoesPut}
 use Rattle.local_parts.specs.SharedSteps.{DoesAdd, DoesReap, DoesDepotReap}
@@ -37,7 +37,7 @@ Does old (Change k c size) a new = DoesChange old k c size a new
 -- the same arenas and caches, set up alike
 pub record IsSetUpAs (old new : LocalState) : Type 0 where
   pub plans : plans_of new.spaces ≡ plans_of old.spaces
-  pub places : own_places new.cpu ≡ own_places old.cpu
+  pub indexes : own_indexes new.cpu ≡ own_indexes old.cpu
 
 -- the event did that, and with the hand it keeps the accounts, the stock's laws and the setup
 pub record LocalStep (old : LocalState) (event : Event) (answer : AnswerTo event)

@@ -22,10 +22,10 @@ pub(crate) fn take_of<D: Deed>(
 {
     // For its clause, here and below: what is always so of a stock.
     let _ = stock.count();
-    let Some(place) = stock.cache_at(arena, cache) else {
+    let Some(index) = stock.cache_at(arena, cache) else {
         return Ok(None);
     };
-    let taken = stock.slab_take(arena as usize, place);
+    let taken = stock.slab_take(arena as usize, index);
     let _ = stock.count();
     Ok(taken)
 }
@@ -40,10 +40,10 @@ pub(crate) fn reap_of<D: Deed>(
         (SlabReap arena cache) result (record { spaces = stock.new; cpu = cpu }) }
 {
     let _ = stock.count();
-    let Some(place) = stock.cache_at(arena, cache) else {
+    let Some(index) = stock.cache_at(arena, cache) else {
         return Ok(None);
     };
-    let reaped = stock.slab_reap(arena as usize, place);
+    let reaped = stock.slab_reap(arena as usize, index);
     let _ = stock.count();
     Ok(reaped)
 }
@@ -58,10 +58,10 @@ pub(crate) fn depot_reap_of<D: Deed>(
         (DepotReap arena cache) result (record { spaces = stock.new; cpu = cpu }) }
 {
     let _ = stock.count();
-    let Some(place) = stock.cache_at(arena, cache) else {
+    let Some(index) = stock.cache_at(arena, cache) else {
         return Ok(None);
     };
-    let reaped = stock.depot_reap(arena as usize, place);
+    let reaped = stock.depot_reap(arena as usize, index);
     let _ = stock.count();
     Ok(reaped)
 }
@@ -106,10 +106,10 @@ pub(crate) fn add_of<D: Deed>(
         (SlabAdd arena cache span) result (record { spaces = stock.new; cpu = cpu }) }
 {
     let _ = stock.count();
-    let Some(place) = stock.cache_at(arena, cache) else {
+    let Some(index) = stock.cache_at(arena, cache) else {
         return Err(SlabAddFault::WrongSize(span));
     };
-    let added = stock.slab_add(arena as usize, place, span);
+    let added = stock.slab_add(arena as usize, index, span);
     let _ = stock.count();
     add_in_words(added)
 }

@@ -45,7 +45,7 @@ impl<D: Deed> Model for CpuCaches<D> {
 }
 
 impl<D: Deed> CpuCaches<D> {
-    /// Takes a round out of the cache at the place.
+    /// Takes a round out of the cache at the index.
     pub(crate) fn pop_at(&mut self, arena: usize, cache: usize) -> Option<Segment<D>>
         requires { (o : OwnCacheState) × IsOwnAt self.old arena cache o }
         ensures { OnOwn arena cache (OwnPops result) self.old self.new }
@@ -135,7 +135,7 @@ impl<D: Deed> CpuCaches<D> {
         swap_fresh_own(alloc, stock, own)
     }
 
-    /// Whether a cache stands at the place, made for it and this quantum.
+    /// Whether a cache stands at the index, made for it and this quantum.
     pub(crate) fn is_at(&self, arena: usize, cache: usize, quantum: u64) -> bool
         ensures { IsTrue result ↔ ((o : OwnCacheState)
             × IsOwnAt self.now arena cache o × (o.quantum ≡ quantum)) }
@@ -148,7 +148,7 @@ impl<D: Deed> CpuCaches<D> {
             return false;
         }
         let own = &row.caches[cache];
-        let place = own.place();
-        place.0 == arena && place.1 == cache && own.quantum() == quantum
+        let index = own.indexes();
+        index.0 == arena && index.1 == cache && own.quantum() == quantum
     }
 }

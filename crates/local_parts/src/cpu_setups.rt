@@ -4,7 +4,7 @@ ghost use Rattle.std.specs.Prelude.{slice_get, Some, IfOk, IfErr, OnOk, IsOk, Is
 ghost use Rattle.deed_core.specs.Covering.{units_tagged};
 ghost use Rattle.magazine_layer.specs.Magazines.{IsSize};
 ghost use Rattle.stock.specs.Spaces.{SpaceState, plans_of};
-ghost use Rattle.local_parts.specs.Cpus.{IsCpuOf, new_own, new_cpu, row_places};
+ghost use Rattle.local_parts.specs.Cpus.{IsCpuOf, new_own, new_cpu, row_indexes};
 ghost use Rattle.local_parts.specs.Cpus.{HasNoRound, HasNoRounds, row_rounds, arena_rounds};
 
 use crate::cpu_caches::{ArenaCaches, CpuCaches};
@@ -34,7 +34,7 @@ impl<D: Deed> CpuCaches<D> {
         }
     }
 
-    // Adds a row for each arena; those that are there when memory is refused are empty.
+    // Adds a row for each arena; those that are there when out of memory are empty.
     fn fill(&mut self, alloc: Global, stock: &Stock<D>, size: usize) -> Result<(), AllocError>
         requires none { self.old ≡ [] }
         requires size { IsSize size }
@@ -49,7 +49,7 @@ impl<D: Deed> CpuCaches<D> {
         Ok(())
     }
 
-    /// Its caches for those of the arena at the place, by the quanta of a chunk.
+    /// Its caches for those of the arena at the index, by the quanta of a chunk.
     pub fn of_arena(&self, arena: usize) -> &[OwnCache<D>]
         requires { arena < length self.now }
         ensures { slice_get self.now arena ≡ Some result.now }
@@ -103,7 +103,7 @@ impl<D: Deed> ArenaCaches<D> {
         requires size { IsSize size }
         ensures { IfOk result (λ row. (s : SpaceState) → slice_get stock.now arena ≡ Some s
             → row ≡ map (new_own size)
-            (row_places arena s.arena.quantum 0 (length s.caches))) }
+            (row_indexes arena s.arena.quantum 0 (length s.caches))) }
     {
         // For its clause: what is always so of a stock.
         let _ = stock.count();
@@ -134,7 +134,7 @@ impl<D: Deed> ArenaCaches<D> {
         requires some { 0 < quantum }
         requires size { IsSize size }
         ensures made { OnOk result
-            (self.new ≡ map (new_own size) (row_places arena quantum 0 count)) }
+            (self.new ≡ map (new_own size) (row_indexes arena quantum 0 count)) }
         ensures empty { All HasNoRound self.new }
     {
         for cache in 0..count {

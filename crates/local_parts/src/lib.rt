@@ -12,7 +12,7 @@
 //! they have no round.
 //!
 //! `laws` has what follows of every list of steps: it conserves units whoever else holds
-//! segments, leaves the setup alone, and leaves each unit in one place. A pop takes one round.
+//! segments, leaves the setup alone, and leaves each unit in one home. A pop takes one round.
 //!
 //! An event takes constant time beside what its part takes. To make a CPU's caches, and to end
 //! them, goes over all of them.

@@ -11,21 +11,21 @@ use deed_core::{Deed, Segment};
 use std::alloc::Global;
 use stock::Stock;
 
-// The place of the CPU's cache that serves the arena's cache of chunks of so many quanta.
+// The index of the CPU's cache that serves the arena's cache of chunks of so many quanta.
 fn served<D: Deed>(stock: &Stock<D>, cpu: &CpuCaches<D>, arena: u32, cache: u8) -> Option<usize>
     ensures some { IfSome result (λ j. (cache ≡ j + 1)
         × HasReached (record { spaces = stock.now; cpu = cpu.now }) arena j) }
     ensures none { IfNone result ((j : ℕ) (o : OwnCacheState) → cache ≡ j + 1
         → ¬ IsReached (record { spaces = stock.now; cpu = cpu.now }) arena j o) }
 {
-    let Some(place) = stock.cache_at(arena, cache) else {
+    let Some(index) = stock.cache_at(arena, cache) else {
         return None;
     };
     let quantum = stock.quantum(arena as usize);
-    if !cpu.is_at(arena as usize, place, quantum) {
+    if !cpu.is_at(arena as usize, index, quantum) {
         return None;
     }
-    Some(place)
+    Some(index)
 }
 
 pub(crate) fn pop_of<D: Deed>(
@@ -39,10 +39,10 @@ pub(crate) fn pop_of<D: Deed>(
 {
     // For its clause, here and below: what is always so of a stock.
     let _ = stock.count();
-    let Some(place) = served(stock, cpu, arena, cache) else {
+    let Some(index) = served(stock, cpu, arena, cache) else {
         return Ok(None);
     };
-    Ok(cpu.pop_at(arena as usize, place))
+    Ok(cpu.pop_at(arena as usize, index))
 }
 
 pub(crate) fn push_of<D: Deed>(
@@ -56,10 +56,10 @@ pub(crate) fn push_of<D: Deed>(
         (Push arena cache segment) result (record { spaces = stock.now; cpu = cpu.new }) }
 {
     let _ = stock.count();
-    let Some(place) = served(stock, cpu, arena, cache) else {
+    let Some(index) = served(stock, cpu, arena, cache) else {
         return Err(PushFault::NoRoom(segment));
     };
-    match cpu.push_at(arena as usize, place, segment) {
+    match cpu.push_at(arena as usize, index, segment) {
         Ok(()) => Ok(()),
         Err(segment) => Err(PushFault::NoRoom(segment)),
     }
@@ -77,10 +77,10 @@ pub(crate) fn change_of<D: Deed>(
         (Change arena cache size) result (record { spaces = stock.now; cpu = cpu.new }) }
 {
     let _ = stock.count();
-    let Some(place) = served(stock, cpu, arena, cache) else {
+    let Some(index) = served(stock, cpu, arena, cache) else {
         return Err(ChangeFault::NotGreater);
     };
-    cpu.change_at(alloc, arena as usize, place, size)
+    cpu.change_at(alloc, arena as usize, index, size)
 }
 
 pub(crate) fn swap_full_of<D: Deed>(
@@ -93,10 +93,10 @@ pub(crate) fn swap_full_of<D: Deed>(
         (SwapFull arena cache) result (record { spaces = stock.new; cpu = cpu.new }) }
 {
     let _ = stock.count();
-    let Some(place) = served(stock, cpu, arena, cache) else {
+    let Some(index) = served(stock, cpu, arena, cache) else {
         return Err(SwapFullFault::NoneFull);
     };
-    cpu.swap_full_at(stock, arena as usize, place)
+    cpu.swap_full_at(stock, arena as usize, index)
 }
 
 pub(crate) fn swap_empty_of<D: Deed>(
@@ -109,10 +109,10 @@ pub(crate) fn swap_empty_of<D: Deed>(
         (SwapEmpty arena cache) result (record { spaces = stock.new; cpu = cpu.new }) }
 {
     let _ = stock.count();
-    let Some(place) = served(stock, cpu, arena, cache) else {
+    let Some(index) = served(stock, cpu, arena, cache) else {
         return Err(SwapEmptyFault::NoneEmpty);
     };
-    cpu.swap_empty_at(stock, arena as usize, place)
+    cpu.swap_empty_at(stock, arena as usize, index)
 }
 
 pub(crate) fn swap_fresh_of<D: Deed>(
@@ -126,8 +126,8 @@ pub(crate) fn swap_fresh_of<D: Deed>(
         (SwapFresh arena cache) result (record { spaces = stock.new; cpu = cpu.new }) }
 {
     let _ = stock.count();
-    let Some(place) = served(stock, cpu, arena, cache) else {
+    let Some(index) = served(stock, cpu, arena, cache) else {
         return Err(SwapFreshFault::NoMemory);
     };
-    cpu.swap_fresh_at(alloc, stock, arena as usize, place)
+    cpu.swap_fresh_at(alloc, stock, arena as usize, index)
 }

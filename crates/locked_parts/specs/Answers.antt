@@ -10,8 +10,8 @@ use Rattle.arena_tree.specs.Stops.{is_stopped}
 use Rattle.locked_parts.specs.declared.kinds.CacheKind.{CacheKind}
 
 -- the answer is sound, and no stop
-abbrev pub GoesOn : List Node → (e : Event) → AnswerTo e → Type 0
-GoesOn nodes e a = Sound nodes e a × (is_stopped e a ≡ false)
+abbrev pub AnswersSoundly : List Node → (e : Event) → AnswerTo e → Type 0
+AnswersSoundly nodes e a = Sound nodes e a × (is_stopped e a ≡ false)
 
 -- an arena under its lock, with the number of the arena that it imports from
 pub record ArenaPartState : Type 0 where

@@ -38,13 +38,13 @@ pub record IsKindDepot (d : KindDepotState) : Type 0 where
   pub rounds : All (IsOfKind d.kind) (depot_rounds d.depot)
 
 -- how many rounds a CPU's magazines have
-abbrev pub rounds_in : List KindRoundsState → ℕ
-rounds_in caches = sum_by (λ r. length (cache_rounds r.cpu)) caches
+abbrev pub count_of_rounds : List KindRoundsState → ℕ
+count_of_rounds caches = sum_by (λ r. length (cache_rounds r.cpu)) caches
 
 -- how many quantum caches an arena has
 abbrev pub caches_if : Option TreeArena → ℕ
 caches_if None = 0
 caches_if (Some x) = min (x.qcache_max / x.quantum) 255
 
-abbrev pub caches_of : List TreeArena → ℕ → ℕ
-caches_of arenas id = caches_if (slice_get arenas id)
+abbrev pub count_of_caches : List TreeArena → ℕ → ℕ
+count_of_caches arenas id = caches_if (slice_get arenas id)

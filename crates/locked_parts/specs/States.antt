@@ -3,6 +3,6 @@ use Rattle.std.specs.Prelude.{ℕ, List}
 use Rattle.arena_tree.specs.declared.trees.TreeArena.{TreeArena}
 
 -- the arenas by number, as they were set up, and how many of them aren't ended
-pub record PartsState : Type 0 where
+pub record LockedPartsState : Type 0 where
   pub arenas : List TreeArena
   pub standing : ℕ

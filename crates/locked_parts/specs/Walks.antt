@@ -1,7 +1,7 @@
 -- Walks over the depots of quantum caches, in order of arenas and of caches, whatever keeps them.
 use Rattle.std.specs.Prelude.{◌≡◌, ◌||◌, ℕ, zero, suc, Bool, false, List}
 use Rattle.arena_tree.specs.declared.trees.TreeArena.{TreeArena}
-use Rattle.locked_parts.specs.Kinds.{caches_of}
+use Rattle.locked_parts.specs.Kinds.{count_of_caches}
 
 -- an interval begins in the depots of the arena's first caches, so many, one after another
 abbrev pub TicksCaches : {S : Type 0} → (S → ℕ → ℕ → S → Type 0) → (arena count : ℕ) → S → S
@@ -15,7 +15,7 @@ abbrev pub TicksArenas : {S : Type 0} → (S → ℕ → ℕ → S → Type 0) �
     → Type 0
 TicksArenas ticks arenas zero s t = t ≡ s
 TicksArenas {S} ticks arenas (suc n) s t = (m : S)
-    × TicksArenas ticks arenas n s m × TicksCaches ticks n (caches_of arenas n) m t
+    × TicksArenas ticks arenas n s m × TicksCaches ticks n (count_of_caches arenas n) m t
 
 -- the depots of the arena's first caches, so many, are asked one after another to keep magazines of
 -- this size, and whether one of them rose

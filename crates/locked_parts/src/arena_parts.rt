@@ -7,7 +7,7 @@ ghost use Rattle.tag_arena.specs.Outcomes.{CarveOf, ImportOf, FreeOf, RemoveOf};
 ghost use Rattle.std.specs.Option.{option_map};
 ghost use Rattle.arena_tree.specs.Chains.{Node, quantum_in, source_of};
 ghost use Rattle.arena_tree.specs.Events.{Carve, Free, AddCarve};
-ghost use Rattle.locked_parts.specs.Answers.{GoesOn};
+ghost use Rattle.locked_parts.specs.Answers.{AnswersSoundly};
 
 use arena_tree::{AddCarveFault, CarveFault, FreeFault};
 use deed_core::{Request, Route, Segment};
@@ -50,7 +50,7 @@ impl<N: Name> ArenaPart<N> {
     ) -> Result<Segment<SeatDeed<N>>, CarveFault>
         requires { 0 < quantum }
         ensures sound { (nodes : List Node) → quantum_in nodes id ≡ quantum
-            → GoesOn nodes (Carve id request.now) result }
+            → AnswersSoundly nodes (Carve id request.now) result }
         ensures event { IfOk result (λ t.
             CarveOf self.old.arena request.now (Ok t) self.new.arena) }
         ensures unchanged { OnErr result (self.new ≡ self.old) }
@@ -77,7 +77,7 @@ impl<N: Name> ArenaPart<N> {
         segment: Segment<SeatDeed<N>>,
     ) -> Result<Option<Segment<SeatDeed<N>>>, FreeFault<Segment<SeatDeed<N>>>>
         ensures sound { (nodes : List Node) → source_of nodes segment.arena ≡ source
-            → GoesOn nodes (Free segment) result }
+            → AnswersSoundly nodes (Free segment) result }
         ensures event { IfOk result (λ back.
             FreeOf self.old.arena segment (Ok back) self.new.arena) }
         ensures unchanged { OnErr result (self.new ≡ self.old) }
@@ -104,7 +104,7 @@ impl<N: Name> ArenaPart<N> {
         requires room { rounded quantum size ≤ span.holding.range.len }
         requires direct { span.route ≡ Route.Direct }
         ensures sound { (nodes : List Node) → quantum_in nodes id ≡ quantum
-            → GoesOn nodes (AddCarve id span size) result }
+            → AnswersSoundly nodes (AddCarve id span size) result }
         ensures event { IfOk result (λ t.
             ImportOf self.old.arena span (plain_of size) (Ok t) self.new.arena) }
         ensures unchanged { OnErr result (self.new ≡ self.old) }

@@ -1,7 +1,7 @@
 //! Walks over the depots of quantum caches, whatever keeps them: each depot once, in order.
 ghost use Rattle.std.specs.Prelude.{◌≡◌, ◌<◌, length};
 ghost use Rattle.magazine_layer.specs.Magazines.{IsSize};
-ghost use Rattle.locked_parts.specs.Kinds.{caches_of};
+ghost use Rattle.locked_parts.specs.Kinds.{count_of_caches};
 ghost use Rattle.locked_parts.specs.Walks.{TicksCaches, TicksArenas, ResizesCaches};
 
 use crate::kinds::cache_count;
@@ -50,7 +50,7 @@ fn tick_caches<D: Depots>(depots: &mut D, arena: u32, count: u8)
 pub(crate) fn resize_each<D: Depots>(depots: &mut D, tree: &Tree, arena: u32, size: usize) -> bool
     requires within { arena < length tree.now }
     requires size { IsSize size }
-    ensures { ResizesCaches D.resizes arena size (caches_of tree.now arena)
+    ensures { ResizesCaches D.resizes arena size (count_of_caches tree.now arena)
         depots.old result depots.new }
 {
     resize_caches(depots, arena, cache_count(tree, arena), size)

@@ -3,7 +3,7 @@ ghost use Rattle.std.specs.Prelude.{◌≡◌, [], true, vec_len};
 
 use crate::cpu_rounds::FIRST_SIZE;
 use crate::kind_depots::KindDepot;
-use crate::parts::{ArenaPlace, CachePlace, LockedParts};
+use crate::parts::{LockedArena, LockedCache, LockedParts};
 use deed_table::Name;
 use std::alloc::Global;
 use std::sync::Mutex;
@@ -15,7 +15,7 @@ impl<N: Name> LockedParts<N> {
         ensures arenas { self.new.arenas ≡ self.old.arenas }
         ensures ended { result ≡ true → self.new.standing ≡ 0 }
     {
-        end_places(self.alloc, &mut self.places)
+        end_all(self.alloc, &mut self.arenas)
     }
 
     /// Ends parts of which no arena stands.
@@ -25,33 +25,33 @@ impl<N: Name> LockedParts<N> {
         let LockedParts {
             alloc: _,
             tree: _,
-            places,
+            arenas,
         } = self;
-        places.destroy_empty();
+        arenas.destroy_empty();
     }
 }
 
 // Ends arenas in which no deed lies, the last first.
-fn end_places<N: Name>(alloc: Global, places: &mut Vec<ArenaPlace<N>>) -> bool
-    ensures { result ≡ true → vec_len places.new ≡ 0 }
+fn end_all<N: Name>(alloc: Global, arenas: &mut Vec<LockedArena<N>>) -> bool
+    ensures { result ≡ true → vec_len arenas.new ≡ 0 }
 {
-    while let Some(place) = places.pop() {
-        if let Err(place) = end_place(alloc, place) {
-            places.push_reserved(place);
+    while let Some(locked) = arenas.pop() {
+        if let Err(locked) = end_locked(alloc, locked) {
+            arenas.push_reserved(locked);
             return false;
         }
     }
     true
 }
 
-fn end_place<N: Name>(alloc: Global, place: ArenaPlace<N>) -> Result<(), ArenaPlace<N>> {
-    let ArenaPlace {
+fn end_locked<N: Name>(alloc: Global, locked: LockedArena<N>) -> Result<(), LockedArena<N>> {
+    let LockedArena {
         part,
         mut caches,
         before,
-    } = place;
+    } = locked;
     if !end_caches(alloc, &mut caches) {
-        return Err(ArenaPlace {
+        return Err(LockedArena {
             part,
             caches,
             before,
@@ -62,7 +62,7 @@ fn end_place<N: Name>(alloc: Global, place: ArenaPlace<N>) -> Result<(), ArenaPl
             caches.destroy_empty();
             Ok(())
         }
-        Err(part) => Err(ArenaPlace {
+        Err(part) => Err(LockedArena {
             part: Mutex::new(part),
             caches,
             before,
@@ -71,7 +71,7 @@ fn end_place<N: Name>(alloc: Global, place: ArenaPlace<N>) -> Result<(), ArenaPl
 }
 
 // Ends quantum caches in which no deed lies, the last first.
-fn end_caches<N: Name>(alloc: Global, caches: &mut Vec<CachePlace<N>>) -> bool
+fn end_caches<N: Name>(alloc: Global, caches: &mut Vec<LockedCache<N>>) -> bool
     ensures { result ≡ true → caches.new.items ≡ [] }
 {
     while let Some(cache) = caches.pop() {
@@ -83,19 +83,19 @@ fn end_caches<N: Name>(alloc: Global, caches: &mut Vec<CachePlace<N>>) -> bool
     true
 }
 
-fn end_cache<N: Name>(alloc: Global, cache: CachePlace<N>) -> Result<(), CachePlace<N>> {
-    let CachePlace { slab, depot } = cache;
+fn end_cache<N: Name>(alloc: Global, cache: LockedCache<N>) -> Result<(), LockedCache<N>> {
+    let LockedCache { slab, depot } = cache;
     let depot = depot.into_inner();
     let kind = depot.kind();
     match depot.close() {
         Ok(()) => match slab.into_inner().close() {
             Ok(()) => Ok(()),
-            Err(slab) => Err(CachePlace {
+            Err(slab) => Err(LockedCache {
                 slab: Mutex::new(slab),
                 depot: Mutex::new(KindDepot::new(alloc, kind, FIRST_SIZE)),
             }),
         },
-        Err(depot) => Err(CachePlace {
+        Err(depot) => Err(LockedCache {
             slab,
             depot: Mutex::new(depot),
         }),

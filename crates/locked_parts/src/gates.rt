@@ -74,19 +74,19 @@ pub struct RequestStopped;
 
 /// The steps of one request, counted.
 #[derive(Drop)]
-pub struct Steps {
+pub struct StepCount {
     cpu: u32,
     turn: u64,
     /// Whether the gate said Stop.
     pub noted: bool,
 }
 
-impl Steps {
+impl StepCount {
     /// No step yet, by the CPU with this number.
-    pub fn new(cpu: u32) -> Steps
+    pub fn new(cpu: u32) -> StepCount
         ensures { result.noted ≡ false }
     {
-        Steps {
+        StepCount {
             cpu,
             turn: 0,
             noted: false,
@@ -94,10 +94,10 @@ impl Steps {
     }
 
     /// The same count, for a list of steps in which no Stop was said yet.
-    pub fn anew(&self) -> Steps
+    pub fn anew(&self) -> StepCount
         ensures { result.noted ≡ false }
     {
-        Steps {
+        StepCount {
             cpu: self.cpu,
             turn: self.turn,
             noted: false,

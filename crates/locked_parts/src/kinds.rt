@@ -2,7 +2,7 @@
 ghost use Rattle.std.specs.Prelude.{◌≡◌, ◌<◌, ◌↔◌, IsTrue, length};
 ghost use Rattle.arena_tree.specs.Chains.{quantum_in};
 ghost use Rattle.arena_tree.specs.Trees.{nodes_of};
-ghost use Rattle.locked_parts.specs.Kinds.{IsOfKind, caches_of};
+ghost use Rattle.locked_parts.specs.Kinds.{IsOfKind, count_of_caches};
 
 use arena_tree::{Tree, TreeArena};
 use deed_core::{Deed, Route, Segment};
@@ -52,7 +52,7 @@ pub fn quantum_of(tree: &Tree, arena: u32) -> u64
 /// How many quantum caches an arena has; they are numbered from 1 on.
 pub(crate) fn cache_count(tree: &Tree, arena: u32) -> u8
     requires { arena < length tree.now }
-    ensures { result ≡ caches_of tree.now arena }
+    ensures { result ≡ count_of_caches tree.now arena }
 {
     let TreeArena {
         quantum,

@@ -36,9 +36,9 @@ mod running;
 mod slab_parts;
 
 pub use cpu_rounds::KindRounds;
-pub use gates::{EventName, Gate, NextStep, OpenGate, Pass, RequestStopped, Steps};
+pub use gates::{EventName, Gate, NextStep, OpenGate, Pass, RequestStopped, StepCount};
 pub use kinds::{CacheKind, quantum_of};
 pub use new_arenas::NewArena;
 pub use own_rounds::{end_rounds, new_rounds};
-pub use parts::{ArenaPlace, LockedParts};
+pub use parts::{LockedArena, LockedParts};
 pub use running::Running;

@@ -30,7 +30,7 @@ impl<N: Name, R: Wait> Depots for LockedDepots<'_, N, R> {
         let Some(place) = self.parts.cache(arena, cache) else {
             return;
         };
-        place.depot.lock(self.rt).tick_of(&kind);
+        locked.depot.lock(self.rt).tick_of(&kind);
     }
 
     fn resize(&mut self, arena: u32, cache: u8, size: usize) -> bool {
@@ -40,6 +40,6 @@ impl<N: Name, R: Wait> Depots for LockedDepots<'_, N, R> {
         let Some(place) = self.parts.cache(arena, cache) else {
             return false;
         };
-        place.depot.lock(self.rt).resize_of(&kind, size)
+        locked.depot.lock(self.rt).resize_of(&kind, size)
     }
 }

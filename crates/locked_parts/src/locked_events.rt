@@ -5,7 +5,7 @@ ghost use Rattle.arena_tree.specs.Chains.{source_of, quantum_in};
 ghost use Rattle.arena_tree.specs.Events.{Carve, Free, AddCarve, SlabTake, SlabPut, SlabAdd};
 ghost use Rattle.arena_tree.specs.Events.{SlabReap, DepotReap};
 ghost use Rattle.arena_tree.specs.Trees.{nodes_of};
-ghost use Rattle.locked_parts.specs.Answers.{GoesOn};
+ghost use Rattle.locked_parts.specs.Answers.{AnswersSoundly};
 
 use crate::kinds::quantum_of;
 use crate::parts::LockedParts;
@@ -23,16 +23,16 @@ pub(crate) fn carve_in<N: Name, R: Wait>(
     request: &Request,
 ) -> Result<Segment<SeatDeed<N>>, CarveFault>
     requires { arena < length parts.now.arenas }
-    ensures { GoesOn (nodes_of parts.now.arenas) (Carve arena request.now) result }
+    ensures { AnswersSoundly (nodes_of parts.now.arenas) (Carve arena request.now) result }
 {
     let quantum = quantum_of(parts.tree(), arena);
-    let Some(place) = parts.places.get(arena as usize) else {
+    let Some(locked) = parts.arenas.get(arena as usize) else {
         if request.is_good(quantum) {
             return Err(CarveFault::NoMemory);
         }
         return Err(CarveFault::BadRequest);
     };
-    place.part.lock(rt).carve(arena, quantum, request)
+    locked.part.lock(rt).carve(arena, quantum, request)
 }
 
 // The source of an arena.
@@ -48,17 +48,17 @@ pub(crate) fn free_in<N: Name, R: Wait>(
     rt: &R,
     segment: Segment<SeatDeed<N>>,
 ) -> Result<Option<Segment<SeatDeed<N>>>, FreeFault<Segment<SeatDeed<N>>>>
-    ensures { GoesOn (nodes_of parts.now.arenas) (Free segment) result }
+    ensures { AnswersSoundly (nodes_of parts.now.arenas) (Free segment) result }
 {
     let arena = segment.arena();
     if arena as usize >= parts.tree().len() {
         return Err(FreeFault::BadFree(segment));
     }
     let source = source_in(parts.tree(), arena);
-    let Some(place) = parts.places.get(arena as usize) else {
+    let Some(locked) = parts.arenas.get(arena as usize) else {
         return Err(FreeFault::BadFree(segment));
     };
-    place.part.lock(rt).free(source, segment)
+    locked.part.lock(rt).free(source, segment)
 }
 
 pub(crate) fn add_carve_in<N: Name, R: Wait>(
@@ -73,13 +73,13 @@ pub(crate) fn add_carve_in<N: Name, R: Wait>(
     requires room { rounded (quantum_in (nodes_of parts.now.arenas) child) size
         ≤ span.holding.range.len }
     requires direct { span.route ≡ Route.Direct }
-    ensures { GoesOn (nodes_of parts.now.arenas) (AddCarve child span size) result }
+    ensures { AnswersSoundly (nodes_of parts.now.arenas) (AddCarve child span size) result }
 {
     let quantum = quantum_of(parts.tree(), child);
-    let Some(place) = parts.places.get(child as usize) else {
+    let Some(locked) = parts.arenas.get(child as usize) else {
         return Err(AddCarveFault::Overlaps(span));
     };
-    place.part.lock(rt).add_carve(child, quantum, span, size)
+    locked.part.lock(rt).add_carve(child, quantum, span, size)
 }
 
 pub(crate) fn slab_take_in<N: Name, R: Wait>(
@@ -88,15 +88,15 @@ pub(crate) fn slab_take_in<N: Name, R: Wait>(
     arena: u32,
     cache: u8,
 ) -> Result<Option<Segment<SeatDeed<N>>>, Stopped>
-    ensures { GoesOn (nodes_of parts.now.arenas) (SlabTake arena cache) result }
+    ensures { AnswersSoundly (nodes_of parts.now.arenas) (SlabTake arena cache) result }
 {
     let Some(kind) = parts.kind(arena, cache) else {
         return Ok(None);
     };
-    let Some(place) = parts.cache(arena, cache) else {
+    let Some(locked) = parts.cache(arena, cache) else {
         return Ok(None);
     };
-    let mut slab = place.slab.lock(rt);
+    let mut slab = locked.slab.lock(rt);
     Ok(take_chunk(&mut slab, &kind))
 }
 
@@ -105,15 +105,15 @@ pub(crate) fn slab_put_in<N: Name, R: Wait>(
     rt: &R,
     segment: Segment<SeatDeed<N>>,
 ) -> Result<(), SlabPutFault<Segment<SeatDeed<N>>>>
-    ensures { GoesOn (nodes_of parts.now.arenas) (SlabPut segment) result }
+    ensures { AnswersSoundly (nodes_of parts.now.arenas) (SlabPut segment) result }
 {
     let Route::Cached(number) = segment.route() else {
         return Err(SlabPutFault::NotMine(segment));
     };
-    let Some(place) = parts.cache(segment.arena(), number) else {
+    let Some(locked) = parts.cache(segment.arena(), number) else {
         return Err(SlabPutFault::NotMine(segment));
     };
-    match place.slab.lock(rt).put(segment) {
+    match locked.slab.lock(rt).put(segment) {
         Ok(()) => Ok(()),
         Err(PutFault::NotMine(segment)) => Err(SlabPutFault::NotMine(segment)),
         Err(PutFault::AtHome(segment)) => Err(SlabPutFault::AtHome(segment)),
@@ -130,15 +130,15 @@ pub(crate) fn slab_add_in<N: Name, R: Wait>(
     requires of_arena { span.arena ≡ arena }
     requires direct { span.route ≡ Route.Direct }
     requires grid { span.holding.range.base % quantum_in (nodes_of parts.now.arenas) arena ≡ 0 }
-    ensures { GoesOn (nodes_of parts.now.arenas) (SlabAdd arena cache span) result }
+    ensures { AnswersSoundly (nodes_of parts.now.arenas) (SlabAdd arena cache span) result }
 {
     let Some(kind) = parts.kind(arena, cache) else {
         return Err(SlabAddFault::WrongSize(span));
     };
-    let Some(place) = parts.cache(arena, cache) else {
+    let Some(locked) = parts.cache(arena, cache) else {
         return Err(SlabAddFault::WrongSize(span));
     };
-    let mut slab = place.slab.lock(rt);
+    let mut slab = locked.slab.lock(rt);
     add_slab(&mut slab, &kind, span)
 }
 
@@ -148,15 +148,15 @@ pub(crate) fn slab_reap_in<N: Name, R: Wait>(
     arena: u32,
     cache: u8,
 ) -> Result<Option<Segment<SeatDeed<N>>>, Stopped>
-    ensures { GoesOn (nodes_of parts.now.arenas) (SlabReap arena cache) result }
+    ensures { AnswersSoundly (nodes_of parts.now.arenas) (SlabReap arena cache) result }
 {
     let Some(kind) = parts.kind(arena, cache) else {
         return Ok(None);
     };
-    let Some(place) = parts.cache(arena, cache) else {
+    let Some(locked) = parts.cache(arena, cache) else {
         return Ok(None);
     };
-    let mut slab = place.slab.lock(rt);
+    let mut slab = locked.slab.lock(rt);
     Ok(reap_slab(&mut slab, &kind))
 }
 
@@ -166,14 +166,14 @@ pub(crate) fn depot_reap_in<N: Name, R: Wait>(
     arena: u32,
     cache: u8,
 ) -> Result<Option<Segment<SeatDeed<N>>>, Stopped>
-    ensures { GoesOn (nodes_of parts.now.arenas) (DepotReap arena cache) result }
+    ensures { AnswersSoundly (nodes_of parts.now.arenas) (DepotReap arena cache) result }
 {
     let Some(kind) = parts.kind(arena, cache) else {
         return Ok(None);
     };
-    let Some(place) = parts.cache(arena, cache) else {
+    let Some(locked) = parts.cache(arena, cache) else {
         return Ok(None);
     };
-    let mut depot = place.depot.lock(rt);
+    let mut depot = locked.depot.lock(rt);
     Ok(depot.reap_of(&kind))
 }

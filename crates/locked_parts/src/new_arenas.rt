@@ -6,7 +6,7 @@ ghost use Rattle.arena_tree.specs.declared.limits.TheConstants.{MOST_SPANS};
 use crate::arena_parts::ArenaPart;
 use crate::kinds::cache_count;
 use crate::new_caches::{NewCache, add_caches, end_caches, lock_caches};
-use crate::parts::{ArenaPlace, CachePlace};
+use crate::parts::{LockedArena, LockedCache};
 use arena_tree::{MOST_SPANS, Tree, TreeArena};
 use deed_core::Range;
 use deed_table::{Name, Opener, Root, SeatDeed, close};
@@ -21,7 +21,7 @@ pub struct NewArena<N: Name> {
     part: ArenaPart<N>,
     root: Option<Root<N>>,
     caches: Vec<NewCache<N>>,
-    locked: Vec<CachePlace<N>>,
+    locked: Vec<LockedCache<N>>,
 }
 
 impl<N: Name> Model for NewArena<N> {
@@ -92,7 +92,7 @@ impl<N: Name> NewArena<N> {
     }
 
     /// Puts it and its caches under their locks, and hands out its root.
-    pub fn lock(self, before: usize) -> (ArenaPlace<N>, Option<Root<N>>)
+    pub fn lock(self, before: usize) -> (LockedArena<N>, Option<Root<N>>)
         ensures { result.1 ≡ self }
     {
         let NewArena {
@@ -102,12 +102,12 @@ impl<N: Name> NewArena<N> {
             mut locked,
         } = self;
         lock_caches(caches, &mut locked);
-        let place = ArenaPlace {
+        let arena = LockedArena {
             part: Mutex::new(part),
             caches: locked,
             before,
         };
-        (place, root)
+        (arena, root)
     }
 
     /// Ends it, and closes its root.

@@ -1,11 +1,11 @@
 //! Quantum caches as they are made, before they are put under their locks.
 ghost use Rattle.std.specs.Prelude.{◌≡◌, ◌+◌, ◌<◌, ◌≤◌, length, vec_len, vec_capacity};
-ghost use Rattle.locked_parts.specs.Kinds.{caches_of};
+ghost use Rattle.locked_parts.specs.Kinds.{count_of_caches};
 
 use crate::cpu_rounds::FIRST_SIZE;
 use crate::kind_depots::KindDepot;
 use crate::kinds::CacheKind;
-use crate::parts::CachePlace;
+use crate::parts::LockedCache;
 use arena_tree::{Tree, TreeArena};
 use deed_table::{Name, SeatDeed};
 use slab_layer::SlabCache;
@@ -33,9 +33,9 @@ impl<N: Name> Model for NewCache<N> {
 }
 
 impl<N: Name> NewCache<N> {
-    fn lock(self) -> CachePlace<N> {
+    fn lock(self) -> LockedCache<N> {
         let NewCache { slab, depot } = self;
-        CachePlace {
+        LockedCache {
             slab: Mutex::new(slab),
             depot: Mutex::new(depot),
         }
@@ -57,7 +57,7 @@ impl<N: Name> NewCache<N> {
 // The new cache for `number` quanta of an arena.
 fn new_cache<N: Name>(alloc: Global, tree: &Tree, arena: u32, number: u8) -> NewCache<N>
     requires within { arena < length tree.now }
-    requires number { (1 ≤ number) × (number ≤ caches_of tree.now arena) }
+    requires number { (1 ≤ number) × (number ≤ count_of_caches tree.now arena) }
 {
     let TreeArena {
         quantum,
@@ -84,7 +84,7 @@ pub(crate) fn add_caches<N: Name>(
     caches: &mut Vec<NewCache<N>>,
 )
     requires within { arena < length tree.now }
-    requires count { count ≡ caches_of tree.now arena }
+    requires count { count ≡ count_of_caches tree.now arena }
     requires room { vec_len caches.old + count ≤ vec_capacity caches.old }
     ensures { vec_len caches.new ≡ vec_len caches.old + count }
 {
@@ -102,7 +102,7 @@ pub(crate) fn end_caches<N: Name>(mut caches: Vec<NewCache<N>>) {
 }
 
 /// Puts them under their locks, in their order.
-pub(crate) fn lock_caches<N: Name>(mut caches: Vec<NewCache<N>>, locked: &mut Vec<CachePlace<N>>)
+pub(crate) fn lock_caches<N: Name>(mut caches: Vec<NewCache<N>>, locked: &mut Vec<LockedCache<N>>)
     requires { vec_len locked.old + vec_len caches ≤ vec_capacity locked.old }
 {
     while !caches.is_empty() {

@@ -6,8 +6,8 @@ ghost use Rattle.arena_tree.specs.Sound.{PopsRound, PushesRound};
 ghost use Rattle.arena_tree.specs.Trees.{nodes_of};
 ghost use Rattle.magazine_layer.specs.Depots.{SwapsForFull, SwapsForEmpty, PutsFull};
 ghost use Rattle.magazine_layer.specs.Magazines.{BothEmpty, BothFull, empty_magazine};
-ghost use Rattle.locked_parts.specs.Answers.{GoesOn};
-ghost use Rattle.locked_parts.specs.Kinds.{KindRoundsState, rounds_in};
+ghost use Rattle.locked_parts.specs.Answers.{AnswersSoundly};
+ghost use Rattle.locked_parts.specs.Kinds.{KindRoundsState, count_of_rounds};
 ghost use Rattle.locked_parts.specs.Swaps.{ExchangesIn};
 
 use crate::cpu_rounds::KindRounds;
@@ -25,19 +25,19 @@ fn own_at<N: Name>(
     caches: &[KindRounds<SeatDeed<N>>],
     kind: &CacheKind,
 ) -> Option<usize>
-    ensures within { IfSome result (λ place. place < length caches.now) }
-    ensures kind { IfSome result (λ place. (o : KindRoundsState)
-        × (slice_get caches.now place ≡ Some o) × (o.kind ≡ kind.now)) }
+    ensures within { IfSome result (λ index. index < length caches.now) }
+    ensures kind { IfSome result (λ index. (o : KindRoundsState)
+        × (slice_get caches.now index ≡ Some o) × (o.kind ≡ kind.now)) }
 {
-    let place = parts.own_place(kind.arena, kind.number);
-    if place >= caches.len() {
+    let index = parts.own_index(kind.arena, kind.number);
+    if index >= caches.len() {
         return None;
     }
-    let own = &caches[place];
+    let own = &caches[index];
     if !own.kind.is(kind) {
         return None;
     }
-    Some(place)
+    Some(index)
 }
 
 pub(crate) fn pop_in<N: Name>(
@@ -46,16 +46,17 @@ pub(crate) fn pop_in<N: Name>(
     arena: u32,
     cache: u8,
 ) -> Result<Option<Segment<SeatDeed<N>>>, Stopped>
-    ensures goes { GoesOn (nodes_of parts.now.arenas) (Pop arena cache) result }
-    ensures moved { PopsRound result (rounds_in caches.old.items) (rounds_in caches.new.items) }
+    ensures goes { AnswersSoundly (nodes_of parts.now.arenas) (Pop arena cache) result }
+    ensures moved { PopsRound result (count_of_rounds caches.old.items)
+        (count_of_rounds caches.new.items) }
 {
     let Some(kind) = parts.kind(arena, cache) else {
         return Ok(None);
     };
-    let Some(place) = own_at(parts, caches, &kind) else {
+    let Some(index) = own_at(parts, caches, &kind) else {
         return Ok(None);
     };
-    let own = &mut caches[place];
+    let own = &mut caches[index];
     Ok(own.pop())
 }
 
@@ -66,16 +67,17 @@ pub(crate) fn push_in<N: Name>(
     cache: u8,
     segment: Segment<SeatDeed<N>>,
 ) -> Result<(), PushFault<Segment<SeatDeed<N>>>>
-    ensures goes { GoesOn (nodes_of parts.now.arenas) (Push arena cache segment) result }
-    ensures moved { PushesRound result (rounds_in caches.old.items) (rounds_in caches.new.items) }
+    ensures goes { AnswersSoundly (nodes_of parts.now.arenas) (Push arena cache segment) result }
+    ensures moved { PushesRound result (count_of_rounds caches.old.items)
+        (count_of_rounds caches.new.items) }
 {
     let Some(kind) = parts.kind(arena, cache) else {
         return Err(PushFault::NoRoom(segment));
     };
-    let Some(place) = own_at(parts, caches, &kind) else {
+    let Some(index) = own_at(parts, caches, &kind) else {
         return Err(PushFault::NoRoom(segment));
     };
-    let own = &mut caches[place];
+    let own = &mut caches[index];
     match own.push(segment) {
         Ok(()) => Ok(()),
         Err(segment) => Err(PushFault::NoRoom(segment)),
@@ -89,16 +91,16 @@ pub(crate) fn change_in<N: Name>(
     cache: u8,
     size: usize,
 ) -> Result<(), ChangeFault>
-    ensures goes { GoesOn (nodes_of parts.now.arenas) (Change arena cache size) result }
-    ensures moved { rounds_in caches.new.items ≡ rounds_in caches.old.items }
+    ensures goes { AnswersSoundly (nodes_of parts.now.arenas) (Change arena cache size) result }
+    ensures moved { count_of_rounds caches.new.items ≡ count_of_rounds caches.old.items }
 {
     let Some(kind) = parts.kind(arena, cache) else {
         return Err(ChangeFault::NotGreater);
     };
-    let Some(place) = own_at(parts, caches, &kind) else {
+    let Some(index) = own_at(parts, caches, &kind) else {
         return Err(ChangeFault::NotGreater);
     };
-    let own = &mut caches[place];
+    let own = &mut caches[index];
     own.change(parts.alloc, size)
 }
 
@@ -121,10 +123,10 @@ pub(crate) fn swap_full_in<N: Name, R: Wait>(
     let Some(own) = own_at(parts, caches, &kind) else {
         return Err(SwapFullFault::NoneFull);
     };
-    let Some(place) = parts.cache(arena, cache) else {
+    let Some(locked) = parts.cache(arena, cache) else {
         return Err(SwapFullFault::NoneFull);
     };
-    let mut depot = place.depot.lock(rt);
+    let mut depot = locked.depot.lock(rt);
     depot.swap_full(&mut caches[own])
 }
 
@@ -147,10 +149,10 @@ pub(crate) fn swap_empty_in<N: Name, R: Wait>(
     let Some(own) = own_at(parts, caches, &kind) else {
         return Err(SwapEmptyFault::NoneEmpty);
     };
-    let Some(place) = parts.cache(arena, cache) else {
+    let Some(locked) = parts.cache(arena, cache) else {
         return Err(SwapEmptyFault::NoneEmpty);
     };
-    let mut depot = place.depot.lock(rt);
+    let mut depot = locked.depot.lock(rt);
     depot.swap_empty(&mut caches[own])
 }
 
@@ -173,13 +175,13 @@ pub(crate) fn swap_fresh_in<N: Name, R: Wait>(
     let Some(own) = own_at(parts, caches, &kind) else {
         return Err(SwapFreshFault::NoMemory);
     };
-    let Some(place) = parts.cache(arena, cache) else {
+    let Some(locked) = parts.cache(arena, cache) else {
         return Err(SwapFreshFault::NoMemory);
     };
     let size = caches[own].size();
     let Ok(magazine) = Magazine::new(parts.alloc, size) else {
         return Err(SwapFreshFault::NoMemory);
     };
-    let mut depot = place.depot.lock(rt);
+    let mut depot = locked.depot.lock(rt);
     depot.swap_fresh(&mut caches[own], magazine)
 }

@@ -2,7 +2,7 @@
 ghost use Rattle.std.specs.Prelude.{◌≡◌, ◌<◌, IfSome, length, true};
 ghost use Rattle.arena_tree.specs.Chains.{quantum_in};
 ghost use Rattle.arena_tree.specs.Trees.{nodes_of};
-ghost use Rattle.locked_parts.specs.Kinds.{caches_of};
+ghost use Rattle.locked_parts.specs.Kinds.{count_of_caches};
 ghost use Rattle.magazine_layer.specs.Magazines.{IsSize};
 
 use crate::arena_parts::ArenaPart;
@@ -18,15 +18,15 @@ use std::marker::Model;
 use std::sync::{Mutex, Wait};
 
 /// A quantum cache: its slabs and its depot, each under its lock.
-pub(crate) struct CachePlace<N: Name> {
+pub(crate) struct LockedCache<N: Name> {
     pub(crate) slab: Mutex<SlabCache<SeatDeed<N>>>,
     pub(crate) depot: Mutex<KindDepot<SeatDeed<N>>>,
 }
 
 /// An arena under its lock, and its quantum caches by their numbers, from 1 on.
-pub struct ArenaPlace<N: Name> {
+pub struct LockedArena<N: Name> {
     pub(crate) part: Mutex<ArenaPart<N>>,
-    pub(crate) caches: Vec<CachePlace<N>>,
+    pub(crate) caches: Vec<LockedCache<N>>,
     /// How many quantum caches the arenas before it have.
     pub(crate) before: usize,
 }
@@ -36,28 +36,28 @@ pub struct ArenaPlace<N: Name> {
 pub struct LockedParts<N: Name> {
     pub(crate) alloc: Global,
     pub(crate) tree: Tree,
-    pub(crate) places: Vec<ArenaPlace<N>>,
+    pub(crate) arenas: Vec<LockedArena<N>>,
 }
 
 impl<N: Name> Model for LockedParts<N> {
     ghost use Rattle.std.specs.Prelude.{vec_len};
-    ghost use Rattle.locked_parts.specs.States.{PartsState};
+    ghost use Rattle.locked_parts.specs.States.{LockedPartsState};
 
-    ghost Value = { PartsState };
+    ghost Value = { LockedPartsState };
 
-    ghost view = { λ p. record { arenas = p.tree; standing = vec_len p.places } };
+    ghost view = { λ p. record { arenas = p.tree; standing = vec_len p.arenas } };
 }
 
 impl<N: Name> LockedParts<N> {
     /// The arenas of a tree, in their order, under their locks.
-    pub fn new(alloc: Global, tree: Tree, places: Vec<ArenaPlace<N>>) -> LockedParts<N>
+    pub fn new(alloc: Global, tree: Tree, arenas: Vec<LockedArena<N>>) -> LockedParts<N>
         ensures arenas { result.arenas ≡ tree }
-        ensures standing { result.standing ≡ length places.items }
+        ensures standing { result.standing ≡ length arenas.items }
     {
         LockedParts {
             alloc,
             tree,
-            places,
+            arenas,
         }
     }
 
@@ -90,18 +90,18 @@ impl<N: Name> LockedParts<N> {
     }
 
     /// Where that cache is kept.
-    pub(crate) fn cache(&self, arena: u32, number: u8) -> Option<&CachePlace<N>> {
+    pub(crate) fn cache(&self, arena: u32, number: u8) -> Option<&LockedCache<N>> {
         if number == 0 {
             return None;
         }
-        let place = self.places.get(arena as usize)?;
-        place.caches.get(number as usize - 1)
+        let locked = self.arenas.get(arena as usize)?;
+        locked.caches.get(number as usize - 1)
     }
 
     /// Where a CPU keeps its magazines for that cache.
-    pub(crate) fn own_place(&self, arena: u32, number: u8) -> usize {
-        match self.places.get(arena as usize) {
-            Some(place) => place
+    pub(crate) fn own_index(&self, arena: u32, number: u8) -> usize {
+        match self.arenas.get(arena as usize) {
+            Some(locked) => locked
                 .before
                 .saturating_add((number as usize).saturating_sub(1)),
             None => usize::MAX,
@@ -119,7 +119,7 @@ impl<N: Name> LockedParts<N> {
     pub fn resize<R: Wait>(&self, rt: &R, arena: u32, size: usize) -> bool
         requires within { arena < length self.now.arenas }
         requires size { IsSize size }
-        ensures rose { result ≡ true → (3 < size) × (0 < caches_of self.now.arenas arena) }
+        ensures rose { result ≡ true → (3 < size) × (0 < count_of_caches self.now.arenas arena) }
     {
         let mut depots = LockedDepots { parts: self, rt };
         resize_each(&mut depots, &self.tree, arena, size)
@@ -127,7 +127,7 @@ impl<N: Name> LockedParts<N> {
 
     /// Takes the lowest owned span that is wholly free out of the arena with this number.
     pub fn remove_owned<R: Wait>(&self, rt: &R, arena: u32) -> Option<SeatDeed<N>> {
-        let place = self.places.get(arena as usize)?;
-        place.part.lock(rt).remove_owned()
+        let locked = self.arenas.get(arena as usize)?;
+        locked.part.lock(rt).remove_owned()
     }
 }

@@ -4,10 +4,10 @@
 ghost use Rattle.std.specs.Prelude.{◌≡◌};
 ghost use Rattle.arena_tree.specs.Trees.{nodes_of};
 ghost use Rattle.locked_parts.specs.Gates.{NotesStops};
-ghost use Rattle.locked_parts.specs.Kinds.{rounds_in};
+ghost use Rattle.locked_parts.specs.Kinds.{count_of_rounds};
 
 use crate::cpu_rounds::KindRounds;
-use crate::gates::{EventName, Gate, Steps};
+use crate::gates::{EventName, Gate, StepCount};
 use crate::locked_events::{
     add_carve_in, carve_in, depot_reap_in, free_in, slab_add_in, slab_put_in, slab_reap_in,
     slab_take_in,
@@ -29,7 +29,7 @@ pub struct Running<'a, N: Name, R: Wait, G: Gate> {
     pub rt: &'a R,
     pub gate: &'a G,
     pub caches: &'a mut Vec<KindRounds<SeatDeed<N>>>,
-    pub steps: Steps,
+    pub steps: StepCount,
     /// How many events of shared parts there were.
     pub count: u64,
 }
@@ -43,7 +43,7 @@ impl<N: Name, R: Wait, G: Gate> Parts<Segment<SeatDeed<N>>> for Running<'_, N, R
 
     ghost count = { λ s. s.count };
 
-    ghost rounds = { λ s. rounds_in s.caches.now.items };
+    ghost rounds = { λ s. count_of_rounds s.caches.now.items };
 
     fn steps(&self) -> u64 {
         self.count

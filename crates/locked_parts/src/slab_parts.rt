@@ -1,5 +1,6 @@
 //! The events of a slab cache under its lock. Each looks whether it is the cache that is meant.
-ghost use Rattle.std.specs.Prelude.{◌≡◌, ◌↔◌, All, IsTrue, false, IfSome, IfOk, IfErr, Ok, Some, OnErr};
+ghost use Rattle.std.specs.Prelude.{◌≡◌, ◌↔◌, All, IsTrue, false, IfSome, IfOk, IfErr, Ok, Some};
+ghost use Rattle.std.specs.Prelude.{OnErr};
 ghost use Rattle.std.specs.Prelude.{IfNone};
 ghost use Rattle.slab_layer.specs.Calls.{TakeOf, AddOf, ReapOf};
 ghost use Rattle.slab_layer.specs.Slab.{IsAllOut, IsComplete};

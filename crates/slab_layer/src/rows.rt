@@ -86,7 +86,7 @@ pub(crate) fn unchop<D: Deed>(
     rest
 }
 
-/// Cuts `count` chunks off a deed, and gives what is left. Where memory runs out, the deed is whole
+/// Cuts `count` chunks off a deed, and gives what is left. Out of memory, the deed is whole
 /// again.
 pub(crate) fn chop<D: Deed>(
     row: &mut Vec<Option<Stored<D>>>,

@@ -77,7 +77,7 @@ impl<D: Deed> Model for Slab<D> {
 }
 
 impl<D: Deed> Slab<D> {
-    /// Cuts a span. Where memory runs out, the span is whole again.
+    /// Cuts a span. Out of memory, the span is whole again.
     pub(crate) fn new(
         alloc: Global,
         deed: Stored<D>,

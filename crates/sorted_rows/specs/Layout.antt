@@ -40,6 +40,6 @@ module _ {X : Type 0} (rank : X → ℕ) where
     pub after : All (λ x. key < rank x) (flat (drop (suc i) rows))
 
 -- what a caller sees: the list, and how many may be in it
-pub record Listing (X : Type 0) : Type 0 where
+pub record RowsState (X : Type 0) : Type 0 where
   pub items : List X
   pub room : ℕ

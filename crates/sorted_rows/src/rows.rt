@@ -21,9 +21,9 @@ pub struct Rows<T: RowEntry> {
 }
 
 impl<T: RowEntry> Model for Rows<T> {
-    ghost use Rattle.sorted_rows.specs.Layout.{Listing};
+    ghost use Rattle.sorted_rows.specs.Layout.{RowsState};
 
-    ghost Value = { Listing T };
+    ghost Value = { RowsState T };
 
     ghost use Rattle.sorted_rows.specs.Layout.{flat};
     ghost use Rattle.sorted_rows.specs.Stocked.{IsStocked};

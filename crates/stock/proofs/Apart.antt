@@ -17,7 +17,7 @@ use Rattle.stock.specs.Stocks.{IsFrom}
 use Rattle.stock.specs.Accounts.{imported, IsAccounted}
 use Rattle.stock.specs.Laws.{HasTop, root, child, OutIsApart}
 use Rattle.stock.proofs.Exporting.{arena_here}
-use Rattle.stock.proofs.OnePlaces.{each_unit}
+use Rattle.stock.proofs.OneHomes.{each_unit}
 
 -- two members are part of a sum
 two_parts : {X : Type 0} (f : X → ℕ) (xs : List X) (i j : ℕ) (x y : X) → slice_get xs i ≡ Some x → slice_get xs j ≡ Some y → i ≢ j → f x + f y ≤ sum_by f xs

@@ -1,4 +1,4 @@
--- A call of the arena that stands at a place, by its answer.
+-- A call of the arena that stands at an index, by its answer.
 use Rattle.std.proofs.Common.{◌≡◌, ℕ, ◌+◌, ◌≤◌, refl, sym, subst, ap, ◌∙◌, inl, List, [], ◌∷◌, length, set, All, Option, Some, None, Result, Ok, Err, IfOk, OnOk, IsOk, IfSome, Contains, arith}
 use Rattle.std.specs.Prelude.{slice_get, sum_by, option_to_list}
 use Rattle.std.proofs.lemmas.Option.{slice_get_within}

@@ -12,9 +12,9 @@ use Rattle.stock.specs.Accounts.{allocated, imported, slabs_in, chunks_in, round
 use Rattle.stock.proofs.Moving.{Moves, is_written}
 use Rattle.stock.proofs.Moving as moving
 
--- the places of a cache that stands
-pub place_within : (spaces : List SpaceState) (k j : ℕ) → HasCache spaces k j → k < length spaces
-place_within spaces k j has = slice_get_within spaces k has.1.space has.1.at
+-- the indexes of a cache that stands
+pub index_within : (spaces : List SpaceState) (k j : ℕ) → HasCache spaces k j → k < length spaces
+index_within spaces k j has = slice_get_within spaces k has.1.space has.1.at
 
 pub number_within : (spaces : List SpaceState) (k j : ℕ) (s : SpaceState) → HasCache spaces k j → slice_get spaces k ≡ Some s → j < length s.caches
 number_within spaces k j s has at = subst (λ (x : SpaceState). j < length x.caches) (slice_get_one spaces k has.1.space s has.1.at at) (slice_get_within has.1.space.caches j has.0 has.1.among)
@@ -22,7 +22,7 @@ number_within spaces k j s has at = subst (λ (x : SpaceState). j < length x.cac
 pub has_cache : (spaces : List SpaceState) (k : ℕ) (s : SpaceState) (j : ℕ) → slice_get spaces k ≡ Some s → j < length s.caches → HasCache spaces k j
 has_cache spaces k s j at within = (let c = slice_get_some s.caches j within in (c.0, record { space = s; at = at; among = c.1 }))
 
--- the spaces lie in `items`, at the place stands one with these fields, and among its caches one
+-- the spaces lie in `items`, at the index stands one with these fields, and among its caches one
 -- with these
 pub record OpensCache (spaces items : List SpaceState) (k : ℕ) (s : SpaceState) (j : ℕ) (c : QuantumCacheState) : Type 0 where
   pub opened : moving.Opens spaces items k s
@@ -31,7 +31,7 @@ pub record OpensCache (spaces items : List SpaceState) (k : ℕ) (s : SpaceState
 pub opens_cache : (spaces items : List SpaceState) (k : ℕ) (s : SpaceState) (j : ℕ) (c read : QuantumCacheState) → moving.Opens spaces items k s → j < length s.caches → read ≡ get_or s.caches j read → c ≡ read → OpensCache spaces items k s j c
 opens_cache spaces items k s j c read o within at_read view = record { opened = o; among = slice_get_here s.caches j read within at_read ∙ ap Some (sym view) }
 
--- what holds of the cache that was opened holds of the one at the place
+-- what holds of the cache that was opened holds of the one at the index
 pub at_cache : (spaces items : List SpaceState) (k : ℕ) (s : SpaceState) (j : ℕ) (c : QuantumCacheState) → OpensCache spaces items k s j c → (P : QuantumCacheState → Type 0) → P c → (x : QuantumCacheState) → IsCacheAt spaces k j x → P x
 at_cache spaces items k s j c o P here x at =
     let space : at.space ≡ s = slice_get_one spaces k at.space s at.at o.opened.at in
@@ -105,6 +105,6 @@ module _ (spaces : List SpaceState) (k : ℕ) (s : SpaceState) (at : slice_get s
   cache_moves given answered law size slabs_move chunks_move stock =
       record { stock = cache_stock law stock; frame = cache_frame given answered slabs_move chunks_move; fixed = cache_plans size }
 
--- a cache stands there, exactly where both places are within
+-- a cache stands there, exactly where both indexes are within
 pub has_exactly : (spaces : List SpaceState) (k : ℕ) (s : SpaceState) (j : ℕ) → slice_get spaces k ≡ Some s → (j < length s.caches) ↔ HasCache spaces k j
 has_exactly spaces k s j at = ((λ within. has_cache spaces k s j at within), (λ has. number_within spaces k j s has at))

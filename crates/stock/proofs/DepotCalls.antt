@@ -1,4 +1,4 @@
--- A call of the depot that stands at a place, by its answer.
+-- A call of the depot that stands at an index, by its answer.
 use Rattle.std.proofs.Common.{◌≡◌, ℕ, ◌+◌, refl, sym, subst, ap, ◌∙◌, List, [], ◌∷◌, ◌++◌, set, All, Option, Some, None, IfSome, Result, Ok, Err, OnOk, arith}
 use Rattle.std.specs.Prelude.{sum_by}
 use Rattle.std.specs.Option.{option_to_list}

@@ -131,7 +131,7 @@ abbrev pub height : Option Tag → ℕ
 height None = 0
 height (Some t) = t.arena + 1
 
--- how many slabs and rounds a cache at a place has
+-- how many slabs and rounds a cache at an index has
 abbrev pub caches_in : Option SpaceState → List QuantumCacheState
 caches_in None = []
 caches_in (Some s) = s.caches
@@ -153,8 +153,8 @@ rounds_of (Some c) = rounds_in_all c.depot
 abbrev pub rounds_left : List SpaceState → ℕ → ℕ → ℕ
 rounds_left spaces k j = rounds_of (slice_get (caches_in (slice_get spaces k)) j)
 
-at_place : {X : Type 0} (f : Option QuantumCacheState → X) (spaces : List SpaceState) (k j : ℕ) (c : QuantumCacheState) → IsCacheAt spaces k j c → f (slice_get (caches_in (slice_get spaces k)) j) ≡ f (Some c)
-at_place f spaces k j c is = ap (λ (o : Option SpaceState). f (slice_get (caches_in o) j)) is.at ∙ ap f is.among
+at_index : {X : Type 0} (f : Option QuantumCacheState → X) (spaces : List SpaceState) (k j : ℕ) (c : QuantumCacheState) → IsCacheAt spaces k j c → f (slice_get (caches_in (slice_get spaces k)) j) ≡ f (Some c)
+at_index f spaces k j c is = ap (λ (o : Option SpaceState). f (slice_get (caches_in o) j)) is.at ∙ ap f is.among
 
 -- a slab fewer
 fewer : (old new : SlabCacheState) (t : Tag) → ReapOf old (Some t) new → length new.slabs < length old.slabs
@@ -168,8 +168,8 @@ pub slab_smaller : (old mid new : List SpaceState) (k j : ℕ) (t : Tag) → OnS
 slab_smaller old mid new k j t on has stay =
     let P : SlabCacheState → SlabCacheState → Type 0 = λ a b. ReapOf a (Some t) b in
     let is = slab_here old mid k j P on has.0 (stay k j has.0 has.1) in
-    let before = at_place slabs_of old k j on.cache (record { space = on.space; at = on.at; among = on.among }) in
-    let now = at_place slabs_of new k j has.0 has.1 in
+    let before = at_index slabs_of old k j on.cache (record { space = on.space; at = on.at; among = on.among }) in
+    let now = at_index slabs_of new k j has.0 has.1 in
     let same = ap (λ (c : QuantumCacheState). length c.slab.slabs) is in
     omega (arith, before, now, same, fewer on.cache.slab on.slab t on.does)
 
@@ -261,8 +261,8 @@ depot_smaller old mid new k j t may on has stay =
     let P : DepotState → DepotState → Type 0 = λ a b. DepotReapOf a (Some t) b in
     let was = stay k j has.0 has.1 in
     let same : has.0.depot ≡ on.depot = was.2 ∙ ap (λ (x : QuantumCacheState). x.depot) (depot_here old mid k j P on was.0 was.1) in
-    let before = at_place rounds_of old k j on.cache (record { space = on.space; at = on.at; among = on.among }) in
-    let now = at_place rounds_of new k j has.0 has.1 in
+    let before = at_index rounds_of old k j on.cache (record { space = on.space; at = on.at; among = on.among }) in
+    let now = at_index rounds_of new k j has.0 has.1 in
     omega (arith, before, now, ap rounds_in_all same, (depot_fewer old mid k j t may on).less)
 
 pub tick_may : (old new : List SpaceState) (k j : ℕ) → OnDepot k j (λ a b. b ≡ after_tick a) old new → (c : QuantumCacheState) → IsCacheAt new k j c → MayReapAll c.depot

@@ -3,7 +3,7 @@
 use Rattle.stock.specs.Laws.{AlwaysTagged, AlwaysOut, AlwaysImports, AlwaysSlab, AlwaysOnGrid, ArenaWeighs, AllocatedOfArena}
 use Rattle.stock.proofs.Exporting.{arena_here, arena_there, allocated_of, out_tagged, clear_for_child, aligned_for_child, clear_of_slabs, on_grid_of}
 use Rattle.stock.proofs.SlabCalls as chunks
-pub use Rattle.stock.proofs.OnePlaces.{one_place, adds_up}
+pub use Rattle.stock.proofs.OneHomes.{one_home, adds_up}
 pub use Rattle.stock.proofs.Apart.{out_is_apart}
 pub use Rattle.stock.proofs.Chains.{source_stands_before, plans_stay, caches_stay}
 pub use Rattle.stock.proofs.Ending.{ends_once_reaped, ends_with_nothing_out}

@@ -8,7 +8,7 @@ mod CacheSteps
 mod SlabCalls
 mod DepotCalls
 mod Lengths
-mod OnePlaces
+mod OneHomes
 mod Apart
 mod FrameLaws
 mod OwnRounds

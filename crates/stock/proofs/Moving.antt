@@ -12,7 +12,7 @@ pub record Moves (old : List SpaceState) (given : List Tag) (new : List SpaceSta
   pub frame : Frames old given new answered
   pub fixed : plans_of new ≡ plans_of old
 
--- the spaces lie in `items`, and at the place stands one with these fields
+-- the spaces lie in `items`, and at the index stands one with these fields
 pub record Opens (spaces items : List SpaceState) (k : ℕ) (s : SpaceState) : Type 0 where
   pub same : items ≡ spaces
   pub at : slice_get spaces k ≡ Some s
@@ -31,6 +31,6 @@ module _ (spaces items : List SpaceState) (k : ℕ) (s : SpaceState) (o : Opens 
   pub moves_there : (given answered : List Tag) → Moves spaces given (set spaces k x) answered → Moves spaces given (set items k x) answered
   moves_there given answered m = subst (λ (xs : List SpaceState). Moves spaces given xs answered) (sym is_written) m
 
--- what holds of the space that was opened holds of the one at the place
+-- what holds of the space that was opened holds of the one at the index
 pub at_space : (spaces items : List SpaceState) (k : ℕ) (s : SpaceState) → Opens spaces items k s → (P : SpaceState → Type 0) → P s → (x : SpaceState) → slice_get spaces k ≡ Some x → P x
 at_space spaces items k s o P here x at = subst P (slice_get_one spaces k s x o.at at) here

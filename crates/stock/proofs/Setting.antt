@@ -95,7 +95,7 @@ module _ (spaces : List SpaceState) (source : Option ℕ) (quantum : ℕ) (polic
       nothing f = tags_weigh s.arena f ∙ ap (sum_by (λ h. f (direct (length spaces) h))) no_ranges
 
 -- a cache more
-module _ (spaces after : List SpaceState) (place slab_size size : ℕ) (on : GainsCache place slab_size size spaces after) where
+module _ (spaces after : List SpaceState) (index slab_size size : ℕ) (on : GainsCache index slab_size size spaces after) where
   abbrev c : QuantumCacheState
   c = next_cache on.space slab_size size
 
@@ -105,8 +105,8 @@ module _ (spaces after : List SpaceState) (place slab_size size : ℕ) (on : Gai
   pub cache_added : IsSize size → slabs.IsSound c.slab → IsStock spaces → IsStock after
   cache_added sized sound stock = subst IsStock (sym on.after) all
     where
-      old : IsSpaceAt (quanta_of spaces) place on.space
-      old = stock place on.space on.at
+      old : IsSpaceAt (quanta_of spaces) index on.space
+      old = stock index on.space on.at
 
       new_sound : IsDepot (new_depot size)
       new_sound = record {
@@ -117,22 +117,22 @@ module _ (spaces after : List SpaceState) (place slab_size size : ℕ) (on : Gai
         empty_stands = omega arith;
       }
 
-      each : (j : ℕ) (x : QuantumCacheState) → slice_get (on.space.caches ++ c ∷ []) j ≡ Some x → IsQuantumCache place (j + 1) on.space.arena.quantum x
+      each : (j : ℕ) (x : QuantumCacheState) → slice_get (on.space.caches ++ c ∷ []) j ≡ Some x → IsQuantumCache index (j + 1) on.space.arena.quantum x
       each j x there = elim (pushed on.space.caches j c x there) [
         | inl last ↦
-            subst (λ z. IsQuantumCache place (j + 1) on.space.arena.quantum z) (sym last.1)
-            (subst (λ i. IsQuantumCache place (i + 1) on.space.arena.quantum c) (sym last.0) (record { arena = old.id; k = refl; quantum_is = refl; sound = sound; tiled = λ u. refl; depot = new_sound; rounds = All-nil (IsRoundOf place (length on.space.caches + 1) on.space.arena.quantum) }))
+            subst (λ z. IsQuantumCache index (j + 1) on.space.arena.quantum z) (sym last.1)
+            (subst (λ i. IsQuantumCache index (i + 1) on.space.arena.quantum c) (sym last.0) (record { arena = old.id; k = refl; quantum_is = refl; sound = sound; tiled = λ u. refl; depot = new_sound; rounds = All-nil (IsRoundOf index (length on.space.caches + 1) on.space.arena.quantum) }))
         | inr before ↦ old.caches j x before
       ]
 
-      is : IsSpaceAt (quanta_of spaces) place now
+      is : IsSpaceAt (quanta_of spaces) index now
       is = record { id = old.id; sound = old.sound; imported = old.imported; owned = old.owned; before = old.before; nests = old.nests; caches = each }
 
-      quanta : quanta_of (set spaces place now) ≡ quanta_of spaces
-      quanta = map_set_same quantum_of spaces place on.space now on.at refl
+      quanta : quanta_of (set spaces index now) ≡ quanta_of spaces
+      quanta = map_set_same quantum_of spaces index on.space now on.at refl
 
-      all : IsStock (set spaces place now)
-      all j x there = subst (λ qs. IsSpaceAt qs j x) (sym quanta) (elim (written spaces place j now x there) [
+      all : IsStock (set spaces index now)
+      all j x there = subst (λ qs. IsSpaceAt qs j x) (sym quanta) (elim (written spaces index j now x there) [
         | inl here ↦ subst (λ z. IsSpaceAt (quanta_of spaces) j z) (sym here.1) (subst (λ i. IsSpaceAt (quanta_of spaces) i now) (sym here.0) is)
         | inr other ↦ stock j x other.1
       ])
@@ -142,17 +142,17 @@ module _ (spaces after : List SpaceState) (place slab_size size : ℕ) (on : Gai
     exports = λ f. omega (
       arith,
       a.exports f,
-      sum_set (allocated f) spaces place on.space now on.at,
-      sum_set (imported f) spaces place on.space now on.at,
-      sum_set (accounts.slabs f) spaces place on.space now on.at,
+      sum_set (allocated f) spaces index on.space now on.at,
+      sum_set (imported f) spaces index on.space now on.at,
+      sum_set (accounts.slabs f) spaces index on.space now on.at,
       sum_by_push (slabs_in f) on.space.caches c,
     );
     chunks_out = λ f. omega (
       arith,
       a.chunks_out f,
-      sum_set (chunks f) spaces place on.space now on.at,
+      sum_set (chunks f) spaces index on.space now on.at,
       sum_by_push (chunks_in f) on.space.caches c,
-      sum_set (rounds f) spaces place on.space now on.at,
+      sum_set (rounds f) spaces index on.space now on.at,
       sum_by_push (rounds_in f) on.space.caches c,
     );
   })

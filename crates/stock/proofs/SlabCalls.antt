@@ -1,4 +1,4 @@
--- A call of the slabs that stand at a place, by its answer.
+-- A call of the slabs that stand at an index, by its answer.
 use Rattle.std.proofs.Common.{◌≡◌, ℕ, ◌+◌, ◌*◌, ◌%◌, ◌<◌, sym, subst, ap, ◌∙◌, inl, List, [], ◌∷◌, set, Contains, Option, Some, None, Result, Ok, Err, IfOk, IfSome, OnOk, IsOk, ◌↔◌, arith}
 use Rattle.std.specs.Prelude.{slice_get, sum_by}
 use Rattle.std.specs.Option.{option_to_list}

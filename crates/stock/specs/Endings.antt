@@ -59,16 +59,16 @@ abbrev pub EndsWithNothingOut : Type 0
 EndsWithNothingOut = (spaces : List SpaceState) (out : List Tag) → IsAccounted spaces out
     → All IsBare spaces → out ≡ []
 
--- the cache at the place is reaped
+-- the cache at the index is reaped
 abbrev pub IsReapedAt : List SpaceState → ℕ → ℕ → Type 0
 IsReapedAt spaces k j = (c : QuantumCacheState) → IsCacheAt spaces k j c → IsReapedCache c
 
--- each cache but the one at the place was there before
+-- each cache but the one at the index was there before
 abbrev pub OthersStay : ℕ → ℕ → List SpaceState → List SpaceState → Type 0
 OthersStay k j old new = (i n : ℕ) (c : QuantumCacheState) → IsCacheAt new i n c
     → IsCacheAt old i n c ⊎ ((i ≡ k) × (n ≡ j))
 
--- each cache but those of the arena at the place was there before
+-- each cache but those of the arena at the index was there before
 abbrev pub OtherArenasStay : ℕ → List SpaceState → List SpaceState → Type 0
 OtherArenasStay k old new = (i n : ℕ) (c : QuantumCacheState) → IsCacheAt new i n c
     → IsCacheAt old i n c ⊎ (i ≡ k)

@@ -14,20 +14,20 @@ use Rattle.stock.specs.Spaces.{SpaceState, QuantumCacheState, IsCacheAt, HasCach
 use Rattle.stock.specs.Stocks.{IsStock}
 use Rattle.stock.specs.Accounts.{Accounts, IsAccounted, Frames, allocated}
 use Rattle.stock.specs.Steps.{IsTaggedIn, IsOutOf, IsOnGridOf}
-use Rattle.stock.specs.Sums.{Out, all_out, places_of, all_places, total, lengths_of}
+use Rattle.stock.specs.Sums.{Out, all_out, homes_of, all_homes, total, lengths_of}
 
--- each unit of an arena's spans is in one place, and no other unit in any
-abbrev pub IsInOnePlace : Type 0
-IsInOnePlace = (spaces : List SpaceState) (out : Out) → IsAccounted spaces (all_out out)
+-- each unit of an arena's spans is in one home, and no other unit in any
+abbrev pub IsInOneHome : Type 0
+IsInOneHome = (spaces : List SpaceState) (out : Out) → IsAccounted spaces (all_out out)
     → (k : ℕ) (s : SpaceState) → slice_get spaces k ≡ Some s → (u : ℕ)
-    → (covering_held u (all_places (places_of spaces out s)) ≡ covering_held u (spans_of s.arena))
+    → (covering_held u (all_homes (homes_of spaces out s)) ≡ covering_held u (spans_of s.arena))
     × (covering_held u (spans_of s.arena) ≤ 1)
 
 -- so the six sums of an arena add up to the units of its spans
 abbrev pub AddsUp : Type 0
 AddsUp = (spaces : List SpaceState) (out : Out) → IsAccounted spaces (all_out out)
     → (k : ℕ) (s : SpaceState) → slice_get spaces k ≡ Some s
-    → total (lengths_of (places_of spaces out s)) ≡ units_held (spans_of s.arena)
+    → total (lengths_of (homes_of spaces out s)) ≡ units_held (spans_of s.arena)
 
 -- a Direct segment that is out stands in its arena, and can be freed
 abbrev pub AlwaysTagged : Type 0
@@ -59,7 +59,7 @@ abbrev pub AlwaysOnGrid : Type 0
 AlwaysOnGrid = (spaces : List SpaceState) (span : Tag) (rest : List Tag)
     → IsAccounted spaces (span ∷ rest) → span.route ≡ Direct → IsOnGridOf spaces span.arena span
 
--- the arena at the top of the chain of sources from the arena at the place
+-- the arena at the top of the chain of sources from the arena at the index
 pub data HasTop (spaces : List SpaceState) : ℕ → ℕ → Type 0 where
   root : (k : ℕ) (s : SpaceState) → slice_get spaces k ≡ Some s → s.source ≡ None
       → HasTop spaces k k

@@ -1,11 +1,11 @@
--- What a contract sees of a CPU's cache with its place.
+-- What a contract sees of a CPU's cache with its index.
 use Rattle.std.specs.Prelude.{◌≡◌, List, ℕ, ◌<◌}
 use Rattle.deed_core.specs.Tag.{Tag}
 use Rattle.magazine_layer.specs.Magazines.{CpuCacheState, cache_rounds}
 use Rattle.stock.specs.Steps.{AreRoundsOf}
 
--- the places of the arena and the quantum cache that its rounds are chunks of, the arena's quantum,
--- and its magazines
+-- the indexes of the arena and the quantum cache that its rounds are chunks of, the arena's
+-- quantum, and its magazines
 pub record OwnCacheState : Type 0 where
   pub arena : ℕ
   pub cache : ℕ
@@ -22,7 +22,7 @@ pub record IsOwnCache (o : OwnCacheState) : Type 0 where
   pub rounds : AreRoundsOf o.arena o.cache o.quantum o.cpu
 
 -- the two are of one quantum cache
-pub record IsAtPlaceOf (old new : OwnCacheState) : Type 0 where
+pub record IsAtIndexesOf (old new : OwnCacheState) : Type 0 where
   pub arena : new.arena ≡ old.arena
   pub cache : new.cache ≡ old.cache
   pub quantum : new.quantum ≡ old.quantum

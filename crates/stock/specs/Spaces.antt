@@ -25,7 +25,7 @@ with_arena a s = record { arena = a; source = s.source; caches = s.caches }
 abbrev pub with_caches : List QuantumCacheState → SpaceState → SpaceState
 with_caches cs s = record { arena = s.arena; source = s.source; caches = cs }
 
--- with another cache at that place
+-- with another cache at that index
 abbrev pub with_cache : ℕ → QuantumCacheState → SpaceState → SpaceState
 with_cache j c s = with_caches (set s.caches j c) s
 
@@ -37,7 +37,7 @@ with_slab x c = record { slab = x; depot = c.depot }
 abbrev pub with_depot : DepotState → QuantumCacheState → QuantumCacheState
 with_depot d c = record { slab = c.slab; depot = d }
 
--- the cache stands at the place j of the arena at the place k
+-- the cache stands at the index j of the arena at the index k
 pub record IsCacheAt (spaces : List SpaceState) (k j : ℕ) (c : QuantumCacheState)
     : Type 0 where
   pub space : SpaceState

@@ -19,16 +19,16 @@ use Rattle.stock.specs.Spaces.{SpaceState, QuantumCacheState, with_arena, with_c
 use Rattle.stock.specs.Spaces.{with_slab, with_depot, IsCacheAt}
 use Rattle.stock.specs.Stocks.{IsRoundOf}
 
--- the arena at the place changed so, and nothing else did
-pub record OnArena (place : ℕ) (P : ArenaState → ArenaState → Type 0) (old new : List SpaceState)
+-- the arena at the index changed so, and nothing else did
+pub record OnArena (index : ℕ) (P : ArenaState → ArenaState → Type 0) (old new : List SpaceState)
     : Type 0 where
   pub space : SpaceState
-  pub at : slice_get old place ≡ Some space
+  pub at : slice_get old index ≡ Some space
   pub arena : ArenaState
-  pub after : new ≡ set old place (with_arena arena space)
+  pub after : new ≡ set old index (with_arena arena space)
   pub does : P space.arena arena
 
--- the slabs of the cache at the place j of the arena at the place k did
+-- the slabs of the cache at the index j of the arena at the index k did
 pub record OnSlab (k j : ℕ) (P : SlabCacheState → SlabCacheState → Type 0)
     (old new : List SpaceState) : Type 0 where
   pub space : SpaceState
@@ -93,21 +93,21 @@ pub record IsOutOf (spaces : List SpaceState) (j : ℕ) (t : Tag) : Type 0 where
   pub route : t.route ≡ Cached (j + 1)
   pub mine : Contains (chunks_out cache.slab) t
 
--- the arena at the place k has this quantum
+-- the arena at the index k has this quantum
 abbrev pub HasQuantum : List SpaceState → ℕ → ℕ → Type 0
 HasQuantum spaces k quantum = (s : SpaceState) → slice_get spaces k ≡ Some s
     → s.arena.quantum ≡ quantum
 
--- the segment is a chunk of the cache at the place j of the arena at the place k
+-- the segment is a chunk of the cache at the index j of the arena at the index k
 abbrev pub IsRoundIn : List SpaceState → ℕ → ℕ → Tag → Type 0
 IsRoundIn spaces k j t = (s : SpaceState) → slice_get spaces k ≡ Some s
     → IsRoundOf k (j + 1) s.arena.quantum t
 
--- the CPU's rounds are chunks of the cache at that place, the arena having this quantum
+-- the CPU's rounds are chunks of the cache at that index, the arena having this quantum
 abbrev pub AreRoundsOf : ℕ → ℕ → ℕ → CpuCacheState → Type 0
 AreRoundsOf k j quantum cpu = All (IsRoundOf k (j + 1) quantum) (cache_rounds cpu)
 
--- they are chunks of the cache that stands at that place
+-- they are chunks of the cache that stands at that index
 abbrev pub AreRoundsIn : List SpaceState → ℕ → ℕ → CpuCacheState → Type 0
 AreRoundsIn spaces k j cpu = (s : SpaceState) → slice_get spaces k ≡ Some s
     → AreRoundsOf k j s.arena.quantum cpu
@@ -146,9 +146,9 @@ pub record HasRoomForCache (slab_size : ℕ) (s : SpaceState) : Type 0 where
   pub few : length s.caches < 16
   pub room : (length s.caches + 1) * s.arena.quantum ≤ slab_size
 
--- the arena at the place got a cache
-pub record GainsCache (place slab_size rounds : ℕ) (old new : List SpaceState) : Type 0 where
+-- the arena at the index got a cache
+pub record GainsCache (index slab_size rounds : ℕ) (old new : List SpaceState) : Type 0 where
   pub space : SpaceState
-  pub at : slice_get old place ≡ Some space
-  pub after : new ≡ set old place
+  pub at : slice_get old index ≡ Some space
+  pub after : new ≡ set old index
       (with_caches (space.caches ++ next_cache space slab_size rounds ∷ []) space)

@@ -15,24 +15,24 @@ abbrev pub IsRoundOf : ℕ → ℕ → ℕ → Tag → Type 0
 IsRoundOf arena number quantum t =
     slabs.IsSegmentOf arena (Cached number) (number * quantum) quantum t
 
--- the cache of chunks of `number` quanta, of the arena at the place: each unit of a slab is at home
+-- the cache of chunks of `number` quanta, of the arena at the index: each unit of a slab is at home
 -- or in a chunk that is out
-pub record IsQuantumCache (place number quantum : ℕ) (c : QuantumCacheState) : Type 0 where
-  pub arena : c.slab.arena ≡ place
+pub record IsQuantumCache (index number quantum : ℕ) (c : QuantumCacheState) : Type 0 where
+  pub arena : c.slab.arena ≡ index
   pub k : c.slab.k ≡ number
   pub quantum_is : c.slab.quantum ≡ quantum
   pub sound : slabs.IsSound c.slab
   pub tiled : (u : ℕ) → covering_held u (deeds_of c.slab) + covering_tags u (chunks_out c.slab)
       ≡ covering_tags u (span_tags c.slab)
   pub depot : IsDepot c.depot
-  pub rounds : All (IsRoundOf place number quantum) (depot_rounds c.depot)
+  pub rounds : All (IsRoundOf index number quantum) (depot_rounds c.depot)
 
 -- the segment is of the source
 abbrev pub IsFrom : Option ℕ → Tag → Type 0
 IsFrom None t = ⊥
 IsFrom (Some p) t = t.arena ≡ p
 
--- the space at the place k, the arenas having these quanta: it imports from an arena that was set
+-- the space at the index k, the arenas having these quanta: it imports from an arena that was set
 -- up before, whose segments are in whole quanta of its own, and then it owns no span
 pub record IsSpaceAt (quanta : List ℕ) (k : ℕ) (s : SpaceState) : Type 0 where
   pub id : s.arena.id ≡ k
@@ -45,7 +45,7 @@ pub record IsSpaceAt (quanta : List ℕ) (k : ℕ) (s : SpaceState) : Type 0 whe
   pub caches : (j : ℕ) (c : QuantumCacheState) → slice_get s.caches j ≡ Some c
       → IsQuantumCache k (j + 1) s.arena.quantum c
 
--- each space is at the place of its arena's number
+-- each space is at the index of its arena's number
 abbrev pub IsStock : List SpaceState → Type 0
 IsStock spaces = (k : ℕ) (s : SpaceState) → slice_get spaces k ≡ Some s
     → IsSpaceAt (quanta_of spaces) k s

@@ -18,16 +18,16 @@ abbrev pub all_out : Out → List Tag
 all_out out = out.hands ++ (out.leases ++ out.rounds)
 
 -- what the segments cover
-abbrev pub held : List Tag → List Holding
-held segments = map (λ t. t.holding) segments
+abbrev pub holdings_of : List Tag → List Holding
+holdings_of segments = map (λ t. t.holding) segments
 
 -- what those of this arena cover
 abbrev pub held_of : ℕ → List Tag → List Holding
-held_of k segments = held (filter (is_of_arena k) segments)
+held_of k segments = holdings_of (filter (is_of_arena k) segments)
 
 -- the ranges of an arena, by where they are: free, at home in a slab, in a magazine of a depot or
 -- of a CPU, a child's span, leased, or in a hand
-pub record Places : Type 0 where
+pub record Homes : Type 0 where
   pub free : List Holding
   pub slab : List Holding
   pub magazine : List Holding
@@ -35,19 +35,19 @@ pub record Places : Type 0 where
   pub leased : List Holding
   pub hand : List Holding
 
-abbrev pub places_of : List SpaceState → Out → SpaceState → Places
-places_of spaces out s = record {
+abbrev pub homes_of : List SpaceState → Out → SpaceState → Homes
+homes_of spaces out s = record {
   free = s.arena.free;
   slab = flat_map (λ c. deeds_of c.slab) s.caches;
   magazine =
-      flat_map (λ c. held (depot_rounds c.depot)) s.caches ++ held_of s.arena.id out.rounds;
+      flat_map (λ c. holdings_of (depot_rounds c.depot)) s.caches ++ held_of s.arena.id out.rounds;
   exported = flat_map (λ x. held_of s.arena.id x.arena.imported) spaces;
   leased = held_of s.arena.id out.leases;
   hand = held_of s.arena.id out.hands;
 }
 
-abbrev pub all_places : Places → List Holding
-all_places p = p.free ++ (p.slab ++ (p.magazine ++ (p.exported ++ (p.leased ++ p.hand))))
+abbrev pub all_homes : Homes → List Holding
+all_homes p = p.free ++ (p.slab ++ (p.magazine ++ (p.exported ++ (p.leased ++ p.hand))))
 
 -- six numbers of an arena
 pub record Sums : Type 0 where
@@ -61,8 +61,8 @@ pub record Sums : Type 0 where
 abbrev pub total : Sums → ℕ
 total x = x.free + (x.slab + (x.magazine + (x.exported + (x.leased + x.hand))))
 
--- what lies in each place weighs
-abbrev pub sums_of : (Holding → ℕ) → Places → Sums
+-- what lies in each home weighs
+abbrev pub sums_of : (Holding → ℕ) → Homes → Sums
 sums_of f p = record {
   free = sum_by f p.free;
   slab = sum_by f p.slab;
@@ -72,6 +72,6 @@ sums_of f p = record {
   hand = sum_by f p.hand;
 }
 
--- the units in each place: the sums of an audit
-abbrev pub lengths_of : Places → Sums
+-- the units in each home: the sums of an audit
+abbrev pub lengths_of : Homes → Sums
 lengths_of p = sums_of units_in p

@@ -13,7 +13,7 @@ use deed_core::{Deed, Request, Route, Segment};
 use tag_arena::{ArenaFault, SpanFault};
 
 impl<D: Deed> Stock<D> {
-    /// Carves what the policy of the arena at the place chooses for the request.
+    /// Carves what the policy of the arena at the index chooses for the request.
     pub fn carve(&mut self, arena: usize, request: &Request) -> Result<Segment<D>, ArenaFault>
         requires within { arena < length self.old }
         ensures carved { OnArena arena (λ a b. CarveOf a request.now result b) self.old self.new }
@@ -33,15 +33,15 @@ impl<D: Deed> Stock<D> {
         ensures never { segment.route ≡ Route.Direct → (rest : List Tag)
             → Accounts self.old (segment ∷ rest) → IsOk result }
     {
-        let place = segment.arena() as usize;
-        if place >= self.spaces.len() {
+        let index = segment.arena() as usize;
+        if index >= self.spaces.len() {
             return Err(segment);
         }
-        let space = &mut self.spaces[place];
+        let space = &mut self.spaces[index];
         space.arena.free(segment)
     }
 
-    /// Adds a span of its source to the arena at the place, and carves its first units for the
+    /// Adds a span of its source to the arena at the index, and carves its first units for the
     /// request. A span that is out is refused only where it is out of memory.
     pub fn add_carve(
         &mut self,

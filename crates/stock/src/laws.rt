@@ -1,16 +1,16 @@
 //! What follows from the accounts of a stock. The functions do nothing: their contracts are the
 //! laws, and proofs/LawProofs.antt has them for the proofs of the crates above.
-ghost use Rattle.stock.specs.Laws.{IsInOnePlace, AddsUp, AlwaysTagged, AlwaysOut, AlwaysImports};
+ghost use Rattle.stock.specs.Laws.{IsInOneHome, AddsUp, AlwaysTagged, AlwaysOut, AlwaysImports};
 ghost use Rattle.stock.specs.Laws.{AlwaysSlab, AlwaysOnGrid, OutIsApart, OutWeighs, FramesThen};
 ghost use Rattle.stock.specs.Laws.{SourceStandsBefore, PlansStay, CachesStay};
 ghost use Rattle.stock.specs.Laws.{ArenaWeighs, AllocatedOfArena};
 ghost use Rattle.stock.specs.Endings.{EndsOnceReaped, EndsWithNothingOut};
 ghost use Rattle.stock.specs.Laws.{PopFrames, PushFrames, ChangeFrames};
 
-/// Each unit of an arena is in one place: free, in a slab, in a magazine, exported, leased or in a
+/// Each unit of an arena is in one home: free, in a slab, in a magazine, exported, leased or in a
 /// hand. So the sums that an audit prints add up to the units of the spans.
-pub fn one_place_laws()
-    ensures place { IsInOnePlace }
+pub fn one_home_laws()
+    ensures home { IsInOneHome }
     ensures lengths { AddsUp }
 {}
 

@@ -7,7 +7,7 @@
 //! all else unchanged, and its frame law. `specs/Accounts.antt` says what always balances, relative
 //! to the list of the segments that are out of all parts: in hands, leased, or rounds of CPUs.
 //!
-//! A call finds its part by its place, in constant time, and costs what the part's own call does.
+//! A call finds its part by its index, in constant time, and costs what the part's own call does.
 //! `reap_all` and `close` go through all parts: a stock ends by the first, by `remove_owned` until
 //! it gives none, and by the second, exactly where nothing is out of it (`end_laws`). `put_back`
 //! takes back what is out, and `close_plain_stock` does all of that over plain deeds.
@@ -33,7 +33,7 @@ mod spaces;
 mod stocks;
 
 pub use laws::{
-    apart_laws, chain_laws, end_laws, frame_laws, never_refused_laws, one_place_laws, weight_laws,
+    apart_laws, chain_laws, end_laws, frame_laws, never_refused_laws, one_home_laws, weight_laws,
 };
 pub use own_caches::OwnCache;
 pub use plain_stocks::{close_plain_stock, plain_stock};

@@ -24,7 +24,7 @@ use tag_arena::SpanFault;
 impl<D: Deed> Stock<D> {
     /// The stock of a setup: all its arenas with their quantum caches, and all its owned spans, of
     /// which these are the deeds, in the setup's order. Its magazines take `rounds` rounds. It has
-    /// no names; an arena's place is its number in the setup. It fails for want of memory alone: no
+    /// no names; an arena's index is its number in the setup. It fails only when out of memory: no
     /// span of a setup overlaps another of its arena or is off its grid. All deeds come back then,
     /// in any order, since those that were spans already are taken out again, the lowest first.
     pub fn of(
@@ -60,7 +60,7 @@ impl<D: Deed> Stock<D> {
 
 impl<D: Deed> StockSetup<D> {
     /// Adds the spans of a setup, of which these are the deeds, the last first. Those that aren't
-    /// spans yet are left where memory is refused.
+    /// spans yet are left when out of memory.
     fn own_all(&mut self, setup: &Setup, deeds: &mut Vec<D>) -> Result<(), AllocError>
         requires planned { plans_of self.old ≡ plans_for setup.now.arenas }
         requires unused { (rounds : ℕ) × All (IsNewSpace rounds) self.old }
@@ -85,7 +85,7 @@ impl<D: Deed> StockSetup<D> {
         Ok(())
     }
 
-    /// Adds a span, of which this is the deed, and hands back one for which there is no memory.
+    /// Adds a span, of which this is the deed. Out of memory, the deed is back.
     fn own(&mut self, arena: usize, deed: D) -> Result<(), D>
         requires within { arena < length self.old }
         requires root { (s : SpaceState) → slice_get self.old arena ≡ Some s → s.source ≡ None }

@@ -12,7 +12,7 @@ ghost use Rattle.stock.specs.Steps.{OnDepot, HasQuantum};
 ghost use Rattle.deed_core.specs.Covering.{units_tagged};
 ghost use Rattle.deed_core.specs.Weights.{Gains, Loses, WeighSame};
 ghost use Rattle.stock.specs.Stocks.{IsRoundOf};
-ghost use Rattle.stock.specs.OwnCaches.{IsAtPlaceOf, IsOwnCache};
+ghost use Rattle.stock.specs.OwnCaches.{IsAtIndexesOf, IsOwnCache};
 
 use crate::stocks::Stock;
 use deed_core::{Deed, Route, Segment};
@@ -20,7 +20,7 @@ use magazine_layer::{CpuCache, EmptyFault, FullFault, Magazine, PutFullFault};
 use std::alloc::{AllocError, Global};
 use std::marker::Model;
 
-/// A CPU's cache of which all rounds are chunks of the quantum cache at this place of this arena,
+/// A CPU's cache of which all rounds are chunks of the quantum cache at this index of this arena,
 /// which has this quantum. It is never copied or dropped.
 pub struct OwnCache<D: Deed> {
     arena: usize,
@@ -68,9 +68,9 @@ impl<D: Deed> OwnCache<D> {
         })
     }
 
-    /// The places of the arena and the quantum cache that its rounds are chunks of. It takes
+    /// The indexes of the arena and the quantum cache that its rounds are chunks of. It takes
     /// constant time, so its clause `own` is the way to know what is always so of a CPU's cache.
-    pub fn place(&self) -> (usize, usize)
+    pub fn indexes(&self) -> (usize, usize)
         ensures value { (result.0 ≡ self.now.arena) × (result.1 ≡ self.now.cache) }
         ensures own { IsOwnCache self.now }
     {
@@ -125,7 +125,7 @@ impl<D: Deed> OwnCache<D> {
         ensures popped { PopOf self.old.cpu result self.new.cpu }
         ensures weights { IfSome result
             (Loses (cache_rounds self.old.cpu) (cache_rounds self.new.cpu)) }
-        ensures place { IsAtPlaceOf self.old self.new }
+        ensures index { IsAtIndexesOf self.old self.new }
         ensures chunk { IfSome result
             (IsRoundOf self.old.arena (self.old.cache + 1) self.old.quantum) }
     {
@@ -138,7 +138,7 @@ impl<D: Deed> OwnCache<D> {
         ensures pushed { PushOf self.old.cpu segment result self.new.cpu }
         ensures weights { OnOk result
             (Gains (cache_rounds self.old.cpu) (cache_rounds self.new.cpu) segment) }
-        ensures place { IsAtPlaceOf self.old self.new }
+        ensures index { IsAtIndexesOf self.old self.new }
     {
         self.cpu.give(segment)
     }
@@ -152,7 +152,7 @@ impl<D: Deed> OwnCache<D> {
         requires room { length (cache_rounds self.old.cpu) ≤ loaded.size }
         ensures changed { self.new.cpu ≡ after_change loaded.size self.old.cpu }
         ensures weights { WeighSame (cache_rounds self.old.cpu) (cache_rounds self.new.cpu) }
-        ensures place { IsAtPlaceOf self.old self.new }
+        ensures index { IsAtIndexesOf self.old self.new }
     {
         self.cpu.change(loaded, previous);
     }
@@ -164,7 +164,7 @@ impl<D: Deed> OwnCache<D> {
         requires empty { BothEmpty self.old.cpu }
         ensures swapped { OnDepot self.old.arena self.old.cache
             (λ a b. SwapFullOf self.old.cpu a result self.new.cpu b) stock.old stock.new }
-        ensures place { IsAtPlaceOf self.old self.new }
+        ensures index { IsAtIndexesOf self.old self.new }
         ensures shape { IsShaped self.new.cpu }
         ensures frame { Frames stock.old (cache_rounds self.old.cpu)
             stock.new (cache_rounds self.new.cpu) }
@@ -180,7 +180,7 @@ impl<D: Deed> OwnCache<D> {
         requires full { BothFull self.old.cpu }
         ensures swapped { OnDepot self.old.arena self.old.cache
             (λ a b. SwapEmptyOf self.old.cpu a result self.new.cpu b) stock.old stock.new }
-        ensures place { IsAtPlaceOf self.old self.new }
+        ensures index { IsAtIndexesOf self.old self.new }
         ensures shape { IsShaped self.new.cpu }
         ensures frame { Frames stock.old (cache_rounds self.old.cpu)
             stock.new (cache_rounds self.new.cpu) }
@@ -200,7 +200,7 @@ impl<D: Deed> OwnCache<D> {
         requires magazines { BothFull self.old.cpu × (magazine.rounds ≡ []) }
         ensures swapped { OnDepot self.old.arena self.old.cache
             (λ a b. PutFullOf self.old.cpu a magazine result self.new.cpu b) stock.old stock.new }
-        ensures place { IsAtPlaceOf self.old self.new }
+        ensures index { IsAtIndexesOf self.old self.new }
         ensures shape { IsShaped self.new.cpu }
         ensures frame { Frames stock.old (cache_rounds self.old.cpu)
             stock.new (cache_rounds self.new.cpu) }

@@ -11,7 +11,7 @@ use arena_tree::Setup;
 use deed_core::PlainDeed;
 use std::alloc::{AllocError, Global};
 
-/// The stock of a setup, of which each owned span is a root of its own: its place among them. Its
+/// The stock of a setup, of which each owned span is a root of its own: its index among them. Its
 /// magazines take `rounds` rounds.
 pub fn plain_stock(
     alloc: Global,
@@ -40,8 +40,8 @@ fn plain_deeds(alloc: Global, setup: &Setup) -> Result<Vec<PlainDeed>, AllocErro
     let _ = setup.tree();
     let spans = setup.spans();
     let mut deeds = Vec::with_capacity(alloc, spans.len())?;
-    for place in 0..spans.len() {
-        deeds.push_reserved(PlainDeed::new(place as u32, spans[place].range));
+    for index in 0..spans.len() {
+        deeds.push_reserved(PlainDeed::new(index as u32, spans[index].range));
     }
     Ok(deeds)
 }

@@ -13,7 +13,7 @@ use slab_layer::SlabReport;
 use tag_arena::ArenaReport;
 
 impl<D: Deed> Stock<D> {
-    /// The quantum of the arena at the place.
+    /// The quantum of the arena at the index.
     pub fn quantum(&self, arena: usize) -> u64
         requires within { arena < length self.now }
         ensures value { (s : SpaceState) → slice_get self.now arena ≡ Some s

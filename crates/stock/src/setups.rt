@@ -90,10 +90,10 @@ impl<D: Deed> StockSetup<D> {
             (plans_of self.new ≡ plans_of self.old ++ plan_for arena.now ∷ []) }
         ensures unused { All (IsNewSpace rounds) self.old → All (IsNewSpace rounds) self.new }
     {
-        let place = self.count();
+        let index = self.count();
         self.add_arena(arena.source, arena.quantum, arena.policy)?;
         for _cache in 0..arena.qcache_max / arena.quantum {
-            self.add_cache(place, arena.slab_size, rounds)?;
+            self.add_cache(index, arena.slab_size, rounds)?;
         }
         Ok(())
     }
@@ -118,7 +118,7 @@ impl<D: Deed> StockSetup<D> {
     }
 
     /// Adds an arena with no span and no cache, which imports from the source, if there is one. Its
-    /// number is its place, in order of coming. `quantum` counts units.
+    /// number is its index, in order of coming. `quantum` counts units.
     pub(crate) fn add_arena(
         &mut self,
         source: Option<u32>,

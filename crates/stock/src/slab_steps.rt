@@ -80,7 +80,7 @@ impl<D: Deed> Stock<D> {
         opened.slab.put(segment)
     }
 
-    /// Whether the arena and the cache stand at these places.
+    /// Whether the arena and the cache stand at these indexes.
     pub fn has_cache(&self, arena: usize, cache: usize) -> bool
         ensures { IsTrue result ↔ HasCache self.now arena cache }
     {
@@ -91,16 +91,16 @@ impl<D: Deed> Stock<D> {
         cache < space.caches.len()
     }
 
-    /// The place of the arena's cache of chunks of `k` quanta.
+    /// The index of the arena's cache of chunks of `k` quanta.
     pub fn cache_at(&self, arena: u32, k: u8) -> Option<usize>
         ensures some { IfSome result (λ j. (k ≡ j + 1) × HasCache self.now arena j) }
         ensures none { IfNone result ((j : ℕ) → k ≡ j + 1 → ¬ HasCache self.now arena j) }
     {
-        let place = arena as usize;
-        if place >= self.spaces.len() {
+        let index = arena as usize;
+        if index >= self.spaces.len() {
             return None;
         }
-        let space = &self.spaces[place];
+        let space = &self.spaces[index];
         let count = k as usize;
         if count == 0 {
             return None;
@@ -111,7 +111,7 @@ impl<D: Deed> Stock<D> {
         Some(count - 1)
     }
 
-    // The places of the arena and the cache that a chunk names.
+    // The indexes of the arena and the cache that a chunk names.
     fn cache_of(&self, segment: &Segment<D>) -> Option<(usize, usize)>
         ensures some { IfSome result (λ p. (segment.now.arena ≡ p.0)
             × (segment.now.route ≡ Route.Cached (p.1 + 1)) × HasCache self.now p.0 p.1) }

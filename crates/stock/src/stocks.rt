@@ -20,7 +20,7 @@ use std::alloc::{AllocError, Global};
 use std::marker::Model;
 use tag_arena::{Arena, Policy, SpanFault};
 
-/// Arenas with their quantum caches, each at the place of its number. It is never copied or
+/// Arenas with their quantum caches, each at the index of its number. It is never copied or
 /// dropped.
 pub struct Stock<D: Deed> {
     pub(crate) spaces: Vec<Space<D>>,

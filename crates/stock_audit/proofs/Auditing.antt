@@ -1,4 +1,4 @@
--- What an audit tells is what the places weigh.
+-- What an audit tells is what the homes weigh.
 use Rattle.std.proofs.Common.{◌≡◌, ℕ, ◌+◌, ◌≤◌, sym, ap, ◌∙◌, List, Some, arith}
 use Rattle.std.specs.Prelude.{slice_get, flat_map}
 use Rattle.std.proofs.lemmas.List.Sums.{sum_by-append}
@@ -11,9 +11,9 @@ use Rattle.magazine_layer.specs.Depots.{depot_rounds}
 use Rattle.stock.specs.Spaces.{SpaceState}
 use Rattle.stock.specs.Stocks.{IsStock}
 use Rattle.stock.specs.Accounts.{Accounts}
-use Rattle.stock.specs.Sums.{Out, all_out, Sums, held, held_of, places_of, lengths_of}
+use Rattle.stock.specs.Sums.{Out, all_out, Sums, holdings_of, held_of, homes_of, lengths_of}
 use Rattle.stock.proofs.LawProofs.{adds_up}
-use Rattle.stock_audit.specs.Audits.{IsTally, IsBalanced, units_of_arena_in, told}
+use Rattle.stock_audit.specs.Audits.{IsTally, IsBalanced, units_of_arena_in, told_sums}
 use Rattle.stock_audit.specs.declared.audits.ArenaSums.{ArenaSums}
 use Rattle.stock_audit.specs.declared.audits.UnitsOut.{UnitsOut}
 
@@ -22,17 +22,17 @@ abbrev pub in_slabs : SpaceState → List Holding
 in_slabs s = flat_map (λ c. deeds_of c.slab) s.caches
 
 abbrev pub in_depots : SpaceState → List Holding
-in_depots s = flat_map (λ c. held (depot_rounds c.depot)) s.caches
+in_depots s = flat_map (λ c. holdings_of (depot_rounds c.depot)) s.caches
 
 same_sums : (x y : Sums) → x.free ≡ y.free → x.slab ≡ y.slab → x.magazine ≡ y.magazine → x.exported ≡ y.exported → x.leased ≡ y.leased → x.hand ≡ y.hand → x ≡ y
 same_sums x y free slab magazine exported leased hand = λ i. record { free = free i; slab = slab i; magazine = magazine i; exported = exported i; leased = leased i; hand = hand i }
 
 module _ (spaces : List SpaceState) (stock : IsStock spaces) (k : ℕ) (s : SpaceState) (at : slice_get spaces k ≡ Some s) where
-  -- the arena's number is its place
+  -- the arena's number is its index
   here : (ts : List Tag) → units_of_arena_in k ts ≡ units_held (held_of s.arena.id ts)
   here ts = ap (λ i. units_held (held_of i ts)) (sym (stock k s at).id)
 
-  magazine_parts : (o : Out) → (lengths_of (places_of spaces o s)).magazine ≡ units_held (in_depots s) + units_held (held_of s.arena.id o.rounds)
+  magazine_parts : (o : Out) → (lengths_of (homes_of spaces o s)).magazine ≡ units_held (in_depots s) + units_held (held_of s.arena.id o.rounds)
   magazine_parts o = sum_by-append units_in (in_depots s) (held_of s.arena.id o.rounds)
 
   -- the rounds of CPUs are part of the spans
@@ -41,7 +41,7 @@ module _ (spaces : List SpaceState) (stock : IsStock spaces) (k : ℕ) (s : Spac
 
   module _ (units : UnitsOut) (b : IsBalanced spaces k units) where
     abbrev pub exported : ℕ
-    exported = (lengths_of (places_of spaces b.out s)).exported
+    exported = (lengths_of (homes_of spaces b.out s)).exported
 
     -- the parts of the spans
     pub all_told : units_held s.arena.free + units_held (in_slabs s) + units_held (in_depots s) + units.rounds + units.leased + units.hand + exported ≡ units_held (spans_of s.arena)
@@ -58,8 +58,8 @@ module _ (spaces : List SpaceState) (stock : IsStock spaces) (k : ℕ) (s : Spac
     )
 
     pub tells : (r : ArenaSums) (o : Out) → IsTally k o units → r.free ≡ units_held s.arena.free → r.slab ≡ units_held (in_slabs s) → r.magazine ≡ units_held (in_depots s) + units.rounds
-        → r.exported ≡ exported → r.leased ≡ units.leased → r.hand ≡ units.hand → told r ≡ lengths_of (places_of spaces o s)
-    tells r o tally free slab magazine all leased hand = same_sums (told r) (lengths_of (places_of spaces o s)) free slab
+        → r.exported ≡ exported → r.leased ≡ units.leased → r.hand ≡ units.hand → told_sums r ≡ lengths_of (homes_of spaces o s)
+    tells r o tally free slab magazine all leased hand = same_sums (told_sums r) (lengths_of (homes_of spaces o s)) free slab
         (omega (arith, magazine, magazine_parts o, tally.rounds, here o.rounds))
         all
         (leased ∙ (tally.leased ∙ here o.leases))

@@ -49,7 +49,7 @@ module _ (k : ℕ) (o : OwnCacheState) (is : IsOwnCache o) where
 pub rounds_counted : (k : ℕ) (cpus : List OwnCacheState) → sum_by (λ o. sum_by (weight_of k) (own_rounds o)) cpus ≡ units_of_arena_in k (all_rounds_out cpus)
 rounds_counted k cpus = sym (sum_by-flat_map (weight_of k) own_rounds cpus) ∙ sym (held_weigh k units_in (all_rounds_out cpus))
 
--- a cache stands at each place of an arena's list
+-- a cache stands at each index of an arena's list
 pub cache_stands : (spaces : List SpaceState) (k j : ℕ) (s : SpaceState) → slice_get spaces k ≡ Some s → j < length s.caches → HasCache spaces k j
 cache_stands spaces k j s at within = (let c = slice_get_some s.caches j within in (c.0, record { space = s; at = at; among = c.1 }))
 

@@ -14,7 +14,7 @@ use Rattle.slab_layer.specs.Cache.{span_tag, span_tags}
 use Rattle.stock.specs.Spaces.{SpaceState, QuantumCacheState, quanta_of}
 use Rattle.stock.specs.Stocks.{IsQuantumCache, IsFrom, IsSpaceAt, IsStock}
 use Rattle.stock.specs.Accounts.{imported, slabs}
-use Rattle.stock.specs.Sums.{held, held_of}
+use Rattle.stock.specs.Sums.{holdings_of, held_of}
 use Rattle.stock.proofs.LawProofs.{arena_weighs, allocated_of_arena}
 use Rattle.stock_audit.specs.Outside.{segments_out}
 use Rattle.stock_audit.specs.Chains.{is_source, is_child_of, spans_of_children, spans_of_slabs}
@@ -100,5 +100,5 @@ allocated_is_out spaces out a k s at f =
     )
   where
     slabs_weigh : sum_by f (spans_of_slabs s) ≡ slabs (λ t. f t.holding) s
-    slabs_weigh = sum_by-flat_map f (λ (c : QuantumCacheState). held (span_tags c.slab)) s.caches
-        ∙ sum_alike (λ (c : QuantumCacheState). sum_by f (held (span_tags c.slab))) (λ c. sum_by (λ t. f t.holding) (span_tags c.slab)) s.caches (λ j c there. sum_by-map f (λ (t : Tag). t.holding) (span_tags c.slab))
+    slabs_weigh = sum_by-flat_map f (λ (c : QuantumCacheState). holdings_of (span_tags c.slab)) s.caches
+        ∙ sum_alike (λ (c : QuantumCacheState). sum_by f (holdings_of (span_tags c.slab))) (λ c. sum_by (λ t. f t.holding) (span_tags c.slab)) s.caches (λ j c there. sum_by-map f (λ (t : Tag). t.holding) (span_tags c.slab))

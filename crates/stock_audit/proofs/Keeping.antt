@@ -71,8 +71,8 @@ module _ (spaces : List SpaceState) (i : ℕ) (o p : OwnCacheState) (before afte
       let is = all_at (IsOwnIn spaces) before.cpus i o a.cpus on.at in
       record {
         own = on.own;
-        has = subst (λ k. HasCache spaces k p.cache) (sym on.place.arena) (subst (HasCache spaces o.arena) (sym on.place.cache) is.has);
-        quantum = subst (λ k. HasQuantum spaces k p.quantum) (sym on.place.arena) (subst (HasQuantum spaces o.arena) (sym on.place.quantum) is.quantum);
+        has = subst (λ k. HasCache spaces k p.cache) (sym on.index.arena) (subst (HasCache spaces o.arena) (sym on.index.cache) is.has);
+        quantum = subst (λ k. HasQuantum spaces k p.quantum) (sym on.index.arena) (subst (HasQuantum spaces o.arena) (sym on.index.quantum) is.quantum);
       }
 
   own_after : All (IsOwnIn spaces) after.cpus

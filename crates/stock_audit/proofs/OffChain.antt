@@ -52,11 +52,11 @@ off_chain_then k old mid new before between after first next = record {
   leases = next.leases ∙ first.leases;
 }
 
--- what stands after a write at the place
+-- what stands after a write at the index
 module _ (old new : List SpaceState) (i : ℕ) (s y : SpaceState) (at : slice_get old i ≡ Some s) (after : new ≡ set old i y) where
   after_write : (b : ℕ) (z x : SpaceState) → slice_get old b ≡ Some z → slice_get new b ≡ Some x → ((b ≡ i) × (z ≡ s) × (x ≡ y)) ⊎ (x ≡ z)
   after_write b z x before there = elim (written old i b y x (subst (λ (xs : List SpaceState). slice_get xs b ≡ Some x) after there)) [
-    | inl same_place ↦ inl (same_place.0, slice_get_one old i z s (subst (λ k. slice_get old k ≡ Some z) same_place.0 before) at, same_place.1)
+    | inl same_index ↦ inl (same_index.0, slice_get_one old i z s (subst (λ k. slice_get old k ≡ Some z) same_index.0 before) at, same_index.1)
     | inr other ↦ inr (slice_get_one old b x z other.1 before)
   ]
 
@@ -64,15 +64,15 @@ pub arena_step_off_chain : ArenaStepOffChain
 arena_step_off_chain k i old new before after s a up at is fixed owned leases cpus = record {
   fixed = fixed;
   arenas = λ b z x there now. elim (after_write old new i s (with_arena a s) at is b z x there now) [
-    | inl same_place ↦ inl (subst (IsUpFrom old k) (sym same_place.0) up)
+    | inl same_index ↦ inl (subst (IsUpFrom old k) (sym same_index.0) up)
     | inr same ↦ inr (ap (λ (y : SpaceState). y.arena) same)
   ];
   owned = λ b z x there now. elim (after_write old new i s (with_arena a s) at is b z x there now) [
-    | inl same_place ↦ ap (λ (y : SpaceState). y.arena.owned) same_place.2 ∙ owned ∙ sym (ap (λ (y : SpaceState). y.arena.owned) same_place.1)
+    | inl same_index ↦ ap (λ (y : SpaceState). y.arena.owned) same_index.2 ∙ owned ∙ sym (ap (λ (y : SpaceState). y.arena.owned) same_index.1)
     | inr same ↦ ap (λ (y : SpaceState). y.arena.owned) same
   ];
   caches = λ b z x ne there now. elim (after_write old new i s (with_arena a s) at is b z x there now) [
-    | inl same_place ↦ ap (λ (y : SpaceState). y.caches) same_place.2 ∙ sym (ap (λ (y : SpaceState). y.caches) same_place.1)
+    | inl same_index ↦ ap (λ (y : SpaceState). y.caches) same_index.2 ∙ sym (ap (λ (y : SpaceState). y.caches) same_index.1)
     | inr same ↦ ap (λ (y : SpaceState). y.caches) same
   ];
   rounds = λ b ne f. ap (λ (os : List OwnCacheState). sum_by (of_arena b f) (all_rounds_out os)) cpus;
@@ -83,15 +83,15 @@ pub cache_step_off_chain : CacheStepOffChain
 cache_step_off_chain k old new before after s cs at is fixed leases rounds = record {
   fixed = fixed;
   arenas = λ b z x there now. elim (after_write old new k s (with_caches cs s) at is b z x there now) [
-    | inl same_place ↦ inl (subst (IsUpFrom old k) (sym same_place.0) (here k))
+    | inl same_index ↦ inl (subst (IsUpFrom old k) (sym same_index.0) (here k))
     | inr same ↦ inr (ap (λ (y : SpaceState). y.arena) same)
   ];
   owned = λ b z x there now. elim (after_write old new k s (with_caches cs s) at is b z x there now) [
-    | inl same_place ↦ ap (λ (y : SpaceState). y.arena.owned) same_place.2 ∙ sym (ap (λ (y : SpaceState). y.arena.owned) same_place.1)
+    | inl same_index ↦ ap (λ (y : SpaceState). y.arena.owned) same_index.2 ∙ sym (ap (λ (y : SpaceState). y.arena.owned) same_index.1)
     | inr same ↦ ap (λ (y : SpaceState). y.arena.owned) same
   ];
   caches = λ b z x ne there now. elim (after_write old new k s (with_caches cs s) at is b z x there now) [
-    | inl same_place ↦ absurd (ne same_place.0)
+    | inl same_index ↦ absurd (ne same_index.0)
     | inr same ↦ ap (λ (y : SpaceState). y.caches) same
   ];
   rounds = rounds;

@@ -1,4 +1,4 @@
--- The six sums are the weights of the places.
+-- The six sums are the weights of the homes.
 use Rattle.std.proofs.Common.{◌≡◌, ℕ, ◌∙◌, sym, List, ◌++◌, filter, arith}
 use Rattle.std.specs.Prelude.{sum_by}
 use Rattle.std.proofs.lemmas.List.Sums.{sum_by-append}
@@ -8,13 +8,13 @@ use Rattle.deed_core.specs.Covering.{covers_held, units_in}
 use Rattle.deed_core.specs.Selections.{is_of_arena}
 use Rattle.deed_core.specs.Weights.{of_arena}
 use Rattle.deed_core.proofs.LawProofs.{sum_by-map, sum_by-filter}
-use Rattle.stock.specs.Sums.{Places, all_places, sums_of, total, held_of, places_of}
-use Rattle.stock.proofs.LawProofs.{one_place, adds_up}
+use Rattle.stock.specs.Sums.{Homes, all_homes, sums_of, total, held_of, homes_of}
+use Rattle.stock.proofs.LawProofs.{one_home, adds_up}
 use Rattle.stock_audit.specs.Outside.{out_of}
 use Rattle.stock_audit.specs.Laws.{AuditAddsUp, UnitAddsUp, UnitsWeigh}
 
-pub places_weigh : (f : Holding → ℕ) (p : Places) → sum_by f (all_places p) ≡ total (sums_of f p)
-places_weigh f p = omega (
+pub homes_weigh : (f : Holding → ℕ) (p : Homes) → sum_by f (all_homes p) ≡ total (sums_of f p)
+homes_weigh f p = omega (
   arith,
   sum_by-append f p.free (p.slab ++ (p.magazine ++ (p.exported ++ (p.leased ++ p.hand)))),
   sum_by-append f p.slab (p.magazine ++ (p.exported ++ (p.leased ++ p.hand))),
@@ -32,8 +32,8 @@ audit_adds_up spaces out a k s at = adds_up spaces (out_of out) (record { stock 
 
 pub unit_adds_up : UnitAddsUp
 unit_adds_up spaces out a k s at u =
-    let place = one_place spaces (out_of out) (record { stock = a.parts; accounts = a.accounts }) k s at u in
-    (sym (places_weigh (covers_held u) (places_of spaces (out_of out) s)) ∙ place.0, place.1)
+    let home = one_home spaces (out_of out) (record { stock = a.parts; accounts = a.accounts }) k s at u in
+    (sym (homes_weigh (covers_held u) (homes_of spaces (out_of out) s)) ∙ home.0, home.1)
 
 pub units_weigh : UnitsWeigh
 units_weigh arena segments = held_weigh arena units_in segments

@@ -10,7 +10,7 @@ use Rattle.deed_core.specs.Weights.{only, of_arena}
 use Rattle.deed_core.proofs.LawProofs.{counts_the_unit, all_from, sum_add, sum_by-smaller, part_of_sum, slice_get_one}
 use Rattle.magazine_layer.specs.Depots.{depot_rounds}
 use Rattle.stock.specs.Spaces.{SpaceState, QuantumCacheState}
-use Rattle.stock.specs.Sums.{held, held_of}
+use Rattle.stock.specs.Sums.{holdings_of, held_of}
 use Rattle.stock.specs.Laws.{HasTop}
 use Rattle.stock_audit.specs.Outside.{Outside, segments_out, all_rounds_out}
 use Rattle.stock_audit.specs.Accounted.{IsAccountedFor}
@@ -39,7 +39,7 @@ either_counted : (b : Bool) (m n all : ℕ) → m + n ≤ all → cond b m 0 + c
 either_counted true m n all le = le
 either_counted false m n all le = omega arith
 
--- two weights that are in different places of each arena aren't both in one space
+-- two weights that are in different homes of each arena aren't both in one space
 module _ (spaces : List SpaceState) (out : Outside) (a : IsAccountedFor spaces out) (u r : ℕ) (f g : SpaceState → ℕ) (apart : (s : SpaceState) → f s + g s ≤ unexported (unit_of_arena u spaces out s)) where
   abbrev tops : ℕ → ℕ
   tops = (tops_stand spaces out a).0
@@ -101,7 +101,7 @@ module _ (spaces : List SpaceState) (out : Outside) (a : IsAccountedFor spaces o
     held_weigh s.arena.id (covers_held u) out.hands,
     held_weigh s.arena.id (covers_held u) out.leases,
     held_weigh s.arena.id (covers_held u) (all_rounds_out out.cpus),
-    sum_by-append (covers_held u) (flat_map (λ (c : QuantumCacheState). held (depot_rounds c.depot)) s.caches) (held_of s.arena.id (all_rounds_out out.cpus)),
+    sum_by-append (covers_held u) (flat_map (λ (c : QuantumCacheState). holdings_of (depot_rounds c.depot)) s.caches) (held_of s.arena.id (all_rounds_out out.cpus)),
   )
 
 pub free_is_not_out : FreeIsNotOut

@@ -1,4 +1,4 @@
--- Over a whole space each unit is in one place of one arena: what an arena exported are its children's
+-- Over a whole space each unit is in one home of one arena: what an arena exported are its children's
 -- spans, so the spans of all but the top cancel.
 use Rattle.std.proofs.Common.{◌≡◌, ◌≢◌, ℕ, ◌+◌, Bool, true, false, cond, nat_eq, Option, Some, None, refl, sym, ap, ◌∙◌, List, [], ◌∷◌, arith}
 use Rattle.std.specs.Prelude.{slice_get, sum_by}

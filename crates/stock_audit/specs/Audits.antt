@@ -6,14 +6,14 @@ use Rattle.tag_arena.specs.ArenaState.{spans_of}
 use Rattle.tag_arena.specs.declared.arenas.ArenaReport.{ArenaReport}
 use Rattle.stock.specs.Spaces.{SpaceState}
 use Rattle.stock.specs.Accounts.{Accounts}
-use Rattle.stock.specs.Sums.{Out, all_out, held_of, Sums, places_of, lengths_of}
+use Rattle.stock.specs.Sums.{Out, all_out, held_of, Sums, homes_of, lengths_of}
 use Rattle.stock_audit.specs.Outside.{Outside, out_of}
 use Rattle.stock_audit.specs.declared.audits.ArenaSums.{ArenaSums}
 use Rattle.stock_audit.specs.declared.audits.UnitsOut.{UnitsOut}
 
 -- the six sums of an arena: free, in slabs, in magazines, exported, leased and in hands
 abbrev pub sums_of_arena : List SpaceState → Outside → SpaceState → Sums
-sums_of_arena spaces out s = lengths_of (places_of spaces (out_of out) s)
+sums_of_arena spaces out s = lengths_of (homes_of spaces (out_of out) s)
 
 -- the units of the arena's segments among these
 abbrev pub units_of_arena_in : ℕ → List Tag → ℕ
@@ -31,7 +31,7 @@ pub record IsBalanced (spaces : List SpaceState) (arena : ℕ) (units : UnitsOut
   pub accounts : Accounts spaces (all_out out)
   pub tally : IsTally arena out units
 
--- the report is of the arena at the place
+-- the report is of the arena at the index
 pub record IsReportOf (spaces : List SpaceState) (arena : ℕ) (r : ArenaReport) : Type 0 where
   pub span : (s : SpaceState) → slice_get spaces arena ≡ Some s
       → r.span ≡ units_held (spans_of s.arena)
@@ -39,8 +39,8 @@ pub record IsReportOf (spaces : List SpaceState) (arena : ℕ) (r : ArenaReport)
   pub adds_up : r.span ≡ r.free + r.allocated
 
 -- the numbers that an audit tells
-abbrev pub told : ArenaSums → Sums
-told r = record {
+abbrev pub told_sums : ArenaSums → Sums
+told_sums r = record {
   free = r.free;
   slab = r.slab;
   magazine = r.magazine;
@@ -49,7 +49,7 @@ told r = record {
   hand = r.hand;
 }
 
--- it tells of the arena at the place, with these segments out
+-- it tells of the arena at the index, with these segments out
 abbrev pub TellsSums : List SpaceState → ℕ → Out → ArenaSums → Type 0
 TellsSums spaces arena out r = (s : SpaceState) → slice_get spaces arena ≡ Some s
-    → told r ≡ lengths_of (places_of spaces out s)
+    → told_sums r ≡ lengths_of (homes_of spaces out s)

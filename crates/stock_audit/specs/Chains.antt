@@ -9,7 +9,7 @@ use Rattle.deed_core.specs.Covering.{covers_held, covering_held}
 use Rattle.tag_arena.specs.ArenaState.{spans_of}
 use Rattle.slab_layer.specs.Cache as slab_layer
 use Rattle.stock.specs.Spaces.{SpaceState}
-use Rattle.stock.specs.Sums.{Sums, held, places_of, sums_of}
+use Rattle.stock.specs.Sums.{Sums, holdings_of, homes_of, sums_of}
 use Rattle.stock.specs.Laws.{HasTop}
 use Rattle.stock_audit.specs.Outside.{Outside, out_of}
 
@@ -26,11 +26,11 @@ pub data IsFreeFor (spaces : List SpaceState) (u : ℕ) : ℕ → Type 0 where
   free_above : (k p : ℕ) (s : SpaceState) → slice_get spaces k ≡ Some s → s.source ≡ Some p
       → covering_held u (spans_of s.arena) ≡ 0 → IsFreeFor spaces u p → IsFreeFor spaces u k
 
--- the places of a unit: 1 where it is, and 0 elsewhere
+-- the homes of a unit: 1 where it is, and 0 elsewhere
 abbrev pub unit_of_arena : ℕ → List SpaceState → Outside → SpaceState → Sums
-unit_of_arena u spaces out s = sums_of (covers_held u) (places_of spaces (out_of out) s)
+unit_of_arena u spaces out s = sums_of (covers_held u) (homes_of spaces (out_of out) s)
 
--- the places of an arena but what it exported, which is in other arenas
+-- the homes of an arena but what it exported, which is in other arenas
 abbrev pub unexported : Sums → ℕ
 unexported x = x.free + (x.slab + (x.magazine + (x.leased + x.hand)))
 
@@ -75,4 +75,4 @@ spans_of_children p spaces = flat_map (λ x. spans_of x.arena) (children_of p sp
 
 -- the spans of the slabs of an arena's caches
 abbrev pub spans_of_slabs : SpaceState → List Holding
-spans_of_slabs s = flat_map (λ c. held (slab_layer.span_tags c.slab)) s.caches
+spans_of_slabs s = flat_map (λ c. holdings_of (slab_layer.span_tags c.slab)) s.caches

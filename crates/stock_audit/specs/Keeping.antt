@@ -5,7 +5,7 @@ use Rattle.deed_core.specs.Weights.{WeighSame, Gains, Loses, of_arena}
 use Rattle.stock.specs.Spaces.{SpaceState, plans_of}
 use Rattle.stock.specs.Stocks.{IsStock}
 use Rattle.stock.specs.Accounts.{Frames}
-use Rattle.stock.specs.OwnCaches.{OwnCacheState, IsOwnCache, IsAtPlaceOf, own_rounds}
+use Rattle.stock.specs.OwnCaches.{OwnCacheState, IsOwnCache, IsAtIndexesOf, own_rounds}
 use Rattle.stock_audit.specs.Outside.{Outside, all_rounds_out}
 use Rattle.stock_audit.specs.Accounted.{IsOwnIn}
 use Rattle.stock_audit.specs.Chains.{IsUpFrom}
@@ -27,12 +27,12 @@ pub record HandsMove (before : Outside) (given answered : List Tag) (after : Out
   pub leases : after.leases ≡ before.leases
   pub cpus : after.cpus ≡ before.cpus
 
--- the CPU's cache at the place i became that other one of the same quantum cache, and the other
+-- the CPU's cache at the index i became that other one of the same quantum cache, and the other
 -- caches and the leases stay
 pub record OnCpu (i : ℕ) (o p : OwnCacheState) (before after : Outside) : Type 0 where
   pub at : slice_get before.cpus i ≡ Some o
   pub own : IsOwnCache p
-  pub place : IsAtPlaceOf o p
+  pub index : IsAtIndexesOf o p
   pub cpus : after.cpus ≡ set before.cpus i p
   pub leases : after.leases ≡ before.leases
 
@@ -67,7 +67,7 @@ pub record ReleaseMove (t : Tag) (before after : Outside) : Type 0 where
   pub leases : Loses before.leases after.leases t
   pub cpus : after.cpus ≡ before.cpus
 
--- whatever steps were taken, they were on the arenas up the chain from the place k and on the
+-- whatever steps were taken, they were on the arenas up the chain from the index k and on the
 -- caches of that one, of the stock and of CPUs: all other arenas, caches and rounds are as before,
 -- and so are owned spans and leases
 pub record StaysOffChain (k : ℕ) (old new : List SpaceState) (before after : Outside) : Type 0 where

@@ -14,7 +14,7 @@ use Rattle.tag_arena.specs.ArenaState.{ArenaState, spans_of, ranges_of}
 use Rattle.stock.specs.Spaces.{SpaceState, QuantumCacheState, plans_of, with_arena, with_caches}
 use Rattle.stock.specs.OwnCaches.{OwnCacheState, own_rounds}
 use Rattle.stock.specs.Accounts.{IsAccounted}
-use Rattle.stock.specs.Sums.{held_of, places_of, total}
+use Rattle.stock.specs.Sums.{held_of, homes_of, total}
 use Rattle.stock.specs.Laws.{HasTop, ApartUpChain}
 use Rattle.stock_audit.specs.Outside.{Outside, nothing_out, out_of, segments_out, all_rounds_out}
 use Rattle.stock_audit.specs.Audits.{sums_of_arena, units_of_arena_in}
@@ -31,7 +31,7 @@ AuditAddsUp = (spaces : List SpaceState) (out : Outside) → IsAccountedFor spac
     → (k : ℕ) (s : SpaceState) → slice_get spaces k ≡ Some s
     → total (sums_of_arena spaces out s) ≡ units_held (spans_of s.arena)
 
--- the same of one unit: one of a span is in one place, and another in none
+-- the same of one unit: one of a span is in one home, and another in none
 abbrev pub UnitAddsUp : Type 0
 UnitAddsUp = (spaces : List SpaceState) (out : Outside) → IsAccountedFor spaces out
     → (k : ℕ) (s : SpaceState) → slice_get spaces k ≡ Some s → (u : ℕ)
@@ -106,7 +106,7 @@ ChildIsExported = (spaces : List SpaceState) (out : Outside) → IsAccountedFor 
 abbrev pub ExportedIsChildren : Type 0
 ExportedIsChildren = (spaces : List SpaceState) (out : Outside) → IsAccountedFor spaces out
     → (k : ℕ) (s : SpaceState) → slice_get spaces k ≡ Some s → (f : Holding → ℕ)
-    → sum_by f (places_of spaces (out_of out) s).exported ≡ sum_by f (spans_of_children k spaces)
+    → sum_by f (homes_of spaces (out_of out) s).exported ≡ sum_by f (spans_of_children k spaces)
 
 -- what is allocated are the Direct segments that are out, the spans of slabs, and those of children
 abbrev pub AllocatedIsOut : Type 0
@@ -128,7 +128,7 @@ abbrev pub OutNeverOverlaps : Type 0
 OutNeverOverlaps = (spaces : List SpaceState) (out : Outside) → IsAccountedFor spaces out
     → AllPairs (ApartUpChain spaces) (segments_out out)
 
--- over all arenas of one space, each unit of the spans at the top is in one place, and any other
+-- over all arenas of one space, each unit of the spans at the top is in one home, and any other
 -- in none
 abbrev pub SpaceUnitAddsUp : Type 0
 SpaceUnitAddsUp = (spaces : List SpaceState) (out : Outside) → IsAccountedFor spaces out
@@ -178,7 +178,7 @@ GivenWasReachable = (old new : List SpaceState) (before after : Outside)
     → (s : SpaceState) → slice_get old k ≡ Some s
     → (u : ℕ) → Covers t.holding.range u → IsReachable old before k s u
 
--- so what is given and fits the request was a place for it
+-- so what is given and fits the request was a base for it
 abbrev pub GivenFittedIn : Type 0
 GivenFittedIn = (old new : List SpaceState) (before after : Outside)
     → IsAccountedFor old before → IsAccountedFor new after

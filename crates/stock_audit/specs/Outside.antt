@@ -21,7 +21,7 @@ nothing_out = outside [] [] []
 abbrev pub all_rounds_out : List OwnCacheState → List Tag
 all_rounds_out cpus = flat_map own_rounds cpus
 
--- the same segments, each with its place
+-- the same segments, each with its index
 abbrev pub out_of : Outside → Out
 out_of out =
     record { hands = out.hands; leases = out.leases; rounds = all_rounds_out out.cpus }

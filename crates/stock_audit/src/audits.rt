@@ -5,7 +5,7 @@ ghost use Rattle.slab_layer.specs.Cache.{deeds_of};
 ghost use Rattle.magazine_layer.specs.Depots.{depot_rounds};
 ghost use Rattle.stock.specs.Spaces.{SpaceState};
 ghost use Rattle.stock.specs.Accounts.{Accounts};
-ghost use Rattle.stock.specs.Sums.{Out, held};
+ghost use Rattle.stock.specs.Sums.{Out, holdings_of};
 ghost use Rattle.stock_audit.specs.Outside.{outside, out_of, segments_out};
 ghost use Rattle.stock_audit.specs.Audits.{IsTally, IsBalanced, IsReportOf, TellsSums};
 
@@ -42,7 +42,7 @@ pub struct UnitsOut {
     pub hand: u128,
 }
 
-/// The sums of the arena at the place, where these segments are out, and no others. It takes no
+/// The sums of the arena at the index, where these segments are out, and no others. It takes no
 /// memory.
 pub fn audit<D: Deed>(
     stock: &Stock<D>,
@@ -124,9 +124,9 @@ fn slab_units<D: Deed>(stock: &Stock<D>, arena: usize) -> u128
 fn depots_units<D: Deed>(stock: &Stock<D>, arena: usize) -> u128
     requires within { arena < length stock.now }
     requires fits { (s : SpaceState) → slice_get stock.now arena ≡ Some s
-        → units_held (flat_map (λ c. held (depot_rounds c.depot)) s.caches) < 2 ^ 128 }
+        → units_held (flat_map (λ c. holdings_of (depot_rounds c.depot)) s.caches) < 2 ^ 128 }
     ensures { (s : SpaceState) → slice_get stock.now arena ≡ Some s
-        → result ≡ units_held (flat_map (λ c. held (depot_rounds c.depot)) s.caches) }
+        → result ≡ units_held (flat_map (λ c. holdings_of (depot_rounds c.depot)) s.caches) }
 {
     let mut units: u128 = 0;
     for cache in 0..stock.caches(arena) {

@@ -15,7 +15,7 @@ ghost use Rattle.stock_audit.specs.Laws.{ArenaStepOffChain, CacheStepOffChain};
 /// The six sums of an arena add up to its spans, by units and unit by unit.
 pub fn sum_laws()
     ensures lengths { AuditAddsUp }
-    ensures place { UnitAddsUp }
+    ensures home { UnitAddsUp }
     ensures weigh { UnitsWeigh }
 {}
 
@@ -53,10 +53,10 @@ pub fn chain_laws()
 {}
 
 /// Over a whole space, which is an arena with all that import from it, directly or not: each unit
-/// is in one place of one arena, and what an arena may serve a request with is nowhere else.
+/// is in one home of one arena, and what an arena may serve a request with is nowhere else.
 pub fn space_laws()
     ensures tops { TopsStand }
-    ensures place { SpaceUnitAddsUp }
+    ensures home { SpaceUnitAddsUp }
     ensures lengths { SpaceAddsUp }
     ensures free { FreeIsNotOut }
     ensures reachable { ReachableIsNotHeld }

@@ -27,7 +27,7 @@ pub fn rounds_units<D: Deed>(cpus: &[OwnCache<D>], arena: usize) -> u128
 {
     let mut units: u128 = 0;
     for cache in cpus {
-        if cache.place().0 == arena {
+        if cache.indexes().0 == arena {
             units = units.saturating_add(cache.units());
         }
     }

@@ -7,7 +7,7 @@ use Rattle.lease_proto.specs.Faults.{error_line}
 use Rattle.lease_proto.specs.Operators.{served_of}
 use Rattle.lease_machine.specs.Picture.{Picture, IsPicture}
 use Rattle.lease_machine.specs.Machine.{AnswersLine, ServedStep, LeaseStep}
-use Rattle.stock_desk.specs.Operating.{Keeps}
+use Rattle.stock_desk.specs.Operating.{StaysPicture}
 
 module _ {A E : Type 0} where
   -- bytes were appended where there was room
@@ -26,7 +26,7 @@ module _ {A E : Type 0} where
   never_err (Err e) P ok = absurd (let no : false ≡ true = ok in cc)
 
 -- a line that is served
-pub served_step : (old new : Picture) (line text : List ℕ) (l : ServedLine) → Ok l ≡ served_of line → ServedStep l old text new → Keeps old new → LeaseStep old line text new
+pub served_step : (old new : Picture) (line text : List ℕ) (l : ServedLine) → Ok l ≡ served_of line → ServedStep l old text new → StaysPicture old new → LeaseStep old line text new
 served_step old new line text l is step kept = record {
   answer = subst (λ (x : Result ServedLine LineFault). AnswersLine old x text new) is step;
   setup = kept.setup;

@@ -13,7 +13,7 @@ use Rattle.lease_book.specs.declared.receipts.Terms.{Terms}
 use Rattle.lease_book.specs.Account.{Account}
 use Rattle.lease_book.specs.Receipts.{ReceiptState}
 use Rattle.lease_book.specs.Entry.{Entry, Hello, Settled, Swept, Grant, Return, Refuse}
-use Rattle.lease_book.specs.BookState.{BookState, Enters, account_in, leased}
+use Rattle.lease_book.specs.BookState.{BookState, Enters, account_in, leased_segments}
 use Rattle.lease_book.specs.Calls.{IsGranted, IsRefused, IsReleased, IsSwept}
 use Rattle.lease_book.specs.History.{incarnation}
 use Rattle.lease_book.proofs.LawProofs.{account_is}
@@ -42,7 +42,7 @@ module _ (d : Picture) (b : BookState) where
   rebooked = record d { book = b }
 
   -- with the same leases
-  pub same_leases : (hands : List Tag) → leased b ≡ leased d.book → IsHeld hands d → IsHeld hands rebooked
+  pub same_leases : (hands : List Tag) → leased_segments b ≡ leased_segments d.book → IsHeld hands d → IsHeld hands rebooked
   same_leases hands same is = record {
     tree = is.tree;
     plans = is.plans;
@@ -55,27 +55,27 @@ module _ (d : Picture) (b : BookState) where
   granted_is_picture id t terms r granted is book x at same = record {
     tree = is.tree;
     plans = is.plans;
-    units = leases_keep d.spaces t (outside (t ∷ []) (leased d.book) (flat_map caches_of d.cpus)) (outside [] (leased b) (flat_map caches_of d.cpus)) is.units
+    units = leases_keep d.spaces t (outside (t ∷ []) (leased_segments d.book) (flat_map caches_of d.cpus)) (outside [] (leased_segments b) (flat_map caches_of d.cpus)) is.units
         (record { hands = λ f. omega (arith, sum_by-cons f t []); leases = granted.leases; cpus = refl });
     cpus = is.cpus;
     book = book_enters d.tree (Settled id (Grant t terms)) d.book b granted.entry (x, at, same) book;
   }
 
   -- from a lease to a hand
-  into_hand : (t : Tag) → ((f : Tag → ℕ) → sum_by f (leased d.book) ≡ sum_by f (leased b) + f t) → IsPicture d → IsHeld (t ∷ []) rebooked
+  into_hand : (t : Tag) → ((f : Tag → ℕ) → sum_by f (leased_segments d.book) ≡ sum_by f (leased_segments b) + f t) → IsPicture d → IsHeld (t ∷ []) rebooked
   into_hand t loses is = record {
     tree = is.tree;
     plans = is.plans;
-    units = releases_keep d.spaces t (outside [] (leased d.book) (flat_map caches_of d.cpus)) (outside (t ∷ []) (leased b) (flat_map caches_of d.cpus)) is.units
+    units = releases_keep d.spaces t (outside [] (leased_segments d.book) (flat_map caches_of d.cpus)) (outside (t ∷ []) (leased_segments b) (flat_map caches_of d.cpus)) is.units
         (record { hands = λ f. omega (arith, sum_by-cons f t []); leases = loses; cpus = refl });
     cpus = is.cpus;
   }
 
-  pub released_in_hand : (id : RequestId) (place base : ℕ) (r : ReceiptState) (t : Tag) → IsReleased d.book b id place base r t → IsPicture d → IsHeld (t ∷ []) rebooked
-  released_in_hand id place base r t released is = into_hand t released.leases is
+  pub released_in_hand : (id : RequestId) (index base : ℕ) (r : ReceiptState) (t : Tag) → IsReleased d.book b id index base r t → IsPicture d → IsHeld (t ∷ []) rebooked
+  released_in_hand id index base r t released is = into_hand t released.leases is
 
-  pub released_book : (id : RequestId) (place base : ℕ) (r : ReceiptState) (t : Tag) → IsReleased d.book b id place base r t → IsPicture d → IsBookOf d.tree b
-  released_book id place base r t released is = book_enters d.tree (Settled id (Return place base)) d.book b released.entry tt is.book
+  pub released_book : (id : RequestId) (index base : ℕ) (r : ReceiptState) (t : Tag) → IsReleased d.book b id index base r t → IsPicture d → IsBookOf d.tree b
+  released_book id index base r t released is = book_enters d.tree (Settled id (Return index base)) d.book b released.entry tt is.book
 
   pub swept_in_hand : (c : ℕ) (id : RequestId) (t : Tag) → IsSwept d.book b c id t → IsPicture d → IsHeld (t ∷ []) rebooked
   swept_in_hand c id t swept is = into_hand t swept.ended.leases is
@@ -94,7 +94,7 @@ module _ (d : Picture) (b : BookState) where
   refused_is_picture id why r refused is =
       picture_of rebooked (same_leases [] refused.leases (held_of d is)) (book_enters d.tree (Settled id (Refuse why)) d.book b refused.entry tt is.book)
 
-  pub greeted_is_picture : (c i : ℕ) → Enters (Hello c i) d.book b → leased b ≡ leased d.book → IsPicture d → IsPicture rebooked
+  pub greeted_is_picture : (c i : ℕ) → Enters (Hello c i) d.book b → leased_segments b ≡ leased_segments d.book → IsPicture d → IsPicture rebooked
   greeted_is_picture c i enters same is =
       picture_of rebooked (same_leases [] same (held_of d is)) (book_enters d.tree (Hello c i) d.book b enters tt is.book)
 

@@ -14,8 +14,8 @@ use Rattle.stock.specs.Spaces.{SpaceState, SpacePlan, plans_of}
 use Rattle.stock.proofs.LawProofs.{arena_weighs}
 use Rattle.stock_audit.specs.Accounted.{IsOwnIn}
 use Rattle.stock_audit.specs.Outside.{all_rounds_out}
-use Rattle.local_parts.specs.Cpus.{CachePlace, IsCpuOf, own_place, row_places, places_from, row_rounds, rounds_of_row, arena_rounds}
-use Rattle.lease_machine.specs.Picture.{Cpu, caches_of}
+use Rattle.local_parts.specs.Cpus.{CacheIndexes, IsCpuOf, own_index, row_indexes, indexes_from, row_rounds, rounds_of_row, arena_rounds}
+use Rattle.lease_machine.specs.Picture.{NumberedCpu, caches_of}
 
 -- the two halves of a list
 module _ {X : Type 0} (P : X → Type 0) where
@@ -28,27 +28,27 @@ module _ {X : Type 0} (P : X → Type 0) where
   all_back (x ∷ xs) ys all = all_back xs ys (λ j e within. all (suc j) e (omega (arith, within)))
 
 -- each cache stands in the row of its arena
-row_arena : (arena quantum j count i : ℕ) (p : CachePlace) → slice_get (row_places arena quantum j count) i ≡ Some p → p.arena ≡ arena
+row_arena : (arena quantum j count i : ℕ) (p : CacheIndexes) → slice_get (row_indexes arena quantum j count) i ≡ Some p → p.arena ≡ arena
 row_arena arena quantum j zero i p at = absurd (let e : None ≡ Some p = at in cc)
 row_arena arena quantum j (suc count) zero p at =
     let e : Some (record { arena = arena; cache = j; quantum = quantum }) ≡ Some p = at in
     let same : (record { arena = arena; cache = j; quantum = quantum }) ≡ p = cc in
-    ap (λ (x : CachePlace). x.arena) (sym same)
+    ap (λ (x : CacheIndexes). x.arena) (sym same)
 row_arena arena quantum j (suc count) (suc i) p at = row_arena arena quantum (j + 1) count i p at
 
-places_arena : (k : ℕ) (plans : List SpacePlan) (i j : ℕ) (row : List CachePlace) (p : CachePlace) → slice_get (places_from k plans) i ≡ Some row → slice_get row j ≡ Some p → p.arena ≡ k + i
-places_arena k [] i j row p at among = absurd (let e : None ≡ Some row = at in cc)
-places_arena k (x ∷ plans) zero j row p at among =
-    let e : Some (row_places k x.quantum 0 (length x.slab_sizes)) ≡ Some row = at in
-    let same : row_places k x.quantum 0 (length x.slab_sizes) ≡ row = cc in
-    omega (arith, row_arena k x.quantum 0 (length x.slab_sizes) j p (ap (λ (r : List CachePlace). slice_get r j) same ∙ among))
-places_arena k (x ∷ plans) (suc i) j row p at among = omega (arith, places_arena (k + 1) plans i j row p at among)
+indexes_arena : (k : ℕ) (plans : List SpacePlan) (i j : ℕ) (row : List CacheIndexes) (p : CacheIndexes) → slice_get (indexes_from k plans) i ≡ Some row → slice_get row j ≡ Some p → p.arena ≡ k + i
+indexes_arena k [] i j row p at among = absurd (let e : None ≡ Some row = at in cc)
+indexes_arena k (x ∷ plans) zero j row p at among =
+    let e : Some (row_indexes k x.quantum 0 (length x.slab_sizes)) ≡ Some row = at in
+    let same : row_indexes k x.quantum 0 (length x.slab_sizes) ≡ row = cc in
+    omega (arith, row_arena k x.quantum 0 (length x.slab_sizes) j p (ap (λ (r : List CacheIndexes). slice_get r j) same ∙ among))
+indexes_arena k (x ∷ plans) (suc i) j row p at among = omega (arith, indexes_arena (k + 1) plans i j row p at among)
 
 pub own_arena : (spaces : List SpaceState) (rows : List (List OwnCacheState)) → IsCpuOf spaces rows → (i j : ℕ) (row : List OwnCacheState) (o : OwnCacheState) → slice_get rows i ≡ Some row → slice_get row j ≡ Some o → o.arena ≡ i
 own_arena spaces rows is i j row o at among =
-    let stands = places_arena 0 (plans_of spaces) i j (map own_place row) (own_place o)
-    (ap (λ (ps : List (List CachePlace)). slice_get ps i) (sym is) ∙ slice_get_mapped (map own_place) rows i row at)
-    (slice_get_mapped own_place row j o among) in
+    let stands = indexes_arena 0 (plans_of spaces) i j (map own_index row) (own_index o)
+    (ap (λ (ps : List (List CacheIndexes)). slice_get ps i) (sym is) ∙ slice_get_mapped (map own_index) rows i row at)
+    (slice_get_mapped own_index row j o among) in
     omega (arith, stands)
 
 -- all caches of a CPU
@@ -74,8 +74,8 @@ RowsStand b rows = (i : ℕ) (row : List OwnCacheState) → slice_get rows i ≡
 pub rows_stand : (spaces : List SpaceState) (rows : List (List OwnCacheState)) → IsCpuOf spaces rows → All (IsOwnIn spaces) (joined rows) → RowsStand 0 rows
 rows_stand spaces rows is own i row at = row_all (λ t. t.arena ≡ 0 + i) row (all_from (λ o. All (λ t. t.arena ≡ 0 + i) (own_rounds o)) row (λ j o among.
     (let in_stock : IsOwnIn spaces o = all_at (IsOwnIn spaces) row j o (row_of_joined (IsOwnIn spaces) rows own i row at) among in
-    let place = own_arena spaces rows is i j row o at among in
-    λ n d below. (let from = (in_stock.own.rounds n d below).from in omega (arith, from, place)))))
+    let index = own_arena spaces rows is i j row o at among in
+    λ n d below. (let from = (in_stock.own.rounds n d below).from in omega (arith, from, index)))))
 
 module _ (k : ℕ) where
   abbrev pub weight : Tag → ℕ
@@ -120,10 +120,10 @@ module _ (k : ℕ) where
       omega (arith, both_weigh row (joined rows), one, rest)
 
   -- those of one CPU are in the arena's row, and so of all CPUs
-  pub cpus_weigh : (spaces : List SpaceState) (cs : List Cpu) → All (λ c. IsCpuOf spaces c.caches) cs → All (IsOwnIn spaces) (flat_map caches_of cs)
+  pub cpus_weigh : (spaces : List SpaceState) (cs : List NumberedCpu) → All (λ c. IsCpuOf spaces c.caches) cs → All (IsOwnIn spaces) (flat_map caches_of cs)
       → sum_by weight (all_rounds_out (flat_map caches_of cs)) ≡ sum_by (λ c. units_tagged (arena_rounds c.caches k)) cs
   cpus_weigh spaces [] of own = refl
   cpus_weigh spaces (c ∷ cs) of own =
       let one = rows_weigh 0 k c.caches (omega arith) (rows_stand spaces c.caches (of 0 c (omega arith)) (all_front (IsOwnIn spaces) (caches_of c) (flat_map caches_of cs) own)) in
       let rest = cpus_weigh spaces cs (λ i e below. of (suc i) e (omega (arith, below))) (all_back (IsOwnIn spaces) (caches_of c) (flat_map caches_of cs) own) in
-      omega (arith, both_weigh (caches_of c) (flat_map caches_of cs), sum_by-cons (λ (x : Cpu). units_tagged (arena_rounds x.caches k)) c cs, one, rest)
+      omega (arith, both_weigh (caches_of c) (flat_map caches_of cs), sum_by-cons (λ (x : NumberedCpu). units_tagged (arena_rounds x.caches k)) c cs, one, rest)

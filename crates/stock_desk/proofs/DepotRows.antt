@@ -5,7 +5,7 @@ use Rattle.std.proofs.lemmas.Bool.{lt-ltb, le-ltb, cases_eq}
 use Rattle.std.proofs.lemmas.Option.{slice_get_within, get_or_from_slice_get, slice_get-get_or}
 use Rattle.deed_core.proofs.LawProofs.{slice_get-set, slice_get_one, slice_get_some, set_same}
 use Rattle.arena_tree.specs.declared.trees.TreeArena.{TreeArena}
-use Rattle.arena_tree.specs.Trees.{place_in}
+use Rattle.arena_tree.specs.Trees.{index_in}
 use Rattle.magazine_layer.specs.declared.faults.NotGreater.{NotGreater}
 use Rattle.magazine_layer.specs.Depots.{DepotState, after_resize}
 use Rattle.magazine_layer.specs.Calls.{ResizeOf}
@@ -14,7 +14,7 @@ use Rattle.stock.specs.Steps.{OnDepot}
 use Rattle.lease_proto.specs.declared.faults.ErrorWord.{ErrorWord}
 use Rattle.lease_proto.specs.declared.faults.ErrorWord.TheVariants.{Size}
 use Rattle.lease_proto.specs.Faults.{error_text}
-use Rattle.lease_machine.specs.Operators.{HasSmaller, Resizes, change_depot, on_depots, resized}
+use Rattle.lease_machine.specs.Operators.{HasSmaller, Resizes, change_depot, on_depots, after_rise}
 use Rattle.lease_machine.specs.Picture.{Picture}
 use Rattle.stock_desk.specs.Depots.{ResizesAt, outcome_text}
 use Rattle.stock_desk.proofs.FirstChanged.{first_changed, changed_here, changed_next, changed_all, changed_none, set_twice}
@@ -23,7 +23,7 @@ use Rattle.stock_desk.proofs.FirstChanged.{first_changed, changed_here, changed_
 abbrev pub partly : (DepotState → DepotState) → ℕ → SpaceState → SpaceState
 partly f i s = with_caches (first_changed (change_depot f) i s.caches) s
 
--- the arena at the place is
+-- the arena at the index is
 pub record RowChanged (f : DepotState → DepotState) (k i : ℕ) (old new : List SpaceState) : Type 0 where
   pub space : SpaceState
   pub at : slice_get old k ≡ Some space
@@ -73,10 +73,10 @@ module _ (f : DepotState → DepotState) (k i : ℕ) (old mid : List SpaceState)
     }
 
 -- a depot with smaller magazines rises, and any other stays
-resized_rises : (m : ℕ) (d : DepotState) → d.size < m → resized m d ≡ after_resize m d
+resized_rises : (m : ℕ) (d : DepotState) → d.size < m → after_rise m d ≡ after_resize m d
 resized_rises m d less = ap (λ (b : Bool). cond b (after_resize m d) d) (lt-ltb d.size m less)
 
-resized_stays : (m : ℕ) (d : DepotState) → m ≤ d.size → resized m d ≡ d
+resized_stays : (m : ℕ) (d : DepotState) → m ≤ d.size → after_rise m d ≡ d
 resized_stays m d most = ap (λ (b : Bool). cond b (after_resize m d) d) (le-ltb d.size m most)
 
 -- none of the first i depots had smaller magazines
@@ -85,28 +85,28 @@ NoneSmaller m i s = (j : ℕ) (c : QuantumCacheState) → j < i → slice_get s.
 
 -- the first i depots of the arena were to rise, and whether one did
 pub record RowResized (m k i : ℕ) (rose : Bool) (old new : List SpaceState) : Type 0 where
-  pub row : RowChanged (resized m) k i old new
+  pub row : RowChanged (after_rise m) k i old new
   pub told : ((rose ≡ true) × HasSmaller m row.space) ⊎ ((rose ≡ false) × NoneSmaller m i row.space)
 
 pub resize_start : (m k : ℕ) (old : List SpaceState) → k < length old → RowResized m k 0 false old old
-resize_start m k old within = record { row = row_start (resized m) k old within; told = inr (refl, λ j c below at. absurd (omega (arith, below))) }
+resize_start m k old within = record { row = row_start (after_rise m) k old within; told = inr (refl, λ j c below at. absurd (omega (arith, below))) }
 
 module _ (m k i : ℕ) (rose : Bool) (old mid new : List SpaceState) (r : RowResized m k i rose old mid) where
   pub resize_rises : (x : Unit {0}) → OnDepot k i (λ a b. ResizeOf a m (Ok x) b) mid new → RowResized m k (i + 1) true old new
   unfolding row_more
   resize_rises x d =
-      let among = row_among (resized m) k i old mid r.row (λ a b. ResizeOf a m (Ok x) b) new d in
+      let among = row_among (after_rise m) k i old mid r.row (λ a b. ResizeOf a m (Ok x) b) new d in
       record {
-        row = row_more (resized m) k i old mid r.row (λ a b. ResizeOf a m (Ok x) b) new d (d.does.1 ∙ sym (resized_rises m d.cache.depot d.does.0));
+        row = row_more (after_rise m) k i old mid r.row (λ a b. ResizeOf a m (Ok x) b) new d (d.does.1 ∙ sym (resized_rises m d.cache.depot d.does.0));
         told = inl (refl, (i, d.cache, slice_get_within r.row.space.caches i d.cache among, get_or_from_slice_get r.row.space.caches i d.cache d.cache among, d.does.0));
       }
 
   pub resize_stays : (x : NotGreater) → OnDepot k i (λ a b. ResizeOf a m (Err x) b) mid new → RowResized m k (i + 1) rose old new
   unfolding row_more
   resize_stays x d =
-      let among = row_among (resized m) k i old mid r.row (λ a b. ResizeOf a m (Err x) b) new d in
+      let among = row_among (after_rise m) k i old mid r.row (λ a b. ResizeOf a m (Err x) b) new d in
       record {
-        row = row_more (resized m) k i old mid r.row (λ a b. ResizeOf a m (Err x) b) new d (d.does.1 ∙ sym (resized_stays m d.cache.depot d.does.0));
+        row = row_more (after_rise m) k i old mid r.row (λ a b. ResizeOf a m (Err x) b) new d (d.does.1 ∙ sym (resized_stays m d.cache.depot d.does.0));
         told = elim r.told [
           | inl one ↦ inl one
           | inr none ↦ inr (
@@ -125,7 +125,7 @@ module _ (m k i : ℕ) (rose : Bool) (old mid new : List SpaceState) (r : RowRes
 module _ (m k i : ℕ) (old new : List SpaceState) where
   pub resize_rose : (rose : Bool) (r : RowResized m k i rose old new) → rose ≡ true → i ≡ length r.row.space.caches → ResizesAt k m old (Ok tt) new
   resize_rose rose r so all = elim r.told [
-    | inl one ↦ (r.row.space, r.row.at, one.1, row_whole (resized m) k i old new r.row all)
+    | inl one ↦ (r.row.space, r.row.at, one.1, row_whole (after_rise m) k i old new r.row all)
     | inr none ↦ absurd (let e : true ≡ false = sym so ∙ none.0 in cc)
   ]
 
@@ -135,21 +135,21 @@ module _ (m k i : ℕ) (old new : List SpaceState) where
     | inr none ↦
         let s = r.row.space in
         let stays : (j : ℕ) (c : QuantumCacheState) → slice_get s.caches j ≡ Some c → m ≤ c.depot.size = λ j c at. (let within = slice_get_within s.caches j c at in none.1 j c (omega (arith, within, all)) at) in
-        let same : map (change_depot (resized m)) s.caches ≡ s.caches = changed_none (change_depot (resized m)) s.caches (λ j c at. ap (λ (x : DepotState). with_depot x c) (resized_stays m c.depot (stays j c at))) in (
+        let same : map (change_depot (after_rise m)) s.caches ≡ s.caches = changed_none (change_depot (after_rise m)) s.caches (λ j c at. ap (λ (x : DepotState). with_depot x c) (resized_stays m c.depot (stays j c at))) in (
           s,
           r.row.at,
           (λ smaller. (let (j, c, within, is, less) = smaller in
               let most = stays j c (slice_get-get_or s.caches j c within ∙ ap Some is) in
               absurd (omega (arith, most, less)))),
           refl,
-          row_whole (resized m) k i old new r.row all ∙ ap (λ (cs : List QuantumCacheState). set old k (with_caches cs s)) same ∙ set_same old k s r.row.at,
+          row_whole (after_rise m) k i old new r.row all ∙ ap (λ (cs : List QuantumCacheState). set old k (with_caches cs s)) same ∙ set_same old k s r.row.at,
         )
   ]
 
 -- the line of the operator
-pub resize_told : (d : Picture) (name : List ℕ) (m k : ℕ) (tree : List TreeArena) (old new : List SpaceState) (r : Result (Unit {0}) ErrorWord) → place_in name tree ≡ Some k → ResizesAt k m old r new → d.tree ≡ tree → d.spaces ≡ old
+pub resize_told : (d : Picture) (name : List ℕ) (m k : ℕ) (tree : List TreeArena) (old new : List SpaceState) (r : Result (Unit {0}) ErrorWord) → index_in name tree ≡ Some k → ResizesAt k m old r new → d.tree ≡ tree → d.spaces ≡ old
     → Resizes name m d (outcome_text r) (record d { spaces = new })
 resize_told d name m k tree old new (Ok x) found is arenas here =
-    inr (inr (k, is.0, ap (place_in name) arenas ∙ found, ap (λ z. slice_get z k) here ∙ is.1, is.2, refl, ap (λ (z : List SpaceState). record d { spaces = z }) (is.3 ∙ ap (λ (z : List SpaceState). set z k (on_depots (resized m) is.0)) (sym here))))
+    inr (inr (k, is.0, ap (index_in name) arenas ∙ found, ap (λ z. slice_get z k) here ∙ is.1, is.2, refl, ap (λ (z : List SpaceState). record d { spaces = z }) (is.3 ∙ ap (λ (z : List SpaceState). set z k (on_depots (after_rise m) is.0)) (sym here))))
 resize_told d name m k tree old new (Err word) found is arenas here =
-    inr (inl (k, is.0, ap (place_in name) arenas ∙ found, ap (λ z. slice_get z k) here ∙ is.1, is.2, ap error_text is.3, ap (λ (z : List SpaceState). record d { spaces = z }) (is.4 ∙ sym here)))
+    inr (inl (k, is.0, ap (index_in name) arenas ∙ found, ap (λ z. slice_get z k) here ∙ is.1, is.2, ap error_text is.3, ap (λ (z : List SpaceState). record d { spaces = z }) (is.4 ∙ sym here)))

@@ -16,14 +16,14 @@ use Rattle.stock.specs.Accounts.{Accounts}
 use Rattle.stock.specs.OwnCaches.{OwnCacheState}
 use Rattle.stock.specs.Spaces.{SpaceState, SpacePlan, plans_of}
 use Rattle.stock.proofs.LawProofs.{out_weighs}
-use Rattle.local_parts.specs.Cpus.{IsCpuOf, HasNoRound, HasNoRounds, places_from, row_rounds, cpu_rounds}
+use Rattle.local_parts.specs.Cpus.{IsCpuOf, HasNoRound, HasNoRounds, indexes_from, row_rounds, cpu_rounds}
 use Rattle.local_parts.specs.States.{LocalState}
 use Rattle.local_parts.specs.Steps.{LocalStep}
 use Rattle.local_parts.proofs.LawProofs.{plan_conserves, plan_keeps_setup, path_seen}
 use Rattle.local_calls.specs.Runs.{SoundStep, RunsTo}
-use Rattle.lease_machine.specs.Picture.{Cpu}
+use Rattle.lease_machine.specs.Picture.{NumberedCpu}
 use Rattle.stock_desk.specs.Emptyings.{rounds_of_all}
-use Rattle.stock_desk.specs.Parts.{parts_of}
+use Rattle.stock_desk.specs.Parts.{local_of}
 use Rattle.stock_desk.proofs.NumberedCpus.{last_cpu}
 
 -- its steps, each by what it does
@@ -41,34 +41,34 @@ cpu_none [] none = refl
 cpu_none (row ∷ cpu) none =
     ap (λ (ts : List Tag). ts ++ cpu_rounds cpu) (row_none row (none 0 row (omega arith))) ∙ cpu_none cpu (λ i e below. none (suc i) e (omega (arith, below)))
 
-module _ (arenas : List TreeArena) (turns : ℕ) (old new : List SpaceState) (cpu left : List (List OwnCacheState)) (ran : RunsTo arenas (drain_plan turns arenas) (parts_of old cpu) (parts_of new left) (Ok tt)) where
+module _ (arenas : List TreeArena) (turns : ℕ) (old new : List SpaceState) (cpu left : List (List OwnCacheState)) (ran : RunsTo arenas (drain_plan turns arenas) (local_of old cpu) (local_of new left) (Ok tt)) where
   -- what was out but for the CPU's rounds is out after it
   pub drained_out : HasNoRounds left → (others : List Tag) → Accounts old (cpu_rounds cpu ++ others) → Accounts new others
   drained_out none others acc = subst (λ (ts : List Tag). Accounts new (ts ++ others)) (cpu_none left none)
-      (plan_conserves Drained drain_left (drain_plan turns arenas) None (drain_handles turns arenas) (parts_of old cpu) (parts_of new left) (Ok tt) (local_path arenas Drained (drain_plan turns arenas) (parts_of old cpu) (parts_of new left) (Ok tt) ran) others acc)
+      (plan_conserves Drained drain_left (drain_plan turns arenas) None (drain_handles turns arenas) (local_of old cpu) (local_of new left) (Ok tt) (local_path arenas Drained (drain_plan turns arenas) (local_of old cpu) (local_of new left) (Ok tt) ran) others acc)
 
   pub drained_fixed : plans_of new ≡ plans_of old
-  drained_fixed = (plan_keeps_setup Drained (drain_plan turns arenas) (parts_of old cpu) (parts_of new left) (Ok tt) (local_path arenas Drained (drain_plan turns arenas) (parts_of old cpu) (parts_of new left) (Ok tt) ran)).plans
+  drained_fixed = (plan_keeps_setup Drained (drain_plan turns arenas) (local_of old cpu) (local_of new left) (Ok tt) (local_path arenas Drained (drain_plan turns arenas) (local_of old cpu) (local_of new left) (Ok tt) ran)).plans
 
-front_cpu : (front : List Cpu) (c : Cpu) (k : ℕ) (x : Cpu) → slice_get front k ≡ Some x → slice_get (front ++ c ∷ []) k ≡ Some x
+front_cpu : (front : List NumberedCpu) (c : NumberedCpu) (k : ℕ) (x : NumberedCpu) → slice_get front k ≡ Some x → slice_get (front ++ c ∷ []) k ≡ Some x
 front_cpu [] c k x at = absurd (let e : None ≡ Some x = at in cc)
 front_cpu (y ∷ front) c zero x at = at
 front_cpu (y ∷ front) c (suc k) x at = front_cpu front c k x at
 
 -- the last CPU goes
-module _ (front items : List Cpu) (c : Cpu) (is : items ≡ front ++ c ∷ []) where
-  pub front_all : (P : Cpu → Type 0) → All P items → All P front
-  front_all P all = all_from P front (λ k x at. all_at P items k x all (ap (λ (xs : List Cpu). slice_get xs k) is ∙ front_cpu front c k x at))
+module _ (front items : List NumberedCpu) (c : NumberedCpu) (is : items ≡ front ++ c ∷ []) where
+  pub front_all : (P : NumberedCpu → Type 0) → All P items → All P front
+  front_all P all = all_from P front (λ k x at. all_at P items k x all (ap (λ (xs : List NumberedCpu). slice_get xs k) is ∙ front_cpu front c k x at))
 
-  pub last_has : (P : Cpu → Type 0) → All P items → P c
-  last_has P all = all_at P items (length front) c all (ap (λ (xs : List Cpu). slice_get xs (length front)) is ∙ last_cpu front c)
+  pub last_has : (P : NumberedCpu → Type 0) → All P items → P c
+  last_has P all = all_at P items (length front) c all (ap (λ (xs : List NumberedCpu). slice_get xs (length front)) is ∙ last_cpu front c)
 
   pub last_rounds : (spaces : List SpaceState) → Accounts spaces (rounds_of_all items) → Accounts spaces (cpu_rounds c.caches ++ rounds_of_all front)
   last_rounds spaces acc =
       let all : rounds_of_all items ≡ rounds_of_all front ++ cpu_rounds c.caches =
-      ap rounds_of_all is ∙ flat_map-append (λ (x : Cpu). cpu_rounds x.caches) front (c ∷ []) ∙ ap (λ (ts : List Tag). rounds_of_all front ++ ts) (append-nil (cpu_rounds c.caches)) in
+      ap rounds_of_all is ∙ flat_map-append (λ (x : NumberedCpu). cpu_rounds x.caches) front (c ∷ []) ∙ ap (λ (ts : List Tag). rounds_of_all front ++ ts) (append-nil (cpu_rounds c.caches)) in
       out_weighs spaces (rounds_of_all front ++ cpu_rounds c.caches) (cpu_rounds c.caches ++ rounds_of_all front) (λ f. omega (arith, sum_by-append f (rounds_of_all front) (cpu_rounds c.caches), sum_by-append f (cpu_rounds c.caches) (rounds_of_all front)))
       (subst (Accounts spaces) all acc)
 
 pub same_cpu_of : (old new : List SpaceState) → plans_of new ≡ plans_of old → (rows : List (List OwnCacheState)) → IsCpuOf old rows → IsCpuOf new rows
-same_cpu_of old new same rows is = is ∙ ap (λ (ps : List SpacePlan). places_from 0 ps) (sym same)
+same_cpu_of old new same rows is = is ∙ ap (λ (ps : List SpacePlan). indexes_from 0 ps) (sym same)

@@ -29,8 +29,8 @@ use Rattle.lease_machine.specs.Moves.{Climbs, ClimbsInVain, Returns}
 use Rattle.lease_machine.specs.Picture.{Picture, IsPicture, IsBookOf, HoldsInHand, SameSetup}
 use Rattle.lease_machine.specs.Replies.{reply_of_settled}
 use Rattle.lease_machine.specs.Serving.{ServesWith, FallsBack}
-use Rattle.stock_desk.specs.Leasing.{IsTaken}
-use Rattle.stock_desk.specs.Supplies.{SupplyState, pictured}
+use Rattle.stock_desk.specs.Leasing.{IsTakenFor}
+use Rattle.stock_desk.specs.Supplies.{SupplyState, picture_with}
 use Rattle.stock_desk.specs.Takings.{IsPutBack}
 use Rattle.stock_desk.specs.Telling.{reply_of_kept}
 use Rattle.stock_desk.proofs.BookMoves.{same_leases, book_enters, granted_is_picture}
@@ -49,20 +49,20 @@ climbed_back : (chain : List Level) (n : ℕ) (t : Tag) (old mid new : List Spac
 climbed_back [] n t old mid new c back = absurd c
 climbed_back (l ∷ up) n t old mid new c back = inr (inl (t, mid, c, back))
 
-module _ (place : ℕ) (x : TreeArena) (q : Request) (t : Tag) (old mid new : Picture) where
+module _ (index : ℕ) (x : TreeArena) (q : Request) (t : Tag) (old mid new : Picture) where
   by_direct : t.route ≡ Direct → GoesBack t mid new → Returns new.spaces t mid.spaces × (new.cpus ≡ mid.cpus)
   by_direct route back = subst (λ (r : Route). GoesBackBy r t mid new) route back.1
 
   -- what served it went back
-  pub falls_back : mid.book ≡ old.book → HoldsInHand t mid → ServesWith place x q t old mid → GoesBack t mid new → FallsBack place x q old new
+  pub falls_back : mid.book ≡ old.book → HoldsInHand t mid → ServesWith index x q t old mid → GoesBack t mid new → FallsBack index x q old new
   falls_back book hand serves back = elim serves.from [
     | inl carved ↦
         let home = by_direct (ap (λ (y : Tag). y.route) carved.1.does.segment) back in
         inl (carved.0, inr (t, mid.spaces, carved.1, home.0), home.1 ∙ carved.2)
     | inr other ↦ inr (elim other [
       | inl climbed ↦
-          let home = by_direct (climb_direct (chain_in old.tree place) q.size t old.spaces mid.spaces climbed.2) back in
-          inl (climbed.0, climbed.1, climbed_back (chain_in old.tree place) q.size t old.spaces mid.spaces new.spaces climbed.2 home.0, home.1 ∙ climbed.3)
+          let home = by_direct (climb_direct (chain_in old.tree index) q.size t old.spaces mid.spaces climbed.2) back in
+          inl (climbed.0, climbed.1, climbed_back (chain_in old.tree index) q.size t old.spaces mid.spaces new.spaces climbed.2 home.0, home.1 ∙ climbed.3)
       | inr cached ↦ inr (cached.0, inr (inr (t, mid, book, hand, serves, back)))
     ])
   ]
@@ -76,7 +76,7 @@ book_in old new setup is book = subst (λ (ts : List TreeArena). IsBookOf ts new
 abbrev pub make_terms : ℕ → Request → Terms
 make_terms quantum q = record { quantum = quantum; request = q }
 
-module _ (id : RequestId) (l : LeaseLine) (place : ℕ) (t : Tag) (before : Picture) (a : BookState) (s : SupplyState) (taken : IsTaken l place t before (pictured a s)) (b : BookState) where
+module _ (id : RequestId) (l : LeaseLine) (index : ℕ) (t : Tag) (before : Picture) (a : BookState) (s : SupplyState) (taken : IsTakenFor l index t before (picture_with a s)) (b : BookState) where
   abbrev x : TreeArena
   x = taken.arena
 
@@ -84,22 +84,22 @@ module _ (id : RequestId) (l : LeaseLine) (place : ℕ) (t : Tag) (before : Pict
   asked = record { quantum = x.quantum; request = demand_of l }
 
   here_at : slice_get s.tree t.arena ≡ Some x
-  here_at = ap (slice_get s.tree) taken.served.serves.arena ∙ ap (λ (ts : List TreeArena). slice_get ts place) taken.served.setup.tree ∙ taken.finds.here
+  here_at = ap (slice_get s.tree) taken.served.serves.arena ∙ ap (λ (ts : List TreeArena). slice_get ts index) taken.served.setup.tree ∙ taken.finds.here
 
-  pub granted_picture : (r : ReceiptState) → IsGranted a b id t asked r → IsPicture (pictured b s)
-  granted_picture r granted = granted_is_picture (pictured a s) b id t asked r granted taken.served.held (book_in before (pictured a s) taken.served.setup taken.picture taken.book) x here_at refl
+  pub granted_picture : (r : ReceiptState) → IsGranted a b id t asked r → IsPicture (picture_with b s)
+  granted_picture r granted = granted_is_picture (picture_with a s) b id t asked r granted taken.served.held (book_in before (picture_with a s) taken.served.setup taken.picture taken.book) x here_at refl
 
-  pub granted_setup : SameSetup before (pictured b s)
+  pub granted_setup : SameSetup before (picture_with b s)
   granted_setup = record { tree = taken.served.setup.tree; owned = taken.served.setup.owned }
 
-  pub granted_step : (r : ReceiptState) → IsGranted a b id t asked r → (told : Reply) → told ≡ reply_of_settled before id (Grant t asked) → NewLease id l before (pictured b s) told
-  granted_step r granted told said = subst (NewLease id l before (pictured b s)) (sym said) (record {
-    place = place;
+  pub granted_step : (r : ReceiptState) → IsGranted a b id t asked r → (told : Reply) → told ≡ reply_of_settled before id (Grant t asked) → NewLease id l before (picture_with b s) told
+  granted_step r granted told said = subst (NewLease id l before (picture_with b s)) (sym said) (record {
+    index = index;
     arena = x;
     takes = record { finds = taken.finds; good = taken.served.good };
     can = taken.served.can;
     segment = t;
-    serves = serves_then before (pictured a s) b place x (demand_of l) t taken.served.serves;
+    serves = serves_then before (picture_with a s) b index x (demand_of l) t taken.served.serves;
     receipt = r;
     granted = subst (λ (z : BookState). IsGranted z b id t asked r) taken.book granted;
     reply = refl;
@@ -111,59 +111,59 @@ module _ (id : RequestId) (l : LeaseLine) (place : ℕ) (t : Tag) (before : Pict
       ∙ ap (λ (ts : List TreeArena). reply_of_kept ts id (kept.Granted t.arena t.holding.range.base t.holding.range.len)) same
 
   -- the terms, as the arena of that number has them
-  pub same_terms : (tree : List TreeArena) → tree ≡ s.tree → (y : TreeArena) → slice_get tree place ≡ Some y → (q : Request) → q ≡ demand_of l → make_terms y.quantum q ≡ asked
+  pub same_terms : (tree : List TreeArena) → tree ≡ s.tree → (y : TreeArena) → slice_get tree index ≡ Some y → (q : Request) → q ≡ demand_of l → make_terms y.quantum q ≡ asked
   same_terms tree trees y at q same =
-      let is : y ≡ x = slice_get_one before.tree place y x (ap (λ (ts : List TreeArena). slice_get ts place) (sym (trees ∙ taken.served.setup.tree)) ∙ at) taken.finds.here in
+      let is : y ≡ x = slice_get_one before.tree index y x (ap (λ (ts : List TreeArena). slice_get ts index) (sym (trees ∙ taken.served.setup.tree)) ∙ at) taken.finds.here in
       ap (λ (z : TreeArena). make_terms z.quantum q) is ∙ ap (make_terms x.quantum) same
 
   pub kept_book : (A : Type 0) (r : Reply) → Outcome a b id why.Leases (MOST_LEASES ≤ length (account_in id.client a).leases) A r → IsBookOf s.tree b
   kept_book A r outcome =
-      let before_it = book_in before (pictured a s) taken.served.setup taken.picture taken.book in
+      let before_it = book_in before (picture_with a s) taken.served.setup taken.picture taken.book in
       elim outcome [
         | inl o ↦ book_enters s.tree (Settled id (Refuse why.Leases)) a b o.1.entry tt before_it
         | inr o ↦ subst (λ (z : BookState). IsBookOf s.tree z) (sym o.1) before_it
       ]
 
   -- what holds with the book as it is now
-  pub still_held : (A : Type 0) (r : Reply) → Outcome a b id why.Leases (MOST_LEASES ≤ length (account_in id.client a).leases) A r → IsHeld (t ∷ []) (pictured b s)
+  pub still_held : (A : Type 0) (r : Reply) → Outcome a b id why.Leases (MOST_LEASES ≤ length (account_in id.client a).leases) A r → IsHeld (t ∷ []) (picture_with b s)
   still_held A r outcome = elim outcome [
-    | inl o ↦ same_leases (pictured a s) b (t ∷ []) o.1.leases taken.served.held
-    | inr o ↦ subst (λ (z : BookState). IsHeld (t ∷ []) (pictured z s)) (sym o.1) taken.served.held
+    | inl o ↦ same_leases (picture_with a s) b (t ∷ []) o.1.leases taken.served.held
+    | inr o ↦ subst (λ (z : BookState). IsHeld (t ∷ []) (picture_with z s)) (sym o.1) taken.served.held
   ]
 
   -- the book took no lease, and the segment went back
-  module _ (u : SupplyState) (back : IsPutBack t (pictured b s) (pictured b u)) where
-    went_back : GoesBack t (pictured a s) (pictured b u)
-    went_back = goes_back_from (pictured b s) (pictured b u) a t back.back
+  module _ (u : SupplyState) (back : IsPutBack t (picture_with b s) (picture_with b u)) where
+    went_back : GoesBack t (picture_with a s) (picture_with b u)
+    went_back = goes_back_from (picture_with b s) (picture_with b u) a t back.back
 
-    pub kept_setup : SameSetup before (pictured b u)
+    pub kept_setup : SameSetup before (picture_with b u)
     kept_setup = record { tree = back.setup.tree ∙ taken.served.setup.tree; owned = back.setup.owned ∙ taken.served.setup.owned }
 
     abbrev pub Full : Type 0
     Full = MOST_LEASES ≤ length (account_in id.client a).leases
 
-    pub kept_step : (A : Type 0) (r : Reply) → Outcome a b id why.Leases Full A r → NewLease id l before (pictured b u) r
+    pub kept_step : (A : Type 0) (r : Reply) → Outcome a b id why.Leases Full A r → NewLease id l before (picture_with b u) r
     kept_step A r outcome = elim outcome [
-      | inl o ↦ subst (NewLease id l before (pictured b u)) (sym o.3) (
+      | inl o ↦ subst (NewLease id l before (picture_with b u)) (sym o.3) (
         why.Leases,
         record { receipt = o.0; refused = subst (λ (z : BookState). IsRefused z b id why.Leases o.0) taken.book o.1; reply = refl },
         (
-          place,
+          index,
           x,
           record { finds = taken.finds; good = taken.served.good },
           taken.served.can,
-          (t, pictured a s, taken.book, in_hand t (pictured a s) taken.served.held, taken.served.serves, went_back),
+          (t, picture_with a s, taken.book, in_hand t (picture_with a s) taken.served.held, taken.served.serves, went_back),
           subst (λ (z : BookState). MOST_LEASES ≤ length (account_in id.client z).leases) taken.book o.2,
         ),
       )
-      | inr o ↦ subst (NewLease id l before (pictured b u)) (sym o.2) (
+      | inr o ↦ subst (NewLease id l before (picture_with b u)) (sym o.2) (
         refl,
         record {
-          place = place;
+          index = index;
           arena = x;
           takes = record { finds = taken.finds; good = taken.served.good };
           can = taken.served.can;
-          back = falls_back place x (demand_of l) t before (pictured a s) (pictured b u) taken.book (in_hand t (pictured a s) taken.served.held) taken.served.serves went_back;
+          back = falls_back index x (demand_of l) t before (picture_with a s) (picture_with b u) taken.book (in_hand t (picture_with a s) taken.served.held) taken.served.serves went_back;
           names = (back.back.0.0 ∙ taken.served.serves.names.0, back.back.0.1 ∙ taken.served.serves.names.1);
           book = o.1 ∙ taken.book;
         },

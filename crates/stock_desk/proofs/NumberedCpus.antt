@@ -10,9 +10,9 @@ use Rattle.std.proofs.lemmas.Option.{slice_get_within, get_or_from_slice_get}
 use Rattle.deed_core.proofs.LawProofs.{slice_get_some}
 use Rattle.stock.specs.Spaces.{SpaceState}
 use Rattle.lease_machine.specs.Operators.{with_cpu}
-use Rattle.lease_machine.specs.Picture.{Cpu, Picture, is_cpu, fresh_cpu}
+use Rattle.lease_machine.specs.Picture.{NumberedCpu, Picture, is_cpu, fresh_cpu}
 
-module _ (n : ℕ) (cs : List Cpu) where
+module _ (n : ℕ) (cs : List NumberedCpu) where
   abbrev first : ℕ
   first = position_or_len (is_cpu n) cs
 
@@ -30,11 +30,11 @@ module _ (n : ℕ) (cs : List Cpu) where
       by true less at = absurd (let e : Some first ≡ None = at in cc)
       by false less at = ltb-false _ _ less
 
-  passes : (k : ℕ) (c : Cpu) → position (is_cpu n) cs ≡ Some k → is_cpu n (get_or cs k c) ≡ true
+  passes : (k : ℕ) (c : NumberedCpu) → position (is_cpu n) cs ≡ Some k → is_cpu n (get_or cs k c) ≡ true
   passes k c at = let is = first_is k at in ap (λ i. is_cpu n (get_or cs i c)) is.0 ∙ passes_at_first (is_cpu n) cs c is.1
 
   -- the CPU that is found has the number
-  pub found_cpu : (k : ℕ) → position (is_cpu n) cs ≡ Some k → (c : Cpu) × (slice_get cs k ≡ Some c) × (c.number ≡ n)
+  pub found_cpu : (k : ℕ) → position (is_cpu n) cs ≡ Some k → (c : NumberedCpu) × (slice_get cs k ≡ Some c) × (c.number ≡ n)
   found_cpu k at =
       let is = first_is k at in
       let within : k < length cs = omega (arith, is.0, is.1) in
@@ -59,10 +59,10 @@ module _ (n : ℕ) (cs : List Cpu) where
   with_new at d spaces same here =
       let none = none_there at in
       sym (ap (λ (b : Bool). cond b d.cpus (d.cpus ++ fresh_cpu n d.spaces ∷ [])) (ap (list_any (is_cpu n)) same ∙ none)
-      ∙ (ap (λ (xs : List Cpu). xs ++ fresh_cpu n d.spaces ∷ []) same ∙ ap (λ (s : List SpaceState). cs ++ fresh_cpu n s ∷ []) here))
+      ∙ (ap (λ (xs : List NumberedCpu). xs ++ fresh_cpu n d.spaces ∷ []) same ∙ ap (λ (s : List SpaceState). cs ++ fresh_cpu n s ∷ []) here))
 
 -- the last of a list
-pub last_cpu : (cs : List Cpu) (c : Cpu) → slice_get (cs ++ c ∷ []) (length cs) ≡ Some c
+pub last_cpu : (cs : List NumberedCpu) (c : NumberedCpu) → slice_get (cs ++ c ∷ []) (length cs) ≡ Some c
 last_cpu [] c = refl
 last_cpu (x ∷ cs) c = last_cpu cs c
 

@@ -14,7 +14,7 @@ use Rattle.stock.specs.Setups.{IsSetUpFrom, IsNewCache, plans_for}
 use Rattle.stock.specs.Spaces.{SpaceState}
 use Rattle.stock_audit.specs.Outside.{all_rounds_out}
 use Rattle.lease_book.specs.BookState.{BookState, IsHistory, leased_by}
-use Rattle.lease_machine.specs.Picture.{Cpu, Picture, IsPicture, caches_of, fresh_cpu}
+use Rattle.lease_machine.specs.Picture.{NumberedCpu, Picture, IsPicture, caches_of, fresh_cpu}
 use Rattle.lease_machine.specs.RoomLaws.{NothingIsKept}
 use Rattle.lease_machine.proofs.LawProofs.{fresh_is_picture, fresh_cpu_fits}
 
@@ -28,18 +28,18 @@ module _ (setup : SetupState) (deeds : List Holding) (spaces : List SpaceState) 
         slabs = λ i s below. absurd (omega (arith, below, ap length new.slabs));
       })))
 
-  module _ (tree : List TreeArena) (cpus : List Cpu) (b : BookState) (named : tree ≡ setup.arenas) (one : cpus ≡ fresh_cpu 0 spaces ∷ []) (history : IsHistory [] b) where
-    abbrev begun : List Cpu → Picture
+  module _ (tree : List TreeArena) (cpus : List NumberedCpu) (b : BookState) (named : tree ≡ setup.arenas) (one : cpus ≡ fresh_cpu 0 spaces ∷ []) (history : IsHistory [] b) where
+    abbrev begun : List NumberedCpu → Picture
     begun cs = record { tree = tree; spaces = spaces; cpus = cs; selected = 0; book = b }
 
     pub begins_picture : IsTree setup.arenas → IsAccounted spaces [] → IsPicture (begun cpus)
     begins_picture is accounted =
-        subst (λ (cs : List Cpu). IsPicture (begun cs)) (sym one)
+        subst (λ (cs : List NumberedCpu). IsPicture (begun cs)) (sym one)
         (fresh_is_picture tree spaces b (subst IsTree (sym named) is) (up.plans ∙ ap plans_for (sym named)) accounted history)
 
     pub begins_unused : NothingIsKept (begun cpus)
     begins_unused = record {
       leases = ap leased_by history.accounts;
-      rounds = ap (λ (cs : List Cpu). all_rounds_out (flat_map caches_of cs)) one ∙ ap all_rounds_out (append-nil (caches_of (fresh_cpu 0 spaces))) ∙ fresh_cpu_fits.none spaces 0;
+      rounds = ap (λ (cs : List NumberedCpu). all_rounds_out (flat_map caches_of cs)) one ∙ ap all_rounds_out (append-nil (caches_of (fresh_cpu 0 spaces))) ∙ fresh_cpu_fits.none spaces 0;
       reaped = all_reaped;
     }

@@ -2,7 +2,7 @@
 use Rattle.std.proofs.Common.{◌≡◌, ◌⊎◌, ℕ, refl, sym, subst, ap, inl, inr, List, Some, None, arith}
 use Rattle.std.specs.List.{find}
 use Rattle.arena_tree.specs.declared.trees.TreeArena.{TreeArena}
-use Rattle.arena_tree.specs.Trees.{place_in}
+use Rattle.arena_tree.specs.Trees.{index_in}
 use Rattle.lease_terms.specs.Requests.{RequestId}
 use Rattle.lease_terms.specs.declared.refusals.Refusal.{Refusal}
 use Rattle.lease_terms.specs.declared.refusals.Refusal.TheVariants as why
@@ -19,7 +19,7 @@ use Rattle.lease_book.specs.declared.answers.Answer.TheVariants as answer
 use Rattle.lease_machine.specs.Picture.{Picture, IsPicture}
 use Rattle.lease_machine.specs.Machine.{NewRelease}
 use Rattle.lease_machine.specs.Replies.{again_of, SettlesRefusal}
-use Rattle.stock_desk.specs.Supplies.{SupplyState, pictured}
+use Rattle.stock_desk.specs.Supplies.{SupplyState, picture_with}
 use Rattle.stock_desk.specs.Telling.{IsGivenIn, CanName, reply_of_kept, reply_to_answer}
 use Rattle.stock_desk.proofs.BookMoves.{refused_is_picture}
 use Rattle.stock_desk.proofs.NewAnswers.{not_repeated}
@@ -48,17 +48,17 @@ module _ {D : Type 0} (tree : List TreeArena) (old new : BookState) (id : Reques
   answer_told answer.Again is = inr (is.0, is.1, refl)
 
 -- either leaves a picture
-pub outcome_is_picture : (s : SupplyState) (old new : BookState) (id : RequestId) (refusal : Refusal) (E A : Type 0) (r : Reply) → Outcome old new id refusal E A r → IsPicture (pictured old s) → IsPicture (pictured new s)
+pub outcome_is_picture : (s : SupplyState) (old new : BookState) (id : RequestId) (refusal : Refusal) (E A : Type 0) (r : Reply) → Outcome old new id refusal E A r → IsPicture (picture_with old s) → IsPicture (picture_with new s)
 outcome_is_picture s old new id refusal E A r outcome is = elim outcome [
-  | inl o ↦ refused_is_picture (pictured old s) new id refusal o.0 o.1 is
-  | inr o ↦ subst (λ (b : BookState). IsPicture (pictured b s)) (sym o.1) is
+  | inl o ↦ refused_is_picture (picture_with old s) new id refusal o.0 o.1 is
+  | inr o ↦ subst (λ (b : BookState). IsPicture (picture_with b s)) (sym o.1) is
 ]
 
 -- a new release that is refused, as no such lease is there
-pub release_refused : (s : SupplyState) (old new : BookState) (id : RequestId) (l : ReleaseLine) (place : ℕ) (r : Reply) → place_in l.arena s.tree ≡ Some place
-    → Outcome old new id why.NotYours (find (is_lease id.incarnation place l.base) (account_in id.client old).leases ≡ None) ⊥ r → NewRelease id l (pictured old s) (pictured new s) r
-release_refused s old new id l place r first outcome = elim outcome [
-  | inl o ↦ subst (NewRelease id l (pictured old s) (pictured new s)) (sym o.3) (why.NotYours, record { receipt = o.0; refused = o.1; reply = refl }, (place, first, o.2), refl)
+pub release_refused : (s : SupplyState) (old new : BookState) (id : RequestId) (l : ReleaseLine) (index : ℕ) (r : Reply) → index_in l.arena s.tree ≡ Some index
+    → Outcome old new id why.NotYours (find (is_lease id.incarnation index l.base) (account_in id.client old).leases ≡ None) ⊥ r → NewRelease id l (picture_with old s) (picture_with new s) r
+release_refused s old new id l index r first outcome = elim outcome [
+  | inl o ↦ subst (NewRelease id l (picture_with old s) (picture_with new s)) (sym o.3) (why.NotYours, record { receipt = o.0; refused = o.1; reply = refl }, (index, first, o.2), refl)
   | inr o ↦ absurd o.0
 ]
 
@@ -67,8 +67,8 @@ pub settled_so : (old new : Picture) (id : RequestId) (refusal : Refusal) (r : R
 settled_so old new id refusal r said = said.reply
 
 -- a new release that names no arena
-pub release_unnamed : (id : RequestId) (l : ReleaseLine) (s : SupplyState) (old new : BookState) (r : Reply) → place_in l.arena s.tree ≡ None
-    → SettlesRefusal id why.NoArena (pictured old s) (pictured new s) r → NewRelease id l (pictured old s) (pictured new s) r
+pub release_unnamed : (id : RequestId) (l : ReleaseLine) (s : SupplyState) (old new : BookState) (r : Reply) → index_in l.arena s.tree ≡ None
+    → SettlesRefusal id why.NoArena (picture_with old s) (picture_with new s) r → NewRelease id l (picture_with old s) (picture_with new s) r
 release_unnamed id l s old new r none said =
-    subst (NewRelease id l (pictured old s) (pictured new s)) (sym (settled_so (pictured old s) (pictured new s) id why.NoArena r said))
+    subst (NewRelease id l (picture_with old s) (picture_with new s)) (sym (settled_so (picture_with old s) (picture_with new s) id why.NoArena r said))
     (why.NoArena, record { receipt = said.receipt; refused = said.refused; reply = refl }, none, refl)

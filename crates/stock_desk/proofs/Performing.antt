@@ -10,15 +10,15 @@ use Rattle.lease_proto.specs.declared.faults.ErrorWord.TheVariants as word
 use Rattle.lease_proto.specs.declared.faults.LineFault.TheVariants as fault
 use Rattle.lease_proto.specs.declared.operators.OperatorLine.TheVariants as operator
 use Rattle.lease_proto.specs.declared.operators.ResizeLine.{ResizeLine}
-use Rattle.lease_proto.specs.Operators.{rounds_of}
+use Rattle.lease_proto.specs.Operators.{rounds_named}
 use Rattle.lease_book.specs.BookState.{BookState}
 use Rattle.stock.specs.Spaces.{SpaceState}
-use Rattle.lease_machine.specs.Picture.{Cpu, Picture, IsPicture, IsBookOf, SameSetup}
+use Rattle.lease_machine.specs.Picture.{NumberedCpu, Picture, IsPicture, IsBookOf, SameSetup}
 use Rattle.lease_machine.specs.Operators.{Resizes, on_depots, with_cpu}
 use Rattle.lease_machine.specs.Held.{IsHeld}
 use Rattle.lease_machine.proofs.LawProofs.{ticks_keep, resizes_keep, selected_is_picture}
-use Rattle.stock_desk.specs.Operating.{Keeps, IsPerformed}
-use Rattle.stock_desk.specs.Supplies.{SupplyState, pictured}
+use Rattle.stock_desk.specs.Operating.{StaysPicture, IsPerformed}
+use Rattle.stock_desk.specs.Supplies.{SupplyState, picture_with}
 use Rattle.stock_desk.proofs.BookMoves.{picture_of}
 
 pub error_short : (w : ErrorWord) → length (error_text w) ≤ 256
@@ -30,38 +30,38 @@ error_short word.Memory = omega arith
 error_short word.NoArena = omega arith
 error_short word.Size = omega arith
 
-pub keeps_none : (d : Picture) → IsPicture d → Keeps d d
+pub keeps_none : (d : Picture) → IsPicture d → StaysPicture d d
 keeps_none d is = record { setup = record { tree = refl; owned = refl }; picture = is }
 
 -- where all but the history stays as it must
-pub keeps_held : (b : BookState) (old new : SupplyState) → IsPicture (pictured b old) → IsHeld [] (pictured b new) → SameSetup (pictured b old) (pictured b new) → Keeps (pictured b old) (pictured b new)
+pub keeps_held : (b : BookState) (old new : SupplyState) → IsPicture (picture_with b old) → IsHeld [] (picture_with b new) → SameSetup (picture_with b old) (picture_with b new) → StaysPicture (picture_with b old) (picture_with b new)
 keeps_held b old new is held setup = record {
   setup = setup;
-  picture = picture_of (pictured b new) held (subst (λ tree. IsBookOf tree b) (sym setup.tree) is.book);
+  picture = picture_of (picture_with b new) held (subst (λ tree. IsBookOf tree b) (sym setup.tree) is.book);
 }
 
-pub keeps_selected : (d : Picture) (n : ℕ) → IsPicture d → IsCpu n → Keeps d (record d { cpus = with_cpu n d; selected = n })
+pub keeps_selected : (d : Picture) (n : ℕ) → IsPicture d → IsCpu n → StaysPicture d (record d { cpus = with_cpu n d; selected = n })
 keeps_selected d n is in_range = record { setup = record { tree = refl; owned = refl }; picture = selected_is_picture d n is in_range }
 
-pub keeps_ticked : (d : Picture) → IsPicture d → Keeps d (record d { spaces = map (on_depots after_tick) d.spaces })
+pub keeps_ticked : (d : Picture) → IsPicture d → StaysPicture d (record d { spaces = map (on_depots after_tick) d.spaces })
 keeps_ticked d is = let kept = ticks_keep d is in record { setup = kept.1; picture = kept.0 }
 
-module _ (b : BookState) (s : SupplyState) (text : List ℕ) (is : IsPicture (pictured b s)) where
-  pub selected_so : (n : ℕ) (cs : List Cpu) → IsCpu n → text ≡ ok_text → cs ≡ with_cpu n (pictured b s) → IsPerformed (operator.Cpu n) (pictured b s) text (pictured b (record s { cpus = cs; selected = n }))
+module _ (b : BookState) (s : SupplyState) (text : List ℕ) (is : IsPicture (picture_with b s)) where
+  pub selected_so : (n : ℕ) (cs : List NumberedCpu) → IsCpu n → text ≡ ok_text → cs ≡ with_cpu n (picture_with b s) → IsPerformed (operator.Cpu n) (picture_with b s) text (picture_with b (record s { cpus = cs; selected = n }))
   selected_so n cs in_range said made = record {
-    performs = (said, ap (λ (xs : List Cpu). pictured b (record s { cpus = xs; selected = n })) made);
-    kept = subst (λ (xs : List Cpu). Keeps (pictured b s) (pictured b (record s { cpus = xs; selected = n }))) (sym made) (keeps_selected (pictured b s) n is in_range);
+    performs = (said, ap (λ (xs : List NumberedCpu). picture_with b (record s { cpus = xs; selected = n })) made);
+    kept = subst (λ (xs : List NumberedCpu). StaysPicture (picture_with b s) (picture_with b (record s { cpus = xs; selected = n }))) (sym made) (keeps_selected (picture_with b s) n is in_range);
   }
 
-  pub ticked_so : (spaces : List SpaceState) → text ≡ ok_text → spaces ≡ map (on_depots after_tick) s.spaces → IsPerformed operator.Tick (pictured b s) text (pictured b (record s { spaces = spaces }))
+  pub ticked_so : (spaces : List SpaceState) → text ≡ ok_text → spaces ≡ map (on_depots after_tick) s.spaces → IsPerformed operator.Tick (picture_with b s) text (picture_with b (record s { spaces = spaces }))
   ticked_so spaces said made = record {
-    performs = (said, ap (λ (xs : List SpaceState). pictured b (record s { spaces = xs })) made);
-    kept = subst (λ (xs : List SpaceState). Keeps (pictured b s) (pictured b (record s { spaces = xs }))) (sym made) (keeps_ticked (pictured b s) is);
+    performs = (said, ap (λ (xs : List SpaceState). picture_with b (record s { spaces = xs })) made);
+    kept = subst (λ (xs : List SpaceState). StaysPicture (picture_with b s) (picture_with b (record s { spaces = xs }))) (sym made) (keeps_ticked (picture_with b s) is);
   }
 
-  pub resized_so : (r : ResizeLine) (spaces : List SpaceState) → Resizes r.arena (rounds_of r.size) (pictured b s) text (pictured b (record s { spaces = spaces })) → IsPerformed (operator.Resize r) (pictured b s) text (pictured b (record s { spaces = spaces }))
+  pub resized_so : (r : ResizeLine) (spaces : List SpaceState) → Resizes r.arena (rounds_named r.size) (picture_with b s) text (picture_with b (record s { spaces = spaces })) → IsPerformed (operator.Resize r) (picture_with b s) text (picture_with b (record s { spaces = spaces }))
   resized_so r spaces resizes =
-      let kept = resizes_keep (pictured b s) (pictured b (record s { spaces = spaces })) r text is resizes in
+      let kept = resizes_keep (picture_with b s) (picture_with b (record s { spaces = spaces })) r text is resizes in
       record { performs = resizes; kept = record { setup = kept.1; picture = kept.0 } }
 
 pub on_err_map : {A E : Type 0} (r : Result A E) (P Q : Type 0) → (P → Q) → OnErr r P → OnErr r Q

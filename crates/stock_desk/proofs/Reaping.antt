@@ -5,15 +5,15 @@ use Rattle.quantum_cache.specs.declared.reaps.Reaping.{Reaping}
 use Rattle.quantum_cache.specs.Reaps.{reap_plan}
 use Rattle.local_parts.specs.States.{LocalState}
 use Rattle.local_calls.specs.Runs.{RunsTo}
-use Rattle.lease_machine.specs.Picture.{Cpu, Picture, SameSetup, is_cpu}
+use Rattle.lease_machine.specs.Picture.{NumberedCpu, Picture, SameSetup, is_cpu}
 use Rattle.lease_machine.specs.Operators.{ReapsSome}
 use Rattle.lease_machine.specs.Held.{IsHeld}
 use Rattle.lease_machine.proofs.LawProofs.{reap_reaps, reaps_none, reapings_add, cached_units_fit}
 use Rattle.stock_desk.specs.Operating.{IsReapedOnce, IsReapedSo}
-use Rattle.stock_desk.specs.Parts.{parts_of}
+use Rattle.stock_desk.specs.Parts.{local_of}
 use Rattle.stock_desk.proofs.TakingFrom.{is_after, same_parts}
 
-pub reaped_so : (d : Picture) (k : ℕ) (c : Cpu) → position (is_cpu d.selected) d.cpus ≡ Some k → slice_get d.cpus k ≡ Some c → IsHeld [] d → (s : LocalState) (r : Reaping) → RunsTo d.tree (reap_plan d.tree (2 ^ 64 - 1)) (parts_of d.spaces c.caches) s (Ok r)
+pub reaped_so : (d : Picture) (k : ℕ) (c : NumberedCpu) → position (is_cpu d.selected) d.cpus ≡ Some k → slice_get d.cpus k ≡ Some c → IsHeld [] d → (s : LocalState) (r : Reaping) → RunsTo d.tree (reap_plan d.tree (2 ^ 64 - 1)) (local_of d.spaces c.caches) s (Ok r)
     → IsReapedOnce r d (record d { spaces = s.spaces; cpus = set d.cpus k (record { number = c.number; caches = s.cpu }) })
 reaped_so d k c first at held s r ran =
     let was = reap_reaps d (2 ^ 64 - 1) s r held (subst (λ (p : LocalState). RunsTo d.tree (reap_plan d.tree (2 ^ 64 - 1)) p s (Ok r)) (sym (same_parts d k c first at held)) ran) in

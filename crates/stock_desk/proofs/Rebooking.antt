@@ -38,39 +38,39 @@ module _ (old new : Picture) (b : BookState) where
   pub goes_back_from : (t : Tag) → GoesBack t old new → GoesBack t (rebooked old b) new
   goes_back_from t back = (back.0, goes_by t.route t back.1)
 
-  cached_then : (place : ℕ) (x : TreeArena) (q : Request) (t : Tag) → CachesServe place x q t old new → CachesServe place x q t old (rebooked new b)
-  cached_then place x q t s = (
+  cached_then : (index : ℕ) (x : TreeArena) (q : Request) (t : Tag) → CachesServe index x q t old new → CachesServe index x q t old (rebooked new b)
+  cached_then index x q t s = (
     s.0,
     s.1,
     s.2,
     elim s.3 [
-      | inl round ↦ inl (round.0, selected_then place s.2.cache _ round.1, round.2)
+      | inl round ↦ inl (round.0, selected_then index s.2.cache _ round.1, round.2)
       | inr rest ↦ inr (elim rest [
-        | inl idle ↦ inl (selected_then place s.2.cache _ idle.0, idle.1)
-        | inr lacks ↦ inr ((selected_then place s.2.cache _ lacks.0.0, lacks.0.1), lacks.1)
+        | inl idle ↦ inl (selected_then index s.2.cache _ idle.0, idle.1)
+        | inr lacks ↦ inr ((selected_then index s.2.cache _ lacks.0.0, lacks.0.1), lacks.1)
       ])
     ],
   )
 
-  comes_then : (place : ℕ) (x : TreeArena) (q : Request) (t : Tag) → ComesFrom place x q t old new → ComesFrom place x q t old (rebooked new b)
-  comes_then place x q t from = elim from [
+  comes_then : (index : ℕ) (x : TreeArena) (q : Request) (t : Tag) → ComesFrom index x q t old new → ComesFrom index x q t old (rebooked new b)
+  comes_then index x q t from = elim from [
     | inl carved ↦ inl carved
     | inr other ↦ inr (elim other [
       | inl climbed ↦ inl climbed
-      | inr cached ↦ inr (cached.0, cached.1, cached_then place x q t cached.2)
+      | inr cached ↦ inr (cached.0, cached.1, cached_then index x q t cached.2)
     ])
   ]
 
-  pub serves_then : (place : ℕ) (x : TreeArena) (q : Request) (t : Tag) → ServesWith place x q t old new → ServesWith place x q t old (rebooked new b)
-  serves_then place x q t s = record { arena = s.arena; fits = s.fits; from = comes_then place x q t s.from; names = s.names }
+  pub serves_then : (index : ℕ) (x : TreeArena) (q : Request) (t : Tag) → ServesWith index x q t old new → ServesWith index x q t old (rebooked new b)
+  serves_then index x q t s = record { arena = s.arena; fits = s.fits; from = comes_then index x q t s.from; names = s.names }
 
-  pub none_then : (place : ℕ) (x : TreeArena) (q : Request) → ServesNone place x q old new → ServesNone place x q old (rebooked new b)
-  none_then place x q s = record {
+  pub none_then : (index : ℕ) (x : TreeArena) (q : Request) → ServesNone index x q old new → ServesNone index x q old (rebooked new b)
+  none_then index x q s = record {
     none = s.none;
     spaces = s.spaces;
     cpus = elim s.cpus [
       | inl same ↦ inl same
-      | inr looks ↦ inr (looks.0, (looks.1.0, looks.1.1, looks.1.2, selected_then place looks.1.2.cache _ looks.1.3))
+      | inr looks ↦ inr (looks.0, (looks.1.0, looks.1.1, looks.1.2, selected_then index looks.1.2.cache _ looks.1.3))
     ];
     names = s.names;
   }

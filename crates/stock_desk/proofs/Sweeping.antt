@@ -13,7 +13,7 @@ use Rattle.lease_machine.specs.Chunks.{GoesBack}
 use Rattle.lease_machine.specs.Machine.{Sweeps, HelloStep}
 use Rattle.lease_machine.specs.Picture.{Picture, IsPicture, IsBookOf, SameSetup}
 use Rattle.arena_tree.specs.declared.trees.TreeArena.{TreeArena}
-use Rattle.stock_desk.specs.Supplies.{SupplyState, pictured}
+use Rattle.stock_desk.specs.Supplies.{SupplyState, picture_with}
 use Rattle.stock_desk.specs.Hellos.{hello_refused}
 use Rattle.stock_desk.specs.Takings.{IsPutBack}
 use Rattle.stock_desk.proofs.BookMoves.{picture_of}
@@ -31,20 +31,20 @@ setup_then old mid new first later = record { tree = later.tree ∙ first.tree; 
 
 -- the lease's segment was put back
 module _ (t : Tag) (old new : SupplyState) (b : BookState) where
-  pub back_is_picture : IsPutBack t (pictured b old) (pictured b new) → IsBookOf old.tree b → IsPicture (pictured b new)
-  back_is_picture back book = picture_of (pictured b new) back.held (subst (λ (tree : List TreeArena). IsBookOf tree b) (sym back.setup.tree) book)
+  pub back_is_picture : IsPutBack t (picture_with b old) (picture_with b new) → IsBookOf old.tree b → IsPicture (picture_with b new)
+  back_is_picture back book = picture_of (picture_with b new) back.held (subst (λ (tree : List TreeArena). IsBookOf tree b) (sym back.setup.tree) book)
 
-  pub setup_from : (a : BookState) → IsPutBack t (pictured b old) (pictured b new) → SameSetup (pictured a old) (pictured b new)
+  pub setup_from : (a : BookState) → IsPutBack t (picture_with b old) (picture_with b new) → SameSetup (picture_with a old) (picture_with b new)
   setup_from a back = record { tree = back.setup.tree; owned = back.setup.owned }
 
-  pub back_from : (a : BookState) → IsPutBack t (pictured b old) (pictured b new) → GoesBack t (pictured a old) (pictured b new)
-  back_from a back = goes_back_from (pictured b old) (pictured b new) a t back.back
+  pub back_from : (a : BookState) → IsPutBack t (picture_with b old) (picture_with b new) → GoesBack t (picture_with a old) (picture_with b new)
+  back_from a back = goes_back_from (picture_with b old) (picture_with b new) a t back.back
 
 -- a hello that isn't taken
-pub not_welcomed : (h : HelloLine) (s : SupplyState) (old new : BookState) (f : HelloFault) → new ≡ old → IsHelloFault (account_in h.client old).incarnation h.incarnation f → HelloStep h (pictured old s) (pictured new s) (hello_refused h f)
+pub not_welcomed : (h : HelloLine) (s : SupplyState) (old new : BookState) (f : HelloFault) → new ≡ old → IsHelloFault (account_in h.client old).incarnation h.incarnation f → HelloStep h (picture_with old s) (picture_with new s) (hello_refused h f)
 not_welcomed h s old new (fault.Old current) same is =
-    (ap (λ (i : ℕ). old_of h.client i) is.1, is.0, ap (λ (b : BookState). pictured b s) same)
+    (ap (λ (i : ℕ). old_of h.client i) is.1, is.0, ap (λ (b : BookState). picture_with b s) same)
   where
     old_of : ℕ → ℕ → Old
     old_of c i = record { client = c; current = i }
-not_welcomed h s old new fault.NoMemory same is = (refl, is, ap (λ (b : BookState). pictured b s) same)
+not_welcomed h s old new fault.NoMemory same is = (refl, is, ap (λ (b : BookState). picture_with b s) same)

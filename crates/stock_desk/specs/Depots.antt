@@ -5,18 +5,18 @@ use Rattle.lease_proto.specs.declared.faults.ErrorWord.TheVariants.{Size}
 use Rattle.lease_proto.specs.Faults.{error_text}
 use Rattle.lease_proto.specs.Reports.{ok_text}
 use Rattle.stock.specs.Spaces.{SpaceState}
-use Rattle.lease_machine.specs.Operators.{HasSmaller, on_depots, resized}
+use Rattle.lease_machine.specs.Operators.{HasSmaller, on_depots, after_rise}
 
 -- the line that tells what came of it
 abbrev pub outcome_text : Result (Unit {0}) ErrorWord → List ℕ
 outcome_text (Ok _) = ok_text
 outcome_text (Err word) = error_text word
 
--- those of the arena at the place k with smaller magazines than m keep these from here on; where
+-- those of the arena at the index k with smaller magazines than m keep these from here on; where
 -- it has none such nothing changes
 abbrev pub ResizesAt : ℕ → ℕ → List SpaceState → Result (Unit {0}) ErrorWord → List SpaceState
     → Type 0
 ResizesAt k m old (Ok _) new = (s : SpaceState) × (slice_get old k ≡ Some s) × HasSmaller m s
-    × (new ≡ set old k (on_depots (resized m) s))
+    × (new ≡ set old k (on_depots (after_rise m) s))
 ResizesAt k m old (Err word) new = (s : SpaceState) × (slice_get old k ≡ Some s)
     × (¬ HasSmaller m s) × (word ≡ Size) × (new ≡ old)

@@ -31,7 +31,7 @@ pub record IsReapedSo (units : ℕ) (old new : Picture) : Type 0 where
   pub setup : SameSetup old new
 
 -- what holds after each line
-pub record Keeps (old new : Picture) : Type 0 where
+pub record StaysPicture (old new : Picture) : Type 0 where
   pub setup : SameSetup old new
   pub picture : IsPicture new
 
@@ -39,4 +39,4 @@ pub record Keeps (old new : Picture) : Type 0 where
 pub record IsPerformed (o : OperatorLine) (old : Picture) (text : List ℕ) (new : Picture)
     : Type 0 where
   pub performs : Performs o old text new
-  pub kept : Keeps old new
+  pub kept : StaysPicture old new

@@ -11,19 +11,19 @@ use Rattle.stock.specs.Spaces.{SpaceState}
 use Rattle.stock.specs.OwnCaches.{OwnCacheState}
 use Rattle.local_parts.specs.States.{LocalState}
 
-abbrev pub parts_of : List SpaceState → List (List OwnCacheState) → LocalState
-parts_of spaces cpu = record { spaces = spaces; cpu = cpu }
+abbrev pub local_of : List SpaceState → List (List OwnCacheState) → LocalState
+local_of spaces cpu = record { spaces = spaces; cpu = cpu }
 
 -- what an allocation ended with, by its answer: nothing is stuck and nothing stops
-abbrev pub climbed : Result Tag ArenaFault → Climbed
-climbed (Ok t) = Ok t
-climbed (Err arena.BadRequest) = Err climbing.BadRequest
-climbed (Err arena.NoFit) = Err climbing.NoFit
-climbed (Err arena.NoMemory) = Err climbing.NoMemory
+abbrev pub climb_answer : Result Tag ArenaFault → Climbed
+climb_answer (Ok t) = Ok t
+climb_answer (Err arena.BadRequest) = Err climbing.BadRequest
+climb_answer (Err arena.NoFit) = Err climbing.NoFit
+climb_answer (Err arena.NoMemory) = Err climbing.NoMemory
 
 -- and one of a constrained request
-abbrev pub carved : Result Tag ArenaFault → Result Tag CarveFault
-carved (Ok t) = Ok t
-carved (Err arena.BadRequest) = Err carving.BadRequest
-carved (Err arena.NoFit) = Err carving.NoFit
-carved (Err arena.NoMemory) = Err carving.NoMemory
+abbrev pub carve_answer : Result Tag ArenaFault → Result Tag CarveFault
+carve_answer (Ok t) = Ok t
+carve_answer (Err arena.BadRequest) = Err carving.BadRequest
+carve_answer (Err arena.NoFit) = Err carving.NoFit
+carve_answer (Err arena.NoMemory) = Err carving.NoMemory

@@ -13,37 +13,37 @@ use Rattle.lease_machine.specs.Serving.{CanServe, ServesWith, ServesNone, FallsB
 use Rattle.lease_machine.specs.Held.{IsHeld}
 
 -- a segment that serves it is in the hand
-pub record IsServed (place : ℕ) (x : TreeArena) (q : Request) (t : Tag) (old new : Picture)
+pub record IsServedFrom (index : ℕ) (x : TreeArena) (q : Request) (t : Tag) (old new : Picture)
     : Type 0 where
   pub good : IsGood x.quantum q
-  pub can : CanServe old place x q
-  pub serves : ServesWith place x q t old new
+  pub can : CanServe old index x q
+  pub serves : ServesWith index x q t old new
   pub held : IsHeld (t ∷ []) new
   pub setup : SameSetup old new
 
 -- nothing does
-pub record IsUnserved (place : ℕ) (x : TreeArena) (q : Request) (old new : Picture)
+pub record IsUnserved (index : ℕ) (x : TreeArena) (q : Request) (old new : Picture)
     : Type 0 where
   pub good : IsGood x.quantum q
-  pub none : ServesNone place x q old new
+  pub none : ServesNone index x q old new
   pub held : IsHeld [] new
   pub setup : SameSetup old new
 
 -- out of memory
-pub record IsMissed (place : ℕ) (x : TreeArena) (q : Request) (old new : Picture) : Type 0 where
+pub record IsMissed (index : ℕ) (x : TreeArena) (q : Request) (old new : Picture) : Type 0 where
   pub good : IsGood x.quantum q
-  pub can : CanServe old place x q
-  pub back : FallsBack place x q old new
+  pub can : CanServe old index x q
+  pub back : FallsBack index x q old new
   pub names : SameNames old new
   pub held : IsHeld [] new
   pub setup : SameSetup old new
 
 -- by what came of it
-abbrev pub Takes : ℕ → TreeArena → Request → Result Tag ArenaFault → Picture → Picture → Type 0
-Takes place x q (Ok t) old new = IsServed place x q t old new
-Takes place x q (Err BadRequest) old new = (¬ IsGood x.quantum q) × (new ≡ old)
-Takes place x q (Err NoFit) old new = IsUnserved place x q old new
-Takes place x q (Err NoMemory) old new = IsMissed place x q old new
+abbrev pub TakesFrom : ℕ → TreeArena → Request → Result Tag ArenaFault → Picture → Picture → Type 0
+TakesFrom index x q (Ok t) old new = IsServedFrom index x q t old new
+TakesFrom index x q (Err BadRequest) old new = (¬ IsGood x.quantum q) × (new ≡ old)
+TakesFrom index x q (Err NoFit) old new = IsUnserved index x q old new
+TakesFrom index x q (Err NoMemory) old new = IsMissed index x q old new
 
 -- the segment went back from the hand
 pub record IsPutBack (t : Tag) (old new : Picture) : Type 0 where

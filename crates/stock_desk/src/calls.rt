@@ -14,7 +14,7 @@ ghost use Rattle.stock.specs.Spaces.{plans_of};
 ghost use Rattle.local_parts.specs.Cpus.{cpu_rounds, HasNoRounds};
 ghost use Rattle.local_calls.specs.Laws.{AllocsWell};
 ghost use Rattle.local_calls.specs.Runs.{IsLocalOf, IsAccountedWith, RunsTo};
-ghost use Rattle.stock_desk.specs.Parts.{parts_of, climbed, carved};
+ghost use Rattle.stock_desk.specs.Parts.{local_of, climb_answer, carve_answer};
 
 use arena_tree::{CarveFault, ClimbFault};
 use deed_core::{PlainDeed, Request, Segment};
@@ -29,13 +29,13 @@ pub(crate) fn carve_over(
     request: &Request,
 ) -> Result<Segment<PlainDeed>, ArenaFault>
     requires local { IsLocalOf parts.old.tree.now
-        (parts_of parts.old.stock.now parts.old.cpu.now) }
+        (local_of parts.old.stock.now parts.old.cpu.now) }
     requires arena { arena < length parts.old.tree.now }
     requires out { (others : List Tag) × IsAccountedWith
-        (parts_of parts.old.stock.now parts.old.cpu.now) None others }
+        (local_of parts.old.stock.now parts.old.cpu.now) None others }
     ensures ran { RunsTo parts.old.tree.now (xalloc_plan arena request.now)
-        (parts_of parts.old.stock.now parts.old.cpu.now)
-        (parts_of parts.new.stock.now parts.new.cpu.now) (carved result) }
+        (local_of parts.old.stock.now parts.old.cpu.now)
+        (local_of parts.new.stock.now parts.new.cpu.now) (carve_answer result) }
     ensures same_stock { parts.new.stock.ghost_name ≡ parts.old.stock.ghost_name }
     ensures same_cpu { parts.new.cpu.ghost_name ≡ parts.old.cpu.ghost_name }
 {
@@ -55,14 +55,14 @@ pub(crate) fn alloc_over(
     size: u64,
 ) -> Result<Segment<PlainDeed>, ArenaFault>
     requires local { IsLocalOf parts.old.tree.now
-        (parts_of parts.old.stock.now parts.old.cpu.now) }
+        (local_of parts.old.stock.now parts.old.cpu.now) }
     requires arena { arena < length parts.old.tree.now }
     requires out { (others : List Tag) × IsAccountedWith
-        (parts_of parts.old.stock.now parts.old.cpu.now) None others }
+        (local_of parts.old.stock.now parts.old.cpu.now) None others }
     ensures ran { RunsTo parts.old.tree.now
         (alloc_plan (chain_in parts.old.tree.now arena) size)
-        (parts_of parts.old.stock.now parts.old.cpu.now)
-        (parts_of parts.new.stock.now parts.new.cpu.now) (climbed result) }
+        (local_of parts.old.stock.now parts.old.cpu.now)
+        (local_of parts.new.stock.now parts.new.cpu.now) (climb_answer result) }
     ensures same_stock { parts.new.stock.ghost_name ≡ parts.old.stock.ghost_name }
     ensures same_cpu { parts.new.cpu.ghost_name ≡ parts.old.cpu.ghost_name }
 {
@@ -76,7 +76,7 @@ pub(crate) fn alloc_over(
 /// Why an allocation gave nothing, which is neither stuck nor stopped.
 fn refusal(fault: ClimbFault<Segment<PlainDeed>>) -> ArenaFault
     requires { AllocsWell (Err fault) }
-    ensures { climbed (Err result) ≡ Err fault }
+    ensures { climb_answer (Err result) ≡ Err fault }
 {
     match fault {
         ClimbFault::BadRequest => ArenaFault::BadRequest,
@@ -89,14 +89,14 @@ fn refusal(fault: ClimbFault<Segment<PlainDeed>>) -> ArenaFault
 /// Takes a segment back that is out.
 pub(crate) fn free_over(parts: &mut Local<'_, PlainDeed>, segment: Segment<PlainDeed>)
     requires local { IsLocalOf parts.old.tree.now
-        (parts_of parts.old.stock.now parts.old.cpu.now) }
+        (local_of parts.old.stock.now parts.old.cpu.now) }
     requires arena { segment.arena < length parts.old.tree.now }
     requires out { (others : List Tag) × IsAccountedWith
-        (parts_of parts.old.stock.now parts.old.cpu.now) (Some segment) others }
+        (local_of parts.old.stock.now parts.old.cpu.now) (Some segment) others }
     ensures ran { RunsTo parts.old.tree.now
         (free_plan (chain_in parts.old.tree.now segment.arena) segment)
-        (parts_of parts.old.stock.now parts.old.cpu.now)
-        (parts_of parts.new.stock.now parts.new.cpu.now) (Ok tt) }
+        (local_of parts.old.stock.now parts.old.cpu.now)
+        (local_of parts.new.stock.now parts.new.cpu.now) (Ok tt) }
     ensures same_stock { parts.new.stock.ghost_name ≡ parts.old.stock.ghost_name }
     ensures same_cpu { parts.new.cpu.ghost_name ≡ parts.old.cpu.ghost_name }
 {
@@ -110,13 +110,13 @@ pub(crate) fn free_over(parts: &mut Local<'_, PlainDeed>, segment: Segment<Plain
 /// Puts all rounds of the CPU into their slabs. It takes no memory.
 pub(crate) fn drain_over(parts: &mut Local<'_, PlainDeed>)
     requires local { IsLocalOf parts.old.tree.now
-        (parts_of parts.old.stock.now parts.old.cpu.now) }
+        (local_of parts.old.stock.now parts.old.cpu.now) }
     requires out { (others : List Tag) × IsAccountedWith
-        (parts_of parts.old.stock.now parts.old.cpu.now) None others }
+        (local_of parts.old.stock.now parts.old.cpu.now) None others }
     ensures ran { (turns : ℕ) → length (cpu_rounds parts.old.cpu.now) < turns
         → RunsTo parts.old.tree.now (drain_plan turns parts.old.tree.now)
-        (parts_of parts.old.stock.now parts.old.cpu.now)
-        (parts_of parts.new.stock.now parts.new.cpu.now) (Ok tt) }
+        (local_of parts.old.stock.now parts.old.cpu.now)
+        (local_of parts.new.stock.now parts.new.cpu.now) (Ok tt) }
     ensures empty { HasNoRounds parts.new.cpu.now }
     ensures out { (others : List Tag)
         → Accounts parts.old.stock.now (cpu_rounds parts.old.cpu.now ++ others)
@@ -135,12 +135,12 @@ pub(crate) fn drain_over(parts: &mut Local<'_, PlainDeed>)
 /// Reaps all caches of all arenas, by at most 2^64 - 1 looks.
 pub(crate) fn reap_over(parts: &mut Local<'_, PlainDeed>) -> Reaping
     requires local { IsLocalOf parts.old.tree.now
-        (parts_of parts.old.stock.now parts.old.cpu.now) }
+        (local_of parts.old.stock.now parts.old.cpu.now) }
     requires out { (others : List Tag) × IsAccountedWith
-        (parts_of parts.old.stock.now parts.old.cpu.now) None others }
+        (local_of parts.old.stock.now parts.old.cpu.now) None others }
     ensures ran { RunsTo parts.old.tree.now (reap_plan parts.old.tree.now (2 ^ 64 - 1))
-        (parts_of parts.old.stock.now parts.old.cpu.now)
-        (parts_of parts.new.stock.now parts.new.cpu.now) (Ok result) }
+        (local_of parts.old.stock.now parts.old.cpu.now)
+        (local_of parts.new.stock.now parts.new.cpu.now) (Ok result) }
     ensures same_stock { parts.new.stock.ghost_name ≡ parts.old.stock.ghost_name }
     ensures same_cpu { parts.new.cpu.ghost_name ≡ parts.old.cpu.ghost_name }
 {

@@ -4,7 +4,7 @@ ghost use Rattle.magazine_layer.specs.Depots.{after_tick};
 ghost use Rattle.magazine_layer.specs.Magazines.{IsSize};
 ghost use Rattle.stock.specs.Setups.{plans_for};
 ghost use Rattle.stock.specs.Spaces.{SpaceState, plans_of};
-ghost use Rattle.lease_proto.specs.Operators.{rounds_of};
+ghost use Rattle.lease_proto.specs.Operators.{rounds_named};
 ghost use Rattle.lease_machine.specs.Operators.{Resizes, on_depots};
 ghost use Rattle.lease_machine.specs.Picture.{Picture};
 ghost use Rattle.stock_desk.specs.Depots.{ResizesAt, outcome_text};
@@ -43,7 +43,7 @@ pub(crate) fn resize(
 ) -> Result<(), ErrorWord>
     requires setup { plans_of stock.old ≡ plans_for tree.now }
     ensures { (d : Picture) → d.tree ≡ tree.now → d.spaces ≡ stock.old
-        → Resizes line.now.arena (rounds_of line.now.size) d (outcome_text result)
+        → Resizes line.now.arena (rounds_named line.now.size) d (outcome_text result)
         (record d { spaces = stock.new }) }
 {
     match tree.find(&line.arena) {

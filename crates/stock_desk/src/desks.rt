@@ -7,7 +7,7 @@ ghost use Rattle.lease_machine.specs.Machine.{LeaseStep, ServedStep};
 ghost use Rattle.lease_machine.specs.Picture.{IsPicture};
 ghost use Rattle.lease_machine.specs.RoomLaws.{NothingIsKept};
 ghost use Rattle.stock_desk.specs.Openings.{IsOpenedFrom};
-ghost use Rattle.stock_desk.specs.Operating.{Keeps};
+ghost use Rattle.stock_desk.specs.Operating.{StaysPicture};
 
 use crate::emptyings::empty_all;
 use crate::openings::open_supply;
@@ -38,16 +38,16 @@ impl Model for Desk {
     ghost use Rattle.std.specs.FinMap as finmap;
     ghost use Rattle.deed_core.specs.Holding.{Holding};
     ghost use Rattle.lease_machine.specs.Picture.{Picture, IsPicture};
-    ghost use Rattle.stock_desk.specs.Supplies.{pictured};
+    ghost use Rattle.stock_desk.specs.Supplies.{picture_with};
 
     ghost Value = { Picture };
 
     ghost coded = { Prim.hlevel
         (codes, finmap.code {X = Holding} {R = nat_cmp} coded_ℕ (Prim.hlevel codes)) };
 
-    ghost view = { λ d. pictured d.book d.supply };
+    ghost view = { λ d. picture_with d.book d.supply };
 
-    ghost invariant = { λ d. IsPicture (pictured d.book d.supply) };
+    ghost invariant = { λ d. IsPicture (picture_with d.book d.supply) };
 }
 
 impl Desk {
@@ -72,7 +72,7 @@ impl Desk {
     pub fn answer(&mut self, line: &[u8], out: &mut Vec<u8>) -> Result<(), AllocError>
         ensures ok { OnOk result ((reply : List ℕ) × (out.new.items ≡ out.old.items ++ reply)
             × LeaseStep self.old line.now reply self.new) }
-        ensures err { OnErr result (out.new.items ≡ out.old.items) }
+        ensures unwritten { OnErr result (out.new.items ≡ out.old.items) }
         ensures unchanged { OnErr result (self.new ≡ self.old) }
     {
         out.reserve(LINE_ROOM)?;
@@ -91,9 +91,9 @@ impl Desk {
         requires room { vec_len out.old + LINE_ROOM ≤ vec_capacity out.old }
         ensures ok { OnOk result ((reply : List ℕ) × (out.new.items ≡ out.old.items ++ reply)
             × ServedStep line.now self.old reply self.new) }
-        ensures err { OnErr result (out.new.items ≡ out.old.items) }
+        ensures unwritten { OnErr result (out.new.items ≡ out.old.items) }
         ensures unchanged { OnErr result (self.new ≡ self.old) }
-        ensures kept { Keeps self.old self.new }
+        ensures kept { StaysPicture self.old self.new }
     {
         match line {
             // There is room, so that this isn't refused.

@@ -9,7 +9,7 @@ ghost use Rattle.stock.specs.Spaces.{plans_of};
 ghost use Rattle.local_parts.specs.Cpus.{IsCpuOf, cpu_rounds};
 ghost use Rattle.local_calls.specs.Runs.{IsLocalOf, RunsTo};
 ghost use Rattle.stock_desk.specs.Emptyings.{rounds_of_all};
-ghost use Rattle.stock_desk.specs.Parts.{parts_of};
+ghost use Rattle.stock_desk.specs.Parts.{local_of};
 
 use crate::calls::drain_over;
 use crate::cpus::Cpu;
@@ -47,11 +47,11 @@ pub(crate) fn empty(
     stock: &mut Stock<PlainDeed>,
     mut caches: CpuCaches<PlainDeed>,
 )
-    requires local { IsLocalOf tree.now (parts_of stock.old caches) }
+    requires local { IsLocalOf tree.now (local_of stock.old caches) }
     requires out { (others : List Tag) × Accounts stock.old (cpu_rounds caches ++ others) }
     ensures ran { (turns : ℕ) → length (cpu_rounds caches) < turns
         → (left : List (List OwnCacheState)) × RunsTo tree.now (drain_plan turns tree.now)
-        (parts_of stock.old caches) (parts_of stock.new left) (Ok tt) }
+        (local_of stock.old caches) (local_of stock.new left) (Ok tt) }
     ensures out { (others : List Tag) → Accounts stock.old (cpu_rounds caches ++ others)
         → Accounts stock.new others }
     ensures fixed { plans_of stock.new ≡ plans_of stock.old }

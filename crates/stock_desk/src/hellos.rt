@@ -4,7 +4,7 @@ ghost use Rattle.deed_core.specs.Tag.{Tag};
 ghost use Rattle.lease_book.specs.BookState.{account_in};
 ghost use Rattle.lease_machine.specs.Machine.{HelloStep, Sweeps};
 ghost use Rattle.lease_machine.specs.Picture.{IsPicture, SameSetup};
-ghost use Rattle.stock_desk.specs.Supplies.{pictured};
+ghost use Rattle.stock_desk.specs.Supplies.{picture_with};
 
 use crate::answers::refused;
 use crate::supplies::Supply;
@@ -15,11 +15,12 @@ use lease_terms::ClientId;
 
 /// Takes a hello, and ends the client's leases of older incarnations.
 pub(crate) fn greet(supply: &mut Supply, book: &mut Book<PlainDeed>, hello: &HelloLine) -> Reply
-    requires picture { IsPicture (pictured book.old supply.old) }
-    ensures picture { IsPicture (pictured book.new supply.new) }
-    ensures setup { SameSetup (pictured book.old supply.old) (pictured book.new supply.new) }
+    requires picture { IsPicture (picture_with book.old supply.old) }
+    ensures picture { IsPicture (picture_with book.new supply.new) }
+    ensures setup { SameSetup (picture_with book.old supply.old)
+        (picture_with book.new supply.new) }
     ensures step { HelloStep hello.now
-        (pictured book.old supply.old) (pictured book.new supply.new) result }
+        (picture_with book.old supply.old) (picture_with book.new supply.new) result }
 {
     match book.hello(hello.client, hello.incarnation) {
         Ok(()) => {
@@ -35,11 +36,12 @@ pub(crate) fn greet(supply: &mut Supply, book: &mut Book<PlainDeed>, hello: &Hel
 
 /// Ends the client's leases of older incarnations, one at a time, and puts each back.
 fn sweep(supply: &mut Supply, book: &mut Book<PlainDeed>, client: ClientId)
-    requires picture { IsPicture (pictured book.old supply.old) }
-    ensures picture { IsPicture (pictured book.new supply.new) }
-    ensures setup { SameSetup (pictured book.old supply.old) (pictured book.new supply.new) }
+    requires picture { IsPicture (picture_with book.old supply.old) }
+    ensures picture { IsPicture (picture_with book.new supply.new) }
+    ensures setup { SameSetup (picture_with book.old supply.old)
+        (picture_with book.new supply.new) }
     ensures swept { (swept : List Tag) × Sweeps client swept
-        (pictured book.old supply.old) (pictured book.new supply.new) }
+        (picture_with book.old supply.old) (picture_with book.new supply.new) }
     ensures left { All (λ l. (account_in client book.old).incarnation ≤ l.incarnation)
         (account_in client book.new).leases }
 {

@@ -1,13 +1,13 @@
 //! The answer to a lease.
 ghost use Rattle.std.specs.Prelude.{◌≡◌, ◌<◌, length, Some};
-ghost use Rattle.arena_tree.specs.Trees.{place_in};
+ghost use Rattle.arena_tree.specs.Trees.{index_in};
 ghost use Rattle.lease_book.specs.Answers.{IsNew};
 ghost use Rattle.lease_book.specs.BookState.{account_in};
 ghost use Rattle.lease_proto.specs.declared.lines.Op.TheVariants as ops;
 ghost use Rattle.lease_machine.specs.Machine.{RequestStep, NewLease};
 ghost use Rattle.lease_machine.specs.Picture.{Picture, IsPicture, SameSetup};
-ghost use Rattle.stock_desk.specs.Leasing.{IsTaken};
-ghost use Rattle.stock_desk.specs.Supplies.{pictured};
+ghost use Rattle.stock_desk.specs.Leasing.{IsTakenFor};
+ghost use Rattle.stock_desk.specs.Supplies.{picture_with};
 
 use crate::answers::{again, answered, demand_of, settled};
 use crate::settling::{known, refuse};
@@ -25,11 +25,12 @@ pub(crate) fn lease(
     id: RequestId,
     line: &LeaseLine,
 ) -> Reply
-    requires picture { IsPicture (pictured book.old supply.old) }
-    ensures picture { IsPicture (pictured book.new supply.new) }
-    ensures setup { SameSetup (pictured book.old supply.old) (pictured book.new supply.new) }
+    requires picture { IsPicture (picture_with book.old supply.old) }
+    ensures picture { IsPicture (picture_with book.new supply.new) }
+    ensures setup { SameSetup (picture_with book.old supply.old)
+        (picture_with book.new supply.new) }
     ensures step { RequestStep id (ops.Lease line.now)
-        (pictured book.old supply.old) (pictured book.new supply.new) result }
+        (picture_with book.old supply.old) (picture_with book.new supply.new) result }
 {
     match known(&supply.tree, book, id) {
         Some(reply) => reply,
@@ -48,14 +49,15 @@ fn lease_new(
     line: &LeaseLine,
     arena: u32,
 ) -> Reply
-    requires picture { IsPicture (pictured book.old supply.old) }
+    requires picture { IsPicture (picture_with book.old supply.old) }
     requires new { IsNew (account_in id.client book.old) id }
-    requires first { place_in line.now.arena supply.old.tree ≡ Some arena }
+    requires first { index_in line.now.arena supply.old.tree ≡ Some arena }
     requires within { arena < length supply.old.tree }
-    ensures picture { IsPicture (pictured book.new supply.new) }
-    ensures setup { SameSetup (pictured book.old supply.old) (pictured book.new supply.new) }
+    ensures picture { IsPicture (picture_with book.new supply.new) }
+    ensures setup { SameSetup (picture_with book.old supply.old)
+        (picture_with book.new supply.new) }
     ensures step { NewLease id line.now
-        (pictured book.old supply.old) (pictured book.new supply.new) result }
+        (picture_with book.old supply.old) (picture_with book.new supply.new) result }
 {
     match supply.take(arena, &demand_of(line)) {
         Ok(segment) => grant(supply, book, id, line, arena, segment),
@@ -77,14 +79,14 @@ fn grant(
     requires new { IsNew (account_in id.client book.old) id }
     requires within { arena < length supply.old.tree }
     requires taken { (before : Picture)
-        × IsTaken line.now arena segment before (pictured book.old supply.old) }
-    ensures picture { IsPicture (pictured book.new supply.new) }
+        × IsTakenFor line.now arena segment before (picture_with book.old supply.old) }
+    ensures picture { IsPicture (picture_with book.new supply.new) }
     ensures setup { (before : Picture)
-        → IsTaken line.now arena segment before (pictured book.old supply.old)
-        → SameSetup before (pictured book.new supply.new) }
+        → IsTakenFor line.now arena segment before (picture_with book.old supply.old)
+        → SameSetup before (picture_with book.new supply.new) }
     ensures step { (before : Picture)
-        → IsTaken line.now arena segment before (pictured book.old supply.old)
-        → NewLease id line.now before (pictured book.new supply.new) result }
+        → IsTakenFor line.now arena segment before (picture_with book.old supply.old)
+        → NewLease id line.now before (picture_with book.new supply.new) result }
 {
     let quantum = supply.tree.arena(arena).quantum;
     match book.settle(id, arena, quantum, &demand_of(line), segment) {

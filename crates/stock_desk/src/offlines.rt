@@ -5,9 +5,9 @@ ghost use Rattle.lease_book.specs.BookState.{BookState};
 ghost use Rattle.lease_machine.specs.Held.{IsHeld};
 ghost use Rattle.lease_machine.specs.Picture.{is_cpu};
 ghost use Rattle.stock_desk.specs.Operating.{IsOffline};
-ghost use Rattle.stock_desk.specs.Supplies.{pictured};
+ghost use Rattle.stock_desk.specs.Supplies.{picture_with};
 
-use crate::cpus::{FIRST_ROUNDS, place_of};
+use crate::cpus::{FIRST_ROUNDS, index_of};
 use crate::emptyings::empty;
 use crate::supplies::Supply;
 use lease_proto::CpuNumber;
@@ -19,17 +19,17 @@ impl Supply {
     /// Puts all rounds of the CPU of this number into their slabs, and has it begin anew; nothing
     /// where it was never made. Out of memory, for its new magazines, changes nothing.
     pub(crate) fn offline(&mut self, number: CpuNumber) -> Result<(), AllocError>
-        requires held { (b : BookState) × IsHeld [] (pictured b self.old) }
-        ensures ok { OnOk result ((b : BookState) → IsHeld [] (pictured b self.old)
-            → IsOffline number (pictured b self.old) (pictured b self.new)) }
+        requires held { (b : BookState) × IsHeld [] (picture_with b self.old) }
+        ensures ok { OnOk result ((b : BookState) → IsHeld [] (picture_with b self.old)
+            → IsOffline number (picture_with b self.old) (picture_with b self.new)) }
         ensures err { OnErr result ((find (is_cpu number) self.old.cpus ≢ None)
             × (self.new ≡ self.old)) }
     {
-        let Some(place) = place_of(self.cpus.as_slice(), number) else {
+        let Some(index) = index_of(self.cpus.as_slice(), number) else {
             return Ok(());
         };
         let fresh = CpuCaches::new(self.alloc, &self.stock, FIRST_ROUNDS)?;
-        let cpu = &mut self.cpus[place];
+        let cpu = &mut self.cpus[index];
         let old = mem::replace(&mut cpu.caches, fresh);
         empty(self.alloc, &self.tree, &mut self.stock, old);
         Ok(())

@@ -4,7 +4,7 @@ ghost use Rattle.lease_book.specs.BookState.{BookState, IsHistory};
 ghost use Rattle.lease_machine.specs.Picture.{IsPicture, fresh_cpu};
 ghost use Rattle.lease_machine.specs.RoomLaws.{NothingIsKept};
 ghost use Rattle.stock_desk.specs.Openings.{IsOpenedFrom};
-ghost use Rattle.stock_desk.specs.Supplies.{pictured};
+ghost use Rattle.stock_desk.specs.Supplies.{picture_with};
 
 use crate::cpus::{Cpu, FIRST_ROUNDS};
 use crate::supplies::Supply;
@@ -19,11 +19,11 @@ use stock::{Stock, close_plain_stock, plain_stock};
 /// alone can be refused, and then what was made is closed.
 pub(crate) fn open_supply(alloc: Global, setup: Setup) -> Result<Supply, AllocError>
     ensures opened { IfOk result (λ supply. (b : BookState) → IsHistory [] b
-        → IsOpenedFrom setup (pictured b supply)) }
+        → IsOpenedFrom setup (picture_with b supply)) }
     ensures picture { IfOk result (λ supply. (b : BookState) → IsHistory [] b
-        → IsPicture (pictured b supply)) }
+        → IsPicture (picture_with b supply)) }
     ensures unused { IfOk result (λ supply. (b : BookState) → IsHistory [] b
-        → NothingIsKept (pictured b supply)) }
+        → NothingIsKept (picture_with b supply)) }
 {
     // For its clause: what is so of every tree.
     let _ = setup.tree();

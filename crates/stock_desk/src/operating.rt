@@ -9,8 +9,8 @@ ghost use Rattle.lease_proto.specs.declared.operators.OperatorLine.TheVariants a
 ghost use Rattle.lease_machine.specs.Operators.{LeavesOff, OperatorStep};
 ghost use Rattle.lease_machine.specs.Picture.{IsPicture};
 ghost use Rattle.stock_desk.specs.Depots.{outcome_text};
-ghost use Rattle.stock_desk.specs.Operating.{Keeps, IsPerformed};
-ghost use Rattle.stock_desk.specs.Supplies.{pictured};
+ghost use Rattle.stock_desk.specs.Operating.{StaysPicture, IsPerformed};
+ghost use Rattle.stock_desk.specs.Supplies.{picture_with};
 
 use crate::cpus::select;
 use crate::depots::{resize, tick};
@@ -28,13 +28,15 @@ pub(crate) fn tell(
     line: OperatorLine,
     out: &mut Vec<u8>,
 ) -> Result<(), AllocError>
-    requires picture { IsPicture (pictured book.now supply.old) }
+    requires picture { IsPicture (picture_with book.now supply.old) }
     requires room { vec_len out.old + LINE_ROOM ≤ vec_capacity out.old }
     ensures ok { OnOk result ((reply : List ℕ) × (out.new.items ≡ out.old.items ++ reply)
-        × OperatorStep line (pictured book.now supply.old) reply (pictured book.now supply.new)) }
-    ensures err { OnErr result (out.new.items ≡ out.old.items) }
+        × OperatorStep line (picture_with book.now supply.old) reply
+        (picture_with book.now supply.new)) }
+    ensures unwritten { OnErr result (out.new.items ≡ out.old.items) }
     ensures unchanged { OnErr result (supply.new ≡ supply.old) }
-    ensures kept { Keeps (pictured book.now supply.old) (pictured book.now supply.new) }
+    ensures kept { StaysPicture (picture_with book.now supply.old)
+        (picture_with book.now supply.new) }
 {
     let begin = out.len();
     match tell_all(supply, book, line, out) {
@@ -54,16 +56,18 @@ fn tell_all(
     line: OperatorLine,
     out: &mut Vec<u8>,
 ) -> Result<(), AllocError>
-    requires picture { IsPicture (pictured book.now supply.old) }
+    requires picture { IsPicture (picture_with book.now supply.old) }
     requires room { vec_len out.old + LINE_ROOM ≤ vec_capacity out.old }
     ensures ok { OnOk result ((reply : List ℕ) × (out.new.items ≡ out.old.items ++ reply)
-        × IsPerformed line (pictured book.now supply.old) reply (pictured book.now supply.new)) }
+        × IsPerformed line (picture_with book.now supply.old) reply
+        (picture_with book.now supply.new)) }
     ensures err { OnErr result (StartsWith out.new.items out.old.items) }
     ensures left { OnErr result (LeavesOff line
-        (pictured book.now supply.old) (pictured book.now supply.new)) }
+        (picture_with book.now supply.old) (picture_with book.now supply.new)) }
     ensures room { OnErr result ((supply.new ≡ supply.old)
         ⊎ (vec_capacity out.old ≤ vec_capacity out.new)) }
-    ensures kept { Keeps (pictured book.now supply.old) (pictured book.now supply.new) }
+    ensures kept { StaysPicture (picture_with book.now supply.old)
+        (picture_with book.now supply.new) }
 {
     match line {
         OperatorLine::Cpu(number) => tell_cpu(supply, number, out),
@@ -93,11 +97,12 @@ fn tell_all(
 fn tell_cpu(supply: &mut Supply, number: CpuNumber, out: &mut Vec<u8>) -> Result<(), AllocError>
     requires room { vec_len out.old + LINE_ROOM ≤ vec_capacity out.old }
     ensures ok { OnOk result ((reply : List ℕ) × (out.new.items ≡ out.old.items ++ reply)
-        × ((b : BookState) → IsPicture (pictured b supply.old) → IsPerformed (operator.Cpu number)
-        (pictured b supply.old) reply (pictured b supply.new))) }
-    ensures err { OnErr result (out.new.items ≡ out.old.items) }
+        × ((b : BookState) → IsPicture (picture_with b supply.old)
+        → IsPerformed (operator.Cpu number)
+        (picture_with b supply.old) reply (picture_with b supply.new))) }
+    ensures unwritten { OnErr result (out.new.items ≡ out.old.items) }
     ensures left { OnErr result ((b : BookState) → LeavesOff (operator.Cpu number)
-        (pictured b supply.old) (pictured b supply.new)) }
+        (picture_with b supply.old) (picture_with b supply.new)) }
     ensures unchanged { OnErr result (supply.new ≡ supply.old) }
 {
     // For its clause: which CPUs there may be.
@@ -110,15 +115,15 @@ fn tell_cpu(supply: &mut Supply, number: CpuNumber, out: &mut Vec<u8>) -> Result
 
 /// Puts all rounds of a CPU into their slabs. Out of memory changes nothing.
 fn tell_offline(supply: &mut Supply, number: CpuNumber, out: &mut Vec<u8>) -> Result<(), AllocError>
-    requires held { (b : BookState) × IsPicture (pictured b supply.old) }
+    requires held { (b : BookState) × IsPicture (picture_with b supply.old) }
     requires room { vec_len out.old + LINE_ROOM ≤ vec_capacity out.old }
     ensures ok { OnOk result ((reply : List ℕ) × (out.new.items ≡ out.old.items ++ reply)
-        × ((b : BookState) → IsPicture (pictured b supply.old)
+        × ((b : BookState) → IsPicture (picture_with b supply.old)
         → IsPerformed (operator.Offline number)
-        (pictured b supply.old) reply (pictured b supply.new))) }
-    ensures err { OnErr result (out.new.items ≡ out.old.items) }
+        (picture_with b supply.old) reply (picture_with b supply.new))) }
+    ensures unwritten { OnErr result (out.new.items ≡ out.old.items) }
     ensures left { OnErr result ((b : BookState) → LeavesOff (operator.Offline number)
-        (pictured b supply.old) (pictured b supply.new)) }
+        (picture_with b supply.old) (picture_with b supply.new)) }
     ensures unchanged { OnErr result (supply.new ≡ supply.old) }
 {
     supply.offline(number)?;
@@ -130,8 +135,8 @@ fn tell_offline(supply: &mut Supply, number: CpuNumber, out: &mut Vec<u8>) -> Re
 fn tell_tick(supply: &mut Supply, out: &mut Vec<u8>)
     requires room { vec_len out.old + LINE_ROOM ≤ vec_capacity out.old }
     ensures { (reply : List ℕ) × (out.new.items ≡ out.old.items ++ reply)
-        × ((b : BookState) → IsPicture (pictured b supply.old) → IsPerformed operator.Tick
-        (pictured b supply.old) reply (pictured b supply.new)) }
+        × ((b : BookState) → IsPicture (picture_with b supply.old) → IsPerformed operator.Tick
+        (picture_with b supply.old) reply (picture_with b supply.new)) }
 {
     tick(&mut supply.stock);
     say(ok_line(), out);
@@ -139,12 +144,12 @@ fn tell_tick(supply: &mut Supply, out: &mut Vec<u8>)
 
 /// Has the depots of an arena keep greater magazines.
 fn tell_resize(supply: &mut Supply, line: &ResizeLine, out: &mut Vec<u8>)
-    requires held { (b : BookState) × IsPicture (pictured b supply.old) }
+    requires held { (b : BookState) × IsPicture (picture_with b supply.old) }
     requires room { vec_len out.old + LINE_ROOM ≤ vec_capacity out.old }
     ensures { (reply : List ℕ) × (out.new.items ≡ out.old.items ++ reply)
-        × ((b : BookState) → IsPicture (pictured b supply.old)
+        × ((b : BookState) → IsPicture (picture_with b supply.old)
         → IsPerformed (operator.Resize line.now)
-        (pictured b supply.old) reply (pictured b supply.new)) }
+        (picture_with b supply.old) reply (picture_with b supply.new)) }
 {
     let outcome = resize(&mut supply.stock, &supply.tree, line);
     say(outcome_line(outcome), out);
@@ -164,16 +169,16 @@ fn outcome_line(outcome: Result<(), ErrorWord>) -> &'static [u8]
 /// Puts back what depots and slabs no longer need. What went back stays there where the line that
 /// tells of it finds no room.
 fn tell_reap(supply: &mut Supply, out: &mut Vec<u8>) -> Result<(), AllocError>
-    requires held { (b : BookState) × IsPicture (pictured b supply.old) }
+    requires held { (b : BookState) × IsPicture (picture_with b supply.old) }
     ensures ok { OnOk result ((reply : List ℕ) × (out.new.items ≡ out.old.items ++ reply)
-        × ((b : BookState) → IsPicture (pictured b supply.old) → IsPerformed operator.Reap
-        (pictured b supply.old) reply (pictured b supply.new))) }
-    ensures err { OnErr result (out.new.items ≡ out.old.items) }
-    ensures left { OnErr result ((b : BookState) → IsPicture (pictured b supply.old)
-        → LeavesOff operator.Reap (pictured b supply.old) (pictured b supply.new)) }
+        × ((b : BookState) → IsPicture (picture_with b supply.old) → IsPerformed operator.Reap
+        (picture_with b supply.old) reply (picture_with b supply.new))) }
+    ensures unchanged { OnErr result (out.new.items ≡ out.old.items) }
+    ensures left { OnErr result ((b : BookState) → IsPicture (picture_with b supply.old)
+        → LeavesOff operator.Reap (picture_with b supply.old) (picture_with b supply.new)) }
     ensures room { OnErr result (vec_capacity out.old ≤ vec_capacity out.new) }
-    ensures kept { (b : BookState) → IsPicture (pictured b supply.old)
-        → Keeps (pictured b supply.old) (pictured b supply.new) }
+    ensures kept { (b : BookState) → IsPicture (picture_with b supply.old)
+        → StaysPicture (picture_with b supply.old) (picture_with b supply.new) }
 {
     let units = supply.reap();
     // Made whole first, so that the answer keeps its room where there is none for the line.

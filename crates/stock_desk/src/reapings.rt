@@ -6,8 +6,8 @@ ghost use Rattle.local_calls.specs.Runs.{IsLocalOf, IsAccountedWith, RunsTo};
 ghost use Rattle.lease_book.specs.BookState.{BookState};
 ghost use Rattle.lease_machine.specs.Held.{IsHeld};
 ghost use Rattle.stock_desk.specs.Operating.{IsReapedOnce, IsReapedSo};
-ghost use Rattle.stock_desk.specs.Parts.{parts_of};
-ghost use Rattle.stock_desk.specs.Supplies.{pictured};
+ghost use Rattle.stock_desk.specs.Parts.{local_of};
+ghost use Rattle.stock_desk.specs.Supplies.{picture_with};
 
 use crate::calls::reap_over;
 use crate::supplies::Supply;
@@ -22,9 +22,9 @@ impl Supply {
     /// Puts the rounds that depots may let go into their slabs, and frees the slabs of which no
     /// chunk is out. It gives how many units these slabs had.
     pub(crate) fn reap(&mut self) -> u128
-        requires held { (b : BookState) × IsHeld [] (pictured b self.old) }
-        ensures { (b : BookState) → IsHeld [] (pictured b self.old)
-            → IsReapedSo result (pictured b self.old) (pictured b self.new) }
+        requires held { (b : BookState) × IsHeld [] (picture_with b self.old) }
+        ensures { (b : BookState) → IsHeld [] (picture_with b self.old)
+            → IsReapedSo result (picture_with b self.old) (picture_with b self.new) }
     {
         let mut units: u128 = 0;
         'turns: loop {
@@ -38,12 +38,12 @@ impl Supply {
 
     /// Reaps until nothing is left to reap, or 2^64 - 1 looks were taken.
     fn reap_once(&mut self) -> Reaping
-        requires held { (b : BookState) × IsHeld [] (pictured b self.old) }
-        ensures { (b : BookState) → IsHeld [] (pictured b self.old)
-            → IsReapedOnce result (pictured b self.old) (pictured b self.new) }
+        requires held { (b : BookState) × IsHeld [] (picture_with b self.old) }
+        ensures { (b : BookState) → IsHeld [] (picture_with b self.old)
+            → IsReapedOnce result (picture_with b self.old) (picture_with b self.new) }
     {
-        let place = self.place();
-        let cpu = &mut self.cpus[place];
+        let index = self.selected_index();
+        let cpu = &mut self.cpus[index];
         reap_with(self.alloc, &self.tree, &mut self.stock, &mut cpu.caches)
     }
 }
@@ -55,11 +55,11 @@ fn reap_with(
     stock: &mut Stock<PlainDeed>,
     cpu: &mut CpuCaches<PlainDeed>,
 ) -> Reaping
-    requires local { IsLocalOf tree.now (parts_of stock.old cpu.old) }
+    requires local { IsLocalOf tree.now (local_of stock.old cpu.old) }
     requires out { (others : List Tag)
-        × IsAccountedWith (parts_of stock.old cpu.old) None others }
+        × IsAccountedWith (local_of stock.old cpu.old) None others }
     ensures ran { RunsTo tree.now (reap_plan tree.now (2 ^ 64 - 1))
-        (parts_of stock.old cpu.old) (parts_of stock.new cpu.new) (Ok result) }
+        (local_of stock.old cpu.old) (local_of stock.new cpu.new) (Ok result) }
 {
     let mut parts = Local {
         stock: &mut *stock,

@@ -1,12 +1,12 @@
 //! The answer to a release.
 ghost use Rattle.std.specs.Prelude.{◌≡◌, ◌<◌, length, Some};
-ghost use Rattle.arena_tree.specs.Trees.{place_in};
+ghost use Rattle.arena_tree.specs.Trees.{index_in};
 ghost use Rattle.lease_book.specs.Answers.{IsNew};
 ghost use Rattle.lease_book.specs.BookState.{account_in};
 ghost use Rattle.lease_proto.specs.declared.lines.Op.TheVariants as ops;
 ghost use Rattle.lease_machine.specs.Machine.{RequestStep, NewRelease};
 ghost use Rattle.lease_machine.specs.Picture.{IsPicture, SameSetup};
-ghost use Rattle.stock_desk.specs.Supplies.{pictured};
+ghost use Rattle.stock_desk.specs.Supplies.{picture_with};
 
 use crate::answers::answered;
 use crate::settling::{known, refuse};
@@ -23,11 +23,12 @@ pub(crate) fn release(
     id: RequestId,
     line: &ReleaseLine,
 ) -> Reply
-    requires picture { IsPicture (pictured book.old supply.old) }
-    ensures picture { IsPicture (pictured book.new supply.new) }
-    ensures setup { SameSetup (pictured book.old supply.old) (pictured book.new supply.new) }
+    requires picture { IsPicture (picture_with book.old supply.old) }
+    ensures picture { IsPicture (picture_with book.new supply.new) }
+    ensures setup { SameSetup (picture_with book.old supply.old)
+        (picture_with book.new supply.new) }
     ensures step { RequestStep id (ops.Release line.now)
-        (pictured book.old supply.old) (pictured book.new supply.new) result }
+        (picture_with book.old supply.old) (picture_with book.new supply.new) result }
 {
     match known(&supply.tree, book, id) {
         Some(reply) => reply,
@@ -46,14 +47,15 @@ fn release_new(
     line: &ReleaseLine,
     arena: u32,
 ) -> Reply
-    requires picture { IsPicture (pictured book.old supply.old) }
+    requires picture { IsPicture (picture_with book.old supply.old) }
     requires new { IsNew (account_in id.client book.old) id }
-    requires first { place_in line.now.arena supply.old.tree ≡ Some arena }
+    requires first { index_in line.now.arena supply.old.tree ≡ Some arena }
     requires within { arena < length supply.old.tree }
-    ensures picture { IsPicture (pictured book.new supply.new) }
-    ensures setup { SameSetup (pictured book.old supply.old) (pictured book.new supply.new) }
+    ensures picture { IsPicture (picture_with book.new supply.new) }
+    ensures setup { SameSetup (picture_with book.old supply.old)
+        (picture_with book.new supply.new) }
     ensures step { NewRelease id line.now
-        (pictured book.old supply.old) (pictured book.new supply.new) result }
+        (picture_with book.old supply.old) (picture_with book.new supply.new) result }
 {
     match book.release(id, arena, line.base) {
         Ok((_, segment)) => {

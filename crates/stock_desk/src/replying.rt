@@ -1,7 +1,7 @@
 //! The reply to a client's line.
 ghost use Rattle.lease_machine.specs.Machine.{ClientStep};
 ghost use Rattle.lease_machine.specs.Picture.{IsPicture, SameSetup};
-ghost use Rattle.stock_desk.specs.Supplies.{pictured};
+ghost use Rattle.stock_desk.specs.Supplies.{picture_with};
 
 use crate::hellos::greet;
 use crate::leasing::lease;
@@ -13,11 +13,12 @@ use lease_proto::{Line, Op, Reply};
 
 /// Replies to the line of a client.
 pub(crate) fn reply(supply: &mut Supply, book: &mut Book<PlainDeed>, line: &Line) -> Reply
-    requires picture { IsPicture (pictured book.old supply.old) }
-    ensures picture { IsPicture (pictured book.new supply.new) }
-    ensures setup { SameSetup (pictured book.old supply.old) (pictured book.new supply.new) }
+    requires picture { IsPicture (picture_with book.old supply.old) }
+    ensures picture { IsPicture (picture_with book.new supply.new) }
+    ensures setup { SameSetup (picture_with book.old supply.old)
+        (picture_with book.new supply.new) }
     ensures step { ClientStep line.now
-        (pictured book.old supply.old) (pictured book.new supply.new) result }
+        (picture_with book.old supply.old) (picture_with book.new supply.new) result }
 {
     match line {
         Line::Hello(hello) => greet(supply, book, hello),

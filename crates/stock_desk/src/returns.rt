@@ -1,7 +1,7 @@
 //! Segments that go back past all magazines, at a desk's end.
 ghost use Rattle.std.specs.Prelude.{◌≡◌, List, ◌∷◌, ◌++◌, []};
 ghost use Rattle.deed_core.specs.Tag.{Tag};
-ghost use Rattle.lease_book.specs.BookState.{leased};
+ghost use Rattle.lease_book.specs.BookState.{leased_segments};
 ghost use Rattle.stock.specs.Accounts.{Accounts};
 ghost use Rattle.stock.specs.Spaces.{plans_of};
 
@@ -11,9 +11,9 @@ use stock::Stock;
 
 /// Ends every lease, and frees its segment. It takes no memory.
 pub(crate) fn end_leases(stock: &mut Stock<PlainDeed>, book: &mut Book<PlainDeed>)
-    requires { (others : List Tag) × Accounts stock.old (leased book.old ++ others) }
-    ensures none { leased book.new ≡ [] }
-    ensures out { (others : List Tag) → Accounts stock.old (leased book.old ++ others)
+    requires { (others : List Tag) × Accounts stock.old (leased_segments book.old ++ others) }
+    ensures none { leased_segments book.new ≡ [] }
+    ensures out { (others : List Tag) → Accounts stock.old (leased_segments book.old ++ others)
         → Accounts stock.new others }
     ensures fixed { plans_of stock.new ≡ plans_of stock.old }
 {

@@ -3,7 +3,7 @@ ghost use Rattle.std.specs.Prelude.{◌≡◌, ◌≢◌, ◌<◌, length, posit
 ghost use Rattle.std.specs.List.{find};
 ghost use Rattle.lease_machine.specs.Picture.{is_cpu};
 
-use crate::cpus::{Cpu, place_of};
+use crate::cpus::{Cpu, index_of};
 use arena_tree::Tree;
 use deed_core::PlainDeed;
 use lease_proto::CpuNumber;
@@ -43,13 +43,13 @@ impl Model for Supply {
 
 impl Supply {
     /// Where the selected CPU stands.
-    pub(crate) fn place(&self) -> usize
+    pub(crate) fn selected_index(&self) -> usize
         requires { find (is_cpu self.now.selected) self.now.cpus ≢ None }
-        ensures place { position (is_cpu self.now.selected) self.now.cpus ≡ Some result }
+        ensures index { position (is_cpu self.now.selected) self.now.cpus ≡ Some result }
         ensures within { result < length self.now.cpus }
     {
-        match place_of(self.cpus.as_slice(), self.selected) {
-            Some(place) => place,
+        match index_of(self.cpus.as_slice(), self.selected) {
+            Some(index) => index,
             None => unreachable!(),
         }
     }

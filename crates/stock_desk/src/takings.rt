@@ -9,9 +9,9 @@ ghost use Rattle.quantum_cache.specs.Frees.{free_plan};
 ghost use Rattle.local_calls.specs.Runs.{IsLocalOf, IsAccountedWith, RunsTo};
 ghost use Rattle.lease_book.specs.BookState.{BookState};
 ghost use Rattle.lease_machine.specs.Held.{IsHeld};
-ghost use Rattle.stock_desk.specs.Parts.{parts_of, climbed, carved};
-ghost use Rattle.stock_desk.specs.Supplies.{pictured};
-ghost use Rattle.stock_desk.specs.Takings.{Takes, IsPutBack};
+ghost use Rattle.stock_desk.specs.Parts.{local_of, climb_answer, carve_answer};
+ghost use Rattle.stock_desk.specs.Supplies.{picture_with};
+ghost use Rattle.stock_desk.specs.Takings.{TakesFrom, IsPutBack};
 
 use crate::calls::{alloc_over, carve_over, free_over};
 use crate::supplies::Supply;
@@ -30,11 +30,12 @@ impl Supply {
         arena: u32,
         request: &Request,
     ) -> Result<Segment<PlainDeed>, ArenaFault>
-        requires held { (b : BookState) × IsHeld [] (pictured b self.old) }
+        requires held { (b : BookState) × IsHeld [] (picture_with b self.old) }
         requires within { arena < length self.old.tree }
-        ensures { (b : BookState) (x : TreeArena) → IsHeld [] (pictured b self.old)
+        ensures { (b : BookState) (x : TreeArena) → IsHeld [] (picture_with b self.old)
             → slice_get self.old.tree arena ≡ Some x
-            → Takes arena x request.now result (pictured b self.old) (pictured b self.new) }
+            → TakesFrom arena x request.now result (picture_with b self.old)
+            (picture_with b self.new) }
     {
         if request.is_constrained() {
             self.carve(arena, request)
@@ -45,15 +46,16 @@ impl Supply {
 
     /// Gives a segment of the arena for a request that says where it may stand. It never imports.
     fn carve(&mut self, arena: u32, request: &Request) -> Result<Segment<PlainDeed>, ArenaFault>
-        requires held { (b : BookState) × IsHeld [] (pictured b self.old) }
+        requires held { (b : BookState) × IsHeld [] (picture_with b self.old) }
         requires within { arena < length self.old.tree }
         requires constrained { ¬ IsPlain request.now }
-        ensures { (b : BookState) (x : TreeArena) → IsHeld [] (pictured b self.old)
+        ensures { (b : BookState) (x : TreeArena) → IsHeld [] (picture_with b self.old)
             → slice_get self.old.tree arena ≡ Some x
-            → Takes arena x request.now result (pictured b self.old) (pictured b self.new) }
+            → TakesFrom arena x request.now result (picture_with b self.old)
+            (picture_with b self.new) }
     {
-        let place = self.place();
-        let cpu = &mut self.cpus[place];
+        let index = self.selected_index();
+        let cpu = &mut self.cpus[index];
         carve_with(
             self.alloc,
             &self.tree,
@@ -66,14 +68,15 @@ impl Supply {
 
     /// Gives so many units of the arena, through its caches and by imports.
     fn allocate(&mut self, arena: u32, size: u64) -> Result<Segment<PlainDeed>, ArenaFault>
-        requires held { (b : BookState) × IsHeld [] (pictured b self.old) }
+        requires held { (b : BookState) × IsHeld [] (picture_with b self.old) }
         requires within { arena < length self.old.tree }
-        ensures { (b : BookState) (x : TreeArena) → IsHeld [] (pictured b self.old)
+        ensures { (b : BookState) (x : TreeArena) → IsHeld [] (picture_with b self.old)
             → slice_get self.old.tree arena ≡ Some x
-            → Takes arena x (plain_of size) result (pictured b self.old) (pictured b self.new) }
+            → TakesFrom arena x (plain_of size) result (picture_with b self.old)
+            (picture_with b self.new) }
     {
-        let place = self.place();
-        let cpu = &mut self.cpus[place];
+        let index = self.selected_index();
+        let cpu = &mut self.cpus[index];
         alloc_with(
             self.alloc,
             &self.tree,
@@ -86,12 +89,12 @@ impl Supply {
 
     /// Takes a segment back: a round into the selected CPU's magazines, where that can be.
     pub(crate) fn put_back(&mut self, segment: Segment<PlainDeed>)
-        requires held { (b : BookState) × IsHeld (segment ∷ []) (pictured b self.old) }
-        ensures { (b : BookState) → IsHeld (segment ∷ []) (pictured b self.old)
-            → IsPutBack segment (pictured b self.old) (pictured b self.new) }
+        requires held { (b : BookState) × IsHeld (segment ∷ []) (picture_with b self.old) }
+        ensures { (b : BookState) → IsHeld (segment ∷ []) (picture_with b self.old)
+            → IsPutBack segment (picture_with b self.old) (picture_with b self.new) }
     {
-        let place = self.place();
-        let cpu = &mut self.cpus[place];
+        let index = self.selected_index();
+        let cpu = &mut self.cpus[index];
         free_with(
             self.alloc,
             &self.tree,
@@ -111,12 +114,12 @@ fn carve_with(
     arena: u32,
     request: &Request,
 ) -> Result<Segment<PlainDeed>, ArenaFault>
-    requires local { IsLocalOf tree.now (parts_of stock.old cpu.old) }
+    requires local { IsLocalOf tree.now (local_of stock.old cpu.old) }
     requires arena { arena < length tree.now }
     requires out { (others : List Tag)
-        × IsAccountedWith (parts_of stock.old cpu.old) None others }
+        × IsAccountedWith (local_of stock.old cpu.old) None others }
     ensures ran { RunsTo tree.now (xalloc_plan arena request.now)
-        (parts_of stock.old cpu.old) (parts_of stock.new cpu.new) (carved result) }
+        (local_of stock.old cpu.old) (local_of stock.new cpu.new) (carve_answer result) }
 {
     let mut parts = Local {
         stock: &mut *stock,
@@ -145,12 +148,12 @@ fn alloc_with(
     arena: u32,
     size: u64,
 ) -> Result<Segment<PlainDeed>, ArenaFault>
-    requires local { IsLocalOf tree.now (parts_of stock.old cpu.old) }
+    requires local { IsLocalOf tree.now (local_of stock.old cpu.old) }
     requires arena { arena < length tree.now }
     requires out { (others : List Tag)
-        × IsAccountedWith (parts_of stock.old cpu.old) None others }
+        × IsAccountedWith (local_of stock.old cpu.old) None others }
     ensures ran { RunsTo tree.now (alloc_plan (chain_in tree.now arena) size)
-        (parts_of stock.old cpu.old) (parts_of stock.new cpu.new) (climbed result) }
+        (local_of stock.old cpu.old) (local_of stock.new cpu.new) (climb_answer result) }
 {
     let mut parts = Local {
         stock: &mut *stock,
@@ -178,12 +181,12 @@ fn free_with(
     cpu: &mut CpuCaches<PlainDeed>,
     segment: Segment<PlainDeed>,
 )
-    requires local { IsLocalOf tree.now (parts_of stock.old cpu.old) }
+    requires local { IsLocalOf tree.now (local_of stock.old cpu.old) }
     requires arena { segment.arena < length tree.now }
     requires out { (others : List Tag)
-        × IsAccountedWith (parts_of stock.old cpu.old) (Some segment) others }
+        × IsAccountedWith (local_of stock.old cpu.old) (Some segment) others }
     ensures ran { RunsTo tree.now (free_plan (chain_in tree.now segment.arena) segment)
-        (parts_of stock.old cpu.old) (parts_of stock.new cpu.new) (Ok tt) }
+        (local_of stock.old cpu.old) (local_of stock.new cpu.new) (Ok tt) }
 {
     let mut parts = Local {
         stock: &mut *stock,

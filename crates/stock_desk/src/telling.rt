@@ -112,7 +112,7 @@ pub(crate) fn clients(book: &Book<PlainDeed>, out: &mut Vec<u8>) -> Result<(), A
 /// Appends the line that tells of a client.
 fn tell_client(report: &ClientReport, out: &mut Vec<u8>) -> Result<(), AllocError>
     ensures ok { OnOk result (out.new.items ≡ out.old.items ++ client_told report.now) }
-    ensures err { OnErr result (out.new.items ≡ out.old.items) }
+    ensures unchanged { OnErr result (out.new.items ≡ out.old.items) }
 {
     let line = ClientLine {
         client: report.client,

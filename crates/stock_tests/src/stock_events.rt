@@ -54,7 +54,7 @@ impl Event {
     }
 }
 
-/// The place of the second arena's cache of chunks of so many units.
+/// The index of the second arena's cache of chunks of so many units.
 fn cache(rt: &impl Abort, stock: &Stock<PlainDeed>, units: u8) -> usize
     ensures { HasCache stock.now 1 result }
 {
@@ -157,16 +157,16 @@ fn asked_of_parts(
     match event {
         Event::Carve(arena, size) => Some(carve(rt, stock, arena, size)),
         Event::SlabTake(units) => {
-            let place = cache(rt, stock, units);
-            stock.slab_take(1, place)
+            let index = cache(rt, stock, units);
+            stock.slab_take(1, index)
         }
         Event::SlabReap(units) => {
-            let place = cache(rt, stock, units);
-            stock.slab_reap(1, place)
+            let index = cache(rt, stock, units);
+            stock.slab_reap(1, index)
         }
         Event::DepotReap => {
-            let place = cache(rt, stock, 5);
-            stock.depot_reap(1, place)
+            let index = cache(rt, stock, 5);
+            stock.depot_reap(1, index)
         }
         _ => {
             quiet(rt, stock, event);
@@ -181,12 +181,12 @@ fn quiet(rt: &impl Abort, stock: &mut Stock<PlainDeed>, event: Event)
 {
     match event {
         Event::Resize => {
-            let place = cache(rt, stock, 5);
-            assert!(rt; stock.resize(1, place, 7).is_ok());
+            let index = cache(rt, stock, 5);
+            assert!(rt; stock.resize(1, index, 7).is_ok());
         }
         Event::Tick => {
-            let place = cache(rt, stock, 5);
-            stock.tick(1, place);
+            let index = cache(rt, stock, 5);
+            stock.tick(1, index);
         }
         Event::Remove => {
             assert!(rt; stock.count() == 2);
@@ -242,11 +242,11 @@ fn slab_add(
 ) -> Segment<PlainDeed>
     ensures frame { Frames stock.old (span ∷ []) stock.new (result ∷ []) }
 {
-    let place = cache(rt, stock, units);
+    let index = cache(rt, stock, units);
     assert_eq!(rt; span.arena(), 1);
     assert_eq!(rt; span.route(), Route::Direct);
     assert_eq!(rt; stock.quantum(1), 1);
-    match stock.slab_add(1, place, span) {
+    match stock.slab_add(1, index, span) {
         Ok(first) => first,
         Err(_) => panic!(rt; "a slab"),
     }
@@ -294,7 +294,7 @@ fn swap(
 )
     ensures frame { Frames stock.old (own_rounds cpu.old) stock.new (own_rounds cpu.new) }
 {
-    let (arena, cache) = cpu.place();
+    let (arena, cache) = cpu.indexes();
     assert!(rt; arena < stock.count());
     assert!(rt; stock.quantum(arena) == cpu.quantum());
     assert!(rt; stock.has_cache(arena, cache));

@@ -107,11 +107,11 @@ fn slab_add(
 ) -> Segment<PlainDeed>
     ensures frame { Frames stock.old (span ∷ []) stock.new (result ∷ []) }
 {
-    let place = stock.cache_at(0, 5).expect(rt, "a cache");
+    let index = stock.cache_at(0, 5).expect(rt, "a cache");
     assert_eq!(rt; span.arena(), 0);
     assert_eq!(rt; span.route(), Route::Direct);
     assert_eq!(rt; stock.quantum(0), 1);
-    match stock.slab_add(0, place, span) {
+    match stock.slab_add(0, index, span) {
         Ok(first) => first,
         Err(_) => panic!(rt; "a slab"),
     }

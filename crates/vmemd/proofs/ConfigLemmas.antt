@@ -4,7 +4,7 @@ use Rattle.std.proofs.lemmas.List.{append-nil, length-take}
 use Rattle.std.specs.Io.KnownBytes.{Consumes, IsAtEnd}
 use Rattle.std.proofs.KnownBytes.{Consumes-kept}
 use Rattle.lease_proto.specs.declared.faults.LineFault.{LineFault}
-use Rattle.lease_proto.specs.Frames.{last_of, ended, IsOneLine}
+use Rattle.lease_proto.specs.Frames.{last_of, with_line_feed, IsOneLine}
 use Rattle.lease_proto.specs.declared.setup_lines.SetupLine.{SetupLine}
 use Rattle.lease_proto.specs.SetupLines.{setup_of}
 use Rattle.lease_server.specs.Intakes.{IntakeState, StopsReading}
@@ -70,7 +70,7 @@ module _ {S : Type 0} (takes : S → SetupLine → S → Type 0) (refuses : S �
 
 module _ {S : Type 0} (takes : S → SetupLine → S → Type 0) (refuses : S → SetupLine → ConfigFault → Type 0) (can : S → SetupLine → Type 0) where
   pub line_not_taken : (first made last : S) (unread left : Option (List ℕ)) (input front line rest : List ℕ) (setup : SetsUp takes first input front made) (number : ℕ) (fault : ScriptFault)
-      → Consumes unread left input → number ≡ length setup.lines + 1 → IsOneLine line → front ≡ ended line ++ rest
+      → Consumes unread left input → number ≡ length setup.lines + 1 → IsOneLine line → front ≡ with_line_feed line ++ rest
       → last ≡ made → LineFails refuses can made number (setup_of (take 256 line)) fault → ConfigFails takes refuses can first unread left last fault
   line_not_taken first made last unread left input front line rest setup number (Setup at word) read counted one e same fails =
       subst (λ s. IfSome unread (λ all. LineRefused takes refuses first all at word s)) (sym same)

@@ -5,12 +5,12 @@ use Rattle.lease_proto.specs.Frames.{Frame}
 use Rattle.lease_proto.specs.Faults.{error_line}
 use Rattle.lease_machine.specs.Picture.{Picture, IsPicture, SameSetup}
 use Rattle.lease_machine.specs.Laws.{Runs}
-use Rattle.lease_machine.proofs.LawProofs.{pictures_stay, setup_stays, units_have_one_place, leases_are_apart, audit_is_told, audit_tells_leases, audit_is_whole}
+use Rattle.lease_machine.proofs.LawProofs.{pictures_stay, setup_stays, units_have_one_home, leases_are_apart, audit_is_told, audit_tells_leases, audit_is_whole}
 use Rattle.lease_machine.proofs.LawProofs.{lines_repeat, answers_agree, grants_fit, repeats_fit, first_lease_is_served, freed_is_whole, tick_and_reap_empty}
 use Rattle.vmemd.specs.Desks.{IsDeskOf}
 use Rattle.vmemd.proofs.SpanLemmas.{span_there}
 use Rattle.vmemd.proofs.UncachedLemmas.{nothing_kept}
-use Rattle.vmemd.specs.Laws.{Script, ScriptsSplit, ScriptLeasesStayApart, ScriptUnitsHaveOnePlace, ScriptAuditIsTold, ScriptAuditIsWhole}
+use Rattle.vmemd.specs.Laws.{Script, ScriptsSplit, ScriptLeasesStayApart, ScriptUnitsHaveOneHome, ScriptAuditIsTold, ScriptAuditIsWhole}
 use Rattle.vmemd.specs.Laws.{ScriptLinesRepeat, ScriptAnswersAgree, ScriptGrantsFit, ScriptRepeatsFit, ScriptFirstLeaseIsServed, ScriptFreedIsWhole, ScriptReturnedIsWhole, ScriptEmptiedIsWhole}
 
 -- what a script leaves is a picture
@@ -38,8 +38,8 @@ scripts_split last s front rest split =
 pub script_leases_apart : ScriptLeasesStayApart
 script_leases_apart last s = leases_are_apart last (script_picture last s)
 
-pub script_units_one_place : ScriptUnitsHaveOnePlace
-script_units_one_place last s = units_have_one_place last (script_picture last s)
+pub script_units_one_home : ScriptUnitsHaveOneHome
+script_units_one_home last s = units_have_one_home last (script_picture last s)
 
 pub script_audit_told : ScriptAuditIsTold
 script_audit_told old new text a = audit_is_told old new text a.step

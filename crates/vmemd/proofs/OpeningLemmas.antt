@@ -5,7 +5,7 @@ use Rattle.std.proofs.lemmas.List.{take_all, take-append-drop, take-append-le, l
 use Rattle.std.proofs.lemmas.Slice.Eq.{bytes_eq-Decides}
 use Rattle.std.specs.Str.{bytes_eq}
 use Rattle.memchr.specs.Find.{Nowhere, Passes, is_byte2}
-use Rattle.lease_proto.specs.Frames.{ended, last_of}
+use Rattle.lease_proto.specs.Frames.{with_line_feed, last_of}
 use Rattle.lease_proto.specs.SetupLines.{opening, is_setup_word, begins_setup}
 
 -- it ends at the first space or line feed
@@ -78,7 +78,7 @@ begins_setup-take bytes = elim (cases_Bool (nat_le (length bytes) 256)) [
       ]
 ]
 
-opening-ended : (text more : List ℕ) → opening (ended text ++ more) ≡ opening text
+opening-ended : (text more : List ℕ) → opening (with_line_feed text ++ more) ≡ opening text
 opening-ended [] more = refl
 opening-ended (b ∷ text) more = elim (cases_Bool (is_byte2 32 10 b)) [
   | inl is ↦ rw is refl
@@ -86,7 +86,7 @@ opening-ended (b ∷ text) more = elim (cases_Bool (is_byte2 32 10 b)) [
 ]
 
 -- of a whole line they tell it too, whatever follows
-pub begins_line : (text more : List ℕ) → begins_setup (ended text ++ more) ≡ begins_setup (take 256 text)
+pub begins_line : (text more : List ℕ) → begins_setup (with_line_feed text ++ more) ≡ begins_setup (take 256 text)
 begins_line text more = ap is_setup_word (opening-ended text more) ∙ sym (begins_setup-take text)
 
 -- and of a line begun that is too long already

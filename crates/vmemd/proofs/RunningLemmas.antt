@@ -6,10 +6,10 @@ use Rattle.lease_server.specs.Serving.{WritesFront}
 use Rattle.lease_server.specs.Watching.{Streams}
 use Rattle.vmemd.specs.declared.running.RunFault.{RunFault}
 use Rattle.vmemd.specs.declared.running.RunFault.TheVariants.{Read, Write, Listen, Memory, Shut}
-use Rattle.vmemd.specs.Running.{Attends, Closes, Runs, Tells, listening_line, closed_line, run_text}
+use Rattle.vmemd.specs.Running.{Attends, Closes, ServesToItsEnd, TellsAddress, listening_line, closed_line, run_text}
 
 -- the address couldn't be told
-pub tell_fails : (old new : Streams) (fault : RunFault) → Tells old.written new.written new.writer_failed (Err fault) → Attends old new (Err fault)
+pub tell_fails : (old new : Streams) (fault : RunFault) → TellsAddress old.written new.written new.writer_failed (Err fault) → Attends old new (Err fault)
 tell_fails old new Read p = absurd p
 tell_fails old new Write p = p
 tell_fails old new Listen p = p
@@ -17,7 +17,7 @@ tell_fails old new Memory p = p
 tell_fails old new Shut p = absurd p
 
 -- a fault before the end is the run's
-pub run_fails : (old new : Streams) (fault : RunFault) → Attends old new (Err fault) → Runs old new (Err fault)
+pub run_fails : (old new : Streams) (fault : RunFault) → Attends old new (Err fault) → ServesToItsEnd old new (Err fault)
 run_fails old new Read p = p
 run_fails old new Write (address, (written, unwritten, split, appends), failed) =
     (address, (written, unwritten ++ closed_line, ap (λ l. l ++ closed_line) split ∙ append_assoc written unwritten closed_line, appends), failed)
@@ -26,7 +26,7 @@ run_fails old new Memory p = p
 run_fails old new Shut p = absurd p
 
 -- at the end of the input, the run is as telling that it closed
-pub run_closes : (old mid new : Streams) (u : Unit {0}) (r : Result (Unit {0}) RunFault) → Attends old mid (Ok u) → new.unread ≡ mid.unread → Closes mid.written new.written new.writer_failed r → Runs old new r
+pub run_closes : (old mid new : Streams) (u : Unit {0}) (r : Result (Unit {0}) RunFault) → Attends old mid (Ok u) → new.unread ≡ mid.unread → Closes mid.written new.written new.writer_failed r → ServesToItsEnd old new r
 run_closes old mid new u (Ok x) (address, told, end) same p = (address, Appends-trans old.written mid.written new.written (listening_line address) closed_line told p, rw same end)
 run_closes old mid new u (Err Shut) (address, told, end) same p = (address, Appends-trans old.written mid.written new.written (listening_line address) closed_line told p, rw same end)
 run_closes old mid new u (Err Write) (address, told, end) same ((written, unwritten, split, appends), failed) = (

@@ -8,7 +8,7 @@ use Rattle.std.specs.Io.KnownBytes.{Consumes, IsAtEnd}
 use Rattle.std.proofs.KnownBytes.{Consumes-kept}
 use Rattle.lease_proto.specs.declared.faults.LineFault.{LineFault}
 use Rattle.lease_proto.specs.declared.faults.LineFault.TheVariants.{TooLong}
-use Rattle.lease_proto.specs.Frames.{Frame, frame_of, last_of, frames_in, rest_in, frames_of, ended, IsOneLine}
+use Rattle.lease_proto.specs.Frames.{Frame, frame_of, last_of, frames_in, rest_in, frames_of, with_line_feed, IsOneLine}
 use Rattle.lease_proto.specs.Values.{◌>>=◌}
 use Rattle.lease_proto.proofs.LawProofs.{frame_of-take, last_of-take, frames_in-append, rest_in-append, frames_in-ended, rest_in-ended, frames_in-text, rest_in-text, frames_in-none, rest_in-none}
 use Rattle.lease_proto.specs.declared.setup_lines.SetupLine.{SetupLine}
@@ -31,7 +31,7 @@ IsSetup bytes = (more : List ℕ) → begins_setup (bytes ++ more) ≡ true
 
 -- a whole line at hand, and the bytes that it comes from
 pub line_at : (hand : AtHand) (bytes : List ℕ) → hand ≡ hand_in [] bytes → hand.whole ≡ true
-    → (text : List ℕ) × (rest : List ℕ) × IsOneLine text × (bytes ≡ ended text ++ rest) × (hand.line ≡ take 256 text) × (hand.rest ≡ rest)
+    → (text : List ℕ) × (rest : List ℕ) × IsOneLine text × (bytes ≡ with_line_feed text ++ rest) × (hand.line ≡ take 256 text) × (hand.rest ≡ rest)
 line_at hand bytes is whole =
     let (text, rest, one, parts, e) = line_is_whole [] bytes (ap (λ h. h.whole) (sym is) ∙ whole) in
     (text, rest, one, parts, ap (λ h. h.line) (is ∙ e), ap (λ h. h.rest) (is ∙ e))
@@ -53,9 +53,9 @@ read_none old new bytes piece one first is none =
     read_behind old new bytes piece one first is ∙ ap (λ l. hand_in [] (bytes ++ l)) none ∙ ap (hand_in []) (append-nil bytes)
 
 -- whether a setup line begins, by a whole line
-pub begins_by_line : (bytes text rest more : List ℕ) → bytes ≡ ended text ++ rest → begins_setup (bytes ++ more) ≡ begins_setup (take 256 text)
+pub begins_by_line : (bytes text rest more : List ℕ) → bytes ≡ with_line_feed text ++ rest → begins_setup (bytes ++ more) ≡ begins_setup (take 256 text)
 begins_by_line bytes text rest more parts =
-    ap (λ l. begins_setup (l ++ more)) parts ∙ ap begins_setup (append_assoc (ended text) rest more) ∙ begins_line text (rest ++ more)
+    ap (λ l. begins_setup (l ++ more)) parts ∙ ap begins_setup (append_assoc (with_line_feed text) rest more) ∙ begins_line text (rest ++ more)
 
 -- how much is at hand, for measures
 abbrev pub size_at : AtHand → ℕ
@@ -100,13 +100,13 @@ module _ {S : Type 0} (takes : S → SetupLine → S → Type 0) where
   none_taken first = (record { lines = []; makes = refl; split = refl }, refl)
 
   pub one_taken : (first mid last : S) (input front line rest : List ℕ) (setup : SetsUp takes first input front mid) → TakesLine takes mid (take 256 line) last
-      → front ≡ ended line ++ rest → (more : SetsUp takes first input rest last) × (length more.lines ≡ length setup.lines + 1)
+      → front ≡ with_line_feed line ++ rest → (more : SetsUp takes first input rest last) × (length more.lines ≡ length setup.lines + 1)
   one_taken first mid last input front line rest setup taken e = (
     record {
       lines = setup.lines ++ line ∷ [];
       makes = Makes-one first mid last setup.lines line setup.makes (taken.0, sym (setup_of-take line) ∙ taken.1, taken.2);
-      split = setup.split ∙ ap (λ l. flat_map ended setup.lines ++ l) e ∙ sym (append_assoc (flat_map ended setup.lines) (ended line) rest)
-          ∙ ap (λ l. l ++ rest) (sym (flat_map-append ended setup.lines (line ∷ []) ∙ ap (λ l. flat_map ended setup.lines ++ l) (append-nil (ended line))));
+      split = setup.split ∙ ap (λ l. flat_map with_line_feed setup.lines ++ l) e ∙ sym (append_assoc (flat_map with_line_feed setup.lines) (with_line_feed line) rest)
+          ∙ ap (λ l. l ++ rest) (sym (flat_map-append with_line_feed setup.lines (line ∷ []) ∙ ap (λ l. flat_map with_line_feed setup.lines ++ l) (append-nil (with_line_feed line))));
     },
     length-append setup.lines (line ∷ []),
   )
@@ -118,25 +118,25 @@ module _ {S : Type 0} (takes : S → SetupLine → S → Type 0) where
     record {
       lines = setup.lines;
       makes = setup.makes;
-      split = ap (λ l. l ++ piece) setup.split ∙ append_assoc (flat_map ended setup.lines) front piece;
+      split = ap (λ l. l ++ piece) setup.split ∙ append_assoc (flat_map with_line_feed setup.lines) front piece;
     },
     refl,
   )
 
 -- a line and what follows it
-line_first : (line more : List ℕ) → IsOneLine line → frames_of (ended line ++ more) ≡ frame_of (take 256 line) ∷ frames_of more
+line_first : (line more : List ℕ) → IsOneLine line → frames_of (with_line_feed line ++ more) ≡ frame_of (take 256 line) ∷ frames_of more
 line_first line more one =
-    let frames : frames_in [] (ended line ++ more) ≡ frame_of line ∷ frames_in [] more =
-    frames_in-append [] (ended line) more ∙ rw (frames_in-ended [] line one, rest_in-ended [] line one) refl in
-    let rest : rest_in [] (ended line ++ more) ≡ rest_in [] more = rest_in-append [] (ended line) more ∙ rw (rest_in-ended [] line one) refl in
-    let all : frames_of (ended line ++ more) ≡ frame_of line ∷ frames_of more = rw (frames, rest) refl in
+    let frames : frames_in [] (with_line_feed line ++ more) ≡ frame_of line ∷ frames_in [] more =
+    frames_in-append [] (with_line_feed line) more ∙ rw (frames_in-ended [] line one, rest_in-ended [] line one) refl in
+    let rest : rest_in [] (with_line_feed line ++ more) ≡ rest_in [] more = rest_in-append [] (with_line_feed line) more ∙ rw (rest_in-ended [] line one) refl in
+    let all : frames_of (with_line_feed line ++ more) ≡ frame_of line ∷ frames_of more = rw (frames, rest) refl in
     all ∙ ap (λ f. f ∷ frames_of more) (sym (frame_of-take line))
 
 -- of a front that goes on
-first_frames : (front line rest left : List ℕ) → IsOneLine line → front ≡ ended line ++ rest
+first_frames : (front line rest left : List ℕ) → IsOneLine line → front ≡ with_line_feed line ++ rest
     → frames_of (front ++ left) ≡ frame_of (take 256 line) ∷ frames_of (rest ++ left)
 first_frames front line rest left one e =
-    ap (λ l. frames_of (l ++ left)) e ∙ ap frames_of (append_assoc (ended line) rest left) ∙ line_first line (rest ++ left) one
+    ap (λ l. frames_of (l ++ left)) e ∙ ap frames_of (append_assoc (with_line_feed line) rest left) ∙ line_first line (rest ++ left) one
 
 -- a line that is too long already stays so
 long_goes_on : (line left : List ℕ) → 255 < length line → (frames : List Frame) × (frames_in line left ++ last_of (rest_in line left) ≡ Err TooLong ∷ frames)
@@ -161,7 +161,7 @@ pub rest_first : (rest : List ℕ) (why : LineFault) → IsOneLine rest → last
 rest_first rest why one last = rw (frames_in-none [] rest one, rest_in-none [] rest one) (sym (last_of-take rest) ∙ last)
 
 module _ {S : Type 0} (takes : S → SetupLine → S → Type 0) (refuses : S → SetupLine → ConfigFault → Type 0) where
-  pub refuses_line : (made : S) (front line rest left : List ℕ) (word : ConfigFault) → IsOneLine line → front ≡ ended line ++ rest
+  pub refuses_line : (made : S) (front line rest left : List ℕ) (word : ConfigFault) → IsOneLine line → front ≡ with_line_feed line ++ rest
       → RefusesRead refuses made (setup_of (take 256 line)) word → RefusesFirst refuses made (front ++ left) word
   refuses_line made front line rest left word one e refused = (
     frame_of (take 256 line),
@@ -207,7 +207,7 @@ module _ {S : Type 0} (takes : S → SetupLine → S → Type 0) (refuses : S �
       (front, setup, counted, sym (begins_setup-take front) ∙ begins, (Err why, [], rest_first front why one last, refl))
 
 module _ {S : Type 0} (takes : S → SetupLine → S → Type 0) (can : S → SetupLine → Type 0) where
-  pub can_take_line : (made : S) (front line rest left : List ℕ) → IsOneLine line → front ≡ ended line ++ rest
+  pub can_take_line : (made : S) (front line rest left : List ℕ) → IsOneLine line → front ≡ with_line_feed line ++ rest
       → CanTakeRead can made (setup_of (take 256 line)) → CanTakeFirst can made (front ++ left)
   can_take_line made front line rest left one e able = (
     frame_of (take 256 line),
@@ -228,7 +228,7 @@ module _ {S : Type 0} (takes : S → SetupLine → S → Type 0) (can : S → Se
 
 module _ {S : Type 0} (takes : S → SetupLine → S → Type 0) (refuses : S → SetupLine → ConfigFault → Type 0) (can : S → SetupLine → Type 0) where
   pub line_fails : (first made last : S) (unread left : Option (List ℕ)) (input front line rest : List ℕ) (setup : SetsUp takes first input front made) (number : ℕ) (fault : ScriptFault)
-      → Consumes unread left input → number ≡ length setup.lines + 1 → begins_setup (take 256 line) ≡ true → IsOneLine line → front ≡ ended line ++ rest
+      → Consumes unread left input → number ≡ length setup.lines + 1 → begins_setup (take 256 line) ≡ true → IsOneLine line → front ≡ with_line_feed line ++ rest
       → last ≡ made → LineFails refuses can made number (setup_of (take 256 line)) fault → SetupFails takes refuses can first unread left last fault
   line_fails first made last unread left input front line rest setup number (Setup at word) read counted begins one e same fails =
       subst (λ desk. IfSome unread (λ all. SetupRefused takes refuses first all at word desk)) (sym same)

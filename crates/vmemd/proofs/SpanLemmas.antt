@@ -12,7 +12,7 @@ use Rattle.tag_arena.specs.Place.{ServesIn}
 use Rattle.arena_tree.specs.declared.setups.OwnedSpan.{OwnedSpan}
 use Rattle.arena_tree.specs.declared.trees.TreeArena.{TreeArena}
 use Rattle.arena_tree.specs.Settings.{SetupState}
-use Rattle.arena_tree.specs.Trees.{place_in}
+use Rattle.arena_tree.specs.Trees.{index_in}
 use Rattle.stock.specs.Setups.{deeds_owned, numbered_deeds, plan_for, plans_for}
 use Rattle.stock.specs.Spaces.{SpaceState, SpacePlan, plan_of, plans_of}
 use Rattle.lease_proto.specs.declared.lines.LeaseLine.{LeaseLine}
@@ -63,8 +63,8 @@ span_there made desk last l is same f =
       space = now.0;
       span = span.1;
       names = record {
-        place = k;
-        finds = record { first = ap (place_in l.arena) tree ∙ f.named; here = ap (λ (t : List TreeArena). slice_get t k) tree ∙ f.here };
+        index = k;
+        finds = record { first = ap (index_in l.arena) tree ∙ f.named; here = ap (λ (t : List TreeArena). slice_get t k) tree ∙ f.here };
         here = now.1;
       };
       owns = contains_at now.0.arena.owned span.0 span.1 stands;

@@ -9,10 +9,10 @@ use Rattle.stock.specs.OwnCaches.{OwnCacheState}
 use Rattle.stock.specs.Setups.{plan_for, plans_for}
 use Rattle.stock.specs.Spaces.{SpaceState, SpacePlan, plan_of, plans_of, slab_size_of}
 use Rattle.stock_audit.specs.Outside.{all_rounds_out}
-use Rattle.local_parts.specs.Cpus.{CachePlace, IsCpuOf, own_place, own_places, row_places, places_from}
-use Rattle.lease_book.specs.BookState.{leased}
+use Rattle.local_parts.specs.Cpus.{CacheIndexes, IsCpuOf, own_index, own_indexes, row_indexes, indexes_from}
+use Rattle.lease_book.specs.BookState.{leased_segments}
 use Rattle.lease_proto.specs.Cpus.{IsCpu}
-use Rattle.lease_machine.specs.Picture.{Cpu, Picture, IsPicture, caches_of, held_outside}
+use Rattle.lease_machine.specs.Picture.{NumberedCpu, Picture, IsPicture, caches_of, held_outside}
 use Rattle.lease_machine.specs.RoomLaws.{NothingIsKept}
 
 no_map : {X Y : Type 0} (f : X → Y) (xs : List X) → map f xs ≡ [] → xs ≡ []
@@ -33,21 +33,21 @@ planned_none x none =
     ap (λ n. replicate n x.slab_size) count
 
 -- then a CPU has none
-rows_none : (k : ℕ) (plans : List SpacePlan) (cpu : List (List OwnCacheState)) → All HasNone plans → own_places cpu ≡ places_from k plans → flat_map (λ row. row) cpu ≡ []
+rows_none : (k : ℕ) (plans : List SpacePlan) (cpu : List (List OwnCacheState)) → All HasNone plans → own_indexes cpu ≡ indexes_from k plans → flat_map (λ row. row) cpu ≡ []
 rows_none k plans [] none same = refl
 rows_none k [] (row ∷ cpu) none same = absurd (cc)
 rows_none k (p ∷ plans) (row ∷ cpu) none same =
     let first : p.slab_sizes ≡ [] = all_at HasNone (p ∷ plans) 0 p none refl in
-    let here : map own_place row ≡ row_places k p.quantum 0 (length p.slab_sizes) = cc in
-    let empty : row ≡ [] = no_map own_place row (here ∙ ap (λ (xs : List ℕ). row_places k p.quantum 0 (length xs)) first) in
+    let here : map own_index row ≡ row_indexes k p.quantum 0 (length p.slab_sizes) = cc in
+    let empty : row ≡ [] = no_map own_index row (here ∙ ap (λ (xs : List ℕ). row_indexes k p.quantum 0 (length xs)) first) in
     let others : All HasNone plans = all_from HasNone plans (λ i q at. all_at HasNone (p ∷ plans) (suc i) q none at) in
     ap (λ r. r ++ flat_map (λ row. row) cpu) empty ∙ rows_none (k + 1) plans cpu others (cc)
 
-cpus_none : (cpus : List Cpu) → All (λ c. caches_of c ≡ []) cpus → flat_map caches_of cpus ≡ []
+cpus_none : (cpus : List NumberedCpu) → All (λ c. caches_of c ≡ []) cpus → flat_map caches_of cpus ≡ []
 cpus_none [] none = refl
 cpus_none (c ∷ cpus) none =
-    let first : caches_of c ≡ [] = all_at (λ (x : Cpu). caches_of x ≡ []) (c ∷ cpus) 0 c none refl in
-    let others = all_from (λ (x : Cpu). caches_of x ≡ []) cpus (λ i x at. all_at (λ (y : Cpu). caches_of y ≡ []) (c ∷ cpus) (suc i) x none at) in
+    let first : caches_of c ≡ [] = all_at (λ (x : NumberedCpu). caches_of x ≡ []) (c ∷ cpus) 0 c none refl in
+    let others = all_from (λ (x : NumberedCpu). caches_of x ≡ []) cpus (λ i x at. all_at (λ (y : NumberedCpu). caches_of y ≡ []) (c ∷ cpus) (suc i) x none at) in
     ap (λ r. r ++ flat_map caches_of cpus) first ∙ cpus_none cpus others
 
 module _ (d : Picture) (is : IsPicture d) (none : All (λ x. x.qcache_max ≡ 0) d.tree) where
@@ -64,8 +64,8 @@ module _ (d : Picture) (is : IsPicture d) (none : All (λ x. x.qcache_max ≡ 0)
       all_from IsReapedCache s.caches (λ j c there. absurd (nothing_there s.caches j c empty there))))
 
   cpu_caches : flat_map caches_of d.cpus ≡ []
-  cpu_caches = cpus_none d.cpus (all_from (λ (c : Cpu). caches_of c ≡ []) d.cpus (λ k c at.
-      rows_none 0 (plans_of d.spaces) c.caches plans_none (all_at (λ (x : Cpu). IsCpu x.number × IsCpuOf d.spaces x.caches) d.cpus k c is.cpus.each at).1))
+  cpu_caches = cpus_none d.cpus (all_from (λ (c : NumberedCpu). caches_of c ≡ []) d.cpus (λ k c at.
+      rows_none 0 (plans_of d.spaces) c.caches plans_none (all_at (λ (x : NumberedCpu). IsCpu x.number × IsCpuOf d.spaces x.caches) d.cpus k c is.cpus.each at).1))
 
-  pub nothing_kept : leased d.book ≡ [] → NothingIsKept d
+  pub nothing_kept : leased_segments d.book ≡ [] → NothingIsKept d
   nothing_kept free = record { leases = free; rounds = ap all_rounds_out cpu_caches; reaped = all_bare }

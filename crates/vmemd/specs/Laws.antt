@@ -8,7 +8,7 @@ use Rattle.tag_arena.specs.ArenaState.{spans_of}
 use Rattle.arena_tree.specs.declared.trees.TreeArena.{TreeArena}
 use Rattle.arena_tree.specs.declared.setups.OwnedSpan.{OwnedSpan}
 use Rattle.arena_tree.specs.Settings.{SetupState}
-use Rattle.arena_tree.specs.Trees.{place_in}
+use Rattle.arena_tree.specs.Trees.{index_in}
 use Rattle.stock.specs.Spaces.{SpaceState}
 use Rattle.stock.specs.Sums.{total}
 use Rattle.stock.specs.Laws.{ApartUpChain}
@@ -16,7 +16,7 @@ use Rattle.stock_audit.specs.Chains.{unit_of_arena}
 use Rattle.lease_terms.specs.Requests.{RequestId}
 use Rattle.lease_terms.specs.declared.refusals.Refusal.TheVariants.{NoFit}
 use Rattle.lease_book.specs.Answers.{IsNew}
-use Rattle.lease_book.specs.BookState.{account_in, leased, units_of_arena}
+use Rattle.lease_book.specs.BookState.{account_in, leased_segments, units_of_arena}
 use Rattle.lease_proto.specs.declared.faults.ErrorWord.TheVariants.{Memory}
 use Rattle.lease_proto.specs.declared.lines.HelloLine.{HelloLine}
 use Rattle.lease_proto.specs.declared.lines.LeaseLine.{LeaseLine}
@@ -32,7 +32,8 @@ use Rattle.lease_machine.specs.Picture.{Picture, held_outside}
 use Rattle.lease_machine.specs.Operators.{sums_in, arenas_told}
 use Rattle.lease_machine.specs.Machine.{LeaseStep, demand_of}
 use Rattle.lease_machine.specs.Laws.{Runs}
-use Rattle.lease_machine.specs.AnswerLaws.{written, IsUnkept, IsRequestLine, AreOfOthers, FitsLine}
+use Rattle.lease_machine.specs.AnswerLaws.{reply_bytes, IsUnkept, IsRequestLine, AreOfOthers}
+use Rattle.lease_machine.specs.AnswerLaws.{FitsLine}
 use Rattle.lease_machine.specs.RoomLaws.{NothingIsKept, refusal_to}
 use Rattle.lease_machine.specs.EmptyingLaws.{HasNoRound}
 use Rattle.vmemd.specs.Scripts.{Makes}
@@ -68,11 +69,11 @@ ScriptsSplit = (last : Picture) (s : Script last) (front rest : List Frame)
 -- of the other's
 abbrev pub ScriptLeasesStayApart : Type 0
 ScriptLeasesStayApart = (last : Picture) → Script last
-    → AllPairs (ApartUpChain last.spaces) (leased last.book)
+    → AllPairs (ApartUpChain last.spaces) (leased_segments last.book)
 
--- and each unit of an arena's spans is in one place, and no other unit in any
-abbrev pub ScriptUnitsHaveOnePlace : Type 0
-ScriptUnitsHaveOnePlace = (last : Picture) → Script last → (k : ℕ) (s : SpaceState)
+-- and each unit of an arena's spans is in one home, and no other unit in any
+abbrev pub ScriptUnitsHaveOneHome : Type 0
+ScriptUnitsHaveOneHome = (last : Picture) → Script last → (k : ℕ) (s : SpaceState)
     → slice_get last.spaces k ≡ Some s → (u : ℕ)
     → (total (unit_of_arena u last.spaces (held_outside last) s)
     ≡ covering_held u (spans_of s.arena))
@@ -88,7 +89,7 @@ ScriptAuditIsTold = (old new : Picture) (text : List ℕ) → AnswersNext old (c
 abbrev pub ScriptAuditIsWhole : Type 0
 ScriptAuditIsWhole = (last : Picture) → Script last → (k : ℕ) (s : SpaceState)
     → slice_get last.spaces k ≡ Some s
-    → ((sums_in last s).leased ≡ sum_by (units_of_arena k) (leased last.book))
+    → ((sums_in last s).leased ≡ sum_by (units_of_arena k) (leased_segments last.book))
     × (total (sums_in last s) ≡ units_held (spans_of s.arena))
 
 -- In a script a request is answered so; then come these frames, and then the request again, with
@@ -129,14 +130,15 @@ abbrev pub ScriptGrantsFit : Type 0
 ScriptGrantsFit = (old new : Picture) (id : RequestId) (l : LeaseLine) (line text : List ℕ)
     → AnswersNext old line text new → IsRequestLine line id (ops.Lease l)
     → IsNew (account_in id.client old.book) id
-    → (r : Reply) × (text ≡ written r) × FitsLine old l r
+    → (r : Reply) × (text ≡ reply_bytes r) × FitsLine old l r
 
 -- so is each repeat of it that settles it, after any lines: it fits the first line
 abbrev pub ScriptRepeatsFit : Type 0
 ScriptRepeatsFit = (id : RequestId) (l : LeaseLine) (first second : List ℕ) (frames : List Frame)
     → (a : AsksTwice id (ops.Lease l) first frames second)
     → IsNew (account_in id.client a.old.book) id
-    → ((r : Reply) × (second ≡ written r) × FitsLine a.old l r) ⊎ (IsUnkept first ⊎ IsUnkept second)
+    → ((r : Reply) × (second ≡ reply_bytes r) × FitsLine a.old l r)
+    ⊎ (IsUnkept first ⊎ IsUnkept second)
 
 -- the lease fits in a span that the setup gives the arena that it names
 pub record FitsInSpan (made : SetupState) (l : LeaseLine) : Type 0 where
@@ -144,7 +146,7 @@ pub record FitsInSpan (made : SetupState) (l : LeaseLine) : Type 0 where
   pub span : OwnedSpan
   pub base : ℕ
   pub len : ℕ
-  pub named : place_in l.arena made.arenas ≡ Some span.arena
+  pub named : index_in l.arena made.arenas ≡ Some span.arena
   pub here : slice_get made.arenas span.arena ≡ Some arena
   pub owned : Contains made.spans span
   pub fits : Fits arena.quantum (demand_of l) base len
@@ -159,7 +161,7 @@ ScriptFirstLeaseIsServed = (start mid new : Picture) (s : Script start)
     → s.frames ≡ [] → served_of hello ≡ Ok (served.Client (lines.Hello h))
     → LeaseStep start hello greeting mid → IsRequestLine lease id (ops.Lease l)
     → LeaseStep mid lease text new → FitsInSpan s.made l
-    → text ≢ written (refusal_to id NoFit)
+    → text ≢ reply_bytes (refusal_to id NoFit)
 
 -- once nothing is leased or kept, a lease of a new number that fits in a span isn't answered so,
 -- however all was used before
@@ -167,21 +169,22 @@ abbrev pub ScriptFreedIsWhole : Type 0
 ScriptFreedIsWhole = (old new : Picture) (id : RequestId) (l : LeaseLine) (line text : List ℕ)
     → (a : AnswersNext old line text new) → NothingIsKept old
     → IsRequestLine line id (ops.Lease l) → IsNew (account_in id.client old.book) id
-    → FitsInSpan a.script.made l → text ≢ written (refusal_to id NoFit)
+    → FitsInSpan a.script.made l → text ≢ reply_bytes (refusal_to id NoFit)
 
 -- and where no arena of the setup has caches, nor is it once nothing is leased
 abbrev pub ScriptReturnedIsWhole : Type 0
 ScriptReturnedIsWhole = (old new : Picture) (id : RequestId) (l : LeaseLine) (line text : List ℕ)
     → (a : AnswersNext old line text new) → All (λ x. x.qcache_max ≡ 0) a.script.made.arenas
-    → leased old.book ≡ [] → IsRequestLine line id (ops.Lease l)
+    → leased_segments old.book ≡ [] → IsRequestLine line id (ops.Lease l)
     → IsNew (account_in id.client old.book) id → FitsInSpan a.script.made l
-    → text ≢ written (refusal_to id NoFit)
+    → text ≢ reply_bytes (refusal_to id NoFit)
 
 -- and where CPUs have no round, `tick` and `reap` are enough for that
 abbrev pub ScriptEmptiedIsWhole : Type 0
 ScriptEmptiedIsWhole = (old mid late new : Picture) (id : RequestId) (l : LeaseLine)
     (told reaped line text : List ℕ) → (a : AnswersNext old (codes "tick") told mid)
-    → leased old.book ≡ [] → All HasNoRound old.cpus → LeaseStep mid (codes "reap") reaped late
+    → leased_segments old.book ≡ [] → All HasNoRound old.cpus
+    → LeaseStep mid (codes "reap") reaped late
     → IsRequestLine line id (ops.Lease l) → IsNew (account_in id.client late.book) id
     → LeaseStep late line text new → FitsInSpan a.script.made l
-    → text ≢ written (refusal_to id NoFit)
+    → text ≢ reply_bytes (refusal_to id NoFit)

@@ -44,17 +44,17 @@ run_text address = listening_line address ++ closed_line
 
 -- Without a fault the server told its address, read the input to its end, was shut and told that
 -- it closed; so it did where something could not be put back at once.
-abbrev pub Runs : Streams → Streams → Result (Unit {0}) RunFault → Type 0
-Runs old new (Ok _) = (address : List ℕ)
+abbrev pub ServesToItsEnd : Streams → Streams → Result (Unit {0}) RunFault → Type 0
+ServesToItsEnd old new (Ok _) = (address : List ℕ)
     × Appends old.written new.written (run_text address) × IsAtEnd new.unread
-Runs old new (Err Shut) = (address : List ℕ)
+ServesToItsEnd old new (Err Shut) = (address : List ℕ)
     × Appends old.written new.written (run_text address) × IsAtEnd new.unread
-Runs old new (Err Read) = (address : List ℕ)
+ServesToItsEnd old new (Err Read) = (address : List ℕ)
     × Appends old.written new.written (listening_line address) × (new.reader_failed ≡ true)
-Runs old new (Err Write) = (address : List ℕ)
+ServesToItsEnd old new (Err Write) = (address : List ℕ)
     × WritesFront (run_text address) old.written new.written × (new.writer_failed ≡ true)
-Runs old new (Err Listen) = IsSilent old new
-Runs old new (Err Memory) = IsSilent old new
+ServesToItsEnd old new (Err Listen) = IsSilent old new
+ServesToItsEnd old new (Err Memory) = IsSilent old new
 
 -- what a server's console has to read and has written
 abbrev pub console_streams : {I W : Type 0} → (I → Option (List ℕ)) → (W → Option (List ℕ))
@@ -63,15 +63,16 @@ console_streams remaining contents c = streams_of remaining contents c.input c.o
 
 -- by what was written before and after, and whether the writer failed: the address was told, or
 -- why not
-abbrev pub Tells : Option (List ℕ) → Option (List ℕ) → Bool → Result (Unit {0}) RunFault → Type 0
-Tells before after failed (Ok _) = (address : List ℕ)
+abbrev pub TellsAddress : Option (List ℕ) → Option (List ℕ) → Bool → Result (Unit {0}) RunFault
+    → Type 0
+TellsAddress before after failed (Ok _) = (address : List ℕ)
     × Appends before after (listening_line address)
-Tells before after failed (Err Write) = (address : List ℕ)
+TellsAddress before after failed (Err Write) = (address : List ℕ)
     × WritesFront (listening_line address) before after × (failed ≡ true)
-Tells before after failed (Err Listen) = Keeps before after
-Tells before after failed (Err Memory) = Keeps before after
-Tells before after failed (Err Read) = ⊥
-Tells before after failed (Err Shut) = ⊥
+TellsAddress before after failed (Err Listen) = Keeps before after
+TellsAddress before after failed (Err Memory) = Keeps before after
+TellsAddress before after failed (Err Read) = ⊥
+TellsAddress before after failed (Err Shut) = ⊥
 
 -- the same of telling that it closed
 abbrev pub Closes : Option (List ℕ) → Option (List ℕ) → Bool → Result (Unit {0}) RunFault → Type 0

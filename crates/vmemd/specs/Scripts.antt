@@ -4,7 +4,7 @@ use Rattle.std.specs.Prelude.{Option, Result, Ok, Err, IfSome}
 use Rattle.std.specs.List.{flat_map}
 use Rattle.std.specs.Io.KnownBytes.{Appends, Consumes}
 use Rattle.lease_proto.specs.declared.faults.LineFault.{LineFault}
-use Rattle.lease_proto.specs.Frames.{Frame, IsOneLine, frames_in, frames_of, ended}
+use Rattle.lease_proto.specs.Frames.{Frame, IsOneLine, frames_in, frames_of, with_line_feed}
 use Rattle.lease_proto.specs.Values.{◌>>=◌}
 use Rattle.lease_server.specs.Serving.{Writes, Stops}
 use Rattle.lease_server.specs.declared.intakes.TheConstants.{MOST_READS}
@@ -66,7 +66,7 @@ module _ {S : Type 0} (takes : S → SetupLine → S → Type 0) where
   pub record SetsUp (first : S) (input rest : List ℕ) (made : S) : Type 0 where
     pub lines : List (List ℕ)
     pub makes : Makes first lines made
-    pub split : input ≡ flat_map ended lines ++ rest
+    pub split : input ≡ flat_map with_line_feed lines ++ rest
 
 module _ {S : Type 0} (refuses : S → SetupLine → ConfigFault → Type 0) where
   -- a setup refuses what was read of a line: it is no setup line, or the setup doesn't take it

@@ -1,17 +1,17 @@
 //! What holds over a whole script. The functions do nothing: their contracts are the laws.
-ghost use Rattle.vmemd.specs.Laws.{ScriptsSplit, ScriptLeasesStayApart, ScriptUnitsHaveOnePlace};
+ghost use Rattle.vmemd.specs.Laws.{ScriptsSplit, ScriptLeasesStayApart, ScriptUnitsHaveOneHome};
 ghost use Rattle.vmemd.specs.Laws.{ScriptAuditIsTold, ScriptAuditIsWhole};
 ghost use Rattle.vmemd.specs.Laws.{ScriptLinesRepeat, ScriptAnswersAgree, ScriptGrantsFit};
 ghost use Rattle.vmemd.specs.Laws.{ScriptRepeatsFit, ScriptFirstLeaseIsServed, ScriptFreedIsWhole};
 ghost use Rattle.vmemd.specs.Laws.{ScriptReturnedIsWhole, ScriptEmptiedIsWhole};
 
 /// Whatever setup lines are taken, and whatever lines the desk that they open answers then: after
-/// each of them no two leases of one space overlap, each unit is in one place, and an audit tells
+/// each of them no two leases of one space overlap, each unit is in one home, and an audit tells
 /// all of them. What `run_script` writes is such a script.
 pub fn script_laws()
     ensures split { ScriptsSplit }
     ensures apart { ScriptLeasesStayApart }
-    ensures places { ScriptUnitsHaveOnePlace }
+    ensures homes { ScriptUnitsHaveOneHome }
     ensures told { ScriptAuditIsTold }
     ensures whole { ScriptAuditIsWhole }
 {}

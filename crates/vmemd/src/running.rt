@@ -2,7 +2,8 @@
 ghost use Rattle.std.specs.Prelude.{◌≡◌, true, false, OnOk, IfErr, IsErrOf, Err};
 ghost use Rattle.std.specs.Io.KnownBytes.{IsAtEnd};
 ghost use Rattle.lease_server.specs.Watching.{Streams, has_failed, inner_of};
-ghost use Rattle.vmemd.specs.Running.{Attends, Closes, Runs, Tells, console_streams};
+ghost use Rattle.vmemd.specs.Running.{Attends, Closes, ServesToItsEnd, TellsAddress};
+ghost use Rattle.vmemd.specs.Running.{console_streams};
 
 use crate::endings::tell_fault;
 use crate::signals::Signals;
@@ -50,7 +51,7 @@ pub struct Console<I, W> {
 
 /// How a server ended, and what it read and wrote.
 #[derive(Drop)]
-pub struct Ran<I, W> {
+pub struct ServeEnd<I, W> {
     pub ended: Result<(), RunFault>,
     pub console: Console<I, W>,
 }
@@ -69,8 +70,8 @@ pub fn run_serve<
         + AllocGlobal,
     I: Read + Drop,
     W: Write + Drop,
->(rt: &R, address: &str, setup: Setup, workers: u32, console: Console<I, W>) -> Ran<I, W>
-    ensures { Runs (console_streams I.remaining W.contents console)
+>(rt: &R, address: &str, setup: Setup, workers: u32, console: Console<I, W>) -> ServeEnd<I, W>
+    ensures { ServesToItsEnd (console_streams I.remaining W.contents console)
         (console_streams I.remaining W.contents result.console) result.ended }
 {
     let Ok(listener) = TcpListener::bind(rt, address) else {
@@ -83,11 +84,11 @@ pub fn run_serve<
 }
 
 // Ends before anything was written.
-fn early<I, W>(fault: RunFault, console: Console<I, W>) -> Ran<I, W>
+fn early<I, W>(fault: RunFault, console: Console<I, W>) -> ServeEnd<I, W>
     ensures ended { result.ended ≡ Err fault }
     ensures console { result.console ≡ console }
 {
-    Ran {
+    ServeEnd {
         ended: Err(fault),
         console,
     }
@@ -112,9 +113,9 @@ fn run_named<
     setup: Setup,
     workers: u32,
     console: Console<I, W>,
-) -> Ran<I, W>
+) -> ServeEnd<I, W>
     requires { ground ≡ N.table }
-    ensures { Runs (console_streams I.remaining W.contents console)
+    ensures { ServesToItsEnd (console_streams I.remaining W.contents console)
         (console_streams I.remaining W.contents result.console) result.ended }
 {
     let system: System<N> = match System::new(rt.alloc(), ground, setup) {
@@ -129,19 +130,19 @@ fn run_named<
 }
 
 // Tells that the server closed, where it came to its end.
-fn close<I: Read, W: Write>(ran: Ran<I, W>, stuck: bool) -> Ran<I, W>
+fn close<I: Read, W: Write>(ran: ServeEnd<I, W>, stuck: bool) -> ServeEnd<I, W>
     ensures runs { (old : Streams)
         → Attends old (console_streams I.remaining W.contents ran.console) ran.ended
-        → Runs old (console_streams I.remaining W.contents result.console) result.ended }
+        → ServesToItsEnd old (console_streams I.remaining W.contents result.console) result.ended }
     ensures stuck { OnOk result.ended (stuck ≡ false) }
 {
-    let Ran { ended, console } = ran;
+    let ServeEnd { ended, console } = ran;
     let Console { input, mut out } = console;
     let ended = match ended {
         Ok(()) => tell_closed(&mut out, stuck),
         Err(fault) => Err(fault),
     };
-    Ran {
+    ServeEnd {
         ended,
         console: Console { input, out },
     }
@@ -181,14 +182,14 @@ fn serve_all<
     signals: &Signals,
     workers: u32,
     console: Console<I, W>,
-) -> Ran<I, W>
+) -> ServeEnd<I, W>
     ensures { Attends (console_streams I.remaining W.contents console)
         (console_streams I.remaining W.contents result.console) result.ended }
 {
     thread::scope(
         thread::scope_env(),
         rt,
-        move |scope| -> Ran<I, W>
+        move |scope| -> ServeEnd<I, W>
             ensures { Attends (console_streams I.remaining W.contents console)
                 (console_streams I.remaining W.contents result.console) result.ended }
         {
@@ -221,7 +222,7 @@ fn attend<R: AllocGlobal + Wait, I: Read, W: Write>(
     rt: &R,
     listener: &TcpListener,
     console: Console<I, W>,
-) -> Ran<I, W>
+) -> ServeEnd<I, W>
     ensures { Attends (console_streams I.remaining W.contents console)
         (console_streams I.remaining W.contents result.console) result.ended }
 {
@@ -230,7 +231,7 @@ fn attend<R: AllocGlobal + Wait, I: Read, W: Write>(
         Ok(()) => pass_over(rt, &mut input),
         Err(fault) => Err(fault),
     };
-    Ran {
+    ServeEnd {
         ended,
         console: Console { input, out },
     }
@@ -242,7 +243,7 @@ fn tell_address<W: Write>(
     listener: &TcpListener,
     out: &mut Watched<W>,
 ) -> Result<(), RunFault>
-    ensures { Tells (W.contents (inner_of out.old)) (W.contents (inner_of out.new))
+    ensures { TellsAddress (W.contents (inner_of out.old)) (W.contents (inner_of out.new))
         (has_failed out.new) result }
 {
     let Ok(address) = listener.local_addr() else {

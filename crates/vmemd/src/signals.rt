@@ -42,7 +42,7 @@ impl Signals {
         self.ready.load(Ordering::SeqCst)
     }
 
-    /// Tells that a worker was refused memory for its CPU.
+    /// Tells that a worker was out of memory for its CPU.
     pub fn starve(&self) {
         self.starved.store(true, Ordering::SeqCst);
     }

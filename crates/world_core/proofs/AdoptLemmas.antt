@@ -7,8 +7,8 @@ use Rattle.deed_core.specs.Weights.{Loses}
 use Rattle.deed_core.proofs.LawProofs.{slice_get-set_other}
 use Rattle.magazine_layer.specs.Magazines.{IsShaped}
 use Rattle.magazine_layer.specs.Calls.{PopOf}
-use Rattle.stock.specs.OwnCaches.{OwnCacheState, IsOwnCache, IsAtPlaceOf, own_rounds}
-use Rattle.lease_book.specs.BookState.{leased}
+use Rattle.stock.specs.OwnCaches.{OwnCacheState, IsOwnCache, IsAtIndexesOf, own_rounds}
+use Rattle.lease_book.specs.BookState.{leased_segments}
 use Rattle.world_core.specs.WorldState.{WorldState, in_hands}
 use Rattle.world_core.specs.IsWorld.{IsWorld, IsOfLines}
 use Rattle.world_core.specs.Moves.{failing, HandAdopted, RoundAdopted, IsFirstWithRound}
@@ -48,7 +48,7 @@ hand_adopted_keeps cpu other w v is m =
     let apart : cpu ≢ other = λ same. (let e : Some None ≡ Some (Some m.segment) = sym m.empty ∙ ap (slice_get w.hands) same ∙ m.holds in absurd (let d : None ≡ Some m.segment = cc in cc)) in
     let still : slice_get given cpu ≡ Some None = slice_get-set_other w.hands other cpu None apart ∙ m.empty in
     subst IsWorld (sym m.after) (failing_keeps other (record w { hands = hands }) (record {
-      parts = hands_pass w.stock (in_hands w.hands) (in_hands hands) (leased w.book) w.caches
+      parts = hands_pass w.stock (in_hands w.hands) (in_hands hands) (leased_segments w.book) w.caches
           (λ f. omega (arith, hand_set f w.hands other (Some m.segment) None m.holds, hand_set f given cpu None (Some m.segment) still)) is.parts;
       named = is.named;
       few = is.few;
@@ -66,7 +66,7 @@ hand_adopted_keeps cpu other w v is m =
 
 pub round_adopted_keeps : (cpu other : ℕ) (w v : WorldState) → IsWorld w → RoundAdopted cpu other w v → IsWorld v
 round_adopted_keeps cpu other w v is m =
-    subst IsWorld (sym m.after) (failing_keeps other m.between (pop_kept cpu m.place m.own m.next w m.between is m.first.has.mine.at m.round m.moves))
+    subst IsWorld (sym m.after) (failing_keeps other m.between (pop_kept cpu m.index m.own m.next w m.between is m.first.has.mine.at m.round m.moves))
 
 -- How it ends.
 
@@ -80,14 +80,14 @@ module _ (w : WorldState) (cpu other : ℕ) (apart : cpu ≢ other) (within : ot
         inl (record { segment = t; empty = empty; holds = held; after = after ∙ ap (failing other) whole }),
       )
 
-  pub adopts_round : (place : ℕ) (own next : OwnCacheState) (t : Tag) (hands : List (Option Tag)) (caches : List OwnCacheState) (v : WorldState) → ((x : Tag) → ¬ HasInHand w other (Some x))
-      → IsFirstWithRound w other place own → IsAtPlaceOf own next → PopOf own.cpu (Some t) next.cpu → Loses (own_rounds own) (own_rounds next) t → IsOwnCache next → IsShaped next.cpu
-      → hands ≡ set w.hands cpu (Some t) → caches ≡ set w.caches place next → v ≡ failing other (record w { hands = hands; caches = caches })
+  pub adopts_round : (index : ℕ) (own next : OwnCacheState) (t : Tag) (hands : List (Option Tag)) (caches : List OwnCacheState) (v : WorldState) → ((x : Tag) → ¬ HasInHand w other (Some x))
+      → IsFirstWithRound w other index own → IsAtIndexesOf own next → PopOf own.cpu (Some t) next.cpu → Loses (own_rounds own) (own_rounds next) t → IsOwnCache next → IsShaped next.cpu
+      → hands ≡ set w.hands cpu (Some t) → caches ≡ set w.caches index next → v ≡ failing other (record w { hands = hands; caches = caches })
       → EndsAs (events.Adopts cpu other) Done w v
-  adopts_round place own next t hands caches v none first same pops weights sound shaped moved gone after = (
-    (apart, within, empty, inr (place, own, first.has)),
+  adopts_round index own next t hands caches v none first same pops weights sound shaped moved gone after = (
+    (apart, within, empty, inr (index, own, first.has)),
     inr (record {
-      place = place;
+      index = index;
       own = own;
       next = next;
       round = t;

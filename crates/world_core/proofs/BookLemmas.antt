@@ -160,16 +160,16 @@ releases w cpu id line arena t book receipt hands tasks entries replies can rele
 
 pub no_such_lease : (w : WorldState) (cpu : ℕ) (id : RequestId) (line : ReleaseLine) (arena : ℕ) → IsWorld w → CanRelease w cpu id line arena
     → find (is_lease id.incarnation arena line.base) (account_in id.client w.book).leases ≡ None → HasNoSuchLease w cpu
-no_such_lease w cpu id line arena is can none = λ other what place also home.
+no_such_lease w cpu id line arena is can none = λ other what index also home.
     let tasks : Some (Some (record { id = id; op = ops.Release line })) ≡ Some (Some (record { id = other; op = ops.Release what })) = sym can.serves ∙ also in
     let task : ◌≡◌ {A = Task} (record { id = id; op = ops.Release line }) (record { id = other; op = ops.Release what }) = cc in
     let same : id ≡ other = ap (λ (x : Task). x.id) task in
     let op : ops.Release line ≡ ops.Release what = ap (λ (x : Task). x.op) task in
     let lines : line ≡ what = cc in
-    let named : arena_name w.names arena ≡ arena_name w.names place = can.home.is ∙ ap (λ (l : ReleaseLine). l.arena) lines ∙ sym home.is in
-    let places : arena ≡ place = is.names arena place home.within named in
+    let named : arena_name w.names arena ≡ arena_name w.names index = can.home.is ∙ ap (λ (l : ReleaseLine). l.arena) lines ∙ sym home.is in
+    let indexes : arena ≡ index = is.names arena index home.within named in
     let a : find (is_lease other.incarnation arena line.base) (account_in other.client w.book).leases ≡ None =
     subst (λ (x : RequestId). find (is_lease x.incarnation arena line.base) (account_in x.client w.book).leases ≡ None) same none in
-    let b : find (is_lease other.incarnation place line.base) (account_in other.client w.book).leases ≡ None =
-    subst (λ (k : ℕ). find (is_lease other.incarnation k line.base) (account_in other.client w.book).leases ≡ None) places a in
-    subst (λ (l : ReleaseLine). find (is_lease other.incarnation place l.base) (account_in other.client w.book).leases ≡ None) lines b
+    let b : find (is_lease other.incarnation index line.base) (account_in other.client w.book).leases ≡ None =
+    subst (λ (k : ℕ). find (is_lease other.incarnation k line.base) (account_in other.client w.book).leases ≡ None) indexes a in
+    subst (λ (l : ReleaseLine). find (is_lease other.incarnation index l.base) (account_in other.client w.book).leases ≡ None) lines b

@@ -14,10 +14,10 @@ use Rattle.lease_proto.specs.declared.replies.Reply.TheVariants as replies
 use Rattle.lease_book.specs.declared.receipts.KeptReply.{KeptReply}
 use Rattle.lease_book.specs.declared.receipts.KeptReply.TheVariants as kept_replies
 use Rattle.lease_book.specs.Receipts.{Kept, ReceiptState}
-use Rattle.lease_book.specs.Entry.{Entry, Settlement, Settled, Hello, Swept, Grant, Return, Refuse, kept, kept_reply_of}
+use Rattle.lease_book.specs.Entry.{Entry, Settlement, Settled, Hello, Swept, Grant, Return, Refuse, kept_settlement, kept_reply_of}
 use Rattle.lease_book.specs.Account.{Account}
 use Rattle.lease_book.specs.History.{incarnation, outcome_of}
-use Rattle.lease_book.specs.BookState.{BookState, IsHistory, Enters, account_in, leased}
+use Rattle.lease_book.specs.BookState.{BookState, IsHistory, Enters, account_in, leased_segments}
 use Rattle.lease_book.specs.Answers.{IsRepeated}
 use Rattle.lease_book.proofs.LawProofs.{account_is, last_outcome, outcomes_stay}
 use Rattle.lease_history.specs.Known.{IsFor}
@@ -174,7 +174,7 @@ swept_keeps cpu c w v is m =
     let mine : incarnation m.id.client w.entries ≡ incarnation c w.entries = ap (λ (d : ℕ). incarnation d w.entries) m.swept.client in
     let older = m.swept.older in
     subst IsWorld (sym m.after) (record {
-      parts = hand_leased w.stock w.hands (leased w.book) w.caches cpu None (Some m.segment) m.empty (leased m.book)
+      parts = hand_leased w.stock w.hands (leased_segments w.book) w.caches cpu None (Some m.segment) m.empty (leased_segments m.book)
           (λ f. (let l = m.swept.ended.leases f in let e = sum_by-cons f m.segment [] in omega arith)) is.parts;
       named = is.named;
       few = is.few;
@@ -191,12 +191,12 @@ swept_keeps cpu c w v is m =
     })
 
 settled_told : (names : ℕ → List ℕ) (es : List Entry) (id : RequestId) (s : Settlement) → MayTell names (Settled id s ∷ es) (reply_to names id (kept_reply_of s))
-settled_told names es id s = outcome_told names (Settled id s ∷ es) id (kept_reply_of s) (kept id.number s) (outcomes_stay.own es id s) refl
+settled_told names es id s = outcome_told names (Settled id s ∷ es) id (kept_reply_of s) (kept_settlement id.number s) (outcomes_stay.own es id s) refl
 
 -- a request is settled
 settles : (w : WorldState) (cpu : ℕ) (hands : List (Option Tag)) (book : BookState) (id : RequestId) (op : Op) (s : Settlement) → IsWorld w
     → HasTask w cpu id op → Enters (Settled id s) w.book book → IsFor (arena_name w.names) op s → IsDue w.stock w.names w.requests (Settled id s)
-    → IsAccountedFor w.stock (outside (in_hands hands) (leased book) w.caches)
+    → IsAccountedFor w.stock (outside (in_hands hands) (leased_segments book) w.caches)
     → IsWorld (record w { hands = hands; tasks = set w.tasks cpu None; book = book; entries = Settled id s ∷ w.entries; replies = w.replies ++ settled_reply w id s ∷ [] })
 settles w cpu hands book id op s is task enters for due accounts =
     let names = arena_name w.names in
@@ -229,7 +229,7 @@ granted_keeps cpu w v is m = subst IsWorld (sym m.after)
       quantum = m.quantum;
       request = m.request;
     })
-    (hand_leased w.stock w.hands (leased w.book) w.caches cpu (Some m.segment) None m.holds (leased m.book)
+    (hand_leased w.stock w.hands (leased_segments w.book) w.caches cpu (Some m.segment) None m.holds (leased_segments m.book)
     (λ f. (let l = m.granted.leases f in let e = sum_by-cons f m.segment [] in omega arith)) is.parts))
 
 refuse_for : (names : ℕ → List ℕ) (op : Op) (why : Refusal) → IsFor names op (Refuse why)
@@ -244,5 +244,5 @@ refused_keeps cpu why w v is m = subst IsWorld (sym m.after)
 pub released_keeps : (cpu : ℕ) (w v : WorldState) → IsWorld w → TaskReleased cpu w v → IsWorld v
 released_keeps cpu w v is m = subst IsWorld (sym m.after)
     (settles w cpu (set w.hands cpu (Some m.segment)) m.book m.id (ops.Release m.release) (Return m.arena m.release.base) is m.serves m.released.entry (m.home.is, refl) tt
-    (hand_leased w.stock w.hands (leased w.book) w.caches cpu None (Some m.segment) m.empty (leased m.book)
+    (hand_leased w.stock w.hands (leased_segments w.book) w.caches cpu None (Some m.segment) m.empty (leased_segments m.book)
     (λ f. (let l = m.released.leases f in let e = sum_by-cons f m.segment [] in omega arith)) is.parts))

@@ -33,7 +33,7 @@ use Rattle.stock.specs.Steps.{OnArena, OnSlab, OnDepot, FreeIn, PutIn, CanImport
 use Rattle.stock.specs.Answers.{NeverOverlaps, OnlyForMemory}
 use Rattle.stock.proofs.LawProofs.{always_tagged, always_out, out_weighs}
 use Rattle.stock_audit.specs.Outside.{all_rounds_out}
-use Rattle.lease_book.specs.BookState.{leased}
+use Rattle.lease_book.specs.BookState.{leased_segments}
 use Rattle.world_core.specs.WorldState.{WorldState, in_hands}
 use Rattle.world_core.specs.IsWorld.{IsWorld}
 use Rattle.world_core.specs.Events.{EndsAs, Tries, MovesBy, IsReady, IsEnabled, MayWantMemory, HasInHand, HasSpanFor}
@@ -74,12 +74,12 @@ not_empty w cpu t a b = (let e : Some (Some t) ≡ Some None = sym a ∙ b in ab
 
 -- what else is out
 abbrev pub others : WorldState → ℕ → List Tag
-others w cpu = in_hands (set w.hands cpu None) ++ (leased w.book ++ all_rounds_out w.caches)
+others w cpu = in_hands (set w.hands cpu None) ++ (leased_segments w.book ++ all_rounds_out w.caches)
 
 -- what is in a hand is out
 pub held_out : (w : WorldState) (cpu : ℕ) (t : Tag) → IsWorld w → HasInHand w cpu (Some t) → IsAccounted w.stock (t ∷ others w cpu)
 held_out w cpu t is held =
-    let rest : List Tag = leased w.book ++ all_rounds_out w.caches in
+    let rest : List Tag = leased_segments w.book ++ all_rounds_out w.caches in
     record {
       stock = is.parts.parts;
       accounts = out_weighs w.stock (in_hands w.hands ++ rest) (t ∷ others w cpu) (λ f. omega (
@@ -111,7 +111,7 @@ slab_same k j P old new on same =
     let caches : set on.space.caches j (with_slab on.slab on.cache) ≡ on.space.caches = ap (λ (x : SlabCacheState). set on.space.caches j (with_slab x on.cache)) same ∙ set_same on.space.caches j on.cache on.among in
     on.after ∙ ap (λ (cs : List QuantumCacheState). set old k (with_caches cs on.space)) caches ∙ set_same old k on.space on.at
 
--- one cache stands at a place
+-- one cache stands at an index
 pub one_cache : (spaces : List SpaceState) (k j : ℕ) (c d : QuantumCacheState) → IsCacheAt spaces k j c → IsCacheAt spaces k j d → c ≡ d
 one_cache spaces k j c d a b =
     let same : a.space ≡ b.space = slice_get_one spaces k a.space b.space a.at b.at in

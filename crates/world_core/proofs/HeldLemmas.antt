@@ -13,7 +13,7 @@ use Rattle.deed_core.proofs.LawProofs.{covers_is}
 use Rattle.stock.specs.Laws.{HasTop, ApartUpChain}
 use Rattle.stock_audit.specs.Outside.{segments_out, all_rounds_out}
 use Rattle.stock_audit.proofs.LawProofs.{out_never_overlaps}
-use Rattle.lease_book.specs.BookState.{leased}
+use Rattle.lease_book.specs.BookState.{leased_segments}
 use Rattle.lease_client.specs.declared.held.HeldSegment.{HeldSegment}
 use Rattle.lease_client.specs.ClientState.{ClientState}
 use Rattle.lease_history.specs.Known.{told_segment}
@@ -23,18 +23,18 @@ use Rattle.world_core.specs.Safe.{CoversIn, HeldApart}
 
 -- Sums of lists.
 
-at_place : {X : Type 0} (f : X → ℕ) (xs : List X) (i : ℕ) (x : X) → slice_get xs i ≡ Some x → f x ≤ sum_by f xs
-at_place f [] i x at = absurd (let e : None ≡ Some x = at in cc)
-at_place f (y ∷ xs) zero x at = (let same : f y ≡ f x = ap f (let e : y ≡ x = cc in e) in omega (arith, sum_by-cons f y xs))
-at_place f (y ∷ xs) (suc i) x at = omega (arith, at_place f xs i x at, sum_by-cons f y xs)
+at_index : {X : Type 0} (f : X → ℕ) (xs : List X) (i : ℕ) (x : X) → slice_get xs i ≡ Some x → f x ≤ sum_by f xs
+at_index f [] i x at = absurd (let e : None ≡ Some x = at in cc)
+at_index f (y ∷ xs) zero x at = (let same : f y ≡ f x = ap f (let e : y ≡ x = cc in e) in omega (arith, sum_by-cons f y xs))
+at_index f (y ∷ xs) (suc i) x at = omega (arith, at_index f xs i x at, sum_by-cons f y xs)
 
--- two members at two places
-at_places : {X : Type 0} (f : X → ℕ) (xs : List X) (i j : ℕ) (x y : X) → i ≢ j → slice_get xs i ≡ Some x → slice_get xs j ≡ Some y → f x + f y ≤ sum_by f xs
-at_places f [] i j x y differ here there = absurd (let e : None ≡ Some x = here in cc)
-at_places f (z ∷ xs) zero zero x y differ here there = absurd (differ refl)
-at_places f (z ∷ xs) zero (suc j) x y differ here there = (let same : f z ≡ f x = ap f (let e : z ≡ x = cc in e) in omega (arith, at_place f xs j y there, sum_by-cons f z xs))
-at_places f (z ∷ xs) (suc i) zero x y differ here there = (let same : f z ≡ f y = ap f (let e : z ≡ y = cc in e) in omega (arith, at_place f xs i x here, sum_by-cons f z xs))
-at_places f (z ∷ xs) (suc i) (suc j) x y differ here there = omega (arith, at_places f xs i j x y (λ e. differ (ap suc e)) here there, sum_by-cons f z xs)
+-- two members at two indexes
+at_indexes : {X : Type 0} (f : X → ℕ) (xs : List X) (i j : ℕ) (x y : X) → i ≢ j → slice_get xs i ≡ Some x → slice_get xs j ≡ Some y → f x + f y ≤ sum_by f xs
+at_indexes f [] i j x y differ here there = absurd (let e : None ≡ Some x = here in cc)
+at_indexes f (z ∷ xs) zero zero x y differ here there = absurd (differ refl)
+at_indexes f (z ∷ xs) zero (suc j) x y differ here there = (let same : f z ≡ f x = ap f (let e : z ≡ x = cc in e) in omega (arith, at_index f xs j y there, sum_by-cons f z xs))
+at_indexes f (z ∷ xs) (suc i) zero x y differ here there = (let same : f z ≡ f y = ap f (let e : z ≡ y = cc in e) in omega (arith, at_index f xs i x here, sum_by-cons f z xs))
+at_indexes f (z ∷ xs) (suc i) (suc j) x y differ here there = omega (arith, at_indexes f xs i j x y (λ e. differ (ap suc e)) here there, sum_by-cons f z xs)
 
 all_nothing : {X : Type 0} (f : X → ℕ) (xs : List X) → ((i : ℕ) (x : X) → slice_get xs i ≡ Some x → f x ≡ 0) → sum_by f xs ≡ 0
 all_nothing f [] none = refl
@@ -132,8 +132,8 @@ module _ (w : WorldState) (is : IsWorld w) (top unit : ℕ) (s t : HeldSegment) 
   in_space x some =
       let is_some = weight_some s.arena t.arena unit (told_segment (arena_name w.names) x) some in
       let home : HasTop w.stock x.arena top = elim is_some.0 [
-        | inl a ↦ subst (λ (k : ℕ). HasTop w.stock k top) (sym (is.names x.arena first.place first.named.within (a ∙ sym first.named.is))) first.under
-        | inr b ↦ subst (λ (k : ℕ). HasTop w.stock k top) (sym (is.names x.arena second.place second.named.within (b ∙ sym second.named.is))) second.under
+        | inl a ↦ subst (λ (k : ℕ). HasTop w.stock k top) (sym (is.names x.arena first.index first.named.within (a ∙ sym first.named.is))) first.under
+        | inr b ↦ subst (λ (k : ℕ). HasTop w.stock k top) (sym (is.names x.arena second.index second.named.within (b ∙ sym second.named.is))) second.under
       ] in
       (home, is_some.1)
 
@@ -158,21 +158,21 @@ module _ (w : WorldState) (is : IsWorld w) (top unit : ℕ) (s t : HeldSegment) 
       apart i j x y before here there some = nothing (told_weight y) (λ more.
           pair i j x y before here there top (in_space x some).0 (in_space y more).0 unit (in_space x some).1 (in_space y more).1)
 
-  one_leased : sum_by told_weight (leased w.book) ≤ 1
-  one_leased = omega (arith, one_out, sum_by-append told_weight (in_hands w.hands) (leased w.book ++ all_rounds_out w.caches), sum_by-append told_weight (leased w.book) (all_rounds_out w.caches))
+  one_leased : sum_by told_weight (leased_segments w.book) ≤ 1
+  one_leased = omega (arith, one_out, sum_by-append told_weight (in_hands w.hands) (leased_segments w.book ++ all_rounds_out w.caches), sum_by-append told_weight (leased_segments w.book) (all_rounds_out w.caches))
 
--- so one place alone
+-- so one index alone
 pub held_apart : (w : WorldState) → IsWorld w
-    → ((f : HeldSegment → ℕ) → sum_by (λ (c : ClientState). sum_by f c.held) w.clients ≤ sum_by (λ x. f (told_segment (arena_name w.names) x)) (leased w.book)) → HeldApart w
+    → ((f : HeldSegment → ℕ) → sum_by (λ (c : ClientState). sum_by f c.held) w.clients ≤ sum_by (λ x. f (told_segment (arena_name w.names) x)) (leased_segments w.book)) → HeldApart w
 held_apart w is all top unit c d i j x y s t client member other another first second =
     elim (same_number c d) [
       | inl one ↦ elim (same_number i j) [
-        | inl place ↦ (one, place)
+        | inl index ↦ (one, index)
         | inr differ ↦ absurd (let same : x ≡ y = (let e : Some x ≡ Some y = sym client ∙ ap (slice_get w.clients) one ∙ other in cc) in
             let there : slice_get x.held j ≡ Some t = ap (λ (z : ClientState). slice_get z.held j) same ∙ another in
-            omega (arith, low, high, most, at_places (weight s.arena t.arena unit) x.held i j s t differ member there, at_place (λ (z : ClientState). sum_by (weight s.arena t.arena unit) z.held) w.clients c x client))
+            omega (arith, low, high, most, at_indexes (weight s.arena t.arena unit) x.held i j s t differ member there, at_index (λ (z : ClientState). sum_by (weight s.arena t.arena unit) z.held) w.clients c x client))
       ]
-      | inr differ ↦ absurd (omega (arith, low, high, most, at_places (λ (z : ClientState). sum_by (weight s.arena t.arena unit) z.held) w.clients c d x y differ client other, at_place (weight s.arena t.arena unit) x.held i s member, at_place (weight s.arena t.arena unit) y.held j t another))
+      | inr differ ↦ absurd (omega (arith, low, high, most, at_indexes (λ (z : ClientState). sum_by (weight s.arena t.arena unit) z.held) w.clients c d x y differ client other, at_index (weight s.arena t.arena unit) x.held i s member, at_index (weight s.arena t.arena unit) y.held j t another))
     ]
   where
     same_number : (m n : ℕ) → (m ≡ n) ⊎ (m ≢ n)

@@ -11,7 +11,7 @@ use Rattle.lease_terms.specs.Names.{is_name}
 use Rattle.stock_audit.specs.Outside.{outside}
 use Rattle.stock_audit.specs.Accounted.{IsAccountedFor}
 use Rattle.lease_proto.specs.declared.lines.Line.{Line}
-use Rattle.lease_book.specs.BookState.{leased}
+use Rattle.lease_book.specs.BookState.{leased_segments}
 use Rattle.world_core.specs.declared.tasks.Task.{Task}
 use Rattle.world_core.specs.WorldState.{WorldState, arena_name, in_hands, Each}
 use Rattle.world_core.specs.IsWorld.{IsWorld, AreNames, IsOfLines}
@@ -66,7 +66,7 @@ with_cpus w cpus hands tasks is h t =
     let hs = sym h in
     let ts = sym t in
     subst IsWorld (λ j. record w { hands = hs j; tasks = ts j }) (record {
-      parts = subst (λ (out : List Tag). IsAccountedFor w.stock (outside out (leased w.book) w.caches)) (sym (none_held cpus)) is.parts;
+      parts = subst (λ (out : List Tag). IsAccountedFor w.stock (outside out (leased_segments w.book) w.caches)) (sym (none_held cpus)) is.parts;
       named = is.named;
       few = is.few;
       names = is.names;

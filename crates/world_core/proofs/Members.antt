@@ -42,20 +42,20 @@ not_same : (a b : ℕ) → nat_eq a b ≡ false → a ≢ b
 not_same a b differ = λ same. grind (arith, nat_tests)
 
 -- no two members have one number
-pub one_place : {X : Type 0} (f : X → ℕ) (xs : List X) (j k : ℕ) (x y : X) → IsDistinct nat_eq (map f xs)
+pub one_index : {X : Type 0} (f : X → ℕ) (xs : List X) (j k : ℕ) (x y : X) → IsDistinct nat_eq (map f xs)
     → slice_get xs j ≡ Some x → slice_get xs k ≡ Some y → f x ≡ f y → j ≡ k
-one_place f [] j k x y distinct here there same = absurd (let e : None ≡ Some x = here in cc)
-one_place f (z ∷ xs) zero zero x y distinct here there same = refl
-one_place f (z ∷ xs) zero (suc k) x y distinct here there same =
+one_index f [] j k x y distinct here there same = absurd (let e : None ≡ Some x = here in cc)
+one_index f (z ∷ xs) zero zero x y distinct here there same = refl
+one_index f (z ∷ xs) zero (suc k) x y distinct here there same =
     let head = all_at (λ n. nat_eq (f z) n ≡ false) (map f xs) k (f y) (IsDistinct-head nat_eq (f z) (map f xs) distinct) (slice_get_mapped f xs k y there) in
     let is : z ≡ x = cc in
     absurd (not_same (f z) (f y) head (ap f is ∙ same))
-one_place f (z ∷ xs) (suc j) zero x y distinct here there same =
+one_index f (z ∷ xs) (suc j) zero x y distinct here there same =
     let head = all_at (λ n. nat_eq (f z) n ≡ false) (map f xs) j (f x) (IsDistinct-head nat_eq (f z) (map f xs) distinct) (slice_get_mapped f xs j x here) in
     let is : z ≡ y = cc in
     absurd (not_same (f z) (f x) head (ap f is ∙ sym same))
-one_place f (z ∷ xs) (suc j) (suc k) x y distinct here there same =
-    ap suc (one_place f xs j k x y (IsDistinct-tail nat_eq (f z) (map f xs) distinct) here there same)
+one_index f (z ∷ xs) (suc j) (suc k) x y distinct here there same =
+    ap suc (one_index f xs j k x y (IsDistinct-tail nat_eq (f z) (map f xs) distinct) here there same)
 
 take_suc : {X : Type 0} (xs : List X) (i : ℕ) (x : X) → slice_get xs i ≡ Some x → take (suc i) xs ≡ take i xs ++ x ∷ []
 take_suc [] i x at = absurd (let e : None ≡ Some x = at in cc)

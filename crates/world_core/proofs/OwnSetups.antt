@@ -15,7 +15,7 @@ use Rattle.stock.specs.OwnCaches.{OwnCacheState, own_rounds}
 use Rattle.stock_audit.specs.Outside.{outside, all_rounds_out}
 use Rattle.stock_audit.specs.Accounted.{IsOwnIn}
 use Rattle.stock_audit.proofs.LawProofs.{cpus_keep}
-use Rattle.lease_book.specs.BookState.{leased}
+use Rattle.lease_book.specs.BookState.{leased_segments}
 use Rattle.world_core.specs.WorldState.{WorldState, in_hands}
 use Rattle.world_core.specs.IsWorld.{IsWorld, AreInOrder, IsBefore}
 use Rattle.world_core.proofs.Members.{take_next}
@@ -47,10 +47,10 @@ module _ (os ps : List ℕ) (cs ds : List OwnCacheState) (a : AreInOrder os cs) 
     at : slice_get cs i ≡ Some o
 
   record InSecond (i cpu : ℕ) (o : OwnCacheState) : Type 0 where
-    place : ℕ
-    is : i ≡ length os + place
-    owner : slice_get ps place ≡ Some cpu
-    at : slice_get ds place ≡ Some o
+    index : ℕ
+    is : i ≡ length os + index
+    owner : slice_get ps index ≡ Some cpu
+    at : slice_get ds index ≡ Some o
 
   either : (i cpu : ℕ) (o : OwnCacheState) → slice_get (os ++ ps) i ≡ Some cpu → slice_get (cs ++ ds) i ≡ Some o → InFirst i cpu o ⊎ InSecond i cpu o
   either i cpu o owner at = by (joined os ps i cpu owner) (joined cs ds i o at)
@@ -62,7 +62,7 @@ module _ (os ps : List ℕ) (cs ds : List OwnCacheState) (a : AreInOrder os cs) 
       by (inr x) (inl y) = absurd (let e = slice_get_within cs i o y in omega (arith, e, x.1, a.owned))
       by (inr x) (inr y) =
           let same : y.0 ≡ x.0 = omega (arith, x.1, y.1, a.owned) in
-          inr (record { place = x.0; is = x.1; owner = x.2; at = subst (λ (n : ℕ). slice_get ds n ≡ Some o) same y.2 })
+          inr (record { index = x.0; is = x.1; owner = x.2; at = subst (λ (n : ℕ). slice_get ds n ≡ Some o) same y.2 })
 
   pub in_order_joined : AreInOrder (os ++ ps) (cs ++ ds)
   in_order_joined = record {
@@ -72,9 +72,9 @@ module _ (os ps : List ℕ) (cs ds : List OwnCacheState) (a : AreInOrder os cs) 
     where
       by : (i j cpu : ℕ) (o p : OwnCacheState) → i < j → InFirst i cpu o ⊎ InSecond i cpu o → InFirst j cpu p ⊎ InSecond j cpu p → IsBefore o p
       by i j cpu o p less (inl x) (inl y) = a.order i j cpu o p less x.owner x.at y.owner y.at
-      by i j cpu o p less (inl x) (inr y) = apart i y.place cpu o p x.owner x.at y.owner y.at
+      by i j cpu o p less (inl x) (inr y) = apart i y.index cpu o p x.owner x.at y.owner y.at
       by i j cpu o p less (inr x) (inl y) = absurd (let e = slice_get_within os j cpu y.owner in omega (arith, e, less, x.is))
-      by i j cpu o p less (inr x) (inr y) = b.order x.place y.place cpu o p (omega (arith, less, x.is, y.is)) x.owner x.at y.owner y.at
+      by i j cpu o p less (inr x) (inr y) = b.order x.index y.index cpu o p (omega (arith, less, x.is, y.is)) x.owner x.at y.owner y.at
 
 -- Those of one arena.
 
@@ -107,12 +107,12 @@ row_in_order cpu arena quantum n = record {
 -- Those of all arenas.
 
 record IsOneOf (k : ℕ) (arenas : List TreeArena) (o : OwnCacheState) : Type 0 where
-  place : ℕ
+  index : ℕ
   number : ℕ
   arena : TreeArena
-  at : slice_get arenas place ≡ Some arena
+  at : slice_get arenas index ≡ Some arena
   within : number < arena.qcache_max / arena.quantum
-  is : o ≡ empty_own (k + place) number arena.quantum
+  is : o ≡ empty_own (k + index) number arena.quantum
 
 rows_member : (k : ℕ) (arenas : List TreeArena) (i : ℕ) (o : OwnCacheState) → slice_get (own_rows k arenas) i ≡ Some o → IsOneOf k arenas o
 rows_member k [] i o at = absurd (let e : None ≡ Some o = at in cc)
@@ -120,11 +120,11 @@ rows_member k (x ∷ arenas) i o at = elim (joined (own_row k x.quantum (x.qcach
   | inl here ↦
       let m = row_member k x.quantum (x.qcache_max / x.quantum) i o here in
       let same : k ≡ k + 0 = omega arith in
-      record { place = 0; number = i; arena = x; at = refl; within = m.0; is = m.1 ∙ ap (λ (n : ℕ). empty_own n i x.quantum) same }
+      record { index = 0; number = i; arena = x; at = refl; within = m.0; is = m.1 ∙ ap (λ (n : ℕ). empty_own n i x.quantum) same }
   | inr there ↦
       let m = rows_member (k + 1) arenas there.0 o there.2 in
-      let same : (k + 1) + m.place ≡ k + suc m.place = omega arith in
-      record { place = suc m.place; number = m.number; arena = m.arena; at = m.at; within = m.within; is = m.is ∙ ap (λ (n : ℕ). empty_own n m.number m.arena.quantum) same }
+      let same : (k + 1) + m.index ≡ k + suc m.index = omega arith in
+      record { index = suc m.index; number = m.number; arena = m.arena; at = m.at; within = m.within; is = m.is ∙ ap (λ (n : ℕ). empty_own n m.number m.arena.quantum) same }
 ]
 
 rows_in_order : (cpu k : ℕ) (arenas : List TreeArena) → AreInOrder (replicate (length (own_rows k arenas)) cpu) (own_rows k arenas)
@@ -172,21 +172,21 @@ no_rounds (x ∷ xs) none =
 module _ (arenas : List TreeArena) (tree : IsTree arenas) (stock : List SpaceState) (plans : plans_of stock ≡ plans_for arenas) where
   is_own : (o : OwnCacheState) → IsOneOf 0 arenas o → IsOwnIn stock o
   is_own o m =
-      let planned : slice_get (plans_of stock) m.place ≡ Some (plan_for m.arena) = ap (λ (ps : List SpacePlan). slice_get ps m.place) plans ∙ slice_get_mapped plan_for arenas m.place m.arena m.at in
-      let space = mapped plan_of stock m.place (plan_for m.arena) planned in
+      let planned : slice_get (plans_of stock) m.index ≡ Some (plan_for m.arena) = ap (λ (ps : List SpacePlan). slice_get ps m.index) plans ∙ slice_get_mapped plan_for arenas m.index m.arena m.at in
+      let space = mapped plan_of stock m.index (plan_for m.arena) planned in
       let s = space.0 in
       let quantum : m.arena.quantum ≡ s.arena.quantum = ap (λ (p : SpacePlan). p.quantum) space.2 in
       let sizes = ap (λ (p : SpacePlan). length p.slab_sizes) space.2 in
       let count : m.arena.qcache_max / m.arena.quantum ≡ length s.caches =
       sym (length-replicate (m.arena.qcache_max / m.arena.quantum) m.arena.slab_size) ∙ sizes ∙ length-map s.caches slab_size_of in
       let cache = slice_get_some s.caches m.number (let w = m.within in omega (arith, w, count)) in
-      let power = power_some m.arena.quantum (tree.each m.place m.arena m.at).power in
-      let first : 0 + m.place ≡ m.place = omega arith in
-      let here : o ≡ empty_own m.place m.number m.arena.quantum = m.is ∙ ap (λ (n : ℕ). empty_own n m.number m.arena.quantum) first in
+      let power = power_some m.arena.quantum (tree.each m.index m.arena m.at).power in
+      let first : 0 + m.index ≡ m.index = omega arith in
+      let here : o ≡ empty_own m.index m.number m.arena.quantum = m.is ∙ ap (λ (n : ℕ). empty_own n m.number m.arena.quantum) first in
       subst (IsOwnIn stock) (sym here) (record {
         own = record { some = power; rounds = all_from _ [] (λ k t at. absurd (let e = slice_get_within [] k t at in omega (arith, e))) };
         has = (cache.0, record { space = s; at = space.1; among = cache.1 });
-        quantum = λ x at. (let same : x ≡ s = slice_get_one stock m.place x s at space.1 in ap (λ (y : SpaceState). y.arena.quantum) same ∙ sym quantum);
+        quantum = λ x at. (let same : x ≡ s = slice_get_one stock m.index x s at space.1 in ap (λ (y : SpaceState). y.arena.quantum) same ∙ sym quantum);
       })
 
 pub with_own : (w : WorldState) (cpus : ℕ) (arenas : List TreeArena) (owners : List ℕ) (caches : List OwnCacheState) → IsWorld (record w { owners = []; caches = [] }) → IsTree arenas → plans_of w.stock ≡ plans_for arenas
@@ -196,7 +196,7 @@ with_own w cpus arenas owners caches is tree plans os cs =
     let among = sym cs in
     let all = own_caches cpus arenas in
     subst IsWorld (λ j. record w { owners = of j; caches = among j }) (record {
-      parts = cpus_keep w.stock (outside (in_hands w.hands) (leased w.book) []) (outside (in_hands w.hands) (leased w.book) all) is.parts (record {
+      parts = cpus_keep w.stock (outside (in_hands w.hands) (leased_segments w.book) []) (outside (in_hands w.hands) (leased_segments w.book) all) is.parts (record {
         hands = refl;
         leases = refl;
         rounds = λ f. ap (sum_by f) (sym (no_rounds all (λ k o at. ap own_rounds (caches_member cpus arenas k o at).is)));

@@ -20,7 +20,7 @@ use Rattle.lease_client.specs.Calls.{IsSent, refusal}
 use Rattle.lease_client.specs.declared.faults.SendFault.{SendFault}
 use Rattle.lease_client.specs.declared.faults.SendFault.TheVariants.{NotOpen, Busy, NotHeld, Exhausted, NoMemory}
 use Rattle.world_core.specs.declared.logs.Logged.{Logged}
-use Rattle.world_core.specs.WorldState.{WorldState, IsAmong, entry_of, entries_of}
+use Rattle.world_core.specs.WorldState.{WorldState, IsAmong, logged_entry, entries_of}
 use Rattle.world_core.specs.Events.{EndsAs}
 use Rattle.world_core.specs.declared.events.WorldEvent.TheVariants as events
 use Rattle.world_core.specs.declared.events.Outcome.TheVariants.{Done}
@@ -30,8 +30,8 @@ pub onto : {X : Type 0} (new mid old : List X) (x : X) → new ≡ mid ++ x ∷ 
 onto new mid old x put same = put ∙ ap (λ (xs : List _). xs ++ x ∷ []) same
 
 -- an entry is stored
-pub logged_on : (new old : List Logged) (e : Logged) → new ≡ old ++ e ∷ [] → entries_of new ≡ entry_of e ∷ entries_of old
-logged_on new old e is = ap entries_of is ∙ ap reverse (map-append entry_of old (e ∷ [])) ∙ reverse-append (map entry_of old) (entry_of e ∷ [])
+pub logged_on : (new old : List Logged) (e : Logged) → new ≡ old ++ e ∷ [] → entries_of new ≡ logged_entry e ∷ entries_of old
+logged_on new old e is = ap entries_of is ∙ ap reverse (map-append logged_entry old (e ∷ [])) ∙ reverse-append (map logged_entry old) (logged_entry e ∷ [])
 
 pub found_among : {X : Type 0} (test : X → Bool) (xs : List X) (x : X) → find test xs ≡ Some x → IsAmong x xs
 found_among test [] x is = absurd (let e : None ≡ Some x = is in cc)
@@ -44,10 +44,10 @@ found_among test (y ∷ xs) x is = by (test y) (λ there. found_among test xs x 
 -- Clients.
 
 -- a client that says nothing is as it was
-pub unsaid : (w : WorldState) (place : ℕ) (read back : ClientState) (requests : List Line) → slice_get w.clients place ≡ Some read → back ≡ read → requests ≡ w.requests
-    → record w { clients = set w.clients place back; requests = requests } ≡ w
-unsaid w place read back requests here same lines =
-    let clients : set w.clients place back ≡ w.clients = ap (set w.clients place) same ∙ set_same w.clients place read here in
+pub unsaid : (w : WorldState) (index : ℕ) (read back : ClientState) (requests : List Line) → slice_get w.clients index ≡ Some read → back ≡ read → requests ≡ w.requests
+    → record w { clients = set w.clients index back; requests = requests } ≡ w
+unsaid w index read back requests here same lines =
+    let clients : set w.clients index back ≡ w.clients = ap (set w.clients index) same ∙ set_same w.clients index read here in
     λ j. record w { clients = clients j; requests = lines j }
 
 pub not_sent : (op : Op) (old new : ClientState) (fault : SendFault) → IsSent op old new (Err fault) → ((back : Op) → fault ≡ NoMemory back → ⊥)
@@ -58,10 +58,10 @@ not_sent op old new (NotHeld back) sent other = sent
 not_sent op old new (Exhausted back) sent other = sent
 not_sent op old new (NoMemory back) sent other = absurd (other back refl)
 
-pub said_again : (w : WorldState) (place : ℕ) (x : ClientState) (line : Line) (requests : List Line) → slice_get w.clients place ≡ Some x → x.outstanding ≡ Some line
-    → requests ≡ w.requests ++ line ∷ [] → EndsAs (events.Repeats place) Done w (record w { requests = requests })
-said_again w place x line requests here out lines =
-    let same : w.clients ≡ set w.clients place x = sym (set_same w.clients place x here) in (
+pub said_again : (w : WorldState) (index : ℕ) (x : ClientState) (line : Line) (requests : List Line) → slice_get w.clients index ≡ Some x → x.outstanding ≡ Some line
+    → requests ≡ w.requests ++ line ∷ [] → EndsAs (events.Repeats index) Done w (record w { requests = requests })
+said_again w index x line requests here out lines =
+    let same : w.clients ≡ set w.clients index x = sym (set_same w.clients index x here) in (
       (x, line, here, out),
       record {
         client = x;

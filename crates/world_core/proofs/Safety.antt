@@ -6,7 +6,7 @@ use Rattle.deed_core.specs.Tag.{Tag}
 use Rattle.deed_core.specs.Request.{Fits}
 use Rattle.deed_core.proofs.LawProofs.{sum_by-map}
 use Rattle.stock.specs.Accounts.{IsAccounted}
-use Rattle.stock.proofs.LawProofs.{one_place}
+use Rattle.stock.proofs.LawProofs.{one_home}
 use Rattle.stock_audit.specs.Outside.{out_of, segments_out}
 use Rattle.stock_audit.proofs.LawProofs.{accounted_balances, allocated_is_out, exported_is_children}
 use Rattle.lease_terms.specs.Requests.{RequestId}
@@ -16,7 +16,7 @@ use Rattle.lease_book.specs.Account.{Lease, Account}
 use Rattle.lease_book.specs.Entry.{Entry, Settled, Hello, Swept, Grant}
 use Rattle.lease_book.specs.declared.receipts.Terms.{Terms}
 use Rattle.lease_book.specs.History.{leases_of, AreOrderly}
-use Rattle.lease_book.specs.BookState.{segments, weight_of, leased}
+use Rattle.lease_book.specs.BookState.{segments, weight_of, leased_segments}
 use Rattle.lease_book.proofs.LawProofs.{account_is, leases_are_the_clients}
 use Rattle.lease_client.specs.declared.held.HeldSegment.{HeldSegment}
 use Rattle.lease_client.specs.ClientState.{ClientState}
@@ -45,7 +45,7 @@ in_le names i f leases =
 
 -- what clients hold together is leased
 all_held : (w : WorldState) → IsWorld w → (f : HeldSegment → ℕ)
-    → sum_by (λ (c : ClientState). sum_by f c.held) w.clients ≤ sum_by (λ t. f (told_segment (arena_name w.names) t)) (leased w.book)
+    → sum_by (λ (c : ClientState). sum_by f c.held) w.clients ≤ sum_by (λ t. f (told_segment (arena_name w.names) t)) (leased_segments w.book)
 all_held w is f =
     let names = arena_name w.names in
     let g : Tag → ℕ = λ t. f (told_segment names t) in
@@ -88,7 +88,7 @@ fits_in (Swept c i a b ∷ es) (suc k) id t terms orderly at = fits_in es k id t
 pub safe : (w : WorldState) → IsWorld w → Safe w
 safe w is = record {
   parts = is.parts;
-  places = λ k s at unit. (let one = one_place w.stock (out_of (outside_of w)) (accounted w is) k s at unit in record { once = one.0; one = one.1 });
+  homes = λ k s at unit. (let one = one_home w.stock (out_of (outside_of w)) (accounted w is) k s at unit in record { once = one.0; one = one.1 });
   exports = λ k s at. record {
     allocated = λ f. allocated_is_out w.stock (outside_of w) is.parts k s at f;
     exported = λ f. exported_is_children w.stock (outside_of w) is.parts k s at f;

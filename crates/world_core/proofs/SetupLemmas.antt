@@ -16,7 +16,7 @@ use Rattle.lease_proto.specs.declared.lines.Line.{Line}
 use Rattle.lease_proto.specs.declared.replies.Reply.{Reply}
 use Rattle.lease_book.specs.Account.{Account}
 use Rattle.lease_book.specs.Entry.{Entry}
-use Rattle.lease_book.specs.BookState.{BookState, IsHistory, leased_by, leased}
+use Rattle.lease_book.specs.BookState.{BookState, IsHistory, leased_by, leased_segments}
 use Rattle.lease_client.specs.ClientState.{ClientState, silent}
 use Rattle.lease_history.specs.Known.{IsKnown}
 use Rattle.lease_history.proofs.LawProofs.{clients_begin_known}
@@ -81,7 +81,7 @@ cpu_added w hands tasks failed is h t =
     let hs = sym h in
     let ts = sym t in
     subst IsWorld (λ j. record w { hands = hs j; tasks = ts j; failed = failed }) (record {
-      parts = subst (λ (out : List Tag). IsAccountedFor w.stock (outside out (leased w.book) w.caches)) (sym (no_more w.hands)) is.parts;
+      parts = subst (λ (out : List Tag). IsAccountedFor w.stock (outside out (leased_segments w.book) w.caches)) (sym (no_more w.hands)) is.parts;
       named = is.named;
       few = is.few;
       names = is.names;

@@ -11,7 +11,7 @@ use Rattle.stock.proofs.LawProofs.{plans_stay}
 use Rattle.stock_audit.specs.Keeping.{IsStep}
 use Rattle.lease_proto.specs.declared.lines.Line.{Line}
 use Rattle.lease_book.specs.Entry.{Entry, Settled, Hello, Swept, Grant, Return, Refuse}
-use Rattle.lease_book.specs.BookState.{leased}
+use Rattle.lease_book.specs.BookState.{leased_segments}
 use Rattle.world_core.specs.WorldState.{WorldState, in_hands}
 use Rattle.world_core.specs.Moves.{HandMoves, PartMoves}
 use Rattle.world_core.specs.IsWorld.{IsWorld, IsDue}
@@ -45,7 +45,7 @@ pub part_move_keeps : (Does : List SpaceState → List SpaceState → Type 0) (w
 part_move_keeps Does w v is m =
     let stay = plans_stay w.stock m.stock m.step.fixed in
     subst IsWorld (sym m.after) (record {
-      parts = part_moved w.stock m.stock (in_hands w.hands) (leased w.book) w.caches m.step is.parts;
+      parts = part_moved w.stock m.stock (in_hands w.hands) (leased_segments w.book) w.caches m.step is.parts;
       named = is.named ∙ sym stay.0;
       few = is.few;
       names = is.names;
@@ -65,7 +65,7 @@ pub hand_move_keeps : (cpu : ℕ) (given answered : Option Tag) (Does : List Spa
 hand_move_keeps cpu given answered Does w v is m =
     let stay = plans_stay w.stock m.stock m.step.fixed in
     subst IsWorld (sym m.after) (record {
-      parts = hand_moved w.stock w.hands (leased w.book) w.caches cpu given answered m.holds m.stock m.step is.parts;
+      parts = hand_moved w.stock w.hands (leased_segments w.book) w.caches cpu given answered m.holds m.stock m.step is.parts;
       named = is.named ∙ sym stay.0;
       few = is.few;
       names = is.names;

@@ -13,13 +13,13 @@ use Rattle.stock.specs.Spaces.{SpaceState, QuantumCacheState, IsCacheAt, HasCach
 use Rattle.stock.specs.Stocks.{IsStock}
 use Rattle.stock.specs.Accounts.{Frames}
 use Rattle.stock.specs.Steps.{OnDepot}
-use Rattle.stock.specs.OwnCaches.{OwnCacheState, IsOwnCache, IsAtPlaceOf, own_rounds}
+use Rattle.stock.specs.OwnCaches.{OwnCacheState, IsOwnCache, IsAtIndexesOf, own_rounds}
 use Rattle.stock.proofs.LawProofs.{out_weighs}
 use Rattle.stock_audit.specs.Keeping.{IsStep}
 use Rattle.world_core.specs.WorldState.{WorldState}
 use Rattle.world_core.specs.Moves.{IsOwnFor, OwnMoves}
 use Rattle.world_core.specs.IsWorld.{IsWorld}
-use Rattle.world_core.specs.Events.{EndsAs, HasOwn, HasDepot, CanChange}
+use Rattle.world_core.specs.Events.{EndsAs, HasOwn, HasDepot, CanGrowTo}
 use Rattle.world_core.specs.declared.events.WorldEvent.TheVariants as events
 use Rattle.world_core.specs.declared.events.EventFault.TheVariants as faults
 use Rattle.world_core.specs.declared.events.Outcome.TheVariants.{Done, NoMemory, Refused}
@@ -29,13 +29,13 @@ use Rattle.world_core.proofs.OwnLemmas.{one_own, own_in, caches_same}
 not_nil : {X : Type 0} (xs : List X) (x : X) → xs ++ x ∷ [] ≡ [] → ⊥
 not_nil xs x is = (let e = ap length is in omega (arith, e, length-append xs (x ∷ [])))
 
-module _ (w : WorldState) (cpu arena cache place : ℕ) (own : OwnCacheState) (is : IsWorld w) (here : IsOwnFor w cpu arena cache place own) where
+module _ (w : WorldState) (cpu arena cache index : ℕ) (own : OwnCacheState) (is : IsWorld w) (here : IsOwnFor w cpu arena cache index own) where
   -- the CPU's one cache for it isn't so
   pub not_so : (Is : CpuCacheState → Type 0) → ¬ Is own.cpu → ¬ HasOwn w cpu arena cache Is
-  not_so Is not has = not (subst (λ (o : OwnCacheState). Is o.cpu) (one_own w cpu arena cache has.place place has.own own is has.here here) has.is)
+  not_so Is not has = not (subst (λ (o : OwnCacheState). Is o.cpu) (one_own w cpu arena cache has.index index has.own own is has.here here) has.is)
 
   pub so : (Is : CpuCacheState → Type 0) → Is own.cpu → HasOwn w cpu arena cache Is
-  so Is is_so = record { place = place; own = own; here = here; is = is_so }
+  so Is is_so = record { index = index; own = own; here = here; is = is_so }
 
   -- the depot that it is for
   depot_of : (P : DepotState → DepotState → Type 0) (s v : List SpaceState) → OnDepot own.arena own.cache P s v → OnDepot arena cache P s v
@@ -43,13 +43,13 @@ module _ (w : WorldState) (cpu arena cache place : ℕ) (own : OwnCacheState) (i
 
   has_depot : (P : DepotState → DepotState → Type 0) (v : List SpaceState) (Are : CpuCacheState → DepotState → Type 0) (on : OnDepot arena cache P w.stock v) → Are own.cpu on.cache.depot
       → HasDepot w cpu arena cache Are
-  has_depot P v Are on are = record { place = place; own = own; depot = on.cache; here = here; at = record { space = on.space; at = on.at; among = on.among }; are = are }
+  has_depot P v Are on are = record { index = index; own = own; depot = on.cache; here = here; at = record { space = on.space; at = on.at; among = on.among }; are = are }
 
-  module _ (next : OwnCacheState) (same : IsAtPlaceOf own next) (stock : List SpaceState) (caches : List OwnCacheState) (gone : caches ≡ set w.caches place next) where
+  module _ (next : OwnCacheState) (same : IsAtIndexesOf own next) (stock : List SpaceState) (caches : List OwnCacheState) (gone : caches ≡ set w.caches index next) where
     left : (P : DepotState → DepotState → Type 0) (on : OnDepot arena cache P w.stock stock) → on.depot ≡ on.cache.depot → next.cpu ≡ own.cpu → record w { stock = stock; caches = caches } ≡ w
     left P on depot cpus =
         let s = depot_same arena cache P w.stock stock on depot in
-        let c = gone ∙ caches_same w place own next here.mine.at same cpus in
+        let c = gone ∙ caches_same w index own next here.mine.at same cpus in
         λ j. record w { stock = s j; caches = c j }
 
     pub full_is_old : (m : ℕ) → BothEmpty own.cpu → OnDepot own.arena own.cache (λ a b. SwapFullOf own.cpu a (Err (fulling.OldSize m)) next.cpu b) w.stock stock
@@ -91,7 +91,7 @@ module _ (w : WorldState) (cpu arena cache place : ℕ) (own : OwnCacheState) (i
       moved : (Does : (old new : CpuCacheState) → (before after : List SpaceState) → Type 0) → Does own.cpu next.cpu w.stock stock → IsStep w.stock (own_rounds own) stock (own_rounds next)
           → OwnMoves cpu arena cache Does w (record w { stock = stock; caches = caches })
       moved Does does step = record {
-        place = place;
+        index = index;
         own = own;
         next = next;
         stock = stock;
@@ -124,27 +124,27 @@ module _ (w : WorldState) (cpu arena cache place : ℕ) (own : OwnCacheState) (i
 
   -- the quantum cache that it is for stands
   pub cache_stands : HasCache w.stock arena cache
-  cache_stands = subst (λ (k : ℕ). HasCache w.stock k cache) here.home (subst (λ (j : ℕ). HasCache w.stock own.arena j) here.number (own_in w place own is here.mine.at).has)
+  cache_stands = subst (λ (k : ℕ). HasCache w.stock k cache) here.home (subst (λ (j : ℕ). HasCache w.stock own.arena j) here.number (own_in w index own is here.mine.at).has)
 
   -- where its magazines may change, the new ones are greater
-  pub grows : (size : ℕ) → HasDepot w cpu arena cache (CanChange size) → IsSize size × (own.cpu.size < size)
-  grows size ready = subst (λ (o : OwnCacheState). IsSize size × (o.cpu.size < size)) (one_own w cpu arena cache ready.place place ready.own own is ready.here here) (ready.are.0, ready.are.1)
+  pub grows : (size : ℕ) → HasDepot w cpu arena cache (CanGrowTo size) → IsSize size × (own.cpu.size < size)
+  grows size ready = subst (λ (o : OwnCacheState). IsSize size × (o.cpu.size < size)) (one_own w cpu arena cache ready.index index ready.own own is ready.here here) (ready.are.0, ready.are.1)
 
   -- the depot's size being told, they may change
   pub may_change : (size told : ℕ) → ((c : QuantumCacheState) → IsCacheAt w.stock arena cache c → told ≡ c.depot.size) → IsSize size → own.cpu.size < size → size ≤ told
-      → HasDepot w cpu arena cache (CanChange size)
+      → HasDepot w cpu arena cache (CanGrowTo size)
   may_change size told tells sized greater least = (let has = cache_stands in
-      record { place = place; own = own; depot = has.0; here = here; at = has.1; are = (sized, greater, omega (arith, least, tells has.0 has.1)) })
+      record { index = index; own = own; depot = has.0; here = here; at = has.1; are = (sized, greater, omega (arith, least, tells has.0 has.1)) })
 
   -- or they may not
-  pub may_not_shrink : (size : ℕ) → size ≤ own.cpu.size → ¬ HasDepot w cpu arena cache (CanChange size)
+  pub may_not_shrink : (size : ℕ) → size ≤ own.cpu.size → ¬ HasDepot w cpu arena cache (CanGrowTo size)
   may_not_shrink size less ready = (let can = grows size ready in omega (arith, can.1, less))
 
-  pub may_not_pass : (size told : ℕ) → ((c : QuantumCacheState) → IsCacheAt w.stock arena cache c → told ≡ c.depot.size) → told < size → ¬ HasDepot w cpu arena cache (CanChange size)
+  pub may_not_pass : (size told : ℕ) → ((c : QuantumCacheState) → IsCacheAt w.stock arena cache c → told ≡ c.depot.size) → told < size → ¬ HasDepot w cpu arena cache (CanGrowTo size)
   may_not_pass size told tells less ready = omega (arith, less, ready.are.2, tells ready.depot ready.at)
 
-  pub changes : (size : ℕ) (next : OwnCacheState) (caches : List OwnCacheState) → HasDepot w cpu arena cache (CanChange size) → next.cpu ≡ after_change size own.cpu → WeighSame (own_rounds own) (own_rounds next)
-      → IsAtPlaceOf own next → IsOwnCache next → IsShaped next.cpu → caches ≡ set w.caches place next → EndsAs (events.Changes cpu arena cache size) Done w (record w { caches = caches })
+  pub changes : (size : ℕ) (next : OwnCacheState) (caches : List OwnCacheState) → HasDepot w cpu arena cache (CanGrowTo size) → next.cpu ≡ after_change size own.cpu → WeighSame (own_rounds own) (own_rounds next)
+      → IsAtIndexesOf own next → IsOwnCache next → IsShaped next.cpu → caches ≡ set w.caches index next → EndsAs (events.Changes cpu arena cache size) Done w (record w { caches = caches })
   changes size next caches can changed weights same sound shaped gone = (
     can,
     moved next same w.stock caches gone sound shaped (λ c x s v. (x ≡ after_change size c) × (v ≡ s)) (changed, refl) (record {

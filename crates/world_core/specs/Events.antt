@@ -105,38 +105,38 @@ pub record HasSpanFor (w : WorldState) (cpu arena cache : ℕ) (span : Tag) (c :
 -- the CPU's own cache for this quantum cache is so
 pub record HasOwn (w : WorldState) (cpu arena cache : ℕ) (Is : CpuCacheState → Type 0)
     : Type 0 where
-  pub place : ℕ
+  pub index : ℕ
   pub own : OwnCacheState
-  pub here : IsOwnFor w cpu arena cache place own
+  pub here : IsOwnFor w cpu arena cache index own
   pub is : Is own.cpu
 
 -- one of its own caches takes what its hand has, and has room for it
-pub record CanPush (w : WorldState) (cpu : ℕ) : Type 0 where
-  pub place : ℕ
+pub record CanPushHand (w : WorldState) (cpu : ℕ) : Type 0 where
+  pub index : ℕ
   pub own : OwnCacheState
   pub chunk : Tag
-  pub takes : TakesHand w cpu place own chunk
+  pub takes : TakesHand w cpu index own chunk
   pub room : ¬ BothFull own.cpu
 
 -- the depot of the CPU's own cache, where the two are so
 pub record HasDepot (w : WorldState) (cpu arena cache : ℕ)
     (Are : CpuCacheState → DepotState → Type 0) : Type 0 where
-  pub place : ℕ
+  pub index : ℕ
   pub own : OwnCacheState
   pub depot : QuantumCacheState
-  pub here : IsOwnFor w cpu arena cache place own
+  pub here : IsOwnFor w cpu arena cache index own
   pub at : IsCacheAt w.stock arena cache depot
   pub are : Are own.cpu depot.depot
 
 -- magazines of this size may take the place of the CPU's: they are greater, and no greater than the
 -- depot's
-abbrev pub CanChange : ℕ → CpuCacheState → DepotState → Type 0
-CanChange size c d = IsSize size × (c.size < size) × (size ≤ d.size)
+abbrev pub CanGrowTo : ℕ → CpuCacheState → DepotState → Type 0
+CanGrowTo size c d = IsSize size × (c.size < size) × (size ≤ d.size)
 
 -- the CPU has a segment in its hand, or a round in a cache of its own
 abbrev pub HasSegment : WorldState → ℕ → Type 0
 HasSegment w cpu = ((t : Tag) × HasInHand w cpu (Some t))
-    ⊎ ((place : ℕ) × (own : OwnCacheState) × HasRoundAt w cpu place own)
+    ⊎ ((index : ℕ) × (own : OwnCacheState) × HasRoundAt w cpu index own)
 
 -- where an event can be tried: the client is there, or the CPU, its hand, its request and the
 -- message are as the event asks
@@ -171,11 +171,11 @@ IsReady (events.DepotReaps cpu arena cache) w =
     HasInHand w cpu None × HasRoundToReap w arena cache
 IsReady (events.Pops cpu arena cache) w = HasInHand w cpu None
     × HasOwn w cpu arena cache (λ c. ¬ BothEmpty c)
-IsReady (events.Pushes cpu) w = CanPush w cpu
+IsReady (events.Pushes cpu) w = CanPushHand w cpu
 IsReady (events.SwapsFull cpu arena cache) w = HasOwn w cpu arena cache BothEmpty
 IsReady (events.SwapsEmpty cpu arena cache) w = HasOwn w cpu arena cache BothFull
 IsReady (events.SwapsFresh cpu arena cache) w = HasOwn w cpu arena cache BothFull
-IsReady (events.Changes cpu arena cache size) w = HasDepot w cpu arena cache (CanChange size)
+IsReady (events.Changes cpu arena cache size) w = HasDepot w cpu arena cache (CanGrowTo size)
 IsReady (events.Adopts cpu other) w = (cpu ≢ other) × (other < length w.failed)
     × HasInHand w cpu None × HasSegment w other
 IsReady (events.Ticks arena cache) w = HasCache w.stock arena cache
@@ -204,39 +204,39 @@ IsEnabled (events.SwapsFresh cpu arena cache) w = HasDepot w cpu arena cache
 IsEnabled event w = IsReady event w
 
 -- why its part refuses an event that can be tried
-abbrev pub PartRefuses : WorldEvent → EventFault → WorldState → Type 0
-PartRefuses (events.Restarts c i) faults.NotGreater w =
+abbrev pub RefusesEvent : WorldEvent → EventFault → WorldState → Type 0
+RefusesEvent (events.Restarts c i) faults.NotGreater w =
     (x : ClientState) × (slice_get w.clients c ≡ Some x) × (may_restart i x ≡ false)
-PartRefuses (events.Says c op) faults.NotOpen w = (x : ClientState) × (back : Op)
+RefusesEvent (events.Says c op) faults.NotOpen w = (x : ClientState) × (back : Op)
     × (slice_get w.clients c ≡ Some x) × (refusal op x ≡ Some (sending.NotOpen back))
-PartRefuses (events.Says c op) faults.Busy w = (x : ClientState) × (back : Op)
+RefusesEvent (events.Says c op) faults.Busy w = (x : ClientState) × (back : Op)
     × (slice_get w.clients c ≡ Some x) × (refusal op x ≡ Some (sending.Busy back))
-PartRefuses (events.Says c op) faults.NotHeld w = (x : ClientState) × (back : Op)
+RefusesEvent (events.Says c op) faults.NotHeld w = (x : ClientState) × (back : Op)
     × (slice_get w.clients c ≡ Some x) × (refusal op x ≡ Some (sending.NotHeld back))
-PartRefuses (events.Says c op) faults.Exhausted w = (x : ClientState) × (back : Op)
+RefusesEvent (events.Says c op) faults.Exhausted w = (x : ClientState) × (back : Op)
     × (slice_get w.clients c ≡ Some x) × (refusal op x ≡ Some (sending.Exhausted back))
-PartRefuses (events.Repeats c) faults.Nothing w =
+RefusesEvent (events.Repeats c) faults.Nothing w =
     (x : ClientState) × (slice_get w.clients c ≡ Some x) × (x.outstanding ≡ None)
-PartRefuses (events.Carves cpu arena q) faults.BadRequest w = HasInHand w cpu None
+RefusesEvent (events.Carves cpu arena q) faults.BadRequest w = HasInHand w cpu None
     × (s : SpaceState) × (slice_get w.stock arena ≡ Some s) × ¬ IsGood s.arena.quantum q
-PartRefuses (events.Carves cpu arena q) faults.NoFit w = HasInHand w cpu None × (s : SpaceState)
+RefusesEvent (events.Carves cpu arena q) faults.NoFit w = HasInHand w cpu None × (s : SpaceState)
     × (slice_get w.stock arena ≡ Some s) × IsGood s.arena.quantum q × IsChosen s.arena q None
-PartRefuses (events.SlabAdds cpu arena cache) faults.WrongSize w = (span : Tag)
+RefusesEvent (events.SlabAdds cpu arena cache) faults.WrongSize w = (span : Tag)
     × (c : QuantumCacheState) × HasSpanFor w cpu arena cache span c
     × (span.holding.range.len ≢ c.slab.slab_size)
-PartRefuses (events.Resizes arena cache size) faults.NotGreater w = (c : QuantumCacheState)
+RefusesEvent (events.Resizes arena cache size) faults.NotGreater w = (c : QuantumCacheState)
     × IsCacheAt w.stock arena cache c × IsSize size × (size ≤ c.depot.size)
-PartRefuses (events.SwapsFull cpu arena cache) faults.OldSize w =
+RefusesEvent (events.SwapsFull cpu arena cache) faults.OldSize w =
     HasDepot w cpu arena cache (λ c d. BothEmpty c × (c.size ≢ d.size))
-PartRefuses (events.SwapsFull cpu arena cache) faults.NoneFull w =
+RefusesEvent (events.SwapsFull cpu arena cache) faults.NoneFull w =
     HasDepot w cpu arena cache (λ c d. BothEmpty c × (c.size ≡ d.size) × (d.full ≡ []))
-PartRefuses (events.SwapsEmpty cpu arena cache) faults.OldSize w =
+RefusesEvent (events.SwapsEmpty cpu arena cache) faults.OldSize w =
     HasDepot w cpu arena cache (λ c d. BothFull c × (c.size ≢ d.size))
-PartRefuses (events.SwapsEmpty cpu arena cache) faults.NoneEmpty w =
+RefusesEvent (events.SwapsEmpty cpu arena cache) faults.NoneEmpty w =
     HasDepot w cpu arena cache (λ c d. BothFull c × (c.size ≡ d.size) × (d.empty ≡ 0))
-PartRefuses (events.SwapsFresh cpu arena cache) faults.OldSize w =
+RefusesEvent (events.SwapsFresh cpu arena cache) faults.OldSize w =
     HasDepot w cpu arena cache (λ c d. BothFull c × (c.size ≢ d.size))
-PartRefuses event why w = ⊥
+RefusesEvent event why w = ⊥
 
 -- the line that comes is a request whose number is new: nothing is written at such a look
 abbrev pub BringsNew : ℕ → WorldState → Type 0
@@ -328,7 +328,7 @@ MovesBy (events.Resizes arena cache size) old new =
 abbrev pub EndsAs : WorldEvent → Outcome → (old new : WorldState) → Type 0
 EndsAs event Done old new = IsEnabled event old × MovesBy event old new
 EndsAs event NotEnabled old new = (¬ IsReady event old) × (new ≡ old)
-EndsAs event (Refused why) old new = PartRefuses event why old × (new ≡ old)
+EndsAs event (Refused why) old new = RefusesEvent event why old × (new ≡ old)
 EndsAs event NoMemory old new = MayWantMemory event old × (new ≡ old)
 
 -- the CPU whose event it is, if it is a CPU's
@@ -367,7 +367,7 @@ HappensAs event outcome old new =
     (IsOfFailed event old × (outcome ≡ NotEnabled) × (new ≡ old))
     ⊎ ((¬ IsOfFailed event old) × EndsAs event outcome old new)
 
--- the move is made, or memory was refused
+-- the move is made, or it was out of memory
 abbrev pub Tries : (WorldState → WorldState → Type 0) → Outcome → (old new : WorldState) → Type 0
 Tries Move Done old new = Move old new
 Tries Move NotEnabled old new = ⊥

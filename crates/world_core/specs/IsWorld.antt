@@ -24,7 +24,7 @@ use Rattle.world_core.specs.declared.tasks.Task.{Task}
 use Rattle.world_core.specs.WorldState.{WorldState, arena_name, outside_of, Each, IsAmong}
 use Rattle.world_core.specs.Moves.{request_in}
 
--- no other place has the name of an arena
+-- no other index has the name of an arena
 abbrev pub AreNames : List (List ℕ) → Type 0
 AreNames names = (j k : ℕ) → k < length names → arena_name names j ≡ arena_name names k → j ≡ k
 

@@ -9,7 +9,7 @@ use Rattle.deed_core.specs.declared.requests.Request.{Request}
 use Rattle.stock.specs.Spaces.{SpaceState}
 use Rattle.magazine_layer.specs.Magazines.{CpuCacheState, IsShaped, BothEmpty}
 use Rattle.magazine_layer.specs.Calls.{PopOf, PushOf}
-use Rattle.stock.specs.OwnCaches.{OwnCacheState, IsOwnCache, IsAtPlaceOf, own_rounds}
+use Rattle.stock.specs.OwnCaches.{OwnCacheState, IsOwnCache, IsAtIndexesOf, own_rounds}
 use Rattle.stock.specs.Steps.{HasQuantum}
 use Rattle.stock.specs.Stocks.{IsRoundOf}
 use Rattle.stock_audit.specs.Keeping.{IsStep}
@@ -29,7 +29,7 @@ use Rattle.lease_book.specs.declared.receipts.KeptReply.TheVariants as kept
 use Rattle.lease_book.specs.Receipts.{ReceiptState}
 use Rattle.lease_book.specs.Entry.{Settlement, Grant, Return, Refuse, Settled, Hello, Swept}
 use Rattle.lease_book.specs.Entry.{kept_reply_of}
-use Rattle.lease_book.specs.BookState.{BookState, Enters, account_in, leased}
+use Rattle.lease_book.specs.BookState.{BookState, Enters, account_in, leased_segments}
 use Rattle.lease_book.specs.Answers.{IsNew, IsRepeated, IsOld, IsStale, IsGap}
 use Rattle.lease_book.specs.Account.{is_lease}
 use Rattle.lease_book.specs.declared.books.TheConstants.{MOST_LEASES}
@@ -75,26 +75,26 @@ abbrev pub again_to : RequestId → Reply
 again_to id = replies.Again
     (record { client = id.client; incarnation = id.incarnation; number = id.number })
 
--- the client at the place says the line, and goes on so
-pub record ClientSays (place : ℕ) (May : ClientState → ClientState → Line → Type 0)
+-- the client at the index says the line, and goes on so
+pub record ClientSays (index : ℕ) (May : ClientState → ClientState → Line → Type 0)
     (old new : WorldState) : Type 0 where
   pub client : ClientState
   pub next : ClientState
   pub line : Line
-  pub at : slice_get old.clients place ≡ Some client
+  pub at : slice_get old.clients index ≡ Some client
   pub may : May client next line
   pub after : new ≡ record old {
-    clients = set old.clients place next;
+    clients = set old.clients index next;
     requests = old.requests ++ line ∷ [];
   }
 
 -- the client gets a reply that was sent, its own or another's
-pub record ClientHears (place which : ℕ) (old new : WorldState) : Type 0 where
+pub record ClientHears (index which : ℕ) (old new : WorldState) : Type 0 where
   pub client : ClientState
   pub reply : Reply
-  pub at : slice_get old.clients place ≡ Some client
+  pub at : slice_get old.clients index ≡ Some client
   pub sent : slice_get old.replies which ≡ Some reply
-  pub after : new ≡ record old { clients = set old.clients place (got reply client) }
+  pub after : new ≡ record old { clients = set old.clients index (got reply client) }
 
 -- a hello that was sent comes, and is taken
 pub record HelloTaken (which : ℕ) (old new : WorldState) : Type 0 where
@@ -103,7 +103,7 @@ pub record HelloTaken (which : ℕ) (old new : WorldState) : Type 0 where
   pub sent : slice_get old.requests which ≡ Some (lines.Hello hello)
   pub current : (account_in hello.client old.book).incarnation ≤ hello.incarnation
   pub enters : Enters (Hello hello.client hello.incarnation) old.book book
-  pub leases : leased book ≡ leased old.book
+  pub leases : leased_segments book ≡ leased_segments old.book
   pub after : new ≡ record old {
     book = book;
     entries = Hello hello.client hello.incarnation ∷ old.entries;
@@ -142,10 +142,10 @@ pub record TaskTaken (cpu which : ℕ) (old new : WorldState) : Type 0 where
     tasks = set old.tasks cpu (Some (record { id = id; op = op }));
   }
 
--- the arena at the place has this name
-pub record IsNamed (w : WorldState) (place : ℕ) (name : List ℕ) : Type 0 where
-  pub within : place < length w.names
-  pub is : arena_name w.names place ≡ name
+-- the arena at the index has this name
+pub record IsNamed (w : WorldState) (index : ℕ) (name : List ℕ) : Type 0 where
+  pub within : index < length w.names
+  pub is : arena_name w.names index ≡ name
 
 -- the CPU serves this request
 abbrev pub HasTask : WorldState → ℕ → RequestId → Op → Type 0
@@ -271,34 +271,34 @@ pub record LeaseSwept (cpu client : ℕ) (old new : WorldState) : Type 0 where
         ∷ old.entries;
   }
 
--- the cache at this place of the list is the CPU's
-pub record IsOwnOf (w : WorldState) (cpu place : ℕ) (own : OwnCacheState) : Type 0 where
-  pub owner : slice_get w.owners place ≡ Some cpu
-  pub at : slice_get w.caches place ≡ Some own
+-- the cache at this index of the list is the CPU's
+pub record IsOwnOf (w : WorldState) (cpu index : ℕ) (own : OwnCacheState) : Type 0 where
+  pub owner : slice_get w.owners index ≡ Some cpu
+  pub at : slice_get w.caches index ≡ Some own
 
 -- and is its cache for this quantum cache
-pub record IsOwnFor (w : WorldState) (cpu arena cache place : ℕ) (own : OwnCacheState)
+pub record IsOwnFor (w : WorldState) (cpu arena cache index : ℕ) (own : OwnCacheState)
     : Type 0 where
-  pub mine : IsOwnOf w cpu place own
+  pub mine : IsOwnOf w cpu index own
   pub home : own.arena ≡ arena
   pub number : own.cache ≡ cache
 
 -- it is for what the CPU's hand has
-pub record TakesHand (w : WorldState) (cpu place : ℕ) (own : OwnCacheState) (chunk : Tag)
+pub record TakesHand (w : WorldState) (cpu index : ℕ) (own : OwnCacheState) (chunk : Tag)
     : Type 0 where
   pub holds : slice_get w.hands cpu ≡ Some (Some chunk)
-  pub mine : IsOwnOf w cpu place own
+  pub mine : IsOwnOf w cpu index own
   pub takes : IsRoundOf own.arena (own.cache + 1) own.quantum chunk
 
 -- it becomes another for the same, which is well formed too
 pub record OwnGoesOn (own next : OwnCacheState) : Type 0 where
-  pub same : IsAtPlaceOf own next
+  pub same : IsAtIndexesOf own next
   pub sound : IsOwnCache next
   pub shaped : IsShaped next.cpu
 
--- a cache of the CPU at this place of the list is given what the CPU's hand has, and the hand has
+-- a cache of the CPU at this index of the list is given what the CPU's hand has, and the hand has
 -- what it answers
-pub record RoundMoves (cpu place : ℕ) (own next : OwnCacheState) (given answered : Option Tag)
+pub record RoundMoves (cpu index : ℕ) (own next : OwnCacheState) (given answered : Option Tag)
     (old new : WorldState) : Type 0 where
   pub holds : slice_get old.hands cpu ≡ Some given
   pub goes : OwnGoesOn own next
@@ -306,42 +306,42 @@ pub record RoundMoves (cpu place : ℕ) (own next : OwnCacheState) (given answer
       ≡ sum_by f (own_rounds next) + sum_by f (option_to_list answered)
   pub after : new ≡ record old {
     hands = set old.hands cpu answered;
-    caches = set old.caches place next;
+    caches = set old.caches index next;
   }
 
 -- the CPU's own cache for this quantum cache gives a round into its empty hand
 pub record RoundPopped (cpu arena cache : ℕ) (old new : WorldState) : Type 0 where
-  pub place : ℕ
+  pub index : ℕ
   pub own : OwnCacheState
   pub next : OwnCacheState
   pub round : Tag
-  pub here : IsOwnFor old cpu arena cache place own
+  pub here : IsOwnFor old cpu arena cache index own
   pub pops : PopOf own.cpu (Some round) next.cpu
-  pub moves : RoundMoves cpu place own next None (Some round) old new
+  pub moves : RoundMoves cpu index own next None (Some round) old new
 
 -- the hand's chunk becomes a round of the CPU's own cache for it
 pub record RoundPushed (cpu : ℕ) (old new : WorldState) : Type 0 where
-  pub place : ℕ
+  pub index : ℕ
   pub own : OwnCacheState
   pub next : OwnCacheState
   pub chunk : Tag
-  pub takes : TakesHand old cpu place own chunk
+  pub takes : TakesHand old cpu index own chunk
   pub pushes : PushOf own.cpu chunk (Ok tt) next.cpu
-  pub moves : RoundMoves cpu place own next (Some chunk) None old new
+  pub moves : RoundMoves cpu index own next (Some chunk) None old new
 
 -- the CPU's own cache for this quantum cache does so with the stock, and no hand
 pub record OwnMoves (cpu arena cache : ℕ)
     (Does : (old new : CpuCacheState) → (before after : List SpaceState) → Type 0)
     (old new : WorldState) : Type 0 where
-  pub place : ℕ
+  pub index : ℕ
   pub own : OwnCacheState
   pub next : OwnCacheState
   pub stock : List SpaceState
-  pub here : IsOwnFor old cpu arena cache place own
+  pub here : IsOwnFor old cpu arena cache index own
   pub does : Does own.cpu next.cpu old.stock stock
   pub goes : OwnGoesOn own next
   pub step : IsStep old.stock (own_rounds own) stock (own_rounds next)
-  pub after : new ≡ record old { stock = stock; caches = set old.caches place next }
+  pub after : new ≡ record old { stock = stock; caches = set old.caches index next }
 
 -- the CPU has failed, and what it served is forgotten
 abbrev pub failing : ℕ → WorldState → WorldState
@@ -355,26 +355,26 @@ pub record HandAdopted (cpu other : ℕ) (old new : WorldState) : Type 0 where
   pub after : new ≡ failing other
       (record old { hands = set (set old.hands other None) cpu (Some segment) })
 
--- the CPU's own cache at this place of the list has a round
-pub record HasRoundAt (w : WorldState) (cpu place : ℕ) (own : OwnCacheState) : Type 0 where
-  pub mine : IsOwnOf w cpu place own
+-- the CPU's own cache at this index of the list has a round
+pub record HasRoundAt (w : WorldState) (cpu index : ℕ) (own : OwnCacheState) : Type 0 where
+  pub mine : IsOwnOf w cpu index own
   pub some : ¬ BothEmpty own.cpu
 
 -- and none of its caches before has one
-pub record IsFirstWithRound (w : WorldState) (cpu place : ℕ) (own : OwnCacheState) : Type 0 where
-  pub has : HasRoundAt w cpu place own
-  pub first : (k : ℕ) (o : OwnCacheState) → k < place → ¬ HasRoundAt w cpu k o
+pub record IsFirstWithRound (w : WorldState) (cpu index : ℕ) (own : OwnCacheState) : Type 0 where
+  pub has : HasRoundAt w cpu index own
+  pub first : (k : ℕ) (o : OwnCacheState) → k < index → ¬ HasRoundAt w cpu k o
 
 -- where another CPU's hand has nothing, the round that the first of its own caches with any gives
 -- comes into the CPU's empty hand; the other has failed
 pub record RoundAdopted (cpu other : ℕ) (old new : WorldState) : Type 0 where
-  pub place : ℕ
+  pub index : ℕ
   pub own : OwnCacheState
   pub next : OwnCacheState
   pub round : Tag
   pub between : WorldState
   pub none : (t : Tag) → ¬ (slice_get old.hands other ≡ Some (Some t))
-  pub first : IsFirstWithRound old other place own
+  pub first : IsFirstWithRound old other index own
   pub pops : PopOf own.cpu (Some round) next.cpu
-  pub moves : RoundMoves cpu place own next None (Some round) old between
+  pub moves : RoundMoves cpu index own next None (Some round) old between
   pub after : new ≡ failing other between

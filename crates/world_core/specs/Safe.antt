@@ -9,7 +9,7 @@ use Rattle.deed_core.specs.Tag.{Tag}
 use Rattle.tag_arena.specs.ArenaState.{spans_of, ranges_of}
 use Rattle.stock.specs.Spaces.{SpaceState}
 use Rattle.stock.specs.Laws.{HasTop}
-use Rattle.stock.specs.Sums.{held_of, places_of, all_places}
+use Rattle.stock.specs.Sums.{held_of, homes_of, all_homes}
 use Rattle.magazine_layer.specs.Magazines.{IsShaped}
 use Rattle.stock_audit.specs.Outside.{out_of, segments_out}
 use Rattle.stock_audit.specs.Chains.{spans_of_children, spans_of_slabs}
@@ -31,14 +31,14 @@ use Rattle.world_core.specs.Moves.{IsNamed}
 use Rattle.world_core.specs.IsWorld.{IsWorld, IsAsked}
 use Rattle.world_core.specs.Events.{HappensTo}
 
--- each unit of an arena's spans is in one place, and no other unit in any: free, at home in a slab,
+-- each unit of an arena's spans is in one home, and no other unit in any: free, at home in a slab,
 -- in a magazine, a child's span, leased, or in a hand
-pub record IsInOnePlaceOf (w : WorldState) (s : SpaceState) (unit : ℕ) : Type 0 where
-  pub once : covering_held unit (all_places (places_of w.stock (out_of (outside_of w)) s))
+pub record IsInOneHomeOf (w : WorldState) (s : SpaceState) (unit : ℕ) : Type 0 where
+  pub once : covering_held unit (all_homes (homes_of w.stock (out_of (outside_of w)) s))
       ≡ covering_held unit (spans_of s.arena)
   pub one : covering_held unit (spans_of s.arena) ≤ 1
 
--- however ranges are weighed: what the arena at the place has allocated are its direct segments in
+-- however ranges are weighed: what the arena at the index has allocated are its direct segments in
 -- hands and leased, the spans of its slabs, and the spans of the arenas that import from it, each
 -- once; and the last are what it exported
 pub record ExportsSpans (w : WorldState) (k : ℕ) (s : SpaceState) : Type 0 where
@@ -46,7 +46,7 @@ pub record ExportsSpans (w : WorldState) (k : ℕ) (s : SpaceState) : Type 0 whe
       ≡ sum_by f (held_of k (filter came_direct (segments_out (outside_of w))))
       + (sum_by f (spans_of_slabs s) + sum_by f (spans_of_children k w.stock))
   pub exported : (f : Holding → ℕ)
-      → sum_by f (places_of w.stock (out_of (outside_of w)) s).exported
+      → sum_by f (homes_of w.stock (out_of (outside_of w)) s).exported
       ≡ sum_by f (spans_of_children k w.stock)
 
 -- a grant meets the line that asked for it, by its arena's quantum
@@ -65,12 +65,12 @@ HoldsLeases w c = (f : HeldSegment → ℕ)
 
 -- the segment that a client holds is of an arena of the space with this top, and has the unit
 pub record CoversIn (w : WorldState) (top unit : ℕ) (s : HeldSegment) : Type 0 where
-  pub place : ℕ
-  pub named : IsNamed w place s.arena
-  pub under : HasTop w.stock place top
+  pub home : ℕ
+  pub named : IsNamed w home s.arena
+  pub under : HasTop w.stock home top
   pub has : Covers (record { base = s.base; len = s.len }) unit
 
--- no unit of a space is in two segments that clients hold: the two are one, in one place of one
+-- no unit of a space is in two segments that clients hold: the two are one, in one home of one
 -- client's list
 abbrev pub HeldApart : WorldState → Type 0
 HeldApart w = (top unit : ℕ) (c d i j : ℕ) (x y : ClientState) (s t : HeldSegment)
@@ -85,15 +85,15 @@ SettlesIt id (replies.Released of) = of ≡ id
 SettlesIt id (replies.Refused r) = r.id ≡ id
 SettlesIt id reply = ⊥
 
--- All units are accounted for, each stands in one place, and what an arena exported are the spans
+-- All units are accounted for, each stands in one home, and what an arena exported are the spans
 -- of those that import from it. A CPU's loaded magazine has at most its size, and its previous one
 -- none or as many. The book is what is read off its entries. Each grant was asked for and fits.
 -- Clients hold what is leased to them, and no unit of a space is in two segments that they hold.
 -- And any two replies that settle one request are equal.
 pub record Safe (w : WorldState) : Type 0 where
   pub parts : IsAccountedFor w.stock (outside_of w)
-  pub places : (k : ℕ) (s : SpaceState) → slice_get w.stock k ≡ Some s → (unit : ℕ)
-      → IsInOnePlaceOf w s unit
+  pub homes : (k : ℕ) (s : SpaceState) → slice_get w.stock k ≡ Some s → (unit : ℕ)
+      → IsInOneHomeOf w s unit
   pub exports : (k : ℕ) (s : SpaceState) → slice_get w.stock k ≡ Some s → ExportsSpans w k s
   pub magazines : Each (λ o. IsShaped o.cpu) w.caches
   pub book : IsHistory w.entries w.book

@@ -9,7 +9,7 @@ use Rattle.stock.specs.Setups.{IsSetUpFrom, numbered_deeds}
 use Rattle.lease_book.specs.BookState.{IsHistory}
 use Rattle.world_core.specs.WorldState.{WorldState}
 
--- an own cache for the quantum cache at this place of this arena, with two empty magazines for
+-- an own cache for the quantum cache at this index of this arena, with two empty magazines for
 -- three rounds each
 abbrev pub empty_own : ℕ → ℕ → ℕ → OwnCacheState
 empty_own arena cache quantum = record {

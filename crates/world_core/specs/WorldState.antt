@@ -9,7 +9,7 @@ use Rattle.stock_audit.specs.Outside.{Outside, outside}
 use Rattle.lease_proto.specs.declared.lines.Line.{Line}
 use Rattle.lease_proto.specs.declared.replies.Reply.{Reply}
 use Rattle.lease_book.specs.Entry.{Entry, Settled, Hello, Swept, Grant, Return, Refuse}
-use Rattle.lease_book.specs.BookState.{BookState, leased}
+use Rattle.lease_book.specs.BookState.{BookState, leased_segments}
 use Rattle.lease_client.specs.ClientState.{ClientState}
 use Rattle.world_core.specs.declared.tasks.Task.{Task}
 use Rattle.world_core.specs.declared.logs.Logged.{Logged}
@@ -33,7 +33,7 @@ pub record WorldState : Type 0 where
   pub requests : List Line
   pub replies : List Reply
 
--- the name of the arena at a place
+-- the name of the arena at an index
 abbrev pub arena_name : List (List ℕ) → ℕ → List ℕ
 arena_name names k = get_or names k []
 
@@ -43,7 +43,7 @@ in_hands hands = flat_map option_to_list hands
 
 -- the segments that are out of the parts: in hands, leased, and in the caches of CPUs
 abbrev pub outside_of : WorldState → Outside
-outside_of w = outside (in_hands w.hands) (leased w.book) w.caches
+outside_of w = outside (in_hands w.hands) (leased_segments w.book) w.caches
 
 -- it is so of each member of the list
 abbrev pub Each : {X : Type 0} → (X → Type 0) → List X → Type 0
@@ -54,13 +54,13 @@ abbrev pub IsAmong : {X : Type 0} → X → List X → Type 0
 IsAmong x xs = (k : ℕ) × (slice_get xs k ≡ Some x)
 
 -- the entry that is stored so
-abbrev pub entry_of : Logged → Entry
-entry_of (logged.Hello c i) = Hello c i
-entry_of (logged.Granted id segment terms) = Settled id (Grant segment terms)
-entry_of (logged.Released id arena base) = Settled id (Return arena base)
-entry_of (logged.Refused id why) = Settled id (Refuse why)
-entry_of (logged.Swept c i arena base) = Swept c i arena base
+abbrev pub logged_entry : Logged → Entry
+logged_entry (logged.Hello c i) = Hello c i
+logged_entry (logged.Granted id segment terms) = Settled id (Grant segment terms)
+logged_entry (logged.Released id arena base) = Settled id (Return arena base)
+logged_entry (logged.Refused id why) = Settled id (Refuse why)
+logged_entry (logged.Swept c i arena base) = Swept c i arena base
 
 -- they are stored oldest first
 abbrev pub entries_of : List Logged → List Entry
-entries_of log = reverse (map entry_of log)
+entries_of log = reverse (map logged_entry log)

@@ -82,13 +82,13 @@ impl<D: Deed> WorldParts<D> {
         requires none { (t : Tag) → ¬ HasInHand self.old other (Some t) }
         ensures { EndsAs (WorldEvent.Adopts cpu other) result self.old self.new }
     {
-        let Some(place) = self.first_with_round(other) else {
+        let Some(index) = self.first_with_round(other) else {
             return Outcome::NotEnabled;
         };
-        let own = &mut self.caches[place];
+        let own = &mut self.caches[index];
         let popped = own.pop();
         // For their clauses: what is always so of a CPU's cache.
-        let _ = own.place();
+        let _ = own.indexes();
         let _ = own.size();
         match popped {
             Some(round) => {
@@ -100,17 +100,17 @@ impl<D: Deed> WorldParts<D> {
         }
     }
 
-    /// Whether the cache at this place of the list is the CPU's, and has a round.
-    fn has_round_at(&self, cpu: usize, place: usize) -> bool
-        ensures { IsTrue result ↔ ((o : OwnCacheState) × HasRoundAt self.now cpu place o) }
+    /// Whether the cache at this index of the list is the CPU's, and has a round.
+    fn has_round_at(&self, cpu: usize, index: usize) -> bool
+        ensures { IsTrue result ↔ ((o : OwnCacheState) × HasRoundAt self.now cpu index o) }
     {
-        if place >= self.owners.len() || place >= self.caches.len() {
+        if index >= self.owners.len() || index >= self.caches.len() {
             return false;
         }
-        self.owners[place] == cpu && !self.caches[place].is_empty()
+        self.owners[index] == cpu && !self.caches[index].is_empty()
     }
 
-    /// The place of the first of the CPU's own caches that has a round: by arena, then by number.
+    /// The index of the first of the CPU's own caches that has a round: by arena, then by number.
     fn first_with_round(&self, cpu: usize) -> Option<usize>
         requires world { IsWorld self.now }
         ensures some { IfSome result
@@ -118,9 +118,9 @@ impl<D: Deed> WorldParts<D> {
         ensures none { IfNone result ((k : ℕ) (o : OwnCacheState)
             → ¬ HasRoundAt self.now cpu k o) }
     {
-        for place in 0..self.owners.len() {
-            if self.has_round_at(cpu, place) {
-                return Some(place);
+        for index in 0..self.owners.len() {
+            if self.has_round_at(cpu, index) {
+                return Some(index);
             }
         }
         None

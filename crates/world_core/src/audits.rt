@@ -42,7 +42,7 @@ fn units_in_hands<D: Deed>(hands: &[Option<Segment<D>>], arena: usize) -> u128
 }
 
 impl<D: Deed> WorldParts<D> {
-    /// The sums of the arena at the place.
+    /// The sums of the arena at the index.
     pub(crate) fn audit(&self, arena: usize) -> ArenaSums
         requires world { IsWorld self.now }
         requires within { arena < length self.now.names }
@@ -61,7 +61,7 @@ impl<D: Deed> WorldParts<D> {
 }
 
 impl<D: Deed> World<D> {
-    /// The units of the arena at the place, by where they are. It takes no memory.
+    /// The units of the arena at the index, by where they are. It takes no memory.
     pub fn audit(&self, arena: usize) -> ArenaSums
         requires within { arena < length self.now.names }
         ensures { TellsSums self.now.stock arena (out_of (outside_of self.now)) result }

@@ -160,7 +160,7 @@ impl<D: Deed> WorldParts<D> {
         }
     }
 
-    /// A CPU gives the request that it serves up: memory was refused.
+    /// A CPU gives the request that it serves up: out of memory.
     pub(crate) fn give_up(&mut self, cpu: usize) -> Outcome
         ensures { EndsAs (WorldEvent.GivesUp cpu) result self.old self.new }
     {

@@ -6,7 +6,7 @@ use deed_core::Request;
 use lease_proto::Op;
 use lease_terms::{ClientId, Refusal};
 
-/// An event. Clients and CPUs are named by their places, and so are the lines and the replies that
+/// An event. Clients and CPUs are named by their indexes, and so are the lines and the replies that
 /// were sent, in the order in which they were.
 #[derive(Clone, Copy, Debug, PartialEq, Eq)]
 pub enum WorldEvent {
@@ -74,7 +74,7 @@ pub enum WorldEvent {
         child: usize,
         size: u64,
     },
-    /// A CPU takes an idle chunk. Caches are named by their places in their arena: the first has
+    /// A CPU takes an idle chunk. Caches are named by their indexes in their arena: the first has
     /// chunks of one quantum.
     SlabTakes {
         cpu: usize,

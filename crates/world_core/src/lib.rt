@@ -6,7 +6,7 @@
 //! are the parts themselves, and each event is one call of one of them. Lines and replies that were
 //! sent stay, so any of them may come at any time, any number of times, or never; a CPU stops
 //! between two events by having no further ones. Whatever list of events happens, the world stays
-//! one (`specs/IsWorld.antt`), and so it is safe (`specs/Safe.antt`): each unit is in one place,
+//! one (`specs/IsWorld.antt`), and so it is safe (`specs/Safe.antt`): each unit is in one home,
 //! each grant was asked for and fits, what clients hold is leased to them and no unit of a space is
 //! in two segments that they hold, and any two replies that settle one request are equal.
 //!

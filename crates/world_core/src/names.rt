@@ -9,16 +9,16 @@ use lease_book::KeptReply;
 use lease_proto::{Granted, LeaseLine, Refused, Reply};
 use lease_terms::{Name, RequestId};
 
-/// The place of the arena with this name.
-pub(crate) fn place_of(names: &[Name], name: &Name) -> Option<usize>
+/// The index of the arena with this name.
+pub(crate) fn index_of(names: &[Name], name: &Name) -> Option<usize>
     ensures some { IfSome result
         (λ k. (k < length names.now) × (arena_name names.now k ≡ name.now)) }
     ensures none { IfNone result
         ((k : ℕ) → k < length names.now → arena_name names.now k ≢ name.now) }
 {
-    for place in 0..names.len() {
-        if names[place].as_slice() == name.as_slice() {
-            return Some(place);
+    for index in 0..names.len() {
+        if names[index].as_slice() == name.as_slice() {
+            return Some(index);
         }
     }
     None

@@ -17,7 +17,7 @@ pub(crate) struct OwnCaches<D: Deed> {
 }
 
 impl<D: Deed> OwnCaches<D> {
-    /// Those that so many CPUs begin with. Where memory is refused, what was made is ended.
+    /// Those that so many CPUs begin with. Out of memory, what was made is ended.
     pub(crate) fn of(alloc: Global, tree: &Tree, cpus: usize) -> Result<OwnCaches<D>, AllocError>
         ensures owners { IfOk result (λ own. own.owners.items ≡ own_owners cpus tree.now) }
         ensures caches { IfOk result (λ own. own.caches.items ≡ own_caches cpus tree.now) }
@@ -59,10 +59,10 @@ impl<D: Deed> OwnCaches<D> {
         ensures empty { All IsEmptyOwn self.old.caches.items
             → All IsEmptyOwn self.new.caches.items }
     {
-        for place in 0..tree.len() {
-            let arena = tree.arena(place as u32);
+        for index in 0..tree.len() {
+            let arena = tree.arena(index as u32);
             let count = arena.qcache_max / arena.quantum;
-            self.add_row(alloc, cpu, place, arena.quantum, count)?;
+            self.add_row(alloc, cpu, index, arena.quantum, count)?;
         }
         Ok(())
     }

@@ -141,7 +141,7 @@ impl<D: Deed> WorldParts<D> {
         self.hands[cpu].as_ref()
     }
 
-    /// The quantum of the arena at the place.
+    /// The quantum of the arena at the index.
     pub(crate) fn quantum(&self, arena: usize) -> u64
         requires world { IsWorld self.now }
         requires within { arena < length self.now.names }

@@ -10,7 +10,7 @@ use crate::booking::number_answer;
 use crate::events::{Outcome, WorldEvent};
 use crate::hands::put;
 use crate::logs::Logged;
-use crate::names::place_of;
+use crate::names::index_of;
 use crate::parts::WorldParts;
 use crate::tasks::Task;
 use deed_core::Deed;
@@ -37,11 +37,11 @@ impl<D: Deed> WorldParts<D> {
             return None;
         }
         let (id, line) = self.release_task(cpu)?;
-        let place = place_of(&self.names, &line.arena)?;
+        let index = index_of(&self.names, &line.arena)?;
         Some(Release {
             id,
             line,
-            arena: place as u32,
+            arena: index as u32,
         })
     }
 

@@ -8,14 +8,14 @@ use lease_client::HeldSegment;
 use lease_proto::{Line, Reply};
 
 impl<D: Deed> World<D> {
-    /// How many arenas there are, each at its place in the setup.
+    /// How many arenas there are, each at its index in the setup.
     pub fn arenas(&self) -> usize
         ensures { result ≡ length self.now.names }
     {
         self.parts.names.len()
     }
 
-    /// What the client at the place holds, in order of acceptance; none where there is no such
+    /// What the client at the index holds, in order of acceptance; none where there is no such
     /// client.
     pub fn held(&self, client: usize) -> Option<&[HeldSegment]>
         ensures some { IfSome result (λ held. (c : ClientState)

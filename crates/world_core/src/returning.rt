@@ -2,7 +2,7 @@
 ghost use Rattle.std.specs.Prelude.{◌≡◌, List, ◌∷◌, ◌++◌, []};
 ghost use Rattle.std.specs.Option.{option_to_list};
 ghost use Rattle.deed_core.specs.Tag.{Tag};
-ghost use Rattle.lease_book.specs.BookState.{leased};
+ghost use Rattle.lease_book.specs.BookState.{leased_segments};
 ghost use Rattle.stock.specs.Accounts.{Accounts};
 ghost use Rattle.stock.specs.OwnCaches.{own_rounds};
 ghost use Rattle.stock_audit.specs.Outside.{all_rounds_out};
@@ -38,9 +38,9 @@ fn empty_hand(stock: &mut Stock<PlainDeed>, hand: Option<Segment<PlainDeed>>)
 
 /// Ends every lease, and takes its segment back.
 pub(crate) fn end_leases(stock: &mut Stock<PlainDeed>, book: &mut Book<PlainDeed>)
-    requires { (others : List Tag) × Accounts stock.old (leased book.old ++ others) }
-    ensures none { leased book.new ≡ [] }
-    ensures out { (others : List Tag) → Accounts stock.old (leased book.old ++ others)
+    requires { (others : List Tag) × Accounts stock.old (leased_segments book.old ++ others) }
+    ensures none { leased_segments book.new ≡ [] }
+    ensures out { (others : List Tag) → Accounts stock.old (leased_segments book.old ++ others)
         → Accounts stock.new others }
 {
     while let Some((_, segment)) = book.take_lease() {

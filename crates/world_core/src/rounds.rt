@@ -12,59 +12,59 @@ use crate::parts::WorldParts;
 use deed_core::Deed;
 
 impl<D: Deed> WorldParts<D> {
-    /// Whether the cache at this place of the list is the CPU's for this quantum cache.
-    fn is_own_for(&self, cpu: usize, arena: usize, cache: usize, place: usize) -> bool
+    /// Whether the cache at this index of the list is the CPU's for this quantum cache.
+    fn is_own_for(&self, cpu: usize, arena: usize, cache: usize, index: usize) -> bool
         ensures { IsTrue result
-            ↔ ((o : OwnCacheState) × IsOwnFor self.now cpu arena cache place o) }
+            ↔ ((o : OwnCacheState) × IsOwnFor self.now cpu arena cache index o) }
     {
-        if place >= self.owners.len() || place >= self.caches.len() {
+        if index >= self.owners.len() || index >= self.caches.len() {
             return false;
         }
-        let at = self.caches[place].place();
-        self.owners[place] == cpu && at.0 == arena && at.1 == cache
+        let at = self.caches[index].indexes();
+        self.owners[index] == cpu && at.0 == arena && at.1 == cache
     }
 
-    /// The place of the CPU's own cache for this quantum cache.
-    pub(crate) fn own_place(&self, cpu: usize, arena: usize, cache: usize) -> Option<usize>
+    /// The index of the CPU's own cache for this quantum cache.
+    pub(crate) fn own_index(&self, cpu: usize, arena: usize, cache: usize) -> Option<usize>
         requires world { IsWorld self.now }
         ensures some { IfSome result
             (λ k. (o : OwnCacheState) × IsOwnFor self.now cpu arena cache k o) }
         ensures none { IfNone result ((k : ℕ) (o : OwnCacheState)
             → ¬ IsOwnFor self.now cpu arena cache k o) }
     {
-        for place in 0..self.owners.len() {
-            if self.is_own_for(cpu, arena, cache, place) {
-                return Some(place);
+        for index in 0..self.owners.len() {
+            if self.is_own_for(cpu, arena, cache, index) {
+                return Some(index);
             }
         }
         None
     }
 
-    /// Whether the cache at this place of the list is the CPU's, and for what its hand has.
-    fn takes_hand(&self, cpu: usize, place: usize) -> bool
+    /// Whether the cache at this index of the list is the CPU's, and for what its hand has.
+    fn takes_hand(&self, cpu: usize, index: usize) -> bool
         ensures { IsTrue result
-            ↔ ((o : OwnCacheState) × (t : Tag) × TakesHand self.now cpu place o t) }
+            ↔ ((o : OwnCacheState) × (t : Tag) × TakesHand self.now cpu index o t) }
     {
-        if place >= self.owners.len() || place >= self.caches.len() {
+        if index >= self.owners.len() || index >= self.caches.len() {
             return false;
         }
         let Some(chunk) = self.in_hand(cpu) else {
             return false;
         };
-        self.owners[place] == cpu && self.caches[place].takes(chunk)
+        self.owners[index] == cpu && self.caches[index].takes(chunk)
     }
 
-    /// The place of the CPU's own cache for what its hand has.
-    fn place_for_hand(&self, cpu: usize) -> Option<usize>
+    /// The index of the CPU's own cache for what its hand has.
+    fn index_for_hand(&self, cpu: usize) -> Option<usize>
         requires world { IsWorld self.now }
         ensures some { IfSome result
             (λ k. (o : OwnCacheState) × (t : Tag) × TakesHand self.now cpu k o t) }
         ensures none { IfNone result ((k : ℕ) (o : OwnCacheState) (t : Tag)
             → ¬ TakesHand self.now cpu k o t) }
     {
-        for place in 0..self.owners.len() {
-            if self.takes_hand(cpu, place) {
-                return Some(place);
+        for index in 0..self.owners.len() {
+            if self.takes_hand(cpu, index) {
+                return Some(index);
             }
         }
         None
@@ -78,13 +78,13 @@ impl<D: Deed> WorldParts<D> {
         if !self.has_empty_hand(cpu) {
             return Outcome::NotEnabled;
         }
-        let Some(place) = self.own_place(cpu, arena, cache) else {
+        let Some(index) = self.own_index(cpu, arena, cache) else {
             return Outcome::NotEnabled;
         };
-        let own = &mut self.caches[place];
+        let own = &mut self.caches[index];
         let popped = own.pop();
         // For their clauses, here and below: what is always so of a CPU's cache.
-        let _ = own.place();
+        let _ = own.indexes();
         let _ = own.size();
         match popped {
             Some(round) => {
@@ -100,13 +100,13 @@ impl<D: Deed> WorldParts<D> {
         requires world { IsWorld self.old }
         ensures { EndsAs (WorldEvent.Pushes cpu) result self.old self.new }
     {
-        let Some(place) = self.place_for_hand(cpu) else {
+        let Some(index) = self.index_for_hand(cpu) else {
             return Outcome::NotEnabled;
         };
         let chunk = take(&mut self.hands, cpu);
-        let own = &mut self.caches[place];
+        let own = &mut self.caches[index];
         let pushed = own.push(chunk);
-        let _ = own.place();
+        let _ = own.indexes();
         let _ = own.size();
         match pushed {
             Ok(()) => return Outcome::Done,

@@ -26,16 +26,16 @@ impl<D: Deed> WorldParts<D> {
         requires world { IsWorld self.old }
         ensures { EndsAs (WorldEvent.SwapsFull cpu arena cache) result self.old self.new }
     {
-        let Some(place) = self.own_place(cpu, arena, cache) else {
+        let Some(index) = self.own_index(cpu, arena, cache) else {
             return Outcome::NotEnabled;
         };
-        let own = &mut self.caches[place];
+        let own = &mut self.caches[index];
         if !own.is_empty() {
             return Outcome::NotEnabled;
         }
         let swapped = own.swap_full(&mut self.stock);
         // For their clauses, here and below: what is always so of a CPU's cache, and of a stock.
-        let _ = own.place();
+        let _ = own.indexes();
         let _ = self.stock.count();
         match swapped {
             Ok(()) => return Outcome::Done,
@@ -51,15 +51,15 @@ impl<D: Deed> WorldParts<D> {
         requires world { IsWorld self.old }
         ensures { EndsAs (WorldEvent.SwapsEmpty cpu arena cache) result self.old self.new }
     {
-        let Some(place) = self.own_place(cpu, arena, cache) else {
+        let Some(index) = self.own_index(cpu, arena, cache) else {
             return Outcome::NotEnabled;
         };
-        let own = &mut self.caches[place];
+        let own = &mut self.caches[index];
         if !own.is_full() {
             return Outcome::NotEnabled;
         }
         let swapped = own.swap_empty(&mut self.stock);
-        let _ = own.place();
+        let _ = own.indexes();
         let _ = self.stock.count();
         match swapped {
             Ok(()) => return Outcome::Done,
@@ -75,10 +75,10 @@ impl<D: Deed> WorldParts<D> {
         requires world { IsWorld self.old }
         ensures { EndsAs (WorldEvent.SwapsFresh cpu arena cache) result self.old self.new }
     {
-        let Some(place) = self.own_place(cpu, arena, cache) else {
+        let Some(index) = self.own_index(cpu, arena, cache) else {
             return Outcome::NotEnabled;
         };
-        let own = &mut self.caches[place];
+        let own = &mut self.caches[index];
         if !own.is_full() {
             return Outcome::NotEnabled;
         }
@@ -86,7 +86,7 @@ impl<D: Deed> WorldParts<D> {
             return Outcome::NoMemory;
         };
         let swapped = own.swap_fresh(&mut self.stock, magazine);
-        let _ = own.place();
+        let _ = own.indexes();
         let _ = self.stock.count();
         match swapped {
             Ok(()) => return Outcome::Done,
@@ -103,9 +103,9 @@ impl<D: Deed> WorldParts<D> {
         }
     }
 
-    /// The place of the CPU's own cache for this quantum cache, where magazines of this size may
+    /// The index of the CPU's own cache for this quantum cache, where magazines of this size may
     /// take the place of its own: they are greater, and no greater than the depot's.
-    fn place_to_change(&self, cpu: usize, arena: usize, cache: usize, size: usize) -> Option<usize>
+    fn index_to_change(&self, cpu: usize, arena: usize, cache: usize, size: usize) -> Option<usize>
         requires world { IsWorld self.now }
         ensures some { IfSome result
             (λ k. (o : OwnCacheState) × IsOwnFor self.now cpu arena cache k o) }
@@ -117,12 +117,12 @@ impl<D: Deed> WorldParts<D> {
         if !is_magazine_size(size) {
             return None;
         }
-        let place = self.own_place(cpu, arena, cache)?;
-        let own = &self.caches[place];
+        let index = self.own_index(cpu, arena, cache)?;
+        let own = &self.caches[index];
         if size <= own.size() || self.stock.depot_size(arena, cache) < size {
             return None;
         }
-        Some(place)
+        Some(index)
     }
 
     /// A CPU's own cache gets two magazines of a greater size, which is at most its depot's.
@@ -130,15 +130,15 @@ impl<D: Deed> WorldParts<D> {
         requires world { IsWorld self.old }
         ensures { EndsAs (WorldEvent.Changes cpu arena cache size) result self.old self.new }
     {
-        let Some(place) = self.place_to_change(cpu, arena, cache, size) else {
+        let Some(index) = self.index_to_change(cpu, arena, cache, size) else {
             return Outcome::NotEnabled;
         };
         let Ok((loaded, previous)) = two_empty(self.alloc, size) else {
             return Outcome::NoMemory;
         };
-        let own = &mut self.caches[place];
+        let own = &mut self.caches[index];
         own.change(loaded, previous);
-        let _ = own.place();
+        let _ = own.indexes();
         let _ = own.size();
         let _ = self.stock.count();
         Outcome::Done

@@ -1,7 +1,7 @@
 //! What clients say and hear.
 ghost use Rattle.std.specs.Prelude.{◌≡◌, ◌<◌, length, IfSome, IfNone};
 ghost use Rattle.std.specs.Bool.{OnTrue, OnFalse};
-ghost use Rattle.world_core.specs.Events.{EndsAs, IsEnabled, PartRefuses};
+ghost use Rattle.world_core.specs.Events.{EndsAs, IsEnabled, RefusesEvent};
 
 use crate::events::{EventFault, Outcome, WorldEvent};
 use crate::parts::WorldParts;
@@ -38,7 +38,7 @@ impl<D: Deed> WorldParts<D> {
         ensures on { OnTrue result
             (IsEnabled (WorldEvent.Restarts client incarnation) self.now) }
         ensures off { OnFalse result
-            (PartRefuses (WorldEvent.Restarts client incarnation) EventFault.NotGreater self.now) }
+            (RefusesEvent (WorldEvent.Restarts client incarnation) EventFault.NotGreater self.now) }
     {
         self.clients[client].may_restart(incarnation)
     }
@@ -67,7 +67,7 @@ impl<D: Deed> WorldParts<D> {
     fn why_not_sent(&self, client: usize, op: &Op) -> Option<EventFault>
         requires within { client < length self.now.clients }
         ensures some { IfSome result
-            (λ why. PartRefuses (WorldEvent.Says client op.now) why self.now) }
+            (λ why. RefusesEvent (WorldEvent.Says client op.now) why self.now) }
         ensures none { IfNone result (IsEnabled (WorldEvent.Says client op.now) self.now) }
     {
         match self.clients[client].may_send(*op) {

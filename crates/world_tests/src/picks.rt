@@ -16,7 +16,7 @@ pub(crate) const CLIENTS: usize = 4;
 /// The arenas that are asked for: the roots more often.
 const NAMES: [&str; 6] = ["r", "c", "e", "s", "r", "s"];
 
-/// The places of the quantum caches: of an arena, and in it.
+/// The indexes of the quantum caches: of an arena, and in it.
 const CACHES: [(usize, usize); 3] = [(0, 0), (0, 1), (1, 0)];
 
 /// For so many events one cache is filled or emptied.
@@ -177,9 +177,9 @@ fn of_client(rt: &impl Abort, picks: &mut Picks, world: &World<PlainDeed>) -> Wo
 
 /// What a client asks for: a lease, or the end of one that it holds.
 fn asked(rt: &impl Abort, picks: &mut Picks, world: &World<PlainDeed>, client: usize) -> Op {
-    let place = picks.chances.below(6);
+    let index = picks.chances.below(6);
     let held = world.held(client).expect(rt, "a client");
-    if let Some(segment) = held.get(place) {
+    if let Some(segment) = held.get(index) {
         return Op::Release(ReleaseLine {
             arena: segment.arena,
             base: segment.base,
@@ -238,7 +238,7 @@ fn carves(
             };
             return WorldEvent::Carves {
                 cpu,
-                arena: place_of(lease.arena.as_slice()),
+                arena: index_of(lease.arena.as_slice()),
                 request,
             };
         }
@@ -252,8 +252,8 @@ fn carves(
     }
 }
 
-/// The place of the arena with this name.
-fn place_of(name: &[u8]) -> usize {
+/// The index of the arena with this name.
+fn index_of(name: &[u8]) -> usize {
     match name {
         b"r" => 0,
         b"c" => 1,

@@ -197,7 +197,7 @@ fn nobody_there(rt: &impl Abort, world: &mut World<PlainDeed>) {
     not_enabled(rt, world, &events);
 }
 
-/// No cache has these places, magazines have no size of 8, and none is due for a change.
+/// No cache has these indexes, magazines have no size of 8, and none is due for a change.
 fn no_such_cache(rt: &impl Abort, world: &mut World<PlainDeed>) {
     let (cpu, arena, cache) = (0, 0, 5);
     let changes = WorldEvent::Changes {

@@ -191,12 +191,12 @@ fn rounds_story(rt: HostRuntime) {
     root(&rt, &mut setup, "d", 0, 64, Policy::Instant, 5);
     let mut world = world_of(&rt, rt.alloc(), &setup, 1, 1);
     greet(&rt, &mut world);
-    for place in 0..7 {
-        lease_chunk(&rt, &mut world, place);
+    for index in 0..7 {
+        lease_chunk(&rt, &mut world, index);
     }
     tells(&rt, &world, 0, [48, 9, 0, 0, 7, 0]);
-    for place in 0..7 {
-        release_chunk(&rt, &mut world, place);
+    for index in 0..7 {
+        release_chunk(&rt, &mut world, index);
     }
     tells(&rt, &world, 0, [48, 9, 7, 0, 0, 0]);
     drained(&rt, &mut world);
@@ -224,11 +224,11 @@ fn greet(rt: &impl Abort, world: &mut World<PlainDeed>) {
     all_done(rt, world, &events);
 }
 
-/// The lease with this place is of the unit with this number: of the first chunk of a new slab, or
+/// The lease with this index is of the unit with this number: of the first chunk of a new slab, or
 /// the next chunk of it.
-fn lease_chunk(rt: &impl Abort, world: &mut World<PlainDeed>, place: usize) {
+fn lease_chunk(rt: &impl Abort, world: &mut World<PlainDeed>, index: usize) {
     let op = lease(rt, "d", 1);
-    let which = place.saturating_add(1);
+    let which = index.saturating_add(1);
     let (cpu, arena, cache) = (0, 0, 0);
     let asked = [
         WorldEvent::Says { client: 0, op },
@@ -241,7 +241,7 @@ fn lease_chunk(rt: &impl Abort, world: &mut World<PlainDeed>, place: usize) {
     let swaps = WorldEvent::SwapsFull { cpu, arena, cache };
     ends(rt, world, swaps, refused);
     let takes = WorldEvent::SlabTakes { cpu, arena, cache };
-    if place == 0 {
+    if index == 0 {
         ends(rt, world, takes, none);
         let adds = WorldEvent::SlabAdds { cpu, arena, cache };
         all_done(rt, world, &[carves(cpu, arena, 16), adds]);
@@ -253,9 +253,9 @@ fn lease_chunk(rt: &impl Abort, world: &mut World<PlainDeed>, place: usize) {
 
 /// The unit with this number becomes a round, the last in a magazine of its own: the two that the
 /// CPU had are full by then, and the depot has no empty one.
-fn release_chunk(rt: &impl Abort, world: &mut World<PlainDeed>, place: usize) {
-    let op = release(rt, "d", place as u64);
-    let which = place.saturating_add(8);
+fn release_chunk(rt: &impl Abort, world: &mut World<PlainDeed>, index: usize) {
+    let op = release(rt, "d", index as u64);
+    let which = index.saturating_add(8);
     let (cpu, arena, cache) = (0, 0, 0);
     let events = [
         WorldEvent::Says { client: 0, op },
@@ -263,7 +263,7 @@ fn release_chunk(rt: &impl Abort, world: &mut World<PlainDeed>, place: usize) {
         WorldEvent::Releases { cpu },
     ];
     all_done(rt, world, &events);
-    if place == 6 {
+    if index == 6 {
         ends(rt, world, WorldEvent::Pushes { cpu }, Outcome::NotEnabled);
         let refused = Outcome::Refused(EventFault::NoneEmpty);
         ends(

@@ -113,9 +113,9 @@ fn all(rt: &impl Abort, world: &World<PlainDeed>, arena: usize) -> (u128, u128) 
 fn is_apart(rt: &impl Abort, world: &World<PlainDeed>, one: usize, held: &[HeldSegment]) {
     for other in one..CLIENTS {
         let others = world.held(other).expect(rt, "a client");
-        for (place, segment) in held.iter().enumerate() {
+        for (index, segment) in held.iter().enumerate() {
             let from = if one == other {
-                place.saturating_add(1)
+                index.saturating_add(1)
             } else {
                 0
             };
@@ -124,10 +124,10 @@ fn is_apart(rt: &impl Abort, world: &World<PlainDeed>, one: usize, held: &[HeldS
     }
 }
 
-/// The segment overlaps none of the others from this place on.
+/// The segment overlaps none of the others from this index on.
 fn has_no_part_in(rt: &impl Abort, segment: &HeldSegment, others: &[HeldSegment], from: usize) {
-    for (place, other) in others.iter().enumerate() {
-        if place >= from && is_of_s(segment) == is_of_s(other) {
+    for (index, other) in others.iter().enumerate() {
+        if index >= from && is_of_s(segment) == is_of_s(other) {
             let apart = end(segment) <= other.base.get() || end(other) <= segment.base.get();
             assert!(rt; apart, "{segment:?}, {other:?}");
         }

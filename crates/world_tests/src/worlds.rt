@@ -86,8 +86,8 @@ pub(crate) fn world_of(
         Ok(world) => world,
         Err(_) => panic!(rt; "memory"),
     };
-    for place in 0..clients {
-        let id = client(rt, place + 1);
+    for index in 0..clients {
+        let id = client(rt, index + 1);
         match made.add_client(alloc, id) {
             Ok(()) => {}
             Err(_) => panic!(rt; "memory"),
@@ -153,13 +153,13 @@ pub(crate) fn all_done(rt: &impl Abort, world: &mut World<PlainDeed>, events: &[
     }
 }
 
-/// The sums of the arena at the place.
+/// The sums of the arena at the index.
 pub(crate) fn sums(rt: &impl Abort, world: &World<PlainDeed>, arena: usize) -> ArenaSums {
     assert!(rt; arena < world.arenas(), "no arena");
     world.audit(arena)
 }
 
-/// The sums of the arena at the place are these.
+/// The sums of the arena at the index are these.
 pub(crate) fn tells(rt: &impl Abort, world: &World<PlainDeed>, arena: usize, counts: Counts) {
     let [free, slab, magazine, exported, leased, hand] = counts;
     let wanted = ArenaSums {
@@ -174,7 +174,7 @@ pub(crate) fn tells(rt: &impl Abort, world: &World<PlainDeed>, arena: usize, cou
     assert!(rt; told == wanted, "{told:?}");
 }
 
-/// The client at the place holds just these, each by its base and length.
+/// The client at the index holds just these, each by its base and length.
 pub(crate) fn holds(
     rt: &impl Abort,
     world: &World<PlainDeed>,

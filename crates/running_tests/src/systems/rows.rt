@@ -155,7 +155,7 @@ fn goes_on<N: Name, R: Abort + Wait + AllocGlobal>(rt: &R, ground: Ground, setup
     assert!(rt; one.units() == 1);
     let halted = halt(rt, system);
     assert!(rt; halted.segment().is_none());
-    match halted.place() {
+    match halted.stopped_at() {
         Some(name) => assert!(rt; name.as_slice() == "d".as_bytes()),
         None => panic!(rt; "no place"),
     }

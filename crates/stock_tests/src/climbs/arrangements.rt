@@ -90,21 +90,21 @@ pub(super) fn set(rt: &impl Abort, setup: &mut Setup, setting: Setting) {
     assert_eq!(rt; setup.add(&setting), Ok(()));
 }
 
-/// Whether the arena at the place is the tree's.
-fn is_alike<D: Deed>(stock: &Stock<D>, tree: &Tree, place: usize) -> bool
-    requires stock { place < length stock.now }
-    requires tree { place < length tree.now }
+/// Whether the arena at the index is the tree's.
+fn is_alike<D: Deed>(stock: &Stock<D>, tree: &Tree, index: usize) -> bool
+    requires stock { index < length stock.now }
+    requires tree { index < length tree.now }
     ensures { IsTrue result → (s : SpaceState) (x : TreeArena)
-        → slice_get stock.now place ≡ Some s → slice_get tree.now place ≡ Some x
+        → slice_get stock.now index ≡ Some s → slice_get tree.now index ≡ Some x
         → (x.source ≡ s.source) × (x.quantum ≡ s.arena.quantum) }
 {
     // For its clause: a tree has at most 32 arenas.
     let _ = tree.len();
-    let arena = tree.arena(place as u32);
-    stock.source(place) == arena.source && stock.quantum(place) == arena.quantum
+    let arena = tree.arena(index as u32);
+    stock.source(index) == arena.source && stock.quantum(index) == arena.quantum
 }
 
-/// Whether the arenas below the place are.
+/// Whether the arenas below the index are.
 fn are_alike<D: Deed>(stock: &Stock<D>, tree: &Tree, end: usize) -> bool
     requires stock { length stock.now ≡ length tree.now }
     requires tree { end ≤ length tree.now }

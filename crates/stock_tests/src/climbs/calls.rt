@@ -216,8 +216,8 @@ pub(super) fn reap_one<D: Deed>(
 /// An interval of each depot of the first arena ends.
 pub(super) fn tick<D: Deed>(rt: &impl Abort, walk: &mut Walk<D>) {
     for cache in 1..17 {
-        if let Some(place) = walk.stock.cache_at(0, cache) {
-            walk.stock.tick(0, place);
+        if let Some(index) = walk.stock.cache_at(0, cache) {
+            walk.stock.tick(0, index);
         }
     }
     assert!(rt; walk.stock.count() > 0);
@@ -227,8 +227,8 @@ pub(super) fn tick<D: Deed>(rt: &impl Abort, walk: &mut Walk<D>) {
 pub(super) fn resize<D: Deed>(rt: &impl Abort, walk: &mut Walk<D>, size: usize) {
     assert!(rt; is_magazine_size(size));
     for cache in 1..17 {
-        if let Some(place) = walk.stock.cache_at(0, cache) {
-            assert!(rt; walk.stock.resize(0, place, size).is_ok());
+        if let Some(index) = walk.stock.cache_at(0, cache) {
+            assert!(rt; walk.stock.resize(0, index, size).is_ok());
         }
     }
 }

@@ -91,7 +91,7 @@ fn past_the_caches(rt: HostRuntime) {
     let _root = end(&rt, walk).close();
 }
 
-/// None of these has a place in any arena of units.
+/// None of these has a base in any arena of units.
 #[test]
 fn bad_requests(rt: HostRuntime) {
     let mut setup = Setup::new(rt.alloc());

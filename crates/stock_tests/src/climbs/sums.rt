@@ -12,8 +12,8 @@ pub(super) fn free_units<D: Deed>(rt: &impl Abort, walk: &Walk<D>, arena: usize)
 pub(super) fn slab_units<D: Deed>(walk: &Walk<D>, arena: u32) -> u128 {
     let mut units: u128 = 0;
     for cache in 1..17 {
-        if let Some(place) = walk.stock.cache_at(arena, cache) {
-            let report = walk.stock.slab_report(arena as usize, place);
+        if let Some(index) = walk.stock.cache_at(arena, cache) {
+            let report = walk.stock.slab_report(arena as usize, index);
             units = units.saturating_add(u128::from(report.idle));
             units = units.saturating_add(u128::from(report.gap));
             units = units.saturating_add(u128::from(report.tail));
@@ -25,18 +25,18 @@ pub(super) fn slab_units<D: Deed>(walk: &Walk<D>, arena: u32) -> u128 {
 /// In the depot of one of its caches.
 pub(super) fn depot_units<D: Deed>(walk: &Walk<D>, arena: u32, cache: u8) -> u128 {
     match walk.stock.cache_at(arena, cache) {
-        Some(place) => walk.stock.depot_units(arena as usize, place),
+        Some(index) => walk.stock.depot_units(arena as usize, index),
         None => 0,
     }
 }
 
 /// In magazines: the depots' and both CPUs'.
 pub(super) fn magazine_units<D: Deed>(walk: &Walk<D>, arena: u32) -> u128 {
-    let place = arena as usize;
+    let index = arena as usize;
     let mut units = walk
         .cpu
-        .units(place)
-        .saturating_add(walk.other.units(place));
+        .units(index)
+        .saturating_add(walk.other.units(index));
     for cache in 1..17 {
         units = units.saturating_add(depot_units(walk, arena, cache));
     }

@@ -57,12 +57,12 @@ fn keep(
 
 /// The segment of this arena with this base.
 fn held(rt: &impl Abort, walk: &mut Walk<PlainDeed>, arena: u32, base: u64) -> Segment<PlainDeed> {
-    let place = walk
+    let index = walk
         .held
         .iter()
         .position(|s| s.arena() == arena && s.range().base() == base)
         .expect(rt, "a segment");
-    walk.held.remove(place)
+    walk.held.remove(index)
 }
 
 /// No room.

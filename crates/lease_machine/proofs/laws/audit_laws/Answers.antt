@@ -1,4 +1,4 @@
-use Rattle.lease_machine.proofs.Places.{audit_tells_leases, audit_is_whole, audit_is_told}
+use Rattle.lease_machine.proofs.Homes.{audit_tells_leases, audit_is_whole, audit_is_told}
 use Rattle.lease_machine.proofs.laws.audit_laws.Goals as goal
 
 pub returns-clause-leases : goal.returns-clause-leases

@@ -3,7 +3,7 @@ use Rattle.lease_server.specs.declared.faults.ServeFault.{ServeFault}
 use Rattle.lease_server.specs.Intakes.{IntakeState}
 use Rattle.lease_server.specs.Serving.{ServesAll, ServeFails}
 use Rattle.lease_server.specs.Watching.{streams_of}
-use Rattle.lease_tcp.specs.Connections.{WorkerMayAnswer, Serves, BreaksOff}
+use Rattle.lease_tcp.specs.Connections.{WorkerMayAnswer, ServesConnection, BreaksOff}
 use Rattle.lease_tcp.proofs.connections.serve_connection.Goals as goal
 
 -- what holds where a result is Ok, from what holds there
@@ -23,7 +23,7 @@ returns-clause-ok g c =
     let served = λ (i : IntakeState). ServesAll (WorkerMayAnswer g.K.Worker.may_reply g.K.Worker.may_tidy) i.hand old new c.args.lines.now c.serve-served.new.responder in
     at_ok c.serve-served.result
     (served c.new-input.result)
-    (Serves g.K.Worker.may_reply g.K.Worker.may_tidy old new c.args.lines.now c.tidy.new.self)
+    (ServesConnection g.K.Worker.may_reply g.K.Worker.may_tidy old new c.args.lines.now c.tidy.new.self)
     (λ all. (c.serve-served.new.responder, subst served c.new-input.ensures all, c.tidy.ensures))
     c.serve-served.ensures.ok
 

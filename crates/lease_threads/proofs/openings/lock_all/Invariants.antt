@@ -3,7 +3,7 @@ use Rattle.lease_threads.specs.Openings.{roots_of}
 use Rattle.lease_threads.proofs.openings.lock_all.Given as goal
 
 abbrev pub invariant-loop-made : goal.invariant-loop-made
-invariant-loop-made g l = (vec_len l.places + vec_len l.made ≤ vec_capacity l.places)
+invariant-loop-made g l = (vec_len l.arenas + vec_len l.made ≤ vec_capacity l.arenas)
     × (vec_len l.roots + vec_len l.made ≤ vec_capacity l.roots)
     × (map (λ r. r.root) l.roots.items ++ roots_of l.made.items ≡ map (λ r. r.root) l.fn.roots.items ++ roots_of l.fn.made.items)
 

@@ -7,5 +7,5 @@ returns-clause-conserves g c = laws.plan_conserves _
 pub returns-clause-setup : goal.returns-clause-setup
 returns-clause-setup g c = laws.plan_keeps_setup _
 
-pub returns-clause-place : goal.returns-clause-place
-returns-clause-place g c = laws.plan_in_one_place _
+pub returns-clause-home : goal.returns-clause-home
+returns-clause-home g c = laws.plan_in_one_home _

@@ -6,4 +6,4 @@ returns-in_default g c = none_empty (record { spaces = c.args.stock.now; cpu = c
 
 pub returns : goal.returns
 returns g c =
-    empty_whole (record { spaces = c.args.stock.now; cpu = c.args.cpu.now }) (record { spaces = c.swap_empty_at.new.stock; cpu = c.swap_empty_at.new.self }) c.count.ensures.stock c.args.arena c.args.cache c.in-Some.place c.in-Some.ensures.some.0 c.in-Some.ensures.some.1 c.swap_empty_at.result c.swap_empty_at.ensures
+    empty_whole (record { spaces = c.args.stock.now; cpu = c.args.cpu.now }) (record { spaces = c.swap_empty_at.new.stock; cpu = c.swap_empty_at.new.self }) c.count.ensures.stock c.args.arena c.args.cache c.in-Some.index c.in-Some.ensures.some.0 c.in-Some.ensures.some.1 c.swap_empty_at.result c.swap_empty_at.ensures

@@ -9,8 +9,8 @@ use Rattle.locked_parts.proofs.own_events.pop_in.Goals as goal
 pub returns-clause-goes : goal.returns-clause-goes
 returns-clause-goes g c =
     let h = c.in-Some-own_at.ensures.kind in
-    let at : slice_get c.args.caches.now.items c.in-Some-own_at.place ≡ Some h.0 = (let e = c.deref.ensures.value in let there = h.1 in cc) in
-    let is = read_is c.args.caches.now.items c.in-Some-own_at.place c.index_mut-own.result.now h.0 c.index_mut-own.ensures.value at in (
+    let at : slice_get c.args.caches.now.items c.in-Some-own_at.index ≡ Some h.0 = (let e = c.deref.ensures.value in let there = h.1 in cc) in
+    let is = read_is c.args.caches.now.items c.in-Some-own_at.index c.index_mut-own.result.now h.0 c.index_mut-own.ensures.value at in (
       cached_given (nodes_of c.args.parts.now.arenas) c.args.arena c.args.cache c.in-Some.kind c.pop.result c.in-Some.ensures.kind
           (subst (λ k. IfSome c.pop.result (IsOfKind k)) (ap (λ (r : KindRoundsState). r.kind) is ∙ h.2) c.pop.ensures.chunk),
       refl,

@@ -4,8 +4,8 @@ use Rattle.stock_audit.proofs.laws.space_laws.Goals as goal
 pub returns-clause-tops : goal.returns-clause-tops
 returns-clause-tops c = laws.tops_stand
 
-pub returns-clause-place : goal.returns-clause-place
-returns-clause-place c = laws.space_unit_adds_up
+pub returns-clause-home : goal.returns-clause-home
+returns-clause-home c = laws.space_unit_adds_up
 
 pub returns-clause-lengths : goal.returns-clause-lengths
 returns-clause-lengths c = laws.space_adds_up

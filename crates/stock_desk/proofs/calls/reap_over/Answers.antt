@@ -1,18 +1,18 @@
 use Rattle.local_calls.proofs.LawProofs.{reap_always_done}
-use Rattle.stock_desk.specs.Parts.{parts_of}
+use Rattle.stock_desk.specs.Parts.{local_of}
 use Rattle.stock_desk.proofs.Runs.{ran_leaves, local_nodes, ran_here}
 use Rattle.stock_desk.proofs.calls.reap_over.Goals as goal
 
 pub reap-requires : goal.reap-requires
-reap-requires c = record { tree = (local_nodes c.args.parts.now.tree.now (parts_of c.args.parts.now.stock.now c.args.parts.now.cpu.now) c.requires.local) }
+reap-requires c = record { tree = (local_nodes c.args.parts.now.tree.now (local_of c.args.parts.now.stock.now c.args.parts.now.cpu.now) c.requires.local) }
 
 pub unreachable-requires : goal.unreachable-requires
 unreachable-requires c =
     let (others, out) = c.requires.out in
-    reap_always_done c.args.parts.now.tree.now _ (parts_of c.args.parts.now.stock.now c.args.parts.now.cpu.now) (parts_of c.reap.new.parts.stock.now c.reap.new.parts.cpu.now) others _ c.requires.local out (ran_here c.args.parts.now.tree.now (λ s. parts_of s.stock.now s.cpu.now) _ _ _ _ (λ s t e x d. d.0) _ _ _ _ (local_nodes c.args.parts.now.tree.now (parts_of c.args.parts.now.stock.now c.args.parts.now.cpu.now) c.requires.local) c.in-Err.ensures.ran)
+    reap_always_done c.args.parts.now.tree.now _ (local_of c.args.parts.now.stock.now c.args.parts.now.cpu.now) (local_of c.reap.new.parts.stock.now c.reap.new.parts.cpu.now) others _ c.requires.local out (ran_here c.args.parts.now.tree.now (λ s. local_of s.stock.now s.cpu.now) _ _ _ _ (λ s t e x d. d.0) _ _ _ _ (local_nodes c.args.parts.now.tree.now (local_of c.args.parts.now.stock.now c.args.parts.now.cpu.now) c.requires.local) c.in-Err.ensures.ran)
 
 pub returns-clause-ran : goal.returns-clause-ran
-returns-clause-ran c = ran_here c.args.parts.now.tree.now (λ s. parts_of s.stock.now s.cpu.now) _ _ _ _ (λ s t e x d. d.0) _ _ _ _ (local_nodes c.args.parts.now.tree.now (parts_of c.args.parts.now.stock.now c.args.parts.now.cpu.now) c.requires.local) c.in-Ok.ensures.ran
+returns-clause-ran c = ran_here c.args.parts.now.tree.now (λ s. local_of s.stock.now s.cpu.now) _ _ _ _ (λ s t e x d. d.0) _ _ _ _ (local_nodes c.args.parts.now.tree.now (local_of c.args.parts.now.stock.now c.args.parts.now.cpu.now) c.requires.local) c.in-Ok.ensures.ran
 
 pub returns-clause-same_stock : goal.returns-clause-same_stock
 returns-clause-same_stock c = ran_leaves _ _ _ _ (λ s. s.stock.ghost_name) (λ s e x t d. d.1) _ _ _ _ c.reap.ensures.ran

@@ -1,5 +1,5 @@
 use Rattle.std.proofs.Common.{◌≡◌, ◌<◌, ◌+◌, sym, subst, length, arith}
-use Rattle.lease_machine.specs.Operators.{resized}
+use Rattle.lease_machine.specs.Operators.{after_rise}
 use Rattle.stock_desk.proofs.DepotRows.{RowResized, resize_start, row_has, resize_rises, resize_stays, resize_rose, resize_none}
 use Rattle.stock_desk.proofs.depots.resize_arena.Goals as goal
 use Rattle.stock_desk.proofs.depots.resize_arena.Goals.{in-Ok, in-Err}
@@ -11,7 +11,7 @@ pub resize-requires-clause-has : goal.resize-requires-clause-has
 resize-requires-clause-has c =
     let count = c.caches-cache-end.ensures.value c.loop-cache.invariant.row.space c.loop-cache.invariant.row.at in
     let within : c.loop-cache.cache < length c.loop-cache.invariant.row.space.caches = omega (arith, count) in
-    row_has (resized c.args.rounds) c.args.arena c.loop-cache.cache c.args.stock.now c.loop-cache.stock c.loop-cache.invariant.row within
+    row_has (after_rise c.args.rounds) c.args.arena c.loop-cache.cache c.args.stock.now c.loop-cache.stock c.loop-cache.invariant.row within
 
 pub loop-cache-preserved : goal.loop-cache-preserved
 loop-cache-preserved c = elim c.match-resize.branch [

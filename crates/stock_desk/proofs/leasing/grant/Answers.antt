@@ -8,7 +8,7 @@ use Rattle.lease_book.specs.Calls.{IsGranted}
 use Rattle.lease_book.specs.declared.books.TheConstants.{MOST_LEASES}
 use Rattle.lease_book.specs.declared.receipts.Terms.{Terms}
 use Rattle.lease_machine.specs.Held.{IsHeld}
-use Rattle.stock_desk.specs.Supplies.{SupplyState, pictured}
+use Rattle.stock_desk.specs.Supplies.{SupplyState, picture_with}
 use Rattle.stock_desk.specs.Takings.{IsPutBack}
 use Rattle.stock_desk.specs.Telling.{reply_to_answer}
 use Rattle.stock_desk.proofs.Granting.{granted_picture, granted_step, granted_told, same_terms, kept_book, kept_step, still_held}
@@ -40,7 +40,7 @@ returns-in-Err-clause-picture c =
     let told = answer_told c.supply-in-Err.inside.tree c.args.book.now c.settle.new.self c.args.id why.Leases Full Short c.requires.new c.in-Err.not_leased.answer c.in-Err.ensures.answer in
     let reply = reply_to_answer c.supply-in-Err.inside.tree c.args.id c.in-Err.not_leased.answer in
     let held = still_held c.args.id c.args.line.now c.args.arena c.args.segment before c.args.book.now c.args.supply.now taken c.settle.new.self Short reply told in
-    let back = c.put_back.ensures c.settle.new.self (subst (λ (t : Tag). IsHeld (t ∷ []) (pictured c.settle.new.self c.args.supply.now)) (sym c.in-Err.ensures.handed_back) held) in
+    let back = c.put_back.ensures c.settle.new.self (subst (λ (t : Tag). IsHeld (t ∷ []) (picture_with c.settle.new.self c.args.supply.now)) (sym c.in-Err.ensures.handed_back) held) in
     back_is_picture c.in-Err.not_leased.segment c.args.supply.now c.put_back.new.self c.settle.new.self back
     (kept_book c.args.id c.args.line.now c.args.arena c.args.segment before c.args.book.now c.args.supply.now taken c.settle.new.self Short reply told)
 
@@ -51,7 +51,7 @@ returns-in-Err-clause-step c before taken =
     let told = answer_told c.supply-in-Err.inside.tree c.args.book.now c.settle.new.self c.args.id why.Leases Full Short c.requires.new c.in-Err.not_leased.answer c.in-Err.ensures.answer in
     let reply = reply_to_answer c.supply-in-Err.inside.tree c.args.id c.in-Err.not_leased.answer in
     let held = still_held c.args.id c.args.line.now c.args.arena c.args.segment before c.args.book.now c.args.supply.now taken c.settle.new.self Short reply told in
-    let gone = c.put_back.ensures c.settle.new.self (subst (λ (t : Tag). IsHeld (t ∷ []) (pictured c.settle.new.self c.args.supply.now)) (sym c.in-Err.ensures.handed_back) held) in
-    let back = subst (λ (t : Tag). IsPutBack t (pictured c.settle.new.self c.args.supply.now) (pictured c.settle.new.self c.put_back.new.self)) c.in-Err.ensures.handed_back gone in
+    let gone = c.put_back.ensures c.settle.new.self (subst (λ (t : Tag). IsHeld (t ∷ []) (picture_with c.settle.new.self c.args.supply.now)) (sym c.in-Err.ensures.handed_back) held) in
+    let back = subst (λ (t : Tag). IsPutBack t (picture_with c.settle.new.self c.args.supply.now) (picture_with c.settle.new.self c.put_back.new.self)) c.in-Err.ensures.handed_back gone in
     kept_step c.args.id c.args.line.now c.args.arena c.args.segment before c.args.book.now c.args.supply.now taken c.settle.new.self c.put_back.new.self back Short c.answered.result
     (subst (λ (r : Reply). Outcome c.args.book.now c.settle.new.self c.args.id why.Leases Full Short r) (sym c.answered.ensures) told)

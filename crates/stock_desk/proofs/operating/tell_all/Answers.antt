@@ -2,26 +2,26 @@ use Rattle.std.proofs.Common.{◌≡◌, ◌++◌, ◌∙◌, ap, refl, sym, sub
 use Rattle.lease_proto.specs.declared.operators.OperatorLine.{OperatorLine}
 use Rattle.lease_proto.specs.declared.operators.OperatorLine.TheVariants as operator
 use Rattle.lease_machine.specs.Operators.{LeavesOff, arenas_told}
-use Rattle.lease_machine.specs.Picture.{Cpu}
+use Rattle.lease_machine.specs.Picture.{NumberedCpu}
 use Rattle.stock_desk.specs.Operating.{IsPerformed}
-use Rattle.stock_desk.specs.Supplies.{SupplyState, pictured}
+use Rattle.stock_desk.specs.Supplies.{SupplyState, picture_with}
 use Rattle.stock_desk.proofs.Balances.{on_ok}
 use Rattle.stock_desk.proofs.Performing.{on_err_map, keeps_none}
 use Rattle.stock_desk.proofs.operating.tell_all.Goals as goal
 
 pub returns-in-Cpu-clause-left : goal.returns-in-Cpu-clause-left
 returns-in-Cpu-clause-left c = on_err_map c.tell_cpu.result _ _
-    (λ left. subst (λ (o : OperatorLine). LeavesOff o (pictured c.args.book.now c.args.supply.now) (pictured c.args.book.now c.tell_cpu.new.supply)) (sym c.in-Cpu.is) (left c.args.book.now))
+    (λ left. subst (λ (o : OperatorLine). LeavesOff o (picture_with c.args.book.now c.args.supply.now) (picture_with c.args.book.now c.tell_cpu.new.supply)) (sym c.in-Cpu.is) (left c.args.book.now))
     c.tell_cpu.ensures.left
 
 pub returns-in-Offline-clause-left : goal.returns-in-Offline-clause-left
 returns-in-Offline-clause-left c = on_err_map c.tell_offline.result _ _
-    (λ left. subst (λ (o : OperatorLine). LeavesOff o (pictured c.args.book.now c.args.supply.now) (pictured c.args.book.now c.tell_offline.new.supply)) (sym c.in-Offline.is) (left c.args.book.now))
+    (λ left. subst (λ (o : OperatorLine). LeavesOff o (picture_with c.args.book.now c.args.supply.now) (picture_with c.args.book.now c.tell_offline.new.supply)) (sym c.in-Offline.is) (left c.args.book.now))
     c.tell_offline.ensures.left
 
 pub returns-in-Audit-clause-ok : goal.returns-in-Audit-clause-ok
 returns-in-Audit-clause-ok c =
-    let d = pictured c.args.book.now c.args.supply.now in
+    let d = picture_with c.args.book.now c.args.supply.now in
     on_ok c.audit.result _ _
     (λ told. (
       arenas_told d d.tree d.spaces,

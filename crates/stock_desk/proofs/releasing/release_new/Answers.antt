@@ -5,7 +5,7 @@ use Rattle.lease_proto.specs.declared.replies.Reply.{Reply}
 use Rattle.lease_terms.specs.declared.refusals.Refusal.TheVariants as why
 use Rattle.lease_book.specs.Account.{is_lease}
 use Rattle.lease_book.specs.BookState.{account_in}
-use Rattle.stock_desk.specs.Supplies.{pictured}
+use Rattle.stock_desk.specs.Supplies.{picture_with}
 use Rattle.stock_desk.specs.Telling.{reply_to_answer}
 use Rattle.stock_desk.proofs.BookMoves.{released_in_hand, released_book}
 use Rattle.stock_desk.proofs.Outcomes.{Outcome, answer_named, answer_told, outcome_is_picture, release_refused}
@@ -16,7 +16,7 @@ pub put_back-requires : goal.put_back-requires
 put_back-requires c = record {
   held = (
     c.release.new.self,
-    released_in_hand (pictured c.args.book.now c.args.supply.now) c.release.new.self c.args.id c.args.arena c.args.line.now.base c.in-Ok.field-0-0 c.in-Ok.segment c.in-Ok.ensures.released c.requires.picture,
+    released_in_hand (picture_with c.args.book.now c.args.supply.now) c.release.new.self c.args.id c.args.arena c.args.line.now.base c.in-Ok.field-0-0 c.in-Ok.segment c.in-Ok.ensures.released c.requires.picture,
   );
 }
 
@@ -27,23 +27,23 @@ answered-requires c =
 
 pub returns-in-Ok-clause-picture : goal.returns-in-Ok-clause-picture
 returns-in-Ok-clause-picture c =
-    let before = pictured c.args.book.now c.args.supply.now in
+    let before = picture_with c.args.book.now c.args.supply.now in
     let held = released_in_hand before c.release.new.self c.args.id c.args.arena c.args.line.now.base c.in-Ok.field-0-0 c.in-Ok.segment c.in-Ok.ensures.released c.requires.picture in
     back_is_picture c.in-Ok.segment c.args.supply.now c.put_back.new.self c.release.new.self (c.put_back.ensures c.release.new.self held)
     (released_book before c.release.new.self c.args.id c.args.arena c.args.line.now.base c.in-Ok.field-0-0 c.in-Ok.segment c.in-Ok.ensures.released c.requires.picture)
 
 pub returns-in-Ok-clause-setup : goal.returns-in-Ok-clause-setup
 returns-in-Ok-clause-setup c =
-    let held = released_in_hand (pictured c.args.book.now c.args.supply.now) c.release.new.self c.args.id c.args.arena c.args.line.now.base c.in-Ok.field-0-0 c.in-Ok.segment c.in-Ok.ensures.released c.requires.picture in
+    let held = released_in_hand (picture_with c.args.book.now c.args.supply.now) c.release.new.self c.args.id c.args.arena c.args.line.now.base c.in-Ok.field-0-0 c.in-Ok.segment c.in-Ok.ensures.released c.requires.picture in
     setup_from c.in-Ok.segment c.args.supply.now c.put_back.new.self c.release.new.self c.args.book.now (c.put_back.ensures c.release.new.self held)
 
 pub returns-in-Ok-clause-step : goal.returns-in-Ok-clause-step
 returns-in-Ok-clause-step c =
-    let held = released_in_hand (pictured c.args.book.now c.args.supply.now) c.release.new.self c.args.id c.args.arena c.args.line.now.base c.in-Ok.field-0-0 c.in-Ok.segment c.in-Ok.ensures.released c.requires.picture in
+    let held = released_in_hand (picture_with c.args.book.now c.args.supply.now) c.release.new.self c.args.id c.args.arena c.args.line.now.base c.in-Ok.field-0-0 c.in-Ok.segment c.in-Ok.ensures.released c.requires.picture in
     let here = slice_get_some c.args.supply.now.tree c.args.arena c.requires.within in (
       refl,
       record {
-        place = c.args.arena;
+        index = c.args.arena;
         arena = here.0;
         finds = record { first = c.requires.first; here = here.1 };
         segment = c.in-Ok.segment;

@@ -4,7 +4,7 @@ use Rattle.deed_core.specs.Covering.{units_held}
 use Rattle.deed_core.proofs.LawProofs.{slice_get_some}
 use Rattle.tag_arena.specs.ArenaState.{spans_of}
 use Rattle.stock_audit.specs.Outside.{out_of}
-use Rattle.stock_audit.specs.Audits.{told}
+use Rattle.stock_audit.specs.Audits.{told_sums}
 use Rattle.arena_tree.specs.declared.trees.TreeArena.{TreeArena}
 use Rattle.stock.specs.Spaces.{SpaceState}
 use Rattle.lease_proto.specs.Reports.{audit_text}
@@ -25,7 +25,7 @@ audit_units-sums-requires-clause-balanced c =
 
 pub returns-clause-ok : goal.returns-clause-ok
 returns-clause-ok c = on_ok c.write.result
-    (c.write.new.out.items ≡ c.args.out.now.items ++ audit_text (audit_line c.arena.result.now.name (told c.audit_units-sums.result)))
+    (c.write.new.out.items ≡ c.args.out.now.items ++ audit_text (audit_line c.arena.result.now.name (told_sums c.audit_units-sums.result)))
     ((d : Picture) (x : TreeArena) (s : SpaceState) → IsPicture d → HasParts c.args.tree.now c.args.stock.now c.args.cpus.now c.args.book.now d
     → slice_get c.args.tree.now c.args.arena ≡ Some x → slice_get c.args.stock.now c.args.arena ≡ Some s
     → c.write.new.out.items ≡ c.args.out.now.items ++ audit_text (audit_line x.name (sums_in d s)))

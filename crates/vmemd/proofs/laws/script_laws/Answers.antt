@@ -1,4 +1,4 @@
-use Rattle.vmemd.proofs.LawLemmas.{scripts_split, script_leases_apart, script_units_one_place, script_audit_told, script_audit_whole}
+use Rattle.vmemd.proofs.LawLemmas.{scripts_split, script_leases_apart, script_units_one_home, script_audit_told, script_audit_whole}
 use Rattle.vmemd.proofs.laws.script_laws.Goals as goal
 
 pub returns-clause-split : goal.returns-clause-split
@@ -7,8 +7,8 @@ returns-clause-split c = scripts_split
 pub returns-clause-apart : goal.returns-clause-apart
 returns-clause-apart c = script_leases_apart
 
-pub returns-clause-places : goal.returns-clause-places
-returns-clause-places c = script_units_one_place
+pub returns-clause-homes : goal.returns-clause-homes
+returns-clause-homes c = script_units_one_home
 
 pub returns-clause-told : goal.returns-clause-told
 returns-clause-told c = script_audit_told

@@ -1,6 +1,6 @@
 use Rattle.std.proofs.Common.{◌≡◌, Ok, Err, refl, subst, sym}
 use Rattle.lease_server.specs.Watching.{Streams}
-use Rattle.vmemd.specs.Running.{Attends, Closes, Runs, console_streams}
+use Rattle.vmemd.specs.Running.{Attends, Closes, ServesToItsEnd, console_streams}
 use Rattle.vmemd.proofs.RunningLemmas.{run_fails, run_closes}
 use Rattle.vmemd.proofs.running.close.Goals as goal
 use Rattle.vmemd.proofs.running.close.Goals.{in-Ok, in-Err}
@@ -15,6 +15,6 @@ returns-clause-runs g c = λ old a.
           run_closes old mid new tt c.match-ended.ended (subst (λ e. Attends old mid e) w.in-Ok.is a) refl closes
       | in-Err w ↦
           let fails = run_fails old mid w.in-Err.fault (subst (λ e. Attends old mid e) w.in-Err.is a) in
-          subst (λ o. Runs old (console_streams g.I.Read.remaining g.W.Write.contents record { input = c.args.ran.console.input; out = o }) c.match-ended.ended)
-          (sym w.out-is) (subst (λ e. Runs old mid e) (sym w.ended-is) fails)
+          subst (λ o. ServesToItsEnd old (console_streams g.I.Read.remaining g.W.Write.contents record { input = c.args.ran.console.input; out = o }) c.match-ended.ended)
+          (sym w.out-is) (subst (λ e. ServesToItsEnd old mid e) (sym w.ended-is) fails)
     ]

@@ -1,5 +1,5 @@
 use Rattle.world_tests.proofs.Clients.{HasClients}
 use Rattle.world_tests.proofs.worlds.world_of.Given as goal
 
-abbrev pub invariant-loop-place : goal.invariant-loop-place
-invariant-loop-place g l = HasClients l.place l.made
+abbrev pub invariant-loop-index : goal.invariant-loop-index
+invariant-loop-index g l = HasClients l.index l.made

@@ -3,7 +3,7 @@ use Rattle.std.specs.Vec.{with_item}
 use Rattle.deed_core.specs.Holding.{Holding}
 use Rattle.fast_arena.specs.Cuts.{IsCut}
 use Rattle.fast_arena.specs.FreeTags.{SlotBecomes, tag_at}
-use Rattle.fast_arena.specs.Slotted.{taken}
+use Rattle.fast_arena.specs.Slotted.{taken_count}
 use Rattle.fast_arena.proofs.Slotting.{emptied, one_taken, slot_set, slot_within, set_back, slotted_same, tag_is, taken_is}
 use Rattle.fast_arena.proofs.slots.Slots.cut.Goals as goal
 
@@ -42,7 +42,7 @@ returns-in-Ok-clause-taken g c =
     let s = c.self.inside in
     let here = ap (λ v. tag_at v.tags c.args.at) c.self.view_is ∙ c.requires.here in
     let one = one_taken s.slots (with_item s.slots c.args.at c.take.new.self) s.vacant c.push_reserved.new.self s.room c.args.at c.args.tag c.self.invariant here (ap (λ o. slice_set s.slots.items c.args.at o) c.take.ensures.after) c.push_reserved.ensures.items in
-    let same = ap (λ v. taken v.tags) c.self.view_is in
+    let same = ap (λ v. taken_count v.tags) c.self.view_is in
     omega (arith, one, same)
 
 pub returns-in-None-clause-unchanged : goal.returns-in-None-clause-unchanged

@@ -1,6 +1,6 @@
 use Rattle.std.proofs.Common.{Some, slice_set, ap, sym, subst, refl, arith}
 use Rattle.fast_arena.specs.FreeTags.{SlotBecomes}
-use Rattle.fast_arena.specs.Slotted.{taken}
+use Rattle.fast_arena.specs.Slotted.{taken_count}
 use Rattle.fast_arena.proofs.Slotting.{filled, one_of, slot_set, taken_set, vacant_last}
 use Rattle.fast_arena.proofs.slots.Slots.put.Goals as goal
 
@@ -24,5 +24,5 @@ returns-in-None-replace-clause-taken g c =
     let count = taken_set s.slots.items c.in-Some.slot c.replace.new.self last.0 in
     let was = ap one_of last.1 in
     let now = ap one_of c.replace.ensures.after in
-    let same = ap (λ v. taken v.tags) c.self.view_is in
+    let same = ap (λ v. taken_count v.tags) c.self.view_is in
     omega (arith, count, was, now, same)

@@ -15,4 +15,4 @@ index_mut-own-requires g c =
 pub returns : goal.returns
 returns g c =
     let o = opens_row c.args.self.now c.self.inside.rows.items c.args.arena c.row.inside.caches.items c.index_mut-row.result.now c.self.view_is (row_within _ _ _ c.requires) c.index_mut-row.ensures.value c.row.view_is in
-    on_own (OwnPops c.pop.result) _ _ _ c.args.cache _ c.index_mut-own.result.now c.pop.new.self o c.requires c.index_mut-own.ensures.value (record { place = c.pop.ensures.place; popped = c.pop.ensures.popped; weights = c.pop.ensures.weights; chunk = c.pop.ensures.chunk })
+    on_own (OwnPops c.pop.result) _ _ _ c.args.cache _ c.index_mut-own.result.now c.pop.new.self o c.requires c.index_mut-own.ensures.value (record { index = c.pop.ensures.index; popped = c.pop.ensures.popped; weights = c.pop.ensures.weights; chunk = c.pop.ensures.chunk })

@@ -1,13 +1,13 @@
 use Rattle.std.proofs.Common.{◌<◌, ap, subst}
-use Rattle.locked_parts.specs.Kinds.{caches_of}
-use Rattle.locked_parts.specs.States.{PartsState}
+use Rattle.locked_parts.specs.Kinds.{count_of_caches}
+use Rattle.locked_parts.specs.States.{LockedPartsState}
 use Rattle.locked_parts.proofs.Walks.{rose_least}
 use Rattle.locked_parts.proofs.parts.LockedParts.resize.Goals as goal
 
 pub returns : goal.returns
 returns g c = record {
   rose = λ e.
-      (let seen = ap (λ (s : PartsState). s.arenas) c.self.view_is in
+      (let seen = ap (λ (s : LockedPartsState). s.arenas) c.self.view_is in
       let risen = rose_least _ c.args.arena c.args.size _ _ c.resize_each.result _ c.resize_each.ensures e in
-      (risen.0, subst (λ arenas. 0 < caches_of arenas c.args.arena) seen risen.1));
+      (risen.0, subst (λ arenas. 0 < count_of_caches arenas c.args.arena) seen risen.1));
 }

@@ -4,6 +4,6 @@ use Rattle.stock.proofs.setups.StockSetup.add_planned.Given as goal
 
 abbrev pub invariant-loop-cache : goal.invariant-loop-cache
 invariant-loop-cache g l = record {
-  at : l.place ≡ length l.fn.self;
+  at : l.index ≡ length l.fn.self;
   is : IsPlanning l.rounds l.arena l.fn.self l.self l._cache;
 }

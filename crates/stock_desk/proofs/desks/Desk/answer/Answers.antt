@@ -17,9 +17,9 @@ returns-in-Ok-clause-ok c = on_ok c.serve.result
     ))
     c.serve.ensures.ok
 
-pub returns-in-Ok-clause-err : goal.returns-in-Ok-clause-err
-returns-in-Ok-clause-err c = on_err_map c.serve.result (c.serve.new.out.items ≡ c.reserve.new.self.items) (c.serve.new.out.items ≡ c.args.out.now.items)
-    (λ is. is ∙ c.reserve.ensures.items) c.serve.ensures.err
+pub returns-in-Ok-clause-unwritten : goal.returns-in-Ok-clause-unwritten
+returns-in-Ok-clause-unwritten c = on_err_map c.serve.result (c.serve.new.out.items ≡ c.reserve.new.self.items) (c.serve.new.out.items ≡ c.args.out.now.items)
+    (λ is. is ∙ c.reserve.ensures.items) c.serve.ensures.unwritten
 
 pub returns-in-Err-clause-ok : goal.returns-in-Err-clause-ok
 returns-in-Err-clause-ok c =
@@ -31,6 +31,6 @@ returns-in-Err-clause-ok c =
     (λ is. (is.0, is.1 ∙ ap (λ l. l ++ is.0) c.reserve.ensures.items, is.2))
     (appended c.extend_from_slice.result (λ l. LeaseStep c.args.self.now c.args.line.now l c.args.self.now) c.reserve.new.self.items c.line.result.now c.extend_from_slice.new.self.items c.extend_from_slice.ensures.items step)
 
-pub returns-in-Err-clause-err : goal.returns-in-Err-clause-err
-returns-in-Err-clause-err c = on_err_map c.extend_from_slice.result (c.extend_from_slice.new.self.items ≡ c.reserve.new.self.items) (c.extend_from_slice.new.self.items ≡ c.args.out.now.items)
+pub returns-in-Err-clause-unwritten : goal.returns-in-Err-clause-unwritten
+returns-in-Err-clause-unwritten c = on_err_map c.extend_from_slice.result (c.extend_from_slice.new.self.items ≡ c.reserve.new.self.items) (c.extend_from_slice.new.self.items ≡ c.args.out.now.items)
     (λ is. is ∙ c.reserve.ensures.items) (left_alone c.extend_from_slice.result c.reserve.new.self.items c.line.result.now c.extend_from_slice.new.self.items c.extend_from_slice.ensures.items)

@@ -1,10 +1,10 @@
 use Rattle.std.proofs.Common.{◌≡◌, ◌<◌, ◌∙◌, sym, ap, subst, [], ◌∷◌, length, position, set, Some}
 use Rattle.std.specs.Prelude.{slice_get}
 use Rattle.deed_core.proofs.LawProofs.{slice_get_here}
-use Rattle.lease_machine.specs.Picture.{Cpu, is_cpu}
+use Rattle.lease_machine.specs.Picture.{NumberedCpu, is_cpu}
 use Rattle.lease_machine.specs.Held.{IsHeld}
-use Rattle.stock_desk.specs.Parts.{parts_of}
-use Rattle.stock_desk.specs.Supplies.{SupplyState, pictured}
+use Rattle.stock_desk.specs.Parts.{local_of}
+use Rattle.stock_desk.specs.Supplies.{SupplyState, picture_with}
 use Rattle.stock_desk.specs.Takings.{IsPutBack}
 use Rattle.stock_desk.proofs.PuttingBack.{hand_within, hand_out, put_back_so}
 use Rattle.stock_desk.proofs.supplies.Supply.put_back.Goals as goal
@@ -12,28 +12,28 @@ use Rattle.stock_desk.proofs.supplies.Supply.put_back.Goals as goal
 pub free_with-requires-clause-arena : goal.free_with-requires-clause-arena
 free_with-requires-clause-arena c =
     let (b, now) = c.requires.held in
-    let held = subst (λ (s : SupplyState). IsHeld (c.args.segment ∷ []) (pictured b s)) (sym c.self.view_is) now in
-    let first : position (is_cpu c.self.inside.selected) c.self.inside.cpus.items ≡ Some c.place-place.result = subst (λ (s : SupplyState). position (is_cpu s.selected) s.cpus ≡ Some c.place-place.result) (sym c.self.view_is) c.place-place.ensures.place in
-    let within : c.place-place.result < length c.self.inside.cpus.items = subst (λ (s : SupplyState). c.place-place.result < length s.cpus) (sym c.self.view_is) c.place-place.ensures.within in
-    let at : slice_get c.self.inside.cpus.items c.place-place.result ≡ Some c.index_mut-cpu.result.now = slice_get_here c.self.inside.cpus.items c.place-place.result c.index_mut-cpu.result.now within c.index_mut-cpu.ensures.value in
-    hand_within (pictured b (record { tree = c.self.inside.tree; spaces = c.self.inside.stock; cpus = c.self.inside.cpus.items; selected = c.self.inside.selected })) c.place-place.result c.index_mut-cpu.result.now first at c.args.segment held
+    let held = subst (λ (s : SupplyState). IsHeld (c.args.segment ∷ []) (picture_with b s)) (sym c.self.view_is) now in
+    let first : position (is_cpu c.self.inside.selected) c.self.inside.cpus.items ≡ Some c.selected_index-index.result = subst (λ (s : SupplyState). position (is_cpu s.selected) s.cpus ≡ Some c.selected_index-index.result) (sym c.self.view_is) c.selected_index-index.ensures.index in
+    let within : c.selected_index-index.result < length c.self.inside.cpus.items = subst (λ (s : SupplyState). c.selected_index-index.result < length s.cpus) (sym c.self.view_is) c.selected_index-index.ensures.within in
+    let at : slice_get c.self.inside.cpus.items c.selected_index-index.result ≡ Some c.index_mut-cpu.result.now = slice_get_here c.self.inside.cpus.items c.selected_index-index.result c.index_mut-cpu.result.now within c.index_mut-cpu.ensures.value in
+    hand_within (picture_with b (record { tree = c.self.inside.tree; spaces = c.self.inside.stock; cpus = c.self.inside.cpus.items; selected = c.self.inside.selected })) c.selected_index-index.result c.index_mut-cpu.result.now first at c.args.segment held
 
 pub free_with-requires-clause-out : goal.free_with-requires-clause-out
 free_with-requires-clause-out c =
     let (b, now) = c.requires.held in
-    let held = subst (λ (s : SupplyState). IsHeld (c.args.segment ∷ []) (pictured b s)) (sym c.self.view_is) now in
-    let cpu : Cpu = record { number = c.cpu.inside.number; caches = c.cpu.inside.caches } in
-    let first : position (is_cpu c.self.inside.selected) c.self.inside.cpus.items ≡ Some c.place-place.result = subst (λ (s : SupplyState). position (is_cpu s.selected) s.cpus ≡ Some c.place-place.result) (sym c.self.view_is) c.place-place.ensures.place in
-    let within : c.place-place.result < length c.self.inside.cpus.items = subst (λ (s : SupplyState). c.place-place.result < length s.cpus) (sym c.self.view_is) c.place-place.ensures.within in
-    let at : slice_get c.self.inside.cpus.items c.place-place.result ≡ Some cpu = slice_get_here c.self.inside.cpus.items c.place-place.result c.index_mut-cpu.result.now within c.index_mut-cpu.ensures.value ∙ ap (λ (x : Cpu). Some x) (sym c.cpu.view_is) in
-    hand_out (pictured b (record { tree = c.self.inside.tree; spaces = c.self.inside.stock; cpus = c.self.inside.cpus.items; selected = c.self.inside.selected })) c.place-place.result cpu first at c.args.segment held
+    let held = subst (λ (s : SupplyState). IsHeld (c.args.segment ∷ []) (picture_with b s)) (sym c.self.view_is) now in
+    let cpu : NumberedCpu = record { number = c.cpu.inside.number; caches = c.cpu.inside.caches } in
+    let first : position (is_cpu c.self.inside.selected) c.self.inside.cpus.items ≡ Some c.selected_index-index.result = subst (λ (s : SupplyState). position (is_cpu s.selected) s.cpus ≡ Some c.selected_index-index.result) (sym c.self.view_is) c.selected_index-index.ensures.index in
+    let within : c.selected_index-index.result < length c.self.inside.cpus.items = subst (λ (s : SupplyState). c.selected_index-index.result < length s.cpus) (sym c.self.view_is) c.selected_index-index.ensures.within in
+    let at : slice_get c.self.inside.cpus.items c.selected_index-index.result ≡ Some cpu = slice_get_here c.self.inside.cpus.items c.selected_index-index.result c.index_mut-cpu.result.now within c.index_mut-cpu.ensures.value ∙ ap (λ (x : NumberedCpu). Some x) (sym c.cpu.view_is) in
+    hand_out (picture_with b (record { tree = c.self.inside.tree; spaces = c.self.inside.stock; cpus = c.self.inside.cpus.items; selected = c.self.inside.selected })) c.selected_index-index.result cpu first at c.args.segment held
 
 pub returns : goal.returns
 returns c b now =
-    let held = subst (λ (s : SupplyState). IsHeld (c.args.segment ∷ []) (pictured b s)) (sym c.self.view_is) now in
-    let cpu : Cpu = record { number = c.cpu.inside.number; caches = c.cpu.inside.caches } in
-    let first : position (is_cpu c.self.inside.selected) c.self.inside.cpus.items ≡ Some c.place-place.result = subst (λ (s : SupplyState). position (is_cpu s.selected) s.cpus ≡ Some c.place-place.result) (sym c.self.view_is) c.place-place.ensures.place in
-    let within : c.place-place.result < length c.self.inside.cpus.items = subst (λ (s : SupplyState). c.place-place.result < length s.cpus) (sym c.self.view_is) c.place-place.ensures.within in
-    let at : slice_get c.self.inside.cpus.items c.place-place.result ≡ Some cpu = slice_get_here c.self.inside.cpus.items c.place-place.result c.index_mut-cpu.result.now within c.index_mut-cpu.ensures.value ∙ ap (λ (x : Cpu). Some x) (sym c.cpu.view_is) in
-    subst (λ (s : SupplyState). IsPutBack c.args.segment (pictured b s) (pictured b (record { tree = c.self.inside.tree; spaces = c.free_with.new.stock; cpus = (set c.self.inside.cpus.items c.place-place.result (record { number = c.cpu.inside.number; caches = c.free_with.new.cpu })); selected = c.self.inside.selected }))) c.self.view_is
-    (put_back_so (pictured b (record { tree = c.self.inside.tree; spaces = c.self.inside.stock; cpus = c.self.inside.cpus.items; selected = c.self.inside.selected })) c.place-place.result cpu first at c.args.segment held (parts_of c.free_with.new.stock c.free_with.new.cpu) c.free_with.ensures.ran)
+    let held = subst (λ (s : SupplyState). IsHeld (c.args.segment ∷ []) (picture_with b s)) (sym c.self.view_is) now in
+    let cpu : NumberedCpu = record { number = c.cpu.inside.number; caches = c.cpu.inside.caches } in
+    let first : position (is_cpu c.self.inside.selected) c.self.inside.cpus.items ≡ Some c.selected_index-index.result = subst (λ (s : SupplyState). position (is_cpu s.selected) s.cpus ≡ Some c.selected_index-index.result) (sym c.self.view_is) c.selected_index-index.ensures.index in
+    let within : c.selected_index-index.result < length c.self.inside.cpus.items = subst (λ (s : SupplyState). c.selected_index-index.result < length s.cpus) (sym c.self.view_is) c.selected_index-index.ensures.within in
+    let at : slice_get c.self.inside.cpus.items c.selected_index-index.result ≡ Some cpu = slice_get_here c.self.inside.cpus.items c.selected_index-index.result c.index_mut-cpu.result.now within c.index_mut-cpu.ensures.value ∙ ap (λ (x : NumberedCpu). Some x) (sym c.cpu.view_is) in
+    subst (λ (s : SupplyState). IsPutBack c.args.segment (picture_with b s) (picture_with b (record { tree = c.self.inside.tree; spaces = c.free_with.new.stock; cpus = (set c.self.inside.cpus.items c.selected_index-index.result (record { number = c.cpu.inside.number; caches = c.free_with.new.cpu })); selected = c.self.inside.selected }))) c.self.view_is
+    (put_back_so (picture_with b (record { tree = c.self.inside.tree; spaces = c.self.inside.stock; cpus = c.self.inside.cpus.items; selected = c.self.inside.selected })) c.selected_index-index.result cpu first at c.args.segment held (local_of c.free_with.new.stock c.free_with.new.cpu) c.free_with.ensures.ran)

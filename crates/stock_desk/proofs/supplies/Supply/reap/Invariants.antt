@@ -2,12 +2,12 @@ use Rattle.std.proofs.Common.{[]}
 use Rattle.local_calls.specs.Looks.{findable_in}
 use Rattle.lease_book.specs.BookState.{BookState}
 use Rattle.lease_machine.specs.Held.{IsHeld}
-use Rattle.stock_desk.specs.Supplies.{pictured}
+use Rattle.stock_desk.specs.Supplies.{picture_with}
 use Rattle.stock_desk.proofs.Reaping.{IsReapedSoFar}
 use Rattle.stock_desk.proofs.supplies.Supply.reap.Given as goal
 
 abbrev pub invariant-turns : goal.invariant-turns
-invariant-turns l = (b : BookState) → IsHeld [] (pictured b l.fn.self) → IsReapedSoFar l.units (pictured b l.fn.self) (pictured b l.self)
+invariant-turns l = (b : BookState) → IsHeld [] (picture_with b l.fn.self) → IsReapedSoFar l.units (picture_with b l.fn.self) (picture_with b l.self)
 
 abbrev pub decreases-turns : goal.decreases-turns
 decreases-turns l = findable_in l.self.spaces

@@ -19,20 +19,20 @@ returns-in-Some-popped g c =
     let empty : HasInHand w c.args.cpu None = ap (λ (x : WorldState). slice_get x.hands c.args.cpu) view ∙ c.requires.empty in
     let within : c.args.other < length w.failed = omega (arith, ap (λ (x : WorldState). length x.failed) view, c.requires.within) in
     let own : OwnCacheState = c.index_mut-own.result.now in
-    let found = subst (λ (x : WorldState). (o : OwnCacheState) × IsFirstWithRound x c.args.other c.in-Some.place o) (sym view) c.in-Some.ensures.some in
-    let at : slice_get w.caches c.in-Some.place ≡ Some own = slice_get_here w.caches c.in-Some.place own (slice_get_within w.caches c.in-Some.place found.0 found.1.has.mine.at) c.index_mut-own.ensures.value in
-    let first : IsFirstWithRound w c.args.other c.in-Some.place own = subst (λ (o : OwnCacheState). IsFirstWithRound w c.args.other c.in-Some.place o) (slice_get_one w.caches c.in-Some.place found.0 own found.1.has.mine.at at) found.1 in
+    let found = subst (λ (x : WorldState). (o : OwnCacheState) × IsFirstWithRound x c.args.other c.in-Some.index o) (sym view) c.in-Some.ensures.some in
+    let at : slice_get w.caches c.in-Some.index ≡ Some own = slice_get_here w.caches c.in-Some.index own (slice_get_within w.caches c.in-Some.index found.0 found.1.has.mine.at) c.index_mut-own.ensures.value in
+    let first : IsFirstWithRound w c.args.other c.in-Some.index own = subst (λ (o : OwnCacheState). IsFirstWithRound w c.args.other c.in-Some.index o) (slice_get_one w.caches c.in-Some.index found.0 own found.1.has.mine.at at) found.1 in
     let none : (t : Tag) → ¬ HasInHand w c.args.other (Some t) = λ t held. c.requires.none t (ap (λ (x : WorldState). slice_get x.hands c.args.other) (sym view) ∙ held) in
     let next : OwnCacheState = c.pop-popped.new.self in
     subst (λ x. EndsAs (events.Adopts c.args.cpu c.args.other) Done x c.fail.new.self) view
-    (adopts_round w c.args.cpu c.args.other c.requires.apart within empty c.in-Some.place own next c.in-Some-popped.round _ _ c.fail.new.self none first c.in-Some-popped.ensures.place c.in-Some-popped.ensures.popped c.in-Some-popped.ensures.weights c.place.ensures.own c.size.ensures.shape c.put.ensures (λ j. set w.caches c.in-Some.place next) c.fail.ensures)
+    (adopts_round w c.args.cpu c.args.other c.requires.apart within empty c.in-Some.index own next c.in-Some-popped.round _ _ c.fail.new.self none first c.in-Some-popped.ensures.index c.in-Some-popped.ensures.popped c.in-Some-popped.ensures.weights c.indexes.ensures.own c.size.ensures.shape c.put.ensures (λ j. set w.caches c.in-Some.index next) c.fail.ensures)
 
 pub unreachable-requires : goal.unreachable-requires
 unreachable-requires g c =
     let w : WorldState = record { stock = c.self.inside.stock; names = c.self.inside.names.items; hands = c.self.inside.hands.items; tasks = c.self.inside.tasks.items; failed = c.self.inside.failed.items; owners = c.self.inside.owners.items; caches = c.self.inside.caches.items; book = c.self.inside.book; entries = entries_of c.self.inside.log.items; clients = c.self.inside.clients.items; requests = c.self.inside.requests.items; replies = c.self.inside.replies.items } in
     let view : w ≡ c.args.self.now = c.self.view_is in
     let own : OwnCacheState = c.index_mut-own.result.now in
-    let found = subst (λ (x : WorldState). (o : OwnCacheState) × IsFirstWithRound x c.args.other c.in-Some.place o) (sym view) c.in-Some.ensures.some in
-    let at : slice_get w.caches c.in-Some.place ≡ Some own = slice_get_here w.caches c.in-Some.place own (slice_get_within w.caches c.in-Some.place found.0 found.1.has.mine.at) c.index_mut-own.ensures.value in
-    let first : IsFirstWithRound w c.args.other c.in-Some.place own = subst (λ (o : OwnCacheState). IsFirstWithRound w c.args.other c.in-Some.place o) (slice_get_one w.caches c.in-Some.place found.0 own found.1.has.mine.at at) found.1 in
+    let found = subst (λ (x : WorldState). (o : OwnCacheState) × IsFirstWithRound x c.args.other c.in-Some.index o) (sym view) c.in-Some.ensures.some in
+    let at : slice_get w.caches c.in-Some.index ≡ Some own = slice_get_here w.caches c.in-Some.index own (slice_get_within w.caches c.in-Some.index found.0 found.1.has.mine.at) c.index_mut-own.ensures.value in
+    let first : IsFirstWithRound w c.args.other c.in-Some.index own = subst (λ (o : OwnCacheState). IsFirstWithRound w c.args.other c.in-Some.index o) (slice_get_one w.caches c.in-Some.index found.0 own found.1.has.mine.at at) found.1 in
     absurd (first.has.some c.in-None.ensures.popped.0)

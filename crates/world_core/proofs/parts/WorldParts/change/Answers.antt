@@ -7,7 +7,7 @@ use Rattle.stock.specs.OwnCaches.{OwnCacheState}
 use Rattle.world_core.specs.WorldState.{WorldState, entries_of}
 use Rattle.world_core.specs.IsWorld.{IsWorld}
 use Rattle.world_core.specs.Moves.{IsOwnFor}
-use Rattle.world_core.specs.Events.{EndsAs, HasDepot, CanChange}
+use Rattle.world_core.specs.Events.{EndsAs, HasDepot, CanGrowTo}
 use Rattle.world_core.specs.declared.events.WorldEvent.TheVariants as events
 use Rattle.world_core.specs.declared.events.Outcome.TheVariants.{Done}
 use Rattle.world_core.proofs.OwnLemmas.{found_own}
@@ -20,13 +20,13 @@ change-requires-clause-room g c =
     let view : w ≡ c.args.self.now = c.self.view_is in
     let world : IsWorld w = subst IsWorld (sym view) c.requires.world in
     let own : OwnCacheState = c.index_mut-own.result.now in
-    let found = subst (λ (x : WorldState). (o : OwnCacheState) × IsOwnFor x c.args.cpu c.args.arena c.args.cache c.in-Some.place o) (sym view) c.in-Some.ensures.some in
-    let at : slice_get w.caches c.in-Some.place ≡ Some own = slice_get_here w.caches c.in-Some.place own (slice_get_within w.caches c.in-Some.place found.0 found.1.mine.at) c.index_mut-own.ensures.value in
-    let here : IsOwnFor w c.args.cpu c.args.arena c.args.cache c.in-Some.place own = found_own w c.args.cpu c.args.arena c.args.cache c.in-Some.place own found at in
-    let ready : HasDepot w c.args.cpu c.args.arena c.args.cache (CanChange c.args.size) = subst (λ (x : WorldState). HasDepot x c.args.cpu c.args.arena c.args.cache (CanChange c.args.size)) (sym view) c.in-Some.ensures.ready in
-    let can = grows w c.args.cpu c.args.arena c.args.cache c.in-Some.place own world here c.args.size ready in
+    let found = subst (λ (x : WorldState). (o : OwnCacheState) × IsOwnFor x c.args.cpu c.args.arena c.args.cache c.in-Some.index o) (sym view) c.in-Some.ensures.some in
+    let at : slice_get w.caches c.in-Some.index ≡ Some own = slice_get_here w.caches c.in-Some.index own (slice_get_within w.caches c.in-Some.index found.0 found.1.mine.at) c.index_mut-own.ensures.value in
+    let here : IsOwnFor w c.args.cpu c.args.arena c.args.cache c.in-Some.index own = found_own w c.args.cpu c.args.arena c.args.cache c.in-Some.index own found at in
+    let ready : HasDepot w c.args.cpu c.args.arena c.args.cache (CanGrowTo c.args.size) = subst (λ (x : WorldState). HasDepot x c.args.cpu c.args.arena c.args.cache (CanGrowTo c.args.size)) (sym view) c.in-Some.ensures.ready in
+    let can = grows w c.args.cpu c.args.arena c.args.cache c.in-Some.index own world here c.args.size ready in
     let size : c.in-Ok.loaded.size ≡ c.args.size = ap (λ (m : MagazineState). m.size) c.in-Ok.ensures.first in
-    omega (arith, size, has_room own.cpu c.args.size (world.shaped c.in-Some.place own at) can.0 can.1)
+    omega (arith, size, has_room own.cpu c.args.size (world.shaped c.in-Some.index own at) can.0 can.1)
 
 pub returns : goal.returns
 returns g c =
@@ -34,14 +34,14 @@ returns g c =
     let view : w ≡ c.args.self.now = c.self.view_is in
     let world : IsWorld w = subst IsWorld (sym view) c.requires.world in
     let own : OwnCacheState = c.index_mut-own.result.now in
-    let found = subst (λ (x : WorldState). (o : OwnCacheState) × IsOwnFor x c.args.cpu c.args.arena c.args.cache c.in-Some.place o) (sym view) c.in-Some.ensures.some in
-    let at : slice_get w.caches c.in-Some.place ≡ Some own = slice_get_here w.caches c.in-Some.place own (slice_get_within w.caches c.in-Some.place found.0 found.1.mine.at) c.index_mut-own.ensures.value in
-    let here : IsOwnFor w c.args.cpu c.args.arena c.args.cache c.in-Some.place own = found_own w c.args.cpu c.args.arena c.args.cache c.in-Some.place own found at in
-    let ready : HasDepot w c.args.cpu c.args.arena c.args.cache (CanChange c.args.size) = subst (λ (x : WorldState). HasDepot x c.args.cpu c.args.arena c.args.cache (CanChange c.args.size)) (sym view) c.in-Some.ensures.ready in
-    let can = grows w c.args.cpu c.args.arena c.args.cache c.in-Some.place own world here c.args.size ready in
+    let found = subst (λ (x : WorldState). (o : OwnCacheState) × IsOwnFor x c.args.cpu c.args.arena c.args.cache c.in-Some.index o) (sym view) c.in-Some.ensures.some in
+    let at : slice_get w.caches c.in-Some.index ≡ Some own = slice_get_here w.caches c.in-Some.index own (slice_get_within w.caches c.in-Some.index found.0 found.1.mine.at) c.index_mut-own.ensures.value in
+    let here : IsOwnFor w c.args.cpu c.args.arena c.args.cache c.in-Some.index own = found_own w c.args.cpu c.args.arena c.args.cache c.in-Some.index own found at in
+    let ready : HasDepot w c.args.cpu c.args.arena c.args.cache (CanGrowTo c.args.size) = subst (λ (x : WorldState). HasDepot x c.args.cpu c.args.arena c.args.cache (CanGrowTo c.args.size)) (sym view) c.in-Some.ensures.ready in
+    let can = grows w c.args.cpu c.args.arena c.args.cache c.in-Some.index own world here c.args.size ready in
     let size : c.in-Ok.loaded.size ≡ c.args.size = ap (λ (m : MagazineState). m.size) c.in-Ok.ensures.first in
     let next : OwnCacheState = c.change.new.self in
     let changed : next.cpu ≡ after_change c.args.size own.cpu = c.change.ensures.changed ∙ ap (λ (n : ℕ). after_change n own.cpu) size in
-    let v : WorldState = record w { caches = set w.caches c.in-Some.place next } in
+    let v : WorldState = record w { caches = set w.caches c.in-Some.index next } in
     subst (λ x. EndsAs (events.Changes c.args.cpu c.args.arena c.args.cache c.args.size) Done x v) view
-    (changes w c.args.cpu c.args.arena c.args.cache c.in-Some.place own world here c.args.size next _ ready changed c.change.ensures.weights c.change.ensures.place c.place.ensures.own c.size.ensures.shape (λ j. set w.caches c.in-Some.place next))
+    (changes w c.args.cpu c.args.arena c.args.cache c.in-Some.index own world here c.args.size next _ ready changed c.change.ensures.weights c.change.ensures.index c.indexes.ensures.own c.size.ensures.shape (λ j. set w.caches c.in-Some.index next))

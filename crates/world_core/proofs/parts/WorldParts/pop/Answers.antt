@@ -19,13 +19,13 @@ returns-in-Some-popped g c =
     let world : IsWorld w = subst IsWorld (sym view) c.requires.world in
     let empty : HasInHand w c.args.cpu None = (let e : HasInHand c.args.self.now c.args.cpu None = search rules in ap (λ (x : WorldState). slice_get x.hands c.args.cpu) view ∙ e) in
     let own : OwnCacheState = c.index_mut-own.result.now in
-    let found = subst (λ (x : WorldState). (o : OwnCacheState) × IsOwnFor x c.args.cpu c.args.arena c.args.cache c.in-Some.place o) (sym view) c.in-Some.ensures.some in
-    let at : slice_get w.caches c.in-Some.place ≡ Some own = slice_get_here w.caches c.in-Some.place own (slice_get_within w.caches c.in-Some.place found.0 found.1.mine.at) c.index_mut-own.ensures.value in
-    let here : IsOwnFor w c.args.cpu c.args.arena c.args.cache c.in-Some.place own = found_own w c.args.cpu c.args.arena c.args.cache c.in-Some.place own found at in
+    let found = subst (λ (x : WorldState). (o : OwnCacheState) × IsOwnFor x c.args.cpu c.args.arena c.args.cache c.in-Some.index o) (sym view) c.in-Some.ensures.some in
+    let at : slice_get w.caches c.in-Some.index ≡ Some own = slice_get_here w.caches c.in-Some.index own (slice_get_within w.caches c.in-Some.index found.0 found.1.mine.at) c.index_mut-own.ensures.value in
+    let here : IsOwnFor w c.args.cpu c.args.arena c.args.cache c.in-Some.index own = found_own w c.args.cpu c.args.arena c.args.cache c.in-Some.index own found at in
     let next : OwnCacheState = c.pop-popped.new.self in
-    let v : WorldState = record w { hands = c.put.new.hands.items; caches = set w.caches c.in-Some.place next } in
+    let v : WorldState = record w { hands = c.put.new.hands.items; caches = set w.caches c.in-Some.index next } in
     subst (λ x. EndsAs (events.Pops c.args.cpu c.args.arena c.args.cache) Done x v) view
-    (pops_round w c.args.cpu c.args.arena c.args.cache c.in-Some.place own next world empty here c.in-Some-popped.ensures.place c.in-Some-popped.round _ _ c.in-Some-popped.ensures.popped c.in-Some-popped.ensures.weights c.place.ensures.own c.size.ensures.shape c.put.ensures (λ j. set w.caches c.in-Some.place next))
+    (pops_round w c.args.cpu c.args.arena c.args.cache c.in-Some.index own next world empty here c.in-Some-popped.ensures.index c.in-Some-popped.round _ _ c.in-Some-popped.ensures.popped c.in-Some-popped.ensures.weights c.indexes.ensures.own c.size.ensures.shape c.put.ensures (λ j. set w.caches c.in-Some.index next))
 
 pub returns-in-None : goal.returns-in-None
 returns-in-None g c =
@@ -34,10 +34,10 @@ returns-in-None g c =
     let world : IsWorld w = subst IsWorld (sym view) c.requires.world in
     let empty : HasInHand w c.args.cpu None = (let e : HasInHand c.args.self.now c.args.cpu None = search rules in ap (λ (x : WorldState). slice_get x.hands c.args.cpu) view ∙ e) in
     let own : OwnCacheState = c.index_mut-own.result.now in
-    let found = subst (λ (x : WorldState). (o : OwnCacheState) × IsOwnFor x c.args.cpu c.args.arena c.args.cache c.in-Some.place o) (sym view) c.in-Some.ensures.some in
-    let at : slice_get w.caches c.in-Some.place ≡ Some own = slice_get_here w.caches c.in-Some.place own (slice_get_within w.caches c.in-Some.place found.0 found.1.mine.at) c.index_mut-own.ensures.value in
-    let here : IsOwnFor w c.args.cpu c.args.arena c.args.cache c.in-Some.place own = found_own w c.args.cpu c.args.arena c.args.cache c.in-Some.place own found at in
+    let found = subst (λ (x : WorldState). (o : OwnCacheState) × IsOwnFor x c.args.cpu c.args.arena c.args.cache c.in-Some.index o) (sym view) c.in-Some.ensures.some in
+    let at : slice_get w.caches c.in-Some.index ≡ Some own = slice_get_here w.caches c.in-Some.index own (slice_get_within w.caches c.in-Some.index found.0 found.1.mine.at) c.index_mut-own.ensures.value in
+    let here : IsOwnFor w c.args.cpu c.args.arena c.args.cache c.in-Some.index own = found_own w c.args.cpu c.args.arena c.args.cache c.in-Some.index own found at in
     let next : OwnCacheState = c.pop-popped.new.self in
-    let v : WorldState = record w { caches = set w.caches c.in-Some.place next } in
+    let v : WorldState = record w { caches = set w.caches c.in-Some.index next } in
     subst (λ x. EndsAs (events.Pops c.args.cpu c.args.arena c.args.cache) NotEnabled x v) view
-    (pops_none w c.args.cpu c.args.arena c.args.cache c.in-Some.place own next world empty here c.in-None.ensures.place _ c.in-None.ensures.popped (λ j. set w.caches c.in-Some.place next))
+    (pops_none w c.args.cpu c.args.arena c.args.cache c.in-Some.index own next world empty here c.in-None.ensures.index _ c.in-None.ensures.popped (λ j. set w.caches c.in-Some.index next))

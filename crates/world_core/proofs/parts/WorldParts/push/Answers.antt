@@ -20,9 +20,9 @@ push-pushed-requires g c =
     let world : IsWorld w = subst IsWorld (sym view) c.requires.world in
     let own : OwnCacheState = c.index_mut-own.result.now in
     let t : Tag = c.take-chunk.result in
-    let found = subst (λ (x : WorldState). (o : OwnCacheState) × (u : Tag) × TakesHand x c.args.cpu c.in-Some.place o u) (sym view) c.in-Some.ensures.some in
-    let at : slice_get w.caches c.in-Some.place ≡ Some own = slice_get_here w.caches c.in-Some.place own (slice_get_within w.caches c.in-Some.place found.0 found.2.mine.at) c.index_mut-own.ensures.value in
-    let takes : TakesHand w c.args.cpu c.in-Some.place own t = found_taking w c.args.cpu c.in-Some.place own t found at c.take-chunk.ensures.held in
+    let found = subst (λ (x : WorldState). (o : OwnCacheState) × (u : Tag) × TakesHand x c.args.cpu c.in-Some.index o u) (sym view) c.in-Some.ensures.some in
+    let at : slice_get w.caches c.in-Some.index ≡ Some own = slice_get_here w.caches c.in-Some.index own (slice_get_within w.caches c.in-Some.index found.0 found.2.mine.at) c.index_mut-own.ensures.value in
+    let takes : TakesHand w c.args.cpu c.in-Some.index own t = found_taking w c.args.cpu c.in-Some.index own t found at c.take-chunk.ensures.held in
     record { chunk = takes.takes }
 
 pub returns-in-Ok : goal.returns-in-Ok
@@ -32,13 +32,13 @@ returns-in-Ok g c =
     let world : IsWorld w = subst IsWorld (sym view) c.requires.world in
     let own : OwnCacheState = c.index_mut-own.result.now in
     let t : Tag = c.take-chunk.result in
-    let found = subst (λ (x : WorldState). (o : OwnCacheState) × (u : Tag) × TakesHand x c.args.cpu c.in-Some.place o u) (sym view) c.in-Some.ensures.some in
-    let at : slice_get w.caches c.in-Some.place ≡ Some own = slice_get_here w.caches c.in-Some.place own (slice_get_within w.caches c.in-Some.place found.0 found.2.mine.at) c.index_mut-own.ensures.value in
-    let takes : TakesHand w c.args.cpu c.in-Some.place own t = found_taking w c.args.cpu c.in-Some.place own t found at c.take-chunk.ensures.held in
+    let found = subst (λ (x : WorldState). (o : OwnCacheState) × (u : Tag) × TakesHand x c.args.cpu c.in-Some.index o u) (sym view) c.in-Some.ensures.some in
+    let at : slice_get w.caches c.in-Some.index ≡ Some own = slice_get_here w.caches c.in-Some.index own (slice_get_within w.caches c.in-Some.index found.0 found.2.mine.at) c.index_mut-own.ensures.value in
+    let takes : TakesHand w c.args.cpu c.in-Some.index own t = found_taking w c.args.cpu c.in-Some.index own t found at c.take-chunk.ensures.held in
     let next : OwnCacheState = c.push-pushed.new.self in
-    let v : WorldState = record w { hands = c.take-chunk.new.hands.items; caches = set w.caches c.in-Some.place next } in
+    let v : WorldState = record w { hands = c.take-chunk.new.hands.items; caches = set w.caches c.in-Some.index next } in
     subst (λ x. EndsAs (events.Pushes c.args.cpu) Done x v) view
-    (pushes_chunk w c.args.cpu c.in-Some.place own next t world takes c.in-Ok.ensures.place _ _ c.in-Ok.ensures.pushed c.in-Ok.ensures.weights c.place.ensures.own c.size.ensures.shape c.take-chunk.ensures.emptied (λ j. set w.caches c.in-Some.place next))
+    (pushes_chunk w c.args.cpu c.in-Some.index own next t world takes c.in-Ok.ensures.index _ _ c.in-Ok.ensures.pushed c.in-Ok.ensures.weights c.indexes.ensures.own c.size.ensures.shape c.take-chunk.ensures.emptied (λ j. set w.caches c.in-Some.index next))
 
 pub returns-in-Err : goal.returns-in-Err
 returns-in-Err g c =
@@ -47,10 +47,10 @@ returns-in-Err g c =
     let world : IsWorld w = subst IsWorld (sym view) c.requires.world in
     let own : OwnCacheState = c.index_mut-own.result.now in
     let t : Tag = c.take-chunk.result in
-    let found = subst (λ (x : WorldState). (o : OwnCacheState) × (u : Tag) × TakesHand x c.args.cpu c.in-Some.place o u) (sym view) c.in-Some.ensures.some in
-    let at : slice_get w.caches c.in-Some.place ≡ Some own = slice_get_here w.caches c.in-Some.place own (slice_get_within w.caches c.in-Some.place found.0 found.2.mine.at) c.index_mut-own.ensures.value in
-    let takes : TakesHand w c.args.cpu c.in-Some.place own t = found_taking w c.args.cpu c.in-Some.place own t found at c.take-chunk.ensures.held in
+    let found = subst (λ (x : WorldState). (o : OwnCacheState) × (u : Tag) × TakesHand x c.args.cpu c.in-Some.index o u) (sym view) c.in-Some.ensures.some in
+    let at : slice_get w.caches c.in-Some.index ≡ Some own = slice_get_here w.caches c.in-Some.index own (slice_get_within w.caches c.in-Some.index found.0 found.2.mine.at) c.index_mut-own.ensures.value in
+    let takes : TakesHand w c.args.cpu c.in-Some.index own t = found_taking w c.args.cpu c.in-Some.index own t found at c.take-chunk.ensures.held in
     let next : OwnCacheState = c.push-pushed.new.self in
-    let v : WorldState = record w { hands = c.put.new.hands.items; caches = set w.caches c.in-Some.place next } in
+    let v : WorldState = record w { hands = c.put.new.hands.items; caches = set w.caches c.in-Some.index next } in
     subst (λ x. EndsAs (events.Pushes c.args.cpu) NotEnabled x v) view
-    (pushes_none w c.args.cpu c.in-Some.place own next t world takes c.in-Err.ensures.place _ c.take-chunk.new.hands.items _ _ c.in-Err.ensures.pushed c.take-chunk.ensures.emptied c.put.ensures (λ j. set w.caches c.in-Some.place next))
+    (pushes_none w c.args.cpu c.in-Some.index own next t world takes c.in-Err.ensures.index _ c.take-chunk.new.hands.items _ _ c.in-Err.ensures.pushed c.take-chunk.ensures.emptied c.put.ensures (λ j. set w.caches c.in-Some.index next))

@@ -24,10 +24,10 @@ swap_fresh-swapped-requires-clause-has g c =
     let view : w ≡ c.args.self.now = c.self.view_is in
     let world : IsWorld w = subst IsWorld (sym view) c.requires.world in
     let own : OwnCacheState = c.index_mut-own.result.now in
-    let found = subst (λ (x : WorldState). (o : OwnCacheState) × IsOwnFor x c.args.cpu c.args.arena c.args.cache c.in-Some.place o) (sym view) c.in-Some.ensures.some in
-    let at : slice_get w.caches c.in-Some.place ≡ Some own = slice_get_here w.caches c.in-Some.place own (slice_get_within w.caches c.in-Some.place found.0 found.1.mine.at) c.index_mut-own.ensures.value in
-    let here : IsOwnFor w c.args.cpu c.args.arena c.args.cache c.in-Some.place own = found_own w c.args.cpu c.args.arena c.args.cache c.in-Some.place own found at in
-    let own_is : IsOwnIn w.stock own = own_in w c.in-Some.place own world at in
+    let found = subst (λ (x : WorldState). (o : OwnCacheState) × IsOwnFor x c.args.cpu c.args.arena c.args.cache c.in-Some.index o) (sym view) c.in-Some.ensures.some in
+    let at : slice_get w.caches c.in-Some.index ≡ Some own = slice_get_here w.caches c.in-Some.index own (slice_get_within w.caches c.in-Some.index found.0 found.1.mine.at) c.index_mut-own.ensures.value in
+    let here : IsOwnFor w c.args.cpu c.args.arena c.args.cache c.in-Some.index own = found_own w c.args.cpu c.args.arena c.args.cache c.in-Some.index own found at in
+    let own_is : IsOwnIn w.stock own = own_in w c.in-Some.index own world at in
     own_is.has
 
 pub swap_fresh-swapped-requires-clause-quantum : goal.swap_fresh-swapped-requires-clause-quantum
@@ -36,10 +36,10 @@ swap_fresh-swapped-requires-clause-quantum g c =
     let view : w ≡ c.args.self.now = c.self.view_is in
     let world : IsWorld w = subst IsWorld (sym view) c.requires.world in
     let own : OwnCacheState = c.index_mut-own.result.now in
-    let found = subst (λ (x : WorldState). (o : OwnCacheState) × IsOwnFor x c.args.cpu c.args.arena c.args.cache c.in-Some.place o) (sym view) c.in-Some.ensures.some in
-    let at : slice_get w.caches c.in-Some.place ≡ Some own = slice_get_here w.caches c.in-Some.place own (slice_get_within w.caches c.in-Some.place found.0 found.1.mine.at) c.index_mut-own.ensures.value in
-    let here : IsOwnFor w c.args.cpu c.args.arena c.args.cache c.in-Some.place own = found_own w c.args.cpu c.args.arena c.args.cache c.in-Some.place own found at in
-    let own_is : IsOwnIn w.stock own = own_in w c.in-Some.place own world at in
+    let found = subst (λ (x : WorldState). (o : OwnCacheState) × IsOwnFor x c.args.cpu c.args.arena c.args.cache c.in-Some.index o) (sym view) c.in-Some.ensures.some in
+    let at : slice_get w.caches c.in-Some.index ≡ Some own = slice_get_here w.caches c.in-Some.index own (slice_get_within w.caches c.in-Some.index found.0 found.1.mine.at) c.index_mut-own.ensures.value in
+    let here : IsOwnFor w c.args.cpu c.args.arena c.args.cache c.in-Some.index own = found_own w c.args.cpu c.args.arena c.args.cache c.in-Some.index own found at in
+    let own_is : IsOwnIn w.stock own = own_in w c.in-Some.index own world at in
     own_is.quantum
 
 pub returns-then-not-is_full : goal.returns-then-not-is_full
@@ -48,12 +48,12 @@ returns-then-not-is_full g c =
     let view : w ≡ c.args.self.now = c.self.view_is in
     let world : IsWorld w = subst IsWorld (sym view) c.requires.world in
     let own : OwnCacheState = c.index_mut-own.result.now in
-    let found = subst (λ (x : WorldState). (o : OwnCacheState) × IsOwnFor x c.args.cpu c.args.arena c.args.cache c.in-Some.place o) (sym view) c.in-Some.ensures.some in
-    let at : slice_get w.caches c.in-Some.place ≡ Some own = slice_get_here w.caches c.in-Some.place own (slice_get_within w.caches c.in-Some.place found.0 found.1.mine.at) c.index_mut-own.ensures.value in
-    let here : IsOwnFor w c.args.cpu c.args.arena c.args.cache c.in-Some.place own = found_own w c.args.cpu c.args.arena c.args.cache c.in-Some.place own found at in
-    let v : WorldState = record w { caches = set w.caches c.in-Some.place own } in
+    let found = subst (λ (x : WorldState). (o : OwnCacheState) × IsOwnFor x c.args.cpu c.args.arena c.args.cache c.in-Some.index o) (sym view) c.in-Some.ensures.some in
+    let at : slice_get w.caches c.in-Some.index ≡ Some own = slice_get_here w.caches c.in-Some.index own (slice_get_within w.caches c.in-Some.index found.0 found.1.mine.at) c.index_mut-own.ensures.value in
+    let here : IsOwnFor w c.args.cpu c.args.arena c.args.cache c.in-Some.index own = found_own w c.args.cpu c.args.arena c.args.cache c.in-Some.index own found at in
+    let v : WorldState = record w { caches = set w.caches c.in-Some.index own } in
     subst (λ x. EndsAs (events.SwapsFresh c.args.cpu c.args.arena c.args.cache) NotEnabled x v) view
-    (not_so w c.args.cpu c.args.arena c.args.cache c.in-Some.place own world here BothFull (λ both. absurd (false≢true (c.if-not-is_full.ensures.1 both))), λ j. record w { caches = set_same w.caches c.in-Some.place own at j })
+    (not_so w c.args.cpu c.args.arena c.args.cache c.in-Some.index own world here BothFull (λ both. absurd (false≢true (c.if-not-is_full.ensures.1 both))), λ j. record w { caches = set_same w.caches c.in-Some.index own at j })
 
 pub returns-in_default-new : goal.returns-in_default-new
 returns-in_default-new g c =
@@ -61,12 +61,12 @@ returns-in_default-new g c =
     let view : w ≡ c.args.self.now = c.self.view_is in
     let world : IsWorld w = subst IsWorld (sym view) c.requires.world in
     let own : OwnCacheState = c.index_mut-own.result.now in
-    let found = subst (λ (x : WorldState). (o : OwnCacheState) × IsOwnFor x c.args.cpu c.args.arena c.args.cache c.in-Some.place o) (sym view) c.in-Some.ensures.some in
-    let at : slice_get w.caches c.in-Some.place ≡ Some own = slice_get_here w.caches c.in-Some.place own (slice_get_within w.caches c.in-Some.place found.0 found.1.mine.at) c.index_mut-own.ensures.value in
-    let here : IsOwnFor w c.args.cpu c.args.arena c.args.cache c.in-Some.place own = found_own w c.args.cpu c.args.arena c.args.cache c.in-Some.place own found at in
-    let v : WorldState = record w { caches = set w.caches c.in-Some.place own } in
+    let found = subst (λ (x : WorldState). (o : OwnCacheState) × IsOwnFor x c.args.cpu c.args.arena c.args.cache c.in-Some.index o) (sym view) c.in-Some.ensures.some in
+    let at : slice_get w.caches c.in-Some.index ≡ Some own = slice_get_here w.caches c.in-Some.index own (slice_get_within w.caches c.in-Some.index found.0 found.1.mine.at) c.index_mut-own.ensures.value in
+    let here : IsOwnFor w c.args.cpu c.args.arena c.args.cache c.in-Some.index own = found_own w c.args.cpu c.args.arena c.args.cache c.in-Some.index own found at in
+    let v : WorldState = record w { caches = set w.caches c.in-Some.index own } in
     subst (λ x. EndsAs (events.SwapsFresh c.args.cpu c.args.arena c.args.cache) NoMemory x v) view
-    (so w c.args.cpu c.args.arena c.args.cache c.in-Some.place own world here BothFull (c.if-not-is_full.ensures.0 refl), λ j. record w { caches = set_same w.caches c.in-Some.place own at j })
+    (so w c.args.cpu c.args.arena c.args.cache c.in-Some.index own world here BothFull (c.if-not-is_full.ensures.0 refl), λ j. record w { caches = set_same w.caches c.in-Some.index own at j })
 
 pub returns-in-Ok-swapped : goal.returns-in-Ok-swapped
 returns-in-Ok-swapped g c =
@@ -74,15 +74,15 @@ returns-in-Ok-swapped g c =
     let view : w ≡ c.args.self.now = c.self.view_is in
     let world : IsWorld w = subst IsWorld (sym view) c.requires.world in
     let own : OwnCacheState = c.index_mut-own.result.now in
-    let found = subst (λ (x : WorldState). (o : OwnCacheState) × IsOwnFor x c.args.cpu c.args.arena c.args.cache c.in-Some.place o) (sym view) c.in-Some.ensures.some in
-    let at : slice_get w.caches c.in-Some.place ≡ Some own = slice_get_here w.caches c.in-Some.place own (slice_get_within w.caches c.in-Some.place found.0 found.1.mine.at) c.index_mut-own.ensures.value in
-    let here : IsOwnFor w c.args.cpu c.args.arena c.args.cache c.in-Some.place own = found_own w c.args.cpu c.args.arena c.args.cache c.in-Some.place own found at in
+    let found = subst (λ (x : WorldState). (o : OwnCacheState) × IsOwnFor x c.args.cpu c.args.arena c.args.cache c.in-Some.index o) (sym view) c.in-Some.ensures.some in
+    let at : slice_get w.caches c.in-Some.index ≡ Some own = slice_get_here w.caches c.in-Some.index own (slice_get_within w.caches c.in-Some.index found.0 found.1.mine.at) c.index_mut-own.ensures.value in
+    let here : IsOwnFor w c.args.cpu c.args.arena c.args.cache c.in-Some.index own = found_own w c.args.cpu c.args.arena c.args.cache c.in-Some.index own found at in
     let next : OwnCacheState = c.swap_fresh-swapped.new.self in
     let both : BothFull own.cpu = c.if-not-is_full.ensures.0 refl in
     let made : c.in-Ok.magazine ≡ empty_magazine own.cpu.size = c.in-Ok.ensures ∙ ap empty_magazine c.size.ensures.value in
-    let v : WorldState = record w { stock = c.swap_fresh-swapped.new.stock; caches = set w.caches c.in-Some.place next } in
+    let v : WorldState = record w { stock = c.swap_fresh-swapped.new.stock; caches = set w.caches c.in-Some.index next } in
     subst (λ x. EndsAs (events.SwapsFresh c.args.cpu c.args.arena c.args.cache) Done x v) view
-    (swaps_fresh w c.args.cpu c.args.arena c.args.cache c.in-Some.place own world here next c.in-Ok-swapped.ensures.place c.swap_fresh-swapped.new.stock _ (λ j. set w.caches c.in-Some.place next) c.place.ensures.own c.in-Ok-swapped.ensures.shape c.count.ensures.stock c.in-Ok-swapped.ensures.frame c.in-Ok-swapped.ensures.fixed c.in-Ok.magazine made both c.in-Ok-swapped.ensures.swapped)
+    (swaps_fresh w c.args.cpu c.args.arena c.args.cache c.in-Some.index own world here next c.in-Ok-swapped.ensures.index c.swap_fresh-swapped.new.stock _ (λ j. set w.caches c.in-Some.index next) c.indexes.ensures.own c.in-Ok-swapped.ensures.shape c.count.ensures.stock c.in-Ok-swapped.ensures.frame c.in-Ok-swapped.ensures.fixed c.in-Ok.magazine made both c.in-Ok-swapped.ensures.swapped)
 
 pub returns-in-OldSize : goal.returns-in-OldSize
 returns-in-OldSize g c =
@@ -90,15 +90,15 @@ returns-in-OldSize g c =
     let view : w ≡ c.args.self.now = c.self.view_is in
     let world : IsWorld w = subst IsWorld (sym view) c.requires.world in
     let own : OwnCacheState = c.index_mut-own.result.now in
-    let found = subst (λ (x : WorldState). (o : OwnCacheState) × IsOwnFor x c.args.cpu c.args.arena c.args.cache c.in-Some.place o) (sym view) c.in-Some.ensures.some in
-    let at : slice_get w.caches c.in-Some.place ≡ Some own = slice_get_here w.caches c.in-Some.place own (slice_get_within w.caches c.in-Some.place found.0 found.1.mine.at) c.index_mut-own.ensures.value in
-    let here : IsOwnFor w c.args.cpu c.args.arena c.args.cache c.in-Some.place own = found_own w c.args.cpu c.args.arena c.args.cache c.in-Some.place own found at in
+    let found = subst (λ (x : WorldState). (o : OwnCacheState) × IsOwnFor x c.args.cpu c.args.arena c.args.cache c.in-Some.index o) (sym view) c.in-Some.ensures.some in
+    let at : slice_get w.caches c.in-Some.index ≡ Some own = slice_get_here w.caches c.in-Some.index own (slice_get_within w.caches c.in-Some.index found.0 found.1.mine.at) c.index_mut-own.ensures.value in
+    let here : IsOwnFor w c.args.cpu c.args.arena c.args.cache c.in-Some.index own = found_own w c.args.cpu c.args.arena c.args.cache c.in-Some.index own found at in
     let next : OwnCacheState = c.swap_fresh-swapped.new.self in
     let both : BothFull own.cpu = c.if-not-is_full.ensures.0 refl in
     let made : c.in-Ok.magazine ≡ empty_magazine own.cpu.size = c.in-Ok.ensures ∙ ap empty_magazine c.size.ensures.value in
-    let v : WorldState = record w { stock = c.swap_fresh-swapped.new.stock; caches = set w.caches c.in-Some.place next } in
+    let v : WorldState = record w { stock = c.swap_fresh-swapped.new.stock; caches = set w.caches c.in-Some.index next } in
     subst (λ x. EndsAs (events.SwapsFresh c.args.cpu c.args.arena c.args.cache) (Refused faults.OldSize) x v) view
-    (fresh_is_old w c.args.cpu c.args.arena c.args.cache c.in-Some.place own world here next c.in-Err.ensures.place c.swap_fresh-swapped.new.stock _ (λ j. set w.caches c.in-Some.place next) c.in-Ok.magazine (ap (λ (m : MagazineState). m.size) made) _ _ both (rw c.in-OldSize.is at c.in-Err.ensures.swapped))
+    (fresh_is_old w c.args.cpu c.args.arena c.args.cache c.in-Some.index own world here next c.in-Err.ensures.index c.swap_fresh-swapped.new.stock _ (λ j. set w.caches c.in-Some.index next) c.in-Ok.magazine (ap (λ (m : MagazineState). m.size) made) _ _ both (rw c.in-OldSize.is at c.in-Err.ensures.swapped))
 
 pub returns-in-NoMemory : goal.returns-in-NoMemory
 returns-in-NoMemory g c =
@@ -106,12 +106,12 @@ returns-in-NoMemory g c =
     let view : w ≡ c.args.self.now = c.self.view_is in
     let world : IsWorld w = subst IsWorld (sym view) c.requires.world in
     let own : OwnCacheState = c.index_mut-own.result.now in
-    let found = subst (λ (x : WorldState). (o : OwnCacheState) × IsOwnFor x c.args.cpu c.args.arena c.args.cache c.in-Some.place o) (sym view) c.in-Some.ensures.some in
-    let at : slice_get w.caches c.in-Some.place ≡ Some own = slice_get_here w.caches c.in-Some.place own (slice_get_within w.caches c.in-Some.place found.0 found.1.mine.at) c.index_mut-own.ensures.value in
-    let here : IsOwnFor w c.args.cpu c.args.arena c.args.cache c.in-Some.place own = found_own w c.args.cpu c.args.arena c.args.cache c.in-Some.place own found at in
+    let found = subst (λ (x : WorldState). (o : OwnCacheState) × IsOwnFor x c.args.cpu c.args.arena c.args.cache c.in-Some.index o) (sym view) c.in-Some.ensures.some in
+    let at : slice_get w.caches c.in-Some.index ≡ Some own = slice_get_here w.caches c.in-Some.index own (slice_get_within w.caches c.in-Some.index found.0 found.1.mine.at) c.index_mut-own.ensures.value in
+    let here : IsOwnFor w c.args.cpu c.args.arena c.args.cache c.in-Some.index own = found_own w c.args.cpu c.args.arena c.args.cache c.in-Some.index own found at in
     let next : OwnCacheState = c.swap_fresh-swapped.new.self in
     let both : BothFull own.cpu = c.if-not-is_full.ensures.0 refl in
     let made : c.in-Ok.magazine ≡ empty_magazine own.cpu.size = c.in-Ok.ensures ∙ ap empty_magazine c.size.ensures.value in
-    let v : WorldState = record w { stock = c.swap_fresh-swapped.new.stock; caches = set w.caches c.in-Some.place next } in
+    let v : WorldState = record w { stock = c.swap_fresh-swapped.new.stock; caches = set w.caches c.in-Some.index next } in
     subst (λ x. EndsAs (events.SwapsFresh c.args.cpu c.args.arena c.args.cache) NoMemory x v) view
-    (fresh_wants_memory w c.args.cpu c.args.arena c.args.cache c.in-Some.place own world here next c.in-Err.ensures.place c.swap_fresh-swapped.new.stock _ (λ j. set w.caches c.in-Some.place next) c.in-Ok.magazine (ap (λ (m : MagazineState). m.size) made) _ both (rw c.in-NoMemory.is at c.in-Err.ensures.swapped))
+    (fresh_wants_memory w c.args.cpu c.args.arena c.args.cache c.in-Some.index own world here next c.in-Err.ensures.index c.swap_fresh-swapped.new.stock _ (λ j. set w.caches c.in-Some.index next) c.in-Ok.magazine (ap (λ (m : MagazineState). m.size) made) _ both (rw c.in-NoMemory.is at c.in-Err.ensures.swapped))

@@ -24,10 +24,10 @@ swap_full-swapped-requires g c =
     let view : w ≡ c.args.self.now = c.self.view_is in
     let world : IsWorld w = subst IsWorld (sym view) c.requires.world in
     let own : OwnCacheState = c.index_mut-own.result.now in
-    let found = subst (λ (x : WorldState). (o : OwnCacheState) × IsOwnFor x c.args.cpu c.args.arena c.args.cache c.in-Some.place o) (sym view) c.in-Some.ensures.some in
-    let at : slice_get w.caches c.in-Some.place ≡ Some own = slice_get_here w.caches c.in-Some.place own (slice_get_within w.caches c.in-Some.place found.0 found.1.mine.at) c.index_mut-own.ensures.value in
-    let here : IsOwnFor w c.args.cpu c.args.arena c.args.cache c.in-Some.place own = found_own w c.args.cpu c.args.arena c.args.cache c.in-Some.place own found at in
-    let own_is : IsOwnIn w.stock own = own_in w c.in-Some.place own world at in
+    let found = subst (λ (x : WorldState). (o : OwnCacheState) × IsOwnFor x c.args.cpu c.args.arena c.args.cache c.in-Some.index o) (sym view) c.in-Some.ensures.some in
+    let at : slice_get w.caches c.in-Some.index ≡ Some own = slice_get_here w.caches c.in-Some.index own (slice_get_within w.caches c.in-Some.index found.0 found.1.mine.at) c.index_mut-own.ensures.value in
+    let here : IsOwnFor w c.args.cpu c.args.arena c.args.cache c.in-Some.index own = found_own w c.args.cpu c.args.arena c.args.cache c.in-Some.index own found at in
+    let own_is : IsOwnIn w.stock own = own_in w c.in-Some.index own world at in
     record { has = own_is.has; quantum = own_is.quantum; empty = c.if-not-is_empty.ensures.0 refl }
 
 pub returns-in-Ok : goal.returns-in-Ok
@@ -36,14 +36,14 @@ returns-in-Ok g c =
     let view : w ≡ c.args.self.now = c.self.view_is in
     let world : IsWorld w = subst IsWorld (sym view) c.requires.world in
     let own : OwnCacheState = c.index_mut-own.result.now in
-    let found = subst (λ (x : WorldState). (o : OwnCacheState) × IsOwnFor x c.args.cpu c.args.arena c.args.cache c.in-Some.place o) (sym view) c.in-Some.ensures.some in
-    let at : slice_get w.caches c.in-Some.place ≡ Some own = slice_get_here w.caches c.in-Some.place own (slice_get_within w.caches c.in-Some.place found.0 found.1.mine.at) c.index_mut-own.ensures.value in
-    let here : IsOwnFor w c.args.cpu c.args.arena c.args.cache c.in-Some.place own = found_own w c.args.cpu c.args.arena c.args.cache c.in-Some.place own found at in
+    let found = subst (λ (x : WorldState). (o : OwnCacheState) × IsOwnFor x c.args.cpu c.args.arena c.args.cache c.in-Some.index o) (sym view) c.in-Some.ensures.some in
+    let at : slice_get w.caches c.in-Some.index ≡ Some own = slice_get_here w.caches c.in-Some.index own (slice_get_within w.caches c.in-Some.index found.0 found.1.mine.at) c.index_mut-own.ensures.value in
+    let here : IsOwnFor w c.args.cpu c.args.arena c.args.cache c.in-Some.index own = found_own w c.args.cpu c.args.arena c.args.cache c.in-Some.index own found at in
     let next : OwnCacheState = c.swap_full-swapped.new.self in
     let both : BothEmpty own.cpu = c.if-not-is_empty.ensures.0 refl in
-    let v : WorldState = record w { stock = c.swap_full-swapped.new.stock; caches = set w.caches c.in-Some.place next } in
+    let v : WorldState = record w { stock = c.swap_full-swapped.new.stock; caches = set w.caches c.in-Some.index next } in
     subst (λ x. EndsAs (events.SwapsFull c.args.cpu c.args.arena c.args.cache) Done x v) view
-    (swaps_full w c.args.cpu c.args.arena c.args.cache c.in-Some.place own world here next c.in-Ok.ensures.place c.swap_full-swapped.new.stock _ (λ j. set w.caches c.in-Some.place next) c.place.ensures.own c.in-Ok.ensures.shape c.count.ensures.stock c.in-Ok.ensures.frame c.in-Ok.ensures.fixed both c.in-Ok.ensures.swapped)
+    (swaps_full w c.args.cpu c.args.arena c.args.cache c.in-Some.index own world here next c.in-Ok.ensures.index c.swap_full-swapped.new.stock _ (λ j. set w.caches c.in-Some.index next) c.indexes.ensures.own c.in-Ok.ensures.shape c.count.ensures.stock c.in-Ok.ensures.frame c.in-Ok.ensures.fixed both c.in-Ok.ensures.swapped)
 
 pub returns-in-OldSize : goal.returns-in-OldSize
 returns-in-OldSize g c =
@@ -51,14 +51,14 @@ returns-in-OldSize g c =
     let view : w ≡ c.args.self.now = c.self.view_is in
     let world : IsWorld w = subst IsWorld (sym view) c.requires.world in
     let own : OwnCacheState = c.index_mut-own.result.now in
-    let found = subst (λ (x : WorldState). (o : OwnCacheState) × IsOwnFor x c.args.cpu c.args.arena c.args.cache c.in-Some.place o) (sym view) c.in-Some.ensures.some in
-    let at : slice_get w.caches c.in-Some.place ≡ Some own = slice_get_here w.caches c.in-Some.place own (slice_get_within w.caches c.in-Some.place found.0 found.1.mine.at) c.index_mut-own.ensures.value in
-    let here : IsOwnFor w c.args.cpu c.args.arena c.args.cache c.in-Some.place own = found_own w c.args.cpu c.args.arena c.args.cache c.in-Some.place own found at in
+    let found = subst (λ (x : WorldState). (o : OwnCacheState) × IsOwnFor x c.args.cpu c.args.arena c.args.cache c.in-Some.index o) (sym view) c.in-Some.ensures.some in
+    let at : slice_get w.caches c.in-Some.index ≡ Some own = slice_get_here w.caches c.in-Some.index own (slice_get_within w.caches c.in-Some.index found.0 found.1.mine.at) c.index_mut-own.ensures.value in
+    let here : IsOwnFor w c.args.cpu c.args.arena c.args.cache c.in-Some.index own = found_own w c.args.cpu c.args.arena c.args.cache c.in-Some.index own found at in
     let next : OwnCacheState = c.swap_full-swapped.new.self in
     let both : BothEmpty own.cpu = c.if-not-is_empty.ensures.0 refl in
-    let v : WorldState = record w { stock = c.swap_full-swapped.new.stock; caches = set w.caches c.in-Some.place next } in
+    let v : WorldState = record w { stock = c.swap_full-swapped.new.stock; caches = set w.caches c.in-Some.index next } in
     subst (λ x. EndsAs (events.SwapsFull c.args.cpu c.args.arena c.args.cache) (Refused faults.OldSize) x v) view
-    (full_is_old w c.args.cpu c.args.arena c.args.cache c.in-Some.place own world here next c.in-Err.ensures.place c.swap_full-swapped.new.stock _ (λ j. set w.caches c.in-Some.place next) _ both (rw c.in-OldSize.is at c.in-Err.ensures.swapped))
+    (full_is_old w c.args.cpu c.args.arena c.args.cache c.in-Some.index own world here next c.in-Err.ensures.index c.swap_full-swapped.new.stock _ (λ j. set w.caches c.in-Some.index next) _ both (rw c.in-OldSize.is at c.in-Err.ensures.swapped))
 
 pub returns-in-NoneFull : goal.returns-in-NoneFull
 returns-in-NoneFull g c =
@@ -66,14 +66,14 @@ returns-in-NoneFull g c =
     let view : w ≡ c.args.self.now = c.self.view_is in
     let world : IsWorld w = subst IsWorld (sym view) c.requires.world in
     let own : OwnCacheState = c.index_mut-own.result.now in
-    let found = subst (λ (x : WorldState). (o : OwnCacheState) × IsOwnFor x c.args.cpu c.args.arena c.args.cache c.in-Some.place o) (sym view) c.in-Some.ensures.some in
-    let at : slice_get w.caches c.in-Some.place ≡ Some own = slice_get_here w.caches c.in-Some.place own (slice_get_within w.caches c.in-Some.place found.0 found.1.mine.at) c.index_mut-own.ensures.value in
-    let here : IsOwnFor w c.args.cpu c.args.arena c.args.cache c.in-Some.place own = found_own w c.args.cpu c.args.arena c.args.cache c.in-Some.place own found at in
+    let found = subst (λ (x : WorldState). (o : OwnCacheState) × IsOwnFor x c.args.cpu c.args.arena c.args.cache c.in-Some.index o) (sym view) c.in-Some.ensures.some in
+    let at : slice_get w.caches c.in-Some.index ≡ Some own = slice_get_here w.caches c.in-Some.index own (slice_get_within w.caches c.in-Some.index found.0 found.1.mine.at) c.index_mut-own.ensures.value in
+    let here : IsOwnFor w c.args.cpu c.args.arena c.args.cache c.in-Some.index own = found_own w c.args.cpu c.args.arena c.args.cache c.in-Some.index own found at in
     let next : OwnCacheState = c.swap_full-swapped.new.self in
     let both : BothEmpty own.cpu = c.if-not-is_empty.ensures.0 refl in
-    let v : WorldState = record w { stock = c.swap_full-swapped.new.stock; caches = set w.caches c.in-Some.place next } in
+    let v : WorldState = record w { stock = c.swap_full-swapped.new.stock; caches = set w.caches c.in-Some.index next } in
     subst (λ x. EndsAs (events.SwapsFull c.args.cpu c.args.arena c.args.cache) (Refused faults.NoneFull) x v) view
-    (full_is_none w c.args.cpu c.args.arena c.args.cache c.in-Some.place own world here next c.in-Err.ensures.place c.swap_full-swapped.new.stock _ (λ j. set w.caches c.in-Some.place next) both (rw c.in-NoneFull.is at c.in-Err.ensures.swapped))
+    (full_is_none w c.args.cpu c.args.arena c.args.cache c.in-Some.index own world here next c.in-Err.ensures.index c.swap_full-swapped.new.stock _ (λ j. set w.caches c.in-Some.index next) both (rw c.in-NoneFull.is at c.in-Err.ensures.swapped))
 
 pub returns-then-not-is_empty : goal.returns-then-not-is_empty
 returns-then-not-is_empty g c =
@@ -81,9 +81,9 @@ returns-then-not-is_empty g c =
     let view : w ≡ c.args.self.now = c.self.view_is in
     let world : IsWorld w = subst IsWorld (sym view) c.requires.world in
     let own : OwnCacheState = c.index_mut-own.result.now in
-    let found = subst (λ (x : WorldState). (o : OwnCacheState) × IsOwnFor x c.args.cpu c.args.arena c.args.cache c.in-Some.place o) (sym view) c.in-Some.ensures.some in
-    let at : slice_get w.caches c.in-Some.place ≡ Some own = slice_get_here w.caches c.in-Some.place own (slice_get_within w.caches c.in-Some.place found.0 found.1.mine.at) c.index_mut-own.ensures.value in
-    let here : IsOwnFor w c.args.cpu c.args.arena c.args.cache c.in-Some.place own = found_own w c.args.cpu c.args.arena c.args.cache c.in-Some.place own found at in
-    let v : WorldState = record w { caches = set w.caches c.in-Some.place own } in
+    let found = subst (λ (x : WorldState). (o : OwnCacheState) × IsOwnFor x c.args.cpu c.args.arena c.args.cache c.in-Some.index o) (sym view) c.in-Some.ensures.some in
+    let at : slice_get w.caches c.in-Some.index ≡ Some own = slice_get_here w.caches c.in-Some.index own (slice_get_within w.caches c.in-Some.index found.0 found.1.mine.at) c.index_mut-own.ensures.value in
+    let here : IsOwnFor w c.args.cpu c.args.arena c.args.cache c.in-Some.index own = found_own w c.args.cpu c.args.arena c.args.cache c.in-Some.index own found at in
+    let v : WorldState = record w { caches = set w.caches c.in-Some.index own } in
     subst (λ x. EndsAs (events.SwapsFull c.args.cpu c.args.arena c.args.cache) NotEnabled x v) view
-    (not_so w c.args.cpu c.args.arena c.args.cache c.in-Some.place own world here BothEmpty (λ both. absurd (false≢true (c.if-not-is_empty.ensures.1 both))), λ j. record w { caches = set_same w.caches c.in-Some.place own at j })
+    (not_so w c.args.cpu c.args.arena c.args.cache c.in-Some.index own world here BothEmpty (λ both. absurd (false≢true (c.if-not-is_empty.ensures.1 both))), λ j. record w { caches = set_same w.caches c.in-Some.index own at j })

@@ -9,11 +9,11 @@ use Rattle.magazine_layer.specs.Magazines.{CpuCacheState, BothEmpty}
 use Rattle.magazine_layer.specs.Magazines.Pops.{Of_loaded, Of_previous}
 use Rattle.stock.specs.OwnCaches.{OwnCacheState}
 use Rattle.stock.specs.Spaces.{SpaceState, SpacePlan, plan_of, plans_of, slab_size_of}
-use Rattle.local_parts.specs.Cpus.{CachePlace, IsCpuOf, OnOwn, HasNoRound, own_place, row_places, places_from}
+use Rattle.local_parts.specs.Cpus.{CacheIndexes, IsCpuOf, OnOwn, HasNoRound, own_index, row_indexes, indexes_from}
 use Rattle.local_parts.specs.States.{IsReached}
 
--- the places of a row, and of all
-in_row : (arena quantum i count j : ℕ) (p : CachePlace) → slice_get (row_places arena quantum i count) j ≡ Some p → (j < count) × (p ≡ record { arena = arena; cache = i + j; quantum = quantum })
+-- the indexes of a row, and of all
+in_row : (arena quantum i count j : ℕ) (p : CacheIndexes) → slice_get (row_indexes arena quantum i count) j ≡ Some p → (j < count) × (p ≡ record { arena = arena; cache = i + j; quantum = quantum })
 in_row arena quantum i zero j p at = absurd (let e : None ≡ Some p = at in cc)
 in_row arena quantum i (suc count) zero p at =
     let e : Some (record { arena = arena; cache = i; quantum = quantum }) ≡ Some p = at in
@@ -23,28 +23,28 @@ in_row arena quantum i (suc count) (suc j) p at =
     let r = in_row arena quantum (i + 1) count j p at in
     (omega (arith, r.0), r.1 ∙ ap (λ n. record { arena = arena; cache = n; quantum = quantum }) (omega arith))
 
-in_places : (n : ℕ) (plans : List SpacePlan) (k : ℕ) (row : List CachePlace) → slice_get (places_from n plans) k ≡ Some row → (p : SpacePlan) × (slice_get plans k ≡ Some p) × (row ≡ row_places (n + k) p.quantum 0 (length p.slab_sizes))
-in_places n [] k row at = absurd (let e : None ≡ Some row = at in cc)
-in_places n (p ∷ plans) zero row at =
-    let e : Some (row_places n p.quantum 0 (length p.slab_sizes)) ≡ Some row = at in
-    let is : row_places n p.quantum 0 (length p.slab_sizes) ≡ row = cc in
-    (p, refl, sym is ∙ ap (λ m. row_places m p.quantum 0 (length p.slab_sizes)) (omega arith))
-in_places n (p ∷ plans) (suc k) row at =
-    let r = in_places (n + 1) plans k row at in
-    (r.0, r.1, r.2 ∙ ap (λ m. row_places m r.0.quantum 0 (length r.0.slab_sizes)) (omega arith))
+in_indexes : (n : ℕ) (plans : List SpacePlan) (k : ℕ) (row : List CacheIndexes) → slice_get (indexes_from n plans) k ≡ Some row → (p : SpacePlan) × (slice_get plans k ≡ Some p) × (row ≡ row_indexes (n + k) p.quantum 0 (length p.slab_sizes))
+in_indexes n [] k row at = absurd (let e : None ≡ Some row = at in cc)
+in_indexes n (p ∷ plans) zero row at =
+    let e : Some (row_indexes n p.quantum 0 (length p.slab_sizes)) ≡ Some row = at in
+    let is : row_indexes n p.quantum 0 (length p.slab_sizes) ≡ row = cc in
+    (p, refl, sym is ∙ ap (λ m. row_indexes m p.quantum 0 (length p.slab_sizes)) (omega arith))
+in_indexes n (p ∷ plans) (suc k) row at =
+    let r = in_indexes (n + 1) plans k row at in
+    (r.0, r.1, r.2 ∙ ap (λ m. row_indexes m r.0.quantum 0 (length r.0.slab_sizes)) (omega arith))
 
--- each cache of a CPU of the stock is the one for the quantum cache at its place
+-- each cache of a CPU of the stock is the one for the quantum cache at its index
 module _ (spaces : List SpaceState) (cpu : List (List OwnCacheState)) (of : IsCpuOf spaces cpu) (k j : ℕ) (row : List OwnCacheState) (o : OwnCacheState) (at : slice_get cpu k ≡ Some row) (among : slice_get row j ≡ Some o) where
-  the_row : (p : SpacePlan) × (slice_get (plans_of spaces) k ≡ Some p) × (map own_place row ≡ row_places k p.quantum 0 (length p.slab_sizes))
+  the_row : (p : SpacePlan) × (slice_get (plans_of spaces) k ≡ Some p) × (map own_index row ≡ row_indexes k p.quantum 0 (length p.slab_sizes))
   the_row =
-      let here : slice_get (places_from 0 (plans_of spaces)) k ≡ Some (map own_place row) = ap (λ ps. slice_get ps k) (sym of) ∙ slice_get_mapped (map own_place) cpu k row at in
-      let r = in_places 0 (plans_of spaces) k (map own_place row) here in
-      (r.0, r.1, r.2 ∙ ap (λ m. row_places m r.0.quantum 0 (length r.0.slab_sizes)) (omega arith))
+      let here : slice_get (indexes_from 0 (plans_of spaces)) k ≡ Some (map own_index row) = ap (λ ps. slice_get ps k) (sym of) ∙ slice_get_mapped (map own_index) cpu k row at in
+      let r = in_indexes 0 (plans_of spaces) k (map own_index row) here in
+      (r.0, r.1, r.2 ∙ ap (λ m. row_indexes m r.0.quantum 0 (length r.0.slab_sizes)) (omega arith))
 
-  the_place : (j < length the_row.0.slab_sizes) × (own_place o ≡ record { arena = k; cache = j; quantum = the_row.0.quantum })
-  the_place =
-      let here : slice_get (row_places k the_row.0.quantum 0 (length the_row.0.slab_sizes)) j ≡ Some (own_place o) = ap (λ ps. slice_get ps j) (sym the_row.2) ∙ slice_get_mapped own_place row j o among in
-      let r = in_row k the_row.0.quantum 0 (length the_row.0.slab_sizes) j (own_place o) here in
+  the_index : (j < length the_row.0.slab_sizes) × (own_index o ≡ record { arena = k; cache = j; quantum = the_row.0.quantum })
+  the_index =
+      let here : slice_get (row_indexes k the_row.0.quantum 0 (length the_row.0.slab_sizes)) j ≡ Some (own_index o) = ap (λ ps. slice_get ps j) (sym the_row.2) ∙ slice_get_mapped own_index row j o among in
+      let r = in_row k the_row.0.quantum 0 (length the_row.0.slab_sizes) j (own_index o) here in
       (r.0, r.1 ∙ ap (λ n. record { arena = k; cache = n; quantum = the_row.0.quantum }) (omega arith))
 
   the_space : (s : SpaceState) × (slice_get spaces k ≡ Some s) × (the_row.0 ≡ plan_of s)
@@ -54,29 +54,29 @@ module _ (spaces : List SpaceState) (cpu : List (List OwnCacheState)) (of : IsCp
   reached_here =
       let s = the_space in
       let count : length the_row.0.slab_sizes ≡ length s.0.caches = ap (λ (p : SpacePlan). length p.slab_sizes) s.2 ∙ length-map s.0.caches slab_size_of in
-      let cache = slice_get_some s.0.caches j (omega (arith, the_place.0, count)) in
+      let cache = slice_get_some s.0.caches j (omega (arith, the_index.0, count)) in
       record {
         has = (cache.0, record { space = s.0; at = s.1; among = cache.1 });
         own = record {
           row = row;
           at = at;
           among = among;
-          arena = ap (λ (p : CachePlace). p.arena) the_place.1;
-          cache = ap (λ (p : CachePlace). p.cache) the_place.1;
+          arena = ap (λ (p : CacheIndexes). p.arena) the_index.1;
+          cache = ap (λ (p : CacheIndexes). p.cache) the_index.1;
         };
         quantum = λ x there.
             let is : s.0 ≡ x = slice_get_one spaces k s.0 x s.1 there in
-            ap (λ (y : SpaceState). y.arena.quantum) (sym is) ∙ (sym (ap (λ (p : SpacePlan). p.quantum) s.2) ∙ sym (ap (λ (p : CachePlace). p.quantum) the_place.1));
+            ap (λ (y : SpaceState). y.arena.quantum) (sym is) ∙ (sym (ap (λ (p : SpacePlan). p.quantum) s.2) ∙ sym (ap (λ (p : CacheIndexes). p.quantum) the_index.1));
       }
 
   pub within_plan : (p : SpacePlan) × (slice_get (plans_of spaces) k ≡ Some p) × (j < length p.slab_sizes)
-  within_plan = (the_row.0, the_row.1, the_place.0)
+  within_plan = (the_row.0, the_row.1, the_index.0)
 
--- what stands at a place has no round
+-- what stands at an index has no round
 abbrev pub EmptyAt : List (List OwnCacheState) → ℕ → ℕ → Type 0
 EmptyAt cpu k j = (row : List OwnCacheState) (o : OwnCacheState) → slice_get cpu k ≡ Some row → slice_get row j ≡ Some o → HasNoRound o
 
--- after one cache changed, what stands at a place is that one or stood there
+-- after one cache changed, what stands at an index is that one or stood there
 pub own_written : (k j : ℕ) (P : OwnCacheState → OwnCacheState → Type 0) (old new : List (List OwnCacheState)) (on : OnOwn k j P old new) (i n : ℕ) (row : List OwnCacheState) (o : OwnCacheState) → slice_get new i ≡ Some row → slice_get row n ≡ Some o
     → ((i ≡ k) × (n ≡ j) × (o ≡ on.changed)) ⊎ ((was : List OwnCacheState) × (slice_get old i ≡ Some was) × (slice_get was n ≡ Some o))
 own_written k j P old new on i n row o at among = elim (written old k i (set on.row j on.changed) row (ap (λ xs. slice_get xs i) (sym on.after) ∙ at)) [

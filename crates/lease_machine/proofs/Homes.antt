@@ -1,4 +1,4 @@
--- Each unit has one place, and leases are apart, after any lines.
+-- Each unit has one home, and leases are apart, after any lines.
 use Rattle.std.proofs.Common.{◌≡◌, ℕ, refl, inl, inr, sym, subst, ap, ◌∙◌, List, [], ◌∷◌, ◌++◌, get_or, AllPairs, Ok, Err, arith}
 use Rattle.std.specs.Prelude.{map, sum_by, codes}
 use Rattle.std.proofs.lemmas.List.{get_or_append_left, length-append}
@@ -9,11 +9,11 @@ use Rattle.lease_proto.specs.declared.operators.OperatorLine.TheVariants as oper
 use Rattle.lease_proto.specs.declared.operators.ServedLine.TheVariants as served
 use Rattle.lease_proto.specs.Operators.{served_of}
 use Rattle.lease_proto.specs.Operators as reading
-use Rattle.lease_book.specs.BookState.{leased, units_of_arena}
+use Rattle.lease_book.specs.BookState.{leased_segments, units_of_arena}
 use Rattle.lease_machine.specs.Picture.{Picture, IsPicture, held_outside, owned_by}
 use Rattle.lease_machine.specs.Operators.{sums_in}
 use Rattle.lease_machine.specs.Machine.{AnswersLine}
-use Rattle.lease_machine.specs.Laws.{PicturesStay, SetupStays, UnitsHaveOnePlace, LeasesAreApart, AuditTellsLeases, AuditIsWhole, AuditIsTold}
+use Rattle.lease_machine.specs.Laws.{PicturesStay, SetupStays, UnitsHaveOneHome, LeasesAreApart, AuditTellsLeases, AuditIsWhole, AuditIsTold}
 
 pub pictures_stay : PicturesStay
 pictures_stay old new [] text is run = subst IsPicture (sym run.1) is
@@ -28,8 +28,8 @@ setup_stays old new (Ok line ∷ frames) text run =
     record { tree = rest.tree ∙ first.tree; owned = rest.owned ∙ first.owned }
 setup_stays old new (Err fault ∷ frames) text run = setup_stays old new frames run.0 run.2
 
-pub units_have_one_place : UnitsHaveOnePlace
-units_have_one_place d is k s at u = unit_adds_up d.spaces (held_outside d) is.units k s at u
+pub units_have_one_home : UnitsHaveOneHome
+units_have_one_home d is k s at u = unit_adds_up d.spaces (held_outside d) is.units k s at u
 
 -- what holds of a list of pairs holds of a front of it
 front_pairs : {X : Type 0} (R : X → X → Type 0) (xs ys : List X) → AllPairs R (xs ++ ys) → AllPairs R xs
@@ -40,11 +40,11 @@ front_pairs R xs ys all i j e lt below =
     subst (λ x. R x (get_or xs j e)) first (subst (R (get_or (xs ++ ys) i e)) second whole)
 
 pub leases_are_apart : LeasesAreApart
-leases_are_apart d is = front_pairs (ApartUpChain d.spaces) (leased d.book) (all_rounds_out (held_outside d).cpus) (out_never_overlaps d.spaces (held_outside d) is.units)
+leases_are_apart d is = front_pairs (ApartUpChain d.spaces) (leased_segments d.book) (all_rounds_out (held_outside d).cpus) (out_never_overlaps d.spaces (held_outside d) is.units)
 
 pub audit_tells_leases : AuditTellsLeases
 audit_tells_leases d is k s at =
-    subst (λ (n : ℕ). (sums_in d s).leased ≡ sum_by (units_of_arena n) (leased d.book)) (is.units.parts k s at).id (units_weigh s.arena.id (leased d.book))
+    subst (λ (n : ℕ). (sums_in d s).leased ≡ sum_by (units_of_arena n) (leased_segments d.book)) (is.units.parts k s at).id (units_weigh s.arena.id (leased_segments d.book))
 
 pub audit_is_whole : AuditIsWhole
 audit_is_whole d is k s at = audit_adds_up d.spaces (held_outside d) is.units k s at

@@ -1,4 +1,4 @@
--- One place for each unit.
+-- One home for each unit.
 use Rattle.std.proofs.Common.{◌≡◌, ◌≢◌, ℕ, ◌+◌, refl, sym, ap, ◌∙◌, List, ◌++◌, All, filter, Some, arith}
 use Rattle.std.specs.Prelude.{slice_get, sum_by, flat_map}
 use Rattle.std.proofs.lemmas.List.Sums.{sum_by-append}
@@ -16,8 +16,8 @@ use Rattle.magazine_layer.specs.Depots.{depot_rounds}
 use Rattle.stock.specs.Spaces.{SpaceState, QuantumCacheState, quanta_of}
 use Rattle.stock.specs.Stocks.{IsRoundOf, IsQuantumCache, IsSpaceAt, IsStock}
 use Rattle.stock.specs.Accounts.{imported, Accounts}
-use Rattle.stock.specs.Sums.{Out, all_out, held, held_of, places_of, all_places, sums_of, total}
-use Rattle.stock.specs.Laws.{IsInOnePlace, AddsUp}
+use Rattle.stock.specs.Sums.{Out, all_out, holdings_of, held_of, homes_of, all_homes, sums_of, total}
+use Rattle.stock.specs.Laws.{IsInOneHome, AddsUp}
 use Rattle.stock.proofs.Exporting.{arena_here, arena_there, allocated_of}
 use Rattle.stock.proofs.Lengths.{as_long}
 
@@ -79,17 +79,17 @@ weigh_of : (k : ℕ) (f : Holding → ℕ) (ts : List Tag) → sum_by f (held_of
 weigh_of k f ts = sum_by-map f (λ (t : Tag). t.holding) (filter (is_of_arena k) ts) ∙ sum_by-filter (is_of_arena k) (λ t. f t.holding) ts
 
 module _ (f : Holding → ℕ) (spaces : List SpaceState) (out : Out) (s : SpaceState) where
-  weigh_magazine : sum_by f (flat_map (λ (c : QuantumCacheState). held (depot_rounds c.depot)) s.caches) ≡ sum_by (λ (c : QuantumCacheState). sum_by (λ t. f t.holding) (depot_rounds c.depot)) s.caches
-  weigh_magazine = sum_by-flat_map f (λ (c : QuantumCacheState). held (depot_rounds c.depot)) s.caches
-      ∙ sum_alike (λ (c : QuantumCacheState). sum_by f (held (depot_rounds c.depot))) (λ c. sum_by (λ t. f t.holding) (depot_rounds c.depot)) s.caches (λ j c at. sum_by-map f (λ (t : Tag). t.holding) (depot_rounds c.depot))
+  weigh_magazine : sum_by f (flat_map (λ (c : QuantumCacheState). holdings_of (depot_rounds c.depot)) s.caches) ≡ sum_by (λ (c : QuantumCacheState). sum_by (λ t. f t.holding) (depot_rounds c.depot)) s.caches
+  weigh_magazine = sum_by-flat_map f (λ (c : QuantumCacheState). holdings_of (depot_rounds c.depot)) s.caches
+      ∙ sum_alike (λ (c : QuantumCacheState). sum_by f (holdings_of (depot_rounds c.depot))) (λ c. sum_by (λ t. f t.holding) (depot_rounds c.depot)) s.caches (λ j c at. sum_by-map f (λ (t : Tag). t.holding) (depot_rounds c.depot))
 
   weigh_exported : sum_by f (flat_map (λ (x : SpaceState). held_of s.arena.id x.arena.imported) spaces) ≡ sum_by (imported (of_arena s.arena.id (λ t. f t.holding))) spaces
   weigh_exported = sum_by-flat_map f (λ (x : SpaceState). held_of s.arena.id x.arena.imported) spaces
       ∙ sum_alike (λ (x : SpaceState). sum_by f (held_of s.arena.id x.arena.imported)) (imported (of_arena s.arena.id (λ t. f t.holding))) spaces (λ j x at. weigh_of s.arena.id f x.arena.imported)
 
-  weigh_places : sum_by f (all_places (places_of spaces out s)) ≡ total (sums_of f (places_of spaces out s))
-  weigh_places =
-      let p = places_of spaces out s in
+  weigh_homes : sum_by f (all_homes (homes_of spaces out s)) ≡ total (sums_of f (homes_of spaces out s))
+  weigh_homes =
+      let p = homes_of spaces out s in
       omega (
         arith,
         sum_by-append f p.free (p.slab ++ (p.magazine ++ (p.exported ++ (p.leased ++ p.hand)))),
@@ -99,8 +99,8 @@ module _ (f : Holding → ℕ) (spaces : List SpaceState) (out : Out) (s : Space
         sum_by-append f p.leased p.hand,
       )
 
-pub one_place : IsInOnePlace
-one_place spaces out accounted k s at u = (all, spans_once s.arena (accounted.stock k s at).sound u)
+pub one_home : IsInOneHome
+one_home spaces out accounted k s at u = (all, spans_once s.arena (accounted.stock k s at).sound u)
   where
     id : s.arena.id ≡ k
     id = (accounted.stock k s at).id
@@ -108,17 +108,17 @@ one_place spaces out accounted k s at u = (all, spans_once s.arena (accounted.st
     at_id : slice_get spaces s.arena.id ≡ Some s
     at_id = ap (slice_get spaces) id ∙ at
 
-    all : covering_held u (all_places (places_of spaces out s)) ≡ covering_held u (spans_of s.arena)
+    all : covering_held u (all_homes (homes_of spaces out s)) ≡ covering_held u (spans_of s.arena)
     all =
         let f : Tag → ℕ = of_arena s.arena.id (covers_tag u) in
         omega (
           arith,
-          weigh_places (covers_held u) spaces out s,
+          weigh_homes (covers_held u) spaces out s,
           each_unit spaces accounted.stock s.arena.id s at_id (all_out out) accounted.accounts u,
           sum_by-flat_map (covers_held u) (λ (c : QuantumCacheState). deeds_of c.slab) s.caches,
           weigh_magazine (covers_held u) spaces out s,
           weigh_exported (covers_held u) spaces out s,
-          sum_by-append (covers_held u) (flat_map (λ (c : QuantumCacheState). held (depot_rounds c.depot)) s.caches) (held_of s.arena.id out.rounds),
+          sum_by-append (covers_held u) (flat_map (λ (c : QuantumCacheState). holdings_of (depot_rounds c.depot)) s.caches) (held_of s.arena.id out.rounds),
           weigh_of s.arena.id (covers_held u) out.rounds,
           weigh_of s.arena.id (covers_held u) out.leases,
           weigh_of s.arena.id (covers_held u) out.hands,
@@ -127,4 +127,4 @@ one_place spaces out accounted k s at u = (all, spans_once s.arena (accounted.st
         )
 
 pub adds_up : AddsUp
-adds_up spaces out accounted k s at = sym (weigh_places units_in spaces out s) ∙ as_long (all_places (places_of spaces out s)) (spans_of s.arena) (λ u. (one_place spaces out accounted k s at u).0)
+adds_up spaces out accounted k s at = sym (weigh_homes units_in spaces out s) ∙ as_long (all_homes (homes_of spaces out s)) (spans_of s.arena) (λ u. (one_home spaces out accounted k s at u).0)

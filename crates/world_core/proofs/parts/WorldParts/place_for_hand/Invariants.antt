@@ -1,8 +1,0 @@
-use Rattle.std.proofs.Common.{◌<◌, ℕ}
-use Rattle.deed_core.specs.Tag.{Tag}
-use Rattle.stock.specs.OwnCaches.{OwnCacheState}
-use Rattle.world_core.specs.Moves.{TakesHand}
-use Rattle.world_core.proofs.parts.WorldParts.place_for_hand.Given as goal
-
-abbrev pub invariant-loop-place : goal.invariant-loop-place
-invariant-loop-place g l = (k : ℕ) (o : OwnCacheState) (t : Tag) → k < l.place → ¬ TakesHand l.fn.self l.cpu k o t
