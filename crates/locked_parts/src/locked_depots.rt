@@ -27,7 +27,7 @@ impl<N: Name, R: Wait> Depots for LockedDepots<'_, N, R> {
         let Some(kind) = self.parts.kind(arena, cache) else {
             return;
         };
-        let Some(place) = self.parts.cache(arena, cache) else {
+        let Some(locked) = self.parts.cache(arena, cache) else {
             return;
         };
         locked.depot.lock(self.rt).tick_of(&kind);
@@ -37,7 +37,7 @@ impl<N: Name, R: Wait> Depots for LockedDepots<'_, N, R> {
         let Some(kind) = self.parts.kind(arena, cache) else {
             return false;
         };
-        let Some(place) = self.parts.cache(arena, cache) else {
+        let Some(locked) = self.parts.cache(arena, cache) else {
             return false;
         };
         locked.depot.lock(self.rt).resize_of(&kind, size)
