@@ -65,12 +65,12 @@ HoldsLeases w c = (f : HeldSegment → ℕ)
 
 -- the segment that a client holds is of an arena of the space with this top, and has the unit
 pub record CoversIn (w : WorldState) (top unit : ℕ) (s : HeldSegment) : Type 0 where
-  pub home : ℕ
-  pub named : IsNamed w home s.arena
-  pub under : HasTop w.stock home top
+  pub index : ℕ
+  pub named : IsNamed w index s.arena
+  pub under : HasTop w.stock index top
   pub has : Covers (record { base = s.base; len = s.len }) unit
 
--- no unit of a space is in two segments that clients hold: the two are one, in one home of one
+-- no unit of a space is in two segments that clients hold: the two are one, at one index of one
 -- client's list
 abbrev pub HeldApart : WorldState → Type 0
 HeldApart w = (top unit : ℕ) (c d i j : ℕ) (x y : ClientState) (s t : HeldSegment)
