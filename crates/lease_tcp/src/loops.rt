@@ -11,8 +11,9 @@ use std::sync::atomic::{AtomicBool, Ordering};
 use std::time::{Clock, Duration};
 use std::{io, thread};
 
-/// How long, in seconds, a connection may say nothing, or take none of its answers: then it is
-/// ended, so that a silent one doesn't hold its worker for ever.
+/// How long, in seconds, a connection may say nothing: then it is ended, so that a silent one
+/// doesn't hold its worker for ever. A write waits as long, and one that was taken in part waits
+/// anew for the rest, so that a connection that takes none of its answers is ended later.
 pub const SILENCE_LIMIT: u64 = 600;
 
 /// How long, in milliseconds, a worker waits after a connection that couldn't be accepted, as where
@@ -53,7 +54,7 @@ fn serve_stream<K: Worker>(alloc: Global, stream: &TcpStream, lines: &mut Client
     let _ = serve_connection(alloc, &mut reader, &mut writer, lines);
 }
 
-/// Sets how long a socket may keep its worker waiting, and that answers leave at once.
+/// Sets how long one read or one write may wait, and that answers leave at once.
 fn limit(stream: &TcpStream) -> io::Result<()> {
     let silence = Some(Duration::from_secs(SILENCE_LIMIT));
     stream.set_nodelay(true)?;

@@ -206,8 +206,8 @@ connections than workers wait until one ends.
 
 Once it listens it prints listening ADDRESS, with the real port. The lines of clients and their
 answers are those of a script; lines of operators are answered by error word. A connection that
-fails, or says nothing or takes no answer for ten minutes, ends alone; leases don't end with a
-connection.
+fails, or says nothing for ten minutes, ends alone; leases don't end with a connection. One that
+takes no answer ends later: a write that was taken in part waits ten minutes anew for the rest.
 
 What comes on standard input is ignored. When it ends, no further connection is served, those being
 served end when their clients end them, all leases end, and it prints closed. So keep standard input
