@@ -77,6 +77,16 @@ fn resizes(size: usize) -> WorldEvent {
     }
 }
 
+/// So many rounds in each magazine of the CPU's for the cache.
+fn changes(cpu: usize, size: usize) -> WorldEvent {
+    WorldEvent::Changes {
+        cpu,
+        arena: 0,
+        cache: 0,
+        size,
+    }
+}
+
 fn clients_refuse(rt: &impl Abort, world: &mut World<PlainDeed>) {
     let client = 0;
     let first = [
@@ -106,6 +116,9 @@ fn welcomed_refuses(rt: &impl Abort, world: &mut World<PlainDeed>) {
         (gives_back(rt), EventFault::Busy),
     ];
     refused(rt, world, &busy);
+    all_done(rt, world, &[WorldEvent::Looks { cpu: 1, which: 1 }]);
+    let refusal = Refusal::NotYours;
+    not_enabled(rt, world, &[WorldEvent::Declines { cpu: 1, refusal }]);
 }
 
 fn arenas_refuse(rt: &impl Abort, world: &mut World<PlainDeed>) {
@@ -166,6 +179,9 @@ fn depots_refuse(rt: &impl Abort, world: &mut World<PlainDeed>) {
         (others, EventFault::OldSize),
     ];
     refused(rt, world, &rows);
+    not_enabled(rt, world, &[changes(1, 15)]);
+    all_done(rt, world, &[changes(1, 7)]);
+    not_enabled(rt, world, &[changes(1, 7)]);
 }
 
 /// A client, a CPU, its hand, its request or a message isn't as the event asks.
@@ -197,15 +213,10 @@ fn nobody_there(rt: &impl Abort, world: &mut World<PlainDeed>) {
     not_enabled(rt, world, &events);
 }
 
-/// No cache has these indexes, magazines have no size of 8, and none is due for a change.
+/// No cache has these indexes, magazines have no size of 8, and those of CPUs are as large as the
+/// depot's.
 fn no_such_cache(rt: &impl Abort, world: &mut World<PlainDeed>) {
     let (cpu, arena, cache) = (0, 0, 5);
-    let changes = WorldEvent::Changes {
-        cpu,
-        arena,
-        cache: 0,
-        size: 3,
-    };
     let events = [
         WorldEvent::SlabTakes { cpu, arena, cache },
         WorldEvent::SlabReaps { cpu, arena, cache },
@@ -213,7 +224,8 @@ fn no_such_cache(rt: &impl Abort, world: &mut World<PlainDeed>) {
         WorldEvent::Pops { cpu, arena, cache },
         WorldEvent::Ticks { arena, cache },
         resizes(8),
-        changes,
+        changes(cpu, 3),
+        changes(cpu, 7),
     ];
     not_enabled(rt, world, &events);
 }
