@@ -132,8 +132,8 @@ module _ (w : WorldState) (is : IsWorld w) (top unit : ℕ) (s t : HeldSegment) 
   in_space x some =
       let is_some = weight_some s.arena t.arena unit (told_segment (arena_name w.names) x) some in
       let home : HasTop w.stock x.arena top = elim is_some.0 [
-        | inl a ↦ subst (λ (k : ℕ). HasTop w.stock k top) (sym (is.names x.arena first.home first.named.within (a ∙ sym first.named.is))) first.under
-        | inr b ↦ subst (λ (k : ℕ). HasTop w.stock k top) (sym (is.names x.arena second.home second.named.within (b ∙ sym second.named.is))) second.under
+        | inl a ↦ subst (λ (k : ℕ). HasTop w.stock k top) (sym (is.names x.arena first.index first.named.within (a ∙ sym first.named.is))) first.under
+        | inr b ↦ subst (λ (k : ℕ). HasTop w.stock k top) (sym (is.names x.arena second.index second.named.within (b ∙ sym second.named.is))) second.under
       ] in
       (home, is_some.1)
 
