@@ -150,7 +150,7 @@ Answers to clients:
                                 V. V is 0 before its first hello
   stale C I N V                 N was used already: the last request was V, and V + 1 is next
   gap C I N V                   N is too high: the last request was V, and V + 1 is next
-  again C I N                   memory was refused and nothing was done; send the line once more.
+  again C I N                   out of memory, and nothing was done; send the line once more.
                                 N is 0 for a hello
 Each refused answer counts as the answer to its N; old, stale, gap, again and error don't.
 
