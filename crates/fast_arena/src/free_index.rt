@@ -1,8 +1,9 @@
 //! The free ranges of an arena, in the orders that its policy asks for.
 ghost use Rattle.std.specs.Prelude.{◌≡◌, ◌≢◌, ◌+◌, ◌<◌, ◌≤◌, ◌++◌, ◌∷◌, [], All, Any, OnOk, OnErr};
 ghost use Rattle.std.specs.Prelude.{◌-◌, ◌%◌, ◌^◌, length, max, true, AllPairs, Contains, IfOk};
-ghost use Rattle.std.specs.Prelude.{IfSome, option_to_list};
+ghost use Rattle.std.specs.Prelude.{IfSome, MatchBool, option_to_list};
 ghost use Rattle.std.specs.Int.{IsPowerOfTwo};
+ghost use Rattle.deed_core.specs.Covering.{units_held};
 ghost use Rattle.deed_core.specs.Extent.{IsRange, end_of};
 ghost use Rattle.deed_core.specs.Holding.{Apart};
 ghost use Rattle.deed_core.specs.Request.{IsGood};
@@ -194,6 +195,30 @@ impl<D: Deed> FreeIndex<D> {
         u64::MAX - self.clock
     }
 
+    /// How many units the free ranges have.
+    pub fn units(&self) -> u128
+        ensures { result ≡ units_held self.now.ranges }
+    {
+        self.slots.units()
+    }
+
+    /// Whether it is a free range.
+    pub fn has(&self, range: HeldRange) -> bool
+        requires { AllPairs Apart self.now.ranges }
+        ensures { MatchBool result (Contains self.now.ranges range)
+            (¬ Contains self.now.ranges range) }
+    {
+        // For its clause: each free range has units.
+        let _ = self.len();
+        let Some(last) = self.last_by(range.base()) else {
+            return false;
+        };
+        if last != range {
+            return false;
+        }
+        true
+    }
+
     /// Of the free ranges that begin at `base` or below it, the one that begins last.
     pub fn last_by(&self, base: u64) -> Option<HeldRange>
         requires { base ≤ 2 ^ 62 }
@@ -382,7 +407,7 @@ impl<D: Deed> FreeIndex<D> {
     }
 
     /// A rest, if there is one, becomes free.
-    fn insert_rest(&mut self, rest: Option<Stored<D>>)
+    pub fn insert_rest(&mut self, rest: Option<Stored<D>>)
         requires absent { IfSome rest (λ h.
             All (λ r. r.range.base ≢ h.range.base) self.old.ranges) }
         requires room { length self.old.ranges < self.old.room }
