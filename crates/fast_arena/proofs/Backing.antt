@@ -1,5 +1,5 @@
 -- That what is allocated can come back.
-use Rattle.std.proofs.Common.{◌≡◌, ℕ, ◌+◌, ◌<◌, ◌≤◌, ap, ◌∙◌, List, [], ◌∷◌, ◌++◌, length, Option, None, Some, option_to_list, arith}
+use Rattle.std.proofs.Common.{◌≡◌, ℕ, ◌+◌, ◌<◌, ◌≤◌, ap, ◌∙◌, [], ◌∷◌, ◌++◌, length, Option, None, Some, option_to_list, arith}
 use Rattle.std.proofs.lemmas.List.{length_push, length-append}
 use Rattle.deed_core.specs.Holding.{Holding}
 use Rattle.tag_arena.specs.declared.policies.Policy.{Policy}

@@ -1,16 +1,16 @@
 -- The arena's calls, in terms of the index of its free ranges.
-use Rattle.std.proofs.Common.{◌≡◌, ◌≢◌, ◌⊎◌, ℕ, ◌+◌, ◌%◌, ◌<◌, ◌≤◌, Bool, true, refl, sym, ap, subst, ◌∙◌, ⊎_elim, List, [], ◌∷◌, ◌++◌, map, length, HoldsAt, All, AllPairs, Contains, Option, None, Some, IfSome, MatchOption, is_some, false, option_to_list, arith}
-use Rattle.std.proofs.lemmas.List.Elements.{All-contains, at_from_Contains, Contains-append_right}
+use Rattle.std.proofs.Common.{◌≡◌, ◌≢◌, ℕ, ◌+◌, ◌<◌, Bool, true, refl, sym, ap, subst, ◌∙◌, ⊎_elim, List, [], ◌∷◌, ◌++◌, length, All, AllPairs, Contains, Option, None, Some, IfSome, MatchOption, is_some, false, option_to_list, arith}
+use Rattle.std.proofs.lemmas.List.Elements.{All-contains, at_from_Contains}
 use Rattle.std.specs.Ordering.{nat_cmp}
 use Rattle.std.specs.FinMap as finmap
 use Rattle.std.specs.FinMap.{FinMap}
-use Rattle.deed_core.specs.Extent.{IsRange, Covers, end_of}
+use Rattle.deed_core.specs.Extent.{Covers, end_of}
 use Rattle.deed_core.specs.Holding.{Holding, Apart}
 use Rattle.deed_core.specs.Tag.{Tag}
 use Rattle.deed_core.specs.Request.{rounded, IsGood}
 use Rattle.deed_core.specs.declared.requests.Request.{Request}
 use Rattle.tag_arena.specs.declared.choices.Found.{Found}
-use Rattle.tag_arena.specs.ArenaState.{ArenaState, IsDivided, IsSound, spans_of, layout_of}
+use Rattle.tag_arena.specs.ArenaState.{ArenaState, IsDivided, IsSound, spans_of}
 use Rattle.tag_arena.specs.Calls.{part, between, after_carve}
 use Rattle.tag_arena.specs.Found.{IsPlaced}
 use Rattle.tag_arena.specs.Found as plain_found
@@ -31,7 +31,7 @@ use Rattle.fast_arena.specs.Fits.{IsFit}
 use Rattle.fast_arena.specs.Found.{IsCuttable, LowestSoFar}
 
 -- what was found, with its place in the list
-pub found_of : (free : List Holding) (f : Fit) → Contains free f.range → Found
+abbrev pub found_of : (free : List Holding) (f : Fit) → Contains free f.range → Found
 found_of free f among = record { at = (at_from_Contains free f.range among).0; range = f.range; base = f.base }
 
 pub placed_of : (quantum : ℕ) (q : Request) (free : List Holding) (f : Fit) (fit : IsFit quantum q free f) → IsPlaced quantum q free (found_of free f fit.among)
@@ -117,8 +117,8 @@ absent_behind a t n k o is free same = subst (λ xs. IfSome o (λ h. All (λ r. 
 
 -- a span that comes back whole was lent
 pub place_there : (A : Type 0) (B : ℕ → Type 0) (o : Option ℕ) (lent : Bool) → MatchOption o A B → lent ≡ is_some o → lent ≡ true → (k : ℕ) × (o ≡ Some k) × B k
-place_there A B None lent said is yes = let no : false ≡ true = sym is ∙ yes in absurd cc
-place_there A B (Some k) lent said is yes = (k, refl, said)
+place_there A B None lent said is lends = let no : false ≡ true = sym is ∙ lends in absurd cc
+place_there A B (Some k) lent said is lends = (k, refl, said)
 
 pub not_lent : (B : ℕ → Type 0) (imported : List Tag) (s merged : Holding) (o : Option ℕ) (lent : Bool) → MatchOption o (All (λ t. t.holding ≢ s) imported) B → lent ≡ is_some o → (lent ≡ true → merged ≢ s) → (t : Tag) → Contains imported t → t.holding ≡ s → s ≡ merged → ⊥
 not_lent B imported s merged None lent said is other t in-t e same = All-contains (λ t. t.holding ≢ s) imported t said in-t e

@@ -1,5 +1,5 @@
 -- How many units the free ranges have.
-use Rattle.std.proofs.Common.{◌≡◌, ℕ, ◌+◌, refl, ap, ◌∙◌, List, [], ◌∷◌, map, insert, Option, None, Some, sum_by, arith}
+use Rattle.std.proofs.Common.{◌≡◌, refl, ◌∙◌, List, [], ◌∷◌, map, Option, None, Some, sum_by, arith}
 use Rattle.std.proofs.lemmas.List.Sums.{sum_by-cons, sum_by-insert}
 use Rattle.deed_core.specs.Covering.{units_held}
 use Rattle.deed_core.specs.Holding.{Holding}

@@ -1,5 +1,5 @@
 -- The lowest owned span that is wholly free, one span after another.
-use Rattle.std.proofs.Common.{◌≡◌, ℕ, ◌+◌, ◌<◌, ◌≤◌, sym, subst, List, get_or, HoldsAt, Contains, Option, None, Some, MatchOption, arith}
+use Rattle.std.proofs.Common.{◌≡◌, ℕ, ◌+◌, ◌≤◌, sym, subst, List, get_or, HoldsAt, Contains, Option, None, Some, MatchOption, arith}
 use Rattle.deed_core.specs.Holding.{Holding}
 use Rattle.tag_arena.proofs.Scans.{within_more}
 use Rattle.fast_arena.specs.declared.whole_spans.Whole.{Whole}

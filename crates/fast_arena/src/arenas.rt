@@ -1,5 +1,5 @@
 //! The arena, on the index of its free ranges.
-ghost use Rattle.std.specs.Prelude.{◌≡◌, ◌+◌, ◌-◌, ◌%◌, ◌≤◌, ◌↔◌, ◌<◌, [], ℕ, length};
+ghost use Rattle.std.specs.Prelude.{◌≡◌, ◌+◌, ◌-◌, ◌%◌, ◌^◌, ◌≤◌, ◌↔◌, ◌<◌, [], ℕ, length};
 ghost use Rattle.std.specs.Prelude.{IsTrue, IsOk, IfOk, IfErr, IfSome, OnOk, OnErr, Some};
 ghost use Rattle.std.specs.Prelude.{option_to_list, sum_by};
 ghost use Rattle.std.specs.Bool.{OnTrue, OnFalse};
@@ -428,6 +428,7 @@ fn reserve_free<D: Deed>(
     ensures room { OnOk result
         (length free.new.ranges + finmap.len tags.now + more ≤ free.new.room) }
     ensures ticks { OnOk result (finmap.len tags.now + more < free.new.ticks) }
+    ensures bound { OnOk result (finmap.len tags.now + more < 2 ^ 64) }
     ensures rest { free.new ≡ record free.old { room = free.new.room } }
     ensures grows { free.old.room ≤ free.new.room }
 {

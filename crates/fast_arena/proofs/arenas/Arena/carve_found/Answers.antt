@@ -1,4 +1,4 @@
-use Rattle.std.proofs.Common.{◌≡◌, ℕ, ◌++◌, List, None, Contains, AllPairs, sym, subst, ap, ◌∙◌, arith}
+use Rattle.std.proofs.Common.{◌≡◌, ℕ, List, None, Contains, AllPairs, sym, subst, ap, ◌∙◌}
 use Rattle.std.specs.FinMap as finmap
 use Rattle.deed_core.specs.Holding.{Holding, Apart}
 use Rattle.tag_arena.specs.ArenaState.{ArenaState, IsSound}

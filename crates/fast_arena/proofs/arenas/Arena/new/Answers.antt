@@ -10,7 +10,10 @@ pub invariant_of-result : goal.invariant_of-result
 invariant_of-result g c =
     let none : finmap.len c.new-4.result ≡ 0 = ap finmap.len c.new-4.ensures ∙ len-empty nat_cmp Holding in
     let empty = ap length c.new-3.ensures.ranges in (
-      rw (c.new.ensures.items, c.new-2.ensures.items, c.new-3.ensures.ranges, c.new-3.ensures.policy, c.new-4.ensures) (empty_sound c.args.id c.args.quantum c.args.policy c.requires),
-      omega (arith, none, empty),
-      omega (arith, none),
+      rw (c.new.ensures.items, c.new-2.ensures.items, c.new-3.ensures.ranges, c.new-4.ensures) (empty_sound c.args.id c.args.quantum c.args.policy c.requires),
+      record {
+        policy_is = c.new-3.ensures.policy;
+        room = omega (arith, none, empty);
+        ticks = omega (arith, none);
+      },
     )

@@ -1,4 +1,4 @@
-use Rattle.std.proofs.Common.{◌≡◌, List, length, Some, Contains, All, Any, HoldsAt, refl, sym, subst, ap, ◌∙◌, arith}
+use Rattle.std.proofs.Common.{◌≡◌, List, length, Some, Contains, All, refl, sym, subst, ap, ◌∙◌, arith}
 use Rattle.deed_core.specs.Holding.{Holding}
 use Rattle.deed_core.specs.Weights.{Loses}
 use Rattle.tag_arena.specs.declared.whole_spans.Whole as plain
@@ -27,7 +27,7 @@ take-requires g c =
     let a = the_state c.self.invariant.0 in
     let w : Whole = c.in-Some.whole in
     let so : LowestSoFar a.owned a.free (length a.owned) (Some w) = rw c.deref.ensures.value at c.in-Some.ensures in
-    member-Any (λ r. r.range.base ≡ c.base.result) a.free w.span so.2 (sym c.base.ensures.value)
+    record { present = member-Any (λ r. r.range.base ≡ c.base.result) a.free w.span so.2 (sym c.base.ensures.value) }
 
 pub invariant_of-self : goal.invariant_of-self
 invariant_of-self g c =

@@ -1,4 +1,4 @@
-use Rattle.std.proofs.Common.{◌≡◌, sym, ap, ◌∙◌}
+use Rattle.std.proofs.Common.{sym, ap, ◌∙◌}
 use Rattle.deed_core.specs.Covering.{units_held}
 use Rattle.fast_arena.proofs.Units.{units_by_age}
 use Rattle.fast_arena.proofs.free_index.FreeIndex.units.Goals as goal
