@@ -24,6 +24,7 @@ ghost use Rattle.tag_arena.specs.Outcomes.{ImportCovers, FreeOf, RemoveOf};
 use crate::cuts::cut_first;
 use crate::free_index::FreeIndex;
 use crate::held_ranges::{HeldRange, held_range_of};
+use crate::probes::Probes;
 use crate::searches::Fit;
 use crate::spans::{
     Import, imported_units, overlaps_imported, overlaps_owned, owned_units, place_of_import,
@@ -47,6 +48,7 @@ pub struct Arena<D: Deed> {
     free: FreeIndex<D>,
     tags: Tags,
     rover: u64,
+    probes: Probes,
 }
 
 impl<D: Deed> Model for Arena<D> {
@@ -104,6 +106,7 @@ impl<D: Deed> Arena<D> {
             free: FreeIndex::new(alloc, policy),
             tags: Tags::new(alloc),
             rover: 0,
+            probes: Probes::new(),
         }
     }
 
@@ -152,6 +155,11 @@ impl<D: Deed> Arena<D> {
         }
     }
 
+    /// How many free ranges the last `xalloc` that granted looked at, 0 before the first.
+    pub fn probes(&self) -> u64 {
+        self.probes.count
+    }
+
     /// Ends the arena where it holds no deed.
     pub fn close(self) -> Result<(), Arena<D>>
         ensures empty { IsOk result ↔ (self.free ≡ []) }
@@ -170,6 +178,7 @@ impl<D: Deed> Arena<D> {
             free,
             tags: _,
             rover: _,
+            probes: _,
         } = self;
         free.destroy();
         Ok(())
@@ -241,13 +250,16 @@ impl<D: Deed> Arena<D> {
             (u : ℕ) → covering_held u self.old.free
             ≡ covering_held u self.new.free + covers u s.holding.range) }
     {
-        let found = self.choose(request)?;
+        let mut probes = Probes::new();
+        let found = self.choose(request, &mut probes)?;
         let len = request.units(self.quantum).unwrap();
-        Ok(self.carve_found(found, len)?)
+        let segment = self.carve_found(found, len)?;
+        self.probes = probes;
+        Ok(segment)
     }
 
     /// What the policy chooses for the request, and where it stands.
-    fn choose(&self, request: &Request) -> Result<Fit, ArenaFault>
+    fn choose(&self, request: &Request, probes: &mut Probes) -> Result<Fit, ArenaFault>
         ensures good { OnOk result (IsGood self.now.quantum request.now) }
         ensures chosen { IfOk result (λ found. IsChosen self.now request.now (Some found.base)) }
         ensures placed { IfOk result (IsFit self.now.quantum request.now self.now.free) }
@@ -256,7 +268,7 @@ impl<D: Deed> Arena<D> {
         if !request.is_good(self.quantum) {
             return Err(ArenaFault::BadRequest);
         }
-        let chosen = self.free.chosen(self.rover, self.quantum, request);
+        let chosen = self.free.chosen(self.rover, self.quantum, request, probes);
         chosen.ok_or(ArenaFault::NoFit)
     }
 

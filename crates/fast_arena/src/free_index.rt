@@ -23,6 +23,7 @@ use crate::earliest::next_fit;
 use crate::held_ranges::{HeldRange, held_range_of};
 use crate::merges::{join_left, join_right};
 use crate::orders::{Order, OrderedIndex};
+use crate::probes::Probes;
 use crate::searches::{Fit, best_fit, last_by, newest};
 use crate::slots::{Slots, TimedDeed};
 use deed_core::{Deed, LIMIT, Request, Stored};
@@ -229,20 +230,20 @@ impl<D: Deed> FreeIndex<D> {
 
     /// The best range that serves the request, and its least address that does. Under `next` there
     /// is no index for it.
-    pub fn best(&self, quantum: u64, request: &Request) -> Option<Fit>
+    pub fn best(&self, quantum: u64, request: &Request, probes: &mut Probes) -> Option<Fit>
         requires kept { keeps self.now.policy Sizes ≡ true }
         requires quantum { IsPowerOfTwo quantum }
         requires good { IsGood quantum request.now }
         ensures choice { IsBestChoice quantum request.now self.now.ranges (base_of result) }
         ensures placed { IfSome result (IsFit quantum request.now self.now.ranges) }
     {
-        best_fit(&self.slots, &self.sizes, quantum, request)
+        best_fit(&self.slots, &self.sizes, quantum, request, probes)
     }
 
     /// As from power-of-two lists: for a request without constraints the newest range of the least
     /// list whose every member has room, and else, or where there is no such list, the best. It is
     /// for `instant`, which alone has the lists.
-    pub fn instant(&self, quantum: u64, request: &Request) -> Option<Fit>
+    pub fn instant(&self, quantum: u64, request: &Request, probes: &mut Probes) -> Option<Fit>
         requires kept { self.now.policy ≡ Instant }
         requires quantum { IsPowerOfTwo quantum }
         requires good { IsGood quantum request.now }
@@ -253,14 +254,15 @@ impl<D: Deed> FreeIndex<D> {
         // The clock is read for the proof alone.
         let _clock = self.clock;
         if request.is_constrained() {
-            return self.best(quantum, request);
+            return self.best(quantum, request, probes);
         }
         let Some(units) = request.units(quantum) else {
-            return self.best(quantum, request);
+            return self.best(quantum, request, probes);
         };
         let Some(range) = newest(&self.slots, &self.lists, quantum, units) else {
-            return self.best(quantum, request);
+            return self.best(quantum, request, probes);
         };
+        probes.look();
         Some(Fit {
             range,
             base: range.base(),
@@ -269,7 +271,13 @@ impl<D: Deed> FreeIndex<D> {
 
     /// The least address at or past the rover that serves the request, else the least that does. It
     /// is for `next`, which alone has the order that it asks for.
-    pub fn next(&self, rover: u64, quantum: u64, request: &Request) -> Option<Fit>
+    pub fn next(
+        &self,
+        rover: u64,
+        quantum: u64,
+        request: &Request,
+        probes: &mut Probes,
+    ) -> Option<Fit>
         requires kept { self.now.policy ≡ Next }
         requires quantum { IsPowerOfTwo quantum }
         requires good { IsGood quantum request.now }
@@ -286,11 +294,18 @@ impl<D: Deed> FreeIndex<D> {
             rover,
             quantum,
             request,
+            probes,
         )
     }
 
     /// What the policy chooses.
-    pub fn chosen(&self, rover: u64, quantum: u64, request: &Request) -> Option<Fit>
+    pub fn chosen(
+        &self,
+        rover: u64,
+        quantum: u64,
+        request: &Request,
+        probes: &mut Probes,
+    ) -> Option<Fit>
         requires quantum { IsPowerOfTwo quantum }
         requires good { IsGood quantum request.now }
         requires rover { rover ≤ 2 ^ 62 }
@@ -301,9 +316,9 @@ impl<D: Deed> FreeIndex<D> {
         ensures placed { IfSome result (IsFit quantum request.now self.now.ranges) }
     {
         match self.policy {
-            Policy::Best => self.best(quantum, request),
-            Policy::Next => self.next(rover, quantum, request),
-            Policy::Instant => self.instant(quantum, request),
+            Policy::Best => self.best(quantum, request, probes),
+            Policy::Next => self.next(rover, quantum, request, probes),
+            Policy::Instant => self.instant(quantum, request, probes),
         }
     }
 

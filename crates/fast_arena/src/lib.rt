@@ -28,6 +28,7 @@ mod held_ranges;
 mod merges;
 mod orders;
 mod places;
+mod probes;
 mod searches;
 mod slots;
 mod spans;

@@ -26,7 +26,7 @@ returns-clause-carved g c =
     let n : ℕ = c.unwrap-len.result in
     let sound : IsSound old = subst IsSound c.self.view_is c.self.invariant.0 in
     let n_is : n ≡ rounded old.quantum q.size = units_are c.units.result _ _ n c.units.ensures c.unwrap-len.ensures ∙ ap (λ (s : ArenaState). rounded s.quantum q.size) c.self.view_is in
-    found_carved old q (found_of old.free f c.in_ok-found.ensures.placed.among) n sound c.in_ok-found.ensures.good c.in_ok-found.ensures.chosen (placed_of old.quantum q old.free f c.in_ok-found.ensures.placed) n_is c.carve_found.new.self c.in_ok-carve_found.ensures.carved c.in_ok-carve_found.field-0 c.in_ok-carve_found.ensures.segment c.in_ok-carve_found.ensures.range
+    found_carved old q (found_of old.free f c.in_ok-found.ensures.placed.among) n sound c.in_ok-found.ensures.good c.in_ok-found.ensures.chosen (placed_of old.quantum q old.free f c.in_ok-found.ensures.placed) n_is _ (c.self-2.view_is ∙ c.in_ok-segment.ensures.carved) c.in_ok-segment.segment c.in_ok-segment.ensures.segment c.in_ok-segment.ensures.range
 
 pub returns-clause-sound : goal.returns-clause-sound
 returns-clause-sound g c =
@@ -36,7 +36,7 @@ returns-clause-sound g c =
     let n : ℕ = c.unwrap-len.result in
     let sound : IsSound old = subst IsSound c.self.view_is c.self.invariant.0 in
     let n_is : n ≡ rounded old.quantum q.size = units_are c.units.result _ _ n c.units.ensures c.unwrap-len.ensures ∙ ap (λ (s : ArenaState). rounded s.quantum q.size) c.self.view_is in
-    found_sound old q (found_of old.free f c.in_ok-found.ensures.placed.among) n sound c.in_ok-found.ensures.good c.in_ok-found.ensures.chosen (placed_of old.quantum q old.free f c.in_ok-found.ensures.placed) n_is c.carve_found.new.self c.in_ok-carve_found.ensures.carved c.in_ok-carve_found.field-0 c.in_ok-carve_found.ensures.segment c.in_ok-carve_found.ensures.range
+    found_sound old q (found_of old.free f c.in_ok-found.ensures.placed.among) n sound c.in_ok-found.ensures.good c.in_ok-found.ensures.chosen (placed_of old.quantum q old.free f c.in_ok-found.ensures.placed) n_is _ (c.self-2.view_is ∙ c.in_ok-segment.ensures.carved) c.in_ok-segment.segment c.in_ok-segment.ensures.segment c.in_ok-segment.ensures.range
 
 pub returns-clause-gains : goal.returns-clause-gains
 returns-clause-gains g c =
@@ -46,7 +46,7 @@ returns-clause-gains g c =
     let n : ℕ = c.unwrap-len.result in
     let sound : IsSound old = subst IsSound c.self.view_is c.self.invariant.0 in
     let n_is : n ≡ rounded old.quantum q.size = units_are c.units.result _ _ n c.units.ensures c.unwrap-len.ensures ∙ ap (λ (s : ArenaState). rounded s.quantum q.size) c.self.view_is in
-    found_gains old q (found_of old.free f c.in_ok-found.ensures.placed.among) n sound c.in_ok-found.ensures.good c.in_ok-found.ensures.chosen (placed_of old.quantum q old.free f c.in_ok-found.ensures.placed) n_is c.carve_found.new.self c.in_ok-carve_found.ensures.carved c.in_ok-carve_found.field-0 c.in_ok-carve_found.ensures.segment c.in_ok-carve_found.ensures.range
+    found_gains old q (found_of old.free f c.in_ok-found.ensures.placed.among) n sound c.in_ok-found.ensures.good c.in_ok-found.ensures.chosen (placed_of old.quantum q old.free f c.in_ok-found.ensures.placed) n_is _ (c.self-2.view_is ∙ c.in_ok-segment.ensures.carved) c.in_ok-segment.segment c.in_ok-segment.ensures.segment c.in_ok-segment.ensures.range
 
 pub returns-clause-covering : goal.returns-clause-covering
 returns-clause-covering g c =
@@ -56,4 +56,4 @@ returns-clause-covering g c =
     let n : ℕ = c.unwrap-len.result in
     let sound : IsSound old = subst IsSound c.self.view_is c.self.invariant.0 in
     let n_is : n ≡ rounded old.quantum q.size = units_are c.units.result _ _ n c.units.ensures c.unwrap-len.ensures ∙ ap (λ (s : ArenaState). rounded s.quantum q.size) c.self.view_is in
-    found_covers old q (found_of old.free f c.in_ok-found.ensures.placed.among) n sound c.in_ok-found.ensures.good c.in_ok-found.ensures.chosen (placed_of old.quantum q old.free f c.in_ok-found.ensures.placed) n_is c.carve_found.new.self c.in_ok-carve_found.ensures.carved c.in_ok-carve_found.field-0 c.in_ok-carve_found.ensures.segment c.in_ok-carve_found.ensures.range
+    found_covers old q (found_of old.free f c.in_ok-found.ensures.placed.among) n sound c.in_ok-found.ensures.good c.in_ok-found.ensures.chosen (placed_of old.quantum q old.free f c.in_ok-found.ensures.placed) n_is _ (c.self-2.view_is ∙ c.in_ok-segment.ensures.carved) c.in_ok-segment.segment c.in_ok-segment.ensures.segment c.in_ok-segment.ensures.range
