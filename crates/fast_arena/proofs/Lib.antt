@@ -13,3 +13,7 @@ pub mod Roving
 pub mod Neighboring
 pub mod Cutting
 pub mod Rejoining
+pub mod Units
+pub mod Backing
+pub mod Granted
+pub mod Wholes

@@ -1,5 +1,5 @@
 -- What a contract sees of the free ranges of an arena, and what is always so of their index.
-use Rattle.std.specs.Prelude.{◌≡◌, ℕ, ◌≤◌, Bool, true, false, List}
+use Rattle.std.specs.Prelude.{◌≡◌, ℕ, ◌+◌, ◌≤◌, Bool, true, false, List, length}
 use Rattle.deed_core.specs.Holding.{Holding}
 use Rattle.tag_arena.specs.declared.policies.Policy.{Policy}
 use Rattle.tag_arena.specs.declared.policies.Policy.TheVariants.{Best, Next, Instant}
@@ -47,3 +47,9 @@ pub record IsIndexed (policy : Policy) (s : SlotsState) (down size list up : Ord
   pub sizes : MeetsPolicy policy Sizes s room size
   pub lists : MeetsPolicy policy Lists s room list
   pub rising : MeetsPolicy policy Rising s room up
+
+-- what is out, so many ranges, can come back without memory, and before time runs out
+pub record IsBacked (policy : Policy) (free : FreeIndexState) (out : ℕ) : Type 0 where
+  pub policy_is : free.policy ≡ policy
+  pub room : length free.ranges + out ≤ free.room
+  pub ticks : out ≤ free.ticks

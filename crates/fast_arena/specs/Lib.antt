@@ -5,3 +5,4 @@ pub mod FreeRanges
 pub mod Fits
 pub mod Cuts
 pub mod Returns
+pub mod Found

@@ -1,6 +1,6 @@
 -- What is always so of the slots.
-use Rattle.std.specs.Prelude.{◌≡◌, ◌≢◌, ℕ, ◌+◌, ◌<◌, ◌≤◌, List, Option, None, All, AllPairs, length}
-use Rattle.std.specs.Prelude.{count_by, is_some, vec_len, vec_capacity}
+use Rattle.std.specs.Prelude.{◌≡◌, ◌≢◌, ℕ, ◌+◌, ◌<◌, ◌≤◌, List, Option, None, Some, All, AllPairs}
+use Rattle.std.specs.Prelude.{length, count_by, is_some, vec_len, vec_capacity}
 use Rattle.std.specs.Global.{Vec}
 use Rattle.fast_arena.specs.FreeTags.{FreeTag, tag_at}
 
@@ -12,6 +12,11 @@ pub record SlotsState : Type 0 where
 -- how many slots are taken
 abbrev pub taken_count : List (Option FreeTag) → ℕ
 taken_count tags = count_by is_some tags
+
+-- how many units the range in a slot has
+abbrev pub units_of : Option FreeTag → ℕ
+units_of None = 0
+units_of (Some t) = t.range.range.len
 
 -- the vacant slots are known, each once, and there is room
 pub record IsSlotted (slots : Vec (Option FreeTag)) (vacant : Vec ℕ) (room : ℕ) : Type 0 where

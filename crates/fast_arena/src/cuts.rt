@@ -1,12 +1,12 @@
 //! Cuts of a deed.
 ghost use Rattle.std.specs.Prelude.{◌≡◌, ◌-◌, ◌<◌, ◌≤◌, IfOk, IfErr, IfNone, IfSome};
-ghost use Rattle.std.specs.Prelude.{option_to_list};
+ghost use Rattle.std.specs.Prelude.{◌+◌, option_to_list};
 ghost use Rattle.deed_core.specs.Extent.{end_of};
 ghost use Rattle.deed_core.specs.Holding.{joined, GoesOn};
 ghost use Rattle.tag_arena.specs.Calls.{part, between};
 ghost use Rattle.fast_arena.specs.Cuts.{IsCut};
 
-use deed_core::{Deed, Stored};
+use deed_core::{Deed, Segment, Stored};
 
 /// A piece of a deed, and what is left of the deed on either side.
 pub struct Cut<D: Deed> {
@@ -88,5 +88,26 @@ pub fn cut_out<D: Deed>(whole: Stored<D>, base: u64, end: u64) -> Result<Cut<D>,
     match cut_high(rest, end) {
         Ok((piece, high)) => Ok(Cut { low, piece, high }),
         Err(rest) => Err(rejoin(low, rest)),
+    }
+}
+
+/// Cuts the first `len` units off a segment's deed.
+pub fn cut_first<D: Deed>(
+    segment: Segment<D>,
+    len: u64,
+) -> Result<(Stored<D>, Option<Stored<D>>), Segment<D>>
+    requires some { 0 < len }
+    requires to { len ≤ segment.holding.range.len }
+    ensures piece { IfOk result (λ parts.
+        parts.0 ≡ part segment.holding segment.holding.range.base len) }
+    ensures high { let whole = segment.holding in IfOk result (λ parts.
+        option_to_list parts.1 ≡ between whole (whole.range.base + len) (end_of whole.range)) }
+    ensures handed_back { IfErr result (λ same. same ≡ segment) }
+{
+    let (arena, route, range) = (segment.arena(), segment.route(), segment.range());
+    let _ = range.end();
+    match cut_high(Stored::new(segment.into_deed()), range.base() + len) {
+        Ok(parts) => Ok(parts),
+        Err(same) => Err(Segment::new(arena, route, same.into_deed())),
     }
 }

@@ -10,7 +10,7 @@ ghost use Rattle.fast_arena.specs.Fits.{base_of, IsEarliest, IsFit, NoneBelow};
 ghost use Rattle.fast_arena.specs.declared.orders.Order.TheVariants.{Falling, Rising};
 
 use crate::orders::OrderedIndex;
-use crate::places::least_in;
+use crate::probes::Probes;
 use crate::searches::{Fit, last_by};
 use crate::slots::Slots;
 use deed_core::{Deed, Request};
@@ -25,6 +25,7 @@ fn earliest_behind<D: Deed>(
     units: u64,
     start: u64,
     first: u64,
+    probes: &mut Probes,
 ) -> Option<Fit>
     requires quantum { IsPowerOfTwo quantum }
     requires good { IsGood quantum request.now }
@@ -42,7 +43,7 @@ fn earliest_behind<D: Deed>(
     let mut from = first;
     while let Some(entry) = rising.first_weighing(from, 0, units) {
         let range = slots.tag(entry.slot).range();
-        if let Some(base) = least_in(request, quantum, range, start) {
+        if let Some(base) = probes.least_in(request, quantum, range, start) {
             return Some(Fit { range, base });
         }
         from = range.base() + 1;
@@ -59,6 +60,7 @@ fn earliest_fit<D: Deed>(
     quantum: u64,
     request: &Request,
     start: u64,
+    probes: &mut Probes,
 ) -> Option<Fit>
     requires quantum { IsPowerOfTwo quantum }
     requires good { IsGood quantum request.now }
@@ -74,11 +76,20 @@ fn earliest_fit<D: Deed>(
 {
     let units = request.units(quantum)?;
     if let Some(range) = last_by(slots, falling, start) {
-        if let Some(base) = least_in(request, quantum, range, start) {
+        if let Some(base) = probes.least_in(request, quantum, range, start) {
             return Some(Fit { range, base });
         }
     }
-    earliest_behind(slots, rising, quantum, request, units, start, start + 1)
+    earliest_behind(
+        slots,
+        rising,
+        quantum,
+        request,
+        units,
+        start,
+        start + 1,
+        probes,
+    )
 }
 
 /// The least address at or past the rover that serves the request, else the least that does. No
@@ -90,6 +101,7 @@ pub fn next_fit<D: Deed>(
     rover: u64,
     quantum: u64,
     request: &Request,
+    probes: &mut Probes,
 ) -> Option<Fit>
     requires quantum { IsPowerOfTwo quantum }
     requires good { IsGood quantum request.now }
@@ -104,9 +116,17 @@ pub fn next_fit<D: Deed>(
         IfSome result (IsFit quantum request.now free) }
 {
     let low = request.min;
-    let past = earliest_fit(slots, falling, rising, quantum, request, rover.max(low));
+    let past = earliest_fit(
+        slots,
+        falling,
+        rising,
+        quantum,
+        request,
+        rover.max(low),
+        probes,
+    );
     if let Some(fit) = past {
         return Some(fit);
     }
-    earliest_fit(slots, falling, rising, quantum, request, low)
+    earliest_fit(slots, falling, rising, quantum, request, low, probes)
 }

@@ -1,8 +1,9 @@
 //! The free ranges of an arena, in the orders that its policy asks for.
 ghost use Rattle.std.specs.Prelude.{◌≡◌, ◌≢◌, ◌+◌, ◌<◌, ◌≤◌, ◌++◌, ◌∷◌, [], All, Any, OnOk, OnErr};
 ghost use Rattle.std.specs.Prelude.{◌-◌, ◌%◌, ◌^◌, length, max, true, AllPairs, Contains, IfOk};
-ghost use Rattle.std.specs.Prelude.{IfSome, option_to_list};
+ghost use Rattle.std.specs.Prelude.{IfSome, MatchBool, option_to_list};
 ghost use Rattle.std.specs.Int.{IsPowerOfTwo};
+ghost use Rattle.deed_core.specs.Covering.{units_held};
 ghost use Rattle.deed_core.specs.Extent.{IsRange, end_of};
 ghost use Rattle.deed_core.specs.Holding.{Apart};
 ghost use Rattle.deed_core.specs.Request.{IsGood};
@@ -22,6 +23,7 @@ use crate::earliest::next_fit;
 use crate::held_ranges::{HeldRange, held_range_of};
 use crate::merges::{join_left, join_right};
 use crate::orders::{Order, OrderedIndex};
+use crate::probes::Probes;
 use crate::searches::{Fit, best_fit, last_by, newest};
 use crate::slots::{Slots, TimedDeed};
 use deed_core::{Deed, LIMIT, Request, Stored};
@@ -194,6 +196,30 @@ impl<D: Deed> FreeIndex<D> {
         u64::MAX - self.clock
     }
 
+    /// How many units the free ranges have.
+    pub fn units(&self) -> u128
+        ensures { result ≡ units_held self.now.ranges }
+    {
+        self.slots.units()
+    }
+
+    /// Whether it is a free range.
+    pub fn has(&self, range: HeldRange) -> bool
+        requires { AllPairs Apart self.now.ranges }
+        ensures { MatchBool result (Contains self.now.ranges range)
+            (¬ Contains self.now.ranges range) }
+    {
+        // For its clause: each free range has units.
+        let _ = self.len();
+        let Some(last) = self.last_by(range.base()) else {
+            return false;
+        };
+        if last != range {
+            return false;
+        }
+        true
+    }
+
     /// Of the free ranges that begin at `base` or below it, the one that begins last.
     pub fn last_by(&self, base: u64) -> Option<HeldRange>
         requires { base ≤ 2 ^ 62 }
@@ -204,20 +230,20 @@ impl<D: Deed> FreeIndex<D> {
 
     /// The best range that serves the request, and its least address that does. Under `next` there
     /// is no index for it.
-    pub fn best(&self, quantum: u64, request: &Request) -> Option<Fit>
+    pub fn best(&self, quantum: u64, request: &Request, probes: &mut Probes) -> Option<Fit>
         requires kept { keeps self.now.policy Sizes ≡ true }
         requires quantum { IsPowerOfTwo quantum }
         requires good { IsGood quantum request.now }
         ensures choice { IsBestChoice quantum request.now self.now.ranges (base_of result) }
         ensures placed { IfSome result (IsFit quantum request.now self.now.ranges) }
     {
-        best_fit(&self.slots, &self.sizes, quantum, request)
+        best_fit(&self.slots, &self.sizes, quantum, request, probes)
     }
 
     /// As from power-of-two lists: for a request without constraints the newest range of the least
     /// list whose every member has room, and else, or where there is no such list, the best. It is
     /// for `instant`, which alone has the lists.
-    pub fn instant(&self, quantum: u64, request: &Request) -> Option<Fit>
+    pub fn instant(&self, quantum: u64, request: &Request, probes: &mut Probes) -> Option<Fit>
         requires kept { self.now.policy ≡ Instant }
         requires quantum { IsPowerOfTwo quantum }
         requires good { IsGood quantum request.now }
@@ -228,14 +254,15 @@ impl<D: Deed> FreeIndex<D> {
         // The clock is read for the proof alone.
         let _clock = self.clock;
         if request.is_constrained() {
-            return self.best(quantum, request);
+            return self.best(quantum, request, probes);
         }
         let Some(units) = request.units(quantum) else {
-            return self.best(quantum, request);
+            return self.best(quantum, request, probes);
         };
         let Some(range) = newest(&self.slots, &self.lists, quantum, units) else {
-            return self.best(quantum, request);
+            return self.best(quantum, request, probes);
         };
+        probes.look();
         Some(Fit {
             range,
             base: range.base(),
@@ -244,7 +271,13 @@ impl<D: Deed> FreeIndex<D> {
 
     /// The least address at or past the rover that serves the request, else the least that does. It
     /// is for `next`, which alone has the order that it asks for.
-    pub fn next(&self, rover: u64, quantum: u64, request: &Request) -> Option<Fit>
+    pub fn next(
+        &self,
+        rover: u64,
+        quantum: u64,
+        request: &Request,
+        probes: &mut Probes,
+    ) -> Option<Fit>
         requires kept { self.now.policy ≡ Next }
         requires quantum { IsPowerOfTwo quantum }
         requires good { IsGood quantum request.now }
@@ -261,11 +294,18 @@ impl<D: Deed> FreeIndex<D> {
             rover,
             quantum,
             request,
+            probes,
         )
     }
 
     /// What the policy chooses.
-    pub fn chosen(&self, rover: u64, quantum: u64, request: &Request) -> Option<Fit>
+    pub fn chosen(
+        &self,
+        rover: u64,
+        quantum: u64,
+        request: &Request,
+        probes: &mut Probes,
+    ) -> Option<Fit>
         requires quantum { IsPowerOfTwo quantum }
         requires good { IsGood quantum request.now }
         requires rover { rover ≤ 2 ^ 62 }
@@ -276,9 +316,9 @@ impl<D: Deed> FreeIndex<D> {
         ensures placed { IfSome result (IsFit quantum request.now self.now.ranges) }
     {
         match self.policy {
-            Policy::Best => self.best(quantum, request),
-            Policy::Next => self.next(rover, quantum, request),
-            Policy::Instant => self.instant(quantum, request),
+            Policy::Best => self.best(quantum, request, probes),
+            Policy::Next => self.next(rover, quantum, request, probes),
+            Policy::Instant => self.instant(quantum, request, probes),
         }
     }
 
@@ -382,7 +422,7 @@ impl<D: Deed> FreeIndex<D> {
     }
 
     /// A rest, if there is one, becomes free.
-    fn insert_rest(&mut self, rest: Option<Stored<D>>)
+    pub fn insert_rest(&mut self, rest: Option<Stored<D>>)
         requires absent { IfSome rest (λ h.
             All (λ r. r.range.base ≢ h.range.base) self.old.ranges) }
         requires room { length self.old.ranges < self.old.room }

@@ -19,6 +19,7 @@
 //! nothing takes memory.
 #![tactic(auto)]
 
+mod arenas;
 mod cuts;
 mod earliest;
 mod entries;
@@ -27,9 +28,14 @@ mod held_ranges;
 mod merges;
 mod orders;
 mod places;
+mod probes;
 mod searches;
 mod slots;
+mod spans;
+mod tags;
+mod whole_spans;
 
+pub use arenas::Arena;
 pub use free_index::FreeIndex;
 pub use held_ranges::{HeldRange, held_range_of};
 pub use searches::Fit;

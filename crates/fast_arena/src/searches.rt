@@ -10,7 +10,7 @@ ghost use Rattle.fast_arena.specs.declared.orders.Order.TheVariants.{Falling, Li
 
 use crate::held_ranges::HeldRange;
 use crate::orders::OrderedIndex;
-use crate::places::least_in;
+use crate::probes::Probes;
 use crate::slots::Slots;
 use deed_core::{Deed, LIMIT, Request};
 
@@ -27,6 +27,7 @@ pub fn best_fit<D: Deed>(
     sizes: &OrderedIndex,
     quantum: u64,
     request: &Request,
+    probes: &mut Probes,
 ) -> Option<Fit>
     requires quantum { IsPowerOfTwo quantum }
     requires good { IsGood quantum request.now }
@@ -42,7 +43,7 @@ pub fn best_fit<D: Deed>(
     let mut minor = 0;
     while let Some(entry) = sizes.first_from(major, minor) {
         let range = slots.tag(entry.slot).range();
-        if let Some(base) = least_in(request, quantum, range, 0) {
+        if let Some(base) = probes.least_in(request, quantum, range, 0) {
             return Some(Fit { range, base });
         }
         major = range.len();

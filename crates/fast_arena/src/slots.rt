@@ -1,10 +1,10 @@
 //! Deeds of free ranges in numbered slots.
 ghost use Rattle.std.specs.Prelude.{◌≡◌, ◌+◌, ◌<◌, ◌≤◌, [], None, Some, OnOk, OnErr, IsTrue, ◌↔◌};
-ghost use Rattle.std.specs.Prelude.{All, max, IfOk};
+ghost use Rattle.std.specs.Prelude.{All, max, IfOk, sum_by};
 ghost use Rattle.deed_core.specs.Extent.{IsRange, end_of};
 ghost use Rattle.fast_arena.specs.Cuts.{IsCut};
 ghost use Rattle.fast_arena.specs.FreeTags.{FreeTag, tag_at, SlotBecomes};
-ghost use Rattle.fast_arena.specs.Slotted.{taken_count};
+ghost use Rattle.fast_arena.specs.Slotted.{taken_count, units_of};
 
 use crate::cuts::{Cut, cut_out};
 use crate::held_ranges::{HeldRange, held_range_of};
@@ -235,6 +235,19 @@ impl<D: Deed> Slots<D> {
         ensures { result ≡ taken_count self.now.tags }
     {
         self.slots.len() - self.vacant.len()
+    }
+
+    /// How many units the deeds in the slots have.
+    pub fn units(&self) -> u128
+        ensures { result ≡ sum_by units_of self.now.tags }
+    {
+        let mut units: u128 = 0;
+        for slot in &self.slots {
+            if let Some(deed) = slot {
+                units += deed.tag().range().len() as u128;
+            }
+        }
+        units
     }
 
     /// Ends the slots where no deed lies in any.

@@ -1,0 +1,44 @@
+use Rattle.std.proofs.Common.{◌≡◌, ◌++◌, ◌∷◌, [], List, All, ◌≢◌, refl, subst, sym, ap, arith}
+use Rattle.deed_core.specs.Extent.{Extent}
+use Rattle.deed_core.specs.Holding.{Holding}
+use Rattle.tag_arena.specs.ArenaState.{ArenaState, OnQuantum}
+use Rattle.tag_arena.specs.Calls.{IsClear}
+use Rattle.tag_arena.proofs.Adding.{pushed, same_range}
+use Rattle.tag_arena.proofs.Sounding.{the_state}
+use Rattle.tag_arena.proofs.Using.{added_sound}
+use Rattle.fast_arena.proofs.Backing.{backed_insert}
+use Rattle.fast_arena.proofs.Granted.{begins_outside}
+use Rattle.fast_arena.proofs.arenas.Arena.add_span.Goals as goal
+
+pub insert-requires-clause-absent : goal.insert-requires-clause-absent
+insert-requires-clause-absent g c =
+    let a = the_state c.self.invariant.0 in
+    let h : Holding = c.new-stored.result in
+    let range : c.range-range.result ≡ h.range = same_range _ h _ c.range-range.ensures.value c.new-stored.ensures in
+    let clear = subst (λ (s : ArenaState). IsClear s c.range-range.result × OnQuantum s.quantum c.range-range.result) (sym c.self.view_is) (c.if-has_overlap.ensures.clear, c.if-not-is_aligned.ensures.0 refl) in
+    let sound = added_sound a c.self.invariant.0 h c.held_range_of.ensures.range (subst (λ (e : Extent). OnQuantum c.self.inside.quantum e) range clear.1) (subst (λ (e : Extent). IsClear a e) range clear.0) in
+    let some = c.held_range_of.ensures.range.some in
+    subst (λ (xs : List Holding). All (λ r. r.range.base ≢ h.range.base) xs) (sym (ap (λ v. v.ranges) c.reserve_free.ensures.rest))
+    (begins_outside a h h.range.base c.self.invariant.0.divided sound.divided.whole.free_apart (omega arith, omega (arith, some)))
+
+pub invariant_of-self-2 : goal.invariant_of-self-2
+invariant_of-self-2 g c =
+    let a = the_state c.self.invariant.0 in
+    let h : Holding = c.new-stored.result in
+    let range : c.range-range.result ≡ h.range = same_range _ h _ c.range-range.ensures.value c.new-stored.ensures in
+    let owned : c.push_reserved.new.self.items ≡ a.owned ++ h ∷ [] = pushed _ _ _ _ _ c.push_reserved.ensures.items c.reserve.ensures.items c.held_range_of.ensures.value in
+    let free : c.insert.new.self.ranges ≡ a.free ++ h ∷ [] = pushed _ _ _ _ _ c.insert.ensures.ranges (ap (λ v. v.ranges) c.reserve_free.ensures.rest) refl in
+    let clear = subst (λ (s : ArenaState). IsClear s c.range-range.result × OnQuantum s.quantum c.range-range.result) (sym c.self.view_is) (c.if-has_overlap.ensures.clear, c.if-not-is_aligned.ensures.0 refl) in (
+      rw (owned, free) (added_sound a c.self.invariant.0 h c.held_range_of.ensures.range (subst (λ (e : Extent). OnQuantum c.self.inside.quantum e) range clear.1) (subst (λ (e : Extent). IsClear a e) range clear.0)),
+      backed_insert c.self.inside.policy c.self.inside.free c.reserve_free.new.free c.reserve_free.ensures.rest c.insert.new.self h _ c.in-Ok-reserve_free.ensures.room c.in-Ok-reserve_free.ensures.ticks c.insert.ensures.ranges c.insert.ensures.policy c.insert.ensures.room c.insert.ensures.ticks c.self.invariant.1,
+    )
+
+pub returns-clause-sound : goal.returns-clause-sound
+returns-clause-sound g c =
+    let a = the_state c.self.invariant.0 in
+    let h : Holding = c.new-stored.result in
+    let range : c.range-range.result ≡ h.range = same_range _ h _ c.range-range.ensures.value c.new-stored.ensures in
+    let owned : c.push_reserved.new.self.items ≡ a.owned ++ h ∷ [] = pushed _ _ _ _ _ c.push_reserved.ensures.items c.reserve.ensures.items c.held_range_of.ensures.value in
+    let free : c.insert.new.self.ranges ≡ a.free ++ h ∷ [] = pushed _ _ _ _ _ c.insert.ensures.ranges (ap (λ v. v.ranges) c.reserve_free.ensures.rest) refl in
+    let clear = subst (λ (s : ArenaState). IsClear s c.range-range.result × OnQuantum s.quantum c.range-range.result) (sym c.self.view_is) (c.if-has_overlap.ensures.clear, c.if-not-is_aligned.ensures.0 refl) in
+    rw (owned, free) (added_sound a c.self.invariant.0 h c.held_range_of.ensures.range (subst (λ (e : Extent). OnQuantum c.self.inside.quantum e) range clear.1) (subst (λ (e : Extent). IsClear a e) range clear.0))
