@@ -58,8 +58,9 @@ pub fn grant_laws()
     ensures reachable { GrantsWereReachable }
 {}
 
-/// A request is refused for want of room only where there is none: in a system that was used
-/// however one likes, once all has come back, and at its first lease.
+/// `nofit` comes only where no free range of the arena serves, nor one of a source for what would
+/// be imported, nor a chunk in reach of the CPU; so in a system that was used however one likes,
+/// once all has come back, and at its first lease, it doesn't come where a span would do.
 pub fn no_fit_laws()
     ensures taken { NoFitMeansTaken }
     ensures taken_up { NoFitMeansTakenUp }
