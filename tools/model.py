@@ -353,7 +353,7 @@ class Model:
         if leased != wanted:
             return f"{arena.name}: {leased} are leased, and the replies say {wanted}"
         if not arena.source and total != sum(b - a for a, b in arena.spans):
-            return f"{arena.name}: the places have {total}, and not what the spans have"
+            return f"{arena.name}: the homes have {total}, and not what the spans have"
         if exported != sum(sum(sums[it.name]) for it in arena.children):
             return f"{arena.name}: {exported} are exported, and not what the children have"
         if (slab or magazine) and not arena.most_cached:

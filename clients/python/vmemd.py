@@ -302,7 +302,7 @@ class Client:
                     self._link.close()
             if time.monotonic() + wait > deadline:
                 if was_answered:
-                    raise OutOfMemory(f"no memory for {line!r}")
+                    raise OutOfMemory(f"out of memory for {line!r}")
                 raise Unreachable(f"no answer to {line!r}")
             time.sleep(wait)
             wait = min(2 * wait, 1.0)

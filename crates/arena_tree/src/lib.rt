@@ -3,14 +3,14 @@
 //! `Setup` (setups) is what a system is made from: arenas by name, each a root with owned spans or
 //! a child that imports, added one by one; its type keeps it acceptable. `Tree` (trees) is a setup
 //! without its spans: it finds an arena's number by its name, and its chain, which is the arena,
-//! its source, that one's source and so on. To find a name looks at each of at most 32; a chain is
+//! its source, that one's source and so on. To find a name looks at each of at most `MOST_ARENAS`; a chain is
 //! kept, and takes constant time. What is asked for can be judged before it is added: `judge`,
 //! `judge_root`, `judge_child` and `judge_span` take no memory, and refuse with the same word.
 //!
 //! `Parts` (parts) is what one CPU can reach: each call is one event, in one part under its lock,
 //! or in the CPU's own magazines. `climb_alloc` and `climb_free` (climbs) go up a chain and down
 //! again by such events, over any parts: one thread's, or those of a system of locks. They take a
-//! time that grows with the chain, at most four arenas, beside what the parts take.
+//! time that grows with the chain, at most `LONGEST_CHAIN` arenas, beside what the parts take.
 //!
 //! specs/Setups.antt and specs/Settings.antt say what is added to a tree and a setup, and exactly
 //! when which refusal comes. specs/Events.antt has the events with the type of their answers,

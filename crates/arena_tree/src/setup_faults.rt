@@ -8,7 +8,7 @@ pub enum SetupFault {
     /// An arena has the name.
     #[error("an arena has the name")]
     NameTaken,
-    /// There are 32 arenas, or 65,536 spans that this one owns.
+    /// There are `MOST_ARENAS` arenas, or `MOST_SPANS` spans that this one owns.
     #[error("too many")]
     TooMany,
     /// No arena has the source's name; or, for a span, no arena that imports nothing has the name.
@@ -20,7 +20,7 @@ pub enum SetupFault {
     /// The quantum is no power of two, or above the source's.
     #[error("bad quantum")]
     BadQuantum,
-    /// The greatest cached size isn't in whole quanta, is above 16 of them, or needs slabs of more
+    /// The greatest cached size isn't in whole quanta, is above `MOST_CACHES` of them, or needs slabs of more
     /// than 2^62 units.
     #[error("bad cache")]
     BadCache,

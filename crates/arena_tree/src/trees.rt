@@ -69,7 +69,7 @@ impl Tree {
         }
     }
 
-    /// How many arenas there are, at most 32.
+    /// How many arenas there are, at most `MOST_ARENAS`.
     pub fn len(&self) -> usize
         ensures value { result ≡ length self.now }
         ensures tree { IsTree self.now }

@@ -46,7 +46,7 @@ enum Row {
     /// The units leased of an arena.
     Units(u32, u128),
     Clients(usize),
-    /// The client at a place of the list.
+    /// The client at an index of the list.
     ClientAt(usize, Option<u32>),
 }
 

@@ -72,7 +72,7 @@ pub fn held_range_of<D: Deed>(stored: &Stored<D>) -> HeldRange
     HeldRange::new(stored.root(), stored.range())
 }
 
-/// What the deed at a place stands for.
+/// What the deed at an index stands for.
 pub fn held_range_at<D: Deed>(free: &[Stored<D>], at: usize) -> HeldRange
     requires { at < length free.now }
     ensures here { HoldsAt (λ r. r ≡ result) free.now at }

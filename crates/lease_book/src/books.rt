@@ -277,7 +277,7 @@ impl<D: Deed> Book<D> {
         self.accounts.units(arena)
     }
 
-    /// How many clients ever said hello. In order of first hello they stand at the indices below
+    /// How many clients ever said hello. In order of first hello they stand at the indexes below
     /// this.
     pub fn clients(&self) -> usize
         ensures count { result ≡ length self.now.accounts }

@@ -38,7 +38,7 @@ fn value_of(word: &[u8]) -> Option<u64>
     if value <= LARGEST { Some(value) } else { None }
 }
 
-/// The client that a word writes, 1 to 65,536, or `Number` where it writes none.
+/// The client that a word writes, 1 to `LAST_CLIENT`, or `Number` where it writes none.
 pub fn client(word: &[u8]) -> Result<ClientId, LineFault>
     ensures { result ≡ client_in word.now }
 {

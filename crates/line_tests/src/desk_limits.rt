@@ -1,4 +1,4 @@
-//! The limits of a desk and of its setup, and out of memory.
+//! The limits of a desk and of its setup, and what is answered out of memory.
 use crate::asking::{add, ask, desk_of, opened, root, span};
 use arena_tree::{MOST_ARENAS, MOST_SPANS, Setting, Setup, SetupFault};
 use std::alloc::AllocGlobal;
@@ -113,7 +113,7 @@ fn operators_lines(rt: HostRuntime) {
     desk.close();
 }
 
-/// Whether an answer says out of memory.
+/// Whether an answer tells that it was out of memory.
 fn is_refusal(text: &[u8]) -> bool {
     text.starts_with(b"again ") || text == b"error memory\n".as_slice()
 }

@@ -69,7 +69,7 @@ with_slabs c slabs = record {
   colour = c.colour;
 }
 
--- s stands at the place i
+-- s stands at the index i
 pub record StandsAt (i : ℕ) (s : SlabState) (slabs : List SlabState) : Type 0 where
   pub within : i < length slabs
   pub is : slice_index_or slabs i s ≡ s

@@ -70,7 +70,7 @@ fn next_slab<D: Deed>(slabs: &[Slab<D>]) -> Option<usize>
     Some(i)
 }
 
-/// The next chunk: its slab's place, and its own.
+/// The next chunk: its slab's index, and its place in it.
 pub(crate) fn next_chunk<D: Deed>(slabs: &[Slab<D>]) -> Option<(usize, usize)>
     requires ascending { AllPairs IsBelow slabs.now }
     requires some { All (λ s. 0 < length s.home) slabs.now }
@@ -82,7 +82,7 @@ pub(crate) fn next_chunk<D: Deed>(slabs: &[Slab<D>]) -> Option<(usize, usize)>
     Some((i, j))
 }
 
-/// The chunk that covers this range of this root: its slab's place, and its own.
+/// The chunk that covers this range of this root: its slab's index, and its place in it.
 pub(crate) fn find_chunk<D: Deed>(
     slabs: &[Slab<D>],
     root: u32,
@@ -114,7 +114,7 @@ pub(crate) fn overlaps<D: Deed>(slabs: &[Slab<D>], range: Range) -> bool
     false
 }
 
-/// The first place from which on no slab begins below `base`.
+/// The first index from which on no slab begins below `base`.
 pub(crate) fn place_for<D: Deed>(slabs: &[Slab<D>], base: u64) -> usize
     ensures within { result ≤ length slabs.now }
     ensures below { (k : ℕ) (d : SlabState) → k < result

@@ -85,7 +85,7 @@ impl<D: Deed> StockSetup<D> {
         Ok(())
     }
 
-    /// Adds a span, of which this is the deed. Out of memory, the deed is back.
+    /// Adds a span, of which this is the deed. Out of memory, the deed is handed back.
     fn own(&mut self, arena: usize, deed: D) -> Result<(), D>
         requires within { arena < length self.old }
         requires root { (s : SpaceState) → slice_get self.old arena ≡ Some s → s.source ≡ None }

@@ -26,7 +26,7 @@ pub data IsFreeFor (spaces : List SpaceState) (u : ℕ) : ℕ → Type 0 where
   free_above : (k p : ℕ) (s : SpaceState) → slice_get spaces k ≡ Some s → s.source ≡ Some p
       → covering_held u (spans_of s.arena) ≡ 0 → IsFreeFor spaces u p → IsFreeFor spaces u k
 
--- the homes of a unit: 1 where it is, and 0 elsewhere
+-- the homes of a unit, counted: 1 at the one that it has, and 0 at the others
 abbrev pub unit_of_arena : ℕ → List SpaceState → Outside → SpaceState → Sums
 unit_of_arena u spaces out s = sums_of (covers_held u) (homes_of spaces (out_of out) s)
 

@@ -178,7 +178,7 @@ GivenWasReachable = (old new : List SpaceState) (before after : Outside)
     → (s : SpaceState) → slice_get old k ≡ Some s
     → (u : ℕ) → Covers t.holding.range u → IsReachable old before k s u
 
--- so what is given and fits the request was a base for it
+-- so what is given and fits the request could have been served there before
 abbrev pub GivenFittedIn : Type 0
 GivenFittedIn = (old new : List SpaceState) (before after : Outside)
     → IsAccountedFor old before → IsAccountedFor new after

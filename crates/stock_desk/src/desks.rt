@@ -52,7 +52,7 @@ impl Model for Desk {
 
 impl Desk {
     /// A desk with the arenas, caches and spans of a setup, all free, one CPU, and no client.
-    /// Memory alone can be refused, and then nothing was opened.
+    /// It fails only when out of memory, and then nothing was opened.
     pub fn open(alloc: Global, setup: Setup) -> Result<Desk, AllocError>
         ensures opened { IfOk result (IsOpenedFrom setup) }
         ensures picture { IfOk result IsPicture }

@@ -38,12 +38,12 @@ NewestSoFar quantum len free n (Some f) =
     × AllWithin (λ r. (i : ℕ) → OnList quantum r i → ListServes quantum len i → f.list ≤ i) free 0 n
     × AllWithin (λ r. OnList quantum r f.list → ⊥) free (f.at + 1) n
 
--- f is a place in the list of free ranges, and the range there serves at its base
+-- f has an index in the list of free ranges, and the range there serves at its base
 abbrev pub IsPlaced : ℕ → Request → List Holding → Found → Type 0
 IsPlaced quantum q free f = (f.at < length free) × HoldsAt (λ r. r ≡ f.range) free f.at
     × ServesIn quantum q f.range f.base
 
--- f is a place in the list of free ranges, and the `len` units from its base on are whole quanta of
+-- f has an index in the list of free ranges, and the `len` units from its base on are whole quanta of
 -- the range there
 pub record IsCuttable (quantum : ℕ) (free : List Holding) (f : Found) (len : ℕ) : Type 0 where
   pub within : f.at < length free

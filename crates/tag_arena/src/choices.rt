@@ -13,7 +13,7 @@ use crate::policies::Policy;
 use crate::power_lists::instant;
 use deed_core::{Deed, Request, Stored};
 
-/// A place in the list of free ranges, the range there, and an address in it.
+/// An index in the list of free ranges, the range there, and an address in it.
 #[derive(Clone, Copy)]
 pub struct Found {
     pub at: usize,

@@ -109,7 +109,7 @@ pub fn push_rest<D: Deed>(free: &mut Vec<Stored<D>>, rest: Option<Stored<D>>)
     }
 }
 
-/// Takes the range at a place out of the list, cuts `len` units from `base` on out of it, and puts
+/// Takes the range at an index out of the list, cuts `len` units from `base` on out of it, and puts
 /// its rests last, the low one first.
 pub fn carve<D: Deed>(
     free: &mut Vec<Stored<D>>,

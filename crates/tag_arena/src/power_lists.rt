@@ -11,7 +11,7 @@ use crate::choices::{Found, best};
 use crate::held_ranges::{HeldRange, held_range_at};
 use deed_core::{Deed, Request, Stored};
 
-/// A place in the list of free ranges, the range there, and the number of its power-of-two list.
+/// An index in the list of free ranges, the range there, and the number of its power-of-two list.
 #[derive(Clone, Copy)]
 pub struct Listed {
     pub at: usize,

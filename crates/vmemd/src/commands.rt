@@ -154,7 +154,7 @@ Answers to clients:
                                 N is 0 for a hello
 Each refused answer counts as the answer to its N; old, stale, gap, again and error don't.
 
-Lines of operators, which are answered by error memory where memory is out:
+Lines of operators, which are answered by error memory when out of memory:
   cpu N           the lines that follow go through the magazines of CPU N, from 0 to 63, and no more
                   through those of another. At first they go through those of CPU 0. Answer: ok
   offline N       what is in the magazines of CPU N goes back to the slabs. Answer: ok
@@ -263,7 +263,7 @@ fn required<'a>(alloc: Global, id: &'a str) -> Arg<'a>
 
 /// Reads the words, of which the first is the program's name.
 pub fn read_words<'a>(alloc: Global, words: &'a [&'a str]) -> Result<GivenWords<'a>, WordsFault>
-    // `vmemd script` is refused only where memory is.
+    // `vmemd script` is refused only when out of memory.
     ensures script { map (λ w. w.now) words.now ≡ script_words
         → IfErr result (λ fault. fault ≡ WordsFault.Memory) }
     // What is taken is without fault, as clap reads a program with these commands.
