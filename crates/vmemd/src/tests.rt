@@ -6,14 +6,15 @@ mod tables;
 mod telling;
 
 use self::tables::{ASKED, MISTAKEN, REFUSED, ROWS};
-use crate::commands::{GivenWords, WordsFault, read_words};
+use crate::commands::{GivenWords, MOST_WORKERS, WordsFault, read_words};
 use crate::faults::{ConfigFault, ScriptFault};
 use crate::scripts::run_script;
-use arena_tree::{MOST_ARENAS, MOST_SPANS};
+use arena_tree::{LONGEST_CHAIN, MOST_ARENAS, MOST_CACHES, MOST_SPANS};
 use lease_book::MOST_LEASES;
-use lease_proto::{LONGEST_LINE, LineFault};
+use lease_proto::{LAST_CPU, LONGEST_LINE, LineFault};
 use lease_server::Watched;
-use lease_terms::{LAST_CLIENT, LONGEST_NAME};
+use lease_tcp::SILENCE_LIMIT;
+use lease_terms::{LARGEST, LAST_CLIENT, LONGEST_NAME};
 use std::alloc::{AllocError, Global};
 use std::io;
 use std::io::{ErrorKind, Read, Write};
@@ -352,18 +353,44 @@ fn command_line(rt: HostRuntime) -> Result<(), Fail> {
     Ok(())
 }
 
+/// The text that these words ask for.
+fn help_of(alloc: Global, words: &[&str]) -> Result<String, Fail> {
+    match read_words(alloc, words) {
+        Err(WordsFault::Asked(help)) => Ok(help),
+        _other => Err(Fail::from("the help was not told")),
+    }
+}
+
 #[test]
 fn the_help_tells_the_limits(rt: HostRuntime) -> Result<(), Fail> {
     let alloc = rt.alloc();
-    let Err(WordsFault::Asked(help)) = read_words(alloc, &["vmemd", "script", "--help"]) else {
-        return Err(Fail::from("the help was not told"));
-    };
+    assert_eq!(rt; LARGEST, 1 << 62);
+    let help = help_of(alloc, &["vmemd", "script", "--help"])?;
     for limit in [
         format!(in alloc; "at most {LONGEST_LINE} bytes")?,
+        format!(in alloc; "zero, from 0 to 2^62.")?,
         format!(in alloc; "at most {LONGEST_NAME} characters")?,
-        format!(in alloc; "Clients C are 1 to {LAST_CLIENT};")?,
+        format!(in alloc; "at most {MOST_CACHES} of it")?,
+        format!(in alloc; "Clients C are 1 to {LAST_CLIENT}; I and N are 1 to 2^62:")?,
         format!(in alloc; "the client has {MOST_LEASES} leases")?,
+        format!(in alloc; "CPU N, from 0 to {LAST_CPU},")?,
         format!(in alloc; "above {MOST_ARENAS} arenas or {MOST_SPANS} spans")?,
+        format!(in alloc; "more than {LONGEST_CHAIN} arenas")?,
+    ] {
+        assert!(rt; help.contains(limit.as_str()), "{limit}");
+    }
+    Ok(())
+}
+
+#[test]
+fn the_help_of_a_server_tells_its_limits(rt: HostRuntime) -> Result<(), Fail> {
+    let alloc = rt.alloc();
+    assert_eq!(rt; SILENCE_LIMIT, 10 * 60);
+    let help = help_of(alloc, &["vmemd", "serve", "--help"])?;
+    for limit in [
+        format!(in alloc; "WORKERS, 1 to {MOST_WORKERS},")?,
+        format!(in alloc; "connections are served at a time, 1 to {MOST_WORKERS}\n")?,
+        format!(in alloc; "says nothing for ten minutes,")?,
     ] {
         assert!(rt; help.contains(limit.as_str()), "{limit}");
     }

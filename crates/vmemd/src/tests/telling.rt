@@ -1,7 +1,7 @@
 //! What is told on standard error where a server ends or doesn't begin, whole, with the status.
 
 use super::{Mishap, Pieces};
-use crate::commands::{GivenWords, read_words};
+use crate::commands::{GivenWords, WordsFault, read_words};
 use crate::configs::read_config;
 use crate::endings::{end_run, end_script, end_words};
 use crate::faults::ScriptFault;
@@ -147,6 +147,19 @@ fn read(alloc: Global, config: &[u8], size: usize, mishap: Mishap) -> Result<usi
     });
     let setup = read_config(alloc, &mut reader)?;
     Ok(setup.tree().len())
+}
+
+#[test]
+fn words_that_could_not_be_read(rt: HostRuntime) {
+    for (fault, text, status) in [
+        (WordsFault::NotText, "vmemd: an argument isn't text\n", 2),
+        (WordsFault::Memory, "vmemd: memory\n", 1),
+    ] {
+        let told = Told::new(rt.alloc());
+        let code = end_words(&told, &mut Watched::new(Vec::new(rt.alloc())), &fault);
+        assert_eq!(rt; told.into_text().as_slice(), text.as_bytes());
+        assert_eq!(rt; code, ExitCode::from(status));
+    }
 }
 
 #[test]
