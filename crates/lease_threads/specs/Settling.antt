@@ -5,7 +5,7 @@ use Rattle.deed_core.specs.declared.requests.Request.{Request}
 use Rattle.lease_terms.specs.declared.refusals.Refusal.{Refusal}
 use Rattle.lease_terms.specs.declared.refusals.Refusal.TheVariants as refusal
 use Rattle.arena_tree.specs.Chains.{quantum_in}
-use Rattle.arena_tree.specs.Trees.{place_in, nodes_of}
+use Rattle.arena_tree.specs.Trees.{index_in, nodes_of}
 use Rattle.arena_tree.specs.declared.trees.TreeArena.{TreeArena}
 use Rattle.lease_book.specs.Receipts.{ReceiptState}
 use Rattle.lease_book.specs.declared.answers.Answer.{Answer}
@@ -53,14 +53,14 @@ IsRefusalOf why v = v.reply ≡ kept.Refused why
 
 -- a lease is refused so: for the name of its arena just where no arena has that
 abbrev pub RefusesLease : List TreeArena → LeaseLine → Refusal → Type 0
-RefusesLease arenas l refusal.NoArena = place_in l.arena arenas ≡ None
+RefusesLease arenas l refusal.NoArena = index_in l.arena arenas ≡ None
 RefusesLease arenas l refusal.NotYours = ⊥
-RefusesLease arenas l _ = place_in l.arena arenas ≢ None
+RefusesLease arenas l _ = index_in l.arena arenas ≢ None
 
 -- settled by units of the arena that it names, for what it asks of that arena, or refused
 abbrev pub SettlesLease : List TreeArena → LeaseLine → KeptReply → Option Terms → Type 0
 SettlesLease arenas l (kept.Granted arena base len) terms =
-    (place_in l.arena arenas ≡ Some arena)
+    (index_in l.arena arenas ≡ Some arena)
     × (terms
     ≡ Some (record { quantum = quantum_in (nodes_of arenas) arena; request = demand_of l }))
 SettlesLease arenas l kept.Released terms = ⊥
@@ -68,14 +68,14 @@ SettlesLease arenas l (kept.Refused why) terms = RefusesLease arenas l why
 
 -- a release is refused so
 abbrev pub RefusesRelease : List TreeArena → ReleaseLine → Refusal → Type 0
-RefusesRelease arenas r refusal.NoArena = place_in r.arena arenas ≡ None
-RefusesRelease arenas r refusal.NotYours = place_in r.arena arenas ≢ None
+RefusesRelease arenas r refusal.NoArena = index_in r.arena arenas ≡ None
+RefusesRelease arenas r refusal.NotYours = index_in r.arena arenas ≢ None
 RefusesRelease arenas r _ = ⊥
 
 -- settled by a release, or refused
 abbrev pub SettlesRelease : List TreeArena → ReleaseLine → KeptReply → Type 0
 SettlesRelease arenas r (kept.Granted arena base len) = ⊥
-SettlesRelease arenas r kept.Released = place_in r.arena arenas ≢ None
+SettlesRelease arenas r kept.Released = index_in r.arena arenas ≢ None
 SettlesRelease arenas r (kept.Refused why) = RefusesRelease arenas r why
 
 abbrev pub Settles : List TreeArena → Op → ReceiptState → Type 0
