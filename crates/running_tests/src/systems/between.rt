@@ -74,12 +74,12 @@ fn released<N: Name, R: Abort + Wait + AllocGlobal>(
 fn no_lock_between_steps(rt: HostRuntime) -> Result<(), Fail> {
     let mut setup = Setup::new(rt.alloc());
     root(&rt, &mut setup, "d", 0, 256, 5);
-    between::<Brand, _>(&rt, Ground::new(rt.alloc())?, setup);
+    served_between::<Brand, _>(&rt, Ground::new(rt.alloc())?, setup);
     Ok(())
 }
 
 // A lease by a new slab, a release into the magazines, a lease that is carved, one that is refused.
-fn between<N: Name, R: Abort + Wait + AllocGlobal>(rt: &R, ground: Ground, setup: Setup)
+fn served_between<N: Name, R: Abort + Wait + AllocGlobal>(rt: &R, ground: Ground, setup: Setup)
     requires { ground ≡ N.table }
 {
     let system: System<N> = made(rt, ground, setup);
