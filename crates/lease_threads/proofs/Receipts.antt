@@ -1,5 +1,5 @@
 -- Receipts of a book whose mark is of this root.
-use Rattle.std.proofs.Common.{◌≡◌, ◌∙◌, ℕ, ap, sym, subst, IfSome}
+use Rattle.std.proofs.Common.{◌≡◌, ◌∙◌, ℕ, None, ap, sym, subst, refl, IfSome}
 use Rattle.lease_terms.specs.Requests.{RequestId}
 use Rattle.lease_terms.specs.declared.refusals.Refusal.{Refusal}
 use Rattle.deed_core.specs.Tag.{Tag}
@@ -15,6 +15,7 @@ use Rattle.lease_book.specs.declared.answers.Look.{Look}
 use Rattle.lease_book.specs.declared.answers.Look.TheVariants as look
 use Rattle.lease_book.specs.declared.receipts.Terms.{Terms}
 use Rattle.lease_threads.specs.Replying.{mark_root, IsReceiptOf, HasReceiptOf}
+use Rattle.lease_threads.specs.Settling.{new_receipt, IsRefusalOf, IsGrantOf}
 
 module _ (book : BookState) (id : RequestId) (mark : book.mark.root ≡ mark_root) where
   pub repeated : (v : ReceiptState) → IsRepeated book (account_in id.client book) id v → IsReceiptOf id v
@@ -50,3 +51,29 @@ module _ (book : BookState) (id : RequestId) (mark : book.mark.root ≡ mark_roo
   answered now why again is (answer.Stale last) of = tt
   answered now why again is (answer.Gap last) of = tt
   answered now why again is answer.Again of = tt
+
+-- what a look answers isn't settled by it
+pub looked_old : {D : Type 0} (l : Look D) → IfSome (answer_of l) (λ a. new_receipt a ≡ None)
+looked_old look.New = tt
+looked_old (look.Kept v) = refl
+looked_old (look.Old current) = refl
+looked_old (look.Stale last) = refl
+looked_old (look.Gap last) = refl
+
+-- what an answer settles is as the book's refusal says
+pub answered_new : {D : Type 0} (book now : BookState) (id : RequestId) (why : ReceiptState → Type 0) (again : Type 0) (P : ReceiptState → Type 0) → ((v : ReceiptState) → why v → P v) → (a : Answer D) → IsAnswer book now id why again a → IfSome (new_receipt a) P
+answered_new book now id why again P is (answer.Kept v) of = tt
+answered_new book now id why again P is (answer.Refused v) of = is v of
+answered_new book now id why again P is (answer.Old current) of = tt
+answered_new book now id why again P is (answer.Stale last) of = tt
+answered_new book now id why again P is (answer.Gap last) of = tt
+answered_new book now id why again P is answer.Again of = tt
+
+pub refused_so : (book now : BookState) (id : RequestId) (why : Refusal) (v : ReceiptState) → IsRefused book now id why v → IsRefusalOf why v
+refused_so book now id why v is = ap (λ (r : ReceiptState). r.reply) is.receipt
+
+pub granted_so : (book now : BookState) (id : RequestId) (t : Tag) (terms : Terms) (v : ReceiptState) → IsGranted book now id t terms v → IsGrantOf t terms v
+granted_so book now id t terms v is = record {
+  reply = ap (λ (r : ReceiptState). r.reply) is.receipt;
+  on_terms = ap (λ (r : ReceiptState). r.terms) is.receipt;
+}

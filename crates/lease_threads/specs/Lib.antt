@@ -4,3 +4,4 @@ pub mod Openings
 pub mod Ends
 pub mod Replying
 pub mod Reaping
+pub mod Settling

@@ -3,11 +3,14 @@ use Rattle.std.specs.Prelude.{◌≡◌, ℕ, ◌*◌, List, Option, Some, None,
 use Rattle.lease_terms.specs.Requests.{RequestId}
 use Rattle.arena_tree.specs.declared.limits.TheConstants.{MOST_ARENAS, MOST_SPANS}
 use Rattle.arena_tree.specs.declared.trees.TreeArena.{TreeArena}
+use Rattle.arena_tree.specs.Chains.{quantum_in}
+use Rattle.arena_tree.specs.Trees.{nodes_of}
 use Rattle.lease_book.specs.Receipts.{ReceiptState, IsEarned}
 use Rattle.lease_book.specs.declared.answers.Answer.{Answer}
 use Rattle.lease_book.specs.declared.answers.Answer.TheVariants as answer
 use Rattle.lease_book.specs.declared.receipts.KeptReply.{KeptReply}
 use Rattle.lease_book.specs.declared.receipts.KeptReply.TheVariants as kept
+use Rattle.lease_book.specs.declared.receipts.Terms.{Terms}
 use Rattle.lease_proto.specs.declared.lines.Line.{Line}
 use Rattle.lease_proto.specs.declared.lines.Line.TheVariants as lines
 use Rattle.lease_proto.specs.declared.lines.HelloLine.{HelloLine}
@@ -42,6 +45,14 @@ TellsSettled arenas id kept.Released r = r ≡ reply.Released id
 TellsSettled arenas id (kept.Refused why) r =
     r ≡ reply.Refused (record { id = id; refusal = why })
 
+-- a grant was made by the quantum of its arena
+abbrev pub IsByQuantum : List TreeArena → KeptReply → Option Terms → Type 0
+IsByQuantum arenas (kept.Granted arena base len) (Some t) =
+    t.quantum ≡ quantum_in (nodes_of arenas) arena
+IsByQuantum arenas (kept.Granted arena base len) None = Unit {0}
+IsByQuantum arenas kept.Released terms = Unit {0}
+IsByQuantum arenas (kept.Refused why) terms = Unit {0}
+
 -- nothing was settled, and the reply is to this request
 abbrev pub IsUnsettledTo : RequestId → Reply → Type 0
 IsUnsettledTo id (reply.Old o) = o.client ≡ id.client
@@ -56,6 +67,7 @@ pub record IsSettledBy (arenas : List TreeArena) (id : RequestId) (r : Reply) (v
     : Type 0 where
   pub receipt : IsReceiptOf id v
   pub tells : TellsSettled arenas id v.reply r
+  pub quantum : IsByQuantum arenas v.reply v.terms
 
 abbrev pub IsReplyTo : List TreeArena → RequestId → Reply → Option ReceiptState → Type 0
 IsReplyTo arenas id r (Some v) = IsSettledBy arenas id r v

@@ -8,6 +8,7 @@ ghost use Rattle.arena_tree.specs.Chains.{quantum_in};
 ghost use Rattle.arena_tree.specs.Trees.{nodes_of};
 ghost use Rattle.locked_parts.specs.Gates.{MayStop};
 ghost use Rattle.lease_threads.specs.Hands.{LeavesHand};
+ghost use Rattle.lease_threads.specs.Settling.{IsUnservedSo};
 
 use crate::cpus::Cpu;
 use crate::systems::System;
@@ -49,6 +50,7 @@ impl<N: Name> System<N> {
         ensures number { cpu.new.number ≡ cpu.old.number }
         ensures hand { IfOk result (λ _. cpu.new.hand ≡ None) }
         ensures refused { IfErr result (λ why. LeavesHand why cpu.new.hand) }
+        ensures words { IfErr result IsUnservedSo }
         ensures stopped { result ≡ Err Unserved.Stopped → MayStop G.may_stop gate.now }
     {
         if request.is_constrained() {
@@ -75,6 +77,7 @@ impl<N: Name> System<N> {
         ensures number { cpu.new.number ≡ cpu.old.number }
         ensures hand { IfOk result (λ _. cpu.new.hand ≡ None) }
         ensures refused { IfErr result (λ why. LeavesHand why cpu.new.hand) }
+        ensures words { IfErr result IsUnservedSo }
         ensures stopped { result ≡ Err Unserved.Stopped → MayStop G.may_stop gate.now }
     {
         let mut running = Running {
@@ -114,6 +117,7 @@ impl<N: Name> System<N> {
         ensures number { cpu.new.number ≡ cpu.old.number }
         ensures hand { IfOk result (λ _. cpu.new.hand ≡ None) }
         ensures refused { IfErr result (λ why. LeavesHand why cpu.new.hand) }
+        ensures words { IfErr result IsUnservedSo }
         ensures stopped { result ≡ Err Unserved.Stopped → MayStop G.may_stop gate.now }
     {
         let chain = self.parts.tree().chain(arena);
@@ -200,6 +204,7 @@ impl<N: Name> System<N> {
 fn stop_or_again(steps: &StepCount) -> Unserved
     ensures said { result ≡ Unserved.Stopped → steps.now.noted ≡ true }
     ensures never_refused { (hand : Option Tag) → LeavesHand result hand }
+    ensures unserved { IsUnservedSo result }
 {
     if steps.noted {
         Unserved::Stopped

@@ -1,5 +1,5 @@
 //! The book of leases as its lock keeps it.
-ghost use Rattle.std.specs.Prelude.{◌≡◌, [], IfNone, IfSome, IfOk, IfErr, OnOk, OnErr};
+ghost use Rattle.std.specs.Prelude.{◌≡◌, [], None, IfNone, IfSome, IfOk, IfErr, OnOk, OnErr};
 ghost use Rattle.deed_core.specs.Request.{Fits};
 ghost use Rattle.lease_book.specs.Answers.{IsNew, IsAnswer, IsHelloFault};
 ghost use Rattle.lease_book.specs.BookState.{Enters, account_in, leased_segments};
@@ -7,11 +7,12 @@ ghost use Rattle.lease_book.specs.Calls.{IsGranted, IsRefused, IsReleased, IsSwe
 ghost use Rattle.lease_book.specs.Entry.{Hello};
 ghost use Rattle.lease_terms.specs.Requests.{RequestId};
 ghost use Rattle.lease_threads.specs.Replying.{IsReceiptOf, HasReceiptOf};
+ghost use Rattle.lease_threads.specs.Settling.{IsGrantOf, IsRefusalOf, new_receipt};
 
 use arena_tree::{MOST_ARENAS, MOST_SPANS};
 use deed_core::{Request, Segment};
 use deed_table::{Name, Root, SeatDeed};
-use lease_book::{Answer, Book, HelloFault, NotLeased, Receipt};
+use lease_book::{Answer, Book, HelloFault, KeptReply, NotLeased, Receipt};
 use lease_proto::HelloLine;
 use lease_terms::{ClientId, Quantity, Refusal, RequestId};
 use std::marker::Model;
@@ -77,6 +78,7 @@ impl<N: Name> MarkedBook<N> {
     /// The answer to a request whose number isn't new.
     pub(crate) fn look(&self, id: RequestId) -> Option<Answer<SeatDeed<N>>>
         ensures receipt { IfSome result (HasReceiptOf id) }
+        ensures old { IfSome result (λ a. new_receipt a ≡ None) }
         ensures new { IfNone result (IsNew (account_in id.client self.now) id) }
     {
         let look = self.book.look(id);
@@ -86,6 +88,7 @@ impl<N: Name> MarkedBook<N> {
     /// Settles a request by a refusal.
     pub(crate) fn refuse(&mut self, id: RequestId, why: Refusal) -> Answer<SeatDeed<N>>
         ensures receipt { HasReceiptOf id result }
+        ensures new { IfSome (new_receipt result) (IsRefusalOf why) }
         ensures event { IsAnswer self.old self.new id
             (IsRefused self.old self.new id why) ⊥ result }
     {
@@ -103,7 +106,11 @@ impl<N: Name> MarkedBook<N> {
         requires fits { Fits quantum request.now
             segment.holding.range.base segment.holding.range.len }
         ensures receipt { IfOk result (IsReceiptOf id) }
+        ensures grant { IfOk result (IsGrantOf segment
+            (record { quantum = quantum; request = request.now })) }
         ensures answer { IfErr result (λ e. HasReceiptOf id e.answer) }
+        ensures new { IfErr result (λ e. IfSome (new_receipt e.answer)
+            (IsRefusalOf Refusal.Leases)) }
         ensures event { IfOk result (IsGranted self.old self.new id segment
             (record { quantum = quantum; request = request.now })) }
         ensures handed_back { IfErr result (λ e. e.segment ≡ segment) }
@@ -120,7 +127,9 @@ impl<N: Name> MarkedBook<N> {
         base: Quantity,
     ) -> Result<(Receipt<SeatDeed<N>>, Segment<SeatDeed<N>>), Answer<SeatDeed<N>>>
         ensures receipt { IfOk result (λ r. IsReceiptOf id r.0) }
+        ensures released { IfOk result (λ r. r.0.reply ≡ KeptReply.Released) }
         ensures answer { IfErr result (HasReceiptOf id) }
+        ensures new { IfErr result (λ a. IfSome (new_receipt a) (IsRefusalOf Refusal.NotYours)) }
         ensures event { IfOk result (λ r. IsReleased self.old self.new id arena base r.0 r.1) }
     {
         self.book.release(id, arena, base)

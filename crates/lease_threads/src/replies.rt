@@ -1,16 +1,29 @@
 //! The replies to a client's lines.
-ghost use Rattle.std.specs.Prelude.{◌≡◌, None, Some, IfSome};
+ghost use Rattle.std.specs.Prelude.{◌≡◌, ◌≢◌, None, Some, IfSome, true, false};
 ghost use Rattle.lease_threads.specs.Replying.{TellsSettled, IsUnsettledTo, IsReplyTo};
+ghost use Rattle.lease_threads.specs.Replying.{IsByQuantum};
 ghost use Rattle.lease_threads.specs.Replying.{IsReceiptOf, HasReceiptOf, IsGreeting, IsAgain};
+ghost use Rattle.lease_threads.specs.Settling.{new_receipt};
 
 use arena_tree::Tree;
 use deed_table::{Name, SeatDeed};
-use lease_book::{Answer, HelloFault, KeptReply, Receipt};
+use lease_book::{Answer, HelloFault, KeptReply, Receipt, Terms};
 use lease_proto::{Again, Granted, HelloLine, Old, OutOfTurn, Refused, Reply};
 use lease_terms::{Quantity, RequestId};
+use locked_parts::quantum_of;
 
-/// What a line is answered: the reply, with the receipt where the book settled it.
-pub(crate) type Told<N> = (Reply, Option<Receipt<SeatDeed<N>>>);
+/// What a line is answered, with the book's receipt where it is settled.
+#[derive(Clone, Copy, PartialEq, Eq, Debug)]
+pub struct LineAnswer<V> {
+    pub reply: Reply,
+    pub receipt: Option<V>,
+    /// Whether the line was settled by this. A request that comes again gets what it was settled by
+    /// before, which is of the line that came first.
+    pub is_new: bool,
+}
+
+/// What a line is answered, with a receipt of a running system's book.
+pub type Told<N> = LineAnswer<Receipt<SeatDeed<N>>>;
 
 /// Nothing came of the request.
 pub(crate) fn again_to(id: RequestId) -> Reply
@@ -49,13 +62,14 @@ pub(crate) fn not_welcome(hello: &HelloLine, fault: HelloFault) -> Reply
     }
 }
 
-// The reply that was settled; None where no arena has the number.
-fn settled(tree: &Tree, id: RequestId, kept: KeptReply) -> Option<Reply>
-    ensures { IfSome result (TellsSettled tree.now id kept) }
+// The reply that was settled; None where no arena has the number and the quantum.
+fn settled(tree: &Tree, id: RequestId, kept: KeptReply, terms: Option<Terms>) -> Option<Reply>
+    ensures tells { IfSome result (TellsSettled tree.now id kept) }
+    ensures quantum { IfSome result (λ _. IsByQuantum tree.now kept terms) }
 {
     match kept {
         KeptReply::Granted { arena, base, len } => {
-            if arena as usize >= tree.len() {
+            if arena as usize >= tree.len() || terms_quantum(terms) != quantum_of(tree, arena) {
                 return None;
             }
             let arena = tree.arena(arena).name;
@@ -71,34 +85,76 @@ fn settled(tree: &Tree, id: RequestId, kept: KeptReply) -> Option<Reply>
     }
 }
 
-/// The reply of a receipt.
-pub(crate) fn told<N: Name>(tree: &Tree, id: RequestId, receipt: Receipt<SeatDeed<N>>) -> Told<N>
-    requires { IsReceiptOf id receipt }
-    ensures { IsReplyTo tree.now id result.0 result.1 }
+// The quantum of these terms; 0, which is no arena's, where there are none.
+fn terms_quantum(terms: Option<Terms>) -> u64
+    ensures { IfSome terms (λ t. result ≡ t.quantum) }
 {
-    match settled(tree, id, receipt.reply()) {
-        Some(reply) => (reply, Some(receipt)),
-        None => (again_to(id), None),
+    match terms {
+        Some(terms) => terms.quantum,
+        None => 0,
+    }
+}
+
+// With a reply without a receipt nothing was settled.
+fn unsettled<N: Name>(reply: Reply) -> Told<N>
+    ensures reply { result.reply ≡ reply }
+    ensures receipt { result.receipt ≡ None }
+    ensures old { result.is_new ≡ false }
+{
+    LineAnswer {
+        reply,
+        receipt: None,
+        is_new: false,
+    }
+}
+
+/// The request may be sent once more.
+pub(crate) fn again<N: Name>(id: RequestId) -> Told<N>
+    ensures unsettled { IsUnsettledTo id result.reply }
+    ensures receipt { result.receipt ≡ None }
+    ensures again { IsAgain result.reply }
+    ensures old { result.is_new ≡ false }
+{
+    unsettled(again_to(id))
+}
+
+/// The reply of a receipt, by which the request was settled now, or before.
+pub(crate) fn told<N: Name>(
+    tree: &Tree,
+    id: RequestId,
+    receipt: Receipt<SeatDeed<N>>,
+    is_new: bool,
+) -> Told<N>
+    requires { IsReceiptOf id receipt }
+    ensures told { IsReplyTo tree.now id result.reply result.receipt }
+    ensures new { result.is_new ≡ true → (is_new ≡ true) × (result.receipt ≡ Some receipt) }
+{
+    match settled(tree, id, receipt.reply(), receipt.terms()) {
+        Some(reply) => LineAnswer {
+            reply,
+            receipt: Some(receipt),
+            is_new,
+        },
+        None => again(id),
     }
 }
 
 /// The reply that the book's answer is.
 pub(crate) fn answered<N: Name>(tree: &Tree, id: RequestId, answer: Answer<SeatDeed<N>>) -> Told<N>
     requires { HasReceiptOf id answer }
-    ensures { IsReplyTo tree.now id result.0 result.1 }
+    ensures told { IsReplyTo tree.now id result.reply result.receipt }
+    ensures new { result.is_new ≡ true
+        → (result.receipt ≢ None) × (new_receipt answer ≡ result.receipt) }
 {
     match answer {
-        Answer::Kept(receipt) => told(tree, id, receipt),
-        Answer::Refused(receipt) => told(tree, id, receipt),
-        Answer::Old(current) => (
-            Reply::Old(Old {
-                client: id.client,
-                current,
-            }),
-            None,
-        ),
-        Answer::Stale(last) => (Reply::Stale(OutOfTurn { id, last }), None),
-        Answer::Gap(last) => (Reply::Gap(OutOfTurn { id, last }), None),
-        Answer::Again => (again_to(id), None),
+        Answer::Kept(receipt) => told(tree, id, receipt, false),
+        Answer::Refused(receipt) => told(tree, id, receipt, true),
+        Answer::Old(current) => unsettled(Reply::Old(Old {
+            client: id.client,
+            current,
+        })),
+        Answer::Stale(last) => unsettled(Reply::Stale(OutOfTurn { id, last })),
+        Answer::Gap(last) => unsettled(Reply::Gap(OutOfTurn { id, last })),
+        Answer::Again => again(id),
     }
 }

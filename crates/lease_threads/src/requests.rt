@@ -1,5 +1,5 @@
 //! Answering one line.
-ghost use Rattle.std.specs.Prelude.{◌≡◌, ◌≢◌, ◌<◌, None, length, true};
+ghost use Rattle.std.specs.Prelude.{◌≡◌, ◌≢◌, ◌<◌, ◌⊎◌, None, Some, length, true};
 ghost use Rattle.std.specs.Prelude.{IfOk, IfErr, IfSome, OnErr};
 ghost use Rattle.deed_core.specs.Request.{Fits};
 ghost use Rattle.arena_tree.specs.Chains.{quantum_in};
@@ -7,21 +7,27 @@ ghost use Rattle.arena_tree.specs.Trees.{nodes_of};
 ghost use Rattle.locked_parts.specs.Gates.{MayStop};
 ghost use Rattle.lease_threads.specs.Replying.{IsAnswerTo, IsReplyTo, IsGreeting, IsAgain};
 ghost use Rattle.lease_threads.specs.Replying.{IsReceiptOf, HasReceiptOf};
+ghost use Rattle.lease_threads.specs.Settling as settling;
+ghost use Rattle.lease_threads.specs.Settling.{IsGrantOf, IsRefusalOf, IsSettledAsAsked};
+ghost use Rattle.lease_threads.specs.Settling.{SettlesLease, SettlesRelease, new_receipt};
+ghost use Rattle.lease_book.specs.Receipts.{ReceiptState};
 
 use crate::cpus::Cpu;
 use crate::lists::Unserved;
-use crate::replies::{Told, again_to, answered, hello_again, not_welcome, told};
+use crate::replies::{LineAnswer, Told, again, answered, hello_again, not_welcome, told};
 use crate::systems::System;
 use deed_core::{Request, Segment};
 use deed_table::{Name, SeatDeed};
-use lease_book::{Answer, HelloFault, NotLeased, Receipt};
+use lease_book::{Answer, HelloFault, KeptReply, NotLeased, Receipt};
 use lease_proto::{HelloLine, LeaseLine, Line, Op, ReleaseLine, Reply, Welcome};
 use lease_terms::{ClientId, Quantity, Refusal, RequestId};
 use locked_parts::{EventName, Gate, RequestStopped, StepCount, quantum_of};
 use std::sync::Wait;
 
 // What a lease asks of its arena.
-fn demand_of(lease: &LeaseLine) -> Request {
+fn demand_of(lease: &LeaseLine) -> Request
+    ensures { result ≡ settling.demand_of lease.now }
+{
     Request {
         size: lease.size.get(),
         align: lease.options.align.get(),
@@ -49,15 +55,40 @@ impl<N: Name> System<N> {
         ensures held { IfOk result (λ r. IfSome cpu.new.hand (λ _. IsAgain r.0)) }
         ensures stopped { OnErr result (MayStop G.may_stop gate.now) }
     {
+        let LineAnswer { reply, receipt, .. } = self.answer(rt, cpu, gate, line)?;
+        Ok((reply, receipt))
+    }
+
+    /// The same, and tells whether the line was settled by that. Then it is as the line asks: a
+    /// grant is of the arena that it names, by that one's quantum, and for what it asks.
+    pub fn answer<R: Wait, G: Gate>(
+        &self,
+        rt: &R,
+        cpu: &mut Cpu<N>,
+        gate: &G,
+        line: &Line,
+    ) -> Result<Told<N>, RequestStopped>
+        ensures answers { IfOk result (λ r.
+            IsAnswerTo self.now.arenas line.now r.reply r.receipt) }
+        ensures new { IfOk result (λ r. r.is_new ≡ true
+            → IsSettledAsAsked self.now.arenas line.now r.receipt) }
+        ensures number { cpu.new.number ≡ cpu.old.number }
+        ensures held { IfOk result (λ r. IfSome cpu.new.hand (λ _. IsAgain r.reply)) }
+        ensures stopped { OnErr result (MayStop G.may_stop gate.now) }
+    {
         let mut steps = StepCount::new(cpu.number());
         match line {
             Line::Hello(hello) => {
                 let reply = self.greet(rt, cpu, gate, &mut steps, hello)?;
-                Ok((reply, None))
+                Ok(LineAnswer {
+                    reply,
+                    receipt: None,
+                    is_new: false,
+                })
             }
             Line::Request(id, op) => {
                 if !self.place_hand(rt, cpu, gate, &mut steps)? {
-                    return Ok((again_to(*id), None));
+                    return Ok(again(*id));
                 }
                 match op {
                     Op::Lease(lease) => self.lease(rt, cpu, gate, &mut steps, *id, lease),
@@ -142,9 +173,11 @@ impl<N: Name> System<N> {
         lease: &LeaseLine,
     ) -> Result<Told<N>, RequestStopped>
         requires { cpu.old.hand ≡ None }
-        ensures told { IfOk result (λ r. IsReplyTo self.now.arenas id r.0 r.1) }
+        ensures told { IfOk result (λ r. IsReplyTo self.now.arenas id r.reply r.receipt) }
+        ensures new { IfOk result (λ r. r.is_new ≡ true → (v : ReceiptState)
+            × (r.receipt ≡ Some v) × SettlesLease self.now.arenas lease.now v.reply v.terms) }
         ensures number { cpu.new.number ≡ cpu.old.number }
-        ensures held { IfOk result (λ r. IfSome cpu.new.hand (λ _. IsAgain r.0)) }
+        ensures held { IfOk result (λ r. IfSome cpu.new.hand (λ _. IsAgain r.reply)) }
         ensures stopped { OnErr result (MayStop G.may_stop gate.now) }
     {
         steps.ask(gate, EventName::Look)?;
@@ -158,13 +191,14 @@ impl<N: Name> System<N> {
         match self.serve(rt, cpu, gate, steps, arena, &request) {
             Ok(segment) => self.grant(rt, cpu, gate, steps, id, arena, &request, segment),
             Err(Unserved::Refused(why)) => self.refuse(rt, gate, steps, id, why),
-            Err(Unserved::Again) => Ok((again_to(id), None)),
+            Err(Unserved::Again) => Ok(again(id)),
             Err(Unserved::Stopped) => Err(RequestStopped),
         }
     }
 
     fn look<R: Wait>(&self, rt: &R, id: RequestId) -> Option<Answer<SeatDeed<N>>>
-        ensures { IfSome result (HasReceiptOf id) }
+        ensures receipt { IfSome result (HasReceiptOf id) }
+        ensures old { IfSome result (λ a. new_receipt a ≡ None) }
     {
         self.book.lock(rt).look(id)
     }
@@ -178,7 +212,9 @@ impl<N: Name> System<N> {
         id: RequestId,
         why: Refusal,
     ) -> Result<Told<N>, RequestStopped>
-        ensures told { IfOk result (λ r. IsReplyTo self.now.arenas id r.0 r.1) }
+        ensures told { IfOk result (λ r. IsReplyTo self.now.arenas id r.reply r.receipt) }
+        ensures new { IfOk result (λ r. r.is_new ≡ true → (v : ReceiptState)
+            × (r.receipt ≡ Some v) × IsRefusalOf why v) }
         ensures stopped { OnErr result (MayStop G.may_stop gate.now) }
     {
         steps.ask(gate, EventName::Settle)?;
@@ -187,7 +223,8 @@ impl<N: Name> System<N> {
     }
 
     fn settle_refusal<R: Wait>(&self, rt: &R, id: RequestId, why: Refusal) -> Answer<SeatDeed<N>>
-        ensures { HasReceiptOf id result }
+        ensures receipt { HasReceiptOf id result }
+        ensures new { IfSome (new_receipt result) (IsRefusalOf why) }
     {
         self.book.lock(rt).refuse(id, why)
     }
@@ -208,10 +245,17 @@ impl<N: Name> System<N> {
         requires hand { cpu.old.hand ≡ None }
         requires fits { Fits (quantum_in (nodes_of self.now.arenas) arena) request.now
             segment.holding.range.base segment.holding.range.len }
-        ensures told { IfOk result (λ r. IsReplyTo self.now.arenas id r.0 r.1) }
+        requires of_arena { segment.arena ≡ arena }
+        ensures told { IfOk result (λ r. IsReplyTo self.now.arenas id r.reply r.receipt) }
+        ensures new { IfOk result (λ r. r.is_new ≡ true → (v : ReceiptState)
+            × (r.receipt ≡ Some v) × (IsRefusalOf Refusal.Leases v ⊎ IsGrantOf segment
+            (record {
+              quantum = quantum_in (nodes_of self.now.arenas) arena;
+              request = request.now;
+            }) v)) }
         ensures kept { OnErr result (cpu.new.hand ≢ None) }
         ensures number { cpu.new.number ≡ cpu.old.number }
-        ensures held { IfOk result (λ r. IfSome cpu.new.hand (λ _. IsAgain r.0)) }
+        ensures held { IfOk result (λ r. IfSome cpu.new.hand (λ _. IsAgain r.reply)) }
         ensures stopped { OnErr result (MayStop G.may_stop gate.now) }
     {
         if steps.stops(gate, EventName::Settle) {
@@ -220,11 +264,11 @@ impl<N: Name> System<N> {
         }
         let quantum = quantum_of(self.tree(), arena);
         match self.settle(rt, id, quantum, request, segment) {
-            Ok(receipt) => Ok(told(self.tree(), id, receipt)),
+            Ok(receipt) => Ok(told(self.tree(), id, receipt, true)),
             Err(NotLeased { segment, answer }) => {
                 cpu.hold(segment);
                 if !self.place_hand(rt, cpu, gate, steps)? {
-                    return Ok((again_to(id), None));
+                    return Ok(again(id));
                 }
                 Ok(answered(self.tree(), id, answer))
             }
@@ -242,7 +286,11 @@ impl<N: Name> System<N> {
         requires { Fits quantum request.now
             segment.holding.range.base segment.holding.range.len }
         ensures receipt { IfOk result (IsReceiptOf id) }
+        ensures grant { IfOk result (IsGrantOf segment
+            (record { quantum = quantum; request = request.now })) }
         ensures answer { IfErr result (λ e. HasReceiptOf id e.answer) }
+        ensures new { IfErr result (λ e. IfSome (new_receipt e.answer)
+            (IsRefusalOf Refusal.Leases)) }
     {
         self.book.lock(rt).settle(id, quantum, request, segment)
     }
@@ -257,9 +305,11 @@ impl<N: Name> System<N> {
         release: &ReleaseLine,
     ) -> Result<Told<N>, RequestStopped>
         requires { cpu.old.hand ≡ None }
-        ensures told { IfOk result (λ r. IsReplyTo self.now.arenas id r.0 r.1) }
+        ensures told { IfOk result (λ r. IsReplyTo self.now.arenas id r.reply r.receipt) }
+        ensures new { IfOk result (λ r. r.is_new ≡ true → (v : ReceiptState)
+            × (r.receipt ≡ Some v) × SettlesRelease self.now.arenas release.now v.reply) }
         ensures number { cpu.new.number ≡ cpu.old.number }
-        ensures held { IfOk result (λ r. IfSome cpu.new.hand (λ _. IsAgain r.0)) }
+        ensures held { IfOk result (λ r. IfSome cpu.new.hand (λ _. IsAgain r.reply)) }
         ensures stopped { OnErr result (MayStop G.may_stop gate.now) }
     {
         let Some(arena) = self.tree().find(&release.arena) else {
@@ -270,9 +320,9 @@ impl<N: Name> System<N> {
             Ok((receipt, segment)) => {
                 cpu.hold(segment);
                 if !self.place_hand(rt, cpu, gate, steps)? {
-                    return Ok((again_to(id), None));
+                    return Ok(again(id));
                 }
-                Ok(told(self.tree(), id, receipt))
+                Ok(told(self.tree(), id, receipt, true))
             }
             Err(answer) => Ok(answered(self.tree(), id, answer)),
         }
@@ -286,7 +336,9 @@ impl<N: Name> System<N> {
         base: Quantity,
     ) -> Result<(Receipt<SeatDeed<N>>, Segment<SeatDeed<N>>), Answer<SeatDeed<N>>>
         ensures receipt { IfOk result (λ r. IsReceiptOf id r.0) }
+        ensures released { IfOk result (λ r. r.0.reply ≡ KeptReply.Released) }
         ensures answer { IfErr result (HasReceiptOf id) }
+        ensures new { IfErr result (λ a. IfSome (new_receipt a) (IsRefusalOf Refusal.NotYours)) }
     {
         self.book.lock(rt).release(id, arena, base)
     }

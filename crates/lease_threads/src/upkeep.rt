@@ -12,7 +12,8 @@ use quantum_cache::{EmptyingFault, ReapFault, reap_arena};
 use std::sync::Wait;
 
 impl<N: Name> System<N> {
-    /// Begins an interval in each depot, one after another, in order of setup.
+    /// Begins an interval in each depot, one after another, in order of setup. It has no clause:
+    /// what a depot is lies behind its lock, and nothing is answered.
     pub fn tick<R: Wait>(&self, rt: &R) {
         self.parts.tick(rt);
     }

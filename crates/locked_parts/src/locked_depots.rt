@@ -3,15 +3,30 @@ ghost use Rattle.std.specs.Prelude.{◌≡◌, ◌<◌, true};
 ghost use Rattle.magazine_layer.specs.Magazines.{IsSize};
 
 use crate::depot_walks::Depots;
+use crate::kind_depots::KindDepot;
+use crate::kinds::CacheKind;
 use crate::parts::LockedParts;
-use deed_table::Name;
-use std::sync::Wait;
+use deed_table::{Name, SeatDeed};
+use std::sync::{Mutex, Wait};
 
 /// The parts and the runtime, both lent. Each call takes the lock of one depot, and no other.
 #[derive(Drop)]
 pub(crate) struct LockedDepots<'a, N: Name, R: Wait> {
     pub(crate) parts: &'a LockedParts<N>,
     pub(crate) rt: &'a R,
+}
+
+impl<'a, N: Name, R: Wait> LockedDepots<'a, N, R> {
+    // Where the depot of this quantum cache is kept, if the arena was set up, and whose it is to be.
+    fn depot(
+        &self,
+        arena: u32,
+        cache: u8,
+    ) -> Option<(CacheKind, &'a Mutex<KindDepot<SeatDeed<N>>>)> {
+        let kind = self.parts.kind(arena, cache)?;
+        let locked = self.parts.cache(arena, cache)?;
+        Some((kind, &locked.depot))
+    }
 }
 
 impl<N: Name, R: Wait> Depots for LockedDepots<'_, N, R> {
@@ -24,22 +39,15 @@ impl<N: Name, R: Wait> Depots for LockedDepots<'_, N, R> {
         × (rose ≡ true → 3 < size) };
 
     fn tick(&mut self, arena: u32, cache: u8) {
-        let Some(kind) = self.parts.kind(arena, cache) else {
-            return;
-        };
-        let Some(locked) = self.parts.cache(arena, cache) else {
-            return;
-        };
-        locked.depot.lock(self.rt).tick_of(&kind);
+        if let Some((kind, depot)) = self.depot(arena, cache) {
+            depot.lock(self.rt).tick_of(&kind);
+        }
     }
 
     fn resize(&mut self, arena: u32, cache: u8, size: usize) -> bool {
-        let Some(kind) = self.parts.kind(arena, cache) else {
-            return false;
-        };
-        let Some(locked) = self.parts.cache(arena, cache) else {
-            return false;
-        };
-        locked.depot.lock(self.rt).resize_of(&kind, size)
+        match self.depot(arena, cache) {
+            Some((kind, depot)) => depot.lock(self.rt).resize_of(&kind, size),
+            None => false,
+        }
     }
 }

@@ -108,7 +108,8 @@ impl<N: Name> LockedParts<N> {
         }
     }
 
-    /// Begins an interval in each depot, one after another.
+    /// Begins an interval in each depot, one after another. It has no clause: what a depot is lies
+    /// behind its lock, and nothing is answered.
     pub fn tick<R: Wait>(&self, rt: &R) {
         let mut depots = LockedDepots { parts: self, rt };
         tick_each(&mut depots, &self.tree);

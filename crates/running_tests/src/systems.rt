@@ -1,9 +1,11 @@
 //! What the tests share: settings, lines, and a system from its making to its end.
 ghost use Rattle.std.specs.Prelude.{◌≡◌};
 
+mod between;
 mod conversations;
 mod gates;
 mod orders;
+mod repeats;
 mod rows;
 mod soak;
 

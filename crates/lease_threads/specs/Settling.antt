@@ -1,0 +1,95 @@
+-- How a line that isn't a repeat is settled.
+use Rattle.std.specs.Prelude.{◌≡◌, ◌≢◌, ◌⊎◌, List, Option, Some, None}
+use Rattle.deed_core.specs.Tag.{Tag}
+use Rattle.deed_core.specs.declared.requests.Request.{Request}
+use Rattle.lease_terms.specs.declared.refusals.Refusal.{Refusal}
+use Rattle.lease_terms.specs.declared.refusals.Refusal.TheVariants as refusal
+use Rattle.arena_tree.specs.Chains.{quantum_in}
+use Rattle.arena_tree.specs.Trees.{index_in, nodes_of}
+use Rattle.arena_tree.specs.declared.trees.TreeArena.{TreeArena}
+use Rattle.lease_book.specs.Receipts.{ReceiptState}
+use Rattle.lease_book.specs.declared.answers.Answer.{Answer}
+use Rattle.lease_book.specs.declared.answers.Answer.TheVariants as answer
+use Rattle.lease_book.specs.declared.receipts.KeptReply.{KeptReply}
+use Rattle.lease_book.specs.declared.receipts.KeptReply.TheVariants as kept
+use Rattle.lease_book.specs.declared.receipts.Terms.{Terms}
+use Rattle.lease_proto.specs.declared.lines.Line.{Line}
+use Rattle.lease_proto.specs.declared.lines.Line.TheVariants as lines
+use Rattle.lease_proto.specs.declared.lines.LeaseLine.{LeaseLine}
+use Rattle.lease_proto.specs.declared.lines.Op.{Op}
+use Rattle.lease_proto.specs.declared.lines.Op.TheVariants as op
+use Rattle.lease_proto.specs.declared.lines.ReleaseLine.{ReleaseLine}
+use Rattle.lease_threads.specs.declared.lists.Unserved.{Unserved}
+use Rattle.lease_threads.specs.declared.lists.Unserved.TheVariants.{Refused, Again, Stopped}
+
+-- what a lease asks of its arena
+abbrev pub demand_of : LeaseLine → Request
+demand_of l = record {
+  size = l.size;
+  align = l.options.align;
+  phase = l.options.phase;
+  nocross = l.options.nocross;
+  min = l.options.min;
+  max = l.options.max;
+}
+
+-- the receipt of a request that was granted this segment on these terms
+pub record IsGrantOf (t : Tag) (terms : Terms) (v : ReceiptState) : Type 0 where
+  pub reply : v.reply ≡ kept.Granted t.arena t.holding.range.base t.holding.range.len
+  pub on_terms : v.terms ≡ Some terms
+
+-- the receipt that the answer brings, where the book settled the request by that
+abbrev pub new_receipt : {D : Type 0} → Answer D → Option ReceiptState
+new_receipt (answer.Refused v) = Some v
+new_receipt (answer.Kept v) = None
+new_receipt (answer.Old current) = None
+new_receipt (answer.Stale last) = None
+new_receipt (answer.Gap last) = None
+new_receipt answer.Again = None
+
+-- the receipt says that the request is refused so
+abbrev pub IsRefusalOf : Refusal → ReceiptState → Type 0
+IsRefusalOf why v = v.reply ≡ kept.Refused why
+
+-- a lease is refused so: for the name of its arena just where no arena has that
+abbrev pub RefusesLease : List TreeArena → LeaseLine → Refusal → Type 0
+RefusesLease arenas l refusal.NoArena = index_in l.arena arenas ≡ None
+RefusesLease arenas l refusal.NotYours = ⊥
+RefusesLease arenas l _ = index_in l.arena arenas ≢ None
+
+-- settled by units of the arena that it names, for what it asks of that arena, or refused
+abbrev pub SettlesLease : List TreeArena → LeaseLine → KeptReply → Option Terms → Type 0
+SettlesLease arenas l (kept.Granted arena base len) terms =
+    (index_in l.arena arenas ≡ Some arena)
+    × (terms
+    ≡ Some (record { quantum = quantum_in (nodes_of arenas) arena; request = demand_of l }))
+SettlesLease arenas l kept.Released terms = ⊥
+SettlesLease arenas l (kept.Refused why) terms = RefusesLease arenas l why
+
+-- a release is refused so
+abbrev pub RefusesRelease : List TreeArena → ReleaseLine → Refusal → Type 0
+RefusesRelease arenas r refusal.NoArena = index_in r.arena arenas ≡ None
+RefusesRelease arenas r refusal.NotYours = index_in r.arena arenas ≢ None
+RefusesRelease arenas r _ = ⊥
+
+-- settled by a release, or refused
+abbrev pub SettlesRelease : List TreeArena → ReleaseLine → KeptReply → Type 0
+SettlesRelease arenas r (kept.Granted arena base len) = ⊥
+SettlesRelease arenas r kept.Released = index_in r.arena arenas ≢ None
+SettlesRelease arenas r (kept.Refused why) = RefusesRelease arenas r why
+
+abbrev pub Settles : List TreeArena → Op → ReceiptState → Type 0
+Settles arenas (op.Lease l) v = SettlesLease arenas l v.reply v.terms
+Settles arenas (op.Release r) v = SettlesRelease arenas r v.reply
+
+-- the line was settled by this receipt, as its words ask
+abbrev pub IsSettledAsAsked : List TreeArena → Line → Option ReceiptState → Type 0
+IsSettledAsAsked arenas (lines.Hello h) v = ⊥
+IsSettledAsAsked arenas (lines.Request id o) (Some v) = Settles arenas o v
+IsSettledAsAsked arenas (lines.Request id o) None = ⊥
+
+-- a lease that got no segment is refused for want of one that fits, or as a bad request
+abbrev pub IsUnservedSo : Unserved → Type 0
+IsUnservedSo (Refused why) = (why ≡ refusal.NoFit) ⊎ (why ≡ refusal.BadRequest)
+IsUnservedSo Again = Unit {0}
+IsUnservedSo Stopped = Unit {0}
