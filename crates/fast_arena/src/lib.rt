@@ -1,6 +1,9 @@
-//! The faster body of an arena. It is being built from below: so far the index of the free ranges,
-//! what each policy chooses in it, carving, and what comes back. Spans, tags and the arena aren't
-//! there.
+//! The faster body of an arena, under the contract of `tag_arena`'s: `Arena` (arenas) is where to
+//! begin. Nothing stands on it yet.
+//!
+//!     span       [0 ........................ 64)
+//!     allocated      [8 .. 16)      [24 . 32)      found by base
+//!     free       [0, 8)     [16, 24)      [32, 64) in the index
 //!
 //! `FreeIndex` holds the deeds of the free ranges, which a contract sees as one list from the
 //! oldest to the newest. In it
@@ -15,8 +18,9 @@
 //! range, and `FreeIndex::give_back` takes a piece back and merges it with its neighbors, in the
 //! words of `tag_arena`'s own clauses.
 //!
-//! So a call looks at a few rows of each index, whatever the number of ranges. Once there is room
-//! nothing takes memory.
+//! So a call looks at a few rows of each index, whatever the number of free ranges;
+//! `Arena::probes` tells how many ranges the last grant looked at. Adding a span, `free` and
+//! `remove_owned` look at each span too. Once there is room nothing takes memory.
 #![tactic(auto)]
 
 mod arenas;
@@ -36,6 +40,3 @@ mod tags;
 mod whole_spans;
 
 pub use arenas::Arena;
-pub use free_index::FreeIndex;
-pub use held_ranges::{HeldRange, held_range_of};
-pub use searches::Fit;
