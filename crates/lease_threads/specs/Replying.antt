@@ -1,5 +1,5 @@
 -- What a line may be answered, as far as can be told where nothing is known of the book.
-use Rattle.std.specs.Prelude.{◌≡◌, ℕ, ◌*◌, List, Option, Some, None, slice_get}
+use Rattle.std.specs.Prelude.{◌≡◌, ◌≢◌, ℕ, ◌+◌, ◌*◌, ◌<◌, List, Option, Some, None, slice_get}
 use Rattle.lease_terms.specs.Requests.{RequestId}
 use Rattle.arena_tree.specs.declared.limits.TheConstants.{MOST_ARENAS, MOST_SPANS}
 use Rattle.arena_tree.specs.declared.trees.TreeArena.{TreeArena}
@@ -8,6 +8,8 @@ use Rattle.arena_tree.specs.Trees.{nodes_of}
 use Rattle.lease_book.specs.Receipts.{ReceiptState, IsEarned}
 use Rattle.lease_book.specs.declared.answers.Answer.{Answer}
 use Rattle.lease_book.specs.declared.answers.Answer.TheVariants as answer
+use Rattle.lease_book.specs.declared.answers.HelloFault.{HelloFault}
+use Rattle.lease_book.specs.declared.answers.HelloFault.TheVariants as fault
 use Rattle.lease_book.specs.declared.receipts.KeptReply.{KeptReply}
 use Rattle.lease_book.specs.declared.receipts.KeptReply.TheVariants as kept
 use Rattle.lease_book.specs.declared.receipts.Terms.{Terms}
@@ -27,14 +29,20 @@ pub record IsReceiptOf (id : RequestId) (v : ReceiptState) : Type 0 where
   pub request : v.id ≡ id
   pub earned : IsEarned v.reply v.terms
 
--- so is each receipt in the book's answer
-abbrev pub HasReceiptOf : {D : Type 0} → RequestId → Answer D → Type 0
-HasReceiptOf id (answer.Kept v) = IsReceiptOf id v
-HasReceiptOf id (answer.Refused v) = IsReceiptOf id v
-HasReceiptOf id (answer.Old current) = Unit {0}
-HasReceiptOf id (answer.Stale last) = Unit {0}
-HasReceiptOf id (answer.Gap last) = Unit {0}
-HasReceiptOf id answer.Again = Unit {0}
+-- the book's answer to the request: a receipt of it, or that it is of another incarnation than the
+-- current one, or that its number doesn't come after the last one
+abbrev pub IsBookAnswerTo : {D : Type 0} → RequestId → Answer D → Type 0
+IsBookAnswerTo id (answer.Kept v) = IsReceiptOf id v
+IsBookAnswerTo id (answer.Refused v) = IsReceiptOf id v
+IsBookAnswerTo id (answer.Old current) = id.incarnation ≢ current
+IsBookAnswerTo id (answer.Stale last) = id.number < last
+IsBookAnswerTo id (answer.Gap last) = last + 1 < id.number
+IsBookAnswerTo id answer.Again = Unit {0}
+
+-- why a hello of this incarnation isn't taken
+abbrev pub IsLateHello : ℕ → HelloFault → Type 0
+IsLateHello incarnation (fault.Old current) = incarnation < current
+IsLateHello incarnation fault.NoMemory = Unit {0}
 
 -- the reply to the request says what was settled; an arena is told by its name
 abbrev pub TellsSettled : List TreeArena → RequestId → KeptReply → Reply → Type 0
@@ -55,9 +63,9 @@ IsByQuantum arenas (kept.Refused why) terms = Unit {0}
 
 -- nothing was settled, and the reply is to this request
 abbrev pub IsUnsettledTo : RequestId → Reply → Type 0
-IsUnsettledTo id (reply.Old o) = o.client ≡ id.client
-IsUnsettledTo id (reply.Stale o) = o.id ≡ id
-IsUnsettledTo id (reply.Gap o) = o.id ≡ id
+IsUnsettledTo id (reply.Old o) = (o.client ≡ id.client) × (id.incarnation ≢ o.current)
+IsUnsettledTo id (reply.Stale o) = (o.id ≡ id) × (id.number < o.last)
+IsUnsettledTo id (reply.Gap o) = (o.id ≡ id) × (o.last + 1 < id.number)
 IsUnsettledTo id (reply.Again a) =
     (a.client ≡ id.client) × (a.incarnation ≡ id.incarnation) × (a.number ≡ id.number)
 IsUnsettledTo id _ = ⊥
@@ -76,7 +84,7 @@ IsReplyTo arenas id r None = IsUnsettledTo id r
 -- the reply to a hello; of an `again` the number is 0
 abbrev pub IsGreeting : HelloLine → Reply → Type 0
 IsGreeting h (reply.Welcome w) = (w.client ≡ h.client) × (w.incarnation ≡ h.incarnation)
-IsGreeting h (reply.Old o) = o.client ≡ h.client
+IsGreeting h (reply.Old o) = (o.client ≡ h.client) × (h.incarnation < o.current)
 IsGreeting h (reply.Again a) =
     (a.client ≡ h.client) × (a.incarnation ≡ h.incarnation) × (a.number ≡ 0)
 IsGreeting h _ = ⊥

@@ -6,7 +6,7 @@ ghost use Rattle.lease_book.specs.BookState.{Enters, account_in, leased_segments
 ghost use Rattle.lease_book.specs.Calls.{IsGranted, IsRefused, IsReleased, IsSwept, IsEnded};
 ghost use Rattle.lease_book.specs.Entry.{Hello};
 ghost use Rattle.lease_terms.specs.Requests.{RequestId};
-ghost use Rattle.lease_threads.specs.Replying.{IsReceiptOf, HasReceiptOf};
+ghost use Rattle.lease_threads.specs.Replying.{IsReceiptOf, IsBookAnswerTo, IsLateHello};
 ghost use Rattle.lease_threads.specs.Settling.{IsGrantOf, IsRefusalOf, new_receipt};
 
 use arena_tree::{MOST_ARENAS, MOST_SPANS};
@@ -46,6 +46,7 @@ impl<N: Name> MarkedBook<N> {
         ensures refused { IfErr result
             (IsHelloFault (account_in hello.now.client self.old).incarnation
             hello.now.incarnation) }
+        ensures late { IfErr result (IsLateHello hello.now.incarnation) }
         ensures unchanged { OnErr result (self.new ≡ self.old) }
     {
         self.book.hello(hello.client, hello.incarnation)
@@ -77,7 +78,7 @@ impl<N: Name> MarkedBook<N> {
 
     /// The answer to a request whose number isn't new.
     pub(crate) fn look(&self, id: RequestId) -> Option<Answer<SeatDeed<N>>>
-        ensures receipt { IfSome result (HasReceiptOf id) }
+        ensures receipt { IfSome result (IsBookAnswerTo id) }
         ensures old { IfSome result (λ a. new_receipt a ≡ None) }
         ensures new { IfNone result (IsNew (account_in id.client self.now) id) }
     {
@@ -87,7 +88,7 @@ impl<N: Name> MarkedBook<N> {
 
     /// Settles a request by a refusal.
     pub(crate) fn refuse(&mut self, id: RequestId, why: Refusal) -> Answer<SeatDeed<N>>
-        ensures receipt { HasReceiptOf id result }
+        ensures receipt { IsBookAnswerTo id result }
         ensures new { IfSome (new_receipt result) (IsRefusalOf why) }
         ensures event { IsAnswer self.old self.new id
             (IsRefused self.old self.new id why) ⊥ result }
@@ -108,7 +109,7 @@ impl<N: Name> MarkedBook<N> {
         ensures receipt { IfOk result (IsReceiptOf id) }
         ensures grant { IfOk result (IsGrantOf segment
             (record { quantum = quantum; request = request.now })) }
-        ensures answer { IfErr result (λ e. HasReceiptOf id e.answer) }
+        ensures answer { IfErr result (λ e. IsBookAnswerTo id e.answer) }
         ensures new { IfErr result (λ e. IfSome (new_receipt e.answer)
             (IsRefusalOf Refusal.Leases)) }
         ensures event { IfOk result (IsGranted self.old self.new id segment
@@ -128,7 +129,7 @@ impl<N: Name> MarkedBook<N> {
     ) -> Result<(Receipt<SeatDeed<N>>, Segment<SeatDeed<N>>), Answer<SeatDeed<N>>>
         ensures receipt { IfOk result (λ r. IsReceiptOf id r.0) }
         ensures released { IfOk result (λ r. r.0.reply ≡ KeptReply.Released) }
-        ensures answer { IfErr result (HasReceiptOf id) }
+        ensures answer { IfErr result (IsBookAnswerTo id) }
         ensures new { IfErr result (λ a. IfSome (new_receipt a) (IsRefusalOf Refusal.NotYours)) }
         ensures event { IfOk result (λ r. IsReleased self.old self.new id arena base r.0 r.1) }
     {

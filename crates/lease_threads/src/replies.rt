@@ -1,8 +1,8 @@
 //! The replies to a client's lines.
 ghost use Rattle.std.specs.Prelude.{◌≡◌, ◌≢◌, None, Some, IfSome, true, false};
 ghost use Rattle.lease_threads.specs.Replying.{TellsSettled, IsUnsettledTo, IsReplyTo};
-ghost use Rattle.lease_threads.specs.Replying.{IsByQuantum};
-ghost use Rattle.lease_threads.specs.Replying.{IsReceiptOf, HasReceiptOf, IsGreeting, IsAgain};
+ghost use Rattle.lease_threads.specs.Replying.{IsByQuantum, IsLateHello};
+ghost use Rattle.lease_threads.specs.Replying.{IsReceiptOf, IsBookAnswerTo, IsGreeting, IsAgain};
 ghost use Rattle.lease_threads.specs.Settling.{new_receipt};
 
 use arena_tree::Tree;
@@ -51,6 +51,7 @@ pub(crate) fn hello_again(hello: &HelloLine) -> Reply
 
 /// The reply to a hello that the book didn't take.
 pub(crate) fn not_welcome(hello: &HelloLine, fault: HelloFault) -> Reply
+    requires { IsLateHello hello.now.incarnation fault }
     ensures { IsGreeting hello.now result }
 {
     match fault {
@@ -141,7 +142,7 @@ pub(crate) fn told<N: Name>(
 
 /// The reply that the book's answer is.
 pub(crate) fn answered<N: Name>(tree: &Tree, id: RequestId, answer: Answer<SeatDeed<N>>) -> Told<N>
-    requires { HasReceiptOf id answer }
+    requires { IsBookAnswerTo id answer }
     ensures told { IsReplyTo tree.now id result.reply result.receipt }
     ensures new { result.is_new ≡ true
         → (result.receipt ≢ None) × (new_receipt answer ≡ result.receipt) }

@@ -6,7 +6,7 @@ ghost use Rattle.arena_tree.specs.Chains.{quantum_in};
 ghost use Rattle.arena_tree.specs.Trees.{nodes_of};
 ghost use Rattle.locked_parts.specs.Gates.{MayStop};
 ghost use Rattle.lease_threads.specs.Replying.{IsAnswerTo, IsReplyTo, IsGreeting, IsAgain};
-ghost use Rattle.lease_threads.specs.Replying.{IsReceiptOf, HasReceiptOf};
+ghost use Rattle.lease_threads.specs.Replying.{IsReceiptOf, IsBookAnswerTo, IsLateHello};
 ghost use Rattle.lease_threads.specs.Settling as settling;
 ghost use Rattle.lease_threads.specs.Settling.{IsGrantOf, IsRefusalOf, IsSettledAsAsked};
 ghost use Rattle.lease_threads.specs.Settling.{SettlesLease, SettlesRelease, new_receipt};
@@ -128,7 +128,9 @@ impl<N: Name> System<N> {
         }))
     }
 
-    fn enter<R: Wait>(&self, rt: &R, hello: &HelloLine) -> Result<(), HelloFault> {
+    fn enter<R: Wait>(&self, rt: &R, hello: &HelloLine) -> Result<(), HelloFault>
+        ensures { IfErr result (IsLateHello hello.now.incarnation) }
+    {
         self.book.lock(rt).hello(hello)
     }
 
@@ -197,7 +199,7 @@ impl<N: Name> System<N> {
     }
 
     fn look<R: Wait>(&self, rt: &R, id: RequestId) -> Option<Answer<SeatDeed<N>>>
-        ensures receipt { IfSome result (HasReceiptOf id) }
+        ensures receipt { IfSome result (IsBookAnswerTo id) }
         ensures old { IfSome result (λ a. new_receipt a ≡ None) }
     {
         self.book.lock(rt).look(id)
@@ -223,7 +225,7 @@ impl<N: Name> System<N> {
     }
 
     fn settle_refusal<R: Wait>(&self, rt: &R, id: RequestId, why: Refusal) -> Answer<SeatDeed<N>>
-        ensures receipt { HasReceiptOf id result }
+        ensures receipt { IsBookAnswerTo id result }
         ensures new { IfSome (new_receipt result) (IsRefusalOf why) }
     {
         self.book.lock(rt).refuse(id, why)
@@ -288,7 +290,7 @@ impl<N: Name> System<N> {
         ensures receipt { IfOk result (IsReceiptOf id) }
         ensures grant { IfOk result (IsGrantOf segment
             (record { quantum = quantum; request = request.now })) }
-        ensures answer { IfErr result (λ e. HasReceiptOf id e.answer) }
+        ensures answer { IfErr result (λ e. IsBookAnswerTo id e.answer) }
         ensures new { IfErr result (λ e. IfSome (new_receipt e.answer)
             (IsRefusalOf Refusal.Leases)) }
     {
@@ -337,7 +339,7 @@ impl<N: Name> System<N> {
     ) -> Result<(Receipt<SeatDeed<N>>, Segment<SeatDeed<N>>), Answer<SeatDeed<N>>>
         ensures receipt { IfOk result (λ r. IsReceiptOf id r.0) }
         ensures released { IfOk result (λ r. r.0.reply ≡ KeptReply.Released) }
-        ensures answer { IfErr result (HasReceiptOf id) }
+        ensures answer { IfErr result (IsBookAnswerTo id) }
         ensures new { IfErr result (λ a. IfSome (new_receipt a) (IsRefusalOf Refusal.NotYours)) }
     {
         self.book.lock(rt).release(id, arena, base)
