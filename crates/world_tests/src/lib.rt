@@ -2,9 +2,10 @@
 //!
 //! `stories` has worlds to which each event of a list happens, with what clients hold, what was
 //! replied and what audits tell in the end; `refusals` each named refusal of an event that a test
-//! can reach, at which nothing moves; `failing` a CPU that fails after each of its events in turn;
-//! `walks` a hundred thousand events at random, along which the sums and what clients hold are
-//! looked at. What they share stands in `worlds`; `picks`, `chances` and `kinds` are for the walk.
+//! can reach, and events that can't be tried, at which nothing moves; `failing` a CPU that fails
+//! after each of its events in turn; `walks` a hundred thousand events at random, along which the
+//! sums and what clients hold are looked at. What they share stands in `worlds`; `picks`, `chances`
+//! and `kinds` are for the walk.
 #![tactic(auto)]
 
 #[cfg(test)]
