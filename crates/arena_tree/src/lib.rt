@@ -3,9 +3,10 @@
 //! `Setup` (setups) is what a system is made from: arenas by name, each a root with owned spans or
 //! a child that imports, added one by one; its type keeps it acceptable. `Tree` (trees) is a setup
 //! without its spans: it finds an arena's number by its name, and its chain, which is the arena,
-//! its source, that one's source and so on. To find a name looks at each of at most `MOST_ARENAS`; a chain is
-//! kept, and takes constant time. What is asked for can be judged before it is added: `judge`,
-//! `judge_root`, `judge_child` and `judge_span` take no memory, and refuse with the same word.
+//! its source, that one's source and so on. To find a name looks at each of at most `MOST_ARENAS`;
+//! a chain is kept, and takes constant time. What is asked for can be judged before it is added:
+//! `judge`, `judge_root`, `judge_child` and `judge_span` take no memory, and refuse with the same
+//! word. Adding a span looks at each span of its arena.
 //!
 //! `Parts` (parts) is what one CPU can reach: each call is one event, in one part under its lock,
 //! or in the CPU's own magazines. `climb_alloc` and `climb_free` (climbs) go up a chain and down

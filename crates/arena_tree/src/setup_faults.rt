@@ -20,8 +20,8 @@ pub enum SetupFault {
     /// The quantum is no power of two, or above the source's.
     #[error("bad quantum")]
     BadQuantum,
-    /// The greatest cached size isn't in whole quanta, is above `MOST_CACHES` of them, or needs slabs of more
-    /// than 2^62 units.
+    /// The greatest cached size isn't in whole quanta, is above `MOST_CACHES` of them, or needs
+    /// slabs of more than 2^62 units.
     #[error("bad cache")]
     BadCache,
     /// The range has no unit, ends above 2^62, isn't in whole quanta, or overlaps a span of the

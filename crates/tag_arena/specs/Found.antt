@@ -43,8 +43,8 @@ abbrev pub IsPlaced : ℕ → Request → List Holding → Found → Type 0
 IsPlaced quantum q free f = (f.at < length free) × HoldsAt (λ r. r ≡ f.range) free f.at
     × ServesIn quantum q f.range f.base
 
--- f has an index in the list of free ranges, and the `len` units from its base on are whole quanta of
--- the range there
+-- f has an index in the list of free ranges, and the `len` units from its base on are whole quanta
+-- of the range there
 pub record IsCuttable (quantum : ℕ) (free : List Holding) (f : Found) (len : ℕ) : Type 0 where
   pub within : f.at < length free
   pub here : HoldsAt (λ r. r ≡ f.range) free f.at

@@ -40,7 +40,8 @@ impl<N: Name, R: Abort + Wait + AllocGlobal> Gate for Between<'_, N, R> {
     }
 }
 
-// Leases two units, for which the arena has a cache, by the request after so many; gives their base.
+// Leases two units, for which the arena has a cache, by the request after so many, and gives their
+// base.
 fn leased<N: Name, R: Abort + Wait + AllocGlobal>(
     rt: &R,
     system: &System<N>,
