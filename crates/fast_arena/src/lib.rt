@@ -31,6 +31,8 @@ mod places;
 mod probes;
 mod searches;
 mod slots;
+mod span_entries;
+mod span_searches;
 mod spans;
 mod tags;
 mod whole_spans;
