@@ -1,6 +1,4 @@
-//! The faster body of an arena. It is being built from below: so far the index of the free ranges,
-//! what each policy chooses in it, carving, and what comes back. Spans, tags and the arena aren't
-//! there.
+//! The faster body of an arena. `Arena` has the very contract of `tag_arena`'s, and `probes` more.
 //!
 //! `FreeIndex` holds the deeds of the free ranges, which a contract sees as one list from the
 //! oldest to the newest. In it
@@ -15,8 +13,15 @@
 //! range, and `FreeIndex::give_back` takes a piece back and merges it with its neighbors, in the
 //! words of `tag_arena`'s own clauses.
 //!
-//! So a call looks at a few rows of each index, whatever the number of ranges. Once there is room
-//! nothing takes memory.
+//! Round it `Arena` has the allocated ranges by their bases in a hashed map, `Tags`, and the owned
+//! and the imported spans, each in the order of their ends, in `Spans`; a contract sees spans in
+//! order of coming.
+//!
+//! So a call looks at a few rows of each index, whatever the number of ranges and of spans. Two
+//! look at more: `Arena::report` at each slot of a free range, and `Arena::remove_owned` at each
+//! owned span below the one that it takes. A carve and a new span make room for what they add, and
+//! for each allocated range to become free, before they change anything: so `Arena::free` and
+//! `Arena::remove_owned` take no memory.
 #![tactic(auto)]
 
 mod arenas;
