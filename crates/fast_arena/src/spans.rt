@@ -11,8 +11,8 @@ use sorted_rows::Rows;
 use std::alloc::{AllocError, Global};
 use std::marker::Model;
 
-/// An imported span, with the arena that it came from. A contract sees the segment that goes back
-/// there.
+/// A span, with the arena that it came from, which of an owned one is this arena itself. A contract
+/// sees the segment that goes back there.
 #[derive(Drop)]
 pub struct Import {
     source: u32,
