@@ -13,12 +13,12 @@ impl Chosen for Brand {
 }
 
 /// A range that a call picks, with `Brand`.
-pub trait Placed {
+pub trait ChosenRange {
     ghost use Rattle.deed_core.specs.Extent.{Extent};
 
-    ghost place: { Extent };
+    ghost range: { Extent };
 }
 
-impl Placed for Brand {
-    ghost place = { record { base = 0; len = 1 } };
+impl ChosenRange for Brand {
+    ghost range = { record { base = 0; len = 1 } };
 }

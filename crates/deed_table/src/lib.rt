@@ -16,7 +16,7 @@
 //!
 //! How `open_root` goes: `share(1)` gives the next number to a seat of its own, the step `open`
 //! makes that number a root of the range, which the seat covers, and the deed is that seat. A step
-//! is told of a number or a range by a type (`Chosen`, `Placed`), since its kind stands in the
+//! is told of a number or a range by a type (`Chosen`, `ChosenRange`), since its kind stands in the
 //! proofs alone; `Brand` is the type that a call picks for the values it has at hand. Of deeds one
 //! says split and join, of seats cut and merge; `put_beside` and `part` take two deeds together and
 //! apart again.

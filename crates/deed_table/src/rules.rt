@@ -1,5 +1,5 @@
 //! The rule of the table, and how views are cut, made one, and changed.
-use crate::choices::{Chosen, Placed};
+use crate::choices::{Chosen, ChosenRange};
 use crate::views::View;
 use atomic_table::{Join, Play, Split, TableRule};
 use std::marker::PhantomData;
@@ -90,8 +90,8 @@ pub struct Open<C> {
     placed: PhantomData<C>,
 }
 
-impl<C: Placed> Play<(), View> for Open<C> {
+impl<C: ChosenRange> Play<(), View> for Open<C> {
     ghost use Rattle.deed_table.specs.Rule.{Opens};
 
-    ghost then = { Opens C.place };
+    ghost then = { Opens C.range };
 }

@@ -9,7 +9,7 @@ ghost use Rattle.deed_table.specs.View.{beside};
 ghost use Rattle.deed_table.specs.View.{first_part, other_part, numbers_below, numbers_after};
 ghost use Rattle.deed_table.specs.View.{opened_at};
 
-use crate::choices::{Chosen, Placed};
+use crate::choices::{Chosen, ChosenRange};
 use crate::rules::{Beside, CutAt, Learn, Merge, OnceEach, Open, Part, Share};
 use crate::views::View;
 use atomic_table::{Seat, Table};
@@ -98,8 +98,8 @@ pub(crate) fn share<C: Chosen>(
 }
 
 // The one number that is left becomes a root.
-pub(crate) fn open<C: Placed>(table: &DeedTable, seat: &mut Seat<(), View>, range: &Range)
-    requires place { range.now ≡ C.place }
+pub(crate) fn open<C: ChosenRange>(table: &DeedTable, seat: &mut Seat<(), View>, range: &Range)
+    requires range { range.now ≡ C.range }
     requires seat { SitsAt seat.old.table_id table.now.shared.table_id }
     requires new { (seat.old.me.0.ranges ≡ []) × (seat.old.me.0.roots ≡ [])
         × (seat.old.me.0.left ≡ 1) }

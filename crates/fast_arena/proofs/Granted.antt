@@ -1,17 +1,18 @@
 -- The arena's calls, in terms of the index of its free ranges.
-use Rattle.std.proofs.Common.{◌≡◌, ◌≢◌, ℕ, ◌+◌, ◌<◌, Bool, true, refl, sym, ap, subst, ◌∙◌, ⊎_elim, List, [], ◌∷◌, ◌++◌, length, All, AllPairs, Contains, Option, None, Some, IfSome, MatchOption, is_some, false, option_to_list, arith}
-use Rattle.std.proofs.lemmas.List.Elements.{All-contains, at_from_Contains}
+use Rattle.std.proofs.Common.{◌≡◌, ◌≢◌, ℕ, ◌+◌, ◌<◌, Bool, true, refl, sym, ap, subst, ◌∙◌, ⊎_elim, List, [], ◌∷◌, ◌++◌, length, get_or, HoldsAt, All, AllPairs, Contains, Option, None, Some, IfSome, MatchBool, false, option_to_list, arith}
+use Rattle.std.proofs.lemmas.List.Elements.{All-contains, at_from_Contains, Contains-append_left, Contains-append_right, Contains-get_or}
+use Rattle.std.proofs.lemmas.List.{map-append}
 use Rattle.std.specs.Ordering.{nat_cmp}
 use Rattle.std.specs.FinMap as finmap
 use Rattle.std.specs.FinMap.{FinMap}
-use Rattle.deed_core.specs.Extent.{Covers, end_of}
+use Rattle.deed_core.specs.Extent.{IsRange, Covers, Overlap, end_of}
 use Rattle.deed_core.specs.Holding.{Holding, Apart}
 use Rattle.deed_core.specs.Tag.{Tag}
 use Rattle.deed_core.specs.Request.{rounded, IsGood}
 use Rattle.deed_core.specs.declared.requests.Request.{Request}
 use Rattle.tag_arena.specs.declared.choices.Found.{Found}
 use Rattle.tag_arena.specs.ArenaState.{ArenaState, IsDivided, IsSound, spans_of}
-use Rattle.tag_arena.specs.Calls.{part, between, after_carve}
+use Rattle.tag_arena.specs.Calls.{part, between, after_carve, IsClear}
 use Rattle.tag_arena.specs.Found.{IsPlaced}
 use Rattle.tag_arena.specs.Found as plain_found
 use Rattle.tag_arena.specs.Layout.{IsPartOf}
@@ -22,13 +23,13 @@ use Rattle.tag_arena.proofs.Importing.{Imports}
 use Rattle.tag_arena.proofs.Ranges.{apart_or_share, between_is, not_both, same_where_shared}
 use Rattle.tag_arena.proofs.Returning.{LiesIn, positive, span_holds}
 use Rattle.tag_arena.proofs.Sounding.{sound_import}
-use Rattle.tag_arena.proofs.SpanLists.{AllPairs-cross}
+use Rattle.tag_arena.proofs.SpanLists.{AllPairs-cross, AllPairs-first, AllPairs-second, Contains-map}
 use Rattle.tag_arena.proofs.Using.{in_spans}
 use Rattle.fast_arena.specs.declared.searches.Fit.{Fit}
-use Rattle.fast_arena.specs.declared.whole_spans.Whole.{Whole}
 use Rattle.fast_arena.specs.Cuts.{CarvesOut}
 use Rattle.fast_arena.specs.Fits.{IsFit}
-use Rattle.fast_arena.specs.Found.{IsCuttable, LowestSoFar}
+use Rattle.fast_arena.specs.Found.{IsCuttable}
+use Rattle.fast_arena.specs.Spanned.{held, AreDisjoint, IsLowestFree}
 
 -- what was found, with its place in the list
 abbrev pub found_of : (free : List Holding) (f : Fit) → Contains free f.range → Found
@@ -89,10 +90,39 @@ module _ (a : ArenaState) (piece s : Holding) (lies : LiesIn a piece s) where
       let same = same_where_shared (spans_of a) t.holding s piece.range.base lies.sound.whole.spans_apart (in_spans a t in-t) lies.here (whole.from, omega (arith, whole.to, some)) (inside.from, omega (arith, inside.to, some)) in
       none t in-t same (sym same ∙ e))
 
--- the lowest whole span, with its place among the free ranges
-pub plain_lowest : (owned free new : List Holding) (w : Whole) (so : LowestSoFar owned free (length owned) (Some w)) (out : Without free w.span new)
-    → plain_found.LowestSoFar owned free (length owned) (Some (record { at = w.at; free_at = out.0; span = w.span }))
-plain_lowest owned free new w so out = (so.0, so.1, out.1, out.2, so.3)
+-- the spans don't overlap
+pub disjoint_owned : (a : ArenaState) → IsDivided a → AreDisjoint a.owned
+disjoint_owned a sound = record {
+  apart = AllPairs-first Apart a.owned (held a.imported) sound.whole.spans_apart;
+  ranges = All-from_members (λ s. IsRange s.range) a.owned (λ s h. All-contains (λ s. IsRange s.range) (spans_of a) s sound.spans (Contains-append_left a.owned (held a.imported) s h));
+}
+
+pub disjoint_imported : (a : ArenaState) → IsDivided a → AreDisjoint (held a.imported)
+disjoint_imported a sound = record {
+  apart = AllPairs-second Apart a.owned (held a.imported) sound.whole.spans_apart;
+  ranges = All-from_members (λ s. IsRange s.range) (held a.imported) (λ s h. All-contains (λ s. IsRange s.range) (spans_of a) s sound.spans (Contains-append_right a.owned (held a.imported) s h));
+}
+
+-- a span that overlaps none ends where none does
+pub ends_alone : (a : ArenaState) (h : Holding) (tags : List Tag) → IsDivided a → IsRange h.range → IsClear a h.range → ((s : Holding) → Contains (held tags) s → Contains (spans_of a) s) → All (λ t. end_of t.holding.range ≢ end_of h.range) tags
+ends_alone a h tags sound range clear among =
+    All-from_members (λ t. end_of t.holding.range ≢ end_of h.range) tags
+    (λ t in-t e.
+    let in-s = among t.holding (Contains-map (λ (t : Tag). t.holding) tags t in-t) in
+    let some = (All-contains (λ s. IsRange s.range) (spans_of a) t.holding sound.spans in-s).some in
+    let more = range.some in
+    All-contains (λ s. ¬ Overlap s.range h.range) (spans_of a) t.holding clear in-s (omega (arith, e, more), omega (arith, e, some)))
+
+-- the lowest whole span, with its places
+pub plain_lowest : (owned free new : List Holding) (w : Holding) (at : ℕ) → at < length owned → HoldsAt (λ s. s ≡ w) owned at → IsLowestFree owned free (Some w) → (out : Without free w new)
+    → plain_found.LowestSoFar owned free (length owned) (Some (record { at = at; free_at = out.0; span = w }))
+plain_lowest owned free new w at within here so out = (
+  within,
+  here,
+  out.1,
+  out.2,
+  λ k d from below in-free. so.2 (get_or owned k d) (Contains-get_or owned k d below) in-free,
+)
 
 -- no free range begins in one that is apart from all
 pub begins_outside : (a : ArenaState) (h : Holding) (b : ℕ) → IsDivided a → AllPairs Apart (a.free ++ h ∷ []) → Covers h.range b → All (λ r. r.range.base ≢ b) a.free
@@ -116,10 +146,15 @@ pub absent_behind : (a : ArenaState) (t : Tag) (n : ℕ) (k : Imports a t n) (o 
 absent_behind a t n k o is free same = subst (λ xs. IfSome o (λ h. All (λ r. r.range.base ≢ h.range.base) xs)) (sym same) (absent_in a t n k o is)
 
 -- a span that comes back whole was lent
-pub place_there : (A : Type 0) (B : ℕ → Type 0) (o : Option ℕ) (lent : Bool) → MatchOption o A B → lent ≡ is_some o → lent ≡ true → (k : ℕ) × (o ≡ Some k) × B k
-place_there A B None lent said is lends = let no : false ≡ true = sym is ∙ lends in absurd cc
-place_there A B (Some k) lent said is lends = (k, refl, said)
+pub lent_there : (A : Type 0) (B : Type 0) (lent : Bool) → MatchBool lent A B → lent ≡ true → A
+lent_there A B true said lends = said
+lent_there A B false said lends = absurd cc
 
-pub not_lent : (B : ℕ → Type 0) (imported : List Tag) (s merged : Holding) (o : Option ℕ) (lent : Bool) → MatchOption o (All (λ t. t.holding ≢ s) imported) B → lent ≡ is_some o → (lent ≡ true → merged ≢ s) → (t : Tag) → Contains imported t → t.holding ≡ s → s ≡ merged → ⊥
-not_lent B imported s merged None lent said is other t in-t e same = All-contains (λ t. t.holding ≢ s) imported t said in-t e
-not_lent B imported s merged (Some k) lent said is other t in-t e same = other is (sym same)
+pub not_lent : (imported : List Tag) (s merged : Holding) (lent : Bool) → MatchBool lent (Contains (held imported) s) (¬ Contains (held imported) s) → (lent ≡ true → merged ≢ s) → (t : Tag) → Contains imported t → t.holding ≡ s → s ≡ merged → ⊥
+not_lent imported s merged true said other t in-t e same = other refl (sym same)
+not_lent imported s merged false said other t in-t e same = said (subst (Contains (held imported)) e (Contains-map (λ (t : Tag). t.holding) imported t in-t))
+
+-- one more span, by its range
+pub held_more : (old grown new : List Tag) (t : Tag) (h : Holding) → new ≡ grown ++ t ∷ [] → grown ≡ old → t.holding ≡ h → held new ≡ held old ++ h ∷ []
+held_more old grown new t h is same range =
+    ap held is ∙ (map-append (λ (x : Tag). x.holding) grown (t ∷ []) ∙ (ap (λ (ts : List Tag). held ts ++ t.holding ∷ []) same ∙ ap (λ (x : Holding). held old ++ x ∷ []) range))

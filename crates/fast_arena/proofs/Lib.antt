@@ -16,4 +16,6 @@ pub mod Rejoining
 pub mod Units
 pub mod Backing
 pub mod Granted
-pub mod Wholes
+pub mod Coming
+pub mod Spanning
+pub mod SpanFinding

@@ -2,6 +2,8 @@
 use Rattle.std.specs.Prelude.{ℕ, ◌<◌, ◌≤◌, List, All, Contains, Option, Some, None}
 use Rattle.deed_core.specs.Holding.{Holding}
 use Rattle.deed_core.specs.declared.requests.Request.{Request}
+use Rattle.deed_core.specs.Request.{IsPlain, rounded}
+use Rattle.tag_arena.specs.Choice.{IsInstant}
 use Rattle.tag_arena.specs.Place.{IsLeast, Serves, ServesIn}
 use Rattle.fast_arena.specs.declared.searches.Fit.{Fit}
 
@@ -20,6 +22,11 @@ abbrev pub IsLastBy : ℕ → List Holding → Option Holding → Type 0
 IsLastBy base free None = All (λ r. base < r.range.base) free
 IsLastBy base free (Some h) = Contains free h × (h.range.base ≤ base)
     × ((r : Holding) → Contains free r → r.range.base ≤ base → r.range.base ≤ h.range.base)
+
+-- it asks for no place, and a power-of-two list serves it
+abbrev pub ServedByList : ℕ → Request → List Holding → Type 0
+ServedByList quantum q free =
+    IsPlain q × ((range : Holding) × IsInstant quantum (rounded quantum q.size) free range)
 
 -- the least address from `start` on that serves, or none where no such address does
 abbrev pub IsEarliest : ℕ → Request → List Holding → ℕ → Option ℕ → Type 0

@@ -5,4 +5,5 @@ pub mod FreeRanges
 pub mod Fits
 pub mod Cuts
 pub mod Returns
+pub mod Spanned
 pub mod Found

@@ -26,10 +26,8 @@ use crate::free_index::FreeIndex;
 use crate::held_ranges::{HeldRange, held_range_of};
 use crate::probes::Probes;
 use crate::searches::Fit;
-use crate::spans::{
-    Import, imported_units, overlaps_imported, overlaps_owned, owned_units, place_of_import,
-    span_at,
-};
+use crate::span_searches::{is_span, overlaps, span_at};
+use crate::spans::{Import, Spans};
 use crate::tags::Tags;
 use crate::whole_spans::lowest_whole;
 use deed_core::{Deed, Range, Request, Route, Segment, Stored};
@@ -43,8 +41,8 @@ pub struct Arena<D: Deed> {
     id: u32,
     quantum: u64,
     policy: Policy,
-    owned: Vec<HeldRange>,
-    imported: Vec<Import>,
+    owned: Spans,
+    imported: Spans,
     free: FreeIndex<D>,
     tags: Tags,
     rover: u64,
@@ -58,6 +56,7 @@ impl<D: Deed> Model for Arena<D> {
     ghost use Rattle.deed_core.specs.Holding.{Holding};
     ghost use Rattle.tag_arena.specs.ArenaState.{ArenaState, IsSound};
     ghost use Rattle.fast_arena.specs.FreeRanges.{IsBacked};
+    ghost use Rattle.fast_arena.specs.Spanned.{held};
 
     ghost Value = { ArenaState };
 
@@ -68,7 +67,7 @@ impl<D: Deed> Model for Arena<D> {
       id = a.id;
       quantum = a.quantum;
       policy = a.policy;
-      owned = a.owned.items;
+      owned = held a.owned.items;
       imported = a.imported.items;
       free = a.free.ranges;
       allocated = a.tags;
@@ -81,7 +80,7 @@ impl<D: Deed> Model for Arena<D> {
           id = a.id;
           quantum = a.quantum;
           policy = a.policy;
-          owned = a.owned.items;
+          owned = held a.owned.items;
           imported = a.imported.items;
           free = a.free.ranges;
           allocated = a.tags;
@@ -101,8 +100,8 @@ impl<D: Deed> Arena<D> {
             id,
             quantum,
             policy,
-            owned: Vec::new(alloc),
-            imported: Vec::new(alloc),
+            owned: Spans::new(alloc),
+            imported: Spans::new(alloc),
             free: FreeIndex::new(alloc, policy),
             tags: Tags::new(alloc),
             rover: 0,
@@ -146,7 +145,7 @@ impl<D: Deed> Arena<D> {
         ensures longest { FreeIsLongestRuns (layout_of self.now) }
         ensures sound { IsSound self.now }
     {
-        let span = owned_units(&self.owned) + imported_units(&self.imported);
+        let span = self.owned.units() + self.imported.units();
         let free = self.free.units();
         ArenaReport {
             span,
@@ -189,10 +188,10 @@ impl<D: Deed> Arena<D> {
         ensures overlaps { OnTrue result (OverlapsSpan self.now range.now) }
         ensures clear { OnFalse result (IsClear self.now range.now) }
     {
-        if overlaps_owned(&self.owned, range) {
+        if overlaps(&self.owned, range) {
             return true;
         }
-        if overlaps_imported(&self.imported, range) {
+        if overlaps(&self.imported, range) {
             return true;
         }
         false
@@ -223,14 +222,14 @@ impl<D: Deed> Arena<D> {
         if !self.is_aligned(&range) {
             return Err(SpanFault::NotAligned(deed));
         }
-        let Ok(()) = self.owned.reserve(1) else {
+        let Ok(()) = self.owned.reserve(self.alloc) else {
             return Err(SpanFault::NoMemory(deed));
         };
         let Ok(()) = reserve_free(self.alloc, &mut self.free, &self.tags, 1) else {
             return Err(SpanFault::NoMemory(deed));
         };
         let stored = Stored::new(deed);
-        self.owned.push_reserved(held_range_of(&stored));
+        self.owned.put(Import::new(self.id, held_range_of(&stored)));
         self.free.insert(stored);
         Ok(())
     }
@@ -343,7 +342,7 @@ impl<D: Deed> Arena<D> {
         ensures handed_back { IfErr result (λ same. same ≡ span) }
         ensures unchanged { OnErr result (self.new ≡ self.old) }
     {
-        let Ok(()) = self.imported.reserve(1) else {
+        let Ok(()) = self.imported.reserve(self.alloc) else {
             return Err(span);
         };
         let Ok(()) = reserve_free(self.alloc, &mut self.free, &self.tags, 2) else {
@@ -363,7 +362,7 @@ impl<D: Deed> Arena<D> {
             }
         };
         self.free.insert_rest(rest);
-        self.imported.push_reserved(Import::new(source, whole));
+        self.imported.put(Import::new(source, whole));
         self.rover = first.end();
         Ok(Segment::new(self.id, Route::Direct, deed.into_deed()))
     }
@@ -398,13 +397,13 @@ impl<D: Deed> Arena<D> {
             return Err(segment);
         }
         let span = span_at(&self.owned, &self.imported, tagged.base()).unwrap();
-        let at = place_of_import(&self.imported, &span);
+        let lent = is_span(&self.imported, span);
         self.tags.remove(tagged);
         let deed = Stored::new(segment.into_deed());
-        let Some(whole) = self.free.give_back(span, at.is_some(), deed) else {
+        let Some(whole) = self.free.give_back(span, lent, deed) else {
             return Ok(None);
         };
-        let import = self.imported.remove(at.unwrap());
+        let import = self.imported.take(span);
         Ok(Some(Segment::new(import.source(), Route::Direct, whole.into_deed())))
     }
 
@@ -425,8 +424,8 @@ impl<D: Deed> Arena<D> {
         let Some(whole) = lowest_whole(&self.owned, &self.free) else {
             return None;
         };
-        let _ = self.owned.remove(whole.at);
-        Some(self.free.take(whole.span.base()).into_deed())
+        let _ = self.owned.take(whole);
+        Some(self.free.take(whole.base()).into_deed())
     }
 }
 

@@ -13,7 +13,7 @@ ghost use Rattle.tag_arena.specs.declared.policies.Policy.TheVariants.{Instant, 
 ghost use Rattle.tag_arena.specs.Layout.{IsPartOf};
 ghost use Rattle.tag_arena.specs.Neighbors.{IsBeside, Merges, TakesLeft, TakesRight, Without};
 ghost use Rattle.fast_arena.specs.Cuts.{CarvesOut, IsCut};
-ghost use Rattle.fast_arena.specs.Fits.{base_of, IsFit, IsLastBy};
+ghost use Rattle.fast_arena.specs.Fits.{base_of, IsFit, IsLastBy, ServedByList};
 ghost use Rattle.fast_arena.specs.FreeRanges.{keeps};
 ghost use Rattle.fast_arena.specs.Returns.{ComesBack};
 ghost use Rattle.fast_arena.specs.declared.orders.Order.TheVariants.{Sizes};
@@ -250,6 +250,8 @@ impl<D: Deed> FreeIndex<D> {
         requires aligned { All (λ r. r.range.base % quantum ≡ 0) self.now.ranges }
         ensures choice { IsInstantChoice quantum request.now self.now.ranges (base_of result) }
         ensures placed { IfSome result (IsFit quantum request.now self.now.ranges) }
+        ensures one { ServedByList quantum request.now self.now.ranges
+            → probes.old.count ≡ 0 → probes.new.count ≡ 1 }
     {
         // The clock is read for the proof alone.
         let _clock = self.clock;
@@ -314,6 +316,8 @@ impl<D: Deed> FreeIndex<D> {
         ensures choice { let free = self.now.ranges in
             IsChoice self.now.policy quantum request.now free rover (base_of result) }
         ensures placed { IfSome result (IsFit quantum request.now self.now.ranges) }
+        ensures one { self.now.policy ≡ Instant → ServedByList quantum request.now self.now.ranges
+            → probes.old.count ≡ 0 → probes.new.count ≡ 1 }
     {
         match self.policy {
             Policy::Best => self.best(quantum, request, probes),

@@ -1,5 +1,4 @@
-//! The faster body of an arena, under the contract of `tag_arena`'s: `Arena` (arenas) is where to
-//! begin. Nothing stands on it yet.
+//! The faster body of an arena. `Arena` has the very contract of `tag_arena`'s, and `probes` more.
 //!
 //!     span       [0 ........................ 64)
 //!     allocated      [8 .. 16)      [24 . 32)      found by base
@@ -18,9 +17,15 @@
 //! range, and `FreeIndex::give_back` takes a piece back and merges it with its neighbors, in the
 //! words of `tag_arena`'s own clauses.
 //!
-//! So a call looks at a few rows of each index, whatever the number of free ranges;
-//! `Arena::probes` tells how many ranges the last grant looked at. Adding a span, `free` and
-//! `remove_owned` look at each span too. Once there is room nothing takes memory.
+//! Round it `Arena` has the allocated ranges by their bases in a hashed map, `Tags`, and the owned
+//! and the imported spans, each in the order of their ends, in `Spans`; a contract sees spans in
+//! order of coming.
+//!
+//! So a call looks at a few rows of each index, whatever the number of ranges and of spans. Two
+//! look at more: `Arena::report` at each slot of a free range, and `Arena::remove_owned` at each
+//! owned span below the one that it takes. A carve and a new span make room for what they add, and
+//! for each allocated range to become free, before they change anything: so `Arena::free` and
+//! `Arena::remove_owned` take no memory.
 #![tactic(auto)]
 
 mod arenas;
@@ -35,6 +40,8 @@ mod places;
 mod probes;
 mod searches;
 mod slots;
+mod span_entries;
+mod span_searches;
 mod spans;
 mod tags;
 mod whole_spans;

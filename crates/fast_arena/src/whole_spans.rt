@@ -1,62 +1,26 @@
-//! Owned spans that are wholly free.
-ghost use Rattle.std.specs.Prelude.{◌≡◌, ◌+◌, ◌<◌, Contains, MatchOption, length, AllPairs};
+//! The lowest span that is wholly free.
+ghost use Rattle.std.specs.Prelude.{AllPairs};
 ghost use Rattle.deed_core.specs.Holding.{Apart};
-ghost use Rattle.fast_arena.specs.Found.{LowestSoFar};
+ghost use Rattle.fast_arena.specs.Spanned.{held, AreDisjoint, IsLowestFree};
 
 use crate::free_index::FreeIndex;
 use crate::held_ranges::HeldRange;
+use crate::spans::Spans;
 use deed_core::Deed;
 
-/// An owned span that is a free range, and where it stands among the owned ones.
-#[derive(Clone, Copy)]
-pub struct Whole {
-    pub at: usize,
-    pub span: HeldRange,
-}
-
-/// The span that stands at `at` among the owned ones, if it is a free range.
-fn whole_at<D: Deed>(free: &FreeIndex<D>, at: usize, span: HeldRange) -> Option<Whole>
-    requires { AllPairs Apart free.now.ranges }
-    ensures { MatchOption result (¬ Contains free.now.ranges span)
-        (λ whole. (whole ≡ record { at = at; span = span }) × Contains free.now.ranges span) }
-{
-    if !free.has(span) {
-        return None;
-    }
-    Some(Whole { at, span })
-}
-
-/// The lower of one span more than `lowest` is the lowest of. The free ranges are searched only for
-/// a span that is lower than the lowest so far.
-fn lower<D: Deed>(
-    owned: &[HeldRange],
-    free: &FreeIndex<D>,
-    at: usize,
-    lowest: Option<Whole>,
-) -> Option<Whole>
-    requires at { at < length owned.now }
+/// The lowest span that is a free range. The spans are looked at from the lowest up to it.
+pub fn lowest_whole<D: Deed>(spans: &Spans, free: &FreeIndex<D>) -> Option<HeldRange>
+    requires disjoint { AreDisjoint (held spans.now.items) }
     requires apart { AllPairs Apart free.now.ranges }
-    requires lowest { LowestSoFar owned.now free.now.ranges at lowest }
-    ensures { LowestSoFar owned.now free.now.ranges (at + 1) result }
+    ensures { IsLowestFree (held spans.now.items) free.now.ranges result }
 {
-    let span = owned[at];
-    let Some(other) = lowest else {
-        return whole_at(free, at, span);
-    };
-    if other.span.base() <= span.base() {
-        return Some(other);
+    let mut from = 0;
+    while let Some(next) = spans.first_past(from) {
+        let span = next.span();
+        if free.has(span) {
+            return Some(span);
+        }
+        from = span.end();
     }
-    Some(whole_at(free, at, span).unwrap_or(other))
-}
-
-/// The lowest owned span that is a free range.
-pub fn lowest_whole<D: Deed>(owned: &[HeldRange], free: &FreeIndex<D>) -> Option<Whole>
-    requires { AllPairs Apart free.now.ranges }
-    ensures { LowestSoFar owned.now free.now.ranges (length owned.now) result }
-{
-    let mut lowest = None;
-    for at in 0..owned.len() {
-        lowest = lower(owned, free, at, lowest);
-    }
-    lowest
+    None
 }

@@ -13,7 +13,7 @@ use Rattle.lease_proto.specs.declared.replies.Reply.TheVariants as replies
 use Rattle.lease_client.specs.Answers.{is_same_request, answers, answers_one}
 use Rattle.lease_client.specs.ClientState.{ClientState, IsSound, IsOwn}
 use Rattle.lease_client.specs.Replies.{is_ahead, accepts, after_accept, got}
-use Rattle.lease_client.specs.Runs.{Move, Restart, Send, Get, TakesMove, Run, waiting, IsDone, MayBeSent}
+use Rattle.lease_client.specs.Runs.{Move, Restart, Send, Get, TakesMove, Run, waiting_count, IsDone, MayBeSent}
 use Rattle.lease_client.specs.Laws.{RepliesCountOnce, SentStaysSent}
 use Rattle.lease_client.proofs.ReplyLemmas.{got_by, moves_in_turn, moves_keep_sound}
 
@@ -56,7 +56,7 @@ not_own : (id own : RequestId) (c : ClientState) (line : Line) → c.outstanding
     → own.number + 1 ≡ c.next → IsDone id c → is_same_request id own ≡ false
 not_own id own c line is i n (inl low) = not_same id own (inl (omega (arith, i)))
 not_own id own c line is i n (inr at) =
-    let waits : waiting c.outstanding ≡ 1 = ap waiting is in
+    let waits : waiting_count c.outstanding ≡ 1 = ap waiting_count is in
     not_same id own (inr (omega (arith, n, at.1, waits)))
 
 no_welcome : (w : Welcome) (c : ClientState) (o : Option Line) → c.outstanding ≡ o → IsOwn c o → Past (replies.Welcome w) c
@@ -151,7 +151,7 @@ closed_accepts v (replies.Error e) c is accept = absurd (false≢true (ap (answe
 done_settles : (id : RequestId) (old new : ClientState) → Settles old new → IsDone id old → IsDone id new
 done_settles id old new is (inl low) = inl (omega (arith, is.incarnation))
 done_settles id old new is (inr at) =
-    let none : waiting new.outstanding ≡ 0 = ap waiting is.idle in
+    let none : waiting_count new.outstanding ≡ 0 = ap waiting_count is.idle in
     inr (at.0 ∙ sym is.incarnation, omega (arith, at.1, is.next, none))
 
 past_accepted : (past reply : Reply) (c : ClientState) → accepts reply c ≡ true → Past past c → Past past (after_accept reply c)
@@ -189,14 +189,14 @@ record Sends (old new : ClientState) : Type 0 where
   incarnation : new.incarnation ≡ old.incarnation
   next : new.next ≡ old.next + 1
   idle : old.outstanding ≡ None
-  waits : waiting new.outstanding ≡ 1
+  waits : waiting_count new.outstanding ≡ 1
   request : is_hello new.outstanding ≡ false
   opened : old.is_open ≡ true
 
 done_sent : (id : RequestId) (old new : ClientState) → Sends old new → IsDone id old → IsDone id new
 done_sent id old new is (inl low) = inl (omega (arith, is.incarnation))
 done_sent id old new is (inr at) =
-    let none : waiting old.outstanding ≡ 0 = ap waiting is.idle in
+    let none : waiting_count old.outstanding ≡ 0 = ap waiting_count is.idle in
     inr (at.0 ∙ sym is.incarnation, omega (arith, at.1, is.next, is.waits, none))
 
 past_sent : (past : Reply) (old new : ClientState) → Sends old new → Past past old → Past past new
@@ -235,7 +235,7 @@ done_own : (id own : RequestId) (c : ClientState) → is_same_request id own ≡
 done_own id own c same i n new is =
     let parts = and_parts (id.client == own.client) ((id.incarnation == own.incarnation) && (id.number == own.number)) same in
     let rest = and_parts (id.incarnation == own.incarnation) (id.number == own.number) parts.1 in
-    let none : waiting new.outstanding ≡ 0 = ap waiting is.idle in
+    let none : waiting_count new.outstanding ≡ 0 = ap waiting_count is.idle in
     let number : id.number ≡ own.number = eqb-true _ _ rest.1 in
     inr (eqb-true _ _ rest.0 ∙ i ∙ sym is.incarnation, omega (arith, n, is.next, none, number))
 
@@ -303,7 +303,7 @@ sent_accepted : (id : RequestId) (op : Op) (reply : Reply) (old : ClientState) �
 sent_accepted id op reply old own waits =
     let mine : IsOwn old (Some (lines.Request id op)) = subst (IsOwn old) waits own in
     let is = settles reply old in
-    let none : waiting (after_accept reply old).outstanding ≡ 0 = ap waiting is.idle in
+    let none : waiting_count (after_accept reply old).outstanding ≡ 0 = ap waiting_count is.idle in
     let next : id.number + 1 ≡ old.next = mine.2 in
     inr (mine.1 ∙ sym is.incarnation, omega (arith, is.next, none, next))
 

@@ -81,15 +81,15 @@ after_send op c = record c {
 }
 
 -- memory is wanted for the segment that a lease may be granted
-abbrev pub WantsMemory : Op → Type 0
-WantsMemory (ops.Lease l) = Unit {0}
-WantsMemory (ops.Release r) = ⊥
+abbrev pub MayLackMemory : Op → Type 0
+MayLackMemory (ops.Lease l) = Unit {0}
+MayLackMemory (ops.Release r) = ⊥
 
 abbrev pub IsSent : Op → (old new : ClientState) → Result Line SendFault → Type 0
 IsSent op old new (Ok line) =
     (refusal op old ≡ None) × (line ≡ next_request op old) × (new ≡ after_send op old)
 IsSent op old new (Err (NoMemory back)) =
-    (refusal op old ≡ None) × WantsMemory op × (back ≡ op) × (new ≡ old)
+    (refusal op old ≡ None) × MayLackMemory op × (back ≡ op) × (new ≡ old)
 IsSent op old new (Err fault) = (refusal op old ≡ Some fault) × (new ≡ old)
 
 -- what is outstanding is sent again

@@ -59,14 +59,14 @@ pub record IsHeldSince (s : HeldSegment) (run : List Move) (start end : ClientSt
   pub kept : Keeps s after (got (replies.Granted grant) at) end
 
 -- how many lines wait for their replies
-abbrev pub waiting : Option Line → ℕ
-waiting None = 0
-waiting (Some line) = 1
+abbrev pub waiting_count : Option Line → ℕ
+waiting_count None = 0
+waiting_count (Some line) = 1
 
 -- the request has a number that the client sent, and its reply isn't waited for any more
 abbrev pub IsDone : RequestId → ClientState → Type 0
 IsDone id c = (id.incarnation < c.incarnation)
-    ⊎ ((id.incarnation ≡ c.incarnation) × (id.number + waiting c.outstanding < c.next))
+    ⊎ ((id.incarnation ≡ c.incarnation) × (id.number + waiting_count c.outstanding < c.next))
 
 -- a request of the client's that asks for this may be on its way
 abbrev pub MayBeSent : RequestId → Op → ClientState → Type 0

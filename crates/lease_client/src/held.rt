@@ -2,7 +2,7 @@
 ghost use Rattle.std.specs.Prelude.{◌≡◌, ◌+◌, ◌≤◌, OnOk, OnErr, vec_len, filter, not};
 ghost use Rattle.std.specs.Vec.{vec_capacity};
 ghost use Rattle.lease_client.specs.ClientState.{is_at, holds_at};
-ghost use Rattle.lease_client.specs.Calls.{is_of_held, held_after, WantsMemory};
+ghost use Rattle.lease_client.specs.Calls.{is_of_held, held_after, MayLackMemory};
 ghost use Rattle.lease_client.specs.Replies.{segment_of};
 ghost use Rattle.lease_client.specs.Stored.{room_for};
 
@@ -56,7 +56,7 @@ fn holds(held: &[HeldSegment], release: &ReleaseLine) -> bool
 pub(crate) fn prepare(held: &mut Vec<HeldSegment>, op: &Op) -> Result<(), AllocError>
     ensures ok { OnOk result (held.new.items ≡ held_after op.now held.old.items) }
     ensures room { OnOk result (vec_len held.new + room_for op.now ≤ vec_capacity held.new) }
-    ensures refused { OnErr result (WantsMemory op.now) }
+    ensures refused { OnErr result (MayLackMemory op.now) }
     ensures unchanged { OnErr result (held.new.items ≡ held.old.items) }
     ensures len { vec_len held.new ≤ vec_len held.old }
     ensures capacity { vec_capacity held.old ≤ vec_capacity held.new }

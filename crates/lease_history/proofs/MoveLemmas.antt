@@ -12,7 +12,7 @@ use Rattle.lease_book.proofs.LawProofs.{settled_for_incarnation, numbers_settled
 use Rattle.lease_client.specs.declared.held.HeldSegment.{HeldSegment}
 use Rattle.lease_client.specs.ClientState.{ClientState, is_at}
 use Rattle.lease_client.specs.Calls.{may_restart, after_restart, refusal, after_send, next_id, held_after}
-use Rattle.lease_client.specs.Runs.{Restart, Send, waiting}
+use Rattle.lease_client.specs.Runs.{Restart, Send, waiting_count}
 use Rattle.lease_client.proofs.LawProofs.{moves_keep_sound, moves_in_turn}
 use Rattle.lease_history.specs.Known.{weight_kept, weight_due, IsKnown}
 use Rattle.lease_history.specs.Laws.{MovesKeepKnown}
@@ -46,7 +46,7 @@ known_sent : (names : ℕ → List ℕ) (es : List Entry) (c : ClientState) (op 
     → refusal op c ≡ None → IsKnown names es (after_send op c)
 known_sent names es c op know may =
     let turn = moves_in_turn.send op c may in
-    let idle : waiting c.outstanding ≡ 0 = ap waiting turn.1 in
+    let idle : waiting_count c.outstanding ≡ 0 = ap waiting_count turn.1 in
     let before : last_in c.id c.incarnation es < c.next = know.before in
     let none : outcome_of (next_id c) es ≡ None = numbers_settled_once.unsettled es (next_id c) before in
     record {

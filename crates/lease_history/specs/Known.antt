@@ -14,7 +14,7 @@ use Rattle.lease_book.specs.Account.{Lease}
 use Rattle.lease_book.specs.History.{incarnation, last_in, outcome_of, leases_of}
 use Rattle.lease_client.specs.declared.held.HeldSegment.{HeldSegment}
 use Rattle.lease_client.specs.ClientState.{ClientState, IsSound}
-use Rattle.lease_client.specs.Runs.{waiting}
+use Rattle.lease_client.specs.Runs.{waiting_count}
 
 -- a segment as a client is told of it, where arenas have these names
 abbrev pub told_segment : (ℕ → List ℕ) → Tag → HeldSegment
@@ -53,7 +53,7 @@ pub record IsKnown (names : ℕ → List ℕ) (entries : List Entry) (c : Client
   pub sound : IsSound c
   pub behind : incarnation c.id entries ≤ c.incarnation
   pub before : last_in c.id c.incarnation entries < c.next
-  pub one : c.next ≤ last_in c.id c.incarnation entries + waiting c.outstanding + 1
+  pub one : c.next ≤ last_in c.id c.incarnation entries + waiting_count c.outstanding + 1
   pub held : (f : HeldSegment → ℕ)
       → sum_by f c.held + weight_due names f entries c.outstanding
       ≤ sum_by (weight_in names c.incarnation f) (leases_of c.id entries)

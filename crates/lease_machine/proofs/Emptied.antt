@@ -28,7 +28,7 @@ use Rattle.lease_machine.specs.Serving.{CanServe}
 use Rattle.lease_machine.specs.Replies.{again_of}
 use Rattle.lease_machine.specs.Machine.{LeaseStep, AnswersLine, NewLease, demand_of}
 use Rattle.lease_machine.specs.AnswerLaws.{reply_bytes}
-use Rattle.lease_machine.specs.EmptyingLaws.{HasNoRound, ReapLeavesNone, OfflineHasNoRound, TickAndReapEmpty, AgainMeansRoom}
+use Rattle.lease_machine.specs.EmptyingLaws.{CpuHasNoRound, ReapLeavesNone, OfflineHasNoRound, TickAndReapEmpty, AgainMeansRoom}
 use Rattle.lease_machine.proofs.Fitting.{not_known}
 use Rattle.lease_machine.proofs.FreshCpus.{fresh_cpu_fits}
 use Rattle.lease_machine.proofs.Repeats.{request_answer}
@@ -61,11 +61,11 @@ reap_leaves_none old new text step = (all_reaped old new text step).1.left
 bare_depot : (d : DepotState) → depot_rounds (after_reap (after_tick d)) ≡ []
 bare_depot d = ap (λ (ms : List (List Tag)). all_rounds ms ++ []) (drop-length d.full)
 
-no_rounds : (cpus : List NumberedCpu) → All HasNoRound cpus → all_rounds_out (flat_map caches_of cpus) ≡ []
+no_rounds : (cpus : List NumberedCpu) → All CpuHasNoRound cpus → all_rounds_out (flat_map caches_of cpus) ≡ []
 no_rounds [] none = refl
 no_rounds (c ∷ cpus) none =
-    let first : HasNoRound c = all_at HasNoRound (c ∷ cpus) 0 c none refl in
-    let others : All HasNoRound cpus = all_from HasNoRound cpus (λ k x at. all_at HasNoRound (c ∷ cpus) (suc k) x none at) in
+    let first : CpuHasNoRound c = all_at CpuHasNoRound (c ∷ cpus) 0 c none refl in
+    let others : All CpuHasNoRound cpus = all_from CpuHasNoRound cpus (λ k x at. all_at CpuHasNoRound (c ∷ cpus) (suc k) x none at) in
     flat_map-append own_rounds (caches_of c) (flat_map caches_of cpus) ∙ (ap (λ (ts : List Tag). ts ++ all_rounds_out (flat_map caches_of cpus)) first ∙ no_rounds cpus others)
 
 -- after both lines
@@ -108,10 +108,10 @@ tick_and_reap_empty old mid new told text free none first second =
     }
 
 -- a CPU that is new has no round, and each other is as it was
-renewed_so : (n : ℕ) (spaces : List SpaceState) (all : List NumberedCpu) (k : ℕ) (c x : NumberedCpu) → slice_get all k ≡ Some c → x ≡ after_renewal n spaces c → HasNoRound x ⊎ ((x.number ≢ n) × Contains all x)
+renewed_so : (n : ℕ) (spaces : List SpaceState) (all : List NumberedCpu) (k : ℕ) (c x : NumberedCpu) → slice_get all k ≡ Some c → x ≡ after_renewal n spaces c → CpuHasNoRound x ⊎ ((x.number ≢ n) × Contains all x)
 renewed_so n spaces all k c x at is = by (is_cpu n c) refl
   where
-    by : (b : Bool) → is_cpu n c ≡ b → HasNoRound x ⊎ ((x.number ≢ n) × Contains all x)
+    by : (b : Bool) → is_cpu n c ≡ b → CpuHasNoRound x ⊎ ((x.number ≢ n) × Contains all x)
     by true test =
         let fresh : x ≡ fresh_cpu n spaces = is ∙ ap (λ b. cond b (fresh_cpu n spaces) c) test in
         inl (ap (λ (y : NumberedCpu). all_rounds_out (caches_of y)) fresh ∙ fresh_cpu_fits.none spaces n)
@@ -128,7 +128,7 @@ renewed_so n spaces all k c x at is = by (is_cpu n c) refl
 
 pub offline_has_no_round : OfflineHasNoRound
 offline_has_no_round old new n line text read step = elim (subst (λ x. AnswersLine old x text new) read step.answer) [
-  | inl did ↦ inr (all_from (λ (c : NumberedCpu). HasNoRound c ⊎ ((c.number ≢ n) × Contains old.cpus c)) new.cpus (λ k x at. (
+  | inl did ↦ inr (all_from (λ (c : NumberedCpu). CpuHasNoRound c ⊎ ((c.number ≢ n) × Contains old.cpus c)) new.cpus (λ k x at. (
       let m = mapped (after_renewal n old.spaces) old.cpus k x (ap (λ (cs : List NumberedCpu). slice_get cs k) (sym did.1.cpus) ∙ at) in
       renewed_so n old.spaces old.cpus k m.0 x m.1 m.2
       )))

@@ -1,7 +1,11 @@
 -- What the events of a reaping do to slabs, depots and rovers.
 use Rattle.std.proofs.Common.{◌≡◌, ◌≢◌, ◌⊎◌, ℕ, ◌+◌, ◌-◌, ◌*◌, ◌<◌, ◌≤◌, ◌==◌, zero, suc, All, AllPairs, Bool, true, false, not, cond, List, [], ◌∷◌, ◌++◌, Option, Some, None, Result, Ok, Err, length, set, map, filter, take, drop, get_or, inl, inr, refl, sym, ap, subst, ◌∙◌, arith}
 use Rattle.std.specs.Prelude.{slice_get, sum_by}
+use Rattle.tag_arena.proofs.Allocations.{len_less}
 use Rattle.std.specs.List.{remove}
+use Rattle.std.specs.FinMap.{FinMap}
+use Rattle.std.specs.FinMap as finmap
+use Rattle.std.specs.Ordering.{nat_cmp}
 use Rattle.std.proofs.lemmas.Bool.{cases_order}
 use Rattle.std.proofs.lemmas.Bool.Decides.{Decides-eqb}
 use Rattle.std.proofs.lemmas.List.Sums.{sum_by-cons}
@@ -27,7 +31,7 @@ use Rattle.local_parts.specs.SharedSteps.{DoesFree, DoesPut, DoesReap, DoesDepot
 use Rattle.lease_machine.specs.Moves.{outline_of}
 use Rattle.lease_machine.specs.Operators.{LosesSlabs, LosesSpans, after_reap}
 use Rattle.lease_machine.proofs.DrainLaws.{put_outline}
-use Rattle.lease_machine.proofs.Takings.{Takes, takes_none, cache_takes, arena_takes, loses_none, keeps_spans, span_units, slab_units}
+use Rattle.lease_machine.proofs.Takings.{Takes, takes_none, cache_takes, arena_takes, loses_none, keeps_spans, filter_none, span_units, slab_units}
 
 same_takes : (old new : List SpaceState) → new ≡ old → Takes 0 old new
 same_takes old new same = subst (Takes 0 old) (sym same) (takes_none old)
@@ -42,16 +46,25 @@ free_rover t (Ok back) a b is = leaves_rover a b t.holding is.frees.merged back 
 free_rover t (Err same) a b is = ap (λ (x : ArenaState). x.rover) is.2
 
 -- and the spans that were imported, but for one that goes back
-leaves_spans : (s : SpaceState) (b : ArenaState) (piece merged : Holding) (back : Option Tag) → LeavesFree s.arena piece merged back b → LosesSpans s (with_arena b s)
-leaves_spans s b piece merged None is = keeps_spans s (with_arena b s) (ap (λ (x : ArenaState). x.imported) is.1)
-leaves_spans s b piece merged (Some t) is = record {
+-- what was freed is allocated no more
+fewer : (m : FinMap nat_cmp Holding) (k : ℕ) (h : Holding) → finmap.get m k ≡ Some h → finmap.len (finmap.remove m k) < finmap.len m
+fewer m k h at = omega (arith, len_less m k h at)
+
+leaves_spans : (s : SpaceState) (b : ArenaState) (piece merged : Holding) (back : Option Tag) → finmap.get s.arena.allocated piece.range.base ≡ Some piece → LeavesFree s.arena piece merged back b → LosesSpans s (with_arena b s)
+leaves_spans s b piece merged None at is = record {
+  stays = λ x. true;
+  imported = ap (λ (x : ArenaState). x.imported) is.1 ∙ sym (filter_none s.arena.imported);
+  arena = inr (subst (λ (x : ArenaState). finmap.len x.allocated < finmap.len s.arena.allocated) (sym is.1) (fewer s.arena.allocated piece.range.base piece at));
+}
+leaves_spans s b piece merged (Some t) at is = record {
   stays = λ x. not (x.holding.range.base == merged.range.base);
   imported = ap (λ (x : ArenaState). x.imported) is.2;
+  arena = inr (subst (λ (x : ArenaState). finmap.len x.allocated < finmap.len s.arena.allocated) (sym is.2) (fewer s.arena.allocated piece.range.base piece at));
 }
 
 free_spans : (t : Tag) (r : Result (Option Tag) Tag) (s : SpaceState) (b : ArenaState) → FreeOf s.arena t r b → LosesSpans s (with_arena b s)
-free_spans t (Ok back) s b is = leaves_spans s b t.holding is.frees.merged back is.frees.after
-free_spans t (Err same) s b is = keeps_spans s (with_arena b s) (ap (λ (x : ArenaState). x.imported) is.2)
+free_spans t (Ok back) s b is = leaves_spans s b t.holding is.frees.merged back is.mine.stands is.frees.after
+free_spans t (Err same) s b is = keeps_spans s (with_arena b s) is.2
 
 pub free_takes : (old new : List SpaceState) (t : Tag) (a : Result (Option Tag) (FreeFault Tag)) → DoesFree old t a new → Takes 0 old new
 free_takes old new t a does = elim does.2 [

@@ -166,7 +166,7 @@ reaps_none d = record {
       loses_none c.slab x.slab (ap (λ (z : QuantumCacheState). map outline_of z.slab.slabs) same) (ap (λ (z : QuantumCacheState). record z.slab { slabs = x.slab.slabs }) same)
       );
   rovers = refl;
-  spans = λ k s x at there. (let same : x ≡ s = slice_get_one d.spaces k x s there at in keeps_spans s x (ap (λ (z : SpaceState). z.arena.imported) same));
+  spans = λ k s x at there. (let same : x ≡ s = slice_get_one d.spaces k x s there at in keeps_spans s x (ap (λ (z : SpaceState). z.arena) same));
 }
 
 -- an arena stands where one stood that was seen so

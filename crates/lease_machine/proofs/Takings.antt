@@ -1,7 +1,8 @@
 -- What a step of a reaping does to the arenas: slabs go, depots lose only what may be reaped.
-use Rattle.std.proofs.Common.{◌≡◌, ℕ, ◌+◌, ◌&&◌, zero, suc, Bool, true, false, not, cond, List, [], ◌∷◌, Some, None, length, set, map, filter, inl, inr, refl, sym, ap, subst, ◌∙◌, arith}
+use Rattle.std.proofs.Common.{◌≡◌, ◌⊎◌, ℕ, ◌+◌, ◌<◌, ◌&&◌, zero, suc, Bool, true, false, not, cond, List, [], ◌∷◌, Some, None, length, set, map, filter, inl, inr, refl, sym, ap, subst, ◌∙◌, arith}
 use Rattle.std.specs.Prelude.{slice_get, sum_by}
 use Rattle.std.specs.List.{remove}
+use Rattle.std.specs.FinMap as finmap
 use Rattle.std.proofs.lemmas.List.{map-set}
 use Rattle.std.proofs.lemmas.Option.{slice_get_within}
 use Rattle.deed_core.proofs.LawProofs.{map_set_same, slice_get_mapped, sum_set, written}
@@ -34,7 +35,7 @@ filter_twice f g (x ∷ xs) = by (filter_twice f g xs) (f x) refl
     by rest false is =
         ap (λ c. filter g (cond c (x ∷ filter f xs) (filter f xs))) is ∙ (rest ∙ ap (λ c. cond (c && g x) (x ∷ filter (λ y. f y && g y) xs) (filter (λ y. f y && g y) xs)) (sym is))
 
-filter_none : {X : Type 0} (xs : List X) → filter (λ x. true) xs ≡ xs
+pub filter_none : {X : Type 0} (xs : List X) → filter (λ x. true) xs ≡ xs
 filter_none [] = refl
 filter_none (x ∷ xs) = ap (λ ys. x ∷ ys) (filter_none xs)
 
@@ -48,13 +49,25 @@ loses_then a b c first second = record {
   rest = second.rest ∙ ap (λ (z : SlabCacheState). record z { slabs = c.slabs }) first.rest;
 }
 
-pub keeps_spans : (a b : SpaceState) → b.arena.imported ≡ a.arena.imported → LosesSpans a b
-keeps_spans a b same = record { stays = λ t. true; imported = same ∙ sym (filter_none a.arena.imported) }
+pub keeps_spans : (a b : SpaceState) → b.arena ≡ a.arena → LosesSpans a b
+keeps_spans a b same = record {
+  stays = λ t. true;
+  imported = ap (λ (x : ArenaState). x.imported) same ∙ sym (filter_none a.arena.imported);
+  arena = inl same;
+}
+
+-- as it was, or fewer allocated, one after another
+allocated_then : (a b c : ArenaState) → (b ≡ a) ⊎ (finmap.len b.allocated < finmap.len a.allocated) → (c ≡ b) ⊎ (finmap.len c.allocated < finmap.len b.allocated) → (c ≡ a) ⊎ (finmap.len c.allocated < finmap.len a.allocated)
+allocated_then a b c (inl first) (inl second) = inl (second ∙ first)
+allocated_then a b c (inl first) (inr second) = inr (subst (λ (x : ArenaState). finmap.len c.allocated < finmap.len x.allocated) first second)
+allocated_then a b c (inr first) (inl second) = inr (subst (λ (x : ArenaState). finmap.len x.allocated < finmap.len a.allocated) (sym second) first)
+allocated_then a b c (inr first) (inr second) = inr (omega (arith, first, second))
 
 pub spans_then : (a b c : SpaceState) → LosesSpans a b → LosesSpans b c → LosesSpans a c
 spans_then a b c first second = record {
   stays = λ t. first.stays t && second.stays t;
   imported = second.imported ∙ (ap (filter second.stays) first.imported ∙ filter_twice first.stays second.stays a.arena.imported);
+  arena = allocated_then a.arena b.arena c.arena first.arena second.arena;
 }
 
 -- so many units of slabs were taken out
@@ -122,7 +135,7 @@ module _ (old new : List SpaceState) (k j : ℕ) (space : SpaceState) (c d : Qua
     slabs = one_cache loses;
     rovers = ap (map rover_of) after ∙ map_set_same rover_of old k space (with_cache j d space) at refl;
     spans = λ i x there. elim (written old k i (with_cache j d space) x (ap (λ xs. slice_get xs i) (sym after) ∙ there)) [
-      | inl here ↦ (space, ap (slice_get old) here.0 ∙ at, keeps_spans space x (ap (λ (s : SpaceState). s.arena.imported) here.1))
+      | inl here ↦ (space, ap (slice_get old) here.0 ∙ at, keeps_spans space x (ap (λ (s : SpaceState). s.arena) here.1))
       | inr other ↦ (x, other.1, keeps_spans x x refl)
     ];
   }

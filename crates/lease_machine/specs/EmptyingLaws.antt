@@ -21,8 +21,8 @@ use Rattle.lease_machine.specs.AnswerLaws.{reply_bytes, IsRequestLine}
 use Rattle.lease_machine.specs.RoomLaws.{NothingIsKept}
 
 -- the magazines of the CPU are empty
-abbrev pub HasNoRound : NumberedCpu → Type 0
-HasNoRound c = all_rounds_out (caches_of c) ≡ []
+abbrev pub CpuHasNoRound : NumberedCpu → Type 0
+CpuHasNoRound c = all_rounds_out (caches_of c) ≡ []
 
 -- the line `reap`, whatever it is answered, leaves no round that may be reaped, and no complete
 -- slab
@@ -36,12 +36,12 @@ abbrev pub OfflineHasNoRound : Type 0
 OfflineHasNoRound = (old new : Picture) (n : ℕ) (line text : List ℕ)
     → served_of line ≡ Ok (served.Operator (operator.Offline n)) → LeaseStep old line text new
     → (text ≡ error_text Memory)
-    ⊎ All (λ c. HasNoRound c ⊎ ((c.number ≢ n) × Contains old.cpus c)) new.cpus
+    ⊎ All (λ c. CpuHasNoRound c ⊎ ((c.number ≢ n) × Contains old.cpus c)) new.cpus
 
 -- where nothing is leased and no CPU has a round, `tick` and then `reap` leave nothing kept
 abbrev pub TickAndReapEmpty : Type 0
 TickAndReapEmpty = (old mid new : Picture) (told text : List ℕ) → leased_segments old.book ≡ []
-    → All HasNoRound old.cpus → LeaseStep old (codes "tick") told mid
+    → All CpuHasNoRound old.cpus → LeaseStep old (codes "tick") told mid
     → LeaseStep mid (codes "reap") text new → NothingIsKept new
 
 -- a lease of a new number is answered `again` only where something serves it

@@ -3,6 +3,7 @@ use Rattle.std.specs.Prelude.{◌≡◌, ◌≢◌, ◌⊎◌, ℕ, ◌+◌, ◌
 use Rattle.std.specs.Prelude.{Any, false, map, filter, drop, set}
 use Rattle.std.specs.Prelude.{nat_lt, if◌then◌else◌, sum_by, slice_get, Some, None}
 use Rattle.std.specs.List.{find, flat_map, list_any}
+use Rattle.std.specs.FinMap as finmap
 use Rattle.deed_core.specs.Tag.{Tag}
 use Rattle.slab_layer.specs.Slab.{SlabState, IsComplete}
 use Rattle.slab_layer.specs.Cache.{SlabCacheState}
@@ -110,10 +111,13 @@ pub record LosesSlabs (old new : SlabCacheState) : Type 0 where
 abbrev pub rover_of : SpaceState → ℕ
 rover_of s = s.arena.rover
 
--- some of the spans that the arena imported went back to its source, and none came
+-- some of the spans that the arena imported went back to its source, and none came; and it is as it
+-- was, or has fewer segments allocated
 pub record LosesSpans (old new : SpaceState) : Type 0 where
   pub stays : Tag → Bool
   pub imported : new.arena.imported ≡ filter stays old.arena.imported
+  pub arena : (new.arena ≡ old.arena)
+      ⊎ (finmap.len new.arena.allocated < finmap.len old.arena.allocated)
 
 -- so many units, of whole slabs, went from the caches to their arenas, which import nothing for it
 -- and search on from where they did, and nothing is left to reap

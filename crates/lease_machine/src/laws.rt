@@ -53,7 +53,7 @@ pub fn repeat_laws()
 /// that is kept fits what it was made for.
 pub fn grant_laws()
     ensures fits { GrantsFit }
-    ensures kept { KeptGrantsFit }
+    ensures kept_grants { KeptGrantsFit }
     ensures repeats { RepeatsFit }
     ensures reachable { GrantsWereReachable }
 {}

@@ -9,7 +9,7 @@ use Rattle.lease_proto.specs.declared.limits.TheConstants.{LONGEST_LINE}
 use Rattle.lease_proto.specs.Frames.{IsOneLine, IsWholeLine}
 use Rattle.lease_proto.specs.Words.{is_sentence, parts_of}
 use Rattle.lease_proto.specs.Values.{words_of}
-use Rattle.lease_proto.specs.Texts.{spaced}
+use Rattle.lease_proto.specs.Texts.{spaced_text}
 use Rattle.lease_proto.proofs.ReadLemmas.{join_with_byte-sentence}
 
 no_line_feed : (b : ℕ) → is_word_byte b ≡ true → b ≢ 10
@@ -28,18 +28,18 @@ one_of_both : (xs ys : List ℕ) → IsOneLine xs → IsOneLine ys → IsOneLine
 one_of_both [] ys one more = more
 one_of_both (x ∷ xs) ys one more = (one.0, one_of_both xs ys one.1 more)
 
-one_of_spaced : (words : List (List ℕ)) → list_all is_word words ≡ true → IsOneLine (spaced words)
+one_of_spaced : (words : List (List ℕ)) → list_all is_word words ≡ true → IsOneLine (spaced_text words)
 one_of_spaced [] all = tt
 one_of_spaced (word ∷ words) all =
     let parts = and_parts (is_word word) (list_all is_word words) all in
-    (λ is. absurd (cc), one_of_both word (spaced words) (one_of_word word parts.0) (one_of_spaced words parts.1))
+    (λ is. absurd (cc), one_of_both word (spaced_text words) (one_of_word word parts.0) (one_of_spaced words parts.1))
 
 one_of_words : (words : List (List ℕ)) → list_all is_word words ≡ true → IsOneLine (join_with_byte 32 words)
 one_of_words [] all = tt
 one_of_words (first ∷ words) all =
     let parts = and_parts (is_word first) (list_all is_word words) all in
     subst IsOneLine (sym (join_with_byte-sentence first words))
-    (one_of_both first (spaced words) (one_of_word first parts.0) (one_of_spaced words parts.1))
+    (one_of_both first (spaced_text words) (one_of_word first parts.0) (one_of_spaced words parts.1))
 
 pub words_are_whole : (bytes : List ℕ) (words : List (List ℕ)) → words_of bytes ≡ Ok words → IsWholeLine bytes
 words_are_whole bytes words e = elim (cases_Bool (nat_lt LONGEST_LINE (length bytes))) [

@@ -20,7 +20,7 @@ use Rattle.lease_proto.specs.declared.limits.TheConstants.{LONGEST_LINE}
 use Rattle.lease_proto.specs.Words.{is_sentence}
 use Rattle.lease_proto.specs.Values.{◌>>=◌, words_of}
 use Rattle.lease_proto.specs.Grammar.{line_of, line_in, line_of_first, hello_in, lease_in, release_in, id_at, option_at, quantity_or, end_at}
-use Rattle.lease_proto.specs.Texts.{id_words, option_words, options_of, options_words, op_words, op_word, words_after, first_word, sentence, spaced, IsLine, IsOp, AreOptions, AsksFor, GivesOptions, MayFollow, IsTextOf, LinesAreTexts, LineIsRead, WrittenLineIsWhole, text_of}
+use Rattle.lease_proto.specs.Texts.{id_words, option_words, options_of, options_words, op_words, op_word, words_after, first_word, sentence, spaced_text, IsLine, IsOp, AreOptions, AsksFor, GivesOptions, MayFollow, IsTextOf, LinesAreTexts, LineIsRead, WrittenLineIsWhole, text_of}
 use Rattle.lease_proto.proofs.FramedLemmas.{words_are_whole}
 use Rattle.lease_proto.proofs.ReadLemmas.{step, told, words_step, word_step, name_step, end_step, client_step, ordinal_step, quantity_step, quantity_says, id_at_step, id_step, join_with_byte-sentence}
 use Rattle.lease_proto.proofs.GrammarLemmas.{client_again, ordinal_again, quantity_again, id_again, decimal_word, id_are_words, decimal_short, id_short, name_short, parts_of-sentence}
@@ -118,7 +118,7 @@ abbrev room : List (List ℕ × ℕ × ℕ) → ℕ
 room [] = 0
 room (o ∷ options) = length o.0 + 21 + room options
 
-options_short : (options : List (List ℕ × ℕ × ℕ)) (words : List (List ℕ)) → AllFit options → GivesOptions options words → length (spaced words) ≤ room options
+options_short : (options : List (List ℕ × ℕ × ℕ)) (words : List (List ℕ)) → AllFit options → GivesOptions options words → length (spaced_text words) ≤ room options
 options_short [] words fit is = rw is (omega arith)
 options_short ((key, default, value) ∷ options) words fit (inl (rest, is, given)) =
     let digits = decimal_short 19 value (omega arith) (let low = fit.0 in omega arith) fit.0 in
@@ -129,7 +129,7 @@ options_short ((key, default, value) ∷ options) words fit (inr (is, given)) =
     omega arith
 
 -- the most bytes that what is asked for takes
-op_short : (op : Op) (rest : List (List ℕ)) → IsOp op → AsksFor op rest → length (op_word op) + length (spaced rest) ≤ LONGEST_NAME + 160
+op_short : (op : Op) (rest : List (List ℕ)) → IsOp op → AsksFor op rest → length (op_word op) + length (spaced_text rest) ≤ LONGEST_NAME + 160
 op_short (Release r) rest is may =
     let a = name_short r.arena is.0 in
     let b = decimal_short 19 r.base (omega arith) (omega arith) is.1 in

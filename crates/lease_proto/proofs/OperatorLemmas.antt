@@ -19,7 +19,7 @@ use Rattle.lease_proto.specs.Words.{number_in, is_sentence}
 use Rattle.lease_proto.specs.Cpus.{IsCpu, cpu_in}
 use Rattle.lease_proto.specs.Values.{◌>>=◌, words_of}
 use Rattle.lease_proto.specs.Grammar.{end_at, line_of, line_in, line_of_first}
-use Rattle.lease_proto.specs.Texts.{first_word, sentence, spaced}
+use Rattle.lease_proto.specs.Texts.{first_word, sentence, spaced_text}
 use Rattle.lease_proto.specs.Operators.{cpu_line_in, size_in, size_word, resize_in, alone_in, operator_in, is_operator_word, operator_word, operator_words, operator_text, IsOperator, served_of, served_in, ClientsAreServed, OperatorsAreServed}
 use Rattle.lease_proto.proofs.WordLemmas.{numbers}
 use Rattle.lease_proto.proofs.ReadLemmas.{step, told, named, number_within_says, word_step, end_step, name_step, words_says, join_with_byte-sentence}

@@ -58,12 +58,12 @@ first_word (lines.Hello h) = codes "hello"
 first_word (lines.Request id op) = op_word op
 
 -- words, each with a space before it
-abbrev pub spaced : List (List ℕ) → List ℕ
-spaced words = flat_map (λ word. 32 ∷ word) words
+abbrev pub spaced_text : List (List ℕ) → List ℕ
+spaced_text words = flat_map (λ word. 32 ∷ word) words
 
 -- words with one space between them
 abbrev pub sentence : List ℕ → List (List ℕ) → List ℕ
-sentence first words = first ++ spaced words
+sentence first words = first ++ spaced_text words
 
 -- the bytes of a line
 abbrev pub text_of : Line → List ℕ

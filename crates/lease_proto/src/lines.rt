@@ -7,7 +7,7 @@ ghost use Rattle.lease_proto.specs.Requests.{client_of, incarnation_of, request_
 ghost use Rattle.lease_proto.specs.declared.lines.TheConstants.{OPTIONS_ROOM};
 ghost use Rattle.lease_proto.specs.declared.writing.TheConstants.{NUMBER_ROOM, NAME_ROOM};
 ghost use Rattle.lease_proto.specs.Texts.{text_of, first_word, op_word, hello_words, lease_words};
-ghost use Rattle.lease_proto.specs.Texts.{options_words, release_words, spaced, LinesAreTexts};
+ghost use Rattle.lease_proto.specs.Texts.{options_words, release_words, spaced_text, LinesAreTexts};
 ghost use Rattle.lease_proto.specs.Texts.{LineIsRead, WrittenLineIsWhole, AreOptions, IsOp, IsLine};
 ghost use Rattle.std.specs.List.{flat_map};
 ghost use Rattle.std.specs.Vec.{vec_capacity};
@@ -62,7 +62,7 @@ impl LeaseOptions {
 
     fn push(&self, out: &mut Vec<u8>)
         requires { vec_len out.old + OPTIONS_ROOM ≤ vec_capacity out.old }
-        ensures text { out.new.items ≡ out.old.items ++ spaced (options_words self.now) }
+        ensures text { out.new.items ≡ out.old.items ++ spaced_text (options_words self.now) }
         ensures len { vec_len out.new ≤ vec_len out.old + OPTIONS_ROOM }
         ensures capacity { vec_capacity out.old ≤ vec_capacity out.new }
     {
@@ -97,7 +97,7 @@ impl HelloLine {
 
     fn push(&self, out: &mut Vec<u8>)
         requires { vec_len out.old + 2 * NUMBER_ROOM ≤ vec_capacity out.old }
-        ensures text { out.new.items ≡ out.old.items ++ spaced (hello_words self.now) }
+        ensures text { out.new.items ≡ out.old.items ++ spaced_text (hello_words self.now) }
         ensures len { vec_len out.new ≤ vec_len out.old + 2 * NUMBER_ROOM }
         ensures capacity { vec_capacity out.old ≤ vec_capacity out.new }
     {
@@ -146,7 +146,7 @@ impl LeaseLine {
     fn push(&self, out: &mut Vec<u8>)
         requires { vec_len out.old + (NAME_ROOM + NUMBER_ROOM + OPTIONS_ROOM)
             ≤ vec_capacity out.old }
-        ensures text { out.new.items ≡ out.old.items ++ spaced (lease_words self.now) }
+        ensures text { out.new.items ≡ out.old.items ++ spaced_text (lease_words self.now) }
         ensures len { vec_len out.new ≤ vec_len out.old + (NAME_ROOM + NUMBER_ROOM + OPTIONS_ROOM) }
         ensures capacity { vec_capacity out.old ≤ vec_capacity out.new }
     {
@@ -182,7 +182,7 @@ impl ReleaseLine {
 
     fn push(&self, out: &mut Vec<u8>)
         requires { vec_len out.old + (NAME_ROOM + NUMBER_ROOM) ≤ vec_capacity out.old }
-        ensures text { out.new.items ≡ out.old.items ++ spaced (release_words self.now) }
+        ensures text { out.new.items ≡ out.old.items ++ spaced_text (release_words self.now) }
         ensures len { vec_len out.new ≤ vec_len out.old + (NAME_ROOM + NUMBER_ROOM) }
         ensures capacity { vec_capacity out.old ≤ vec_capacity out.new }
     {

@@ -14,7 +14,7 @@ ghost use Rattle.lease_proto.specs.Requests.{again_request};
 ghost use Rattle.std.specs.Vec.{vec_capacity};
 ghost use Rattle.lease_proto.specs.declared.limits.TheConstants.{LINE_ROOM};
 ghost use Rattle.lease_proto.specs.declared.writing.TheConstants.{NUMBER_ROOM, ID_ROOM, NAME_ROOM};
-ghost use Rattle.lease_proto.specs.Texts.{spaced};
+ghost use Rattle.lease_proto.specs.Texts.{spaced_text};
 
 use crate::faults::{ErrorWord, LineFault};
 use crate::ids::IdWords;
@@ -82,7 +82,7 @@ impl Welcome {
 
     fn push(&self, out: &mut Vec<u8>)
         requires { vec_len out.old + 2 * NUMBER_ROOM ≤ vec_capacity out.old }
-        ensures text { out.new.items ≡ out.old.items ++ spaced (welcome_words self.now) }
+        ensures text { out.new.items ≡ out.old.items ++ spaced_text (welcome_words self.now) }
         ensures len { vec_len out.new ≤ vec_len out.old + 2 * NUMBER_ROOM }
         ensures capacity { vec_capacity out.old ≤ vec_capacity out.new }
     {
@@ -121,7 +121,7 @@ impl Granted {
     fn push(&self, out: &mut Vec<u8>)
         requires { vec_len out.old + (ID_ROOM + NAME_ROOM + 2 * NUMBER_ROOM)
             ≤ vec_capacity out.old }
-        ensures text { out.new.items ≡ out.old.items ++ spaced (granted_words self.now) }
+        ensures text { out.new.items ≡ out.old.items ++ spaced_text (granted_words self.now) }
         ensures len { vec_len out.new ≤ vec_len out.old + (ID_ROOM + NAME_ROOM + 2 * NUMBER_ROOM) }
         ensures capacity { vec_capacity out.old ≤ vec_capacity out.new }
     {
@@ -155,7 +155,7 @@ impl Refused {
 
     fn push(&self, out: &mut Vec<u8>)
         requires { vec_len out.old + (ID_ROOM + 11) ≤ vec_capacity out.old }
-        ensures text { out.new.items ≡ out.old.items ++ spaced (refused_words self.now) }
+        ensures text { out.new.items ≡ out.old.items ++ spaced_text (refused_words self.now) }
         ensures len { vec_len out.new ≤ vec_len out.old + (ID_ROOM + 11) }
         ensures capacity { vec_capacity out.old ≤ vec_capacity out.new }
     {
@@ -187,7 +187,7 @@ impl Old {
 
     fn push(&self, out: &mut Vec<u8>)
         requires { vec_len out.old + 2 * NUMBER_ROOM ≤ vec_capacity out.old }
-        ensures text { out.new.items ≡ out.old.items ++ spaced (old_words self.now) }
+        ensures text { out.new.items ≡ out.old.items ++ spaced_text (old_words self.now) }
         ensures len { vec_len out.new ≤ vec_len out.old + 2 * NUMBER_ROOM }
         ensures capacity { vec_capacity out.old ≤ vec_capacity out.new }
     {
@@ -220,7 +220,7 @@ impl OutOfTurn {
 
     fn push(&self, out: &mut Vec<u8>)
         requires { vec_len out.old + (ID_ROOM + NUMBER_ROOM) ≤ vec_capacity out.old }
-        ensures text { out.new.items ≡ out.old.items ++ spaced (out_of_turn_words self.now) }
+        ensures text { out.new.items ≡ out.old.items ++ spaced_text (out_of_turn_words self.now) }
         ensures len { vec_len out.new ≤ vec_len out.old + (ID_ROOM + NUMBER_ROOM) }
         ensures capacity { vec_capacity out.old ≤ vec_capacity out.new }
     {
@@ -255,7 +255,7 @@ impl Again {
 
     fn push(&self, out: &mut Vec<u8>)
         requires { vec_len out.old + 3 * NUMBER_ROOM ≤ vec_capacity out.old }
-        ensures text { out.new.items ≡ out.old.items ++ spaced (again_words self.now) }
+        ensures text { out.new.items ≡ out.old.items ++ spaced_text (again_words self.now) }
         ensures len { vec_len out.new ≤ vec_len out.old + 3 * NUMBER_ROOM }
         ensures capacity { vec_capacity out.old ≤ vec_capacity out.new }
     {

@@ -3,7 +3,7 @@ ghost use Rattle.std.specs.Prelude.{◌≡◌, ◌≤◌, ◌+◌, ◌∷◌, �
 ghost use Rattle.std.specs.List.{flat_map};
 ghost use Rattle.std.specs.Vec.{vec_capacity};
 ghost use Rattle.lease_proto.specs.declared.writing.TheConstants.{NUMBER_ROOM, ID_ROOM, NAME_ROOM};
-ghost use Rattle.lease_proto.specs.Texts.{option_words, id_words, spaced};
+ghost use Rattle.lease_proto.specs.Texts.{option_words, id_words, spaced_text};
 
 use itoa::Buffer;
 use lease_terms::{LONGEST_NAME, Name, Quantity, RequestId};
@@ -65,7 +65,7 @@ pub fn push_number(out: &mut Vec<u8>, number: u64)
 /// A request's id: a space and a number, three times.
 pub fn push_id(out: &mut Vec<u8>, id: RequestId)
     requires { vec_len out.old + ID_ROOM ≤ vec_capacity out.old }
-    ensures text { out.new.items ≡ out.old.items ++ spaced (id_words id) }
+    ensures text { out.new.items ≡ out.old.items ++ spaced_text (id_words id) }
     ensures len { vec_len out.new ≤ vec_len out.old + ID_ROOM }
     ensures capacity { vec_capacity out.old ≤ vec_capacity out.new }
 {

@@ -1,8 +1,9 @@
 //! The CPU of a worker.
 ghost use Rattle.std.specs.Prelude.{◌≡◌, ◌-◌, ◌^◌, ◌≤◌, ◌↔◌, All, Some, None, min};
-ghost use Rattle.std.specs.Prelude.{IfOk, IfSome, IsTrue};
+ghost use Rattle.std.specs.Prelude.{map, IfOk, IfSome, IsTrue};
 ghost use Rattle.magazine_layer.specs.Magazines.{BothEmpty};
 ghost use Rattle.lease_proto.specs.declared.limits.TheConstants.{MOST_CPUS};
+ghost use Rattle.locked_parts.specs.Kinds.{kinds_of};
 ghost use Rattle.lease_threads.specs.Systems.{cpu_units};
 
 use crate::systems::System;
@@ -39,6 +40,8 @@ impl<N: Name> Cpu<N> {
         ensures empty { IfOk result (λ cpu. IfSome cpu (λ c. c.hand ≡ None)) }
         ensures no_round { IfOk result (λ cpu. IfSome cpu
             (λ c. All (λ r. BothEmpty r.cpu) c.caches)) }
+        ensures magazines { IfOk result (λ cpu. IfSome cpu
+            (λ c. map (λ r. r.kind) c.caches ≡ kinds_of system.now.arenas)) }
     {
         if number >= MOST_CPUS {
             return Ok(None);

@@ -1,5 +1,6 @@
 -- Rounds stay chunks of their quantum cache.
-use Rattle.std.proofs.Common.{◌≡◌, List, [], ◌∷◌, ◌++◌, All, Option, Some, None, IfSome}
+use Rattle.std.proofs.Common.{◌≡◌, ◌∙◌, List, [], ◌∷◌, ◌++◌, All, map, ap, Option, Some, None, IfSome}
+use Rattle.std.proofs.lemmas.List.{map-append, append_assoc}
 use Rattle.std.specs.Option.{option_to_list}
 use Rattle.std.proofs.lemmas.List.Elements.{All-append, All-cons, All-nil, All-head, All-tail, All-same, All-push}
 use Rattle.deed_core.specs.Tag.{Tag}
@@ -48,3 +49,8 @@ module _ (P : Tag → Type 0) where
 -- one more is such
 pub all_pushed : {X : Type 0} (P : X → Type 0) (old mid new : List X) (x : X) → mid ≡ old → new ≡ mid ++ x ∷ [] → All P old → P x → All P new
 all_pushed P old mid new x same more all is = All-same P new (mid ++ x ∷ []) more (All-push P mid x (All-same P mid old same all) is)
+
+-- and its key comes last
+pub keys_pushed : {X K : Type 0} (f : X → K) (old mid new : List X) (x : X) (first last : List K) (k : K) → mid ≡ old → new ≡ mid ++ x ∷ [] → map f old ≡ first ++ last → f x ≡ k → map f new ≡ first ++ (last ++ k ∷ [])
+keys_pushed f old mid new x first last k same more was is =
+    ap (λ xs. map f xs) (more ∙ ap (λ xs. xs ++ x ∷ []) same) ∙ map-append f old (x ∷ []) ∙ ap (λ ks. ks ++ f x ∷ []) was ∙ ap (λ y. (first ++ last) ++ y ∷ []) is ∙ append_assoc first last (k ∷ [])

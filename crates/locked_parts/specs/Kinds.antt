@@ -1,6 +1,9 @@
 -- Quantum caches, and what a contract sees of a CPU's magazines and of a depot with theirs.
-use Rattle.std.specs.Prelude.{◌≡◌, ℕ, ◌*◌, ◌/◌, ◌<◌, List, All, length, sum_by, min}
+use Rattle.std.specs.Prelude.{◌≡◌, ℕ, zero, suc, ◌*◌, ◌/◌, ◌<◌, List, [], ◌∷◌, ◌++◌, All, length}
+use Rattle.std.specs.Prelude.{sum_by, min}
 use Rattle.std.specs.Prelude.{Option, Some, None, slice_get}
+use Rattle.arena_tree.specs.Chains.{quantum_in}
+use Rattle.arena_tree.specs.Trees.{nodes_of}
 use Rattle.arena_tree.specs.declared.trees.TreeArena.{TreeArena}
 use Rattle.deed_core.specs.Tag.{Tag}
 use Rattle.deed_core.specs.declared.segments.Route.TheVariants.{Cached}
@@ -48,3 +51,19 @@ caches_if (Some x) = min (x.qcache_max / x.quantum) 255
 
 abbrev pub count_of_caches : List TreeArena → ℕ → ℕ
 count_of_caches arenas id = caches_if (slice_get arenas id)
+
+-- the quantum caches of an arena with this quantum: that of one quantum, of two, and so on
+abbrev pub kinds_up_to : (arena quantum count : ℕ) → List CacheKind
+kinds_up_to arena quantum zero = []
+kinds_up_to arena quantum (suc n) = kinds_up_to arena quantum n
+    ++ record { arena = arena; number = suc n; quantum = quantum } ∷ []
+
+-- those of the first arenas, so many
+abbrev pub kinds_of_first : List TreeArena → ℕ → List CacheKind
+kinds_of_first arenas zero = []
+kinds_of_first arenas (suc n) = kinds_of_first arenas n
+    ++ kinds_up_to n (quantum_in (nodes_of arenas) n) (count_of_caches arenas n)
+
+-- those of all arenas, in their order
+abbrev pub kinds_of : List TreeArena → List CacheKind
+kinds_of arenas = kinds_of_first arenas (length arenas)

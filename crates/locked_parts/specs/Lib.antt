@@ -1,5 +1,6 @@
 pub mod Gates
 pub mod Kinds
+pub mod News
 pub mod Swaps
 pub mod Walks
 pub mod States

@@ -24,15 +24,15 @@ pub record Exchanges (P : CpuCacheState → DepotState → CpuCacheState → Dep
 -- the magazines that a CPU has for this cache of an arena, and no others, changed so with a depot
 pub record ExchangesIn (P : CpuCacheState → DepotState → CpuCacheState → DepotState → Type 0)
     (arena cache : ℕ) (old new : List KindRoundsState) : Type 0 where
-  pub place : ℕ
+  pub index : ℕ
   pub own : KindRoundsState
   pub after : KindRoundsState
   pub depot : KindDepotState
   pub depot_after : KindDepotState
-  pub stands : slice_get old place ≡ Some own
+  pub stands : slice_get old index ≡ Some own
   pub of_cache : (own.kind.arena ≡ arena) × (own.kind.number ≡ cache)
   pub does : Exchanges P own depot after depot_after
-  pub rest : new ≡ slice_set old place after
+  pub rest : new ≡ slice_set old index after
 
 -- neither changed
 abbrev pub NoExchange : KindRoundsState → KindDepotState → KindRoundsState → KindDepotState → Type 0

@@ -2,6 +2,8 @@
 ghost use Rattle.std.specs.Prelude.{◌≡◌, ◌+◌, ◌-◌, ◌<◌, ◌≤◌, [], ◌∷◌, length, IfOk, IfErr, OnOk};
 ghost use Rattle.std.specs.Option.{option_map, option_to_list};
 ghost use Rattle.arena_tree.specs.declared.limits.TheConstants.{MOST_SPANS};
+ghost use Rattle.tag_arena.specs.Outcomes.{KeepsSetup};
+ghost use Rattle.locked_parts.specs.News.{IsArenaOf};
 
 use crate::arena_parts::ArenaPart;
 use crate::kinds::cache_count;
@@ -144,6 +146,7 @@ fn own<N: Name>(
     ensures owned { IfOk result (λ r. r.0.owned ≡ option_to_list r.1) }
     ensures free { IfOk result (λ r. r.0.free ≡ option_to_list r.1) }
     ensures imported { IfOk result (λ r. r.0.imported ≡ []) }
+    ensures set_up { IfOk result (λ r. IsArenaOf tree.now id r.0) }
 {
     let TreeArena {
         quantum,
@@ -178,6 +181,7 @@ fn add_span<N: Name>(
     ensures owned { IfOk result (λ a. a.owned ≡ deed ∷ []) }
     ensures free { IfOk result (λ a. a.free ≡ deed ∷ []) }
     ensures imported { IfOk result (λ a. a.imported ≡ []) }
+    ensures kept { IfOk result (KeepsSetup arena) }
     ensures handed_back { IfErr result (λ same. same ≡ deed) }
 {
     let Err(fault) = arena.add_span(deed) else {

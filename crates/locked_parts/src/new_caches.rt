@@ -1,6 +1,10 @@
 //! Quantum caches as they are made, before they are put under their locks.
-ghost use Rattle.std.specs.Prelude.{◌≡◌, ◌+◌, ◌<◌, ◌≤◌, length, vec_len, vec_capacity};
-ghost use Rattle.locked_parts.specs.Kinds.{count_of_caches};
+ghost use Rattle.std.specs.Prelude.{◌≡◌, ◌+◌, ◌<◌, ◌≤◌, ◌++◌, All, length, map};
+ghost use Rattle.std.specs.Prelude.{vec_len, vec_capacity};
+ghost use Rattle.arena_tree.specs.Chains.{quantum_in};
+ghost use Rattle.arena_tree.specs.Trees.{nodes_of};
+ghost use Rattle.locked_parts.specs.Kinds.{count_of_caches, kinds_up_to};
+ghost use Rattle.locked_parts.specs.News.{HasSlabsOf};
 
 use crate::cpu_rounds::FIRST_SIZE;
 use crate::kind_depots::KindDepot;
@@ -23,13 +27,15 @@ impl<N: Name> Model for NewCache<N> {
     ghost use Rattle.std.specs.Prelude.{◌≡◌, []};
     ghost use Rattle.slab_layer.specs.Cache.{deeds_of};
     ghost use Rattle.magazine_layer.specs.Depots.{depot_rounds};
-    ghost use Rattle.locked_parts.specs.declared.kinds.CacheKind.{CacheKind};
+    ghost use Rattle.locked_parts.specs.Kinds.{AreSlabsOf};
+    ghost use Rattle.locked_parts.specs.News.{NewCacheState};
 
-    ghost Value = { CacheKind };
+    ghost Value = { NewCacheState };
 
-    ghost view = { λ c. c.depot.kind };
+    ghost view = { λ c. record { kind = c.depot.kind; slab_size = c.slab.slab_size } };
 
-    ghost invariant = { λ c. (deeds_of c.slab ≡ []) × (depot_rounds c.depot.depot ≡ []) };
+    ghost invariant = { λ c. (deeds_of c.slab ≡ []) × (depot_rounds c.depot.depot ≡ [])
+        × AreSlabsOf c.depot.kind c.slab };
 }
 
 impl<N: Name> NewCache<N> {
@@ -58,6 +64,12 @@ impl<N: Name> NewCache<N> {
 fn new_cache<N: Name>(alloc: Global, tree: &Tree, arena: u32, number: u8) -> NewCache<N>
     requires within { arena < length tree.now }
     requires number { (1 ≤ number) × (number ≤ count_of_caches tree.now arena) }
+    ensures kind { result.kind ≡ record {
+      arena = arena;
+      number = number;
+      quantum = quantum_in (nodes_of tree.now) arena;
+    } }
+    ensures slabs { HasSlabsOf tree.now arena result }
 {
     let TreeArena {
         quantum,
@@ -86,10 +98,14 @@ pub(crate) fn add_caches<N: Name>(
     requires within { arena < length tree.now }
     requires count { count ≡ count_of_caches tree.now arena }
     requires room { vec_len caches.old + count ≤ vec_capacity caches.old }
-    ensures { vec_len caches.new ≡ vec_len caches.old + count }
+    ensures count { vec_len caches.new ≡ vec_len caches.old + count }
+    ensures kinds { map (λ c. c.kind) caches.new.items ≡ map (λ c. c.kind) caches.old.items
+        ++ kinds_up_to arena (quantum_in (nodes_of tree.now) arena) count }
+    ensures slabs { All (HasSlabsOf tree.now arena) caches.old.items
+        → All (HasSlabsOf tree.now arena) caches.new.items }
 {
-    for number in 1..=count {
-        caches.push_reserved(new_cache(alloc, tree, arena, number));
+    for before in 0..count {
+        caches.push_reserved(new_cache(alloc, tree, arena, before + 1));
     }
 }
 

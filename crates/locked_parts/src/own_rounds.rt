@@ -1,6 +1,9 @@
 //! All magazines of one CPU.
-ghost use Rattle.std.specs.Prelude.{◌≡◌, ◌<◌, All, length, IfOk};
+ghost use Rattle.std.specs.Prelude.{◌≡◌, ◌<◌, ◌++◌, All, length, map, IfOk, OnOk};
+ghost use Rattle.arena_tree.specs.Chains.{quantum_in};
+ghost use Rattle.arena_tree.specs.Trees.{nodes_of};
 ghost use Rattle.magazine_layer.specs.Magazines.{BothEmpty};
+ghost use Rattle.locked_parts.specs.Kinds.{kinds_of, kinds_up_to, count_of_caches};
 
 use crate::cpu_rounds::KindRounds;
 use crate::kinds::{CacheKind, cache_count, quantum_of};
@@ -13,7 +16,8 @@ pub fn new_rounds<N: Name>(
     alloc: Global,
     tree: &Tree,
 ) -> Result<Vec<KindRounds<SeatDeed<N>>>, AllocError>
-    ensures { IfOk result (λ caches. All (λ r. BothEmpty r.cpu) caches.items) }
+    ensures empty { IfOk result (λ caches. All (λ r. BothEmpty r.cpu) caches.items) }
+    ensures kinds { IfOk result (λ caches. map (λ r. r.kind) caches.items ≡ kinds_of tree.now) }
 {
     let mut caches = Vec::new(alloc);
     match fill(alloc, tree, &mut caches) {
@@ -32,7 +36,9 @@ fn fill<N: Name>(
     caches: &mut Vec<KindRounds<SeatDeed<N>>>,
 ) -> Result<(), AllocError>
     requires { All (λ r. BothEmpty r.cpu) caches.old.items }
-    ensures { All (λ r. BothEmpty r.cpu) caches.new.items }
+    ensures empty { All (λ r. BothEmpty r.cpu) caches.new.items }
+    ensures kinds { OnOk result (map (λ r. r.kind) caches.new.items
+        ≡ map (λ r. r.kind) caches.old.items ++ kinds_of tree.now) }
 {
     for arena in 0..tree.len() as u32 {
         fill_arena(alloc, tree, arena, caches)?;
@@ -48,16 +54,20 @@ fn fill_arena<N: Name>(
 ) -> Result<(), AllocError>
     requires within { arena < length tree.now }
     requires empty { All (λ r. BothEmpty r.cpu) caches.old.items }
-    ensures { All (λ r. BothEmpty r.cpu) caches.new.items }
+    ensures empty { All (λ r. BothEmpty r.cpu) caches.new.items }
+    ensures kinds { OnOk result (map (λ r. r.kind) caches.new.items
+        ≡ map (λ r. r.kind) caches.old.items
+        ++ kinds_up_to arena (quantum_in (nodes_of tree.now) arena)
+        (count_of_caches tree.now arena)) }
 {
     let quantum = quantum_of(tree, arena);
-    for number in 1..=cache_count(tree, arena) {
+    for before in 0..cache_count(tree, arena) {
         caches.reserve(1)?;
         let own = KindRounds::new(
             alloc,
             CacheKind {
                 arena,
-                number,
+                number: before + 1,
                 quantum,
             },
         )?;

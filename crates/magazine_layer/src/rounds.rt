@@ -221,8 +221,8 @@ pub fn run_rounds<D: Deed>(
         r.answers.items (cpu_depot cpu.new depot.new) r.exchanges) }
     ensures counts { IfOk result (λ r. (vec_len r.answers ≡ vec_len ops)
         × (r.exchanges ≤ 1 + vec_len ops / depot.old.size)) }
-    ensures handed_back { IfErr result (λ back.
-        (back ≡ ops) × (cpu.new ≡ cpu.old) × (depot.new ≡ depot.old)) }
+    ensures handed_back { IfErr result (λ back. back ≡ ops) }
+    ensures unchanged { OnErr result ((cpu.new ≡ cpu.old) × (depot.new ≡ depot.old)) }
     // what follows
     ensures weights { IfOk result
         (λ r. WeighSame (both_rounds cpu.old depot.old ++ flat_map rounds_of_op ops.items)

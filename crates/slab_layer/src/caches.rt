@@ -40,7 +40,7 @@ ghost use Rattle.slab_layer.specs.Calls.{IsAlike, TakeOf, PutOf, AddOf, ReapOf};
 
 use crate::faults::{AddFault, PutFault};
 use crate::reports::{SlabReport, are_empty, discard_all, total};
-use crate::search::{find_chunk, lowest_complete, next_chunk, overlaps, place_for};
+use crate::search::{find_chunk, index_for, lowest_complete, next_chunk, overlaps};
 use crate::slabs::Slab;
 use deed_core::{Deed, Route, Segment, Stored, insert_reserved};
 use std::alloc::Global;
@@ -238,7 +238,7 @@ impl<D: Deed> SlabCache<D> {
         };
         let first = slab.take(0);
         self.colour = next;
-        let place = place_for(&self.slabs, range.base());
+        let place = index_for(&self.slabs, range.base());
         insert_reserved(&mut self.slabs, place, slab);
         Ok(Segment::new(self.arena, Route::Cached(self.k), first.into_deed()))
     }

@@ -115,7 +115,7 @@ pub(crate) fn overlaps<D: Deed>(slabs: &[Slab<D>], range: Range) -> bool
 }
 
 /// The first index from which on no slab begins below `base`.
-pub(crate) fn place_for<D: Deed>(slabs: &[Slab<D>], base: u64) -> usize
+pub(crate) fn index_for<D: Deed>(slabs: &[Slab<D>], base: u64) -> usize
     ensures within { result ≤ length slabs.now }
     ensures below { (k : ℕ) (d : SlabState) → k < result
         → (slice_index_or slabs.now k d).span.range.base < base }

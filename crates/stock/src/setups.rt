@@ -130,7 +130,7 @@ impl<D: Deed> StockSetup<D> {
         requires source { CanImportFrom self.old source quantum }
         ensures added { OnOk result
             (self.new ≡ self.old ++ new_space (length self.old) source quantum policy ∷ []) }
-        ensures err { OnErr result (self.new ≡ self.old) }
+        ensures unchanged { OnErr result (self.new ≡ self.old) }
     {
         self.stock.add_arena(self.alloc, source, quantum, policy)
     }
@@ -160,7 +160,7 @@ impl<D: Deed> StockSetup<D> {
             → HasRoomForCache slab_size s }
         requires rounds { IsSize rounds }
         ensures added { OnOk result (GainsCache arena slab_size rounds self.old self.new) }
-        ensures err { OnErr result (self.new ≡ self.old) }
+        ensures unchanged { OnErr result (self.new ≡ self.old) }
     {
         self.stock.add_cache(self.alloc, arena, slab_size, rounds)
     }

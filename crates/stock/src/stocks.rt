@@ -78,7 +78,7 @@ impl<D: Deed> Stock<D> {
         requires source { CanImportFrom self.old source quantum }
         ensures added { OnOk result
             (self.new ≡ self.old ++ new_space (length self.old) source quantum policy ∷ []) }
-        ensures err { OnErr result (self.new ≡ self.old) }
+        ensures unchanged { OnErr result (self.new ≡ self.old) }
         ensures frame { Frames self.old [] self.new [] }
     {
         self.spaces.reserve(1)?;
@@ -137,7 +137,7 @@ impl<D: Deed> Stock<D> {
             → HasRoomForCache slab_size s }
         requires rounds { IsSize rounds }
         ensures added { OnOk result (GainsCache arena slab_size rounds self.old self.new) }
-        ensures err { OnErr result (self.new ≡ self.old) }
+        ensures unchanged { OnErr result (self.new ≡ self.old) }
         ensures frame { Frames self.old [] self.new [] }
     {
         let space = &mut self.spaces[arena];

@@ -22,7 +22,7 @@ use Rattle.stock.proofs.LawProofs.{plans_stay}
 use Rattle.stock_audit.specs.Outside.{Outside, all_rounds_out}
 use Rattle.stock_audit.specs.Accounted.{IsAccountedFor}
 use Rattle.stock_audit.specs.Keeping.{IsGiven}
-use Rattle.stock_audit.specs.Chains.{IsUpFrom, here, above, free, free_above, IsReachable, is_under, unexported, unit_of_arena}
+use Rattle.stock_audit.specs.Chains.{IsUpFrom, here, above, free, free_above, IsReachable, is_under, sum_but_exported, unit_of_arena}
 use Rattle.stock_audit.specs.Laws.{FreeAboveIsFree, GivenWasReachable, GivenFittedIn}
 use Rattle.stock_audit.proofs.Placing.{unit_adds_up, held_weigh}
 use Rattle.stock_audit.proofs.Exporting.{weighs_here, weighs_there}
@@ -118,20 +118,20 @@ module _ (old new : List SpaceState) (before after : Outside) (o : IsAccountedFo
   in_hand x = omega (arith, held_weigh x.arena.id (covers_held u) after.hands, g.hands (of_arena x.arena.id (covers_tag u)))
 
   abbrev others : SpaceState → ℕ
-  others x = unexported (New x) - mine x
+  others x = sum_but_exported (New x) - mine x
 
-  both : (x : SpaceState) → others x + mine x ≤ unexported (New x)
+  both : (x : SpaceState) → others x + mine x ≤ sum_but_exported (New x)
   both x = omega (arith, in_hand x)
 
   -- and nowhere else
-  nowhere_else : (b : ℕ) (y : SpaceState) → slice_get new b ≡ Some y → HasTop new b r → unexported (New y) ≤ mine y
+  nowhere_else : (b : ℕ) (y : SpaceState) → slice_get new b ≡ Some y → HasTop new b r → sum_but_exported (New y) ≤ mine y
   nowhere_else b y there over = elim (cases_eq (others y) 0) [
     | inl none ↦ omega (arith, none)
     | inr more ↦ absurd (never_both new after n u r others mine both b k y own.0 there over (omega (arith, more)) own.1 (top_stays old new g.steps.fixed k r up) mine_here)
   ]
 
   -- it is a unit of the space, and was one
-  was_in_space : 0 < sum_by (only (is_under (tops_stand old before o).0 r) (λ x. unexported (Old x))) old
+  was_in_space : 0 < sum_by (only (is_under (tops_stand old before o).0 r) (λ x. sum_but_exported (Old x))) old
   was_in_space =
       let top = top_is_root old k r up in
       let later = now old new g.steps.fixed r top.0 top.1 in
@@ -182,7 +182,7 @@ module _ (old new : List SpaceState) (before after : Outside) (o : IsAccountedFo
     )
 
     -- where it was
-    was_at : HasTop old b r → 0 < unexported (Old x) → IsReachable old before k s u
+    was_at : HasTop old b r → 0 < sum_but_exported (Old x) → IsReachable old before k s u
     was_at over some =
         let least = nowhere_else b y is (top_stays old new g.steps.fixed b r over) in
         let hand = hand_gained in
@@ -208,8 +208,8 @@ module _ (old new : List SpaceState) (before after : Outside) (o : IsAccountedFo
 
   pub was_reachable : IsReachable old before k s u
   was_reachable =
-      let found = sum_some (only (is_under (tops_stand old before o).0 r) (λ x. unexported (Old x))) old was_in_space in
-      let part = either_some (is_under (tops_stand old before o).0 r found.1) (unexported (Old found.1)) found.3 in
+      let found = sum_some (only (is_under (tops_stand old before o).0 r) (λ x. sum_but_exported (Old x))) old was_in_space in
+      let part = either_some (is_under (tops_stand old before o).0 r found.1) (sum_but_exported (Old found.1)) found.3 in
       let later = now old new g.steps.fixed found.0 found.1 found.2 in
       let id = (o.parts found.0 found.1 found.2).id in
       let test : nat_eq ((tops_stand old before o).0 found.0) r ≡ true = ap (λ i. nat_eq ((tops_stand old before o).0 i) r) (sym id) ∙ part.0 in

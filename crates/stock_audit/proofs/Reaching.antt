@@ -14,7 +14,7 @@ use Rattle.stock.specs.Sums.{holdings_of, held_of}
 use Rattle.stock.specs.Laws.{HasTop}
 use Rattle.stock_audit.specs.Outside.{Outside, segments_out, all_rounds_out}
 use Rattle.stock_audit.specs.Accounted.{IsAccountedFor}
-use Rattle.stock_audit.specs.Chains.{IsFreeFor, free, free_above, is_under, unexported, unit_of_arena}
+use Rattle.stock_audit.specs.Chains.{IsFreeFor, free, free_above, is_under, sum_but_exported, unit_of_arena}
 use Rattle.stock_audit.specs.Laws.{FreeIsNotOut, ReachableIsNotHeld}
 use Rattle.stock_audit.proofs.Placing.{held_weigh}
 use Rattle.stock_audit.proofs.Exporting.{weighs_here}
@@ -40,7 +40,7 @@ either_counted true m n all le = le
 either_counted false m n all le = omega arith
 
 -- two weights that are in different homes of each arena aren't both in one space
-module _ (spaces : List SpaceState) (out : Outside) (a : IsAccountedFor spaces out) (u r : ℕ) (f g : SpaceState → ℕ) (apart : (s : SpaceState) → f s + g s ≤ unexported (unit_of_arena u spaces out s)) where
+module _ (spaces : List SpaceState) (out : Outside) (a : IsAccountedFor spaces out) (u r : ℕ) (f g : SpaceState → ℕ) (apart : (s : SpaceState) → f s + g s ≤ sum_but_exported (unit_of_arena u spaces out s)) where
   abbrev tops : ℕ → ℕ
   tops = (tops_stand spaces out a).0
 
@@ -52,10 +52,10 @@ module _ (spaces : List SpaceState) (out : Outside) (a : IsAccountedFor spaces o
       let is : is_under tops r s ≡ true = ap (λ i. nat_eq (tops i) r) (a.parts k s at).id ∙ test in
       omega (arith, part_of_sum (only (is_under tops r) h) spaces k s at, ap (λ b. cond b (h s) 0) is)
 
-  both_fit : sum_by (only (is_under tops r) f) spaces + sum_by (only (is_under tops r) g) spaces ≤ sum_by (only (is_under tops r) (λ s. unexported (unit_of_arena u spaces out s))) spaces
+  both_fit : sum_by (only (is_under tops r) f) spaces + sum_by (only (is_under tops r) g) spaces ≤ sum_by (only (is_under tops r) (λ s. sum_but_exported (unit_of_arena u spaces out s))) spaces
   both_fit =
-      let each = sum_by-smaller (λ s. only (is_under tops r) f s + only (is_under tops r) g s) (only (is_under tops r) (λ s. unexported (unit_of_arena u spaces out s))) spaces
-      (λ s. either_counted (is_under tops r s) (f s) (g s) (unexported (unit_of_arena u spaces out s)) (apart s)) in
+      let each = sum_by-smaller (λ s. only (is_under tops r) f s + only (is_under tops r) g s) (only (is_under tops r) (λ s. sum_but_exported (unit_of_arena u spaces out s))) spaces
+      (λ s. either_counted (is_under tops r s) (f s) (g s) (sum_but_exported (unit_of_arena u spaces out s)) (apart s)) in
       omega (arith, each, sum_add (only (is_under tops r) f) (only (is_under tops r) g) spaces)
 
   pub never_both : (j k : ℕ) (s x : SpaceState) → slice_get spaces j ≡ Some s → HasTop spaces j r → 0 < f s → slice_get spaces k ≡ Some x → HasTop spaces k r → 0 < g x → ⊥
@@ -79,7 +79,7 @@ module _ (spaces : List SpaceState) (out : Outside) (a : IsAccountedFor spaces o
   )
 
   -- what weighs of an arena of the space is in no segment among these
-  none_among : (f : SpaceState → ℕ) (ts : List Tag) → ((s : SpaceState) → f s + among ts s ≤ unexported (unit_of_arena u spaces out s)) → (b : ℕ) (s : SpaceState) → slice_get spaces b ≡ Some s → HasTop spaces b top
+  none_among : (f : SpaceState → ℕ) (ts : List Tag) → ((s : SpaceState) → f s + among ts s ≤ sum_but_exported (unit_of_arena u spaces out s)) → (b : ℕ) (s : SpaceState) → slice_get spaces b ≡ Some s → HasTop spaces b top
       → 0 < f s → All (λ t. HasTop spaces t.arena top → ¬ Covers t.holding.range u) ts
   none_among f ts apart b s at up some = all_from (λ t. HasTop spaces t.arena top → ¬ Covers t.holding.range u) ts
       (λ i t there over has. (let home = next_up spaces t.arena top over in never_both spaces out a u top f (among ts) apart b t.arena s home.0 at up some home.1 over (here_among ts i t home.0 there home.1 has)))

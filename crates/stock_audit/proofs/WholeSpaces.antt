@@ -14,7 +14,7 @@ use Rattle.stock.specs.Laws.{root, child}
 use Rattle.stock_audit.specs.Outside.{Outside}
 use Rattle.stock_audit.specs.Audits.{sums_of_arena}
 use Rattle.stock_audit.specs.Accounted.{IsAccountedFor}
-use Rattle.stock_audit.specs.Chains.{AreTops, is_under, is_source, is_child_of, children_of, spans_of_children, unexported, unit_of_arena}
+use Rattle.stock_audit.specs.Chains.{AreTops, is_under, is_source, is_child_of, children_of, spans_of_children, sum_but_exported, unit_of_arena}
 use Rattle.stock_audit.specs.Laws.{SpaceUnitAddsUp, SpaceAddsUp}
 use Rattle.stock_audit.proofs.Placing.{audit_adds_up, unit_adds_up}
 use Rattle.stock_audit.proofs.Exporting.{exported_is_children}
@@ -145,9 +145,9 @@ module _ (spaces : List SpaceState) (out : Outside) (a : IsAccountedFor spaces o
 
 pub space_unit_adds_up : SpaceUnitAddsUp
 space_unit_adds_up spaces out a top tops r x at none u =
-    (cancels spaces out a top tops r (covers_held u) (λ s. unexported (unit_of_arena u spaces out s)) each x at none, (unit_adds_up spaces out a r x at u).1)
+    (cancels spaces out a top tops r (covers_held u) (λ s. sum_but_exported (unit_of_arena u spaces out s)) each x at none, (unit_adds_up spaces out a r x at u).1)
   where
-    each : (k : ℕ) (s : SpaceState) → slice_get spaces k ≡ Some s → unexported (unit_of_arena u spaces out s) + sum_by (covers_held u) (spans_of_children s.arena.id spaces) ≡ covering_held u (spans_of s.arena)
+    each : (k : ℕ) (s : SpaceState) → slice_get spaces k ≡ Some s → sum_but_exported (unit_of_arena u spaces out s) + sum_by (covers_held u) (spans_of_children s.arena.id spaces) ≡ covering_held u (spans_of s.arena)
     each k s there = omega (
       arith,
       (unit_adds_up spaces out a k s there u).0,
@@ -156,9 +156,9 @@ space_unit_adds_up spaces out a top tops r x at none u =
     )
 
 pub space_adds_up : SpaceAddsUp
-space_adds_up spaces out a top tops r x at none = cancels spaces out a top tops r units_in (λ s. unexported (sums_of_arena spaces out s)) each x at none
+space_adds_up spaces out a top tops r x at none = cancels spaces out a top tops r units_in (λ s. sum_but_exported (sums_of_arena spaces out s)) each x at none
   where
-    each : (k : ℕ) (s : SpaceState) → slice_get spaces k ≡ Some s → unexported (sums_of_arena spaces out s) + sum_by units_in (spans_of_children s.arena.id spaces) ≡ units_held (spans_of s.arena)
+    each : (k : ℕ) (s : SpaceState) → slice_get spaces k ≡ Some s → sum_but_exported (sums_of_arena spaces out s) + sum_by units_in (spans_of_children s.arena.id spaces) ≡ units_held (spans_of s.arena)
     each k s there = omega (
       arith,
       audit_adds_up spaces out a k s there,

@@ -31,8 +31,8 @@ abbrev pub unit_of_arena : ℕ → List SpaceState → Outside → SpaceState �
 unit_of_arena u spaces out s = sums_of (covers_held u) (homes_of spaces (out_of out) s)
 
 -- the homes of an arena but what it exported, which is in other arenas
-abbrev pub unexported : Sums → ℕ
-unexported x = x.free + (x.slab + (x.magazine + (x.leased + x.hand)))
+abbrev pub sum_but_exported : Sums → ℕ
+sum_but_exported x = x.free + (x.slab + (x.magazine + (x.leased + x.hand)))
 
 -- the arena at the top of the chain of each one
 abbrev pub AreTops : List SpaceState → (ℕ → ℕ) → Type 0

@@ -23,7 +23,7 @@ use Rattle.stock_audit.specs.Keeping.{IsStep, HandsMove, OnCpu, PopMove, PushMov
 use Rattle.stock_audit.specs.Keeping.{LeaseMove, ReleaseMove, CpusMove, IsGiven}
 use Rattle.stock_audit.specs.Keeping.{StaysOffChain}
 use Rattle.stock_audit.specs.Chains.{IsUpFrom, IsFreeFor, IsReachable, FitsIn, AreTops, is_under}
-use Rattle.stock_audit.specs.Chains.{unexported, unit_of_arena, spans_of_children, spans_of_slabs}
+use Rattle.stock_audit.specs.Chains.{sum_but_exported, unit_of_arena, spans_of_children, spans_of_slabs}
 
 -- the sums of each arena add up to the units of its spans
 abbrev pub AuditAddsUp : Type 0
@@ -134,7 +134,7 @@ abbrev pub SpaceUnitAddsUp : Type 0
 SpaceUnitAddsUp = (spaces : List SpaceState) (out : Outside) → IsAccountedFor spaces out
     → (top : ℕ → ℕ) → AreTops spaces top → (r : ℕ) (root : SpaceState)
     → slice_get spaces r ≡ Some root → root.source ≡ None → (u : ℕ)
-    → (sum_by (only (is_under top r) (λ s. unexported (unit_of_arena u spaces out s))) spaces
+    → (sum_by (only (is_under top r) (λ s. sum_but_exported (unit_of_arena u spaces out s))) spaces
     ≡ covering_held u (spans_of root.arena)) × (covering_held u (spans_of root.arena) ≤ 1)
 
 -- so the sums of all of them, but what they exported, add up to the units of those spans
@@ -142,7 +142,7 @@ abbrev pub SpaceAddsUp : Type 0
 SpaceAddsUp = (spaces : List SpaceState) (out : Outside) → IsAccountedFor spaces out
     → (top : ℕ → ℕ) → AreTops spaces top → (r : ℕ) (root : SpaceState)
     → slice_get spaces r ≡ Some root → root.source ≡ None
-    → sum_by (only (is_under top r) (λ s. unexported (sums_of_arena spaces out s))) spaces
+    → sum_by (only (is_under top r) (λ s. sum_but_exported (sums_of_arena spaces out s))) spaces
     ≡ units_held (spans_of root.arena)
 
 -- there are such tops

@@ -22,8 +22,8 @@ impl Supply {
         requires held { (b : BookState) × IsHeld [] (picture_with b self.old) }
         ensures ok { OnOk result ((b : BookState) → IsHeld [] (picture_with b self.old)
             → IsOffline number (picture_with b self.old) (picture_with b self.new)) }
-        ensures err { OnErr result ((find (is_cpu number) self.old.cpus ≢ None)
-            × (self.new ≡ self.old)) }
+        ensures err { OnErr result (find (is_cpu number) self.old.cpus ≢ None) }
+        ensures unchanged { OnErr result (self.new ≡ self.old) }
     {
         let Some(index) = index_of(self.cpus.as_slice(), number) else {
             return Ok(());

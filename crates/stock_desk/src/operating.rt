@@ -61,7 +61,7 @@ fn tell_all(
     ensures ok { OnOk result ((reply : List ℕ) × (out.new.items ≡ out.old.items ++ reply)
         × IsPerformed line (picture_with book.now supply.old) reply
         (picture_with book.now supply.new)) }
-    ensures err { OnErr result (StartsWith out.new.items out.old.items) }
+    ensures begun { OnErr result (StartsWith out.new.items out.old.items) }
     ensures left { OnErr result (LeavesOff line
         (picture_with book.now supply.old) (picture_with book.now supply.new)) }
     ensures room { OnErr result ((supply.new ≡ supply.old)

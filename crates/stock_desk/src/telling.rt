@@ -35,7 +35,7 @@ pub(crate) fn audit(
     ensures ok { OnOk result ((d : Picture) → IsPicture d
         → HasParts tree.now stock.now cpus.now book.now d
         → out.new.items ≡ out.old.items ++ arenas_told d d.tree d.spaces) }
-    ensures err { OnErr result (StartsWith out.new.items out.old.items) }
+    ensures begun { OnErr result (StartsWith out.new.items out.old.items) }
 {
     for arena in 0..tree.len() as u32 {
         tell_arena(tree, stock, cpus, book, arena, out)?;
@@ -59,7 +59,7 @@ fn tell_arena(
         → HasParts tree.now stock.now cpus.now book.now d
         → slice_get tree.now arena ≡ Some x → slice_get stock.now arena ≡ Some s
         → out.new.items ≡ out.old.items ++ audit_text (audit_line x.name (sums_in d s))) }
-    ensures err { OnErr result (StartsWith out.new.items out.old.items) }
+    ensures begun { OnErr result (StartsWith out.new.items out.old.items) }
 {
     // For their clauses: what is always so of a stock, and how many units an arena's spans have.
     let _ = stock.count();
@@ -98,7 +98,7 @@ fn rounds_of(cpus: &[Cpu], arena: usize) -> u128
 pub(crate) fn clients(book: &Book<PlainDeed>, out: &mut Vec<u8>) -> Result<(), AllocError>
     ensures ok { OnOk result (out.new.items
         ≡ out.old.items ++ flat_map client_told (map report_of book.now.accounts)) }
-    ensures err { OnErr result (StartsWith out.new.items out.old.items) }
+    ensures begun { OnErr result (StartsWith out.new.items out.old.items) }
 {
     for index in 0..book.clients() {
         let Some(report) = book.client_at(index) else {

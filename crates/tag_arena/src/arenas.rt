@@ -27,8 +27,8 @@ use crate::held_ranges::{HeldRange, held_range_of};
 use crate::merges::merge;
 use crate::policies::Policy;
 use crate::spans::{
-    Import, free_units, imported_units, overlaps_imported, overlaps_owned, owned_units,
-    place_of_import, span_at,
+    Import, free_units, imported_units, index_of_import, overlaps_imported, overlaps_owned,
+    owned_units, span_at,
 };
 use crate::tags::Tags;
 use crate::whole_spans::lowest_whole;
@@ -395,7 +395,7 @@ impl<D: Deed> Arena<D> {
         let span = span_at(&self.owned, &self.imported, tagged.base()).unwrap();
         let merged = merge(&mut self.free, span, Stored::new(segment.into_deed()));
         self.tags.remove(tagged);
-        let Some(at) = place_of_import(&self.imported, &held_range_of(&merged)) else {
+        let Some(at) = index_of_import(&self.imported, &held_range_of(&merged)) else {
             self.free.push_reserved(merged);
             return Ok(None);
         };

@@ -114,7 +114,7 @@ pub fn span_at(owned: &[HeldRange], imported: &[Import], base: u64) -> Option<He
 }
 
 /// Where the imported span with this root and range stands.
-pub fn place_of_import(imported: &[Import], span: &HeldRange) -> Option<usize>
+pub fn index_of_import(imported: &[Import], span: &HeldRange) -> Option<usize>
     ensures { MatchOption result (All (λ t. t.holding ≢ span.now) imported.now)
         (λ at. (at < length imported.now)
         × HoldsAt (λ t. t.holding ≡ span.now) imported.now at) }

@@ -14,7 +14,7 @@ pub struct Whole {
 }
 
 /// Where the free range with this root and range stands.
-fn place_of<D: Deed>(free: &[Stored<D>], range: HeldRange) -> Option<usize>
+fn index_of<D: Deed>(free: &[Stored<D>], range: HeldRange) -> Option<usize>
     ensures { MatchOption result (¬ Contains free.now range)
         (λ at. (at < length free.now) × HoldsAt (λ r. r ≡ range) free.now at) }
 {
@@ -32,7 +32,7 @@ fn whole_at<D: Deed>(free: &[Stored<D>], at: usize, span: HeldRange) -> Option<W
         (λ whole. (whole ≡ record { at = at; free_at = whole.free_at; span = span })
         × (whole.free_at < length free.now) × HoldsAt (λ r. r ≡ span) free.now whole.free_at) }
 {
-    let free_at = place_of(free, span)?;
+    let free_at = index_of(free, span)?;
     Some(Whole { at, free_at, span })
 }
 

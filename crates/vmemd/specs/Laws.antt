@@ -35,7 +35,7 @@ use Rattle.lease_machine.specs.Laws.{Runs}
 use Rattle.lease_machine.specs.AnswerLaws.{reply_bytes, IsUnkept, IsRequestLine, AreOfOthers}
 use Rattle.lease_machine.specs.AnswerLaws.{FitsLine}
 use Rattle.lease_machine.specs.RoomLaws.{NothingIsKept, refusal_to}
-use Rattle.lease_machine.specs.EmptyingLaws.{HasNoRound}
+use Rattle.lease_machine.specs.EmptyingLaws.{CpuHasNoRound}
 use Rattle.vmemd.specs.Scripts.{Makes}
 use Rattle.vmemd.specs.Settings.{TakesSetupLine}
 use Rattle.vmemd.specs.Desks.{IsDeskOf, no_arenas}
@@ -183,7 +183,7 @@ ScriptReturnedIsWhole = (old new : Picture) (id : RequestId) (l : LeaseLine) (li
 abbrev pub ScriptEmptiedIsWhole : Type 0
 ScriptEmptiedIsWhole = (old mid late new : Picture) (id : RequestId) (l : LeaseLine)
     (told reaped line text : List ℕ) → (a : AnswersNext old (codes "tick") told mid)
-    → leased_segments old.book ≡ [] → All HasNoRound old.cpus
+    → leased_segments old.book ≡ [] → All CpuHasNoRound old.cpus
     → LeaseStep mid (codes "reap") reaped late
     → IsRequestLine line id (ops.Lease l) → IsNew (account_in id.client late.book) id
     → LeaseStep late line text new → FitsInSpan a.script.made l

@@ -11,7 +11,7 @@ use Rattle.stock.specs.OwnCaches.{OwnCacheState, IsOwnCache, IsAtIndexesOf, own_
 use Rattle.lease_book.specs.BookState.{leased_segments}
 use Rattle.world_core.specs.WorldState.{WorldState, in_hands}
 use Rattle.world_core.specs.IsWorld.{IsWorld, IsOfLines}
-use Rattle.world_core.specs.Moves.{failing, HandAdopted, RoundAdopted, IsFirstWithRound}
+use Rattle.world_core.specs.Moves.{after_failure, HandAdopted, RoundAdopted, IsFirstWithRound}
 use Rattle.world_core.specs.Events.{EndsAs, HasInHand}
 use Rattle.world_core.specs.declared.events.WorldEvent.TheVariants as events
 use Rattle.world_core.specs.declared.events.Outcome.TheVariants.{Done}
@@ -24,7 +24,7 @@ set_past [] i y past = refl
 set_past (x ∷ xs) zero y past = absurd (omega (arith, past))
 set_past (x ∷ xs) (suc i) y past = ap (λ zs. x ∷ zs) (set_past xs i y (omega (arith, past)))
 
-failing_keeps : (cpu : ℕ) (w : WorldState) → IsWorld w → IsWorld (failing cpu w)
+failing_keeps : (cpu : ℕ) (w : WorldState) → IsWorld w → IsWorld (after_failure cpu w)
 failing_keeps cpu w is = record {
   parts = is.parts;
   named = is.named;
@@ -72,17 +72,17 @@ round_adopted_keeps cpu other w v is m =
 
 module _ (w : WorldState) (cpu other : ℕ) (apart : cpu ≢ other) (within : other < length w.failed) (empty : HasInHand w cpu None) where
   pub adopts_hand : (t : Tag) (taken hands : List (Option Tag)) (mid v : WorldState) → HasInHand w other (Some t) → taken ≡ set w.hands other None → hands ≡ set taken cpu (Some t)
-      → mid ≡ record w { hands = hands } → v ≡ failing other mid → EndsAs (events.Adopts cpu other) Done w v
+      → mid ≡ record w { hands = hands } → v ≡ after_failure other mid → EndsAs (events.Adopts cpu other) Done w v
   adopts_hand t taken hands mid v held out put between after =
       let moved : hands ≡ set (set w.hands other None) cpu (Some t) = put ∙ ap (λ (hs : List (Option Tag)). set hs cpu (Some t)) out in
       let whole : mid ≡ record w { hands = set (set w.hands other None) cpu (Some t) } = between ∙ (λ j. record w { hands = moved j }) in (
         (apart, within, empty, inl (t, held)),
-        inl (record { segment = t; empty = empty; holds = held; after = after ∙ ap (failing other) whole }),
+        inl (record { segment = t; empty = empty; holds = held; after = after ∙ ap (after_failure other) whole }),
       )
 
   pub adopts_round : (index : ℕ) (own next : OwnCacheState) (t : Tag) (hands : List (Option Tag)) (caches : List OwnCacheState) (v : WorldState) → ((x : Tag) → ¬ HasInHand w other (Some x))
       → IsFirstWithRound w other index own → IsAtIndexesOf own next → PopOf own.cpu (Some t) next.cpu → Loses (own_rounds own) (own_rounds next) t → IsOwnCache next → IsShaped next.cpu
-      → hands ≡ set w.hands cpu (Some t) → caches ≡ set w.caches index next → v ≡ failing other (record w { hands = hands; caches = caches })
+      → hands ≡ set w.hands cpu (Some t) → caches ≡ set w.caches index next → v ≡ after_failure other (record w { hands = hands; caches = caches })
       → EndsAs (events.Adopts cpu other) Done w v
   adopts_round index own next t hands caches v none first same pops weights sound shaped moved gone after = (
     (apart, within, empty, inr (index, own, first.has)),

@@ -344,15 +344,15 @@ pub record OwnMoves (cpu arena cache : ℕ)
   pub after : new ≡ record old { stock = stock; caches = set old.caches index next }
 
 -- the CPU has failed, and what it served is forgotten
-abbrev pub failing : ℕ → WorldState → WorldState
-failing cpu w = record w { tasks = set w.tasks cpu None; failed = set w.failed cpu true }
+abbrev pub after_failure : ℕ → WorldState → WorldState
+after_failure cpu w = record w { tasks = set w.tasks cpu None; failed = set w.failed cpu true }
 
 -- the segment in another CPU's hand comes into the CPU's empty hand; the other has failed
 pub record HandAdopted (cpu other : ℕ) (old new : WorldState) : Type 0 where
   pub segment : Tag
   pub empty : slice_get old.hands cpu ≡ Some None
   pub holds : slice_get old.hands other ≡ Some (Some segment)
-  pub after : new ≡ failing other
+  pub after : new ≡ after_failure other
       (record old { hands = set (set old.hands other None) cpu (Some segment) })
 
 -- the CPU's own cache at this index of the list has a round
@@ -377,4 +377,4 @@ pub record RoundAdopted (cpu other : ℕ) (old new : WorldState) : Type 0 where
   pub first : IsFirstWithRound old other index own
   pub pops : PopOf own.cpu (Some round) next.cpu
   pub moves : RoundMoves cpu index own next None (Some round) old between
-  pub after : new ≡ failing other between
+  pub after : new ≡ after_failure other between

@@ -4,7 +4,7 @@ ghost use Rattle.std.specs.Prelude.{Some, None, true, slice_get};
 ghost use Rattle.deed_core.specs.Tag.{Tag};
 ghost use Rattle.stock.specs.OwnCaches.{OwnCacheState};
 ghost use Rattle.world_core.specs.IsWorld.{IsWorld};
-ghost use Rattle.world_core.specs.Moves.{failing, HasRoundAt, IsFirstWithRound};
+ghost use Rattle.world_core.specs.Moves.{after_failure, HasRoundAt, IsFirstWithRound};
 ghost use Rattle.world_core.specs.Events.{EndsAs, HasInHand, IsOfFailed};
 
 use crate::events::{Outcome, WorldEvent, cpu_of};
@@ -36,7 +36,7 @@ impl<D: Deed> WorldParts<D> {
     /// The CPU has failed: what it served is forgotten.
     fn fail(&mut self, cpu: usize)
         requires within { cpu < length self.old.failed }
-        ensures { self.new ≡ failing cpu self.old }
+        ensures { self.new ≡ after_failure cpu self.old }
     {
         self.failed[cpu] = true;
         if cpu >= self.tasks.len() {

@@ -68,7 +68,7 @@ impl<D: Deed> World<D> {
           tasks = self.old.tasks ++ None ∷ [];
           failed = self.old.failed ++ false ∷ [];
         }) }
-        ensures err { OnErr result (self.new ≡ self.old) }
+        ensures unchanged { OnErr result (self.new ≡ self.old) }
     {
         let parts = &mut self.parts;
         let Ok(()) = parts.hands.reserve(1) else {
@@ -94,7 +94,7 @@ impl<D: Deed> World<D> {
         ensures added { OnOk result (self.new ≡ record self.old {
           clients = self.old.clients ++ silent id ∷ [];
         }) }
-        ensures err { OnErr result (self.new ≡ self.old) }
+        ensures unchanged { OnErr result (self.new ≡ self.old) }
     {
         // For its clause: the client is in its range.
         let _ = id.get();

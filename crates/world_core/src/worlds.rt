@@ -46,7 +46,7 @@ impl<D: Deed> World<D> {
     pub fn run(&mut self, alloc: Global, events: &[WorldEvent]) -> Result<Vec<Outcome>, AllocError>
         ensures happened { IfOk result
             (λ outcomes. HappensTo events.now outcomes.items self.old self.new) }
-        ensures err { OnErr result (self.new ≡ self.old) }
+        ensures unchanged { OnErr result (self.new ≡ self.old) }
         ensures safe { Safe self.new }
     {
         // For its clause: a world is safe.

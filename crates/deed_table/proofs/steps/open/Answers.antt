@@ -7,7 +7,7 @@ use Rattle.deed_table.proofs.steps.open.Goals as goal
 pub load-requires : goal.load-requires
 load-requires g c =
     let v = c.args.seat.now.me.0 in
-    let e = g.C.Placed.place in
+    let e = g.C.ChosenRange.range in
     let new = c.requires.new in (
       c.requires.seat.0,
       search rules,

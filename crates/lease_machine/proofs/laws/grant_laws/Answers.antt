@@ -6,8 +6,8 @@ use Rattle.lease_machine.proofs.laws.grant_laws.Goals as goal
 pub returns-clause-fits : goal.returns-clause-fits
 returns-clause-fits c = grants_fit
 
-pub returns-clause-kept : goal.returns-clause-kept
-returns-clause-kept c = kept_grants_fit
+pub returns-clause-kept_grants : goal.returns-clause-kept_grants
+returns-clause-kept_grants c = kept_grants_fit
 
 pub returns-clause-reachable : goal.returns-clause-reachable
 returns-clause-reachable c = grants_were_reachable

@@ -1,6 +1,14 @@
-use Rattle.std.proofs.Common.{◌≡◌, ◌+◌, ◌≤◌, vec_len, vec_capacity}
+use Rattle.std.proofs.Common.{◌≡◌, ◌+◌, ◌++◌, All, map, vec_len, vec_capacity}
+use Rattle.arena_tree.specs.Chains.{quantum_in}
+use Rattle.arena_tree.specs.Trees.{nodes_of}
+use Rattle.locked_parts.specs.Kinds.{kinds_up_to}
+use Rattle.locked_parts.specs.News.{HasSlabsOf}
 use Rattle.locked_parts.proofs.new_caches.add_caches.Given as goal
 
-abbrev pub invariant-loop-number : goal.invariant-loop-number
-invariant-loop-number g l = (vec_len l.caches + 1 ≡ vec_len l.fn.caches + l.number)
-    × (vec_capacity l.caches ≡ vec_capacity l.fn.caches) × (l.number ≤ l.count + 1)
+abbrev pub invariant-loop-before : goal.invariant-loop-before
+invariant-loop-before g l = (vec_len l.caches ≡ vec_len l.fn.caches + l.before)
+    × (vec_capacity l.caches ≡ vec_capacity l.fn.caches)
+    × (map (λ c. c.kind) l.caches.items ≡ map (λ c. c.kind) l.fn.caches.items
+    ++ kinds_up_to l.fn.arena (quantum_in (nodes_of l.fn.tree) l.fn.arena) l.before)
+    × (All (HasSlabsOf l.fn.tree l.fn.arena) l.fn.caches.items
+    → All (HasSlabsOf l.fn.tree l.fn.arena) l.caches.items)

@@ -1,6 +1,9 @@
-use Rattle.std.proofs.Common.{All}
+use Rattle.std.proofs.Common.{◌≡◌, ◌++◌, All, map}
 use Rattle.magazine_layer.specs.Magazines.{BothEmpty}
+use Rattle.locked_parts.specs.Kinds.{kinds_of_first}
 use Rattle.locked_parts.proofs.own_rounds.fill.Given as goal
 
 abbrev pub invariant-loop-arena : goal.invariant-loop-arena
 invariant-loop-arena g l = All (λ r. BothEmpty r.cpu) l.caches.items
+    × (map (λ r. r.kind) l.caches.items
+    ≡ map (λ r. r.kind) l.fn.caches.items ++ kinds_of_first l.fn.tree l.arena)

@@ -10,8 +10,8 @@ use Rattle.stock_desk.proofs.Audited.{first_told, told_more, told_all}
 use Rattle.stock_desk.proofs.Balances.{same_length, starts_through, always_on_err}
 use Rattle.stock_desk.proofs.telling.audit.Goals as goal
 
-pub returns-in_err-tell_arena-clause-err : goal.returns-in_err-tell_arena-clause-err
-returns-in_err-tell_arena-clause-err c =
+pub returns-in_err-tell_arena-clause-begun : goal.returns-in_err-tell_arena-clause-begun
+returns-in_err-tell_arena-clause-begun c =
     let (d, is, parts) = c.requires in
     always_on_err c.from_residual.result (StartsWith c.tell_arena.new.out.items c.args.out.now.items)
     (starts_through c.args.out.now.items (first_told d c.loop-arena.arena c.args.tree.now c.args.stock.now) c.loop-arena.out.items c.tell_arena.new.out.items (c.loop-arena.invariant d is parts) c.in_err-tell_arena.ensures.err)

@@ -10,7 +10,7 @@ pub invariant_of-result : goal.invariant_of-result
 invariant_of-result g c =
     let none : finmap.len c.new-4.result ≡ 0 = ap finmap.len c.new-4.ensures ∙ len-empty nat_cmp Holding in
     let empty = ap length c.new-3.ensures.ranges in (
-      rw (c.new.ensures.items, c.new-2.ensures.items, c.new-3.ensures.ranges, c.new-4.ensures) (empty_sound c.args.id c.args.quantum c.args.policy c.requires),
+      rw (c.new.ensures, c.new-2.ensures, c.new-3.ensures.ranges, c.new-4.ensures) (empty_sound c.args.id c.args.quantum c.args.policy c.requires),
       record {
         policy_is = c.new-3.ensures.policy;
         room = omega (arith, none, empty);

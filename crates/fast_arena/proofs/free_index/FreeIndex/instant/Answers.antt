@@ -42,3 +42,20 @@ returns-clause-placed g c =
       among = among;
       serves = rw c.base.ensures.value serves;
     }
+
+pub returns-in_default-clause-one : goal.returns-in_default-clause-one
+returns-in_default-clause-one g c = λ by zero_before.
+    let all = subst (All (λ r. IsRange r.range)) (ap (λ v. v.ranges) c.self.view_is) (all_ranges c.self.inside.clock c.self.inside.slots.tags c.self.invariant.tags) in
+    let range = by.1.0 in
+    let x = by.1.1 in
+    let among : Contains c.args.self.now.ranges range = (x.index, x.within, x.here range) in
+    let below = (All-contains (λ r. IsRange r.range) c.args.self.now.ranges range all among).below in
+    let few : rounded c.args.quantum c.args.request.now.size < 2 ^ 64 = omega (arith, x.on_list.0, x.large, below) in
+    absurd (c.in_default.ensures few)
+
+pub returns-in_default-newest-clause-one : goal.returns-in_default-newest-clause-one
+returns-in_default-newest-clause-one g c = λ by zero_before.
+    let none = subst (λ l. NoListServes c.args.quantum c.in-Some.units l) (ap (λ v. v.ranges) c.self.view_is) c.in_default-newest.ensures in
+    let units = c.in-Some.ensures.1 in
+    let x = by.1.1 in
+    absurd (none by.1.0 x.list (x.index, x.within, x.here by.1.0) x.on_list (omega (arith, x.large, units)))

@@ -47,14 +47,14 @@ returns-clause-added g c =
     let said = rw c.deref.ensures.value at c.overlaps.ensures in
     let apart : Any (λ (s : SlabState). Overlap s.span.range c.range-range.result) c.self.inside.slabs.items → ⊥ = λ any. let e : c.overlaps.result ≡ true = said.1 any in let f = c.if-overlaps.false in cc in
     let slabs = c.deref-2.ensures.value ∙ c.in-Ok.ensures.items in
-    let within = rw slabs at c.place_for-place.ensures.within in
-    let below = rw (slabs, c.base.ensures.value) at c.place_for-place.ensures.below in
-    let above = rw (slabs, c.base.ensures.value) at c.place_for-place.ensures.above in
+    let within = rw slabs at c.index_for-place.ensures.within in
+    let below = rw (slabs, c.base.ensures.value) at c.index_for-place.ensures.below in
+    let above = rw (slabs, c.base.ensures.value) at c.index_for-place.ensures.above in
     let put = rw c.in-Ok.ensures.items at c.insert_reserved.ensures.items in
     let tag = c.new-2.ensures
     ∙ ap (λ (h : Holding). let t : Tag = record { arena = c.self.inside.arena; route = Cached c.self.inside.k; holding = h } in t) (c.into_deed-2.ensures ∙ c.take-first.ensures.chunk ∙ ap (λ (s : SlabState). chunk_at s 0) slab) in (
-      c.place_for-place.result,
-      made_adds c.place_for-place.result c.next_colour-next.result c.take-first.new.self c.insert_reserved.new.items.items _ _ c.args.span _ c.range-range.result c.self.view_is c.chunk-chunk.ensures.sound
+      c.index_for-place.result,
+      made_adds c.index_for-place.result c.next_colour-next.result c.take-first.new.self c.insert_reserved.new.items.items _ _ c.args.span _ c.range-range.result c.self.view_is c.chunk-chunk.ensures.sound
           c.range-range.ensures.value c.range-range.ensures.range.some apart within below above after size put c.next_colour-next.ensures tag,
     )
 

@@ -25,7 +25,7 @@ returns-in_default-clause-ok c b held =
 pub returns-in_err-fresh-clause-err : goal.returns-in_err-fresh-clause-err
 returns-in_err-fresh-clause-err c =
     let first : position (is_cpu c.args.number) c.self.inside.cpus.items ≡ Some c.in-Some.index = ap (position (is_cpu c.args.number)) (sym c.as_slice.ensures.value) ∙ sym c.in-Some.ensures in
-    on_err c.from_residual.result (found_there c.args.number c.args.self.now.cpus c.in-Some.index (subst (λ (s : SupplyState). position (is_cpu c.args.number) s.cpus ≡ Some c.in-Some.index) c.self.view_is first), refl)
+    on_err c.from_residual.result (found_there c.args.number c.args.self.now.cpus c.in-Some.index (subst (λ (s : SupplyState). position (is_cpu c.args.number) s.cpus ≡ Some c.in-Some.index) c.self.view_is first))
 
 pub empty-requires-clause-out : goal.empty-requires-clause-out
 empty-requires-clause-out c =
