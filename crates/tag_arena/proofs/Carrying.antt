@@ -9,13 +9,11 @@ use Rattle.deed_core.specs.Request.{Fits, IsGood, rounded}
 use Rattle.deed_core.specs.declared.requests.Request.{Request}
 use Rattle.deed_core.proofs.LawProofs.{sum_by-map}
 use Rattle.std.proofs.lemmas.List.Sums.{sum_by-append, sum_by_push}
-use Rattle.tag_arena.specs.declared.choices.Found.{Found}
-use Rattle.tag_arena.specs.Found.{IsPlaced}
 use Rattle.tag_arena.specs.ArenaState.{ArenaState, spans_of, ranges_of, tags_of, direct, IsSound, IsChosen}
 use Rattle.tag_arena.specs.Calls.{part, Carves, after_carve, after_import, first_units}
 use Rattle.tag_arena.specs.Outcomes.{KeepsSetup, Carved, Imported}
 use Rattle.tag_arena.proofs.Importing.{Imports, import_sound, import_gains, import_covers}
-use Rattle.tag_arena.proofs.Granting.{CarvesAt, carves, carve_sound, carve_gains, carve_covers, found_cuttable, cuttable_carve, none_whole}
+use Rattle.tag_arena.proofs.Granting.{CarvesAt, carves, carve_sound, carve_gains, carve_covers, FoundAt, IsFoundAt, found_carves, none_whole}
 
 pub kept : (old new : ArenaState) → new ≡ old → KeepsSetup old new
 kept old new same = record {
@@ -47,10 +45,10 @@ spans_cover a u =
     omega (arith, imported, sum_by-append (covers_held u) a.owned (map (λ t. t.holding) a.imported))
 
 -- what was found was carved
-module _ (a : ArenaState) (q : Request) (f : Found) (n : ℕ) (sound : IsSound a) (good : IsGood a.quantum q) (chosen : IsChosen a q (Some f.base)) (placed : IsPlaced a.quantum q a.free f) (n_is : n ≡ rounded a.quantum q.size)
+module _ (a : ArenaState) (q : Request) (f : FoundAt) (n : ℕ) (sound : IsSound a) (good : IsGood a.quantum q) (chosen : IsChosen a q (Some f.base)) (placed : IsFoundAt a.quantum q a.free f) (n_is : n ≡ rounded a.quantum q.size)
     (new : ArenaState) (after : new ≡ after_carve a f.range (part f.range f.base n)) (s : Tag) (is : s ≡ direct a.id (part f.range f.base n)) (range : IsRange s.holding.range) where
   at : CarvesAt a f.at f.range (part f.range f.base n)
-  at = cuttable_carve a a f n sound.divided refl (found_cuttable a q f n sound good placed n_is)
+  at = found_carves a q f n sound good placed n_is
 
   holding : s.holding ≡ part f.range f.base n
   holding = ap (λ (t : Tag). t.holding) is

@@ -14,12 +14,11 @@ use Rattle.deed_core.specs.Covering.{covers, covering_held}
 use Rattle.deed_core.specs.Weights.{Gains}
 use Rattle.deed_core.specs.Request.{IsGood, rounded}
 use Rattle.deed_core.specs.declared.requests.Request.{Request}
-use Rattle.tag_arena.specs.declared.choices.Found.{Found}
 use Rattle.tag_arena.specs.declared.faults.ArenaFault.{ArenaFault}
 use Rattle.tag_arena.specs.declared.faults.ArenaFault.TheVariants.{NoFit, NoMemory}
 use Rattle.tag_arena.specs.Layout.{IsPartOf}
 use Rattle.tag_arena.specs.Choice.{IsChoice}
-use Rattle.tag_arena.specs.Found.{IsPlaced, IsCuttable}
+use Rattle.tag_arena.specs.Place.{ServesIn}
 use Rattle.tag_arena.specs.ArenaState.{ArenaState, IsDivided, IsSound, IsChosen, OnQuantum, ranges_of}
 use Rattle.tag_arena.specs.Calls.{part, rests, after_carve, Carves}
 use Rattle.tag_arena.proofs.Allocations.{gains_insert, remove-insert}
@@ -105,28 +104,26 @@ module _ (a : ArenaState) (at : ℕ) (r piece : Holding) (k : CarvesAt a at r pi
 pub none_whole : (a : ArenaState) → IsSound a → (r : Holding) (t : Tag) → Contains a.imported t → Contains a.free t.holding → t.holding ≡ r
 none_whole a sound r t in-t free = absurd (All-contains (λ s. ¬ Contains a.free s.holding) a.imported t sound.used in-t free)
 
--- what was found for a good request can be carved there
-pub found_cuttable : (a : ArenaState) (q : Request) (f : Found) (n : ℕ) → IsSound a → IsGood a.quantum q → IsPlaced a.quantum q a.free f → n ≡ rounded a.quantum q.size → IsCuttable a.quantum a.free f n
-found_cuttable a q f n sound good placed n_is = record {
-  within = placed.0;
-  here = placed.1;
-  some = omega (arith, n_is, rounded_some q.size a.quantum good.size);
-  from = placed.2.from;
-  to = omega (arith, n_is, placed.2.to);
-  grid = (placed.2.fits.whole, ap (λ k. k % a.quantum) n_is ∙ rounded_multiple q.size a.quantum (power_some a.quantum sound.divided.power));
-}
+-- a free range with its index, and an address in it
+pub record FoundAt : Type 0 where
+  pub at : ℕ
+  pub range : Holding
+  pub base : ℕ
 
-pub cuttable_carve : (a b : ArenaState) (f : Found) (n : ℕ) → IsDivided a → a ≡ b → IsCuttable b.quantum b.free f n → CarvesAt a f.at f.range (part f.range f.base n)
-cuttable_carve a b f n divided same can =
-    let here : IsCuttable a.quantum a.free f n = subst (λ (s : ArenaState). IsCuttable s.quantum s.free f n) (sym same) can in
-    record {
-      sound = divided;
-      within = here.within;
-      here = here.here;
-      held = record { root = refl; from = here.from; to = here.to };
-      some = here.some;
-      grid = here.grid;
-    }
+-- the range has that index, and serves at the address
+abbrev pub IsFoundAt : ℕ → Request → List Holding → FoundAt → Type 0
+IsFoundAt quantum q free f = (f.at < length free) × HoldsAt (λ r. r ≡ f.range) free f.at × ServesIn quantum q f.range f.base
+
+-- what was found for a good request can be carved there
+pub found_carves : (a : ArenaState) (q : Request) (f : FoundAt) (n : ℕ) → IsSound a → IsGood a.quantum q → IsFoundAt a.quantum q a.free f → n ≡ rounded a.quantum q.size → CarvesAt a f.at f.range (part f.range f.base n)
+found_carves a q f n sound good found n_is = record {
+  sound = sound.divided;
+  within = found.0;
+  here = found.1;
+  held = record { root = refl; from = found.2.from; to = omega (arith, n_is, found.2.to) };
+  some = omega (arith, n_is, rounded_some q.size a.quantum good.size);
+  grid = (found.2.fits.whole, ap (λ k. k % a.quantum) n_is ∙ rounded_multiple q.size a.quantum (power_some a.quantum sound.divided.power));
+}
 
 -- the error of a result
 err_or : {X : Type 0} → Result X ArenaFault → ArenaFault → ArenaFault

@@ -2,15 +2,27 @@
 use Rattle.std.proofs.Common.{◌≡◌, ℕ, ◌+◌, ◌<◌, ◌≤◌, sym, subst, ap, ◌∙◌, List, map, length, get_or, remove, HoldsAt, Contains, Some, sum_by, arith}
 use Rattle.std.proofs.lemmas.List.Elements.{Contains-append_left}
 use Rattle.std.proofs.lemmas.List.Sums.{sum_by-remove}
+use Rattle.std.specs.List.{AllWithin}
 use Rattle.deed_core.specs.Holding.{Holding, Apart}
 use Rattle.deed_core.specs.Weights.{Loses}
-use Rattle.tag_arena.specs.declared.whole_spans.Whole.{Whole}
-use Rattle.tag_arena.specs.Found.{LowestSoFar}
 use Rattle.tag_arena.specs.ArenaState.{ArenaState, IsDivided, IsSound}
 use Rattle.tag_arena.specs.Calls.{without, after_remove, IsLowestWhole}
 use Rattle.tag_arena.proofs.SpanLists.{without-remove, AllPairs-first}
 use Rattle.tag_arena.proofs.Using.{removed_used}
 use Rattle.tag_arena.proofs.Sounding.{span_some, sound_remove}
+
+-- a span, with its index among the owned ones and among the free ranges
+pub record WholeAt : Type 0 where
+  pub at : ℕ
+  pub free_at : ℕ
+  pub span : Holding
+
+-- it has these indexes, and no owned span that is a free range is below it
+abbrev pub IsLowestAt : List Holding → List Holding → WholeAt → Type 0
+IsLowestAt owned free w =
+    (w.at < length owned) × HoldsAt (λ s. s ≡ w.span) owned w.at × (w.free_at < length free)
+    × HoldsAt (λ r. r ≡ w.span) free w.free_at
+    × AllWithin (λ s. Contains free s → w.span.range.base ≤ s.range.base) owned 0 (length owned)
 
 -- one member less, however the list is weighed
 pub loses_at : (xs : List Holding) (k : ℕ) (r : Holding) → k < length xs → HoldsAt (λ x. x ≡ r) xs k → Loses xs (remove xs k) r
@@ -19,7 +31,7 @@ loses_at xs k r within here f =
     let at : f (get_or xs k r) ≡ f r = ap f (here r) in
     omega (arith, out, at)
 
-module _ (a : ArenaState) (sound : IsDivided a) (w : Whole) (so : LowestSoFar a.owned a.free (length a.owned) (Some w)) where
+module _ (a : ArenaState) (sound : IsDivided a) (w : WholeAt) (so : IsLowestAt a.owned a.free w) where
   in_owned : Contains a.owned w.span
   in_owned = (w.at, so.0, so.1 w.span)
 

@@ -5,5 +5,13 @@ pub mod ArenaState
 pub mod Calls
 pub mod Outcomes
 pub mod Laws
-pub mod Found
 pub mod Neighbors
+pub mod FreeTags
+pub mod Orders
+pub mod Slotted
+pub mod FreeRanges
+pub mod Fits
+pub mod Cuts
+pub mod Returns
+pub mod Spanned
+pub mod Found

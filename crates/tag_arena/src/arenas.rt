@@ -1,5 +1,5 @@
-//! The arena.
-ghost use Rattle.std.specs.Prelude.{◌≡◌, ◌+◌, ◌%◌, ◌≤◌, ◌↔◌, ◌<◌, [], ℕ, vec_len, vec_capacity};
+//! The arena, on the index of its free ranges.
+ghost use Rattle.std.specs.Prelude.{◌≡◌, ◌+◌, ◌-◌, ◌%◌, ◌^◌, ◌≤◌, ◌↔◌, ◌<◌, [], ℕ, length};
 ghost use Rattle.std.specs.Prelude.{IsTrue, IsOk, IfOk, IfErr, IfSome, OnOk, OnErr, Some};
 ghost use Rattle.std.specs.Prelude.{option_to_list, sum_by};
 ghost use Rattle.std.specs.Bool.{OnTrue, OnFalse};
@@ -16,20 +16,20 @@ ghost use Rattle.tag_arena.specs.ArenaState.{spans_of, layout_of, ranges_of, tag
 ghost use Rattle.tag_arena.specs.ArenaState.{IsChosen, IsSound, OnQuantum, empty_arena};
 ghost use Rattle.tag_arena.specs.Calls.{part, after_carve, RefusesCarve, IsClear, OverlapsSpan};
 ghost use Rattle.tag_arena.specs.Calls.{after_import, first_units, IsTagged};
-ghost use Rattle.tag_arena.specs.Found.{IsCuttable, IsPlaced};
+ghost use Rattle.tag_arena.specs.Fits.{IsFit};
+ghost use Rattle.tag_arena.specs.Found.{IsCuttable};
 ghost use Rattle.tag_arena.specs.Outcomes.{KeepsSetup, AddSpanOf, CarveOf, IsImportFor, ImportOf};
 ghost use Rattle.tag_arena.specs.Outcomes.{ImportCovers, FreeOf, RemoveOf};
 
-use crate::choices::{Found, chosen};
-use crate::cuts::{carve, cut_first, push_rest};
+use crate::cuts::cut_first;
 use crate::faults::{ArenaFault, SpanFault};
+use crate::free_index::FreeIndex;
 use crate::held_ranges::{HeldRange, held_range_of};
-use crate::merges::merge;
 use crate::policies::Policy;
-use crate::spans::{
-    Import, free_units, imported_units, index_of_import, overlaps_imported, overlaps_owned,
-    owned_units, span_at,
-};
+use crate::probes::Probes;
+use crate::searches::Fit;
+use crate::span_searches::{is_span, overlaps, span_at};
+use crate::spans::{Import, Spans};
 use crate::tags::Tags;
 use crate::whole_spans::lowest_whole;
 use deed_core::{Deed, Range, Request, Route, Segment, Stored};
@@ -38,23 +38,26 @@ use std::marker::Model;
 
 /// A set of whole numbers, handed out as segments. It is never copied or dropped.
 pub struct Arena<D: Deed> {
+    alloc: Global,
     id: u32,
     quantum: u64,
     policy: Policy,
-    owned: Vec<HeldRange>,
-    imported: Vec<Import>,
-    free: Vec<Stored<D>>,
+    owned: Spans,
+    imported: Spans,
+    free: FreeIndex<D>,
     tags: Tags,
     rover: u64,
+    probes: Probes,
 }
 
 impl<D: Deed> Model for Arena<D> {
-    ghost use Rattle.std.specs.Prelude.{◌+◌, ◌≤◌, vec_len, vec_capacity};
     ghost use Rattle.std.specs.Coded.{codes, coded_ℕ};
     ghost use Rattle.std.specs.Ordering.{nat_cmp};
     ghost use Rattle.std.specs.FinMap as finmap;
     ghost use Rattle.deed_core.specs.Holding.{Holding};
     ghost use Rattle.tag_arena.specs.ArenaState.{ArenaState, IsSound};
+    ghost use Rattle.tag_arena.specs.FreeRanges.{IsBacked};
+    ghost use Rattle.tag_arena.specs.Spanned.{held};
 
     ghost Value = { ArenaState };
 
@@ -65,9 +68,9 @@ impl<D: Deed> Model for Arena<D> {
       id = a.id;
       quantum = a.quantum;
       policy = a.policy;
-      owned = a.owned.items;
+      owned = held a.owned.items;
       imported = a.imported.items;
-      free = a.free.items;
+      free = a.free.ranges;
       allocated = a.tags;
       rover = a.rover;
     } };
@@ -78,13 +81,13 @@ impl<D: Deed> Model for Arena<D> {
           id = a.id;
           quantum = a.quantum;
           policy = a.policy;
-          owned = a.owned.items;
+          owned = held a.owned.items;
           imported = a.imported.items;
-          free = a.free.items;
+          free = a.free.ranges;
           allocated = a.tags;
           rover = a.rover;
         })
-        × (vec_len a.free + finmap.len a.tags ≤ vec_capacity a.free) };
+        × IsBacked a.policy a.free (finmap.len a.tags) };
 }
 
 /// How many units an arena has.
@@ -105,14 +108,16 @@ impl<D: Deed> Arena<D> {
         ensures { result ≡ empty_arena id quantum policy }
     {
         Arena {
+            alloc,
             id,
             quantum,
             policy,
-            owned: Vec::new(alloc),
-            imported: Vec::new(alloc),
-            free: Vec::new(alloc),
+            owned: Spans::new(alloc),
+            imported: Spans::new(alloc),
+            free: FreeIndex::new(alloc, policy),
             tags: Tags::new(alloc),
             rover: 0,
+            probes: Probes::new(),
         }
     }
 
@@ -152,8 +157,8 @@ impl<D: Deed> Arena<D> {
         ensures longest { FreeIsLongestRuns (layout_of self.now) }
         ensures sound { IsSound self.now }
     {
-        let span = owned_units(&self.owned) + imported_units(&self.imported);
-        let free = free_units(&self.free);
+        let span = self.owned.units() + self.imported.units();
+        let free = self.free.units();
         ArenaReport {
             span,
             free,
@@ -161,15 +166,21 @@ impl<D: Deed> Arena<D> {
         }
     }
 
+    /// How many free ranges the last `xalloc` that granted looked at, 0 before the first.
+    pub fn probes(&self) -> u64 {
+        self.probes.count
+    }
+
     /// Ends the arena where it holds no deed.
     pub fn close(self) -> Result<(), Arena<D>>
         ensures empty { IsOk result ↔ (self.free ≡ []) }
         ensures handed_back { IfErr result (λ same. same ≡ self) }
     {
-        if !self.free.is_empty() {
+        if self.free.len() != 0 {
             return Err(self);
         }
         let Arena {
+            alloc: _,
             id: _,
             quantum: _,
             policy: _,
@@ -178,8 +189,9 @@ impl<D: Deed> Arena<D> {
             free,
             tags: _,
             rover: _,
+            probes: _,
         } = self;
-        free.destroy_empty();
+        free.destroy();
         Ok(())
     }
 
@@ -188,10 +200,10 @@ impl<D: Deed> Arena<D> {
         ensures overlaps { OnTrue result (OverlapsSpan self.now range.now) }
         ensures clear { OnFalse result (IsClear self.now range.now) }
     {
-        if overlaps_owned(&self.owned, range) {
+        if overlaps(&self.owned, range) {
             return true;
         }
-        if overlaps_imported(&self.imported, range) {
+        if overlaps(&self.imported, range) {
             return true;
         }
         false
@@ -222,15 +234,15 @@ impl<D: Deed> Arena<D> {
         if !self.is_aligned(&range) {
             return Err(SpanFault::NotAligned(deed));
         }
-        let Ok(()) = self.owned.reserve(1) else {
+        let Ok(()) = self.owned.reserve(self.alloc) else {
             return Err(SpanFault::NoMemory(deed));
         };
-        let Ok(()) = reserve_free(&mut self.free, &self.tags, 1) else {
+        let Ok(()) = reserve_free(self.alloc, &mut self.free, &self.tags, 1) else {
             return Err(SpanFault::NoMemory(deed));
         };
         let stored = Stored::new(deed);
-        self.owned.push_reserved(held_range_of(&stored));
-        self.free.push_reserved(stored);
+        self.owned.put(Import::new(self.id, held_range_of(&stored)));
+        self.free.insert(stored);
         Ok(())
     }
 
@@ -249,26 +261,30 @@ impl<D: Deed> Arena<D> {
             (u : ℕ) → covering_held u self.old.free
             ≡ covering_held u self.new.free + covers u s.holding.range) }
     {
-        let found = self.choose(request)?;
+        let mut probes = Probes::new();
+        let found = self.choose(request, &mut probes)?;
         let len = request.units(self.quantum).unwrap();
-        Ok(self.carve_found(found, len)?)
+        let segment = self.carve_found(found, len)?;
+        self.probes = probes;
+        Ok(segment)
     }
 
     /// What the policy chooses for the request, and where it stands.
-    fn choose(&self, request: &Request) -> Result<Found, ArenaFault>
+    fn choose(&self, request: &Request, probes: &mut Probes) -> Result<Fit, ArenaFault>
         ensures good { OnOk result (IsGood self.now.quantum request.now) }
         ensures chosen { IfOk result (λ found. IsChosen self.now request.now (Some found.base)) }
-        ensures placed { IfOk result (IsPlaced self.now.quantum request.now self.now.free) }
+        ensures placed { IfOk result (IsFit self.now.quantum request.now self.now.free) }
         ensures refused { IfErr result (RefusesCarve self.now request.now) }
     {
         if !request.is_good(self.quantum) {
             return Err(ArenaFault::BadRequest);
         }
-        chosen(&self.free, self.policy, self.rover, self.quantum, request).ok_or(ArenaFault::NoFit)
+        let chosen = self.free.chosen(self.rover, self.quantum, request, probes);
+        chosen.ok_or(ArenaFault::NoFit)
     }
 
     /// Carves the first `len` units of what was found.
-    fn carve_found(&mut self, found: Found, len: u64) -> Result<Segment<D>, AllocError>
+    fn carve_found(&mut self, found: Fit, len: u64) -> Result<Segment<D>, AllocError>
         requires { IsCuttable self.old.quantum self.old.free found len }
         ensures segment { let piece = part found.range found.base len in
             IfOk result (λ s. s ≡ direct self.old.id piece) }
@@ -278,10 +294,10 @@ impl<D: Deed> Arena<D> {
         ensures unchanged { OnErr result (self.new ≡ self.old) }
     {
         // Room for both rests, of which one takes the place of the range, and for the piece.
-        reserve_free(&mut self.free, &self.tags, 2)?;
+        reserve_free(self.alloc, &mut self.free, &self.tags, 2)?;
         let piece = HeldRange::new(found.range.root(), piece_of(found.range, found.base, len));
         self.tags.insert(piece)?;
-        let Ok(deed) = carve(&mut self.free, found.at, found.range, found.base, len) else {
+        let Ok(deed) = self.free.carve(found.range, found.base, len) else {
             self.tags.remove(piece);
             return Err(AllocError);
         };
@@ -338,10 +354,10 @@ impl<D: Deed> Arena<D> {
         ensures handed_back { IfErr result (λ same. same ≡ span) }
         ensures unchanged { OnErr result (self.new ≡ self.old) }
     {
-        let Ok(()) = self.imported.reserve(1) else {
+        let Ok(()) = self.imported.reserve(self.alloc) else {
             return Err(span);
         };
-        let Ok(()) = reserve_free(&mut self.free, &self.tags, 2) else {
+        let Ok(()) = reserve_free(self.alloc, &mut self.free, &self.tags, 2) else {
             return Err(span);
         };
         let whole = HeldRange::new(span.root(), span.range());
@@ -357,8 +373,8 @@ impl<D: Deed> Arena<D> {
                 return Err(span);
             }
         };
-        push_rest(&mut self.free, rest);
-        self.imported.push_reserved(Import::new(source, whole));
+        self.free.insert_rest(rest);
+        self.imported.put(Import::new(source, whole));
         self.rover = first.end();
         Ok(Segment::new(self.id, Route::Direct, deed.into_deed()))
     }
@@ -393,14 +409,14 @@ impl<D: Deed> Arena<D> {
             return Err(segment);
         }
         let span = span_at(&self.owned, &self.imported, tagged.base()).unwrap();
-        let merged = merge(&mut self.free, span, Stored::new(segment.into_deed()));
+        let lent = is_span(&self.imported, span);
         self.tags.remove(tagged);
-        let Some(at) = index_of_import(&self.imported, &held_range_of(&merged)) else {
-            self.free.push_reserved(merged);
+        let deed = Stored::new(segment.into_deed());
+        let Some(whole) = self.free.give_back(span, lent, deed) else {
             return Ok(None);
         };
-        let import = self.imported.remove(at);
-        Ok(Some(Segment::new(import.source(), Route::Direct, merged.into_deed())))
+        let import = self.imported.take(span);
+        Ok(Some(Segment::new(import.source(), Route::Direct, whole.into_deed())))
     }
 
     /// Takes out the lowest owned span that is wholly free. It takes no memory.
@@ -420,26 +436,35 @@ impl<D: Deed> Arena<D> {
         let Some(whole) = lowest_whole(&self.owned, &self.free) else {
             return None;
         };
-        let _ = self.owned.remove(whole.at);
-        Some(self.free.remove(whole.free_at).into_deed())
+        let _ = self.owned.take(whole);
+        Some(self.free.take(whole.base()).into_deed())
     }
 }
 
 /// Makes room for `more` free ranges, and for each allocated range to become free again.
 fn reserve_free<D: Deed>(
-    free: &mut Vec<Stored<D>>,
+    alloc: Global,
+    free: &mut FreeIndex<D>,
     tags: &Tags,
     more: usize,
 ) -> Result<(), AllocError>
-    ensures items { free.new.items ≡ free.old.items }
     ensures room { OnOk result
-        (vec_len free.new + finmap.len tags.now + more ≤ vec_capacity free.new) }
-    ensures grows { vec_capacity free.old ≤ vec_capacity free.new }
+        (length free.new.ranges + finmap.len tags.now + more ≤ free.new.room) }
+    ensures ticks { OnOk result (finmap.len tags.now + more < free.new.ticks) }
+    ensures bound { OnOk result (finmap.len tags.now + more < 2 ^ 64) }
+    ensures rest { free.new ≡ record free.old { room = free.new.room } }
+    ensures grows { free.old.room ≤ free.new.room }
 {
-    let Some(room) = tags.len().checked_add(more) else {
+    let Some(back) = tags.len().checked_add(more) else {
         return Err(AllocError);
     };
-    free.reserve(room)
+    let Some(room) = free.len().checked_add(back) else {
+        return Err(AllocError);
+    };
+    if free.ticks() <= back as u64 {
+        return Err(AllocError);
+    }
+    free.reserve(alloc, room)
 }
 
 /// The `len` units from `base` on, which lie in the range.

@@ -1,19 +1,18 @@
-//! Cuts of a free range.
-ghost use Rattle.std.specs.Prelude.{◌≡◌, ◌+◌, ◌-◌, ◌<◌, ◌≤◌, ◌++◌, HoldsAt, IfOk, IfErr, OnErr};
-ghost use Rattle.std.specs.Prelude.{IfNone, IfSome, vec_len, vec_capacity, remove, option_to_list};
+//! Cuts of a deed.
+ghost use Rattle.std.specs.Prelude.{◌≡◌, ◌-◌, ◌<◌, ◌≤◌, IfOk, IfErr, IfNone, IfSome};
+ghost use Rattle.std.specs.Prelude.{◌+◌, option_to_list};
 ghost use Rattle.deed_core.specs.Extent.{end_of};
 ghost use Rattle.deed_core.specs.Holding.{joined, GoesOn};
-ghost use Rattle.tag_arena.specs.Calls.{part, between, rests};
+ghost use Rattle.tag_arena.specs.Calls.{part, between};
+ghost use Rattle.tag_arena.specs.Cuts.{IsCut};
 
-use crate::held_ranges::HeldRange;
-use deed_core::{Deed, Segment, Stored, insert_reserved};
-use std::alloc::AllocError;
+use deed_core::{Deed, Segment, Stored};
 
 /// A piece of a deed, and what is left of the deed on either side.
-struct Cut<D: Deed> {
-    low: Option<Stored<D>>,
-    piece: Stored<D>,
-    high: Option<Stored<D>>,
+pub struct Cut<D: Deed> {
+    pub low: Option<Stored<D>>,
+    pub piece: Stored<D>,
+    pub high: Option<Stored<D>>,
 }
 
 /// What is below `base`, and what is from there on.
@@ -75,15 +74,11 @@ fn rejoin<D: Deed>(low: Option<Stored<D>>, rest: Stored<D>) -> Stored<D>
 }
 
 /// The units from `base` to `end`, or the deed as it was.
-fn cut_out<D: Deed>(whole: Stored<D>, base: u64, end: u64) -> Result<Cut<D>, Stored<D>>
+pub fn cut_out<D: Deed>(whole: Stored<D>, base: u64, end: u64) -> Result<Cut<D>, Stored<D>>
     requires from { whole.range.base ≤ base }
     requires some { base < end }
     requires to { end ≤ end_of whole.range }
-    ensures piece { IfOk result (λ parts. parts.piece ≡ part whole base (end - base)) }
-    ensures low { IfOk result (λ parts.
-        option_to_list parts.low ≡ between whole whole.range.base base) }
-    ensures high { IfOk result (λ parts.
-        option_to_list parts.high ≡ between whole end (end_of whole.range)) }
+    ensures cut { IfOk result (λ cut. IsCut whole base end cut.low cut.piece cut.high) }
     ensures handed_back { IfErr result (λ same. same ≡ whole) }
 {
     let (low, rest) = match cut_low(whole, base) {
@@ -93,56 +88,6 @@ fn cut_out<D: Deed>(whole: Stored<D>, base: u64, end: u64) -> Result<Cut<D>, Sto
     match cut_high(rest, end) {
         Ok((piece, high)) => Ok(Cut { low, piece, high }),
         Err(rest) => Err(rejoin(low, rest)),
-    }
-}
-
-/// Puts a rest, if there is one, last.
-pub fn push_rest<D: Deed>(free: &mut Vec<Stored<D>>, rest: Option<Stored<D>>)
-    requires { vec_len free.old < vec_capacity free.old }
-    ensures items { free.new.items ≡ free.old.items ++ option_to_list rest }
-    ensures len { vec_len free.new ≤ vec_len free.old + 1 }
-    ensures capacity { vec_capacity free.new ≡ vec_capacity free.old }
-{
-    match rest {
-        Some(rest) => free.push_reserved(rest),
-        None => {}
-    }
-}
-
-/// Takes the range at an index out of the list, cuts `len` units from `base` on out of it, and puts
-/// its rests last, the low one first.
-pub fn carve<D: Deed>(
-    free: &mut Vec<Stored<D>>,
-    at: usize,
-    range: HeldRange,
-    base: u64,
-    len: u64,
-) -> Result<Stored<D>, AllocError>
-    requires at { at < vec_len free.old }
-    requires here { HoldsAt (λ r. r ≡ range) free.old.items at }
-    requires some { 0 < len }
-    requires from { range.range.base ≤ base }
-    requires to { base + len ≤ end_of range.range }
-    requires room { vec_len free.old < vec_capacity free.old }
-    ensures piece { IfOk result (λ piece. piece ≡ part range base len) }
-    ensures items { IfOk result (λ piece.
-        free.new.items ≡ remove free.old.items at ++ rests range piece) }
-    ensures unchanged { OnErr result (free.new.items ≡ free.old.items) }
-    ensures len { vec_len free.new ≤ vec_len free.old + 1 }
-    ensures capacity { vec_capacity free.new ≡ vec_capacity free.old }
-{
-    let _ = range.end();
-    let whole = free.remove(at);
-    match cut_out(whole, base, base + len) {
-        Ok(Cut { low, piece, high }) => {
-            push_rest(free, low);
-            push_rest(free, high);
-            Ok(piece)
-        }
-        Err(same) => {
-            insert_reserved(free, at, same);
-            Err(AllocError)
-        }
     }
 }
 

@@ -1,7 +1,7 @@
 //! One arena: ranges of whole numbers, carved by a policy and freed again. `Arena` is where to
 //! begin; `specs/ArenaState.antt` says what its contracts see, `specs/Calls.antt` what a call does
 //! to it, and `specs/Outcomes.antt` what a call comes to, by cases on its answer. Its tests stand
-//! in the crate `cross_tests`.
+//! in the crate `cross_tests`, and a plain body with the same contract in `plain_arena`.
 //!
 //! A span of 32 units with the quantum 4, of which two segments are out:
 //!
@@ -11,26 +11,46 @@
 //!          ^span's base                   ^span's end: free ranges of two spans never merge
 //! ```
 //!
-//! What it costs: a call looks at each of the ranges that it searches a few times at most, so its
-//! time grows with their number: `xalloc` with that of the free ranges, `add_span` and
-//! `add_span_and_carve` with that of the spans, `free` with that of both, `report` likewise.
-//! `remove_owned` looks for owned spans among the free ranges, at worst each with each. `id`,
-//! `quantum`, `policy` and `close` take constant time. An arena keeps a few words for each span,
-//! free range and segment that is out.
+//! `FreeIndex` holds the deeds of the free ranges, which a contract sees as one list from the
+//! oldest to the newest. In it
+//!
+//! * `slots` has each deed in a slot of its own, with the time at which it became free;
+//! * `falling` has the ranges by base from the highest on, for the neighbors of a range;
+//! * `sizes` has them by length and base, under `best` and `instant`;
+//! * `lists` has them by power-of-two list, the newest first, under `instant`;
+//! * `rising` has them by base with their lengths as weights, under `next`.
+//!
+//! Round it `Arena` has the allocated ranges by their bases in a hashed map, `Tags`, and the owned
+//! and the imported spans, each in the order of their ends, in `Spans`; a contract sees spans in
+//! order of coming.
+//!
+//! What it costs: a call looks at a few rows of each index, whatever the number of ranges and of
+//! spans; `Arena::probes` tells how many free ranges the last grant looked at. Two calls look at
+//! more: `Arena::report` at each slot of a free range, and `Arena::remove_owned` at each owned span
+//! below the one that it takes. A constrained request may look at many ranges that don't serve it.
+//! A carve and a new span make room for what they add, and for each allocated range to become free,
+//! before they change anything: so `Arena::free` and `Arena::remove_owned` take no memory.
 //!
 //! Its rules are those of "Magazines and Vmem" (2001), where no other source is named.
 #![tactic(auto)]
 
 mod arenas;
-mod choices;
 mod cuts;
+mod earliest;
+mod entries;
 mod faults;
+mod free_index;
 mod held_ranges;
 mod laws;
 mod merges;
+mod orders;
 mod places;
 mod policies;
-mod power_lists;
+mod probes;
+mod searches;
+mod slots;
+mod span_entries;
+mod span_searches;
 mod spans;
 mod tags;
 mod whole_spans;

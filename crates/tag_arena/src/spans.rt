@@ -1,17 +1,18 @@
 //! The spans of an arena.
-ghost use Rattle.std.specs.Prelude.{◌≡◌, ◌≢◌, ℕ, ◌+◌, ◌*◌, ◌^◌, ◌<◌, ◌≤◌, ◌++◌, map, All, Any};
-ghost use Rattle.std.specs.Prelude.{Contains, HoldsAt, IsTrue, MatchBool, MatchOption, IfSome};
-ghost use Rattle.std.specs.Prelude.{length, slice_index_or, sum_by, take};
+ghost use Rattle.std.specs.Prelude.{◌≡◌, ◌≢◌, ◌^◌, ◌<◌, ◌++◌, ◌∷◌, [], All, Contains, OnOk};
 ghost use Rattle.deed_core.specs.Covering.{units_held};
-ghost use Rattle.deed_core.specs.Extent.{Covers, Overlap, IsRange};
+ghost use Rattle.deed_core.specs.Extent.{end_of};
 ghost use Rattle.deed_core.specs.declared.segments.Route.TheVariants.{Direct};
+ghost use Rattle.tag_arena.specs.Spanned.{held, AreDisjoint, IsFirstPast, WithoutSpan};
 
 use crate::held_ranges::HeldRange;
-use deed_core::{Deed, Range, Stored};
+use crate::span_entries::SpanEntry;
+use sorted_rows::Rows;
+use std::alloc::{AllocError, Global};
 use std::marker::Model;
 
-/// An imported span, with the arena that it came from. A contract sees the segment that goes back
-/// there.
+/// A span, with the arena that it came from, which of an owned one is this arena itself. A contract
+/// sees the segment that goes back there.
 #[derive(Drop)]
 pub struct Import {
     source: u32,
@@ -47,117 +48,107 @@ impl Import {
     }
 }
 
-/// Whether an owned span overlaps the range.
-pub fn overlaps_owned(owned: &[HeldRange], range: &Range) -> bool
-    ensures { MatchBool result (Any (λ s. Overlap s.range range.now) owned.now)
-        (All (λ s. ¬ Overlap s.range range.now) owned.now) }
-{
-    for span in owned {
-        if span.range().overlaps(range) {
-            return true;
+/// Spans, found by their ends. A contract sees each as the segment that goes back where it came
+/// from, in order of coming, and how many more may come without memory.
+#[derive(Drop)]
+pub struct Spans {
+    rows: Rows<SpanEntry>,
+    clock: u64,
+    units: u128,
+}
+
+impl Model for Spans {
+    ghost use Rattle.std.specs.Prelude.{◌-◌, ◌^◌, length, map, min};
+    ghost use Rattle.tag_arena.specs.Spanned.{SpansState, AreSpans, by_coming, tag_of};
+
+    ghost Value = { SpansState };
+
+    ghost view = { λ s. record {
+      items = map tag_of (by_coming s.rows.items);
+      more = min (s.rows.room - length s.rows.items) (2 ^ 64 - 1 - s.clock);
+    } };
+
+    ghost invariant = { λ s. AreSpans s.rows.items s.clock s.units };
+}
+
+impl Spans {
+    /// No span.
+    pub fn new(alloc: Global) -> Spans
+        ensures { result.items ≡ [] }
+    {
+        Spans {
+            rows: Rows::new(alloc),
+            clock: 0,
+            units: 0,
         }
     }
-    false
-}
 
-/// Whether an imported span overlaps the range.
-pub fn overlaps_imported(imported: &[Import], range: &Range) -> bool
-    ensures { MatchBool result (Any (λ t. Overlap t.holding.range range.now) imported.now)
-        (All (λ t. ¬ Overlap t.holding.range range.now) imported.now) }
-{
-    for import in imported {
-        if import.span().range().overlaps(range) {
-            return true;
+    /// How many units they have.
+    pub fn units(&self) -> u128
+        ensures sum { result ≡ units_held (held self.now.items) }
+        ensures bound { result < 2 ^ 127 }
+    {
+        // The clock is read for the proof alone.
+        let _clock = self.clock;
+        self.units
+    }
+
+    /// Makes room for one more.
+    pub fn reserve(&mut self, alloc: Global) -> Result<(), AllocError>
+        ensures more { OnOk result (0 < self.new.more) }
+        ensures items { self.new.items ≡ self.old.items }
+    {
+        if self.clock == u64::MAX {
+            return Err(AllocError);
         }
+        let Some(room) = self.rows.len().checked_add(1) else {
+            return Err(AllocError);
+        };
+        self.rows.reserve(alloc, room)
     }
-    false
-}
 
-/// The owned span that `base` lies in.
-fn owned_at(owned: &[HeldRange], base: u64) -> Option<HeldRange>
-    ensures { MatchOption result (All (λ s. ¬ Covers s.range base) owned.now)
-        (λ s. Contains owned.now s × Covers s.range base) }
-{
-    for span in owned {
-        if span.base() <= base && base < span.end() {
-            return Some(*span);
-        }
+    /// One more comes. It takes no memory.
+    pub fn put(&mut self, import: Import)
+        requires more { 0 < self.old.more }
+        requires absent { let end = end_of import.holding.range in
+            All (λ t. end_of t.holding.range ≢ end) self.old.items }
+        ensures { self.new.items ≡ self.old.items ++ import ∷ [] }
+    {
+        // For its clause: the entries stand in the order of their ends.
+        let _ = self.rows.len();
+        let Import { source, span } = import;
+        self.clock += 1;
+        self.units += span.len() as u128;
+        self.rows.insert(SpanEntry {
+            span,
+            source,
+            since: self.clock,
+        });
     }
-    None
-}
 
-/// The imported span that `base` lies in.
-fn imported_at(imported: &[Import], base: u64) -> Option<HeldRange>
-    ensures { let spans = map (λ t. t.holding) imported.now in
-        MatchOption result (All (λ s. ¬ Covers s.range base) spans)
-        (λ s. Contains spans s × Covers s.range base) }
-{
-    for import in imported {
-        let span = import.span();
-        if span.base() <= base && base < span.end() {
-            return Some(span);
-        }
+    /// Takes a span out. It takes no memory.
+    pub fn take(&mut self, span: HeldRange) -> Import
+        requires disjoint { AreDisjoint (held self.old.items) }
+        requires present { Contains (held self.old.items) span }
+        ensures items { WithoutSpan self.old.items result self.new.items }
+        ensures span { result.holding ≡ span }
+    {
+        // For its clause: the entries stand in the order of their ends.
+        let _ = self.rows.len();
+        let entry = self.rows.remove(span.end() as u128);
+        self.units -= entry.span.len() as u128;
+        Import::new(entry.source, entry.span)
     }
-    None
-}
 
-/// The span that `base` lies in.
-pub fn span_at(owned: &[HeldRange], imported: &[Import], base: u64) -> Option<HeldRange>
-    ensures { let spans = owned.now ++ map (λ t. t.holding) imported.now in
-        MatchOption result (All (λ s. ¬ Covers s.range base) spans)
-        (λ s. Contains spans s × Covers s.range base) }
-{
-    if let Some(span) = owned_at(owned, base) {
-        return Some(span);
+    /// Of the spans that end past `unit`, the one that ends first.
+    pub fn first_past(&self, unit: u64) -> Option<Import>
+        ensures { IsFirstPast unit self.now.items result }
+    {
+        // For its clause: the entries stand in the order of their ends.
+        let _ = self.rows.len();
+        let Some(entry) = self.rows.least_from(unit as u128 + 1) else {
+            return None;
+        };
+        Some(Import::new(entry.source, entry.span))
     }
-    imported_at(imported, base)
-}
-
-/// Where the imported span with this root and range stands.
-pub fn index_of_import(imported: &[Import], span: &HeldRange) -> Option<usize>
-    ensures { MatchOption result (All (λ t. t.holding ≢ span.now) imported.now)
-        (λ at. (at < length imported.now)
-        × HoldsAt (λ t. t.holding ≡ span.now) imported.now at) }
-{
-    for (at, import) in imported.iter().enumerate() {
-        if import.span() == *span {
-            return Some(at);
-        }
-    }
-    None
-}
-
-/// How many units the owned spans have.
-pub fn owned_units(owned: &[HeldRange]) -> u128
-    ensures sum { result ≡ units_held owned.now }
-    ensures bound { result ≤ length owned.now * 2 ^ 62 }
-{
-    let mut units: u128 = 0;
-    for span in owned {
-        units += span.len() as u128;
-    }
-    units
-}
-
-/// How many units the imported spans have.
-pub fn imported_units(imported: &[Import]) -> u128
-    ensures sum { result ≡ units_held (map (λ t. t.holding) imported.now) }
-    ensures bound { result ≤ length imported.now * 2 ^ 62 }
-{
-    let mut units: u128 = 0;
-    for import in imported {
-        units += import.span().len() as u128;
-    }
-    units
-}
-
-/// How many units the free ranges have.
-pub fn free_units<D: Deed>(free: &[Stored<D>]) -> u128
-    ensures { result ≡ units_held free.now }
-{
-    let mut units: u128 = 0;
-    for at in 0..free.len() {
-        units += free[at].range().len() as u128;
-    }
-    units
 }

@@ -1,8 +1,26 @@
-use Rattle.std.proofs.Common.{◌≡◌, length, subst, arith}
-use Rattle.tag_arena.specs.Found.{LowestSoFar}
+use Rattle.std.proofs.Common.{Contains, Some, sym, ap, subst, ◌∙◌, arith}
+use Rattle.deed_core.specs.Extent.{end_of}
+use Rattle.deed_core.specs.Holding.{Holding}
+use Rattle.tag_arena.specs.Spanned.{held, IsFirstPast, IsLowestFree}
+use Rattle.tag_arena.proofs.SpanFinding.{lowest_here, passed_more, none_lowest}
 use Rattle.tag_arena.proofs.whole_spans.lowest_whole.Goals as goal
 
+pub returns-then-has : goal.returns-then-has
+returns-then-has g c =
+    let tags = c.args.spans.now.items in
+    let free = c.args.free.now.ranges in
+    let first = subst (IsFirstPast c.loop-next.from tags) c.in-Some.is c.first_past.ensures in
+    let there = subst (Contains free) c.span-span.ensures c.if-has.ensures in
+    subst (λ (h : Holding). IsLowestFree (held tags) free (Some h)) (sym c.span-span.ensures) (lowest_here tags c.loop-next.from c.in-Some.next first c.requires.disjoint free c.loop-next.invariant there)
+
+pub loop-next-preserved : goal.loop-next-preserved
+loop-next-preserved g c =
+    let tags = c.args.spans.now.items in
+    let free = c.args.free.now.ranges in
+    let first = subst (IsFirstPast c.loop-next.from tags) c.in-Some.is c.first_past.ensures in
+    let end = c.end-from.ensures.value ∙ ap (λ (h : Holding). end_of h.range) c.span-span.ensures in
+    let not = λ (is : Contains free c.in-Some.next.holding). c.if-has.ensures (subst (Contains free) (sym c.span-span.ensures) is) in
+    λ s in-s le. passed_more tags c.loop-next.from c.in-Some.next first c.requires.disjoint free c.loop-next.invariant not s in-s (omega (arith, le, end))
+
 pub returns : goal.returns
-returns g c =
-    let all : c.loop-at.at ≡ length c.args.owned.now = omega arith in
-    subst (λ n. LowestSoFar c.args.owned.now c.args.free.now n c.loop-at.lowest) all c.loop-at.invariant
+returns g c = none_lowest c.args.spans.now.items c.loop-next.from c.args.free.now.ranges c.loop-next.invariant (subst (IsFirstPast c.loop-next.from c.args.spans.now.items) c.in_default.is c.first_past.ensures)

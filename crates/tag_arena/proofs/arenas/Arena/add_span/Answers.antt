@@ -1,23 +1,39 @@
-use Rattle.std.proofs.Common.{◌≡◌, ◌++◌, ◌∷◌, [], refl, subst, sym, arith}
-use Rattle.deed_core.specs.Extent.{Extent}
+use Rattle.std.proofs.Common.{◌≡◌, ℕ, ◌++◌, ◌∷◌, [], List, All, ◌≢◌, refl, subst, sym, ap, ◌∙◌, arith}
+use Rattle.std.proofs.lemmas.List.Elements.{Contains-append_left}
+use Rattle.deed_core.specs.Extent.{Extent, end_of}
 use Rattle.deed_core.specs.Holding.{Holding}
+use Rattle.deed_core.specs.Tag.{Tag}
 use Rattle.tag_arena.specs.ArenaState.{ArenaState, OnQuantum}
 use Rattle.tag_arena.specs.Calls.{IsClear}
 use Rattle.tag_arena.proofs.Adding.{pushed, same_range}
 use Rattle.tag_arena.proofs.Sounding.{the_state}
 use Rattle.tag_arena.proofs.Using.{added_sound}
+use Rattle.tag_arena.proofs.Backing.{backed_insert}
+use Rattle.tag_arena.specs.Spanned.{held}
+use Rattle.tag_arena.proofs.Granted.{begins_outside, ends_alone, held_more}
 use Rattle.tag_arena.proofs.arenas.Arena.add_span.Goals as goal
+
+pub insert-requires-clause-absent : goal.insert-requires-clause-absent
+insert-requires-clause-absent g c =
+    let a = the_state c.self.invariant.0 in
+    let h : Holding = c.new-stored.result in
+    let range : c.range-range.result ≡ h.range = same_range _ h _ c.range-range.ensures.value c.new-stored.ensures in
+    let clear = subst (λ (s : ArenaState). IsClear s c.range-range.result × OnQuantum s.quantum c.range-range.result) (sym c.self.view_is) (c.if-has_overlap.ensures.clear, c.if-not-is_aligned.ensures.0 refl) in
+    let sound = added_sound a c.self.invariant.0 h c.held_range_of.ensures.range (subst (λ (e : Extent). OnQuantum c.self.inside.quantum e) range clear.1) (subst (λ (e : Extent). IsClear a e) range clear.0) in
+    let some = c.held_range_of.ensures.range.some in
+    subst (λ (xs : List Holding). All (λ r. r.range.base ≢ h.range.base) xs) (sym (ap (λ v. v.ranges) c.reserve_free.ensures.rest))
+    (begins_outside a h h.range.base c.self.invariant.0.divided sound.divided.whole.free_apart (omega arith, omega (arith, some)))
 
 pub invariant_of-self-2 : goal.invariant_of-self-2
 invariant_of-self-2 g c =
     let a = the_state c.self.invariant.0 in
     let h : Holding = c.new-stored.result in
     let range : c.range-range.result ≡ h.range = same_range _ h _ c.range-range.ensures.value c.new-stored.ensures in
-    let owned : c.push_reserved.new.self.items ≡ a.owned ++ h ∷ [] = pushed _ _ _ _ _ c.push_reserved.ensures.items c.reserve.ensures.items c.held_range_of.ensures.value in
-    let free : c.push_reserved-2.new.self.items ≡ a.free ++ h ∷ [] = pushed _ _ _ _ _ c.push_reserved-2.ensures.items c.reserve_free.ensures.items refl in
+    let owned : held c.put.new.self.items ≡ a.owned ++ h ∷ [] = held_more _ _ _ _ h c.put.ensures c.reserve.ensures.items (ap (λ (t : Tag). t.holding) c.new.ensures ∙ c.held_range_of.ensures.value) in
+    let free : c.insert.new.self.ranges ≡ a.free ++ h ∷ [] = pushed _ _ _ _ _ c.insert.ensures.ranges (ap (λ v. v.ranges) c.reserve_free.ensures.rest) refl in
     let clear = subst (λ (s : ArenaState). IsClear s c.range-range.result × OnQuantum s.quantum c.range-range.result) (sym c.self.view_is) (c.if-has_overlap.ensures.clear, c.if-not-is_aligned.ensures.0 refl) in (
       rw (owned, free) (added_sound a c.self.invariant.0 h c.held_range_of.ensures.range (subst (λ (e : Extent). OnQuantum c.self.inside.quantum e) range clear.1) (subst (λ (e : Extent). IsClear a e) range clear.0)),
-      omega (arith, c.push_reserved-2.ensures.len, c.push_reserved-2.ensures.capacity, c.in-Ok-reserve_free.ensures.room),
+      backed_insert c.self.inside.policy c.self.inside.free c.reserve_free.new.free c.reserve_free.ensures.rest c.insert.new.self h _ c.in-Ok-reserve_free.ensures.room c.in-Ok-reserve_free.ensures.ticks c.insert.ensures.ranges c.insert.ensures.policy c.insert.ensures.room c.insert.ensures.ticks c.self.invariant.1,
     )
 
 pub returns-clause-sound : goal.returns-clause-sound
@@ -25,7 +41,17 @@ returns-clause-sound g c =
     let a = the_state c.self.invariant.0 in
     let h : Holding = c.new-stored.result in
     let range : c.range-range.result ≡ h.range = same_range _ h _ c.range-range.ensures.value c.new-stored.ensures in
-    let owned : c.push_reserved.new.self.items ≡ a.owned ++ h ∷ [] = pushed _ _ _ _ _ c.push_reserved.ensures.items c.reserve.ensures.items c.held_range_of.ensures.value in
-    let free : c.push_reserved-2.new.self.items ≡ a.free ++ h ∷ [] = pushed _ _ _ _ _ c.push_reserved-2.ensures.items c.reserve_free.ensures.items refl in
+    let owned : held c.put.new.self.items ≡ a.owned ++ h ∷ [] = held_more _ _ _ _ h c.put.ensures c.reserve.ensures.items (ap (λ (t : Tag). t.holding) c.new.ensures ∙ c.held_range_of.ensures.value) in
+    let free : c.insert.new.self.ranges ≡ a.free ++ h ∷ [] = pushed _ _ _ _ _ c.insert.ensures.ranges (ap (λ v. v.ranges) c.reserve_free.ensures.rest) refl in
     let clear = subst (λ (s : ArenaState). IsClear s c.range-range.result × OnQuantum s.quantum c.range-range.result) (sym c.self.view_is) (c.if-has_overlap.ensures.clear, c.if-not-is_aligned.ensures.0 refl) in
     rw (owned, free) (added_sound a c.self.invariant.0 h c.held_range_of.ensures.range (subst (λ (e : Extent). OnQuantum c.self.inside.quantum e) range clear.1) (subst (λ (e : Extent). IsClear a e) range clear.0))
+
+pub put-requires-clause-absent : goal.put-requires-clause-absent
+put-requires-clause-absent g c =
+    let a = the_state c.self.invariant.0 in
+    let h : Holding = c.new-stored.result in
+    let range : c.range-range.result ≡ h.range = same_range _ h _ c.range-range.ensures.value c.new-stored.ensures in
+    let clear = subst (λ (s : ArenaState). IsClear s c.range-range.result) (sym c.self.view_is) c.if-has_overlap.ensures.clear in
+    let alone = ends_alone a h c.self.inside.owned.items c.self.invariant.0.divided c.held_range_of.ensures.range (subst (λ (e : Extent). IsClear a e) range clear) (λ s in-s. Contains-append_left a.owned (held a.imported) s in-s) in
+    let end = ap (λ (t : Tag). end_of t.holding.range) c.new.ensures ∙ ap (λ (x : Holding). end_of x.range) c.held_range_of.ensures.value in
+    subst (λ (n : ℕ). All (λ t. end_of t.holding.range ≢ n) c.reserve.new.self.items) (sym end) (subst (λ (ts : List Tag). All (λ t. end_of t.holding.range ≢ end_of h.range) ts) (sym c.reserve.ensures.items) alone)

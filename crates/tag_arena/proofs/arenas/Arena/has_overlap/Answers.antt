@@ -1,20 +1,24 @@
-use Rattle.std.proofs.Common.{subst, List, Any}
-use Rattle.deed_core.specs.Extent.{Overlap}
-use Rattle.deed_core.specs.Tag.{Tag}
-use Rattle.tag_arena.specs.ArenaState.{ArenaState}
-use Rattle.tag_arena.specs.Calls.{OverlapsSpan, IsClear}
-use Rattle.tag_arena.proofs.Reporting.{overlaps_imported, clear_of_both}
 use Rattle.tag_arena.proofs.Sounding.{the_state}
+use Rattle.tag_arena.proofs.Granted.{disjoint_owned, disjoint_imported}
+use Rattle.std.proofs.Common.{subst}
+use Rattle.std.proofs.lemmas.List.Elements.{Contains-append_right}
+use Rattle.deed_core.specs.Extent.{Overlap}
+use Rattle.tag_arena.specs.ArenaState.{ArenaState, spans_of}
+use Rattle.tag_arena.specs.Calls.{OverlapsSpan}
+use Rattle.tag_arena.proofs.Ranges.{Any-member, member-Any}
+use Rattle.tag_arena.specs.Spanned.{held}
 use Rattle.tag_arena.proofs.arenas.Arena.has_overlap.Goals as goal
 
-pub returns-then-overlaps_imported-clause-overlaps : goal.returns-then-overlaps_imported-clause-overlaps
-returns-then-overlaps_imported-clause-overlaps g c =
-    let a = the_state c.self.invariant.0 in
-    subst (λ (s : ArenaState). OverlapsSpan s c.args.range.now) c.self.view_is
-    (overlaps_imported a c.args.range.now (subst (λ (xs : List Tag). Any (λ t. Overlap t.holding.range c.args.range.now) xs) c.deref-2.ensures.value c.if-overlaps_imported.ensures))
+pub overlaps-requires : goal.overlaps-requires
+overlaps-requires g c = disjoint_owned (the_state c.self.invariant.0) c.self.invariant.0.divided
 
-pub returns-clause-clear : goal.returns-clause-clear
-returns-clause-clear g c =
+pub overlaps-requires-2 : goal.overlaps-requires-2
+overlaps-requires-2 g c = disjoint_imported (the_state c.self.invariant.0) c.self.invariant.0.divided
+
+pub returns-then-overlaps-2-clause-overlaps : goal.returns-then-overlaps-2-clause-overlaps
+returns-then-overlaps-2-clause-overlaps g c =
     let a = the_state c.self.invariant.0 in
-    subst (λ (s : ArenaState). IsClear s c.args.range.now) c.self.view_is
-    (clear_of_both a c.args.range.now _ _ c.deref.ensures.value c.deref-2.ensures.value c.if-overlaps_owned.ensures c.if-overlaps_imported.ensures)
+    let e = c.args.range.now in
+    let any = c.if-overlaps-2.ensures in
+    let there = Contains-append_right a.owned (held a.imported) any.1 (Any-member (held a.imported) any) in
+    subst (λ (s : ArenaState). OverlapsSpan s e) c.self.view_is (member-Any (λ s. Overlap s.range e) (spans_of a) any.1 there any.4)

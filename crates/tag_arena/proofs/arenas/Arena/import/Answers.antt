@@ -1,15 +1,19 @@
-use Rattle.std.proofs.Common.{◌≡◌, ℕ, ◌+◌, ◌++◌, ◌∷◌, [], List, None, sym, subst, ap, ◌∙◌, option_to_list, arith}
+use Rattle.std.proofs.Common.{◌≡◌, ◌≢◌, ℕ, ◌+◌, ◌++◌, ◌∷◌, [], List, All, None, refl, sym, subst, ap, ◌∙◌, option_to_list}
+use Rattle.std.proofs.lemmas.List.Elements.{Contains-append_right}
 use Rattle.std.specs.FinMap as finmap
 use Rattle.deed_core.specs.Extent.{IsRange, end_of}
 use Rattle.deed_core.specs.Holding.{Holding}
 use Rattle.deed_core.specs.Tag.{Tag}
 use Rattle.tag_arena.specs.ArenaState.{ArenaState, IsSound}
-use Rattle.tag_arena.specs.Calls.{part, between, after_import, after_carve, first_units}
+use Rattle.tag_arena.specs.Calls.{part, between, after_import, after_carve, first_units, IsClear}
 use Rattle.tag_arena.proofs.Allocations.{len_more}
 use Rattle.tag_arena.proofs.Granting.{as_it_was, undone, stands}
 use Rattle.tag_arena.proofs.Importing.{imports, import_absent, import_is, import_sound}
 use Rattle.tag_arena.proofs.Sounding.{the_state}
 use Rattle.tag_arena.proofs.Returning.{tagged_is, same_tag}
+use Rattle.tag_arena.specs.Spanned.{held}
+use Rattle.tag_arena.proofs.Backing.{backed_back, backed_import}
+use Rattle.tag_arena.proofs.Granted.{absent_behind, ends_alone}
 use Rattle.tag_arena.proofs.arenas.Arena.import.Goals as goal
 
 pub insert-requires-clause-absent : goal.insert-requires-clause-absent
@@ -41,9 +45,11 @@ invariant_of-self-in-Err g c =
     let absent = import_absent a t n k in
     let absent_here = subst (λ (h : Holding). finmap.get c.self.inside.tags h.range.base ≡ None) (sym piece_is) absent in
     let tags = undone c.self.inside.tags c.insert.new.self c.remove.new.self c.new-first.result.range.base c.new-first.result absent_here c.in-Ok-insert.ensures.ok c.remove.ensures in
-    let same = ap (λ (xs : List Tag). record a { imported = xs; free = c.reserve_free.new.free.items; allocated = c.remove.new.self }) c.reserve.ensures.items ∙ as_it_was a _ _ c.reserve_free.ensures.items tags in
-    let len = ap finmap.len tags in
-    (subst IsSound (sym same) c.self.invariant.0, omega (arith, len, c.in-Ok-reserve_free.ensures.room))
+    let same = ap (λ (xs : List Tag). record a { imported = xs; free = c.reserve_free.new.free.ranges; allocated = c.remove.new.self }) c.reserve.ensures.items ∙ as_it_was a _ _ (ap (λ v. v.ranges) c.reserve_free.ensures.rest) tags in
+    let len = ap finmap.len tags in (
+      subst IsSound (sym same) c.self.invariant.0,
+      backed_back c.self.inside.policy c.self.inside.free c.reserve_free.new.free c.reserve_free.ensures.rest c.reserve_free.new.free _ _ c.reserve_free.ensures.grows refl len c.self.invariant.1,
+    )
 
 pub returns-in-Err-clause-unchanged : goal.returns-in-Err-clause-unchanged
 returns-in-Err-clause-unchanged g c =
@@ -58,8 +64,17 @@ returns-in-Err-clause-unchanged g c =
     let absent = import_absent a t n k in
     let absent_here = subst (λ (h : Holding). finmap.get c.self.inside.tags h.range.base ≡ None) (sym piece_is) absent in
     let tags = undone c.self.inside.tags c.insert.new.self c.remove.new.self c.new-first.result.range.base c.new-first.result absent_here c.in-Ok-insert.ensures.ok c.remove.ensures in
-    let same = ap (λ (xs : List Tag). record a { imported = xs; free = c.reserve_free.new.free.items; allocated = c.remove.new.self }) c.reserve.ensures.items ∙ as_it_was a _ _ c.reserve_free.ensures.items tags in
+    let same = ap (λ (xs : List Tag). record a { imported = xs; free = c.reserve_free.new.free.ranges; allocated = c.remove.new.self }) c.reserve.ensures.items ∙ as_it_was a _ _ (ap (λ v. v.ranges) c.reserve_free.ensures.rest) tags in
     same ∙ c.self.view_is
+
+pub insert_rest-requires-clause-absent : goal.insert_rest-requires-clause-absent
+insert_rest-requires-clause-absent g c =
+    let a = the_state c.self.invariant.0 in
+    let t : Tag = c.args.span in
+    let n : ℕ = c.args.len in
+    let range : IsRange t.holding.range = subst IsRange c.range.ensures.value c.range.ensures.range in
+    let k = imports a c.args.self.now t n c.self.invariant.0 c.self.view_is range c.requires.route c.requires.clear c.requires.aligned c.requires.some c.requires.room c.requires.whole in
+    absent_behind a t n k c.in-Ok-cut_first.parts.1 c.in-Ok-cut_first.ensures.high c.reserve_free.new.free.ranges (ap (λ v. v.ranges) c.reserve_free.ensures.rest)
 
 pub invariant_of-self-2 : goal.invariant_of-self-2
 invariant_of-self-2 g c =
@@ -73,15 +88,15 @@ invariant_of-self-2 g c =
     let piece_is = tagged_is _ (part t.holding t.holding.range.base n) _ _ c.new-first.ensures c.root-2.ensures (c.piece_of.ensures ∙ ap (λ (b : ℕ). record { base = b; len = n }) base_of) in
     let absent = import_absent a t n k in
     let high_is : option_to_list c.in-Ok-cut_first.parts.1 ≡ between t.holding (t.holding.range.base + n) (end_of t.holding.range) = c.in-Ok-cut_first.ensures.high in
-    let free : c.push_rest.new.free.items ≡ a.free ++ between t.holding (t.holding.range.base + n) (end_of t.holding.range) = c.push_rest.ensures.items ∙ ap (λ (xs : List Holding). xs ++ option_to_list c.in-Ok-cut_first.parts.1) c.reserve_free.ensures.items ∙ ap (λ (xs : List Holding). a.free ++ xs) high_is in
+    let free : c.insert_rest.new.self.ranges ≡ a.free ++ between t.holding (t.holding.range.base + n) (end_of t.holding.range) = c.insert_rest.ensures.ranges ∙ ap (λ v. v.ranges ++ option_to_list c.in-Ok-cut_first.parts.1) c.reserve_free.ensures.rest ∙ ap (λ (xs : List Holding). a.free ++ xs) high_is in
     let import_new : c.new.result ≡ t = c.new.ensures ∙ same_tag _ t c.arena-source.ensures (sym c.requires.route) whole_is in
-    let imported : c.push_reserved.new.self.items ≡ a.imported ++ t ∷ [] = c.push_reserved.ensures.items ∙ ap (λ (x : Tag). c.reserve.new.self.items ++ x ∷ []) import_new ∙ ap (λ (xs : List Tag). xs ++ t ∷ []) c.reserve.ensures.items in
+    let imported : c.put.new.self.items ≡ a.imported ++ t ∷ [] = c.put.ensures ∙ ap (λ (x : Tag). c.reserve.new.self.items ++ x ∷ []) import_new ∙ ap (λ (xs : List Tag). xs ++ t ∷ []) c.reserve.ensures.items in
     let tags : c.insert.new.self ≡ finmap.insert a.allocated t.holding.range.base (part t.holding t.holding.range.base n) = c.in-Ok-insert.ensures.ok ∙ ap (λ (h : Holding). finmap.insert c.self.inside.tags h.range.base h) piece_is in
     let rover_is : c.end-self-inside.result ≡ t.holding.range.base + n = c.end-self-inside.ensures.value ∙ ap (λ (h : Holding). end_of h.range) piece_is in
     let after = import_is a t n k _ _ _ _ rover_is imported free tags in
     let len = ap finmap.len tags ∙ len_more a.allocated t.holding.range.base (part t.holding t.holding.range.base n) absent in (
       import_sound a t n k _ after,
-      omega (arith, len, c.push_rest.ensures.len, c.push_rest.ensures.capacity, c.in-Ok-reserve_free.ensures.room),
+      backed_import c.self.inside.policy c.self.inside.free c.reserve_free.new.free c.reserve_free.ensures.rest c.insert_rest.new.self c.in-Ok-cut_first.parts.1 _ _ c.in-Ok-reserve_free.ensures.room c.in-Ok-reserve_free.ensures.ticks c.insert_rest.ensures.ranges c.insert_rest.ensures.policy c.insert_rest.ensures.room c.insert_rest.ensures.ticks len c.self.invariant.1,
     )
 
 pub returns-clause-carved : goal.returns-clause-carved
@@ -96,10 +111,21 @@ returns-clause-carved g c =
     let piece_is = tagged_is _ (part t.holding t.holding.range.base n) _ _ c.new-first.ensures c.root-2.ensures (c.piece_of.ensures ∙ ap (λ (b : ℕ). record { base = b; len = n }) base_of) in
     let absent = import_absent a t n k in
     let high_is : option_to_list c.in-Ok-cut_first.parts.1 ≡ between t.holding (t.holding.range.base + n) (end_of t.holding.range) = c.in-Ok-cut_first.ensures.high in
-    let free : c.push_rest.new.free.items ≡ a.free ++ between t.holding (t.holding.range.base + n) (end_of t.holding.range) = c.push_rest.ensures.items ∙ ap (λ (xs : List Holding). xs ++ option_to_list c.in-Ok-cut_first.parts.1) c.reserve_free.ensures.items ∙ ap (λ (xs : List Holding). a.free ++ xs) high_is in
+    let free : c.insert_rest.new.self.ranges ≡ a.free ++ between t.holding (t.holding.range.base + n) (end_of t.holding.range) = c.insert_rest.ensures.ranges ∙ ap (λ v. v.ranges ++ option_to_list c.in-Ok-cut_first.parts.1) c.reserve_free.ensures.rest ∙ ap (λ (xs : List Holding). a.free ++ xs) high_is in
     let import_new : c.new.result ≡ t = c.new.ensures ∙ same_tag _ t c.arena-source.ensures (sym c.requires.route) whole_is in
-    let imported : c.push_reserved.new.self.items ≡ a.imported ++ t ∷ [] = c.push_reserved.ensures.items ∙ ap (λ (x : Tag). c.reserve.new.self.items ++ x ∷ []) import_new ∙ ap (λ (xs : List Tag). xs ++ t ∷ []) c.reserve.ensures.items in
+    let imported : c.put.new.self.items ≡ a.imported ++ t ∷ [] = c.put.ensures ∙ ap (λ (x : Tag). c.reserve.new.self.items ++ x ∷ []) import_new ∙ ap (λ (xs : List Tag). xs ++ t ∷ []) c.reserve.ensures.items in
     let tags : c.insert.new.self ≡ finmap.insert a.allocated t.holding.range.base (part t.holding t.holding.range.base n) = c.in-Ok-insert.ensures.ok ∙ ap (λ (h : Holding). finmap.insert c.self.inside.tags h.range.base h) piece_is in
     let rover_is : c.end-self-inside.result ≡ t.holding.range.base + n = c.end-self-inside.ensures.value ∙ ap (λ (h : Holding). end_of h.range) piece_is in
     let after = import_is a t n k _ _ _ _ rover_is imported free tags in
     after ∙ ap (λ (s : ArenaState). after_carve (after_import s t) t.holding (first_units n t.holding)) c.self.view_is
+
+pub put-requires-clause-absent : goal.put-requires-clause-absent
+put-requires-clause-absent g c =
+    let a = the_state c.self.invariant.0 in
+    let t : Tag = c.args.span in
+    let whole_is : c.new-whole.result ≡ t.holding = tagged_is _ t.holding _ _ c.new-whole.ensures c.root.ensures c.range.ensures.value in
+    let range : IsRange t.holding.range = subst IsRange c.range.ensures.value c.range.ensures.range in
+    let clear = subst (λ (s : ArenaState). IsClear s t.holding.range) (sym c.self.view_is) c.requires.clear in
+    let alone = ends_alone a t.holding c.self.inside.imported.items c.self.invariant.0.divided range clear (λ s in-s. Contains-append_right a.owned (held a.imported) s in-s) in
+    let end = ap (λ (x : Tag). end_of x.holding.range) c.new.ensures ∙ ap (λ (x : Holding). end_of x.range) whole_is in
+    subst (λ (n : ℕ). All (λ x. end_of x.holding.range ≢ n) c.reserve.new.self.items) (sym end) (subst (λ (ts : List Tag). All (λ x. end_of x.holding.range ≢ end_of t.holding.range) ts) (sym c.reserve.ensures.items) alone)

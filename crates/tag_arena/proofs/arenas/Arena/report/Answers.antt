@@ -1,4 +1,4 @@
-use Rattle.std.proofs.Common.{subst, ap, arith}
+use Rattle.std.proofs.Common.{refl, subst, ap, arith}
 use Rattle.deed_core.specs.Covering.{units_held}
 use Rattle.tag_arena.specs.Layout.{FreeIsLongestRuns}
 use Rattle.tag_arena.specs.ArenaState.{ArenaState, layout_of, ranges_of}
@@ -7,18 +7,18 @@ use Rattle.tag_arena.proofs.arenas.Arena.report.Goals as goal
 
 pub overflow_sub-result : goal.overflow_sub-result
 overflow_sub-result g c =
-    let adds = report_adds _ c.self.invariant.0.divided _ _ _ _ _ _ c.owned_units.ensures.sum c.deref.ensures.value c.imported_units.ensures.sum c.deref-2.ensures.value c.free_units-free.ensures c.deref-3.ensures.value in
+    let adds = report_adds _ c.self.invariant.0.divided _ _ _ _ _ _ c.units.ensures.sum refl c.units-2.ensures.sum refl c.units-free.ensures refl in
     omega (arith, adds)
 
 pub returns-clause-allocated : goal.returns-clause-allocated
 returns-clause-allocated g c =
-    let adds = report_adds _ c.self.invariant.0.divided _ _ _ _ _ _ c.owned_units.ensures.sum c.deref.ensures.value c.imported_units.ensures.sum c.deref-2.ensures.value c.free_units-free.ensures c.deref-3.ensures.value in
+    let adds = report_adds _ c.self.invariant.0.divided _ _ _ _ _ _ c.units.ensures.sum refl c.units-2.ensures.sum refl c.units-free.ensures refl in
     let same = ap (λ (s : ArenaState). units_held (ranges_of s.allocated)) c.self.view_is in
     omega (arith, adds, same)
 
 pub returns-clause-adds_up : goal.returns-clause-adds_up
 returns-clause-adds_up g c =
-    let adds = report_adds _ c.self.invariant.0.divided _ _ _ _ _ _ c.owned_units.ensures.sum c.deref.ensures.value c.imported_units.ensures.sum c.deref-2.ensures.value c.free_units-free.ensures c.deref-3.ensures.value in
+    let adds = report_adds _ c.self.invariant.0.divided _ _ _ _ _ _ c.units.ensures.sum refl c.units-2.ensures.sum refl c.units-free.ensures refl in
     omega (arith, adds)
 
 pub returns-clause-longest : goal.returns-clause-longest

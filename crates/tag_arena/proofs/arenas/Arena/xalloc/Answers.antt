@@ -1,58 +1,59 @@
 use Rattle.std.proofs.Common.{◌≡◌, ℕ, subst, ap, ◌∙◌}
 use Rattle.deed_core.specs.Request.{rounded}
 use Rattle.deed_core.specs.declared.requests.Request.{Request}
-use Rattle.tag_arena.specs.declared.choices.Found.{Found}
 use Rattle.tag_arena.specs.ArenaState.{ArenaState, IsSound}
-use Rattle.tag_arena.proofs.Granting.{units_are, found_cuttable}
+use Rattle.tag_arena.proofs.Granting.{units_are}
 use Rattle.tag_arena.proofs.Carrying.{found_carved, found_sound, found_gains, found_covers}
+use Rattle.tag_arena.specs.declared.searches.Fit.{Fit}
+use Rattle.tag_arena.proofs.Granted.{found_of, placed_of, fit_cuttable}
 use Rattle.tag_arena.proofs.arenas.Arena.xalloc.Goals as goal
 
 pub carve_found-requires : goal.carve_found-requires
 carve_found-requires g c =
     let old : ArenaState = c.args.self.now in
     let q : Request = c.args.request.now in
-    let f : Found = c.in_ok-found.found in
+    let f : Fit = c.in_ok-found.found in
     let n : ℕ = c.unwrap-len.result in
     let sound : IsSound old = subst IsSound c.self.view_is c.self.invariant.0 in
     let n_is : n ≡ rounded old.quantum q.size = units_are c.units.result _ _ n c.units.ensures c.unwrap-len.ensures ∙ ap (λ (s : ArenaState). rounded s.quantum q.size) c.self.view_is in
-    found_cuttable old q f n sound c.in_ok-found.ensures.good c.in_ok-found.ensures.placed n_is
+    fit_cuttable old q f n sound c.in_ok-found.ensures.good c.in_ok-found.ensures.placed n_is
 
 pub returns-clause-carved : goal.returns-clause-carved
 returns-clause-carved g c =
     let old : ArenaState = c.args.self.now in
     let q : Request = c.args.request.now in
-    let f : Found = c.in_ok-found.found in
+    let f : Fit = c.in_ok-found.found in
     let n : ℕ = c.unwrap-len.result in
     let sound : IsSound old = subst IsSound c.self.view_is c.self.invariant.0 in
     let n_is : n ≡ rounded old.quantum q.size = units_are c.units.result _ _ n c.units.ensures c.unwrap-len.ensures ∙ ap (λ (s : ArenaState). rounded s.quantum q.size) c.self.view_is in
-    found_carved old q f n sound c.in_ok-found.ensures.good c.in_ok-found.ensures.chosen c.in_ok-found.ensures.placed n_is c.carve_found.new.self c.in_ok-carve_found.ensures.carved c.in_ok-carve_found.field-0 c.in_ok-carve_found.ensures.segment c.in_ok-carve_found.ensures.range
+    found_carved old q (found_of old.free f c.in_ok-found.ensures.placed.among) n sound c.in_ok-found.ensures.good c.in_ok-found.ensures.chosen (placed_of old.quantum q old.free f c.in_ok-found.ensures.placed) n_is _ (c.self-2.view_is ∙ c.in_ok-segment.ensures.carved) c.in_ok-segment.segment c.in_ok-segment.ensures.segment c.in_ok-segment.ensures.range
 
 pub returns-clause-sound : goal.returns-clause-sound
 returns-clause-sound g c =
     let old : ArenaState = c.args.self.now in
     let q : Request = c.args.request.now in
-    let f : Found = c.in_ok-found.found in
+    let f : Fit = c.in_ok-found.found in
     let n : ℕ = c.unwrap-len.result in
     let sound : IsSound old = subst IsSound c.self.view_is c.self.invariant.0 in
     let n_is : n ≡ rounded old.quantum q.size = units_are c.units.result _ _ n c.units.ensures c.unwrap-len.ensures ∙ ap (λ (s : ArenaState). rounded s.quantum q.size) c.self.view_is in
-    found_sound old q f n sound c.in_ok-found.ensures.good c.in_ok-found.ensures.chosen c.in_ok-found.ensures.placed n_is c.carve_found.new.self c.in_ok-carve_found.ensures.carved c.in_ok-carve_found.field-0 c.in_ok-carve_found.ensures.segment c.in_ok-carve_found.ensures.range
+    found_sound old q (found_of old.free f c.in_ok-found.ensures.placed.among) n sound c.in_ok-found.ensures.good c.in_ok-found.ensures.chosen (placed_of old.quantum q old.free f c.in_ok-found.ensures.placed) n_is _ (c.self-2.view_is ∙ c.in_ok-segment.ensures.carved) c.in_ok-segment.segment c.in_ok-segment.ensures.segment c.in_ok-segment.ensures.range
 
 pub returns-clause-gains : goal.returns-clause-gains
 returns-clause-gains g c =
     let old : ArenaState = c.args.self.now in
     let q : Request = c.args.request.now in
-    let f : Found = c.in_ok-found.found in
+    let f : Fit = c.in_ok-found.found in
     let n : ℕ = c.unwrap-len.result in
     let sound : IsSound old = subst IsSound c.self.view_is c.self.invariant.0 in
     let n_is : n ≡ rounded old.quantum q.size = units_are c.units.result _ _ n c.units.ensures c.unwrap-len.ensures ∙ ap (λ (s : ArenaState). rounded s.quantum q.size) c.self.view_is in
-    found_gains old q f n sound c.in_ok-found.ensures.good c.in_ok-found.ensures.chosen c.in_ok-found.ensures.placed n_is c.carve_found.new.self c.in_ok-carve_found.ensures.carved c.in_ok-carve_found.field-0 c.in_ok-carve_found.ensures.segment c.in_ok-carve_found.ensures.range
+    found_gains old q (found_of old.free f c.in_ok-found.ensures.placed.among) n sound c.in_ok-found.ensures.good c.in_ok-found.ensures.chosen (placed_of old.quantum q old.free f c.in_ok-found.ensures.placed) n_is _ (c.self-2.view_is ∙ c.in_ok-segment.ensures.carved) c.in_ok-segment.segment c.in_ok-segment.ensures.segment c.in_ok-segment.ensures.range
 
 pub returns-clause-covering : goal.returns-clause-covering
 returns-clause-covering g c =
     let old : ArenaState = c.args.self.now in
     let q : Request = c.args.request.now in
-    let f : Found = c.in_ok-found.found in
+    let f : Fit = c.in_ok-found.found in
     let n : ℕ = c.unwrap-len.result in
     let sound : IsSound old = subst IsSound c.self.view_is c.self.invariant.0 in
     let n_is : n ≡ rounded old.quantum q.size = units_are c.units.result _ _ n c.units.ensures c.unwrap-len.ensures ∙ ap (λ (s : ArenaState). rounded s.quantum q.size) c.self.view_is in
-    found_covers old q f n sound c.in_ok-found.ensures.good c.in_ok-found.ensures.chosen c.in_ok-found.ensures.placed n_is c.carve_found.new.self c.in_ok-carve_found.ensures.carved c.in_ok-carve_found.field-0 c.in_ok-carve_found.ensures.segment c.in_ok-carve_found.ensures.range
+    found_covers old q (found_of old.free f c.in_ok-found.ensures.placed.among) n sound c.in_ok-found.ensures.good c.in_ok-found.ensures.chosen (placed_of old.quantum q old.free f c.in_ok-found.ensures.placed) n_is _ (c.self-2.view_is ∙ c.in_ok-segment.ensures.carved) c.in_ok-segment.segment c.in_ok-segment.ensures.segment c.in_ok-segment.ensures.range

@@ -1,7 +1,0 @@
-use Rattle.std.proofs.Common.{sym, ap, ◌∙◌}
-use Rattle.deed_core.specs.Covering.{units_held}
-use Rattle.fast_arena.proofs.Units.{units_by_age}
-use Rattle.fast_arena.proofs.free_index.FreeIndex.units.Goals as goal
-
-pub returns : goal.returns
-returns g c = c.units.ensures ∙ (sym (units_by_age c.self.inside.slots.tags) ∙ ap (λ v. units_held v.ranges) c.self.view_is)

@@ -1,0 +1,105 @@
+use Rattle.std.proofs.Common.{◌≡◌, ℕ, ◌+◌, ◌++◌, ◌∷◌, [], List, None, sym, subst, ap, ◌∙◌, option_to_list, arith}
+use Rattle.std.specs.FinMap as finmap
+use Rattle.deed_core.specs.Extent.{IsRange, end_of}
+use Rattle.deed_core.specs.Holding.{Holding}
+use Rattle.deed_core.specs.Tag.{Tag}
+use Rattle.tag_arena.specs.ArenaState.{ArenaState, IsSound}
+use Rattle.tag_arena.specs.Calls.{part, between, after_import, after_carve, first_units}
+use Rattle.tag_arena.proofs.Allocations.{len_more}
+use Rattle.tag_arena.proofs.Granting.{as_it_was, undone, stands}
+use Rattle.tag_arena.proofs.Importing.{imports, import_absent, import_is, import_sound}
+use Rattle.tag_arena.proofs.Sounding.{the_state}
+use Rattle.tag_arena.proofs.Returning.{tagged_is, same_tag}
+use Rattle.plain_arena.proofs.arenas.PlainArena.import.Goals as goal
+
+pub insert-requires-clause-absent : goal.insert-requires-clause-absent
+insert-requires-clause-absent g c =
+    let a = the_state c.self.invariant.0 in
+    let t : Tag = c.args.span in
+    let n : ℕ = c.args.len in
+    let whole_is : c.new-whole.result ≡ t.holding = tagged_is _ t.holding _ _ c.new-whole.ensures c.root.ensures c.range.ensures.value in
+    let range : IsRange t.holding.range = subst IsRange c.range.ensures.value c.range.ensures.range in
+    let k = imports a c.args.self.now t n c.self.invariant.0 c.self.view_is range c.requires.route c.requires.clear c.requires.aligned c.requires.some c.requires.room c.requires.whole in
+    let base_of : c.base.result ≡ t.holding.range.base = c.base.ensures.value ∙ ap (λ (h : Holding). h.range.base) whole_is in
+    let piece_is = tagged_is _ (part t.holding t.holding.range.base n) _ _ c.new-first.ensures c.root-2.ensures (c.piece_of.ensures ∙ ap (λ (b : ℕ). record { base = b; len = n }) base_of) in
+    let absent = import_absent a t n k in
+    subst (λ (h : Holding). finmap.get c.self.inside.tags h.range.base ≡ None) (sym piece_is) absent
+
+pub remove-requires : goal.remove-requires
+remove-requires g c = stands _ _ _ _ c.in-Ok-insert.ensures.ok
+
+pub invariant_of-self-in-Err : goal.invariant_of-self-in-Err
+invariant_of-self-in-Err g c =
+    let a = the_state c.self.invariant.0 in
+    let t : Tag = c.args.span in
+    let n : ℕ = c.args.len in
+    let whole_is : c.new-whole.result ≡ t.holding = tagged_is _ t.holding _ _ c.new-whole.ensures c.root.ensures c.range.ensures.value in
+    let range : IsRange t.holding.range = subst IsRange c.range.ensures.value c.range.ensures.range in
+    let k = imports a c.args.self.now t n c.self.invariant.0 c.self.view_is range c.requires.route c.requires.clear c.requires.aligned c.requires.some c.requires.room c.requires.whole in
+    let base_of : c.base.result ≡ t.holding.range.base = c.base.ensures.value ∙ ap (λ (h : Holding). h.range.base) whole_is in
+    let piece_is = tagged_is _ (part t.holding t.holding.range.base n) _ _ c.new-first.ensures c.root-2.ensures (c.piece_of.ensures ∙ ap (λ (b : ℕ). record { base = b; len = n }) base_of) in
+    let absent = import_absent a t n k in
+    let absent_here = subst (λ (h : Holding). finmap.get c.self.inside.tags h.range.base ≡ None) (sym piece_is) absent in
+    let tags = undone c.self.inside.tags c.insert.new.self c.remove.new.self c.new-first.result.range.base c.new-first.result absent_here c.in-Ok-insert.ensures.ok c.remove.ensures in
+    let same = ap (λ (xs : List Tag). record a { imported = xs; free = c.reserve_free.new.free.items; allocated = c.remove.new.self }) c.reserve.ensures.items ∙ as_it_was a _ _ c.reserve_free.ensures.items tags in
+    let len = ap finmap.len tags in
+    (subst IsSound (sym same) c.self.invariant.0, omega (arith, len, c.in-Ok-reserve_free.ensures.room))
+
+pub returns-in-Err-clause-unchanged : goal.returns-in-Err-clause-unchanged
+returns-in-Err-clause-unchanged g c =
+    let a = the_state c.self.invariant.0 in
+    let t : Tag = c.args.span in
+    let n : ℕ = c.args.len in
+    let whole_is : c.new-whole.result ≡ t.holding = tagged_is _ t.holding _ _ c.new-whole.ensures c.root.ensures c.range.ensures.value in
+    let range : IsRange t.holding.range = subst IsRange c.range.ensures.value c.range.ensures.range in
+    let k = imports a c.args.self.now t n c.self.invariant.0 c.self.view_is range c.requires.route c.requires.clear c.requires.aligned c.requires.some c.requires.room c.requires.whole in
+    let base_of : c.base.result ≡ t.holding.range.base = c.base.ensures.value ∙ ap (λ (h : Holding). h.range.base) whole_is in
+    let piece_is = tagged_is _ (part t.holding t.holding.range.base n) _ _ c.new-first.ensures c.root-2.ensures (c.piece_of.ensures ∙ ap (λ (b : ℕ). record { base = b; len = n }) base_of) in
+    let absent = import_absent a t n k in
+    let absent_here = subst (λ (h : Holding). finmap.get c.self.inside.tags h.range.base ≡ None) (sym piece_is) absent in
+    let tags = undone c.self.inside.tags c.insert.new.self c.remove.new.self c.new-first.result.range.base c.new-first.result absent_here c.in-Ok-insert.ensures.ok c.remove.ensures in
+    let same = ap (λ (xs : List Tag). record a { imported = xs; free = c.reserve_free.new.free.items; allocated = c.remove.new.self }) c.reserve.ensures.items ∙ as_it_was a _ _ c.reserve_free.ensures.items tags in
+    same ∙ c.self.view_is
+
+pub invariant_of-self-2 : goal.invariant_of-self-2
+invariant_of-self-2 g c =
+    let a = the_state c.self.invariant.0 in
+    let t : Tag = c.args.span in
+    let n : ℕ = c.args.len in
+    let whole_is : c.new-whole.result ≡ t.holding = tagged_is _ t.holding _ _ c.new-whole.ensures c.root.ensures c.range.ensures.value in
+    let range : IsRange t.holding.range = subst IsRange c.range.ensures.value c.range.ensures.range in
+    let k = imports a c.args.self.now t n c.self.invariant.0 c.self.view_is range c.requires.route c.requires.clear c.requires.aligned c.requires.some c.requires.room c.requires.whole in
+    let base_of : c.base.result ≡ t.holding.range.base = c.base.ensures.value ∙ ap (λ (h : Holding). h.range.base) whole_is in
+    let piece_is = tagged_is _ (part t.holding t.holding.range.base n) _ _ c.new-first.ensures c.root-2.ensures (c.piece_of.ensures ∙ ap (λ (b : ℕ). record { base = b; len = n }) base_of) in
+    let absent = import_absent a t n k in
+    let high_is : option_to_list c.in-Ok-cut_first.parts.1 ≡ between t.holding (t.holding.range.base + n) (end_of t.holding.range) = c.in-Ok-cut_first.ensures.high in
+    let free : c.push_rest.new.free.items ≡ a.free ++ between t.holding (t.holding.range.base + n) (end_of t.holding.range) = c.push_rest.ensures.items ∙ ap (λ (xs : List Holding). xs ++ option_to_list c.in-Ok-cut_first.parts.1) c.reserve_free.ensures.items ∙ ap (λ (xs : List Holding). a.free ++ xs) high_is in
+    let import_new : c.new.result ≡ t = c.new.ensures ∙ same_tag _ t c.arena-source.ensures (sym c.requires.route) whole_is in
+    let imported : c.push_reserved.new.self.items ≡ a.imported ++ t ∷ [] = c.push_reserved.ensures.items ∙ ap (λ (x : Tag). c.reserve.new.self.items ++ x ∷ []) import_new ∙ ap (λ (xs : List Tag). xs ++ t ∷ []) c.reserve.ensures.items in
+    let tags : c.insert.new.self ≡ finmap.insert a.allocated t.holding.range.base (part t.holding t.holding.range.base n) = c.in-Ok-insert.ensures.ok ∙ ap (λ (h : Holding). finmap.insert c.self.inside.tags h.range.base h) piece_is in
+    let rover_is : c.end-self-inside.result ≡ t.holding.range.base + n = c.end-self-inside.ensures.value ∙ ap (λ (h : Holding). end_of h.range) piece_is in
+    let after = import_is a t n k _ _ _ _ rover_is imported free tags in
+    let len = ap finmap.len tags ∙ len_more a.allocated t.holding.range.base (part t.holding t.holding.range.base n) absent in (
+      import_sound a t n k _ after,
+      omega (arith, len, c.push_rest.ensures.len, c.push_rest.ensures.capacity, c.in-Ok-reserve_free.ensures.room),
+    )
+
+pub returns-clause-carved : goal.returns-clause-carved
+returns-clause-carved g c =
+    let a = the_state c.self.invariant.0 in
+    let t : Tag = c.args.span in
+    let n : ℕ = c.args.len in
+    let whole_is : c.new-whole.result ≡ t.holding = tagged_is _ t.holding _ _ c.new-whole.ensures c.root.ensures c.range.ensures.value in
+    let range : IsRange t.holding.range = subst IsRange c.range.ensures.value c.range.ensures.range in
+    let k = imports a c.args.self.now t n c.self.invariant.0 c.self.view_is range c.requires.route c.requires.clear c.requires.aligned c.requires.some c.requires.room c.requires.whole in
+    let base_of : c.base.result ≡ t.holding.range.base = c.base.ensures.value ∙ ap (λ (h : Holding). h.range.base) whole_is in
+    let piece_is = tagged_is _ (part t.holding t.holding.range.base n) _ _ c.new-first.ensures c.root-2.ensures (c.piece_of.ensures ∙ ap (λ (b : ℕ). record { base = b; len = n }) base_of) in
+    let absent = import_absent a t n k in
+    let high_is : option_to_list c.in-Ok-cut_first.parts.1 ≡ between t.holding (t.holding.range.base + n) (end_of t.holding.range) = c.in-Ok-cut_first.ensures.high in
+    let free : c.push_rest.new.free.items ≡ a.free ++ between t.holding (t.holding.range.base + n) (end_of t.holding.range) = c.push_rest.ensures.items ∙ ap (λ (xs : List Holding). xs ++ option_to_list c.in-Ok-cut_first.parts.1) c.reserve_free.ensures.items ∙ ap (λ (xs : List Holding). a.free ++ xs) high_is in
+    let import_new : c.new.result ≡ t = c.new.ensures ∙ same_tag _ t c.arena-source.ensures (sym c.requires.route) whole_is in
+    let imported : c.push_reserved.new.self.items ≡ a.imported ++ t ∷ [] = c.push_reserved.ensures.items ∙ ap (λ (x : Tag). c.reserve.new.self.items ++ x ∷ []) import_new ∙ ap (λ (xs : List Tag). xs ++ t ∷ []) c.reserve.ensures.items in
+    let tags : c.insert.new.self ≡ finmap.insert a.allocated t.holding.range.base (part t.holding t.holding.range.base n) = c.in-Ok-insert.ensures.ok ∙ ap (λ (h : Holding). finmap.insert c.self.inside.tags h.range.base h) piece_is in
+    let rover_is : c.end-self-inside.result ≡ t.holding.range.base + n = c.end-self-inside.ensures.value ∙ ap (λ (h : Holding). end_of h.range) piece_is in
+    let after = import_is a t n k _ _ _ _ rover_is imported free tags in
+    after ∙ ap (λ (s : ArenaState). after_carve (after_import s t) t.holding (first_units n t.holding)) c.self.view_is

@@ -1,0 +1,9 @@
+use Rattle.std.proofs.Common.{ap, ◌∙◌}
+use Rattle.deed_core.specs.Extent.{Extent, end_of}
+use Rattle.tag_arena.proofs.Returning.{joins_right}
+use Rattle.plain_arena.proofs.merges.merge.Goals as goal
+
+pub join_right-requires : goal.join_right-requires
+join_right-requires g c =
+    joins_right c.args.span c.args.deed c.join_left-low.result _ _ _ _ _ _ _ _ _ c.base.ensures.value (c.base-2.ensures.value ∙ ap (λ (e : Extent). e.base) c.range-range.ensures.value)
+    (c.end.ensures.value ∙ ap end_of c.range-range.ensures.value) c.end-2.ensures.value c.requires.inside c.requires.some c.requires.beside c.take_left-left.ensures.taken c.take_right-right.ensures.taken c.join_left-low.ensures.root c.join_left-low.ensures.end

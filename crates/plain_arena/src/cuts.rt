@@ -1,0 +1,168 @@
+//! Cuts of a free range.
+ghost use Rattle.std.specs.Prelude.{◌≡◌, ◌+◌, ◌-◌, ◌<◌, ◌≤◌, ◌++◌, HoldsAt, IfOk, IfErr, OnErr};
+ghost use Rattle.std.specs.Prelude.{IfNone, IfSome, vec_len, vec_capacity, remove, option_to_list};
+ghost use Rattle.deed_core.specs.Extent.{end_of};
+ghost use Rattle.deed_core.specs.Holding.{joined, GoesOn};
+ghost use Rattle.tag_arena.specs.Calls.{part, between, rests};
+
+use crate::held_ranges::HeldRange;
+use deed_core::{Deed, Segment, Stored, insert_reserved};
+use std::alloc::AllocError;
+
+/// A piece of a deed, and what is left of the deed on either side.
+struct Cut<D: Deed> {
+    low: Option<Stored<D>>,
+    piece: Stored<D>,
+    high: Option<Stored<D>>,
+}
+
+/// What is below `base`, and what is from there on.
+fn cut_low<D: Deed>(
+    whole: Stored<D>,
+    base: u64,
+) -> Result<(Option<Stored<D>>, Stored<D>), Stored<D>>
+    requires from { whole.range.base ≤ base }
+    requires to { base < end_of whole.range }
+    ensures low { IfOk result (λ parts.
+        option_to_list parts.0 ≡ between whole whole.range.base base) }
+    ensures rest { IfOk result (λ parts. parts.1 ≡ part whole base (end_of whole.range - base)) }
+    ensures joins { IfOk result (λ parts. IfSome parts.0 (λ low.
+        GoesOn low parts.1 × (joined low parts.1 ≡ whole))) }
+    ensures alone { IfOk result (λ parts. IfNone parts.0 (parts.1 ≡ whole)) }
+    ensures handed_back { IfErr result (λ same. same ≡ whole) }
+{
+    if whole.range().base() == base {
+        return Ok((None, whole));
+    }
+    match whole.split(base) {
+        Ok((low, rest)) => Ok((Some(low), rest)),
+        Err(same) => Err(same),
+    }
+}
+
+/// What is below `end`, and what is from there on.
+fn cut_high<D: Deed>(
+    whole: Stored<D>,
+    end: u64,
+) -> Result<(Stored<D>, Option<Stored<D>>), Stored<D>>
+    requires from { whole.range.base < end }
+    requires to { end ≤ end_of whole.range }
+    ensures piece { IfOk result (λ parts.
+        parts.0 ≡ part whole whole.range.base (end - whole.range.base)) }
+    ensures high { IfOk result (λ parts.
+        option_to_list parts.1 ≡ between whole end (end_of whole.range)) }
+    ensures handed_back { IfErr result (λ same. same ≡ whole) }
+{
+    if whole.range().end() == end {
+        return Ok((whole, None));
+    }
+    match whole.split(end) {
+        Ok((piece, high)) => Ok((piece, Some(high))),
+        Err(same) => Err(same),
+    }
+}
+
+/// The two parts of a cut, together again.
+fn rejoin<D: Deed>(low: Option<Stored<D>>, rest: Stored<D>) -> Stored<D>
+    requires { IfSome low (λ low. GoesOn low rest) }
+    ensures some { IfSome low (λ low. result ≡ joined low rest) }
+    ensures none { IfNone low (result ≡ rest) }
+{
+    match low {
+        Some(low) => low.join(rest),
+        None => rest,
+    }
+}
+
+/// The units from `base` to `end`, or the deed as it was.
+fn cut_out<D: Deed>(whole: Stored<D>, base: u64, end: u64) -> Result<Cut<D>, Stored<D>>
+    requires from { whole.range.base ≤ base }
+    requires some { base < end }
+    requires to { end ≤ end_of whole.range }
+    ensures piece { IfOk result (λ parts. parts.piece ≡ part whole base (end - base)) }
+    ensures low { IfOk result (λ parts.
+        option_to_list parts.low ≡ between whole whole.range.base base) }
+    ensures high { IfOk result (λ parts.
+        option_to_list parts.high ≡ between whole end (end_of whole.range)) }
+    ensures handed_back { IfErr result (λ same. same ≡ whole) }
+{
+    let (low, rest) = match cut_low(whole, base) {
+        Ok(parts) => parts,
+        Err(same) => return Err(same),
+    };
+    match cut_high(rest, end) {
+        Ok((piece, high)) => Ok(Cut { low, piece, high }),
+        Err(rest) => Err(rejoin(low, rest)),
+    }
+}
+
+/// Puts a rest, if there is one, last.
+pub fn push_rest<D: Deed>(free: &mut Vec<Stored<D>>, rest: Option<Stored<D>>)
+    requires { vec_len free.old < vec_capacity free.old }
+    ensures items { free.new.items ≡ free.old.items ++ option_to_list rest }
+    ensures len { vec_len free.new ≤ vec_len free.old + 1 }
+    ensures capacity { vec_capacity free.new ≡ vec_capacity free.old }
+{
+    match rest {
+        Some(rest) => free.push_reserved(rest),
+        None => {}
+    }
+}
+
+/// Takes the range at an index out of the list, cuts `len` units from `base` on out of it, and puts
+/// its rests last, the low one first.
+pub fn carve<D: Deed>(
+    free: &mut Vec<Stored<D>>,
+    at: usize,
+    range: HeldRange,
+    base: u64,
+    len: u64,
+) -> Result<Stored<D>, AllocError>
+    requires at { at < vec_len free.old }
+    requires here { HoldsAt (λ r. r ≡ range) free.old.items at }
+    requires some { 0 < len }
+    requires from { range.range.base ≤ base }
+    requires to { base + len ≤ end_of range.range }
+    requires room { vec_len free.old < vec_capacity free.old }
+    ensures piece { IfOk result (λ piece. piece ≡ part range base len) }
+    ensures items { IfOk result (λ piece.
+        free.new.items ≡ remove free.old.items at ++ rests range piece) }
+    ensures unchanged { OnErr result (free.new.items ≡ free.old.items) }
+    ensures len { vec_len free.new ≤ vec_len free.old + 1 }
+    ensures capacity { vec_capacity free.new ≡ vec_capacity free.old }
+{
+    let _ = range.end();
+    let whole = free.remove(at);
+    match cut_out(whole, base, base + len) {
+        Ok(Cut { low, piece, high }) => {
+            push_rest(free, low);
+            push_rest(free, high);
+            Ok(piece)
+        }
+        Err(same) => {
+            insert_reserved(free, at, same);
+            Err(AllocError)
+        }
+    }
+}
+
+/// Cuts the first `len` units off a segment's deed.
+pub fn cut_first<D: Deed>(
+    segment: Segment<D>,
+    len: u64,
+) -> Result<(Stored<D>, Option<Stored<D>>), Segment<D>>
+    requires some { 0 < len }
+    requires to { len ≤ segment.holding.range.len }
+    ensures piece { IfOk result (λ parts.
+        parts.0 ≡ part segment.holding segment.holding.range.base len) }
+    ensures high { let whole = segment.holding in IfOk result (λ parts.
+        option_to_list parts.1 ≡ between whole (whole.range.base + len) (end_of whole.range)) }
+    ensures handed_back { IfErr result (λ same. same ≡ segment) }
+{
+    let (arena, route, range) = (segment.arena(), segment.route(), segment.range());
+    let _ = range.end();
+    match cut_high(Stored::new(segment.into_deed()), range.base() + len) {
+        Ok(parts) => Ok(parts),
+        Err(same) => Err(Segment::new(arena, route, same.into_deed())),
+    }
+}

@@ -1,0 +1,128 @@
+-- The index of the free ranges, with one more and one less.
+use Rattle.std.proofs.Common.{◌≡◌, ◌≢◌, ℕ, ◌+◌, ◌-◌, ◌*◌, ◌^◌, ◌<◌, ◌≤◌, sym, ap, subst, ◌∙◌, ⊎_elim, List, [], ◌∷◌, ◌++◌, length, map, All, Any, Contains, Option, None, Some, slice_get, arith}
+use Rattle.std.proofs.lemmas.List.{get_or-map, length-map, map_push}
+use Rattle.std.proofs.lemmas.List.Elements.{All-contains}
+use Rattle.std.proofs.lemmas.Option.{slice_get-get_or}
+use Rattle.deed_core.specs.Extent.{IsRange}
+use Rattle.deed_core.specs.Holding.{Holding}
+use Rattle.tag_arena.specs.declared.policies.Policy.{Policy}
+use Rattle.tag_arena.specs.Neighbors.{Without}
+use Rattle.tag_arena.proofs.SpanLists.{Contains-map, Contains-from_map}
+use Rattle.sorted_rows.specs.Order.{Rises, first_from, place_below}
+use Rattle.tag_arena.specs.declared.orders.Order.{Order}
+use Rattle.tag_arena.specs.declared.orders.Order.TheVariants.{Falling, Sizes, Lists, Rising}
+use Rattle.tag_arena.specs.FreeTags.{FreeTag, range_of, tag_at, SlotBecomes, by_age, ranges_by_age, IsTag, IsTimed, AreTags}
+use Rattle.tag_arena.specs.Orders.{rank_of, entry_of, OrderedIndexState, Mirrors, KeepsUp, HasRoomForOne, IsAbsent, IsPresent}
+use Rattle.tag_arena.specs.Slotted.{SlotsState, taken_count}
+use Rattle.tag_arena.specs.FreeRanges.{MeetsPolicy, IsIndexed}
+use Rattle.tag_arena.proofs.Listing.{map-remove, place_of_member}
+use Rattle.tag_arena.proofs.Aging.{in_by_age, from_by_age, length-by_age, put_cases, timed_put, aged_put, take_cases, timed_take, aged_take}
+use Rattle.tag_arena.proofs.Mirroring.{place_for, absent_for, present_for}
+
+-- the range of a tag is one of the free ranges
+pub range_is_free : (tags : List (Option FreeTag)) (k : ℕ) (t : FreeTag) → tag_at tags k ≡ Some t → Contains (ranges_by_age tags) t.range
+range_is_free tags k t here = Contains-map range_of (by_age tags) t (in_by_age tags k t here)
+
+-- each free range is that of a tag
+pub tag_of_range : (tags : List (Option FreeTag)) (P : Holding → Type 0) → Any P (ranges_by_age tags) → (k : ℕ) × (t : FreeTag) × (tag_at tags k ≡ Some t) × P t.range
+tag_of_range tags P h =
+    let w = Contains-from_map range_of (by_age tags) h.1 (h.0, h.2, h.3) in
+    let r = from_by_age tags w.0 w.1 in
+    (r.0, w.0, r.1, subst P (sym w.2) h.4)
+
+pub taken_below : (tags : List (Option FreeTag)) (room : ℕ) → IsTimed tags → length (ranges_by_age tags) < room → taken_count tags < room
+taken_below tags room timed lt = omega (arith, lt, length-by_age tags timed, length-map (by_age tags) range_of)
+
+pub tags_later : (clock : ℕ) (tags : List (Option FreeTag)) → AreTags clock tags → AreTags (clock + 1) tags
+tags_later clock tags are k t here = let h = are k t here in record {
+  range = h.range;
+  since = omega (arith, h.since);
+  low = h.low;
+  high = h.high;
+  power = h.power;
+}
+
+module _ (clock k : ℕ) (old new : List (Option FreeTag)) (t : FreeTag) (are : AreTags clock old) where
+  -- a tag of a later time than all
+  pub newer : t.since ≡ clock + 1 → (j : ℕ) (u : FreeTag) → tag_at old j ≡ Some u → u.since < t.since
+  newer now j u here = let h = (are j u here).since in omega (arith, h, now)
+
+  pub differs : t.since ≡ clock + 1 → All (λ r. r.range.base ≢ t.range.range.base) (ranges_by_age old) → (j : ℕ) (u : FreeTag) → tag_at old j ≡ Some u → (u.range.range.base ≢ t.range.range.base) × (u.since ≢ t.since)
+  differs now absent j u here =
+      let h = newer now j u here in
+      (All-contains (λ r. r.range.base ≢ t.range.range.base) (ranges_by_age old) u.range absent (range_is_free old j u here), omega (arith, h))
+
+module _ (policy : Policy) (s s2 : SlotsState) (f z l r f2 z2 l2 r2 : OrderedIndexState) (clock room k : ℕ) (t : FreeTag) (x : IsIndexed policy s f z l r clock room) where
+  pub indexed_put : tag_at s.tags k ≡ None → SlotBecomes s.tags s2.tags k (Some t) → s2.room ≡ s.room → IsTag (clock + 1) t → t.since ≡ clock + 1
+      → MeetsPolicy policy Falling s2 room f2 → MeetsPolicy policy Sizes s2 room z2 → MeetsPolicy policy Lists s2 room l2 → MeetsPolicy policy Rising s2 room r2 → IsIndexed policy s2 f2 z2 l2 r2 (clock + 1) room
+  indexed_put vacant becomes same is now hf hz hl hr =
+      let later = newer clock k s.tags s2.tags t x.tags now in
+      record {
+        timed = timed_put s.tags s2.tags k t x.timed vacant becomes later;
+        tags = λ j u here. ⊎_elim (λ a. subst (IsTag (clock + 1)) a.1 is) (λ a. tags_later clock s.tags x.tags j u a.1) (put_cases s.tags s2.tags k t becomes j u here);
+        slots_room = omega (arith, x.slots_room, same);
+        falling = hf;
+        sizes = hz;
+        lists = hl;
+        rising = hr;
+      }
+
+  pub indexed_take : tag_at s.tags k ≡ Some t → SlotBecomes s.tags s2.tags k None → s2.room ≡ s.room
+      → MeetsPolicy policy Falling s2 room f2 → MeetsPolicy policy Sizes s2 room z2 → MeetsPolicy policy Lists s2 room l2 → MeetsPolicy policy Rising s2 room r2 → IsIndexed policy s2 f2 z2 l2 r2 clock room
+  indexed_take here becomes same hf hz hl hr = record {
+    timed = timed_take s.tags s2.tags k t x.timed here becomes;
+    tags = λ j u stays. x.tags j u (take_cases s.tags s2.tags k t becomes j u stays).1;
+    slots_room = omega (arith, x.slots_room, same);
+    falling = hf;
+    sizes = hz;
+    lists = hl;
+    rising = hr;
+  }
+
+-- the lists of free ranges then
+module _ (old new : List (Option FreeTag)) (k : ℕ) (t : FreeTag) (timed : IsTimed old) where
+  pub ranges_put : tag_at old k ≡ None → SlotBecomes old new k (Some t) → ((j : ℕ) (u : FreeTag) → tag_at old j ≡ Some u → u.since < t.since) → ranges_by_age new ≡ ranges_by_age old ++ t.range ∷ []
+  ranges_put vacant becomes later = ap (map range_of) (aged_put old new k t timed vacant becomes later) ∙ map_push range_of (by_age old) t
+
+  pub ranges_take : tag_at old k ≡ Some t → SlotBecomes old new k None → Without (ranges_by_age old) t.range (ranges_by_age new)
+  ranges_take here becomes =
+      let a = aged_take old new k t timed here becomes in
+      (a.0, omega (arith, a.1, length-map (by_age old) range_of), (λ d. get_or-map range_of (by_age old) a.0 t d a.1 ∙ ap range_of (a.2 t)), ap (map range_of) a.3 ∙ map-remove range_of (by_age old) a.0)
+
+-- where the range stands that begins at a base
+module _ (policy : Policy) (s : SlotsState) (f z l r : OrderedIndexState) (clock room : ℕ) (x : IsIndexed policy s f z l r clock room) where
+  pub falling_mirrors : Mirrors Falling f.items s.tags
+  falling_mirrors =
+      let up = subst (λ b. KeepsUp b f.order f.items f.room s.tags room) x.falling.kept_is x.falling.keeps_up in
+      subst (λ o. Mirrors o f.items s.tags) x.falling.order_is up.0
+
+  pub found_first : (k : ℕ) (t : FreeTag) (base : ℕ) → Rises rank_of f.items → tag_at s.tags k ≡ Some t → t.range.range.base ≡ base → first_from rank_of ((2 ^ 62 - base) * 2 ^ 64 + 0) f.items ≡ Some (entry_of Falling k t)
+  found_first k t base rises here at =
+      let c = falling_mirrors.into k t here in
+      let e0 = entry_of Falling k t in
+      let key : (2 ^ 62 - base) * 2 ^ 64 + 0 ≡ rank_of e0 = ap (λ b. (2 ^ 62 - b) * 2 ^ 64 + 0) (sym at) in
+      let place : place_below rank_of ((2 ^ 62 - base) * 2 ^ 64 + 0) f.items ≡ c.0 = ap (λ n. place_below rank_of n f.items) key ∙ place_of_member rank_of f.items e0 c.0 rises c.1 c.2 in
+      ap (λ p. slice_get f.items p) place ∙ (slice_get-get_or f.items c.0 e0 c.1 ∙ ap (λ e. Some e) c.2)
+
+-- what a kept index asks before a range is put in
+module _ (policy : Policy) (order : Order) (s : SlotsState) (room : ℕ) (i : OrderedIndexState) (is : MeetsPolicy policy order s room i) where
+  pub place_in : IsTimed s.tags → length (ranges_by_age s.tags) < room → HasRoomForOne i.kept i.items i.room
+  place_in timed lt = place_for i.kept i.order i.items i.room room s.tags is.keeps_up (taken_below s.tags room timed lt)
+
+  pub absent_in : (clock k : ℕ) (t : FreeTag) → AreTags clock s.tags → IsTag (clock + 1) t → t.since ≡ clock + 1 → clock + 1 < 2 ^ 64 → All (λ r. r.range.base ≢ t.range.range.base) (ranges_by_age s.tags) → IsAbsent i.kept i.items (rank_of (entry_of i.order k t))
+  absent_in clock k t are new now fits absent =
+      absent_for i.kept i.order i.items i.room room s.tags (clock + 1) k t is.keeps_up (tags_later clock s.tags are) new fits (differs clock k s.tags s.tags t are now absent)
+
+  pub present_in : (k : ℕ) (t : FreeTag) → tag_at s.tags k ≡ Some t → IsPresent i.kept i.items (rank_of (entry_of i.order k t))
+  present_in k t here = present_for i.kept i.order i.items i.room room s.tags k t is.keeps_up here
+
+-- the tag of a range that becomes free
+pub new_tag : (clock p len : ℕ) (deed : Holding) (made : FreeTag) → made ≡ record { range = deed; since = clock + 1; power = p } → IsRange deed.range → len ≡ deed.range.len → 2 ^ p ≤ len → len < 2 * 2 ^ p → p < 64 → IsTag (clock + 1) made
+new_tag clock p len deed made is range same low high few =
+    subst (IsTag (clock + 1)) (sym is) (record {
+      range = range;
+      since = omega arith;
+      low = omega (arith, low, same);
+      high = omega (arith, high, same);
+      power = few;
+    })

@@ -1,9 +1,0 @@
-use Rattle.std.proofs.Common.{◌≡◌, length, subst, arith}
-use Rattle.tag_arena.specs.Found.{BestSoFar}
-use Rattle.tag_arena.proofs.Choosing.{best_choice}
-use Rattle.tag_arena.proofs.choices.best.Goals as goal
-
-pub returns-clause-choice : goal.returns-clause-choice
-returns-clause-choice g c =
-    let all : c.loop-at.at ≡ length c.args.free.now = omega arith in
-    best_choice c.args.quantum c.args.request.now c.args.free.now c.loop-at.best (subst (λ n. BestSoFar c.args.quantum c.args.request.now c.args.free.now n c.loop-at.best) all c.loop-at.invariant)

@@ -1,5 +1,0 @@
-use Rattle.tag_arena.specs.Found.{EarliestSoFar}
-use Rattle.tag_arena.proofs.choices.earliest.Given as goal
-
-abbrev pub invariant-loop-at : goal.invariant-loop-at
-invariant-loop-at g l = EarliestSoFar l.quantum l.request l.start l.free l.at l.earliest

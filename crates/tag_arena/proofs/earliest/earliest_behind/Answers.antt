@@ -1,0 +1,127 @@
+use Rattle.std.proofs.Common.{ℕ, ◌+◌, ◌*◌, ◌^◌, ◌<◌, ◌≤◌, Contains, sym, ap, ◌∙◌, subst, arith}
+use Rattle.deed_core.specs.Holding.{Holding}
+use Rattle.deed_core.specs.Request.{rounded}
+use Rattle.tag_arena.specs.Place.{ServesIn}
+use Rattle.tag_arena.specs.FreeTags.{ranges_by_age}
+use Rattle.tag_arena.specs.Orders.{rank_of, entry_of}
+use Rattle.tag_arena.specs.declared.orders.Order.TheVariants.{Rising}
+use Rattle.tag_arena.proofs.Listing.{Some-injective}
+use Rattle.tag_arena.proofs.Indexing.{range_is_free}
+use Rattle.tag_arena.proofs.Lasting.{all_ranges}
+use Rattle.tag_arena.proofs.Weighing.{is_heavy, heavy_grows}
+use Rattle.tag_arena.proofs.Roving.{none_with, earliest_here, earliest_none, light_between, light_behind}
+use Rattle.tag_arena.proofs.earliest.earliest_behind.Goals as goal
+
+pub tag-requires : goal.tag-requires
+tag-requires g c =
+    let q = c.args.request.now in
+    let items = c.args.rising.now.items in
+    let tags = c.args.slots.now.tags in
+    let m = c.requires.mirrors in
+    let are = c.requires.tags.1 in
+    let rises = c.first_weighing.ensures.rises in
+    let from : ℕ = c.loop-entry.from in
+    let e = c.in-Some.entry in
+    let first = is_heavy rank_of (λ x. x.minor) (from * 2 ^ 64 + 0) c.args.units items rises e (sym c.first_weighing.ensures.first ∙ c.in-Some.is) in
+    let w = m.from e (first.place, first.within, first.here) in
+    (w.0, w.1)
+
+pub returns-in-Some-least_in-clause-least : goal.returns-in-Some-least_in-clause-least
+returns-in-Some-least_in-clause-least g c =
+    let q = c.args.request.now in
+    let items = c.args.rising.now.items in
+    let tags = c.args.slots.now.tags in
+    let m = c.requires.mirrors in
+    let are = c.requires.tags.1 in
+    let rises = c.first_weighing.ensures.rises in
+    let from : ℕ = c.loop-entry.from in
+    let e = c.in-Some.entry in
+    let first = is_heavy rank_of (λ x. x.minor) (from * 2 ^ 64 + 0) c.args.units items rises e (sym c.first_weighing.ensures.first ∙ c.in-Some.is) in
+    let w = m.from e (first.place, first.within, first.here) in
+    let t = c.tag.result in
+    let at = sym c.tag.ensures in
+    let is = w.2 ∙ ap (entry_of Rising e.slot) (Some-injective (sym w.1 ∙ at)) in
+    let range = c.range-range.ensures.value in
+    let free = ranges_by_age tags in
+    let among = range_is_free tags e.slot t at in
+    let all = all_ranges c.requires.tags.0 tags are in
+    let units = c.requires.units in
+    let light : (r : Holding) → Contains free r → from ≤ r.range.base → r.range.base < t.range.range.base → r.range.len < rounded c.args.quantum q.size = λ r h low lt. (let short = light_between c.args.units from c.requires.tags.0 items tags m rises are e t first is r h low lt in omega (arith, short, units)) in
+    let found = c.in-Some-least_in.ensures in
+    let base = c.in-Some-least_in.base in
+    let serves = subst (λ h. ServesIn c.args.quantum q h base) range found.0.0 in
+    earliest_here free all c.requires.apart c.args.quantum q c.args.start from t.range among c.loop-entry.invariant light base serves found.0.1
+    (λ b s past. found.1 b (subst (λ h. ServesIn c.args.quantum q h b) (sym range) s, past))
+
+pub returns-in-Some-least_in-clause-placed : goal.returns-in-Some-least_in-clause-placed
+returns-in-Some-least_in-clause-placed g c =
+    let tags = c.args.slots.now.tags in
+    let range = c.range-range.ensures.value in
+    let found = c.in-Some-least_in.ensures in
+    record {
+      among = subst (Contains (ranges_by_age tags)) (sym range) (range_is_free tags c.in-Some.entry.slot c.tag.result (sym c.tag.ensures));
+      serves = found.0.0;
+    }
+
+pub loop-entry-smaller : goal.loop-entry-smaller
+loop-entry-smaller g c =
+    let q = c.args.request.now in
+    let items = c.args.rising.now.items in
+    let tags = c.args.slots.now.tags in
+    let m = c.requires.mirrors in
+    let are = c.requires.tags.1 in
+    let rises = c.first_weighing.ensures.rises in
+    let from : ℕ = c.loop-entry.from in
+    let e = c.in-Some.entry in
+    let first = is_heavy rank_of (λ x. x.minor) (from * 2 ^ 64 + 0) c.args.units items rises e (sym c.first_weighing.ensures.first ∙ c.in-Some.is) in
+    let w = m.from e (first.place, first.within, first.here) in
+    let t = c.tag.result in
+    let at = sym c.tag.ensures in
+    let is = w.2 ∙ ap (entry_of Rising e.slot) (Some-injective (sym w.1 ∙ at)) in
+    let range = c.range-range.ensures.value in
+    let free = ranges_by_age tags in
+    let among = range_is_free tags e.slot t at in
+    let all = all_ranges c.requires.tags.0 tags are in
+    let units = c.requires.units in
+    let light : (r : Holding) → Contains free r → from ≤ r.range.base → r.range.base < t.range.range.base → r.range.len < rounded c.args.quantum q.size = λ r h low lt. (let short = light_between c.args.units from c.requires.tags.0 items tags m rises are e t first is r h low lt in omega (arith, short, units)) in
+    let base = c.base-from.ensures.value ∙ ap (λ h. h.range.base) range in
+    let rank = ap rank_of is in
+    let top = (are e.slot t at).range.below in
+    let next : ℕ = (c.base-from.result + 1) * 2 ^ 64 + 0 in
+    heavy_grows rank_of (λ x. x.minor) (from * 2 ^ 64 + 0) c.args.units items rises e next first (omega (arith, base, rank, top))
+
+pub loop-entry-preserved : goal.loop-entry-preserved
+loop-entry-preserved g c =
+    let q = c.args.request.now in
+    let items = c.args.rising.now.items in
+    let tags = c.args.slots.now.tags in
+    let m = c.requires.mirrors in
+    let are = c.requires.tags.1 in
+    let rises = c.first_weighing.ensures.rises in
+    let from : ℕ = c.loop-entry.from in
+    let e = c.in-Some.entry in
+    let first = is_heavy rank_of (λ x. x.minor) (from * 2 ^ 64 + 0) c.args.units items rises e (sym c.first_weighing.ensures.first ∙ c.in-Some.is) in
+    let w = m.from e (first.place, first.within, first.here) in
+    let t = c.tag.result in
+    let at = sym c.tag.ensures in
+    let is = w.2 ∙ ap (entry_of Rising e.slot) (Some-injective (sym w.1 ∙ at)) in
+    let range = c.range-range.ensures.value in
+    let free = ranges_by_age tags in
+    let among = range_is_free tags e.slot t at in
+    let all = all_ranges c.requires.tags.0 tags are in
+    let units = c.requires.units in
+    let light : (r : Holding) → Contains free r → from ≤ r.range.base → r.range.base < t.range.range.base → r.range.len < rounded c.args.quantum q.size = λ r h low lt. (let short = light_between c.args.units from c.requires.tags.0 items tags m rises are e t first is r h low lt in omega (arith, short, units)) in
+    let base = c.base-from.ensures.value ∙ ap (λ h. h.range.base) range in
+    none_with free all c.requires.apart c.args.quantum q c.args.start from t.range among c.loop-entry.invariant light
+    (λ b s past. c.in_default-least_in.ensures b (subst (λ h. ServesIn c.args.quantum q h b) (sym range) s, past))
+    (c.base-from.result + 1) (omega (arith, base))
+
+pub returns-clause-least : goal.returns-clause-least
+returns-clause-least g c =
+    let items = c.args.rising.now.items in
+    let tags = c.args.slots.now.tags in
+    let from : ℕ = c.loop-entry.from in
+    let units = c.requires.units in
+    let none = sym c.first_weighing.ensures.first ∙ c.in_default.is in
+    earliest_none (ranges_by_age tags) (all_ranges c.requires.tags.0 tags c.requires.tags.1) c.requires.apart c.args.quantum c.args.request.now c.args.start from c.loop-entry.invariant
+    (λ r h low. let short = light_behind c.args.units from c.requires.tags.0 items tags c.requires.mirrors c.first_weighing.ensures.rises c.requires.tags.1 none r h low in omega (arith, short, units))

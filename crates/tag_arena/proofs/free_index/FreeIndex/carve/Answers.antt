@@ -1,0 +1,38 @@
+use Rattle.std.proofs.Common.{◌+◌, ap, arith}
+use Rattle.tag_arena.proofs.Cutting.{absent_low, absent_high, room_for_low, room_for_high, carved_out}
+use Rattle.tag_arena.proofs.free_index.FreeIndex.carve.Goals as goal
+
+pub insert_rest-requires-clause-absent : goal.insert_rest-requires-clause-absent
+insert_rest-requires-clause-absent g c =
+    let o = c.in_ok-low.ensures in
+    absent_low c.args.self.now.ranges c.cut.new.self.ranges c.args.range c.len.ensures.ranges c.requires.apart o.ranges _ _ _ c.args.base (c.args.base + c.args.len) o.cut c.requires.from (omega (arith, c.requires.some)) c.requires.to
+
+pub insert_rest-requires-clause-room : goal.insert_rest-requires-clause-room
+insert_rest-requires-clause-room g c =
+    let o = c.in_ok-low.ensures in
+    let room = ap (λ v. v.room) c.cut.ensures.rest in
+    omega (arith, room, room_for_low c.args.self.now.ranges c.cut.new.self.ranges c.args.range c.len.ensures.ranges c.requires.apart o.ranges _ _ _ c.args.base (c.args.base + c.args.len) o.cut c.requires.from (omega (arith, c.requires.some)) c.requires.to c.args.self.now.room c.requires.room)
+
+pub insert_rest-requires-2-clause-absent : goal.insert_rest-requires-2-clause-absent
+insert_rest-requires-2-clause-absent g c =
+    let o = c.in_ok-low.ensures in
+    absent_high c.args.self.now.ranges c.cut.new.self.ranges c.args.range c.len.ensures.ranges c.requires.apart o.ranges _ _ _ c.args.base (c.args.base + c.args.len) o.cut c.requires.from (omega (arith, c.requires.some)) c.requires.to
+    c.insert_rest.new.self.ranges c.insert_rest.ensures.ranges
+
+pub insert_rest-requires-2-clause-room : goal.insert_rest-requires-2-clause-room
+insert_rest-requires-2-clause-room g c =
+    let o = c.in_ok-low.ensures in
+    let room = ap (λ v. v.room) c.cut.ensures.rest in
+    omega (
+      arith,
+      room,
+      c.insert_rest.ensures.room,
+      room_for_high c.args.self.now.ranges c.cut.new.self.ranges c.args.range c.len.ensures.ranges c.requires.apart o.ranges _ _ _ c.args.base (c.args.base + c.args.len) o.cut c.requires.from (omega (arith, c.requires.some)) c.requires.to c.args.self.now.room
+          c.insert_rest.new.self.ranges c.insert_rest.ensures.ranges c.requires.room,
+    )
+
+pub returns-clause-carved : goal.returns-clause-carved
+returns-clause-carved g c =
+    let o = c.in_ok-low.ensures in
+    carved_out c.args.self.now.ranges c.cut.new.self.ranges c.args.range c.len.ensures.ranges c.requires.apart o.ranges _ _ _ c.args.base (c.args.base + c.args.len) o.cut c.requires.from (omega (arith, c.requires.some)) c.requires.to
+    c.insert_rest.new.self.ranges c.insert_rest-2.new.self.ranges c.insert_rest.ensures.ranges c.insert_rest-2.ensures.ranges

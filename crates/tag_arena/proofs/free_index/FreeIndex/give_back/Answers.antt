@@ -1,0 +1,12 @@
+use Rattle.std.proofs.Common.{ap, arith}
+use Rattle.tag_arena.proofs.Rejoining.{merged_absent, merged_fewer}
+use Rattle.tag_arena.proofs.free_index.FreeIndex.give_back.Goals as goal
+
+pub insert-requires-clause-absent : goal.insert-requires-clause-absent
+insert-requires-clause-absent g c = merged_absent c.args.span c.args.deed c.merge-merged.result c.args.self.now.ranges c.merge-merged.new.self.ranges c.merge-merged.ensures.merges c.requires.some c.requires.beside c.requires.apart c.requires.clear
+
+pub insert-requires-clause-room : goal.insert-requires-clause-room
+insert-requires-clause-room g c =
+    let few = merged_fewer c.args.span c.args.deed c.merge-merged.result c.args.self.now.ranges c.merge-merged.new.self.ranges c.merge-merged.ensures.merges in
+    let room = ap (λ v. v.room) c.merge-merged.ensures.rest in
+    omega (arith, few, room, c.requires.room)

@@ -1,5 +1,0 @@
-use Rattle.tag_arena.specs.Found.{NewestSoFar}
-use Rattle.tag_arena.proofs.power_lists.newest.Given as goal
-
-abbrev pub invariant-loop-at : goal.invariant-loop-at
-invariant-loop-at g l = NewestSoFar l.quantum l.len l.free l.at l.newest

@@ -1,6 +1,0 @@
-use Rattle.std.proofs.Common.{◌≢◌}
-use Rattle.std.specs.List.{AllWithin}
-use Rattle.tag_arena.proofs.whole_spans.index_of.Given as goal
-
-abbrev pub invariant-loop-at : goal.invariant-loop-at
-invariant-loop-at g l = AllWithin (λ r. r ≢ l.range) l.free 0 l.at

@@ -1,0 +1,55 @@
+-- What a contract sees of the free ranges of an arena, and what is always so of their index.
+use Rattle.std.specs.Prelude.{◌≡◌, ℕ, ◌+◌, ◌≤◌, Bool, true, false, List, length}
+use Rattle.deed_core.specs.Holding.{Holding}
+use Rattle.tag_arena.specs.declared.policies.Policy.{Policy}
+use Rattle.tag_arena.specs.declared.policies.Policy.TheVariants.{Best, Next, Instant}
+use Rattle.tag_arena.specs.declared.orders.Order.{Order}
+use Rattle.tag_arena.specs.declared.orders.Order.TheVariants.{Falling, Sizes, Lists, Rising}
+use Rattle.tag_arena.specs.FreeTags.{IsTimed, AreTags}
+use Rattle.tag_arena.specs.Orders.{OrderedIndexState, KeepsUp}
+use Rattle.tag_arena.specs.Slotted.{SlotsState}
+
+-- the free ranges from the oldest to the newest, how many there may be, and how many more may
+-- become free
+pub record FreeIndexState : Type 0 where
+  pub policy : Policy
+  pub ranges : List Holding
+  pub room : ℕ
+  pub ticks : ℕ
+
+-- the orders that a policy asks for; each asks for the falling one
+abbrev pub keeps : Policy → Order → Bool
+keeps policy Falling = true
+keeps Best Sizes = true
+keeps Best Lists = false
+keeps Best Rising = false
+keeps Instant Sizes = true
+keeps Instant Lists = true
+keeps Instant Rising = false
+keeps Next Sizes = false
+keeps Next Lists = false
+keeps Next Rising = true
+
+-- an index in this order has what its policy asks for
+pub record MeetsPolicy (policy : Policy) (order : Order) (s : SlotsState) (room : ℕ)
+    (i : OrderedIndexState) : Type 0 where
+  pub order_is : i.order ≡ order
+  pub kept_is : i.kept ≡ keeps policy order
+  pub keeps_up : KeepsUp i.kept i.order i.items i.room s.tags room
+
+-- each index has the tags of the slots
+pub record IsIndexed (policy : Policy) (s : SlotsState) (down size list up : OrderedIndexState)
+    (clock room : ℕ) : Type 0 where
+  pub timed : IsTimed s.tags
+  pub tags : AreTags clock s.tags
+  pub slots_room : room ≤ s.room
+  pub falling : MeetsPolicy policy Falling s room down
+  pub sizes : MeetsPolicy policy Sizes s room size
+  pub lists : MeetsPolicy policy Lists s room list
+  pub rising : MeetsPolicy policy Rising s room up
+
+-- what is out, so many ranges, can come back without memory, and before time runs out
+pub record IsBacked (policy : Policy) (free : FreeIndexState) (out : ℕ) : Type 0 where
+  pub policy_is : free.policy ≡ policy
+  pub room : length free.ranges + out ≤ free.room
+  pub ticks : out ≤ free.ticks

@@ -1,0 +1,132 @@
+//! The least address from a start on that serves a request.
+ghost use Rattle.std.specs.Prelude.{◌≡◌, ℕ, ◌+◌, ◌≤◌, ◌^◌, AllPairs, IfSome};
+ghost use Rattle.std.specs.Int.{IsPowerOfTwo};
+ghost use Rattle.deed_core.specs.Holding.{Apart};
+ghost use Rattle.deed_core.specs.Request.{IsGood, rounded};
+ghost use Rattle.tag_arena.specs.Choice.{IsNextChoice};
+ghost use Rattle.tag_arena.specs.FreeTags.{AreTags, ranges_by_age};
+ghost use Rattle.tag_arena.specs.Orders.{Mirrors};
+ghost use Rattle.tag_arena.specs.Fits.{base_of, IsEarliest, IsFit, NoneBelow};
+ghost use Rattle.tag_arena.specs.declared.orders.Order.TheVariants.{Falling, Rising};
+
+use crate::orders::OrderedIndex;
+use crate::probes::Probes;
+use crate::searches::{Fit, last_by};
+use crate::slots::Slots;
+use deed_core::{Deed, Request};
+
+/// The least address from `start` on that serves the request, where none does in a range that
+/// begins below `first`. Ranges of fewer than `units` are passed by.
+fn earliest_behind<D: Deed>(
+    slots: &Slots<D>,
+    rising: &OrderedIndex,
+    quantum: u64,
+    request: &Request,
+    units: u64,
+    start: u64,
+    first: u64,
+    probes: &mut Probes,
+) -> Option<Fit>
+    requires quantum { IsPowerOfTwo quantum }
+    requires good { IsGood quantum request.now }
+    requires units { units ≡ rounded quantum request.now.size }
+    requires start { start ≤ 2 ^ 62 }
+    requires tags { (clock : ℕ) × AreTags clock slots.now.tags }
+    requires mirrors { Mirrors Rising rising.now.items slots.now.tags }
+    requires apart { AllPairs Apart (ranges_by_age slots.now.tags) }
+    requires below { NoneBelow quantum request.now (ranges_by_age slots.now.tags) start first }
+    ensures least { let free = ranges_by_age slots.now.tags in
+        IsEarliest quantum request.now free start (base_of result) }
+    ensures placed { let free = ranges_by_age slots.now.tags in
+        IfSome result (IsFit quantum request.now free) }
+{
+    let mut from = first;
+    while let Some(entry) = rising.first_weighing(from, 0, units) {
+        let range = slots.tag(entry.slot).range();
+        if let Some(base) = probes.least_in(request, quantum, range, start) {
+            return Some(Fit { range, base });
+        }
+        from = range.base() + 1;
+    }
+    None
+}
+
+/// The least address from `start` on that serves the request. Of the ranges that begin at `start`
+/// or below it, only the last can reach past it.
+fn earliest_fit<D: Deed>(
+    slots: &Slots<D>,
+    falling: &OrderedIndex,
+    rising: &OrderedIndex,
+    quantum: u64,
+    request: &Request,
+    start: u64,
+    probes: &mut Probes,
+) -> Option<Fit>
+    requires quantum { IsPowerOfTwo quantum }
+    requires good { IsGood quantum request.now }
+    requires start { start ≤ 2 ^ 62 }
+    requires tags { (clock : ℕ) × AreTags clock slots.now.tags }
+    requires falling { Mirrors Falling falling.now.items slots.now.tags }
+    requires rising { Mirrors Rising rising.now.items slots.now.tags }
+    requires apart { AllPairs Apart (ranges_by_age slots.now.tags) }
+    ensures least { let free = ranges_by_age slots.now.tags in
+        IsEarliest quantum request.now free start (base_of result) }
+    ensures placed { let free = ranges_by_age slots.now.tags in
+        IfSome result (IsFit quantum request.now free) }
+{
+    let units = request.units(quantum)?;
+    if let Some(range) = last_by(slots, falling, start) {
+        if let Some(base) = probes.least_in(request, quantum, range, start) {
+            return Some(Fit { range, base });
+        }
+    }
+    earliest_behind(
+        slots,
+        rising,
+        quantum,
+        request,
+        units,
+        start,
+        start + 1,
+        probes,
+    )
+}
+
+/// The least address at or past the rover that serves the request, else the least that does. No
+/// address below the request's `min` is looked at.
+pub fn next_fit<D: Deed>(
+    slots: &Slots<D>,
+    falling: &OrderedIndex,
+    rising: &OrderedIndex,
+    rover: u64,
+    quantum: u64,
+    request: &Request,
+    probes: &mut Probes,
+) -> Option<Fit>
+    requires quantum { IsPowerOfTwo quantum }
+    requires good { IsGood quantum request.now }
+    requires rover { rover ≤ 2 ^ 62 }
+    requires tags { (clock : ℕ) × AreTags clock slots.now.tags }
+    requires falling { Mirrors Falling falling.now.items slots.now.tags }
+    requires rising { Mirrors Rising rising.now.items slots.now.tags }
+    requires apart { AllPairs Apart (ranges_by_age slots.now.tags) }
+    ensures choice { let free = ranges_by_age slots.now.tags in
+        IsNextChoice quantum request.now free rover (base_of result) }
+    ensures placed { let free = ranges_by_age slots.now.tags in
+        IfSome result (IsFit quantum request.now free) }
+{
+    let low = request.min;
+    let past = earliest_fit(
+        slots,
+        falling,
+        rising,
+        quantum,
+        request,
+        rover.max(low),
+        probes,
+    );
+    if let Some(fit) = past {
+        return Some(fit);
+    }
+    earliest_fit(slots, falling, rising, quantum, request, low, probes)
+}

@@ -1,0 +1,35 @@
+//! What stands in an index.
+ghost use Rattle.std.specs.Prelude.{◌≡◌, ◌+◌, ◌*◌, ◌^◌};
+
+use sorted_rows::RowEntry;
+
+/// A free range in one order: the two numbers of its key, and its slot.
+#[derive(Clone, Copy, Debug)]
+pub struct IndexEntry {
+    pub major: u64,
+    pub minor: u64,
+    pub slot: usize,
+}
+
+/// The key of two numbers: by the first, then by the second.
+pub fn key_of(major: u64, minor: u64) -> u128
+    ensures { result ≡ major * 2 ^ 64 + minor }
+{
+    (major as u128) * (1 << 64) + minor as u128
+}
+
+impl RowEntry for IndexEntry {
+    ghost use Rattle.tag_arena.specs.Orders.{rank_of};
+
+    ghost rank = { rank_of };
+
+    ghost weight = { λ e. e.minor };
+
+    fn key(&self) -> u128 {
+        key_of(self.major, self.minor)
+    }
+
+    fn weight(&self) -> u64 {
+        self.minor
+    }
+}

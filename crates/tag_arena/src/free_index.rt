@@ -1,0 +1,488 @@
+//! The free ranges of an arena, in the orders that its policy asks for.
+ghost use Rattle.std.specs.Prelude.{◌≡◌, ◌≢◌, ◌+◌, ◌<◌, ◌≤◌, ◌++◌, ◌∷◌, [], All, Any, OnOk, OnErr};
+ghost use Rattle.std.specs.Prelude.{◌-◌, ◌%◌, ◌^◌, length, max, true, AllPairs, Contains, IfOk};
+ghost use Rattle.std.specs.Prelude.{IfSome, MatchBool, option_to_list};
+ghost use Rattle.std.specs.Int.{IsPowerOfTwo};
+ghost use Rattle.deed_core.specs.Covering.{units_held};
+ghost use Rattle.deed_core.specs.Extent.{IsRange, end_of};
+ghost use Rattle.deed_core.specs.Holding.{Apart};
+ghost use Rattle.deed_core.specs.Request.{IsGood};
+ghost use Rattle.tag_arena.specs.Calls.{part};
+ghost use Rattle.tag_arena.specs.Choice.{IsBestChoice, IsChoice, IsInstantChoice, IsNextChoice};
+ghost use Rattle.tag_arena.specs.declared.policies.Policy.TheVariants.{Instant, Next};
+ghost use Rattle.tag_arena.specs.Layout.{IsPartOf};
+ghost use Rattle.tag_arena.specs.Neighbors.{IsBeside, Merges, TakesLeft, TakesRight, Without};
+ghost use Rattle.tag_arena.specs.Cuts.{CarvesOut, IsCut};
+ghost use Rattle.tag_arena.specs.Fits.{base_of, IsFit, IsLastBy, ServedByList};
+ghost use Rattle.tag_arena.specs.FreeRanges.{keeps};
+ghost use Rattle.tag_arena.specs.Returns.{ComesBack};
+ghost use Rattle.tag_arena.specs.declared.orders.Order.TheVariants.{Sizes};
+
+use crate::cuts::Cut;
+use crate::earliest::next_fit;
+use crate::held_ranges::{HeldRange, held_range_of};
+use crate::merges::{join_left, join_right};
+use crate::orders::{Order, OrderedIndex};
+use crate::policies::Policy;
+use crate::probes::Probes;
+use crate::searches::{Fit, best_fit, last_by, newest};
+use crate::slots::{Slots, TimedDeed};
+use deed_core::{Deed, LIMIT, Request, Stored};
+use std::alloc::{AllocError, Global};
+use std::marker::Model;
+
+/// The deeds of the free ranges of an arena. A contract sees the ranges from the oldest to the
+/// newest, how many there may be, and how many more may become free before time runs out.
+pub struct FreeIndex<D: Deed> {
+    policy: Policy,
+    slots: Slots<D>,
+    falling: OrderedIndex,
+    sizes: OrderedIndex,
+    lists: OrderedIndex,
+    rising: OrderedIndex,
+    clock: u64,
+    room: usize,
+}
+
+impl<D: Deed> Model for FreeIndex<D> {
+    ghost use Rattle.std.specs.Prelude.{◌-◌, ◌^◌};
+    ghost use Rattle.tag_arena.specs.FreeTags.{ranges_by_age};
+    ghost use Rattle.tag_arena.specs.FreeRanges.{FreeIndexState, IsIndexed};
+
+    ghost Value = { FreeIndexState };
+
+    ghost view = { λ f. record {
+      policy = f.policy;
+      ranges = ranges_by_age f.slots.tags;
+      room = f.room;
+      ticks = 2 ^ 64 - 1 - f.clock;
+    } };
+
+    ghost invariant = { λ f.
+        IsIndexed f.policy f.slots f.falling f.sizes f.lists f.rising f.clock f.room };
+}
+
+/// Whether the policy asks for the order. Each asks for the falling one.
+fn is_kept(policy: Policy, order: Order) -> bool
+    ensures { result ≡ keeps policy order }
+{
+    match order {
+        Order::Falling => true,
+        Order::Sizes => match policy {
+            Policy::Next => false,
+            Policy::Best | Policy::Instant => true,
+        },
+        Order::Lists => match policy {
+            Policy::Instant => true,
+            Policy::Best | Policy::Next => false,
+        },
+        Order::Rising => match policy {
+            Policy::Next => true,
+            Policy::Best | Policy::Instant => false,
+        },
+    }
+}
+
+/// An index with nothing in it, which is kept where the policy asks for it.
+fn index_in(alloc: Global, policy: Policy, order: Order) -> OrderedIndex
+    ensures order { result.order ≡ order }
+    ensures kept { result.kept ≡ keeps policy order }
+    ensures items { result.items ≡ [] }
+    ensures room { result.room ≡ 0 }
+{
+    OrderedIndex::new(alloc, order, is_kept(policy, order))
+}
+
+impl<D: Deed> FreeIndex<D> {
+    /// No free range, and no room for any.
+    pub fn new(alloc: Global, policy: Policy) -> FreeIndex<D>
+        ensures policy { result.policy ≡ policy }
+        ensures ranges { result.ranges ≡ [] }
+        ensures room { result.room ≡ 0 }
+        ensures ticks { result.ticks ≡ 2 ^ 64 - 1 }
+    {
+        FreeIndex {
+            policy,
+            slots: Slots::new(alloc),
+            falling: index_in(alloc, policy, Order::Falling),
+            sizes: index_in(alloc, policy, Order::Sizes),
+            lists: index_in(alloc, policy, Order::Lists),
+            rising: index_in(alloc, policy, Order::Rising),
+            clock: 0,
+            room: 0,
+        }
+    }
+
+    /// Makes room for `room` free ranges in all. Of all calls this one alone takes memory.
+    pub fn reserve(&mut self, alloc: Global, room: usize) -> Result<(), AllocError>
+        ensures ok { OnOk result (self.new.room ≡ max room self.old.room) }
+        ensures unchanged { OnErr result (self.new.room ≡ self.old.room) }
+        ensures rest { self.new ≡ record self.old { room = self.new.room } }
+    {
+        if room <= self.room {
+            return Ok(());
+        }
+        self.slots.reserve(room)?;
+        self.falling.reserve(alloc, room)?;
+        self.sizes.reserve(alloc, room)?;
+        self.lists.reserve(alloc, room)?;
+        self.rising.reserve(alloc, room)?;
+        self.room = room;
+        Ok(())
+    }
+
+    /// A range becomes free: it is the newest. It takes no memory.
+    pub fn insert(&mut self, deed: Stored<D>)
+        requires absent { All (λ r. r.range.base ≢ deed.range.base) self.old.ranges }
+        requires room { length self.old.ranges < self.old.room }
+        requires ticks { 0 < self.old.ticks }
+        ensures ranges { self.new.ranges ≡ self.old.ranges ++ deed ∷ [] }
+        ensures policy { self.new.policy ≡ self.old.policy }
+        ensures room { self.new.room ≡ self.old.room }
+        ensures ticks { self.new.ticks + 1 ≡ self.old.ticks }
+    {
+        self.clock += 1;
+        let power = held_range_of(&deed).len().ilog2();
+        let deed = TimedDeed::new(deed, self.clock, power);
+        let tag = deed.tag();
+        let slot = self.slots.put(deed);
+        self.falling.enter(slot, tag);
+        self.sizes.enter(slot, tag);
+        self.lists.enter(slot, tag);
+        self.rising.enter(slot, tag);
+    }
+
+    /// The free range that begins at `base` is free no more.
+    pub fn take(&mut self, base: u64) -> Stored<D>
+        requires present { Any (λ r. r.range.base ≡ base) self.old.ranges }
+        ensures ranges { Without self.old.ranges result self.new.ranges }
+        ensures base { result.range.base ≡ base }
+        ensures policy { self.new.policy ≡ self.old.policy }
+        ensures room { self.new.room ≡ self.old.room }
+        ensures ticks { self.new.ticks ≡ self.old.ticks }
+    {
+        let Some(entry) = self.falling.first_from(LIMIT - base, 0) else {
+            unreachable!()
+        };
+        let slot = entry.slot;
+        let tag = self.slots.tag(slot);
+        self.falling.strike(slot, tag);
+        self.sizes.strike(slot, tag);
+        self.lists.strike(slot, tag);
+        self.rising.strike(slot, tag);
+        self.slots.take(slot).into_deed()
+    }
+
+    /// How many free ranges there are. It takes constant time, so its clauses are the way to know
+    /// what is always so of them.
+    pub fn len(&self) -> usize
+        ensures len { result ≡ length self.now.ranges }
+        ensures ranges { All (λ r. IsRange r.range) self.now.ranges }
+    {
+        self.slots.taken()
+    }
+
+    /// How many free ranges there may be before it needs more room.
+    pub fn room(&self) -> usize
+        ensures { result ≡ self.now.room }
+    {
+        self.room
+    }
+
+    /// How many more ranges may become free before the clock has run out.
+    pub fn ticks(&self) -> u64
+        ensures { result ≡ self.now.ticks }
+    {
+        u64::MAX - self.clock
+    }
+
+    /// How many units the free ranges have.
+    pub fn units(&self) -> u128
+        ensures { result ≡ units_held self.now.ranges }
+    {
+        self.slots.units()
+    }
+
+    /// Whether it is a free range.
+    pub fn has(&self, range: HeldRange) -> bool
+        requires { AllPairs Apart self.now.ranges }
+        ensures { MatchBool result (Contains self.now.ranges range)
+            (¬ Contains self.now.ranges range) }
+    {
+        // For its clause: each free range has units.
+        let _ = self.len();
+        let Some(last) = self.last_by(range.base()) else {
+            return false;
+        };
+        if last != range {
+            return false;
+        }
+        true
+    }
+
+    /// Of the free ranges that begin at `base` or below it, the one that begins last.
+    pub fn last_by(&self, base: u64) -> Option<HeldRange>
+        requires { base ≤ 2 ^ 62 }
+        ensures { IsLastBy base self.now.ranges result }
+    {
+        last_by(&self.slots, &self.falling, base)
+    }
+
+    /// The best range that serves the request, and its least address that does. Under `next` there
+    /// is no index for it.
+    pub fn best(&self, quantum: u64, request: &Request, probes: &mut Probes) -> Option<Fit>
+        requires kept { keeps self.now.policy Sizes ≡ true }
+        requires quantum { IsPowerOfTwo quantum }
+        requires good { IsGood quantum request.now }
+        ensures choice { IsBestChoice quantum request.now self.now.ranges (base_of result) }
+        ensures placed { IfSome result (IsFit quantum request.now self.now.ranges) }
+    {
+        best_fit(&self.slots, &self.sizes, quantum, request, probes)
+    }
+
+    /// As from power-of-two lists: for a request without constraints the newest range of the least
+    /// list whose every member has room, and else, or where there is no such list, the best. It is
+    /// for `instant`, which alone has the lists.
+    pub fn instant(&self, quantum: u64, request: &Request, probes: &mut Probes) -> Option<Fit>
+        requires kept { self.now.policy ≡ Instant }
+        requires quantum { IsPowerOfTwo quantum }
+        requires good { IsGood quantum request.now }
+        requires aligned { All (λ r. r.range.base % quantum ≡ 0) self.now.ranges }
+        ensures choice { IsInstantChoice quantum request.now self.now.ranges (base_of result) }
+        ensures placed { IfSome result (IsFit quantum request.now self.now.ranges) }
+        ensures one { ServedByList quantum request.now self.now.ranges
+            → probes.old.count ≡ 0 → probes.new.count ≡ 1 }
+    {
+        // The clock is read for the proof alone.
+        let _clock = self.clock;
+        if request.is_constrained() {
+            return self.best(quantum, request, probes);
+        }
+        let Some(units) = request.units(quantum) else {
+            return self.best(quantum, request, probes);
+        };
+        let Some(range) = newest(&self.slots, &self.lists, quantum, units) else {
+            return self.best(quantum, request, probes);
+        };
+        probes.look();
+        Some(Fit {
+            range,
+            base: range.base(),
+        })
+    }
+
+    /// The least address at or past the rover that serves the request, else the least that does. It
+    /// is for `next`, which alone has the order that it asks for.
+    pub fn next(
+        &self,
+        rover: u64,
+        quantum: u64,
+        request: &Request,
+        probes: &mut Probes,
+    ) -> Option<Fit>
+        requires kept { self.now.policy ≡ Next }
+        requires quantum { IsPowerOfTwo quantum }
+        requires good { IsGood quantum request.now }
+        requires rover { rover ≤ 2 ^ 62 }
+        requires apart { AllPairs Apart self.now.ranges }
+        ensures choice { let free = self.now.ranges in
+            IsNextChoice quantum request.now free rover (base_of result) }
+        ensures placed { IfSome result (IsFit quantum request.now self.now.ranges) }
+    {
+        next_fit(
+            &self.slots,
+            &self.falling,
+            &self.rising,
+            rover,
+            quantum,
+            request,
+            probes,
+        )
+    }
+
+    /// What the policy chooses.
+    pub fn chosen(
+        &self,
+        rover: u64,
+        quantum: u64,
+        request: &Request,
+        probes: &mut Probes,
+    ) -> Option<Fit>
+        requires quantum { IsPowerOfTwo quantum }
+        requires good { IsGood quantum request.now }
+        requires rover { rover ≤ 2 ^ 62 }
+        requires aligned { All (λ r. r.range.base % quantum ≡ 0) self.now.ranges }
+        requires apart { AllPairs Apart self.now.ranges }
+        ensures choice { let free = self.now.ranges in
+            IsChoice self.now.policy quantum request.now free rover (base_of result) }
+        ensures placed { IfSome result (IsFit quantum request.now self.now.ranges) }
+        ensures one { self.now.policy ≡ Instant → ServedByList quantum request.now self.now.ranges
+            → probes.old.count ≡ 0 → probes.new.count ≡ 1 }
+    {
+        match self.policy {
+            Policy::Best => self.best(quantum, request, probes),
+            Policy::Next => self.next(rover, quantum, request, probes),
+            Policy::Instant => self.instant(quantum, request, probes),
+        }
+    }
+
+    /// Takes out the free range that ends at `base`, unless the span begins there.
+    fn take_left(&mut self, start: u64, base: u64) -> Option<Stored<D>>
+        requires start { start ≤ base }
+        requires base { base ≤ 2 ^ 62 }
+        requires apart { AllPairs Apart self.old.ranges }
+        ensures taken { TakesLeft start base self.old.ranges result self.new.ranges }
+        ensures rest { self.new ≡ record self.old { ranges = self.new.ranges } }
+    {
+        if base == start {
+            return None;
+        }
+        // For its clause: each free range has units.
+        let _ = self.len();
+        let range = self.last_by(base - 1)?;
+        if range.end() != base {
+            return None;
+        }
+        Some(self.take(range.base()))
+    }
+
+    /// Takes out the free range that begins at `end`, unless the span ends there.
+    fn take_right(&mut self, end: u64, limit: u64) -> Option<Stored<D>>
+        requires end { end ≤ limit }
+        requires limit { limit ≤ 2 ^ 62 }
+        ensures taken { TakesRight end limit self.old.ranges result self.new.ranges }
+        ensures rest { self.new ≡ record self.old { ranges = self.new.ranges } }
+    {
+        if end == limit {
+            return None;
+        }
+        let range = self.last_by(end)?;
+        if range.base() != end {
+            return None;
+        }
+        Some(self.take(end))
+    }
+
+    /// The deed and its free neighbours inside the span, which are taken out. It takes no memory.
+    pub fn merge(&mut self, span: HeldRange, deed: Stored<D>) -> Stored<D>
+        requires inside { IsPartOf span deed }
+        requires some { 0 < deed.range.len }
+        requires beside { All (IsBeside span) self.old.ranges }
+        requires apart { AllPairs Apart self.old.ranges }
+        ensures merges { Merges span deed self.old.ranges result self.new.ranges }
+        ensures rest { self.new ≡ record self.old { ranges = self.new.ranges } }
+    {
+        let range = deed.range();
+        let left = self.take_left(span.base(), range.base());
+        let right = self.take_right(range.end(), span.end());
+        let low = join_left(left, deed);
+        join_right(low, right)
+    }
+
+    /// A piece of a span comes back. With its free neighbours it is the newest range; where that is
+    /// the whole of a span that was lent, it is handed back. It takes no memory.
+    pub fn give_back(&mut self, span: HeldRange, lent: bool, deed: Stored<D>) -> Option<Stored<D>>
+        requires inside { IsPartOf span deed }
+        requires some { 0 < deed.range.len }
+        requires beside { All (IsBeside span) self.old.ranges }
+        requires apart { AllPairs Apart self.old.ranges }
+        requires clear { All (Apart deed) self.old.ranges }
+        requires room { length self.old.ranges < self.old.room }
+        requires ticks { 0 < self.old.ticks }
+        ensures returned { ComesBack lent span deed self.old.ranges self.new.ranges result }
+        ensures setup { (self.new.policy ≡ self.old.policy) × (self.new.room ≡ self.old.room) }
+        ensures ticks { self.old.ticks ≤ self.new.ticks + 1 }
+    {
+        let merged = self.merge(span, deed);
+        if lent && held_range_of(&merged) == span {
+            return Some(merged);
+        }
+        self.insert(merged);
+        None
+    }
+
+    /// Cuts the units from `base` to `end` out of a free range, which is free no more.
+    fn cut(&mut self, range: HeldRange, base: u64, end: u64) -> Result<Cut<D>, AllocError>
+        requires among { Contains self.old.ranges range }
+        requires from { range.range.base ≤ base }
+        requires some { base < end }
+        requires to { end ≤ end_of range.range }
+        ensures cut { IfOk result (λ cut. IsCut range base end cut.low cut.piece cut.high) }
+        ensures ranges { OnOk result (Without self.old.ranges range self.new.ranges) }
+        ensures unchanged { OnErr result (self.new.ranges ≡ self.old.ranges) }
+        ensures rest { self.new ≡ record self.old { ranges = self.new.ranges } }
+    {
+        let Some(entry) = self.falling.first_from(LIMIT - range.base(), 0) else {
+            unreachable!()
+        };
+        let slot = entry.slot;
+        let tag = self.slots.tag(slot);
+        let cut = self.slots.cut(slot, tag, base, end)?;
+        self.falling.strike(slot, tag);
+        self.sizes.strike(slot, tag);
+        self.lists.strike(slot, tag);
+        self.rising.strike(slot, tag);
+        Ok(cut)
+    }
+
+    /// A rest, if there is one, becomes free.
+    pub fn insert_rest(&mut self, rest: Option<Stored<D>>)
+        requires absent { IfSome rest (λ h.
+            All (λ r. r.range.base ≢ h.range.base) self.old.ranges) }
+        requires room { length self.old.ranges < self.old.room }
+        requires ticks { 0 < self.old.ticks }
+        ensures ranges { self.new.ranges ≡ self.old.ranges ++ option_to_list rest }
+        ensures policy { self.new.policy ≡ self.old.policy }
+        ensures room { self.new.room ≡ self.old.room }
+        ensures ticks { self.old.ticks ≤ self.new.ticks + 1 }
+    {
+        match rest {
+            Some(rest) => self.insert(rest),
+            None => {}
+        }
+    }
+
+    /// Carves `len` units from `base` on out of a free range, whose rests become free, the low one
+    /// first. Where a split is refused, all is as it was.
+    pub fn carve(&mut self, range: HeldRange, base: u64, len: u64) -> Result<Stored<D>, AllocError>
+        requires among { Contains self.old.ranges range }
+        requires some { 0 < len }
+        requires from { range.range.base ≤ base }
+        requires to { base + len ≤ end_of range.range }
+        requires apart { AllPairs Apart self.old.ranges }
+        requires room { length self.old.ranges < self.old.room }
+        requires ticks { 1 < self.old.ticks }
+        ensures piece { IfOk result (λ piece. piece ≡ part range base len) }
+        ensures carved { IfOk result (λ piece.
+            CarvesOut range piece self.old.ranges self.new.ranges) }
+        ensures unchanged { OnErr result (self.new ≡ self.old) }
+        ensures setup { (self.new.policy ≡ self.old.policy) × (self.new.room ≡ self.old.room) }
+        ensures len { length self.new.ranges ≤ length self.old.ranges + 1 }
+        ensures ticks { self.old.ticks ≤ self.new.ticks + 2 }
+    {
+        // For their clauses: each of these ranges has units.
+        let _ = range.end();
+        let _ = self.len();
+        let Cut { low, piece, high } = self.cut(range, base, base + len)?;
+        self.insert_rest(low);
+        self.insert_rest(high);
+        Ok(piece)
+    }
+
+    /// Ends the index where no range is free.
+    pub fn destroy(self)
+        requires { self.ranges ≡ [] }
+    {
+        let FreeIndex {
+            policy: _,
+            slots,
+            falling: _,
+            sizes: _,
+            lists: _,
+            rising: _,
+            clock: _,
+            room: _,
+        } = self;
+        slots.destroy();
+    }
+}

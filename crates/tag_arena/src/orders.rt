@@ -1,0 +1,156 @@
+//! One index of the free ranges, in one order.
+ghost use Rattle.std.specs.Prelude.{◌≡◌, ◌≤◌, ◌+◌, ◌*◌, ◌^◌, [], max, OnOk, true};
+ghost use Rattle.tag_arena.specs.Orders.{entry_of, rank_of, IsAbsent, IsPresent, HasRoomForOne};
+ghost use Rattle.tag_arena.specs.Orders.{PutsEntry, TakesEntry};
+ghost use Rattle.sorted_rows.specs.Order.{Rises, first_from};
+ghost use Rattle.sorted_rows.specs.Weights.{heavy_from};
+
+use crate::entries::{IndexEntry, key_of};
+use crate::slots::SlotTag;
+use deed_core::LIMIT;
+use sorted_rows::Rows;
+use std::alloc::{AllocError, Global};
+use std::marker::Model;
+
+/// An order of free ranges.
+#[derive(Clone, Copy, PartialEq, Eq, Debug)]
+pub enum Order {
+    /// By base, from the highest on.
+    Falling,
+    /// By length, then by base.
+    Sizes,
+    /// By power-of-two list, then from the newest on.
+    Lists,
+    /// By base; an entry weighs its length.
+    Rising,
+}
+
+/// The entry of a free range.
+pub fn entry_of(order: Order, slot: usize, tag: SlotTag) -> IndexEntry
+    ensures { result ≡ entry_of order slot tag }
+{
+    let range = tag.range();
+    match order {
+        Order::Falling => IndexEntry {
+            major: LIMIT - range.base(),
+            minor: 0,
+            slot,
+        },
+        Order::Sizes => IndexEntry {
+            major: range.len(),
+            minor: range.base(),
+            slot,
+        },
+        Order::Lists => IndexEntry {
+            major: tag.power() as u64,
+            minor: u64::MAX - tag.since(),
+            slot,
+        },
+        Order::Rising => IndexEntry {
+            major: range.base(),
+            minor: range.len(),
+            slot,
+        },
+    }
+}
+
+/// An index in one order, or nothing where it isn't kept.
+#[derive(Drop)]
+pub struct OrderedIndex {
+    order: Order,
+    kept: bool,
+    rows: Rows<IndexEntry>,
+}
+
+impl Model for OrderedIndex {
+    ghost use Rattle.tag_arena.specs.Orders.{OrderedIndexState};
+
+    ghost Value = { OrderedIndexState };
+
+    ghost view = { λ i. record {
+      order = i.order;
+      kept = i.kept;
+      items = i.rows.items;
+      room = i.rows.room;
+    } };
+}
+
+impl OrderedIndex {
+    pub fn new(alloc: Global, order: Order, kept: bool) -> OrderedIndex
+        ensures order { result.order ≡ order }
+        ensures kept { result.kept ≡ kept }
+        ensures items { result.items ≡ [] }
+        ensures room { result.room ≡ 0 }
+    {
+        OrderedIndex {
+            order,
+            kept,
+            rows: Rows::new(alloc),
+        }
+    }
+
+    /// Makes room for `room` entries in all, where it is kept.
+    pub fn reserve(&mut self, alloc: Global, room: usize) -> Result<(), AllocError>
+        ensures ok { OnOk result (self.old.kept ≡ true → self.new.room ≡ max room self.old.room) }
+        ensures rest { self.new ≡ record self.old { room = self.new.room } }
+        ensures grows { self.old.room ≤ self.new.room }
+    {
+        if self.kept {
+            self.rows.reserve(alloc, room)?;
+        }
+        Ok(())
+    }
+
+    /// Puts in the entry of a free range, where it is kept.
+    pub fn enter(&mut self, slot: usize, tag: SlotTag)
+        requires room { HasRoomForOne self.old.kept self.old.items self.old.room }
+        requires absent { let entry = entry_of self.old.order slot tag in
+            IsAbsent self.old.kept self.old.items (rank_of entry) }
+        ensures items { let entry = entry_of self.old.order slot tag in
+            PutsEntry self.old.kept entry self.old.items self.new.items }
+        ensures rest { self.new ≡ record self.old { items = self.new.items } }
+        ensures rises { Rises rank_of self.old.items }
+    {
+        let _ = self.rows.len();
+        if self.kept {
+            self.rows.insert(entry_of(self.order, slot, tag));
+        }
+    }
+
+    /// Takes out the entry of a free range, where it is kept.
+    pub fn strike(&mut self, slot: usize, tag: SlotTag)
+        requires present { let entry = entry_of self.old.order slot tag in
+            IsPresent self.old.kept self.old.items (rank_of entry) }
+        ensures items { let entry = entry_of self.old.order slot tag in
+            TakesEntry self.old.kept (rank_of entry) self.old.items self.new.items }
+        ensures rest { self.new ≡ record self.old { items = self.new.items } }
+        ensures rises { Rises rank_of self.old.items }
+    {
+        let _ = self.rows.len();
+        if self.kept {
+            let entry = entry_of(self.order, slot, tag);
+            self.rows.remove(key_of(entry.major, entry.minor));
+        }
+    }
+
+    /// The first entry at or above the key of two numbers.
+    pub fn first_from(&self, major: u64, minor: u64) -> Option<IndexEntry>
+        ensures first { let key = major * 2 ^ 64 + minor in
+            result ≡ first_from rank_of key self.now.items }
+        ensures rises { Rises rank_of self.now.items }
+    {
+        let _ = self.rows.len();
+        self.rows.least_from(key_of(major, minor))
+    }
+
+    /// The first entry, from the first at or above the key of two numbers on, that weighs as much
+    /// as `least` or more.
+    pub fn first_weighing(&self, major: u64, minor: u64, least: u64) -> Option<IndexEntry>
+        ensures first { let key = major * 2 ^ 64 + minor in
+            result ≡ heavy_from rank_of (λ e. e.minor) key least self.now.items }
+        ensures rises { Rises rank_of self.now.items }
+    {
+        let _ = self.rows.len();
+        self.rows.least_weighing(key_of(major, minor), least)
+    }
+}

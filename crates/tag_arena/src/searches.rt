@@ -1,0 +1,99 @@
+//! What a policy chooses among the free ranges.
+ghost use Rattle.std.specs.Prelude.{ℕ, ◌<◌, ◌≤◌, ◌^◌, IfSome, MatchOption};
+ghost use Rattle.std.specs.Int.{IsPowerOfTwo};
+ghost use Rattle.deed_core.specs.Request.{IsGood};
+ghost use Rattle.tag_arena.specs.Choice.{IsBestChoice, IsInstant, NoListServes};
+ghost use Rattle.tag_arena.specs.FreeTags.{AreTags, IsTimed, ranges_by_age};
+ghost use Rattle.tag_arena.specs.Orders.{Mirrors};
+ghost use Rattle.tag_arena.specs.Fits.{base_of, IsFit, IsLastBy};
+ghost use Rattle.tag_arena.specs.declared.orders.Order.TheVariants.{Falling, Lists, Sizes};
+
+use crate::held_ranges::HeldRange;
+use crate::orders::OrderedIndex;
+use crate::probes::Probes;
+use crate::slots::Slots;
+use deed_core::{Deed, LIMIT, Request};
+
+/// A free range, and an address in it.
+#[derive(Clone, Copy, Debug)]
+pub struct Fit {
+    pub range: HeldRange,
+    pub base: u64,
+}
+
+/// The best range that serves the request, and its least address that does.
+pub fn best_fit<D: Deed>(
+    slots: &Slots<D>,
+    sizes: &OrderedIndex,
+    quantum: u64,
+    request: &Request,
+    probes: &mut Probes,
+) -> Option<Fit>
+    requires quantum { IsPowerOfTwo quantum }
+    requires good { IsGood quantum request.now }
+    requires tags { (clock : ℕ) × AreTags clock slots.now.tags }
+    requires mirrors { Mirrors Sizes sizes.now.items slots.now.tags }
+    ensures choice { let free = ranges_by_age slots.now.tags in
+        IsBestChoice quantum request.now free (base_of result) }
+    ensures placed { let free = ranges_by_age slots.now.tags in
+        IfSome result (IsFit quantum request.now free) }
+{
+    let units = request.units(quantum)?;
+    let mut major = units;
+    let mut minor = 0;
+    while let Some(entry) = sizes.first_from(major, minor) {
+        let range = slots.tag(entry.slot).range();
+        if let Some(base) = probes.least_in(request, quantum, range, 0) {
+            return Some(Fit { range, base });
+        }
+        major = range.len();
+        minor = range.base() + 1;
+    }
+    None
+}
+
+/// Of the free ranges that begin at `base` or below it, the one that begins last.
+pub fn last_by<D: Deed>(slots: &Slots<D>, falling: &OrderedIndex, base: u64) -> Option<HeldRange>
+    requires base { base ≤ 2 ^ 62 }
+    requires tags { (clock : ℕ) × AreTags clock slots.now.tags }
+    requires mirrors { Mirrors Falling falling.now.items slots.now.tags }
+    ensures { IsLastBy base (ranges_by_age slots.now.tags) result }
+{
+    let Some(entry) = falling.first_from(LIMIT - base, 0) else {
+        return None;
+    };
+    Some(slots.tag(entry.slot).range())
+}
+
+/// The number of the least power-of-two list whose every member has room for `units`.
+fn least_list(units: u64) -> u32
+    requires { 0 < units }
+    ensures large { units ≤ 2 ^ result }
+    ensures least { (p : ℕ) → units ≤ 2 ^ p → result ≤ p }
+{
+    if units == 1 {
+        return 0;
+    }
+    (units - 1).ilog2() + 1
+}
+
+/// The newest range on the least power-of-two list whose every member has room for `units`.
+pub fn newest<D: Deed>(
+    slots: &Slots<D>,
+    lists: &OrderedIndex,
+    quantum: u64,
+    units: u64,
+) -> Option<HeldRange>
+    requires quantum { IsPowerOfTwo quantum }
+    requires units { quantum ≤ units }
+    requires timed { IsTimed slots.now.tags }
+    requires tags { (clock : ℕ) × (clock < 2 ^ 64) × AreTags clock slots.now.tags }
+    requires mirrors { Mirrors Lists lists.now.items slots.now.tags }
+    ensures { let free = ranges_by_age slots.now.tags in
+        MatchOption result (NoListServes quantum units free) (IsInstant quantum units free) }
+{
+    let Some(entry) = lists.first_from(least_list(units) as u64, 0) else {
+        return None;
+    };
+    Some(slots.tag(entry.slot).range())
+}

@@ -1,0 +1,277 @@
+//! Deeds of free ranges in numbered slots.
+ghost use Rattle.std.specs.Prelude.{◌≡◌, ◌+◌, ◌<◌, ◌≤◌, [], None, Some, OnOk, OnErr, IsTrue, ◌↔◌};
+ghost use Rattle.std.specs.Prelude.{All, max, IfOk, sum_by};
+ghost use Rattle.deed_core.specs.Extent.{IsRange, end_of};
+ghost use Rattle.tag_arena.specs.Cuts.{IsCut};
+ghost use Rattle.tag_arena.specs.FreeTags.{FreeTag, tag_at, SlotBecomes};
+ghost use Rattle.tag_arena.specs.Slotted.{taken_count, units_of};
+
+use crate::cuts::{Cut, cut_out};
+use crate::held_ranges::{HeldRange, held_range_of};
+use deed_core::{Deed, Stored};
+use std::alloc::{AllocError, Global};
+use std::marker::Model;
+
+/// A deed with the time at which its range became free, and the number of the range's
+/// power-of-two list.
+pub struct TimedDeed<D: Deed> {
+    deed: Stored<D>,
+    since: u64,
+    power: u32,
+}
+
+impl<D: Deed> Model for TimedDeed<D> {
+    ghost use Rattle.tag_arena.specs.FreeTags.{FreeTag};
+
+    ghost Value = { FreeTag };
+
+    ghost view = { λ t. record { range = t.deed; since = t.since; power = t.power } };
+}
+
+impl<D: Deed> TimedDeed<D> {
+    pub fn new(deed: Stored<D>, since: u64, power: u32) -> TimedDeed<D>
+        ensures { result ≡ record { range = deed; since = since; power = power } }
+    {
+        TimedDeed { deed, since, power }
+    }
+
+    /// The deed itself.
+    pub fn into_deed(self) -> Stored<D>
+        ensures { result ≡ self.range }
+    {
+        let TimedDeed {
+            deed,
+            since: _,
+            power: _,
+        } = self;
+        deed
+    }
+
+    pub fn tag(&self) -> SlotTag
+        ensures { result ≡ self.now }
+    {
+        SlotTag {
+            range: held_range_of(&self.deed),
+            since: self.since,
+            power: self.power,
+        }
+    }
+}
+
+/// What is known of a free range, as plain data.
+#[derive(Clone, Copy, Debug)]
+pub struct SlotTag {
+    range: HeldRange,
+    since: u64,
+    power: u32,
+}
+
+impl Model for SlotTag {
+    ghost use Rattle.tag_arena.specs.FreeTags.{FreeTag};
+
+    ghost Value = { FreeTag };
+
+    ghost view = { λ t. record { range = t.range; since = t.since; power = t.power } };
+
+    ghost inverse = { λ t. record { range = t.range; since = t.since; power = t.power } };
+}
+
+impl SlotTag {
+    pub fn range(&self) -> HeldRange
+        ensures value { result ≡ self.now.range }
+        ensures range { IsRange self.now.range.range }
+    {
+        let _ = self.range.len();
+        self.range
+    }
+
+    pub fn since(&self) -> u64
+        ensures { result ≡ self.now.since }
+    {
+        self.since
+    }
+
+    pub fn power(&self) -> u32
+        ensures { result ≡ self.now.power }
+    {
+        self.power
+    }
+}
+
+/// Deeds in numbered slots, with room for a number of them.
+pub struct Slots<D: Deed> {
+    slots: Vec<Option<TimedDeed<D>>>,
+    vacant: Vec<usize>,
+    room: usize,
+}
+
+impl<D: Deed> Model for Slots<D> {
+    ghost use Rattle.tag_arena.specs.Slotted.{SlotsState, IsSlotted};
+
+    ghost Value = { SlotsState };
+
+    ghost view = { λ s. record { tags = s.slots.items; room = s.room } };
+
+    ghost invariant = { λ s. IsSlotted s.slots s.vacant s.room };
+}
+
+impl<D: Deed> Slots<D> {
+    pub fn new(alloc: Global) -> Slots<D>
+        ensures tags { result.tags ≡ [] }
+        ensures room { result.room ≡ 0 }
+    {
+        Slots {
+            slots: Vec::new(alloc),
+            vacant: Vec::new(alloc),
+            room: 0,
+        }
+    }
+
+    /// Makes room for `room` deeds in all.
+    pub fn reserve(&mut self, room: usize) -> Result<(), AllocError>
+        ensures ok { OnOk result (self.new.room ≡ max room self.old.room) }
+        ensures unchanged { OnErr result (self.new.room ≡ self.old.room) }
+        ensures tags { self.new.tags ≡ self.old.tags }
+    {
+        if room <= self.room {
+            return Ok(());
+        }
+        self.vacant.reserve(room - self.vacant.len())?;
+        self.slots.reserve(room - self.slots.len())?;
+        self.room = room;
+        Ok(())
+    }
+
+    /// Puts a deed in a slot, whose number it tells. It takes no memory.
+    pub fn put(&mut self, deed: TimedDeed<D>) -> usize
+        requires { taken_count self.old.tags < self.old.room }
+        ensures vacant { tag_at self.old.tags result ≡ None }
+        ensures becomes { SlotBecomes self.old.tags self.new.tags result (Some deed) }
+        ensures taken { taken_count self.new.tags ≡ taken_count self.old.tags + 1 }
+        ensures room { self.new.room ≡ self.old.room }
+    {
+        match self.vacant.pop() {
+            Some(slot) => {
+                match self.slots[slot].replace(deed) {
+                    None => {}
+                    Some(_) => unreachable!(),
+                }
+                slot
+            }
+            None => {
+                self.slots.push_reserved(Some(deed));
+                self.slots.len() - 1
+            }
+        }
+    }
+
+    /// Takes the deed out of its slot.
+    pub fn take(&mut self, slot: usize) -> TimedDeed<D>
+        requires { (t : FreeTag) × (tag_at self.old.tags slot ≡ Some t) }
+        ensures value { Some result ≡ tag_at self.old.tags slot }
+        ensures becomes { SlotBecomes self.old.tags self.new.tags slot None }
+        ensures taken { taken_count self.new.tags + 1 ≡ taken_count self.old.tags }
+        ensures room { self.new.room ≡ self.old.room }
+    {
+        let Some(deed) = self.slots[slot].take() else {
+            unreachable!()
+        };
+        self.vacant.push_reserved(slot);
+        deed
+    }
+
+    /// Cuts the units from `base` to `end` out of the deed in a slot, which is vacant then. Where a
+    /// split is refused, all is as it was.
+    pub fn cut(
+        &mut self,
+        at: usize,
+        tag: SlotTag,
+        base: u64,
+        end: u64,
+    ) -> Result<Cut<D>, AllocError>
+        requires here { tag_at self.old.tags at ≡ Some tag }
+        requires from { tag.range.range.base ≤ base }
+        requires some { base < end }
+        requires to { end ≤ end_of tag.range.range }
+        ensures cut { let whole = tag.range in
+            IfOk result (λ cut. IsCut whole base end cut.low cut.piece cut.high) }
+        ensures becomes { OnOk result (SlotBecomes self.old.tags self.new.tags at None) }
+        ensures taken { OnOk result (taken_count self.new.tags + 1 ≡ taken_count self.old.tags) }
+        ensures unchanged { OnErr result (self.new.tags ≡ self.old.tags) }
+        ensures room { self.new.room ≡ self.old.room }
+    {
+        let Some(timed) = self.slots[at].take() else {
+            unreachable!()
+        };
+        match cut_out(timed.into_deed(), base, end) {
+            Ok(cut) => {
+                self.vacant.push_reserved(at);
+                Ok(cut)
+            }
+            Err(same) => {
+                let timed = TimedDeed::new(same, tag.since(), tag.power());
+                match self.slots[at].replace(timed) {
+                    None => {}
+                    Some(_) => unreachable!(),
+                }
+                Err(AllocError)
+            }
+        }
+    }
+
+    /// What lies in a slot.
+    pub fn tag(&self, slot: usize) -> SlotTag
+        requires { (t : FreeTag) × (tag_at self.now.tags slot ≡ Some t) }
+        ensures { Some result ≡ tag_at self.now.tags slot }
+    {
+        let Some(deed) = &self.slots[slot] else {
+            unreachable!()
+        };
+        deed.tag()
+    }
+
+    /// How many deeds lie in the slots.
+    pub fn taken(&self) -> usize
+        ensures { result ≡ taken_count self.now.tags }
+    {
+        self.slots.len() - self.vacant.len()
+    }
+
+    /// How many units the deeds in the slots have.
+    pub fn units(&self) -> u128
+        ensures { result ≡ sum_by units_of self.now.tags }
+    {
+        let mut units: u128 = 0;
+        for slot in &self.slots {
+            if let Some(deed) = slot {
+                units += deed.tag().range().len() as u128;
+            }
+        }
+        units
+    }
+
+    /// Ends the slots where no deed lies in any.
+    pub fn destroy(self)
+        requires { taken_count self.tags ≡ 0 }
+    {
+        let Slots {
+            slots,
+            vacant: _,
+            room: _,
+        } = self;
+        drop_vacant(slots);
+    }
+}
+
+/// Ends a vector of vacant slots.
+fn drop_vacant<D: Deed>(mut slots: Vec<Option<TimedDeed<D>>>)
+    requires { taken_count slots.items ≡ 0 }
+{
+    while let Some(slot) = slots.pop() {
+        match slot {
+            None => {}
+            Some(_) => unreachable!(),
+        }
+    }
+    slots.destroy_empty();
+}
