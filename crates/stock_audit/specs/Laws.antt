@@ -23,7 +23,8 @@ use Rattle.stock_audit.specs.Keeping.{IsStep, HandsMove, OnCpu, PopMove, PushMov
 use Rattle.stock_audit.specs.Keeping.{LeaseMove, ReleaseMove, CpusMove, IsGiven}
 use Rattle.stock_audit.specs.Keeping.{StaysOffChain}
 use Rattle.stock_audit.specs.Chains.{IsUpFrom, IsFreeFor, IsReachable, FitsIn, AreTops, is_under}
-use Rattle.stock_audit.specs.Chains.{sum_but_exported, unit_of_arena, spans_of_children, spans_of_slabs}
+use Rattle.stock_audit.specs.Chains.{sum_but_exported, unit_of_arena, spans_of_children}
+use Rattle.stock_audit.specs.Chains.{spans_of_slabs}
 
 -- the sums of each arena add up to the units of its spans
 abbrev pub AuditAddsUp : Type 0
