@@ -1,8 +1,10 @@
 //! Constrained requests under each policy that isn't best, and where the rover stands.
 
-use super::{Step, add, close, end_span, give_back, grant, import, run_alone, span, take_back};
+use super::{
+    Step, add, close, end_span, give_back, grant, import, no_grant, run_alone, span, take_back,
+};
 use deed_core::Request;
-use tag_arena::{Arena, Policy};
+use tag_arena::{Arena, ArenaFault, Policy};
 
 /// The next address from the rover on that meets the constraints, else the least.
 #[test]
@@ -81,4 +83,44 @@ fn an_import_moves_the_rover(rt: HostRuntime) {
     end_span(&rt, &mut source, 0, 16);
     close(&rt, child);
     close(&rt, source);
+}
+
+/// Where a list serves, one free range is looked at, and a refused request leaves the count.
+#[test]
+fn a_list_is_one_look(rt: HostRuntime) {
+    let mut arena = Arena::new(rt.alloc(), 1, 1, Policy::Instant);
+    assert_eq!(rt; arena.probes(), 0);
+    add(&rt, &mut arena, span(&rt, 1, 0, 64));
+    assert_eq!(rt; arena.probes(), 0);
+    let eight = grant(&rt, &mut arena, &Request::plain(8), 0, 8);
+    assert_eq!(rt; arena.probes(), 1);
+    no_grant(&rt, &mut arena, &Request::plain(65), ArenaFault::NoFit);
+    assert_eq!(rt; arena.probes(), 1);
+    give_back(&rt, &mut arena, eight);
+    end_span(&rt, &mut arena, 0, 64);
+    close(&rt, arena);
+}
+
+/// Of three spans the shorter two don't serve the request: all three are looked at.
+#[test]
+fn each_look_is_counted(rt: HostRuntime) {
+    let mut arena = Arena::new(rt.alloc(), 1, 1, Policy::Best);
+    for (base, len) in [(0, 4), (8, 4), (16, 16)] {
+        add(&rt, &mut arena, span(&rt, 1, base, len));
+    }
+    let bound = Request {
+        align: 16,
+        min: 1,
+        ..Request::plain(4)
+    };
+    let third = grant(&rt, &mut arena, &bound, 16, 4);
+    assert_eq!(rt; arena.probes(), 3);
+    let first = grant(&rt, &mut arena, &Request::plain(4), 0, 4);
+    assert_eq!(rt; arena.probes(), 1);
+    give_back(&rt, &mut arena, third);
+    give_back(&rt, &mut arena, first);
+    for (base, len) in [(0, 4), (8, 4), (16, 16)] {
+        end_span(&rt, &mut arena, base, len);
+    }
+    close(&rt, arena);
 }
