@@ -41,7 +41,7 @@ TakesOwn t c d c' d' = (Pops t c c' × (d' ≡ d))
     ⊎ (BothEmpty c × ((full : CpuCacheState) × SwapsForFull c d full d' × Pops t full c'))
 
 -- neither has one: the depot no full magazine, or one of another size, to which the CPU then
--- changes over, if there is memory for it
+-- changes over, unless out of memory
 abbrev pub LacksRounds : DepotState → CpuCacheState → CpuCacheState → Type 0
 LacksRounds d c c' = BothEmpty c × (((c.size ≡ d.size) × (d.full ≡ []) × (c' ≡ c))
     ⊎ ((c.size ≢ d.size) × ((c' ≡ c) ⊎ (c' ≡ after_change d.size c))))

@@ -118,8 +118,8 @@ fn is_refusal(text: &[u8]) -> bool {
     text.starts_with(b"again ") || text == b"error memory\n".as_slice()
 }
 
-/// The line gets its reply behind what is there: at once, or at the second time where it was out
-/// of memory once.
+/// The line gets its reply behind what is there: at once, or the second time where the first
+/// was out of memory.
 fn ask_twice(rt: &(impl Abort + AllocGlobal), desk: &mut Desk, line: &str, reply: &str) {
     let mut out = Vec::new(rt.alloc());
     for _ in 0..2 {
@@ -133,7 +133,7 @@ fn ask_twice(rt: &(impl Abort + AllocGlobal), desk: &mut Desk, line: &str, reply
     panic!(rt; "refused twice");
 }
 
-/// Adds what is asked for: at once, or at the second time where it was out of memory once.
+/// Adds what is asked for: at once, or the second time where the first was out of memory.
 fn add_twice(rt: &impl Abort, setup: &mut Setup, setting: Setting) {
     match setup.add(&setting) {
         Ok(()) => {}

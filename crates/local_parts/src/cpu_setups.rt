@@ -34,7 +34,7 @@ impl<D: Deed> CpuCaches<D> {
         }
     }
 
-    // Adds a row for each arena; out of memory, those that are there are empty.
+    // Adds a row for each arena. Out of memory, the rows added so far are left, all of them empty.
     fn fill(&mut self, alloc: Global, stock: &Stock<D>, size: usize) -> Result<(), AllocError>
         requires none { self.old ≡ [] }
         requires size { IsSize size }

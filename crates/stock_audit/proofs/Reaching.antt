@@ -84,7 +84,7 @@ module _ (spaces : List SpaceState) (out : Outside) (a : IsAccountedFor spaces o
   none_among f ts apart b s at up some = all_from (λ t. HasTop spaces t.arena top → ¬ Covers t.holding.range u) ts
       (λ i t there over has. (let home = next_up spaces t.arena top over in never_both spaces out a u top f (among ts) apart b t.arena s home.0 at up some home.1 over (here_among ts i t home.0 there home.1 has)))
 
-  -- hands and leases, and rounds, are weighed in their places
+  -- hands and leases, and rounds, are weighed in their homes
   held_among : (s : SpaceState) → among (out.hands ++ out.leases) s ≡ (unit_of_arena u spaces out s).hand + (unit_of_arena u spaces out s).leased
   held_among s = omega (
     arith,

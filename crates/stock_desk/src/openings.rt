@@ -15,8 +15,8 @@ use local_parts::CpuCaches;
 use std::alloc::{AllocError, Global};
 use stock::{Stock, close_plain_stock, plain_stock};
 
-/// The arenas of a setup with their caches and spans, all free, and the first CPU, selected. Memory
-/// alone can be refused, and then what was made is closed.
+/// The arenas of a setup with their caches and spans, all free, and the first CPU, selected. It
+/// fails only when out of memory, and then what was made is closed.
 pub(crate) fn open_supply(alloc: Global, setup: Setup) -> Result<Supply, AllocError>
     ensures opened { IfOk result (λ supply. (b : BookState) → IsHistory [] b
         → IsOpenedFrom setup (picture_with b supply)) }

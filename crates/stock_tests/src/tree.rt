@@ -195,8 +195,8 @@ fn quanta(rt: HostRuntime) {
     add(&rt, &mut setup, child(&rt, "b", "a", 4, 0, 0));
 }
 
-/// Greatest cached sizes that aren't in whole quanta, are above 16 of them, or whose slabs are too
-/// large; and the slabs of good ones.
+/// Greatest cached sizes that aren't in whole quanta, are above `MOST_CACHES` of them, or whose
+/// slabs are too large; and the slabs of good ones.
 #[test]
 fn caches(rt: HostRuntime) {
     let big = 1u64 << 61;

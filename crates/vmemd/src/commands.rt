@@ -215,8 +215,8 @@ open as long as the server is to run. Where a number can't be put back at once t
 vmemd: shut, tries until it can, and ends with status 1.";
 
 const STATUS_HELP: &str = "\
-Exit status: 0 at the end of the input, and after help or the version; 1 where reading, writing,
-listening or memory fails; 2 for other words than these and for a setup line that is refused.";
+Exit status: 0 at the end of the input, and after help or the version; 1 where reading, writing or
+listening fails, or out of memory; 2 for other words than these and for a refused setup line.";
 
 fn command<'a>(alloc: Global) -> Result<Command<'a>, AllocError>
     ensures { IfOk result (λ c. app_of c ≡ program) }

@@ -367,7 +367,7 @@ HappensAs event outcome old new =
     (IsOfFailed event old × (outcome ≡ NotEnabled) × (new ≡ old))
     ⊎ ((¬ IsOfFailed event old) × EndsAs event outcome old new)
 
--- the move is made, or it was out of memory
+-- the move is made, or its part was out of memory
 abbrev pub Tries : (WorldState → WorldState → Type 0) → Outcome → (old new : WorldState) → Type 0
 Tries Move Done old new = Move old new
 Tries Move NotEnabled old new = ⊥

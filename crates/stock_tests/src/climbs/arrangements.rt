@@ -98,7 +98,7 @@ fn is_alike<D: Deed>(stock: &Stock<D>, tree: &Tree, index: usize) -> bool
         → slice_get stock.now index ≡ Some s → slice_get tree.now index ≡ Some x
         → (x.source ≡ s.source) × (x.quantum ≡ s.arena.quantum) }
 {
-    // For its clause: a tree has at most 32 arenas.
+    // For its clause: a tree has at most `MOST_ARENAS` arenas.
     let _ = tree.len();
     let arena = tree.arena(index as u32);
     stock.source(index) == arena.source && stock.quantum(index) == arena.quantum

@@ -403,6 +403,6 @@ Options:
   -h, --help     Print help
   -V, --version  Print version
 
-Exit status: 0 at the end of the input, and after help or the version; 1 where reading, writing,
-listening or memory fails; 2 for other words than these and for a setup line that is refused.
+Exit status: 0 at the end of the input, and after help or the version; 1 where reading, writing or
+listening fails, or out of memory; 2 for other words than these and for a refused setup line.
 ";
