@@ -54,8 +54,8 @@ IsWholeRange quantum e = IsRange e × OnQuantum quantum e
 abbrev pub IsSlabSize : ℕ → ℕ → Type 0
 IsSlabSize most size = (most ≡ 0 → size ≡ 0) × (most ≢ 0 → IsNextPowerOfTwo (3 * most + 1) size)
 
--- the sizes that are cached are the first so many multiples of the quantum, 16 at most, and a slab
--- has at most 2^62 units
+-- the sizes that are cached are the first so many multiples of the quantum, MOST_CACHES at most,
+-- and a slab has at most 2^62 units
 abbrev pub HasCaches : ℕ → ℕ → ℕ → Type 0
 HasCaches quantum most size = (most % quantum ≡ 0) × (most ≤ MOST_CACHES * quantum)
     × IsSlabSize most size × (size ≤ 2 ^ 62)
@@ -75,8 +75,8 @@ pub record IsArena (arenas : List TreeArena) (id : ℕ) (x : TreeArena) : Type 0
   pub source : IfSome x.source (ImportsFrom arenas id x)
   pub minimum : x.source ≡ None → x.import_min ≡ 0
 
--- what is so of every tree: at most 32 arenas, each with a name of its own, an earlier source and a
--- chain of at most four
+-- what is so of every tree: at most MOST_ARENAS arenas, each with a name of its own, an earlier
+-- source and a chain of at most LONGEST_CHAIN
 pub record IsTree (arenas : List TreeArena) : Type 0 where
   pub few : length arenas ≤ MOST_ARENAS
   pub names : AllPairs (λ x y. x.name ≢ y.name) arenas

@@ -82,8 +82,8 @@ IsAnswer old new id refused again (answer.Gap greatest) =
 IsAnswer old new id refused again (answer.Refused r) = refused r
 IsAnswer old new id refused again answer.Again = again × (new ≡ old)
 
--- why a hello isn't taken, where the current incarnation is this; memory is wanted only where there
--- is none yet
+-- why a hello isn't taken, where the current incarnation is this; it is out of memory only where
+-- there is none yet
 abbrev pub IsHelloFault : (current incarnation : ℕ) → HelloFault → Type 0
 IsHelloFault current i (Old v) = (i < current) × (v ≡ current)
 IsHelloFault current i NoMemory = current ≡ 0

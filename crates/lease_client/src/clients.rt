@@ -115,7 +115,7 @@ impl Client {
     }
 
     /// Gives the line that asks for this with the next number. A release ends at once what the
-    /// client holds of its arena and base: stop using it before. Only a lease wants memory, for
+    /// client holds of its arena and base: stop using it before. Only a lease takes memory, for
     /// the segment that may come.
     pub fn send(&mut self, op: Op) -> Result<Line, SendFault>
         ensures sent { IsSent op self.old self.new result }

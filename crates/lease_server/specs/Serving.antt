@@ -79,8 +79,8 @@ module _ {S : Type 0} (may_answer : S → List ℕ → List ℕ → S → Type 0
   -- read: the reader failed, and the whole lines at hand and read are answered;
   -- turns: the same after as many reads as there may be, each of which gave bytes;
   -- write: the writer failed, and a front of the answers to all is written;
-  -- memory: it was refused for an answer to a line that was read, and the answers before that are
-  -- written whole.
+  -- memory: it was out of memory for an answer to a line that was read, and the answers before
+  -- that are written whole.
   abbrev pub ServeFails : IntakeState → Streams → Streams → S → S → ServeFault → Type 0
   ServeFails from old new first last fault.Read = (input : List ℕ)
       × ServesRead from old new first last input

@@ -36,7 +36,7 @@ pub data TakesRound {D : Type 0} (s s' : CpuDepot) (answer : RoundAnswer D) (exc
   -- the depot has none
   None_full : BothEmpty s.cpu → s.cpu.size ≡ s.depot.size → s.depot.full ≡ []
       → s' ≡ s → answer ≡ Nothing → exchanges ≡ 0 → TakesRound s s' answer exchanges
-  -- the depot's size is another: the CPU changes over, if there is memory for it
+  -- the depot's size is another: the CPU changes over, unless out of memory
   Old_size : BothEmpty s.cpu → s.cpu.size ≢ s.depot.size
       → (s' ≡ s) ⊎ (s' ≡ cpu_depot (after_change s.depot.size s.cpu) s.depot)
       → answer ≡ Nothing → exchanges ≡ 0 → TakesRound s s' answer exchanges

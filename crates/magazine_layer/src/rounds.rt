@@ -91,7 +91,7 @@ fn take_round<D: Deed>(alloc: Global, cpu: &mut CpuCache<D>, depot: &mut Depot<D
 }
 
 // Makes room in a CPU's cache whose magazines are both full, and tells the exchanges that it took,
-// if there is memory.
+// unless out of memory.
 fn make_room<D: Deed>(alloc: Global, cpu: &mut CpuCache<D>, depot: &mut Depot<D>) -> Option<usize>
     requires full { BothFull cpu.old }
     requires sizes { cpu.old.size ≤ depot.old.size }
@@ -118,7 +118,7 @@ fn make_room<D: Deed>(alloc: Global, cpu: &mut CpuCache<D>, depot: &mut Depot<D>
     }
 }
 
-// Makes room by a new magazine, if there is memory.
+// Makes room by a new magazine, unless out of memory.
 fn put_new<D: Deed>(alloc: Global, cpu: &mut CpuCache<D>, depot: &mut Depot<D>) -> Option<usize>
     requires full { BothFull cpu.old }
     requires sizes { cpu.old.size ≡ depot.old.size }

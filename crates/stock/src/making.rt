@@ -59,8 +59,8 @@ impl<D: Deed> Stock<D> {
 }
 
 impl<D: Deed> StockSetup<D> {
-    /// Adds the spans of a setup, of which these are the deeds, the last first. Those that aren't
-    /// spans yet are left when out of memory.
+    /// Adds the spans of a setup, of which these are the deeds, the last first. Out of memory, the
+    /// deeds that aren't spans yet are left.
     fn own_all(&mut self, setup: &Setup, deeds: &mut Vec<D>) -> Result<(), AllocError>
         requires planned { plans_of self.old ≡ plans_for setup.now.arenas }
         requires unused { (rounds : ℕ) × All (IsNewSpace rounds) self.old }
