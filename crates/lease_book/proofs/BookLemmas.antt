@@ -31,7 +31,7 @@ use Rattle.lease_book.proofs.EntryLemmas.{entered, among, map_others, settled_ot
 use Rattle.lease_book.proofs.PlaceLemmas.{IsFirst, is_lease_says, head_first}
 use Rattle.lease_book.proofs.WeightLemmas.{sum_by-segments, sum_by-leased_by}
 
--- changes that do the same to the member at the place
+-- changes that do the same to the member at the index
 pub changed_alike : {X : Type 0} (xs : List X) (i : ℕ) (x : X) (f g : X → X) → slice_get xs i ≡ Some x → f x ≡ g x → changed_at xs i f ≡ changed_at xs i g
 changed_alike [] i x f g at same = refl
 changed_alike (y ∷ xs) zero x f g at same =
@@ -209,7 +209,7 @@ length-changed_at [] i f = refl
 length-changed_at (x ∷ xs) zero f = refl
 length-changed_at (x ∷ xs) (suc i) f = ap suc (length-changed_at xs i f)
 
--- what holds of the account at a place holds of the account found there
+-- what holds of the account at an index holds of the account found there
 pub of_found : (P : Account → Type 0) (book : BookState) (c place : ℕ) → IsFound book c place → IfSome (slice_get book.accounts place) P → P (account_in c book)
 of_found P book c place found holds = subst (λ (o : Option Account). IfSome o P) found.at holds
 
@@ -305,7 +305,7 @@ none_past [] i at = omega arith
 none_past (x ∷ xs) zero at = absurd (cc)
 none_past (x ∷ xs) (suc i) at = omega (arith, none_past xs i at)
 
--- a place is that of its account's client
+-- an index is that of its account's client
 pub found_own : (book : BookState) (place : ℕ) → place < length book.accounts → IfSome (slice_get book.accounts place) (λ a. find (λ b. nat_eq a.client b.client) book.accounts ≡ Some a) → (c : ℕ) × IsFound book c place
 found_own book place within own = by (slice_get book.accounts place) refl own
   where

@@ -1,4 +1,4 @@
--- The place of the first member that passes a test.
+-- The index of the first member that passes a test.
 use Rattle.std.proofs.Common.{eq-eqb, one-add, ◌≡◌, ℕ, ◌+◌, ◌<◌, ◌≤◌, Bool, true, false, cond, not, nat_eq, nat_lt, List, [], ◌∷◌, length, All, Option, Some, None, IfSome, slice_get, get_or, position, refl, sym, ap, subst, ◌∙◌, arith}
 use Rattle.std.specs.List.{find, remove, position_or_len}
 use Rattle.std.proofs.lemmas.Bool.{and_from, and_left, and_parts, ltb-true, ltb-false, ne_eqb, eqb-true}
@@ -43,7 +43,7 @@ passes_place test (x ∷ xs) within = by (test x) refl within (passes_place test
     by true is within rest = is
     by false is within rest = rw one-add (rest (omega arith))
 
--- what the place of the first that passes tells
+-- what the index of the first that passes tells
 pub record IsFirst {X : Type 0} (test : X → Bool) (xs : List X) (k : ℕ) : Type 0 where
   pub within : k < length xs
   pub found : find test xs ≡ slice_get xs k

@@ -24,7 +24,7 @@ length-accounts_of [] ls same = refl
 length-accounts_of (e ∷ es) [] same = absurd (omega arith)
 length-accounts_of (e ∷ es) (l ∷ ls) same = ap suc (length-accounts_of es ls (omega arith))
 
--- a place's account has the standing and the leases of that place
+-- the account at an index has the standing and the leases at that index
 pub standing_at : (es : List (ℕ × Standing)) (ls : List (List Lease)) (i : ℕ) (s : Standing) → length es ≡ length ls → slice_get (values_of es) i ≡ Some s → option_map standing_of (slice_get (accounts_of es ls) i) ≡ Some s
 standing_at [] ls i s same at = absurd (cc)
 standing_at (e ∷ es) [] i s same at = absurd (omega arith)
@@ -69,7 +69,7 @@ accounts_of_push [] (x ∷ ls) e l same = absurd (omega arith)
 accounts_of_push (d ∷ es) [] e l same = absurd (omega arith)
 accounts_of_push (d ∷ es) (x ∷ ls) e l same = ap (λ r. account_with d.0 d.1 x ∷ r) (accounts_of_push es ls e l (omega arith))
 
--- what `find` says of the place that it gives
+-- what `find` says of the index that it gives
 pub record IsPlace (c : ℕ) (accounts : List Account) (r : Option ℕ) : Type 0 where
   pub within : IfSome r (λ i. i < length accounts)
   pub found : IfSome r (λ i. find (λ a. nat_eq c a.client) accounts ≡ slice_get accounts i)
@@ -95,7 +95,7 @@ pub place_of : (c : ℕ) (es : List (ℕ × Standing)) (ls : List (List Lease)) 
     → r ≡ position (nat_eq c) (keys_of es) → IsPlace c accounts r
 place_of c es ls accounts r is same at = subst (λ (xs : List Account). IsPlace c xs r) is (place_in c es ls r same at)
 
--- a place of the accounts is one of both parts
+-- an index of the accounts is one of both parts
 pub within_parts : (es : List (ℕ × Standing)) (ls : List (List Lease)) (accounts : List Account) (i : ℕ) → accounts_of es ls ≡ accounts → length es ≡ length ls → i < length accounts
     → (i < length es) × (i < length ls)
 within_parts es ls accounts i is same less =
@@ -158,7 +158,7 @@ shelf_push es ls c s shelf client apart =
 pub limited_at : (es : List (ℕ × Standing)) (ls : List (List Lease)) (i : ℕ) (l : List Lease) → IsShelf es ls → i < length ls → l ≡ get_or ls i l → length l ≤ 1024
 limited_at es ls i l shelf within at = subst (λ (x : List Lease). length x ≤ 1024) (sym at) (shelf.limited i l within)
 
--- a fact of a place's leases, said of its account
+-- a fact of the leases at an index, said of the account there
 pub leases_there : (P : List Lease → Type 0) (es : List (ℕ × Standing)) (ls : List (List Lease)) (accounts : List Account) (i : ℕ) (l : List Lease) → accounts_of es ls ≡ accounts
     → length es ≡ length ls → i < length ls → l ≡ get_or ls i l → IfSome (slice_get accounts i) (λ a. P a.leases) → P l
 leases_there P es ls accounts i l is same within at holds = there es ls i l same within at (subst (λ (xs : List Account). IfSome (slice_get xs i) (λ a. P a.leases)) (sym is) holds)
@@ -223,7 +223,7 @@ inserted m es new_es ls accounts c s is same new before after =
     let none : lookup (nat_eq c) es ≡ None = absent c es ls same (ap (λ (xs : List Account). find (λ a. nat_eq c a.client) xs) is ∙ new) in
     after ∙ insert_entry-new nat_eq m c s (ap (λ (xs : List (ℕ × Standing)). lookup (nat_eq c) xs) before ∙ none) ∙ ap (λ (xs : List (ℕ × Standing)). xs ++ (c, s) ∷ []) before
 
--- what is told of a place
+-- what is told of the account at an index
 pub report_at : (es : List (ℕ × Standing)) (ls : List (List Lease)) (i : ℕ) (e : ℕ × Standing) (l : List Lease) → length es ≡ length ls → slice_get es i ≡ Some e → l ≡ get_or ls i l
     → slice_get (accounts_of es ls) i ≡ Some (account_with e.0 e.1 l)
 report_at [] ls i e l same at beside = absurd (cc)
@@ -270,7 +270,7 @@ own_in zero (e ∷ es) (l ∷ ls) a apart at =
 own_in (suc i) (e ∷ es) (l ∷ ls) a apart at =
     ap (λ (b : Bool). cond b (Some (account_with e.0 e.1 l)) (find (λ x. nat_eq a.client x.client) (accounts_of es ls))) (other_key e.0 i es ls a apart.0 at) ∙ own_in i es ls a apart.1 at
 
--- the account at a place is the one that is found for its client
+-- the account at an index is the one that is found for its client
 pub own_place : (es : List (ℕ × Standing)) (ls : List (List Lease)) (accounts : List Account) (i : ℕ) → accounts_of es ls ≡ accounts → IsShelf es ls
     → IfSome (slice_get accounts i) (λ a. find (λ b. nat_eq a.client b.client) accounts ≡ Some a)
 own_place es ls accounts i is shelf = subst (λ (xs : List Account). IfSome (slice_get xs i) (λ a. find (λ b. nat_eq a.client b.client) xs ≡ Some a)) is (by (slice_get (accounts_of es ls) i) refl)

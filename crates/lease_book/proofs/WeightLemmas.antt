@@ -62,7 +62,7 @@ some_leased (a ∷ accounts) zero within found none =
     omega (arith, found, ap length empty)
 some_leased (a ∷ accounts) (suc i) within found none = some_leased accounts i (omega arith) found (no_segments a.leases (leased_by accounts) none).1
 
--- what the place of the first client with a lease tells
+-- what the index of the first client with a lease tells
 pub record IsLeased (accounts : List Account) (r : Option ℕ) : Type 0 where
   pub within : IfSome r (λ i. i < length accounts)
   pub found : IfSome r (λ i. IfSome (slice_get accounts i) (λ a. 0 < length a.leases))

@@ -9,6 +9,8 @@
 //! - a drain leaves the CPU no round, and a reaping nothing that could be reaped
 //!   (specs/Reaped.antt), if its limit is above the looks that are enough (specs/Looks.antt); so
 //!   of one arena (specs/ArenaReaps.antt).
+//!
+//! It has no code: laws alone.
 #![tactic(auto)]
 
 mod laws;

@@ -122,8 +122,8 @@ fn ask_all<N: Name, R: Abort + Wait + AllocGlobal>(
     two: &mut Cpu<N>,
     rows: &[(&str, &str)],
 ) {
-    for (place, (text, wanted)) in rows.iter().enumerate() {
-        if place % 2 == 0 {
+    for (index, (text, wanted)) in rows.iter().enumerate() {
+        if index % 2 == 0 {
             ask(rt, system, one, text, wanted);
         } else {
             ask(rt, system, two, text, wanted);

@@ -80,8 +80,8 @@ fn fail_each(rt: HostRuntime) {
 fn stopped_after(rt: &impl Abort, world: &mut World<PlainDeed>, last: usize) {
     let (leases, others) = (lease_rows(rt), other_rows(rt));
     let mut wanted = (ALL_FREE, 0);
-    for (place, row) in leases.iter().chain(&others).enumerate() {
-        if place <= last {
+    for (index, row) in leases.iter().chain(&others).enumerate() {
+        if index <= last {
             let (event, outcome, counts, segments) = row;
             ends(rt, world, *event, *outcome);
             wanted = (*counts, *segments);

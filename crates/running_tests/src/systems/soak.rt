@@ -79,11 +79,11 @@ fn soaked<N: Name + Send + Sync, R: Abort + Wait + Threads + Clock + AllocGlobal
 // Each worker got and released segments, and no two leases overlap. All arenas have units of their
 // own, or those that they got of another.
 fn are_apart(rt: &impl Abort, all: &[Tended]) {
-    for (place, one) in all.iter().enumerate() {
+    for (index, one) in all.iter().enumerate() {
         assert!(rt; one.grants > 100 && one.releases > 100);
         are_all_apart(rt, one.client.held());
         for (later, other) in all.iter().enumerate() {
-            if place < later {
+            if index < later {
                 is_apart(rt, one.client.held(), other.client.held());
             }
         }
@@ -91,9 +91,9 @@ fn are_apart(rt: &impl Abort, all: &[Tended]) {
 }
 
 fn are_all_apart(rt: &impl Abort, held: &[HeldSegment]) {
-    for (place, one) in held.iter().enumerate() {
+    for (index, one) in held.iter().enumerate() {
         for (later, other) in held.iter().enumerate() {
-            if place < later {
+            if index < later {
                 apart(rt, one, other);
             }
         }
@@ -167,8 +167,8 @@ fn after(seed: u64) -> u64 {
 // A lease of 1 to 24 units, or a release of what the client holds.
 fn next_op(rt: &impl Abort, client: &Client, seed: u64) -> Op {
     let held = client.held();
-    let place = (seed / 4096) as usize % MOST_HELD;
-    if let Some(segment) = held.get(place) {
+    let index = (seed / 4096) as usize % MOST_HELD;
+    if let Some(segment) = held.get(index) {
         return Op::Release(ReleaseLine {
             arena: segment.arena,
             base: segment.base,
