@@ -159,9 +159,9 @@ impl<N: Name> System<N> {
     ) -> Result<bool, RequestStopped>
         ensures number { cpu.new.number ≡ cpu.old.number }
         ensures empty { IfOk result (λ placed. placed ≡ true → cpu.new.hand ≡ None) }
-        ensures kept { IfOk result (λ placed. placed ≡ false
+        ensures held_on { IfOk result (λ placed. placed ≡ false
             → (cpu.old.hand ≢ None) × (cpu.new.hand ≢ None)) }
-        ensures kept_at_stop { OnErr result ((cpu.old.hand ≢ None) × (cpu.new.hand ≢ None)) }
+        ensures held_at_stop { OnErr result ((cpu.old.hand ≢ None) × (cpu.new.hand ≢ None)) }
         ensures stopped { OnErr result (MayStop G.may_stop gate.now) }
     {
         let Some(segment) = cpu.hand.take() else {

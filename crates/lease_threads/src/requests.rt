@@ -255,7 +255,7 @@ impl<N: Name> System<N> {
               quantum = quantum_in (nodes_of self.now.arenas) arena;
               request = request.now;
             }) v)) }
-        ensures kept { OnErr result (cpu.new.hand ≢ None) }
+        ensures held_on { OnErr result (cpu.new.hand ≢ None) }
         ensures number { cpu.new.number ≡ cpu.old.number }
         ensures held { IfOk result (λ r. IfSome cpu.new.hand (λ _. IsAgain r.reply)) }
         ensures stopped { OnErr result (MayStop G.may_stop gate.now) }

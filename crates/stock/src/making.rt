@@ -69,7 +69,7 @@ impl<D: Deed> StockSetup<D> {
             → IsSetUpFrom setup.now (map D.holding (reverse deeds.old.items)) rounds self.new) }
         ensures none { OnOk result (vec_len deeds.new ≡ 0) }
         ensures bare { All IsReaped self.new }
-        ensures same { AreOwnedOrLeft (map D.holding deeds.old.items) self.new
+        ensures deeds { AreOwnedOrLeft (map D.holding deeds.old.items) self.new
             (map D.holding deeds.new.items) }
         ensures room { vec_capacity deeds.new ≡ vec_capacity deeds.old }
     {
@@ -111,7 +111,7 @@ impl<D: Deed> StockSetup<D> {
         requires bare { All IsReaped self }
         requires room { sum_by (owned_in (λ h. 1)) self + vec_len deeds.old
             ≤ vec_capacity deeds.old }
-        ensures same { AreOwnedOrLeft (map D.holding deeds.new.items) self
+        ensures deeds { AreOwnedOrLeft (map D.holding deeds.new.items) self
             (map D.holding deeds.old.items) }
     {
         let mut stock = self.finish();
@@ -134,7 +134,7 @@ impl<D: Deed> Stock<D> {
         ensures taken { IsTakenOutAt self.new arena }
         ensures others { OthersAreSame arena self.old self.new }
         ensures reaped { All IsReaped self.old → All IsReaped self.new }
-        ensures same { (f : Holding → ℕ) → sum_by (owned_in f) self.old
+        ensures deeds { (f : Holding → ℕ) → sum_by (owned_in f) self.old
             + sum_by f (map D.holding deeds.old.items) ≡ sum_by (owned_in f) self.new
             + sum_by f (map D.holding deeds.new.items) }
         ensures frame { Frames self.old [] self.new [] }

@@ -65,7 +65,7 @@ impl<D: Deed> Stock<D> {
             → result.gap ≡ units_held (gaps c.slab) }
         ensures tail { (c : QuantumCacheState) → IsCacheAt self.now arena cache c
             → result.tail ≡ units_held (tails c.slab) }
-        ensures kept { (c : QuantumCacheState) → IsCacheAt self.now arena cache c
+        ensures sum { (c : QuantumCacheState) → IsCacheAt self.now arena cache c
             → result.idle + result.gap + result.tail ≡ units_held (deeds_of c.slab) }
     {
         let space = &self.spaces[arena];

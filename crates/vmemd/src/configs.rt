@@ -54,7 +54,7 @@ pub fn read_config<R: Read>(alloc: Global, reader: &mut Watched<R>) -> Result<Se
         (R.remaining (inner_of reader.new))) }
     ensures failed { IsErrOf result ScriptFault.Read
         → IsSpent (has_failed reader.new) (reads_of reader.new) }
-    ensures kept { IfErr result (λ fault. (fault ≡ ScriptFault.Read)
+    ensures blames { IfErr result (λ fault. (fault ≡ ScriptFault.Read)
         ⊎ (has_failed reader.new ≡ has_failed reader.old)) }
     ensures works { OnOk result (has_failed reader.new ≡ has_failed reader.old) }
     ensures bound { reads_of reader.new ≤ reads_of reader.old + MOST_READS }
@@ -77,7 +77,7 @@ fn take_all<R: Read, S: SetupBuilder>(
         (R.remaining (inner_of reader.old)) (R.remaining (inner_of reader.new)) setup.new) }
     ensures failed { IsErrOf result ScriptFault.Read
         → IsSpent (has_failed reader.new) (reads_of reader.new) }
-    ensures kept { IfErr result (λ fault. (fault ≡ ScriptFault.Read)
+    ensures blames { IfErr result (λ fault. (fault ≡ ScriptFault.Read)
         ⊎ (has_failed reader.new ≡ has_failed reader.old)) }
     ensures works { OnOk result (has_failed reader.new ≡ has_failed reader.old) }
     ensures bound { reads_of reader.new ≤ reads_of reader.old + MOST_READS }

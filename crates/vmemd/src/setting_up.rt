@@ -52,7 +52,7 @@ pub fn take_setup<R: Read, S: SetupBuilder>(
     ensures works { OnOk result (has_failed reader.new ≡ has_failed reader.old) }
     ensures failed { IsErrOf result ScriptFault.Read
         → IsSpent (has_failed reader.new) (reads_of reader.new) }
-    ensures kept { IfErr result (λ fault. (fault ≡ ScriptFault.Read)
+    ensures blames { IfErr result (λ fault. (fault ≡ ScriptFault.Read)
         ⊎ (has_failed reader.new ≡ has_failed reader.old)) }
     ensures counted { IfOk result (λ input. (input.reads ≤ MOST_READS)
         × (reads_of reader.new ≡ min (reads_of reader.old + input.reads) (2 ^ 64 - 1))) }

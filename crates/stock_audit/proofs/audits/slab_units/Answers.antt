@@ -19,7 +19,7 @@ overflow_add-units-in-loop-cache-2 g c =
     let has = cache_stands c.args.stock.now c.args.arena c.loop-cache.cache s.0 s.1 within in
     let fits = cache_fits c.args.stock.now c.args.arena c.loop-cache.cache (λ (q : QuantumCacheState). units_held (deeds_of q.slab)) s.0 s.1 within has in
     let all = sum_by-flat_map units_in (λ (q : QuantumCacheState). deeds_of q.slab) s.0.caches in
-    omega (arith, fits, all, c.loop-cache.invariant s.0 s.1, c.requires.fits s.0 s.1, c.slab_report-report.ensures.kept has.0 has.1, c.from.ensures, c.from-in-loop-cache.ensures, c.from-in-loop-cache-2.ensures)
+    omega (arith, fits, all, c.loop-cache.invariant s.0 s.1, c.requires.fits s.0 s.1, c.slab_report-report.ensures.sum has.0 has.1, c.from.ensures, c.from-in-loop-cache.ensures, c.from-in-loop-cache-2.ensures)
 
 pub loop-cache-preserved : goal.loop-cache-preserved
 loop-cache-preserved g c s at =
@@ -28,7 +28,7 @@ loop-cache-preserved g c s at =
     let fits = cache_fits c.args.stock.now c.args.arena c.loop-cache.cache (λ (q : QuantumCacheState). units_held (deeds_of q.slab)) s at within has in
     let all = sum_by-flat_map units_in (λ (q : QuantumCacheState). deeds_of q.slab) s.caches in
     let more = cache_more c.args.stock.now c.args.arena c.loop-cache.cache (λ (q : QuantumCacheState). units_held (deeds_of q.slab)) s at within has in
-    omega (arith, fits, all, more, c.loop-cache.invariant s at, c.requires.fits s at, c.slab_report-report.ensures.kept has.0 has.1, c.from.ensures, c.from-in-loop-cache.ensures, c.from-in-loop-cache-2.ensures)
+    omega (arith, fits, all, more, c.loop-cache.invariant s at, c.requires.fits s at, c.slab_report-report.ensures.sum has.0 has.1, c.from.ensures, c.from-in-loop-cache.ensures, c.from-in-loop-cache-2.ensures)
 
 pub returns : goal.returns
 returns g c s at =

@@ -34,7 +34,7 @@ loop-arena-preserved g c =
         | inr other ↦ i.taken k s (omega (arith, lt, other)) (sym (c.take_out.ensures.others k other) ∙ at)
       ];
       reaped = c.take_out.ensures.reaped i.reaped;
-      same = λ f. omega (arith, i.same f, c.take_out.ensures.same f);
+      same = λ f. omega (arith, i.same f, c.take_out.ensures.deeds f);
       frame = λ rest a. c.take_out.ensures.frame rest (i.frame rest a);
       fixed = c.take_out.ensures.fixed ∙ i.fixed;
       room = c.take_out.ensures.room ∙ i.room;
@@ -52,7 +52,7 @@ unreachable-requires g c =
 
 pub returns : goal.returns
 returns g c = record {
-  same = λ f.
+  deeds = λ f.
       let bare = (c.close.ensures.ok).0 (subst IsOk (sym c.in-Ok.is) refl) in
       omega (arith, c.loop-arena.invariant.same f, bare_owns_none c.loop-arena.stock bare f);
 }

@@ -72,8 +72,8 @@ returns-in-Err-clause-bare g c =
     let is = c.loop-span.invariant.is c.requires.unused.0 c.requires.unused.1 in
     subst (λ (xs : List SpaceState). All IsReaped xs) {y = c.own.new.self} (sym c.in-Err.ensures.unchanged) (owning_is_reaped _ _ _ _ _ _ is)
 
-pub returns-in-Err-clause-same : goal.returns-in-Err-clause-same
-returns-in-Err-clause-same g c f =
+pub returns-in-Err-clause-deeds : goal.returns-in-Err-clause-deeds
+returns-in-Err-clause-deeds g c f =
     let is = c.loop-span.invariant.is c.requires.unused.0 c.requires.unused.1 in
     let back : c.push_reserved.new.self.items ≡ c.loop-span.deeds.items = grind (arith, common_steps) in
     let spaces = ap (sum_by (owned_in f)) c.in-Err.ensures.unchanged in
@@ -114,7 +114,7 @@ returns-clause-none g c =
 pub returns-clause-bare : goal.returns-clause-bare
 returns-clause-bare g c = owning_is_reaped _ _ _ _ _ _ (c.loop-span.invariant.is c.requires.unused.0 c.requires.unused.1)
 
-pub returns-clause-same : goal.returns-clause-same
-returns-clause-same g c f =
+pub returns-clause-deeds : goal.returns-clause-deeds
+returns-clause-deeds g c f =
     let is = c.loop-span.invariant.is c.requires.unused.0 c.requires.unused.1 in
     omega (arith, is.same f, turned g.D.Deed.holding c.args.deeds.now.items f, turned g.D.Deed.holding c.loop-span.deeds.items f)

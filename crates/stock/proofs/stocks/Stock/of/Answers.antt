@@ -11,7 +11,7 @@ pub give_back-requires-clause-room : goal.give_back-requires-clause-room
 give_back-requires-clause-room g c =
     omega (
       arith,
-      c.own_all.ensures.same (λ x. 1),
+      c.own_all.ensures.deeds (λ x. 1),
       c.own_all.ensures.room,
       c.reverse.ensures.capacity,
       c.reverse.ensures.len,
@@ -35,4 +35,4 @@ pub returns-in-Err-clause-handed_back : goal.returns-in-Err-clause-handed_back
 returns-in-Err-clause-handed_back g c = λ f.
     let first = turned g.D.Deed.holding c.args.deeds.items f in
     let turn = ap (λ xs. sum_by f (map g.D.Deed.holding xs)) c.reverse.ensures.items in
-    omega (arith, first, turn, c.own_all.ensures.same f, c.give_back.ensures.same f)
+    omega (arith, first, turn, c.own_all.ensures.deeds f, c.give_back.ensures.deeds f)

@@ -53,8 +53,8 @@ returns-clause-others g c = λ k other. others_stay c.loop-deed.self c.remove_ow
 pub returns-clause-reaped : goal.returns-clause-reaped
 returns-clause-reaped g c = λ all. stay_reaped c.loop-deed.self c.remove_owned.new.self c.args.arena (λ a b. RemoveOf a None b) c.in_default.ensures.removed (c.loop-deed.invariant.reaped all)
 
-pub returns-clause-same : goal.returns-clause-same
-returns-clause-same g c f =
+pub returns-clause-deeds : goal.returns-clause-deeds
+returns-clause-deeds g c f =
     let on = c.in_default.ensures.removed in
     let same = same_there c.loop-deed.self c.remove_owned.new.self c.args.arena on.space on.arena on.at on.after on.does.1 in
     omega (arith, c.loop-deed.invariant.same f, ap (sum_by (owned_in f)) same)
