@@ -1,5 +1,5 @@
 -- What the events of a reaping do to slabs, depots and rovers.
-use Rattle.std.proofs.Common.{◌≡◌, ◌≢◌, ◌⊎◌, ℕ, ◌+◌, ◌-◌, ◌*◌, ◌<◌, ◌≤◌, ◌==◌, zero, suc, All, AllPairs, Bool, true, false, not, cond, is_some, List, [], ◌∷◌, ◌++◌, Option, Some, None, Result, Ok, Err, length, set, map, filter, take, drop, get_or, inl, inr, refl, sym, ap, subst, ◌∙◌, arith}
+use Rattle.std.proofs.Common.{◌≡◌, ◌≢◌, ◌⊎◌, ℕ, ◌+◌, ◌-◌, ◌*◌, ◌<◌, ◌==◌, zero, suc, Bool, true, false, not, cond, is_some, List, [], ◌∷◌, Option, Some, None, Result, Ok, Err, length, map, filter, drop, get_or, inl, inr, refl, sym, ap, subst, ◌∙◌, arith}
 use Rattle.std.specs.Prelude.{slice_get, sum_by}
 use Rattle.std.specs.List.{remove}
 use Rattle.std.specs.FinMap.{FinMap}
@@ -19,13 +19,12 @@ use Rattle.deed_core.specs.Holding.{Holding}
 use Rattle.slab_layer.specs.Cache.{SlabCacheState, IsBelow, IsOfSize, IsSound}
 use Rattle.slab_layer.specs.Calls.{ReapOf, Reaps}
 use Rattle.slab_layer.specs.Slab.{SlabState}
-use Rattle.slab_layer.specs.declared.faults.PutFault.{PutFault}
 use Rattle.magazine_layer.specs.Calls.{DepotReapOf}
 use Rattle.magazine_layer.specs.Depots.{DepotState, Begins, after_trim}
 use Rattle.arena_tree.specs.declared.part_faults.FreeFault.{FreeFault}
 use Rattle.arena_tree.specs.declared.part_faults.SlabPutFault.{SlabPutFault}
 use Rattle.arena_tree.specs.declared.part_faults.Stopped.{Stopped}
-use Rattle.stock.specs.Spaces.{SpaceState, QuantumCacheState, with_arena, with_depot, with_slab}
+use Rattle.stock.specs.Spaces.{SpaceState, with_arena, with_depot, with_slab}
 use Rattle.stock.specs.Stocks.{IsStock}
 use Rattle.local_parts.specs.SharedSteps.{DoesFree, DoesPut, DoesReap, DoesDepotReap}
 use Rattle.lease_machine.specs.Moves.{outline_of}
