@@ -1,10 +1,10 @@
 -- The units in caches are those of the spans of slabs, and of chunks that are out.
-use Rattle.std.proofs.Common.{All, ◌≡◌, ℕ, ◌+◌, ◌*◌, ◌^◌, ◌≤◌, zero, suc, List, [], ◌∷◌, ◌++◌, Some, None, length, map, filter, refl, sym, ap, subst, ◌∙◌, arith}
+use Rattle.std.proofs.Common.{◌≡◌, ℕ, ◌+◌, ◌*◌, ◌^◌, ◌≤◌, suc, List, [], ◌∷◌, ◌++◌, Some, length, filter, refl, sym, ap, subst, ◌∙◌, arith}
 use Rattle.std.specs.Prelude.{slice_get, sum_by}
 use Rattle.std.proofs.lemmas.List.{length-map}
 use Rattle.std.proofs.lemmas.List.Elements.{All-weaker}
 use Rattle.std.proofs.lemmas.List.Sums.{sum_by-append, sum_by-cons}
-use Rattle.deed_core.specs.Covering.{covers_held, covering_held, units_in, units_held}
+use Rattle.deed_core.specs.Covering.{covers_held, units_in, units_held}
 use Rattle.deed_core.specs.Extent.{IsRange, end_of}
 use Rattle.deed_core.specs.Holding.{Holding}
 use Rattle.deed_core.specs.Selections.{came_direct}
@@ -13,22 +13,19 @@ use Rattle.deed_core.proofs.LawProofs.{sum_by-map, sum_by-flat_map, sum_alike, s
 use Rattle.tag_arena.specs.ArenaState.{ranges_of, spans_of}
 use Rattle.tag_arena.proofs.LawProofs.{spans_once}
 use Rattle.slab_layer.specs.Cache.{span_tag, span_tags}
-use Rattle.slab_layer.specs.Slab.{SlabState}
 use Rattle.stock.specs.Setups.{plan_for}
 use Rattle.stock.specs.Spaces.{SpaceState, QuantumCacheState, plan_of}
-use Rattle.stock.specs.Stocks.{IsStock}
-use Rattle.stock.specs.Sums.{holdings_of, held_of, total}
+use Rattle.stock.specs.Sums.{holdings_of, held_of}
 use Rattle.stock_audit.specs.Accounted.{IsAccountedFor}
 use Rattle.stock_audit.specs.Audits.{sums_of_arena}
-use Rattle.stock_audit.specs.Chains.{spans_of_slabs, spans_of_children}
+use Rattle.stock_audit.specs.Chains.{spans_of_slabs}
 use Rattle.stock_audit.specs.Outside.{Outside, segments_out}
 use Rattle.stock_audit.proofs.LawProofs.{audit_adds_up, allocated_is_out, exported_is_children}
-use Rattle.lease_machine.specs.Picture.{Picture, held_outside}
-use Rattle.lease_machine.specs.Held.{IsHeld}
-use Rattle.lease_machine.specs.Operators.{cached_units, sums_in}
+use Rattle.lease_machine.specs.Picture.{held_outside}
+use Rattle.lease_machine.specs.Operators.{cached_units}
 use Rattle.lease_machine.specs.ReapLaws.{CachedUnitsFit}
 use Rattle.lease_machine.proofs.Lengths.{as_long, few_units}
-use Rattle.lease_machine.proofs.Takings.{slab_units, slab_units_of, span_units}
+use Rattle.lease_machine.proofs.Takings.{slab_units, slab_units_of}
 
 -- the spans of an arena's slabs, by length
 spans_weigh : (s : SpaceState) → sum_by units_in (spans_of_slabs s) ≡ slab_units_of s

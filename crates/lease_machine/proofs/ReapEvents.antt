@@ -1,12 +1,12 @@
 -- What the events of a reaping do to slabs, depots and rovers.
-use Rattle.std.proofs.Common.{◌≡◌, ◌≢◌, ◌⊎◌, ℕ, ◌+◌, ◌-◌, ◌*◌, ◌<◌, ◌≤◌, ◌==◌, zero, suc, All, AllPairs, Bool, true, false, not, cond, List, [], ◌∷◌, ◌++◌, Option, Some, None, Result, Ok, Err, length, set, map, filter, take, drop, get_or, inl, inr, refl, sym, ap, subst, ◌∙◌, arith}
+use Rattle.std.proofs.Common.{◌≡◌, ◌≢◌, ◌⊎◌, ℕ, ◌+◌, ◌-◌, ◌*◌, ◌<◌, ◌==◌, zero, suc, Bool, true, false, not, cond, is_some, List, [], ◌∷◌, Option, Some, None, Result, Ok, Err, length, map, filter, drop, get_or, inl, inr, refl, sym, ap, subst, ◌∙◌, arith}
 use Rattle.std.specs.Prelude.{slice_get, sum_by}
-use Rattle.tag_arena.proofs.Allocations.{len_less}
 use Rattle.std.specs.List.{remove}
 use Rattle.std.specs.FinMap.{FinMap}
 use Rattle.std.specs.FinMap as finmap
 use Rattle.std.specs.Ordering.{nat_cmp}
-use Rattle.std.proofs.lemmas.Bool.{cases_order}
+use Rattle.std.specs.Cmp.{nat_cmp_total}
+use Rattle.std.proofs.lemmas.Bool.{cases_eq, cases_order}
 use Rattle.std.proofs.lemmas.Bool.Decides.{Decides-eqb}
 use Rattle.std.proofs.lemmas.List.Sums.{sum_by-cons}
 use Rattle.std.proofs.lemmas.Option.{slice_get_within, get_or_from_slice_get}
@@ -19,13 +19,12 @@ use Rattle.deed_core.specs.Holding.{Holding}
 use Rattle.slab_layer.specs.Cache.{SlabCacheState, IsBelow, IsOfSize, IsSound}
 use Rattle.slab_layer.specs.Calls.{ReapOf, Reaps}
 use Rattle.slab_layer.specs.Slab.{SlabState}
-use Rattle.slab_layer.specs.declared.faults.PutFault.{PutFault}
 use Rattle.magazine_layer.specs.Calls.{DepotReapOf}
 use Rattle.magazine_layer.specs.Depots.{DepotState, Begins, after_trim}
 use Rattle.arena_tree.specs.declared.part_faults.FreeFault.{FreeFault}
 use Rattle.arena_tree.specs.declared.part_faults.SlabPutFault.{SlabPutFault}
 use Rattle.arena_tree.specs.declared.part_faults.Stopped.{Stopped}
-use Rattle.stock.specs.Spaces.{SpaceState, QuantumCacheState, with_arena, with_depot, with_slab}
+use Rattle.stock.specs.Spaces.{SpaceState, with_arena, with_depot, with_slab}
 use Rattle.stock.specs.Stocks.{IsStock}
 use Rattle.local_parts.specs.SharedSteps.{DoesFree, DoesPut, DoesReap, DoesDepotReap}
 use Rattle.lease_machine.specs.Moves.{outline_of}
@@ -45,11 +44,16 @@ free_rover : (t : Tag) (r : Result (Option Tag) Tag) (a b : ArenaState) → Free
 free_rover t (Ok back) a b is = leaves_rover a b t.holding is.frees.merged back is.frees.after
 free_rover t (Err same) a b is = ap (λ (x : ArenaState). x.rover) is.2
 
--- and the spans that were imported, but for one that goes back
--- what was freed is allocated no more
+-- a map has fewer entries once one is taken out
 fewer : (m : FinMap nat_cmp Holding) (k : ℕ) (h : Holding) → finmap.get m k ≡ Some h → finmap.len (finmap.remove m k) < finmap.len m
-fewer m k h at = omega (arith, len_less m k h at)
+fewer m k h at =
+    let less : finmap.len (finmap.remove m k) ≡ finmap.len m - 1 = finmap.len-remove nat_cmp_total m k ∙ ap (λ (o : Option Holding). cond (is_some o) (finmap.len m - 1) (finmap.len m)) at in
+    elim (cases_eq (finmap.len m) 0) [
+      | inr some ↦ omega (arith, less)
+      | inl none ↦ absurd (let e : Some h ≡ None = sym at ∙ ap (λ (n : FinMap nat_cmp Holding). finmap.get n k) (finmap.empty_of_len m none) ∙ finmap.get-empty nat_cmp k in cc)
+    ]
 
+-- and the spans that were imported, but for one that goes back: what was freed is allocated no more
 leaves_spans : (s : SpaceState) (b : ArenaState) (piece merged : Holding) (back : Option Tag) → finmap.get s.arena.allocated piece.range.base ≡ Some piece → LeavesFree s.arena piece merged back b → LosesSpans s (with_arena b s)
 leaves_spans s b piece merged None at is = record {
   stays = λ x. true;

@@ -4,7 +4,6 @@ use Rattle.std.specs.Prelude.{slice_get}
 use Rattle.std.proofs.lemmas.List.{length-map}
 use Rattle.deed_core.proofs.LawProofs.{all_from, mapped, slice_get_mapped, slice_get_one}
 use Rattle.arena_tree.specs.declared.limits.TheConstants.{MOST_CACHES}
-use Rattle.arena_tree.specs.Plans.{Plan}
 use Rattle.magazine_layer.specs.Depots.{DepotState, CanReap}
 use Rattle.stock.specs.Setups.{plan_for}
 use Rattle.stock.specs.Spaces.{SpaceState, QuantumCacheState, IsCacheAt, plan_of}
@@ -17,7 +16,7 @@ use Rattle.local_calls.specs.Looks.{findable_in}
 use Rattle.local_calls.specs.Reaped.{HasNoneToReap, NoneToReap}
 use Rattle.local_calls.specs.Runs.{RunsTo}
 use Rattle.local_calls.proofs.LawProofs.{reap_leaves_nothing, reap_takes_few_looks}
-use Rattle.lease_machine.specs.Held.{IsHeld, parts_in, with_parts}
+use Rattle.lease_machine.specs.Held.{IsHeld, with_parts}
 use Rattle.lease_machine.specs.Moves.{outline_of}
 use Rattle.lease_machine.specs.Operators.{IsReapedOut, LosesSlabs, LosesSpans, ReapsAll, ReapsSome, after_reap, cached_units, depots_of, depots_reaped, rover_of}
 use Rattle.lease_machine.specs.Picture.{NumberedCpu, Picture, SameSetup, held_outside, is_cpu}

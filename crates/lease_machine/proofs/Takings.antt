@@ -1,14 +1,11 @@
 -- What a step of a reaping does to the arenas: slabs go, depots lose only what may be reaped.
-use Rattle.std.proofs.Common.{◌≡◌, ◌⊎◌, ℕ, ◌+◌, ◌<◌, ◌&&◌, zero, suc, Bool, true, false, not, cond, List, [], ◌∷◌, Some, None, length, set, map, filter, inl, inr, refl, sym, ap, subst, ◌∙◌, arith}
+use Rattle.std.proofs.Common.{◌≡◌, ◌⊎◌, ℕ, ◌+◌, ◌<◌, ◌&&◌, Bool, true, false, cond, List, [], ◌∷◌, Some, set, map, filter, inl, inr, refl, sym, ap, subst, ◌∙◌, arith}
 use Rattle.std.specs.Prelude.{slice_get, sum_by}
-use Rattle.std.specs.List.{remove}
 use Rattle.std.specs.FinMap as finmap
 use Rattle.std.proofs.lemmas.List.{map-set}
-use Rattle.std.proofs.lemmas.Option.{slice_get_within}
 use Rattle.deed_core.proofs.LawProofs.{map_set_same, slice_get_mapped, sum_set, written}
 use Rattle.slab_layer.specs.Cache.{SlabCacheState}
 use Rattle.slab_layer.specs.Slab.{SlabState}
-use Rattle.magazine_layer.specs.Depots.{DepotState}
 use Rattle.stock.specs.Spaces.{SpaceState, QuantumCacheState, IsCacheAt, with_cache, with_arena}
 use Rattle.tag_arena.specs.ArenaState.{ArenaState}
 use Rattle.lease_machine.specs.Moves.{outline_of}
