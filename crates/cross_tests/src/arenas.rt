@@ -3,6 +3,7 @@ mod growth;
 mod imports;
 mod policies;
 
+use crate::same_answers::run_both;
 use deed_core::{Deed, PlainDeed, Range, Request, Route, Segment};
 use refusing_deed::RefusingDeed;
 use std::alloc::{AllocGlobal, Global};
@@ -97,7 +98,7 @@ fn give_back<D: Deed>(rt: &impl Abort, arena: &mut Arena<D>, segment: Segment<D>
 
 /// A call of an arena, with what it must give.
 #[derive(Clone, Copy)]
-enum Step {
+pub(crate) enum Step {
     /// A grant at this base, of as many units as are asked for.
     Grant(Request, u64),
     /// No range serves the request.
@@ -203,13 +204,15 @@ fn end_span(rt: &impl Abort, arena: &mut Arena<PlainDeed>, base: u64, len: u64) 
     assert_eq!(rt; range.len(), len);
 }
 
-/// Takes the steps in an arena of one span, which is whole at the end.
+/// Takes the steps in an arena of one span, which is whole at the end, and then in both bodies.
 fn run_alone(rt: &(impl Abort + AllocGlobal), policy: Policy, base: u64, len: u64, steps: &[Step]) {
+    let range = Range::new(base, len).expect(rt, "a range");
     let mut arena = Arena::new(rt.alloc(), 1, 1, policy);
     add(rt, &mut arena, span(rt, 1, base, len));
     run(rt, &mut arena, steps);
     end_span(rt, &mut arena, base, len);
     close(rt, arena);
+    run_both(rt, policy, range, steps);
 }
 
 /// Numbers cycle before they are used again.

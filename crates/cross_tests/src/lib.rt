@@ -6,7 +6,8 @@
 //! rows of calls of an arena, over plain deeds and over deeds one of whose splits is refused;
 //! `slabs` the same of a slab cache; `magazines` runs over a CPU's cache and its depot. `books` has
 //! rows of requests to a book of leases, `client` what a client's core says to replies.
-//! `seat_deeds` has an arena over the deeds of running threads. `promises` cites what the layers
+//! `seat_deeds` has an arena over the deeds of running
+//! threads, `same_answers` the arena beside its plain body. `promises` cites what the layers
 //! above reckon with: one function for each call or law of the arena, the slab cache and the
 //! magazines, whose contract only its callee's clauses carry. Tests of setups and stocks stand in
 //! `stock_tests`, those of lines and desks in `line_tests`, those of the running system in
@@ -31,6 +32,8 @@ mod client;
 mod magazines;
 #[cfg(test)]
 mod promises;
+#[cfg(test)]
+mod same_answers;
 #[cfg(test)]
 mod seat_deeds;
 #[cfg(test)]

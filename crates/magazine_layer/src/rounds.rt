@@ -1,6 +1,6 @@
 //! Runs of giving and taking over one CPU's cache and its depot.
 ghost use Rattle.std.specs.Prelude.{◌≡◌, ◌+◌, ◌/◌, ◌≤◌, ◌++◌, IfOk, IfErr, IfSome};
-ghost use Rattle.std.specs.Prelude.{IfNone, OnSome, flat_map, vec_len};
+ghost use Rattle.std.specs.Prelude.{IfNone, OnErr, OnSome, flat_map, vec_len};
 ghost use Rattle.deed_core.specs.Weights.{WeighSame};
 ghost use Rattle.magazine_layer.specs.Magazines.{AreAmong, IsShaped, BothFull};
 ghost use Rattle.magazine_layer.specs.Depots.{IsDepot, both_rounds};
