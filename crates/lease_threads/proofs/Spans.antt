@@ -1,5 +1,5 @@
 -- Spans in order of their arenas, one each.
-use Rattle.std.proofs.Common.{◌≡◌, ℕ, zero, suc, ◌+◌, ◌*◌, ◌<◌, ◌≤◌, ◌++◌, take, inl, inr, ◌↔◌, Bool, true, false, IsTrue, nat_lt, List, [], ◌∷◌, Option, Some, subst, sym, ap, ◌∙◌, refl, arith, length, slice_index_or, append-nil}
+use Rattle.std.proofs.Common.{◌≡◌, ℕ, zero, suc, ◌+◌, ◌*◌, ◌<◌, ◌≤◌, ◌++◌, take, inl, inr, ◌↔◌, Bool, true, false, IsTrue, nat_lt, List, [], ◌∷◌, Option, Some, None, subst, sym, ap, ◌∙◌, refl, arith, length, slice_index_or, append-nil}
 use Rattle.std.specs.List.{AllAdjacentBelow, IsAllAdjacentAnswer}
 use native.Mathlib.Numerals.{unary_clauses}
 use Rattle.std.proofs.Math.Nat.{eq-or-lt_of_le}
@@ -86,8 +86,14 @@ all_taken setup index count is from all within =
 
 -- one more arena was opened as it is set up
 pub made_more : (arenas : List TreeArena) (made new : List NewArenaState) (o : NewArenaState) (id : ℕ) → length made ≡ id → new ≡ made ++ o ∷ [] → AreSetUp arenas made → IsSetUp arenas id o → AreSetUp arenas new
-made_more arenas made new o id is more all this k a at =
-    elim (pushed made k o a (subst (λ (l : List NewArenaState). slice_get l k ≡ Some a) more at)) [
-      | inl last ↦ subst (λ (n : ℕ). IsSetUp arenas n a) (sym (last.0 ∙ is)) (subst (IsSetUp arenas id) (sym last.1) this)
-      | inr there ↦ all k a there
-    ]
+made_more arenas made new o id is more all this = record {
+  each = λ k a at. elim (pushed made k o a (subst (λ (l : List NewArenaState). slice_get l k ≡ Some a) more at)) [
+    | inl last ↦ subst (λ (n : ℕ). IsSetUp arenas n a) (sym (last.0 ∙ is)) (subst (IsSetUp arenas id) (sym last.1) this)
+    | inr there ↦ all.each k a there
+  ];
+}
+
+pub none_made : (arenas : List TreeArena) (made : List NewArenaState) → made ≡ [] → AreSetUp arenas made
+none_made arenas made none = record {
+  each = λ k a at. absurd (let e : None ≡ Some a = ap (λ (l : List NewArenaState). slice_get l k) (sym none) ∙ at in cc);
+}

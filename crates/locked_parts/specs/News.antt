@@ -42,6 +42,5 @@ pub record IsSetUp (arenas : List TreeArena) (id : ℕ) (a : NewArenaState) : Ty
   pub slabs : All (HasSlabsOf arenas id) a.caches
 
 -- and each of these is the one of its place
-abbrev pub AreSetUp : List TreeArena → List NewArenaState → Type 0
-AreSetUp arenas made = (k : ℕ) (a : NewArenaState) → slice_get made k ≡ Some a
-    → IsSetUp arenas k a
+pub record AreSetUp (arenas : List TreeArena) (made : List NewArenaState) : Type 0 where
+  pub each : (k : ℕ) (a : NewArenaState) → slice_get made k ≡ Some a → IsSetUp arenas k a
