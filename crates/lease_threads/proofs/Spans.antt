@@ -1,5 +1,5 @@
 -- Spans in order of their arenas, one each.
-use Rattle.std.proofs.Common.{◌≡◌, ℕ, zero, suc, ◌+◌, ◌*◌, ◌<◌, ◌≤◌, ◌++◌, take, inl, inr, ◌↔◌, Bool, true, false, IsTrue, nat_lt, List, [], ◌∷◌, Option, Some, subst, sym, ap, ◌∙◌, refl, arith, length, slice_index_or, append-nil}
+use Rattle.std.proofs.Common.{◌≡◌, ℕ, zero, suc, ◌+◌, ◌*◌, ◌<◌, ◌≤◌, ◌++◌, take, inl, inr, ◌↔◌, Bool, true, false, IsTrue, nat_lt, List, [], ◌∷◌, Option, Some, None, subst, sym, ap, ◌∙◌, refl, arith, length, slice_index_or, append-nil}
 use Rattle.std.specs.List.{AllAdjacentBelow, IsAllAdjacentAnswer}
 use native.Mathlib.Numerals.{unary_clauses}
 use Rattle.std.proofs.Math.Nat.{eq-or-lt_of_le}
@@ -9,12 +9,16 @@ use Rattle.std.proofs.lemmas.Bool.{ltb-true, lt-ltb}
 use Rattle.arena_tree.specs.declared.setups.OwnedSpan.{OwnedSpan}
 use Rattle.lease_threads.specs.Openings.{OneSpanEach, AreFrom, roots_of, new_root}
 use Rattle.std.specs.List.{flat_map}
+use Rattle.std.specs.Prelude.{slice_get}
 use Rattle.std.specs.Option.{option_map, option_to_list}
 use Rattle.std.proofs.lemmas.Grind.{flat_map-append}
 use Rattle.std.proofs.lemmas.Option.{slice_get_within}
 use Rattle.deed_core.specs.Extent.{Extent}
 use Rattle.deed_core.specs.Holding.{Holding}
+use Rattle.deed_core.proofs.LawProofs.{pushed}
 use Rattle.arena_tree.specs.Settings.{SetupState, IsSetup}
+use Rattle.arena_tree.specs.declared.trees.TreeArena.{TreeArena}
+use Rattle.locked_parts.specs.News.{NewArenaState, IsSetUp, AreSetUp}
 use Rattle.arena_tree.specs.declared.limits.TheConstants.{MOST_SPANS}
 
 rising : (spans : List OwnedSpan) → AllAdjacentBelow (λ x y. x.arena < y.arena) spans (length spans) → OneSpanEach spans
@@ -59,12 +63,12 @@ after_other spans index arena s here other one from k d above within =
     ]
 
 -- an arena was opened with its span
-pub opened_more : (made new : List (Option Holding)) (o : Option Holding) (span : Option Extent) (first arena : ℕ) (before after : List Holding) → new ≡ made ++ o ∷ [] → o ≡ option_map (λ r. record { root = first; range = r }) span → first ≡ MOST_SPANS * arena → roots_of made ≡ before → after ≡ before ++ option_to_list (option_map (new_root arena) span) → roots_of new ≡ after
+pub opened_more : (made new : List NewArenaState) (o : NewArenaState) (span : Option Extent) (first arena : ℕ) (before after : List Holding) → new ≡ made ++ o ∷ [] → o.root ≡ option_map (λ r. record { root = first; range = r }) span → first ≡ MOST_SPANS * arena → roots_of made ≡ before → after ≡ before ++ option_to_list (option_map (new_root arena) span) → roots_of new ≡ after
 opened_more made new o span first arena before after more is number had took =
-    ap roots_of more ∙ flat_map-append option_to_list made (o ∷ []) ∙ ap (λ f. f ++ flat_map option_to_list (o ∷ [])) had ∙ ap (λ l. before ++ l) last ∙ sym took
+    ap roots_of more ∙ flat_map-append (λ (a : NewArenaState). option_to_list a.root) made (o ∷ []) ∙ ap (λ f. f ++ flat_map (λ (a : NewArenaState). option_to_list a.root) (o ∷ [])) had ∙ ap (λ l. before ++ l) last ∙ sym took
   where
-    last : flat_map option_to_list (o ∷ []) ≡ option_to_list (option_map (new_root arena) span)
-    last = append-nil (option_to_list o) ∙ ap option_to_list is ∙ ap (λ n. option_to_list (option_map (λ r. record { root = n; range = r }) span)) number
+    last : flat_map (λ (a : NewArenaState). option_to_list a.root) (o ∷ []) ≡ option_to_list (option_map (new_root arena) span)
+    last = append-nil (option_to_list o.root) ∙ ap option_to_list is ∙ ap (λ n. option_to_list (option_map (λ r. record { root = n; range = r }) span)) number
 
 -- no span is left after the last arena
 pub all_taken : (setup : SetupState) (index count : ℕ) → IsSetup setup → AreFrom count index setup.spans → length setup.arenas ≤ count → index ≤ length setup.spans → take index setup.spans ≡ setup.spans
@@ -79,3 +83,17 @@ all_taken setup index count is from all within =
 
     low : index < length setup.spans → (slice_index_or setup.spans index nothing).arena < length setup.arenas
     low left = (let owned = is.owned index nothing left in slice_get_within setup.arenas (slice_index_or setup.spans index nothing).arena owned.0 owned.1.here)
+
+-- one more arena was opened as it is set up
+pub made_more : (arenas : List TreeArena) (made new : List NewArenaState) (o : NewArenaState) (id : ℕ) → length made ≡ id → new ≡ made ++ o ∷ [] → AreSetUp arenas made → IsSetUp arenas id o → AreSetUp arenas new
+made_more arenas made new o id is more all this = record {
+  each = λ k a at. elim (pushed made k o a (subst (λ (l : List NewArenaState). slice_get l k ≡ Some a) more at)) [
+    | inl last ↦ subst (λ (n : ℕ). IsSetUp arenas n a) (sym (last.0 ∙ is)) (subst (IsSetUp arenas id) (sym last.1) this)
+    | inr there ↦ all.each k a there
+  ];
+}
+
+pub none_made : (arenas : List TreeArena) (made : List NewArenaState) → made ≡ [] → AreSetUp arenas made
+none_made arenas made none = record {
+  each = λ k a at. absurd (let e : None ≡ Some a = ap (λ (l : List NewArenaState). slice_get l k) (sym none) ∙ at in cc);
+}

@@ -1,6 +1,6 @@
 -- A system as it is made.
 use Rattle.std.specs.Prelude.{◌≡◌, ℕ, ◌*◌, ◌<◌, ◌≤◌, List, AllPairs, length, map}
-use Rattle.std.specs.Prelude.{Option, slice_index_or}
+use Rattle.std.specs.Prelude.{slice_index_or}
 use Rattle.std.specs.List.{flat_map}
 use Rattle.std.specs.Option.{option_to_list}
 use Rattle.deed_core.specs.Extent.{Extent}
@@ -8,6 +8,7 @@ use Rattle.deed_core.specs.Holding.{Holding}
 use Rattle.arena_tree.specs.Settings.{SetupState}
 use Rattle.arena_tree.specs.declared.limits.TheConstants.{MOST_SPANS}
 use Rattle.arena_tree.specs.declared.setups.OwnedSpan.{OwnedSpan}
+use Rattle.locked_parts.specs.News.{NewArenaState}
 use Rattle.lease_threads.specs.Systems.{SystemState}
 use Rattle.lease_threads.specs.declared.openings.SystemFault.{SystemFault}
 use Rattle.lease_threads.specs.declared.openings.SystemFault.TheVariants.{Span, NoMemory}
@@ -41,5 +42,5 @@ RefusesSystem setup (Span same) = (same ≡ setup) × (¬ OneSpanEach setup.span
 RefusesSystem setup (NoMemory same) = (same ≡ setup) × OneSpanEach setup.spans
 
 -- those of the arenas that own a span
-abbrev pub roots_of : List (Option Holding) → List Holding
-roots_of roots = flat_map option_to_list roots
+abbrev pub roots_of : List NewArenaState → List Holding
+roots_of made = flat_map (λ a. option_to_list a.root) made

@@ -1,7 +1,12 @@
 -- Parts of a system as they are made.
-use Rattle.std.specs.Prelude.{◌≡◌, ℕ, List, Some, slice_get}
+use Rattle.std.specs.Prelude.{◌≡◌, ℕ, List, All, Option, Some, map, slice_get}
+use Rattle.deed_core.specs.Holding.{Holding}
 use Rattle.tag_arena.specs.ArenaState.{ArenaState}
+use Rattle.tag_arena.specs.declared.policies.Policy.{Policy}
+use Rattle.arena_tree.specs.Chains.{quantum_in}
+use Rattle.arena_tree.specs.Trees.{nodes_of}
 use Rattle.arena_tree.specs.declared.trees.TreeArena.{TreeArena}
+use Rattle.locked_parts.specs.Kinds.{count_of_caches, kinds_up_to}
 use Rattle.locked_parts.specs.declared.kinds.CacheKind.{CacheKind}
 
 -- the arena of this number as it was set up
@@ -18,3 +23,24 @@ pub record NewCacheState : Type 0 where
 abbrev pub HasSlabsOf : List TreeArena → ℕ → NewCacheState → Type 0
 HasSlabsOf arenas id c = (x : TreeArena) × (slice_get arenas id ≡ Some x)
     × (c.slab_size ≡ x.slab_size)
+
+-- an arena as it is made, with its source, its quantum caches and its root
+pub record NewArenaState : Type 0 where
+  pub id : ℕ
+  pub quantum : ℕ
+  pub policy : Policy
+  pub source : Option ℕ
+  pub caches : List NewCacheState
+  pub root : Option Holding
+
+-- it is the arena of this number as it was set up
+pub record IsSetUp (arenas : List TreeArena) (id : ℕ) (a : NewArenaState) : Type 0 where
+  pub arena : (x : TreeArena) × (slice_get arenas id ≡ Some x) × (a.id ≡ id)
+      × (a.quantum ≡ x.quantum) × (a.policy ≡ x.policy) × (a.source ≡ x.source)
+  pub kinds : map (λ c. c.kind) a.caches
+      ≡ kinds_up_to id (quantum_in (nodes_of arenas) id) (count_of_caches arenas id)
+  pub slabs : All (HasSlabsOf arenas id) a.caches
+
+-- and each of these is the one of its place
+pub record AreSetUp (arenas : List TreeArena) (made : List NewArenaState) : Type 0 where
+  pub each : (k : ℕ) (a : NewArenaState) → slice_get made k ≡ Some a → IsSetUp arenas k a

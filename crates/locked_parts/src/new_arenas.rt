@@ -3,7 +3,7 @@ ghost use Rattle.std.specs.Prelude.{◌≡◌, ◌+◌, ◌-◌, ◌<◌, ◌≤
 ghost use Rattle.std.specs.Option.{option_map, option_to_list};
 ghost use Rattle.arena_tree.specs.declared.limits.TheConstants.{MOST_SPANS};
 ghost use Rattle.tag_arena.specs.Outcomes.{KeepsSetup};
-ghost use Rattle.locked_parts.specs.News.{IsArenaOf};
+ghost use Rattle.locked_parts.specs.News.{IsArenaOf, IsSetUp};
 
 use crate::arena_parts::ArenaPart;
 use crate::kinds::cache_count;
@@ -18,7 +18,7 @@ use std::sync::Mutex;
 use tag_arena::{Arena, SpanFault};
 
 /// An arena all of whose units are free, with its root, if it owns a span, its new caches, and room
-/// for as many under their locks. A contract sees its root.
+/// for as many under their locks. A contract sees what it is set up with, and its root.
 pub struct NewArena<N: Name> {
     part: ArenaPart<N>,
     root: Option<Root<N>>,
@@ -27,13 +27,20 @@ pub struct NewArena<N: Name> {
 }
 
 impl<N: Name> Model for NewArena<N> {
-    ghost use Rattle.std.specs.Prelude.{◌≡◌, ◌≤◌, Option, vec_len, vec_capacity};
+    ghost use Rattle.std.specs.Prelude.{◌≡◌, ◌≤◌, vec_len, vec_capacity};
     ghost use Rattle.std.specs.Option.{option_to_list};
-    ghost use Rattle.deed_core.specs.Holding.{Holding};
+    ghost use Rattle.locked_parts.specs.News.{NewArenaState};
 
-    ghost Value = { Option Holding };
+    ghost Value = { NewArenaState };
 
-    ghost view = { λ a. a.root };
+    ghost view = { λ a. record {
+      id = a.part.arena.id;
+      quantum = a.part.arena.quantum;
+      policy = a.part.arena.policy;
+      source = a.part.source;
+      caches = a.caches.items;
+      root = a.root;
+    } };
 
     ghost invariant = { λ a. (a.part.arena.owned ≡ option_to_list a.root)
         × (a.part.arena.free ≡ option_to_list a.root)
@@ -52,8 +59,9 @@ impl<N: Name> NewArena<N> {
     ) -> Result<NewArena<N>, AllocError>
         requires within { id < length tree.now }
         requires left { MOST_SPANS ≤ numbers.old.left }
-        ensures root { IfOk result (λ root. root
+        ensures root { IfOk result (λ a. a.root
             ≡ option_map (λ r. record { root = numbers.old.first; range = r }) span) }
+        ensures set_up { IfOk result (IsSetUp tree.now id) }
         ensures first { OnOk result (numbers.new.first ≡ numbers.old.first + MOST_SPANS) }
         ensures left { OnOk result (numbers.new.left ≡ numbers.old.left - MOST_SPANS) }
     {
@@ -95,7 +103,7 @@ impl<N: Name> NewArena<N> {
 
     /// Puts it and its caches under their locks, and hands out its root.
     pub fn lock(self, before: usize) -> (LockedArena<N>, Option<Root<N>>)
-        ensures { result.1 ≡ self }
+        ensures { result.1 ≡ self.root }
     {
         let NewArena {
             part,
