@@ -14,7 +14,7 @@ pub returns-in_err-tell_arena-clause-begun : goal.returns-in_err-tell_arena-clau
 returns-in_err-tell_arena-clause-begun c =
     let (d, is, parts) = c.requires in
     always_on_err c.from_residual.result (StartsWith c.tell_arena.new.out.items c.args.out.now.items)
-    (starts_through c.args.out.now.items (first_told d c.loop-arena.arena c.args.tree.now c.args.stock.now) c.loop-arena.out.items c.tell_arena.new.out.items (c.loop-arena.invariant d is parts) c.in_err-tell_arena.ensures.err)
+    (starts_through c.args.out.now.items (first_told d c.loop-arena.arena c.args.tree.now c.args.stock.now) c.loop-arena.out.items c.tell_arena.new.out.items (c.loop-arena.invariant d is parts) c.in_err-tell_arena.ensures.begun)
 
 pub loop-arena-preserved : goal.loop-arena-preserved
 loop-arena-preserved c d is parts =
