@@ -1,5 +1,5 @@
 //! The two bodies of one arena, and each call of both.
-use deed_core::{Deed, PlainDeed, Range, Request, Route, Segment};
+use deed_core::{Deed, PlainDeed, Range, Request, Route, Segment, is_power_of_two};
 use plain_arena::PlainArena;
 use std::alloc::AllocGlobal;
 use std::process::Abort;
@@ -49,7 +49,13 @@ pub(super) struct Bodies {
 }
 
 impl Bodies {
-    pub(super) fn new(rt: &impl AllocGlobal, id: u32, quantum: u64, policy: Policy) -> Bodies {
+    pub(super) fn new(
+        rt: &(impl Abort + AllocGlobal),
+        id: u32,
+        quantum: u64,
+        policy: Policy,
+    ) -> Bodies {
+        assert!(rt; is_power_of_two(quantum));
         Bodies {
             fast: Arena::new(rt.alloc(), id, quantum, policy),
             plain: PlainArena::new(rt.alloc(), id, quantum, policy),

@@ -9,6 +9,9 @@ use tag_arena::Policy;
 /// The most segments of an arena that are out.
 const MOST: usize = 160;
 
+/// No walk has more spans.
+const MOST_SPANS: usize = 8;
+
 /// Two arenas with what is out of them.
 pub(super) struct Walk {
     pub(super) source: Bodies,
@@ -47,11 +50,7 @@ impl Walk {
 
     /// Frees what the source carved.
     fn free(&mut self, rt: &impl Abort, twins: Twins) {
-        match self.source.free(rt, twins) {
-            Ok(None) => {}
-            Ok(Some(_span)) => panic!(rt; "the source imports nothing"),
-            Err(_twins) => panic!(rt; "the source carved it"),
-        }
+        free_carved(rt, &mut self.source, twins);
     }
 
     /// Leases from the child.
@@ -66,11 +65,7 @@ impl Walk {
 
     /// Frees what the child carved, and what it imported where that is whole again.
     fn free_of_child(&mut self, rt: &impl Abort, twins: Twins) {
-        match self.child.free(rt, twins) {
-            Ok(None) => {}
-            Ok(Some(span)) => self.free(rt, span),
-            Err(_twins) => panic!(rt; "the child carved it"),
-        }
+        free_lent(rt, &mut self.source, &mut self.child, twins);
     }
 
     /// The child imports up to 32 units, and leases up to 8 of them.
@@ -151,23 +146,51 @@ impl Walk {
     }
 
     /// Frees all, and ends both arenas.
-    pub(super) fn end(mut self, rt: &impl Abort) {
-        while let Some(twins) = self.lent.pop() {
-            self.free_of_child(rt, twins);
-        }
-        while let Some(twins) = self.leased.pop() {
-            self.free(rt, twins);
-        }
-        while self.source.remove(rt).is_some() {}
+    pub(super) fn end(self, rt: &impl Abort) {
         let Walk {
-            source,
-            child,
+            mut source,
+            mut child,
             leased,
             lent,
         } = self;
-        leased.destroy_empty();
-        lent.destroy_empty();
+        free_all_lent(rt, &mut source, &mut child, lent);
+        free_all_carved(rt, &mut source, leased);
+        for _ in 0..MOST_SPANS {
+            let _ = source.remove(rt);
+        }
         child.close(rt);
         source.close(rt);
     }
+}
+
+/// Frees what the source carved.
+fn free_carved(rt: &impl Abort, source: &mut Bodies, twins: Twins) {
+    match source.free(rt, twins) {
+        Ok(None) => {}
+        Ok(Some(_span)) => panic!(rt; "the source imports nothing"),
+        Err(_twins) => panic!(rt; "the source carved it"),
+    }
+}
+
+/// Frees what the child carved, and what it imported where that is whole again.
+fn free_lent(rt: &impl Abort, source: &mut Bodies, child: &mut Bodies, twins: Twins) {
+    match child.free(rt, twins) {
+        Ok(None) => {}
+        Ok(Some(span)) => free_carved(rt, source, span),
+        Err(_twins) => panic!(rt; "the child carved it"),
+    }
+}
+
+fn free_all_carved(rt: &impl Abort, source: &mut Bodies, mut held: Vec<Twins>) {
+    while let Some(twins) = held.pop() {
+        free_carved(rt, source, twins);
+    }
+    held.destroy_empty();
+}
+
+fn free_all_lent(rt: &impl Abort, source: &mut Bodies, child: &mut Bodies, mut held: Vec<Twins>) {
+    while let Some(twins) = held.pop() {
+        free_lent(rt, source, child, twins);
+    }
+    held.destroy_empty();
 }
