@@ -135,6 +135,24 @@ fn granted(rt: &impl Abort, arena: &mut Arena<PlainDeed>, size: u64) -> Segment<
     }
 }
 
+fn first_of(
+    rt: &impl Abort,
+    child: &mut Arena<PlainDeed>,
+    imported: Segment<PlainDeed>,
+    request: &Request,
+) -> Segment<PlainDeed> {
+    assert!(rt; imported.route() == Route::Direct);
+    let quantum = child.quantum();
+    assert!(rt; request.is_good(quantum));
+    assert!(rt; !request.is_constrained());
+    let len = request.units(quantum).expect(rt, "a length");
+    assert!(rt; len <= imported.range().len());
+    match import(child, imported, request) {
+        Ok(first) => first,
+        Err(_) => panic!(rt; "memory"),
+    }
+}
+
 fn freed(
     rt: &impl Abort,
     arena: &mut Arena<PlainDeed>,
@@ -162,11 +180,7 @@ fn a_span_goes_and_comes_back(rt: HostRuntime) {
         Err(_) => panic!(rt; "memory"),
     }
     let imported = granted(&rt, &mut source, 8);
-    assert!(rt; imported.route() == Route::Direct && imported.range().len() == 8);
-    let first = match import(&mut child, imported, &Request::plain(4)) {
-        Ok(first) => first,
-        Err(_) => panic!(rt; "memory"),
-    };
+    let first = first_of(&rt, &mut child, imported, &Request::plain(4));
     let back = match freed(&rt, &mut child, first) {
         Some(back) => back,
         None => panic!(rt; "the span is whole"),
