@@ -13,7 +13,7 @@ use Rattle.arena_tree.specs.declared.part_faults.ClimbFault.TheVariants as climb
 use Rattle.arena_tree.specs.declared.part_faults.ReturnFault.TheVariants as returning
 use Rattle.arena_tree.specs.Chains.{amount_of}
 use Rattle.arena_tree.specs.Plans.{Done, then, Within}
-use Rattle.arena_tree.specs.Climbs.{Returned, Climbed, return_plan, on_free, refused_memory, on_add, on_import, on_carve, climb_plan, climb_most}
+use Rattle.arena_tree.specs.Climbs.{Returned, Climbed, return_plan, on_free, memory_refusal, on_add, on_import, on_carve, climb_plan, climb_most}
 use Rattle.arena_tree.specs.Laws.{ClimbIsShort, ReturnIsShort}
 use Rattle.arena_tree.proofs.Paths.{within_then}
 
@@ -29,9 +29,9 @@ within_return most (l ∷ up) t n le = freed (λ w. within_return most up w (n +
     freed again (Err (freeing.Stopped x)) = let h = le (Err (returning.Stopped x)) in omega arith
 
 -- after so many locks and those of the hand back of t
-pub within_refused : (most : Climbed → ℕ) (chain : List Level) (t : Tag) (n : ℕ) → ((r : Returned) → n + length chain ≤ most (refused_memory r)) → Within most (then (return_plan chain t) (λ r. Done (refused_memory r))) n
+pub within_refused : (most : Climbed → ℕ) (chain : List Level) (t : Tag) (n : ℕ) → ((r : Returned) → n + length chain ≤ most (memory_refusal r)) → Within most (then (return_plan chain t) (λ r. Done (memory_refusal r))) n
 within_refused most chain t n le =
-    within_then (λ (r : Returned). n + length chain) most (return_plan chain t) (λ r. Done (refused_memory r)) n (within_return (λ (r : Returned). n + length chain) chain t n (λ r. omega arith))
+    within_then (λ (r : Returned). n + length chain) most (return_plan chain t) (λ r. Done (memory_refusal r)) n (within_return (λ (r : Returned). n + length chain) chain t n (λ r. omega arith))
     (λ r m low. let h = le r in omega arith)
 
 -- how a descent can end: not with NoFit
@@ -50,7 +50,7 @@ within_added most up (Err (adding.NotAligned t)) n ok err = let h = err (climbin
 within_added most up (Err (adding.Stopped t)) n ok err = let h = err (climbing.Stopped (Some t)) tt in omega arith
 within_added most up (Err (adding.NoMemory t)) n ok err = within_refused most up t n back
   where
-    back : (r : Returned) → n + length up ≤ most (refused_memory r)
+    back : (r : Returned) → n + length up ≤ most (memory_refusal r)
     back (Ok u) = err climbing.NoMemory tt
     back (Err (returning.Stuck x)) = err (climbing.Stuck x) tt
     back (Err (returning.Stopped x)) = err (climbing.Stopped (Some x)) tt

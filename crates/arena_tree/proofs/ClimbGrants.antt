@@ -15,7 +15,7 @@ use Rattle.arena_tree.specs.Chains.{Node, amount_of, IsGrant}
 use Rattle.arena_tree.specs.Plans.{Plan, Done, Ask, then, Gives}
 use Rattle.arena_tree.specs.Events.{Free, AddCarve}
 use Rattle.arena_tree.specs.Sound.{Sound, SoundCarve}
-use Rattle.arena_tree.specs.Climbs.{Returned, Climbed, return_plan, on_free, refused_memory, on_add, on_import, on_carve, climb_plan, IsGrantOf}
+use Rattle.arena_tree.specs.Climbs.{Returned, Climbed, return_plan, on_free, memory_refusal, on_add, on_import, on_carve, climb_plan, IsGrantOf}
 use Rattle.arena_tree.proofs.Paths.{gives_then}
 
 -- what a hand back ends with, whatever that is
@@ -29,10 +29,10 @@ gives_return nodes (l ∷ up) t = freed (gives_return nodes up)
     freed again (Err (freeing.BadFree x)) s = tt
     freed again (Err (freeing.Stopped x)) s = tt
 
-pub gives_refused : (nodes : List Node) (post : Tag → Type 0) (chain : List Level) (t : Tag) → Gives nodes (λ (r : Climbed). IfOk r post) (then (return_plan chain t) (λ r. Done (refused_memory r)))
-gives_refused nodes post chain t = gives_then nodes (λ (r : Returned). Unit {0}) (λ (r : Climbed). IfOk r post) (return_plan chain t) (λ r. Done (refused_memory r)) (gives_return nodes chain t) ended
+pub gives_refused : (nodes : List Node) (post : Tag → Type 0) (chain : List Level) (t : Tag) → Gives nodes (λ (r : Climbed). IfOk r post) (then (return_plan chain t) (λ r. Done (memory_refusal r)))
+gives_refused nodes post chain t = gives_then nodes (λ (r : Returned). Unit {0}) (λ (r : Climbed). IfOk r post) (return_plan chain t) (λ r. Done (memory_refusal r)) (gives_return nodes chain t) ended
   where
-    ended : (r : Returned) → Unit {0} → IfOk (refused_memory r) post
+    ended : (r : Returned) → Unit {0} → IfOk (memory_refusal r) post
     ended (Ok u) _ = tt
     ended (Err (returning.Stuck x)) _ = tt
     ended (Err (returning.Stopped x)) _ = tt

@@ -12,7 +12,7 @@ use Rattle.arena_tree.specs.declared.part_faults.ReturnFault.TheVariants as retu
 use Rattle.arena_tree.specs.Chains.{amount_of}
 use Rattle.arena_tree.specs.Plans.{Plan, Done, then, Handles}
 use Rattle.arena_tree.specs.Events.{hand_left, hand_may, freed_back, added_back}
-use Rattle.arena_tree.specs.Climbs.{Returned, Climbed, return_plan, on_free, refused_memory, on_add, on_import, on_carve, climb_plan, climb_left, return_left}
+use Rattle.arena_tree.specs.Climbs.{Returned, Climbed, return_plan, on_free, memory_refusal, on_add, on_import, on_carve, climb_plan, climb_left, return_left}
 use Rattle.arena_tree.proofs.Paths.{handles_then}
 
 -- a hand back leaves what it ends with
@@ -26,10 +26,10 @@ handles_return (l ∷ up) t = (refl, freed (handles_return up))
     freed again (Err (freeing.BadFree x)) = refl
     freed again (Err (freeing.Stopped x)) = refl
 
-pub handles_refused : (chain : List Level) (t : Tag) → Handles climb_left (then (return_plan chain t) (λ r. Done (refused_memory r))) (Some t)
-handles_refused chain t = handles_then return_left climb_left (return_plan chain t) (λ r. Done (refused_memory r)) (Some t) (handles_return chain t) ends
+pub handles_refused : (chain : List Level) (t : Tag) → Handles climb_left (then (return_plan chain t) (λ r. Done (memory_refusal r))) (Some t)
+handles_refused chain t = handles_then return_left climb_left (return_plan chain t) (λ r. Done (memory_refusal r)) (Some t) (handles_return chain t) ends
   where
-    ends : (r : Returned) → return_left r ≡ climb_left (refused_memory r)
+    ends : (r : Returned) → return_left r ≡ climb_left (memory_refusal r)
     ends (Ok u) = refl
     ends (Err (returning.Stuck x)) = refl
     ends (Err (returning.Stopped x)) = refl

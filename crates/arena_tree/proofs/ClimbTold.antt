@@ -1,7 +1,7 @@
 -- What climbs end with, by what was answered on their way.
 use Rattle.std.proofs.Common.{◌≡◌, ℕ, zero, suc, ◌<◌, List, [], ◌∷◌, ◌++◌, Option, Some, None, Result, Ok, Err, refl, sym, ap, subst, ◌∙◌, arith, inl, inr}
 use Rattle.std.proofs.lemmas.List.Elements.{All-cons, All-nil, All-head, All-tail, All-append, Contains-append_left, Contains-append_right}
-use Rattle.deed_core.specs.Request.{IsGood, plain_of, rounded}
+use Rattle.deed_core.specs.Request.{IsGood, plain_of, rounding_of}
 use Rattle.deed_core.specs.Tag.{Tag}
 use Rattle.deed_core.proofs.LawProofs.{rounded_some, plain_is_good}
 use Rattle.std.specs.Prelude.{max, Contains}
@@ -18,7 +18,7 @@ use Rattle.arena_tree.specs.Chains.{Node, IsChain, first_id, quantum_in, amount_
 use Rattle.arena_tree.specs.Plans.{Plan, Done, Ask, then, Step, Path, Ran, Gives}
 use Rattle.arena_tree.specs.Events.{Event, AnswerTo, Carve, Free, AddCarve}
 use Rattle.arena_tree.specs.Sound.{Sound, SoundCarve}
-use Rattle.arena_tree.specs.Climbs.{Returned, Climbed, return_plan, on_free, refused_memory, on_add, on_import, on_carve, climb_plan}
+use Rattle.arena_tree.specs.Climbs.{Returned, Climbed, return_plan, on_free, memory_refusal, on_add, on_import, on_carve, climb_plan}
 use Rattle.arena_tree.specs.Told.{Answered, Tells, told_by, no_fit, no_fits, NoneFits, IsNoFit, WasRefused, IsTakenBack, OnlyTakenBack, WasTakenIn, RanOut, WasStopped, ClimbTold, ReturnTold}
 use Rattle.arena_tree.specs.Laws.{ClimbTells, ReturnTells, NoFitIsTold}
 use Rattle.arena_tree.proofs.Amounts.{chain_above}
@@ -108,11 +108,11 @@ return_tells nodes (l ∷ up) t is first = freed (λ w at. return_tells nodes up
     freed again (Err (freeing.BadFree x)) s = refl
     freed again (Err (freeing.Stopped x)) s = refl
 
-told_refused : (nodes : List Node) (chain up : List Level) (n : ℕ) (t : Tag) (told : List Answered) → IsChain nodes up → first_id up ≡ Some t.arena → RanOut told → Tells nodes (ClimbTold nodes chain n) (then (return_plan up t) (λ r. Done (refused_memory r))) told
+told_refused : (nodes : List Node) (chain up : List Level) (n : ℕ) (t : Tag) (told : List Answered) → IsChain nodes up → first_id up ≡ Some t.arena → RanOut told → Tells nodes (ClimbTold nodes chain n) (then (return_plan up t) (λ r. Done (memory_refusal r))) told
 told_refused nodes chain up n t told is first ran =
-    tells_then nodes (TellsAfter ReturnTold told) (ClimbTold nodes chain n) (return_plan up t) (λ r. Done (refused_memory r)) told (tells_own nodes ReturnTold (return_plan up t) [] told (return_tells nodes up t is first)) ends
+    tells_then nodes (TellsAfter ReturnTold told) (ClimbTold nodes chain n) (return_plan up t) (λ r. Done (memory_refusal r)) told (tells_own nodes ReturnTold (return_plan up t) [] told (return_tells nodes up t is first)) ends
   where
-    ends : (r : Returned) (now : List Answered) → TellsAfter ReturnTold told now r → ClimbTold nodes chain n now (refused_memory r)
+    ends : (r : Returned) (now : List Answered) → TellsAfter ReturnTold told now r → ClimbTold nodes chain n now (memory_refusal r)
     ends (Ok u) now w = subst RanOut (sym w.1) (ran_out_before w.0 told (w.2).0 ran)
     ends (Err (returning.Stuck x)) now w = subst (WasRefused x) (sym w.1) (refused_more x w.0 told w.2)
     ends (Err (returning.Stopped x)) now w = subst WasStopped (sym w.1) (stopped_more w.0 told w.2)
@@ -130,9 +130,9 @@ told_added nodes l up n given told (Err (adding.NoMemory t)) is first s =
 -- some units are asked of the source for some units
 amount_some : (l k : Level) (up : List Level) (n : ℕ) → 0 < n → 0 < amount_of l (k ∷ up) n
 amount_some l k up n some =
-    let own : 0 < rounded l.quantum n = rounded_some l.quantum n some in
-    let most : 0 < max (rounded l.quantum n) l.import_min = omega (arith, own) in
-    let asked : 0 < rounded k.quantum (max (rounded l.quantum n) l.import_min) = rounded_some k.quantum (max (rounded l.quantum n) l.import_min) most in
+    let own : 0 < rounding_of l.quantum n = rounded_some l.quantum n some in
+    let most : 0 < max (rounding_of l.quantum n) l.import_min = omega (arith, own) in
+    let asked : 0 < rounding_of k.quantum (max (rounding_of l.quantum n) l.import_min) = rounded_some k.quantum (max (rounding_of l.quantum n) l.import_min) most in
     omega (arith, asked)
 
 bad_is_none : (quantum n : ℕ) → ¬ IsGood quantum (plain_of n) → n ≡ 0

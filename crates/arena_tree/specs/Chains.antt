@@ -2,7 +2,7 @@
 use Rattle.std.specs.Prelude.{◌≡◌, ℕ, ◌*◌, ◌-◌, ◌^◌, ◌<◌, zero, suc, max, min, List, [], ◌∷◌}
 use Rattle.std.specs.Prelude.{Option, Some, None, slice_get}
 use Rattle.deed_core.specs.Tag.{Tag}
-use Rattle.deed_core.specs.Request.{Fits, rounded, plain_of}
+use Rattle.deed_core.specs.Request.{Fits, rounding_of, plain_of}
 use Rattle.deed_core.specs.declared.requests.Request.{Request}
 use Rattle.deed_core.specs.declared.segments.Route.TheVariants.{Direct, Cached}
 use Rattle.arena_tree.specs.declared.levels.Level.{Level}
@@ -55,7 +55,7 @@ IsChain nodes (l ∷ up) = (slice_get nodes l.id ≡ Some (first_node l up)) × 
 abbrev pub amount_of : Level → List Level → ℕ → ℕ
 amount_of l [] n = 0
 amount_of l (source ∷ up) n =
-    min (rounded source.quantum (max (rounded l.quantum n) l.import_min)) (2 ^ 64 - 1)
+    min (rounding_of source.quantum (max (rounding_of l.quantum n) l.import_min)) (2 ^ 64 - 1)
 
 -- a Direct segment of the arena that fits the request
 pub record IsGrant (nodes : List Node) (arena : ℕ) (request : Request) (t : Tag) : Type 0 where

@@ -2,7 +2,7 @@
 use Rattle.std.specs.Prelude.{◌≡◌, ℕ, ◌-◌, ◌*◌, ◌<◌, ◌≤◌, length, List, [], ◌∷◌, Option, Some, None}
 use Rattle.std.specs.Prelude.{Result, Ok, Err}
 use Rattle.deed_core.specs.Tag.{Tag}
-use Rattle.deed_core.specs.Request.{plain_of, rounded}
+use Rattle.deed_core.specs.Request.{plain_of, rounding_of}
 use Rattle.deed_core.specs.declared.segments.Route.TheVariants.{Direct}
 use Rattle.arena_tree.specs.Chains.{Node, IsChain, IsGrant, first_id, source_of, quantum_in}
 use Rattle.arena_tree.specs.Chains.{amount_of}
@@ -39,19 +39,19 @@ return_plan [] t = Done (Err (returning.Stuck t))
 return_plan (l ∷ up) t = Ask (Free t) (on_free (return_plan up))
 
 -- what a climb ends with that handed a span back since it ran out of memory
-abbrev pub refused_memory : Returned → Climbed
-refused_memory (Ok u) = Err climbing.NoMemory
-refused_memory (Err (returning.Stuck t)) = Err (climbing.Stuck t)
-refused_memory (Err (returning.Stopped t)) = Err (climbing.Stopped (Some t))
+abbrev pub memory_refusal : Returned → Climbed
+memory_refusal (Ok u) = Err climbing.NoMemory
+memory_refusal (Err (returning.Stuck t)) = Err (climbing.Stuck t)
+memory_refusal (Err (returning.Stopped t)) = Err (climbing.Stopped (Some t))
 
-abbrev pub give_back : List Level → Tag → Plan Climbed
-give_back up t = then (return_plan up t) (λ r. Done (refused_memory r))
+abbrev pub give_back_plan : List Level → Tag → Plan Climbed
+give_back_plan up t = then (return_plan up t) (λ r. Done (memory_refusal r))
 
 -- the child is given the span, and carves n units of it; out of memory for that, the span is freed
 -- upwards
 abbrev pub on_add : List Level → Result Tag (AddCarveFault Tag) → Plan Climbed
 on_add up (Ok t) = Done (Ok t)
-on_add up (Err (adding.NoMemory t)) = give_back up t
+on_add up (Err (adding.NoMemory t)) = give_back_plan up t
 on_add up (Err (adding.Overlaps t)) = Done (Err (climbing.Stuck t))
 on_add up (Err (adding.NotAligned t)) = Done (Err (climbing.Stuck t))
 on_add up (Err (adding.Stopped t)) = Done (Err (climbing.Stopped (Some t)))
@@ -68,7 +68,7 @@ pub record CanDescend (nodes : List Node) (up : List Level) (child n : ℕ) (spa
   pub chain : IsChain nodes up
   pub first : first_id up ≡ Some span.arena
   pub some : 0 < n
-  pub room : rounded (quantum_in nodes child) n ≤ span.holding.range.len
+  pub room : rounding_of (quantum_in nodes child) n ≤ span.holding.range.len
   pub direct : span.route ≡ Direct
 
 abbrev pub on_import : List Level → ℕ → ℕ → Climbed → Plan Climbed

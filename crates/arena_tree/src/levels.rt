@@ -1,6 +1,6 @@
 //! The arenas of a chain.
 ghost use Rattle.std.specs.Prelude.{◌≡◌, ◌-◌, ◌<◌, ◌^◌, All, min};
-ghost use Rattle.deed_core.specs.Request.{rounded};
+ghost use Rattle.deed_core.specs.Request.{rounding_of};
 ghost use Rattle.arena_tree.specs.Chains.{amount_of};
 
 use deed_core::Request;
@@ -36,7 +36,7 @@ pub(crate) fn import_amount(level: &Level, up: &[Level], size: u64) -> u64
 /// The size in whole quanta, or the greatest number of 64 bits, for which no arena has room.
 fn rounded_up(size: u64, quantum: u64) -> u64
     requires { 0 < quantum }
-    ensures { result ≡ min (rounded quantum size) (2 ^ 64 - 1) }
+    ensures { result ≡ min (rounding_of quantum size) (2 ^ 64 - 1) }
 {
     Request::plain(size).units(quantum).unwrap_or(u64::MAX)
 }

@@ -1,6 +1,6 @@
 //! What one CPU can reach: the parts that all share, and its own magazines.
 ghost use Rattle.std.specs.Prelude.{◌≡◌, ℕ, ◌%◌, ◌<◌, ◌≤◌, List, Some, length};
-ghost use Rattle.deed_core.specs.Request.{rounded};
+ghost use Rattle.deed_core.specs.Request.{rounding_of};
 ghost use Rattle.arena_tree.specs.Chains.{Node, source_of, quantum_in};
 ghost use Rattle.arena_tree.specs.Events.{Event, AnswerTo, Carve, Free, AddCarve, SlabTake};
 ghost use Rattle.arena_tree.specs.Events.{SlabPut, SlabAdd, SlabReap, SwapFull, SwapEmpty};
@@ -54,7 +54,7 @@ pub trait Parts<S: Held> {
         requires child { child < length (tree self.old) }
         requires source { source_of (tree self.old) child ≡ Some (S.tag segment).arena }
         requires some { 0 < size }
-        requires room { rounded (quantum_in (tree self.old) child) size
+        requires room { rounding_of (quantum_in (tree self.old) child) size
             ≤ (S.tag segment).holding.range.len }
         requires direct { (S.tag segment).route ≡ Route.Direct }
         ensures { Step step tree count rounds self.old (AddCarve child (S.tag segment) size)

@@ -1,4 +1,7 @@
 //! Rows of calls of an arena with what they must give, and what is refused.
+ghost use Rattle.std.specs.Prelude.{◌<◌};
+ghost use Rattle.tag_arena.specs.Outcomes.{IsImportFor};
+
 mod growth;
 mod imports;
 mod policies;
@@ -24,14 +27,14 @@ fn add<D: Deed>(rt: &impl Abort, arena: &mut Arena<D>, deed: D) {
 
 /// Why a span is refused.
 #[derive(Clone, Copy, PartialEq, Eq, Debug)]
-enum SpanWhy {
+pub(crate) enum SpanWhy {
     Overlaps,
     NotAligned,
     NoMemory,
 }
 
 /// A span that was refused, and why.
-fn span_back<S>(fault: SpanFault<S>) -> (S, SpanWhy) {
+pub(crate) fn span_back<S>(fault: SpanFault<S>) -> (S, SpanWhy) {
     match fault {
         SpanFault::Overlaps(span) => (span, SpanWhy::Overlaps),
         SpanFault::NotAligned(span) => (span, SpanWhy::NotAligned),
@@ -151,18 +154,30 @@ fn give_all<D: Deed>(rt: &impl Abort, arena: &mut Arena<D>, mut held: Vec<Segmen
     held.destroy_empty();
 }
 
+/// Stops where an arena of this quantum may not be asked to import the span for the request.
+pub(crate) fn check_import<D: Deed>(
+    rt: &impl Abort,
+    quantum: u64,
+    span: &Segment<D>,
+    request: &Request,
+)
+    requires { 0 < quantum }
+    ensures { IsImportFor quantum span.now request.now }
+{
+    assert!(rt; span.route() == Route::Direct);
+    assert!(rt; request.is_good(quantum));
+    assert!(rt; !request.is_constrained());
+    let len = request.units(quantum).expect(rt, "a length");
+    assert!(rt; len <= span.range().len());
+}
+
 fn try_import<D: Deed>(
     rt: &impl Abort,
     arena: &mut Arena<D>,
     span: Segment<D>,
     request: &Request,
 ) -> Result<Segment<D>, SpanFault<Segment<D>>> {
-    assert!(rt; span.route() == Route::Direct);
-    let quantum = arena.quantum();
-    assert!(rt; request.is_good(quantum));
-    assert!(rt; !request.is_constrained());
-    let len = request.units(quantum).expect(rt, "a length");
-    assert!(rt; len <= span.range().len());
+    check_import(rt, arena.quantum(), &span, request);
     arena.add_span_and_carve(span, request)
 }
 

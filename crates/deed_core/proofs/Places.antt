@@ -1,4 +1,4 @@
--- What stands at a place of a list, and a list that one member is written into or put at the end of.
+-- What stands at an index of a list, and a list that one member is written into or put at the end of.
 use Rattle.std.proofs.Common.{◌≡◌, ◌≢◌, ◌⊎◌, ℕ, suc, zero, ◌+◌, ◌<◌, All, Contains, refl, sym, subst, ap, ◌∙◌, inl, inr, List, [], ◌∷◌, ◌++◌, map, length, get_or, set, Some, None, arith}
 use Rattle.std.specs.Prelude.{slice_get, sum_by}
 use Rattle.std.proofs.lemmas.Bool.{cases_eq}
@@ -63,7 +63,7 @@ module _ {X : Type 0} where
   pub contains_at : (xs : List X) (k : ℕ) (x : X) → slice_get xs k ≡ Some x → Contains xs x
   contains_at xs k x at = (k, slice_get_within xs k x at, get_or_from_slice_get xs k x x at)
 
--- what was read at a place where a member stands
+-- what was read at an index where a member stands
 pub read_is : {X : Type 0} (xs : List X) (i : ℕ) (r s : X) → r ≡ get_or xs i r → slice_get xs i ≡ Some s → r ≡ s
 read_is xs i r s read at = read ∙ get_or_from_slice_get xs i s r at
 

@@ -3,23 +3,23 @@ use Rattle.std.proofs.Common.{◌≡◌, ℕ, ◌+◌, ◌-◌, ◌*◌, ◌/◌
 use Rattle.std.proofs.Math.Nat.{mul-mod_left, mod_self, mod-eq_of_lt, mul-le-mul_right}
 use Rattle.std.proofs.lemmas.Bool.{cases_eq, cases_lt}
 use Rattle.std.proofs.lemmas.Nat.{div-add-mod', mod_below, pow-add, pow_below, pow_pos}
-use Rattle.deed_core.specs.Request.{rounded}
+use Rattle.deed_core.specs.Request.{rounding_of}
 use Rattle.deed_core.specs.declared.requests.Request.{Request}
 use Rattle.deed_core.specs.SizeLaws.{RoundsUp, RoundsToTheLeast, RoundsOnce, FitsRounded, PowerIsSome, SmallerPowerDivides, PlainIsOfItsSize, PlainIsGood, FitsPlain}
 
 -- a rounded size is a number of quanta
-pub rounded_multiple : (quantum size : ℕ) → 0 < quantum → rounded quantum size % quantum ≡ 0
+pub rounded_multiple : (quantum size : ℕ) → 0 < quantum → rounding_of quantum size % quantum ≡ 0
 rounded_multiple quantum size some =
     let rest : size % quantum < quantum = mod_below size quantum some in
     elim (cases_eq (size % quantum) 0) [
       | inl e ↦
           let whole : quantum - size % quantum ≡ quantum = omega arith in
           let more : (quantum - size % quantum) % quantum ≡ 0 = ap (λ k. k % quantum) whole ∙ mod_self quantum in
-          let same : rounded quantum size ≡ size = omega arith in
+          let same : rounding_of quantum size ≡ size = omega arith in
           ap (λ k. k % quantum) same ∙ e
       | inr ne ↦
           let more : (quantum - size % quantum) % quantum ≡ quantum - size % quantum = mod-eq_of_lt (omega arith) in
-          let whole : (size / quantum + 1) * quantum ≡ rounded quantum size = omega (arith, div-add-mod' size quantum) in
+          let whole : (size / quantum + 1) * quantum ≡ rounding_of quantum size = omega (arith, div-add-mod' size quantum) in
           subst (λ k. k % quantum ≡ 0) whole (mul-mod_left (size / quantum + 1) quantum)
     ]
 
@@ -28,7 +28,7 @@ rounds_up quantum size some =
     let more : (quantum - size % quantum) % quantum < quantum = mod_below (quantum - size % quantum) quantum some in
     (rounded_multiple quantum size some, omega arith, omega (arith, more))
 
-pub rounded_some : (quantum size : ℕ) → 0 < size → 0 < rounded quantum size
+pub rounded_some : (quantum size : ℕ) → 0 < size → 0 < rounding_of quantum size
 rounded_some quantum size some = omega arith
 
 -- a multiple is a number of times the quantum
@@ -39,14 +39,14 @@ pub rounds_to_the_least : RoundsToTheLeast
 rounds_to_the_least quantum size n some whole le =
     let up = rounds_up quantum size some in
     let is : n ≡ n / quantum * quantum = times quantum n whole in
-    let so : rounded quantum size ≡ rounded quantum size / quantum * quantum = times quantum (rounded quantum size) up.0 in
-    elim (cases_lt (n / quantum) (rounded quantum size / quantum)) [
+    let so : rounding_of quantum size ≡ rounding_of quantum size / quantum * quantum = times quantum (rounding_of quantum size) up.0 in
+    elim (cases_lt (n / quantum) (rounding_of quantum size / quantum)) [
       | inl less ↦
           let one_more : n / quantum * quantum + quantum ≡ (n / quantum + 1) * quantum = grind arith in
-          let more : (n / quantum + 1) * quantum ≤ rounded quantum size / quantum * quantum = mul-le-mul_right quantum (omega (arith, less)) in
+          let more : (n / quantum + 1) * quantum ≤ rounding_of quantum size / quantum * quantum = mul-le-mul_right quantum (omega (arith, less)) in
           absurd (omega (arith, one_more, more, is, so, up.2, le))
       | inr most ↦
-          let more : rounded quantum size / quantum * quantum ≤ n / quantum * quantum = mul-le-mul_right quantum most in
+          let more : rounding_of quantum size / quantum * quantum ≤ n / quantum * quantum = mul-le-mul_right quantum most in
           omega (arith, more, is, so)
     ]
 
@@ -55,8 +55,8 @@ rounds_once quantum n some whole =
     let rest : (quantum - n % quantum) % quantum ≡ 0 = (let all : quantum - n % quantum ≡ quantum = omega arith in ap (λ k. k % quantum) all ∙ mod_self quantum) in
     omega (arith, rest)
 
-pub rounded_again : (quantum size : ℕ) → 0 < quantum → rounded quantum (rounded quantum size) ≡ rounded quantum size
-rounded_again quantum size some = rounds_once quantum (rounded quantum size) some (rounded_multiple quantum size some)
+pub rounded_again : (quantum size : ℕ) → 0 < quantum → rounding_of quantum (rounding_of quantum size) ≡ rounding_of quantum size
+rounded_again quantum size some = rounds_once quantum (rounding_of quantum size) some (rounded_multiple quantum size some)
 
 pub fits_rounded : FitsRounded
 fits_rounded quantum q base len some =

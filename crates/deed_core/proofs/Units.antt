@@ -1,7 +1,7 @@
 -- Which ranges cover a unit.
 use Rattle.std.proofs.Common.{◌≡◌, ◌⊎◌, ℕ, ◌+◌, ◌<◌, ◌≤◌, max, Bool, true, false, ltb, leb, refl, inl, inr, arith}
 use Rattle.std.proofs.lemmas.Bool.Decides.{nat_tests}
-use Rattle.deed_core.specs.Extent.{Extent, end_of, Overlap, below, from, union}
+use Rattle.deed_core.specs.Extent.{Extent, end_of, Overlap, part_below, part_from, union}
 use Rattle.deed_core.specs.Covering.{covers}
 use Rattle.deed_core.specs.Laws.{CountsTheUnit, OverlapCoversTwice, CutKeepsUnits, SplitKeepsUnits, JoinKeepsUnits}
 
@@ -21,7 +21,7 @@ pub covers_cut : CutKeepsUnits
 covers_cut unit a b e first meet last = grind (arith, covers_is unit a, covers_is unit b, covers_is unit e)
 
 pub split_keeps_units : SplitKeepsUnits
-split_keeps_units unit at h inside = covers_cut unit (below at h.range) (from at h.range) h.range refl (omega (arith, inside)) (omega (arith, inside))
+split_keeps_units unit at h inside = covers_cut unit (part_below at h.range) (part_from at h.range) h.range refl (omega (arith, inside)) (omega (arith, inside))
 
 pub join_keeps_units : JoinKeepsUnits
 join_keeps_units unit a b goes = covers_cut unit a.range b.range (union a.range b.range) refl goes.meets (omega (arith, goes.meets))

@@ -2,7 +2,7 @@
 use Rattle.std.specs.Prelude.{◌≡◌, ℕ, ◌+◌, ◌↔◌, Bool, true, false, not, List, All, sum_by}
 use Rattle.deed_core.specs.Tag.{Tag}
 use Rattle.deed_core.specs.Selections.{is_of_arena, came_direct, came_cached, is_of_cache}
-use Rattle.deed_core.specs.Weights.{only, of_direct, of_cached}
+use Rattle.deed_core.specs.Weights.{weight_where, of_direct, of_cached}
 use Rattle.deed_core.specs.declared.segments.Route.TheVariants.{Direct, Cached}
 
 -- which segments the tests are true of
@@ -16,7 +16,8 @@ TestsSay = (t : Tag) →
 -- those that pass a test and those that fail it weigh what all do
 abbrev pub PartsWeighAll : Type 0
 PartsWeighAll = (test : Tag → Bool) (f : Tag → ℕ) (segments : List Tag) →
-    sum_by f segments ≡ sum_by (only test f) segments + sum_by (only (λ t. not (test t)) f) segments
+    sum_by f segments ≡ sum_by (weight_where test f) segments
+    + sum_by (weight_where (λ t. not (test t)) f) segments
 
 -- those that were carved and those from caches weigh what all do
 abbrev pub RoutesWeighAll : Type 0
@@ -26,9 +27,9 @@ RoutesWeighAll = (f : Tag → ℕ) (segments : List Tag) →
 -- where all pass the test, the part weighs what all do
 abbrev pub AllWeigh : Type 0
 AllWeigh = (test : Tag → Bool) (f : Tag → ℕ) (segments : List Tag) →
-    All (λ t. test t ≡ true) segments → sum_by (only test f) segments ≡ sum_by f segments
+    All (λ t. test t ≡ true) segments → sum_by (weight_where test f) segments ≡ sum_by f segments
 
 -- and where none does, nothing
 abbrev pub NoneWeigh : Type 0
 NoneWeigh = (test : Tag → Bool) (f : Tag → ℕ) (segments : List Tag) →
-    All (λ t. test t ≡ false) segments → sum_by (only test f) segments ≡ 0
+    All (λ t. test t ≡ false) segments → sum_by (weight_where test f) segments ≡ 0

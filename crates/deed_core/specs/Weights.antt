@@ -20,24 +20,24 @@ abbrev pub Loses : {X : Type 0} → List X → List X → X → Type 0
 Loses {X} old new x = (f : X → ℕ) → sum_by f old ≡ sum_by f new + f x
 
 -- a weight, restricted to the members that pass a test
-abbrev pub only : {X : Type 0} → (X → Bool) → (X → ℕ) → X → ℕ
-only test f x = if test x then f x else 0
+abbrev pub weight_where : {X : Type 0} → (X → Bool) → (X → ℕ) → X → ℕ
+weight_where test f x = if test x then f x else 0
 
 -- the weight of the segments of this arena alone
 abbrev pub of_arena : ℕ → (Tag → ℕ) → Tag → ℕ
-of_arena arena f = only (is_of_arena arena) f
+of_arena arena f = weight_where (is_of_arena arena) f
 
 -- of those that were carved from their arenas
 abbrev pub of_direct : (Tag → ℕ) → Tag → ℕ
-of_direct f = only came_direct f
+of_direct f = weight_where came_direct f
 
 -- of those that came from quantum caches
 abbrev pub of_cached : (Tag → ℕ) → Tag → ℕ
-of_cached f = only came_cached f
+of_cached f = weight_where came_cached f
 
 -- of those that came from this arena's quantum cache with this number
 abbrev pub of_cache : ℕ → ℕ → (Tag → ℕ) → Tag → ℕ
-of_cache arena k f = only (is_of_cache arena k) f
+of_cache arena k f = weight_where (is_of_cache arena k) f
 
 -- 1 at this segment and 0 at any other: the weight that counts how often it is in a list
 abbrev pub one_at : Tag → Tag → ℕ

@@ -2,7 +2,7 @@
 //! and three deeds end to end are one, whichever two are joined first.
 ghost use Rattle.std.specs.Prelude.{◌≡◌, ◌⊎◌, IfOk, IfErr};
 ghost use Rattle.deed_core.specs.Extent.{IsInside};
-ghost use Rattle.deed_core.specs.Holding.{GoesOn, joined, low, high};
+ghost use Rattle.deed_core.specs.Holding.{GoesOn, join_of, low_side, high_side};
 
 use crate::deeds::{Deed, Refused};
 
@@ -13,9 +13,9 @@ pub fn move_border<D: Deed>(first: D, second: D, at: u64) -> Result<(D, D), (D, 
     requires meet { GoesOn (D.holding first) (D.holding second) }
     requires inside { IsInside at (D.holding first).range ⊎ IsInside at (D.holding second).range }
     ensures low { IfOk result
-        (λ parts. D.holding parts.0 ≡ low at (joined (D.holding first) (D.holding second))) }
+        (λ parts. D.holding parts.0 ≡ low_side at (join_of (D.holding first) (D.holding second))) }
     ensures high { IfOk result
-        (λ parts. D.holding parts.1 ≡ high at (joined (D.holding first) (D.holding second))) }
+        (λ parts. D.holding parts.1 ≡ high_side at (join_of (D.holding first) (D.holding second))) }
     ensures handed_back { IfErr result (λ both.
         (D.holding both.0 ≡ D.holding first) × (D.holding both.1 ≡ D.holding second)) }
 {
@@ -37,7 +37,7 @@ pub fn join_three<D: Deed>(first: D, second: D, third: D) -> D
     requires near { GoesOn (D.holding first) (D.holding second) }
     requires far { GoesOn (D.holding second) (D.holding third) }
     ensures { D.holding result
-        ≡ joined (joined (D.holding first) (D.holding second)) (D.holding third) }
+        ≡ join_of (join_of (D.holding first) (D.holding second)) (D.holding third) }
 {
     first.join(second.join(third))
 }

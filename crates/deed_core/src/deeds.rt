@@ -1,7 +1,7 @@
 //! Deeds: tokens that stand for ranges.
 ghost use Rattle.std.specs.Prelude.{◌≡◌, ◌+◌, ◌^◌, ◌<◌, ◌≤◌, IfOk, IfErr};
 ghost use Rattle.deed_core.specs.Extent.{IsRange, IsInside};
-ghost use Rattle.deed_core.specs.Holding.{Holding, low, high, joined, GoesOn};
+ghost use Rattle.deed_core.specs.Holding.{Holding, low_side, high_side, join_of, GoesOn};
 
 use crate::ranges::Range;
 
@@ -31,12 +31,12 @@ pub trait Deed {
     fn split(self, at: u64) -> Result<(Self, Self), Refused<Self>>
         requires { IsInside at (holding self).range }
         ensures ok { IfOk result (λ parts.
-            (holding parts.0 ≡ low at (holding self))
-            × (holding parts.1 ≡ high at (holding self))) }
+            (holding parts.0 ≡ low_side at (holding self))
+            × (holding parts.1 ≡ high_side at (holding self))) }
         ensures handed_back { IfErr result (λ refused. holding refused.deed ≡ holding self) };
 
     /// One deed for what this one and the next cover. It takes no memory.
     fn join(self, next: Self) -> Self
         requires { GoesOn (holding self) (holding next) }
-        ensures { holding result ≡ joined (holding self) (holding next) };
+        ensures { holding result ≡ join_of (holding self) (holding next) };
 }

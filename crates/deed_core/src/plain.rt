@@ -1,7 +1,7 @@
 //! Deeds that are numbers alone, for one thread.
 ghost use Rattle.std.specs.Prelude.{◌≡◌, IsOk, IfOk, IfErr};
 ghost use Rattle.deed_core.specs.Extent.{IsRange, IsInside};
-ghost use Rattle.deed_core.specs.Holding.{Holding, low, high};
+ghost use Rattle.deed_core.specs.Holding.{Holding, low_side, high_side};
 
 use crate::deeds::{Deed, Refused};
 use crate::ranges::Range;
@@ -55,7 +55,8 @@ impl Deed for PlainDeed {
     /// A plain deed takes no memory, so its split is never refused.
     fn split(self, at: u64) -> Result<(PlainDeed, PlainDeed), Refused<PlainDeed>>
         requires { IsInside at self.range }
-        ensures ok { IfOk result (λ parts. (parts.0 ≡ low at self) × (parts.1 ≡ high at self)) }
+        ensures ok { IfOk result (λ parts.
+            (parts.0 ≡ low_side at self) × (parts.1 ≡ high_side at self)) }
         ensures handed_back { IfErr result (λ refused. refused.deed ≡ self) }
         ensures succeeds { IsOk result }
     {

@@ -1,7 +1,7 @@
 //! Deeds that lie in vectors.
 ghost use Rattle.std.specs.Prelude.{◌≡◌, IfOk, IfErr};
 ghost use Rattle.deed_core.specs.Extent.{IsRange, IsInside};
-ghost use Rattle.deed_core.specs.Holding.{low, high, joined, GoesOn};
+ghost use Rattle.deed_core.specs.Holding.{low_side, high_side, join_of, GoesOn};
 
 use crate::deeds::{Deed, Refused};
 use crate::ranges::Range;
@@ -55,7 +55,8 @@ impl<D: Deed> Stored<D> {
     /// The deeds of the units below `at` and from `at` on. Out of memory, the deed as it was.
     pub fn split(self, at: u64) -> Result<(Stored<D>, Stored<D>), Stored<D>>
         requires { IsInside at self.range }
-        ensures ok { IfOk result (λ parts. (parts.0 ≡ low at self) × (parts.1 ≡ high at self)) }
+        ensures ok { IfOk result (λ parts.
+            (parts.0 ≡ low_side at self) × (parts.1 ≡ high_side at self)) }
         ensures handed_back { IfErr result (λ same. same ≡ self) }
     {
         match self.into_deed().split(at) {
@@ -70,7 +71,7 @@ impl<D: Deed> Stored<D> {
     /// One deed for what this one and the next stand for.
     pub fn join(self, next: Stored<D>) -> Stored<D>
         requires { GoesOn self next }
-        ensures { result ≡ joined self next }
+        ensures { result ≡ join_of self next }
     {
         Stored::new(self.into_deed().join(next.into_deed()))
     }

@@ -2,7 +2,7 @@
 ghost use Rattle.std.specs.Prelude.{◌≡◌, ◌+◌, ◌<◌, ◌≤◌, vec_len, vec_capacity};
 ghost use Rattle.std.specs.List.{insert};
 
-/// Puts a value at a place of a vector that has room for it. It takes no memory, so it can't be
+/// Puts a value at an index of a vector that has room for it. It takes no memory, so it can't be
 /// refused.
 pub fn insert_reserved<T>(items: &mut Vec<T>, index: usize, value: T)
     requires index { index ≤ vec_len items.old }

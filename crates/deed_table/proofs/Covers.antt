@@ -3,11 +3,11 @@ use Rattle.std.proofs.Common.{◌≡◌, ◌≢◌, ◌⊎◌, ⊎_elim, ℕ, �
 use Rattle.std.specs.Prelude.{if◌then◌else◌}
 use Rattle.std.proofs.lemmas.Bool.Decides.{eqb_tells}
 use Rattle.std.proofs.lemmas.List.Sums.{sum_by-cons, sum_by-append}
-use Rattle.deed_core.specs.Extent.{Extent, IsRange, Overlap, end_of, below, from, union}
+use Rattle.deed_core.specs.Extent.{Extent, IsRange, Overlap, end_of, part_below, part_from, union}
 use Rattle.deed_core.specs.Covering.{covers}
 use Rattle.deed_core.proofs.LawProofs.{covers_is, covers_cut, overlap_covers_twice, sum_by-smaller}
 use Rattle.deed_table.specs.declared.views.Piece.{Piece}
-use Rattle.deed_table.specs.Piece.{piece_at, extent_of, covers_of, covering_of, is_of, count_of, low_pieces, high_pieces, merged_pieces, CutsFirst, Touch, CoverOnce}
+use Rattle.deed_table.specs.Piece.{piece_at, extent_of, covers_of, covering_of, one_if_of, count_of, low_pieces, high_pieces, merged_pieces, CutsFirst, Touch, CoverOnce}
 
 -- 1 where it is true
 abbrev pub one_if : Bool → ℕ
@@ -32,8 +32,8 @@ covering_cut root unit at [] inside = refl
 covering_cut root unit at (p ∷ ps) inside =
     let f = covers_of root unit in
     let e = extent_of p in
-    let c = pieces_cut root unit p.root (below at e) (from at e) e refl (omega arith) (omega arith) in
-    omega (arith, c, sum_by-cons f p ps, sum_by-cons f (piece_at p.root (from at e)) ps)
+    let c = pieces_cut root unit p.root (part_below at e) (part_from at e) e refl (omega arith) (omega arith) in
+    omega (arith, c, sum_by-cons f p ps, sum_by-cons f (piece_at p.root (part_from at e)) ps)
 
 -- what is made one covers the same
 pub covering_merged : (root unit : ℕ) (ps qs : List Piece) → Touch ps qs → covering_of root unit (merged_pieces ps qs) ≡ covering_of root unit ps + covering_of root unit qs
@@ -48,7 +48,7 @@ covering_merged root unit (p ∷ ps) (q ∷ qs) touch =
 
 -- a unit is covered by no more pieces than there are of the root
 pub covering_le : (root unit : ℕ) (ps : List Piece) → covering_of root unit ps ≤ count_of root ps
-covering_le root unit ps = sum_by-smaller (covers_of root unit) (is_of root) ps (λ p. by (root == p.root) p)
+covering_le root unit ps = sum_by-smaller (covers_of root unit) (one_if_of root) ps (λ p. by (root == p.root) p)
   where
     by : (x : Bool) (p : Piece) → (if x then covers unit (extent_of p) else 0) ≤ one_if x
     by true p = grind (arith, covers_is unit (extent_of p))

@@ -7,7 +7,7 @@ use Rattle.deed_core.proofs.LawProofs.{sum_by-smaller, sum_add}
 use Rattle.deed_table.specs.declared.views.View.{View}
 use Rattle.deed_table.specs.Piece.{piece_at, covering_of, count_of, CoverOnce}
 use Rattle.deed_table.specs.View.{spent_view}
-use Rattle.deed_table.specs.Rule.{is_left, CoversOnceEach, EachUnitOnce, OneSeatEach, LeftHasNoRange}
+use Rattle.deed_table.specs.Rule.{one_if_left, CoversOnceEach, EachUnitOnce, OneSeatEach, LeftHasNoRange}
 use Rattle.deed_table.specs.Seated.{NoTwoOverlap}
 use Rattle.deed_table.proofs.Sums.{sum_by-set_at, le-sum_by}
 use Rattle.deed_table.proofs.Covers.{covering_le, apart_once}
@@ -52,7 +52,7 @@ deeds_apart views k i j first second at too apart a b some_a some_b one two same
 
 pub left_unopened : LeftHasNoRange
 left_unopened views k root is_left_over =
-    let s = sum_add (λ (v : View). count_of root v.roots) (is_left root) views in
+    let s = sum_add (λ (v : View). count_of root v.roots) (one_if_left root) views in
     let a = k.one_place root in (
       omega arith,
       (λ unit.

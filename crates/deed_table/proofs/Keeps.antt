@@ -8,9 +8,9 @@ use Rattle.deed_core.proofs.LawProofs.{covers_cut, sum_by-smaller}
 use Rattle.deed_core.specs.Extent.{Extent}
 use Rattle.deed_table.specs.declared.views.Piece.{Piece}
 use Rattle.deed_table.specs.declared.views.View.{View}
-use Rattle.deed_table.specs.Piece.{covers_of, covering_of, is_of, count_of, first_piece, other_pieces, CutsFirst, CoverOnce}
-use Rattle.deed_table.specs.View.{numbers_of, spent_view, low_part, high_part, merged_view, beside, first_part, other_part, numbers_below, numbers_after, opened_at, AreJoinable, NoneLeft}
-use Rattle.deed_table.specs.Rule.{is_left, CoversOnceEach}
+use Rattle.deed_table.specs.Piece.{covers_of, covering_of, one_if_of, count_of, first_piece, other_pieces, CutsFirst, CoverOnce}
+use Rattle.deed_table.specs.View.{numbers_of, spent_view, low_part, high_part, merged_view, view_of_both, first_part, other_part, numbers_below, numbers_after, opened_view, AreJoinable, NoneLeft}
+use Rattle.deed_table.specs.Rule.{one_if_left, CoversOnceEach}
 use Rattle.deed_table.proofs.Sums.{sum_by-set_at, sum_by-split, sum_by-join, le-sum_by}
 use Rattle.deed_table.proofs.Covers.{one_if, none_covered, one_covered, covering_cut, covering_merged, covering_le}
 
@@ -22,7 +22,7 @@ abbrev pub rooted : ℕ → ℕ → View → ℕ
 rooted root unit v = covering_of root unit v.roots
 
 abbrev pub stood : ℕ → View → ℕ
-stood root v = count_of root v.roots + is_left root v
+stood root v = count_of root v.roots + one_if_left root v
 
 -- what two views have together is what two others have
 pub record Even (a b c d : View) : Type 0 where
@@ -71,20 +71,20 @@ even_merged v w can =
       ranges = λ root unit. let c = covering_merged root unit v.ranges w.ranges can.0 in omega arith;
       roots = λ root unit. let c = sum_by-append (covers_of root unit) v.roots w.roots in omega arith;
       numbers = λ root.
-          let a = sum_by-append (is_of root) v.roots w.roots in
+          let a = sum_by-append (one_if_of root) v.roots w.roots in
           let z = none_covered root (numbers_of spent_view) refl in
           let x = none_covered root (numbers_of v) can.1 in
           let y = none_covered root (numbers_of w) can.2 in
           omega arith;
     }
 
-pub even_beside : (v w : View) → NoneLeft v w → Even (beside v w) spent_view v w
+pub even_beside : (v w : View) → NoneLeft v w → Even (view_of_both v w) spent_view v w
 even_beside v w none =
     record {
       ranges = λ root unit. let c = sum_by-append (covers_of root unit) v.ranges w.ranges in omega arith;
       roots = λ root unit. let c = sum_by-append (covers_of root unit) v.roots w.roots in omega arith;
       numbers = λ root.
-          let a = sum_by-append (is_of root) v.roots w.roots in
+          let a = sum_by-append (one_if_of root) v.roots w.roots in
           let z = none_covered root (numbers_of spent_view) refl in
           let x = none_covered root (numbers_of v) none.0 in
           let y = none_covered root (numbers_of w) none.1 in
@@ -132,9 +132,9 @@ pub keeps_look : (views : List View) (i : ℕ) (v : View) → CoversOnceEach vie
 keeps_look views i v k at = subst CoversOnceEach (sym (set_again views i v at)) k
 
 -- the one number that is left becomes a root
-pub keeps_open : (views : List View) (i : ℕ) (v : View) (e : Extent) → CoversOnceEach views → get_elem? views i ≡ some v → v.ranges ≡ [] → v.roots ≡ [] → v.left ≡ 1 → CoversOnceEach (set views i (opened_at e v))
+pub keeps_open : (views : List View) (i : ℕ) (v : View) (e : Extent) → CoversOnceEach views → get_elem? views i ≡ some v → v.ranges ≡ [] → v.roots ≡ [] → v.left ≡ 1 → CoversOnceEach (set views i (opened_view e v))
 keeps_open views i v e k at no_ranges no_roots one =
-    let w = opened_at e v in
+    let w = opened_view e v in
     record {
       each = λ root unit.
           let a = sum_by-set_at (ranged root unit) views i v w at in
@@ -148,6 +148,6 @@ keeps_open views i v e k at no_ranges no_roots one =
           let b = k.one_place root in
           let x : count_of root v.roots ≡ 0 = ap (count_of root) no_roots in
           let y = none_covered root (numbers_of spent_view) refl in
-          let z : is_left root v ≡ one_if (root == v.first) = one_covered root (numbers_of v) one in
+          let z : one_if_left root v ≡ one_if (root == v.first) = one_covered root (numbers_of v) one in
           omega arith;
     }

@@ -4,7 +4,7 @@ use Rattle.atomic_table.proofs.Lists.{set_else}
 use Rattle.deed_core.proofs.LawProofs.{covers_is}
 use Rattle.deed_table.specs.declared.views.View.{View}
 use Rattle.deed_table.specs.Piece.{covering_of}
-use Rattle.deed_table.specs.View.{opener, numbers_of, spent_view, opened_at}
+use Rattle.deed_table.specs.View.{opener, numbers_of, spent_view, opened_view}
 use Rattle.deed_table.specs.Rule.{CoversOnceEach, open_count}
 use Rattle.deed_table.specs.Kinds.{SplitsInto, JoinsInto, Steps, cuts, parts, shares, merges, gathers, opens, looks, AreSteps, last_view, RunsKeepRule, OpenedStaysCovered}
 use Rattle.deed_table.proofs.Sums.{sum_by-set_at, sum_by-split, sum_by-join}
@@ -47,8 +47,8 @@ step_lasts old new (opens i range v at is no_ranges no_roots one) =
     record {
       rule = λ k. subst CoversOnceEach (sym is) (keeps_open old i v range k at no_ranges no_roots one);
       roots = λ root unit.
-          let a = sum_by-set_at (rooted root unit) old i v (opened_at range v) at in
-          let b : open_count root unit new ≡ open_count root unit (set old i (opened_at range v)) = ap (open_count root unit) is in
+          let a = sum_by-set_at (rooted root unit) old i v (opened_view range v) at in
+          let b : open_count root unit new ≡ open_count root unit (set old i (opened_view range v)) = ap (open_count root unit) is in
           let c : rooted root unit v ≡ 0 = ap (covering_of root unit) no_roots in
           omega arith;
     }

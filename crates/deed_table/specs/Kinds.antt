@@ -6,9 +6,11 @@ use Rattle.std.specs.Prelude.{◌≡◌, ◌≢◌, ℕ, ◌^◌, ◌<◌, ◌�
 use Rattle.deed_core.specs.Extent.{Extent}
 use Rattle.deed_table.specs.declared.views.View.{View}
 use Rattle.deed_table.specs.Piece.{CutsFirst}
-use Rattle.deed_table.specs.View.{opener, spent_view, low_part, high_part, merged_view, beside}
+use Rattle.deed_table.specs.View.{opener, spent_view, low_part, high_part, merged_view}
+use Rattle.deed_table.specs.View.{view_of_both}
 use Rattle.deed_table.specs.View.{first_part}
-use Rattle.deed_table.specs.View.{other_part, numbers_below, numbers_after, opened_at, AreJoinable}
+use Rattle.deed_table.specs.View.{other_part, numbers_below, numbers_after, opened_view}
+use Rattle.deed_table.specs.View.{AreJoinable}
 use Rattle.deed_table.specs.View.{NoneLeft}
 use Rattle.deed_table.specs.Rule.{CoversOnceEach, open_count, cover_count}
 
@@ -36,11 +38,11 @@ pub data Steps (old new : List View) : Type 0 where
   merges : (i j : ℕ) (v w : View) → JoinsInto old new i j v w (merged_view v w) →
       AreJoinable v w → Steps old new
   -- two deeds are put beside each other
-  gathers : (i j : ℕ) (v w : View) → JoinsInto old new i j v w (beside v w) →
+  gathers : (i j : ℕ) (v w : View) → JoinsInto old new i j v w (view_of_both v w) →
       NoneLeft v w → Steps old new
   -- the one number that is left to a seat becomes a root
   opens : (i : ℕ) (range : Extent) (v : View) → get_elem? old i ≡ some v →
-      new ≡ set old i (opened_at range v) →
+      new ≡ set old i (opened_view range v) →
       v.ranges ≡ [] → v.roots ≡ [] → v.left ≡ 1 → Steps old new
   -- nothing changes
   looks : new ≡ old → Steps old new

@@ -1,6 +1,6 @@
 -- Ranges of roots, as a view has them, and how many of them cover a unit.
 use Rattle.std.specs.Prelude.{ℕ, ◌≤◌, ◌==◌, if◌then◌else◌, List, [], ◌∷◌, ◌++◌, sum_by}
-use Rattle.deed_core.specs.Extent.{Extent, IsInside, below, from, union}
+use Rattle.deed_core.specs.Extent.{Extent, IsInside, part_below, part_from, union}
 use Rattle.deed_core.specs.Holding.{Holding, GoesOn}
 use Rattle.deed_core.specs.Covering.{covers}
 use Rattle.deed_table.specs.declared.views.Piece.{Piece}
@@ -28,12 +28,12 @@ abbrev pub covering_of : ℕ → ℕ → List Piece → ℕ
 covering_of root unit pieces = sum_by (covers_of root unit) pieces
 
 -- 1 where the piece is of the root, else 0
-abbrev pub is_of : ℕ → Piece → ℕ
-is_of root p = if root == p.root then 1 else 0
+abbrev pub one_if_of : ℕ → Piece → ℕ
+one_if_of root p = if root == p.root then 1 else 0
 
 -- how many of the pieces are of the root
 abbrev pub count_of : ℕ → List Piece → ℕ
-count_of root pieces = sum_by (is_of root) pieces
+count_of root pieces = sum_by (one_if_of root) pieces
 
 -- no unit of any root is covered twice
 abbrev pub CoverOnce : List Piece → Type 0
@@ -47,12 +47,12 @@ CutsFirst at (p ∷ ps) = IsInside at (extent_of p)
 -- the first piece below the number
 abbrev pub low_pieces : ℕ → List Piece → List Piece
 low_pieces at [] = []
-low_pieces at (p ∷ ps) = piece_at p.root (below at (extent_of p)) ∷ []
+low_pieces at (p ∷ ps) = piece_at p.root (part_below at (extent_of p)) ∷ []
 
 -- the first piece from the number on, and the other pieces
 abbrev pub high_pieces : ℕ → List Piece → List Piece
 high_pieces at [] = []
-high_pieces at (p ∷ ps) = piece_at p.root (from at (extent_of p)) ∷ ps
+high_pieces at (p ∷ ps) = piece_at p.root (part_from at (extent_of p)) ∷ ps
 
 -- the first pieces are of one root, and the second of them goes on where the first ends
 abbrev pub Touch : List Piece → List Piece → Type 0

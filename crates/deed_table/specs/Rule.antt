@@ -7,11 +7,11 @@ use Rattle.deed_core.specs.Extent.{Extent}
 use Rattle.deed_core.specs.Covering.{covers}
 use Rattle.deed_table.specs.declared.views.View.{View}
 use Rattle.deed_table.specs.Piece.{covering_of, count_of, CoverOnce}
-use Rattle.deed_table.specs.View.{numbers_of, opened_at, spent_view}
+use Rattle.deed_table.specs.View.{numbers_of, opened_view, spent_view}
 
 -- 1 where the root number is one of those left to the seat, else 0
-abbrev pub is_left : ℕ → View → ℕ
-is_left root v = covers root (numbers_of v)
+abbrev pub one_if_left : ℕ → View → ℕ
+one_if_left root v = covers root (numbers_of v)
 
 -- how many ranges of all views cover the unit of the root
 abbrev pub cover_count : ℕ → ℕ → List View → ℕ
@@ -23,11 +23,11 @@ open_count root unit views = sum_by (λ v. covering_of root unit v.roots) views
 
 -- in how many views the root number is left
 abbrev pub left_in : ℕ → List View → ℕ
-left_in root views = sum_by (is_left root) views
+left_in root views = sum_by (one_if_left root) views
 
 -- in how many places the root number stands: as an opened root's, or as one that is left
 abbrev pub standing_count : ℕ → List View → ℕ
-standing_count root views = sum_by (λ v. count_of root v.roots + is_left root v) views
+standing_count root views = sum_by (λ v. count_of root v.roots + one_if_left root v) views
 
 -- Each unit is covered as often as it is opened, and each root number stands in one place at most
 pub record CoversOnceEach (views : List View) : Type 0 where
@@ -44,7 +44,7 @@ Learns step old found new = (new ≡ old) × CoverOnce old.0.ranges
 
 -- the first number left becomes a root of this range, which the view covers
 abbrev pub Opens : Extent → Step (Unit {0}) → Sitter → ℕ → Sitter → Type 0
-Opens range step old found new = new ≡ (opened_at range old.0, old.1)
+Opens range step old found new = new ≡ (opened_view range old.0, old.1)
 
 -- from the opening of a root on, each of its units lies in one range of one view
 abbrev pub EachUnitOnce : Type 0
@@ -67,4 +67,4 @@ LeftHasNoRange = (views : List View) → CoversOnceEach views → (root : ℕ) �
 abbrev pub SpentIsEmpty : Type 0
 SpentIsEmpty = (root unit : ℕ) →
     (covering_of root unit spent_view.ranges ≡ 0) × (count_of root spent_view.roots ≡ 0)
-    × (is_left root spent_view ≡ 0)
+    × (one_if_left root spent_view ≡ 0)

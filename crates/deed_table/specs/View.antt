@@ -34,8 +34,8 @@ abbrev pub merged_view : View → View → View
 merged_view v w = holder (merged_pieces v.ranges w.ranges) (v.roots ++ w.roots)
 
 -- what two views cover, beside each other
-abbrev pub beside : View → View → View
-beside v w = holder (v.ranges ++ w.ranges) (v.roots ++ w.roots)
+abbrev pub view_of_both : View → View → View
+view_of_both v w = holder (v.ranges ++ w.ranges) (v.roots ++ w.roots)
 
 -- the first range, with the roots, and the other ranges
 abbrev pub first_part : View → View
@@ -52,8 +52,8 @@ abbrev pub numbers_after : ℕ → View → View
 numbers_after n v = record v { first = v.first + n; left = v.left - n }
 
 -- the first number that is left is a root of this range, which the view covers
-abbrev pub opened_at : Extent → View → View
-opened_at range v = holder (piece_at v.first range ∷ []) (piece_at v.first range ∷ [])
+abbrev pub opened_view : Extent → View → View
+opened_view range v = holder (piece_at v.first range ∷ []) (piece_at v.first range ∷ [])
 
 -- neither has a number left
 abbrev pub NoneLeft : View → View → Type 0

@@ -45,9 +45,9 @@ impl Join<View> for Merge {
 pub struct Beside;
 
 impl Join<View> for Beside {
-    ghost use Rattle.deed_table.specs.View.{beside, spent_view};
+    ghost use Rattle.deed_table.specs.View.{view_of_both, spent_view};
 
-    ghost both = { beside };
+    ghost both = { view_of_both };
 
     ghost spent = { spent_view };
 }

@@ -5,9 +5,9 @@ ghost use Rattle.std.specs.Prelude.{◌≡◌, ◌≤◌, []};
 ghost use Rattle.deed_table.specs.Name.{SitsAt};
 ghost use Rattle.deed_table.specs.Piece.{CutsFirst, CoverOnce};
 ghost use Rattle.deed_table.specs.View.{AreJoinable, NoneLeft, low_part, high_part, merged_view};
-ghost use Rattle.deed_table.specs.View.{beside};
+ghost use Rattle.deed_table.specs.View.{view_of_both};
 ghost use Rattle.deed_table.specs.View.{first_part, other_part, numbers_below, numbers_after};
-ghost use Rattle.deed_table.specs.View.{opened_at};
+ghost use Rattle.deed_table.specs.View.{opened_view};
 
 use crate::choices::{Chosen, ChosenRange};
 use crate::rules::{Beside, CutAt, Learn, Merge, OnceEach, Open, Part, Share};
@@ -53,7 +53,7 @@ pub(crate) fn put_beside(table: &DeedTable, seat: &mut Seat<(), View>, other: Se
     requires other { (other.table_id ≡ table.now.shared.table_id) × (other.me.1 ≡ []) }
     requires numbers { NoneLeft seat.old.me.0 other.me.0 }
     ensures table { seat.new.table_id ≡ seat.old.table_id }
-    ensures view { seat.new.me ≡ (beside seat.old.me.0 other.me.0, seat.old.me.1) }
+    ensures view { seat.new.me ≡ (view_of_both seat.old.me.0 other.me.0, seat.old.me.1) }
 {
     table.shared.join_seat::<Beside>(seat, other);
 }
@@ -104,7 +104,7 @@ pub(crate) fn open<C: ChosenRange>(table: &DeedTable, seat: &mut Seat<(), View>,
     requires new { (seat.old.me.0.ranges ≡ []) × (seat.old.me.0.roots ≡ [])
         × (seat.old.me.0.left ≡ 1) }
     ensures table { seat.new.table_id ≡ seat.old.table_id }
-    ensures view { seat.new.me ≡ (opened_at range.now seat.old.me.0, seat.old.me.1) }
+    ensures view { seat.new.me ≡ (opened_view range.now seat.old.me.0, seat.old.me.1) }
 {
     let _ = range;
     table.shared.load::<Open<C>>(seat, 0);

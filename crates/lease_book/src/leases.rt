@@ -3,7 +3,8 @@ ghost use Rattle.std.specs.Prelude.{◌≡◌, ◌+◌, ◌*◌, ◌^◌, ◌<�
 ghost use Rattle.std.specs.Prelude.{OnErr, IfErr, Some, slice_get, position, sum_by};
 ghost use Rattle.std.specs.List.{list_any, remove};
 ghost use Rattle.lease_terms.specs.declared.values.TheConstants.{LARGEST};
-ghost use Rattle.lease_book.specs.Account.{Lease, is_lease, is_older, lease_of, granted_request};
+ghost use Rattle.lease_book.specs.Account.{Lease, is_lease, is_older, lease_of, bases_of};
+ghost use Rattle.lease_book.specs.Account.{granted_request};
 ghost use Rattle.lease_book.specs.BookState.{units_of_lease};
 ghost use Rattle.lease_book.specs.declared.books.TheConstants.{MOST_LEASES};
 
@@ -98,18 +99,22 @@ impl<D: Deed> Held<D> {
     }
 }
 
-/// The leases of one client.
+/// The leases of one client, and beside them the base of each. A search reads the bases, which lie
+/// closer together, and looks at a lease only where its base is the one that is asked for.
 pub(crate) struct Leases<D: Deed> {
     held: Vec<Held<D>>,
+    bases: Vec<u64>,
 }
 
 impl<D: Deed> Model for Leases<D> {
-    ghost use Rattle.std.specs.Prelude.{List};
-    ghost use Rattle.lease_book.specs.Account.{Lease};
+    ghost use Rattle.std.specs.Prelude.{◌≡◌, List};
+    ghost use Rattle.lease_book.specs.Account.{Lease, bases_of};
 
     ghost Value = { List Lease };
 
     ghost view = { λ l. l.held.items };
+
+    ghost invariant = { λ l. l.bases.items ≡ bases_of l.held.items };
 }
 
 impl<D: Deed> Leases<D> {
@@ -118,6 +123,7 @@ impl<D: Deed> Leases<D> {
     {
         Leases {
             held: Vec::new(alloc),
+            bases: Vec::new(alloc),
         }
     }
 
@@ -133,9 +139,13 @@ impl<D: Deed> Leases<D> {
         ensures unchanged { OnErr result (self.new ≡ self.old) }
         ensures handed_back { IfErr result (λ s. s ≡ held.segment) }
     {
+        let Ok(()) = self.bases.reserve(1) else {
+            return Err(held.into_segment());
+        };
         let Ok(()) = self.held.reserve(1) else {
             return Err(held.into_segment());
         };
+        self.bases.push_reserved(held.segment.range().base());
         self.held.push_reserved(held);
         Ok(())
     }
@@ -144,9 +154,7 @@ impl<D: Deed> Leases<D> {
     pub(crate) fn position(&self, id: RequestId, arena: u32, base: Quantity) -> Option<usize>
         ensures { result ≡ position (is_lease id.incarnation arena base) self.now }
     {
-        self.held
-            .iter()
-            .position(|held| held.is_lease(id, arena, base))
+        first_beside(&self.bases, &self.held, id, arena, base)
     }
 
     /// Where the first lease of an incarnation before this one stands.
@@ -169,6 +177,7 @@ impl<D: Deed> Leases<D> {
         ensures lease { slice_get self.old index ≡ Some result }
         ensures rest { self.new ≡ remove self.old index }
     {
+        self.bases.remove(index);
         self.held.remove(index)
     }
 
@@ -189,7 +198,31 @@ impl<D: Deed> Leases<D> {
     pub(crate) fn close(self)
         requires { self ≡ [] }
     {
-        let Leases { held } = self;
+        let Leases {
+            held,
+            bases: _bases,
+        } = self;
         held.destroy_empty();
     }
+}
+
+/// Where the first lease of the request's incarnation with this arena and base stands, by the bases
+/// of all.
+fn first_beside<D: Deed>(
+    bases: &[u64],
+    held: &[Held<D>],
+    id: RequestId,
+    arena: u32,
+    base: Quantity,
+) -> Option<usize>
+    requires { bases.now ≡ bases_of held.now }
+    ensures { result ≡ position (is_lease id.incarnation arena base) held.now }
+{
+    let asked = base.get();
+    for (index, at) in bases.iter().enumerate() {
+        if *at == asked && held[index].is_lease(id, arena, base) {
+            return Some(index);
+        }
+    }
+    None
 }

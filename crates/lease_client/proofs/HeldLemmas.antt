@@ -11,7 +11,7 @@ use Rattle.lease_proto.specs.declared.replies.Reply.TheVariants as replies
 use Rattle.lease_client.specs.declared.held.HeldSegment.{HeldSegment}
 use Rattle.lease_client.specs.Answers.{answers_one}
 use Rattle.lease_client.specs.ClientState.{ClientState, is_at}
-use Rattle.lease_client.specs.Replies.{is_ahead, accepts, after_accept, got, segment_of}
+use Rattle.lease_client.specs.Replies.{is_ahead, accepts, after_accept, after_reply, segment_of}
 use Rattle.lease_client.specs.Runs.{Move, Restart, Send, Get, TakesMove, Run, Ends, Keeps, IsHeldSince}
 use Rattle.lease_client.specs.Laws.{HeldIsSinceGrant}
 use Rattle.lease_client.proofs.ReplyLemmas.{got_by}
@@ -169,7 +169,7 @@ held_to : (s : HeldSegment) (moves : List Move) (start end : ClientState) → Ke
 held_to s [] start end kept has = subst (λ (c : ClientState). Contains c.held s) (sym kept) has
 held_to s (move ∷ moves) start end kept has = held_to s moves kept.0 end kept.3 (stays s move start kept.0 kept.1 kept.2 has)
 
-granted_held : (g : Granted) (c : ClientState) → answers_one (replies.Granted g) c.outstanding ≡ true → Contains (got (replies.Granted g) c).held (segment_of g)
+granted_held : (g : Granted) (c : ClientState) → answers_one (replies.Granted g) c.outstanding ≡ true → Contains (after_reply (replies.Granted g) c).held (segment_of g)
 granted_held g c accept =
     got_by (λ x. Contains x.held (segment_of g)) (replies.Granted g) c (λ _. Contains-push c.held (segment_of g))
     (λ ignore. absurd (both_ways _ ignore accept))
@@ -177,8 +177,8 @@ granted_held g c accept =
 pub held_is_since_grant : HeldIsSinceGrant
 held_is_since_grant moves start end s none run = (
   λ has. from_start (held_from s moves start end run has),
-  λ since. held_to s since.after (got (replies.Granted since.grant) since.at) end since.kept
-      (subst (Contains (got (replies.Granted since.grant) since.at).held) since.of_segment (granted_held since.grant since.at since.accepted)),
+  λ since. held_to s since.after (after_reply (replies.Granted since.grant) since.at) end since.kept
+      (subst (Contains (after_reply (replies.Granted since.grant) since.at).held) since.of_segment (granted_held since.grant since.at since.accepted)),
 )
   where
     from_start : (Contains start.held s × Keeps s moves start end) ⊎ IsHeldSince s moves start end → IsHeldSince s moves start end

@@ -12,7 +12,7 @@ use Rattle.lease_proto.specs.declared.replies.Reply.{Reply}
 use Rattle.lease_proto.specs.declared.replies.Reply.TheVariants as replies
 use Rattle.lease_client.specs.Answers.{is_same_request, answers, answers_one}
 use Rattle.lease_client.specs.ClientState.{ClientState, IsSound, IsOwn}
-use Rattle.lease_client.specs.Replies.{is_ahead, accepts, after_accept, got}
+use Rattle.lease_client.specs.Replies.{is_ahead, accepts, after_accept, after_reply}
 use Rattle.lease_client.specs.Runs.{Move, Restart, Send, Get, TakesMove, Run, waiting_count, IsDone, MayBeSent}
 use Rattle.lease_client.specs.Laws.{RepliesCountOnce, SentStaysSent}
 use Rattle.lease_client.proofs.ReplyLemmas.{got_by, moves_in_turn, moves_keep_sound}
@@ -42,7 +42,7 @@ Past (replies.Error e) c = Unit {0}
 
 -- What is past changes nothing.
 
-ignored : (reply : Reply) (c : ClientState) → accepts reply c ≡ false → got reply c ≡ c
+ignored : (reply : Reply) (c : ClientState) → accepts reply c ≡ false → after_reply reply c ≡ c
 ignored reply c no_it = cond-false (accepts reply c) (after_accept reply c) c no_it
 
 below_differs : (a b : ℕ) → a < b → (a == b) ≡ false
@@ -102,7 +102,7 @@ closed_same v c is =
     ∙ ap (λ b. record c { is_open = b; held = [] }) (sym is.shut)
     ∙ ap (λ h. record c { held = h }) (sym is.none)
 
-past_ignored : (reply : Reply) (c : ClientState) → IsSound c → Past reply c → got reply c ≡ c
+past_ignored : (reply : Reply) (c : ClientState) → IsSound c → Past reply c → after_reply reply c ≡ c
 past_ignored (replies.Welcome w) c is past = ignored (replies.Welcome w) c (no_welcome w c _ refl is.outstanding past)
 past_ignored (replies.Granted g) c is past = ignored (replies.Granted g) c (no_granted g c _ refl is.outstanding past)
 past_ignored (replies.Released id) c is past = ignored (replies.Released id) c (no_released id c _ refl is.outstanding past)
@@ -284,9 +284,9 @@ past_run past (move ∷ moves) old new is run was =
 
 pub replies_count_once : RepliesCountOnce
 replies_count_once reply c later moves is accept run =
-    let sound = moves_keep_sound (Get reply) c (got reply c) is refl in
-    let past : Past reply (got reply c) = got_by (Past reply) reply c (λ _. past_after reply c is accept) (λ ignore. absurd (false≢true (sym ignore ∙ accept))) in
-    let end = past_run reply moves (got reply c) later sound run past in
+    let sound = moves_keep_sound (Get reply) c (after_reply reply c) is refl in
+    let past : Past reply (after_reply reply c) = got_by (Past reply) reply c (λ _. past_after reply c is accept) (λ ignore. absurd (false≢true (sym ignore ∙ accept))) in
+    let end = past_run reply moves (after_reply reply c) later sound run past in
     past_ignored reply later end.0 end.1
 
 -- What was sent stays so.

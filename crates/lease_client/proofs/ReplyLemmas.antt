@@ -10,7 +10,7 @@ use Rattle.lease_proto.specs.declared.replies.Reply.{Reply}
 use Rattle.lease_proto.specs.declared.replies.Reply.TheVariants as replies
 use Rattle.lease_client.specs.Answers.{answers_one}
 use Rattle.lease_client.specs.ClientState.{ClientState, IsSound, IsOwn}
-use Rattle.lease_client.specs.Replies.{accepts, after_accept, got}
+use Rattle.lease_client.specs.Replies.{accepts, after_accept, after_reply}
 use Rattle.lease_client.specs.Calls.{may_restart, after_restart, is_of_held}
 use Rattle.lease_client.specs.Laws.{MovesAreInTurn}
 use Rattle.lease_client.specs.Runs.{Move, Restart, Send, Get, TakesMove}
@@ -18,7 +18,7 @@ use Rattle.lease_client.proofs.SoundLemmas.{sound_sent}
 
 -- what is known of a client that got a reply: it accepted it, or it is as before
 pub got_by : (P : ClientState → Type 0) (reply : Reply) (c : ClientState)
-    → (accepts reply c ≡ true → P (after_accept reply c)) → (accepts reply c ≡ false → P c) → P (got reply c)
+    → (accepts reply c ≡ true → P (after_accept reply c)) → (accepts reply c ≡ false → P c) → P (after_reply reply c)
 got_by P reply c accept ignore = cond_both (accepts reply c) (after_accept reply c) c P accept ignore
 
 -- where none of four reasons stands

@@ -24,8 +24,8 @@ pub record ClientState : Type 0 where
   pub held : List HeldSegment
 
 -- a client that never said hello
-abbrev pub silent : ℕ → ClientState
-silent id = record {
+abbrev pub silent_client : ℕ → ClientState
+silent_client id = record {
   id = id;
   incarnation = 0;
   floor = 0;

@@ -10,7 +10,7 @@ use Rattle.lease_proto.specs.declared.replies.Reply.TheVariants as replies
 use Rattle.lease_proto.specs.Requests.{client_named, incarnation_named, request_named}
 use Rattle.lease_client.specs.declared.held.HeldSegment.{HeldSegment}
 use Rattle.lease_client.specs.ClientState.{ClientState, IsSound}
-use Rattle.lease_client.specs.Replies.{accepts, got}
+use Rattle.lease_client.specs.Replies.{accepts, after_reply}
 use Rattle.lease_client.specs.Calls.{may_restart, refusal}
 use Rattle.lease_client.specs.Runs.{Move, Restart, Send, Get, TakesMove, Run, IsHeldSince}
 use Rattle.lease_client.specs.Runs.{MayBeSent}
@@ -38,17 +38,18 @@ SentStaysSent =
 -- nothing
 pub record LateRepliesChangeNothing : Type 0 where
   pub client : (reply : Reply) (c : ClientState) (named : ℕ) → IsSound c
-      → client_named reply ≡ Some named → named ≢ c.id → got reply c ≡ c
+      → client_named reply ≡ Some named → named ≢ c.id → after_reply reply c ≡ c
   pub incarnation : (reply : Reply) (c : ClientState) (named : ℕ) → IsSound c
-      → incarnation_named reply ≡ Some named → named ≢ c.incarnation → got reply c ≡ c
+      → incarnation_named reply ≡ Some named → named ≢ c.incarnation → after_reply reply c ≡ c
   pub number : (reply : Reply) (c : ClientState) (named : RequestId) → IsSound c
-      → request_named reply ≡ Some named → named.number + 1 ≢ c.next → got reply c ≡ c
+      → request_named reply ≡ Some named → named.number + 1 ≢ c.next → after_reply reply c ≡ c
 
 -- once a reply was accepted it changes nothing, whatever the client did since
 abbrev pub RepliesCountOnce : Type 0
 RepliesCountOnce =
     (reply : Reply) (c later : ClientState) (moves : List Move) → IsSound c
-    → accepts reply c ≡ true → Run moves (got reply c) later → got reply later ≡ later
+    → accepts reply c ≡ true → Run moves (after_reply reply c) later
+    → after_reply reply later ≡ later
 
 -- only these moves change what a client holds
 abbrev pub MayChangeHeld : Move → ClientState → Type 0

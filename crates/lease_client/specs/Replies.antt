@@ -37,8 +37,8 @@ after_accept (replies.Old o) c = record c {
 after_accept reply c = record c { outstanding = None }
 
 -- the client after it got the reply
-abbrev pub got : Reply → ClientState → ClientState
-got reply c = if accepts reply c then after_accept reply c else c
+abbrev pub after_reply : Reply → ClientState → ClientState
+after_reply reply c = if accepts reply c then after_accept reply c else c
 
 abbrev pub got_answer : Reply → ClientState → Got
 got_answer reply c = if accepts reply c then Accepted else Ignored

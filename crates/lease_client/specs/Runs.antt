@@ -11,7 +11,7 @@ use Rattle.lease_proto.specs.declared.replies.Reply.TheVariants as replies
 use Rattle.lease_client.specs.declared.held.HeldSegment.{HeldSegment}
 use Rattle.lease_client.specs.Answers.{answers_one}
 use Rattle.lease_client.specs.ClientState.{ClientState, is_at}
-use Rattle.lease_client.specs.Replies.{is_ahead, segment_of, got}
+use Rattle.lease_client.specs.Replies.{is_ahead, segment_of, after_reply}
 use Rattle.lease_client.specs.Calls.{may_restart, after_restart, refusal, after_send}
 
 -- what may change a client
@@ -24,7 +24,7 @@ pub data Move : Type 0 where
 abbrev pub TakesMove : Move → (old new : ClientState) → Type 0
 TakesMove (Restart i) old new = (may_restart i old ≡ true) × (new ≡ after_restart i old)
 TakesMove (Send op) old new = (refusal op old ≡ None) × (new ≡ after_send op old)
-TakesMove (Get reply) old new = new ≡ got reply old
+TakesMove (Get reply) old new = new ≡ after_reply reply old
 
 -- one move after the other
 abbrev pub Run : List Move → (old new : ClientState) → Type 0
@@ -56,7 +56,7 @@ pub record IsHeldSince (s : HeldSegment) (run : List Move) (start end : ClientSt
   pub reached : Run before start at
   pub accepted : answers_one (replies.Granted grant) at.outstanding ≡ true
   pub of_segment : segment_of grant ≡ s
-  pub kept : Keeps s after (got (replies.Granted grant) at) end
+  pub kept : Keeps s after (after_reply (replies.Granted grant) at) end
 
 -- how many lines wait for their replies
 abbrev pub waiting_count : Option Line → ℕ

@@ -3,7 +3,7 @@ ghost use Rattle.std.specs.Prelude.{◌≡◌, ◌+◌, ◌≤◌, ◌<◌, ◌�
 ghost use Rattle.std.specs.Prelude.{IsOk, OnOk, IfErr, IsSome, Some, None, true, false};
 ghost use Rattle.lease_terms.specs.declared.values.TheConstants.{LARGEST};
 ghost use Rattle.lease_client.specs.Calls.{ReadsBack};
-ghost use Rattle.lease_client.specs.ClientState.{silent, IsSound};
+ghost use Rattle.lease_client.specs.ClientState.{silent_client, IsSound};
 
 use crate::answers::answers_one;
 use crate::faults::{NotGreater, Nothing, SendFault};
@@ -55,11 +55,11 @@ impl Model for Client {
 impl Client {
     ghost use Rattle.lease_client.specs.Calls.{IsRestarted, IsSent, IsResent, may_restart, next_id};
     ghost use Rattle.lease_client.specs.Calls.{refusal};
-    ghost use Rattle.lease_client.specs.Replies.{got, got_answer, accepts, is_ahead};
+    ghost use Rattle.lease_client.specs.Replies.{after_reply, got_answer, accepts, is_ahead};
 
     /// A client that never said hello: it has to restart before it may send.
     pub fn new(alloc: Global, id: ClientId) -> Client
-        ensures { result ≡ silent id }
+        ensures { result ≡ silent_client id }
     {
         // For its clause: the client is in its range.
         let _ = id.get();
@@ -148,7 +148,7 @@ impl Client {
 
     /// Takes a reply, which may be late, repeated or another client's. It takes no memory.
     pub fn got(&mut self, reply: &Reply) -> Got
-        ensures state { self.new ≡ got reply.now self.old }
+        ensures state { self.new ≡ after_reply reply.now self.old }
         ensures answer { result ≡ got_answer reply.now self.old }
     {
         if !self.accepts(reply) {

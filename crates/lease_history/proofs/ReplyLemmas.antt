@@ -18,7 +18,7 @@ use Rattle.lease_book.proofs.LawProofs.{outcomes_stay, numbers_settled_once}
 use Rattle.lease_client.specs.declared.held.HeldSegment.{HeldSegment}
 use Rattle.lease_client.specs.Answers.{is_same_request, answers, answers_one}
 use Rattle.lease_client.specs.ClientState.{ClientState, IsSound, IsOwn}
-use Rattle.lease_client.specs.Replies.{is_ahead, accepts, after_accept, got, segment_of}
+use Rattle.lease_client.specs.Replies.{is_ahead, accepts, after_accept, after_reply, segment_of}
 use Rattle.lease_client.specs.Runs.{Get}
 use Rattle.lease_client.proofs.LawProofs.{moves_keep_sound}
 use Rattle.lease_history.specs.Known.{weight_told, weight_kept, weight_due, IsKnown}
@@ -63,7 +63,7 @@ replies_agree names es id a b one other =
 
 sound_accepted : (reply : Reply) (c : ClientState) → IsSound c → accepts reply c ≡ true → IsSound (after_accept reply c)
 sound_accepted reply c is accept =
-    subst IsSound (cond-true (accepts reply c) (after_accept reply c) c accept) (moves_keep_sound (Get reply) c (got reply c) is refl)
+    subst IsSound (cond-true (accepts reply c) (after_accept reply c) c accept) (moves_keep_sound (Get reply) c (after_reply reply c) is refl)
 
 -- nothing is outstanding any more, and what was due is held at most
 known_ends : (names : ℕ → List ℕ) (es : List Entry) (c : ClientState) (opened : Bool) (held : List HeldSegment) → IsKnown names es c

@@ -7,8 +7,8 @@ use Rattle.lease_proto.specs.declared.replies.Reply.{Reply}
 use Rattle.lease_book.specs.Entry.{Entry, Settlement, Hello, Settled, Swept}
 use Rattle.lease_book.specs.History.{incarnation, leases_of, AreOrderly}
 use Rattle.lease_client.specs.declared.held.HeldSegment.{HeldSegment}
-use Rattle.lease_client.specs.ClientState.{ClientState, silent}
-use Rattle.lease_client.specs.Replies.{got}
+use Rattle.lease_client.specs.ClientState.{ClientState, silent_client}
+use Rattle.lease_client.specs.Replies.{after_reply}
 use Rattle.lease_client.specs.Calls.{may_restart, after_restart, refusal, after_send}
 use Rattle.lease_client.specs.Runs.{MayBeSent}
 use Rattle.lease_history.specs.Known.{weight_in, IsKnown, IsFor}
@@ -16,7 +16,8 @@ use Rattle.lease_history.specs.Told.{IsOutcome, MayTell}
 
 -- before the first entry each client is known that never said hello
 abbrev pub ClientsBeginKnown : Type 0
-ClientsBeginKnown = (names : ℕ → List ℕ) (id : ℕ) → IsClient id → IsKnown names [] (silent id)
+ClientsBeginKnown = (names : ℕ → List ℕ) (id : ℕ) → IsClient id
+    → IsKnown names [] (silent_client id)
 
 -- a client stays known that restarts or sends
 pub record MovesKeepKnown : Type 0 where
@@ -31,7 +32,7 @@ abbrev pub RepliesKeepKnown : Type 0
 RepliesKeepKnown =
     (names : ℕ → List ℕ) (entries : List Entry) (c : ClientState) (reply : Reply)
     → IsKnown names entries c → MayTell names entries reply
-    → IsKnown names entries (got reply c)
+    → IsKnown names entries (after_reply reply c)
 
 -- and whose hello is taken, which has no greater incarnation than its own
 abbrev pub HellosKeepKnown : Type 0

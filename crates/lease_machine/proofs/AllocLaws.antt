@@ -8,7 +8,7 @@ use Rattle.arena_tree.specs.declared.levels.Level.{Level}
 use Rattle.arena_tree.specs.declared.part_faults.CarveFault.{CarveFault}
 use Rattle.arena_tree.specs.declared.trees.TreeArena.{TreeArena}
 use Rattle.deed_core.proofs.LawProofs.{plain_is_good, plain_is_of_its_size, slice_get_mapped}
-use Rattle.deed_core.specs.Request.{Fits, IsGood, IsPlain, plain_of, rounded}
+use Rattle.deed_core.specs.Request.{Fits, IsGood, IsPlain, plain_of, rounding_of}
 use Rattle.deed_core.specs.Tag.{Tag}
 use Rattle.deed_core.specs.declared.requests.Request.{Request}
 use Rattle.lease_machine.proofs.CachedSizes.{cached_by_number}
@@ -78,7 +78,7 @@ no_cache tree index x q is here plain uncached = elim (cases_lt 0 q.size) [
   | inr none ↦ (let zero : q.size ≡ 0 = omega (arith, none) in ap (cache_for (level_of index x)) zero)
 ]
   where
-    by : (o : Option ℕ) → MatchOption o (¬ IsCachedIn x q) (λ number. IsCachedIn x q × ((cache : ℕ) × (number ≡ cache + 1) × (rounded x.quantum q.size ≡ (cache + 1) * x.quantum))) → o ≡ None
+    by : (o : Option ℕ) → MatchOption o (¬ IsCachedIn x q) (λ number. IsCachedIn x q × ((cache : ℕ) × (number ≡ cache + 1) × (rounding_of x.quantum q.size ≡ (cache + 1) * x.quantum))) → o ≡ None
     by None is = refl
     by (Some k) is = absurd (uncached is.0)
 

@@ -5,7 +5,7 @@ use Rattle.arena_tree.specs.declared.levels.Level.{Level}
 use Rattle.arena_tree.specs.declared.trees.TreeArena.{TreeArena}
 use Rattle.deed_core.proofs.LawProofs.{plain_is_of_its_size, power_some, rounds_up, slice_get_mapped, slice_get_one, slice_get_some}
 use Rattle.deed_core.specs.Extent.{Covers}
-use Rattle.deed_core.specs.Request.{Fits, IsGood, IsPlain, plain_of, rounded}
+use Rattle.deed_core.specs.Request.{Fits, IsGood, IsPlain, plain_of, rounding_of}
 use Rattle.deed_core.specs.Tag.{Tag}
 use Rattle.deed_core.specs.declared.requests.Request.{Request}
 use Rattle.lease_machine.proofs.AllocLaws as allocs
@@ -100,7 +100,7 @@ module _ (d : Picture) (index : ℕ) (x : TreeArena) (q : Request) (s : LocalSta
       subst (λ z. IsFromCaches index x q d z then_d) (sym bad)
       ((λ good. omega (arith, zero, good.size)), picture_same d index x q s held here c found spaces (climb_cpu d.tree (level ∷ above) q.size was s a climb))
 
-  module _ (some : 0 < q.size) (j : ℕ) (number : cache_for level q.size ≡ Some (j + 1)) (size : rounded x.quantum q.size ≡ (j + 1) * x.quantum) where
+  module _ (some : 0 < q.size) (j : ℕ) (number : cache_for level q.size ≡ Some (j + 1)) (size : rounding_of x.quantum q.size ≡ (j + 1) * x.quantum) where
     arena_is : IsArena d.tree index x
     arena_is = held.tree.each index x here
 
@@ -343,7 +343,7 @@ module _ (d : Picture) (index : ℕ) (x : TreeArena) (q : Request) (s : LocalSta
     | inr none ↦ nothing_asked (omega (arith, none))
   ]
     where
-      told : 0 < q.size → (o : Option ℕ) → cache_for level q.size ≡ o → MatchOption o (¬ IsCachedIn x q) (λ n. IsCachedIn x q × ((cache : ℕ) × (n ≡ cache + 1) × (rounded x.quantum q.size ≡ (cache + 1) * x.quantum))) → IsFromCaches index x q d a then_d
+      told : 0 < q.size → (o : Option ℕ) → cache_for level q.size ≡ o → MatchOption o (¬ IsCachedIn x q) (λ n. IsCachedIn x q × ((cache : ℕ) × (n ≡ cache + 1) × (rounding_of x.quantum q.size ≡ (cache + 1) * x.quantum))) → IsFromCaches index x q d a then_d
       told some None is by = absurd (by cached)
       told some (Some n) is by = numbered some by.1.0 (is ∙ ap (λ (z : ℕ). Some z) by.1.1) by.1.2
 

@@ -4,7 +4,7 @@ use Rattle.std.specs.Prelude.{nat_le, MatchOption}
 use Rattle.std.proofs.Math.Nat.{mod-eq-sub-div-mul, div-mul-le_self, div-lt_iff_lt-mul}
 use Rattle.std.proofs.lemmas.Bool.{cases_lt, lt-ltb, le-leb}
 use Rattle.std.proofs.lemmas.Bool.Decides.{leb_tells}
-use Rattle.deed_core.specs.Request.{IsPlain, rounded}
+use Rattle.deed_core.specs.Request.{IsPlain, rounding_of}
 use Rattle.deed_core.specs.declared.requests.Request.{Request}
 use Rattle.deed_core.proofs.LawProofs.{rounds_up, power_some}
 use Rattle.arena_tree.specs.declared.levels.Level.{Level}
@@ -36,7 +36,7 @@ module _ (index : ℕ) (x : TreeArena) (q : Request) (plain : IsPlain q) (some :
   level = level_of index x
 
   abbrev units : ℕ
-  units = rounded x.quantum q.size
+  units = rounding_of x.quantum q.size
 
   abbrev number : ℕ
   number = quanta_for level q.size
@@ -82,7 +82,7 @@ cached_by_number tree index x q is here plain some =
     let positive : 0 < x.quantum = power_some x.quantum own.power in
     let few : x.qcache_max ≤ 16 * x.quantum = own.caches.1 in
     by_test index x q plain some positive few (is_cached (level_of index x) q.size) refl
-    (elim (cases_lt x.qcache_max (rounded x.quantum q.size)) [
+    (elim (cases_lt x.qcache_max (rounding_of x.quantum q.size)) [
       | inl above ↦ inr above
       | inr most ↦ inl most
     ])

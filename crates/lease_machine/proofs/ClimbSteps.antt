@@ -2,7 +2,7 @@
 -- the arenas' quanta are the tree's
 use Rattle.arena_tree.proofs.LawProofs.{path_split}
 use Rattle.arena_tree.specs.Chains.{amount_of}
-use Rattle.arena_tree.specs.Climbs.{Climbed, Returned, climb_plan, give_back, on_add, on_carve, on_free, on_import, refused_memory, return_plan}
+use Rattle.arena_tree.specs.Climbs.{Climbed, Returned, climb_plan, give_back_plan, on_add, on_carve, on_free, on_import, memory_refusal, return_plan}
 use Rattle.arena_tree.specs.Events.{AddCarve, Carve}
 use Rattle.arena_tree.specs.Plans.{Done}
 use Rattle.arena_tree.specs.Trees.{nodes_of}
@@ -111,9 +111,9 @@ module _ (arenas : List TreeArena) where
       by (Err (freeing.BadFree y)) end again = ap (λ (s : LocalState). s.cpu) (sym end.0) ∙ path.2.step.does.1
       by (Err (freeing.Stopped y)) end again = ap (λ (s : LocalState). s.cpu) (sym end.0) ∙ path.2.step.does.1
 
-  pub gives_back_cpu : (up : List Level) (t : Tag) (old new : LocalState) (a : Climbed) → RunsTo arenas (give_back up t) old new a → new.cpu ≡ old.cpu
+  pub gives_back_cpu : (up : List Level) (t : Tag) (old new : LocalState) (a : Climbed) → RunsTo arenas (give_back_plan up t) old new a → new.cpu ≡ old.cpu
   gives_back_cpu up t old new a path =
-      let split = path_split (SoundStep (nodes_of arenas)) (return_plan up t) (λ r. Done (refused_memory r)) old new a path in
+      let split = path_split (SoundStep (nodes_of arenas)) (return_plan up t) (λ r. Done (memory_refusal r)) old new a path in
       ap (λ (s : LocalState). s.cpu) (sym split.3.0) ∙ returns_cpu up t old split.0 split.1 split.2
 
   pub climb_cpu : (chain : List Level) (n : ℕ) (old new : LocalState) (a : Climbed) → RunsTo arenas (climb_plan chain n) old new a → new.cpu ≡ old.cpu
@@ -144,7 +144,7 @@ module _ (arenas : List TreeArena) where
           imported split.0 split.1 split.3 ∙ (again path.0 split.0 split.1 split.2 ∙ path.2.step.does.1)
 
   -- what was climbed for and given back: done, or stuck
-  returned : (r : Returned) → ((r ≡ Ok tt) × (refused_memory r ≡ Err climbing.NoMemory)) ⊎ ((y : Tag) × ((refused_memory r ≡ Err (climbing.Stuck y)) ⊎ (refused_memory r ≡ Err (climbing.Stopped (Some y)))))
+  returned : (r : Returned) → ((r ≡ Ok tt) × (memory_refusal r ≡ Err climbing.NoMemory)) ⊎ ((y : Tag) × ((memory_refusal r ≡ Err (climbing.Stuck y)) ⊎ (memory_refusal r ≡ Err (climbing.Stopped (Some y)))))
   returned (Ok u) = inl (refl, refl)
   returned (Err (returning.Stuck y)) = inr (y, inl refl)
   returned (Err (returning.Stopped y)) = inr (y, inr refl)
@@ -152,9 +152,9 @@ module _ (arenas : List TreeArena) where
   abbrev pub IsStuck : Climbed → Type 0
   IsStuck a = (y : Tag) × ((a ≡ Err (climbing.Stuck y)) ⊎ (a ≡ Err (climbing.Stopped (Some y))))
 
-  pub gives_back : (up : List Level) (t : Tag) (old new : LocalState) (a : Climbed) → RunsTo arenas (give_back up t) old new a → ((a ≡ Err climbing.NoMemory) × Returns new.spaces t old.spaces) ⊎ IsStuck a
+  pub gives_back : (up : List Level) (t : Tag) (old new : LocalState) (a : Climbed) → RunsTo arenas (give_back_plan up t) old new a → ((a ≡ Err climbing.NoMemory) × Returns new.spaces t old.spaces) ⊎ IsStuck a
   gives_back up t old new a path =
-      let split = path_split (SoundStep (nodes_of arenas)) (return_plan up t) (λ r. Done (refused_memory r)) old new a path in
+      let split = path_split (SoundStep (nodes_of arenas)) (return_plan up t) (λ r. Done (memory_refusal r)) old new a path in
       elim (returned split.1) [
         | inl ok ↦
             let back = returns_so arenas up t old split.0 (subst (RunsTo arenas (return_plan up t) old split.0) ok.0 split.2) in

@@ -28,7 +28,7 @@ use Rattle.local_parts.specs.Steps.{IsSetUpAs, LocalStep}
 use Rattle.magazine_layer.specs.Depots.{DepotState}
 use Rattle.quantum_cache.proofs.LawProofs.{drain_handles}
 use Rattle.quantum_cache.specs.Caches.{chain_in, if_ok, over_arenas, over_caches}
-use Rattle.quantum_cache.specs.Drains.{Drained, Turn, drain_arena, drain_cache, drain_plan, drain_turn, on_drain_pop, on_put_back, on_turn}
+use Rattle.quantum_cache.specs.Drains.{Drained, Turn, drain_arena_plan, drain_cache_plan, drain_plan, drain_turn, on_drain_pop, on_put_back, on_turn}
 use Rattle.quantum_cache.specs.Frees.{put_chunk}
 use Rattle.quantum_cache.specs.Laws.{drain_left}
 use Rattle.quantum_cache.specs.Sizes.{caches_in}
@@ -81,11 +81,11 @@ turn_asks k c = (tt, λ x. by x)
     by (Ok (Some t)) = asks_then IsDraining (put_chunk t) (λ r. Done (on_put_back r)) (put_asks t) (λ r. tt)
     by (Err e) = tt
 
-cache_asks : (turns k c : ℕ) → Asks IsDraining (drain_cache turns k c)
+cache_asks : (turns k c : ℕ) → Asks IsDraining (drain_cache_plan turns k c)
 cache_asks zero k c = tt
-cache_asks (suc turns) k c = asks_then IsDraining (drain_turn k c) (on_turn (drain_cache turns k c)) (turn_asks k c) (λ r. by r (cache_asks turns k c))
+cache_asks (suc turns) k c = asks_then IsDraining (drain_turn k c) (on_turn (drain_cache_plan turns k c)) (turn_asks k c) (λ r. by r (cache_asks turns k c))
   where
-    by : (r : Turn) → Asks IsDraining (drain_cache turns k c) → Asks IsDraining (on_turn (drain_cache turns k c) r)
+    by : (r : Turn) → Asks IsDraining (drain_cache_plan turns k c) → Asks IsDraining (on_turn (drain_cache_plan turns k c) r)
     by None more = more
     by (Some r) more = tt
 
@@ -93,17 +93,17 @@ if_asks : {X F : Type 0} (next : X → Plan (Result X F)) → ((x : X) → Asks 
 if_asks next each (Ok x) = each x
 if_asks next each (Err f) = tt
 
-caches_ask : (turns k all left : ℕ) (u : Unit {0}) → Asks IsDraining (over_caches (λ cache (u : Unit {0}). drain_cache turns k cache) all left u)
+caches_ask : (turns k all left : ℕ) (u : Unit {0}) → Asks IsDraining (over_caches (λ cache (u : Unit {0}). drain_cache_plan turns k cache) all left u)
 caches_ask turns k all zero u = tt
-caches_ask turns k all (suc left) u = asks_then IsDraining (drain_cache turns k (all - left)) (if_ok (over_caches (λ cache (u : Unit {0}). drain_cache turns k cache) all left)) (cache_asks turns k (all - left)) (λ r. if_asks (over_caches (λ cache (u : Unit {0}). drain_cache turns k cache) all left) (λ v. caches_ask turns k all left v) r)
+caches_ask turns k all (suc left) u = asks_then IsDraining (drain_cache_plan turns k (all - left)) (if_ok (over_caches (λ cache (u : Unit {0}). drain_cache_plan turns k cache) all left)) (cache_asks turns k (all - left)) (λ r. if_asks (over_caches (λ cache (u : Unit {0}). drain_cache_plan turns k cache) all left) (λ v. caches_ask turns k all left v) r)
 
-arena_asks : (turns : ℕ) (chain : List Level) → Asks IsDraining (drain_arena turns chain)
+arena_asks : (turns : ℕ) (chain : List Level) → Asks IsDraining (drain_arena_plan turns chain)
 arena_asks turns [] = tt
 arena_asks turns (l ∷ up) = caches_ask turns l.id (caches_in l) (caches_in l) tt
 
-arenas_ask : (turns : ℕ) (arenas : List TreeArena) (n : ℕ) (u : Unit {0}) → Asks IsDraining (over_arenas (λ id (u : Unit {0}). drain_arena turns (chain_in arenas id)) n u)
+arenas_ask : (turns : ℕ) (arenas : List TreeArena) (n : ℕ) (u : Unit {0}) → Asks IsDraining (over_arenas (λ id (u : Unit {0}). drain_arena_plan turns (chain_in arenas id)) n u)
 arenas_ask turns arenas zero u = tt
-arenas_ask turns arenas (suc id) u = asks_then IsDraining (drain_arena turns (chain_in arenas id)) (if_ok (over_arenas (λ id (u : Unit {0}). drain_arena turns (chain_in arenas id)) id)) (arena_asks turns (chain_in arenas id)) (λ r. if_asks (over_arenas (λ id (u : Unit {0}). drain_arena turns (chain_in arenas id)) id) (λ v. arenas_ask turns arenas id v) r)
+arenas_ask turns arenas (suc id) u = asks_then IsDraining (drain_arena_plan turns (chain_in arenas id)) (if_ok (over_arenas (λ id (u : Unit {0}). drain_arena_plan turns (chain_in arenas id)) id)) (arena_asks turns (chain_in arenas id)) (λ r. if_asks (over_arenas (λ id (u : Unit {0}). drain_arena_plan turns (chain_in arenas id)) id) (λ v. arenas_ask turns arenas id v) r)
 
 drain_asks : (turns : ℕ) (arenas : List TreeArena) → Asks IsDraining (drain_plan turns arenas)
 drain_asks turns arenas = arenas_ask turns arenas (length arenas) tt

@@ -23,7 +23,7 @@ use Rattle.lease_proto.specs.Operators.{served_of}
 use Rattle.lease_proto.specs.Operators as reading
 use Rattle.lease_book.specs.BookState.{leased_segments}
 use Rattle.lease_machine.specs.Picture.{NumberedCpu, Picture, Finds, caches_of, fresh_cpu, held_outside, is_cpu}
-use Rattle.lease_machine.specs.Operators.{IsReapedOut, ReapsAll, after_reap, change_depot, depots_of, depots_reaped, on_depots, after_renewal}
+use Rattle.lease_machine.specs.Operators.{IsReapedOut, ReapsAll, after_reap, with_depot_by, depots_of, depots_after_reap, with_depots_by, after_renewal}
 use Rattle.lease_machine.specs.Serving.{CanServe}
 use Rattle.lease_machine.specs.Replies.{again_of}
 use Rattle.lease_machine.specs.Machine.{LeaseStep, AnswersLine, NewLease, demand_of}
@@ -48,7 +48,7 @@ all_reaped old new text step = elim (subst (λ x. AnswersLine old x text new) re
   | inr out ↦ out.1
 ]
 
-all_ticked : (old new : Picture) (text : List ℕ) → LeaseStep old (codes "tick") text new → new ≡ record old { spaces = map (on_depots after_tick) old.spaces }
+all_ticked : (old new : Picture) (text : List ℕ) → LeaseStep old (codes "tick") text new → new ≡ record old { spaces = map (with_depots_by after_tick) old.spaces }
 all_ticked old new text step = elim (subst (λ x. AnswersLine old x text new) tick_read step.answer) [
   | inl did ↦ did.1
   | inr out ↦ absurd out.1
@@ -69,19 +69,19 @@ no_rounds (c ∷ cpus) none =
     flat_map-append own_rounds (caches_of c) (flat_map caches_of cpus) ∙ (ap (λ (ts : List Tag). ts ++ all_rounds_out (flat_map caches_of cpus)) first ∙ no_rounds cpus others)
 
 -- after both lines
-module _ (old mid new : Picture) (units : ℕ) (ticked : mid ≡ record old { spaces = map (on_depots after_tick) old.spaces }) (all : ReapsAll units mid new) where
-  depots : map depots_of new.spaces ≡ map depots_reaped (map (on_depots after_tick) old.spaces)
-  depots = all.depots ∙ ap (λ (d : Picture). map depots_reaped d.spaces) ticked
+module _ (old mid new : Picture) (units : ℕ) (ticked : mid ≡ record old { spaces = map (with_depots_by after_tick) old.spaces }) (all : ReapsAll units mid new) where
+  depots : map depots_of new.spaces ≡ map depots_after_reap (map (with_depots_by after_tick) old.spaces)
+  depots = all.depots ∙ ap (λ (d : Picture). map depots_after_reap d.spaces) ticked
 
   depot_bare : (k j : ℕ) (s : SpaceState) (c : QuantumCacheState) → slice_get new.spaces k ≡ Some s → slice_get s.caches j ≡ Some c → depot_rounds c.depot ≡ []
   depot_bare k j s c at among =
-      let there : slice_get (map depots_reaped (map (on_depots after_tick) old.spaces)) k ≡ Some (depots_of s) = ap (λ ls. slice_get ls k) (sym depots) ∙ slice_get_mapped depots_of new.spaces k s at in
-      let space = mapped depots_reaped (map (on_depots after_tick) old.spaces) k (depots_of s) there in
-      let before = mapped (on_depots after_tick) old.spaces k space.0 space.1 in
-      let one : slice_get (depots_reaped space.0) j ≡ Some c.depot = ap (λ (ds : List DepotState). slice_get ds j) (sym space.2) ∙ slice_get_mapped (λ (x : QuantumCacheState). x.depot) s.caches j c among in
+      let there : slice_get (map depots_after_reap (map (with_depots_by after_tick) old.spaces)) k ≡ Some (depots_of s) = ap (λ ls. slice_get ls k) (sym depots) ∙ slice_get_mapped depots_of new.spaces k s at in
+      let space = mapped depots_after_reap (map (with_depots_by after_tick) old.spaces) k (depots_of s) there in
+      let before = mapped (with_depots_by after_tick) old.spaces k space.0 space.1 in
+      let one : slice_get (depots_after_reap space.0) j ≡ Some c.depot = ap (λ (ds : List DepotState). slice_get ds j) (sym space.2) ∙ slice_get_mapped (λ (x : QuantumCacheState). x.depot) s.caches j c among in
       let depot = mapped after_reap (depots_of space.0) j c.depot one in
       let cache = mapped (λ (x : QuantumCacheState). x.depot) space.0.caches j depot.0 depot.1 in
-      let was = mapped (change_depot after_tick) before.0.caches j cache.0 (ap (λ (x : SpaceState). slice_get x.caches j) (sym before.2) ∙ cache.1) in
+      let was = mapped (with_depot_by after_tick) before.0.caches j cache.0 (ap (λ (x : SpaceState). slice_get x.caches j) (sym before.2) ∙ cache.1) in
       let same : depot.0 ≡ after_tick was.0.depot = cache.2 ∙ ap (λ (x : QuantumCacheState). x.depot) was.2 in
       ap depot_rounds (depot.2 ∙ ap after_reap same) ∙ bare_depot was.0.depot
 

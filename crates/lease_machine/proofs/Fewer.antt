@@ -2,7 +2,7 @@
 use Rattle.std.proofs.Common.{◌≡◌, ℕ, suc, zero, ◌<◌, ◌≤◌, refl, inl, inr, List, [], ◌∷◌, Option, Some, None, arith}
 use Rattle.std.specs.Prelude.{slice_get, max}
 use Rattle.deed_core.specs.Holding.{Holding}
-use Rattle.deed_core.specs.Request.{plain_of, rounded}
+use Rattle.deed_core.specs.Request.{plain_of, rounding_of}
 use Rattle.deed_core.proofs.LawProofs.{rounds_up, rounds_to_the_least, power_some}
 use Rattle.tag_arena.specs.Place.{ServesIn}
 use Rattle.arena_tree.specs.declared.levels.Level.{Level}
@@ -15,10 +15,10 @@ use Rattle.stock.specs.Stocks.{IsStock}
 use Rattle.lease_machine.specs.Moves.{HasBaseUp}
 use Rattle.lease_machine.specs.RoomLaws.{FewerFitToo}
 
-rounded_fewer : (quantum n most : ℕ) → 0 < quantum → n ≤ most → rounded quantum n ≤ rounded quantum most
+rounded_fewer : (quantum n most : ℕ) → 0 < quantum → n ≤ most → rounding_of quantum n ≤ rounding_of quantum most
 rounded_fewer quantum n most some le =
     let up = rounds_up quantum most some in
-    rounds_to_the_least quantum n (rounded quantum most) some up.0 (omega (arith, le, up.1))
+    rounds_to_the_least quantum n (rounding_of quantum most) some up.0 (omega (arith, le, up.1))
 
 serves_fewer : (quantum n most base : ℕ) (r : Holding) → 0 < quantum → n ≤ most → ServesIn quantum (plain_of most) r base → ServesIn quantum (plain_of n) r base
 serves_fewer quantum n most base r some le serves =
@@ -44,8 +44,8 @@ HaveQuanta (l ∷ up) = (0 < l.quantum) × HaveQuanta up
 amount_fewer : (l s : Level) (up : List Level) (n most : ℕ) → 0 < l.quantum → 0 < s.quantum → n ≤ most → amount_of l (s ∷ up) n ≤ amount_of l (s ∷ up) most
 amount_fewer l s up n most own above le =
     let first = rounded_fewer l.quantum n most own le in
-    let asked : max (rounded l.quantum n) l.import_min ≤ max (rounded l.quantum most) l.import_min = omega (arith, first) in
-    let second = rounded_fewer s.quantum (max (rounded l.quantum n) l.import_min) (max (rounded l.quantum most) l.import_min) above asked in
+    let asked : max (rounding_of l.quantum n) l.import_min ≤ max (rounding_of l.quantum most) l.import_min = omega (arith, first) in
+    let second = rounded_fewer s.quantum (max (rounding_of l.quantum n) l.import_min) (max (rounding_of l.quantum most) l.import_min) above asked in
     omega (arith, second)
 
 fewer_up : (spaces : List SpaceState) → IsStock spaces → (chain : List Level) → HaveQuanta chain → (n most : ℕ) → n ≤ most → HasBaseUp spaces chain most → HasBaseUp spaces chain n

@@ -10,10 +10,10 @@ use Rattle.std.proofs.lemmas.List.Sums.{sum_by-cons}
 use Rattle.deed_core.specs.Extent.{IsRange}
 use Rattle.deed_core.specs.Holding.{Holding}
 use Rattle.deed_core.specs.Tag.{Tag}
-use Rattle.deed_core.specs.Weights.{only, of_cached}
+use Rattle.deed_core.specs.Weights.{weight_where, of_cached}
 use Rattle.deed_core.specs.Selections.{came_direct}
 use Rattle.deed_core.proofs.LawProofs.{all_at, sum_none, part_of_sum, sum_by-filter, sum_by-flat_map}
-use Rattle.tag_arena.specs.ArenaState.{ArenaState, IsSound, spans_of, ranges_of, tags_of, direct}
+use Rattle.tag_arena.specs.ArenaState.{ArenaState, IsSound, spans_of, ranges_of, tags_of, direct_tag}
 use Rattle.tag_arena.specs.Layout.{IsRun}
 use Rattle.tag_arena.proofs.LawProofs.{goes_empty, allocated_stand}
 use Rattle.slab_layer.specs.Slab.{SlabState}
@@ -41,7 +41,7 @@ child_source : (o : Option ℕ) (k : ℕ) → is_source k o ≡ true → o ≡ S
 child_source None k is = absurd (let e : false ≡ true = is in cc)
 child_source (Some q) k is = ap Some ((Decides-eqb q k).0 is)
 
-only_none : {X : Type 0} (test : X → Bool) (f : X → ℕ) (x : X) → (test x ≡ true → f x ≡ 0) → only test f x ≡ 0
+only_none : {X : Type 0} (test : X → Bool) (f : X → ℕ) (x : X) → (test x ≡ true → f x ≡ 0) → weight_where test f x ≡ 0
 only_none test f x none = by (test x) none
   where
     by : (b : Bool) → (b ≡ true → f x ≡ 0) → cond b (f x) 0 ≡ 0
@@ -73,7 +73,7 @@ module _ (d : Picture) (is : IsPicture d) (kept : NothingIsKept d) where
       ap (λ (ss : List SlabState). sum_by f (holdings_of (map (span_tag c.slab.arena) ss))) (no_slab k s at j c among))
 
   no_tags : (a : ArenaState) → ranges_of a.allocated ≡ [] → tags_of a ≡ []
-  no_tags a none = ap (map (direct a.id)) none
+  no_tags a none = ap (map (direct_tag a.id)) none
 
   -- where no later arena has anything allocated, none has a span of this one
   no_children : (k : ℕ) → ((j : ℕ) (x : SpaceState) → slice_get d.spaces j ≡ Some x → k < j → ranges_of x.arena.allocated ≡ []) → (f : Holding → ℕ) → sum_by f (spans_of_children k d.spaces) ≡ 0
@@ -81,7 +81,7 @@ module _ (d : Picture) (is : IsPicture d) (kept : NothingIsKept d) where
       let weigh : SpaceState → ℕ = λ x. sum_by f (spans_of x.arena) in
       sum_by-flat_map f (λ (x : SpaceState). spans_of x.arena) (filter (is_child_of k) d.spaces)
       ∙ sum_by-filter (is_child_of k) weigh d.spaces
-      ∙ sum_none (only (is_child_of k) weigh) d.spaces (λ j x at. only_none (is_child_of k) weigh x (λ child.
+      ∙ sum_none (weight_where (is_child_of k) weigh) d.spaces (λ j x at. only_none (is_child_of k) weigh x (λ child.
       let from : x.source ≡ Some k = child_source x.source k child in
       let part = is.units.parts j x at in
       let own : x.arena.owned ≡ [] = part.owned k from in
@@ -112,7 +112,7 @@ module _ (d : Picture) (is : IsPicture d) (kept : NothingIsKept d) where
         free = λ u over taken. (
             let base = (sound.divided.whole.tags_inside taken.0 taken.1 taken.2).0 in
             let stands = subst (λ b. get s.arena.allocated b ≡ Some taken.1) (sym base) taken.2 in
-            let has : Contains (tags_of s.arena) (direct s.arena.id taken.1) = (allocated_stand s.arena (direct s.arena.id taken.1) sound).1 (record { arena = refl; route = refl; stands = stands }) in
+            let has : Contains (tags_of s.arena) (direct_tag s.arena.id taken.1) = (allocated_stand s.arena (direct_tag s.arena.id taken.1) sound).1 (record { arena = refl; route = refl; stands = stands }) in
             omega (arith, has.1, ap (λ (ts : List Tag). length ts) none)
             );
       }

@@ -5,7 +5,7 @@ use Rattle.deed_core.specs.Extent.{Extent, Covers, Overlap}
 use Rattle.deed_core.specs.Holding.{Holding}
 use Rattle.deed_core.specs.Tag.{Tag}
 use Rattle.deed_core.specs.Covering.{covers, covers_held, covering_held}
-use Rattle.deed_core.specs.Request.{plain_of, rounded}
+use Rattle.deed_core.specs.Request.{plain_of, rounding_of}
 use Rattle.deed_core.specs.declared.requests.Request.{Request}
 use Rattle.deed_core.proofs.LawProofs.{covers_is, counts_the_unit, contained_in_sum, sum_none, all_at, slice_get-set_other, slice_get_mapped, slice_get_one, rounds_up, power_some}
 use Rattle.tag_arena.specs.ArenaState.{spans_of}
@@ -57,12 +57,12 @@ HasFirst [] = ⊥
 HasFirst (l ∷ up) = 0 < l.quantum
 
 -- what is imported for some units has room for them
-long_enough : (l : Level) (up : List Level) (n a : ℕ) → HasFirst up → amount_of l up n ≤ a → a ≤ 2 ^ 62 → rounded l.quantum n ≤ a
+long_enough : (l : Level) (up : List Level) (n a : ℕ) → HasFirst up → amount_of l up n ≤ a → a ≤ 2 ^ 62 → rounding_of l.quantum n ≤ a
 long_enough l [] n a has most top = absurd has
 long_enough l (s ∷ up) n a has most top =
-    let own : ℕ = rounded l.quantum n in
+    let own : ℕ = rounding_of l.quantum n in
     let asked : ℕ = max own l.import_min in
-    let up_to : asked ≤ rounded s.quantum asked = (rounds_up s.quantum asked has).1 in
+    let up_to : asked ≤ rounding_of s.quantum asked = (rounds_up s.quantum asked has).1 in
     omega (arith, most, top, up_to)
 
 none_up : (m : ℕ) (tree : List TreeArena) → chain_up m tree None ≡ []
@@ -135,10 +135,10 @@ module _ (d : Picture) (tree : IsTree d.tree) (plans : plans_of d.spaces ≡ pla
       let source : i.space.source ≡ Some p = ap (λ (y : SpacePlan). y.source) plan ∙ from in
       let does = i.does in
       let base : t.holding.range.base ≡ span.holding.range.base = ap (λ (y : Tag). y.holding.range.base) does.segment in
-      let len : t.holding.range.len ≡ rounded x.quantum n = ap (λ (y : Tag). y.holding.range.len) does.segment ∙ ap (λ (z : ℕ). rounded z n) quantum in
-      let room : rounded x.quantum n ≤ span.holding.range.len = long_enough l up n span.holding.range.len (climbs_first m p (amount_of l up n) span d.spaces mid climbs) reached.long reached.top in
+      let len : t.holding.range.len ≡ rounding_of x.quantum n = ap (λ (y : Tag). y.holding.range.len) does.segment ∙ ap (λ (z : ℕ). rounding_of z n) quantum in
+      let room : rounding_of x.quantum n ≤ span.holding.range.len = long_enough l up n span.holding.range.len (climbs_first m p (amount_of l up n) span d.spaces mid climbs) reached.long reached.top in
       let some : 0 < x.quantum = subst (λ (z : ℕ). 0 < z) quantum (quantum_some k i.space at) in
-      let more : n ≤ rounded x.quantum n = (rounds_up x.quantum n some).1 in
+      let more : n ≤ rounding_of x.quantum n = (rounds_up x.quantum n some).1 in
       record {
         free_for = λ u over. (
             let inside : Covers span.holding.range u = (omega (arith, base, over.0), omega (arith, base, len, room, over.1)) in
@@ -153,7 +153,7 @@ module _ (d : Picture) (tree : IsTree d.tree) (plans : plans_of d.spaces ≡ pla
   on_reaches m rest k n t new (Some x) here climbs = elim climbs [
     | inl carves ↦
         let fits = carves.does.fits in
-        let more : n ≤ rounded carves.space.arena.quantum n = (rounds_up carves.space.arena.quantum n (quantum_some k carves.space carves.at)).1 in
+        let more : n ≤ rounding_of carves.space.arena.quantum n = (rounds_up carves.space.arena.quantum n (quantum_some k carves.space carves.at)).1 in
         record {
           free_for = carve_reaches k (plain_of n) t new carves;
           long = omega (arith, fits.size, more);

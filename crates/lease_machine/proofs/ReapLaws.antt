@@ -12,13 +12,13 @@ use Rattle.quantum_cache.specs.Laws.{reap_left}
 use Rattle.quantum_cache.specs.Reaps.{reap_plan}
 use Rattle.quantum_cache.proofs.LawProofs.{reap_handles}
 use Rattle.local_parts.specs.States.{LocalState}
-use Rattle.local_calls.specs.Looks.{findable_in}
+use Rattle.local_calls.specs.Looks.{finds_in_spaces}
 use Rattle.local_calls.specs.Reaped.{HasNoneToReap, NoneToReap}
 use Rattle.local_calls.specs.Runs.{RunsTo}
 use Rattle.local_calls.proofs.LawProofs.{reap_leaves_nothing, reap_takes_few_looks}
 use Rattle.lease_machine.specs.Held.{IsHeld, with_parts}
 use Rattle.lease_machine.specs.Moves.{outline_of}
-use Rattle.lease_machine.specs.Operators.{IsReapedOut, LosesSlabs, LosesSpans, ReapsAll, ReapsSome, after_reap, cached_units, depots_of, depots_reaped, rover_of}
+use Rattle.lease_machine.specs.Operators.{IsReapedOut, LosesSlabs, LosesSpans, ReapsAll, ReapsSome, after_reap, cached_units, depots_of, depots_after_reap, rover_of}
 use Rattle.lease_machine.specs.Picture.{NumberedCpu, Picture, SameSetup, held_outside, is_cpu}
 use Rattle.lease_machine.specs.ReapLaws.{ReapedTo, ReapReaps, ReapsNone, ReapingsAdd}
 use Rattle.lease_machine.proofs.CachedUnits.{units_gone}
@@ -59,10 +59,10 @@ settled d none empty =
     by zero not_some = refl
     by (suc n) not_some = absurd (not_some (omega arith))
 
-all_settled : (spaces : List SpaceState) → NoneToReap spaces → map depots_of spaces ≡ map depots_reaped spaces
-all_settled spaces none = map_alike depots_of depots_reaped spaces (λ k s at. sym (in_space k s at))
+all_settled : (spaces : List SpaceState) → NoneToReap spaces → map depots_of spaces ≡ map depots_after_reap spaces
+all_settled spaces none = map_alike depots_of depots_after_reap spaces (λ k s at. sym (in_space k s at))
   where
-    in_space : (k : ℕ) (s : SpaceState) → slice_get spaces k ≡ Some s → depots_reaped s ≡ depots_of s
+    in_space : (k : ℕ) (s : SpaceState) → slice_get spaces k ≡ Some s → depots_after_reap s ≡ depots_of s
     in_space k s at = each s.caches (λ j c among. none k j c (record { space = s; at = at; among = among }))
       where
         each : (cs : List QuantumCacheState) → ((j : ℕ) (c : QuantumCacheState) → slice_get cs j ≡ Some c → HasNoneToReap c) → map after_reap (map (λ (c : QuantumCacheState). c.depot) cs) ≡ map (λ (c : QuantumCacheState). c.depot) cs
@@ -132,7 +132,7 @@ module _ (d : Picture) (limit : ℕ) (s : LocalState) (r : Reaping) (held : IsHe
         left = all_out s.spaces none;
       }
 
-  looks : limit + findable_in s.spaces ≤ r.left + findable_in d.spaces + 2 * MOST_CACHES * length d.tree
+  looks : limit + finds_in_spaces s.spaces ≤ r.left + finds_in_spaces d.spaces + 2 * MOST_CACHES * length d.tree
   looks =
       let few = reap_takes_few_looks d.tree limit was s r (local d d.selected c found None held) run in
       let count : length d.spaces ≡ length d.tree = sym (length-map d.spaces plan_of) ∙ (ap length held.plans ∙ length-map d.tree plan_for) in
@@ -175,11 +175,11 @@ space_stood old new see after same k x at =
     (m.0, m.1)
 
 -- a cache stands where one stood whose depot was left so
-stood : (old new : List SpaceState) (see : SpaceState → List DepotState) → map see new ≡ map depots_reaped old → (k j : ℕ) (s : SpaceState) (y : DepotState) → slice_get new k ≡ Some s → slice_get (see s) j ≡ Some y → (z : QuantumCacheState) × IsCacheAt old k j z
+stood : (old new : List SpaceState) (see : SpaceState → List DepotState) → map see new ≡ map depots_after_reap old → (k j : ℕ) (s : SpaceState) (y : DepotState) → slice_get new k ≡ Some s → slice_get (see s) j ≡ Some y → (z : QuantumCacheState) × IsCacheAt old k j z
 stood old new see same k j s y at among =
-    let there : slice_get (map depots_reaped old) k ≡ Some (see s) = ap (λ ls. slice_get ls k) (sym same) ∙ slice_get_mapped see new k s at in
-    let space = mapped depots_reaped old k (see s) there in
-    let one : slice_get (depots_reaped space.0) j ≡ Some y = ap (λ ds. slice_get ds j) (sym space.2) ∙ among in
+    let there : slice_get (map depots_after_reap old) k ≡ Some (see s) = ap (λ ls. slice_get ls k) (sym same) ∙ slice_get_mapped see new k s at in
+    let space = mapped depots_after_reap old k (see s) there in
+    let one : slice_get (depots_after_reap space.0) j ≡ Some y = ap (λ ds. slice_get ds j) (sym space.2) ∙ among in
     let depot = mapped after_reap (depots_of space.0) j y one in
     let cache = mapped (λ (c : QuantumCacheState). c.depot) space.0.caches j depot.0 depot.1 in
     (cache.0, record { space = space.0; at = space.1; among = cache.1 })
@@ -204,7 +204,7 @@ reapings_add m n d e f first = (some, all)
       parts = second.parts ∙ ap (λ (z : Picture). record z { spaces = f.spaces }) first.parts;
       units_are = omega (arith, first.units_are, second.units_are);
       depots = second.depots ∙ first.depots;
-      slabs = slabs_then (λ k j x there. stood e.spaces f.spaces depots_reaped second.depots k j there.space (after_reap x.depot) there.at
+      slabs = slabs_then (λ k j x there. stood e.spaces f.spaces depots_after_reap second.depots k j there.space (after_reap x.depot) there.at
           (slice_get_mapped after_reap (depots_of there.space) j x.depot (slice_get_mapped (λ (c : QuantumCacheState). c.depot) there.space.caches j x there.among))) second.slabs;
       rovers = second.rovers ∙ first.rovers;
       spans = spans_between second.rovers second.spans;

@@ -11,7 +11,7 @@ use Rattle.magazine_layer.specs.Magazines.{IsSize}
 use Rattle.magazine_layer.specs.Depots.{DepotState, IsDepot, after_resize, all_rounds, depot_rounds}
 use Rattle.stock.specs.Spaces.{SpaceState, QuantumCacheState, SpacePlan, IsCacheAt, slab_size_of, plan_of, plans_of, quantum_of, quanta_of}
 use Rattle.stock.specs.Stocks.{IsStock, IsSpaceAt, IsQuantumCache, IsRoundOf}
-use Rattle.stock.specs.Accounts.{Frames, allocated, imported, slabs, slabs_in, chunks, chunks_in, rounds, rounds_in}
+use Rattle.stock.specs.Accounts.{Frames, weight_allocated, weight_imported, slabs, slabs_in, chunks, chunks_in, rounds, rounds_in}
 use Rattle.stock.specs.OwnCaches.{OwnCacheState}
 use Rattle.stock_audit.specs.Accounted.{IsAccountedFor}
 use Rattle.stock_audit.specs.Outside.{Outside}
@@ -22,7 +22,7 @@ use Rattle.lease_proto.specs.declared.operators.MagazineSize.TheVariants as size
 use Rattle.lease_proto.specs.Cpus.{IsCpu}
 use Rattle.lease_proto.specs.Operators.{rounds_named}
 use Rattle.lease_machine.specs.Picture.{Picture, IsPicture, IsShapedIn, SameSetup, held_outside, owned_by}
-use Rattle.lease_machine.specs.Operators.{change_depot, on_depots, after_rise}
+use Rattle.lease_machine.specs.Operators.{with_depot_by, with_depots_by, after_rise}
 use Rattle.lease_machine.specs.StepLaws.{ResizesKeep}
 use Rattle.lease_machine.proofs.Ticking.{sums_same, maps_same, with_sizes}
 
@@ -73,10 +73,10 @@ module _ (m : ℕ) (taken : IsSize m) where
   ]
 
   abbrev risen_cache : QuantumCacheState → QuantumCacheState
-  risen_cache c = change_depot (after_rise m) c
+  risen_cache c = with_depot_by (after_rise m) c
 
   abbrev risen : SpaceState → SpaceState
-  risen s = on_depots (after_rise m) s
+  risen s = with_depots_by (after_rise m) s
 
   cache_stays : (index number quantum : ℕ) (c : QuantumCacheState) → IsQuantumCache index number quantum c → IsQuantumCache index number quantum (risen_cache c)
   cache_stays index number quantum c is = record {
@@ -125,9 +125,9 @@ module _ (m : ℕ) (taken : IsSize m) where
     frame_stays : Frames spaces [] spaces_then []
     frame_stays rest a = record {
       exports = λ f. (
-          let own = sums_stay (allocated f) refl in
+          let own = sums_stay (weight_allocated f) refl in
           let spans = sums_stay (slabs f) (sums_same risen_cache (slabs_in f) (λ c. refl) s.caches) in
-          let below = sums_stay (imported f) refl in
+          let below = sums_stay (weight_imported f) refl in
           omega (arith, a.exports f, own, spans, below)
           );
       chunks_out = λ f. (

@@ -9,7 +9,7 @@ use Rattle.slab_layer.specs.Slab.{SlabState}
 use Rattle.stock.specs.Spaces.{SpaceState, QuantumCacheState, IsCacheAt, with_cache, with_arena}
 use Rattle.tag_arena.specs.ArenaState.{ArenaState}
 use Rattle.lease_machine.specs.Moves.{outline_of}
-use Rattle.lease_machine.specs.Operators.{LosesSlabs, LosesSpans, after_reap, depots_of, depots_reaped, rover_of}
+use Rattle.lease_machine.specs.Operators.{LosesSlabs, LosesSpans, after_reap, depots_of, depots_after_reap, rover_of}
 
 -- the units of the spans of slabs
 abbrev pub span_units : SlabState → ℕ
@@ -70,7 +70,7 @@ spans_then a b c first second = record {
 -- so many units of slabs were taken out
 pub record Takes (units : ℕ) (old new : List SpaceState) : Type 0 where
   pub weigh : sum_by slab_units_of old ≡ sum_by slab_units_of new + units
-  pub depots : map depots_reaped new ≡ map depots_reaped old
+  pub depots : map depots_after_reap new ≡ map depots_after_reap old
   pub slabs : (k j : ℕ) (x : QuantumCacheState) → IsCacheAt new k j x → (c : QuantumCacheState) × IsCacheAt old k j c × LosesSlabs c.slab x.slab
   pub rovers : map rover_of new ≡ map rover_of old
   pub spans : (k : ℕ) (x : SpaceState) → slice_get new k ≡ Some x → (s : SpaceState) × (slice_get old k ≡ Some s) × LosesSpans s x
@@ -125,9 +125,9 @@ module _ (old new : List SpaceState) (k j : ℕ) (space : SpaceState) (c d : Qua
         );
     depots = (
         let here : map (λ (z : QuantumCacheState). z.depot) (set space.caches j d) ≡ set (map (λ (z : QuantumCacheState). z.depot) space.caches) j d.depot = map-set (λ (z : QuantumCacheState). z.depot) space.caches j d in
-        let same : depots_reaped (with_cache j d space) ≡ depots_reaped space =
+        let same : depots_after_reap (with_cache j d space) ≡ depots_after_reap space =
         ap (map after_reap) here ∙ map_set_same after_reap (depots_of space) j c.depot d.depot (slice_get_mapped (λ (z : QuantumCacheState). z.depot) space.caches j c among) depot in
-        ap (map depots_reaped) after ∙ map_set_same depots_reaped old k space (with_cache j d space) at same
+        ap (map depots_after_reap) after ∙ map_set_same depots_after_reap old k space (with_cache j d space) at same
         );
     slabs = one_cache loses;
     rovers = ap (map rover_of) after ∙ map_set_same rover_of old k space (with_cache j d space) at refl;
@@ -145,7 +145,7 @@ arena_takes old new k space a at after rover loses = record {
       let now = ap (sum_by slab_units_of) after in
       omega (arith, outer, now)
       );
-  depots = ap (map depots_reaped) after ∙ map_set_same depots_reaped old k space (with_arena a space) at refl;
+  depots = ap (map depots_after_reap) after ∙ map_set_same depots_after_reap old k space (with_arena a space) at refl;
   slabs = λ i n x there. elim (written old k i (with_arena a space) there.space (ap (λ xs. slice_get xs i) (sym after) ∙ there.at)) [
     | inl here ↦ (x, record { space = space; at = ap (slice_get old) here.0 ∙ at; among = ap (λ (s : SpaceState). slice_get s.caches n) (sym here.1) ∙ there.among }, loses_none x.slab x.slab refl refl)
     | inr other ↦ (x, record { space = there.space; at = other.1; among = there.among }, loses_none x.slab x.slab refl refl)

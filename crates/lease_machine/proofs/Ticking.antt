@@ -6,7 +6,7 @@ use Rattle.deed_core.proofs.LawProofs.{mapped}
 use Rattle.magazine_layer.specs.Depots.{after_tick}
 use Rattle.stock.specs.Spaces.{SpaceState, QuantumCacheState, SpacePlan, slab_size_of, plan_of, plans_of, quantum_of, quanta_of}
 use Rattle.stock.specs.Stocks.{IsStock, IsSpaceAt, IsQuantumCache}
-use Rattle.stock.specs.Accounts.{Frames, allocated, imported, slabs, slabs_in, chunks, chunks_in, rounds, rounds_in}
+use Rattle.stock.specs.Accounts.{Frames, weight_allocated, weight_imported, slabs, slabs_in, chunks, chunks_in, rounds, rounds_in}
 use Rattle.stock.specs.OwnCaches.{OwnCacheState}
 use Rattle.stock_audit.specs.Accounted.{IsAccountedFor}
 use Rattle.stock_audit.specs.Outside.{Outside}
@@ -17,7 +17,7 @@ use Rattle.lease_proto.specs.declared.operators.ServedLine.{ServedLine}
 use Rattle.lease_proto.specs.Cpus.{IsCpu}
 use Rattle.lease_proto.specs.Reports.{ok_text}
 use Rattle.lease_machine.specs.Picture.{Picture, IsPicture, IsShapedIn, held_outside, owned_by}
-use Rattle.lease_machine.specs.Operators.{change_depot, on_depots}
+use Rattle.lease_machine.specs.Operators.{with_depot_by, with_depots_by}
 use Rattle.lease_machine.specs.Machine.{AnswersLine}
 use Rattle.lease_machine.specs.StepLaws.{TicksAreAnswered, TicksKeep}
 
@@ -30,10 +30,10 @@ maps_same h g same [] = refl
 maps_same h g same (x ∷ xs) = ap (λ y. y ∷ map g (map h xs)) (same x) ∙ ap (λ ys. g x ∷ ys) (maps_same h g same xs)
 
 abbrev ticked : SpaceState → SpaceState
-ticked s = on_depots after_tick s
+ticked s = with_depots_by after_tick s
 
 abbrev ticked_cache : QuantumCacheState → QuantumCacheState
-ticked_cache c = change_depot after_tick c
+ticked_cache c = with_depot_by after_tick c
 
 abbrev pub with_sizes : SpaceState → List ℕ → SpacePlan
 with_sizes s sizes = record { source = s.source; quantum = s.arena.quantum; policy = s.arena.policy; slab_sizes = sizes }
@@ -75,9 +75,9 @@ stock_stays spaces is k x at =
 frame_stays : (spaces : List SpaceState) → Frames spaces [] (map ticked spaces) []
 frame_stays spaces rest a = record {
   exports = λ f. (
-      let own = sums_same ticked (allocated f) (λ s. refl) spaces in
+      let own = sums_same ticked (weight_allocated f) (λ s. refl) spaces in
       let spans = sums_same ticked (slabs f) (λ s. sums_same ticked_cache (slabs_in f) (λ c. refl) s.caches) spaces in
-      let below = sums_same ticked (imported f) (λ s. refl) spaces in
+      let below = sums_same ticked (weight_imported f) (λ s. refl) spaces in
       omega (arith, a.exports f, own, spans, below)
       );
   chunks_out = λ f. (

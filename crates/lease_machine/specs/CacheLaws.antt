@@ -1,6 +1,6 @@
 -- Which quantum cache serves a request.
 use Rattle.std.specs.Prelude.{◌≡◌, ℕ, ◌+◌, ◌*◌, ◌<◌, List, slice_get, Some, MatchOption}
-use Rattle.deed_core.specs.Request.{IsPlain, rounded}
+use Rattle.deed_core.specs.Request.{IsPlain, rounding_of}
 use Rattle.deed_core.specs.declared.requests.Request.{Request}
 use Rattle.arena_tree.specs.declared.trees.TreeArena.{TreeArena}
 use Rattle.arena_tree.specs.Trees.{IsTree, level_of}
@@ -14,4 +14,4 @@ CachedByNumber = (tree : List TreeArena) (index : ℕ) (x : TreeArena) (q : Requ
     → slice_get tree index ≡ Some x → IsPlain q → 0 < q.size
     → MatchOption (cache_for (level_of index x) q.size) (¬ IsCachedIn x q)
     (λ number. IsCachedIn x q × ((cache : ℕ) × (number ≡ cache + 1)
-    × (rounded x.quantum q.size ≡ (cache + 1) * x.quantum)))
+    × (rounding_of x.quantum q.size ≡ (cache + 1) * x.quantum)))

@@ -105,14 +105,15 @@ OfflineIsLocal = (d : Picture) (n : ℕ) (c : NumberedCpu) → IsHeld [] d
     → IsLocalOf d.tree (parts_of_cpu d c)
     × ((others : List Tag) × IsAccountedWith (parts_of_cpu d c) None others)
 
--- its caches begin anew, over these arenas
-abbrev pub begun_anew : ℕ → List SpaceState → Picture → Picture
-begun_anew n spaces d = record d { spaces = spaces; cpus = map (after_renewal n d.spaces) d.cpus }
+-- the CPU begins with new caches, over these arenas
+abbrev pub after_offline : ℕ → List SpaceState → Picture → Picture
+after_offline n spaces d =
+    record d { spaces = spaces; cpus = map (after_renewal n d.spaces) d.cpus }
 
 -- a CPU that is drained, and then begins anew, went offline
 abbrev pub DrainGoesOffline : Type 0
 DrainGoesOffline = (d : Picture) (n turns : ℕ) (c : NumberedCpu) (s : LocalState) → IsHeld [] d
     → find (is_cpu n) d.cpus ≡ Some c
     → RunsTo d.tree (drain_plan turns d.tree) (parts_of_cpu d c) s (Ok tt)
-    → GoesOffline n d (begun_anew n s.spaces d) × IsHeld [] (begun_anew n s.spaces d)
-    × SameSetup d (begun_anew n s.spaces d)
+    → GoesOffline n d (after_offline n s.spaces d) × IsHeld [] (after_offline n s.spaces d)
+    × SameSetup d (after_offline n s.spaces d)

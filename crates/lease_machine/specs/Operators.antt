@@ -46,12 +46,12 @@ pub record GoesOffline (n : ℕ) (old new : Picture) : Type 0 where
   pub depots : map depots_of new.spaces ≡ map depots_of old.spaces
   pub rest : new ≡ record old { spaces = new.spaces; cpus = new.cpus }
 
--- the arena's depots changed so
-abbrev pub change_depot : (DepotState → DepotState) → QuantumCacheState → QuantumCacheState
-change_depot f c = with_depot (f c.depot) c
+-- the cache with its depot changed so, and the arena with all its depots
+abbrev pub with_depot_by : (DepotState → DepotState) → QuantumCacheState → QuantumCacheState
+with_depot_by f c = with_depot (f c.depot) c
 
-abbrev pub on_depots : (DepotState → DepotState) → SpaceState → SpaceState
-on_depots f s = with_caches (map (change_depot f) s.caches) s
+abbrev pub with_depots_by : (DepotState → DepotState) → SpaceState → SpaceState
+with_depots_by f s = with_caches (map (with_depot_by f) s.caches) s
 
 -- the depot keeps magazines of this size from here on, if it is greater than its own
 abbrev pub after_rise : ℕ → DepotState → DepotState
@@ -70,7 +70,7 @@ Resizes name m old text new =
     × (text ≡ error_text Size) × (new ≡ old))
     ⊎ ((index : ℕ) × (s : SpaceState) × (index_in name old.tree ≡ Some index)
     × (slice_get old.spaces index ≡ Some s) × HasSmaller m s × (text ≡ ok_text)
-    × (new ≡ record old { spaces = set old.spaces index (on_depots (after_rise m) s) }))
+    × (new ≡ record old { spaces = set old.spaces index (with_depots_by (after_rise m) s) }))
 
 -- where the units of the arena are
 abbrev pub sums_in : Picture → SpaceState → Sums
@@ -133,15 +133,15 @@ pub record ReapsAll (units : ℕ) (old new : Picture) : Type 0 where
   pub left : All (λ s. All IsReapedOut s.caches) new.spaces
 
 -- what reaping leaves of an arena's depots
-abbrev pub depots_reaped : SpaceState → List DepotState
-depots_reaped s = map after_reap (depots_of s)
+abbrev pub depots_after_reap : SpaceState → List DepotState
+depots_after_reap s = map after_reap (depots_of s)
 
 -- the same of a reaping that may have been broken off: reaping leaves of the new depots what it
 -- leaves of the old ones
 pub record ReapsSome (units : ℕ) (old new : Picture) : Type 0 where
   pub parts : PartsAlone old new
   pub units_are : cached_units old ≡ cached_units new + units
-  pub depots : map depots_reaped new.spaces ≡ map depots_reaped old.spaces
+  pub depots : map depots_after_reap new.spaces ≡ map depots_after_reap old.spaces
   pub slabs : (k j : ℕ) (c x : QuantumCacheState) → IsCacheAt old.spaces k j c
       → IsCacheAt new.spaces k j x → LosesSlabs c.slab x.slab
   pub rovers : map rover_of new.spaces ≡ map rover_of old.spaces
@@ -184,7 +184,7 @@ Performs (operator.Cpu n) old text new =
     (text ≡ ok_text) × (new ≡ record old { cpus = with_cpu n old; selected = n })
 Performs (operator.Offline n) old text new = (text ≡ ok_text) × GoesOffline n old new
 Performs operator.Tick old text new =
-    (text ≡ ok_text) × (new ≡ record old { spaces = map (on_depots after_tick) old.spaces })
+    (text ≡ ok_text) × (new ≡ record old { spaces = map (with_depots_by after_tick) old.spaces })
 Performs (operator.Resize r) old text new = Resizes r.arena (rounds_named r.size) old text new
 Performs operator.Reap old text new =
     (units : ℕ) × (text ≡ reaped_text (record { units = units })) × ReapsAll units old new

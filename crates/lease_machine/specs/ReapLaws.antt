@@ -4,7 +4,7 @@ use Rattle.arena_tree.specs.declared.limits.TheConstants.{MOST_CACHES}
 use Rattle.quantum_cache.specs.declared.reaps.Reaping.{Reaping}
 use Rattle.quantum_cache.specs.Reaps.{reap_plan}
 use Rattle.local_parts.specs.States.{LocalState}
-use Rattle.local_calls.specs.Looks.{findable_in}
+use Rattle.local_calls.specs.Looks.{finds_in_spaces}
 use Rattle.local_calls.specs.Runs.{RunsTo}
 use Rattle.lease_machine.specs.Picture.{Picture, SameSetup}
 use Rattle.lease_machine.specs.Operators.{ReapsSome, ReapsAll, cached_units}
@@ -18,8 +18,8 @@ pub record ReapedTo (limit : ℕ) (d : Picture) (r : Reaping) (s : LocalState) :
   pub held : IsHeld [] (with_parts s d)
   pub setup : SameSetup d (with_parts s d)
   pub parts : s ≡ parts_in (with_parts s d)
-  pub fewer : limit + findable_in s.spaces
-      ≤ r.left + findable_in d.spaces + 2 * MOST_CACHES * length d.tree
+  pub fewer : limit + finds_in_spaces s.spaces
+      ≤ r.left + finds_in_spaces d.spaces + 2 * MOST_CACHES * length d.tree
 
 abbrev pub ReapReaps : Type 0
 ReapReaps = (d : Picture) (limit : ℕ) (s : LocalState) (r : Reaping) → IsHeld [] d

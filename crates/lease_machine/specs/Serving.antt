@@ -4,7 +4,7 @@ use Rattle.std.specs.Prelude.{Some, None}
 use Rattle.std.specs.List.{find}
 use Rattle.deed_core.specs.Extent.{Covers}
 use Rattle.deed_core.specs.Tag.{Tag}
-use Rattle.deed_core.specs.Request.{Fits, IsPlain, rounded}
+use Rattle.deed_core.specs.Request.{Fits, IsPlain, rounding_of}
 use Rattle.deed_core.specs.declared.requests.Request.{Request}
 use Rattle.slab_layer.specs.Cache.{idle_chunks}
 use Rattle.arena_tree.specs.declared.trees.TreeArena.{TreeArena}
@@ -30,13 +30,13 @@ selected_outside d = outside [] [] (all_or_none (find (is_cpu d.selected) d.cpus
 
 -- the arena serves the request by its caches: it isn't constrained, and no greater than they are
 abbrev pub IsCachedIn : TreeArena → Request → Type 0
-IsCachedIn x q = IsPlain q × (rounded x.quantum q.size ≤ x.qcache_max)
+IsCachedIn x q = IsPlain q × (rounding_of x.quantum q.size ≤ x.qcache_max)
 
 -- the quantum cache whose chunks are so long, with the selected CPU's cache for it
 pub record CacheFor (d : Picture) (index : ℕ) (x : TreeArena) (q : Request)
     (c : QuantumCacheState) (o : OwnCacheState) : Type 0 where
   pub cache : ℕ
-  pub size : rounded x.quantum q.size ≡ (cache + 1) * x.quantum
+  pub size : rounding_of x.quantum q.size ≡ (cache + 1) * x.quantum
   pub shared : IsCacheAt d.spaces index cache c
   pub own : IsOwnAt (selected_caches d) index cache o
 

@@ -16,7 +16,7 @@ use Rattle.lease_proto.specs.Cpus.{IsCpu}
 use Rattle.lease_proto.specs.Operators.{served_of, rounds_named}
 use Rattle.lease_book.specs.BookState.{account_in}
 use Rattle.lease_machine.specs.Picture.{Picture, IsPicture, SameSetup}
-use Rattle.lease_machine.specs.Operators.{HasSmaller, Resizes, on_depots}
+use Rattle.lease_machine.specs.Operators.{HasSmaller, Resizes, with_depots_by}
 use Rattle.lease_machine.specs.Replies.{IsKnownReply}
 use Rattle.lease_machine.specs.Machine.{LeaseStep}
 use Rattle.lease_machine.specs.AnswerLaws.{reply_bytes, IsRequestLine}
@@ -73,8 +73,8 @@ VainResizesAreAnswered = (d : Picture) (line : List ℕ) (r : ResizeLine) → Is
 -- an interval that begins in each depot leaves a picture of the same setup
 abbrev pub TicksKeep : Type 0
 TicksKeep = (d : Picture) → IsPicture d
-    → IsPicture (record d { spaces = map (on_depots after_tick) d.spaces })
-    × SameSetup d (record d { spaces = map (on_depots after_tick) d.spaces })
+    → IsPicture (record d { spaces = map (with_depots_by after_tick) d.spaces })
+    × SameSetup d (record d { spaces = map (with_depots_by after_tick) d.spaces })
 
 -- and so do greater magazines
 abbrev pub ResizesKeep : Type 0

@@ -21,7 +21,7 @@ pub struct AuditLine {
     /// In spans that other arenas import.
     pub exported: u128,
     pub leased: u128,
-    /// Between two places.
+    /// On the way, in a hand.
     pub hand: u128,
 }
 

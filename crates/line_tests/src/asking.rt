@@ -67,7 +67,7 @@ pub(crate) fn add(rt: &impl Abort, setup: &mut Setup, setting: Setting) {
 pub(crate) fn opened(rt: &(impl Abort + AllocGlobal), setup: Setup) -> Desk {
     match Desk::open(rt.alloc(), setup) {
         Ok(desk) => desk,
-        Err(_) => panic!(rt; "no memory"),
+        Err(_) => panic!(rt; "out of memory"),
     }
 }
 
@@ -96,7 +96,7 @@ pub(crate) fn ask(rt: &(impl Abort + AllocGlobal), desk: &mut Desk, lines: &[(&s
         out.clear();
         match desk.answer(line.as_bytes(), &mut out) {
             Ok(()) => assert_eq!(rt; out.as_slice(), reply.as_bytes()),
-            Err(_) => panic!(rt; "no memory"),
+            Err(_) => panic!(rt; "out of memory"),
         }
     }
 }

@@ -80,7 +80,7 @@ fn too_many_arenas(rt: HostRuntime) {
                 let asked = root(&rt, text.as_str(), 0, 8, 1, Policy::Next, 0);
                 add(&rt, &mut setup, asked)
             }
-            Err(_) => panic!(rt; "no memory"),
+            Err(_) => panic!(rt; "out of memory"),
         }
     }
     let more = root(&rt, "b", 0, 8, 3, Policy::Next, 0);

@@ -20,7 +20,7 @@ use Rattle.arena_tree.specs.declared.part_faults.CarveFault.TheVariants as carvi
 use Rattle.arena_tree.specs.declared.part_faults.ClimbFault.TheVariants as climbing
 use Rattle.arena_tree.specs.declared.part_faults.ReturnFault.TheVariants as returning
 use Rattle.arena_tree.specs.Chains.{amount_of}
-use Rattle.arena_tree.specs.Climbs.{Climbed, Returned, return_plan, refused_memory, on_add, on_import, on_carve, climb_plan}
+use Rattle.arena_tree.specs.Climbs.{Climbed, Returned, return_plan, memory_refusal, on_add, on_import, on_carve, climb_plan}
 use Rattle.arena_tree.specs.Events.{Carve}
 use Rattle.arena_tree.specs.Plans.{Done}
 use Rattle.arena_tree.specs.Trees.{nodes_of}
@@ -54,7 +54,7 @@ carve_none old new k q does = words does.0 does.1 does.2
 
 module _ (arenas : List TreeArena) where
   -- what was freed again doesn't end so
-  pub given_back : (r : Returned) → refused_memory r ≡ Err climbing.NoFit → ⊥
+  pub given_back : (r : Returned) → memory_refusal r ≡ Err climbing.NoFit → ⊥
   given_back (Ok u) e = let x : Err climbing.NoMemory ≡ Err climbing.NoFit = e in cc
   given_back (Err (returning.Stuck t)) e = let x : Err (climbing.Stuck t) ≡ Err climbing.NoFit = e in cc
   given_back (Err (returning.Stopped t)) e = let x : Err (climbing.Stopped (Some t)) ≡ Err climbing.NoFit = e in cc
@@ -62,7 +62,7 @@ module _ (arenas : List TreeArena) where
   added : (up : List Level) (x : Result Tag (AddCarveFault Tag)) (old new : LocalState) → RunsTo arenas (on_add up x) old new (Err climbing.NoFit) → ⊥
   added up (Ok t) old new path = let x : Ok t ≡ Err climbing.NoFit = path.1 in cc
   added up (Err (adding.NoMemory t)) old new path =
-      let split = path_split (SoundStep (nodes_of arenas)) (return_plan up t) (λ r. Done (refused_memory r)) old new (Err climbing.NoFit) path in
+      let split = path_split (SoundStep (nodes_of arenas)) (return_plan up t) (λ r. Done (memory_refusal r)) old new (Err climbing.NoFit) path in
       given_back split.1 split.3.1
   added up (Err (adding.Overlaps t)) old new path = let x : Err (climbing.Stuck t) ≡ Err climbing.NoFit = path.1 in cc
   added up (Err (adding.NotAligned t)) old new path = let x : Err (climbing.Stuck t) ≡ Err climbing.NoFit = path.1 in cc

@@ -14,7 +14,7 @@ use Rattle.arena_tree.specs.declared.part_faults.AddCarveFault.TheVariants as ad
 use Rattle.arena_tree.specs.declared.part_faults.ClimbFault.TheVariants as climbing
 use Rattle.arena_tree.specs.declared.part_faults.ReturnFault.TheVariants as returning
 use Rattle.arena_tree.specs.Chains.{IsChain, first_id, amount_of}
-use Rattle.arena_tree.specs.Climbs.{Climbed, Returned, IsGrantOf, return_plan, on_free, refused_memory, give_back, on_add, on_import, on_carve, climb_plan}
+use Rattle.arena_tree.specs.Climbs.{Climbed, Returned, IsGrantOf, return_plan, on_free, memory_refusal, give_back_plan, on_add, on_import, on_carve, climb_plan}
 use Rattle.arena_tree.specs.Events.{Carve, Free, AddCarve}
 use Rattle.arena_tree.specs.Plans.{Plan, Done, Ask, then}
 use Rattle.arena_tree.specs.Sound.{Sound}
@@ -48,10 +48,10 @@ module _ (arenas : List TreeArena) where
   ClimbsWell chain n (Err (climbing.Stuck t)) = ⊥
   ClimbsWell chain n (Err (climbing.Stopped o)) = ⊥
 
-  pub well_refused : (post : Climbed → Type 0) → post (Err climbing.NoMemory) → (up : List Level) (t : Tag) → IsChain (nodes_of arenas) up → first_id up ≡ Some t.arena → t.route ≡ Direct → EndsWell arenas post (give_back up t)
-  well_refused post ok up t is first direct = ends_then arenas (λ (r : Returned). DoesWell r) post (return_plan up t) (λ r. Done (refused_memory r)) (well_return up t is first direct) ends
+  pub well_refused : (post : Climbed → Type 0) → post (Err climbing.NoMemory) → (up : List Level) (t : Tag) → IsChain (nodes_of arenas) up → first_id up ≡ Some t.arena → t.route ≡ Direct → EndsWell arenas post (give_back_plan up t)
+  well_refused post ok up t is first direct = ends_then arenas (λ (r : Returned). DoesWell r) post (return_plan up t) (λ r. Done (memory_refusal r)) (well_return up t is first direct) ends
     where
-      ends : (r : Returned) → DoesWell r → post (refused_memory r)
+      ends : (r : Returned) → DoesWell r → post (memory_refusal r)
       ends (Ok u) w = ok
       ends (Err (returning.Stuck x)) w = absurd w
       ends (Err (returning.Stopped x)) w = absurd w

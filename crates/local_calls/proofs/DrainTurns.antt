@@ -9,7 +9,7 @@ use Rattle.arena_tree.specs.Plans.{Plan, Done, then}
 use Rattle.arena_tree.specs.Trees.{nodes_of}
 use Rattle.arena_tree.proofs.LawProofs.{path_split}
 use Rattle.quantum_cache.specs.Caches.{chain_in, if_ok, over_caches, over_arenas}
-use Rattle.quantum_cache.specs.Drains.{Emptied, Turn, Drained, on_put_back, on_drain_pop, drain_turn, drain_end, on_turn, drain_cache, drain_arena, drain_plan}
+use Rattle.quantum_cache.specs.Drains.{Emptied, Turn, Drained, on_put_back, on_drain_pop, drain_turn, drain_end, on_turn, drain_cache_plan, drain_arena_plan, drain_plan}
 use Rattle.quantum_cache.specs.Frees.{put_chunk}
 use Rattle.quantum_cache.specs.Sizes.{caches_in}
 use Rattle.local_parts.specs.Cpus.{cpu_rounds}
@@ -57,13 +57,13 @@ module _ (arenas : List TreeArena) where
   abbrev Lasts : ℕ → Plan Drained → Type 0
   Lasts turns p = (s t : LocalState) (a : Drained) → rounds s < turns → RunsTo arenas p s t a → (rounds t ≤ rounds s) × Lasted a
 
-  cache_lasts : (turns k c : ℕ) → Lasts turns (drain_cache turns k c)
+  cache_lasts : (turns k c : ℕ) → Lasts turns (drain_cache_plan turns k c)
   cache_lasts zero k c s t a more path = absurd (omega (arith, more))
   cache_lasts (suc n) k c s t a more path =
-      let split = path_split (SoundStep (nodes_of arenas)) (drain_turn k c) (on_turn (drain_cache n k c)) s t a path in
+      let split = path_split (SoundStep (nodes_of arenas)) (drain_turn k c) (on_turn (drain_cache_plan n k c)) s t a path in
       turned split.0 split.1 (turn_takes k c s split.0 split.1 split.2) (cache_lasts n k c) split.3
     where
-      turned : (m : LocalState) (r : Turn) → (rounds m ≤ rounds s) × (r ≡ None → rounds m < rounds s) → Lasts n (drain_cache n k c) → RunsTo arenas (on_turn (drain_cache n k c) r) m t a → (rounds t ≤ rounds s) × Lasted a
+      turned : (m : LocalState) (r : Turn) → (rounds m ≤ rounds s) × (r ≡ None → rounds m < rounds s) → Lasts n (drain_cache_plan n k c) → RunsTo arenas (on_turn (drain_cache_plan n k c) r) m t a → (rounds t ≤ rounds s) × Lasted a
       turned m None first again rest =
           let fewer : rounds m < rounds s = first.1 refl in
           let last = again m t a (omega (arith, fewer, more)) rest in
@@ -99,10 +99,10 @@ module _ (arenas : List TreeArena) where
   arenas_last each one zero u = done_lasts u
   arenas_last each one (suc id) u = then_lasts (each id u) (over_arenas each id) (one id u) (arenas_last each one id)
 
-  chain_lasts : (turns : ℕ) (chain : List Level) → Lasts turns (drain_arena turns chain)
+  chain_lasts : (turns : ℕ) (chain : List Level) → Lasts turns (drain_arena_plan turns chain)
   chain_lasts turns [] = done_lasts tt
-  chain_lasts turns (l ∷ up) = caches_last (λ cache _. drain_cache turns l.id cache) (λ cache _. cache_lasts turns l.id cache) (caches_in l) (caches_in l) tt
+  chain_lasts turns (l ∷ up) = caches_last (λ cache _. drain_cache_plan turns l.id cache) (λ cache _. cache_lasts turns l.id cache) (caches_in l) (caches_in l) tt
 
   pub turns_last : (turns : ℕ) (s t : LocalState) (a : Drained) → rounds s < turns → RunsTo arenas (drain_plan turns arenas) s t a → ¬ (a ≡ Err None)
   turns_last turns s t a more path =
-      (arenas_last (λ id _. drain_arena turns (chain_in arenas id)) (λ id _. chain_lasts turns (chain_in arenas id)) (length arenas) tt s t a more path).1
+      (arenas_last (λ id _. drain_arena_plan turns (chain_in arenas id)) (λ id _. chain_lasts turns (chain_in arenas id)) (length arenas) tt s t a more path).1

@@ -25,7 +25,7 @@ use Rattle.stock.specs.Setups.{plan_for, plans_for}
 use Rattle.stock.specs.Spaces.{SpacePlan, plans_of}
 use Rattle.quantum_cache.specs.declared.emptying_faults.EmptyingFault.TheVariants as emptying
 use Rattle.quantum_cache.specs.Caches.{chain_in}
-use Rattle.quantum_cache.specs.Drains.{Turn, on_put_back, on_drain_pop, drain_turn, on_turn, drain_cache, drain_arena, drain_plan}
+use Rattle.quantum_cache.specs.Drains.{Turn, on_put_back, on_drain_pop, drain_turn, on_turn, drain_cache_plan, drain_arena_plan, drain_plan}
 use Rattle.quantum_cache.specs.Frees.{on_slab_put, put_chunk}
 use Rattle.quantum_cache.specs.Sizes.{caches_in}
 use Rattle.local_parts.specs.Cpus.{IsCpuOf, HasNoRound, indexes_from}
@@ -111,14 +111,14 @@ module _ (arenas : List TreeArena) where
           (subst (Keeps old) rest.0 keeps, λ is. absurd (let e : Some (Err (emptying.Stopped None)) ≡ Some (Ok tt) = rest.1 ∙ is in cc))
 
   -- the rounds of one cache
-  cache_empties : (turns k c : ℕ) (old new : LocalState) → IsOf old → RunsTo arenas (drain_cache turns k c) old new (Ok tt) → Keeps old new × ((j : ℕ) → c ≡ j + 1 → EmptyAt new.cpu k j)
+  cache_empties : (turns k c : ℕ) (old new : LocalState) → IsOf old → RunsTo arenas (drain_cache_plan turns k c) old new (Ok tt) → Keeps old new × ((j : ℕ) → c ≡ j + 1 → EmptyAt new.cpu k j)
   cache_empties zero k c old new of path = absurd (let e : Err None ≡ Ok tt = path.1 in cc)
   cache_empties (suc turns) k c old new of path =
-      let split = path_split (SoundStep (nodes_of arenas)) (drain_turn k c) (on_turn (drain_cache turns k c)) old new (Ok tt) path in
+      let split = path_split (SoundStep (nodes_of arenas)) (drain_turn k c) (on_turn (drain_cache_plan turns k c)) old new (Ok tt) path in
       turned split.0 split.1 (turn_keeps k c old split.0 split.1 split.2) split.3 (cache_empties turns k c split.0 new)
     where
-      turned : (m : LocalState) (r : Turn) → Keeps old m × (r ≡ Some (Ok tt) → HasNoRoundOf m k c) → RunsTo arenas (on_turn (drain_cache turns k c) r) m new (Ok tt)
-          → (IsOf m → RunsTo arenas (drain_cache turns k c) m new (Ok tt) → Keeps m new × ((j : ℕ) → c ≡ j + 1 → EmptyAt new.cpu k j)) → Keeps old new × ((j : ℕ) → c ≡ j + 1 → EmptyAt new.cpu k j)
+      turned : (m : LocalState) (r : Turn) → Keeps old m × (r ≡ Some (Ok tt) → HasNoRoundOf m k c) → RunsTo arenas (on_turn (drain_cache_plan turns k c) r) m new (Ok tt)
+          → (IsOf m → RunsTo arenas (drain_cache_plan turns k c) m new (Ok tt) → Keeps m new × ((j : ℕ) → c ≡ j + 1 → EmptyAt new.cpu k j)) → Keeps old new × ((j : ℕ) → c ≡ j + 1 → EmptyAt new.cpu k j)
       turned m None first rest again = let more = again (still_of old m first.0 of) rest in (keeps_then old m new first.0 more.0, more.1)
       turned m (Some (Ok u)) first rest again =
           let none : HasNoRoundOf m k c = first.1 refl in
@@ -155,12 +155,12 @@ module _ (arenas : List TreeArena) (tree : IsTree arenas) (turns : ℕ) where
   ArenaEmptied : ℕ → LocalState → Type 0
   ArenaEmptied id s = (x : TreeArena) → slice_get arenas id ≡ Some x → (j : ℕ) → j < x.qcache_max / x.quantum → EmptyAt s.cpu id j
 
-  arena_empties : (chain : List Level) (id : ℕ) → IsChain (nodes_of arenas) chain → first_id chain ≡ Some id → (old new : LocalState) → IsOf old → RunsTo arenas (drain_arena turns chain) old new (Ok tt) → Keeps old new × ArenaEmptied id new
+  arena_empties : (chain : List Level) (id : ℕ) → IsChain (nodes_of arenas) chain → first_id chain ≡ Some id → (old new : LocalState) → IsOf old → RunsTo arenas (drain_arena_plan turns chain) old new (Ok tt) → Keeps old new × ArenaEmptied id new
   unfolding ArenaEmptied
   arena_empties [] id is first old new of path = absurd (let e : None ≡ Some id = first in cc)
   arena_empties (l ∷ up) id is first old new of path =
       let here : l.id ≡ id = (let e : Some l.id ≡ Some id = first in cc) in
-      let walk = caches_walk arenas Keeps keeps_same keeps_then IsOf still_of (λ (u : Unit {0}). Unit {0}) (λ cache (u : Unit {0}). drain_cache turns l.id cache)
+      let walk = caches_walk arenas Keeps keeps_same keeps_then IsOf still_of (λ (u : Unit {0}). Unit {0}) (λ cache (u : Unit {0}). drain_cache_plan turns l.id cache)
       (λ c s. (j : ℕ) → c ≡ j + 1 → EmptyAt s.cpu l.id j) (λ c s t keeps done j number. keeps.empty l.id j (done j number))
       (λ c x y s t inv run. let one = cache_empties arenas turns l.id c s t inv run in (one.0, λ live. (tt, one.1)))
       (caches_in l) (caches_in l) (omega arith) tt tt old new of path in
@@ -174,7 +174,7 @@ module _ (arenas : List TreeArena) (tree : IsTree arenas) (turns : ℕ) where
   drain_empties : (old new : LocalState) → IsOf old → RunsTo arenas (drain_plan turns arenas) old new (Ok tt) → Keeps old new × ((id : ℕ) → id < length arenas → ArenaEmptied id new)
   unfolding ArenaEmptied
   drain_empties old new of path =
-      let walk = arenas_walk arenas Keeps keeps_same keeps_then IsOf still_of (λ (u : Unit {0}). Unit {0}) (λ id (u : Unit {0}). drain_arena turns (chain_in arenas id))
+      let walk = arenas_walk arenas Keeps keeps_same keeps_then IsOf still_of (λ (u : Unit {0}). Unit {0}) (λ id (u : Unit {0}). drain_arena_plan turns (chain_in arenas id))
       ArenaEmptied (λ id s t keeps done x at j within. keeps.empty id j (done x at j within)) (length arenas)
       (λ id x y s t less inv run. let chain = tree_chain arenas tree id less in let one = arena_empties (chain_in arenas id) id chain.0 chain.1 s t inv run in (one.0, λ live. (tt, one.1)))
       tt tt old new of path in

@@ -11,7 +11,7 @@ use Rattle.arena_tree.specs.Plans.{Plan, Done}
 use Rattle.arena_tree.specs.Sound.{Sound}
 use Rattle.arena_tree.specs.Trees.{nodes_of}
 use Rattle.quantum_cache.specs.Caches.{chain_in, if_ok, over_caches, over_arenas}
-use Rattle.quantum_cache.specs.Drains.{Turn, drain_end, on_put_back, on_drain_pop, drain_turn, on_turn, drain_cache, drain_arena, drain_plan}
+use Rattle.quantum_cache.specs.Drains.{Turn, drain_end, on_put_back, on_drain_pop, drain_turn, on_turn, drain_cache_plan, drain_arena_plan, drain_plan}
 use Rattle.quantum_cache.specs.declared.reaps.Reaping.{Reaping}
 use Rattle.quantum_cache.specs.Frees.{put_chunk}
 use Rattle.quantum_cache.specs.Reaps.{Reaped, ReapEnd, on_return, on_depot_reap, reap_round, on_slab_reap, reap_slab, on_look, up_to, reap_by, reap_cache, reap_arena_plan, reap_plan}
@@ -54,20 +54,20 @@ module _ (arenas : List TreeArena) where
       popped (Ok (Some t)) s well = ends_then arenas (λ (r : Returned). DoesWell r) TurnsWell (put_chunk t) (λ r. Done (on_put_back r)) (well_put arenas t cache s.cached) ended
       popped (Err e) s well = absurd well
 
-  well_drain_cache : (turns arena cache : ℕ) → EndsWell arenas DrainsWell (drain_cache turns arena cache)
+  well_drain_cache : (turns arena cache : ℕ) → EndsWell arenas DrainsWell (drain_cache_plan turns arena cache)
   well_drain_cache zero arena cache = tt
-  well_drain_cache (suc n) arena cache = ends_then arenas TurnsWell DrainsWell (drain_turn arena cache) (on_turn (drain_cache n arena cache)) (well_turn arena cache) (goes_on (well_drain_cache n arena cache))
+  well_drain_cache (suc n) arena cache = ends_then arenas TurnsWell DrainsWell (drain_turn arena cache) (on_turn (drain_cache_plan n arena cache)) (well_turn arena cache) (goes_on (well_drain_cache n arena cache))
     where
-      goes_on : EndsWell arenas DrainsWell (drain_cache n arena cache) → (a : Turn) → TurnsWell a → EndsWell arenas DrainsWell (on_turn (drain_cache n arena cache) a)
+      goes_on : EndsWell arenas DrainsWell (drain_cache_plan n arena cache) → (a : Turn) → TurnsWell a → EndsWell arenas DrainsWell (on_turn (drain_cache_plan n arena cache) a)
       goes_on again None w = again
       goes_on again (Some r) w = w
 
-  well_drain_arena : (turns : ℕ) (chain : List Level) → EndsWell arenas DrainsWell (drain_arena turns chain)
+  well_drain_arena : (turns : ℕ) (chain : List Level) → EndsWell arenas DrainsWell (drain_arena_plan turns chain)
   well_drain_arena turns [] = tt
-  well_drain_arena turns (l ∷ up) = ends_caches arenas DrainsWell (λ u. tt) (λ cache (u : Unit {0}). drain_cache turns l.id cache) (λ k u. well_drain_cache turns l.id k) (caches_in l) (caches_in l) tt
+  well_drain_arena turns (l ∷ up) = ends_caches arenas DrainsWell (λ u. tt) (λ cache (u : Unit {0}). drain_cache_plan turns l.id cache) (λ k u. well_drain_cache turns l.id k) (caches_in l) (caches_in l) tt
 
   pub well_drain : (turns : ℕ) → EndsWell arenas DrainsWell (drain_plan turns arenas)
-  well_drain turns = ends_arenas arenas DrainsWell (λ u. tt) (λ id (u : Unit {0}). drain_arena turns (chain_in arenas id)) (length arenas) (λ id u less. well_drain_arena turns (chain_in arenas id)) tt
+  well_drain turns = ends_arenas arenas DrainsWell (λ u. tt) (λ id (u : Unit {0}). drain_arena_plan turns (chain_in arenas id)) (length arenas) (λ id u less. well_drain_arena turns (chain_in arenas id)) tt
 
   -- a reaping
   well_returned : (units : ℕ) (r : Returned) → DoesWell r → DoesWell (on_return units r)

@@ -17,24 +17,24 @@ use Rattle.arena_tree.specs.declared.part_faults.FreeFault.{FreeFault}
 use Rattle.arena_tree.specs.declared.part_faults.SlabPutFault.{SlabPutFault}
 use Rattle.stock.specs.Spaces.{SpaceState, QuantumCacheState, with_arena, with_cache, with_slab, with_depot}
 use Rattle.local_parts.specs.SharedSteps.{DoesFree, DoesPut, DoesReap, DoesDepotReap}
-use Rattle.local_calls.specs.Looks.{findable, findable_of, findable_in}
+use Rattle.local_calls.specs.Looks.{finds_in_cache, finds_in_space, finds_in_spaces}
 
 -- after a cache was written over
-cache_weighs : (old new : List SpaceState) (k j : ℕ) (space : SpaceState) (c d : QuantumCacheState) → slice_get old k ≡ Some space → slice_get space.caches j ≡ Some c → new ≡ set old k (with_cache j d space) → findable_in new + findable c ≡ findable_in old + findable d
+cache_weighs : (old new : List SpaceState) (k j : ℕ) (space : SpaceState) (c d : QuantumCacheState) → slice_get old k ≡ Some space → slice_get space.caches j ≡ Some c → new ≡ set old k (with_cache j d space) → finds_in_spaces new + finds_in_cache c ≡ finds_in_spaces old + finds_in_cache d
 cache_weighs old new k j space c d at among after =
-    let inner = sum_by-set findable space.caches j d c (slice_get_within space.caches j c among) in
-    let outer = sum_by-set findable_of old k (with_cache j d space) space (slice_get_within old k space at) in
-    let here = ap findable (get_or_from_slice_get space.caches j c c among) in
-    let there = ap findable_of (get_or_from_slice_get old k space space at) in
-    let now = ap findable_in after in
+    let inner = sum_by-set finds_in_cache space.caches j d c (slice_get_within space.caches j c among) in
+    let outer = sum_by-set finds_in_space old k (with_cache j d space) space (slice_get_within old k space at) in
+    let here = ap finds_in_cache (get_or_from_slice_get space.caches j c c among) in
+    let there = ap finds_in_space (get_or_from_slice_get old k space space at) in
+    let now = ap finds_in_spaces after in
     omega (arith, inner, outer, here, there, now)
 
 -- after an arena was
-arena_weighs : (old new : List SpaceState) (k : ℕ) (space x : SpaceState) → findable_of x ≡ findable_of space → slice_get old k ≡ Some space → new ≡ set old k x → findable_in new ≡ findable_in old
+arena_weighs : (old new : List SpaceState) (k : ℕ) (space x : SpaceState) → finds_in_space x ≡ finds_in_space space → slice_get old k ≡ Some space → new ≡ set old k x → finds_in_spaces new ≡ finds_in_spaces old
 arena_weighs old new k space x same at after =
-    let outer = sum_by-set findable_of old k x space (slice_get_within old k space at) in
-    let there = ap findable_of (get_or_from_slice_get old k space space at) in
-    let now = ap findable_in after in
+    let outer = sum_by-set finds_in_space old k x space (slice_get_within old k space at) in
+    let there = ap finds_in_space (get_or_from_slice_get old k space space at) in
+    let now = ap finds_in_spaces after in
     omega (arith, outer, there, now, same)
 
 -- the rounds of a depot, list by list
@@ -71,10 +71,10 @@ reaps_one t d e did =
 
 module _ (old new : List SpaceState) where
   -- a free
-  pub freed_found : (t : Tag) (a : Result (Option Tag) (FreeFault Tag)) → DoesFree old t a new → findable_in new ≡ findable_in old
+  pub freed_found : (t : Tag) (a : Result (Option Tag) (FreeFault Tag)) → DoesFree old t a new → finds_in_spaces new ≡ finds_in_spaces old
   freed_found t a does = elim does.2 [
     | inl on ↦ arena_weighs old new t.arena on.space (with_arena on.arena on.space) refl on.at on.after
-    | inr none ↦ ap findable_in none.2
+    | inr none ↦ ap finds_in_spaces none.2
   ]
 
   -- a chunk that is put back
@@ -83,18 +83,18 @@ module _ (old new : List SpaceState) where
   put_slabs t (Err (putting.AtHome back)) x y did = ap (λ (z : SlabCacheState). length z.slabs) did.1.unchanged
   put_slabs t (Err (putting.NotMine back)) x y did = ap (λ (z : SlabCacheState). length z.slabs) did.2.unchanged
 
-  pub put_found : (t : Tag) (a : Result (Unit {0}) (SlabPutFault Tag)) → DoesPut old t a new → findable_in new ≡ findable_in old
+  pub put_found : (t : Tag) (a : Result (Unit {0}) (SlabPutFault Tag)) → DoesPut old t a new → finds_in_spaces new ≡ finds_in_spaces old
   put_found t a does = elim does.2 [
     | inl on ↦
         let o = on.2 in
         let same = put_slabs t does.0 o.cache.slab o.slab o.does in
         omega (arith, cache_weighs old new t.arena on.0 o.space o.cache (with_slab o.slab o.cache) o.at o.among o.after, same)
-    | inr none ↦ ap findable_in none.2
+    | inr none ↦ ap finds_in_spaces none.2
   ]
 
   module _ (k c : ℕ) where
     -- a look at a depot
-    pub depot_found : (t : Tag) → DoesDepotReap old k c (Ok (Some t)) new → findable_in new + 1 ≡ findable_in old
+    pub depot_found : (t : Tag) → DoesDepotReap old k c (Ok (Some t)) new → finds_in_spaces new + 1 ≡ finds_in_spaces old
     depot_found t does = elim does.2 [
       | inl on ↦
           let o = on.2 in
@@ -106,21 +106,21 @@ module _ (old new : List SpaceState) where
         something : does.0 ≡ Some t
         something = let e : Ok (Some t) ≡ Ok does.0 = does.1 in cc
 
-    pub depot_missed : DoesDepotReap old k c (Ok None) new → findable_in new ≡ findable_in old
+    pub depot_missed : DoesDepotReap old k c (Ok None) new → finds_in_spaces new ≡ finds_in_spaces old
     depot_missed does = elim does.2 [
       | inl on ↦
           let o = on.2 in
           let did : DepotReapOf o.cache.depot None o.depot = subst (λ r. DepotReapOf o.cache.depot r o.depot) nothing o.does in
           let same = ap (λ (x : DepotState). length (depot_rounds x)) did.1 in
           omega (arith, cache_weighs old new k on.0 o.space o.cache (with_depot o.depot o.cache) o.at o.among o.after, same)
-      | inr none ↦ ap findable_in none.1.1
+      | inr none ↦ ap finds_in_spaces none.1.1
     ]
       where
         nothing : does.0 ≡ None
         nothing = let e : Ok None ≡ Ok does.0 = does.1 in cc
 
     -- and at slabs
-    pub slab_found : (t : Tag) → DoesReap old k c (Ok (Some t)) new → findable_in new + 1 ≡ findable_in old
+    pub slab_found : (t : Tag) → DoesReap old k c (Ok (Some t)) new → finds_in_spaces new + 1 ≡ finds_in_spaces old
     slab_found t does = elim does.2 [
       | inl on ↦
           let o = on.2 in
@@ -134,14 +134,14 @@ module _ (old new : List SpaceState) where
         something : does.0 ≡ Some t
         something = let e : Ok (Some t) ≡ Ok does.0 = does.1 in cc
 
-    pub slab_missed : DoesReap old k c (Ok None) new → findable_in new ≡ findable_in old
+    pub slab_missed : DoesReap old k c (Ok None) new → finds_in_spaces new ≡ finds_in_spaces old
     slab_missed does = elim does.2 [
       | inl on ↦
           let o = on.2 in
           let did : ReapOf o.cache.slab None o.slab = subst (λ r. ReapOf o.cache.slab r o.slab) nothing o.does in
           let same = ap (λ (x : SlabCacheState). length x.slabs) did.1 in
           omega (arith, cache_weighs old new k on.0 o.space o.cache (with_slab o.slab o.cache) o.at o.among o.after, same)
-      | inr none ↦ ap findable_in none.1.1
+      | inr none ↦ ap finds_in_spaces none.1.1
     ]
       where
         nothing : does.0 ≡ None

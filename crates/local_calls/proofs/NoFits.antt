@@ -19,7 +19,7 @@ use Rattle.arena_tree.specs.declared.part_faults.SlabAddFault.TheVariants as sla
 use Rattle.arena_tree.specs.declared.part_faults.Stopped.{Stopped}
 use Rattle.arena_tree.specs.declared.part_faults.SwapFullFault.{SwapFullFault}
 use Rattle.arena_tree.specs.declared.part_faults.SwapFullFault.TheVariants as fulling
-use Rattle.arena_tree.specs.Climbs.{Climbed, return_plan, refused_memory, climb_plan}
+use Rattle.arena_tree.specs.Climbs.{Climbed, return_plan, memory_refusal, climb_plan}
 use Rattle.arena_tree.specs.Events.{Pop, SwapFull, SlabTake}
 use Rattle.arena_tree.specs.Plans.{Plan, Done, then, or_else}
 use Rattle.arena_tree.specs.Trees.{nodes_of}
@@ -203,7 +203,7 @@ module _ (arenas : List TreeArena) (old new : LocalState) where
   slab_added : (chain : List Level) (x : Result Tag (SlabAddFault Tag)) → RunsTo arenas (on_slab_add chain x) old new (Err climbing.NoFit) → ⊥
   slab_added chain (Ok t) path = let x : Ok t ≡ Err climbing.NoFit = path.1 in cc
   slab_added chain (Err (slabbing.NoMemory t)) path =
-      let split = path_split (SoundStep (nodes_of arenas)) (return_plan chain t) (λ r. Done (refused_memory r)) old new (Err climbing.NoFit) path in
+      let split = path_split (SoundStep (nodes_of arenas)) (return_plan chain t) (λ r. Done (memory_refusal r)) old new (Err climbing.NoFit) path in
       given_back arenas split.1 split.3.1
   slab_added chain (Err (slabbing.WrongSize t)) path = let x : Err (climbing.Stuck t) ≡ Err climbing.NoFit = path.1 in cc
   slab_added chain (Err (slabbing.Overlaps t)) path = let x : Err (climbing.Stuck t) ≡ Err climbing.NoFit = path.1 in cc

@@ -22,7 +22,7 @@ use Rattle.quantum_cache.specs.Frees.{on_slab_put, put_chunk}
 use Rattle.quantum_cache.specs.Reaps.{Reaped, ReapEnd, on_return, on_depot_reap, reap_round, on_slab_reap, reap_slab, on_look, up_to, reap_by, reap_cache, reap_arena_plan, reap_plan}
 use Rattle.quantum_cache.specs.Sizes.{caches_in}
 use Rattle.local_parts.specs.States.{LocalState}
-use Rattle.local_calls.specs.Looks.{findable_in, ReapTakesFewLooks, ReapWithoutLimit}
+use Rattle.local_calls.specs.Looks.{finds_in_spaces, ReapTakesFewLooks, ReapWithoutLimit}
 use Rattle.local_calls.specs.Runs.{SoundStep, RunsTo}
 use Rattle.local_calls.proofs.Chains.{tree_chain, first_arena}
 use Rattle.local_calls.proofs.Drained.{all_caches, few_caches}
@@ -31,7 +31,7 @@ use Rattle.local_calls.proofs.Reaped.{reap_leaves_nothing}
 
 -- what may be found
 abbrev found : LocalState → ℕ
-found s = findable_in s.spaces
+found s = finds_in_spaces s.spaces
 
 -- a look that found something, and one that found nothing
 abbrev LookPays : ℕ → ℕ → Reaped → Type 0

@@ -5,7 +5,7 @@ use Rattle.std.specs.Int.{IsPowerOfTwo}
 use Rattle.std.proofs.Math.Nat.{mul-le-mul_right, mod_self}
 use Rattle.std.proofs.lemmas.Bool.{cases_lt, cases_eq, ltb-true, leb-true}
 use Rattle.std.proofs.lemmas.Nat.{div-add-mod'}
-use Rattle.deed_core.specs.Request.{rounded, plain_of}
+use Rattle.deed_core.specs.Request.{rounding_of, plain_of}
 use Rattle.deed_core.specs.Tag.{Tag}
 use Rattle.deed_core.proofs.LawProofs.{rounds_up, rounds_once, power_some, smaller_power_divides}
 use Rattle.arena_tree.specs.declared.levels.Level.{Level}
@@ -23,25 +23,25 @@ cached size units most quanta k true true false some fits e = absurd (let same :
 cached size units most quanta k true false c some fits e = absurd (let same : None ≡ Some k = e in cc)
 cached size units most quanta k false b c some fits e = absurd (let same : None ≡ Some k = e in cc)
 
-pub is_cached_size : (l : Level) (size k : ℕ) → cache_for l size ≡ Some k → (0 < size) × (rounded l.quantum size ≤ l.qcache_max) × (quanta_for l size ≡ k)
-is_cached_size l size k e = cached size (rounded l.quantum size) l.qcache_max (quanta_for l size) k (nat_lt 0 size) (nat_le (rounded l.quantum size) l.qcache_max) (nat_lt (quanta_for l size) 256) refl refl e
+pub is_cached_size : (l : Level) (size k : ℕ) → cache_for l size ≡ Some k → (0 < size) × (rounding_of l.quantum size ≤ l.qcache_max) × (quanta_for l size ≡ k)
+is_cached_size l size k e = cached size (rounding_of l.quantum size) l.qcache_max (quanta_for l size) k (nat_lt 0 size) (nat_le (rounding_of l.quantum size) l.qcache_max) (nat_lt (quanta_for l size) 256) refl refl e
 
 times : (quantum n : ℕ) → n % quantum ≡ 0 → n ≡ n / quantum * quantum
 times quantum n e = omega (arith, e, div-add-mod' n quantum)
 
 -- the number of a cached size is one of the arena's caches
-within : (quantum size most : ℕ) → 0 < quantum → 0 < size → rounded quantum size ≤ most → most % quantum ≡ 0 → (0 < rounded quantum size / quantum) × (rounded quantum size / quantum ≤ most / quantum)
+within : (quantum size most : ℕ) → 0 < quantum → 0 < size → rounding_of quantum size ≤ most → most % quantum ≡ 0 → (0 < rounding_of quantum size / quantum) × (rounding_of quantum size / quantum ≤ most / quantum)
 within quantum size most some units le whole =
     let up = rounds_up quantum size some in
-    let r : rounded quantum size ≡ rounded quantum size / quantum * quantum = times quantum (rounded quantum size) up.0 in
+    let r : rounding_of quantum size ≡ rounding_of quantum size / quantum * quantum = times quantum (rounding_of quantum size) up.0 in
     let m : most ≡ most / quantum * quantum = times quantum most whole in (
-      elim (cases_eq (rounded quantum size / quantum) 0) [
-        | inl none ↦ let zero : rounded quantum size ≡ 0 * quantum = r ∙ ap (λ z. z * quantum) none in absurd (omega (arith, zero, up.1, units))
+      elim (cases_eq (rounding_of quantum size / quantum) 0) [
+        | inl none ↦ let zero : rounding_of quantum size ≡ 0 * quantum = r ∙ ap (λ z. z * quantum) none in absurd (omega (arith, zero, up.1, units))
         | inr ne ↦ omega (arith, ne)
       ],
-      elim (cases_lt (most / quantum) (rounded quantum size / quantum)) [
+      elim (cases_lt (most / quantum) (rounding_of quantum size / quantum)) [
         | inl less ↦
-            let more : (most / quantum + 1) * quantum ≤ rounded quantum size / quantum * quantum = mul-le-mul_right quantum (omega (arith, less)) in
+            let more : (most / quantum + 1) * quantum ≤ rounding_of quantum size / quantum * quantum = mul-le-mul_right quantum (omega (arith, less)) in
             let one_more : most / quantum * quantum + quantum ≡ (most / quantum + 1) * quantum = grind arith in
             absurd (omega (arith, more, one_more, r, m, le, some))
         | inr ok ↦ ok
@@ -49,7 +49,7 @@ within quantum size most some units le whole =
     )
 
 -- a slab is in whole quanta
-slab_rounds : (quantum most slab : ℕ) → IsPowerOfTwo quantum → IsPowerOfTwo slab → 0 < most → quantum ≤ most → 3 * most + 1 ≤ slab → rounded quantum slab ≡ slab
+slab_rounds : (quantum most slab : ℕ) → IsPowerOfTwo quantum → IsPowerOfTwo slab → 0 < most → quantum ≤ most → 3 * most + 1 ≤ slab → rounding_of quantum slab ≡ slab
 slab_rounds quantum most slab p q some least le =
     rounds_once quantum slab (power_some quantum p) (smaller_power_divides quantum slab slab p q (omega (arith, least, le)) (mod_self slab))
 
@@ -69,10 +69,10 @@ for_slab arenas tree l up size cache span is e grant =
     let up_to = rounds_up l.quantum size some in
     let units : 0 < x.qcache_max = omega (arith, c.0, c.1, up_to.1, most) in
     let next = arena.caches.2.1 (λ none. omega (arith, none, units)) in
-    let one : 1 * l.quantum ≤ rounded l.quantum size / l.quantum * l.quantum = mul-le-mul_right l.quantum w.0 in
-    let least : x.quantum ≤ x.qcache_max = omega (arith, one, times l.quantum (rounded l.quantum size) up_to.0, c.1, quantum, most) in
-    let round : rounded x.quantum x.slab_size ≡ x.slab_size = slab_rounds x.quantum x.qcache_max x.slab_size arena.power next.0 units least next.1 in
-    let long : span.holding.range.len ≡ rounded l.quantum l.slab_size = grant.fits.size ∙ ap (λ z. rounded z l.slab_size) (chain_quantum (nodes_of arenas) l up is) in
+    let one : 1 * l.quantum ≤ rounding_of l.quantum size / l.quantum * l.quantum = mul-le-mul_right l.quantum w.0 in
+    let least : x.quantum ≤ x.qcache_max = omega (arith, one, times l.quantum (rounding_of l.quantum size) up_to.0, c.1, quantum, most) in
+    let round : rounding_of x.quantum x.slab_size ≡ x.slab_size = slab_rounds x.quantum x.qcache_max x.slab_size arena.power next.0 units least next.1 in
+    let long : span.holding.range.len ≡ rounding_of l.quantum l.slab_size = grant.fits.size ∙ ap (λ z. rounding_of z l.slab_size) (chain_quantum (nodes_of arenas) l up is) in
     record {
       of_arena = grant.of_arena;
       direct = grant.direct;
@@ -81,6 +81,6 @@ for_slab arenas tree l up size cache span is e grant =
         at = here.1;
         some = subst (λ z. 0 < z) c.2 w.0;
         most = subst (λ z. z ≤ x.qcache_max / x.quantum) c.2 (subst (λ z. quanta_for l size ≤ z / x.quantum) most (subst (λ z. quanta_for l size ≤ l.qcache_max / z) quantum w.1));
-        long = long ∙ (ap (λ z. rounded z l.slab_size) quantum ∙ (ap (rounded x.quantum) slab ∙ round));
+        long = long ∙ (ap (λ z. rounding_of z l.slab_size) quantum ∙ (ap (rounding_of x.quantum) slab ∙ round));
       };
     }

@@ -10,7 +10,7 @@ use Rattle.quantum_cache.specs.declared.reaps.Reaping.{Reaping}
 use Rattle.quantum_cache.specs.Reaps.{ReapEnd, reap_arena_plan}
 use Rattle.local_parts.specs.States.{LocalState}
 use Rattle.local_calls.specs.Asked.{DoesWell}
-use Rattle.local_calls.specs.Looks.{findable_in}
+use Rattle.local_calls.specs.Looks.{finds_in_spaces}
 use Rattle.local_calls.specs.Reaped.{NoneToReapAt, NoneToReapIn}
 use Rattle.local_calls.specs.Runs.{IsLocalOf, IsAccountedWith, RunsTo}
 
@@ -47,4 +47,4 @@ abbrev pub ReapArenaTakesFewLooks : Type 0
 ReapArenaTakesFewLooks = (arenas : List TreeArena) (chain : List Level) (limit : ℕ)
     (old new : LocalState) (r : Reaping) → IsChain (nodes_of arenas) chain → IsLocalOf arenas old
     → ReapsArena arenas chain limit old new (Ok r)
-    → limit + findable_in new.spaces ≤ r.left + findable_in old.spaces + 2 * MOST_CACHES
+    → limit + finds_in_spaces new.spaces ≤ r.left + finds_in_spaces old.spaces + 2 * MOST_CACHES

@@ -11,24 +11,24 @@ use Rattle.local_calls.specs.Reaped.{NoneToReap}
 use Rattle.local_calls.specs.Runs.{IsLocalOf, RunsTo}
 
 -- what looks may find: the rounds of depots, and slabs; of a cache, of an arena, of all
-abbrev pub findable : QuantumCacheState → ℕ
-findable c = length (depot_rounds c.depot) + length c.slab.slabs
+abbrev pub finds_in_cache : QuantumCacheState → ℕ
+finds_in_cache c = length (depot_rounds c.depot) + length c.slab.slabs
 
-abbrev pub findable_of : SpaceState → ℕ
-findable_of s = sum_by findable s.caches
+abbrev pub finds_in_space : SpaceState → ℕ
+finds_in_space s = sum_by finds_in_cache s.caches
 
-abbrev pub findable_in : List SpaceState → ℕ
-findable_in spaces = sum_by findable_of spaces
+abbrev pub finds_in_spaces : List SpaceState → ℕ
+finds_in_spaces spaces = sum_by finds_in_space spaces
 
 -- one look for each of these, and two for each cache that find nothing
 abbrev pub looks_enough : List SpaceState → ℕ
-looks_enough spaces = findable_in spaces + 2 * MOST_CACHES * length spaces
+looks_enough spaces = finds_in_spaces spaces + 2 * MOST_CACHES * length spaces
 
 -- A reaping takes no more looks than are enough for what it doesn't leave to be found.
 abbrev pub ReapTakesFewLooks : Type 0
 ReapTakesFewLooks = (arenas : List TreeArena) (limit : ℕ) (old new : LocalState) (r : Reaping)
     → IsLocalOf arenas old → RunsTo arenas (reap_plan arenas limit) old new (Ok r)
-    → limit + findable_in new.spaces ≤ r.left + looks_enough old.spaces
+    → limit + finds_in_spaces new.spaces ≤ r.left + looks_enough old.spaces
 
 -- So one whose limit is greater leaves nothing that could be reaped.
 abbrev pub ReapWithoutLimit : Type 0

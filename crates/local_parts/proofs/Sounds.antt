@@ -3,7 +3,7 @@ use Rattle.std.proofs.Common.{◌≡◌, ℕ, ◌+◌, ◌*◌, ◌<◌, ◌≤�
 use Rattle.std.specs.Prelude.{slice_get}
 use Rattle.deed_core.specs.Tag.{Tag}
 use Rattle.deed_core.specs.Extent.{IsRange}
-use Rattle.deed_core.specs.Request.{Fits, IsGood, IsPlain, rounded, plain_of}
+use Rattle.deed_core.specs.Request.{Fits, IsGood, IsPlain, rounding_of, plain_of}
 use Rattle.deed_core.specs.declared.requests.Request.{Request}
 use Rattle.deed_core.specs.declared.segments.Route.TheVariants.{Direct, Cached}
 use Rattle.slab_layer.specs.Cache.{IsOnGrid}
@@ -59,13 +59,13 @@ good_plain quantum n some = record {
 
 -- what `Parts` asks for an import is what a stock asks
 pub can_import : (old : List SpaceState) (sizes : List TreeArena) (child n : ℕ) (span : Tag) → source_of (tree_of (plans_of old) sizes) child ≡ Some span.arena → 0 < n
-    → rounded (quantum_in (tree_of (plans_of old) sizes) child) n ≤ span.holding.range.len → span.route ≡ Direct → (s : SpaceState) → slice_get old child ≡ Some s → CanImport (plain_of n) span s
+    → rounding_of (quantum_in (tree_of (plans_of old) sizes) child) n ≤ span.holding.range.len → span.route ≡ Direct → (s : SpaceState) → slice_get old child ≡ Some s → CanImport (plain_of n) span s
 can_import old sizes child n span source some room direct s at = record {
   source = sym (source_here old sizes child s at) ∙ source;
   route = direct;
   good = good_plain s.arena.quantum n some;
   plain = is_plain n;
-  room = subst (λ q. rounded q n ≤ span.holding.range.len) (quantum_here old sizes child s at) room;
+  room = subst (λ q. rounding_of q n ≤ span.holding.range.len) (quantum_here old sizes child s at) room;
 }
 
 pub import_grant : (old new : List SpaceState) (k n : ℕ) (sizes : List TreeArena) (span t : Tag) → IsStock old → IsRange span.holding.range
@@ -87,7 +87,7 @@ import_grant old new k n sizes span t stock range can on = record {
     base : t.holding.range.base ≡ span.holding.range.base
     base = ap (λ (x : Tag). x.holding.range.base) on.does.segment
 
-    len : t.holding.range.len ≡ rounded on.space.arena.quantum n
+    len : t.holding.range.len ≡ rounding_of on.space.arena.quantum n
     len = ap (λ (x : Tag). x.holding.range.len) on.does.segment
 
 -- and it is the first of the span
@@ -107,7 +107,7 @@ some_quantum old k s stock at = power_some s.arena.quantum (stock k s at).sound.
 -- a chunk of the stock's cache, of the quantum that its arena has
 pub round_fits : (q c : ℕ) (k j : ℕ) (t : Tag) → 0 < q → c ≡ j + 1 → IsRoundOf k (j + 1) q t → Fits q (plain_of (c * q)) t.holding.range.base t.holding.range.len
 round_fits q c k j t some number is = record {
-  size = is.len ∙ sym (rounds_once q ((j + 1) * q) some (mul-mod_left (j + 1) q)) ∙ ap (λ n. rounded q (n * q)) (sym number);
+  size = is.len ∙ sym (rounds_once q ((j + 1) * q) some (mul-mod_left (j + 1) q)) ∙ ap (λ n. rounding_of q (n * q)) (sym number);
   whole = is.grid;
   phase = λ ne. absurd (ne refl);
   min = omega arith;

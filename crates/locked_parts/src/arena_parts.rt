@@ -2,7 +2,7 @@
 //! alone, so that each event looks whether it is the arena that is meant.
 ghost use Rattle.std.specs.Prelude.{◌≡◌, ◌<◌, ◌≤◌, ◌↔◌, List, [], Some, Ok, IsOk, OnErr, IfOk};
 ghost use Rattle.std.specs.Prelude.{IfErr};
-ghost use Rattle.deed_core.specs.Request.{rounded, plain_of};
+ghost use Rattle.deed_core.specs.Request.{rounding_of, plain_of};
 ghost use Rattle.tag_arena.specs.Outcomes.{CarveOf, ImportOf, FreeOf, RemoveOf};
 ghost use Rattle.std.specs.Option.{option_map};
 ghost use Rattle.arena_tree.specs.Chains.{Node, quantum_in, source_of};
@@ -101,7 +101,7 @@ impl<N: Name> ArenaPart<N> {
         size: u64,
     ) -> Result<Segment<SeatDeed<N>>, AddCarveFault<Segment<SeatDeed<N>>>>
         requires some { 0 < size }
-        requires room { rounded quantum size ≤ span.holding.range.len }
+        requires room { rounding_of quantum size ≤ span.holding.range.len }
         requires direct { span.route ≡ Route.Direct }
         ensures sound { (nodes : List Node) → quantum_in nodes id ≡ quantum
             → AnswersSoundly nodes (AddCarve id span size) result }

@@ -148,8 +148,9 @@ impl<D: Deed> KindDepot<D> {
         requires { IsSize size }
         ensures rose { result ≡ true → (self.old.kind ≡ kind.now)
             × (self.old.depot.size < size) × (self.new.depot ≡ after_resize size self.old.depot) }
-        ensures same { result ≡ false → (self.old.kind ≡ kind.now → size ≤ self.old.depot.size)
-            × (self.new ≡ self.old) }
+        ensures refused { result ≡ false → self.old.kind ≡ kind.now
+            → size ≤ self.old.depot.size }
+        ensures unchanged { result ≡ false → self.new ≡ self.old }
         ensures greater { result ≡ true → 3 < size }
         ensures kind { self.new.kind ≡ self.old.kind }
     {

@@ -1,6 +1,6 @@
 //! The events of arenas, slabs and depots in a parts. Each takes one lock.
 ghost use Rattle.std.specs.Prelude.{◌≡◌, ◌<◌, ◌≤◌, ◌%◌, Some, length};
-ghost use Rattle.deed_core.specs.Request.{rounded};
+ghost use Rattle.deed_core.specs.Request.{rounding_of};
 ghost use Rattle.arena_tree.specs.Chains.{source_of, quantum_in};
 ghost use Rattle.arena_tree.specs.Events.{Carve, Free, AddCarve, SlabTake, SlabPut, SlabAdd};
 ghost use Rattle.arena_tree.specs.Events.{SlabReap, DepotReap};
@@ -70,7 +70,7 @@ pub(crate) fn add_carve_in<N: Name, R: Wait>(
 ) -> Result<Segment<SeatDeed<N>>, AddCarveFault<Segment<SeatDeed<N>>>>
     requires child { child < length parts.now.arenas }
     requires some { 0 < size }
-    requires room { rounded (quantum_in (nodes_of parts.now.arenas) child) size
+    requires room { rounding_of (quantum_in (nodes_of parts.now.arenas) child) size
         ≤ span.holding.range.len }
     requires direct { span.route ≡ Route.Direct }
     ensures { AnswersSoundly (nodes_of parts.now.arenas) (AddCarve child span size) result }

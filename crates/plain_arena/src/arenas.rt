@@ -12,7 +12,7 @@ ghost use Rattle.deed_core.specs.Tag.{Tag};
 ghost use Rattle.deed_core.specs.Request.{IsGood};
 ghost use Rattle.deed_core.specs.Weights.{Gains, Loses};
 ghost use Rattle.tag_arena.specs.Layout.{FreeIsLongestRuns};
-ghost use Rattle.tag_arena.specs.ArenaState.{spans_of, layout_of, ranges_of, tags_of, direct};
+ghost use Rattle.tag_arena.specs.ArenaState.{spans_of, layout_of, ranges_of, tags_of, direct_tag};
 ghost use Rattle.tag_arena.specs.ArenaState.{IsChosen, IsSound, OnQuantum, empty_arena};
 ghost use Rattle.tag_arena.specs.Calls.{part, after_carve, RefusesCarve, IsClear, OverlapsSpan};
 ghost use Rattle.tag_arena.specs.Calls.{after_import, first_units, IsTagged};
@@ -260,7 +260,7 @@ impl<D: Deed> PlainArena<D> {
     fn carve_found(&mut self, found: Found, len: u64) -> Result<Segment<D>, AllocError>
         requires { IsCuttable self.old.quantum self.old.free found len }
         ensures segment { let piece = part found.range found.base len in
-            IfOk result (λ s. s ≡ direct self.old.id piece) }
+            IfOk result (λ s. s ≡ direct_tag self.old.id piece) }
         ensures carved { let piece = part found.range found.base len in
             OnOk result (self.new ≡ after_carve self.old found.range piece) }
         ensures range { IfOk result (λ s. IsRange s.holding.range) }
@@ -320,7 +320,8 @@ impl<D: Deed> PlainArena<D> {
         requires some { 0 < len }
         requires room { len ≤ span.holding.range.len }
         requires whole { len % self.old.quantum ≡ 0 }
-        ensures segment { IfOk result (λ s. s ≡ direct self.old.id (first_units len span.holding)) }
+        ensures segment { IfOk result (λ s.
+            s ≡ direct_tag self.old.id (first_units len span.holding)) }
         ensures carved { let first = first_units len span.holding in
             OnOk result (self.new ≡ after_carve (after_import self.old span) span.holding first) }
         ensures range { IfOk result (λ s. IsRange s.holding.range) }

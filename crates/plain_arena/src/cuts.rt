@@ -2,8 +2,8 @@
 ghost use Rattle.std.specs.Prelude.{◌≡◌, ◌+◌, ◌-◌, ◌<◌, ◌≤◌, ◌++◌, HoldsAt, IfOk, IfErr, OnErr};
 ghost use Rattle.std.specs.Prelude.{IfNone, IfSome, vec_len, vec_capacity, remove, option_to_list};
 ghost use Rattle.deed_core.specs.Extent.{end_of};
-ghost use Rattle.deed_core.specs.Holding.{joined, GoesOn};
-ghost use Rattle.tag_arena.specs.Calls.{part, between, rests};
+ghost use Rattle.deed_core.specs.Holding.{join_of, GoesOn};
+ghost use Rattle.tag_arena.specs.Calls.{part, rest_between, rests};
 
 use crate::held_ranges::HeldRange;
 use deed_core::{Deed, Segment, Stored, insert_reserved};
@@ -24,10 +24,10 @@ fn cut_low<D: Deed>(
     requires from { whole.range.base ≤ base }
     requires to { base < end_of whole.range }
     ensures low { IfOk result (λ parts.
-        option_to_list parts.0 ≡ between whole whole.range.base base) }
+        option_to_list parts.0 ≡ rest_between whole whole.range.base base) }
     ensures rest { IfOk result (λ parts. parts.1 ≡ part whole base (end_of whole.range - base)) }
     ensures joins { IfOk result (λ parts. IfSome parts.0 (λ low.
-        GoesOn low parts.1 × (joined low parts.1 ≡ whole))) }
+        GoesOn low parts.1 × (join_of low parts.1 ≡ whole))) }
     ensures alone { IfOk result (λ parts. IfNone parts.0 (parts.1 ≡ whole)) }
     ensures handed_back { IfErr result (λ same. same ≡ whole) }
 {
@@ -50,7 +50,7 @@ fn cut_high<D: Deed>(
     ensures piece { IfOk result (λ parts.
         parts.0 ≡ part whole whole.range.base (end - whole.range.base)) }
     ensures high { IfOk result (λ parts.
-        option_to_list parts.1 ≡ between whole end (end_of whole.range)) }
+        option_to_list parts.1 ≡ rest_between whole end (end_of whole.range)) }
     ensures handed_back { IfErr result (λ same. same ≡ whole) }
 {
     if whole.range().end() == end {
@@ -65,7 +65,7 @@ fn cut_high<D: Deed>(
 /// The two parts of a cut, together again.
 fn rejoin<D: Deed>(low: Option<Stored<D>>, rest: Stored<D>) -> Stored<D>
     requires { IfSome low (λ low. GoesOn low rest) }
-    ensures some { IfSome low (λ low. result ≡ joined low rest) }
+    ensures some { IfSome low (λ low. result ≡ join_of low rest) }
     ensures none { IfNone low (result ≡ rest) }
 {
     match low {
@@ -81,9 +81,9 @@ fn cut_out<D: Deed>(whole: Stored<D>, base: u64, end: u64) -> Result<Cut<D>, Sto
     requires to { end ≤ end_of whole.range }
     ensures piece { IfOk result (λ parts. parts.piece ≡ part whole base (end - base)) }
     ensures low { IfOk result (λ parts.
-        option_to_list parts.low ≡ between whole whole.range.base base) }
+        option_to_list parts.low ≡ rest_between whole whole.range.base base) }
     ensures high { IfOk result (λ parts.
-        option_to_list parts.high ≡ between whole end (end_of whole.range)) }
+        option_to_list parts.high ≡ rest_between whole end (end_of whole.range)) }
     ensures handed_back { IfErr result (λ same. same ≡ whole) }
 {
     let (low, rest) = match cut_low(whole, base) {
@@ -156,7 +156,7 @@ pub fn cut_first<D: Deed>(
     ensures piece { IfOk result (λ parts.
         parts.0 ≡ part segment.holding segment.holding.range.base len) }
     ensures high { let whole = segment.holding in IfOk result (λ parts.
-        option_to_list parts.1 ≡ between whole (whole.range.base + len) (end_of whole.range)) }
+        option_to_list parts.1 ≡ rest_between whole (whole.range.base + len) (end_of whole.range)) }
     ensures handed_back { IfErr result (λ same. same ≡ segment) }
 {
     let (arena, route, range) = (segment.arena(), segment.route(), segment.range());

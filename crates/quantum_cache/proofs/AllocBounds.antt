@@ -8,7 +8,7 @@ use Rattle.arena_tree.specs.declared.part_faults.SwapFullFault.TheVariants as fu
 use Rattle.arena_tree.specs.declared.part_faults.SlabAddFault.{SlabAddFault}
 use Rattle.arena_tree.specs.declared.part_faults.SlabAddFault.TheVariants as slabbing
 use Rattle.arena_tree.specs.Plans.{Plan, Done, then, or_else, Within}
-use Rattle.arena_tree.specs.Climbs.{Climbed, climb_plan, refused_memory, climb_most}
+use Rattle.arena_tree.specs.Climbs.{Climbed, climb_plan, memory_refusal, climb_most}
 use Rattle.arena_tree.proofs.LawProofs.{within_then, within_refused, within_climb}
 use Rattle.quantum_cache.specs.Sizes.{cache_for}
 use Rattle.quantum_cache.specs.Allocs.{Stage, take_round, change_over, on_swap_full, take_from_depot, take_chunk, on_slab_add, make_slab, on_slab_climb, take_from_slab, alloc_cached, alloc_by}
@@ -52,7 +52,7 @@ slab_within most chain (Ok t) n le = let h = le (Ok t) in omega arith
 slab_within most chain (Err (slabbing.WrongSize t)) n le = let h = le (Err (climbing.Stuck t)) in omega arith
 slab_within most chain (Err (slabbing.Overlaps t)) n le = let h = le (Err (climbing.Stuck t)) in omega arith
 slab_within most chain (Err (slabbing.Stopped t)) n le = let h = le (Err (climbing.Stopped (Some t))) in omega arith
-slab_within most chain (Err (slabbing.NoMemory t)) n le = within_refused most chain t n (λ r. le (refused_memory r))
+slab_within most chain (Err (slabbing.NoMemory t)) n le = within_refused most chain t n (λ r. le (memory_refusal r))
 
 -- after the climb
 within_climbed : (chain : List Level) (arena cache n : ℕ) (x : Climbed) (m : ℕ) → 1 ≤ length chain → m ≤ n + climb_most (length chain) x → Within (slab_most n (length chain)) (on_slab_climb chain arena cache x) m

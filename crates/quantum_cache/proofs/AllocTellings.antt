@@ -16,7 +16,7 @@ use Rattle.arena_tree.specs.Events.{SlabTake, SlabAdd, SwapFull, Pop, Change}
 use Rattle.arena_tree.specs.Sound.{Sound, SoundTake}
 use Rattle.arena_tree.specs.Stops.{refuses_by}
 use Rattle.arena_tree.specs.Plans.{Plan, Done, then, or_else}
-use Rattle.arena_tree.specs.Climbs.{Climbed, Returned, climb_plan, return_plan, refused_memory}
+use Rattle.arena_tree.specs.Climbs.{Climbed, Returned, climb_plan, return_plan, memory_refusal}
 use Rattle.arena_tree.specs.Told.{Answered, Tells, RanOut, WasStopped, ClimbTold, ReturnTold}
 use Rattle.arena_tree.proofs.LawProofs.{tells_then, ran_out_before, climb_tells, return_tells}
 use Rattle.quantum_cache.specs.Sizes.{cache_for}
@@ -88,10 +88,10 @@ module _ (nodes : List Node) (l : Level) (up : List Level) (size cache : ℕ) (i
   unfolding take_chunk
   told_chunk told = λ x s. told_take (answered (SlabTake l.id cache) x ∷ told) x s (λ e. e)
 
-  told_back : (t : Tag) (told : List Answered) → first_id (l ∷ up) ≡ Some t.arena → RanOut told → Tells nodes (AllocTold nodes (l ∷ up) size) (then (return_plan (l ∷ up) t) (λ r. Done (refused_memory r))) told
-  told_back t told first ran = tells_then nodes (After ReturnTold told) (AllocTold nodes (l ∷ up) size) (return_plan (l ∷ up) t) (λ r. Done (refused_memory r)) told (tells_after nodes ReturnTold told (return_plan (l ∷ up) t) [] (return_tells nodes (l ∷ up) t is first)) ends
+  told_back : (t : Tag) (told : List Answered) → first_id (l ∷ up) ≡ Some t.arena → RanOut told → Tells nodes (AllocTold nodes (l ∷ up) size) (then (return_plan (l ∷ up) t) (λ r. Done (memory_refusal r))) told
+  told_back t told first ran = tells_then nodes (After ReturnTold told) (AllocTold nodes (l ∷ up) size) (return_plan (l ∷ up) t) (λ r. Done (memory_refusal r)) told (tells_after nodes ReturnTold told (return_plan (l ∷ up) t) [] (return_tells nodes (l ∷ up) t is first)) ends
     where
-      ends : (r : Returned) (now : List Answered) → After ReturnTold told now r → AllocTold nodes (l ∷ up) size now (refused_memory r)
+      ends : (r : Returned) (now : List Answered) → After ReturnTold told now r → AllocTold nodes (l ∷ up) size now (memory_refusal r)
       ends (Ok u) now w = subst RanOut (sym w.1) (ran_out_before w.0 told (w.2).0 ran)
       ends (Err (returning.Stuck x)) now w = just_refused x w.0 told now w.1 w.2
       ends (Err (returning.Stopped x)) now w = stopped_after w.0 told now w.1 w.2

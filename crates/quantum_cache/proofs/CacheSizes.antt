@@ -3,7 +3,7 @@ use Rattle.std.proofs.Common.{◌≡◌, ℕ, zero, suc, ◌*◌, ◌/◌, ◌%�
 use Rattle.std.proofs.lemmas.Nat.{div-add-mod'}
 use Rattle.std.specs.Prelude.{if◌then◌else◌, slice_get}
 use Rattle.deed_core.specs.Tag.{Tag}
-use Rattle.deed_core.specs.Request.{Fits, rounded, plain_of}
+use Rattle.deed_core.specs.Request.{Fits, rounding_of, plain_of}
 use Rattle.deed_core.proofs.LawProofs.{fits_rounded, rounded_multiple}
 use Rattle.arena_tree.specs.declared.levels.Level.{Level}
 use Rattle.arena_tree.specs.Chains.{Node, IsChain, IsCachedChunk, first_node, quantum_in}
@@ -29,10 +29,10 @@ chunk_serves nodes l up size k t is e c =
     let quantum : quantum_in nodes l.id ≡ l.quantum = quantum_at nodes l.id (first_node l up) is.0 in
     let number : quanta_for l size ≡ k = number_is (is_cached l size) (quanta_for l size) k e in
     let some : 0 < l.quantum = is.1 in
-    let whole : rounded l.quantum size / l.quantum * l.quantum ≡ rounded l.quantum size = sym (times l.quantum (rounded l.quantum size) (rounded_multiple l.quantum size some)) in
-    let units : k * l.quantum ≡ rounded l.quantum size = sym (ap (λ z. z * l.quantum) number) ∙ whole in
+    let whole : rounding_of l.quantum size / l.quantum * l.quantum ≡ rounding_of l.quantum size = sym (times l.quantum (rounding_of l.quantum size) (rounded_multiple l.quantum size some)) in
+    let units : k * l.quantum ≡ rounding_of l.quantum size = sym (ap (λ z. z * l.quantum) number) ∙ whole in
     let here : Fits l.quantum (plain_of (k * l.quantum)) t.holding.range.base t.holding.range.len = subst (λ (z : ℕ). Fits z (plain_of (k * z)) t.holding.range.base t.holding.range.len) quantum c.fits in
-    let rounded_fits : Fits l.quantum (plain_of (rounded l.quantum size)) t.holding.range.base t.holding.range.len = subst (λ (z : ℕ). Fits l.quantum (plain_of z) t.holding.range.base t.holding.range.len) units here in
+    let rounded_fits : Fits l.quantum (plain_of (rounding_of l.quantum size)) t.holding.range.base t.holding.range.len = subst (λ (z : ℕ). Fits l.quantum (plain_of z) t.holding.range.base t.holding.range.len) units here in
     let fits : Fits l.quantum (plain_of size) t.holding.range.base t.holding.range.len = (fits_rounded l.quantum (plain_of size) t.holding.range.base t.holding.range.len some).0 rounded_fits in
     record {
       of_arena = c.of_arena;

@@ -16,7 +16,7 @@ use Rattle.arena_tree.specs.Trees.{level_of}
 use Rattle.arena_tree.proofs.LawProofs.{tells_then}
 use Rattle.quantum_cache.specs.declared.emptying_faults.EmptyingFault.{EmptyingFault}
 use Rattle.quantum_cache.specs.Caches.{chain_on, chain_up, chain_in}
-use Rattle.quantum_cache.specs.Drains.{Turn, Drained, on_put_back, on_drain_pop, drain_turn, on_turn, drain_cache, drain_arena, drain_plan}
+use Rattle.quantum_cache.specs.Drains.{Turn, Drained, on_put_back, on_drain_pop, drain_turn, on_turn, drain_cache_plan, drain_arena_plan, drain_plan}
 use Rattle.quantum_cache.specs.Frees.{put_chunk}
 use Rattle.quantum_cache.specs.Looks.{WasLast, EmptyingTold, DrainTold, DrainTells}
 use Rattle.quantum_cache.specs.Sizes.{caches_in}
@@ -57,22 +57,22 @@ told_turn nodes arena cache told = λ x s. popped x
         tells_then nodes FreeTold (TurnTold arena cache) (put_chunk t) (λ r. Done (on_put_back r)) now (told_put nodes t now) ended
     popped (Err e) = refl
 
-told_drain : (nodes : List Node) (turns arena cache : ℕ) (u : Unit {0}) (told : List Answered) → Tells nodes (KeyTold nodes (λ k (v : Unit {0}). drain_cache turns arena k) Live (Found arena) Fault cache u) (drain_cache turns arena cache) told
+told_drain : (nodes : List Node) (turns arena cache : ℕ) (u : Unit {0}) (told : List Answered) → Tells nodes (KeyTold nodes (λ k (v : Unit {0}). drain_cache_plan turns arena k) Live (Found arena) Fault cache u) (drain_cache_plan turns arena cache) told
 told_drain nodes zero arena cache u told = tt
 told_drain nodes (suc n) arena cache u told =
-    tells_then nodes (TurnTold arena cache) (KeyTold nodes (λ k (v : Unit {0}). drain_cache (suc n) arena k) Live (Found arena) Fault cache u) (drain_turn arena cache) (on_turn (drain_cache n arena cache)) told (told_turn nodes arena cache told) (goes_on (λ now. told_drain nodes n arena cache u now))
+    tells_then nodes (TurnTold arena cache) (KeyTold nodes (λ k (v : Unit {0}). drain_cache_plan (suc n) arena k) Live (Found arena) Fault cache u) (drain_turn arena cache) (on_turn (drain_cache_plan n arena cache)) told (told_turn nodes arena cache told) (goes_on (λ now. told_drain nodes n arena cache u now))
   where
-    same : (now : List Answered) (r : Drained) → KeyTold nodes (λ k (v : Unit {0}). drain_cache n arena k) Live (Found arena) Fault cache u now r → KeyTold nodes (λ k (v : Unit {0}). drain_cache (suc n) arena k) Live (Found arena) Fault cache u now r
+    same : (now : List Answered) (r : Drained) → KeyTold nodes (λ k (v : Unit {0}). drain_cache_plan n arena k) Live (Found arena) Fault cache u now r → KeyTold nodes (λ k (v : Unit {0}). drain_cache_plan (suc n) arena k) Live (Found arena) Fault cache u now r
     same now (Ok x) w = w
     same now (Err f) w = w
 
-    goes_on : ((now : List Answered) → Tells nodes (KeyTold nodes (λ k (v : Unit {0}). drain_cache n arena k) Live (Found arena) Fault cache u) (drain_cache n arena cache) now) → (a : Turn) (now : List Answered) → TurnTold arena cache now a
-        → Tells nodes (KeyTold nodes (λ k (v : Unit {0}). drain_cache (suc n) arena k) Live (Found arena) Fault cache u) (on_turn (drain_cache n arena cache) a) now
-    goes_on again None now w = tells_so nodes (KeyTold nodes (λ k (v : Unit {0}). drain_cache n arena k) Live (Found arena) Fault cache u) (KeyTold nodes (λ k (v : Unit {0}). drain_cache (suc n) arena k) Live (Found arena) Fault cache u) (drain_cache n arena cache) now same (again now)
+    goes_on : ((now : List Answered) → Tells nodes (KeyTold nodes (λ k (v : Unit {0}). drain_cache_plan n arena k) Live (Found arena) Fault cache u) (drain_cache_plan n arena cache) now) → (a : Turn) (now : List Answered) → TurnTold arena cache now a
+        → Tells nodes (KeyTold nodes (λ k (v : Unit {0}). drain_cache_plan (suc n) arena k) Live (Found arena) Fault cache u) (on_turn (drain_cache_plan n arena cache) a) now
+    goes_on again None now w = tells_so nodes (KeyTold nodes (λ k (v : Unit {0}). drain_cache_plan n arena k) Live (Found arena) Fault cache u) (KeyTold nodes (λ k (v : Unit {0}). drain_cache_plan (suc n) arena k) Live (Found arena) Fault cache u) (drain_cache_plan n arena cache) now same (again now)
     goes_on again (Some (Ok x)) now w = (λ live. w, λ live. tt)
     goes_on again (Some (Err f)) now w = w
 
--- looks at other places
+-- looks at other parts
 other_turn : (a k b j : ℕ) → Pop a k ≢ Pop b j → Avoids (Pop b j) (drain_turn a k)
 unfolding drain_turn
 other_turn a k b j other = (other, popped)
@@ -82,17 +82,17 @@ other_turn a k b j other = (other, popped)
     popped (Ok (Some t)) = avoids_then (Pop b j) (put_chunk t) (λ r. Done (on_put_back r)) (avoids_put (Pop b j) (λ x e. cc) t) (λ r. tt)
     popped (Err e) = tt
 
-other_drain : (turns a k b j : ℕ) → Pop a k ≢ Pop b j → Avoids (Pop b j) (drain_cache turns a k)
+other_drain : (turns a k b j : ℕ) → Pop a k ≢ Pop b j → Avoids (Pop b j) (drain_cache_plan turns a k)
 other_drain zero a k b j other = tt
-other_drain (suc n) a k b j other = avoids_then (Pop b j) (drain_turn a k) (on_turn (drain_cache n a k)) (other_turn a k b j other) (goes_on (other_drain n a k b j other))
+other_drain (suc n) a k b j other = avoids_then (Pop b j) (drain_turn a k) (on_turn (drain_cache_plan n a k)) (other_turn a k b j other) (goes_on (other_drain n a k b j other))
   where
-    goes_on : Avoids (Pop b j) (drain_cache n a k) → (r : Turn) → Avoids (Pop b j) (on_turn (drain_cache n a k) r)
+    goes_on : Avoids (Pop b j) (drain_cache_plan n a k) → (r : Turn) → Avoids (Pop b j) (on_turn (drain_cache_plan n a k) r)
     goes_on again None = again
     goes_on again (Some r) = tt
 
-told_arena : (nodes : List Node) (turns : ℕ) (l : Level) (up : List Level) (told : List Answered) → Tells nodes (KeysTold nodes (λ k (v : Unit {0}). drain_cache turns l.id k) Live (Found l.id) Fault (λ k. (caches_in l - caches_in l < k) × (k ≤ caches_in l)) tt) (drain_arena turns (l ∷ up)) told
+told_arena : (nodes : List Node) (turns : ℕ) (l : Level) (up : List Level) (told : List Answered) → Tells nodes (KeysTold nodes (λ k (v : Unit {0}). drain_cache_plan turns l.id k) Live (Found l.id) Fault (λ k. (caches_in l - caches_in l < k) × (k ≤ caches_in l)) tt) (drain_arena_plan turns (l ∷ up)) told
 told_arena nodes turns l up told =
-    tells_caches nodes (λ k (v : Unit {0}). drain_cache turns l.id k) Live (Found l.id) Fault (told_drain nodes turns l.id) (λ k j u now other w. keeps_last nodes (Pop l.id j) (Ok None) (drain_cache turns l.id k) now (other_drain turns l.id k l.id j (λ e. other cc)) w) (caches_in l) (caches_in l) tt told (omega arith)
+    tells_caches nodes (λ k (v : Unit {0}). drain_cache_plan turns l.id k) Live (Found l.id) Fault (told_drain nodes turns l.id) (λ k j u now other w. keeps_last nodes (Pop l.id j) (Ok None) (drain_cache_plan turns l.id k) now (other_drain turns l.id k l.id j (λ e. other cc)) w) (caches_in l) (caches_in l) tt told (omega arith)
 
 module _ (nodes : List Node) (turns : ℕ) (arenas : List TreeArena) where
   -- of all caches of one arena
@@ -100,18 +100,18 @@ module _ (nodes : List Node) (turns : ℕ) (arenas : List TreeArena) where
   AllFound now id = (cache : ℕ) (x : TreeArena) → slice_get arenas id ≡ Some x → 0 < cache → cache ≤ caches_in (level_of id x) → Found id now cache
 
   abbrev plan_of : ℕ → Unit {0} → Plan Drained
-  plan_of id u = drain_arena turns (chain_in arenas id)
+  plan_of id u = drain_arena_plan turns (chain_in arenas id)
 
   abbrev chain_by : ℕ → Option TreeArena → List Level
   chain_by id o = chain_on (chain_up 3 arenas) id o
 
-  one_arena : (id : ℕ) (u : Unit {0}) (told : List Answered) (o : Option TreeArena) → slice_get arenas id ≡ o → Tells nodes (KeyTold nodes plan_of Live AllFound Fault id u) (drain_arena turns (chain_by id o)) told
+  one_arena : (id : ℕ) (u : Unit {0}) (told : List Answered) (o : Option TreeArena) → slice_get arenas id ≡ o → Tells nodes (KeyTold nodes plan_of Live AllFound Fault id u) (drain_arena_plan turns (chain_by id o)) told
   one_arena id u told None at = (λ live cache x here. absurd (let e : None ≡ Some x = sym at ∙ here in cc), λ live. live)
   one_arena id u told (Some y) at =
-      tells_so nodes (KeysTold nodes (λ k (v : Unit {0}). drain_cache turns id k) Live (Found id) Fault (λ k. (caches_in (level_of id y) - caches_in (level_of id y) < k) × (k ≤ caches_in (level_of id y))) tt) (KeyTold nodes plan_of Live AllFound Fault id u) (drain_arena turns (chain_by id (Some y))) told all
+      tells_so nodes (KeysTold nodes (λ k (v : Unit {0}). drain_cache_plan turns id k) Live (Found id) Fault (λ k. (caches_in (level_of id y) - caches_in (level_of id y) < k) × (k ≤ caches_in (level_of id y))) tt) (KeyTold nodes plan_of Live AllFound Fault id u) (drain_arena_plan turns (chain_by id (Some y))) told all
       (told_arena nodes turns (level_of id y) (chain_up 3 arenas y.source) told)
     where
-      all : (now : List Answered) (a : Drained) → KeysTold nodes (λ k (v : Unit {0}). drain_cache turns id k) Live (Found id) Fault (λ k. (caches_in (level_of id y) - caches_in (level_of id y) < k) × (k ≤ caches_in (level_of id y))) tt now a → KeyTold nodes plan_of Live AllFound Fault id u now a
+      all : (now : List Answered) (a : Drained) → KeysTold nodes (λ k (v : Unit {0}). drain_cache_plan turns id k) Live (Found id) Fault (λ k. (caches_in (level_of id y) - caches_in (level_of id y) < k) × (k ≤ caches_in (level_of id y))) tt now a → KeyTold nodes plan_of Live AllFound Fault id u now a
       all now (Ok z) w = (
         λ live cache x here some most.
             let same : x ≡ y = (let e : Some x ≡ Some y = sym here ∙ at in cc) in
@@ -121,9 +121,9 @@ module _ (nodes : List Node) (turns : ℕ) (arenas : List TreeArena) where
       )
       all now (Err f) w = w
 
-  other_arena : (id j cache : ℕ) (o : Option TreeArena) → j ≢ id → Avoids (Pop j cache) (drain_arena turns (chain_by id o))
+  other_arena : (id j cache : ℕ) (o : Option TreeArena) → j ≢ id → Avoids (Pop j cache) (drain_arena_plan turns (chain_by id o))
   other_arena id j cache None other = tt
-  other_arena id j cache (Some y) other = avoids_caches (Pop j cache) (λ k (v : Unit {0}). drain_cache turns id k) (λ k u. other_drain turns id k j cache (λ e. other cc)) (caches_in (level_of id y)) (caches_in (level_of id y)) tt
+  other_arena id j cache (Some y) other = avoids_caches (Pop j cache) (λ k (v : Unit {0}). drain_cache_plan turns id k) (λ k u. other_drain turns id k j cache (λ e. other cc)) (caches_in (level_of id y)) (caches_in (level_of id y)) tt
 
   abbrev CacheOf : ℕ → Type 0
   CacheOf j = (cache : ℕ) × (x : TreeArena) × (slice_get arenas j ≡ Some x) × (0 < cache) × (cache ≤ caches_in (level_of j x))

@@ -10,7 +10,7 @@ use Rattle.arena_tree.specs.Climbs.{Returned, return_left, return_plan}
 use Rattle.arena_tree.proofs.LawProofs.{handles_then, handles_return}
 use Rattle.quantum_cache.specs.declared.reaps.Reaping.{Reaping}
 use Rattle.quantum_cache.specs.Caches.{chain_in, if_ok, over_caches, over_arenas}
-use Rattle.quantum_cache.specs.Drains.{Turn, drain_end, on_put_back, on_drain_pop, drain_turn, on_turn, drain_cache, drain_arena}
+use Rattle.quantum_cache.specs.Drains.{Turn, drain_end, on_put_back, on_drain_pop, drain_turn, on_turn, drain_cache_plan, drain_arena_plan}
 use Rattle.quantum_cache.specs.Frees.{put_chunk}
 use Rattle.quantum_cache.specs.Laws.{emptying_left, drain_left, reap_left, DrainHandles, ReapArenaHandles, ReapHandles}
 use Rattle.quantum_cache.specs.Reaps.{Reaped, ReapEnd, on_return, on_depot_reap, reap_round, on_slab_reap, reap_slab, on_look, up_to, reap_by, reap_cache, reap_arena_plan}
@@ -50,20 +50,20 @@ handles_turn arena cache = (refl, popped)
     popped (Ok (Some t)) = handles_then return_left turn_left (put_chunk t) (λ r. Done (on_put_back r)) (Some t) (handles_put t) ended
     popped (Err e) = refl
 
-handles_drain : (turns arena cache : ℕ) → Handles drain_left (drain_cache turns arena cache) None
+handles_drain : (turns arena cache : ℕ) → Handles drain_left (drain_cache_plan turns arena cache) None
 handles_drain zero arena cache = refl
-handles_drain (suc n) arena cache = handles_then turn_left drain_left (drain_turn arena cache) (on_turn (drain_cache n arena cache)) None (handles_turn arena cache) (goes_on (handles_drain n arena cache))
+handles_drain (suc n) arena cache = handles_then turn_left drain_left (drain_turn arena cache) (on_turn (drain_cache_plan n arena cache)) None (handles_turn arena cache) (goes_on (handles_drain n arena cache))
   where
-    goes_on : Handles drain_left (drain_cache n arena cache) None → (a : Turn) → Handles drain_left (on_turn (drain_cache n arena cache) a) (turn_left a)
+    goes_on : Handles drain_left (drain_cache_plan n arena cache) None → (a : Turn) → Handles drain_left (on_turn (drain_cache_plan n arena cache) a) (turn_left a)
     goes_on again None = again
     goes_on again (Some r) = refl
 
-handles_drain_arena : (turns : ℕ) (chain : List Level) → Handles drain_left (drain_arena turns chain) None
+handles_drain_arena : (turns : ℕ) (chain : List Level) → Handles drain_left (drain_arena_plan turns chain) None
 handles_drain_arena turns [] = refl
-handles_drain_arena turns (l ∷ up) = handles_caches drain_left (λ cache (u : Unit {0}). drain_cache turns l.id cache) (λ u. refl) (λ k u. handles_drain turns l.id k) (caches_in l) (caches_in l) tt
+handles_drain_arena turns (l ∷ up) = handles_caches drain_left (λ cache (u : Unit {0}). drain_cache_plan turns l.id cache) (λ u. refl) (λ k u. handles_drain turns l.id k) (caches_in l) (caches_in l) tt
 
 pub drain_handles : DrainHandles
-drain_handles turns arenas = handles_arenas drain_left (λ id (u : Unit {0}). drain_arena turns (chain_in arenas id)) (λ u. refl) (λ id u. handles_drain_arena turns (chain_in arenas id)) (length arenas) tt
+drain_handles turns arenas = handles_arenas drain_left (λ id (u : Unit {0}). drain_arena_plan turns (chain_in arenas id)) (λ u. refl) (λ id u. handles_drain_arena turns (chain_in arenas id)) (length arenas) tt
 
 -- a reaping
 abbrev look_left : Reaped → Option Tag

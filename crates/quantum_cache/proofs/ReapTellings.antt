@@ -60,7 +60,7 @@ look_at_slabs nodes l up cache told is = taken
         tells_then nodes FreeTold (LookTold (WasLast (SlabReap l.id cache) (Ok None))) (return_plan (l ∷ up) t) (λ r. Done (on_return t.holding.range.len r)) now (told_return nodes (l ∷ up) t now is (ap Some (sym s.of_arena))) (returned_told (WasLast (SlabReap l.id cache) (Ok None)) t.holding.range.len)
     taken (Err e) s = refl
 
--- looks at one place, until there is nothing
+-- looks at one part, until there is nothing
 abbrev LooksTold : (List Answered → Type 0) → ℕ → List Answered → ReapEnd → Type 0
 LooksTold found left now (Ok r) = (0 < r.left → found now) × (r.left ≤ left)
 LooksTold found left now (Err f) = EmptyingTold now f.cause
@@ -109,7 +109,7 @@ module _ (nodes : List Node) (l : Level) (up : List Level) (is : IsChain nodes (
           (λ some. keeps_last nodes (DepotReap l.id cache) (Ok None) looks now (avoids_up_to (DepotReap l.id cache) (reap_slab (l ∷ up) l.id cache) (avoids_slab (DepotReap l.id cache) (λ t e. cc) (l ∷ up) l.id cache (λ e. cc)) y.left y.units) (w.0 some))))
       slabs (Err f) now w = w
 
--- looks at other places
+-- looks at other parts
 avoids_cache : (e : Event) (chain : List Level) (arena cache : ℕ) (r : Reaping) → Avoids e (reap_round arena cache) → Avoids e (reap_slab chain arena cache) → Avoids e (reap_cache chain arena cache r)
 unfolding reap_cache
 avoids_cache e chain arena cache r v w =

@@ -15,7 +15,7 @@ use Rattle.arena_tree.specs.declared.part_faults.SwapFullFault.{SwapFullFault}
 use Rattle.arena_tree.specs.declared.part_faults.SwapFullFault.TheVariants as fulling
 use Rattle.arena_tree.specs.Events.{Carve, SlabTake, SlabAdd, SwapFull, Pop, Change}
 use Rattle.arena_tree.specs.Plans.{Plan, Done, Ask, then, first_that_gives}
-use Rattle.arena_tree.specs.Climbs.{Climbed, climb_plan, give_back}
+use Rattle.arena_tree.specs.Climbs.{Climbed, climb_plan, give_back_plan}
 use Rattle.arena_tree.specs.Tags.{tag_climb}
 use Rattle.quantum_cache.specs.Sizes.{cache_for}
 
@@ -66,7 +66,7 @@ take_chunk arena cache = Ask (SlabTake arena cache) (λ a. Done (on_take a))
 -- 4. a climb of the slab size, then slab_add; out of memory for that, the span is freed upwards
 abbrev pub on_slab_add : List Level → Result Tag (SlabAddFault Tag) → Plan Climbed
 on_slab_add chain (Ok t) = Done (Ok t)
-on_slab_add chain (Err (slabbing.NoMemory t)) = give_back chain t
+on_slab_add chain (Err (slabbing.NoMemory t)) = give_back_plan chain t
 on_slab_add chain (Err (slabbing.WrongSize t)) = Done (Err (climbing.Stuck t))
 on_slab_add chain (Err (slabbing.Overlaps t)) = Done (Err (climbing.Stuck t))
 on_slab_add chain (Err (slabbing.Stopped t)) = Done (Err (climbing.Stopped (Some t)))

@@ -66,18 +66,18 @@ abbrev pub on_turn : Plan Drained → Turn → Plan Drained
 on_turn again None = again
 on_turn again (Some r) = Done (drain_end r)
 
-abbrev pub drain_cache : ℕ → ℕ → ℕ → Plan Drained
-drain_cache zero arena cache = Done (Err None)
-drain_cache (suc turns) arena cache =
-    then (drain_turn arena cache) (on_turn (drain_cache turns arena cache))
+abbrev pub drain_cache_plan : ℕ → ℕ → ℕ → Plan Drained
+drain_cache_plan zero arena cache = Done (Err None)
+drain_cache_plan (suc turns) arena cache =
+    then (drain_turn arena cache) (on_turn (drain_cache_plan turns arena cache))
 
 -- all caches of an arena
-abbrev pub drain_arena : ℕ → List Level → Plan Drained
-drain_arena turns [] = Done (Ok tt)
-drain_arena turns (l ∷ up) =
-    over_caches (λ cache _. drain_cache turns l.id cache) (caches_in l) (caches_in l) tt
+abbrev pub drain_arena_plan : ℕ → List Level → Plan Drained
+drain_arena_plan turns [] = Done (Ok tt)
+drain_arena_plan turns (l ∷ up) =
+    over_caches (λ cache _. drain_cache_plan turns l.id cache) (caches_in l) (caches_in l) tt
 
 -- all arenas, the last first
 abbrev pub drain_plan : ℕ → List TreeArena → Plan Drained
 drain_plan turns arenas =
-    over_arenas (λ id _. drain_arena turns (chain_in arenas id)) (length arenas) tt
+    over_arenas (λ id _. drain_arena_plan turns (chain_in arenas id)) (length arenas) tt

@@ -3,7 +3,7 @@ ghost use Rattle.std.specs.Prelude.{◌≡◌, ℕ, ◌+◌, ◌<◌, ◌≤◌,
 ghost use Rattle.arena_tree.specs.Plans.{Ran};
 ghost use Rattle.quantum_cache.specs.Caches.{over_caches, over_arenas, chain_in};
 ghost use Rattle.quantum_cache.specs.Drains.{tag_turn, drain_turn, drain_end, tag_emptied};
-ghost use Rattle.quantum_cache.specs.Drains.{drain_cache, drain_arena, drain_plan};
+ghost use Rattle.quantum_cache.specs.Drains.{drain_cache_plan, drain_arena_plan, drain_plan};
 ghost use Rattle.quantum_cache.specs.Sizes.{caches_in};
 
 use crate::emptying_faults::EmptyingFault;
@@ -44,7 +44,7 @@ fn drain_rounds<S: Held, P: Parts<S>>(
     cache: u8,
 ) -> Result<(), EmptyingFault<S>>
     ensures ran { (turns : ℕ) → P.rounds parts.old < turns
-        → Ran P.step P.tree P.count P.rounds (drain_cache turns arena cache)
+        → Ran P.step P.tree P.count P.rounds (drain_cache_plan turns arena cache)
         parts.old parts.new (drain_end (tag_emptied S.tag result)) }
     ensures no_more { P.rounds parts.new ≤ P.rounds parts.old }
     ensures few { P.count parts.new + P.rounds parts.new ≤ P.count parts.old + P.rounds parts.old }
@@ -68,7 +68,7 @@ fn drain_caches<S: Held, P: Parts<S>>(
     requires { left ≤ all }
     ensures ran { (turns : ℕ) → P.rounds parts.old < turns
         → Ran P.step P.tree P.count P.rounds
-        (over_caches (λ cache _. drain_cache turns arena cache) all left tt)
+        (over_caches (λ cache _. drain_cache_plan turns arena cache) all left tt)
         parts.old parts.new (drain_end (tag_emptied S.tag result)) }
     ensures no_more { P.rounds parts.new ≤ P.rounds parts.old }
     ensures few { P.count parts.new + P.rounds parts.new ≤ P.count parts.old + P.rounds parts.old }
@@ -92,7 +92,7 @@ fn drain_below<S: Held, P: Parts<S>>(
     requires { end ≤ length tree.now }
     ensures ran { (turns : ℕ) → P.rounds parts.old < turns
         → Ran P.step P.tree P.count P.rounds
-        (over_arenas (λ id _. drain_arena turns (chain_in tree.now id)) end tt)
+        (over_arenas (λ id _. drain_arena_plan turns (chain_in tree.now id)) end tt)
         parts.old parts.new (drain_end (tag_emptied S.tag result)) }
     ensures no_more { P.rounds parts.new ≤ P.rounds parts.old }
     ensures few { P.count parts.new + P.rounds parts.new ≤ P.count parts.old + P.rounds parts.old }
@@ -112,7 +112,7 @@ fn drain_below<S: Held, P: Parts<S>>(
 fn drain_chain<S: Held, P: Parts<S>>(parts: &mut P, chain: &[Level]) -> Result<(), EmptyingFault<S>>
     requires { All (λ l. 0 < l.quantum) chain.now }
     ensures ran { (turns : ℕ) → P.rounds parts.old < turns
-        → Ran P.step P.tree P.count P.rounds (drain_arena turns chain.now)
+        → Ran P.step P.tree P.count P.rounds (drain_arena_plan turns chain.now)
         parts.old parts.new (drain_end (tag_emptied S.tag result)) }
     ensures no_more { P.rounds parts.new ≤ P.rounds parts.old }
     ensures few { P.count parts.new + P.rounds parts.new ≤ P.count parts.old + P.rounds parts.old }

@@ -5,7 +5,7 @@
 
 ghost use Rattle.std.specs.Prelude.{◌≡◌, ◌-◌, ◌↔◌, Some, None, option_map, IsErr, IfOk, IfErr};
 ghost use Rattle.deed_core.specs.Extent.{IsRange, IsInside};
-ghost use Rattle.deed_core.specs.Holding.{GoesOn, low, high, joined};
+ghost use Rattle.deed_core.specs.Holding.{GoesOn, low_side, high_side, join_of};
 
 use deed_core::{Deed, Range, Refused};
 
@@ -72,9 +72,9 @@ impl Deed for RefusingDeed {
         requires { IsInside at (⟦<RefusingDeed as Deed>⟧.holding self).range }
         ensures ok { IfOk result (λ parts.
             (⟦<RefusingDeed as Deed>⟧.holding parts.0
-            ≡ low at (⟦<RefusingDeed as Deed>⟧.holding self))
+            ≡ low_side at (⟦<RefusingDeed as Deed>⟧.holding self))
             × (⟦<RefusingDeed as Deed>⟧.holding parts.1
-            ≡ high at (⟦<RefusingDeed as Deed>⟧.holding self))) }
+            ≡ high_side at (⟦<RefusingDeed as Deed>⟧.holding self))) }
         ensures handed_back { IfErr result (λ refused.
             ⟦<RefusingDeed as Deed>⟧.holding refused.deed ≡ ⟦<RefusingDeed as Deed>⟧.holding self) }
         ensures refused { IsErr result ↔ (self.splits_left ≡ Some 0) }
@@ -105,7 +105,7 @@ impl Deed for RefusingDeed {
         requires { GoesOn (⟦<RefusingDeed as Deed>⟧.holding self)
             (⟦<RefusingDeed as Deed>⟧.holding next) }
         ensures joined { ⟦<RefusingDeed as Deed>⟧.holding result
-            ≡ joined (⟦<RefusingDeed as Deed>⟧.holding self)
+            ≡ join_of (⟦<RefusingDeed as Deed>⟧.holding self)
             (⟦<RefusingDeed as Deed>⟧.holding next) }
         ensures counted { result.splits_left ≡ self.splits_left }
     {

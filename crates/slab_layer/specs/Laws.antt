@@ -1,6 +1,6 @@
 -- Laws of slab caches that the layers above reckon with.
 use Rattle.std.specs.Prelude.{◌≡◌, ◌↔◌, ℕ, [], Option, All, Contains, IsNone, sum_by}
-use Rattle.deed_core.specs.Request.{Fits, plain_of, rounded}
+use Rattle.deed_core.specs.Request.{Fits, plain_of, rounding_of}
 use Rattle.deed_core.specs.Tag.{Tag}
 use Rattle.deed_core.specs.Weights.{of_cache}
 use Rattle.slab_layer.specs.Slab.{IsAllOut, IsComplete}
@@ -36,12 +36,14 @@ OutIsOfCache =
 -- a chunk fits each unconstrained request whose size, rounded to whole quanta, is the chunk's
 abbrev pub ChunkFits : Type 0
 ChunkFits =
-    (c : SlabCacheState) (t : Tag) (size : ℕ) → IsChunkOf c t → rounded c.quantum size ≡ chunk_of c
+    (c : SlabCacheState) (t : Tag) (size : ℕ) → IsChunkOf c t
+    → rounding_of c.quantum size ≡ chunk_of c
     → Fits c.quantum (plain_of size) t.holding.range.base t.holding.range.len
 
 -- of these is the one for just k quanta
 abbrev pub ChunkIsWholeQuanta : Type 0
-ChunkIsWholeQuanta = (c : SlabCacheState) → IsSound c → rounded c.quantum (chunk_of c) ≡ chunk_of c
+ChunkIsWholeQuanta = (c : SlabCacheState) → IsSound c
+    → rounding_of c.quantum (chunk_of c) ≡ chunk_of c
 
 -- `take` gives none exactly where every chunk is out, and `reap` exactly where each slab has one
 -- out

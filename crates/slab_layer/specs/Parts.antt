@@ -13,7 +13,7 @@ use Rattle.std.specs.Prelude.{
   None,
   if◌then◌else◌,
 }
-use Rattle.deed_core.specs.Holding.{Holding, piece, GoesOn, joined}
+use Rattle.deed_core.specs.Holding.{Holding, piece, GoesOn, join_of}
 
 -- the `len` units from `base` on, where there is one
 abbrev pub piece_or_none : ℕ → ℕ → ℕ → Option Holding
@@ -37,7 +37,7 @@ Follows None b = Unit {0}
 
 -- what the two cover together
 abbrev pub joined_parts : Option Holding → Option Holding → Option Holding
-joined_parts (Some a) (Some b) = Some (joined a b)
+joined_parts (Some a) (Some b) = Some (join_of a b)
 joined_parts (Some a) None = Some a
 joined_parts None b = b
 

@@ -14,7 +14,7 @@ use Rattle.tag_arena.specs.ArenaState.{spans_of}
 use Rattle.tag_arena.proofs.LawProofs.{spans_once}
 use Rattle.stock.specs.Spaces.{SpaceState}
 use Rattle.stock.specs.Stocks.{IsFrom}
-use Rattle.stock.specs.Accounts.{imported, IsAccounted}
+use Rattle.stock.specs.Accounts.{weight_imported, IsAccounted}
 use Rattle.stock.specs.Laws.{HasTop, root, child, OutIsApart}
 use Rattle.stock.proofs.Exporting.{arena_here}
 use Rattle.stock.proofs.OneHomes.{each_unit}
@@ -40,11 +40,11 @@ module _ (spaces : List SpaceState) (out : List Tag) (accounted : IsAccounted sp
 
   -- what is out and what is exported are units of the arena, each once
   room : (k : ℕ) (s : SpaceState) → slice_get spaces k ≡ Some s
-      → (sum_by (at_arena k) out + sum_by (imported (at_arena k)) spaces ≤ covering_held u (spans_of s.arena)) × (covering_held u (spans_of s.arena) ≤ 1)
+      → (sum_by (at_arena k) out + sum_by (weight_imported (at_arena k)) spaces ≤ covering_held u (spans_of s.arena)) × (covering_held u (spans_of s.arena) ≤ 1)
   room k s at = (omega (arith, each_unit spaces accounted.stock k s at out accounted.accounts u), spans_once s.arena (accounted.stock k s at).sound u)
 
   -- what a child imported is its spans
-  spans_imported : (k p : ℕ) (s : SpaceState) → slice_get spaces k ≡ Some s → s.source ≡ Some p → imported (at_arena p) s ≡ covering_held u (spans_of s.arena)
+  spans_imported : (k p : ℕ) (s : SpaceState) → slice_get spaces k ≡ Some s → s.source ≡ Some p → weight_imported (at_arena p) s ≡ covering_held u (spans_of s.arena)
   spans_imported k p s at source =
       let space = accounted.stock k s at in
       let home : All (IsFrom (Some p)) s.arena.imported = subst (λ o. All (IsFrom o) s.arena.imported) source space.imported in
@@ -85,21 +85,21 @@ module _ (spaces : List SpaceState) (out : List Tag) (accounted : IsAccounted sp
   owned k s (segment i t) at has =
       omega (arith, room k s at, part_of_sum (at_arena k) out i t has.0, segment_weighs k t has.1 has.2)
   owned k s (importer c r) at has =
-      omega (arith, room k s at, part_of_sum (imported (at_arena k)) spaces c r has.0, spans_imported c k r has.0 has.1, has.2)
+      omega (arith, room k s at, part_of_sum (weight_imported (at_arena k)) spaces c r has.0, spans_imported c k r has.0 has.1, has.2)
 
   -- no unit has two owners
   clash : (k : ℕ) (s : SpaceState) (x y : Owner) → slice_get spaces k ≡ Some s → Owns k x → Owns k y → Differ x y → ⊥
   clash k s (segment i t) (segment j r) at one two ne =
       omega (arith, room k s at, two_parts (at_arena k) out i j t r one.0 two.0 ne, segment_weighs k t one.1 one.2, segment_weighs k r two.1 two.2)
   clash k s (segment i t) (importer c r) at one two ne =
-      omega (arith, room k s at, part_of_sum (at_arena k) out i t one.0, segment_weighs k t one.1 one.2, part_of_sum (imported (at_arena k)) spaces c r two.0, spans_imported c k r two.0 two.1, two.2)
+      omega (arith, room k s at, part_of_sum (at_arena k) out i t one.0, segment_weighs k t one.1 one.2, part_of_sum (weight_imported (at_arena k)) spaces c r two.0, spans_imported c k r two.0 two.1, two.2)
   clash k s (importer c r) (segment i t) at one two ne =
-      omega (arith, room k s at, part_of_sum (at_arena k) out i t two.0, segment_weighs k t two.1 two.2, part_of_sum (imported (at_arena k)) spaces c r one.0, spans_imported c k r one.0 one.1, one.2)
+      omega (arith, room k s at, part_of_sum (at_arena k) out i t two.0, segment_weighs k t two.1 two.2, part_of_sum (weight_imported (at_arena k)) spaces c r one.0, spans_imported c k r one.0 one.1, one.2)
   clash k s (importer c r) (importer e q) at one two ne =
       omega (
         arith,
         room k s at,
-        two_parts (imported (at_arena k)) spaces c e r q one.0 two.0 ne,
+        two_parts (weight_imported (at_arena k)) spaces c e r q one.0 two.0 ne,
         spans_imported c k r one.0 one.1,
         spans_imported e k q two.0 two.1,
         one.2,

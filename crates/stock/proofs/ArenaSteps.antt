@@ -10,7 +10,7 @@ use Rattle.tag_arena.specs.ArenaState.{ArenaState, IsSound, tags_of}
 use Rattle.tag_arena.specs.Outcomes.{KeepsSetup}
 use Rattle.stock.specs.Spaces.{SpaceState, with_arena, slab_size_of, plan_of, plans_of, quantum_of, quanta_of}
 use Rattle.stock.specs.Stocks.{IsQuantumCache, IsFrom, IsSpaceAt, IsStock}
-use Rattle.stock.specs.Accounts.{allocated, imported, slabs, chunks, rounds, Frames}
+use Rattle.stock.specs.Accounts.{weight_allocated, weight_imported, slabs, chunks, rounds, Frames}
 use Rattle.stock.proofs.Moving.{Moves}
 
 -- What the arena's own call keeps.
@@ -59,9 +59,9 @@ module _ (spaces : List SpaceState) (k : ℕ) (s : SpaceState) (at : slice_get s
       arith,
       a.exports f,
       moves f,
-      sum_set (allocated f) spaces k s (with_arena new s) at,
+      sum_set (weight_allocated f) spaces k s (with_arena new s) at,
       sum_set (slabs f) spaces k s (with_arena new s) at,
-      sum_set (imported f) spaces k s (with_arena new s) at,
+      sum_set (weight_imported f) spaces k s (with_arena new s) at,
       sum_by-append (of_direct f) given rest,
       sum_by-append (of_direct f) answered rest,
     );

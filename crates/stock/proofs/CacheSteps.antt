@@ -8,7 +8,7 @@ use Rattle.deed_core.specs.Weights.{of_direct, of_cached}
 use Rattle.deed_core.proofs.LawProofs.{written, sum_set, map_set_same, slice_get_here, slice_get_one, slice_get_some}
 use Rattle.stock.specs.Spaces.{SpaceState, QuantumCacheState, with_cache, IsCacheAt, HasCache, slab_size_of, plan_of, plans_of, quantum_of, quanta_of}
 use Rattle.stock.specs.Stocks.{IsQuantumCache, IsSpaceAt, IsStock}
-use Rattle.stock.specs.Accounts.{allocated, imported, slabs_in, chunks_in, rounds_in, slabs, chunks, rounds, Frames}
+use Rattle.stock.specs.Accounts.{weight_allocated, weight_imported, slabs_in, chunks_in, rounds_in, slabs, chunks, rounds, Frames}
 use Rattle.stock.proofs.Moving.{Moves, is_written}
 use Rattle.stock.proofs.Moving as moving
 
@@ -77,8 +77,8 @@ module _ (spaces : List SpaceState) (k : ℕ) (s : SpaceState) (at : slice_get s
       arith,
       a.exports f,
       slabs_move f,
-      sum_set (allocated f) spaces k s (with_cache j new s) at,
-      sum_set (imported f) spaces k s (with_cache j new s) at,
+      sum_set (weight_allocated f) spaces k s (with_cache j new s) at,
+      sum_set (weight_imported f) spaces k s (with_cache j new s) at,
       sum_set (slabs f) spaces k s (with_cache j new s) at,
       sum_set (slabs_in f) s.caches j c new among,
       sum_by-append (of_direct f) given rest,

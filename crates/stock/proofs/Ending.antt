@@ -14,7 +14,7 @@ use Rattle.deed_core.specs.Covering.{covering_held}
 use Rattle.deed_core.specs.Selections.{came_direct}
 use Rattle.deed_core.specs.Weights.{of_arena}
 use Rattle.deed_core.proofs.LawProofs.{all_at, all_from, sum_none, part_of_sum, sum_by-parts}
-use Rattle.tag_arena.specs.ArenaState.{ArenaState, IsSound, spans_of, ranges_of, tags_of, direct}
+use Rattle.tag_arena.specs.ArenaState.{ArenaState, IsSound, spans_of, ranges_of, tags_of, direct_tag}
 use Rattle.tag_arena.specs.Layout.{IsPartOf, IsRun, IsAllocated}
 use Rattle.tag_arena.proofs.LawProofs.{goes_empty, allocated_stand, free_are_longest_runs}
 use Rattle.slab_layer.specs.Cache.{chunks_out, span_tag, span_tags, chunk_tag}
@@ -23,7 +23,7 @@ use Rattle.slab_layer.proofs.LawProofs.{reaped_out_is_empty}
 use Rattle.std.specs.List.{flat_map}
 use Rattle.stock.specs.Spaces.{SpaceState, QuantumCacheState}
 use Rattle.stock.specs.Stocks.{IsFrom, IsStock}
-use Rattle.stock.specs.Accounts.{allocated, imported, slabs_in, chunks_in, rounds_in, slabs, chunks, rounds, Accounts, IsAccounted}
+use Rattle.stock.specs.Accounts.{weight_allocated, weight_imported, slabs_in, chunks_in, rounds_in, slabs, chunks, rounds, Accounts, IsAccounted}
 use Rattle.stock.specs.Endings.{IsBareCache, IsBare, IsReapedCache, IsReaped, IsTakenOut, EndsOnceReaped, EndsWithNothingOut}
 use Rattle.stock.proofs.Exporting.{arena_there, allocated_of}
 use Rattle.stock.proofs.Lengths.{as_long}
@@ -47,7 +47,7 @@ module _ (a : ArenaState) (sound : IsSound a) (none : tags_of a ≡ []) where
   not_allocated u al =
       let base = (sound.divided.whole.tags_inside al.0 al.1 al.2).0 in
       let stands = subst (λ b. get a.allocated b ≡ Some al.1) (sym base) al.2 in
-      none_has (tags_of a) (direct a.id al.1) none ((allocated_stand a (direct a.id al.1) sound).1 (record { arena = refl; route = refl; stands = stands }))
+      none_has (tags_of a) (direct_tag a.id al.1) none ((allocated_stand a (direct_tag a.id al.1) sound).1 (record { arena = refl; route = refl; stands = stands }))
 
   -- a free range is a whole span
   whole : (r : Holding) → Contains a.free r → Contains (spans_of a) r
@@ -64,7 +64,7 @@ module _ (a : ArenaState) (sound : IsSound a) (none : tags_of a ≡ []) where
   ranges_none : ranges_of a.allocated ≡ []
   ranges_none = no_map (ranges_of a.allocated) none
     where
-      no_map : (hs : List Holding) → map (direct a.id) hs ≡ [] → hs ≡ []
+      no_map : (hs : List Holding) → map (direct_tag a.id) hs ≡ [] → hs ≡ []
       no_map [] e = refl
       no_map (h ∷ hs) e = absurd (omega (arith, ap (λ (ts : List Tag). length ts) e))
 
@@ -99,8 +99,8 @@ module _ (spaces : List SpaceState) (stock : IsStock spaces) (a : Accounts space
 
   -- where no later arena has anything allocated, none imported from this one
   none_imported : (k : ℕ) → ((j : ℕ) (x : SpaceState) → slice_get spaces j ≡ Some x → k < j → tags_of x.arena ≡ [])
-      → sum_by (imported (of_arena k (λ t. 1))) spaces ≡ 0
-  none_imported k above = sum_none (imported (of_arena k (λ t. 1))) spaces (λ j x there.
+      → sum_by (weight_imported (of_arena k (λ t. 1))) spaces ≡ 0
+  none_imported k above = sum_none (weight_imported (of_arena k (λ t. 1))) spaces (λ j x there.
       let is = stock j x there in
       elim (cases_lt k j) [
         | inl later ↦ ap (sum_by (of_arena k (λ t. 1))) (goes_empty x.arena is.sound (above j x there later)).0
@@ -139,8 +139,8 @@ module _ (spaces : List SpaceState) (out : List Tag) (accounted : IsAccounted sp
       let inside = (sound.divided.whole.tags_inside t.holding.range.base t.holding ((allocated_stand s.arena t sound).0 has).stands).2 in
       none_has (spans_of s.arena) inside.1 (bare_at k s at).spans (inside.0, inside.2, inside.3))
 
-  no_allocated : (f : Tag → ℕ) → sum_by (allocated f) spaces ≡ 0
-  no_allocated f = sum_none (allocated f) spaces (λ k s at. ap (sum_by f) (no_tags k s at))
+  no_allocated : (f : Tag → ℕ) → sum_by (weight_allocated f) spaces ≡ 0
+  no_allocated f = sum_none (weight_allocated f) spaces (λ k s at. ap (sum_by f) (no_tags k s at))
 
   no_chunks : (f : Tag → ℕ) → sum_by (chunks f) spaces ≡ 0
   no_chunks f = sum_none (chunks f) spaces (λ k s at. sum_none (chunks_in f) s.caches (λ j c among.

@@ -14,7 +14,7 @@ use Rattle.deed_core.specs.Covering.{covers_tag}
 use Rattle.deed_core.specs.Weights.{of_direct, of_arena, one_at}
 use Rattle.deed_core.specs.declared.segments.Route.TheVariants.{Direct}
 use Rattle.deed_core.proofs.LawProofs.{contains_at, overlap_covers_twice, counts_where_it_is, one_at_itself, sum_some, sum_at, sum_none, part_of_sum, contained_in_sum, mapped_contains, contains_mapped, slice_get_mapped, slice_get_one}
-use Rattle.tag_arena.specs.ArenaState.{ArenaState, spans_of, ranges_of, tags_of, direct, OnQuantum}
+use Rattle.tag_arena.specs.ArenaState.{ArenaState, spans_of, ranges_of, tags_of, direct_tag, OnQuantum}
 use Rattle.tag_arena.proofs.LawProofs.{allocated_stand, tags_weigh, spans_once}
 use Rattle.slab_layer.specs.Slab.{SlabState}
 use Rattle.slab_layer.specs.Cache.{span_tag, span_tags}
@@ -22,13 +22,13 @@ use Rattle.slab_layer.specs.Calls.{OverlapsSlab}
 use Rattle.tag_arena.specs.Calls.{IsClear}
 use Rattle.stock.specs.Spaces.{SpaceState, QuantumCacheState, quantum_of, quanta_of}
 use Rattle.stock.specs.Stocks.{IsFrom, IsSpaceAt, IsStock}
-use Rattle.stock.specs.Accounts.{allocated, imported, slabs_in, slabs, Accounts}
+use Rattle.stock.specs.Accounts.{weight_allocated, weight_imported, slabs_in, slabs, Accounts}
 use Rattle.stock.specs.Steps.{IsTaggedIn}
 use Rattle.stock.proofs.Members.{direct_weighs}
 
 -- the tags of an arena are its own
 own_tag : (a : ArenaState) (t : Tag) → Contains (tags_of a) t → t.arena ≡ a.id
-own_tag a t has = (let there = mapped_contains (direct a.id) (ranges_of a.allocated) t has in ap (λ (x : Tag). x.arena) there.2)
+own_tag a t has = (let there = mapped_contains (direct_tag a.id) (ranges_of a.allocated) t has in ap (λ (x : Tag). x.arena) there.2)
 
 -- a weight of one arena's segments
 pub arena_here : (p : ℕ) (f : Tag → ℕ) (t : Tag) → t.arena ≡ p → of_arena p f t ≡ f t
@@ -38,26 +38,26 @@ pub arena_there : (p : ℕ) (f : Tag → ℕ) (t : Tag) → t.arena ≢ p → of
 arena_there p f t other = (let test : nat_eq t.arena p ≡ false = grind (arith, nat_tests) in ap (λ b. cond b (f t) 0) test)
 
 -- what an arena has allocated weighs in it and nowhere else
-allocated_here : (p : ℕ) (f : Tag → ℕ) (s : SpaceState) → s.arena.id ≡ p → allocated (of_arena p f) s ≡ allocated f s
+allocated_here : (p : ℕ) (f : Tag → ℕ) (s : SpaceState) → s.arena.id ≡ p → weight_allocated (of_arena p f) s ≡ weight_allocated f s
 allocated_here p f s is =
     let test : nat_eq s.arena.id p ≡ true = grind (arith, nat_tests) in
-    tags_weigh s.arena (of_arena p f) ∙ ap (λ b. sum_by (λ (h : Holding). cond b (f (direct s.arena.id h)) 0) (ranges_of s.arena.allocated)) test ∙ sym (tags_weigh s.arena f)
+    tags_weigh s.arena (of_arena p f) ∙ ap (λ b. sum_by (λ (h : Holding). cond b (f (direct_tag s.arena.id h)) 0) (ranges_of s.arena.allocated)) test ∙ sym (tags_weigh s.arena f)
 
-allocated_there : (p : ℕ) (f : Tag → ℕ) (s : SpaceState) → s.arena.id ≢ p → allocated (of_arena p f) s ≡ 0
+allocated_there : (p : ℕ) (f : Tag → ℕ) (s : SpaceState) → s.arena.id ≢ p → weight_allocated (of_arena p f) s ≡ 0
 allocated_there p f s other =
     let test : nat_eq s.arena.id p ≡ false = grind (arith, nat_tests) in
-    tags_weigh s.arena (of_arena p f) ∙ ap (λ b. sum_by (λ (h : Holding). cond b (f (direct s.arena.id h)) 0) (ranges_of s.arena.allocated)) test
+    tags_weigh s.arena (of_arena p f) ∙ ap (λ b. sum_by (λ (h : Holding). cond b (f (direct_tag s.arena.id h)) 0) (ranges_of s.arena.allocated)) test
     ∙ sum_none (λ (h : Holding). 0) (ranges_of s.arena.allocated) (λ j x at. refl)
 
 module _ (spaces : List SpaceState) (stock : IsStock spaces) where
   -- of all that is allocated, one arena's
-  pub allocated_of : (p : ℕ) (s : SpaceState) (f : Tag → ℕ) → slice_get spaces p ≡ Some s → sum_by (allocated (of_arena p f)) spaces ≡ allocated f s
-  allocated_of p s f at = sum_at (allocated (of_arena p f)) spaces p s at (λ j y there ne. allocated_there p f y (λ e. ne (sym (stock j y there).id ∙ e))) ∙ allocated_here p f s (stock p s at).id
+  pub allocated_of : (p : ℕ) (s : SpaceState) (f : Tag → ℕ) → slice_get spaces p ≡ Some s → sum_by (weight_allocated (of_arena p f)) spaces ≡ weight_allocated f s
+  allocated_of p s f at = sum_at (weight_allocated (of_arena p f)) spaces p s at (λ j y there ne. allocated_there p f y (λ e. ne (sym (stock j y there).id ∙ e))) ∙ allocated_here p f s (stock p s at).id
 
   -- a segment that weighs among what is allocated stands in its arena
-  tagged_by : (t : Tag) → 0 < sum_by (allocated (one_at t)) spaces → IsTaggedIn spaces t
+  tagged_by : (t : Tag) → 0 < sum_by (weight_allocated (one_at t)) spaces → IsTaggedIn spaces t
   tagged_by t some =
-      let found = sum_some (allocated (one_at t)) spaces some in
+      let found = sum_some (weight_allocated (one_at t)) spaces some in
       let has : Contains (tags_of found.1.arena) t = (counts_where_it_is t (tags_of found.1.arena)).0 found.3 in
       let home : t.arena ≡ found.0 = own_tag found.1.arena t has ∙ (stock found.0 found.1 found.2).id in
       record {
@@ -88,7 +88,7 @@ module _ (spaces : List SpaceState) (stock : IsStock spaces) where
           one,
           accounts.exports (one_at x),
           contained_in_sum (one_at x) s.arena.imported x has,
-          part_of_sum (imported (one_at x)) spaces k s at,
+          part_of_sum (weight_imported (one_at x)) spaces k s at,
         ))
 
     -- so is the span of each slab
@@ -106,7 +106,7 @@ module _ (spaces : List SpaceState) (stock : IsStock spaces) where
 
   module _ (t : Tag) (rest : List Tag) (route : t.route ≡ Direct) (accounts : Accounts spaces (t ∷ rest)) where
     -- what is out is allocated, beside what children imported and slabs are cut from
-    beside : (f : Tag → ℕ) → f t + sum_by (slabs f) spaces + sum_by (imported f) spaces ≤ sum_by (allocated f) spaces
+    beside : (f : Tag → ℕ) → f t + sum_by (slabs f) spaces + sum_by (weight_imported f) spaces ≤ sum_by (weight_allocated f) spaces
     beside f = omega (arith, accounts.exports f, direct_weighs f t route, sum_by-cons (of_direct f) t rest)
 
     pub out_tagged : IsTaggedIn spaces t
@@ -119,7 +119,7 @@ module _ (spaces : List SpaceState) (stock : IsStock spaces) where
         subst (λ (x : SpaceState). t.holding.range.base % x.arena.quantum ≡ 0) (slice_get_one spaces t.arena in_t.space s in_t.at at) (tagged_grid t in_t).1.0
 
     -- no unit of it is in another segment that weighs beside it
-    apart_from : (x : Tag) → x.arena ≡ t.arena → 0 < x.holding.range.len → ((f : Tag → ℕ) → f t + f x ≤ sum_by (allocated f) spaces) → ¬ Overlap x.holding.range t.holding.range
+    apart_from : (x : Tag) → x.arena ≡ t.arena → 0 < x.holding.range.len → ((f : Tag → ℕ) → f t + f x ≤ sum_by (weight_allocated f) spaces) → ¬ Overlap x.holding.range t.holding.range
     apart_from x home some both overlap =
         let in_t = out_tagged in
         let twice = (overlap_covers_twice x.holding.range t.holding.range some (tagged_grid t in_t).0).0 overlap in
@@ -148,7 +148,7 @@ module _ (spaces : List SpaceState) (stock : IsStock spaces) where
           alone : (x : Tag) → Contains c.arena.imported x → ¬ Overlap x.holding.range t.holding.range
           alone x has = apart_from x (subst (λ o. IsFrom o x) source (All-contains (IsFrom c.source) c.arena.imported x is.imported has))
               (tagged_grid x (imported_tagged (t ∷ rest) accounts child c at x has)).0
-              (λ f. omega (arith, beside f, contained_in_sum f c.arena.imported x has, part_of_sum (imported f) spaces child c at))
+              (λ f. omega (arith, beside f, contained_in_sum f c.arena.imported x has, part_of_sum (weight_imported f) spaces child c at))
 
       pub clear_for_child : IsClear c.arena t.holding.range
       clear_for_child i d within overlap =

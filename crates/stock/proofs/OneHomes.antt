@@ -15,7 +15,7 @@ use Rattle.slab_layer.proofs.LawProofs.{chunks_are_of_cache}
 use Rattle.magazine_layer.specs.Depots.{depot_rounds}
 use Rattle.stock.specs.Spaces.{SpaceState, QuantumCacheState, quanta_of}
 use Rattle.stock.specs.Stocks.{IsRoundOf, IsQuantumCache, IsSpaceAt, IsStock}
-use Rattle.stock.specs.Accounts.{imported, Accounts}
+use Rattle.stock.specs.Accounts.{weight_imported, Accounts}
 use Rattle.stock.specs.Sums.{Out, all_out, holdings_of, held_of, homes_of, all_homes, sums_of, total}
 use Rattle.stock.specs.Laws.{IsInOneHome, AddsUp}
 use Rattle.stock.proofs.Exporting.{arena_here, arena_there, allocated_of}
@@ -55,7 +55,7 @@ module _ (spaces : List SpaceState) (stock : IsStock spaces) (k : ℕ) (s : Spac
   -- each unit of the arena, by where it is
   pub each_unit : (out : List Tag) → Accounts spaces out → (u : ℕ)
       → covering_held u s.arena.free + sum_by (λ c. covering_held u (deeds_of c.slab)) s.caches + sum_by (λ c. covering_tags u (depot_rounds c.depot)) s.caches
-      + sum_by (imported (of_arena k (covers_tag u))) spaces + sum_by (of_arena k (covers_tag u)) out ≡ covering_held u (spans_of s.arena)
+      + sum_by (weight_imported (of_arena k (covers_tag u))) spaces + sum_by (of_arena k (covers_tag u)) out ≡ covering_held u (spans_of s.arena)
   each_unit out a u =
       let f : Tag → ℕ = of_arena k (covers_tag u) in
       let tiled = sum_alike (λ (c : QuantumCacheState). covering_held u (deeds_of c.slab) + covering_tags u (chunks_out c.slab)) (λ c. covering_tags u (span_tags c.slab)) s.caches (λ j c among. (is.caches j c among).tiled u) in
@@ -83,9 +83,9 @@ module _ (f : Holding → ℕ) (spaces : List SpaceState) (out : Out) (s : Space
   weigh_magazine = sum_by-flat_map f (λ (c : QuantumCacheState). holdings_of (depot_rounds c.depot)) s.caches
       ∙ sum_alike (λ (c : QuantumCacheState). sum_by f (holdings_of (depot_rounds c.depot))) (λ c. sum_by (λ t. f t.holding) (depot_rounds c.depot)) s.caches (λ j c at. sum_by-map f (λ (t : Tag). t.holding) (depot_rounds c.depot))
 
-  weigh_exported : sum_by f (flat_map (λ (x : SpaceState). held_of s.arena.id x.arena.imported) spaces) ≡ sum_by (imported (of_arena s.arena.id (λ t. f t.holding))) spaces
+  weigh_exported : sum_by f (flat_map (λ (x : SpaceState). held_of s.arena.id x.arena.imported) spaces) ≡ sum_by (weight_imported (of_arena s.arena.id (λ t. f t.holding))) spaces
   weigh_exported = sum_by-flat_map f (λ (x : SpaceState). held_of s.arena.id x.arena.imported) spaces
-      ∙ sum_alike (λ (x : SpaceState). sum_by f (held_of s.arena.id x.arena.imported)) (imported (of_arena s.arena.id (λ t. f t.holding))) spaces (λ j x at. weigh_of s.arena.id f x.arena.imported)
+      ∙ sum_alike (λ (x : SpaceState). sum_by f (held_of s.arena.id x.arena.imported)) (weight_imported (of_arena s.arena.id (λ t. f t.holding))) spaces (λ j x at. weigh_of s.arena.id f x.arena.imported)
 
   weigh_homes : sum_by f (all_homes (homes_of spaces out s)) ≡ total (sums_of f (homes_of spaces out s))
   weigh_homes =

@@ -8,7 +8,7 @@ use Rattle.std.proofs.lemmas.List.Sums.{sum_by_push}
 use Rattle.deed_core.specs.Tag.{Tag}
 use Rattle.deed_core.proofs.LawProofs.{pushed, written, slice_get_some, slice_get_one, slice_get_mapped, sum_set, set_same, map_set_same}
 use Rattle.tag_arena.specs.declared.policies.Policy.{Policy}
-use Rattle.tag_arena.specs.ArenaState.{IsSound, empty_arena, ranges_of, direct}
+use Rattle.tag_arena.specs.ArenaState.{IsSound, empty_arena, ranges_of, direct_tag}
 use Rattle.tag_arena.proofs.LawProofs.{tags_weigh}
 use Rattle.std.specs.Ordering.{nat_cmp}
 use Rattle.std.specs.FinMap as finmap
@@ -20,7 +20,7 @@ use Rattle.magazine_layer.specs.Depots.{IsDepot, new_depot}
 use Rattle.stock.specs.Spaces.{SpaceState, QuantumCacheState, with_caches, quantum_of, quanta_of}
 use Rattle.stock.specs.Stocks.{IsRoundOf, IsQuantumCache, IsFrom, IsSpaceAt, IsStock}
 use Rattle.stock.specs.Accounts as accounts
-use Rattle.stock.specs.Accounts.{allocated, imported, slabs_in, chunks_in, rounds_in, chunks, rounds, Accounts, Frames}
+use Rattle.stock.specs.Accounts.{weight_allocated, weight_imported, slabs_in, chunks_in, rounds_in, chunks, rounds, Accounts, Frames}
 use Rattle.stock.specs.Steps.{CanImportFrom, next_cache, GainsCache, new_space}
 use Rattle.stock.proofs.Moving.{Opens, is_written}
 
@@ -87,12 +87,12 @@ module _ (spaces : List SpaceState) (source : Option ℕ) (quantum : ℕ) (polic
 
   pub arena_balances : (rest : List Tag) → Accounts spaces rest → Accounts (spaces ++ s ∷ []) rest
   arena_balances rest a = record {
-    exports = λ f. omega (arith, a.exports f, sum_by_push (allocated f) spaces s, sum_by_push (accounts.slabs f) spaces s, sum_by_push (imported f) spaces s, nothing f);
+    exports = λ f. omega (arith, a.exports f, sum_by_push (weight_allocated f) spaces s, sum_by_push (accounts.slabs f) spaces s, sum_by_push (weight_imported f) spaces s, nothing f);
     chunks_out = λ f. omega (arith, a.chunks_out f, sum_by_push (chunks f) spaces s, sum_by_push (rounds f) spaces s);
   }
     where
-      nothing : (f : Tag → ℕ) → allocated f s ≡ 0
-      nothing f = tags_weigh s.arena f ∙ ap (sum_by (λ h. f (direct (length spaces) h))) no_ranges
+      nothing : (f : Tag → ℕ) → weight_allocated f s ≡ 0
+      nothing f = tags_weigh s.arena f ∙ ap (sum_by (λ h. f (direct_tag (length spaces) h))) no_ranges
 
 -- a cache more
 module _ (spaces after : List SpaceState) (index slab_size size : ℕ) (on : GainsCache index slab_size size spaces after) where
@@ -142,8 +142,8 @@ module _ (spaces after : List SpaceState) (index slab_size size : ℕ) (on : Gai
     exports = λ f. omega (
       arith,
       a.exports f,
-      sum_set (allocated f) spaces index on.space now on.at,
-      sum_set (imported f) spaces index on.space now on.at,
+      sum_set (weight_allocated f) spaces index on.space now on.at,
+      sum_set (weight_imported f) spaces index on.space now on.at,
       sum_set (accounts.slabs f) spaces index on.space now on.at,
       sum_by_push (slabs_in f) on.space.caches c,
     );

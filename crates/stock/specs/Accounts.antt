@@ -10,12 +10,12 @@ use Rattle.stock.specs.Spaces.{SpaceState, QuantumCacheState}
 use Rattle.stock.specs.Stocks.{IsStock}
 
 -- what an arena has allocated weighs
-abbrev pub allocated : (Tag → ℕ) → SpaceState → ℕ
-allocated f s = sum_by f (tags_of s.arena)
+abbrev pub weight_allocated : (Tag → ℕ) → SpaceState → ℕ
+weight_allocated f s = sum_by f (tags_of s.arena)
 
 -- the segments of its source that it imported
-abbrev pub imported : (Tag → ℕ) → SpaceState → ℕ
-imported f s = sum_by f s.arena.imported
+abbrev pub weight_imported : (Tag → ℕ) → SpaceState → ℕ
+weight_imported f s = sum_by f s.arena.imported
 
 -- the spans that a cache's slabs are cut from
 abbrev pub slabs_in : (Tag → ℕ) → QuantumCacheState → ℕ
@@ -44,8 +44,8 @@ rounds f s = sum_by (rounds_in f) s.caches
 -- slabs, and what children imported; the chunks that are out of slabs are those that are out of all
 -- parts, and the depots' rounds.
 pub record Accounts (spaces : List SpaceState) (out : List Tag) : Type 0 where
-  pub exports : (f : Tag → ℕ) → sum_by (allocated f) spaces
-      ≡ sum_by (of_direct f) out + sum_by (slabs f) spaces + sum_by (imported f) spaces
+  pub exports : (f : Tag → ℕ) → sum_by (weight_allocated f) spaces
+      ≡ sum_by (of_direct f) out + sum_by (slabs f) spaces + sum_by (weight_imported f) spaces
   pub chunks_out : (f : Tag → ℕ) → sum_by (chunks f) spaces
       ≡ sum_by (of_cached f) out + sum_by (rounds f) spaces
 

@@ -12,7 +12,7 @@ use Rattle.slab_layer.specs.Calls.{OverlapsSlab}
 use Rattle.magazine_layer.specs.Magazines.{CpuCacheState, cache_rounds}
 use Rattle.stock.specs.Spaces.{SpaceState, QuantumCacheState, IsCacheAt, HasCache, plans_of}
 use Rattle.stock.specs.Stocks.{IsStock}
-use Rattle.stock.specs.Accounts.{Accounts, IsAccounted, Frames, allocated}
+use Rattle.stock.specs.Accounts.{Accounts, IsAccounted, Frames, weight_allocated}
 use Rattle.stock.specs.Steps.{IsTaggedIn, IsOutOf, IsOnGridOf}
 use Rattle.stock.specs.Sums.{Out, all_out, homes_of, all_homes, total, lengths_of}
 
@@ -136,4 +136,4 @@ ArenaWeighs = (p : ℕ) (f : Tag → ℕ) (t : Tag) → (t.arena ≡ p → of_ar
 abbrev pub AllocatedOfArena : Type 0
 AllocatedOfArena = (spaces : List SpaceState) → IsStock spaces → (p : ℕ) (s : SpaceState)
     → slice_get spaces p ≡ Some s → (f : Tag → ℕ)
-    → sum_by (allocated (of_arena p f)) spaces ≡ allocated f s
+    → sum_by (weight_allocated (of_arena p f)) spaces ≡ weight_allocated f s

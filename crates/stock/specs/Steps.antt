@@ -2,7 +2,7 @@
 use Rattle.std.specs.Prelude.{◌≡◌, ℕ, ◌+◌, ◌*◌, ◌%◌, ◌<◌, ◌≤◌, ◌⊎◌, List, [], ◌∷◌, ◌++◌, All}
 use Rattle.std.specs.Prelude.{Contains, length, set, slice_get, Option, Some, Result, Err}
 use Rattle.deed_core.specs.Tag.{Tag}
-use Rattle.deed_core.specs.Request.{IsGood, IsPlain, rounded}
+use Rattle.deed_core.specs.Request.{IsGood, IsPlain, rounding_of}
 use Rattle.deed_core.specs.declared.requests.Request.{Request}
 use Rattle.deed_core.specs.declared.segments.Route.TheVariants.{Direct, Cached}
 use Rattle.tag_arena.specs.declared.policies.Policy.{Policy}
@@ -73,7 +73,7 @@ pub record CanImport (q : Request) (span : Tag) (s : SpaceState) : Type 0 where
   pub route : span.route ≡ Direct
   pub good : IsGood s.arena.quantum q
   pub plain : IsPlain q
-  pub room : rounded s.arena.quantum q.size ≤ span.holding.range.len
+  pub room : rounding_of s.arena.quantum q.size ≤ span.holding.range.len
 
 -- the segment begins on a multiple of that arena's quantum
 abbrev pub IsOnGridOf : List SpaceState → ℕ → Tag → Type 0

@@ -4,11 +4,11 @@ use Rattle.std.specs.Prelude.{slice_get}
 use Rattle.std.proofs.lemmas.Bool.Decides.{nat_tests}
 use Rattle.std.proofs.lemmas.Option.{slice_get_within}
 use Rattle.deed_core.specs.Covering.{covers_held, covering_held}
-use Rattle.deed_core.specs.Weights.{only, of_arena}
+use Rattle.deed_core.specs.Weights.{weight_where, of_arena}
 use Rattle.deed_core.proofs.LawProofs.{slice_get_some, slice_get_one, part_of_sum}
 use Rattle.tag_arena.specs.ArenaState.{spans_of}
 use Rattle.stock.specs.Spaces.{SpaceState, quanta_of}
-use Rattle.stock.specs.Accounts.{imported}
+use Rattle.stock.specs.Accounts.{weight_imported}
 use Rattle.stock.proofs.LawProofs.{out_is_apart}
 use Rattle.stock_audit.specs.Outside.{Outside, segments_out}
 use Rattle.stock_audit.specs.Accounted.{IsAccountedFor}
@@ -26,12 +26,12 @@ module _ (spaces : List SpaceState) (out : Outside) (a : IsAccountedFor spaces o
         arith,
         exported_is_children spaces out a p from there f,
         children_weigh spaces a.parts p f,
-        part_of_sum (imported (of_arena p (λ t. f t.holding))) spaces k s at,
+        part_of_sum (weight_imported (of_arena p (λ t. f t.holding))) spaces k s at,
         imported_weigh p f (quanta_of spaces) k s (a.parts k s at),
         is_child,
       )
     where
-      is_child : only (is_child_of p) (λ (y : SpaceState). covering_held u (spans_of y.arena)) s ≡ covering_held u (spans_of s.arena)
+      is_child : weight_where (is_child_of p) (λ (y : SpaceState). covering_held u (spans_of y.arena)) s ≡ covering_held u (spans_of s.arena)
       is_child =
           let test : nat_eq p p ≡ true = grind (arith, nat_tests) in
           ap (λ o. cond (is_source p o) (covering_held u (spans_of s.arena)) 0) source ∙ ap (λ b. cond b (covering_held u (spans_of s.arena)) 0) test

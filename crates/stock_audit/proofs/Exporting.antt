@@ -6,14 +6,14 @@ use Rattle.std.proofs.lemmas.List.Sums.{sum_by-append}
 use Rattle.deed_core.specs.Holding.{Holding}
 use Rattle.deed_core.specs.Tag.{Tag}
 use Rattle.deed_core.specs.Selections.{came_direct}
-use Rattle.deed_core.specs.Weights.{only, of_arena}
+use Rattle.deed_core.specs.Weights.{weight_where, of_arena}
 use Rattle.deed_core.proofs.LawProofs.{sum_by-map, sum_by-flat_map, sum_by-filter, sum_at, sum_none, sum_alike, all_at, all_from, mapped}
 use Rattle.tag_arena.specs.ArenaState.{spans_of}
 use Rattle.tag_arena.proofs.LawProofs.{tags_weigh}
 use Rattle.slab_layer.specs.Cache.{span_tag, span_tags}
 use Rattle.stock.specs.Spaces.{SpaceState, QuantumCacheState, quanta_of}
 use Rattle.stock.specs.Stocks.{IsQuantumCache, IsFrom, IsSpaceAt, IsStock}
-use Rattle.stock.specs.Accounts.{imported, slabs}
+use Rattle.stock.specs.Accounts.{weight_imported, slabs}
 use Rattle.stock.specs.Sums.{holdings_of, held_of}
 use Rattle.stock.proofs.LawProofs.{arena_weighs, allocated_of_arena}
 use Rattle.stock_audit.specs.Outside.{segments_out}
@@ -68,18 +68,18 @@ module _ (p : ℕ) (f : Holding → ℕ) (quanta : List ℕ) (k : ℕ) (x : Spac
           let other : q ≢ p = grind (arith, nat_tests) in
           none_here p (λ t. f t.holding) q x.arena.imported home other ∙ sym (ap (λ b. cond b (sum_by f (spans_of x.arena)) 0) test)
 
-  pub imported_weigh : sum_by (of_arena p (λ t. f t.holding)) x.arena.imported ≡ only (is_child_of p) (λ y. sum_by f (spans_of y.arena)) x
+  pub imported_weigh : sum_by (of_arena p (λ t. f t.holding)) x.arena.imported ≡ weight_where (is_child_of p) (λ y. sum_by f (spans_of y.arena)) x
   imported_weigh = by_source x.source refl
 
 -- what all arenas imported from one are the spans of its children
 module _ (spaces : List SpaceState) (stock : IsStock spaces) (p : ℕ) (f : Holding → ℕ) where
-  pub children_weigh : sum_by (imported (of_arena p (λ t. f t.holding))) spaces ≡ sum_by f (spans_of_children p spaces)
-  children_weigh = sum_alike (imported (of_arena p (λ t. f t.holding))) (only (is_child_of p) (λ y. sum_by f (spans_of y.arena))) spaces (λ k x at. imported_weigh p f (quanta_of spaces) k x (stock k x at))
+  pub children_weigh : sum_by (weight_imported (of_arena p (λ t. f t.holding))) spaces ≡ sum_by f (spans_of_children p spaces)
+  children_weigh = sum_alike (weight_imported (of_arena p (λ t. f t.holding))) (weight_where (is_child_of p) (λ y. sum_by f (spans_of y.arena))) spaces (λ k x at. imported_weigh p f (quanta_of spaces) k x (stock k x at))
       ∙ (sym (sum_by-filter (is_child_of p) (λ y. sum_by f (spans_of y.arena)) spaces) ∙ sym (sum_by-flat_map f (λ y. spans_of y.arena) (filter (is_child_of p) spaces)))
 
   pub exported_weigh : sum_by f (flat_map (λ (x : SpaceState). held_of p x.arena.imported) spaces) ≡ sum_by f (spans_of_children p spaces)
   exported_weigh = sum_by-flat_map f (λ (x : SpaceState). held_of p x.arena.imported) spaces
-      ∙ (sum_alike (λ (x : SpaceState). sum_by f (held_of p x.arena.imported)) (imported (of_arena p (λ t. f t.holding))) spaces (λ j x at. held_weigh p f x.arena.imported) ∙ children_weigh)
+      ∙ (sum_alike (λ (x : SpaceState). sum_by f (held_of p x.arena.imported)) (weight_imported (of_arena p (λ t. f t.holding))) spaces (λ j x at. held_weigh p f x.arena.imported) ∙ children_weigh)
 
 pub exported_is_children : ExportedIsChildren
 exported_is_children spaces out a k s at f = subst (λ p. sum_by f (flat_map (λ (x : SpaceState). held_of p x.arena.imported) spaces) ≡ sum_by f (spans_of_children k spaces)) (sym (a.parts k s at).id) (exported_weigh spaces a.parts k f)

@@ -9,7 +9,7 @@ use Rattle.deed_core.specs.Extent.{Covers}
 use Rattle.deed_core.specs.Holding.{Holding}
 use Rattle.deed_core.specs.Tag.{Tag}
 use Rattle.deed_core.specs.Covering.{covers_held, covers_tag, covering_held}
-use Rattle.deed_core.specs.Weights.{only, of_arena}
+use Rattle.deed_core.specs.Weights.{weight_where, of_arena}
 use Rattle.deed_core.proofs.LawProofs.{counts_the_unit, all_at, slice_get_one, slice_get_some, sum_some, sum_none, sum_by-map}
 use Rattle.tag_arena.specs.ArenaState.{ArenaState, spans_of}
 use Rattle.slab_layer.specs.Cache.{deeds_of}
@@ -131,7 +131,7 @@ module _ (old new : List SpaceState) (before after : Outside) (o : IsAccountedFo
   ]
 
   -- it is a unit of the space, and was one
-  was_in_space : 0 < sum_by (only (is_under (tops_stand old before o).0 r) (λ x. sum_but_exported (Old x))) old
+  was_in_space : 0 < sum_by (weight_where (is_under (tops_stand old before o).0 r) (λ x. sum_but_exported (Old x))) old
   was_in_space =
       let top = top_is_root old k r up in
       let later = now old new g.steps.fixed r top.0 top.1 in
@@ -208,7 +208,7 @@ module _ (old new : List SpaceState) (before after : Outside) (o : IsAccountedFo
 
   pub was_reachable : IsReachable old before k s u
   was_reachable =
-      let found = sum_some (only (is_under (tops_stand old before o).0 r) (λ x. sum_but_exported (Old x))) old was_in_space in
+      let found = sum_some (weight_where (is_under (tops_stand old before o).0 r) (λ x. sum_but_exported (Old x))) old was_in_space in
       let part = either_some (is_under (tops_stand old before o).0 r found.1) (sum_but_exported (Old found.1)) found.3 in
       let later = now old new g.steps.fixed found.0 found.1 found.2 in
       let id = (o.parts found.0 found.1 found.2).id in

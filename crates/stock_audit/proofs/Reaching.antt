@@ -6,7 +6,7 @@ use Rattle.std.proofs.lemmas.List.Sums.{sum_by-append}
 use Rattle.deed_core.specs.Tag.{Tag}
 use Rattle.deed_core.specs.Extent.{Covers}
 use Rattle.deed_core.specs.Covering.{covers_held, covers_tag, covering_held}
-use Rattle.deed_core.specs.Weights.{only, of_arena}
+use Rattle.deed_core.specs.Weights.{weight_where, of_arena}
 use Rattle.deed_core.proofs.LawProofs.{counts_the_unit, all_from, sum_add, sum_by-smaller, part_of_sum, slice_get_one}
 use Rattle.magazine_layer.specs.Depots.{depot_rounds}
 use Rattle.stock.specs.Spaces.{SpaceState, QuantumCacheState}
@@ -45,18 +45,18 @@ module _ (spaces : List SpaceState) (out : Outside) (a : IsAccountedFor spaces o
   tops = (tops_stand spaces out a).0
 
   -- an arena of the space is counted
-  counted : (h : SpaceState → ℕ) (k : ℕ) (s : SpaceState) → slice_get spaces k ≡ Some s → HasTop spaces k r → h s ≤ sum_by (only (is_under tops r) h) spaces
+  counted : (h : SpaceState → ℕ) (k : ℕ) (s : SpaceState) → slice_get spaces k ≡ Some s → HasTop spaces k r → h s ≤ sum_by (weight_where (is_under tops r) h) spaces
   counted h k s at up =
       let own : tops k ≡ r = one_top spaces k (tops k) r ((tops_stand spaces out a).1 k s at) up in
       let test : nat_eq (tops k) r ≡ true = grind (arith, nat_tests) in
       let is : is_under tops r s ≡ true = ap (λ i. nat_eq (tops i) r) (a.parts k s at).id ∙ test in
-      omega (arith, part_of_sum (only (is_under tops r) h) spaces k s at, ap (λ b. cond b (h s) 0) is)
+      omega (arith, part_of_sum (weight_where (is_under tops r) h) spaces k s at, ap (λ b. cond b (h s) 0) is)
 
-  both_fit : sum_by (only (is_under tops r) f) spaces + sum_by (only (is_under tops r) g) spaces ≤ sum_by (only (is_under tops r) (λ s. sum_but_exported (unit_of_arena u spaces out s))) spaces
+  both_fit : sum_by (weight_where (is_under tops r) f) spaces + sum_by (weight_where (is_under tops r) g) spaces ≤ sum_by (weight_where (is_under tops r) (λ s. sum_but_exported (unit_of_arena u spaces out s))) spaces
   both_fit =
-      let each = sum_by-smaller (λ s. only (is_under tops r) f s + only (is_under tops r) g s) (only (is_under tops r) (λ s. sum_but_exported (unit_of_arena u spaces out s))) spaces
+      let each = sum_by-smaller (λ s. weight_where (is_under tops r) f s + weight_where (is_under tops r) g s) (weight_where (is_under tops r) (λ s. sum_but_exported (unit_of_arena u spaces out s))) spaces
       (λ s. either_counted (is_under tops r s) (f s) (g s) (sum_but_exported (unit_of_arena u spaces out s)) (apart s)) in
-      omega (arith, each, sum_add (only (is_under tops r) f) (only (is_under tops r) g) spaces)
+      omega (arith, each, sum_add (weight_where (is_under tops r) f) (weight_where (is_under tops r) g) spaces)
 
   pub never_both : (j k : ℕ) (s x : SpaceState) → slice_get spaces j ≡ Some s → HasTop spaces j r → 0 < f s → slice_get spaces k ≡ Some x → HasTop spaces k r → 0 < g x → ⊥
   never_both j k s x at up some there over more =

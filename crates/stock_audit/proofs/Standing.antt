@@ -6,7 +6,7 @@ use Rattle.std.proofs.lemmas.Option.{slice_get_within}
 use Rattle.std.proofs.lemmas.List.Elements.{All-weaker}
 use Rattle.deed_core.specs.Holding.{Holding}
 use Rattle.deed_core.proofs.LawProofs.{all_from, contains_at, contains_mapped, slice_get_some, slice_get_one, slice_get_mapped, mapped}
-use Rattle.tag_arena.specs.ArenaState.{ArenaState, IsSound, OnQuantum, spans_of, ranges_of, layout_of, direct}
+use Rattle.tag_arena.specs.ArenaState.{ArenaState, IsSound, OnQuantum, spans_of, ranges_of, layout_of, direct_tag}
 use Rattle.tag_arena.specs.Layout.{FreeIsLongestRuns}
 use Rattle.tag_arena.proofs.LawProofs.{free_are_longest_runs, allocated_stand}
 use Rattle.stock.specs.Spaces.{SpaceState, SpacePlan, HasCache, plan_of, plans_of, slab_size_of}
@@ -22,7 +22,7 @@ whole_quanta : (a : ArenaState) → IsSound a → IsOfWholeQuanta a
 whole_quanta a sound = record {
   spans = each (spans_of a) sound.divided.span_grid;
   free = each a.free sound.divided.free_grid;
-  allocated = each (ranges_of a.allocated) (λ h has. sound.divided.tag_grid h.range.base h ((allocated_stand a (direct a.id h) sound).0 (contains_mapped (direct a.id) (ranges_of a.allocated) h has)).stands);
+  allocated = each (ranges_of a.allocated) (λ h has. sound.divided.tag_grid h.range.base h ((allocated_stand a (direct_tag a.id h) sound).0 (contains_mapped (direct_tag a.id) (ranges_of a.allocated) h has)).stands);
 }
   where
     each : (xs : List Holding) → ((h : Holding) → Contains xs h → OnQuantum a.quantum h.range) → All (λ h. OnQuantum a.quantum h.range) xs

@@ -6,7 +6,7 @@ use Rattle.std.proofs.lemmas.Bool.Decides.{nat_tests}
 use Rattle.std.proofs.lemmas.List.Sums.{sum_by-cons}
 use Rattle.deed_core.specs.Holding.{Holding}
 use Rattle.deed_core.specs.Covering.{covers_held, covering_held, units_in, units_held}
-use Rattle.deed_core.specs.Weights.{only}
+use Rattle.deed_core.specs.Weights.{weight_where}
 use Rattle.deed_core.proofs.LawProofs.{sum_none, sum_at, sum_alike, sum_add, sum_if, sum_by-filter, sum_by-flat_map}
 use Rattle.tag_arena.specs.ArenaState.{spans_of}
 use Rattle.stock.specs.Spaces.{SpaceState}
@@ -99,11 +99,11 @@ module _ (spaces : List SpaceState) (out : Outside) (a : IsAccountedFor spaces o
           sum_at (λ s. term s x) spaces p from.0 from.1 (λ j s there ne. term_other j p s x there ne source) ∙ term_source k p from.0 x at source from.1
 
   -- what is exported under this one are the spans of all but the top
-  exports_are : sum_by (only (is_under top r) C) spaces ≡ sum_by weigh spaces
+  exports_are : sum_by (weight_where (is_under top r) C) spaces ≡ sum_by weigh spaces
   exports_are =
-      sum_alike (only (is_under top r) C) (λ s. sum_by (λ x. term s x) spaces) spaces
+      sum_alike (weight_where (is_under top r) C) (λ s. sum_by (λ x. term s x) spaces) spaces
       (λ j s at. ap (λ n. cond (is_under top r s) n 0) (sum_by-flat_map f (λ (x : SpaceState). spans_of x.arena) (children_of s.arena.id spaces) ∙ sum_by-filter (is_child_of s.arena.id) W spaces)
-      ∙ sym (sum_if (is_under top r s) (only (is_child_of s.arena.id) W) spaces))
+      ∙ sym (sum_if (is_under top r s) (weight_where (is_child_of s.arena.id) W) spaces))
       ∙ (sum_turned term spaces spaces ∙ sum_alike (λ x. sum_by (λ s. term s x) spaces) weigh spaces by_child)
 
   -- of the others there is the top alone
@@ -129,14 +129,14 @@ module _ (spaces : List SpaceState) (out : Outside) (a : IsAccountedFor spaces o
 
   -- what each arena has and hasn't exported adds up over all of them
   pub cancels : (own : SpaceState → ℕ) → ((k : ℕ) (s : SpaceState) → slice_get spaces k ≡ Some s → own s + C s ≡ W s)
-      → (x : SpaceState) → slice_get spaces r ≡ Some x → x.source ≡ None → sum_by (only (is_under top r) own) spaces ≡ W x
+      → (x : SpaceState) → slice_get spaces r ≡ Some x → x.source ≡ None → sum_by (weight_where (is_under top r) own) spaces ≡ W x
   cancels own adds x at none =
-      let parts = sum_alike (only (is_under top r) W) (λ s. only (is_under top r) own s + only (is_under top r) C s) spaces (λ k s there. added_either (is_under top r s) (own s) (C s) (W s) (adds k s there)) in
-      let spans = sum_alike (only (is_under top r) W) (λ s. weigh s + rooted s) spaces (λ k s there. split_either (is_under top r s) (is_imported s.source) (W s)) in
+      let parts = sum_alike (weight_where (is_under top r) W) (λ s. weight_where (is_under top r) own s + weight_where (is_under top r) C s) spaces (λ k s there. added_either (is_under top r s) (own s) (C s) (W s) (adds k s there)) in
+      let spans = sum_alike (weight_where (is_under top r) W) (λ s. weigh s + rooted s) spaces (λ k s there. split_either (is_under top r s) (is_imported s.source) (W s)) in
       omega (
         arith,
         parts,
-        sum_add (only (is_under top r) own) (only (is_under top r) C) spaces,
+        sum_add (weight_where (is_under top r) own) (weight_where (is_under top r) C) spaces,
         spans,
         sum_add weigh rooted spaces,
         exports_are,

@@ -9,7 +9,7 @@ use Rattle.deed_core.specs.Request.{Fits}
 use Rattle.deed_core.specs.declared.requests.Request.{Request}
 use Rattle.deed_core.specs.Covering.{covering_held, units_in, units_held}
 use Rattle.deed_core.specs.Selections.{came_direct}
-use Rattle.deed_core.specs.Weights.{only, of_arena}
+use Rattle.deed_core.specs.Weights.{weight_where, of_arena}
 use Rattle.tag_arena.specs.ArenaState.{ArenaState, spans_of, ranges_of}
 use Rattle.stock.specs.Spaces.{SpaceState, QuantumCacheState, plans_of, with_arena, with_caches}
 use Rattle.stock.specs.OwnCaches.{OwnCacheState, own_rounds}
@@ -135,7 +135,8 @@ abbrev pub SpaceUnitAddsUp : Type 0
 SpaceUnitAddsUp = (spaces : List SpaceState) (out : Outside) → IsAccountedFor spaces out
     → (top : ℕ → ℕ) → AreTops spaces top → (r : ℕ) (root : SpaceState)
     → slice_get spaces r ≡ Some root → root.source ≡ None → (u : ℕ)
-    → (sum_by (only (is_under top r) (λ s. sum_but_exported (unit_of_arena u spaces out s))) spaces
+    → (sum_by (weight_where (is_under top r)
+    (λ s. sum_but_exported (unit_of_arena u spaces out s))) spaces
     ≡ covering_held u (spans_of root.arena)) × (covering_held u (spans_of root.arena) ≤ 1)
 
 -- so the sums of all of them, but what they exported, add up to the units of those spans
@@ -143,7 +144,8 @@ abbrev pub SpaceAddsUp : Type 0
 SpaceAddsUp = (spaces : List SpaceState) (out : Outside) → IsAccountedFor spaces out
     → (top : ℕ → ℕ) → AreTops spaces top → (r : ℕ) (root : SpaceState)
     → slice_get spaces r ≡ Some root → root.source ≡ None
-    → sum_by (only (is_under top r) (λ s. sum_but_exported (sums_of_arena spaces out s))) spaces
+    → sum_by (weight_where (is_under top r)
+    (λ s. sum_but_exported (sums_of_arena spaces out s))) spaces
     ≡ units_held (spans_of root.arena)
 
 -- there are such tops

@@ -14,14 +14,14 @@ use Rattle.stock.specs.Steps.{OnDepot}
 use Rattle.lease_proto.specs.declared.faults.ErrorWord.{ErrorWord}
 use Rattle.lease_proto.specs.declared.faults.ErrorWord.TheVariants.{Size}
 use Rattle.lease_proto.specs.Faults.{error_text}
-use Rattle.lease_machine.specs.Operators.{HasSmaller, Resizes, change_depot, on_depots, after_rise}
+use Rattle.lease_machine.specs.Operators.{HasSmaller, Resizes, with_depot_by, with_depots_by, after_rise}
 use Rattle.lease_machine.specs.Picture.{Picture}
 use Rattle.stock_desk.specs.Depots.{ResizesAt, outcome_text}
 use Rattle.stock_desk.proofs.FirstChanged.{first_changed, changed_here, changed_next, changed_all, changed_none, set_twice}
 
 -- the arena with its first i depots changed so
 abbrev pub partly : (DepotState → DepotState) → ℕ → SpaceState → SpaceState
-partly f i s = with_caches (first_changed (change_depot f) i s.caches) s
+partly f i s = with_caches (first_changed (with_depot_by f) i s.caches) s
 
 -- the arena at the index is
 pub record RowChanged (f : DepotState → DepotState) (k i : ℕ) (old new : List SpaceState) : Type 0 where
@@ -44,12 +44,12 @@ module _ (f : DepotState → DepotState) (k i : ℕ) (old mid : List SpaceState)
   pub row_has : i < length r.space.caches → HasCache mid k i
   row_has within =
       let (c, among) = slice_get_some r.space.caches i within in
-      (c, record { space = partly f i r.space; at = row_here; among = changed_here (change_depot f) i r.space.caches ∙ among })
+      (c, record { space = partly f i r.space; at = row_here; among = changed_here (with_depot_by f) i r.space.caches ∙ among })
 
   -- all are, at last
-  pub row_whole : i ≡ length r.space.caches → mid ≡ set old k (on_depots f r.space)
+  pub row_whole : i ≡ length r.space.caches → mid ≡ set old k (with_depots_by f r.space)
   row_whole all =
-      r.after ∙ ap (λ cs. set old k (with_caches cs r.space)) (ap (λ n. first_changed (change_depot f) n r.space.caches) all ∙ changed_all (change_depot f) r.space.caches)
+      r.after ∙ ap (λ cs. set old k (with_caches cs r.space)) (ap (λ n. first_changed (with_depot_by f) n r.space.caches) all ∙ changed_all (with_depot_by f) r.space.caches)
 
   module _ (P : DepotState → DepotState → Type 0) (new : List SpaceState) (d : OnDepot k i P mid new) where
     -- the depot that changes now is as it was
@@ -57,7 +57,7 @@ module _ (f : DepotState → DepotState) (k i : ℕ) (old mid : List SpaceState)
     row_same = slice_get_one mid k (partly f i r.space) d.space row_here d.at
 
     pub row_among : slice_get r.space.caches i ≡ Some d.cache
-    row_among = sym (changed_here (change_depot f) i r.space.caches) ∙ ap (λ (s : SpaceState). slice_get s.caches i) row_same ∙ d.among
+    row_among = sym (changed_here (with_depot_by f) i r.space.caches) ∙ ap (λ (s : SpaceState). slice_get s.caches i) row_same ∙ d.among
 
     -- one more
     pub row_more : d.depot ≡ f d.cache.depot → RowChanged f k (i + 1) old new
@@ -66,8 +66,8 @@ module _ (f : DepotState → DepotState) (k i : ℕ) (old mid : List SpaceState)
       at = r.at;
       after = d.after
           ∙ ap (λ (x : DepotState). set mid k (with_cache i (with_depot x d.cache) d.space)) is
-          ∙ ap (λ (s : SpaceState). set mid k (with_cache i (change_depot f d.cache) s)) (sym row_same)
-          ∙ ap (λ (cs : List QuantumCacheState). set mid k (with_caches cs r.space)) (changed_next (change_depot f) i r.space.caches d.cache row_among)
+          ∙ ap (λ (s : SpaceState). set mid k (with_cache i (with_depot_by f d.cache) s)) (sym row_same)
+          ∙ ap (λ (cs : List QuantumCacheState). set mid k (with_caches cs r.space)) (changed_next (with_depot_by f) i r.space.caches d.cache row_among)
           ∙ ap (λ (z : List SpaceState). set z k (partly f (i + 1) r.space)) r.after
           ∙ set_twice old k (partly f i r.space) (partly f (i + 1) r.space);
     }
@@ -135,7 +135,7 @@ module _ (m k i : ℕ) (old new : List SpaceState) where
     | inr none ↦
         let s = r.row.space in
         let stays : (j : ℕ) (c : QuantumCacheState) → slice_get s.caches j ≡ Some c → m ≤ c.depot.size = λ j c at. (let within = slice_get_within s.caches j c at in none.1 j c (omega (arith, within, all)) at) in
-        let same : map (change_depot (after_rise m)) s.caches ≡ s.caches = changed_none (change_depot (after_rise m)) s.caches (λ j c at. ap (λ (x : DepotState). with_depot x c) (resized_stays m c.depot (stays j c at))) in (
+        let same : map (with_depot_by (after_rise m)) s.caches ≡ s.caches = changed_none (with_depot_by (after_rise m)) s.caches (λ j c at. ap (λ (x : DepotState). with_depot x c) (resized_stays m c.depot (stays j c at))) in (
           s,
           r.row.at,
           (λ smaller. (let (j, c, within, is, less) = smaller in
@@ -150,6 +150,6 @@ module _ (m k i : ℕ) (old new : List SpaceState) where
 pub resize_told : (d : Picture) (name : List ℕ) (m k : ℕ) (tree : List TreeArena) (old new : List SpaceState) (r : Result (Unit {0}) ErrorWord) → index_in name tree ≡ Some k → ResizesAt k m old r new → d.tree ≡ tree → d.spaces ≡ old
     → Resizes name m d (outcome_text r) (record d { spaces = new })
 resize_told d name m k tree old new (Ok x) found is arenas here =
-    inr (inr (k, is.0, ap (index_in name) arenas ∙ found, ap (λ z. slice_get z k) here ∙ is.1, is.2, refl, ap (λ (z : List SpaceState). record d { spaces = z }) (is.3 ∙ ap (λ (z : List SpaceState). set z k (on_depots (after_rise m) is.0)) (sym here))))
+    inr (inr (k, is.0, ap (index_in name) arenas ∙ found, ap (λ z. slice_get z k) here ∙ is.1, is.2, refl, ap (λ (z : List SpaceState). record d { spaces = z }) (is.3 ∙ ap (λ (z : List SpaceState). set z k (with_depots_by (after_rise m) is.0)) (sym here))))
 resize_told d name m k tree old new (Err word) found is arenas here =
     inr (inl (k, is.0, ap (index_in name) arenas ∙ found, ap (λ z. slice_get z k) here ∙ is.1, is.2, ap error_text is.3, ap (λ (z : List SpaceState). record d { spaces = z }) (is.4 ∙ sym here)))

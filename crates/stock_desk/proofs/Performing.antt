@@ -14,7 +14,7 @@ use Rattle.lease_proto.specs.Operators.{rounds_named}
 use Rattle.lease_book.specs.BookState.{BookState}
 use Rattle.stock.specs.Spaces.{SpaceState}
 use Rattle.lease_machine.specs.Picture.{NumberedCpu, Picture, IsPicture, IsBookOf, SameSetup}
-use Rattle.lease_machine.specs.Operators.{Resizes, on_depots, with_cpu}
+use Rattle.lease_machine.specs.Operators.{Resizes, with_depots_by, with_cpu}
 use Rattle.lease_machine.specs.Held.{IsHeld}
 use Rattle.lease_machine.proofs.LawProofs.{ticks_keep, resizes_keep, selected_is_picture}
 use Rattle.stock_desk.specs.Operating.{StaysPicture, IsPerformed}
@@ -43,7 +43,7 @@ keeps_held b old new is held setup = record {
 pub keeps_selected : (d : Picture) (n : ℕ) → IsPicture d → IsCpu n → StaysPicture d (record d { cpus = with_cpu n d; selected = n })
 keeps_selected d n is in_range = record { setup = record { tree = refl; owned = refl }; picture = selected_is_picture d n is in_range }
 
-pub keeps_ticked : (d : Picture) → IsPicture d → StaysPicture d (record d { spaces = map (on_depots after_tick) d.spaces })
+pub keeps_ticked : (d : Picture) → IsPicture d → StaysPicture d (record d { spaces = map (with_depots_by after_tick) d.spaces })
 keeps_ticked d is = let kept = ticks_keep d is in record { setup = kept.1; picture = kept.0 }
 
 module _ (b : BookState) (s : SupplyState) (text : List ℕ) (is : IsPicture (picture_with b s)) where
@@ -53,7 +53,7 @@ module _ (b : BookState) (s : SupplyState) (text : List ℕ) (is : IsPicture (pi
     kept = subst (λ (xs : List NumberedCpu). StaysPicture (picture_with b s) (picture_with b (record s { cpus = xs; selected = n }))) (sym made) (keeps_selected (picture_with b s) n is in_range);
   }
 
-  pub ticked_so : (spaces : List SpaceState) → text ≡ ok_text → spaces ≡ map (on_depots after_tick) s.spaces → IsPerformed operator.Tick (picture_with b s) text (picture_with b (record s { spaces = spaces }))
+  pub ticked_so : (spaces : List SpaceState) → text ≡ ok_text → spaces ≡ map (with_depots_by after_tick) s.spaces → IsPerformed operator.Tick (picture_with b s) text (picture_with b (record s { spaces = spaces }))
   ticked_so spaces said made = record {
     performs = (said, ap (λ (xs : List SpaceState). picture_with b (record s { spaces = xs })) made);
     kept = subst (λ (xs : List SpaceState). StaysPicture (picture_with b s) (picture_with b (record s { spaces = xs }))) (sym made) (keeps_ticked (picture_with b s) is);

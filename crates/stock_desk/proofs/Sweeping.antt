@@ -14,7 +14,7 @@ use Rattle.lease_machine.specs.Machine.{Sweeps, HelloStep}
 use Rattle.lease_machine.specs.Picture.{Picture, IsPicture, IsBookOf, SameSetup}
 use Rattle.arena_tree.specs.declared.trees.TreeArena.{TreeArena}
 use Rattle.stock_desk.specs.Supplies.{SupplyState, picture_with}
-use Rattle.stock_desk.specs.Hellos.{hello_refused}
+use Rattle.stock_desk.specs.Hellos.{hello_refusal}
 use Rattle.stock_desk.specs.Takings.{IsPutBack}
 use Rattle.stock_desk.proofs.BookMoves.{picture_of}
 use Rattle.stock_desk.proofs.Rebooking.{goes_back_from}
@@ -41,7 +41,7 @@ module _ (t : Tag) (old new : SupplyState) (b : BookState) where
   back_from a back = goes_back_from (picture_with b old) (picture_with b new) a t back.back
 
 -- a hello that isn't taken
-pub not_welcomed : (h : HelloLine) (s : SupplyState) (old new : BookState) (f : HelloFault) → new ≡ old → IsHelloFault (account_in h.client old).incarnation h.incarnation f → HelloStep h (picture_with old s) (picture_with new s) (hello_refused h f)
+pub not_welcomed : (h : HelloLine) (s : SupplyState) (old new : BookState) (f : HelloFault) → new ≡ old → IsHelloFault (account_in h.client old).incarnation h.incarnation f → HelloStep h (picture_with old s) (picture_with new s) (hello_refusal h f)
 not_welcomed h s old new (fault.Old current) same is =
     (ap (λ (i : ℕ). old_of h.client i) is.1, is.0, ap (λ (b : BookState). picture_with b s) same)
   where

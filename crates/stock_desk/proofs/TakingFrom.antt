@@ -3,7 +3,7 @@ use Rattle.std.proofs.Common.{◌≡◌, ℕ, ◌^◌, inl, inr, refl, sym, subs
 use Rattle.std.specs.Prelude.{slice_get}
 use Rattle.std.proofs.lemmas.Bool.{cases_lt}
 use Rattle.deed_core.specs.Tag.{Tag}
-use Rattle.deed_core.specs.Request.{IsPlain, plain_of, rounded}
+use Rattle.deed_core.specs.Request.{IsPlain, plain_of, rounding_of}
 use Rattle.deed_core.specs.declared.requests.Request.{Request}
 use Rattle.tag_arena.specs.declared.faults.ArenaFault.{ArenaFault}
 use Rattle.tag_arena.specs.declared.faults.ArenaFault.TheVariants as arena
@@ -104,7 +104,7 @@ module _ (d : Picture) (k : ℕ) (c : NumberedCpu) (first : position (is_cpu d.s
           (alloc_from_caches d index x (plain_of size) s (climb_answer a) held here (of_size_is_plain size) cached reached_so))
 
       pub allocated_so : TakesFrom index x (plain_of size) a d (after s)
-      allocated_so = elim (cases_lt x.qcache_max (rounded x.quantum size)) [
+      allocated_so = elim (cases_lt x.qcache_max (rounding_of x.quantum size)) [
         | inl greater ↦ climbed_so (λ cached. (let within = cached.1 in omega (arith, greater, within)))
         | inr within ↦ given_so (of_size_is_plain size, omega (arith, within))
       ]

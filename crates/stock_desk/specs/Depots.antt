@@ -5,7 +5,7 @@ use Rattle.lease_proto.specs.declared.faults.ErrorWord.TheVariants.{Size}
 use Rattle.lease_proto.specs.Faults.{error_text}
 use Rattle.lease_proto.specs.Reports.{ok_text}
 use Rattle.stock.specs.Spaces.{SpaceState}
-use Rattle.lease_machine.specs.Operators.{HasSmaller, on_depots, after_rise}
+use Rattle.lease_machine.specs.Operators.{HasSmaller, with_depots_by, after_rise}
 
 -- the line that tells what came of it
 abbrev pub outcome_text : Result (Unit {0}) ErrorWord → List ℕ
@@ -17,6 +17,6 @@ outcome_text (Err word) = error_text word
 abbrev pub ResizesAt : ℕ → ℕ → List SpaceState → Result (Unit {0}) ErrorWord → List SpaceState
     → Type 0
 ResizesAt k m old (Ok _) new = (s : SpaceState) × (slice_get old k ≡ Some s) × HasSmaller m s
-    × (new ≡ set old k (on_depots (after_rise m) s))
+    × (new ≡ set old k (with_depots_by (after_rise m) s))
 ResizesAt k m old (Err word) new = (s : SpaceState) × (slice_get old k ≡ Some s)
     × (¬ HasSmaller m s) × (word ≡ Size) × (new ≡ old)

@@ -2,7 +2,7 @@
 use Rattle.std.specs.Prelude.{ℕ, ◌+◌, ◌*◌, ◌-◌, ◌^◌, ◌<◌, ◌≤◌, List, [], length}
 use Rattle.arena_tree.specs.declared.limits.TheConstants.{MOST_CACHES}
 use Rattle.quantum_cache.specs.declared.reaps.Reaping.{Reaping}
-use Rattle.local_calls.specs.Looks.{findable_in}
+use Rattle.local_calls.specs.Looks.{finds_in_spaces}
 use Rattle.lease_proto.specs.declared.operators.OperatorLine.{OperatorLine}
 use Rattle.lease_machine.specs.Picture.{Picture, IsPicture, SameSetup}
 use Rattle.lease_machine.specs.Operators.{GoesOffline, ReapsSome, ReapsAll, Performs}
@@ -19,8 +19,8 @@ pub record IsOffline (n : ℕ) (old new : Picture) : Type 0 where
 pub record IsReapedOnce (r : Reaping) (old new : Picture) : Type 0 where
   pub some : ReapsSome r.units old new
   pub all : 0 < r.left → ReapsAll r.units old new
-  pub fewer : 2 ^ 64 - 1 + findable_in new.spaces
-      ≤ r.left + findable_in old.spaces + 2 * MOST_CACHES * length old.tree
+  pub fewer : 2 ^ 64 - 1 + finds_in_spaces new.spaces
+      ≤ r.left + finds_in_spaces old.spaces + 2 * MOST_CACHES * length old.tree
   pub held : IsHeld [] new
   pub setup : SameSetup old new
 

@@ -2,7 +2,7 @@
 ghost use Rattle.std.specs.Prelude.{◌≡◌};
 ghost use Rattle.lease_machine.specs.Machine as machine;
 ghost use Rattle.lease_machine.specs.Replies.{again_of};
-ghost use Rattle.stock_desk.specs.Hellos.{hello_refused};
+ghost use Rattle.stock_desk.specs.Hellos.{hello_refusal};
 ghost use Rattle.stock_desk.specs.Telling.{IsGivenIn, CanName, reply_of_kept, reply_to_answer};
 
 use arena_tree::Tree;
@@ -38,7 +38,7 @@ pub(crate) fn again(id: RequestId) -> Reply
 
 /// The reply to a hello that isn't taken.
 pub(crate) fn refused(hello: &HelloLine, fault: &HelloFault) -> Reply
-    ensures { result ≡ hello_refused hello.now fault.now }
+    ensures { result ≡ hello_refusal hello.now fault.now }
 {
     match fault {
         HelloFault::Old(current) => Reply::Old(Old {

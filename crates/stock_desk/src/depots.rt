@@ -5,7 +5,7 @@ ghost use Rattle.magazine_layer.specs.Magazines.{IsSize};
 ghost use Rattle.stock.specs.Setups.{plans_for};
 ghost use Rattle.stock.specs.Spaces.{SpaceState, plans_of};
 ghost use Rattle.lease_proto.specs.Operators.{rounds_named};
-ghost use Rattle.lease_machine.specs.Operators.{Resizes, on_depots};
+ghost use Rattle.lease_machine.specs.Operators.{Resizes, with_depots_by};
 ghost use Rattle.lease_machine.specs.Picture.{Picture};
 ghost use Rattle.stock_desk.specs.Depots.{ResizesAt, outcome_text};
 
@@ -16,7 +16,7 @@ use stock::Stock;
 
 /// Begins an interval in each depot of a stock.
 pub(crate) fn tick(stock: &mut Stock<PlainDeed>)
-    ensures ticked { stock.new ≡ map (on_depots after_tick) stock.old }
+    ensures ticked { stock.new ≡ map (with_depots_by after_tick) stock.old }
 {
     for arena in 0..stock.count() {
         tick_arena(stock, arena);
@@ -27,7 +27,7 @@ pub(crate) fn tick(stock: &mut Stock<PlainDeed>)
 fn tick_arena(stock: &mut Stock<PlainDeed>, arena: usize)
     requires within { arena < length stock.old }
     ensures ticked { (s : SpaceState) → slice_get stock.old arena ≡ Some s
-        → stock.new ≡ set stock.old arena (on_depots after_tick s) }
+        → stock.new ≡ set stock.old arena (with_depots_by after_tick s) }
 {
     for cache in 0..stock.caches(arena) {
         stock.tick(arena, cache);

@@ -1,12 +1,14 @@
 //! The desk of one thread: arenas by name with their caches, CPUs, and the book of leases, which
-//! together answer the lines of the lease protocol and of its operator. Of it stand the calls over
-//! one thread's parts (calls), an operator's choice of a CPU (cpus), his intervals and magazine
-//! sizes (depots), what he is told of the arenas and clients (telling), replies (answers,
-//! settling, replying), segments that are given and taken back (supplies, takings), leases, hellos
-//! and releases (leasing, hellos, releasing), the answers to an operator (operating), CPUs that go
-//! offline (offlines), what is reaped (reapings), what a setup gives (openings), and how leases
-//! (returns) and CPUs (emptyings) end. The desk itself stands in desks, and what a server asks of
-//! it in responding.
+//! together answer the lines of the lease protocol and of its operator.
+//!
+//! Begin with desks, which has the desk itself, and responding, what a server asks of it. Each step
+//! has a module of its own: the calls over one thread's parts (calls), an operator's choice of a
+//! CPU (cpus), his intervals and magazine sizes (depots), what he is told of the arenas and clients
+//! (telling), replies (answers, settling, replying), segments that are given and taken back
+//! (supplies, takings), leases, hellos and releases (leasing, hellos, releasing), the answers to an
+//! operator (operating), CPUs that go offline (offlines), what is reaped (reapings), what a setup
+//! gives (openings), and how leases (returns) and CPUs (emptyings) end. What a line may be answered
+//! is stated in the crate `lease_machine`.
 //!
 //! A client's line costs what the calls of `quantum_cache` and of the book do, and a look at the
 //! names of the arenas and the numbers of the CPUs, which are few; a hello one free for each lease

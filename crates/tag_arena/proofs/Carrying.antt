@@ -5,11 +5,11 @@ use Rattle.deed_core.specs.Holding.{Holding}
 use Rattle.deed_core.specs.Tag.{Tag}
 use Rattle.deed_core.specs.Covering.{covers, covers_tag, covers_held, covering_held}
 use Rattle.deed_core.specs.Weights.{Gains, Loses}
-use Rattle.deed_core.specs.Request.{Fits, IsGood, rounded}
+use Rattle.deed_core.specs.Request.{Fits, IsGood, rounding_of}
 use Rattle.deed_core.specs.declared.requests.Request.{Request}
 use Rattle.deed_core.proofs.LawProofs.{sum_by-map}
 use Rattle.std.proofs.lemmas.List.Sums.{sum_by-append, sum_by_push}
-use Rattle.tag_arena.specs.ArenaState.{ArenaState, spans_of, ranges_of, tags_of, direct, IsSound, IsChosen}
+use Rattle.tag_arena.specs.ArenaState.{ArenaState, spans_of, ranges_of, tags_of, direct_tag, IsSound, IsChosen}
 use Rattle.tag_arena.specs.Calls.{part, Carves, after_carve, after_import, first_units}
 use Rattle.tag_arena.specs.Outcomes.{KeepsSetup, Carved, Imported}
 use Rattle.tag_arena.proofs.Importing.{Imports, import_sound, import_gains, import_covers}
@@ -23,20 +23,20 @@ kept old new same = record {
 }
 
 -- what is allocated, weighed as segments
-pub tags_weigh : (a : ArenaState) (f : Tag → ℕ) → sum_by f (tags_of a) ≡ sum_by (λ h. f (direct a.id h)) (ranges_of a.allocated)
-tags_weigh a f = sum_by-map f (direct a.id) (ranges_of a.allocated)
+pub tags_weigh : (a : ArenaState) (f : Tag → ℕ) → sum_by f (tags_of a) ≡ sum_by (λ h. f (direct_tag a.id h)) (ranges_of a.allocated)
+tags_weigh a f = sum_by-map f (direct_tag a.id) (ranges_of a.allocated)
 
-pub tags_gain : (a new : ArenaState) (h : Holding) (t : Tag) → new.id ≡ a.id → Gains (ranges_of a.allocated) (ranges_of new.allocated) h → t ≡ direct a.id h → Gains (tags_of a) (tags_of new) t
+pub tags_gain : (a new : ArenaState) (h : Holding) (t : Tag) → new.id ≡ a.id → Gains (ranges_of a.allocated) (ranges_of new.allocated) h → t ≡ direct_tag a.id h → Gains (tags_of a) (tags_of new) t
 tags_gain a new h t id gains is f =
-    let now : sum_by (λ h. f (direct new.id h)) (ranges_of new.allocated) ≡ sum_by (λ h. f (direct a.id h)) (ranges_of new.allocated) = ap (λ k. sum_by (λ h. f (direct k h)) (ranges_of new.allocated)) id in
-    let one : f t ≡ f (direct a.id h) = ap f is in
-    omega (arith, tags_weigh a f, tags_weigh new f, now, one, gains (λ h. f (direct a.id h)))
+    let now : sum_by (λ h. f (direct_tag new.id h)) (ranges_of new.allocated) ≡ sum_by (λ h. f (direct_tag a.id h)) (ranges_of new.allocated) = ap (λ k. sum_by (λ h. f (direct_tag k h)) (ranges_of new.allocated)) id in
+    let one : f t ≡ f (direct_tag a.id h) = ap f is in
+    omega (arith, tags_weigh a f, tags_weigh new f, now, one, gains (λ h. f (direct_tag a.id h)))
 
-pub tags_lose : (a new : ArenaState) (h : Holding) (t : Tag) → new.id ≡ a.id → Loses (ranges_of a.allocated) (ranges_of new.allocated) h → t ≡ direct a.id h → Loses (tags_of a) (tags_of new) t
+pub tags_lose : (a new : ArenaState) (h : Holding) (t : Tag) → new.id ≡ a.id → Loses (ranges_of a.allocated) (ranges_of new.allocated) h → t ≡ direct_tag a.id h → Loses (tags_of a) (tags_of new) t
 tags_lose a new h t id loses is f =
-    let now : sum_by (λ h. f (direct new.id h)) (ranges_of new.allocated) ≡ sum_by (λ h. f (direct a.id h)) (ranges_of new.allocated) = ap (λ k. sum_by (λ h. f (direct k h)) (ranges_of new.allocated)) id in
-    let one : f t ≡ f (direct a.id h) = ap f is in
-    omega (arith, tags_weigh a f, tags_weigh new f, now, one, loses (λ h. f (direct a.id h)))
+    let now : sum_by (λ h. f (direct_tag new.id h)) (ranges_of new.allocated) ≡ sum_by (λ h. f (direct_tag a.id h)) (ranges_of new.allocated) = ap (λ k. sum_by (λ h. f (direct_tag k h)) (ranges_of new.allocated)) id in
+    let one : f t ≡ f (direct_tag a.id h) = ap f is in
+    omega (arith, tags_weigh a f, tags_weigh new f, now, one, loses (λ h. f (direct_tag a.id h)))
 
 -- the spans, by unit
 pub spans_cover : (a : ArenaState) (u : ℕ) → covering_held u (spans_of a) ≡ covering_held u a.owned + sum_by (covers_tag u) a.imported
@@ -45,8 +45,8 @@ spans_cover a u =
     omega (arith, imported, sum_by-append (covers_held u) a.owned (map (λ t. t.holding) a.imported))
 
 -- what was found was carved
-module _ (a : ArenaState) (q : Request) (f : FoundAt) (n : ℕ) (sound : IsSound a) (good : IsGood a.quantum q) (chosen : IsChosen a q (Some f.base)) (placed : IsFoundAt a.quantum q a.free f) (n_is : n ≡ rounded a.quantum q.size)
-    (new : ArenaState) (after : new ≡ after_carve a f.range (part f.range f.base n)) (s : Tag) (is : s ≡ direct a.id (part f.range f.base n)) (range : IsRange s.holding.range) where
+module _ (a : ArenaState) (q : Request) (f : FoundAt) (n : ℕ) (sound : IsSound a) (good : IsGood a.quantum q) (chosen : IsChosen a q (Some f.base)) (placed : IsFoundAt a.quantum q a.free f) (n_is : n ≡ rounding_of a.quantum q.size)
+    (new : ArenaState) (after : new ≡ after_carve a f.range (part f.range f.base n)) (s : Tag) (is : s ≡ direct_tag a.id (part f.range f.base n)) (range : IsRange s.holding.range) where
   at : CarvesAt a f.at f.range (part f.range f.base n)
   at = found_carves a q f n sound good placed n_is
 
@@ -58,7 +58,7 @@ module _ (a : ArenaState) (q : Request) (f : FoundAt) (n : ℕ) (sound : IsSound
     good = good;
     chosen = subst (λ (h : Holding). IsChosen a q (Some h.range.base)) (sym holding) chosen;
     fits = subst (λ (h : Holding). Fits a.quantum q h.range.base h.range.len) (sym holding) (subst (λ k. Fits a.quantum q f.base k) (sym n_is) placed.2.fits);
-    segment = is ∙ ap (direct a.id) (sym holding);
+    segment = is ∙ ap (direct_tag a.id) (sym holding);
     range = range;
     carves = subst (λ (h : Holding). Carves a new h) (sym holding) (carves a f.at f.range (part f.range f.base n) at new after);
   }
@@ -78,13 +78,13 @@ module _ (a : ArenaState) (q : Request) (f : FoundAt) (n : ℕ) (sound : IsSound
       omega (arith, one, carve_covers a f.at f.range (part f.range f.base n) at new after u)
 
 -- a span was imported, and its first units carved
-module _ (a : ArenaState) (q : Request) (span : Tag) (n : ℕ) (k : Imports a span n) (n_is : n ≡ rounded a.quantum q.size)
-    (new : ArenaState) (after : new ≡ after_carve (after_import a span) span.holding (first_units n span.holding)) (s : Tag) (is : s ≡ direct a.id (first_units n span.holding)) (range : IsRange s.holding.range) where
+module _ (a : ArenaState) (q : Request) (span : Tag) (n : ℕ) (k : Imports a span n) (n_is : n ≡ rounding_of a.quantum q.size)
+    (new : ArenaState) (after : new ≡ after_carve (after_import a span) span.holding (first_units n span.holding)) (s : Tag) (is : s ≡ direct_tag a.id (first_units n span.holding)) (range : IsRange s.holding.range) where
   pub import_done : Imported a span q s new
   import_done = record {
     clear = k.clear;
     aligned = k.aligned;
-    segment = is ∙ ap (λ m. direct a.id (first_units m span.holding)) n_is;
+    segment = is ∙ ap (λ m. direct_tag a.id (first_units m span.holding)) n_is;
     range = range;
     after = after ∙ ap (λ m. after_carve (after_import a span) span.holding (first_units m span.holding)) n_is;
   }

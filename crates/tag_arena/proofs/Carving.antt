@@ -8,7 +8,7 @@ use Rattle.std.specs.FinMap.{FinMap, get, insert}
 use Rattle.deed_core.specs.Extent.{Covers, end_of}
 use Rattle.deed_core.specs.Holding.{Holding, Apart}
 use Rattle.tag_arena.specs.Layout.{Layout, Holds, IsPartOf, IsAllocated, IsEdgedRun, IsWhole}
-use Rattle.tag_arena.specs.Calls.{part, between, surrounds, rests}
+use Rattle.tag_arena.specs.Calls.{part, rest_between, surrounds, rests}
 use Rattle.tag_arena.proofs.Members.{Contains-filter, Contains-from_filter, AllPairs-append, AllPairs-optional}
 use Rattle.tag_arena.proofs.Ranges.{apart_or_share, same_where_shared, surrounds-true, true-surrounds, between_is, between_has, get_same, get_other, new_allocated, still_allocated, allocated_cases, Any-member, member-Any, holds_part}
 
@@ -60,7 +60,7 @@ module _ (a : Layout) (whole : IsWhole a) (r piece : Holding) (among : Contains 
   pub new_cases : (x : Holding) → Contains new_free x → (Contains a.free x × (outside x ≡ true)) ⊎ (((r.range.base < base) × (x ≡ low_rest)) ⊎ ((base + len < r.range.base + r.range.len) × (x ≡ high_rest)))
   new_cases x h =
       ⊎_elim (λ l. inl (Contains-from_filter outside a.free x l))
-      (λ rest. inr (⊎_elim (λ l. inl (between_is r r.range.base base x l)) (λ g. inr (between_is r (base + len) (r.range.base + r.range.len) x g)) (Contains-append_cases (between r r.range.base base) (between r (base + len) (r.range.base + r.range.len)) x rest)))
+      (λ rest. inr (⊎_elim (λ l. inl (between_is r r.range.base base x l)) (λ g. inr (between_is r (base + len) (r.range.base + r.range.len) x g)) (Contains-append_cases (rest_between r r.range.base base) (rest_between r (base + len) (r.range.base + r.range.len)) x rest)))
       (Contains-append_cases (filter outside a.free) _ x h)
 
   abbrev pub tags : FinMap nat_cmp Holding
@@ -172,13 +172,13 @@ module _ (a : Layout) (whole : IsWhole a) (r piece : Holding) (among : Contains 
       elim (cases_lt u base) [
         | inl lt ↦
             inl (member-Any (λ x. Covers x.range u) new_free low_rest
-            (Contains-append_right (filter outside a.free) _ _ (Contains-append_left (between r r.range.base base) (between r (base + len) (r.range.base + r.range.len)) _ (between_has r r.range.base base (omega (arith, c)))))
+            (Contains-append_right (filter outside a.free) _ _ (Contains-append_left (rest_between r r.range.base base) (rest_between r (base + len) (r.range.base + r.range.len)) _ (between_has r r.range.base base (omega (arith, c)))))
             (omega (arith, c), omega (arith, c)))
         | inr ge ↦ elim (cases_lt u (base + len)) [
           | inl lt ↦ inr (new_allocated a.allocated base piece u (ge, lt))
           | inr past ↦
               inl (member-Any (λ x. Covers x.range u) new_free high_rest
-              (Contains-append_right (filter outside a.free) _ _ (Contains-append_right (between r r.range.base base) (between r (base + len) (r.range.base + r.range.len)) _ (between_has r (base + len) (r.range.base + r.range.len) (omega (arith, c)))))
+              (Contains-append_right (filter outside a.free) _ _ (Contains-append_right (rest_between r r.range.base base) (rest_between r (base + len) (r.range.base + r.range.len)) _ (between_has r (base + len) (r.range.base + r.range.len) (omega (arith, c)))))
               (past, omega (arith, c)))
         ]
       ]
@@ -208,9 +208,9 @@ module _ (a : Layout) (whole : IsWhole a) (r piece : Holding) (among : Contains 
       subst (Apart x) (sym b.1) (apart_from_part x low_rest old.0 old.1 (omega (arith, b.0)) (λ u c. (omega (arith, c), omega (arith, c, b.0, held.to)))))
       (λ g. let b = between_is r (base + len) (r.range.base + r.range.len) y g in
       subst (Apart x) (sym b.1) (apart_from_part x high_rest old.0 old.1 (omega (arith, b.0)) (λ u c. (omega (arith, c, held.from), omega (arith, c, b.0)))))
-      (Contains-append_cases (between r r.range.base base) (between r (base + len) (r.range.base + r.range.len)) y hy)
+      (Contains-append_cases (rest_between r r.range.base base) (rest_between r (base + len) (r.range.base + r.range.len)) y hy)
 
-  rests_apart : (x y : Holding) → Contains (between r r.range.base base) x → Contains (between r (base + len) (r.range.base + r.range.len)) y → Apart x y
+  rests_apart : (x y : Holding) → Contains (rest_between r r.range.base base) x → Contains (rest_between r (base + len) (r.range.base + r.range.len)) y → Apart x y
   rests_apart x y hx hy =
       let l = between_is r r.range.base base x hx in
       let g = between_is r (base + len) (r.range.base + r.range.len) y hy in
@@ -220,7 +220,7 @@ module _ (a : Layout) (whole : IsWhole a) (r piece : Holding) (among : Contains 
   new_apart =
       AllPairs-append Apart (filter outside a.free) (rests r piece)
       (AllPairs-filter Apart outside a.free whole.free_apart)
-      (AllPairs-append Apart (between r r.range.base base) (between r (base + len) (r.range.base + r.range.len))
+      (AllPairs-append Apart (rest_between r r.range.base base) (rest_between r (base + len) (r.range.base + r.range.len))
       (AllPairs-optional Apart (nat_lt r.range.base base) low_rest)
       (AllPairs-optional Apart (nat_lt (base + len) (r.range.base + r.range.len)) high_rest) rests_apart)
       rest_apart

@@ -12,7 +12,7 @@ use Rattle.tag_arena.proofs.SpanLists.{Contains-map, Contains-from_map}
 use Rattle.sorted_rows.specs.Order.{Rises, place_below}
 use Rattle.sorted_rows.proofs.PlaceLemmas.{rises_insert}
 use Rattle.tag_arena.specs.declared.span_entries.SpanEntry.{SpanEntry}
-use Rattle.tag_arena.specs.Spanned.{end_rank, came, tag_of, by_coming, held}
+use Rattle.tag_arena.specs.Spanned.{end_rank, coming_of, tag_of, by_coming, tag_holdings}
 use Rattle.tag_arena.proofs.Listing.{Contains-inserted, Contains-insert, Contains-insert_cases, AllPairs-remove, rank_at_place, same_rising, rises_push, map-remove}
 
 -- no two came at one time
@@ -23,7 +23,7 @@ pub in_by_coming : (xs : List SpanEntry) (x : SpanEntry) → Contains xs x → C
 unfolding by_coming
 in_by_coming [] x h = h
 in_by_coming (y ∷ ys) x h =
-    let p = place_below came y.since (by_coming ys) in
+    let p = place_below coming_of y.since (by_coming ys) in
     ⊎_elim (λ e. subst (Contains (insert (by_coming ys) p y)) e (Contains-inserted (by_coming ys) p y))
     (λ later. Contains-insert (by_coming ys) p y x (in_by_coming ys x later)) (Contains-cases y x ys h)
 
@@ -32,15 +32,15 @@ unfolding by_coming
 from_by_coming [] x h = h
 from_by_coming (y ∷ ys) x h =
     ⊎_elim (λ e. subst (Contains (y ∷ ys)) e (Contains-head y ys)) (λ later. Contains-tail y x ys (from_by_coming ys x later))
-    (Contains-insert_cases (by_coming ys) (place_below came y.since (by_coming ys)) y x h)
+    (Contains-insert_cases (by_coming ys) (place_below coming_of y.since (by_coming ys)) y x h)
 
-pub rises_by_coming : (xs : List SpanEntry) → Rises end_rank xs → AreTimed xs → Rises came (by_coming xs)
+pub rises_by_coming : (xs : List SpanEntry) → Rises end_rank xs → AreTimed xs → Rises coming_of (by_coming xs)
 unfolding by_coming
 rises_by_coming [] rises timed = λ i j d lt below. absurd (omega (arith, below))
 rises_by_coming (y ∷ ys) rises timed =
     let rec = rises_by_coming ys (AllPairs-tail (λ a b. end_rank a < end_rank b) y ys rises) (λ a b in-a in-b e. timed a b (Contains-tail y a ys in-a) (Contains-tail y b ys in-b) e) in
-    rises_insert came (by_coming ys) (place_below came y.since (by_coming ys)) y rec (rank_at_place came y.since (by_coming ys) rec)
-    (All-from_members (λ z. came z ≢ came y) (by_coming ys)
+    rises_insert coming_of (by_coming ys) (place_below coming_of y.since (by_coming ys)) y rec (rank_at_place coming_of y.since (by_coming ys) rec)
+    (All-from_members (λ z. coming_of z ≢ coming_of y) (by_coming ys)
     (λ z h same.
     let in-z = from_by_coming ys z h in
     let e = ap end_rank (timed z y (Contains-tail y z ys in-z) (Contains-head y ys) same) in
@@ -53,16 +53,16 @@ module _ (old : List SpanEntry) (rises : Rises end_rank old) (timed : AreTimed o
     pub timed_put : AreTimed (insert old p e)
     timed_put x y in-x in-y same =
         ⊎_elim
-        (λ a. ⊎_elim (λ b. sym a ∙ b) (λ b. let h = newer y b in let t = ap came a in absurd (omega (arith, h, t, same))) (Contains-insert_cases old p e y in-y))
-        (λ a. ⊎_elim (λ b. let h = newer x a in let t = ap came b in absurd (omega (arith, h, t, same))) (λ b. timed x y a b same) (Contains-insert_cases old p e y in-y))
+        (λ a. ⊎_elim (λ b. sym a ∙ b) (λ b. let h = newer y b in let t = ap coming_of a in absurd (omega (arith, h, t, same))) (Contains-insert_cases old p e y in-y))
+        (λ a. ⊎_elim (λ b. let h = newer x a in let t = ap coming_of b in absurd (omega (arith, h, t, same))) (λ b. timed x y a b same) (Contains-insert_cases old p e y in-y))
         (Contains-insert_cases old p e x in-x)
 
     -- the newest comes last
     pub coming_put : Rises end_rank (insert old p e) → by_coming (insert old p e) ≡ by_coming old ++ e ∷ []
     coming_put rises_new =
         let new = insert old p e in
-        same_rising came (by_coming new) (by_coming old ++ e ∷ []) (rises_by_coming new rises_new timed_put)
-        (rises_push came (by_coming old) e (rises_by_coming old rises timed) (λ y h. newer y (from_by_coming old y h)))
+        same_rising coming_of (by_coming new) (by_coming old ++ e ∷ []) (rises_by_coming new rises_new timed_put)
+        (rises_push coming_of (by_coming old) e (rises_by_coming old rises timed) (λ y h. newer y (from_by_coming old y h)))
         (λ x h. ⊎_elim (λ a. subst (Contains (by_coming old ++ e ∷ [])) a (Contains-push (by_coming old) e))
         (λ a. Contains-append_left (by_coming old) (e ∷ []) x (in_by_coming old x a)) (Contains-insert_cases old p e x (from_by_coming new x h)))
         (λ x h. in_by_coming new x (⊎_elim (λ a. Contains-insert old p e x (from_by_coming old x a)) (λ a. subst (Contains new) a (Contains-inserted old p e)) (Contains-push_cases (by_coming old) e x h)))
@@ -90,16 +90,16 @@ module _ (old : List SpanEntry) (rises : Rises end_rank old) (timed : AreTimed o
           q,
           at.1,
           at.2,
-          same_rising came (by_coming new) (remove (by_coming old) q) (rises_by_coming new (AllPairs-remove (λ a b. end_rank a < end_rank b) old p lt rises) timed_take) (AllPairs-remove (λ a b. came a < came b) (by_coming old) q at.1 grown)
+          same_rising coming_of (by_coming new) (remove (by_coming old) q) (rises_by_coming new (AllPairs-remove (λ a b. end_rank a < end_rank b) old p lt rises) timed_take) (AllPairs-remove (λ a b. coming_of a < coming_of b) (by_coming old) q at.1 grown)
               (λ x h. let in-x = from_by_coming new x h in
               Contains-remove (by_coming old) q x (in_by_coming old x (remove_kept old p x in-x)) (λ is. other_rank x in-x (sym is ∙ at.2 x)))
               (λ x h. let in-x = from_by_coming old x (remove_kept (by_coming old) q x h) in
               in_by_coming new x (Contains-remove old p x in-x
               (λ is.
               let same : e ≡ x = sym here ∙ (get_or_default old p e x lt ∙ is) in
-              let apart = remove_pairs (λ a b. came a < came b) (by_coming old) q x x grown at.1 h in
-              let one = ap came (at.2 x) in
-              let eq = ap came same in
+              let apart = remove_pairs (λ a b. coming_of a < coming_of b) (by_coming old) q x x grown at.1 h in
+              let one = ap coming_of (at.2 x) in
+              let eq = ap coming_of same in
               ⊎_elim (λ a. omega (arith, a, one, eq)) (λ a. omega (arith, a, one, eq)) apart))),
         )
 
@@ -115,19 +115,19 @@ pub from_tags : (xs : List SpanEntry) (t : Tag) → Contains (map tag_of (by_com
 from_tags xs t h = let m = Contains-from_map tag_of (by_coming xs) t h in (m.0, from_by_coming xs m.0 m.1, m.2)
 
 -- the units of one more, and of one less
-pub units_more : (ts : List Tag) (t : Tag) → units_held (held (ts ++ t ∷ [])) ≡ units_held (held ts) + t.holding.range.len
+pub units_more : (ts : List Tag) (t : Tag) → units_held (tag_holdings (ts ++ t ∷ [])) ≡ units_held (tag_holdings ts) + t.holding.range.len
 units_more ts t =
     let split = ap units_held (map-append (λ (x : Tag). x.holding) ts (t ∷ [])) in
-    omega (arith, split, sum_by-append (λ (h : Holding). h.range.len) (held ts) (t.holding ∷ []), sum_by-cons (λ (h : Holding). h.range.len) t.holding [])
+    omega (arith, split, sum_by-append (λ (h : Holding). h.range.len) (tag_holdings ts) (t.holding ∷ []), sum_by-cons (λ (h : Holding). h.range.len) t.holding [])
 
-pub units_less : (ts : List Tag) (t : Tag) (k : ℕ) → k < length ts → HoldsAt (λ x. x ≡ t) ts k → units_held (held (remove ts k)) + t.holding.range.len ≡ units_held (held ts)
+pub units_less : (ts : List Tag) (t : Tag) (k : ℕ) → k < length ts → HoldsAt (λ x. x ≡ t) ts k → units_held (tag_holdings (remove ts k)) + t.holding.range.len ≡ units_held (tag_holdings ts)
 units_less [] t k lt here = absurd (omega (arith, lt))
 units_less (x ∷ xs) t zero lt here =
     let is = ap (λ (y : Tag). y.holding.range.len) (here x) in
-    omega (arith, is, sum_by-cons (λ (h : Holding). h.range.len) x.holding (held xs))
+    omega (arith, is, sum_by-cons (λ (h : Holding). h.range.len) x.holding (tag_holdings xs))
 units_less (x ∷ xs) t (suc k) lt here =
     let rec = units_less xs t k (omega arith) here in
-    omega (arith, rec, sum_by-cons (λ (h : Holding). h.range.len) x.holding (held xs), sum_by-cons (λ (h : Holding). h.range.len) x.holding (held (remove xs k)))
+    omega (arith, rec, sum_by-cons (λ (h : Holding). h.range.len) x.holding (tag_holdings xs), sum_by-cons (λ (h : Holding). h.range.len) x.holding (tag_holdings (remove xs k)))
 
 -- a list without one, seen through a function
 pub without_map : {X Y : Type 0} (g : X → Y) (xs now : List X) (e : X) (q : ℕ) → q < length xs → HoldsAt (λ x. x ≡ e) xs q → now ≡ remove xs q → (q < length (map g xs)) × HoldsAt (λ y. y ≡ g e) (map g xs) q × (map g now ≡ remove (map g xs) q)

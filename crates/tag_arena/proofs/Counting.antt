@@ -9,7 +9,7 @@ use Rattle.deed_core.specs.Holding.{Holding}
 use Rattle.deed_core.specs.Covering.{covers, covers_held, covering_held, units_held}
 use Rattle.deed_core.proofs.LawProofs.{covers_is, covers_cut}
 use Rattle.tag_arena.specs.Layout.{IsPartOf}
-use Rattle.tag_arena.specs.Calls.{part, between, rests}
+use Rattle.tag_arena.specs.Calls.{part, rest_between, rests}
 use Rattle.tag_arena.specs.Neighbors.{Without, TakesLeft, TakesRight}
 
 abbrev pub stretch : ℕ → ℕ → Extent
@@ -24,7 +24,7 @@ one-cond f true x = omega (arith, sum_by-cons f x [])
 one-cond f false x = refl
 
 -- the units from low to high
-pub covering-between : (u : ℕ) (r : Holding) (low high : ℕ) → covering_held u (between r low high) ≡ covers u (stretch low high)
+pub covering-between : (u : ℕ) (r : Holding) (low high : ℕ) → covering_held u (rest_between r low high) ≡ covers u (stretch low high)
 covering-between u r low high = one-cond (covers_held u) (nat_lt low high) (part r low (high - low)) ∙ by (nat_lt low high) refl
   where
     by : (b : Bool) → nat_lt low high ≡ b → cond b (covers_held u (part r low (high - low))) 0 ≡ covers u (stretch low high)
@@ -43,7 +43,7 @@ covering-rests u r piece held =
       arith,
       first,
       second,
-      sum_by-append (covers_held u) (between r r.range.base piece.range.base) (between r (end_of piece.range) (end_of r.range)),
+      sum_by-append (covers_held u) (rest_between r r.range.base piece.range.base) (rest_between r (end_of piece.range) (end_of r.range)),
       covering-between u r r.range.base piece.range.base,
       covering-between u r (end_of piece.range) (end_of r.range),
     )

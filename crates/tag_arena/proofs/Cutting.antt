@@ -7,7 +7,7 @@ use Rattle.std.proofs.lemmas.List.Elements.{All-contains, Contains-append_cases}
 use Rattle.deed_core.specs.Extent.{IsRange, Covers, end_of}
 use Rattle.deed_core.specs.Holding.{Holding, Apart}
 use Rattle.tag_arena.specs.declared.policies.Policy.{Policy}
-use Rattle.tag_arena.specs.Calls.{between, rests, surrounds}
+use Rattle.tag_arena.specs.Calls.{rest_between, rests, surrounds}
 use Rattle.tag_arena.specs.Neighbors.{Without}
 use Rattle.tag_arena.proofs.Members.{All-from_members, Contains-head, filter_whole}
 use Rattle.tag_arena.proofs.Merging.{none_left, without_kept, without_filter}
@@ -46,7 +46,7 @@ module _ (old mid : List Holding) (range : Holding) (ranges : All (λ r. IsRange
   fewer = ap (λ l. length l + 1) out.3 ∙ length-remove old out.0 out.1
 
   -- nor does one where a rest does
-  pub absent_rest : (o : Option Holding) (from to : ℕ) → option_to_list o ≡ between range from to → range.range.base ≤ from → to ≤ end_of range.range → IfSome o (λ h. All (λ r. r.range.base ≢ h.range.base) mid)
+  pub absent_rest : (o : Option Holding) (from to : ℕ) → option_to_list o ≡ rest_between range from to → range.range.base ≤ from → to ≤ end_of range.range → IfSome o (λ h. All (λ r. r.range.base ≢ h.range.base) mid)
   absent_rest None from to is low high = tt
   absent_rest (Some h) from to is low high =
       let w = between_is range from to h (subst (λ l. Contains l h) is (Contains-head h [])) in
@@ -69,7 +69,7 @@ module _ (old mid : List Holding) (range : Holding) (ranges : All (λ r. IsRange
     pub absent_low : IfSome low (λ h. All (λ r. r.range.base ≢ h.range.base) mid)
     absent_low = absent_rest low range.range.base base cut.low_is (omega arith) (omega (arith, some, to))
 
-    absent_behind : (o : Option Holding) → option_to_list o ≡ between range end (end_of range.range) → IfSome o (λ h. All (λ r. r.range.base ≢ h.range.base) (mid ++ option_to_list low))
+    absent_behind : (o : Option Holding) → option_to_list o ≡ rest_between range end (end_of range.range) → IfSome o (λ h. All (λ r. r.range.base ≢ h.range.base) (mid ++ option_to_list low))
     absent_behind None is = tt
     absent_behind (Some h) is =
         let w = between_is range end (end_of range.range) h (subst (λ l. Contains l h) is (Contains-head h [])) in
@@ -95,8 +95,8 @@ module _ (old mid : List Holding) (range : Holding) (ranges : All (λ r. IsRange
     rests_are =
         let b : base ≡ piece.range.base = sym (ap (λ x. x.range.base) cut.piece_is) in
         let n : end ≡ end_of piece.range = omega (arith, ap (λ x. end_of x.range) cut.piece_is, some) in
-        ap (λ l. l ++ option_to_list high) (cut.low_is ∙ ap (between range range.range.base) b)
-        ∙ ap (λ l. between range range.range.base piece.range.base ++ l) (cut.high_is ∙ ap (λ k. between range k (end_of range.range)) n)
+        ap (λ l. l ++ option_to_list high) (cut.low_is ∙ ap (rest_between range range.range.base) b)
+        ∙ ap (λ l. rest_between range range.range.base piece.range.base ++ l) (cut.high_is ∙ ap (λ k. rest_between range k (end_of range.range)) n)
 
     pub carved_out : (two new : List Holding) → two ≡ mid ++ option_to_list low → new ≡ two ++ option_to_list high → CarvesOut range piece old new
     carved_out two new two_is new_is =

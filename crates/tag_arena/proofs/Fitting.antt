@@ -3,7 +3,7 @@ use Rattle.std.proofs.Common.{◌≡◌, ℕ, ◌+◌, ◌*◌, ◌^◌, ◌<◌
 use Rattle.std.proofs.lemmas.List.{get_or_default}
 use Rattle.std.proofs.lemmas.Bool.{cases_lt}
 use Rattle.deed_core.specs.Holding.{Holding}
-use Rattle.deed_core.specs.Request.{rounded}
+use Rattle.deed_core.specs.Request.{rounding_of}
 use Rattle.deed_core.specs.declared.requests.Request.{Request}
 use Rattle.tag_arena.specs.Place.{Serves, ServesIn}
 use Rattle.tag_arena.specs.Choice.{IsBest}
@@ -37,7 +37,7 @@ same_member rank xs x y rises c d same =
     (cases_lt c.0 d.0)
 
 -- at the key of the least length none is passed
-pub served_first : (quantum : ℕ) (q : Request) (tags : List (Option FreeTag)) (units : ℕ) → units ≡ rounded quantum q.size → (k : ℕ) (t : FreeTag) → tag_at tags k ≡ Some t → rank_of (entry_of Sizes k t) < units * 2 ^ 64 + 0 → (b : ℕ) → ServesIn quantum q t.range b → ⊥
+pub served_first : (quantum : ℕ) (q : Request) (tags : List (Option FreeTag)) (units : ℕ) → units ≡ rounding_of quantum q.size → (k : ℕ) (t : FreeTag) → tag_at tags k ≡ Some t → rank_of (entry_of Sizes k t) < units * 2 ^ 64 + 0 → (b : ℕ) → ServesIn quantum q t.range b → ⊥
 served_first quantum q tags units is k t here below b serves =
     let from = serves.from in
     let to = serves.to in

@@ -8,10 +8,10 @@ use Rattle.std.specs.FinMap.{FinMap}
 use Rattle.deed_core.specs.Extent.{IsRange, Covers, Overlap, end_of}
 use Rattle.deed_core.specs.Holding.{Holding, Apart}
 use Rattle.deed_core.specs.Tag.{Tag}
-use Rattle.deed_core.specs.Request.{rounded, IsGood}
+use Rattle.deed_core.specs.Request.{rounding_of, IsGood}
 use Rattle.deed_core.specs.declared.requests.Request.{Request}
 use Rattle.tag_arena.specs.ArenaState.{ArenaState, IsDivided, IsSound, spans_of}
-use Rattle.tag_arena.specs.Calls.{part, between, after_carve, IsClear}
+use Rattle.tag_arena.specs.Calls.{part, rest_between, after_carve, IsClear}
 use Rattle.tag_arena.specs.Layout.{IsPartOf}
 use Rattle.tag_arena.specs.Neighbors.{Without}
 use Rattle.tag_arena.proofs.Members.{All-from_members, Contains-head}
@@ -27,7 +27,7 @@ use Rattle.tag_arena.specs.declared.searches.Fit.{Fit}
 use Rattle.tag_arena.specs.Cuts.{CarvesOut}
 use Rattle.tag_arena.specs.Fits.{IsFit}
 use Rattle.tag_arena.specs.Found.{IsCuttable}
-use Rattle.tag_arena.specs.Spanned.{held, AreDisjoint, IsLowestFree}
+use Rattle.tag_arena.specs.Spanned.{tag_holdings, AreDisjoint, IsLowestFree}
 
 -- what was found, with its place in the list
 abbrev pub found_of : (free : List Holding) (f : Fit) → Contains free f.range → FoundAt
@@ -37,7 +37,7 @@ pub placed_of : (quantum : ℕ) (q : Request) (free : List Holding) (f : Fit) (f
 placed_of quantum q free f fit = let at = at_from_Contains free f.range fit.among in (at.1, at.2, fit.serves)
 
 -- what was found for a good request can be carved there
-pub fit_cuttable : (a : ArenaState) (q : Request) (f : Fit) (n : ℕ) → IsSound a → IsGood a.quantum q → IsFit a.quantum q a.free f → n ≡ rounded a.quantum q.size → IsCuttable a.quantum a.free f n
+pub fit_cuttable : (a : ArenaState) (q : Request) (f : Fit) (n : ℕ) → IsSound a → IsGood a.quantum q → IsFit a.quantum q a.free f → n ≡ rounding_of a.quantum q.size → IsCuttable a.quantum a.free f n
 fit_cuttable a q f n sound good fit n_is =
     let can = found_carves a q (found_of a.free f fit.among) n sound good (placed_of a.quantum q a.free f fit) n_is in
     record { among = fit.among; some = can.some; from = can.held.from; to = can.held.to; grid = can.grid }
@@ -91,18 +91,18 @@ module _ (a : ArenaState) (piece s : Holding) (lies : LiesIn a piece s) where
 -- the spans don't overlap
 pub disjoint_owned : (a : ArenaState) → IsDivided a → AreDisjoint a.owned
 disjoint_owned a sound = record {
-  apart = AllPairs-first Apart a.owned (held a.imported) sound.whole.spans_apart;
-  ranges = All-from_members (λ s. IsRange s.range) a.owned (λ s h. All-contains (λ s. IsRange s.range) (spans_of a) s sound.spans (Contains-append_left a.owned (held a.imported) s h));
+  apart = AllPairs-first Apart a.owned (tag_holdings a.imported) sound.whole.spans_apart;
+  ranges = All-from_members (λ s. IsRange s.range) a.owned (λ s h. All-contains (λ s. IsRange s.range) (spans_of a) s sound.spans (Contains-append_left a.owned (tag_holdings a.imported) s h));
 }
 
-pub disjoint_imported : (a : ArenaState) → IsDivided a → AreDisjoint (held a.imported)
+pub disjoint_imported : (a : ArenaState) → IsDivided a → AreDisjoint (tag_holdings a.imported)
 disjoint_imported a sound = record {
-  apart = AllPairs-second Apart a.owned (held a.imported) sound.whole.spans_apart;
-  ranges = All-from_members (λ s. IsRange s.range) (held a.imported) (λ s h. All-contains (λ s. IsRange s.range) (spans_of a) s sound.spans (Contains-append_right a.owned (held a.imported) s h));
+  apart = AllPairs-second Apart a.owned (tag_holdings a.imported) sound.whole.spans_apart;
+  ranges = All-from_members (λ s. IsRange s.range) (tag_holdings a.imported) (λ s h. All-contains (λ s. IsRange s.range) (spans_of a) s sound.spans (Contains-append_right a.owned (tag_holdings a.imported) s h));
 }
 
 -- a span that overlaps none ends where none does
-pub ends_alone : (a : ArenaState) (h : Holding) (tags : List Tag) → IsDivided a → IsRange h.range → IsClear a h.range → ((s : Holding) → Contains (held tags) s → Contains (spans_of a) s) → All (λ t. end_of t.holding.range ≢ end_of h.range) tags
+pub ends_alone : (a : ArenaState) (h : Holding) (tags : List Tag) → IsDivided a → IsRange h.range → IsClear a h.range → ((s : Holding) → Contains (tag_holdings tags) s → Contains (spans_of a) s) → All (λ t. end_of t.holding.range ≢ end_of h.range) tags
 ends_alone a h tags sound range clear among =
     All-from_members (λ t. end_of t.holding.range ≢ end_of h.range) tags
     (λ t in-t e.
@@ -131,7 +131,7 @@ begins_outside a h b sound apart inside =
     not_both r h b (AllPairs-cross Apart a.free (h ∷ []) apart r h in-r (Contains-head h [])) (omega (arith, e), omega (arith, e, run.some)) inside)
 
 -- nor where the rest of a span that is imported does
-absent_in : (a : ArenaState) (t : Tag) (n : ℕ) (k : Imports a t n) (o : Option Holding) → option_to_list o ≡ between t.holding (t.holding.range.base + n) (end_of t.holding.range) → IfSome o (λ h. All (λ r. r.range.base ≢ h.range.base) a.free)
+absent_in : (a : ArenaState) (t : Tag) (n : ℕ) (k : Imports a t n) (o : Option Holding) → option_to_list o ≡ rest_between t.holding (t.holding.range.base + n) (end_of t.holding.range) → IfSome o (λ h. All (λ r. r.range.base ≢ h.range.base) a.free)
 absent_in a t n k None is = tt
 absent_in a t n k (Some h) is =
     let w = between_is t.holding (t.holding.range.base + n) (end_of t.holding.range) h (subst (λ l. Contains l h) is (Contains-head h [])) in
@@ -139,7 +139,7 @@ absent_in a t n k (Some h) is =
     let added = sound_import a k.sound.divided t k.range k.aligned k.clear k.route in
     begins_outside a t.holding h.range.base k.sound.divided added.whole.free_apart (omega (arith, b), omega (arith, b, w.0))
 
-pub absent_behind : (a : ArenaState) (t : Tag) (n : ℕ) (k : Imports a t n) (o : Option Holding) → option_to_list o ≡ between t.holding (t.holding.range.base + n) (end_of t.holding.range)
+pub absent_behind : (a : ArenaState) (t : Tag) (n : ℕ) (k : Imports a t n) (o : Option Holding) → option_to_list o ≡ rest_between t.holding (t.holding.range.base + n) (end_of t.holding.range)
     → (free : List Holding) → free ≡ a.free → IfSome o (λ h. All (λ r. r.range.base ≢ h.range.base) free)
 absent_behind a t n k o is free same = subst (λ xs. IfSome o (λ h. All (λ r. r.range.base ≢ h.range.base) xs)) (sym same) (absent_in a t n k o is)
 
@@ -148,11 +148,11 @@ pub lent_there : (A : Type 0) (B : Type 0) (lent : Bool) → MatchBool lent A B 
 lent_there A B true said lends = said
 lent_there A B false said lends = absurd cc
 
-pub not_lent : (imported : List Tag) (s merged : Holding) (lent : Bool) → MatchBool lent (Contains (held imported) s) (¬ Contains (held imported) s) → (lent ≡ true → merged ≢ s) → (t : Tag) → Contains imported t → t.holding ≡ s → s ≡ merged → ⊥
+pub not_lent : (imported : List Tag) (s merged : Holding) (lent : Bool) → MatchBool lent (Contains (tag_holdings imported) s) (¬ Contains (tag_holdings imported) s) → (lent ≡ true → merged ≢ s) → (t : Tag) → Contains imported t → t.holding ≡ s → s ≡ merged → ⊥
 not_lent imported s merged true said other t in-t e same = other refl (sym same)
-not_lent imported s merged false said other t in-t e same = said (subst (Contains (held imported)) e (Contains-map (λ (t : Tag). t.holding) imported t in-t))
+not_lent imported s merged false said other t in-t e same = said (subst (Contains (tag_holdings imported)) e (Contains-map (λ (t : Tag). t.holding) imported t in-t))
 
 -- one more span, by its range
-pub held_more : (old grown new : List Tag) (t : Tag) (h : Holding) → new ≡ grown ++ t ∷ [] → grown ≡ old → t.holding ≡ h → held new ≡ held old ++ h ∷ []
+pub held_more : (old grown new : List Tag) (t : Tag) (h : Holding) → new ≡ grown ++ t ∷ [] → grown ≡ old → t.holding ≡ h → tag_holdings new ≡ tag_holdings old ++ h ∷ []
 held_more old grown new t h is same range =
-    ap held is ∙ (map-append (λ (x : Tag). x.holding) grown (t ∷ []) ∙ (ap (λ (ts : List Tag). held ts ++ t.holding ∷ []) same ∙ ap (λ (x : Holding). held old ++ x ∷ []) range))
+    ap tag_holdings is ∙ (map-append (λ (x : Tag). x.holding) grown (t ∷ []) ∙ (ap (λ (ts : List Tag). tag_holdings ts ++ t.holding ∷ []) same ∙ ap (λ (x : Holding). tag_holdings old ++ x ∷ []) range))

@@ -12,7 +12,7 @@ use Rattle.deed_core.specs.Holding.{Holding}
 use Rattle.deed_core.specs.Tag.{Tag}
 use Rattle.deed_core.specs.Covering.{covers, covering_held}
 use Rattle.deed_core.specs.Weights.{Gains}
-use Rattle.deed_core.specs.Request.{IsGood, rounded}
+use Rattle.deed_core.specs.Request.{IsGood, rounding_of}
 use Rattle.deed_core.specs.declared.requests.Request.{Request}
 use Rattle.tag_arena.specs.declared.faults.ArenaFault.{ArenaFault}
 use Rattle.tag_arena.specs.declared.faults.ArenaFault.TheVariants.{NoFit, NoMemory}
@@ -27,11 +27,11 @@ use Rattle.tag_arena.proofs.OneChoice.{choice_one}
 use Rattle.tag_arena.proofs.Using.{carved_used}
 use Rattle.tag_arena.proofs.Sounding.{power_some, others, absent, sound_carve, carved_covers, among}
 
-pub rounded_some : (size quantum : ℕ) → 0 < size → 0 < rounded quantum size
+pub rounded_some : (size quantum : ℕ) → 0 < size → 0 < rounding_of quantum size
 rounded_some size quantum some = omega arith
 
 -- a rounded size is a multiple of the quantum
-pub rounded_multiple : (size quantum : ℕ) → 0 < quantum → rounded quantum size % quantum ≡ 0
+pub rounded_multiple : (size quantum : ℕ) → 0 < quantum → rounding_of quantum size % quantum ≡ 0
 rounded_multiple size quantum some =
     let rest : size % quantum < quantum = mod_below size quantum some in
     elim (cases_eq (size % quantum) 0) [
@@ -40,7 +40,7 @@ rounded_multiple size quantum some =
           let same : size + (quantum - size % quantum) % quantum ≡ size = omega arith in ap (λ k. k % quantum) same ∙ e
       | inr ne ↦
           let more : (quantum - size % quantum) % quantum ≡ quantum - size % quantum = mod-eq_of_lt (omega arith) in
-          let whole : (size / quantum + 1) * quantum ≡ rounded quantum size = omega (arith, div-add-mod' size quantum) in
+          let whole : (size / quantum + 1) * quantum ≡ rounding_of quantum size = omega (arith, div-add-mod' size quantum) in
           subst (λ k. k % quantum ≡ 0) whole (mul-mod_left (size / quantum + 1) quantum)
     ]
 
@@ -115,7 +115,7 @@ abbrev pub IsFoundAt : ℕ → Request → List Holding → FoundAt → Type 0
 IsFoundAt quantum q free f = (f.at < length free) × HoldsAt (λ r. r ≡ f.range) free f.at × ServesIn quantum q f.range f.base
 
 -- what was found for a good request can be carved there
-pub found_carves : (a : ArenaState) (q : Request) (f : FoundAt) (n : ℕ) → IsSound a → IsGood a.quantum q → IsFoundAt a.quantum q a.free f → n ≡ rounded a.quantum q.size → CarvesAt a f.at f.range (part f.range f.base n)
+pub found_carves : (a : ArenaState) (q : Request) (f : FoundAt) (n : ℕ) → IsSound a → IsGood a.quantum q → IsFoundAt a.quantum q a.free f → n ≡ rounding_of a.quantum q.size → CarvesAt a f.at f.range (part f.range f.base n)
 found_carves a q f n sound good found n_is = record {
   sound = sound.divided;
   within = found.0;

@@ -14,14 +14,14 @@ use Rattle.deed_core.specs.Covering.{covers, covers_held, covering_held}
 use Rattle.deed_core.specs.Weights.{Gains}
 use Rattle.tag_arena.specs.Layout.{IsPartOf}
 use Rattle.tag_arena.specs.ArenaState.{ArenaState, IsSound, IsDivided, OnQuantum, ranges_of}
-use Rattle.tag_arena.specs.Calls.{part, between, rests, after_carve, after_import, IsClear}
+use Rattle.tag_arena.specs.Calls.{part, rest_between, rests, after_carve, after_import, IsClear}
 use Rattle.tag_arena.proofs.Returning.{remove-push, at-push}
 use Rattle.tag_arena.proofs.Granting.{CarvesAt, carve_is, carve_sound, carve_absent, carve_gains, carve_covers}
 use Rattle.tag_arena.proofs.Sounding.{sound_import}
 use Rattle.tag_arena.proofs.Using.{imported_whole}
 
 -- nothing lies below the first unit
-pub no_low_rest : (r : Holding) (base : ℕ) → between r base base ≡ []
+pub no_low_rest : (r : Holding) (base : ℕ) → rest_between r base base ≡ []
 no_low_rest r base = let none : nat_lt base base ≡ false = grind (arith, nat_tests) in ap (λ b. cond b (part r base (base - base) ∷ []) []) none
 
 -- a span that may be imported, and the number of its units that are carved at once
@@ -76,11 +76,11 @@ module _ (a : ArenaState) (t : Tag) (n : ℕ) (k : Imports a t n) where
   pub import_absent : finmap.get a.allocated t.holding.range.base ≡ None
   import_absent = carve_absent added (length a.free) t.holding first carved
 
-  pub import_is : (imported : List Tag) (free : List Holding) (tags : FinMap nat_cmp Holding) (rover : ℕ) → rover ≡ end_of first.range → imported ≡ a.imported ++ t ∷ [] → free ≡ a.free ++ between t.holding (end_of first.range) (end_of t.holding.range)
+  pub import_is : (imported : List Tag) (free : List Holding) (tags : FinMap nat_cmp Holding) (rover : ℕ) → rover ≡ end_of first.range → imported ≡ a.imported ++ t ∷ [] → free ≡ a.free ++ rest_between t.holding (end_of first.range) (end_of t.holding.range)
       → tags ≡ finmap.insert a.allocated t.holding.range.base first → record a { imported = imported; free = free; allocated = tags; rover = rover } ≡ after_carve added t.holding first
   import_is imported free tags rover rover_is imported_is free_is tags_is =
-      let rest : rests t.holding first ≡ between t.holding (end_of first.range) (end_of t.holding.range) = ap (λ xs. xs ++ between t.holding (end_of first.range) (end_of t.holding.range)) (no_low_rest t.holding t.holding.range.base) in
-      let all : free ≡ remove added.free (length a.free) ++ rests t.holding first = free_is ∙ ap (λ xs. xs ++ between t.holding (end_of first.range) (end_of t.holding.range)) (sym (remove-push a.free t.holding)) ∙ ap (λ xs. remove added.free (length a.free) ++ xs) (sym rest) in
+      let rest : rests t.holding first ≡ rest_between t.holding (end_of first.range) (end_of t.holding.range) = ap (λ xs. xs ++ rest_between t.holding (end_of first.range) (end_of t.holding.range)) (no_low_rest t.holding t.holding.range.base) in
+      let all : free ≡ remove added.free (length a.free) ++ rests t.holding first = free_is ∙ ap (λ xs. xs ++ rest_between t.holding (end_of first.range) (end_of t.holding.range)) (sym (remove-push a.free t.holding)) ∙ ap (λ xs. remove added.free (length a.free) ++ xs) (sym rest) in
       ap (λ (b : ℕ). record a { imported = imported; free = free; allocated = tags; rover = b }) rover_is
       ∙ ap (λ (xs : List Tag). record a { imported = xs; free = free; allocated = tags; rover = t.holding.range.base + n }) imported_is
       ∙ carve_is added (length a.free) t.holding first carved free tags all tags_is

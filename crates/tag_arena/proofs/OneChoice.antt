@@ -4,13 +4,13 @@ use Rattle.std.proofs.lemmas.Bool.{cases_order}
 use Rattle.deed_core.specs.Holding.{Holding}
 use Rattle.deed_core.specs.Tag.{Tag}
 use Rattle.deed_core.proofs.LawProofs.{same_holding}
-use Rattle.deed_core.specs.Request.{rounded}
+use Rattle.deed_core.specs.Request.{rounding_of}
 use Rattle.deed_core.specs.declared.requests.Request.{Request}
 use Rattle.tag_arena.specs.declared.policies.Policy.{Policy}
 use Rattle.tag_arena.specs.declared.policies.Policy.TheVariants.{Best, Next, Instant}
 use Rattle.tag_arena.specs.Place.{IsLeast, Serves, ServesIn}
 use Rattle.tag_arena.specs.Choice.{IsBest, IsInstant, IsChoice, ComesFirst, OnList}
-use Rattle.tag_arena.specs.ArenaState.{ArenaState, IsSound, direct}
+use Rattle.tag_arena.specs.ArenaState.{ArenaState, IsSound, direct_tag}
 use Rattle.tag_arena.specs.Calls.{after_carve}
 use Rattle.tag_arena.specs.Outcomes.{Carved}
 use Rattle.tag_arena.specs.Laws.{BestIsOne, NextIsOne, InstantIsOne, CarveIsOne}
@@ -76,7 +76,7 @@ module _ (quantum len : ℕ) (free : List Holding) (r s : Holding) (x : IsInstan
 
 pub instant_one : InstantIsOne
 instant_one quantum q free o p (inl x) (inl y) =
-    x.1.2 ∙ ap (λ (z : Holding). Some z.range.base) (same_newest quantum (rounded quantum q.size) free x.1.0 y.1.0 x.1.1 y.1.1) ∙ sym y.1.2
+    x.1.2 ∙ ap (λ (z : Holding). Some z.range.base) (same_newest quantum (rounding_of quantum q.size) free x.1.0 y.1.0 x.1.1 y.1.1) ∙ sym y.1.2
 instant_one quantum q free o p (inl x) (inr y) =
     absurd (let i = x.1.1 in y.0 x.0 x.1.0 i.list (i.index, i.within, i.here x.1.0) i.on_list i.large)
 instant_one quantum q free o p (inr x) (inl y) =
@@ -111,7 +111,7 @@ module _ (old new other : ArenaState) (q : Request) (t s : Tag) (sound : IsSound
 
   pub same_carve : (t ≡ s) × (new ≡ other)
   same_carve = (
-    x.segment ∙ ap (direct old.id) same_piece ∙ sym y.segment,
+    x.segment ∙ ap (direct_tag old.id) same_piece ∙ sym y.segment,
     x.carves.after ∙ ap (λ (r : Holding). after_carve old r t.holding) same_range ∙ ap (after_carve old y.carves.range) same_piece ∙ sym y.carves.after,
   )
 

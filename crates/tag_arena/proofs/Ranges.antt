@@ -9,7 +9,7 @@ use Rattle.std.specs.FinMap.{FinMap, get, insert, remove, gets}
 use Rattle.deed_core.specs.Holding.{Holding, Apart}
 use Rattle.deed_core.specs.Extent.{Covers}
 use Rattle.tag_arena.specs.Layout.{Holds, IsPartOf, IsAllocated}
-use Rattle.tag_arena.specs.Calls.{between, part, surrounds}
+use Rattle.tag_arena.specs.Calls.{rest_between, part, surrounds}
 use Rattle.tag_arena.proofs.Members.{Contains-head, Contains-cases, Contains-nil}
 
 -- two ranges are apart or share a unit
@@ -57,12 +57,12 @@ one_between : (b : Bool) (r x : Holding) → Contains (cond b (r ∷ []) []) x �
 one_between true r x h = (refl, sym (⊎_elim (λ e. e) (λ later. absurd (Contains-nil x later)) (Contains-cases r x [] h)))
 one_between false r x h = absurd (Contains-nil x h)
 
-pub between_is : (r : Holding) (low high : ℕ) (x : Holding) → Contains (between r low high) x → (low < high) × (x ≡ part r low (high - low))
+pub between_is : (r : Holding) (low high : ℕ) (x : Holding) → Contains (rest_between r low high) x → (low < high) × (x ≡ part r low (high - low))
 between_is r low high x h =
     let one = one_between (nat_lt low high) (part r low (high - low)) x h in
     (ltb-true low high one.0, one.1)
 
-pub between_has : (r : Holding) (low high : ℕ) → low < high → Contains (between r low high) (part r low (high - low))
+pub between_has : (r : Holding) (low high : ℕ) → low < high → Contains (rest_between r low high) (part r low (high - low))
 between_has r low high lt =
     let P : Bool → Type 0 = λ b. Contains (cond b (part r low (high - low) ∷ []) []) (part r low (high - low)) in
     subst P (sym (lt-ltb low high lt)) (Contains-head (part r low (high - low)) [])

@@ -16,7 +16,7 @@ use Rattle.deed_core.specs.declared.segments.Route.TheVariants.{Direct}
 use Rattle.deed_core.specs.Covering.{covers, covers_held, covering_held}
 use Rattle.tag_arena.specs.Layout.{IsPartOf, IsEdgedRun, IsLongestRun}
 use Rattle.tag_arena.specs.ArenaState.{ArenaState, spans_of, layout_of, OnQuantum, IsDivided, IsSound}
-use Rattle.tag_arena.specs.Calls.{surrounds, without, without_span, after_free, after_return, Frees}
+use Rattle.tag_arena.specs.Calls.{surrounds, ranges_without, without_span, after_free, after_return, Frees}
 use Rattle.tag_arena.specs.Neighbors.{IsBeside, Merges, TakesLeft, TakesRight}
 use Rattle.tag_arena.proofs.Members.{All-from_members, filter_one}
 use Rattle.tag_arena.proofs.Ranges.{apart_or_share, same_where_shared, Any-member}
@@ -250,7 +250,7 @@ module _ (a : ArenaState) (piece s : Holding) (lies : LiesIn a piece s) where
       imported_is = sym (filter_one (λ t. not (nat_eq t.holding.range.base merged.range.base)) a.imported k within
           (λ d. let e : (get_or a.imported k d).holding.range.base ≡ merged.range.base = ap (λ (y : Holding). y.range.base) (here d) in grind (arith, nat_tests)) differs)
 
-      new_is : without merged (after_free a piece merged).free ≡ new
+      new_is : ranges_without merged (after_free a piece merged).free ≡ new
       new_is =
           let whole = freed_sound.whole in
           let rest : List Holding = filter (λ x. not (surrounds merged x)) a.free in

@@ -4,7 +4,7 @@ use Rattle.std.proofs.lemmas.Bool.{cases_lt}
 use Rattle.std.proofs.lemmas.List.Elements.{All-contains}
 use Rattle.deed_core.specs.Extent.{IsRange, end_of}
 use Rattle.deed_core.specs.Holding.{Holding, Apart}
-use Rattle.deed_core.specs.Request.{rounded}
+use Rattle.deed_core.specs.Request.{rounding_of}
 use Rattle.deed_core.specs.declared.requests.Request.{Request}
 use Rattle.tag_arena.specs.Place.{IsLeast, Serves, ServesIn}
 use Rattle.tag_arena.proofs.Ranges.{apart_or_share, same_where_shared, Any-member, member-Any}
@@ -42,11 +42,11 @@ module _ (free : List Holding) (ranges : All (λ r. IsRange r.range) free) (apar
 
   module _ (quantum : ℕ) (q : Request) (start : ℕ) where
     -- a range that serves has as many units
-    roomy : (r : Holding) (b : ℕ) → ServesIn quantum q r b → r.range.len < rounded quantum q.size → ⊥
+    roomy : (r : Holding) (b : ℕ) → ServesIn quantum q r b → r.range.len < rounding_of quantum q.size → ⊥
     roomy r b serves short = let from = serves.from in let to = serves.to in omega (arith, from, to, short)
 
     -- ranges passed by from `from` on to one
-    module _ (from : ℕ) (range : Holding) (among : Contains free range) (below : NoneBelow quantum q free start from) (light : (r : Holding) → Contains free r → from ≤ r.range.base → r.range.base < range.range.base → r.range.len < rounded quantum q.size) where
+    module _ (from : ℕ) (range : Holding) (among : Contains free range) (below : NoneBelow quantum q free start from) (light : (r : Holding) → Contains free r → from ≤ r.range.base → r.range.base < range.range.base → r.range.len < rounding_of quantum q.size) where
       none_before : NoneBelow quantum q free start range.range.base
       none_before r b h lt serves past =
           ⊎_elim (λ low. below r b h low serves past) (λ high. roomy r b serves (light r h high lt)) (cases_lt r.range.base from)
@@ -73,7 +73,7 @@ module _ (free : List Holding) (ranges : All (λ r. IsRange r.range) free) (apar
             (cases_lt r.range.base range.range.base),
       )
 
-    pub earliest_none : (from : ℕ) → NoneBelow quantum q free start from → ((r : Holding) → Contains free r → from ≤ r.range.base → r.range.len < rounded quantum q.size) → IsEarliest quantum q free start None
+    pub earliest_none : (from : ℕ) → NoneBelow quantum q free start from → ((r : Holding) → Contains free r → from ≤ r.range.base → r.range.len < rounding_of quantum q.size) → IsEarliest quantum q free start None
     earliest_none from below light n h =
         let w = h.0 in
         let r = w.1 in
@@ -82,13 +82,13 @@ module _ (free : List Holding) (ranges : All (λ r. IsRange r.range) free) (apar
         ⊎_elim (λ low. below r n among_r low there h.1) (λ high. roomy r n there (light r among_r high)) (cases_lt r.range.base from)
 
     -- what begins below the last that begins at the start or below ends below the start
-    pub below_last : (range : Holding) → 0 < rounded quantum q.size → IsLastBy start free (Some range) → NoneBelow quantum q free start range.range.base
+    pub below_last : (range : Holding) → 0 < rounding_of quantum q.size → IsLastBy start free (Some range) → NoneBelow quantum q free start range.range.base
     below_last range some last r b h lt serves past =
         let e = ends_before r range h last.0 lt in
         let to = serves.to in
         omega (arith, e, to, last.1, past, some)
 
-    pub by_last : (range : Holding) → 0 < rounded quantum q.size → IsLastBy start free (Some range) → ((b : ℕ) → ServesIn quantum q range b → start ≤ b → ⊥) → NoneBelow quantum q free start (start + 1)
+    pub by_last : (range : Holding) → 0 < rounding_of quantum q.size → IsLastBy start free (Some range) → ((b : ℕ) → ServesIn quantum q range b → start ≤ b → ⊥) → NoneBelow quantum q free start (start + 1)
     by_last range some last none r b h lt serves past =
         ⊎_elim (λ low. below_last range some last r b h low serves past)
         (λ high. let le = last.2 r h (omega (arith, lt)) in let same = same_begin r range h last.0 (omega (arith, high, le)) in none b (subst (λ x. ServesIn quantum q x b) same serves) past)

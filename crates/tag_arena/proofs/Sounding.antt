@@ -20,7 +20,7 @@ use Rattle.deed_core.specs.declared.segments.Route.TheVariants.{Direct}
 use Rattle.tag_arena.specs.declared.policies.Policy.{Policy}
 use Rattle.tag_arena.specs.Layout.{Holds, IsPartOf, IsEdgedRun}
 use Rattle.tag_arena.specs.ArenaState.{ArenaState, spans_of, layout_of, ranges_of, OnQuantum, IsDivided, IsSound, empty_arena}
-use Rattle.tag_arena.specs.Calls.{rests, surrounds, without, without_span, after_carve, after_add, after_import, after_free, after_return, after_remove, IsClear}
+use Rattle.tag_arena.specs.Calls.{rests, surrounds, ranges_without, without_span, after_carve, after_add, after_import, after_free, after_return, after_remove, IsClear}
 use Rattle.tag_arena.proofs.Members.{All-from_members, Contains-nil, Contains-from_filter, filter_one}
 use Rattle.tag_arena.proofs.Ranges.{not_both, surrounds-true, true-surrounds, get_same, get_other, Any-member, holds_part}
 use Rattle.tag_arena.proofs.Carving.{whole_after_carve, no_tag, new_cases}
@@ -248,11 +248,11 @@ module _ (a : ArenaState) (sound : IsDivided a) (piece merged : Holding) (at : f
   }
 
 -- one member less, however the ranges are weighed
-pub loses_without : (xs : List Holding) → ((x : Holding) → Contains xs x → 0 < x.range.len) → AllPairs Apart xs → (r : Holding) → Contains xs r → Loses xs (without r xs) r
+pub loses_without : (xs : List Holding) → ((x : Holding) → Contains xs x → 0 < x.range.len) → AllPairs Apart xs → (r : Holding) → Contains xs r → Loses xs (ranges_without r xs) r
 loses_without xs some apart r in-r f =
     let here : (d : Holding) → get_or xs in-r.0 d ≡ r = λ d. get_or_default xs in-r.0 d r in-r.1 ∙ in-r.2 in
     let out : sum_by f (remove xs in-r.0) + f (get_or xs in-r.0 r) ≡ sum_by f xs = sum_by-remove f xs in-r.0 r in-r.1 in
-    let same : sum_by f (remove xs in-r.0) ≡ sum_by f (without r xs) = ap (sum_by f) (without-remove xs some apart r in-r in-r.0 in-r.1 here) in
+    let same : sum_by f (remove xs in-r.0) ≡ sum_by f (ranges_without r xs) = ap (sum_by f) (without-remove xs some apart r in-r in-r.0 in-r.1 here) in
     let at : f (get_or xs in-r.0 r) ≡ f r = ap f in-r.2 in
     omega (arith, out, same, at)
 
@@ -262,9 +262,9 @@ module _ (a : ArenaState) (sound : IsDivided a) (h : Holding) (in-h : Contains (
   free_some x in-x = (sound.whole.runs x in-x).run.some
 
   module _ (owned : List Holding) (imported : List Tag) (less : IsWithout h (spans_of a) (owned ++ map (λ t. t.holding) imported)) (counts : Loses (spans_of a) (owned ++ map (λ t. t.holding) imported) h) (routes : All (λ t. t.route ≡ Direct) imported) where
-    sound_less : IsDivided (record a { owned = owned; imported = imported; free = without h a.free })
+    sound_less : IsDivided (record a { owned = owned; imported = imported; free = ranges_without h a.free })
     sound_less = record {
-      whole = whole_after_remove (layout_of a) sound.whole h in-h free-h (owned ++ map (λ t. t.holding) imported) (without h a.free) less (without_is a.free free_some sound.whole.free_apart h free-h);
+      whole = whole_after_remove (layout_of a) sound.whole h in-h free-h (owned ++ map (λ t. t.holding) imported) (ranges_without h a.free) less (without_is a.free free_some sound.whole.free_apart h free-h);
       covers = λ u. omega (arith, sound.covers u, counts (covers_held u), loses_without a.free free_some sound.whole.free_apart h free-h (covers_held u));
       power = sound.power;
       spans = All-from_members (λ s. IsRange s.range) (owned ++ map (λ t. t.holding) imported) (λ s in-s. All-contains (λ s. IsRange s.range) (spans_of a) s sound.spans (less.kept s in-s));
@@ -285,16 +285,16 @@ module _ (a : ArenaState) (sound : IsDivided a) (h : Holding) (in-h : Contains (
   sources_some x in-x = span_some a sound x (Contains-append_right a.owned sources x in-x)
 
   pub sound_remove : Contains a.owned h → IsDivided (after_remove a h)
-  sound_remove in-owned = sound_less (without h a.owned) a.imported (first_without a.owned sources h (span_some a sound) sound.whole.spans_apart in-owned)
-      (λ f. omega (arith, sum_by-append f a.owned sources, sum_by-append f (without h a.owned) sources, loses_without a.owned owned_some (AllPairs-first Apart a.owned sources sound.whole.spans_apart) h in-owned f)) sound.routes
+  sound_remove in-owned = sound_less (ranges_without h a.owned) a.imported (first_without a.owned sources h (span_some a sound) sound.whole.spans_apart in-owned)
+      (λ f. omega (arith, sum_by-append f a.owned sources, sum_by-append f (ranges_without h a.owned) sources, loses_without a.owned owned_some (AllPairs-first Apart a.owned sources sound.whole.spans_apart) h in-owned f)) sound.routes
 
-  sources_without : map (λ t. t.holding) (without_span h a.imported) ≡ without h sources
+  sources_without : map (λ t. t.holding) (without_span h a.imported) ≡ ranges_without h sources
   sources_without = map-filter (λ t. t.holding) (λ x. not (nat_eq x.range.base h.range.base)) a.imported
 
   pub sound_return : Contains sources h → IsDivided (after_return a h)
   sound_return in-sources = sound_less a.owned (without_span h a.imported)
       (subst (λ (xs : List Holding). IsWithout h (spans_of a) (a.owned ++ xs)) (sym sources_without) (second_without a.owned sources h (span_some a sound) sound.whole.spans_apart in-sources))
       (λ f.
-      let same : sum_by f (map (λ t. t.holding) (without_span h a.imported)) ≡ sum_by f (without h sources) = ap (sum_by f) sources_without in
+      let same : sum_by f (map (λ t. t.holding) (without_span h a.imported)) ≡ sum_by f (ranges_without h sources) = ap (sum_by f) sources_without in
       omega (arith, same, sum_by-append f a.owned sources, sum_by-append f a.owned (map (λ t. t.holding) (without_span h a.imported)), loses_without sources sources_some (AllPairs-second Apart a.owned sources sound.whole.spans_apart) h in-sources f))
       (All-from_members (λ t. t.route ≡ Direct) (without_span h a.imported) (λ t in-t. All-contains (λ t. t.route ≡ Direct) a.imported t sound.routes (Contains-from_filter (λ t. not (nat_eq t.holding.range.base h.range.base)) a.imported t in-t).0))

@@ -5,7 +5,7 @@ use Rattle.std.proofs.lemmas.Bool.Decides.{nat_tests}
 use Rattle.std.proofs.lemmas.List.Elements.{All-contains, All-append, Contains-get_or, Contains-append_left, Contains-append_right, Contains-append_cases}
 use Rattle.std.proofs.lemmas.List.Kept.{AllPairs-filter, AllPairs-cons}
 use Rattle.deed_core.specs.Holding.{Holding, Apart}
-use Rattle.tag_arena.specs.Calls.{without}
+use Rattle.tag_arena.specs.Calls.{ranges_without}
 use Rattle.tag_arena.proofs.Members.{Contains-head, Contains-tail, Contains-cases, Contains-nil, Contains-filter, Contains-from_filter, AllPairs-append, AllPairs-head, AllPairs-tail, All-from_members, filter_one}
 use Rattle.tag_arena.proofs.Ranges.{not_both, same_where_shared}
 use Rattle.tag_arena.proofs.Removing.{IsWithout}
@@ -58,7 +58,7 @@ module _ (xs : List Holding) (some : (x : Holding) → Contains xs x → 0 < x.r
       let pr = some r in-r in
       same_where_shared xs x r x.range.base apart in-x in-r (omega arith, omega (arith, px)) (omega (arith, e), omega (arith, e, pr))
 
-  by_test : (x : Holding) → Contains xs x → (b : Bool) → not_at r x ≡ b → (x ≡ r) ⊎ Contains (without r xs) x
+  by_test : (x : Holding) → Contains xs x → (b : Bool) → not_at r x ≡ b → (x ≡ r) ⊎ Contains (ranges_without r xs) x
   by_test x in-x true e = inr (Contains-filter (not_at r) xs x in-x e)
   by_test x in-x false e = inl (same_base x in-x (grind (arith, nat_tests)))
 
@@ -67,7 +67,7 @@ module _ (xs : List Holding) (some : (x : Holding) → Contains xs x → 0 < x.r
       let base : x.range.base ≡ r.range.base = ap (λ (y : Holding). y.range.base) same in
       grind (arith, nat_tests)
 
-  pub without_is : IsWithout r xs (without r xs)
+  pub without_is : IsWithout r xs (ranges_without r xs)
   without_is = record {
     kept = λ x h. (Contains-from_filter (not_at r) xs x h).0;
     others = λ x h. by_test x h (not_at r x) refl;
@@ -91,19 +91,19 @@ module _ (xs : List Holding) (some : (x : Holding) → Contains xs x → 0 < x.r
     differs : (x : Holding) → 0 < x.range.len → Apart x r → not_at r x ≡ true
     differs x px h = ⊎_elim (λ le. let pr = some r in-r in grind (arith, nat_tests)) (λ le. let pr = some r in-r in grind (arith, nat_tests)) h
 
-    pub without-remove : remove xs at ≡ without r xs
+    pub without-remove : remove xs at ≡ ranges_without r xs
     without-remove = sym (filter_one (not_at r) xs at within (λ d. let e : (get_or xs at d).range.base ≡ r.range.base = ap (λ (y : Holding). y.range.base) (here d) in grind (arith, nat_tests))
         (λ j d lt ne. differs (get_or xs j d) (some (get_or xs j d) (Contains-get_or xs j d lt)) (apart_there j d lt ne)))
 
 -- the first part without one of its members
-pub first_without : (xs ys : List Holding) (r : Holding) → ((x : Holding) → Contains (xs ++ ys) x → 0 < x.range.len) → AllPairs Apart (xs ++ ys) → Contains xs r → IsWithout r (xs ++ ys) (without r xs ++ ys)
+pub first_without : (xs ys : List Holding) (r : Holding) → ((x : Holding) → Contains (xs ++ ys) x → 0 < x.range.len) → AllPairs Apart (xs ++ ys) → Contains xs r → IsWithout r (xs ++ ys) (ranges_without r xs ++ ys)
 first_without xs ys r some apart in-r =
     let w = without_is xs (λ x h. some x (Contains-append_left xs ys x h)) (AllPairs-first Apart xs ys apart) r in-r in
     record {
-      kept = λ x h. ⊎_elim (λ l. Contains-append_left xs ys x (w.kept x l)) (λ g. Contains-append_right xs ys x g) (Contains-append_cases (without r xs) ys x h);
-      others = λ x h. ⊎_elim (λ l. ⊎_elim inl (λ k. inr (Contains-append_left (without r xs) ys x k)) (w.others x l)) (λ g. inr (Contains-append_right (without r xs) ys x g)) (Contains-append_cases xs ys x h);
-      gone = λ x h e. ⊎_elim (λ l. w.gone x l e) (λ g. both r x in-r g (some r (Contains-append_left xs ys r in-r)) e) (Contains-append_cases (without r xs) ys x h);
-      apart = AllPairs-append Apart (without r xs) ys w.apart (AllPairs-second Apart xs ys apart) (λ x y in-x in-y. AllPairs-cross Apart xs ys apart x y (w.kept x in-x) in-y);
+      kept = λ x h. ⊎_elim (λ l. Contains-append_left xs ys x (w.kept x l)) (λ g. Contains-append_right xs ys x g) (Contains-append_cases (ranges_without r xs) ys x h);
+      others = λ x h. ⊎_elim (λ l. ⊎_elim inl (λ k. inr (Contains-append_left (ranges_without r xs) ys x k)) (w.others x l)) (λ g. inr (Contains-append_right (ranges_without r xs) ys x g)) (Contains-append_cases xs ys x h);
+      gone = λ x h e. ⊎_elim (λ l. w.gone x l e) (λ g. both r x in-r g (some r (Contains-append_left xs ys r in-r)) e) (Contains-append_cases (ranges_without r xs) ys x h);
+      apart = AllPairs-append Apart (ranges_without r xs) ys w.apart (AllPairs-second Apart xs ys apart) (λ x y in-x in-y. AllPairs-cross Apart xs ys apart x y (w.kept x in-x) in-y);
     }
   where
     both : (r x : Holding) → Contains xs r → Contains ys x → 0 < r.range.len → x ≡ r → ⊥
@@ -112,14 +112,14 @@ first_without xs ys r some apart in-r =
         not_both r r r.range.base h (omega arith, omega (arith, pr)) (omega arith, omega (arith, pr))
 
 -- and the second
-pub second_without : (xs ys : List Holding) (r : Holding) → ((x : Holding) → Contains (xs ++ ys) x → 0 < x.range.len) → AllPairs Apart (xs ++ ys) → Contains ys r → IsWithout r (xs ++ ys) (xs ++ without r ys)
+pub second_without : (xs ys : List Holding) (r : Holding) → ((x : Holding) → Contains (xs ++ ys) x → 0 < x.range.len) → AllPairs Apart (xs ++ ys) → Contains ys r → IsWithout r (xs ++ ys) (xs ++ ranges_without r ys)
 second_without xs ys r some apart in-r =
     let w = without_is ys (λ x h. some x (Contains-append_right xs ys x h)) (AllPairs-second Apart xs ys apart) r in-r in
     record {
-      kept = λ x h. ⊎_elim (λ l. Contains-append_left xs ys x l) (λ g. Contains-append_right xs ys x (w.kept x g)) (Contains-append_cases xs (without r ys) x h);
-      others = λ x h. ⊎_elim (λ l. inr (Contains-append_left xs (without r ys) x l)) (λ g. ⊎_elim inl (λ k. inr (Contains-append_right xs (without r ys) x k)) (w.others x g)) (Contains-append_cases xs ys x h);
-      gone = λ x h e. ⊎_elim (λ l. both r x in-r l (some r (Contains-append_right xs ys r in-r)) e) (λ g. w.gone x g e) (Contains-append_cases xs (without r ys) x h);
-      apart = AllPairs-append Apart xs (without r ys) (AllPairs-first Apart xs ys apart) w.apart (λ x y in-x in-y. AllPairs-cross Apart xs ys apart x y in-x (w.kept y in-y));
+      kept = λ x h. ⊎_elim (λ l. Contains-append_left xs ys x l) (λ g. Contains-append_right xs ys x (w.kept x g)) (Contains-append_cases xs (ranges_without r ys) x h);
+      others = λ x h. ⊎_elim (λ l. inr (Contains-append_left xs (ranges_without r ys) x l)) (λ g. ⊎_elim inl (λ k. inr (Contains-append_right xs (ranges_without r ys) x k)) (w.others x g)) (Contains-append_cases xs ys x h);
+      gone = λ x h e. ⊎_elim (λ l. both r x in-r l (some r (Contains-append_right xs ys r in-r)) e) (λ g. w.gone x g e) (Contains-append_cases xs (ranges_without r ys) x h);
+      apart = AllPairs-append Apart xs (ranges_without r ys) (AllPairs-first Apart xs ys apart) w.apart (λ x y in-x in-y. AllPairs-cross Apart xs ys apart x y in-x (w.kept y in-y));
     }
   where
     both : (r x : Holding) → Contains ys r → Contains xs x → 0 < r.range.len → x ≡ r → ⊥

@@ -17,7 +17,7 @@ use Rattle.deed_core.specs.Weights.{one_at}
 use Rattle.deed_core.specs.Covering.{covers, covers_held, covering_held}
 use Rattle.deed_core.proofs.LawProofs.{covers_is, same_holding, counts_where_it_is}
 use Rattle.tag_arena.specs.Layout.{Holds, IsPartOf, IsAllocated, IsRun}
-use Rattle.tag_arena.specs.ArenaState.{ArenaState, spans_of, layout_of, ranges_of, tags_of, direct, IsSound}
+use Rattle.tag_arena.specs.ArenaState.{ArenaState, spans_of, layout_of, ranges_of, tags_of, direct_tag, IsSound}
 use Rattle.tag_arena.specs.Calls.{IsTagged}
 use Rattle.tag_arena.specs.Laws.{AllocatedStand, AllocatedCount, SpansOnce, FreeAreLongestRuns, GoesEmpty}
 use Rattle.tag_arena.proofs.Members.{Contains-head, Contains-tail, Contains-cases, Contains-nil, AllPairs-head, AllPairs-tail}
@@ -97,11 +97,11 @@ module _ (a : ArenaState) where
       subst (λ (x : Holding). get a.allocated x.range.base ≡ Some x) e.2 (ap (get a.allocated) base ∙ at)
 
   tagged_in : (t : Tag) → IsTagged a t → Contains (tags_of a) t
-  tagged_in t is = subst (Contains (tags_of a)) (sym (same_tag t (direct a.id t.holding) is.arena is.route refl)) (Contains-map (direct a.id) (ranges_of a.allocated) t.holding (standing_in t.holding.range.base t.holding is.stands))
+  tagged_in t is = subst (Contains (tags_of a)) (sym (same_tag t (direct_tag a.id t.holding) is.arena is.route refl)) (Contains-map (direct_tag a.id) (ranges_of a.allocated) t.holding (standing_in t.holding.range.base t.holding is.stands))
 
   in_tagged : IsSound a → (t : Tag) → Contains (tags_of a) t → IsTagged a t
   in_tagged sound t in-t =
-      let h = Contains-from_map (direct a.id) (ranges_of a.allocated) t in-t in
+      let h = Contains-from_map (direct_tag a.id) (ranges_of a.allocated) t in-t in
       let stands = in_stands sound h.0 h.1 in
       subst (IsTagged a) h.2 (record { arena = refl; route = refl; stands = stands })
 
@@ -143,8 +143,8 @@ spans_once a sound u = apart_once u (spans_of a) sound.divided.whole.spans_apart
 module _ (a : ArenaState) (sound : IsSound a) (none : tags_of a ≡ []) where
   none_allocated : (u : ℕ) → IsAllocated a.allocated u → ⊥
   none_allocated u al =
-      let in-t : Contains (tags_of a) (direct a.id al.1) = Contains-map (direct a.id) (ranges_of a.allocated) al.1 (standing_in a al.0 al.1 al.2) in
-      Contains-nil (direct a.id al.1) (subst (λ (ts : List Tag). Contains ts (direct a.id al.1)) none in-t)
+      let in-t : Contains (tags_of a) (direct_tag a.id al.1) = Contains-map (direct_tag a.id) (ranges_of a.allocated) al.1 (standing_in a al.0 al.1 al.2) in
+      Contains-nil (direct_tag a.id al.1) (subst (λ (ts : List Tag). Contains ts (direct_tag a.id al.1)) none in-t)
 
   span_run : (s : Holding) → Contains (spans_of a) s → IsRun (spans_of a) a.allocated s
   span_run s in-s = record {

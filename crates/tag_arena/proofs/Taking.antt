@@ -6,7 +6,7 @@ use Rattle.std.specs.List.{AllWithin}
 use Rattle.deed_core.specs.Holding.{Holding, Apart}
 use Rattle.deed_core.specs.Weights.{Loses}
 use Rattle.tag_arena.specs.ArenaState.{ArenaState, IsDivided, IsSound}
-use Rattle.tag_arena.specs.Calls.{without, after_remove, IsLowestWhole}
+use Rattle.tag_arena.specs.Calls.{ranges_without, after_remove, IsLowestWhole}
 use Rattle.tag_arena.proofs.SpanLists.{without-remove, AllPairs-first}
 use Rattle.tag_arena.proofs.Using.{removed_used}
 use Rattle.tag_arena.proofs.Sounding.{span_some, sound_remove}
@@ -45,15 +45,15 @@ module _ (a : ArenaState) (sound : IsDivided a) (w : WholeAt) (so : IsLowestAt a
     lowest = λ s in-s in-free. subst (λ (x : Holding). w.span.range.base ≤ x.range.base) in-s.2 (so.4 in-s.0 s (omega arith) in-s.1 (subst (Contains a.free) (sym in-s.2) in-free));
   }
 
-  owned_is : remove a.owned w.at ≡ without w.span a.owned
+  owned_is : remove a.owned w.at ≡ ranges_without w.span a.owned
   owned_is = without-remove a.owned (λ x in-x. span_some a sound x (Contains-append_left a.owned (map (λ t. t.holding) a.imported) x in-x)) (AllPairs-first Apart a.owned (map (λ t. t.holding) a.imported) sound.whole.spans_apart) w.span in_owned w.at so.0 so.1
 
-  free_is : remove a.free w.free_at ≡ without w.span a.free
+  free_is : remove a.free w.free_at ≡ ranges_without w.span a.free
   free_is = without-remove a.free (λ x in-x. (sound.whole.runs x in-x).run.some) sound.whole.free_apart w.span in_free w.free_at so.2 so.3
 
   pub removed_is : (owned free : List Holding) → owned ≡ remove a.owned w.at → free ≡ remove a.free w.free_at → record a { owned = owned; free = free } ≡ after_remove a w.span
   removed_is owned free o_is f_is =
-      ap (λ (xs : List Holding). record a { owned = xs; free = free }) (o_is ∙ owned_is) ∙ ap (λ (xs : List Holding). record a { owned = without w.span a.owned; free = xs }) (f_is ∙ free_is)
+      ap (λ (xs : List Holding). record a { owned = xs; free = free }) (o_is ∙ owned_is) ∙ ap (λ (xs : List Holding). record a { owned = ranges_without w.span a.owned; free = xs }) (f_is ∙ free_is)
 
   pub removed_sound : IsDivided (after_remove a w.span)
   removed_sound = sound_remove a sound w.span (Contains-append_left a.owned (map (λ t. t.holding) a.imported) w.span in_owned) in_free in_owned

@@ -9,7 +9,7 @@ use Rattle.deed_core.specs.Tag.{Tag}
 use Rattle.tag_arena.specs.declared.policies.Policy.{Policy}
 use Rattle.tag_arena.specs.Layout.{IsPartOf}
 use Rattle.tag_arena.specs.ArenaState.{ArenaState, spans_of, layout_of, OnQuantum, IsDivided, IsSound, empty_arena}
-use Rattle.tag_arena.specs.Calls.{surrounds, without, without_span, after_carve, after_add, after_import, after_free, after_return, after_remove, IsClear}
+use Rattle.tag_arena.specs.Calls.{surrounds, ranges_without, without_span, after_carve, after_add, after_import, after_free, after_return, after_remove, IsClear}
 use Rattle.tag_arena.proofs.Members.{All-from_members, Contains-from_filter}
 use Rattle.tag_arena.proofs.Ranges.{same_where_shared, true-surrounds, Any-member, holds_part, not_both}
 use Rattle.tag_arena.proofs.Carving.{new_cases}
@@ -95,5 +95,5 @@ module _ (a : ArenaState) (used : AreUsed a.free a.imported) (piece merged : Hol
 
 -- an owned span that is taken out
 pub removed_used : (a : ArenaState) → AreUsed a.free a.imported → (h : Holding) → AreUsed (after_remove a h).free a.imported
-removed_used a used h = All-from_members (λ t. ¬ Contains (without h a.free) t.holding) a.imported (λ t in-t here.
+removed_used a used h = All-from_members (λ t. ¬ Contains (ranges_without h a.free) t.holding) a.imported (λ t in-t here.
     All-contains (λ s. ¬ Contains a.free s.holding) a.imported t used in-t (Contains-from_filter (λ (x : Holding). not (nat_eq x.range.base h.range.base)) a.free t.holding here).0)

@@ -41,12 +41,12 @@ abbrev pub ranges_of : FinMap nat_cmp Holding → List Holding
 ranges_of allocated = map (λ e. e.1) (entries allocated)
 
 -- the segment that a carve of this arena hands out
-abbrev pub direct : ℕ → Holding → Tag
-direct id h = record { arena = id; route = Direct; holding = h }
+abbrev pub direct_tag : ℕ → Holding → Tag
+direct_tag id h = record { arena = id; route = Direct; holding = h }
 
 -- what is allocated, as the segments that were handed out for it
 abbrev pub tags_of : ArenaState → List Tag
-tags_of a = map (direct a.id) (ranges_of a.allocated)
+tags_of a = map (direct_tag a.id) (ranges_of a.allocated)
 
 -- what the arena's policy chooses for the request
 abbrev pub IsChosen : ArenaState → Request → Option ℕ → Type 0

@@ -6,7 +6,7 @@ use Rattle.std.specs.FinMap.{get, insert, remove}
 use Rattle.deed_core.specs.Extent.{Extent, Overlap, end_of}
 use Rattle.deed_core.specs.Holding.{Holding, piece}
 use Rattle.deed_core.specs.Tag.{Tag}
-use Rattle.deed_core.specs.Request.{IsGood, rounded}
+use Rattle.deed_core.specs.Request.{IsGood, rounding_of}
 use Rattle.deed_core.specs.declared.requests.Request.{Request}
 use Rattle.deed_core.specs.declared.segments.Route.TheVariants.{Direct}
 use Rattle.tag_arena.specs.declared.faults.ArenaFault.{ArenaFault}
@@ -21,13 +21,13 @@ abbrev pub part : Holding → ℕ → ℕ → Holding
 part r base len = piece r.root base len
 
 -- its units from `low` to `high`, if there are any
-abbrev pub between : Holding → ℕ → ℕ → List Holding
-between r low high = if nat_lt low high then part r low (high - low) ∷ [] else []
+abbrev pub rest_between : Holding → ℕ → ℕ → List Holding
+rest_between r low high = if nat_lt low high then part r low (high - low) ∷ [] else []
 
 -- what a carve leaves of the range that it is made in: the low rest, then the high rest
 abbrev pub rests : Holding → Holding → List Holding
-rests r piece = between r r.range.base piece.range.base
-    ++ between r (end_of piece.range) (end_of r.range)
+rests r piece = rest_between r r.range.base piece.range.base
+    ++ rest_between r (end_of piece.range) (end_of r.range)
 
 -- the units of the part lie in the range
 abbrev pub surrounds : Holding → Holding → Bool
@@ -35,8 +35,8 @@ surrounds r piece = nat_le r.range.base piece.range.base
     && nat_le (end_of piece.range) (end_of r.range)
 
 -- the ranges but the one that begins where this does
-abbrev pub without : Holding → List Holding → List Holding
-without h ranges = filter (λ x. not (x.range.base == h.range.base)) ranges
+abbrev pub ranges_without : Holding → List Holding → List Holding
+ranges_without h ranges = filter (λ x. not (x.range.base == h.range.base)) ranges
 
 -- the segments but that of the span which begins where this does
 abbrev pub without_span : Holding → List Tag → List Tag
@@ -96,7 +96,7 @@ first_units len h = part h h.range.base len
 
 -- as many as the request asks for
 abbrev pub first_of : ℕ → Request → Holding → Holding
-first_of quantum q h = first_units (rounded quantum q.size) h
+first_of quantum q h = first_units (rounding_of quantum q.size) h
 
 -- the span is added, and its first units carved
 abbrev pub after_import_carve : ArenaState → Request → Tag → ArenaState
@@ -118,7 +118,7 @@ after_free a piece merged = record a {
 
 -- an imported span that is wholly free is taken out
 abbrev pub after_return : ArenaState → Holding → ArenaState
-after_return a h = record a { imported = without_span h a.imported; free = without h a.free }
+after_return a h = record a { imported = without_span h a.imported; free = ranges_without h a.free }
 
 -- what a free leaves: the merged range, or, where it is a whole imported span, the arena
 -- without that span, which goes back
@@ -143,4 +143,4 @@ pub record IsLowestWhole (a : ArenaState) (h : Holding) : Type 0 where
 
 -- an owned span that is wholly free is taken out
 abbrev pub after_remove : ArenaState → Holding → ArenaState
-after_remove a h = record a { owned = without h a.owned; free = without h a.free }
+after_remove a h = record a { owned = ranges_without h a.owned; free = ranges_without h a.free }

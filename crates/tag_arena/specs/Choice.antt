@@ -3,7 +3,7 @@ use Rattle.std.specs.Prelude.{◌≡◌, ℕ, ◌+◌, ◌*◌, ◌^◌, ◌<◌
 use Rattle.std.specs.Prelude.{Some, None, length, MatchOption}
 use Rattle.std.specs.List.{AllWithin}
 use Rattle.deed_core.specs.Holding.{Holding}
-use Rattle.deed_core.specs.Request.{IsPlain, rounded}
+use Rattle.deed_core.specs.Request.{IsPlain, rounding_of}
 use Rattle.deed_core.specs.declared.requests.Request.{Request}
 use Rattle.tag_arena.specs.declared.policies.Policy.{Policy}
 use Rattle.tag_arena.specs.declared.policies.Policy.TheVariants.{Best, Next, Instant}
@@ -65,7 +65,7 @@ NoListServes quantum len free = (r : Holding) (i : ℕ) → Contains free r → 
 -- where there is no such list, the best choice
 abbrev pub IsInstantChoice : ℕ → Request → List Holding → Option ℕ → Type 0
 IsInstantChoice quantum q free choice =
-    let len = rounded quantum q.size in
+    let len = rounding_of quantum q.size in
     (IsPlain q
     × ((range : Holding) × IsInstant quantum len free range × (choice ≡ Some range.range.base)))
     ⊎ ((IsPlain q → NoListServes quantum len free) × IsBestChoice quantum q free choice)

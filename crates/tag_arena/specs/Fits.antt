@@ -2,7 +2,7 @@
 use Rattle.std.specs.Prelude.{ℕ, ◌<◌, ◌≤◌, List, All, Contains, Option, Some, None}
 use Rattle.deed_core.specs.Holding.{Holding}
 use Rattle.deed_core.specs.declared.requests.Request.{Request}
-use Rattle.deed_core.specs.Request.{IsPlain, rounded}
+use Rattle.deed_core.specs.Request.{IsPlain, rounding_of}
 use Rattle.tag_arena.specs.Choice.{IsInstant}
 use Rattle.tag_arena.specs.Place.{IsLeast, Serves, ServesIn}
 use Rattle.tag_arena.specs.declared.searches.Fit.{Fit}
@@ -26,7 +26,7 @@ IsLastBy base free (Some h) = Contains free h × (h.range.base ≤ base)
 -- it asks for no place, and a power-of-two list serves it
 abbrev pub ServedByList : ℕ → Request → List Holding → Type 0
 ServedByList quantum q free =
-    IsPlain q × ((range : Holding) × IsInstant quantum (rounded quantum q.size) free range)
+    IsPlain q × ((range : Holding) × IsInstant quantum (rounding_of quantum q.size) free range)
 
 -- the least address from `start` on that serves, or none where no such address does
 abbrev pub IsEarliest : ℕ → Request → List Holding → ℕ → Option ℕ → Type 0

@@ -13,7 +13,8 @@ use Rattle.tag_arena.specs.declared.policies.Policy.{Policy}
 use Rattle.tag_arena.specs.Place.{Serves}
 use Rattle.tag_arena.specs.Choice.{IsBestChoice, IsNextChoice, IsInstantChoice, IsChoice}
 use Rattle.tag_arena.specs.Layout.{FreeIsLongestRuns}
-use Rattle.tag_arena.specs.ArenaState.{ArenaState, spans_of, layout_of, ranges_of, tags_of, direct}
+use Rattle.tag_arena.specs.ArenaState.{ArenaState, spans_of, layout_of, ranges_of, tags_of}
+use Rattle.tag_arena.specs.ArenaState.{direct_tag}
 use Rattle.tag_arena.specs.ArenaState.{IsChosen, IsSound}
 use Rattle.tag_arena.specs.Calls.{IsTagged}
 use Rattle.tag_arena.specs.Outcomes.{CarveOf}
@@ -59,7 +60,7 @@ SpansOnce = (a : ArenaState) → IsSound a → (u : ℕ) → covering_held u (sp
 -- what is allocated weighs as its ranges do
 abbrev pub TagsWeigh : Type 0
 TagsWeigh = (a : ArenaState) (f : Tag → ℕ)
-    → sum_by f (tags_of a) ≡ sum_by (λ h. f (direct a.id h)) (ranges_of a.allocated)
+    → sum_by f (tags_of a) ≡ sum_by (λ h. f (direct_tag a.id h)) (ranges_of a.allocated)
 
 -- the segments that are allocated are those that stand at their bases
 abbrev pub AllocatedStand : Type 0

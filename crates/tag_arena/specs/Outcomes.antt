@@ -7,12 +7,12 @@ use Rattle.deed_core.specs.Covering.{covers, covers_tag, covering_held}
 use Rattle.deed_core.specs.Extent.{IsRange}
 use Rattle.deed_core.specs.Holding.{Holding}
 use Rattle.deed_core.specs.Tag.{Tag}
-use Rattle.deed_core.specs.Request.{Fits, IsGood, IsPlain, rounded}
+use Rattle.deed_core.specs.Request.{Fits, IsGood, IsPlain, rounding_of}
 use Rattle.deed_core.specs.declared.requests.Request.{Request}
 use Rattle.deed_core.specs.declared.segments.Route.TheVariants.{Direct}
 use Rattle.tag_arena.specs.declared.faults.ArenaFault.{ArenaFault}
 use Rattle.tag_arena.specs.declared.faults.SpanFault.{SpanFault}
-use Rattle.tag_arena.specs.ArenaState.{ArenaState, IsChosen, OnQuantum, direct, spans_of}
+use Rattle.tag_arena.specs.ArenaState.{ArenaState, IsChosen, OnQuantum, direct_tag, spans_of}
 use Rattle.tag_arena.specs.Calls.{Carves, RefusesCarve, IsClear, RefusesSpan, IsTagged, Frees}
 use Rattle.tag_arena.specs.Calls.{IsLowestWhole, after_add, after_import_carve, after_remove}
 use Rattle.tag_arena.specs.Calls.{first_of}
@@ -35,7 +35,7 @@ pub record Carved (old : ArenaState) (q : Request) (t : Tag) (new : ArenaState) 
   pub good : IsGood old.quantum q
   pub chosen : IsChosen old q (Some t.holding.range.base)
   pub fits : Fits old.quantum q t.holding.range.base t.holding.range.len
-  pub segment : t ≡ direct old.id t.holding
+  pub segment : t ≡ direct_tag old.id t.holding
   pub range : IsRange t.holding.range
   pub carves : Carves old new t.holding
 
@@ -50,14 +50,14 @@ pub record IsImportFor (quantum : ℕ) (span : Tag) (q : Request) : Type 0 where
   pub route : span.route ≡ Direct
   pub good : IsGood quantum q
   pub plain : IsPlain q
-  pub room : rounded quantum q.size ≤ span.holding.range.len
+  pub room : rounding_of quantum q.size ≤ span.holding.range.len
 
 -- the span was imported, and the segment has its first units, as many as the request asks for
 pub record Imported (old : ArenaState) (span : Tag) (q : Request) (t : Tag)
     (new : ArenaState) : Type 0 where
   pub clear : IsClear old span.holding.range
   pub aligned : OnQuantum old.quantum span.holding.range
-  pub segment : t ≡ direct old.id (first_of old.quantum q span.holding)
+  pub segment : t ≡ direct_tag old.id (first_of old.quantum q span.holding)
   pub range : IsRange t.holding.range
   pub after : new ≡ after_import_carve old q span
 

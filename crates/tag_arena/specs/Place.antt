@@ -3,7 +3,7 @@ use Rattle.std.specs.Prelude.{◌≡◌, ◌≢◌, ℕ, ◌+◌, ◌-◌, ◌/�
 use Rattle.std.specs.Prelude.{None}
 use Rattle.deed_core.specs.Extent.{end_of}
 use Rattle.deed_core.specs.Holding.{Holding}
-use Rattle.deed_core.specs.Request.{Fits, rounded}
+use Rattle.deed_core.specs.Request.{Fits, rounding_of}
 use Rattle.deed_core.specs.declared.requests.Request.{Request}
 
 -- m is the least number of which P holds, and there is none where P holds of none
@@ -30,9 +30,9 @@ pub record OnGrid (quantum : ℕ) (q : Request) (base : ℕ) : Type 0 where
 
 -- the range serves the request at base
 pub record ServesIn (quantum : ℕ) (q : Request) (r : Holding) (base : ℕ) : Type 0 where
-  pub fits : Fits quantum q base (rounded quantum q.size)
+  pub fits : Fits quantum q base (rounding_of quantum q.size)
   pub from : r.range.base ≤ base
-  pub to : base + rounded quantum q.size ≤ end_of r.range
+  pub to : base + rounding_of quantum q.size ≤ end_of r.range
 
 -- one of the free ranges serves the request at base
 abbrev pub Serves : ℕ → Request → List Holding → ℕ → Type 0

@@ -14,8 +14,8 @@ abbrev pub end_rank : SpanEntry → ℕ
 end_rank e = end_of e.span.range
 
 -- when it came
-abbrev pub came : SpanEntry → ℕ
-came e = e.since
+abbrev pub coming_of : SpanEntry → ℕ
+coming_of e = e.since
 
 -- the segment that goes back to where it came from
 abbrev pub tag_of : SpanEntry → Tag
@@ -24,11 +24,11 @@ tag_of e = record { arena = e.source; route = Direct; holding = e.span }
 -- the entries from the first that came on
 unfoldable pub by_coming : List SpanEntry → List SpanEntry
 by_coming [] = []
-by_coming (e ∷ rest) = insert (by_coming rest) (place_below came e.since (by_coming rest)) e
+by_coming (e ∷ rest) = insert (by_coming rest) (place_below coming_of e.since (by_coming rest)) e
 
 -- the ranges of segments
-abbrev pub held : List Tag → List Holding
-held tags = map (λ t. t.holding) tags
+abbrev pub tag_holdings : List Tag → List Holding
+tag_holdings tags = map (λ t. t.holding) tags
 
 -- what a contract sees of spans: each as a segment, in order of coming, and how many more may come
 pub record SpansState : Type 0 where
@@ -40,7 +40,7 @@ pub record SpansState : Type 0 where
 pub record AreSpans (items : List SpanEntry) (clock units : ℕ) : Type 0 where
   pub timed : (x y : SpanEntry) → Contains items x → Contains items y → x.since ≡ y.since → x ≡ y
   pub past : (x : SpanEntry) → Contains items x → x.since ≤ clock
-  pub counted : units ≡ units_held (held (map tag_of (by_coming items)))
+  pub counted : units ≡ units_held (tag_holdings (map tag_of (by_coming items)))
   pub bound : units ≤ clock * 2 ^ 62
 
 -- they are ranges, and no unit is in two

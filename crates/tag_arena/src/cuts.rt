@@ -2,8 +2,8 @@
 ghost use Rattle.std.specs.Prelude.{◌≡◌, ◌-◌, ◌<◌, ◌≤◌, IfOk, IfErr, IfNone, IfSome};
 ghost use Rattle.std.specs.Prelude.{◌+◌, option_to_list};
 ghost use Rattle.deed_core.specs.Extent.{end_of};
-ghost use Rattle.deed_core.specs.Holding.{joined, GoesOn};
-ghost use Rattle.tag_arena.specs.Calls.{part, between};
+ghost use Rattle.deed_core.specs.Holding.{join_of, GoesOn};
+ghost use Rattle.tag_arena.specs.Calls.{part, rest_between};
 ghost use Rattle.tag_arena.specs.Cuts.{IsCut};
 
 use deed_core::{Deed, Segment, Stored};
@@ -23,10 +23,10 @@ fn cut_low<D: Deed>(
     requires from { whole.range.base ≤ base }
     requires to { base < end_of whole.range }
     ensures low { IfOk result (λ parts.
-        option_to_list parts.0 ≡ between whole whole.range.base base) }
+        option_to_list parts.0 ≡ rest_between whole whole.range.base base) }
     ensures rest { IfOk result (λ parts. parts.1 ≡ part whole base (end_of whole.range - base)) }
     ensures joins { IfOk result (λ parts. IfSome parts.0 (λ low.
-        GoesOn low parts.1 × (joined low parts.1 ≡ whole))) }
+        GoesOn low parts.1 × (join_of low parts.1 ≡ whole))) }
     ensures alone { IfOk result (λ parts. IfNone parts.0 (parts.1 ≡ whole)) }
     ensures handed_back { IfErr result (λ same. same ≡ whole) }
 {
@@ -49,7 +49,7 @@ fn cut_high<D: Deed>(
     ensures piece { IfOk result (λ parts.
         parts.0 ≡ part whole whole.range.base (end - whole.range.base)) }
     ensures high { IfOk result (λ parts.
-        option_to_list parts.1 ≡ between whole end (end_of whole.range)) }
+        option_to_list parts.1 ≡ rest_between whole end (end_of whole.range)) }
     ensures handed_back { IfErr result (λ same. same ≡ whole) }
 {
     if whole.range().end() == end {
@@ -64,7 +64,7 @@ fn cut_high<D: Deed>(
 /// The two parts of a cut, together again.
 fn rejoin<D: Deed>(low: Option<Stored<D>>, rest: Stored<D>) -> Stored<D>
     requires { IfSome low (λ low. GoesOn low rest) }
-    ensures some { IfSome low (λ low. result ≡ joined low rest) }
+    ensures some { IfSome low (λ low. result ≡ join_of low rest) }
     ensures none { IfNone low (result ≡ rest) }
 {
     match low {
@@ -101,7 +101,7 @@ pub fn cut_first<D: Deed>(
     ensures piece { IfOk result (λ parts.
         parts.0 ≡ part segment.holding segment.holding.range.base len) }
     ensures high { let whole = segment.holding in IfOk result (λ parts.
-        option_to_list parts.1 ≡ between whole (whole.range.base + len) (end_of whole.range)) }
+        option_to_list parts.1 ≡ rest_between whole (whole.range.base + len) (end_of whole.range)) }
     ensures handed_back { IfErr result (λ same. same ≡ segment) }
 {
     let (arena, route, range) = (segment.arena(), segment.route(), segment.range());

@@ -2,7 +2,7 @@
 ghost use Rattle.std.specs.Prelude.{◌≡◌, ℕ, ◌+◌, ◌≤◌, ◌^◌, AllPairs, IfSome};
 ghost use Rattle.std.specs.Int.{IsPowerOfTwo};
 ghost use Rattle.deed_core.specs.Holding.{Apart};
-ghost use Rattle.deed_core.specs.Request.{IsGood, rounded};
+ghost use Rattle.deed_core.specs.Request.{IsGood, rounding_of};
 ghost use Rattle.tag_arena.specs.Choice.{IsNextChoice};
 ghost use Rattle.tag_arena.specs.FreeTags.{AreTags, ranges_by_age};
 ghost use Rattle.tag_arena.specs.Orders.{Mirrors};
@@ -29,7 +29,7 @@ fn earliest_behind<D: Deed>(
 ) -> Option<Fit>
     requires quantum { IsPowerOfTwo quantum }
     requires good { IsGood quantum request.now }
-    requires units { units ≡ rounded quantum request.now.size }
+    requires units { units ≡ rounding_of quantum request.now.size }
     requires start { start ≤ 2 ^ 62 }
     requires tags { (clock : ℕ) × AreTags clock slots.now.tags }
     requires mirrors { Mirrors Rising rising.now.items slots.now.tags }

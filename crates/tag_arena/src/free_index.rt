@@ -86,7 +86,7 @@ fn is_kept(policy: Policy, order: Order) -> bool
 /// An index with nothing in it, which is kept where the policy asks for it.
 fn index_in(alloc: Global, policy: Policy, order: Order) -> OrderedIndex
     ensures order { result.order ≡ order }
-    ensures kept { result.kept ≡ keeps policy order }
+    ensures is_kept { result.kept ≡ keeps policy order }
     ensures items { result.items ≡ [] }
     ensures room { result.room ≡ 0 }
 {
@@ -231,7 +231,7 @@ impl<D: Deed> FreeIndex<D> {
     /// The best range that serves the request, and its least address that does. Under `next` there
     /// is no index for it.
     pub fn best(&self, quantum: u64, request: &Request, probes: &mut Probes) -> Option<Fit>
-        requires kept { keeps self.now.policy Sizes ≡ true }
+        requires is_kept { keeps self.now.policy Sizes ≡ true }
         requires quantum { IsPowerOfTwo quantum }
         requires good { IsGood quantum request.now }
         ensures choice { IsBestChoice quantum request.now self.now.ranges (base_of result) }
@@ -244,7 +244,7 @@ impl<D: Deed> FreeIndex<D> {
     /// list whose every member has room, and else, or where there is no such list, the best. It is
     /// for `instant`, which alone has the lists.
     pub fn instant(&self, quantum: u64, request: &Request, probes: &mut Probes) -> Option<Fit>
-        requires kept { self.now.policy ≡ Instant }
+        requires is_kept { self.now.policy ≡ Instant }
         requires quantum { IsPowerOfTwo quantum }
         requires good { IsGood quantum request.now }
         requires aligned { All (λ r. r.range.base % quantum ≡ 0) self.now.ranges }
@@ -280,7 +280,7 @@ impl<D: Deed> FreeIndex<D> {
         request: &Request,
         probes: &mut Probes,
     ) -> Option<Fit>
-        requires kept { self.now.policy ≡ Next }
+        requires is_kept { self.now.policy ≡ Next }
         requires quantum { IsPowerOfTwo quantum }
         requires good { IsGood quantum request.now }
         requires rover { rover ≤ 2 ^ 62 }

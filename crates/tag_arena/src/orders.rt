@@ -78,7 +78,7 @@ impl Model for OrderedIndex {
 impl OrderedIndex {
     pub fn new(alloc: Global, order: Order, kept: bool) -> OrderedIndex
         ensures order { result.order ≡ order }
-        ensures kept { result.kept ≡ kept }
+        ensures is_kept { result.kept ≡ kept }
         ensures items { result.items ≡ [] }
         ensures room { result.room ≡ 0 }
     {

@@ -125,17 +125,23 @@ begins at 1 again.
 The options of a lease, each at most once and in this order (in another, the line is answered by
 error badline, and its N isn't used). A lease is the LEN units from BASE on, in one span; LEN is
 SIZE rounded up to whole quanta, and BASE a multiple of QUANTUM:
-  align A     BASE is a multiple of A
-  phase P     only after align A: BASE is P above a multiple of A
+  align A     BASE is a multiple of A, or P above one where phase P follows
+  phase P     with an align A before it, as said there
   nocross X   the lease lies between two neighbouring multiples of X, and may begin or end on them:
               with nocross 8 it may be the units 3 to 7, or 8 to 15, but not 6 to 9
   min L       BASE is at least L
   max H       the lease ends at H or before: unit H itself isn't in it
-Without an option, or where A, X or L is 0 or H is 2^62, there is no such condition. A lease with a
-condition gets units that are free in its arena: nothing is imported for it, and no cache is asked.
-A request is bad where a condition has an A or X that is no power of two or no multiple of QUANTUM;
-a P that isn't below A, as any above 0 with no align, or is no multiple of QUANTUM; an X below LEN;
-or an L that isn't below H. So it is where SIZE or H is 0. L and H need be no multiples of QUANTUM.
+Without an option, or where A, P, X or L is 0 or H is 2^62, there is no such condition: so phase 0
+may stand without align. A lease with a condition gets units that are free in its arena: nothing is
+imported for it, and no cache is asked.
+
+A request is bad where one of these is so:
+  SIZE or H is 0
+  A isn't 0, and is no power of two, or no multiple of QUANTUM
+  P isn't 0, and isn't below A (without align none is), or is no multiple of QUANTUM
+  X isn't 0, and is no power of two, no multiple of QUANTUM, or below LEN
+  L isn't below H, which is 2^62 without max
+L and H need be no multiples of QUANTUM.
 
 Answers to clients:
   welcome C I                   the hello is taken
@@ -152,7 +158,9 @@ Answers to clients:
   gap C I N V                   N is too high: the last request was V, and V + 1 is next
   again C I N                   out of memory, and nothing was done; send the line once more.
                                 N is 0 for a hello
-Each refused answer counts as the answer to its N; old, stale, gap, again and error don't.
+Each refused answer counts as the answer to its N; old, stale, gap, again and error don't. Where
+several are so, the first of these is the answer: old; stale, gap or the first answer to N; noarena;
+badrequest or notyours; nofit; leases. Wherever memory runs out on the way, it is again.
 
 Lines of operators, which are answered by error memory when out of memory:
   cpu N           the lines that follow go through the magazines of CPU N, from 0 to 63, and no more
@@ -170,18 +178,26 @@ Lines of operators, which are answered by error memory when out of memory:
   clients         for each client: client C I LAST LEASES, its last request and how many leases it
                   has
 
-A line that is none of these is answered by error and a word, and does nothing: toolong (above 255
-bytes), badline (a space too many, another byte, no line feed; too few words or too many, an option
-that is unknown, out of order, twice or without its number), word (no line begins so) or number (no
-number, or out of its range).
+A line that is none of these is answered by error and a word, and does nothing. The word is the
+first of these that is so:
+  toolong  there are more than 255 bytes
+  badline  there is a space too many, another byte, or no line feed
+  word     no line begins by its first word
+  badline  there are too few words or too many, one that is no name where a name stands, or an
+           option that is unknown, out of order, twice or without its number
+  number   a word isn't the number that stands there, or is out of its range
 
-A refused setup line ends the program with vmemd: line K: WORD, and nothing is written. WORD is
-toolong, badline, word or number where the line is no setup line as above; name where the name is
-taken; many above 32 arenas or 65536 spans of one; noarena where there is no such source, or no such
-root for a span; chain where the arena, its source, that one's source, and so on, would be a chain
-of more than 4 arenas; quantum where it is no power of two, or above the source's; cache where QMAX
-isn't as above, or is above a third of 2^62; or range where LEN is 0, or the span ends above 2^62,
-isn't of whole quanta or overlaps another of its arena.
+A refused setup line ends the program with vmemd: line K: WORD, and nothing is written. WORD is the
+first of these that is so:
+  toolong, badline, word or number where the line is no setup line, as above
+  name     the name is taken
+  many     it would be the 33rd arena, or the 65537th span of its root
+  noarena  there is no such source, or no such root for a span
+  chain    the arena, its source, that one's source, and so on, would be more than 4 arenas
+  quantum  it is no power of two, or above the source's
+  cache    QMAX isn't as above, or is above a third of 2^62
+  range    LEN is 0, or the span ends above 2^62, isn't of whole quanta or overlaps another of its
+           arena
 
 Example: the lines
   root m 0 64 1 best 0

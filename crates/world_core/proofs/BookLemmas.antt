@@ -30,7 +30,7 @@ use Rattle.lease_history.specs.Told.{reply_to}
 use Rattle.world_core.specs.declared.tasks.Task.{Task}
 use Rattle.world_core.specs.WorldState.{WorldState, arena_name}
 use Rattle.world_core.specs.IsWorld.{IsWorld}
-use Rattle.world_core.specs.Moves.{request_in, settled_reply, IsAnswered, IsTellable, HasTask, HasAllLeases, HasNoSuchLease, TaskGranted, TaskRefused, TaskReleased}
+use Rattle.world_core.specs.Moves.{demand_of, settled_reply, IsAnswered, IsTellable, HasTask, HasAllLeases, HasNoSuchLease, TaskGranted, TaskRefused, TaskReleased}
 use Rattle.world_core.specs.Events.{CanGrant, CanRelease, IsEnabled}
 use Rattle.world_core.specs.declared.events.WorldEvent.TheVariants as events
 
@@ -60,7 +60,7 @@ repeat_tellable w id r is again =
 
 -- the segment of a hand is leased
 pub grants : (w : WorldState) (cpu : ℕ) (id : RequestId) (lease : LeaseLine) (t u : Tag) (quantum : ℕ) (request : Request) (book : BookState) (receipt : ReceiptState) (told : KeptReply) (reply : Reply)
-    (hands : List (Option Tag)) (tasks : List (Option Task)) (entries : List Entry) (replies : List Reply) → CanGrant w cpu id lease t quantum → u ≡ t → request ≡ request_in lease
+    (hands : List (Option Tag)) (tasks : List (Option Task)) (entries : List Entry) (replies : List Reply) → CanGrant w cpu id lease t quantum → u ≡ t → request ≡ demand_of lease
     → IsGranted w.book book id u (record { quantum = quantum; request = request }) receipt → told ≡ receipt.reply → reply ≡ reply_to (arena_name w.names) id told
     → hands ≡ set w.hands cpu None → tasks ≡ set w.tasks cpu None
     → entries ≡ Settled id (Grant t (record { quantum = quantum; request = request })) ∷ w.entries → replies ≡ w.replies ++ reply ∷ []
@@ -123,7 +123,7 @@ refuses w cpu id op why book receipt hands tasks entries replies serves refused 
 -- a CPU that serves a lease can't grant a segment that doesn't fit it
 pub not_grantable : (w : WorldState) (cpu : ℕ) (id : RequestId) (lease : LeaseLine) (t : Tag) (quantum : ℕ) → IsWorld w → HasTask w cpu id (ops.Lease lease)
     → slice_get w.hands cpu ≡ Some (Some t) → t.arena < length w.names → HasQuantum w.stock t.arena quantum
-    → ¬ Fits quantum (request_in lease) t.holding.range.base t.holding.range.len → ¬ IsEnabled (events.Settles cpu) w
+    → ¬ Fits quantum (demand_of lease) t.holding.range.base t.holding.range.len → ¬ IsEnabled (events.Settles cpu) w
 not_grantable w cpu id lease t quantum is serves holds within grid misfits (other, line, u, q, can) =
     let tasks : Some (Some (record { id = other; op = ops.Lease line })) ≡ Some (Some (record { id = id; op = ops.Lease lease })) = sym can.serves ∙ serves in
     let hands : Some (Some u) ≡ Some (Some t) = sym can.holds ∙ holds in
@@ -134,9 +134,9 @@ not_grantable w cpu id lease t quantum is serves holds within grid misfits (othe
     let space = slice_get_some w.stock t.arena (let e = is.named in omega arith) in
     let there : slice_get w.stock u.arena ≡ Some space.0 = ap (λ (x : Tag). slice_get w.stock x.arena) tags ∙ space.1 in
     let quanta : q ≡ quantum = sym (can.grid space.0 there) ∙ grid space.0 space.1 in
-    let a : Fits quantum (request_in line) u.holding.range.base u.holding.range.len = subst (λ (n : ℕ). Fits n (request_in line) u.holding.range.base u.holding.range.len) quanta can.fits in
-    let b : Fits quantum (request_in lease) u.holding.range.base u.holding.range.len = subst (λ (l : LeaseLine). Fits quantum (request_in l) u.holding.range.base u.holding.range.len) lines a in
-    misfits (subst (λ (x : Tag). Fits quantum (request_in lease) x.holding.range.base x.holding.range.len) tags b)
+    let a : Fits quantum (demand_of line) u.holding.range.base u.holding.range.len = subst (λ (n : ℕ). Fits n (demand_of line) u.holding.range.base u.holding.range.len) quanta can.fits in
+    let b : Fits quantum (demand_of lease) u.holding.range.base u.holding.range.len = subst (λ (l : LeaseLine). Fits quantum (demand_of l) u.holding.range.base u.holding.range.len) lines a in
+    misfits (subst (λ (x : Tag). Fits quantum (demand_of lease) x.holding.range.base x.holding.range.len) tags b)
 
 -- a lease comes back into a hand
 pub releases : (w : WorldState) (cpu : ℕ) (id : RequestId) (line : ReleaseLine) (arena : ℕ) (t : Tag) (book : BookState) (receipt : ReceiptState)

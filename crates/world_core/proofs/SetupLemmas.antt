@@ -17,7 +17,7 @@ use Rattle.lease_proto.specs.declared.replies.Reply.{Reply}
 use Rattle.lease_book.specs.Account.{Account}
 use Rattle.lease_book.specs.Entry.{Entry}
 use Rattle.lease_book.specs.BookState.{BookState, IsHistory, leased_by, leased_segments}
-use Rattle.lease_client.specs.ClientState.{ClientState, silent}
+use Rattle.lease_client.specs.ClientState.{ClientState, silent_client}
 use Rattle.lease_history.specs.Known.{IsKnown}
 use Rattle.lease_history.proofs.LawProofs.{clients_begin_known}
 use Rattle.world_core.specs.declared.tasks.Task.{Task}
@@ -97,7 +97,7 @@ cpu_added w hands tasks failed is h t =
     })
 
 pub client_added : (w : WorldState) (id : ℕ) (clients : List ClientState) → IsWorld w → w.entries ≡ [] → w.requests ≡ [] → Each (λ c. c.id ≢ id) w.clients → IsClient id
-    → clients ≡ w.clients ++ silent id ∷ [] → IsWorld (record w { clients = clients })
+    → clients ≡ w.clients ++ silent_client id ∷ [] → IsWorld (record w { clients = clients })
 client_added w id clients is entries requests fresh range c =
     let cs = sym c in
     subst IsWorld (λ j. record w { clients = cs j }) (record {
@@ -107,11 +107,11 @@ client_added w id clients is entries requests fresh range c =
       names = is.names;
       book = is.book;
       due = is.due;
-      ids = distinct_more (λ (x : ClientState). x.id) w.clients (silent id) is.ids fresh;
-      known = each_pushed (IsKnown (arena_name w.names) w.entries) w.clients (silent id) is.known
-          (subst (λ (es : List Entry). IsKnown (arena_name w.names) es (silent id)) (sym entries) (clients_begin_known (arena_name w.names) id range));
-      said = each_pushed (λ x. Each (MayBeSaid x) w.requests) w.clients (silent id) is.said
-          (subst (λ (ls : List Line). Each (MayBeSaid (silent id)) ls) (sym requests) (nothing (MayBeSaid (silent id))));
+      ids = distinct_more (λ (x : ClientState). x.id) w.clients (silent_client id) is.ids fresh;
+      known = each_pushed (IsKnown (arena_name w.names) w.entries) w.clients (silent_client id) is.known
+          (subst (λ (es : List Entry). IsKnown (arena_name w.names) es (silent_client id)) (sym entries) (clients_begin_known (arena_name w.names) id range));
+      said = each_pushed (λ x. Each (MayBeSaid x) w.requests) w.clients (silent_client id) is.said
+          (subst (λ (ls : List Line). Each (MayBeSaid (silent_client id)) ls) (sym requests) (nothing (MayBeSaid (silent_client id))));
       tasks = is.tasks;
       own = is.own;
       shaped = is.shaped;

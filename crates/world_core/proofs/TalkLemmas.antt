@@ -12,7 +12,7 @@ use Rattle.lease_proto.specs.declared.replies.Reply.TheVariants as replies
 use Rattle.lease_proto.specs.Requests.{client_of}
 use Rattle.lease_book.specs.Entry.{Entry, Settled, Hello, Swept, Grant, Return, Refuse}
 use Rattle.lease_client.specs.ClientState.{ClientState, IsSound, IsOwn}
-use Rattle.lease_client.specs.Replies.{accepts, after_accept, got}
+use Rattle.lease_client.specs.Replies.{accepts, after_accept, after_reply}
 use Rattle.lease_client.specs.Calls.{IsRestarted, IsSent, IsResent}
 use Rattle.lease_client.specs.Runs.{Move, Restart, Send, Get, TakesMove}
 use Rattle.lease_client.proofs.LawProofs.{moves_in_turn, sent_stays_sent}
@@ -47,7 +47,7 @@ accepted_keeps (replies.Gap t) c = (refl, refl)
 accepted_keeps (replies.Again a) c = (refl, refl)
 accepted_keeps (replies.Error e) c = (refl, refl)
 
-got_keeps : (reply : Reply) (c : ClientState) → ((got reply c).id ≡ c.id) × ((got reply c).incarnation ≡ c.incarnation)
+got_keeps : (reply : Reply) (c : ClientState) → ((after_reply reply c).id ≡ c.id) × ((after_reply reply c).incarnation ≡ c.incarnation)
 got_keeps reply c = by (accepts reply c)
   where
     by : (b : Bool) → ((if b then after_accept reply c else c).id ≡ c.id) × ((if b then after_accept reply c else c).incarnation ≡ c.incarnation)
@@ -155,7 +155,7 @@ hear_keeps index which w v is m =
     let known = is.known index c m.at in
     let keeps = got_keeps m.reply c in
     let same = keeps.1 in
-    let next = got m.reply c in
+    let next = after_reply m.reply c in
     let goes : Goes (arena_name w.names) w.entries c next = record {
       id = keeps.0;
       known = replies_keep_known (arena_name w.names) w.entries c m.reply known (is.told which m.reply m.sent);

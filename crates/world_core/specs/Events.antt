@@ -40,7 +40,7 @@ use Rattle.world_core.specs.declared.events.EventFault.TheVariants as faults
 use Rattle.world_core.specs.declared.events.Outcome.TheVariants.{Done, NotEnabled, NoMemory}
 use Rattle.world_core.specs.declared.events.Outcome.TheVariants.{Refused}
 use Rattle.world_core.specs.WorldState.{WorldState, IsAmong}
-use Rattle.world_core.specs.Moves.{request_in, HasTask, IsNamed, ClientSays, ClientHears}
+use Rattle.world_core.specs.Moves.{demand_of, HasTask, IsNamed, ClientSays, ClientHears}
 use Rattle.world_core.specs.Moves.{HelloTaken, HelloRefused, AnsweredAtOnce, TaskTaken, TaskGranted}
 use Rattle.world_core.specs.Moves.{TaskRefused, TaskReleased, TaskAnswered, TaskGivenUp, HandMoves}
 use Rattle.world_core.specs.Moves.{PartMoves, LeaseSwept, IsOwnFor, TakesHand, RoundPopped}
@@ -54,7 +54,7 @@ pub record CanGrant (w : WorldState) (cpu : ℕ) (id : RequestId) (lease : Lease
   pub holds : slice_get w.hands cpu ≡ Some (Some segment)
   pub home : IsNamed w segment.arena lease.arena
   pub grid : HasQuantum w.stock segment.arena quantum
-  pub fits : Fits quantum (request_in lease)
+  pub fits : Fits quantum (demand_of lease)
       segment.holding.range.base segment.holding.range.len
 
 -- what a CPU with an empty hand would release: the arena has a name here

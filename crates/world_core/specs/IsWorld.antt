@@ -22,7 +22,7 @@ use Rattle.lease_history.specs.Known.{IsKnown}
 use Rattle.lease_history.specs.Told.{MayTell}
 use Rattle.world_core.specs.declared.tasks.Task.{Task}
 use Rattle.world_core.specs.WorldState.{WorldState, arena_name, outside_of, Each, IsAmong}
-use Rattle.world_core.specs.Moves.{request_in}
+use Rattle.world_core.specs.Moves.{demand_of}
 
 -- no other index has the name of an arena
 abbrev pub AreNames : List (List ℕ) → Type 0
@@ -36,7 +36,7 @@ pub record IsAsked (stock : List SpaceState) (names : List (List ℕ)) (requests
   pub within : segment.arena < length names
   pub home : arena_name names segment.arena ≡ lease.arena
   pub quantum : HasQuantum stock segment.arena terms.quantum
-  pub request : terms.request ≡ request_in lease
+  pub request : terms.request ≡ demand_of lease
 
 -- so is each grant among the entries
 abbrev pub IsDue : List SpaceState → List (List ℕ) → List Line → Entry → Type 0

@@ -36,13 +36,13 @@ use Rattle.lease_book.specs.declared.books.TheConstants.{MOST_LEASES}
 use Rattle.lease_book.specs.Calls.{IsGranted, IsRefused, IsReleased, IsSwept}
 use Rattle.lease_book.specs.declared.receipts.Terms.{Terms}
 use Rattle.lease_client.specs.ClientState.{ClientState}
-use Rattle.lease_client.specs.Replies.{got}
+use Rattle.lease_client.specs.Replies.{after_reply}
 use Rattle.lease_history.specs.Told.{reply_to}
 use Rattle.world_core.specs.WorldState.{WorldState, arena_name}
 
 -- what a lease asks of its arena
-abbrev pub request_in : LeaseLine → Request
-request_in l = record {
+abbrev pub demand_of : LeaseLine → Request
+demand_of l = record {
   size = l.size;
   align = l.options.align;
   phase = l.options.phase;
@@ -71,8 +71,8 @@ abbrev pub settled_reply : WorldState → RequestId → Settlement → Reply
 settled_reply w id s = reply_to (arena_name w.names) id (kept_reply_of s)
 
 -- out of memory: nothing is settled
-abbrev pub again_to : RequestId → Reply
-again_to id = replies.Again
+abbrev pub again_of : RequestId → Reply
+again_of id = replies.Again
     (record { client = id.client; incarnation = id.incarnation; number = id.number })
 
 -- the client at the index says the line, and goes on so
@@ -94,7 +94,7 @@ pub record ClientHears (index which : ℕ) (old new : WorldState) : Type 0 where
   pub reply : Reply
   pub at : slice_get old.clients index ≡ Some client
   pub sent : slice_get old.replies which ≡ Some reply
-  pub after : new ≡ record old { clients = set old.clients index (got reply client) }
+  pub after : new ≡ record old { clients = set old.clients index (after_reply reply client) }
 
 -- a hello that was sent comes, and is taken
 pub record HelloTaken (which : ℕ) (old new : WorldState) : Type 0 where
@@ -163,7 +163,7 @@ pub record TaskGranted (cpu : ℕ) (old new : WorldState) : Type 0 where
   pub holds : slice_get old.hands cpu ≡ Some (Some segment)
   pub home : IsNamed old segment.arena lease.arena
   pub quantum : HasQuantum old.stock segment.arena terms.quantum
-  pub request : terms.request ≡ request_in lease
+  pub request : terms.request ≡ demand_of lease
   pub granted : IsGranted old.book book id segment terms receipt
   pub after : new ≡ record old {
     hands = set old.hands cpu None;
@@ -238,7 +238,7 @@ TaskAnswered cpu old new = TaskEnded cpu (IsAnswered old) old new
 
 -- out of memory
 abbrev pub TaskGivenUp : ℕ → (old new : WorldState) → Type 0
-TaskGivenUp cpu old new = TaskEnded cpu (λ id reply. reply ≡ again_to id) old new
+TaskGivenUp cpu old new = TaskEnded cpu (λ id reply. reply ≡ again_of id) old new
 
 -- a part is given what the CPU's hand has, and the hand has what it answers
 pub record HandMoves (cpu : ℕ) (given answered : Option Tag)

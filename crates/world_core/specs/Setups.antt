@@ -49,7 +49,7 @@ own_owners (suc cpus) arenas =
 -- its own, and with magazines of three rounds; so many CPUs, with nothing in hand and nothing to
 -- serve, none of them failed, each with own caches for all quantum caches; a book to which nothing
 -- happened; and no client and no message
-pub record IsSetUp (setup : SetupState) (cpus : ℕ) (w : WorldState) : Type 0 where
+pub record IsNewWorld (setup : SetupState) (cpus : ℕ) (w : WorldState) : Type 0 where
   pub stock : IsSetUpFrom setup (numbered_deeds 0 setup.spans) 3 w.stock
   pub names : w.names ≡ map (λ x. x.name) setup.arenas
   pub hands : w.hands ≡ replicate cpus None

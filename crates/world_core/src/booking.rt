@@ -14,7 +14,7 @@ ghost use Rattle.world_core.specs.Events.{IsReady};
 use crate::events::{Outcome, WorldEvent};
 use crate::hands::{put, take};
 use crate::logs::{Label, Logged};
-use crate::names::{reply_to, request_in};
+use crate::names::{demand_of, reply_to};
 use crate::parts::WorldParts;
 use crate::tasks::Task;
 use deed_core::Deed;
@@ -71,7 +71,7 @@ impl<D: Deed> WorldParts<D> {
             return None;
         }
         let quantum = self.quantum(arena);
-        if !request_in(&lease).fits(quantum, &segment.range()) {
+        if !demand_of(&lease).fits(quantum, &segment.range()) {
             return None;
         }
         Some(Grant {
@@ -224,7 +224,7 @@ impl<D: Deed> WorldParts<D> {
             return Outcome::NoMemory;
         };
         let id = grant.id;
-        let request = request_in(&grant.lease);
+        let request = demand_of(&grant.lease);
         let segment = take(&mut self.hands, cpu);
         let arena = segment.arena();
         match self

@@ -2,7 +2,7 @@
 ghost use Rattle.std.specs.Prelude.{◌≡◌, ◌+◌, ◌<◌, ◌≤◌, ◌++◌, All, true, map, IfOk, None};
 ghost use Rattle.std.specs.Prelude.{replicate, false, vec_len, vec_capacity};
 ghost use Rattle.lease_terms.specs.Names.{is_name};
-ghost use Rattle.world_core.specs.Setups.{IsSetUp};
+ghost use Rattle.world_core.specs.Setups.{IsNewWorld};
 
 use crate::own_setups::{FIRST_MAGAZINE_SIZE, OwnCaches};
 use crate::parts::WorldParts;
@@ -21,7 +21,7 @@ impl World<PlainDeed> {
     pub fn new(alloc: Global, setup: &Setup, cpus: usize) -> Result<World<PlainDeed>, AllocError>
         requires some { 0 < cpus }
         requires few { cpus ≤ 64 }
-        ensures { IfOk result (IsSetUp setup.now cpus) }
+        ensures { IfOk result (IsNewWorld setup.now cpus) }
     {
         let names = names_of(alloc, setup.tree())?;
         let mut tasks = Vec::with_capacity(alloc, cpus)?;

@@ -2,7 +2,7 @@
 ghost use Rattle.std.specs.Prelude.{◌≡◌, ◌≢◌, ◌<◌, ℕ, length, IfSome, IfNone};
 ghost use Rattle.lease_history.specs.Told.{reply_to};
 ghost use Rattle.world_core.specs.WorldState.{arena_name};
-ghost use Rattle.world_core.specs.Moves.{IsTellable, request_in as spec_request_in};
+ghost use Rattle.world_core.specs.Moves.{IsTellable, demand_of as spec_demand_of};
 
 use deed_core::Request;
 use lease_book::KeptReply;
@@ -42,8 +42,8 @@ pub(crate) fn reply_to(names: &[Name], id: RequestId, kept: KeptReply) -> Reply
 }
 
 /// What a lease asks of its arena.
-pub(crate) fn request_in(lease: &LeaseLine) -> Request
-    ensures { result ≡ spec_request_in lease.now }
+pub(crate) fn demand_of(lease: &LeaseLine) -> Request
+    ensures { result ≡ spec_demand_of lease.now }
 {
     Request {
         size: lease.size.get(),

@@ -3,7 +3,7 @@ ghost use Rattle.std.specs.Prelude.{◌≡◌, ◌≢◌, ◌≤◌, ◌^◌, []
 ghost use Rattle.std.specs.Prelude.{false};
 ghost use Rattle.stock.specs.Accounts.{Accounts};
 ghost use Rattle.lease_book.specs.BookState.{IsHistory};
-ghost use Rattle.lease_client.specs.ClientState.{silent};
+ghost use Rattle.lease_client.specs.ClientState.{silent_client};
 ghost use Rattle.world_core.specs.WorldState.{Each};
 ghost use Rattle.world_core.specs.IsWorld.{AreNames};
 
@@ -92,7 +92,7 @@ impl<D: Deed> World<D> {
         requires requests { self.old.requests ≡ [] }
         requires fresh { Each (λ c. c.id ≢ id) self.old.clients }
         ensures added { OnOk result (self.new ≡ record self.old {
-          clients = self.old.clients ++ silent id ∷ [];
+          clients = self.old.clients ++ silent_client id ∷ [];
         }) }
         ensures unchanged { OnErr result (self.new ≡ self.old) }
     {

@@ -12,7 +12,8 @@ ghost use Rattle.tag_arena.specs.Laws.{IsAnsweredExactly};
 ghost use Rattle.tag_arena.specs.Outcomes.{KeepsSetup, AddSpanOf, CarveOf, IsImportFor, ImportOf};
 ghost use Rattle.tag_arena.specs.Outcomes.{ImportCovers, FreeOf, RemoveOf};
 
-use deed_core::{Deed, PlainDeed, Range, Request, Route, Segment};
+use crate::arenas::check_import;
+use deed_core::{Deed, PlainDeed, Range, Request, Segment};
 use std::process::Abort;
 use tag_arena::{Arena, ArenaFault, Policy, SpanFault, allocated_laws, arena_laws, serving_laws};
 
@@ -141,12 +142,7 @@ fn first_of(
     imported: Segment<PlainDeed>,
     request: &Request,
 ) -> Segment<PlainDeed> {
-    assert!(rt; imported.route() == Route::Direct);
-    let quantum = child.quantum();
-    assert!(rt; request.is_good(quantum));
-    assert!(rt; !request.is_constrained());
-    let len = request.units(quantum).expect(rt, "a length");
-    assert!(rt; len <= imported.range().len());
+    check_import(rt, child.quantum(), &imported, request);
     match import(child, imported, request) {
         Ok(first) => first,
         Err(_) => panic!(rt; "memory"),

@@ -1,9 +1,10 @@
 //! The two bodies of one arena, and each call of both.
-use deed_core::{Deed, PlainDeed, Range, Request, Route, Segment, is_power_of_two};
+use crate::arenas::{check_import, span_back};
+use deed_core::{Deed, PlainDeed, Range, Request, Segment, is_power_of_two};
 use plain_arena::PlainArena;
 use std::alloc::AllocGlobal;
 use std::process::Abort;
-use tag_arena::{Arena, ArenaFault, Policy, SpanFault};
+use tag_arena::{Arena, ArenaFault, Policy};
 
 /// A segment of each body, of the same units.
 pub(super) struct Twins {
@@ -23,22 +24,6 @@ impl Twins {
 
     pub(super) fn range(&self) -> Range {
         self.fast.range()
-    }
-}
-
-/// Why a span isn't taken.
-#[derive(Clone, Copy, PartialEq, Eq, Debug)]
-pub(super) enum Why {
-    Overlaps,
-    NotAligned,
-    NoMemory,
-}
-
-fn told<S>(fault: SpanFault<S>) -> (S, Why) {
-    match fault {
-        SpanFault::Overlaps(span) => (span, Why::Overlaps),
-        SpanFault::NotAligned(span) => (span, Why::NotAligned),
-        SpanFault::NoMemory(span) => (span, Why::NoMemory),
     }
 }
 
@@ -77,8 +62,8 @@ impl Bodies {
         match (fast, plain) {
             (Ok(()), Ok(())) => {}
             (Err(fast), Err(plain)) => {
-                let (one, fast_why) = told(fast);
-                let (other, plain_why) = told(plain);
+                let (one, fast_why) = span_back(fast);
+                let (other, plain_why) = span_back(plain);
                 assert_eq!(rt; (one.close(), fast_why), (other.close(), plain_why));
             }
             _ => panic!(rt; "one body takes the span"),
@@ -120,19 +105,15 @@ impl Bodies {
         request: &Request,
     ) -> Result<Twins, Twins> {
         let Twins { fast, plain } = span;
-        let quantum = self.fast.quantum();
-        assert!(rt; quantum == self.plain.quantum());
-        assert!(rt; fast.route() == Route::Direct && plain.route() == Route::Direct);
-        assert!(rt; request.is_good(quantum) && !request.is_constrained());
-        let len = request.units(quantum).expect(rt, "a length");
-        assert!(rt; len <= fast.range().len() && len <= plain.range().len());
+        check_import(rt, self.fast.quantum(), &fast, request);
+        check_import(rt, self.plain.quantum(), &plain, request);
         let fast = self.fast.add_span_and_carve(fast, request);
         let plain = self.plain.add_span_and_carve(plain, request);
         match (fast, plain) {
             (Ok(fast), Ok(plain)) => Ok(Twins::new(rt, fast, plain)),
             (Err(fast), Err(plain)) => {
-                let (fast, fast_why) = told(fast);
-                let (plain, plain_why) = told(plain);
+                let (fast, fast_why) = span_back(fast);
+                let (plain, plain_why) = span_back(plain);
                 assert_eq!(rt; fast_why, plain_why);
                 Err(Twins::new(rt, fast, plain))
             }

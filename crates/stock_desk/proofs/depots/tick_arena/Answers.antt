@@ -2,7 +2,7 @@ use Rattle.std.proofs.Common.{◌≡◌, ◌<◌, ◌∙◌, ap, set, length, ar
 use Rattle.deed_core.proofs.LawProofs.{slice_get_one}
 use Rattle.magazine_layer.specs.Depots.{after_tick}
 use Rattle.stock.specs.Spaces.{SpaceState}
-use Rattle.lease_machine.specs.Operators.{on_depots}
+use Rattle.lease_machine.specs.Operators.{with_depots_by}
 use Rattle.stock_desk.proofs.DepotRows.{row_start, row_has, row_whole, row_more}
 use Rattle.stock_desk.proofs.depots.tick_arena.Goals as goal
 
@@ -24,5 +24,5 @@ returns c =
     let all : c.loop-cache.cache ≡ length c.loop-cache.invariant.space.caches = omega (arith, count) in
     record {
       ticked = λ s at. row_whole after_tick c.args.arena c.loop-cache.cache c.args.stock.now c.loop-cache.stock c.loop-cache.invariant all
-          ∙ ap (λ (x : SpaceState). set c.args.stock.now c.args.arena (on_depots after_tick x)) (slice_get_one c.args.stock.now c.args.arena c.loop-cache.invariant.space s c.loop-cache.invariant.at at);
+          ∙ ap (λ (x : SpaceState). set c.args.stock.now c.args.arena (with_depots_by after_tick x)) (slice_get_one c.args.stock.now c.args.arena c.loop-cache.invariant.space s c.loop-cache.invariant.at at);
     }

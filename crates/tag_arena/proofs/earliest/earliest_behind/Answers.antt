@@ -1,6 +1,6 @@
 use Rattle.std.proofs.Common.{ℕ, ◌+◌, ◌*◌, ◌^◌, ◌<◌, ◌≤◌, Contains, sym, ap, ◌∙◌, subst, arith}
 use Rattle.deed_core.specs.Holding.{Holding}
-use Rattle.deed_core.specs.Request.{rounded}
+use Rattle.deed_core.specs.Request.{rounding_of}
 use Rattle.tag_arena.specs.Place.{ServesIn}
 use Rattle.tag_arena.specs.FreeTags.{ranges_by_age}
 use Rattle.tag_arena.specs.Orders.{rank_of, entry_of}
@@ -46,7 +46,7 @@ returns-in-Some-least_in-clause-least g c =
     let among = range_is_free tags e.slot t at in
     let all = all_ranges c.requires.tags.0 tags are in
     let units = c.requires.units in
-    let light : (r : Holding) → Contains free r → from ≤ r.range.base → r.range.base < t.range.range.base → r.range.len < rounded c.args.quantum q.size = λ r h low lt. (let short = light_between c.args.units from c.requires.tags.0 items tags m rises are e t first is r h low lt in omega (arith, short, units)) in
+    let light : (r : Holding) → Contains free r → from ≤ r.range.base → r.range.base < t.range.range.base → r.range.len < rounding_of c.args.quantum q.size = λ r h low lt. (let short = light_between c.args.units from c.requires.tags.0 items tags m rises are e t first is r h low lt in omega (arith, short, units)) in
     let found = c.in-Some-least_in.ensures in
     let base = c.in-Some-least_in.base in
     let serves = subst (λ h. ServesIn c.args.quantum q h base) range found.0.0 in
@@ -83,7 +83,7 @@ loop-entry-smaller g c =
     let among = range_is_free tags e.slot t at in
     let all = all_ranges c.requires.tags.0 tags are in
     let units = c.requires.units in
-    let light : (r : Holding) → Contains free r → from ≤ r.range.base → r.range.base < t.range.range.base → r.range.len < rounded c.args.quantum q.size = λ r h low lt. (let short = light_between c.args.units from c.requires.tags.0 items tags m rises are e t first is r h low lt in omega (arith, short, units)) in
+    let light : (r : Holding) → Contains free r → from ≤ r.range.base → r.range.base < t.range.range.base → r.range.len < rounding_of c.args.quantum q.size = λ r h low lt. (let short = light_between c.args.units from c.requires.tags.0 items tags m rises are e t first is r h low lt in omega (arith, short, units)) in
     let base = c.base-from.ensures.value ∙ ap (λ h. h.range.base) range in
     let rank = ap rank_of is in
     let top = (are e.slot t at).range.below in
@@ -110,7 +110,7 @@ loop-entry-preserved g c =
     let among = range_is_free tags e.slot t at in
     let all = all_ranges c.requires.tags.0 tags are in
     let units = c.requires.units in
-    let light : (r : Holding) → Contains free r → from ≤ r.range.base → r.range.base < t.range.range.base → r.range.len < rounded c.args.quantum q.size = λ r h low lt. (let short = light_between c.args.units from c.requires.tags.0 items tags m rises are e t first is r h low lt in omega (arith, short, units)) in
+    let light : (r : Holding) → Contains free r → from ≤ r.range.base → r.range.base < t.range.range.base → r.range.len < rounding_of c.args.quantum q.size = λ r h low lt. (let short = light_between c.args.units from c.requires.tags.0 items tags m rises are e t first is r h low lt in omega (arith, short, units)) in
     let base = c.base-from.ensures.value ∙ ap (λ h. h.range.base) range in
     none_with free all c.requires.apart c.args.quantum q c.args.start from t.range among c.loop-entry.invariant light
     (λ b s past. c.in_default-least_in.ensures b (subst (λ h. ServesIn c.args.quantum q h b) (sym range) s, past))

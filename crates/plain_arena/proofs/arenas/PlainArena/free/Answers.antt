@@ -9,7 +9,7 @@ use Rattle.deed_core.specs.Tag.{Tag}
 use Rattle.deed_core.specs.Covering.{covers, covers_tag, covering_held}
 use Rattle.deed_core.specs.Weights.{Loses}
 use Rattle.tag_arena.specs.Layout.{IsPartOf}
-use Rattle.tag_arena.specs.ArenaState.{ArenaState, spans_of, ranges_of, direct}
+use Rattle.tag_arena.specs.ArenaState.{ArenaState, spans_of, ranges_of, direct_tag}
 use Rattle.tag_arena.specs.Calls.{after_free, IsTagged}
 use Rattle.tag_arena.specs.Neighbors.{Merges}
 use Rattle.tag_arena.proofs.Allocations.{len_less, loses_remove}
@@ -119,7 +119,7 @@ returns-in_default g c =
     let none = none_said _ _ _ merged c.deref-3.ensures.value c.held_range_of.ensures.value c.in_default.ensures in
     let tagged : IsTagged c.args.self.now c.args.segment = search rules in
     let id : c.self.inside.id ≡ c.args.self.now.id = ap (λ (s : ArenaState). s.id) c.self.view_is in
-    let segment : c.args.segment ≡ direct c.args.self.now.id c.args.segment.holding = same_tag _ _ tagged.arena tagged.route refl in
+    let segment : c.args.segment ≡ direct_tag c.args.self.now.id c.args.segment.holding = same_tag _ _ tagged.arena tagged.route refl in
     let loses : Loses (ranges_of c.self.inside.tags) (ranges_of c.remove.new.self) p = subst (λ m. Loses (ranges_of c.self.inside.tags) (ranges_of m) p) (sym c.remove.ensures) (loses_remove c.self.inside.tags p.range.base p at) in record {
       freed = record {
         mine = tagged;
@@ -166,7 +166,7 @@ returns g c =
     let back : c.new-2.result ≡ import = c.new-2.ensures ∙ same_tag _ import c.source.ensures (sym route) (c.into_deed-2.ensures ∙ sym holding) in
     let tagged : IsTagged c.args.self.now c.args.segment = search rules in
     let id : c.self.inside.id ≡ c.args.self.now.id = ap (λ (s : ArenaState). s.id) c.self.view_is in
-    let segment : c.args.segment ≡ direct c.args.self.now.id c.args.segment.holding = same_tag _ _ tagged.arena tagged.route refl in
+    let segment : c.args.segment ≡ direct_tag c.args.self.now.id c.args.segment.holding = same_tag _ _ tagged.arena tagged.route refl in
     let owned : c.self.inside.owned.items ≡ c.args.self.now.owned = ap (λ (s : ArenaState). s.owned) c.self.view_is in
     let returned : (f : Tag → ℕ) → sum_by f c.args.self.now.imported ≡ sum_by f c.remove-import.new.self.items + sum_by f (option_to_list (Some c.new-2.result)) =
     (λ f.

@@ -4,7 +4,7 @@ use Rattle.deed_core.specs.Extent.{IsRange, end_of}
 use Rattle.deed_core.specs.Holding.{Holding}
 use Rattle.deed_core.specs.Tag.{Tag}
 use Rattle.tag_arena.specs.ArenaState.{ArenaState, IsSound}
-use Rattle.tag_arena.specs.Calls.{part, between, after_import, after_carve, first_units}
+use Rattle.tag_arena.specs.Calls.{part, rest_between, after_import, after_carve, first_units}
 use Rattle.tag_arena.proofs.Allocations.{len_more}
 use Rattle.tag_arena.proofs.Granting.{as_it_was, undone, stands}
 use Rattle.tag_arena.proofs.Importing.{imports, import_absent, import_is, import_sound}
@@ -72,8 +72,8 @@ invariant_of-self-2 g c =
     let base_of : c.base.result ≡ t.holding.range.base = c.base.ensures.value ∙ ap (λ (h : Holding). h.range.base) whole_is in
     let piece_is = tagged_is _ (part t.holding t.holding.range.base n) _ _ c.new-first.ensures c.root-2.ensures (c.piece_of.ensures ∙ ap (λ (b : ℕ). record { base = b; len = n }) base_of) in
     let absent = import_absent a t n k in
-    let high_is : option_to_list c.in-Ok-cut_first.parts.1 ≡ between t.holding (t.holding.range.base + n) (end_of t.holding.range) = c.in-Ok-cut_first.ensures.high in
-    let free : c.push_rest.new.free.items ≡ a.free ++ between t.holding (t.holding.range.base + n) (end_of t.holding.range) = c.push_rest.ensures.items ∙ ap (λ (xs : List Holding). xs ++ option_to_list c.in-Ok-cut_first.parts.1) c.reserve_free.ensures.items ∙ ap (λ (xs : List Holding). a.free ++ xs) high_is in
+    let high_is : option_to_list c.in-Ok-cut_first.parts.1 ≡ rest_between t.holding (t.holding.range.base + n) (end_of t.holding.range) = c.in-Ok-cut_first.ensures.high in
+    let free : c.push_rest.new.free.items ≡ a.free ++ rest_between t.holding (t.holding.range.base + n) (end_of t.holding.range) = c.push_rest.ensures.items ∙ ap (λ (xs : List Holding). xs ++ option_to_list c.in-Ok-cut_first.parts.1) c.reserve_free.ensures.items ∙ ap (λ (xs : List Holding). a.free ++ xs) high_is in
     let import_new : c.new.result ≡ t = c.new.ensures ∙ same_tag _ t c.arena-source.ensures (sym c.requires.route) whole_is in
     let imported : c.push_reserved.new.self.items ≡ a.imported ++ t ∷ [] = c.push_reserved.ensures.items ∙ ap (λ (x : Tag). c.reserve.new.self.items ++ x ∷ []) import_new ∙ ap (λ (xs : List Tag). xs ++ t ∷ []) c.reserve.ensures.items in
     let tags : c.insert.new.self ≡ finmap.insert a.allocated t.holding.range.base (part t.holding t.holding.range.base n) = c.in-Ok-insert.ensures.ok ∙ ap (λ (h : Holding). finmap.insert c.self.inside.tags h.range.base h) piece_is in
@@ -95,8 +95,8 @@ returns-clause-carved g c =
     let base_of : c.base.result ≡ t.holding.range.base = c.base.ensures.value ∙ ap (λ (h : Holding). h.range.base) whole_is in
     let piece_is = tagged_is _ (part t.holding t.holding.range.base n) _ _ c.new-first.ensures c.root-2.ensures (c.piece_of.ensures ∙ ap (λ (b : ℕ). record { base = b; len = n }) base_of) in
     let absent = import_absent a t n k in
-    let high_is : option_to_list c.in-Ok-cut_first.parts.1 ≡ between t.holding (t.holding.range.base + n) (end_of t.holding.range) = c.in-Ok-cut_first.ensures.high in
-    let free : c.push_rest.new.free.items ≡ a.free ++ between t.holding (t.holding.range.base + n) (end_of t.holding.range) = c.push_rest.ensures.items ∙ ap (λ (xs : List Holding). xs ++ option_to_list c.in-Ok-cut_first.parts.1) c.reserve_free.ensures.items ∙ ap (λ (xs : List Holding). a.free ++ xs) high_is in
+    let high_is : option_to_list c.in-Ok-cut_first.parts.1 ≡ rest_between t.holding (t.holding.range.base + n) (end_of t.holding.range) = c.in-Ok-cut_first.ensures.high in
+    let free : c.push_rest.new.free.items ≡ a.free ++ rest_between t.holding (t.holding.range.base + n) (end_of t.holding.range) = c.push_rest.ensures.items ∙ ap (λ (xs : List Holding). xs ++ option_to_list c.in-Ok-cut_first.parts.1) c.reserve_free.ensures.items ∙ ap (λ (xs : List Holding). a.free ++ xs) high_is in
     let import_new : c.new.result ≡ t = c.new.ensures ∙ same_tag _ t c.arena-source.ensures (sym c.requires.route) whole_is in
     let imported : c.push_reserved.new.self.items ≡ a.imported ++ t ∷ [] = c.push_reserved.ensures.items ∙ ap (λ (x : Tag). c.reserve.new.self.items ++ x ∷ []) import_new ∙ ap (λ (xs : List Tag). xs ++ t ∷ []) c.reserve.ensures.items in
     let tags : c.insert.new.self ≡ finmap.insert a.allocated t.holding.range.base (part t.holding t.holding.range.base n) = c.in-Ok-insert.ensures.ok ∙ ap (λ (h : Holding). finmap.insert c.self.inside.tags h.range.base h) piece_is in

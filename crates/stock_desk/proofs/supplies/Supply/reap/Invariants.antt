@@ -1,5 +1,5 @@
 use Rattle.std.proofs.Common.{[]}
-use Rattle.local_calls.specs.Looks.{findable_in}
+use Rattle.local_calls.specs.Looks.{finds_in_spaces}
 use Rattle.lease_book.specs.BookState.{BookState}
 use Rattle.lease_machine.specs.Held.{IsHeld}
 use Rattle.stock_desk.specs.Supplies.{picture_with}
@@ -10,4 +10,4 @@ abbrev pub invariant-turns : goal.invariant-turns
 invariant-turns l = (b : BookState) → IsHeld [] (picture_with b l.fn.self) → IsReapedSoFar l.units (picture_with b l.fn.self) (picture_with b l.self)
 
 abbrev pub decreases-turns : goal.decreases-turns
-decreases-turns l = findable_in l.self.spaces
+decreases-turns l = finds_in_spaces l.self.spaces

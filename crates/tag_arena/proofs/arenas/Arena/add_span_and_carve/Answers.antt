@@ -1,7 +1,7 @@
 use Rattle.std.proofs.Common.{◌≡◌, ℕ, ◌%◌, ◌<◌, refl, subst, ap, ◌∙◌, arith}
 use Rattle.deed_core.specs.Extent.{Extent, IsRange}
 use Rattle.deed_core.specs.Tag.{Tag}
-use Rattle.deed_core.specs.Request.{rounded}
+use Rattle.deed_core.specs.Request.{rounding_of}
 use Rattle.deed_core.specs.declared.requests.Request.{Request}
 use Rattle.tag_arena.specs.ArenaState.{ArenaState, IsSound, OnQuantum}
 use Rattle.tag_arena.specs.Calls.{IsClear}
@@ -18,7 +18,7 @@ import-requires-clause-whole g c =
     let t : Tag = c.args.span in
     let n : ℕ = c.unwrap-len.result in
     let sound : IsSound old = subst IsSound c.self.view_is c.self.invariant.0 in
-    let n_is : n ≡ rounded old.quantum q.size = units_are c.units.result _ _ n c.units.ensures c.unwrap-len.ensures ∙ ap (λ (s : ArenaState). rounded s.quantum q.size) c.self.view_is in
+    let n_is : n ≡ rounding_of old.quantum q.size = units_are c.units.result _ _ n c.units.ensures c.unwrap-len.ensures ∙ ap (λ (s : ArenaState). rounding_of s.quantum q.size) c.self.view_is in
     ap (λ k. k % old.quantum) n_is ∙ rounded_multiple q.size old.quantum (power_some old.quantum sound.divided.power)
 
 pub returns-in-Ok-clause-sound : goal.returns-in-Ok-clause-sound
@@ -28,7 +28,7 @@ returns-in-Ok-clause-sound g c =
     let t : Tag = c.args.span in
     let n : ℕ = c.unwrap-len.result in
     let sound : IsSound old = subst IsSound c.self.view_is c.self.invariant.0 in
-    let n_is : n ≡ rounded old.quantum q.size = units_are c.units.result _ _ n c.units.ensures c.unwrap-len.ensures ∙ ap (λ (s : ArenaState). rounded s.quantum q.size) c.self.view_is in
+    let n_is : n ≡ rounding_of old.quantum q.size = units_are c.units.result _ _ n c.units.ensures c.unwrap-len.ensures ∙ ap (λ (s : ArenaState). rounding_of s.quantum q.size) c.self.view_is in
     let range : IsRange t.holding.range = subst IsRange c.range-range.ensures.value c.range-range.ensures.range in
     let fits = subst (λ (e : Extent). IsClear old e × OnQuantum old.quantum e) c.range-range.ensures.value (c.if-has_overlap.ensures.clear, c.if-not-is_aligned.ensures.0 refl) in
     let some : 0 < n = omega (arith, n_is, rounded_some q.size old.quantum c.requires.span.good.size) in
@@ -43,7 +43,7 @@ returns-in-Ok-clause-gains g c =
     let t : Tag = c.args.span in
     let n : ℕ = c.unwrap-len.result in
     let sound : IsSound old = subst IsSound c.self.view_is c.self.invariant.0 in
-    let n_is : n ≡ rounded old.quantum q.size = units_are c.units.result _ _ n c.units.ensures c.unwrap-len.ensures ∙ ap (λ (s : ArenaState). rounded s.quantum q.size) c.self.view_is in
+    let n_is : n ≡ rounding_of old.quantum q.size = units_are c.units.result _ _ n c.units.ensures c.unwrap-len.ensures ∙ ap (λ (s : ArenaState). rounding_of s.quantum q.size) c.self.view_is in
     let range : IsRange t.holding.range = subst IsRange c.range-range.ensures.value c.range-range.ensures.range in
     let fits = subst (λ (e : Extent). IsClear old e × OnQuantum old.quantum e) c.range-range.ensures.value (c.if-has_overlap.ensures.clear, c.if-not-is_aligned.ensures.0 refl) in
     let some : 0 < n = omega (arith, n_is, rounded_some q.size old.quantum c.requires.span.good.size) in
@@ -58,7 +58,7 @@ returns-in-Ok-clause-covering g c =
     let t : Tag = c.args.span in
     let n : ℕ = c.unwrap-len.result in
     let sound : IsSound old = subst IsSound c.self.view_is c.self.invariant.0 in
-    let n_is : n ≡ rounded old.quantum q.size = units_are c.units.result _ _ n c.units.ensures c.unwrap-len.ensures ∙ ap (λ (s : ArenaState). rounded s.quantum q.size) c.self.view_is in
+    let n_is : n ≡ rounding_of old.quantum q.size = units_are c.units.result _ _ n c.units.ensures c.unwrap-len.ensures ∙ ap (λ (s : ArenaState). rounding_of s.quantum q.size) c.self.view_is in
     let range : IsRange t.holding.range = subst IsRange c.range-range.ensures.value c.range-range.ensures.range in
     let fits = subst (λ (e : Extent). IsClear old e × OnQuantum old.quantum e) c.range-range.ensures.value (c.if-has_overlap.ensures.clear, c.if-not-is_aligned.ensures.0 refl) in
     let some : 0 < n = omega (arith, n_is, rounded_some q.size old.quantum c.requires.span.good.size) in

@@ -9,14 +9,14 @@ use Rattle.deed_core.specs.Tag.{Tag}
 use Rattle.deed_core.specs.Covering.{covers, covers_tag, covering_held}
 use Rattle.deed_core.specs.Weights.{Loses}
 use Rattle.tag_arena.specs.Layout.{IsPartOf}
-use Rattle.tag_arena.specs.ArenaState.{ArenaState, spans_of, ranges_of, direct}
+use Rattle.tag_arena.specs.ArenaState.{ArenaState, spans_of, ranges_of, direct_tag}
 use Rattle.tag_arena.specs.Calls.{after_free, IsTagged}
 use Rattle.tag_arena.specs.Neighbors.{Merges}
 use Rattle.tag_arena.proofs.Allocations.{len_less, loses_remove}
 use Rattle.tag_arena.proofs.Returning.{tagged_is, spans_said, is_some, same_tag, lies_in, has_span, positive, span_holds, free_beside, freed_is, freed_is_sound, freed_covers, merge_covers, frees, returned_is, returned_is_sound, frees_back}
 use Rattle.tag_arena.proofs.Carrying.{tags_lose, free_spans}
 use Rattle.tag_arena.proofs.Sounding.{the_state}
-use Rattle.tag_arena.specs.Spanned.{held}
+use Rattle.tag_arena.specs.Spanned.{tag_holdings}
 use Rattle.tag_arena.proofs.Backing.{backed_free}
 use Rattle.tag_arena.proofs.Granted.{disjoint_imported, disjoint_owned, free_clear, lent_there, none_lent, not_lent}
 use Rattle.tag_arena.proofs.Rejoining.{comes_fewer, merged_has}
@@ -193,7 +193,7 @@ returns-in_default g c =
     let after = freed_is a p s lies merged back.mid merges _ _ back.leaves.1 c.remove.ensures in
     let tagged : IsTagged c.args.self.now c.args.segment = search rules in
     let id : c.self.inside.id ≡ c.args.self.now.id = ap (λ (s : ArenaState). s.id) c.self.view_is in
-    let segment : c.args.segment ≡ direct c.args.self.now.id c.args.segment.holding = same_tag _ _ tagged.arena tagged.route refl in
+    let segment : c.args.segment ≡ direct_tag c.args.self.now.id c.args.segment.holding = same_tag _ _ tagged.arena tagged.route refl in
     let loses : Loses (ranges_of c.self.inside.tags) (ranges_of c.remove.new.self) p = subst (λ m. Loses (ranges_of c.self.inside.tags) (ranges_of m) p) (sym c.remove.ensures) (loses_remove c.self.inside.tags p.range.base p at) in record {
       freed = record {
         mine = tagged;
@@ -243,8 +243,8 @@ returns g c =
     let same_import : c.new.result ≡ import = c.new.ensures ∙ same_tag _ import c.source.ensures (sym route) (c.into_deed-2.ensures ∙ back_is ∙ sym holding) in
     let tagged : IsTagged c.args.self.now c.args.segment = search rules in
     let id : c.self.inside.id ≡ c.args.self.now.id = ap (λ (s : ArenaState). s.id) c.self.view_is in
-    let segment : c.args.segment ≡ direct c.args.self.now.id c.args.segment.holding = same_tag _ _ tagged.arena tagged.route refl in
-    let owned : held c.self.inside.owned.items ≡ c.args.self.now.owned = ap (λ (s : ArenaState). s.owned) c.self.view_is in
+    let segment : c.args.segment ≡ direct_tag c.args.self.now.id c.args.segment.holding = same_tag _ _ tagged.arena tagged.route refl in
+    let owned : tag_holdings c.self.inside.owned.items ≡ c.args.self.now.owned = ap (λ (s : ArenaState). s.owned) c.self.view_is in
     let returned : (f : Tag → ℕ) → sum_by f c.args.self.now.imported ≡ sum_by f c.take-import.new.self.items + sum_by f (option_to_list (Some c.new.result)) =
     (λ f.
     let less : sum_by f c.take-import.new.self.items ≡ sum_by f (remove a.imported k) = ap (sum_by f) o.3 in

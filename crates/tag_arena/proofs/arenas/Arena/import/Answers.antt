@@ -5,13 +5,13 @@ use Rattle.deed_core.specs.Extent.{IsRange, end_of}
 use Rattle.deed_core.specs.Holding.{Holding}
 use Rattle.deed_core.specs.Tag.{Tag}
 use Rattle.tag_arena.specs.ArenaState.{ArenaState, IsSound}
-use Rattle.tag_arena.specs.Calls.{part, between, after_import, after_carve, first_units, IsClear}
+use Rattle.tag_arena.specs.Calls.{part, rest_between, after_import, after_carve, first_units, IsClear}
 use Rattle.tag_arena.proofs.Allocations.{len_more}
 use Rattle.tag_arena.proofs.Granting.{as_it_was, undone, stands}
 use Rattle.tag_arena.proofs.Importing.{imports, import_absent, import_is, import_sound}
 use Rattle.tag_arena.proofs.Sounding.{the_state}
 use Rattle.tag_arena.proofs.Returning.{tagged_is, same_tag}
-use Rattle.tag_arena.specs.Spanned.{held}
+use Rattle.tag_arena.specs.Spanned.{tag_holdings}
 use Rattle.tag_arena.proofs.Backing.{backed_back, backed_import}
 use Rattle.tag_arena.proofs.Granted.{absent_behind, ends_alone}
 use Rattle.tag_arena.proofs.arenas.Arena.import.Goals as goal
@@ -87,8 +87,8 @@ invariant_of-self-2 g c =
     let base_of : c.base.result ≡ t.holding.range.base = c.base.ensures.value ∙ ap (λ (h : Holding). h.range.base) whole_is in
     let piece_is = tagged_is _ (part t.holding t.holding.range.base n) _ _ c.new-first.ensures c.root-2.ensures (c.piece_of.ensures ∙ ap (λ (b : ℕ). record { base = b; len = n }) base_of) in
     let absent = import_absent a t n k in
-    let high_is : option_to_list c.in-Ok-cut_first.parts.1 ≡ between t.holding (t.holding.range.base + n) (end_of t.holding.range) = c.in-Ok-cut_first.ensures.high in
-    let free : c.insert_rest.new.self.ranges ≡ a.free ++ between t.holding (t.holding.range.base + n) (end_of t.holding.range) = c.insert_rest.ensures.ranges ∙ ap (λ v. v.ranges ++ option_to_list c.in-Ok-cut_first.parts.1) c.reserve_free.ensures.rest ∙ ap (λ (xs : List Holding). a.free ++ xs) high_is in
+    let high_is : option_to_list c.in-Ok-cut_first.parts.1 ≡ rest_between t.holding (t.holding.range.base + n) (end_of t.holding.range) = c.in-Ok-cut_first.ensures.high in
+    let free : c.insert_rest.new.self.ranges ≡ a.free ++ rest_between t.holding (t.holding.range.base + n) (end_of t.holding.range) = c.insert_rest.ensures.ranges ∙ ap (λ v. v.ranges ++ option_to_list c.in-Ok-cut_first.parts.1) c.reserve_free.ensures.rest ∙ ap (λ (xs : List Holding). a.free ++ xs) high_is in
     let import_new : c.new.result ≡ t = c.new.ensures ∙ same_tag _ t c.arena-source.ensures (sym c.requires.route) whole_is in
     let imported : c.put.new.self.items ≡ a.imported ++ t ∷ [] = c.put.ensures ∙ ap (λ (x : Tag). c.reserve.new.self.items ++ x ∷ []) import_new ∙ ap (λ (xs : List Tag). xs ++ t ∷ []) c.reserve.ensures.items in
     let tags : c.insert.new.self ≡ finmap.insert a.allocated t.holding.range.base (part t.holding t.holding.range.base n) = c.in-Ok-insert.ensures.ok ∙ ap (λ (h : Holding). finmap.insert c.self.inside.tags h.range.base h) piece_is in
@@ -110,8 +110,8 @@ returns-clause-carved g c =
     let base_of : c.base.result ≡ t.holding.range.base = c.base.ensures.value ∙ ap (λ (h : Holding). h.range.base) whole_is in
     let piece_is = tagged_is _ (part t.holding t.holding.range.base n) _ _ c.new-first.ensures c.root-2.ensures (c.piece_of.ensures ∙ ap (λ (b : ℕ). record { base = b; len = n }) base_of) in
     let absent = import_absent a t n k in
-    let high_is : option_to_list c.in-Ok-cut_first.parts.1 ≡ between t.holding (t.holding.range.base + n) (end_of t.holding.range) = c.in-Ok-cut_first.ensures.high in
-    let free : c.insert_rest.new.self.ranges ≡ a.free ++ between t.holding (t.holding.range.base + n) (end_of t.holding.range) = c.insert_rest.ensures.ranges ∙ ap (λ v. v.ranges ++ option_to_list c.in-Ok-cut_first.parts.1) c.reserve_free.ensures.rest ∙ ap (λ (xs : List Holding). a.free ++ xs) high_is in
+    let high_is : option_to_list c.in-Ok-cut_first.parts.1 ≡ rest_between t.holding (t.holding.range.base + n) (end_of t.holding.range) = c.in-Ok-cut_first.ensures.high in
+    let free : c.insert_rest.new.self.ranges ≡ a.free ++ rest_between t.holding (t.holding.range.base + n) (end_of t.holding.range) = c.insert_rest.ensures.ranges ∙ ap (λ v. v.ranges ++ option_to_list c.in-Ok-cut_first.parts.1) c.reserve_free.ensures.rest ∙ ap (λ (xs : List Holding). a.free ++ xs) high_is in
     let import_new : c.new.result ≡ t = c.new.ensures ∙ same_tag _ t c.arena-source.ensures (sym c.requires.route) whole_is in
     let imported : c.put.new.self.items ≡ a.imported ++ t ∷ [] = c.put.ensures ∙ ap (λ (x : Tag). c.reserve.new.self.items ++ x ∷ []) import_new ∙ ap (λ (xs : List Tag). xs ++ t ∷ []) c.reserve.ensures.items in
     let tags : c.insert.new.self ≡ finmap.insert a.allocated t.holding.range.base (part t.holding t.holding.range.base n) = c.in-Ok-insert.ensures.ok ∙ ap (λ (h : Holding). finmap.insert c.self.inside.tags h.range.base h) piece_is in
@@ -126,6 +126,6 @@ put-requires-clause-absent g c =
     let whole_is : c.new-whole.result ≡ t.holding = tagged_is _ t.holding _ _ c.new-whole.ensures c.root.ensures c.range.ensures.value in
     let range : IsRange t.holding.range = subst IsRange c.range.ensures.value c.range.ensures.range in
     let clear = subst (λ (s : ArenaState). IsClear s t.holding.range) (sym c.self.view_is) c.requires.clear in
-    let alone = ends_alone a t.holding c.self.inside.imported.items c.self.invariant.0.divided range clear (λ s in-s. Contains-append_right a.owned (held a.imported) s in-s) in
+    let alone = ends_alone a t.holding c.self.inside.imported.items c.self.invariant.0.divided range clear (λ s in-s. Contains-append_right a.owned (tag_holdings a.imported) s in-s) in
     let end = ap (λ (x : Tag). end_of x.holding.range) c.new.ensures ∙ ap (λ (x : Holding). end_of x.range) whole_is in
     subst (λ (n : ℕ). All (λ x. end_of x.holding.range ≢ n) c.reserve.new.self.items) (sym end) (subst (λ (ts : List Tag). All (λ x. end_of x.holding.range ≢ end_of t.holding.range) ts) (sym c.reserve.ensures.items) alone)

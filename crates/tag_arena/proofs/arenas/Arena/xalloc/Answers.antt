@@ -1,5 +1,5 @@
 use Rattle.std.proofs.Common.{◌≡◌, ℕ, subst, ap, ◌∙◌}
-use Rattle.deed_core.specs.Request.{rounded}
+use Rattle.deed_core.specs.Request.{rounding_of}
 use Rattle.deed_core.specs.declared.requests.Request.{Request}
 use Rattle.tag_arena.specs.ArenaState.{ArenaState, IsSound}
 use Rattle.tag_arena.proofs.Granting.{units_are}
@@ -15,7 +15,7 @@ carve_found-requires g c =
     let f : Fit = c.in_ok-found.found in
     let n : ℕ = c.unwrap-len.result in
     let sound : IsSound old = subst IsSound c.self.view_is c.self.invariant.0 in
-    let n_is : n ≡ rounded old.quantum q.size = units_are c.units.result _ _ n c.units.ensures c.unwrap-len.ensures ∙ ap (λ (s : ArenaState). rounded s.quantum q.size) c.self.view_is in
+    let n_is : n ≡ rounding_of old.quantum q.size = units_are c.units.result _ _ n c.units.ensures c.unwrap-len.ensures ∙ ap (λ (s : ArenaState). rounding_of s.quantum q.size) c.self.view_is in
     fit_cuttable old q f n sound c.in_ok-found.ensures.good c.in_ok-found.ensures.placed n_is
 
 pub returns-clause-carved : goal.returns-clause-carved
@@ -25,7 +25,7 @@ returns-clause-carved g c =
     let f : Fit = c.in_ok-found.found in
     let n : ℕ = c.unwrap-len.result in
     let sound : IsSound old = subst IsSound c.self.view_is c.self.invariant.0 in
-    let n_is : n ≡ rounded old.quantum q.size = units_are c.units.result _ _ n c.units.ensures c.unwrap-len.ensures ∙ ap (λ (s : ArenaState). rounded s.quantum q.size) c.self.view_is in
+    let n_is : n ≡ rounding_of old.quantum q.size = units_are c.units.result _ _ n c.units.ensures c.unwrap-len.ensures ∙ ap (λ (s : ArenaState). rounding_of s.quantum q.size) c.self.view_is in
     found_carved old q (found_of old.free f c.in_ok-found.ensures.placed.among) n sound c.in_ok-found.ensures.good c.in_ok-found.ensures.chosen (placed_of old.quantum q old.free f c.in_ok-found.ensures.placed) n_is _ (c.self-2.view_is ∙ c.in_ok-segment.ensures.carved) c.in_ok-segment.segment c.in_ok-segment.ensures.segment c.in_ok-segment.ensures.range
 
 pub returns-clause-sound : goal.returns-clause-sound
@@ -35,7 +35,7 @@ returns-clause-sound g c =
     let f : Fit = c.in_ok-found.found in
     let n : ℕ = c.unwrap-len.result in
     let sound : IsSound old = subst IsSound c.self.view_is c.self.invariant.0 in
-    let n_is : n ≡ rounded old.quantum q.size = units_are c.units.result _ _ n c.units.ensures c.unwrap-len.ensures ∙ ap (λ (s : ArenaState). rounded s.quantum q.size) c.self.view_is in
+    let n_is : n ≡ rounding_of old.quantum q.size = units_are c.units.result _ _ n c.units.ensures c.unwrap-len.ensures ∙ ap (λ (s : ArenaState). rounding_of s.quantum q.size) c.self.view_is in
     found_sound old q (found_of old.free f c.in_ok-found.ensures.placed.among) n sound c.in_ok-found.ensures.good c.in_ok-found.ensures.chosen (placed_of old.quantum q old.free f c.in_ok-found.ensures.placed) n_is _ (c.self-2.view_is ∙ c.in_ok-segment.ensures.carved) c.in_ok-segment.segment c.in_ok-segment.ensures.segment c.in_ok-segment.ensures.range
 
 pub returns-clause-gains : goal.returns-clause-gains
@@ -45,7 +45,7 @@ returns-clause-gains g c =
     let f : Fit = c.in_ok-found.found in
     let n : ℕ = c.unwrap-len.result in
     let sound : IsSound old = subst IsSound c.self.view_is c.self.invariant.0 in
-    let n_is : n ≡ rounded old.quantum q.size = units_are c.units.result _ _ n c.units.ensures c.unwrap-len.ensures ∙ ap (λ (s : ArenaState). rounded s.quantum q.size) c.self.view_is in
+    let n_is : n ≡ rounding_of old.quantum q.size = units_are c.units.result _ _ n c.units.ensures c.unwrap-len.ensures ∙ ap (λ (s : ArenaState). rounding_of s.quantum q.size) c.self.view_is in
     found_gains old q (found_of old.free f c.in_ok-found.ensures.placed.among) n sound c.in_ok-found.ensures.good c.in_ok-found.ensures.chosen (placed_of old.quantum q old.free f c.in_ok-found.ensures.placed) n_is _ (c.self-2.view_is ∙ c.in_ok-segment.ensures.carved) c.in_ok-segment.segment c.in_ok-segment.ensures.segment c.in_ok-segment.ensures.range
 
 pub returns-clause-covering : goal.returns-clause-covering
@@ -55,5 +55,5 @@ returns-clause-covering g c =
     let f : Fit = c.in_ok-found.found in
     let n : ℕ = c.unwrap-len.result in
     let sound : IsSound old = subst IsSound c.self.view_is c.self.invariant.0 in
-    let n_is : n ≡ rounded old.quantum q.size = units_are c.units.result _ _ n c.units.ensures c.unwrap-len.ensures ∙ ap (λ (s : ArenaState). rounded s.quantum q.size) c.self.view_is in
+    let n_is : n ≡ rounding_of old.quantum q.size = units_are c.units.result _ _ n c.units.ensures c.unwrap-len.ensures ∙ ap (λ (s : ArenaState). rounding_of s.quantum q.size) c.self.view_is in
     found_covers old q (found_of old.free f c.in_ok-found.ensures.placed.among) n sound c.in_ok-found.ensures.good c.in_ok-found.ensures.chosen (placed_of old.quantum q old.free f c.in_ok-found.ensures.placed) n_is _ (c.self-2.view_is ∙ c.in_ok-segment.ensures.carved) c.in_ok-segment.segment c.in_ok-segment.ensures.segment c.in_ok-segment.ensures.range

@@ -1,7 +1,7 @@
 use Rattle.std.proofs.Common.{◌^◌, ◌<◌, All, Contains, inr, ap, subst, arith}
 use Rattle.std.proofs.lemmas.List.Elements.{All-contains}
 use Rattle.deed_core.specs.Extent.{IsRange}
-use Rattle.deed_core.specs.Request.{IsPlain, rounded}
+use Rattle.deed_core.specs.Request.{IsPlain, rounding_of}
 use Rattle.tag_arena.specs.Choice.{NoListServes, IsInstant}
 use Rattle.tag_arena.proofs.Choosing.{serves_at_base}
 use Rattle.tag_arena.proofs.Lasting.{all_ranges}
@@ -13,7 +13,7 @@ returns-in_default-clause-choice g c =
     inr (
       (λ plain r i h on serves.
           let below = (All-contains (λ x. IsRange x.range) c.args.self.now.ranges r all h).below in
-          let few : rounded c.args.quantum c.args.request.now.size < 2 ^ 64 = omega (arith, on.0, serves, below) in
+          let few : rounding_of c.args.quantum c.args.request.now.size < 2 ^ 64 = omega (arith, on.0, serves, below) in
           c.in_default.ensures few),
       c.best-in_default.ensures.choice,
     )
@@ -50,7 +50,7 @@ returns-in_default-clause-one g c = λ by zero_before.
     let x = by.1.1 in
     let among : Contains c.args.self.now.ranges range = (x.index, x.within, x.here range) in
     let below = (All-contains (λ r. IsRange r.range) c.args.self.now.ranges range all among).below in
-    let few : rounded c.args.quantum c.args.request.now.size < 2 ^ 64 = omega (arith, x.on_list.0, x.large, below) in
+    let few : rounding_of c.args.quantum c.args.request.now.size < 2 ^ 64 = omega (arith, x.on_list.0, x.large, below) in
     absurd (c.in_default.ensures few)
 
 pub returns-in_default-newest-clause-one : goal.returns-in_default-newest-clause-one

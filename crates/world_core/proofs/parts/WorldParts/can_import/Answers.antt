@@ -2,7 +2,7 @@ use Rattle.std.proofs.Common.{◌≡◌, ◌<◌, Some, length, sym, subst, ap, 
 use Rattle.std.specs.Prelude.{slice_get}
 use Rattle.world_core.specs.WorldState.{WorldState, entries_of}
 use Rattle.std.proofs.Common.{ℕ, refl}
-use Rattle.deed_core.specs.Request.{IsGood, plain_of, rounded}
+use Rattle.deed_core.specs.Request.{IsGood, plain_of, rounding_of}
 use Rattle.deed_core.specs.declared.requests.Request.{Request}
 use Rattle.deed_core.proofs.LawProofs.{slice_get_some}
 use Rattle.world_core.proofs.parts.WorldParts.can_import.Goals as goal
@@ -19,7 +19,7 @@ returns g c =
     let source : space.0.source ≡ Some c.in-Some.span.arena = sym (c.in-Some-source.ensures.value space.0 space.1) ∙ ap Some home in
     let asks = c.plain-request.ensures.value in
     let good : IsGood space.0.arena.quantum (plain_of c.args.size) = subst (λ (q : Request). IsGood space.0.arena.quantum q) asks (subst (λ (n : ℕ). IsGood n c.plain-request.result) (sym quantum) (c.is_good.ensures.0 (search rules))) in
-    let units : c.in-Some-units.units ≡ rounded space.0.arena.quantum c.args.size = c.in-Some-units.ensures.1 ∙ (λ j. rounded (sym quantum j) (asks j).size) in (
+    let units : c.in-Some-units.units ≡ rounding_of space.0.arena.quantum c.args.size = c.in-Some-units.ensures.1 ∙ (λ j. rounding_of (sym quantum j) (asks j).size) in (
       λ yes. (
         c.in-Some.span,
         space.0,
