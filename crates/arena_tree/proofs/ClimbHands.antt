@@ -11,7 +11,7 @@ use Rattle.arena_tree.specs.declared.part_faults.AddCarveFault.TheVariants as ad
 use Rattle.arena_tree.specs.declared.part_faults.ReturnFault.TheVariants as returning
 use Rattle.arena_tree.specs.Chains.{amount_of}
 use Rattle.arena_tree.specs.Plans.{Plan, Done, then, Handles}
-use Rattle.arena_tree.specs.Events.{hand_left, hand_may, freed_back, added_back}
+use Rattle.arena_tree.specs.Events.{hand_left, hand_of_answer, freed_back, added_back}
 use Rattle.arena_tree.specs.Climbs.{Returned, Climbed, return_plan, on_free, memory_refusal, on_add, on_import, on_carve, climb_plan, climb_left, return_left}
 use Rattle.arena_tree.proofs.Paths.{handles_then}
 
@@ -20,7 +20,7 @@ pub handles_return : (chain : List Level) (t : Tag) → Handles return_left (ret
 handles_return [] t = refl
 handles_return (l ∷ up) t = (refl, freed (handles_return up))
   where
-    freed : ((w : Tag) → Handles return_left (return_plan up w) (Some w)) → (x : Result (Option Tag) (FreeFault Tag)) → Handles return_left (on_free (return_plan up) x) (hand_may (λ f. Some (freed_back f)) x)
+    freed : ((w : Tag) → Handles return_left (return_plan up w) (Some w)) → (x : Result (Option Tag) (FreeFault Tag)) → Handles return_left (on_free (return_plan up) x) (hand_of_answer (λ f. Some (freed_back f)) x)
     freed again (Ok None) = refl
     freed again (Ok (Some w)) = again w
     freed again (Err (freeing.BadFree x)) = refl

@@ -112,28 +112,28 @@ hand_left back (Ok t) = Some t
 hand_left back (Err e) = back e
 
 -- after one that may give a segment
-abbrev pub hand_may : {E : Type 0} → (E → Option Tag) → Result (Option Tag) E → Option Tag
-hand_may back (Ok given) = given
-hand_may back (Err e) = back e
+abbrev pub hand_of_answer : {E : Type 0} → (E → Option Tag) → Result (Option Tag) E → Option Tag
+hand_of_answer back (Ok given) = given
+hand_of_answer back (Err e) = back e
 
 -- after one that gives none
-abbrev pub hand_none : {E : Type 0} → (E → Option Tag) → Result (Unit {0}) E → Option Tag
-hand_none back (Ok _) = None
-hand_none back (Err e) = back e
+abbrev pub hand_of_fault : {E : Type 0} → (E → Option Tag) → Result (Unit {0}) E → Option Tag
+hand_of_fault back (Ok _) = None
+hand_of_fault back (Err e) = back e
 
 -- the hand after it
 abbrev pub hand_after : (e : Event) → AnswerTo e → Option Tag → Option Tag
 hand_after (Carve arena request) a hand = hand_left (λ _. None) a
-hand_after (Free given) a hand = hand_may (λ f. Some (freed_back f)) a
+hand_after (Free given) a hand = hand_of_answer (λ f. Some (freed_back f)) a
 hand_after (AddCarve child given size) a hand = hand_left (λ f. Some (added_back f)) a
-hand_after (SlabTake arena cache) a hand = hand_may (λ _. None) a
-hand_after (SlabPut given) a hand = hand_none (λ f. Some (put_back f)) a
+hand_after (SlabTake arena cache) a hand = hand_of_answer (λ _. None) a
+hand_after (SlabPut given) a hand = hand_of_fault (λ f. Some (put_back f)) a
 hand_after (SlabAdd arena cache given) a hand = hand_left (λ f. Some (slab_back f)) a
-hand_after (SlabReap arena cache) a hand = hand_may (λ _. None) a
+hand_after (SlabReap arena cache) a hand = hand_of_answer (λ _. None) a
 hand_after (SwapFull arena cache) a hand = hand
 hand_after (SwapEmpty arena cache) a hand = hand
 hand_after (SwapFresh arena cache) a hand = hand
-hand_after (DepotReap arena cache) a hand = hand_may (λ _. None) a
-hand_after (Pop arena cache) a hand = hand_may (λ _. None) a
-hand_after (Push arena cache given) a hand = hand_none (λ f. Some (pushed_back f)) a
+hand_after (DepotReap arena cache) a hand = hand_of_answer (λ _. None) a
+hand_after (Pop arena cache) a hand = hand_of_answer (λ _. None) a
+hand_after (Push arena cache given) a hand = hand_of_fault (λ f. Some (pushed_back f)) a
 hand_after (Change arena cache size) a hand = hand

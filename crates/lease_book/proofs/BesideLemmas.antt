@@ -1,10 +1,12 @@
 -- The leases of a client, and the bases that stand beside them.
-use Rattle.std.proofs.Common.{◌≡◌, ℕ, zero, suc, ◌+◌, ◌<◌, ◌≤◌, Bool, true, false, cond, nat_eq, lt-ltb, List, [], ◌∷◌, ◌++◌, length, take, drop, get_or, Some, None, position, refl, sym, ap, ◌∙◌, arith}
+use Rattle.std.proofs.Common.{◌≡◌, ℕ, zero, suc, ◌+◌, ◌<◌, ◌≤◌, Bool, true, false, cond, nat_eq, lt-ltb, List, [], ◌∷◌, ◌++◌, length, take, drop, map, get_or, slice_get, Some, None, position, refl, sym, ap, subst, ◌∙◌, arith}
 use Rattle.std.specs.List.{remove, position_or_len}
 use Rattle.std.proofs.lemmas.Bool.{and_right, ne_eqb, le-ltb}
 use Rattle.std.proofs.lemmas.List.{get_or_default, length-map, map-append, take-map, drop-map}
+use Rattle.std.proofs.lemmas.Option.{slice_get_read}
 use Rattle.std.proofs.lemmas.List.Sums.{position_or_len_is}
 use Rattle.lease_book.specs.Account.{Lease, is_lease, bases_of}
+use Rattle.lease_book.proofs.BoxLemmas.{removed, value_at}
 
 pub remove_bases : (ls : List Lease) (k : ℕ) → remove (bases_of ls) k ≡ bases_of (remove ls k)
 remove_bases ls k =
@@ -56,3 +58,17 @@ found_nowhere test [] k past before = refl
 found_nowhere test (x ∷ xs) k past before =
     let place : position_or_len test (x ∷ xs) ≡ length (x ∷ xs) = position_or_len_is test (x ∷ xs) (length (x ∷ xs)) x (omega arith) (λ j less. before j (omega (arith, less, past)) x) (λ inside. absurd (omega (arith, inside))) in
     sym (ap (λ (b : Bool). cond b (Some (position_or_len test (x ∷ xs))) None) (le-ltb (position_or_len test (x ∷ xs)) (length (x ∷ xs)) (omega (arith, place))))
+
+-- A lease that is taken out, each list read through a function.
+
+pub taken_lists : {X : Type 0} (f : X → Lease) (xs ys : List X) (ls : List Lease) (k : ℕ) → map f xs ≡ ls → ys ≡ remove xs k → map f ys ≡ remove ls k
+taken_lists f xs ys ls k view is = ap (map f) is ∙ sym (removed f xs k) ∙ ap (λ (ms : List Lease). remove ms k) view
+
+pub taken_bases : {X : Type 0} (f : X → Lease) (bs cs : List ℕ) (xs ys : List X) (k : ℕ) → bs ≡ bases_of (map f xs) → cs ≡ remove bs k → ys ≡ remove xs k → cs ≡ bases_of (map f ys)
+taken_bases f bs cs xs ys k same are is =
+    are ∙ ap (λ (ds : List ℕ). remove ds k) same ∙ remove_bases (map f xs) k ∙ ap bases_of (sym (taken_lists f xs ys (map f xs) k refl is))
+
+pub taken_lease : {X : Type 0} (f : X → Lease) (xs : List X) (ls : List Lease) (k : ℕ) (x : X) (l : Lease) → map f xs ≡ ls → k < length ls → x ≡ get_or xs k x → l ≡ f x → slice_get ls k ≡ Some l
+taken_lease f xs ls k x l view within at is =
+    ap (λ (ms : List Lease). slice_get ms k) (sym view)
+    ∙ slice_get_read (map f xs) (length ls) k l (ap length (sym view)) within (subst (λ (m : Lease). m ≡ get_or (map f xs) k m) (sym is) (value_at f xs k x at))

@@ -9,9 +9,9 @@ use Rattle.deed_core.specs.Weights.{Gains, Loses}
 use Rattle.lease_book.specs.Receipts.{Kept, ReceiptState, IsEarned}
 use Rattle.lease_book.specs.Entry.{Settlement, Entry, Hello, Settled, Swept, Grant, Return, Refuse, kept_settlement}
 use Rattle.lease_book.specs.Account.{Lease, Account, number_of, is_lease, without_first, lease_of, granted_request, leases_after}
-use Rattle.lease_book.specs.Shelf.{account_with, changed_at, standing_of, with_standing, with_leases}
+use Rattle.lease_book.specs.Shelf.{account_with, update_at, standing_of, with_standing, with_leases}
 use Rattle.lease_book.specs.History.{incarnation, clients_of, kept_of, account, IsProper}
-use Rattle.lease_book.specs.BookState.{BookState, HasHistory, Enters, nobody, or_nobody, account_in, segments, leased_by, leased_segments}
+use Rattle.lease_book.specs.BookState.{BookState, HasHistory, Enters, nobody, account_or_nobody, account_in, segments, leased_by, leased_segments}
 use Rattle.lease_book.specs.Answers.{receipt, IsNew}
 use Rattle.lease_book.specs.Calls.{IsFound, IsGranted, IsRefused, IsReleased, IsEnded}
 use Rattle.lease_book.specs.declared.accounts.Standing.{Standing}
@@ -32,7 +32,7 @@ use Rattle.lease_book.proofs.PlaceLemmas.{IsFirst, is_lease_says, head_first}
 use Rattle.lease_book.proofs.WeightLemmas.{sum_by-segments, sum_by-leased_by}
 
 -- changes that do the same to the member at the index
-pub changed_alike : {X : Type 0} (xs : List X) (i : ℕ) (x : X) (f g : X → X) → slice_get xs i ≡ Some x → f x ≡ g x → changed_at xs i f ≡ changed_at xs i g
+pub changed_alike : {X : Type 0} (xs : List X) (i : ℕ) (x : X) (f g : X → X) → slice_get xs i ≡ Some x → f x ≡ g x → update_at xs i f ≡ update_at xs i g
 changed_alike [] i x f g at same = refl
 changed_alike (y ∷ xs) zero x f g at same =
     let is : y ≡ x = cc in
@@ -56,7 +56,7 @@ found_of book c place s within found standing = by (slice_get book.accounts plac
     by : (o : Option Account) → slice_get book.accounts place ≡ o → option_map standing_of o ≡ Some s → IsFound book c place × (standing_of (account_in c book) ≡ s)
     by None at standing = absurd (cc)
     by (Some a) at standing =
-        let is : a ≡ account_in c book = sym (ap (or_nobody c) (found ∙ at)) in
+        let is : a ≡ account_in c book = sym (ap (account_or_nobody c) (found ∙ at)) in
         let of : standing_of a ≡ s = cc in (
           record {
             within = within;
@@ -72,13 +72,13 @@ some_of (Some x) is holds = holds
 
 -- What is leased.
 
-pub leased_standing : (accounts : List Account) (i : ℕ) (s : Standing) → leased_by (changed_at accounts i (with_standing s)) ≡ leased_by accounts
+pub leased_standing : (accounts : List Account) (i : ℕ) (s : Standing) → leased_by (update_at accounts i (with_standing s)) ≡ leased_by accounts
 leased_standing [] i s = refl
 leased_standing (a ∷ accounts) zero s = refl
 leased_standing (a ∷ accounts) (suc i) s = ap (λ ts. segments a.leases ++ ts) (leased_standing accounts i s)
 
 pub leased_changed : (f : Tag → ℕ) (accounts : List Account) (i : ℕ) (a : Account) (h : Account → Account) → slice_get accounts i ≡ Some a
-    → sum_by f (leased_by (changed_at accounts i h)) + sum_by f (segments a.leases) ≡ sum_by f (leased_by accounts) + sum_by f (segments (h a).leases)
+    → sum_by f (leased_by (update_at accounts i h)) + sum_by f (segments a.leases) ≡ sum_by f (leased_by accounts) + sum_by f (segments (h a).leases)
 leased_changed f [] i a h at = absurd (cc)
 leased_changed f (b ∷ accounts) zero a h at =
     let is : b ≡ a = cc in
@@ -88,23 +88,23 @@ leased_changed f (b ∷ accounts) zero a h at =
     let other : sum_by f (segments (h b).leases) ≡ sum_by f (segments (h a).leases) = ap (λ (x : Account). sum_by f (segments (h x).leases)) is in
     omega (arith, old, now, one, other)
 leased_changed f (b ∷ accounts) (suc i) a h at =
-    let rest : sum_by f (leased_by (changed_at accounts i h)) + sum_by f (segments a.leases) ≡ sum_by f (leased_by accounts) + sum_by f (segments (h a).leases) = leased_changed f accounts i a h at in
+    let rest : sum_by f (leased_by (update_at accounts i h)) + sum_by f (segments a.leases) ≡ sum_by f (leased_by accounts) + sum_by f (segments (h a).leases) = leased_changed f accounts i a h at in
     let old : sum_by f (leased_by (b ∷ accounts)) ≡ sum_by f (segments b.leases) + sum_by f (leased_by accounts) = sum_by-leased_by f b accounts in
-    let now : sum_by f (leased_by (b ∷ changed_at accounts i h)) ≡ sum_by f (segments b.leases) + sum_by f (leased_by (changed_at accounts i h)) = sum_by-leased_by f b (changed_at accounts i h) in
+    let now : sum_by f (leased_by (b ∷ update_at accounts i h)) ≡ sum_by f (segments b.leases) + sum_by f (leased_by (update_at accounts i h)) = sum_by-leased_by f b (update_at accounts i h) in
     omega (arith, rest, old, now)
 
-pub gains_lease : (accounts : List Account) (i : ℕ) (a : Account) (x : Lease) → slice_get accounts i ≡ Some a → Gains (leased_by accounts) (leased_by (changed_at accounts i (with_leases (λ ls. ls ++ x ∷ [])))) x.segment
+pub gains_lease : (accounts : List Account) (i : ℕ) (a : Account) (x : Lease) → slice_get accounts i ≡ Some a → Gains (leased_by accounts) (leased_by (update_at accounts i (with_leases (λ ls. ls ++ x ∷ [])))) x.segment
 gains_lease accounts i a x at f =
-    let change : sum_by f (leased_by (changed_at accounts i (with_leases (λ ls. ls ++ x ∷ [])))) + sum_by f (segments a.leases) ≡ sum_by f (leased_by accounts) + sum_by f (segments (a.leases ++ x ∷ [])) =
+    let change : sum_by f (leased_by (update_at accounts i (with_leases (λ ls. ls ++ x ∷ [])))) + sum_by f (segments a.leases) ≡ sum_by f (leased_by accounts) + sum_by f (segments (a.leases ++ x ∷ [])) =
     leased_changed f accounts i a (with_leases (λ ls. ls ++ x ∷ [])) at in
     let more : sum_by f (segments (a.leases ++ x ∷ [])) ≡ sum_by f (segments a.leases) + f x.segment =
     sum_by-segments f (a.leases ++ x ∷ []) ∙ sum_by_push (λ (l : Lease). f l.segment) a.leases x ∙ ap (λ (n : ℕ). n + f x.segment) (sym (sum_by-segments f a.leases)) in
     omega (arith, change, more)
 
 pub loses_lease : (accounts : List Account) (i k : ℕ) (a : Account) (x : Lease) → slice_get accounts i ≡ Some a → slice_get a.leases k ≡ Some x
-    → Loses (leased_by accounts) (leased_by (changed_at accounts i (with_leases (λ ls. remove ls k)))) x.segment
+    → Loses (leased_by accounts) (leased_by (update_at accounts i (with_leases (λ ls. remove ls k)))) x.segment
 loses_lease accounts i k a x at there f =
-    let change : sum_by f (leased_by (changed_at accounts i (with_leases (λ ls. remove ls k)))) + sum_by f (segments a.leases) ≡ sum_by f (leased_by accounts) + sum_by f (segments (remove a.leases k)) =
+    let change : sum_by f (leased_by (update_at accounts i (with_leases (λ ls. remove ls k)))) + sum_by f (segments a.leases) ≡ sum_by f (leased_by accounts) + sum_by f (segments (remove a.leases k)) =
     leased_changed f accounts i a (with_leases (λ ls. remove ls k)) at in
     let less : sum_by f (segments a.leases) ≡ sum_by f (segments (remove a.leases k)) + f x.segment =
     sum_by-segments f a.leases ∙ sym (sum_by-remove (λ (l : Lease). f l.segment) a.leases k x (slice_get_within a.leases k x there))
@@ -119,7 +119,7 @@ abbrev pub settled_as : RequestId → Settlement → Account → Account
 settled_as id how a = with_standing (record { incarnation = id.incarnation; kept = Some (kept_settlement id.number how) }) (with_leases (leases_after id how) a)
 
 pub settles : (old new : BookState) (id : RequestId) (index : ℕ) (how : Settlement) → IsFound old id.client index → IsNew (account_in id.client old) id
-    → IsRequestId id → IsProper (account_in id.client old).leases id how → new.mark ≡ old.mark → new.accounts ≡ changed_at old.accounts index (settled_as id how) → Enters (Settled id how) old new
+    → IsRequestId id → IsProper (account_in id.client old).leases id how → new.mark ≡ old.mark → new.accounts ≡ update_at old.accounts index (settled_as id how) → Enters (Settled id how) old new
 settles old new id index how found fresh told proper mark after = record {
   mark = mark;
   history = λ es h.
@@ -132,7 +132,7 @@ settles old new id index how found fresh told proper mark after = record {
 
 -- a lease that ended
 pub ends : (old new : BookState) (c i arena base place k : ℕ) (l : Lease) → find (is_lease i arena base) (account_in c old).leases ≡ Some l → IsFound old c place → IsFirst (is_lease i arena base) (account_in c old).leases k → new.mark ≡ old.mark
-    → new.accounts ≡ changed_at old.accounts place (with_leases (λ ls. remove ls k)) → Enters (Swept c i arena base) old new
+    → new.accounts ≡ update_at old.accounts place (with_leases (λ ls. remove ls k)) → Enters (Swept c i arena base) old new
 ends old new c i arena base place k l leased_there found first mark after = record {
   mark = mark;
   history = λ es h.
@@ -157,7 +157,7 @@ greets_again old c i place found client ordinal same = record {
 }
 
 pub greets_above : (old new : BookState) (c i place : ℕ) → IsFound old c place → IsClient c → IsOrdinal i → (account_in c old).incarnation < i → new.mark ≡ old.mark
-    → new.accounts ≡ changed_at old.accounts place (with_standing (record { incarnation = i; kept = None })) → Enters (Hello c i) old new
+    → new.accounts ≡ update_at old.accounts place (with_standing (record { incarnation = i; kept = None })) → Enters (Hello c i) old new
 greets_above old new c i place found client ordinal above mark after = record {
   mark = mark;
   history = λ es h.
@@ -204,10 +204,10 @@ greets_first old new c i none client ordinal mark after = record {
 
 -- The calls.
 
-pub length-changed_at : {X : Type 0} (xs : List X) (i : ℕ) (f : X → X) → length (changed_at xs i f) ≡ length xs
-length-changed_at [] i f = refl
-length-changed_at (x ∷ xs) zero f = refl
-length-changed_at (x ∷ xs) (suc i) f = ap suc (length-changed_at xs i f)
+pub length-update_at : {X : Type 0} (xs : List X) (i : ℕ) (f : X → X) → length (update_at xs i f) ≡ length xs
+length-update_at [] i f = refl
+length-update_at (x ∷ xs) zero f = refl
+length-update_at (x ∷ xs) (suc i) f = ap suc (length-update_at xs i f)
 
 -- what holds of the account at an index holds of the account found there
 pub of_found : (P : Account → Type 0) (book : BookState) (c place : ℕ) → IsFound book c place → IfSome (slice_get book.accounts place) P → P (account_in c book)
@@ -215,10 +215,10 @@ of_found P book c place found holds = subst (λ (o : Option Account). IfSome o P
 
 pub refuses : (old now : BookState) (id : RequestId) (index : ℕ) (why : Refusal) (k : Kept) (r : ReceiptState) → IsFound old id.client index → IsNew (account_in id.client old) id → IsRequestId id
     → k ≡ kept_settlement id.number (Refuse why) → r ≡ receipt old id k → now.mark ≡ old.mark
-    → now.accounts ≡ changed_at old.accounts index (with_standing (record { incarnation = id.incarnation; kept = Some k })) → IsRefused old now id why r
+    → now.accounts ≡ update_at old.accounts index (with_standing (record { incarnation = id.incarnation; kept = Some k })) → IsRefused old now id why r
 refuses old now id index why k r found fresh told is_kept is_receipt mark after =
-    let after' : now.accounts ≡ changed_at old.accounts index (with_standing (record { incarnation = id.incarnation; kept = Some (kept_settlement id.number (Refuse why)) })) =
-    after ∙ ap (λ (x : Kept). changed_at old.accounts index (with_standing (record { incarnation = id.incarnation; kept = Some x }))) is_kept in
+    let after' : now.accounts ≡ update_at old.accounts index (with_standing (record { incarnation = id.incarnation; kept = Some (kept_settlement id.number (Refuse why)) })) =
+    after ∙ ap (λ (x : Kept). update_at old.accounts index (with_standing (record { incarnation = id.incarnation; kept = Some x }))) is_kept in
     record {
       new = fresh;
       receipt = is_receipt ∙ ap (receipt old id) is_kept;
@@ -229,15 +229,15 @@ refuses old now id index why k r found fresh told is_kept is_receipt mark after 
 pub grants : (old now : BookState) (mid : List Account) (id : RequestId) (index : ℕ) (t : Tag) (terms : Terms) (k : Kept) (r : ReceiptState) → IsFound old id.client index
     → IsNew (account_in id.client old) id → IsRequestId id → IsRange t.holding.range × Fits terms.quantum terms.request t.holding.range.base t.holding.range.len
     → length (account_in id.client old).leases < 1024 → k ≡ kept_settlement id.number (Grant t terms) → r ≡ receipt old id k → now.mark ≡ old.mark
-    → mid ≡ changed_at old.accounts index (with_leases (λ ls. ls ++ lease_of id t ∷ []))
-    → now.accounts ≡ changed_at mid index (with_standing (record { incarnation = id.incarnation; kept = Some k })) → IsGranted old now id t terms r
+    → mid ≡ update_at old.accounts index (with_leases (λ ls. ls ++ lease_of id t ∷ []))
+    → now.accounts ≡ update_at mid index (with_standing (record { incarnation = id.incarnation; kept = Some k })) → IsGranted old now id t terms r
 grants old now mid id index t terms k r found fresh told meets room is_kept is_receipt mark leased_mid after =
     let s : Standing = record { incarnation = id.incarnation; kept = Some (kept_settlement id.number (Grant t terms)) } in
-    let after' : now.accounts ≡ changed_at mid index (with_standing s) =
-    after ∙ ap (λ (y : Kept). changed_at mid index (with_standing (record { incarnation = id.incarnation; kept = Some y }))) is_kept in
-    let both : now.accounts ≡ changed_at old.accounts index (settled_as id (Grant t terms)) =
-    after' ∙ ap (λ (xs : List Account). changed_at xs index (with_standing s)) leased_mid ∙ changed_twice old.accounts index (with_leases (λ ls. ls ++ lease_of id t ∷ [])) (with_standing s) in
-    let stands : leased_segments now ≡ leased_by (changed_at old.accounts index (with_leases (λ ls. ls ++ lease_of id t ∷ []))) = ap leased_by after' ∙ leased_standing mid index s ∙ ap leased_by leased_mid in
+    let after' : now.accounts ≡ update_at mid index (with_standing s) =
+    after ∙ ap (λ (y : Kept). update_at mid index (with_standing (record { incarnation = id.incarnation; kept = Some y }))) is_kept in
+    let both : now.accounts ≡ update_at old.accounts index (settled_as id (Grant t terms)) =
+    after' ∙ ap (λ (xs : List Account). update_at xs index (with_standing s)) leased_mid ∙ changed_twice old.accounts index (with_leases (λ ls. ls ++ lease_of id t ∷ [])) (with_standing s) in
+    let stands : leased_segments now ≡ leased_by (update_at old.accounts index (with_leases (λ ls. ls ++ lease_of id t ∷ []))) = ap leased_by after' ∙ leased_standing mid index s ∙ ap leased_by leased_mid in
     record {
       new = fresh;
       room = room;
@@ -249,21 +249,21 @@ grants old now mid id index t terms k r found fresh told meets room is_kept is_r
 pub releases : (old now : BookState) (mid : List Account) (id : RequestId) (arena base index at : ℕ) (l : Lease) (k : Kept) (r : ReceiptState) → IsFound old id.client index
     → IsNew (account_in id.client old) id → IsRequestId id → IsQuantity base
     → IsFirst (is_lease id.incarnation arena base) (account_in id.client old).leases at → slice_get (account_in id.client old).leases at ≡ Some l
-    → k ≡ kept_settlement id.number (Return arena base) → r ≡ receipt old id k → now.mark ≡ old.mark → mid ≡ changed_at old.accounts index (with_leases (λ ls. remove ls at))
-    → now.accounts ≡ changed_at mid index (with_standing (record { incarnation = id.incarnation; kept = Some k })) → IsReleased old now id arena base r l.segment
+    → k ≡ kept_settlement id.number (Return arena base) → r ≡ receipt old id k → now.mark ≡ old.mark → mid ≡ update_at old.accounts index (with_leases (λ ls. remove ls at))
+    → now.accounts ≡ update_at mid index (with_standing (record { incarnation = id.incarnation; kept = Some k })) → IsReleased old now id arena base r l.segment
 releases old now mid id arena base index at l k r found fresh told in_range first here is_kept is_receipt mark taken_mid after =
     let i : ℕ = id.incarnation in
     let a : Account = account_in id.client old in
     let s : Standing = record { incarnation = i; kept = Some (kept_settlement id.number (Return arena base)) } in
     let passes : is_lease i arena base l ≡ true = subst (λ (o : Option Lease). IfSome o (λ x. is_lease i arena base x ≡ true)) here first.passes in
     let says = is_lease_says i arena base l passes in
-    let after' : now.accounts ≡ changed_at mid index (with_standing s) = after ∙ ap (λ (y : Kept). changed_at mid index (with_standing (record { incarnation = i; kept = Some y }))) is_kept in
-    let both : now.accounts ≡ changed_at old.accounts index (λ b. with_standing s (with_leases (λ ls. remove ls at) b)) =
-    after' ∙ ap (λ (xs : List Account). changed_at xs index (with_standing s)) taken_mid ∙ changed_twice old.accounts index (with_leases (λ ls. remove ls at)) (with_standing s) in
-    let entered_as : now.accounts ≡ changed_at old.accounts index (settled_as id (Return arena base)) =
+    let after' : now.accounts ≡ update_at mid index (with_standing s) = after ∙ ap (λ (y : Kept). update_at mid index (with_standing (record { incarnation = i; kept = Some y }))) is_kept in
+    let both : now.accounts ≡ update_at old.accounts index (λ b. with_standing s (with_leases (λ ls. remove ls at) b)) =
+    after' ∙ ap (λ (xs : List Account). update_at xs index (with_standing s)) taken_mid ∙ changed_twice old.accounts index (with_leases (λ ls. remove ls at)) (with_standing s) in
+    let entered_as : now.accounts ≡ update_at old.accounts index (settled_as id (Return arena base)) =
     both ∙ changed_alike old.accounts index a (λ b. with_standing s (with_leases (λ ls. remove ls at) b)) (settled_as id (Return arena base)) found.at
     (ap (λ (ls : List Lease). with_standing s (with_leases (λ x. ls) a)) (sym first.left)) in
-    let stands : leased_segments now ≡ leased_by (changed_at old.accounts index (with_leases (λ ls. remove ls at))) = ap leased_by after' ∙ leased_standing mid index s ∙ ap leased_by taken_mid in
+    let stands : leased_segments now ≡ leased_by (update_at old.accounts index (with_leases (λ ls. remove ls at))) = ap leased_by after' ∙ leased_standing mid index s ∙ ap leased_by taken_mid in
     record {
       granted = l.number;
       new = fresh;
@@ -277,7 +277,7 @@ releases old now mid id arena base index at l k r found fresh told in_range firs
 
 -- a lease that is the first with its incarnation, arena and base ended
 pub ends_lease : (old now : BookState) (c index at : ℕ) (l : Lease) → IsFound old c index → IsFirst (is_lease l.incarnation l.segment.arena l.segment.holding.range.base) (account_in c old).leases at
-    → slice_get (account_in c old).leases at ≡ Some l → now.mark ≡ old.mark → now.accounts ≡ changed_at old.accounts index (with_leases (λ ls. remove ls at))
+    → slice_get (account_in c old).leases at ≡ Some l → now.mark ≡ old.mark → now.accounts ≡ update_at old.accounts index (with_leases (λ ls. remove ls at))
     → IsEnded old now (record { client = c; incarnation = l.incarnation; number = l.number }) l.segment
 ends_lease old now c index at l found first here mark after = record {
   lease = first.found ∙ here;
@@ -312,7 +312,7 @@ found_own book place within own = by (slice_get book.accounts place) refl own
     by : (o : Option Account) → slice_get book.accounts place ≡ o → IfSome o (λ a. find (λ b. nat_eq a.client b.client) book.accounts ≡ Some a) → (c : ℕ) × IsFound book c place
     by None at own = absurd (omega (arith, within, none_past book.accounts place at))
     by (Some a) at own =
-        let is : a ≡ account_in a.client book = sym (ap (or_nobody a.client) own) in
+        let is : a ≡ account_in a.client book = sym (ap (account_or_nobody a.client) own) in
         (a.client, record { within = within; at = at ∙ ap Some is; client = ap (λ (x : Account). x.client) (sym is) })
 
 pub if_none : {X P : Type 0} (r : Option X) → P → IfNone r P
@@ -340,7 +340,7 @@ module _ (before old : BookState) (is : before ≡ old) (id : RequestId) (index 
   fresh_before = subst (λ (b : BookState). IsNew (account_in id.client b) id) (sym is) fresh
 
   pub refused_at : (accounts : List Account) (why : Refusal) (k : Kept) (r : ReceiptState) → k ≡ kept_settlement id.number (Refuse why) → r ≡ receipt before id k
-      → accounts ≡ changed_at before.accounts index (with_standing (record { incarnation = id.incarnation; kept = Some k })) → HasHistory before
+      → accounts ≡ update_at before.accounts index (with_standing (record { incarnation = id.incarnation; kept = Some k })) → HasHistory before
       → HasHistory (record { mark = before.mark; accounts = accounts }) × IsRefused old (record { mark = before.mark; accounts = accounts }) id why r
   refused_at accounts why k r is_kept is_receipt after had =
       let now : BookState = record { mark = before.mark; accounts = accounts } in
@@ -349,8 +349,8 @@ module _ (before old : BookState) (is : before ≡ old) (id : RequestId) (index 
 
   pub granted_at : (mid accounts : List Account) (t : Tag) (terms : Terms) (k : Kept) (r : ReceiptState) → IsRange t.holding.range × Fits terms.quantum terms.request t.holding.range.base t.holding.range.len → length (account_in id.client old).leases < 1024
       → k ≡ kept_settlement id.number (Grant t terms) → r ≡ receipt before id k
-      → mid ≡ changed_at before.accounts index (with_leases (λ ls. ls ++ lease_of id t ∷ []))
-      → accounts ≡ changed_at mid index (with_standing (record { incarnation = id.incarnation; kept = Some k })) → HasHistory before
+      → mid ≡ update_at before.accounts index (with_leases (λ ls. ls ++ lease_of id t ∷ []))
+      → accounts ≡ update_at mid index (with_standing (record { incarnation = id.incarnation; kept = Some k })) → HasHistory before
       → HasHistory (record { mark = before.mark; accounts = accounts }) × IsGranted old (record { mark = before.mark; accounts = accounts }) id t terms r
   granted_at mid accounts t terms k r meets room is_kept is_receipt leased_mid after had =
       let now : BookState = record { mark = before.mark; accounts = accounts } in
@@ -361,7 +361,7 @@ module _ (before old : BookState) (is : before ≡ old) (id : RequestId) (index 
   pub released_at : (mid accounts : List Account) (arena base at : ℕ) (l : Lease) (t : Tag) (k : Kept) (r : ReceiptState) → t ≡ l.segment → IsQuantity base
       → IsFirst (is_lease id.incarnation arena base) (account_in id.client old).leases at
       → IfSome (slice_get before.accounts index) (λ a. slice_get a.leases at ≡ Some l) → k ≡ kept_settlement id.number (Return arena base) → r ≡ receipt before id k
-      → mid ≡ changed_at before.accounts index (with_leases (λ ls. remove ls at)) → accounts ≡ changed_at mid index (with_standing (record { incarnation = id.incarnation; kept = Some k })) → HasHistory before
+      → mid ≡ update_at before.accounts index (with_leases (λ ls. remove ls at)) → accounts ≡ update_at mid index (with_standing (record { incarnation = id.incarnation; kept = Some k })) → HasHistory before
       → HasHistory (record { mark = before.mark; accounts = accounts }) × IsReleased old (record { mark = before.mark; accounts = accounts }) id arena base r t
   released_at mid accounts arena base at l t k r of_lease in_range first there is_kept is_receipt taken_mid after had =
       let now : BookState = record { mark = before.mark; accounts = accounts } in
@@ -379,11 +379,11 @@ leases_found before old c place ls is found there =
 
 pub ended_at : (before old : BookState) (accounts : List Account) (c index at : ℕ) (l : Lease) (r : RequestId × Tag) → r ≡ (granted_request c l, l.segment) → before ≡ old → IsFound old c index
     → IsFirst (is_lease l.incarnation l.segment.arena l.segment.holding.range.base) (account_in c old).leases at
-    → slice_get (account_in c old).leases at ≡ Some l → accounts ≡ changed_at before.accounts index (with_leases (λ ls. remove ls at)) → HasHistory before
+    → slice_get (account_in c old).leases at ≡ Some l → accounts ≡ update_at before.accounts index (with_leases (λ ls. remove ls at)) → HasHistory before
     → HasHistory (record { mark = before.mark; accounts = accounts }) × IsEnded old (record { mark = before.mark; accounts = accounts }) r.0 r.1
 ended_at before old accounts c index at l r gives is found first here after had =
     let now : BookState = record { mark = before.mark; accounts = accounts } in
-    let ended = ends_lease old now c index at l found first here (ap (λ (b : BookState). b.mark) is) (after ∙ ap (λ (b : BookState). changed_at b.accounts index (with_leases (λ ls. remove ls at))) is) in (
+    let ended = ends_lease old now c index at l found first here (ap (λ (b : BookState). b.mark) is) (after ∙ ap (λ (b : BookState). update_at b.accounts index (with_leases (λ ls. remove ls at))) is) in (
       goes_on (Swept c l.incarnation l.segment.arena l.segment.holding.range.base) old now ended.entry (subst HasHistory is had),
       subst (λ (p : RequestId × Tag). IsEnded old now p.0 p.1) (sym gives) ended,
     )
@@ -401,7 +401,7 @@ found_client book index k within own at =
 pub taken_at : (before old : BookState) (mid accounts : List Account) (index k : ℕ) (l : Lease) (r : RequestId × Tag) → r ≡ (granted_request k l, l.segment) → before ≡ old → mid ≡ before.accounts
     → index < length before.accounts → IfSome (slice_get before.accounts index) (λ a. find (λ b. nat_eq a.client b.client) before.accounts ≡ Some a)
     → option_map (λ (a : Account). a.client) (slice_get mid index) ≡ Some k → IfSome (slice_get mid index) (λ a. slice_get a.leases 0 ≡ Some l)
-    → accounts ≡ changed_at mid index (with_leases (λ ls. remove ls 0)) → HasHistory before
+    → accounts ≡ update_at mid index (with_leases (λ ls. remove ls 0)) → HasHistory before
     → HasHistory (record { mark = before.mark; accounts = accounts }) × IsEnded old (record { mark = before.mark; accounts = accounts }) r.0 r.1
 taken_at before old mid accounts index k l r gives is same within own client there after had =
     let found : IsFound before k index =
@@ -412,15 +412,15 @@ taken_at before old mid accounts index k l r gives is same within own client the
     let lease : slice_get (account_in k old).leases 0 ≡ Some l =
     of_found (λ (a : Account). slice_get a.leases 0 ≡ Some l) old k index found_old (subst (λ (b : BookState). IfSome (slice_get b.accounts index) (λ a. slice_get a.leases 0 ≡ Some l)) is there_before) in
     ended_at before old accounts k index 0 l r gives is found_old (first_lease (account_in k old).leases l lease) lease
-    (after ∙ ap (λ (xs : List Account). changed_at xs index (with_leases (λ ls. remove ls 0))) same) had
+    (after ∙ ap (λ (xs : List Account). update_at xs index (with_leases (λ ls. remove ls 0))) same) had
 
 pub greeted_above : (before old : BookState) (accounts : List Account) (c i index : ℕ) → before ≡ old → IsFound old c index → IsClient c → IsOrdinal i → (account_in c old).incarnation < i
-    → accounts ≡ changed_at before.accounts index (with_standing (record { incarnation = i; kept = None })) → HasHistory before
+    → accounts ≡ update_at before.accounts index (with_standing (record { incarnation = i; kept = None })) → HasHistory before
     → HasHistory (record { mark = before.mark; accounts = accounts }) × Enters (Hello c i) old (record { mark = before.mark; accounts = accounts })
 greeted_above before old accounts c i index is found client ordinal above after had =
     let now : BookState = record { mark = before.mark; accounts = accounts } in
     let enters = greets_above old now c i index found client ordinal above (ap (λ (b : BookState). b.mark) is)
-    (after ∙ ap (λ (b : BookState). changed_at b.accounts index (with_standing (record { incarnation = i; kept = None }))) is) in
+    (after ∙ ap (λ (b : BookState). update_at b.accounts index (with_standing (record { incarnation = i; kept = None }))) is) in
     (goes_on (Hello c i) old now enters (subst HasHistory is had), enters)
 
 pub greeted_first : (before old : BookState) (accounts : List Account) (c i : ℕ) → before ≡ old → find (λ a. nat_eq c a.client) old.accounts ≡ None → IsClient c → IsOrdinal i
@@ -433,5 +433,5 @@ greeted_first before old accounts c i is none client ordinal after had =
     (goes_on (Hello c i) old now enters (subst HasHistory is had), enters)
 
 -- what is leased stays where an incarnation or a reply is written
-pub leased_at : (before old : BookState) (accounts : List Account) (place : ℕ) (s : Standing) → before ≡ old → accounts ≡ changed_at before.accounts place (with_standing s) → leased_by accounts ≡ leased_segments old
+pub leased_at : (before old : BookState) (accounts : List Account) (place : ℕ) (s : Standing) → before ≡ old → accounts ≡ update_at before.accounts place (with_standing s) → leased_by accounts ≡ leased_segments old
 leased_at before old accounts place s is after = ap leased_by after ∙ leased_standing before.accounts place s ∙ ap leased_segments is

@@ -6,8 +6,8 @@ use Rattle.lease_terms.specs.Requests.{RequestId}
 use Rattle.lease_book.specs.Receipts.{Kept}
 use Rattle.lease_book.specs.Entry.{Settlement, Entry, Hello, Settled, Swept, kept_settlement}
 use Rattle.lease_book.specs.Account.{Account, number_of, is_lease, without_first, leases_after}
-use Rattle.lease_book.specs.Shelf.{changed_at, with_standing, with_leases}
-use Rattle.lease_book.specs.History.{incarnation, settled_in, higher, greatest, leases_of, clients_of, kept_of, account, AreOrderly}
+use Rattle.lease_book.specs.Shelf.{update_at, with_standing, with_leases}
+use Rattle.lease_book.specs.History.{incarnation, settled_in, greater_kept, greatest, leases_of, clients_of, kept_of, account, AreOrderly}
 use Rattle.lease_book.specs.BookState.{BookState, IsHistory}
 use Rattle.lease_book.proofs.EachLemmas.{each_push}
 use Rattle.lease_book.proofs.HistoryLemmas.{has, fresh}
@@ -49,7 +49,7 @@ apart_there f d zero (e ∷ cs) a named at apart =
 apart_there f d (suc i) (e ∷ cs) a named at apart = apart_there f d i cs a named at apart.1
 
 pub changed_map : (f g : ℕ → Account) (h : Account → Account) (c i : ℕ) (cs : List ℕ) (a : Account) → ((k : ℕ) → (f k).client ≡ k) → ((d : ℕ) → nat_eq d c ≡ false → g d ≡ f d) → g c ≡ h (f c)
-    → IsDistinct nat_eq cs → slice_get (map f cs) i ≡ Some a → a.client ≡ c → changed_at (map f cs) i h ≡ map g cs
+    → IsDistinct nat_eq cs → slice_get (map f cs) i ≡ Some a → a.client ≡ c → update_at (map f cs) i h ≡ map g cs
 unfolding IsDistinct
 changed_map f g h c i [] a named others own apart at client = absurd (cc)
 changed_map f g h c zero (d ∷ cs) a named others own apart at client =
@@ -60,19 +60,19 @@ changed_map f g h c zero (d ∷ cs) a named others own apart at client =
     λ j. here j ∷ rest j
 changed_map f g h c (suc i) (d ∷ cs) a named others own apart at client =
     let other : nat_eq d c ≡ false = subst (λ (k : ℕ). nat_eq d k ≡ false) client (apart_there f d i cs a named at apart.0) in
-    let rest : changed_at (map f cs) i h ≡ map g cs = changed_map f g h c i cs a named others own apart.1 at client in
+    let rest : update_at (map f cs) i h ≡ map g cs = changed_map f g h c i cs a named others own apart.1 at client in
     let here : f d ≡ g d = sym (others d other) in
     λ j. here j ∷ rest j
 
 -- an entry that changes one account, and no list of clients, is entered by that change
 pub entered : (e : Entry) (es : List Entry) (old new : BookState) (c i : ℕ) (a : Account) (h : Account → Account) → IsHistory es old → slice_get old.accounts i ≡ Some a → a.client ≡ c
     → clients_of (e ∷ es) ≡ clients_of es → ((d : ℕ) → nat_eq d c ≡ false → account (e ∷ es) d ≡ account es d) → account (e ∷ es) c ≡ h (account es c)
-    → new.accounts ≡ changed_at old.accounts i h → AreOrderly (e ∷ es) → IsHistory (e ∷ es) new
+    → new.accounts ≡ update_at old.accounts i h → AreOrderly (e ∷ es) → IsHistory (e ∷ es) new
 entered e es old new c i a h history at client clients others own after orderly =
     let at' : slice_get (map (account es) (clients_of es)) i ≡ Some a = ap (λ (xs : List Account). slice_get xs i) (sym history.accounts) ∙ at in
     record {
       orderly = orderly;
-      accounts = after ∙ ap (λ (xs : List Account). changed_at xs i h) history.accounts
+      accounts = after ∙ ap (λ (xs : List Account). update_at xs i h) history.accounts
           ∙ changed_map (account es) (account (e ∷ es)) h c i (clients_of es) a (λ k. refl) others own (distinct_clients es) at' client
           ∙ ap (map (account (e ∷ es))) (sym clients);
     }
@@ -103,7 +103,7 @@ settled_others es id s d other = λ j. record {
   leases = cond (other j) (leases_after id s (leases_of d es)) (leases_of d es);
 }
 
-pub higher_next : (k : Kept) (g : Option Kept) → k.number ≡ number_of g + 1 → higher k g ≡ Some k
+pub higher_next : (k : Kept) (g : Option Kept) → k.number ≡ number_of g + 1 → greater_kept k g ≡ Some k
 higher_next k None next = refl
 higher_next k (Some m) next = ap (λ (b : Bool). cond b (Some m) (Some k)) (le-ltb k.number m.number (omega (arith, next)))
 
@@ -115,14 +115,14 @@ settled_own es id s current next =
     let same : nat_eq c c ≡ true = eq-eqb c c refl in
     let now : nat_eq (incarnation c es) id.incarnation ≡ true = eq-eqb (incarnation c es) id.incarnation (sym current) in
     let first : account (Settled id s ∷ es) c
-    ≡ record { client = c; incarnation = incarnation c es; kept = higher (kept_settlement id.number s) (kept_of c es); leases = leases_after id s (leases_of c es) } =
+    ≡ record { client = c; incarnation = incarnation c es; kept = greater_kept (kept_settlement id.number s) (kept_of c es); leases = leases_after id s (leases_of c es) } =
     λ j. record {
       client = c;
       incarnation = incarnation c es;
       kept = greatest (cond (same j && now j) (kept_settlement id.number s ∷ settled_in c (incarnation c es) es) (settled_in c (incarnation c es) es));
       leases = cond (same j) (leases_after id s (leases_of c es)) (leases_of c es);
     } in
-    let highest : higher (kept_settlement id.number s) (kept_of c es) ≡ Some (kept_settlement id.number s) = higher_next (kept_settlement id.number s) (kept_of c es) next in
+    let highest : greater_kept (kept_settlement id.number s) (kept_of c es) ≡ Some (kept_settlement id.number s) = higher_next (kept_settlement id.number s) (kept_of c es) next in
     first ∙ (λ j. record { client = c; incarnation = sym current j; kept = highest j; leases = leases_after id s (leases_of c es) })
 
 -- A lease that ended.
@@ -173,12 +173,12 @@ hello_above es c i orderly above =
     let none = fresh c i es orderly above in
     hello_account es c i ∙ (λ j. record { client = c; incarnation = i; kept = greatest (none j); leases = leases_of c es })
 
-pub changed_none : (accounts : List Account) (i : ℕ) → changed_at accounts i (λ a. a) ≡ accounts
+pub changed_none : (accounts : List Account) (i : ℕ) → update_at accounts i (λ a. a) ≡ accounts
 changed_none [] i = refl
 changed_none (a ∷ accounts) zero = refl
 changed_none (a ∷ accounts) (suc i) = ap (λ (xs : List Account). a ∷ xs) (changed_none accounts i)
 
-pub changed_twice : (accounts : List Account) (i : ℕ) (f g : Account → Account) → changed_at (changed_at accounts i f) i g ≡ changed_at accounts i (λ a. g (f a))
+pub changed_twice : (accounts : List Account) (i : ℕ) (f g : Account → Account) → update_at (update_at accounts i f) i g ≡ update_at accounts i (λ a. g (f a))
 changed_twice [] i f g = refl
 changed_twice (a ∷ accounts) zero f g = refl
 changed_twice (a ∷ accounts) (suc i) f g = ap (λ (xs : List Account). a ∷ xs) (changed_twice accounts i f g)

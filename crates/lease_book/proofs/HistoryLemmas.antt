@@ -5,7 +5,7 @@ use Rattle.std.proofs.lemmas.Bool.{or_parts, or_from, eqb-true, ne_eqb}
 use Rattle.lease_book.specs.Entry.{Entry, Hello, Settled, Swept, kept_settlement}
 use Rattle.lease_book.specs.Account.{Account, is_lease, without_first, leases_after}
 use Rattle.lease_book.specs.History.{incarnation, settled_in, greatest, leases_of, clients_of, account, AreOrderly}
-use Rattle.lease_book.specs.BookState.{BookState, IsHistory, nobody, or_nobody, account_in}
+use Rattle.lease_book.specs.BookState.{BookState, IsHistory, nobody, account_or_nobody, account_in}
 
 -- whether the client is in the list
 abbrev pub has : ℕ → List ℕ → Bool
@@ -102,8 +102,8 @@ find_known es c (d ∷ cs) = by (nat_eq c d) refl (find_known es c cs)
 -- the account of a client is what is read off about it
 pub account_is : (es : List Entry) (book : BookState) (c : ℕ) → IsHistory es book → account_in c book ≡ account es c
 account_is es book c h =
-    ap (λ (xs : List Account). or_nobody c (find (λ a. nat_eq c a.client) xs)) h.accounts ∙ ap (or_nobody c) (find_known es c (clients_of es)) ∙ by (has c (clients_of es)) refl
+    ap (λ (xs : List Account). account_or_nobody c (find (λ a. nat_eq c a.client) xs)) h.accounts ∙ ap (account_or_nobody c) (find_known es c (clients_of es)) ∙ by (has c (clients_of es)) refl
   where
-    by : (b : Bool) → has c (clients_of es) ≡ b → or_nobody c (cond b (Some (account es c)) None) ≡ account es c
+    by : (b : Bool) → has c (clients_of es) ≡ b → account_or_nobody c (cond b (Some (account es c)) None) ≡ account es c
     by true is = refl
     by false is = sym (account_unknown c es h.orderly is)

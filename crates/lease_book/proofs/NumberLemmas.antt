@@ -6,8 +6,8 @@ use Rattle.lease_terms.specs.Requests.{RequestId}
 use Rattle.lease_book.specs.Receipts.{Kept}
 use Rattle.lease_book.specs.Entry.{Settlement, Entry, Hello, Settled, Swept, kept_settlement}
 use Rattle.lease_book.specs.Account.{number_of}
-use Rattle.lease_book.specs.History.{settled_in, higher, greatest, last_in, outcome_of, AreOrderly}
-use Rattle.lease_book.specs.NumberLaws.{SettledForIncarnation, OutcomesStay, NumbersAreSettledOnce, down_from}
+use Rattle.lease_book.specs.History.{settled_in, greater_kept, greatest, last_in, outcome_of, AreOrderly}
+use Rattle.lease_book.specs.NumberLaws.{SettledForIncarnation, OutcomesStay, NumbersAreSettledOnce, numbers_down}
 use Rattle.lease_book.proofs.HistoryLemmas.{fresh}
 use Rattle.lease_book.proofs.EntryLemmas.{higher_next}
 
@@ -44,7 +44,7 @@ settled_for_incarnation = record {
 
 -- The greatest number.
 
-higher_both : (k : Kept) (g : Option Kept) → (k.number ≤ number_of (higher k g)) × (number_of g ≤ number_of (higher k g))
+higher_both : (k : Kept) (g : Option Kept) → (k.number ≤ number_of (greater_kept k g)) × (number_of g ≤ number_of (greater_kept k g))
 higher_both k None = (omega arith, omega arith)
 higher_both k (Some m) = by (nat_lt k.number m.number) refl
   where
@@ -59,7 +59,7 @@ found_number (m ∷ ks) n k at = by (nat_eq n m.number) refl at (found_number ks
   where
     by : (b : Bool) → nat_eq n m.number ≡ b → cond b (Some m) (find (λ x. nat_eq n x.number) ks) ≡ Some k
         → (find (λ x. nat_eq n x.number) ks ≡ Some k → (n ≡ k.number) × (n ≤ number_of (greatest ks)))
-        → (n ≡ k.number) × (n ≤ number_of (higher m (greatest ks)))
+        → (n ≡ k.number) × (n ≤ number_of (greater_kept m (greatest ks)))
     by true is at rest =
         let same : m ≡ k = cc in
         let number : n ≡ m.number = eqb-true n m.number is in
@@ -83,7 +83,7 @@ last_found (m ∷ ks) k at = by (greatest ks) refl at (last_found ks k)
         let differs : nat_eq k.number m.number ≡ false = ne_eqb k.number m.number (λ e. absurd (omega (arith, e, number, ltb-true _ _ below))) in
         (λ j. cond (differs j) (Some m) (find (λ y. nat_eq k.number y.number) ks)) ∙ rest same
 
-    by : (g : Option Kept) → greatest ks ≡ g → higher m g ≡ Some k → (greatest ks ≡ Some k → find (λ x. nat_eq k.number x.number) ks ≡ Some k)
+    by : (g : Option Kept) → greatest ks ≡ g → greater_kept m g ≡ Some k → (greatest ks ≡ Some k → find (λ x. nat_eq k.number x.number) ks ≡ Some k)
         → cond (nat_eq k.number m.number) (Some m) (find (λ x. nat_eq k.number x.number) ks) ≡ Some k
     by None is at rest = here (cc)
     by (Some x) is at rest = under x (nat_lt m.number x.number) refl at (λ same. rest (is ∙ ap Some same))
@@ -101,7 +101,7 @@ last_more (Settled id s) es c i = by (is_of c i id)
 
 last_own : (es : List Entry) (id : RequestId) (s : Settlement) → id.number ≤ last_in id.client id.incarnation (Settled id s ∷ es)
 last_own es id s =
-    let more : last_in id.client id.incarnation (Settled id s ∷ es) ≡ number_of (higher (kept_settlement id.number s) (greatest (settled_in id.client id.incarnation es))) = ap (λ (ks : List Kept). number_of (greatest ks)) (own_more es id s) in
+    let more : last_in id.client id.incarnation (Settled id s ∷ es) ≡ number_of (greater_kept (kept_settlement id.number s) (greatest (settled_in id.client id.incarnation es))) = ap (λ (ks : List Kept). number_of (greatest ks)) (own_more es id s) in
     omega (arith, more, (higher_both (kept_settlement id.number s) (greatest (settled_in id.client id.incarnation es))).0)
 
 entry_below : (es : List Entry) (id : RequestId) (s : Settlement) (k : ℕ) → slice_get es k ≡ Some (Settled id s) → id.number ≤ last_in id.client id.incarnation es
@@ -208,31 +208,31 @@ settled_once (e ∷ es) id s t zero (suc k) orderly at there = absurd (head_alon
 settled_once (e ∷ es) id s t (suc j) zero orderly at there = absurd (head_alone e es id t orderly there (entry_below es id s j at))
 settled_once (e ∷ es) id s t (suc j) (suc k) orderly at there = ap suc (settled_once es id s t j k (older_orderly e es orderly) at there)
 
-in_turn : (es : List Entry) (c i : ℕ) → AreOrderly es → map (λ (k : Kept). k.number) (settled_in c i es) ≡ down_from (last_in c i es)
+in_turn : (es : List Entry) (c i : ℕ) → AreOrderly es → map (λ (k : Kept). k.number) (settled_in c i es) ≡ numbers_down (last_in c i es)
 in_turn [] c i orderly = refl
 in_turn (Hello d j ∷ older) c i orderly = in_turn older c i orderly.2
 in_turn (Swept d j a b ∷ older) c i orderly = in_turn older c i orderly.1
 in_turn (Settled id s ∷ older) c i orderly = by (is_of c i id) refl (in_turn older c i orderly.3)
   where
-    by : (b : Bool) → is_of c i id ≡ b → map (λ (k : Kept). k.number) (settled_in c i older) ≡ down_from (last_in c i older)
+    by : (b : Bool) → is_of c i id ≡ b → map (λ (k : Kept). k.number) (settled_in c i older) ≡ numbers_down (last_in c i older)
         → map (λ (k : Kept). k.number) (cond b (kept_settlement id.number s ∷ settled_in c i older) (settled_in c i older))
-        ≡ down_from (number_of (greatest (cond b (kept_settlement id.number s ∷ settled_in c i older) (settled_in c i older))))
+        ≡ numbers_down (number_of (greatest (cond b (kept_settlement id.number s ∷ settled_in c i older) (settled_in c i older))))
     by false is rest = rest
     by true is rest =
         let of = of_says c i id is in
         let last : last_in c i older ≡ last_in id.client id.incarnation older = λ j. last_in (of.0 j) (of.1 j) older in
         let plus : id.number ≡ last_in c i older + 1 = omega (arith, next_of older id s orderly, last) in
         let next : id.number ≡ suc (last_in c i older) = omega (arith, plus) in
-        let top : higher (kept_settlement id.number s) (greatest (settled_in c i older)) ≡ Some (kept_settlement id.number s) = higher_next (kept_settlement id.number s) (greatest (settled_in c i older)) plus in
-        (λ j. next j ∷ rest j) ∙ ap down_from (sym next ∙ ap number_of (sym top))
+        let top : greater_kept (kept_settlement id.number s) (greatest (settled_in c i older)) ≡ Some (kept_settlement id.number s) = higher_next (kept_settlement id.number s) (greatest (settled_in c i older)) plus in
+        (λ j. next j ∷ rest j) ∙ ap numbers_down (sym next ∙ ap number_of (sym top))
 
-find_in_turn : (ks : List Kept) (n m : ℕ) → map (λ (k : Kept). k.number) ks ≡ down_from n → 1 ≤ m → m ≤ n → (k : Kept) × (find (λ x. nat_eq m x.number) ks ≡ Some k)
+find_in_turn : (ks : List Kept) (n m : ℕ) → map (λ (k : Kept). k.number) ks ≡ numbers_down n → 1 ≤ m → m ≤ n → (k : Kept) × (find (λ x. nat_eq m x.number) ks ≡ Some k)
 find_in_turn [] zero m is some less = absurd (omega (arith, some, less))
 find_in_turn [] (suc n) m is some less = absurd (cc)
 find_in_turn (k ∷ ks) zero m is some less = absurd (omega (arith, some, less))
 find_in_turn (k ∷ ks) (suc n) m is some less =
     let here : k.number ≡ suc n = cc in
-    let rest : map (λ (x : Kept). x.number) ks ≡ down_from n = cc in
+    let rest : map (λ (x : Kept). x.number) ks ≡ numbers_down n = cc in
     by here (nat_eq m k.number) refl (λ less_more. find_in_turn ks n m rest some less_more)
   where
     below : m ≢ suc n → m ≤ n

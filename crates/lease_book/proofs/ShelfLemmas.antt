@@ -16,7 +16,7 @@ use Rattle.lease_book.proofs.PlaceLemmas.{position-some, position-none}
 use Rattle.lease_terms.specs.Ranges.{IsClient}
 use Rattle.lease_book.specs.Account.{Lease, Account, number_of}
 use Rattle.lease_book.specs.Reports.{report_of}
-use Rattle.lease_book.specs.Shelf.{account_with, accounts_of, IsShelf, IsEmptyBefore, changed_at, standing_of, with_standing, with_leases}
+use Rattle.lease_book.specs.Shelf.{account_with, accounts_of, IsShelf, IsEmptyBefore, update_at, standing_of, with_standing, with_leases}
 use Rattle.lease_book.specs.declared.accounts.Standing.{Standing}
 
 pub length-accounts_of : (es : List (ℕ × Standing)) (ls : List (List Lease)) → length es ≡ length ls → length (accounts_of es ls) ≡ length es
@@ -49,14 +49,14 @@ find_at_place c (e ∷ es) (l ∷ ls) same = by (nat_eq c e.0) (find_at_place c 
     by true rest = refl
     by false rest = rw one-add rest
 
-pub write_standing : (es : List (ℕ × Standing)) (ls : List (List Lease)) (i : ℕ) (s : Standing) → accounts_of (set_value_at es i s) ls ≡ changed_at (accounts_of es ls) i (with_standing s)
+pub write_standing : (es : List (ℕ × Standing)) (ls : List (List Lease)) (i : ℕ) (s : Standing) → accounts_of (set_value_at es i s) ls ≡ update_at (accounts_of es ls) i (with_standing s)
 write_standing [] ls i s = refl
 write_standing (e ∷ es) [] zero s = refl
 write_standing (e ∷ es) [] (suc i) s = refl
 write_standing (e ∷ es) (l ∷ ls) zero s = refl
 write_standing (e ∷ es) (l ∷ ls) (suc i) s = ap (λ r. account_with e.0 e.1 l ∷ r) (write_standing es ls i s)
 
-pub write_leases : (f : List Lease → List Lease) (es : List (ℕ × Standing)) (ls : List (List Lease)) (i : ℕ) (l : List Lease) → l ≡ get_or ls i l → accounts_of es (set ls i (f l)) ≡ changed_at (accounts_of es ls) i (with_leases f)
+pub write_leases : (f : List Lease → List Lease) (es : List (ℕ × Standing)) (ls : List (List Lease)) (i : ℕ) (l : List Lease) → l ≡ get_or ls i l → accounts_of es (set ls i (f l)) ≡ update_at (accounts_of es ls) i (with_leases f)
 write_leases f [] ls i l at = refl
 write_leases f (e ∷ es) [] i l at = refl
 write_leases f (e ∷ es) (x ∷ ls) zero l at = ap (λ r. account_with e.0 e.1 (f r) ∷ accounts_of es ls) at
@@ -190,9 +190,9 @@ limited_after (Err e) l m x room ok err = omega (arith, ap length err)
 
 pub leased_after : {T E : Type 0} (r : Result T E) (es : List (ℕ × Standing)) (ls : List (List Lease)) (accounts : List Account) (i : ℕ) (l m : List Lease) (x : Lease)
     → accounts_of es ls ≡ accounts → l ≡ get_or ls i l → OnOk r (m ≡ l ++ x ∷ [])
-    → OnOk r (accounts_of es (set ls i m) ≡ changed_at accounts i (with_leases (λ ys. ys ++ x ∷ [])))
+    → OnOk r (accounts_of es (set ls i m) ≡ update_at accounts i (with_leases (λ ys. ys ++ x ∷ [])))
 leased_after (Ok t) es ls accounts i l m x is at ok =
-    ap (λ (y : List Lease). accounts_of es (set ls i y)) ok ∙ write_leases (λ ys. ys ++ x ∷ []) es ls i l at ∙ ap (λ (xs : List Account). changed_at xs i (with_leases (λ ys. ys ++ x ∷ []))) is
+    ap (λ (y : List Lease). accounts_of es (set ls i y)) ok ∙ write_leases (λ ys. ys ++ x ∷ []) es ls i l at ∙ ap (λ (xs : List Account). update_at xs i (with_leases (λ ys. ys ++ x ∷ []))) is
 leased_after (Err e) es ls accounts i l m x is at ok = tt
 
 pub unleased_after : {T E : Type 0} (r : Result T E) (es : List (ℕ × Standing)) (ls : List (List Lease)) (accounts : List Account) (i : ℕ) (l m : List Lease)

@@ -31,13 +31,13 @@ pub record Enters (entry : Entry) (old new : BookState) : Type 0 where
 abbrev pub nobody : ℕ → Account
 nobody c = record { client = c; incarnation = 0; kept = None; leases = [] }
 
-abbrev pub or_nobody : ℕ → Option Account → Account
-or_nobody c None = nobody c
-or_nobody c (Some a) = a
+abbrev pub account_or_nobody : ℕ → Option Account → Account
+account_or_nobody c None = nobody c
+account_or_nobody c (Some a) = a
 
 -- the account of a client
 abbrev pub account_in : ℕ → BookState → Account
-account_in c book = or_nobody c (find (λ a. c == a.client) book.accounts)
+account_in c book = account_or_nobody c (find (λ a. c == a.client) book.accounts)
 
 abbrev pub segments : List Lease → List Tag
 segments leases = map (λ l. l.segment) leases

@@ -30,14 +30,14 @@ settled_in c i (Settled id s ∷ older) =
     else settled_in c i older
 settled_in c i (Swept d j a b ∷ older) = settled_in c i older
 
-abbrev pub higher : Kept → Option Kept → Option Kept
-higher k None = Some k
-higher k (Some m) = if nat_lt k.number m.number then Some m else Some k
+abbrev pub greater_kept : Kept → Option Kept → Option Kept
+greater_kept k None = Some k
+greater_kept k (Some m) = if nat_lt k.number m.number then Some m else Some k
 
 -- the one with the greatest number
 abbrev pub greatest : List Kept → Option Kept
 greatest [] = None
-greatest (k ∷ older) = higher k (greatest older)
+greatest (k ∷ older) = greater_kept k (greatest older)
 
 -- the last number that was settled for that incarnation of the client, or 0
 abbrev pub last_in : ℕ → ℕ → List Entry → ℕ

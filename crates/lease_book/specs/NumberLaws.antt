@@ -46,9 +46,9 @@ OutcomesAreEarned =
     → IsEarned k.reply k.terms
 
 -- n, and so on down to 1
-abbrev pub down_from : ℕ → List ℕ
-down_from zero = []
-down_from (suc n) = suc n ∷ down_from n
+abbrev pub numbers_down : ℕ → List ℕ
+numbers_down zero = []
+numbers_down (suc n) = suc n ∷ numbers_down n
 
 -- no request is settled by two entries; the numbers that are settled for an incarnation are those
 -- up to its last one, each of them once and one after the other
@@ -56,7 +56,7 @@ pub record NumbersAreSettledOnce : Type 0 where
   pub once : (es : List Entry) (id : RequestId) (s t : Settlement) (j k : ℕ) → AreOrderly es
       → slice_get es j ≡ Some (Settled id s) → slice_get es k ≡ Some (Settled id t) → j ≡ k
   pub in_turn : (es : List Entry) (c i : ℕ) → AreOrderly es
-      → map (λ k. k.number) (settled_in c i es) ≡ down_from (last_in c i es)
+      → map (λ k. k.number) (settled_in c i es) ≡ numbers_down (last_in c i es)
   pub settled : (es : List Entry) (id : RequestId) → AreOrderly es → 1 ≤ id.number
       → id.number ≤ last_in id.client id.incarnation es → (k : Kept) × (outcome_of id es ≡ Some k)
   pub unsettled : (es : List Entry) (id : RequestId)

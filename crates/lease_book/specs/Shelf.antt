@@ -44,10 +44,10 @@ pub record IsStored (es : List (ℕ × Standing)) (ls : List (List Lease)) (empt
   pub before : IsEmptyBefore empty ls
 
 -- the list with the member at an index changed
-abbrev pub changed_at : {X : Type 0} → List X → ℕ → (X → X) → List X
-changed_at [] i f = []
-changed_at (x ∷ xs) zero f = f x ∷ xs
-changed_at (x ∷ xs) (suc i) f = x ∷ changed_at xs i f
+abbrev pub update_at : {X : Type 0} → List X → ℕ → (X → X) → List X
+update_at [] i f = []
+update_at (x ∷ xs) zero f = f x ∷ xs
+update_at (x ∷ xs) (suc i) f = x ∷ update_at xs i f
 
 -- what is kept of a client, its leases apart
 abbrev pub standing_of : Account → Standing

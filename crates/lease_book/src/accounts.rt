@@ -59,7 +59,7 @@ impl<D: Deed> Model for Accounts<D> {
 }
 
 impl<D: Deed> Accounts<D> {
-    ghost use Rattle.lease_book.specs.Shelf.{account_with, changed_at, standing_of, with_standing};
+    ghost use Rattle.lease_book.specs.Shelf.{account_with, update_at, standing_of, with_standing};
     ghost use Rattle.lease_book.specs.Shelf.{with_leases};
     ghost use Rattle.lease_book.specs.BookState.{leased_by, units_of_arena};
     ghost use Rattle.lease_book.specs.Reports.{report_of};
@@ -100,7 +100,7 @@ impl<D: Deed> Accounts<D> {
 
     pub(crate) fn write(&mut self, index: usize, standing: Standing)
         requires { index < length self.old }
-        ensures { self.new ≡ changed_at self.old index (with_standing standing) }
+        ensures { self.new ≡ update_at self.old index (with_standing standing) }
     {
         self.clients[index] = standing;
     }
@@ -116,7 +116,7 @@ impl<D: Deed> Accounts<D> {
         requires within { index < length self.old }
         requires earned { IsEarned reply terms }
         ensures value { result ≡ record { number = id.number; reply = reply; terms = terms } }
-        ensures accounts { self.new ≡ changed_at self.old index
+        ensures accounts { self.new ≡ update_at self.old index
             (with_standing (record { incarnation = id.incarnation; kept = Some result })) }
     {
         let kept = Kept::new(id.number, reply, terms);
@@ -160,7 +160,7 @@ impl<D: Deed> Accounts<D> {
     pub(crate) fn lease(&mut self, index: usize, held: Held<D>) -> Result<(), Segment<D>>
         requires within { index < length self.old }
         requires room { IfSome (slice_get self.old index) (λ a. length a.leases < MOST_LEASES) }
-        ensures ok { OnOk result (self.new ≡ changed_at self.old index
+        ensures ok { OnOk result (self.new ≡ update_at self.old index
             (with_leases (λ ls. ls ++ held ∷ []))) }
         ensures unchanged { OnErr result (self.new ≡ self.old) }
         ensures handed_back { IfErr result (λ s. s ≡ held.segment) }
@@ -175,7 +175,7 @@ impl<D: Deed> Accounts<D> {
         requires stands { IfSome (slice_get self.old index) (λ a. lease < length a.leases) }
         ensures lease { IfSome (slice_get self.old index)
             (λ a. slice_get a.leases lease ≡ Some result) }
-        ensures rest { self.new ≡ changed_at self.old index (with_leases (λ ls. remove ls lease)) }
+        ensures rest { self.new ≡ update_at self.old index (with_leases (λ ls. remove ls lease)) }
     {
         self.leases[index].take(lease)
     }

@@ -1,6 +1,7 @@
 //! The leases of one client, in order of grant.
 ghost use Rattle.std.specs.Prelude.{◌≡◌, ◌+◌, ◌*◌, ◌^◌, ◌<◌, ◌≤◌, [], ◌∷◌, ◌++◌, length, OnOk};
 ghost use Rattle.std.specs.Prelude.{OnErr, IfErr, Some, slice_get, position, sum_by};
+ghost use Rattle.std.specs.Prelude.{map, box_value};
 ghost use Rattle.std.specs.List.{list_any, remove};
 ghost use Rattle.lease_terms.specs.declared.values.TheConstants.{LARGEST};
 ghost use Rattle.lease_book.specs.Account.{Lease, is_lease, is_older, lease_of, bases_of};
@@ -100,21 +101,22 @@ impl<D: Deed> Held<D> {
 }
 
 /// The leases of one client, and beside them the base of each. A search reads the bases, which lie
-/// closer together, and looks at a lease only where its base is the one that is asked for.
+/// closer together, and looks at a lease only where its base is the one that is asked for. Each
+/// lease lies in a box, so that those after one that is taken out move down by a few bytes each.
 pub(crate) struct Leases<D: Deed> {
-    held: Vec<Held<D>>,
+    held: Vec<Box<Held<D>>>,
     bases: Vec<u64>,
 }
 
 impl<D: Deed> Model for Leases<D> {
-    ghost use Rattle.std.specs.Prelude.{◌≡◌, List};
+    ghost use Rattle.std.specs.Prelude.{◌≡◌, List, map, box_value};
     ghost use Rattle.lease_book.specs.Account.{Lease, bases_of};
 
     ghost Value = { List Lease };
 
-    ghost view = { λ l. l.held.items };
+    ghost view = { λ l. map box_value l.held.items };
 
-    ghost invariant = { λ l. l.bases.items ≡ bases_of l.held.items };
+    ghost invariant = { λ l. l.bases.items ≡ bases_of (map box_value l.held.items) };
 }
 
 impl<D: Deed> Leases<D> {
@@ -145,9 +147,15 @@ impl<D: Deed> Leases<D> {
         let Ok(()) = self.held.reserve(1) else {
             return Err(held.into_segment());
         };
-        self.bases.push_reserved(held.segment.range().base());
-        self.held.push_reserved(held);
-        Ok(())
+        let base = held.segment.range().base();
+        match Box::new(*self.held.allocator(), held) {
+            Ok(boxed) => {
+                self.bases.push_reserved(base);
+                self.held.push_reserved(boxed);
+                Ok(())
+            }
+            Err(failed) => Err(failed.value.into_segment()),
+        }
     }
 
     /// Where the first lease of the request's incarnation with this arena and base stands.
@@ -161,14 +169,14 @@ impl<D: Deed> Leases<D> {
     pub(crate) fn older(&self, incarnation: Ordinal) -> Option<usize>
         ensures { result ≡ position (is_older incarnation) self.now }
     {
-        self.held.iter().position(|held| held.is_older(incarnation))
+        first_older(&self.held, incarnation)
     }
 
     /// Whether there is one.
     pub(crate) fn has_older(&self, incarnation: Ordinal) -> bool
         ensures { result ≡ list_any (is_older incarnation) self.now }
     {
-        self.held.iter().any(|held| held.is_older(incarnation))
+        any_older(&self.held, incarnation)
     }
 
     /// Takes the lease at an index out.
@@ -178,7 +186,7 @@ impl<D: Deed> Leases<D> {
         ensures rest { self.new ≡ remove self.old index }
     {
         self.bases.remove(index);
-        self.held.remove(index)
+        Box::into_inner(self.held.remove(index))
     }
 
     /// The units of the arena that are leased.
@@ -210,13 +218,13 @@ impl<D: Deed> Leases<D> {
 /// of all.
 fn first_beside<D: Deed>(
     bases: &[u64],
-    held: &[Held<D>],
+    held: &[Box<Held<D>>],
     id: RequestId,
     arena: u32,
     base: Quantity,
 ) -> Option<usize>
-    requires { bases.now ≡ bases_of held.now }
-    ensures { result ≡ position (is_lease id.incarnation arena base) held.now }
+    requires { bases.now ≡ bases_of (map box_value held.now) }
+    ensures { result ≡ position (is_lease id.incarnation arena base) (map box_value held.now) }
 {
     let asked = base.get();
     for (index, at) in bases.iter().enumerate() {
@@ -225,4 +233,16 @@ fn first_beside<D: Deed>(
         }
     }
     None
+}
+
+fn first_older<D: Deed>(held: &[Box<Held<D>>], incarnation: Ordinal) -> Option<usize>
+    ensures { result ≡ position (λ one. is_older incarnation (box_value one)) held.now }
+{
+    held.iter().position(|one| one.is_older(incarnation))
+}
+
+fn any_older<D: Deed>(held: &[Box<Held<D>>], incarnation: Ordinal) -> bool
+    ensures { result ≡ list_any (λ one. is_older incarnation (box_value one)) held.now }
+{
+    held.iter().any(|one| one.is_older(incarnation))
 }

@@ -11,7 +11,7 @@ use Rattle.lease_proto.specs.declared.lines.Op.TheVariants as ops
 use Rattle.lease_book.specs.Receipts.{Kept}
 use Rattle.lease_book.specs.Entry.{Entry, Settlement, Settled, Grant, Return, Refuse, kept_settlement}
 use Rattle.lease_book.specs.Account.{Lease, number_of, is_lease, without_first, leases_after, lease_of}
-use Rattle.lease_book.specs.History.{incarnation, settled_in, higher, greatest, last_in, outcome_of, leases_of}
+use Rattle.lease_book.specs.History.{incarnation, settled_in, greater_kept, greatest, last_in, outcome_of, leases_of}
 use Rattle.lease_book.proofs.LawProofs.{settled_for_incarnation, outcomes_stay}
 use Rattle.lease_client.specs.declared.held.HeldSegment.{HeldSegment}
 use Rattle.lease_client.specs.ClientState.{ClientState, IsOwn, HasEnded, is_at, holds_at}
@@ -107,7 +107,7 @@ other_settled names es c id s know other =
 
 -- The client's own request.
 
-higher_than : (k : Kept) (g : Option Kept) → number_of g < k.number → number_of (higher k g) ≡ k.number
+higher_than : (k : Kept) (g : Option Kept) → number_of g < k.number → number_of (greater_kept k g) ≡ k.number
 higher_than k None lt = refl
 higher_than k (Some m) lt = ap number_of (cond-false (nat_lt k.number m.number) (Some m) (Some k) (le-ltb k.number m.number (omega arith)))
 

@@ -26,8 +26,8 @@ use Rattle.local_calls.specs.Laws.{AllocsWell}
 use Rattle.local_calls.specs.Runs.{RunsTo, SoundStep}
 use Rattle.local_parts.specs.States.{LocalState}
 use Rattle.quantum_cache.proofs.LawProofs.{alloc_bad, alloc_gives, alloc_handles}
-use Rattle.quantum_cache.specs.Allocs.{alloc_by, alloc_plan}
-use Rattle.quantum_cache.specs.Caches.{chain_in, chain_on, chain_up}
+use Rattle.quantum_cache.specs.Allocs.{alloc_steps, alloc_plan}
+use Rattle.quantum_cache.specs.Caches.{chain_in, rest_of_chain, chain_up}
 use Rattle.quantum_cache.specs.Served.{AsksForNone, IsServed, IsServedOf}
 use Rattle.quantum_cache.specs.Sizes.{cache_for}
 use Rattle.std.proofs.Common.{Err, List, None, Ok, Option, Result, Some, [], ap, arith, find, inl, inr, length, refl, slice_get, subst, suc, sym, zero, ℕ, ◌*◌, ◌+◌, ◌<◌, ◌∙◌, ◌∷◌, ◌≡◌}
@@ -47,7 +47,7 @@ gives_so nodes post (Ask e f) gives old new a path = gives_so nodes post (f path
 
 -- the chain of an arena begins with it
 pub chain_begins : (tree : List TreeArena) (index : ℕ) (x : TreeArena) → slice_get tree index ≡ Some x → chain_in tree index ≡ level_of index x ∷ chain_up 3 tree x.source
-chain_begins tree index x here = ap (λ o. chain_on (λ p. chain_up 3 tree p) index o) here
+chain_begins tree index x here = ap (λ o. rest_of_chain (λ p. chain_up 3 tree p) index o) here
 
 node_quantum : (nodes : List Node) (k : ℕ) (n : Node) → slice_get nodes k ≡ Some n → quantum_in nodes k ≡ n.quantum
 node_quantum [] k n at = absurd (let e : None ≡ Some n = at in cc)
@@ -116,8 +116,8 @@ module _ (d : Picture) (index : ℕ) (x : TreeArena) (q : Request) (s : LocalSta
   module _ (uncached : ¬ IsCachedIn x q) where
     climb : RunsTo d.tree (climb_plan (level ∷ above) q.size) was s a
     climb =
-        let from : RunsTo d.tree (alloc_by (cache_for level q.size) (level ∷ above) level q.size) was s a = subst (λ z. RunsTo d.tree (alloc_plan z q.size) was s a) (chain_begins d.tree index x here) run in
-        subst (λ o. RunsTo d.tree (alloc_by o (level ∷ above) level q.size) was s a) (no_cache d.tree index x q held.tree here plain uncached) from
+        let from : RunsTo d.tree (alloc_steps (cache_for level q.size) (level ∷ above) level q.size) was s a = subst (λ z. RunsTo d.tree (alloc_plan z q.size) was s a) (chain_begins d.tree index x here) run in
+        subst (λ o. RunsTo d.tree (alloc_steps o (level ∷ above) level q.size) was s a) (no_cache d.tree index x q held.tree here plain uncached) from
 
     cpu_same : s.cpu ≡ c.caches
     cpu_same = climb_cpu d.tree (level ∷ above) q.size was s a climb

@@ -5,7 +5,7 @@ use Rattle.lease_machine.proofs.Focus.{Focus, changed, itself, popped, size_some
 use Rattle.lease_machine.specs.Chunks.{LacksRounds, TakesOwn}
 use Rattle.local_calls.specs.Runs.{RunsTo}
 use Rattle.local_parts.specs.States.{LocalState}
-use Rattle.local_parts.specs.Words.{full_word, in_words}
+use Rattle.local_parts.specs.Words.{full_word, wording_of}
 use Rattle.magazine_layer.specs.Calls.{PopOf, SwapFullOf}
 use Rattle.magazine_layer.specs.Depots.{DepotState}
 use Rattle.magazine_layer.specs.Magazines.{BothEmpty, CpuCacheState, IsSize, Pops, after_change}
@@ -70,7 +70,7 @@ module _ (arenas : List TreeArena) (s : LocalState) (k j : ℕ) (f : Focus s k j
       same_state : (y : CpuCacheState) (d : DepotState) → path.0 ≡ here y (with_depot d f.cache) → y ≡ own → d ≡ depot → path.0 ≡ here own f.cache
       same_state y d state a b = state ∙ (ap (λ z. here z (with_depot d f.cache)) a ∙ ap (λ z. here own (with_depot z f.cache)) b)
 
-      by : (y : CpuCacheState) (d : DepotState) (w : Result (Unit {0}) FullFault) → path.0 ≡ here y (with_depot d f.cache) → SwapFullOf own depot w y d → path.1 ≡ in_words full_word w → ((t : Tag) × (r ≡ Some (Ok t)) × IsRound t m) ⊎ ((r ≡ None) × Lacks m)
+      by : (y : CpuCacheState) (d : DepotState) (w : Result (Unit {0}) FullFault) → path.0 ≡ here y (with_depot d f.cache) → SwapFullOf own depot w y d → path.1 ≡ wording_of full_word w → ((t : Tag) × (r ≡ Some (Ok t)) × IsRound t m) ⊎ ((r ≡ None) × Lacks m)
       by y d (Ok u) state did told =
           let rest = subst (λ (z : LocalState). RunsTo arenas (take_round k (j + 1)) z m r) state (subst (λ z. RunsTo arenas (on_swap_full k (j + 1) z) path.0 m r) told path.3) in
           elim (take_stage y (with_depot d f.cache) m r rest) [

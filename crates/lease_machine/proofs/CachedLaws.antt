@@ -34,7 +34,7 @@ use Rattle.local_parts.specs.Cpus.{IsOwnAt}
 use Rattle.local_parts.specs.States.{LocalState}
 use Rattle.magazine_layer.specs.Magazines.{CpuCacheState, IsSize}
 use Rattle.quantum_cache.proofs.LawProofs.{alloc_handles}
-use Rattle.quantum_cache.specs.Allocs.{alloc_by, alloc_cached, alloc_plan}
+use Rattle.quantum_cache.specs.Allocs.{alloc_steps, alloc_cached, alloc_plan}
 use Rattle.quantum_cache.specs.Caches.{chain_in, chain_up}
 use Rattle.quantum_cache.specs.Served.{IsServed, IsServedOf}
 use Rattle.quantum_cache.specs.Sizes.{cache_for}
@@ -87,14 +87,14 @@ module _ (d : Picture) (index : ℕ) (x : TreeArena) (q : Request) (s : LocalSta
   law : IsStock d.spaces
   law = held.units.parts
 
-  stage_run : RunsTo d.tree (alloc_by (cache_for level q.size) (level ∷ above) level q.size) was s a
+  stage_run : RunsTo d.tree (alloc_steps (cache_for level q.size) (level ∷ above) level q.size) was s a
   stage_run = subst (λ z. RunsTo d.tree (alloc_plan z q.size) was s a) (allocs.chain_begins d.tree index x here) run
 
   -- no units are asked for
   nothing_asked : q.size ≡ 0 → IsFromCaches index x q d a then_d
   nothing_asked zero =
       let none : cache_for level q.size ≡ None = ap (cache_for level) zero in
-      let climb : RunsTo d.tree (climb_plan (level ∷ above) q.size) was s a = subst (λ o. RunsTo d.tree (alloc_by o (level ∷ above) level q.size) was s a) none stage_run in
+      let climb : RunsTo d.tree (climb_plan (level ∷ above) q.size) was s a = subst (λ o. RunsTo d.tree (alloc_steps o (level ∷ above) level q.size) was s a) none stage_run in
       let bad : a ≡ Err climbing.BadRequest = allocs.none_asked d.tree level above was s a law (subst (λ n. RunsTo d.tree (climb_plan (level ∷ above) n) was s a) zero climb) in
       let spaces : s.spaces ≡ d.spaces = subst (λ z. Climbings (level ∷ above) q.size z d.spaces s.spaces) bad (climb_ends d.tree (level ∷ above) q.size was s a law climb) in
       subst (λ z. IsFromCaches index x q d z then_d) (sym bad)
@@ -138,7 +138,7 @@ module _ (d : Picture) (index : ℕ) (x : TreeArena) (q : Request) (s : LocalSta
 
       ends : Ends d.tree chain level q.size j was f sized law a s
       ends =
-          let by : RunsTo d.tree (alloc_cached (level ∷ above) level (j + 1) q.size) was s a = subst (λ o. RunsTo d.tree (alloc_by o (level ∷ above) level q.size) was s a) number stage_run in
+          let by : RunsTo d.tree (alloc_cached (level ∷ above) level (j + 1) q.size) was s a = subst (λ o. RunsTo d.tree (alloc_steps o (level ∷ above) level q.size) was s a) number stage_run in
           alloc_ends d.tree chain level q.size j was f sized law s a (subst (λ z. RunsTo d.tree (alloc_cached z level (j + 1) q.size) was s a) (sym (allocs.chain_begins d.tree index x here)) by)
 
       abbrev mine : CacheFor d index x q f.cache f.own

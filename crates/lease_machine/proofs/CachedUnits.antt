@@ -15,7 +15,8 @@ use Rattle.tag_arena.proofs.LawProofs.{spans_once}
 use Rattle.slab_layer.specs.Cache.{span_tag, span_tags}
 use Rattle.stock.specs.Setups.{plan_for}
 use Rattle.stock.specs.Spaces.{SpaceState, QuantumCacheState, plan_of}
-use Rattle.stock.specs.Sums.{holdings_of, held_of}
+use Rattle.stock.specs.Sums.{held_of}
+use Rattle.tag_arena.specs.Spanned.{holdings_of}
 use Rattle.stock_audit.specs.Accounted.{IsAccountedFor}
 use Rattle.stock_audit.specs.Audits.{sums_of_arena}
 use Rattle.stock_audit.specs.Chains.{spans_of_slabs}

@@ -21,7 +21,7 @@ use Rattle.lease_machine.specs.Moves.{CarvesAt, Climbs, ClimbsInVain, HasBase, H
 use Rattle.local_calls.specs.Runs.{RunsTo, SoundStep}
 use Rattle.local_parts.specs.SharedSteps.{DoesCarve}
 use Rattle.local_parts.specs.States.{LocalState}
-use Rattle.local_parts.specs.Words.{carve_word, import_word, in_words}
+use Rattle.local_parts.specs.Words.{carve_word, import_word, wording_of}
 use Rattle.std.proofs.Common.{Err, List, None, Ok, Option, Result, Some, [], ap, inl, inr, refl, set, slice_get, subst, sym, ℕ, ◌∙◌, ◌∷◌, ◌≡◌, ◌⊎◌}
 use Rattle.stock.specs.Setups.{plan_for, plans_for}
 use Rattle.stock.specs.Spaces.{SpacePlan, SpaceState, plan_of, plans_of, with_arena}
@@ -58,7 +58,7 @@ module _ (old new : List SpaceState) (k : ℕ) (q : Request) (law : IsStock old)
   same_arena : (P : ArenaState → ArenaState → Type 0) (on : OnArena k P old new) → on.arena ≡ on.space.arena → new ≡ old
   same_arena P on is = on.after ∙ (ap (λ a. set old k (with_arena a on.space)) is ∙ set_same old k on.space on.at)
 
-  carved_so : (r : Result Tag ArenaFault) → OnArena k (λ a b. CarveOf a q r b) old new → Carvings (in_words carve_word r)
+  carved_so : (r : Result Tag ArenaFault) → OnArena k (λ a b. CarveOf a q r b) old new → Carvings (wording_of carve_word r)
   carved_so (Ok t) on = record { space = on.space; at = on.at; arena = on.arena; after = on.after; does = on.does }
   carved_so (Err arena_fault.BadRequest) on =
       let bad = (carves_exactly on.space.arena on.arena q (Err arena_fault.BadRequest) (law k on.space on.at).sound on.does).bad.0 refl in
@@ -171,11 +171,11 @@ module _ (arenas : List TreeArena) where
 
   -- a span that came, and what the arena did with it
   module _ (l : Level) (up : List Level) (n : ℕ) (span : Tag) (old : List SpaceState) (m new : LocalState) (a : Climbed) (law : IsStock old) (none : ¬ HasBase old l.id (plain_of n)) (upper : Climbs up (amount_of l up n) span old m.spaces) where
-    told : (r : Result Tag (SpanFault Tag)) (t : Tag) → Ok t ≡ in_words import_word r → r ≡ Ok t
+    told : (r : Result Tag (SpanFault Tag)) (t : Tag) → Ok t ≡ wording_of import_word r → r ≡ Ok t
     told (Ok y) t e = (let x : Ok t ≡ Ok y = e in let same : t ≡ y = cc in ap Ok (sym same))
     told (Err f) t e = absurd (let x : Ok t ≡ Err (import_word f) = e in cc)
 
-    refusal_same : (new : List SpaceState) (r : Result Tag (SpanFault Tag)) (x : AddCarveFault Tag) → Err x ≡ in_words import_word r → OnArena l.id (λ a b. ImportOf a span (plain_of n) r b) m.spaces new → new ≡ m.spaces
+    refusal_same : (new : List SpaceState) (r : Result Tag (SpanFault Tag)) (x : AddCarveFault Tag) → Err x ≡ wording_of import_word r → OnArena l.id (λ a b. ImportOf a span (plain_of n) r b) m.spaces new → new ≡ m.spaces
     refusal_same new (Ok y) x e there = absurd (let z : Err x ≡ Ok y = e in cc)
     refusal_same new (Err f) x e there = there.after ∙ (ap (λ b. set m.spaces l.id (with_arena b there.space)) there.does.1 ∙ set_same m.spaces l.id there.space there.at)
 

@@ -2,15 +2,14 @@
 -- all members of all rows are so where all of each are
 use Rattle.lease_machine.specs.Held.{with_caches_of}
 use Rattle.lease_machine.specs.Picture.{NumberedCpu, is_cpu}
-use Rattle.local_parts.specs.Cpus.{cpu_rounds, row_rounds}
+use Rattle.local_parts.specs.Cpus.{cpu_rounds}
+use Rattle.stock.specs.OwnCaches.{all_own_rounds, OwnCacheState, own_rounds}
 use Rattle.std.proofs.Common.{All, AllPairs, Bool, List, None, Some, [], ap, arith, cond, false, filter, find, flat_map, get_or, length, map, not, refl, slice_get, suc, sym, true, ℕ, ◌++◌, ◌<◌, ◌==◌, ◌∙◌, ◌∷◌, ◌≡◌, ◌≢◌}
 use Rattle.std.proofs.lemmas.Bool.Decides.{Decides-eqb}
 use Rattle.std.proofs.lemmas.Grind.{flat_map-append}
 use Rattle.std.proofs.lemmas.List.{get_or-map, length-map}
 use Rattle.std.proofs.lemmas.List.Elements.{All-append, All-cons, All-head, All-map, All-nil, All-tail, All-weaker}
 use Rattle.std.proofs.lemmas.Option.{get_or_from_slice_get, slice_get_within}
-use Rattle.stock.specs.OwnCaches.{OwnCacheState, own_rounds}
-use Rattle.stock_audit.specs.Outside.{all_rounds_out}
 
 pub flat_all : {X Y : Type 0} (P : Y → Type 0) (g : X → List Y) (xs : List X) → All (λ x. All P (g x)) xs → All P (flat_map g xs)
 flat_all P g [] each = All-nil P
@@ -29,9 +28,9 @@ each_all P g [] all = All-nil (λ x. All P (g x))
 each_all P g (x ∷ xs) all = All-cons (λ y. All P (g y)) x xs (all_front P (g x) (flat_map g xs) all) (each_all P g xs (all_back P (g x) (flat_map g xs) all))
 
 -- the rounds of a CPU, told in two ways
-pub rounds_flat : (rows : List (List OwnCacheState)) → cpu_rounds rows ≡ all_rounds_out (flat_map (λ row. row) rows)
+pub rounds_flat : (rows : List (List OwnCacheState)) → cpu_rounds rows ≡ all_own_rounds (flat_map (λ row. row) rows)
 rounds_flat [] = refl
-rounds_flat (row ∷ rows) = ap (λ ts. row_rounds row ++ ts) (rounds_flat rows) ∙ sym (flat_map-append own_rounds row (flat_map (λ r. r) rows))
+rounds_flat (row ∷ rows) = ap (λ ts. all_own_rounds row ++ ts) (rounds_flat rows) ∙ sym (flat_map-append own_rounds row (flat_map (λ r. r) rows))
 
 abbrev pub with_rows : List (List OwnCacheState) → NumberedCpu → NumberedCpu
 with_rows rows c = record { number = c.number; caches = rows }

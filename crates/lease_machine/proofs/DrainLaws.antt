@@ -22,7 +22,8 @@ use Rattle.lease_machine.specs.Picture.{NumberedCpu, IsShapedIn, Picture, SameSe
 use Rattle.local_calls.proofs.LawProofs.{drain_empties_cpu}
 use Rattle.local_calls.specs.Runs.{RunsTo, SoundStep}
 use Rattle.local_parts.proofs.LawProofs.{plan_conserves, plan_keeps_setup, plan_keeps_stock}
-use Rattle.local_parts.specs.Cpus.{HasNoRound, HasNoRounds, cpu_rounds, new_cpu, row_rounds}
+use Rattle.local_parts.specs.Cpus.{HasNoRounds, cpu_rounds, new_cpu}
+use Rattle.stock.specs.OwnCaches.{HasNoRound, all_own_rounds, OwnCacheState}
 use Rattle.local_parts.specs.States.{Conserves, LocalState}
 use Rattle.local_parts.specs.Steps.{IsSetUpAs, LocalStep}
 use Rattle.magazine_layer.specs.Depots.{DepotState}
@@ -40,7 +41,6 @@ use Rattle.std.proofs.Common.{All, Bool, Err, List, None, Ok, Option, Result, So
 use Rattle.std.proofs.lemmas.Bool.Decides.{Decides-eqb}
 use Rattle.std.proofs.lemmas.List.Elements.{All-head, All-tail}
 use Rattle.stock.specs.Accounts.{Accounts}
-use Rattle.stock.specs.OwnCaches.{OwnCacheState}
 use Rattle.stock.specs.Spaces.{QuantumCacheState, SpaceState, with_cache, with_slab}
 use Rattle.stock.specs.Steps.{PutIn}
 use Rattle.stock.specs.Stocks.{IsStock}
@@ -175,11 +175,11 @@ no_rounds : (cpu : List (List OwnCacheState)) → HasNoRounds cpu → cpu_rounds
 no_rounds [] none = refl
 no_rounds (row ∷ rows) none = ap (λ ts. ts ++ cpu_rounds rows) (in_row row (All-head (λ r. All HasNoRound r) row rows none)) ∙ no_rounds rows (All-tail (λ r. All HasNoRound r) row rows none)
   where
-    in_row : (os : List OwnCacheState) → All HasNoRound os → row_rounds os ≡ []
+    in_row : (os : List OwnCacheState) → All HasNoRound os → all_own_rounds os ≡ []
     in_row [] empty = refl
     in_row (o ∷ os) empty =
         let first = All-head HasNoRound o os empty in
-        ap (λ ts. ts ++ row_rounds os) (ap (λ ts. ts ++ o.cpu.loaded) first.previous_empty ∙ first.loaded_empty) ∙ in_row os (All-tail HasNoRound o os empty)
+        ap (λ ts. ts ++ all_own_rounds os) (ap (λ ts. ts ++ o.cpu.loaded) first.previous_empty ∙ first.loaded_empty) ∙ in_row os (All-tail HasNoRound o os empty)
 
 -- a CPU that begins anew is one with the caches of a new one
 renewed_is : (n : ℕ) (spaces : List SpaceState) (cs : List NumberedCpu) → map (after_renewal n spaces) cs ≡ map (with_caches_of n (fresh_cpu n spaces).caches) cs

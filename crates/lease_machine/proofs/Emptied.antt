@@ -9,9 +9,8 @@ use Rattle.deed_core.specs.Tag.{Tag}
 use Rattle.magazine_layer.specs.Depots.{DepotState, after_tick, all_rounds, depot_rounds}
 use Rattle.arena_tree.specs.declared.trees.TreeArena.{TreeArena}
 use Rattle.stock.specs.Endings.{IsReaped, IsReapedCache}
-use Rattle.stock.specs.OwnCaches.{own_rounds}
+use Rattle.stock.specs.OwnCaches.{own_rounds, all_own_rounds}
 use Rattle.stock.specs.Spaces.{SpaceState, QuantumCacheState}
-use Rattle.stock_audit.specs.Outside.{all_rounds_out}
 use Rattle.lease_terms.specs.Requests.{RequestId}
 use Rattle.lease_proto.specs.declared.lines.LeaseLine.{LeaseLine}
 use Rattle.lease_proto.specs.declared.lines.Op.TheVariants as ops
@@ -61,12 +60,12 @@ reap_leaves_none old new text step = (all_reaped old new text step).1.left
 bare_depot : (d : DepotState) → depot_rounds (after_reap (after_tick d)) ≡ []
 bare_depot d = ap (λ (ms : List (List Tag)). all_rounds ms ++ []) (drop-length d.full)
 
-no_rounds : (cpus : List NumberedCpu) → All CpuHasNoRound cpus → all_rounds_out (flat_map caches_of cpus) ≡ []
+no_rounds : (cpus : List NumberedCpu) → All CpuHasNoRound cpus → all_own_rounds (flat_map caches_of cpus) ≡ []
 no_rounds [] none = refl
 no_rounds (c ∷ cpus) none =
     let first : CpuHasNoRound c = all_at CpuHasNoRound (c ∷ cpus) 0 c none refl in
     let others : All CpuHasNoRound cpus = all_from CpuHasNoRound cpus (λ k x at. all_at CpuHasNoRound (c ∷ cpus) (suc k) x none at) in
-    flat_map-append own_rounds (caches_of c) (flat_map caches_of cpus) ∙ (ap (λ (ts : List Tag). ts ++ all_rounds_out (flat_map caches_of cpus)) first ∙ no_rounds cpus others)
+    flat_map-append own_rounds (caches_of c) (flat_map caches_of cpus) ∙ (ap (λ (ts : List Tag). ts ++ all_own_rounds (flat_map caches_of cpus)) first ∙ no_rounds cpus others)
 
 -- after both lines
 module _ (old mid new : Picture) (units : ℕ) (ticked : mid ≡ record old { spaces = map (with_depots_by after_tick) old.spaces }) (all : ReapsAll units mid new) where
@@ -103,7 +102,7 @@ tick_and_reap_empty old mid new told text free none first second =
     let all = all_reaped mid new text second in
     record {
       leases = book old mid new all.0 ticked all.1 ∙ free;
-      rounds = ap all_rounds_out (cpus old mid new all.0 ticked all.1) ∙ no_rounds old.cpus none;
+      rounds = ap all_own_rounds (cpus old mid new all.0 ticked all.1) ∙ no_rounds old.cpus none;
       reaped = reaped old mid new all.0 ticked all.1;
     }
 
@@ -114,7 +113,7 @@ renewed_so n spaces all k c x at is = by (is_cpu n c) refl
     by : (b : Bool) → is_cpu n c ≡ b → CpuHasNoRound x ⊎ ((x.number ≢ n) × Contains all x)
     by true test =
         let fresh : x ≡ fresh_cpu n spaces = is ∙ ap (λ b. cond b (fresh_cpu n spaces) c) test in
-        inl (ap (λ (y : NumberedCpu). all_rounds_out (caches_of y)) fresh ∙ fresh_cpu_fits.none spaces n)
+        inl (ap (λ (y : NumberedCpu). all_own_rounds (caches_of y)) fresh ∙ fresh_cpu_fits.none spaces n)
     by false test =
         let same : x ≡ c = is ∙ ap (λ b. cond b (fresh_cpu n spaces) c) test in
         inr (

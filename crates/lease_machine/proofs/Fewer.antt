@@ -9,7 +9,7 @@ use Rattle.arena_tree.specs.declared.levels.Level.{Level}
 use Rattle.arena_tree.specs.declared.trees.TreeArena.{TreeArena}
 use Rattle.arena_tree.specs.Chains.{amount_of}
 use Rattle.arena_tree.specs.Trees.{IsTree}
-use Rattle.quantum_cache.specs.Caches.{chain_on, chain_up, chain_in}
+use Rattle.quantum_cache.specs.Caches.{rest_of_chain, chain_up, chain_in}
 use Rattle.stock.specs.Spaces.{SpaceState}
 use Rattle.stock.specs.Stocks.{IsStock}
 use Rattle.lease_machine.specs.Moves.{HasBaseUp}
@@ -65,7 +65,7 @@ fewer_up spaces stock (l ∷ (s ∷ up)) quanta n most le has = elim has [
   | inr above ↦ inr (fewer_up spaces stock (s ∷ up) quanta.1 (amount_of l (s ∷ up) n) (amount_of l (s ∷ up) most) (amount_fewer l s up n most quanta.0 quanta.1.0 le) above)
 ]
 
-on_quanta : (tree : List TreeArena) → IsTree tree → (p : ℕ) (again : Option ℕ → List Level) (o : Option TreeArena) → slice_get tree p ≡ o → ((x : TreeArena) → HaveQuanta (again x.source)) → HaveQuanta (chain_on again p o)
+on_quanta : (tree : List TreeArena) → IsTree tree → (p : ℕ) (again : Option ℕ → List Level) (o : Option TreeArena) → slice_get tree p ≡ o → ((x : TreeArena) → HaveQuanta (again x.source)) → HaveQuanta (rest_of_chain again p o)
 on_quanta tree is p again None at rest = tt
 on_quanta tree is p again (Some x) at rest = (power_some x.quantum (is.each p x at).power, rest x)
 

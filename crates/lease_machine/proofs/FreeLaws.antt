@@ -27,12 +27,12 @@ use Rattle.local_parts.proofs.LawProofs.{path_seen, plan_conserves, plan_keeps_s
 use Rattle.local_parts.specs.Cpus.{CacheIndexes, IsCpuOf, OnOwn, own_index, own_indexes, indexes_from, row_indexes}
 use Rattle.local_parts.specs.States.{LocalState}
 use Rattle.local_parts.specs.Steps.{IsSetUpAs, LocalStep}
-use Rattle.local_parts.specs.Words.{in_words}
+use Rattle.local_parts.specs.Words.{wording_of}
 use Rattle.magazine_layer.specs.Depots.{DepotState, all_rounds, depot_rounds}
 use Rattle.magazine_layer.specs.Magazines.{CpuCacheState, IsSize, cache_rounds}
 use Rattle.quantum_cache.proofs.LawProofs.{free_handles}
 use Rattle.quantum_cache.specs.Caches.{chain_in}
-use Rattle.quantum_cache.specs.Frees.{free_by, free_cached, free_plan}
+use Rattle.quantum_cache.specs.Frees.{free_steps, free_cached, free_plan}
 use Rattle.slab_layer.proofs.LawProofs.{chunks_are_of_cache}
 use Rattle.slab_layer.specs.Cache.{IsChunkOf, chunks_out}
 use Rattle.slab_layer.specs.Calls.{PutOf}
@@ -58,7 +58,7 @@ returns_so arenas (l ∷ up) t old new path = by path.2.step.does.0.0 path.2.ste
       | inr none ↦ absurd (let e : Ok r ≡ Err t = none.1 in cc)
     ]
 
-    by : (r : Result (Option Tag) Tag) → path.1 ≡ in_words BadFree r → FreeIn old.spaces t r path.0.spaces
+    by : (r : Result (Option Tag) Tag) → path.1 ≡ wording_of BadFree r → FreeIn old.spaces t r path.0.spaces
         → ((whole : Tag) → RunsTo arenas (return_plan up whole) path.0 new (Ok tt) → Returns new.spaces whole path.0.spaces × (new.cpu ≡ path.0.cpu)) → Returns new.spaces t old.spaces × (new.cpu ≡ old.cpu)
     by (Ok None) told is again =
         let rest = subst (λ a. RunsTo arenas (on_free (return_plan up) a) path.0 new (Ok tt)) told path.3 in
@@ -233,7 +233,7 @@ module _ (d : Picture) (t : Tag) (s : LocalState) (held : IsHeld (t ∷ []) d) (
 
   direct : t.route ≡ Direct → Goal
   direct route =
-      let path = subst (λ r. RunsTo d.tree (free_by r (chain_in d.tree t.arena) t) was s (Ok tt)) route run in
+      let path = subst (λ r. RunsTo d.tree (free_steps r (chain_in d.tree t.arena) t) was s (Ok tt)) route run in
       let back = returns_so d.tree (chain_in d.tree t.arena) t was s path in
       let by : GoesBackBy Direct t d (with_parts s d) = (back.0, cpus_same d c found held.cpus.numbers s back.1) in
       let fits = subst (λ rows. Everywhere (FitsIn s.spaces) rows) (sym back.1) (fits_before d d.selected c found (Some t) held s.spaces last) in
@@ -251,7 +251,7 @@ module _ (d : Picture) (t : Tag) (s : LocalState) (held : IsHeld (t ∷ []) d) (
       let law : IsStock d.spaces = held.units.parts in
       let round : IsRoundOf k (j + 1) f.own.quantum t = subst (λ q. IsRoundOf k (j + 1) q t) (sym f.quantum) (subst (λ (z : SpaceState). IsRoundOf k (j + 1) z.arena.quantum t) (slice_get_one d.spaces k out.2.at.space f.space out.2.at.at f.at) (out_round d.spaces k j t out.2 law refl)) in
       let stands : IsCacheAt d.spaces k j f.cache = record { space = f.space; at = f.at; among = f.among } in
-      let path : RunsTo d.tree (free_cached k (j + 1) t) was s (Ok tt) = subst (λ m. RunsTo d.tree (free_cached k m t) was s (Ok tt)) out.1 (subst (λ r. RunsTo d.tree (free_by r (chain_in d.tree k) t) was s (Ok tt)) route run) in
+      let path : RunsTo d.tree (free_cached k (j + 1) t) was s (Ok tt) = subst (λ m. RunsTo d.tree (free_cached k m t) was s (Ok tt)) out.1 (subst (λ r. RunsTo d.tree (free_steps r (chain_in d.tree k) t) was s (Ok tt)) route run) in
       let fitting = focus_fits was k j f law own_fits in
       elim (cached_goes_back d.tree was k j f t round own_fits.shaped.shape.sized s path) [
         | inl keeps ↦

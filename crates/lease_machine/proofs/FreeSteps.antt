@@ -8,7 +8,7 @@ use Rattle.lease_machine.proofs.Focus.{Focus, changed, itself, pushed, size_some
 use Rattle.lease_machine.specs.Chunks.{HasNoRoom, KeepsOwn}
 use Rattle.local_calls.specs.Runs.{RunsTo, SoundStep}
 use Rattle.local_parts.specs.States.{LocalState}
-use Rattle.local_parts.specs.Words.{empty_word, fresh_word, in_words, put_word}
+use Rattle.local_parts.specs.Words.{empty_word, fresh_word, wording_of, put_word}
 use Rattle.magazine_layer.specs.Calls.{PutFullOf, SwapEmptyOf}
 use Rattle.magazine_layer.specs.Depots.{DepotState, PutsFull}
 use Rattle.magazine_layer.specs.Magazines.{BothFull, CpuCacheState, IsSize, MagazineState, Pushes, after_change, empty_magazine}
@@ -105,7 +105,7 @@ module _ (arenas : List TreeArena) (s : LocalState) (k j : ℕ) (f : Focus s k j
       left : path.1 ≡ Err freshing.NoMemory → path.0 ≡ here own f.cache → Exchanged m p
       left is back = let end = subst (λ z. RunsTo arenas (on_swap_fresh k (j + 1) t z) path.0 m p) is path.3 in inr (sym end.1, sym end.0 ∙ back, λ e. none)
 
-      by : (y : CpuCacheState) (d : DepotState) (r : Result (Unit {0}) (PutFullFault MagazineState)) → path.0 ≡ here y (with_depot d f.cache) → PutFullOf own depot (empty_magazine own.size) r y d → path.1 ≡ in_words fresh_word r → Exchanged m p
+      by : (y : CpuCacheState) (d : DepotState) (r : Result (Unit {0}) (PutFullFault MagazineState)) → path.0 ≡ here y (with_depot d f.cache) → PutFullOf own depot (empty_magazine own.size) r y d → path.1 ≡ wording_of fresh_word r → Exchanged m p
       by y d (Ok u) state did told =
           let empty : length y.loaded ≡ 0 = ap (λ (z : CpuCacheState). length z.loaded) did.cache in
           let large : y.size ≡ own.size = ap (λ (z : CpuCacheState). z.size) did.cache in
@@ -126,7 +126,7 @@ module _ (arenas : List TreeArena) (s : LocalState) (k j : ℕ) (f : Focus s k j
       same_state : (y : CpuCacheState) (d : DepotState) → path.0 ≡ here y (with_depot d f.cache) → y ≡ own → d ≡ depot → path.0 ≡ here own f.cache
       same_state y d state a b = state ∙ (ap (λ z. here z (with_depot d f.cache)) a ∙ ap (λ z. here own (with_depot z f.cache)) b)
 
-      by : (y : CpuCacheState) (d : DepotState) (r : Result (Unit {0}) EmptyFault) → path.0 ≡ here y (with_depot d f.cache) → SwapEmptyOf own depot r y d → path.1 ≡ in_words empty_word r → Exchanged m p
+      by : (y : CpuCacheState) (d : DepotState) (r : Result (Unit {0}) EmptyFault) → path.0 ≡ here y (with_depot d f.cache) → SwapEmptyOf own depot r y d → path.1 ≡ wording_of empty_word r → Exchanged m p
       by y d (Ok u) state did told =
           let empty : length y.loaded ≡ 0 = ap (λ (z : CpuCacheState). length z.loaded) did.cache in
           let large : y.size ≡ own.size = ap (λ (z : CpuCacheState). z.size) did.cache in
@@ -144,7 +144,7 @@ module _ (arenas : List TreeArena) (s : LocalState) (k j : ℕ) (f : Focus s k j
       route_is : (i : ℕ) → t.route ≡ Cached (i + 1) → i ≡ j
       route_is i is = (let e : Cached (i + 1) ≡ Cached (j + 1) = sym is ∙ round.by in let n : i + 1 ≡ j + 1 = cc in omega (arith, n))
 
-      by : (r : Result (Unit {0}) (PutFault Tag)) → path.1 ≡ in_words put_word r → PutIn (here own f.cache).spaces t r path.0.spaces → IsHome new
+      by : (r : Result (Unit {0}) (PutFault Tag)) → path.1 ≡ wording_of put_word r → PutIn (here own f.cache).spaces t r path.0.spaces → IsHome new
       by (Ok u) told (inl on) =
           let moved : OnSlab k on.0 (λ a b. PutOf a t (Ok u) b) (here own f.cache).spaces path.0.spaces = subst (λ i. OnSlab i on.0 (λ a b. PutOf a t (Ok u) b) (here own f.cache).spaces path.0.spaces) round.from on.2 in
           let is = slab_on s k j f own f.cache (λ a b. PutOf a t (Ok u) b) path.0.spaces (subst (λ i. OnSlab k i (λ a b. PutOf a t (Ok u) b) (here own f.cache).spaces path.0.spaces) (route_is on.0 on.1) moved) in

@@ -22,8 +22,10 @@ use Rattle.slab_layer.proofs.LawProofs.{reaped_out_is_empty}
 use Rattle.stock.specs.Spaces.{SpaceState, QuantumCacheState}
 use Rattle.stock.specs.Accounts.{chunks, chunks_in, rounds, rounds_in}
 use Rattle.stock.specs.Endings.{IsReaped, IsReapedCache}
-use Rattle.stock.specs.Sums.{holdings_of, held_of}
-use Rattle.stock_audit.specs.Outside.{all_rounds_out, segments_out}
+use Rattle.stock.specs.Sums.{held_of}
+use Rattle.tag_arena.specs.Spanned.{holdings_of}
+use Rattle.stock_audit.specs.Outside.{segments_out}
+use Rattle.stock.specs.OwnCaches.{all_own_rounds}
 use Rattle.stock_audit.specs.Chains.{is_source, is_child_of, spans_of_children, spans_of_slabs}
 use Rattle.stock_audit.proofs.LawProofs.{allocated_is_out}
 use Rattle.lease_machine.specs.Picture.{Picture, IsPicture, held_outside}
@@ -50,7 +52,7 @@ only_none test f x none = by (test x) none
 
 module _ (d : Picture) (is : IsPicture d) (kept : NothingIsKept d) where
   all_in : segments_out (held_outside d) ≡ []
-  all_in = ap (λ (ts : List Tag). ts ++ all_rounds_out (held_outside d).cpus) kept.leases ∙ kept.rounds
+  all_in = ap (λ (ts : List Tag). ts ++ all_own_rounds (held_outside d).cpus) kept.leases ∙ kept.rounds
 
   cache_at : (k : ℕ) (s : SpaceState) → slice_get d.spaces k ≡ Some s → (j : ℕ) (c : QuantumCacheState) → slice_get s.caches j ≡ Some c → IsReapedCache c
   cache_at k s at j c among = all_at IsReapedCache s.caches j c (all_at IsReaped d.spaces k s kept.reaped at) among

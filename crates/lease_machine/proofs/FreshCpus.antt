@@ -11,8 +11,8 @@ use Rattle.deed_core.proofs.LawProofs.{mapped, power_some, slice_get_some, AllPa
 use Rattle.magazine_layer.specs.Magazines.{IsSize}
 use Rattle.stock.specs.Spaces.{SpaceState, SpacePlan, plan_of, plans_of, slab_size_of}
 use Rattle.stock.specs.Stocks.{IsStock}
-use Rattle.stock.specs.OwnCaches.{OwnCacheState, own_rounds}
-use Rattle.stock_audit.specs.Outside.{all_rounds_out, outside, nothing_out}
+use Rattle.stock.specs.OwnCaches.{OwnCacheState, own_rounds, all_own_rounds}
+use Rattle.stock_audit.specs.Outside.{outside, nothing_out}
 use Rattle.stock_audit.specs.Accounted.{IsOwnIn, IsAccountedFor}
 use Rattle.stock_audit.proofs.LawProofs.{fresh_is_accounted, cpus_keep}
 use Rattle.local_parts.specs.Cpus.{CacheIndexes, IsCpuOf, own_index, own_indexes, row_indexes, indexes_from, new_own}
@@ -48,16 +48,16 @@ same_rows : (rows : List (List CacheIndexes)) → own_indexes (map (map (new_own
 same_rows [] = refl
 same_rows (row ∷ rows) = ap (λ (r : List CacheIndexes). r ∷ own_indexes (map (map (new_own 3)) rows)) (same_indexes row) ∙ ap (λ (rs : List (List CacheIndexes)). row ∷ rs) (same_rows rows)
 
-no_round : (os : List OwnCacheState) → All (λ o. own_rounds o ≡ []) os → all_rounds_out os ≡ []
+no_round : (os : List OwnCacheState) → All (λ o. own_rounds o ≡ []) os → all_own_rounds os ≡ []
 no_round [] none = refl
 no_round (o ∷ os) none =
-    ap (λ (ts : List Tag). ts ++ all_rounds_out os) (none 0 o (omega arith)) ∙ no_round os (λ i e below. none (suc i) e (omega (arith, below)))
+    ap (λ (ts : List Tag). ts ++ all_own_rounds os) (none 0 o (omega arith)) ∙ no_round os (λ i e below. none (suc i) e (omega (arith, below)))
 
 module _ (spaces : List SpaceState) (n : ℕ) where
   pub fresh_indexes : IsCpuOf spaces (fresh_cpu n spaces).caches
   fresh_indexes = same_rows (indexes_from 0 (plans_of spaces))
 
-  pub fresh_rounds : all_rounds_out (caches_of (fresh_cpu n spaces)) ≡ []
+  pub fresh_rounds : all_own_rounds (caches_of (fresh_cpu n spaces)) ≡ []
   fresh_rounds = no_round (caches_of (fresh_cpu n spaces)) (all_rows (λ o. own_rounds o ≡ []) 0 (plans_of spaces) (λ i p at j below. refl))
 
   own_at : IsStock spaces → (i : ℕ) (p : SpacePlan) → slice_get (plans_of spaces) i ≡ Some p → (j : ℕ) → j < length p.slab_sizes → IsOwnIn spaces (new_own 3 (record { arena = i; cache = j; quantum = p.quantum }))
@@ -136,12 +136,12 @@ same_number : (n : ℕ) → (n == n) ≡ true
 same_number n = (Decides-eqb n n).1 refl
 
 -- what is out with one CPU more, which has no round
-rounds_push : (cs : List NumberedCpu) (c : NumberedCpu) → all_rounds_out (caches_of c) ≡ [] → all_rounds_out (flat_map caches_of (cs ++ c ∷ [])) ≡ all_rounds_out (flat_map caches_of cs)
+rounds_push : (cs : List NumberedCpu) (c : NumberedCpu) → all_own_rounds (caches_of c) ≡ [] → all_own_rounds (flat_map caches_of (cs ++ c ∷ [])) ≡ all_own_rounds (flat_map caches_of cs)
 rounds_push cs c none =
     let all : flat_map caches_of (cs ++ c ∷ []) ≡ flat_map caches_of cs ++ (caches_of c ++ []) = flat_map-append caches_of cs (c ∷ []) in
-    ap all_rounds_out all ∙ flat_map-append own_rounds (flat_map caches_of cs) (caches_of c ++ [])
-    ∙ ap (λ (os : List OwnCacheState). all_rounds_out (flat_map caches_of cs) ++ all_rounds_out os) (append-nil (caches_of c))
-    ∙ ap (λ (ts : List Tag). all_rounds_out (flat_map caches_of cs) ++ ts) none ∙ append-nil (all_rounds_out (flat_map caches_of cs))
+    ap all_own_rounds all ∙ flat_map-append own_rounds (flat_map caches_of cs) (caches_of c ++ [])
+    ∙ ap (λ (os : List OwnCacheState). all_own_rounds (flat_map caches_of cs) ++ all_own_rounds os) (append-nil (caches_of c))
+    ∙ ap (λ (ts : List Tag). all_own_rounds (flat_map caches_of cs) ++ ts) none ∙ append-nil (all_own_rounds (flat_map caches_of cs))
 
 abbrev IsCpuIn : List SpaceState → NumberedCpu → Type 0
 IsCpuIn spaces c = IsCpu c.number × IsCpuOf spaces c.caches
@@ -198,7 +198,7 @@ fresh_is_picture tree spaces book is_tree plans accounted history =
     let c : NumberedCpu = fresh_cpu 0 spaces in
     let caches : List OwnCacheState = caches_of c ++ [] in
     let own : All (IsOwnIn spaces) caches = subst (λ (os : List OwnCacheState). All (IsOwnIn spaces) os) (sym (append-nil (caches_of c))) (fresh_own spaces 0 accounted.stock) in
-    let rounds : all_rounds_out caches ≡ [] = ap all_rounds_out (append-nil (caches_of c)) ∙ fresh_rounds spaces 0 in
+    let rounds : all_own_rounds caches ≡ [] = ap all_own_rounds (append-nil (caches_of c)) ∙ fresh_rounds spaces 0 in
     let first : IsAccountedFor spaces (outside [] [] caches) = cpus_keep spaces nothing_out (outside [] [] caches) (fresh_is_accounted spaces accounted) (record {
       hands = refl;
       leases = refl;

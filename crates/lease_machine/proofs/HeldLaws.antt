@@ -27,14 +27,14 @@ use Rattle.std.proofs.lemmas.Option.{slice_get_within}
 use Rattle.std.specs.Option.{option_to_list}
 use Rattle.stock.proofs.LawProofs.{always_out, always_tagged, out_weighs}
 use Rattle.stock.specs.Accounts.{Accounts, IsAccounted}
-use Rattle.stock.specs.OwnCaches.{OwnCacheState, own_rounds}
+use Rattle.stock.specs.OwnCaches.{OwnCacheState, own_rounds, all_own_rounds}
 use Rattle.stock.specs.Setups.{plan_for, plans_for}
 use Rattle.stock.specs.Spaces.{HasCache, SpacePlan, SpaceState, plan_of, plans_of}
 use Rattle.stock.specs.Steps.{AreRoundsOf, HasQuantum}
 use Rattle.stock.specs.Stocks.{IsStock}
 use Rattle.stock_audit.proofs.LawProofs.{hand_steps_keep}
 use Rattle.stock_audit.specs.Accounted.{IsAccountedFor, IsOwnIn}
-use Rattle.stock_audit.specs.Outside.{all_rounds_out, outside}
+use Rattle.stock_audit.specs.Outside.{outside}
 
 abbrev pub hands_of : Option Tag → List Tag
 hands_of hand = option_to_list hand
@@ -91,23 +91,23 @@ module _ (d : Picture) (n : ℕ) (c : NumberedCpu) (found : find (is_cpu n) d.cp
     r = round n rows d.cpus c found held.cpus.numbers
 
     abbrev front : List Tag
-    front = all_rounds_out (flat_map caches_of r.front)
+    front = all_own_rounds (flat_map caches_of r.front)
 
     abbrev back : List Tag
-    back = all_rounds_out (flat_map caches_of r.back)
+    back = all_own_rounds (flat_map caches_of r.back)
 
     abbrev pub others : List Tag
     others = leased_segments d.book ++ (front ++ back)
 
-    rounds_round : (x : NumberedCpu) → all_rounds_out (flat_map caches_of (r.front ++ x ∷ r.back)) ≡ front ++ (cpu_rounds x.caches ++ back)
+    rounds_round : (x : NumberedCpu) → all_own_rounds (flat_map caches_of (r.front ++ x ∷ r.back)) ≡ front ++ (cpu_rounds x.caches ++ back)
     rounds_round x =
-        ap all_rounds_out (flat_map-append caches_of r.front (x ∷ r.back)) ∙ (flat_map-append own_rounds (flat_map caches_of r.front) (caches_of x ++ flat_map caches_of r.back)
+        ap all_own_rounds (flat_map-append caches_of r.front (x ∷ r.back)) ∙ (flat_map-append own_rounds (flat_map caches_of r.front) (caches_of x ++ flat_map caches_of r.back)
         ∙ ap (λ ts. front ++ ts) (flat_map-append own_rounds (caches_of x) (flat_map caches_of r.back) ∙ ap (λ ts. ts ++ back) (sym (rounds_flat x.caches))))
 
     pub balanced : Accounts d.spaces (out_of_stock reach hand ++ others)
     balanced = out_weighs d.spaces (hands_of hand ++ (leased_segments d.book ++ (front ++ (cpu_rounds c.caches ++ back)))) (out_of_stock reach hand ++ others)
         (weigh (hands_of hand) (cpu_rounds c.caches) (leased_segments d.book) front back)
-        (subst (λ ts. Accounts d.spaces (hands_of hand ++ (leased_segments d.book ++ ts))) (ap (λ cs. all_rounds_out (flat_map caches_of cs)) r.is ∙ rounds_round c) held.units.accounts)
+        (subst (λ ts. Accounts d.spaces (hands_of hand ++ (leased_segments d.book ++ ts))) (ap (λ cs. all_own_rounds (flat_map caches_of cs)) r.is ∙ rounds_round c) held.units.accounts)
 
     of_each : (P : NumberedCpu → Type 0) → All P d.cpus → P c
     of_each P all = All-head P c r.back (all_back P r.front (c ∷ r.back) (subst (All P) r.is all))
@@ -130,8 +130,8 @@ module _ (d : Picture) (n : ℕ) (c : NumberedCpu) (found : find (is_cpu n) d.cp
         flat_all (IsOwnIn d.spaces) caches_of (r.front ++ r.back) (All-append (λ x. All (IsOwnIn d.spaces) (caches_of x)) r.front r.back (all_front (λ x. All (IsOwnIn d.spaces) (caches_of x)) r.front (c ∷ r.back) split)
         (All-tail (λ x. All (IsOwnIn d.spaces) (caches_of x)) c r.back (all_back (λ x. All (IsOwnIn d.spaces) (caches_of x)) r.front (c ∷ r.back) split)))
 
-    rounds_others : all_rounds_out (flat_map caches_of (r.front ++ r.back)) ≡ front ++ back
-    rounds_others = ap all_rounds_out (flat_map-append caches_of r.front r.back) ∙ flat_map-append own_rounds (flat_map caches_of r.front) (flat_map caches_of r.back)
+    rounds_others : all_own_rounds (flat_map caches_of (r.front ++ r.back)) ≡ front ++ back
+    rounds_others = ap all_own_rounds (flat_map-append caches_of r.front r.back) ∙ flat_map-append own_rounds (flat_map caches_of r.front) (flat_map caches_of r.back)
 
   pub local : IsLocalOf d.tree reach
   local = record { tree = held.tree; plans = held.plans; cpu = of_stock [] }
@@ -189,7 +189,7 @@ module _ (d : Picture) (n : ℕ) (c : NumberedCpu) (found : find (is_cpu n) d.cp
 
     units : IsAccountedFor s.spaces (outside (hands_of left) (leased_segments d.book) (flat_map caches_of (map (with_caches_of n s.cpu) d.cpus)))
     units =
-        let is : all_rounds_out (flat_map caches_of (map (with_caches_of n s.cpu) d.cpus)) ≡ front s.cpu ++ (cpu_rounds s.cpu ++ back s.cpu) = ap (λ cs. all_rounds_out (flat_map caches_of cs)) rr.then_is ∙ rounds_round s.cpu new_cpu in
+        let is : all_own_rounds (flat_map caches_of (map (with_caches_of n s.cpu) d.cpus)) ≡ front s.cpu ++ (cpu_rounds s.cpu ++ back s.cpu) = ap (λ cs. all_own_rounds (flat_map caches_of cs)) rr.then_is ∙ rounds_round s.cpu new_cpu in
         let first : Accounts s.spaces (out_of_stock s left ++ (leased_segments d.book ++ (front s.cpu ++ back s.cpu))) = subst (λ ts. Accounts s.spaces (out_of_stock s left ++ (leased_segments d.book ++ ts))) (rounds_others s.cpu) after.accounts in
         let second : Accounts s.spaces (hands_of left ++ (leased_segments d.book ++ (front s.cpu ++ (cpu_rounds s.cpu ++ back s.cpu)))) =
         out_weighs s.spaces (out_of_stock s left ++ (leased_segments d.book ++ (front s.cpu ++ back s.cpu))) (hands_of left ++ (leased_segments d.book ++ (front s.cpu ++ (cpu_rounds s.cpu ++ back s.cpu)))) (λ f. sym (weigh (hands_of left) (cpu_rounds s.cpu) (leased_segments d.book) (front s.cpu) (back s.cpu) f)) first in

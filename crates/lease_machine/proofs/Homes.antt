@@ -3,7 +3,7 @@ use Rattle.std.proofs.Common.{◌≡◌, ℕ, refl, inl, inr, sym, subst, ap, �
 use Rattle.std.specs.Prelude.{map, sum_by, codes}
 use Rattle.std.proofs.lemmas.List.{get_or_append_left, length-append}
 use Rattle.stock.specs.Laws.{ApartUpChain}
-use Rattle.stock_audit.specs.Outside.{all_rounds_out}
+use Rattle.stock.specs.OwnCaches.{all_own_rounds}
 use Rattle.stock_audit.proofs.LawProofs.{audit_adds_up, unit_adds_up, units_weigh, out_never_overlaps}
 use Rattle.lease_proto.specs.declared.operators.OperatorLine.TheVariants as operator
 use Rattle.lease_proto.specs.declared.operators.ServedLine.TheVariants as served
@@ -40,7 +40,7 @@ front_pairs R xs ys all i j e lt below =
     subst (λ x. R x (get_or xs j e)) first (subst (R (get_or (xs ++ ys) i e)) second whole)
 
 pub leases_are_apart : LeasesAreApart
-leases_are_apart d is = front_pairs (ApartUpChain d.spaces) (leased_segments d.book) (all_rounds_out (held_outside d).cpus) (out_never_overlaps d.spaces (held_outside d) is.units)
+leases_are_apart d is = front_pairs (ApartUpChain d.spaces) (leased_segments d.book) (all_own_rounds (held_outside d).cpus) (out_never_overlaps d.spaces (held_outside d) is.units)
 
 pub audit_tells_leases : AuditTellsLeases
 audit_tells_leases d is k s at =

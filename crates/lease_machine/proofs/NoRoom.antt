@@ -31,7 +31,7 @@ use Rattle.lease_proto.specs.Frames.{with_line_feed}
 use Rattle.lease_book.specs.Entry.{Hello}
 use Rattle.lease_book.specs.Receipts.{Kept}
 use Rattle.lease_book.specs.Account.{Account}
-use Rattle.lease_book.specs.BookState.{BookState, account_in, or_nobody, leased_segments, leased_by}
+use Rattle.lease_book.specs.BookState.{BookState, account_in, account_or_nobody, leased_segments, leased_by}
 use Rattle.lease_book.proofs.LawProofs.{entered_changes}
 use Rattle.lease_machine.specs.Picture.{Picture, IsPicture, Finds}
 use Rattle.lease_machine.specs.Moves.{HasBaseUp}
@@ -169,8 +169,8 @@ no_known d id (reply.Error x) none known same = no_kept_reply d id (reply.Error 
 
 module _ (start : Picture) (is : IsPicture start) (empty : start.book.accounts ≡ []) where
   -- nobody has an account
-  none_there : (c : ℕ) → account_in c start.book ≡ or_nobody c None
-  none_there c = ap (λ (xs : List Account). or_nobody c (find (λ a. c == a.client) xs)) empty
+  none_there : (c : ℕ) → account_in c start.book ≡ account_or_nobody c None
+  none_there c = ap (λ (xs : List Account). account_or_nobody c (find (λ a. c == a.client) xs)) empty
 
   nothing_leased : leased_segments start.book ≡ []
   nothing_leased = ap leased_by empty

@@ -10,7 +10,8 @@ use Rattle.lease_machine.proofs.CpuRows.{rounds_flat}
 use Rattle.lease_machine.proofs.Focus.{Focus}
 use Rattle.lease_machine.specs.Picture.{NumberedCpu, Picture, is_cpu}
 use Rattle.lease_machine.specs.Serving.{WasReachable, all_or_none}
-use Rattle.local_parts.specs.Cpus.{cpu_rounds, row_rounds}
+use Rattle.local_parts.specs.Cpus.{cpu_rounds}
+use Rattle.stock.specs.OwnCaches.{all_own_rounds, own_rounds}
 use Rattle.magazine_layer.specs.Depots.{DepotState, SwapsForFull, all_rounds, depot_rounds}
 use Rattle.magazine_layer.specs.Magazines.{BothEmpty, CpuCacheState, Pops, cache_rounds}
 use Rattle.magazine_layer.specs.Magazines.Pops.{Of_loaded, Of_previous}
@@ -24,11 +25,10 @@ use Rattle.std.proofs.lemmas.List.Sums.{sum_by-append, sum_by-cons}
 use Rattle.std.specs.List.{flat_map}
 use Rattle.std.specs.Option.{option_to_list}
 use Rattle.std.specs.Prelude.{filter}
-use Rattle.stock.specs.OwnCaches.{own_rounds}
 use Rattle.stock.specs.Spaces.{QuantumCacheState, SpaceState}
 use Rattle.stock.specs.Stocks.{IsStock}
-use Rattle.stock.specs.Sums.{holdings_of, held_of}
-use Rattle.stock_audit.specs.Outside.{all_rounds_out}
+use Rattle.stock.specs.Sums.{held_of}
+use Rattle.tag_arena.specs.Spanned.{holdings_of}
 
 -- what stands at an index that passes is part of what passes
 module _ {X : Type 0} (g : X → ℕ) where
@@ -139,22 +139,22 @@ module _ (d : Picture) (c : NumberedCpu) (found : find (is_cpu d.selected) d.cpu
   mine : (k u : ℕ) → t.arena ≡ k → Covers t.holding.range u → unit k u t ≡ 1
   mine k u is over = ap (λ b. cond b (covers_held u t.holding) 0) ((Decides-eqb t.arena k).1 is) ∙ (counts_the_unit u t.holding.range).1.1 over
 
-  rounds_here : all_rounds_out (all_or_none (find (is_cpu d.selected) d.cpus)) ≡ cpu_rounds c.caches
-  rounds_here = ap (λ o. all_rounds_out (all_or_none o)) found ∙ sym (rounds_flat c.caches)
+  rounds_here : all_own_rounds (all_or_none (find (is_cpu d.selected) d.cpus)) ≡ cpu_rounds c.caches
+  rounds_here = ap (λ o. all_own_rounds (all_or_none o)) found ∙ sym (rounds_flat c.caches)
 
   pub own_reached : IsAmong t (own_rounds f.own) → WasReachable d index t
   own_reached among s at u over =
       let k : ℕ = s.arena.id in
       let is : t.arena ≡ k = home ∙ sym (law index s at).id in
-      let rounds : List Tag = all_rounds_out (all_or_none (find (is_cpu d.selected) d.cpus)) in
+      let rounds : List Tag = all_own_rounds (all_or_none (find (is_cpu d.selected) d.cpus)) in
       inr (omega (
         arith,
         mine k u is over,
         among (unit k u),
         part_of_sum (λ o. sum_by (unit k u) (own_rounds o)) f.row j f.own f.own_at,
         sum_by-flat_map (unit k u) own_rounds f.row,
-        part_of_sum (λ row. sum_by (unit k u) (row_rounds row)) c.caches index f.row f.row_at,
-        sum_by-flat_map (unit k u) row_rounds c.caches,
+        part_of_sum (λ row. sum_by (unit k u) (all_own_rounds row)) c.caches index f.row f.row_at,
+        sum_by-flat_map (unit k u) all_own_rounds c.caches,
         ap (sum_by (unit k u)) rounds_here,
         sum_by-filter (is_of_arena k) (λ (x : Tag). covers_held u x.holding) rounds,
         sum_by-map (covers_held u) (λ (x : Tag). x.holding) (filter (is_of_arena k) rounds),
@@ -169,7 +169,7 @@ module _ (d : Picture) (c : NumberedCpu) (found : find (is_cpu d.selected) d.cpu
   depot_reached among s at u over =
       let g : Tag → ℕ = λ x. covers_held u x.holding in
       let depot : DepotState = f.cache.depot in
-      let rounds : List Tag = all_rounds_out (all_or_none (find (is_cpu d.selected) d.cpus)) in
+      let rounds : List Tag = all_own_rounds (all_or_none (find (is_cpu d.selected) d.cpus)) in
       inr (omega (
         arith,
         (counts_the_unit u t.holding.range).1.1 over,

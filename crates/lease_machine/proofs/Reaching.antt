@@ -13,7 +13,7 @@ use Rattle.arena_tree.specs.declared.levels.Level.{Level}
 use Rattle.arena_tree.specs.declared.trees.TreeArena.{TreeArena}
 use Rattle.arena_tree.specs.Chains.{amount_of}
 use Rattle.arena_tree.specs.Trees.{IsTree, level_of, ImportsFrom}
-use Rattle.quantum_cache.specs.Caches.{chain_on, chain_up}
+use Rattle.quantum_cache.specs.Caches.{rest_of_chain, chain_up}
 use Rattle.stock.specs.Spaces.{SpaceState, SpacePlan, plan_of, plans_of}
 use Rattle.stock.specs.Setups.{plan_for, plans_for}
 use Rattle.stock.specs.Stocks.{IsStock}
@@ -62,8 +62,8 @@ long_enough l [] n a has most top = absurd has
 long_enough l (s ∷ up) n a has most top =
     let own : ℕ = rounding_of l.quantum n in
     let asked : ℕ = max own l.import_min in
-    let up_to : asked ≤ rounding_of s.quantum asked = (rounds_up s.quantum asked has).1 in
-    omega (arith, most, top, up_to)
+    let looks_in_turn : asked ≤ rounding_of s.quantum asked = (rounds_up s.quantum asked has).1 in
+    omega (arith, most, top, looks_in_turn)
 
 none_up : (m : ℕ) (tree : List TreeArena) → chain_up m tree None ≡ []
 none_up zero tree = refl
@@ -83,7 +83,7 @@ module _ (d : Picture) (tree : IsTree d.tree) (plans : plans_of d.spaces ≡ pla
       by None from own = absurd (let e : None ≡ Some p = from in cc)
       by (Some q) from own = (let e : Some q ≡ Some p = from in let same : q ≡ p = cc in subst (λ (n : ℕ). n < k) same own.0)
 
-  on_before : (k p : ℕ) (again : Option ℕ → List Level) (o : Option TreeArena) → p < k → ((x : TreeArena) → o ≡ Some x → AreBefore k (again x.source)) → AreBefore k (chain_on again p o)
+  on_before : (k p : ℕ) (again : Option ℕ → List Level) (o : Option TreeArena) → p < k → ((x : TreeArena) → o ≡ Some x → AreBefore k (again x.source)) → AreBefore k (rest_of_chain again p o)
   on_before k p again None lt rest = tt
   on_before k p again (Some x) lt rest = (lt, rest x refl)
 
@@ -94,7 +94,7 @@ module _ (d : Picture) (tree : IsTree d.tree) (plans : plans_of d.spaces ≡ pla
       let lt = lower p refl in
       on_before k p (chain_up m d.tree) (slice_get d.tree p) lt (λ x at. chain_before k m x.source (λ q from. (let below = source_before p q x at from in omega (arith, below, lt))))
 
-  on_first : (p n : ℕ) (t : Tag) (old new : List SpaceState) (again : Option ℕ → List Level) (o : Option TreeArena) → slice_get d.tree p ≡ o → Climbs (chain_on again p o) n t old new → HasFirst (chain_on again p o)
+  on_first : (p n : ℕ) (t : Tag) (old new : List SpaceState) (again : Option ℕ → List Level) (o : Option TreeArena) → slice_get d.tree p ≡ o → Climbs (rest_of_chain again p o) n t old new → HasFirst (rest_of_chain again p o)
   on_first p n t old new again None at climbs = absurd climbs
   on_first p n t old new again (Some x) at climbs = power_some x.quantum (tree.each p x at).power
 
@@ -148,7 +148,7 @@ module _ (d : Picture) (tree : IsTree d.tree) (plans : plans_of d.spaces ≡ pla
         top = (let below = does.range.below in omega (arith, below));
       }
 
-  on_reaches : (m : ℕ) → ReachesAll m → (k n : ℕ) (t : Tag) (new : List SpaceState) (o : Option TreeArena) → slice_get d.tree k ≡ o → Climbs (chain_on (chain_up m d.tree) k o) n t d.spaces new → IsReached k n t
+  on_reaches : (m : ℕ) → ReachesAll m → (k n : ℕ) (t : Tag) (new : List SpaceState) (o : Option TreeArena) → slice_get d.tree k ≡ o → Climbs (rest_of_chain (chain_up m d.tree) k o) n t d.spaces new → IsReached k n t
   on_reaches m rest k n t new None here climbs = absurd climbs
   on_reaches m rest k n t new (Some x) here climbs = elim climbs [
     | inl carves ↦

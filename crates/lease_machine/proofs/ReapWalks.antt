@@ -15,7 +15,7 @@ use Rattle.arena_tree.proofs.LawProofs.{path_split}
 use Rattle.quantum_cache.specs.declared.reaps.Reaping.{Reaping}
 use Rattle.quantum_cache.specs.Caches.{chain_in, if_ok, over_caches, over_arenas}
 use Rattle.quantum_cache.specs.Frees.{on_slab_put, put_chunk}
-use Rattle.quantum_cache.specs.Reaps.{Reaped, ReapEnd, on_return, on_depot_reap, reap_round, on_slab_reap, reap_slab, on_look, up_to, reap_by, reap_cache, reap_arena_plan, reap_plan}
+use Rattle.quantum_cache.specs.Reaps.{Reaped, ReapEnd, on_return, on_depot_reap, reap_round, on_slab_reap, reap_slab, on_look, looks_in_turn, reap_steps, reap_cache, reap_arena_plan, reap_plan}
 use Rattle.quantum_cache.specs.Sizes.{caches_in}
 use Rattle.stock.specs.Stocks.{IsStock}
 use Rattle.local_parts.specs.States.{LocalState}
@@ -136,15 +136,15 @@ adds_then x y z s t u first second = record {
 
 module _ (arenas : List TreeArena) where
   -- looks one after another
-  looks_add : (look : Plan Reaped) → ((s t : LocalState) (r : Reaped) → RunsTo arenas look s t r → LookLeaves s t r) → (n units : ℕ) (s t : LocalState) (y : Reaping) → RunsTo arenas (up_to look n units) s t (Ok y) → Adds (record { left = n; units = units }) y s t
+  looks_add : (look : Plan Reaped) → ((s t : LocalState) (r : Reaped) → RunsTo arenas look s t r → LookLeaves s t r) → (n units : ℕ) (s t : LocalState) (y : Reaping) → RunsTo arenas (looks_in_turn look n units) s t (Ok y) → Adds (record { left = n; units = units }) y s t
   looks_add look one zero units s t y path =
       let is : record { left = 0; units = units } ≡ y = (let e : Ok (record { left = 0; units = units }) ≡ Ok y = path.1 in cc) in
       adds_none (record { left = 0; units = units }) y s t path.0 (ap (λ (r : Reaping). r.units) is)
   looks_add look one (suc n) units s t y path =
-      let split = path_split (SoundStep (nodes_of arenas)) look (on_look (up_to look n) n units) s t (Ok y) path in
+      let split = path_split (SoundStep (nodes_of arenas)) look (on_look (looks_in_turn look n) n units) s t (Ok y) path in
       looked split.0 split.1 (one s split.0 split.1 split.2) split.3 (λ sum. looks_add look one n sum split.0 t y)
     where
-      looked : (m : LocalState) (r : Reaped) → LookLeaves s m r → RunsTo arenas (on_look (up_to look n) n units r) m t (Ok y) → ((sum : ℕ) → RunsTo arenas (up_to look n sum) m t (Ok y) → Adds (record { left = n; units = sum }) y m t) → Adds (record { left = suc n; units = units }) y s t
+      looked : (m : LocalState) (r : Reaped) → LookLeaves s m r → RunsTo arenas (on_look (looks_in_turn look n) n units r) m t (Ok y) → ((sum : ℕ) → RunsTo arenas (looks_in_turn look n sum) m t (Ok y) → Adds (record { left = n; units = sum }) y m t) → Adds (record { left = suc n; units = units }) y s t
       looked m (Ok (Some more)) first rest again =
           adds_then (record { left = suc n; units = units }) (record { left = n; units = units + more }) y s m t (record { units = more; told = refl; leaves = first }) (again (units + more) rest)
       looked m (Ok None) first rest again =
@@ -166,7 +166,7 @@ module _ (arenas : List TreeArena) where
   cache_adds : (chain : List Level) (k c : ℕ) (x y : Reaping) (old new : LocalState) → RunsTo arenas (reap_cache chain k c x) old new (Ok y) → Adds x y old new
   unfolding reap_cache
   cache_adds chain k c x y old new path =
-      let on = ok_on (reap_by (reap_round k c) x) (reap_by (reap_slab chain k c)) y old new path in
+      let on = ok_on (reap_steps (reap_round k c) x) (reap_steps (reap_slab chain k c)) y old new path in
       let rounds = looks_add (reap_round k c) (round_leaves arenas k c) x.left x.units old on.0 on.1 on.2 in
       let slabs = looks_add (reap_slab chain k c) (slab_leaves arenas chain k c) on.1.left on.1.units on.0 new y on.3 in
       adds_then x on.1 y old on.0 new rounds slabs

@@ -11,7 +11,7 @@ use Rattle.tag_arena.specs.ArenaState.{ArenaState, IsSound, spans_of}
 use Rattle.tag_arena.specs.Layout.{IsRun, IsPartOf, IsEdgedRun}
 use Rattle.tag_arena.specs.Place.{Serves, ServesIn}
 use Rattle.arena_tree.specs.declared.trees.TreeArena.{TreeArena}
-use Rattle.quantum_cache.specs.Caches.{chain_on, chain_up, chain_in}
+use Rattle.quantum_cache.specs.Caches.{rest_of_chain, chain_up, chain_in}
 use Rattle.stock.specs.Spaces.{SpaceState, plan_of, plans_of}
 use Rattle.stock.specs.Setups.{plan_for, plans_for}
 use Rattle.lease_machine.specs.Picture.{Picture, IsPicture}
@@ -104,6 +104,6 @@ base_serves d index x q here has none =
     let not_plain : IsPlain q → ⊥ = (λ plain.
     (let is : q ≡ plain_of q.size = (plain_is_of_its_size q).0 plain in
     let has_plain : HasBase d.spaces index (plain_of q.size) = subst (λ (r : Request). HasBase d.spaces index r) is has in
-    let up : HasBaseUp d.spaces (chain_in d.tree index) q.size = subst (λ (o : Option TreeArena). HasBaseUp d.spaces (chain_on (chain_up 3 d.tree) index o) q.size) (sym here) (inl has_plain) in
+    let up : HasBaseUp d.spaces (chain_in d.tree index) q.size = subst (λ (o : Option TreeArena). HasBaseUp d.spaces (rest_of_chain (chain_up 3 d.tree) index o) q.size) (sym here) (inl has_plain) in
     none (inr (inl (plain, up))))) in
     none (inr (inr (not_plain, has)))

@@ -18,7 +18,7 @@ use Rattle.lease_machine.specs.Moves.{Climbs, ClimbsInVain, HasBaseUp, Returns}
 use Rattle.local_calls.specs.Runs.{RunsTo, SoundStep}
 use Rattle.local_parts.proofs.LawProofs.{plan_keeps_stock}
 use Rattle.local_parts.specs.States.{LocalState}
-use Rattle.local_parts.specs.Words.{add_word, in_words}
+use Rattle.local_parts.specs.Words.{add_word, wording_of}
 use Rattle.magazine_layer.specs.Magazines.{CpuCacheState, IsSize}
 use Rattle.quantum_cache.specs.Allocs.{Stage, alloc_cached, make_slab, on_slab_add, on_slab_climb, take_chunk, take_from_depot, take_from_slab, take_round}
 use Rattle.slab_layer.specs.Cache.{SlabCacheState}
@@ -34,10 +34,10 @@ use Rattle.arena_tree.specs.declared.part_faults.ClimbFault.TheVariants as climb
 use Rattle.arena_tree.specs.declared.part_faults.SlabAddFault.TheVariants as slabbing
 
 -- a slab that isn't added leaves all as it was
-refusal_same : (k j : ℕ) (span : Tag) (old new : List SpaceState) (r : Result Tag (AddFault Tag)) (x : SlabAddFault Tag) → Err x ≡ in_words add_word r → OnSlab k j (λ a b. AddOf a span r b) old new → new ≡ old
+refusal_same : (k j : ℕ) (span : Tag) (old new : List SpaceState) (r : Result Tag (AddFault Tag)) (x : SlabAddFault Tag) → Err x ≡ wording_of add_word r → OnSlab k j (λ a b. AddOf a span r b) old new → new ≡ old
 refusal_same k j span old new r x told on = on.after ∙ (ap (set old k) (cache (by r told on.does)) ∙ set_same old k on.space on.at)
   where
-    by : (r : Result Tag (AddFault Tag)) → Err x ≡ in_words add_word r → AddOf on.cache.slab span r on.slab → on.slab ≡ on.cache.slab
+    by : (r : Result Tag (AddFault Tag)) → Err x ≡ wording_of add_word r → AddOf on.cache.slab span r on.slab → on.slab ≡ on.cache.slab
     by (Ok t) e does = absurd (let z : Err x ≡ Ok t = e in cc)
     by (Err (add_fault.WrongSize t)) e does = does.1.unchanged
     by (Err (add_fault.Overlaps t)) e does = does.2.unchanged
@@ -46,7 +46,7 @@ refusal_same k j span old new r x told on = on.after ∙ (ap (set old k) (cache 
     cache : on.slab ≡ on.cache.slab → with_cache j (with_slab on.slab on.cache) on.space ≡ on.space
     cache same = ap (λ z. with_cache j (with_slab z on.cache) on.space) same ∙ ap (λ cs. record { arena = on.space.arena; source = on.space.source; caches = cs }) (set_same on.space.caches j on.cache on.among)
 
-told_ok : (r : Result Tag (AddFault Tag)) (t : Tag) → Ok t ≡ in_words add_word r → r ≡ Ok t
+told_ok : (r : Result Tag (AddFault Tag)) (t : Tag) → Ok t ≡ wording_of add_word r → r ≡ Ok t
 told_ok (Ok y) t e = (let x : Ok t ≡ Ok y = e in let same : t ≡ y = cc in ap Ok (sym same))
 told_ok (Err f) t e = absurd (let x : Ok t ≡ Err (add_word f) = e in cc)
 

@@ -6,7 +6,7 @@ use Rattle.stock.specs.Spaces.{SpaceState, plans_of}
 use Rattle.stock.specs.Stocks.{IsStock}
 use Rattle.stock.specs.Accounts.{IsAccounted}
 use Rattle.stock.specs.Setups.{plans_for}
-use Rattle.stock_audit.specs.Outside.{all_rounds_out}
+use Rattle.stock.specs.OwnCaches.{all_own_rounds}
 use Rattle.stock_audit.specs.Accounted.{IsOwnIn}
 use Rattle.local_parts.specs.Cpus.{IsCpuOf}
 use Rattle.lease_proto.specs.Cpus.{IsCpu}
@@ -37,7 +37,7 @@ SelectedIsPicture = (d : Picture) (n : ℕ) → IsPicture d → IsCpu n
 pub record FreshCpuFits : Type 0 where
   pub of : (spaces : List SpaceState) (n : ℕ) → IsCpuOf spaces (fresh_cpu n spaces).caches
   pub none : (spaces : List SpaceState) (n : ℕ)
-      → all_rounds_out (caches_of (fresh_cpu n spaces)) ≡ []
+      → all_own_rounds (caches_of (fresh_cpu n spaces)) ≡ []
   pub own : (spaces : List SpaceState) (n : ℕ) → IsStock spaces
       → All (IsOwnIn spaces) (caches_of (fresh_cpu n spaces))
   pub shapes : (spaces : List SpaceState) (n : ℕ) → IsStock spaces

@@ -1,7 +1,7 @@
 -- What lines leave empty, and when a lease is to be asked for again.
 use Rattle.std.specs.Prelude.{◌≡◌, ◌≢◌, ◌⊎◌, ℕ, codes, List, [], All, Contains, Ok}
 use Rattle.arena_tree.specs.declared.trees.TreeArena.{TreeArena}
-use Rattle.stock_audit.specs.Outside.{all_rounds_out}
+use Rattle.stock.specs.OwnCaches.{all_own_rounds}
 use Rattle.lease_terms.specs.Requests.{RequestId}
 use Rattle.lease_book.specs.BookState.{leased_segments, account_in}
 use Rattle.lease_book.specs.Answers.{IsNew}
@@ -22,7 +22,7 @@ use Rattle.lease_machine.specs.RoomLaws.{NothingIsKept}
 
 -- the magazines of the CPU are empty
 abbrev pub CpuHasNoRound : NumberedCpu → Type 0
-CpuHasNoRound c = all_rounds_out (caches_of c) ≡ []
+CpuHasNoRound c = all_own_rounds (caches_of c) ≡ []
 
 -- the line `reap`, whatever it is answered, leaves no round that may be reaped, and no complete
 -- slab

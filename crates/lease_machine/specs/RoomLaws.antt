@@ -13,7 +13,7 @@ use Rattle.arena_tree.specs.Chains.{amount_of}
 use Rattle.quantum_cache.specs.Caches.{chain_in}
 use Rattle.stock.specs.Spaces.{SpaceState}
 use Rattle.stock.specs.Endings.{IsReaped}
-use Rattle.stock_audit.specs.Outside.{all_rounds_out}
+use Rattle.stock.specs.OwnCaches.{all_own_rounds}
 use Rattle.lease_terms.specs.Requests.{RequestId}
 use Rattle.lease_terms.specs.declared.refusals.Refusal.{Refusal}
 use Rattle.lease_terms.specs.declared.refusals.Refusal.TheVariants.{NoFit}
@@ -87,7 +87,7 @@ NoFitMeansTakenUp = (old new : Picture) (id : RequestId) (l : LeaseLine) (x : Tr
 -- nothing is leased, no CPU and no depot has a round, and no slab is whole
 pub record NothingIsKept (d : Picture) : Type 0 where
   pub leases : leased_segments d.book ≡ []
-  pub rounds : all_rounds_out (held_outside d).cpus ≡ []
+  pub rounds : all_own_rounds (held_outside d).cpus ≡ []
   pub reaped : All IsReaped d.spaces
 
 -- and then what fits in a span that the arena owns isn't refused so, however all was used before

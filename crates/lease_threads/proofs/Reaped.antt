@@ -12,7 +12,7 @@ use Rattle.quantum_cache.specs.declared.emptying_faults.EmptyingFault.{EmptyingF
 use Rattle.quantum_cache.specs.declared.reaps.Reaping.{Reaping}
 use Rattle.quantum_cache.specs.Drains.{tag_emptying_fault}
 use Rattle.quantum_cache.specs.Reaps.{ReapEnd, reap_arena_plan}
-use Rattle.lease_threads.specs.Reaping.{EndsSoundly, HasReaped, ReapsSoundly, hand_left}
+use Rattle.lease_threads.specs.Reaping.{EndsSoundly, HasReaped, ReapsSoundly, unplaced_hand}
 
 path_ends : {S A : Type 0} (step : S → (e : Event) → AnswerTo e → S → Type 0) (tree : S → List Node) (count rounds : S → ℕ) (nodes : List Node) (p : Plan A) (s t : S) (a : A) → tree s ≡ nodes → Path (Step step tree count rounds) p s t a → EndsSoundly nodes p a
 path_ends step tree count rounds nodes (Done b) s t a is d = d.1

@@ -17,7 +17,7 @@ use Rattle.lease_book.specs.declared.answers.Look.{Look}
 use Rattle.lease_book.specs.declared.answers.Look.TheVariants as look
 use Rattle.lease_book.specs.declared.receipts.Terms.{Terms}
 use Rattle.lease_threads.specs.Replying.{mark_root, IsReceiptOf, IsBookAnswerTo, IsLateHello}
-use Rattle.lease_threads.specs.Settling.{new_receipt, IsRefusalOf, IsGrantOf}
+use Rattle.lease_threads.specs.Settling.{new_receipt, IsRefusalReceipt, IsGrantReceipt}
 
 module _ (book : BookState) (id : RequestId) (mark : book.mark.root ≡ mark_root) where
   pub repeated : (v : ReceiptState) → IsRepeated book (account_in id.client book) id v → IsReceiptOf id v
@@ -76,10 +76,10 @@ answered_new book now id why again P is (answer.Stale last) of = tt
 answered_new book now id why again P is (answer.Gap last) of = tt
 answered_new book now id why again P is answer.Again of = tt
 
-pub refused_so : (book now : BookState) (id : RequestId) (why : Refusal) (v : ReceiptState) → IsRefused book now id why v → IsRefusalOf why v
+pub refused_so : (book now : BookState) (id : RequestId) (why : Refusal) (v : ReceiptState) → IsRefused book now id why v → IsRefusalReceipt why v
 refused_so book now id why v is = ap (λ (r : ReceiptState). r.reply) is.receipt
 
-pub granted_so : (book now : BookState) (id : RequestId) (t : Tag) (terms : Terms) (v : ReceiptState) → IsGranted book now id t terms v → IsGrantOf t terms v
+pub granted_so : (book now : BookState) (id : RequestId) (t : Tag) (terms : Terms) (v : ReceiptState) → IsGranted book now id t terms v → IsGrantReceipt t terms v
 granted_so book now id t terms v is = record {
   reply = ap (λ (r : ReceiptState). r.reply) is.receipt;
   on_terms = ap (λ (r : ReceiptState). r.terms) is.receipt;

@@ -19,14 +19,14 @@ EndsSoundly nodes (Done b) a = b ≡ a
 EndsSoundly nodes (Ask e f) a = (x : AnswerTo e) × Sound nodes e x × EndsSoundly nodes (f x) a
 
 -- the segment that wasn't placed
-abbrev pub hand_left : EmptyingFault Tag → Option Tag
-hand_left (Stuck t) = Some t
-hand_left (Stopped hand) = hand
+abbrev pub unplaced_hand : EmptyingFault Tag → Option Tag
+unplaced_hand (Stuck t) = Some t
+unplaced_hand (Stopped hand) = hand
 
 -- the reaping ended with these units of slabs, and with this hand
 abbrev pub HasReaped : ReapEnd → ℕ → Option Tag → Type 0
 HasReaped (Ok r) units hand = (units ≡ r.units) × (hand ≡ None)
-HasReaped (Err f) units hand = (units ≡ f.reaping.units) × (hand ≡ hand_left f.cause)
+HasReaped (Err f) units hand = (units ≡ f.reaping.units) × (hand ≡ unplaced_hand f.cause)
 
 -- the looks at the depots and slab caches of the chain's first arena, so many at most, ended so
 abbrev pub ReapsSoundly : List TreeArena → (arena limit units : ℕ) → Option Tag → Type 0

@@ -34,7 +34,7 @@ demand_of l = record {
 }
 
 -- the receipt of a request that was granted this segment on these terms
-pub record IsGrantOf (t : Tag) (terms : Terms) (v : ReceiptState) : Type 0 where
+pub record IsGrantReceipt (t : Tag) (terms : Terms) (v : ReceiptState) : Type 0 where
   pub reply : v.reply ≡ kept.Granted t.arena t.holding.range.base t.holding.range.len
   pub on_terms : v.terms ≡ Some terms
 
@@ -48,14 +48,14 @@ new_receipt (answer.Gap last) = None
 new_receipt answer.Again = None
 
 -- the receipt says that the request is refused so
-abbrev pub IsRefusalOf : Refusal → ReceiptState → Type 0
-IsRefusalOf why v = v.reply ≡ kept.Refused why
+abbrev pub IsRefusalReceipt : Refusal → ReceiptState → Type 0
+IsRefusalReceipt why v = v.reply ≡ kept.Refused why
 
 -- a lease is refused so: for the name of its arena just where no arena has that
-abbrev pub RefusesLease : List TreeArena → LeaseLine → Refusal → Type 0
-RefusesLease arenas l refusal.NoArena = index_in l.arena arenas ≡ None
-RefusesLease arenas l refusal.NotYours = ⊥
-RefusesLease arenas l _ = index_in l.arena arenas ≢ None
+abbrev pub MayRefuseLease : List TreeArena → LeaseLine → Refusal → Type 0
+MayRefuseLease arenas l refusal.NoArena = index_in l.arena arenas ≡ None
+MayRefuseLease arenas l refusal.NotYours = ⊥
+MayRefuseLease arenas l _ = index_in l.arena arenas ≢ None
 
 -- settled by units of the arena that it names, for what it asks of that arena, or refused
 abbrev pub SettlesLease : List TreeArena → LeaseLine → KeptReply → Option Terms → Type 0
@@ -64,19 +64,19 @@ SettlesLease arenas l (kept.Granted arena base len) terms =
     × (terms
     ≡ Some (record { quantum = quantum_in (nodes_of arenas) arena; request = demand_of l }))
 SettlesLease arenas l kept.Released terms = ⊥
-SettlesLease arenas l (kept.Refused why) terms = RefusesLease arenas l why
+SettlesLease arenas l (kept.Refused why) terms = MayRefuseLease arenas l why
 
 -- a release is refused so
-abbrev pub RefusesRelease : List TreeArena → ReleaseLine → Refusal → Type 0
-RefusesRelease arenas r refusal.NoArena = index_in r.arena arenas ≡ None
-RefusesRelease arenas r refusal.NotYours = index_in r.arena arenas ≢ None
-RefusesRelease arenas r _ = ⊥
+abbrev pub MayRefuseRelease : List TreeArena → ReleaseLine → Refusal → Type 0
+MayRefuseRelease arenas r refusal.NoArena = index_in r.arena arenas ≡ None
+MayRefuseRelease arenas r refusal.NotYours = index_in r.arena arenas ≢ None
+MayRefuseRelease arenas r _ = ⊥
 
 -- settled by a release, or refused
 abbrev pub SettlesRelease : List TreeArena → ReleaseLine → KeptReply → Type 0
 SettlesRelease arenas r (kept.Granted arena base len) = ⊥
 SettlesRelease arenas r kept.Released = index_in r.arena arenas ≢ None
-SettlesRelease arenas r (kept.Refused why) = RefusesRelease arenas r why
+SettlesRelease arenas r (kept.Refused why) = MayRefuseRelease arenas r why
 
 abbrev pub Settles : List TreeArena → Op → ReceiptState → Type 0
 Settles arenas (op.Lease l) v = SettlesLease arenas l v.reply v.terms

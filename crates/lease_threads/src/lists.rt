@@ -9,6 +9,7 @@ ghost use Rattle.arena_tree.specs.Trees.{nodes_of};
 ghost use Rattle.locked_parts.specs.Gates.{MayStop};
 ghost use Rattle.lease_threads.specs.Hands.{LeavesHand};
 ghost use Rattle.lease_threads.specs.Settling.{IsUnservedSo};
+ghost use Rattle.locked_parts.specs.Kinds.{AreForSame};
 
 use crate::cpus::Cpu;
 use crate::systems::System;
@@ -48,6 +49,7 @@ impl<N: Name> System<N> {
         ensures fits { IfOk result (λ t. Fits (quantum_in (nodes_of self.now.arenas) arena)
             request.now t.holding.range.base t.holding.range.len) }
         ensures number { cpu.new.number ≡ cpu.old.number }
+        ensures magazines { AreForSame cpu.old.caches cpu.new.caches }
         ensures hand { IfOk result (λ _. cpu.new.hand ≡ None) }
         ensures refused { IfErr result (λ why. LeavesHand why cpu.new.hand) }
         ensures words { IfErr result IsUnservedSo }
@@ -75,6 +77,7 @@ impl<N: Name> System<N> {
         ensures fits { IfOk result (λ t. Fits (quantum_in (nodes_of self.now.arenas) arena)
             request.now t.holding.range.base t.holding.range.len) }
         ensures number { cpu.new.number ≡ cpu.old.number }
+        ensures magazines { AreForSame cpu.old.caches cpu.new.caches }
         ensures hand { IfOk result (λ _. cpu.new.hand ≡ None) }
         ensures refused { IfErr result (λ why. LeavesHand why cpu.new.hand) }
         ensures words { IfErr result IsUnservedSo }
@@ -115,6 +118,7 @@ impl<N: Name> System<N> {
         ensures fits { IfOk result (λ t. Fits (quantum_in (nodes_of self.now.arenas) arena)
             request.now t.holding.range.base t.holding.range.len) }
         ensures number { cpu.new.number ≡ cpu.old.number }
+        ensures magazines { AreForSame cpu.old.caches cpu.new.caches }
         ensures hand { IfOk result (λ _. cpu.new.hand ≡ None) }
         ensures refused { IfErr result (λ why. LeavesHand why cpu.new.hand) }
         ensures words { IfErr result IsUnservedSo }
@@ -158,6 +162,7 @@ impl<N: Name> System<N> {
         steps: &mut StepCount,
     ) -> Result<bool, RequestStopped>
         ensures number { cpu.new.number ≡ cpu.old.number }
+        ensures magazines { AreForSame cpu.old.caches cpu.new.caches }
         ensures empty { IfOk result (λ placed. placed ≡ true → cpu.new.hand ≡ None) }
         ensures held_on { IfOk result (λ placed. placed ≡ false
             → (cpu.old.hand ≢ None) × (cpu.new.hand ≢ None)) }

@@ -7,7 +7,7 @@ ghost use Rattle.lease_book.specs.Calls.{IsGranted, IsRefused, IsReleased, IsSwe
 ghost use Rattle.lease_book.specs.Entry.{Hello};
 ghost use Rattle.lease_terms.specs.Requests.{RequestId};
 ghost use Rattle.lease_threads.specs.Replying.{IsReceiptOf, IsBookAnswerTo, IsLateHello};
-ghost use Rattle.lease_threads.specs.Settling.{IsGrantOf, IsRefusalOf, new_receipt};
+ghost use Rattle.lease_threads.specs.Settling.{IsGrantReceipt, IsRefusalReceipt, new_receipt};
 
 use arena_tree::{MOST_ARENAS, MOST_SPANS};
 use deed_core::{Request, Segment};
@@ -89,7 +89,7 @@ impl<N: Name> MarkedBook<N> {
     /// Settles a request by a refusal.
     pub(crate) fn refuse(&mut self, id: RequestId, why: Refusal) -> Answer<SeatDeed<N>>
         ensures receipt { IsBookAnswerTo id result }
-        ensures new { IfSome (new_receipt result) (IsRefusalOf why) }
+        ensures new { IfSome (new_receipt result) (IsRefusalReceipt why) }
         ensures event { IsAnswer self.old self.new id
             (IsRefused self.old self.new id why) ⊥ result }
     {
@@ -107,11 +107,11 @@ impl<N: Name> MarkedBook<N> {
         requires fits { Fits quantum request.now
             segment.holding.range.base segment.holding.range.len }
         ensures receipt { IfOk result (IsReceiptOf id) }
-        ensures grant { IfOk result (IsGrantOf segment
+        ensures grant { IfOk result (IsGrantReceipt segment
             (record { quantum = quantum; request = request.now })) }
         ensures answer { IfErr result (λ e. IsBookAnswerTo id e.answer) }
         ensures new { IfErr result (λ e. IfSome (new_receipt e.answer)
-            (IsRefusalOf Refusal.Leases)) }
+            (IsRefusalReceipt Refusal.Leases)) }
         ensures event { IfOk result (IsGranted self.old self.new id segment
             (record { quantum = quantum; request = request.now })) }
         ensures handed_back { IfErr result (λ e. e.segment ≡ segment) }
@@ -130,7 +130,8 @@ impl<N: Name> MarkedBook<N> {
         ensures receipt { IfOk result (λ r. IsReceiptOf id r.0) }
         ensures released { IfOk result (λ r. r.0.reply ≡ KeptReply.Released) }
         ensures answer { IfErr result (IsBookAnswerTo id) }
-        ensures new { IfErr result (λ a. IfSome (new_receipt a) (IsRefusalOf Refusal.NotYours)) }
+        ensures new { IfErr result (λ a.
+            IfSome (new_receipt a) (IsRefusalReceipt Refusal.NotYours)) }
         ensures event { IfOk result (λ r. IsReleased self.old self.new id arena base r.0 r.1) }
     {
         self.book.release(id, arena, base)

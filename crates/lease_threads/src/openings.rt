@@ -231,15 +231,11 @@ fn lock_all<N: Name>(
     ensures { map (λ r. r.root) roots.new.items
         ≡ map (λ r. r.root) roots.old.items ++ roots_of made.items }
 {
-    let mut before: usize = 0;
     let mut arena: u32 = 0;
     while !made.is_empty() {
-        let opened = made.remove(0);
-        let count = opened.cache_count();
-        let (locked, root) = opened.lock(before);
+        let (locked, root) = made.remove(0).lock();
         arenas.push_reserved(locked);
         push_root(roots, arena, root);
-        before = before.saturating_add(count);
         arena = arena.saturating_add(1);
     }
     made.destroy_empty();

@@ -8,9 +8,10 @@ ghost use Rattle.locked_parts.specs.Gates.{MayStop};
 ghost use Rattle.lease_threads.specs.Replying.{IsAnswerTo, IsReplyTo, IsGreeting, IsAgain};
 ghost use Rattle.lease_threads.specs.Replying.{IsReceiptOf, IsBookAnswerTo, IsLateHello};
 ghost use Rattle.lease_threads.specs.Settling as settling;
-ghost use Rattle.lease_threads.specs.Settling.{IsGrantOf, IsRefusalOf, IsSettledAsAsked};
+ghost use Rattle.lease_threads.specs.Settling.{IsGrantReceipt, IsRefusalReceipt, IsSettledAsAsked};
 ghost use Rattle.lease_threads.specs.Settling.{SettlesLease, SettlesRelease, new_receipt};
 ghost use Rattle.lease_book.specs.Receipts.{ReceiptState};
+ghost use Rattle.locked_parts.specs.Kinds.{AreForSame};
 
 use crate::cpus::Cpu;
 use crate::lists::Unserved;
@@ -52,6 +53,7 @@ impl<N: Name> System<N> {
     ) -> Result<(Reply, Option<Receipt<SeatDeed<N>>>), RequestStopped>
         ensures answers { IfOk result (λ r. IsAnswerTo self.now.arenas line.now r.0 r.1) }
         ensures number { cpu.new.number ≡ cpu.old.number }
+        ensures magazines { AreForSame cpu.old.caches cpu.new.caches }
         ensures held { IfOk result (λ r. IfSome cpu.new.hand (λ _. IsAgain r.0)) }
         ensures stopped { OnErr result (MayStop G.may_stop gate.now) }
     {
@@ -73,6 +75,7 @@ impl<N: Name> System<N> {
         ensures new { IfOk result (λ r. r.is_new ≡ true
             → IsSettledAsAsked self.now.arenas line.now r.receipt) }
         ensures number { cpu.new.number ≡ cpu.old.number }
+        ensures magazines { AreForSame cpu.old.caches cpu.new.caches }
         ensures held { IfOk result (λ r. IfSome cpu.new.hand (λ _. IsAgain r.reply)) }
         ensures stopped { OnErr result (MayStop G.may_stop gate.now) }
     {
@@ -109,6 +112,7 @@ impl<N: Name> System<N> {
     ) -> Result<Reply, RequestStopped>
         ensures greeting { IfOk result (IsGreeting hello.now) }
         ensures number { cpu.new.number ≡ cpu.old.number }
+        ensures magazines { AreForSame cpu.old.caches cpu.new.caches }
         ensures held { IfOk result (λ r. IfSome cpu.new.hand (λ _. IsAgain r)) }
         ensures stopped { OnErr result (MayStop G.may_stop gate.now) }
     {
@@ -145,6 +149,7 @@ impl<N: Name> System<N> {
     ) -> Result<bool, RequestStopped>
         requires { cpu.old.hand ≡ None }
         ensures number { cpu.new.number ≡ cpu.old.number }
+        ensures magazines { AreForSame cpu.old.caches cpu.new.caches }
         ensures empty { IfOk result (λ placed. placed ≡ true → cpu.new.hand ≡ None) }
         ensures stopped { OnErr result (MayStop G.may_stop gate.now) }
     {
@@ -179,6 +184,7 @@ impl<N: Name> System<N> {
         ensures new { IfOk result (λ r. r.is_new ≡ true → (v : ReceiptState)
             × (r.receipt ≡ Some v) × SettlesLease self.now.arenas lease.now v.reply v.terms) }
         ensures number { cpu.new.number ≡ cpu.old.number }
+        ensures magazines { AreForSame cpu.old.caches cpu.new.caches }
         ensures held { IfOk result (λ r. IfSome cpu.new.hand (λ _. IsAgain r.reply)) }
         ensures stopped { OnErr result (MayStop G.may_stop gate.now) }
     {
@@ -216,7 +222,7 @@ impl<N: Name> System<N> {
     ) -> Result<Told<N>, RequestStopped>
         ensures told { IfOk result (λ r. IsReplyTo self.now.arenas id r.reply r.receipt) }
         ensures new { IfOk result (λ r. r.is_new ≡ true → (v : ReceiptState)
-            × (r.receipt ≡ Some v) × IsRefusalOf why v) }
+            × (r.receipt ≡ Some v) × IsRefusalReceipt why v) }
         ensures stopped { OnErr result (MayStop G.may_stop gate.now) }
     {
         steps.ask(gate, EventName::Settle)?;
@@ -226,7 +232,7 @@ impl<N: Name> System<N> {
 
     fn settle_refusal<R: Wait>(&self, rt: &R, id: RequestId, why: Refusal) -> Answer<SeatDeed<N>>
         ensures receipt { IsBookAnswerTo id result }
-        ensures new { IfSome (new_receipt result) (IsRefusalOf why) }
+        ensures new { IfSome (new_receipt result) (IsRefusalReceipt why) }
     {
         self.book.lock(rt).refuse(id, why)
     }
@@ -250,13 +256,14 @@ impl<N: Name> System<N> {
         requires of_arena { segment.arena ≡ arena }
         ensures told { IfOk result (λ r. IsReplyTo self.now.arenas id r.reply r.receipt) }
         ensures new { IfOk result (λ r. r.is_new ≡ true → (v : ReceiptState)
-            × (r.receipt ≡ Some v) × (IsRefusalOf Refusal.Leases v ⊎ IsGrantOf segment
+            × (r.receipt ≡ Some v) × (IsRefusalReceipt Refusal.Leases v ⊎ IsGrantReceipt segment
             (record {
               quantum = quantum_in (nodes_of self.now.arenas) arena;
               request = request.now;
             }) v)) }
         ensures held_on { OnErr result (cpu.new.hand ≢ None) }
         ensures number { cpu.new.number ≡ cpu.old.number }
+        ensures magazines { AreForSame cpu.old.caches cpu.new.caches }
         ensures held { IfOk result (λ r. IfSome cpu.new.hand (λ _. IsAgain r.reply)) }
         ensures stopped { OnErr result (MayStop G.may_stop gate.now) }
     {
@@ -288,11 +295,11 @@ impl<N: Name> System<N> {
         requires { Fits quantum request.now
             segment.holding.range.base segment.holding.range.len }
         ensures receipt { IfOk result (IsReceiptOf id) }
-        ensures grant { IfOk result (IsGrantOf segment
+        ensures grant { IfOk result (IsGrantReceipt segment
             (record { quantum = quantum; request = request.now })) }
         ensures answer { IfErr result (λ e. IsBookAnswerTo id e.answer) }
         ensures new { IfErr result (λ e. IfSome (new_receipt e.answer)
-            (IsRefusalOf Refusal.Leases)) }
+            (IsRefusalReceipt Refusal.Leases)) }
     {
         self.book.lock(rt).settle(id, quantum, request, segment)
     }
@@ -311,6 +318,7 @@ impl<N: Name> System<N> {
         ensures new { IfOk result (λ r. r.is_new ≡ true → (v : ReceiptState)
             × (r.receipt ≡ Some v) × SettlesRelease self.now.arenas release.now v.reply) }
         ensures number { cpu.new.number ≡ cpu.old.number }
+        ensures magazines { AreForSame cpu.old.caches cpu.new.caches }
         ensures held { IfOk result (λ r. IfSome cpu.new.hand (λ _. IsAgain r.reply)) }
         ensures stopped { OnErr result (MayStop G.may_stop gate.now) }
     {
@@ -340,7 +348,8 @@ impl<N: Name> System<N> {
         ensures receipt { IfOk result (λ r. IsReceiptOf id r.0) }
         ensures released { IfOk result (λ r. r.0.reply ≡ KeptReply.Released) }
         ensures answer { IfErr result (IsBookAnswerTo id) }
-        ensures new { IfErr result (λ a. IfSome (new_receipt a) (IsRefusalOf Refusal.NotYours)) }
+        ensures new { IfErr result (λ a.
+            IfSome (new_receipt a) (IsRefusalReceipt Refusal.NotYours)) }
     {
         self.book.lock(rt).release(id, arena, base)
     }

@@ -1,6 +1,7 @@
 //! The end of a CPU.
 ghost use Rattle.std.specs.Prelude.{◌≡◌, None, IfErr};
 ghost use Rattle.lease_threads.specs.Systems.{HoldsNothing};
+ghost use Rattle.locked_parts.specs.Kinds.{AreForSame};
 
 use crate::cpus::Cpu;
 use crate::systems::System;
@@ -14,6 +15,7 @@ impl<N: Name> System<N> {
     /// the CPU comes back with what it still has, and this may be tried again.
     pub fn retire<R: Wait>(&self, rt: &R, cpu: Cpu<N>) -> Result<(), Cpu<N>>
         ensures number { IfErr result (λ rest. rest.number ≡ cpu.number) }
+        ensures magazines { IfErr result (λ rest. AreForSame cpu.caches rest.caches) }
         ensures rest { IfErr result (λ rest. ¬ HoldsNothing rest) }
     {
         let mut cpu = cpu;
@@ -29,6 +31,7 @@ impl<N: Name> System<N> {
     /// The same for a CPU that a gate stopped, whoever has it now.
     pub fn drain_failed<R: Wait>(&self, rt: &R, cpu: Cpu<N>) -> Result<(), Cpu<N>>
         ensures number { IfErr result (λ rest. rest.number ≡ cpu.number) }
+        ensures magazines { IfErr result (λ rest. AreForSame cpu.caches rest.caches) }
         ensures rest { IfErr result (λ rest. ¬ HoldsNothing rest) }
     {
         self.retire(rt, cpu)
@@ -36,7 +39,8 @@ impl<N: Name> System<N> {
 
     // Places the hand, and then the rounds, of which one that is refused is the hand.
     fn empty<R: Wait>(&self, rt: &R, cpu: &mut Cpu<N>)
-        ensures { cpu.new.number ≡ cpu.old.number }
+        ensures number { cpu.new.number ≡ cpu.old.number }
+        ensures magazines { AreForSame cpu.old.caches cpu.new.caches }
     {
         let mut steps = StepCount::new(cpu.number());
         if let Ok(true) = self.place_hand(rt, cpu, &OpenGate, &mut steps) {
@@ -46,7 +50,8 @@ impl<N: Name> System<N> {
 
     fn drain_rounds<R: Wait>(&self, rt: &R, cpu: &mut Cpu<N>)
         requires { cpu.old.hand ≡ None }
-        ensures { cpu.new.number ≡ cpu.old.number }
+        ensures number { cpu.new.number ≡ cpu.old.number }
+        ensures magazines { AreForSame cpu.old.caches cpu.new.caches }
     {
         let mut running = Running {
             parts: &self.parts,

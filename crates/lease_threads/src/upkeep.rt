@@ -1,7 +1,7 @@
 //! What keeps a system in shape while it runs: intervals, sizes of magazines, reaping.
 ghost use Rattle.std.specs.Prelude.{◌≡◌, ◌⊎◌, ◌<◌, ◌≤◌, None, true, length};
 ghost use Rattle.magazine_layer.specs.Magazines.{IsSize};
-ghost use Rattle.locked_parts.specs.Kinds.{count_of_caches};
+ghost use Rattle.locked_parts.specs.Kinds.{AreForSame, count_of_caches};
 ghost use Rattle.lease_threads.specs.Reaping.{ReapsSoundly, KeepsHand};
 
 use crate::cpus::Cpu;
@@ -36,6 +36,7 @@ impl<N: Name> System<N> {
     /// place the CPU's hand first, and answers 0 while it can't.
     pub fn reap<R: Wait>(&self, rt: &R, cpu: &mut Cpu<N>, arena: u32, limit: u64) -> u128
         ensures number { cpu.new.number ≡ cpu.old.number }
+        ensures magazines { AreForSame cpu.old.caches cpu.new.caches }
         ensures reaped { arena < length self.now.arenas
             → KeepsHand cpu.old.hand cpu.new.hand result
             ⊎ ReapsSoundly self.now.arenas arena limit result cpu.new.hand }
@@ -52,6 +53,7 @@ impl<N: Name> System<N> {
     fn reap_empty<R: Wait>(&self, rt: &R, cpu: &mut Cpu<N>, arena: u32, limit: u64) -> u128
         requires { cpu.old.hand ≡ None }
         ensures number { cpu.new.number ≡ cpu.old.number }
+        ensures magazines { AreForSame cpu.old.caches cpu.new.caches }
         ensures reaped { arena < length self.now.arenas
             → ReapsSoundly self.now.arenas arena limit result cpu.new.hand }
         ensures no_arena { length self.now.arenas ≤ arena → result ≡ 0 }

@@ -19,7 +19,7 @@ use Rattle.arena_tree.specs.Events.{SlabAdd}
 use Rattle.arena_tree.specs.Plans.{Plan, Done, Ask, then, or_else}
 use Rattle.arena_tree.specs.Sound.{Sound}
 use Rattle.arena_tree.specs.Trees.{nodes_of, IsTree}
-use Rattle.quantum_cache.specs.Allocs.{Stage, on_take, take_round, on_change_over, change_over, on_swap_full, take_from_depot, take_chunk, on_slab_add, make_slab, on_slab_climb, take_from_slab, alloc_cached, alloc_by, alloc_plan, xalloc_plan}
+use Rattle.quantum_cache.specs.Allocs.{Stage, on_take, take_round, on_change_over, change_over, on_swap_full, take_from_depot, take_chunk, on_slab_add, make_slab, on_slab_climb, take_from_slab, alloc_cached, alloc_steps, alloc_plan, xalloc_plan}
 use Rattle.quantum_cache.specs.Sizes.{cache_for}
 use Rattle.local_calls.specs.Asked.{GoesWell, DoesWell, FillsWell, ChangesWell, CarvesWell, EndsWell, IsForSlab}
 use Rattle.local_calls.specs.Laws.{AllocsWell}
@@ -112,7 +112,7 @@ module _ (arenas : List TreeArena) where
         weaker (Done r) w = ends r w
         weaker (Ask ev f) w = (w.0, λ x s well. weaker (f x) (w.1 x s well))
 
-    well_by : (o : Option ℕ) → cache_for l size ≡ o → EndsWell arenas AllocsWell (alloc_by o (l ∷ up) l size)
+    well_by : (o : Option ℕ) → cache_for l size ≡ o → EndsWell arenas AllocsWell (alloc_steps o (l ∷ up) l size)
     unfolding alloc_cached
     well_by None e = well_last
     well_by (Some cache) e =

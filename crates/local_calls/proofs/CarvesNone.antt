@@ -29,7 +29,7 @@ use Rattle.stock.specs.Spaces.{SpaceState, with_arena}
 use Rattle.stock.specs.Steps.{OnArena}
 use Rattle.local_parts.specs.SharedSteps.{DoesCarve}
 use Rattle.local_parts.specs.States.{LocalState, IsUnchanged}
-use Rattle.local_parts.specs.Words.{in_words, carve_word}
+use Rattle.local_parts.specs.Words.{wording_of, carve_word}
 use Rattle.local_calls.specs.NoFits.{NoneServesIn, NoneServesUp}
 use Rattle.local_calls.specs.Runs.{SoundStep, RunsTo}
 
@@ -41,7 +41,7 @@ same_arena spaces k s a at same = ap (λ x. set spaces k (with_arena x s)) same 
 pub carve_none : (old new : List SpaceState) (k : ℕ) (q : Request) → DoesCarve old k q (Err carving.NoFit) new → NoneServesIn old k q × (new ≡ old)
 carve_none old new k q does = words does.0 does.1 does.2
   where
-    words : (r : Result Tag ArenaFault) → Err carving.NoFit ≡ in_words carve_word r → OnArena k (λ x y. CarveOf x q r y) old new → NoneServesIn old k q × (new ≡ old)
+    words : (r : Result Tag ArenaFault) → Err carving.NoFit ≡ wording_of carve_word r → OnArena k (λ x y. CarveOf x q r y) old new → NoneServesIn old k q × (new ≡ old)
     words (Ok t) e on = absurd (let x : Err carving.NoFit ≡ Ok t = e in cc)
     words (Err arena_fault.BadRequest) e on = absurd (let x : Err carving.NoFit ≡ Err carving.BadRequest = e in cc)
     words (Err arena_fault.NoMemory) e on = absurd (let x : Err carving.NoFit ≡ Err carving.NoMemory = e in cc)

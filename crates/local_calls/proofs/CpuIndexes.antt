@@ -7,9 +7,9 @@ use Rattle.deed_core.proofs.LawProofs.{mapped, slice_get_mapped, slice_get_one, 
 use Rattle.magazine_layer.specs.Calls.{PopOf}
 use Rattle.magazine_layer.specs.Magazines.{CpuCacheState, BothEmpty}
 use Rattle.magazine_layer.specs.Magazines.Pops.{Of_loaded, Of_previous}
-use Rattle.stock.specs.OwnCaches.{OwnCacheState}
+use Rattle.stock.specs.OwnCaches.{OwnCacheState, HasNoRound}
 use Rattle.stock.specs.Spaces.{SpaceState, SpacePlan, plan_of, plans_of, slab_size_of}
-use Rattle.local_parts.specs.Cpus.{CacheIndexes, IsCpuOf, OnOwn, HasNoRound, own_index, row_indexes, indexes_from}
+use Rattle.local_parts.specs.Cpus.{CacheIndexes, IsCpuOf, OnOwn, own_index, row_indexes, indexes_from}
 use Rattle.local_parts.specs.States.{IsReached}
 
 -- the indexes of a row, and of all

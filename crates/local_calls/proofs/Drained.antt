@@ -20,7 +20,7 @@ use Rattle.arena_tree.specs.Events.{Pop}
 use Rattle.arena_tree.specs.Plans.{Done, then}
 use Rattle.arena_tree.specs.Trees.{nodes_of, IsTree, IsArena}
 use Rattle.arena_tree.proofs.LawProofs.{path_split}
-use Rattle.stock.specs.OwnCaches.{OwnCacheState}
+use Rattle.stock.specs.OwnCaches.{OwnCacheState, HasNoRound}
 use Rattle.stock.specs.Setups.{plan_for, plans_for}
 use Rattle.stock.specs.Spaces.{SpacePlan, plans_of}
 use Rattle.quantum_cache.specs.declared.emptying_faults.EmptyingFault.TheVariants as emptying
@@ -28,7 +28,7 @@ use Rattle.quantum_cache.specs.Caches.{chain_in}
 use Rattle.quantum_cache.specs.Drains.{Turn, on_put_back, on_drain_pop, drain_turn, on_turn, drain_cache_plan, drain_arena_plan, drain_plan}
 use Rattle.quantum_cache.specs.Frees.{on_slab_put, put_chunk}
 use Rattle.quantum_cache.specs.Sizes.{caches_in}
-use Rattle.local_parts.specs.Cpus.{IsCpuOf, HasNoRound, indexes_from}
+use Rattle.local_parts.specs.Cpus.{IsCpuOf, indexes_from}
 use Rattle.local_parts.specs.OwnSteps.{DoesPop}
 use Rattle.local_parts.specs.States.{LocalState}
 use Rattle.local_parts.specs.Steps.{IsSetUpAs}

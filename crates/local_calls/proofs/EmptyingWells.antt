@@ -14,7 +14,7 @@ use Rattle.quantum_cache.specs.Caches.{chain_in, if_ok, over_caches, over_arenas
 use Rattle.quantum_cache.specs.Drains.{Turn, drain_end, on_put_back, on_drain_pop, drain_turn, on_turn, drain_cache_plan, drain_arena_plan, drain_plan}
 use Rattle.quantum_cache.specs.declared.reaps.Reaping.{Reaping}
 use Rattle.quantum_cache.specs.Frees.{put_chunk}
-use Rattle.quantum_cache.specs.Reaps.{Reaped, ReapEnd, on_return, on_depot_reap, reap_round, on_slab_reap, reap_slab, on_look, up_to, reap_by, reap_cache, reap_arena_plan, reap_plan}
+use Rattle.quantum_cache.specs.Reaps.{Reaped, ReapEnd, on_return, on_depot_reap, reap_round, on_slab_reap, reap_slab, on_look, looks_in_turn, reap_steps, reap_cache, reap_arena_plan, reap_plan}
 use Rattle.quantum_cache.specs.Sizes.{caches_in}
 use Rattle.local_calls.specs.Asked.{DoesWell, EndsWell}
 use Rattle.local_calls.specs.Laws.{DrainsWell}
@@ -92,11 +92,11 @@ module _ (arenas : List TreeArena) where
       taken (Ok (Some t)) s well = ends_then arenas (λ (r : Returned). DoesWell r) (λ (r : Reaped). DoesWell r) (return_plan chain t) (λ r. Done (on_return t.holding.range.len r)) (well_return arenas chain t is (first ∙ ap Some (sym s.of_arena)) s.direct) (well_returned t.holding.range.len)
       taken (Err e) s well = absurd well
 
-  well_up_to : (p : Plan Reaped) → EndsWell arenas (λ (r : Reaped). DoesWell r) p → (n units : ℕ) → EndsWell arenas (λ (r : ReapEnd). DoesWell r) (up_to p n units)
+  well_up_to : (p : Plan Reaped) → EndsWell arenas (λ (r : Reaped). DoesWell r) p → (n units : ℕ) → EndsWell arenas (λ (r : ReapEnd). DoesWell r) (looks_in_turn p n units)
   well_up_to p w zero units = tt
-  well_up_to p w (suc n) units = ends_then arenas (λ (r : Reaped). DoesWell r) (λ (r : ReapEnd). DoesWell r) p (on_look (up_to p n) n units) w (looked (well_up_to p w n))
+  well_up_to p w (suc n) units = ends_then arenas (λ (r : Reaped). DoesWell r) (λ (r : ReapEnd). DoesWell r) p (on_look (looks_in_turn p n) n units) w (looked (well_up_to p w n))
     where
-      looked : ((sum : ℕ) → EndsWell arenas (λ (r : ReapEnd). DoesWell r) (up_to p n sum)) → (a : Reaped) → DoesWell a → EndsWell arenas (λ (r : ReapEnd). DoesWell r) (on_look (up_to p n) n units a)
+      looked : ((sum : ℕ) → EndsWell arenas (λ (r : ReapEnd). DoesWell r) (looks_in_turn p n sum)) → (a : Reaped) → DoesWell a → EndsWell arenas (λ (r : ReapEnd). DoesWell r) (on_look (looks_in_turn p n) n units a)
       looked again (Ok (Some more)) well = again _
       looked again (Ok None) well = tt
       looked again (Err f) well = absurd well
@@ -104,9 +104,9 @@ module _ (arenas : List TreeArena) where
   well_reap_cache : (chain : List Level) (arena cache : ℕ) → IsChain (nodes_of arenas) chain → first_id chain ≡ Some arena → (r : Reaping) → EndsWell arenas (λ (a : ReapEnd). DoesWell a) (reap_cache chain arena cache r)
   unfolding reap_cache
   well_reap_cache chain arena cache is first r =
-      ends_then arenas (λ (a : ReapEnd). DoesWell a) (λ (a : ReapEnd). DoesWell a) (reap_by (reap_round arena cache) r) (if_ok (reap_by (reap_slab chain arena cache))) (well_up_to (reap_round arena cache) (well_reap_round arena cache) r.left r.units) slabs
+      ends_then arenas (λ (a : ReapEnd). DoesWell a) (λ (a : ReapEnd). DoesWell a) (reap_steps (reap_round arena cache) r) (if_ok (reap_steps (reap_slab chain arena cache))) (well_up_to (reap_round arena cache) (well_reap_round arena cache) r.left r.units) slabs
     where
-      slabs : (a : ReapEnd) → DoesWell a → EndsWell arenas (λ (b : ReapEnd). DoesWell b) (if_ok (reap_by (reap_slab chain arena cache)) a)
+      slabs : (a : ReapEnd) → DoesWell a → EndsWell arenas (λ (b : ReapEnd). DoesWell b) (if_ok (reap_steps (reap_slab chain arena cache)) a)
       slabs (Ok x) well = well_up_to (reap_slab chain arena cache) (well_reap_slab chain arena cache is first) x.left x.units
       slabs (Err f) well = absurd well
 

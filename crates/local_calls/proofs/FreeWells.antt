@@ -22,7 +22,7 @@ use Rattle.arena_tree.specs.Sound.{Sound}
 use Rattle.arena_tree.specs.Trees.{nodes_of}
 use Rattle.quantum_cache.specs.declared.placings.Placing.{Placing}
 use Rattle.quantum_cache.specs.declared.placings.Placing.TheVariants.{Placed, Left, Stopped}
-use Rattle.quantum_cache.specs.Frees.{or_next, on_push, push_round, on_change, push_changed, on_swap_fresh, push_fresh, on_swap_empty, push_exchanged, on_slab_put, put_chunk, free_cached, free_by, free_plan}
+use Rattle.quantum_cache.specs.Frees.{or_next, on_push, push_round, on_change, push_changed, on_swap_fresh, push_fresh, on_swap_empty, push_exchanged, on_slab_put, put_chunk, free_cached, free_steps, free_plan}
 use Rattle.local_calls.specs.Asked.{DoesWell, PushesWell, ChangesWell, EmptiesWell, FreshensWell, EndsWell}
 use Rattle.local_calls.proofs.ClimbWells.{ends_then, well_return}
 
@@ -89,7 +89,7 @@ module _ (arenas : List TreeArena) where
       go (Left t) w' = next t w'.0 w'.1
       go (Stopped t) w' = absurd w'
 
-  well_by : (route : Route) (chain : List Level) (t : Tag) → t.route ≡ route → IsChain (nodes_of arenas) chain → first_id chain ≡ Some t.arena → EndsWell arenas (λ (r : Returned). DoesWell r) (free_by route chain t)
+  well_by : (route : Route) (chain : List Level) (t : Tag) → t.route ≡ route → IsChain (nodes_of arenas) chain → first_id chain ≡ Some t.arena → EndsWell arenas (λ (r : Returned). DoesWell r) (free_steps route chain t)
   unfolding free_cached
   well_by Direct chain t by is first = well_return arenas chain t is first by
   well_by (Cached cache) chain t by is first =

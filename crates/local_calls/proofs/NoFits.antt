@@ -27,13 +27,13 @@ use Rattle.arena_tree.proofs.LawProofs.{path_split}
 use Rattle.stock.specs.OwnCaches.{OwnCacheState}
 use Rattle.stock.specs.Spaces.{QuantumCacheState, IsCacheAt, with_cache, with_depot}
 use Rattle.stock.specs.Stocks.{IsStock}
-use Rattle.quantum_cache.specs.Allocs.{Stage, on_take, take_round, on_change_over, change_over, on_swap_full, take_from_depot, take_chunk, on_slab_add, make_slab, on_slab_climb, take_from_slab, alloc_cached, alloc_by}
+use Rattle.quantum_cache.specs.Allocs.{Stage, on_take, take_round, on_change_over, change_over, on_swap_full, take_from_depot, take_chunk, on_slab_add, make_slab, on_slab_climb, take_from_slab, alloc_cached, alloc_steps}
 use Rattle.quantum_cache.specs.Sizes.{cache_for}
 use Rattle.local_parts.specs.Cpus.{IsOwnAt, cpu_rounds}
 use Rattle.local_parts.specs.OwnSteps.{OnExchange, SwapsFull, DoesSwapFull}
 use Rattle.local_parts.specs.SharedSteps.{DoesCarve}
 use Rattle.local_parts.specs.States.{LocalState, IsReached, IsUnchanged}
-use Rattle.local_parts.specs.Words.{in_words, full_word}
+use Rattle.local_parts.specs.Words.{wording_of, full_word}
 use Rattle.local_calls.specs.Laws.{NoFitIsRight, XallocNoFitIsRight}
 use Rattle.local_calls.specs.NoFits.{HasNoRoundOf, HasNoFullOf, HasNoChunkOf, NoneServesUp, NoneInCacheBy}
 use Rattle.local_calls.specs.Runs.{SoundStep, RunsTo}
@@ -90,7 +90,7 @@ module _ (arenas : List TreeArena) (k c : ℕ) where
       | inr none ↦ absurd (let e : Err (fulling.OldSize size) ≡ Err fulling.NoneFull = none.0 in cc)
     ]
       where
-        words : (on : OnExchange old k c (SwapsFull (Err (fulling.OldSize size))) new) (r : Result (Unit {0}) FullFault) → Err (fulling.OldSize size) ≡ in_words full_word r → SwapFullOf on.3.own.cpu on.3.does.1.cache.depot r on.3.changed.cpu on.3.does.1.depot → IsUnchanged old new × HasNoFullOf old k c
+        words : (on : OnExchange old k c (SwapsFull (Err (fulling.OldSize size))) new) (r : Result (Unit {0}) FullFault) → Err (fulling.OldSize size) ≡ wording_of full_word r → SwapFullOf on.3.own.cpu on.3.does.1.cache.depot r on.3.changed.cpu on.3.does.1.depot → IsUnchanged old new × HasNoFullOf old k c
         words on (Ok u) e did = absurd (let x : Err (fulling.OldSize size) ≡ Ok u = e in cc)
         words on (Err full_fault.NoneFull) e did = absurd (let x : Err (fulling.OldSize size) ≡ Err fulling.NoneFull = e in cc)
         words on (Err (full_fault.OldSize m)) e did =
@@ -102,7 +102,7 @@ module _ (arenas : List TreeArena) (k c : ℕ) where
       | inr none ↦ (none.2, λ j o q number reached there same. absurd (none.1 j o number reached (empty j o number reached)))
     ]
       where
-        words : (on : OnExchange old k c (SwapsFull (Err fulling.NoneFull)) new) (r : Result (Unit {0}) FullFault) → Err fulling.NoneFull ≡ in_words full_word r → SwapFullOf on.3.own.cpu on.3.does.1.cache.depot r on.3.changed.cpu on.3.does.1.depot → IsUnchanged old new × HasNoFullOf old k c
+        words : (on : OnExchange old k c (SwapsFull (Err fulling.NoneFull)) new) (r : Result (Unit {0}) FullFault) → Err fulling.NoneFull ≡ wording_of full_word r → SwapFullOf on.3.own.cpu on.3.does.1.cache.depot r on.3.changed.cpu on.3.does.1.depot → IsUnchanged old new × HasNoFullOf old k c
         words on (Ok u) e did = absurd (let x : Err fulling.NoneFull ≡ Ok u = e in cc)
         words on (Err (full_fault.OldSize m)) e did = absurd (let x : Err fulling.NoneFull ≡ Err (fulling.OldSize m) = e in cc)
         words on (Err full_fault.NoneFull) e did =
@@ -255,7 +255,7 @@ module _ (arenas : List TreeArena) where
   stays_so : (s t : LocalState) → IsUnchanged s t → cpu_rounds t.cpu ≡ cpu_rounds s.cpu
   stays_so s t u = ap cpu_rounds u.cpu
 
-  by_cache : (o : Option ℕ) (l : Level) (up : List Level) (size : ℕ) (old new : LocalState) → IsStock old.spaces → RunsTo arenas (alloc_by o (l ∷ up) l size) old new (Err climbing.NoFit)
+  by_cache : (o : Option ℕ) (l : Level) (up : List Level) (size : ℕ) (old new : LocalState) → IsStock old.spaces → RunsTo arenas (alloc_steps o (l ∷ up) l size) old new (Err climbing.NoFit)
       → (NoneInCacheBy o old l up × NoneServesUp old.spaces (l ∷ up) size) × (new.spaces ≡ old.spaces) × (cpu_rounds new.cpu ≡ cpu_rounds old.cpu)
   unfolding alloc_cached
   by_cache None l up size old new law path = let none = climb_none arenas (l ∷ up) size old new path in ((tt, none.0), none.1.spaces, ap cpu_rounds none.1.cpu)

@@ -19,7 +19,7 @@ use Rattle.stock.specs.Spaces.{plan_of}
 use Rattle.quantum_cache.specs.declared.reaps.Reaping.{Reaping}
 use Rattle.quantum_cache.specs.Caches.{chain_in, if_ok, over_caches, over_arenas}
 use Rattle.quantum_cache.specs.Frees.{on_slab_put, put_chunk}
-use Rattle.quantum_cache.specs.Reaps.{Reaped, ReapEnd, on_return, on_depot_reap, reap_round, on_slab_reap, reap_slab, on_look, up_to, reap_by, reap_cache, reap_arena_plan, reap_plan}
+use Rattle.quantum_cache.specs.Reaps.{Reaped, ReapEnd, on_return, on_depot_reap, reap_round, on_slab_reap, reap_slab, on_look, looks_in_turn, reap_steps, reap_cache, reap_arena_plan, reap_plan}
 use Rattle.quantum_cache.specs.Sizes.{caches_in}
 use Rattle.local_parts.specs.States.{LocalState}
 use Rattle.local_calls.specs.Looks.{finds_in_spaces, ReapTakesFewLooks, ReapWithoutLimit}
@@ -101,15 +101,15 @@ module _ (arenas : List TreeArena) where
       looked (Err e) step rest = absurd (let x : Err e ≡ Ok step.step.does.0.0 = step.step.does.0.1 in cc)
 
   -- looks one after another: all but one find something
-  looks_pay : (look : Plan Reaped) → ((s t : LocalState) (r : Reaped) → RunsTo arenas look s t r → LookPays (found s) (found t) r) → (n units : ℕ) (s t : LocalState) (y : Reaping) → RunsTo arenas (up_to look n units) s t (Ok y) → n + found t ≤ y.left + found s + 1
+  looks_pay : (look : Plan Reaped) → ((s t : LocalState) (r : Reaped) → RunsTo arenas look s t r → LookPays (found s) (found t) r) → (n units : ℕ) (s t : LocalState) (y : Reaping) → RunsTo arenas (looks_in_turn look n units) s t (Ok y) → n + found t ≤ y.left + found s + 1
   looks_pay look one zero units s t y path =
       let same : found s ≡ found t = ap found path.0 in
       omega (arith, same)
   looks_pay look one (suc n) units s t y path =
-      let split = path_split (SoundStep (nodes_of arenas)) look (on_look (up_to look n) n units) s t (Ok y) path in
+      let split = path_split (SoundStep (nodes_of arenas)) look (on_look (looks_in_turn look n) n units) s t (Ok y) path in
       looked split.0 split.1 (one s split.0 split.1 split.2) split.3 (λ sum. looks_pay look one n sum split.0 t y)
     where
-      looked : (m : LocalState) (r : Reaped) → LookPays (found s) (found m) r → RunsTo arenas (on_look (up_to look n) n units r) m t (Ok y) → ((sum : ℕ) → RunsTo arenas (up_to look n sum) m t (Ok y) → n + found t ≤ y.left + found m + 1) → suc n + found t ≤ y.left + found s + 1
+      looked : (m : LocalState) (r : Reaped) → LookPays (found s) (found m) r → RunsTo arenas (on_look (looks_in_turn look n) n units r) m t (Ok y) → ((sum : ℕ) → RunsTo arenas (looks_in_turn look n sum) m t (Ok y) → n + found t ≤ y.left + found m + 1) → suc n + found t ≤ y.left + found s + 1
       looked m (Ok (Some more)) first rest again = let le = again _ rest in omega (arith, first, le)
       looked m (Ok None) first rest again =
           let is : record { left = n; units = units } ≡ y = (let e : Ok (record { left = n; units = units }) ≡ Ok y = rest.1 in cc) in
@@ -131,7 +131,7 @@ module _ (arenas : List TreeArena) where
   cache_pays : (chain : List Level) (k c : ℕ) (x y : Reaping) (old new : LocalState) → RunsTo arenas (reap_cache chain k c x) old new (Ok y) → x.left + found new ≤ y.left + found old + 2
   unfolding reap_cache
   cache_pays chain k c x y old new path =
-      let on = ok_on (reap_by (reap_round k c) x) (reap_by (reap_slab chain k c)) y old new path in
+      let on = ok_on (reap_steps (reap_round k c) x) (reap_steps (reap_slab chain k c)) y old new path in
       let rounds = looks_pay (reap_round k c) (round_pays k c) x.left x.units old on.0 on.1 on.2 in
       let slabs = looks_pay (reap_slab chain k c) (slab_pays chain k c) on.1.left on.1.units on.0 new y on.3 in
       omega (arith, rounds, slabs)

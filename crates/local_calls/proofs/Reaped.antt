@@ -23,7 +23,7 @@ use Rattle.quantum_cache.specs.declared.emptying_faults.EmptyingFault.TheVariant
 use Rattle.quantum_cache.specs.declared.reaps.Reaping.{Reaping}
 use Rattle.quantum_cache.specs.Caches.{chain_in, if_ok}
 use Rattle.quantum_cache.specs.Frees.{on_slab_put, put_chunk}
-use Rattle.quantum_cache.specs.Reaps.{Reaped, ReapEnd, on_return, on_depot_reap, reap_round, on_slab_reap, reap_slab, on_look, up_to, reap_by, reap_cache, reap_arena_plan, reap_plan}
+use Rattle.quantum_cache.specs.Reaps.{Reaped, ReapEnd, on_return, on_depot_reap, reap_round, on_slab_reap, reap_slab, on_look, looks_in_turn, reap_steps, reap_cache, reap_arena_plan, reap_plan}
 use Rattle.quantum_cache.specs.Sizes.{caches_in}
 use Rattle.local_parts.specs.States.{LocalState}
 use Rattle.local_calls.specs.Laws.{ReapLeavesNothing}
@@ -74,17 +74,17 @@ others_keep old new k c had others i n was d there = elim (others i n d there) [
 -- looks one after another
 module _ (arenas : List TreeArena) (Rel : LocalState → LocalState → Type 0) (same : (s : LocalState) → Rel s s) (trans : (s t u : LocalState) → Rel s t → Rel t u → Rel s u) (Last : LocalState → Type 0) (look : Plan Reaped)
     (one : (s t : LocalState) (r : Reaped) → RunsTo arenas look s t r → Rel s t × (r ≡ Ok None → Last t)) where
-  looks : (n units : ℕ) (s t : LocalState) (y : Reaping) → RunsTo arenas (up_to look n units) s t (Ok y) → Rel s t × (y.left ≤ n) × (0 < y.left → Last t)
+  looks : (n units : ℕ) (s t : LocalState) (y : Reaping) → RunsTo arenas (looks_in_turn look n units) s t (Ok y) → Rel s t × (y.left ≤ n) × (0 < y.left → Last t)
   looks zero units s t y path =
       let is : record { left = 0; units = units } ≡ y = (let e : Ok (record { left = 0; units = units }) ≡ Ok y = path.1 in cc) in
       let left : 0 ≡ y.left = ap (λ (r : Reaping). r.left) is in
       (subst (Rel s) path.0 (same s), omega (arith, left), λ some. absurd (omega (arith, left, some)))
   looks (suc n) units s t y path =
-      let split = path_split (SoundStep (nodes_of arenas)) look (on_look (up_to look n) n units) s t (Ok y) path in
+      let split = path_split (SoundStep (nodes_of arenas)) look (on_look (looks_in_turn look n) n units) s t (Ok y) path in
       looked split.0 split.1 (one s split.0 split.1 split.2) split.3 (λ sum. looks n sum split.0 t y)
     where
-      looked : (m : LocalState) (r : Reaped) → Rel s m × (r ≡ Ok None → Last m) → RunsTo arenas (on_look (up_to look n) n units r) m t (Ok y)
-          → ((sum : ℕ) → RunsTo arenas (up_to look n sum) m t (Ok y) → Rel m t × (y.left ≤ n) × (0 < y.left → Last t)) → Rel s t × (y.left ≤ suc n) × (0 < y.left → Last t)
+      looked : (m : LocalState) (r : Reaped) → Rel s m × (r ≡ Ok None → Last m) → RunsTo arenas (on_look (looks_in_turn look n) n units r) m t (Ok y)
+          → ((sum : ℕ) → RunsTo arenas (looks_in_turn look n sum) m t (Ok y) → Rel m t × (y.left ≤ n) × (0 < y.left → Last t)) → Rel s t × (y.left ≤ suc n) × (0 < y.left → Last t)
       looked m (Ok (Some more)) first rest again = let r = again _ rest in (trans s m t first.0 r.0, omega (arith, r.1), r.2)
       looked m (Ok None) first rest again =
           let is : record { left = n; units = units } ≡ y = (let e : Ok (record { left = n; units = units }) ≡ Ok y = rest.1 in cc) in
@@ -178,10 +178,10 @@ module _ (arenas : List TreeArena) where
   cache_reaped : (chain : List Level) (k c : ℕ) (x y : Reaping) (old new : LocalState) → RunsTo arenas (reap_cache chain k c x) old new (Ok y) → ReapKeeps old new × (0 < y.left → (0 < x.left) × ((j : ℕ) → c ≡ j + 1 → NoneToReapAt new.spaces k j))
   unfolding reap_cache
   cache_reaped chain k c x y old new path =
-      let split = path_split (SoundStep (nodes_of arenas)) (reap_by (reap_round k c) x) (if_ok (reap_by (reap_slab chain k c))) old new (Ok y) path in
+      let split = path_split (SoundStep (nodes_of arenas)) (reap_steps (reap_round k c) x) (if_ok (reap_steps (reap_slab chain k c))) old new (Ok y) path in
       slabs split.0 split.1 split.2 split.3
     where
-      slabs : (m : LocalState) (r : ReapEnd) → RunsTo arenas (reap_by (reap_round k c) x) old m r → RunsTo arenas (if_ok (reap_by (reap_slab chain k c)) r) m new (Ok y) → ReapKeeps old new × (0 < y.left → (0 < x.left) × ((j : ℕ) → c ≡ j + 1 → NoneToReapAt new.spaces k j))
+      slabs : (m : LocalState) (r : ReapEnd) → RunsTo arenas (reap_steps (reap_round k c) x) old m r → RunsTo arenas (if_ok (reap_steps (reap_slab chain k c)) r) m new (Ok y) → ReapKeeps old new × (0 < y.left → (0 < x.left) × ((j : ℕ) → c ≡ j + 1 → NoneToReapAt new.spaces k j))
       slabs m (Err f) first rest = absurd (let e : Err f ≡ Ok y = rest.1 in cc)
       slabs m (Ok z) first rest =
           let rounds = looks arenas ReapKeeps reap_same reap_then (λ s. (j : ℕ) → c ≡ j + 1 → DepotStands s.spaces k j) (reap_round k c) (round_keeps k c) x.left x.units old m z first in

@@ -39,7 +39,7 @@ use Rattle.stock.specs.Steps.{OnArena, OnSlab, FreeIn, PutIn, NamesNoCache}
 use Rattle.stock.specs.Stocks.{IsQuantumCache}
 use Rattle.stock.proofs.LawProofs.{always_tagged, always_out, always_imports, always_slab}
 use Rattle.local_parts.specs.SharedSteps.{DoesCarve, DoesFree, DoesImport, DoesPut, DoesAdd}
-use Rattle.local_parts.specs.Words.{in_words, carve_word, import_word, put_word, add_word}
+use Rattle.local_parts.specs.Words.{wording_of, carve_word, import_word, put_word, add_word}
 use Rattle.local_calls.proofs.Chains.{source_at}
 use Rattle.local_calls.specs.Asked.{IsForSlab, IsForChild, CarvesWell, AddsWell, SlabsWell, DoesWell}
 
@@ -61,7 +61,7 @@ module _ (arenas : List TreeArena) (old new : List SpaceState) (plans : plans_of
   pub carve_well : (k : ℕ) (q : Request) (a : Result Tag CarveFault) → DoesCarve old k q a new → CarvesWell a
   carve_well k q a does = subst CarvesWell (sym does.1) (words does.0)
     where
-      words : (r : Result Tag ArenaFault) → CarvesWell (in_words carve_word r)
+      words : (r : Result Tag ArenaFault) → CarvesWell (wording_of carve_word r)
       words (Ok t) = tt
       words (Err arena_fault.BadRequest) = tt
       words (Err arena_fault.NoFit) = tt
@@ -72,7 +72,7 @@ module _ (arenas : List TreeArena) (old new : List SpaceState) (plans : plans_of
     pub free_well : (a : Result (Option Tag) (FreeFault Tag)) → t.route ≡ Direct → DoesFree old t a new → DoesWell a
     free_well a direct does = subst DoesWell (sym does.1) (words does.0 does.2)
       where
-        words : (r : Result (Option Tag) Tag) → FreeIn old t r new → DoesWell (in_words BadFree r)
+        words : (r : Result (Option Tag) Tag) → FreeIn old t r new → DoesWell (wording_of BadFree r)
         words (Ok o) is = tt
         words (Err same) is =
             let tagged = always_tagged old t rest accounted direct in
@@ -99,7 +99,7 @@ module _ (arenas : List TreeArena) (old new : List SpaceState) (plans : plans_of
     pub put_well : (a : Result (Unit {0}) (SlabPutFault Tag)) (k : ℕ) → t.route ≡ Cached k → DoesPut old t a new → DoesWell a
     put_well a k cached does = subst DoesWell (sym does.1) (words does.0 does.2)
       where
-        words : (r : Result (Unit {0}) (PutFault Tag)) → PutIn old t r new → DoesWell (in_words put_word r)
+        words : (r : Result (Unit {0}) (PutFault Tag)) → PutIn old t r new → DoesWell (wording_of put_word r)
         words (Ok o) is = tt
         words (Err (put_fault.NotMine back)) is = elim is [
           | inl on ↦ on.2.does.0 (out_here k on.0 cached on.1 on.2.space on.2.cache on.2.at on.2.among)
@@ -122,7 +122,7 @@ module _ (arenas : List TreeArena) (old new : List SpaceState) (plans : plans_of
             let tree : source_of (nodes_of arenas) child ≡ x.0.source = source_at (nodes_of arenas) child (node_of x.0) (slice_get_mapped node_of arenas child x.0 x.1) in
             ap (λ (p : SpacePlan). p.source) x.2 ∙ (sym tree ∙ for.source)
 
-        words : (r : Result Tag (SpanFault Tag)) → OnArena child (λ x y. ImportOf x t (plain_of n) r y) old new → AddsWell (in_words import_word r)
+        words : (r : Result Tag (SpanFault Tag)) → OnArena child (λ x y. ImportOf x t (plain_of n) r y) old new → AddsWell (wording_of import_word r)
         words (Ok o) on = tt
         words (Err (span_fault.NoMemory same)) on = tt
         words (Err (span_fault.Overlaps same)) on =
@@ -138,7 +138,7 @@ module _ (arenas : List TreeArena) (old new : List SpaceState) (plans : plans_of
       | inr none ↦ absurd (none.0 (c - 1) (omega (arith, for.slab.some)) here)
     ]
       where
-        words : (j : ℕ) (r : Result Tag (AddFault Tag)) → OnSlab k j (λ x y. AddOf x t r y) old new → SlabsWell (in_words add_word r)
+        words : (j : ℕ) (r : Result Tag (AddFault Tag)) → OnSlab k j (λ x y. AddOf x t r y) old new → SlabsWell (wording_of add_word r)
         words j (Ok o) on = tt
         words j (Err (add_fault.NoMemory same)) on = tt
         words j (Err (add_fault.Overlaps same)) on =

@@ -66,11 +66,11 @@ for_slab arenas tree l up size cache span is e grant =
     let some : 0 < l.quantum = is.1 in
     let whole : l.qcache_max % l.quantum ≡ 0 = (subst (λ z. l.qcache_max % z ≡ 0) (sym quantum) (subst (λ z. z % x.quantum ≡ 0) (sym most) arena.caches.0)) in
     let w = within l.quantum size l.qcache_max some c.0 c.1 whole in
-    let up_to = rounds_up l.quantum size some in
-    let units : 0 < x.qcache_max = omega (arith, c.0, c.1, up_to.1, most) in
+    let looks_in_turn = rounds_up l.quantum size some in
+    let units : 0 < x.qcache_max = omega (arith, c.0, c.1, looks_in_turn.1, most) in
     let next = arena.caches.2.1 (λ none. omega (arith, none, units)) in
     let one : 1 * l.quantum ≤ rounding_of l.quantum size / l.quantum * l.quantum = mul-le-mul_right l.quantum w.0 in
-    let least : x.quantum ≤ x.qcache_max = omega (arith, one, times l.quantum (rounding_of l.quantum size) up_to.0, c.1, quantum, most) in
+    let least : x.quantum ≤ x.qcache_max = omega (arith, one, times l.quantum (rounding_of l.quantum size) looks_in_turn.0, c.1, quantum, most) in
     let round : rounding_of x.quantum x.slab_size ≡ x.slab_size = slab_rounds x.quantum x.qcache_max x.slab_size arena.power next.0 units least next.1 in
     let long : span.holding.range.len ≡ rounding_of l.quantum l.slab_size = grant.fits.size ∙ ap (λ z. rounding_of z l.slab_size) (chain_quantum (nodes_of arenas) l up is) in
     record {

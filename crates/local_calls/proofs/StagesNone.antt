@@ -10,15 +10,15 @@ use Rattle.magazine_layer.specs.Depots.{IsDepot, SwapsForFull}
 use Rattle.magazine_layer.specs.Magazines.{CpuCacheState, BothEmpty, IsSize}
 use Rattle.magazine_layer.specs.declared.faults.FullFault.{FullFault}
 use Rattle.arena_tree.specs.declared.part_faults.ChangeFault.{ChangeFault}
-use Rattle.stock.specs.OwnCaches.{OwnCacheState, IsAtIndexesOf, own_rounds}
+use Rattle.stock.specs.OwnCaches.{OwnCacheState, IsAtIndexesOf, own_rounds, all_own_rounds}
 use Rattle.stock.specs.Spaces.{SpaceState, QuantumCacheState, IsCacheAt, with_cache, with_slab, plans_of}
 use Rattle.stock.specs.Stocks.{IsStock}
 use Rattle.stock.proofs.LawProofs.{plans_stay, caches_stay}
-use Rattle.local_parts.specs.Cpus.{OnOwn, IsOwnAt, row_rounds, cpu_rounds}
+use Rattle.local_parts.specs.Cpus.{OnOwn, IsOwnAt, cpu_rounds}
 use Rattle.local_parts.specs.OwnSteps.{DoesPop, DoesChange, OnExchange, SwapsFull}
 use Rattle.local_parts.specs.SharedSteps.{DoesTake}
 use Rattle.local_parts.specs.States.{LocalState, IsReached, IsUnchanged}
-use Rattle.local_parts.specs.Words.{in_words, full_word}
+use Rattle.local_parts.specs.Words.{wording_of, full_word}
 use Rattle.local_calls.specs.NoFits.{HasNoRoundOf, HasNoChunkOf}
 
 -- the caches of a CPU, of which one is written over by one with the same rounds
@@ -40,7 +40,7 @@ module _ (k j : ℕ) (P : OwnCacheState → OwnCacheState → Type 0) (old new :
       on.after ∙ ap (λ x. set old k (set on.row j x)) e ∙ ap (set old k) (set_same on.row j on.own on.among) ∙ set_same old k on.row on.at
 
   pub own_rounds_same : own_rounds on.changed ≡ own_rounds on.own → cpu_rounds new ≡ cpu_rounds old
-  own_rounds_same same = ap cpu_rounds on.after ∙ flat_set_same row_rounds old k on.row (set on.row j on.changed) on.at (flat_set_same own_rounds on.row j on.own on.changed on.among same)
+  own_rounds_same same = ap cpu_rounds on.after ∙ flat_set_same all_own_rounds old k on.row (set on.row j on.changed) on.at (flat_set_same own_rounds on.row j on.own on.changed on.among same)
 
   -- where it stands then
   pub changed_at : slice_get new k ≡ Some (set on.row j on.changed)
@@ -121,7 +121,7 @@ module _ (old new : LocalState) (k c : ℕ) (law : IsStock old.spaces) (fixed : 
   swap : SwapsForFull on.3.own.cpu on.3.does.1.cache.depot on.3.changed.cpu on.3.does.1.depot
   swap = swapped on.3.does.1.does.r on.3.does.1.does.told on.3.does.1.does.did
     where
-      swapped : (r : Result (Unit {0}) FullFault) → Ok tt ≡ in_words full_word r → SwapFullOf on.3.own.cpu on.3.does.1.cache.depot r on.3.changed.cpu on.3.does.1.depot → SwapsForFull on.3.own.cpu on.3.does.1.cache.depot on.3.changed.cpu on.3.does.1.depot
+      swapped : (r : Result (Unit {0}) FullFault) → Ok tt ≡ wording_of full_word r → SwapFullOf on.3.own.cpu on.3.does.1.cache.depot r on.3.changed.cpu on.3.does.1.depot → SwapsForFull on.3.own.cpu on.3.does.1.cache.depot on.3.changed.cpu on.3.does.1.depot
       swapped (Ok u) e did = did
       swapped (Err f) e did = absurd (let x : Ok tt ≡ Err (full_word f) = e in cc)
 

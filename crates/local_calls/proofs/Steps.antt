@@ -23,22 +23,22 @@ use Rattle.local_parts.specs.Cpus.{cpu_rounds}
 use Rattle.local_parts.specs.OwnSteps.{DoesPush, DoesChange, DoesSwapFull, DoesSwapEmpty, DoesSwapFresh}
 use Rattle.local_parts.specs.States.{LocalState}
 use Rattle.local_parts.specs.Steps.{LocalStep}
-use Rattle.local_parts.specs.Words.{in_words, full_word, empty_word, fresh_word}
+use Rattle.local_parts.specs.Words.{wording_of, full_word, empty_word, fresh_word}
 use Rattle.local_calls.specs.Asked.{IsRightlyAsked, GoesWell, DoesWell, FillsWell, EmptiesWell, FreshensWell, PushesWell, ChangesWell, EndsWell}
 use Rattle.local_calls.specs.Runs.{IsAccountedWith, RunsTo}
 use Rattle.local_calls.proofs.Refusals.{carve_well, free_well, put_well, import_well, slab_well}
 
-full_well : (r : Result (Unit {0}) FullFault) → FillsWell (in_words full_word r)
+full_well : (r : Result (Unit {0}) FullFault) → FillsWell (wording_of full_word r)
 full_well (Ok u) = tt
 full_well (Err (full_fault.OldSize m)) = tt
 full_well (Err full_fault.NoneFull) = tt
 
-empty_well : (r : Result (Unit {0}) EmptyFault) → EmptiesWell (in_words empty_word r)
+empty_well : (r : Result (Unit {0}) EmptyFault) → EmptiesWell (wording_of empty_word r)
 empty_well (Ok u) = tt
 empty_well (Err (empty_fault.OldSize m)) = tt
 empty_well (Err empty_fault.NoneEmpty) = tt
 
-fresh_well : (r : Result (Unit {0}) (PutFullFault MagazineState)) → FreshensWell (in_words fresh_word r)
+fresh_well : (r : Result (Unit {0}) (PutFullFault MagazineState)) → FreshensWell (wording_of fresh_word r)
 fresh_well (Ok u) = tt
 fresh_well (Err (fresh_fault.OldSize m back)) = tt
 fresh_well (Err (fresh_fault.NoMemory back)) = tt

@@ -6,8 +6,8 @@ use Rattle.std.proofs.lemmas.Option.{slice_get_within, get_or_from_slice_get}
 use Rattle.deed_core.proofs.LawProofs.{mapped, all_from, slice_get_mapped, slice_get_some, power_some}
 use Rattle.stock.specs.Spaces.{SpaceState, SpacePlan, slab_size_of, plan_of, plans_of}
 use Rattle.stock.specs.Stocks.{IsStock}
-use Rattle.stock.specs.OwnCaches.{OwnCacheState}
-use Rattle.local_parts.specs.Cpus.{CacheIndexes, IsCpuOf, HasNoRound, HasNoRounds, own_index, own_indexes, new_own, new_cpu, row_indexes, indexes_from}
+use Rattle.stock.specs.OwnCaches.{OwnCacheState, HasNoRound}
+use Rattle.local_parts.specs.Cpus.{CacheIndexes, IsCpuOf, HasNoRounds, own_index, own_indexes, new_own, new_cpu, row_indexes, indexes_from}
 
 pub quantum_some : (spaces : List SpaceState) (k q : ℕ) → IsStock spaces → k < length spaces → ((s : SpaceState) → slice_get spaces k ≡ Some s → q ≡ s.arena.quantum) → 0 < q
 quantum_some spaces k q law within is =

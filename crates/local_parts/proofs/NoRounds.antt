@@ -4,8 +4,8 @@ use Rattle.std.specs.Prelude.{flat_map}
 use Rattle.std.proofs.lemmas.List.Concat.{flat_map-cons}
 use Rattle.std.proofs.lemmas.List.Elements.{All-cons}
 use Rattle.deed_core.specs.Tag.{Tag}
-use Rattle.stock.specs.OwnCaches.{OwnCacheState, own_rounds}
-use Rattle.local_parts.specs.Cpus.{HasNoRound, HasNoRounds, row_rounds, cpu_rounds}
+use Rattle.stock.specs.OwnCaches.{OwnCacheState, own_rounds, all_own_rounds, HasNoRound}
+use Rattle.local_parts.specs.Cpus.{HasNoRounds, cpu_rounds}
 use Rattle.local_parts.specs.Laws.{EmptyHasNoRounds}
 
 split_none : (xs ys : List Tag) → xs ++ ys ≡ [] → (xs ≡ []) × (ys ≡ [])
@@ -26,11 +26,11 @@ own_none o is = ap (λ xs. xs ++ o.cpu.loaded) is.previous_empty ∙ is.loaded_e
 none_own : (o : OwnCacheState) → own_rounds o ≡ [] → HasNoRound o
 none_own o e = let both = split_none o.cpu.previous o.cpu.loaded e in record { loaded_empty = both.1; previous_empty = both.0 }
 
-row_none : (row : List OwnCacheState) → All HasNoRound row → row_rounds row ≡ []
+row_none : (row : List OwnCacheState) → All HasNoRound row → all_own_rounds row ≡ []
 row_none row all = none_flat own_rounds HasNoRound own_none row all
 
-none_row : (row : List OwnCacheState) → row_rounds row ≡ [] → All HasNoRound row
+none_row : (row : List OwnCacheState) → all_own_rounds row ≡ [] → All HasNoRound row
 none_row row is = flat_none own_rounds HasNoRound none_own row is
 
 pub empty_has_no_rounds : EmptyHasNoRounds
-empty_has_no_rounds cpu = (none_flat row_rounds (λ row. All HasNoRound row) row_none cpu, flat_none row_rounds (λ row. All HasNoRound row) none_row cpu)
+empty_has_no_rounds cpu = (none_flat all_own_rounds (λ row. All HasNoRound row) row_none cpu, flat_none all_own_rounds (λ row. All HasNoRound row) none_row cpu)

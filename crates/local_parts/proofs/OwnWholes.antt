@@ -35,7 +35,7 @@ use Rattle.stock.specs.Steps.{OnDepot}
 use Rattle.local_parts.specs.Cpus.{IsOwnAt, OnOwn, own_indexes, cpu_rounds}
 use Rattle.local_parts.specs.States.{LocalState, IsReached, HasReached, IsUnchanged, Conserves, tree_of}
 use Rattle.local_parts.specs.OwnSteps.{NoneReached, CanPush, CanChange, OnExchange, SwapsFull, SwapsEmpty, SwapsFresh}
-use Rattle.local_parts.specs.Words.{in_words, full_word, empty_word, fresh_word}
+use Rattle.local_parts.specs.Words.{wording_of, full_word, empty_word, fresh_word}
 use Rattle.local_parts.specs.OwnChanges.{OwnPops, OwnPushes, OwnChanges, OwnTries, OwnSwapsFull, OwnSwapsEmpty, OwnSwapsFresh}
 use Rattle.local_parts.specs.Steps.{Does, WholeStep}
 use Rattle.local_parts.proofs.Sounds.{chunk_here}
@@ -227,7 +227,7 @@ module _ (old new : LocalState) (law : IsStock old.spaces) (k c j : ℕ) (number
   full_goes : (a : Result (Unit {0}) SwapFullFault) (x : CpuCacheState) (d : DepotState) (y : CpuCacheState) (z : DepotState) → SwapsFull a x d y z → refuses_by full_stops a ≡ false
   full_goes a x d y z s = subst (λ v. refuses_by full_stops v ≡ false) (sym s.told) (full_in s.r)
     where
-      full_in : (r : Result (Unit {0}) FullFault) → refuses_by full_stops (in_words full_word r) ≡ false
+      full_in : (r : Result (Unit {0}) FullFault) → refuses_by full_stops (wording_of full_word r) ≡ false
       full_in (Ok u) = refl
       full_in (Err (full_fault.OldSize m)) = refl
       full_in (Err full_fault.NoneFull) = refl
@@ -235,7 +235,7 @@ module _ (old new : LocalState) (law : IsStock old.spaces) (k c j : ℕ) (number
   empty_goes : (a : Result (Unit {0}) SwapEmptyFault) (x : CpuCacheState) (d : DepotState) (y : CpuCacheState) (z : DepotState) → SwapsEmpty a x d y z → refuses_by empty_stops a ≡ false
   empty_goes a x d y z s = subst (λ v. refuses_by empty_stops v ≡ false) (sym s.told) (empty_in s.r)
     where
-      empty_in : (r : Result (Unit {0}) EmptyFault) → refuses_by empty_stops (in_words empty_word r) ≡ false
+      empty_in : (r : Result (Unit {0}) EmptyFault) → refuses_by empty_stops (wording_of empty_word r) ≡ false
       empty_in (Ok u) = refl
       empty_in (Err (empty_fault.OldSize m)) = refl
       empty_in (Err empty_fault.NoneEmpty) = refl
@@ -243,7 +243,7 @@ module _ (old new : LocalState) (law : IsStock old.spaces) (k c j : ℕ) (number
   fresh_goes : (a : Result (Unit {0}) SwapFreshFault) (x : CpuCacheState) (d : DepotState) (y : CpuCacheState) (z : DepotState) → SwapsFresh a x d y z → refuses_by fresh_stops a ≡ false
   fresh_goes a x d y z s = subst (λ v. refuses_by fresh_stops v ≡ false) (sym s.told) (fresh_in s.r)
     where
-      fresh_in : (r : Result (Unit {0}) (PutFullFault MagazineState)) → refuses_by fresh_stops (in_words fresh_word r) ≡ false
+      fresh_in : (r : Result (Unit {0}) (PutFullFault MagazineState)) → refuses_by fresh_stops (wording_of fresh_word r) ≡ false
       fresh_in (Ok u) = refl
       fresh_in (Err (fresh_fault.OldSize m back)) = refl
       fresh_in (Err (fresh_fault.NoMemory back)) = refl

@@ -8,9 +8,9 @@ use Rattle.deed_core.specs.Weights.{Gains, Loses, WeighSame}
 use Rattle.deed_core.proofs.LawProofs.{slice_get_one, map_set_same, set_same, sum_set, sum_by-flat_map}
 use Rattle.stock.specs.Spaces.{SpaceState}
 use Rattle.stock.specs.Accounts.{Accounts, Frames}
-use Rattle.stock.specs.OwnCaches.{OwnCacheState, IsAtIndexesOf, own_rounds}
+use Rattle.stock.specs.OwnCaches.{OwnCacheState, IsAtIndexesOf, own_rounds, all_own_rounds}
 use Rattle.stock.proofs.LawProofs.{out_weighs}
-use Rattle.local_parts.specs.Cpus.{IsOwnAt, OnOwn, own_index, own_indexes, row_rounds, cpu_rounds}
+use Rattle.local_parts.specs.Cpus.{IsOwnAt, OnOwn, own_index, own_indexes, cpu_rounds}
 use Rattle.local_parts.specs.States.{Conserves}
 
 pub own_does : (k j : ℕ) (P Q : OwnCacheState → OwnCacheState → Type 0) (old new : List (List OwnCacheState)) → ((o o' : OwnCacheState) → P o o' → Q o o') → OnOwn k j P old new → OnOwn k j Q old new
@@ -29,11 +29,11 @@ sums_set : (f : Tag → ℕ) (cpu : List (List OwnCacheState)) (k j : ℕ) (row 
     → sum_by f (cpu_rounds (set cpu k (set row j x))) + sum_by f (own_rounds o) ≡ sum_by f (cpu_rounds cpu) + sum_by f (own_rounds x)
 sums_set f cpu k j row o x at among = omega (
   arith,
-  sum_by-flat_map f row_rounds (set cpu k (set row j x)),
-  sum_by-flat_map f row_rounds cpu,
+  sum_by-flat_map f all_own_rounds (set cpu k (set row j x)),
+  sum_by-flat_map f all_own_rounds cpu,
   sum_by-flat_map f own_rounds (set row j x),
   sum_by-flat_map f own_rounds row,
-  sum_set (λ r. sum_by f (row_rounds r)) cpu k row (set row j x) at,
+  sum_set (λ r. sum_by f (all_own_rounds r)) cpu k row (set row j x) at,
   sum_set (λ y. sum_by f (own_rounds y)) row j o x among,
 )
 

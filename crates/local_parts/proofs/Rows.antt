@@ -8,8 +8,8 @@ use Rattle.deed_core.specs.Covering.{units_in, units_tagged}
 use Rattle.deed_core.specs.Tag.{Tag}
 use Rattle.std.proofs.lemmas.List.Sums.{sum_by-append}
 use Rattle.deed_core.proofs.LawProofs.{slice_get_here, slice_get_one}
-use Rattle.stock.specs.OwnCaches.{OwnCacheState, own_rounds}
-use Rattle.local_parts.specs.Cpus.{IsOwnAt, OnOwn, row_rounds}
+use Rattle.stock.specs.OwnCaches.{OwnCacheState, own_rounds, all_own_rounds}
+use Rattle.local_parts.specs.Cpus.{IsOwnAt, OnOwn}
 
 abbrev HasOwn : List (List OwnCacheState) → ℕ → ℕ → Type 0
 HasOwn cpu k j = (o : OwnCacheState) × IsOwnAt cpu k j o
@@ -44,12 +44,12 @@ on_own P cpu items k j row own changed o has at_read does = record {
 }
 
 -- the units of one cache more of a row
-pub row_more : (row : List OwnCacheState) (i : ℕ) (o : OwnCacheState) → i < length row → o ≡ get_or row i o → units_tagged (row_rounds (take (i + 1) row)) ≡ units_tagged (row_rounds (take i row)) + units_tagged (own_rounds o)
+pub row_more : (row : List OwnCacheState) (i : ℕ) (o : OwnCacheState) → i < length row → o ≡ get_or row i o → units_tagged (all_own_rounds (take (i + 1) row)) ≡ units_tagged (all_own_rounds (take i row)) + units_tagged (own_rounds o)
 row_more row i o within is =
     let f : Tag → ℕ = λ t. units_in t.holding in
-    let both : row_rounds (take (i + 1) row) ≡ row_rounds (take i row) ++ own_rounds o =
-    ap row_rounds (take_more row i o within ∙ ap (λ x. take i row ++ x ∷ []) (sym is)) ∙ (flat_map-append own_rounds (take i row) (o ∷ []) ∙ ap (λ x. row_rounds (take i row) ++ x) (append-nil (own_rounds o))) in
-    ap (sum_by f) both ∙ sum_by-append f (row_rounds (take i row)) (own_rounds o)
+    let both : all_own_rounds (take (i + 1) row) ≡ all_own_rounds (take i row) ++ own_rounds o =
+    ap all_own_rounds (take_more row i o within ∙ ap (λ x. take i row ++ x ∷ []) (sym is)) ∙ (flat_map-append own_rounds (take i row) (o ∷ []) ∙ ap (λ x. all_own_rounds (take i row) ++ x) (append-nil (own_rounds o))) in
+    ap (sum_by f) both ∙ sum_by-append f (all_own_rounds (take i row)) (own_rounds o)
 
 -- a sum that stops at the greatest number
 pub capped : (most total all part next sum : ℕ) → total ≡ min all most → sum ≡ all + part → next ≡ min (total + part) most → next ≡ min sum most

@@ -3,9 +3,8 @@
 use Rattle.std.specs.Prelude.{◌≡◌, ℕ, zero, suc, ◌+◌, List, [], ◌∷◌, All, length, map, flat_map}
 use Rattle.std.specs.Prelude.{set, slice_get, Option, Some, None}
 use Rattle.deed_core.specs.Tag.{Tag}
-use Rattle.magazine_layer.specs.Magazines.{BothEmpty}
 use Rattle.stock.specs.Spaces.{SpaceState, SpacePlan, plans_of}
-use Rattle.stock.specs.OwnCaches.{OwnCacheState, own_rounds}
+use Rattle.stock.specs.OwnCaches.{OwnCacheState, all_own_rounds, HasNoRound}
 
 -- a quantum cache: the indexes of its arena and of itself, and the arena's quantum
 pub record CacheIndexes : Type 0 where
@@ -49,25 +48,19 @@ new_own size p = record {
 abbrev pub new_cpu : ℕ → List SpacePlan → List (List OwnCacheState)
 new_cpu size plans = map (map (new_own size)) (indexes_from 0 plans)
 
--- the rounds of a CPU: of its caches of an arena, of all
-abbrev pub row_rounds : List OwnCacheState → List Tag
-row_rounds row = flat_map own_rounds row
-
+-- the rounds of a CPU
 abbrev pub cpu_rounds : List (List OwnCacheState) → List Tag
-cpu_rounds cpu = flat_map row_rounds cpu
+cpu_rounds cpu = flat_map all_own_rounds cpu
 
 -- those of the arena at the index; none where there is no such arena
 abbrev pub rounds_of_row : Option (List OwnCacheState) → List Tag
 rounds_of_row None = []
-rounds_of_row (Some row) = row_rounds row
+rounds_of_row (Some row) = all_own_rounds row
 
 abbrev pub arena_rounds : List (List OwnCacheState) → ℕ → List Tag
 arena_rounds cpu k = rounds_of_row (slice_get cpu k)
 
--- both magazines are empty: of one, of all
-abbrev pub HasNoRound : OwnCacheState → Type 0
-HasNoRound o = BothEmpty o.cpu
-
+-- all its magazines are empty
 abbrev pub HasNoRounds : List (List OwnCacheState) → Type 0
 HasNoRounds cpu = All (λ row. All HasNoRound row) cpu
 

@@ -23,7 +23,7 @@ use Rattle.stock.specs.Stocks.{IsRoundOf}
 use Rattle.stock.specs.OwnCaches.{OwnCacheState, IsAtIndexesOf}
 use Rattle.stock.specs.Steps.{OnDepot}
 use Rattle.local_parts.specs.Cpus.{OnOwn}
-use Rattle.local_parts.specs.Words.{in_words, full_word, empty_word, fresh_word}
+use Rattle.local_parts.specs.Words.{wording_of, full_word, empty_word, fresh_word}
 use Rattle.local_parts.specs.States.{LocalState, IsReached, HasReached, IsUnchanged}
 
 -- the CPU's cache that serves the arena's cache of c quanta changed so, and nothing else did
@@ -90,7 +90,7 @@ pub record SwapsFull (a : Result (Unit {0}) SwapFullFault) (x : CpuCacheState) (
   pub empty : BothEmpty x
   pub r : Result (Unit {0}) FullFault
   pub did : SwapFullOf x d r y e
-  pub told : a ≡ in_words full_word r
+  pub told : a ≡ wording_of full_word r
 
 -- both being full, an empty one came for one of them, or was refused
 pub record SwapsEmpty (a : Result (Unit {0}) SwapEmptyFault) (x : CpuCacheState) (d : DepotState)
@@ -98,7 +98,7 @@ pub record SwapsEmpty (a : Result (Unit {0}) SwapEmptyFault) (x : CpuCacheState)
   pub full : BothFull x
   pub r : Result (Unit {0}) EmptyFault
   pub did : SwapEmptyOf x d r y e
-  pub told : a ≡ in_words empty_word r
+  pub told : a ≡ wording_of empty_word r
 
 -- both being full, a fresh one of the CPU's size came for one of them, or was refused
 pub record SwapsFresh (a : Result (Unit {0}) SwapFreshFault) (x : CpuCacheState) (d : DepotState)
@@ -106,7 +106,7 @@ pub record SwapsFresh (a : Result (Unit {0}) SwapFreshFault) (x : CpuCacheState)
   pub full : BothFull x
   pub r : Result (Unit {0}) (PutFullFault MagazineState)
   pub did : PutFullOf x d (empty_magazine x.size) r y e
-  pub told : a ≡ in_words fresh_word r
+  pub told : a ≡ wording_of fresh_word r
 
 -- NoneFull comes too where the CPU's magazines aren't both empty, or no cache serves it
 abbrev pub DoesSwapFull : LocalState → ℕ → ℕ → Result (Unit {0}) SwapFullFault → LocalState

@@ -21,23 +21,24 @@ use Rattle.arena_tree.specs.declared.part_faults.SlabAddFault.TheVariants.{Wrong
 use Rattle.arena_tree.specs.declared.part_faults.Stopped.{Stopped}
 use Rattle.stock.specs.Spaces.{SpaceState, HasCache}
 use Rattle.stock.specs.Steps.{OnArena, OnSlab, OnDepot, FreeIn, PutIn}
-use Rattle.local_parts.specs.Words.{in_words, carve_word, import_word, put_word, add_word}
+use Rattle.local_parts.specs.Words.{wording_of, carve_word, import_word, put_word, add_word}
 
 -- the arena carved, or refused
 abbrev pub DoesCarve : List SpaceState → ℕ → Request → Result Tag CarveFault → List SpaceState
     → Type 0
-DoesCarve old k q a new = (r : Result Tag ArenaFault) × (a ≡ in_words carve_word r)
+DoesCarve old k q a new = (r : Result Tag ArenaFault) × (a ≡ wording_of carve_word r)
     × OnArena k (λ x y. CarveOf x q r y) old new
 
 -- the segment was freed, or refused
 abbrev pub DoesFree : List SpaceState → Tag → Result (Option Tag) (FreeFault Tag)
     → List SpaceState → Type 0
-DoesFree old t a new = (r : Result (Option Tag) Tag) × (a ≡ in_words BadFree r) × FreeIn old t r new
+DoesFree old t a new =
+    (r : Result (Option Tag) Tag) × (a ≡ wording_of BadFree r) × FreeIn old t r new
 
 -- the span was imported and carved from, or refused
 abbrev pub DoesImport : List SpaceState → ℕ → Tag → ℕ → Result Tag (AddCarveFault Tag)
     → List SpaceState → Type 0
-DoesImport old k span n a new = (r : Result Tag (SpanFault Tag)) × (a ≡ in_words import_word r)
+DoesImport old k span n a new = (r : Result Tag (SpanFault Tag)) × (a ≡ wording_of import_word r)
     × OnArena k (λ x y. ImportOf x span (plain_of n) r y) old new
 
 -- the arena's cache of c quanta stands at the index j, of which the first is so; else the second is
@@ -67,13 +68,13 @@ DoesDepotReap old k c a new = (o : Option Tag) × (a ≡ Ok o)
 -- the chunk was put back, or refused
 abbrev pub DoesPut : List SpaceState → Tag → Result (Unit {0}) (SlabPutFault Tag)
     → List SpaceState → Type 0
-DoesPut old t a new = (r : Result (Unit {0}) (PutFault Tag)) × (a ≡ in_words put_word r)
+DoesPut old t a new = (r : Result (Unit {0}) (PutFault Tag)) × (a ≡ wording_of put_word r)
     × PutIn old t r new
 
 -- the span was cut into a slab, or refused: its size is wrong where there is no such cache
 abbrev pub DoesAdd : List SpaceState → ℕ → ℕ → Tag → Result Tag (SlabAddFault Tag)
     → List SpaceState → Type 0
 DoesAdd old k c span a new = OfCache old k c
-    (λ j. (r : Result Tag (AddFault Tag)) × (a ≡ in_words add_word r)
+    (λ j. (r : Result Tag (AddFault Tag)) × (a ≡ wording_of add_word r)
     × OnSlab k j (λ x y. AddOf x span r y) old new)
     ((a ≡ Err (WrongSize span)) × (new ≡ old))

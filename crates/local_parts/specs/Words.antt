@@ -32,9 +32,9 @@ use Rattle.arena_tree.specs.declared.part_faults.SwapEmptyFault.{SwapEmptyFault}
 use Rattle.arena_tree.specs.declared.part_faults.SwapEmptyFault.TheVariants as emptying
 
 -- an answer with its refusal in other words
-abbrev pub in_words : {X E F : Type 0} → (E → F) → Result X E → Result X F
-in_words word (Ok x) = Ok x
-in_words word (Err fault) = Err (word fault)
+abbrev pub wording_of : {X E F : Type 0} → (E → F) → Result X E → Result X F
+wording_of word (Ok x) = Ok x
+wording_of word (Err fault) = Err (word fault)
 
 abbrev pub carve_word : ArenaFault → CarveFault
 carve_word arena_fault.BadRequest = carving.BadRequest

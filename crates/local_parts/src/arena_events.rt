@@ -5,7 +5,7 @@ ghost use Rattle.arena_tree.specs.Events.{Carve, Free, AddCarve};
 ghost use Rattle.stock.specs.Spaces.{SpaceState};
 ghost use Rattle.stock.specs.OwnCaches.{OwnCacheState};
 ghost use Rattle.stock.specs.Steps.{CanImport};
-ghost use Rattle.local_parts.specs.Words.{in_words, carve_word, import_word};
+ghost use Rattle.local_parts.specs.Words.{wording_of, carve_word, import_word};
 ghost use Rattle.local_parts.specs.Steps.{WholeStep};
 
 use arena_tree::{AddCarveFault, CarveFault, FreeFault};
@@ -31,7 +31,7 @@ pub(crate) fn carve_of<D: Deed>(
 }
 
 fn carve_in_words<D: Deed>(carved: Result<Segment<D>, ArenaFault>) -> Result<Segment<D>, CarveFault>
-    ensures { result ≡ in_words carve_word carved }
+    ensures { result ≡ wording_of carve_word carved }
 {
     match carved {
         Ok(segment) => Ok(segment),
@@ -83,7 +83,7 @@ pub(crate) fn import_of<D: Deed>(
 fn import_in_words<D: Deed>(
     imported: Result<Segment<D>, SpanFault<Segment<D>>>,
 ) -> Result<Segment<D>, AddCarveFault<Segment<D>>>
-    ensures { result ≡ in_words import_word imported }
+    ensures { result ≡ wording_of import_word imported }
 {
     match imported {
         Ok(segment) => Ok(segment),

@@ -3,7 +3,7 @@ ghost use Rattle.std.specs.Prelude.{◌≡◌, List};
 ghost use Rattle.arena_tree.specs.Events.{SlabTake, SlabPut, SlabAdd, SlabReap, DepotReap};
 ghost use Rattle.stock.specs.OwnCaches.{OwnCacheState};
 ghost use Rattle.stock.specs.Steps.{IsOnGridOf};
-ghost use Rattle.local_parts.specs.Words.{in_words, put_word, add_word};
+ghost use Rattle.local_parts.specs.Words.{wording_of, put_word, add_word};
 ghost use Rattle.local_parts.specs.Steps.{WholeStep};
 
 use arena_tree::{SlabAddFault, SlabPutFault, Stopped};
@@ -83,7 +83,7 @@ pub(crate) fn put_of<D: Deed>(
 fn put_in_words<D: Deed>(
     done: Result<(), PutFault<Segment<D>>>,
 ) -> Result<(), SlabPutFault<Segment<D>>>
-    ensures { result ≡ in_words put_word done }
+    ensures { result ≡ wording_of put_word done }
 {
     match done {
         Ok(()) => Ok(()),
@@ -117,7 +117,7 @@ pub(crate) fn add_of<D: Deed>(
 fn add_in_words<D: Deed>(
     added: Result<Segment<D>, AddFault<Segment<D>>>,
 ) -> Result<Segment<D>, SlabAddFault<Segment<D>>>
-    ensures { result ≡ in_words add_word added }
+    ensures { result ≡ wording_of add_word added }
 {
     match added {
         Ok(chunk) => Ok(chunk),

@@ -5,7 +5,8 @@ ghost use Rattle.deed_core.specs.Covering.{units_tagged};
 ghost use Rattle.magazine_layer.specs.Magazines.{IsSize};
 ghost use Rattle.stock.specs.Spaces.{SpaceState, plans_of};
 ghost use Rattle.local_parts.specs.Cpus.{IsCpuOf, new_own, new_cpu, row_indexes};
-ghost use Rattle.local_parts.specs.Cpus.{HasNoRound, HasNoRounds, row_rounds, arena_rounds};
+ghost use Rattle.local_parts.specs.Cpus.{HasNoRounds, arena_rounds};
+ghost use Rattle.stock.specs.OwnCaches.{HasNoRound, all_own_rounds};
 
 use crate::cpu_caches::{ArenaCaches, CpuCaches};
 use deed_core::Deed;
@@ -147,7 +148,7 @@ impl<D: Deed> ArenaCaches<D> {
 
     // The units of their rounds, or the greatest number where they are more.
     fn units(&self) -> u128
-        ensures { result ≡ min (units_tagged (row_rounds self.now)) (2 ^ 128 - 1) }
+        ensures { result ≡ min (units_tagged (all_own_rounds self.now)) (2 ^ 128 - 1) }
     {
         let mut total: u128 = 0;
         for own in &self.caches {

@@ -2,7 +2,7 @@
 ghost use Rattle.std.specs.Prelude.{◌≡◌, []};
 ghost use Rattle.stock.specs.Spaces.{HasCache};
 ghost use Rattle.stock.specs.Steps.{HasQuantum};
-ghost use Rattle.local_parts.specs.Words.{in_words, full_word, empty_word, fresh_word};
+ghost use Rattle.local_parts.specs.Words.{wording_of, full_word, empty_word, fresh_word};
 ghost use Rattle.local_parts.specs.OwnChanges.{OwnPushes, OwnChanges, EndsEmpty};
 ghost use Rattle.local_parts.specs.OwnChanges.{OwnSwapsFull, OwnSwapsEmpty, OwnSwapsFresh};
 
@@ -59,7 +59,7 @@ pub(crate) fn swap_full_own<D: Deed>(
 }
 
 fn full_in_words(swapped: Result<(), FullFault>) -> Result<(), SwapFullFault>
-    ensures { result ≡ in_words full_word swapped }
+    ensures { result ≡ wording_of full_word swapped }
 {
     match swapped {
         Ok(()) => Ok(()),
@@ -85,7 +85,7 @@ pub(crate) fn swap_empty_own<D: Deed>(
 }
 
 fn empty_in_words(swapped: Result<(), EmptyFault>) -> Result<(), SwapEmptyFault>
-    ensures { result ≡ in_words empty_word swapped }
+    ensures { result ≡ wording_of empty_word swapped }
 {
     match swapped {
         Ok(()) => Ok(()),
@@ -119,7 +119,7 @@ fn fresh_in_words<D: Deed>(
     swapped: Result<(), PutFullFault<Magazine<D>>>,
 ) -> Result<(), SwapFreshFault>
     requires { EndsEmpty swapped }
-    ensures { result ≡ in_words fresh_word swapped }
+    ensures { result ≡ wording_of fresh_word swapped }
 {
     match swapped {
         Ok(()) => Ok(()),

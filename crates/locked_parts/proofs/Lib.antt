@@ -5,3 +5,4 @@ mod Lengths
 mod Slabs
 mod Wholes
 mod Walks
+mod Begins

@@ -1,7 +1,7 @@
 -- Quantum caches, and what a contract sees of a CPU's magazines and of a depot with theirs.
 use Rattle.std.specs.Prelude.{◌≡◌, ℕ, zero, suc, ◌*◌, ◌/◌, ◌<◌, List, [], ◌∷◌, ◌++◌, All, length}
-use Rattle.std.specs.Prelude.{sum_by, min}
-use Rattle.std.specs.Prelude.{Option, Some, None, slice_get}
+use Rattle.std.specs.Prelude.{◌≤◌, map, sum_by, min}
+use Rattle.std.specs.Prelude.{Option, Some, None, slice_get, slice_index}
 use Rattle.arena_tree.specs.Chains.{quantum_in}
 use Rattle.arena_tree.specs.Trees.{nodes_of}
 use Rattle.arena_tree.specs.declared.trees.TreeArena.{TreeArena}
@@ -40,6 +40,10 @@ pub record IsKindDepot (d : KindDepotState) : Type 0 where
   pub some : 0 < d.kind.quantum
   pub rounds : All (IsOfKind d.kind) (depot_rounds d.depot)
 
+-- magazines are still for the same quantum caches, in the same order
+abbrev pub AreForSame : (old new : List KindRoundsState) → Type 0
+AreForSame old new = map (λ r. r.kind) new ≡ map (λ r. r.kind) old
+
 -- how many rounds a CPU's magazines have
 abbrev pub count_of_rounds : List KindRoundsState → ℕ
 count_of_rounds caches = sum_by (λ r. length (cache_rounds r.cpu)) caches
@@ -67,3 +71,19 @@ kinds_of_first arenas (suc n) = kinds_of_first arenas n
 -- those of all arenas, in their order
 abbrev pub kinds_of : List TreeArena → List CacheKind
 kinds_of arenas = kinds_of_first arenas (length arenas)
+
+-- how many the arenas before one have: a CPU's magazines for its caches begin there
+abbrev pub caches_before : List TreeArena → ℕ → ℕ
+caches_before arenas id = length (kinds_of_first arenas id)
+
+-- and so for each arena, by its number
+abbrev pub AreCachesBefore : List TreeArena → List ℕ → Type 0
+AreCachesBefore arenas counts = (id : ℕ) → id < length arenas
+    → slice_index counts id ≡ caches_before arenas id
+
+-- the quantum cache is one of an arena's
+pub record IsCacheOf (arenas : List TreeArena) (k : CacheKind) : Type 0 where
+  pub within : k.arena < length arenas
+  pub some : 0 < k.number
+  pub most : k.number ≤ count_of_caches arenas k.arena
+  pub quantum : quantum_in (nodes_of arenas) k.arena ≡ k.quantum

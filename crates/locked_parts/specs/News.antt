@@ -41,6 +41,6 @@ pub record IsSetUp (arenas : List TreeArena) (id : ℕ) (a : NewArenaState) : Ty
       ≡ kinds_up_to id (quantum_in (nodes_of arenas) id) (count_of_caches arenas id)
   pub slabs : All (HasSlabsOf arenas id) a.caches
 
--- and each of these is the one of its place
+-- and each of these is the one of its index
 pub record AreSetUp (arenas : List TreeArena) (made : List NewArenaState) : Type 0 where
   pub each : (k : ℕ) (a : NewArenaState) → slice_get made k ≡ Some a → IsSetUp arenas k a

@@ -25,6 +25,7 @@ impl<N: Name> LockedParts<N> {
         let LockedParts {
             alloc: _,
             tree: _,
+            caches_before: _,
             arenas,
         } = self;
         arenas.destroy_empty();
@@ -45,17 +46,9 @@ fn end_all<N: Name>(alloc: Global, arenas: &mut Vec<LockedArena<N>>) -> bool
 }
 
 fn end_locked<N: Name>(alloc: Global, locked: LockedArena<N>) -> Result<(), LockedArena<N>> {
-    let LockedArena {
-        part,
-        mut caches,
-        before,
-    } = locked;
+    let LockedArena { part, mut caches } = locked;
     if !end_caches(alloc, &mut caches) {
-        return Err(LockedArena {
-            part,
-            caches,
-            before,
-        });
+        return Err(LockedArena { part, caches });
     }
     match part.into_inner().close() {
         Ok(()) => {
@@ -65,7 +58,6 @@ fn end_locked<N: Name>(alloc: Global, locked: LockedArena<N>) -> Result<(), Lock
         Err(part) => Err(LockedArena {
             part: Mutex::new(part),
             caches,
-            before,
         }),
     }
 }

@@ -8,9 +8,9 @@
 //!
 //! `Running` (running) is `arena_tree::Parts` over them for one CPU, which has two magazines for
 //! each quantum cache (cpu_rounds, own_rounds): each event of a shared part takes its lock, and no
-//! other (locked_events, own_events), and asks the gate (gates) before. Intervals and sizes of
-//! magazines are for all depots, one after another: such a walk (depot_walks) is proved over
-//! whatever keeps the depots, and goes over the locks (locked_depots).
+//! other (locked_events, own_events), and asks the gate (gates) before. Intervals
+//! and sizes of magazines are for all depots, one after another: such a walk (depot_walks) is
+//! proved over whatever keeps the depots, and goes over the locks (locked_depots).
 //!
 //! A part is found by its number, in constant time. An event costs what the part's own call does
 //! (`tag_arena`, `slab_layer`, `magazine_layer`) and a few looks whether it is the part that is

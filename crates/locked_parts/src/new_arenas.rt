@@ -96,13 +96,8 @@ impl<N: Name> NewArena<N> {
         }
     }
 
-    /// How many quantum caches it has.
-    pub fn cache_count(&self) -> usize {
-        self.caches.len()
-    }
-
     /// Puts it and its caches under their locks, and hands out its root.
-    pub fn lock(self, before: usize) -> (LockedArena<N>, Option<Root<N>>)
+    pub fn lock(self) -> (LockedArena<N>, Option<Root<N>>)
         ensures { result.1 ≡ self.root }
     {
         let NewArena {
@@ -115,7 +110,6 @@ impl<N: Name> NewArena<N> {
         let arena = LockedArena {
             part: Mutex::new(part),
             caches: locked,
-            before,
         };
         (arena, root)
     }

@@ -1,5 +1,6 @@
 //! The events of a CPU's own magazines, by themselves and with a depot of the parts.
 ghost use Rattle.std.specs.Prelude.{◌≡◌, ◌≢◌, ◌<◌, Some, Err, IfSome, length, slice_get};
+ghost use Rattle.std.specs.Prelude.{IfNone, map};
 ghost use Rattle.std.specs.Prelude.{OnOk, OnErr};
 ghost use Rattle.arena_tree.specs.Events.{Pop, Push, Change};
 ghost use Rattle.arena_tree.specs.Sound.{PopsRound, PushesRound};
@@ -7,7 +8,8 @@ ghost use Rattle.arena_tree.specs.Trees.{nodes_of};
 ghost use Rattle.magazine_layer.specs.Depots.{SwapsForFull, SwapsForEmpty, PutsFull};
 ghost use Rattle.magazine_layer.specs.Magazines.{BothEmpty, BothFull, empty_magazine};
 ghost use Rattle.locked_parts.specs.Answers.{AnswersSoundly};
-ghost use Rattle.locked_parts.specs.Kinds.{KindRoundsState, count_of_rounds};
+ghost use Rattle.locked_parts.specs.Kinds.{KindRoundsState, AreForSame, IsCacheOf};
+ghost use Rattle.locked_parts.specs.Kinds.{count_of_rounds, kinds_of};
 ghost use Rattle.locked_parts.specs.Swaps.{ExchangesIn};
 
 use crate::cpu_rounds::KindRounds;
@@ -28,6 +30,8 @@ fn own_at<N: Name>(
     ensures within { IfSome result (λ index. index < length caches.now) }
     ensures kind { IfSome result (λ index. (o : KindRoundsState)
         × (slice_get caches.now index ≡ Some o) × (o.kind ≡ kind.now)) }
+    ensures none { IfNone result (map (λ o. o.kind) caches.now ≡ kinds_of parts.now.arenas
+        → ¬ IsCacheOf parts.now.arenas kind.now) }
 {
     let index = parts.own_index(kind.arena, kind.number);
     if index >= caches.len() {
@@ -49,6 +53,7 @@ pub(crate) fn pop_in<N: Name>(
     ensures goes { AnswersSoundly (nodes_of parts.now.arenas) (Pop arena cache) result }
     ensures moved { PopsRound result (count_of_rounds caches.old.items)
         (count_of_rounds caches.new.items) }
+    ensures kinds { AreForSame caches.old.items caches.new.items }
 {
     let Some(kind) = parts.kind(arena, cache) else {
         return Ok(None);
@@ -70,6 +75,7 @@ pub(crate) fn push_in<N: Name>(
     ensures goes { AnswersSoundly (nodes_of parts.now.arenas) (Push arena cache segment) result }
     ensures moved { PushesRound result (count_of_rounds caches.old.items)
         (count_of_rounds caches.new.items) }
+    ensures kinds { AreForSame caches.old.items caches.new.items }
 {
     let Some(kind) = parts.kind(arena, cache) else {
         return Err(PushFault::NoRoom(segment));
@@ -93,6 +99,7 @@ pub(crate) fn change_in<N: Name>(
 ) -> Result<(), ChangeFault>
     ensures goes { AnswersSoundly (nodes_of parts.now.arenas) (Change arena cache size) result }
     ensures moved { count_of_rounds caches.new.items ≡ count_of_rounds caches.old.items }
+    ensures kinds { AreForSame caches.old.items caches.new.items }
 {
     let Some(kind) = parts.kind(arena, cache) else {
         return Err(ChangeFault::NotGreater);
@@ -116,6 +123,7 @@ pub(crate) fn swap_full_in<N: Name, R: Wait>(
         arena cache caches.old.items caches.new.items) }
     ensures unchanged { OnErr result (caches.new.items ≡ caches.old.items) }
     ensures goes { result ≢ Err SwapFullFault.Stopped }
+    ensures kinds { AreForSame caches.old.items caches.new.items }
 {
     let Some(kind) = parts.kind(arena, cache) else {
         return Err(SwapFullFault::NoneFull);
@@ -142,6 +150,7 @@ pub(crate) fn swap_empty_in<N: Name, R: Wait>(
         arena cache caches.old.items caches.new.items) }
     ensures unchanged { OnErr result (caches.new.items ≡ caches.old.items) }
     ensures goes { result ≢ Err SwapEmptyFault.Stopped }
+    ensures kinds { AreForSame caches.old.items caches.new.items }
 {
     let Some(kind) = parts.kind(arena, cache) else {
         return Err(SwapEmptyFault::NoneEmpty);
@@ -168,6 +177,7 @@ pub(crate) fn swap_fresh_in<N: Name, R: Wait>(
         arena cache caches.old.items caches.new.items) }
     ensures unchanged { OnErr result (caches.new.items ≡ caches.old.items) }
     ensures goes { result ≢ Err SwapFreshFault.Stopped }
+    ensures kinds { AreForSame caches.old.items caches.new.items }
 {
     let Some(kind) = parts.kind(arena, cache) else {
         return Err(SwapFreshFault::NoMemory);

@@ -1,16 +1,16 @@
 //! The parts of a system, each under its lock.
-ghost use Rattle.std.specs.Prelude.{◌≡◌, ◌<◌, IfSome, length, true};
+ghost use Rattle.std.specs.Prelude.{◌≡◌, ◌+◌, ◌<◌, IfSome, length, true};
 ghost use Rattle.arena_tree.specs.Chains.{quantum_in};
 ghost use Rattle.arena_tree.specs.Trees.{nodes_of};
-ghost use Rattle.locked_parts.specs.Kinds.{count_of_caches};
+ghost use Rattle.locked_parts.specs.Kinds.{count_of_caches, caches_before, AreCachesBefore};
 ghost use Rattle.magazine_layer.specs.Magazines.{IsSize};
 
 use crate::arena_parts::ArenaPart;
 use crate::depot_walks::{resize_each, tick_each};
 use crate::kind_depots::KindDepot;
-use crate::kinds::{CacheKind, quantum_of};
+use crate::kinds::{CacheKind, cache_count, quantum_of};
 use crate::locked_depots::LockedDepots;
-use arena_tree::Tree;
+use arena_tree::{MOST_ARENAS, Tree};
 use deed_table::{Name, SeatDeed};
 use slab_layer::SlabCache;
 use std::alloc::Global;
@@ -27,8 +27,6 @@ pub(crate) struct LockedCache<N: Name> {
 pub struct LockedArena<N: Name> {
     pub(crate) part: Mutex<ArenaPart<N>>,
     pub(crate) caches: Vec<LockedCache<N>>,
-    /// How many quantum caches the arenas before it have.
-    pub(crate) before: usize,
 }
 
 /// Arenas with their quantum caches, each part under a lock of its own. A contract sees the arenas
@@ -36,16 +34,21 @@ pub struct LockedArena<N: Name> {
 pub struct LockedParts<N: Name> {
     pub(crate) alloc: Global,
     pub(crate) tree: Tree,
+    /// How many quantum caches the arenas before each have.
+    pub(crate) caches_before: [usize; MOST_ARENAS],
     pub(crate) arenas: Vec<LockedArena<N>>,
 }
 
 impl<N: Name> Model for LockedParts<N> {
     ghost use Rattle.std.specs.Prelude.{vec_len};
+    ghost use Rattle.locked_parts.specs.Kinds.{AreCachesBefore};
     ghost use Rattle.locked_parts.specs.States.{LockedPartsState};
 
     ghost Value = { LockedPartsState };
 
     ghost view = { λ p. record { arenas = p.tree; standing = vec_len p.arenas } };
+
+    ghost invariant = { λ p. AreCachesBefore p.tree p.caches_before };
 }
 
 impl<N: Name> LockedParts<N> {
@@ -54,9 +57,11 @@ impl<N: Name> LockedParts<N> {
         ensures arenas { result.arenas ≡ tree }
         ensures standing { result.standing ≡ length arenas.items }
     {
+        let caches_before = all_caches_before(&tree);
         LockedParts {
             alloc,
             tree,
+            caches_before,
             arenas,
         }
     }
@@ -98,14 +103,17 @@ impl<N: Name> LockedParts<N> {
         locked.caches.get(number as usize - 1)
     }
 
-    /// Where a CPU keeps its magazines for that cache.
-    pub(crate) fn own_index(&self, arena: u32, number: u8) -> usize {
-        match self.arenas.get(arena as usize) {
-            Some(locked) => locked
-                .before
-                .saturating_add((number as usize).saturating_sub(1)),
-            None => usize::MAX,
+    /// Where a CPU keeps its magazines for that cache: after those for the caches of the arenas
+    /// before, and for the lesser ones of the arena.
+    pub(crate) fn own_index(&self, arena: u32, number: u8) -> usize
+        ensures { arena < length self.now.arenas → 0 < number
+            → result + 1 ≡ caches_before self.now.arenas arena + number }
+    {
+        if arena as usize >= self.tree.len() {
+            return usize::MAX;
         }
+        let before = self.caches_before[arena as usize];
+        before.saturating_add((number as usize).saturating_sub(1))
     }
 
     /// Begins an interval in each depot, one after another. It has no clause: what a depot is lies
@@ -131,4 +139,17 @@ impl<N: Name> LockedParts<N> {
         let locked = self.arenas.get(arena as usize)?;
         locked.part.lock(rt).remove_owned()
     }
+}
+
+// How many quantum caches the arenas before each have.
+fn all_caches_before(tree: &Tree) -> [usize; MOST_ARENAS]
+    ensures { AreCachesBefore tree.now result }
+{
+    let mut counts = [0; MOST_ARENAS];
+    let mut before: usize = 0;
+    for id in 0..tree.len() {
+        counts[id] = before;
+        before += cache_count(tree, id as u32) as usize;
+    }
+    counts
 }

@@ -4,7 +4,7 @@
 ghost use Rattle.std.specs.Prelude.{◌≡◌};
 ghost use Rattle.arena_tree.specs.Trees.{nodes_of};
 ghost use Rattle.locked_parts.specs.Gates.{NotesStops};
-ghost use Rattle.locked_parts.specs.Kinds.{count_of_rounds};
+ghost use Rattle.locked_parts.specs.Kinds.{AreForSame, count_of_rounds};
 
 use crate::cpu_rounds::KindRounds;
 use crate::gates::{EventName, Gate, StepCount};
@@ -37,7 +37,8 @@ pub struct Running<'a, N: Name, R: Wait, G: Gate> {
 impl<N: Name, R: Wait, G: Gate> Parts<Segment<SeatDeed<N>>> for Running<'_, N, R, G> {
     ghost step = { λ s e a t.
         NotesStops G.may_stop s.gate.now t.gate.now s.steps.noted t.steps.noted
-        × (t.caches.ghost_name ≡ s.caches.ghost_name) };
+        × (t.caches.ghost_name ≡ s.caches.ghost_name)
+        × AreForSame s.caches.now.items t.caches.now.items };
 
     ghost tree = { λ s. nodes_of s.parts.now.arenas };
 

@@ -11,7 +11,7 @@ use Rattle.arena_tree.specs.Plans.{Plan, Done, then, or_else, Within}
 use Rattle.arena_tree.specs.Climbs.{Climbed, climb_plan, memory_refusal, climb_most}
 use Rattle.arena_tree.proofs.LawProofs.{within_then, within_refused, within_climb}
 use Rattle.quantum_cache.specs.Sizes.{cache_for}
-use Rattle.quantum_cache.specs.Allocs.{Stage, take_round, change_over, on_swap_full, take_from_depot, take_chunk, on_slab_add, make_slab, on_slab_climb, take_from_slab, alloc_cached, alloc_by}
+use Rattle.quantum_cache.specs.Allocs.{Stage, take_round, change_over, on_swap_full, take_from_depot, take_chunk, on_slab_add, make_slab, on_slab_climb, take_from_slab, alloc_cached, alloc_steps}
 use Rattle.quantum_cache.specs.Laws.{AllocIsShort}
 
 -- a stage, and those after it
@@ -93,7 +93,7 @@ within_cached chain l cache n some small =
     (λ k low. within_or_else most (slab_most k (length chain)) (take_from_slab chain l cache) _ k (within_slab chain l cache k some) (λ a. omega arith)
     (λ j top. climb_after chain n j (8 + 2 * length chain) some (omega arith)))))
 
-within_by : (o : Option ℕ) (chain : List Level) (l : Level) (n : ℕ) → 1 ≤ length chain → length chain ≤ 4 → Within (λ (r : Climbed). 8 + 2 * length chain) (alloc_by o chain l n) 0
+within_by : (o : Option ℕ) (chain : List Level) (l : Level) (n : ℕ) → 1 ≤ length chain → length chain ≤ 4 → Within (λ (r : Climbed). 8 + 2 * length chain) (alloc_steps o chain l n) 0
 within_by None chain l n some small = climb_after chain n 0 (8 + 2 * length chain) some (omega arith)
 within_by (Some cache) chain l n some small = within_cached chain l cache n some small
 

@@ -11,12 +11,12 @@ use Rattle.arena_tree.specs.declared.part_faults.SwapFullFault.TheVariants as fu
 use Rattle.arena_tree.specs.declared.part_faults.SlabAddFault.{SlabAddFault}
 use Rattle.arena_tree.specs.declared.part_faults.SlabAddFault.TheVariants as slabbing
 use Rattle.arena_tree.specs.declared.part_faults.Stopped.{Stopped}
-use Rattle.arena_tree.specs.Events.{hand_left, hand_may, slab_back}
+use Rattle.arena_tree.specs.Events.{hand_left, hand_of_answer, slab_back}
 use Rattle.arena_tree.specs.Plans.{Plan, Done, then, or_else, Handles}
 use Rattle.arena_tree.specs.Climbs.{Climbed, climb_plan, climb_left}
 use Rattle.arena_tree.proofs.LawProofs.{handles_then, handles_refused, handles_climb}
 use Rattle.quantum_cache.specs.Sizes.{cache_for}
-use Rattle.quantum_cache.specs.Allocs.{Stage, on_take, take_round, on_change_over, change_over, on_swap_full, take_from_depot, take_chunk, on_slab_add, make_slab, on_slab_climb, take_from_slab, alloc_cached, alloc_by}
+use Rattle.quantum_cache.specs.Allocs.{Stage, on_take, take_round, on_change_over, change_over, on_swap_full, take_from_depot, take_chunk, on_slab_add, make_slab, on_slab_climb, take_from_slab, alloc_cached, alloc_steps}
 use Rattle.quantum_cache.specs.Laws.{carve_left, AllocHandles, XallocHandles}
 
 handles_or_else : {A : Type 0} (left : A → Option Tag) (stage : Option A → Option Tag) (p : Plan (Option A)) (q : Plan A) (h : Option Tag) → Handles stage p h → ((a : A) → stage (Some a) ≡ left a) → Handles left q (stage None) → Handles left (then p (or_else q)) h
@@ -31,7 +31,7 @@ abbrev stage_left : Stage → Option Tag
 stage_left None = None
 stage_left (Some r) = climb_left r
 
-handles_take : (a : Result (Option Tag) Stopped) → hand_may (λ _. None) a ≡ stage_left (on_take a)
+handles_take : (a : Result (Option Tag) Stopped) → hand_of_answer (λ _. None) a ≡ stage_left (on_take a)
 handles_take (Ok None) = refl
 handles_take (Ok (Some t)) = refl
 handles_take (Err e) = refl
@@ -84,7 +84,7 @@ handles_import : (chain : List Level) (l : Level) (cache : ℕ) → Handles stag
 unfolding take_from_slab
 handles_import chain l cache = handles_then climb_left stage_left (climb_plan chain l.slab_size) (on_slab_climb chain l.id cache) None (handles_climb chain l.slab_size) (handles_climbed chain l.id cache)
 
-handles_by : (o : Option ℕ) (chain : List Level) (l : Level) (n : ℕ) → Handles climb_left (alloc_by o chain l n) None
+handles_by : (o : Option ℕ) (chain : List Level) (l : Level) (n : ℕ) → Handles climb_left (alloc_steps o chain l n) None
 unfolding alloc_cached
 handles_by None chain l n = handles_climb chain n
 handles_by (Some cache) chain l n =

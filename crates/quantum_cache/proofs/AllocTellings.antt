@@ -20,7 +20,7 @@ use Rattle.arena_tree.specs.Climbs.{Climbed, Returned, climb_plan, return_plan, 
 use Rattle.arena_tree.specs.Told.{Answered, Tells, RanOut, WasStopped, ClimbTold, ReturnTold}
 use Rattle.arena_tree.proofs.LawProofs.{tells_then, ran_out_before, climb_tells, return_tells}
 use Rattle.quantum_cache.specs.Sizes.{cache_for}
-use Rattle.quantum_cache.specs.Allocs.{Stage, on_take, take_round, on_change_over, change_over, on_swap_full, take_from_depot, take_chunk, on_slab_add, make_slab, on_slab_climb, take_from_slab, alloc_cached, alloc_by}
+use Rattle.quantum_cache.specs.Allocs.{Stage, on_take, take_round, on_change_over, change_over, on_swap_full, take_from_depot, take_chunk, on_slab_add, make_slab, on_slab_climb, take_from_slab, alloc_cached, alloc_steps}
 use Rattle.quantum_cache.specs.Served.{IsServedOf}
 use Rattle.quantum_cache.specs.Told.{AllocTold, AllocTells}
 use Rattle.quantum_cache.proofs.CacheSizes.{chunk_serves}
@@ -128,7 +128,7 @@ module _ (nodes : List Node) (l : Level) (up : List Level) (size cache : ℕ) (i
       (λ b. tells_or_else (take_chunk l.id cache) _ b (told_chunk b)
       (λ d. tells_or_else (take_from_slab (l ∷ up) l cache) _ d (told_import d) (λ e. told_climb nodes l up size e is))))
 
-told_by_cache : (nodes : List Node) (l : Level) (up : List Level) (size : ℕ) (o : Option ℕ) → IsChain nodes (l ∷ up) → cache_for l size ≡ o → Tells nodes (AllocTold nodes (l ∷ up) size) (alloc_by o (l ∷ up) l size) []
+told_by_cache : (nodes : List Node) (l : Level) (up : List Level) (size : ℕ) (o : Option ℕ) → IsChain nodes (l ∷ up) → cache_for l size ≡ o → Tells nodes (AllocTold nodes (l ∷ up) size) (alloc_steps o (l ∷ up) l size) []
 told_by_cache nodes l up size None is for = told_climb nodes l up size [] is
 told_by_cache nodes l up size (Some cache) is for = told_cached nodes l up size cache is for
 

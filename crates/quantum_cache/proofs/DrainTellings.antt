@@ -15,7 +15,7 @@ use Rattle.arena_tree.specs.Told.{Answered, Tells}
 use Rattle.arena_tree.specs.Trees.{level_of}
 use Rattle.arena_tree.proofs.LawProofs.{tells_then}
 use Rattle.quantum_cache.specs.declared.emptying_faults.EmptyingFault.{EmptyingFault}
-use Rattle.quantum_cache.specs.Caches.{chain_on, chain_up, chain_in}
+use Rattle.quantum_cache.specs.Caches.{rest_of_chain, chain_up, chain_in}
 use Rattle.quantum_cache.specs.Drains.{Turn, Drained, on_put_back, on_drain_pop, drain_turn, on_turn, drain_cache_plan, drain_arena_plan, drain_plan}
 use Rattle.quantum_cache.specs.Frees.{put_chunk}
 use Rattle.quantum_cache.specs.Looks.{WasLast, EmptyingTold, DrainTold, DrainTells}
@@ -103,7 +103,7 @@ module _ (nodes : List Node) (turns : ℕ) (arenas : List TreeArena) where
   plan_of id u = drain_arena_plan turns (chain_in arenas id)
 
   abbrev chain_by : ℕ → Option TreeArena → List Level
-  chain_by id o = chain_on (chain_up 3 arenas) id o
+  chain_by id o = rest_of_chain (chain_up 3 arenas) id o
 
   one_arena : (id : ℕ) (u : Unit {0}) (told : List Answered) (o : Option TreeArena) → slice_get arenas id ≡ o → Tells nodes (KeyTold nodes plan_of Live AllFound Fault id u) (drain_arena_plan turns (chain_by id o)) told
   one_arena id u told None at = (λ live cache x here. absurd (let e : None ≡ Some x = sym at ∙ here in cc), λ live. live)

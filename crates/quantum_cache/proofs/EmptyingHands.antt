@@ -4,7 +4,7 @@ use Rattle.deed_core.specs.Tag.{Tag}
 use Rattle.arena_tree.specs.declared.levels.Level.{Level}
 use Rattle.arena_tree.specs.declared.part_faults.ReturnFault.TheVariants as returning
 use Rattle.arena_tree.specs.declared.part_faults.Stopped.{Stopped}
-use Rattle.arena_tree.specs.Events.{hand_may}
+use Rattle.arena_tree.specs.Events.{hand_of_answer}
 use Rattle.arena_tree.specs.Plans.{Plan, Done, Handles}
 use Rattle.arena_tree.specs.Climbs.{Returned, return_left, return_plan}
 use Rattle.arena_tree.proofs.LawProofs.{handles_then, handles_return}
@@ -13,7 +13,7 @@ use Rattle.quantum_cache.specs.Caches.{chain_in, if_ok, over_caches, over_arenas
 use Rattle.quantum_cache.specs.Drains.{Turn, drain_end, on_put_back, on_drain_pop, drain_turn, on_turn, drain_cache_plan, drain_arena_plan}
 use Rattle.quantum_cache.specs.Frees.{put_chunk}
 use Rattle.quantum_cache.specs.Laws.{emptying_left, drain_left, reap_left, DrainHandles, ReapArenaHandles, ReapHandles}
-use Rattle.quantum_cache.specs.Reaps.{Reaped, ReapEnd, on_return, on_depot_reap, reap_round, on_slab_reap, reap_slab, on_look, up_to, reap_by, reap_cache, reap_arena_plan}
+use Rattle.quantum_cache.specs.Reaps.{Reaped, ReapEnd, on_return, on_depot_reap, reap_round, on_slab_reap, reap_slab, on_look, looks_in_turn, reap_steps, reap_cache, reap_arena_plan}
 use Rattle.quantum_cache.specs.Sizes.{caches_in}
 use Rattle.quantum_cache.proofs.FreeHands.{handles_put}
 
@@ -45,7 +45,7 @@ handles_turn arena cache = (refl, popped)
     ended (Err (returning.Stuck t)) = refl
     ended (Err (returning.Stopped t)) = refl
 
-    popped : (x : Result (Option Tag) Stopped) → Handles turn_left (on_drain_pop x) (hand_may (λ _. None) x)
+    popped : (x : Result (Option Tag) Stopped) → Handles turn_left (on_drain_pop x) (hand_of_answer (λ _. None) x)
     popped (Ok None) = refl
     popped (Ok (Some t)) = handles_then return_left turn_left (put_chunk t) (λ r. Done (on_put_back r)) (Some t) (handles_put t) ended
     popped (Err e) = refl
@@ -79,7 +79,7 @@ handles_reap_round : (arena cache : ℕ) → Handles look_left (reap_round arena
 unfolding reap_round
 handles_reap_round arena cache = (refl, taken)
   where
-    taken : (x : Result (Option Tag) Stopped) → Handles look_left (on_depot_reap x) (hand_may (λ _. None) x)
+    taken : (x : Result (Option Tag) Stopped) → Handles look_left (on_depot_reap x) (hand_of_answer (λ _. None) x)
     taken (Ok None) = refl
     taken (Ok (Some t)) = handles_then return_left look_left (put_chunk t) (λ r. Done (on_return 0 r)) (Some t) (handles_put t) (handles_returned 0)
     taken (Err e) = refl
@@ -88,16 +88,16 @@ handles_reap_slab : (chain : List Level) (arena cache : ℕ) → Handles look_le
 unfolding reap_slab
 handles_reap_slab chain arena cache = (refl, taken)
   where
-    taken : (x : Result (Option Tag) Stopped) → Handles look_left (on_slab_reap chain x) (hand_may (λ _. None) x)
+    taken : (x : Result (Option Tag) Stopped) → Handles look_left (on_slab_reap chain x) (hand_of_answer (λ _. None) x)
     taken (Ok None) = refl
     taken (Ok (Some t)) = handles_then return_left look_left (return_plan chain t) (λ r. Done (on_return t.holding.range.len r)) (Some t) (handles_return chain t) (handles_returned t.holding.range.len)
     taken (Err e) = refl
 
-handles_up_to : (p : Plan Reaped) → Handles look_left p None → (n units : ℕ) → Handles reap_left (up_to p n units) None
+handles_up_to : (p : Plan Reaped) → Handles look_left p None → (n units : ℕ) → Handles reap_left (looks_in_turn p n units) None
 handles_up_to p w zero units = refl
-handles_up_to p w (suc n) units = handles_then look_left reap_left p (on_look (up_to p n) n units) None w (looked (handles_up_to p w n))
+handles_up_to p w (suc n) units = handles_then look_left reap_left p (on_look (looks_in_turn p n) n units) None w (looked (handles_up_to p w n))
   where
-    looked : ((sum : ℕ) → Handles reap_left (up_to p n sum) None) → (a : Reaped) → Handles reap_left (on_look (up_to p n) n units a) (look_left a)
+    looked : ((sum : ℕ) → Handles reap_left (looks_in_turn p n sum) None) → (a : Reaped) → Handles reap_left (on_look (looks_in_turn p n) n units a) (look_left a)
     looked again (Ok (Some more)) = again _
     looked again (Ok None) = refl
     looked again (Err f) = refl
@@ -105,9 +105,9 @@ handles_up_to p w (suc n) units = handles_then look_left reap_left p (on_look (u
 handles_reap_cache : (chain : List Level) (arena cache : ℕ) (r : Reaping) → Handles reap_left (reap_cache chain arena cache r) None
 unfolding reap_cache
 handles_reap_cache chain arena cache r =
-    handles_then reap_left reap_left (reap_by (reap_round arena cache) r) (if_ok (reap_by (reap_slab chain arena cache))) None (handles_up_to (reap_round arena cache) (handles_reap_round arena cache) r.left r.units) slabs
+    handles_then reap_left reap_left (reap_steps (reap_round arena cache) r) (if_ok (reap_steps (reap_slab chain arena cache))) None (handles_up_to (reap_round arena cache) (handles_reap_round arena cache) r.left r.units) slabs
   where
-    slabs : (a : ReapEnd) → Handles reap_left (if_ok (reap_by (reap_slab chain arena cache)) a) (reap_left a)
+    slabs : (a : ReapEnd) → Handles reap_left (if_ok (reap_steps (reap_slab chain arena cache)) a) (reap_left a)
     slabs (Ok x) = handles_up_to (reap_slab chain arena cache) (handles_reap_slab chain arena cache) x.left x.units
     slabs (Err f) = refl
 

@@ -15,7 +15,7 @@ use Rattle.arena_tree.specs.Climbs.{Returned}
 use Rattle.arena_tree.proofs.LawProofs.{within_then, within_return}
 use Rattle.quantum_cache.specs.declared.placings.Placing.{Placing}
 use Rattle.quantum_cache.specs.declared.placings.Placing.TheVariants.{Placed, Left, Stopped}
-use Rattle.quantum_cache.specs.Frees.{or_next, push_round, on_change, push_changed, on_swap_fresh, push_fresh, on_swap_empty, push_exchanged, put_chunk, free_cached, free_by}
+use Rattle.quantum_cache.specs.Frees.{or_next, push_round, on_change, push_changed, on_swap_fresh, push_fresh, on_swap_empty, push_exchanged, put_chunk, free_cached, free_steps}
 use Rattle.quantum_cache.specs.Laws.{free_most, FreeIsShort}
 
 pub within_put : (t : Tag) → Within (λ (r : Returned). 1) (put_chunk t) 0
@@ -68,7 +68,7 @@ within_or_next p q n stage w le next = within_then (λ (a : Placing Tag). stage)
     go (Left t) m low = next t m low
     go (Stopped t) m low = omega (arith, low, le)
 
-within_by : (route : Route) (chain : List Level) (t : Tag) → Within (λ (r : Returned). free_most route (length chain)) (free_by route chain t) 0
+within_by : (route : Route) (chain : List Level) (t : Tag) → Within (λ (r : Returned). free_most route (length chain)) (free_steps route chain t) 0
 unfolding free_cached
 within_by Direct chain t = within_return (λ (r : Returned). length chain) chain t 0 (λ r. omega arith)
 within_by (Cached cache) chain t =

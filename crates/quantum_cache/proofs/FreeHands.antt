@@ -14,13 +14,13 @@ use Rattle.arena_tree.specs.declared.part_faults.SwapEmptyFault.{SwapEmptyFault}
 use Rattle.arena_tree.specs.declared.part_faults.SwapEmptyFault.TheVariants as emptying
 use Rattle.arena_tree.specs.declared.part_faults.SwapFreshFault.{SwapFreshFault}
 use Rattle.arena_tree.specs.declared.part_faults.SwapFreshFault.TheVariants as freshing
-use Rattle.arena_tree.specs.Events.{hand_none, pushed_back, put_back}
+use Rattle.arena_tree.specs.Events.{hand_of_fault, pushed_back, put_back}
 use Rattle.arena_tree.specs.Plans.{Plan, then, Handles}
 use Rattle.arena_tree.specs.Climbs.{Returned, return_left}
 use Rattle.arena_tree.proofs.LawProofs.{handles_then, handles_return}
 use Rattle.quantum_cache.specs.declared.placings.Placing.{Placing}
 use Rattle.quantum_cache.specs.declared.placings.Placing.TheVariants.{Placed, Left, Stopped}
-use Rattle.quantum_cache.specs.Frees.{or_next, on_push, push_round, on_change, push_changed, on_swap_fresh, push_fresh, on_swap_empty, push_exchanged, on_slab_put, put_chunk, free_cached, free_by}
+use Rattle.quantum_cache.specs.Frees.{or_next, on_push, push_round, on_change, push_changed, on_swap_fresh, push_fresh, on_swap_empty, push_exchanged, on_slab_put, put_chunk, free_cached, free_steps}
 use Rattle.quantum_cache.specs.Laws.{FreeHandles}
 
 abbrev placing_left : Placing Tag → Option Tag
@@ -40,7 +40,7 @@ handles_push : (arena cache : ℕ) (t : Tag) → Handles placing_left (push_roun
 unfolding push_round
 handles_push arena cache t = (refl, done)
   where
-    done : (x : Result (Unit {0}) (PushFault Tag)) → hand_none (λ f. Some (pushed_back f)) x ≡ placing_left (on_push x)
+    done : (x : Result (Unit {0}) (PushFault Tag)) → hand_of_fault (λ f. Some (pushed_back f)) x ≡ placing_left (on_push x)
     done (Ok u) = refl
     done (Err (pushing.NoRoom x)) = refl
     done (Err (pushing.Stopped x)) = refl
@@ -79,13 +79,13 @@ pub handles_put : (t : Tag) → Handles return_left (put_chunk t) (Some t)
 unfolding put_chunk
 handles_put t = (refl, done)
   where
-    done : (x : Result (Unit {0}) (SlabPutFault Tag)) → hand_none (λ f. Some (put_back f)) x ≡ return_left (on_slab_put x)
+    done : (x : Result (Unit {0}) (SlabPutFault Tag)) → hand_of_fault (λ f. Some (put_back f)) x ≡ return_left (on_slab_put x)
     done (Ok u) = refl
     done (Err (putting.NotMine x)) = refl
     done (Err (putting.AtHome x)) = refl
     done (Err (putting.Stopped x)) = refl
 
-handles_by : (route : Route) (chain : List Level) (t : Tag) → Handles return_left (free_by route chain t) (Some t)
+handles_by : (route : Route) (chain : List Level) (t : Tag) → Handles return_left (free_steps route chain t) (Some t)
 unfolding free_cached
 handles_by Direct chain t = handles_return chain t
 handles_by (Cached cache) chain t = handles_or_next (push_round t.arena cache t) _ (Some t) (handles_push t.arena cache t) (λ x. handles_or_next (push_exchanged t.arena cache x) _ (Some x) (handles_exchanged t.arena cache x) handles_put)

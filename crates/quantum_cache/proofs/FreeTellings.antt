@@ -23,7 +23,7 @@ use Rattle.arena_tree.specs.Told.{Answered, Tells, WasTakenIn, WasStopped, Retur
 use Rattle.arena_tree.proofs.LawProofs.{tells_then, return_tells}
 use Rattle.quantum_cache.specs.declared.placings.Placing.{Placing}
 use Rattle.quantum_cache.specs.declared.placings.Placing.TheVariants.{Placed, Left, Stopped}
-use Rattle.quantum_cache.specs.Frees.{or_next, on_push, push_round, on_change, push_changed, on_swap_fresh, push_fresh, on_swap_empty, push_exchanged, on_slab_put, put_chunk, free_cached, free_by}
+use Rattle.quantum_cache.specs.Frees.{or_next, on_push, push_round, on_change, push_changed, on_swap_fresh, push_fresh, on_swap_empty, push_exchanged, on_slab_put, put_chunk, free_cached, free_steps}
 use Rattle.quantum_cache.specs.Told.{FreeTold, FreeTells}
 use Rattle.quantum_cache.proofs.Tellings.{answered, After, tells_after, tells_so, just_refused, stopped_after, taken_in_after}
 
@@ -98,7 +98,7 @@ told_or_next nodes p q told stage next = tells_then nodes PlacingTold FreeTold p
     go (Left t) now w = next t now
     go (Stopped t) now w = w
 
-told_by : (nodes : List Node) (route : Route) (chain : List Level) (t : Tag) → IsChain nodes chain → first_id chain ≡ Some t.arena → Tells nodes FreeTold (free_by route chain t) []
+told_by : (nodes : List Node) (route : Route) (chain : List Level) (t : Tag) → IsChain nodes chain → first_id chain ≡ Some t.arena → Tells nodes FreeTold (free_steps route chain t) []
 unfolding free_cached
 told_by nodes Direct chain t is first = told_return nodes chain t [] is first
 told_by nodes (Cached cache) chain t is first =

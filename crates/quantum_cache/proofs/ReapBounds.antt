@@ -10,10 +10,10 @@ use Rattle.arena_tree.specs.Plans.{Plan, Done, Ask, then, Within}
 use Rattle.arena_tree.specs.Climbs.{Returned, return_plan}
 use Rattle.arena_tree.proofs.LawProofs.{within_then, within_return}
 use Rattle.quantum_cache.specs.declared.reaps.Reaping.{Reaping}
-use Rattle.quantum_cache.specs.Caches.{chain_on, chain_up, chain_in, if_ok, over_caches, over_arenas}
+use Rattle.quantum_cache.specs.Caches.{rest_of_chain, chain_up, chain_in, if_ok, over_caches, over_arenas}
 use Rattle.quantum_cache.specs.Frees.{put_chunk}
 use Rattle.quantum_cache.specs.Laws.{looks_left, ReapArenaIsShort, ReapIsShort}
-use Rattle.quantum_cache.specs.Reaps.{Reaped, ReapEnd, on_return, on_depot_reap, reap_round, on_slab_reap, reap_slab, on_look, up_to, reap_by, reap_cache, reap_arena_plan, reap_plan}
+use Rattle.quantum_cache.specs.Reaps.{Reaped, ReapEnd, on_return, on_depot_reap, reap_round, on_slab_reap, reap_slab, on_look, looks_in_turn, reap_steps, reap_cache, reap_arena_plan, reap_plan}
 use Rattle.quantum_cache.specs.Sizes.{caches_in}
 
 -- after so many locks it ends with so many in all, of which the end says what it says
@@ -61,12 +61,12 @@ within_reap_slab chain arena cache n short = taken
     taken (Err e) = omega arith
 
 module _ (limit : ℕ) where
-  paid_up_to : (p : Plan Reaped) → ((n : ℕ) → Within (λ (a : Reaped). n + 5) p n) → (left units n : ℕ) → n + 5 * left ≤ 5 * limit → Counted (Paid limit) (up_to p left units) n
+  paid_up_to : (p : Plan Reaped) → ((n : ℕ) → Within (λ (a : Reaped). n + 5) p n) → (left units n : ℕ) → n + 5 * left ≤ 5 * limit → Counted (Paid limit) (looks_in_turn p left units) n
   paid_up_to p look zero units n le = le
   paid_up_to p look (suc k) units n le =
-      counted_then (λ (a : Reaped) (m : ℕ). m ≤ n + 5) (Paid limit) p (on_look (up_to p k) k units) n (within_counted (λ (a : Reaped). n + 5) p n (look n)) (looked (λ sum m fits. paid_up_to p look k sum m fits))
+      counted_then (λ (a : Reaped) (m : ℕ). m ≤ n + 5) (Paid limit) p (on_look (looks_in_turn p k) k units) n (within_counted (λ (a : Reaped). n + 5) p n (look n)) (looked (λ sum m fits. paid_up_to p look k sum m fits))
     where
-      looked : ((sum m : ℕ) → m + 5 * k ≤ 5 * limit → Counted (Paid limit) (up_to p k sum) m) → (a : Reaped) (m : ℕ) → m ≤ n + 5 → Counted (Paid limit) (on_look (up_to p k) k units a) m
+      looked : ((sum m : ℕ) → m + 5 * k ≤ 5 * limit → Counted (Paid limit) (looks_in_turn p k sum) m) → (a : Reaped) (m : ℕ) → m ≤ n + 5 → Counted (Paid limit) (on_look (looks_in_turn p k) k units a) m
       looked again (Ok (Some more)) m low = again (units + more) m (omega (arith, le, low))
       looked again (Ok None) m low = omega (arith, le, low)
       looked again (Err f) m low = omega (arith, le, low)
@@ -78,8 +78,8 @@ module _ (limit : ℕ) where
   paid_cache : (chain : List Level) → length chain ≤ 4 → (arena cache : ℕ) (r : Reaping) (n : ℕ) → n + 5 * r.left ≤ 5 * limit → Counted (Paid limit) (reap_cache chain arena cache r) n
   unfolding reap_cache
   paid_cache chain short arena cache r n le =
-      counted_then (Paid limit) (Paid limit) (reap_by (reap_round arena cache) r) (if_ok (reap_by (reap_slab chain arena cache))) n (paid_up_to (reap_round arena cache) (within_reap_round arena cache) r.left r.units n le)
-      (paid_if_ok (reap_by (reap_slab chain arena cache)) (λ x m fits. paid_up_to (reap_slab chain arena cache) (λ k. within_reap_slab chain arena cache k short) x.left x.units m fits))
+      counted_then (Paid limit) (Paid limit) (reap_steps (reap_round arena cache) r) (if_ok (reap_steps (reap_slab chain arena cache))) n (paid_up_to (reap_round arena cache) (within_reap_round arena cache) r.left r.units n le)
+      (paid_if_ok (reap_steps (reap_slab chain arena cache)) (λ x m fits. paid_up_to (reap_slab chain arena cache) (λ k. within_reap_slab chain arena cache k short) x.left x.units m fits))
 
   module _ (each : ℕ → Reaping → Plan ReapEnd) (paid : (k : ℕ) (r : Reaping) (n : ℕ) → n + 5 * r.left ≤ 5 * limit → Counted (Paid limit) (each k r) n) where
     paid_caches : (all k : ℕ) (r : Reaping) (n : ℕ) → n + 5 * r.left ≤ 5 * limit → Counted (Paid limit) (over_caches each all k r) n
@@ -94,7 +94,7 @@ module _ (limit : ℕ) where
   paid_arena [] short r n le = le
   paid_arena (l ∷ up) short r n le = paid_caches (reap_cache (l ∷ up) l.id) (paid_cache (l ∷ up) short l.id) (caches_in l) (caches_in l) r n le
 
-short_on : (n : ℕ) (again : Option ℕ → List Level) (id : ℕ) (x : Option TreeArena) → ((o : Option ℕ) → length (again o) ≤ n) → length (chain_on again id x) ≤ n + 1
+short_on : (n : ℕ) (again : Option ℕ → List Level) (id : ℕ) (x : Option TreeArena) → ((o : Option ℕ) → length (again o) ≤ n) → length (rest_of_chain again id x) ≤ n + 1
 short_on n again id None short = omega arith
 short_on n again id (Some x) short = let up = short x.source in omega (arith, up)
 

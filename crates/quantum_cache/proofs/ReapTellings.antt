@@ -17,10 +17,10 @@ use Rattle.arena_tree.specs.Trees.{nodes_of, level_of}
 use Rattle.arena_tree.proofs.LawProofs.{tells_then}
 use Rattle.quantum_cache.specs.declared.reaps.Reaping.{Reaping}
 use Rattle.quantum_cache.specs.declared.reaps.ReapFault.{ReapFault}
-use Rattle.quantum_cache.specs.Caches.{chain_on, chain_up, chain_in, if_ok}
+use Rattle.quantum_cache.specs.Caches.{rest_of_chain, chain_up, chain_in, if_ok}
 use Rattle.quantum_cache.specs.Frees.{put_chunk}
 use Rattle.quantum_cache.specs.Looks.{WasLast, NothingToReap, EmptyingTold, ReapTold, ReapArenaTold, ReapArenaTells, ReapTells}
-use Rattle.quantum_cache.specs.Reaps.{Reaped, ReapEnd, on_return, on_depot_reap, reap_round, on_slab_reap, reap_slab, on_look, up_to, reap_by, reap_cache, reap_arena_plan, reap_plan}
+use Rattle.quantum_cache.specs.Reaps.{Reaped, ReapEnd, on_return, on_depot_reap, reap_round, on_slab_reap, reap_slab, on_look, looks_in_turn, reap_steps, reap_cache, reap_arena_plan, reap_plan}
 use Rattle.quantum_cache.specs.Sizes.{caches_in}
 use Rattle.quantum_cache.specs.Told.{FreeTold}
 use Rattle.quantum_cache.proofs.FreeTellings.{told_put, told_return}
@@ -65,16 +65,16 @@ abbrev LooksTold : (List Answered → Type 0) → ℕ → List Answered → Reap
 LooksTold found left now (Ok r) = (0 < r.left → found now) × (r.left ≤ left)
 LooksTold found left now (Err f) = EmptyingTold now f.cause
 
-told_up_to : (nodes : List Node) (found : List Answered → Type 0) (p : Plan Reaped) → ((told : List Answered) → Tells nodes (LookTold found) p told) → (left units : ℕ) (told : List Answered) → Tells nodes (LooksTold found left) (up_to p left units) told
+told_up_to : (nodes : List Node) (found : List Answered → Type 0) (p : Plan Reaped) → ((told : List Answered) → Tells nodes (LookTold found) p told) → (left units : ℕ) (told : List Answered) → Tells nodes (LooksTold found left) (looks_in_turn p left units) told
 told_up_to nodes found p look zero units told = (λ some. absurd (omega (arith, some)), omega arith)
-told_up_to nodes found p look (suc n) units told = tells_then nodes (LookTold found) (LooksTold found (suc n)) p (on_look (up_to p n) n units) told (look told) (looked (told_up_to nodes found p look n))
+told_up_to nodes found p look (suc n) units told = tells_then nodes (LookTold found) (LooksTold found (suc n)) p (on_look (looks_in_turn p n) n units) told (look told) (looked (told_up_to nodes found p look n))
   where
     longer : (now : List Answered) (r : ReapEnd) → LooksTold found n now r → LooksTold found (suc n) now r
     longer now (Ok r) w = (w.0, omega (arith, w.1))
     longer now (Err f) w = w
 
-    looked : ((sum : ℕ) (now : List Answered) → Tells nodes (LooksTold found n) (up_to p n sum) now) → (a : Reaped) (now : List Answered) → LookTold found now a → Tells nodes (LooksTold found (suc n)) (on_look (up_to p n) n units a) now
-    looked again (Ok (Some more)) now w = tells_so nodes (LooksTold found n) (LooksTold found (suc n)) (up_to p n (units + more)) now longer (again (units + more) now)
+    looked : ((sum : ℕ) (now : List Answered) → Tells nodes (LooksTold found n) (looks_in_turn p n sum) now) → (a : Reaped) (now : List Answered) → LookTold found now a → Tells nodes (LooksTold found (suc n)) (on_look (looks_in_turn p n) n units a) now
+    looked again (Ok (Some more)) now w = tells_so nodes (LooksTold found n) (LooksTold found (suc n)) (looks_in_turn p n (units + more)) now longer (again (units + more) now)
     looked again (Ok None) now w = (λ some. w, omega arith)
     looked again (Err f) now w = w
 
@@ -92,16 +92,16 @@ module _ (nodes : List Node) (l : Level) (up : List Level) (is : IsChain nodes (
   told_cache : (cache : ℕ) (r : Reaping) (told : List Answered) → Tells nodes (KeyTold nodes (reap_cache (l ∷ up) l.id) Live Found Fault cache r) (reap_cache (l ∷ up) l.id cache r) told
   unfolding reap_cache
   told_cache cache r told =
-      tells_then nodes (LooksTold (WasLast (DepotReap l.id cache) (Ok None)) r.left) (KeyTold nodes (reap_cache (l ∷ up) l.id) Live Found Fault cache r) (reap_by (reap_round l.id cache) r) (if_ok (reap_by (reap_slab (l ∷ up) l.id cache))) told
+      tells_then nodes (LooksTold (WasLast (DepotReap l.id cache) (Ok None)) r.left) (KeyTold nodes (reap_cache (l ∷ up) l.id) Live Found Fault cache r) (reap_steps (reap_round l.id cache) r) (if_ok (reap_steps (reap_slab (l ∷ up) l.id cache))) told
       (told_up_to nodes (WasLast (DepotReap l.id cache) (Ok None)) (reap_round l.id cache) (look_at_depot nodes l.id cache) r.left r.units told) slabs
     where
       both : (y : Reaping) → y.left ≤ r.left → (now : List Answered) (a : ReapEnd) → LooksTold (WasLast (SlabReap l.id cache) (Ok None)) y.left now a × (Live y → WasLast (DepotReap l.id cache) (Ok None) now) → KeyTold nodes (reap_cache (l ∷ up) l.id) Live Found Fault cache r now a
       both y le now (Ok z) w = (λ some. (w.1 (omega (arith, some, (w.0).1)), (w.0).0 some), λ some. omega (arith, some, le, (w.0).1))
       both y le now (Err f) w = w.0
 
-      slabs : (a : ReapEnd) (now : List Answered) → LooksTold (WasLast (DepotReap l.id cache) (Ok None)) r.left now a → Tells nodes (KeyTold nodes (reap_cache (l ∷ up) l.id) Live Found Fault cache r) (if_ok (reap_by (reap_slab (l ∷ up) l.id cache)) a) now
+      slabs : (a : ReapEnd) (now : List Answered) → LooksTold (WasLast (DepotReap l.id cache) (Ok None)) r.left now a → Tells nodes (KeyTold nodes (reap_cache (l ∷ up) l.id) Live Found Fault cache r) (if_ok (reap_steps (reap_slab (l ∷ up) l.id cache)) a) now
       slabs (Ok y) now w =
-          let looks : Plan ReapEnd = reap_by (reap_slab (l ∷ up) l.id cache) y in
+          let looks : Plan ReapEnd = reap_steps (reap_slab (l ∷ up) l.id cache) y in
           tells_so nodes (λ now' a. LooksTold (WasLast (SlabReap l.id cache) (Ok None)) y.left now' a × (Live y → WasLast (DepotReap l.id cache) (Ok None) now')) (KeyTold nodes (reap_cache (l ∷ up) l.id) Live Found Fault cache r) looks now (both y w.1)
           (tells_both nodes (LooksTold (WasLast (SlabReap l.id cache) (Ok None)) y.left) (λ now' a. Live y → WasLast (DepotReap l.id cache) (Ok None) now') looks now
           (told_up_to nodes (WasLast (SlabReap l.id cache) (Ok None)) (reap_slab (l ∷ up) l.id cache) (λ t. look_at_slabs nodes l up cache t is) y.left y.units now)
@@ -113,7 +113,7 @@ module _ (nodes : List Node) (l : Level) (up : List Level) (is : IsChain nodes (
 avoids_cache : (e : Event) (chain : List Level) (arena cache : ℕ) (r : Reaping) → Avoids e (reap_round arena cache) → Avoids e (reap_slab chain arena cache) → Avoids e (reap_cache chain arena cache r)
 unfolding reap_cache
 avoids_cache e chain arena cache r v w =
-    avoids_then e (reap_by (reap_round arena cache) r) (if_ok (reap_by (reap_slab chain arena cache))) (avoids_up_to e (reap_round arena cache) v r.left r.units) (avoids_ok e (reap_by (reap_slab chain arena cache)) (λ x. avoids_up_to e (reap_slab chain arena cache) w x.left x.units))
+    avoids_then e (reap_steps (reap_round arena cache) r) (if_ok (reap_steps (reap_slab chain arena cache))) (avoids_up_to e (reap_round arena cache) v r.left r.units) (avoids_ok e (reap_steps (reap_slab chain arena cache)) (λ x. avoids_up_to e (reap_slab chain arena cache) w x.left x.units))
 
 other_depot : (chain : List Level) (a k b j : ℕ) (r : Reaping) → (DepotReap a k ≢ DepotReap b j) → Avoids (DepotReap b j) (reap_cache chain a k r)
 other_depot chain a k b j r other = avoids_cache (DepotReap b j) chain a k r (avoids_round (DepotReap b j) (λ t e. cc) a k other) (avoids_slab (DepotReap b j) (λ t e. cc) chain a k (λ e. cc))
@@ -141,7 +141,7 @@ module _ (arenas : List TreeArena) (chains : (id : ℕ) → id < length arenas �
   plan_of id = reap_arena_plan (chain_in arenas id)
 
   abbrev chain_by : ℕ → Option TreeArena → List Level
-  chain_by id o = chain_on (chain_up 3 arenas) id o
+  chain_by id o = rest_of_chain (chain_up 3 arenas) id o
 
   one_arena : (id : ℕ) (r : Reaping) (told : List Answered) (o : Option TreeArena) → slice_get arenas id ≡ o → Tells (nodes_of arenas) (KeyTold (nodes_of arenas) plan_of Live AllFound Fault id r) (reap_arena_plan (chain_by id o) r) told
   one_arena id r told None at = (λ live cache x here. absurd (let e : None ≡ Some x = sym at ∙ here in cc), λ live. live)

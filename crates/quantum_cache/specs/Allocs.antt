@@ -99,14 +99,14 @@ alloc_cached chain l cache size =
     ∷ take_from_slab chain l cache ∷ [])
     (climb_plan chain size)
 
-abbrev pub alloc_by : Option ℕ → List Level → Level → ℕ → Plan Climbed
-alloc_by None chain l size = climb_plan chain size
-alloc_by (Some cache) chain l size = alloc_cached chain l cache size
+abbrev pub alloc_steps : Option ℕ → List Level → Level → ℕ → Plan Climbed
+alloc_steps None chain l size = climb_plan chain size
+alloc_steps (Some cache) chain l size = alloc_cached chain l cache size
 
 -- so many units of the chain's first arena: by its cache for that size, or else by a climb
 abbrev pub alloc_plan : List Level → ℕ → Plan Climbed
 alloc_plan [] size = Done (Err climbing.NoFit)
-alloc_plan (l ∷ up) size = alloc_by (cache_for l size) (l ∷ up) l size
+alloc_plan (l ∷ up) size = alloc_steps (cache_for l size) (l ∷ up) l size
 
 -- a constrained request: one carve, and never an import
 abbrev pub xalloc_plan : ℕ → Request → Plan (Result Tag CarveFault)

@@ -7,15 +7,15 @@ use Rattle.arena_tree.specs.declared.trees.TreeArena.{TreeArena}
 use Rattle.arena_tree.specs.Plans.{Plan, Done, then}
 use Rattle.arena_tree.specs.Trees.{level_of}
 
-abbrev pub chain_on : (Option ℕ → List Level) → ℕ → Option TreeArena → List Level
-chain_on again id None = []
-chain_on again id (Some x) = level_of id x ∷ again x.source
+abbrev pub rest_of_chain : (Option ℕ → List Level) → ℕ → Option TreeArena → List Level
+rest_of_chain again id None = []
+rest_of_chain again id (Some x) = level_of id x ∷ again x.source
 
 -- the arena of this number, its source, that one's source, and so on, so many at most
 abbrev pub chain_up : ℕ → List TreeArena → Option ℕ → List Level
 chain_up zero arenas o = []
 chain_up (suc n) arenas None = []
-chain_up (suc n) arenas (Some id) = chain_on (chain_up n arenas) id (slice_get arenas id)
+chain_up (suc n) arenas (Some id) = rest_of_chain (chain_up n arenas) id (slice_get arenas id)
 
 -- an arena's chain
 abbrev pub chain_in : List TreeArena → ℕ → List Level

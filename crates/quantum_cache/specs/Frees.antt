@@ -92,10 +92,10 @@ unfoldable pub free_cached : ℕ → ℕ → Tag → Plan Returned
 free_cached arena cache t =
     first_that_takes (push_round arena cache ∷ push_exchanged arena cache ∷ []) put_chunk t
 
-abbrev pub free_by : Route → List Level → Tag → Plan Returned
-free_by Direct chain t = return_plan chain t
-free_by (Cached cache) chain t = free_cached t.arena cache t
+abbrev pub free_steps : Route → List Level → Tag → Plan Returned
+free_steps Direct chain t = return_plan chain t
+free_steps (Cached cache) chain t = free_cached t.arena cache t
 
 -- a round goes into the magazines or its slab, what was carved to its arena
 abbrev pub free_plan : List Level → Tag → Plan Returned
-free_plan chain t = free_by t.route chain t
+free_plan chain t = free_steps t.route chain t

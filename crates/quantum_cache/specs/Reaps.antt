@@ -70,17 +70,17 @@ on_look again left units (Ok None) = Done (Ok (record { left = left; units = uni
 on_look again left units (Err f) =
     Done (Err (record { reaping = record { left = left; units = units }; cause = f }))
 
-abbrev pub up_to : Plan Reaped → ℕ → ℕ → Plan ReapEnd
-up_to look zero units = Done (Ok (record { left = 0; units = units }))
-up_to look (suc left) units = then look (on_look (up_to look left) left units)
+abbrev pub looks_in_turn : Plan Reaped → ℕ → ℕ → Plan ReapEnd
+looks_in_turn look zero units = Done (Ok (record { left = 0; units = units }))
+looks_in_turn look (suc left) units = then look (on_look (looks_in_turn look left) left units)
 
-abbrev pub reap_by : Plan Reaped → Reaping → Plan ReapEnd
-reap_by look r = up_to look r.left r.units
+abbrev pub reap_steps : Plan Reaped → Reaping → Plan ReapEnd
+reap_steps look r = looks_in_turn look r.left r.units
 
 -- one cache: rounds of its depot, and then its slabs
 unfoldable pub reap_cache : List Level → ℕ → ℕ → Reaping → Plan ReapEnd
 reap_cache chain arena cache r =
-    then (reap_by (reap_round arena cache) r) (if_ok (reap_by (reap_slab chain arena cache)))
+    then (reap_steps (reap_round arena cache) r) (if_ok (reap_steps (reap_slab chain arena cache)))
 
 -- all caches of an arena, the first of this chain
 abbrev pub reap_arena_plan : List Level → Reaping → Plan ReapEnd

@@ -7,7 +7,7 @@ ghost use Rattle.arena_tree.specs.Plans.{Ran};
 ghost use Rattle.arena_tree.specs.Trees.{nodes_of};
 ghost use Rattle.quantum_cache.specs.Caches.{over_caches, over_arenas, chain_in};
 ghost use Rattle.quantum_cache.specs.Reaps.{CanCount, tag_reaped, tag_reap, reap_round, reap_slab};
-ghost use Rattle.quantum_cache.specs.Reaps.{reap_by, reap_cache, reap_arena_plan, reap_plan};
+ghost use Rattle.quantum_cache.specs.Reaps.{reap_steps, reap_cache, reap_arena_plan, reap_plan};
 
 use crate::emptying_faults::EmptyingFault;
 use crate::frees::put_back;
@@ -91,7 +91,7 @@ fn reap_rounds<S: Held, P: Parts<S>>(
     before: Reaping,
 ) -> Result<Reaping, ReapFault<S>>
     requires count { CanCount before }
-    ensures ran { Ran P.step P.tree P.count P.rounds (reap_by (reap_round arena cache) before)
+    ensures ran { Ran P.step P.tree P.count P.rounds (reap_steps (reap_round arena cache) before)
         parts.old parts.new (tag_reap S.tag result) }
     ensures count { IfOk result CanCount }
     ensures tree { P.tree parts.new ≡ P.tree parts.old }
@@ -120,7 +120,7 @@ fn reap_slabs<S: Held, P: Parts<S>>(
     requires first { first_id chain.now ≡ Some arena }
     requires count { CanCount before }
     ensures ran { Ran P.step P.tree P.count P.rounds
-        (reap_by (reap_slab chain.now arena cache) before)
+        (reap_steps (reap_slab chain.now arena cache) before)
         parts.old parts.new (tag_reap S.tag result) }
     ensures count { IfOk result CanCount }
     ensures tree { P.tree parts.new ≡ P.tree parts.old }

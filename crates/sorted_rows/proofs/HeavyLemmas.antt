@@ -1,16 +1,15 @@
 -- Searches by weight over rows.
-use Rattle.std.proofs.Common.{◌≡◌, ℕ, suc, ◌+◌, ◌<◌, ◌≤◌, List, [], ◌∷◌, ◌++◌, length, take, drop, get_or, sym, ap, refl, subst, ◌∙◌, arith, Bool, Option, None, Some}
+use Rattle.std.proofs.Common.{◌≡◌, ℕ, suc, ◌+◌, ◌<◌, ◌≤◌, List, ◌++◌, length, take, drop, set, get_or, sym, ap, subst, ◌∙◌, arith, Bool, Option, None, Some}
 use Rattle.std.specs.List.{find}
 use Rattle.std.specs.Option.{option_or}
-use Rattle.std.proofs.lemmas.List.{drop-append-le, drop_all}
+use Rattle.std.proofs.lemmas.List.{drop-append-le, drop_all, set-get_or}
 use Rattle.std.proofs.lemmas.List.Folds.{find-append}
 use Rattle.std.proofs.Math.Seq.{drop-cons, drop-append-add}
 use Rattle.sorted_rows.specs.Order.{place_below, IsRankAt}
 use Rattle.sorted_rows.specs.Layout.{flat, IsLaid, IsSeat}
-use Rattle.sorted_rows.specs.Weights.{greatest_weight, weighs, heavy_from}
+use Rattle.sorted_rows.specs.Weights.{weighs, heavy_from}
 use Rattle.sorted_rows.proofs.PlaceLemmas.{below_is}
 use Rattle.sorted_rows.proofs.RowLemmas.{flat_at, any_of, place_in_seat}
-use Rattle.sorted_rows.proofs.WeightLemmas.{find_none}
 
 module _ {X : Type 0} (p : X → Bool) where
   -- found in the first of two parts, or in the second
@@ -27,19 +26,19 @@ module _ {X : Type 0} (p : X → Bool) where
   pub row_has : (rows : List (List X)) (k : ℕ) (r : List X) (x : X) → k < length rows → r ≡ get_or rows k r → Some x ≡ find p r → Some x ≡ find p (flat (drop k rows))
   row_has rows k r x lt at is = found_first r (flat (drop (suc k) rows)) x is ∙ ap (find p) (sym (rows_from rows k r lt at))
 
-  pub row_lacks : (rows : List (List X)) (k : ℕ) (r : List X) → k < length rows → r ≡ get_or rows k r → None ≡ find p r → find p (flat (drop k rows)) ≡ find p (flat (drop (k + 1) rows))
-  row_lacks rows k r lt at is =
+  pub row_lacks : (rows : List (List X)) (k : ℕ) (r : List X) (found : Option X) → k < length rows → r ≡ get_or rows k r → None ≡ find p r → found ≡ find p (flat (drop k rows)) → found ≡ find p (flat (drop (k + 1) rows))
+  row_lacks rows k r found lt at is so =
       let next : suc k ≡ k + 1 = omega arith in
-      ap (find p) (rows_from rows k r lt at) ∙ (found_behind r (flat (drop (suc k) rows)) is ∙ ap (λ n. find p (flat (drop n rows))) next)
+      so ∙ ap (find p) (rows_from rows k r lt at) ∙ (found_behind r (flat (drop (suc k) rows)) is ∙ ap (λ n. find p (flat (drop n rows))) next)
+
+  -- a row that is put back leaves the rows as they are
+  pub row_kept : (rows : List (List X)) (k : ℕ) (r q : List X) → q ≡ get_or rows k r → set rows k q ≡ rows
+  row_kept rows k r q same = ap (set rows k) same ∙ set-get_or rows k r
 
   pub none_left : (rows : List (List X)) (k : ℕ) → length rows ≤ k → None ≡ find p (flat (drop k rows))
   none_left rows k past = sym (ap (λ rs. find p (flat rs)) (drop_all k rows past))
 
 module _ {X : Type 0} (rank weight : X → ℕ) where
-  -- a row whose greatest weight is too small
-  pub light_row : (least : ℕ) (r : List X) → greatest_weight weight r < least → None ≡ find (weighs weight least) r
-  light_row least r lt = sym (find_none weight least r lt)
-
   -- what stands from the place of a key on, in its row and behind
   pub from_place : (key : ℕ) (rows : List (List X)) (i q : ℕ) (r : List X) → IsLaid rank rows → i < length rows → r ≡ get_or rows i r → IsSeat rank key rows i → IsRankAt rank key r q
       → drop (place_below rank key (flat rows)) (flat rows) ≡ drop q r ++ flat (drop (suc i) rows)
@@ -64,7 +63,7 @@ module _ {X : Type 0} (rank weight : X → ℕ) where
       behind ∙ (ap (λ n. find (weighs weight least) (flat (drop n rows))) next ∙ (sym (found_behind (weighs weight least) (drop q r) (flat (drop (suc i) rows)) is) ∙ ap (find (weighs weight least)) (sym (from_place key rows i q r laid lt e seat place))))
 
 -- what heavy_after finds in the rows from one on
-pub ruleset found_from = (row_has, row_lacks, none_left, light_row)
+pub ruleset found_from = (row_has, none_left)
 
 -- where least_weighing finds it: in the key's row, or in those behind
 pub ruleset found_heavy = (heavy_here, heavy_behind)

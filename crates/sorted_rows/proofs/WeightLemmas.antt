@@ -1,10 +1,8 @@
 -- The greatest weight of a list, and searches by weight.
-use Rattle.std.proofs.Common.{◌≡◌, ℕ, ◌+◌, ◌-◌, zero, ◌<◌, ◌≤◌, ◌≢◌, List, [], ◌∷◌, ◌++◌, length, get_or, take, drop, suc, max, refl, ap, sym, ◌∙◌, arith, rules, insert, remove, None, Some, Option, Bool, true, false, not, nat_lt}
-use Rattle.std.proofs.lemmas.List.{take-append-drop, drop_all}
+use Rattle.std.proofs.Common.{◌≡◌, ℕ, ◌+◌, ◌-◌, ◌<◌, ◌≤◌, ◌≢◌, List, [], ◌∷◌, ◌++◌, length, get_or, take, drop, set, suc, max, refl, ap, sym, ◌∙◌, arith, rules, insert, remove, None, Some, Option, Bool, true, false}
+use Rattle.std.proofs.lemmas.List.{take-append-drop, drop_all, set_split}
 use Rattle.std.proofs.Math.Seq.{drop-cons}
 use Rattle.std.specs.List.{find}
-use Rattle.std.specs.Option.{option_or}
-use Rattle.std.proofs.lemmas.List.Folds.{find-append}
 use Rattle.sorted_rows.specs.Weights.{greatest_weight, weighs}
 
 module _ {X : Type 0} (weight : X → ℕ) where
@@ -50,12 +48,36 @@ module _ {X : Type 0} (weight : X → ℕ) where
       let same = ap (λ n. greatest_weight weight (drop n xs)) next in
       omega (arith, more, here, same, rest)
 
+  -- a walk from the first on, with the greatest weight of those before `k`
+  pub walk_begun : (xs : List X) → greatest_weight weight xs ≡ max 0 (greatest_weight weight (drop 0 xs))
+  walk_begun xs = omega arith
+
+  pub walk_on : (xs : List X) (k : ℕ) (x : X) (whole top : ℕ) → k < length xs → x ≡ get_or xs k x → whole ≡ max top (greatest_weight weight (drop k xs)) → whole ≡ max (max top (weight x)) (greatest_weight weight (drop (k + 1) xs))
+  walk_on xs k x whole top lt is so =
+      let more = greatest_more xs k x lt in
+      let here = ap weight is in
+      let next : suc k ≡ k + 1 = omega arith in
+      let same = ap (λ n. greatest_weight weight (drop n xs)) next in
+      omega (arith, more, here, same, so)
+
+  pub walk_ended : (xs : List X) (k : ℕ) (whole top : ℕ) → length xs ≤ k → whole ≡ max top (greatest_weight weight (drop k xs)) → top ≡ whole
+  walk_ended xs k whole top past so =
+      let none = ap (greatest_weight weight) (drop_all k xs past) in
+      omega (arith, none, greatest_none, so)
+
   -- a search that has come to `k`
   pub find_here : (p : X → Bool) (xs : List X) (k : ℕ) (d : X) → k < length xs → p (get_or xs k d) ≡ true → find p (drop k xs) ≡ Some (get_or xs k d)
   find_here p xs k d lt is = rw (drop-cons xs k d lt, is) refl
 
   pub find_next : (p : X → Bool) (xs : List X) (k : ℕ) (d : X) → k < length xs → p (get_or xs k d) ≡ false → find p (drop k xs) ≡ find p (drop (suc k) xs)
   find_next p xs k d lt is = rw (drop-cons xs k d lt, is) refl
+
+  -- past one that is too light
+  pub find_on : (least : ℕ) (xs : List X) (k : ℕ) (x : X) (found : Option X) → k < length xs → x ≡ get_or xs k x → weight x < least → found ≡ find (weighs weight least) (drop k xs) → found ≡ find (weighs weight least) (drop (k + 1) xs)
+  find_on least xs k x found lt is light so =
+      let next : suc k ≡ k + 1 = omega arith in
+      let fails : weighs weight least x ≡ false = search (rules, light) in
+      so ∙ find_next (weighs weight least) xs k x lt (ap (weighs weight least) (sym is) ∙ fails) ∙ ap (λ n. find (weighs weight least) (drop n xs)) next
 
   -- where none weighs so much, none is found
   pub find_none : (least : ℕ) (xs : List X) → greatest_weight weight xs < least → find (weighs weight least) xs ≡ None
@@ -73,12 +95,36 @@ module _ {X : Type 0} (weight : X → ℕ) where
   pub top_stays : (xs : List X) (p : ℕ) (x : X) (top w : ℕ) → top ≡ greatest_weight weight xs → w ≡ weight x → w ≤ top → top ≡ greatest_weight weight (insert xs p x)
   top_stays xs p x top w is heavy less = let h = greatest_insert xs p x in omega (arith, h, is, heavy)
 
-  -- after one was taken out that weighs less,
+  -- after one was taken out where all weigh 0, or where this one weighs less,
+  pub none_left_over : (xs : List X) (p : ℕ) (x : X) → 0 ≡ greatest_weight weight xs → p < length xs → 0 ≡ greatest_weight weight (remove xs p)
+  none_left_over xs p x none lt = let h = greatest_remove xs p x lt in omega (arith, h, none)
+
   pub top_left : (xs : List X) (p : ℕ) (x : X) (top w : ℕ) → top ≡ greatest_weight weight xs → w ≡ weight x → p < length xs → x ≡ get_or xs p x → w ≢ top → top ≡ greatest_weight weight (remove xs p)
   top_left xs p x top w is heavy lt at other =
       let h = greatest_remove xs p x lt in
       let here = ap weight at in
       omega (arith, h, is, heavy, here, other)
+
+  -- after one was written over,
+  greatest_set : (xs : List X) (p : ℕ) (x d : X) → p < length xs → greatest_weight weight (set xs p x) ≡ max (weight x) (greatest_weight weight (remove xs p))
+  greatest_set xs p x d lt =
+      let parts = ap (greatest_weight weight) (set_split xs p x lt) in
+      let out = greatest_append (take p xs) (x ∷ drop (suc p) xs) in
+      let rest = greatest_append (take p xs) (drop (suc p) xs) in
+      omega (arith, parts, out, rest, greatest_head x (drop (suc p) xs))
+
+  pub top_rises : (xs : List X) (p : ℕ) (x : X) (top w : ℕ) → top ≡ greatest_weight weight xs → w ≡ weight x → p < length xs → top ≤ w → w ≡ greatest_weight weight (set xs p x)
+  top_rises xs p x top w is heavy lt more =
+      let was = greatest_remove xs p x lt in
+      let now = greatest_set xs p x x lt in
+      omega (arith, was, now, is, heavy)
+
+  pub top_holds : (xs : List X) (p : ℕ) (x old : X) (top w v : ℕ) → top ≡ greatest_weight weight xs → w ≡ weight x → v ≡ weight old → p < length xs → old ≡ get_or xs p old → w < top → v ≢ top → top ≡ greatest_weight weight (set xs p x)
+  top_holds xs p x old top w v is new_weight old_weight lt at less other =
+      let was = greatest_remove xs p old lt in
+      let now = greatest_set xs p x old lt in
+      let here = ap weight at in
+      omega (arith, was, now, is, new_weight, old_weight, here, other)
 
   -- and after further ones were put behind
   pub top_joined : (xs ys : List X) (top more most : ℕ) → top ≡ greatest_weight weight xs → more ≡ greatest_weight weight ys → most ≡ max top more → most ≡ greatest_weight weight (xs ++ ys)
@@ -86,6 +132,9 @@ module _ {X : Type 0} (weight : X → ℕ) where
 
 -- the greatest weight with one entry more
 pub ruleset top_inserted = (top_grows, top_stays)
+
+-- the greatest weight with one entry in another's place
+pub ruleset top_written = (top_rises, top_holds)
 
 -- the greatest weights of two rows that become one, and an empty one
 pub ruleset tops_joined = (top_joined, greatest_none)

@@ -8,6 +8,10 @@ module _ {X : Type 0} where
   abbrev pub flat : List (List X) → List X
   flat rows = flat_map (λ r. r) rows
 
+  -- where in the list the p-th entry of the i-th row stands
+  abbrev pub place_in : List (List X) → (i p : ℕ) → ℕ
+  place_in rows i p = length (flat (take i rows)) + p
+
   -- two neighbors never have 32 or fewer between them
   abbrev pub Paired : List (List X) → Type 0
   Paired rows = (k : ℕ) → suc k < length rows

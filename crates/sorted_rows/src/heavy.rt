@@ -1,4 +1,4 @@
-//! Searches by weight: rows whose greatest weight is too small are passed by.
+//! Searches by weight: rows that are known to be too light are passed by.
 ghost use Rattle.std.specs.Prelude.{◌≡◌, drop};
 ghost use Rattle.std.specs.List.{find};
 ghost use Rattle.sorted_rows.specs.Layout.{flat, IsLaid};
@@ -10,9 +10,15 @@ use crate::seats::seat_of;
 
 #[tactic(auto, using(crate::proofs::HeavyLemmas::found_heavy))]
 /// The first, from the first at or above the key on, that weighs as much as `least` or more.
-pub fn least_weighing<T: RowEntry>(rows: &[Row<T>], key: u128, least: u64) -> Option<T>
-    requires laid { IsLaid T.rank rows.now }
-    ensures { result ≡ heavy_from T.rank T.weight key least (flat rows.now) }
+pub fn least_weighing<T: RowEntry>(
+    rows: &mut [Row<T>],
+    measure: T::Measure,
+    key: u128,
+    least: u64,
+) -> Option<T>
+    requires laid { IsLaid T.rank rows.old }
+    ensures value { result ≡ heavy_from T.rank (T.weight measure) key least (flat rows.old) }
+    ensures unchanged { rows.new ≡ rows.old }
 {
     if rows.is_empty() {
         return None;
@@ -20,24 +26,28 @@ pub fn least_weighing<T: RowEntry>(rows: &[Row<T>], key: u128, least: u64) -> Op
     let seat = seat_of(rows, key);
     let row = &rows[seat];
     let at = row.below(key);
-    match row.heavy(at, least) {
+    match row.heavy(measure, at, least) {
         Some(entry) => Some(entry),
-        None => heavy_after(rows, seat + 1, least),
+        None => heavy_after(rows, measure, seat + 1, least),
     }
 }
 
 #[tactic(auto, using(crate::proofs::HeavyLemmas::found_from))]
-/// The first that weighs so much, from a row on.
-fn heavy_after<T: RowEntry>(rows: &[Row<T>], from: usize, least: u64) -> Option<T>
-    ensures { result ≡ find (weighs T.weight least) (flat (drop from rows.now)) }
+/// The first that weighs so much, from a row on. Rows that are searched in vain keep the measure.
+fn heavy_after<T: RowEntry>(
+    rows: &mut [Row<T>],
+    measure: T::Measure,
+    from: usize,
+    least: u64,
+) -> Option<T>
+    ensures value { result ≡ find (weighs (T.weight measure) least) (flat (drop from rows.old)) }
+    ensures unchanged { rows.new ≡ rows.old }
 {
     let mut seat = from;
     while seat < rows.len() {
-        let row = &rows[seat];
-        if row.top() >= least {
-            if let Some(entry) = row.heavy(0, least) {
-                return Some(entry);
-            }
+        let row = &mut rows[seat];
+        if let Some(entry) = row.search(measure, least) {
+            return Some(entry);
         }
         seat += 1;
     }

@@ -1,8 +1,8 @@
 //! A strictly sorted list, kept as short sorted rows: for the free ranges of an arena by length and
 //! base, by base, and for its spans. It stands on nothing of ours.
 //!
-//! A row has at most 64 entries in a vector of its own, with the key of its first and its greatest
-//! weight at hand:
+//! A row has at most 64 entries in a vector of its own, with the key of its first at hand, and the
+//! greatest weight by the measure that was asked for last:
 //!
 //! ```text
 //!   rows:   [ 3 5 8 9 .. ]  [ 40 41 .. ]  [ 77 80 .. ]      two neighbours have more than 32
@@ -13,12 +13,14 @@
 //! An entry is found by two binary searches. A row that comes to 64 is halved; neighbours with 32
 //! or fewer together are put together. So with n entries an insert or a remove moves at most 64
 //! entries and n / 16 rows' headers, and no call is recursive. Once `Rows::reserve` has made room,
-//! `insert` and `remove` take no memory and can't fail: a spare row is there for each split.
+//! `insert`, `remove` and `replace` take no memory and can't fail: a spare row is there for each
+//! split.
 //!
 //! Begin with `Rows`; what an entry is, the trait `RowEntry` says. The form is our own choice.
 #![tactic(auto)]
 
 mod entries;
+mod exchange;
 mod heavy;
 mod row;
 mod rows;

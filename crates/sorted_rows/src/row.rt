@@ -1,6 +1,7 @@
 //! One row of a list: a short vector with room for 64 entries.
 ghost use Rattle.std.specs.Prelude.{◌≡◌, ◌+◌, ◌<◌, ◌≤◌, [], ◌++◌, length, take, drop, insert};
-ghost use Rattle.std.specs.Prelude.{remove, slice_index_or, max, IfOk};
+ghost use Rattle.std.specs.Prelude.{remove, slice_index_or, max, IfOk, IfErr, OnErr, IsTrue};
+ghost use Rattle.std.specs.Prelude.{Some, None, slice_set};
 ghost use Rattle.std.specs.List.{find};
 ghost use Rattle.sorted_rows.specs.Order.{Rises, IsRankAt, FirstIs};
 ghost use Rattle.sorted_rows.specs.Weights.{greatest_weight, weighs};
@@ -12,11 +13,12 @@ use std::marker::Model;
 /// The greatest number of entries in a row.
 pub const ROW: usize = 64;
 
-/// A row: its entries, with the key of the first and the greatest weight at hand. A contract sees
-/// its entries.
+/// A row: its entries, with the key of the first at hand, and the greatest weight by the measure
+/// that was last asked for in vain. A contract sees its entries.
 #[derive(Drop)]
 pub struct Row<T: RowEntry> {
     first: u128,
+    measure: T::Measure,
     top: u64,
     items: Vec<T>,
 }
@@ -31,7 +33,8 @@ impl<T: RowEntry> Model for Row<T> {
     ghost view = { λ r. r.items.items };
 
     ghost invariant = { λ r. (vec_len r.items ≤ 64) × (64 ≤ vec_capacity r.items)
-        × FirstIs T.rank r.first r.items.items × (r.top ≡ greatest_weight T.weight r.items.items) };
+        × FirstIs T.rank r.first r.items.items
+        × (r.top ≡ greatest_weight (T.weight r.measure) r.items.items) };
 }
 
 impl<T: RowEntry> Row<T> {
@@ -42,6 +45,7 @@ impl<T: RowEntry> Row<T> {
         let items = Vec::with_capacity(alloc, ROW)?;
         Ok(Row {
             first: 0,
+            measure: T::first_measure(),
             top: 0,
             items,
         })
@@ -71,18 +75,49 @@ impl<T: RowEntry> Row<T> {
         self.items[at]
     }
 
-    /// The greatest weight of its entries; 0 where there is none.
-    pub fn top(&self) -> u64
-        ensures { result ≡ greatest_weight T.weight self.now }
+    /// Whether it is known, without a look at its entries, that each weighs less than `least`.
+    fn is_light(&self, measure: T::Measure, least: u64) -> bool
+        ensures { IsTrue result → find (weighs (T.weight measure) least) self.now ≡ None }
     {
-        self.top
+        self.top < least && T::is_same(self.measure, measure)
+    }
+
+    /// The greatest weight of its entries; 0 where there is none. It is at hand where the row keeps
+    /// this measure.
+    fn top(&self, measure: T::Measure) -> u64
+        ensures { result ≡ greatest_weight (T.weight measure) self.now }
+    {
+        if T::is_same(self.measure, measure) {
+            return self.top;
+        }
+        greatest_in(&self.items, measure)
     }
 
     /// Its first entry, from the place `from` on, that weighs as much as `least` or more.
-    pub fn heavy(&self, from: usize, least: u64) -> Option<T>
-        ensures { result ≡ find (weighs T.weight least) (drop from self.now) }
+    pub fn heavy(&self, measure: T::Measure, from: usize, least: u64) -> Option<T>
+        ensures { result ≡ find (weighs (T.weight measure) least) (drop from self.now) }
     {
-        heavy_in(&self.items, from, least)
+        heavy_in(&self.items, measure, from, least)
+    }
+
+    /// Its first entry that weighs as much as `least` or more. A row that is known to be too light
+    /// costs one look. One that is searched in vain keeps the measure, and the greatest weight met
+    /// on the way.
+    pub fn search(&mut self, measure: T::Measure, least: u64) -> Option<T>
+        ensures value { result ≡ find (weighs (T.weight measure) least) self.old }
+        ensures unchanged { self.new ≡ self.old }
+    {
+        if self.is_light(measure, least) {
+            return None;
+        }
+        match heavy_or_top(&self.items, measure, least) {
+            Ok(entry) => Some(entry),
+            Err(top) => {
+                self.measure = measure;
+                self.top = top;
+                None
+            }
+        }
     }
 
     /// How many entries stand below the key.
@@ -91,6 +126,20 @@ impl<T: RowEntry> Row<T> {
         ensures { IsRankAt T.rank key self.now result }
     {
         below_in(&self.items, key)
+    }
+
+    /// How many entries stand at the key or below it.
+    #[tactic(auto, using(crate::proofs::LastLemmas::places_up_to))]
+    pub fn up_to(&self, key: u128) -> usize
+        requires { Rises T.rank self.now }
+        ensures { IsRankAt T.rank (key + 1) self.now result }
+    {
+        let at = self.below(key);
+        if at < self.len() && self.get(at).key() == key {
+            at + 1
+        } else {
+            at
+        }
     }
 
     #[tactic(auto, using(crate::proofs::WeightLemmas::top_inserted))]
@@ -104,8 +153,9 @@ impl<T: RowEntry> Row<T> {
             Err(_) => unreachable!(),
         }
         self.first = self.items[0].key();
-        if entry.weight() > self.top {
-            self.top = entry.weight();
+        let weight = entry.weight(self.measure);
+        if weight > self.top {
+            self.top = weight;
         }
     }
 
@@ -117,10 +167,29 @@ impl<T: RowEntry> Row<T> {
     {
         let entry = self.items.remove(at);
         self.first = first_in(&self.items);
-        if entry.weight() == self.top {
-            self.top = greatest_in(&self.items);
+        if self.top > 0 && entry.weight(self.measure) == self.top {
+            self.top = greatest_in(&self.items, self.measure);
         }
         entry
+    }
+
+    /// Writes an entry over another.
+    #[tactic(auto, using(crate::proofs::WeightLemmas::top_written))]
+    pub fn replace(&mut self, at: usize, entry: T) -> T
+        requires { at < length self.old }
+        ensures items { self.new ≡ slice_set self.old at entry }
+        ensures value { (d : T) → result ≡ slice_index_or self.old at d }
+    {
+        let old = self.items[at];
+        self.items[at] = entry;
+        self.first = self.items[0].key();
+        let weight = entry.weight(self.measure);
+        if weight >= self.top {
+            self.top = weight;
+        } else if old.weight(self.measure) == self.top {
+            self.top = greatest_in(&self.items, self.measure);
+        }
+        old
     }
 
     /// Moves the upper half of a full row to an empty one.
@@ -135,9 +204,10 @@ impl<T: RowEntry> Row<T> {
             Err(_) => unreachable!(),
         }
         high.first = high.items[0].key();
-        high.top = greatest_in(&high.items);
+        high.measure = self.measure;
+        high.top = greatest_in(&high.items, self.measure);
         self.items.truncate(ROW / 2);
-        self.top = greatest_in(&self.items);
+        self.top = greatest_in(&self.items, self.measure);
     }
 
     /// Moves all entries of the next row here.
@@ -147,12 +217,13 @@ impl<T: RowEntry> Row<T> {
         ensures items { self.new ≡ self.old ++ next.old }
         ensures next { next.new ≡ [] }
     {
+        let top = next.top(self.measure);
         match self.items.append(&mut next.items) {
             Ok(()) => {}
             Err(_) => unreachable!(),
         }
         self.first = first_in(&self.items);
-        self.top = greater(self.top, next.top);
+        self.top = greater(self.top, top);
         next.top = 0;
     }
 }
@@ -193,14 +264,14 @@ fn greater(one: u64, other: u64) -> u64
 }
 
 /// The greatest weight.
-fn greatest_in<T: RowEntry>(items: &[T]) -> u64
-    ensures { result ≡ greatest_weight T.weight items.now }
+fn greatest_in<T: RowEntry>(items: &[T], measure: T::Measure) -> u64
+    ensures { result ≡ greatest_weight (T.weight measure) items.now }
 {
     let mut top = 0;
     let mut at = items.len();
     while at > 0 {
         at -= 1;
-        let weight = items[at].weight();
+        let weight = items[at].weight(measure);
         if weight > top {
             top = weight;
         }
@@ -209,15 +280,34 @@ fn greatest_in<T: RowEntry>(items: &[T]) -> u64
 }
 
 /// The first, from a place on, that weighs enough.
-fn heavy_in<T: RowEntry>(items: &[T], from: usize, least: u64) -> Option<T>
-    ensures { result ≡ find (weighs T.weight least) (drop from items.now) }
+fn heavy_in<T: RowEntry>(items: &[T], measure: T::Measure, from: usize, least: u64) -> Option<T>
+    ensures { result ≡ find (weighs (T.weight measure) least) (drop from items.now) }
 {
     let mut at = from;
     while at < items.len() {
-        if items[at].weight() >= least {
+        if items[at].weight(measure) >= least {
             return Some(items[at]);
         }
         at += 1;
     }
     None
+}
+
+/// The first that weighs enough, or else the greatest weight.
+fn heavy_or_top<T: RowEntry>(items: &[T], measure: T::Measure, least: u64) -> Result<T, u64>
+    ensures found { IfOk result (λ x. find (weighs (T.weight measure) least) items.now ≡ Some x) }
+    ensures none { OnErr result (find (weighs (T.weight measure) least) items.now ≡ None) }
+    ensures top { IfErr result (λ top. top ≡ greatest_weight (T.weight measure) items.now) }
+{
+    let mut top = 0;
+    let mut at = 0;
+    while at < items.len() {
+        let weight = items[at].weight(measure);
+        if weight >= least {
+            return Ok(items[at]);
+        }
+        top = greater(top, weight);
+        at += 1;
+    }
+    Err(top)
 }

@@ -1,12 +1,15 @@
 //! The list.
-ghost use Rattle.std.specs.Prelude.{◌≡◌, ◌≢◌, ◌<◌, ◌≤◌, [], length, max, All, Any, OnOk, OnErr};
+ghost use Rattle.std.specs.Prelude.{◌≡◌, ◌≢◌, ◌+◌, ◌<◌, ◌≤◌, [], length, max, All, Any};
+ghost use Rattle.std.specs.Prelude.{OnOk, OnErr};
 ghost use Rattle.sorted_rows.specs.Order.{Rises, PutsIn, TakesOut, StandsAtKey, first_from};
+ghost use Rattle.sorted_rows.specs.Order.{others, Exchanges, last_to};
 ghost use Rattle.sorted_rows.specs.Weights.{heavy_from};
 
 use crate::entries::RowEntry;
+use crate::exchange::exchange;
 use crate::heavy::least_weighing;
 use crate::row::Row;
-use crate::seats::{least_from, put, take};
+use crate::seats::{greatest_to, least_from, put, take};
 use std::alloc::{AllocError, Global};
 use std::marker::Model;
 
@@ -109,12 +112,33 @@ impl<T: RowEntry> Rows<T> {
     pub fn remove(&mut self, key: u128) -> T
         requires present { Any (λ x. T.rank x ≡ key) self.old.items }
         ensures items { TakesOut T.rank key self.old.items self.new.items }
+        ensures size { length self.new.items + 1 ≡ length self.old.items }
         ensures value { StandsAtKey T.rank key result self.old.items }
         ensures room { self.new.room ≡ self.old.room }
     {
         let entry = take(&mut self.rows, &mut self.spare, key);
         self.len -= 1;
         entry
+    }
+
+    /// Takes out the entry with this key, which is there, and puts in another whose key isn't. It
+    /// is one write where the new one stands in the place of the old one.
+    pub fn replace(&mut self, key: u128, entry: T) -> T
+        requires present { Any (λ x. T.rank x ≡ key) self.old.items }
+        requires absent { let rest = others T.rank key self.old.items in
+            All (λ x. T.rank x ≢ T.rank entry) rest }
+        ensures items { Exchanges T.rank key entry self.old.items self.new.items }
+        ensures value { StandsAtKey T.rank key result self.old.items }
+        ensures room { self.new.room ≡ self.old.room }
+    {
+        // For its clauses: there is room for as many as there are.
+        let _ = self.len();
+        if let Some(old) = exchange(&mut self.rows, key, entry) {
+            return old;
+        }
+        let old = self.remove(key);
+        self.insert(entry);
+        old
     }
 
     /// The first entry at or above the key.
@@ -124,12 +148,21 @@ impl<T: RowEntry> Rows<T> {
         least_from(&self.rows, key)
     }
 
-    /// The first entry, from the first at or above the key on, that weighs as much as `least` or
-    /// more. Rows of lighter entries are passed by, so it looks at one number for 22 to 63 of
-    /// these.
-    pub fn least_weighing(&self, key: u128, least: u64) -> Option<T>
-        ensures { result ≡ heavy_from T.rank T.weight key least self.now.items }
+    /// The last entry at or below the key.
+    pub fn greatest_to(&self, key: u128) -> Option<T>
+        ensures { result ≡ last_to T.rank key self.now.items }
     {
-        least_weighing(&self.rows, key, least)
+        greatest_to(&self.rows, key)
+    }
+
+    /// The first entry, from the first at or above the key on, that weighs as much as `least` or
+    /// more by this measure. A row that was searched by it in vain keeps its greatest weight, and
+    /// is passed by with one look from then on, until it is searched by another. The list stays as
+    /// it is.
+    pub fn least_weighing(&mut self, measure: T::Measure, key: u128, least: u64) -> Option<T>
+        ensures value { result ≡ heavy_from T.rank (T.weight measure) key least self.old.items }
+        ensures unchanged { self.new ≡ self.old }
+    {
+        least_weighing(&mut self.rows, measure, key, least)
     }
 }

@@ -1,7 +1,7 @@
 //! Rows of one list: where a key belongs, and how rows are edited, split and joined.
 ghost use Rattle.std.specs.Prelude.{◌≡◌, ◌≢◌, ◌+◌, ◌<◌, ◌≤◌, ℕ, suc, [], ◌∷◌, length, All, Any};
 ghost use Rattle.std.specs.Prelude.{IsTrue, ◌⊎◌, ◌↔◌, slice_index_or, vec_len, vec_capacity};
-ghost use Rattle.sorted_rows.specs.Order.{PutsIn, TakesOut, StandsAtKey, first_from};
+ghost use Rattle.sorted_rows.specs.Order.{PutsIn, TakesOut, StandsAtKey, first_from, last_to};
 ghost use Rattle.sorted_rows.specs.Layout.{flat, Short, IsLaid, IsLoose, IsSeat};
 
 use crate::entries::RowEntry;
@@ -13,6 +13,8 @@ pub fn seat_of<T: RowEntry>(rows: &[Row<T>], key: u128) -> usize
     requires some { 0 < length rows.now }
     ensures within { result < length rows.now }
     ensures seat { IsSeat T.rank key rows.now result }
+    ensures first { (d : T) → 0 < result
+        → T.rank (slice_index_or (slice_index_or rows.now result []) 0 d) ≤ key }
 {
     let mut low = 0;
     let mut high = rows.len();
@@ -242,4 +244,21 @@ pub fn least_from<T: RowEntry>(rows: &[Row<T>], key: u128) -> Option<T>
     } else {
         None
     }
+}
+
+/// The last entry at or below the key.
+pub fn greatest_to<T: RowEntry>(rows: &[Row<T>], key: u128) -> Option<T>
+    requires laid { IsLaid T.rank rows.now }
+    ensures { result ≡ last_to T.rank key (flat rows.now) }
+{
+    if rows.is_empty() {
+        return None;
+    }
+    let seat = seat_of(rows, key);
+    let row = &rows[seat];
+    let upper = row.up_to(key);
+    if upper == 0 {
+        return None;
+    }
+    Some(row.get(upper - 1))
 }

@@ -16,7 +16,8 @@ use Rattle.magazine_layer.specs.Depots.{depot_rounds}
 use Rattle.stock.specs.Spaces.{SpaceState, QuantumCacheState, quanta_of}
 use Rattle.stock.specs.Stocks.{IsRoundOf, IsQuantumCache, IsSpaceAt, IsStock}
 use Rattle.stock.specs.Accounts.{weight_imported, Accounts}
-use Rattle.stock.specs.Sums.{Out, all_out, holdings_of, held_of, homes_of, all_homes, sums_of, total}
+use Rattle.stock.specs.Sums.{Out, all_out, held_of, homes_of, all_homes, sums_of, total}
+use Rattle.tag_arena.specs.Spanned.{holdings_of}
 use Rattle.stock.specs.Laws.{IsInOneHome, AddsUp}
 use Rattle.stock.proofs.Exporting.{arena_here, arena_there, allocated_of}
 use Rattle.stock.proofs.Lengths.{as_long}

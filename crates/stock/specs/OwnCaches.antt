@@ -1,7 +1,7 @@
 -- What a contract sees of a CPU's cache with its index.
-use Rattle.std.specs.Prelude.{◌≡◌, List, ℕ, ◌<◌}
+use Rattle.std.specs.Prelude.{◌≡◌, List, ℕ, ◌<◌, flat_map}
 use Rattle.deed_core.specs.Tag.{Tag}
-use Rattle.magazine_layer.specs.Magazines.{CpuCacheState, cache_rounds}
+use Rattle.magazine_layer.specs.Magazines.{CpuCacheState, BothEmpty, cache_rounds}
 use Rattle.stock.specs.Steps.{AreRoundsOf}
 
 -- the indexes of the arena and the quantum cache that its rounds are chunks of, the arena's
@@ -15,6 +15,14 @@ pub record OwnCacheState : Type 0 where
 -- its rounds
 abbrev pub own_rounds : OwnCacheState → List Tag
 own_rounds o = cache_rounds o.cpu
+
+-- those of all these
+abbrev pub all_own_rounds : List OwnCacheState → List Tag
+all_own_rounds caches = flat_map own_rounds caches
+
+-- both its magazines are empty
+abbrev pub HasNoRound : OwnCacheState → Type 0
+HasNoRound o = BothEmpty o.cpu
 
 -- what every such cache is
 pub record IsOwnCache (o : OwnCacheState) : Type 0 where

@@ -1,11 +1,12 @@
 -- Where the units of an arena are.
-use Rattle.std.specs.Prelude.{ℕ, ◌+◌, List, ◌++◌, map, filter, flat_map, sum_by}
+use Rattle.std.specs.Prelude.{ℕ, ◌+◌, List, ◌++◌, filter, flat_map, sum_by}
 use Rattle.deed_core.specs.Holding.{Holding}
 use Rattle.deed_core.specs.Tag.{Tag}
 use Rattle.deed_core.specs.Covering.{units_in}
 use Rattle.deed_core.specs.Selections.{is_of_arena}
 use Rattle.slab_layer.specs.Cache.{deeds_of}
 use Rattle.magazine_layer.specs.Depots.{depot_rounds}
+use Rattle.tag_arena.specs.Spanned.{holdings_of}
 use Rattle.stock.specs.Spaces.{SpaceState}
 
 -- the segments that are out of all parts: in hands, leased, and the rounds of the CPUs
@@ -16,10 +17,6 @@ pub record Out : Type 0 where
 
 abbrev pub all_out : Out → List Tag
 all_out out = out.hands ++ (out.leases ++ out.rounds)
-
--- what the segments cover
-abbrev pub holdings_of : List Tag → List Holding
-holdings_of segments = map (λ t. t.holding) segments
 
 -- what those of this arena cover
 abbrev pub held_of : ℕ → List Tag → List Holding

@@ -11,8 +11,7 @@ use Rattle.deed_core.specs.Weights.{of_arena}
 use Rattle.deed_core.proofs.LawProofs.{slice_get_some, slice_get_one, sum_by-flat_map}
 use Rattle.stock.specs.Spaces.{SpaceState, QuantumCacheState, HasCache}
 use Rattle.stock.specs.Stocks.{IsRoundOf}
-use Rattle.stock.specs.OwnCaches.{OwnCacheState, IsOwnCache, own_rounds}
-use Rattle.stock_audit.specs.Outside.{all_rounds_out}
+use Rattle.stock.specs.OwnCaches.{OwnCacheState, IsOwnCache, own_rounds, all_own_rounds}
 use Rattle.stock_audit.specs.Audits.{units_of_arena_in}
 use Rattle.stock_audit.proofs.Placing.{held_weigh}
 use Rattle.stock_audit.proofs.Exporting.{all_here, none_here}
@@ -46,8 +45,8 @@ module _ (k : ℕ) (o : OwnCacheState) (is : IsOwnCache o) where
   own_there other = none_here k (λ t. units_in t.holding) o.arena (own_rounds o) home other
 
 -- what is counted over CPUs
-pub rounds_counted : (k : ℕ) (cpus : List OwnCacheState) → sum_by (λ o. sum_by (weight_of k) (own_rounds o)) cpus ≡ units_of_arena_in k (all_rounds_out cpus)
-rounds_counted k cpus = sym (sum_by-flat_map (weight_of k) own_rounds cpus) ∙ sym (held_weigh k units_in (all_rounds_out cpus))
+pub rounds_counted : (k : ℕ) (cpus : List OwnCacheState) → sum_by (λ o. sum_by (weight_of k) (own_rounds o)) cpus ≡ units_of_arena_in k (all_own_rounds cpus)
+rounds_counted k cpus = sym (sum_by-flat_map (weight_of k) own_rounds cpus) ∙ sym (held_weigh k units_in (all_own_rounds cpus))
 
 -- a cache stands at each index of an arena's list
 pub cache_stands : (spaces : List SpaceState) (k j : ℕ) (s : SpaceState) → slice_get spaces k ≡ Some s → j < length s.caches → HasCache spaces k j

@@ -14,7 +14,8 @@ use Rattle.slab_layer.specs.Cache.{span_tag, span_tags}
 use Rattle.stock.specs.Spaces.{SpaceState, QuantumCacheState, quanta_of}
 use Rattle.stock.specs.Stocks.{IsQuantumCache, IsFrom, IsSpaceAt, IsStock}
 use Rattle.stock.specs.Accounts.{weight_imported, slabs}
-use Rattle.stock.specs.Sums.{holdings_of, held_of}
+use Rattle.stock.specs.Sums.{held_of}
+use Rattle.tag_arena.specs.Spanned.{holdings_of}
 use Rattle.stock.proofs.LawProofs.{arena_weighs, allocated_of_arena}
 use Rattle.stock_audit.specs.Outside.{segments_out}
 use Rattle.stock_audit.specs.Chains.{is_source, is_child_of, spans_of_children, spans_of_slabs}

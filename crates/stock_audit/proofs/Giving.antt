@@ -16,10 +16,12 @@ use Rattle.slab_layer.specs.Cache.{deeds_of}
 use Rattle.magazine_layer.specs.Depots.{depot_rounds}
 use Rattle.stock.specs.Spaces.{SpaceState, QuantumCacheState, plans_of}
 use Rattle.stock.specs.Stocks.{IsFrom}
-use Rattle.stock.specs.Sums.{Sums, holdings_of, held_of}
+use Rattle.stock.specs.Sums.{Sums, held_of}
+use Rattle.tag_arena.specs.Spanned.{holdings_of}
 use Rattle.stock.specs.Laws.{HasTop, root, child}
 use Rattle.stock.proofs.LawProofs.{plans_stay}
-use Rattle.stock_audit.specs.Outside.{Outside, all_rounds_out}
+use Rattle.stock_audit.specs.Outside.{Outside}
+use Rattle.stock.specs.OwnCaches.{all_own_rounds}
 use Rattle.stock_audit.specs.Accounted.{IsAccountedFor}
 use Rattle.stock_audit.specs.Keeping.{IsGiven}
 use Rattle.stock_audit.specs.Chains.{IsUpFrom, here, above, free, free_above, IsReachable, is_under, sum_but_exported, unit_of_arena}
@@ -171,13 +173,13 @@ module _ (old new : List SpaceState) (before after : Outside) (o : IsAccountedFo
     magazine_same : b ≢ k → (New y).magazine ≡ (Old x).magazine
     magazine_same ne = omega (
       arith,
-      sum_by-append (covers_held u) (flat_map (λ (c : QuantumCacheState). holdings_of (depot_rounds c.depot)) y.caches) (held_of y.arena.id (all_rounds_out after.cpus)),
-      sum_by-append (covers_held u) (flat_map (λ (c : QuantumCacheState). holdings_of (depot_rounds c.depot)) x.caches) (held_of x.arena.id (all_rounds_out before.cpus)),
+      sum_by-append (covers_held u) (flat_map (λ (c : QuantumCacheState). holdings_of (depot_rounds c.depot)) y.caches) (held_of y.arena.id (all_own_rounds after.cpus)),
+      sum_by-append (covers_held u) (flat_map (λ (c : QuantumCacheState). holdings_of (depot_rounds c.depot)) x.caches) (held_of x.arena.id (all_own_rounds before.cpus)),
       ap (λ (cs : List QuantumCacheState). sum_by (covers_held u) (flat_map (λ c. holdings_of (depot_rounds c.depot)) cs)) (g.steps.caches b x y ne was is),
-      ap (λ i. sum_by (covers_held u) (held_of i (all_rounds_out after.cpus))) (n.parts b y is).id,
-      ap (λ i. sum_by (covers_held u) (held_of i (all_rounds_out before.cpus))) (o.parts b x was).id,
-      held_weigh b (covers_held u) (all_rounds_out after.cpus),
-      held_weigh b (covers_held u) (all_rounds_out before.cpus),
+      ap (λ i. sum_by (covers_held u) (held_of i (all_own_rounds after.cpus))) (n.parts b y is).id,
+      ap (λ i. sum_by (covers_held u) (held_of i (all_own_rounds before.cpus))) (o.parts b x was).id,
+      held_weigh b (covers_held u) (all_own_rounds after.cpus),
+      held_weigh b (covers_held u) (all_own_rounds before.cpus),
       g.steps.rounds b ne (covers_tag u),
     )
 

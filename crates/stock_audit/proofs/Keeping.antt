@@ -8,9 +8,9 @@ use Rattle.deed_core.specs.Weights.{WeighSame}
 use Rattle.deed_core.proofs.LawProofs.{all_at, sum_set, sum_by-flat_map}
 use Rattle.stock.specs.Spaces.{SpaceState, HasCache}
 use Rattle.stock.specs.Steps.{HasQuantum}
-use Rattle.stock.specs.OwnCaches.{OwnCacheState, own_rounds}
+use Rattle.stock.specs.OwnCaches.{OwnCacheState, own_rounds, all_own_rounds}
 use Rattle.stock.proofs.LawProofs.{out_weighs}
-use Rattle.stock_audit.specs.Outside.{Outside, nothing_out, all_rounds_out, segments_out}
+use Rattle.stock_audit.specs.Outside.{Outside, nothing_out, segments_out}
 use Rattle.stock_audit.specs.Accounted.{IsOwnIn, IsAccountedFor}
 use Rattle.stock_audit.specs.Keeping.{IsStep, OnCpu}
 use Rattle.stock_audit.specs.Laws.{FreshIsAccounted, AccountedBalances, HandStepsKeep, SwapsKeep, PopsKeep, PushesKeep, ChangesKeep, LeasesKeep, ReleasesKeep, CpusKeep}
@@ -30,8 +30,8 @@ rounds_weigh f cpus = sum_by (λ o. sum_by f (own_rounds o)) cpus
 weight : (f : Tag → ℕ) (out : Outside) → sum_by f (segments_out out) ≡ sum_by f out.hands + sum_by f out.leases + rounds_weigh f out.cpus
 weight f out = omega (
   arith,
-  sum_by-append f out.hands (out.leases ++ all_rounds_out out.cpus),
-  sum_by-append f out.leases (all_rounds_out out.cpus),
+  sum_by-append f out.hands (out.leases ++ all_own_rounds out.cpus),
+  sum_by-append f out.leases (all_own_rounds out.cpus),
   sum_by-flat_map f own_rounds out.cpus,
 )
 
@@ -48,11 +48,11 @@ step_keeps old new given answered rest before after a step gave took cpus = acco
 
 pub hand_steps_keep : HandStepsKeep
 hand_steps_keep old new given answered before after a step m =
-    let left : List Tag = m.rest ++ (before.leases ++ all_rounds_out before.cpus) in
+    let left : List Tag = m.rest ++ (before.leases ++ all_own_rounds before.cpus) in
     let left_weighs : (f : Tag → ℕ) → sum_by f left ≡ sum_by f m.rest + sum_by f before.leases + rounds_weigh f before.cpus = λ f. omega (
       arith,
-      sum_by-append f m.rest (before.leases ++ all_rounds_out before.cpus),
-      sum_by-append f before.leases (all_rounds_out before.cpus),
+      sum_by-append f m.rest (before.leases ++ all_own_rounds before.cpus),
+      sum_by-append f before.leases (all_own_rounds before.cpus),
       sum_by-flat_map f own_rounds before.cpus,
     ) in
     step_keeps old new given answered left before after a step
@@ -84,13 +84,13 @@ module _ (spaces : List SpaceState) (i : ℕ) (o p : OwnCacheState) (before afte
 
   -- what is out but for that cache's rounds
   abbrev others : List Tag
-  others = before.hands ++ (before.leases ++ all_rounds_out (set before.cpus i (emptied o)))
+  others = before.hands ++ (before.leases ++ all_own_rounds (set before.cpus i (emptied o)))
 
   others_weigh : (f : Tag → ℕ) → sum_by f others + sum_by f (own_rounds o) ≡ sum_by f before.hands + sum_by f before.leases + rounds_weigh f before.cpus
   others_weigh f = omega (
     arith,
-    sum_by-append f before.hands (before.leases ++ all_rounds_out (set before.cpus i (emptied o))),
-    sum_by-append f before.leases (all_rounds_out (set before.cpus i (emptied o))),
+    sum_by-append f before.hands (before.leases ++ all_own_rounds (set before.cpus i (emptied o))),
+    sum_by-append f before.leases (all_own_rounds (set before.cpus i (emptied o))),
     sum_by-flat_map f own_rounds (set before.cpus i (emptied o)),
     sum_set (λ x. sum_by f (own_rounds x)) before.cpus i o (emptied o) on.at,
   )

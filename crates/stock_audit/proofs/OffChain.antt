@@ -5,9 +5,8 @@ use Rattle.std.proofs.lemmas.Option.{slice_get_within}
 use Rattle.deed_core.specs.Weights.{of_arena}
 use Rattle.deed_core.proofs.LawProofs.{slice_get_one, slice_get_some, written}
 use Rattle.stock.specs.Spaces.{SpaceState, plans_of, with_arena, with_caches}
-use Rattle.stock.specs.OwnCaches.{OwnCacheState}
+use Rattle.stock.specs.OwnCaches.{OwnCacheState, all_own_rounds}
 use Rattle.stock.proofs.LawProofs.{plans_stay}
-use Rattle.stock_audit.specs.Outside.{all_rounds_out}
 use Rattle.stock_audit.specs.Chains.{IsUpFrom, here, above}
 use Rattle.stock_audit.specs.Laws.{NoStepOffChain, OffChainThen, ArenaStepOffChain, CacheStepOffChain}
 
@@ -30,7 +29,7 @@ no_step_off_chain k spaces before after leases cpus = record {
   arenas = λ b s x at there. inr (ap (λ (y : SpaceState). y.arena) (slice_get_one spaces b x s there at));
   owned = λ b s x at there. ap (λ (y : SpaceState). y.arena.owned) (slice_get_one spaces b x s there at);
   caches = λ b s x ne at there. ap (λ (y : SpaceState). y.caches) (slice_get_one spaces b x s there at);
-  rounds = λ b ne f. ap (λ (os : List OwnCacheState). sum_by (of_arena b f) (all_rounds_out os)) cpus;
+  rounds = λ b ne f. ap (λ (os : List OwnCacheState). sum_by (of_arena b f) (all_own_rounds os)) cpus;
   leases = leases;
 }
 
@@ -75,7 +74,7 @@ arena_step_off_chain k i old new before after s a up at is fixed owned leases cp
     | inl same_index ↦ ap (λ (y : SpaceState). y.caches) same_index.2 ∙ sym (ap (λ (y : SpaceState). y.caches) same_index.1)
     | inr same ↦ ap (λ (y : SpaceState). y.caches) same
   ];
-  rounds = λ b ne f. ap (λ (os : List OwnCacheState). sum_by (of_arena b f) (all_rounds_out os)) cpus;
+  rounds = λ b ne f. ap (λ (os : List OwnCacheState). sum_by (of_arena b f) (all_own_rounds os)) cpus;
   leases = leases;
 }
 

@@ -10,9 +10,11 @@ use Rattle.deed_core.specs.Weights.{weight_where, of_arena}
 use Rattle.deed_core.proofs.LawProofs.{counts_the_unit, all_from, sum_add, sum_by-smaller, part_of_sum, slice_get_one}
 use Rattle.magazine_layer.specs.Depots.{depot_rounds}
 use Rattle.stock.specs.Spaces.{SpaceState, QuantumCacheState}
-use Rattle.stock.specs.Sums.{holdings_of, held_of}
+use Rattle.stock.specs.Sums.{held_of}
+use Rattle.tag_arena.specs.Spanned.{holdings_of}
 use Rattle.stock.specs.Laws.{HasTop}
-use Rattle.stock_audit.specs.Outside.{Outside, segments_out, all_rounds_out}
+use Rattle.stock_audit.specs.Outside.{Outside, segments_out}
+use Rattle.stock.specs.OwnCaches.{all_own_rounds}
 use Rattle.stock_audit.specs.Accounted.{IsAccountedFor}
 use Rattle.stock_audit.specs.Chains.{IsFreeFor, free, free_above, is_under, sum_but_exported, unit_of_arena}
 use Rattle.stock_audit.specs.Laws.{FreeIsNotOut, ReachableIsNotHeld}
@@ -96,12 +98,12 @@ module _ (spaces : List SpaceState) (out : Outside) (a : IsAccountedFor spaces o
   out_among : (s : SpaceState) → among (segments_out out) s ≤ (unit_of_arena u spaces out s).hand + (unit_of_arena u spaces out s).leased + (unit_of_arena u spaces out s).magazine
   out_among s = omega (
     arith,
-    sum_by-append (of_arena s.arena.id (covers_tag u)) out.hands (out.leases ++ all_rounds_out out.cpus),
-    sum_by-append (of_arena s.arena.id (covers_tag u)) out.leases (all_rounds_out out.cpus),
+    sum_by-append (of_arena s.arena.id (covers_tag u)) out.hands (out.leases ++ all_own_rounds out.cpus),
+    sum_by-append (of_arena s.arena.id (covers_tag u)) out.leases (all_own_rounds out.cpus),
     held_weigh s.arena.id (covers_held u) out.hands,
     held_weigh s.arena.id (covers_held u) out.leases,
-    held_weigh s.arena.id (covers_held u) (all_rounds_out out.cpus),
-    sum_by-append (covers_held u) (flat_map (λ (c : QuantumCacheState). holdings_of (depot_rounds c.depot)) s.caches) (held_of s.arena.id (all_rounds_out out.cpus)),
+    held_weigh s.arena.id (covers_held u) (all_own_rounds out.cpus),
+    sum_by-append (covers_held u) (flat_map (λ (c : QuantumCacheState). holdings_of (depot_rounds c.depot)) s.caches) (held_of s.arena.id (all_own_rounds out.cpus)),
   )
 
 pub free_is_not_out : FreeIsNotOut

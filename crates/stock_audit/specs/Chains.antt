@@ -9,7 +9,8 @@ use Rattle.deed_core.specs.Covering.{covers_held, covering_held}
 use Rattle.tag_arena.specs.ArenaState.{spans_of}
 use Rattle.slab_layer.specs.Cache as slab_layer
 use Rattle.stock.specs.Spaces.{SpaceState}
-use Rattle.stock.specs.Sums.{Sums, holdings_of, homes_of, sums_of}
+use Rattle.stock.specs.Sums.{Sums, homes_of, sums_of}
+use Rattle.tag_arena.specs.Spanned.{holdings_of}
 use Rattle.stock.specs.Laws.{HasTop}
 use Rattle.stock_audit.specs.Outside.{Outside, out_of}
 

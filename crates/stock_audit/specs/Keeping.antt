@@ -6,7 +6,8 @@ use Rattle.stock.specs.Spaces.{SpaceState, plans_of}
 use Rattle.stock.specs.Stocks.{IsStock}
 use Rattle.stock.specs.Accounts.{Frames}
 use Rattle.stock.specs.OwnCaches.{OwnCacheState, IsOwnCache, IsAtIndexesOf, own_rounds}
-use Rattle.stock_audit.specs.Outside.{Outside, all_rounds_out}
+use Rattle.stock.specs.OwnCaches.{all_own_rounds}
+use Rattle.stock_audit.specs.Outside.{Outside}
 use Rattle.stock_audit.specs.Accounted.{IsOwnIn}
 use Rattle.stock_audit.specs.Chains.{IsUpFrom}
 
@@ -79,8 +80,8 @@ pub record StaysOffChain (k : ℕ) (old new : List SpaceState) (before after : O
   pub caches : (b : ℕ) (s x : SpaceState) → b ≢ k → slice_get old b ≡ Some s
       → slice_get new b ≡ Some x → x.caches ≡ s.caches
   pub rounds : (b : ℕ) → b ≢ k → (f : Tag → ℕ)
-      → sum_by (of_arena b f) (all_rounds_out after.cpus)
-      ≡ sum_by (of_arena b f) (all_rounds_out before.cpus)
+      → sum_by (of_arena b f) (all_own_rounds after.cpus)
+      ≡ sum_by (of_arena b f) (all_own_rounds before.cpus)
   pub leases : after.leases ≡ before.leases
 
 -- a segment of the arena came into a hand by such steps
@@ -95,5 +96,5 @@ pub record IsGiven (k : ℕ) (t : Tag) (old new : List SpaceState) (before after
 pub record CpusMove (spaces : List SpaceState) (before after : Outside) : Type 0 where
   pub hands : after.hands ≡ before.hands
   pub leases : after.leases ≡ before.leases
-  pub rounds : WeighSame (all_rounds_out before.cpus) (all_rounds_out after.cpus)
+  pub rounds : WeighSame (all_own_rounds before.cpus) (all_own_rounds after.cpus)
   pub own : All (IsOwnIn spaces) after.cpus

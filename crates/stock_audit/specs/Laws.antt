@@ -12,11 +12,11 @@ use Rattle.deed_core.specs.Selections.{came_direct}
 use Rattle.deed_core.specs.Weights.{weight_where, of_arena}
 use Rattle.tag_arena.specs.ArenaState.{ArenaState, spans_of, ranges_of}
 use Rattle.stock.specs.Spaces.{SpaceState, QuantumCacheState, plans_of, with_arena, with_caches}
-use Rattle.stock.specs.OwnCaches.{OwnCacheState, own_rounds}
+use Rattle.stock.specs.OwnCaches.{OwnCacheState, own_rounds, all_own_rounds}
 use Rattle.stock.specs.Accounts.{IsAccounted}
 use Rattle.stock.specs.Sums.{held_of, homes_of, total}
 use Rattle.stock.specs.Laws.{HasTop, ApartUpChain}
-use Rattle.stock_audit.specs.Outside.{Outside, nothing_out, out_of, segments_out, all_rounds_out}
+use Rattle.stock_audit.specs.Outside.{Outside, nothing_out, out_of, segments_out}
 use Rattle.stock_audit.specs.Audits.{sums_of_arena, units_of_arena_in}
 use Rattle.stock_audit.specs.Accounted.{IsAccountedFor}
 use Rattle.stock_audit.specs.Keeping.{IsStep, HandsMove, OnCpu, PopMove, PushMove, ChangeMove}
@@ -215,6 +215,6 @@ CacheStepOffChain = (k : ℕ) (old new : List SpaceState) (before after : Outsid
     (s : SpaceState) (cs : List QuantumCacheState) → slice_get old k ≡ Some s
     → new ≡ set old k (with_caches cs s) → plans_of new ≡ plans_of old
     → after.leases ≡ before.leases
-    → ((b : ℕ) → b ≢ k → (f : Tag → ℕ) → sum_by (of_arena b f) (all_rounds_out after.cpus)
-    ≡ sum_by (of_arena b f) (all_rounds_out before.cpus))
+    → ((b : ℕ) → b ≢ k → (f : Tag → ℕ) → sum_by (of_arena b f) (all_own_rounds after.cpus)
+    ≡ sum_by (of_arena b f) (all_own_rounds before.cpus))
     → StaysOffChain k old new before after

@@ -1,7 +1,7 @@
 -- The segments that are out of a stock, by who has them.
-use Rattle.std.specs.Prelude.{List, [], flat_map}
+use Rattle.std.specs.Prelude.{List, []}
 use Rattle.deed_core.specs.Tag.{Tag}
-use Rattle.stock.specs.OwnCaches.{OwnCacheState, own_rounds}
+use Rattle.stock.specs.OwnCaches.{OwnCacheState, all_own_rounds}
 use Rattle.stock.specs.Sums.{Out, all_out}
 
 -- those in hands, those leased, and the caches of the CPUs, each with the rounds in it
@@ -17,14 +17,10 @@ outside hands leases cpus = record { hands = hands; leases = leases; cpus = cpus
 abbrev pub nothing_out : Outside
 nothing_out = outside [] [] []
 
--- the rounds of all these
-abbrev pub all_rounds_out : List OwnCacheState → List Tag
-all_rounds_out cpus = flat_map own_rounds cpus
-
 -- the same segments, each with its index
 abbrev pub out_of : Outside → Out
 out_of out =
-    record { hands = out.hands; leases = out.leases; rounds = all_rounds_out out.cpus }
+    record { hands = out.hands; leases = out.leases; rounds = all_own_rounds out.cpus }
 
 -- all of them
 abbrev pub segments_out : Outside → List Tag

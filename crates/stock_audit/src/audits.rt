@@ -5,7 +5,8 @@ ghost use Rattle.slab_layer.specs.Cache.{deeds_of};
 ghost use Rattle.magazine_layer.specs.Depots.{depot_rounds};
 ghost use Rattle.stock.specs.Spaces.{SpaceState};
 ghost use Rattle.stock.specs.Accounts.{Accounts};
-ghost use Rattle.stock.specs.Sums.{Out, holdings_of};
+ghost use Rattle.stock.specs.Sums.{Out};
+ghost use Rattle.tag_arena.specs.Spanned.{holdings_of};
 ghost use Rattle.stock_audit.specs.Outside.{outside, out_of, segments_out};
 ghost use Rattle.stock_audit.specs.Audits.{IsTally, IsBalanced, IsReportOf, TellsSums};
 

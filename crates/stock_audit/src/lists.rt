@@ -1,6 +1,6 @@
 //! The units of an arena in lists of what is out.
 ghost use Rattle.std.specs.Prelude.{◌≡◌, ◌-◌, ◌^◌, min};
-ghost use Rattle.stock_audit.specs.Outside.{all_rounds_out};
+ghost use Rattle.stock.specs.OwnCaches.{all_own_rounds};
 ghost use Rattle.stock_audit.specs.Audits.{units_of_arena_in};
 
 use deed_core::{Deed, Segment};
@@ -23,7 +23,7 @@ pub fn units_of<D: Deed>(segments: &[Segment<D>], arena: usize) -> u128
 
 /// The units of the rounds of this arena in the caches of CPUs, or 2^128 - 1 where they are more.
 pub fn rounds_units<D: Deed>(cpus: &[OwnCache<D>], arena: usize) -> u128
-    ensures { result ≡ min (units_of_arena_in arena (all_rounds_out cpus.now)) (2 ^ 128 - 1) }
+    ensures { result ≡ min (units_of_arena_in arena (all_own_rounds cpus.now)) (2 ^ 128 - 1) }
 {
     let mut units: u128 = 0;
     for cache in cpus {

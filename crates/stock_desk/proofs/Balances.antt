@@ -13,8 +13,10 @@ use Rattle.magazine_layer.specs.Depots.{depot_rounds}
 use Rattle.arena_tree.specs.declared.trees.TreeArena.{TreeArena}
 use Rattle.stock.specs.Spaces.{SpaceState, plan_of}
 use Rattle.stock.specs.Setups.{plan_for}
-use Rattle.stock.specs.Sums.{holdings_of, held_of, homes_of, lengths_of}
-use Rattle.stock_audit.specs.Outside.{all_rounds_out, out_of}
+use Rattle.stock.specs.Sums.{held_of, homes_of, lengths_of}
+use Rattle.tag_arena.specs.Spanned.{holdings_of}
+use Rattle.stock_audit.specs.Outside.{out_of}
+use Rattle.stock.specs.OwnCaches.{all_own_rounds}
 use Rattle.stock_audit.specs.Audits.{IsTally, IsBalanced, units_of_arena_in, told_sums}
 use Rattle.stock_audit.specs.declared.audits.ArenaSums.{ArenaSums}
 use Rattle.stock_audit.proofs.LawProofs.{audit_adds_up, units_weigh}
@@ -48,7 +50,7 @@ rounds_in_cpus k cpus = sum_by (λ c. units_tagged (arena_rounds c.caches k)) cp
 
 module _ (d : Picture) (is : IsPicture d) (k : ℕ) (s : SpaceState) (at : slice_get d.spaces k ≡ Some s) where
   abbrev all_rounds : List Tag
-  all_rounds = all_rounds_out (flat_map caches_of d.cpus)
+  all_rounds = all_own_rounds (flat_map caches_of d.cpus)
 
   abbrev in_depots : List Holding
   in_depots = flat_map (λ c. holdings_of (depot_rounds c.depot)) s.caches

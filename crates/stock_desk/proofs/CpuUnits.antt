@@ -9,12 +9,11 @@ use Rattle.deed_core.specs.Tag.{Tag}
 use Rattle.deed_core.specs.Covering.{units_in, units_tagged}
 use Rattle.deed_core.specs.Weights.{of_arena}
 use Rattle.deed_core.proofs.LawProofs.{all_at, all_from, slice_get_mapped}
-use Rattle.stock.specs.OwnCaches.{OwnCacheState, own_rounds}
+use Rattle.stock.specs.OwnCaches.{OwnCacheState, own_rounds, all_own_rounds}
 use Rattle.stock.specs.Spaces.{SpaceState, SpacePlan, plans_of}
 use Rattle.stock.proofs.LawProofs.{arena_weighs}
 use Rattle.stock_audit.specs.Accounted.{IsOwnIn}
-use Rattle.stock_audit.specs.Outside.{all_rounds_out}
-use Rattle.local_parts.specs.Cpus.{CacheIndexes, IsCpuOf, own_index, row_indexes, indexes_from, row_rounds, rounds_of_row, arena_rounds}
+use Rattle.local_parts.specs.Cpus.{CacheIndexes, IsCpuOf, own_index, row_indexes, indexes_from, rounds_of_row, arena_rounds}
 use Rattle.lease_machine.specs.Picture.{NumberedCpu, caches_of}
 
 -- the two halves of a list
@@ -63,13 +62,13 @@ row_of_joined P (x ∷ rows) all zero row at =
     subst (λ (r : List OwnCacheState). All P r) same (all_front P x (joined rows) all)
 row_of_joined P (x ∷ rows) all (suc i) row at = row_of_joined P rows (all_back P x (joined rows) all) i row at
 
-row_all : (P : Tag → Type 0) (row : List OwnCacheState) → All (λ o. All P (own_rounds o)) row → All P (row_rounds row)
+row_all : (P : Tag → Type 0) (row : List OwnCacheState) → All (λ o. All P (own_rounds o)) row → All P (all_own_rounds row)
 row_all P [] each = All-nil P
-row_all P (o ∷ row) each = All-append P (own_rounds o) (row_rounds row) (each 0 o (omega arith)) (row_all P row (λ i e below. each (suc i) e (omega (arith, below))))
+row_all P (o ∷ row) each = All-append P (own_rounds o) (all_own_rounds row) (each 0 o (omega arith)) (row_all P row (λ i e below. each (suc i) e (omega (arith, below))))
 
 -- the rounds of each row are of its arena
 abbrev pub RowsStand : ℕ → List (List OwnCacheState) → Type 0
-RowsStand b rows = (i : ℕ) (row : List OwnCacheState) → slice_get rows i ≡ Some row → All (λ t. t.arena ≡ b + i) (row_rounds row)
+RowsStand b rows = (i : ℕ) (row : List OwnCacheState) → slice_get rows i ≡ Some row → All (λ t. t.arena ≡ b + i) (all_own_rounds row)
 
 pub rows_stand : (spaces : List SpaceState) (rows : List (List OwnCacheState)) → IsCpuOf spaces rows → All (IsOwnIn spaces) (joined rows) → RowsStand 0 rows
 rows_stand spaces rows is own i row at = row_all (λ t. t.arena ≡ 0 + i) row (all_from (λ o. All (λ t. t.arena ≡ 0 + i) (own_rounds o)) row (λ j o among.
@@ -95,33 +94,33 @@ module _ (k : ℕ) where
       let rest = none_there ts (λ i e below. all (suc i) e (omega (arith, below))) in
       omega (arith, sum_by-cons weight t ts, one, rest)
 
-  both_weigh : (xs ys : List OwnCacheState) → sum_by weight (all_rounds_out (xs ++ ys)) ≡ sum_by weight (all_rounds_out xs) + sum_by weight (all_rounds_out ys)
-  both_weigh xs ys = ap (λ (ts : List Tag). sum_by weight ts) (flat_map-append own_rounds xs ys) ∙ sum_by-append weight (all_rounds_out xs) (all_rounds_out ys)
+  both_weigh : (xs ys : List OwnCacheState) → sum_by weight (all_own_rounds (xs ++ ys)) ≡ sum_by weight (all_own_rounds xs) + sum_by weight (all_own_rounds ys)
+  both_weigh xs ys = ap (λ (ts : List Tag). sum_by weight ts) (flat_map-append own_rounds xs ys) ∙ sum_by-append weight (all_own_rounds xs) (all_own_rounds ys)
 
   tail_stands : (b : ℕ) (row : List OwnCacheState) (rows : List (List OwnCacheState)) → RowsStand b (row ∷ rows) → RowsStand (b + 1) rows
   tail_stands b row rows stand i r at n d below = (let is = stand (suc i) r at n d below in omega (arith, is))
 
-  rest_none : (b : ℕ) (rows : List (List OwnCacheState)) → k < b → RowsStand b rows → sum_by weight (all_rounds_out (joined rows)) ≡ 0
+  rest_none : (b : ℕ) (rows : List (List OwnCacheState)) → k < b → RowsStand b rows → sum_by weight (all_own_rounds (joined rows)) ≡ 0
   rest_none b [] above stand = refl
   rest_none b (row ∷ rows) above stand =
-      let one = none_there (row_rounds row) (λ n d below same. (let is = stand 0 row refl n d below in omega (arith, is, same, above))) in
+      let one = none_there (all_own_rounds row) (λ n d below same. (let is = stand 0 row refl n d below in omega (arith, is, same, above))) in
       let rest = rest_none (b + 1) rows (omega (arith, above)) (tail_stands b row rows stand) in
       omega (arith, both_weigh row (joined rows), one, rest)
 
-  rows_weigh : (b j : ℕ) (rows : List (List OwnCacheState)) → k ≡ b + j → RowsStand b rows → sum_by weight (all_rounds_out (joined rows)) ≡ units_tagged (rounds_of_row (slice_get rows j))
+  rows_weigh : (b j : ℕ) (rows : List (List OwnCacheState)) → k ≡ b + j → RowsStand b rows → sum_by weight (all_own_rounds (joined rows)) ≡ units_tagged (rounds_of_row (slice_get rows j))
   rows_weigh b j [] is stand = refl
   rows_weigh b zero (row ∷ rows) is stand =
-      let one = all_there (row_rounds row) (λ n d below. (let at = stand 0 row refl n d below in omega (arith, at, is))) in
+      let one = all_there (all_own_rounds row) (λ n d below. (let at = stand 0 row refl n d below in omega (arith, at, is))) in
       let rest = rest_none (b + 1) rows (omega (arith, is)) (tail_stands b row rows stand) in
       omega (arith, both_weigh row (joined rows), one, rest)
   rows_weigh b (suc j) (row ∷ rows) is stand =
-      let one = none_there (row_rounds row) (λ n d below same. (let at = stand 0 row refl n d below in omega (arith, at, is, same))) in
+      let one = none_there (all_own_rounds row) (λ n d below same. (let at = stand 0 row refl n d below in omega (arith, at, is, same))) in
       let rest = rows_weigh (b + 1) j rows (omega (arith, is)) (tail_stands b row rows stand) in
       omega (arith, both_weigh row (joined rows), one, rest)
 
   -- those of one CPU are in the arena's row, and so of all CPUs
   pub cpus_weigh : (spaces : List SpaceState) (cs : List NumberedCpu) → All (λ c. IsCpuOf spaces c.caches) cs → All (IsOwnIn spaces) (flat_map caches_of cs)
-      → sum_by weight (all_rounds_out (flat_map caches_of cs)) ≡ sum_by (λ c. units_tagged (arena_rounds c.caches k)) cs
+      → sum_by weight (all_own_rounds (flat_map caches_of cs)) ≡ sum_by (λ c. units_tagged (arena_rounds c.caches k)) cs
   cpus_weigh spaces [] of own = refl
   cpus_weigh spaces (c ∷ cs) of own =
       let one = rows_weigh 0 k c.caches (omega arith) (rows_stand spaces c.caches (of 0 c (omega arith)) (all_front (IsOwnIn spaces) (caches_of c) (flat_map caches_of cs) own)) in

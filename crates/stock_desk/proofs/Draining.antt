@@ -13,10 +13,10 @@ use Rattle.quantum_cache.specs.Drains.{Drained, drain_plan}
 use Rattle.quantum_cache.specs.Laws.{drain_left}
 use Rattle.quantum_cache.proofs.LawProofs.{drain_handles}
 use Rattle.stock.specs.Accounts.{Accounts}
-use Rattle.stock.specs.OwnCaches.{OwnCacheState}
+use Rattle.stock.specs.OwnCaches.{OwnCacheState, all_own_rounds, HasNoRound}
 use Rattle.stock.specs.Spaces.{SpaceState, SpacePlan, plans_of}
 use Rattle.stock.proofs.LawProofs.{out_weighs}
-use Rattle.local_parts.specs.Cpus.{IsCpuOf, HasNoRound, HasNoRounds, indexes_from, row_rounds, cpu_rounds}
+use Rattle.local_parts.specs.Cpus.{IsCpuOf, HasNoRounds, indexes_from, cpu_rounds}
 use Rattle.local_parts.specs.States.{LocalState}
 use Rattle.local_parts.specs.Steps.{LocalStep}
 use Rattle.local_parts.proofs.LawProofs.{plan_conserves, plan_keeps_setup, path_seen}
@@ -30,11 +30,11 @@ use Rattle.stock_desk.proofs.NumberedCpus.{last_cpu}
 pub local_path : (arenas : List TreeArena) (A : Type 0) (p : Plan A) (old new : LocalState) (a : A) → RunsTo arenas p old new a → Path LocalStep p old new a
 local_path arenas A p old new a ran = path_seen A LocalState (λ s. s) (SoundStep (nodes_of arenas)) (λ s t e x d. d.step) p old new a ran
 
-row_none : (row : List OwnCacheState) → All HasNoRound row → row_rounds row ≡ []
+row_none : (row : List OwnCacheState) → All HasNoRound row → all_own_rounds row ≡ []
 row_none [] none = refl
 row_none (o ∷ row) none =
     let first = none 0 o (omega arith) in
-    ap (λ (ts : List Tag). ts ++ row_rounds row) (ap (λ (ts : List Tag). ts ++ o.cpu.loaded) first.previous_empty ∙ first.loaded_empty) ∙ row_none row (λ i e below. none (suc i) e (omega (arith, below)))
+    ap (λ (ts : List Tag). ts ++ all_own_rounds row) (ap (λ (ts : List Tag). ts ++ o.cpu.loaded) first.previous_empty ∙ first.loaded_empty) ∙ row_none row (λ i e below. none (suc i) e (omega (arith, below)))
 
 pub cpu_none : (cpu : List (List OwnCacheState)) → HasNoRounds cpu → cpu_rounds cpu ≡ []
 cpu_none [] none = refl

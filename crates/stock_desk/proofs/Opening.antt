@@ -12,7 +12,7 @@ use Rattle.stock.specs.Accounts.{IsAccounted}
 use Rattle.stock.specs.Endings.{IsReaped, IsReapedCache}
 use Rattle.stock.specs.Setups.{IsSetUpFrom, IsNewCache, plans_for}
 use Rattle.stock.specs.Spaces.{SpaceState}
-use Rattle.stock_audit.specs.Outside.{all_rounds_out}
+use Rattle.stock.specs.OwnCaches.{all_own_rounds}
 use Rattle.lease_book.specs.BookState.{BookState, IsHistory, leased_by}
 use Rattle.lease_machine.specs.Picture.{NumberedCpu, Picture, IsPicture, caches_of, fresh_cpu}
 use Rattle.lease_machine.specs.RoomLaws.{NothingIsKept}
@@ -40,6 +40,6 @@ module _ (setup : SetupState) (deeds : List Holding) (spaces : List SpaceState) 
     pub begins_unused : NothingIsKept (begun cpus)
     begins_unused = record {
       leases = ap leased_by history.accounts;
-      rounds = ap (λ (cs : List NumberedCpu). all_rounds_out (flat_map caches_of cs)) one ∙ ap all_rounds_out (append-nil (caches_of (fresh_cpu 0 spaces))) ∙ fresh_cpu_fits.none spaces 0;
+      rounds = ap (λ (cs : List NumberedCpu). all_own_rounds (flat_map caches_of cs)) one ∙ ap all_own_rounds (append-nil (caches_of (fresh_cpu 0 spaces))) ∙ fresh_cpu_fits.none spaces 0;
       reaped = all_reaped;
     }

@@ -1,5 +1,5 @@
 -- What a carve comes to for the layers above.
-use Rattle.std.proofs.Common.{◌≡◌, ℕ, ◌+◌, refl, sym, subst, ap, ◌∙◌, [], ◌∷◌, ◌++◌, map, Option, Some, option_to_list, sum_by, arith}
+use Rattle.std.proofs.Common.{◌≡◌, ℕ, ◌+◌, sym, subst, ap, ◌∙◌, [], ◌∷◌, ◌++◌, map, Option, Some, option_to_list, sum_by, arith}
 use Rattle.deed_core.specs.Extent.{IsRange}
 use Rattle.deed_core.specs.Holding.{Holding}
 use Rattle.deed_core.specs.Tag.{Tag}

@@ -12,7 +12,7 @@ use Rattle.tag_arena.proofs.SpanLists.{Contains-map, Contains-from_map}
 use Rattle.sorted_rows.specs.Order.{Rises, place_below}
 use Rattle.sorted_rows.proofs.PlaceLemmas.{rises_insert}
 use Rattle.tag_arena.specs.declared.span_entries.SpanEntry.{SpanEntry}
-use Rattle.tag_arena.specs.Spanned.{end_rank, coming_of, tag_of, by_coming, tag_holdings}
+use Rattle.tag_arena.specs.Spanned.{end_rank, coming_of, tag_of, by_coming, holdings_of}
 use Rattle.tag_arena.proofs.Listing.{Contains-inserted, Contains-insert, Contains-insert_cases, AllPairs-remove, rank_at_place, same_rising, rises_push, map-remove}
 
 -- no two came at one time
@@ -115,19 +115,19 @@ pub from_tags : (xs : List SpanEntry) (t : Tag) → Contains (map tag_of (by_com
 from_tags xs t h = let m = Contains-from_map tag_of (by_coming xs) t h in (m.0, from_by_coming xs m.0 m.1, m.2)
 
 -- the units of one more, and of one less
-pub units_more : (ts : List Tag) (t : Tag) → units_held (tag_holdings (ts ++ t ∷ [])) ≡ units_held (tag_holdings ts) + t.holding.range.len
+pub units_more : (ts : List Tag) (t : Tag) → units_held (holdings_of (ts ++ t ∷ [])) ≡ units_held (holdings_of ts) + t.holding.range.len
 units_more ts t =
     let split = ap units_held (map-append (λ (x : Tag). x.holding) ts (t ∷ [])) in
-    omega (arith, split, sum_by-append (λ (h : Holding). h.range.len) (tag_holdings ts) (t.holding ∷ []), sum_by-cons (λ (h : Holding). h.range.len) t.holding [])
+    omega (arith, split, sum_by-append (λ (h : Holding). h.range.len) (holdings_of ts) (t.holding ∷ []), sum_by-cons (λ (h : Holding). h.range.len) t.holding [])
 
-pub units_less : (ts : List Tag) (t : Tag) (k : ℕ) → k < length ts → HoldsAt (λ x. x ≡ t) ts k → units_held (tag_holdings (remove ts k)) + t.holding.range.len ≡ units_held (tag_holdings ts)
+pub units_less : (ts : List Tag) (t : Tag) (k : ℕ) → k < length ts → HoldsAt (λ x. x ≡ t) ts k → units_held (holdings_of (remove ts k)) + t.holding.range.len ≡ units_held (holdings_of ts)
 units_less [] t k lt here = absurd (omega (arith, lt))
 units_less (x ∷ xs) t zero lt here =
     let is = ap (λ (y : Tag). y.holding.range.len) (here x) in
-    omega (arith, is, sum_by-cons (λ (h : Holding). h.range.len) x.holding (tag_holdings xs))
+    omega (arith, is, sum_by-cons (λ (h : Holding). h.range.len) x.holding (holdings_of xs))
 units_less (x ∷ xs) t (suc k) lt here =
     let rec = units_less xs t k (omega arith) here in
-    omega (arith, rec, sum_by-cons (λ (h : Holding). h.range.len) x.holding (tag_holdings xs), sum_by-cons (λ (h : Holding). h.range.len) x.holding (tag_holdings (remove xs k)))
+    omega (arith, rec, sum_by-cons (λ (h : Holding). h.range.len) x.holding (holdings_of xs), sum_by-cons (λ (h : Holding). h.range.len) x.holding (holdings_of (remove xs k)))
 
 -- a list without one, seen through a function
 pub without_map : {X Y : Type 0} (g : X → Y) (xs now : List X) (e : X) (q : ℕ) → q < length xs → HoldsAt (λ x. x ≡ e) xs q → now ≡ remove xs q → (q < length (map g xs)) × HoldsAt (λ y. y ≡ g e) (map g xs) q × (map g now ≡ remove (map g xs) q)

@@ -27,7 +27,7 @@ use Rattle.tag_arena.specs.declared.searches.Fit.{Fit}
 use Rattle.tag_arena.specs.Cuts.{CarvesOut}
 use Rattle.tag_arena.specs.Fits.{IsFit}
 use Rattle.tag_arena.specs.Found.{IsCuttable}
-use Rattle.tag_arena.specs.Spanned.{tag_holdings, AreDisjoint, IsLowestFree}
+use Rattle.tag_arena.specs.Spanned.{holdings_of, AreDisjoint, IsLowestFree}
 
 -- what was found, with its place in the list
 abbrev pub found_of : (free : List Holding) (f : Fit) → Contains free f.range → FoundAt
@@ -91,18 +91,18 @@ module _ (a : ArenaState) (piece s : Holding) (lies : LiesIn a piece s) where
 -- the spans don't overlap
 pub disjoint_owned : (a : ArenaState) → IsDivided a → AreDisjoint a.owned
 disjoint_owned a sound = record {
-  apart = AllPairs-first Apart a.owned (tag_holdings a.imported) sound.whole.spans_apart;
-  ranges = All-from_members (λ s. IsRange s.range) a.owned (λ s h. All-contains (λ s. IsRange s.range) (spans_of a) s sound.spans (Contains-append_left a.owned (tag_holdings a.imported) s h));
+  apart = AllPairs-first Apart a.owned (holdings_of a.imported) sound.whole.spans_apart;
+  ranges = All-from_members (λ s. IsRange s.range) a.owned (λ s h. All-contains (λ s. IsRange s.range) (spans_of a) s sound.spans (Contains-append_left a.owned (holdings_of a.imported) s h));
 }
 
-pub disjoint_imported : (a : ArenaState) → IsDivided a → AreDisjoint (tag_holdings a.imported)
+pub disjoint_imported : (a : ArenaState) → IsDivided a → AreDisjoint (holdings_of a.imported)
 disjoint_imported a sound = record {
-  apart = AllPairs-second Apart a.owned (tag_holdings a.imported) sound.whole.spans_apart;
-  ranges = All-from_members (λ s. IsRange s.range) (tag_holdings a.imported) (λ s h. All-contains (λ s. IsRange s.range) (spans_of a) s sound.spans (Contains-append_right a.owned (tag_holdings a.imported) s h));
+  apart = AllPairs-second Apart a.owned (holdings_of a.imported) sound.whole.spans_apart;
+  ranges = All-from_members (λ s. IsRange s.range) (holdings_of a.imported) (λ s h. All-contains (λ s. IsRange s.range) (spans_of a) s sound.spans (Contains-append_right a.owned (holdings_of a.imported) s h));
 }
 
 -- a span that overlaps none ends where none does
-pub ends_alone : (a : ArenaState) (h : Holding) (tags : List Tag) → IsDivided a → IsRange h.range → IsClear a h.range → ((s : Holding) → Contains (tag_holdings tags) s → Contains (spans_of a) s) → All (λ t. end_of t.holding.range ≢ end_of h.range) tags
+pub ends_alone : (a : ArenaState) (h : Holding) (tags : List Tag) → IsDivided a → IsRange h.range → IsClear a h.range → ((s : Holding) → Contains (holdings_of tags) s → Contains (spans_of a) s) → All (λ t. end_of t.holding.range ≢ end_of h.range) tags
 ends_alone a h tags sound range clear among =
     All-from_members (λ t. end_of t.holding.range ≢ end_of h.range) tags
     (λ t in-t e.
@@ -148,11 +148,11 @@ pub lent_there : (A : Type 0) (B : Type 0) (lent : Bool) → MatchBool lent A B 
 lent_there A B true said lends = said
 lent_there A B false said lends = absurd cc
 
-pub not_lent : (imported : List Tag) (s merged : Holding) (lent : Bool) → MatchBool lent (Contains (tag_holdings imported) s) (¬ Contains (tag_holdings imported) s) → (lent ≡ true → merged ≢ s) → (t : Tag) → Contains imported t → t.holding ≡ s → s ≡ merged → ⊥
+pub not_lent : (imported : List Tag) (s merged : Holding) (lent : Bool) → MatchBool lent (Contains (holdings_of imported) s) (¬ Contains (holdings_of imported) s) → (lent ≡ true → merged ≢ s) → (t : Tag) → Contains imported t → t.holding ≡ s → s ≡ merged → ⊥
 not_lent imported s merged true said other t in-t e same = other refl (sym same)
-not_lent imported s merged false said other t in-t e same = said (subst (Contains (tag_holdings imported)) e (Contains-map (λ (t : Tag). t.holding) imported t in-t))
+not_lent imported s merged false said other t in-t e same = said (subst (Contains (holdings_of imported)) e (Contains-map (λ (t : Tag). t.holding) imported t in-t))
 
 -- one more span, by its range
-pub held_more : (old grown new : List Tag) (t : Tag) (h : Holding) → new ≡ grown ++ t ∷ [] → grown ≡ old → t.holding ≡ h → tag_holdings new ≡ tag_holdings old ++ h ∷ []
+pub held_more : (old grown new : List Tag) (t : Tag) (h : Holding) → new ≡ grown ++ t ∷ [] → grown ≡ old → t.holding ≡ h → holdings_of new ≡ holdings_of old ++ h ∷ []
 held_more old grown new t h is same range =
-    ap tag_holdings is ∙ (map-append (λ (x : Tag). x.holding) grown (t ∷ []) ∙ (ap (λ (ts : List Tag). tag_holdings ts ++ t.holding ∷ []) same ∙ ap (λ (x : Holding). tag_holdings old ++ x ∷ []) range))
+    ap holdings_of is ∙ (map-append (λ (x : Tag). x.holding) grown (t ∷ []) ∙ (ap (λ (ts : List Tag). holdings_of ts ++ t.holding ∷ []) same ∙ ap (λ (x : Holding). holdings_of old ++ x ∷ []) range))

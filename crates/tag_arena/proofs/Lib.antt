@@ -2,6 +2,7 @@ pub mod Members
 pub mod Blocks
 pub mod PowerLists
 pub mod Grids
+pub mod Reaching
 pub mod Choosing
 pub mod Ranges
 pub mod Carving
@@ -32,6 +33,7 @@ pub mod Indexing
 pub mod Starting
 pub mod Searching
 pub mod Fitting
+pub mod Reached
 pub mod Lasting
 pub mod Newest
 pub mod Weighing

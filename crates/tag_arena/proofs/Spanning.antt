@@ -12,7 +12,7 @@ use Rattle.tag_arena.proofs.SpanLists.{Contains-map, Contains-from_map}
 use Rattle.sorted_rows.specs.Order.{Rises, PutsIn, TakesOut, StandsAtKey, first_from, place_below}
 use Rattle.sorted_rows.proofs.PlaceLemmas.{rises_insert}
 use Rattle.tag_arena.specs.declared.span_entries.SpanEntry.{SpanEntry}
-use Rattle.tag_arena.specs.Spanned.{end_rank, tag_of, by_coming, tag_holdings, AreSpans, AreDisjoint, IsFirstPast, WithoutSpan}
+use Rattle.tag_arena.specs.Spanned.{end_rank, tag_of, by_coming, holdings_of, AreSpans, AreDisjoint, IsFirstPast, WithoutSpan}
 use Rattle.tag_arena.proofs.Listing.{Contains-insert_cases, place_of_member, rank_at_place}
 use Rattle.tag_arena.proofs.Searching.{is_first, none_from}
 use Rattle.tag_arena.proofs.Coming.{by_none, in_tags, from_tags, timed_put, coming_put, coming_take, without_map, units_more, units_less}
@@ -28,7 +28,7 @@ none_are items is =
     record {
       timed = λ x y in-x in-y same. absurd (no x in-x);
       past = λ x in-x. absurd (no x in-x);
-      counted = sym (ap (λ (ts : List Tag). units_held (tag_holdings ts)) none);
+      counted = sym (ap (λ (ts : List Tag). units_held (holdings_of ts)) none);
       bound = omega arith;
     }
 
@@ -55,7 +55,7 @@ module _ (old new : List SpanEntry) (clock units : ℕ) (e : SpanEntry) (rises :
   pub are_put : IsRange e.span.range → AreSpans new (clock + 1) (units + e.span.range.len)
   are_put range =
       let long = range.below in
-      let more = ap (λ (ts : List Tag). units_held (tag_holdings ts)) items_put in
+      let more = ap (λ (ts : List Tag). units_held (holdings_of ts)) items_put in
       record {
         timed = subst (λ xs. (x y : SpanEntry) → Contains xs x → Contains xs y → x.since ≡ y.since → x ≡ y) (sym is) (timed_put old rises are.timed place e newer);
         past = λ x h. ⊎_elim (λ a. let s = ap (λ (y : SpanEntry). y.since) a in omega (arith, s, since)) (λ a. let p = are.past x a in omega (arith, p)) (Contains-insert_cases old place e x (subst (λ xs. Contains xs x) is h));
@@ -71,7 +71,7 @@ same_end spans dis r s in-r in-s e =
     same_where_shared spans r s (end_of r.range - 1) dis.apart in-r in-s (omega (arith, pr), omega (arith, pr)) (omega (arith, e, ps), omega (arith, e, pr))
 
 -- the entry of a span
-pub entry_there : (items : List SpanEntry) (span : Holding) (n : ℕ) → n ≡ end_of span.range → Contains (tag_holdings (tags_of items)) span → Any (λ x. end_rank x ≡ n) items
+pub entry_there : (items : List SpanEntry) (span : Holding) (n : ℕ) → n ≡ end_of span.range → Contains (holdings_of (tags_of items)) span → Any (λ x. end_rank x ≡ n) items
 entry_there items span n is h =
     let t = Contains-from_map (λ (t : Tag). t.holding) (tags_of items) span h in
     let x = from_tags items t.0 t.1 in
@@ -112,11 +112,11 @@ module _ (old new : List SpanEntry) (clock units key : ℕ) (e : SpanEntry) (ris
       let w = without_map tag_of (by_coming old) (by_coming new) e out.0 out.1 out.2 new_is in
       (out.0, w.0, w.1, w.2)
 
-  counts : units_held (tag_holdings (tags_of new)) + e.span.range.len ≡ units
+  counts : units_held (holdings_of (tags_of new)) + e.span.range.len ≡ units
   counts =
       let w = items_take in
       let less = units_less (tags_of old) (tag_of e) w.0 w.1 w.2 in
-      let n = ap (λ (ts : List Tag). units_held (tag_holdings ts)) w.3 in
+      let n = ap (λ (ts : List Tag). units_held (holdings_of ts)) w.3 in
       omega (arith, less, n, are.counted)
 
   pub fits_take : e.span.range.len ≤ units
@@ -132,9 +132,9 @@ module _ (old new : List SpanEntry) (clock units key : ℕ) (e : SpanEntry) (ris
         bound = omega (arith, are.bound);
       }
 
-  pub span_take : AreDisjoint (tag_holdings (tags_of old)) → (span : Holding) → Contains (tag_holdings (tags_of old)) span → key ≡ end_of span.range → e.span ≡ span
+  pub span_take : AreDisjoint (holdings_of (tags_of old)) → (span : Holding) → Contains (holdings_of (tags_of old)) span → key ≡ end_of span.range → e.span ≡ span
   span_take dis span in-span k =
-      same_end (tag_holdings (tags_of old)) dis e.span span (Contains-map (λ (t : Tag). t.holding) (tags_of old) (tag_of e) (in_tags old e e_there)) in-span (key_is ∙ k)
+      same_end (holdings_of (tags_of old)) dis e.span span (Contains-map (λ (t : Tag). t.holding) (tags_of old) (tag_of e) (in_tags old e e_there)) in-span (key_is ∙ k)
 
 -- the first that ends past a unit
 module _ (items : List SpanEntry) (unit : ℕ) (rises : Rises end_rank items) where

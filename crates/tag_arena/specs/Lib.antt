@@ -1,5 +1,6 @@
 pub mod Layout
 pub mod Place
+pub mod Reach
 pub mod Choice
 pub mod ArenaState
 pub mod Calls

@@ -1,15 +1,26 @@
 -- The orders in which free ranges are kept.
 use Rattle.std.specs.Prelude.{◌≡◌, ◌≢◌, ℕ, ◌+◌, ◌-◌, ◌*◌, ◌^◌, ◌<◌, ◌≤◌, Bool, true, false}
 use Rattle.std.specs.Prelude.{List, Contains, Option, Some, length, count_by, is_some, All, Any}
+use Rattle.std.specs.Prelude.{min}
 use Rattle.sorted_rows.specs.Order.{PutsIn, TakesOut}
 use Rattle.tag_arena.specs.declared.entries.IndexEntry.{IndexEntry}
 use Rattle.tag_arena.specs.declared.orders.Order.{Order}
+use Rattle.tag_arena.specs.declared.reaches.Measure.{Measure}
+use Rattle.tag_arena.specs.declared.reaches.Measure.TheVariants.{Length, Nothing, Reach}
 use Rattle.tag_arena.specs.declared.orders.Order.TheVariants.{Falling, Sizes, Lists, Rising}
 use Rattle.tag_arena.specs.FreeTags.{FreeTag, tag_at}
+use Rattle.tag_arena.specs.Reach.{reach_of}
 
 -- the number of an entry's key
 abbrev pub rank_of : IndexEntry → ℕ
 rank_of e = e.major * 2 ^ 64 + e.minor
+
+-- what an entry weighs: nothing, its length in the rising order, or the reach of its range in the
+-- order of sizes
+abbrev pub weight_of : Measure → IndexEntry → ℕ
+weight_of Nothing e = 0
+weight_of Length e = e.minor
+weight_of (Reach g) e = reach_of g (min e.minor (2 ^ 62)) (min (e.major + e.minor) (2 ^ 62))
 
 -- by base from the highest on; by length, then base; by list, then from the newest on; by base,
 -- with the length as what an entry weighs

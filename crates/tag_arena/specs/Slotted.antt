@@ -14,9 +14,9 @@ abbrev pub taken_count : List (Option FreeTag) → ℕ
 taken_count tags = count_by is_some tags
 
 -- how many units the range in a slot has
-abbrev pub units_of : Option FreeTag → ℕ
-units_of None = 0
-units_of (Some t) = t.range.range.len
+abbrev pub slot_units : Option FreeTag → ℕ
+slot_units None = 0
+slot_units (Some t) = t.range.range.len
 
 -- the vacant slots are known, each once, and there is room
 pub record IsSlotted (slots : Vec (Option FreeTag)) (vacant : Vec ℕ) (room : ℕ) : Type 0 where

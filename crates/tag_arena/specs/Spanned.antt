@@ -27,8 +27,8 @@ by_coming [] = []
 by_coming (e ∷ rest) = insert (by_coming rest) (place_below coming_of e.since (by_coming rest)) e
 
 -- the ranges of segments
-abbrev pub tag_holdings : List Tag → List Holding
-tag_holdings tags = map (λ t. t.holding) tags
+abbrev pub holdings_of : List Tag → List Holding
+holdings_of tags = map (λ t. t.holding) tags
 
 -- what a contract sees of spans: each as a segment, in order of coming, and how many more may come
 pub record SpansState : Type 0 where
@@ -40,7 +40,7 @@ pub record SpansState : Type 0 where
 pub record AreSpans (items : List SpanEntry) (clock units : ℕ) : Type 0 where
   pub timed : (x y : SpanEntry) → Contains items x → Contains items y → x.since ≡ y.since → x ≡ y
   pub past : (x : SpanEntry) → Contains items x → x.since ≤ clock
-  pub counted : units ≡ units_held (tag_holdings (map tag_of (by_coming items)))
+  pub counted : units ≡ units_held (holdings_of (map tag_of (by_coming items)))
   pub bound : units ≤ clock * 2 ^ 62
 
 -- they are ranges, and no unit is in two

@@ -57,7 +57,7 @@ impl<D: Deed> Model for Arena<D> {
     ghost use Rattle.deed_core.specs.Holding.{Holding};
     ghost use Rattle.tag_arena.specs.ArenaState.{ArenaState, IsSound};
     ghost use Rattle.tag_arena.specs.FreeRanges.{IsBacked};
-    ghost use Rattle.tag_arena.specs.Spanned.{tag_holdings};
+    ghost use Rattle.tag_arena.specs.Spanned.{holdings_of};
 
     ghost Value = { ArenaState };
 
@@ -68,7 +68,7 @@ impl<D: Deed> Model for Arena<D> {
       id = a.id;
       quantum = a.quantum;
       policy = a.policy;
-      owned = tag_holdings a.owned.items;
+      owned = holdings_of a.owned.items;
       imported = a.imported.items;
       free = a.free.ranges;
       allocated = a.tags;
@@ -81,7 +81,7 @@ impl<D: Deed> Model for Arena<D> {
           id = a.id;
           quantum = a.quantum;
           policy = a.policy;
-          owned = tag_holdings a.owned.items;
+          owned = holdings_of a.owned.items;
           imported = a.imported.items;
           free = a.free.ranges;
           allocated = a.tags;
@@ -270,11 +270,13 @@ impl<D: Deed> Arena<D> {
     }
 
     /// What the policy chooses for the request, and where it stands.
-    fn choose(&self, request: &Request, probes: &mut Probes) -> Result<Fit, ArenaFault>
-        ensures good { OnOk result (IsGood self.now.quantum request.now) }
-        ensures chosen { IfOk result (λ found. IsChosen self.now request.now (Some found.base)) }
-        ensures placed { IfOk result (IsFit self.now.quantum request.now self.now.free) }
-        ensures refused { IfErr result (RefusesCarve self.now request.now) }
+    fn choose(&mut self, request: &Request, probes: &mut Probes) -> Result<Fit, ArenaFault>
+        ensures good { OnOk result (IsGood self.old.quantum request.now) }
+        ensures chosen { IfOk result (λ found. IsChosen self.old request.now (Some found.base)) }
+        ensures placed { IfOk result (IsFit self.old.quantum request.now self.old.free) }
+        ensures refused { IfErr result (RefusesCarve self.old request.now) }
+        ensures unchanged { self.new ≡ self.old }
+        ensures sound { IsSound self.new }
     {
         if !request.is_good(self.quantum) {
             return Err(ArenaFault::BadRequest);
@@ -347,7 +349,8 @@ impl<D: Deed> Arena<D> {
         requires some { 0 < len }
         requires room { len ≤ span.holding.range.len }
         requires whole { len % self.old.quantum ≡ 0 }
-        ensures segment { IfOk result (λ s. s ≡ direct_tag self.old.id (first_units len span.holding)) }
+        ensures segment { IfOk result (λ s.
+            s ≡ direct_tag self.old.id (first_units len span.holding)) }
         ensures carved { let first = first_units len span.holding in
             OnOk result (self.new ≡ after_carve (after_import self.old span) span.holding first) }
         ensures range { IfOk result (λ s. IsRange s.holding.range) }

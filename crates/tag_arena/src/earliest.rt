@@ -11,6 +11,7 @@ ghost use Rattle.tag_arena.specs.declared.orders.Order.TheVariants.{Falling, Ris
 
 use crate::orders::OrderedIndex;
 use crate::probes::Probes;
+use crate::reaches::Measure;
 use crate::searches::{Fit, last_by};
 use crate::slots::Slots;
 use deed_core::{Deed, Request};
@@ -19,7 +20,7 @@ use deed_core::{Deed, Request};
 /// begins below `first`. Ranges of fewer than `units` are passed by.
 fn earliest_behind<D: Deed>(
     slots: &Slots<D>,
-    rising: &OrderedIndex,
+    rising: &mut OrderedIndex,
     quantum: u64,
     request: &Request,
     units: u64,
@@ -32,16 +33,17 @@ fn earliest_behind<D: Deed>(
     requires units { units ≡ rounding_of quantum request.now.size }
     requires start { start ≤ 2 ^ 62 }
     requires tags { (clock : ℕ) × AreTags clock slots.now.tags }
-    requires mirrors { Mirrors Rising rising.now.items slots.now.tags }
+    requires mirrors { Mirrors Rising rising.old.items slots.now.tags }
     requires apart { AllPairs Apart (ranges_by_age slots.now.tags) }
     requires below { NoneBelow quantum request.now (ranges_by_age slots.now.tags) start first }
     ensures least { let free = ranges_by_age slots.now.tags in
         IsEarliest quantum request.now free start (base_of result) }
     ensures placed { let free = ranges_by_age slots.now.tags in
         IfSome result (IsFit quantum request.now free) }
+    ensures unchanged { rising.new ≡ rising.old }
 {
     let mut from = first;
-    while let Some(entry) = rising.first_weighing(from, 0, units) {
+    while let Some(entry) = rising.first_weighing(Measure::Length, from, 0, units) {
         let range = slots.tag(entry.slot).range();
         if let Some(base) = probes.least_in(request, quantum, range, start) {
             return Some(Fit { range, base });
@@ -56,7 +58,7 @@ fn earliest_behind<D: Deed>(
 fn earliest_fit<D: Deed>(
     slots: &Slots<D>,
     falling: &OrderedIndex,
-    rising: &OrderedIndex,
+    rising: &mut OrderedIndex,
     quantum: u64,
     request: &Request,
     start: u64,
@@ -67,12 +69,13 @@ fn earliest_fit<D: Deed>(
     requires start { start ≤ 2 ^ 62 }
     requires tags { (clock : ℕ) × AreTags clock slots.now.tags }
     requires falling { Mirrors Falling falling.now.items slots.now.tags }
-    requires rising { Mirrors Rising rising.now.items slots.now.tags }
+    requires rising { Mirrors Rising rising.old.items slots.now.tags }
     requires apart { AllPairs Apart (ranges_by_age slots.now.tags) }
     ensures least { let free = ranges_by_age slots.now.tags in
         IsEarliest quantum request.now free start (base_of result) }
     ensures placed { let free = ranges_by_age slots.now.tags in
         IfSome result (IsFit quantum request.now free) }
+    ensures unchanged { rising.new ≡ rising.old }
 {
     let units = request.units(quantum)?;
     if let Some(range) = last_by(slots, falling, start) {
@@ -97,7 +100,7 @@ fn earliest_fit<D: Deed>(
 pub fn next_fit<D: Deed>(
     slots: &Slots<D>,
     falling: &OrderedIndex,
-    rising: &OrderedIndex,
+    rising: &mut OrderedIndex,
     rover: u64,
     quantum: u64,
     request: &Request,
@@ -108,12 +111,13 @@ pub fn next_fit<D: Deed>(
     requires rover { rover ≤ 2 ^ 62 }
     requires tags { (clock : ℕ) × AreTags clock slots.now.tags }
     requires falling { Mirrors Falling falling.now.items slots.now.tags }
-    requires rising { Mirrors Rising rising.now.items slots.now.tags }
+    requires rising { Mirrors Rising rising.old.items slots.now.tags }
     requires apart { AllPairs Apart (ranges_by_age slots.now.tags) }
     ensures choice { let free = ranges_by_age slots.now.tags in
         IsNextChoice quantum request.now free rover (base_of result) }
     ensures placed { let free = ranges_by_age slots.now.tags in
         IfSome result (IsFit quantum request.now free) }
+    ensures unchanged { rising.new ≡ rising.old }
 {
     let low = request.min;
     let past = earliest_fit(

@@ -1,6 +1,8 @@
 //! What stands in an index.
 ghost use Rattle.std.specs.Prelude.{◌≡◌, ◌+◌, ◌*◌, ◌^◌};
 
+use crate::reaches::Measure;
+use deed_core::LIMIT;
 use sorted_rows::RowEntry;
 
 /// A free range in one order: the two numbers of its key, and its slot.
@@ -19,17 +21,35 @@ pub fn key_of(major: u64, minor: u64) -> u128
 }
 
 impl RowEntry for IndexEntry {
-    ghost use Rattle.tag_arena.specs.Orders.{rank_of};
+    ghost use Rattle.tag_arena.specs.Orders.{rank_of, weight_of};
+
+    type Measure = Measure;
 
     ghost rank = { rank_of };
 
-    ghost weight = { λ e. e.minor };
+    ghost weight = { weight_of };
 
     fn key(&self) -> u128 {
         key_of(self.major, self.minor)
     }
 
-    fn weight(&self) -> u64 {
-        self.minor
+    fn weight(&self, measure: Measure) -> u64 {
+        match measure {
+            Measure::Nothing => 0,
+            Measure::Length => self.minor,
+            Measure::Reach(grid) => {
+                // An entry of sizes is of a range, which no bound changes.
+                let end = self.major.saturating_add(self.minor);
+                grid.reach(self.minor.min(LIMIT), end.min(LIMIT))
+            }
+        }
+    }
+
+    fn is_same(one: Measure, other: Measure) -> bool {
+        one == other
+    }
+
+    fn first_measure() -> Measure {
+        Measure::Nothing
     }
 }

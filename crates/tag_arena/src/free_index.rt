@@ -230,27 +230,29 @@ impl<D: Deed> FreeIndex<D> {
 
     /// The best range that serves the request, and its least address that does. Under `next` there
     /// is no index for it.
-    pub fn best(&self, quantum: u64, request: &Request, probes: &mut Probes) -> Option<Fit>
-        requires is_kept { keeps self.now.policy Sizes ≡ true }
+    pub fn best(&mut self, quantum: u64, request: &Request, probes: &mut Probes) -> Option<Fit>
+        requires is_kept { keeps self.old.policy Sizes ≡ true }
         requires quantum { IsPowerOfTwo quantum }
         requires good { IsGood quantum request.now }
-        ensures choice { IsBestChoice quantum request.now self.now.ranges (base_of result) }
-        ensures placed { IfSome result (IsFit quantum request.now self.now.ranges) }
+        ensures choice { IsBestChoice quantum request.now self.old.ranges (base_of result) }
+        ensures placed { IfSome result (IsFit quantum request.now self.old.ranges) }
+        ensures unchanged { self.new ≡ self.old }
     {
-        best_fit(&self.slots, &self.sizes, quantum, request, probes)
+        best_fit(&self.slots, &mut self.sizes, quantum, request, probes)
     }
 
     /// As from power-of-two lists: for a request without constraints the newest range of the least
     /// list whose every member has room, and else, or where there is no such list, the best. It is
     /// for `instant`, which alone has the lists.
-    pub fn instant(&self, quantum: u64, request: &Request, probes: &mut Probes) -> Option<Fit>
-        requires is_kept { self.now.policy ≡ Instant }
+    pub fn instant(&mut self, quantum: u64, request: &Request, probes: &mut Probes) -> Option<Fit>
+        requires is_kept { self.old.policy ≡ Instant }
         requires quantum { IsPowerOfTwo quantum }
         requires good { IsGood quantum request.now }
-        requires aligned { All (λ r. r.range.base % quantum ≡ 0) self.now.ranges }
-        ensures choice { IsInstantChoice quantum request.now self.now.ranges (base_of result) }
-        ensures placed { IfSome result (IsFit quantum request.now self.now.ranges) }
-        ensures one { ServedByList quantum request.now self.now.ranges
+        requires aligned { All (λ r. r.range.base % quantum ≡ 0) self.old.ranges }
+        ensures choice { IsInstantChoice quantum request.now self.old.ranges (base_of result) }
+        ensures placed { IfSome result (IsFit quantum request.now self.old.ranges) }
+        ensures unchanged { self.new ≡ self.old }
+        ensures one { ServedByList quantum request.now self.old.ranges
             → probes.old.count ≡ 0 → probes.new.count ≡ 1 }
     {
         // The clock is read for the proof alone.
@@ -274,25 +276,26 @@ impl<D: Deed> FreeIndex<D> {
     /// The least address at or past the rover that serves the request, else the least that does. It
     /// is for `next`, which alone has the order that it asks for.
     pub fn next(
-        &self,
+        &mut self,
         rover: u64,
         quantum: u64,
         request: &Request,
         probes: &mut Probes,
     ) -> Option<Fit>
-        requires is_kept { self.now.policy ≡ Next }
+        requires is_kept { self.old.policy ≡ Next }
         requires quantum { IsPowerOfTwo quantum }
         requires good { IsGood quantum request.now }
         requires rover { rover ≤ 2 ^ 62 }
-        requires apart { AllPairs Apart self.now.ranges }
-        ensures choice { let free = self.now.ranges in
+        requires apart { AllPairs Apart self.old.ranges }
+        ensures choice { let free = self.old.ranges in
             IsNextChoice quantum request.now free rover (base_of result) }
-        ensures placed { IfSome result (IsFit quantum request.now self.now.ranges) }
+        ensures placed { IfSome result (IsFit quantum request.now self.old.ranges) }
+        ensures unchanged { self.new ≡ self.old }
     {
         next_fit(
             &self.slots,
             &self.falling,
-            &self.rising,
+            &mut self.rising,
             rover,
             quantum,
             request,
@@ -302,7 +305,7 @@ impl<D: Deed> FreeIndex<D> {
 
     /// What the policy chooses.
     pub fn chosen(
-        &self,
+        &mut self,
         rover: u64,
         quantum: u64,
         request: &Request,
@@ -311,12 +314,13 @@ impl<D: Deed> FreeIndex<D> {
         requires quantum { IsPowerOfTwo quantum }
         requires good { IsGood quantum request.now }
         requires rover { rover ≤ 2 ^ 62 }
-        requires aligned { All (λ r. r.range.base % quantum ≡ 0) self.now.ranges }
-        requires apart { AllPairs Apart self.now.ranges }
-        ensures choice { let free = self.now.ranges in
-            IsChoice self.now.policy quantum request.now free rover (base_of result) }
-        ensures placed { IfSome result (IsFit quantum request.now self.now.ranges) }
-        ensures one { self.now.policy ≡ Instant → ServedByList quantum request.now self.now.ranges
+        requires aligned { All (λ r. r.range.base % quantum ≡ 0) self.old.ranges }
+        requires apart { AllPairs Apart self.old.ranges }
+        ensures choice { let free = self.old.ranges in
+            IsChoice self.old.policy quantum request.now free rover (base_of result) }
+        ensures placed { IfSome result (IsFit quantum request.now self.old.ranges) }
+        ensures unchanged { self.new ≡ self.old }
+        ensures one { self.old.policy ≡ Instant → ServedByList quantum request.now self.old.ranges
             → probes.old.count ≡ 0 → probes.new.count ≡ 1 }
     {
         match self.policy {

@@ -27,8 +27,9 @@
 //! What it costs: a call looks at a few rows of each index, whatever the number of ranges and of
 //! spans; `Arena::probes` tells how many free ranges the last grant looked at. Two calls look at
 //! more: `Arena::report` at each slot of a free range, and `Arena::remove_owned` at each owned span
-//! below the one that it takes. A constrained request may look at many ranges that don't serve it.
-//! A carve and a new span make room for what they add, and for each allocated range to become free,
+//! below the one that it takes. A request with a window of its own, from `min` to `max`, may look
+//! at many ranges that don't serve it, and one on another grid than the last may weigh many anew. A
+//! carve and a new span make room for what they add, and for each allocated range to become free,
 //! before they change anything: so `Arena::free` and `Arena::remove_owned` take no memory.
 //!
 //! Its rules are those of "Magazines and Vmem" (2001), where no other source is named.
@@ -47,6 +48,7 @@ mod orders;
 mod places;
 mod policies;
 mod probes;
+mod reaches;
 mod searches;
 mod slots;
 mod span_entries;

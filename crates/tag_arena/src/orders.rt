@@ -1,11 +1,12 @@
 //! One index of the free ranges, in one order.
 ghost use Rattle.std.specs.Prelude.{◌≡◌, ◌≤◌, ◌+◌, ◌*◌, ◌^◌, [], max, OnOk, true};
 ghost use Rattle.tag_arena.specs.Orders.{entry_of, rank_of, IsAbsent, IsPresent, HasRoomForOne};
-ghost use Rattle.tag_arena.specs.Orders.{PutsEntry, TakesEntry};
+ghost use Rattle.tag_arena.specs.Orders.{PutsEntry, TakesEntry, weight_of};
 ghost use Rattle.sorted_rows.specs.Order.{Rises, first_from};
 ghost use Rattle.sorted_rows.specs.Weights.{heavy_from};
 
 use crate::entries::{IndexEntry, key_of};
+use crate::reaches::Measure;
 use crate::slots::SlotTag;
 use deed_core::LIMIT;
 use sorted_rows::Rows;
@@ -21,7 +22,7 @@ pub enum Order {
     Sizes,
     /// By power-of-two list, then from the newest on.
     Lists,
-    /// By base; an entry weighs its length.
+    /// By base.
     Rising,
 }
 
@@ -144,13 +145,21 @@ impl OrderedIndex {
     }
 
     /// The first entry, from the first at or above the key of two numbers on, that weighs as much
-    /// as `least` or more.
-    pub fn first_weighing(&self, major: u64, minor: u64, least: u64) -> Option<IndexEntry>
+    /// as `least` or more. What it found is kept for the next time, and the entries are the same.
+    pub fn first_weighing(
+        &mut self,
+        measure: Measure,
+        major: u64,
+        minor: u64,
+        least: u64,
+    ) -> Option<IndexEntry>
         ensures first { let key = major * 2 ^ 64 + minor in
-            result ≡ heavy_from rank_of (λ e. e.minor) key least self.now.items }
-        ensures rises { Rises rank_of self.now.items }
+            result ≡ heavy_from rank_of (weight_of measure) key least self.old.items }
+        ensures rises { Rises rank_of self.old.items }
+        ensures unchanged { self.new ≡ self.old }
     {
         let _ = self.rows.len();
-        self.rows.least_weighing(key_of(major, minor), least)
+        self.rows
+            .least_weighing(measure, key_of(major, minor), least)
     }
 }

@@ -9,7 +9,7 @@ use crate::held_ranges::HeldRange;
 use deed_core::Request;
 
 /// The least number from `low` on that leaves `phase` when divided by `align`.
-fn least_aligned(low: u64, align: u64, phase: u64) -> u64
+pub fn least_aligned(low: u64, align: u64, phase: u64) -> u64
     requires phase { phase < align }
     requires fits { low + align ≤ 2 ^ 64 }
     ensures from_low { low ≤ result }
@@ -64,7 +64,7 @@ fn least_place(low: u64, high: u64, len: u64, align: u64, phase: u64, nocross: u
 }
 
 /// The block, and the place in it at which a base may stand.
-fn grid(request: &Request, quantum: u64) -> (u64, u64)
+pub fn grid(request: &Request, quantum: u64) -> (u64, u64)
     requires quantum { IsPowerOfTwo quantum }
     requires good { IsGood quantum request.now }
     ensures on_grid { (base : ℕ) → (base % result.0 ≡ result.1) ↔ OnGrid quantum request.now base }

@@ -1,7 +1,7 @@
 //! What a policy chooses among the free ranges.
-ghost use Rattle.std.specs.Prelude.{ℕ, ◌<◌, ◌≤◌, ◌^◌, IfSome, MatchOption};
+ghost use Rattle.std.specs.Prelude.{◌≡◌, ℕ, ◌<◌, ◌≤◌, ◌^◌, IfSome, MatchOption};
 ghost use Rattle.std.specs.Int.{IsPowerOfTwo};
-ghost use Rattle.deed_core.specs.Request.{IsGood};
+ghost use Rattle.deed_core.specs.Request.{IsGood, rounding_of};
 ghost use Rattle.tag_arena.specs.Choice.{IsBestChoice, IsInstant, NoListServes};
 ghost use Rattle.tag_arena.specs.FreeTags.{AreTags, IsTimed, ranges_by_age};
 ghost use Rattle.tag_arena.specs.Orders.{Mirrors};
@@ -11,6 +11,7 @@ ghost use Rattle.tag_arena.specs.declared.orders.Order.TheVariants.{Falling, Lis
 use crate::held_ranges::HeldRange;
 use crate::orders::OrderedIndex;
 use crate::probes::Probes;
+use crate::reaches::{Grid, Measure};
 use crate::slots::Slots;
 use deed_core::{Deed, LIMIT, Request};
 
@@ -24,7 +25,7 @@ pub struct Fit {
 /// The best range that serves the request, and its least address that does.
 pub fn best_fit<D: Deed>(
     slots: &Slots<D>,
-    sizes: &OrderedIndex,
+    sizes: &mut OrderedIndex,
     quantum: u64,
     request: &Request,
     probes: &mut Probes,
@@ -32,16 +33,79 @@ pub fn best_fit<D: Deed>(
     requires quantum { IsPowerOfTwo quantum }
     requires good { IsGood quantum request.now }
     requires tags { (clock : ℕ) × AreTags clock slots.now.tags }
+    requires mirrors { Mirrors Sizes sizes.old.items slots.now.tags }
+    ensures choice { let free = ranges_by_age slots.now.tags in
+        IsBestChoice quantum request.now free (base_of result) }
+    ensures placed { let free = ranges_by_age slots.now.tags in
+        IfSome result (IsFit quantum request.now free) }
+    ensures unchanged { sizes.new ≡ sizes.old }
+{
+    let units = request.units(quantum)?;
+    if request.align == 0 && request.nocross == 0 {
+        best_by_length(slots, sizes, quantum, request, units, probes)
+    } else {
+        best_by_reach(slots, sizes, quantum, request, units, probes)
+    }
+}
+
+/// The best range for so many units that may stand on any quantum: almost each that is as long
+/// serves.
+fn best_by_length<D: Deed>(
+    slots: &Slots<D>,
+    sizes: &OrderedIndex,
+    quantum: u64,
+    request: &Request,
+    units: u64,
+    probes: &mut Probes,
+) -> Option<Fit>
+    requires quantum { IsPowerOfTwo quantum }
+    requires good { IsGood quantum request.now }
+    requires units { units ≡ rounding_of quantum request.now.size }
+    requires tags { (clock : ℕ) × AreTags clock slots.now.tags }
     requires mirrors { Mirrors Sizes sizes.now.items slots.now.tags }
     ensures choice { let free = ranges_by_age slots.now.tags in
         IsBestChoice quantum request.now free (base_of result) }
     ensures placed { let free = ranges_by_age slots.now.tags in
         IfSome result (IsFit quantum request.now free) }
 {
-    let units = request.units(quantum)?;
     let mut major = units;
     let mut minor = 0;
     while let Some(entry) = sizes.first_from(major, minor) {
+        let range = slots.tag(entry.slot).range();
+        if let Some(base) = probes.least_in(request, quantum, range, 0) {
+            return Some(Fit { range, base });
+        }
+        major = range.len();
+        minor = range.base() + 1;
+    }
+    None
+}
+
+/// The best range for so many units on a grid: ranges that have no room for them on it are passed
+/// by.
+fn best_by_reach<D: Deed>(
+    slots: &Slots<D>,
+    sizes: &mut OrderedIndex,
+    quantum: u64,
+    request: &Request,
+    units: u64,
+    probes: &mut Probes,
+) -> Option<Fit>
+    requires quantum { IsPowerOfTwo quantum }
+    requires good { IsGood quantum request.now }
+    requires units { units ≡ rounding_of quantum request.now.size }
+    requires tags { (clock : ℕ) × AreTags clock slots.now.tags }
+    requires mirrors { Mirrors Sizes sizes.old.items slots.now.tags }
+    ensures choice { let free = ranges_by_age slots.now.tags in
+        IsBestChoice quantum request.now free (base_of result) }
+    ensures placed { let free = ranges_by_age slots.now.tags in
+        IfSome result (IsFit quantum request.now free) }
+    ensures unchanged { sizes.new ≡ sizes.old }
+{
+    let grid = Grid::of(request, quantum);
+    let mut major = units;
+    let mut minor = 0;
+    while let Some(entry) = sizes.first_weighing(Measure::Reach(grid), major, minor, units) {
         let range = slots.tag(entry.slot).range();
         if let Some(base) = probes.least_in(request, quantum, range, 0) {
             return Some(Fit { range, base });

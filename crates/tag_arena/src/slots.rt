@@ -4,7 +4,7 @@ ghost use Rattle.std.specs.Prelude.{All, max, IfOk, sum_by};
 ghost use Rattle.deed_core.specs.Extent.{IsRange, end_of};
 ghost use Rattle.tag_arena.specs.Cuts.{IsCut};
 ghost use Rattle.tag_arena.specs.FreeTags.{FreeTag, tag_at, SlotBecomes};
-ghost use Rattle.tag_arena.specs.Slotted.{taken_count, units_of};
+ghost use Rattle.tag_arena.specs.Slotted.{taken_count, slot_units};
 
 use crate::cuts::{Cut, cut_out};
 use crate::held_ranges::{HeldRange, held_range_of};
@@ -239,7 +239,7 @@ impl<D: Deed> Slots<D> {
 
     /// How many units the deeds in the slots have.
     pub fn units(&self) -> u128
-        ensures { result ≡ sum_by units_of self.now.tags }
+        ensures { result ≡ sum_by slot_units self.now.tags }
     {
         let mut units: u128 = 0;
         for slot in &self.slots {

@@ -15,15 +15,23 @@ pub struct SpanEntry {
 impl RowEntry for SpanEntry {
     ghost use Rattle.tag_arena.specs.Spanned.{end_rank};
 
+    type Measure = ();
+
     ghost rank = { end_rank };
 
-    ghost weight = { λ e. 0 };
+    ghost weight = { λ m e. 0 };
 
     fn key(&self) -> u128 {
         self.span.end() as u128
     }
 
-    fn weight(&self) -> u64 {
+    fn weight(&self, _measure: ()) -> u64 {
         0
     }
+
+    fn is_same(_one: (), _other: ()) -> bool {
+        true
+    }
+
+    fn first_measure() {}
 }

@@ -1,7 +1,7 @@
 //! Which span a unit, a range or a free range is in.
 ghost use Rattle.std.specs.Prelude.{◌++◌, All, Any, Contains, MatchBool, MatchOption};
 ghost use Rattle.deed_core.specs.Extent.{Covers, Overlap};
-ghost use Rattle.tag_arena.specs.Spanned.{tag_holdings, AreDisjoint};
+ghost use Rattle.tag_arena.specs.Spanned.{holdings_of, AreDisjoint};
 
 use crate::held_ranges::HeldRange;
 use crate::spans::Spans;
@@ -9,8 +9,8 @@ use deed_core::Range;
 
 /// Whether a span overlaps the range.
 pub fn overlaps(spans: &Spans, range: &Range) -> bool
-    requires { AreDisjoint (tag_holdings spans.now.items) }
-    ensures { let held = tag_holdings spans.now.items in
+    requires { AreDisjoint (holdings_of spans.now.items) }
+    ensures { let held = holdings_of spans.now.items in
         MatchBool result (Any (λ s. Overlap s.range range.now) held)
         (All (λ s. ¬ Overlap s.range range.now) held) }
 {
@@ -25,8 +25,8 @@ pub fn overlaps(spans: &Spans, range: &Range) -> bool
 
 /// The span that `unit` lies in.
 fn covering(spans: &Spans, unit: u64) -> Option<HeldRange>
-    requires { AreDisjoint (tag_holdings spans.now.items) }
-    ensures { let held = tag_holdings spans.now.items in
+    requires { AreDisjoint (holdings_of spans.now.items) }
+    ensures { let held = holdings_of spans.now.items in
         MatchOption result (All (λ s. ¬ Covers s.range unit) held)
         (λ s. Contains held s × Covers s.range unit) }
 {
@@ -41,9 +41,9 @@ fn covering(spans: &Spans, unit: u64) -> Option<HeldRange>
 
 /// The span that `unit` lies in, of the owned ones and the imported ones.
 pub fn span_at(owned: &Spans, imported: &Spans, unit: u64) -> Option<HeldRange>
-    requires owned { AreDisjoint (tag_holdings owned.now.items) }
-    requires imported { AreDisjoint (tag_holdings imported.now.items) }
-    ensures { let spans = tag_holdings owned.now.items ++ tag_holdings imported.now.items in
+    requires owned { AreDisjoint (holdings_of owned.now.items) }
+    requires imported { AreDisjoint (holdings_of imported.now.items) }
+    ensures { let spans = holdings_of owned.now.items ++ holdings_of imported.now.items in
         MatchOption result (All (λ s. ¬ Covers s.range unit) spans)
         (λ s. Contains spans s × Covers s.range unit) }
 {
@@ -55,8 +55,8 @@ pub fn span_at(owned: &Spans, imported: &Spans, unit: u64) -> Option<HeldRange>
 
 /// Whether it is one of the spans.
 pub fn is_span(spans: &Spans, range: HeldRange) -> bool
-    requires { AreDisjoint (tag_holdings spans.now.items) }
-    ensures { let held = tag_holdings spans.now.items in
+    requires { AreDisjoint (holdings_of spans.now.items) }
+    ensures { let held = holdings_of spans.now.items in
         MatchBool result (Contains held range) (¬ Contains held range) }
 {
     let Some(first) = spans.first_past(range.base()) else {

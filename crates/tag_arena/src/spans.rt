@@ -3,7 +3,7 @@ ghost use Rattle.std.specs.Prelude.{◌≡◌, ◌≢◌, ◌^◌, ◌<◌, ◌+
 ghost use Rattle.deed_core.specs.Covering.{units_held};
 ghost use Rattle.deed_core.specs.Extent.{end_of};
 ghost use Rattle.deed_core.specs.declared.segments.Route.TheVariants.{Direct};
-ghost use Rattle.tag_arena.specs.Spanned.{tag_holdings, AreDisjoint, IsFirstPast, WithoutSpan};
+ghost use Rattle.tag_arena.specs.Spanned.{holdings_of, AreDisjoint, IsFirstPast, WithoutSpan};
 
 use crate::held_ranges::HeldRange;
 use crate::span_entries::SpanEntry;
@@ -85,7 +85,7 @@ impl Spans {
 
     /// How many units they have.
     pub fn units(&self) -> u128
-        ensures sum { result ≡ units_held (tag_holdings self.now.items) }
+        ensures sum { result ≡ units_held (holdings_of self.now.items) }
         ensures bound { result < 2 ^ 127 }
     {
         // The clock is read for the proof alone.
@@ -128,8 +128,8 @@ impl Spans {
 
     /// Takes a span out. It takes no memory.
     pub fn take(&mut self, span: HeldRange) -> Import
-        requires disjoint { AreDisjoint (tag_holdings self.old.items) }
-        requires present { Contains (tag_holdings self.old.items) span }
+        requires disjoint { AreDisjoint (holdings_of self.old.items) }
+        requires present { Contains (holdings_of self.old.items) span }
         ensures items { WithoutSpan self.old.items result self.new.items }
         ensures span { result.holding ≡ span }
     {

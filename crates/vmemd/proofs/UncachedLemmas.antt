@@ -5,10 +5,9 @@ use Rattle.std.proofs.Math.Nat.{zero-div}
 use Rattle.deed_core.proofs.LawProofs.{all_at, all_from, mapped, slice_get_mapped}
 use Rattle.arena_tree.specs.declared.trees.TreeArena.{TreeArena}
 use Rattle.stock.specs.Endings.{IsReaped, IsReapedCache}
-use Rattle.stock.specs.OwnCaches.{OwnCacheState}
+use Rattle.stock.specs.OwnCaches.{OwnCacheState, all_own_rounds}
 use Rattle.stock.specs.Setups.{plan_for, plans_for}
 use Rattle.stock.specs.Spaces.{SpaceState, SpacePlan, plan_of, plans_of, slab_size_of}
-use Rattle.stock_audit.specs.Outside.{all_rounds_out}
 use Rattle.local_parts.specs.Cpus.{CacheIndexes, IsCpuOf, own_index, own_indexes, row_indexes, indexes_from}
 use Rattle.lease_book.specs.BookState.{leased_segments}
 use Rattle.lease_proto.specs.Cpus.{IsCpu}
@@ -68,4 +67,4 @@ module _ (d : Picture) (is : IsPicture d) (none : All (λ x. x.qcache_max ≡ 0)
       rows_none 0 (plans_of d.spaces) c.caches plans_none (all_at (λ (x : NumberedCpu). IsCpu x.number × IsCpuOf d.spaces x.caches) d.cpus k c is.cpus.each at).1))
 
   pub nothing_kept : leased_segments d.book ≡ [] → NothingIsKept d
-  nothing_kept free = record { leases = free; rounds = ap all_rounds_out cpu_caches; reaped = all_bare }
+  nothing_kept free = record { leases = free; rounds = ap all_own_rounds cpu_caches; reaped = all_bare }

@@ -374,8 +374,12 @@ fn the_help_tells_the_limits(rt: HostRuntime) -> Result<(), Fail> {
         format!(in alloc; "Clients C are 1 to {LAST_CLIENT}; I and N are 1 to 2^62:")?,
         format!(in alloc; "the client has {MOST_LEASES} leases")?,
         format!(in alloc; "CPU N, from 0 to {LAST_CPU},")?,
-        format!(in alloc; "above {MOST_ARENAS} arenas or {MOST_SPANS} spans")?,
-        format!(in alloc; "more than {LONGEST_CHAIN} arenas")?,
+        format!(in alloc;
+            "be the {}rd arena, or the {}th span",
+            MOST_ARENAS + 1,
+            MOST_SPANS + 1
+        )?,
+        format!(in alloc; "be more than {LONGEST_CHAIN} arenas")?,
     ] {
         assert!(rt; help.contains(limit.as_str()), "{limit}");
     }

@@ -30,7 +30,7 @@ use Rattle.lease_history.specs.Told.{reply_to}
 use Rattle.world_core.specs.declared.tasks.Task.{Task}
 use Rattle.world_core.specs.WorldState.{WorldState, arena_name}
 use Rattle.world_core.specs.IsWorld.{IsWorld}
-use Rattle.world_core.specs.Moves.{demand_of, settled_reply, IsAnswered, IsTellable, HasTask, HasAllLeases, HasNoSuchLease, TaskGranted, TaskRefused, TaskReleased}
+use Rattle.world_core.specs.Moves.{demand_of, reply_of_settled, IsAnswered, IsTellable, HasTask, HasAllLeases, HasNoSuchLease, TaskGranted, TaskRefused, TaskReleased}
 use Rattle.world_core.specs.Events.{CanGrant, CanRelease, IsEnabled}
 use Rattle.world_core.specs.declared.events.WorldEvent.TheVariants as events
 
@@ -69,7 +69,7 @@ grants w cpu id lease t u quantum request book receipt told reply hands tasks en
     let here : CanGrant w cpu id lease u quantum = subst (λ (x : Tag). CanGrant w cpu id lease x quantum) (sym same) can in
     let terms : Terms = record { quantum = quantum; request = request } in
     let logged : entries ≡ Settled id (Grant u terms) ∷ w.entries = more ∙ ap (λ (x : Tag). Settled id (Grant x terms) ∷ w.entries) (sym same) in
-    let answers : replies ≡ w.replies ++ settled_reply w id (Grant u terms) ∷ [] =
+    let answers : replies ≡ w.replies ++ reply_of_settled w id (Grant u terms) ∷ [] =
     sent ∙ ap (λ (x : Reply). w.replies ++ x ∷ []) (is_told ∙ ap (reply_to (arena_name w.names) id) (is_kept ∙ ap (λ (r : ReceiptState). r.reply) granted.receipt)) in
     record {
       id = id;
@@ -108,7 +108,7 @@ all_leases w cpu id op serves full = λ other what also.
 -- a request is refused
 pub refuses : (w : WorldState) (cpu : ℕ) (id : RequestId) (op : Op) (why : Refusal) (book : BookState) (receipt : ReceiptState)
     (hands : List (Option Tag)) (tasks : List (Option Task)) (entries : List Entry) (replies : List Reply) → HasTask w cpu id op → IsRefused w.book book id why receipt
-    → hands ≡ w.hands → tasks ≡ set w.tasks cpu None → entries ≡ Settled id (Refuse why) ∷ w.entries → replies ≡ w.replies ++ settled_reply w id (Refuse why) ∷ []
+    → hands ≡ w.hands → tasks ≡ set w.tasks cpu None → entries ≡ Settled id (Refuse why) ∷ w.entries → replies ≡ w.replies ++ reply_of_settled w id (Refuse why) ∷ []
     → TaskRefused cpu why w (record w { hands = hands; tasks = tasks; book = book; entries = entries; replies = replies })
 refuses w cpu id op why book receipt hands tasks entries replies serves refused back ended more told = record {
   id = id;
@@ -142,7 +142,7 @@ not_grantable w cpu id lease t quantum is serves holds within grid misfits (othe
 pub releases : (w : WorldState) (cpu : ℕ) (id : RequestId) (line : ReleaseLine) (arena : ℕ) (t : Tag) (book : BookState) (receipt : ReceiptState)
     (hands : List (Option Tag)) (tasks : List (Option Task)) (entries : List Entry) (replies : List Reply) → CanRelease w cpu id line arena
     → IsReleased w.book book id arena line.base receipt t → hands ≡ set w.hands cpu (Some t) → tasks ≡ set w.tasks cpu None → entries ≡ Settled id (Return arena line.base) ∷ w.entries
-    → replies ≡ w.replies ++ settled_reply w id (Return arena line.base) ∷ []
+    → replies ≡ w.replies ++ reply_of_settled w id (Return arena line.base) ∷ []
     → TaskReleased cpu w (record w { hands = hands; tasks = tasks; book = book; entries = entries; replies = replies })
 releases w cpu id line arena t book receipt hands tasks entries replies can released held ended more told = record {
   id = id;

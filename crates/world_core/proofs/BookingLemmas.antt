@@ -24,7 +24,7 @@ use Rattle.lease_history.specs.Known.{IsFor}
 use Rattle.lease_history.specs.Told.{reply_to, MayTell}
 use Rattle.lease_history.proofs.LawProofs.{told_stays_told, hellos_keep_known, sweeps_keep_known, settlements_keep_known}
 use Rattle.world_core.specs.WorldState.{WorldState, arena_name, in_hands}
-use Rattle.world_core.specs.Moves.{IsAnswered, settled_reply, HelloTaken, HelloRefused, AnsweredAtOnce, TaskTaken, HasTask, TaskGranted, TaskRefused, TaskReleased, TaskEnded, TaskAnswered, TaskGivenUp, LeaseSwept}
+use Rattle.world_core.specs.Moves.{IsAnswered, reply_of_settled, HelloTaken, HelloRefused, AnsweredAtOnce, TaskTaken, HasTask, TaskGranted, TaskRefused, TaskReleased, TaskEnded, TaskAnswered, TaskGivenUp, LeaseSwept}
 use Rattle.world_core.specs.IsWorld.{IsWorld, IsDue, IsOfLines}
 use Rattle.world_core.proofs.Members.{each_written, each_pushed, each_cons}
 use Rattle.world_core.proofs.HandLemmas.{hand_leased}
@@ -197,7 +197,7 @@ settled_told names es id s = outcome_told names (Settled id s ∷ es) id (kept_r
 settles : (w : WorldState) (cpu : ℕ) (hands : List (Option Tag)) (book : BookState) (id : RequestId) (op : Op) (s : Settlement) → IsWorld w
     → HasTask w cpu id op → Enters (Settled id s) w.book book → IsFor (arena_name w.names) op s → IsDue w.stock w.names w.requests (Settled id s)
     → IsAccountedFor w.stock (outside (in_hands hands) (leased_segments book) w.caches)
-    → IsWorld (record w { hands = hands; tasks = set w.tasks cpu None; book = book; entries = Settled id s ∷ w.entries; replies = w.replies ++ settled_reply w id s ∷ [] })
+    → IsWorld (record w { hands = hands; tasks = set w.tasks cpu None; book = book; entries = Settled id s ∷ w.entries; replies = w.replies ++ reply_of_settled w id s ∷ [] })
 settles w cpu hands book id op s is task enters for due accounts =
     let names = arena_name w.names in
     let now : IsHistory (Settled id s ∷ w.entries) book = enters.history w.entries is.book in

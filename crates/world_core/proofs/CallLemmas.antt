@@ -32,7 +32,7 @@ use Rattle.stock.specs.Accounts.{IsAccounted, Frames}
 use Rattle.stock.specs.Steps.{OnArena, OnSlab, OnDepot, FreeIn, PutIn, CanImport, IsTaggedIn, IsOnGridOf}
 use Rattle.stock.specs.Answers.{NeverOverlaps, OnlyForMemory}
 use Rattle.stock.proofs.LawProofs.{always_tagged, always_out, out_weighs}
-use Rattle.stock_audit.specs.Outside.{all_rounds_out}
+use Rattle.stock.specs.OwnCaches.{all_own_rounds}
 use Rattle.lease_book.specs.BookState.{leased_segments}
 use Rattle.world_core.specs.WorldState.{WorldState, in_hands}
 use Rattle.world_core.specs.IsWorld.{IsWorld}
@@ -74,12 +74,12 @@ not_empty w cpu t a b = (let e : Some (Some t) ≡ Some None = sym a ∙ b in ab
 
 -- what else is out
 abbrev pub others : WorldState → ℕ → List Tag
-others w cpu = in_hands (set w.hands cpu None) ++ (leased_segments w.book ++ all_rounds_out w.caches)
+others w cpu = in_hands (set w.hands cpu None) ++ (leased_segments w.book ++ all_own_rounds w.caches)
 
 -- what is in a hand is out
 pub held_out : (w : WorldState) (cpu : ℕ) (t : Tag) → IsWorld w → HasInHand w cpu (Some t) → IsAccounted w.stock (t ∷ others w cpu)
 held_out w cpu t is held =
-    let rest : List Tag = leased_segments w.book ++ all_rounds_out w.caches in
+    let rest : List Tag = leased_segments w.book ++ all_own_rounds w.caches in
     record {
       stock = is.parts.parts;
       accounts = out_weighs w.stock (in_hands w.hands ++ rest) (t ∷ others w cpu) (λ f. omega (

@@ -6,9 +6,9 @@ use Rattle.std.proofs.lemmas.List.Sums.{sum_by-append}
 use Rattle.deed_core.specs.Tag.{Tag}
 use Rattle.deed_core.proofs.LawProofs.{sum_by-flat_map, sum_set}
 use Rattle.stock.specs.Spaces.{SpaceState}
-use Rattle.stock.specs.OwnCaches.{OwnCacheState}
+use Rattle.stock.specs.OwnCaches.{OwnCacheState, all_own_rounds}
 use Rattle.stock.proofs.LawProofs.{out_weighs}
-use Rattle.stock_audit.specs.Outside.{outside, all_rounds_out}
+use Rattle.stock_audit.specs.Outside.{outside}
 use Rattle.stock_audit.specs.Accounted.{IsAccountedFor}
 use Rattle.stock_audit.specs.Keeping.{IsStep}
 use Rattle.stock_audit.proofs.LawProofs.{hand_steps_keep}
@@ -63,15 +63,15 @@ module _ (spaces : List SpaceState) (hands : List (Option Tag)) (leases : List T
       → IsAccountedFor spaces (outside (in_hands hands) leases cpus) → IsAccountedFor spaces (outside (in_hands (set hands cpu new)) more cpus)
   hand_leased more even a = record {
     parts = a.parts;
-    accounts = out_weighs spaces (in_hands hands ++ (leases ++ all_rounds_out cpus)) (in_hands (set hands cpu new) ++ (more ++ all_rounds_out cpus))
+    accounts = out_weighs spaces (in_hands hands ++ (leases ++ all_own_rounds cpus)) (in_hands (set hands cpu new) ++ (more ++ all_own_rounds cpus))
         (λ f. omega (
           arith,
           even f,
           hand_set f hands cpu old new at,
-          sum_by-append f (in_hands hands) (leases ++ all_rounds_out cpus),
-          sum_by-append f (in_hands (set hands cpu new)) (more ++ all_rounds_out cpus),
-          sum_by-append f leases (all_rounds_out cpus),
-          sum_by-append f more (all_rounds_out cpus),
+          sum_by-append f (in_hands hands) (leases ++ all_own_rounds cpus),
+          sum_by-append f (in_hands (set hands cpu new)) (more ++ all_own_rounds cpus),
+          sum_by-append f leases (all_own_rounds cpus),
+          sum_by-append f more (all_own_rounds cpus),
         )) a.accounts;
     runs = a.runs;
     grid = a.grid;

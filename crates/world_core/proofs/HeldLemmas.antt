@@ -11,7 +11,8 @@ use Rattle.deed_core.specs.Extent.{Extent, Covers}
 use Rattle.deed_core.specs.Covering.{covers}
 use Rattle.deed_core.proofs.LawProofs.{covers_is}
 use Rattle.stock.specs.Laws.{HasTop, ApartUpChain}
-use Rattle.stock_audit.specs.Outside.{segments_out, all_rounds_out}
+use Rattle.stock_audit.specs.Outside.{segments_out}
+use Rattle.stock.specs.OwnCaches.{all_own_rounds}
 use Rattle.stock_audit.proofs.LawProofs.{out_never_overlaps}
 use Rattle.lease_book.specs.BookState.{leased_segments}
 use Rattle.lease_client.specs.declared.held.HeldSegment.{HeldSegment}
@@ -159,7 +160,7 @@ module _ (w : WorldState) (is : IsWorld w) (top unit : ℕ) (s t : HeldSegment) 
           pair i j x y before here there top (in_space x some).0 (in_space y more).0 unit (in_space x some).1 (in_space y more).1)
 
   one_leased : sum_by told_weight (leased_segments w.book) ≤ 1
-  one_leased = omega (arith, one_out, sum_by-append told_weight (in_hands w.hands) (leased_segments w.book ++ all_rounds_out w.caches), sum_by-append told_weight (leased_segments w.book) (all_rounds_out w.caches))
+  one_leased = omega (arith, one_out, sum_by-append told_weight (in_hands w.hands) (leased_segments w.book ++ all_own_rounds w.caches), sum_by-append told_weight (leased_segments w.book) (all_own_rounds w.caches))
 
 -- so one index alone
 pub held_apart : (w : WorldState) → IsWorld w

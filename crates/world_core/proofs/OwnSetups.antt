@@ -11,8 +11,8 @@ use Rattle.arena_tree.specs.declared.trees.TreeArena.{TreeArena}
 use Rattle.arena_tree.specs.Trees.{IsTree}
 use Rattle.stock.specs.Spaces.{SpaceState, SpacePlan, plan_of, plans_of, slab_size_of}
 use Rattle.stock.specs.Setups.{plan_for, plans_for}
-use Rattle.stock.specs.OwnCaches.{OwnCacheState, own_rounds}
-use Rattle.stock_audit.specs.Outside.{outside, all_rounds_out}
+use Rattle.stock.specs.OwnCaches.{OwnCacheState, own_rounds, all_own_rounds}
+use Rattle.stock_audit.specs.Outside.{outside}
 use Rattle.stock_audit.specs.Accounted.{IsOwnIn}
 use Rattle.stock_audit.proofs.LawProofs.{cpus_keep}
 use Rattle.lease_book.specs.BookState.{leased_segments}
@@ -163,10 +163,10 @@ caches_in_order (suc cpus) arenas = in_order_joined (own_owners cpus arenas) (re
     let b = replicated (length (own_rows 0 arenas)) cpus j c yours in
     omega (arith, a, b)))
 
-no_rounds : (xs : List OwnCacheState) → ((k : ℕ) (o : OwnCacheState) → slice_get xs k ≡ Some o → own_rounds o ≡ []) → all_rounds_out xs ≡ []
+no_rounds : (xs : List OwnCacheState) → ((k : ℕ) (o : OwnCacheState) → slice_get xs k ≡ Some o → own_rounds o ≡ []) → all_own_rounds xs ≡ []
 no_rounds [] none = refl
 no_rounds (x ∷ xs) none =
-    ap (λ (ts : List Tag). ts ++ all_rounds_out xs) (none 0 x refl) ∙ no_rounds xs (λ k o at. none (suc k) o at)
+    ap (λ (ts : List Tag). ts ++ all_own_rounds xs) (none 0 x refl) ∙ no_rounds xs (λ k o at. none (suc k) o at)
 
 -- Each is of a quantum cache that stands.
 module _ (arenas : List TreeArena) (tree : IsTree arenas) (stock : List SpaceState) (plans : plans_of stock ≡ plans_for arenas) where

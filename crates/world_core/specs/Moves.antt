@@ -67,8 +67,8 @@ IsAnswered w id reply = (r : ReceiptState) × IsRepeated w.book (account_in id.c
     × (reply ≡ reply_to (arena_name w.names) id r.reply)
 
 -- the reply to a request that is settled now
-abbrev pub settled_reply : WorldState → RequestId → Settlement → Reply
-settled_reply w id s = reply_to (arena_name w.names) id (kept_reply_of s)
+abbrev pub reply_of_settled : WorldState → RequestId → Settlement → Reply
+reply_of_settled w id s = reply_to (arena_name w.names) id (kept_reply_of s)
 
 -- out of memory: nothing is settled
 abbrev pub again_of : RequestId → Reply
@@ -170,7 +170,7 @@ pub record TaskGranted (cpu : ℕ) (old new : WorldState) : Type 0 where
     tasks = set old.tasks cpu None;
     book = book;
     entries = Settled id (Grant segment terms) ∷ old.entries;
-    replies = old.replies ++ settled_reply old id (Grant segment terms) ∷ [];
+    replies = old.replies ++ reply_of_settled old id (Grant segment terms) ∷ [];
   }
 
 -- the request is settled by a refusal, and hands stay as they are
@@ -185,7 +185,7 @@ pub record TaskRefused (cpu : ℕ) (why : Refusal) (old new : WorldState) : Type
     tasks = set old.tasks cpu None;
     book = book;
     entries = Settled id (Refuse why) ∷ old.entries;
-    replies = old.replies ++ settled_reply old id (Refuse why) ∷ [];
+    replies = old.replies ++ reply_of_settled old id (Refuse why) ∷ [];
   }
 
 -- the client of the request that the CPU serves has as many leases as one may have
@@ -216,7 +216,7 @@ pub record TaskReleased (cpu : ℕ) (old new : WorldState) : Type 0 where
     tasks = set old.tasks cpu None;
     book = book;
     entries = Settled id (Return arena release.base) ∷ old.entries;
-    replies = old.replies ++ settled_reply old id (Return arena release.base) ∷ [];
+    replies = old.replies ++ reply_of_settled old id (Return arena release.base) ∷ [];
   }
 
 -- the request ends unsettled, with a reply that may come

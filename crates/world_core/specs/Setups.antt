@@ -3,7 +3,6 @@ use Rattle.std.specs.Prelude.{◌≡◌, ℕ, false, zero, suc, ◌+◌, ◌/◌
 use Rattle.std.specs.Prelude.{replicate, None}
 use Rattle.arena_tree.specs.declared.trees.TreeArena.{TreeArena}
 use Rattle.arena_tree.specs.Settings.{SetupState}
-use Rattle.magazine_layer.specs.Magazines.{BothEmpty}
 use Rattle.stock.specs.OwnCaches.{OwnCacheState}
 use Rattle.stock.specs.Setups.{IsSetUpFrom, numbered_deeds}
 use Rattle.lease_book.specs.BookState.{IsHistory}
@@ -18,10 +17,6 @@ empty_own arena cache quantum = record {
   quantum = quantum;
   cpu = record { size = 3; loaded = []; previous = [] };
 }
-
--- it has no round
-abbrev pub IsEmptyOwn : OwnCacheState → Type 0
-IsEmptyOwn o = BothEmpty o.cpu
 
 -- one for each of the first so many quantum caches of an arena
 abbrev pub own_row : ℕ → ℕ → ℕ → List OwnCacheState

@@ -1,6 +1,7 @@
 //! What CPUs get of their own when a world is made: a cache for each quantum cache.
 ghost use Rattle.std.specs.Prelude.{◌≡◌, ◌<◌, [], ◌++◌, All, length, replicate, IfOk, OnOk};
-ghost use Rattle.world_core.specs.Setups.{own_row, own_rows, own_caches, own_owners, IsEmptyOwn};
+ghost use Rattle.world_core.specs.Setups.{own_row, own_rows, own_caches, own_owners};
+ghost use Rattle.stock.specs.OwnCaches.{HasNoRound};
 
 use arena_tree::Tree;
 use deed_core::Deed;
@@ -21,7 +22,7 @@ impl<D: Deed> OwnCaches<D> {
     pub(crate) fn of(alloc: Global, tree: &Tree, cpus: usize) -> Result<OwnCaches<D>, AllocError>
         ensures owners { IfOk result (λ own. own.owners.items ≡ own_owners cpus tree.now) }
         ensures caches { IfOk result (λ own. own.caches.items ≡ own_caches cpus tree.now) }
-        ensures empty { IfOk result (λ own. All IsEmptyOwn own.caches.items) }
+        ensures empty { IfOk result (λ own. All HasNoRound own.caches.items) }
     {
         let mut own = OwnCaches {
             owners: Vec::new(alloc),
@@ -42,7 +43,7 @@ impl<D: Deed> OwnCaches<D> {
         requires caches { self.old.caches.items ≡ [] }
         ensures owners { OnOk result (self.new.owners.items ≡ own_owners cpus tree.now) }
         ensures caches { OnOk result (self.new.caches.items ≡ own_caches cpus tree.now) }
-        ensures empty { All IsEmptyOwn self.new.caches.items }
+        ensures empty { All HasNoRound self.new.caches.items }
     {
         for cpu in 0..cpus {
             self.add_cpu(alloc, tree, cpu)?;
@@ -56,8 +57,8 @@ impl<D: Deed> OwnCaches<D> {
             ≡ self.old.owners.items ++ replicate (length (own_rows 0 tree.now)) cpu) }
         ensures caches { OnOk result
             (self.new.caches.items ≡ self.old.caches.items ++ own_rows 0 tree.now) }
-        ensures empty { All IsEmptyOwn self.old.caches.items
-            → All IsEmptyOwn self.new.caches.items }
+        ensures empty { All HasNoRound self.old.caches.items
+            → All HasNoRound self.new.caches.items }
     {
         for index in 0..tree.len() {
             let arena = tree.arena(index as u32);
@@ -81,8 +82,8 @@ impl<D: Deed> OwnCaches<D> {
             (self.new.owners.items ≡ self.old.owners.items ++ replicate count cpu) }
         ensures caches { OnOk result
             (self.new.caches.items ≡ self.old.caches.items ++ own_row arena quantum count) }
-        ensures empty { All IsEmptyOwn self.old.caches.items
-            → All IsEmptyOwn self.new.caches.items }
+        ensures empty { All HasNoRound self.old.caches.items
+            → All HasNoRound self.new.caches.items }
     {
         for cache in 0..count {
             self.owners.push(cpu)?;
@@ -95,7 +96,7 @@ impl<D: Deed> OwnCaches<D> {
 
     /// Ends those of which none has a round.
     pub(crate) fn close(self)
-        requires { All IsEmptyOwn self.caches.items }
+        requires { All HasNoRound self.caches.items }
     {
         let OwnCaches {
             owners: _,

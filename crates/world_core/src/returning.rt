@@ -4,8 +4,7 @@ ghost use Rattle.std.specs.Option.{option_to_list};
 ghost use Rattle.deed_core.specs.Tag.{Tag};
 ghost use Rattle.lease_book.specs.BookState.{leased_segments};
 ghost use Rattle.stock.specs.Accounts.{Accounts};
-ghost use Rattle.stock.specs.OwnCaches.{own_rounds};
-ghost use Rattle.stock_audit.specs.Outside.{all_rounds_out};
+ghost use Rattle.stock.specs.OwnCaches.{own_rounds, all_own_rounds};
 ghost use Rattle.world_core.specs.WorldState.{in_hands};
 
 use deed_core::{PlainDeed, Segment};
@@ -50,8 +49,8 @@ pub(crate) fn end_leases(stock: &mut Stock<PlainDeed>, book: &mut Book<PlainDeed
 
 /// Ends CPUs' own caches, and takes their rounds back.
 pub(crate) fn end_caches(stock: &mut Stock<PlainDeed>, mut caches: Vec<OwnCache<PlainDeed>>)
-    requires { (others : List Tag) × Accounts stock.old (all_rounds_out caches.items ++ others) }
-    ensures { (others : List Tag) → Accounts stock.old (all_rounds_out caches.items ++ others)
+    requires { (others : List Tag) × Accounts stock.old (all_own_rounds caches.items ++ others) }
+    ensures { (others : List Tag) → Accounts stock.old (all_own_rounds caches.items ++ others)
         → Accounts stock.new others }
 {
     while let Some(own) = caches.pop() {

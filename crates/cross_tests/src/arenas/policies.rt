@@ -101,25 +101,27 @@ fn a_list_is_one_look(rt: HostRuntime) {
     close(&rt, arena);
 }
 
-/// Of three spans the shorter two don't serve the request: all three are looked at.
+/// Of four spans the shorter three don't serve the request: all are looked at but the one with no
+/// base on its grid.
 #[test]
 fn each_look_is_counted(rt: HostRuntime) {
+    let spans = [(0, 4), (8, 4), (16, 4), (32, 16)];
     let mut arena = Arena::new(rt.alloc(), 1, 1, Policy::Best);
-    for (base, len) in [(0, 4), (8, 4), (16, 16)] {
+    for (base, len) in spans {
         add(&rt, &mut arena, span(&rt, 1, base, len));
     }
     let bound = Request {
         align: 16,
-        min: 1,
+        min: 17,
         ..Request::plain(4)
     };
-    let third = grant(&rt, &mut arena, &bound, 16, 4);
+    let third = grant(&rt, &mut arena, &bound, 32, 4);
     assert_eq!(rt; arena.probes(), 3);
     let first = grant(&rt, &mut arena, &Request::plain(4), 0, 4);
     assert_eq!(rt; arena.probes(), 1);
     give_back(&rt, &mut arena, third);
     give_back(&rt, &mut arena, first);
-    for (base, len) in [(0, 4), (8, 4), (16, 16)] {
+    for (base, len) in spans {
         end_span(&rt, &mut arena, base, len);
     }
     close(&rt, arena);

@@ -17,9 +17,18 @@ use std::sync::Wait;
 use tag_arena::Policy;
 
 #[test]
-fn of_roots(rt: HostRuntime) {
+fn running_rows(rt: HostRuntime) {
+    of_roots(&rt);
+    of_constraints(&rt);
+    of_policies(&rt);
+    of_caches(&rt);
+    of_imports(&rt);
+    of_most_leases(&rt);
+}
+
+fn of_roots<R: Abort + Wait + AllocGlobal>(rt: &R) {
     talk(
-        &rt,
+        rt,
         &["root m 0 64 1 best 0"],
         &[
             ("hello 1 1", "welcome 1 1"),
@@ -28,7 +37,7 @@ fn of_roots(rt: HostRuntime) {
         ],
     );
     talk(
-        &rt,
+        rt,
         &["root m 0 64 1 best 0"],
         &[
             ("hello 1 1", "welcome 1 1"),
@@ -37,7 +46,7 @@ fn of_roots(rt: HostRuntime) {
         ],
     );
     talk(
-        &rt,
+        rt,
         &["root p 1 4 1 best 0"],
         &[
             ("hello 1 1", "welcome 1 1"),
@@ -49,7 +58,7 @@ fn of_roots(rt: HostRuntime) {
         ],
     );
     talk(
-        &rt,
+        rt,
         &["root p 1 4 1 best 0"],
         &[
             ("hello 1 1", "welcome 1 1"),
@@ -61,10 +70,9 @@ fn of_roots(rt: HostRuntime) {
     );
 }
 
-#[test]
-fn of_constraints(rt: HostRuntime) {
+fn of_constraints<R: Abort + Wait + AllocGlobal>(rt: &R) {
     talk(
-        &rt,
+        rt,
         &["root m 0 64 1 best 0"],
         &[
             ("hello 1 1", "welcome 1 1"),
@@ -79,7 +87,7 @@ fn of_constraints(rt: HostRuntime) {
         ],
     );
     talk(
-        &rt,
+        rt,
         &["root m 0 64 1 best 0"],
         &[
             ("hello 1 1", "welcome 1 1"),
@@ -88,7 +96,7 @@ fn of_constraints(rt: HostRuntime) {
         ],
     );
     talk(
-        &rt,
+        rt,
         &["root q 0 64 4 best 0"],
         &[
             ("hello 1 1", "welcome 1 1"),
@@ -100,10 +108,9 @@ fn of_constraints(rt: HostRuntime) {
     );
 }
 
-#[test]
-fn of_policies(rt: HostRuntime) {
+fn of_policies<R: Abort + Wait + AllocGlobal>(rt: &R) {
     talk(
-        &rt,
+        rt,
         &["root pid 1 8 1 next 0"],
         &[
             ("hello 1 1", "welcome 1 1"),
@@ -121,7 +128,7 @@ fn of_policies(rt: HostRuntime) {
         ],
     );
     talk(
-        &rt,
+        rt,
         &["root x 0 15 1 instant 0"],
         &[
             ("hello 1 1", "welcome 1 1"),
@@ -136,7 +143,7 @@ fn of_policies(rt: HostRuntime) {
         ],
     );
     talk(
-        &rt,
+        rt,
         &["root x 0 15 1 instant 0"],
         &[
             ("hello 1 1", "welcome 1 1"),
@@ -150,7 +157,7 @@ fn of_policies(rt: HostRuntime) {
         ],
     );
     talk(
-        &rt,
+        rt,
         &["root t 0 12 1 instant 0"],
         &[
             ("hello 1 1", "welcome 1 1"),
@@ -165,10 +172,9 @@ fn of_policies(rt: HostRuntime) {
     );
 }
 
-#[test]
-fn of_caches(rt: HostRuntime) {
+fn of_caches<R: Abort + Wait + AllocGlobal>(rt: &R) {
     talk(
-        &rt,
+        rt,
         &["root d 0 64 1 instant 5"],
         &[
             ("hello 1 1", "welcome 1 1"),
@@ -179,7 +185,7 @@ fn of_caches(rt: HostRuntime) {
         ],
     );
     talk(
-        &rt,
+        rt,
         &["root d 0 64 1 instant 5"],
         &[
             ("hello 1 1", "welcome 1 1"),
@@ -198,7 +204,7 @@ fn of_caches(rt: HostRuntime) {
         ],
     );
     talk(
-        &rt,
+        rt,
         &["root d 0 64 1 instant 5"],
         &[
             ("hello 1 1", "welcome 1 1"),
@@ -226,7 +232,7 @@ fn of_caches(rt: HostRuntime) {
         ],
     );
     talk(
-        &rt,
+        rt,
         &["root s 0 8 1 instant 2"],
         &[
             ("hello 1 1", "welcome 1 1"),
@@ -237,10 +243,9 @@ fn of_caches(rt: HostRuntime) {
     );
 }
 
-#[test]
-fn of_imports(rt: HostRuntime) {
+fn of_imports<R: Abort + Wait + AllocGlobal>(rt: &R) {
     talk(
-        &rt,
+        rt,
         &["root r 0 64 1 best 0", "child c r 1 best 0 16"],
         &[
             ("hello 1 1", "welcome 1 1"),
@@ -251,7 +256,7 @@ fn of_imports(rt: HostRuntime) {
         ],
     );
     talk(
-        &rt,
+        rt,
         &[
             "root a 0 64 16 best 0",
             "child b a 4 best 0 0",
@@ -265,13 +270,12 @@ fn of_imports(rt: HostRuntime) {
     );
 }
 
-/// A client that has 1,024 leases, as many as one may.
-#[test]
-fn of_most_leases(rt: HostRuntime) {
+// A client that has 1,024 leases, as many as one may.
+fn of_most_leases<R: Abort + Wait + AllocGlobal>(rt: &R) {
     let mut setup = Setup::new(rt.alloc());
-    set_up(&rt, &mut setup, "root m 0 2048 1 best 0");
-    let ground = Ground::new(rt.alloc()).expect(&rt, "a table");
-    leased::<Brand, _>(&rt, ground, setup);
+    set_up(rt, &mut setup, "root m 0 2048 1 best 0");
+    let ground = Ground::new(rt.alloc()).expect(rt, "a table");
+    leased::<Brand, _>(rt, ground, setup);
 }
 
 // Asks the lines of a system of the setup, which ends then.
@@ -334,7 +338,7 @@ fn lease_one<N: Name, R: Abort + Wait + AllocGlobal>(
     };
     match system.request(rt, cpu, &OpenGate, &Line::Request(id, Op::Lease(lease))) {
         Ok((Reply::Granted(grant), _)) => {
-            assert!(rt; grant.base.get() == number.saturating_sub(1));
+            assert!(rt; grant.base.get() == number.saturating_sub(1) && grant.len.get() == 1);
         }
         _ => panic!(rt; "no grant"),
     }

@@ -63,7 +63,19 @@ fn two_at_once(rt: HostRuntime) -> Result<(), Fail> {
     Ok(())
 }
 
-// The gate holds call 1 before its settle until call 2 is answered.
+/// What two workers tell each other.
+#[derive(Drop)]
+struct Flags {
+    /// The second worker runs.
+    runs: AtomicBool,
+    /// Call 1 is held before its settle.
+    held: AtomicBool,
+    /// Call 2 is answered.
+    answered: AtomicBool,
+}
+
+// The gate holds call 1, which begins once the second worker runs, before its settle until call 2
+// is answered.
 fn at_once<N: Name + Send + Sync, R: Abort + Wait + Threads + Clock + AllocGlobal + Sync>(
     rt: &R,
     ground: Ground,
@@ -72,12 +84,16 @@ fn at_once<N: Name + Send + Sync, R: Abort + Wait + Threads + Clock + AllocGloba
     requires { ground ≡ N.table }
 {
     let system: System<N> = made(rt, ground, setup);
-    let (held, answered) = (AtomicBool::new(false), AtomicBool::new(false));
-    let (shared, waits, ends) = (&system, &held, &answered);
+    let flags = Flags {
+        runs: AtomicBool::new(false),
+        held: AtomicBool::new(false),
+        answered: AtomicBool::new(false),
+    };
+    let (shared, told) = (&system, &flags);
     thread::join(
         rt,
-        move || second(rt, shared, waits, ends),
-        move || first(rt, shared, waits, ends),
+        move || second(rt, shared, told),
+        move || first(rt, shared, told),
     );
     shut(rt, system, &[(0, 8), (8, 8)]);
 }
@@ -85,12 +101,16 @@ fn at_once<N: Name + Send + Sync, R: Abort + Wait + Threads + Clock + AllocGloba
 fn first<N: Name, R: Abort + Wait + Clock + AllocGlobal>(
     rt: &R,
     system: &System<N>,
-    held: &AtomicBool,
-    answered: &AtomicBool,
+    flags: &Flags,
 ) {
     let mut cpu = cpu(rt, system, 0);
+    assert!(rt; raised(rt, &flags.runs), "the second worker doesn't run");
     ask(rt, system, &mut cpu, "hello 1 1", "welcome 1 1");
-    let gate = Hold { rt, held, answered };
+    let gate = Hold {
+        rt,
+        held: &flags.held,
+        answered: &flags.answered,
+    };
     match system.request(rt, &mut cpu, &gate, &line(rt, "lease 1 1 1 m 4")) {
         Ok((reply, _)) => same(rt, &reply, "granted 1 1 1 m 0 4"),
         Err(RequestStopped) => panic!(rt; "call 2 wasn't answered beside call 1"),
@@ -102,11 +122,11 @@ fn first<N: Name, R: Abort + Wait + Clock + AllocGlobal>(
 fn second<N: Name, R: Abort + Wait + Clock + AllocGlobal>(
     rt: &R,
     system: &System<N>,
-    held: &AtomicBool,
-    answered: &AtomicBool,
+    flags: &Flags,
 ) {
     let mut cpu = cpu(rt, system, 1);
-    assert!(rt; raised(rt, held), "call 1 isn't held");
+    flags.runs.store(true, Ordering::SeqCst);
+    assert!(rt; raised(rt, &flags.held), "call 1 isn't held");
     ask(rt, system, &mut cpu, "hello 2 1", "welcome 2 1");
     ask(
         rt,
@@ -122,7 +142,7 @@ fn second<N: Name, R: Abort + Wait + Clock + AllocGlobal>(
         "lease 2 1 2 p 4",
         "granted 2 1 2 p 8 4",
     );
-    answered.store(true, Ordering::SeqCst);
+    flags.answered.store(true, Ordering::SeqCst);
     retire(rt, system, cpu);
 }
 

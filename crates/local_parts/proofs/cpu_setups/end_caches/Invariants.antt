@@ -1,5 +1,5 @@
 use Rattle.std.proofs.Common.{All, vec_len}
-use Rattle.local_parts.specs.Cpus.{HasNoRound}
+use Rattle.stock.specs.OwnCaches.{HasNoRound}
 use Rattle.local_parts.proofs.cpu_setups.end_caches.Given as goal
 
 abbrev pub invariant-loop-own : goal.invariant-loop-own

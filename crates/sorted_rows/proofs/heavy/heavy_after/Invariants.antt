@@ -5,7 +5,10 @@ use Rattle.sorted_rows.specs.Weights.{weighs}
 use Rattle.sorted_rows.proofs.heavy.heavy_after.Given as goal
 
 abbrev pub invariant-loop-seat : goal.invariant-loop-seat
-invariant-loop-seat g l = find (weighs g.T.RowEntry.weight l.least) (flat (drop l.from l.rows)) ≡ find (weighs g.T.RowEntry.weight l.least) (flat (drop l.seat l.rows))
+invariant-loop-seat g l = record {
+  same : l.rows ≡ l.initial.rows;
+  found : find (weighs (g.T.RowEntry.weight l.measure) l.least) (flat (drop l.from l.initial.rows)) ≡ find (weighs (g.T.RowEntry.weight l.measure) l.least) (flat (drop l.seat l.initial.rows));
+}
 
 abbrev pub decreases-loop-seat : goal.decreases-loop-seat
 decreases-loop-seat g l = length l.rows - l.seat

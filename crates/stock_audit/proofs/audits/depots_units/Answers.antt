@@ -3,7 +3,7 @@ use Rattle.deed_core.specs.Tag.{Tag}
 use Rattle.deed_core.specs.Covering.{units_in, units_held, units_tagged}
 use Rattle.deed_core.proofs.LawProofs.{slice_get_some, sum_by-map, sum_by-flat_map}
 use Rattle.magazine_layer.specs.Depots.{depot_rounds}
-use Rattle.stock.specs.Sums.{holdings_of}
+use Rattle.tag_arena.specs.Spanned.{holdings_of}
 use Rattle.stock.specs.Spaces.{QuantumCacheState}
 use Rattle.stock_audit.proofs.Counting.{cache_stands, cache_more, cache_fits, all_counted}
 use Rattle.stock_audit.proofs.audits.depots_units.Goals as goal

@@ -2,7 +2,7 @@ use Rattle.std.proofs.Common.{◌≡◌, take, sum_by, Some}
 use Rattle.std.specs.Prelude.{slice_get}
 use Rattle.deed_core.specs.Covering.{units_held}
 use Rattle.magazine_layer.specs.Depots.{depot_rounds}
-use Rattle.stock.specs.Sums.{holdings_of}
+use Rattle.tag_arena.specs.Spanned.{holdings_of}
 use Rattle.stock.specs.Spaces.{SpaceState}
 use Rattle.stock_audit.proofs.audits.depots_units.Given as goal
 

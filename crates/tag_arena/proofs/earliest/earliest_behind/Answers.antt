@@ -1,10 +1,13 @@
-use Rattle.std.proofs.Common.{ℕ, ◌+◌, ◌*◌, ◌^◌, ◌<◌, ◌≤◌, Contains, sym, ap, ◌∙◌, subst, arith}
+use Rattle.std.proofs.Common.{ℕ, ◌+◌, ◌*◌, ◌^◌, ◌<◌, ◌≡◌, ◌≤◌, Contains, None, Some, sym, ap, ◌∙◌, subst, arith}
 use Rattle.deed_core.specs.Holding.{Holding}
 use Rattle.deed_core.specs.Request.{rounding_of}
+use Rattle.sorted_rows.specs.Order.{Rises}
+use Rattle.sorted_rows.specs.Weights.{heavy_from}
 use Rattle.tag_arena.specs.Place.{ServesIn}
 use Rattle.tag_arena.specs.FreeTags.{ranges_by_age}
-use Rattle.tag_arena.specs.Orders.{rank_of, entry_of}
+use Rattle.tag_arena.specs.Orders.{rank_of, weight_of, entry_of}
 use Rattle.tag_arena.specs.declared.orders.Order.TheVariants.{Rising}
+use Rattle.tag_arena.specs.declared.reaches.Measure.TheVariants.{Length}
 use Rattle.tag_arena.proofs.Listing.{Some-injective}
 use Rattle.tag_arena.proofs.Indexing.{range_is_free}
 use Rattle.tag_arena.proofs.Lasting.{all_ranges}
@@ -19,10 +22,12 @@ tag-requires g c =
     let tags = c.args.slots.now.tags in
     let m = c.requires.mirrors in
     let are = c.requires.tags.1 in
-    let rises = c.first_weighing.ensures.rises in
+    let same = ap (λ s. s.items) c.loop-entry.invariant.kept in
+    let rises = subst (Rises rank_of) same c.first_weighing.ensures.rises in
     let from : ℕ = c.loop-entry.from in
     let e = c.in-Some.entry in
-    let first = is_heavy rank_of (λ x. x.minor) (from * 2 ^ 64 + 0) c.args.units items rises e (sym c.first_weighing.ensures.first ∙ c.in-Some.is) in
+    let met = subst (λ l. heavy_from rank_of (weight_of Length) (from * 2 ^ 64 + 0) c.args.units l ≡ Some e) same (sym c.first_weighing.ensures.first ∙ c.in-Some.is) in
+    let first = is_heavy rank_of (weight_of Length) (from * 2 ^ 64 + 0) c.args.units items rises e met in
     let w = m.from e (first.place, first.within, first.here) in
     (w.0, w.1)
 
@@ -33,10 +38,12 @@ returns-in-Some-least_in-clause-least g c =
     let tags = c.args.slots.now.tags in
     let m = c.requires.mirrors in
     let are = c.requires.tags.1 in
-    let rises = c.first_weighing.ensures.rises in
+    let same = ap (λ s. s.items) c.loop-entry.invariant.kept in
+    let rises = subst (Rises rank_of) same c.first_weighing.ensures.rises in
     let from : ℕ = c.loop-entry.from in
     let e = c.in-Some.entry in
-    let first = is_heavy rank_of (λ x. x.minor) (from * 2 ^ 64 + 0) c.args.units items rises e (sym c.first_weighing.ensures.first ∙ c.in-Some.is) in
+    let met = subst (λ l. heavy_from rank_of (weight_of Length) (from * 2 ^ 64 + 0) c.args.units l ≡ Some e) same (sym c.first_weighing.ensures.first ∙ c.in-Some.is) in
+    let first = is_heavy rank_of (weight_of Length) (from * 2 ^ 64 + 0) c.args.units items rises e met in
     let w = m.from e (first.place, first.within, first.here) in
     let t = c.tag.result in
     let at = sym c.tag.ensures in
@@ -50,7 +57,7 @@ returns-in-Some-least_in-clause-least g c =
     let found = c.in-Some-least_in.ensures in
     let base = c.in-Some-least_in.base in
     let serves = subst (λ h. ServesIn c.args.quantum q h base) range found.0.0 in
-    earliest_here free all c.requires.apart c.args.quantum q c.args.start from t.range among c.loop-entry.invariant light base serves found.0.1
+    earliest_here free all c.requires.apart c.args.quantum q c.args.start from t.range among c.loop-entry.invariant.below light base serves found.0.1
     (λ b s past. found.1 b (subst (λ h. ServesIn c.args.quantum q h b) (sym range) s, past))
 
 pub returns-in-Some-least_in-clause-placed : goal.returns-in-Some-least_in-clause-placed
@@ -70,10 +77,12 @@ loop-entry-smaller g c =
     let tags = c.args.slots.now.tags in
     let m = c.requires.mirrors in
     let are = c.requires.tags.1 in
-    let rises = c.first_weighing.ensures.rises in
+    let same = ap (λ s. s.items) c.loop-entry.invariant.kept in
+    let rises = subst (Rises rank_of) same c.first_weighing.ensures.rises in
     let from : ℕ = c.loop-entry.from in
     let e = c.in-Some.entry in
-    let first = is_heavy rank_of (λ x. x.minor) (from * 2 ^ 64 + 0) c.args.units items rises e (sym c.first_weighing.ensures.first ∙ c.in-Some.is) in
+    let met = subst (λ l. heavy_from rank_of (weight_of Length) (from * 2 ^ 64 + 0) c.args.units l ≡ Some e) same (sym c.first_weighing.ensures.first ∙ c.in-Some.is) in
+    let first = is_heavy rank_of (weight_of Length) (from * 2 ^ 64 + 0) c.args.units items rises e met in
     let w = m.from e (first.place, first.within, first.here) in
     let t = c.tag.result in
     let at = sym c.tag.ensures in
@@ -88,7 +97,7 @@ loop-entry-smaller g c =
     let rank = ap rank_of is in
     let top = (are e.slot t at).range.below in
     let next : ℕ = (c.base-from.result + 1) * 2 ^ 64 + 0 in
-    heavy_grows rank_of (λ x. x.minor) (from * 2 ^ 64 + 0) c.args.units items rises e next first (omega (arith, base, rank, top))
+    heavy_grows rank_of (weight_of Length) (from * 2 ^ 64 + 0) c.args.units items rises e next first (omega (arith, base, rank, top))
 
 pub loop-entry-preserved : goal.loop-entry-preserved
 loop-entry-preserved g c =
@@ -97,10 +106,12 @@ loop-entry-preserved g c =
     let tags = c.args.slots.now.tags in
     let m = c.requires.mirrors in
     let are = c.requires.tags.1 in
-    let rises = c.first_weighing.ensures.rises in
+    let same = ap (λ s. s.items) c.loop-entry.invariant.kept in
+    let rises = subst (Rises rank_of) same c.first_weighing.ensures.rises in
     let from : ℕ = c.loop-entry.from in
     let e = c.in-Some.entry in
-    let first = is_heavy rank_of (λ x. x.minor) (from * 2 ^ 64 + 0) c.args.units items rises e (sym c.first_weighing.ensures.first ∙ c.in-Some.is) in
+    let met = subst (λ l. heavy_from rank_of (weight_of Length) (from * 2 ^ 64 + 0) c.args.units l ≡ Some e) same (sym c.first_weighing.ensures.first ∙ c.in-Some.is) in
+    let first = is_heavy rank_of (weight_of Length) (from * 2 ^ 64 + 0) c.args.units items rises e met in
     let w = m.from e (first.place, first.within, first.here) in
     let t = c.tag.result in
     let at = sym c.tag.ensures in
@@ -112,9 +123,12 @@ loop-entry-preserved g c =
     let units = c.requires.units in
     let light : (r : Holding) → Contains free r → from ≤ r.range.base → r.range.base < t.range.range.base → r.range.len < rounding_of c.args.quantum q.size = λ r h low lt. (let short = light_between c.args.units from c.requires.tags.0 items tags m rises are e t first is r h low lt in omega (arith, short, units)) in
     let base = c.base-from.ensures.value ∙ ap (λ h. h.range.base) range in
-    none_with free all c.requires.apart c.args.quantum q c.args.start from t.range among c.loop-entry.invariant light
-    (λ b s past. c.in_default-least_in.ensures b (subst (λ h. ServesIn c.args.quantum q h b) (sym range) s, past))
-    (c.base-from.result + 1) (omega (arith, base))
+    record {
+      kept = c.first_weighing.ensures.unchanged ∙ c.loop-entry.invariant.kept;
+      below = none_with free all c.requires.apart c.args.quantum q c.args.start from t.range among c.loop-entry.invariant.below light
+          (λ b s past. c.in_default-least_in.ensures b (subst (λ h. ServesIn c.args.quantum q h b) (sym range) s, past))
+          (c.base-from.result + 1) (omega (arith, base));
+    }
 
 pub returns-clause-least : goal.returns-clause-least
 returns-clause-least g c =
@@ -122,6 +136,8 @@ returns-clause-least g c =
     let tags = c.args.slots.now.tags in
     let from : ℕ = c.loop-entry.from in
     let units = c.requires.units in
-    let none = sym c.first_weighing.ensures.first ∙ c.in_default.is in
-    earliest_none (ranges_by_age tags) (all_ranges c.requires.tags.0 tags c.requires.tags.1) c.requires.apart c.args.quantum c.args.request.now c.args.start from c.loop-entry.invariant
-    (λ r h low. let short = light_behind c.args.units from c.requires.tags.0 items tags c.requires.mirrors c.first_weighing.ensures.rises c.requires.tags.1 none r h low in omega (arith, short, units))
+    let same = ap (λ s. s.items) c.loop-entry.invariant.kept in
+    let rises = subst (Rises rank_of) same c.first_weighing.ensures.rises in
+    let none = subst (λ l. heavy_from rank_of (weight_of Length) (from * 2 ^ 64 + 0) c.args.units l ≡ None) same (sym c.first_weighing.ensures.first ∙ c.in_default.is) in
+    earliest_none (ranges_by_age tags) (all_ranges c.requires.tags.0 tags c.requires.tags.1) c.requires.apart c.args.quantum c.args.request.now c.args.start from c.loop-entry.invariant.below
+    (λ r h low. let short = light_behind c.args.units from c.requires.tags.0 items tags c.requires.mirrors rises c.requires.tags.1 none r h low in omega (arith, short, units))

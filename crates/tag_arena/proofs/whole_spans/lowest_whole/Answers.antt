@@ -1,7 +1,7 @@
 use Rattle.std.proofs.Common.{Contains, Some, sym, ap, subst, ◌∙◌, arith}
 use Rattle.deed_core.specs.Extent.{end_of}
 use Rattle.deed_core.specs.Holding.{Holding}
-use Rattle.tag_arena.specs.Spanned.{tag_holdings, IsFirstPast, IsLowestFree}
+use Rattle.tag_arena.specs.Spanned.{holdings_of, IsFirstPast, IsLowestFree}
 use Rattle.tag_arena.proofs.SpanFinding.{lowest_here, passed_more, none_lowest}
 use Rattle.tag_arena.proofs.whole_spans.lowest_whole.Goals as goal
 
@@ -11,7 +11,7 @@ returns-then-has g c =
     let free = c.args.free.now.ranges in
     let first = subst (IsFirstPast c.loop-next.from tags) c.in-Some.is c.first_past.ensures in
     let there = subst (Contains free) c.span-span.ensures c.if-has.ensures in
-    subst (λ (h : Holding). IsLowestFree (tag_holdings tags) free (Some h)) (sym c.span-span.ensures) (lowest_here tags c.loop-next.from c.in-Some.next first c.requires.disjoint free c.loop-next.invariant there)
+    subst (λ (h : Holding). IsLowestFree (holdings_of tags) free (Some h)) (sym c.span-span.ensures) (lowest_here tags c.loop-next.from c.in-Some.next first c.requires.disjoint free c.loop-next.invariant there)
 
 pub loop-next-preserved : goal.loop-next-preserved
 loop-next-preserved g c =

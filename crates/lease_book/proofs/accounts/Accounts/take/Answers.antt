@@ -3,7 +3,7 @@ use Rattle.std.specs.List.{remove}
 use Rattle.std.proofs.Math.ListN.{set}
 use Rattle.std.proofs.lemmas.List.Edits.{length-remove}
 use Rattle.lease_book.specs.Account.{Lease, Account}
-use Rattle.lease_book.specs.Shelf.{accounts_of, changed_at, with_leases}
+use Rattle.lease_book.specs.Shelf.{accounts_of, update_at, with_leases}
 use Rattle.lease_book.proofs.ShelfLemmas.{within_parts, shelf_set, empty_set, past_empty, limited_at, leases_there, leases_here, write_leases}
 use Rattle.lease_book.proofs.accounts.Accounts.take.Goals as goal
 
@@ -36,4 +36,4 @@ returns-clause-lease g c =
 pub returns-clause-rest : goal.returns-clause-rest
 returns-clause-rest g c =
     ap (λ (l : List Lease). accounts_of c.self.inside.clients.entries (set c.self.inside.leases.items c.args.index l)) c.take.ensures.rest
-    ∙ write_leases (λ ls. remove ls c.args.lease) _ _ _ _ c.index_mut.ensures.value ∙ ap (λ (xs : List Account). changed_at xs c.args.index (with_leases (λ ls. remove ls c.args.lease))) c.self.view_is
+    ∙ write_leases (λ ls. remove ls c.args.lease) _ _ _ _ c.index_mut.ensures.value ∙ ap (λ (xs : List Account). update_at xs c.args.index (with_leases (λ ls. remove ls c.args.lease))) c.self.view_is

@@ -1,6 +1,6 @@
 use Rattle.std.proofs.Common.{ap, ◌∙◌, List}
 use Rattle.lease_book.specs.Account.{Account}
-use Rattle.lease_book.specs.Shelf.{changed_at, with_standing}
+use Rattle.lease_book.specs.Shelf.{update_at, with_standing}
 use Rattle.lease_book.proofs.ShelfLemmas.{within_parts, write_standing, shelf_write}
 use Rattle.lease_book.proofs.accounts.Accounts.write.Goals as goal
 
@@ -16,4 +16,4 @@ invariant_of-self g c = record {
 pub returns : goal.returns
 returns g c =
     write_standing c.self.inside.clients.entries c.self.inside.leases.items c.args.index c.args.standing
-    ∙ ap (λ (xs : List Account). changed_at xs c.args.index (with_standing c.args.standing)) c.self.view_is
+    ∙ ap (λ (xs : List Account). update_at xs c.args.index (with_standing c.args.standing)) c.self.view_is

@@ -5,7 +5,7 @@ use Rattle.lease_book.specs.Shelf.{with_leases}
 use Rattle.lease_book.specs.BookState.{BookState, account_in}
 use Rattle.lease_terms.specs.declared.refusals.Refusal.TheVariants as refusal
 use Rattle.lease_book.proofs.PlaceLemmas.{first_of, none_of}
-use Rattle.lease_book.proofs.BookLemmas.{leases_found, refused_at, released_at, length-changed_at}
+use Rattle.lease_book.proofs.BookLemmas.{leases_found, refused_at, released_at, length-update_at}
 use Rattle.lease_book.proofs.books.Book.release.Goals as goal
 
 pub invariant_of-self : goal.invariant_of-self
@@ -22,7 +22,7 @@ returns-in_default-clause-answer g c =
 pub keep-kept-requires-2-clause-within : goal.keep-kept-requires-2-clause-within
 keep-kept-requires-2-clause-within g c =
     let within : c.in_ok-index.index < length c.args.self.now.accounts = c.in_ok-index.ensures.index.within in
-    omega (arith, within, ap length c.take.ensures.rest, length-changed_at c.self.inside.accounts c.in_ok-index.index (with_leases (λ ls. remove ls c.in-Some.lease)), ap (λ (b : BookState). length b.accounts) c.self.view_is)
+    omega (arith, within, ap length c.take.ensures.rest, length-update_at c.self.inside.accounts c.in_ok-index.index (with_leases (λ ls. remove ls c.in-Some.lease)), ap (λ (b : BookState). length b.accounts) c.self.view_is)
 
 pub invariant_of-self-2 : goal.invariant_of-self-2
 invariant_of-self-2 g c =

@@ -1,16 +1,13 @@
-use Rattle.std.proofs.Common.{ℕ, List, length, slice_get, sym, ap, ◌∙◌}
-use Rattle.std.specs.List.{remove}
-use Rattle.std.proofs.lemmas.Option.{slice_get_read}
-use Rattle.lease_book.specs.Account.{Lease, bases_of}
-use Rattle.lease_book.proofs.BesideLemmas.{remove_bases}
+use Rattle.std.specs.Box.{box_value}
+use Rattle.lease_book.proofs.BesideLemmas.{taken_lists, taken_bases, taken_lease}
 use Rattle.lease_book.proofs.leases.Leases.take.Goals as goal
 
 pub invariant_of-self : goal.invariant_of-self
 invariant_of-self g c =
-    c.remove.ensures.items ∙ ap (λ (bs : List ℕ). remove bs c.args.index) c.self.invariant ∙ remove_bases c.self.inside.held.items c.args.index
-    ∙ ap bases_of (sym c.remove-2.ensures.items)
+    taken_bases box_value c.self.inside.bases.items _ c.self.inside.held.items c.remove-2.new.self.items c.args.index c.self.invariant c.remove.ensures.items c.remove-2.ensures.items
 
 pub returns-clause-lease : goal.returns-clause-lease
-returns-clause-lease g c =
-    ap (λ (ls : List Lease). slice_get ls c.args.index) (sym c.self.view_is)
-    ∙ slice_get_read c.self.inside.held.items _ c.args.index c.remove-2.result (ap length (sym c.self.view_is)) c.requires c.remove-2.ensures.value
+returns-clause-lease g c = taken_lease box_value c.self.inside.held.items _ c.args.index c.remove-2.result _ c.self.view_is c.requires c.remove-2.ensures.value c.into_inner.ensures
+
+pub returns-clause-rest : goal.returns-clause-rest
+returns-clause-rest g c = taken_lists box_value c.self.inside.held.items c.remove-2.new.self.items _ c.args.index c.self.view_is c.remove-2.ensures.items

@@ -3,7 +3,7 @@ use Rattle.std.proofs.lemmas.Result.{IfOk-weaker, IfErr-weaker}
 use Rattle.deed_core.specs.Holding.{Holding}
 use Rattle.lease_terms.specs.declared.refusals.Refusal.TheVariants.{NotYours}
 use Rattle.lease_book.specs.Receipts.{ReceiptState}
-use Rattle.lease_threads.specs.Settling.{IsRefusalOf}
+use Rattle.lease_threads.specs.Settling.{IsRefusalReceipt}
 use Rattle.lease_threads.proofs.Receipts.{answered, answered_new, refused, refused_so, released}
 use Rattle.lease_threads.proofs.marked_books.MarkedBook.release.Goals as goal
 
@@ -22,4 +22,4 @@ returns-clause-released g c = IfOk-weaker c.release.result _ _ (λ r is. ap (λ 
 
 pub returns-clause-new : goal.returns-clause-new
 returns-clause-new g c =
-    IfErr-weaker c.release.result _ _ (λ a is. answered_new c.self.inside.book c.release.new.self c.args.id _ _ (IsRefusalOf NotYours) (λ v was. refused_so c.self.inside.book c.release.new.self c.args.id NotYours v was.0) a is) c.release.ensures.answer
+    IfErr-weaker c.release.result _ _ (λ a is. answered_new c.self.inside.book c.release.new.self c.args.id _ _ (IsRefusalReceipt NotYours) (λ v was. refused_so c.self.inside.book c.release.new.self c.args.id NotYours v was.0) a is) c.release.ensures.answer

@@ -2,7 +2,7 @@ use Rattle.std.proofs.Common.{ap, ◌∙◌}
 use Rattle.std.proofs.lemmas.Result.{IfOk-weaker, IfErr-weaker}
 use Rattle.deed_core.specs.Holding.{Holding}
 use Rattle.lease_terms.specs.declared.refusals.Refusal.TheVariants.{Leases}
-use Rattle.lease_threads.specs.Settling.{IsRefusalOf}
+use Rattle.lease_threads.specs.Settling.{IsRefusalReceipt}
 use Rattle.lease_threads.proofs.Receipts.{answered, answered_new, refused, refused_so, granted, granted_so}
 use Rattle.lease_threads.proofs.marked_books.MarkedBook.settle.Goals as goal
 
@@ -22,4 +22,4 @@ returns-clause-grant g c =
 
 pub returns-clause-new : goal.returns-clause-new
 returns-clause-new g c =
-    IfErr-weaker c.settle.result _ _ (λ e is. answered_new c.self.inside.book c.settle.new.self c.args.id _ _ (IsRefusalOf Leases) (λ v was. refused_so c.self.inside.book c.settle.new.self c.args.id Leases v was.0) e.answer is) c.settle.ensures.answer
+    IfErr-weaker c.settle.result _ _ (λ e is. answered_new c.self.inside.book c.settle.new.self c.args.id _ _ (IsRefusalReceipt Leases) (λ v was. refused_so c.self.inside.book c.settle.new.self c.args.id Leases v was.0) e.answer is) c.settle.ensures.answer

@@ -1,5 +1,6 @@
-use Rattle.std.proofs.Common.{sym, refl, ap, ◌∙◌, Ok}
+use Rattle.std.proofs.Common.{sym, refl, ap, map, ◌∙◌, Ok}
 use Rattle.arena_tree.specs.Trees.{nodes_of}
+use Rattle.locked_parts.specs.Kinds.{KindRoundsState}
 use Rattle.lease_threads.specs.Systems.{SystemState, CpuState}
 use Rattle.lease_threads.proofs.Runs.{ran_leaves}
 use Rattle.lease_threads.proofs.Reaped.{ran_reaps}
@@ -27,3 +28,15 @@ pub returns-in-Stopped-None-clause-reaped : goal.returns-in-Stopped-None-clause-
 returns-in-Stopped-None-clause-reaped g c =
     λ within. (let seen = ap (λ (s : SystemState). s.arenas) c.self.view_is in
     ran_reaps _ _ _ _ c.args.self.now.arenas c.tree-2.result.now c.args.arena c.args.limit c.in-Err.field-0.reaping.units c.cpu.inside.hand c.chain-chain.result.now _ _ _ c.in-Err.ensures.ran (ap nodes_of seen) (c.tree-2.ensures ∙ seen) c.chain-chain.ensures.chain (refl, rw (c.in-Stopped-None.is, c.in-Stopped-None.field-0-is) (ap (λ (s : CpuState). s.hand) c.cpu.view_is ∙ c.requires)))
+
+pub returns-in-Ok-clause-magazines : goal.returns-in-Ok-clause-magazines
+returns-in-Ok-clause-magazines g c = ran_leaves _ _ _ _ (λ s. map (λ (r : KindRoundsState). r.kind) s.caches.now.items) (λ s t e x d. d.2) _ _ _ _ c.reap_arena.ensures.ran ∙ ap (λ (s : CpuState). map (λ (r : KindRoundsState). r.kind) s.caches) c.cpu.view_is
+
+pub returns-in-Stuck-clause-magazines : goal.returns-in-Stuck-clause-magazines
+returns-in-Stuck-clause-magazines g c = ap (λ (s : CpuState). map (λ (r : KindRoundsState). r.kind) s.caches) c.hold.ensures ∙ ran_leaves _ _ _ _ (λ s. map (λ (r : KindRoundsState). r.kind) s.caches.now.items) (λ s t e x d. d.2) _ _ _ _ c.reap_arena.ensures.ran ∙ ap (λ (s : CpuState). map (λ (r : KindRoundsState). r.kind) s.caches) c.cpu.view_is
+
+pub returns-in-Stopped-Some-clause-magazines : goal.returns-in-Stopped-Some-clause-magazines
+returns-in-Stopped-Some-clause-magazines g c = ap (λ (s : CpuState). map (λ (r : KindRoundsState). r.kind) s.caches) c.hold-in-Stopped-Some.ensures ∙ ran_leaves _ _ _ _ (λ s. map (λ (r : KindRoundsState). r.kind) s.caches.now.items) (λ s t e x d. d.2) _ _ _ _ c.reap_arena.ensures.ran ∙ ap (λ (s : CpuState). map (λ (r : KindRoundsState). r.kind) s.caches) c.cpu.view_is
+
+pub returns-in-Stopped-None-clause-magazines : goal.returns-in-Stopped-None-clause-magazines
+returns-in-Stopped-None-clause-magazines g c = ran_leaves _ _ _ _ (λ s. map (λ (r : KindRoundsState). r.kind) s.caches.now.items) (λ s t e x d. d.2) _ _ _ _ c.reap_arena.ensures.ran ∙ ap (λ (s : CpuState). map (λ (r : KindRoundsState). r.kind) s.caches) c.cpu.view_is

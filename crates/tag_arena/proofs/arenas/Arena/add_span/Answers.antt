@@ -9,7 +9,7 @@ use Rattle.tag_arena.proofs.Adding.{pushed, same_range}
 use Rattle.tag_arena.proofs.Sounding.{the_state}
 use Rattle.tag_arena.proofs.Using.{added_sound}
 use Rattle.tag_arena.proofs.Backing.{backed_insert}
-use Rattle.tag_arena.specs.Spanned.{tag_holdings}
+use Rattle.tag_arena.specs.Spanned.{holdings_of}
 use Rattle.tag_arena.proofs.Granted.{begins_outside, ends_alone, held_more}
 use Rattle.tag_arena.proofs.arenas.Arena.add_span.Goals as goal
 
@@ -29,7 +29,7 @@ invariant_of-self-2 g c =
     let a = the_state c.self.invariant.0 in
     let h : Holding = c.new-stored.result in
     let range : c.range-range.result ≡ h.range = same_range _ h _ c.range-range.ensures.value c.new-stored.ensures in
-    let owned : tag_holdings c.put.new.self.items ≡ a.owned ++ h ∷ [] = held_more _ _ _ _ h c.put.ensures c.reserve.ensures.items (ap (λ (t : Tag). t.holding) c.new.ensures ∙ c.held_range_of.ensures.value) in
+    let owned : holdings_of c.put.new.self.items ≡ a.owned ++ h ∷ [] = held_more _ _ _ _ h c.put.ensures c.reserve.ensures.items (ap (λ (t : Tag). t.holding) c.new.ensures ∙ c.held_range_of.ensures.value) in
     let free : c.insert.new.self.ranges ≡ a.free ++ h ∷ [] = pushed _ _ _ _ _ c.insert.ensures.ranges (ap (λ v. v.ranges) c.reserve_free.ensures.rest) refl in
     let clear = subst (λ (s : ArenaState). IsClear s c.range-range.result × OnQuantum s.quantum c.range-range.result) (sym c.self.view_is) (c.if-has_overlap.ensures.clear, c.if-not-is_aligned.ensures.0 refl) in (
       rw (owned, free) (added_sound a c.self.invariant.0 h c.held_range_of.ensures.range (subst (λ (e : Extent). OnQuantum c.self.inside.quantum e) range clear.1) (subst (λ (e : Extent). IsClear a e) range clear.0)),
@@ -41,7 +41,7 @@ returns-clause-sound g c =
     let a = the_state c.self.invariant.0 in
     let h : Holding = c.new-stored.result in
     let range : c.range-range.result ≡ h.range = same_range _ h _ c.range-range.ensures.value c.new-stored.ensures in
-    let owned : tag_holdings c.put.new.self.items ≡ a.owned ++ h ∷ [] = held_more _ _ _ _ h c.put.ensures c.reserve.ensures.items (ap (λ (t : Tag). t.holding) c.new.ensures ∙ c.held_range_of.ensures.value) in
+    let owned : holdings_of c.put.new.self.items ≡ a.owned ++ h ∷ [] = held_more _ _ _ _ h c.put.ensures c.reserve.ensures.items (ap (λ (t : Tag). t.holding) c.new.ensures ∙ c.held_range_of.ensures.value) in
     let free : c.insert.new.self.ranges ≡ a.free ++ h ∷ [] = pushed _ _ _ _ _ c.insert.ensures.ranges (ap (λ v. v.ranges) c.reserve_free.ensures.rest) refl in
     let clear = subst (λ (s : ArenaState). IsClear s c.range-range.result × OnQuantum s.quantum c.range-range.result) (sym c.self.view_is) (c.if-has_overlap.ensures.clear, c.if-not-is_aligned.ensures.0 refl) in
     rw (owned, free) (added_sound a c.self.invariant.0 h c.held_range_of.ensures.range (subst (λ (e : Extent). OnQuantum c.self.inside.quantum e) range clear.1) (subst (λ (e : Extent). IsClear a e) range clear.0))
@@ -52,6 +52,6 @@ put-requires-clause-absent g c =
     let h : Holding = c.new-stored.result in
     let range : c.range-range.result ≡ h.range = same_range _ h _ c.range-range.ensures.value c.new-stored.ensures in
     let clear = subst (λ (s : ArenaState). IsClear s c.range-range.result) (sym c.self.view_is) c.if-has_overlap.ensures.clear in
-    let alone = ends_alone a h c.self.inside.owned.items c.self.invariant.0.divided c.held_range_of.ensures.range (subst (λ (e : Extent). IsClear a e) range clear) (λ s in-s. Contains-append_left a.owned (tag_holdings a.imported) s in-s) in
+    let alone = ends_alone a h c.self.inside.owned.items c.self.invariant.0.divided c.held_range_of.ensures.range (subst (λ (e : Extent). IsClear a e) range clear) (λ s in-s. Contains-append_left a.owned (holdings_of a.imported) s in-s) in
     let end = ap (λ (t : Tag). end_of t.holding.range) c.new.ensures ∙ ap (λ (x : Holding). end_of x.range) c.held_range_of.ensures.value in
     subst (λ (n : ℕ). All (λ t. end_of t.holding.range ≢ n) c.reserve.new.self.items) (sym end) (subst (λ (ts : List Tag). All (λ t. end_of t.holding.range ≢ end_of h.range) ts) (sym c.reserve.ensures.items) alone)

@@ -16,7 +16,7 @@ use Rattle.tag_arena.proofs.Allocations.{len_less, loses_remove}
 use Rattle.tag_arena.proofs.Returning.{tagged_is, spans_said, is_some, same_tag, lies_in, has_span, positive, span_holds, free_beside, freed_is, freed_is_sound, freed_covers, merge_covers, frees, returned_is, returned_is_sound, frees_back}
 use Rattle.tag_arena.proofs.Carrying.{tags_lose, free_spans}
 use Rattle.tag_arena.proofs.Sounding.{the_state}
-use Rattle.tag_arena.specs.Spanned.{tag_holdings}
+use Rattle.tag_arena.specs.Spanned.{holdings_of}
 use Rattle.tag_arena.proofs.Backing.{backed_free}
 use Rattle.tag_arena.proofs.Granted.{disjoint_imported, disjoint_owned, free_clear, lent_there, none_lent, not_lent}
 use Rattle.tag_arena.proofs.Rejoining.{comes_fewer, merged_has}
@@ -244,7 +244,7 @@ returns g c =
     let tagged : IsTagged c.args.self.now c.args.segment = search rules in
     let id : c.self.inside.id ≡ c.args.self.now.id = ap (λ (s : ArenaState). s.id) c.self.view_is in
     let segment : c.args.segment ≡ direct_tag c.args.self.now.id c.args.segment.holding = same_tag _ _ tagged.arena tagged.route refl in
-    let owned : tag_holdings c.self.inside.owned.items ≡ c.args.self.now.owned = ap (λ (s : ArenaState). s.owned) c.self.view_is in
+    let owned : holdings_of c.self.inside.owned.items ≡ c.args.self.now.owned = ap (λ (s : ArenaState). s.owned) c.self.view_is in
     let returned : (f : Tag → ℕ) → sum_by f c.args.self.now.imported ≡ sum_by f c.take-import.new.self.items + sum_by f (option_to_list (Some c.new.result)) =
     (λ f.
     let less : sum_by f c.take-import.new.self.items ≡ sum_by f (remove a.imported k) = ap (sum_by f) o.3 in

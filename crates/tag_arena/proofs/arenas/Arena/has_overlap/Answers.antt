@@ -6,7 +6,7 @@ use Rattle.deed_core.specs.Extent.{Overlap}
 use Rattle.tag_arena.specs.ArenaState.{ArenaState, spans_of}
 use Rattle.tag_arena.specs.Calls.{OverlapsSpan}
 use Rattle.tag_arena.proofs.Ranges.{Any-member, member-Any}
-use Rattle.tag_arena.specs.Spanned.{tag_holdings}
+use Rattle.tag_arena.specs.Spanned.{holdings_of}
 use Rattle.tag_arena.proofs.arenas.Arena.has_overlap.Goals as goal
 
 pub overlaps-requires : goal.overlaps-requires
@@ -20,5 +20,5 @@ returns-then-overlaps-2-clause-overlaps g c =
     let a = the_state c.self.invariant.0 in
     let e = c.args.range.now in
     let any = c.if-overlaps-2.ensures in
-    let there = Contains-append_right a.owned (tag_holdings a.imported) any.1 (Any-member (tag_holdings a.imported) any) in
+    let there = Contains-append_right a.owned (holdings_of a.imported) any.1 (Any-member (holdings_of a.imported) any) in
     subst (λ (s : ArenaState). OverlapsSpan s e) c.self.view_is (member-Any (λ s. Overlap s.range e) (spans_of a) any.1 there any.4)

@@ -11,7 +11,7 @@ use Rattle.tag_arena.proofs.Granting.{as_it_was, undone, stands}
 use Rattle.tag_arena.proofs.Importing.{imports, import_absent, import_is, import_sound}
 use Rattle.tag_arena.proofs.Sounding.{the_state}
 use Rattle.tag_arena.proofs.Returning.{tagged_is, same_tag}
-use Rattle.tag_arena.specs.Spanned.{tag_holdings}
+use Rattle.tag_arena.specs.Spanned.{holdings_of}
 use Rattle.tag_arena.proofs.Backing.{backed_back, backed_import}
 use Rattle.tag_arena.proofs.Granted.{absent_behind, ends_alone}
 use Rattle.tag_arena.proofs.arenas.Arena.import.Goals as goal
@@ -126,6 +126,6 @@ put-requires-clause-absent g c =
     let whole_is : c.new-whole.result ≡ t.holding = tagged_is _ t.holding _ _ c.new-whole.ensures c.root.ensures c.range.ensures.value in
     let range : IsRange t.holding.range = subst IsRange c.range.ensures.value c.range.ensures.range in
     let clear = subst (λ (s : ArenaState). IsClear s t.holding.range) (sym c.self.view_is) c.requires.clear in
-    let alone = ends_alone a t.holding c.self.inside.imported.items c.self.invariant.0.divided range clear (λ s in-s. Contains-append_right a.owned (tag_holdings a.imported) s in-s) in
+    let alone = ends_alone a t.holding c.self.inside.imported.items c.self.invariant.0.divided range clear (λ s in-s. Contains-append_right a.owned (holdings_of a.imported) s in-s) in
     let end = ap (λ (x : Tag). end_of x.holding.range) c.new.ensures ∙ ap (λ (x : Holding). end_of x.range) whole_is in
     subst (λ (n : ℕ). All (λ x. end_of x.holding.range ≢ n) c.reserve.new.self.items) (sym end) (subst (λ (ts : List Tag). All (λ x. end_of x.holding.range ≢ end_of t.holding.range) ts) (sym c.reserve.ensures.items) alone)

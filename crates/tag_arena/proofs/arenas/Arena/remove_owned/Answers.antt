@@ -8,7 +8,7 @@ use Rattle.tag_arena.specs.Neighbors.{Without}
 use Rattle.tag_arena.proofs.Ranges.{member-Any}
 use Rattle.tag_arena.proofs.Taking.{WholeAt, lowest, removed_is, removed_is_sound, owned_loses, free_loses}
 use Rattle.tag_arena.proofs.Sounding.{free_ranges, the_state}
-use Rattle.tag_arena.specs.Spanned.{tag_holdings, IsLowestFree}
+use Rattle.tag_arena.specs.Spanned.{holdings_of, IsLowestFree}
 use Rattle.tag_arena.proofs.Backing.{backed_take}
 use Rattle.tag_arena.proofs.Coming.{without_map}
 use Rattle.tag_arena.proofs.Granted.{disjoint_owned, lowest_at}
@@ -101,7 +101,7 @@ returns-clause-loses g c =
     let p : WholeAt = record { at = o.0; free_at = out.0; span = w } in
     let low = lowest_at a.owned a.free c.take-2.new.self.ranges w o.0 own.0 here so out in
     let out_is = c.into_deed.ensures ∙ deed_is in
-    let left = tag_holdings c.take.new.self.items in
+    let left = holdings_of c.take.new.self.items in
     let loses : Loses a.owned left w = subst (λ (xs : List Holding). Loses a.owned xs w) (sym own.2) (owned_loses a sound p low) in
     rw out_is (subst (λ (s : ArenaState). Loses s.owned left w) c.self.view_is loses)
 

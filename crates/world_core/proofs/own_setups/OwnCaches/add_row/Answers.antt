@@ -1,8 +1,8 @@
 use Rattle.std.proofs.Common.{◌≡◌, [], ◌∷◌, ◌++◌, refl, sym, ap, ◌∙◌}
 use Rattle.std.specs.Prelude.{slice_get}
 use Rattle.deed_core.proofs.LawProofs.{all_at, all_from}
-use Rattle.stock.specs.OwnCaches.{OwnCacheState}
-use Rattle.world_core.specs.Setups.{IsEmptyOwn, empty_own}
+use Rattle.stock.specs.OwnCaches.{OwnCacheState, HasNoRound}
+use Rattle.world_core.specs.Setups.{empty_own}
 use Rattle.world_core.proofs.Members.{each_pushed}
 use Rattle.world_core.proofs.PartLemmas.{onto}
 use Rattle.world_core.proofs.OwnSetups.{row_more, replicate_more}
@@ -17,6 +17,6 @@ loop-cache-preserved g c =
     record {
       owners = replicate_more c.loop-cache.cache c.args.cpu _ c.loop-cache.self.owners.items c.push.new.self.items c.loop-cache.invariant.owners c.in_ok-push.ensures.items;
       caches = row_more c.args.arena c.args.quantum c.loop-cache.cache _ old c.push_reserved.new.self.items c.loop-cache.invariant.caches put;
-      empty = λ none. all_from IsEmptyOwn c.push_reserved.new.self.items (λ k o at.
-          each_pushed IsEmptyOwn old (empty_own c.args.arena c.loop-cache.cache c.args.quantum) (λ i x here. all_at IsEmptyOwn old i x (c.loop-cache.invariant.empty none) here) (record { loaded_empty = refl; previous_empty = refl }) k o (ap (λ xs. slice_get xs k) (sym put) ∙ at));
+      empty = λ none. all_from HasNoRound c.push_reserved.new.self.items (λ k o at.
+          each_pushed HasNoRound old (empty_own c.args.arena c.loop-cache.cache c.args.quantum) (λ i x here. all_at HasNoRound old i x (c.loop-cache.invariant.empty none) here) (record { loaded_empty = refl; previous_empty = refl }) k o (ap (λ xs. slice_get xs k) (sym put) ∙ at));
     }
