@@ -11,12 +11,17 @@
 //! ends a system: all that lies in its parts is placed (emptying), its roots are closed (closing),
 //! and its parts and its book are ended (ending).
 //!
+//! What contracts see of a system and a CPU stands in `specs/Systems.antt`, what a line may be
+//! answered in `Replying.antt` and `Settling.antt`, what a reaping tells in `Reaping.antt`, how a
+//! system begins and ends in `Openings.antt` and `Ends.antt`.
+//!
 //! A request takes the book's lock twice at most, and the locks of its list of steps, of which
-//! `quantum_cache` says how many they are at most, by the length of a chain. A hello takes the
+//! `quantum_cache` says how many they are at most, by the length of a chain; and those of a free
+//! where its hand is full before it, and of another where its settle is refused. A hello takes the
 //! book's lock twice, and once more, with a free, for each lease that it ends. A lock is held for
 //! one event on its part. `tick` and `resize` take that of one depot after another, `reap` those
-//! for each round and slab that goes, `retire` those for each round of the CPU. `shut` goes over
-//! all parts and leases.
+//! of its looks, as many as its limit at most, and of a free for each round and span that they
+//! give, `retire` those for each round of the CPU. `shut` goes over all parts and leases.
 #![tactic(auto)]
 
 mod closing;

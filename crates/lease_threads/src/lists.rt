@@ -144,12 +144,11 @@ impl<N: Name> System<N> {
                 cpu.hold(segment);
                 Err(Unserved::Again)
             }
-            Err(ClimbFault::Stopped(hand)) => {
-                if let Some(segment) = hand {
-                    cpu.hold(segment);
-                }
+            Err(ClimbFault::Stopped(Some(segment))) => {
+                cpu.hold(segment);
                 Err(stop_or_again(steps))
             }
+            Err(ClimbFault::Stopped(None)) => Err(stop_or_again(steps)),
         }
     }
 

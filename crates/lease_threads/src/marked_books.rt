@@ -1,10 +1,14 @@
 //! The book of leases as its lock keeps it.
-ghost use Rattle.std.specs.Prelude.{◌≡◌, [], None, IfNone, IfSome, IfOk, IfErr, OnOk, OnErr};
+ghost use Rattle.std.specs.Prelude.{◌≡◌, ◌<◌, ◌≤◌, ◌↔◌, [], None, All, length, IsNone};
+ghost use Rattle.std.specs.Prelude.{IfNone, IfSome, IfOk, IfErr, OnOk, OnErr};
+ghost use Rattle.std.specs.List.{find};
 ghost use Rattle.deed_core.specs.Request.{Fits};
+ghost use Rattle.lease_book.specs.Account.{is_lease};
 ghost use Rattle.lease_book.specs.Answers.{IsNew, IsAnswer, IsHelloFault};
 ghost use Rattle.lease_book.specs.BookState.{Enters, account_in, leased_segments};
 ghost use Rattle.lease_book.specs.Calls.{IsGranted, IsRefused, IsReleased, IsSwept, IsEnded};
 ghost use Rattle.lease_book.specs.Entry.{Hello};
+ghost use Rattle.lease_book.specs.declared.books.TheConstants.{MOST_LEASES};
 ghost use Rattle.lease_terms.specs.Requests.{RequestId};
 ghost use Rattle.lease_threads.specs.Replying.{IsReceiptOf, IsBookAnswerTo, IsLateHello};
 ghost use Rattle.lease_threads.specs.Settling.{IsGrantReceipt, IsRefusalReceipt, new_receipt};
@@ -56,6 +60,9 @@ impl<N: Name> MarkedBook<N> {
     pub(crate) fn sweep(&mut self, client: ClientId) -> Option<Segment<SeatDeed<N>>>
         ensures event { IfSome result (λ t. (id : RequestId)
             × IsSwept self.old self.new client id t) }
+        ensures none { IfNone result
+            (All (λ l. (account_in client self.old).incarnation ≤ l.incarnation)
+            (account_in client self.old).leases) }
         ensures unchanged { IfNone result (self.new ≡ self.old) }
     {
         match self.book.sweep(client) {
@@ -67,7 +74,7 @@ impl<N: Name> MarkedBook<N> {
     /// Ends a lease, whichever.
     pub(crate) fn take_lease(&mut self) -> Option<Segment<SeatDeed<N>>>
         ensures event { IfSome result (λ t. (id : RequestId) × IsEnded self.old self.new id t) }
-        ensures none { IfNone result (leased_segments self.old ≡ []) }
+        ensures exactly { IsNone result ↔ (leased_segments self.old ≡ []) }
         ensures unchanged { IfNone result (self.new ≡ self.old) }
     {
         match self.book.take_lease() {
@@ -80,6 +87,7 @@ impl<N: Name> MarkedBook<N> {
     pub(crate) fn look(&self, id: RequestId) -> Option<Answer<SeatDeed<N>>>
         ensures receipt { IfSome result (IsBookAnswerTo id) }
         ensures old { IfSome result (λ a. new_receipt a ≡ None) }
+        ensures answer { IfSome result (IsAnswer self.now self.now id (λ _. ⊥) ⊥) }
         ensures new { IfNone result (IsNew (account_in id.client self.now) id) }
     {
         let look = self.book.look(id);
@@ -112,6 +120,12 @@ impl<N: Name> MarkedBook<N> {
         ensures answer { IfErr result (λ e. IsBookAnswerTo id e.answer) }
         ensures new { IfErr result (λ e. IfSome (new_receipt e.answer)
             (IsRefusalReceipt Refusal.Leases)) }
+        ensures refused { IfErr result (λ e. IsAnswer self.old self.new id
+            (λ v. IsRefused self.old self.new id Refusal.Leases v
+            × (MOST_LEASES ≤ length (account_in id.client self.old).leases))
+            (IsNew (account_in id.client self.old) id
+            × (length (account_in id.client self.old).leases < MOST_LEASES))
+            e.answer) }
         ensures event { IfOk result (IsGranted self.old self.new id segment
             (record { quantum = quantum; request = request.now })) }
         ensures handed_back { IfErr result (λ e. e.segment ≡ segment) }
@@ -132,6 +146,11 @@ impl<N: Name> MarkedBook<N> {
         ensures answer { IfErr result (IsBookAnswerTo id) }
         ensures new { IfErr result (λ a.
             IfSome (new_receipt a) (IsRefusalReceipt Refusal.NotYours)) }
+        ensures refused { IfErr result (IsAnswer self.old self.new id
+            (λ v. IsRefused self.old self.new id Refusal.NotYours v
+            × (find (is_lease id.incarnation arena base)
+            (account_in id.client self.old).leases ≡ None))
+            ⊥) }
         ensures event { IfOk result (λ r. IsReleased self.old self.new id arena base r.0 r.1) }
     {
         self.book.release(id, arena, base)

@@ -261,7 +261,7 @@ impl<N: Name> System<N> {
               quantum = quantum_in (nodes_of self.now.arenas) arena;
               request = request.now;
             }) v)) }
-        ensures held_on { OnErr result (cpu.new.hand ≢ None) }
+        ensures held_at_stop { OnErr result (cpu.new.hand ≢ None) }
         ensures number { cpu.new.number ≡ cpu.old.number }
         ensures magazines { AreForSame cpu.old.caches cpu.new.caches }
         ensures held { IfOk result (λ r. IfSome cpu.new.hand (λ _. IsAgain r.reply)) }

@@ -8,9 +8,13 @@
 //!
 //! `Running` (running) is `arena_tree::Parts` over them for one CPU, which has two magazines for
 //! each quantum cache (cpu_rounds, own_rounds): each event of a shared part takes its lock, and no
-//! other (locked_events, own_events), and asks the gate (gates) before. Intervals
+//! other (locked_events, own_events; a test, one_lock), and asks the gate (gates) before. Intervals
 //! and sizes of magazines are for all depots, one after another: such a walk (depot_walks) is
 //! proved over whatever keeps the depots, and goes over the locks (locked_depots).
+//!
+//! `specs/Kinds.antt` has quantum caches and what contracts see of magazines and depots,
+//! `Swaps.antt` exchanges, `Answers.antt` what an event answers, `Gates.antt` what a gate may say,
+//! `News.antt` what parts are made as, `Walks.antt` walks over depots.
 //!
 //! A part is found by its number, in constant time. An event costs what the part's own call does
 //! (`tag_arena`, `slab_layer`, `magazine_layer`) and a few looks whether it is the part that is
@@ -29,6 +33,8 @@ mod locked_depots;
 mod locked_events;
 mod new_arenas;
 mod new_caches;
+#[cfg(test)]
+mod one_lock;
 mod own_events;
 mod own_rounds;
 mod parts;

@@ -50,7 +50,7 @@ pub(crate) fn pop_in<N: Name>(
     arena: u32,
     cache: u8,
 ) -> Result<Option<Segment<SeatDeed<N>>>, Stopped>
-    ensures goes { AnswersSoundly (nodes_of parts.now.arenas) (Pop arena cache) result }
+    ensures sound { AnswersSoundly (nodes_of parts.now.arenas) (Pop arena cache) result }
     ensures moved { PopsRound result (count_of_rounds caches.old.items)
         (count_of_rounds caches.new.items) }
     ensures kinds { AreForSame caches.old.items caches.new.items }
@@ -72,7 +72,7 @@ pub(crate) fn push_in<N: Name>(
     cache: u8,
     segment: Segment<SeatDeed<N>>,
 ) -> Result<(), PushFault<Segment<SeatDeed<N>>>>
-    ensures goes { AnswersSoundly (nodes_of parts.now.arenas) (Push arena cache segment) result }
+    ensures sound { AnswersSoundly (nodes_of parts.now.arenas) (Push arena cache segment) result }
     ensures moved { PushesRound result (count_of_rounds caches.old.items)
         (count_of_rounds caches.new.items) }
     ensures kinds { AreForSame caches.old.items caches.new.items }
@@ -97,7 +97,7 @@ pub(crate) fn change_in<N: Name>(
     cache: u8,
     size: usize,
 ) -> Result<(), ChangeFault>
-    ensures goes { AnswersSoundly (nodes_of parts.now.arenas) (Change arena cache size) result }
+    ensures sound { AnswersSoundly (nodes_of parts.now.arenas) (Change arena cache size) result }
     ensures moved { count_of_rounds caches.new.items ≡ count_of_rounds caches.old.items }
     ensures kinds { AreForSame caches.old.items caches.new.items }
 {

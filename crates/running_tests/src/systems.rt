@@ -20,14 +20,22 @@ use std::process::Abort;
 use std::sync::Wait;
 use tag_arena::Policy;
 
-fn root(rt: &impl Abort, setup: &mut Setup, name: &str, base: u64, len: u64, qcache_max: u64) {
+fn root(
+    rt: &impl Abort,
+    setup: &mut Setup,
+    name: &str,
+    base: u64,
+    len: u64,
+    policy: Policy,
+    qcache_max: u64,
+) {
     let name = ArenaName::new(name.as_bytes()).expect(rt, "a name");
     let root = NewRoot {
         name,
         base,
         len,
         quantum: 1,
-        policy: Policy::Best,
+        policy,
         qcache_max,
     };
     setup.add(&Setting::Root(root)).expect(rt, "a root");

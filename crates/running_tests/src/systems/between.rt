@@ -12,6 +12,7 @@ use std::process::Abort;
 use std::sync::atomic::{AtomicU64, Ordering};
 use std::sync::{Mutex, Wait};
 use std::test::Fail;
+use tag_arena::Policy;
 
 /// Before each step another CPU is served, and every part is looked at: the book, the arena, the
 /// slabs and the depots. It would wait for ever for a lock that the request held.
@@ -74,7 +75,7 @@ fn released<N: Name, R: Abort + Wait + AllocGlobal>(
 #[test]
 fn no_lock_between_steps(rt: HostRuntime) -> Result<(), Fail> {
     let mut setup = Setup::new(rt.alloc());
-    root(&rt, &mut setup, "d", 0, 256, 5);
+    root(&rt, &mut setup, "d", 0, 256, Policy::Best, 5);
     served_between::<Brand, _>(&rt, Ground::new(rt.alloc())?, setup);
     Ok(())
 }

@@ -68,6 +68,32 @@ fn of_roots<R: Abort + Wait + AllocGlobal>(rt: &R) {
             ("release 2 1 1 p 1", "refused 2 1 1 notyours"),
         ],
     );
+    // a hello ends no lease of another client, nor of its own incarnation
+    talk(
+        rt,
+        &["root p 1 4 1 best 0"],
+        &[
+            ("hello 1 1", "welcome 1 1"),
+            ("lease 1 1 1 p 4", "granted 1 1 1 p 1 4"),
+            ("hello 2 1", "welcome 2 1"),
+            ("lease 2 1 1 p 4", "refused 2 1 1 nofit"),
+            ("hello 1 1", "welcome 1 1"),
+            ("lease 2 1 2 p 4", "refused 2 1 2 nofit"),
+        ],
+    );
+    // and all of its older ones
+    talk(
+        rt,
+        &["root p 1 4 1 best 0"],
+        &[
+            ("hello 1 1", "welcome 1 1"),
+            ("lease 1 1 1 p 2", "granted 1 1 1 p 1 2"),
+            ("lease 1 1 2 p 2", "granted 1 1 2 p 3 2"),
+            ("hello 1 2", "welcome 1 2"),
+            ("hello 2 1", "welcome 2 1"),
+            ("lease 2 1 1 p 4", "granted 2 1 1 p 1 4"),
+        ],
+    );
 }
 
 fn of_constraints<R: Abort + Wait + AllocGlobal>(rt: &R) {

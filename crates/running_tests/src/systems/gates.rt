@@ -15,6 +15,7 @@ use std::test::Fail;
 use std::thread;
 use std::thread::Threads;
 use std::time::Duration;
+use tag_arena::Policy;
 
 /// Raises `held` at a settle, and holds it until `answered` is raised, for 10,000 looks at most.
 #[derive(Drop)]
@@ -57,8 +58,8 @@ fn raised<R: Clock>(rt: &R, flag: &AtomicBool) -> bool {
 #[test]
 fn two_at_once(rt: HostRuntime) -> Result<(), Fail> {
     let mut setup = Setup::new(rt.alloc());
-    root(&rt, &mut setup, "m", 0, 8, 0);
-    root(&rt, &mut setup, "p", 8, 8, 0);
+    root(&rt, &mut setup, "m", 0, 8, Policy::Best, 0);
+    root(&rt, &mut setup, "p", 8, 8, Policy::Best, 0);
     at_once::<Brand, _>(&rt, Ground::new(rt.alloc())?, setup);
     Ok(())
 }
@@ -206,12 +207,12 @@ const HELD_AT: [u128; 7] = [0, 0, 0, 0, 0, 16, 1];
 fn drain_step(rt: HostRuntime) -> Result<(), Fail> {
     for turn in 0..7 {
         let mut setup = Setup::new(rt.alloc());
-        root(&rt, &mut setup, "d", 0, 64, 5);
+        root(&rt, &mut setup, "d", 0, 64, Policy::Instant, 5);
         lease_stopped::<Brand, _>(&rt, Ground::new(rt.alloc())?, setup, turn);
     }
     for turn in 0..2 {
         let mut setup = Setup::new(rt.alloc());
-        root(&rt, &mut setup, "d", 0, 64, 5);
+        root(&rt, &mut setup, "d", 0, 64, Policy::Instant, 5);
         release_stopped::<Brand, _>(&rt, Ground::new(rt.alloc())?, setup, turn);
     }
     Ok(())
@@ -263,7 +264,7 @@ fn release_stopped<N: Name, R: Abort + Wait + AllocGlobal>(
 #[test]
 fn hand_is_placed_first(rt: HostRuntime) -> Result<(), Fail> {
     let mut setup = Setup::new(rt.alloc());
-    root(&rt, &mut setup, "m", 0, 64, 0);
+    root(&rt, &mut setup, "m", 0, 64, Policy::Best, 0);
     placed_first::<Brand, _>(&rt, Ground::new(rt.alloc())?, setup);
     Ok(())
 }

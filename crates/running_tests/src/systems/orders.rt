@@ -11,10 +11,12 @@ use std::process::Abort;
 use std::sync::Wait;
 use std::sync::atomic::{AtomicBool, Ordering};
 use std::test::Fail;
+use tag_arena::Policy;
 
-/// Looks whether the steps are those that are wanted, in their order.
+/// Looks whether the steps are those that are wanted, in their order, of this CPU.
 #[derive(Drop)]
 struct InOrder<'a> {
+    cpu: u32,
     wanted: &'a [EventName],
     /// Another step came.
     astray: &'a AtomicBool,
@@ -27,7 +29,7 @@ impl Gate for InOrder<'_> {
 
     fn pass(&self, step: &NextStep) -> Pass {
         match self.wanted.get(step.turn as usize) {
-            Some(event) if *event == step.event => {}
+            Some(event) if *event == step.event && step.cpu == self.cpu => {}
             _ => self.astray.store(true, Ordering::SeqCst),
         }
         if step.turn.saturating_add(1) == self.wanted.len() as u64 {
@@ -48,6 +50,7 @@ fn ask_by<N: Name, R: Abort + Wait + AllocGlobal>(
 ) {
     let (astray, ended) = (AtomicBool::new(false), AtomicBool::new(false));
     let gate = InOrder {
+        cpu: cpu.number(),
         wanted: steps,
         astray: &astray,
         ended: &ended,
@@ -63,7 +66,7 @@ fn ask_by<N: Name, R: Abort + Wait + AllocGlobal>(
 #[test]
 fn gates_in_order(rt: HostRuntime) -> Result<(), Fail> {
     let mut setup = Setup::new(rt.alloc());
-    root(&rt, &mut setup, "d", 0, 64, 5);
+    root(&rt, &mut setup, "d", 0, 64, Policy::Instant, 5);
     in_order::<Brand, _>(&rt, Ground::new(rt.alloc())?, setup);
     Ok(())
 }
@@ -75,7 +78,7 @@ fn in_order<N: Name, R: Abort + Wait + AllocGlobal>(rt: &R, ground: Ground, setu
 {
     use EventName::{Carve, Look, Pop, Push, Release, Settle, SlabAdd, SlabTake, SwapFull};
     let system: System<N> = made(rt, ground, setup);
-    let mut one = cpu(rt, &system, 0);
+    let mut one = cpu(rt, &system, 5);
     ask(rt, &system, &mut one, "hello 1 1", "welcome 1 1");
     let rows: [(&str, &str, &[EventName]); 5] = [
         (

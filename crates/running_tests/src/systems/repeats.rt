@@ -10,12 +10,13 @@ use std::marker::Brand;
 use std::process::Abort;
 use std::sync::Wait;
 use std::test::Fail;
+use tag_arena::Policy;
 
 #[test]
 fn repeats_are_told(rt: HostRuntime) -> Result<(), Fail> {
     let mut setup = Setup::new(rt.alloc());
-    root(&rt, &mut setup, "m", 0, 8, 0);
-    root(&rt, &mut setup, "d", 64, 64, 5);
+    root(&rt, &mut setup, "m", 0, 8, Policy::Best, 0);
+    root(&rt, &mut setup, "d", 64, 64, Policy::Best, 5);
     repeated::<Brand, _>(&rt, Ground::new(rt.alloc())?, setup);
     Ok(())
 }

@@ -10,11 +10,12 @@ use std::marker::Brand;
 use std::process::Abort;
 use std::sync::Wait;
 use std::test::Fail;
+use tag_arena::Policy;
 
 #[test]
 fn read_back(rt: HostRuntime) -> Result<(), Fail> {
     let mut setup = Setup::new(rt.alloc());
-    root(&rt, &mut setup, "m", 0, 4, 0);
+    root(&rt, &mut setup, "m", 0, 4, Policy::Best, 0);
     read_back_in::<Brand, _>(&rt, Ground::new(rt.alloc())?, setup);
     Ok(())
 }
@@ -47,7 +48,7 @@ fn read_back_in<N: Name, R: Abort + Wait + AllocGlobal>(rt: &R, ground: Ground, 
 #[test]
 fn reap_running(rt: HostRuntime) -> Result<(), Fail> {
     let mut setup = Setup::new(rt.alloc());
-    root(&rt, &mut setup, "d", 0, 64, 5);
+    root(&rt, &mut setup, "d", 0, 64, Policy::Instant, 5);
     reaped::<Brand, _>(&rt, Ground::new(rt.alloc())?, setup);
     Ok(())
 }
@@ -101,9 +102,9 @@ fn reaped<N: Name, R: Abort + Wait + AllocGlobal>(rt: &R, ground: Ground, setup:
 #[test]
 fn shut_whole(rt: HostRuntime) -> Result<(), Fail> {
     let mut setup = Setup::new(rt.alloc());
-    root(&rt, &mut setup, "a", 0, 64, 0);
+    root(&rt, &mut setup, "a", 0, 64, Policy::Best, 0);
     child(&rt, &mut setup, "b", "a");
-    root(&rt, &mut setup, "d", 64, 64, 5);
+    root(&rt, &mut setup, "d", 64, 64, Policy::Best, 5);
     whole::<Brand, _>(&rt, Ground::new(rt.alloc())?, setup);
     Ok(())
 }
@@ -131,8 +132,8 @@ fn whole<N: Name, R: Abort + Wait + AllocGlobal>(rt: &R, ground: Ground, setup: 
 #[test]
 fn shut_goes_on(rt: HostRuntime) -> Result<(), Fail> {
     let mut setup = Setup::new(rt.alloc());
-    root(&rt, &mut setup, "m", 0, 8, 0);
-    root(&rt, &mut setup, "d", 64, 64, 5);
+    root(&rt, &mut setup, "m", 0, 8, Policy::Best, 0);
+    root(&rt, &mut setup, "d", 64, 64, Policy::Best, 5);
     goes_on::<Brand, _>(&rt, Ground::new(rt.alloc())?, setup);
     Ok(())
 }

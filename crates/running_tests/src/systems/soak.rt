@@ -17,6 +17,7 @@ use std::test::Fail;
 use std::thread;
 use std::thread::Threads;
 use std::time::{Duration, Instant};
+use tag_arena::Policy;
 
 /// For how many seconds.
 const SOAK: u64 = 10;
@@ -37,9 +38,9 @@ struct Tended {
 #[test]
 fn four_workers_keep_apart(rt: HostRuntime) -> Result<(), Fail> {
     let mut setup = Setup::new(rt.alloc());
-    root(&rt, &mut setup, "a", 0, 1024, 0);
+    root(&rt, &mut setup, "a", 0, 1024, Policy::Best, 0);
     child(&rt, &mut setup, "b", "a");
-    root(&rt, &mut setup, "d", 1024, 1024, 5);
+    root(&rt, &mut setup, "d", 1024, 1024, Policy::Best, 5);
     soaked::<Brand, _>(&rt, Ground::new(rt.alloc())?, setup);
     Ok(())
 }

@@ -6,8 +6,8 @@ use Rattle.locked_parts.specs.Kinds.{IsOfKind, KindRoundsState}
 use Rattle.locked_parts.proofs.Sounds.{cached_given}
 use Rattle.locked_parts.proofs.own_events.pop_in.Goals as goal
 
-pub returns-clause-goes : goal.returns-clause-goes
-returns-clause-goes g c =
+pub returns-clause-sound : goal.returns-clause-sound
+returns-clause-sound g c =
     let h = c.in-Some-own_at.ensures.kind in
     let at : slice_get c.args.caches.now.items c.in-Some-own_at.index ≡ Some h.0 = (let e = c.deref.ensures.value in let there = h.1 in cc) in
     let is = read_is c.args.caches.now.items c.in-Some-own_at.index c.index_mut-own.result.now h.0 c.index_mut-own.ensures.value at in (

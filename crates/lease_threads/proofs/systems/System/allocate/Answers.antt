@@ -1,10 +1,37 @@
-use Rattle.std.proofs.Common.{sym}
+use Rattle.std.proofs.Common.{map, ap, ◌∙◌, sym}
+use Rattle.locked_parts.specs.Kinds.{KindRoundsState}
+use Rattle.lease_threads.specs.Systems.{CpuState}
 use Rattle.lease_threads.proofs.Runs.{ran_leaves, stop_said, same_fault}
 use Rattle.lease_threads.proofs.systems.System.allocate.Goals as goal
 
 pub shape_of-cpu-inside : goal.shape_of-cpu-inside
 shape_of-cpu-inside g c = sym (ran_leaves _ _ _ _ (λ s. s.caches.ghost_name) (λ s t e x d. d.1) _ _ _ _ c.alloc-allocated.ensures.ran)
 
-pub returns-after-hand-clause-stopped : goal.returns-after-hand-clause-stopped
-returns-after-hand-clause-stopped g c =
+pub returns-in-Err-Stopped-Some-clause-stopped : goal.returns-in-Err-Stopped-Some-clause-stopped
+returns-in-Err-Stopped-Some-clause-stopped g c =
     λ is. stop_said g.G.Gate.may_stop (λ s. s.gate.now) (λ s. s.steps.noted) _ _ _ _ (λ s t e x d. d.0) _ _ _ _ c.alloc-allocated.ensures.ran c.anew.ensures (c.stop_or_again.ensures.said (same_fault _ _ is))
+
+pub returns-in-Err-Stopped-None-clause-stopped : goal.returns-in-Err-Stopped-None-clause-stopped
+returns-in-Err-Stopped-None-clause-stopped g c =
+    λ is. stop_said g.G.Gate.may_stop (λ s. s.gate.now) (λ s. s.steps.noted) _ _ _ _ (λ s t e x d. d.0) _ _ _ _ c.alloc-allocated.ensures.ran c.anew.ensures (c.stop_or_again-in-Err-Stopped-None.ensures.said (same_fault _ _ is))
+
+pub returns-in-Ok-clause-magazines : goal.returns-in-Ok-clause-magazines
+returns-in-Ok-clause-magazines g c = ran_leaves _ _ _ _ (λ s. map (λ (r : KindRoundsState). r.kind) s.caches.now.items) (λ s t e x d. d.2) _ _ _ _ c.alloc-allocated.ensures.ran ∙ ap (λ (s : CpuState). map (λ (r : KindRoundsState). r.kind) s.caches) c.cpu.view_is
+
+pub returns-in-Err-BadRequest-clause-magazines : goal.returns-in-Err-BadRequest-clause-magazines
+returns-in-Err-BadRequest-clause-magazines g c = ran_leaves _ _ _ _ (λ s. map (λ (r : KindRoundsState). r.kind) s.caches.now.items) (λ s t e x d. d.2) _ _ _ _ c.alloc-allocated.ensures.ran ∙ ap (λ (s : CpuState). map (λ (r : KindRoundsState). r.kind) s.caches) c.cpu.view_is
+
+pub returns-in-Err-NoFit-clause-magazines : goal.returns-in-Err-NoFit-clause-magazines
+returns-in-Err-NoFit-clause-magazines g c = ran_leaves _ _ _ _ (λ s. map (λ (r : KindRoundsState). r.kind) s.caches.now.items) (λ s t e x d. d.2) _ _ _ _ c.alloc-allocated.ensures.ran ∙ ap (λ (s : CpuState). map (λ (r : KindRoundsState). r.kind) s.caches) c.cpu.view_is
+
+pub returns-in-Err-NoMemory-clause-magazines : goal.returns-in-Err-NoMemory-clause-magazines
+returns-in-Err-NoMemory-clause-magazines g c = ran_leaves _ _ _ _ (λ s. map (λ (r : KindRoundsState). r.kind) s.caches.now.items) (λ s t e x d. d.2) _ _ _ _ c.alloc-allocated.ensures.ran ∙ ap (λ (s : CpuState). map (λ (r : KindRoundsState). r.kind) s.caches) c.cpu.view_is
+
+pub returns-in-Err-Stuck-clause-magazines : goal.returns-in-Err-Stuck-clause-magazines
+returns-in-Err-Stuck-clause-magazines g c = ap (λ (s : CpuState). map (λ (r : KindRoundsState). r.kind) s.caches) c.hold.ensures ∙ ran_leaves _ _ _ _ (λ s. map (λ (r : KindRoundsState). r.kind) s.caches.now.items) (λ s t e x d. d.2) _ _ _ _ c.alloc-allocated.ensures.ran ∙ ap (λ (s : CpuState). map (λ (r : KindRoundsState). r.kind) s.caches) c.cpu.view_is
+
+pub returns-in-Err-Stopped-Some-clause-magazines : goal.returns-in-Err-Stopped-Some-clause-magazines
+returns-in-Err-Stopped-Some-clause-magazines g c = ap (λ (s : CpuState). map (λ (r : KindRoundsState). r.kind) s.caches) c.hold-in-Err-Stopped-Some.ensures ∙ ran_leaves _ _ _ _ (λ s. map (λ (r : KindRoundsState). r.kind) s.caches.now.items) (λ s t e x d. d.2) _ _ _ _ c.alloc-allocated.ensures.ran ∙ ap (λ (s : CpuState). map (λ (r : KindRoundsState). r.kind) s.caches) c.cpu.view_is
+
+pub returns-in-Err-Stopped-None-clause-magazines : goal.returns-in-Err-Stopped-None-clause-magazines
+returns-in-Err-Stopped-None-clause-magazines g c = ran_leaves _ _ _ _ (λ s. map (λ (r : KindRoundsState). r.kind) s.caches.now.items) (λ s t e x d. d.2) _ _ _ _ c.alloc-allocated.ensures.ran ∙ ap (λ (s : CpuState). map (λ (r : KindRoundsState). r.kind) s.caches) c.cpu.view_is

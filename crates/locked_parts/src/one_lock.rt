@@ -1,0 +1,187 @@
+//! Each event of a shared part takes the lock of that part, and no other: it is answered while the
+//! locks of its arena's other parts, of one cache, are held. One that took another of these would
+//! wait for ever.
+ghost use Rattle.std.specs.Prelude.{◌≡◌, ◌<◌, ◌%◌, length};
+ghost use Rattle.deed_core.specs.Request.{plain_of};
+ghost use Rattle.arena_tree.specs.Chains.{IsGrant, quantum_in};
+ghost use Rattle.arena_tree.specs.Trees.{nodes_of};
+
+use crate::locked_events::{
+    add_carve_in, carve_in, depot_reap_in, free_in, slab_add_in, slab_put_in, slab_reap_in,
+    slab_take_in,
+};
+use crate::new_arenas::NewArena;
+use crate::own_events::{swap_empty_in, swap_fresh_in, swap_full_in};
+use crate::own_rounds::{end_rounds, new_rounds};
+use crate::parts::LockedParts;
+use arena_tree::{AddCarveFault, NewRoot, Setting, Setup};
+use deed_core::{Range, Request, Route, Segment};
+use deed_table::{Ground, Name, SeatDeed, close};
+use lease_terms::Name as ArenaName;
+use std::alloc::AllocGlobal;
+use std::marker::Brand;
+use std::process::Abort;
+use std::sync::Wait;
+use std::test::Fail;
+use tag_arena::Policy;
+
+// Ends the test, with what it held.
+fn stuck<X, R: Abort>(rt: &R, held: X) -> ! {
+    let _held = held;
+    panic!(rt; "another answer")
+}
+
+#[test]
+fn one_lock_an_event(rt: HostRuntime) -> Result<(), Fail> {
+    let mut setup = Setup::new(rt.alloc());
+    let root = NewRoot {
+        name: ArenaName::new(b"d").expect(&rt, "a name"),
+        base: 0,
+        len: 64,
+        quantum: 1,
+        policy: Policy::Best,
+        qcache_max: 5,
+    };
+    setup.add(&Setting::Root(root)).expect(&rt, "a root");
+    events_of::<Brand, _>(&rt, Ground::new(rt.alloc())?, setup);
+    Ok(())
+}
+
+// The arena's events, those of its first cache's slabs, and those of that one's depot.
+fn events_of<N: Name, R: Abort + Wait + AllocGlobal>(rt: &R, ground: Ground, setup: Setup)
+    requires { ground ≡ N.table }
+{
+    assert!(rt; setup.tree().len() == 1);
+    let mut numbers = ground.start();
+    let span = Range::new(0, 64);
+    let Ok(opened) = NewArena::<N>::open(rt.alloc(), setup.tree(), 0, span, &mut numbers) else {
+        panic!(rt; "memory")
+    };
+    let (locked, root) = opened.lock();
+    let Ok(mut arenas) = Vec::with_capacity(rt.alloc(), 1) else {
+        stuck(rt, (locked, root))
+    };
+    arenas.push_reserved(locked);
+    let mut parts = LockedParts::new(rt.alloc(), setup.into_tree(), arenas);
+    of_arena(rt, &parts);
+    of_slabs(rt, &parts);
+    of_depot(rt, &parts);
+    let Some(root) = root else { stuck(rt, parts) };
+    let Some(deed) = parts.remove_owned(rt, 0) else {
+        stuck(rt, (root, parts))
+    };
+    match close(root, deed) {
+        Ok(_) => {}
+        Err(held) => stuck(rt, (held, parts)),
+    }
+    if !parts.end_arenas() {
+        stuck(rt, parts)
+    }
+    parts.end();
+}
+
+fn carved<N: Name, R: Abort + Wait>(rt: &R, parts: &LockedParts<N>) -> Segment<SeatDeed<N>>
+    requires { 0 < length parts.now.arenas }
+    ensures { IsGrant (nodes_of parts.now.arenas) 0 (plain_of 16) result }
+{
+    match carve_in(parts, rt, 0, &Request::plain(16)) {
+        Ok(segment) => segment,
+        Err(_) => panic!(rt; "no segment"),
+    }
+}
+
+fn freed<N: Name, R: Abort + Wait>(rt: &R, parts: &LockedParts<N>, segment: Segment<SeatDeed<N>>) {
+    match free_in(parts, rt, segment) {
+        Ok(None) => {}
+        Ok(Some(other)) => stuck(rt, other),
+        Err(fault) => stuck(rt, fault),
+    }
+}
+
+// The arena imports nothing, so that it refuses the span.
+fn of_arena<N: Name, R: Abort + Wait>(rt: &R, parts: &LockedParts<N>)
+    requires { 0 < length parts.now.arenas }
+{
+    let Some(locked) = parts.cache(0, 1) else {
+        panic!(rt; "no cache")
+    };
+    let _slabs = locked.slab.lock(rt);
+    let _depot = locked.depot.lock(rt);
+    let segment = carved(rt, parts);
+    match add_carve_in(parts, rt, 0, segment, 16) {
+        Err(AddCarveFault::Overlaps(segment)) => freed(rt, parts, segment),
+        held => stuck(rt, held),
+    }
+}
+
+fn of_slabs<N: Name, R: Abort + Wait>(rt: &R, parts: &LockedParts<N>)
+    requires { 0 < length parts.now.arenas }
+{
+    let span = carved(rt, parts);
+    let back = through_slabs(rt, parts, span);
+    freed(rt, parts, back);
+}
+
+// The span is a slab's, one chunk of which goes out and back twice, and comes back then.
+fn through_slabs<N: Name, R: Abort + Wait>(
+    rt: &R,
+    parts: &LockedParts<N>,
+    span: Segment<SeatDeed<N>>,
+) -> Segment<SeatDeed<N>>
+    requires of_arena { span.arena ≡ 0 }
+    requires direct { span.route ≡ Route.Direct }
+    requires grid { span.holding.range.base % quantum_in (nodes_of parts.now.arenas) 0 ≡ 0 }
+{
+    let (Some(arena), Some(locked)) = (parts.arenas.first(), parts.cache(0, 1)) else {
+        stuck(rt, span)
+    };
+    let _arena = arena.part.lock(rt);
+    let _depot = locked.depot.lock(rt);
+    match slab_add_in(parts, rt, 0, 1, span) {
+        Ok(chunk) => put(rt, parts, chunk),
+        held => stuck(rt, held),
+    }
+    match slab_take_in(parts, rt, 0, 1) {
+        Ok(Some(chunk)) => put(rt, parts, chunk),
+        held => stuck(rt, held),
+    }
+    match slab_reap_in(parts, rt, 0, 1) {
+        Ok(Some(span)) => span,
+        held => stuck(rt, held),
+    }
+}
+
+fn put<N: Name, R: Abort + Wait>(rt: &R, parts: &LockedParts<N>, chunk: Segment<SeatDeed<N>>) {
+    match slab_put_in(parts, rt, chunk) {
+        Ok(()) => {}
+        held => stuck(rt, held),
+    }
+}
+
+// A depot with no magazine, and a CPU with two empty ones.
+fn of_depot<N: Name, R: Abort + Wait + AllocGlobal>(rt: &R, parts: &LockedParts<N>)
+    requires { 0 < length parts.now.arenas }
+{
+    let (Some(arena), Some(locked)) = (parts.arenas.first(), parts.cache(0, 1)) else {
+        panic!(rt; "no cache")
+    };
+    let _arena = arena.part.lock(rt);
+    let _slabs = locked.slab.lock(rt);
+    let Ok(mut caches) = new_rounds::<N>(rt.alloc(), parts.tree()) else {
+        panic!(rt; "memory")
+    };
+    let full = swap_full_in(parts, rt, &mut caches, 0, 1);
+    let empty = swap_empty_in(parts, rt, &mut caches, 0, 1);
+    let fresh = swap_fresh_in(parts, rt, &mut caches, 0, 1);
+    if full.is_ok() || empty.is_ok() || fresh.is_ok() {
+        stuck(rt, caches)
+    }
+    end_rounds(caches);
+    match depot_reap_in(parts, rt, 0, 1) {
+        Ok(None) => {}
+        Ok(Some(round)) => stuck(rt, round),
+        Err(fault) => stuck(rt, fault),
+    }
+    parts.tick(rt);
+    assert!(rt; parts.resize(rt, 0, 7));
+}
