@@ -1,5 +1,5 @@
 -- A free range that is cut, and its rests.
-use Rattle.std.proofs.Common.{◌≡◌, ◌≢◌, ℕ, ◌+◌, ◌-◌, ◌*◌, ◌^◌, ◌<◌, ◌≤◌, not, sym, ap, subst, ◌∙◌, inl, inr, ⊎_elim, List, [], ◌++◌, length, filter, All, AllPairs, Contains, Option, None, Some, IfSome, option_to_list, arith}
+use Rattle.std.proofs.Common.{◌≡◌, ◌≢◌, ℕ, ◌+◌, ◌*◌, ◌^◌, ◌<◌, ◌≤◌, not, sym, ap, subst, ◌∙◌, inl, inr, ⊎_elim, List, [], ◌++◌, length, filter, All, AllPairs, Contains, Option, None, Some, IfSome, option_to_list, arith}
 use Rattle.std.proofs.lemmas.Bool.{cases_Bool}
 use Rattle.std.proofs.lemmas.List.{append_assoc, length-append}
 use Rattle.std.proofs.lemmas.List.Edits.{length-remove}

@@ -1,5 +1,5 @@
 -- The range that begins last, by the index of bases.
-use Rattle.std.proofs.Common.{◌≡◌, ℕ, ◌+◌, ◌-◌, ◌*◌, ◌^◌, ◌<◌, ◌≤◌, ap, subst, List, All, Option, None, Some, arith}
+use Rattle.std.proofs.Common.{◌≡◌, ℕ, ◌+◌, ◌-◌, ◌*◌, ◌^◌, ◌<◌, ap, subst, List, All, Option, None, Some, arith}
 use Rattle.deed_core.specs.Extent.{IsRange}
 use Rattle.tag_arena.proofs.Members.{All-from_members}
 use Rattle.sorted_rows.specs.Order.{Rises, last_to}

@@ -1,4 +1,4 @@
-use Rattle.std.proofs.Common.{◌≡◌, Any, sym, ap, ◌∙◌, subst, arith}
+use Rattle.std.proofs.Common.{◌≡◌, Any, sym, ap, ◌∙◌, subst}
 use Rattle.tag_arena.specs.Neighbors.{Without}
 use Rattle.tag_arena.specs.FreeTags.{tag_at, ranges_by_age}
 use Rattle.tag_arena.specs.Orders.{entry_of}
