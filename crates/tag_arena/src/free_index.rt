@@ -9,7 +9,7 @@ ghost use Rattle.deed_core.specs.Holding.{Apart};
 ghost use Rattle.deed_core.specs.Request.{IsGood};
 ghost use Rattle.tag_arena.specs.Calls.{part};
 ghost use Rattle.tag_arena.specs.Choice.{IsBestChoice, IsChoice, IsInstantChoice, IsNextChoice};
-ghost use Rattle.tag_arena.specs.declared.policies.Policy.TheVariants.{Instant, Next};
+ghost use Rattle.tag_arena.specs.declared.policies.Policy.TheVariants.{Instant};
 ghost use Rattle.tag_arena.specs.Layout.{IsPartOf};
 ghost use Rattle.tag_arena.specs.Neighbors.{IsBeside, Merges, TakesLeft, TakesRight, Without};
 ghost use Rattle.tag_arena.specs.Cuts.{CarvesOut, IsCut};
@@ -264,7 +264,7 @@ impl<D: Deed> FreeIndex<D> {
     }
 
     /// The least address at or past the rover that serves the request, else the least that does. It
-    /// is for `next`, which alone has the order that it asks for.
+    /// is what `next` chooses.
     pub fn next(
         &mut self,
         rover: u64,
@@ -272,7 +272,6 @@ impl<D: Deed> FreeIndex<D> {
         request: &Request,
         probes: &mut Probes,
     ) -> Option<Fit>
-        requires is_kept { self.old.policy ≡ Next }
         requires quantum { IsPowerOfTwo quantum }
         requires good { IsGood quantum request.now }
         requires rover { rover ≤ 2 ^ 62 }
