@@ -1,5 +1,5 @@
 -- A free range that is cut, and its rests.
-use Rattle.std.proofs.Common.{◌≡◌, ◌≢◌, ℕ, ◌+◌, ◌-◌, ◌*◌, ◌^◌, ◌<◌, ◌≤◌, not, sym, ap, subst, ◌∙◌, inl, inr, ⊎_elim, List, [], ◌++◌, length, filter, All, AllPairs, Contains, Option, None, Some, IfSome, option_to_list, arith}
+use Rattle.std.proofs.Common.{◌≡◌, ◌≢◌, ℕ, ◌+◌, ◌*◌, ◌^◌, ◌<◌, ◌≤◌, not, sym, ap, subst, ◌∙◌, inl, inr, ⊎_elim, List, [], ◌++◌, length, filter, All, AllPairs, Contains, Option, None, Some, IfSome, option_to_list, arith}
 use Rattle.std.proofs.lemmas.Bool.{cases_Bool}
 use Rattle.std.proofs.lemmas.List.{append_assoc, length-append}
 use Rattle.std.proofs.lemmas.List.Edits.{length-remove}
@@ -13,7 +13,7 @@ use Rattle.tag_arena.proofs.Members.{All-from_members, Contains-head, filter_who
 use Rattle.tag_arena.proofs.Merging.{none_left, without_kept, without_filter}
 use Rattle.tag_arena.proofs.Ranges.{between_is, surrounds-true, true-surrounds}
 use Rattle.sorted_rows.specs.Order.{Rises, first_from}
-use Rattle.tag_arena.specs.declared.orders.Order.TheVariants.{Falling}
+use Rattle.tag_arena.specs.declared.orders.Order.TheVariants.{Rising}
 use Rattle.tag_arena.specs.Cuts.{CarvesOut, IsCut}
 use Rattle.tag_arena.specs.FreeRanges.{IsIndexed}
 use Rattle.tag_arena.specs.FreeTags.{FreeTag, tag_at, ranges_by_age}
@@ -22,12 +22,13 @@ use Rattle.tag_arena.specs.Slotted.{SlotsState}
 use Rattle.tag_arena.proofs.Fitting.{tag_of_free}
 use Rattle.tag_arena.proofs.Indexing.{found_first}
 
--- the tag of a free range is found by its base
-pub found_range : (policy : Policy) (s : SlotsState) (f z l r : OrderedIndexState) (clock room : ℕ) → IsIndexed policy s f z l r clock room → (range : Holding) (base : ℕ) → Rises rank_of f.items → Contains (ranges_by_age s.tags) range → base ≡ range.range.base
-    → (k : ℕ) × (t : FreeTag) × (tag_at s.tags k ≡ Some t) × (t.range ≡ range) × (first_from rank_of ((2 ^ 62 - base) * 2 ^ 64 + 0) f.items ≡ Some (entry_of Falling k t))
-found_range policy s f z l r clock room x range base rises among base_is =
+-- the tag of a free range is found by its base and length
+pub found_range : (policy : Policy) (s : SlotsState) (r z l : OrderedIndexState) (clock room : ℕ) → IsIndexed policy s r z l clock room → (range : Holding) (base len : ℕ) → Rises rank_of r.items → Contains (ranges_by_age s.tags) range → base ≡ range.range.base → len ≡ range.range.len
+    → (k : ℕ) × (t : FreeTag) × (tag_at s.tags k ≡ Some t) × (t.range ≡ range) × (first_from rank_of (base * 2 ^ 64 + len) r.items ≡ Some (entry_of Rising k t))
+found_range policy s r z l clock room x range base len rises among base_is len_is =
     let w = tag_of_free s.tags range among in
-    (w.0, w.1, w.2, w.3, found_first policy s f z l r clock room x w.0 w.1 base rises w.2 (ap (λ h. h.range.base) w.3 ∙ sym base_is))
+    let same = sym w.3 in
+    (w.0, w.1, w.2, w.3, found_first policy s r z l clock room x w.0 w.1 base len rises w.2 (base_is ∙ ap (λ h. h.range.base) same) (len_is ∙ ap (λ h. h.range.len) same))
 
 -- the same slots
 pub same_table : (s s2 : SlotsState) → s2.tags ≡ s.tags → s2.room ≡ s.room → s2 ≡ s

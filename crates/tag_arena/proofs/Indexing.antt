@@ -1,8 +1,8 @@
 -- The index of the free ranges, with one more and one less.
-use Rattle.std.proofs.Common.{◌≡◌, ◌≢◌, ℕ, ◌+◌, ◌-◌, ◌*◌, ◌^◌, ◌<◌, ◌≤◌, sym, ap, subst, ◌∙◌, ⊎_elim, List, [], ◌∷◌, ◌++◌, length, map, All, Any, Contains, Option, None, Some, slice_get, arith}
+use Rattle.std.proofs.Common.{◌≡◌, ◌≢◌, ℕ, ◌+◌, ◌*◌, ◌^◌, ◌<◌, ◌≤◌, sym, ap, subst, ◌∙◌, ⊎_elim, List, [], ◌∷◌, ◌++◌, length, map, All, Any, Contains, Option, None, Some, slice_get, arith}
 use Rattle.std.proofs.lemmas.List.{get_or-map, length-map, map_push}
 use Rattle.std.proofs.lemmas.List.Elements.{All-contains}
-use Rattle.std.proofs.lemmas.Option.{slice_get-get_or}
+use Rattle.std.proofs.lemmas.Option.{slice_get-get_or, slice_get_cases}
 use Rattle.deed_core.specs.Extent.{IsRange}
 use Rattle.deed_core.specs.Holding.{Holding}
 use Rattle.tag_arena.specs.declared.policies.Policy.{Policy}
@@ -10,7 +10,7 @@ use Rattle.tag_arena.specs.Neighbors.{Without}
 use Rattle.tag_arena.proofs.SpanLists.{Contains-map, Contains-from_map}
 use Rattle.sorted_rows.specs.Order.{Rises, first_from, place_below}
 use Rattle.tag_arena.specs.declared.orders.Order.{Order}
-use Rattle.tag_arena.specs.declared.orders.Order.TheVariants.{Falling, Sizes, Lists, Rising}
+use Rattle.tag_arena.specs.declared.orders.Order.TheVariants.{Rising, Sizes, Lists}
 use Rattle.tag_arena.specs.FreeTags.{FreeTag, range_of, tag_at, SlotBecomes, by_age, ranges_by_age, IsTag, IsTimed, AreTags}
 use Rattle.tag_arena.specs.Orders.{rank_of, entry_of, OrderedIndexState, Mirrors, KeepsUp, HasRoomForOne, IsAbsent, IsPresent}
 use Rattle.tag_arena.specs.Slotted.{SlotsState, taken_count}
@@ -18,6 +18,7 @@ use Rattle.tag_arena.specs.FreeRanges.{MeetsPolicy, IsIndexed}
 use Rattle.tag_arena.proofs.Listing.{map-remove, place_of_member}
 use Rattle.tag_arena.proofs.Aging.{in_by_age, from_by_age, length-by_age, put_cases, timed_put, aged_put, take_cases, timed_take, aged_take}
 use Rattle.tag_arena.proofs.Mirroring.{place_for, absent_for, present_for}
+use Rattle.tag_arena.proofs.Searching.{is_first, none_from}
 
 -- the range of a tag is one of the free ranges
 pub range_is_free : (tags : List (Option FreeTag)) (k : ℕ) (t : FreeTag) → tag_at tags k ≡ Some t → Contains (ranges_by_age tags) t.range
@@ -52,31 +53,29 @@ module _ (clock k : ℕ) (old new : List (Option FreeTag)) (t : FreeTag) (are : 
       let h = newer now j u here in
       (All-contains (λ r. r.range.base ≢ t.range.range.base) (ranges_by_age old) u.range absent (range_is_free old j u here), omega (arith, h))
 
-module _ (policy : Policy) (s s2 : SlotsState) (f z l r f2 z2 l2 r2 : OrderedIndexState) (clock room k : ℕ) (t : FreeTag) (x : IsIndexed policy s f z l r clock room) where
+module _ (policy : Policy) (s s2 : SlotsState) (r z l r2 z2 l2 : OrderedIndexState) (clock room k : ℕ) (t : FreeTag) (x : IsIndexed policy s r z l clock room) where
   pub indexed_put : tag_at s.tags k ≡ None → SlotBecomes s.tags s2.tags k (Some t) → s2.room ≡ s.room → IsTag (clock + 1) t → t.since ≡ clock + 1
-      → MeetsPolicy policy Falling s2 room f2 → MeetsPolicy policy Sizes s2 room z2 → MeetsPolicy policy Lists s2 room l2 → MeetsPolicy policy Rising s2 room r2 → IsIndexed policy s2 f2 z2 l2 r2 (clock + 1) room
-  indexed_put vacant becomes same is now hf hz hl hr =
+      → MeetsPolicy policy Rising s2 room r2 → MeetsPolicy policy Sizes s2 room z2 → MeetsPolicy policy Lists s2 room l2 → IsIndexed policy s2 r2 z2 l2 (clock + 1) room
+  indexed_put vacant becomes same is now hr hz hl =
       let later = newer clock k s.tags s2.tags t x.tags now in
       record {
         timed = timed_put s.tags s2.tags k t x.timed vacant becomes later;
         tags = λ j u here. ⊎_elim (λ a. subst (IsTag (clock + 1)) a.1 is) (λ a. tags_later clock s.tags x.tags j u a.1) (put_cases s.tags s2.tags k t becomes j u here);
         slots_room = omega (arith, x.slots_room, same);
-        falling = hf;
+        rising = hr;
         sizes = hz;
         lists = hl;
-        rising = hr;
       }
 
   pub indexed_take : tag_at s.tags k ≡ Some t → SlotBecomes s.tags s2.tags k None → s2.room ≡ s.room
-      → MeetsPolicy policy Falling s2 room f2 → MeetsPolicy policy Sizes s2 room z2 → MeetsPolicy policy Lists s2 room l2 → MeetsPolicy policy Rising s2 room r2 → IsIndexed policy s2 f2 z2 l2 r2 clock room
-  indexed_take here becomes same hf hz hl hr = record {
+      → MeetsPolicy policy Rising s2 room r2 → MeetsPolicy policy Sizes s2 room z2 → MeetsPolicy policy Lists s2 room l2 → IsIndexed policy s2 r2 z2 l2 clock room
+  indexed_take here becomes same hr hz hl = record {
     timed = timed_take s.tags s2.tags k t x.timed here becomes;
     tags = λ j u stays. x.tags j u (take_cases s.tags s2.tags k t becomes j u stays).1;
     slots_room = omega (arith, x.slots_room, same);
-    falling = hf;
+    rising = hr;
     sizes = hz;
     lists = hl;
-    rising = hr;
   }
 
 -- the lists of free ranges then
@@ -89,20 +88,43 @@ module _ (old new : List (Option FreeTag)) (k : ℕ) (t : FreeTag) (timed : IsTi
       let a = aged_take old new k t timed here becomes in
       (a.0, omega (arith, a.1, length-map (by_age old) range_of), (λ d. get_or-map range_of (by_age old) a.0 t d a.1 ∙ ap range_of (a.2 t)), ap (map range_of) a.3 ∙ map-remove range_of (by_age old) a.0)
 
--- where the range stands that begins at a base
-module _ (policy : Policy) (s : SlotsState) (f z l r : OrderedIndexState) (clock room : ℕ) (x : IsIndexed policy s f z l r clock room) where
-  pub falling_mirrors : Mirrors Falling f.items s.tags
-  falling_mirrors =
-      let up = subst (λ b. KeepsUp b f.order f.items f.room s.tags room) x.falling.kept_is x.falling.keeps_up in
-      subst (λ o. Mirrors o f.items s.tags) x.falling.order_is up.0
+-- where ranges stand in the order by base
+module _ (policy : Policy) (s : SlotsState) (r z l : OrderedIndexState) (clock room : ℕ) (x : IsIndexed policy s r z l clock room) where
+  pub rising_mirrors : Mirrors Rising r.items s.tags
+  rising_mirrors =
+      let up = subst (λ b. KeepsUp b r.order r.items r.room s.tags room) x.rising.kept_is x.rising.keeps_up in
+      subst (λ o. Mirrors o r.items s.tags) x.rising.order_is up.0
 
-  pub found_first : (k : ℕ) (t : FreeTag) (base : ℕ) → Rises rank_of f.items → tag_at s.tags k ≡ Some t → t.range.range.base ≡ base → first_from rank_of ((2 ^ 62 - base) * 2 ^ 64 + 0) f.items ≡ Some (entry_of Falling k t)
-  found_first k t base rises here at =
-      let c = falling_mirrors.into k t here in
-      let e0 = entry_of Falling k t in
-      let key : (2 ^ 62 - base) * 2 ^ 64 + 0 ≡ rank_of e0 = ap (λ b. (2 ^ 62 - b) * 2 ^ 64 + 0) (sym at) in
-      let place : place_below rank_of ((2 ^ 62 - base) * 2 ^ 64 + 0) f.items ≡ c.0 = ap (λ n. place_below rank_of n f.items) key ∙ place_of_member rank_of f.items e0 c.0 rises c.1 c.2 in
-      ap (λ p. slice_get f.items p) place ∙ (slice_get-get_or f.items c.0 e0 c.1 ∙ ap (λ e. Some e) c.2)
+  -- a range is found by its base and length
+  pub found_first : (k : ℕ) (t : FreeTag) (base len : ℕ) → Rises rank_of r.items → tag_at s.tags k ≡ Some t → base ≡ t.range.range.base → len ≡ t.range.range.len → first_from rank_of (base * 2 ^ 64 + len) r.items ≡ Some (entry_of Rising k t)
+  found_first k t base len rises here base_is len_is =
+      let c = rising_mirrors.into k t here in
+      let e0 = entry_of Rising k t in
+      let key : base * 2 ^ 64 + len ≡ rank_of e0 = omega (arith, base_is, len_is) in
+      let place : place_below rank_of (base * 2 ^ 64 + len) r.items ≡ c.0 = ap (λ n. place_below rank_of n r.items) key ∙ place_of_member rank_of r.items e0 c.0 rises c.1 c.2 in
+      ap (λ p. slice_get r.items p) place ∙ (slice_get-get_or r.items c.0 e0 c.1 ∙ ap (λ e. Some e) c.2)
+
+  -- one that begins at a base is found by the base alone
+  pub found_at : (base : ℕ) → Rises rank_of r.items → Any (λ h. h.range.base ≡ base) (ranges_by_age s.tags)
+      → (k : ℕ) × (t : FreeTag) × (tag_at s.tags k ≡ Some t) × (t.range.range.base ≡ base) × (first_from rank_of (base * 2 ^ 64 + 0) r.items ≡ Some (entry_of Rising k t))
+  found_at base rises present =
+      let key : ℕ = base * 2 ^ 64 + 0 in
+      let w = tag_of_range s.tags (λ h. h.range.base ≡ base) present in
+      let e0 = entry_of Rising w.0 w.1 in
+      let c = rising_mirrors.into w.0 w.1 w.2 in
+      ⊎_elim
+      (λ found.
+      let e = found.0 in
+      let first = is_first rank_of key r.items rises e found.2 in
+      let m = rising_mirrors.from e (place_below rank_of key r.items, first.within, first.here) in
+      let rank_e = ap rank_of m.2 in
+      let least = first.least e0 c (omega (arith, w.3)) in
+      let top = (x.tags w.0 w.1 w.2).range.below in
+      let top_e = (x.tags e.slot m.0 m.1).range.below in
+      let from = first.from in
+      (e.slot, m.0, m.1, omega (arith, from, least, rank_e, w.3, top, top_e), found.2 ∙ ap (λ y. Some y) m.2))
+      (λ none. let below = none_from rank_of key r.items rises none.1 e0 c in absurd (omega (arith, below, w.3)))
+      (slice_get_cases r.items (place_below rank_of key r.items)).1
 
 -- what a kept index asks before a range is put in
 module _ (policy : Policy) (order : Order) (s : SlotsState) (room : ℕ) (i : OrderedIndexState) (is : MeetsPolicy policy order s room i) where

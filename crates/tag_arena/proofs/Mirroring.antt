@@ -7,7 +7,7 @@ use Rattle.tag_arena.specs.declared.policies.Policy.{Policy}
 use Rattle.sorted_rows.specs.Order.{Rises, PutsIn, TakesOut, place_below}
 use Rattle.tag_arena.specs.declared.entries.IndexEntry.{IndexEntry}
 use Rattle.tag_arena.specs.declared.orders.Order.{Order}
-use Rattle.tag_arena.specs.declared.orders.Order.TheVariants.{Falling, Sizes, Lists, Rising}
+use Rattle.tag_arena.specs.declared.orders.Order.TheVariants.{Rising, Sizes, Lists}
 use Rattle.tag_arena.specs.FreeTags.{FreeTag, tag_at, SlotBecomes, IsTag, AreTags}
 use Rattle.tag_arena.specs.Orders.{rank_of, entry_of, OrderedIndexState, Mirrors, KeepsUp, IsAbsent, IsPresent, HasRoomForOne, PutsEntry, TakesEntry}
 use Rattle.tag_arena.specs.Slotted.{SlotsState, taken_count}
@@ -17,17 +17,15 @@ use Rattle.tag_arena.proofs.Aging.{put_cases, put_kept, take_cases}
 
 -- an entry names its slot
 pub slot_is : (order : Order) (k : ℕ) (t : FreeTag) → (entry_of order k t).slot ≡ k
-slot_is Falling k t = refl
+slot_is Rising k t = refl
 slot_is Sizes k t = refl
 slot_is Lists k t = refl
-slot_is Rising k t = refl
 
 -- two tags that differ in base and time differ in every order
 pub ranks_differ : (order : Order) (clock j k : ℕ) (u t : FreeTag) → IsTag clock u → IsTag clock t → clock < 2 ^ 64 → u.range.range.base ≢ t.range.range.base → u.since ≢ t.since → rank_of (entry_of order j u) ≢ rank_of (entry_of order k t)
-ranks_differ Falling clock j k u t hu ht fits base since e = let a = hu.range.below in let b = ht.range.below in omega (arith, a, b, base, e)
+ranks_differ Rising clock j k u t hu ht fits base since e = let a = hu.range.below in let b = ht.range.below in omega (arith, a, b, base, e)
 ranks_differ Sizes clock j k u t hu ht fits base since e = let a = hu.range.below in let b = ht.range.below in omega (arith, a, b, base, e)
 ranks_differ Lists clock j k u t hu ht fits base since e = let a = hu.since in let b = ht.since in omega (arith, a, b, fits, since, e)
-ranks_differ Rising clock j k u t hu ht fits base since e = let a = hu.range.below in let b = ht.range.below in omega (arith, a, b, base, e)
 
 module _ (order : Order) (items : List IndexEntry) (tags : List (Option FreeTag)) (m : Mirrors order items tags) where
   -- no entry has the key of a tag that differs from all

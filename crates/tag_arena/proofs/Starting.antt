@@ -4,7 +4,7 @@ use Rattle.tag_arena.specs.declared.policies.Policy.{Policy}
 use Rattle.tag_arena.proofs.Members.{Contains-nil}
 use Rattle.tag_arena.specs.declared.entries.IndexEntry.{IndexEntry}
 use Rattle.tag_arena.specs.declared.orders.Order.{Order}
-use Rattle.tag_arena.specs.declared.orders.Order.TheVariants.{Falling, Sizes, Lists, Rising}
+use Rattle.tag_arena.specs.declared.orders.Order.TheVariants.{Rising, Sizes, Lists}
 use Rattle.tag_arena.specs.FreeTags.{FreeTag, by_age, ranges_by_age, IsTimed, AreTags}
 use Rattle.tag_arena.specs.Orders.{OrderedIndexState, Mirrors, KeepsUp}
 use Rattle.tag_arena.specs.Slotted.{SlotsState}
@@ -62,14 +62,13 @@ module _ (policy : Policy) (order : Order) (s s2 : SlotsState) (room : ℕ) (i i
   pub kept_wide : (wanted : ℕ) → (i.kept ≡ true → i2.room ≡ max wanted i.room) → MeetsPolicy policy order s2 wanted i2
   kept_wide wanted so = kept_so wanted (wide_for i.kept i.order i.items i.room i2.room room wanted s.tags so is.keeps_up)
 
-module _ (policy : Policy) (s s2 : SlotsState) (f z l r f2 z2 l2 r2 : OrderedIndexState) (clock room wanted : ℕ) (x : IsIndexed policy s f z l r clock room) where
-  pub indexed_same : s2.tags ≡ s.tags → wanted ≤ s2.room → MeetsPolicy policy Falling s2 wanted f2 → MeetsPolicy policy Sizes s2 wanted z2 → MeetsPolicy policy Lists s2 wanted l2 → MeetsPolicy policy Rising s2 wanted r2 → IsIndexed policy s2 f2 z2 l2 r2 clock wanted
-  indexed_same same le hf hz hl hr = record {
+module _ (policy : Policy) (s s2 : SlotsState) (r z l r2 z2 l2 : OrderedIndexState) (clock room wanted : ℕ) (x : IsIndexed policy s r z l clock room) where
+  pub indexed_same : s2.tags ≡ s.tags → wanted ≤ s2.room → MeetsPolicy policy Rising s2 wanted r2 → MeetsPolicy policy Sizes s2 wanted z2 → MeetsPolicy policy Lists s2 wanted l2 → IsIndexed policy s2 r2 z2 l2 clock wanted
+  indexed_same same le hr hz hl = record {
     timed = subst IsTimed (sym same) x.timed;
     tags = subst (AreTags clock) (sym same) x.tags;
     slots_room = le;
-    falling = hf;
+    rising = hr;
     sizes = hz;
     lists = hl;
-    rising = hr;
   }

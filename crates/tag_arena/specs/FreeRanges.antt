@@ -4,7 +4,7 @@ use Rattle.deed_core.specs.Holding.{Holding}
 use Rattle.tag_arena.specs.declared.policies.Policy.{Policy}
 use Rattle.tag_arena.specs.declared.policies.Policy.TheVariants.{Best, Next, Instant}
 use Rattle.tag_arena.specs.declared.orders.Order.{Order}
-use Rattle.tag_arena.specs.declared.orders.Order.TheVariants.{Falling, Sizes, Lists, Rising}
+use Rattle.tag_arena.specs.declared.orders.Order.TheVariants.{Rising, Sizes, Lists}
 use Rattle.tag_arena.specs.FreeTags.{IsTimed, AreTags}
 use Rattle.tag_arena.specs.Orders.{OrderedIndexState, KeepsUp}
 use Rattle.tag_arena.specs.Slotted.{SlotsState}
@@ -17,18 +17,15 @@ pub record FreeIndexState : Type 0 where
   pub room : ℕ
   pub ticks : ℕ
 
--- the orders that a policy asks for; each asks for the falling one
+-- the orders that a policy asks for; each asks for the rising one
 abbrev pub keeps : Policy → Order → Bool
-keeps policy Falling = true
+keeps policy Rising = true
 keeps Best Sizes = true
 keeps Best Lists = false
-keeps Best Rising = false
 keeps Instant Sizes = true
 keeps Instant Lists = true
-keeps Instant Rising = false
 keeps Next Sizes = false
 keeps Next Lists = false
-keeps Next Rising = true
 
 -- an index in this order has what its policy asks for
 pub record MeetsPolicy (policy : Policy) (order : Order) (s : SlotsState) (room : ℕ)
@@ -38,15 +35,14 @@ pub record MeetsPolicy (policy : Policy) (order : Order) (s : SlotsState) (room 
   pub keeps_up : KeepsUp i.kept i.order i.items i.room s.tags room
 
 -- each index has the tags of the slots
-pub record IsIndexed (policy : Policy) (s : SlotsState) (down size list up : OrderedIndexState)
+pub record IsIndexed (policy : Policy) (s : SlotsState) (up size list : OrderedIndexState)
     (clock room : ℕ) : Type 0 where
   pub timed : IsTimed s.tags
   pub tags : AreTags clock s.tags
   pub slots_room : room ≤ s.room
-  pub falling : MeetsPolicy policy Falling s room down
+  pub rising : MeetsPolicy policy Rising s room up
   pub sizes : MeetsPolicy policy Sizes s room size
   pub lists : MeetsPolicy policy Lists s room list
-  pub rising : MeetsPolicy policy Rising s room up
 
 -- what is out, so many ranges, can come back without memory, and before time runs out
 pub record IsBacked (policy : Policy) (free : FreeIndexState) (out : ℕ) : Type 0 where

@@ -7,7 +7,7 @@ use Rattle.tag_arena.specs.declared.entries.IndexEntry.{IndexEntry}
 use Rattle.tag_arena.specs.declared.orders.Order.{Order}
 use Rattle.tag_arena.specs.declared.reaches.Measure.{Measure}
 use Rattle.tag_arena.specs.declared.reaches.Measure.TheVariants.{Length, Nothing, Reach}
-use Rattle.tag_arena.specs.declared.orders.Order.TheVariants.{Falling, Sizes, Lists, Rising}
+use Rattle.tag_arena.specs.declared.orders.Order.TheVariants.{Rising, Sizes, Lists}
 use Rattle.tag_arena.specs.FreeTags.{FreeTag, tag_at}
 use Rattle.tag_arena.specs.Reach.{reach_of}
 
@@ -22,13 +22,12 @@ weight_of Nothing e = 0
 weight_of Length e = e.minor
 weight_of (Reach g) e = reach_of g (min e.minor (2 ^ 62)) (min (e.major + e.minor) (2 ^ 62))
 
--- by base from the highest on; by length, then base; by list, then from the newest on; by base,
--- with the length as what an entry weighs
+-- by base, with the length as what an entry weighs; by length, then base; by list, then from the
+-- newest on
 abbrev pub entry_of : Order → ℕ → FreeTag → IndexEntry
-entry_of Falling k t = record { major = 2 ^ 62 - t.range.range.base; minor = 0; slot = k }
+entry_of Rising k t = record { major = t.range.range.base; minor = t.range.range.len; slot = k }
 entry_of Sizes k t = record { major = t.range.range.len; minor = t.range.range.base; slot = k }
 entry_of Lists k t = record { major = t.power; minor = 2 ^ 64 - 1 - t.since; slot = k }
-entry_of Rising k t = record { major = t.range.range.base; minor = t.range.range.len; slot = k }
 
 -- an index that may be kept: its order, its entries, and how many may be in it
 pub record OrderedIndexState : Type 0 where

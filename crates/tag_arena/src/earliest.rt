@@ -7,7 +7,7 @@ ghost use Rattle.tag_arena.specs.Choice.{IsNextChoice};
 ghost use Rattle.tag_arena.specs.FreeTags.{AreTags, ranges_by_age};
 ghost use Rattle.tag_arena.specs.Orders.{Mirrors};
 ghost use Rattle.tag_arena.specs.Fits.{base_of, IsEarliest, IsFit, NoneBelow};
-ghost use Rattle.tag_arena.specs.declared.orders.Order.TheVariants.{Falling, Rising};
+ghost use Rattle.tag_arena.specs.declared.orders.Order.TheVariants.{Rising};
 
 use crate::orders::OrderedIndex;
 use crate::probes::Probes;
@@ -57,7 +57,6 @@ fn earliest_behind<D: Deed>(
 /// or below it, only the last can reach past it.
 fn earliest_fit<D: Deed>(
     slots: &Slots<D>,
-    falling: &OrderedIndex,
     rising: &mut OrderedIndex,
     quantum: u64,
     request: &Request,
@@ -68,8 +67,7 @@ fn earliest_fit<D: Deed>(
     requires good { IsGood quantum request.now }
     requires start { start ≤ 2 ^ 62 }
     requires tags { (clock : ℕ) × AreTags clock slots.now.tags }
-    requires falling { Mirrors Falling falling.now.items slots.now.tags }
-    requires rising { Mirrors Rising rising.old.items slots.now.tags }
+    requires mirrors { Mirrors Rising rising.old.items slots.now.tags }
     requires apart { AllPairs Apart (ranges_by_age slots.now.tags) }
     ensures least { let free = ranges_by_age slots.now.tags in
         IsEarliest quantum request.now free start (base_of result) }
@@ -78,7 +76,7 @@ fn earliest_fit<D: Deed>(
     ensures unchanged { rising.new ≡ rising.old }
 {
     let units = request.units(quantum)?;
-    if let Some(range) = last_by(slots, falling, start) {
+    if let Some(range) = last_by(slots, rising, start) {
         if let Some(base) = probes.least_in(request, quantum, range, start) {
             return Some(Fit { range, base });
         }
@@ -99,7 +97,6 @@ fn earliest_fit<D: Deed>(
 /// address below the request's `min` is looked at.
 pub fn next_fit<D: Deed>(
     slots: &Slots<D>,
-    falling: &OrderedIndex,
     rising: &mut OrderedIndex,
     rover: u64,
     quantum: u64,
@@ -110,8 +107,7 @@ pub fn next_fit<D: Deed>(
     requires good { IsGood quantum request.now }
     requires rover { rover ≤ 2 ^ 62 }
     requires tags { (clock : ℕ) × AreTags clock slots.now.tags }
-    requires falling { Mirrors Falling falling.now.items slots.now.tags }
-    requires rising { Mirrors Rising rising.old.items slots.now.tags }
+    requires mirrors { Mirrors Rising rising.old.items slots.now.tags }
     requires apart { AllPairs Apart (ranges_by_age slots.now.tags) }
     ensures choice { let free = ranges_by_age slots.now.tags in
         IsNextChoice quantum request.now free rover (base_of result) }
@@ -120,17 +116,9 @@ pub fn next_fit<D: Deed>(
     ensures unchanged { rising.new ≡ rising.old }
 {
     let low = request.min;
-    let past = earliest_fit(
-        slots,
-        falling,
-        rising,
-        quantum,
-        request,
-        rover.max(low),
-        probes,
-    );
+    let past = earliest_fit(slots, rising, quantum, request, rover.max(low), probes);
     if let Some(fit) = past {
         return Some(fit);
     }
-    earliest_fit(slots, falling, rising, quantum, request, low, probes)
+    earliest_fit(slots, rising, quantum, request, low, probes)
 }

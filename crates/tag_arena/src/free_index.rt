@@ -9,7 +9,7 @@ ghost use Rattle.deed_core.specs.Holding.{Apart};
 ghost use Rattle.deed_core.specs.Request.{IsGood};
 ghost use Rattle.tag_arena.specs.Calls.{part};
 ghost use Rattle.tag_arena.specs.Choice.{IsBestChoice, IsChoice, IsInstantChoice, IsNextChoice};
-ghost use Rattle.tag_arena.specs.declared.policies.Policy.TheVariants.{Instant, Next};
+ghost use Rattle.tag_arena.specs.declared.policies.Policy.TheVariants.{Instant};
 ghost use Rattle.tag_arena.specs.Layout.{IsPartOf};
 ghost use Rattle.tag_arena.specs.Neighbors.{IsBeside, Merges, TakesLeft, TakesRight, Without};
 ghost use Rattle.tag_arena.specs.Cuts.{CarvesOut, IsCut};
@@ -27,7 +27,7 @@ use crate::policies::Policy;
 use crate::probes::Probes;
 use crate::searches::{Fit, best_fit, last_by, newest};
 use crate::slots::{Slots, TimedDeed};
-use deed_core::{Deed, LIMIT, Request, Stored};
+use deed_core::{Deed, Request, Stored};
 use std::alloc::{AllocError, Global};
 use std::marker::Model;
 
@@ -36,10 +36,9 @@ use std::marker::Model;
 pub struct FreeIndex<D: Deed> {
     policy: Policy,
     slots: Slots<D>,
-    falling: OrderedIndex,
+    rising: OrderedIndex,
     sizes: OrderedIndex,
     lists: OrderedIndex,
-    rising: OrderedIndex,
     clock: u64,
     room: usize,
 }
@@ -59,15 +58,15 @@ impl<D: Deed> Model for FreeIndex<D> {
     } };
 
     ghost invariant = { λ f.
-        IsIndexed f.policy f.slots f.falling f.sizes f.lists f.rising f.clock f.room };
+        IsIndexed f.policy f.slots f.rising f.sizes f.lists f.clock f.room };
 }
 
-/// Whether the policy asks for the order. Each asks for the falling one.
+/// Whether the policy asks for the order. Each asks for the rising one.
 fn is_kept(policy: Policy, order: Order) -> bool
     ensures { result ≡ keeps policy order }
 {
     match order {
-        Order::Falling => true,
+        Order::Rising => true,
         Order::Sizes => match policy {
             Policy::Next => false,
             Policy::Best | Policy::Instant => true,
@@ -75,10 +74,6 @@ fn is_kept(policy: Policy, order: Order) -> bool
         Order::Lists => match policy {
             Policy::Instant => true,
             Policy::Best | Policy::Next => false,
-        },
-        Order::Rising => match policy {
-            Policy::Next => true,
-            Policy::Best | Policy::Instant => false,
         },
     }
 }
@@ -104,10 +99,9 @@ impl<D: Deed> FreeIndex<D> {
         FreeIndex {
             policy,
             slots: Slots::new(alloc),
-            falling: index_in(alloc, policy, Order::Falling),
+            rising: index_in(alloc, policy, Order::Rising),
             sizes: index_in(alloc, policy, Order::Sizes),
             lists: index_in(alloc, policy, Order::Lists),
-            rising: index_in(alloc, policy, Order::Rising),
             clock: 0,
             room: 0,
         }
@@ -123,10 +117,9 @@ impl<D: Deed> FreeIndex<D> {
             return Ok(());
         }
         self.slots.reserve(room)?;
-        self.falling.reserve(alloc, room)?;
+        self.rising.reserve(alloc, room)?;
         self.sizes.reserve(alloc, room)?;
         self.lists.reserve(alloc, room)?;
-        self.rising.reserve(alloc, room)?;
         self.room = room;
         Ok(())
     }
@@ -146,10 +139,9 @@ impl<D: Deed> FreeIndex<D> {
         let deed = TimedDeed::new(deed, self.clock, power);
         let tag = deed.tag();
         let slot = self.slots.put(deed);
-        self.falling.enter(slot, tag);
+        self.rising.enter(slot, tag);
         self.sizes.enter(slot, tag);
         self.lists.enter(slot, tag);
-        self.rising.enter(slot, tag);
     }
 
     /// The free range that begins at `base` is free no more.
@@ -161,15 +153,14 @@ impl<D: Deed> FreeIndex<D> {
         ensures room { self.new.room ≡ self.old.room }
         ensures ticks { self.new.ticks ≡ self.old.ticks }
     {
-        let Some(entry) = self.falling.first_from(LIMIT - base, 0) else {
+        let Some(entry) = self.rising.first_from(base, 0) else {
             unreachable!()
         };
         let slot = entry.slot;
         let tag = self.slots.tag(slot);
-        self.falling.strike(slot, tag);
+        self.rising.strike(slot, tag);
         self.sizes.strike(slot, tag);
         self.lists.strike(slot, tag);
-        self.rising.strike(slot, tag);
         self.slots.take(slot).into_deed()
     }
 
@@ -222,10 +213,9 @@ impl<D: Deed> FreeIndex<D> {
 
     /// Of the free ranges that begin at `base` or below it, the one that begins last.
     pub fn last_by(&self, base: u64) -> Option<HeldRange>
-        requires { base ≤ 2 ^ 62 }
         ensures { IsLastBy base self.now.ranges result }
     {
-        last_by(&self.slots, &self.falling, base)
+        last_by(&self.slots, &self.rising, base)
     }
 
     /// The best range that serves the request, and its least address that does. Under `next` there
@@ -274,7 +264,7 @@ impl<D: Deed> FreeIndex<D> {
     }
 
     /// The least address at or past the rover that serves the request, else the least that does. It
-    /// is for `next`, which alone has the order that it asks for.
+    /// is what `next` chooses.
     pub fn next(
         &mut self,
         rover: u64,
@@ -282,7 +272,6 @@ impl<D: Deed> FreeIndex<D> {
         request: &Request,
         probes: &mut Probes,
     ) -> Option<Fit>
-        requires is_kept { self.old.policy ≡ Next }
         requires quantum { IsPowerOfTwo quantum }
         requires good { IsGood quantum request.now }
         requires rover { rover ≤ 2 ^ 62 }
@@ -294,7 +283,6 @@ impl<D: Deed> FreeIndex<D> {
     {
         next_fit(
             &self.slots,
-            &self.falling,
             &mut self.rising,
             rover,
             quantum,
@@ -333,7 +321,6 @@ impl<D: Deed> FreeIndex<D> {
     /// Takes out the free range that ends at `base`, unless the span begins there.
     fn take_left(&mut self, start: u64, base: u64) -> Option<Stored<D>>
         requires start { start ≤ base }
-        requires base { base ≤ 2 ^ 62 }
         requires apart { AllPairs Apart self.old.ranges }
         ensures taken { TakesLeft start base self.old.ranges result self.new.ranges }
         ensures rest { self.new ≡ record self.old { ranges = self.new.ranges } }
@@ -352,8 +339,7 @@ impl<D: Deed> FreeIndex<D> {
 
     /// Takes out the free range that begins at `end`, unless the span ends there.
     fn take_right(&mut self, end: u64, limit: u64) -> Option<Stored<D>>
-        requires end { end ≤ limit }
-        requires limit { limit ≤ 2 ^ 62 }
+        requires { end ≤ limit }
         ensures taken { TakesRight end limit self.old.ranges result self.new.ranges }
         ensures rest { self.new ≡ record self.old { ranges = self.new.ranges } }
     {
@@ -416,16 +402,15 @@ impl<D: Deed> FreeIndex<D> {
         ensures unchanged { OnErr result (self.new.ranges ≡ self.old.ranges) }
         ensures rest { self.new ≡ record self.old { ranges = self.new.ranges } }
     {
-        let Some(entry) = self.falling.first_from(LIMIT - range.base(), 0) else {
+        let Some(entry) = self.rising.first_from(range.base(), range.len()) else {
             unreachable!()
         };
         let slot = entry.slot;
         let tag = self.slots.tag(slot);
         let cut = self.slots.cut(slot, tag, base, end)?;
-        self.falling.strike(slot, tag);
+        self.rising.strike(slot, tag);
         self.sizes.strike(slot, tag);
         self.lists.strike(slot, tag);
-        self.rising.strike(slot, tag);
         Ok(cut)
     }
 
@@ -480,10 +465,9 @@ impl<D: Deed> FreeIndex<D> {
         let FreeIndex {
             policy: _,
             slots,
-            falling: _,
+            rising: _,
             sizes: _,
             lists: _,
-            rising: _,
             clock: _,
             room: _,
         } = self;

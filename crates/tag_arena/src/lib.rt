@@ -15,10 +15,10 @@
 //! oldest to the newest. In it
 //!
 //! * `slots` has each deed in a slot of its own, with the time at which it became free;
-//! * `falling` has the ranges by base from the highest on, for the neighbors of a range;
+//! * `rising` has the ranges by base, for the neighbors of a range, with their lengths as weights,
+//!   for `next`;
 //! * `sizes` has them by length and base, under `best` and `instant`;
-//! * `lists` has them by power-of-two list, the newest first, under `instant`;
-//! * `rising` has them by base with their lengths as weights, under `next`.
+//! * `lists` has them by power-of-two list, the newest first, under `instant`.
 //!
 //! Round it `Arena` has the allocated ranges by their bases in a hashed map, `Tags`, and the owned
 //! and the imported spans, each in the order of their ends, in `Spans`; a contract sees spans in

@@ -2,13 +2,12 @@
 ghost use Rattle.std.specs.Prelude.{◌≡◌, ◌≤◌, ◌+◌, ◌*◌, ◌^◌, [], max, OnOk, true};
 ghost use Rattle.tag_arena.specs.Orders.{entry_of, rank_of, IsAbsent, IsPresent, HasRoomForOne};
 ghost use Rattle.tag_arena.specs.Orders.{PutsEntry, TakesEntry, weight_of};
-ghost use Rattle.sorted_rows.specs.Order.{Rises, first_from};
+ghost use Rattle.sorted_rows.specs.Order.{Rises, first_from, last_to};
 ghost use Rattle.sorted_rows.specs.Weights.{heavy_from};
 
 use crate::entries::{IndexEntry, key_of};
 use crate::reaches::Measure;
 use crate::slots::SlotTag;
-use deed_core::LIMIT;
 use sorted_rows::Rows;
 use std::alloc::{AllocError, Global};
 use std::marker::Model;
@@ -16,14 +15,12 @@ use std::marker::Model;
 /// An order of free ranges.
 #[derive(Clone, Copy, PartialEq, Eq, Debug)]
 pub enum Order {
-    /// By base, from the highest on.
-    Falling,
+    /// By base.
+    Rising,
     /// By length, then by base.
     Sizes,
     /// By power-of-two list, then from the newest on.
     Lists,
-    /// By base.
-    Rising,
 }
 
 /// The entry of a free range.
@@ -32,9 +29,9 @@ pub fn entry_of(order: Order, slot: usize, tag: SlotTag) -> IndexEntry
 {
     let range = tag.range();
     match order {
-        Order::Falling => IndexEntry {
-            major: LIMIT - range.base(),
-            minor: 0,
+        Order::Rising => IndexEntry {
+            major: range.base(),
+            minor: range.len(),
             slot,
         },
         Order::Sizes => IndexEntry {
@@ -45,11 +42,6 @@ pub fn entry_of(order: Order, slot: usize, tag: SlotTag) -> IndexEntry
         Order::Lists => IndexEntry {
             major: tag.power() as u64,
             minor: u64::MAX - tag.since(),
-            slot,
-        },
-        Order::Rising => IndexEntry {
-            major: range.base(),
-            minor: range.len(),
             slot,
         },
     }
@@ -142,6 +134,16 @@ impl OrderedIndex {
     {
         let _ = self.rows.len();
         self.rows.least_from(key_of(major, minor))
+    }
+
+    /// The last entry at or below the key of two numbers.
+    pub fn last_to(&self, major: u64, minor: u64) -> Option<IndexEntry>
+        ensures last { let key = major * 2 ^ 64 + minor in
+            result ≡ last_to rank_of key self.now.items }
+        ensures rises { Rises rank_of self.now.items }
+    {
+        let _ = self.rows.len();
+        self.rows.greatest_to(key_of(major, minor))
     }
 
     /// The first entry, from the first at or above the key of two numbers on, that weighs as much

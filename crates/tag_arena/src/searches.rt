@@ -6,14 +6,14 @@ ghost use Rattle.tag_arena.specs.Choice.{IsBestChoice, IsInstant, NoListServes};
 ghost use Rattle.tag_arena.specs.FreeTags.{AreTags, IsTimed, ranges_by_age};
 ghost use Rattle.tag_arena.specs.Orders.{Mirrors};
 ghost use Rattle.tag_arena.specs.Fits.{base_of, IsFit, IsLastBy};
-ghost use Rattle.tag_arena.specs.declared.orders.Order.TheVariants.{Falling, Lists, Sizes};
+ghost use Rattle.tag_arena.specs.declared.orders.Order.TheVariants.{Lists, Rising, Sizes};
 
 use crate::held_ranges::HeldRange;
 use crate::orders::OrderedIndex;
 use crate::probes::Probes;
 use crate::reaches::{Grid, Measure};
 use crate::slots::Slots;
-use deed_core::{Deed, LIMIT, Request};
+use deed_core::{Deed, Request};
 
 /// A free range, and an address in it.
 #[derive(Clone, Copy, Debug)]
@@ -117,13 +117,12 @@ fn best_by_reach<D: Deed>(
 }
 
 /// Of the free ranges that begin at `base` or below it, the one that begins last.
-pub fn last_by<D: Deed>(slots: &Slots<D>, falling: &OrderedIndex, base: u64) -> Option<HeldRange>
-    requires base { base ≤ 2 ^ 62 }
+pub fn last_by<D: Deed>(slots: &Slots<D>, rising: &OrderedIndex, base: u64) -> Option<HeldRange>
     requires tags { (clock : ℕ) × AreTags clock slots.now.tags }
-    requires mirrors { Mirrors Falling falling.now.items slots.now.tags }
+    requires mirrors { Mirrors Rising rising.now.items slots.now.tags }
     ensures { IsLastBy base (ranges_by_age slots.now.tags) result }
 {
-    let Some(entry) = falling.first_from(LIMIT - base, 0) else {
+    let Some(entry) = rising.last_to(base, u64::MAX) else {
         return None;
     };
     Some(slots.tag(entry.slot).range())

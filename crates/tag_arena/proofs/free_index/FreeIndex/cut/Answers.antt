@@ -6,7 +6,7 @@ use Rattle.tag_arena.specs.Cuts.{IsCut}
 use Rattle.tag_arena.specs.FreeRanges.{IsIndexed}
 use Rattle.tag_arena.specs.FreeTags.{tag_at, ranges_by_age}
 use Rattle.tag_arena.specs.Orders.{entry_of}
-use Rattle.tag_arena.specs.declared.orders.Order.TheVariants.{Falling, Sizes, Lists, Rising}
+use Rattle.tag_arena.specs.declared.orders.Order.TheVariants.{Rising, Sizes, Lists}
 use Rattle.tag_arena.proofs.Cutting.{found_range, same_table}
 use Rattle.tag_arena.proofs.Indexing.{indexed_take, ranges_take}
 use Rattle.tag_arena.proofs.Listing.{Some-injective}
@@ -17,14 +17,14 @@ pub unreachable-requires : goal.unreachable-requires
 unreachable-requires g c =
     let s = c.self.inside in
     let among = subst (λ l. Contains l c.args.range) (sym (ap (λ v. v.ranges) c.self.view_is)) c.requires.among in
-    let w = found_range s.policy s.slots s.falling s.sizes s.lists s.rising s.clock s.room c.self.invariant c.args.range c.base.result c.first_from.ensures.rises among c.base.ensures.value in
-    c.in_default.not-Some (entry_of Falling w.0 w.1) (c.first_from.ensures.first ∙ w.4)
+    let w = found_range s.policy s.slots s.rising s.sizes s.lists s.clock s.room c.self.invariant c.args.range c.base.result c.len.result c.first_from.ensures.rises among c.base.ensures.value c.len.ensures.value in
+    c.in_default.not-Some (entry_of Rising w.0 w.1) (c.first_from.ensures.first ∙ w.4)
 
 pub tag-tag-requires : goal.tag-tag-requires
 tag-tag-requires g c =
     let s = c.self.inside in
     let among = subst (λ l. Contains l c.args.range) (sym (ap (λ v. v.ranges) c.self.view_is)) c.requires.among in
-    let w = found_range s.policy s.slots s.falling s.sizes s.lists s.rising s.clock s.room c.self.invariant c.args.range c.base.result c.first_from.ensures.rises among c.base.ensures.value in
+    let w = found_range s.policy s.slots s.rising s.sizes s.lists s.clock s.room c.self.invariant c.args.range c.base.result c.len.result c.first_from.ensures.rises among c.base.ensures.value c.len.ensures.value in
     let slot : c.in-Some.entry.slot ≡ w.0 = ap (λ e. e.slot) (Some-injective (sym c.in-Some.is ∙ (c.first_from.ensures.first ∙ w.4))) in
     (w.1, ap (tag_at s.slots.tags) slot ∙ w.2)
 
@@ -32,7 +32,7 @@ pub cut-requires-clause-from : goal.cut-requires-clause-from
 cut-requires-clause-from g c =
     let s = c.self.inside in
     let among = subst (λ l. Contains l c.args.range) (sym (ap (λ v. v.ranges) c.self.view_is)) c.requires.among in
-    let w = found_range s.policy s.slots s.falling s.sizes s.lists s.rising s.clock s.room c.self.invariant c.args.range c.base.result c.first_from.ensures.rises among c.base.ensures.value in
+    let w = found_range s.policy s.slots s.rising s.sizes s.lists s.clock s.room c.self.invariant c.args.range c.base.result c.len.result c.first_from.ensures.rises among c.base.ensures.value c.len.ensures.value in
     let slot : c.in-Some.entry.slot ≡ w.0 = ap (λ e. e.slot) (Some-injective (sym c.in-Some.is ∙ (c.first_from.ensures.first ∙ w.4))) in
     let same = Some-injective (c.tag-tag.ensures ∙ (ap (tag_at s.slots.tags) slot ∙ w.2)) in
     let b = ap (λ u. u.range.range.base) same ∙ ap (λ (h : Holding). h.range.base) w.3 in
@@ -42,7 +42,7 @@ pub cut-requires-clause-to : goal.cut-requires-clause-to
 cut-requires-clause-to g c =
     let s = c.self.inside in
     let among = subst (λ l. Contains l c.args.range) (sym (ap (λ v. v.ranges) c.self.view_is)) c.requires.among in
-    let w = found_range s.policy s.slots s.falling s.sizes s.lists s.rising s.clock s.room c.self.invariant c.args.range c.base.result c.first_from.ensures.rises among c.base.ensures.value in
+    let w = found_range s.policy s.slots s.rising s.sizes s.lists s.clock s.room c.self.invariant c.args.range c.base.result c.len.result c.first_from.ensures.rises among c.base.ensures.value c.len.ensures.value in
     let slot : c.in-Some.entry.slot ≡ w.0 = ap (λ e. e.slot) (Some-injective (sym c.in-Some.is ∙ (c.first_from.ensures.first ∙ w.4))) in
     let same = Some-injective (c.tag-tag.ensures ∙ (ap (tag_at s.slots.tags) slot ∙ w.2)) in
     let e = ap (λ u. end_of u.range.range) same ∙ ap (λ (h : Holding). end_of h.range) w.3 in
@@ -51,7 +51,7 @@ cut-requires-clause-to g c =
 pub invariant_of-self : goal.invariant_of-self
 invariant_of-self g c =
     let s = c.self.inside in
-    subst (λ z. IsIndexed s.policy z s.falling s.sizes s.lists s.rising s.clock s.room) (sym (same_table s.slots c.cut.new.self c.in_err-cut.ensures.unchanged c.cut.ensures.room)) c.self.invariant
+    subst (λ z. IsIndexed s.policy z s.rising s.sizes s.lists s.clock s.room) (sym (same_table s.slots c.cut.new.self c.in_err-cut.ensures.unchanged c.cut.ensures.room)) c.self.invariant
 
 pub invariant_of-self-2 : goal.invariant_of-self-2
 invariant_of-self-2 g c =
@@ -63,17 +63,16 @@ invariant_of-self-2 g c =
     let here = sym c.tag-tag.ensures in
     let becomes = c.in_ok-cut.ensures.becomes in
     let count = c.in_ok-cut.ensures.taken in
-    let h2 = kept_take s.policy Falling s.slots s2 s.room s.falling c.strike.new.self x.falling c.strike.ensures.rest k t here becomes count c.strike.ensures.rises c.strike.ensures.items in
+    let h2 = kept_take s.policy Rising s.slots s2 s.room s.rising c.strike.new.self x.rising c.strike.ensures.rest k t here becomes count c.strike.ensures.rises c.strike.ensures.items in
     let h3 = kept_take s.policy Sizes s.slots s2 s.room s.sizes c.strike-2.new.self x.sizes c.strike-2.ensures.rest k t here becomes count c.strike-2.ensures.rises c.strike-2.ensures.items in
     let h4 = kept_take s.policy Lists s.slots s2 s.room s.lists c.strike-3.new.self x.lists c.strike-3.ensures.rest k t here becomes count c.strike-3.ensures.rises c.strike-3.ensures.items in
-    let h5 = kept_take s.policy Rising s.slots s2 s.room s.rising c.strike-4.new.self x.rising c.strike-4.ensures.rest k t here becomes count c.strike-4.ensures.rises c.strike-4.ensures.items in
-    indexed_take s.policy s.slots s2 s.falling s.sizes s.lists s.rising c.strike.new.self c.strike-2.new.self c.strike-3.new.self c.strike-4.new.self s.clock s.room k t x here becomes c.cut.ensures.room h2 h3 h4 h5
+    indexed_take s.policy s.slots s2 s.rising s.sizes s.lists c.strike.new.self c.strike-2.new.self c.strike-3.new.self s.clock s.room k t x here becomes c.cut.ensures.room h2 h3 h4
 
 pub returns-clause-cut : goal.returns-clause-cut
 returns-clause-cut g c =
     let s = c.self.inside in
     let among = subst (λ l. Contains l c.args.range) (sym (ap (λ v. v.ranges) c.self.view_is)) c.requires.among in
-    let w = found_range s.policy s.slots s.falling s.sizes s.lists s.rising s.clock s.room c.self.invariant c.args.range c.base.result c.first_from.ensures.rises among c.base.ensures.value in
+    let w = found_range s.policy s.slots s.rising s.sizes s.lists s.clock s.room c.self.invariant c.args.range c.base.result c.len.result c.first_from.ensures.rises among c.base.ensures.value c.len.ensures.value in
     let slot : c.in-Some.entry.slot ≡ w.0 = ap (λ e. e.slot) (Some-injective (sym c.in-Some.is ∙ (c.first_from.ensures.first ∙ w.4))) in
     let same = Some-injective (c.tag-tag.ensures ∙ (ap (tag_at s.slots.tags) slot ∙ w.2)) in
     let range = ap (λ u. u.range) same ∙ w.3 in
@@ -87,7 +86,7 @@ returns-clause-ranges g c =
     let k = c.in-Some.entry.slot in
     let t = c.tag-tag.result in
     let among = subst (λ l. Contains l c.args.range) (sym (ap (λ v. v.ranges) c.self.view_is)) c.requires.among in
-    let w = found_range s.policy s.slots s.falling s.sizes s.lists s.rising s.clock s.room c.self.invariant c.args.range c.base.result c.first_from.ensures.rises among c.base.ensures.value in
+    let w = found_range s.policy s.slots s.rising s.sizes s.lists s.clock s.room c.self.invariant c.args.range c.base.result c.len.result c.first_from.ensures.rises among c.base.ensures.value c.len.ensures.value in
     let slot : c.in-Some.entry.slot ≡ w.0 = ap (λ e. e.slot) (Some-injective (sym c.in-Some.is ∙ (c.first_from.ensures.first ∙ w.4))) in
     let same = Some-injective (c.tag-tag.ensures ∙ (ap (tag_at s.slots.tags) slot ∙ w.2)) in
     let range = ap (λ u. u.range) same ∙ w.3 in

@@ -1,6 +1,6 @@
 use Rattle.std.proofs.Common.{◌≡◌, ◌≢◌, ◌+◌, ◌++◌, ◌∷◌, [], Some, All, length, sym, ap, ◌∙◌, subst, arith}
 use Rattle.tag_arena.specs.FreeTags.{SlotBecomes, ranges_by_age}
-use Rattle.tag_arena.specs.declared.orders.Order.TheVariants.{Falling, Sizes, Lists, Rising}
+use Rattle.tag_arena.specs.declared.orders.Order.TheVariants.{Rising, Sizes, Lists}
 use Rattle.tag_arena.proofs.Mirroring.{kept_put}
 use Rattle.tag_arena.proofs.Indexing.{taken_below, newer, place_in, absent_in, new_tag, indexed_put, ranges_put}
 use Rattle.tag_arena.proofs.free_index.FreeIndex.insert.Goals as goal
@@ -17,7 +17,7 @@ enter-requires-clause-room g c =
     let few = ap (λ v. length v.ranges) c.self.view_is in
     let room = ap (λ v. v.room) c.self.view_is in
     let s = c.self.inside in
-    place_in s.policy Falling s.slots s.room s.falling c.self.invariant.falling c.self.invariant.timed (omega (arith, few, room, c.requires.room))
+    place_in s.policy Rising s.slots s.room s.rising c.self.invariant.rising c.self.invariant.timed (omega (arith, few, room, c.requires.room))
 
 pub enter-requires-clause-absent : goal.enter-requires-clause-absent
 enter-requires-clause-absent g c =
@@ -31,7 +31,7 @@ enter-requires-clause-absent g c =
     let ticks = ap (λ v. v.ticks) c.self.view_is in
     let base = sym (ap (λ u. u.range.range.base) made) in
     let absent = subst (λ b. All (λ r. r.range.base ≢ b) (ranges_by_age s.slots.tags)) base (subst (λ l. All (λ r. r.range.base ≢ c.args.deed.range.base) l) (sym (ap (λ v. v.ranges) c.self.view_is)) c.requires.absent) in
-    absent_in s.policy Falling s.slots s.room s.falling x.falling s.clock c.put-slot.result t x.tags is now (omega (arith, ticks, c.requires.ticks)) absent
+    absent_in s.policy Rising s.slots s.room s.rising x.rising s.clock c.put-slot.result t x.tags is now (omega (arith, ticks, c.requires.ticks)) absent
 
 pub enter-requires-2-clause-room : goal.enter-requires-2-clause-room
 enter-requires-2-clause-room g c =
@@ -75,27 +75,6 @@ enter-requires-3-clause-absent g c =
     let absent = subst (λ b. All (λ r. r.range.base ≢ b) (ranges_by_age s.slots.tags)) base (subst (λ l. All (λ r. r.range.base ≢ c.args.deed.range.base) l) (sym (ap (λ v. v.ranges) c.self.view_is)) c.requires.absent) in
     absent_in s.policy Lists s.slots s.room s.lists x.lists s.clock c.put-slot.result t x.tags is now (omega (arith, ticks, c.requires.ticks)) absent
 
-pub enter-requires-4-clause-room : goal.enter-requires-4-clause-room
-enter-requires-4-clause-room g c =
-    let few = ap (λ v. length v.ranges) c.self.view_is in
-    let room = ap (λ v. v.room) c.self.view_is in
-    let s = c.self.inside in
-    place_in s.policy Rising s.slots s.room s.rising c.self.invariant.rising c.self.invariant.timed (omega (arith, few, room, c.requires.room))
-
-pub enter-requires-4-clause-absent : goal.enter-requires-4-clause-absent
-enter-requires-4-clause-absent g c =
-    let s = c.self.inside in
-    let x = c.self.invariant in
-    let t = c.tag-tag.result in
-    let made : t ≡ record { range = c.args.deed; since = s.clock + 1; power = c.ilog2-power.result } = c.tag-tag.ensures ∙ c.new-deed.ensures in
-    let held = ap (λ h. h.range.len) c.held_range_of.ensures.value in
-    let is = new_tag s.clock c.ilog2-power.result c.len.result c.args.deed t made c.held_range_of.ensures.range (c.len.ensures.value ∙ held) c.ilog2-power.ensures.power_le c.ilog2-power.ensures.next_power_gt c.ilog2-power.ensures.bound in
-    let now = ap (λ u. u.since) made in
-    let ticks = ap (λ v. v.ticks) c.self.view_is in
-    let base = sym (ap (λ u. u.range.range.base) made) in
-    let absent = subst (λ b. All (λ r. r.range.base ≢ b) (ranges_by_age s.slots.tags)) base (subst (λ l. All (λ r. r.range.base ≢ c.args.deed.range.base) l) (sym (ap (λ v. v.ranges) c.self.view_is)) c.requires.absent) in
-    absent_in s.policy Rising s.slots s.room s.rising x.rising s.clock c.put-slot.result t x.tags is now (omega (arith, ticks, c.requires.ticks)) absent
-
 pub invariant_of-self : goal.invariant_of-self
 invariant_of-self g c =
     let s = c.self.inside in
@@ -111,11 +90,10 @@ invariant_of-self g c =
     let becomes = subst (λ u. SlotBecomes s.slots.tags s2.tags k (Some u)) (sym c.tag-tag.ensures) c.put-slot.ensures.becomes in
     let later = newer s.clock k s.slots.tags s2.tags t x.tags now in
     let count = c.put-slot.ensures.taken in
-    let hf = kept_put s.policy Falling s.slots s2 s.room s.falling c.enter.new.self x.falling c.enter.ensures.rest k t vacant becomes later count c.enter.ensures.rises c.enter.ensures.items in
+    let hr = kept_put s.policy Rising s.slots s2 s.room s.rising c.enter.new.self x.rising c.enter.ensures.rest k t vacant becomes later count c.enter.ensures.rises c.enter.ensures.items in
     let hz = kept_put s.policy Sizes s.slots s2 s.room s.sizes c.enter-2.new.self x.sizes c.enter-2.ensures.rest k t vacant becomes later count c.enter-2.ensures.rises c.enter-2.ensures.items in
     let hl = kept_put s.policy Lists s.slots s2 s.room s.lists c.enter-3.new.self x.lists c.enter-3.ensures.rest k t vacant becomes later count c.enter-3.ensures.rises c.enter-3.ensures.items in
-    let hr = kept_put s.policy Rising s.slots s2 s.room s.rising c.enter-4.new.self x.rising c.enter-4.ensures.rest k t vacant becomes later count c.enter-4.ensures.rises c.enter-4.ensures.items in
-    indexed_put s.policy s.slots s2 s.falling s.sizes s.lists s.rising c.enter.new.self c.enter-2.new.self c.enter-3.new.self c.enter-4.new.self s.clock s.room k t x vacant becomes c.put-slot.ensures.room is now hf hz hl hr
+    indexed_put s.policy s.slots s2 s.rising s.sizes s.lists c.enter.new.self c.enter-2.new.self c.enter-3.new.self s.clock s.room k t x vacant becomes c.put-slot.ensures.room is now hr hz hl
 
 pub returns-clause-ranges : goal.returns-clause-ranges
 returns-clause-ranges g c =

@@ -1,6 +1,6 @@
 use Rattle.std.proofs.Common.{◌∙◌, ap, arith}
 use Rattle.tag_arena.specs.FreeTags.{ranges_by_age}
-use Rattle.tag_arena.specs.declared.orders.Order.TheVariants.{Falling, Sizes, Lists, Rising}
+use Rattle.tag_arena.specs.declared.orders.Order.TheVariants.{Rising, Sizes, Lists}
 use Rattle.tag_arena.proofs.Starting.{kept_none, timed_none, tags_none, ranges_none}
 use Rattle.tag_arena.proofs.free_index.FreeIndex.new.Goals as goal
 
@@ -12,10 +12,9 @@ invariant_of-result g c =
       timed = timed_none s.tags none;
       tags = tags_none 0 s.tags none;
       slots_room = omega arith;
-      falling = kept_none c.args.policy Falling s c.index_in.result none c.index_in.ensures.order c.index_in.ensures.is_kept c.index_in.ensures.items;
+      rising = kept_none c.args.policy Rising s c.index_in.result none c.index_in.ensures.order c.index_in.ensures.is_kept c.index_in.ensures.items;
       sizes = kept_none c.args.policy Sizes s c.index_in-2.result none c.index_in-2.ensures.order c.index_in-2.ensures.is_kept c.index_in-2.ensures.items;
       lists = kept_none c.args.policy Lists s c.index_in-3.result none c.index_in-3.ensures.order c.index_in-3.ensures.is_kept c.index_in-3.ensures.items;
-      rising = kept_none c.args.policy Rising s c.index_in-4.result none c.index_in-4.ensures.order c.index_in-4.ensures.is_kept c.index_in-4.ensures.items;
     }
 
 pub returns-clause-ranges : goal.returns-clause-ranges

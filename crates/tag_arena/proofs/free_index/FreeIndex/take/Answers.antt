@@ -1,37 +1,29 @@
-use Rattle.std.proofs.Common.{◌≡◌, Any, sym, ap, ◌∙◌, subst, arith}
+use Rattle.std.proofs.Common.{◌≡◌, Any, sym, ap, ◌∙◌, subst}
 use Rattle.tag_arena.specs.Neighbors.{Without}
 use Rattle.tag_arena.specs.FreeTags.{tag_at, ranges_by_age}
 use Rattle.tag_arena.specs.Orders.{entry_of}
-use Rattle.tag_arena.specs.declared.orders.Order.TheVariants.{Falling, Sizes, Lists, Rising}
+use Rattle.tag_arena.specs.declared.orders.Order.TheVariants.{Rising, Sizes, Lists}
 use Rattle.tag_arena.proofs.Listing.{Some-injective}
 use Rattle.tag_arena.proofs.Mirroring.{kept_take}
-use Rattle.tag_arena.proofs.Indexing.{tag_of_range, found_first, indexed_take, ranges_take}
+use Rattle.tag_arena.proofs.Indexing.{found_at, indexed_take, ranges_take}
 use Rattle.tag_arena.proofs.free_index.FreeIndex.take.Goals as goal
-
-pub overflow_sub-base : goal.overflow_sub-base
-overflow_sub-base g c =
-    let s = c.self.inside in
-    let x = c.self.invariant in
-    let present = subst (λ l. Any (λ r. r.range.base ≡ c.args.base) l) (sym (ap (λ v. v.ranges) c.self.view_is)) c.requires.present in
-    let w = tag_of_range s.slots.tags (λ r. r.range.base ≡ c.args.base) present in
-    omega (arith, (x.tags w.0 w.1 w.2).range.below, w.3)
 
 pub unreachable-requires : goal.unreachable-requires
 unreachable-requires g c =
     let s = c.self.inside in
     let x = c.self.invariant in
     let present = subst (λ l. Any (λ r. r.range.base ≡ c.args.base) l) (sym (ap (λ v. v.ranges) c.self.view_is)) c.requires.present in
-    let w = tag_of_range s.slots.tags (λ r. r.range.base ≡ c.args.base) present in
-    let found = c.first_from.ensures.first ∙ found_first s.policy s.slots s.falling s.sizes s.lists s.rising s.clock s.room x w.0 w.1 c.args.base c.first_from.ensures.rises w.2 w.3 in
-    c.in_default.not-Some (entry_of Falling w.0 w.1) found
+    let w = found_at s.policy s.slots s.rising s.sizes s.lists s.clock s.room c.self.invariant c.args.base c.first_from.ensures.rises present in
+    let found = c.first_from.ensures.first ∙ w.4 in
+    c.in_default.not-Some (entry_of Rising w.0 w.1) found
 
 pub tag-tag-requires : goal.tag-tag-requires
 tag-tag-requires g c =
     let s = c.self.inside in
     let x = c.self.invariant in
     let present = subst (λ l. Any (λ r. r.range.base ≡ c.args.base) l) (sym (ap (λ v. v.ranges) c.self.view_is)) c.requires.present in
-    let w = tag_of_range s.slots.tags (λ r. r.range.base ≡ c.args.base) present in
-    let found = c.first_from.ensures.first ∙ found_first s.policy s.slots s.falling s.sizes s.lists s.rising s.clock s.room x w.0 w.1 c.args.base c.first_from.ensures.rises w.2 w.3 in
+    let w = found_at s.policy s.slots s.rising s.sizes s.lists s.clock s.room c.self.invariant c.args.base c.first_from.ensures.rises present in
+    let found = c.first_from.ensures.first ∙ w.4 in
     let slot : c.in-Some.entry.slot ≡ w.0 = ap (λ e. e.slot) (Some-injective (sym c.in-Some.is ∙ found)) in
     (w.1, ap (tag_at s.slots.tags) slot ∙ w.2)
 
@@ -45,11 +37,10 @@ invariant_of-self g c =
     let here = sym c.tag-tag.ensures in
     let becomes = c.take.ensures.becomes in
     let count = c.take.ensures.taken in
-    let h2 = kept_take s.policy Falling s.slots s2 s.room s.falling c.strike.new.self x.falling c.strike.ensures.rest k t here becomes count c.strike.ensures.rises c.strike.ensures.items in
+    let h2 = kept_take s.policy Rising s.slots s2 s.room s.rising c.strike.new.self x.rising c.strike.ensures.rest k t here becomes count c.strike.ensures.rises c.strike.ensures.items in
     let h3 = kept_take s.policy Sizes s.slots s2 s.room s.sizes c.strike-2.new.self x.sizes c.strike-2.ensures.rest k t here becomes count c.strike-2.ensures.rises c.strike-2.ensures.items in
     let h4 = kept_take s.policy Lists s.slots s2 s.room s.lists c.strike-3.new.self x.lists c.strike-3.ensures.rest k t here becomes count c.strike-3.ensures.rises c.strike-3.ensures.items in
-    let h5 = kept_take s.policy Rising s.slots s2 s.room s.rising c.strike-4.new.self x.rising c.strike-4.ensures.rest k t here becomes count c.strike-4.ensures.rises c.strike-4.ensures.items in
-    indexed_take s.policy s.slots s2 s.falling s.sizes s.lists s.rising c.strike.new.self c.strike-2.new.self c.strike-3.new.self c.strike-4.new.self s.clock s.room k t x here becomes c.take.ensures.room h2 h3 h4 h5
+    indexed_take s.policy s.slots s2 s.rising s.sizes s.lists c.strike.new.self c.strike-2.new.self c.strike-3.new.self s.clock s.room k t x here becomes c.take.ensures.room h2 h3 h4
 
 pub returns-clause-ranges : goal.returns-clause-ranges
 returns-clause-ranges g c =
@@ -68,8 +59,8 @@ returns-clause-base g c =
     let s = c.self.inside in
     let x = c.self.invariant in
     let present = subst (λ l. Any (λ r. r.range.base ≡ c.args.base) l) (sym (ap (λ v. v.ranges) c.self.view_is)) c.requires.present in
-    let w = tag_of_range s.slots.tags (λ r. r.range.base ≡ c.args.base) present in
-    let found = c.first_from.ensures.first ∙ found_first s.policy s.slots s.falling s.sizes s.lists s.rising s.clock s.room x w.0 w.1 c.args.base c.first_from.ensures.rises w.2 w.3 in
+    let w = found_at s.policy s.slots s.rising s.sizes s.lists s.clock s.room c.self.invariant c.args.base c.first_from.ensures.rises present in
+    let found = c.first_from.ensures.first ∙ w.4 in
     let slot : c.in-Some.entry.slot ≡ w.0 = ap (λ e. e.slot) (Some-injective (sym c.in-Some.is ∙ found)) in
     let here = sym c.tag-tag.ensures in
     let same = Some-injective (sym here ∙ (ap (tag_at s.slots.tags) slot ∙ w.2)) in
