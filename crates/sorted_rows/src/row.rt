@@ -76,7 +76,7 @@ impl<T: RowEntry> Row<T> {
     }
 
     /// Whether it is known, without a look at its entries, that each weighs less than `least`.
-    fn is_light(&self, measure: T::Measure, least: u64) -> bool
+    pub fn is_light(&self, measure: T::Measure, least: u64) -> bool
         ensures { IsTrue result → find (weighs (T.weight measure) least) self.now ≡ None }
     {
         self.top < least && T::is_same(self.measure, measure)
