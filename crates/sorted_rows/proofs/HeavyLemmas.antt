@@ -1,15 +1,19 @@
 -- Searches by weight over rows.
-use Rattle.std.proofs.Common.{◌≡◌, ℕ, suc, ◌+◌, ◌<◌, ◌≤◌, List, ◌++◌, length, take, drop, set, get_or, sym, ap, subst, ◌∙◌, arith, Bool, Option, None, Some}
+use Rattle.std.proofs.Common.{◌≡◌, ℕ, suc, ◌+◌, ◌<◌, ◌≤◌, List, ◌++◌, length, take, drop, set, get_or, sym, ap, subst, ◌∙◌, arith, rules, Bool, Option, None, Some}
 use Rattle.std.specs.List.{find}
 use Rattle.std.specs.Option.{option_or}
-use Rattle.std.proofs.lemmas.List.{drop-append-le, drop_all, set-get_or}
+use Rattle.std.proofs.lemmas.List.{drop-append-le, drop_all, set-get_or, take-append-drop}
 use Rattle.std.proofs.lemmas.List.Folds.{find-append}
 use Rattle.std.proofs.Math.Seq.{drop-cons, drop-append-add}
-use Rattle.sorted_rows.specs.Order.{place_below, IsRankAt}
+use Rattle.sorted_rows.specs.Order.{Rises, place_below, IsRankAt}
 use Rattle.sorted_rows.specs.Layout.{flat, IsLaid, IsSeat}
 use Rattle.sorted_rows.specs.Weights.{weighs, heavy_from}
-use Rattle.sorted_rows.proofs.PlaceLemmas.{below_is}
-use Rattle.sorted_rows.proofs.RowLemmas.{flat_at, any_of, place_in_seat}
+use Rattle.sorted_rows.proofs.PlaceLemmas.{below_is, below_stands}
+use Rattle.sorted_rows.proofs.RowLemmas.{flat_at, any_of, place_in_seat, rises_at}
+
+none_behind : {X : Type 0} (a b : Option X) → option_or a b ≡ None → None ≡ b
+none_behind None b is = sym is
+none_behind (Some x) b is = search (rules, is)
 
 module _ {X : Type 0} (p : X → Bool) where
   -- found in the first of two parts, or in the second
@@ -18,6 +22,10 @@ module _ {X : Type 0} (p : X → Bool) where
 
   pub found_behind : (xs ys : List X) → None ≡ find p xs → find p (xs ++ ys) ≡ find p ys
   found_behind xs ys is = find-append p xs ys ∙ ap (λ o. option_or o (find p ys)) (sym is)
+
+  -- none in a whole is none in its rest
+  pub none_in_rest : (k : ℕ) (xs : List X) → find p xs ≡ None → None ≡ find p (drop k xs)
+  none_in_rest k xs is = none_behind (find p (take k xs)) (find p (drop k xs)) (sym (find-append p (take k xs) (drop k xs)) ∙ (ap (find p) (take-append-drop k xs) ∙ is))
 
   -- the rows from one on
   rows_from : (rows : List (List X)) (k : ℕ) (r : List X) → k < length rows → r ≡ get_or rows k r → flat (drop k rows) ≡ r ++ flat (drop (suc k) rows)
@@ -62,8 +70,15 @@ module _ {X : Type 0} (rank weight : X → ℕ) where
       let next : i + 1 ≡ suc i = omega arith in
       behind ∙ (ap (λ n. find (weighs weight least) (flat (drop n rows))) next ∙ (sym (found_behind (weighs weight least) (drop q r) (flat (drop (suc i) rows)) is) ∙ ap (find (weighs weight least)) (sym (from_place key rows i q r laid lt e seat place))))
 
+  -- behind a row that has none
+  pub heavy_past : (key least : ℕ) (rows : List (List X)) (i : ℕ) (r : List X) (o : Option X) → IsLaid rank rows → i < length rows → r ≡ get_or rows i r → IsSeat rank key rows i
+      → find (weighs weight least) r ≡ None → o ≡ find (weighs weight least) (flat (drop (i + 1) rows)) → o ≡ heavy_from rank weight key least (flat rows)
+  heavy_past key least rows i r o laid lt e seat is behind =
+      let rises : Rises rank r = rw e (rises_at rank rows i r lt laid.rises) in
+      heavy_behind key least rows i (place_below rank key r) r o laid lt e seat (below_stands rank key r rises) (none_in_rest (weighs weight least) (place_below rank key r) r is) behind
+
 -- what heavy_after finds in the rows from one on
 pub ruleset found_from = (row_has, none_left)
 
 -- where least_weighing finds it: in the key's row, or in those behind
-pub ruleset found_heavy = (heavy_here, heavy_behind)
+pub ruleset found_heavy = (heavy_here, heavy_behind, heavy_past)

@@ -48,6 +48,13 @@ module _ {X : Type 0} (weight : X → ℕ) where
       let same = ap (λ n. greatest_weight weight (drop n xs)) next in
       omega (arith, more, here, same, rest)
 
+  -- one that weighs as much as the greatest may
+  pub greatest_met : (xs : List X) (k : ℕ) (x : X) (w : ℕ) → k < length xs → x ≡ get_or xs k x → w ≡ weight x → greatest_weight weight xs ≤ w → w ≡ greatest_weight weight xs
+  greatest_met xs k x w lt is heavy most =
+      let h = greatest_remove xs k x lt in
+      let here = ap weight is in
+      omega (arith, h, heavy, here, most)
+
   -- a walk from the first on, with the greatest weight of those before `k`
   pub walk_begun : (xs : List X) → greatest_weight weight xs ≡ max 0 (greatest_weight weight (drop 0 xs))
   walk_begun xs = omega arith
@@ -129,6 +136,30 @@ module _ {X : Type 0} (weight : X → ℕ) where
   -- and after further ones were put behind
   pub top_joined : (xs ys : List X) (top more most : ℕ) → top ≡ greatest_weight weight xs → more ≡ greatest_weight weight ys → most ≡ max top more → most ≡ greatest_weight weight (xs ++ ys)
   top_joined xs ys top more most is are so = let h = greatest_append xs ys in omega (arith, h, is, are, so)
+
+  -- the greatest weight is no greater once one was taken out,
+  pub less_removed : (xs : List X) (p : ℕ) (x : X) (top : ℕ) → top ≡ greatest_weight weight xs → p < length xs → greatest_weight weight (remove xs p) ≤ top
+  less_removed xs p x top is lt = let h = greatest_remove xs p x lt in omega (arith, h, is)
+
+  -- or a lighter one was written over another,
+  pub less_written : (xs : List X) (p : ℕ) (x : X) (top w : ℕ) → top ≡ greatest_weight weight xs → w ≡ weight x → p < length xs → w < top → greatest_weight weight (set xs p x) ≤ top
+  less_written xs p x top w is heavy lt less =
+      let was = greatest_remove xs p x lt in
+      let now = greatest_set xs p x x lt in
+      omega (arith, was, now, is, heavy, less)
+
+  -- nor among the first, or among the rest
+  pub less_taken : (xs : List X) (k top : ℕ) → top ≡ greatest_weight weight xs → greatest_weight weight (take k xs) ≤ top
+  less_taken xs k top is =
+      let parts = greatest_append (take k xs) (drop k xs) in
+      let whole = ap (greatest_weight weight) (take-append-drop k xs) in
+      omega (arith, parts, whole, is)
+
+  pub less_dropped : (xs : List X) (k top : ℕ) → top ≡ greatest_weight weight xs → greatest_weight weight (drop k xs) ≤ top
+  less_dropped xs k top is =
+      let parts = greatest_append (take k xs) (drop k xs) in
+      let whole = ap (greatest_weight weight) (take-append-drop k xs) in
+      omega (arith, parts, whole, is)
 
 -- the greatest weight with one entry more
 pub ruleset top_inserted = (top_grows, top_stays)

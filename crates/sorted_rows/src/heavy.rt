@@ -25,11 +25,13 @@ pub fn least_weighing<T: RowEntry>(
     }
     let seat = seat_of(rows, key);
     let row = &rows[seat];
-    let at = row.below(key);
-    match row.heavy(measure, at, least) {
-        Some(entry) => Some(entry),
-        None => heavy_after(rows, measure, seat + 1, least),
+    if !row.is_light(measure, least) {
+        let at = row.below(key);
+        if let Some(entry) = row.heavy(measure, at, least) {
+            return Some(entry);
+        }
     }
+    heavy_after(rows, measure, seat + 1, least)
 }
 
 #[tactic(auto, using(crate::proofs::HeavyLemmas::found_from))]

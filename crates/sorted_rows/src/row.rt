@@ -1,7 +1,7 @@
 //! One row of a list: a short vector with room for 64 entries.
 ghost use Rattle.std.specs.Prelude.{◌≡◌, ◌+◌, ◌<◌, ◌≤◌, [], ◌++◌, length, take, drop, insert};
 ghost use Rattle.std.specs.Prelude.{remove, slice_index_or, max, IfOk, IfErr, OnErr, IsTrue};
-ghost use Rattle.std.specs.Prelude.{Some, None, slice_set};
+ghost use Rattle.std.specs.Prelude.{IfSome, Some, None, slice_set};
 ghost use Rattle.std.specs.List.{find};
 ghost use Rattle.sorted_rows.specs.Order.{Rises, IsRankAt, FirstIs};
 ghost use Rattle.sorted_rows.specs.Weights.{greatest_weight, weighs};
@@ -76,7 +76,7 @@ impl<T: RowEntry> Row<T> {
     }
 
     /// Whether it is known, without a look at its entries, that each weighs less than `least`.
-    fn is_light(&self, measure: T::Measure, least: u64) -> bool
+    pub fn is_light(&self, measure: T::Measure, least: u64) -> bool
         ensures { IsTrue result → find (weighs (T.weight measure) least) self.now ≡ None }
     {
         self.top < least && T::is_same(self.measure, measure)
@@ -90,7 +90,7 @@ impl<T: RowEntry> Row<T> {
         if T::is_same(self.measure, measure) {
             return self.top;
         }
-        greatest_in(&self.items, measure)
+        greatest_in(&self.items, measure, None)
     }
 
     /// Its first entry, from the place `from` on, that weighs as much as `least` or more.
@@ -168,7 +168,7 @@ impl<T: RowEntry> Row<T> {
         let entry = self.items.remove(at);
         self.first = first_in(&self.items);
         if self.top > 0 && entry.weight(self.measure) == self.top {
-            self.top = greatest_in(&self.items, self.measure);
+            self.top = greatest_in(&self.items, self.measure, Some(self.top));
         }
         entry
     }
@@ -187,7 +187,7 @@ impl<T: RowEntry> Row<T> {
         if weight >= self.top {
             self.top = weight;
         } else if old.weight(self.measure) == self.top {
-            self.top = greatest_in(&self.items, self.measure);
+            self.top = greatest_in(&self.items, self.measure, Some(self.top));
         }
         old
     }
@@ -205,9 +205,9 @@ impl<T: RowEntry> Row<T> {
         }
         high.first = high.items[0].key();
         high.measure = self.measure;
-        high.top = greatest_in(&high.items, self.measure);
+        high.top = greatest_in(&high.items, self.measure, Some(self.top));
         self.items.truncate(ROW / 2);
-        self.top = greatest_in(&self.items, self.measure);
+        self.top = greatest_in(&self.items, self.measure, Some(self.top));
     }
 
     /// Moves all entries of the next row here.
@@ -263,8 +263,10 @@ fn greater(one: u64, other: u64) -> u64
     if one < other { other } else { one }
 }
 
-/// The greatest weight.
-fn greatest_in<T: RowEntry>(items: &[T], measure: T::Measure) -> u64
+/// The greatest weight. Where it is known to be `most` or less, the first that weighs `most` ends
+/// the walk.
+fn greatest_in<T: RowEntry>(items: &[T], measure: T::Measure, most: Option<u64>) -> u64
+    requires { IfSome most (λ m. greatest_weight (T.weight measure) items.now ≤ m) }
     ensures { result ≡ greatest_weight (T.weight measure) items.now }
 {
     let mut top = 0;
@@ -272,6 +274,9 @@ fn greatest_in<T: RowEntry>(items: &[T], measure: T::Measure) -> u64
     while at > 0 {
         at -= 1;
         let weight = items[at].weight(measure);
+        if most == Some(weight) {
+            return weight;
+        }
         if weight > top {
             top = weight;
         }
