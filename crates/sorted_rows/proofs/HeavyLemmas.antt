@@ -11,6 +11,7 @@ use Rattle.sorted_rows.specs.Weights.{weighs, heavy_from}
 use Rattle.sorted_rows.proofs.PlaceLemmas.{below_is, below_stands}
 use Rattle.sorted_rows.proofs.RowLemmas.{flat_at, any_of, place_in_seat, rises_at}
 
+-- where neither of two has one, the second has none
 none_behind : {X : Type 0} (a b : Option X) → option_or a b ≡ None → None ≡ b
 none_behind None b is = sym is
 none_behind (Some x) b is = search (rules, is)

@@ -8,8 +8,8 @@ use crate::entries::RowEntry;
 use crate::row::Row;
 use crate::seats::seat_of;
 
-#[tactic(auto, using(crate::proofs::HeavyLemmas::found_heavy))]
 /// The first, from the first at or above the key on, that weighs as much as `least` or more.
+#[tactic(auto, using(crate::proofs::HeavyLemmas::found_heavy))]
 pub fn least_weighing<T: RowEntry>(
     rows: &mut [Row<T>],
     measure: T::Measure,
@@ -34,8 +34,8 @@ pub fn least_weighing<T: RowEntry>(
     heavy_after(rows, measure, seat + 1, least)
 }
 
-#[tactic(auto, using(crate::proofs::HeavyLemmas::found_from))]
 /// The first that weighs so much, from a row on. Rows that are searched in vain keep the measure.
+#[tactic(auto, using(crate::proofs::HeavyLemmas::found_from))]
 fn heavy_after<T: RowEntry>(
     rows: &mut [Row<T>],
     measure: T::Measure,

@@ -2,7 +2,7 @@
 //! base, by base, and for its spans. It stands on nothing of ours.
 //!
 //! A row has at most 64 entries in a vector of its own, with the key of its first at hand, and the
-//! greatest weight by the measure that was asked for last:
+//! greatest weight by one measure, the last by which the whole row was searched in vain:
 //!
 //! ```text
 //!   rows:   [ 3 5 8 9 .. ]  [ 40 41 .. ]  [ 77 80 .. ]      two neighbours have more than 32
@@ -11,10 +11,10 @@
 //! ```
 //!
 //! An entry is found by two binary searches. A row that comes to 64 is halved; neighbours with 32
-//! or fewer together are put together. So with n entries an insert or a remove moves at most 64
-//! entries and n / 16 rows' headers, and no call is recursive. Once `Rows::reserve` has made room,
-//! `insert`, `remove` and `replace` take no memory and can't fail: a spare row is there for each
-//! split.
+//! or fewer together are put together. So with n entries an insert moves at most 95 entries, where
+//! it halves a row, a remove at most 63, and each n / 16 rows' headers; no call is recursive. Once
+//! `Rows::reserve` has made room, `insert`, `remove` and `replace` take no memory and can't fail: a
+//! spare row is there for each split.
 //!
 //! Begin with `Rows`; what an entry is, the trait `RowEntry` says. The form is our own choice.
 #![tactic(auto)]

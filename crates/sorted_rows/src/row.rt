@@ -14,7 +14,7 @@ use std::marker::Model;
 pub const ROW: usize = 64;
 
 /// A row: its entries, with the key of the first at hand, and the greatest weight by the measure
-/// that was last asked for in vain. A contract sees its entries.
+/// by which all of it was last searched in vain. A contract sees its entries.
 #[derive(Drop)]
 pub struct Row<T: RowEntry> {
     first: u128,

@@ -122,7 +122,8 @@ impl<T: RowEntry> Rows<T> {
     }
 
     /// Takes out the entry with this key, which is there, and puts in another whose key isn't. It
-    /// is one write where the new one stands in the place of the old one.
+    /// is one write where the new one stands in the place of the old one, unless the old one is a
+    /// later row's first and the new key is lower.
     pub fn replace(&mut self, key: u128, entry: T) -> T
         requires present { Any (λ x. T.rank x ≡ key) self.old.items }
         requires absent { let rest = others T.rank key self.old.items in
@@ -156,9 +157,9 @@ impl<T: RowEntry> Rows<T> {
     }
 
     /// The first entry, from the first at or above the key on, that weighs as much as `least` or
-    /// more by this measure. A row that was searched by it in vain keeps its greatest weight, and
-    /// is passed by with one look from then on, until it is searched by another. The list stays as
-    /// it is.
+    /// more by this measure. A row behind the key's own that is searched in vain keeps the measure
+    /// and its greatest weight. From then on it is passed by with one look wherever that is less
+    /// than `least`, until it is searched so by another measure. The list stays as it is.
     pub fn least_weighing(&mut self, measure: T::Measure, key: u128, least: u64) -> Option<T>
         ensures value { result ≡ heavy_from T.rank (T.weight measure) key least self.old.items }
         ensures unchanged { self.new ≡ self.old }
