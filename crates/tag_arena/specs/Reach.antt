@@ -16,7 +16,8 @@ base_from align phase low = low + (align + phase - low % align) % align
 abbrev pub block_past : (block base : ℕ) → ℕ
 block_past block base = base - base % block + block
 
--- the most units from the first base on: to the end, or to the block past it, or in later blocks
+-- an upper bound of the units from the first base on: to the end, or to the block past it, or in
+-- later blocks
 unfoldable pub reach_of : GridState → (base end : ℕ) → ℕ
 reach_of g base end =
     let first = base_from g.align g.phase base in

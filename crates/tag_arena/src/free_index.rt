@@ -107,7 +107,8 @@ impl<D: Deed> FreeIndex<D> {
         }
     }
 
-    /// Makes room for `room` free ranges in all. Of all calls this one alone takes memory.
+    /// Makes room for `room` free ranges in all. Of all calls this one alone takes memory, and a
+    /// carve what its deed's splits take.
     pub fn reserve(&mut self, alloc: Global, room: usize) -> Result<(), AllocError>
         ensures ok { OnOk result (self.new.room ≡ max room self.old.room) }
         ensures unchanged { OnErr result (self.new.room ≡ self.old.room) }

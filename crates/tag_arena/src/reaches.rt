@@ -49,7 +49,7 @@ impl Grid {
         }
     }
 
-    /// The most units that can stand so from `base` to `end`. Where they stand in a later block
+    /// No more units than this can stand so from `base` to `end`. Where they stand in a later block
     /// than the first base, what is before its first base isn't taken off.
     pub fn reach(&self, base: u64, end: u64) -> u64
         requires base { base ≤ 2 ^ 62 }

@@ -48,8 +48,8 @@ pub fn best_fit<D: Deed>(
     }
 }
 
-/// The best range for so many units that may stand on any quantum: almost each that is as long
-/// serves.
+/// The best range for so many units that may stand on any quantum: without a window each that is as
+/// long serves.
 fn best_by_length<D: Deed>(
     slots: &Slots<D>,
     sizes: &OrderedIndex,
