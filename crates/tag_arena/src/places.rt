@@ -8,8 +8,17 @@ ghost use Rattle.tag_arena.specs.Place.{IsLeast, IsPlace, Nest, OnGrid, ServesIn
 use crate::held_ranges::HeldRange;
 use deed_core::Request;
 
+/// What a number leaves when divided by a block of a power of two.
+pub fn rest_in(unit: u64, block: u64) -> u64
+    requires { IsPowerOfTwo block }
+    ensures { result ≡ unit % block }
+{
+    unit & (block - 1)
+}
+
 /// The least number from `low` on that leaves `phase` when divided by `align`.
 pub fn least_aligned(low: u64, align: u64, phase: u64) -> u64
+    requires power { IsPowerOfTwo align }
     requires phase { phase < align }
     requires fits { low + align ≤ 2 ^ 64 }
     ensures from_low { low ≤ result }
@@ -17,7 +26,7 @@ pub fn least_aligned(low: u64, align: u64, phase: u64) -> u64
     ensures aligned { result % align ≡ phase }
     ensures least { (b : ℕ) → low ≤ b → b % align ≡ phase → result ≤ b }
 {
-    let rest = low % align;
+    let rest = rest_in(low, align);
     if rest <= phase {
         low + (phase - rest)
     } else {
@@ -39,6 +48,7 @@ fn least_place(low: u64, high: u64, len: u64, align: u64, phase: u64, nocross: u
     requires low { low ≤ 2 ^ 62 }
     requires high { high ≤ 2 ^ 62 }
     requires some { 0 < len }
+    requires power { IsPowerOfTwo align }
     requires align { align ≤ 2 ^ 63 }
     requires phase { phase < align }
     requires room { nocross ≢ 0 → len ≤ nocross }
@@ -69,6 +79,7 @@ pub fn grid(request: &Request, quantum: u64) -> (u64, u64)
     requires good { IsGood quantum request.now }
     ensures on_grid { (base : ℕ) → (base % result.0 ≡ result.1) ↔ OnGrid quantum request.now base }
     ensures phase { result.1 < result.0 }
+    ensures power { IsPowerOfTwo result.0 }
     ensures align { result.0 ≤ 2 ^ 63 }
     ensures nest { request.now.nocross ≢ 0 → Nest result.0 request.now.nocross }
 {

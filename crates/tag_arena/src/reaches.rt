@@ -5,7 +5,7 @@ ghost use Rattle.deed_core.specs.Request.{IsGood};
 ghost use Rattle.tag_arena.specs.Place.{OnGrid};
 ghost use Rattle.tag_arena.specs.Reach.{reach_of};
 
-use crate::places::{grid, least_aligned};
+use crate::places::{grid, least_aligned, rest_in};
 use deed_core::Request;
 use std::marker::Model;
 
@@ -19,14 +19,16 @@ pub struct Grid {
 }
 
 impl Model for Grid {
-    ghost use Rattle.std.specs.Prelude.{◌≤◌, ◌<◌, ◌^◌};
+    ghost use Rattle.std.specs.Prelude.{◌≤◌, ◌<◌, ◌≢◌, ◌^◌};
+    ghost use Rattle.std.specs.Int.{IsPowerOfTwo};
     ghost use Rattle.tag_arena.specs.Reach.{GridState};
 
     ghost Value = { GridState };
 
     ghost view = { λ g. record { align = g.align; phase = g.phase; nocross = g.nocross } };
 
-    ghost invariant = { λ g. (g.phase < g.align) × (g.align ≤ 2 ^ 63) };
+    ghost invariant = { λ g. (g.phase < g.align) × (g.align ≤ 2 ^ 63)
+        × IsPowerOfTwo g.align × (g.nocross ≢ 0 → IsPowerOfTwo g.nocross) };
 
     ghost inverse = { λ g. record { align = g.align; phase = g.phase; nocross = g.nocross } };
 }
@@ -68,7 +70,7 @@ impl Grid {
         if nocross == 0 {
             return end - first;
         }
-        let edge = first - first % nocross + nocross;
+        let edge = first - rest_in(first, nocross) + nocross;
         if edge >= end {
             return end - first;
         }
