@@ -1,13 +1,12 @@
 -- The last entry at or below a key.
-use Rattle.std.proofs.Common.{◌≡◌, ◌≢◌, ℕ, suc, ◌+◌, ◌-◌, ◌<◌, ◌≤◌, List, [], ◌++◌, length, take, drop, get_or, sym, ap, refl, subst, ◌∙◌, arith, inl, inr, None, Some}
+use Rattle.std.proofs.Common.{◌≡◌, ◌≢◌, ℕ, suc, ◌+◌, ◌-◌, ◌<◌, ◌≤◌, List, [], ◌++◌, length, take, drop, get_or, sym, ap, refl, subst, ◌∙◌, arith, inl, inr, None, Some, length-append}
 use Rattle.std.proofs.lemmas.Bool.{cases_lt}
-use Rattle.std.proofs.lemmas.List.{length-take-le, get_or-take}
+use Rattle.std.proofs.lemmas.List.{length-take-le, get_or-take, get_or_append_left, get_or-append-add}
 use Rattle.std.proofs.lemmas.Option.{slice_get-get_or}
 use Rattle.sorted_rows.specs.Order.{Rises, IsRankAt, last_of, last_to}
 use Rattle.sorted_rows.specs.Layout.{flat, place_in, IsLaid, IsSeat}
 use Rattle.sorted_rows.proofs.PlaceLemmas.{below_is, is_place, place_across}
 use Rattle.sorted_rows.proofs.RowLemmas.{flat_at, any_of}
-use Rattle.sorted_rows.proofs.ExchangeLemmas.{entry_in}
 
 -- the last of the first ones
 last_of_first : {X : Type 0} (xs : List X) (n : ℕ) (d : X) → 0 < n → n ≤ length xs → last_of (take n xs) ≡ Some (get_or xs (n - 1) d)
@@ -15,6 +14,17 @@ last_of_first xs n d some within =
     let long : length (take n xs) ≡ n = length-take-le n xs within in
     let end : length (take n xs) - 1 ≡ n - 1 = omega (arith, long) in
     slice_get-get_or (take n xs) (length (take n xs) - 1) d (omega (arith, long)) ∙ ap Some (ap (λ k. get_or (take n xs) k d) end ∙ get_or-take n xs (n - 1) d (omega arith))
+
+module _ {X : Type 0} where
+  -- what stands in a row's place, in the whole list
+  pub entry_in : (rows : List (List X)) (i p : ℕ) (r : List X) (d : X) → i < length rows → r ≡ get_or rows i [] → p < length r → (place_in rows i p < length (flat rows)) × (get_or (flat rows) (place_in rows i p) d ≡ get_or r p d)
+  entry_in rows i p r d lt e less =
+      let a = flat (take i rows) in
+      let b = flat (drop (suc i) rows) in
+      let whole : flat rows ≡ a ++ (r ++ b) = rw e (flat_at rows i [] lt) in (
+        omega (arith, ap length whole, length-append a (r ++ b), length-append r b),
+        ap (λ xs. get_or xs (length a + p) d) whole ∙ (get_or-append-add a (r ++ b) p d ∙ get_or_append_left r b d p less),
+      )
 
 module _ {X : Type 0} (rank : X → ℕ) where
   -- past the entry of the key itself,

@@ -1,6 +1,6 @@
 -- The greatest weight of a list, and searches by weight.
-use Rattle.std.proofs.Common.{◌≡◌, ℕ, ◌+◌, ◌-◌, ◌<◌, ◌≤◌, ◌≢◌, List, [], ◌∷◌, ◌++◌, length, get_or, take, drop, set, suc, max, refl, ap, sym, ◌∙◌, arith, rules, insert, remove, None, Some, Option, Bool, true, false}
-use Rattle.std.proofs.lemmas.List.{take-append-drop, drop_all, set_split}
+use Rattle.std.proofs.Common.{◌≡◌, ℕ, ◌+◌, ◌-◌, ◌<◌, ◌≤◌, ◌≢◌, List, [], ◌∷◌, ◌++◌, length, get_or, take, drop, suc, max, refl, ap, sym, ◌∙◌, arith, rules, insert, remove, None, Some, Option, Bool, true, false}
+use Rattle.std.proofs.lemmas.List.{take-append-drop, drop_all}
 use Rattle.std.proofs.Math.Seq.{drop-cons}
 use Rattle.std.specs.List.{find}
 use Rattle.sorted_rows.specs.Weights.{greatest_weight, weighs}
@@ -112,27 +112,6 @@ module _ {X : Type 0} (weight : X → ℕ) where
       let here = ap weight at in
       omega (arith, h, is, heavy, here, other)
 
-  -- after one was written over,
-  greatest_set : (xs : List X) (p : ℕ) (x d : X) → p < length xs → greatest_weight weight (set xs p x) ≡ max (weight x) (greatest_weight weight (remove xs p))
-  greatest_set xs p x d lt =
-      let parts = ap (greatest_weight weight) (set_split xs p x lt) in
-      let out = greatest_append (take p xs) (x ∷ drop (suc p) xs) in
-      let rest = greatest_append (take p xs) (drop (suc p) xs) in
-      omega (arith, parts, out, rest, greatest_head x (drop (suc p) xs))
-
-  pub top_rises : (xs : List X) (p : ℕ) (x : X) (top w : ℕ) → top ≡ greatest_weight weight xs → w ≡ weight x → p < length xs → top ≤ w → w ≡ greatest_weight weight (set xs p x)
-  top_rises xs p x top w is heavy lt more =
-      let was = greatest_remove xs p x lt in
-      let now = greatest_set xs p x x lt in
-      omega (arith, was, now, is, heavy)
-
-  pub top_holds : (xs : List X) (p : ℕ) (x old : X) (top w v : ℕ) → top ≡ greatest_weight weight xs → w ≡ weight x → v ≡ weight old → p < length xs → old ≡ get_or xs p old → w < top → v ≢ top → top ≡ greatest_weight weight (set xs p x)
-  top_holds xs p x old top w v is new_weight old_weight lt at less other =
-      let was = greatest_remove xs p old lt in
-      let now = greatest_set xs p x old lt in
-      let here = ap weight at in
-      omega (arith, was, now, is, new_weight, old_weight, here, other)
-
   -- and after further ones were put behind
   pub top_joined : (xs ys : List X) (top more most : ℕ) → top ≡ greatest_weight weight xs → more ≡ greatest_weight weight ys → most ≡ max top more → most ≡ greatest_weight weight (xs ++ ys)
   top_joined xs ys top more most is are so = let h = greatest_append xs ys in omega (arith, h, is, are, so)
@@ -140,13 +119,6 @@ module _ {X : Type 0} (weight : X → ℕ) where
   -- the greatest weight is no greater once one was taken out,
   pub less_removed : (xs : List X) (p : ℕ) (x : X) (top : ℕ) → top ≡ greatest_weight weight xs → p < length xs → greatest_weight weight (remove xs p) ≤ top
   less_removed xs p x top is lt = let h = greatest_remove xs p x lt in omega (arith, h, is)
-
-  -- or a lighter one was written over another,
-  pub less_written : (xs : List X) (p : ℕ) (x : X) (top w : ℕ) → top ≡ greatest_weight weight xs → w ≡ weight x → p < length xs → w < top → greatest_weight weight (set xs p x) ≤ top
-  less_written xs p x top w is heavy lt less =
-      let was = greatest_remove xs p x lt in
-      let now = greatest_set xs p x x lt in
-      omega (arith, was, now, is, heavy, less)
 
   -- nor among the first, or among the rest
   pub less_taken : (xs : List X) (k top : ℕ) → top ≡ greatest_weight weight xs → greatest_weight weight (take k xs) ≤ top
@@ -163,9 +135,6 @@ module _ {X : Type 0} (weight : X → ℕ) where
 
 -- the greatest weight with one entry more
 pub ruleset top_inserted = (top_grows, top_stays)
-
--- the greatest weight with one entry in another's place
-pub ruleset top_written = (top_rises, top_holds)
 
 -- the greatest weights of two rows that become one, and an empty one
 pub ruleset tops_joined = (top_joined, greatest_none)

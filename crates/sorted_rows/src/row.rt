@@ -1,7 +1,7 @@
 //! One row of a list: a short vector with room for 64 entries.
 ghost use Rattle.std.specs.Prelude.{◌≡◌, ◌+◌, ◌<◌, ◌≤◌, [], ◌++◌, length, take, drop, insert};
 ghost use Rattle.std.specs.Prelude.{remove, slice_index_or, max, IfOk, IfErr, OnErr, IsTrue};
-ghost use Rattle.std.specs.Prelude.{IfSome, Some, None, slice_set};
+ghost use Rattle.std.specs.Prelude.{IfSome, Some, None};
 ghost use Rattle.std.specs.List.{find};
 ghost use Rattle.sorted_rows.specs.Order.{Rises, IsRankAt, FirstIs};
 ghost use Rattle.sorted_rows.specs.Weights.{greatest_weight, weighs};
@@ -171,25 +171,6 @@ impl<T: RowEntry> Row<T> {
             self.top = greatest_in(&self.items, self.measure, Some(self.top));
         }
         entry
-    }
-
-    /// Writes an entry over another.
-    #[tactic(auto, using(crate::proofs::WeightLemmas::top_written))]
-    pub fn replace(&mut self, at: usize, entry: T) -> T
-        requires { at < length self.old }
-        ensures items { self.new ≡ slice_set self.old at entry }
-        ensures value { (d : T) → result ≡ slice_index_or self.old at d }
-    {
-        let old = self.items[at];
-        self.items[at] = entry;
-        self.first = self.items[0].key();
-        let weight = entry.weight(self.measure);
-        if weight >= self.top {
-            self.top = weight;
-        } else if old.weight(self.measure) == self.top {
-            self.top = greatest_in(&self.items, self.measure, Some(self.top));
-        }
-        old
     }
 
     /// Moves the upper half of a full row to an empty one.

@@ -2,11 +2,10 @@
 ghost use Rattle.std.specs.Prelude.{◌≡◌, ◌≢◌, ◌+◌, ◌<◌, ◌≤◌, [], length, max, All, Any};
 ghost use Rattle.std.specs.Prelude.{OnOk, OnErr};
 ghost use Rattle.sorted_rows.specs.Order.{Rises, PutsIn, TakesOut, StandsAtKey, first_from};
-ghost use Rattle.sorted_rows.specs.Order.{others, Exchanges, last_to};
+ghost use Rattle.sorted_rows.specs.Order.{last_to};
 ghost use Rattle.sorted_rows.specs.Weights.{heavy_from};
 
 use crate::entries::RowEntry;
-use crate::exchange::exchange;
 use crate::heavy::least_weighing;
 use crate::row::Row;
 use crate::seats::{greatest_to, least_from, put, take};
@@ -119,27 +118,6 @@ impl<T: RowEntry> Rows<T> {
         let entry = take(&mut self.rows, &mut self.spare, key);
         self.len -= 1;
         entry
-    }
-
-    /// Takes out the entry with this key, which is there, and puts in another whose key isn't. It
-    /// is one write where the new one stands in the place of the old one, unless the old one is a
-    /// later row's first and the new key is lower.
-    pub fn replace(&mut self, key: u128, entry: T) -> T
-        requires present { Any (λ x. T.rank x ≡ key) self.old.items }
-        requires absent { let rest = others T.rank key self.old.items in
-            All (λ x. T.rank x ≢ T.rank entry) rest }
-        ensures items { Exchanges T.rank key entry self.old.items self.new.items }
-        ensures value { StandsAtKey T.rank key result self.old.items }
-        ensures room { self.new.room ≡ self.old.room }
-    {
-        // For its clauses: there is room for as many as there are.
-        let _ = self.len();
-        if let Some(old) = exchange(&mut self.rows, key, entry) {
-            return old;
-        }
-        let old = self.remove(key);
-        self.insert(entry);
-        old
     }
 
     /// The first entry at or above the key.

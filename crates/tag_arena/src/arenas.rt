@@ -167,8 +167,8 @@ impl<D: Deed> Arena<D> {
     }
 
     /// How many times the last `xalloc` that granted tried a free range whole, 0 before the first.
-    /// A range that an index passes by for its length, or for its room on a grid, isn't tried; under
-    /// `next` one may be tried twice. No clause speaks of it.
+    /// A range that an index passes by for its length, or for its room on a grid, isn't tried;
+    /// under `next` one may be tried twice. No clause speaks of it.
     pub fn probes(&self) -> u64 {
         self.probes.count
     }
