@@ -387,7 +387,7 @@ fn an_interrupted_flush_is_tried_again(rt: HostRuntime) {
 }
 
 #[test]
-fn want_of_memory_leaves_the_answers_before_it(rt: HostRuntime) {
+fn out_of_memory_leaves_the_answers_before_it(rt: HostRuntime) {
     let alloc = rt.alloc();
     let fronts: [&[u8]; 4] = [
         b"",

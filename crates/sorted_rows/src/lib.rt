@@ -13,8 +13,8 @@
 //! An entry is found by two binary searches. A row that comes to 64 is halved; neighbours with 32
 //! or fewer together are put together. So with n entries an insert moves at most 95 entries, where
 //! it halves a row, a remove at most 63, and each n / 16 rows' headers; no call is recursive. Once
-//! `Rows::reserve` has made room, `insert` and `remove` take no memory and can't fail: a spare row is
-//! there for each split.
+//! `Rows::reserve` has made room, `insert` and `remove` take no memory and can't fail: a spare row
+//! is there for each split.
 //!
 //! Begin with `Rows`; what an entry is, the trait `RowEntry` says. The form is our own choice.
 #![tactic(auto)]

@@ -26,13 +26,13 @@ use Rattle.lease_machine.specs.Chunks.{GoesBack, GoesBackBy}
 use Rattle.lease_machine.specs.Held.{IsHeld}
 use Rattle.lease_machine.specs.Machine.{NewLease, demand_of}
 use Rattle.lease_machine.specs.Moves.{Climbs, ClimbsInVain, Returns}
-use Rattle.lease_machine.specs.Picture.{Picture, IsPicture, IsBookOf, HoldsInHand, SameSetup}
+use Rattle.lease_history.specs.Told.{reply_to}
+use Rattle.lease_machine.specs.Picture.{Picture, IsPicture, IsBookOf, HoldsInHand, SameSetup, arena_named}
 use Rattle.lease_machine.specs.Replies.{reply_of_settled}
 use Rattle.lease_machine.specs.Serving.{ServesWith, FallsBack}
 use Rattle.stock_desk.specs.Leasing.{IsTakenFor}
 use Rattle.stock_desk.specs.Supplies.{SupplyState, picture_with}
 use Rattle.stock_desk.specs.Takings.{IsPutBack}
-use Rattle.stock_desk.specs.Telling.{reply_of_kept}
 use Rattle.stock_desk.proofs.BookMoves.{same_leases, book_enters, granted_is_picture}
 use Rattle.stock_desk.proofs.Outcomes.{Outcome}
 use Rattle.stock_desk.proofs.Rebooking.{serves_then, goes_back_from}
@@ -105,10 +105,10 @@ module _ (id : RequestId) (l : LeaseLine) (index : ℕ) (t : Tag) (before : Pict
     reply = refl;
   })
 
-  pub granted_told : (tree : List TreeArena) → tree ≡ before.tree → (r : ReceiptState) → IsGranted a b id t asked r → (k : KeptReply) → k ≡ r.reply → (told : Reply) → told ≡ reply_of_kept tree id k → told ≡ reply_of_settled before id (Grant t asked)
+  pub granted_told : (tree : List TreeArena) → tree ≡ before.tree → (r : ReceiptState) → IsGranted a b id t asked r → (k : KeptReply) → k ≡ r.reply → (told : Reply) → told ≡ reply_to (arena_named tree) id k → told ≡ reply_of_settled before id (Grant t asked)
   granted_told tree same r granted k kept_so told said =
-      said ∙ ap (reply_of_kept tree id) (kept_so ∙ ap (λ (v : ReceiptState). v.reply) granted.receipt)
-      ∙ ap (λ (ts : List TreeArena). reply_of_kept ts id (kept.Granted t.arena t.holding.range.base t.holding.range.len)) same
+      said ∙ ap (reply_to (arena_named tree) id) (kept_so ∙ ap (λ (v : ReceiptState). v.reply) granted.receipt)
+      ∙ ap (λ (ts : List TreeArena). reply_to (arena_named ts) id (kept.Granted t.arena t.holding.range.base t.holding.range.len)) same
 
   -- the terms, as the arena of that number has them
   pub same_terms : (tree : List TreeArena) → tree ≡ s.tree → (y : TreeArena) → slice_get tree index ≡ Some y → (q : Request) → q ≡ demand_of l → make_terms y.quantum q ≡ asked

@@ -17,7 +17,7 @@ use Rattle.lease_history.specs.Told.{reply_to}
 use Rattle.lease_machine.specs.Picture.{Picture, IsPicture, arena_named}
 use Rattle.lease_machine.specs.Replies.{IsKnownReply}
 use Rattle.lease_machine.proofs.LawProofs.{kept_grants_fit}
-use Rattle.stock_desk.specs.Telling.{IsGivenIn, CanName, reply_of_kept, reply_to_answer}
+use Rattle.stock_desk.specs.Telling.{IsGivenIn, CanName, reply_to_answer}
 
 module _ {D : Type 0} (book : BookState) (id : RequestId) where
   -- the answer by what a number is to the book, which isn't new
@@ -57,18 +57,18 @@ module _ (tree : List TreeArena) (book : BookState) (id : RequestId) where
   known_named d is same here answer.Again known = tt
 
   -- the same reply, with the picture's names
-  same_reply : (d : Picture) → d.tree ≡ tree → (k : KeptReply) → reply_of_kept tree id k ≡ reply_to (arena_named d.tree) id k
+  same_reply : (d : Picture) → d.tree ≡ tree → (k : KeptReply) → reply_to (arena_named tree) id k ≡ reply_to (arena_named d.tree) id k
   same_reply d same (kept.Granted arena base len) = ap (λ (t : List TreeArena). reply.Granted (record { id = id; arena = arena_named t arena; base = base; len = len })) (sym same)
   same_reply d same kept.Released = refl
   same_reply d same (kept.Refused why) = refl
 
-  kept_known : (d : Picture) → d.tree ≡ tree → d.book ≡ book → (v : ReceiptState) → IsRepeated book (account_in id.client book) id v → IsKnownReply d id (reply_of_kept tree id v.reply)
+  kept_known : (d : Picture) → d.tree ≡ tree → d.book ≡ book → (v : ReceiptState) → IsRepeated book (account_in id.client book) id v → IsKnownReply d id (reply_to (arena_named tree) id v.reply)
   kept_known d same here v rep = by v.reply refl
     where
       repeated : IsRepeated d.book (account_in id.client d.book) id v
       repeated = subst (λ (b : BookState). IsRepeated b (account_in id.client b) id v) (sym here) rep
 
-      by : (k : KeptReply) → v.reply ≡ k → IsKnownReply d id (reply_of_kept tree id k)
+      by : (k : KeptReply) → v.reply ≡ k → IsKnownReply d id (reply_to (arena_named tree) id k)
       by (kept.Granted arena base len) said = (v, repeated, same_reply d same (kept.Granted arena base len) ∙ ap (reply_to (arena_named d.tree) id) (sym said))
       by kept.Released said = (v, repeated, ap (reply_to (arena_named d.tree) id) (sym said))
       by (kept.Refused why) said = (v, repeated, ap (reply_to (arena_named d.tree) id) (sym said))

@@ -11,9 +11,10 @@ use Rattle.lease_book.specs.Answers.{IsNew, IsRepeated, IsAnswer}
 use Rattle.lease_book.specs.BookState.{BookState, account_in}
 use Rattle.lease_book.specs.Calls.{IsRefused}
 use Rattle.lease_book.specs.Receipts.{ReceiptState}
-use Rattle.lease_machine.specs.Picture.{Picture}
+use Rattle.lease_history.specs.Told.{reply_to}
+use Rattle.lease_machine.specs.Picture.{Picture, arena_named}
 use Rattle.lease_machine.specs.Replies.{SettlesRefusal}
-use Rattle.stock_desk.specs.Telling.{IsGivenIn, CanName, reply_of_kept, reply_to_answer}
+use Rattle.stock_desk.specs.Telling.{IsGivenIn, CanName, reply_to_answer}
 
 pub not_repeated : (book : BookState) (a : Account) (id : RequestId) (v : ReceiptState) → IsNew a id → IsRepeated book a id v → ⊥
 not_repeated book a id v new rep =
@@ -36,7 +37,7 @@ module _ {D : Type 0} (tree : List TreeArena) (old new : BookState) (id : Reques
   refusal_told (answer.Refused v) is r said d here = record {
     receipt = v;
     refused = subst (λ (b : BookState). IsRefused b new id why v) (sym here) is;
-    reply = said ∙ ap (λ (x : ReceiptState). reply_of_kept tree id x.reply) is.receipt;
+    reply = said ∙ ap (λ (x : ReceiptState). reply_to (arena_named tree) id x.reply) is.receipt;
   }
   refusal_told (answer.Old current) is r said d here = absurd (is.0.other fresh.current)
   refusal_told (answer.Stale greatest) is r said d here = absurd (omega (arith, fresh.next, is.0.below, is.0.last))

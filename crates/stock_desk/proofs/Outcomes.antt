@@ -16,11 +16,12 @@ use Rattle.lease_book.specs.Calls.{IsRefused}
 use Rattle.lease_book.specs.Receipts.{ReceiptState}
 use Rattle.lease_book.specs.declared.answers.Answer.{Answer}
 use Rattle.lease_book.specs.declared.answers.Answer.TheVariants as answer
-use Rattle.lease_machine.specs.Picture.{Picture, IsPicture}
+use Rattle.lease_history.specs.Told.{reply_to}
+use Rattle.lease_machine.specs.Picture.{Picture, IsPicture, arena_named}
 use Rattle.lease_machine.specs.Machine.{NewRelease}
 use Rattle.lease_machine.specs.Replies.{again_of, SettlesRefusal}
 use Rattle.stock_desk.specs.Supplies.{SupplyState, picture_with}
-use Rattle.stock_desk.specs.Telling.{IsGivenIn, CanName, reply_of_kept, reply_to_answer}
+use Rattle.stock_desk.specs.Telling.{IsGivenIn, CanName, reply_to_answer}
 use Rattle.stock_desk.proofs.BookMoves.{refused_is_picture}
 use Rattle.stock_desk.proofs.NewAnswers.{not_repeated}
 
@@ -41,7 +42,7 @@ module _ {D : Type 0} (tree : List TreeArena) (old new : BookState) (id : Reques
 
   pub answer_told : (a : Answer D) → IsAnswer old new id (λ v. IsRefused old new id refusal v × E) A a → Outcome old new id refusal E A (reply_to_answer tree id a)
   answer_told (answer.Kept v) is = absurd (not_repeated old (account_in id.client old) id v fresh is.0)
-  answer_told (answer.Refused v) is = inl (v, is.0, is.1, ap (λ (x : ReceiptState). reply_of_kept tree id x.reply) is.0.receipt)
+  answer_told (answer.Refused v) is = inl (v, is.0, is.1, ap (λ (x : ReceiptState). reply_to (arena_named tree) id x.reply) is.0.receipt)
   answer_told (answer.Old current) is = absurd (is.0.other fresh.current)
   answer_told (answer.Stale greatest) is = absurd (omega (arith, fresh.next, is.0.below, is.0.last))
   answer_told (answer.Gap greatest) is = absurd (omega (arith, fresh.next, is.0.above, is.0.last))

@@ -1,9 +1,11 @@
 //! Replies to requests and hellos.
 ghost use Rattle.std.specs.Prelude.{◌≡◌};
+ghost use Rattle.lease_history.specs.Told.{reply_to};
 ghost use Rattle.lease_machine.specs.Machine as machine;
+ghost use Rattle.lease_machine.specs.Picture.{arena_named};
 ghost use Rattle.lease_machine.specs.Replies.{again_of};
 ghost use Rattle.stock_desk.specs.Hellos.{hello_refusal};
-ghost use Rattle.stock_desk.specs.Telling.{IsGivenIn, CanName, reply_of_kept, reply_to_answer};
+ghost use Rattle.stock_desk.specs.Telling.{IsGivenIn, CanName, reply_to_answer};
 
 use arena_tree::Tree;
 use deed_core::{PlainDeed, Request};
@@ -56,7 +58,7 @@ pub(crate) fn refused(hello: &HelloLine, fault: &HelloFault) -> Reply
 /// The reply that was settled for the request.
 pub(crate) fn settled(tree: &Tree, id: RequestId, reply: KeptReply) -> Reply
     requires { IsGivenIn tree.now reply }
-    ensures { result ≡ reply_of_kept tree.now id reply }
+    ensures { result ≡ reply_to (arena_named tree.now) id reply }
 {
     match reply {
         KeptReply::Granted { arena, base, len } => {
