@@ -1,14 +1,16 @@
-//! A small best-fit server over std's maps, for `make bench` alone: the lines of `vmemd script` for
-//! one root without caches, in plain Rust. It checks each free, keeps each client's last reply, and
-//! answers as vmemd does under the policy `best`.
+//! A small server over std's maps, for `make bench` alone: the lines of `vmemd script` for one root
+//! without caches, in plain Rust. It checks each free, keeps each client's last reply, and answers as
+//! vmemd does under the policies `best` and `next`.
 use std::collections::{BTreeMap, BTreeSet, HashMap};
 use std::io::{self, BufRead, Write};
 
 const MOST: u64 = 1 << 62;
 
-/// Free ranges by base and by length; allocated ones by base.
+/// Free ranges by base and, under `best`, by length; allocated ones by base.
 struct Arena {
     quantum: u64,
+    is_next: bool,
+    rover: u64,
     by_base: BTreeMap<u64, u64>,
     by_length: BTreeSet<(u64, u64)>,
     allocated: BTreeMap<u64, u64>,
@@ -41,9 +43,9 @@ impl Request {
     }
 
     /// The least base that fits in a free range.
-    fn first_in(&self, start: u64, length: u64, quantum: u64) -> Option<u64> {
+    fn first_in(&self, start: u64, length: u64, quantum: u64, from: u64) -> Option<u64> {
         let step = self.align.max(quantum);
-        let mut base = start.max(self.min);
+        let mut base = start.max(self.min).max(from);
         for _ in 0..2 {
             base += (self.phase + step - base % step) % step;
             if self.nocross == 0 || base % self.nocross + self.length <= self.nocross {
@@ -69,23 +71,49 @@ impl Request {
 impl Arena {
     fn add(&mut self, base: u64, length: u64) {
         self.by_base.insert(base, length);
-        self.by_length.insert((length, base));
+        if !self.is_next {
+            self.by_length.insert((length, base));
+        }
     }
 
     fn remove(&mut self, base: u64, length: u64) {
         self.by_base.remove(&base);
-        self.by_length.remove(&(length, base));
+        if !self.is_next {
+            self.by_length.remove(&(length, base));
+        }
+    }
+
+    /// A free range and the least base in it that fits: of the ranges that have one the shortest.
+    fn best(&self, request: &Request) -> Option<(u64, u64, u64)> {
+        self.by_length
+            .range((request.length, 0)..)
+            .find_map(|&(length, start)| {
+                let base = request.first_in(start, length, self.quantum, 0)?;
+                Some((start, length, base))
+            })
+    }
+
+    /// The least base from `from` on that fits, and its free range.
+    fn first(&self, request: &Request, from: u64) -> Option<(u64, u64, u64)> {
+        let before = self.by_base.range(..from).next_back();
+        before
+            .into_iter()
+            .chain(self.by_base.range(from..))
+            .find_map(|(&start, &length)| {
+                let base = request.first_in(start, length, self.quantum, from)?;
+                Some((start, length, base))
+            })
     }
 
     fn carve(&mut self, request: &Request) -> Option<u64> {
-        let (start, length, base) = self
-            .by_length
-            .range((request.length, 0)..)
-            .find_map(|&(length, start)| {
-                let base = request.first_in(start, length, self.quantum)?;
-                Some((start, length, base))
-            })?;
+        let (start, length, base) = if self.is_next {
+            self.first(request, self.rover)
+                .or_else(|| self.first(request, 0))?
+        } else {
+            self.best(request)?
+        };
         self.remove(start, length);
+        self.rover = base + request.length;
         if start < base {
             self.add(start, base - start);
         }
@@ -132,6 +160,8 @@ impl Server {
             let (base, length, quantum) = (number(2)?, number(3)?, number(4)?);
             let mut arena = Arena {
                 quantum,
+                is_next: words.get(5) == Some(&"next"),
+                rover: 0,
                 by_base: BTreeMap::new(),
                 by_length: BTreeSet::new(),
                 allocated: BTreeMap::new(),
