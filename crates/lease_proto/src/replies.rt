@@ -23,7 +23,7 @@ use crate::numbers::{client, ordinal, quantity};
 use crate::sentences::{Words, name};
 use crate::taking::words;
 use crate::writing::{push_id, push_name, push_number, push_text, push_word};
-use lease_terms::{ClientId, Name, Ordinal, Quantity, Refusal, RequestId};
+use lease_terms::{ArenaName, ClientId, Ordinal, Quantity, Refusal, RequestId};
 use std::alloc::AllocError;
 
 /// The refusal that a word is: `BadLine` where it is none.
@@ -95,7 +95,7 @@ impl Welcome {
 #[derive(Clone, Copy, Debug, PartialEq, Eq)]
 pub struct Granted {
     pub id: RequestId,
-    pub arena: Name,
+    pub arena: ArenaName,
     pub base: Quantity,
     pub len: Quantity,
 }

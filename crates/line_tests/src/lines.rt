@@ -5,7 +5,7 @@ use lease_proto::{
     ErrorWord, Granted, HelloLine, LeaseLine, LeaseOptions, Line, LineFault, LineReader, Op,
     OperatorLine, PolicyWord, Refused, ReleaseLine, Reply, RootLine, ServedLine, SetupLine,
 };
-use lease_terms::{ClientId, Name, Ordinal, Quantity, Refusal, RequestId};
+use lease_terms::{ArenaName, ClientId, Ordinal, Quantity, Refusal, RequestId};
 use std::alloc::{AllocError, Global};
 use std::process::Abort;
 use std::test::Fail;
@@ -208,8 +208,8 @@ fn quantity(rt: &impl Abort, value: u64) -> Quantity {
     Quantity::new(value).expect(rt, "a quantity")
 }
 
-fn name(rt: &impl Abort, text: &[u8]) -> Name {
-    Name::new(text).expect(rt, "a name")
+fn name(rt: &impl Abort, text: &[u8]) -> ArenaName {
+    ArenaName::new(text).expect(rt, "a name")
 }
 
 /// The third request of client 7's second incarnation.
