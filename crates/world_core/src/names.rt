@@ -6,7 +6,7 @@ ghost use Rattle.world_core.specs.Moves.{IsTellable, demand_of as spec_demand_of
 
 use deed_core::Request;
 use lease_book::KeptReply;
-use lease_proto::{Granted, LeaseLine, Refused, Reply};
+use lease_proto::{Granted, LeaseLine, RefusedRequest, Reply};
 use lease_terms::{ArenaName, RequestId};
 
 /// The index of the arena with this name.
@@ -37,7 +37,7 @@ pub(crate) fn reply_to(names: &[ArenaName], id: RequestId, kept: KeptReply) -> R
             len,
         }),
         KeptReply::Released => Reply::Released(id),
-        KeptReply::Refused(refusal) => Reply::Refused(Refused { id, refusal }),
+        KeptReply::Refused(refusal) => Reply::Refused(RefusedRequest { id, refusal }),
     }
 }
 
