@@ -18,7 +18,7 @@ use Rattle.arena_tree.specs.Chains.{Node, IsChain, first_id, quantum_in, amount_
 use Rattle.arena_tree.specs.Plans.{Plan, Done, Ask, then, Step, Path, Ran, Gives}
 use Rattle.arena_tree.specs.Events.{Event, AnswerTo, Carve, Free, AddCarve}
 use Rattle.arena_tree.specs.Sound.{Sound, SoundCarve}
-use Rattle.arena_tree.specs.Climbs.{Returned, Climbed, return_plan, on_free, memory_refusal, on_add, on_import, on_carve, climb_plan}
+use Rattle.arena_tree.specs.Climbs.{ReturnEnd, ClimbEnd, return_plan, on_free, memory_refusal, on_add, on_import, on_carve, climb_plan}
 use Rattle.arena_tree.specs.Told.{Answered, Tells, told_by, no_fit, no_fits, NoneFits, IsNoFit, WasRefused, IsTakenBack, OnlyTakenBack, WasTakenIn, RanOut, WasStopped, ClimbTold, ReturnTold}
 use Rattle.arena_tree.specs.Laws.{ClimbTells, ReturnTells, NoFitIsTold}
 use Rattle.arena_tree.proofs.Amounts.{chain_above}
@@ -91,7 +91,7 @@ pub return_tells : ReturnTells
 return_tells nodes [] t is first = absurd (let e : None ≡ Some t.arena = first in cc)
 return_tells nodes (l ∷ up) t is first = freed (λ w at. return_tells nodes up w is.2 at)
   where
-    later : (w : Tag) (r : Returned) (now : List Answered) → TellsAfter ReturnTold (answered (Free t) (Ok (Some w)) ∷ []) now r → ReturnTold now r
+    later : (w : Tag) (r : ReturnEnd) (now : List Answered) → TellsAfter ReturnTold (answered (Free t) (Ok (Some w)) ∷ []) now r → ReturnTold now r
     later w (Ok u) now g = (
       subst OnlyTakenBack (sym g.1) (All-append (λ (a : Answered). IsTakenBack a.event a.answer) g.0 (answered (Free t) (Ok (Some w)) ∷ []) (g.2).0 (one_back (answered (Free t) (Ok (Some w))) (Some w, refl))),
       subst WasTakenIn (sym g.1) (taken_in_more g.0 (answered (Free t) (Ok (Some w)) ∷ []) (g.2).1),
@@ -112,7 +112,7 @@ told_refused : (nodes : List Node) (chain up : List Level) (n : ℕ) (t : Tag) (
 told_refused nodes chain up n t told is first ran =
     tells_then nodes (TellsAfter ReturnTold told) (ClimbTold nodes chain n) (return_plan up t) (λ r. Done (memory_refusal r)) told (tells_own nodes ReturnTold (return_plan up t) [] told (return_tells nodes up t is first)) ends
   where
-    ends : (r : Returned) (now : List Answered) → TellsAfter ReturnTold told now r → ClimbTold nodes chain n now (memory_refusal r)
+    ends : (r : ReturnEnd) (now : List Answered) → TellsAfter ReturnTold told now r → ClimbTold nodes chain n now (memory_refusal r)
     ends (Ok u) now w = subst RanOut (sym w.1) (ran_out_before w.0 told (w.2).0 ran)
     ends (Err (returning.Stuck x)) now w = subst (WasRefused x) (sym w.1) (refused_more x w.0 told w.2)
     ends (Err (returning.Stopped x)) now w = subst WasStopped (sym w.1) (stopped_more w.0 told w.2)
@@ -139,7 +139,7 @@ bad_is_none : (quantum n : ℕ) → ¬ IsGood quantum (plain_of n) → n ≡ 0
 bad_is_none quantum zero bad = refl
 bad_is_none quantum (suc n) bad = absurd (bad (plain_is_good quantum (suc n) (omega arith)))
 
-told_imported : (nodes : List Node) (l k : Level) (up : List Level) (n : ℕ) → IsChain nodes (k ∷ up) → 0 < n → (r : Climbed) (now : List Answered) → TellsAfter (ClimbTold nodes (k ∷ up) (amount_of l (k ∷ up) n)) (no_fit l.id n ∷ []) now r
+told_imported : (nodes : List Node) (l k : Level) (up : List Level) (n : ℕ) → IsChain nodes (k ∷ up) → 0 < n → (r : ClimbEnd) (now : List Answered) → TellsAfter (ClimbTold nodes (k ∷ up) (amount_of l (k ∷ up) n)) (no_fit l.id n ∷ []) now r
     → Tells nodes (ClimbTold nodes (l ∷ (k ∷ up)) n) (on_import (k ∷ up) l.id n r) now
 told_imported nodes l k up n is some (Ok span) now g = λ x s. told_added nodes l (k ∷ up) n span now x is (let here = (g.2).of_arena in cc) s
 told_imported nodes l k up n is some (Err climbing.BadRequest) now g = absurd (let a = amount_some l k up n some in let none = g.2 in omega (arith, a, none))
@@ -189,5 +189,5 @@ no_fit_is_told (l ∷ up) n =
     )
 
 -- a climb tells a bad request for 0 units alone
-pub climb_bad : (nodes : List Node) (chain : List Level) (n : ℕ) → IsChain nodes chain → Gives nodes (λ (r : Climbed). r ≡ Err climbing.BadRequest → n ≡ 0) (climb_plan chain n)
-climb_bad nodes chain n is = tells_gives nodes (ClimbTold nodes chain n) (λ (r : Climbed). r ≡ Err climbing.BadRequest → n ≡ 0) (climb_plan chain n) [] (λ now r w e. subst (ClimbTold nodes chain n now) e w) (climb_tells nodes chain n is)
+pub climb_bad : (nodes : List Node) (chain : List Level) (n : ℕ) → IsChain nodes chain → Gives nodes (λ (r : ClimbEnd). r ≡ Err climbing.BadRequest → n ≡ 0) (climb_plan chain n)
+climb_bad nodes chain n is = tells_gives nodes (ClimbTold nodes chain n) (λ (r : ClimbEnd). r ≡ Err climbing.BadRequest → n ≡ 0) (climb_plan chain n) [] (λ now r w e. subst (ClimbTold nodes chain n now) e w) (climb_tells nodes chain n is)

@@ -17,7 +17,7 @@ use Rattle.arena_tree.specs.Events.{SlabAdd, Push}
 use Rattle.arena_tree.specs.Stops.{is_stopped}
 use Rattle.arena_tree.specs.Sound.{Sound}
 use Rattle.arena_tree.specs.Plans.{Plan, Done, Ask, Path}
-use Rattle.arena_tree.specs.Climbs.{Climbed, Returned, IsGrantOf}
+use Rattle.arena_tree.specs.Climbs.{ClimbEnd, ReturnEnd, IsGrantOf}
 
 -- an event with its answer
 pub record Answered : Type 0 where
@@ -128,7 +128,7 @@ WasStopped (last ∷ told) = is_stopped last.event last.answer ≡ true
 -- NoFit where each arena of the chain was asked to carve, and nothing else; out of memory where a
 -- carve or an import was, and what was carved for it was freed; a segment where a part has just
 -- refused it; stopped where a part has just said so
-abbrev pub ClimbTold : List Node → List Level → ℕ → List Answered → Climbed → Type 0
+abbrev pub ClimbTold : List Node → List Level → ℕ → List Answered → ClimbEnd → Type 0
 ClimbTold nodes chain n told (Ok t) = IsGrantOf nodes chain n t
 ClimbTold nodes chain n told (Err climbing.BadRequest) = n ≡ 0
 ClimbTold nodes chain n told (Err climbing.NoFit) = told ≡ no_fits chain n
@@ -138,7 +138,7 @@ ClimbTold nodes chain n told (Err (climbing.Stopped o)) = WasStopped told
 
 -- and a hand back: it ends well where segments were freed and nothing else was done, and the last
 -- that was freed made no span whole
-abbrev pub ReturnTold : List Answered → Returned → Type 0
+abbrev pub ReturnTold : List Answered → ReturnEnd → Type 0
 ReturnTold told (Ok u) = OnlyTakenBack told × WasTakenIn told
 ReturnTold told (Err (returning.Stuck t)) = WasRefused t told
 ReturnTold told (Err (returning.Stopped t)) = WasStopped told

@@ -1,6 +1,6 @@
 -- What is freed goes back.
 -- up the chain
-use Rattle.arena_tree.specs.Climbs.{Returned, on_free, return_left, return_plan}
+use Rattle.arena_tree.specs.Climbs.{ReturnEnd, on_free, return_left, return_plan}
 use Rattle.arena_tree.specs.Plans.{Path, Plan}
 use Rattle.arena_tree.specs.Trees.{nodes_of}
 use Rattle.arena_tree.specs.declared.levels.Level.{Level}
@@ -210,7 +210,7 @@ module _ (d : Picture) (t : Tag) (s : LocalState) (held : IsHeld (t ∷ []) d) (
   abbrev was : LocalState
   was = reach d d.selected c found (Some t) held
 
-  abbrev plan : Plan Returned
+  abbrev plan : Plan ReturnEnd
   plan = free_plan (chain_in d.tree t.arena) t
 
   abbrev Goal : Type 0
@@ -220,13 +220,13 @@ module _ (d : Picture) (t : Tag) (s : LocalState) (held : IsHeld (t ∷ []) d) (
   last = run_lasts d.tree plan was s (Ok tt) run
 
   setup : IsSetUpAs was s
-  setup = plan_keeps_setup Returned plan was s (Ok tt) (seen d.tree plan was s (Ok tt) run)
+  setup = plan_keeps_setup ReturnEnd plan was s (Ok tt) (seen d.tree plan was s (Ok tt) run)
 
   kept : Everywhere (FitsIn s.spaces) s.cpu → IsHeld [] (with_parts s d) × SameSetup d (with_parts s d)
   kept fits =
       let path = seen d.tree plan was s (Ok tt) run in
-      let law = plan_keeps_stock Returned plan was s (Ok tt) path held.units.parts in
-      let conserves = plan_conserves Returned return_left plan (Some t) (free_handles (chain_in d.tree t.arena) t) was s (Ok tt) path in (
+      let law = plan_keeps_stock ReturnEnd plan was s (Ok tt) path held.units.parts in
+      let conserves = plan_conserves ReturnEnd return_left plan (Some t) (free_handles (chain_in d.tree t.arena) t) was s (Ok tt) path in (
         held_then d d.selected c found (Some t) held s None law conserves setup last fits,
         same_setup d d.selected c found (Some t) held s None law conserves setup last fits,
       )

@@ -16,7 +16,7 @@ use Rattle.arena_tree.specs.Events.{SlabTake, SlabAdd, SwapFull, Pop, Change}
 use Rattle.arena_tree.specs.Sound.{Sound, SoundTake}
 use Rattle.arena_tree.specs.Stops.{refuses_by}
 use Rattle.arena_tree.specs.Plans.{Plan, Done, then, or_else}
-use Rattle.arena_tree.specs.Climbs.{Climbed, Returned, climb_plan, return_plan, memory_refusal}
+use Rattle.arena_tree.specs.Climbs.{ClimbEnd, ReturnEnd, climb_plan, return_plan, memory_refusal}
 use Rattle.arena_tree.specs.Told.{Answered, Tells, RanOut, WasStopped, ClimbTold, ReturnTold}
 use Rattle.arena_tree.proofs.LawProofs.{tells_then, ran_out_before, climb_tells, return_tells}
 use Rattle.quantum_cache.specs.Sizes.{cache_for}
@@ -32,7 +32,7 @@ told_climb nodes l up size told is =
     tells_so nodes (λ now r. After (ClimbTold nodes (l ∷ up) size) told now r × IfNone (l ∷ up) size told now r) (AllocTold nodes (l ∷ up) size) (climb_plan (l ∷ up) size) told so
     (tells_both nodes (After (ClimbTold nodes (l ∷ up) size) told) (IfNone (l ∷ up) size told) (climb_plan (l ∷ up) size) told (tells_after nodes (ClimbTold nodes (l ∷ up) size) told (climb_plan (l ∷ up) size) [] (climb_tells nodes (l ∷ up) size is)) (climb_none nodes (l ∷ up) size told))
   where
-    so : (now : List Answered) (r : Climbed) → After (ClimbTold nodes (l ∷ up) size) told now r × IfNone (l ∷ up) size told now r → AllocTold nodes (l ∷ up) size now r
+    so : (now : List Answered) (r : ClimbEnd) → After (ClimbTold nodes (l ∷ up) size) told now r × IfNone (l ∷ up) size told now r → AllocTold nodes (l ∷ up) size now r
     so now (Ok t) w = let g = w.0.2 in record { of_arena = g.of_arena; by = inl g.direct; fits = g.fits }
     so now (Err climbing.BadRequest) w = inl w.0.2
     so now (Err climbing.NoFit) w = (told, w.1 refl)
@@ -45,7 +45,7 @@ module _ (nodes : List Node) (l : Level) (up : List Level) (size cache : ℕ) (i
   IfTold now None = Unit {0}
   IfTold now (Some r) = AllocTold nodes (l ∷ up) size now r
 
-  tells_or_else : (p : Plan Stage) (q : Plan Climbed) (told : List Answered) → Tells nodes IfTold p told → ((now : List Answered) → Tells nodes (AllocTold nodes (l ∷ up) size) q now) → Tells nodes (AllocTold nodes (l ∷ up) size) (then p (or_else q)) told
+  tells_or_else : (p : Plan Stage) (q : Plan ClimbEnd) (told : List Answered) → Tells nodes IfTold p told → ((now : List Answered) → Tells nodes (AllocTold nodes (l ∷ up) size) q now) → Tells nodes (AllocTold nodes (l ∷ up) size) (then p (or_else q)) told
   tells_or_else p q told w next = tells_then nodes IfTold (AllocTold nodes (l ∷ up) size) p (or_else q) told w go
     where
       go : (a : Stage) (now : List Answered) → IfTold now a → Tells nodes (AllocTold nodes (l ∷ up) size) (or_else q a) now
@@ -91,7 +91,7 @@ module _ (nodes : List Node) (l : Level) (up : List Level) (size cache : ℕ) (i
   told_back : (t : Tag) (told : List Answered) → first_id (l ∷ up) ≡ Some t.arena → RanOut told → Tells nodes (AllocTold nodes (l ∷ up) size) (then (return_plan (l ∷ up) t) (λ r. Done (memory_refusal r))) told
   told_back t told first ran = tells_then nodes (After ReturnTold told) (AllocTold nodes (l ∷ up) size) (return_plan (l ∷ up) t) (λ r. Done (memory_refusal r)) told (tells_after nodes ReturnTold told (return_plan (l ∷ up) t) [] (return_tells nodes (l ∷ up) t is first)) ends
     where
-      ends : (r : Returned) (now : List Answered) → After ReturnTold told now r → AllocTold nodes (l ∷ up) size now (memory_refusal r)
+      ends : (r : ReturnEnd) (now : List Answered) → After ReturnTold told now r → AllocTold nodes (l ∷ up) size now (memory_refusal r)
       ends (Ok u) now w = subst RanOut (sym w.1) (ran_out_before w.0 told (w.2).0 ran)
       ends (Err (returning.Stuck x)) now w = just_refused x w.0 told now w.1 w.2
       ends (Err (returning.Stopped x)) now w = stopped_after w.0 told now w.1 w.2
@@ -104,7 +104,7 @@ module _ (nodes : List Node) (l : Level) (up : List Level) (size cache : ℕ) (i
   told_slab span told here (Err (slabbing.NoMemory t)) s =
       told_back t (answered (SlabAdd l.id cache span) (Err (slabbing.NoMemory t)) ∷ told) (ap Some (sym (ap (λ (z : Tag). z.arena) s.1 ∙ here))) (inl (ap (λ (z : Tag). Err (slabbing.NoMemory z)) s.1))
 
-  told_climbed : (x : Climbed) (before now : List Answered) → After (ClimbTold nodes (l ∷ up) l.slab_size) before now x → Tells nodes IfTold (on_slab_climb (l ∷ up) l.id cache x) now
+  told_climbed : (x : ClimbEnd) (before now : List Answered) → After (ClimbTold nodes (l ∷ up) l.slab_size) before now x → Tells nodes IfTold (on_slab_climb (l ∷ up) l.id cache x) now
   unfolding make_slab
   told_climbed (Ok span) before now w =
       tells_then nodes (AllocTold nodes (l ∷ up) size) IfTold (make_slab (l ∷ up) l.id cache span) (λ r. Done (Some r)) now (λ x s. told_slab span now (w.2).of_arena x s) (λ r told e. e)

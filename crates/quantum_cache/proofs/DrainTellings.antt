@@ -8,7 +8,7 @@ use Rattle.arena_tree.specs.declared.part_faults.ReturnFault.TheVariants as retu
 use Rattle.arena_tree.specs.declared.part_faults.Stopped.{Stopped}
 use Rattle.arena_tree.specs.declared.trees.TreeArena.{TreeArena}
 use Rattle.arena_tree.specs.Chains.{Node}
-use Rattle.arena_tree.specs.Climbs.{Returned}
+use Rattle.arena_tree.specs.Climbs.{ReturnEnd}
 use Rattle.arena_tree.specs.Events.{Pop}
 use Rattle.arena_tree.specs.Plans.{Plan, Done}
 use Rattle.arena_tree.specs.Told.{Answered, Tells}
@@ -16,7 +16,7 @@ use Rattle.arena_tree.specs.Trees.{level_of}
 use Rattle.arena_tree.proofs.LawProofs.{tells_then}
 use Rattle.quantum_cache.specs.declared.emptying_faults.EmptyingFault.{EmptyingFault}
 use Rattle.quantum_cache.specs.Caches.{rest_of_chain, chain_up, chain_in}
-use Rattle.quantum_cache.specs.Drains.{Turn, Drained, on_put_back, on_drain_pop, drain_turn, on_turn, drain_cache_plan, drain_arena_plan, drain_plan}
+use Rattle.quantum_cache.specs.Drains.{Turn, DrainEnd, on_put_back, on_drain_pop, drain_turn, on_turn, drain_cache_plan, drain_arena_plan, drain_plan}
 use Rattle.quantum_cache.specs.Frees.{put_chunk}
 use Rattle.quantum_cache.specs.Looks.{WasLast, EmptyingTold, DrainTold, DrainTells}
 use Rattle.quantum_cache.specs.Sizes.{caches_in}
@@ -45,7 +45,7 @@ told_turn : (nodes : List Node) (arena cache : ℕ) (told : List Answered) → T
 unfolding drain_turn
 told_turn nodes arena cache told = λ x s. popped x
   where
-    ended : (r : Returned) (now : List Answered) → FreeTold now r → TurnTold arena cache now (on_put_back r)
+    ended : (r : ReturnEnd) (now : List Answered) → FreeTold now r → TurnTold arena cache now (on_put_back r)
     ended (Ok u) now w = tt
     ended (Err (returning.Stuck t)) now w = w
     ended (Err (returning.Stopped t)) now w = w
@@ -62,7 +62,7 @@ told_drain nodes zero arena cache u told = tt
 told_drain nodes (suc n) arena cache u told =
     tells_then nodes (TurnTold arena cache) (KeyTold nodes (λ k (v : Unit {0}). drain_cache_plan (suc n) arena k) Live (Found arena) Fault cache u) (drain_turn arena cache) (on_turn (drain_cache_plan n arena cache)) told (told_turn nodes arena cache told) (goes_on (λ now. told_drain nodes n arena cache u now))
   where
-    same : (now : List Answered) (r : Drained) → KeyTold nodes (λ k (v : Unit {0}). drain_cache_plan n arena k) Live (Found arena) Fault cache u now r → KeyTold nodes (λ k (v : Unit {0}). drain_cache_plan (suc n) arena k) Live (Found arena) Fault cache u now r
+    same : (now : List Answered) (r : DrainEnd) → KeyTold nodes (λ k (v : Unit {0}). drain_cache_plan n arena k) Live (Found arena) Fault cache u now r → KeyTold nodes (λ k (v : Unit {0}). drain_cache_plan (suc n) arena k) Live (Found arena) Fault cache u now r
     same now (Ok x) w = w
     same now (Err f) w = w
 
@@ -99,7 +99,7 @@ module _ (nodes : List Node) (turns : ℕ) (arenas : List TreeArena) where
   abbrev AllFound : List Answered → ℕ → Type 0
   AllFound now id = (cache : ℕ) (x : TreeArena) → slice_get arenas id ≡ Some x → 0 < cache → cache ≤ caches_in (level_of id x) → Found id now cache
 
-  abbrev plan_of : ℕ → Unit {0} → Plan Drained
+  abbrev plan_of : ℕ → Unit {0} → Plan DrainEnd
   plan_of id u = drain_arena_plan turns (chain_in arenas id)
 
   abbrev chain_by : ℕ → Option TreeArena → List Level
@@ -111,7 +111,7 @@ module _ (nodes : List Node) (turns : ℕ) (arenas : List TreeArena) where
       tells_so nodes (KeysTold nodes (λ k (v : Unit {0}). drain_cache_plan turns id k) Live (Found id) Fault (λ k. (caches_in (level_of id y) - caches_in (level_of id y) < k) × (k ≤ caches_in (level_of id y))) tt) (KeyTold nodes plan_of Live AllFound Fault id u) (drain_arena_plan turns (chain_by id (Some y))) told all
       (told_arena nodes turns (level_of id y) (chain_up 3 arenas y.source) told)
     where
-      all : (now : List Answered) (a : Drained) → KeysTold nodes (λ k (v : Unit {0}). drain_cache_plan turns id k) Live (Found id) Fault (λ k. (caches_in (level_of id y) - caches_in (level_of id y) < k) × (k ≤ caches_in (level_of id y))) tt now a → KeyTold nodes plan_of Live AllFound Fault id u now a
+      all : (now : List Answered) (a : DrainEnd) → KeysTold nodes (λ k (v : Unit {0}). drain_cache_plan turns id k) Live (Found id) Fault (λ k. (caches_in (level_of id y) - caches_in (level_of id y) < k) × (k ≤ caches_in (level_of id y))) tt now a → KeyTold nodes plan_of Live AllFound Fault id u now a
       all now (Ok z) w = (
         λ live cache x here some most.
             let same : x ≡ y = (let e : Some x ≡ Some y = sym here ∙ at in cc) in
@@ -128,17 +128,17 @@ module _ (nodes : List Node) (turns : ℕ) (arenas : List TreeArena) where
   abbrev CacheOf : ℕ → Type 0
   CacheOf j = (cache : ℕ) × (x : TreeArena) × (slice_get arenas j ≡ Some x) × (0 < cache) × (cache ≤ caches_in (level_of j x))
 
-  keeps_arena : (id j : ℕ) (u : Unit {0}) (told : List Answered) → j ≢ id → AllFound told j → Tells nodes (λ now (a : Drained). AllFound now j) (plan_of id u) told
+  keeps_arena : (id j : ℕ) (u : Unit {0}) (told : List Answered) → j ≢ id → AllFound told j → Tells nodes (λ now (a : DrainEnd). AllFound now j) (plan_of id u) told
   keeps_arena id j u told other w =
-      tells_so nodes (λ now (a : Drained). (i : CacheOf j) → Found j now i.0) (λ now (a : Drained). AllFound now j) (plan_of id u) told (λ now a v cache x at some most. v (cache, x, at, some, most))
-      (tells_all nodes (λ (i : CacheOf j) now (a : Drained). Found j now i.0) (plan_of id u) told (λ i. keeps_last nodes (Pop j i.0) (Ok None) (plan_of id u) told (other_arena id j i.0 (slice_get arenas id) other) (w i.0 i.1 i.2 i.3 i.4)))
+      tells_so nodes (λ now (a : DrainEnd). (i : CacheOf j) → Found j now i.0) (λ now (a : DrainEnd). AllFound now j) (plan_of id u) told (λ now a v cache x at some most. v (cache, x, at, some, most))
+      (tells_all nodes (λ (i : CacheOf j) now (a : DrainEnd). Found j now i.0) (plan_of id u) told (λ i. keeps_last nodes (Pop j i.0) (Ok None) (plan_of id u) told (other_arena id j i.0 (slice_get arenas id) other) (w i.0 i.1 i.2 i.3 i.4)))
 
   pub tells_drain : Tells nodes (DrainTold arenas) (drain_plan turns arenas) []
   tells_drain =
       tells_so nodes (KeysTold nodes plan_of Live AllFound Fault (λ k. k < length arenas) tt) (DrainTold arenas) (drain_plan turns arenas) [] all
       (tells_arenas nodes plan_of Live AllFound Fault (λ id u told. one_arena id u told (slice_get arenas id) refl) keeps_arena (length arenas) tt [])
     where
-      all : (now : List Answered) (a : Drained) → KeysTold nodes plan_of Live AllFound Fault (λ k. k < length arenas) tt now a → DrainTold arenas now a
+      all : (now : List Answered) (a : DrainEnd) → KeysTold nodes plan_of Live AllFound Fault (λ k. k < length arenas) tt now a → DrainTold arenas now a
       all now (Ok z) w = λ id cache x at some most. w.0 id (slice_get_within arenas id x at) tt cache x at some most
       all now (Err None) w = tt
       all now (Err (Some f)) w = w

@@ -18,7 +18,7 @@ use Rattle.arena_tree.specs.declared.part_faults.SlabPutFault.TheVariants as put
 use Rattle.arena_tree.specs.Chains.{Node, IsChain, first_id}
 use Rattle.arena_tree.specs.Events.{SlabPut, SwapEmpty, SwapFresh, Push, Change}
 use Rattle.arena_tree.specs.Plans.{Plan, then}
-use Rattle.arena_tree.specs.Climbs.{Returned, return_plan}
+use Rattle.arena_tree.specs.Climbs.{ReturnEnd, return_plan}
 use Rattle.arena_tree.specs.Told.{Answered, Tells, WasTakenIn, WasStopped, ReturnTold}
 use Rattle.arena_tree.proofs.LawProofs.{tells_then, return_tells}
 use Rattle.quantum_cache.specs.declared.placings.Placing.{Placing}
@@ -40,7 +40,7 @@ told_put nodes t told = λ x s. ends x
 pub told_return : (nodes : List Node) (chain : List Level) (t : Tag) (told : List Answered) → IsChain nodes chain → first_id chain ≡ Some t.arena → Tells nodes FreeTold (return_plan chain t) told
 told_return nodes chain t told is first = tells_so nodes (After ReturnTold told) FreeTold (return_plan chain t) told ends (tells_after nodes ReturnTold told (return_plan chain t) [] (return_tells nodes chain t is first))
   where
-    ends : (now : List Answered) (r : Returned) → After ReturnTold told now r → FreeTold now r
+    ends : (now : List Answered) (r : ReturnEnd) → After ReturnTold told now r → FreeTold now r
     ends now (Ok u) w = taken_in_after w.0 told now w.1 (w.2).1
     ends now (Err (returning.Stuck x)) w = just_refused x w.0 told now w.1 w.2
     ends now (Err (returning.Stopped x)) w = stopped_after w.0 told now w.1 w.2
@@ -90,7 +90,7 @@ told_exchanged nodes arena cache t told = λ x s. done x
     done (Err (emptying.OldSize m)) = told_changed nodes arena cache m t (answered (SwapEmpty arena cache) (Err (emptying.OldSize m)) ∷ told)
     done (Err emptying.Stopped) = refl
 
-told_or_next : (nodes : List Node) (p : Plan (Placing Tag)) (q : Tag → Plan Returned) (told : List Answered) → Tells nodes PlacingTold p told → ((t : Tag) (now : List Answered) → Tells nodes FreeTold (q t) now) → Tells nodes FreeTold (then p (or_next q)) told
+told_or_next : (nodes : List Node) (p : Plan (Placing Tag)) (q : Tag → Plan ReturnEnd) (told : List Answered) → Tells nodes PlacingTold p told → ((t : Tag) (now : List Answered) → Tells nodes FreeTold (q t) now) → Tells nodes FreeTold (then p (or_next q)) told
 told_or_next nodes p q told stage next = tells_then nodes PlacingTold FreeTold p (or_next q) told stage go
   where
     go : (a : Placing Tag) (now : List Answered) → PlacingTold now a → Tells nodes FreeTold (or_next q a) now

@@ -15,7 +15,7 @@ use Rattle.arena_tree.proofs.LawProofs.{tells_then}
 use Rattle.quantum_cache.specs.Caches.{if_ok, over_caches, over_arenas}
 use Rattle.quantum_cache.specs.Frees.{put_chunk}
 use Rattle.quantum_cache.specs.Looks.{WasLast}
-use Rattle.quantum_cache.specs.Reaps.{Reaped, on_return, on_depot_reap, reap_round, on_slab_reap, reap_slab, on_look, looks_in_turn}
+use Rattle.quantum_cache.specs.Reaps.{LookEnd, on_return, on_depot_reap, reap_round, on_slab_reap, reap_slab, on_look, looks_in_turn}
 use Rattle.quantum_cache.proofs.Tellings.{answered, tells_both, tells_so}
 
 -- for all, where it is so for each
@@ -68,11 +68,11 @@ avoids_slab e never chain arena cache other = (other, taken)
     taken (Ok (Some t)) = avoids_then e (return_plan chain t) (λ r. Done (on_return t.holding.range.len r)) (avoids_return e never chain t) (λ r. tt)
     taken (Err f) = tt
 
-pub avoids_up_to : (e : Event) (p : Plan Reaped) → Avoids e p → (left units : ℕ) → Avoids e (looks_in_turn p left units)
+pub avoids_up_to : (e : Event) (p : Plan LookEnd) → Avoids e p → (left units : ℕ) → Avoids e (looks_in_turn p left units)
 avoids_up_to e p v zero units = tt
 avoids_up_to e p v (suc n) units = avoids_then e p (on_look (looks_in_turn p n) n units) v (looked (avoids_up_to e p v n))
   where
-    looked : ((sum : ℕ) → Avoids e (looks_in_turn p n sum)) → (a : Reaped) → Avoids e (on_look (looks_in_turn p n) n units a)
+    looked : ((sum : ℕ) → Avoids e (looks_in_turn p n sum)) → (a : LookEnd) → Avoids e (on_look (looks_in_turn p n) n units a)
     looked again (Ok (Some more)) = again (units + more)
     looked again (Ok None) = tt
     looked again (Err f) = tt

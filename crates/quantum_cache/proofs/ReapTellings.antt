@@ -8,7 +8,7 @@ use Rattle.arena_tree.specs.declared.part_faults.ReturnFault.TheVariants as retu
 use Rattle.arena_tree.specs.declared.part_faults.Stopped.{Stopped}
 use Rattle.arena_tree.specs.declared.trees.TreeArena.{TreeArena}
 use Rattle.arena_tree.specs.Chains.{Node, IsChain}
-use Rattle.arena_tree.specs.Climbs.{Returned, return_plan}
+use Rattle.arena_tree.specs.Climbs.{ReturnEnd, return_plan}
 use Rattle.arena_tree.specs.Events.{Event, SlabReap, DepotReap}
 use Rattle.arena_tree.specs.Plans.{Plan, Done}
 use Rattle.arena_tree.specs.Sound.{Sound}
@@ -20,7 +20,7 @@ use Rattle.quantum_cache.specs.declared.reaps.ReapFault.{ReapFault}
 use Rattle.quantum_cache.specs.Caches.{rest_of_chain, chain_up, chain_in, if_ok}
 use Rattle.quantum_cache.specs.Frees.{put_chunk}
 use Rattle.quantum_cache.specs.Looks.{WasLast, NothingToReap, EmptyingTold, ReapTold, ReapArenaTold, ReapArenaTells, ReapTells}
-use Rattle.quantum_cache.specs.Reaps.{Reaped, ReapEnd, on_return, on_depot_reap, reap_round, on_slab_reap, reap_slab, on_look, looks_in_turn, reap_steps, reap_cache, reap_arena_plan, reap_plan}
+use Rattle.quantum_cache.specs.Reaps.{LookEnd, ReapEnd, on_return, on_depot_reap, reap_round, on_slab_reap, reap_slab, on_look, looks_in_turn, reap_steps, reap_cache, reap_arena_plan, reap_plan}
 use Rattle.quantum_cache.specs.Sizes.{caches_in}
 use Rattle.quantum_cache.specs.Told.{FreeTold}
 use Rattle.quantum_cache.proofs.FreeTellings.{told_put, told_return}
@@ -28,12 +28,12 @@ use Rattle.quantum_cache.proofs.LookTellings.{tells_all, Avoids, keeps_last, avo
 use Rattle.quantum_cache.proofs.Tellings.{answered, tells_both, tells_so}
 
 -- one look, by its event
-abbrev LookTold : (List Answered → Type 0) → List Answered → Reaped → Type 0
+abbrev LookTold : (List Answered → Type 0) → List Answered → LookEnd → Type 0
 LookTold found now (Ok None) = found now
 LookTold found now (Ok (Some units)) = Unit {0}
 LookTold found now (Err f) = EmptyingTold now f
 
-returned_told : (found : List Answered → Type 0) (units : ℕ) (r : Returned) (now : List Answered) → FreeTold now r → LookTold found now (on_return units r)
+returned_told : (found : List Answered → Type 0) (units : ℕ) (r : ReturnEnd) (now : List Answered) → FreeTold now r → LookTold found now (on_return units r)
 returned_told found units (Ok u) now w = tt
 returned_told found units (Err (returning.Stuck t)) now w = w
 returned_told found units (Err (returning.Stopped t)) now w = w
@@ -65,7 +65,7 @@ abbrev LooksTold : (List Answered → Type 0) → ℕ → List Answered → Reap
 LooksTold found left now (Ok r) = (0 < r.left → found now) × (r.left ≤ left)
 LooksTold found left now (Err f) = EmptyingTold now f.cause
 
-told_up_to : (nodes : List Node) (found : List Answered → Type 0) (p : Plan Reaped) → ((told : List Answered) → Tells nodes (LookTold found) p told) → (left units : ℕ) (told : List Answered) → Tells nodes (LooksTold found left) (looks_in_turn p left units) told
+told_up_to : (nodes : List Node) (found : List Answered → Type 0) (p : Plan LookEnd) → ((told : List Answered) → Tells nodes (LookTold found) p told) → (left units : ℕ) (told : List Answered) → Tells nodes (LooksTold found left) (looks_in_turn p left units) told
 told_up_to nodes found p look zero units told = (λ some. absurd (omega (arith, some)), omega arith)
 told_up_to nodes found p look (suc n) units told = tells_then nodes (LookTold found) (LooksTold found (suc n)) p (on_look (looks_in_turn p n) n units) told (look told) (looked (told_up_to nodes found p look n))
   where
@@ -73,7 +73,7 @@ told_up_to nodes found p look (suc n) units told = tells_then nodes (LookTold fo
     longer now (Ok r) w = (w.0, omega (arith, w.1))
     longer now (Err f) w = w
 
-    looked : ((sum : ℕ) (now : List Answered) → Tells nodes (LooksTold found n) (looks_in_turn p n sum) now) → (a : Reaped) (now : List Answered) → LookTold found now a → Tells nodes (LooksTold found (suc n)) (on_look (looks_in_turn p n) n units a) now
+    looked : ((sum : ℕ) (now : List Answered) → Tells nodes (LooksTold found n) (looks_in_turn p n sum) now) → (a : LookEnd) (now : List Answered) → LookTold found now a → Tells nodes (LooksTold found (suc n)) (on_look (looks_in_turn p n) n units a) now
     looked again (Ok (Some more)) now w = tells_so nodes (LooksTold found n) (LooksTold found (suc n)) (looks_in_turn p n (units + more)) now longer (again (units + more) now)
     looked again (Ok None) now w = (λ some. w, omega arith)
     looked again (Err f) now w = w

@@ -10,7 +10,7 @@ use Rattle.arena_tree.specs.declared.part_faults.CarveFault.TheVariants as carvi
 use Rattle.arena_tree.specs.declared.part_faults.ClimbFault.TheVariants as climbing
 use Rattle.arena_tree.specs.declared.part_faults.ReturnFault.TheVariants as returning
 use Rattle.arena_tree.specs.Chains.{Node, amount_of}
-use Rattle.arena_tree.specs.Climbs.{Climbed, Returned, return_plan, memory_refusal, on_add, on_import, on_carve, climb_plan}
+use Rattle.arena_tree.specs.Climbs.{ClimbEnd, ReturnEnd, return_plan, memory_refusal, on_add, on_import, on_carve, climb_plan}
 use Rattle.arena_tree.specs.Events.{Event, AnswerTo, Carve, Free, AddCarve, SlabTake, SlabPut, SlabAdd, SlabReap, SwapFull, SwapEmpty, SwapFresh, DepotReap, Pop, Push, Change}
 use Rattle.arena_tree.specs.Plans.{Plan, Done, Ask, then}
 use Rattle.arena_tree.specs.Told.{Answered, Tells, IsRefusalOf, WasRefused, RanOut, WasTakenIn, WasStopped}
@@ -75,13 +75,13 @@ pub ran_out_after : (news before now : List Answered) → now ≡ news ++ before
 ran_out_after news before now is w = subst RanOut (sym is) (ran_out_more news before w)
 
 -- a climb ends with NoFit only so
-abbrev pub IfNone : List Level → ℕ → List Answered → List Answered → Climbed → Type 0
+abbrev pub IfNone : List Level → ℕ → List Answered → List Answered → ClimbEnd → Type 0
 IfNone chain n before now r = r ≡ Err climbing.NoFit → now ≡ none_fitted chain n before
 
 never_refused : (nodes : List Node) (chain up : List Level) (n : ℕ) (t : Tag) (before told : List Answered) → Tells nodes (IfNone chain n before) (then (return_plan up t) (λ r. Done (memory_refusal r))) told
-never_refused nodes chain up n t before told = tells_then nodes (λ now (r : Returned). Unit {0}) (IfNone chain n before) (return_plan up t) (λ r. Done (memory_refusal r)) told (tells_any nodes (return_plan up t) told) ends
+never_refused nodes chain up n t before told = tells_then nodes (λ now (r : ReturnEnd). Unit {0}) (IfNone chain n before) (return_plan up t) (λ r. Done (memory_refusal r)) told (tells_any nodes (return_plan up t) told) ends
   where
-    ends : (r : Returned) (now : List Answered) → Unit {0} → IfNone chain n before now (memory_refusal r)
+    ends : (r : ReturnEnd) (now : List Answered) → Unit {0} → IfNone chain n before now (memory_refusal r)
     ends (Ok u) now _ = λ e. absurd cc
     ends (Err (returning.Stuck x)) now _ = λ e. absurd cc
     ends (Err (returning.Stopped x)) now _ = λ e. absurd cc
@@ -97,7 +97,7 @@ pub climb_none : (nodes : List Node) (chain : List Level) (n : ℕ) (before : Li
 climb_none nodes [] n before = λ e. refl
 climb_none nodes (l ∷ up) n before = λ x s. carved (λ told. climb_none nodes up (amount_of l up n) told) x
   where
-    imported : (r : Climbed) (now : List Answered) → IfNone up (amount_of l up n) (answered (Carve l.id (plain_of n)) (Err carving.NoFit) ∷ before) now r → Tells nodes (IfNone (l ∷ up) n before) (on_import up l.id n r) now
+    imported : (r : ClimbEnd) (now : List Answered) → IfNone up (amount_of l up n) (answered (Carve l.id (plain_of n)) (Err carving.NoFit) ∷ before) now r → Tells nodes (IfNone (l ∷ up) n before) (on_import up l.id n r) now
     imported (Ok span) now w = λ x s. never_added nodes (l ∷ up) up n before (answered (AddCarve l.id span n) x ∷ now) x
     imported (Err f) now w = w
 

@@ -12,7 +12,7 @@ use Rattle.arena_tree.specs.Trees.{nodes_of, level_of}
 use Rattle.quantum_cache.specs.declared.emptying_faults.EmptyingFault.{EmptyingFault}
 use Rattle.quantum_cache.specs.declared.emptying_faults.EmptyingFault.TheVariants as emptying
 use Rattle.quantum_cache.specs.Caches.{chain_in}
-use Rattle.quantum_cache.specs.Drains.{Drained, drain_plan}
+use Rattle.quantum_cache.specs.Drains.{DrainEnd, drain_plan}
 use Rattle.quantum_cache.specs.Reaps.{ReapEnd, reap_arena_plan, reap_plan}
 use Rattle.quantum_cache.specs.Sizes.{caches_in}
 use Rattle.quantum_cache.specs.Told.{JustRefused}
@@ -53,7 +53,7 @@ ReapArenaTold chain told (Ok r) = 0 < r.left → OfEachCacheIn chain (NothingToR
 ReapArenaTold chain told (Err f) = EmptyingTold told f.cause
 
 -- a drain ends well only where the last pop of each cache found nothing
-abbrev pub DrainTold : List TreeArena → List Answered → Drained → Type 0
+abbrev pub DrainTold : List TreeArena → List Answered → DrainEnd → Type 0
 DrainTold arenas told (Ok u) =
     OfEachCache arenas (λ id cache. WasLast (Pop id cache) (Ok None) told)
 DrainTold arenas told (Err None) = Unit {0}

@@ -11,7 +11,7 @@ use Rattle.arena_tree.specs.declared.part_faults.SlabAddFault.TheVariants as sla
 use Rattle.arena_tree.specs.declared.part_faults.SlabPutFault.{SlabPutFault}
 use Rattle.arena_tree.specs.declared.part_faults.SlabPutFault.TheVariants as putting
 use Rattle.arena_tree.specs.Chains.{Node, IsChain, amount_of, first_id}
-use Rattle.arena_tree.specs.Climbs.{Climbed, Returned}
+use Rattle.arena_tree.specs.Climbs.{ClimbEnd, ReturnEnd}
 use Rattle.arena_tree.specs.Events.{Event, AnswerTo, Carve, Free, AddCarve, SlabPut, SlabAdd}
 use Rattle.arena_tree.specs.Told.{Answered, Tells, IsRefusalOf, RanOut, WasTakenIn, WasStopped}
 use Rattle.quantum_cache.specs.Allocs.{alloc_plan}
@@ -62,7 +62,7 @@ NoneFitted chain n told = (before : List Answered) × (told ≡ none_fitted chai
 -- the size or of its import amount, which found no choice; out of memory where a carve, an import
 -- or a new slab was, and what was carved for it was freed; a segment where a part has just refused
 -- it; stopped where a part has just said so
-abbrev pub AllocTold : List Node → List Level → ℕ → List Answered → Climbed → Type 0
+abbrev pub AllocTold : List Node → List Level → ℕ → List Answered → ClimbEnd → Type 0
 AllocTold nodes chain size told (Ok t) = IsServed nodes chain size t
 AllocTold nodes chain size told (Err climbing.BadRequest) = AsksForNone chain size
 AllocTold nodes chain size told (Err climbing.NoFit) = NoneFitted chain size told
@@ -71,7 +71,7 @@ AllocTold nodes chain size told (Err (climbing.Stuck t)) = JustRefused t told
 AllocTold nodes chain size told (Err (climbing.Stopped o)) = WasStopped told
 
 -- a free: it ends well where a part has just taken the segment in
-abbrev pub FreeTold : List Answered → Returned → Type 0
+abbrev pub FreeTold : List Answered → ReturnEnd → Type 0
 FreeTold told (Ok u) = WasTakenIn told
 FreeTold told (Err (returning.Stuck t)) = JustRefused t told
 FreeTold told (Err (returning.Stopped t)) = WasStopped told
