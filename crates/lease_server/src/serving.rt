@@ -137,7 +137,8 @@ fn serve_rest<W: Write, P: Responder>(
     requires { input.now.hand.whole ≡ false }
     ensures ok { OnOk result (Writes P.may_answer responder.old (frames_of_rest input.now.hand.line)
         (W.contents (inner_of writer.old)) (W.contents (inner_of writer.new)) responder.new) }
-    ensures err { OnErr result (Stops P.may_answer responder.old (frames_of_rest input.now.hand.line)
+    ensures err { OnErr result (Stops P.may_answer responder.old
+        (frames_of_rest input.now.hand.line)
         (W.contents (inner_of writer.old)) (W.contents (inner_of writer.new))) }
     ensures fault { OnErr result (IsErrOf result ServeFault.Write) }
     ensures works { OnOk result (has_failed writer.new ≡ has_failed writer.old) }

@@ -17,7 +17,8 @@ pub fn least_weighing<T: RowEntry>(
     least: u64,
 ) -> Option<T>
     requires laid { IsLaid T.rank rows.old }
-    ensures value { result ≡ first_heavy_from T.rank (T.weight measure) key least (entries_in rows.old) }
+    ensures value { result ≡ first_heavy_from T.rank (T.weight measure) key least
+        (entries_in rows.old) }
     ensures unchanged { rows.new ≡ rows.old }
 {
     if rows.is_empty() {
@@ -42,7 +43,8 @@ fn heavy_after<T: RowEntry>(
     from: usize,
     least: u64,
 ) -> Option<T>
-    ensures value { result ≡ find (weighs (T.weight measure) least) (entries_in (drop from rows.old)) }
+    ensures value { result ≡ find (weighs (T.weight measure) least)
+        (entries_in (drop from rows.old)) }
     ensures unchanged { rows.new ≡ rows.old }
 {
     let mut seat = from;

@@ -139,7 +139,8 @@ impl<T: RowEntry> Rows<T> {
     /// and its greatest weight. From then on it is passed by with one look wherever that is less
     /// than `least`, until it is searched so by another measure. The list stays as it is.
     pub fn least_weighing(&mut self, measure: T::Measure, key: u128, least: u64) -> Option<T>
-        ensures value { result ≡ first_heavy_from T.rank (T.weight measure) key least self.old.items }
+        ensures value { result ≡ first_heavy_from T.rank (T.weight measure) key least
+            self.old.items }
         ensures unchanged { self.new ≡ self.old }
     {
         least_weighing(&mut self.rows, measure, key, least)
