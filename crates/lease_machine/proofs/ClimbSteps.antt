@@ -29,7 +29,7 @@ use Rattle.stock.specs.Steps.{OnArena}
 use Rattle.stock.specs.Stocks.{IsStock}
 use Rattle.tag_arena.proofs.LawProofs.{carves_exactly, choice_serves}
 use Rattle.tag_arena.specs.ArenaState.{ArenaState}
-use Rattle.tag_arena.specs.Outcomes.{CarveOf, ImportOf, Imported}
+use Rattle.tag_arena.specs.Outcomes.{CarveOf, ImportOf, WasImported}
 use Rattle.tag_arena.specs.Place.{Serves}
 use Rattle.tag_arena.specs.declared.faults.ArenaFault.{ArenaFault}
 use Rattle.tag_arena.specs.declared.faults.SpanFault.{SpanFault}
@@ -186,7 +186,7 @@ module _ (arenas : List TreeArena) where
     added_so : (x : Result Tag (AddCarveFault Tag)) (k : LocalState) → SoundStep (nodes_of arenas) m (AddCarve l.id span n) x k → RunsTo arenas (on_add up x) k new a → Climbings (l ∷ up) n a old new.spaces
     added_so (Ok t) k add end =
         let r = told add.step.does.0.0 t add.step.does.0.1 in
-        let imports : ImportsAt l.id span n t m.spaces new.spaces = subst (λ (s : LocalState). OnArena l.id (λ a b. Imported a span (plain_of n) t b) m.spaces s.spaces) end.0 (subst (λ z. OnArena l.id (λ a b. ImportOf a span (plain_of n) z b) m.spaces k.spaces) r add.step.does.0.2) in
+        let imports : ImportsAt l.id span n t m.spaces new.spaces = subst (λ (s : LocalState). OnArena l.id (λ a b. WasImported a span (plain_of n) t b) m.spaces s.spaces) end.0 (subst (λ z. OnArena l.id (λ a b. ImportOf a span (plain_of n) z b) m.spaces k.spaces) r add.step.does.0.2) in
         subst (λ z. Climbings (l ∷ up) n z old new.spaces) end.1 (inr (none, (span, m.spaces, upper, imports)))
     added_so (Err (adding.NoMemory y)) k add end =
         let same : y ≡ span = add.sound.1 in

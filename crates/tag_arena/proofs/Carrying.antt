@@ -11,7 +11,7 @@ use Rattle.deed_core.proofs.LawProofs.{sum_by-map}
 use Rattle.std.proofs.lemmas.List.Sums.{sum_by-append, sum_by_push}
 use Rattle.tag_arena.specs.ArenaState.{ArenaState, spans_of, ranges_of, tags_of, direct_tag, IsSoundArena, IsChosen}
 use Rattle.tag_arena.specs.Calls.{part, Carves, after_carve, after_import, first_units}
-use Rattle.tag_arena.specs.Outcomes.{KeepsSetup, Carved, Imported}
+use Rattle.tag_arena.specs.Outcomes.{KeepsSetup, WasCarved, WasImported}
 use Rattle.tag_arena.proofs.Importing.{Imports, import_sound, import_gains, import_covers}
 use Rattle.tag_arena.proofs.Granting.{CarvesAt, carves, carve_sound, carve_gains, carve_covers, FoundAt, IsFoundAt, found_carves, none_whole}
 
@@ -53,7 +53,7 @@ module _ (a : ArenaState) (q : Request) (f : FoundAt) (n : ℕ) (sound : IsSound
   holding : s.holding ≡ part f.range f.base n
   holding = ap (λ (t : Tag). t.holding) is
 
-  pub found_carved : Carved a q s new
+  pub found_carved : WasCarved a q s new
   found_carved = record {
     good = good;
     chosen = subst (λ (h : Holding). IsChosen a q (Some h.range.base)) (sym holding) chosen;
@@ -80,7 +80,7 @@ module _ (a : ArenaState) (q : Request) (f : FoundAt) (n : ℕ) (sound : IsSound
 -- a span was imported, and its first units carved
 module _ (a : ArenaState) (q : Request) (span : Tag) (n : ℕ) (k : Imports a span n) (n_is : n ≡ rounding_of a.quantum q.size)
     (new : ArenaState) (after : new ≡ after_carve (after_import a span) span.holding (first_units n span.holding)) (s : Tag) (is : s ≡ direct_tag a.id (first_units n span.holding)) (range : IsRange s.holding.range) where
-  pub import_done : Imported a span q s new
+  pub import_done : WasImported a span q s new
   import_done = record {
     clear = k.clear;
     aligned = k.aligned;
