@@ -9,7 +9,7 @@ use Rattle.arena_tree.specs.Chains.{Node, IsChain}
 use Rattle.arena_tree.specs.Climbs.{ClimbEnd}
 use Rattle.arena_tree.specs.Plans.{Gives}
 use Rattle.arena_tree.specs.Tags.{tag_climb}
-use Rattle.arena_tree.specs.Told.{Answered}
+use Rattle.arena_tree.specs.Told.{AnsweredEvent}
 use Rattle.arena_tree.proofs.LawProofs.{tells_gives}
 use Rattle.quantum_cache.specs.Allocs.{alloc_plan}
 use Rattle.quantum_cache.specs.Served.{IsServed, AsksForNone}
@@ -19,7 +19,7 @@ use Rattle.quantum_cache.proofs.AllocTellings.{alloc_tells}
 pub alloc_gives : (nodes : List Node) (chain : List Level) (size : ℕ) → IsChain nodes chain → Gives nodes (λ (r : ClimbEnd). IfOk r (IsServed nodes chain size)) (alloc_plan chain size)
 alloc_gives nodes chain size is = tells_gives nodes (AllocTold nodes chain size) (λ (r : ClimbEnd). IfOk r (IsServed nodes chain size)) (alloc_plan chain size) [] ends (alloc_tells nodes chain size is)
   where
-    ends : (now : List Answered) (r : ClimbEnd) → AllocTold nodes chain size now r → IfOk r (IsServed nodes chain size)
+    ends : (now : List AnsweredEvent) (r : ClimbEnd) → AllocTold nodes chain size now r → IfOk r (IsServed nodes chain size)
     ends now (Ok t) w = w
     ends now (Err f) w = tt
 
