@@ -13,20 +13,20 @@ module _ {X : Type 0} where
   place_in rows i p = length (entries_in (take i rows)) + p
 
   -- two neighbors never have 32 or fewer between them
-  abbrev pub Paired : List (List X) → Type 0
-  Paired rows = (k : ℕ) → suc k < length rows
+  abbrev pub ArePaired : List (List X) → Type 0
+  ArePaired rows = (k : ℕ) → suc k < length rows
       → 32 < length (get_or rows k []) + length (get_or rows (suc k) [])
 
   -- each row has place for one more
-  abbrev pub Short : List (List X) → Type 0
-  Short rows = (k : ℕ) → length (get_or rows k []) < 64
+  abbrev pub AreShort : List (List X) → Type 0
+  AreShort rows = (k : ℕ) → length (get_or rows k []) < 64
 
 module _ {X : Type 0} (rank : X → ℕ) where
   -- rows that a list stands in
   pub record IsLaid (rows : List (List X)) : Type 0 where
     pub rises : Rises rank (entries_in rows)
     pub filled : All (λ r. 0 < length r) rows
-    pub paired : Paired rows
+    pub paired : ArePaired rows
 
   -- rows that a list stands in, but for the row `i` that has lost an entry
   pub record IsLoose (i : ℕ) (rows : List (List X)) : Type 0 where
