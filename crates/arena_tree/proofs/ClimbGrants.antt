@@ -15,52 +15,52 @@ use Rattle.arena_tree.specs.Chains.{Node, amount_of, IsGrant}
 use Rattle.arena_tree.specs.Plans.{Plan, Done, Ask, then, Gives}
 use Rattle.arena_tree.specs.Events.{Free, AddCarve}
 use Rattle.arena_tree.specs.Sound.{Sound, SoundCarve}
-use Rattle.arena_tree.specs.Climbs.{Returned, Climbed, return_plan, on_free, memory_refusal, on_add, on_import, on_carve, climb_plan, IsGrantOf}
+use Rattle.arena_tree.specs.Climbs.{ReturnEnd, ClimbEnd, return_plan, on_free, memory_refusal, on_add, on_import, on_carve, climb_plan, IsGrantOf}
 use Rattle.arena_tree.proofs.Paths.{gives_then}
 
 -- what a hand back ends with, whatever that is
-pub gives_return : (nodes : List Node) (chain : List Level) (t : Tag) → Gives nodes (λ (r : Returned). Unit {0}) (return_plan chain t)
+pub gives_return : (nodes : List Node) (chain : List Level) (t : Tag) → Gives nodes (λ (r : ReturnEnd). Unit {0}) (return_plan chain t)
 gives_return nodes [] t = tt
 gives_return nodes (l ∷ up) t = freed (gives_return nodes up)
   where
-    freed : ((w : Tag) → Gives nodes (λ (r : Returned). Unit {0}) (return_plan up w)) → (x : Result (Option Tag) (FreeFault Tag)) → Sound nodes (Free t) x → Gives nodes (λ (r : Returned). Unit {0}) (on_free (return_plan up) x)
+    freed : ((w : Tag) → Gives nodes (λ (r : ReturnEnd). Unit {0}) (return_plan up w)) → (x : Result (Option Tag) (FreeFault Tag)) → Sound nodes (Free t) x → Gives nodes (λ (r : ReturnEnd). Unit {0}) (on_free (return_plan up) x)
     freed again (Ok None) s = tt
     freed again (Ok (Some w)) s = again w
     freed again (Err (freeing.BadFree x)) s = tt
     freed again (Err (freeing.Stopped x)) s = tt
 
-pub gives_refused : (nodes : List Node) (post : Tag → Type 0) (chain : List Level) (t : Tag) → Gives nodes (λ (r : Climbed). IfOk r post) (then (return_plan chain t) (λ r. Done (memory_refusal r)))
-gives_refused nodes post chain t = gives_then nodes (λ (r : Returned). Unit {0}) (λ (r : Climbed). IfOk r post) (return_plan chain t) (λ r. Done (memory_refusal r)) (gives_return nodes chain t) ended
+pub gives_refused : (nodes : List Node) (post : Tag → Type 0) (chain : List Level) (t : Tag) → Gives nodes (λ (r : ClimbEnd). IfOk r post) (then (return_plan chain t) (λ r. Done (memory_refusal r)))
+gives_refused nodes post chain t = gives_then nodes (λ (r : ReturnEnd). Unit {0}) (λ (r : ClimbEnd). IfOk r post) (return_plan chain t) (λ r. Done (memory_refusal r)) (gives_return nodes chain t) ended
   where
-    ended : (r : Returned) → Unit {0} → IfOk (memory_refusal r) post
+    ended : (r : ReturnEnd) → Unit {0} → IfOk (memory_refusal r) post
     ended (Ok u) _ = tt
     ended (Err (returning.Stuck x)) _ = tt
     ended (Err (returning.Stopped x)) _ = tt
 
-gives_added : (nodes : List Node) (up : List Level) (child n : ℕ) (given : Tag) (x : Result Tag (AddCarveFault Tag)) → Sound nodes (AddCarve child given n) x → Gives nodes (λ (r : Climbed). IfOk r (IsGrant nodes child (plain_of n))) (on_add up x)
+gives_added : (nodes : List Node) (up : List Level) (child n : ℕ) (given : Tag) (x : Result Tag (AddCarveFault Tag)) → Sound nodes (AddCarve child given n) x → Gives nodes (λ (r : ClimbEnd). IfOk r (IsGrant nodes child (plain_of n))) (on_add up x)
 gives_added nodes up child n given (Ok t) s = (s.0).grant
 gives_added nodes up child n given (Err (adding.NotAligned t)) s = tt
 gives_added nodes up child n given (Err (adding.Overlaps t)) s = tt
 gives_added nodes up child n given (Err (adding.Stopped t)) s = tt
 gives_added nodes up child n given (Err (adding.NoMemory t)) s = gives_refused nodes (IsGrant nodes child (plain_of n)) up t
 
-gives_carved : (nodes : List Node) (import : Plan Climbed) (up : List Level) (id n : ℕ) (x : Result Tag CarveFault) → Gives nodes (λ (r : Climbed). Unit {0}) import → SoundCarve nodes id (plain_of n) x
-    → Gives nodes (λ (r : Climbed). IfOk r (IsGrant nodes id (plain_of n))) (on_carve import up id n x)
+gives_carved : (nodes : List Node) (import : Plan ClimbEnd) (up : List Level) (id n : ℕ) (x : Result Tag CarveFault) → Gives nodes (λ (r : ClimbEnd). Unit {0}) import → SoundCarve nodes id (plain_of n) x
+    → Gives nodes (λ (r : ClimbEnd). IfOk r (IsGrant nodes id (plain_of n))) (on_carve import up id n x)
 gives_carved nodes import up id n (Ok t) w s = s.1
 gives_carved nodes import up id n (Err carving.BadRequest) w s = tt
 gives_carved nodes import up id n (Err carving.NoMemory) w s = tt
 gives_carved nodes import up id n (Err carving.Stopped) w s = tt
-gives_carved nodes import up id n (Err carving.NoFit) w s = gives_then nodes (λ (r : Climbed). Unit {0}) (λ (r : Climbed). IfOk r (IsGrant nodes id (plain_of n))) import (on_import up id n) w imported
+gives_carved nodes import up id n (Err carving.NoFit) w s = gives_then nodes (λ (r : ClimbEnd). Unit {0}) (λ (r : ClimbEnd). IfOk r (IsGrant nodes id (plain_of n))) import (on_import up id n) w imported
   where
-    imported : (r : Climbed) → Unit {0} → Gives nodes (λ (r : Climbed). IfOk r (IsGrant nodes id (plain_of n))) (on_import up id n r)
+    imported : (r : ClimbEnd) → Unit {0} → Gives nodes (λ (r : ClimbEnd). IfOk r (IsGrant nodes id (plain_of n))) (on_import up id n r)
     imported (Ok span) _ = λ x sound. gives_added nodes up id n span x sound
     imported (Err f) _ = tt
 
-any : (nodes : List Node) (post : Climbed → Type 0) (p : Plan Climbed) → Gives nodes post p → Gives nodes (λ (r : Climbed). Unit {0}) p
+any : (nodes : List Node) (post : ClimbEnd → Type 0) (p : Plan ClimbEnd) → Gives nodes post p → Gives nodes (λ (r : ClimbEnd). Unit {0}) p
 any nodes post (Done a) w = tt
 any nodes post (Ask e f) w = λ x s. any nodes post (f x) (w x s)
 
 -- a climb gives a grant of its first arena
-pub gives_climb : (nodes : List Node) (chain : List Level) (n : ℕ) → Gives nodes (λ (r : Climbed). IfOk r (IsGrantOf nodes chain n)) (climb_plan chain n)
+pub gives_climb : (nodes : List Node) (chain : List Level) (n : ℕ) → Gives nodes (λ (r : ClimbEnd). IfOk r (IsGrantOf nodes chain n)) (climb_plan chain n)
 gives_climb nodes [] n = tt
-gives_climb nodes (l ∷ up) n = λ x s. gives_carved nodes (climb_plan up (amount_of l up n)) up l.id n x (any nodes (λ (r : Climbed). IfOk r (IsGrantOf nodes up (amount_of l up n))) (climb_plan up (amount_of l up n)) (gives_climb nodes up (amount_of l up n))) s
+gives_climb nodes (l ∷ up) n = λ x s. gives_carved nodes (climb_plan up (amount_of l up n)) up l.id n x (any nodes (λ (r : ClimbEnd). IfOk r (IsGrantOf nodes up (amount_of l up n))) (climb_plan up (amount_of l up n)) (gives_climb nodes up (amount_of l up n))) s

@@ -12,7 +12,7 @@ use Rattle.arena_tree.specs.declared.part_faults.ReturnFault.TheVariants as retu
 use Rattle.arena_tree.specs.Chains.{amount_of}
 use Rattle.arena_tree.specs.Plans.{Plan, Done, then, Handles}
 use Rattle.arena_tree.specs.Events.{hand_left, hand_of_answer, freed_back, added_back}
-use Rattle.arena_tree.specs.Climbs.{Returned, Climbed, return_plan, on_free, memory_refusal, on_add, on_import, on_carve, climb_plan, climb_left, return_left}
+use Rattle.arena_tree.specs.Climbs.{ReturnEnd, ClimbEnd, return_plan, on_free, memory_refusal, on_add, on_import, on_carve, climb_plan, climb_left, return_left}
 use Rattle.arena_tree.proofs.Paths.{handles_then}
 
 -- a hand back leaves what it ends with
@@ -29,7 +29,7 @@ handles_return (l ∷ up) t = (refl, freed (handles_return up))
 pub handles_refused : (chain : List Level) (t : Tag) → Handles climb_left (then (return_plan chain t) (λ r. Done (memory_refusal r))) (Some t)
 handles_refused chain t = handles_then return_left climb_left (return_plan chain t) (λ r. Done (memory_refusal r)) (Some t) (handles_return chain t) ends
   where
-    ends : (r : Returned) → return_left r ≡ climb_left (memory_refusal r)
+    ends : (r : ReturnEnd) → return_left r ≡ climb_left (memory_refusal r)
     ends (Ok u) = refl
     ends (Err (returning.Stuck x)) = refl
     ends (Err (returning.Stopped x)) = refl
@@ -41,11 +41,11 @@ handles_added up (Err (adding.Overlaps t)) = refl
 handles_added up (Err (adding.NotAligned t)) = refl
 handles_added up (Err (adding.Stopped t)) = refl
 
-handles_imported : (up : List Level) (child size : ℕ) (x : Climbed) → Handles climb_left (on_import up child size x) (climb_left x)
+handles_imported : (up : List Level) (child size : ℕ) (x : ClimbEnd) → Handles climb_left (on_import up child size x) (climb_left x)
 handles_imported up child size (Ok t) = (refl, handles_added up)
 handles_imported up child size (Err f) = refl
 
-handles_carved : (import : Plan Climbed) (up : List Level) (child size : ℕ) (x : Result Tag CarveFault) → Handles climb_left import None → Handles climb_left (on_carve import up child size x) (hand_left (λ _. None) x)
+handles_carved : (import : Plan ClimbEnd) (up : List Level) (child size : ℕ) (x : Result Tag CarveFault) → Handles climb_left import None → Handles climb_left (on_carve import up child size x) (hand_left (λ _. None) x)
 handles_carved import up child size (Ok t) h = refl
 handles_carved import up child size (Err carving.BadRequest) h = refl
 handles_carved import up child size (Err carving.NoMemory) h = refl

@@ -21,42 +21,42 @@ use Rattle.arena_tree.specs.declared.part_faults.ReturnFault.{ReturnFault}
 use Rattle.arena_tree.specs.declared.part_faults.ReturnFault.TheVariants as returning
 
 -- what a climb ends with, and a hand back
-abbrev pub Climbed : Type 0
-Climbed = Result Tag (ClimbFault Tag)
+abbrev pub ClimbEnd : Type 0
+ClimbEnd = Result Tag (ClimbFault Tag)
 
-abbrev pub Returned : Type 0
-Returned = Result (Unit {0}) (ReturnFault Tag)
+abbrev pub ReturnEnd : Type 0
+ReturnEnd = Result (Unit {0}) (ReturnFault Tag)
 
 -- a segment is freed; each span that it makes whole is freed in its source, and so on upwards
-abbrev pub on_free : (Tag → Plan Returned) → Result (Option Tag) (FreeFault Tag) → Plan Returned
+abbrev pub on_free : (Tag → Plan ReturnEnd) → Result (Option Tag) (FreeFault Tag) → Plan ReturnEnd
 on_free again (Ok None) = Done (Ok tt)
 on_free again (Ok (Some whole)) = again whole
 on_free again (Err (freeing.BadFree t)) = Done (Err (returning.Stuck t))
 on_free again (Err (freeing.Stopped t)) = Done (Err (returning.Stopped t))
 
-abbrev pub return_plan : List Level → Tag → Plan Returned
+abbrev pub return_plan : List Level → Tag → Plan ReturnEnd
 return_plan [] t = Done (Err (returning.Stuck t))
 return_plan (l ∷ up) t = Ask (Free t) (on_free (return_plan up))
 
 -- what a climb ends with that handed a span back since it ran out of memory
-abbrev pub memory_refusal : Returned → Climbed
+abbrev pub memory_refusal : ReturnEnd → ClimbEnd
 memory_refusal (Ok u) = Err climbing.NoMemory
 memory_refusal (Err (returning.Stuck t)) = Err (climbing.Stuck t)
 memory_refusal (Err (returning.Stopped t)) = Err (climbing.Stopped (Some t))
 
-abbrev pub give_back_plan : List Level → Tag → Plan Climbed
+abbrev pub give_back_plan : List Level → Tag → Plan ClimbEnd
 give_back_plan up t = then (return_plan up t) (λ r. Done (memory_refusal r))
 
 -- the child is given the span, and carves n units of it; out of memory for that, the span is freed
 -- upwards
-abbrev pub on_add : List Level → Result Tag (AddCarveFault Tag) → Plan Climbed
+abbrev pub on_add : List Level → Result Tag (AddCarveFault Tag) → Plan ClimbEnd
 on_add up (Ok t) = Done (Ok t)
 on_add up (Err (adding.NoMemory t)) = give_back_plan up t
 on_add up (Err (adding.Overlaps t)) = Done (Err (climbing.Stuck t))
 on_add up (Err (adding.NotAligned t)) = Done (Err (climbing.Stuck t))
 on_add up (Err (adding.Stopped t)) = Done (Err (climbing.Stopped (Some t)))
 
-abbrev pub descent_plan : List Level → ℕ → ℕ → Tag → Plan Climbed
+abbrev pub descent_plan : List Level → ℕ → ℕ → Tag → Plan ClimbEnd
 descent_plan up child n span = Ask (AddCarve child span n) (on_add up)
 
 -- the child can be given the span, for n units: a Direct segment of its source, the first of these
@@ -71,26 +71,26 @@ pub record CanDescend (nodes : List Node) (up : List Level) (child n : ℕ) (spa
   pub room : rounding_of (quantum_in nodes child) n ≤ span.holding.range.len
   pub direct : span.route ≡ Direct
 
-abbrev pub on_import : List Level → ℕ → ℕ → Climbed → Plan Climbed
+abbrev pub on_import : List Level → ℕ → ℕ → ClimbEnd → Plan ClimbEnd
 on_import up child n (Ok span) = descent_plan up child n span
 on_import up child n (Err f) = Done (Err f)
 
 -- n units are carved in the arena; where none fit, the source is climbed in the same way for the
 -- import amount, and so on upwards; without a source nothing fits
-abbrev pub on_carve : Plan Climbed → List Level → ℕ → ℕ → Result Tag CarveFault → Plan Climbed
+abbrev pub on_carve : Plan ClimbEnd → List Level → ℕ → ℕ → Result Tag CarveFault → Plan ClimbEnd
 on_carve import up child n (Ok t) = Done (Ok t)
 on_carve import up child n (Err carving.NoFit) = then import (on_import up child n)
 on_carve import up child n (Err carving.BadRequest) = Done (Err climbing.BadRequest)
 on_carve import up child n (Err carving.NoMemory) = Done (Err climbing.NoMemory)
 on_carve import up child n (Err carving.Stopped) = Done (Err (climbing.Stopped None))
 
-abbrev pub climb_plan : List Level → ℕ → Plan Climbed
+abbrev pub climb_plan : List Level → ℕ → Plan ClimbEnd
 climb_plan [] n = Done (Err climbing.NoFit)
 climb_plan (l ∷ up) n = Ask (Carve l.id (plain_of n))
     (on_carve (climb_plan up (amount_of l up n)) up l.id n)
 
 -- the hand after a climb, and after a hand back
-abbrev pub climb_left : Climbed → Option Tag
+abbrev pub climb_left : ClimbEnd → Option Tag
 climb_left (Ok t) = Some t
 climb_left (Err (climbing.Stuck t)) = Some t
 climb_left (Err (climbing.Stopped o)) = o
@@ -98,7 +98,7 @@ climb_left (Err climbing.BadRequest) = None
 climb_left (Err climbing.NoFit) = None
 climb_left (Err climbing.NoMemory) = None
 
-abbrev pub return_left : Returned → Option Tag
+abbrev pub return_left : ReturnEnd → Option Tag
 return_left (Ok u) = None
 return_left (Err (returning.Stuck t)) = Some t
 return_left (Err (returning.Stopped t)) = Some t
@@ -109,7 +109,7 @@ IsGrantOf nodes [] n t = ⊥
 IsGrantOf nodes (l ∷ up) n t = IsGrant nodes l.id (plain_of n) t
 
 -- the most locks of a climb in a chain of so many arenas
-abbrev pub climb_most : ℕ → Climbed → ℕ
+abbrev pub climb_most : ℕ → ClimbEnd → ℕ
 climb_most depth (Ok t) = 2 * depth - 1
 climb_most depth (Err climbing.NoFit) = depth
 climb_most depth (Err climbing.BadRequest) = 3 * depth - 2

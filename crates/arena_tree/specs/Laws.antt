@@ -4,7 +4,7 @@ use Rattle.std.specs.Prelude.{◌≡◌, ℕ, List, [], Some, None, length, slic
 use Rattle.deed_core.specs.Tag.{Tag}
 use Rattle.arena_tree.specs.Chains.{Node, IsChain, first_id}
 use Rattle.arena_tree.specs.Plans.{Within, Handles, Gives}
-use Rattle.arena_tree.specs.Climbs.{Climbed, Returned, climb_plan, return_plan, climb_left}
+use Rattle.arena_tree.specs.Climbs.{ClimbEnd, ReturnEnd, climb_plan, return_plan, climb_left}
 use Rattle.arena_tree.specs.Climbs.{return_left, climb_most, IsGrantOf}
 use Rattle.arena_tree.specs.Told.{Tells, ClimbTold, ReturnTold, NoneFits, OnlyNoFit, no_fits}
 use Rattle.arena_tree.specs.Trees.{IsTree, index_in}
@@ -34,12 +34,12 @@ ClimbIsShort = (chain : List Level) (n : ℕ)
 -- A hand back takes at most d locks.
 abbrev pub ReturnIsShort : Type 0
 ReturnIsShort = (chain : List Level) (t : Tag)
-    → Within (λ (r : Returned). length chain) (return_plan chain t) 0
+    → Within (λ (r : ReturnEnd). length chain) (return_plan chain t) 0
 
 -- What a climb gives is a segment of the chain's first arena that fits the request.
 abbrev pub ClimbGives : Type 0
 ClimbGives = (nodes : List Node) (chain : List Level) (n : ℕ)
-    → Gives nodes (λ (r : Climbed). IfOk r (IsGrantOf nodes chain n)) (climb_plan chain n)
+    → Gives nodes (λ (r : ClimbEnd). IfOk r (IsGrantOf nodes chain n)) (climb_plan chain n)
 
 -- A climb in a chain of the tree tells a bad request for 0 units alone. Where it ends with NoFit it
 -- has asked each arena of the chain to carve, in turn, and nothing else. It is out of memory only

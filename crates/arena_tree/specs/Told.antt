@@ -17,39 +17,39 @@ use Rattle.arena_tree.specs.Events.{SlabAdd, Push}
 use Rattle.arena_tree.specs.Stops.{is_stopped}
 use Rattle.arena_tree.specs.Sound.{Sound}
 use Rattle.arena_tree.specs.Plans.{Plan, Done, Ask, Path}
-use Rattle.arena_tree.specs.Climbs.{Climbed, Returned, IsGrantOf}
+use Rattle.arena_tree.specs.Climbs.{ClimbEnd, ReturnEnd, IsGrantOf}
 
 -- an event with its answer
-pub record Answered : Type 0 where
+pub record AnsweredEvent : Type 0 where
   pub event : Event
   pub answer : AnswerTo event
 
 -- what it ends with is as said of all that was answered, the last first, where each answer is sound
-abbrev pub Tells : {A : Type 0} → List Node → (List Answered → A → Type 0) → Plan A
-    → List Answered → Type 0
+abbrev pub Tells : {A : Type 0} → List Node → (List AnsweredEvent → A → Type 0) → Plan A
+    → List AnsweredEvent → Type 0
 Tells nodes post (Done a) told = post told a
 Tells nodes post (Ask e f) told = (x : AnswerTo e) → Sound nodes e x
     → Tells nodes post (f x) (record { event = e; answer = x } ∷ told)
 
 -- all that was answered along a path, the last first, before what was answered by then
 abbrev pub told_by : {S A : Type 0} (step : S → (e : Event) → AnswerTo e → S → Type 0) (p : Plan A)
-    (s t : S) (a : A) → Path step p s t a → List Answered → List Answered
+    (s t : S) (a : A) → Path step p s t a → List AnsweredEvent → List AnsweredEvent
 told_by step (Done b) s t a d told = told
 told_by step (Ask e f) s t a d told =
     told_by step (f d.1) d.0 t a d.3 (record { event = e; answer = d.1 } ∷ told)
 
 -- an arena was asked to carve so many units, and nothing fitted
-abbrev pub no_fit : ℕ → ℕ → Answered
+abbrev pub no_fit : ℕ → ℕ → AnsweredEvent
 no_fit arena n = record { event = Carve arena (plain_of n); answer = Err carving.NoFit }
 
 -- each arena of a chain was asked once, the first for n units, each other for the amount that the
 -- one below it would import, and nothing fitted; the last asked first
-abbrev pub no_fits : List Level → ℕ → List Answered
+abbrev pub no_fits : List Level → ℕ → List AnsweredEvent
 no_fits [] n = []
 no_fits (l ∷ up) n = no_fits up (amount_of l up n) ++ no_fit l.id n ∷ []
 
 -- each arena of the chain was asked so, whatever else was asked
-abbrev pub NoneFits : List Level → ℕ → List Answered → Type 0
+abbrev pub NoneFits : List Level → ℕ → List AnsweredEvent → Type 0
 NoneFits [] n told = Unit {0}
 NoneFits (l ∷ up) n told = Contains told (no_fit l.id n) × NoneFits up (amount_of l up n) told
 
@@ -60,7 +60,7 @@ IsNoFit (Free given) a = ⊥
 IsNoFit _ a = ⊥
 
 -- nothing else was asked
-abbrev pub OnlyNoFit : List Answered → Type 0
+abbrev pub OnlyNoFit : List AnsweredEvent → Type 0
 OnlyNoFit told = All (λ a. IsNoFit a.event a.answer) told
 
 -- a part refused the segment, for another reason than memory or a stop
@@ -78,7 +78,7 @@ IsRefusalOf t (AddCarve child given size) a = RefusesInAdd t a
 IsRefusalOf t _ a = ⊥
 
 -- that was the last answer
-abbrev pub WasRefused : Tag → List Answered → Type 0
+abbrev pub WasRefused : Tag → List AnsweredEvent → Type 0
 WasRefused t [] = ⊥
 WasRefused t (last ∷ told) = IsRefusalOf t last.event last.answer
 
@@ -97,11 +97,11 @@ IsTakenBack (Free given) a = (out : Option Tag) × (a ≡ Ok out)
 IsTakenBack _ a = ⊥
 
 -- nothing else was done
-abbrev pub OnlyTakenBack : List Answered → Type 0
+abbrev pub OnlyTakenBack : List AnsweredEvent → Type 0
 OnlyTakenBack told = All (λ a. IsTakenBack a.event a.answer) told
 
 -- one was out of memory, and after that segments were freed and nothing else was done
-abbrev pub RanOut : List Answered → Type 0
+abbrev pub RanOut : List AnsweredEvent → Type 0
 RanOut [] = ⊥
 RanOut (last ∷ told) =
     IsOutOfMemory last.event last.answer ⊎ (IsTakenBack last.event last.answer × RanOut told)
@@ -115,12 +115,12 @@ IsTakenIn (Push arena cache given) a = a ≡ Ok tt
 IsTakenIn _ a = ⊥
 
 -- that was the last answer
-abbrev pub WasTakenIn : List Answered → Type 0
+abbrev pub WasTakenIn : List AnsweredEvent → Type 0
 WasTakenIn [] = ⊥
 WasTakenIn (last ∷ told) = IsTakenIn last.event last.answer
 
 -- the last was stopped
-abbrev pub WasStopped : List Answered → Type 0
+abbrev pub WasStopped : List AnsweredEvent → Type 0
 WasStopped [] = ⊥
 WasStopped (last ∷ told) = is_stopped last.event last.answer ≡ true
 
@@ -128,7 +128,7 @@ WasStopped (last ∷ told) = is_stopped last.event last.answer ≡ true
 -- NoFit where each arena of the chain was asked to carve, and nothing else; out of memory where a
 -- carve or an import was, and what was carved for it was freed; a segment where a part has just
 -- refused it; stopped where a part has just said so
-abbrev pub ClimbTold : List Node → List Level → ℕ → List Answered → Climbed → Type 0
+abbrev pub ClimbTold : List Node → List Level → ℕ → List AnsweredEvent → ClimbEnd → Type 0
 ClimbTold nodes chain n told (Ok t) = IsGrantOf nodes chain n t
 ClimbTold nodes chain n told (Err climbing.BadRequest) = n ≡ 0
 ClimbTold nodes chain n told (Err climbing.NoFit) = told ≡ no_fits chain n
@@ -138,7 +138,7 @@ ClimbTold nodes chain n told (Err (climbing.Stopped o)) = WasStopped told
 
 -- and a hand back: it ends well where segments were freed and nothing else was done, and the last
 -- that was freed made no span whole
-abbrev pub ReturnTold : List Answered → Returned → Type 0
+abbrev pub ReturnTold : List AnsweredEvent → ReturnEnd → Type 0
 ReturnTold told (Ok u) = OnlyTakenBack told × WasTakenIn told
 ReturnTold told (Err (returning.Stuck t)) = WasRefused t told
 ReturnTold told (Err (returning.Stopped t)) = WasStopped told

@@ -1,11 +1,11 @@
 //! What a setup is asked for. Bases, lengths and sizes are in units.
-use lease_terms::Name;
+use lease_terms::ArenaName;
 use tag_arena::Policy;
 
 /// An arena with one owned span.
 #[derive(Clone, Copy, Debug, PartialEq, Eq)]
 pub struct NewRoot {
-    pub name: Name,
+    pub name: ArenaName,
     pub base: u64,
     pub len: u64,
     pub quantum: u64,
@@ -17,8 +17,8 @@ pub struct NewRoot {
 /// An arena that imports its spans from a source.
 #[derive(Clone, Copy, Debug, PartialEq, Eq)]
 pub struct NewChild {
-    pub name: Name,
-    pub source: Name,
+    pub name: ArenaName,
+    pub source: ArenaName,
     pub quantum: u64,
     pub policy: Policy,
     /// As of a root.
@@ -31,7 +31,7 @@ pub struct NewChild {
 #[derive(Clone, Copy, Debug, PartialEq, Eq)]
 pub struct NewSpan {
     /// The root's name.
-    pub name: Name,
+    pub name: ArenaName,
     pub base: u64,
     pub len: u64,
 }

@@ -14,7 +14,7 @@ use crate::settings::{NewChild, NewRoot};
 use crate::setup_faults::SetupFault;
 use crate::sizes::{slab_size, whole_range};
 use deed_core::is_power_of_two;
-use lease_terms::Name;
+use lease_terms::ArenaName;
 use std::alloc::{AllocError, Global};
 use std::marker::Model;
 use tag_arena::Policy;
@@ -22,7 +22,7 @@ use tag_arena::Policy;
 /// An arena of a tree. Its number is its index, in order of coming.
 #[derive(Clone, Copy, Debug, PartialEq, Eq)]
 pub struct TreeArena {
-    pub name: Name,
+    pub name: ArenaName,
     /// The number of the arena that it imports from; none where it owns its spans.
     pub source: Option<u32>,
     pub quantum: u64,
@@ -86,7 +86,7 @@ impl Tree {
     }
 
     /// The number of the arena of this name.
-    pub fn find(&self, name: &Name) -> Option<u32>
+    pub fn find(&self, name: &ArenaName) -> Option<u32>
         ensures index { result ≡ index_in name.now self.now }
         ensures within { IfSome result (λ id. id < length self.now) }
     {

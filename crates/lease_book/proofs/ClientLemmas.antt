@@ -11,7 +11,7 @@ use Rattle.lease_book.specs.Receipts.{Kept, IsEarned}
 use Rattle.lease_book.specs.Entry.{Settlement, Grant, Return, Refuse, Entry, Hello, Settled, Swept, subject_of, kept_settlement, kept_reply_of, terms_of}
 use Rattle.lease_book.specs.Account.{Lease, Account, is_lease, without_first, lease_of, granted_request, leases_after}
 use Rattle.lease_book.specs.History.{incarnation, leases_of, clients_of, kept_of, outcome_of, account, IsProper, AreOrderly}
-use Rattle.lease_book.specs.BookState.{BookState, IsHistory, HasHistory, Enters, account_in, clients_in, weight_of, segments, leased_by, leased_segments}
+use Rattle.lease_book.specs.BookState.{BookState, IsHistory, HasHistory, Enters, account_in, clients_in, weight_of_leases, segments, leased_by, leased_segments}
 use Rattle.lease_book.specs.ClientLaws.{EnteredChanges, LeasesAreTheClients, IsReplyInRange, IsInBounds, BooksAreInBounds}
 use Rattle.lease_book.specs.declared.books.TheConstants.{MOST_LEASES}
 use Rattle.lease_book.proofs.HistoryLemmas.{has, account_is, account_unknown}
@@ -144,30 +144,30 @@ sum_of_clients f es [] = refl
 sum_of_clients f es (c ∷ cs) =
     omega (arith, sum_of_clients f es cs, sum_by-cons (λ c. sum_by f (segments (leases_of c es))) c cs, sum_by-leased_by f (account es c) (map (account es) cs))
 
-leases_of_all : (book : BookState) (f : Tag → ℕ) → HasHistory book → sum_by (weight_of f book) (clients_in book) ≡ sum_by f (leased_segments book)
+leases_of_all : (book : BookState) (f : Tag → ℕ) → HasHistory book → sum_by (weight_of_leases f book) (clients_in book) ≡ sum_by f (leased_segments book)
 leases_of_all book f had =
     let es : List Entry = had.0 in
-    ap (sum_by (weight_of f book)) (clients_are es book had.1)
+    ap (sum_by (weight_of_leases f book)) (clients_are es book had.1)
     ∙ (λ j. sum_by (λ c. sum_by f (segments (account_is es book c had.1 j).leases)) (clients_of es))
     ∙ sum_of_clients f es (clients_of es) ∙ ap (λ (xs : List Account). sum_by f (leased_by xs)) (sym had.1.accounts)
 
 -- a client that the book doesn't know has no lease
-weighs_nothing : (book : BookState) (f : Tag → ℕ) → HasHistory book → (c : ℕ) → has c (clients_in book) ≡ false → weight_of f book c ≡ 0
+weighs_nothing : (book : BookState) (f : Tag → ℕ) → HasHistory book → (c : ℕ) → has c (clients_in book) ≡ false → weight_of_leases f book c ≡ 0
 weighs_nothing book f had c none =
     let es : List Entry = had.0 in
     let unknown : has c (clients_of es) ≡ false = ap (has c) (sym (clients_are es book had.1)) ∙ none in
     ap (λ (a : Account). sum_by f (segments a.leases)) (account_is es book c had.1 ∙ account_unknown c es had.1.orderly unknown)
 
-leases_of_some : (book : BookState) (cs : List ℕ) (f : Tag → ℕ) → HasHistory book → IsDistinct nat_eq cs → sum_by (weight_of f book) cs ≤ sum_by f (leased_segments book)
+leases_of_some : (book : BookState) (cs : List ℕ) (f : Tag → ℕ) → HasHistory book → IsDistinct nat_eq cs → sum_by (weight_of_leases f book) cs ≤ sum_by f (leased_segments book)
 leases_of_some book cs f had apart =
-    let less = sum_within (weight_of f book) cs (clients_in book) apart (λ c is none. weighs_nothing book f had c none) in
+    let less = sum_within (weight_of_leases f book) cs (clients_in book) apart (λ c is none. weighs_nothing book f had c none) in
     omega (arith, less, leases_of_all book f had)
 
 leases_together : (book : BookState) (cs : List ℕ) (f : Tag → ℕ) → HasHistory book → IsDistinct nat_eq cs
-    → ((c : ℕ) → has c cs ≡ false → (account_in c book).leases ≡ []) → sum_by (weight_of f book) cs ≡ sum_by f (leased_segments book)
+    → ((c : ℕ) → has c cs ≡ false → (account_in c book).leases ≡ []) → sum_by (weight_of_leases f book) cs ≡ sum_by f (leased_segments book)
 leases_together book cs f had apart none =
     let less = leases_of_some book cs f had apart in
-    let more = sum_within (weight_of f book) (clients_in book) cs (clients_apart book had) (λ c is past. ap (λ (ls : List Lease). sum_by f (segments ls)) (none c past)) in
+    let more = sum_within (weight_of_leases f book) (clients_in book) cs (clients_apart book had) (λ c is past. ap (λ (ls : List Lease). sum_by f (segments ls)) (none c past)) in
     omega (arith, less, more, leases_of_all book f had)
 
 pub leases_are_the_clients : LeasesAreTheClients

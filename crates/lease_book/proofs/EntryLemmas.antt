@@ -7,7 +7,7 @@ use Rattle.lease_book.specs.Receipts.{Kept}
 use Rattle.lease_book.specs.Entry.{Settlement, Entry, Hello, Settled, Swept, kept_settlement}
 use Rattle.lease_book.specs.Account.{Account, number_of, is_lease, without_first, leases_after}
 use Rattle.lease_book.specs.Shelf.{update_at, with_standing, with_leases}
-use Rattle.lease_book.specs.History.{incarnation, settled_in, greater_kept, greatest, leases_of, clients_of, kept_of, account, AreOrderly}
+use Rattle.lease_book.specs.History.{incarnation, settled_in, greater_kept, greatest_kept, leases_of, clients_of, kept_of, account, AreOrderly}
 use Rattle.lease_book.specs.BookState.{BookState, IsHistory}
 use Rattle.lease_book.proofs.EachLemmas.{each_push}
 use Rattle.lease_book.proofs.HistoryLemmas.{has, fresh}
@@ -99,7 +99,7 @@ pub settled_others : (es : List Entry) (id : RequestId) (s : Settlement) (d : �
 settled_others es id s d other = λ j. record {
   client = d;
   incarnation = incarnation d es;
-  kept = greatest (cond (other j && nat_eq (incarnation d es) id.incarnation) (kept_settlement id.number s ∷ settled_in d (incarnation d es) es) (settled_in d (incarnation d es) es));
+  kept = greatest_kept (cond (other j && nat_eq (incarnation d es) id.incarnation) (kept_settlement id.number s ∷ settled_in d (incarnation d es) es) (settled_in d (incarnation d es) es));
   leases = cond (other j) (leases_after id s (leases_of d es)) (leases_of d es);
 }
 
@@ -119,7 +119,7 @@ settled_own es id s current next =
     λ j. record {
       client = c;
       incarnation = incarnation c es;
-      kept = greatest (cond (same j && now j) (kept_settlement id.number s ∷ settled_in c (incarnation c es) es) (settled_in c (incarnation c es) es));
+      kept = greatest_kept (cond (same j && now j) (kept_settlement id.number s ∷ settled_in c (incarnation c es) es) (settled_in c (incarnation c es) es));
       leases = cond (same j) (leases_after id s (leases_of c es)) (leases_of c es);
     } in
     let highest : greater_kept (kept_settlement id.number s) (kept_of c es) ≡ Some (kept_settlement id.number s) = higher_next (kept_settlement id.number s) (kept_of c es) next in
@@ -151,27 +151,27 @@ pub hello_others : (es : List Entry) (c i d : ℕ) → nat_eq d c ≡ false → 
 hello_others es c i d other = λ j. record {
   client = d;
   incarnation = cond (other j) i (incarnation d es);
-  kept = greatest (settled_in d (cond (other j) i (incarnation d es)) es);
+  kept = greatest_kept (settled_in d (cond (other j) i (incarnation d es)) es);
   leases = leases_of d es;
 }
 
-hello_account : (es : List Entry) (c i : ℕ) → account (Hello c i ∷ es) c ≡ record { client = c; incarnation = i; kept = greatest (settled_in c i es); leases = leases_of c es }
+hello_account : (es : List Entry) (c i : ℕ) → account (Hello c i ∷ es) c ≡ record { client = c; incarnation = i; kept = greatest_kept (settled_in c i es); leases = leases_of c es }
 hello_account es c i =
     let same : nat_eq c c ≡ true = eq-eqb c c refl in
     λ j. record {
       client = c;
       incarnation = cond (same j) i (incarnation c es);
-      kept = greatest (settled_in c (cond (same j) i (incarnation c es)) es);
+      kept = greatest_kept (settled_in c (cond (same j) i (incarnation c es)) es);
       leases = leases_of c es;
     }
 
 pub hello_same : (es : List Entry) (c i : ℕ) → i ≡ incarnation c es → account (Hello c i ∷ es) c ≡ account es c
-hello_same es c i current = hello_account es c i ∙ (λ j. record { client = c; incarnation = current j; kept = greatest (settled_in c (current j) es); leases = leases_of c es })
+hello_same es c i current = hello_account es c i ∙ (λ j. record { client = c; incarnation = current j; kept = greatest_kept (settled_in c (current j) es); leases = leases_of c es })
 
 pub hello_above : (es : List Entry) (c i : ℕ) → AreOrderly es → incarnation c es < i → account (Hello c i ∷ es) c ≡ with_standing (record { incarnation = i; kept = None }) (account es c)
 hello_above es c i orderly above =
     let none = fresh c i es orderly above in
-    hello_account es c i ∙ (λ j. record { client = c; incarnation = i; kept = greatest (none j); leases = leases_of c es })
+    hello_account es c i ∙ (λ j. record { client = c; incarnation = i; kept = greatest_kept (none j); leases = leases_of c es })
 
 pub changed_none : (accounts : List Account) (i : ℕ) → update_at accounts i (λ a. a) ≡ accounts
 changed_none [] i = refl

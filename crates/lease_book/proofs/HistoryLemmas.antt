@@ -4,7 +4,7 @@ use Rattle.std.specs.List.{find, list_any}
 use Rattle.std.proofs.lemmas.Bool.{or_parts, or_from, eqb-true, ne_eqb}
 use Rattle.lease_book.specs.Entry.{Entry, Hello, Settled, Swept, kept_settlement}
 use Rattle.lease_book.specs.Account.{Account, is_lease, without_first, leases_after}
-use Rattle.lease_book.specs.History.{incarnation, settled_in, greatest, leases_of, clients_of, account, AreOrderly}
+use Rattle.lease_book.specs.History.{incarnation, settled_in, greatest_kept, leases_of, clients_of, account, AreOrderly}
 use Rattle.lease_book.specs.BookState.{BookState, IsHistory, nobody, account_or_nobody, account_in}
 
 -- whether the client is in the list
@@ -67,7 +67,7 @@ account_unknown c es orderly none =
     let a = incarnation_unknown c es none in
     let b = settled_unknown c (incarnation c es) es orderly none in
     let l = leases_unknown c es orderly none in
-    λ k. record { client = c; incarnation = a k; kept = greatest (b k); leases = l k }
+    λ k. record { client = c; incarnation = a k; kept = greatest_kept (b k); leases = l k }
 
 -- nothing is settled of an incarnation to come
 pub fresh : (c i : ℕ) (es : List Entry) → AreOrderly es → incarnation c es < i → settled_in c i es ≡ []

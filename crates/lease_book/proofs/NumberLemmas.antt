@@ -6,7 +6,7 @@ use Rattle.lease_terms.specs.Requests.{RequestId}
 use Rattle.lease_book.specs.Receipts.{Kept}
 use Rattle.lease_book.specs.Entry.{Settlement, Entry, Hello, Settled, Swept, kept_settlement}
 use Rattle.lease_book.specs.Account.{number_of}
-use Rattle.lease_book.specs.History.{settled_in, greater_kept, greatest, last_in, outcome_of, AreOrderly}
+use Rattle.lease_book.specs.History.{settled_in, greater_kept, greatest_kept, last_in, outcome_of, AreOrderly}
 use Rattle.lease_book.specs.NumberLaws.{SettledForIncarnation, OutcomesStay, NumbersAreSettledOnce, numbers_down}
 use Rattle.lease_book.proofs.HistoryLemmas.{fresh}
 use Rattle.lease_book.proofs.EntryLemmas.{higher_next}
@@ -53,23 +53,23 @@ higher_both k (Some m) = by (nat_lt k.number m.number) refl
     by false is = (omega arith, omega (arith, ltb-false _ _ is))
 
 -- a number that is found is its own, and at most the greatest
-found_number : (ks : List Kept) (n : ℕ) (k : Kept) → find (λ m. nat_eq n m.number) ks ≡ Some k → (n ≡ k.number) × (n ≤ number_of (greatest ks))
+found_number : (ks : List Kept) (n : ℕ) (k : Kept) → find (λ m. nat_eq n m.number) ks ≡ Some k → (n ≡ k.number) × (n ≤ number_of (greatest_kept ks))
 found_number [] n k at = absurd (cc)
 found_number (m ∷ ks) n k at = by (nat_eq n m.number) refl at (found_number ks n k)
   where
     by : (b : Bool) → nat_eq n m.number ≡ b → cond b (Some m) (find (λ x. nat_eq n x.number) ks) ≡ Some k
-        → (find (λ x. nat_eq n x.number) ks ≡ Some k → (n ≡ k.number) × (n ≤ number_of (greatest ks)))
-        → (n ≡ k.number) × (n ≤ number_of (greater_kept m (greatest ks)))
+        → (find (λ x. nat_eq n x.number) ks ≡ Some k → (n ≡ k.number) × (n ≤ number_of (greatest_kept ks)))
+        → (n ≡ k.number) × (n ≤ number_of (greater_kept m (greatest_kept ks)))
     by true is at rest =
         let same : m ≡ k = cc in
         let number : n ≡ m.number = eqb-true n m.number is in
-        (number ∙ ap (λ (x : Kept). x.number) same, omega (arith, number, (higher_both m (greatest ks)).0))
-    by false is at rest = ((rest at).0, omega (arith, (rest at).1, (higher_both m (greatest ks)).1))
+        (number ∙ ap (λ (x : Kept). x.number) same, omega (arith, number, (higher_both m (greatest_kept ks)).0))
+    by false is at rest = ((rest at).0, omega (arith, (rest at).1, (higher_both m (greatest_kept ks)).1))
 
 -- the greatest is found by its number
-pub last_found : (ks : List Kept) (k : Kept) → greatest ks ≡ Some k → find (λ m. nat_eq k.number m.number) ks ≡ Some k
+pub last_found : (ks : List Kept) (k : Kept) → greatest_kept ks ≡ Some k → find (λ m. nat_eq k.number m.number) ks ≡ Some k
 last_found [] k at = absurd (cc)
-last_found (m ∷ ks) k at = by (greatest ks) refl at (last_found ks k)
+last_found (m ∷ ks) k at = by (greatest_kept ks) refl at (last_found ks k)
   where
     here : m ≡ k → cond (nat_eq k.number m.number) (Some m) (find (λ x. nat_eq k.number x.number) ks) ≡ Some k
     here is = (λ j. cond (eq-eqb k.number m.number (ap (λ (x : Kept). x.number) (sym is)) j) (Some m) (find (λ x. nat_eq k.number x.number) ks)) ∙ ap Some is
@@ -83,7 +83,7 @@ last_found (m ∷ ks) k at = by (greatest ks) refl at (last_found ks k)
         let differs : nat_eq k.number m.number ≡ false = ne_eqb k.number m.number (λ e. absurd (omega (arith, e, number, ltb-true _ _ below))) in
         (λ j. cond (differs j) (Some m) (find (λ y. nat_eq k.number y.number) ks)) ∙ rest same
 
-    by : (g : Option Kept) → greatest ks ≡ g → greater_kept m g ≡ Some k → (greatest ks ≡ Some k → find (λ x. nat_eq k.number x.number) ks ≡ Some k)
+    by : (g : Option Kept) → greatest_kept ks ≡ g → greater_kept m g ≡ Some k → (greatest_kept ks ≡ Some k → find (λ x. nat_eq k.number x.number) ks ≡ Some k)
         → cond (nat_eq k.number m.number) (Some m) (find (λ x. nat_eq k.number x.number) ks) ≡ Some k
     by None is at rest = here (cc)
     by (Some x) is at rest = under x (nat_lt m.number x.number) refl at (λ same. rest (is ∙ ap Some same))
@@ -95,14 +95,14 @@ last_more (Hello d j) es c i = omega arith
 last_more (Swept d j a b) es c i = omega arith
 last_more (Settled id s) es c i = by (is_of c i id)
   where
-    by : (b : Bool) → last_in c i es ≤ number_of (greatest (cond b (kept_settlement id.number s ∷ settled_in c i es) (settled_in c i es)))
-    by true = (higher_both (kept_settlement id.number s) (greatest (settled_in c i es))).1
+    by : (b : Bool) → last_in c i es ≤ number_of (greatest_kept (cond b (kept_settlement id.number s ∷ settled_in c i es) (settled_in c i es)))
+    by true = (higher_both (kept_settlement id.number s) (greatest_kept (settled_in c i es))).1
     by false = omega arith
 
 last_own : (es : List Entry) (id : RequestId) (s : Settlement) → id.number ≤ last_in id.client id.incarnation (Settled id s ∷ es)
 last_own es id s =
-    let more : last_in id.client id.incarnation (Settled id s ∷ es) ≡ number_of (greater_kept (kept_settlement id.number s) (greatest (settled_in id.client id.incarnation es))) = ap (λ (ks : List Kept). number_of (greatest ks)) (own_more es id s) in
-    omega (arith, more, (higher_both (kept_settlement id.number s) (greatest (settled_in id.client id.incarnation es))).0)
+    let more : last_in id.client id.incarnation (Settled id s ∷ es) ≡ number_of (greater_kept (kept_settlement id.number s) (greatest_kept (settled_in id.client id.incarnation es))) = ap (λ (ks : List Kept). number_of (greatest_kept ks)) (own_more es id s) in
+    omega (arith, more, (higher_both (kept_settlement id.number s) (greatest_kept (settled_in id.client id.incarnation es))).0)
 
 entry_below : (es : List Entry) (id : RequestId) (s : Settlement) (k : ℕ) → slice_get es k ≡ Some (Settled id s) → id.number ≤ last_in id.client id.incarnation es
 entry_below [] id s k at = absurd (cc)
@@ -191,7 +191,7 @@ outcome_entry (Settled d s ∷ older) id k at = by (is_of id.client id.incarnati
 pub outcomes_stay : OutcomesStay
 outcomes_stay = record { own = own_outcome; others = other_outcome; later = outcome_later; entry = outcome_entry }
 
-pub last_outcome : (es : List Entry) (c i : ℕ) (k : Kept) → greatest (settled_in c i es) ≡ Some k → outcome_of (record { client = c; incarnation = i; number = k.number }) es ≡ Some k
+pub last_outcome : (es : List Entry) (c i : ℕ) (k : Kept) → greatest_kept (settled_in c i es) ≡ Some k → outcome_of (record { client = c; incarnation = i; number = k.number }) es ≡ Some k
 last_outcome es c i k at = last_found (settled_in c i es) k at
 
 -- Each number once.
@@ -216,14 +216,14 @@ in_turn (Settled id s ∷ older) c i orderly = by (is_of c i id) refl (in_turn o
   where
     by : (b : Bool) → is_of c i id ≡ b → map (λ (k : Kept). k.number) (settled_in c i older) ≡ numbers_down (last_in c i older)
         → map (λ (k : Kept). k.number) (cond b (kept_settlement id.number s ∷ settled_in c i older) (settled_in c i older))
-        ≡ numbers_down (number_of (greatest (cond b (kept_settlement id.number s ∷ settled_in c i older) (settled_in c i older))))
+        ≡ numbers_down (number_of (greatest_kept (cond b (kept_settlement id.number s ∷ settled_in c i older) (settled_in c i older))))
     by false is rest = rest
     by true is rest =
         let of = of_says c i id is in
         let last : last_in c i older ≡ last_in id.client id.incarnation older = λ j. last_in (of.0 j) (of.1 j) older in
         let plus : id.number ≡ last_in c i older + 1 = omega (arith, next_of older id s orderly, last) in
         let next : id.number ≡ suc (last_in c i older) = omega (arith, plus) in
-        let top : greater_kept (kept_settlement id.number s) (greatest (settled_in c i older)) ≡ Some (kept_settlement id.number s) = higher_next (kept_settlement id.number s) (greatest (settled_in c i older)) plus in
+        let top : greater_kept (kept_settlement id.number s) (greatest_kept (settled_in c i older)) ≡ Some (kept_settlement id.number s) = higher_next (kept_settlement id.number s) (greatest_kept (settled_in c i older)) plus in
         (λ j. next j ∷ rest j) ∙ ap numbers_down (sym next ∙ ap number_of (sym top))
 
 find_in_turn : (ks : List Kept) (n m : ℕ) → map (λ (k : Kept). k.number) ks ≡ numbers_down n → 1 ≤ m → m ≤ n → (k : Kept) × (find (λ x. nat_eq m x.number) ks ≡ Some k)

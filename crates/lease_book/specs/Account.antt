@@ -24,8 +24,8 @@ abbrev pub number_of : Option Kept → ℕ
 number_of None = 0
 number_of (Some k) = k.number
 
-abbrev pub last : Account → ℕ
-last a = number_of a.kept
+abbrev pub last_number : Account → ℕ
+last_number a = number_of a.kept
 
 -- whether it is a lease of the incarnation with this arena and base
 abbrev pub is_lease : ℕ → ℕ → ℕ → Lease → Bool

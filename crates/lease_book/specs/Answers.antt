@@ -2,7 +2,7 @@
 use Rattle.std.specs.Prelude.{◌≡◌, ◌≢◌, ℕ, ◌+◌, ◌<◌, Option, Some, None}
 use Rattle.lease_terms.specs.Requests.{RequestId}
 use Rattle.lease_book.specs.Receipts.{Kept, ReceiptState, IsEarned}
-use Rattle.lease_book.specs.Account.{Account, last}
+use Rattle.lease_book.specs.Account.{Account, last_number}
 use Rattle.lease_book.specs.BookState.{BookState, account_in}
 use Rattle.lease_book.specs.declared.answers.HelloFault.{HelloFault}
 use Rattle.lease_book.specs.declared.answers.HelloFault.TheVariants.{Old, NoMemory}
@@ -23,7 +23,7 @@ receipt book id k = record {
 -- the number is the next one of the current incarnation
 pub record IsNew (a : Account) (id : RequestId) : Type 0 where
   pub current : id.incarnation ≡ a.incarnation
-  pub next : id.number ≡ last a + 1
+  pub next : id.number ≡ last_number a + 1
 
 -- the number is the last one, and this the book's receipt of the request; its grant meets its terms
 pub record IsRepeated (book : BookState) (a : Account) (id : RequestId)
@@ -42,13 +42,13 @@ pub record IsOld (a : Account) (id : RequestId) (current : ℕ) : Type 0 where
 -- the number is below the last one
 pub record IsStale (a : Account) (id : RequestId) (greatest : ℕ) : Type 0 where
   pub current : id.incarnation ≡ a.incarnation
-  pub last : greatest ≡ last a
+  pub last : greatest ≡ last_number a
   pub below : id.number < greatest
 
 -- the number is above the next one
 pub record IsGap (a : Account) (id : RequestId) (greatest : ℕ) : Type 0 where
   pub current : id.incarnation ≡ a.incarnation
-  pub last : greatest ≡ last a
+  pub last : greatest ≡ last_number a
   pub above : greatest + 1 < id.number
 
 -- what a request's number is to the book, with its client's account

@@ -54,8 +54,8 @@ abbrev pub clients_in : BookState → List ℕ
 clients_in book = map (λ a. a.client) book.accounts
 
 -- what a client's leases weigh together, each by its segment
-abbrev pub weight_of : (Tag → ℕ) → BookState → ℕ → ℕ
-weight_of f book c = sum_by f (segments (account_in c book).leases)
+abbrev pub weight_of_leases : (Tag → ℕ) → BookState → ℕ → ℕ
+weight_of_leases f book c = sum_by f (segments (account_in c book).leases)
 
 -- all segments whose grants no later entry took away
 abbrev pub leased_in : List Entry → List Tag

@@ -11,7 +11,7 @@ use Rattle.lease_book.specs.Entry.{kept_settlement}
 use Rattle.lease_book.specs.Account.{Account, is_lease, without_first, granted_request}
 use Rattle.lease_book.specs.Account.{leases_after}
 use Rattle.lease_book.specs.BookState.{BookState, HasHistory, Enters, account_in, clients_in}
-use Rattle.lease_book.specs.BookState.{weight_of, leased_segments}
+use Rattle.lease_book.specs.BookState.{weight_of_leases, leased_segments}
 use Rattle.lease_book.specs.declared.books.TheConstants.{MOST_LEASES}
 use Rattle.lease_book.specs.declared.receipts.KeptReply.{KeptReply}
 use Rattle.lease_book.specs.declared.receipts.KeptReply.TheVariants.{Granted, Released, Refused}
@@ -51,16 +51,16 @@ pub record EnteredChanges : Type 0 where
 pub record LeasesAreTheClients : Type 0 where
   pub apart : (book : BookState) → HasHistory book → IsDistinct nat_eq (clients_in book)
   pub all : (book : BookState) (f : Tag → ℕ) → HasHistory book
-      → sum_by (weight_of f book) (clients_in book) ≡ sum_by f (leased_segments book)
+      → sum_by (weight_of_leases f book) (clients_in book) ≡ sum_by f (leased_segments book)
   -- any clients, each taken once, have no more than that together
   pub some : (book : BookState) (clients : List ℕ) (f : Tag → ℕ) → HasHistory book
       → IsDistinct nat_eq clients
-      → sum_by (weight_of f book) clients ≤ sum_by f (leased_segments book)
+      → sum_by (weight_of_leases f book) clients ≤ sum_by f (leased_segments book)
   -- and just that, where no other client has a lease
   pub together : (book : BookState) (clients : List ℕ) (f : Tag → ℕ) → HasHistory book
       → IsDistinct nat_eq clients
       → ((c : ℕ) → list_any (λ d. c == d) clients ≡ false → (account_in c book).leases ≡ [])
-      → sum_by (weight_of f book) clients ≡ sum_by f (leased_segments book)
+      → sum_by (weight_of_leases f book) clients ≡ sum_by f (leased_segments book)
 
 -- the units that a reply names are in the range of units
 abbrev pub IsReplyInRange : KeptReply → Type 0

@@ -35,13 +35,13 @@ greater_kept k None = Some k
 greater_kept k (Some m) = if nat_lt k.number m.number then Some m else Some k
 
 -- the one with the greatest number
-abbrev pub greatest : List Kept → Option Kept
-greatest [] = None
-greatest (k ∷ older) = greater_kept k (greatest older)
+abbrev pub greatest_kept : List Kept → Option Kept
+greatest_kept [] = None
+greatest_kept (k ∷ older) = greater_kept k (greatest_kept older)
 
 -- the last number that was settled for that incarnation of the client, or 0
 abbrev pub last_in : ℕ → ℕ → List Entry → ℕ
-last_in c i entries = number_of (greatest (settled_in c i entries))
+last_in c i entries = number_of (greatest_kept (settled_in c i entries))
 
 -- how the request was settled, if it was
 abbrev pub outcome_of : RequestId → List Entry → Option Kept
@@ -67,7 +67,7 @@ clients_of (Settled id s ∷ older) = clients_of older
 clients_of (Swept c i a b ∷ older) = clients_of older
 
 abbrev pub kept_of : ℕ → List Entry → Option Kept
-kept_of c entries = greatest (settled_in c (incarnation c entries) entries)
+kept_of c entries = greatest_kept (settled_in c (incarnation c entries) entries)
 
 -- all that is read off about a client
 abbrev pub account : List Entry → ℕ → Account

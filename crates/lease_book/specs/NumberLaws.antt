@@ -5,7 +5,7 @@ use Rattle.lease_terms.specs.Requests.{RequestId}
 use Rattle.lease_book.specs.Receipts.{Kept, IsEarned}
 use Rattle.lease_book.specs.Entry.{Settlement, Grant, Entry, Settled, kept_settlement}
 use Rattle.lease_book.specs.Account.{granted_request}
-use Rattle.lease_book.specs.History.{incarnation, settled_in, greatest, last_in, outcome_of}
+use Rattle.lease_book.specs.History.{incarnation, settled_in, greatest_kept, last_in, outcome_of}
 use Rattle.lease_book.specs.History.{leases_of, AreOrderly}
 use Rattle.lease_book.specs.declared.receipts.Terms.{Terms}
 
@@ -36,7 +36,7 @@ pub record OutcomesStay : Type 0 where
 -- that number
 abbrev pub LastIsAnOutcome : Type 0
 LastIsAnOutcome =
-    (es : List Entry) (c i : ℕ) (k : Kept) → greatest (settled_in c i es) ≡ Some k
+    (es : List Entry) (c i : ℕ) (k : Kept) → greatest_kept (settled_in c i es) ≡ Some k
     → outcome_of (record { client = c; incarnation = i; number = k.number }) es ≡ Some k
 
 -- whatever was settled is earned: a grant meets its terms

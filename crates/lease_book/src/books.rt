@@ -9,7 +9,7 @@ ghost use Rattle.lease_terms.specs.Requests.{IsRequestId};
 ghost use Rattle.lease_terms.specs.declared.values.TheConstants.{LAST_CLIENT};
 ghost use Rattle.lease_book.specs.Receipts.{Kept};
 ghost use Rattle.lease_book.specs.Entry.{Entry, Hello, kept_settlement};
-ghost use Rattle.lease_book.specs.Account.{last, is_lease, is_older};
+ghost use Rattle.lease_book.specs.Account.{is_lease, is_older};
 ghost use Rattle.lease_book.specs.History.{account, clients_of};
 ghost use Rattle.lease_book.specs.BookState.{BookState, IsHistory, HasHistory, Enters, account_in};
 ghost use Rattle.lease_book.specs.BookState.{leased_segments, leased_in, units_of_arena};

@@ -11,7 +11,7 @@ use Rattle.lease_proto.specs.declared.replies.Welcome.{Welcome}
 use Rattle.lease_proto.specs.declared.replies.Reply.{Reply}
 use Rattle.lease_proto.specs.declared.replies.Reply.TheVariants as replies
 use Rattle.lease_client.specs.Answers.{is_same_request, answers, answers_one}
-use Rattle.lease_client.specs.ClientState.{ClientState, IsSound, IsOwn}
+use Rattle.lease_client.specs.ClientState.{ClientState, IsSoundClient, IsOwn}
 use Rattle.lease_client.specs.Replies.{is_ahead, accepts, after_accept, after_reply}
 use Rattle.lease_client.specs.Runs.{Move, Restart, Send, Get, TakesMove, Run, waiting_count, IsDone, MayBeSent}
 use Rattle.lease_client.specs.Laws.{RepliesCountOnce, SentStaysSent}
@@ -102,7 +102,7 @@ closed_same v c is =
     ∙ ap (λ b. record c { is_open = b; held = [] }) (sym is.shut)
     ∙ ap (λ h. record c { held = h }) (sym is.none)
 
-past_ignored : (reply : Reply) (c : ClientState) → IsSound c → Past reply c → after_reply reply c ≡ c
+past_ignored : (reply : Reply) (c : ClientState) → IsSoundClient c → Past reply c → after_reply reply c ≡ c
 past_ignored (replies.Welcome w) c is past = ignored (replies.Welcome w) c (no_welcome w c _ refl is.outstanding past)
 past_ignored (replies.Granted g) c is past = ignored (replies.Granted g) c (no_granted g c _ refl is.outstanding past)
 past_ignored (replies.Released id) c is past = ignored (replies.Released id) c (no_released id c _ refl is.outstanding past)
@@ -265,7 +265,7 @@ took_refused r c None is own new settled = absurd (false≢true is)
 took_refused r c (Some (lines.Hello h)) is own new settled = absurd (false≢true is)
 took_refused r c (Some (lines.Request id op)) is own new settled = done_own r.id id c is own.1 own.2 new settled
 
-past_after : (reply : Reply) (c : ClientState) → IsSound c → accepts reply c ≡ true → Past reply (after_accept reply c)
+past_after : (reply : Reply) (c : ClientState) → IsSoundClient c → accepts reply c ≡ true → Past reply (after_accept reply c)
 past_after (replies.Welcome w) c is accept = inr (took_welcome w c c.outstanding accept is.outstanding, refl)
 past_after (replies.Granted g) c is accept = took_granted g c c.outstanding accept is.outstanding _ (settles (replies.Granted g) c)
 past_after (replies.Released id) c is accept = took_released id c c.outstanding accept is.outstanding _ (settles (replies.Released id) c)
@@ -276,9 +276,9 @@ past_after (replies.Gap t) c is accept = tt
 past_after (replies.Again a) c is accept = tt
 past_after (replies.Error e) c is accept = tt
 
-past_run : (past : Reply) (moves : List Move) (old new : ClientState) → IsSound old → Run moves old new → Past past old
-    → IsSound new × Past past new
-past_run past [] old new is run was = (subst IsSound (sym run) is, subst (Past past) (sym run) was)
+past_run : (past : Reply) (moves : List Move) (old new : ClientState) → IsSoundClient old → Run moves old new → Past past old
+    → IsSoundClient new × Past past new
+past_run past [] old new is run was = (subst IsSoundClient (sym run) is, subst (Past past) (sym run) was)
 past_run past (move ∷ moves) old new is run was =
     past_run past moves run.0 new (moves_keep_sound move old run.0 is run.1) run.2 (past_stays past move old run.0 run.1 was)
 

@@ -9,7 +9,7 @@ use Rattle.lease_proto.specs.declared.replies.Granted.{Granted}
 use Rattle.lease_proto.specs.declared.replies.Reply.{Reply}
 use Rattle.lease_proto.specs.declared.replies.Reply.TheVariants as replies
 use Rattle.lease_client.specs.Answers.{answers_one}
-use Rattle.lease_client.specs.ClientState.{ClientState, IsSound, IsOwn}
+use Rattle.lease_client.specs.ClientState.{ClientState, IsSoundClient, IsOwn}
 use Rattle.lease_client.specs.Replies.{accepts, after_accept, after_reply}
 use Rattle.lease_client.specs.Calls.{may_restart, after_restart, is_of_held}
 use Rattle.lease_client.specs.Laws.{MovesAreInTurn}
@@ -48,7 +48,7 @@ moves_in_turn = record {
 
 -- What is true of every client stays so.
 
-sound_restarted : (i : ℕ) (c : ClientState) → IsSound c → may_restart i c ≡ true → IsSound (after_restart i c)
+sound_restarted : (i : ℕ) (c : ClientState) → IsSoundClient c → may_restart i c ≡ true → IsSoundClient (after_restart i c)
 sound_restarted i c is may = let turn = moves_in_turn.restart i c may in record {
   id = is.id;
   incarnation = turn.2;
@@ -72,7 +72,7 @@ opened_by g c (Some (lines.Hello h)) is own = absurd (false≢true is)
 opened_by g c (Some (lines.Request id op)) is own = own.3
 
 -- with nothing outstanding
-idle : (c : ClientState) → IsSound c → IsSound (record c { outstanding = None })
+idle : (c : ClientState) → IsSoundClient c → IsSoundClient (record c { outstanding = None })
 idle c is = record {
   id = is.id;
   incarnation = is.incarnation;
@@ -83,7 +83,7 @@ idle c is = record {
   outstanding = tt;
 }
 
-sound_accepted : (reply : Reply) (c : ClientState) → IsSound c → accepts reply c ≡ true → IsSound (after_accept reply c)
+sound_accepted : (reply : Reply) (c : ClientState) → IsSoundClient c → accepts reply c ≡ true → IsSoundClient (after_accept reply c)
 sound_accepted (replies.Welcome w) c is yes_it = record {
   id = is.id;
   incarnation = is.incarnation;
@@ -118,10 +118,10 @@ sound_accepted (replies.Gap t) c is yes_it = idle c is
 sound_accepted (replies.Again a) c is yes_it = idle c is
 sound_accepted (replies.Error e) c is yes_it = idle c is
 
-pub moves_keep_sound : (move : Move) (old new : ClientState) → IsSound old → TakesMove move old new → IsSound new
-moves_keep_sound (Restart i) old new is makes = subst IsSound (sym makes.1) (sound_restarted i old is makes.0)
+pub moves_keep_sound : (move : Move) (old new : ClientState) → IsSoundClient old → TakesMove move old new → IsSoundClient new
+moves_keep_sound (Restart i) old new is makes = subst IsSoundClient (sym makes.1) (sound_restarted i old is makes.0)
 moves_keep_sound (Send op) old new is makes =
     let turn = moves_in_turn.send op old makes.0 in
-    subst IsSound (sym makes.1) (sound_sent op old _ _ is turn.0 turn.2 refl refl)
+    subst IsSoundClient (sym makes.1) (sound_sent op old _ _ is turn.0 turn.2 refl refl)
 moves_keep_sound (Get reply) old new is makes =
-    subst IsSound (sym makes) (got_by IsSound reply old (λ accept. sound_accepted reply old is accept) (λ _. is))
+    subst IsSoundClient (sym makes) (got_by IsSoundClient reply old (λ accept. sound_accepted reply old is accept) (λ _. is))

@@ -7,7 +7,7 @@ use Rattle.lease_proto.specs.declared.lines.Line.TheVariants as lines
 use Rattle.lease_proto.specs.declared.lines.Op.{Op}
 use Rattle.lease_proto.specs.declared.lines.Op.TheVariants as ops
 use Rattle.lease_client.specs.declared.held.HeldSegment.{HeldSegment}
-use Rattle.lease_client.specs.ClientState.{ClientState, IsSound, HasEnded, is_at}
+use Rattle.lease_client.specs.ClientState.{ClientState, IsSoundClient, HasEnded, is_at}
 use Rattle.lease_client.specs.Calls.{next_id, held_after}
 
 kept_or_not : {X : Type 0} (test : X → Bool) (x : X) (rest : List X) (b : Bool) → test x ≡ b
@@ -25,9 +25,9 @@ pub has_ended : (op : Op) (held : List HeldSegment) → HasEnded op (held_after 
 has_ended (ops.Lease l) held = tt
 has_ended (ops.Release r) held = list_any-filter_not (is_at r.arena r.base) held
 
-pub sound_sent : (op : Op) (c : ClientState) (id : RequestId) (held : List HeldSegment) → IsSound c
+pub sound_sent : (op : Op) (c : ClientState) (id : RequestId) (held : List HeldSegment) → IsSoundClient c
     → c.is_open ≡ true → c.next ≤ LARGEST → id ≡ next_id c → held ≡ held_after op c.held
-    → IsSound (record c { next = c.next + 1; outstanding = Some (lines.Request id op); held = held })
+    → IsSoundClient (record c { next = c.next + 1; outstanding = Some (lines.Request id op); held = held })
 sound_sent op c id held is opened few names ends = record {
   id = is.id;
   incarnation = is.incarnation;

@@ -58,7 +58,7 @@ IsOwn c (Some (lines.Request id op)) =
     × (c.is_open ≡ true) × HasEnded op c.held
 
 -- what is true of every client
-pub record IsSound (c : ClientState) : Type 0 where
+pub record IsSoundClient (c : ClientState) : Type 0 where
   pub id : IsClient c.id
   pub incarnation : IsQuantity c.incarnation
   pub first : 1 ≤ c.next

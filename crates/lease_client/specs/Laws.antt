@@ -9,7 +9,7 @@ use Rattle.lease_proto.specs.declared.replies.Reply.{Reply}
 use Rattle.lease_proto.specs.declared.replies.Reply.TheVariants as replies
 use Rattle.lease_proto.specs.Requests.{client_named, incarnation_named, request_named}
 use Rattle.lease_client.specs.declared.held.HeldSegment.{HeldSegment}
-use Rattle.lease_client.specs.ClientState.{ClientState, IsSound}
+use Rattle.lease_client.specs.ClientState.{ClientState, IsSoundClient}
 use Rattle.lease_client.specs.Replies.{accepts, after_reply}
 use Rattle.lease_client.specs.Calls.{may_restart, refusal}
 use Rattle.lease_client.specs.Runs.{Move, Restart, Send, Get, TakesMove, Run, IsHeldSince}
@@ -18,7 +18,8 @@ use Rattle.lease_client.specs.Runs.{MayBeSent}
 -- what is true of every client stays so
 abbrev pub MovesKeepSound : Type 0
 MovesKeepSound =
-    (move : Move) (old new : ClientState) → IsSound old → TakesMove move old new → IsSound new
+    (move : Move) (old new : ClientState) → IsSoundClient old → TakesMove move old new
+    → IsSoundClient new
 
 -- a client begins an incarnation above its own, and sends a request only while it is open and
 -- nothing is outstanding
@@ -31,23 +32,23 @@ pub record MovesAreInTurn : Type 0 where
 -- a request that may be on its way may be so ever after
 abbrev pub SentStaysSent : Type 0
 SentStaysSent =
-    (id : RequestId) (op : Op) (move : Move) (old new : ClientState) → IsSound old
+    (id : RequestId) (op : Op) (move : Move) (old new : ClientState) → IsSoundClient old
     → TakesMove move old new → MayBeSent id op old → MayBeSent id op new
 
 -- a reply to another client, to another incarnation, or to another request than the last changes
 -- nothing
 pub record LateRepliesChangeNothing : Type 0 where
-  pub client : (reply : Reply) (c : ClientState) (named : ℕ) → IsSound c
+  pub client : (reply : Reply) (c : ClientState) (named : ℕ) → IsSoundClient c
       → client_named reply ≡ Some named → named ≢ c.id → after_reply reply c ≡ c
-  pub incarnation : (reply : Reply) (c : ClientState) (named : ℕ) → IsSound c
+  pub incarnation : (reply : Reply) (c : ClientState) (named : ℕ) → IsSoundClient c
       → incarnation_named reply ≡ Some named → named ≢ c.incarnation → after_reply reply c ≡ c
-  pub number : (reply : Reply) (c : ClientState) (named : RequestId) → IsSound c
+  pub number : (reply : Reply) (c : ClientState) (named : RequestId) → IsSoundClient c
       → request_named reply ≡ Some named → named.number + 1 ≢ c.next → after_reply reply c ≡ c
 
 -- once a reply was accepted it changes nothing, whatever the client did since
 abbrev pub RepliesCountOnce : Type 0
 RepliesCountOnce =
-    (reply : Reply) (c later : ClientState) (moves : List Move) → IsSound c
+    (reply : Reply) (c later : ClientState) (moves : List Move) → IsSoundClient c
     → accepts reply c ≡ true → Run moves (after_reply reply c) later
     → after_reply reply later ≡ later
 

@@ -6,7 +6,7 @@ use Rattle.lease_proto.specs.declared.lines.Line.TheVariants as lines
 use Rattle.lease_proto.specs.declared.lines.Op.{Op}
 use Rattle.lease_proto.specs.declared.lines.Op.TheVariants as ops
 use Rattle.lease_client.specs.declared.clients.Client.TheInside.{Inside}
-use Rattle.lease_client.specs.ClientState.{ClientState, IsSound}
+use Rattle.lease_client.specs.ClientState.{ClientState, IsSoundClient}
 
 abbrev pub client_state : Inside → ClientState
 client_state c = record {
@@ -31,5 +31,5 @@ room_of (Some (lines.Request id op)) = room_for op
 
 -- it is a client, with room for the segment that may come
 pub record IsStoredClient (c : Inside) : Type 0 where
-  pub sound : IsSound (client_state c)
+  pub sound : IsSoundClient (client_state c)
   pub room : vec_len c.held + room_of c.outstanding ≤ vec_capacity c.held

@@ -3,7 +3,7 @@ ghost use Rattle.std.specs.Prelude.{◌≡◌, ◌+◌, ◌≤◌, ◌<◌, ◌�
 ghost use Rattle.std.specs.Prelude.{IsOk, OnOk, IfErr, IsSome, Some, None, true, false};
 ghost use Rattle.lease_terms.specs.declared.values.TheConstants.{LARGEST};
 ghost use Rattle.lease_client.specs.Calls.{ReadsBack};
-ghost use Rattle.lease_client.specs.ClientState.{silent_client, IsSound};
+ghost use Rattle.lease_client.specs.ClientState.{silent_client, IsSoundClient};
 
 use crate::answers::answers_one;
 use crate::faults::{NotGreater, Nothing, SendFault};
@@ -177,7 +177,7 @@ impl Client {
 
     /// Says what is true of every client. This does nothing: it is called for its clause.
     pub fn check(&self)
-        ensures { IsSound self.now }
+        ensures { IsSoundClient self.now }
     {
         let _ = &self.held;
     }

@@ -7,13 +7,13 @@ ghost use Rattle.lease_client.specs.Replies.{segment_of};
 ghost use Rattle.lease_client.specs.Stored.{room_for};
 
 use lease_proto::{Granted, Op, ReleaseLine};
-use lease_terms::{Name, Quantity};
+use lease_terms::{ArenaName, Quantity};
 use std::alloc::AllocError;
 
 /// A segment as a client is told of it: `len` units of the arena from `base` on.
 #[derive(Clone, Copy, Debug, PartialEq, Eq)]
 pub struct HeldSegment {
-    pub arena: Name,
+    pub arena: ArenaName,
     pub base: Quantity,
     pub len: Quantity,
 }

@@ -11,7 +11,7 @@ use Rattle.lease_proto.specs.declared.lines.Op.TheVariants as ops
 use Rattle.lease_book.specs.Receipts.{Kept}
 use Rattle.lease_book.specs.Entry.{Entry, Settlement, Settled, Grant, Return, Refuse, kept_settlement}
 use Rattle.lease_book.specs.Account.{Lease, number_of, is_lease, without_first, leases_after, lease_of}
-use Rattle.lease_book.specs.History.{incarnation, settled_in, greater_kept, greatest, last_in, outcome_of, leases_of}
+use Rattle.lease_book.specs.History.{incarnation, settled_in, greater_kept, greatest_kept, last_in, outcome_of, leases_of}
 use Rattle.lease_book.proofs.LawProofs.{settled_for_incarnation, outcomes_stay}
 use Rattle.lease_client.specs.declared.held.HeldSegment.{HeldSegment}
 use Rattle.lease_client.specs.ClientState.{ClientState, IsOwn, HasEnded, is_at, holds_at}
@@ -92,7 +92,7 @@ other_settled : (names : ℕ → List ℕ) (es : List Entry) (c : ClientState) (
     → ((c.id ≡ id.client) × (c.incarnation ≡ id.incarnation) → ⊥) → IsKnown names (Settled id s ∷ es) c
 other_settled names es c id s know other =
     let same = settled_for_incarnation.others es id s c.id c.incarnation other in
-    let last : last_in c.id c.incarnation (Settled id s ∷ es) ≡ last_in c.id c.incarnation es = ap (λ (ks : List Kept). number_of (greatest ks)) same in record {
+    let last : last_in c.id c.incarnation (Settled id s ∷ es) ≡ last_in c.id c.incarnation es = ap (λ (ks : List Kept). number_of (greatest_kept ks)) same in record {
       sound = know.sound;
       behind = know.behind;
       before = omega (arith, know.before, last);
@@ -195,8 +195,8 @@ own_settled names es c id op s know is client inc next waits =
     let own : IsOwn c (Some (lines.Request id op)) = subst (IsOwn c) waits know.sound.outstanding in
     let number : id.number + 1 ≡ c.next = own.2 in
     let settled : last_in id.client id.incarnation (Settled id s ∷ es) ≡ id.number
-    = ap (λ (ks : List Kept). number_of (greatest ks)) (settled_for_incarnation.own es id s)
-    ∙ higher_than (kept_settlement id.number s) (greatest (settled_in id.client id.incarnation es)) (omega (arith, next)) in
+    = ap (λ (ks : List Kept). number_of (greatest_kept ks)) (settled_for_incarnation.own es id s)
+    ∙ higher_than (kept_settlement id.number s) (greatest_kept (settled_in id.client id.incarnation es)) (omega (arith, next)) in
     let last : last_in c.id c.incarnation (Settled id s ∷ es) ≡ id.number
     = ap (λ (n : ℕ). last_in n c.incarnation (Settled id s ∷ es)) client ∙ (ap (λ (n : ℕ). last_in id.client n (Settled id s ∷ es)) inc ∙ settled) in
     let leases : leases_of c.id (Settled id s ∷ es) ≡ leases_after id s (leases_of c.id es)

@@ -7,7 +7,7 @@ use Rattle.lease_proto.specs.declared.lines.Line.TheVariants as lines
 use Rattle.lease_book.specs.Receipts.{Kept}
 use Rattle.lease_book.specs.Account.{number_of}
 use Rattle.lease_book.specs.Entry.{Entry}
-use Rattle.lease_book.specs.History.{incarnation, settled_in, greatest, last_in, outcome_of, AreOrderly}
+use Rattle.lease_book.specs.History.{incarnation, settled_in, greatest_kept, last_in, outcome_of, AreOrderly}
 use Rattle.lease_book.proofs.LawProofs.{settled_for_incarnation, numbers_settled_once}
 use Rattle.lease_client.specs.declared.held.HeldSegment.{HeldSegment}
 use Rattle.lease_client.specs.ClientState.{ClientState, is_at}
@@ -24,7 +24,7 @@ known_restarted names es c i orderly know may =
     let above : c.incarnation < i = (moves_in_turn.restart i c may).0 in
     let behind : incarnation c.id es ≤ c.incarnation = know.behind in
     let fresh : settled_in c.id i es ≡ [] = settled_for_incarnation.to_come es c.id i orderly (omega arith) in
-    let none : last_in c.id i es ≡ 0 = ap (λ (ks : List Kept). number_of (greatest ks)) fresh in
+    let none : last_in c.id i es ≡ 0 = ap (λ (ks : List Kept). number_of (greatest_kept ks)) fresh in
     record {
       sound = moves_keep_sound (Restart i) c (after_restart i c) know.sound (may, refl);
       behind = omega arith;

@@ -17,7 +17,7 @@ use Rattle.lease_book.specs.History.{incarnation, last_in, outcome_of, AreOrderl
 use Rattle.lease_book.proofs.LawProofs.{outcomes_stay, numbers_settled_once}
 use Rattle.lease_client.specs.declared.held.HeldSegment.{HeldSegment}
 use Rattle.lease_client.specs.Answers.{is_same_request, answers, answers_one}
-use Rattle.lease_client.specs.ClientState.{ClientState, IsSound, IsOwn}
+use Rattle.lease_client.specs.ClientState.{ClientState, IsSoundClient, IsOwn}
 use Rattle.lease_client.specs.Replies.{is_ahead, accepts, after_accept, after_reply, segment_of}
 use Rattle.lease_client.specs.Runs.{Get}
 use Rattle.lease_client.proofs.LawProofs.{moves_keep_sound}
@@ -61,13 +61,13 @@ replies_agree names es id a b one other =
 
 -- What is accepted.
 
-sound_accepted : (reply : Reply) (c : ClientState) → IsSound c → accepts reply c ≡ true → IsSound (after_accept reply c)
+sound_accepted : (reply : Reply) (c : ClientState) → IsSoundClient c → accepts reply c ≡ true → IsSoundClient (after_accept reply c)
 sound_accepted reply c is accept =
-    subst IsSound (cond-true (accepts reply c) (after_accept reply c) c accept) (moves_keep_sound (Get reply) c (after_reply reply c) is refl)
+    subst IsSoundClient (cond-true (accepts reply c) (after_accept reply c) c accept) (moves_keep_sound (Get reply) c (after_reply reply c) is refl)
 
 -- nothing is outstanding any more, and what was due is held at most
 known_ends : (names : ℕ → List ℕ) (es : List Entry) (c : ClientState) (opened : Bool) (held : List HeldSegment) → IsKnown names es c
-    → IsSound (record c { outstanding = None; is_open = opened; held = held }) → c.next ≤ last_in c.id c.incarnation es + 1
+    → IsSoundClient (record c { outstanding = None; is_open = opened; held = held }) → c.next ≤ last_in c.id c.incarnation es + 1
     → ((f : HeldSegment → ℕ) → sum_by f held ≤ sum_by f c.held + weight_due names f es c.outstanding)
     → IsKnown names es (record c { outstanding = None; is_open = opened; held = held })
 known_ends names es c opened held know sound one le = record {

@@ -13,7 +13,7 @@ use Rattle.lease_book.specs.Entry.{Entry, Settlement, Grant, Return, Refuse}
 use Rattle.lease_book.specs.Account.{Lease}
 use Rattle.lease_book.specs.History.{incarnation, last_in, outcome_of, leases_of}
 use Rattle.lease_client.specs.declared.held.HeldSegment.{HeldSegment}
-use Rattle.lease_client.specs.ClientState.{ClientState, IsSound}
+use Rattle.lease_client.specs.ClientState.{ClientState, IsSoundClient}
 use Rattle.lease_client.specs.Runs.{waiting_count}
 
 -- a segment as a client is told of it, where arenas have these names
@@ -50,7 +50,7 @@ weight_due names f entries (Some (lines.Request id (ops.Release r))) = 0
 -- However segments are weighed, what it holds and is due weighs at most what is leased to it in its
 -- incarnation.
 pub record IsKnown (names : ℕ → List ℕ) (entries : List Entry) (c : ClientState) : Type 0 where
-  pub sound : IsSound c
+  pub sound : IsSoundClient c
   pub behind : incarnation c.id entries ≤ c.incarnation
   pub before : last_in c.id c.incarnation entries < c.next
   pub one : c.next ≤ last_in c.id c.incarnation entries + waiting_count c.outstanding + 1

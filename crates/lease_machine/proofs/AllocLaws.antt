@@ -1,7 +1,7 @@
 -- What becomes of a request that no cache serves.
 -- what a list of steps gives, where each answer is sound
 use Rattle.arena_tree.specs.Chains.{IsChain, Node, amount_of, quantum_in}
-use Rattle.arena_tree.specs.Climbs.{Climbed, climb_left, climb_plan, on_carve}
+use Rattle.arena_tree.specs.Climbs.{ClimbEnd, climb_left, climb_plan, on_carve}
 use Rattle.arena_tree.specs.Plans.{Ask, Done, Gives, Path, Plan}
 use Rattle.arena_tree.specs.Trees.{IsTree, level_of, node_of, nodes_of}
 use Rattle.arena_tree.specs.declared.levels.Level.{Level}
@@ -58,7 +58,7 @@ pub quantum_of_index : (tree : List TreeArena) (index : ℕ) (x : TreeArena) →
 quantum_of_index tree index x here = node_quantum (nodes_of tree) index (node_of x) (slice_get_mapped node_of tree index x here)
 
 -- no units are asked for: the first carve says so
-pub none_asked : (arenas : List TreeArena) (l : Level) (up : List Level) (old new : LocalState) (a : Climbed) → IsStock old.spaces → RunsTo arenas (climb_plan (l ∷ up) 0) old new a → a ≡ Err climbing.BadRequest
+pub none_asked : (arenas : List TreeArena) (l : Level) (up : List Level) (old new : LocalState) (a : ClimbEnd) → IsStock old.spaces → RunsTo arenas (climb_plan (l ∷ up) 0) old new a → a ≡ Err climbing.BadRequest
 none_asked arenas l up old new a law path = by path.1 (does_carve old.spaces path.0.spaces l.id (plain_of 0) law path.1 path.2.step.does.0) path.2.step.does.0.2 path.3
   where
     zero_bad : (y : SpaceState) → IsGood y.arena.quantum (plain_of 0) → ⊥
@@ -82,7 +82,7 @@ no_cache tree index x q is here plain uncached = elim (cases_lt 0 q.size) [
     by None is = refl
     by (Some k) is = absurd (uncached is.0)
 
-module _ (d : Picture) (index : ℕ) (x : TreeArena) (q : Request) (s : LocalState) (held : IsHeld [] d) (here : slice_get d.tree index ≡ Some x) (c : NumberedCpu) (found : find (is_cpu d.selected) d.cpus ≡ Some c) (plain : IsPlain q) (a : Climbed) (run : RunsTo d.tree (alloc_plan (chain_in d.tree index) q.size) (reach d d.selected c found None held) s a) where
+module _ (d : Picture) (index : ℕ) (x : TreeArena) (q : Request) (s : LocalState) (held : IsHeld [] d) (here : slice_get d.tree index ≡ Some x) (c : NumberedCpu) (found : find (is_cpu d.selected) d.cpus ≡ Some c) (plain : IsPlain q) (a : ClimbEnd) (run : RunsTo d.tree (alloc_plan (chain_in d.tree index) q.size) (reach d d.selected c found None held) s a) where
   abbrev pub was : LocalState
   was = reach d d.selected c found None held
 
@@ -105,10 +105,10 @@ module _ (d : Picture) (index : ℕ) (x : TreeArena) (q : Request) (s : LocalSta
   ends_well = alloc_never_stuck d.tree chain q.size was s (others d d.selected c found None held []) a is_chain (local d d.selected c found None held) (accounted_here d d.selected c found None held) run
 
   pub served : IfOk a (IsServed (nodes_of d.tree) (level ∷ above) q.size)
-  served = subst (λ z. IfOk a (IsServed (nodes_of d.tree) z q.size)) (chain_begins d.tree index x here) (gives_so (nodes_of d.tree) (λ (r : Climbed). IfOk r (IsServed (nodes_of d.tree) chain q.size)) (alloc_plan chain q.size) (alloc_gives (nodes_of d.tree) chain q.size is_chain) was s a run)
+  served = subst (λ z. IfOk a (IsServed (nodes_of d.tree) z q.size)) (chain_begins d.tree index x here) (gives_so (nodes_of d.tree) (λ (r : ClimbEnd). IfOk r (IsServed (nodes_of d.tree) chain q.size)) (alloc_plan chain q.size) (alloc_gives (nodes_of d.tree) chain q.size is_chain) was s a run)
 
   pub asks_none : a ≡ Err climbing.BadRequest → AsksForNone (level ∷ above) q.size
-  asks_none bad = subst (λ z. AsksForNone z q.size) (chain_begins d.tree index x here) (gives_so (nodes_of d.tree) (λ (r : Climbed). r ≡ Err climbing.BadRequest → AsksForNone chain q.size) (alloc_plan chain q.size) (alloc_bad (nodes_of d.tree) chain q.size is_chain) was s a run bad)
+  asks_none bad = subst (λ z. AsksForNone z q.size) (chain_begins d.tree index x here) (gives_so (nodes_of d.tree) (λ (r : ClimbEnd). r ≡ Err climbing.BadRequest → AsksForNone chain q.size) (alloc_plan chain q.size) (alloc_bad (nodes_of d.tree) chain q.size is_chain) was s a run bad)
 
   pub good_plain : 0 < q.size → IsGood x.quantum q
   good_plain some = subst (IsGood x.quantum) (sym ((plain_is_of_its_size q).0 plain)) (plain_is_good x.quantum q.size some)
@@ -125,7 +125,7 @@ module _ (d : Picture) (index : ℕ) (x : TreeArena) (q : Request) (s : LocalSta
     climbings : Climbings chain q.size a d.spaces s.spaces
     climbings = subst (λ z. Climbings z q.size a d.spaces s.spaces) (sym (chain_begins d.tree index x here)) (climb_ends d.tree (level ∷ above) q.size was s a held.units.parts climb)
 
-    some_or_bad : (b : Climbed) → a ≡ b → (b ≡ Err climbing.BadRequest → ⊥) → 0 < q.size
+    some_or_bad : (b : ClimbEnd) → a ≡ b → (b ≡ Err climbing.BadRequest → ⊥) → 0 < q.size
     some_or_bad b is fine = elim (cases_lt 0 q.size) [
       | inl some ↦ some
       | inr none ↦
@@ -133,7 +133,7 @@ module _ (d : Picture) (index : ℕ) (x : TreeArena) (q : Request) (s : LocalSta
           absurd (fine (sym is ∙ none_asked d.tree level above was s a held.units.parts (subst (λ n. RunsTo d.tree (climb_plan (level ∷ above) n) was s a) zero climb)))
     ]
 
-    by : (b : Climbed) → a ≡ b → Climbings chain q.size b d.spaces s.spaces → IsClimbedFor index x q d b (with_parts s d)
+    by : (b : ClimbEnd) → a ≡ b → Climbings chain q.size b d.spaces s.spaces → IsClimbedFor index x q d b (with_parts s d)
     by (Ok t) is on =
         let after = held_same climb_left (alloc_plan chain q.size) d d.selected c found None held (alloc_handles chain q.size) s a run cpu_same in
         let given : IsServedOf (nodes_of d.tree) level q.size t = subst (λ z. IfOk z (IsServed (nodes_of d.tree) (level ∷ above) q.size)) is served in

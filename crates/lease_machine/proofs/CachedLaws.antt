@@ -1,5 +1,5 @@
 -- What becomes of a request that caches serve.
-use Rattle.arena_tree.specs.Climbs.{Climbed, climb_left, climb_plan}
+use Rattle.arena_tree.specs.Climbs.{ClimbEnd, climb_left, climb_plan}
 use Rattle.arena_tree.specs.Trees.{IsArena, level_of, nodes_of}
 use Rattle.arena_tree.specs.declared.levels.Level.{Level}
 use Rattle.arena_tree.specs.declared.trees.TreeArena.{TreeArena}
@@ -67,7 +67,7 @@ same_quanta i j quantum some same =
     let e : i + 1 ≡ j + 1 = sym (mul-div_left (i + 1) some) ∙ (ap (λ (n : ℕ). n / quantum) same ∙ mul-div_left (j + 1) some) in
     omega (arith, e)
 
-module _ (d : Picture) (index : ℕ) (x : TreeArena) (q : Request) (s : LocalState) (held : IsHeld [] d) (here : slice_get d.tree index ≡ Some x) (c : NumberedCpu) (found : find (is_cpu d.selected) d.cpus ≡ Some c) (plain : IsPlain q) (a : Climbed)
+module _ (d : Picture) (index : ℕ) (x : TreeArena) (q : Request) (s : LocalState) (held : IsHeld [] d) (here : slice_get d.tree index ≡ Some x) (c : NumberedCpu) (found : find (is_cpu d.selected) d.cpus ≡ Some c) (plain : IsPlain q) (a : ClimbEnd)
     (run : RunsTo d.tree (alloc_plan (chain_in d.tree index) q.size) (reach d d.selected c found None held) s a) (cached : IsCachedIn x q) where
   abbrev was : LocalState
   was = reach d d.selected c found None held
@@ -222,7 +222,7 @@ module _ (d : Picture) (index : ℕ) (x : TreeArena) (q : Request) (s : LocalSta
             let fits : slab.colour + chunk_of slab ≤ slab.slab_size = chunk_within slab.slab_size (chunk_of slab) slab.colour sound.some sound.room sound.colour in
             (omega (arith, base, over.0), omega (arith, base, len, fits, adds.size, over.1))
 
-      lacks_chunks : (b : Climbed) → (l : IsLast d.tree chain level q.size j was f sized law b s) → LacksChunks index j f.cache d then_d
+      lacks_chunks : (b : ClimbEnd) → (l : IsLast d.tree chain level q.size j was f sized law b s) → LacksChunks index j f.cache d then_d
       lacks_chunks b l = (on_own (LacksRounds f.cache.depot) l.0 f.cache l.3 l.1, none_idle f.cache.slab l.2)
 
       last_given : (t : Tag) (is : a ≡ Ok t) → IsLast d.tree chain level q.size j was f sized law (Ok t) s → IsFromCaches index x q d (Ok t) then_d
@@ -306,7 +306,7 @@ module _ (d : Picture) (index : ℕ) (x : TreeArena) (q : Request) (s : LocalSta
       ]
 
       -- a refusal comes last
-      refused : (b : Climbed) → a ≡ b → ((t : Tag) → b ≡ Ok t → ⊥) → IsLast d.tree chain level q.size j was f sized law b s
+      refused : (b : ClimbEnd) → a ≡ b → ((t : Tag) → b ≡ Ok t → ⊥) → IsLast d.tree chain level q.size j was f sized law b s
       refused b is none = elim ends [
         | inl round ↦ absurd (none round.0 (sym is ∙ round.1))
         | inr (inl idle) ↦ absurd (none idle.0 (sym is ∙ idle.1))
@@ -326,7 +326,7 @@ module _ (d : Picture) (index : ℕ) (x : TreeArena) (q : Request) (s : LocalSta
       ends_well : AllocsWell a
       ends_well = allocs.ends_well d index x q s held here c found plain a run
 
-      by : (b : Climbed) → a ≡ b → IsFromCaches index x q d b then_d
+      by : (b : ClimbEnd) → a ≡ b → IsFromCaches index x q d b then_d
       by (Ok t) is = given_so t is
       by (Err climbing.BadRequest) is = absurd (not_bad is)
       by (Err climbing.NoFit) is = no_fit is (refused (Err climbing.NoFit) is (λ t e. (let y : Err climbing.NoFit ≡ Ok t = e in cc)))

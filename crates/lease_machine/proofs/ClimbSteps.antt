@@ -2,7 +2,7 @@
 -- the arenas' quanta are the tree's
 use Rattle.arena_tree.proofs.LawProofs.{path_split}
 use Rattle.arena_tree.specs.Chains.{amount_of}
-use Rattle.arena_tree.specs.Climbs.{Climbed, Returned, climb_plan, give_back_plan, on_add, on_carve, on_free, on_import, memory_refusal, return_plan}
+use Rattle.arena_tree.specs.Climbs.{ClimbEnd, ReturnEnd, climb_plan, give_back_plan, on_add, on_carve, on_free, on_import, memory_refusal, return_plan}
 use Rattle.arena_tree.specs.Events.{AddCarve, Carve}
 use Rattle.arena_tree.specs.Plans.{Done}
 use Rattle.arena_tree.specs.Trees.{nodes_of}
@@ -29,7 +29,7 @@ use Rattle.stock.specs.Steps.{OnArena}
 use Rattle.stock.specs.Stocks.{IsStock}
 use Rattle.tag_arena.proofs.LawProofs.{carves_exactly, choice_serves}
 use Rattle.tag_arena.specs.ArenaState.{ArenaState}
-use Rattle.tag_arena.specs.Outcomes.{CarveOf, ImportOf, Imported}
+use Rattle.tag_arena.specs.Outcomes.{CarveOf, ImportOf, WasImported}
 use Rattle.tag_arena.specs.Place.{Serves}
 use Rattle.tag_arena.specs.declared.faults.ArenaFault.{ArenaFault}
 use Rattle.tag_arena.specs.declared.faults.SpanFault.{SpanFault}
@@ -91,7 +91,7 @@ climbs_has (l ∷ up) n t old new law climbs = elim climbs [
 ]
 
 -- a climb by its answer
-abbrev pub Climbings : List Level → ℕ → Climbed → List SpaceState → List SpaceState → Type 0
+abbrev pub Climbings : List Level → ℕ → ClimbEnd → List SpaceState → List SpaceState → Type 0
 Climbings chain n (Ok t) old new = Climbs chain n t old new
 Climbings chain n (Err climbing.BadRequest) old new = new ≡ old
 Climbings chain n (Err climbing.NoFit) old new = (¬ HasBaseUp old chain n) × (new ≡ old)
@@ -101,7 +101,7 @@ Climbings chain n (Err (climbing.Stopped o)) old new = Unit {0}
 
 module _ (arenas : List TreeArena) where
   -- no event on the way changes the CPU
-  returns_cpu : (chain : List Level) (t : Tag) (old new : LocalState) (a : Returned) → RunsTo arenas (return_plan chain t) old new a → new.cpu ≡ old.cpu
+  returns_cpu : (chain : List Level) (t : Tag) (old new : LocalState) (a : ReturnEnd) → RunsTo arenas (return_plan chain t) old new a → new.cpu ≡ old.cpu
   returns_cpu [] t old new a path = ap (λ (s : LocalState). s.cpu) (sym path.0)
   returns_cpu (l ∷ up) t old new a path = by path.1 path.3 (λ whole. returns_cpu up whole path.0 new a)
     where
@@ -111,12 +111,12 @@ module _ (arenas : List TreeArena) where
       by (Err (freeing.BadFree y)) end again = ap (λ (s : LocalState). s.cpu) (sym end.0) ∙ path.2.step.does.1
       by (Err (freeing.Stopped y)) end again = ap (λ (s : LocalState). s.cpu) (sym end.0) ∙ path.2.step.does.1
 
-  pub gives_back_cpu : (up : List Level) (t : Tag) (old new : LocalState) (a : Climbed) → RunsTo arenas (give_back_plan up t) old new a → new.cpu ≡ old.cpu
+  pub gives_back_cpu : (up : List Level) (t : Tag) (old new : LocalState) (a : ClimbEnd) → RunsTo arenas (give_back_plan up t) old new a → new.cpu ≡ old.cpu
   gives_back_cpu up t old new a path =
       let split = path_split (SoundStep (nodes_of arenas)) (return_plan up t) (λ r. Done (memory_refusal r)) old new a path in
       ap (λ (s : LocalState). s.cpu) (sym split.3.0) ∙ returns_cpu up t old split.0 split.1 split.2
 
-  pub climb_cpu : (chain : List Level) (n : ℕ) (old new : LocalState) (a : Climbed) → RunsTo arenas (climb_plan chain n) old new a → new.cpu ≡ old.cpu
+  pub climb_cpu : (chain : List Level) (n : ℕ) (old new : LocalState) (a : ClimbEnd) → RunsTo arenas (climb_plan chain n) old new a → new.cpu ≡ old.cpu
   climb_cpu [] n old new a path = ap (λ (s : LocalState). s.cpu) (sym path.0)
   climb_cpu (l ∷ up) n old new a path = carved path.1 path.3 (climb_cpu up (amount_of l up n))
     where
@@ -130,11 +130,11 @@ module _ (arenas : List TreeArena) where
       added m k (Err (adding.NotAligned t)) same end = ap (λ (s : LocalState). s.cpu) (sym end.0) ∙ same
       added m k (Err (adding.Stopped t)) same end = ap (λ (s : LocalState). s.cpu) (sym end.0) ∙ same
 
-      imported : (m : LocalState) (r : Climbed) → RunsTo arenas (on_import up l.id n r) m new a → new.cpu ≡ m.cpu
+      imported : (m : LocalState) (r : ClimbEnd) → RunsTo arenas (on_import up l.id n r) m new a → new.cpu ≡ m.cpu
       imported m (Ok span) last = added m last.0 last.1 last.2.step.does.1 last.3
       imported m (Err f) last = ap (λ (s : LocalState). s.cpu) (sym last.0)
 
-      carved : (x : Result Tag CarveFault) → RunsTo arenas (on_carve (climb_plan up (amount_of l up n)) up l.id n x) path.0 new a → ((s t : LocalState) (b : Climbed) → RunsTo arenas (climb_plan up (amount_of l up n)) s t b → t.cpu ≡ s.cpu) → new.cpu ≡ old.cpu
+      carved : (x : Result Tag CarveFault) → RunsTo arenas (on_carve (climb_plan up (amount_of l up n)) up l.id n x) path.0 new a → ((s t : LocalState) (b : ClimbEnd) → RunsTo arenas (climb_plan up (amount_of l up n)) s t b → t.cpu ≡ s.cpu) → new.cpu ≡ old.cpu
       carved (Ok t) rest again = ended rest.0
       carved (Err carving.BadRequest) rest again = ended rest.0
       carved (Err carving.NoMemory) rest again = ended rest.0
@@ -144,15 +144,15 @@ module _ (arenas : List TreeArena) where
           imported split.0 split.1 split.3 ∙ (again path.0 split.0 split.1 split.2 ∙ path.2.step.does.1)
 
   -- what was climbed for and given back: done, or stuck
-  returned : (r : Returned) → ((r ≡ Ok tt) × (memory_refusal r ≡ Err climbing.NoMemory)) ⊎ ((y : Tag) × ((memory_refusal r ≡ Err (climbing.Stuck y)) ⊎ (memory_refusal r ≡ Err (climbing.Stopped (Some y)))))
+  returned : (r : ReturnEnd) → ((r ≡ Ok tt) × (memory_refusal r ≡ Err climbing.NoMemory)) ⊎ ((y : Tag) × ((memory_refusal r ≡ Err (climbing.Stuck y)) ⊎ (memory_refusal r ≡ Err (climbing.Stopped (Some y)))))
   returned (Ok u) = inl (refl, refl)
   returned (Err (returning.Stuck y)) = inr (y, inl refl)
   returned (Err (returning.Stopped y)) = inr (y, inr refl)
 
-  abbrev pub IsStuck : Climbed → Type 0
+  abbrev pub IsStuck : ClimbEnd → Type 0
   IsStuck a = (y : Tag) × ((a ≡ Err (climbing.Stuck y)) ⊎ (a ≡ Err (climbing.Stopped (Some y))))
 
-  pub gives_back : (up : List Level) (t : Tag) (old new : LocalState) (a : Climbed) → RunsTo arenas (give_back_plan up t) old new a → ((a ≡ Err climbing.NoMemory) × Returns new.spaces t old.spaces) ⊎ IsStuck a
+  pub gives_back : (up : List Level) (t : Tag) (old new : LocalState) (a : ClimbEnd) → RunsTo arenas (give_back_plan up t) old new a → ((a ≡ Err climbing.NoMemory) × Returns new.spaces t old.spaces) ⊎ IsStuck a
   gives_back up t old new a path =
       let split = path_split (SoundStep (nodes_of arenas)) (return_plan up t) (λ r. Done (memory_refusal r)) old new a path in
       elim (returned split.1) [
@@ -163,14 +163,14 @@ module _ (arenas : List TreeArena) where
       ]
 
   -- a climb that ended stuck or stopped says nothing
-  nothing_said : (chain : List Level) (n : ℕ) (a : Climbed) (old new : List SpaceState) → IsStuck a → Climbings chain n a old new
+  nothing_said : (chain : List Level) (n : ℕ) (a : ClimbEnd) (old new : List SpaceState) → IsStuck a → Climbings chain n a old new
   nothing_said chain n a old new is = elim is.1 [
     | inl e ↦ subst (λ z. Climbings chain n z old new) (sym e) tt
     | inr e ↦ subst (λ z. Climbings chain n z old new) (sym e) tt
   ]
 
   -- a span that came, and what the arena did with it
-  module _ (l : Level) (up : List Level) (n : ℕ) (span : Tag) (old : List SpaceState) (m new : LocalState) (a : Climbed) (law : IsStock old) (none : ¬ HasBase old l.id (plain_of n)) (upper : Climbs up (amount_of l up n) span old m.spaces) where
+  module _ (l : Level) (up : List Level) (n : ℕ) (span : Tag) (old : List SpaceState) (m new : LocalState) (a : ClimbEnd) (law : IsStock old) (none : ¬ HasBase old l.id (plain_of n)) (upper : Climbs up (amount_of l up n) span old m.spaces) where
     told : (r : Result Tag (SpanFault Tag)) (t : Tag) → Ok t ≡ wording_of import_word r → r ≡ Ok t
     told (Ok y) t e = (let x : Ok t ≡ Ok y = e in let same : t ≡ y = cc in ap Ok (sym same))
     told (Err f) t e = absurd (let x : Ok t ≡ Err (import_word f) = e in cc)
@@ -186,7 +186,7 @@ module _ (arenas : List TreeArena) where
     added_so : (x : Result Tag (AddCarveFault Tag)) (k : LocalState) → SoundStep (nodes_of arenas) m (AddCarve l.id span n) x k → RunsTo arenas (on_add up x) k new a → Climbings (l ∷ up) n a old new.spaces
     added_so (Ok t) k add end =
         let r = told add.step.does.0.0 t add.step.does.0.1 in
-        let imports : ImportsAt l.id span n t m.spaces new.spaces = subst (λ (s : LocalState). OnArena l.id (λ a b. Imported a span (plain_of n) t b) m.spaces s.spaces) end.0 (subst (λ z. OnArena l.id (λ a b. ImportOf a span (plain_of n) z b) m.spaces k.spaces) r add.step.does.0.2) in
+        let imports : ImportsAt l.id span n t m.spaces new.spaces = subst (λ (s : LocalState). OnArena l.id (λ a b. WasImported a span (plain_of n) t b) m.spaces s.spaces) end.0 (subst (λ z. OnArena l.id (λ a b. ImportOf a span (plain_of n) z b) m.spaces k.spaces) r add.step.does.0.2) in
         subst (λ z. Climbings (l ∷ up) n z old new.spaces) end.1 (inr (none, (span, m.spaces, upper, imports)))
     added_so (Err (adding.NoMemory y)) k add end =
         let same : y ≡ span = add.sound.1 in
@@ -202,8 +202,8 @@ module _ (arenas : List TreeArena) where
     added_so (Err (adding.Stopped y)) k add end = nothing_said (l ∷ up) n a old new.spaces (y, inr (sym end.1))
 
   -- what came of the climb above, once nothing had a base here
-  module _ (l : Level) (up : List Level) (n : ℕ) (old : List SpaceState) (new : LocalState) (a : Climbed) (law : IsStock old) (none : ¬ HasBase old l.id (plain_of n)) where
-    imported_so : (r : Climbed) (m : LocalState) → Climbings up (amount_of l up n) r old m.spaces → RunsTo arenas (on_import up l.id n r) m new a → Climbings (l ∷ up) n a old new.spaces
+  module _ (l : Level) (up : List Level) (n : ℕ) (old : List SpaceState) (new : LocalState) (a : ClimbEnd) (law : IsStock old) (none : ¬ HasBase old l.id (plain_of n)) where
+    imported_so : (r : ClimbEnd) (m : LocalState) → Climbings up (amount_of l up n) r old m.spaces → RunsTo arenas (on_import up l.id n r) m new a → Climbings (l ∷ up) n a old new.spaces
     imported_so (Ok span) m first last = added_so l up n span old m new a law none first last.1 last.0 last.2 last.3
     imported_so (Err climbing.NoFit) m first last = subst (λ z. Climbings (l ∷ up) n z old new.spaces) last.1 ((λ has. elim has [ inl here ↦ none here | inr there ↦ first.0 there ]), ap (λ (s : LocalState). s.spaces) (sym last.0) ∙ first.1)
     imported_so (Err climbing.BadRequest) m first last = subst (λ z. Climbings (l ∷ up) n z old new.spaces) last.1 (ap (λ (s : LocalState). s.spaces) (sym last.0) ∙ first)
@@ -213,12 +213,12 @@ module _ (arenas : List TreeArena) where
     imported_so (Err (climbing.Stopped None)) m first last = subst (λ z. Climbings (l ∷ up) n z old new.spaces) last.1 tt
     imported_so (Err (climbing.Stopped (Some y))) m first last = nothing_said (l ∷ up) n a old new.spaces (y, inr (sym last.1))
 
-  pub climb_ends : (chain : List Level) (n : ℕ) (old new : LocalState) (a : Climbed) → IsStock old.spaces → RunsTo arenas (climb_plan chain n) old new a → Climbings chain n a old.spaces new.spaces
+  pub climb_ends : (chain : List Level) (n : ℕ) (old new : LocalState) (a : ClimbEnd) → IsStock old.spaces → RunsTo arenas (climb_plan chain n) old new a → Climbings chain n a old.spaces new.spaces
   climb_ends [] n old new a law path = subst (λ z. Climbings [] n z old.spaces new.spaces) path.1 ((λ has. has), ap (λ (s : LocalState). s.spaces) (sym path.0))
   climb_ends (l ∷ up) n old new a law path = carved path.1 path.2 path.3 (climb_ends up (amount_of l up n))
     where
       carved : (x : Result Tag CarveFault) → SoundStep (nodes_of arenas) old (Carve l.id (plain_of n)) x path.0 → RunsTo arenas (on_carve (climb_plan up (amount_of l up n)) up l.id n x) path.0 new a
-          → ((s t : LocalState) (b : Climbed) → IsStock s.spaces → RunsTo arenas (climb_plan up (amount_of l up n)) s t b → Climbings up (amount_of l up n) b s.spaces t.spaces)
+          → ((s t : LocalState) (b : ClimbEnd) → IsStock s.spaces → RunsTo arenas (climb_plan up (amount_of l up n)) s t b → Climbings up (amount_of l up n) b s.spaces t.spaces)
           → Climbings (l ∷ up) n a old.spaces new.spaces
       carved (Ok t) step rest again =
           let on = does_carve old.spaces path.0.spaces l.id (plain_of n) law (Ok t) step.step.does.0 in

@@ -29,7 +29,7 @@ use Rattle.local_parts.specs.Steps.{IsSetUpAs, LocalStep}
 use Rattle.magazine_layer.specs.Depots.{DepotState}
 use Rattle.quantum_cache.proofs.LawProofs.{drain_handles}
 use Rattle.quantum_cache.specs.Caches.{chain_in, if_ok, over_arenas, over_caches}
-use Rattle.quantum_cache.specs.Drains.{Drained, Turn, drain_arena_plan, drain_cache_plan, drain_plan, drain_turn, on_drain_pop, on_put_back, on_turn}
+use Rattle.quantum_cache.specs.Drains.{DrainEnd, Turn, drain_arena_plan, drain_cache_plan, drain_plan, drain_turn, on_drain_pop, on_put_back, on_turn}
 use Rattle.quantum_cache.specs.Frees.{put_chunk}
 use Rattle.quantum_cache.specs.Laws.{drain_left}
 use Rattle.quantum_cache.specs.Sizes.{caches_in}
@@ -206,16 +206,16 @@ module _ (d : Picture) (n : ℕ) (turns : ℕ) (c : NumberedCpu) (s : LocalState
   path = seen d.tree (drain_plan turns d.tree) was s (Ok tt) run
 
   setup : IsSetUpAs was s
-  setup = plan_keeps_setup Drained (drain_plan turns d.tree) was s (Ok tt) path
+  setup = plan_keeps_setup DrainEnd (drain_plan turns d.tree) was s (Ok tt) path
 
   law : IsStock s.spaces
-  law = plan_keeps_stock Drained (drain_plan turns d.tree) was s (Ok tt) path held.units.parts
+  law = plan_keeps_stock DrainEnd (drain_plan turns d.tree) was s (Ok tt) path held.units.parts
 
   rounds_gone : cpu_rounds s.cpu ≡ cpu_rounds anew
   rounds_gone = no_rounds s.cpu (drain_empties_cpu turns d.tree was s (local d n c found None held) run) ∙ sym (rounds_flat anew ∙ fresh_cpu_fits.none d.spaces n)
 
   conserves : Conserves was None then_s None
-  conserves rest accounts = subst (λ ts. Accounts s.spaces (ts ++ rest)) rounds_gone (plan_conserves Drained drain_left (drain_plan turns d.tree) None (drain_handles turns d.tree) was s (Ok tt) path rest accounts)
+  conserves rest accounts = subst (λ ts. Accounts s.spaces (ts ++ rest)) rounds_gone (plan_conserves DrainEnd drain_left (drain_plan turns d.tree) None (drain_handles turns d.tree) was s (Ok tt) path rest accounts)
 
   set_up : IsSetUpAs was then_s
   set_up = record { plans = setup.plans; indexes = fresh_cpu_fits.of d.spaces n ∙ sym (of_stock d n c found None held []) }

@@ -1,6 +1,6 @@
 -- What is freed goes back.
 -- up the chain
-use Rattle.arena_tree.specs.Climbs.{Returned, on_free, return_left, return_plan}
+use Rattle.arena_tree.specs.Climbs.{ReturnEnd, on_free, return_left, return_plan}
 use Rattle.arena_tree.specs.Plans.{Path, Plan}
 use Rattle.arena_tree.specs.Trees.{nodes_of}
 use Rattle.arena_tree.specs.declared.levels.Level.{Level}
@@ -45,14 +45,14 @@ use Rattle.stock.specs.OwnCaches.{IsAtIndexesOf, OwnCacheState}
 use Rattle.stock.specs.Spaces.{IsCacheAt, QuantumCacheState, SpacePlan, SpaceState, plan_of, plans_of, slab_size_of, with_depot, with_slab}
 use Rattle.stock.specs.Steps.{FreeIn, IsOutOf, OnArena}
 use Rattle.stock.specs.Stocks.{IsQuantumCache, IsRoundOf, IsStock}
-use Rattle.tag_arena.specs.Outcomes.{Freed}
+use Rattle.tag_arena.specs.Outcomes.{WasFreed}
 use Rattle.arena_tree.specs.declared.part_faults.ReturnFault.TheVariants as returning
 
 pub returns_so : (arenas : List TreeArena) (chain : List Level) (t : Tag) (old new : LocalState) → RunsTo arenas (return_plan chain t) old new (Ok tt) → Returns new.spaces t old.spaces × (new.cpu ≡ old.cpu)
 returns_so arenas [] t old new path = absurd (let e : Err (returning.Stuck t) ≡ Ok tt = path.1 in cc)
 returns_so arenas (l ∷ up) t old new path = by path.2.step.does.0.0 path.2.step.does.0.1 path.2.step.does.0.2 (λ whole. returns_so arenas up whole path.0 new)
   where
-    on : (r : Option Tag) → FreeIn old.spaces t (Ok r) path.0.spaces → OnArena t.arena (λ a b. Freed a t r b) old.spaces path.0.spaces
+    on : (r : Option Tag) → FreeIn old.spaces t (Ok r) path.0.spaces → OnArena t.arena (λ a b. WasFreed a t r b) old.spaces path.0.spaces
     on r is = elim is [
       | inl there ↦ there
       | inr none ↦ absurd (let e : Ok r ≡ Err t = none.1 in cc)
@@ -62,7 +62,7 @@ returns_so arenas (l ∷ up) t old new path = by path.2.step.does.0.0 path.2.ste
         → ((whole : Tag) → RunsTo arenas (return_plan up whole) path.0 new (Ok tt) → Returns new.spaces whole path.0.spaces × (new.cpu ≡ path.0.cpu)) → Returns new.spaces t old.spaces × (new.cpu ≡ old.cpu)
     by (Ok None) told is again =
         let rest = subst (λ a. RunsTo arenas (on_free (return_plan up) a) path.0 new (Ok tt)) told path.3 in
-        (stays t old.spaces (subst (λ (s : LocalState). OnArena t.arena (λ a b. Freed a t None b) old.spaces s.spaces) rest.0 (on None is)), ap (λ (s : LocalState). s.cpu) (sym rest.0) ∙ path.2.step.does.1)
+        (stays t old.spaces (subst (λ (s : LocalState). OnArena t.arena (λ a b. WasFreed a t None b) old.spaces s.spaces) rest.0 (on None is)), ap (λ (s : LocalState). s.cpu) (sym rest.0) ∙ path.2.step.does.1)
     by (Ok (Some whole)) told is again =
         let rest = subst (λ a. RunsTo arenas (on_free (return_plan up) a) path.0 new (Ok tt)) told path.3 in
         let up_there = again whole rest in
@@ -210,7 +210,7 @@ module _ (d : Picture) (t : Tag) (s : LocalState) (held : IsHeld (t ∷ []) d) (
   abbrev was : LocalState
   was = reach d d.selected c found (Some t) held
 
-  abbrev plan : Plan Returned
+  abbrev plan : Plan ReturnEnd
   plan = free_plan (chain_in d.tree t.arena) t
 
   abbrev Goal : Type 0
@@ -220,13 +220,13 @@ module _ (d : Picture) (t : Tag) (s : LocalState) (held : IsHeld (t ∷ []) d) (
   last = run_lasts d.tree plan was s (Ok tt) run
 
   setup : IsSetUpAs was s
-  setup = plan_keeps_setup Returned plan was s (Ok tt) (seen d.tree plan was s (Ok tt) run)
+  setup = plan_keeps_setup ReturnEnd plan was s (Ok tt) (seen d.tree plan was s (Ok tt) run)
 
   kept : Everywhere (FitsIn s.spaces) s.cpu → IsHeld [] (with_parts s d) × SameSetup d (with_parts s d)
   kept fits =
       let path = seen d.tree plan was s (Ok tt) run in
-      let law = plan_keeps_stock Returned plan was s (Ok tt) path held.units.parts in
-      let conserves = plan_conserves Returned return_left plan (Some t) (free_handles (chain_in d.tree t.arena) t) was s (Ok tt) path in (
+      let law = plan_keeps_stock ReturnEnd plan was s (Ok tt) path held.units.parts in
+      let conserves = plan_conserves ReturnEnd return_left plan (Some t) (free_handles (chain_in d.tree t.arena) t) was s (Ok tt) path in (
         held_then d d.selected c found (Some t) held s None law conserves setup last fits,
         same_setup d d.selected c found (Some t) held s None law conserves setup last fits,
       )

@@ -13,7 +13,7 @@ use Rattle.deed_core.specs.Tag.{Tag}
 use Rattle.deed_core.specs.Weights.{weight_where, of_cached}
 use Rattle.deed_core.specs.Selections.{came_direct}
 use Rattle.deed_core.proofs.LawProofs.{all_at, sum_none, part_of_sum, sum_by-filter, sum_by-flat_map}
-use Rattle.tag_arena.specs.ArenaState.{ArenaState, IsSound, spans_of, ranges_of, tags_of, direct_tag}
+use Rattle.tag_arena.specs.ArenaState.{ArenaState, IsSoundArena, spans_of, ranges_of, tags_of, direct_tag}
 use Rattle.tag_arena.specs.Layout.{IsRun}
 use Rattle.tag_arena.proofs.LawProofs.{goes_empty, allocated_stand}
 use Rattle.slab_layer.specs.Slab.{SlabState}
@@ -102,7 +102,7 @@ module _ (d : Picture) (is : IsPicture d) (kept : NothingIsKept d) where
   -- so each span is a run of free units
   pub span_is_run : (k : ℕ) (s : SpaceState) → slice_get d.spaces k ≡ Some s → (span : Holding) → Contains s.arena.owned span → IsRun (spans_of s.arena) s.arena.allocated span
   span_is_run k s at span own =
-      let sound : IsSound s.arena = (is.units.parts k s at).sound in
+      let sound : IsSoundArena s.arena = (is.units.parts k s at).sound in
       let none : tags_of s.arena ≡ [] = no_tags s.arena (none_allocated (length d.spaces) k s at (omega arith)) in
       let more : List Holding = map (λ (t : Tag). t.holding) s.arena.imported in
       let within : own.0 < length (spans_of s.arena) = omega (arith, own.1, length-append s.arena.owned more) in

@@ -16,7 +16,7 @@ use Rattle.tag_arena.specs.ArenaState.{ArenaState}
 use Rattle.tag_arena.specs.Calls.{LeavesFree}
 use Rattle.tag_arena.specs.Outcomes.{FreeOf}
 use Rattle.deed_core.specs.Holding.{Holding}
-use Rattle.slab_layer.specs.Cache.{SlabCacheState, IsBelow, IsOfSize, IsSound}
+use Rattle.slab_layer.specs.Cache.{SlabCacheState, IsBelow, IsOfSize, IsSoundCache}
 use Rattle.slab_layer.specs.Calls.{ReapOf, Reaps}
 use Rattle.slab_layer.specs.Slab.{SlabState}
 use Rattle.magazine_layer.specs.Calls.{DepotReapOf}
@@ -156,7 +156,7 @@ removed_weighs (x ∷ xs) zero s at =
     omega (arith, ap span_units is, sum_by-cons span_units x xs)
 removed_weighs (x ∷ xs) (suc i) s at = let rest = removed_weighs xs i s at in omega (arith, rest, sum_by-cons span_units x xs, sum_by-cons span_units x (remove xs i))
 
-module _ (c new : SlabCacheState) (t : Tag) (i : ℕ) (s : SlabState) (sound : IsSound c) (did : Reaps i s c new t) where
+module _ (c new : SlabCacheState) (t : Tag) (i : ℕ) (s : SlabState) (sound : IsSoundCache c) (did : Reaps i s c new t) where
   stood : slice_get c.slabs i ≡ Some s
   stood = slice_get_here c.slabs i s did.lowest.stands.within (sym did.lowest.stands.is)
 
@@ -225,7 +225,7 @@ module _ (old new : List SpaceState) (k c : ℕ) where
     | inl on ↦
         let o = on.2 in
         let did : (i : ℕ) × (s : SlabState) × Reaps i s o.cache.slab o.slab t = subst (λ r. ReapOf o.cache.slab r o.slab) something o.does in
-        let sound : IsSound o.cache.slab = ((law k o.space o.at).caches on.0 o.cache o.among).sound in
+        let sound : IsSoundCache o.cache.slab = ((law k o.space o.at).caches on.0 o.cache o.among).sound in
         cache_takes old new k on.0 o.space o.cache (with_slab o.slab o.cache) o.at o.among o.after t.holding.range.len
         (slab_weighs o.cache.slab o.slab t did.0 did.1 sound did.2) refl (slab_loses o.cache.slab o.slab t did.0 did.1 sound did.2)
     | inr none ↦ absurd (let e : Some t ≡ None = sym something ∙ none.1.0 in cc)

@@ -7,7 +7,7 @@ use Rattle.arena_tree.specs.declared.part_faults.FreeFault.{FreeFault}
 use Rattle.arena_tree.specs.declared.part_faults.FreeFault.TheVariants as freeing
 use Rattle.arena_tree.specs.declared.part_faults.Stopped.{Stopped}
 use Rattle.arena_tree.specs.declared.part_faults.ReturnFault.TheVariants as returning
-use Rattle.arena_tree.specs.Climbs.{Returned, return_plan, on_free}
+use Rattle.arena_tree.specs.Climbs.{ReturnEnd, return_plan, on_free}
 use Rattle.arena_tree.specs.Events.{Free, SlabReap, DepotReap}
 use Rattle.arena_tree.specs.Plans.{Plan, Done, then}
 use Rattle.arena_tree.specs.Trees.{nodes_of}
@@ -15,7 +15,7 @@ use Rattle.arena_tree.proofs.LawProofs.{path_split}
 use Rattle.quantum_cache.specs.declared.reaps.Reaping.{Reaping}
 use Rattle.quantum_cache.specs.Caches.{chain_in, if_ok, over_caches, over_arenas}
 use Rattle.quantum_cache.specs.Frees.{on_slab_put, put_chunk}
-use Rattle.quantum_cache.specs.Reaps.{Reaped, ReapEnd, on_return, on_depot_reap, reap_round, on_slab_reap, reap_slab, on_look, looks_in_turn, reap_steps, reap_cache, reap_arena_plan, reap_plan}
+use Rattle.quantum_cache.specs.Reaps.{LookEnd, ReapEnd, on_return, on_depot_reap, reap_round, on_slab_reap, reap_slab, on_look, looks_in_turn, reap_steps, reap_cache, reap_arena_plan, reap_plan}
 use Rattle.quantum_cache.specs.Sizes.{caches_in}
 use Rattle.stock.specs.Stocks.{IsStock}
 use Rattle.local_parts.specs.States.{LocalState}
@@ -46,19 +46,19 @@ then_none : (n : ℕ) (s t u : LocalState) → Leaves n s t → Leaves 0 t u →
 then_none n s t u first second = let e : n + 0 ≡ n = omega arith in subst (λ m. Leaves m s u) e (leaves_then n 0 s t u first second)
 
 -- by what a look came to
-abbrev LookLeaves : LocalState → LocalState → Reaped → Type 0
+abbrev LookLeaves : LocalState → LocalState → LookEnd → Type 0
 LookLeaves old new (Ok (Some units)) = Leaves units old new
 LookLeaves old new (Ok None) = Leaves 0 old new
 LookLeaves old new (Err f) = Unit {0}
 
-returned_leaves : (old new : LocalState) (units : ℕ) (a : Returned) → Leaves units old new → LookLeaves old new (on_return units a)
+returned_leaves : (old new : LocalState) (units : ℕ) (a : ReturnEnd) → Leaves units old new → LookLeaves old new (on_return units a)
 returned_leaves old new units (Ok u) leaves = leaves
 returned_leaves old new units (Err (returning.Stuck t)) leaves = tt
 returned_leaves old new units (Err (returning.Stopped t)) leaves = tt
 
 module _ (arenas : List TreeArena) where
   -- a round goes to its slab
-  put_leaves : (t : Tag) (old mid new : LocalState) (r : Reaped) → Leaves 0 old mid → RunsTo arenas (then (put_chunk t) (λ a. Done (on_return 0 a))) mid new r → LookLeaves old new r
+  put_leaves : (t : Tag) (old mid new : LocalState) (r : LookEnd) → Leaves 0 old mid → RunsTo arenas (then (put_chunk t) (λ a. Done (on_return 0 a))) mid new r → LookLeaves old new r
   unfolding put_chunk
   put_leaves t old mid new r before run =
       let step = run.2.step in
@@ -67,7 +67,7 @@ module _ (arenas : List TreeArena) where
       subst (LookLeaves old new) run.3.1 (returned_leaves old new 0 (on_slab_put run.1) all)
 
   -- a look at a depot
-  round_leaves : (k c : ℕ) (old new : LocalState) (r : Reaped) → RunsTo arenas (reap_round k c) old new r → LookLeaves old new r
+  round_leaves : (k c : ℕ) (old new : LocalState) (r : LookEnd) → RunsTo arenas (reap_round k c) old new r → LookLeaves old new r
   unfolding reap_round
   round_leaves k c old new r path = looked path.1 path.2 path.3
     where
@@ -83,7 +83,7 @@ module _ (arenas : List TreeArena) where
       looked (Err e) step rest = absurd (let x : Err e ≡ Ok step.step.does.0.0 = step.step.does.0.1 in cc)
 
   -- spans that go back
-  frees_leave : (chain : List Level) (t : Tag) (old new : LocalState) (r : Returned) → RunsTo arenas (return_plan chain t) old new r → Leaves 0 old new
+  frees_leave : (chain : List Level) (t : Tag) (old new : LocalState) (r : ReturnEnd) → RunsTo arenas (return_plan chain t) old new r → Leaves 0 old new
   frees_leave [] t old new r path = subst (Leaves 0 old) path.0 (leaves_none old)
   frees_leave (l ∷ up) t old new r path = freed path.1 path.2 path.3 (λ w. frees_leave up w)
     where
@@ -93,14 +93,14 @@ module _ (arenas : List TreeArena) where
       leaves : (x : Result (Option Tag) (FreeFault Tag)) → SoundStep (nodes_of arenas) old (Free t) x mid → Leaves 0 old mid
       leaves x step = record { stock = λ law. step.step.stock; takes = λ law. free_takes old.spaces mid.spaces t x step.step.does.0; cpu = step.step.does.1 }
 
-      freed : (x : Result (Option Tag) (FreeFault Tag)) → SoundStep (nodes_of arenas) old (Free t) x mid → RunsTo arenas (on_free (return_plan up) x) mid new r → ((w : Tag) (s u : LocalState) (a : Returned) → RunsTo arenas (return_plan up w) s u a → Leaves 0 s u) → Leaves 0 old new
+      freed : (x : Result (Option Tag) (FreeFault Tag)) → SoundStep (nodes_of arenas) old (Free t) x mid → RunsTo arenas (on_free (return_plan up) x) mid new r → ((w : Tag) (s u : LocalState) (a : ReturnEnd) → RunsTo arenas (return_plan up w) s u a → Leaves 0 s u) → Leaves 0 old new
       freed (Ok (Some w)) step rest again = none_then 0 old mid new (leaves (Ok (Some w)) step) (again w mid new r rest)
       freed (Ok None) step rest again = subst (Leaves 0 old) rest.0 (leaves (Ok None) step)
       freed (Err (freeing.BadFree w)) step rest again = subst (Leaves 0 old) rest.0 (leaves (Err (freeing.BadFree w)) step)
       freed (Err (freeing.Stopped w)) step rest again = subst (Leaves 0 old) rest.0 (leaves (Err (freeing.Stopped w)) step)
 
   -- a look at slabs
-  slab_leaves : (chain : List Level) (k c : ℕ) (old new : LocalState) (r : Reaped) → RunsTo arenas (reap_slab chain k c) old new r → LookLeaves old new r
+  slab_leaves : (chain : List Level) (k c : ℕ) (old new : LocalState) (r : LookEnd) → RunsTo arenas (reap_slab chain k c) old new r → LookLeaves old new r
   unfolding reap_slab
   slab_leaves chain k c old new r path = looked path.1 path.2 path.3
     where
@@ -136,7 +136,7 @@ adds_then x y z s t u first second = record {
 
 module _ (arenas : List TreeArena) where
   -- looks one after another
-  looks_add : (look : Plan Reaped) → ((s t : LocalState) (r : Reaped) → RunsTo arenas look s t r → LookLeaves s t r) → (n units : ℕ) (s t : LocalState) (y : Reaping) → RunsTo arenas (looks_in_turn look n units) s t (Ok y) → Adds (record { left = n; units = units }) y s t
+  looks_add : (look : Plan LookEnd) → ((s t : LocalState) (r : LookEnd) → RunsTo arenas look s t r → LookLeaves s t r) → (n units : ℕ) (s t : LocalState) (y : Reaping) → RunsTo arenas (looks_in_turn look n units) s t (Ok y) → Adds (record { left = n; units = units }) y s t
   looks_add look one zero units s t y path =
       let is : record { left = 0; units = units } ≡ y = (let e : Ok (record { left = 0; units = units }) ≡ Ok y = path.1 in cc) in
       adds_none (record { left = 0; units = units }) y s t path.0 (ap (λ (r : Reaping). r.units) is)
@@ -144,7 +144,7 @@ module _ (arenas : List TreeArena) where
       let split = path_split (SoundStep (nodes_of arenas)) look (on_look (looks_in_turn look n) n units) s t (Ok y) path in
       looked split.0 split.1 (one s split.0 split.1 split.2) split.3 (λ sum. looks_add look one n sum split.0 t y)
     where
-      looked : (m : LocalState) (r : Reaped) → LookLeaves s m r → RunsTo arenas (on_look (looks_in_turn look n) n units r) m t (Ok y) → ((sum : ℕ) → RunsTo arenas (looks_in_turn look n sum) m t (Ok y) → Adds (record { left = n; units = sum }) y m t) → Adds (record { left = suc n; units = units }) y s t
+      looked : (m : LocalState) (r : LookEnd) → LookLeaves s m r → RunsTo arenas (on_look (looks_in_turn look n) n units r) m t (Ok y) → ((sum : ℕ) → RunsTo arenas (looks_in_turn look n sum) m t (Ok y) → Adds (record { left = n; units = sum }) y m t) → Adds (record { left = suc n; units = units }) y s t
       looked m (Ok (Some more)) first rest again =
           adds_then (record { left = suc n; units = units }) (record { left = n; units = units + more }) y s m t (record { units = more; told = refl; leaves = first }) (again (units + more) rest)
       looked m (Ok None) first rest again =

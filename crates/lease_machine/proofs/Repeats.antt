@@ -99,10 +99,10 @@ known_last d id r is known = by r is known
     by (reply.Error o) is known = absurd is
 
 module _ (old mid : Picture) (id : RequestId) (history : HasHistory old.book) where
-  abbrev Answered : Reply → Type 0
-  Answered r = (k : Kept) × IsLast mid.book id k × (r ≡ reply_to (arena_named old.tree) id k.reply)
+  abbrev WasAnswered : Reply → Type 0
+  WasAnswered r = (k : Kept) × IsLast mid.book id k × (r ≡ reply_to (arena_named old.tree) id k.reply)
 
-  new_lease_kept : (l : _) (r : Reply) → IsKept r → NewRequest id (ops.Lease l) old mid r → Answered r
+  new_lease_kept : (l : _) (r : Reply) → IsKept r → NewRequest id (ops.Lease l) old mid r → WasAnswered r
   new_lease_kept l (reply.Granted g) is does =
       let s : Settlement = Grant does.segment (record { quantum = does.arena.quantum; request = demand_of l }) in
       (kept_settlement id.number s, settled_now old.book mid.book id s history does.granted.entry, does.reply)
@@ -115,7 +115,7 @@ module _ (old mid : Picture) (id : RequestId) (history : HasHistory old.book) wh
   new_lease_kept l (reply.Welcome x) is does = absurd is
   new_lease_kept l (reply.Error x) is does = absurd is
 
-  new_release_kept : (l : _) (r : Reply) → IsKept r → NewRequest id (ops.Release l) old mid r → Answered r
+  new_release_kept : (l : _) (r : Reply) → IsKept r → NewRequest id (ops.Release l) old mid r → WasAnswered r
   new_release_kept l (reply.Released p) is does =
       let s : Settlement = Return does.1.index l.base in
       (kept_settlement id.number s, settled_now old.book mid.book id s history does.1.released.entry, ap (λ (x : RequestId). reply.Released x) does.0)
@@ -128,11 +128,11 @@ module _ (old mid : Picture) (id : RequestId) (history : HasHistory old.book) wh
   new_release_kept l (reply.Welcome x) is does = absurd is
   new_release_kept l (reply.Error x) is does = absurd is
 
-  new_kept : (op : Op) (r : Reply) → IsKept r → NewRequest id op old mid r → Answered r
+  new_kept : (op : Op) (r : Reply) → IsKept r → NewRequest id op old mid r → WasAnswered r
   new_kept (ops.Lease l) r is does = new_lease_kept l r is does
   new_kept (ops.Release l) r is does = new_release_kept l r is does
 
-  pub request_kept : (op : Op) (r : Reply) → RequestStep id op old mid r → IsKept r → Answered r
+  pub request_kept : (op : Op) (r : Reply) → RequestStep id op old mid r → IsKept r → WasAnswered r
   request_kept op r step is = elim step [
     | inl known ↦
         let last = known_last old id r is known.0 in

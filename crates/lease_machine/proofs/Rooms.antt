@@ -7,7 +7,7 @@ use Rattle.deed_core.specs.Holding.{Holding, Apart}
 use Rattle.deed_core.specs.Request.{IsPlain, plain_of}
 use Rattle.deed_core.specs.declared.requests.Request.{Request}
 use Rattle.deed_core.proofs.LawProofs.{plain_is_of_its_size}
-use Rattle.tag_arena.specs.ArenaState.{ArenaState, IsSound, spans_of}
+use Rattle.tag_arena.specs.ArenaState.{ArenaState, IsSoundArena, spans_of}
 use Rattle.tag_arena.specs.Layout.{IsRun, IsPartOf, IsEdgedRun}
 use Rattle.tag_arena.specs.Place.{Serves, ServesIn}
 use Rattle.arena_tree.specs.declared.trees.TreeArena.{TreeArena}
@@ -48,7 +48,7 @@ module _ (spans : List Holding) (apart : AllPairs Apart spans) (u : ℕ) where
   ]
 
 -- a run of free units lies in a free range
-in_free : (a : ArenaState) → IsSound a → (r : Holding) → IsRun (spans_of a) a.allocated r → Any (λ f. (f.range.base ≤ r.range.base) × (end_of r.range ≤ end_of f.range)) a.free
+in_free : (a : ArenaState) → IsSoundArena a → (r : Holding) → IsRun (spans_of a) a.allocated r → Any (λ f. (f.range.base ≤ r.range.base) × (end_of r.range ≤ end_of f.range)) a.free
 in_free a sound r run =
     let whole = sound.divided.whole in
     let s = run.inside in
@@ -79,7 +79,7 @@ in_free a sound r run =
     ]
 
 -- and what it serves, that range does
-pub run_serves : (a : ArenaState) → IsSound a → (q : Request) (r : Holding) (base : ℕ) → IsRun (spans_of a) a.allocated r → ServesIn a.quantum q r base → Serves a.quantum q a.free base
+pub run_serves : (a : ArenaState) → IsSoundArena a → (q : Request) (r : Holding) (base : ℕ) → IsRun (spans_of a) a.allocated r → ServesIn a.quantum q r base → Serves a.quantum q a.free base
 run_serves a sound q r base run serves =
     let f = in_free a sound r run in
     (f.0, f.1, f.2, f.3, record { fits = serves.fits; from = omega (arith, serves.from, f.4.0); to = omega (arith, serves.to, f.4.1) })

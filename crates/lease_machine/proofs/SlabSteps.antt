@@ -1,6 +1,6 @@
 -- What the last stages of an allocation by a cache come to: a slab, or a climb for the size itself.
 use Rattle.arena_tree.proofs.LawProofs.{path_split}
-use Rattle.arena_tree.specs.Climbs.{Climbed, climb_plan}
+use Rattle.arena_tree.specs.Climbs.{ClimbEnd, climb_plan}
 use Rattle.arena_tree.specs.Events.{SlabAdd}
 use Rattle.arena_tree.specs.Plans.{Done, first_that_gives, or_else}
 use Rattle.arena_tree.specs.Trees.{nodes_of}
@@ -56,7 +56,7 @@ module _ (arenas : List TreeArena) (chain : List Level) (l : Level) (size j : �
   IsCut t old new = (span : Tag) × (mid : List SpaceState) × Climbs chain l.slab_size span old mid × OnSlab l.id j (λ a b. AddOf a span (Ok t) b) mid new × IsStock mid
 
   -- by the answer
-  abbrev pub LastStages : Climbed → List SpaceState → List SpaceState → Type 0
+  abbrev pub LastStages : ClimbEnd → List SpaceState → List SpaceState → Type 0
   LastStages (Ok t) old new = IsCut t old new ⊎ ((¬ HasBaseUp old chain l.slab_size) × Climbs chain size t old new)
   LastStages (Err climbing.BadRequest) old new = Unit {0}
   LastStages (Err climbing.NoFit) old new = (¬ HasBaseUp old chain l.slab_size) × (¬ HasBaseUp old chain size) × (new ≡ old)
@@ -66,7 +66,7 @@ module _ (arenas : List TreeArena) (chain : List Level) (l : Level) (size j : �
   LastStages (Err (climbing.Stopped o)) old new = Unit {0}
 
   -- the span came
-  module _ (span : Tag) (old : List SpaceState) (m new : LocalState) (a : Climbed) where
+  module _ (span : Tag) (old : List SpaceState) (m new : LocalState) (a : ClimbEnd) where
     nothing_said : IsStuck arenas a → LastStages a old new.spaces
     nothing_said is = elim is.1 [
       | inl e ↦ subst (λ z. LastStages z old new.spaces) (sym e) tt
@@ -116,7 +116,7 @@ module _ (arenas : List TreeArena) (chain : List Level) (l : Level) (size j : �
 
   -- the fourth stage: what ends the allocation, or nothing, where no span for a slab has a base
   abbrev pub SlabStage : LocalState → LocalState → Stage → Type 0
-  SlabStage old new r = ((a : Climbed) × (r ≡ Some a) × LastStages a old.spaces new.spaces × (new.cpu ≡ old.cpu))
+  SlabStage old new r = ((a : ClimbEnd) × (r ≡ Some a) × LastStages a old.spaces new.spaces × (new.cpu ≡ old.cpu))
       ⊎ ((r ≡ None) × (¬ HasBaseUp old.spaces chain l.slab_size) × (new.spaces ≡ old.spaces) × (new.cpu ≡ old.cpu))
 
   pub slab_stage : (old new : LocalState) (r : Stage) → IsStock old.spaces → RunsTo arenas (take_from_slab chain l (j + 1)) old new r → SlabStage old new r
@@ -124,12 +124,12 @@ module _ (arenas : List TreeArena) (chain : List Level) (l : Level) (size j : �
   slab_stage old new r law path =
       let split = path_split (SoundStep (nodes_of arenas)) (climb_plan chain l.slab_size) (on_slab_climb chain l.id (j + 1)) old new r path in
       by split.0 split.1 (climb_ends arenas chain l.slab_size old split.0 split.1 law split.2) (climb_cpu arenas chain l.slab_size old split.0 split.1 split.2)
-      (plan_keeps_stock Climbed (climb_plan chain l.slab_size) old split.0 split.1 (seen arenas (climb_plan chain l.slab_size) old split.0 split.1 split.2) law) split.3
+      (plan_keeps_stock ClimbEnd (climb_plan chain l.slab_size) old split.0 split.1 (seen arenas (climb_plan chain l.slab_size) old split.0 split.1 split.2) law) split.3
     where
-      ended : (m : LocalState) (a : Climbed) → m.cpu ≡ old.cpu → m ≡ new → Some a ≡ r → LastStages a old.spaces m.spaces → SlabStage old new r
+      ended : (m : LocalState) (a : ClimbEnd) → m.cpu ≡ old.cpu → m ≡ new → Some a ≡ r → LastStages a old.spaces m.spaces → SlabStage old new r
       ended m a cpu same is on = inl (a, sym is, subst (λ (z : LocalState). LastStages a old.spaces z.spaces) same on, ap (λ (z : LocalState). z.cpu) (sym same) ∙ cpu)
 
-      by : (m : LocalState) (b : Climbed) → Climbings chain l.slab_size b old.spaces m.spaces → m.cpu ≡ old.cpu → IsStock m.spaces → RunsTo arenas (on_slab_climb chain l.id (j + 1) b) m new r → SlabStage old new r
+      by : (m : LocalState) (b : ClimbEnd) → Climbings chain l.slab_size b old.spaces m.spaces → m.cpu ≡ old.cpu → IsStock m.spaces → RunsTo arenas (on_slab_climb chain l.id (j + 1) b) m new r → SlabStage old new r
       by m (Ok span) on cpu mid rest =
           let split = path_split (SoundStep (nodes_of arenas)) (make_slab chain l.id (j + 1) span) (λ a. Done (Some a)) m new r rest in
           let cut = span_cut span old.spaces m split.0 split.1 law mid on split.2 in
@@ -141,7 +141,7 @@ module _ (arenas : List TreeArena) (chain : List Level) (l : Level) (size j : �
       by m (Err (climbing.Stopped o)) on cpu mid rest = ended m (Err (climbing.Stopped o)) cpu rest.0 rest.1 tt
 
   -- the last
-  size_stage : (a : Climbed) (old new : List SpaceState) → (¬ HasBaseUp old chain l.slab_size) → Climbings chain size a old new → LastStages a old new
+  size_stage : (a : ClimbEnd) (old new : List SpaceState) → (¬ HasBaseUp old chain l.slab_size) → Climbings chain size a old new → LastStages a old new
   size_stage (Ok t) old new none on = inr (none, on)
   size_stage (Err climbing.BadRequest) old new none on = tt
   size_stage (Err climbing.NoFit) old new none on = (none, on.0, on.1)
@@ -158,16 +158,16 @@ module _ (arenas : List TreeArena) (chain : List Level) (l : Level) (size j : �
     IsIdle t new = (y : CpuCacheState) × (x : SlabCacheState) × (new ≡ there s l.id j f y (with_slab x f.cache)) × LacksRounds f.cache.depot f.own.cpu y × TakeOf f.cache.slab (Some t) x
 
     -- there is none either
-    abbrev pub IsLast : Climbed → LocalState → Type 0
+    abbrev pub IsLast : ClimbEnd → LocalState → Type 0
     IsLast a new = (y : CpuCacheState) × LacksRounds f.cache.depot f.own.cpu y × All IsAllOut f.cache.slab.slabs × (new.cpu ≡ (here y).cpu) × LastStages a s.spaces new.spaces
 
-    abbrev pub Ends : Climbed → LocalState → Type 0
+    abbrev pub Ends : ClimbEnd → LocalState → Type 0
     Ends a new = ((t : Tag) × (a ≡ Ok t) × stages.IsRound arenas s l.id j f sized t new) ⊎ ((t : Tag) × (a ≡ Ok t) × IsIdle t new) ⊎ IsLast a new
 
     spaces_here : (y : CpuCacheState) → (here y).spaces ≡ s.spaces
     spaces_here y = ap (λ (z : LocalState). z.spaces) (sym (itself s l.id j f))
 
-    last_stages : (y : CpuCacheState) (m new : LocalState) (a : Climbed) → LacksRounds f.cache.depot f.own.cpu y → All IsAllOut f.cache.slab.slabs → m ≡ here y
+    last_stages : (y : CpuCacheState) (m new : LocalState) (a : ClimbEnd) → LacksRounds f.cache.depot f.own.cpu y → All IsAllOut f.cache.slab.slabs → m ≡ here y
         → RunsTo arenas (first_that_gives (take_from_slab chain l (j + 1) ∷ []) (climb_plan chain size)) m new a → IsLast a new
     last_stages y m new a lacks out state path =
         let spaces : m.spaces ≡ s.spaces = ap (λ (z : LocalState). z.spaces) state ∙ spaces_here y in
@@ -187,7 +187,7 @@ module _ (arenas : List TreeArena) (chain : List Level) (l : Level) (size j : �
               (y, lacks, out, climb_cpu arenas chain size p.0 new a rest ∙ (none.3 ∙ cpu), size_stage a s.spaces new.spaces has on)
         ]
 
-    chunk_stages : (y : CpuCacheState) (m new : LocalState) (a : Climbed) → LacksRounds f.cache.depot f.own.cpu y → m ≡ here y
+    chunk_stages : (y : CpuCacheState) (m new : LocalState) (a : ClimbEnd) → LacksRounds f.cache.depot f.own.cpu y → m ≡ here y
         → RunsTo arenas (first_that_gives (take_chunk l.id (j + 1) ∷ take_from_slab chain l (j + 1) ∷ []) (climb_plan chain size)) m new a → Ends a new
     chunk_stages y m new a lacks state path =
         let p = path_split (SoundStep (nodes_of arenas)) (take_chunk l.id (j + 1)) (or_else (first_that_gives (take_from_slab chain l (j + 1) ∷ []) (climb_plan chain size))) m new a path in
@@ -201,7 +201,7 @@ module _ (arenas : List TreeArena) (chain : List Level) (l : Level) (size j : �
         ]
 
     -- all stages
-    pub alloc_ends : (new : LocalState) (a : Climbed) → RunsTo arenas (alloc_cached chain l (j + 1) size) s new a → Ends a new
+    pub alloc_ends : (new : LocalState) (a : ClimbEnd) → RunsTo arenas (alloc_cached chain l (j + 1) size) s new a → Ends a new
     unfolding alloc_cached
     alloc_ends new a run =
         let p = path_split (SoundStep (nodes_of arenas)) (take_round l.id (j + 1)) (or_else (first_that_gives (take_from_depot l.id (j + 1) ∷ take_chunk l.id (j + 1) ∷ take_from_slab chain l (j + 1) ∷ []) (climb_plan chain size))) s new a run in

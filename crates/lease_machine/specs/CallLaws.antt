@@ -9,7 +9,7 @@ use Rattle.arena_tree.specs.declared.part_faults.CarveFault.{CarveFault}
 use Rattle.arena_tree.specs.declared.part_faults.CarveFault.TheVariants as carving
 use Rattle.arena_tree.specs.declared.part_faults.ClimbFault.TheVariants as climbing
 use Rattle.arena_tree.specs.declared.trees.TreeArena.{TreeArena}
-use Rattle.arena_tree.specs.Climbs.{Climbed}
+use Rattle.arena_tree.specs.Climbs.{ClimbEnd}
 use Rattle.quantum_cache.specs.Allocs.{alloc_plan, xalloc_plan}
 use Rattle.quantum_cache.specs.Caches.{chain_in}
 use Rattle.quantum_cache.specs.Drains.{drain_plan}
@@ -60,7 +60,7 @@ XallocCarves = (d : Picture) (index : ℕ) (x : TreeArena) (q : Request) (s : Lo
     → IsCarvedFor index x q d a (with_parts s d)
 
 -- and of any other whose size no cache serves
-abbrev pub IsClimbedFor : ℕ → TreeArena → Request → Picture → Climbed → Picture → Type 0
+abbrev pub IsClimbedFor : ℕ → TreeArena → Request → Picture → ClimbEnd → Picture → Type 0
 IsClimbedFor index x q d (Ok t) new = IsGood x.quantum q × CanServe d index x q
     × ServesWith index x q t d new × IsHeld (t ∷ []) new × SameSetup d new
 IsClimbedFor index x q d (Err climbing.BadRequest) new = (¬ IsGood x.quantum q) × (new ≡ d)
@@ -73,12 +73,12 @@ IsClimbedFor index x q d (Err (climbing.Stopped o)) new = ⊥
 
 abbrev pub AllocClimbs : Type 0
 AllocClimbs = (d : Picture) (index : ℕ) (x : TreeArena) (q : Request) (s : LocalState)
-    (a : Climbed) → IsHeld [] d → slice_get d.tree index ≡ Some x → IsPlain q → ¬ IsCachedIn x q
+    (a : ClimbEnd) → IsHeld [] d → slice_get d.tree index ≡ Some x → IsPlain q → ¬ IsCachedIn x q
     → RunsTo d.tree (alloc_plan (chain_in d.tree index) q.size) (parts_in d) s a
     → IsClimbedFor index x q d a (with_parts s d)
 
 -- and of one that a cache serves: where nothing fits, the CPU may still have changed over
-abbrev pub IsFromCaches : ℕ → TreeArena → Request → Picture → Climbed → Picture → Type 0
+abbrev pub IsFromCaches : ℕ → TreeArena → Request → Picture → ClimbEnd → Picture → Type 0
 IsFromCaches index x q d (Ok t) new = IsGood x.quantum q × CanServe d index x q
     × ServesWith index x q t d new × IsHeld (t ∷ []) new × SameSetup d new
 IsFromCaches index x q d (Err climbing.BadRequest) new = (¬ IsGood x.quantum q) × (new ≡ d)
@@ -91,7 +91,7 @@ IsFromCaches index x q d (Err (climbing.Stopped o)) new = ⊥
 
 abbrev pub AllocFromCaches : Type 0
 AllocFromCaches = (d : Picture) (index : ℕ) (x : TreeArena) (q : Request) (s : LocalState)
-    (a : Climbed) → IsHeld [] d → slice_get d.tree index ≡ Some x → IsPlain q → IsCachedIn x q
+    (a : ClimbEnd) → IsHeld [] d → slice_get d.tree index ≡ Some x → IsPlain q → IsCachedIn x q
     → RunsTo d.tree (alloc_plan (chain_in d.tree index) q.size) (parts_in d) s a
     → IsFromCaches index x q d a (with_parts s d)
 

@@ -4,7 +4,7 @@ use Rattle.deed_core.specs.Tag.{Tag}
 use Rattle.deed_core.specs.Request.{plain_of}
 use Rattle.deed_core.specs.declared.requests.Request.{Request}
 use Rattle.tag_arena.specs.ArenaState.{ArenaState}
-use Rattle.tag_arena.specs.Outcomes.{Carved, Imported, Freed}
+use Rattle.tag_arena.specs.Outcomes.{WasCarved, WasImported, WasFreed}
 use Rattle.tag_arena.specs.Place.{Serves}
 use Rattle.arena_tree.specs.declared.levels.Level.{Level}
 use Rattle.arena_tree.specs.Chains.{amount_of}
@@ -28,12 +28,12 @@ HasBaseUp spaces (l ∷ up) n =
 
 -- the segment was carved for the request where the arena's policy chose, and nothing else changed
 abbrev pub CarvesAt : ℕ → Request → Tag → List SpaceState → List SpaceState → Type 0
-CarvesAt index q t old new = OnArena index (λ a b. Carved a q t b) old new
+CarvesAt index q t old new = OnArena index (λ a b. WasCarved a q t b) old new
 
 -- the span was imported, and the segment is its first units
 abbrev pub ImportsAt : ℕ → Tag → ℕ → Tag → List SpaceState → List SpaceState → Type 0
 ImportsAt index span n t old new =
-    OnArena index (λ a b. Imported a span (plain_of n) t b) old new
+    OnArena index (λ a b. WasImported a span (plain_of n) t b) old new
 
 -- the segment of so many units was carved in the first arena of the chain or, where no address of
 -- that served, of a span that it imported from the next
@@ -46,9 +46,9 @@ Climbs (l ∷ up) n t old new = CarvesAt l.id (plain_of n) t old new
 -- the segment was freed; where that made an imported span whole, that went to its source, and so on
 pub data Returns (new : List SpaceState) : Tag → List SpaceState → Type 0 where
   stays : (t : Tag) (old : List SpaceState)
-      → OnArena t.arena (λ a b. Freed a t None b) old new → Returns new t old
+      → OnArena t.arena (λ a b. WasFreed a t None b) old new → Returns new t old
   rises : (t whole : Tag) (old mid : List SpaceState)
-      → OnArena t.arena (λ a b. Freed a t (Some whole) b) old mid → Returns new whole mid
+      → OnArena t.arena (λ a b. WasFreed a t (Some whole) b) old mid → Returns new whole mid
       → Returns new t old
 
 -- nothing changed, or what was carved for the request went back

@@ -5,7 +5,7 @@ use Rattle.std.proofs.lemmas.Bool.{ne_eqb, cases_Bool, cases_eq, leb-true, leb-f
 use Rattle.std.proofs.Math.Seq.{take-append-add}
 use Rattle.std.specs.List.{flat_map, AllByRecursion}
 use Rattle.lease_proto.specs.declared.limits.TheConstants.{LONGEST_LINE, LINE_ROOM}
-use Rattle.lease_proto.specs.Frames.{frame_of, last_of, frames_in, rest_in, with_line_feed, IsOneLine, FramesAreLines, InputIsLines}
+use Rattle.lease_proto.specs.Frames.{frame_of, frames_of_rest, frames_in, rest_in, with_line_feed, IsOneLine, FramesAreLines, InputIsLines}
 use Rattle.lease_proto.specs.declared.faults.LineFault.TheVariants.{TooLong, BadLine}
 
 -- text with no line feed goes onto the line begun
@@ -71,9 +71,9 @@ frame_of-take line = elim (cases_Bool (nat_le (length line) LONGEST_LINE)) [
   | inr over ↦ rw (fits-take line, over) refl
 ]
 
-pub last_of-take : (line : List ℕ) → last_of (take LINE_ROOM line) ≡ last_of line
-last_of-take [] = refl
-last_of-take (b ∷ bs) = ap (λ t. cond t (Err BadLine) (Err TooLong) ∷ []) (fits-take (b ∷ bs))
+pub frames_of_rest-take : (line : List ℕ) → frames_of_rest (take LINE_ROOM line) ≡ frames_of_rest line
+frames_of_rest-take [] = refl
+frames_of_rest-take (b ∷ bs) = ap (λ t. cond t (Err BadLine) (Err TooLong) ∷ []) (fits-take (b ∷ bs))
 
 pub frames_in-take : (line bs : List ℕ) → frames_in (take LINE_ROOM line) bs ≡ frames_in line bs
 frames_in-take line [] = refl

@@ -13,7 +13,7 @@ use Rattle.lease_proto.specs.declared.faults.ErrorWord.{ErrorWord}
 use Rattle.lease_proto.specs.declared.faults.ErrorWord.TheVariants as errors
 use Rattle.lease_proto.specs.declared.replies.Welcome.{Welcome}
 use Rattle.lease_proto.specs.declared.replies.Granted.{Granted}
-use Rattle.lease_proto.specs.declared.replies.Refused.{Refused}
+use Rattle.lease_proto.specs.declared.replies.RefusedRequest.{RefusedRequest}
 use Rattle.lease_proto.specs.declared.replies.Old.{Old}
 use Rattle.lease_proto.specs.declared.replies.OutOfTurn.{OutOfTurn}
 use Rattle.lease_proto.specs.declared.replies.Again.{Again}
@@ -254,7 +254,7 @@ released_says words read e =
     let n_word = said.3 in
     (said.0, cc)))
 
-pub refused_says : (words : List (List ℕ)) (read : Refused) → refused_in words ≡ Ok read → IsRequestId read.id × (words ≡ refused_words read)
+pub refused_says : (words : List (List ℕ)) (read : RefusedRequest) → refused_in words ≡ Ok read → IsRequestId read.id × (words ≡ refused_words read)
 unfolding refused_in
 refused_says words read e =
     id_at_step words _ read e (λ wc wi wn w1 words_are e1.
@@ -263,7 +263,7 @@ refused_says words read e =
     end_step w2 _ read e3 (λ end_is e4.
     id_step wc wi wn _ read e4 (λ id is c_word i_word n_word e5.
     let read_is : record { id = id; refusal = refusal } ≡ read = cc in
-    subst (λ (r : Refused). IsRequestId r.id × (words ≡ refused_words r)) read_is (is, cc))))))
+    subst (λ (r : RefusedRequest). IsRequestId r.id × (words ≡ refused_words r)) read_is (is, cc))))))
 
 pub old_says : (words : List (List ℕ)) (read : Old) → old_in words ≡ Ok read → (IsClient read.client × IsQuantity read.current) × (words ≡ old_words read)
 unfolding old_in

@@ -15,10 +15,11 @@ Frame = Result (List ℕ) LineFault
 abbrev pub frame_of : List ℕ → Frame
 frame_of line = if nat_le (length line) LONGEST_LINE then Ok line else Err TooLong
 
--- a rest with no line feed, at the end of the input
-abbrev pub last_of : List ℕ → List Frame
-last_of [] = []
-last_of (b ∷ bs) = (if nat_le (length (b ∷ bs)) LONGEST_LINE then Err BadLine else Err TooLong) ∷ []
+-- the frames of a rest with no line feed, at the end of the input: none, or one
+abbrev pub frames_of_rest : List ℕ → List Frame
+frames_of_rest [] = []
+frames_of_rest (b ∷ bs) =
+    (if nat_le (length (b ∷ bs)) LONGEST_LINE then Err BadLine else Err TooLong) ∷ []
 
 -- the frames that end in these bytes, where this much of a line stands before them
 abbrev pub frames_in : List ℕ → List ℕ → List Frame
@@ -34,7 +35,7 @@ rest_in line (b ∷ bs) = if b == 10 then rest_in [] bs else rest_in (line ++ b 
 
 -- the frames of a whole input
 abbrev pub frames_of : List ℕ → List Frame
-frames_of input = frames_in [] input ++ last_of (rest_in [] input)
+frames_of input = frames_in [] input ++ frames_of_rest (rest_in [] input)
 
 -- a line with its line feed
 abbrev pub with_line_feed : List ℕ → List ℕ
@@ -54,7 +55,7 @@ pub record IsWholeLine (text : List ℕ) : Type 0 where
 abbrev pub FramesAreLines : Type 0
 FramesAreLines = (lines : List (List ℕ)) (rest : List ℕ)
     → AllByRecursion IsOneLine lines → IsOneLine rest
-    → frames_of (flat_map with_line_feed lines ++ rest) ≡ map frame_of lines ++ last_of rest
+    → frames_of (flat_map with_line_feed lines ++ rest) ≡ map frame_of lines ++ frames_of_rest rest
 
 -- each input is made so
 abbrev pub InputIsLines : Type 0
@@ -74,7 +75,7 @@ abbrev pub FrontIsEnough : Type 0
 FrontIsEnough = (line bytes : List ℕ)
     → (frames_in (take LINE_ROOM line) bytes ≡ frames_in line bytes)
     × (take LINE_ROOM (rest_in (take LINE_ROOM line) bytes) ≡ take LINE_ROOM (rest_in line bytes))
-    × (last_of (take LINE_ROOM line) ≡ last_of line)
+    × (frames_of_rest (take LINE_ROOM line) ≡ frames_of_rest line)
 
 -- text with no line feed goes onto the line begun
 abbrev pub TextGoesOn : Type 0

@@ -15,7 +15,7 @@ use Rattle.lease_proto.specs.declared.replies.Reply.{Reply}
 use Rattle.lease_proto.specs.declared.replies.Reply.TheVariants as replies
 use Rattle.lease_proto.specs.declared.replies.Welcome.{Welcome}
 use Rattle.lease_proto.specs.declared.replies.Granted.{Granted}
-use Rattle.lease_proto.specs.declared.replies.Refused.{Refused}
+use Rattle.lease_proto.specs.declared.replies.RefusedRequest.{RefusedRequest}
 use Rattle.lease_proto.specs.declared.replies.Old.{Old}
 use Rattle.lease_proto.specs.declared.replies.OutOfTurn.{OutOfTurn}
 use Rattle.lease_proto.specs.declared.replies.Again.{Again}
@@ -75,7 +75,7 @@ released_in words = do
   id_in id.0
 
 -- `refused C I N WORD`
-unfoldable pub refused_in : List (List ℕ) → Result Refused LineFault
+unfoldable pub refused_in : List (List ℕ) → Result RefusedRequest LineFault
 refused_in words = do
   id ← id_at words
   word ← word_at id.1
@@ -162,7 +162,7 @@ welcome_words r = decimal r.client ∷ decimal r.incarnation ∷ []
 abbrev pub granted_words : Granted → List (List ℕ)
 granted_words r = id_words r.id ++ (r.arena ∷ decimal r.base ∷ decimal r.len ∷ [])
 
-abbrev pub refused_words : Refused → List (List ℕ)
+abbrev pub refused_words : RefusedRequest → List (List ℕ)
 refused_words r = id_words r.id ++ (refusal_word r.refusal ∷ [])
 
 abbrev pub old_words : Old → List (List ℕ)

@@ -4,7 +4,7 @@ ghost use Rattle.std.specs.Prelude.{false};
 ghost use Rattle.std.specs.Prelude.{if◌then◌else◌, IfSome, IfNone};
 ghost use Rattle.lease_proto.specs.declared.limits.TheConstants.{LINE_ROOM};
 ghost use Rattle.lease_proto.specs.Frames.{LineReaderState, IsOneLine, with_line_feed, frame_of};
-ghost use Rattle.lease_proto.specs.Frames.{last_of};
+ghost use Rattle.lease_proto.specs.Frames.{frames_of_rest};
 ghost use Rattle.lease_proto.specs.Frames.{frames_in, rest_in, frame_view, faults_of};
 ghost use Rattle.lease_proto.specs.Frames.{FramesAreLines};
 ghost use Rattle.lease_proto.specs.Frames.{InputIsLines, PiecesAreOne, FrontIsEnough, TextGoesOn};
@@ -114,7 +114,7 @@ impl LineReader {
     /// line.
     pub fn at_end(&self) -> Option<LineFault>
         requires { self.now.whole ≡ false }
-        ensures { faults_of result ≡ last_of self.now.line }
+        ensures { faults_of result ≡ frames_of_rest self.now.line }
     {
         fault_at_end(self.front.as_slice())
     }
@@ -123,7 +123,7 @@ impl LineReader {
 /// Why the rest of an input is refused that no line feed ends, by its first `LINE_ROOM` bytes. An
 /// empty one is no line.
 pub fn fault_at_end(rest: &[u8]) -> Option<LineFault>
-    ensures { faults_of result ≡ last_of rest.now }
+    ensures { faults_of result ≡ frames_of_rest rest.now }
 {
     if rest.is_empty() {
         None

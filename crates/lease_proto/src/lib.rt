@@ -43,6 +43,6 @@ pub use numbers::number_law;
 pub use operators::{
     MagazineSize, OperatorLine, ResizeLine, ServedLine, is_operator_word, served_law,
 };
-pub use replies::{Again, Granted, Old, OutOfTurn, Refused, Reply, Welcome, reply_law};
+pub use replies::{Again, Granted, Old, OutOfTurn, RefusedRequest, Reply, Welcome, reply_law};
 pub use reports::{AuditLine, ClientLine, ReapedLine, ok_line};
 pub use setup_lines::{ChildLine, PolicyWord, RootLine, SetupLine, SpanLine, is_setup_word};

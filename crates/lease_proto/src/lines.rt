@@ -20,7 +20,7 @@ use crate::numbers::{client, ordinal, quantity};
 use crate::sentences::{Words, name};
 use crate::taking::{option, quantity_or_default, words};
 use crate::writing::{NUMBER_ROOM, push_id, push_name, push_number, push_option, push_text};
-use lease_terms::{ClientId, Name, Ordinal, Quantity, RequestId};
+use lease_terms::{ArenaName, ClientId, Ordinal, Quantity, RequestId};
 use std::alloc::AllocError;
 
 /// Room for all options: five spaces, the 23 letters of their keys, and five numbers.
@@ -109,7 +109,7 @@ impl HelloLine {
 /// What `lease C I N NAME SIZE` and its options ask for: a segment of an arena.
 #[derive(Clone, Copy, Debug, PartialEq, Eq)]
 pub struct LeaseLine {
-    pub arena: Name,
+    pub arena: ArenaName,
     pub size: Quantity,
     pub options: LeaseOptions,
 }
@@ -159,7 +159,7 @@ impl LeaseLine {
 /// What `release C I N NAME BASE` asks for: to end the lease of that arena and base.
 #[derive(Clone, Copy, Debug, PartialEq, Eq)]
 pub struct ReleaseLine {
-    pub arena: Name,
+    pub arena: ArenaName,
     pub base: Quantity,
 }
 

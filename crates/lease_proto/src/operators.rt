@@ -10,7 +10,7 @@ use crate::faults::LineFault;
 use crate::lines::Line;
 use crate::sentences::{Words, name};
 use crate::taking::words;
-use lease_terms::Name;
+use lease_terms::ArenaName;
 
 /// How many rounds a magazine takes, by the word of a line.
 #[derive(Clone, Copy, Debug, PartialEq, Eq)]
@@ -54,7 +54,7 @@ impl MagazineSize {
 /// `resize NAME M`: the depots of an arena keep magazines of a greater size from here on.
 #[derive(Clone, Copy, Debug, PartialEq, Eq)]
 pub struct ResizeLine {
-    pub arena: Name,
+    pub arena: ArenaName,
     pub size: MagazineSize,
 }
 

@@ -23,7 +23,7 @@ use crate::numbers::{client, ordinal, quantity};
 use crate::sentences::{Words, name};
 use crate::taking::words;
 use crate::writing::{push_id, push_name, push_number, push_text, push_word};
-use lease_terms::{ClientId, Name, Ordinal, Quantity, Refusal, RequestId};
+use lease_terms::{ArenaName, ClientId, Ordinal, Quantity, Refusal, RequestId};
 use std::alloc::AllocError;
 
 /// The refusal that a word is: `BadLine` where it is none.
@@ -95,7 +95,7 @@ impl Welcome {
 #[derive(Clone, Copy, Debug, PartialEq, Eq)]
 pub struct Granted {
     pub id: RequestId,
-    pub arena: Name,
+    pub arena: ArenaName,
     pub base: Quantity,
     pub len: Quantity,
 }
@@ -134,12 +134,12 @@ impl Granted {
 
 /// `refused C I N WORD`, with the refusal's word.
 #[derive(Clone, Copy, Debug, PartialEq, Eq)]
-pub struct Refused {
+pub struct RefusedRequest {
     pub id: RequestId,
     pub refusal: Refusal,
 }
 
-impl Refused {
+impl RefusedRequest {
     #[tactic(auto, unfolding(crate::specs::Replies::refused_in))]
     fn read(words: &mut Words<'_>) -> Result<Self, LineFault>
         ensures { result ≡ refused_in words.old }
@@ -147,7 +147,7 @@ impl Refused {
         let id = IdWords::take(words)?;
         let refusal = refusal(words.take()?)?;
         words.end()?;
-        Ok(Refused {
+        Ok(RefusedRequest {
             id: id.read()?,
             refusal,
         })
@@ -286,7 +286,7 @@ pub enum Reply {
     Granted(Granted),
     /// `released C I N`: the lease has ended.
     Released(RequestId),
-    Refused(Refused),
+    Refused(RefusedRequest),
     Old(Old),
     Stale(OutOfTurn),
     Gap(OutOfTurn),
@@ -313,7 +313,7 @@ impl Reply {
         } else if first == b"released".as_slice() {
             Ok(Reply::Released(released(&mut words)?))
         } else if first == b"refused".as_slice() {
-            Ok(Reply::Refused(Refused::read(&mut words)?))
+            Ok(Reply::Refused(RefusedRequest::read(&mut words)?))
         } else if first == b"old".as_slice() {
             Ok(Reply::Old(Old::read(&mut words)?))
         } else if first == b"stale".as_slice() {

@@ -4,14 +4,14 @@ ghost use Rattle.std.specs.Io.{StartsWith};
 ghost use Rattle.lease_proto.specs.Reports.{audit_text, sums_text, kept_text, given_text};
 ghost use Rattle.lease_proto.specs.Reports.{client_text, reaped_text, ok_text};
 
-use lease_terms::{ClientId, Name, Ordinal, Quantity};
+use lease_terms::{ArenaName, ClientId, Ordinal, Quantity};
 use std::alloc::AllocError;
 
 /// `arena NAME free F slab S magazine M exported X leased L hand H`: where the units of an arena
 /// are.
 #[derive(Clone, Copy, Debug, PartialEq, Eq)]
 pub struct AuditLine {
-    pub name: Name,
+    pub name: ArenaName,
     /// In no segment.
     pub free: u128,
     /// In slabs, but in none of their chunks that are out.

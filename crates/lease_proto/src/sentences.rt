@@ -6,15 +6,15 @@ ghost use Rattle.lease_proto.specs.Words.{words_left, parts_of};
 ghost use Rattle.lease_proto.specs.Words as spec;
 
 use crate::faults::LineFault;
-use lease_terms::{Name, is_word};
+use lease_terms::{ArenaName, is_word};
 use memchr::memchr;
 use std::marker::Model;
 
 /// The name that a word is, or `BadLine` where it is none.
-pub fn name(word: &[u8]) -> Result<Name, LineFault>
+pub fn name(word: &[u8]) -> Result<ArenaName, LineFault>
     ensures { result ≡ name_in word.now }
 {
-    match Name::new(word) {
+    match ArenaName::new(word) {
         Some(name) => Ok(name),
         None => Err(LineFault::BadLine),
     }

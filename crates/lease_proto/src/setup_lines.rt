@@ -8,7 +8,7 @@ use crate::faults::LineFault;
 use crate::numbers::quantity;
 use crate::sentences::{Words, name};
 use crate::taking::words;
-use lease_terms::{Name, Quantity};
+use lease_terms::{ArenaName, Quantity};
 
 /// How an arena chooses among its free units, by its word in a setup line.
 #[derive(Clone, Copy, Debug, PartialEq, Eq)]
@@ -22,7 +22,7 @@ pub enum PolicyWord {
 /// are in units; QMAX is the greatest size that has a cache, or 0 for none.
 #[derive(Clone, Copy, Debug, PartialEq, Eq)]
 pub struct RootLine {
-    pub name: Name,
+    pub name: ArenaName,
     pub base: Quantity,
     pub len: Quantity,
     pub quantum: Quantity,
@@ -57,8 +57,8 @@ impl RootLine {
 /// source, at least IMPORTMIN units at a time.
 #[derive(Clone, Copy, Debug, PartialEq, Eq)]
 pub struct ChildLine {
-    pub name: Name,
-    pub source: Name,
+    pub name: ArenaName,
+    pub source: ArenaName,
     pub quantum: Quantity,
     pub policy: PolicyWord,
     pub qcache_max: Quantity,
@@ -91,7 +91,7 @@ impl ChildLine {
 /// `span NAME BASE LEN`: a further owned span of a root.
 #[derive(Clone, Copy, Debug, PartialEq, Eq)]
 pub struct SpanLine {
-    pub name: Name,
+    pub name: ArenaName,
     pub base: Quantity,
     pub len: Quantity,
 }

@@ -6,7 +6,7 @@ ghost use Rattle.lease_proto.specs.declared.writing.TheConstants.{NUMBER_ROOM, I
 ghost use Rattle.lease_proto.specs.Texts.{option_words, id_words, spaced_text};
 
 use itoa::Buffer;
-use lease_terms::{LONGEST_NAME, Name, Quantity, RequestId};
+use lease_terms::{ArenaName, LONGEST_NAME, Quantity, RequestId};
 
 /// Room for a space and a number.
 pub const NUMBER_ROOM: usize = 21;
@@ -42,7 +42,7 @@ pub fn push_word(out: &mut Vec<u8>, word: &[u8])
 }
 
 /// A space and a name.
-pub fn push_name(out: &mut Vec<u8>, name: &Name)
+pub fn push_name(out: &mut Vec<u8>, name: &ArenaName)
     requires { vec_len out.old + NAME_ROOM ≤ vec_capacity out.old }
     ensures text { out.new.items ≡ out.old.items ++ (32 ∷ name.now) }
     ensures len { vec_len out.new ≤ vec_len out.old + NAME_ROOM }

@@ -3,13 +3,13 @@ use Rattle.std.proofs.Common.{◌≡◌, ◌⊎◌, ◌≤◌, ◌+◌, ◌-◌,
 use Rattle.std.proofs.lemmas.List.{take-take}
 use Rattle.std.specs.Io.KnownBytes.{Consumes, Keeps, IsAtEnd}
 use Rattle.std.proofs.KnownBytes.{Consumes-kept}
-use Rattle.lease_proto.specs.Frames.{Frame, frames_in, rest_in, last_of}
+use Rattle.lease_proto.specs.Frames.{Frame, frames_in, rest_in, frames_of_rest}
 use Rattle.lease_server.specs.Watching.{Streams}
 use Rattle.lease_server.specs.Intakes.{AtHand, IntakeState, hand_in, frames_at, begun_at, frames_on, frames_to_end, StopsReading}
 use Rattle.lease_server.specs.Serving.{SameFront, Writes, WritesBefore, Stops, ServesAll, ServeFails}
 use Rattle.lease_server.specs.declared.faults.ServeFault.{ServeFault}
 use Rattle.lease_server.specs.declared.faults.ServeFault.TheVariants.{Read, Write, Memory, Turns}
-use Rattle.lease_server.proofs.ServingLemmas.{Stops-after, Stops-more, WritesBefore-after, Writes-append, of_all, of_front, last_of-same}
+use Rattle.lease_server.proofs.ServingLemmas.{Stops-after, Stops-more, WritesBefore-after, Writes-append, of_all, of_front, frames_of_rest-same}
 use Rattle.lease_server.proofs.IntakeLemmas.{frames_to_end-append}
 
 -- where nothing more came, the line begun is as it was
@@ -80,13 +80,13 @@ module _ {S : Type 0} (may_answer : S → List ℕ → List ℕ → S → Type 0
       → Consumes old.unread unread input → Consumes unread new.unread piece → piece ≡ [] → IsAtEnd new.unread
       → Writes may_answer first (frames_on hand input) old.written between mid
       → SameFront here.line (rest_in (begun_at hand) input)
-      → OnOk r (Writes may_answer mid (last_of here.line) between new.written last) → OnOk r (new.writer_failed ≡ before)
+      → OnOk r (Writes may_answer mid (frames_of_rest here.line) between new.written last) → OnOk r (new.writer_failed ≡ before)
       → before ≡ false → new.reader_failed ≡ false → OnOk r (ServesAll may_answer hand old new first last)
   rest_served (Err fault) hand here old new first mid last input piece unread between before consumed read none end writes same rest wrote works reads = tt
   rest_served (Ok done) hand here old new first mid last input piece unread between before consumed read none end writes same rest wrote works reads =
       let answered : Writes may_answer first (frames_to_end hand input) old.written new.written last =
-      subst (λ f. Writes may_answer first (frames_on hand input ++ f) old.written new.written last) (last_of-same here.line (rest_in (begun_at hand) input) same)
-      (Writes-append may_answer (frames_on hand input) (last_of here.line) first mid last old.written between new.written writes rest) in (
+      subst (λ f. Writes may_answer first (frames_on hand input ++ f) old.written new.written last) (frames_of_rest-same here.line (rest_in (begun_at hand) input) same)
+      (Writes-append may_answer (frames_on hand input) (frames_of_rest here.line) first mid last old.written between new.written writes rest) in (
         of_all old.unread unread new.unread input piece (λ all. Writes may_answer first (frames_to_end hand all) old.written new.written last)
             consumed read none end answered,
         reads,
@@ -98,13 +98,13 @@ module _ {S : Type 0} (may_answer : S → List ℕ → List ℕ → S → Type 0
       → Consumes old.unread unread input → Consumes unread new.unread piece → piece ≡ [] → IsAtEnd new.unread
       → Writes may_answer first (frames_on from.hand input) old.written between mid
       → SameFront here.line (rest_in (begun_at from.hand) input)
-      → OnErr r (Stops may_answer mid (last_of here.line) between new.written) → OnErr r (IsErrOf r Write) → OnErr r (new.writer_failed ≡ true)
+      → OnErr r (Stops may_answer mid (frames_of_rest here.line) between new.written) → OnErr r (IsErrOf r Write) → OnErr r (new.writer_failed ≡ true)
       → new.reader_failed ≡ false → IfErr r (ServeFails may_answer from old new first last)
   rest_fails (Ok done) from here old new first mid last input piece unread between consumed read none end writes same rest is failed reads = tt
   rest_fails (Err Write) from here old new first mid last input piece unread between consumed read none end writes same rest is failed reads =
       let stops : Stops may_answer first (frames_to_end from.hand input) old.written new.written =
-      subst (λ f. Stops may_answer first (frames_on from.hand input ++ f) old.written new.written) (last_of-same here.line (rest_in (begun_at from.hand) input) same)
-      (Stops-after may_answer (frames_on from.hand input) (last_of here.line) first mid old.written between new.written writes rest) in (
+      subst (λ f. Stops may_answer first (frames_on from.hand input ++ f) old.written new.written) (frames_of_rest-same here.line (rest_in (begun_at from.hand) input) same)
+      (Stops-after may_answer (frames_on from.hand input) (frames_of_rest here.line) first mid old.written between new.written writes rest) in (
         of_all old.unread unread new.unread input piece (λ all. Stops may_answer first (frames_to_end from.hand all) old.written new.written)
             consumed read none end stops,
         reads,

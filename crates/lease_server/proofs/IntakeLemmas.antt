@@ -3,11 +3,11 @@ use Rattle.std.proofs.Common.{◌≡◌, ◌≢◌, ◌==◌, ◌⊎◌, ℕ, �
 use Rattle.std.proofs.lemmas.List.{append-nil, take-take, take_all, take_min, take-append-drop, drop-take, length-take}
 use Rattle.std.proofs.Math.Seq.{drop-nil, drop-length}
 use Rattle.std.proofs.lemmas.Bool.{ne_eqb, cases_Bool, cases_eq}
-use Rattle.lease_proto.specs.Frames.{Frame, LineReaderState, frame_of, frames_in, rest_in, last_of, with_line_feed, IsOneLine}
-use Rattle.lease_proto.proofs.LawProofs.{frame_of-take, frames_in-take, rest_in-take, last_of-take, frames_in-append, rest_in-append, one_line, one_line_before, up_to}
+use Rattle.lease_proto.specs.Frames.{Frame, LineReaderState, frame_of, frames_in, rest_in, frames_of_rest, with_line_feed, IsOneLine}
+use Rattle.lease_proto.proofs.LawProofs.{frame_of-take, frames_in-take, rest_in-take, frames_of_rest-take, frames_in-append, rest_in-append, one_line, one_line_before, up_to}
 use Rattle.lease_server.specs.Serving.{SameFront}
 use Rattle.lease_server.specs.Intakes.{AtHand, hand_in, frames_at, begun_at, frames_on, frames_to_end, hand_of, HandTells, HandIsWhole, HandIsBegun, HandGoesOn}
-use Rattle.lease_server.proofs.ServingLemmas.{frames_in-same, rest_in-same, last_of-same}
+use Rattle.lease_server.proofs.ServingLemmas.{frames_in-same, rest_in-same, frames_of_rest-same}
 
 -- text with no line feed goes onto the line begun
 pub hand_in-text : (line text bytes : List ℕ) → IsOneLine text → hand_in line (text ++ bytes) ≡ hand_in (line ++ text) bytes
@@ -96,11 +96,11 @@ hand_tells bytes more =
     ap (λ f. f ++ frames_in (begun_at (hand_in [] bytes)) more) (hand_in-frames [] bytes)
     ∙ ap (λ f. frames_in [] bytes ++ f) (frames_in-same (begun_at (hand_in [] bytes)) (rest_in [] bytes) more (hand_in-begun [] bytes))
     ∙ sym (frames_in-append [] bytes more) in
-    let last : last_of (rest_in (begun_at (hand_in [] bytes)) more) ≡ last_of (rest_in [] (bytes ++ more)) =
-    last_of-same (rest_in (begun_at (hand_in [] bytes)) more) (rest_in (rest_in [] bytes) more)
+    let last : frames_of_rest (rest_in (begun_at (hand_in [] bytes)) more) ≡ frames_of_rest (rest_in [] (bytes ++ more)) =
+    frames_of_rest-same (rest_in (begun_at (hand_in [] bytes)) more) (rest_in (rest_in [] bytes) more)
     (rest_in-same (begun_at (hand_in [] bytes)) (rest_in [] bytes) more (hand_in-begun [] bytes))
-    ∙ ap last_of (sym (rest_in-append [] bytes more)) in
-    (on, ap (λ f. f ++ last_of (rest_in (begun_at (hand_in [] bytes)) more)) on ∙ ap (λ l. frames_in [] (bytes ++ more) ++ l) last)
+    ∙ ap frames_of_rest (sym (rest_in-append [] bytes more)) in
+    (on, ap (λ f. f ++ frames_of_rest (rest_in (begun_at (hand_in [] bytes)) more)) on ∙ ap (λ l. frames_in [] (bytes ++ more) ++ l) last)
 
 -- the first 256 bytes before an index
 pub kept : (k end : ℕ) (piece : List ℕ) → k ≡ min end 256 → end ≤ length piece → take k piece ≡ take 256 (take end piece)
@@ -271,8 +271,8 @@ hand_more from now input piece done is same = (
 
 -- the whole lines come first of all
 pub frames_to_end-append : (h : AtHand) (input left : List ℕ)
-    → frames_to_end h (input ++ left) ≡ frames_on h input ++ (frames_in (rest_in (begun_at h) input) left ++ last_of (rest_in (begun_at h) (input ++ left)))
+    → frames_to_end h (input ++ left) ≡ frames_on h input ++ (frames_in (rest_in (begun_at h) input) left ++ frames_of_rest (rest_in (begun_at h) (input ++ left)))
 frames_to_end-append h input left =
-    ap (λ f. (frames_at h ++ f) ++ last_of (rest_in (begun_at h) (input ++ left))) (frames_in-append (begun_at h) input left)
-    ∙ ap (λ f. f ++ last_of (rest_in (begun_at h) (input ++ left))) (sym (append_assoc (frames_at h) (frames_in (begun_at h) input) (frames_in (rest_in (begun_at h) input) left)))
-    ∙ append_assoc (frames_on h input) (frames_in (rest_in (begun_at h) input) left) (last_of (rest_in (begun_at h) (input ++ left)))
+    ap (λ f. (frames_at h ++ f) ++ frames_of_rest (rest_in (begun_at h) (input ++ left))) (frames_in-append (begun_at h) input left)
+    ∙ ap (λ f. f ++ frames_of_rest (rest_in (begun_at h) (input ++ left))) (sym (append_assoc (frames_at h) (frames_in (begun_at h) input) (frames_in (rest_in (begun_at h) input) left)))
+    ∙ append_assoc (frames_on h input) (frames_in (rest_in (begun_at h) input) left) (frames_of_rest (rest_in (begun_at h) (input ++ left)))

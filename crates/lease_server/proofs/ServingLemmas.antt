@@ -3,10 +3,10 @@ use Rattle.std.proofs.Common.{◌≡◌, ℕ, List, [], ◌∷◌, ◌++◌, tak
 use Rattle.std.proofs.lemmas.List.{append-nil, take_all, take-take, take_rest}
 use Rattle.std.specs.Io.KnownBytes.{Consumes, IsAtEnd}
 use Rattle.std.proofs.KnownBytes.{Appends-trans, Consumes-all, Consumes-trans}
-use Rattle.lease_proto.specs.Frames.{Frame, frames_in, rest_in, frames_of, last_of}
+use Rattle.lease_proto.specs.Frames.{Frame, frames_in, rest_in, frames_of, frames_of_rest}
 use Rattle.lease_proto.specs.declared.faults.LineFault.{LineFault}
 use Rattle.lease_proto.specs.Faults.{error_line}
-use Rattle.lease_proto.proofs.LawProofs.{frames_in-take, rest_in-take, last_of-take, frames_in-append, rest_in-append}
+use Rattle.lease_proto.proofs.LawProofs.{frames_in-take, rest_in-take, frames_of_rest-take, frames_in-append, rest_in-append}
 use Rattle.lease_server.specs.Serving.{SameFront, WritesFront, ServesLines, Answers, AnswersBefore, Writes, WritesBefore, Stops}
 
 module _ {S : Type 0} (may_answer : S → List ℕ → List ℕ → S → Type 0) where
@@ -103,8 +103,8 @@ frames_in-same xs ys bs e = sym (frames_in-take xs bs) ∙ ap (λ l. frames_in l
 pub rest_in-same : (xs ys bs : List ℕ) → SameFront xs ys → SameFront (rest_in xs bs) (rest_in ys bs)
 rest_in-same xs ys bs e = sym (rest_in-take xs bs) ∙ ap (λ l. take 256 (rest_in l bs)) e ∙ rest_in-take ys bs
 
-pub last_of-same : (xs ys : List ℕ) → SameFront xs ys → last_of xs ≡ last_of ys
-last_of-same xs ys e = sym (last_of-take xs) ∙ ap last_of e ∙ last_of-take ys
+pub frames_of_rest-same : (xs ys : List ℕ) → SameFront xs ys → frames_of_rest xs ≡ frames_of_rest ys
+frames_of_rest-same xs ys e = sym (frames_of_rest-take xs) ∙ ap frames_of_rest e ∙ frames_of_rest-take ys
 
 -- a front of a list that stands behind another
 pub moves_front : (all done rest : List ℕ) (n : ℕ) → all ≡ done ++ rest → all ≡ (done ++ take n rest) ++ take (length rest - n) (drop n rest)
@@ -161,10 +161,10 @@ of_front (Some xs) (Some ys) input P p holds = subst P (sym p) (holds ys)
 
 -- the frames of a front come first
 pub frames_of-append : (input left : List ℕ)
-    → frames_of (input ++ left) ≡ frames_in [] input ++ (frames_in (rest_in [] input) left ++ last_of (rest_in [] (input ++ left)))
+    → frames_of (input ++ left) ≡ frames_in [] input ++ (frames_in (rest_in [] input) left ++ frames_of_rest (rest_in [] (input ++ left)))
 frames_of-append input left =
-    ap (λ f. f ++ last_of (rest_in [] (input ++ left))) (frames_in-append [] input left)
-    ∙ append_assoc (frames_in [] input) (frames_in (rest_in [] input) left) (last_of (rest_in [] (input ++ left)))
+    ap (λ f. f ++ frames_of_rest (rest_in [] (input ++ left))) (frames_in-append [] input left)
+    ∙ append_assoc (frames_in [] input) (frames_in (rest_in [] input) left) (frames_of_rest (rest_in [] (input ++ left)))
 
 -- one more piece of the input
 pub more_frames : (cur input piece : List ℕ) → SameFront cur (rest_in [] input)

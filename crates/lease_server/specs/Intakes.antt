@@ -3,7 +3,7 @@ use Rattle.std.specs.Prelude.{◌≡◌, ◌==◌, ◌≤◌, ◌<◌, ◌+◌, 
 use Rattle.std.specs.Prelude.{List, [], ◌∷◌, ◌++◌, length, take, if◌then◌else◌, Option}
 use Rattle.std.specs.Io.KnownBytes.{Consumes, IsAtEnd, Keeps}
 use Rattle.lease_proto.specs.Frames.{Frame, IsOneLine, with_line_feed, frame_of, frames_in, rest_in}
-use Rattle.lease_proto.specs.Frames.{frames_of, last_of, LineReaderState}
+use Rattle.lease_proto.specs.Frames.{frames_of, frames_of_rest, LineReaderState}
 use Rattle.lease_proto.specs.declared.limits.TheConstants.{LINE_ROOM}
 use Rattle.lease_server.specs.declared.intakes.TheConstants.{MOST_READS, PIECE}
 use Rattle.lease_server.specs.declared.faults.ServeFault.{ServeFault}
@@ -37,7 +37,7 @@ frames_on h bytes = frames_at h ++ frames_in (begun_at h) bytes
 
 -- the same, with that of the rest where the input ends there
 abbrev pub frames_to_end : AtHand → List ℕ → List Frame
-frames_to_end h bytes = frames_on h bytes ++ last_of (rest_in (begun_at h) bytes)
+frames_to_end h bytes = frames_on h bytes ++ frames_of_rest (rest_in (begun_at h) bytes)
 
 -- what a contract sees of an intake: what is at hand, how often it read, and whether the input
 -- has ended

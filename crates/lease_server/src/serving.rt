@@ -2,7 +2,7 @@
 ghost use Rattle.std.specs.Prelude.{◌≡◌, ◌⊎◌, ◌≤◌, ◌∷◌, [], ◌+◌, ◌-◌, ◌^◌, min, true, false};
 ghost use Rattle.std.specs.Prelude.{OnOk, OnErr, IfErr, IsErrOf};
 ghost use Rattle.std.specs.Io.KnownBytes.{IsAtEnd};
-ghost use Rattle.lease_proto.specs.Frames.{frame_of, last_of};
+ghost use Rattle.lease_proto.specs.Frames.{frame_of, frames_of_rest};
 ghost use Rattle.lease_server.specs.Intakes.{begun_at, frames_at};
 ghost use Rattle.lease_server.specs.Serving.{SameFront, Answers, AnswersBefore, Writes};
 ghost use Rattle.lease_server.specs.Serving.{WritesBefore, Stops, ServesAll, ServeFails};
@@ -135,9 +135,10 @@ fn serve_rest<W: Write, P: Responder>(
     responder: &mut P,
 ) -> Result<(), ServeFault>
     requires { input.now.hand.whole ≡ false }
-    ensures ok { OnOk result (Writes P.may_answer responder.old (last_of input.now.hand.line)
+    ensures ok { OnOk result (Writes P.may_answer responder.old (frames_of_rest input.now.hand.line)
         (W.contents (inner_of writer.old)) (W.contents (inner_of writer.new)) responder.new) }
-    ensures err { OnErr result (Stops P.may_answer responder.old (last_of input.now.hand.line)
+    ensures err { OnErr result (Stops P.may_answer responder.old
+        (frames_of_rest input.now.hand.line)
         (W.contents (inner_of writer.old)) (W.contents (inner_of writer.new))) }
     ensures fault { OnErr result (IsErrOf result ServeFault.Write) }
     ensures works { OnOk result (has_failed writer.new ≡ has_failed writer.old) }

@@ -1,7 +1,7 @@
 -- How a name lies in its bytes: at their front, with 0 behind it.
 use Rattle.std.specs.Prelude.{◌≡◌, ◌-◌, ◌++◌, ℕ, List, true, take, length, replicate}
 use Rattle.std.proofs.Common.{◌∙◌, ap}
-use Rattle.lease_terms.specs.declared.names.Name.TheInside.{Inside}
+use Rattle.lease_terms.specs.declared.names.ArenaName.TheInside.{Inside}
 use Rattle.lease_terms.specs.declared.names.TheConstants.{LONGEST_NAME}
 use Rattle.lease_terms.specs.Names.{is_name}
 

@@ -1,7 +1,7 @@
 //! The words of requests: who asks (`ClientId`), in which incarnation and with which number
-//! (`Ordinal`), for how much (`Quantity`), of which arena (`Name`), and why a request is refused
-//! (`Refusal`). The book of leases and the protocol both speak with them; this crate stands on
-//! nothing.
+//! (`Ordinal`), for how much (`Quantity`), of which arena (`ArenaName`), and why a request is
+//! refused (`Refusal`). The book of leases and the protocol both speak with them; this crate stands
+//! on nothing.
 //!
 //! A value out of its range can't be made. A contract sees each value as plain data: a number, a
 //! text, and a `RequestId` as a record of three numbers. That a value is in its range is said where
@@ -17,7 +17,7 @@ mod refusals;
 mod requests;
 mod values;
 
-pub use names::{LONGEST_NAME, Name, is_name, is_word, name_law};
+pub use names::{ArenaName, LONGEST_NAME, is_name, is_word, name_law};
 pub use refusals::Refusal;
 pub use requests::RequestId;
 pub use values::{ClientId, LARGEST, LAST_CLIENT, Ordinal, Quantity, range_law};

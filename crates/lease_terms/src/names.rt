@@ -17,13 +17,13 @@ pub fn name_law()
 /// The name of an arena: 1 to `LONGEST_NAME` of the letters a to z and the digits, the first a
 /// letter.
 #[derive(Clone, Copy, Debug, PartialEq, Eq)]
-pub struct Name {
+pub struct ArenaName {
     // The bytes past the name's are 0.
     bytes: [u8; LONGEST_NAME],
     len: usize,
 }
 
-impl Model for Name {
+impl Model for ArenaName {
     ghost use Rattle.std.specs.Prelude.{ℕ, List};
 
     ghost Value = { List ℕ };
@@ -40,7 +40,7 @@ impl Model for Name {
     ghost inverse_ok = { inside_of-name_text };
 }
 
-impl Name {
+impl ArenaName {
     /// The name of this text, or `None` where it is no name.
     pub fn new(text: &[u8]) -> Option<Self>
         ensures { SomeIff result (spec.is_name text.now ≡ true) text.now }
@@ -51,7 +51,7 @@ impl Name {
         let mut bytes = [0; LONGEST_NAME];
         let len = text.len();
         bytes[..len].copy_from_slice(text);
-        Some(Name { bytes, len })
+        Some(ArenaName { bytes, len })
     }
 
     /// Its text, 1 to `LONGEST_NAME` bytes.

@@ -8,7 +8,7 @@ ghost use Rattle.lease_threads.specs.Settling.{new_receipt};
 use arena_tree::Tree;
 use deed_table::{Name, SeatDeed};
 use lease_book::{Answer, HelloFault, KeptReply, Receipt, Terms};
-use lease_proto::{Again, Granted, HelloLine, Old, OutOfTurn, Refused, Reply};
+use lease_proto::{Again, Granted, HelloLine, Old, OutOfTurn, RefusedRequest, Reply};
 use lease_terms::{Quantity, RequestId};
 use locked_parts::quantum_of;
 
@@ -82,7 +82,7 @@ fn settled(tree: &Tree, id: RequestId, kept: KeptReply, terms: Option<Terms>) ->
             }))
         }
         KeptReply::Released => Some(Reply::Released(id)),
-        KeptReply::Refused(refusal) => Some(Reply::Refused(Refused { id, refusal })),
+        KeptReply::Refused(refusal) => Some(Reply::Refused(RefusedRequest { id, refusal })),
     }
 }
 

@@ -9,7 +9,7 @@ use crate::ending::end_parts;
 use crate::systems::System;
 use deed_core::{Range, Segment};
 use deed_table::{Name, SeatDeed};
-use lease_terms::Name as ArenaName;
+use lease_terms::ArenaName;
 use std::marker::Model;
 use std::sync::Wait;
 

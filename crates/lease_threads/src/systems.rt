@@ -5,7 +5,7 @@ ghost use Rattle.lease_threads.specs.Ends.{name_at};
 use crate::marked_books::MarkedBook;
 use arena_tree::Tree;
 use deed_table::{Name, Root};
-use lease_terms::Name as ArenaName;
+use lease_terms::ArenaName;
 use locked_parts::LockedParts;
 use std::marker::Model;
 use std::sync::Mutex;

@@ -1,13 +1,13 @@
 //! A desk that is asked, for tests.
 use arena_tree::{NewChild, NewRoot, NewSpan, Setting, Setup};
-use lease_terms::Name;
+use lease_terms::ArenaName;
 use std::alloc::AllocGlobal;
 use std::process::Abort;
 use stock_desk::Desk;
 use tag_arena::Policy;
 
-fn name(rt: &impl Abort, text: &str) -> Name {
-    match Name::new(text.as_bytes()) {
+fn name(rt: &impl Abort, text: &str) -> ArenaName {
+    match ArenaName::new(text.as_bytes()) {
         Some(name) => name,
         None => panic!(rt; "no name"),
     }

@@ -3,9 +3,9 @@ ghost use Rattle.std.specs.Prelude.{◌≡◌, ◌++◌, false};
 
 use lease_proto::{
     ErrorWord, Granted, HelloLine, LeaseLine, LeaseOptions, Line, LineFault, LineReader, Op,
-    OperatorLine, PolicyWord, Refused, ReleaseLine, Reply, RootLine, ServedLine, SetupLine,
+    OperatorLine, PolicyWord, RefusedRequest, ReleaseLine, Reply, RootLine, ServedLine, SetupLine,
 };
-use lease_terms::{ClientId, Name, Ordinal, Quantity, Refusal, RequestId};
+use lease_terms::{ArenaName, ClientId, Ordinal, Quantity, Refusal, RequestId};
 use std::alloc::{AllocError, Global};
 use std::process::Abort;
 use std::test::Fail;
@@ -208,8 +208,8 @@ fn quantity(rt: &impl Abort, value: u64) -> Quantity {
     Quantity::new(value).expect(rt, "a quantity")
 }
 
-fn name(rt: &impl Abort, text: &[u8]) -> Name {
-    Name::new(text).expect(rt, "a name")
+fn name(rt: &impl Abort, text: &[u8]) -> ArenaName {
+    ArenaName::new(text).expect(rt, "a name")
 }
 
 /// The third request of client 7's second incarnation.
@@ -292,7 +292,7 @@ fn the_words_of_a_reply_go_to_their_fields(rt: HostRuntime) {
         len: quantity(&rt, 8),
     };
     let refusal = Refusal::NotYours;
-    let refused = Refused { id, refusal };
+    let refused = RefusedRequest { id, refusal };
     reads_reply(&rt, b"granted 7 2 3 arena2 24 8", Reply::Granted(granted));
     reads_reply(&rt, b"refused 7 2 3 notyours", Reply::Refused(refused));
     reads_reply(&rt, b"released 7 2 3", Reply::Released(id));

@@ -14,7 +14,7 @@ use Rattle.arena_tree.specs.declared.part_faults.Stopped.{Stopped}
 use Rattle.arena_tree.specs.declared.part_faults.SwapFullFault.{SwapFullFault}
 use Rattle.arena_tree.specs.declared.part_faults.SwapFullFault.TheVariants as fulling
 use Rattle.arena_tree.specs.Chains.{IsChain}
-use Rattle.arena_tree.specs.Climbs.{Climbed, climb_plan}
+use Rattle.arena_tree.specs.Climbs.{ClimbEnd, climb_plan}
 use Rattle.arena_tree.specs.Events.{SlabAdd}
 use Rattle.arena_tree.specs.Plans.{Plan, Done, Ask, then, or_else}
 use Rattle.arena_tree.specs.Sound.{Sound}
@@ -32,7 +32,7 @@ StageWell None = Unit {0}
 StageWell (Some r) = AllocsWell r
 
 module _ (arenas : List TreeArena) where
-  well_or_else : (p : Plan Stage) (last : Plan Climbed) → EndsWell arenas StageWell p → EndsWell arenas AllocsWell last → EndsWell arenas AllocsWell (then p (or_else last))
+  well_or_else : (p : Plan Stage) (last : Plan ClimbEnd) → EndsWell arenas StageWell p → EndsWell arenas AllocsWell last → EndsWell arenas AllocsWell (then p (or_else last))
   well_or_else p last w next = ends_then arenas StageWell AllocsWell p (or_else last) w go
     where
       go : (a : Stage) → StageWell a → EndsWell arenas AllocsWell (or_else last a)
@@ -82,7 +82,7 @@ module _ (arenas : List TreeArena) where
   well_slab l up cache span is for (Err (slabbing.Stopped t)) s well = absurd well
 
   module _ (tree : IsTree arenas) (l : Level) (up : List Level) (is : IsChain (nodes_of arenas) (l ∷ up)) (size : ℕ) where
-    well_climbed : (cache : ℕ) → cache_for l size ≡ Some cache → (r : Climbed) → ClimbsWell arenas (l ∷ up) l.slab_size r → EndsWell arenas StageWell (on_slab_climb (l ∷ up) l.id cache r)
+    well_climbed : (cache : ℕ) → cache_for l size ≡ Some cache → (r : ClimbEnd) → ClimbsWell arenas (l ∷ up) l.slab_size r → EndsWell arenas StageWell (on_slab_climb (l ∷ up) l.id cache r)
     unfolding make_slab
     well_climbed cache e (Ok span) w =
         let for : IsForSlab arenas l.id cache span = for_slab arenas tree l up size cache span is e w in
@@ -100,7 +100,7 @@ module _ (arenas : List TreeArena) where
     well_last : EndsWell arenas AllocsWell (climb_plan (l ∷ up) size)
     well_last = weaker (climb_plan (l ∷ up) size) (well_climb arenas (l ∷ up) size is)
       where
-        ends : (r : Climbed) → ClimbsWell arenas (l ∷ up) size r → AllocsWell r
+        ends : (r : ClimbEnd) → ClimbsWell arenas (l ∷ up) size r → AllocsWell r
         ends (Ok t) w = tt
         ends (Err climbing.BadRequest) w = tt
         ends (Err climbing.NoFit) w = tt
@@ -108,7 +108,7 @@ module _ (arenas : List TreeArena) where
         ends (Err (climbing.Stuck t)) w = w
         ends (Err (climbing.Stopped o)) w = w
 
-        weaker : (p : Plan Climbed) → EndsWell arenas (ClimbsWell arenas (l ∷ up) size) p → EndsWell arenas AllocsWell p
+        weaker : (p : Plan ClimbEnd) → EndsWell arenas (ClimbsWell arenas (l ∷ up) size) p → EndsWell arenas AllocsWell p
         weaker (Done r) w = ends r w
         weaker (Ask ev f) w = (w.0, λ x s well. weaker (f x) (w.1 x s well))
 

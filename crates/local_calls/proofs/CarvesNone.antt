@@ -20,7 +20,7 @@ use Rattle.arena_tree.specs.declared.part_faults.CarveFault.TheVariants as carvi
 use Rattle.arena_tree.specs.declared.part_faults.ClimbFault.TheVariants as climbing
 use Rattle.arena_tree.specs.declared.part_faults.ReturnFault.TheVariants as returning
 use Rattle.arena_tree.specs.Chains.{amount_of}
-use Rattle.arena_tree.specs.Climbs.{Climbed, Returned, return_plan, memory_refusal, on_add, on_import, on_carve, climb_plan}
+use Rattle.arena_tree.specs.Climbs.{ClimbEnd, ReturnEnd, return_plan, memory_refusal, on_add, on_import, on_carve, climb_plan}
 use Rattle.arena_tree.specs.Events.{Carve}
 use Rattle.arena_tree.specs.Plans.{Done}
 use Rattle.arena_tree.specs.Trees.{nodes_of}
@@ -54,7 +54,7 @@ carve_none old new k q does = words does.0 does.1 does.2
 
 module _ (arenas : List TreeArena) where
   -- what was freed again doesn't end so
-  pub given_back : (r : Returned) → memory_refusal r ≡ Err climbing.NoFit → ⊥
+  pub given_back : (r : ReturnEnd) → memory_refusal r ≡ Err climbing.NoFit → ⊥
   given_back (Ok u) e = let x : Err climbing.NoMemory ≡ Err climbing.NoFit = e in cc
   given_back (Err (returning.Stuck t)) e = let x : Err (climbing.Stuck t) ≡ Err climbing.NoFit = e in cc
   given_back (Err (returning.Stopped t)) e = let x : Err (climbing.Stopped (Some t)) ≡ Err climbing.NoFit = e in cc
@@ -96,7 +96,7 @@ module _ (arenas : List TreeArena) where
           let above = imported split.1 split.0 split.2 split.3 in
           ((here.0, subst (λ (xs : List SpaceState). NoneServesUp xs up (amount_of l up n)) here.1 above.0), unchanged_then old mid new still above.1)
         where
-          imported : (r : Climbed) (m : LocalState) → RunsTo arenas (climb_plan up (amount_of l up n)) mid m r → RunsTo arenas (on_import up l.id n r) m new (Err climbing.NoFit) → NoneServesUp mid.spaces up (amount_of l up n) × IsUnchanged mid new
+          imported : (r : ClimbEnd) (m : LocalState) → RunsTo arenas (climb_plan up (amount_of l up n)) mid m r → RunsTo arenas (on_import up l.id n r) m new (Err climbing.NoFit) → NoneServesUp mid.spaces up (amount_of l up n) × IsUnchanged mid new
           imported (Ok span) m first last = absurd (added up last.1 last.0 new last.3)
           imported (Err f) m first last =
               let above = again mid m (subst (RunsTo arenas (climb_plan up (amount_of l up n)) mid m) last.1 first) in

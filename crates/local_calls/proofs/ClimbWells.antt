@@ -14,7 +14,7 @@ use Rattle.arena_tree.specs.declared.part_faults.AddCarveFault.TheVariants as ad
 use Rattle.arena_tree.specs.declared.part_faults.ClimbFault.TheVariants as climbing
 use Rattle.arena_tree.specs.declared.part_faults.ReturnFault.TheVariants as returning
 use Rattle.arena_tree.specs.Chains.{IsChain, first_id, amount_of}
-use Rattle.arena_tree.specs.Climbs.{Climbed, Returned, IsGrantOf, return_plan, on_free, memory_refusal, give_back_plan, on_add, on_import, on_carve, climb_plan}
+use Rattle.arena_tree.specs.Climbs.{ClimbEnd, ReturnEnd, IsGrantOf, return_plan, on_free, memory_refusal, give_back_plan, on_add, on_import, on_carve, climb_plan}
 use Rattle.arena_tree.specs.Events.{Carve, Free, AddCarve}
 use Rattle.arena_tree.specs.Plans.{Plan, Done, Ask, then}
 use Rattle.arena_tree.specs.Sound.{Sound}
@@ -28,19 +28,19 @@ ends_then arenas post post' (Ask e g) next w f = (w.0, λ x s well. ends_then ar
 
 module _ (arenas : List TreeArena) where
   -- a Direct segment of the chain's first arena goes back
-  pub well_return : (chain : List Level) (t : Tag) → IsChain (nodes_of arenas) chain → first_id chain ≡ Some t.arena → t.route ≡ Direct → EndsWell arenas (λ (r : Returned). DoesWell r) (return_plan chain t)
+  pub well_return : (chain : List Level) (t : Tag) → IsChain (nodes_of arenas) chain → first_id chain ≡ Some t.arena → t.route ≡ Direct → EndsWell arenas (λ (r : ReturnEnd). DoesWell r) (return_plan chain t)
   well_return [] t is first direct = absurd (let e : None ≡ Some t.arena = first in cc)
   well_return (l ∷ up) t is first direct = (direct, freed (λ w at way. well_return up w is.2 at way))
     where
-      freed : ((w : Tag) → first_id up ≡ Some w.arena → w.route ≡ Direct → EndsWell arenas (λ (r : Returned). DoesWell r) (return_plan up w)) → (x : Result (Option Tag) (FreeFault Tag)) → Sound (nodes_of arenas) (Free t) x → GoesWell (Free t) x
-          → EndsWell arenas (λ (r : Returned). DoesWell r) (on_free (return_plan up) x)
+      freed : ((w : Tag) → first_id up ≡ Some w.arena → w.route ≡ Direct → EndsWell arenas (λ (r : ReturnEnd). DoesWell r) (return_plan up w)) → (x : Result (Option Tag) (FreeFault Tag)) → Sound (nodes_of arenas) (Free t) x → GoesWell (Free t) x
+          → EndsWell arenas (λ (r : ReturnEnd). DoesWell r) (on_free (return_plan up) x)
       freed again (Ok None) s well = tt
       freed again (Ok (Some w)) s well = again w (chain_above (nodes_of arenas) l up t w is first (s.0).whole.1) (s.0).whole.0
       freed again (Err (freeing.BadFree x)) s well = absurd well
       freed again (Err (freeing.Stopped x)) s well = absurd well
 
   -- a climb ends with a grant, or with an empty hand
-  abbrev pub ClimbsWell : List Level → ℕ → Climbed → Type 0
+  abbrev pub ClimbsWell : List Level → ℕ → ClimbEnd → Type 0
   ClimbsWell chain n (Ok t) = IsGrantOf (nodes_of arenas) chain n t
   ClimbsWell chain n (Err climbing.BadRequest) = Unit {0}
   ClimbsWell chain n (Err climbing.NoFit) = Unit {0}
@@ -48,10 +48,10 @@ module _ (arenas : List TreeArena) where
   ClimbsWell chain n (Err (climbing.Stuck t)) = ⊥
   ClimbsWell chain n (Err (climbing.Stopped o)) = ⊥
 
-  pub well_refused : (post : Climbed → Type 0) → post (Err climbing.NoMemory) → (up : List Level) (t : Tag) → IsChain (nodes_of arenas) up → first_id up ≡ Some t.arena → t.route ≡ Direct → EndsWell arenas post (give_back_plan up t)
-  well_refused post ok up t is first direct = ends_then arenas (λ (r : Returned). DoesWell r) post (return_plan up t) (λ r. Done (memory_refusal r)) (well_return up t is first direct) ends
+  pub well_refused : (post : ClimbEnd → Type 0) → post (Err climbing.NoMemory) → (up : List Level) (t : Tag) → IsChain (nodes_of arenas) up → first_id up ≡ Some t.arena → t.route ≡ Direct → EndsWell arenas post (give_back_plan up t)
+  well_refused post ok up t is first direct = ends_then arenas (λ (r : ReturnEnd). DoesWell r) post (return_plan up t) (λ r. Done (memory_refusal r)) (well_return up t is first direct) ends
     where
-      ends : (r : Returned) → DoesWell r → post (memory_refusal r)
+      ends : (r : ReturnEnd) → DoesWell r → post (memory_refusal r)
       ends (Ok u) w = ok
       ends (Err (returning.Stuck x)) w = absurd w
       ends (Err (returning.Stopped x)) w = absurd w
@@ -70,7 +70,7 @@ module _ (arenas : List TreeArena) where
   granted_first [] n t g = absurd g
   granted_first (l ∷ up) n t g = (ap Some (sym g.of_arena), g.direct)
 
-  well_imported : (l : Level) (up : List Level) (n m : ℕ) → IsChain (nodes_of arenas) (l ∷ up) → (r : Climbed) → ClimbsWell up m r → EndsWell arenas (ClimbsWell (l ∷ up) n) (on_import up l.id n r)
+  well_imported : (l : Level) (up : List Level) (n m : ℕ) → IsChain (nodes_of arenas) (l ∷ up) → (r : ClimbEnd) → ClimbsWell up m r → EndsWell arenas (ClimbsWell (l ∷ up) n) (on_import up l.id n r)
   well_imported l up n m is (Ok span) w =
       let g = granted_first up m span w in
       (record { source = chain_source (nodes_of arenas) l up is ∙ g.0; direct = g.1 }, λ x s well. well_added l up n span x is.2 g.0 g.1 s well)

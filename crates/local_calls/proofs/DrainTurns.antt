@@ -9,7 +9,7 @@ use Rattle.arena_tree.specs.Plans.{Plan, Done, then}
 use Rattle.arena_tree.specs.Trees.{nodes_of}
 use Rattle.arena_tree.proofs.LawProofs.{path_split}
 use Rattle.quantum_cache.specs.Caches.{chain_in, if_ok, over_caches, over_arenas}
-use Rattle.quantum_cache.specs.Drains.{Emptied, Turn, Drained, on_put_back, on_drain_pop, drain_turn, drain_end, on_turn, drain_cache_plan, drain_arena_plan, drain_plan}
+use Rattle.quantum_cache.specs.Drains.{EmptyingEnd, Turn, DrainEnd, on_put_back, on_drain_pop, drain_turn, drain_end, on_turn, drain_cache_plan, drain_arena_plan, drain_plan}
 use Rattle.quantum_cache.specs.Frees.{put_chunk}
 use Rattle.quantum_cache.specs.Sizes.{caches_in}
 use Rattle.local_parts.specs.Cpus.{cpu_rounds}
@@ -23,10 +23,10 @@ abbrev rounds : LocalState → ℕ
 rounds s = length (cpu_rounds s.cpu)
 
 -- it never ends for want of turns
-abbrev Lasted : Drained → Type 0
+abbrev Lasted : DrainEnd → Type 0
 Lasted a = ¬ (a ≡ Err None)
 
-ended_lasts : (r : Emptied) → Lasted (drain_end r)
+ended_lasts : (r : EmptyingEnd) → Lasted (drain_end r)
 ended_lasts (Ok u) e = let x : Ok tt ≡ Err None = e in cc
 ended_lasts (Err f) e = let x : Err (Some f) ≡ Err None = e in cc
 
@@ -54,8 +54,8 @@ module _ (arenas : List TreeArena) where
       popped (Err e) step rest = absurd (let does : DoesPop s k c (Err e) mid = step.step.does in let x : Err e ≡ Ok does.0 = does.1 in cc)
 
   -- where there are more turns than rounds, there are none more after it, and it lasted
-  abbrev Lasts : ℕ → Plan Drained → Type 0
-  Lasts turns p = (s t : LocalState) (a : Drained) → rounds s < turns → RunsTo arenas p s t a → (rounds t ≤ rounds s) × Lasted a
+  abbrev Lasts : ℕ → Plan DrainEnd → Type 0
+  Lasts turns p = (s t : LocalState) (a : DrainEnd) → rounds s < turns → RunsTo arenas p s t a → (rounds t ≤ rounds s) × Lasted a
 
   cache_lasts : (turns k c : ℕ) → Lasts turns (drain_cache_plan turns k c)
   cache_lasts zero k c s t a more path = absurd (omega (arith, more))
@@ -73,12 +73,12 @@ module _ (arenas : List TreeArena) where
           (omega (arith, same, first.0), subst Lasted rest.1 (ended_lasts x))
 
   -- one after another
-  then_lasts : {turns : ℕ} (p : Plan Drained) (next : Unit {0} → Plan Drained) → Lasts turns p → ((u : Unit {0}) → Lasts turns (next u)) → Lasts turns (then p (if_ok next))
+  then_lasts : {turns : ℕ} (p : Plan DrainEnd) (next : Unit {0} → Plan DrainEnd) → Lasts turns p → ((u : Unit {0}) → Lasts turns (next u)) → Lasts turns (then p (if_ok next))
   then_lasts p next first rest s t a more path =
       let split = path_split (SoundStep (nodes_of arenas)) p (if_ok next) s t a path in
       on split.0 split.1 (first s split.0 split.1 more split.2) split.3
     where
-      on : (m : LocalState) (r : Drained) → (rounds m ≤ rounds s) × Lasted r → RunsTo arenas (if_ok next r) m t a → (rounds t ≤ rounds s) × Lasted a
+      on : (m : LocalState) (r : DrainEnd) → (rounds m ≤ rounds s) × Lasted r → RunsTo arenas (if_ok next r) m t a → (rounds t ≤ rounds s) × Lasted a
       on m (Ok u) one run =
           let last = rest u m t a (omega (arith, one.0, more)) run in
           (omega (arith, one.0, last.0), last.1)
@@ -91,11 +91,11 @@ module _ (arenas : List TreeArena) where
       let same : rounds t ≡ rounds s = ap rounds (sym path.0) in
       (omega (arith, same), subst Lasted path.1 (ended_lasts (Ok tt)))
 
-  caches_last : {turns : ℕ} (each : ℕ → Unit {0} → Plan Drained) → ((k : ℕ) (u : Unit {0}) → Lasts turns (each k u)) → (all left : ℕ) (u : Unit {0}) → Lasts turns (over_caches each all left u)
+  caches_last : {turns : ℕ} (each : ℕ → Unit {0} → Plan DrainEnd) → ((k : ℕ) (u : Unit {0}) → Lasts turns (each k u)) → (all left : ℕ) (u : Unit {0}) → Lasts turns (over_caches each all left u)
   caches_last each one all zero u = done_lasts u
   caches_last each one all (suc left) u = then_lasts (each (all - left) u) (over_caches each all left) (one (all - left) u) (caches_last each one all left)
 
-  arenas_last : {turns : ℕ} (each : ℕ → Unit {0} → Plan Drained) → ((k : ℕ) (u : Unit {0}) → Lasts turns (each k u)) → (end : ℕ) (u : Unit {0}) → Lasts turns (over_arenas each end u)
+  arenas_last : {turns : ℕ} (each : ℕ → Unit {0} → Plan DrainEnd) → ((k : ℕ) (u : Unit {0}) → Lasts turns (each k u)) → (end : ℕ) (u : Unit {0}) → Lasts turns (over_arenas each end u)
   arenas_last each one zero u = done_lasts u
   arenas_last each one (suc id) u = then_lasts (each id u) (over_arenas each id) (one id u) (arenas_last each one id)
 
@@ -103,6 +103,6 @@ module _ (arenas : List TreeArena) where
   chain_lasts turns [] = done_lasts tt
   chain_lasts turns (l ∷ up) = caches_last (λ cache _. drain_cache_plan turns l.id cache) (λ cache _. cache_lasts turns l.id cache) (caches_in l) (caches_in l) tt
 
-  pub turns_last : (turns : ℕ) (s t : LocalState) (a : Drained) → rounds s < turns → RunsTo arenas (drain_plan turns arenas) s t a → ¬ (a ≡ Err None)
+  pub turns_last : (turns : ℕ) (s t : LocalState) (a : DrainEnd) → rounds s < turns → RunsTo arenas (drain_plan turns arenas) s t a → ¬ (a ≡ Err None)
   turns_last turns s t a more path =
       (arenas_last (λ id _. drain_arena_plan turns (chain_in arenas id)) (λ id _. chain_lasts turns (chain_in arenas id)) (length arenas) tt s t a more path).1

@@ -15,7 +15,7 @@ use Rattle.arena_tree.specs.declared.trees.TreeArena.{TreeArena}
 use Rattle.arena_tree.specs.declared.part_faults.ReturnFault.TheVariants as returning
 use Rattle.arena_tree.specs.declared.part_faults.Stopped.{Stopped}
 use Rattle.arena_tree.specs.Chains.{Node, IsChain, first_id}
-use Rattle.arena_tree.specs.Climbs.{Returned}
+use Rattle.arena_tree.specs.Climbs.{ReturnEnd}
 use Rattle.arena_tree.specs.Events.{Pop}
 use Rattle.arena_tree.specs.Plans.{Done, then}
 use Rattle.arena_tree.specs.Trees.{nodes_of, IsTree, IsArena}
@@ -84,7 +84,7 @@ module _ (arenas : List TreeArena) where
       let keeps : Keeps old path.0 = record { setup = step.setup; empty = λ k j e. subst (λ cpu. EmptyAt cpu k j) (sym step.does.1) e } in
       (subst (Keeps old) path.3.0 keeps, λ is. not_ended (on_slab_put path.1) (path.3.1 ∙ is))
     where
-      not_ended : (a : Returned) → on_put_back a ≡ Some (Ok tt) → ⊥
+      not_ended : (a : ReturnEnd) → on_put_back a ≡ Some (Ok tt) → ⊥
       not_ended (Ok u) e = let x : None ≡ Some (Ok tt) = e in cc
       not_ended (Err (returning.Stuck y)) e = let x : Some (Err (emptying.Stuck y)) ≡ Some (Ok tt) = e in cc
       not_ended (Err (returning.Stopped y)) e = let x : Some (Err (emptying.Stopped (Some y))) ≡ Some (Ok tt) = e in cc

@@ -5,7 +5,7 @@ use Rattle.arena_tree.specs.declared.levels.Level.{Level}
 use Rattle.arena_tree.specs.declared.trees.TreeArena.{TreeArena}
 use Rattle.arena_tree.specs.declared.part_faults.Stopped.{Stopped}
 use Rattle.arena_tree.specs.Chains.{IsChain, first_id}
-use Rattle.arena_tree.specs.Climbs.{Returned, return_plan}
+use Rattle.arena_tree.specs.Climbs.{ReturnEnd, return_plan}
 use Rattle.arena_tree.specs.Events.{SlabReap, DepotReap, Pop}
 use Rattle.arena_tree.specs.Plans.{Plan, Done}
 use Rattle.arena_tree.specs.Sound.{Sound}
@@ -14,7 +14,7 @@ use Rattle.quantum_cache.specs.Caches.{chain_in, if_ok, over_caches, over_arenas
 use Rattle.quantum_cache.specs.Drains.{Turn, drain_end, on_put_back, on_drain_pop, drain_turn, on_turn, drain_cache_plan, drain_arena_plan, drain_plan}
 use Rattle.quantum_cache.specs.declared.reaps.Reaping.{Reaping}
 use Rattle.quantum_cache.specs.Frees.{put_chunk}
-use Rattle.quantum_cache.specs.Reaps.{Reaped, ReapEnd, on_return, on_depot_reap, reap_round, on_slab_reap, reap_slab, on_look, looks_in_turn, reap_steps, reap_cache, reap_arena_plan, reap_plan}
+use Rattle.quantum_cache.specs.Reaps.{LookEnd, ReapEnd, on_return, on_depot_reap, reap_round, on_slab_reap, reap_slab, on_look, looks_in_turn, reap_steps, reap_cache, reap_arena_plan, reap_plan}
 use Rattle.quantum_cache.specs.Sizes.{caches_in}
 use Rattle.local_calls.specs.Asked.{DoesWell, EndsWell}
 use Rattle.local_calls.specs.Laws.{DrainsWell}
@@ -45,13 +45,13 @@ module _ (arenas : List TreeArena) where
   unfolding drain_turn
   well_turn arena cache = (tt, popped)
     where
-      ended : (r : Returned) → DoesWell r → TurnsWell (on_put_back r)
+      ended : (r : ReturnEnd) → DoesWell r → TurnsWell (on_put_back r)
       ended (Ok u) well = tt
       ended (Err f) well = absurd well
 
       popped : (x : Result (Option Tag) Stopped) → Sound (nodes_of arenas) (Pop arena cache) x → DoesWell x → EndsWell arenas TurnsWell (on_drain_pop x)
       popped (Ok None) s well = tt
-      popped (Ok (Some t)) s well = ends_then arenas (λ (r : Returned). DoesWell r) TurnsWell (put_chunk t) (λ r. Done (on_put_back r)) (well_put arenas t cache s.cached) ended
+      popped (Ok (Some t)) s well = ends_then arenas (λ (r : ReturnEnd). DoesWell r) TurnsWell (put_chunk t) (λ r. Done (on_put_back r)) (well_put arenas t cache s.cached) ended
       popped (Err e) s well = absurd well
 
   well_drain_cache : (turns arena cache : ℕ) → EndsWell arenas DrainsWell (drain_cache_plan turns arena cache)
@@ -70,33 +70,33 @@ module _ (arenas : List TreeArena) where
   well_drain turns = ends_arenas arenas DrainsWell (λ u. tt) (λ id (u : Unit {0}). drain_arena_plan turns (chain_in arenas id)) (length arenas) (λ id u less. well_drain_arena turns (chain_in arenas id)) tt
 
   -- a reaping
-  well_returned : (units : ℕ) (r : Returned) → DoesWell r → DoesWell (on_return units r)
+  well_returned : (units : ℕ) (r : ReturnEnd) → DoesWell r → DoesWell (on_return units r)
   well_returned units (Ok u) well = tt
   well_returned units (Err f) well = absurd well
 
-  well_reap_round : (arena cache : ℕ) → EndsWell arenas (λ (r : Reaped). DoesWell r) (reap_round arena cache)
+  well_reap_round : (arena cache : ℕ) → EndsWell arenas (λ (r : LookEnd). DoesWell r) (reap_round arena cache)
   unfolding reap_round
   well_reap_round arena cache = (tt, taken)
     where
-      taken : (x : Result (Option Tag) Stopped) → Sound (nodes_of arenas) (DepotReap arena cache) x → DoesWell x → EndsWell arenas (λ (r : Reaped). DoesWell r) (on_depot_reap x)
+      taken : (x : Result (Option Tag) Stopped) → Sound (nodes_of arenas) (DepotReap arena cache) x → DoesWell x → EndsWell arenas (λ (r : LookEnd). DoesWell r) (on_depot_reap x)
       taken (Ok None) s well = tt
-      taken (Ok (Some t)) s well = ends_then arenas (λ (r : Returned). DoesWell r) (λ (r : Reaped). DoesWell r) (put_chunk t) (λ r. Done (on_return 0 r)) (well_put arenas t cache s.cached) (well_returned 0)
+      taken (Ok (Some t)) s well = ends_then arenas (λ (r : ReturnEnd). DoesWell r) (λ (r : LookEnd). DoesWell r) (put_chunk t) (λ r. Done (on_return 0 r)) (well_put arenas t cache s.cached) (well_returned 0)
       taken (Err e) s well = absurd well
 
-  well_reap_slab : (chain : List Level) (arena cache : ℕ) → IsChain (nodes_of arenas) chain → first_id chain ≡ Some arena → EndsWell arenas (λ (r : Reaped). DoesWell r) (reap_slab chain arena cache)
+  well_reap_slab : (chain : List Level) (arena cache : ℕ) → IsChain (nodes_of arenas) chain → first_id chain ≡ Some arena → EndsWell arenas (λ (r : LookEnd). DoesWell r) (reap_slab chain arena cache)
   unfolding reap_slab
   well_reap_slab chain arena cache is first = (tt, taken)
     where
-      taken : (x : Result (Option Tag) Stopped) → Sound (nodes_of arenas) (SlabReap arena cache) x → DoesWell x → EndsWell arenas (λ (r : Reaped). DoesWell r) (on_slab_reap chain x)
+      taken : (x : Result (Option Tag) Stopped) → Sound (nodes_of arenas) (SlabReap arena cache) x → DoesWell x → EndsWell arenas (λ (r : LookEnd). DoesWell r) (on_slab_reap chain x)
       taken (Ok None) s well = tt
-      taken (Ok (Some t)) s well = ends_then arenas (λ (r : Returned). DoesWell r) (λ (r : Reaped). DoesWell r) (return_plan chain t) (λ r. Done (on_return t.holding.range.len r)) (well_return arenas chain t is (first ∙ ap Some (sym s.of_arena)) s.direct) (well_returned t.holding.range.len)
+      taken (Ok (Some t)) s well = ends_then arenas (λ (r : ReturnEnd). DoesWell r) (λ (r : LookEnd). DoesWell r) (return_plan chain t) (λ r. Done (on_return t.holding.range.len r)) (well_return arenas chain t is (first ∙ ap Some (sym s.of_arena)) s.direct) (well_returned t.holding.range.len)
       taken (Err e) s well = absurd well
 
-  well_up_to : (p : Plan Reaped) → EndsWell arenas (λ (r : Reaped). DoesWell r) p → (n units : ℕ) → EndsWell arenas (λ (r : ReapEnd). DoesWell r) (looks_in_turn p n units)
+  well_up_to : (p : Plan LookEnd) → EndsWell arenas (λ (r : LookEnd). DoesWell r) p → (n units : ℕ) → EndsWell arenas (λ (r : ReapEnd). DoesWell r) (looks_in_turn p n units)
   well_up_to p w zero units = tt
-  well_up_to p w (suc n) units = ends_then arenas (λ (r : Reaped). DoesWell r) (λ (r : ReapEnd). DoesWell r) p (on_look (looks_in_turn p n) n units) w (looked (well_up_to p w n))
+  well_up_to p w (suc n) units = ends_then arenas (λ (r : LookEnd). DoesWell r) (λ (r : ReapEnd). DoesWell r) p (on_look (looks_in_turn p n) n units) w (looked (well_up_to p w n))
     where
-      looked : ((sum : ℕ) → EndsWell arenas (λ (r : ReapEnd). DoesWell r) (looks_in_turn p n sum)) → (a : Reaped) → DoesWell a → EndsWell arenas (λ (r : ReapEnd). DoesWell r) (on_look (looks_in_turn p n) n units a)
+      looked : ((sum : ℕ) → EndsWell arenas (λ (r : ReapEnd). DoesWell r) (looks_in_turn p n sum)) → (a : LookEnd) → DoesWell a → EndsWell arenas (λ (r : ReapEnd). DoesWell r) (on_look (looks_in_turn p n) n units a)
       looked again (Ok (Some more)) well = again _
       looked again (Ok None) well = tt
       looked again (Err f) well = absurd well

@@ -15,7 +15,7 @@ use Rattle.arena_tree.specs.declared.part_faults.SwapEmptyFault.TheVariants as e
 use Rattle.arena_tree.specs.declared.part_faults.SwapFreshFault.{SwapFreshFault}
 use Rattle.arena_tree.specs.declared.part_faults.SwapFreshFault.TheVariants as freshing
 use Rattle.arena_tree.specs.Chains.{IsChain, first_id}
-use Rattle.arena_tree.specs.Climbs.{Returned}
+use Rattle.arena_tree.specs.Climbs.{ReturnEnd}
 use Rattle.arena_tree.specs.Events.{Push, SlabPut}
 use Rattle.arena_tree.specs.Plans.{Plan, then}
 use Rattle.arena_tree.specs.Sound.{Sound}
@@ -33,7 +33,7 @@ PlacesWell (Left t) = (k : ℕ) × (t.route ≡ Cached k)
 PlacesWell (Stopped t) = ⊥
 
 module _ (arenas : List TreeArena) where
-  pub well_put : (t : Tag) (k : ℕ) → t.route ≡ Cached k → EndsWell arenas (λ (r : Returned). DoesWell r) (put_chunk t)
+  pub well_put : (t : Tag) (k : ℕ) → t.route ≡ Cached k → EndsWell arenas (λ (r : ReturnEnd). DoesWell r) (put_chunk t)
   unfolding put_chunk
   well_put t k cached = ((k, cached), done)
     where
@@ -81,19 +81,19 @@ module _ (arenas : List TreeArena) where
         done (Err (emptying.OldSize m)) s well = well_changed m
         done (Err emptying.Stopped) s well = absurd well
 
-  well_or_next : (p : Plan (Placing Tag)) (q : Tag → Plan Returned) → EndsWell arenas PlacesWell p → ((t : Tag) (k : ℕ) → t.route ≡ Cached k → EndsWell arenas (λ (r : Returned). DoesWell r) (q t)) → EndsWell arenas (λ (r : Returned). DoesWell r) (then p (or_next q))
-  well_or_next p q w next = ends_then arenas PlacesWell (λ (r : Returned). DoesWell r) p (or_next q) w go
+  well_or_next : (p : Plan (Placing Tag)) (q : Tag → Plan ReturnEnd) → EndsWell arenas PlacesWell p → ((t : Tag) (k : ℕ) → t.route ≡ Cached k → EndsWell arenas (λ (r : ReturnEnd). DoesWell r) (q t)) → EndsWell arenas (λ (r : ReturnEnd). DoesWell r) (then p (or_next q))
+  well_or_next p q w next = ends_then arenas PlacesWell (λ (r : ReturnEnd). DoesWell r) p (or_next q) w go
     where
-      go : (a : Placing Tag) → PlacesWell a → EndsWell arenas (λ (r : Returned). DoesWell r) (or_next q a)
+      go : (a : Placing Tag) → PlacesWell a → EndsWell arenas (λ (r : ReturnEnd). DoesWell r) (or_next q a)
       go Placed w' = tt
       go (Left t) w' = next t w'.0 w'.1
       go (Stopped t) w' = absurd w'
 
-  well_by : (route : Route) (chain : List Level) (t : Tag) → t.route ≡ route → IsChain (nodes_of arenas) chain → first_id chain ≡ Some t.arena → EndsWell arenas (λ (r : Returned). DoesWell r) (free_steps route chain t)
+  well_by : (route : Route) (chain : List Level) (t : Tag) → t.route ≡ route → IsChain (nodes_of arenas) chain → first_id chain ≡ Some t.arena → EndsWell arenas (λ (r : ReturnEnd). DoesWell r) (free_steps route chain t)
   unfolding free_cached
   well_by Direct chain t by is first = well_return arenas chain t is first by
   well_by (Cached cache) chain t by is first =
       well_or_next (push_round t.arena cache t) _ (well_push t.arena cache t cache by) (λ x k e. well_or_next (push_exchanged t.arena cache x) _ (well_exchanged t.arena cache x k e) well_put)
 
-  pub well_free : (chain : List Level) (t : Tag) → IsChain (nodes_of arenas) chain → first_id chain ≡ Some t.arena → EndsWell arenas (λ (r : Returned). DoesWell r) (free_plan chain t)
+  pub well_free : (chain : List Level) (t : Tag) → IsChain (nodes_of arenas) chain → first_id chain ≡ Some t.arena → EndsWell arenas (λ (r : ReturnEnd). DoesWell r) (free_plan chain t)
   well_free chain t is first = well_by t.route chain t refl is first

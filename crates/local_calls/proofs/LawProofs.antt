@@ -16,7 +16,7 @@ use Rattle.arena_tree.specs.Plans.{Plan, Done, Ask, Step, Path}
 use Rattle.arena_tree.specs.Sound.{Sound}
 use Rattle.arena_tree.specs.Trees.{nodes_of}
 use Rattle.quantum_cache.specs.Allocs.{alloc_plan, xalloc_plan}
-use Rattle.quantum_cache.specs.Drains.{Drained, drain_plan}
+use Rattle.quantum_cache.specs.Drains.{DrainEnd, drain_plan}
 use Rattle.quantum_cache.specs.Frees.{free_plan}
 use Rattle.quantum_cache.specs.Laws.{carve_left, drain_left, reap_left}
 use Rattle.quantum_cache.specs.Reaps.{ReapEnd, reap_plan}
@@ -54,7 +54,7 @@ pub drain_with_turns : DrainWithTurns
 drain_with_turns turns arenas old new others a local accounted more path =
     ended a (turns_last arenas turns old new a more path) (drain_always_done turns arenas old new others a local accounted path) path
   where
-    ended : (r : Drained) → ¬ (r ≡ Err None) → DrainsWell r → RunsTo arenas (drain_plan turns arenas) old new r → (r ≡ Ok tt) × HasNoRounds new.cpu
+    ended : (r : DrainEnd) → ¬ (r ≡ Err None) → DrainsWell r → RunsTo arenas (drain_plan turns arenas) old new r → (r ≡ Ok tt) × HasNoRounds new.cpu
     ended (Ok u) last well run = (refl, drain_empties_cpu turns arenas old new local run)
     ended (Err None) last well run = absurd (last refl)
     ended (Err (Some f)) last well run = absurd well

@@ -19,7 +19,7 @@ use Rattle.arena_tree.specs.declared.part_faults.SlabAddFault.TheVariants as sla
 use Rattle.arena_tree.specs.declared.part_faults.Stopped.{Stopped}
 use Rattle.arena_tree.specs.declared.part_faults.SwapFullFault.{SwapFullFault}
 use Rattle.arena_tree.specs.declared.part_faults.SwapFullFault.TheVariants as fulling
-use Rattle.arena_tree.specs.Climbs.{Climbed, return_plan, memory_refusal, climb_plan}
+use Rattle.arena_tree.specs.Climbs.{ClimbEnd, return_plan, memory_refusal, climb_plan}
 use Rattle.arena_tree.specs.Events.{Pop, SwapFull, SlabTake}
 use Rattle.arena_tree.specs.Plans.{Plan, Done, then, or_else}
 use Rattle.arena_tree.specs.Trees.{nodes_of}
@@ -162,7 +162,7 @@ module _ (arenas : List TreeArena) (l : Level) (up : List Level) where
           let none = climb_none arenas (l ∷ up) l.slab_size old m first in
           (subst (IsUnchanged old) same none.1, none.0)
 
-      climbed : (m : LocalState) (r : Climbed) → RunsTo arenas (climb_plan (l ∷ up) l.slab_size) old m r → RunsTo arenas (on_slab_climb (l ∷ up) l.id c r) m new None → IsUnchanged old new × NoneServesUp old.spaces (l ∷ up) l.slab_size
+      climbed : (m : LocalState) (r : ClimbEnd) → RunsTo arenas (climb_plan (l ∷ up) l.slab_size) old m r → RunsTo arenas (on_slab_climb (l ∷ up) l.id c r) m new None → IsUnchanged old new × NoneServesUp old.spaces (l ∷ up) l.slab_size
       climbed m (Ok span) first rest =
           let split = path_split (SoundStep (nodes_of arenas)) (make_slab (l ∷ up) l.id c span) (λ r. Done (Some r)) m new None rest in
           absurd (let e : Some split.1 ≡ None = split.3.1 in cc)
@@ -230,7 +230,7 @@ module _ (arenas : List TreeArena) where
       let split = path_split (SoundStep (nodes_of arenas)) (climb_plan (l ∷ up) l.slab_size) (on_slab_climb (l ∷ up) l.id c) old new no_fit path in
       climbed split.0 split.1 split.3
     where
-      climbed : (m : LocalState) (r : Climbed) → RunsTo arenas (on_slab_climb (l ∷ up) l.id c r) m new no_fit → ⊥
+      climbed : (m : LocalState) (r : ClimbEnd) → RunsTo arenas (on_slab_climb (l ∷ up) l.id c r) m new no_fit → ⊥
       climbed m (Ok span) rest =
           let split = path_split (SoundStep (nodes_of arenas)) (make_slab (l ∷ up) l.id c span) (λ r. Done (Some r)) m new no_fit rest in
           let same : split.1 ≡ Err climbing.NoFit = (let e : Some split.1 ≡ Some (Err climbing.NoFit) = split.3.1 in cc) in
@@ -242,7 +242,7 @@ module _ (arenas : List TreeArena) where
       climbed m (Err (climbing.Stopped o)) rest = let e : Some (Err (climbing.Stopped o)) ≡ no_fit = rest.1 in cc
 
   -- where a stage doesn't end so, it gave nothing, and the next ones follow
-  goes_on : (p : Plan Stage) (last : Plan Climbed) (old new : LocalState) → ((m : LocalState) → RunsTo arenas p old m no_fit → ⊥) → RunsTo arenas (then p (or_else last)) old new (Err climbing.NoFit)
+  goes_on : (p : Plan Stage) (last : Plan ClimbEnd) (old new : LocalState) → ((m : LocalState) → RunsTo arenas p old m no_fit → ⊥) → RunsTo arenas (then p (or_else last)) old new (Err climbing.NoFit)
       → (m : LocalState) × RunsTo arenas p old m None × RunsTo arenas last m new (Err climbing.NoFit)
   goes_on p last old new ends path =
       let split = path_split (SoundStep (nodes_of arenas)) p (or_else last) old new (Err climbing.NoFit) path in

@@ -9,7 +9,7 @@ use Rattle.arena_tree.specs.declared.part_faults.FreeFault.TheVariants as freein
 use Rattle.arena_tree.specs.declared.part_faults.Stopped.{Stopped}
 use Rattle.arena_tree.specs.declared.part_faults.ReturnFault.TheVariants as returning
 use Rattle.arena_tree.specs.Chains.{IsChain}
-use Rattle.arena_tree.specs.Climbs.{Returned, return_plan, on_free}
+use Rattle.arena_tree.specs.Climbs.{ReturnEnd, return_plan, on_free}
 use Rattle.arena_tree.specs.Events.{Free, SlabReap, DepotReap}
 use Rattle.arena_tree.specs.Plans.{Plan, Done, then}
 use Rattle.arena_tree.specs.Trees.{nodes_of, IsTree}
@@ -19,7 +19,7 @@ use Rattle.stock.specs.Spaces.{plan_of}
 use Rattle.quantum_cache.specs.declared.reaps.Reaping.{Reaping}
 use Rattle.quantum_cache.specs.Caches.{chain_in, if_ok, over_caches, over_arenas}
 use Rattle.quantum_cache.specs.Frees.{on_slab_put, put_chunk}
-use Rattle.quantum_cache.specs.Reaps.{Reaped, ReapEnd, on_return, on_depot_reap, reap_round, on_slab_reap, reap_slab, on_look, looks_in_turn, reap_steps, reap_cache, reap_arena_plan, reap_plan}
+use Rattle.quantum_cache.specs.Reaps.{LookEnd, ReapEnd, on_return, on_depot_reap, reap_round, on_slab_reap, reap_slab, on_look, looks_in_turn, reap_steps, reap_cache, reap_arena_plan, reap_plan}
 use Rattle.quantum_cache.specs.Sizes.{caches_in}
 use Rattle.local_parts.specs.States.{LocalState}
 use Rattle.local_calls.specs.Looks.{finds_in_spaces, ReapTakesFewLooks, ReapWithoutLimit}
@@ -34,20 +34,20 @@ abbrev found : LocalState → ℕ
 found s = finds_in_spaces s.spaces
 
 -- a look that found something, and one that found nothing
-abbrev LookPays : ℕ → ℕ → Reaped → Type 0
+abbrev LookPays : ℕ → ℕ → LookEnd → Type 0
 LookPays old new (Ok (Some units)) = new + 1 ≡ old
 LookPays old new (Ok None) = new ≡ old
 LookPays old new (Err f) = Unit {0}
 
 -- what came back doesn't say that nothing was found
-returned_pays : (old new units : ℕ) (a : Returned) → new + 1 ≡ old → LookPays old new (on_return units a)
+returned_pays : (old new units : ℕ) (a : ReturnEnd) → new + 1 ≡ old → LookPays old new (on_return units a)
 returned_pays old new units (Ok u) e = e
 returned_pays old new units (Err (returning.Stuck t)) e = tt
 returned_pays old new units (Err (returning.Stopped t)) e = tt
 
 module _ (arenas : List TreeArena) where
   -- a round goes to its slab
-  put_pays : (t : Tag) (old mid new : LocalState) (r : Reaped) → found mid + 1 ≡ found old → RunsTo arenas (then (put_chunk t) (λ a. Done (on_return 0 a))) mid new r → LookPays (found old) (found new) r
+  put_pays : (t : Tag) (old mid new : LocalState) (r : LookEnd) → found mid + 1 ≡ found old → RunsTo arenas (then (put_chunk t) (λ a. Done (on_return 0 a))) mid new r → LookPays (found old) (found new) r
   unfolding put_chunk
   put_pays t old mid new r less run =
       let same : found run.0 ≡ found mid = put_found mid.spaces run.0.spaces t run.1 run.2.step.does.0 in
@@ -55,7 +55,7 @@ module _ (arenas : List TreeArena) where
       subst (LookPays (found old) (found new)) run.3.1 (returned_pays (found old) (found new) 0 (on_slab_put run.1) (omega (arith, less, same, last)))
 
   -- a look at a depot
-  round_pays : (k c : ℕ) (old new : LocalState) (r : Reaped) → RunsTo arenas (reap_round k c) old new r → LookPays (found old) (found new) r
+  round_pays : (k c : ℕ) (old new : LocalState) (r : LookEnd) → RunsTo arenas (reap_round k c) old new r → LookPays (found old) (found new) r
   unfolding reap_round
   round_pays k c old new r path = looked path.1 path.2 path.3
     where
@@ -69,21 +69,21 @@ module _ (arenas : List TreeArena) where
       looked (Err e) step rest = absurd (let x : Err e ≡ Ok step.step.does.0.0 = step.step.does.0.1 in cc)
 
   -- spans that go back
-  frees_pay : (chain : List Level) (t : Tag) (old new : LocalState) (r : Returned) → RunsTo arenas (return_plan chain t) old new r → found new ≡ found old
+  frees_pay : (chain : List Level) (t : Tag) (old new : LocalState) (r : ReturnEnd) → RunsTo arenas (return_plan chain t) old new r → found new ≡ found old
   frees_pay [] t old new r path = ap found (sym path.0)
   frees_pay (l ∷ up) t old new r path = freed path.1 path.2 path.3 (λ w. frees_pay up w)
     where
       mid : LocalState
       mid = path.0
 
-      freed : (x : Result (Option Tag) (FreeFault Tag)) → SoundStep (nodes_of arenas) old (Free t) x mid → RunsTo arenas (on_free (return_plan up) x) mid new r → ((w : Tag) (s u : LocalState) (a : Returned) → RunsTo arenas (return_plan up w) s u a → found u ≡ found s) → found new ≡ found old
+      freed : (x : Result (Option Tag) (FreeFault Tag)) → SoundStep (nodes_of arenas) old (Free t) x mid → RunsTo arenas (on_free (return_plan up) x) mid new r → ((w : Tag) (s u : LocalState) (a : ReturnEnd) → RunsTo arenas (return_plan up w) s u a → found u ≡ found s) → found new ≡ found old
       freed (Ok (Some w)) step rest again = again w mid new r rest ∙ freed_found old.spaces mid.spaces t (Ok (Some w)) step.step.does.0
       freed (Ok None) step rest again = ap found (sym rest.0) ∙ freed_found old.spaces mid.spaces t (Ok None) step.step.does.0
       freed (Err (freeing.BadFree w)) step rest again = ap found (sym rest.0) ∙ freed_found old.spaces mid.spaces t (Err (freeing.BadFree w)) step.step.does.0
       freed (Err (freeing.Stopped w)) step rest again = ap found (sym rest.0) ∙ freed_found old.spaces mid.spaces t (Err (freeing.Stopped w)) step.step.does.0
 
   -- a look at slabs
-  slab_pays : (chain : List Level) (k c : ℕ) (old new : LocalState) (r : Reaped) → RunsTo arenas (reap_slab chain k c) old new r → LookPays (found old) (found new) r
+  slab_pays : (chain : List Level) (k c : ℕ) (old new : LocalState) (r : LookEnd) → RunsTo arenas (reap_slab chain k c) old new r → LookPays (found old) (found new) r
   unfolding reap_slab
   slab_pays chain k c old new r path = looked path.1 path.2 path.3
     where
@@ -101,7 +101,7 @@ module _ (arenas : List TreeArena) where
       looked (Err e) step rest = absurd (let x : Err e ≡ Ok step.step.does.0.0 = step.step.does.0.1 in cc)
 
   -- looks one after another: all but one find something
-  looks_pay : (look : Plan Reaped) → ((s t : LocalState) (r : Reaped) → RunsTo arenas look s t r → LookPays (found s) (found t) r) → (n units : ℕ) (s t : LocalState) (y : Reaping) → RunsTo arenas (looks_in_turn look n units) s t (Ok y) → n + found t ≤ y.left + found s + 1
+  looks_pay : (look : Plan LookEnd) → ((s t : LocalState) (r : LookEnd) → RunsTo arenas look s t r → LookPays (found s) (found t) r) → (n units : ℕ) (s t : LocalState) (y : Reaping) → RunsTo arenas (looks_in_turn look n units) s t (Ok y) → n + found t ≤ y.left + found s + 1
   looks_pay look one zero units s t y path =
       let same : found s ≡ found t = ap found path.0 in
       omega (arith, same)
@@ -109,7 +109,7 @@ module _ (arenas : List TreeArena) where
       let split = path_split (SoundStep (nodes_of arenas)) look (on_look (looks_in_turn look n) n units) s t (Ok y) path in
       looked split.0 split.1 (one s split.0 split.1 split.2) split.3 (λ sum. looks_pay look one n sum split.0 t y)
     where
-      looked : (m : LocalState) (r : Reaped) → LookPays (found s) (found m) r → RunsTo arenas (on_look (looks_in_turn look n) n units r) m t (Ok y) → ((sum : ℕ) → RunsTo arenas (looks_in_turn look n sum) m t (Ok y) → n + found t ≤ y.left + found m + 1) → suc n + found t ≤ y.left + found s + 1
+      looked : (m : LocalState) (r : LookEnd) → LookPays (found s) (found m) r → RunsTo arenas (on_look (looks_in_turn look n) n units r) m t (Ok y) → ((sum : ℕ) → RunsTo arenas (looks_in_turn look n sum) m t (Ok y) → n + found t ≤ y.left + found m + 1) → suc n + found t ≤ y.left + found s + 1
       looked m (Ok (Some more)) first rest again = let le = again _ rest in omega (arith, first, le)
       looked m (Ok None) first rest again =
           let is : record { left = n; units = units } ≡ y = (let e : Ok (record { left = n; units = units }) ≡ Ok y = rest.1 in cc) in

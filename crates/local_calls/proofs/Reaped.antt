@@ -12,7 +12,7 @@ use Rattle.arena_tree.specs.declared.part_faults.FreeFault.TheVariants as freein
 use Rattle.arena_tree.specs.declared.part_faults.Stopped.{Stopped}
 use Rattle.arena_tree.specs.declared.part_faults.ReturnFault.TheVariants as returning
 use Rattle.arena_tree.specs.Chains.{IsChain, first_id}
-use Rattle.arena_tree.specs.Climbs.{Returned, return_plan, on_free}
+use Rattle.arena_tree.specs.Climbs.{ReturnEnd, return_plan, on_free}
 use Rattle.arena_tree.specs.Events.{Free, SlabReap, DepotReap}
 use Rattle.arena_tree.specs.Plans.{Plan, Done, then}
 use Rattle.arena_tree.specs.Trees.{nodes_of, IsTree}
@@ -23,7 +23,7 @@ use Rattle.quantum_cache.specs.declared.emptying_faults.EmptyingFault.TheVariant
 use Rattle.quantum_cache.specs.declared.reaps.Reaping.{Reaping}
 use Rattle.quantum_cache.specs.Caches.{chain_in, if_ok}
 use Rattle.quantum_cache.specs.Frees.{on_slab_put, put_chunk}
-use Rattle.quantum_cache.specs.Reaps.{Reaped, ReapEnd, on_return, on_depot_reap, reap_round, on_slab_reap, reap_slab, on_look, looks_in_turn, reap_steps, reap_cache, reap_arena_plan, reap_plan}
+use Rattle.quantum_cache.specs.Reaps.{LookEnd, ReapEnd, on_return, on_depot_reap, reap_round, on_slab_reap, reap_slab, on_look, looks_in_turn, reap_steps, reap_cache, reap_arena_plan, reap_plan}
 use Rattle.quantum_cache.specs.Sizes.{caches_in}
 use Rattle.local_parts.specs.States.{LocalState}
 use Rattle.local_calls.specs.Laws.{ReapLeavesNothing}
@@ -72,8 +72,8 @@ others_keep old new k c had others i n was d there = elim (others i n d there) [
 ]
 
 -- looks one after another
-module _ (arenas : List TreeArena) (Rel : LocalState → LocalState → Type 0) (same : (s : LocalState) → Rel s s) (trans : (s t u : LocalState) → Rel s t → Rel t u → Rel s u) (Last : LocalState → Type 0) (look : Plan Reaped)
-    (one : (s t : LocalState) (r : Reaped) → RunsTo arenas look s t r → Rel s t × (r ≡ Ok None → Last t)) where
+module _ (arenas : List TreeArena) (Rel : LocalState → LocalState → Type 0) (same : (s : LocalState) → Rel s s) (trans : (s t u : LocalState) → Rel s t → Rel t u → Rel s u) (Last : LocalState → Type 0) (look : Plan LookEnd)
+    (one : (s t : LocalState) (r : LookEnd) → RunsTo arenas look s t r → Rel s t × (r ≡ Ok None → Last t)) where
   looks : (n units : ℕ) (s t : LocalState) (y : Reaping) → RunsTo arenas (looks_in_turn look n units) s t (Ok y) → Rel s t × (y.left ≤ n) × (0 < y.left → Last t)
   looks zero units s t y path =
       let is : record { left = 0; units = units } ≡ y = (let e : Ok (record { left = 0; units = units }) ≡ Ok y = path.1 in cc) in
@@ -83,7 +83,7 @@ module _ (arenas : List TreeArena) (Rel : LocalState → LocalState → Type 0) 
       let split = path_split (SoundStep (nodes_of arenas)) look (on_look (looks_in_turn look n) n units) s t (Ok y) path in
       looked split.0 split.1 (one s split.0 split.1 split.2) split.3 (λ sum. looks n sum split.0 t y)
     where
-      looked : (m : LocalState) (r : Reaped) → Rel s m × (r ≡ Ok None → Last m) → RunsTo arenas (on_look (looks_in_turn look n) n units r) m t (Ok y)
+      looked : (m : LocalState) (r : LookEnd) → Rel s m × (r ≡ Ok None → Last m) → RunsTo arenas (on_look (looks_in_turn look n) n units r) m t (Ok y)
           → ((sum : ℕ) → RunsTo arenas (looks_in_turn look n sum) m t (Ok y) → Rel m t × (y.left ≤ n) × (0 < y.left → Last t)) → Rel s t × (y.left ≤ suc n) × (0 < y.left → Last t)
       looked m (Ok (Some more)) first rest again = let r = again _ rest in (trans s m t first.0 r.0, omega (arith, r.1), r.2)
       looked m (Ok None) first rest again =
@@ -94,7 +94,7 @@ module _ (arenas : List TreeArena) (Rel : LocalState → LocalState → Type 0) 
 
 module _ (arenas : List TreeArena) where
   -- a round goes to its slab
-  put_back_keeps : (t : Tag) (k c : ℕ) → t.arena ≡ k → t.route ≡ Cached c → (old new : LocalState) (r : Reaped) → RunsTo arenas (then (put_chunk t) (λ a. Done (on_return 0 a))) old new r
+  put_back_keeps : (t : Tag) (k c : ℕ) → t.arena ≡ k → t.route ≡ Cached c → (old new : LocalState) (r : LookEnd) → RunsTo arenas (then (put_chunk t) (λ a. Done (on_return 0 a))) old new r
       → (plans_of new.spaces ≡ plans_of old.spaces) × OthersSame k c old.spaces new.spaces × (r ≡ Ok None → ⊥)
   unfolding put_chunk
   put_back_keeps t k c home cached old new r path =
@@ -104,13 +104,13 @@ module _ (arenas : List TreeArena) where
         λ is. not_none 0 (on_slab_put path.1) (path.3.1 ∙ is),
       )
     where
-      not_none : (units : ℕ) (a : Returned) → on_return units a ≡ Ok None → ⊥
+      not_none : (units : ℕ) (a : ReturnEnd) → on_return units a ≡ Ok None → ⊥
       not_none units (Ok u) e = let x : Ok (Some units) ≡ Ok None = e in cc
       not_none units (Err (returning.Stuck y)) e = let x : Err (emptying.Stuck y) ≡ Ok None = e in cc
       not_none units (Err (returning.Stopped y)) e = let x : Err (emptying.Stopped (Some y)) ≡ Ok None = e in cc
 
   -- a look at a depot
-  round_keeps : (k c : ℕ) (old new : LocalState) (r : Reaped) → RunsTo arenas (reap_round k c) old new r → ReapKeeps old new × (r ≡ Ok None → (j : ℕ) → c ≡ j + 1 → DepotStands new.spaces k j)
+  round_keeps : (k c : ℕ) (old new : LocalState) (r : LookEnd) → RunsTo arenas (reap_round k c) old new r → ReapKeeps old new × (r ≡ Ok None → (j : ℕ) → c ≡ j + 1 → DepotStands new.spaces k j)
   unfolding reap_round
   round_keeps k c old new r path = looked path.1 path.2 path.3
     where
@@ -130,7 +130,7 @@ module _ (arenas : List TreeArena) where
       looked (Err e) step rest = absurd (let x : Err e ≡ Ok step.step.does.0.0 = step.step.does.0.1 in cc)
 
   -- spans that go back leave the caches
-  frees_same : (chain : List Level) (t : Tag) (old new : LocalState) (r : Returned) → RunsTo arenas (return_plan chain t) old new r → (plans_of new.spaces ≡ plans_of old.spaces) × CachesSame old.spaces new.spaces
+  frees_same : (chain : List Level) (t : Tag) (old new : LocalState) (r : ReturnEnd) → RunsTo arenas (return_plan chain t) old new r → (plans_of new.spaces ≡ plans_of old.spaces) × CachesSame old.spaces new.spaces
   frees_same [] t old new r path =
       subst (λ (s : LocalState). (plans_of s.spaces ≡ plans_of old.spaces) × CachesSame old.spaces s.spaces) path.0 (refl, λ i n d there. there)
   frees_same (l ∷ up) t old new r path = freed path.1 path.2 path.3 (λ w. frees_same up w)
@@ -139,7 +139,7 @@ module _ (arenas : List TreeArena) where
       mid = path.0
 
       freed : (x : Result (Option Tag) (FreeFault Tag)) → SoundStep (nodes_of arenas) old (Free t) x mid → RunsTo arenas (on_free (return_plan up) x) mid new r
-          → ((w : Tag) (s u : LocalState) (a : Returned) → RunsTo arenas (return_plan up w) s u a → (plans_of u.spaces ≡ plans_of s.spaces) × CachesSame s.spaces u.spaces) → (plans_of new.spaces ≡ plans_of old.spaces) × CachesSame old.spaces new.spaces
+          → ((w : Tag) (s u : LocalState) (a : ReturnEnd) → RunsTo arenas (return_plan up w) s u a → (plans_of u.spaces ≡ plans_of s.spaces) × CachesSame s.spaces u.spaces) → (plans_of new.spaces ≡ plans_of old.spaces) × CachesSame old.spaces new.spaces
       freed (Ok (Some w)) step rest again =
           let more = again w mid new r rest in
           let first = freed_same old.spaces mid.spaces t (Ok (Some w)) step.step.does.0 in
@@ -149,7 +149,7 @@ module _ (arenas : List TreeArena) where
       freed (Err (freeing.Stopped w)) step rest again = subst (λ (s : LocalState). (plans_of s.spaces ≡ plans_of old.spaces) × CachesSame old.spaces s.spaces) rest.0 (step.step.setup.plans, freed_same old.spaces mid.spaces t (Err (freeing.Stopped w)) step.step.does.0)
 
   -- a look at slabs
-  slab_keeps : (chain : List Level) (k c : ℕ) (old new : LocalState) (r : Reaped) → RunsTo arenas (reap_slab chain k c) old new r → SlabKeeps old new × (r ≡ Ok None → (j : ℕ) → c ≡ j + 1 → SlabsStand new.spaces k j)
+  slab_keeps : (chain : List Level) (k c : ℕ) (old new : LocalState) (r : LookEnd) → RunsTo arenas (reap_slab chain k c) old new r → SlabKeeps old new × (r ≡ Ok None → (j : ℕ) → c ≡ j + 1 → SlabsStand new.spaces k j)
   unfolding reap_slab
   slab_keeps chain k c old new r path = looked path.1 path.2 path.3
     where
@@ -168,7 +168,7 @@ module _ (arenas : List TreeArena) where
           let freed = frees_same chain t mid split.0 split.1 split.2 in
           (subst (SlabKeeps old) split.3.0 (slab_then old mid split.0 first (all_same mid split.0 freed.0 freed.1)), λ is. absurd (not_none t.holding.range.len split.1 (split.3.1 ∙ is)))
         where
-          not_none : (units : ℕ) (a : Returned) → on_return units a ≡ Ok None → ⊥
+          not_none : (units : ℕ) (a : ReturnEnd) → on_return units a ≡ Ok None → ⊥
           not_none units (Ok u) e = let x : Ok (Some units) ≡ Ok None = e in cc
           not_none units (Err (returning.Stuck y)) e = let x : Err (emptying.Stuck y) ≡ Ok None = e in cc
           not_none units (Err (returning.Stopped y)) e = let x : Err (emptying.Stopped (Some y)) ≡ Ok None = e in cc

@@ -8,11 +8,11 @@ use Rattle.arena_tree.specs.declared.part_faults.CarveFault.TheVariants as carvi
 use Rattle.arena_tree.specs.declared.part_faults.ClimbFault.TheVariants as climbing
 use Rattle.arena_tree.specs.declared.trees.TreeArena.{TreeArena}
 use Rattle.arena_tree.specs.Chains.{IsChain, first_id}
-use Rattle.arena_tree.specs.Climbs.{Climbed, Returned}
+use Rattle.arena_tree.specs.Climbs.{ClimbEnd, ReturnEnd}
 use Rattle.arena_tree.specs.Trees.{nodes_of}
 use Rattle.quantum_cache.specs.declared.reaps.Reaping.{Reaping}
 use Rattle.quantum_cache.specs.Allocs.{alloc_plan, xalloc_plan}
-use Rattle.quantum_cache.specs.Drains.{Drained, drain_plan}
+use Rattle.quantum_cache.specs.Drains.{DrainEnd, drain_plan}
 use Rattle.quantum_cache.specs.Frees.{free_plan}
 use Rattle.quantum_cache.specs.Reaps.{ReapEnd, reap_plan}
 use Rattle.stock.specs.Stocks.{IsStock}
@@ -24,7 +24,7 @@ use Rattle.local_calls.specs.Reaped.{NoneToReap}
 use Rattle.local_calls.specs.Runs.{IsLocalOf, IsAccountedWith, RunsTo}
 
 -- an allocation gives a segment, or is refused with an empty hand: nothing is stuck or stopped
-abbrev pub AllocsWell : Climbed → Type 0
+abbrev pub AllocsWell : ClimbEnd → Type 0
 AllocsWell (Ok t) = Unit {0}
 AllocsWell (Err climbing.BadRequest) = Unit {0}
 AllocsWell (Err climbing.NoFit) = Unit {0}
@@ -34,7 +34,7 @@ AllocsWell (Err (climbing.Stopped o)) = ⊥
 
 -- a drain ends with all rounds placed, unless its turns ran out, of which DrainWithTurns says how
 -- many are enough
-abbrev pub DrainsWell : Drained → Type 0
+abbrev pub DrainsWell : DrainEnd → Type 0
 DrainsWell (Ok u) = Unit {0}
 DrainsWell (Err None) = Unit {0}
 DrainsWell (Err (Some f)) = ⊥
@@ -42,7 +42,7 @@ DrainsWell (Err (Some f)) = ⊥
 -- Where the accounts balance, whoever else holds segments: no allocation ends stuck or stopped.
 abbrev pub AllocNeverStuck : Type 0
 AllocNeverStuck = (arenas : List TreeArena) (chain : List Level) (size : ℕ)
-    (old new : LocalState) (others : List Tag) (a : Climbed) → IsChain (nodes_of arenas) chain
+    (old new : LocalState) (others : List Tag) (a : ClimbEnd) → IsChain (nodes_of arenas) chain
     → IsLocalOf arenas old → IsAccountedWith old None others
     → RunsTo arenas (alloc_plan chain size) old new a → AllocsWell a
 
@@ -56,14 +56,14 @@ XallocNeverStops = (arenas : List TreeArena) (arena : ℕ) (request : Request)
 -- A segment that is out can always be freed.
 abbrev pub FreeAlwaysDone : Type 0
 FreeAlwaysDone = (arenas : List TreeArena) (chain : List Level) (t : Tag) (old new : LocalState)
-    (others : List Tag) (a : Returned) → IsChain (nodes_of arenas) chain
+    (others : List Tag) (a : ReturnEnd) → IsChain (nodes_of arenas) chain
     → first_id chain ≡ Some t.arena → IsLocalOf arenas old → IsAccountedWith old (Some t) others
     → RunsTo arenas (free_plan chain t) old new a → DoesWell a
 
 -- A drain ends well, and so does a reaping.
 abbrev pub DrainAlwaysDone : Type 0
 DrainAlwaysDone = (turns : ℕ) (arenas : List TreeArena) (old new : LocalState) (others : List Tag)
-    (a : Drained) → IsLocalOf arenas old → IsAccountedWith old None others
+    (a : DrainEnd) → IsLocalOf arenas old → IsAccountedWith old None others
     → RunsTo arenas (drain_plan turns arenas) old new a → DrainsWell a
 
 abbrev pub ReapAlwaysDone : Type 0
@@ -96,7 +96,7 @@ DrainEmptiesCpu = (turns : ℕ) (arenas : List TreeArena) (old new : LocalState)
 -- don't run out.
 abbrev pub DrainWithTurns : Type 0
 DrainWithTurns = (turns : ℕ) (arenas : List TreeArena) (old new : LocalState) (others : List Tag)
-    (a : Drained) → IsLocalOf arenas old → IsAccountedWith old None others
+    (a : DrainEnd) → IsLocalOf arenas old → IsAccountedWith old None others
     → length (cpu_rounds old.cpu) < turns → RunsTo arenas (drain_plan turns arenas) old new a
     → (a ≡ Ok tt) × HasNoRounds new.cpu
 

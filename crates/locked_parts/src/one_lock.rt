@@ -17,7 +17,7 @@ use crate::parts::LockedParts;
 use arena_tree::{AddCarveFault, NewRoot, Setting, Setup};
 use deed_core::{Range, Request, Route, Segment};
 use deed_table::{Ground, Name, SeatDeed, close};
-use lease_terms::Name as ArenaName;
+use lease_terms::ArenaName;
 use std::alloc::AllocGlobal;
 use std::marker::Brand;
 use std::process::Abort;

@@ -5,7 +5,7 @@ use Rattle.deed_core.specs.declared.requests.Request.{Request}
 use Rattle.plain_arena.specs.declared.choices.Found.{Found}
 use Rattle.plain_arena.specs.declared.whole_spans.Whole.{Whole}
 use Rattle.plain_arena.specs.Found.{IsPlaced, IsCuttable}
-use Rattle.tag_arena.specs.ArenaState.{ArenaState, IsDivided, IsSound}
+use Rattle.tag_arena.specs.ArenaState.{ArenaState, IsDivided, IsSoundArena}
 use Rattle.tag_arena.specs.Calls.{part}
 use Rattle.tag_arena.proofs.Granting.{CarvesAt, FoundAt, rounded_some, rounded_multiple}
 use Rattle.tag_arena.proofs.Sounding.{power_some}
@@ -18,7 +18,7 @@ abbrev pub whole_at : Whole → WholeAt
 whole_at w = record { at = w.at; free_at = w.free_at; span = w.span }
 
 -- what was found for a good request can be carved there
-pub found_cuttable : (a : ArenaState) (q : Request) (f : Found) (n : ℕ) → IsSound a → IsGood a.quantum q → IsPlaced a.quantum q a.free f → n ≡ rounding_of a.quantum q.size → IsCuttable a.quantum a.free f n
+pub found_cuttable : (a : ArenaState) (q : Request) (f : Found) (n : ℕ) → IsSoundArena a → IsGood a.quantum q → IsPlaced a.quantum q a.free f → n ≡ rounding_of a.quantum q.size → IsCuttable a.quantum a.free f n
 found_cuttable a q f n sound good placed n_is = record {
   within = placed.0;
   here = placed.1;

@@ -13,7 +13,7 @@ ghost use Rattle.deed_core.specs.Request.{IsGood};
 ghost use Rattle.deed_core.specs.Weights.{Gains, Loses};
 ghost use Rattle.tag_arena.specs.Layout.{FreeIsLongestRuns};
 ghost use Rattle.tag_arena.specs.ArenaState.{spans_of, layout_of, ranges_of, tags_of, direct_tag};
-ghost use Rattle.tag_arena.specs.ArenaState.{IsChosen, IsSound, OnQuantum, empty_arena};
+ghost use Rattle.tag_arena.specs.ArenaState.{IsChosen, IsSoundArena, OnQuantum, empty_arena};
 ghost use Rattle.tag_arena.specs.Calls.{part, after_carve, RefusesCarve, IsClear, OverlapsSpan};
 ghost use Rattle.tag_arena.specs.Calls.{after_import, first_units, IsTagged};
 ghost use Rattle.plain_arena.specs.Found.{IsCuttable, IsPlaced};
@@ -54,7 +54,7 @@ impl<D: Deed> Model for PlainArena<D> {
     ghost use Rattle.std.specs.Ordering.{nat_cmp};
     ghost use Rattle.std.specs.FinMap as finmap;
     ghost use Rattle.deed_core.specs.Holding.{Holding};
-    ghost use Rattle.tag_arena.specs.ArenaState.{ArenaState, IsSound};
+    ghost use Rattle.tag_arena.specs.ArenaState.{ArenaState, IsSoundArena};
 
     ghost Value = { ArenaState };
 
@@ -74,7 +74,7 @@ impl<D: Deed> Model for PlainArena<D> {
 
     // What is allocated can come back without memory.
     ghost invariant = { λ a.
-        IsSound (record {
+        IsSoundArena (record {
           id = a.id;
           quantum = a.quantum;
           policy = a.policy;
@@ -109,7 +109,7 @@ impl<D: Deed> PlainArena<D> {
     /// know of an arena what is always so.
     pub fn id(&self) -> u32
         ensures value { result ≡ self.now.id }
-        ensures sound { IsSound self.now }
+        ensures sound { IsSoundArena self.now }
         ensures longest { FreeIsLongestRuns (layout_of self.now) }
     {
         self.id
@@ -139,7 +139,7 @@ impl<D: Deed> PlainArena<D> {
 
         // What is always so of an arena.
         ensures longest { FreeIsLongestRuns (layout_of self.now) }
-        ensures sound { IsSound self.now }
+        ensures sound { IsSoundArena self.now }
     {
         let span = owned_units(&self.owned) + imported_units(&self.imported);
         let free = free_units(&self.free);
@@ -200,7 +200,7 @@ impl<D: Deed> PlainArena<D> {
         ensures added { AddSpanOf self.old deed (D.holding deed) result self.new }
 
         // What follows, for those above.
-        ensures sound { IsSound self.new }
+        ensures sound { IsSoundArena self.new }
         ensures kept { KeepsSetup self.old self.new }
         ensures imported { self.new.imported ≡ self.old.imported }
     {
@@ -229,7 +229,7 @@ impl<D: Deed> PlainArena<D> {
         ensures carved { CarveOf self.old request.now result self.new }
 
         // What follows, for those above.
-        ensures sound { IsSound self.new }
+        ensures sound { IsSoundArena self.new }
         ensures kept { KeepsSetup self.old self.new }
         ensures owned { self.new.owned ≡ self.old.owned }
         ensures imported { self.new.imported ≡ self.old.imported }
@@ -291,7 +291,7 @@ impl<D: Deed> PlainArena<D> {
         ensures carved { ImportOf self.old span request.now result self.new }
 
         // What follows, for those above.
-        ensures sound { IsSound self.new }
+        ensures sound { IsSoundArena self.new }
         ensures kept { KeepsSetup self.old self.new }
         ensures owned { self.new.owned ≡ self.old.owned }
         ensures imported { OnOk result (Gains self.old.imported self.new.imported span) }
@@ -361,7 +361,7 @@ impl<D: Deed> PlainArena<D> {
         ensures freed { FreeOf self.old segment result self.new }
 
         // What follows, for those above.
-        ensures sound { IsSound self.new }
+        ensures sound { IsSoundArena self.new }
         ensures kept { KeepsSetup self.old self.new }
         ensures owned { self.new.owned ≡ self.old.owned }
         ensures loses { OnOk result (Loses (tags_of self.old) (tags_of self.new) segment) }
@@ -399,7 +399,7 @@ impl<D: Deed> PlainArena<D> {
         ensures removed { RemoveOf self.old (option_map D.holding result) self.new }
 
         // What follows, for those above.
-        ensures sound { IsSound self.new }
+        ensures sound { IsSoundArena self.new }
         ensures kept { KeepsSetup self.old self.new }
         ensures imported { self.new.imported ≡ self.old.imported }
         ensures loses { IfSome result (λ deed.

@@ -8,7 +8,7 @@ use Rattle.arena_tree.specs.declared.part_faults.SwapFullFault.TheVariants as fu
 use Rattle.arena_tree.specs.declared.part_faults.SlabAddFault.{SlabAddFault}
 use Rattle.arena_tree.specs.declared.part_faults.SlabAddFault.TheVariants as slabbing
 use Rattle.arena_tree.specs.Plans.{Plan, Done, then, or_else, Within}
-use Rattle.arena_tree.specs.Climbs.{Climbed, climb_plan, memory_refusal, climb_most}
+use Rattle.arena_tree.specs.Climbs.{ClimbEnd, climb_plan, memory_refusal, climb_most}
 use Rattle.arena_tree.proofs.LawProofs.{within_then, within_refused, within_climb}
 use Rattle.quantum_cache.specs.Sizes.{cache_for}
 use Rattle.quantum_cache.specs.Allocs.{Stage, take_round, change_over, on_swap_full, take_from_depot, take_chunk, on_slab_add, make_slab, on_slab_climb, take_from_slab, alloc_cached, alloc_steps}
@@ -47,7 +47,7 @@ abbrev slab_most : ℕ → ℕ → Stage → ℕ
 slab_most n depth None = n + depth
 slab_most n depth (Some r) = n + 3 * depth
 
-slab_within : (most : Climbed → ℕ) (chain : List Level) (x : Result Tag (SlabAddFault Tag)) (n : ℕ) → ((r : Climbed) → n + length chain ≤ most r) → Within most (on_slab_add chain x) n
+slab_within : (most : ClimbEnd → ℕ) (chain : List Level) (x : Result Tag (SlabAddFault Tag)) (n : ℕ) → ((r : ClimbEnd) → n + length chain ≤ most r) → Within most (on_slab_add chain x) n
 slab_within most chain (Ok t) n le = let h = le (Ok t) in omega arith
 slab_within most chain (Err (slabbing.WrongSize t)) n le = let h = le (Err (climbing.Stuck t)) in omega arith
 slab_within most chain (Err (slabbing.Overlaps t)) n le = let h = le (Err (climbing.Stuck t)) in omega arith
@@ -55,10 +55,10 @@ slab_within most chain (Err (slabbing.Stopped t)) n le = let h = le (Err (climbi
 slab_within most chain (Err (slabbing.NoMemory t)) n le = within_refused most chain t n (λ r. le (memory_refusal r))
 
 -- after the climb
-within_climbed : (chain : List Level) (arena cache n : ℕ) (x : Climbed) (m : ℕ) → 1 ≤ length chain → m ≤ n + climb_most (length chain) x → Within (slab_most n (length chain)) (on_slab_climb chain arena cache x) m
+within_climbed : (chain : List Level) (arena cache n : ℕ) (x : ClimbEnd) (m : ℕ) → 1 ≤ length chain → m ≤ n + climb_most (length chain) x → Within (slab_most n (length chain)) (on_slab_climb chain arena cache x) m
 unfolding make_slab
 within_climbed chain arena cache n (Ok span) m some low =
-    within_then (λ (r : Climbed). n + 3 * length chain) (slab_most n (length chain)) (make_slab chain arena cache span) (λ r. Done (Some r)) m (λ x. slab_within (λ (r : Climbed). n + 3 * length chain) chain x (m + 1) (λ r. omega arith)) (λ r k le. le)
+    within_then (λ (r : ClimbEnd). n + 3 * length chain) (slab_most n (length chain)) (make_slab chain arena cache span) (λ r. Done (Some r)) m (λ x. slab_within (λ (r : ClimbEnd). n + 3 * length chain) chain x (m + 1) (λ r. omega arith)) (λ r k le. le)
 within_climbed chain arena cache n (Err climbing.BadRequest) m some low = omega arith
 within_climbed chain arena cache n (Err climbing.NoFit) m some low = omega arith
 within_climbed chain arena cache n (Err climbing.NoMemory) m some low = omega arith
@@ -68,14 +68,14 @@ within_climbed chain arena cache n (Err (climbing.Stopped o)) m some low = omega
 within_slab : (chain : List Level) (l : Level) (cache n : ℕ) → 1 ≤ length chain → Within (slab_most n (length chain)) (take_from_slab chain l cache) n
 unfolding take_from_slab
 within_slab chain l cache n some =
-    within_then (λ (r : Climbed). n + climb_most (length chain) r) (slab_most n (length chain)) (climb_plan chain l.slab_size) (on_slab_climb chain l.id cache) n (within_climb (λ (r : Climbed). n + climb_most (length chain) r) chain l.slab_size n (λ r. omega arith))
+    within_then (λ (r : ClimbEnd). n + climb_most (length chain) r) (slab_most n (length chain)) (climb_plan chain l.slab_size) (on_slab_climb chain l.id cache) n (within_climb (λ (r : ClimbEnd). n + climb_most (length chain) r) chain l.slab_size n (λ r. omega arith))
     (λ x m low. within_climbed chain l.id cache n x m some low)
 
 -- a climb after so many locks
-climb_after : (chain : List Level) (size n most : ℕ) → 1 ≤ length chain → n + (3 * length chain - 2) ≤ most → Within (λ (r : Climbed). most) (climb_plan chain size) n
-climb_after chain size n most some le = within_climb (λ (r : Climbed). most) chain size n fits
+climb_after : (chain : List Level) (size n most : ℕ) → 1 ≤ length chain → n + (3 * length chain - 2) ≤ most → Within (λ (r : ClimbEnd). most) (climb_plan chain size) n
+climb_after chain size n most some le = within_climb (λ (r : ClimbEnd). most) chain size n fits
   where
-    fits : (r : Climbed) → n + climb_most (length chain) r ≤ most
+    fits : (r : ClimbEnd) → n + climb_most (length chain) r ≤ most
     fits (Ok t) = omega arith
     fits (Err climbing.BadRequest) = omega arith
     fits (Err climbing.NoFit) = omega arith
@@ -83,17 +83,17 @@ climb_after chain size n most some le = within_climb (λ (r : Climbed). most) ch
     fits (Err (climbing.Stuck t)) = omega arith
     fits (Err (climbing.Stopped o)) = omega arith
 
-within_cached : (chain : List Level) (l : Level) (cache n : ℕ) → 1 ≤ length chain → length chain ≤ 4 → Within (λ (r : Climbed). 8 + 2 * length chain) (alloc_cached chain l cache n) 0
+within_cached : (chain : List Level) (l : Level) (cache n : ℕ) → 1 ≤ length chain → length chain ≤ 4 → Within (λ (r : ClimbEnd). 8 + 2 * length chain) (alloc_cached chain l cache n) 0
 unfolding alloc_cached
 within_cached chain l cache n some small =
-    let most : Climbed → ℕ = λ r. 8 + 2 * length chain in
+    let most : ClimbEnd → ℕ = λ r. 8 + 2 * length chain in
     within_or_else most (λ (s : Stage). 0) (take_round l.id cache) _ 0 (within_round l.id cache 0) (λ a. omega arith)
     (λ m le. within_or_else most (λ (s : Stage). m + 1) (take_from_depot l.id cache) _ m (within_depot l.id cache m) (λ a. omega arith)
     (λ m' le'. within_or_else most (λ (s : Stage). m' + 1) (take_chunk l.id cache) _ m' (within_chunk l.id cache m') (λ a. omega arith)
     (λ k low. within_or_else most (slab_most k (length chain)) (take_from_slab chain l cache) _ k (within_slab chain l cache k some) (λ a. omega arith)
     (λ j top. climb_after chain n j (8 + 2 * length chain) some (omega arith)))))
 
-within_by : (o : Option ℕ) (chain : List Level) (l : Level) (n : ℕ) → 1 ≤ length chain → length chain ≤ 4 → Within (λ (r : Climbed). 8 + 2 * length chain) (alloc_steps o chain l n) 0
+within_by : (o : Option ℕ) (chain : List Level) (l : Level) (n : ℕ) → 1 ≤ length chain → length chain ≤ 4 → Within (λ (r : ClimbEnd). 8 + 2 * length chain) (alloc_steps o chain l n) 0
 within_by None chain l n some small = climb_after chain n 0 (8 + 2 * length chain) some (omega arith)
 within_by (Some cache) chain l n some small = within_cached chain l cache n some small
 

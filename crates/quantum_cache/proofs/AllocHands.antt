@@ -13,7 +13,7 @@ use Rattle.arena_tree.specs.declared.part_faults.SlabAddFault.TheVariants as sla
 use Rattle.arena_tree.specs.declared.part_faults.Stopped.{Stopped}
 use Rattle.arena_tree.specs.Events.{hand_left, hand_of_answer, slab_back}
 use Rattle.arena_tree.specs.Plans.{Plan, Done, then, or_else, Handles}
-use Rattle.arena_tree.specs.Climbs.{Climbed, climb_plan, climb_left}
+use Rattle.arena_tree.specs.Climbs.{ClimbEnd, climb_plan, climb_left}
 use Rattle.arena_tree.proofs.LawProofs.{handles_then, handles_refused, handles_climb}
 use Rattle.quantum_cache.specs.Sizes.{cache_for}
 use Rattle.quantum_cache.specs.Allocs.{Stage, on_take, take_round, on_change_over, change_over, on_swap_full, take_from_depot, take_chunk, on_slab_add, make_slab, on_slab_climb, take_from_slab, alloc_cached, alloc_steps}
@@ -71,7 +71,7 @@ handles_slab chain (Err (slabbing.Overlaps t)) = refl
 handles_slab chain (Err (slabbing.Stopped t)) = refl
 handles_slab chain (Err (slabbing.NoMemory t)) = handles_refused chain t
 
-handles_climbed : (chain : List Level) (arena cache : ℕ) (x : Climbed) → Handles stage_left (on_slab_climb chain arena cache x) (climb_left x)
+handles_climbed : (chain : List Level) (arena cache : ℕ) (x : ClimbEnd) → Handles stage_left (on_slab_climb chain arena cache x) (climb_left x)
 unfolding make_slab
 handles_climbed chain arena cache (Ok span) = handles_then climb_left stage_left (make_slab chain arena cache span) (λ r. Done (Some r)) (Some span) (refl, handles_slab chain) (λ r. refl)
 handles_climbed chain arena cache (Err climbing.BadRequest) = refl

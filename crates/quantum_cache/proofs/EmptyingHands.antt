@@ -6,14 +6,14 @@ use Rattle.arena_tree.specs.declared.part_faults.ReturnFault.TheVariants as retu
 use Rattle.arena_tree.specs.declared.part_faults.Stopped.{Stopped}
 use Rattle.arena_tree.specs.Events.{hand_of_answer}
 use Rattle.arena_tree.specs.Plans.{Plan, Done, Handles}
-use Rattle.arena_tree.specs.Climbs.{Returned, return_left, return_plan}
+use Rattle.arena_tree.specs.Climbs.{ReturnEnd, return_left, return_plan}
 use Rattle.arena_tree.proofs.LawProofs.{handles_then, handles_return}
 use Rattle.quantum_cache.specs.declared.reaps.Reaping.{Reaping}
 use Rattle.quantum_cache.specs.Caches.{chain_in, if_ok, over_caches, over_arenas}
 use Rattle.quantum_cache.specs.Drains.{Turn, drain_end, on_put_back, on_drain_pop, drain_turn, on_turn, drain_cache_plan, drain_arena_plan}
 use Rattle.quantum_cache.specs.Frees.{put_chunk}
 use Rattle.quantum_cache.specs.Laws.{emptying_left, drain_left, reap_left, DrainHandles, ReapArenaHandles, ReapHandles}
-use Rattle.quantum_cache.specs.Reaps.{Reaped, ReapEnd, on_return, on_depot_reap, reap_round, on_slab_reap, reap_slab, on_look, looks_in_turn, reap_steps, reap_cache, reap_arena_plan}
+use Rattle.quantum_cache.specs.Reaps.{LookEnd, ReapEnd, on_return, on_depot_reap, reap_round, on_slab_reap, reap_slab, on_look, looks_in_turn, reap_steps, reap_cache, reap_arena_plan}
 use Rattle.quantum_cache.specs.Sizes.{caches_in}
 use Rattle.quantum_cache.proofs.FreeHands.{handles_put}
 
@@ -40,7 +40,7 @@ handles_turn : (arena cache : ℕ) → Handles turn_left (drain_turn arena cache
 unfolding drain_turn
 handles_turn arena cache = (refl, popped)
   where
-    ended : (r : Returned) → return_left r ≡ turn_left (on_put_back r)
+    ended : (r : ReturnEnd) → return_left r ≡ turn_left (on_put_back r)
     ended (Ok u) = refl
     ended (Err (returning.Stuck t)) = refl
     ended (Err (returning.Stopped t)) = refl
@@ -66,11 +66,11 @@ pub drain_handles : DrainHandles
 drain_handles turns arenas = handles_arenas drain_left (λ id (u : Unit {0}). drain_arena_plan turns (chain_in arenas id)) (λ u. refl) (λ id u. handles_drain_arena turns (chain_in arenas id)) (length arenas) tt
 
 -- a reaping
-abbrev look_left : Reaped → Option Tag
+abbrev look_left : LookEnd → Option Tag
 look_left (Ok o) = None
 look_left (Err f) = emptying_left f
 
-handles_returned : (units : ℕ) (r : Returned) → return_left r ≡ look_left (on_return units r)
+handles_returned : (units : ℕ) (r : ReturnEnd) → return_left r ≡ look_left (on_return units r)
 handles_returned units (Ok u) = refl
 handles_returned units (Err (returning.Stuck t)) = refl
 handles_returned units (Err (returning.Stopped t)) = refl
@@ -93,11 +93,11 @@ handles_reap_slab chain arena cache = (refl, taken)
     taken (Ok (Some t)) = handles_then return_left look_left (return_plan chain t) (λ r. Done (on_return t.holding.range.len r)) (Some t) (handles_return chain t) (handles_returned t.holding.range.len)
     taken (Err e) = refl
 
-handles_up_to : (p : Plan Reaped) → Handles look_left p None → (n units : ℕ) → Handles reap_left (looks_in_turn p n units) None
+handles_up_to : (p : Plan LookEnd) → Handles look_left p None → (n units : ℕ) → Handles reap_left (looks_in_turn p n units) None
 handles_up_to p w zero units = refl
 handles_up_to p w (suc n) units = handles_then look_left reap_left p (on_look (looks_in_turn p n) n units) None w (looked (handles_up_to p w n))
   where
-    looked : ((sum : ℕ) → Handles reap_left (looks_in_turn p n sum) None) → (a : Reaped) → Handles reap_left (on_look (looks_in_turn p n) n units a) (look_left a)
+    looked : ((sum : ℕ) → Handles reap_left (looks_in_turn p n sum) None) → (a : LookEnd) → Handles reap_left (on_look (looks_in_turn p n) n units a) (look_left a)
     looked again (Ok (Some more)) = again _
     looked again (Ok None) = refl
     looked again (Err f) = refl

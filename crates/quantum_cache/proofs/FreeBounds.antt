@@ -11,18 +11,18 @@ use Rattle.arena_tree.specs.declared.part_faults.SwapEmptyFault.TheVariants as e
 use Rattle.arena_tree.specs.declared.part_faults.SwapFreshFault.{SwapFreshFault}
 use Rattle.arena_tree.specs.declared.part_faults.SwapFreshFault.TheVariants as freshing
 use Rattle.arena_tree.specs.Plans.{Plan, then, Within}
-use Rattle.arena_tree.specs.Climbs.{Returned}
+use Rattle.arena_tree.specs.Climbs.{ReturnEnd}
 use Rattle.arena_tree.proofs.LawProofs.{within_then, within_return}
 use Rattle.quantum_cache.specs.declared.placings.Placing.{Placing}
 use Rattle.quantum_cache.specs.declared.placings.Placing.TheVariants.{Placed, Left, Stopped}
 use Rattle.quantum_cache.specs.Frees.{or_next, push_round, on_change, push_changed, on_swap_fresh, push_fresh, on_swap_empty, push_exchanged, put_chunk, free_cached, free_steps}
 use Rattle.quantum_cache.specs.Laws.{free_most, FreeIsShort}
 
-pub within_put : (t : Tag) → Within (λ (r : Returned). 1) (put_chunk t) 0
+pub within_put : (t : Tag) → Within (λ (r : ReturnEnd). 1) (put_chunk t) 0
 unfolding put_chunk
 within_put t = λ x. omega arith
 
-put_after : (t : Tag) (n : ℕ) → n ≤ 2 → Within (λ (r : Returned). 3) (put_chunk t) n
+put_after : (t : Tag) (n : ℕ) → n ≤ 2 → Within (λ (r : ReturnEnd). 3) (put_chunk t) n
 unfolding put_chunk
 put_after t n le = λ x. omega (arith, le)
 
@@ -60,17 +60,17 @@ within_exchanged arena cache t n most le = swapped
     swapped (Err (emptying.OldSize m)) = within_changed arena cache m t (n + 1) most (omega (arith, le))
     swapped (Err emptying.Stopped) = omega (arith, le)
 
-within_or_next : (p : Plan (Placing Tag)) (q : Tag → Plan Returned) (n stage : ℕ) → Within (λ (a : Placing Tag). stage) p n → stage ≤ 3 → ((t : Tag) (m : ℕ) → m ≤ stage → Within (λ (r : Returned). 3) (q t) m) → Within (λ (r : Returned). 3) (then p (or_next q)) n
-within_or_next p q n stage w le next = within_then (λ (a : Placing Tag). stage) (λ (r : Returned). 3) p (or_next q) n w go
+within_or_next : (p : Plan (Placing Tag)) (q : Tag → Plan ReturnEnd) (n stage : ℕ) → Within (λ (a : Placing Tag). stage) p n → stage ≤ 3 → ((t : Tag) (m : ℕ) → m ≤ stage → Within (λ (r : ReturnEnd). 3) (q t) m) → Within (λ (r : ReturnEnd). 3) (then p (or_next q)) n
+within_or_next p q n stage w le next = within_then (λ (a : Placing Tag). stage) (λ (r : ReturnEnd). 3) p (or_next q) n w go
   where
-    go : (a : Placing Tag) (m : ℕ) → m ≤ stage → Within (λ (r : Returned). 3) (or_next q a) m
+    go : (a : Placing Tag) (m : ℕ) → m ≤ stage → Within (λ (r : ReturnEnd). 3) (or_next q a) m
     go Placed m low = omega (arith, low, le)
     go (Left t) m low = next t m low
     go (Stopped t) m low = omega (arith, low, le)
 
-within_by : (route : Route) (chain : List Level) (t : Tag) → Within (λ (r : Returned). free_most route (length chain)) (free_steps route chain t) 0
+within_by : (route : Route) (chain : List Level) (t : Tag) → Within (λ (r : ReturnEnd). free_most route (length chain)) (free_steps route chain t) 0
 unfolding free_cached
-within_by Direct chain t = within_return (λ (r : Returned). length chain) chain t 0 (λ r. omega arith)
+within_by Direct chain t = within_return (λ (r : ReturnEnd). length chain) chain t 0 (λ r. omega arith)
 within_by (Cached cache) chain t =
     within_or_next (push_round t.arena cache t) _ 0 0 (within_push t.arena cache t 0 0 (omega arith)) (omega arith)
     (λ x m low. within_or_next (push_exchanged t.arena cache x) _ m 2 (within_exchanged t.arena cache x m 2 (omega (arith, low))) (omega arith) put_after)

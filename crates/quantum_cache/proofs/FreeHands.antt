@@ -16,7 +16,7 @@ use Rattle.arena_tree.specs.declared.part_faults.SwapFreshFault.{SwapFreshFault}
 use Rattle.arena_tree.specs.declared.part_faults.SwapFreshFault.TheVariants as freshing
 use Rattle.arena_tree.specs.Events.{hand_of_fault, pushed_back, put_back}
 use Rattle.arena_tree.specs.Plans.{Plan, then, Handles}
-use Rattle.arena_tree.specs.Climbs.{Returned, return_left}
+use Rattle.arena_tree.specs.Climbs.{ReturnEnd, return_left}
 use Rattle.arena_tree.proofs.LawProofs.{handles_then, handles_return}
 use Rattle.quantum_cache.specs.declared.placings.Placing.{Placing}
 use Rattle.quantum_cache.specs.declared.placings.Placing.TheVariants.{Placed, Left, Stopped}
@@ -28,7 +28,7 @@ placing_left Placed = None
 placing_left (Left t) = Some t
 placing_left (Stopped t) = Some t
 
-handles_or_next : (p : Plan (Placing Tag)) (q : Tag → Plan Returned) (h : Option Tag) → Handles placing_left p h → ((t : Tag) → Handles return_left (q t) (Some t)) → Handles return_left (then p (or_next q)) h
+handles_or_next : (p : Plan (Placing Tag)) (q : Tag → Plan ReturnEnd) (h : Option Tag) → Handles placing_left p h → ((t : Tag) → Handles return_left (q t) (Some t)) → Handles return_left (then p (or_next q)) h
 handles_or_next p q h w next = handles_then placing_left return_left p (or_next q) h w go
   where
     go : (a : Placing Tag) → Handles return_left (or_next q a) (placing_left a)

@@ -18,8 +18,8 @@ use Rattle.arena_tree.specs.declared.part_faults.SlabPutFault.TheVariants as put
 use Rattle.arena_tree.specs.Chains.{Node, IsChain, first_id}
 use Rattle.arena_tree.specs.Events.{SlabPut, SwapEmpty, SwapFresh, Push, Change}
 use Rattle.arena_tree.specs.Plans.{Plan, then}
-use Rattle.arena_tree.specs.Climbs.{Returned, return_plan}
-use Rattle.arena_tree.specs.Told.{Answered, Tells, WasTakenIn, WasStopped, ReturnTold}
+use Rattle.arena_tree.specs.Climbs.{ReturnEnd, return_plan}
+use Rattle.arena_tree.specs.Told.{AnsweredEvent, Tells, WasTakenIn, WasStopped, ReturnTold}
 use Rattle.arena_tree.proofs.LawProofs.{tells_then, return_tells}
 use Rattle.quantum_cache.specs.declared.placings.Placing.{Placing}
 use Rattle.quantum_cache.specs.declared.placings.Placing.TheVariants.{Placed, Left, Stopped}
@@ -27,7 +27,7 @@ use Rattle.quantum_cache.specs.Frees.{or_next, on_push, push_round, on_change, p
 use Rattle.quantum_cache.specs.Told.{FreeTold, FreeTells}
 use Rattle.quantum_cache.proofs.Tellings.{answered, After, tells_after, tells_so, just_refused, stopped_after, taken_in_after}
 
-pub told_put : (nodes : List Node) (t : Tag) (told : List Answered) → Tells nodes FreeTold (put_chunk t) told
+pub told_put : (nodes : List Node) (t : Tag) (told : List AnsweredEvent) → Tells nodes FreeTold (put_chunk t) told
 unfolding put_chunk
 told_put nodes t told = λ x s. ends x
   where
@@ -37,21 +37,21 @@ told_put nodes t told = λ x s. ends x
     ends (Err (putting.AtHome b)) = refl
     ends (Err (putting.Stopped b)) = refl
 
-pub told_return : (nodes : List Node) (chain : List Level) (t : Tag) (told : List Answered) → IsChain nodes chain → first_id chain ≡ Some t.arena → Tells nodes FreeTold (return_plan chain t) told
+pub told_return : (nodes : List Node) (chain : List Level) (t : Tag) (told : List AnsweredEvent) → IsChain nodes chain → first_id chain ≡ Some t.arena → Tells nodes FreeTold (return_plan chain t) told
 told_return nodes chain t told is first = tells_so nodes (After ReturnTold told) FreeTold (return_plan chain t) told ends (tells_after nodes ReturnTold told (return_plan chain t) [] (return_tells nodes chain t is first))
   where
-    ends : (now : List Answered) (r : Returned) → After ReturnTold told now r → FreeTold now r
+    ends : (now : List AnsweredEvent) (r : ReturnEnd) → After ReturnTold told now r → FreeTold now r
     ends now (Ok u) w = taken_in_after w.0 told now w.1 (w.2).1
     ends now (Err (returning.Stuck x)) w = just_refused x w.0 told now w.1 w.2
     ends now (Err (returning.Stopped x)) w = stopped_after w.0 told now w.1 w.2
 
 -- a stage ends with a segment that was taken in, with one for the next, or by a stop
-abbrev PlacingTold : List Answered → Placing Tag → Type 0
+abbrev PlacingTold : List AnsweredEvent → Placing Tag → Type 0
 PlacingTold now Placed = WasTakenIn now
 PlacingTold now (Left t) = Unit {0}
 PlacingTold now (Stopped t) = WasStopped now
 
-told_push : (nodes : List Node) (arena cache : ℕ) (t : Tag) (told : List Answered) → Tells nodes PlacingTold (push_round arena cache t) told
+told_push : (nodes : List Node) (arena cache : ℕ) (t : Tag) (told : List AnsweredEvent) → Tells nodes PlacingTold (push_round arena cache t) told
 unfolding push_round
 told_push nodes arena cache t told = λ x s. pushed x
   where
@@ -60,7 +60,7 @@ told_push nodes arena cache t told = λ x s. pushed x
     pushed (Err (pushing.NoRoom b)) = tt
     pushed (Err (pushing.Stopped b)) = refl
 
-told_changed : (nodes : List Node) (arena cache m : ℕ) (t : Tag) (told : List Answered) → Tells nodes PlacingTold (push_changed arena cache m t) told
+told_changed : (nodes : List Node) (arena cache m : ℕ) (t : Tag) (told : List AnsweredEvent) → Tells nodes PlacingTold (push_changed arena cache m t) told
 unfolding push_changed
 told_changed nodes arena cache m t told = λ x s. done x
   where
@@ -70,7 +70,7 @@ told_changed nodes arena cache m t told = λ x s. done x
     done (Err changing.NotGreater) = tt
     done (Err changing.Stopped) = refl
 
-told_fresh : (nodes : List Node) (arena cache : ℕ) (t : Tag) (told : List Answered) → Tells nodes PlacingTold (push_fresh arena cache t) told
+told_fresh : (nodes : List Node) (arena cache : ℕ) (t : Tag) (told : List AnsweredEvent) → Tells nodes PlacingTold (push_fresh arena cache t) told
 unfolding push_fresh
 told_fresh nodes arena cache t told = λ x s. done x
   where
@@ -80,7 +80,7 @@ told_fresh nodes arena cache t told = λ x s. done x
     done (Err freshing.NoMemory) = tt
     done (Err freshing.Stopped) = refl
 
-told_exchanged : (nodes : List Node) (arena cache : ℕ) (t : Tag) (told : List Answered) → Tells nodes PlacingTold (push_exchanged arena cache t) told
+told_exchanged : (nodes : List Node) (arena cache : ℕ) (t : Tag) (told : List AnsweredEvent) → Tells nodes PlacingTold (push_exchanged arena cache t) told
 unfolding push_exchanged
 told_exchanged nodes arena cache t told = λ x s. done x
   where
@@ -90,10 +90,10 @@ told_exchanged nodes arena cache t told = λ x s. done x
     done (Err (emptying.OldSize m)) = told_changed nodes arena cache m t (answered (SwapEmpty arena cache) (Err (emptying.OldSize m)) ∷ told)
     done (Err emptying.Stopped) = refl
 
-told_or_next : (nodes : List Node) (p : Plan (Placing Tag)) (q : Tag → Plan Returned) (told : List Answered) → Tells nodes PlacingTold p told → ((t : Tag) (now : List Answered) → Tells nodes FreeTold (q t) now) → Tells nodes FreeTold (then p (or_next q)) told
+told_or_next : (nodes : List Node) (p : Plan (Placing Tag)) (q : Tag → Plan ReturnEnd) (told : List AnsweredEvent) → Tells nodes PlacingTold p told → ((t : Tag) (now : List AnsweredEvent) → Tells nodes FreeTold (q t) now) → Tells nodes FreeTold (then p (or_next q)) told
 told_or_next nodes p q told stage next = tells_then nodes PlacingTold FreeTold p (or_next q) told stage go
   where
-    go : (a : Placing Tag) (now : List Answered) → PlacingTold now a → Tells nodes FreeTold (or_next q a) now
+    go : (a : Placing Tag) (now : List AnsweredEvent) → PlacingTold now a → Tells nodes FreeTold (or_next q a) now
     go Placed now w = w
     go (Left t) now w = next t now
     go (Stopped t) now w = w

@@ -7,13 +7,13 @@ use Rattle.arena_tree.specs.Plans.{Plan, Done, Ran}
 use Rattle.arena_tree.proofs.LawProofs.{ran_then, ran_done}
 use Rattle.quantum_cache.specs.declared.emptying_faults.EmptyingFault.{EmptyingFault}
 use Rattle.quantum_cache.specs.declared.reaps.Reaping.{Reaping}
-use Rattle.quantum_cache.specs.Reaps.{Reaped, ReapEnd, looks_in_turn, on_look}
+use Rattle.quantum_cache.specs.Reaps.{LookEnd, ReapEnd, looks_in_turn, on_look}
 
 -- what is left, and the units
 abbrev reaped : ℕ → ℕ → Reaping
 reaped left units = record { left = left; units = units }
 
-module _ {S : Type 0} (step : S → (e : Event) → AnswerTo e → S → Type 0) (tree : S → List Node) (count : S → ℕ) (rounds : S → ℕ) (p : Plan Reaped) where
+module _ {S : Type 0} (step : S → (e : Event) → AnswerTo e → S → Type 0) (tree : S → List Node) (count : S → ℕ) (rounds : S → ℕ) (p : Plan LookEnd) where
   pub up_to_end : (left units : ℕ) (s : S) → left ≡ 0 → Ran step tree count rounds (looks_in_turn p left units) s s (Ok (record { left = left; units = units }))
   up_to_end zero units s none = ran_done step tree count rounds s (Ok (reaped 0 units))
   up_to_end (suc n) units s none = absurd (omega (arith, none))

@@ -7,13 +7,13 @@ use Rattle.arena_tree.specs.declared.part_faults.Stopped.{Stopped}
 use Rattle.arena_tree.specs.declared.trees.TreeArena.{TreeArena}
 use Rattle.arena_tree.specs.Events.{AnswerTo, locks}
 use Rattle.arena_tree.specs.Plans.{Plan, Done, Ask, then, Within}
-use Rattle.arena_tree.specs.Climbs.{Returned, return_plan}
+use Rattle.arena_tree.specs.Climbs.{ReturnEnd, return_plan}
 use Rattle.arena_tree.proofs.LawProofs.{within_then, within_return}
 use Rattle.quantum_cache.specs.declared.reaps.Reaping.{Reaping}
 use Rattle.quantum_cache.specs.Caches.{rest_of_chain, chain_up, chain_in, if_ok, over_caches, over_arenas}
 use Rattle.quantum_cache.specs.Frees.{put_chunk}
 use Rattle.quantum_cache.specs.Laws.{looks_left, ReapArenaIsShort, ReapIsShort}
-use Rattle.quantum_cache.specs.Reaps.{Reaped, ReapEnd, on_return, on_depot_reap, reap_round, on_slab_reap, reap_slab, on_look, looks_in_turn, reap_steps, reap_cache, reap_arena_plan, reap_plan}
+use Rattle.quantum_cache.specs.Reaps.{LookEnd, ReapEnd, on_return, on_depot_reap, reap_round, on_slab_reap, reap_slab, on_look, looks_in_turn, reap_steps, reap_cache, reap_arena_plan, reap_plan}
 use Rattle.quantum_cache.specs.Sizes.{caches_in}
 
 -- after so many locks it ends with so many in all, of which the end says what it says
@@ -37,36 +37,36 @@ within_counted most (Ask e g) n w = λ x. within_counted most (g x) (n + locks e
 abbrev Paid : ℕ → ReapEnd → ℕ → Type 0
 Paid limit r n = n + 5 * looks_left r ≤ 5 * limit
 
-put_within : (t : Tag) (n : ℕ) → Within (λ (r : Returned). n + 1) (put_chunk t) n
+put_within : (t : Tag) (n : ℕ) → Within (λ (r : ReturnEnd). n + 1) (put_chunk t) n
 unfolding put_chunk
 put_within t n = λ x. omega arith
 
-within_reap_round : (arena cache n : ℕ) → Within (λ (a : Reaped). n + 5) (reap_round arena cache) n
+within_reap_round : (arena cache n : ℕ) → Within (λ (a : LookEnd). n + 5) (reap_round arena cache) n
 unfolding reap_round
 within_reap_round arena cache n = taken
   where
-    taken : (x : Result (Option Tag) Stopped) → Within (λ (a : Reaped). n + 5) (on_depot_reap x) (n + 1)
+    taken : (x : Result (Option Tag) Stopped) → Within (λ (a : LookEnd). n + 5) (on_depot_reap x) (n + 1)
     taken (Ok None) = omega arith
-    taken (Ok (Some t)) = within_then (λ (r : Returned). n + 1 + 1) (λ (a : Reaped). n + 5) (put_chunk t) (λ r. Done (on_return 0 r)) (n + 1) (put_within t (n + 1)) (λ r m low. omega (arith, low))
+    taken (Ok (Some t)) = within_then (λ (r : ReturnEnd). n + 1 + 1) (λ (a : LookEnd). n + 5) (put_chunk t) (λ r. Done (on_return 0 r)) (n + 1) (put_within t (n + 1)) (λ r m low. omega (arith, low))
     taken (Err e) = omega arith
 
-within_reap_slab : (chain : List Level) (arena cache n : ℕ) → length chain ≤ 4 → Within (λ (a : Reaped). n + 5) (reap_slab chain arena cache) n
+within_reap_slab : (chain : List Level) (arena cache n : ℕ) → length chain ≤ 4 → Within (λ (a : LookEnd). n + 5) (reap_slab chain arena cache) n
 unfolding reap_slab
 within_reap_slab chain arena cache n short = taken
   where
-    taken : (x : Result (Option Tag) Stopped) → Within (λ (a : Reaped). n + 5) (on_slab_reap chain x) (n + 1)
+    taken : (x : Result (Option Tag) Stopped) → Within (λ (a : LookEnd). n + 5) (on_slab_reap chain x) (n + 1)
     taken (Ok None) = omega arith
     taken (Ok (Some t)) =
-        within_then (λ (r : Returned). n + 1 + length chain) (λ (a : Reaped). n + 5) (return_plan chain t) (λ r. Done (on_return t.holding.range.len r)) (n + 1) (within_return (λ (r : Returned). n + 1 + length chain) chain t (n + 1) (λ r. omega arith)) (λ r m low. omega (arith, low, short))
+        within_then (λ (r : ReturnEnd). n + 1 + length chain) (λ (a : LookEnd). n + 5) (return_plan chain t) (λ r. Done (on_return t.holding.range.len r)) (n + 1) (within_return (λ (r : ReturnEnd). n + 1 + length chain) chain t (n + 1) (λ r. omega arith)) (λ r m low. omega (arith, low, short))
     taken (Err e) = omega arith
 
 module _ (limit : ℕ) where
-  paid_up_to : (p : Plan Reaped) → ((n : ℕ) → Within (λ (a : Reaped). n + 5) p n) → (left units n : ℕ) → n + 5 * left ≤ 5 * limit → Counted (Paid limit) (looks_in_turn p left units) n
+  paid_up_to : (p : Plan LookEnd) → ((n : ℕ) → Within (λ (a : LookEnd). n + 5) p n) → (left units n : ℕ) → n + 5 * left ≤ 5 * limit → Counted (Paid limit) (looks_in_turn p left units) n
   paid_up_to p look zero units n le = le
   paid_up_to p look (suc k) units n le =
-      counted_then (λ (a : Reaped) (m : ℕ). m ≤ n + 5) (Paid limit) p (on_look (looks_in_turn p k) k units) n (within_counted (λ (a : Reaped). n + 5) p n (look n)) (looked (λ sum m fits. paid_up_to p look k sum m fits))
+      counted_then (λ (a : LookEnd) (m : ℕ). m ≤ n + 5) (Paid limit) p (on_look (looks_in_turn p k) k units) n (within_counted (λ (a : LookEnd). n + 5) p n (look n)) (looked (λ sum m fits. paid_up_to p look k sum m fits))
     where
-      looked : ((sum m : ℕ) → m + 5 * k ≤ 5 * limit → Counted (Paid limit) (looks_in_turn p k sum) m) → (a : Reaped) (m : ℕ) → m ≤ n + 5 → Counted (Paid limit) (on_look (looks_in_turn p k) k units a) m
+      looked : ((sum m : ℕ) → m + 5 * k ≤ 5 * limit → Counted (Paid limit) (looks_in_turn p k sum) m) → (a : LookEnd) (m : ℕ) → m ≤ n + 5 → Counted (Paid limit) (on_look (looks_in_turn p k) k units a) m
       looked again (Ok (Some more)) m low = again (units + more) m (omega (arith, le, low))
       looked again (Ok None) m low = omega (arith, le, low)
       looked again (Err f) m low = omega (arith, le, low)

@@ -7,14 +7,14 @@ use Rattle.arena_tree.specs.Chains.{Node}
 use Rattle.arena_tree.specs.Events.{Event, AnswerTo}
 use Rattle.arena_tree.specs.Plans.{Ran}
 use Rattle.arena_tree.proofs.LawProofs.{ran_then, ran_done}
-use Rattle.quantum_cache.specs.Drains.{Emptied, Drained, drain_end, drain_turn, drain_cache_plan, on_turn}
+use Rattle.quantum_cache.specs.Drains.{EmptyingEnd, DrainEnd, drain_end, drain_turn, drain_cache_plan, on_turn}
 
 module _ {S : Type 0} (step : S → (e : Event) → AnswerTo e → S → Type 0) (tree : S → List Node) (count : S → ℕ) (rounds : S → ℕ) where
-  pub drain_ends : (arena cache : ℕ) (r : Emptied) (s t : S) → Ran step tree count rounds (drain_turn arena cache) s t (Some r) → (turns : ℕ) → rounds s < turns → Ran step tree count rounds (drain_cache_plan turns arena cache) s t (drain_end r)
+  pub drain_ends : (arena cache : ℕ) (r : EmptyingEnd) (s t : S) → Ran step tree count rounds (drain_turn arena cache) s t (Some r) → (turns : ℕ) → rounds s < turns → Ran step tree count rounds (drain_cache_plan turns arena cache) s t (drain_end r)
   drain_ends arena cache r s t d zero lt = absurd (omega (arith, lt))
   drain_ends arena cache r s t d (suc n) lt = ran_then step tree count rounds (drain_turn arena cache) (on_turn (drain_cache_plan n arena cache)) s t t (Some r) (drain_end r) d (ran_done step tree count rounds t (drain_end r))
 
-  pub drain_again : (arena cache : ℕ) (a : Drained) (s m t : S) → Ran step tree count rounds (drain_turn arena cache) s m None → rounds m < rounds s → ((turns : ℕ) → rounds m < turns → Ran step tree count rounds (drain_cache_plan turns arena cache) m t a)
+  pub drain_again : (arena cache : ℕ) (a : DrainEnd) (s m t : S) → Ran step tree count rounds (drain_turn arena cache) s m None → rounds m < rounds s → ((turns : ℕ) → rounds m < turns → Ran step tree count rounds (drain_cache_plan turns arena cache) m t a)
       → (turns : ℕ) → rounds s < turns → Ran step tree count rounds (drain_cache_plan turns arena cache) s t a
   drain_again arena cache a s m t d less rest zero lt = absurd (omega (arith, lt))
   drain_again arena cache a s m t d less rest (suc n) lt = ran_then step tree count rounds (drain_turn arena cache) (on_turn (drain_cache_plan n arena cache)) s m t None a d (rest n (omega (arith, lt, less)))

@@ -15,13 +15,13 @@ use Rattle.arena_tree.specs.declared.part_faults.SwapFullFault.{SwapFullFault}
 use Rattle.arena_tree.specs.declared.part_faults.SwapFullFault.TheVariants as fulling
 use Rattle.arena_tree.specs.Events.{Carve, SlabTake, SlabAdd, SwapFull, Pop, Change}
 use Rattle.arena_tree.specs.Plans.{Plan, Done, Ask, then, first_that_gives}
-use Rattle.arena_tree.specs.Climbs.{Climbed, climb_plan, give_back_plan}
+use Rattle.arena_tree.specs.Climbs.{ClimbEnd, climb_plan, give_back_plan}
 use Rattle.arena_tree.specs.Tags.{tag_climb}
 use Rattle.quantum_cache.specs.Sizes.{cache_for}
 
 -- what a stage of an allocation ends with: nothing, where the next one is tried
 abbrev pub Stage : Type 0
-Stage = Option Climbed
+Stage = Option ClimbEnd
 
 abbrev pub tag_stage : {X : Type 0} → (X → Tag) → Option (Result X (ClimbFault X)) → Stage
 tag_stage f None = None
@@ -64,14 +64,14 @@ unfoldable pub take_chunk : ℕ → ℕ → Plan Stage
 take_chunk arena cache = Ask (SlabTake arena cache) (λ a. Done (on_take a))
 
 -- 4. a climb of the slab size, then slab_add; out of memory for that, the span is freed upwards
-abbrev pub on_slab_add : List Level → Result Tag (SlabAddFault Tag) → Plan Climbed
+abbrev pub on_slab_add : List Level → Result Tag (SlabAddFault Tag) → Plan ClimbEnd
 on_slab_add chain (Ok t) = Done (Ok t)
 on_slab_add chain (Err (slabbing.NoMemory t)) = give_back_plan chain t
 on_slab_add chain (Err (slabbing.WrongSize t)) = Done (Err (climbing.Stuck t))
 on_slab_add chain (Err (slabbing.Overlaps t)) = Done (Err (climbing.Stuck t))
 on_slab_add chain (Err (slabbing.Stopped t)) = Done (Err (climbing.Stopped (Some t)))
 
-unfoldable pub make_slab : List Level → ℕ → ℕ → Tag → Plan Climbed
+unfoldable pub make_slab : List Level → ℕ → ℕ → Tag → Plan ClimbEnd
 make_slab chain arena cache span = Ask (SlabAdd arena cache span) (on_slab_add chain)
 
 -- after NoFit alone the next stage is tried
@@ -82,7 +82,7 @@ on_no_slab climbing.NoMemory = Some (Err climbing.NoMemory)
 on_no_slab (climbing.Stuck t) = Some (Err (climbing.Stuck t))
 on_no_slab (climbing.Stopped o) = Some (Err (climbing.Stopped o))
 
-abbrev pub on_slab_climb : List Level → ℕ → ℕ → Climbed → Plan Stage
+abbrev pub on_slab_climb : List Level → ℕ → ℕ → ClimbEnd → Plan Stage
 on_slab_climb chain arena cache (Ok span) =
     then (make_slab chain arena cache span) (λ r. Done (Some r))
 on_slab_climb chain arena cache (Err f) = Done (on_no_slab f)
@@ -92,19 +92,19 @@ take_from_slab chain l cache =
     then (climb_plan chain l.slab_size) (on_slab_climb chain l.id cache)
 
 -- the stages in their order; 5. a climb of the size itself
-unfoldable pub alloc_cached : List Level → Level → ℕ → ℕ → Plan Climbed
+unfoldable pub alloc_cached : List Level → Level → ℕ → ℕ → Plan ClimbEnd
 alloc_cached chain l cache size =
     first_that_gives
     (take_round l.id cache ∷ take_from_depot l.id cache ∷ take_chunk l.id cache
     ∷ take_from_slab chain l cache ∷ [])
     (climb_plan chain size)
 
-abbrev pub alloc_steps : Option ℕ → List Level → Level → ℕ → Plan Climbed
+abbrev pub alloc_steps : Option ℕ → List Level → Level → ℕ → Plan ClimbEnd
 alloc_steps None chain l size = climb_plan chain size
 alloc_steps (Some cache) chain l size = alloc_cached chain l cache size
 
 -- so many units of the chain's first arena: by its cache for that size, or else by a climb
-abbrev pub alloc_plan : List Level → ℕ → Plan Climbed
+abbrev pub alloc_plan : List Level → ℕ → Plan ClimbEnd
 alloc_plan [] size = Done (Err climbing.NoFit)
 alloc_plan (l ∷ up) size = alloc_steps (cache_for l size) (l ∷ up) l size
 

@@ -17,7 +17,7 @@ use Rattle.arena_tree.specs.declared.part_faults.SwapFreshFault.{SwapFreshFault}
 use Rattle.arena_tree.specs.declared.part_faults.SwapFreshFault.TheVariants as freshing
 use Rattle.arena_tree.specs.Events.{SlabPut, SwapEmpty, SwapFresh, Push, Change}
 use Rattle.arena_tree.specs.Plans.{Plan, Done, Ask, then}
-use Rattle.arena_tree.specs.Climbs.{Returned, return_plan}
+use Rattle.arena_tree.specs.Climbs.{ReturnEnd, return_plan}
 use Rattle.quantum_cache.specs.declared.placings.Placing.{Placing}
 use Rattle.quantum_cache.specs.declared.placings.Placing.TheVariants.{Placed, Left, Stopped}
 
@@ -26,14 +26,14 @@ tag_placing f Placed = Placed
 tag_placing f (Left x) = Left (f x)
 tag_placing f (Stopped x) = Stopped (f x)
 
-abbrev pub or_next : (Tag → Plan Returned) → Placing Tag → Plan Returned
+abbrev pub or_next : (Tag → Plan ReturnEnd) → Placing Tag → Plan ReturnEnd
 or_next last Placed = Done (Ok tt)
 or_next last (Stopped t) = Done (Err (returning.Stopped t))
 or_next last (Left t) = last t
 
 -- the stages one after another, up to the first that takes the segment; then the last
-abbrev pub first_that_takes : List (Tag → Plan (Placing Tag)) → (Tag → Plan Returned) → Tag
-    → Plan Returned
+abbrev pub first_that_takes : List (Tag → Plan (Placing Tag)) → (Tag → Plan ReturnEnd) → Tag
+    → Plan ReturnEnd
 first_that_takes [] last t = last t
 first_that_takes (p ∷ ps) last t = then (p t) (or_next (first_that_takes ps last))
 
@@ -78,24 +78,24 @@ unfoldable pub push_exchanged : ℕ → ℕ → Tag → Plan (Placing Tag)
 push_exchanged arena cache t = Ask (SwapEmpty arena cache) (on_swap_empty arena cache t)
 
 -- 3. slab_put
-abbrev pub on_slab_put : Result (Unit {0}) (SlabPutFault Tag) → Returned
+abbrev pub on_slab_put : Result (Unit {0}) (SlabPutFault Tag) → ReturnEnd
 on_slab_put (Ok u) = Ok tt
 on_slab_put (Err (putting.NotMine t)) = Err (returning.Stuck t)
 on_slab_put (Err (putting.AtHome t)) = Err (returning.Stuck t)
 on_slab_put (Err (putting.Stopped t)) = Err (returning.Stopped t)
 
-unfoldable pub put_chunk : Tag → Plan Returned
+unfoldable pub put_chunk : Tag → Plan ReturnEnd
 put_chunk t = Ask (SlabPut t) (λ a. Done (on_slab_put a))
 
 -- the stages in their order
-unfoldable pub free_cached : ℕ → ℕ → Tag → Plan Returned
+unfoldable pub free_cached : ℕ → ℕ → Tag → Plan ReturnEnd
 free_cached arena cache t =
     first_that_takes (push_round arena cache ∷ push_exchanged arena cache ∷ []) put_chunk t
 
-abbrev pub free_steps : Route → List Level → Tag → Plan Returned
+abbrev pub free_steps : Route → List Level → Tag → Plan ReturnEnd
 free_steps Direct chain t = return_plan chain t
 free_steps (Cached cache) chain t = free_cached t.arena cache t
 
 -- a round goes into the magazines or its slab, what was carved to its arena
-abbrev pub free_plan : List Level → Tag → Plan Returned
+abbrev pub free_plan : List Level → Tag → Plan ReturnEnd
 free_plan chain t = free_steps t.route chain t

@@ -10,13 +10,13 @@ use Rattle.arena_tree.specs.declared.levels.Level.{Level}
 use Rattle.arena_tree.specs.declared.limits.TheConstants.{LONGEST_CHAIN}
 use Rattle.arena_tree.specs.declared.part_faults.CarveFault.{CarveFault}
 use Rattle.arena_tree.specs.declared.trees.TreeArena.{TreeArena}
-use Rattle.arena_tree.specs.Climbs.{Climbed, Returned, climb_left, return_left}
+use Rattle.arena_tree.specs.Climbs.{ClimbEnd, ReturnEnd, climb_left, return_left}
 use Rattle.arena_tree.specs.Plans.{Within, Handles}
 use Rattle.quantum_cache.specs.declared.emptying_faults.EmptyingFault.{EmptyingFault}
 use Rattle.quantum_cache.specs.declared.emptying_faults.EmptyingFault.TheVariants as emptying
 use Rattle.quantum_cache.specs.declared.reaps.Reaping.{Reaping}
 use Rattle.quantum_cache.specs.Allocs.{alloc_plan, xalloc_plan}
-use Rattle.quantum_cache.specs.Drains.{Drained, drain_plan}
+use Rattle.quantum_cache.specs.Drains.{DrainEnd, drain_plan}
 use Rattle.quantum_cache.specs.Frees.{free_plan}
 use Rattle.quantum_cache.specs.Reaps.{ReapEnd, reap_arena_plan, reap_plan}
 
@@ -29,7 +29,7 @@ abbrev pub emptying_left : EmptyingFault Tag → Option Tag
 emptying_left (emptying.Stuck t) = Some t
 emptying_left (emptying.Stopped o) = o
 
-abbrev pub drain_left : Drained → Option Tag
+abbrev pub drain_left : DrainEnd → Option Tag
 drain_left (Ok u) = None
 drain_left (Err None) = None
 drain_left (Err (Some f)) = emptying_left f
@@ -71,7 +71,7 @@ ReapHandles = (arenas : List TreeArena) (limit : ℕ)
 -- In a chain of d arenas, four at most, an allocation takes at most 8 + 2 d locks.
 abbrev pub AllocIsShort : Type 0
 AllocIsShort = (chain : List Level) (size : ℕ) → length chain ≤ LONGEST_CHAIN
-    → Within (λ (r : Climbed). 8 + 2 * length chain) (alloc_plan chain size) 0
+    → Within (λ (r : ClimbEnd). 8 + 2 * length chain) (alloc_plan chain size) 0
 
 -- A free of what was carved takes at most d, and one of a round three.
 abbrev pub free_most : Route → ℕ → ℕ
@@ -80,7 +80,7 @@ free_most (Cached k) depth = 3
 
 abbrev pub FreeIsShort : Type 0
 FreeIsShort = (chain : List Level) (t : Tag)
-    → Within (λ (r : Returned). free_most t.route (length chain)) (free_plan chain t) 0
+    → Within (λ (r : ReturnEnd). free_most t.route (length chain)) (free_plan chain t) 0
 
 -- the looks that a reaping didn't take
 abbrev pub looks_left : ReapEnd → ℕ

@@ -8,7 +8,7 @@ use Rattle.arena_tree.specs.declared.part_faults.Stopped.{Stopped}
 use Rattle.arena_tree.specs.declared.trees.TreeArena.{TreeArena}
 use Rattle.arena_tree.specs.Events.{DepotReap, SlabReap}
 use Rattle.arena_tree.specs.Plans.{Plan, Done, Ask, then}
-use Rattle.arena_tree.specs.Climbs.{Returned, return_plan}
+use Rattle.arena_tree.specs.Climbs.{ReturnEnd, return_plan}
 use Rattle.quantum_cache.specs.declared.emptying_faults.EmptyingFault.{EmptyingFault}
 use Rattle.quantum_cache.specs.declared.emptying_faults.EmptyingFault.TheVariants as emptying
 use Rattle.quantum_cache.specs.declared.reaps.Reaping.{Reaping}
@@ -23,12 +23,12 @@ abbrev pub CanCount : Reaping → Type 0
 CanCount r = r.units + r.left * 2 ^ 64 < 2 ^ 128
 
 -- what one look came to: the units of a slab, or 0 for a round; nothing where there was none
-abbrev pub Reaped : Type 0
-Reaped = Result (Option ℕ) (EmptyingFault Tag)
+abbrev pub LookEnd : Type 0
+LookEnd = Result (Option ℕ) (EmptyingFault Tag)
 
-abbrev pub tag_reaped : {X : Type 0} → (X → Tag) → Result (Option ℕ) (EmptyingFault X) → Reaped
-tag_reaped f (Ok o) = Ok o
-tag_reaped f (Err e) = Err (tag_emptying_fault f e)
+abbrev pub tag_look : {X : Type 0} → (X → Tag) → Result (Option ℕ) (EmptyingFault X) → LookEnd
+tag_look f (Ok o) = Ok o
+tag_look f (Err e) = Err (tag_emptying_fault f e)
 
 -- what a reaping ends with
 abbrev pub ReapEnd : Type 0
@@ -39,42 +39,42 @@ tag_reap f (Ok r) = Ok r
 tag_reap f (Err e) = Err (record { reaping = e.reaping; cause = tag_emptying_fault f e.cause })
 
 -- after what was reaped went back
-abbrev pub on_return : ℕ → Returned → Reaped
+abbrev pub on_return : ℕ → ReturnEnd → LookEnd
 on_return units (Ok u) = Ok (Some units)
 on_return units (Err (returning.Stuck t)) = Err (emptying.Stuck t)
 on_return units (Err (returning.Stopped t)) = Err (emptying.Stopped (Some t))
 
 -- depot_reap, then slab_put
-abbrev pub on_depot_reap : Result (Option Tag) Stopped → Plan Reaped
+abbrev pub on_depot_reap : Result (Option Tag) Stopped → Plan LookEnd
 on_depot_reap (Ok None) = Done (Ok None)
 on_depot_reap (Ok (Some t)) = then (put_chunk t) (λ r. Done (on_return 0 r))
 on_depot_reap (Err e) = Done (Err (emptying.Stopped None))
 
-unfoldable pub reap_round : ℕ → ℕ → Plan Reaped
+unfoldable pub reap_round : ℕ → ℕ → Plan LookEnd
 reap_round arena cache = Ask (DepotReap arena cache) on_depot_reap
 
 -- slab_reap, then a hand back
-abbrev pub on_slab_reap : List Level → Result (Option Tag) Stopped → Plan Reaped
+abbrev pub on_slab_reap : List Level → Result (Option Tag) Stopped → Plan LookEnd
 on_slab_reap chain (Ok None) = Done (Ok None)
 on_slab_reap chain (Ok (Some t)) =
     then (return_plan chain t) (λ r. Done (on_return t.holding.range.len r))
 on_slab_reap chain (Err e) = Done (Err (emptying.Stopped None))
 
-unfoldable pub reap_slab : List Level → ℕ → ℕ → Plan Reaped
+unfoldable pub reap_slab : List Level → ℕ → ℕ → Plan LookEnd
 reap_slab chain arena cache = Ask (SlabReap arena cache) (on_slab_reap chain)
 
 -- one look after another, until one finds nothing, or the limit is reached; the units add up
-abbrev pub on_look : (ℕ → Plan ReapEnd) → ℕ → ℕ → Reaped → Plan ReapEnd
+abbrev pub on_look : (ℕ → Plan ReapEnd) → ℕ → ℕ → LookEnd → Plan ReapEnd
 on_look again left units (Ok (Some more)) = again (units + more)
 on_look again left units (Ok None) = Done (Ok (record { left = left; units = units }))
 on_look again left units (Err f) =
     Done (Err (record { reaping = record { left = left; units = units }; cause = f }))
 
-abbrev pub looks_in_turn : Plan Reaped → ℕ → ℕ → Plan ReapEnd
+abbrev pub looks_in_turn : Plan LookEnd → ℕ → ℕ → Plan ReapEnd
 looks_in_turn look zero units = Done (Ok (record { left = 0; units = units }))
 looks_in_turn look (suc left) units = then look (on_look (looks_in_turn look left) left units)
 
-abbrev pub reap_steps : Plan Reaped → Reaping → Plan ReapEnd
+abbrev pub reap_steps : Plan LookEnd → Reaping → Plan ReapEnd
 reap_steps look r = looks_in_turn look r.left r.units
 
 -- one cache: rounds of its depot, and then its slabs

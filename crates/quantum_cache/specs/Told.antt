@@ -11,9 +11,9 @@ use Rattle.arena_tree.specs.declared.part_faults.SlabAddFault.TheVariants as sla
 use Rattle.arena_tree.specs.declared.part_faults.SlabPutFault.{SlabPutFault}
 use Rattle.arena_tree.specs.declared.part_faults.SlabPutFault.TheVariants as putting
 use Rattle.arena_tree.specs.Chains.{Node, IsChain, amount_of, first_id}
-use Rattle.arena_tree.specs.Climbs.{Climbed, Returned}
+use Rattle.arena_tree.specs.Climbs.{ClimbEnd, ReturnEnd}
 use Rattle.arena_tree.specs.Events.{Event, AnswerTo, Carve, Free, AddCarve, SlabPut, SlabAdd}
-use Rattle.arena_tree.specs.Told.{Answered, Tells, IsRefusalOf, RanOut, WasTakenIn, WasStopped}
+use Rattle.arena_tree.specs.Told.{AnsweredEvent, Tells, IsRefusalOf, RanOut, WasTakenIn, WasStopped}
 use Rattle.quantum_cache.specs.Allocs.{alloc_plan}
 use Rattle.quantum_cache.specs.Frees.{free_plan}
 use Rattle.quantum_cache.specs.Served.{IsServed, AsksForNone}
@@ -42,27 +42,27 @@ PartRefuses t (SlabAdd arena cache given) a = RefusesInSlab t a
 PartRefuses t _ a = ⊥
 
 -- that was the last answer
-abbrev pub JustRefused : Tag → List Answered → Type 0
+abbrev pub JustRefused : Tag → List AnsweredEvent → Type 0
 JustRefused t [] = ⊥
 JustRefused t (last ∷ told) = PartRefuses t last.event last.answer
 
 -- what was answered once each arena of the chain, from the first on, was asked to carve, each what
 -- the one before would import, and nothing fitted: the last first, before what was answered by then
-abbrev pub none_fitted : List Level → ℕ → List Answered → List Answered
+abbrev pub none_fitted : List Level → ℕ → List AnsweredEvent → List AnsweredEvent
 none_fitted [] n before = before
 none_fitted (l ∷ up) n before = none_fitted up (amount_of l up n)
     (record { event = Carve l.id (plain_of n); answer = Err carving.NoFit } ∷ before)
 
 -- these were the last answers
-abbrev pub NoneFitted : List Level → ℕ → List Answered → Type 0
-NoneFitted chain n told = (before : List Answered) × (told ≡ none_fitted chain n before)
+abbrev pub NoneFitted : List Level → ℕ → List AnsweredEvent → Type 0
+NoneFitted chain n told = (before : List AnsweredEvent) × (told ≡ none_fitted chain n before)
 
 -- what an allocation ends with: a segment that serves; for no units alone a bad request; NoFit
 -- where the last that was asked of each arena of the chain, the first among them, was a carve of
 -- the size or of its import amount, which found no choice; out of memory where a carve, an import
 -- or a new slab was, and what was carved for it was freed; a segment where a part has just refused
 -- it; stopped where a part has just said so
-abbrev pub AllocTold : List Node → List Level → ℕ → List Answered → Climbed → Type 0
+abbrev pub AllocTold : List Node → List Level → ℕ → List AnsweredEvent → ClimbEnd → Type 0
 AllocTold nodes chain size told (Ok t) = IsServed nodes chain size t
 AllocTold nodes chain size told (Err climbing.BadRequest) = AsksForNone chain size
 AllocTold nodes chain size told (Err climbing.NoFit) = NoneFitted chain size told
@@ -71,7 +71,7 @@ AllocTold nodes chain size told (Err (climbing.Stuck t)) = JustRefused t told
 AllocTold nodes chain size told (Err (climbing.Stopped o)) = WasStopped told
 
 -- a free: it ends well where a part has just taken the segment in
-abbrev pub FreeTold : List Answered → Returned → Type 0
+abbrev pub FreeTold : List AnsweredEvent → ReturnEnd → Type 0
 FreeTold told (Ok u) = WasTakenIn told
 FreeTold told (Err (returning.Stuck t)) = JustRefused t told
 FreeTold told (Err (returning.Stopped t)) = WasStopped told

@@ -2,7 +2,7 @@
 ghost use Rattle.std.specs.Prelude.{◌≡◌, ℕ, ◌+◌, ◌<◌, ◌≤◌, All, IfNone, length};
 ghost use Rattle.arena_tree.specs.Plans.{Ran};
 ghost use Rattle.quantum_cache.specs.Caches.{over_caches, over_arenas, chain_in};
-ghost use Rattle.quantum_cache.specs.Drains.{tag_turn, drain_turn, drain_end, tag_emptied};
+ghost use Rattle.quantum_cache.specs.Drains.{tag_turn, drain_turn, drain_end, tag_emptying};
 ghost use Rattle.quantum_cache.specs.Drains.{drain_cache_plan, drain_arena_plan, drain_plan};
 ghost use Rattle.quantum_cache.specs.Sizes.{caches_in};
 
@@ -45,7 +45,7 @@ fn drain_rounds<S: Held, P: Parts<S>>(
 ) -> Result<(), EmptyingFault<S>>
     ensures ran { (turns : ℕ) → P.rounds parts.old < turns
         → Ran P.step P.tree P.count P.rounds (drain_cache_plan turns arena cache)
-        parts.old parts.new (drain_end (tag_emptied S.tag result)) }
+        parts.old parts.new (drain_end (tag_emptying S.tag result)) }
     ensures no_more { P.rounds parts.new ≤ P.rounds parts.old }
     ensures few { P.count parts.new + P.rounds parts.new ≤ P.count parts.old + P.rounds parts.old }
     ensures tree { P.tree parts.new ≡ P.tree parts.old }
@@ -69,7 +69,7 @@ fn drain_caches<S: Held, P: Parts<S>>(
     ensures ran { (turns : ℕ) → P.rounds parts.old < turns
         → Ran P.step P.tree P.count P.rounds
         (over_caches (λ cache _. drain_cache_plan turns arena cache) all left tt)
-        parts.old parts.new (drain_end (tag_emptied S.tag result)) }
+        parts.old parts.new (drain_end (tag_emptying S.tag result)) }
     ensures no_more { P.rounds parts.new ≤ P.rounds parts.old }
     ensures few { P.count parts.new + P.rounds parts.new ≤ P.count parts.old + P.rounds parts.old }
     ensures tree { P.tree parts.new ≡ P.tree parts.old }
@@ -93,7 +93,7 @@ fn drain_below<S: Held, P: Parts<S>>(
     ensures ran { (turns : ℕ) → P.rounds parts.old < turns
         → Ran P.step P.tree P.count P.rounds
         (over_arenas (λ id _. drain_arena_plan turns (chain_in tree.now id)) end tt)
-        parts.old parts.new (drain_end (tag_emptied S.tag result)) }
+        parts.old parts.new (drain_end (tag_emptying S.tag result)) }
     ensures no_more { P.rounds parts.new ≤ P.rounds parts.old }
     ensures few { P.count parts.new + P.rounds parts.new ≤ P.count parts.old + P.rounds parts.old }
     ensures tree { P.tree parts.new ≡ P.tree parts.old }
@@ -113,7 +113,7 @@ fn drain_chain<S: Held, P: Parts<S>>(parts: &mut P, chain: &[Level]) -> Result<(
     requires { All (λ l. 0 < l.quantum) chain.now }
     ensures ran { (turns : ℕ) → P.rounds parts.old < turns
         → Ran P.step P.tree P.count P.rounds (drain_arena_plan turns chain.now)
-        parts.old parts.new (drain_end (tag_emptied S.tag result)) }
+        parts.old parts.new (drain_end (tag_emptying S.tag result)) }
     ensures no_more { P.rounds parts.new ≤ P.rounds parts.old }
     ensures few { P.count parts.new + P.rounds parts.new ≤ P.count parts.old + P.rounds parts.old }
     ensures tree { P.tree parts.new ≡ P.tree parts.old }
@@ -130,7 +130,7 @@ fn drain_chain<S: Held, P: Parts<S>>(parts: &mut P, chain: &[Level]) -> Result<(
 pub fn drain<S: Held, P: Parts<S>>(parts: &mut P, tree: &Tree) -> Result<(), EmptyingFault<S>>
     ensures ran { (turns : ℕ) → P.rounds parts.old < turns
         → Ran P.step P.tree P.count P.rounds (drain_plan turns tree.now)
-        parts.old parts.new (drain_end (tag_emptied S.tag result)) }
+        parts.old parts.new (drain_end (tag_emptying S.tag result)) }
     ensures few { P.count parts.new + P.rounds parts.new ≤ P.count parts.old + P.rounds parts.old }
     ensures tree { P.tree parts.new ≡ P.tree parts.old }
 {

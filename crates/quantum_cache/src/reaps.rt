@@ -6,7 +6,7 @@ ghost use Rattle.arena_tree.specs.Chains.{IsChain, first_id};
 ghost use Rattle.arena_tree.specs.Plans.{Ran};
 ghost use Rattle.arena_tree.specs.Trees.{nodes_of};
 ghost use Rattle.quantum_cache.specs.Caches.{over_caches, over_arenas, chain_in};
-ghost use Rattle.quantum_cache.specs.Reaps.{CanCount, tag_reaped, tag_reap, reap_round, reap_slab};
+ghost use Rattle.quantum_cache.specs.Reaps.{CanCount, tag_look, tag_reap, reap_round, reap_slab};
 ghost use Rattle.quantum_cache.specs.Reaps.{reap_steps, reap_cache, reap_arena_plan, reap_plan};
 
 use crate::emptying_faults::EmptyingFault;
@@ -39,7 +39,7 @@ fn one_round<S: Held, P: Parts<S>>(
     cache: u8,
 ) -> Result<Option<u64>, EmptyingFault<S>>
     ensures ran { Ran P.step P.tree P.count P.rounds (reap_round arena cache)
-        parts.old parts.new (tag_reaped S.tag result) }
+        parts.old parts.new (tag_look S.tag result) }
     ensures small { IfOk result (λ o. IfSome o (λ units. units < 2 ^ 64)) }
     ensures tree { P.tree parts.new ≡ P.tree parts.old }
 {
@@ -65,7 +65,7 @@ fn one_slab<S: Held, P: Parts<S>>(
     requires chain { IsChain (P.tree parts.old) chain.now }
     requires first { first_id chain.now ≡ Some arena }
     ensures ran { Ran P.step P.tree P.count P.rounds (reap_slab chain.now arena cache)
-        parts.old parts.new (tag_reaped S.tag result) }
+        parts.old parts.new (tag_look S.tag result) }
     ensures small { IfOk result (λ o. IfSome o (λ units. units < 2 ^ 64)) }
     ensures tree { P.tree parts.new ≡ P.tree parts.old }
 {

@@ -13,7 +13,7 @@ use arena_tree::{NewChild, NewRoot, Setting, Setup};
 use deed_core::Range;
 use deed_table::{Ground, Name};
 use lease_proto::{Line, Reply};
-use lease_terms::Name as ArenaName;
+use lease_terms::ArenaName;
 use lease_threads::{Cpu, OpenGate, RequestStopped, System};
 use std::alloc::AllocGlobal;
 use std::process::Abort;

@@ -10,7 +10,7 @@ use Rattle.deed_core.specs.Selections.{is_of_cache}
 use Rattle.deed_core.specs.Tag.{Tag}
 use Rattle.deed_core.proofs.LawProofs.{sum_by-only_all, tests_say, fits_plain, rounds_once}
 use Rattle.slab_layer.specs.Slab.{SlabState, IsSlab, IsComplete, new_slab, chunks_out_by}
-use Rattle.slab_layer.specs.Cache.{SlabCacheState, IsSound, IsOfSize, IsOnGrid, IsChunkOf, IsSpanOf, chunk_of, chunk_tag, chunks_out, idle_chunks}
+use Rattle.slab_layer.specs.Cache.{SlabCacheState, IsSoundCache, IsOfSize, IsOnGrid, IsChunkOf, IsSpanOf, chunk_of, chunk_tag, chunks_out, idle_chunks}
 use Rattle.slab_layer.specs.Calls.{IsAlike, Takes, Adds, Reaps}
 use Rattle.slab_layer.specs.Laws.{ChunksAreOfCache, NeverBoth, OutIsOfCache, TakesNoneExactly, ReapsNoneExactly, ChunkFits, ChunkIsWholeQuanta, ReapedOutIsEmpty}
 use Rattle.slab_layer.proofs.ListLemmas.{both_nil}
@@ -57,20 +57,20 @@ chunk_of_slab c s j t slab size grid within tag =
       end = omega (arith, inside.1, size.end);
     })
 
-pub takes_chunk : (i j : ℕ) (s : SlabState) (old new : SlabCacheState) (t : Tag) → Takes i j s old new t → IsSound old → IsChunkOf old t
+pub takes_chunk : (i j : ℕ) (s : SlabState) (old new : SlabCacheState) (t : Tag) → Takes i j s old new t → IsSoundCache old → IsChunkOf old t
 takes_chunk i j s old new t takes sound =
     let stands = next_stands i s old.slabs takes.next in
     let size = of_size old i s sound stands in
     chunk_of_slab old s j t (slab_of_size old s sound size) size (on_grid old i s sound stands) takes.lowest.within takes.tag
 
-pub adds_chunk : (i : ℕ) (old new : SlabCacheState) (span first : Tag) → Adds i old new span first → end_of span.holding.range ≤ 2 ^ 62 → span.holding.range.base % old.quantum ≡ 0 → IsSound old → IsChunkOf old first
+pub adds_chunk : (i : ℕ) (old new : SlabCacheState) (span first : Tag) → Adds i old new span first → end_of span.holding.range ≤ 2 ^ 62 → span.holding.range.base % old.quantum ≡ 0 → IsSoundCache old → IsChunkOf old first
 adds_chunk i old new span first adds end base sound =
     let slab : SlabState = new_slab span.holding old.colour (chunk_of old) in
     let count : length slab.home ≡ old.slab_size / chunk_of old = length-replicate (span.holding.range.len / chunk_of old) true ∙ ap (λ (n : ℕ). n / chunk_of old) adds.size in
     let size : IsOfSize old.slab_size (chunk_of old) slab = record { size = adds.size; chunk = refl; count = count; colour = sound.colour; end = end } in
     chunk_of_slab old slab 0 first (slab_of_size old slab sound size) size (record { base = base; colour = sound.whole }) (omega (arith, count, some_chunk old sound)) adds.tag
 
-pub reaps_span : (i : ℕ) (s : SlabState) (old new : SlabCacheState) (t : Tag) → Reaps i s old new t → IsSound old → IsSpanOf old t
+pub reaps_span : (i : ℕ) (s : SlabState) (old new : SlabCacheState) (t : Tag) → Reaps i s old new t → IsSoundCache old → IsSpanOf old t
 reaps_span i s old new t reaps sound =
     let size = of_size old i s sound reaps.lowest.stands in
     let grid = on_grid old i s sound reaps.lowest.stands in
@@ -83,7 +83,7 @@ some_factor k q some = elim (eq-zero-or-pos q) [
   | inr more ↦ more
 ]
 
-some_is_of : (b : Bool) (t : Tag) (c : SlabCacheState) → IsSound c → SomeChunk b t c → IsChunkOf c t
+some_is_of : (b : Bool) (t : Tag) (c : SlabCacheState) → IsSoundCache c → SomeChunk b t c → IsChunkOf c t
 some_is_of b t c sound some =
     let stands = some.chunk.stands in
     let size = of_size c some.i some.s sound stands in

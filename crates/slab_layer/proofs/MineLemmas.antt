@@ -8,7 +8,7 @@ use Rattle.deed_core.specs.Holding.{Holding}
 use Rattle.deed_core.specs.Tag.{Tag}
 use Rattle.deed_core.specs.declared.segments.Route.TheVariants.{Cached}
 use Rattle.slab_layer.specs.Slab.{SlabState, IsSlab, chunk_at, idle_chunks_by, chunks_out_by, items_where}
-use Rattle.slab_layer.specs.Cache.{SlabCacheState, IsBelow, IsSound, chunk_tag, idle_chunks, chunks_out}
+use Rattle.slab_layer.specs.Cache.{SlabCacheState, IsBelow, IsSoundCache, chunk_tag, idle_chunks, chunks_out}
 use Rattle.slab_layer.specs.Calls.{StandsAt, IsChunk}
 use Rattle.slab_layer.proofs.RowLemmas.{room_for}
 use Rattle.slab_layer.proofs.SlabLemmas.{place_is}
@@ -146,7 +146,7 @@ one_slab i k s r slabs ascending at_i at_k a b = elim (cases_order i k) [
   ]
 ]
 
-pub never_both : (t : Tag) (c : SlabCacheState) → IsSound c → SomeChunk false t c → SomeChunk true t c → ⊥
+pub never_both : (t : Tag) (c : SlabCacheState) → IsSoundCache c → SomeChunk false t c → SomeChunk true t c → ⊥
 never_both t c sound gone here =
     let slab = slab_of_size c gone.s sound (of_size c gone.i gone.s sound gone.chunk.stands) in
     let slab' = slab_of_size c here.s sound (of_size c here.i here.s sound here.chunk.stands) in

@@ -17,7 +17,7 @@ use Rattle.deed_core.specs.Weights.{Gains, Loses, WeighSame}
 use Rattle.deed_core.proofs.LawProofs.{covers_cut, sum_by-map}
 use Rattle.slab_layer.specs.Parts.{piece_or_none}
 use Rattle.slab_layer.specs.Slab.{SlabState, IsSlab, IsComplete, chunk_at, used_units, unused_units, gap_of, tail_of, idle_chunks_by, chunks_out_by, deeds_in, new_slab, with_chunk}
-use Rattle.slab_layer.specs.Cache.{SlabCacheState, IsOfSize, IsSound, chunk_of, spare_of, chunk_tag, span_tag, deeds_of, chunks_out, span_tags}
+use Rattle.slab_layer.specs.Cache.{SlabCacheState, IsOfSize, IsSoundCache, chunk_of, spare_of, chunk_tag, span_tag, deeds_of, chunks_out, span_tags}
 use Rattle.slab_layer.specs.Calls.{StandsAt, Takes, Puts, Adds, Reaps}
 use Rattle.slab_layer.proofs.PartLemmas.{part_none, part_some}
 use Rattle.slab_layer.proofs.PassingLemmas.{counted, sum_by-items_where-set, passing_none, covering-items_where, covers_nothing}
@@ -154,7 +154,7 @@ pub complete_covers : (u : ℕ) (s : SlabState) → IsSlab s → IsComplete s �
 complete_covers u s slab complete = let none : covering_held u (chunks_out_by (chunk_at s) s) ≡ 0 = ap (covering_held u) (none_out (chunk_at s) s complete) in omega (arith, tile u s slab, none)
 
 -- a slab of the size of a sound cache
-pub slab_of_size : (c : SlabCacheState) (s : SlabState) → IsSound c → IsOfSize c.slab_size (chunk_of c) s → IsSlab s
+pub slab_of_size : (c : SlabCacheState) (s : SlabState) → IsSoundCache c → IsOfSize c.slab_size (chunk_of c) s → IsSlab s
 slab_of_size c s sound size =
     let n = chunk_of c in
     let below : c.slab_size / n * n ≤ c.slab_size = div-mul-le_self c.slab_size n in

@@ -10,7 +10,7 @@ use Rattle.deed_core.specs.Holding.{Holding}
 use Rattle.deed_core.specs.Covering.{covers, covers_held, covers_tag, covering_held, covering_tags, units_held}
 use Rattle.deed_core.proofs.LawProofs.{covers_is, sum_by-flat_map, sum_by-map}
 use Rattle.slab_layer.specs.Slab.{SlabState, IsSlab, chunk_at, gap_of, tail_of, idle_chunks_by, chunks_out_by, deeds_in, items_where}
-use Rattle.slab_layer.specs.Cache.{SlabCacheState, IsBelow, IsOfSize, IsSound, chunk_of, chunk_tag, span_tag, deeds_of, chunks_out, span_tags, idle_deeds, gaps, tails}
+use Rattle.slab_layer.specs.Cache.{SlabCacheState, IsBelow, IsOfSize, IsSoundCache, chunk_of, chunk_tag, span_tag, deeds_of, chunks_out, span_tags, idle_deeds, gaps, tails}
 use Rattle.slab_layer.proofs.PassingLemmas.{sum_by-items_where-cons}
 use Rattle.slab_layer.proofs.ListLemmas.{both_nil}
 use Rattle.slab_layer.proofs.MoveLemmas.{sum_by-kept, tile, slab_of_size}
@@ -25,7 +25,7 @@ spans_from m (s ∷ ss) fits above ends ascending =
     let rest = spans_from (end_of s.span.range) ss end next (All-tail (λ x. end_of x.span.range ≤ 2 ^ 62) s ss ends) (λ i j d before within. ascending (suc i) (suc j) d (omega arith) (omega arith)) in
     omega (arith, here, rest, sum_by-cons (λ x. x.span.range.len) s ss)
 
-pub spans_fit : (c : SlabCacheState) → IsSound c → sum_by (λ s. s.span.range.len) c.slabs ≤ 2 ^ 62
+pub spans_fit : (c : SlabCacheState) → IsSoundCache c → sum_by (λ s. s.span.range.len) c.slabs ≤ 2 ^ 62
 spans_fit c sound = omega (arith, spans_from 0 c.slabs (omega arith) (λ k d within. omega arith) (All-weaker (IsOfSize c.slab_size (chunk_of c)) (λ s. end_of s.span.range ≤ 2 ^ 62) (λ s size. size.end) c.slabs sound.slabs) sound.ascending)
 
 -- what lies in the cache, by its parts
@@ -59,7 +59,7 @@ tiles u c (s ∷ ss) all =
     let rest = tiles u c ss (All-tail IsSlab s ss all) in
     omega (arith, here, seen, rest, sum_by-cons (λ x. covering_held u (deeds_in x)) s ss, sum_by-cons (λ x. covering_tags u (chunks_out_by (chunk_tag c.arena c.k x) x)) s ss, sum_by-cons (λ x. covers_tag u (span_tag c.arena x)) s ss)
 
-pub tiled : (c : SlabCacheState) → IsSound c → (u : ℕ) → covering_held u (deeds_of c) + covering_tags u (chunks_out c) ≡ covering_tags u (span_tags c)
+pub tiled : (c : SlabCacheState) → IsSoundCache c → (u : ℕ) → covering_held u (deeds_of c) + covering_tags u (chunks_out c) ≡ covering_tags u (span_tags c)
 tiled c sound u =
     let all = tiles u c c.slabs (All-weaker (IsOfSize c.slab_size (chunk_of c)) IsSlab (λ s size. slab_of_size c s sound size) c.slabs sound.slabs) in
     omega (arith, all, sum_by-flat_map (covers_held u) deeds_in c.slabs, sum_by-flat_map (covers_tag u) (λ s. chunks_out_by (chunk_tag c.arena c.k s) s) c.slabs, sum_by-map (covers_tag u) (span_tag c.arena) c.slabs)
@@ -89,7 +89,7 @@ once_from u m (s ∷ ss) above ascending =
       | inr not_in ↦ (omega (arith, all, rest.0, not_in.0), λ low. let none = rest.1 (omega (arith, here)) in omega (arith, all, none, not_in.0))
     ]
 
-pub once : (c : SlabCacheState) → IsSound c → (u : ℕ) → covering_tags u (span_tags c) ≤ 1
+pub once : (c : SlabCacheState) → IsSoundCache c → (u : ℕ) → covering_tags u (span_tags c) ≤ 1
 once c sound u =
     let all = (once_from u 0 c.slabs (λ k d within. omega arith) sound.ascending).0 in
     omega (arith, all, sum_by-map (covers_tag u) (span_tag c.arena) c.slabs)

@@ -11,20 +11,20 @@ use Rattle.std.proofs.lemmas.List.Quantifiers.{all_pairs_remove}
 use Rattle.deed_core.specs.Extent.{Extent, Overlap, end_of}
 use Rattle.deed_core.specs.Tag.{Tag}
 use Rattle.slab_layer.specs.Slab.{SlabState, new_slab, with_chunk, IsComplete, IsLowestIdle}
-use Rattle.slab_layer.specs.Cache.{SlabCacheState, chunk_tag, span_tag, IsBelow, IsOfSize, IsOnGrid, IsSound, chunk_of, spare_of, next_colour}
+use Rattle.slab_layer.specs.Cache.{SlabCacheState, chunk_tag, span_tag, IsBelow, IsOfSize, IsOnGrid, IsSoundCache, chunk_of, spare_of, next_colour}
 use Rattle.slab_layer.specs.Calls.{StandsAt, IsChunk, IsLowest, IsNext, Takes, Puts, Adds, Reaps, with_slabs}
 use Rattle.slab_layer.proofs.ListLemmas.{pairs_set, pairs_insert, all_insert, all_remove}
 use Rattle.slab_layer.proofs.SearchLemmas.{next_stands, same_slab}
 
 -- what holds of each slab holds of one that stands
-pub of_size : (c : SlabCacheState) (i : ℕ) (s : SlabState) → IsSound c → StandsAt i s c.slabs → IsOfSize c.slab_size (chunk_of c) s
+pub of_size : (c : SlabCacheState) (i : ℕ) (s : SlabState) → IsSoundCache c → StandsAt i s c.slabs → IsOfSize c.slab_size (chunk_of c) s
 of_size c i s sound stands = subst (λ (t : SlabState). IsOfSize c.slab_size (chunk_of c) t) stands.is (All-get_or (IsOfSize c.slab_size (chunk_of c)) c.slabs i s stands.within sound.slabs)
 
-pub on_grid : (c : SlabCacheState) (i : ℕ) (s : SlabState) → IsSound c → StandsAt i s c.slabs → IsOnGrid c.quantum s
+pub on_grid : (c : SlabCacheState) (i : ℕ) (s : SlabState) → IsSoundCache c → StandsAt i s c.slabs → IsOnGrid c.quantum s
 on_grid c i s sound stands = subst (λ (t : SlabState). IsOnGrid c.quantum t) stands.is (All-get_or (IsOnGrid c.quantum) c.slabs i s stands.within sound.grid)
 
 -- a chunk moves
-pub sound_with : (c : SlabCacheState) (i j : ℕ) (s : SlabState) (b : Bool) → IsSound c → StandsAt i s c.slabs → IsSound (with_slabs c (set c.slabs i (with_chunk s j b)))
+pub sound_with : (c : SlabCacheState) (i j : ℕ) (s : SlabState) (b : Bool) → IsSoundCache c → StandsAt i s c.slabs → IsSoundCache (with_slabs c (set c.slabs i (with_chunk s j b)))
 sound_with c i j s b sound stands =
     let size : IsOfSize c.slab_size (chunk_of c) s = of_size c i s sound stands in
     let grid : IsOnGrid c.quantum s = on_grid c i s sound stands in
@@ -41,15 +41,15 @@ sound_with c i j s b sound stands =
           sound.ascending;
     }
 
-pub sound_takes : (i j : ℕ) (s : SlabState) (old new : SlabCacheState) (t : Tag) → Takes i j s old new t → IsSound old → IsSound new
-sound_takes i j s old new t takes sound = subst IsSound (sym takes.after) (sound_with old i j s false sound (next_stands i s old.slabs takes.next))
+pub sound_takes : (i j : ℕ) (s : SlabState) (old new : SlabCacheState) (t : Tag) → Takes i j s old new t → IsSoundCache old → IsSoundCache new
+sound_takes i j s old new t takes sound = subst IsSoundCache (sym takes.after) (sound_with old i j s false sound (next_stands i s old.slabs takes.next))
 
-pub sound_puts : (i j : ℕ) (s : SlabState) (old new : SlabCacheState) (t : Tag) → Puts i j s old new t → IsSound old → IsSound new
-sound_puts i j s old new t puts sound = subst IsSound (sym puts.after) (sound_with old i j s true sound puts.chunk.stands)
+pub sound_puts : (i j : ℕ) (s : SlabState) (old new : SlabCacheState) (t : Tag) → Puts i j s old new t → IsSoundCache old → IsSoundCache new
+sound_puts i j s old new t puts sound = subst IsSoundCache (sym puts.after) (sound_with old i j s true sound puts.chunk.stands)
 
 -- a slab leaves
-pub sound_reaps : (i : ℕ) (s : SlabState) (old new : SlabCacheState) (t : Tag) → Reaps i s old new t → IsSound old → IsSound new
-sound_reaps i s old new t reaps sound = subst IsSound (sym reaps.after) (record {
+pub sound_reaps : (i : ℕ) (s : SlabState) (old new : SlabCacheState) (t : Tag) → Reaps i s old new t → IsSoundCache old → IsSoundCache new
+sound_reaps i s old new t reaps sound = subst IsSoundCache (sym reaps.after) (record {
   some = sound.some;
   room = sound.room;
   colour = sound.colour;
@@ -74,13 +74,13 @@ next_whole c whole = elim (nat_le (c.colour + c.quantum) (spare_of c.slab_size (
 ]
 
 -- a slab comes
-pub sound_adds : (i : ℕ) (old new : SlabCacheState) (span first : Tag) → Adds i old new span first → end_of span.holding.range ≤ 2 ^ 62 → span.holding.range.base % old.quantum ≡ 0 → IsSound old → IsSound new
+pub sound_adds : (i : ℕ) (old new : SlabCacheState) (span first : Tag) → Adds i old new span first → end_of span.holding.range ≤ 2 ^ 62 → span.holding.range.base % old.quantum ≡ 0 → IsSoundCache old → IsSoundCache new
 sound_adds i old new span first adds end base sound =
     let size : span.holding.range.len ≡ old.slab_size = adds.size in
     let slab : SlabState = with_chunk (new_slab span.holding old.colour (chunk_of old)) 0 false in
     let count : length (set (replicate (span.holding.range.len / chunk_of old) true) 0 false) ≡ old.slab_size / chunk_of old =
     length-set (replicate (span.holding.range.len / chunk_of old) true) 0 false ∙ length-replicate (span.holding.range.len / chunk_of old) true ∙ ap (λ n. n / chunk_of old) size in
-    subst IsSound (sym adds.after) (record {
+    subst IsSoundCache (sym adds.after) (record {
       some = sound.some;
       room = sound.room;
       colour = next_fits old;
@@ -118,7 +118,7 @@ made_reaps i s u slabs x old t view lowest is left tag =
 
 -- an empty cache
 pub sound_empty : (arena k quantum slab_size : ℕ) (slabs : List SlabState) → slabs ≡ [] → 1 ≤ k → 1 ≤ quantum → k * quantum ≤ slab_size
-    → IsSound (record { arena = arena; k = k; quantum = quantum; slab_size = slab_size; slabs = slabs; colour = 0 })
+    → IsSoundCache (record { arena = arena; k = k; quantum = quantum; slab_size = slab_size; slabs = slabs; colour = 0 })
 sound_empty arena k quantum slab_size slabs none some_k some_quantum room =
     let least : 1 * quantum ≤ k * quantum = mul-le-mul_right quantum some_k in
     record {
@@ -132,7 +132,7 @@ sound_empty arena k quantum slab_size slabs none some_k some_quantum room =
     }
 
 -- there is a chunk in each slab
-pub some_chunk : (c : SlabCacheState) → IsSound c → 0 < c.slab_size / chunk_of c
+pub some_chunk : (c : SlabCacheState) → IsSoundCache c → 0 < c.slab_size / chunk_of c
 some_chunk c sound = let e : c.slab_size / chunk_of c ≡ (c.slab_size - chunk_of c) / chunk_of c + 1 = div-eq-sub-div sound.some sound.room in omega arith
 
 -- a span that overlaps no slab stands between those below it and those above it
@@ -141,7 +141,7 @@ pub record IsPlaced (i : ℕ) (e : Extent) (slabs : List SlabState) : Type 0 whe
   pub below : All (λ s. end_of s.span.range ≤ e.base) (take i slabs)
   pub above : All (λ s. end_of e ≤ s.span.range.base) (drop i slabs)
 
-pub placed_at : (i : ℕ) (e : Extent) (c : SlabCacheState) → IsSound c → 0 < e.len → (Any (λ s. Overlap s.span.range e) c.slabs → ⊥) → i ≤ length c.slabs
+pub placed_at : (i : ℕ) (e : Extent) (c : SlabCacheState) → IsSoundCache c → 0 < e.len → (Any (λ s. Overlap s.span.range e) c.slabs → ⊥) → i ≤ length c.slabs
     → ((k : ℕ) (d : SlabState) → k < i → (get_or c.slabs k d).span.range.base < e.base) → (i < length c.slabs → (d : SlabState) → e.base ≤ (get_or c.slabs i d).span.range.base) → IsPlaced i e c.slabs
 placed_at i e c sound some apart reach below above = record {
   within = reach;
@@ -172,13 +172,13 @@ placed_at i e c sound some apart reach below above = record {
       );
 }
 
-pub made_adds : (i next : ℕ) (slab : SlabState) (slabs : List SlabState) (x old : SlabCacheState) (span first : Tag) (e : Extent) → x ≡ old → IsSound old → e ≡ span.holding.range → 0 < e.len
+pub made_adds : (i next : ℕ) (slab : SlabState) (slabs : List SlabState) (x old : SlabCacheState) (span first : Tag) (e : Extent) → x ≡ old → IsSoundCache old → e ≡ span.holding.range → 0 < e.len
     → (Any (λ s. Overlap s.span.range e) x.slabs → ⊥) → i ≤ length x.slabs → ((k : ℕ) (d : SlabState) → k < i → (get_or x.slabs k d).span.range.base < e.base)
     → (i < length x.slabs → (d : SlabState) → e.base ≤ (get_or x.slabs i d).span.range.base)
     → slab ≡ with_chunk (new_slab span.holding x.colour (chunk_of x)) 0 false → span.holding.range.len ≡ x.slab_size → slabs ≡ insert x.slabs i slab → next ≡ next_colour old → first ≡ chunk_tag x.arena x.k (new_slab span.holding x.colour (chunk_of x)) 0
     → Adds i old (record { arena = x.arena; k = x.k; quantum = x.quantum; slab_size = x.slab_size; slabs = slabs; colour = next }) span first
 made_adds i next slab slabs x old span first e view sound range some apart reach below above made size put colour tag =
-    let placed : IsPlaced i e x.slabs = placed_at i e x (subst IsSound (sym view) sound) some apart reach below above in
+    let placed : IsPlaced i e x.slabs = placed_at i e x (subst IsSoundCache (sym view) sound) some apart reach below above in
     let at : IsPlaced i span.holding.range x.slabs = subst (λ (r : Extent). IsPlaced i r x.slabs) range placed in
     let T : SlabCacheState → Type 0 = λ c. Adds i c (record { arena = x.arena; k = x.k; quantum = x.quantum; slab_size = x.slab_size; slabs = slabs; colour = next }) span first in
     let next_is : next ≡ next_colour x = colour ∙ ap next_colour (sym view) in

@@ -134,7 +134,7 @@ pub record IsOnGrid (quantum : ℕ) (s : SlabState) : Type 0 where
   pub colour : s.colour % quantum ≡ 0
 
 -- what a cache keeps
-pub record IsSound (c : SlabCacheState) : Type 0 where
+pub record IsSoundCache (c : SlabCacheState) : Type 0 where
   pub some : 0 < chunk_of c
   pub room : chunk_of c ≤ c.slab_size
   pub colour : c.colour ≤ spare_of c.slab_size (chunk_of c)

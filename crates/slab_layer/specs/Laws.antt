@@ -6,7 +6,7 @@ use Rattle.deed_core.specs.Weights.{of_cache}
 use Rattle.slab_layer.specs.Slab.{IsAllOut, IsComplete}
 use Rattle.slab_layer.specs.Cache.{
   SlabCacheState,
-  IsSound,
+  IsSoundCache,
   IsChunkOf,
   chunk_of,
   chunks_out,
@@ -18,19 +18,19 @@ use Rattle.slab_layer.specs.Calls.{TakeOf, ReapOf}
 -- quantum's grid
 abbrev pub ChunksAreOfCache : Type 0
 ChunksAreOfCache =
-    (c : SlabCacheState) → IsSound c
+    (c : SlabCacheState) → IsSoundCache c
     → All (IsChunkOf c) (chunks_out c) × All (IsChunkOf c) (idle_chunks c)
 
 -- no chunk is both out and at home
 abbrev pub NeverBoth : Type 0
 NeverBoth =
-    (c : SlabCacheState) (t : Tag) → IsSound c
+    (c : SlabCacheState) (t : Tag) → IsSoundCache c
     → Contains (chunks_out c) t → ¬ Contains (idle_chunks c) t
 
 -- whatever is counted: all that is out is counted for the cache's arena and number
 abbrev pub OutIsOfCache : Type 0
 OutIsOfCache =
-    (c : SlabCacheState) → IsSound c → (f : Tag → ℕ)
+    (c : SlabCacheState) → IsSoundCache c → (f : Tag → ℕ)
     → sum_by (of_cache c.arena c.k f) (chunks_out c) ≡ sum_by f (chunks_out c)
 
 -- a chunk fits each unconstrained request whose size, rounded to whole quanta, is the chunk's
@@ -42,7 +42,7 @@ ChunkFits =
 
 -- of these is the one for just k quanta
 abbrev pub ChunkIsWholeQuanta : Type 0
-ChunkIsWholeQuanta = (c : SlabCacheState) → IsSound c
+ChunkIsWholeQuanta = (c : SlabCacheState) → IsSoundCache c
     → rounding_of c.quantum (chunk_of c) ≡ chunk_of c
 
 -- `take` gives none exactly where every chunk is out, and `reap` exactly where each slab has one

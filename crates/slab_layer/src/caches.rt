@@ -23,7 +23,7 @@ ghost use Rattle.deed_core.specs.Covering.{
 };
 ghost use Rattle.deed_core.specs.Weights.{Gains, Loses, WeighSame};
 ghost use Rattle.slab_layer.specs.Cache.{
-  IsSound,
+  IsSoundCache,
   IsChunkOf,
   IsSpanFor,
   IsSpanOf,
@@ -59,7 +59,7 @@ pub struct SlabCache<D: Deed> {
 }
 
 impl<D: Deed> Model for SlabCache<D> {
-    ghost use Rattle.slab_layer.specs.Cache.{SlabCacheState, IsSound};
+    ghost use Rattle.slab_layer.specs.Cache.{SlabCacheState, IsSoundCache};
 
     ghost Value = { SlabCacheState };
 
@@ -72,7 +72,7 @@ impl<D: Deed> Model for SlabCache<D> {
       colour = c.colour;
     } };
 
-    ghost invariant = { λ c. IsSound (record {
+    ghost invariant = { λ c. IsSoundCache (record {
       arena = c.arena;
       k = c.k;
       quantum = c.quantum;
@@ -113,7 +113,7 @@ impl<D: Deed> SlabCache<D> {
     /// keeps to whoever holds one of which nothing else is known, as behind a lock.
     pub fn arena(&self) -> u32
         ensures value { result ≡ self.now.arena }
-        ensures sound { IsSound self.now }
+        ensures sound { IsSoundCache self.now }
     {
         self.arena
     }
@@ -147,7 +147,7 @@ impl<D: Deed> SlabCache<D> {
     pub fn take(&mut self) -> Option<Segment<D>>
         // What it does.
         ensures taken { TakeOf self.old result self.new }
-        ensures sound { IsSound self.new }
+        ensures sound { IsSoundCache self.new }
         ensures alike { IsAlike self.old self.new }
 
         // What follows, for those above: what the chunk is, and, whatever is counted, that it is
@@ -168,7 +168,7 @@ impl<D: Deed> SlabCache<D> {
     pub fn put(&mut self, segment: Segment<D>) -> Result<(), PutFault<Segment<D>>>
         // What it does.
         ensures put { PutOf self.old segment result self.new }
-        ensures sound { IsSound self.new }
+        ensures sound { IsSoundCache self.new }
         ensures alike { IsAlike self.old self.new }
 
         // What follows, for those above: just what is out is taken, and, whatever is counted, it is
@@ -203,7 +203,7 @@ impl<D: Deed> SlabCache<D> {
 
         // What it does.
         ensures added { AddOf self.old span result self.new }
-        ensures sound { IsSound self.new }
+        ensures sound { IsSoundCache self.new }
         ensures alike { IsAlike self.old self.new }
 
         // What follows, for those above: what the chunk is, and, whatever is counted, that it is
@@ -255,7 +255,7 @@ impl<D: Deed> SlabCache<D> {
     // The units of a chunk.
     fn chunk(&self) -> u64
         ensures value { result ≡ chunk_of self.now }
-        ensures sound { IsSound self.now }
+        ensures sound { IsSoundCache self.now }
     {
         // For its clause: a slab's units fit a `u64`, and a chunk's are no more.
         let _ = self.slab_size();
@@ -282,7 +282,7 @@ impl<D: Deed> SlabCache<D> {
     pub fn reap(&mut self) -> Option<Segment<D>>
         // What it does.
         ensures reaped { ReapOf self.old result self.new }
-        ensures sound { IsSound self.new }
+        ensures sound { IsSoundCache self.new }
         ensures alike { IsAlike self.old self.new }
 
         // What follows, for those above: what the span is, and, whatever is counted, that it left

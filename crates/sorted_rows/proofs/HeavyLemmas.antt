@@ -6,10 +6,10 @@ use Rattle.std.proofs.lemmas.List.{drop-append-le, drop_all, set-get_or, take-ap
 use Rattle.std.proofs.lemmas.List.Folds.{find-append}
 use Rattle.std.proofs.Math.Seq.{drop-cons, drop-append-add}
 use Rattle.sorted_rows.specs.Order.{Rises, place_below, IsRankAt}
-use Rattle.sorted_rows.specs.Layout.{flat, IsLaid, IsSeat}
-use Rattle.sorted_rows.specs.Weights.{weighs, heavy_from}
+use Rattle.sorted_rows.specs.Layout.{entries_in, IsLaid, IsSeat}
+use Rattle.sorted_rows.specs.Weights.{weighs, first_heavy_from}
 use Rattle.sorted_rows.proofs.PlaceLemmas.{below_is, below_stands}
-use Rattle.sorted_rows.proofs.RowLemmas.{flat_at, any_of, place_in_seat, rises_at}
+use Rattle.sorted_rows.proofs.RowLemmas.{entries_at, any_of, place_in_seat, rises_at}
 
 -- where neither of two has one, the second has none
 none_behind : {X : Type 0} (a b : Option X) → option_or a b ≡ None → None ≡ b
@@ -29,51 +29,51 @@ module _ {X : Type 0} (p : X → Bool) where
   none_in_rest k xs is = none_behind (find p (take k xs)) (find p (drop k xs)) (sym (find-append p (take k xs) (drop k xs)) ∙ (ap (find p) (take-append-drop k xs) ∙ is))
 
   -- the rows from one on
-  rows_from : (rows : List (List X)) (k : ℕ) (r : List X) → k < length rows → r ≡ get_or rows k r → flat (drop k rows) ≡ r ++ flat (drop (suc k) rows)
-  rows_from rows k r lt is = ap flat (drop-cons rows k r lt) ∙ ap (λ q. q ++ flat (drop (suc k) rows)) (sym is)
+  rows_from : (rows : List (List X)) (k : ℕ) (r : List X) → k < length rows → r ≡ get_or rows k r → entries_in (drop k rows) ≡ r ++ entries_in (drop (suc k) rows)
+  rows_from rows k r lt is = ap entries_in (drop-cons rows k r lt) ∙ ap (λ q. q ++ entries_in (drop (suc k) rows)) (sym is)
 
-  pub row_has : (rows : List (List X)) (k : ℕ) (r : List X) (x : X) → k < length rows → r ≡ get_or rows k r → Some x ≡ find p r → Some x ≡ find p (flat (drop k rows))
-  row_has rows k r x lt at is = found_first r (flat (drop (suc k) rows)) x is ∙ ap (find p) (sym (rows_from rows k r lt at))
+  pub row_has : (rows : List (List X)) (k : ℕ) (r : List X) (x : X) → k < length rows → r ≡ get_or rows k r → Some x ≡ find p r → Some x ≡ find p (entries_in (drop k rows))
+  row_has rows k r x lt at is = found_first r (entries_in (drop (suc k) rows)) x is ∙ ap (find p) (sym (rows_from rows k r lt at))
 
-  pub row_lacks : (rows : List (List X)) (k : ℕ) (r : List X) (found : Option X) → k < length rows → r ≡ get_or rows k r → None ≡ find p r → found ≡ find p (flat (drop k rows)) → found ≡ find p (flat (drop (k + 1) rows))
+  pub row_lacks : (rows : List (List X)) (k : ℕ) (r : List X) (found : Option X) → k < length rows → r ≡ get_or rows k r → None ≡ find p r → found ≡ find p (entries_in (drop k rows)) → found ≡ find p (entries_in (drop (k + 1) rows))
   row_lacks rows k r found lt at is so =
       let next : suc k ≡ k + 1 = omega arith in
-      so ∙ ap (find p) (rows_from rows k r lt at) ∙ (found_behind r (flat (drop (suc k) rows)) is ∙ ap (λ n. find p (flat (drop n rows))) next)
+      so ∙ ap (find p) (rows_from rows k r lt at) ∙ (found_behind r (entries_in (drop (suc k) rows)) is ∙ ap (λ n. find p (entries_in (drop n rows))) next)
 
   -- a row that is put back leaves the rows as they are
   pub row_kept : (rows : List (List X)) (k : ℕ) (r q : List X) → q ≡ get_or rows k r → set rows k q ≡ rows
   row_kept rows k r q same = ap (set rows k) same ∙ set-get_or rows k r
 
-  pub none_left : (rows : List (List X)) (k : ℕ) → length rows ≤ k → None ≡ find p (flat (drop k rows))
-  none_left rows k past = sym (ap (λ rs. find p (flat rs)) (drop_all k rows past))
+  pub none_left : (rows : List (List X)) (k : ℕ) → length rows ≤ k → None ≡ find p (entries_in (drop k rows))
+  none_left rows k past = sym (ap (λ rs. find p (entries_in rs)) (drop_all k rows past))
 
 module _ {X : Type 0} (rank weight : X → ℕ) where
   -- what stands from the place of a key on, in its row and behind
   pub from_place : (key : ℕ) (rows : List (List X)) (i q : ℕ) (r : List X) → IsLaid rank rows → i < length rows → r ≡ get_or rows i r → IsSeat rank key rows i → IsRankAt rank key r q
-      → drop (place_below rank key (flat rows)) (flat rows) ≡ drop q r ++ flat (drop (suc i) rows)
+      → drop (place_below rank key (entries_in rows)) (entries_in rows) ≡ drop q r ++ entries_in (drop (suc i) rows)
   from_place key rows i q r laid lt e seat place =
       let at = place_in_seat rank key rows i q r lt seat (subst (λ xs. IsRankAt rank key xs q) e place) in
-      let a = flat (take i rows) in
-      let b = flat (drop (suc i) rows) in
-      let whole : flat rows ≡ a ++ (r ++ b) = rw e (flat_at rows i r lt) in
+      let a = entries_in (take i rows) in
+      let b = entries_in (drop (suc i) rows) in
+      let whole : entries_in rows ≡ a ++ (r ++ b) = rw e (entries_at rows i r lt) in
       let some : 0 < length r = rw e (laid.filled i r lt) in
-      let is = below_is rank key (flat rows) _ (any_of r 0 some) at in
-      ap (λ n. drop n (flat rows)) is ∙ (ap (drop (length a + q)) whole ∙ (drop-append-add a (r ++ b) q ∙ drop-append-le q r b place.within))
+      let is = below_is rank key (entries_in rows) _ (any_of r 0 some) at in
+      ap (λ n. drop n (entries_in rows)) is ∙ (ap (drop (length a + q)) whole ∙ (drop-append-add a (r ++ b) q ∙ drop-append-le q r b place.within))
 
   pub heavy_here : (key least : ℕ) (rows : List (List X)) (i q : ℕ) (r : List X) (x : X) → IsLaid rank rows → i < length rows → r ≡ get_or rows i r → IsSeat rank key rows i → IsRankAt rank key r q
-      → Some x ≡ find (weighs weight least) (drop q r) → Some x ≡ heavy_from rank weight key least (flat rows)
+      → Some x ≡ find (weighs weight least) (drop q r) → Some x ≡ first_heavy_from rank weight key least (entries_in rows)
   heavy_here key least rows i q r x laid lt e seat place is =
-      found_first (weighs weight least) (drop q r) (flat (drop (suc i) rows)) x is ∙ ap (find (weighs weight least)) (sym (from_place key rows i q r laid lt e seat place))
+      found_first (weighs weight least) (drop q r) (entries_in (drop (suc i) rows)) x is ∙ ap (find (weighs weight least)) (sym (from_place key rows i q r laid lt e seat place))
 
   pub heavy_behind : (key least : ℕ) (rows : List (List X)) (i q : ℕ) (r : List X) (o : Option X) → IsLaid rank rows → i < length rows → r ≡ get_or rows i r → IsSeat rank key rows i → IsRankAt rank key r q
-      → None ≡ find (weighs weight least) (drop q r) → o ≡ find (weighs weight least) (flat (drop (i + 1) rows)) → o ≡ heavy_from rank weight key least (flat rows)
+      → None ≡ find (weighs weight least) (drop q r) → o ≡ find (weighs weight least) (entries_in (drop (i + 1) rows)) → o ≡ first_heavy_from rank weight key least (entries_in rows)
   heavy_behind key least rows i q r o laid lt e seat place is behind =
       let next : i + 1 ≡ suc i = omega arith in
-      behind ∙ (ap (λ n. find (weighs weight least) (flat (drop n rows))) next ∙ (sym (found_behind (weighs weight least) (drop q r) (flat (drop (suc i) rows)) is) ∙ ap (find (weighs weight least)) (sym (from_place key rows i q r laid lt e seat place))))
+      behind ∙ (ap (λ n. find (weighs weight least) (entries_in (drop n rows))) next ∙ (sym (found_behind (weighs weight least) (drop q r) (entries_in (drop (suc i) rows)) is) ∙ ap (find (weighs weight least)) (sym (from_place key rows i q r laid lt e seat place))))
 
   -- behind a row that has none
   pub heavy_past : (key least : ℕ) (rows : List (List X)) (i : ℕ) (r : List X) (o : Option X) → IsLaid rank rows → i < length rows → r ≡ get_or rows i r → IsSeat rank key rows i
-      → find (weighs weight least) r ≡ None → o ≡ find (weighs weight least) (flat (drop (i + 1) rows)) → o ≡ heavy_from rank weight key least (flat rows)
+      → find (weighs weight least) r ≡ None → o ≡ find (weighs weight least) (entries_in (drop (i + 1) rows)) → o ≡ first_heavy_from rank weight key least (entries_in rows)
   heavy_past key least rows i r o laid lt e seat is behind =
       let rises : Rises rank r = rw e (rises_at rank rows i r lt laid.rises) in
       heavy_behind key least rows i (place_below rank key r) r o laid lt e seat (below_stands rank key r rises) (none_in_rest (weighs weight least) (place_below rank key r) r is) behind

@@ -4,9 +4,9 @@ use Rattle.std.proofs.lemmas.Bool.{cases_lt}
 use Rattle.std.proofs.lemmas.List.{length-take-le, get_or-take, get_or_append_left, get_or-append-add}
 use Rattle.std.proofs.lemmas.Option.{slice_get-get_or}
 use Rattle.sorted_rows.specs.Order.{Rises, IsRankAt, last_of, last_to}
-use Rattle.sorted_rows.specs.Layout.{flat, place_in, IsLaid, IsSeat}
+use Rattle.sorted_rows.specs.Layout.{entries_in, place_in, IsLaid, IsSeat}
 use Rattle.sorted_rows.proofs.PlaceLemmas.{below_is, is_place, place_across}
-use Rattle.sorted_rows.proofs.RowLemmas.{flat_at, any_of}
+use Rattle.sorted_rows.proofs.RowLemmas.{entries_at, any_of}
 
 -- the last of the first ones
 last_of_first : {X : Type 0} (xs : List X) (n : ℕ) (d : X) → 0 < n → n ≤ length xs → last_of (take n xs) ≡ Some (get_or xs (n - 1) d)
@@ -17,11 +17,11 @@ last_of_first xs n d some within =
 
 module _ {X : Type 0} where
   -- what stands in a row's place, in the whole list
-  pub entry_in : (rows : List (List X)) (i p : ℕ) (r : List X) (d : X) → i < length rows → r ≡ get_or rows i [] → p < length r → (place_in rows i p < length (flat rows)) × (get_or (flat rows) (place_in rows i p) d ≡ get_or r p d)
+  pub entry_in : (rows : List (List X)) (i p : ℕ) (r : List X) (d : X) → i < length rows → r ≡ get_or rows i [] → p < length r → (place_in rows i p < length (entries_in rows)) × (get_or (entries_in rows) (place_in rows i p) d ≡ get_or r p d)
   entry_in rows i p r d lt e less =
-      let a = flat (take i rows) in
-      let b = flat (drop (suc i) rows) in
-      let whole : flat rows ≡ a ++ (r ++ b) = rw e (flat_at rows i [] lt) in (
+      let a = entries_in (take i rows) in
+      let b = entries_in (drop (suc i) rows) in
+      let whole : entries_in rows ≡ a ++ (r ++ b) = rw e (entries_at rows i [] lt) in (
         omega (arith, ap length whole, length-append a (r ++ b), length-append r b),
         ap (λ xs. get_or xs (length a + p) d) whole ∙ (get_or-append-add a (r ++ b) p d ∙ get_or_append_left r b d p less),
       )
@@ -48,22 +48,22 @@ module _ {X : Type 0} (rank : X → ℕ) where
       (λ d more. absurd (omega arith))
 
   -- how many stand at a key or below it in the row where it belongs, and in all
-  up_in_seat : (key : ℕ) (rows : List (List X)) (i p : ℕ) (r : List X) → i < length rows → r ≡ get_or rows i [] → IsSeat rank key rows i → IsRankAt rank (key + 1) r p → IsRankAt rank (key + 1) (flat rows) (place_in rows i p)
+  up_in_seat : (key : ℕ) (rows : List (List X)) (i p : ℕ) (r : List X) → i < length rows → r ≡ get_or rows i [] → IsSeat rank key rows i → IsRankAt rank (key + 1) r p → IsRankAt rank (key + 1) (entries_in rows) (place_in rows i p)
   up_in_seat key rows i p r lt e s q =
-      let whole : flat rows ≡ flat (take i rows) ++ (r ++ flat (drop (suc i) rows)) = rw e (flat_at rows i [] lt) in
-      subst (λ xs. IsRankAt rank (key + 1) xs (place_in rows i p)) (sym whole) (place_across rank (key + 1) (flat (take i rows)) r (flat (drop (suc i) rows)) p (λ k d h. let a = s.before k d h in omega (arith, a)) q (λ k d h. let a = s.after k d h in omega (arith, a)))
+      let whole : entries_in rows ≡ entries_in (take i rows) ++ (r ++ entries_in (drop (suc i) rows)) = rw e (entries_at rows i [] lt) in
+      subst (λ xs. IsRankAt rank (key + 1) xs (place_in rows i p)) (sym whole) (place_across rank (key + 1) (entries_in (take i rows)) r (entries_in (drop (suc i) rows)) p (λ k d h. let a = s.before k d h in omega (arith, a)) q (λ k d h. let a = s.after k d h in omega (arith, a)))
 
   -- the last of them: in that row,
-  pub last_here : (key : ℕ) (rows : List (List X)) (i p : ℕ) (r : List X) (x : X) → i < length rows → r ≡ get_or rows i [] → IsSeat rank key rows i → IsRankAt rank (key + 1) r p → 0 < p → ((d : X) → x ≡ get_or r (p - 1) d) → Some x ≡ last_to rank key (flat rows)
+  pub last_here : (key : ℕ) (rows : List (List X)) (i p : ℕ) (r : List X) (x : X) → i < length rows → r ≡ get_or rows i [] → IsSeat rank key rows i → IsRankAt rank (key + 1) r p → 0 < p → ((d : X) → x ≡ get_or r (p - 1) d) → Some x ≡ last_to rank key (entries_in rows)
   last_here key rows i p r x lt e seat place some is =
       let at = up_in_seat key rows i p r lt e seat place in
       let within = place.within in
       let there = (entry_in rows i (p - 1) r x lt e (omega arith)).1 in
       let same : place_in rows i p - 1 ≡ place_in rows i (p - 1) = omega arith in
-      sym (ap (λ n. last_of (take n (flat rows))) (below_is rank (key + 1) (flat rows) _ x at) ∙ (last_of_first (flat rows) (place_in rows i p) x (omega arith) at.within ∙ ap Some (ap (λ k. get_or (flat rows) k x) same ∙ (there ∙ sym (is x)))))
+      sym (ap (λ n. last_of (take n (entries_in rows))) (below_is rank (key + 1) (entries_in rows) _ x at) ∙ (last_of_first (entries_in rows) (place_in rows i p) x (omega arith) at.within ∙ ap Some (ap (λ k. get_or (entries_in rows) k x) same ∙ (there ∙ sym (is x)))))
 
   -- or nowhere
-  pub last_none : (key : ℕ) (rows : List (List X)) (i p : ℕ) (r : List X) → IsLaid rank rows → i < length rows → r ≡ get_or rows i [] → IsSeat rank key rows i → IsRankAt rank (key + 1) r p → p ≡ 0 → ((d : X) → 0 < i → rank (get_or r 0 d) ≤ key) → None ≡ last_to rank key (flat rows)
+  pub last_none : (key : ℕ) (rows : List (List X)) (i p : ℕ) (r : List X) → IsLaid rank rows → i < length rows → r ≡ get_or rows i [] → IsSeat rank key rows i → IsRankAt rank (key + 1) r p → p ≡ 0 → ((d : X) → 0 < i → rank (get_or r 0 d) ≤ key) → None ≡ last_to rank key (entries_in rows)
   last_none key rows i p r laid lt e seat place none first =
       let at = up_in_seat key rows i p r lt e seat place in
       let some : 0 < length r = rw e (laid.filled i [] lt) in
@@ -73,7 +73,7 @@ module _ {X : Type 0} (rank : X → ℕ) where
         | inr h ↦ omega arith
       ] in
       let all : place_in rows i p ≡ 0 = rw (start, none) refl in
-      sym (ap (λ n. last_of (take n (flat rows))) (below_is rank (key + 1) (flat rows) _ x at ∙ all))
+      sym (ap (λ n. last_of (take n (entries_in rows))) (below_is rank (key + 1) (entries_in rows) _ x at ∙ all))
 
 -- how many stand at a key or below it
 pub ruleset places_up_to = (up_past, up_to_greater, up_to_end)

@@ -4,33 +4,33 @@ use Rattle.std.specs.List.{flat_map}
 use Rattle.sorted_rows.specs.Order.{Rises}
 
 module _ {X : Type 0} where
-  -- the rows end to end
-  abbrev pub flat : List (List X) → List X
-  flat rows = flat_map (λ r. r) rows
+  -- the entries in the rows, one row behind the other
+  abbrev pub entries_in : List (List X) → List X
+  entries_in rows = flat_map (λ r. r) rows
 
   -- where in the list the p-th entry of the i-th row stands
   abbrev pub place_in : List (List X) → (i p : ℕ) → ℕ
-  place_in rows i p = length (flat (take i rows)) + p
+  place_in rows i p = length (entries_in (take i rows)) + p
 
   -- two neighbors never have 32 or fewer between them
-  abbrev pub Paired : List (List X) → Type 0
-  Paired rows = (k : ℕ) → suc k < length rows
+  abbrev pub ArePaired : List (List X) → Type 0
+  ArePaired rows = (k : ℕ) → suc k < length rows
       → 32 < length (get_or rows k []) + length (get_or rows (suc k) [])
 
   -- each row has place for one more
-  abbrev pub Short : List (List X) → Type 0
-  Short rows = (k : ℕ) → length (get_or rows k []) < 64
+  abbrev pub AreShort : List (List X) → Type 0
+  AreShort rows = (k : ℕ) → length (get_or rows k []) < 64
 
 module _ {X : Type 0} (rank : X → ℕ) where
   -- rows that a list stands in
   pub record IsLaid (rows : List (List X)) : Type 0 where
-    pub rises : Rises rank (flat rows)
+    pub rises : Rises rank (entries_in rows)
     pub filled : All (λ r. 0 < length r) rows
-    pub paired : Paired rows
+    pub paired : ArePaired rows
 
   -- rows that a list stands in, but for the row `i` that has lost an entry
   pub record IsLoose (i : ℕ) (rows : List (List X)) : Type 0 where
-    pub rises : Rises rank (flat rows)
+    pub rises : Rises rank (entries_in rows)
     pub filled : (k : ℕ) → k < length rows → k ≢ i → 0 < length (get_or rows k [])
     pub almost : (k : ℕ) → suc k < length rows
         → 32 ≤ length (get_or rows k []) + length (get_or rows (suc k) [])
@@ -40,8 +40,8 @@ module _ {X : Type 0} (rank : X → ℕ) where
   -- the row where a key belongs: what stands before the row is below the key, what stands behind
   -- the row above it
   pub record IsSeat (key : ℕ) (rows : List (List X)) (i : ℕ) : Type 0 where
-    pub before : All (λ x. rank x < key) (flat (take i rows))
-    pub after : All (λ x. key < rank x) (flat (drop (suc i) rows))
+    pub before : All (λ x. rank x < key) (entries_in (take i rows))
+    pub after : All (λ x. key < rank x) (entries_in (drop (suc i) rows))
 
 -- what a caller sees: the list, and how many may be in it
 pub record RowsState (X : Type 0) : Type 0 where

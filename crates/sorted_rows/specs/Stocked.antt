@@ -2,14 +2,14 @@
 use Rattle.std.specs.Prelude.{◌≡◌, ◌≤◌, ◌+◌, ◌-◌, ◌*◌, ℕ, List, [], length, All, vec_len}
 use Rattle.std.specs.Prelude.{vec_capacity}
 use Rattle.std.specs.Global.{Vec}
-use Rattle.sorted_rows.specs.Layout.{flat, Short, IsLaid}
+use Rattle.sorted_rows.specs.Layout.{entries_in, AreShort, IsLaid}
 
 module _ {X : Type 0} (rank : X → ℕ) where
   -- all is laid in rows, and there are spare rows for as many more as there is room
   pub record IsStocked (rows spare : Vec (List X)) (len room : ℕ) : Type 0 where
     pub laid : IsLaid rank rows.items
-    pub short : Short rows.items
-    pub counted : len ≡ length (flat rows.items)
+    pub short : AreShort rows.items
+    pub counted : len ≡ length (entries_in rows.items)
     pub within : len ≤ room
     pub empty : All (λ r. r ≡ []) spare.items
     pub enough : room ≤ 16 * (vec_len rows + vec_len spare - 1)

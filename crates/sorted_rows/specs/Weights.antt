@@ -14,6 +14,7 @@ module _ {X : Type 0} (weight : X → ℕ) where
   weighs least x = not (nat_lt (weight x) least)
 
 -- the first entry, from the first at or above the key on, that weighs as much as `least` or more
-abbrev pub heavy_from : {X : Type 0} (rank weight : X → ℕ) → (key least : ℕ)
+abbrev pub first_heavy_from : {X : Type 0} (rank weight : X → ℕ) → (key least : ℕ)
     → List X → Option X
-heavy_from rank weight key least xs = find (weighs weight least) (drop (place_below rank key xs) xs)
+first_heavy_from rank weight key least xs =
+    find (weighs weight least) (drop (place_below rank key xs) xs)

@@ -1,8 +1,8 @@
 //! Searches by weight: rows that are known to be too light are passed by.
 ghost use Rattle.std.specs.Prelude.{◌≡◌, drop};
 ghost use Rattle.std.specs.List.{find};
-ghost use Rattle.sorted_rows.specs.Layout.{flat, IsLaid};
-ghost use Rattle.sorted_rows.specs.Weights.{weighs, heavy_from};
+ghost use Rattle.sorted_rows.specs.Layout.{entries_in, IsLaid};
+ghost use Rattle.sorted_rows.specs.Weights.{weighs, first_heavy_from};
 
 use crate::entries::RowEntry;
 use crate::row::Row;
@@ -17,7 +17,8 @@ pub fn least_weighing<T: RowEntry>(
     least: u64,
 ) -> Option<T>
     requires laid { IsLaid T.rank rows.old }
-    ensures value { result ≡ heavy_from T.rank (T.weight measure) key least (flat rows.old) }
+    ensures value { result ≡ first_heavy_from T.rank (T.weight measure) key least
+        (entries_in rows.old) }
     ensures unchanged { rows.new ≡ rows.old }
 {
     if rows.is_empty() {
@@ -42,7 +43,8 @@ fn heavy_after<T: RowEntry>(
     from: usize,
     least: u64,
 ) -> Option<T>
-    ensures value { result ≡ find (weighs (T.weight measure) least) (flat (drop from rows.old)) }
+    ensures value { result ≡ find (weighs (T.weight measure) least)
+        (entries_in (drop from rows.old)) }
     ensures unchanged { rows.new ≡ rows.old }
 {
     let mut seat = from;

@@ -3,7 +3,7 @@ ghost use Rattle.std.specs.Prelude.{◌≡◌, ◌≢◌, ◌+◌, ◌<◌, ◌�
 ghost use Rattle.std.specs.Prelude.{OnOk, OnErr};
 ghost use Rattle.sorted_rows.specs.Order.{Rises, PutsIn, TakesOut, StandsAtKey, first_from};
 ghost use Rattle.sorted_rows.specs.Order.{last_to};
-ghost use Rattle.sorted_rows.specs.Weights.{heavy_from};
+ghost use Rattle.sorted_rows.specs.Weights.{first_heavy_from};
 
 use crate::entries::RowEntry;
 use crate::heavy::least_weighing;
@@ -27,10 +27,10 @@ impl<T: RowEntry> Model for Rows<T> {
 
     ghost Value = { RowsState T };
 
-    ghost use Rattle.sorted_rows.specs.Layout.{flat};
+    ghost use Rattle.sorted_rows.specs.Layout.{entries_in};
     ghost use Rattle.sorted_rows.specs.Stocked.{IsStocked};
 
-    ghost view = { λ a. record { items = flat a.rows.items; room = a.room } };
+    ghost view = { λ a. record { items = entries_in a.rows.items; room = a.room } };
 
     ghost invariant = { λ a. IsStocked T.rank a.rows a.spare a.len a.room };
 }
@@ -139,7 +139,8 @@ impl<T: RowEntry> Rows<T> {
     /// and its greatest weight. From then on it is passed by with one look wherever that is less
     /// than `least`, until it is searched so by another measure. The list stays as it is.
     pub fn least_weighing(&mut self, measure: T::Measure, key: u128, least: u64) -> Option<T>
-        ensures value { result ≡ heavy_from T.rank (T.weight measure) key least self.old.items }
+        ensures value { result ≡ first_heavy_from T.rank (T.weight measure) key least
+            self.old.items }
         ensures unchanged { self.new ≡ self.old }
     {
         least_weighing(&mut self.rows, measure, key, least)

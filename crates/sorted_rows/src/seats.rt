@@ -2,7 +2,7 @@
 ghost use Rattle.std.specs.Prelude.{◌≡◌, ◌≢◌, ◌+◌, ◌<◌, ◌≤◌, ℕ, suc, [], ◌∷◌, length, All, Any};
 ghost use Rattle.std.specs.Prelude.{IsTrue, ◌⊎◌, ◌↔◌, slice_index_or, vec_len, vec_capacity};
 ghost use Rattle.sorted_rows.specs.Order.{PutsIn, TakesOut, StandsAtKey, first_from, last_to};
-ghost use Rattle.sorted_rows.specs.Layout.{flat, Short, IsLaid, IsLoose, IsSeat};
+ghost use Rattle.sorted_rows.specs.Layout.{entries_in, AreShort, IsLaid, IsLoose, IsSeat};
 
 use crate::entries::RowEntry;
 use crate::row::{ROW, Row};
@@ -34,10 +34,10 @@ pub fn insert_in<T: RowEntry>(rows: &mut Vec<Row<T>>, seat: usize, entry: T)
     requires laid { IsLaid T.rank rows.old.items }
     requires within { seat < vec_len rows.old }
     requires seat { IsSeat T.rank (T.rank entry) rows.old.items seat }
-    requires short { Short rows.old.items }
-    requires absent { All (λ x. T.rank x ≢ T.rank entry) (flat rows.old.items) }
+    requires short { AreShort rows.old.items }
+    requires absent { All (λ x. T.rank x ≢ T.rank entry) (entries_in rows.old.items) }
     ensures laid { IsLaid T.rank rows.new.items }
-    ensures items { PutsIn T.rank entry (flat rows.old.items) (flat rows.new.items) }
+    ensures items { PutsIn T.rank entry (entries_in rows.old.items) (entries_in rows.new.items) }
     ensures others { (k : ℕ) → k ≢ seat → length (slice_index_or rows.new.items k []) < 64 }
     ensures len { vec_len rows.new ≡ vec_len rows.old }
     ensures capacity { vec_capacity rows.new ≡ vec_capacity rows.old }
@@ -57,8 +57,8 @@ pub fn split<T: RowEntry>(rows: &mut Vec<Row<T>>, at: usize, spare: &mut Vec<Row
     requires spare { All (λ r. r ≡ []) spare.old.items }
     requires some { 0 < vec_len spare.old }
     ensures laid { IsLaid T.rank rows.new.items }
-    ensures items { flat rows.new.items ≡ flat rows.old.items }
-    ensures short { Short rows.new.items }
+    ensures items { entries_in rows.new.items ≡ entries_in rows.old.items }
+    ensures short { AreShort rows.new.items }
     ensures len { vec_len rows.new ≡ vec_len rows.old + 1 }
     ensures capacity { vec_capacity rows.new ≡ vec_capacity rows.old }
     ensures spare { All (λ r. r ≡ []) spare.new.items }
@@ -79,14 +79,14 @@ pub fn split<T: RowEntry>(rows: &mut Vec<Row<T>>, at: usize, spare: &mut Vec<Row
 /// Puts an entry at its place. It may take one spare row.
 pub fn put<T: RowEntry>(rows: &mut Vec<Row<T>>, spare: &mut Vec<Row<T>>, entry: T)
     requires laid { IsLaid T.rank rows.old.items }
-    requires short { Short rows.old.items }
+    requires short { AreShort rows.old.items }
     requires room { vec_len rows.old < vec_capacity rows.old }
     requires spare { All (λ r. r ≡ []) spare.old.items }
     requires some { 0 < vec_len spare.old }
-    requires absent { All (λ x. T.rank x ≢ T.rank entry) (flat rows.old.items) }
+    requires absent { All (λ x. T.rank x ≢ T.rank entry) (entries_in rows.old.items) }
     ensures laid { IsLaid T.rank rows.new.items }
-    ensures short { Short rows.new.items }
-    ensures items { PutsIn T.rank entry (flat rows.old.items) (flat rows.new.items) }
+    ensures short { AreShort rows.new.items }
+    ensures items { PutsIn T.rank entry (entries_in rows.old.items) (entries_in rows.new.items) }
     ensures spare { All (λ r. r ≡ []) spare.new.items }
     ensures len { vec_len rows.new + vec_len spare.new ≡ vec_len rows.old + vec_len spare.old }
     ensures capacity { vec_capacity rows.new ≡ vec_capacity rows.old }
@@ -125,15 +125,15 @@ fn start<T: RowEntry>(rows: &mut Vec<Row<T>>, spare: &mut Vec<Row<T>>, entry: T)
 /// Takes an entry out of its row, which may be empty then.
 fn remove_in<T: RowEntry>(rows: &mut Vec<Row<T>>, seat: usize, key: u128) -> T
     requires laid { IsLaid T.rank rows.old.items }
-    requires short { Short rows.old.items }
+    requires short { AreShort rows.old.items }
     requires within { seat < vec_len rows.old }
     requires seat { IsSeat T.rank key rows.old.items seat }
-    requires present { Any (λ x. T.rank x ≡ key) (flat rows.old.items) }
+    requires present { Any (λ x. T.rank x ≡ key) (entries_in rows.old.items) }
     ensures loose { IsLoose T.rank seat rows.new.items }
-    ensures short { Short rows.new.items }
-    ensures items { TakesOut T.rank key (flat rows.old.items) (flat rows.new.items) }
-    ensures value { StandsAtKey T.rank key result (flat rows.old.items) }
-    ensures size { length (flat rows.new.items) + 1 ≡ length (flat rows.old.items) }
+    ensures short { AreShort rows.new.items }
+    ensures items { TakesOut T.rank key (entries_in rows.old.items) (entries_in rows.new.items) }
+    ensures value { StandsAtKey T.rank key result (entries_in rows.old.items) }
+    ensures size { length (entries_in rows.new.items) + 1 ≡ length (entries_in rows.old.items) }
     ensures len { vec_len rows.new ≡ vec_len rows.old }
     ensures capacity { vec_capacity rows.new ≡ vec_capacity rows.old }
 {
@@ -146,15 +146,15 @@ fn remove_in<T: RowEntry>(rows: &mut Vec<Row<T>>, seat: usize, key: u128) -> T
 /// two may have lost an entry.
 fn merge<T: RowEntry>(rows: &mut Vec<Row<T>>, at: usize, spare: &mut Vec<Row<T>>)
     requires loose { (i : ℕ) × ((i ≡ at) ⊎ (i ≡ suc at)) × IsLoose T.rank i rows.old.items }
-    requires short { Short rows.old.items }
+    requires short { AreShort rows.old.items }
     requires within { at + 1 < vec_len rows.old }
     requires total { length (slice_index_or rows.old.items at [])
         + length (slice_index_or rows.old.items (suc at) []) < 64 }
     requires spare { All (λ r. r ≡ []) spare.old.items }
     requires room { vec_len spare.old < vec_capacity spare.old }
     ensures laid { IsLaid T.rank rows.new.items }
-    ensures short { Short rows.new.items }
-    ensures items { flat rows.new.items ≡ flat rows.old.items }
+    ensures short { AreShort rows.new.items }
+    ensures items { entries_in rows.new.items ≡ entries_in rows.old.items }
     ensures spare { All (λ r. r ≡ []) spare.new.items }
     ensures len { vec_len rows.new + 1 ≡ vec_len rows.old }
     ensures spare_len { vec_len spare.new ≡ vec_len spare.old + 1 }
@@ -171,13 +171,13 @@ fn merge<T: RowEntry>(rows: &mut Vec<Row<T>>, at: usize, spare: &mut Vec<Row<T>>
 /// row is empty.
 fn settle<T: RowEntry>(rows: &mut Vec<Row<T>>, at: usize, spare: &mut Vec<Row<T>>)
     requires loose { IsLoose T.rank at rows.old.items }
-    requires short { Short rows.old.items }
+    requires short { AreShort rows.old.items }
     requires within { at < vec_len rows.old }
     requires spare { All (λ r. r ≡ []) spare.old.items }
     requires room { vec_len spare.old < vec_capacity spare.old }
     ensures laid { IsLaid T.rank rows.new.items }
-    ensures short { Short rows.new.items }
-    ensures items { flat rows.new.items ≡ flat rows.old.items }
+    ensures short { AreShort rows.new.items }
+    ensures items { entries_in rows.new.items ≡ entries_in rows.old.items }
     ensures spare { All (λ r. r ≡ []) spare.new.items }
     ensures len { vec_len rows.new + vec_len spare.new ≡ vec_len rows.old + vec_len spare.old }
     ensures capacity { vec_capacity rows.new ≡ vec_capacity rows.old }
@@ -205,15 +205,15 @@ fn goes_with(here: usize, beside: usize) -> bool
 /// Takes out the entry with this key.
 pub fn take<T: RowEntry>(rows: &mut Vec<Row<T>>, spare: &mut Vec<Row<T>>, key: u128) -> T
     requires laid { IsLaid T.rank rows.old.items }
-    requires short { Short rows.old.items }
+    requires short { AreShort rows.old.items }
     requires spare { All (λ r. r ≡ []) spare.old.items }
     requires room { vec_len rows.old + vec_len spare.old ≤ vec_capacity spare.old }
-    requires present { Any (λ x. T.rank x ≡ key) (flat rows.old.items) }
+    requires present { Any (λ x. T.rank x ≡ key) (entries_in rows.old.items) }
     ensures laid { IsLaid T.rank rows.new.items }
-    ensures short { Short rows.new.items }
-    ensures items { TakesOut T.rank key (flat rows.old.items) (flat rows.new.items) }
-    ensures value { StandsAtKey T.rank key result (flat rows.old.items) }
-    ensures size { length (flat rows.new.items) + 1 ≡ length (flat rows.old.items) }
+    ensures short { AreShort rows.new.items }
+    ensures items { TakesOut T.rank key (entries_in rows.old.items) (entries_in rows.new.items) }
+    ensures value { StandsAtKey T.rank key result (entries_in rows.old.items) }
+    ensures size { length (entries_in rows.new.items) + 1 ≡ length (entries_in rows.old.items) }
     ensures spare { All (λ r. r ≡ []) spare.new.items }
     ensures len { vec_len rows.new + vec_len spare.new ≡ vec_len rows.old + vec_len spare.old }
     ensures capacity { vec_capacity rows.new ≡ vec_capacity rows.old }
@@ -228,7 +228,7 @@ pub fn take<T: RowEntry>(rows: &mut Vec<Row<T>>, spare: &mut Vec<Row<T>>, key: u
 /// The first entry at or above the key.
 pub fn least_from<T: RowEntry>(rows: &[Row<T>], key: u128) -> Option<T>
     requires laid { IsLaid T.rank rows.now }
-    ensures { result ≡ first_from T.rank key (flat rows.now) }
+    ensures { result ≡ first_from T.rank key (entries_in rows.now) }
 {
     if rows.is_empty() {
         return None;
@@ -249,7 +249,7 @@ pub fn least_from<T: RowEntry>(rows: &[Row<T>], key: u128) -> Option<T>
 /// The last entry at or below the key.
 pub fn greatest_to<T: RowEntry>(rows: &[Row<T>], key: u128) -> Option<T>
     requires laid { IsLaid T.rank rows.now }
-    ensures { result ≡ last_to T.rank key (flat rows.now) }
+    ensures { result ≡ last_to T.rank key (entries_in rows.now) }
 {
     if rows.is_empty() {
         return None;

@@ -10,7 +10,7 @@ use Rattle.deed_core.specs.declared.segments.Route.TheVariants.{Direct}
 use Rattle.tag_arena.specs.declared.faults.ArenaFault.{ArenaFault}
 use Rattle.tag_arena.specs.declared.faults.SpanFault.{SpanFault}
 use Rattle.tag_arena.specs.declared.faults.SpanFault.TheVariants as spans
-use Rattle.tag_arena.specs.ArenaState.{ArenaState, IsSound, tags_of}
+use Rattle.tag_arena.specs.ArenaState.{ArenaState, IsSoundArena, tags_of}
 use Rattle.tag_arena.specs.Calls.{IsTagged}
 use Rattle.deed_core.proofs.LawProofs.{slice_get_one}
 use Rattle.tag_arena.specs.Outcomes.{KeepsSetup, CarveOf, FreeOf, ImportOf, AddSpanOf, RemoveOf}
@@ -32,7 +32,7 @@ module _ (spaces items : List SpaceState) (k : ℕ) (s : SpaceState) (o : Opens 
   pub on_arena : (P : ArenaState → ArenaState → Type 0) → P s.arena new → OnArena k P spaces now
   on_arena P does = record { space = s; at = o.at; arena = new; after = is_written spaces items k s o (with_arena new s); does = does }
 
-  module _ (stock : IsStock spaces) (sound : IsSound new) (kept : KeepsSetup s.arena new) where
+  module _ (stock : IsStock spaces) (sound : IsSoundArena new) (kept : KeepsSetup s.arena new) where
     moved : (given answered : List Tag) → Keeps s new
         → ((f : Tag → ℕ) → sum_by f (tags_of new) + sum_by (of_direct f) given + sum_by f s.arena.imported ≡ sum_by f (tags_of s.arena) + sum_by (of_direct f) answered + sum_by f new.imported)
         → ((f : Tag → ℕ) → sum_by (of_cached f) answered ≡ sum_by (of_cached f) given) → Moves spaces given now answered

@@ -6,7 +6,7 @@ use Rattle.std.proofs.lemmas.List.Sums.{sum_by-append}
 use Rattle.deed_core.specs.Tag.{Tag}
 use Rattle.deed_core.specs.Weights.{of_direct, of_cached}
 use Rattle.deed_core.proofs.LawProofs.{written, sum_set, map_set_same}
-use Rattle.tag_arena.specs.ArenaState.{ArenaState, IsSound, tags_of}
+use Rattle.tag_arena.specs.ArenaState.{ArenaState, IsSoundArena, tags_of}
 use Rattle.tag_arena.specs.Outcomes.{KeepsSetup}
 use Rattle.stock.specs.Spaces.{SpaceState, with_arena, slab_size_of, plan_of, plans_of, quantum_of, quanta_of}
 use Rattle.stock.specs.Stocks.{IsQuantumCache, IsFrom, IsSpaceAt, IsStock}
@@ -16,7 +16,7 @@ use Rattle.stock.proofs.Moving.{Moves}
 -- What the arena's own call keeps.
 pub record Keeps (s : SpaceState) (new : ArenaState) : Type 0 where
   pub setup : KeepsSetup s.arena new
-  pub sound : IsSound new
+  pub sound : IsSoundArena new
   pub imported : All (IsFrom s.source) new.imported
   pub owned : (p : ℕ) → s.source ≡ Some p → new.owned ≡ []
 

@@ -11,7 +11,7 @@ use Rattle.deed_core.specs.Tag.{Tag}
 use Rattle.deed_core.specs.Covering.{units_in, units_held, units_tagged}
 use Rattle.deed_core.proofs.LawProofs.{all_from, power_some}
 use Rattle.tag_arena.specs.Layout.{IsPartOf}
-use Rattle.tag_arena.specs.ArenaState.{ArenaState, IsSound, spans_of}
+use Rattle.tag_arena.specs.ArenaState.{ArenaState, IsSoundArena, spans_of}
 use Rattle.slab_layer.specs.Parts.{piece_or_none}
 use Rattle.slab_layer.specs.Slab.{SlabState, items_where, chunk_at, deeds_in, unused_units, used_units}
 use Rattle.slab_layer.specs.Cache as slabs
@@ -58,10 +58,10 @@ slabs_some size len some (s ∷ ss) of =
     let here : 0 < s.chunk = (let is = (All-head (IsOfSize size len) s ss of).chunk in omega (arith, is, some)) in
     All-append HasUnits (deeds_in s) (flat_map deeds_in ss) (slab_some s here) (slabs_some size len some ss (All-tail (IsOfSize size len) s ss of))
 
-pub no_deeds : (c : SlabCacheState) → slabs.IsSound c → units_held (deeds_of c) ≡ 0 → deeds_of c ≡ []
+pub no_deeds : (c : SlabCacheState) → slabs.IsSoundCache c → units_held (deeds_of c) ≡ 0 → deeds_of c ≡ []
 no_deeds c sound none = no_units (deeds_of c) (slabs_some c.slab_size (chunk_of c) sound.some c.slabs sound.slabs) none
 
-pub no_spans : (a : ArenaState) → IsSound a → units_held (spans_of a) ≡ 0 → spans_of a ≡ []
+pub no_spans : (a : ArenaState) → IsSoundArena a → units_held (spans_of a) ≡ 0 → spans_of a ≡ []
 no_spans a sound none = no_units (spans_of a) (λ k d lt. (sound.divided.spans k d lt).some) none
 
 none_inside : (P : Holding → Holding → Type 0) (free spans : List Holding) → spans ≡ [] → ((r : Holding) → Contains free r → Any (λ s. P s r) spans) → free ≡ []
@@ -71,7 +71,7 @@ none_inside P (r ∷ rs) spans none inside =
     absurd (omega (arith, has.2, ap (λ (xs : List Holding). length xs) none))
 
 -- an arena with no span has no free range
-pub no_free : (a : ArenaState) → IsSound a → spans_of a ≡ [] → a.free ≡ []
+pub no_free : (a : ArenaState) → IsSoundArena a → spans_of a ≡ [] → a.free ≡ []
 no_free a sound none = none_inside IsPartOf a.free (spans_of a) none (λ r has. (sound.divided.whole.runs r has).run.inside)
 
 pub rounds_of : (spaces : List SpaceState) → IsStock spaces → All (λ s. RoundsHaveUnits s.caches) spaces
@@ -84,7 +84,7 @@ pub none_left : (x m : ℕ) → 0 < m → min x m ≡ 0 → x ≡ 0
 none_left x m some none = omega arith
 
 -- a cache tells by its units whether a deed lies in it
-pub bare_cache : (c : QuantumCacheState) (idle gap tail units m : ℕ) → slabs.IsSound c.slab → HaveUnits (depot_rounds c.depot) → 0 < m
+pub bare_cache : (c : QuantumCacheState) (idle gap tail units m : ℕ) → slabs.IsSoundCache c.slab → HaveUnits (depot_rounds c.depot) → 0 < m
     → idle + gap + tail ≡ units_held (deeds_of c.slab) → units ≡ min (units_tagged (depot_rounds c.depot)) m
     → idle ≡ 0 → gap ≡ 0 → tail ≡ 0 → units ≡ 0 → IsBareCache c
 bare_cache c idle gap tail units m sound some room kept is none_idle none_gap none_tail none = record {

@@ -14,7 +14,7 @@ use Rattle.deed_core.specs.Covering.{covering_held}
 use Rattle.deed_core.specs.Selections.{came_direct}
 use Rattle.deed_core.specs.Weights.{of_arena}
 use Rattle.deed_core.proofs.LawProofs.{all_at, all_from, sum_none, part_of_sum, sum_by-parts}
-use Rattle.tag_arena.specs.ArenaState.{ArenaState, IsSound, spans_of, ranges_of, tags_of, direct_tag}
+use Rattle.tag_arena.specs.ArenaState.{ArenaState, IsSoundArena, spans_of, ranges_of, tags_of, direct_tag}
 use Rattle.tag_arena.specs.Layout.{IsPartOf, IsRun, IsAllocated}
 use Rattle.tag_arena.proofs.LawProofs.{goes_empty, allocated_stand, free_are_longest_runs}
 use Rattle.slab_layer.specs.Cache.{chunks_out, span_tag, span_tags, chunk_tag}
@@ -42,7 +42,7 @@ no_member [] out = refl
 no_member (x ∷ xs) out = absurd (out x (0, omega arith, refl))
 
 -- an arena of which nothing is allocated
-module _ (a : ArenaState) (sound : IsSound a) (none : tags_of a ≡ []) where
+module _ (a : ArenaState) (sound : IsSoundArena a) (none : tags_of a ≡ []) where
   not_allocated : (u : ℕ) → IsAllocated a.allocated u → ⊥
   not_allocated u al =
       let base = (sound.divided.whole.tags_inside al.0 al.1 al.2).0 in

@@ -8,7 +8,7 @@ use Rattle.std.proofs.lemmas.List.Sums.{sum_by_push}
 use Rattle.deed_core.specs.Tag.{Tag}
 use Rattle.deed_core.proofs.LawProofs.{pushed, written, slice_get_some, slice_get_one, slice_get_mapped, sum_set, set_same, map_set_same}
 use Rattle.tag_arena.specs.declared.policies.Policy.{Policy}
-use Rattle.tag_arena.specs.ArenaState.{IsSound, empty_arena, ranges_of, direct_tag}
+use Rattle.tag_arena.specs.ArenaState.{IsSoundArena, empty_arena, ranges_of, direct_tag}
 use Rattle.tag_arena.proofs.LawProofs.{tags_weigh}
 use Rattle.std.specs.Ordering.{nat_cmp}
 use Rattle.std.specs.FinMap as finmap
@@ -37,7 +37,7 @@ no_ranges : ranges_of finmap.empty ≡ []
 no_ranges = ap (map (λ (e : ℕ × Holding). e.1)) (nil_of (entries {R = nat_cmp} finmap.empty) (sym (len-entries {R = nat_cmp} finmap.empty) ∙ len-empty nat_cmp Holding))
 
 -- an arena more
-module _ (spaces : List SpaceState) (source : Option ℕ) (quantum : ℕ) (policy : Policy) (sound : IsSound (empty_arena (length spaces) quantum policy)) (can : CanImportFrom spaces source quantum) where
+module _ (spaces : List SpaceState) (source : Option ℕ) (quantum : ℕ) (policy : Policy) (sound : IsSoundArena (empty_arena (length spaces) quantum policy)) (can : CanImportFrom spaces source quantum) where
   abbrev s : SpaceState
   s = new_space (length spaces) source quantum policy
 
@@ -102,7 +102,7 @@ module _ (spaces after : List SpaceState) (index slab_size size : ℕ) (on : Gai
   abbrev now : SpaceState
   now = with_caches (on.space.caches ++ c ∷ []) on.space
 
-  pub cache_added : IsSize size → slabs.IsSound c.slab → IsStock spaces → IsStock after
+  pub cache_added : IsSize size → slabs.IsSoundCache c.slab → IsStock spaces → IsStock after
   cache_added sized sound stock = subst IsStock (sym on.after) all
     where
       old : IsSpaceAt (quanta_of spaces) index on.space
@@ -172,6 +172,6 @@ module _ (spaces items : List SpaceState) (k : ℕ) (s : SpaceState) (o : Opens 
     after = ap (λ (xs : List QuantumCacheState). set items k (with_caches xs s)) more ∙ is_written spaces items k s o (with_caches (s.caches ++ next_cache s slab_size size ∷ []) s);
   }
 
-  pub cache_keeps : (slab_size size : ℕ) → cs ≡ s.caches ++ next_cache s slab_size size ∷ [] → IsSize size → slabs.IsSound (next_cache s slab_size size).slab → IsStock spaces → IsStock here
+  pub cache_keeps : (slab_size size : ℕ) → cs ≡ s.caches ++ next_cache s slab_size size ∷ [] → IsSize size → slabs.IsSoundCache (next_cache s slab_size size).slab → IsStock spaces → IsStock here
   unfolding cache_done
   cache_keeps slab_size size more sized sound stock = cache_added spaces here k slab_size size (cache_done slab_size size more) sized sound stock

@@ -13,7 +13,7 @@ use Rattle.slab_layer.specs.declared.faults.AddFault.{AddFault}
 use Rattle.slab_layer.specs.declared.faults.AddFault.TheVariants as adding
 use Rattle.slab_layer.specs.declared.faults.PutFault.{PutFault}
 use Rattle.slab_layer.specs.declared.faults.PutFault.TheVariants as putting
-use Rattle.slab_layer.specs.Cache.{SlabCacheState, IsSound, IsChunkOf, IsSpanOf, deeds_of, chunks_out, span_tags}
+use Rattle.slab_layer.specs.Cache.{SlabCacheState, IsSoundCache, IsChunkOf, IsSpanOf, deeds_of, chunks_out, span_tags}
 use Rattle.slab_layer.specs.Calls.{IsAlike, TakeOf, PutOf, AddOf, ReapOf}
 use Rattle.slab_layer.proofs.LawProofs.{chunks_are_of_cache}
 use Rattle.stock.specs.Spaces.{SpaceState, QuantumCacheState, with_slab, with_cache}
@@ -54,7 +54,7 @@ module _ (spaces items : List SpaceState) (k : ℕ) (s : SpaceState) (j : ℕ) (
   pub on_slab : (P : SlabCacheState → SlabCacheState → Type 0) → P c.slab new → OnSlab k j P spaces now
   on_slab P does = record { space = s; at = o.opened.at; cache = c; among = o.among; slab = new; after = is_written spaces items k s o.opened written; does = does }
 
-  module _ (stock : IsStock spaces) (sound : IsSound new) (alike : IsAlike c.slab new) where
+  module _ (stock : IsStock spaces) (sound : IsSoundCache new) (alike : IsAlike c.slab new) where
     is : IsQuantumCache k (j + 1) s.arena.quantum c
     is = (stock k s o.opened.at).caches j c o.among
 

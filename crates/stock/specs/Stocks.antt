@@ -21,7 +21,7 @@ pub record IsQuantumCache (index number quantum : ℕ) (c : QuantumCacheState) :
   pub arena : c.slab.arena ≡ index
   pub k : c.slab.k ≡ number
   pub quantum_is : c.slab.quantum ≡ quantum
-  pub sound : slabs.IsSound c.slab
+  pub sound : slabs.IsSoundCache c.slab
   pub tiled : (u : ℕ) → covering_held u (deeds_of c.slab) + covering_tags u (chunks_out c.slab)
       ≡ covering_tags u (span_tags c.slab)
   pub depot : IsDepot c.depot
@@ -36,7 +36,7 @@ IsFrom (Some p) t = t.arena ≡ p
 -- up before, whose segments are in whole quanta of its own, and then it owns no span
 pub record IsSpaceAt (quanta : List ℕ) (k : ℕ) (s : SpaceState) : Type 0 where
   pub id : s.arena.id ≡ k
-  pub sound : arenas.IsSound s.arena
+  pub sound : arenas.IsSoundArena s.arena
   pub imported : All (IsFrom s.source) s.arena.imported
   pub owned : (p : ℕ) → s.source ≡ Some p → s.arena.owned ≡ []
   pub before : (p : ℕ) → s.source ≡ Some p → p < k

@@ -30,23 +30,23 @@ pub stops_at : (most total all part next sum : ℕ) → total ≡ min all most �
 stops_at most total all part next sum so_far more last = omega arith
 
 -- the units of one arena in a segment
-abbrev pub weight_of : ℕ → Tag → ℕ
-weight_of k = of_arena k (λ t. units_in t.holding)
+abbrev pub arena_weight : ℕ → Tag → ℕ
+arena_weight k = of_arena k (λ t. units_in t.holding)
 
 -- the rounds of a CPU's cache are all of its arena
 module _ (k : ℕ) (o : OwnCacheState) (is : IsOwnCache o) where
   home : All (λ t. t.arena ≡ o.arena) (own_rounds o)
   home = All-weaker (IsRoundOf o.arena (o.cache + 1) o.quantum) (λ t. t.arena ≡ o.arena) (λ t round. round.from) (own_rounds o) is.rounds
 
-  pub own_here : o.arena ≡ k → sum_by (weight_of k) (own_rounds o) ≡ sum_by (λ t. units_in t.holding) (own_rounds o)
+  pub own_here : o.arena ≡ k → sum_by (arena_weight k) (own_rounds o) ≡ sum_by (λ t. units_in t.holding) (own_rounds o)
   own_here same = all_here k (λ t. units_in t.holding) o.arena (own_rounds o) home same
 
-  pub own_there : o.arena ≢ k → sum_by (weight_of k) (own_rounds o) ≡ 0
+  pub own_there : o.arena ≢ k → sum_by (arena_weight k) (own_rounds o) ≡ 0
   own_there other = none_here k (λ t. units_in t.holding) o.arena (own_rounds o) home other
 
 -- what is counted over CPUs
-pub rounds_counted : (k : ℕ) (cpus : List OwnCacheState) → sum_by (λ o. sum_by (weight_of k) (own_rounds o)) cpus ≡ units_of_arena_in k (all_own_rounds cpus)
-rounds_counted k cpus = sym (sum_by-flat_map (weight_of k) own_rounds cpus) ∙ sym (held_weigh k units_in (all_own_rounds cpus))
+pub rounds_counted : (k : ℕ) (cpus : List OwnCacheState) → sum_by (λ o. sum_by (arena_weight k) (own_rounds o)) cpus ≡ units_of_arena_in k (all_own_rounds cpus)
+rounds_counted k cpus = sym (sum_by-flat_map (arena_weight k) own_rounds cpus) ∙ sym (held_weigh k units_in (all_own_rounds cpus))
 
 -- a cache stands at each index of an arena's list
 pub cache_stands : (spaces : List SpaceState) (k j : ℕ) (s : SpaceState) → slice_get spaces k ≡ Some s → j < length s.caches → HasCache spaces k j

@@ -6,7 +6,7 @@ use Rattle.std.proofs.lemmas.Option.{slice_get_within}
 use Rattle.std.proofs.lemmas.List.Elements.{All-weaker}
 use Rattle.deed_core.specs.Holding.{Holding}
 use Rattle.deed_core.proofs.LawProofs.{all_from, contains_at, contains_mapped, slice_get_some, slice_get_one, slice_get_mapped, mapped}
-use Rattle.tag_arena.specs.ArenaState.{ArenaState, IsSound, OnQuantum, spans_of, ranges_of, layout_of, direct_tag}
+use Rattle.tag_arena.specs.ArenaState.{ArenaState, IsSoundArena, OnQuantum, spans_of, ranges_of, layout_of, direct_tag}
 use Rattle.tag_arena.specs.Layout.{FreeIsLongestRuns}
 use Rattle.tag_arena.proofs.LawProofs.{free_are_longest_runs, allocated_stand}
 use Rattle.stock.specs.Spaces.{SpaceState, SpacePlan, HasCache, plan_of, plans_of, slab_size_of}
@@ -18,7 +18,7 @@ use Rattle.stock_audit.specs.Outside.{Outside, segments_out}
 use Rattle.stock_audit.specs.Accounted.{IsOfWholeQuanta, IsOwnIn, IsAccountedFor}
 
 -- everything in a sound arena is in whole quanta
-whole_quanta : (a : ArenaState) → IsSound a → IsOfWholeQuanta a
+whole_quanta : (a : ArenaState) → IsSoundArena a → IsOfWholeQuanta a
 whole_quanta a sound = record {
   spans = each (spans_of a) sound.divided.span_grid;
   free = each a.free sound.divided.free_grid;

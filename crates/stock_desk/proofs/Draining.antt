@@ -9,7 +9,7 @@ use Rattle.deed_core.proofs.LawProofs.{all_at, all_from}
 use Rattle.arena_tree.specs.declared.trees.TreeArena.{TreeArena}
 use Rattle.arena_tree.specs.Plans.{Plan, Path}
 use Rattle.arena_tree.specs.Trees.{nodes_of}
-use Rattle.quantum_cache.specs.Drains.{Drained, drain_plan}
+use Rattle.quantum_cache.specs.Drains.{DrainEnd, drain_plan}
 use Rattle.quantum_cache.specs.Laws.{drain_left}
 use Rattle.quantum_cache.proofs.LawProofs.{drain_handles}
 use Rattle.stock.specs.Accounts.{Accounts}
@@ -45,10 +45,10 @@ module _ (arenas : List TreeArena) (turns : ℕ) (old new : List SpaceState) (cp
   -- what was out but for the CPU's rounds is out after it
   pub drained_out : HasNoRounds left → (others : List Tag) → Accounts old (cpu_rounds cpu ++ others) → Accounts new others
   drained_out none others acc = subst (λ (ts : List Tag). Accounts new (ts ++ others)) (cpu_none left none)
-      (plan_conserves Drained drain_left (drain_plan turns arenas) None (drain_handles turns arenas) (local_of old cpu) (local_of new left) (Ok tt) (local_path arenas Drained (drain_plan turns arenas) (local_of old cpu) (local_of new left) (Ok tt) ran) others acc)
+      (plan_conserves DrainEnd drain_left (drain_plan turns arenas) None (drain_handles turns arenas) (local_of old cpu) (local_of new left) (Ok tt) (local_path arenas DrainEnd (drain_plan turns arenas) (local_of old cpu) (local_of new left) (Ok tt) ran) others acc)
 
   pub drained_fixed : plans_of new ≡ plans_of old
-  drained_fixed = (plan_keeps_setup Drained (drain_plan turns arenas) (local_of old cpu) (local_of new left) (Ok tt) (local_path arenas Drained (drain_plan turns arenas) (local_of old cpu) (local_of new left) (Ok tt) ran)).plans
+  drained_fixed = (plan_keeps_setup DrainEnd (drain_plan turns arenas) (local_of old cpu) (local_of new left) (Ok tt) (local_path arenas DrainEnd (drain_plan turns arenas) (local_of old cpu) (local_of new left) (Ok tt) ran)).plans
 
 front_cpu : (front : List NumberedCpu) (c : NumberedCpu) (k : ℕ) (x : NumberedCpu) → slice_get front k ≡ Some x → slice_get (front ++ c ∷ []) k ≡ Some x
 front_cpu [] c k x at = absurd (let e : None ≡ Some x = at in cc)

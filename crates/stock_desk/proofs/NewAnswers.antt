@@ -6,7 +6,7 @@ use Rattle.lease_terms.specs.declared.refusals.Refusal.{Refusal}
 use Rattle.lease_proto.specs.declared.replies.Reply.{Reply}
 use Rattle.lease_book.specs.declared.answers.Answer.{Answer}
 use Rattle.lease_book.specs.declared.answers.Answer.TheVariants as answer
-use Rattle.lease_book.specs.Account.{Account, last, number_of}
+use Rattle.lease_book.specs.Account.{Account, last_number, number_of}
 use Rattle.lease_book.specs.Answers.{IsNew, IsRepeated, IsAnswer}
 use Rattle.lease_book.specs.BookState.{BookState, account_in}
 use Rattle.lease_book.specs.Calls.{IsRefused}
@@ -18,7 +18,7 @@ use Rattle.stock_desk.specs.Telling.{IsGivenIn, CanName, reply_to_answer}
 
 pub not_repeated : (book : BookState) (a : Account) (id : RequestId) (v : ReceiptState) → IsNew a id → IsRepeated book a id v → ⊥
 not_repeated book a id v new rep =
-    let l : last a ≡ id.number = ap number_of rep.kept in
+    let l : last_number a ≡ id.number = ap number_of rep.kept in
     omega (arith, new.next, l)
 
 module _ {D : Type 0} (tree : List TreeArena) (old new : BookState) (id : RequestId) (why : Refusal) (fresh : IsNew (account_in id.client old) id) where

@@ -6,7 +6,7 @@ use Rattle.tag_arena.specs.declared.faults.ArenaFault.TheVariants as arena
 use Rattle.arena_tree.specs.declared.part_faults.CarveFault.{CarveFault}
 use Rattle.arena_tree.specs.declared.part_faults.CarveFault.TheVariants as carving
 use Rattle.arena_tree.specs.declared.part_faults.ClimbFault.TheVariants as climbing
-use Rattle.arena_tree.specs.Climbs.{Climbed}
+use Rattle.arena_tree.specs.Climbs.{ClimbEnd}
 use Rattle.stock.specs.Spaces.{SpaceState}
 use Rattle.stock.specs.OwnCaches.{OwnCacheState}
 use Rattle.local_parts.specs.States.{LocalState}
@@ -15,7 +15,7 @@ abbrev pub local_of : List SpaceState → List (List OwnCacheState) → LocalSta
 local_of spaces cpu = record { spaces = spaces; cpu = cpu }
 
 -- what an allocation ended with, by its answer: nothing is stuck and nothing stops
-abbrev pub climb_answer : Result Tag ArenaFault → Climbed
+abbrev pub climb_answer : Result Tag ArenaFault → ClimbEnd
 climb_answer (Ok t) = Ok t
 climb_answer (Err arena.BadRequest) = Err climbing.BadRequest
 climb_answer (Err arena.NoFit) = Err climbing.NoFit

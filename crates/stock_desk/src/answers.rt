@@ -10,7 +10,7 @@ ghost use Rattle.stock_desk.specs.Telling.{IsGivenIn, CanName, reply_to_answer};
 use arena_tree::Tree;
 use deed_core::{PlainDeed, Request};
 use lease_book::{Answer, HelloFault, KeptReply};
-use lease_proto::{Again, Granted, HelloLine, LeaseLine, Old, OutOfTurn, Refused, Reply};
+use lease_proto::{Again, Granted, HelloLine, LeaseLine, Old, OutOfTurn, RefusedRequest, Reply};
 use lease_terms::{Quantity, RequestId};
 
 /// What a lease asks of its arena.
@@ -71,7 +71,7 @@ pub(crate) fn settled(tree: &Tree, id: RequestId, reply: KeptReply) -> Reply
             })
         }
         KeptReply::Released => Reply::Released(id),
-        KeptReply::Refused(refusal) => Reply::Refused(Refused { id, refusal }),
+        KeptReply::Refused(refusal) => Reply::Refused(RefusedRequest { id, refusal }),
     }
 }
 

@@ -11,7 +11,7 @@ ghost use Rattle.stock_tests.specs.Walks.{Balances};
 use crate::stock_events::{Event, moved};
 use arena_tree::{NewChild, NewRoot, Setting, Setup};
 use deed_core::{PlainDeed, Segment};
-use lease_terms::Name;
+use lease_terms::ArenaName;
 use std::alloc::Global;
 use std::process::Abort;
 use std::slice::from_ref;
@@ -98,8 +98,8 @@ struct Walk {
     leases: Vec<Segment<PlainDeed>>,
 }
 
-pub(crate) fn name(rt: &impl Abort, text: &str) -> Name {
-    Name::new(text.as_bytes()).expect(rt, "a name")
+pub(crate) fn name(rt: &impl Abort, text: &str) -> ArenaName {
+    ArenaName::new(text.as_bytes()).expect(rt, "a name")
 }
 
 /// A root of 128 units, and a child of it. Both cache sizes of one to five units, by slabs of 16.

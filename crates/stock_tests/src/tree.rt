@@ -2,13 +2,13 @@
 use arena_tree::{
     LONGEST_CHAIN, Level, MOST_ARENAS, NewChild, NewRoot, NewSpan, Setting, Setup, SetupFault,
 };
-use lease_terms::Name;
+use lease_terms::ArenaName;
 use std::alloc::AllocGlobal;
 use std::process::Abort;
 use tag_arena::Policy;
 
-fn name(rt: &impl Abort, text: &[u8]) -> Name {
-    match Name::new(text) {
+fn name(rt: &impl Abort, text: &[u8]) -> ArenaName {
+    match ArenaName::new(text) {
         Some(name) => name,
         None => panic!(rt; "no name"),
     }

@@ -9,9 +9,9 @@ use Rattle.deed_core.specs.Request.{Fits, IsGood, rounding_of}
 use Rattle.deed_core.specs.declared.requests.Request.{Request}
 use Rattle.deed_core.proofs.LawProofs.{sum_by-map}
 use Rattle.std.proofs.lemmas.List.Sums.{sum_by-append, sum_by_push}
-use Rattle.tag_arena.specs.ArenaState.{ArenaState, spans_of, ranges_of, tags_of, direct_tag, IsSound, IsChosen}
+use Rattle.tag_arena.specs.ArenaState.{ArenaState, spans_of, ranges_of, tags_of, direct_tag, IsSoundArena, IsChosen}
 use Rattle.tag_arena.specs.Calls.{part, Carves, after_carve, after_import, first_units}
-use Rattle.tag_arena.specs.Outcomes.{KeepsSetup, Carved, Imported}
+use Rattle.tag_arena.specs.Outcomes.{KeepsSetup, WasCarved, WasImported}
 use Rattle.tag_arena.proofs.Importing.{Imports, import_sound, import_gains, import_covers}
 use Rattle.tag_arena.proofs.Granting.{CarvesAt, carves, carve_sound, carve_gains, carve_covers, FoundAt, IsFoundAt, found_carves, none_whole}
 
@@ -45,7 +45,7 @@ spans_cover a u =
     omega (arith, imported, sum_by-append (covers_held u) a.owned (map (λ t. t.holding) a.imported))
 
 -- what was found was carved
-module _ (a : ArenaState) (q : Request) (f : FoundAt) (n : ℕ) (sound : IsSound a) (good : IsGood a.quantum q) (chosen : IsChosen a q (Some f.base)) (placed : IsFoundAt a.quantum q a.free f) (n_is : n ≡ rounding_of a.quantum q.size)
+module _ (a : ArenaState) (q : Request) (f : FoundAt) (n : ℕ) (sound : IsSoundArena a) (good : IsGood a.quantum q) (chosen : IsChosen a q (Some f.base)) (placed : IsFoundAt a.quantum q a.free f) (n_is : n ≡ rounding_of a.quantum q.size)
     (new : ArenaState) (after : new ≡ after_carve a f.range (part f.range f.base n)) (s : Tag) (is : s ≡ direct_tag a.id (part f.range f.base n)) (range : IsRange s.holding.range) where
   at : CarvesAt a f.at f.range (part f.range f.base n)
   at = found_carves a q f n sound good placed n_is
@@ -53,7 +53,7 @@ module _ (a : ArenaState) (q : Request) (f : FoundAt) (n : ℕ) (sound : IsSound
   holding : s.holding ≡ part f.range f.base n
   holding = ap (λ (t : Tag). t.holding) is
 
-  pub found_carved : Carved a q s new
+  pub found_carved : WasCarved a q s new
   found_carved = record {
     good = good;
     chosen = subst (λ (h : Holding). IsChosen a q (Some h.range.base)) (sym holding) chosen;
@@ -63,7 +63,7 @@ module _ (a : ArenaState) (q : Request) (f : FoundAt) (n : ℕ) (sound : IsSound
     carves = subst (λ (h : Holding). Carves a new h) (sym holding) (carves a f.at f.range (part f.range f.base n) at new after);
   }
 
-  pub found_sound : IsSound new
+  pub found_sound : IsSoundArena new
   found_sound = carve_sound a f.at f.range (part f.range f.base n) at (none_whole a sound f.range) new after
 
   pub found_keeps : KeepsSetup a new
@@ -80,7 +80,7 @@ module _ (a : ArenaState) (q : Request) (f : FoundAt) (n : ℕ) (sound : IsSound
 -- a span was imported, and its first units carved
 module _ (a : ArenaState) (q : Request) (span : Tag) (n : ℕ) (k : Imports a span n) (n_is : n ≡ rounding_of a.quantum q.size)
     (new : ArenaState) (after : new ≡ after_carve (after_import a span) span.holding (first_units n span.holding)) (s : Tag) (is : s ≡ direct_tag a.id (first_units n span.holding)) (range : IsRange s.holding.range) where
-  pub import_done : Imported a span q s new
+  pub import_done : WasImported a span q s new
   import_done = record {
     clear = k.clear;
     aligned = k.aligned;
@@ -89,7 +89,7 @@ module _ (a : ArenaState) (q : Request) (span : Tag) (n : ℕ) (k : Imports a sp
     after = after ∙ ap (λ m. after_carve (after_import a span) span.holding (first_units m span.holding)) n_is;
   }
 
-  pub import_done_sound : IsSound new
+  pub import_done_sound : IsSoundArena new
   import_done_sound = import_sound a span n k new after
 
   pub import_keeps : KeepsSetup a new

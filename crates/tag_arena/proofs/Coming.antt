@@ -12,37 +12,37 @@ use Rattle.tag_arena.proofs.SpanLists.{Contains-map, Contains-from_map}
 use Rattle.sorted_rows.specs.Order.{Rises, place_below}
 use Rattle.sorted_rows.proofs.PlaceLemmas.{rises_insert}
 use Rattle.tag_arena.specs.declared.span_entries.SpanEntry.{SpanEntry}
-use Rattle.tag_arena.specs.Spanned.{end_rank, coming_of, tag_of, by_coming, holdings_of}
+use Rattle.tag_arena.specs.Spanned.{end_rank, coming_of, tag_of, entries_by_coming, holdings_of}
 use Rattle.tag_arena.proofs.Listing.{Contains-inserted, Contains-insert, Contains-insert_cases, AllPairs-remove, rank_at_place, same_rising, rises_push, map-remove}
 
 -- no two came at one time
 abbrev AreTimed : List SpanEntry → Type 0
 AreTimed xs = (x y : SpanEntry) → Contains xs x → Contains xs y → x.since ≡ y.since → x ≡ y
 
-pub in_by_coming : (xs : List SpanEntry) (x : SpanEntry) → Contains xs x → Contains (by_coming xs) x
-unfolding by_coming
-in_by_coming [] x h = h
-in_by_coming (y ∷ ys) x h =
-    let p = place_below coming_of y.since (by_coming ys) in
-    ⊎_elim (λ e. subst (Contains (insert (by_coming ys) p y)) e (Contains-inserted (by_coming ys) p y))
-    (λ later. Contains-insert (by_coming ys) p y x (in_by_coming ys x later)) (Contains-cases y x ys h)
+pub in_entries_by_coming : (xs : List SpanEntry) (x : SpanEntry) → Contains xs x → Contains (entries_by_coming xs) x
+unfolding entries_by_coming
+in_entries_by_coming [] x h = h
+in_entries_by_coming (y ∷ ys) x h =
+    let p = place_below coming_of y.since (entries_by_coming ys) in
+    ⊎_elim (λ e. subst (Contains (insert (entries_by_coming ys) p y)) e (Contains-inserted (entries_by_coming ys) p y))
+    (λ later. Contains-insert (entries_by_coming ys) p y x (in_entries_by_coming ys x later)) (Contains-cases y x ys h)
 
-pub from_by_coming : (xs : List SpanEntry) (x : SpanEntry) → Contains (by_coming xs) x → Contains xs x
-unfolding by_coming
-from_by_coming [] x h = h
-from_by_coming (y ∷ ys) x h =
-    ⊎_elim (λ e. subst (Contains (y ∷ ys)) e (Contains-head y ys)) (λ later. Contains-tail y x ys (from_by_coming ys x later))
-    (Contains-insert_cases (by_coming ys) (place_below coming_of y.since (by_coming ys)) y x h)
+pub from_entries_by_coming : (xs : List SpanEntry) (x : SpanEntry) → Contains (entries_by_coming xs) x → Contains xs x
+unfolding entries_by_coming
+from_entries_by_coming [] x h = h
+from_entries_by_coming (y ∷ ys) x h =
+    ⊎_elim (λ e. subst (Contains (y ∷ ys)) e (Contains-head y ys)) (λ later. Contains-tail y x ys (from_entries_by_coming ys x later))
+    (Contains-insert_cases (entries_by_coming ys) (place_below coming_of y.since (entries_by_coming ys)) y x h)
 
-pub rises_by_coming : (xs : List SpanEntry) → Rises end_rank xs → AreTimed xs → Rises coming_of (by_coming xs)
-unfolding by_coming
+pub rises_by_coming : (xs : List SpanEntry) → Rises end_rank xs → AreTimed xs → Rises coming_of (entries_by_coming xs)
+unfolding entries_by_coming
 rises_by_coming [] rises timed = λ i j d lt below. absurd (omega (arith, below))
 rises_by_coming (y ∷ ys) rises timed =
     let rec = rises_by_coming ys (AllPairs-tail (λ a b. end_rank a < end_rank b) y ys rises) (λ a b in-a in-b e. timed a b (Contains-tail y a ys in-a) (Contains-tail y b ys in-b) e) in
-    rises_insert coming_of (by_coming ys) (place_below coming_of y.since (by_coming ys)) y rec (rank_at_place coming_of y.since (by_coming ys) rec)
-    (All-from_members (λ z. coming_of z ≢ coming_of y) (by_coming ys)
+    rises_insert coming_of (entries_by_coming ys) (place_below coming_of y.since (entries_by_coming ys)) y rec (rank_at_place coming_of y.since (entries_by_coming ys) rec)
+    (All-from_members (λ z. coming_of z ≢ coming_of y) (entries_by_coming ys)
     (λ z h same.
-    let in-z = from_by_coming ys z h in
+    let in-z = from_entries_by_coming ys z h in
     let e = ap end_rank (timed z y (Contains-tail y z ys in-z) (Contains-head y ys) same) in
     let lt = All-contains (λ w. end_rank y < end_rank w) ys z (AllPairs-head (λ a b. end_rank a < end_rank b) y ys rises) in-z in
     omega (arith, lt, e)))
@@ -58,14 +58,14 @@ module _ (old : List SpanEntry) (rises : Rises end_rank old) (timed : AreTimed o
         (Contains-insert_cases old p e x in-x)
 
     -- the newest comes last
-    pub coming_put : Rises end_rank (insert old p e) → by_coming (insert old p e) ≡ by_coming old ++ e ∷ []
+    pub coming_put : Rises end_rank (insert old p e) → entries_by_coming (insert old p e) ≡ entries_by_coming old ++ e ∷ []
     coming_put rises_new =
         let new = insert old p e in
-        same_rising coming_of (by_coming new) (by_coming old ++ e ∷ []) (rises_by_coming new rises_new timed_put)
-        (rises_push coming_of (by_coming old) e (rises_by_coming old rises timed) (λ y h. newer y (from_by_coming old y h)))
-        (λ x h. ⊎_elim (λ a. subst (Contains (by_coming old ++ e ∷ [])) a (Contains-push (by_coming old) e))
-        (λ a. Contains-append_left (by_coming old) (e ∷ []) x (in_by_coming old x a)) (Contains-insert_cases old p e x (from_by_coming new x h)))
-        (λ x h. in_by_coming new x (⊎_elim (λ a. Contains-insert old p e x (from_by_coming old x a)) (λ a. subst (Contains new) a (Contains-inserted old p e)) (Contains-push_cases (by_coming old) e x h)))
+        same_rising coming_of (entries_by_coming new) (entries_by_coming old ++ e ∷ []) (rises_by_coming new rises_new timed_put)
+        (rises_push coming_of (entries_by_coming old) e (rises_by_coming old rises timed) (λ y h. newer y (from_entries_by_coming old y h)))
+        (λ x h. ⊎_elim (λ a. subst (Contains (entries_by_coming old ++ e ∷ [])) a (Contains-push (entries_by_coming old) e))
+        (λ a. Contains-append_left (entries_by_coming old) (e ∷ []) x (in_entries_by_coming old x a)) (Contains-insert_cases old p e x (from_entries_by_coming new x h)))
+        (λ x h. in_entries_by_coming new x (⊎_elim (λ a. Contains-insert old p e x (from_entries_by_coming old x a)) (λ a. subst (Contains new) a (Contains-inserted old p e)) (Contains-push_cases (entries_by_coming old) e x h)))
 
   -- one less
   module _ (p : ℕ) (e : SpanEntry) (lt : p < length old) (here : get_or old p e ≡ e) where
@@ -81,38 +81,38 @@ module _ (old : List SpanEntry) (rises : Rises end_rank old) (timed : AreTimed o
         let eq = ap end_rank same in
         ⊎_elim (λ a. omega (arith, a, one, eq)) (λ a. omega (arith, a, one, eq)) (remove_pairs (λ a b. end_rank a < end_rank b) old p e x rises lt h)
 
-    pub coming_take : (q : ℕ) × (q < length (by_coming old)) × HoldsAt (λ x. x ≡ e) (by_coming old) q × (by_coming (remove old p) ≡ remove (by_coming old) q)
+    pub coming_take : (q : ℕ) × (q < length (entries_by_coming old)) × HoldsAt (λ x. x ≡ e) (entries_by_coming old) q × (entries_by_coming (remove old p) ≡ remove (entries_by_coming old) q)
     coming_take =
-        let at = at_from_Contains (by_coming old) e (in_by_coming old e in_old) in
+        let at = at_from_Contains (entries_by_coming old) e (in_entries_by_coming old e in_old) in
         let q = at.0 in
         let new = remove old p in
         let grown = rises_by_coming old rises timed in (
           q,
           at.1,
           at.2,
-          same_rising coming_of (by_coming new) (remove (by_coming old) q) (rises_by_coming new (AllPairs-remove (λ a b. end_rank a < end_rank b) old p lt rises) timed_take) (AllPairs-remove (λ a b. coming_of a < coming_of b) (by_coming old) q at.1 grown)
-              (λ x h. let in-x = from_by_coming new x h in
-              Contains-remove (by_coming old) q x (in_by_coming old x (remove_kept old p x in-x)) (λ is. other_rank x in-x (sym is ∙ at.2 x)))
-              (λ x h. let in-x = from_by_coming old x (remove_kept (by_coming old) q x h) in
-              in_by_coming new x (Contains-remove old p x in-x
+          same_rising coming_of (entries_by_coming new) (remove (entries_by_coming old) q) (rises_by_coming new (AllPairs-remove (λ a b. end_rank a < end_rank b) old p lt rises) timed_take) (AllPairs-remove (λ a b. coming_of a < coming_of b) (entries_by_coming old) q at.1 grown)
+              (λ x h. let in-x = from_entries_by_coming new x h in
+              Contains-remove (entries_by_coming old) q x (in_entries_by_coming old x (remove_kept old p x in-x)) (λ is. other_rank x in-x (sym is ∙ at.2 x)))
+              (λ x h. let in-x = from_entries_by_coming old x (remove_kept (entries_by_coming old) q x h) in
+              in_entries_by_coming new x (Contains-remove old p x in-x
               (λ is.
               let same : e ≡ x = sym here ∙ (get_or_default old p e x lt ∙ is) in
-              let apart = remove_pairs (λ a b. coming_of a < coming_of b) (by_coming old) q x x grown at.1 h in
+              let apart = remove_pairs (λ a b. coming_of a < coming_of b) (entries_by_coming old) q x x grown at.1 h in
               let one = ap coming_of (at.2 x) in
               let eq = ap coming_of same in
               ⊎_elim (λ a. omega (arith, a, one, eq)) (λ a. omega (arith, a, one, eq)) apart))),
         )
 
-pub by_none : by_coming [] ≡ []
-unfolding by_coming
+pub by_none : entries_by_coming [] ≡ []
+unfolding entries_by_coming
 by_none = refl
 
 -- a segment of a span, and its entry
-pub in_tags : (xs : List SpanEntry) (x : SpanEntry) → Contains xs x → Contains (map tag_of (by_coming xs)) (tag_of x)
-in_tags xs x h = Contains-map tag_of (by_coming xs) x (in_by_coming xs x h)
+pub in_tags : (xs : List SpanEntry) (x : SpanEntry) → Contains xs x → Contains (map tag_of (entries_by_coming xs)) (tag_of x)
+in_tags xs x h = Contains-map tag_of (entries_by_coming xs) x (in_entries_by_coming xs x h)
 
-pub from_tags : (xs : List SpanEntry) (t : Tag) → Contains (map tag_of (by_coming xs)) t → (x : SpanEntry) × Contains xs x × (tag_of x ≡ t)
-from_tags xs t h = let m = Contains-from_map tag_of (by_coming xs) t h in (m.0, from_by_coming xs m.0 m.1, m.2)
+pub from_tags : (xs : List SpanEntry) (t : Tag) → Contains (map tag_of (entries_by_coming xs)) t → (x : SpanEntry) × Contains xs x × (tag_of x ≡ t)
+from_tags xs t h = let m = Contains-from_map tag_of (entries_by_coming xs) t h in (m.0, from_entries_by_coming xs m.0 m.1, m.2)
 
 -- the units of one more, and of one less
 pub units_more : (ts : List Tag) (t : Tag) → units_held (holdings_of (ts ++ t ∷ [])) ≡ units_held (holdings_of ts) + t.holding.range.len

@@ -11,18 +11,18 @@ use Rattle.tag_arena.proofs.SpanLists.{Contains-from_map}
 use Rattle.sorted_rows.specs.Order.{Rises, first_from}
 use Rattle.tag_arena.specs.declared.entries.IndexEntry.{IndexEntry}
 use Rattle.tag_arena.specs.declared.orders.Order.TheVariants.{Sizes}
-use Rattle.tag_arena.specs.FreeTags.{FreeTag, range_of, tag_at, by_age, ranges_by_age}
+use Rattle.tag_arena.specs.FreeTags.{FreeTag, range_of, tag_at, tags_by_age, ranges_by_age}
 use Rattle.tag_arena.specs.Orders.{rank_of, entry_of, Mirrors}
 use Rattle.tag_arena.proofs.Listing.{Some-injective}
-use Rattle.tag_arena.proofs.Aging.{from_by_age}
+use Rattle.tag_arena.proofs.Aging.{from_tags_by_age}
 use Rattle.tag_arena.proofs.Indexing.{range_is_free, tag_of_range}
 use Rattle.tag_arena.proofs.Searching.{IsFirst, none_from}
 
 -- the tag of a free range
 pub tag_of_free : (tags : List (Option FreeTag)) (r : Holding) → Contains (ranges_by_age tags) r → (k : ℕ) × (t : FreeTag) × (tag_at tags k ≡ Some t) × (t.range ≡ r)
 tag_of_free tags r h =
-    let w = Contains-from_map range_of (by_age tags) r h in
-    let f = from_by_age tags w.0 w.1 in
+    let w = Contains-from_map range_of (tags_by_age tags) r h in
+    let f = from_tags_by_age tags w.0 w.1 in
     (f.0, w.0, f.1, w.2)
 
 -- members of a rising list with one rank

@@ -10,7 +10,7 @@ use Rattle.deed_core.specs.Holding.{Holding, Apart}
 use Rattle.deed_core.specs.Tag.{Tag}
 use Rattle.deed_core.specs.Request.{rounding_of, IsGood}
 use Rattle.deed_core.specs.declared.requests.Request.{Request}
-use Rattle.tag_arena.specs.ArenaState.{ArenaState, IsDivided, IsSound, spans_of}
+use Rattle.tag_arena.specs.ArenaState.{ArenaState, IsDivided, IsSoundArena, spans_of}
 use Rattle.tag_arena.specs.Calls.{part, rest_between, after_carve, IsClear}
 use Rattle.tag_arena.specs.Layout.{IsPartOf}
 use Rattle.tag_arena.specs.Neighbors.{Without}
@@ -37,7 +37,7 @@ pub placed_of : (quantum : ℕ) (q : Request) (free : List Holding) (f : Fit) (f
 placed_of quantum q free f fit = let at = at_from_Contains free f.range fit.among in (at.1, at.2, fit.serves)
 
 -- what was found for a good request can be carved there
-pub fit_cuttable : (a : ArenaState) (q : Request) (f : Fit) (n : ℕ) → IsSound a → IsGood a.quantum q → IsFit a.quantum q a.free f → n ≡ rounding_of a.quantum q.size → IsCuttable a.quantum a.free f n
+pub fit_cuttable : (a : ArenaState) (q : Request) (f : Fit) (n : ℕ) → IsSoundArena a → IsGood a.quantum q → IsFit a.quantum q a.free f → n ≡ rounding_of a.quantum q.size → IsCuttable a.quantum a.free f n
 fit_cuttable a q f n sound good fit n_is =
     let can = found_carves a q (found_of a.free f fit.among) n sound good (placed_of a.quantum q a.free f fit) n_is in
     record { among = fit.among; some = can.some; from = can.held.from; to = can.held.to; grid = can.grid }

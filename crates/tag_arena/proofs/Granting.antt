@@ -19,7 +19,7 @@ use Rattle.tag_arena.specs.declared.faults.ArenaFault.TheVariants.{NoFit, NoMemo
 use Rattle.tag_arena.specs.Layout.{IsPartOf}
 use Rattle.tag_arena.specs.Choice.{IsChoice}
 use Rattle.tag_arena.specs.Place.{ServesIn}
-use Rattle.tag_arena.specs.ArenaState.{ArenaState, IsDivided, IsSound, IsChosen, OnQuantum, ranges_of}
+use Rattle.tag_arena.specs.ArenaState.{ArenaState, IsDivided, IsSoundArena, IsChosen, OnQuantum, ranges_of}
 use Rattle.tag_arena.specs.Calls.{part, rests, after_carve, Carves}
 use Rattle.tag_arena.proofs.Allocations.{gains_insert, remove-insert}
 use Rattle.tag_arena.proofs.Ranges.{get_same}
@@ -85,8 +85,8 @@ module _ (a : ArenaState) (at : ℕ) (r piece : Holding) (k : CarvesAt a at r pi
   pub carves : (new : ArenaState) → new ≡ after_carve a r piece → Carves a new piece
   carves new is = record { range = r; among = among a k.sound at r piece k.within k.here k.held k.some k.grid; inside = k.held; after = is }
 
-  pub carve_sound : ((t : Tag) → Contains a.imported t → Contains a.free t.holding → t.holding ≡ r) → (new : ArenaState) → new ≡ after_carve a r piece → IsSound new
-  carve_sound whole new is = subst IsSound (sym is) (record {
+  pub carve_sound : ((t : Tag) → Contains a.imported t → Contains a.free t.holding → t.holding ≡ r) → (new : ArenaState) → new ≡ after_carve a r piece → IsSoundArena new
+  carve_sound whole new is = subst IsSoundArena (sym is) (record {
     divided = sound_carve a k.sound at r piece k.within k.here k.held k.some k.grid;
     used = carved_used a k.sound r piece (among a k.sound at r piece k.within k.here k.held k.some k.grid) k.held k.some whole;
   })
@@ -101,7 +101,7 @@ module _ (a : ArenaState) (at : ℕ) (r piece : Holding) (k : CarvesAt a at r pi
   carve_covers new is = subst (λ (s : ArenaState). (u : ℕ) → covering_held u a.free ≡ covering_held u s.free + covers u piece.range) (sym is) (carved_covers a k.sound at r piece k.within k.here k.held k.some k.grid)
 
 -- no imported span is a free range
-pub none_whole : (a : ArenaState) → IsSound a → (r : Holding) (t : Tag) → Contains a.imported t → Contains a.free t.holding → t.holding ≡ r
+pub none_whole : (a : ArenaState) → IsSoundArena a → (r : Holding) (t : Tag) → Contains a.imported t → Contains a.free t.holding → t.holding ≡ r
 none_whole a sound r t in-t free = absurd (All-contains (λ s. ¬ Contains a.free s.holding) a.imported t sound.used in-t free)
 
 -- a free range with its index, and an address in it
@@ -115,7 +115,7 @@ abbrev pub IsFoundAt : ℕ → Request → List Holding → FoundAt → Type 0
 IsFoundAt quantum q free f = (f.at < length free) × HoldsAt (λ r. r ≡ f.range) free f.at × ServesIn quantum q f.range f.base
 
 -- what was found for a good request can be carved there
-pub found_carves : (a : ArenaState) (q : Request) (f : FoundAt) (n : ℕ) → IsSound a → IsGood a.quantum q → IsFoundAt a.quantum q a.free f → n ≡ rounding_of a.quantum q.size → CarvesAt a f.at f.range (part f.range f.base n)
+pub found_carves : (a : ArenaState) (q : Request) (f : FoundAt) (n : ℕ) → IsSoundArena a → IsGood a.quantum q → IsFoundAt a.quantum q a.free f → n ≡ rounding_of a.quantum q.size → CarvesAt a f.at f.range (part f.range f.base n)
 found_carves a q f n sound good found n_is = record {
   sound = sound.divided;
   within = found.0;

@@ -13,7 +13,7 @@ use Rattle.deed_core.specs.declared.segments.Route.TheVariants.{Direct}
 use Rattle.deed_core.specs.Covering.{covers, covers_held, covering_held}
 use Rattle.deed_core.specs.Weights.{Gains}
 use Rattle.tag_arena.specs.Layout.{IsPartOf}
-use Rattle.tag_arena.specs.ArenaState.{ArenaState, IsSound, IsDivided, OnQuantum, ranges_of}
+use Rattle.tag_arena.specs.ArenaState.{ArenaState, IsSoundArena, IsDivided, OnQuantum, ranges_of}
 use Rattle.tag_arena.specs.Calls.{part, rest_between, rests, after_carve, after_import, IsClear}
 use Rattle.tag_arena.proofs.Returning.{remove-push, at-push}
 use Rattle.tag_arena.proofs.Granting.{CarvesAt, carve_is, carve_sound, carve_absent, carve_gains, carve_covers}
@@ -26,7 +26,7 @@ no_low_rest r base = let none : nat_lt base base ≡ false = grind (arith, nat_t
 
 -- a span that may be imported, and the number of its units that are carved at once
 pub record Imports (a : ArenaState) (t : Tag) (n : ℕ) : Type 0 where
-  pub sound : IsSound a
+  pub sound : IsSoundArena a
   pub route : t.route ≡ Direct
   pub range : IsRange t.holding.range
   pub aligned : OnQuantum a.quantum t.holding.range
@@ -36,7 +36,7 @@ pub record Imports (a : ArenaState) (t : Tag) (n : ℕ) : Type 0 where
   pub whole : n % a.quantum ≡ 0
 
 -- so it is where the call asks for it
-pub imports : (a b : ArenaState) (t : Tag) (n : ℕ) → IsSound a → a ≡ b → IsRange t.holding.range → t.route ≡ Direct → IsClear b t.holding.range → OnQuantum b.quantum t.holding.range → 0 < n → n ≤ t.holding.range.len → n % b.quantum ≡ 0 → Imports a t n
+pub imports : (a b : ArenaState) (t : Tag) (n : ℕ) → IsSoundArena a → a ≡ b → IsRange t.holding.range → t.route ≡ Direct → IsClear b t.holding.range → OnQuantum b.quantum t.holding.range → 0 < n → n ≤ t.holding.range.len → n % b.quantum ≡ 0 → Imports a t n
 imports a b t n sound same range route clear aligned some room whole = record {
   sound = sound;
   route = route;
@@ -85,7 +85,7 @@ module _ (a : ArenaState) (t : Tag) (n : ℕ) (k : Imports a t n) where
       ∙ ap (λ (xs : List Tag). record a { imported = xs; free = free; allocated = tags; rover = t.holding.range.base + n }) imported_is
       ∙ carve_is added (length a.free) t.holding first carved free tags all tags_is
 
-  pub import_sound : (new : ArenaState) → new ≡ after_carve added t.holding first → IsSound new
+  pub import_sound : (new : ArenaState) → new ≡ after_carve added t.holding first → IsSoundArena new
   import_sound = carve_sound added (length a.free) t.holding first carved (imported_whole a k.sound.used t)
 
   pub import_gains : (new : ArenaState) → new ≡ after_carve added t.holding first → Gains (ranges_of a.allocated) (ranges_of new.allocated) first

@@ -11,28 +11,28 @@ use Rattle.tag_arena.proofs.SpanLists.{Contains-map, Contains-from_map}
 use Rattle.sorted_rows.specs.Order.{Rises, first_from, place_below}
 use Rattle.tag_arena.specs.declared.orders.Order.{Order}
 use Rattle.tag_arena.specs.declared.orders.Order.TheVariants.{Rising, Sizes, Lists}
-use Rattle.tag_arena.specs.FreeTags.{FreeTag, range_of, tag_at, SlotBecomes, by_age, ranges_by_age, IsTag, IsTimed, AreTags}
+use Rattle.tag_arena.specs.FreeTags.{FreeTag, range_of, tag_at, SlotBecomes, tags_by_age, ranges_by_age, IsTag, IsTimed, AreTags}
 use Rattle.tag_arena.specs.Orders.{rank_of, entry_of, OrderedIndexState, Mirrors, KeepsUp, HasRoomForOne, IsAbsent, IsPresent}
 use Rattle.tag_arena.specs.Slotted.{SlotsState, taken_count}
 use Rattle.tag_arena.specs.FreeRanges.{MeetsPolicy, IsIndexed}
 use Rattle.tag_arena.proofs.Listing.{map-remove, place_of_member}
-use Rattle.tag_arena.proofs.Aging.{in_by_age, from_by_age, length-by_age, put_cases, timed_put, aged_put, take_cases, timed_take, aged_take}
+use Rattle.tag_arena.proofs.Aging.{in_tags_by_age, from_tags_by_age, length-tags_by_age, put_cases, timed_put, aged_put, take_cases, timed_take, aged_take}
 use Rattle.tag_arena.proofs.Mirroring.{place_for, absent_for, present_for}
 use Rattle.tag_arena.proofs.Searching.{is_first, none_from}
 
 -- the range of a tag is one of the free ranges
 pub range_is_free : (tags : List (Option FreeTag)) (k : ℕ) (t : FreeTag) → tag_at tags k ≡ Some t → Contains (ranges_by_age tags) t.range
-range_is_free tags k t here = Contains-map range_of (by_age tags) t (in_by_age tags k t here)
+range_is_free tags k t here = Contains-map range_of (tags_by_age tags) t (in_tags_by_age tags k t here)
 
 -- each free range is that of a tag
 pub tag_of_range : (tags : List (Option FreeTag)) (P : Holding → Type 0) → Any P (ranges_by_age tags) → (k : ℕ) × (t : FreeTag) × (tag_at tags k ≡ Some t) × P t.range
 tag_of_range tags P h =
-    let w = Contains-from_map range_of (by_age tags) h.1 (h.0, h.2, h.3) in
-    let r = from_by_age tags w.0 w.1 in
+    let w = Contains-from_map range_of (tags_by_age tags) h.1 (h.0, h.2, h.3) in
+    let r = from_tags_by_age tags w.0 w.1 in
     (r.0, w.0, r.1, subst P (sym w.2) h.4)
 
 pub taken_below : (tags : List (Option FreeTag)) (room : ℕ) → IsTimed tags → length (ranges_by_age tags) < room → taken_count tags < room
-taken_below tags room timed lt = omega (arith, lt, length-by_age tags timed, length-map (by_age tags) range_of)
+taken_below tags room timed lt = omega (arith, lt, length-tags_by_age tags timed, length-map (tags_by_age tags) range_of)
 
 pub tags_later : (clock : ℕ) (tags : List (Option FreeTag)) → AreTags clock tags → AreTags (clock + 1) tags
 tags_later clock tags are k t here = let h = are k t here in record {
@@ -81,12 +81,12 @@ module _ (policy : Policy) (s s2 : SlotsState) (r z l r2 z2 l2 : OrderedIndexSta
 -- the lists of free ranges then
 module _ (old new : List (Option FreeTag)) (k : ℕ) (t : FreeTag) (timed : IsTimed old) where
   pub ranges_put : tag_at old k ≡ None → SlotBecomes old new k (Some t) → ((j : ℕ) (u : FreeTag) → tag_at old j ≡ Some u → u.since < t.since) → ranges_by_age new ≡ ranges_by_age old ++ t.range ∷ []
-  ranges_put vacant becomes later = ap (map range_of) (aged_put old new k t timed vacant becomes later) ∙ map_push range_of (by_age old) t
+  ranges_put vacant becomes later = ap (map range_of) (aged_put old new k t timed vacant becomes later) ∙ map_push range_of (tags_by_age old) t
 
   pub ranges_take : tag_at old k ≡ Some t → SlotBecomes old new k None → Without (ranges_by_age old) t.range (ranges_by_age new)
   ranges_take here becomes =
       let a = aged_take old new k t timed here becomes in
-      (a.0, omega (arith, a.1, length-map (by_age old) range_of), (λ d. get_or-map range_of (by_age old) a.0 t d a.1 ∙ ap range_of (a.2 t)), ap (map range_of) a.3 ∙ map-remove range_of (by_age old) a.0)
+      (a.0, omega (arith, a.1, length-map (tags_by_age old) range_of), (λ d. get_or-map range_of (tags_by_age old) a.0 t d a.1 ∙ ap range_of (a.2 t)), ap (map range_of) a.3 ∙ map-remove range_of (tags_by_age old) a.0)
 
 -- where ranges stand in the order by base
 module _ (policy : Policy) (s : SlotsState) (r z l : OrderedIndexState) (clock room : ℕ) (x : IsIndexed policy s r z l clock room) where

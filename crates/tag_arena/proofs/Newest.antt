@@ -13,9 +13,9 @@ use Rattle.tag_arena.proofs.PowerLists.{one_list}
 use Rattle.sorted_rows.specs.Order.{Rises, first_from}
 use Rattle.tag_arena.specs.declared.entries.IndexEntry.{IndexEntry}
 use Rattle.tag_arena.specs.declared.orders.Order.TheVariants.{Lists}
-use Rattle.tag_arena.specs.FreeTags.{FreeTag, range_of, since_of, tag_at, by_age, ranges_by_age, AreTags, IsTimed}
+use Rattle.tag_arena.specs.FreeTags.{FreeTag, range_of, since_of, tag_at, tags_by_age, ranges_by_age, AreTags, IsTimed}
 use Rattle.tag_arena.specs.Orders.{rank_of, entry_of, Mirrors}
-use Rattle.tag_arena.proofs.Aging.{in_by_age, from_by_age, rises_by_age}
+use Rattle.tag_arena.proofs.Aging.{in_tags_by_age, from_tags_by_age, rises_by_age}
 use Rattle.tag_arena.proofs.Fitting.{tag_of_free}
 use Rattle.tag_arena.proofs.Searching.{IsFirst, none_from}
 
@@ -89,8 +89,8 @@ module _ (quantum units list clock : ℕ) (items : List IndexEntry) (tags : List
         let back : t.power ≡ i + j = omega (arith, over) in
         let same : 2 ^ t.power ≡ 2 ^ (i + j) = ap (λ n. 2 ^ n) back in
         let mine = are e.slot t at in
-        let c = in_by_age tags e.slot t at in
-        let long = length-map (by_age tags) range_of in
+        let c = in_tags_by_age tags e.slot t at in
+        let long = length-map (tags_by_age tags) range_of in
         let rank = ap rank_of is in
         record {
           list = i;
@@ -103,16 +103,16 @@ module _ (quantum units list clock : ℕ) (items : List IndexEntry) (tags : List
               omega (arith, low, rank, l.0, back, mine.since, since, fits);
           index = c.0;
           within = omega (arith, c.1, long);
-          here = λ d. get_or-map range_of (by_age tags) c.0 t d c.1 ∙ ap range_of c.2;
+          here = λ d. get_or-map range_of (tags_by_age tags) c.0 t d c.1 ∙ ap range_of c.2;
           on_list = to_list quantum j power.1 t.range i t.power back mine.low mine.high;
           newest = λ k d from lt on.
-              let inside : k < length (by_age tags) = omega (arith, lt, long) in
-              let u = get_or (by_age tags) k t in
-              let r = from_by_age tags u (Contains-get_or (by_age tags) k t inside) in
+              let inside : k < length (tags_by_age tags) = omega (arith, lt, long) in
+              let u = get_or (tags_by_age tags) k t in
+              let r = from_tags_by_age tags u (Contains-get_or (tags_by_age tags) k t inside) in
               let h = are r.0 u r.1 in
               let later = rises_by_age tags timed c.0 k t (omega (arith, from)) inside in
               let here = ap since_of c.2 in
-              let p = on_power quantum j power.1 u.range i u.power (subst (λ x. OnList quantum x i) (get_or-map range_of (by_age tags) k t d inside) on) h.low h.high in
+              let p = on_power quantum j power.1 u.range i u.power (subst (λ x. OnList quantum x i) (get_or-map range_of (tags_by_age tags) k t d inside) on) h.low h.high in
               let low = first.least (entry_of Lists r.0 u) (m.into r.0 u r.1) (omega (arith, p, back, its_list)) in
               let since = h.since in
               omega (arith, low, rank, later, here, p, back, since, mine.since, fits);

@@ -10,9 +10,9 @@ use Rattle.tag_arena.specs.declared.policies.Policy.{Policy}
 use Rattle.tag_arena.specs.declared.policies.Policy.TheVariants.{Best, Next, Instant}
 use Rattle.tag_arena.specs.Place.{IsLeast, Serves, ServesIn}
 use Rattle.tag_arena.specs.Choice.{IsBest, IsInstant, IsChoice, ComesFirst, OnList}
-use Rattle.tag_arena.specs.ArenaState.{ArenaState, IsSound, direct_tag}
+use Rattle.tag_arena.specs.ArenaState.{ArenaState, IsSoundArena, direct_tag}
 use Rattle.tag_arena.specs.Calls.{after_carve}
-use Rattle.tag_arena.specs.Outcomes.{Carved}
+use Rattle.tag_arena.specs.Outcomes.{WasCarved}
 use Rattle.tag_arena.specs.Laws.{BestIsOne, NextIsOne, InstantIsOne, CarveIsOne}
 use Rattle.tag_arena.proofs.Ranges.{member-Any, same_where_shared}
 
@@ -90,7 +90,7 @@ choice_one Next quantum q free rover o p x y = next_one quantum q free rover o p
 choice_one Instant quantum q free rover o p x y = instant_one quantum q free o p x y
 
 -- two carves of one request
-module _ (old new other : ArenaState) (q : Request) (t s : Tag) (sound : IsSound old) (x : Carved old q t new) (y : Carved old q s other) where
+module _ (old new other : ArenaState) (q : Request) (t s : Tag) (sound : IsSoundArena old) (x : WasCarved old q t new) (y : WasCarved old q s other) where
   same_base : t.holding.range.base ≡ s.holding.range.base
   same_base =
       let e : Some t.holding.range.base ≡ Some s.holding.range.base = choice_one old.policy old.quantum q old.free old.rover (Some t.holding.range.base) (Some s.holding.range.base) x.chosen y.chosen in

@@ -5,7 +5,7 @@ use Rattle.deed_core.specs.Holding.{Holding}
 use Rattle.deed_core.specs.Request.{HasGoodNocross, rounding_of}
 use Rattle.deed_core.specs.declared.requests.Request.{Request}
 use Rattle.sorted_rows.specs.Order.{Rises}
-use Rattle.sorted_rows.specs.Weights.{heavy_from}
+use Rattle.sorted_rows.specs.Weights.{first_heavy_from}
 use Rattle.tag_arena.specs.declared.entries.IndexEntry.{IndexEntry}
 use Rattle.tag_arena.specs.declared.orders.Order.TheVariants.{Sizes}
 use Rattle.tag_arena.specs.declared.reaches.Measure.TheVariants.{Reach}
@@ -67,7 +67,7 @@ module _ (quantum : ℕ) (q : Request) (units : ℕ) (g : GridState) (is : units
             least = λ x c ge. ge;
           }
 
-    pub none_reached : heavy_from rank_of (weight_of (Reach g)) key units items ≡ None → (base : ℕ) → Serves quantum q (ranges_by_age tags) base → ⊥
+    pub none_reached : first_heavy_from rank_of (weight_of (Reach g)) key units items ≡ None → (base : ℕ) → Serves quantum q (ranges_by_age tags) base → ⊥
     none_reached none base serves =
         let w = tag_of_range tags (λ r. ServesIn quantum q r base) serves in
         ⊎_elim (λ low. served w.0 w.1 w.2 low base w.3)

@@ -15,7 +15,7 @@ use Rattle.deed_core.specs.Tag.{Tag}
 use Rattle.deed_core.specs.declared.segments.Route.TheVariants.{Direct}
 use Rattle.deed_core.specs.Covering.{covers, covers_held, covering_held}
 use Rattle.tag_arena.specs.Layout.{IsPartOf, IsEdgedRun, IsLongestRun}
-use Rattle.tag_arena.specs.ArenaState.{ArenaState, spans_of, layout_of, OnQuantum, IsDivided, IsSound}
+use Rattle.tag_arena.specs.ArenaState.{ArenaState, spans_of, layout_of, OnQuantum, IsDivided, IsSoundArena}
 use Rattle.tag_arena.specs.Calls.{surrounds, ranges_without, without_span, after_free, after_return, Frees}
 use Rattle.tag_arena.specs.Neighbors.{IsBeside, Merges, TakesLeft, TakesRight}
 use Rattle.tag_arena.proofs.Members.{All-from_members, filter_one}
@@ -198,8 +198,8 @@ module _ (a : ArenaState) (piece s : Holding) (lies : LiesIn a piece s) where
     pub freed_sound : IsDivided (after_free a piece merged)
     freed_sound = sound_free a lies.sound piece merged lies.at edged held grid freed_covers
 
-    pub freed_is_sound : IsSound a → All (λ t. t.holding ≢ merged) a.imported → (now : ArenaState) → now ≡ after_free a piece merged → IsSound now
-    freed_is_sound sound none now is = subst IsSound (sym is) (record { divided = freed_sound; used = freed_used a sound.used piece merged none })
+    pub freed_is_sound : IsSoundArena a → All (λ t. t.holding ≢ merged) a.imported → (now : ArenaState) → now ≡ after_free a piece merged → IsSoundArena now
+    freed_is_sound sound none now is = subst IsSoundArena (sym is) (record { divided = freed_sound; used = freed_used a sound.used piece merged none })
 
     pub freed_is : (free : List Holding) (tags : FinMap nat_cmp Holding) → free ≡ new ++ merged ∷ [] → tags ≡ finmap.remove a.allocated piece.range.base → record a { free = free; allocated = tags } ≡ after_free a piece merged
     freed_is free tags free_eq tags_is =
@@ -225,8 +225,8 @@ module _ (a : ArenaState) (piece s : Holding) (lies : LiesIn a piece s) where
       pub returned_sound : IsDivided (after_return (after_free a piece merged) merged)
       returned_sound = sound_return (after_free a piece merged) freed_sound merged (Contains-append_right a.owned sources merged in_sources) in_free in_sources
 
-      pub returned_is_sound : IsSound a → (now : ArenaState) → now ≡ after_return (after_free a piece merged) merged → IsSound now
-      returned_is_sound sound now is = subst IsSound (sym is) (record { divided = returned_sound; used = returned_used a sound.used piece merged })
+      pub returned_is_sound : IsSoundArena a → (now : ArenaState) → now ≡ after_return (after_free a piece merged) merged → IsSoundArena now
+      returned_is_sound sound now is = subst IsSoundArena (sym is) (record { divided = returned_sound; used = returned_used a sound.used piece merged })
 
       -- what is left of the imported spans
       differs : (j : ℕ) (d : Tag) → j < length a.imported → j ≢ k → not (nat_eq (get_or a.imported j d).holding.range.base merged.range.base) ≡ true

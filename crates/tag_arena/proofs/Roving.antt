@@ -9,7 +9,7 @@ use Rattle.deed_core.specs.declared.requests.Request.{Request}
 use Rattle.tag_arena.specs.Place.{IsLeast, Serves, ServesIn}
 use Rattle.tag_arena.proofs.Ranges.{apart_or_share, same_where_shared, Any-member, member-Any}
 use Rattle.sorted_rows.specs.Order.{Rises}
-use Rattle.sorted_rows.specs.Weights.{heavy_from}
+use Rattle.sorted_rows.specs.Weights.{first_heavy_from}
 use Rattle.tag_arena.specs.declared.entries.IndexEntry.{IndexEntry}
 use Rattle.tag_arena.specs.declared.orders.Order.TheVariants.{Rising}
 use Rattle.tag_arena.specs.declared.reaches.Measure.TheVariants.{Length}
@@ -110,7 +110,7 @@ module _ (units from clock : ℕ) (items : List IndexEntry) (tags : List (Option
       let less = heavy.lighter (entry_of Rising w.0 w.1) (m.into w.0 w.1 w.2) (omega (arith, low, base)) (omega (arith, lt, base, top, rank_e)) in
       omega (arith, less, long)
 
-  pub light_behind : heavy_from rank_of (weight_of Length) (from * 2 ^ 64 + 0) units items ≡ None → (r : Holding) → Contains (ranges_by_age tags) r → from ≤ r.range.base → r.range.len < units
+  pub light_behind : first_heavy_from rank_of (weight_of Length) (from * 2 ^ 64 + 0) units items ≡ None → (r : Holding) → Contains (ranges_by_age tags) r → from ≤ r.range.base → r.range.len < units
   light_behind none r h low =
       let w = tag_of_free tags r h in
       let long = ap (λ x. x.range.len) w.3 in

@@ -9,7 +9,7 @@ use Rattle.tag_arena.specs.declared.policies.Policy.{Policy}
 use Rattle.tag_arena.specs.declared.policies.Policy.TheVariants.{Best, Next, Instant}
 use Rattle.tag_arena.specs.Place.{IsLeast, Serves, ServesIn}
 use Rattle.tag_arena.specs.Choice.{IsBestChoice, IsInstantChoice, IsChoice}
-use Rattle.tag_arena.specs.ArenaState.{ArenaState, IsSound}
+use Rattle.tag_arena.specs.ArenaState.{ArenaState, IsSoundArena}
 use Rattle.tag_arena.specs.Outcomes.{CarveOf}
 use Rattle.tag_arena.specs.Laws.{NoneServes, ChoiceServes, IsAnsweredExactly, CarvesExactly}
 use Rattle.tag_arena.proofs.Members.{All-from_members}
@@ -32,7 +32,7 @@ none_serves Instant quantum q free rover choice = elim choice [
 best_serves : (quantum : ℕ) (q : Request) (free : List Holding) (base : ℕ) → IsBestChoice quantum q free (Some base) → Serves quantum q free base
 best_serves quantum q free base best = member-Any (λ r. ServesIn quantum q r base) free best.0 best.1.among best.1.serves
 
-instant_serves : (a : ArenaState) → IsSound a → (q : Request) (base : ℕ) → IsInstantChoice a.quantum q a.free (Some base) → Serves a.quantum q a.free base
+instant_serves : (a : ArenaState) → IsSoundArena a → (q : Request) (base : ℕ) → IsInstantChoice a.quantum q a.free (Some base) → Serves a.quantum q a.free base
 instant_serves a sound q base (inr best) = best_serves a.quantum q a.free base best.1
 instant_serves a sound q base (inl plain) =
     let r : Holding = plain.1.0 in
@@ -51,7 +51,7 @@ next_serves quantum q free rover base (Some b) least here =
     let same : base ≡ b = (let e : Some base ≡ Some b = here in cc) in
     subst (Serves quantum q free) (sym same) least.0.0
 
-by_policy : (policy : Policy) (a : ArenaState) → IsSound a → (q : Request) (base : ℕ) → IsChoice policy a.quantum q a.free a.rover (Some base) → Serves a.quantum q a.free base
+by_policy : (policy : Policy) (a : ArenaState) → IsSoundArena a → (q : Request) (base : ℕ) → IsChoice policy a.quantum q a.free a.rover (Some base) → Serves a.quantum q a.free base
 by_policy Best a sound q base choice = best_serves a.quantum q a.free base choice
 by_policy Next a sound q base choice = next_serves a.quantum q a.free a.rover base choice.0 choice.1 choice.2
 by_policy Instant a sound q base choice = instant_serves a sound q base choice
@@ -59,7 +59,7 @@ by_policy Instant a sound q base choice = instant_serves a sound q base choice
 pub choice_serves : ChoiceServes
 choice_serves a q base sound choice = by_policy a.policy a sound q base choice
 
-module _ (old new : ArenaState) (q : Request) (sound : IsSound old) where
+module _ (old new : ArenaState) (q : Request) (sound : IsSoundArena old) where
   exact : (answer : Result Tag ArenaFault) → CarveOf old q answer new → IsAnsweredExactly old q answer
   exact (Ok t) carved =
       let base : ℕ = t.holding.range.base in

@@ -19,7 +19,7 @@ use Rattle.deed_core.specs.Weights.{Loses}
 use Rattle.deed_core.specs.declared.segments.Route.TheVariants.{Direct}
 use Rattle.tag_arena.specs.declared.policies.Policy.{Policy}
 use Rattle.tag_arena.specs.Layout.{Holds, IsPartOf, IsEdgedRun}
-use Rattle.tag_arena.specs.ArenaState.{ArenaState, spans_of, layout_of, ranges_of, OnQuantum, IsDivided, IsSound, empty_arena}
+use Rattle.tag_arena.specs.ArenaState.{ArenaState, spans_of, layout_of, ranges_of, OnQuantum, IsDivided, IsSoundArena, empty_arena}
 use Rattle.tag_arena.specs.Calls.{rests, surrounds, ranges_without, without_span, after_carve, after_add, after_import, after_free, after_return, after_remove, IsClear}
 use Rattle.tag_arena.proofs.Members.{All-from_members, Contains-nil, Contains-from_filter, filter_one}
 use Rattle.tag_arena.proofs.Ranges.{not_both, surrounds-true, true-surrounds, get_same, get_other, Any-member, holds_part}
@@ -32,7 +32,7 @@ use Rattle.tag_arena.proofs.Counting.{covering-carved}
 use Rattle.tag_arena.proofs.SpanLists.{map-filter, without_is, without-remove, first_without, second_without, first_more, AllPairs-first, AllPairs-second}
 
 -- the arena of which this is known
-abbrev pub the_state : {a : ArenaState} → IsSound a → ArenaState
+abbrev pub the_state : {a : ArenaState} → IsSoundArena a → ArenaState
 the_state {a} sound = a
 
 -- the sum and the difference of two multiples of the quantum

@@ -12,13 +12,13 @@ use Rattle.tag_arena.proofs.SpanLists.{Contains-map, Contains-from_map}
 use Rattle.sorted_rows.specs.Order.{Rises, PutsIn, TakesOut, StandsAtKey, first_from, place_below}
 use Rattle.sorted_rows.proofs.PlaceLemmas.{rises_insert}
 use Rattle.tag_arena.specs.declared.span_entries.SpanEntry.{SpanEntry}
-use Rattle.tag_arena.specs.Spanned.{end_rank, tag_of, by_coming, holdings_of, AreSpans, AreDisjoint, IsFirstPast, WithoutSpan}
+use Rattle.tag_arena.specs.Spanned.{end_rank, tag_of, entries_by_coming, holdings_of, AreSpans, AreDisjoint, IsFirstPast, WithoutSpan}
 use Rattle.tag_arena.proofs.Listing.{Contains-insert_cases, place_of_member, rank_at_place}
 use Rattle.tag_arena.proofs.Searching.{is_first, none_from}
 use Rattle.tag_arena.proofs.Coming.{by_none, in_tags, from_tags, timed_put, coming_put, coming_take, without_map, units_more, units_less}
 
 abbrev pub tags_of : List SpanEntry → List Tag
-tags_of items = map tag_of (by_coming items)
+tags_of items = map tag_of (entries_by_coming items)
 
 -- nothing
 pub none_are : (items : List SpanEntry) → items ≡ [] → AreSpans items 0 0
@@ -50,7 +50,7 @@ module _ (old new : List SpanEntry) (clock units : ℕ) (e : SpanEntry) (rises :
   newer x h = let p = are.past x h in omega (arith, p, since)
 
   pub items_put : tags_of new ≡ tags_of old ++ tag_of e ∷ []
-  items_put = ap tags_of is ∙ (ap (map tag_of) (coming_put old rises are.timed place e newer rises_put) ∙ map-append tag_of (by_coming old) (e ∷ []))
+  items_put = ap tags_of is ∙ (ap (map tag_of) (coming_put old rises are.timed place e newer rises_put) ∙ map-append tag_of (entries_by_coming old) (e ∷ []))
 
   pub are_put : IsRange e.span.range → AreSpans new (clock + 1) (units + e.span.range.len)
   are_put range =
@@ -101,15 +101,15 @@ module _ (old new : List SpanEntry) (clock units key : ℕ) (e : SpanEntry) (ris
       let two : get_or old at there.1 ≡ e = get_or_default old at there.1 e within ∙ here in
       ap end_rank (sym two ∙ one) ∙ there.4
 
-  out : (q : ℕ) × (q < length (by_coming old)) × HoldsAt (λ x. x ≡ e) (by_coming old) q × (by_coming (remove old at) ≡ remove (by_coming old) q)
+  out : (q : ℕ) × (q < length (entries_by_coming old)) × HoldsAt (λ x. x ≡ e) (entries_by_coming old) q × (entries_by_coming (remove old at) ≡ remove (entries_by_coming old) q)
   out = coming_take old rises are.timed at e within here
 
-  new_is : by_coming new ≡ remove (by_coming old) out.0
-  new_is = ap by_coming is ∙ out.3
+  new_is : entries_by_coming new ≡ remove (entries_by_coming old) out.0
+  new_is = ap entries_by_coming is ∙ out.3
 
   pub items_take : WithoutSpan (tags_of old) (tag_of e) (tags_of new)
   items_take =
-      let w = without_map tag_of (by_coming old) (by_coming new) e out.0 out.1 out.2 new_is in
+      let w = without_map tag_of (entries_by_coming old) (entries_by_coming new) e out.0 out.1 out.2 new_is in
       (out.0, w.0, w.1, w.2)
 
   counts : units_held (holdings_of (tags_of new)) + e.span.range.len ≡ units

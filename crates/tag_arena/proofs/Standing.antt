@@ -17,7 +17,7 @@ use Rattle.deed_core.specs.Weights.{one_at}
 use Rattle.deed_core.specs.Covering.{covers, covers_held, covering_held}
 use Rattle.deed_core.proofs.LawProofs.{covers_is, same_holding, counts_where_it_is}
 use Rattle.tag_arena.specs.Layout.{Holds, IsPartOf, IsAllocated, IsRun}
-use Rattle.tag_arena.specs.ArenaState.{ArenaState, spans_of, layout_of, ranges_of, tags_of, direct_tag, IsSound}
+use Rattle.tag_arena.specs.ArenaState.{ArenaState, spans_of, layout_of, ranges_of, tags_of, direct_tag, IsSoundArena}
 use Rattle.tag_arena.specs.Calls.{IsTagged}
 use Rattle.tag_arena.specs.Laws.{AllocatedStand, AllocatedCount, SpansOnce, FreeAreLongestRuns, GoesEmpty}
 use Rattle.tag_arena.proofs.Members.{Contains-head, Contains-tail, Contains-cases, Contains-nil, AllPairs-head, AllPairs-tail}
@@ -89,7 +89,7 @@ module _ (a : ArenaState) where
   pub standing_in : (k : ℕ) (h : Holding) → get a.allocated k ≡ Some h → Contains (ranges_of a.allocated) h
   standing_in k h at = found_member k (entries a.allocated) h (sym (get-entries a.allocated k) ∙ at)
 
-  pub in_stands : IsSound a → (h : Holding) → Contains (ranges_of a.allocated) h → get a.allocated h.range.base ≡ Some h
+  pub in_stands : IsSoundArena a → (h : Holding) → Contains (ranges_of a.allocated) h → get a.allocated h.range.base ≡ Some h
   in_stands sound h in-h =
       let e = Contains-from_map (λ (e : ℕ × Holding). e.1) (entries a.allocated) h in-h in
       let at : get a.allocated e.0.0 ≡ Some e.0.1 = get-entries a.allocated e.0.0 ∙ member_found (entries a.allocated) e.0 (entries_sorted a.allocated) e.1 in
@@ -99,7 +99,7 @@ module _ (a : ArenaState) where
   tagged_in : (t : Tag) → IsTagged a t → Contains (tags_of a) t
   tagged_in t is = subst (Contains (tags_of a)) (sym (same_tag t (direct_tag a.id t.holding) is.arena is.route refl)) (Contains-map (direct_tag a.id) (ranges_of a.allocated) t.holding (standing_in t.holding.range.base t.holding is.stands))
 
-  in_tagged : IsSound a → (t : Tag) → Contains (tags_of a) t → IsTagged a t
+  in_tagged : IsSoundArena a → (t : Tag) → Contains (tags_of a) t → IsTagged a t
   in_tagged sound t in-t =
       let h = Contains-from_map (direct_tag a.id) (ranges_of a.allocated) t in-t in
       let stands = in_stands sound h.0 h.1 in
@@ -140,7 +140,7 @@ pub spans_once : SpansOnce
 spans_once a sound u = apart_once u (spans_of a) sound.divided.whole.spans_apart
 
 -- nothing is allocated
-module _ (a : ArenaState) (sound : IsSound a) (none : tags_of a ≡ []) where
+module _ (a : ArenaState) (sound : IsSoundArena a) (none : tags_of a ≡ []) where
   none_allocated : (u : ℕ) → IsAllocated a.allocated u → ⊥
   none_allocated u al =
       let in-t : Contains (tags_of a) (direct_tag a.id al.1) = Contains-map (direct_tag a.id) (ranges_of a.allocated) al.1 (standing_in a al.0 al.1 al.2) in

@@ -5,14 +5,14 @@ use Rattle.tag_arena.proofs.Members.{Contains-nil}
 use Rattle.tag_arena.specs.declared.entries.IndexEntry.{IndexEntry}
 use Rattle.tag_arena.specs.declared.orders.Order.{Order}
 use Rattle.tag_arena.specs.declared.orders.Order.TheVariants.{Rising, Sizes, Lists}
-use Rattle.tag_arena.specs.FreeTags.{FreeTag, by_age, ranges_by_age, IsTimed, AreTags}
+use Rattle.tag_arena.specs.FreeTags.{FreeTag, tags_by_age, ranges_by_age, IsTimed, AreTags}
 use Rattle.tag_arena.specs.Orders.{OrderedIndexState, Mirrors, KeepsUp}
 use Rattle.tag_arena.specs.Slotted.{SlotsState}
 use Rattle.tag_arena.specs.FreeRanges.{MeetsPolicy, IsIndexed, keeps}
 use Rattle.tag_arena.proofs.Listing.{None≢Some}
 
 pub ranges_none : ranges_by_age [] ≡ []
-unfolding by_age
+unfolding tags_by_age
 ranges_none = refl
 
 mirrors_none : (order : Order) → Mirrors order [] []

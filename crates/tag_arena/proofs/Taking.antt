@@ -5,7 +5,7 @@ use Rattle.std.proofs.lemmas.List.Sums.{sum_by-remove}
 use Rattle.std.specs.List.{AllWithin}
 use Rattle.deed_core.specs.Holding.{Holding, Apart}
 use Rattle.deed_core.specs.Weights.{Loses}
-use Rattle.tag_arena.specs.ArenaState.{ArenaState, IsDivided, IsSound}
+use Rattle.tag_arena.specs.ArenaState.{ArenaState, IsDivided, IsSoundArena}
 use Rattle.tag_arena.specs.Calls.{ranges_without, after_remove, IsLowestWhole}
 use Rattle.tag_arena.proofs.SpanLists.{without-remove, AllPairs-first}
 use Rattle.tag_arena.proofs.Using.{removed_used}
@@ -58,8 +58,8 @@ module _ (a : ArenaState) (sound : IsDivided a) (w : WholeAt) (so : IsLowestAt a
   pub removed_sound : IsDivided (after_remove a w.span)
   removed_sound = sound_remove a sound w.span (Contains-append_left a.owned (map (λ t. t.holding) a.imported) w.span in_owned) in_free in_owned
 
-  pub removed_is_sound : IsSound a → (now : ArenaState) → now ≡ after_remove a w.span → IsSound now
-  removed_is_sound all now is = subst IsSound (sym is) (record { divided = removed_sound; used = removed_used a all.used w.span })
+  pub removed_is_sound : IsSoundArena a → (now : ArenaState) → now ≡ after_remove a w.span → IsSoundArena now
+  removed_is_sound all now is = subst IsSoundArena (sym is) (record { divided = removed_sound; used = removed_used a all.used w.span })
 
   pub owned_loses : Loses a.owned (remove a.owned w.at) w.span
   owned_loses = loses_at a.owned w.at w.span so.0 so.1

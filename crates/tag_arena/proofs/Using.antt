@@ -8,7 +8,7 @@ use Rattle.deed_core.specs.Holding.{Holding}
 use Rattle.deed_core.specs.Tag.{Tag}
 use Rattle.tag_arena.specs.declared.policies.Policy.{Policy}
 use Rattle.tag_arena.specs.Layout.{IsPartOf}
-use Rattle.tag_arena.specs.ArenaState.{ArenaState, spans_of, layout_of, OnQuantum, IsDivided, IsSound, empty_arena}
+use Rattle.tag_arena.specs.ArenaState.{ArenaState, spans_of, layout_of, OnQuantum, IsDivided, IsSoundArena, empty_arena}
 use Rattle.tag_arena.specs.Calls.{surrounds, ranges_without, without_span, after_carve, after_add, after_import, after_free, after_return, after_remove, IsClear}
 use Rattle.tag_arena.proofs.Members.{All-from_members, Contains-from_filter}
 use Rattle.tag_arena.proofs.Ranges.{same_where_shared, true-surrounds, Any-member, holds_part, not_both}
@@ -24,11 +24,11 @@ AreUsed free imported = All (λ t. ¬ Contains free t.holding) imported
 pub in_spans : (a : ArenaState) (t : Tag) → Contains a.imported t → Contains (spans_of a) t.holding
 in_spans a t in-t = Contains-append_right a.owned (map (λ t. t.holding) a.imported) t.holding (Contains-map (λ t. t.holding) a.imported t in-t)
 
-pub empty_sound : (id quantum : ℕ) (policy : Policy) → IsPowerOfTwo quantum → IsSound (empty_arena id quantum policy)
+pub empty_sound : (id quantum : ℕ) (policy : Policy) → IsPowerOfTwo quantum → IsSoundArena (empty_arena id quantum policy)
 empty_sound id quantum policy power = record { divided = sound_empty id quantum policy power; used = λ k d lt. absurd (omega (arith, lt)) }
 
 -- a new span is none of those that were here
-pub added_sound : (a : ArenaState) → IsSound a → (h : Holding) → IsRange h.range → OnQuantum a.quantum h.range → IsClear a h.range → IsSound (after_add a h)
+pub added_sound : (a : ArenaState) → IsSoundArena a → (h : Holding) → IsRange h.range → OnQuantum a.quantum h.range → IsClear a h.range → IsSoundArena (after_add a h)
 added_sound a sound h range grid clear = record {
   divided = sound_add a sound.divided h range grid clear;
   used = All-from_members (λ t. ¬ Contains (a.free ++ h ∷ []) t.holding) a.imported (λ t in-t here.

@@ -4,7 +4,7 @@ use Rattle.std.specs.List.{find}
 use Rattle.std.proofs.lemmas.List.{get_or_default, get_or-drop, length-drop}
 use Rattle.std.proofs.lemmas.Bool.{cases_lt, ltb-true, ltb-false, not-false}
 use Rattle.sorted_rows.specs.Order.{Rises, place_below}
-use Rattle.sorted_rows.specs.Weights.{weighs, heavy_from}
+use Rattle.sorted_rows.specs.Weights.{weighs, first_heavy_from}
 use Rattle.tag_arena.proofs.Listing.{None≢Some, Some-injective, rank_at_place}
 
 -- a weight that is enough, and one that isn't
@@ -82,7 +82,7 @@ module _ {X : Type 0} (rank weight : X → ℕ) (key least : ℕ) (xs : List X) 
   light_by : (x : X) → weighs weight least x ≡ false → weight x < least
   light_by x e = ltb-true (weight x) least (not-false (nat_lt (weight x) least) e)
 
-  pub is_heavy : (e : X) → heavy_from rank weight key least xs ≡ Some e → IsHeavy e
+  pub is_heavy : (e : X) → first_heavy_from rank weight key least xs ≡ Some e → IsHeavy e
   is_heavy e found =
       let p = place_below rank key xs in
       let w = found_at (weighs weight least) (drop p xs) e found in
@@ -109,7 +109,7 @@ module _ {X : Type 0} (rank weight : X → ℕ) (key least : ℕ) (xs : List X) 
       }
 
   -- where nothing is found none weighs enough
-  pub none_heavy : heavy_from rank weight key least xs ≡ None → (x : X) → Contains xs x → key ≤ rank x → weight x < least
+  pub none_heavy : first_heavy_from rank weight key least xs ≡ None → (x : X) → Contains xs x → key ≤ rank x → weight x < least
   none_heavy none x c above =
       let p = place_below rank key xs in
       let at = left_at x c above in

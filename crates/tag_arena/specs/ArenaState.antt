@@ -75,7 +75,7 @@ pub record IsDivided (a : ArenaState) : Type 0 where
 
 -- what is so of every arena between two calls: no imported span is wholly free, since one that
 -- becomes so goes back
-pub record IsSound (a : ArenaState) : Type 0 where
+pub record IsSoundArena (a : ArenaState) : Type 0 where
   pub divided : IsDivided a
   pub used : All (λ t. ¬ Contains a.free t.holding) a.imported
 

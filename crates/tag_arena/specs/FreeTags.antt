@@ -30,14 +30,15 @@ pub record SlotBecomes (old new : List (Option FreeTag)) (k : ℕ)
   pub others : (j : ℕ) → j ≢ k → tag_at new j ≡ tag_at old j
 
 -- the tags from the oldest to the newest
-unfoldable pub by_age : List (Option FreeTag) → List FreeTag
-by_age [] = []
-by_age (None ∷ rest) = by_age rest
-by_age (Some t ∷ rest) = insert (by_age rest) (place_below since_of t.since (by_age rest)) t
+unfoldable pub tags_by_age : List (Option FreeTag) → List FreeTag
+tags_by_age [] = []
+tags_by_age (None ∷ rest) = tags_by_age rest
+tags_by_age (Some t ∷ rest) =
+    insert (tags_by_age rest) (place_below since_of t.since (tags_by_age rest)) t
 
 -- the free ranges from the oldest to the newest
 abbrev pub ranges_by_age : List (Option FreeTag) → List Holding
-ranges_by_age tags = map range_of (by_age tags)
+ranges_by_age tags = map range_of (tags_by_age tags)
 
 -- what is so of each tag: its length is from 2 ^ power to 2 ^ (power + 1) - 1, and it became free
 -- by now

@@ -15,7 +15,7 @@ use Rattle.tag_arena.specs.Choice.{IsBestChoice, IsNextChoice, IsInstantChoice, 
 use Rattle.tag_arena.specs.Layout.{FreeIsLongestRuns}
 use Rattle.tag_arena.specs.ArenaState.{ArenaState, spans_of, layout_of, ranges_of, tags_of}
 use Rattle.tag_arena.specs.ArenaState.{direct_tag}
-use Rattle.tag_arena.specs.ArenaState.{IsChosen, IsSound}
+use Rattle.tag_arena.specs.ArenaState.{IsChosen, IsSoundArena}
 use Rattle.tag_arena.specs.Calls.{IsTagged}
 use Rattle.tag_arena.specs.Outcomes.{CarveOf}
 
@@ -36,7 +36,7 @@ InstantIsOne = (quantum : ℕ) (q : Request) (free : List Holding) (o p : Option
 
 -- two segments that may be carved for one request of one arena are the same, and leave the same
 abbrev pub CarveIsOne : Type 0
-CarveIsOne = (old new other : ArenaState) (q : Request) (t s : Tag) → IsSound old
+CarveIsOne = (old new other : ArenaState) (q : Request) (t s : Tag) → IsSoundArena old
     → CarveOf old q (Ok t) new → CarveOf old q (Ok s) other → (t ≡ s) × (new ≡ other)
 
 -- where the policy chooses none, no address serves
@@ -46,16 +46,16 @@ NoneServes = (policy : Policy) (quantum : ℕ) (q : Request) (free : List Holdin
 
 -- what an arena's policy chooses serves
 abbrev pub ChoiceServes : Type 0
-ChoiceServes = (a : ArenaState) (q : Request) (base : ℕ) → IsSound a → IsChosen a q (Some base)
+ChoiceServes = (a : ArenaState) (q : Request) (base : ℕ) → IsSoundArena a → IsChosen a q (Some base)
     → Serves a.quantum q a.free base
 
 -- the free ranges of an arena are the longest runs
 abbrev pub FreeAreLongestRuns : Type 0
-FreeAreLongestRuns = (a : ArenaState) → IsSound a → FreeIsLongestRuns (layout_of a)
+FreeAreLongestRuns = (a : ArenaState) → IsSoundArena a → FreeIsLongestRuns (layout_of a)
 
 -- no unit is in two spans of an arena
 abbrev pub SpansOnce : Type 0
-SpansOnce = (a : ArenaState) → IsSound a → (u : ℕ) → covering_held u (spans_of a) ≤ 1
+SpansOnce = (a : ArenaState) → IsSoundArena a → (u : ℕ) → covering_held u (spans_of a) ≤ 1
 
 -- what is allocated weighs as its ranges do
 abbrev pub TagsWeigh : Type 0
@@ -64,17 +64,17 @@ TagsWeigh = (a : ArenaState) (f : Tag → ℕ)
 
 -- the segments that are allocated are those that stand at their bases
 abbrev pub AllocatedStand : Type 0
-AllocatedStand = (a : ArenaState) (t : Tag) → IsSound a → Contains (tags_of a) t ↔ IsTagged a t
+AllocatedStand = (a : ArenaState) (t : Tag) → IsSoundArena a → Contains (tags_of a) t ↔ IsTagged a t
 
 -- what stands weighs something, and what doesn't weighs nothing
 abbrev pub AllocatedCount : Type 0
-AllocatedCount = (a : ArenaState) (t : Tag) → IsSound a
+AllocatedCount = (a : ArenaState) (t : Tag) → IsSoundArena a
     → (IsTagged a t → 0 < sum_by (one_at t) (tags_of a))
     × (¬ IsTagged a t → sum_by (one_at t) (tags_of a) ≡ 0)
 
 -- an arena of which nothing is allocated has no imported span; where it owns none, it holds no deed
 abbrev pub GoesEmpty : Type 0
-GoesEmpty = (a : ArenaState) → IsSound a → tags_of a ≡ []
+GoesEmpty = (a : ArenaState) → IsSoundArena a → tags_of a ≡ []
     → (a.imported ≡ []) × (a.owned ≡ [] → a.free ≡ [])
 
 -- a carve is answered exactly: a bad request is told as bad; of a good one NoFit comes where no
@@ -89,5 +89,6 @@ pub record IsAnsweredExactly (old : ArenaState) (q : Request)
 
 -- so is each carve
 abbrev pub CarvesExactly : Type 0
-CarvesExactly = (old new : ArenaState) (q : Request) (answer : Result Tag ArenaFault) → IsSound old
+CarvesExactly =
+    (old new : ArenaState) (q : Request) (answer : Result Tag ArenaFault) → IsSoundArena old
     → CarveOf old q answer new → IsAnsweredExactly old q answer

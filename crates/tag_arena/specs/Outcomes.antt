@@ -31,7 +31,7 @@ AddSpanOf old span h (Ok _) new = IsClear old h.range × OnQuantum old.quantum h
 AddSpanOf old span h (Err fault) new = RefusesSpan old h.range span fault × (new ≡ old)
 
 -- the segment was carved for the request, where the policy chose
-pub record Carved (old : ArenaState) (q : Request) (t : Tag) (new : ArenaState) : Type 0 where
+pub record WasCarved (old : ArenaState) (q : Request) (t : Tag) (new : ArenaState) : Type 0 where
   pub good : IsGood old.quantum q
   pub chosen : IsChosen old q (Some t.holding.range.base)
   pub fits : Fits old.quantum q t.holding.range.base t.holding.range.len
@@ -41,7 +41,7 @@ pub record Carved (old : ArenaState) (q : Request) (t : Tag) (new : ArenaState) 
 
 -- a segment was carved, or none
 abbrev pub CarveOf : ArenaState → Request → Result Tag ArenaFault → ArenaState → Type 0
-CarveOf old q (Ok t) new = Carved old q t new
+CarveOf old q (Ok t) new = WasCarved old q t new
 CarveOf old q (Err fault) new = RefusesCarve old q fault × (new ≡ old)
 
 -- a span that an arena of this quantum may import for the request: it was carved from its source
@@ -53,7 +53,7 @@ pub record IsImportFor (quantum : ℕ) (span : Tag) (q : Request) : Type 0 where
   pub room : rounding_of quantum q.size ≤ span.holding.range.len
 
 -- the span was imported, and the segment has its first units, as many as the request asks for
-pub record Imported (old : ArenaState) (span : Tag) (q : Request) (t : Tag)
+pub record WasImported (old : ArenaState) (span : Tag) (q : Request) (t : Tag)
     (new : ArenaState) : Type 0 where
   pub clear : IsClear old span.holding.range
   pub aligned : OnQuantum old.quantum span.holding.range
@@ -63,7 +63,7 @@ pub record Imported (old : ArenaState) (span : Tag) (q : Request) (t : Tag)
 
 -- the span was imported, or it is back
 abbrev pub ImportOf : ArenaState → Tag → Request → Result Tag (SpanFault Tag) → ArenaState → Type 0
-ImportOf old span q (Ok t) new = Imported old span q t new
+ImportOf old span q (Ok t) new = WasImported old span q t new
 ImportOf old span q (Err fault) new = RefusesSpan old span.holding.range span fault × (new ≡ old)
 
 -- the span's units but the segment's became free, and the arena's spans have the span's more
@@ -76,14 +76,15 @@ pub record ImportCovers (old : ArenaState) (span : Tag) (new : ArenaState) (t : 
 
 -- the segment was freed; the imported span that became wholly free, if one did, goes back to
 -- its source
-pub record Freed (old : ArenaState) (t : Tag) (back : Option Tag) (new : ArenaState) : Type 0 where
+pub record WasFreed (old : ArenaState) (t : Tag) (back : Option Tag) (new : ArenaState)
+    : Type 0 where
   pub mine : IsTagged old t
   pub frees : Frees old new t.holding back
   pub from : IfSome back (λ span. Contains old.imported span × (span.route ≡ Direct))
 
 -- the segment was freed, or it isn't one of this arena's and is back
 abbrev pub FreeOf : ArenaState → Tag → Result (Option Tag) Tag → ArenaState → Type 0
-FreeOf old t (Ok back) new = Freed old t back new
+FreeOf old t (Ok back) new = WasFreed old t back new
 FreeOf old t (Err same) new = (¬ IsTagged old t) × (same ≡ t) × (new ≡ old)
 
 -- the lowest owned span that is wholly free was taken out, or none is

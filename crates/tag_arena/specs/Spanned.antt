@@ -22,9 +22,10 @@ abbrev pub tag_of : SpanEntry → Tag
 tag_of e = record { arena = e.source; route = Direct; holding = e.span }
 
 -- the entries from the first that came on
-unfoldable pub by_coming : List SpanEntry → List SpanEntry
-by_coming [] = []
-by_coming (e ∷ rest) = insert (by_coming rest) (place_below coming_of e.since (by_coming rest)) e
+unfoldable pub entries_by_coming : List SpanEntry → List SpanEntry
+entries_by_coming [] = []
+entries_by_coming (e ∷ rest) =
+    insert (entries_by_coming rest) (place_below coming_of e.since (entries_by_coming rest)) e
 
 -- the ranges of segments
 abbrev pub holdings_of : List Tag → List Holding
@@ -40,7 +41,7 @@ pub record SpansState : Type 0 where
 pub record AreSpans (items : List SpanEntry) (clock units : ℕ) : Type 0 where
   pub timed : (x y : SpanEntry) → Contains items x → Contains items y → x.since ≡ y.since → x ≡ y
   pub past : (x : SpanEntry) → Contains items x → x.since ≤ clock
-  pub counted : units ≡ units_held (holdings_of (map tag_of (by_coming items)))
+  pub counted : units ≡ units_held (holdings_of (map tag_of (entries_by_coming items)))
   pub bound : units ≤ clock * 2 ^ 62
 
 -- they are ranges, and no unit is in two

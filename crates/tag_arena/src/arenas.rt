@@ -13,7 +13,7 @@ ghost use Rattle.deed_core.specs.Request.{IsGood};
 ghost use Rattle.deed_core.specs.Weights.{Gains, Loses};
 ghost use Rattle.tag_arena.specs.Layout.{FreeIsLongestRuns};
 ghost use Rattle.tag_arena.specs.ArenaState.{spans_of, layout_of, ranges_of, tags_of, direct_tag};
-ghost use Rattle.tag_arena.specs.ArenaState.{IsChosen, IsSound, OnQuantum, empty_arena};
+ghost use Rattle.tag_arena.specs.ArenaState.{IsChosen, IsSoundArena, OnQuantum, empty_arena};
 ghost use Rattle.tag_arena.specs.Calls.{part, after_carve, RefusesCarve, IsClear, OverlapsSpan};
 ghost use Rattle.tag_arena.specs.Calls.{after_import, first_units, IsTagged};
 ghost use Rattle.tag_arena.specs.Fits.{IsFit};
@@ -55,7 +55,7 @@ impl<D: Deed> Model for Arena<D> {
     ghost use Rattle.std.specs.Ordering.{nat_cmp};
     ghost use Rattle.std.specs.FinMap as finmap;
     ghost use Rattle.deed_core.specs.Holding.{Holding};
-    ghost use Rattle.tag_arena.specs.ArenaState.{ArenaState, IsSound};
+    ghost use Rattle.tag_arena.specs.ArenaState.{ArenaState, IsSoundArena};
     ghost use Rattle.tag_arena.specs.FreeRanges.{IsBacked};
     ghost use Rattle.tag_arena.specs.Spanned.{holdings_of};
 
@@ -77,7 +77,7 @@ impl<D: Deed> Model for Arena<D> {
 
     // What is allocated can come back without memory.
     ghost invariant = { λ a.
-        IsSound (record {
+        IsSoundArena (record {
           id = a.id;
           quantum = a.quantum;
           policy = a.policy;
@@ -125,7 +125,7 @@ impl<D: Deed> Arena<D> {
     /// know of an arena what is always so.
     pub fn id(&self) -> u32
         ensures value { result ≡ self.now.id }
-        ensures sound { IsSound self.now }
+        ensures sound { IsSoundArena self.now }
         ensures longest { FreeIsLongestRuns (layout_of self.now) }
     {
         self.id
@@ -155,7 +155,7 @@ impl<D: Deed> Arena<D> {
 
         // What is always so of an arena.
         ensures longest { FreeIsLongestRuns (layout_of self.now) }
-        ensures sound { IsSound self.now }
+        ensures sound { IsSoundArena self.now }
     {
         let span = self.owned.units() + self.imported.units();
         let free = self.free.units();
@@ -225,7 +225,7 @@ impl<D: Deed> Arena<D> {
         ensures added { AddSpanOf self.old deed (D.holding deed) result self.new }
 
         // What follows, for those above.
-        ensures sound { IsSound self.new }
+        ensures sound { IsSoundArena self.new }
         ensures kept { KeepsSetup self.old self.new }
         ensures imported { self.new.imported ≡ self.old.imported }
     {
@@ -254,7 +254,7 @@ impl<D: Deed> Arena<D> {
         ensures carved { CarveOf self.old request.now result self.new }
 
         // What follows, for those above.
-        ensures sound { IsSound self.new }
+        ensures sound { IsSoundArena self.new }
         ensures kept { KeepsSetup self.old self.new }
         ensures owned { self.new.owned ≡ self.old.owned }
         ensures imported { self.new.imported ≡ self.old.imported }
@@ -278,7 +278,7 @@ impl<D: Deed> Arena<D> {
         ensures placed { IfOk result (IsFit self.old.quantum request.now self.old.free) }
         ensures refused { IfErr result (RefusesCarve self.old request.now) }
         ensures unchanged { self.new ≡ self.old }
-        ensures sound { IsSound self.new }
+        ensures sound { IsSoundArena self.new }
     {
         if !request.is_good(self.quantum) {
             return Err(ArenaFault::BadRequest);
@@ -322,7 +322,7 @@ impl<D: Deed> Arena<D> {
         ensures carved { ImportOf self.old span request.now result self.new }
 
         // What follows, for those above.
-        ensures sound { IsSound self.new }
+        ensures sound { IsSoundArena self.new }
         ensures kept { KeepsSetup self.old self.new }
         ensures owned { self.new.owned ≡ self.old.owned }
         ensures imported { OnOk result (Gains self.old.imported self.new.imported span) }
@@ -392,7 +392,7 @@ impl<D: Deed> Arena<D> {
         ensures freed { FreeOf self.old segment result self.new }
 
         // What follows, for those above.
-        ensures sound { IsSound self.new }
+        ensures sound { IsSoundArena self.new }
         ensures kept { KeepsSetup self.old self.new }
         ensures owned { self.new.owned ≡ self.old.owned }
         ensures loses { OnOk result (Loses (tags_of self.old) (tags_of self.new) segment) }
@@ -430,7 +430,7 @@ impl<D: Deed> Arena<D> {
         ensures removed { RemoveOf self.old (option_map D.holding result) self.new }
 
         // What follows, for those above.
-        ensures sound { IsSound self.new }
+        ensures sound { IsSoundArena self.new }
         ensures kept { KeepsSetup self.old self.new }
         ensures imported { self.new.imported ≡ self.old.imported }
         ensures loses { IfSome result (λ deed.

@@ -3,7 +3,7 @@ ghost use Rattle.std.specs.Prelude.{◌≡◌, ◌≤◌, ◌+◌, ◌*◌, ◌^
 ghost use Rattle.tag_arena.specs.Orders.{entry_of, rank_of, IsAbsent, IsPresent, HasRoomForOne};
 ghost use Rattle.tag_arena.specs.Orders.{PutsEntry, TakesEntry, weight_of};
 ghost use Rattle.sorted_rows.specs.Order.{Rises, first_from, last_to};
-ghost use Rattle.sorted_rows.specs.Weights.{heavy_from};
+ghost use Rattle.sorted_rows.specs.Weights.{first_heavy_from};
 
 use crate::entries::{IndexEntry, key_of};
 use crate::reaches::Measure;
@@ -156,7 +156,7 @@ impl OrderedIndex {
         least: u64,
     ) -> Option<IndexEntry>
         ensures first { let key = major * 2 ^ 64 + minor in
-            result ≡ heavy_from rank_of (weight_of measure) key least self.old.items }
+            result ≡ first_heavy_from rank_of (weight_of measure) key least self.old.items }
         ensures rises { Rises rank_of self.old.items }
         ensures unchanged { self.new ≡ self.old }
     {

@@ -59,12 +59,12 @@ pub struct Spans {
 
 impl Model for Spans {
     ghost use Rattle.std.specs.Prelude.{◌-◌, ◌^◌, length, map, min};
-    ghost use Rattle.tag_arena.specs.Spanned.{SpansState, AreSpans, by_coming, tag_of};
+    ghost use Rattle.tag_arena.specs.Spanned.{SpansState, AreSpans, entries_by_coming, tag_of};
 
     ghost Value = { SpansState };
 
     ghost view = { λ s. record {
-      items = map tag_of (by_coming s.rows.items);
+      items = map tag_of (entries_by_coming s.rows.items);
       more = min (s.rows.room - length s.rows.items) (2 ^ 64 - 1 - s.clock);
     } };
 

@@ -4,7 +4,7 @@ use Rattle.std.proofs.lemmas.List.{append-nil, length-take}
 use Rattle.std.specs.Io.KnownBytes.{Consumes, IsAtEnd}
 use Rattle.std.proofs.KnownBytes.{Consumes-kept}
 use Rattle.lease_proto.specs.declared.faults.LineFault.{LineFault}
-use Rattle.lease_proto.specs.Frames.{last_of, with_line_feed, IsOneLine}
+use Rattle.lease_proto.specs.Frames.{frames_of_rest, with_line_feed, IsOneLine}
 use Rattle.lease_proto.specs.declared.setup_lines.SetupLine.{SetupLine}
 use Rattle.lease_proto.specs.SetupLines.{setup_of}
 use Rattle.lease_server.specs.Intakes.{IntakeState, StopsReading}
@@ -51,7 +51,7 @@ module _ {S : Type 0} (takes : S → SetupLine → S → Type 0) (refuses : S �
 
   -- the refusal of a line that the input ends in
   pub unended_refused : (first made : S) (unread left : Option (List ℕ)) (input front : List ℕ) (setup : SetsUp takes first input front made) (number : ℕ) (why : LineFault)
-      → Consumes unread left input → IsAtEnd left → number ≡ length setup.lines + 1 → IsOneLine front → last_of (take 256 front) ≡ Err why ∷ []
+      → Consumes unread left input → IsAtEnd left → number ≡ length setup.lines + 1 → IsOneLine front → frames_of_rest (take 256 front) ≡ Err why ∷ []
       → IfSome unread (λ all. LineRefused takes refuses first all number (config.Line why) made)
   unended_refused first made None left input front setup number why read end counted one last = tt
   unended_refused first made (Some xs) None input front setup number why read end counted one last = absurd read

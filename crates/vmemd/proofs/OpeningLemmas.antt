@@ -5,7 +5,7 @@ use Rattle.std.proofs.lemmas.List.{take_all, take-append-drop, take-append-le, l
 use Rattle.std.proofs.lemmas.Slice.Eq.{bytes_eq-Decides}
 use Rattle.std.specs.Str.{bytes_eq}
 use Rattle.memchr.specs.Find.{Nowhere, Passes, is_byte2}
-use Rattle.lease_proto.specs.Frames.{with_line_feed, last_of}
+use Rattle.lease_proto.specs.Frames.{with_line_feed, frames_of_rest}
 use Rattle.lease_proto.specs.SetupLines.{opening, is_setup_word, begins_setup}
 
 -- it ends at the first space or line feed
@@ -96,6 +96,6 @@ begins_long bytes more long =
     sym (begins_setup-take (bytes ++ more)) ∙ ap begins_setup (take-append-le 256 bytes more (omega (arith, long, size)))
 
 -- nothing begins no setup line
-pub begins_last : (rest : List ℕ) → [] ≡ last_of rest → begins_setup rest ≡ false
+pub begins_last : (rest : List ℕ) → [] ≡ frames_of_rest rest → begins_setup rest ≡ false
 begins_last [] none = refl
 begins_last (b ∷ bs) none = absurd (cc)

@@ -4,7 +4,7 @@ use Rattle.std.proofs.lemmas.Bool.{cases_Bool}
 use Rattle.std.proofs.lemmas.List.{append-nil}
 use Rattle.std.specs.Io.KnownBytes.{Consumes, IsAtEnd}
 use Rattle.std.proofs.KnownBytes.{Appends-nil, Consumes-trans}
-use Rattle.lease_proto.specs.Frames.{Frame, frames_in, frames_of, rest_in, last_of}
+use Rattle.lease_proto.specs.Frames.{Frame, frames_in, frames_of, rest_in, frames_of_rest}
 use Rattle.lease_proto.specs.SetupLines.{begins_setup}
 use Rattle.lease_proto.specs.declared.setup_lines.SetupLine.{SetupLine}
 use Rattle.lease_proto.proofs.LawProofs.{frames_in-append}
@@ -53,7 +53,7 @@ module _ {S : Type 0} (may_answer : S → List ℕ → List ℕ → S → Type 0
   before_all old new front input (Some xs) None a b read before = absurd read
   before_all old new front input (Some xs) (Some ys) a b read before =
       let bytes : front ++ xs ≡ (front ++ input) ++ ys = ap (λ l. front ++ l) read ∙ sym (append_assoc front input ys) in
-      let last = last_of (rest_in [] ((front ++ input) ++ ys)) in
+      let last = frames_of_rest (rest_in [] ((front ++ input) ++ ys)) in
       let more : frames_of ((front ++ input) ++ ys) ≡ frames_in [] (front ++ input) ++ (frames_in (rest_in [] (front ++ input)) ys ++ last) =
       ap (λ l. l ++ last) (frames_in-append [] (front ++ input) ys)
       ∙ append_assoc (frames_in [] (front ++ input)) (frames_in (rest_in [] (front ++ input)) ys) last in

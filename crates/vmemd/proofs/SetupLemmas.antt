@@ -8,9 +8,9 @@ use Rattle.std.specs.Io.KnownBytes.{Consumes, IsAtEnd}
 use Rattle.std.proofs.KnownBytes.{Consumes-kept}
 use Rattle.lease_proto.specs.declared.faults.LineFault.{LineFault}
 use Rattle.lease_proto.specs.declared.faults.LineFault.TheVariants.{TooLong}
-use Rattle.lease_proto.specs.Frames.{Frame, frame_of, last_of, frames_in, rest_in, frames_of, with_line_feed, IsOneLine}
+use Rattle.lease_proto.specs.Frames.{Frame, frame_of, frames_of_rest, frames_in, rest_in, frames_of, with_line_feed, IsOneLine}
 use Rattle.lease_proto.specs.Values.{◌>>=◌}
-use Rattle.lease_proto.proofs.LawProofs.{frame_of-take, last_of-take, frames_in-append, rest_in-append, frames_in-ended, rest_in-ended, frames_in-text, rest_in-text, frames_in-none, rest_in-none}
+use Rattle.lease_proto.proofs.LawProofs.{frame_of-take, frames_of_rest-take, frames_in-append, rest_in-append, frames_in-ended, rest_in-ended, frames_in-text, rest_in-text, frames_in-none, rest_in-none}
 use Rattle.lease_proto.specs.declared.setup_lines.SetupLine.{SetupLine}
 use Rattle.vmemd.specs.declared.faults.ConfigFault.{ConfigFault}
 use Rattle.vmemd.specs.declared.faults.ConfigFault.TheVariants as config
@@ -139,7 +139,7 @@ first_frames front line rest left one e =
     ap (λ l. frames_of (l ++ left)) e ∙ ap frames_of (append_assoc (with_line_feed line) rest left) ∙ line_first line (rest ++ left) one
 
 -- a line that is too long already stays so
-long_goes_on : (line left : List ℕ) → 255 < length line → (frames : List Frame) × (frames_in line left ++ last_of (rest_in line left) ≡ Err TooLong ∷ frames)
+long_goes_on : (line left : List ℕ) → 255 < length line → (frames : List Frame) × (frames_in line left ++ frames_of_rest (rest_in line left) ≡ Err TooLong ∷ frames)
 long_goes_on [] [] long = absurd (omega arith)
 long_goes_on (b ∷ bs) [] long = ([], rw (lt-leb (length (b ∷ bs)) 255 long) refl)
 long_goes_on line (b ∷ bs) long =
@@ -147,7 +147,7 @@ long_goes_on line (b ∷ bs) long =
     let longer : 255 < length (line ++ b ∷ []) = subst (λ n. 255 < n) (sym (length-append line (b ∷ []))) (omega arith) in
     let on = long_goes_on (line ++ b ∷ []) bs longer in
     elim (cases_Bool (b == 10)) [
-      | inl is ↦ (frames_in [] bs ++ last_of (rest_in [] bs), rw (is, frame) refl)
+      | inl is ↦ (frames_in [] bs ++ frames_of_rest (rest_in [] bs), rw (is, frame) refl)
       | inr other ↦ (on.0, rw other on.1)
     ]
 
@@ -157,8 +157,8 @@ long_first front left long one =
     (on.0, rw (frames_in-text [] front left one, rest_in-text [] front left one) on.1)
 
 -- a rest that the input ends
-pub rest_first : (rest : List ℕ) (why : LineFault) → IsOneLine rest → last_of (take 256 rest) ≡ Err why ∷ [] → frames_of rest ≡ Err why ∷ []
-rest_first rest why one last = rw (frames_in-none [] rest one, rest_in-none [] rest one) (sym (last_of-take rest) ∙ last)
+pub rest_first : (rest : List ℕ) (why : LineFault) → IsOneLine rest → frames_of_rest (take 256 rest) ≡ Err why ∷ [] → frames_of rest ≡ Err why ∷ []
+rest_first rest why one last = rw (frames_in-none [] rest one, rest_in-none [] rest one) (sym (frames_of_rest-take rest) ∙ last)
 
 module _ {S : Type 0} (takes : S → SetupLine → S → Type 0) (refuses : S → SetupLine → ConfigFault → Type 0) where
   pub refuses_line : (made : S) (front line rest left : List ℕ) (word : ConfigFault) → IsOneLine line → front ≡ with_line_feed line ++ rest
@@ -198,7 +198,7 @@ module _ {S : Type 0} (takes : S → SetupLine → S → Type 0) (refuses : S �
 
   -- the refusal of a rest that the input ends
   pub refused_rest : (first made : S) (unread left : Option (List ℕ)) (input front : List ℕ) (setup : SetsUp takes first input front made) (number : ℕ) (why : LineFault)
-      → Consumes unread left input → IsAtEnd left → number ≡ length setup.lines + 1 → IsOneLine front → last_of (take 256 front) ≡ Err why ∷ []
+      → Consumes unread left input → IsAtEnd left → number ≡ length setup.lines + 1 → IsOneLine front → frames_of_rest (take 256 front) ≡ Err why ∷ []
       → begins_setup (take 256 front) ≡ true → IfSome unread (λ all. SetupRefused takes refuses first all number (config.Line why) made)
   refused_rest first made None left input front setup number why read end counted one last begins = tt
   refused_rest first made (Some xs) None input front setup number why read end counted one last begins = absurd read

@@ -1,6 +1,6 @@
 //! CONFIG: a file of setup lines alone, which a server is set up by.
 ghost use Rattle.std.specs.Prelude.{◌≡◌, ◌≤◌, ◌+◌, ◌⊎◌, ◌∷◌, [], Err, OnOk, IfOk, IfErr, IsErrOf};
-ghost use Rattle.lease_proto.specs.Frames.{last_of};
+ghost use Rattle.lease_proto.specs.Frames.{frames_of_rest};
 ghost use Rattle.lease_server.specs.Watching.{inner_of, has_failed, reads_of};
 ghost use Rattle.lease_server.specs.declared.intakes.TheConstants.{MOST_READS};
 ghost use Rattle.vmemd.specs.Scripts.{IsSpent};
@@ -107,7 +107,7 @@ fn refuse_unended(rest: &[u8], number: u64) -> Result<(), ScriptFault>
     ensures ok { OnOk result (rest.now ≡ []) }
     ensures err { IfErr result (λ fault. (word : LineFault)
         × (fault ≡ ScriptFault.Setup number (ConfigFault.Line word))
-        × (last_of rest.now ≡ Err word ∷ [])) }
+        × (frames_of_rest rest.now ≡ Err word ∷ [])) }
 {
     match fault_at_end(rest) {
         Some(fault) => Err(refusal(number, fault)),

@@ -1,7 +1,7 @@
 //! Taking the setup lines that an input begins with.
 ghost use Rattle.std.specs.Prelude.{◌≡◌, ◌≤◌, ◌<◌, ◌⊎◌, ◌+◌, ◌^◌, ◌-◌, ◌∷◌, [], Err, length, min};
 ghost use Rattle.std.specs.Prelude.{OnOk, OnErr, IfErr, IfOk, IsErrOf, true, false};
-ghost use Rattle.lease_proto.specs.Frames.{last_of};
+ghost use Rattle.lease_proto.specs.Frames.{frames_of_rest};
 ghost use Rattle.lease_proto.specs.SetupLines as spec;
 ghost use Rattle.lease_proto.specs.SetupLines.{setup_of};
 ghost use Rattle.lease_server.specs.Watching.{inner_of, has_failed, reads_of};
@@ -108,7 +108,7 @@ fn refuse_rest(rest: &[u8], number: u64) -> Result<(), ScriptFault>
     ensures ok { OnOk result (spec.begins_setup rest.now ≡ false) }
     ensures err { IfErr result (λ fault. (word : LineFault)
         × (fault ≡ ScriptFault.Setup number (ConfigFault.Line word))
-        × (last_of rest.now ≡ Err word ∷ []) × (spec.begins_setup rest.now ≡ true)) }
+        × (frames_of_rest rest.now ≡ Err word ∷ []) × (spec.begins_setup rest.now ≡ true)) }
 {
     match fault_at_end(rest) {
         Some(fault) if begins_setup(rest) => Err(refusal(number, fault)),

@@ -23,7 +23,7 @@ use Rattle.lease_book.specs.History.{incarnation}
 use Rattle.lease_book.specs.BookState.{BookState, account_in}
 use Rattle.lease_book.specs.Answers.{IsRepeated, IsNew}
 use Rattle.lease_book.specs.Calls.{IsGranted, IsRefused, IsReleased}
-use Rattle.lease_book.specs.Account.{Account, last, number_of, is_lease}
+use Rattle.lease_book.specs.Account.{Account, last_number, number_of, is_lease}
 use Rattle.lease_book.proofs.LawProofs.{account_is, last_outcome, outcomes_stay}
 use Rattle.lease_book.specs.declared.books.TheConstants.{MOST_LEASES}
 use Rattle.lease_history.specs.Told.{reply_to}
@@ -42,7 +42,7 @@ settled_tellable w id (Refuse why) j is at = tt
 
 -- what is answered by its number isn't new
 not_both : (book : BookState) (a : Account) (id : RequestId) (r : ReceiptState) → IsRepeated book a id r → IsNew a id → ⊥
-not_both book a id r again fresh = (let e : last a ≡ id.number = ap number_of again.kept in omega (arith, e, fresh.next))
+not_both book a id r again fresh = (let e : last_number a ≡ id.number = ap number_of again.kept in omega (arith, e, fresh.next))
 
 pub answered_is_old : (w : WorldState) (id : RequestId) (reply : Reply) → IsAnswered w id reply → ¬ IsNew (account_in id.client w.book) id
 answered_is_old w id (replies.Old o) told fresh = told.1.other fresh.current

@@ -12,7 +12,7 @@ use Rattle.deed_core.specs.declared.segments.Route.TheVariants.{Direct, Cached}
 use Rattle.deed_core.proofs.LawProofs.{set_same, slice_get_one, slice_get-set}
 use Rattle.tag_arena.specs.ArenaState.{ArenaState}
 use Rattle.tag_arena.specs.Calls.{RefusesCarve}
-use Rattle.tag_arena.specs.Outcomes.{Carved, Imported, ImportOf}
+use Rattle.tag_arena.specs.Outcomes.{WasCarved, WasImported, ImportOf}
 use Rattle.tag_arena.specs.declared.faults.SpanFault.{SpanFault}
 use Rattle.tag_arena.specs.declared.faults.SpanFault.TheVariants as spans
 use Rattle.tag_arena.specs.declared.faults.ArenaFault.TheVariants as arena_faults
@@ -120,7 +120,7 @@ one_cache spaces k j c d a b =
 -- Events.
 
 pub carves : (w : WorldState) (cpu arena : ℕ) (q : Request) (t : Tag) (stock : List SpaceState) (hands : List (Option Tag)) → HasInHand w cpu None
-    → OnArena arena (λ a b. Carved a q t b) w.stock stock → IsStock stock → Frames w.stock [] stock (t ∷ []) → plans_of stock ≡ plans_of w.stock → hands ≡ set w.hands cpu (Some t)
+    → OnArena arena (λ a b. WasCarved a q t b) w.stock stock → IsStock stock → Frames w.stock [] stock (t ∷ []) → plans_of stock ≡ plans_of w.stock → hands ≡ set w.hands cpu (Some t)
     → EndsAs (events.Carves cpu arena q) Done w (record w { stock = stock; hands = hands })
 carves w cpu arena q t stock hands empty on sound frame fixed moved = (
   (empty, on.space, on.at, record { good = on.does.good; base = t.holding.range.base; chosen = on.does.chosen }),
@@ -161,10 +161,10 @@ pub not_direct : (w : WorldState) (cpu : ℕ) → ((t : Tag) → HasInHand w cpu
 not_direct w cpu none (t, held, tagged) = none t held tagged.tagged.route
 
 pub imports : (w : WorldState) (cpu child size : ℕ) (span t : Tag) (q : Request) (stock : List SpaceState) (taken hands : List (Option Tag)) → IsReady (events.AddCarves cpu child size) w → HasInHand w cpu (Some span)
-    → q ≡ plain_of size → OnArena child (λ a b. Imported a span q t b) w.stock stock → IsStock stock → Frames w.stock (span ∷ []) stock (t ∷ []) → plans_of stock ≡ plans_of w.stock
+    → q ≡ plain_of size → OnArena child (λ a b. WasImported a span q t b) w.stock stock → IsStock stock → Frames w.stock (span ∷ []) stock (t ∷ []) → plans_of stock ≡ plans_of w.stock
     → taken ≡ set w.hands cpu None → hands ≡ set taken cpu (Some t) → EndsAs (events.AddCarves cpu child size) Done w (record w { stock = stock; hands = hands })
 imports w cpu child size span t q stock taken hands ready held asks on sound frame fixed out put =
-    let here : OnArena child (λ a b. Imported a span (plain_of size) t b) w.stock stock = subst (λ (r : Request). OnArena child (λ a b. Imported a span r t b) w.stock stock) asks on in (
+    let here : OnArena child (λ a b. WasImported a span (plain_of size) t b) w.stock stock = subst (λ (r : Request). OnArena child (λ a b. WasImported a span r t b) w.stock stock) asks on in (
       ready,
       (span, t, hand_moves w cpu (Some span) (Some t) _ stock hands held here (record { stock = sound; frame = frame; fixed = fixed }) (put_over w.hands taken hands cpu (Some t) out put)),
     )

@@ -16,7 +16,7 @@ use Rattle.lease_book.specs.Account.{Lease, Account}
 use Rattle.lease_book.specs.Entry.{Entry, Settled, Hello, Swept, Grant}
 use Rattle.lease_book.specs.declared.receipts.Terms.{Terms}
 use Rattle.lease_book.specs.History.{leases_of, AreOrderly}
-use Rattle.lease_book.specs.BookState.{segments, weight_of, leased_segments}
+use Rattle.lease_book.specs.BookState.{segments, weight_of_leases, leased_segments}
 use Rattle.lease_book.proofs.LawProofs.{account_is, leases_are_the_clients}
 use Rattle.lease_client.specs.declared.held.HeldSegment.{HeldSegment}
 use Rattle.lease_client.specs.ClientState.{ClientState}
@@ -49,13 +49,13 @@ all_held : (w : WorldState) → IsWorld w → (f : HeldSegment → ℕ)
 all_held w is f =
     let names = arena_name w.names in
     let g : Tag → ℕ = λ t. f (told_segment names t) in
-    let each = sum_le (λ (c : ClientState). sum_by f c.held) (λ (c : ClientState). weight_of g w.book c.id) w.clients
+    let each = sum_le (λ (c : ClientState). sum_by f c.held) (λ (c : ClientState). weight_of_leases g w.book c.id) w.clients
     (λ k c at. (let h = held_is_leased names w.entries c f (is.known k c at) in
     let le = in_le names c.incarnation f (leases_of c.id w.entries) in
-    let e : weight_of g w.book c.id ≡ sum_by g (segments (leases_of c.id w.entries)) = ap (λ (a : Account). sum_by g (segments a.leases)) (account_is w.entries w.book c.id is.book) in
+    let e : weight_of_leases g w.book c.id ≡ sum_by g (segments (leases_of c.id w.entries)) = ap (λ (a : Account). sum_by g (segments a.leases)) (account_is w.entries w.book c.id is.book) in
     omega arith)) in
     let some = leases_are_the_clients.some w.book (map (λ (c : ClientState). c.id) w.clients) g (w.entries, is.book) is.ids in
-    let e = sum_by-map (weight_of g w.book) (λ (c : ClientState). c.id) w.clients in
+    let e = sum_by-map (weight_of_leases g w.book) (λ (c : ClientState). c.id) w.clients in
     omega arith
 
 accounted : (w : WorldState) → IsWorld w → IsAccounted w.stock (segments_out (outside_of w))

@@ -11,7 +11,7 @@ use Rattle.lease_proto.specs.declared.replies.Reply.{Reply}
 use Rattle.lease_proto.specs.declared.replies.Reply.TheVariants as replies
 use Rattle.lease_proto.specs.Requests.{client_of}
 use Rattle.lease_book.specs.Entry.{Entry, Settled, Hello, Swept, Grant, Return, Refuse}
-use Rattle.lease_client.specs.ClientState.{ClientState, IsSound, IsOwn}
+use Rattle.lease_client.specs.ClientState.{ClientState, IsSoundClient, IsOwn}
 use Rattle.lease_client.specs.Replies.{accepts, after_accept, after_reply}
 use Rattle.lease_client.specs.Calls.{IsRestarted, IsSent, IsResent}
 use Rattle.lease_client.specs.Runs.{Move, Restart, Send, Get, TakesMove}
@@ -31,7 +31,7 @@ record Goes (names : ℕ → List ℕ) (entries : List Entry) (c next : ClientSt
   pub said : (line : Line) → MayBeSaid c line → MayBeSaid next line
 
 -- what it said it may still have said
-still_said : (m : Move) (c next : ClientState) → IsSound c → TakesMove m c next → next.id ≡ c.id → c.incarnation ≤ next.incarnation
+still_said : (m : Move) (c next : ClientState) → IsSoundClient c → TakesMove m c next → next.id ≡ c.id → c.incarnation ≤ next.incarnation
     → (line : Line) → MayBeSaid c line → MayBeSaid next line
 still_said m c next sound takes id more (lines.Hello h) said = λ own. (let le = said (own ∙ id) in omega arith)
 still_said m c next sound takes id more (lines.Request r op) said = λ own. sent_stays_sent r op m c next sound takes (said (own ∙ id))

@@ -6,7 +6,7 @@ use Rattle.deed_core.specs.Request.{Fits, IsGood, plain_of}
 use Rattle.deed_core.specs.declared.requests.Request.{Request}
 use Rattle.deed_core.specs.declared.segments.Route.TheVariants.{Direct}
 use Rattle.tag_arena.specs.ArenaState.{IsChosen}
-use Rattle.tag_arena.specs.Outcomes.{Carved, Imported}
+use Rattle.tag_arena.specs.Outcomes.{WasCarved, WasImported}
 use Rattle.slab_layer.specs.Slab.{IsAllOut, IsComplete}
 use Rattle.slab_layer.specs.Calls.{TakeOf, AddOf, ReapOf}
 use Rattle.magazine_layer.specs.Magazines.{CpuCacheState, IsSize, BothEmpty, BothFull}
@@ -288,12 +288,12 @@ MovesBy (events.Releases cpu) old new =
     ⊎ TaskAnswered cpu old new
 MovesBy (events.Sweeps cpu c) old new = LeaseSwept cpu c old new
 MovesBy (events.Carves cpu arena q) old new = (t : Tag)
-    × HandMoves cpu None (Some t) (OnArena arena (λ a b. Carved a q t b)) old new
+    × HandMoves cpu None (Some t) (OnArena arena (λ a b. WasCarved a q t b)) old new
 MovesBy (events.Frees cpu) old new = (t : Tag) × (back : Option Tag)
     × HandMoves cpu (Some t) back (λ a b. FreeIn a t (Ok back) b) old new
 MovesBy (events.AddCarves cpu child size) old new = (span t : Tag)
     × HandMoves cpu (Some span) (Some t)
-    (OnArena child (λ a b. Imported a span (plain_of size) t b)) old new
+    (OnArena child (λ a b. WasImported a span (plain_of size) t b)) old new
 MovesBy (events.SlabTakes cpu arena cache) old new = (t : Tag)
     × HandMoves cpu None (Some t) (OnSlab arena cache (λ a b. TakeOf a (Some t) b)) old new
 MovesBy (events.SlabPuts cpu) old new = (t : Tag)

@@ -19,7 +19,7 @@ use crate::parts::WorldParts;
 use crate::tasks::Task;
 use deed_core::Deed;
 use lease_book::{Answer, Book, NotLeased, Terms};
-use lease_proto::{Again, LeaseLine, Old, Op, OutOfTurn, Refused, Reply};
+use lease_proto::{Again, LeaseLine, Old, Op, OutOfTurn, RefusedRequest, Reply};
 use lease_terms::{ClientId, Refusal, RequestId};
 
 /// The answer by a request's number, where it isn't new.
@@ -153,7 +153,7 @@ impl<D: Deed> WorldParts<D> {
                 self.tasks[cpu] = None;
                 self.log.push_reserved(Logged::Refused { id, refusal });
                 self.replies
-                    .push_reserved(Reply::Refused(Refused { id, refusal }));
+                    .push_reserved(Reply::Refused(RefusedRequest { id, refusal }));
                 return Outcome::Done;
             }
             _ => unreachable!(),
@@ -255,7 +255,7 @@ impl<D: Deed> WorldParts<D> {
                             id,
                             refusal: Refusal::Leases,
                         });
-                        self.replies.push_reserved(Reply::Refused(Refused {
+                        self.replies.push_reserved(Reply::Refused(RefusedRequest {
                             id,
                             refusal: Refusal::Leases,
                         }));

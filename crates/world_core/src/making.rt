@@ -10,7 +10,7 @@ use crate::worlds::World;
 use arena_tree::{Setup, Tree};
 use deed_core::{PlainDeed, Range};
 use lease_book::Book;
-use lease_terms::Name;
+use lease_terms::ArenaName;
 use std::alloc::{AllocError, Global};
 use stock::plain_stock;
 
@@ -63,7 +63,7 @@ impl World<PlainDeed> {
 }
 
 /// The names of the arenas.
-fn names_of(alloc: Global, tree: &Tree) -> Result<Vec<Name>, AllocError>
+fn names_of(alloc: Global, tree: &Tree) -> Result<Vec<ArenaName>, AllocError>
     ensures value { IfOk result (λ names. names.items ≡ map (λ x. x.name) tree.now) }
     ensures names { IfOk result (λ names. All (λ name. is_name name ≡ true) names.items) }
 {

@@ -6,11 +6,11 @@ ghost use Rattle.world_core.specs.Moves.{IsTellable, demand_of as spec_demand_of
 
 use deed_core::Request;
 use lease_book::KeptReply;
-use lease_proto::{Granted, LeaseLine, Refused, Reply};
-use lease_terms::{Name, RequestId};
+use lease_proto::{Granted, LeaseLine, RefusedRequest, Reply};
+use lease_terms::{ArenaName, RequestId};
 
 /// The index of the arena with this name.
-pub(crate) fn index_of(names: &[Name], name: &Name) -> Option<usize>
+pub(crate) fn index_of(names: &[ArenaName], name: &ArenaName) -> Option<usize>
     ensures some { IfSome result
         (λ k. (k < length names.now) × (arena_name names.now k ≡ name.now)) }
     ensures none { IfNone result
@@ -25,7 +25,7 @@ pub(crate) fn index_of(names: &[Name], name: &Name) -> Option<usize>
 }
 
 /// The reply to a request that was settled so.
-pub(crate) fn reply_to(names: &[Name], id: RequestId, kept: KeptReply) -> Reply
+pub(crate) fn reply_to(names: &[ArenaName], id: RequestId, kept: KeptReply) -> Reply
     requires { IsTellable (length names.now) kept }
     ensures { result ≡ reply_to (arena_name names.now) id kept }
 {
@@ -37,7 +37,7 @@ pub(crate) fn reply_to(names: &[Name], id: RequestId, kept: KeptReply) -> Reply
             len,
         }),
         KeptReply::Released => Reply::Released(id),
-        KeptReply::Refused(refusal) => Reply::Refused(Refused { id, refusal }),
+        KeptReply::Refused(refusal) => Reply::Refused(RefusedRequest { id, refusal }),
     }
 }
 

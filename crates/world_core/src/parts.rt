@@ -19,7 +19,7 @@ use deed_core::{Deed, Segment};
 use lease_book::Book;
 use lease_client::Client;
 use lease_proto::{LeaseLine, Line, Op, ReleaseLine, Reply};
-use lease_terms::{Name, RequestId};
+use lease_terms::{ArenaName, RequestId};
 use std::alloc::Global;
 use std::marker::Model;
 use stock::{OwnCache, Stock};
@@ -28,7 +28,7 @@ use stock::{OwnCache, Stock};
 pub(crate) struct WorldParts<D: Deed> {
     pub(crate) alloc: Global,
     pub(crate) stock: Stock<D>,
-    pub(crate) names: Vec<Name>,
+    pub(crate) names: Vec<ArenaName>,
     pub(crate) hands: Vec<Option<Segment<D>>>,
     pub(crate) tasks: Vec<Option<Task>>,
     pub(crate) failed: Vec<bool>,

@@ -15,7 +15,7 @@ use crate::parts::WorldParts;
 use crate::tasks::Task;
 use deed_core::Deed;
 use lease_book::Answer;
-use lease_proto::{Op, Refused, ReleaseLine, Reply};
+use lease_proto::{Op, RefusedRequest, ReleaseLine, Reply};
 use lease_terms::{Refusal, RequestId};
 
 /// What a CPU may release.
@@ -95,7 +95,7 @@ impl<D: Deed> WorldParts<D> {
                     self.tasks[cpu] = None;
                     self.log.push_reserved(Logged::Refused { id, refusal });
                     self.replies
-                        .push_reserved(Reply::Refused(Refused { id, refusal }));
+                        .push_reserved(Reply::Refused(RefusedRequest { id, refusal }));
                     return Outcome::Done;
                 }
                 _ => unreachable!(),

@@ -12,14 +12,19 @@ use crate::worlds::World;
 use deed_core::Deed;
 use lease_book::Book;
 use lease_client::Client;
-use lease_terms::{ClientId, Name};
+use lease_terms::{ArenaName, ClientId};
 use std::alloc::{AllocError, Global};
 use stock::Stock;
 
 impl<D: Deed> World<D> {
     /// A world with no CPU and no client, of a stock of which nothing is out, the names of its
     /// arenas, and a book to which nothing has happened.
-    pub fn of_parts(alloc: Global, stock: Stock<D>, names: Vec<Name>, book: Book<D>) -> World<D>
+    pub fn of_parts(
+        alloc: Global,
+        stock: Stock<D>,
+        names: Vec<ArenaName>,
+        book: Book<D>,
+    ) -> World<D>
         requires balances { Accounts stock [] }
         requires named { length names.items ≡ length stock }
         requires few { length names.items ≤ 2 ^ 32 }

@@ -4,7 +4,7 @@ ghost use Rattle.std.specs.Prelude.{◌≡◌, ◌<◌, ◌≤◌};
 use arena_tree::{NewChild, NewRoot, Setting, Setup};
 use deed_core::{PlainDeed, Request};
 use lease_proto::{LeaseLine, LeaseOptions, Op, ReleaseLine};
-use lease_terms::{ClientId, Name, Quantity};
+use lease_terms::{ArenaName, ClientId, Quantity};
 use std::alloc::{AllocGlobal, Global};
 use std::process::Abort;
 use stock_audit::ArenaSums;
@@ -14,8 +14,8 @@ use world_core::{Outcome, World, WorldEvent};
 /// The units of one arena: free, in slabs, in magazines, exported, leased, in hands.
 pub(crate) type Counts = [u128; 6];
 
-pub(crate) fn name(rt: &impl Abort, text: &str) -> Name {
-    Name::new(text.as_bytes()).expect(rt, "a name")
+pub(crate) fn name(rt: &impl Abort, text: &str) -> ArenaName {
+    ArenaName::new(text.as_bytes()).expect(rt, "a name")
 }
 
 pub(crate) fn units(rt: &impl Abort, units: u64) -> Quantity {

@@ -6,7 +6,7 @@ ghost use Rattle.deed_core.specs.Covering.{covering_held, covers_tag};
 ghost use Rattle.deed_core.specs.Extent.{IsRange};
 ghost use Rattle.deed_core.specs.Tag.{Tag};
 ghost use Rattle.deed_core.specs.Weights.{Gains, Loses, one_at};
-ghost use Rattle.tag_arena.specs.ArenaState.{IsSound, layout_of, spans_of, tags_of};
+ghost use Rattle.tag_arena.specs.ArenaState.{IsSoundArena, layout_of, spans_of, tags_of};
 ghost use Rattle.tag_arena.specs.Layout.{FreeIsLongestRuns};
 ghost use Rattle.tag_arena.specs.Laws.{IsAnsweredExactly};
 ghost use Rattle.tag_arena.specs.Outcomes.{KeepsSetup, AddSpanOf, CarveOf, IsImportFor, ImportOf};
@@ -19,7 +19,7 @@ use tag_arena::{Arena, ArenaFault, Policy, SpanFault, allocated_laws, arena_laws
 
 /// What is known of any arena, as one taken from behind a lock.
 fn known<D: Deed>(arena: &Arena<D>)
-    ensures sound { IsSound arena.now }
+    ensures sound { IsSoundArena arena.now }
     ensures longest { FreeIsLongestRuns (layout_of arena.now) }
     ensures once { (u : ℕ) → covering_held u (spans_of arena.now) ≤ 1 }
 {
@@ -30,7 +30,7 @@ fn known<D: Deed>(arena: &Arena<D>)
 /// A span is added, or is back.
 fn add<D: Deed>(arena: &mut Arena<D>, deed: D) -> Result<(), SpanFault<D>>
     ensures added { AddSpanOf arena.old deed (D.holding deed) result arena.new }
-    ensures sound { IsSound arena.new }
+    ensures sound { IsSoundArena arena.new }
     ensures kept { KeepsSetup arena.old arena.new }
     ensures imported { arena.new.imported ≡ arena.old.imported }
 {
@@ -41,7 +41,7 @@ fn add<D: Deed>(arena: &mut Arena<D>, deed: D) -> Result<(), SpanFault<D>>
 fn carve<D: Deed>(arena: &mut Arena<D>, request: &Request) -> Result<Segment<D>, ArenaFault>
     ensures carved { CarveOf arena.old request.now result arena.new }
     ensures exact { IsAnsweredExactly arena.old request.now result }
-    ensures sound { IsSound arena.new }
+    ensures sound { IsSoundArena arena.new }
     ensures kept { KeepsSetup arena.old arena.new }
     ensures spans { (arena.new.owned ≡ arena.old.owned)
         × (arena.new.imported ≡ arena.old.imported) }
@@ -70,7 +70,7 @@ fn import<D: Deed>(
 ) -> Result<Segment<D>, SpanFault<Segment<D>>>
     requires span { IsImportFor arena.old.quantum span request.now }
     ensures carved { ImportOf arena.old span request.now result arena.new }
-    ensures sound { IsSound arena.new × KeepsSetup arena.old arena.new }
+    ensures sound { IsSoundArena arena.new × KeepsSetup arena.old arena.new }
     ensures owned { arena.new.owned ≡ arena.old.owned }
     ensures imported { OnOk result (Gains arena.old.imported arena.new.imported span) }
     ensures gains { IfOk result (Gains (tags_of arena.old) (tags_of arena.new)) }
@@ -86,7 +86,7 @@ fn free<D: Deed>(
 ) -> Result<Option<Segment<D>>, Segment<D>>
     ensures freed { FreeOf arena.old segment result arena.new }
     ensures counts { IfErr result (λ back. sum_by (one_at back) (tags_of arena.old) ≡ 0) }
-    ensures sound { IsSound arena.new × KeepsSetup arena.old arena.new }
+    ensures sound { IsSoundArena arena.new × KeepsSetup arena.old arena.new }
     ensures owned { arena.new.owned ≡ arena.old.owned }
     ensures loses { OnOk result (Loses (tags_of arena.old) (tags_of arena.new) segment) }
     ensures returned { IfOk result (λ back. (f : Tag → ℕ) → sum_by f arena.old.imported
@@ -105,7 +105,7 @@ fn free<D: Deed>(
 /// The lowest whole span is taken out.
 fn remove<D: Deed>(arena: &mut Arena<D>) -> Option<D>
     ensures removed { RemoveOf arena.old (option_map D.holding result) arena.new }
-    ensures sound { IsSound arena.new }
+    ensures sound { IsSoundArena arena.new }
     ensures kept { KeepsSetup arena.old arena.new }
     ensures imported { arena.new.imported ≡ arena.old.imported }
     ensures loses { IfSome result (λ deed.

@@ -2,7 +2,7 @@
 ghost use Rattle.std.specs.Prelude.{◌≡◌, ◌↔◌, [], Contains, IsOk, IfOk, IfSome, IfNone, OnOk};
 ghost use Rattle.deed_core.specs.Request.{Fits, plain_of};
 ghost use Rattle.deed_core.specs.Weights.{Gains, Loses, WeighSame};
-ghost use Rattle.slab_layer.specs.Cache.{IsSound, IsChunkOf, IsSpanFor, IsSpanOf, chunk_of};
+ghost use Rattle.slab_layer.specs.Cache.{IsSoundCache, IsChunkOf, IsSpanFor, IsSpanOf, chunk_of};
 ghost use Rattle.slab_layer.specs.Cache.{chunks_out};
 ghost use Rattle.slab_layer.specs.Cache.{span_tags};
 ghost use Rattle.slab_layer.specs.Calls.{IsAlike, TakeOf, PutOf, AddOf, ReapOf};
@@ -13,7 +13,7 @@ use std::process::Abort;
 
 /// What is known of any cache, as one taken from behind a lock.
 fn known<D: Deed>(cache: &SlabCache<D>)
-    ensures { IsSound cache.now }
+    ensures { IsSoundCache cache.now }
 {
     let _ = cache.arena();
 }
@@ -21,7 +21,7 @@ fn known<D: Deed>(cache: &SlabCache<D>)
 /// A chunk is taken: it serves an unconstrained request for just k quanta.
 fn take<D: Deed>(cache: &mut SlabCache<D>) -> Option<Segment<D>>
     ensures taken { TakeOf cache.old result cache.new }
-    ensures sound { IsSound cache.new × IsAlike cache.old cache.new }
+    ensures sound { IsSoundCache cache.new × IsAlike cache.old cache.new }
     ensures chunk { IfSome result (λ t. IsChunkOf cache.old t) }
     ensures out { IfSome result (λ t. Gains (chunks_out cache.old) (chunks_out cache.new) t) }
     ensures spans { span_tags cache.new ≡ span_tags cache.old }
@@ -45,7 +45,7 @@ fn take_fitting<D: Deed>(cache: &mut SlabCache<D>) -> Option<Segment<D>>
 /// A chunk comes home, or is back.
 fn put<D: Deed>(cache: &mut SlabCache<D>, chunk: Segment<D>) -> Result<(), PutFault<Segment<D>>>
     ensures put { PutOf cache.old chunk result cache.new }
-    ensures sound { IsSound cache.new × IsAlike cache.old cache.new }
+    ensures sound { IsSoundCache cache.new × IsAlike cache.old cache.new }
     ensures mine { IsOk result ↔ Contains (chunks_out cache.old) chunk }
     ensures out { OnOk result (Loses (chunks_out cache.old) (chunks_out cache.new) chunk) }
     ensures spans { span_tags cache.new ≡ span_tags cache.old }
@@ -60,7 +60,7 @@ fn add<D: Deed>(
 ) -> Result<Segment<D>, AddFault<Segment<D>>>
     requires span { IsSpanFor cache.old span }
     ensures added { AddOf cache.old span result cache.new }
-    ensures sound { IsSound cache.new × IsAlike cache.old cache.new }
+    ensures sound { IsSoundCache cache.new × IsAlike cache.old cache.new }
     ensures chunk { IfOk result (λ t. IsChunkOf cache.old t) }
     ensures out { IfOk result (λ t. Gains (chunks_out cache.old) (chunks_out cache.new) t) }
     ensures spans { OnOk result (Gains (span_tags cache.old) (span_tags cache.new) span) }
@@ -71,7 +71,7 @@ fn add<D: Deed>(
 /// A slab is reaped; where none is and no chunk is out, no slab is left.
 fn reap<D: Deed>(cache: &mut SlabCache<D>) -> Option<Segment<D>>
     ensures reaped { ReapOf cache.old result cache.new }
-    ensures sound { IsSound cache.new × IsAlike cache.old cache.new }
+    ensures sound { IsSoundCache cache.new × IsAlike cache.old cache.new }
     ensures span { IfSome result (λ t. IsSpanOf cache.old t) }
     ensures out { WeighSame (chunks_out cache.old) (chunks_out cache.new) }
     ensures spans { IfSome result (λ t. Loses (span_tags cache.old) (span_tags cache.new) t) }

@@ -8,7 +8,7 @@ use deed_table::{Ground, Name};
 use lease_proto::{
     ChildLine, LeaseLine, LeaseOptions, Line, Op, PolicyWord, Reply, RootLine, SetupLine,
 };
-use lease_terms::{ClientId, Name as ArenaName, Ordinal, Quantity, RequestId};
+use lease_terms::{ArenaName, ClientId, Ordinal, Quantity, RequestId};
 use lease_threads::{Cpu, OpenGate, System};
 use std::alloc::AllocGlobal;
 use std::marker::Brand;

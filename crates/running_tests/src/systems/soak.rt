@@ -6,7 +6,7 @@ use arena_tree::Setup;
 use deed_table::{Ground, Name};
 use lease_client::{Client, HeldSegment};
 use lease_proto::{LeaseLine, LeaseOptions, Line, Op, ReleaseLine, Reply};
-use lease_terms::{ClientId, Name as ArenaName, Quantity};
+use lease_terms::{ArenaName, ClientId, Quantity};
 use lease_threads::{Cpu, OpenGate, RequestStopped, System};
 use std::alloc::AllocGlobal;
 use std::marker::Brand;

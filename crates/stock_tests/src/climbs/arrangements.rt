@@ -8,7 +8,7 @@ ghost use Rattle.local_parts.specs.States.{tree_of};
 
 use arena_tree::{NewChild, NewRoot, Setting, Setup, Tree, TreeArena};
 use deed_core::{Deed, PlainDeed, Range, Segment};
-use lease_terms::Name;
+use lease_terms::ArenaName;
 use local_parts::CpuCaches;
 use std::alloc::Global;
 use std::process::Abort;
@@ -29,8 +29,8 @@ pub(super) struct Walk<D: Deed> {
     pub(super) steps: u64,
 }
 
-fn name(rt: &impl Abort, text: &str) -> Name {
-    match Name::new(text.as_bytes()) {
+fn name(rt: &impl Abort, text: &str) -> ArenaName {
+    match ArenaName::new(text.as_bytes()) {
         Some(name) => name,
         None => panic!(rt; "no name"),
     }

@@ -1,5 +1,5 @@
 use Rattle.std.proofs.Common.{◌≡◌, ap, length, Err}
-use Rattle.arena_tree.specs.Climbs.{Climbed, climb_plan, climb_most}
+use Rattle.arena_tree.specs.Climbs.{ClimbEnd, climb_plan, climb_most}
 use Rattle.arena_tree.specs.Tags.{tag_climb}
 use Rattle.arena_tree.specs.declared.part_faults.ClimbFault.TheVariants as climbing
 use Rattle.arena_tree.proofs.Paths.{ran_counts, ran_posts}
@@ -12,4 +12,4 @@ returns-clause-few g c = ran_counts _ _ _ _ (climb_most (length c.args.chain.now
 
 pub returns-clause-refused : goal.returns-clause-refused
 returns-clause-refused g c is =
-    ran_posts _ _ _ _ (λ (r : Climbed). r ≡ Err climbing.BadRequest → c.args.size ≡ 0) (climb_plan c.args.chain.now c.args.size) _ _ _ c.climb.ensures.ran (climb_bad _ _ _ c.requires.chain) (ap (tag_climb g.S.Held.tag) is)
+    ran_posts _ _ _ _ (λ (r : ClimbEnd). r ≡ Err climbing.BadRequest → c.args.size ≡ 0) (climb_plan c.args.chain.now c.args.size) _ _ _ c.climb.ensures.ran (climb_bad _ _ _ c.requires.chain) (ap (tag_climb g.S.Held.tag) is)

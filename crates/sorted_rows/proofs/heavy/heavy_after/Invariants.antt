@@ -1,13 +1,13 @@
 use Rattle.std.proofs.Common.{◌≡◌, ◌-◌, length, drop}
 use Rattle.std.specs.List.{find}
-use Rattle.sorted_rows.specs.Layout.{flat}
+use Rattle.sorted_rows.specs.Layout.{entries_in}
 use Rattle.sorted_rows.specs.Weights.{weighs}
 use Rattle.sorted_rows.proofs.heavy.heavy_after.Given as goal
 
 abbrev pub invariant-loop-seat : goal.invariant-loop-seat
 invariant-loop-seat g l = record {
   same : l.rows ≡ l.initial.rows;
-  found : find (weighs (g.T.RowEntry.weight l.measure) l.least) (flat (drop l.from l.initial.rows)) ≡ find (weighs (g.T.RowEntry.weight l.measure) l.least) (flat (drop l.seat l.initial.rows));
+  found : find (weighs (g.T.RowEntry.weight l.measure) l.least) (entries_in (drop l.from l.initial.rows)) ≡ find (weighs (g.T.RowEntry.weight l.measure) l.least) (entries_in (drop l.seat l.initial.rows));
 }
 
 abbrev pub decreases-loop-seat : goal.decreases-loop-seat

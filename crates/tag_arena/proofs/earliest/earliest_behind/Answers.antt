@@ -2,7 +2,7 @@ use Rattle.std.proofs.Common.{ℕ, ◌+◌, ◌*◌, ◌^◌, ◌<◌, ◌≡◌
 use Rattle.deed_core.specs.Holding.{Holding}
 use Rattle.deed_core.specs.Request.{rounding_of}
 use Rattle.sorted_rows.specs.Order.{Rises}
-use Rattle.sorted_rows.specs.Weights.{heavy_from}
+use Rattle.sorted_rows.specs.Weights.{first_heavy_from}
 use Rattle.tag_arena.specs.Place.{ServesIn}
 use Rattle.tag_arena.specs.FreeTags.{ranges_by_age}
 use Rattle.tag_arena.specs.Orders.{rank_of, weight_of, entry_of}
@@ -26,7 +26,7 @@ tag-requires g c =
     let rises = subst (Rises rank_of) same c.first_weighing.ensures.rises in
     let from : ℕ = c.loop-entry.from in
     let e = c.in-Some.entry in
-    let met = subst (λ l. heavy_from rank_of (weight_of Length) (from * 2 ^ 64 + 0) c.args.units l ≡ Some e) same (sym c.first_weighing.ensures.first ∙ c.in-Some.is) in
+    let met = subst (λ l. first_heavy_from rank_of (weight_of Length) (from * 2 ^ 64 + 0) c.args.units l ≡ Some e) same (sym c.first_weighing.ensures.first ∙ c.in-Some.is) in
     let first = is_heavy rank_of (weight_of Length) (from * 2 ^ 64 + 0) c.args.units items rises e met in
     let w = m.from e (first.place, first.within, first.here) in
     (w.0, w.1)
@@ -42,7 +42,7 @@ returns-in-Some-least_in-clause-least g c =
     let rises = subst (Rises rank_of) same c.first_weighing.ensures.rises in
     let from : ℕ = c.loop-entry.from in
     let e = c.in-Some.entry in
-    let met = subst (λ l. heavy_from rank_of (weight_of Length) (from * 2 ^ 64 + 0) c.args.units l ≡ Some e) same (sym c.first_weighing.ensures.first ∙ c.in-Some.is) in
+    let met = subst (λ l. first_heavy_from rank_of (weight_of Length) (from * 2 ^ 64 + 0) c.args.units l ≡ Some e) same (sym c.first_weighing.ensures.first ∙ c.in-Some.is) in
     let first = is_heavy rank_of (weight_of Length) (from * 2 ^ 64 + 0) c.args.units items rises e met in
     let w = m.from e (first.place, first.within, first.here) in
     let t = c.tag.result in
@@ -81,7 +81,7 @@ loop-entry-smaller g c =
     let rises = subst (Rises rank_of) same c.first_weighing.ensures.rises in
     let from : ℕ = c.loop-entry.from in
     let e = c.in-Some.entry in
-    let met = subst (λ l. heavy_from rank_of (weight_of Length) (from * 2 ^ 64 + 0) c.args.units l ≡ Some e) same (sym c.first_weighing.ensures.first ∙ c.in-Some.is) in
+    let met = subst (λ l. first_heavy_from rank_of (weight_of Length) (from * 2 ^ 64 + 0) c.args.units l ≡ Some e) same (sym c.first_weighing.ensures.first ∙ c.in-Some.is) in
     let first = is_heavy rank_of (weight_of Length) (from * 2 ^ 64 + 0) c.args.units items rises e met in
     let w = m.from e (first.place, first.within, first.here) in
     let t = c.tag.result in
@@ -110,7 +110,7 @@ loop-entry-preserved g c =
     let rises = subst (Rises rank_of) same c.first_weighing.ensures.rises in
     let from : ℕ = c.loop-entry.from in
     let e = c.in-Some.entry in
-    let met = subst (λ l. heavy_from rank_of (weight_of Length) (from * 2 ^ 64 + 0) c.args.units l ≡ Some e) same (sym c.first_weighing.ensures.first ∙ c.in-Some.is) in
+    let met = subst (λ l. first_heavy_from rank_of (weight_of Length) (from * 2 ^ 64 + 0) c.args.units l ≡ Some e) same (sym c.first_weighing.ensures.first ∙ c.in-Some.is) in
     let first = is_heavy rank_of (weight_of Length) (from * 2 ^ 64 + 0) c.args.units items rises e met in
     let w = m.from e (first.place, first.within, first.here) in
     let t = c.tag.result in
@@ -138,6 +138,6 @@ returns-clause-least g c =
     let units = c.requires.units in
     let same = ap (λ s. s.items) c.loop-entry.invariant.kept in
     let rises = subst (Rises rank_of) same c.first_weighing.ensures.rises in
-    let none = subst (λ l. heavy_from rank_of (weight_of Length) (from * 2 ^ 64 + 0) c.args.units l ≡ None) same (sym c.first_weighing.ensures.first ∙ c.in_default.is) in
+    let none = subst (λ l. first_heavy_from rank_of (weight_of Length) (from * 2 ^ 64 + 0) c.args.units l ≡ None) same (sym c.first_weighing.ensures.first ∙ c.in_default.is) in
     earliest_none (ranges_by_age tags) (all_ranges c.requires.tags.0 tags c.requires.tags.1) c.requires.apart c.args.quantum c.args.request.now c.args.start from c.loop-entry.invariant.below
     (λ r h low. let short = light_behind c.args.units from c.requires.tags.0 items tags c.requires.mirrors rises c.requires.tags.1 none r h low in omega (arith, short, units))

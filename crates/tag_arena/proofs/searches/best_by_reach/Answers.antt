@@ -1,6 +1,6 @@
 use Rattle.std.proofs.Common.{Contains, ◌≡◌, ℕ, ◌+◌, ◌*◌, ◌^◌, ◌<◌, ◌≤◌, Some, None, refl, sym, ap, ◌∙◌, subst, arith}
 use Rattle.sorted_rows.specs.Order.{Rises}
-use Rattle.sorted_rows.specs.Weights.{heavy_from}
+use Rattle.sorted_rows.specs.Weights.{first_heavy_from}
 use Rattle.tag_arena.specs.Place.{ServesIn}
 use Rattle.tag_arena.specs.FreeTags.{FreeTag, tag_at, ranges_by_age}
 use Rattle.tag_arena.specs.Orders.{rank_of, weight_of, entry_of}
@@ -32,7 +32,7 @@ tag-requires d c =
     let rises = subst (Rises rank_of) same c.first_weighing.ensures.rises in
     let key : ℕ = c.loop-entry.major * 2 ^ 64 + c.loop-entry.minor in
     let e = c.in-Some.entry in
-    let found = subst (λ l. heavy_from rank_of (weight_of (Reach g)) key c.args.units l ≡ Some e) same (sym c.first_weighing.ensures.first ∙ c.in-Some.is) in
+    let found = subst (λ l. first_heavy_from rank_of (weight_of (Reach g)) key c.args.units l ≡ Some e) same (sym c.first_weighing.ensures.first ∙ c.in-Some.is) in
     let heavy = is_heavy rank_of (weight_of (Reach g)) key c.args.units items rises e found in
     let w = m.from e (heavy.place, heavy.within, heavy.here) in
     (w.0, w.1)
@@ -49,7 +49,7 @@ returns-in-Some-least_in-clause-choice d c =
     let rises = subst (Rises rank_of) same c.first_weighing.ensures.rises in
     let key : ℕ = c.loop-entry.major * 2 ^ 64 + c.loop-entry.minor in
     let e = c.in-Some.entry in
-    let found = subst (λ l. heavy_from rank_of (weight_of (Reach g)) key c.args.units l ≡ Some e) same (sym c.first_weighing.ensures.first ∙ c.in-Some.is) in
+    let found = subst (λ l. first_heavy_from rank_of (weight_of (Reach g)) key c.args.units l ≡ Some e) same (sym c.first_weighing.ensures.first ∙ c.in-Some.is) in
     let heavy = is_heavy rank_of (weight_of (Reach g)) key c.args.units items rises e found in
     let w = m.from e (heavy.place, heavy.within, heavy.here) in
     let t = c.tag.result in
@@ -92,7 +92,7 @@ loop-entry-smaller d c =
     let rises = subst (Rises rank_of) same c.first_weighing.ensures.rises in
     let key : ℕ = c.loop-entry.major * 2 ^ 64 + c.loop-entry.minor in
     let e = c.in-Some.entry in
-    let found = subst (λ l. heavy_from rank_of (weight_of (Reach g)) key c.args.units l ≡ Some e) same (sym c.first_weighing.ensures.first ∙ c.in-Some.is) in
+    let found = subst (λ l. first_heavy_from rank_of (weight_of (Reach g)) key c.args.units l ≡ Some e) same (sym c.first_weighing.ensures.first ∙ c.in-Some.is) in
     let heavy = is_heavy rank_of (weight_of (Reach g)) key c.args.units items rises e found in
     let w = m.from e (heavy.place, heavy.within, heavy.here) in
     let t = c.tag.result in
@@ -118,7 +118,7 @@ loop-entry-preserved d c =
     let rises = subst (Rises rank_of) same c.first_weighing.ensures.rises in
     let key : ℕ = c.loop-entry.major * 2 ^ 64 + c.loop-entry.minor in
     let e = c.in-Some.entry in
-    let found = subst (λ l. heavy_from rank_of (weight_of (Reach g)) key c.args.units l ≡ Some e) same (sym c.first_weighing.ensures.first ∙ c.in-Some.is) in
+    let found = subst (λ l. first_heavy_from rank_of (weight_of (Reach g)) key c.args.units l ≡ Some e) same (sym c.first_weighing.ensures.first ∙ c.in-Some.is) in
     let heavy = is_heavy rank_of (weight_of (Reach g)) key c.args.units items rises e found in
     let w = m.from e (heavy.place, heavy.within, heavy.here) in
     let t = c.tag.result in
@@ -163,5 +163,5 @@ returns-clause-choice d c =
       some = rounded_some q.size c.args.quantum c.requires.good.size;
       room = c.requires.good.nocross;
     } in
-    let none = subst (λ l. heavy_from rank_of (weight_of (Reach g)) key c.args.units l ≡ None) same (sym c.first_weighing.ensures.first ∙ c.in_default.is) in
+    let none = subst (λ l. first_heavy_from rank_of (weight_of (Reach g)) key c.args.units l ≡ None) same (sym c.first_weighing.ensures.first ∙ c.in_default.is) in
     none_reached c.args.quantum q c.args.units g c.requires.units grid items tags m rises c.requires.tags.0 are key c.loop-entry.invariant.served none

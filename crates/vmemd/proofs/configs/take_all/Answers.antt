@@ -3,7 +3,7 @@ use Rattle.std.proofs.lemmas.List.{append-nil}
 use Rattle.std.proofs.lemmas.Result.{err_from_is_err_and}
 use Rattle.std.specs.Io.KnownBytes.{Consumes}
 use Rattle.std.proofs.KnownBytes.{Consumes-nil, Consumes-trans}
-use Rattle.lease_proto.specs.Frames.{last_of}
+use Rattle.lease_proto.specs.Frames.{frames_of_rest}
 use Rattle.lease_proto.specs.declared.faults.LineFault.{LineFault}
 use Rattle.lease_proto.specs.SetupLines.{setup_of}
 use Rattle.lease_server.specs.Intakes.{IntakeState, hand_in}
@@ -106,12 +106,12 @@ returns-then-not-branch-clause-err g c =
     let all : Consumes unread left input =
     subst (λ l. Consumes unread left l) (ap (λ l. input ++ l) nothing ∙ append-nil input) (Consumes-trans _ _ _ input piece read consumes) in
     let fails : ScriptFault → Type 0 = ConfigFails g.S.SetupBuilder.takes g.S.SetupBuilder.refuses g.S.SetupBuilder.can c.args.setup.now unread left c.loop-line.setup in
-    let ends : ScriptFault → Type 0 = λ (fault : ScriptFault). (why : LineFault) × (fault ≡ Setup c.loop-line.number (Line why)) × (last_of c.begun.result.now ≡ Err why ∷ []) in
+    let ends : ScriptFault → Type 0 = λ (fault : ScriptFault). (why : LineFault) × (fault ≡ Setup c.loop-line.number (Line why)) × (frames_of_rest c.begun.result.now ≡ Err why ∷ []) in
     at_err c.refuse_unended.result ends fails
     (λ (fault : ScriptFault) (e : ends fault).
     subst fails (sym e.1)
     (unended_refused g.S.SetupBuilder.takes g.S.SetupBuilder.refuses c.args.setup.now c.loop-line.setup unread left input front setup c.loop-line.number e.0 all is_end counted one
-    (subst (λ l. last_of l ≡ Err e.0 ∷ []) line e.2)))
+    (subst (λ l. frames_of_rest l ≡ Err e.0 ∷ []) line e.2)))
     c.refuse_unended.ensures.err
 
 pub loop-line-smaller : goal.loop-line-smaller

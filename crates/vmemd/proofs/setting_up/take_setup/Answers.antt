@@ -3,7 +3,7 @@ use Rattle.std.proofs.lemmas.List.{append-nil}
 use Rattle.std.proofs.lemmas.Result.{err_from_is_err_and}
 use Rattle.std.specs.Io.KnownBytes.{Consumes}
 use Rattle.std.proofs.KnownBytes.{Consumes-nil, Consumes-trans}
-use Rattle.lease_proto.specs.Frames.{last_of}
+use Rattle.lease_proto.specs.Frames.{frames_of_rest}
 use Rattle.lease_proto.specs.SetupLines.{setup_of, begins_setup}
 use Rattle.lease_server.specs.Intakes.{IntakeState, hand_in}
 use Rattle.lease_server.specs.Watching.{inner_of, has_failed, reads_of}
@@ -111,7 +111,7 @@ returns-in_err-refuse_rest-in-None-clause-err g c =
     let all : Consumes unread left input =
     subst (λ l. Consumes unread left l) (ap (λ l. input ++ l) nothing ∙ append-nil input) (Consumes-trans _ _ _ input piece read consumes) in
     rw (p.1, p.2, is) (refused_rest g.S.SetupBuilder.takes g.S.SetupBuilder.refuses c.args.setup.now c.loop-line.setup unread left
-    input front setup c.loop-line.number why all is_end counted one (subst (λ l. last_of l ≡ Err why ∷ []) line last) (ap begins_setup (sym line) ∙ begins))
+    input front setup c.loop-line.number why all is_end counted one (subst (λ l. frames_of_rest l ≡ Err why ∷ []) line last) (ap begins_setup (sym line) ∙ begins))
 
 pub returns-then-not-branch-clause-ok : goal.returns-then-not-branch-clause-ok
 returns-then-not-branch-clause-ok g c =

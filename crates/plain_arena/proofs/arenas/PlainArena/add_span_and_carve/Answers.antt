@@ -3,7 +3,7 @@ use Rattle.deed_core.specs.Extent.{Extent, IsRange}
 use Rattle.deed_core.specs.Tag.{Tag}
 use Rattle.deed_core.specs.Request.{rounding_of}
 use Rattle.deed_core.specs.declared.requests.Request.{Request}
-use Rattle.tag_arena.specs.ArenaState.{ArenaState, IsSound, OnQuantum}
+use Rattle.tag_arena.specs.ArenaState.{ArenaState, IsSoundArena, OnQuantum}
 use Rattle.tag_arena.specs.Calls.{IsClear}
 use Rattle.tag_arena.proofs.Granting.{units_are, rounded_some, rounded_multiple}
 use Rattle.tag_arena.proofs.Importing.{imports}
@@ -17,7 +17,7 @@ import-requires-clause-whole g c =
     let q : Request = c.args.request.now in
     let t : Tag = c.args.span in
     let n : ℕ = c.unwrap-len.result in
-    let sound : IsSound old = subst IsSound c.self.view_is c.self.invariant.0 in
+    let sound : IsSoundArena old = subst IsSoundArena c.self.view_is c.self.invariant.0 in
     let n_is : n ≡ rounding_of old.quantum q.size = units_are c.units.result _ _ n c.units.ensures c.unwrap-len.ensures ∙ ap (λ (s : ArenaState). rounding_of s.quantum q.size) c.self.view_is in
     ap (λ k. k % old.quantum) n_is ∙ rounded_multiple q.size old.quantum (power_some old.quantum sound.divided.power)
 
@@ -27,7 +27,7 @@ returns-in-Ok-clause-sound g c =
     let q : Request = c.args.request.now in
     let t : Tag = c.args.span in
     let n : ℕ = c.unwrap-len.result in
-    let sound : IsSound old = subst IsSound c.self.view_is c.self.invariant.0 in
+    let sound : IsSoundArena old = subst IsSoundArena c.self.view_is c.self.invariant.0 in
     let n_is : n ≡ rounding_of old.quantum q.size = units_are c.units.result _ _ n c.units.ensures c.unwrap-len.ensures ∙ ap (λ (s : ArenaState). rounding_of s.quantum q.size) c.self.view_is in
     let range : IsRange t.holding.range = subst IsRange c.range-range.ensures.value c.range-range.ensures.range in
     let fits = subst (λ (e : Extent). IsClear old e × OnQuantum old.quantum e) c.range-range.ensures.value (c.if-has_overlap.ensures.clear, c.if-not-is_aligned.ensures.0 refl) in
@@ -42,7 +42,7 @@ returns-in-Ok-clause-gains g c =
     let q : Request = c.args.request.now in
     let t : Tag = c.args.span in
     let n : ℕ = c.unwrap-len.result in
-    let sound : IsSound old = subst IsSound c.self.view_is c.self.invariant.0 in
+    let sound : IsSoundArena old = subst IsSoundArena c.self.view_is c.self.invariant.0 in
     let n_is : n ≡ rounding_of old.quantum q.size = units_are c.units.result _ _ n c.units.ensures c.unwrap-len.ensures ∙ ap (λ (s : ArenaState). rounding_of s.quantum q.size) c.self.view_is in
     let range : IsRange t.holding.range = subst IsRange c.range-range.ensures.value c.range-range.ensures.range in
     let fits = subst (λ (e : Extent). IsClear old e × OnQuantum old.quantum e) c.range-range.ensures.value (c.if-has_overlap.ensures.clear, c.if-not-is_aligned.ensures.0 refl) in
@@ -57,7 +57,7 @@ returns-in-Ok-clause-covering g c =
     let q : Request = c.args.request.now in
     let t : Tag = c.args.span in
     let n : ℕ = c.unwrap-len.result in
-    let sound : IsSound old = subst IsSound c.self.view_is c.self.invariant.0 in
+    let sound : IsSoundArena old = subst IsSoundArena c.self.view_is c.self.invariant.0 in
     let n_is : n ≡ rounding_of old.quantum q.size = units_are c.units.result _ _ n c.units.ensures c.unwrap-len.ensures ∙ ap (λ (s : ArenaState). rounding_of s.quantum q.size) c.self.view_is in
     let range : IsRange t.holding.range = subst IsRange c.range-range.ensures.value c.range-range.ensures.range in
     let fits = subst (λ (e : Extent). IsClear old e × OnQuantum old.quantum e) c.range-range.ensures.value (c.if-has_overlap.ensures.clear, c.if-not-is_aligned.ensures.0 refl) in

@@ -2,7 +2,7 @@ use Rattle.std.proofs.Common.{◌≡◌, ℕ, ◌++◌, List, remove, None, sym,
 use Rattle.std.specs.FinMap as finmap
 use Rattle.deed_core.specs.Holding.{Holding}
 use Rattle.plain_arena.specs.declared.choices.Found.{Found}
-use Rattle.tag_arena.specs.ArenaState.{ArenaState, IsSound}
+use Rattle.tag_arena.specs.ArenaState.{ArenaState, IsSoundArena}
 use Rattle.tag_arena.specs.Calls.{part, rests, after_carve}
 use Rattle.tag_arena.proofs.Allocations.{len_more}
 use Rattle.tag_arena.proofs.Sounding.{the_state}
@@ -36,7 +36,7 @@ invariant_of-self-in_default g c =
     let tags = undone c.self.inside.tags c.insert.new.self c.remove.new.self c.new-piece.result.range.base c.new-piece.result absent_here c.in_ok-insert.ensures.ok c.remove.ensures in
     let free : c.carve.new.free.items ≡ c.self.inside.free.items = c.in_default.ensures.unchanged ∙ c.reserve_free.ensures.items in
     let len = ap finmap.len tags in (
-      subst IsSound (sym (as_it_was a _ _ free tags)) c.self.invariant.0,
+      subst IsSoundArena (sym (as_it_was a _ _ free tags)) c.self.invariant.0,
       omega (arith, len, c.carve.ensures.len, c.carve.ensures.capacity, c.in_ok-reserve_free.ensures.room),
     )
 

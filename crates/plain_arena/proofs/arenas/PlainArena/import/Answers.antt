@@ -3,7 +3,7 @@ use Rattle.std.specs.FinMap as finmap
 use Rattle.deed_core.specs.Extent.{IsRange, end_of}
 use Rattle.deed_core.specs.Holding.{Holding}
 use Rattle.deed_core.specs.Tag.{Tag}
-use Rattle.tag_arena.specs.ArenaState.{ArenaState, IsSound}
+use Rattle.tag_arena.specs.ArenaState.{ArenaState, IsSoundArena}
 use Rattle.tag_arena.specs.Calls.{part, rest_between, after_import, after_carve, first_units}
 use Rattle.tag_arena.proofs.Allocations.{len_more}
 use Rattle.tag_arena.proofs.Granting.{as_it_was, undone, stands}
@@ -43,7 +43,7 @@ invariant_of-self-in-Err g c =
     let tags = undone c.self.inside.tags c.insert.new.self c.remove.new.self c.new-first.result.range.base c.new-first.result absent_here c.in-Ok-insert.ensures.ok c.remove.ensures in
     let same = ap (λ (xs : List Tag). record a { imported = xs; free = c.reserve_free.new.free.items; allocated = c.remove.new.self }) c.reserve.ensures.items ∙ as_it_was a _ _ c.reserve_free.ensures.items tags in
     let len = ap finmap.len tags in
-    (subst IsSound (sym same) c.self.invariant.0, omega (arith, len, c.in-Ok-reserve_free.ensures.room))
+    (subst IsSoundArena (sym same) c.self.invariant.0, omega (arith, len, c.in-Ok-reserve_free.ensures.room))
 
 pub returns-in-Err-clause-unchanged : goal.returns-in-Err-clause-unchanged
 returns-in-Err-clause-unchanged g c =

@@ -2,7 +2,7 @@ use Rattle.std.proofs.Common.{◌≡◌, ℕ, subst, ap, ◌∙◌}
 use Rattle.deed_core.specs.Request.{rounding_of}
 use Rattle.deed_core.specs.declared.requests.Request.{Request}
 use Rattle.plain_arena.specs.declared.choices.Found.{Found}
-use Rattle.tag_arena.specs.ArenaState.{ArenaState, IsSound}
+use Rattle.tag_arena.specs.ArenaState.{ArenaState, IsSoundArena}
 use Rattle.tag_arena.proofs.Granting.{units_are}
 use Rattle.tag_arena.proofs.Carrying.{found_carved, found_sound, found_gains, found_covers}
 use Rattle.plain_arena.proofs.Scanned.{found_at, found_cuttable}
@@ -14,7 +14,7 @@ carve_found-requires g c =
     let q : Request = c.args.request.now in
     let f : Found = c.in_ok-found.found in
     let n : ℕ = c.unwrap-len.result in
-    let sound : IsSound old = subst IsSound c.self.view_is c.self.invariant.0 in
+    let sound : IsSoundArena old = subst IsSoundArena c.self.view_is c.self.invariant.0 in
     let n_is : n ≡ rounding_of old.quantum q.size = units_are c.units.result _ _ n c.units.ensures c.unwrap-len.ensures ∙ ap (λ (s : ArenaState). rounding_of s.quantum q.size) c.self.view_is in
     found_cuttable old q f n sound c.in_ok-found.ensures.good c.in_ok-found.ensures.placed n_is
 
@@ -24,7 +24,7 @@ returns-clause-carved g c =
     let q : Request = c.args.request.now in
     let f : Found = c.in_ok-found.found in
     let n : ℕ = c.unwrap-len.result in
-    let sound : IsSound old = subst IsSound c.self.view_is c.self.invariant.0 in
+    let sound : IsSoundArena old = subst IsSoundArena c.self.view_is c.self.invariant.0 in
     let n_is : n ≡ rounding_of old.quantum q.size = units_are c.units.result _ _ n c.units.ensures c.unwrap-len.ensures ∙ ap (λ (s : ArenaState). rounding_of s.quantum q.size) c.self.view_is in
     found_carved old q (found_at f) n sound c.in_ok-found.ensures.good c.in_ok-found.ensures.chosen c.in_ok-found.ensures.placed n_is c.carve_found.new.self c.in_ok-carve_found.ensures.carved c.in_ok-carve_found.field-0 c.in_ok-carve_found.ensures.segment c.in_ok-carve_found.ensures.range
 
@@ -34,7 +34,7 @@ returns-clause-sound g c =
     let q : Request = c.args.request.now in
     let f : Found = c.in_ok-found.found in
     let n : ℕ = c.unwrap-len.result in
-    let sound : IsSound old = subst IsSound c.self.view_is c.self.invariant.0 in
+    let sound : IsSoundArena old = subst IsSoundArena c.self.view_is c.self.invariant.0 in
     let n_is : n ≡ rounding_of old.quantum q.size = units_are c.units.result _ _ n c.units.ensures c.unwrap-len.ensures ∙ ap (λ (s : ArenaState). rounding_of s.quantum q.size) c.self.view_is in
     found_sound old q (found_at f) n sound c.in_ok-found.ensures.good c.in_ok-found.ensures.chosen c.in_ok-found.ensures.placed n_is c.carve_found.new.self c.in_ok-carve_found.ensures.carved c.in_ok-carve_found.field-0 c.in_ok-carve_found.ensures.segment c.in_ok-carve_found.ensures.range
 
@@ -44,7 +44,7 @@ returns-clause-gains g c =
     let q : Request = c.args.request.now in
     let f : Found = c.in_ok-found.found in
     let n : ℕ = c.unwrap-len.result in
-    let sound : IsSound old = subst IsSound c.self.view_is c.self.invariant.0 in
+    let sound : IsSoundArena old = subst IsSoundArena c.self.view_is c.self.invariant.0 in
     let n_is : n ≡ rounding_of old.quantum q.size = units_are c.units.result _ _ n c.units.ensures c.unwrap-len.ensures ∙ ap (λ (s : ArenaState). rounding_of s.quantum q.size) c.self.view_is in
     found_gains old q (found_at f) n sound c.in_ok-found.ensures.good c.in_ok-found.ensures.chosen c.in_ok-found.ensures.placed n_is c.carve_found.new.self c.in_ok-carve_found.ensures.carved c.in_ok-carve_found.field-0 c.in_ok-carve_found.ensures.segment c.in_ok-carve_found.ensures.range
 
@@ -54,6 +54,6 @@ returns-clause-covering g c =
     let q : Request = c.args.request.now in
     let f : Found = c.in_ok-found.found in
     let n : ℕ = c.unwrap-len.result in
-    let sound : IsSound old = subst IsSound c.self.view_is c.self.invariant.0 in
+    let sound : IsSoundArena old = subst IsSoundArena c.self.view_is c.self.invariant.0 in
     let n_is : n ≡ rounding_of old.quantum q.size = units_are c.units.result _ _ n c.units.ensures c.unwrap-len.ensures ∙ ap (λ (s : ArenaState). rounding_of s.quantum q.size) c.self.view_is in
     found_covers old q (found_at f) n sound c.in_ok-found.ensures.good c.in_ok-found.ensures.chosen c.in_ok-found.ensures.placed n_is c.carve_found.new.self c.in_ok-carve_found.ensures.carved c.in_ok-carve_found.field-0 c.in_ok-carve_found.ensures.segment c.in_ok-carve_found.ensures.range

@@ -1,5 +1,5 @@
 use Rattle.std.proofs.Common.{◌≡◌, true, false, refl, ◌∙◌, sym, subst}
-use Rattle.slab_layer.specs.Cache.{SlabCacheState, IsSound}
+use Rattle.slab_layer.specs.Cache.{SlabCacheState, IsSoundCache}
 use Rattle.slab_layer.specs.Calls.{IsChunk}
 use Rattle.slab_layer.proofs.SoundLemmas.{made_puts, sound_puts}
 use Rattle.slab_layer.proofs.MoveLemmas.{puts_out, puts_kept, puts_spans}
@@ -46,7 +46,7 @@ here g c =
 
 pub returns-then-is_home-clause-mine : goal.returns-then-is_home-clause-mine
 returns-then-is_home-clause-mine g c =
-    let sound = subst (λ (x : SlabCacheState). IsSound x) c.self.view_is c.self.invariant in
+    let sound = subst (λ (x : SlabCacheState). IsSoundCache x) c.self.view_is c.self.invariant in
     (λ e. cc, λ has. absurd (never_both _ _ sound (out_is_chunk _ _ has) (here g c)))
 
 pub returns-then-is_home-clause-put : goal.returns-then-is_home-clause-put
@@ -76,7 +76,7 @@ returns-clause-put g c =
 pub invariant_of-self : goal.invariant_of-self
 invariant_of-self g c =
     let puts = returns-clause-put g c in
-    sound_puts _ _ _ _ _ _ puts.3 (subst (λ (x : SlabCacheState). IsSound x) c.self.view_is c.self.invariant)
+    sound_puts _ _ _ _ _ _ puts.3 (subst (λ (x : SlabCacheState). IsSoundCache x) c.self.view_is c.self.invariant)
 
 pub returns-clause-sound : goal.returns-clause-sound
 returns-clause-sound g c = invariant_of-self g c

@@ -3,7 +3,7 @@ use Rattle.deed_core.specs.Holding.{Holding}
 use Rattle.deed_core.specs.Tag.{Tag}
 use Rattle.deed_core.specs.declared.segments.Route.TheVariants.{Direct}
 use Rattle.slab_layer.specs.Slab.{SlabState, IsComplete}
-use Rattle.slab_layer.specs.Cache.{SlabCacheState, IsSound}
+use Rattle.slab_layer.specs.Cache.{SlabCacheState, IsSoundCache}
 use Rattle.slab_layer.proofs.SearchLemmas.{same_slab}
 use Rattle.slab_layer.proofs.SoundLemmas.{of_size, made_reaps, sound_reaps}
 use Rattle.slab_layer.proofs.MoveLemmas.{slab_of_size, reaps_out, reaps_kept, reaps_spans}
@@ -25,7 +25,7 @@ returns-clause-reaped g c =
 pub invariant_of-self : goal.invariant_of-self
 invariant_of-self g c =
     let reaps = returns-clause-reaped g c in
-    sound_reaps _ _ _ _ _ reaps.2 (subst (λ (x : SlabCacheState). IsSound x) c.self.view_is c.self.invariant)
+    sound_reaps _ _ _ _ _ reaps.2 (subst (λ (x : SlabCacheState). IsSoundCache x) c.self.view_is c.self.invariant)
 
 pub returns-clause-sound : goal.returns-clause-sound
 returns-clause-sound g c = invariant_of-self g c
@@ -42,7 +42,7 @@ returns-clause-alike g c = let reaps = returns-clause-reaped g c in alike _ _ _ 
 pub returns-clause-span : goal.returns-clause-span
 returns-clause-span g c =
     let reaps = returns-clause-reaped g c in
-    reaps_span _ _ _ _ _ reaps.2 (subst (λ (x : SlabCacheState). IsSound x) c.self.view_is c.self.invariant)
+    reaps_span _ _ _ _ _ reaps.2 (subst (λ (x : SlabCacheState). IsSoundCache x) c.self.view_is c.self.invariant)
 
 pub returns-clause-out : goal.returns-clause-out
 returns-clause-out g c = let reaps = returns-clause-reaped g c in reaps_out _ _ _ _ _ reaps.2
@@ -50,7 +50,7 @@ returns-clause-out g c = let reaps = returns-clause-reaped g c in reaps_out _ _ 
 pub returns-clause-deeds : goal.returns-clause-deeds
 returns-clause-deeds g c =
     let reaps = returns-clause-reaped g c in
-    let sound = subst (λ (x : SlabCacheState). IsSound x) c.self.view_is c.self.invariant in
+    let sound = subst (λ (x : SlabCacheState). IsSoundCache x) c.self.view_is c.self.invariant in
     reaps_kept _ _ _ _ _ reaps.2 (slab_of_size _ _ sound (of_size _ _ _ sound reaps.2.lowest.stands))
 
 pub returns-clause-spans : goal.returns-clause-spans

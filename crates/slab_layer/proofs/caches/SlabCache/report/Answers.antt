@@ -4,7 +4,7 @@ use Rattle.deed_core.specs.Covering.{units_held}
 use Rattle.deed_core.specs.Holding.{Holding}
 use Rattle.deed_core.proofs.LawProofs.{sum_by-flat_map}
 use Rattle.slab_layer.specs.Slab.{SlabState, idle_chunks_by, chunk_at, gap_of, tail_of}
-use Rattle.slab_layer.specs.Cache.{SlabCacheState, IsSound, idle_deeds, gaps, tails}
+use Rattle.slab_layer.specs.Cache.{SlabCacheState, IsSoundCache, idle_deeds, gaps, tails}
 use Rattle.slab_layer.proofs.ReportLemmas.{spans_fit, kept_units, tiled, once}
 use Rattle.slab_layer.proofs.caches.SlabCache.report.Goals as goal
 
@@ -37,7 +37,7 @@ returns-clause-deeds g c =
     omega (arith, idle, gap, tail, kept_units c.args.self.now)
 
 pub returns-clause-tiled : goal.returns-clause-tiled
-returns-clause-tiled g c = tiled c.args.self.now (subst (λ (x : SlabCacheState). IsSound x) c.self.view_is c.self.invariant)
+returns-clause-tiled g c = tiled c.args.self.now (subst (λ (x : SlabCacheState). IsSoundCache x) c.self.view_is c.self.invariant)
 
 pub returns-clause-once : goal.returns-clause-once
-returns-clause-once g c = once c.args.self.now (subst (λ (x : SlabCacheState). IsSound x) c.self.view_is c.self.invariant)
+returns-clause-once g c = once c.args.self.now (subst (λ (x : SlabCacheState). IsSoundCache x) c.self.view_is c.self.invariant)

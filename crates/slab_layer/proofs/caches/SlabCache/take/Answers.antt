@@ -2,7 +2,7 @@ use Rattle.std.proofs.Common.{◌∙◌, ap, subst}
 use Rattle.deed_core.specs.Holding.{Holding}
 use Rattle.deed_core.specs.Tag.{Tag}
 use Rattle.deed_core.specs.declared.segments.Route.TheVariants.{Cached}
-use Rattle.slab_layer.specs.Cache.{SlabCacheState, IsSound}
+use Rattle.slab_layer.specs.Cache.{SlabCacheState, IsSoundCache}
 use Rattle.slab_layer.proofs.SoundLemmas.{made_takes, sound_takes}
 use Rattle.slab_layer.proofs.MoveLemmas.{takes_out, takes_kept, takes_spans}
 use Rattle.slab_layer.proofs.ChunkLemmas.{alike, takes_chunk}
@@ -17,7 +17,7 @@ returns-clause-taken g c =
 pub invariant_of-self : goal.invariant_of-self
 invariant_of-self g c =
     let takes = returns-clause-taken g c in
-    sound_takes _ _ _ _ _ _ takes.3 (subst (λ (x : SlabCacheState). IsSound x) c.self.view_is c.self.invariant)
+    sound_takes _ _ _ _ _ _ takes.3 (subst (λ (x : SlabCacheState). IsSoundCache x) c.self.view_is c.self.invariant)
 
 pub returns-clause-sound : goal.returns-clause-sound
 returns-clause-sound g c = invariant_of-self g c
@@ -28,7 +28,7 @@ returns-clause-alike g c = let takes = returns-clause-taken g c in alike _ _ _ _
 pub returns-clause-chunk : goal.returns-clause-chunk
 returns-clause-chunk g c =
     let takes = returns-clause-taken g c in
-    takes_chunk _ _ _ _ _ _ takes.3 (subst (λ (x : SlabCacheState). IsSound x) c.self.view_is c.self.invariant)
+    takes_chunk _ _ _ _ _ _ takes.3 (subst (λ (x : SlabCacheState). IsSoundCache x) c.self.view_is c.self.invariant)
 
 pub returns-clause-out : goal.returns-clause-out
 returns-clause-out g c = let takes = returns-clause-taken g c in takes_out _ _ _ _ _ _ takes.3

@@ -1,5 +1,5 @@
 use Rattle.std.proofs.Common.{rules, ◌≡◌, sym, subst, ap, [], ◌∷◌, ◌++◌, length, arith}
-use Rattle.slab_layer.specs.Cache.{IsSound}
+use Rattle.slab_layer.specs.Cache.{IsSoundCache}
 use Rattle.stock.specs.Stocks.{IsStock}
 use Rattle.stock.specs.Steps.{next_cache}
 use Rattle.stock.proofs.Moving.{opens}
@@ -53,4 +53,4 @@ invariant_of-self-2 g c =
     let more : c.push_reserved.new.self.items ≡ c.space.inside.caches.items ++ next_cache (record { arena = c.space.inside.arena; source = c.space.inside.source; caches = c.space.inside.caches.items }) c.args.slab_size c.args.rounds ∷ [] = search rules in
     let done = cache_done _ _ _ _ o c.push_reserved.new.self.items c.args.slab_size c.args.rounds more in
     let slab : c.new-slab.result ≡ (next_cache (record { arena = c.space.inside.arena; source = c.space.inside.source; caches = c.space.inside.caches.items }) c.args.slab_size c.args.rounds).slab = search rules in
-    cache_keeps _ _ _ _ o c.push_reserved.new.self.items c.args.slab_size c.args.rounds more c.requires.rounds (subst IsSound slab c.arena.ensures.sound) (subst IsStock c.self.view_is c.self.invariant)
+    cache_keeps _ _ _ _ o c.push_reserved.new.self.items c.args.slab_size c.args.rounds more c.requires.rounds (subst IsSoundCache slab c.arena.ensures.sound) (subst IsStock c.self.view_is c.self.invariant)

@@ -1,7 +1,7 @@
 use Rattle.std.proofs.Common.{◌≡◌, ℕ, List, None, Contains, AllPairs, sym, subst, ap, ◌∙◌}
 use Rattle.std.specs.FinMap as finmap
 use Rattle.deed_core.specs.Holding.{Holding, Apart}
-use Rattle.tag_arena.specs.ArenaState.{ArenaState, IsSound}
+use Rattle.tag_arena.specs.ArenaState.{ArenaState, IsSoundArena}
 use Rattle.tag_arena.specs.Calls.{part, after_carve}
 use Rattle.tag_arena.proofs.Allocations.{len_more}
 use Rattle.tag_arena.proofs.Granting.{as_it_was, undone, stands, carve_sound, carve_absent, none_whole}
@@ -50,7 +50,7 @@ invariant_of-self-in_default g c =
     let tags = undone c.self.inside.tags c.insert.new.self c.remove.new.self c.new-piece.result.range.base c.new-piece.result absent_here c.in_ok-insert.ensures.ok c.remove.ensures in
     let free : c.carve.new.self.ranges ≡ c.self.inside.free.ranges = ap (λ v. v.ranges) c.in_default.ensures.unchanged ∙ ap (λ v. v.ranges) c.reserve_free.ensures.rest in
     let len = ap finmap.len tags in (
-      subst IsSound (sym (as_it_was a _ _ free tags)) c.self.invariant.0,
+      subst IsSoundArena (sym (as_it_was a _ _ free tags)) c.self.invariant.0,
       backed_back c.self.inside.policy c.self.inside.free c.reserve_free.new.free c.reserve_free.ensures.rest c.carve.new.self _ _ c.reserve_free.ensures.grows c.in_default.ensures.unchanged len c.self.invariant.1,
     )
 

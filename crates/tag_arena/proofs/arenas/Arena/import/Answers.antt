@@ -4,7 +4,7 @@ use Rattle.std.specs.FinMap as finmap
 use Rattle.deed_core.specs.Extent.{IsRange, end_of}
 use Rattle.deed_core.specs.Holding.{Holding}
 use Rattle.deed_core.specs.Tag.{Tag}
-use Rattle.tag_arena.specs.ArenaState.{ArenaState, IsSound}
+use Rattle.tag_arena.specs.ArenaState.{ArenaState, IsSoundArena}
 use Rattle.tag_arena.specs.Calls.{part, rest_between, after_import, after_carve, first_units, IsClear}
 use Rattle.tag_arena.proofs.Allocations.{len_more}
 use Rattle.tag_arena.proofs.Granting.{as_it_was, undone, stands}
@@ -47,7 +47,7 @@ invariant_of-self-in-Err g c =
     let tags = undone c.self.inside.tags c.insert.new.self c.remove.new.self c.new-first.result.range.base c.new-first.result absent_here c.in-Ok-insert.ensures.ok c.remove.ensures in
     let same = ap (λ (xs : List Tag). record a { imported = xs; free = c.reserve_free.new.free.ranges; allocated = c.remove.new.self }) c.reserve.ensures.items ∙ as_it_was a _ _ (ap (λ v. v.ranges) c.reserve_free.ensures.rest) tags in
     let len = ap finmap.len tags in (
-      subst IsSound (sym same) c.self.invariant.0,
+      subst IsSoundArena (sym same) c.self.invariant.0,
       backed_back c.self.inside.policy c.self.inside.free c.reserve_free.new.free c.reserve_free.ensures.rest c.reserve_free.new.free _ _ c.reserve_free.ensures.grows refl len c.self.invariant.1,
     )
 
