@@ -82,9 +82,9 @@ are answered, is told by: vmemd script --help";
 const SCRIPT_HELP: &str = "\
 Answers the lines of standard input on standard output, one line at a time.
 
-A line is at most 255 bytes: words of a to z and 0 to 9 with one space between them, ended by a
-line feed. Words in capitals stand here for what you write. Numbers are decimal, without a leading
-zero, from 0 to 2^62. A name begins with a letter and has at most 16 characters.
+A line is at most 255 bytes before the line feed that ends it: words of a to z and 0 to 9 with one
+space between them. Words in capitals stand here for what you write. Numbers are decimal, without a
+leading zero, from 0 to 2^62. A name begins with a letter and has at most 16 characters.
 
 Setup lines come first, and print nothing. The first other line ends the setup, also an empty one;
 there are no comments. A setup line after that is answered by error word.
@@ -105,8 +105,9 @@ back in magazines of CPUs and in a depot, from which they are leased again.
 POLICY says which units a lease or a slab gets, of all free ones that fit it:
   best     the lowest in the shortest free range (measured whole), of equally short ones the lowest
            range
-  next     the lowest from the end of the lease given last, be it ended or not; where there is
-           none, the lowest of all. So numbers come round before they are used again
+  next     the lowest from the end of what the arena gave last, be it given back or not: a lease, a
+           slab or an import of another arena, but no chunk of a cache. Where there is none, and at
+           first, the lowest of all. So numbers come round before they are used again
   instant  for a lease with no option: a free range of 2^i quanta or more, but below 2^(i+1), is of
            kind i. The lease gets the front of the newest range of the least kind that has one and
            whose 2^i quanta are enough. Where no kind is so, and for a lease with an option, as best
@@ -118,9 +119,9 @@ Then the lines of clients. Clients C are 1 to 65536; I and N are 1 to 2^62:
                              doesn't know its I goes on to a greater one
   lease C I N NAME SIZE ..   its request N asks for SIZE units of arena NAME, with the options below
   release C I N NAME BASE    its request N gives back its whole lease that begins at BASE
-The requests of an incarnation count 1, 2, 3, .., leases and releases together. The last N, sent
-again, gets its first answer, whatever else the line says, and does nothing else. A new incarnation
-begins at 1 again.
+The requests of an incarnation count 1, 2, 3, .., leases and releases together. A client sends one
+at a time, and the next once it has the answer: the last N, sent again, gets its first answer,
+whatever else the line says, and does nothing else. A new incarnation begins at 1 again.
 
 The options of a lease, each at most once and in this order (in another, the line is answered by
 error badline, and its N isn't used). A lease is the LEN units from BASE on, in one span; LEN is
@@ -183,8 +184,9 @@ first of these that is so:
   toolong  there are more than 255 bytes
   badline  there is a space too many, another byte, or no line feed
   word     no line begins by its first word
-  badline  there are too few words or too many, one that is no name where a name stands, or an
-           option that is unknown, out of order, twice or without its number
+  badline  there are too few words or too many, one that is no name where a name stands, a POLICY
+           that is none of the three, or an option that is unknown, out of order, twice or without
+           its number
   number   a word isn't the number that stands there, or is out of its range
 
 A refused setup line ends the program with vmemd: line K: WORD, and nothing is written. WORD is the

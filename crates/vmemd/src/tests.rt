@@ -369,7 +369,7 @@ fn the_help_tells_the_limits(rt: HostRuntime) -> Result<(), Fail> {
     for limit in [
         format!(in alloc; "at most {LONGEST_LINE} bytes")?,
         format!(in alloc; "there are more than {LONGEST_LINE} bytes")?,
-        format!(in alloc; "zero, from 0 to 2^62.")?,
+        format!(in alloc; "leading zero, from 0 to 2^62.")?,
         format!(in alloc; "at most {LONGEST_NAME} characters")?,
         format!(in alloc; "at most {MOST_CACHES} of it")?,
         format!(in alloc; "Clients C are 1 to {LAST_CLIENT}; I and N are 1 to 2^62:")?,
