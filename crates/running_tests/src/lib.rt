@@ -5,8 +5,8 @@
 //! script (`running_rows`); `rows` has lines and their answers, asked of two CPUs in turn, and how
 //! a system ends; `gates` has requests that a gate holds or stops, in two threads; `orders` the
 //! steps of requests; `between` what is free between them; `repeats` which lines are settled and
-//! which come again; `soak` has four workers for ten seconds, after which no two leases overlap and each
-//! root comes back whole.
+//! which come again; `soak` has four workers for ten seconds, after which no two leases overlap and
+//! each root comes back whole.
 #![tactic(auto)]
 
 #[cfg(test)]
