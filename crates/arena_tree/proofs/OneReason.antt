@@ -1,7 +1,7 @@
 -- What is asked for is refused for one reason.
 use Rattle.std.proofs.Common.{◌≡◌, ℕ, ◌<◌, ◌≤◌, List, length, slice_get, Option, Some, None, refl, sym, subst, ◌∙◌, inl, inr, arith}
 use Rattle.deed_core.proofs.LawProofs.{slice_get_one}
-use Rattle.arena_tree.specs.declared.limits.TheConstants.{MOST_SPANS}
+use Rattle.arena_tree.specs.declared.limits.TheConstants.{MOST_SPANS, LONGEST_CHAIN}
 use Rattle.arena_tree.specs.declared.levels.Level.{Level}
 use Rattle.arena_tree.specs.declared.trees.TreeArena.{TreeArena}
 use Rattle.arena_tree.specs.declared.setups.OwnedSpan.{OwnedSpan}
@@ -34,13 +34,13 @@ no_source_there : (arenas : List TreeArena) (c : NewChild) → index_in c.source
 no_source_there arenas c none has = found has.0 (has.2).finds none
 
 -- a chain that takes one more isn't too long
-not_long : (arenas : List TreeArena) (c : NewChild) (id : ℕ) (up : List Level) → index_in c.source arenas ≡ Some id → ChainFrom arenas (Some id) up → 4 ≤ length up → HasSource arenas c → ⊥
+not_long : (arenas : List TreeArena) (c : NewChild) (id : ℕ) (up : List Level) → index_in c.source arenas ≡ Some id → ChainFrom arenas (Some id) up → LONGEST_CHAIN ≤ length up → HasSource arenas c → ⊥
 not_long arenas c id up finds chain long has =
     let short = (has.2).short in
     let same : has.0 ≡ id = one_index has.0 id (has.2).finds finds in
     let other : ChainFrom arenas (Some id) short.0 = subst (λ k. ChainFrom arenas (Some k) short.0) same short.1 in
     let one : up ≡ short.0 = chain_one arenas (Some id) up short.0 chain other in
-    let less : length up < 4 = subst (λ (ls : List Level). length ls < 4) (sym one) short.2 in
+    let less : length up < LONGEST_CHAIN = subst (λ (ls : List Level). length ls < LONGEST_CHAIN) (sym one) short.2 in
     omega (arith, long, less)
 
 -- an arena that imports is no root

@@ -4,6 +4,7 @@ use Rattle.std.specs.Int.{IsNextPowerOfTwo}
 use Rattle.std.proofs.Math.Nat.{mod_self}
 use Rattle.std.proofs.lemmas.Bool.{cases_lt}
 use Rattle.deed_core.proofs.LawProofs.{smaller_power_divides}
+use Rattle.arena_tree.specs.declared.limits.TheConstants.{MOST_CACHES}
 use Rattle.arena_tree.specs.Trees.{HasCaches}
 
 -- no power of two lies between 2^62 and twice that
@@ -17,5 +18,5 @@ slab_below n p low next some = elim (cases_lt (2 ^ 62) p) [
   | inr below ↦ omega (arith, below)
 ]
 
-pub slab_caches : (quantum most p : ℕ) → most % quantum ≡ 0 → most ≤ 16 * quantum → most ≢ 0 → 3 * most + 1 ≤ 2 ^ 62 → IsNextPowerOfTwo (3 * most + 1) p → HasCaches quantum most p
+pub slab_caches : (quantum most p : ℕ) → most % quantum ≡ 0 → most ≤ MOST_CACHES * quantum → most ≢ 0 → 3 * most + 1 ≤ 2 ^ 62 → IsNextPowerOfTwo (3 * most + 1) p → HasCaches quantum most p
 slab_caches quantum most p whole few some low next = (whole, few, ((λ none. absurd (some none)), λ _. next), slab_below (3 * most + 1) p low next (omega arith))

@@ -14,7 +14,7 @@ pub enum SetupFault {
     /// No arena has the source's name; or, for a span, no arena that imports nothing has the name.
     #[error("no arena has the name")]
     NoArena,
-    /// The source's chain has four arenas.
+    /// The source's chain has `LONGEST_CHAIN` arenas.
     #[error("the chain is too long")]
     ChainTooLong,
     /// The quantum is no power of two, or above the source's.

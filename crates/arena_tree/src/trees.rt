@@ -106,7 +106,7 @@ impl Tree {
         &self.arenas[id as usize]
     }
 
-    /// The arena of this number, its source, that one's source, and so on: four at most.
+    /// The arena of this number, its source, that one's source, and so on: `LONGEST_CHAIN` at most.
     pub fn chain(&self, id: u32) -> &[Level]
         requires { id < length self.now }
         ensures chain { ChainFrom self.now (Some id) result.now }

@@ -6,6 +6,7 @@ use Rattle.std.proofs.lemmas.List.Sums.{sum_by_push, sum_by-remove}
 use Rattle.std.proofs.lemmas.Bool.{eqb-true}
 use Rattle.deed_core.specs.Tag.{Tag}
 use Rattle.deed_core.specs.Weights.{Gains, Loses}
+use Rattle.lease_book.specs.declared.books.TheConstants.{MOST_LEASES}
 use Rattle.lease_book.specs.Receipts.{Kept, ReceiptState, IsEarned}
 use Rattle.lease_book.specs.Entry.{Settlement, Entry, Hello, Settled, Swept, Grant, Return, Refuse, kept_settlement}
 use Rattle.lease_book.specs.Account.{Lease, Account, number_of, is_lease, without_first, lease_of, granted_request, leases_after}
@@ -228,7 +229,7 @@ refuses old now id index why k r found fresh told is_kept is_receipt mark after 
 
 pub grants : (old now : BookState) (mid : List Account) (id : RequestId) (index : ℕ) (t : Tag) (terms : Terms) (k : Kept) (r : ReceiptState) → IsFound old id.client index
     → IsNew (account_in id.client old) id → IsRequestId id → IsRange t.holding.range × Fits terms.quantum terms.request t.holding.range.base t.holding.range.len
-    → length (account_in id.client old).leases < 1024 → k ≡ kept_settlement id.number (Grant t terms) → r ≡ receipt old id k → now.mark ≡ old.mark
+    → length (account_in id.client old).leases < MOST_LEASES → k ≡ kept_settlement id.number (Grant t terms) → r ≡ receipt old id k → now.mark ≡ old.mark
     → mid ≡ update_at old.accounts index (with_leases (λ ls. ls ++ lease_of id t ∷ []))
     → now.accounts ≡ update_at mid index (with_standing (record { incarnation = id.incarnation; kept = Some k })) → IsGranted old now id t terms r
 grants old now mid id index t terms k r found fresh told meets room is_kept is_receipt mark leased_mid after =
@@ -347,14 +348,14 @@ module _ (before old : BookState) (is : before ≡ old) (id : RequestId) (index 
       let refused = refuses before now id index why k r found_before fresh_before told is_kept is_receipt refl after in
       (goes_on (Settled id (Refuse why)) before now refused.entry had, subst (λ (b : BookState). IsRefused b now id why r) is refused)
 
-  pub granted_at : (mid accounts : List Account) (t : Tag) (terms : Terms) (k : Kept) (r : ReceiptState) → IsRange t.holding.range × Fits terms.quantum terms.request t.holding.range.base t.holding.range.len → length (account_in id.client old).leases < 1024
+  pub granted_at : (mid accounts : List Account) (t : Tag) (terms : Terms) (k : Kept) (r : ReceiptState) → IsRange t.holding.range × Fits terms.quantum terms.request t.holding.range.base t.holding.range.len → length (account_in id.client old).leases < MOST_LEASES
       → k ≡ kept_settlement id.number (Grant t terms) → r ≡ receipt before id k
       → mid ≡ update_at before.accounts index (with_leases (λ ls. ls ++ lease_of id t ∷ []))
       → accounts ≡ update_at mid index (with_standing (record { incarnation = id.incarnation; kept = Some k })) → HasHistory before
       → HasHistory (record { mark = before.mark; accounts = accounts }) × IsGranted old (record { mark = before.mark; accounts = accounts }) id t terms r
   granted_at mid accounts t terms k r meets room is_kept is_receipt leased_mid after had =
       let now : BookState = record { mark = before.mark; accounts = accounts } in
-      let room_before : length (account_in id.client before).leases < 1024 = subst (λ (b : BookState). length (account_in id.client b).leases < 1024) (sym is) room in
+      let room_before : length (account_in id.client before).leases < MOST_LEASES = subst (λ (b : BookState). length (account_in id.client b).leases < MOST_LEASES) (sym is) room in
       let granted = grants before now mid id index t terms k r found_before fresh_before told meets room_before is_kept is_receipt refl leased_mid after in
       (goes_on (Settled id (Grant t terms)) before now granted.entry had, subst (λ (b : BookState). IsGranted b now id t terms r) is granted)
 

@@ -2,6 +2,7 @@
 use Rattle.std.proofs.Common.{◌≡◌, ℕ, zero, suc, ◌+◌, ◌<◌, ◌≤◌, Bool, true, false, cond, List, [], ◌∷◌, length, All, nat_eq, refl, arith}
 use Rattle.std.specs.List.{AllByRecursion, IsDistinct}
 use Rattle.std.proofs.lemmas.Bool.{eqb-true, eqb-false, ne_eqb}
+use Rattle.lease_terms.specs.declared.values.TheConstants.{LAST_CLIENT}
 use Rattle.lease_terms.specs.Ranges.{IsClient}
 use Rattle.lease_book.specs.Account.{without_first}
 use Rattle.lease_book.proofs.EachLemmas.{each_without}
@@ -51,10 +52,10 @@ pigeons (suc n) ks apart below =
     let rest : length (without_first (nat_eq n) ks) ≤ n = pigeons n (without_first (nat_eq n) ks) (distinct-without (nat_eq n) ks apart) (below-without n ks apart below) in
     omega (arith, length-without (nat_eq n) ks)
 
-clients_below : (ks : List ℕ) → All IsClient ks → AllBelow 65537 ks
+clients_below : (ks : List ℕ) → All IsClient ks → AllBelow (suc LAST_CLIENT) ks
 clients_below [] all = tt
 clients_below (k ∷ ks) all =
-    let few : k ≤ 65536 = (all 0 0 (omega arith)).1 in
+    let few : k ≤ LAST_CLIENT = (all 0 0 (omega arith)).1 in
     (omega arith, clients_below ks (λ i d less. all (suc i) d (omega arith)))
 
 none_is_zero : (ks : List ℕ) → All IsClient ks → AllByRecursion (λ y. nat_eq 0 y ≡ false) ks
@@ -63,10 +64,10 @@ none_is_zero (k ∷ ks) all =
     let some : 1 ≤ k = (all 0 0 (omega arith)).0 in
     (ne_eqb 0 k (λ e. absurd (omega arith)), none_is_zero ks (λ i d less. all (suc i) d (omega arith)))
 
--- clients that are told apart are at most 65,536
-pub few_clients : (ks : List ℕ) → IsDistinct nat_eq ks → All IsClient ks → length ks ≤ 65536
+-- clients that are told apart are at most LAST_CLIENT
+pub few_clients : (ks : List ℕ) → IsDistinct nat_eq ks → All IsClient ks → length ks ≤ LAST_CLIENT
 unfolding IsDistinct
 few_clients ks apart all =
-    let below : AllBelow 65537 (0 ∷ ks) = (omega arith, clients_below ks all) in
-    let most : length (0 ∷ ks) ≤ 65537 = pigeons 65537 (0 ∷ ks) (none_is_zero ks all, apart) below in
+    let below : AllBelow (suc LAST_CLIENT) (0 ∷ ks) = (omega arith, clients_below ks all) in
+    let most : length (0 ∷ ks) ≤ suc LAST_CLIENT = pigeons (suc LAST_CLIENT) (0 ∷ ks) (none_is_zero ks all, apart) below in
     omega arith

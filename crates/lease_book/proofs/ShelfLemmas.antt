@@ -14,6 +14,7 @@ use Rattle.indexmap.proofs.CallerLemmas.{insert_entry-new}
 use Rattle.lease_book.proofs.Pigeons.{few_clients}
 use Rattle.lease_book.proofs.PlaceLemmas.{position-some, position-none}
 use Rattle.lease_terms.specs.Ranges.{IsClient}
+use Rattle.lease_book.specs.declared.books.TheConstants.{MOST_LEASES}
 use Rattle.lease_book.specs.Account.{Lease, Account, number_of}
 use Rattle.lease_book.specs.Reports.{report_of}
 use Rattle.lease_book.specs.Shelf.{account_with, accounts_of, IsShelf, IsEmptyBefore, update_at, standing_of, with_standing, with_leases}
@@ -133,13 +134,13 @@ shelf_write es ls i s shelf = record {
   limited = shelf.limited;
 }
 
-pub shelf_set : (es : List (ℕ × Standing)) (ls : List (List Lease)) (i : ℕ) (l : List Lease) → IsShelf es ls → length l ≤ 1024 → IsShelf es (set ls i l)
+pub shelf_set : (es : List (ℕ × Standing)) (ls : List (List Lease)) (i : ℕ) (l : List Lease) → IsShelf es ls → length l ≤ MOST_LEASES → IsShelf es (set ls i l)
 shelf_set es ls i l shelf small = record {
   together = shelf.together ∙ sym (length-set ls i l);
   clients = shelf.clients;
   apart = shelf.apart;
   few = shelf.few;
-  limited = All-set (λ (x : List Lease). length x ≤ 1024) ls i l small shelf.limited;
+  limited = All-set (λ (x : List Lease). length x ≤ MOST_LEASES) ls i l small shelf.limited;
 }
 
 pub shelf_push : (es : List (ℕ × Standing)) (ls : List (List Lease)) (c : ℕ) (s : Standing) → IsShelf es ls → IsClient c → IsDistinct nat_eq (keys_of (es ++ (c, s) ∷ []))
@@ -152,11 +153,11 @@ shelf_push es ls c s shelf client apart =
       clients = clients;
       apart = apart;
       few = omega (arith, few_clients (keys_of (es ++ (c, s) ∷ [])) apart clients, length-keys_of (es ++ (c, s) ∷ []));
-      limited = All-push (λ (x : List Lease). length x ≤ 1024) ls [] shelf.limited (omega arith);
+      limited = All-push (λ (x : List Lease). length x ≤ MOST_LEASES) ls [] shelf.limited (omega arith);
     }
 
-pub limited_at : (es : List (ℕ × Standing)) (ls : List (List Lease)) (i : ℕ) (l : List Lease) → IsShelf es ls → i < length ls → l ≡ get_or ls i l → length l ≤ 1024
-limited_at es ls i l shelf within at = subst (λ (x : List Lease). length x ≤ 1024) (sym at) (shelf.limited i l within)
+pub limited_at : (es : List (ℕ × Standing)) (ls : List (List Lease)) (i : ℕ) (l : List Lease) → IsShelf es ls → i < length ls → l ≡ get_or ls i l → length l ≤ MOST_LEASES
+limited_at es ls i l shelf within at = subst (λ (x : List Lease). length x ≤ MOST_LEASES) (sym at) (shelf.limited i l within)
 
 -- a fact of the leases at an index, said of the account there
 pub leases_there : (P : List Lease → Type 0) (es : List (ℕ × Standing)) (ls : List (List Lease)) (accounts : List Account) (i : ℕ) (l : List Lease) → accounts_of es ls ≡ accounts
@@ -184,7 +185,7 @@ pub set_same : (ls : List (List Lease)) (i : ℕ) (l m : List Lease) → l ≡ g
 set_same ls i l m at is = ap (set ls i) (is ∙ at) ∙ set-get_or ls i l
 
 -- a list that gained a lease, or none, is in the limit
-pub limited_after : {T E : Type 0} (r : Result T E) (l m : List Lease) (x : Lease) → length l < 1024 → OnOk r (m ≡ l ++ x ∷ []) → OnErr r (m ≡ l) → length m ≤ 1024
+pub limited_after : {T E : Type 0} (r : Result T E) (l m : List Lease) (x : Lease) → length l < MOST_LEASES → OnOk r (m ≡ l ++ x ∷ []) → OnErr r (m ≡ l) → length m ≤ MOST_LEASES
 limited_after (Ok t) l m x room ok err = omega (arith, ap length ok, length-append l (x ∷ []))
 limited_after (Err e) l m x room ok err = omega (arith, ap length err)
 

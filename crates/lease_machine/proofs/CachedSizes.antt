@@ -7,6 +7,7 @@ use Rattle.std.proofs.lemmas.Bool.Decides.{leb_tells}
 use Rattle.deed_core.specs.Request.{IsPlain, rounding_of}
 use Rattle.deed_core.specs.declared.requests.Request.{Request}
 use Rattle.deed_core.proofs.LawProofs.{rounds_up, power_some}
+use Rattle.arena_tree.specs.declared.limits.TheConstants.{MOST_CACHES}
 use Rattle.arena_tree.specs.declared.levels.Level.{Level}
 use Rattle.arena_tree.specs.declared.trees.TreeArena.{TreeArena}
 use Rattle.arena_tree.specs.Trees.{level_of}
@@ -31,7 +32,7 @@ one_more : (k quantum units : ℕ) → units ≡ k * quantum → 0 < units → (
 one_more zero quantum units is some = absurd (omega (arith, is, some))
 one_more (suc j) quantum units is some = (j, omega arith)
 
-module _ (index : ℕ) (x : TreeArena) (q : Request) (plain : IsPlain q) (some : 0 < q.size) (positive : 0 < x.quantum) (few : x.qcache_max ≤ 16 * x.quantum) where
+module _ (index : ℕ) (x : TreeArena) (q : Request) (plain : IsPlain q) (some : 0 < q.size) (positive : 0 < x.quantum) (few : x.qcache_max ≤ MOST_CACHES * x.quantum) where
   abbrev level : Level
   level = level_of index x
 
@@ -80,7 +81,7 @@ pub cached_by_number : CachedByNumber
 cached_by_number tree index x q is here plain some =
     let own = is.each index x here in
     let positive : 0 < x.quantum = power_some x.quantum own.power in
-    let few : x.qcache_max ≤ 16 * x.quantum = own.caches.1 in
+    let few : x.qcache_max ≤ MOST_CACHES * x.quantum = own.caches.1 in
     by_test index x q plain some positive few (is_cached (level_of index x) q.size) refl
     (elim (cases_lt x.qcache_max (rounding_of x.quantum q.size)) [
       | inl above ↦ inr above

@@ -3,7 +3,9 @@ use Rattle.std.proofs.Common.{◌≡◌, ◌⊎◌, ◌≤◌, ◌+◌, ◌-◌,
 use Rattle.std.proofs.lemmas.List.{take-take}
 use Rattle.std.specs.Io.KnownBytes.{Consumes, Keeps, IsAtEnd}
 use Rattle.std.proofs.KnownBytes.{Consumes-kept}
+use Rattle.lease_proto.specs.declared.limits.TheConstants.{LINE_ROOM}
 use Rattle.lease_proto.specs.Frames.{Frame, frames_in, rest_in, frames_of_rest}
+use Rattle.lease_server.specs.declared.intakes.TheConstants.{MOST_READS}
 use Rattle.lease_server.specs.Watching.{Streams}
 use Rattle.lease_server.specs.Intakes.{AtHand, IntakeState, hand_in, frames_at, begun_at, frames_on, frames_to_end, StopsReading}
 use Rattle.lease_server.specs.Serving.{SameFront, Writes, WritesBefore, Stops, ServesAll, ServeFails}
@@ -15,7 +17,7 @@ use Rattle.lease_server.proofs.IntakeLemmas.{frames_to_end-append}
 -- where nothing more came, the line begun is as it was
 pub last_front : (held after : AtHand) (piece : List ℕ) → after ≡ hand_in held.line piece → piece ≡ [] → SameFront after.line held.line
 last_front held after piece is none =
-    ap (λ h. take 256 h.line) (is ∙ ap (hand_in held.line) none) ∙ take-take 256 256 held.line (omega arith)
+    ap (λ h. take LINE_ROOM h.line) (is ∙ ap (hand_in held.line) none) ∙ take-take LINE_ROOM LINE_ROOM held.line (omega arith)
 
 module _ {S : Type 0} (may_answer : S → List ℕ → List ℕ → S → Type 0) where
   -- the lines at hand, of which serving ended early
@@ -56,14 +58,14 @@ module _ {S : Type 0} (may_answer : S → List ℕ → List ℕ → S → Type 0
       → Consumes old.unread unread input → Writes may_answer first (frames_on from.hand input) old.written new.written last
       → StopsReading held unread new.unread before new.reader_failed fault → before ≡ false → new.writer_failed ≡ false
       → held.ended ≡ from.ended → from.reads ≤ held.reads → held.reads ≤ from.reads + length input
-      → (held.reads ≤ after.reads) × (after.reads ≤ 2 ^ 40)
+      → (held.reads ≤ after.reads) × (after.reads ≤ MOST_READS)
       → reads ≡ min (old.reads + (held.reads - from.reads)) (2 ^ 64 - 1)
       → new.reads ≡ min (reads + (after.reads - held.reads)) (2 ^ 64 - 1)
       → ServeFails may_answer from old new first last fault
   read_fails from held after old new first last input unread before reads Read consumed writes stops works on still low gave bound counted now =
       (input, (sym still ∙ stops.1, Consumes-kept old.unread unread new.unread input consumed stops.0, writes), stops.2, on)
   read_fails from held after old new first last input unread before reads Turns consumed writes stops works on still low gave bound counted now =
-      let full : held.reads ≡ 2 ^ 40 = stops.3 in (
+      let full : held.reads ≡ MOST_READS = stops.3 in (
         input,
         (sym still ∙ stops.1, Consumes-kept old.unread unread new.unread input consumed stops.0, writes),
         stops.2 ∙ works,

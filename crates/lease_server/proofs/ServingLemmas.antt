@@ -3,6 +3,7 @@ use Rattle.std.proofs.Common.{◌≡◌, ℕ, List, [], ◌∷◌, ◌++◌, tak
 use Rattle.std.proofs.lemmas.List.{append-nil, take_all, take-take, take_rest}
 use Rattle.std.specs.Io.KnownBytes.{Consumes, IsAtEnd}
 use Rattle.std.proofs.KnownBytes.{Appends-trans, Consumes-all, Consumes-trans}
+use Rattle.lease_proto.specs.declared.limits.TheConstants.{LINE_ROOM}
 use Rattle.lease_proto.specs.Frames.{Frame, frames_in, rest_in, frames_of, frames_of_rest}
 use Rattle.lease_proto.specs.declared.faults.LineFault.{LineFault}
 use Rattle.lease_proto.specs.Faults.{error_line}
@@ -101,7 +102,7 @@ pub frames_in-same : (xs ys bs : List ℕ) → SameFront xs ys → frames_in xs 
 frames_in-same xs ys bs e = sym (frames_in-take xs bs) ∙ ap (λ l. frames_in l bs) e ∙ frames_in-take ys bs
 
 pub rest_in-same : (xs ys bs : List ℕ) → SameFront xs ys → SameFront (rest_in xs bs) (rest_in ys bs)
-rest_in-same xs ys bs e = sym (rest_in-take xs bs) ∙ ap (λ l. take 256 (rest_in l bs)) e ∙ rest_in-take ys bs
+rest_in-same xs ys bs e = sym (rest_in-take xs bs) ∙ ap (λ l. take LINE_ROOM (rest_in l bs)) e ∙ rest_in-take ys bs
 
 pub frames_of_rest-same : (xs ys : List ℕ) → SameFront xs ys → frames_of_rest xs ≡ frames_of_rest ys
 frames_of_rest-same xs ys e = sym (frames_of_rest-take xs) ∙ ap frames_of_rest e ∙ frames_of_rest-take ys
@@ -114,13 +115,13 @@ moves_front all done rest n e =
 
 -- the reader took all of the rest, and no line ended
 pub taken_on : (line cur new done rest : List ℕ) (n : ℕ) → SameFront cur (rest_in line done)
-    → (n ≡ length rest) × (frames_in cur rest ≡ []) × (new ≡ take 256 (rest_in cur rest))
+    → (n ≡ length rest) × (frames_in cur rest ≡ []) × (new ≡ take LINE_ROOM (rest_in cur rest))
     → SameFront new (rest_in line (done ++ take n rest)) × (frames_in line (done ++ take n rest) ≡ frames_in line done)
 taken_on line cur new done rest n same (all, frames, held) =
     let whole : take n rest ≡ rest = take_all n rest (omega arith) in
     let on : SameFront (rest_in cur rest) (rest_in (rest_in line done) rest) = rest_in-same cur (rest_in line done) rest same in (
-      ap (take 256) held ∙ take-take 256 256 (rest_in cur rest) (omega arith) ∙ on
-          ∙ ap (take 256) (sym (rest_in-append line done rest) ∙ ap (λ t. rest_in line (done ++ t)) (sym whole)),
+      ap (take LINE_ROOM) held ∙ take-take LINE_ROOM LINE_ROOM (rest_in cur rest) (omega arith) ∙ on
+          ∙ ap (take LINE_ROOM) (sym (rest_in-append line done rest) ∙ ap (λ t. rest_in line (done ++ t)) (sym whole)),
       ap (λ t. frames_in line (done ++ t)) whole ∙ frames_in-append line done rest
           ∙ ap (λ t. frames_in line done ++ t) (sym (frames_in-same cur (rest_in line done) rest same) ∙ frames) ∙ append-nil _,
     )
@@ -130,7 +131,7 @@ pub taken_one : (line cur done rest : List ℕ) (n : ℕ) (frame : Frame) → Sa
     → (frames_in cur (take n rest) ≡ frame ∷ []) × (rest_in cur (take n rest) ≡ [])
     → SameFront [] (rest_in line (done ++ take n rest)) × (frames_in line (done ++ take n rest) ≡ frames_in line done ++ frame ∷ [])
 taken_one line cur done rest n frame same (frames, none) = (
-  ap (take 256) (sym none) ∙ rest_in-same cur (rest_in line done) (take n rest) same ∙ ap (take 256) (sym (rest_in-append line done (take n rest))),
+  ap (take LINE_ROOM) (sym none) ∙ rest_in-same cur (rest_in line done) (take n rest) same ∙ ap (take LINE_ROOM) (sym (rest_in-append line done (take n rest))),
   frames_in-append line done (take n rest)
       ∙ ap (λ t. frames_in line done ++ t) (sym (frames_in-same cur (rest_in line done) (take n rest) same) ∙ frames),
 )
@@ -175,4 +176,4 @@ more_frames cur input piece same =
 pub more_rest : (new cur input piece : List ℕ) → SameFront cur (rest_in [] input) → SameFront new (rest_in cur piece)
     → SameFront new (rest_in [] (input ++ piece))
 more_rest new cur input piece same held =
-    held ∙ rest_in-same cur (rest_in [] input) piece same ∙ ap (take 256) (sym (rest_in-append [] input piece))
+    held ∙ rest_in-same cur (rest_in [] input) piece same ∙ ap (take LINE_ROOM) (sym (rest_in-append [] input piece))

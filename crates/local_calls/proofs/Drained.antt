@@ -126,7 +126,7 @@ module _ (arenas : List TreeArena) where
           subst (λ s. Keeps old s × ((j : ℕ) → c ≡ j + 1 → EmptyAt s.cpu k j)) rest.0 (first.0, λ j number row o at among. none j o number (reached_here m.spaces m.cpu is k j row o at among))
       turned m (Some (Err f)) first rest again = absurd (let e : Err (Some f) ≡ Ok tt = rest.1 in cc)
 
--- an arena has at most 16 caches, and each is looked at
+-- an arena has at most MOST_CACHES caches, and each is looked at
 quotient_most : (quantum most n : ℕ) → 0 < quantum → most ≤ n * quantum → most / quantum ≤ n
 quotient_most quantum most n some le = elim (cases_lt n (most / quantum)) [
   | inl less ↦

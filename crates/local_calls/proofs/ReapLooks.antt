@@ -2,6 +2,7 @@
 use Rattle.std.proofs.Common.{◌≡◌, ℕ, ◌+◌, ◌*◌, ◌-◌, ◌<◌, ◌≤◌, zero, suc, List, [], ◌∷◌, Option, Some, None, Result, Ok, Err, length, sym, ap, subst, ◌∙◌, arith}
 use Rattle.std.proofs.lemmas.List.{length-map}
 use Rattle.deed_core.specs.Tag.{Tag}
+use Rattle.arena_tree.specs.declared.limits.TheConstants.{MOST_CACHES}
 use Rattle.arena_tree.specs.declared.levels.Level.{Level}
 use Rattle.arena_tree.specs.declared.trees.TreeArena.{TreeArena}
 use Rattle.arena_tree.specs.declared.part_faults.FreeFault.{FreeFault}
@@ -164,7 +165,7 @@ module _ (arenas : List TreeArena) where
         omega (arith, first, rest, times)
 
   module _ (tree : IsTree arenas) where
-    pub arena_pays : (chain : List Level) → IsChain (nodes_of arenas) chain → (x y : Reaping) (old new : LocalState) → RunsTo arenas (reap_arena_plan chain x) old new (Ok y) → x.left + found new ≤ y.left + found old + 32
+    pub arena_pays : (chain : List Level) → IsChain (nodes_of arenas) chain → (x y : Reaping) (old new : LocalState) → RunsTo arenas (reap_arena_plan chain x) old new (Ok y) → x.left + found new ≤ y.left + found old + 2 * MOST_CACHES
     arena_pays [] is x y old new path =
         let same : found old ≡ found new = ap found path.0 in
         let left : x.left ≡ y.left = (let e : Ok x ≡ Ok y = path.1 in let d : x ≡ y = cc in ap (λ (r : Reaping). r.left) d) in
@@ -176,9 +177,9 @@ module _ (arenas : List TreeArena) where
         let few = few_caches arenas tree l.id here.0 here.1 in
         omega (arith, walk, count, few)
 
-    reap_pays : (limit : ℕ) (y : Reaping) (old new : LocalState) → RunsTo arenas (reap_plan arenas limit) old new (Ok y) → limit + found new ≤ y.left + found old + 32 * length arenas
+    reap_pays : (limit : ℕ) (y : Reaping) (old new : LocalState) → RunsTo arenas (reap_plan arenas limit) old new (Ok y) → limit + found new ≤ y.left + found old + 2 * MOST_CACHES * length arenas
     reap_pays limit y old new path =
-        arenas_pay 32 (λ id. reap_arena_plan (chain_in arenas id)) (length arenas) (λ id a b s t less run. arena_pays (chain_in arenas id) (tree_chain arenas tree id less).0 a b s t run)
+        arenas_pay (2 * MOST_CACHES) (λ id. reap_arena_plan (chain_in arenas id)) (length arenas) (λ id a b s t less run. arena_pays (chain_in arenas id) (tree_chain arenas tree id less).0 a b s t run)
         (record { left = limit; units = 0 }) y old new path
 
 pub reap_takes_few_looks : ReapTakesFewLooks

@@ -1,6 +1,7 @@
 -- How many locks an allocation takes.
 use Rattle.std.proofs.Common.{ℕ, ◌+◌, ◌-◌, ◌*◌, ◌≤◌, List, [], ◌∷◌, Option, Some, None, Result, Ok, Err, length, arith}
 use Rattle.deed_core.specs.Tag.{Tag}
+use Rattle.arena_tree.specs.declared.limits.TheConstants.{LONGEST_CHAIN}
 use Rattle.arena_tree.specs.declared.levels.Level.{Level}
 use Rattle.arena_tree.specs.declared.part_faults.ClimbFault.TheVariants as climbing
 use Rattle.arena_tree.specs.declared.part_faults.SwapFullFault.{SwapFullFault}
@@ -83,7 +84,7 @@ climb_after chain size n most some le = within_climb (λ (r : ClimbEnd). most) c
     fits (Err (climbing.Stuck t)) = omega arith
     fits (Err (climbing.Stopped o)) = omega arith
 
-within_cached : (chain : List Level) (l : Level) (cache n : ℕ) → 1 ≤ length chain → length chain ≤ 4 → Within (λ (r : ClimbEnd). 8 + 2 * length chain) (alloc_cached chain l cache n) 0
+within_cached : (chain : List Level) (l : Level) (cache n : ℕ) → 1 ≤ length chain → length chain ≤ LONGEST_CHAIN → Within (λ (r : ClimbEnd). 8 + 2 * length chain) (alloc_cached chain l cache n) 0
 unfolding alloc_cached
 within_cached chain l cache n some small =
     let most : ClimbEnd → ℕ = λ r. 8 + 2 * length chain in
@@ -93,7 +94,7 @@ within_cached chain l cache n some small =
     (λ k low. within_or_else most (slab_most k (length chain)) (take_from_slab chain l cache) _ k (within_slab chain l cache k some) (λ a. omega arith)
     (λ j top. climb_after chain n j (8 + 2 * length chain) some (omega arith)))))
 
-within_by : (o : Option ℕ) (chain : List Level) (l : Level) (n : ℕ) → 1 ≤ length chain → length chain ≤ 4 → Within (λ (r : ClimbEnd). 8 + 2 * length chain) (alloc_steps o chain l n) 0
+within_by : (o : Option ℕ) (chain : List Level) (l : Level) (n : ℕ) → 1 ≤ length chain → length chain ≤ LONGEST_CHAIN → Within (λ (r : ClimbEnd). 8 + 2 * length chain) (alloc_steps o chain l n) 0
 within_by None chain l n some small = climb_after chain n 0 (8 + 2 * length chain) some (omega arith)
 within_by (Some cache) chain l n some small = within_cached chain l cache n some small
 

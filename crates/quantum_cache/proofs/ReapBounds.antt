@@ -2,6 +2,7 @@
 use Rattle.std.proofs.Common.{ℕ, ◌+◌, ◌-◌, ◌*◌, ◌≤◌, zero, suc, List, [], ◌∷◌, Option, Some, None, Result, Ok, Err, length, arith}
 use Rattle.std.specs.Prelude.{slice_get}
 use Rattle.deed_core.specs.Tag.{Tag}
+use Rattle.arena_tree.specs.declared.limits.TheConstants.{LONGEST_CHAIN}
 use Rattle.arena_tree.specs.declared.levels.Level.{Level}
 use Rattle.arena_tree.specs.declared.part_faults.Stopped.{Stopped}
 use Rattle.arena_tree.specs.declared.trees.TreeArena.{TreeArena}
@@ -33,64 +34,64 @@ within_counted : {A : Type 0} (most : A → ℕ) (p : Plan A) (n : ℕ) → With
 within_counted most (Done a) n w = w
 within_counted most (Ask e g) n w = λ x. within_counted most (g x) (n + locks e) (w x)
 
--- five locks for each look
+-- one lock for each look, and those of a hand back
 abbrev Paid : ℕ → ReapEnd → ℕ → Type 0
-Paid limit r n = n + 5 * looks_left r ≤ 5 * limit
+Paid limit r n = n + (1 + LONGEST_CHAIN) * looks_left r ≤ (1 + LONGEST_CHAIN) * limit
 
 put_within : (t : Tag) (n : ℕ) → Within (λ (r : ReturnEnd). n + 1) (put_chunk t) n
 unfolding put_chunk
 put_within t n = λ x. omega arith
 
-within_reap_round : (arena cache n : ℕ) → Within (λ (a : LookEnd). n + 5) (reap_round arena cache) n
+within_reap_round : (arena cache n : ℕ) → Within (λ (a : LookEnd). n + (1 + LONGEST_CHAIN)) (reap_round arena cache) n
 unfolding reap_round
 within_reap_round arena cache n = taken
   where
-    taken : (x : Result (Option Tag) Stopped) → Within (λ (a : LookEnd). n + 5) (on_depot_reap x) (n + 1)
+    taken : (x : Result (Option Tag) Stopped) → Within (λ (a : LookEnd). n + (1 + LONGEST_CHAIN)) (on_depot_reap x) (n + 1)
     taken (Ok None) = omega arith
-    taken (Ok (Some t)) = within_then (λ (r : ReturnEnd). n + 1 + 1) (λ (a : LookEnd). n + 5) (put_chunk t) (λ r. Done (on_return 0 r)) (n + 1) (put_within t (n + 1)) (λ r m low. omega (arith, low))
+    taken (Ok (Some t)) = within_then (λ (r : ReturnEnd). n + 1 + 1) (λ (a : LookEnd). n + (1 + LONGEST_CHAIN)) (put_chunk t) (λ r. Done (on_return 0 r)) (n + 1) (put_within t (n + 1)) (λ r m low. omega (arith, low))
     taken (Err e) = omega arith
 
-within_reap_slab : (chain : List Level) (arena cache n : ℕ) → length chain ≤ 4 → Within (λ (a : LookEnd). n + 5) (reap_slab chain arena cache) n
+within_reap_slab : (chain : List Level) (arena cache n : ℕ) → length chain ≤ LONGEST_CHAIN → Within (λ (a : LookEnd). n + (1 + LONGEST_CHAIN)) (reap_slab chain arena cache) n
 unfolding reap_slab
 within_reap_slab chain arena cache n short = taken
   where
-    taken : (x : Result (Option Tag) Stopped) → Within (λ (a : LookEnd). n + 5) (on_slab_reap chain x) (n + 1)
+    taken : (x : Result (Option Tag) Stopped) → Within (λ (a : LookEnd). n + (1 + LONGEST_CHAIN)) (on_slab_reap chain x) (n + 1)
     taken (Ok None) = omega arith
     taken (Ok (Some t)) =
-        within_then (λ (r : ReturnEnd). n + 1 + length chain) (λ (a : LookEnd). n + 5) (return_plan chain t) (λ r. Done (on_return t.holding.range.len r)) (n + 1) (within_return (λ (r : ReturnEnd). n + 1 + length chain) chain t (n + 1) (λ r. omega arith)) (λ r m low. omega (arith, low, short))
+        within_then (λ (r : ReturnEnd). n + 1 + length chain) (λ (a : LookEnd). n + (1 + LONGEST_CHAIN)) (return_plan chain t) (λ r. Done (on_return t.holding.range.len r)) (n + 1) (within_return (λ (r : ReturnEnd). n + 1 + length chain) chain t (n + 1) (λ r. omega arith)) (λ r m low. omega (arith, low, short))
     taken (Err e) = omega arith
 
 module _ (limit : ℕ) where
-  paid_up_to : (p : Plan LookEnd) → ((n : ℕ) → Within (λ (a : LookEnd). n + 5) p n) → (left units n : ℕ) → n + 5 * left ≤ 5 * limit → Counted (Paid limit) (looks_in_turn p left units) n
+  paid_up_to : (p : Plan LookEnd) → ((n : ℕ) → Within (λ (a : LookEnd). n + (1 + LONGEST_CHAIN)) p n) → (left units n : ℕ) → n + (1 + LONGEST_CHAIN) * left ≤ (1 + LONGEST_CHAIN) * limit → Counted (Paid limit) (looks_in_turn p left units) n
   paid_up_to p look zero units n le = le
   paid_up_to p look (suc k) units n le =
-      counted_then (λ (a : LookEnd) (m : ℕ). m ≤ n + 5) (Paid limit) p (on_look (looks_in_turn p k) k units) n (within_counted (λ (a : LookEnd). n + 5) p n (look n)) (looked (λ sum m fits. paid_up_to p look k sum m fits))
+      counted_then (λ (a : LookEnd) (m : ℕ). m ≤ n + (1 + LONGEST_CHAIN)) (Paid limit) p (on_look (looks_in_turn p k) k units) n (within_counted (λ (a : LookEnd). n + (1 + LONGEST_CHAIN)) p n (look n)) (looked (λ sum m fits. paid_up_to p look k sum m fits))
     where
-      looked : ((sum m : ℕ) → m + 5 * k ≤ 5 * limit → Counted (Paid limit) (looks_in_turn p k sum) m) → (a : LookEnd) (m : ℕ) → m ≤ n + 5 → Counted (Paid limit) (on_look (looks_in_turn p k) k units a) m
+      looked : ((sum m : ℕ) → m + (1 + LONGEST_CHAIN) * k ≤ (1 + LONGEST_CHAIN) * limit → Counted (Paid limit) (looks_in_turn p k sum) m) → (a : LookEnd) (m : ℕ) → m ≤ n + (1 + LONGEST_CHAIN) → Counted (Paid limit) (on_look (looks_in_turn p k) k units a) m
       looked again (Ok (Some more)) m low = again (units + more) m (omega (arith, le, low))
       looked again (Ok None) m low = omega (arith, le, low)
       looked again (Err f) m low = omega (arith, le, low)
 
-  paid_if_ok : (next : Reaping → Plan ReapEnd) → ((r : Reaping) (n : ℕ) → n + 5 * r.left ≤ 5 * limit → Counted (Paid limit) (next r) n) → (a : ReapEnd) (n : ℕ) → Paid limit a n → Counted (Paid limit) (if_ok next a) n
+  paid_if_ok : (next : Reaping → Plan ReapEnd) → ((r : Reaping) (n : ℕ) → n + (1 + LONGEST_CHAIN) * r.left ≤ (1 + LONGEST_CHAIN) * limit → Counted (Paid limit) (next r) n) → (a : ReapEnd) (n : ℕ) → Paid limit a n → Counted (Paid limit) (if_ok next a) n
   paid_if_ok next w (Ok r) n le = w r n le
   paid_if_ok next w (Err f) n le = le
 
-  paid_cache : (chain : List Level) → length chain ≤ 4 → (arena cache : ℕ) (r : Reaping) (n : ℕ) → n + 5 * r.left ≤ 5 * limit → Counted (Paid limit) (reap_cache chain arena cache r) n
+  paid_cache : (chain : List Level) → length chain ≤ LONGEST_CHAIN → (arena cache : ℕ) (r : Reaping) (n : ℕ) → n + (1 + LONGEST_CHAIN) * r.left ≤ (1 + LONGEST_CHAIN) * limit → Counted (Paid limit) (reap_cache chain arena cache r) n
   unfolding reap_cache
   paid_cache chain short arena cache r n le =
       counted_then (Paid limit) (Paid limit) (reap_steps (reap_round arena cache) r) (if_ok (reap_steps (reap_slab chain arena cache))) n (paid_up_to (reap_round arena cache) (within_reap_round arena cache) r.left r.units n le)
       (paid_if_ok (reap_steps (reap_slab chain arena cache)) (λ x m fits. paid_up_to (reap_slab chain arena cache) (λ k. within_reap_slab chain arena cache k short) x.left x.units m fits))
 
-  module _ (each : ℕ → Reaping → Plan ReapEnd) (paid : (k : ℕ) (r : Reaping) (n : ℕ) → n + 5 * r.left ≤ 5 * limit → Counted (Paid limit) (each k r) n) where
-    paid_caches : (all k : ℕ) (r : Reaping) (n : ℕ) → n + 5 * r.left ≤ 5 * limit → Counted (Paid limit) (over_caches each all k r) n
+  module _ (each : ℕ → Reaping → Plan ReapEnd) (paid : (k : ℕ) (r : Reaping) (n : ℕ) → n + (1 + LONGEST_CHAIN) * r.left ≤ (1 + LONGEST_CHAIN) * limit → Counted (Paid limit) (each k r) n) where
+    paid_caches : (all k : ℕ) (r : Reaping) (n : ℕ) → n + (1 + LONGEST_CHAIN) * r.left ≤ (1 + LONGEST_CHAIN) * limit → Counted (Paid limit) (over_caches each all k r) n
     paid_caches all zero r n le = le
     paid_caches all (suc k) r n le = counted_then (Paid limit) (Paid limit) (each (all - k) r) (if_ok (over_caches each all k)) n (paid (all - k) r n le) (paid_if_ok (over_caches each all k) (paid_caches all k))
 
-    paid_arenas : (end : ℕ) (r : Reaping) (n : ℕ) → n + 5 * r.left ≤ 5 * limit → Counted (Paid limit) (over_arenas each end r) n
+    paid_arenas : (end : ℕ) (r : Reaping) (n : ℕ) → n + (1 + LONGEST_CHAIN) * r.left ≤ (1 + LONGEST_CHAIN) * limit → Counted (Paid limit) (over_arenas each end r) n
     paid_arenas zero r n le = le
     paid_arenas (suc id) r n le = counted_then (Paid limit) (Paid limit) (each id r) (if_ok (over_arenas each id)) n (paid id r n le) (paid_if_ok (over_arenas each id) (paid_arenas id))
 
-  paid_arena : (chain : List Level) → length chain ≤ 4 → (r : Reaping) (n : ℕ) → n + 5 * r.left ≤ 5 * limit → Counted (Paid limit) (reap_arena_plan chain r) n
+  paid_arena : (chain : List Level) → length chain ≤ LONGEST_CHAIN → (r : Reaping) (n : ℕ) → n + (1 + LONGEST_CHAIN) * r.left ≤ (1 + LONGEST_CHAIN) * limit → Counted (Paid limit) (reap_arena_plan chain r) n
   paid_arena [] short r n le = le
   paid_arena (l ∷ up) short r n le = paid_caches (reap_cache (l ∷ up) l.id) (paid_cache (l ∷ up) short l.id) (caches_in l) (caches_in l) r n le
 
@@ -105,10 +106,10 @@ short_up (suc n) arenas (Some id) = let le = short_on n (chain_up n arenas) id (
 
 pub reap_is_short : ReapIsShort
 reap_is_short arenas limit =
-    counted_within (Paid limit) (λ (r : ReapEnd). 5 * (limit - looks_left r)) (reap_plan arenas limit) 0 (λ r m le. omega (arith, le))
-    (paid_arenas limit (λ id. reap_arena_plan (chain_in arenas id)) (λ id. paid_arena limit (chain_in arenas id) (short_up 4 arenas (Some id))) (length arenas) (record { left = limit; units = 0 }) 0 (omega arith))
+    counted_within (Paid limit) (λ (r : ReapEnd). (1 + LONGEST_CHAIN) * (limit - looks_left r)) (reap_plan arenas limit) 0 (λ r m le. omega (arith, le))
+    (paid_arenas limit (λ id. reap_arena_plan (chain_in arenas id)) (λ id. paid_arena limit (chain_in arenas id) (short_up LONGEST_CHAIN arenas (Some id))) (length arenas) (record { left = limit; units = 0 }) 0 (omega arith))
 
 pub reap_arena_is_short : ReapArenaIsShort
 reap_arena_is_short chain limit short =
-    counted_within (Paid limit) (λ (r : ReapEnd). 5 * (limit - looks_left r)) (reap_arena_plan chain (record { left = limit; units = 0 })) 0 (λ r m le. omega (arith, le))
+    counted_within (Paid limit) (λ (r : ReapEnd). (1 + LONGEST_CHAIN) * (limit - looks_left r)) (reap_arena_plan chain (record { left = limit; units = 0 })) 0 (λ r m le. omega (arith, le))
     (paid_arena limit chain short (record { left = limit; units = 0 }) 0 (omega arith))

@@ -7,6 +7,7 @@ use Rattle.std.proofs.lemmas.List.Sums.{sum_by-cons}
 use Rattle.std.proofs.lemmas.Option.{slice_get_within}
 use Rattle.deed_core.specs.Holding.{Holding}
 use Rattle.deed_core.proofs.LawProofs.{all_at, sum_alike, sum_add, sum_none}
+use Rattle.arena_tree.specs.declared.limits.TheConstants.{MOST_ARENAS, MOST_SPANS}
 use Rattle.arena_tree.specs.declared.setups.OwnedSpan.{OwnedSpan}
 use Rattle.arena_tree.specs.Trees.{IsTree}
 use Rattle.arena_tree.specs.Settings.{SetupState, IsSetup, IsOwned, span_count}
@@ -59,7 +60,7 @@ below_all n (o ∷ spans) all =
     omega (arith, rest, yes, sum_by-cons (λ (x : OwnedSpan). is_below n x.arena) o spans)
 
 -- so the numbers of a setup's spans are numbers of roots
-pub few_spans : (s : SetupState) → IsTree s.arenas → IsSetup s → length s.spans ≤ 2097152
+pub few_spans : (s : SetupState) → IsTree s.arenas → IsSetup s → length s.spans ≤ MOST_ARENAS * MOST_SPANS
 few_spans s tree setup =
-    let all = below_all 32 s.spans (λ k o at. (let owner = all_at (IsOwned s.arenas) s.spans k o setup.owned at in omega (arith, slice_get_within s.arenas o.arena owner.0 owner.1.here, tree.few))) in
-    omega (arith, all, below_few 32 65536 s.spans setup.few)
+    let all = below_all MOST_ARENAS s.spans (λ k o at. (let owner = all_at (IsOwned s.arenas) s.spans k o setup.owned at in omega (arith, slice_get_within s.arenas o.arena owner.0 owner.1.here, tree.few))) in
+    omega (arith, all, below_few MOST_ARENAS MOST_SPANS s.spans setup.few)

@@ -2,6 +2,7 @@
 use Rattle.std.proofs.Common.{◌≡◌, ℕ, ◌≤◌, refl, sym, subst, ap, ◌∙◌, inl, inr, List, [], map, length, codes, Result, Ok, Err, OnErr, arith}
 use Rattle.magazine_layer.specs.Depots.{after_tick}
 use Rattle.arena_tree.specs.declared.trees.TreeArena.{TreeArena}
+use Rattle.lease_proto.specs.declared.limits.TheConstants.{LINE_ROOM}
 use Rattle.lease_proto.specs.Cpus.{IsCpu}
 use Rattle.lease_proto.specs.Faults.{error_text}
 use Rattle.lease_proto.specs.Reports.{ok_text}
@@ -21,7 +22,7 @@ use Rattle.stock_desk.specs.Operating.{StaysPicture, IsPerformed}
 use Rattle.stock_desk.specs.Supplies.{SupplyState, picture_with}
 use Rattle.stock_desk.proofs.BookMoves.{picture_of}
 
-pub error_short : (w : ErrorWord) → length (error_text w) ≤ 256
+pub error_short : (w : ErrorWord) → length (error_text w) ≤ LINE_ROOM
 error_short (word.Line fault.TooLong) = omega arith
 error_short (word.Line fault.BadLine) = omega arith
 error_short (word.Line fault.Word) = omega arith

@@ -9,6 +9,7 @@ use Rattle.lease_machine.specs.Picture.{NumberedCpu, Picture, SameSetup, is_cpu}
 use Rattle.lease_machine.specs.Operators.{ReapsSome}
 use Rattle.lease_machine.specs.Held.{IsHeld}
 use Rattle.lease_machine.proofs.LawProofs.{reap_reaps, reaps_none, reapings_add, cached_units_fit}
+use Rattle.arena_tree.specs.declared.limits.TheConstants.{MOST_ARENAS}
 use Rattle.stock_desk.specs.Operating.{IsReapedOnce, IsReapedSo}
 use Rattle.stock_desk.specs.Parts.{local_of}
 use Rattle.stock_desk.proofs.TakingFrom.{is_after, same_parts}
@@ -42,7 +43,7 @@ module _ (d e f : Picture) (units : ℕ) (r : Reaping) (so : IsReapedSoFar units
 
   pub units_fit : IsHeld [] d → units + r.units < 2 ^ 128
   units_fit held =
-      let few : length d.tree ≤ 32 = held.tree.few in
+      let few : length d.tree ≤ MOST_ARENAS = held.tree.few in
       omega (arith, both.units_are, cached_units_fit d held, few)
 
   pub all_reaped : 0 < r.left → IsReapedSo (units + r.units) d f

@@ -3,6 +3,7 @@ use Rattle.std.proofs.Common.{◌≡◌, ℕ, ◌+◌, Bool, Option, Some, None,
 use Rattle.std.proofs.lemmas.List.{append-nil, length-take}
 use Rattle.std.specs.Io.KnownBytes.{Consumes, IsAtEnd}
 use Rattle.std.proofs.KnownBytes.{Consumes-kept}
+use Rattle.lease_proto.specs.declared.limits.TheConstants.{LINE_ROOM}
 use Rattle.lease_proto.specs.declared.faults.LineFault.{LineFault}
 use Rattle.lease_proto.specs.Frames.{frames_of_rest, with_line_feed, IsOneLine}
 use Rattle.lease_proto.specs.declared.setup_lines.SetupLine.{SetupLine}
@@ -30,11 +31,11 @@ at_err (Ok x) P Q f p = tt
 at_err (Err e) P Q f p = f e p
 
 -- of which nothing is the front, there is nothing
-pub none_of_front : (bytes : List ℕ) → take 256 bytes ≡ [] → bytes ≡ []
+pub none_of_front : (bytes : List ℕ) → take LINE_ROOM bytes ≡ [] → bytes ≡ []
 none_of_front [] none = refl
 none_of_front (b ∷ bs) none =
-    let size = length-take 256 (b ∷ bs) in
-    let zero : length (take 256 (b ∷ bs)) ≡ 0 = ap length none in
+    let size = length-take LINE_ROOM (b ∷ bs) in
+    let zero : length (take LINE_ROOM (b ∷ bs)) ≡ 0 = ap length none in
     absurd (omega (arith, size, zero))
 
 module _ {S : Type 0} (takes : S → SetupLine → S → Type 0) (refuses : S → SetupLine → ConfigFault → Type 0) where
@@ -51,7 +52,7 @@ module _ {S : Type 0} (takes : S → SetupLine → S → Type 0) (refuses : S �
 
   -- the refusal of a line that the input ends in
   pub unended_refused : (first made : S) (unread left : Option (List ℕ)) (input front : List ℕ) (setup : SetsUp takes first input front made) (number : ℕ) (why : LineFault)
-      → Consumes unread left input → IsAtEnd left → number ≡ length setup.lines + 1 → IsOneLine front → frames_of_rest (take 256 front) ≡ Err why ∷ []
+      → Consumes unread left input → IsAtEnd left → number ≡ length setup.lines + 1 → IsOneLine front → frames_of_rest (take LINE_ROOM front) ≡ Err why ∷ []
       → IfSome unread (λ all. LineRefused takes refuses first all number (config.Line why) made)
   unended_refused first made None left input front setup number why read end counted one last = tt
   unended_refused first made (Some xs) None input front setup number why read end counted one last = absurd read
@@ -71,7 +72,7 @@ module _ {S : Type 0} (takes : S → SetupLine → S → Type 0) (refuses : S �
 module _ {S : Type 0} (takes : S → SetupLine → S → Type 0) (refuses : S → SetupLine → ConfigFault → Type 0) (can : S → SetupLine → Type 0) where
   pub line_not_taken : (first made last : S) (unread left : Option (List ℕ)) (input front line rest : List ℕ) (setup : SetsUp takes first input front made) (number : ℕ) (fault : ScriptFault)
       → Consumes unread left input → number ≡ length setup.lines + 1 → IsOneLine line → front ≡ with_line_feed line ++ rest
-      → last ≡ made → LineFails refuses can made number (setup_of (take 256 line)) fault → ConfigFails takes refuses can first unread left last fault
+      → last ≡ made → LineFails refuses can made number (setup_of (take LINE_ROOM line)) fault → ConfigFails takes refuses can first unread left last fault
   line_not_taken first made last unread left input front line rest setup number (Setup at word) read counted one e same fails =
       subst (λ s. IfSome unread (λ all. LineRefused takes refuses first all at word s)) (sym same)
       (refused_now takes refuses first made unread left input front setup number at word read counted fails.0

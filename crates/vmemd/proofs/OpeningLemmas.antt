@@ -5,6 +5,7 @@ use Rattle.std.proofs.lemmas.List.{take_all, take-append-drop, take-append-le, l
 use Rattle.std.proofs.lemmas.Slice.Eq.{bytes_eq-Decides}
 use Rattle.std.specs.Str.{bytes_eq}
 use Rattle.memchr.specs.Find.{Nowhere, Passes, is_byte2}
+use Rattle.lease_proto.specs.declared.limits.TheConstants.{LONGEST_LINE, LINE_ROOM}
 use Rattle.lease_proto.specs.Frames.{with_line_feed, frames_of_rest}
 use Rattle.lease_proto.specs.SetupLines.{opening, is_setup_word, begins_setup}
 
@@ -57,16 +58,16 @@ opening_front (b ∷ bs) more = elim (cases_Bool (is_byte2 32 10 b)) [
   ]
 ]
 
--- the first 256 bytes tell whether a setup line begins
-pub begins_setup-take : (bytes : List ℕ) → begins_setup (take 256 bytes) ≡ begins_setup bytes
-begins_setup-take bytes = elim (cases_Bool (nat_le (length bytes) 256)) [
-  | inl fits ↦ ap begins_setup (take_all 256 bytes (leb-true (length bytes) 256 fits))
+-- the first LINE_ROOM bytes tell whether a setup line begins
+pub begins_setup-take : (bytes : List ℕ) → begins_setup (take LINE_ROOM bytes) ≡ begins_setup bytes
+begins_setup-take bytes = elim (cases_Bool (nat_le (length bytes) LINE_ROOM)) [
+  | inl fits ↦ ap begins_setup (take_all LINE_ROOM bytes (leb-true (length bytes) LINE_ROOM fits))
   | inr over ↦
-      let more : 256 < length bytes = leb-false (length bytes) 256 over in
-      let front = take 256 bytes in
-      let rest = drop 256 bytes in
-      let all : front ++ rest ≡ bytes = take-append-drop 256 bytes in
-      let size : length front ≡ min 256 (length bytes) = length-take 256 bytes in
+      let more : LINE_ROOM < length bytes = leb-false (length bytes) LINE_ROOM over in
+      let front = take LINE_ROOM bytes in
+      let rest = drop LINE_ROOM bytes in
+      let all : front ++ rest ≡ bytes = take-append-drop LINE_ROOM bytes in
+      let size : length front ≡ min LINE_ROOM (length bytes) = length-take LINE_ROOM bytes in
       elim (opening_front front rest) [
         | inl e ↦ ap is_setup_word (sym e ∙ ap opening all)
         | inr e ↦
@@ -86,14 +87,14 @@ opening-ended (b ∷ text) more = elim (cases_Bool (is_byte2 32 10 b)) [
 ]
 
 -- of a whole line they tell it too, whatever follows
-pub begins_line : (text more : List ℕ) → begins_setup (with_line_feed text ++ more) ≡ begins_setup (take 256 text)
+pub begins_line : (text more : List ℕ) → begins_setup (with_line_feed text ++ more) ≡ begins_setup (take LINE_ROOM text)
 begins_line text more = ap is_setup_word (opening-ended text more) ∙ sym (begins_setup-take text)
 
 -- and of a line begun that is too long already
-pub begins_long : (bytes more : List ℕ) → 255 < length (take 256 bytes) → begins_setup (bytes ++ more) ≡ begins_setup (take 256 bytes)
+pub begins_long : (bytes more : List ℕ) → LONGEST_LINE < length (take LINE_ROOM bytes) → begins_setup (bytes ++ more) ≡ begins_setup (take LINE_ROOM bytes)
 begins_long bytes more long =
-    let size = length-take 256 bytes in
-    sym (begins_setup-take (bytes ++ more)) ∙ ap begins_setup (take-append-le 256 bytes more (omega (arith, long, size)))
+    let size = length-take LINE_ROOM bytes in
+    sym (begins_setup-take (bytes ++ more)) ∙ ap begins_setup (take-append-le LINE_ROOM bytes more (omega (arith, long, size)))
 
 -- nothing begins no setup line
 pub begins_last : (rest : List ℕ) → [] ≡ frames_of_rest rest → begins_setup rest ≡ false

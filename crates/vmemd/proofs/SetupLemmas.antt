@@ -6,6 +6,7 @@ use Rattle.std.proofs.lemmas.Grind.{flat_map-append}
 use Rattle.std.specs.List.{flat_map}
 use Rattle.std.specs.Io.KnownBytes.{Consumes, IsAtEnd}
 use Rattle.std.proofs.KnownBytes.{Consumes-kept}
+use Rattle.lease_proto.specs.declared.limits.TheConstants.{LONGEST_LINE, LINE_ROOM}
 use Rattle.lease_proto.specs.declared.faults.LineFault.{LineFault}
 use Rattle.lease_proto.specs.declared.faults.LineFault.TheVariants.{TooLong}
 use Rattle.lease_proto.specs.Frames.{Frame, frame_of, frames_of_rest, frames_in, rest_in, frames_of, with_line_feed, IsOneLine}
@@ -31,29 +32,29 @@ IsSetup bytes = (more : List ℕ) → begins_setup (bytes ++ more) ≡ true
 
 -- a whole line at hand, and the bytes that it comes from
 pub line_at : (hand : AtHand) (bytes : List ℕ) → hand ≡ hand_in [] bytes → hand.whole ≡ true
-    → (text : List ℕ) × (rest : List ℕ) × IsOneLine text × (bytes ≡ with_line_feed text ++ rest) × (hand.line ≡ take 256 text) × (hand.rest ≡ rest)
+    → (text : List ℕ) × (rest : List ℕ) × IsOneLine text × (bytes ≡ with_line_feed text ++ rest) × (hand.line ≡ take LINE_ROOM text) × (hand.rest ≡ rest)
 line_at hand bytes is whole =
     let (text, rest, one, parts, e) = line_is_whole [] bytes (ap (λ h. h.whole) (sym is) ∙ whole) in
     (text, rest, one, parts, ap (λ h. h.line) (is ∙ e), ap (λ h. h.rest) (is ∙ e))
 
 -- a line begun
-pub begun_at : (hand : AtHand) (bytes : List ℕ) → hand ≡ hand_in [] bytes → hand.whole ≡ false → IsOneLine bytes × (hand.line ≡ take 256 bytes)
+pub begun_at : (hand : AtHand) (bytes : List ℕ) → hand ≡ hand_in [] bytes → hand.whole ≡ false → IsOneLine bytes × (hand.line ≡ take LINE_ROOM bytes)
 begun_at hand bytes is unended =
     let (e, one) = line_is_begun [] bytes (ap (λ h. h.whole) (sym is) ∙ unended) in (one, ap (λ h. h.line) (is ∙ e))
 
 -- what was read behind a line begun
-pub read_behind : (old new : AtHand) (bytes piece : List ℕ) → IsOneLine bytes → old.line ≡ take 256 bytes → new ≡ hand_in old.line piece
+pub read_behind : (old new : AtHand) (bytes piece : List ℕ) → IsOneLine bytes → old.line ≡ take LINE_ROOM bytes → new ≡ hand_in old.line piece
     → new ≡ hand_in [] (bytes ++ piece)
 read_behind old new bytes piece one first is = is ∙ ap (λ l. hand_in l piece) first ∙ line_goes_on bytes piece one
 
 -- and where nothing was
-pub read_none : (old new : AtHand) (bytes piece : List ℕ) → IsOneLine bytes → old.line ≡ take 256 bytes → new ≡ hand_in old.line piece → piece ≡ []
+pub read_none : (old new : AtHand) (bytes piece : List ℕ) → IsOneLine bytes → old.line ≡ take LINE_ROOM bytes → new ≡ hand_in old.line piece → piece ≡ []
     → new ≡ hand_in [] bytes
 read_none old new bytes piece one first is none =
     read_behind old new bytes piece one first is ∙ ap (λ l. hand_in [] (bytes ++ l)) none ∙ ap (hand_in []) (append-nil bytes)
 
 -- whether a setup line begins, by a whole line
-pub begins_by_line : (bytes text rest more : List ℕ) → bytes ≡ with_line_feed text ++ rest → begins_setup (bytes ++ more) ≡ begins_setup (take 256 text)
+pub begins_by_line : (bytes text rest more : List ℕ) → bytes ≡ with_line_feed text ++ rest → begins_setup (bytes ++ more) ≡ begins_setup (take LINE_ROOM text)
 begins_by_line bytes text rest more parts =
     ap (λ l. begins_setup (l ++ more)) parts ∙ ap begins_setup (append_assoc (with_line_feed text) rest more) ∙ begins_line text (rest ++ more)
 
@@ -77,14 +78,14 @@ size-passed h whole =
 -- a line that is too long is refused by the grammar too
 pub frame_setup : (line : List ℕ) → (frame_of line >>= setup_of) ≡ setup_of line
 unfolding setup_of
-frame_setup line = elim (cases_Bool (nat_le (length line) 255)) [
+frame_setup line = elim (cases_Bool (nat_le (length line) LONGEST_LINE)) [
   | inl fits ↦ rw fits refl
-  | inr over ↦ rw (over, lt-ltb 255 (length line) (leb-false _ _ over)) refl
+  | inr over ↦ rw (over, lt-ltb LONGEST_LINE (length line) (leb-false _ _ over)) refl
 ]
 
--- so the first 256 bytes of a line tell what it is
-pub setup_of-take : (line : List ℕ) → setup_of (take 256 line) ≡ setup_of line
-setup_of-take line = sym (frame_setup (take 256 line)) ∙ ap (λ f. f >>= setup_of) (frame_of-take line) ∙ frame_setup line
+-- so the first LINE_ROOM bytes of a line tell what it is
+pub setup_of-take : (line : List ℕ) → setup_of (take LINE_ROOM line) ≡ setup_of line
+setup_of-take line = sym (frame_setup (take LINE_ROOM line)) ∙ ap (λ f. f >>= setup_of) (frame_of-take line) ∙ frame_setup line
 
 module _ {S : Type 0} (takes : S → SetupLine → S → Type 0) where
   -- one more line
@@ -99,7 +100,7 @@ module _ {S : Type 0} (takes : S → SetupLine → S → Type 0) where
   pub none_taken : (first : S) → (setup : SetsUp takes first [] [] first) × (1 ≡ length setup.lines + 1)
   none_taken first = (record { lines = []; makes = refl; split = refl }, refl)
 
-  pub one_taken : (first mid last : S) (input front line rest : List ℕ) (setup : SetsUp takes first input front mid) → TakesLine takes mid (take 256 line) last
+  pub one_taken : (first mid last : S) (input front line rest : List ℕ) (setup : SetsUp takes first input front mid) → TakesLine takes mid (take LINE_ROOM line) last
       → front ≡ with_line_feed line ++ rest → (more : SetsUp takes first input rest last) × (length more.lines ≡ length setup.lines + 1)
   one_taken first mid last input front line rest setup taken e = (
     record {
@@ -124,7 +125,7 @@ module _ {S : Type 0} (takes : S → SetupLine → S → Type 0) where
   )
 
 -- a line and what follows it
-line_first : (line more : List ℕ) → IsOneLine line → frames_of (with_line_feed line ++ more) ≡ frame_of (take 256 line) ∷ frames_of more
+line_first : (line more : List ℕ) → IsOneLine line → frames_of (with_line_feed line ++ more) ≡ frame_of (take LINE_ROOM line) ∷ frames_of more
 line_first line more one =
     let frames : frames_in [] (with_line_feed line ++ more) ≡ frame_of line ∷ frames_in [] more =
     frames_in-append [] (with_line_feed line) more ∙ rw (frames_in-ended [] line one, rest_in-ended [] line one) refl in
@@ -134,43 +135,43 @@ line_first line more one =
 
 -- of a front that goes on
 first_frames : (front line rest left : List ℕ) → IsOneLine line → front ≡ with_line_feed line ++ rest
-    → frames_of (front ++ left) ≡ frame_of (take 256 line) ∷ frames_of (rest ++ left)
+    → frames_of (front ++ left) ≡ frame_of (take LINE_ROOM line) ∷ frames_of (rest ++ left)
 first_frames front line rest left one e =
     ap (λ l. frames_of (l ++ left)) e ∙ ap frames_of (append_assoc (with_line_feed line) rest left) ∙ line_first line (rest ++ left) one
 
 -- a line that is too long already stays so
-long_goes_on : (line left : List ℕ) → 255 < length line → (frames : List Frame) × (frames_in line left ++ frames_of_rest (rest_in line left) ≡ Err TooLong ∷ frames)
+long_goes_on : (line left : List ℕ) → LONGEST_LINE < length line → (frames : List Frame) × (frames_in line left ++ frames_of_rest (rest_in line left) ≡ Err TooLong ∷ frames)
 long_goes_on [] [] long = absurd (omega arith)
-long_goes_on (b ∷ bs) [] long = ([], rw (lt-leb (length (b ∷ bs)) 255 long) refl)
+long_goes_on (b ∷ bs) [] long = ([], rw (lt-leb (length (b ∷ bs)) LONGEST_LINE long) refl)
 long_goes_on line (b ∷ bs) long =
-    let frame : frame_of line ≡ Err TooLong = rw (lt-leb (length line) 255 long) refl in
-    let longer : 255 < length (line ++ b ∷ []) = subst (λ n. 255 < n) (sym (length-append line (b ∷ []))) (omega arith) in
+    let frame : frame_of line ≡ Err TooLong = rw (lt-leb (length line) LONGEST_LINE long) refl in
+    let longer : LONGEST_LINE < length (line ++ b ∷ []) = subst (λ n. LONGEST_LINE < n) (sym (length-append line (b ∷ []))) (omega arith) in
     let on = long_goes_on (line ++ b ∷ []) bs longer in
     elim (cases_Bool (b == 10)) [
       | inl is ↦ (frames_in [] bs ++ frames_of_rest (rest_in [] bs), rw (is, frame) refl)
       | inr other ↦ (on.0, rw other on.1)
     ]
 
-pub long_first : (front left : List ℕ) → 255 < length front → IsOneLine front → (frames : List Frame) × (frames_of (front ++ left) ≡ Err TooLong ∷ frames)
+pub long_first : (front left : List ℕ) → LONGEST_LINE < length front → IsOneLine front → (frames : List Frame) × (frames_of (front ++ left) ≡ Err TooLong ∷ frames)
 long_first front left long one =
     let on = long_goes_on front left long in
     (on.0, rw (frames_in-text [] front left one, rest_in-text [] front left one) on.1)
 
 -- a rest that the input ends
-pub rest_first : (rest : List ℕ) (why : LineFault) → IsOneLine rest → frames_of_rest (take 256 rest) ≡ Err why ∷ [] → frames_of rest ≡ Err why ∷ []
+pub rest_first : (rest : List ℕ) (why : LineFault) → IsOneLine rest → frames_of_rest (take LINE_ROOM rest) ≡ Err why ∷ [] → frames_of rest ≡ Err why ∷ []
 rest_first rest why one last = rw (frames_in-none [] rest one, rest_in-none [] rest one) (sym (frames_of_rest-take rest) ∙ last)
 
 module _ {S : Type 0} (takes : S → SetupLine → S → Type 0) (refuses : S → SetupLine → ConfigFault → Type 0) where
   pub refuses_line : (made : S) (front line rest left : List ℕ) (word : ConfigFault) → IsOneLine line → front ≡ with_line_feed line ++ rest
-      → RefusesRead refuses made (setup_of (take 256 line)) word → RefusesFirst refuses made (front ++ left) word
+      → RefusesRead refuses made (setup_of (take LINE_ROOM line)) word → RefusesFirst refuses made (front ++ left) word
   refuses_line made front line rest left word one e refused = (
-    frame_of (take 256 line),
+    frame_of (take LINE_ROOM line),
     frames_of (rest ++ left),
     first_frames front line rest left one e,
-    subst (λ r. RefusesRead refuses made r word) (sym (frame_setup (take 256 line))) refused,
+    subst (λ r. RefusesRead refuses made r word) (sym (frame_setup (take LINE_ROOM line))) refused,
   )
 
-  refuses_long : (made : S) (front left : List ℕ) → 255 < length front → IsOneLine front → RefusesFirst refuses made (front ++ left) (config.Line TooLong)
+  refuses_long : (made : S) (front left : List ℕ) → LONGEST_LINE < length front → IsOneLine front → RefusesFirst refuses made (front ++ left) (config.Line TooLong)
   refuses_long made front left long one =
       let first = long_first front left long one in
       (Err TooLong, first.0, first.1, refl)
@@ -188,18 +189,18 @@ module _ {S : Type 0} (takes : S → SetupLine → S → Type 0) (refuses : S �
 
   -- the refusal of a line begun that is too long already
   pub refused_long : (first made : S) (unread left : Option (List ℕ)) (input front : List ℕ) (setup : SetsUp takes first input front made) (number : ℕ)
-      → Consumes unread left input → number ≡ length setup.lines + 1 → IsOneLine front → 255 < length (take 256 front) → begins_setup (take 256 front) ≡ true
+      → Consumes unread left input → number ≡ length setup.lines + 1 → IsOneLine front → LONGEST_LINE < length (take LINE_ROOM front) → begins_setup (take LINE_ROOM front) ≡ true
       → IfSome unread (λ all. SetupRefused takes refuses first all number (config.Line TooLong) made)
   refused_long first made unread left input front setup number read counted one long begins =
-      let size = length-take 256 front in
+      let size = length-take LINE_ROOM front in
       refused_now first made unread left input front setup number number (config.Line TooLong) read counted refl
       (λ more. begins_long front more long ∙ begins)
       (λ more. refuses_long made front more (omega (arith, long, size)) one)
 
   -- the refusal of a rest that the input ends
   pub refused_rest : (first made : S) (unread left : Option (List ℕ)) (input front : List ℕ) (setup : SetsUp takes first input front made) (number : ℕ) (why : LineFault)
-      → Consumes unread left input → IsAtEnd left → number ≡ length setup.lines + 1 → IsOneLine front → frames_of_rest (take 256 front) ≡ Err why ∷ []
-      → begins_setup (take 256 front) ≡ true → IfSome unread (λ all. SetupRefused takes refuses first all number (config.Line why) made)
+      → Consumes unread left input → IsAtEnd left → number ≡ length setup.lines + 1 → IsOneLine front → frames_of_rest (take LINE_ROOM front) ≡ Err why ∷ []
+      → begins_setup (take LINE_ROOM front) ≡ true → IfSome unread (λ all. SetupRefused takes refuses first all number (config.Line why) made)
   refused_rest first made None left input front setup number why read end counted one last begins = tt
   refused_rest first made (Some xs) None input front setup number why read end counted one last begins = absurd read
   refused_rest first made (Some xs) (Some ys) input front setup number why read end counted one last begins =
@@ -208,12 +209,12 @@ module _ {S : Type 0} (takes : S → SetupLine → S → Type 0) (refuses : S �
 
 module _ {S : Type 0} (takes : S → SetupLine → S → Type 0) (can : S → SetupLine → Type 0) where
   pub can_take_line : (made : S) (front line rest left : List ℕ) → IsOneLine line → front ≡ with_line_feed line ++ rest
-      → CanTakeRead can made (setup_of (take 256 line)) → CanTakeFirst can made (front ++ left)
+      → CanTakeRead can made (setup_of (take LINE_ROOM line)) → CanTakeFirst can made (front ++ left)
   can_take_line made front line rest left one e able = (
-    frame_of (take 256 line),
+    frame_of (take LINE_ROOM line),
     frames_of (rest ++ left),
     first_frames front line rest left one e,
-    subst (λ r. CanTakeRead can made r) (sym (frame_setup (take 256 line))) able,
+    subst (λ r. CanTakeRead can made r) (sym (frame_setup (take LINE_ROOM line))) able,
   )
 
   -- a line that can be taken, however the input goes on
@@ -228,8 +229,8 @@ module _ {S : Type 0} (takes : S → SetupLine → S → Type 0) (can : S → Se
 
 module _ {S : Type 0} (takes : S → SetupLine → S → Type 0) (refuses : S → SetupLine → ConfigFault → Type 0) (can : S → SetupLine → Type 0) where
   pub line_fails : (first made last : S) (unread left : Option (List ℕ)) (input front line rest : List ℕ) (setup : SetsUp takes first input front made) (number : ℕ) (fault : ScriptFault)
-      → Consumes unread left input → number ≡ length setup.lines + 1 → begins_setup (take 256 line) ≡ true → IsOneLine line → front ≡ with_line_feed line ++ rest
-      → last ≡ made → LineFails refuses can made number (setup_of (take 256 line)) fault → SetupFails takes refuses can first unread left last fault
+      → Consumes unread left input → number ≡ length setup.lines + 1 → begins_setup (take LINE_ROOM line) ≡ true → IsOneLine line → front ≡ with_line_feed line ++ rest
+      → last ≡ made → LineFails refuses can made number (setup_of (take LINE_ROOM line)) fault → SetupFails takes refuses can first unread left last fault
   line_fails first made last unread left input front line rest setup number (Setup at word) read counted begins one e same fails =
       subst (λ desk. IfSome unread (λ all. SetupRefused takes refuses first all at word desk)) (sym same)
       (refused_now takes refuses first made unread left input front setup number at word read counted fails.0

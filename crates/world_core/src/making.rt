@@ -2,6 +2,7 @@
 ghost use Rattle.std.specs.Prelude.{◌≡◌, ◌+◌, ◌<◌, ◌≤◌, ◌++◌, All, true, map, IfOk, None};
 ghost use Rattle.std.specs.Prelude.{replicate, false, vec_len, vec_capacity};
 ghost use Rattle.lease_terms.specs.Names.{is_name};
+ghost use Rattle.lease_proto.specs.declared.limits.TheConstants.{MOST_CPUS};
 ghost use Rattle.world_core.specs.Setups.{IsNewWorld};
 
 use crate::own_setups::{FIRST_MAGAZINE_SIZE, OwnCaches};
@@ -15,12 +16,12 @@ use std::alloc::{AllocError, Global};
 use stock::plain_stock;
 
 impl World<PlainDeed> {
-    /// The world of a setup: all its spans are free, and so many CPUs, 1 to 64, have nothing to do,
-    /// each with empty caches of its own. Nothing was said or leased yet, and there is no client:
-    /// `add_client` adds one.
+    /// The world of a setup: all its spans are free, and so many CPUs, 1 to `MOST_CPUS`, have nothing
+    /// to do, each with empty caches of its own. Nothing was said or leased yet, and there is no
+    /// client: `add_client` adds one.
     pub fn new(alloc: Global, setup: &Setup, cpus: usize) -> Result<World<PlainDeed>, AllocError>
         requires some { 0 < cpus }
-        requires few { cpus ≤ 64 }
+        requires few { cpus ≤ MOST_CPUS }
         ensures { IfOk result (IsNewWorld setup.now cpus) }
     {
         let names = names_of(alloc, setup.tree())?;

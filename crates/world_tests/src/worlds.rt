@@ -1,5 +1,6 @@
 //! What the tests share: a world with its clients, what they ask for, and how a world is looked at.
 ghost use Rattle.std.specs.Prelude.{◌≡◌, ◌<◌, ◌≤◌};
+ghost use Rattle.lease_proto.specs.declared.limits.TheConstants.{MOST_CPUS};
 
 use arena_tree::{NewChild, NewRoot, Setting, Setup};
 use deed_core::{PlainDeed, Request};
@@ -80,7 +81,7 @@ pub(crate) fn world_of(
     clients: u32,
 ) -> World<PlainDeed>
     requires some { 0 < cpus }
-    requires few { cpus ≤ 64 }
+    requires few { cpus ≤ MOST_CPUS }
 {
     let mut made = match World::new(alloc, setup, cpus) {
         Ok(world) => world,

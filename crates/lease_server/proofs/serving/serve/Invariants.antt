@@ -1,6 +1,7 @@
 use Rattle.std.proofs.Common.{◌≡◌, ◌≤◌, ◌+◌, ◌-◌, ◌^◌, ℕ, List, [], ◌++◌, length, min, true, false}
 use Rattle.std.specs.Io.KnownBytes.{Consumes, IsAtEnd}
 use Rattle.lease_proto.specs.Frames.{Frame, rest_in}
+use Rattle.lease_server.specs.declared.intakes.TheConstants.{MOST_READS}
 use Rattle.lease_server.specs.Serving.{SameFront, Writes}
 use Rattle.lease_server.specs.Intakes.{frames_at, frames_on, begun_at}
 use Rattle.lease_server.proofs.serving.serve.Given as goal
@@ -20,4 +21,4 @@ invariant-loop-out g l = (input : List ℕ) × Consumes (g.R.Read.remaining l.fn
     × (l.input.ended ≡ l.fn.input.ended)
 
 abbrev pub decreases-loop-out : goal.decreases-loop-out
-decreases-loop-out g l = 2 ^ 40 - l.input.reads
+decreases-loop-out g l = MOST_READS - l.input.reads

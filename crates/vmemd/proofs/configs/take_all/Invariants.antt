@@ -1,5 +1,6 @@
 use Rattle.std.proofs.Common.{◌≡◌, ℕ, ◌+◌, ◌-◌, ◌*◌, ◌^◌, ◌≤◌, List, [], length, min, false}
 use Rattle.std.specs.Io.KnownBytes.{Consumes}
+use Rattle.lease_server.specs.declared.intakes.TheConstants.{MOST_READS}
 use Rattle.lease_server.specs.Intakes.{hand_in}
 use Rattle.lease_server.specs.Watching.{inner_of, has_failed, reads_of}
 use Rattle.vmemd.specs.Scripts.{SetsUp}
@@ -13,9 +14,9 @@ invariant-loop-line g l = (input : List ℕ) × Consumes (g.R.Read.remaining (in
     × (l.number ≡ length setup.lines + 1)
     × (l.input.ended ≡ false)
     × (l.number + size_at l.input.hand ≤ 4096 * l.input.reads + 1)
-    × (l.input.reads ≤ 2 ^ 40)
+    × (l.input.reads ≤ MOST_READS)
     × (has_failed l.reader ≡ has_failed l.fn.reader)
     × (reads_of l.reader ≡ min (reads_of l.fn.reader + l.input.reads) (2 ^ 64 - 1))
 
 abbrev pub decreases-loop-line : goal.decreases-loop-line
-decreases-loop-line g l = (2 ^ 40 - l.input.reads) * 8192 + size_at l.input.hand
+decreases-loop-line g l = (MOST_READS - l.input.reads) * 8192 + size_at l.input.hand

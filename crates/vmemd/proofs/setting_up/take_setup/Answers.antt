@@ -3,8 +3,10 @@ use Rattle.std.proofs.lemmas.List.{append-nil}
 use Rattle.std.proofs.lemmas.Result.{err_from_is_err_and}
 use Rattle.std.specs.Io.KnownBytes.{Consumes}
 use Rattle.std.proofs.KnownBytes.{Consumes-nil, Consumes-trans}
+use Rattle.lease_proto.specs.declared.limits.TheConstants.{LONGEST_LINE, LINE_ROOM}
 use Rattle.lease_proto.specs.Frames.{frames_of_rest}
 use Rattle.lease_proto.specs.SetupLines.{setup_of, begins_setup}
+use Rattle.lease_server.specs.declared.intakes.TheConstants.{MOST_READS}
 use Rattle.lease_server.specs.Intakes.{IntakeState, hand_in}
 use Rattle.lease_server.specs.Watching.{inner_of, has_failed, reads_of}
 use Rattle.vmemd.specs.Setups.{LineFails, TakesLine}
@@ -24,8 +26,8 @@ returns-in_err-take_line-in-Some-clause-err g c =
     let (input, read, front, setup, hand, counted, going, room, low, works, spent) = c.loop-line.invariant in
     let (text, rest, one, parts, first, behind) = line_at c.loop-line.input.hand front hand c.in-Some.ensures.some.0 in
     let p = err_from_is_err_and c.from_residual.result c.from_residual.ensures.1 in
-    let line : c.in-Some.line.now ≡ take 256 text = c.in-Some.ensures.some.1 ∙ first in
-    let begins : begins_setup (take 256 text) ≡ true = ap begins_setup (sym line) ∙ sym c.begins_setup.ensures ∙ c.if-begins_setup.true in
+    let line : c.in-Some.line.now ≡ take LINE_ROOM text = c.in-Some.ensures.some.1 ∙ first in
+    let begins : begins_setup (take LINE_ROOM text) ≡ true = ap begins_setup (sym line) ∙ sym c.begins_setup.ensures ∙ c.if-begins_setup.true in
     let failed = subst (λ l. LineFails g.S.SetupBuilder.refuses g.S.SetupBuilder.can c.loop-line.setup c.loop-line.number (setup_of l) c.in_err-take_line-in-Some.field-0.0)
     line c.in_err-take_line-in-Some.ensures.err in
     rw (p.1, p.2) (line_fails g.S.SetupBuilder.takes g.S.SetupBuilder.refuses g.S.SetupBuilder.can c.args.setup.now c.loop-line.setup c.take_line.new.setup
@@ -36,14 +38,14 @@ pub loop-line-smaller-then-begins_setup : goal.loop-line-smaller-then-begins_set
 loop-line-smaller-then-begins_setup g c =
     let old = c.loop-line.input in
     let less = size-passed old.hand c.in-Some.ensures.some.0 in
-    subst (λ (v : IntakeState). (2 ^ 40 - v.reads) * 8192 + size_at v.hand < (2 ^ 40 - old.reads) * 8192 + size_at old.hand)
+    subst (λ (v : IntakeState). (MOST_READS - v.reads) * 8192 + size_at v.hand < (MOST_READS - old.reads) * 8192 + size_at old.hand)
     (sym c.pass.ensures) (omega (arith, less))
 
 pub loop-line-preserved-then-begins_setup : goal.loop-line-preserved-then-begins_setup
 loop-line-preserved-then-begins_setup g c =
     let (input, read, front, setup, hand, counted, going, room, low, works, spent) = c.loop-line.invariant in
     let (text, rest, one, parts, first, behind) = line_at c.loop-line.input.hand front hand c.in-Some.ensures.some.0 in
-    let line : c.in-Some.line.now ≡ take 256 text = c.in-Some.ensures.some.1 ∙ first in
+    let line : c.in-Some.line.now ≡ take LINE_ROOM text = c.in-Some.ensures.some.1 ∙ first in
     let taken = subst (λ l. TakesLine g.S.SetupBuilder.takes c.loop-line.setup l c.take_line.new.setup) line c.in_ok-take_line-in-Some.ensures.ok in
     let more = one_taken g.S.SetupBuilder.takes c.args.setup.now c.loop-line.setup c.take_line.new.setup input front text rest setup taken parts in
     let less = size-passed c.loop-line.input.hand c.in-Some.ensures.some.0 in
@@ -65,8 +67,8 @@ pub returns-in-Some-2-clause-ok : goal.returns-in-Some-2-clause-ok
 returns-in-Some-2-clause-ok g c =
     let (input, read, front, setup, hand, counted, going, room, low, works, spent) = c.loop-line.invariant in
     let (text, rest, one, parts, first, behind) = line_at c.loop-line.input.hand front hand c.in-Some.ensures.some.0 in
-    let line : c.in-Some.line.now ≡ take 256 text = c.in-Some.ensures.some.1 ∙ first in
-    let other : begins_setup (take 256 text) ≡ false = ap begins_setup (sym line) ∙ sym c.begins_setup.ensures ∙ c.if-begins_setup.false in (
+    let line : c.in-Some.line.now ≡ take LINE_ROOM text = c.in-Some.ensures.some.1 ∙ first in
+    let other : begins_setup (take LINE_ROOM text) ≡ false = ap begins_setup (sym line) ∙ sym c.begins_setup.ensures ∙ c.if-begins_setup.false in (
       front,
       (input, read, setup),
       hand,
@@ -78,12 +80,12 @@ pub returns-in_err-refuse_long-in-None-clause-err : goal.returns-in_err-refuse_l
 returns-in_err-refuse_long-in-None-clause-err g c =
     let (input, read, front, setup, hand, counted, going, room, low, works, spent) = c.loop-line.invariant in
     let (one, first) = begun_at c.loop-line.input.hand front hand c.in-None.ensures.none in
-    let line : c.begun.result.now ≡ take 256 front = c.begun.ensures ∙ first in
+    let line : c.begun.result.now ≡ take LINE_ROOM front = c.begun.ensures ∙ first in
     let p = err_from_is_err_and c.from_residual-in_err-refuse_long-in-None.result c.from_residual-in_err-refuse_long-in-None.ensures.1 in
     let e = c.in_err-refuse_long-in-None.ensures in
     rw (p.1, p.2, e.0) (refused_long g.S.SetupBuilder.takes g.S.SetupBuilder.refuses c.args.setup.now c.loop-line.setup
     (g.R.Read.remaining (inner_of c.args.reader.now)) (g.R.Read.remaining (inner_of c.loop-line.reader))
-    input front setup c.loop-line.number read counted one (subst (λ l. 255 < length l) line e.1) (ap begins_setup (sym line) ∙ e.2))
+    input front setup c.loop-line.number read counted one (subst (λ l. LONGEST_LINE < length l) line e.1) (ap begins_setup (sym line) ∙ e.2))
 
 pub returns-in_err-read_on-in-None-clause-err : goal.returns-in_err-read_on-in-None-clause-err
 returns-in_err-read_on-in-None-clause-err g c =
@@ -103,7 +105,7 @@ returns-in_err-refuse_rest-in-None-clause-err g c =
     let over : c.in_ok-read_on-in-None.field-0 ≡ false = search rules in
     let (nothing, at_end, is_end) = none over in
     let stays = read_none c.loop-line.input.hand c.read_on.new.self.hand front piece one first next nothing in
-    let line : c.begun-then-not-branch.result.now ≡ take 256 front = c.begun-then-not-branch.ensures ∙ ap (λ h. h.line) (stays ∙ sym hand) ∙ first in
+    let line : c.begun-then-not-branch.result.now ≡ take LINE_ROOM front = c.begun-then-not-branch.ensures ∙ ap (λ h. h.line) (stays ∙ sym hand) ∙ first in
     let p = err_from_is_err_and c.from_residual-in_err-refuse_rest-in-None.result c.from_residual-in_err-refuse_rest-in-None.ensures.1 in
     let (why, is, last, begins) = c.in_err-refuse_rest-in-None.ensures.err in
     let unread = g.R.Read.remaining (inner_of c.args.reader.now) in
@@ -121,7 +123,7 @@ returns-then-not-branch-clause-ok g c =
     let over : c.in_ok-read_on-in-None.field-0 ≡ false = search rules in
     let (nothing, at_end, is_end) = none over in
     let stays = read_none c.loop-line.input.hand c.read_on.new.self.hand front piece one first next nothing in
-    let line : c.begun-then-not-branch.result.now ≡ take 256 front = c.begun-then-not-branch.ensures ∙ ap (λ h. h.line) (stays ∙ sym hand) ∙ first in
+    let line : c.begun-then-not-branch.result.now ≡ take LINE_ROOM front = c.begun-then-not-branch.ensures ∙ ap (λ h. h.line) (stays ∙ sym hand) ∙ first in
     let unread = g.R.Read.remaining (inner_of c.args.reader.now) in
     let left = g.R.Read.remaining (inner_of c.read_on.new.reader) in
     let all : Consumes unread left input =
@@ -141,8 +143,8 @@ loop-line-smaller g c =
     let size = ap size_at next in
     let fits = size-hand_in c.loop-line.input.hand.line piece in
     let bound = c.read_on.ensures.bound in
-    let less : (2 ^ 40 - c.read_on.new.self.reads) * 8192 + size_at c.read_on.new.self.hand
-    < (2 ^ 40 - c.loop-line.input.reads) * 8192 + size_at c.loop-line.input.hand = omega (arith, once, bound, size, fits, short) in
+    let less : (MOST_READS - c.read_on.new.self.reads) * 8192 + size_at c.read_on.new.self.hand
+    < (MOST_READS - c.loop-line.input.reads) * 8192 + size_at c.loop-line.input.hand = omega (arith, once, bound, size, fits, short) in
     less
 
 pub loop-line-preserved : goal.loop-line-preserved

@@ -2,6 +2,7 @@ use Rattle.std.proofs.Common.{◌≡◌, ◌<◌, ◌≤◌, length, List, Some,
 use Rattle.std.specs.List.{remove}
 use Rattle.std.proofs.Math.ListN.{set}
 use Rattle.std.proofs.lemmas.List.Edits.{length-remove}
+use Rattle.lease_book.specs.declared.books.TheConstants.{MOST_LEASES}
 use Rattle.lease_book.specs.Account.{Lease, Account}
 use Rattle.lease_book.specs.Shelf.{accounts_of, update_at, with_leases}
 use Rattle.lease_book.proofs.ShelfLemmas.{within_parts, shelf_set, empty_set, past_empty, limited_at, leases_there, leases_here, write_leases}
@@ -21,7 +22,7 @@ pub invariant_of-self : goal.invariant_of-self
 invariant_of-self g c =
     let within : c.args.index < length c.self.inside.leases.items = (within_parts _ _ _ _ c.self.view_is c.self.invariant.shelf.together c.requires.within).1 in
     let stands : c.args.lease < length c.index_mut.result.now = leases_there (λ (l : List Lease). c.args.lease < length l) _ _ _ _ _ c.self.view_is c.self.invariant.shelf.together within c.index_mut.ensures.value c.requires.stands in
-    let small : length c.index_mut.result.now ≤ 1024 = limited_at _ _ _ _ c.self.invariant.shelf within c.index_mut.ensures.value in
+    let small : length c.index_mut.result.now ≤ MOST_LEASES = limited_at _ _ _ _ c.self.invariant.shelf within c.index_mut.ensures.value in
     let past : c.self.inside.empty ≤ c.args.index = past_empty _ _ _ _ within c.index_mut.ensures.value (omega (arith, stands)) c.self.invariant.before in
     record {
       shelf = shelf_set _ _ _ _ c.self.invariant.shelf (omega (arith, small, ap length c.take.ensures.rest, length-remove c.index_mut.result.now c.args.lease stands));

@@ -1,5 +1,6 @@
 use Rattle.std.proofs.Common.{◌≡◌, ◌<◌, [], ◌∷◌, ◌++◌, length, refl, ap, subst, ◌∙◌, arith}
 use Rattle.deed_core.specs.Extent.{IsRange}
+use Rattle.lease_book.specs.declared.books.TheConstants.{MOST_LEASES}
 use Rattle.lease_book.specs.Account.{Lease, lease_of}
 use Rattle.lease_book.specs.Shelf.{update_at, with_leases}
 use Rattle.lease_book.specs.BookState.{BookState, account_in}
@@ -30,7 +31,7 @@ keep-kept-requires-in-Ok-lease-clause-earned g c =
 pub invariant_of-self-in-Ok-lease : goal.invariant_of-self-in-Ok-lease
 invariant_of-self-in-Ok-lease g c =
     let here = leases_found _ _ _ _ _ c.self.view_is c.in-Ok.ensures.index c.leases.ensures.leases in
-    let room : length (account_in c.args.id.client c.args.self.now).leases < 1024 = omega (arith, ap length here, c.len.ensures, c.if-len-eq-MOST_LEASES.false, c.leases.ensures.limited) in
+    let room : length (account_in c.args.id.client c.args.self.now).leases < MOST_LEASES = omega (arith, ap length here, c.len.ensures, c.if-len-eq-MOST_LEASES.false, c.leases.ensures.limited) in
     let is_kept = kept_grant _ c.args.arena c.range.result c.granted-reply.result c.args.segment _ _ c.keep-kept-in-Ok-lease.ensures.value c.granted-reply.ensures c.requires.arena c.range.ensures.value in
     let in_range : IsRange c.args.segment.holding.range = subst IsRange c.range.ensures.value c.range.ensures.range in
     let leased_mid : c.lease.new.self ≡ update_at c.self.inside.accounts c.in-Ok.index (with_leases (λ ls. ls ++ lease_of c.args.id c.args.segment ∷ [])) =
@@ -40,7 +41,7 @@ invariant_of-self-in-Ok-lease g c =
 pub returns-in-Ok-lease-clause-granted : goal.returns-in-Ok-lease-clause-granted
 returns-in-Ok-lease-clause-granted g c =
     let here = leases_found _ _ _ _ _ c.self.view_is c.in-Ok.ensures.index c.leases.ensures.leases in
-    let room : length (account_in c.args.id.client c.args.self.now).leases < 1024 = omega (arith, ap length here, c.len.ensures, c.if-len-eq-MOST_LEASES.false, c.leases.ensures.limited) in
+    let room : length (account_in c.args.id.client c.args.self.now).leases < MOST_LEASES = omega (arith, ap length here, c.len.ensures, c.if-len-eq-MOST_LEASES.false, c.leases.ensures.limited) in
     let is_kept = kept_grant _ c.args.arena c.range.result c.granted-reply.result c.args.segment _ _ c.keep-kept-in-Ok-lease.ensures.value c.granted-reply.ensures c.requires.arena c.range.ensures.value in
     let in_range : IsRange c.args.segment.holding.range = subst IsRange c.range.ensures.value c.range.ensures.range in
     let leased_mid : c.lease.new.self ≡ update_at c.self.inside.accounts c.in-Ok.index (with_leases (λ ls. ls ++ lease_of c.args.id c.args.segment ∷ [])) =
