@@ -6,12 +6,13 @@ ghost use Rattle.sorted_rows.specs.Weights.{weighs, first_heavy_from};
 
 use crate::entries::RowEntry;
 use crate::row::Row;
-use crate::seats::seat_of;
+use crate::seats::seat_near;
 
 /// The first, from the first at or above the key on, that weighs as much as `least` or more.
 #[tactic(auto, using(crate::proofs::HeavyLemmas::found_heavy))]
 pub fn least_weighing<T: RowEntry>(
     rows: &mut [Row<T>],
+    last: usize,
     measure: T::Measure,
     key: u128,
     least: u64,
@@ -24,7 +25,7 @@ pub fn least_weighing<T: RowEntry>(
     if rows.is_empty() {
         return None;
     }
-    let seat = seat_of(rows, key);
+    let seat = seat_near(rows, last, key);
     let row = &rows[seat];
     if !row.is_light(measure, least) {
         let at = row.below(key);

@@ -10,7 +10,8 @@
 //!   spare:  [ ] [ ]                                         a row for each that a split may need
 //! ```
 //!
-//! An entry is found by two binary searches. A row that comes to 64 is halved; neighbours with 32
+//! An entry is found by two binary searches, of which the first, for its row, falls away near the
+//! key that `Rows::go_to` was given last. A row that comes to 64 is halved; neighbours with 32
 //! or fewer together are put together. So with n entries an insert moves at most 95 entries, where
 //! it halves a row, a remove at most 63, and each n / 16 rows' headers; no call is recursive. Once
 //! `Rows::reserve` has made room, `insert` and `remove` take no memory and can't fail: a spare row

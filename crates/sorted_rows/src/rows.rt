@@ -8,7 +8,7 @@ ghost use Rattle.sorted_rows.specs.Weights.{first_heavy_from};
 use crate::entries::RowEntry;
 use crate::heavy::least_weighing;
 use crate::row::Row;
-use crate::seats::{greatest_to, least_from, put, take};
+use crate::seats::{greatest_to, least_from, put, seat_near, take};
 use std::alloc::{AllocError, Global};
 use std::marker::Model;
 
@@ -20,6 +20,8 @@ pub struct Rows<T: RowEntry> {
     spare: Vec<Row<T>>,
     len: usize,
     room: usize,
+    /// The row that it was last at, if that is still there: where a search looks first.
+    last: usize,
 }
 
 impl<T: RowEntry> Model for Rows<T> {
@@ -46,6 +48,7 @@ impl<T: RowEntry> Rows<T> {
             spare: Vec::new(alloc),
             len: 0,
             room: 0,
+            last: 0,
         }
     }
 
@@ -96,6 +99,17 @@ impl<T: RowEntry> Rows<T> {
         Ok(())
     }
 
+    /// Goes to where the key belongs. It is for speed alone: the calls that follow near the key need
+    /// no search for its row.
+    pub fn go_to(&mut self, key: u128)
+        ensures unchanged { self.new ≡ self.old }
+    {
+        if self.rows.is_empty() {
+            return;
+        }
+        self.last = seat_near(&self.rows, self.last, key);
+    }
+
     /// Puts in an entry whose key isn't there, where there is room. It never fails.
     pub fn insert(&mut self, entry: T)
         requires absent { All (λ x. T.rank x ≢ T.rank entry) self.old.items }
@@ -103,7 +117,7 @@ impl<T: RowEntry> Rows<T> {
         ensures items { PutsIn T.rank entry self.old.items self.new.items }
         ensures room { self.new.room ≡ self.old.room }
     {
-        put(&mut self.rows, &mut self.spare, entry);
+        put(&mut self.rows, &mut self.spare, self.last, entry);
         self.len += 1;
     }
 
@@ -115,7 +129,7 @@ impl<T: RowEntry> Rows<T> {
         ensures value { StandsAtKey T.rank key result self.old.items }
         ensures room { self.new.room ≡ self.old.room }
     {
-        let entry = take(&mut self.rows, &mut self.spare, key);
+        let entry = take(&mut self.rows, &mut self.spare, self.last, key);
         self.len -= 1;
         entry
     }
@@ -124,14 +138,14 @@ impl<T: RowEntry> Rows<T> {
     pub fn least_from(&self, key: u128) -> Option<T>
         ensures { result ≡ first_from T.rank key self.now.items }
     {
-        least_from(&self.rows, key)
+        least_from(&self.rows, self.last, key)
     }
 
     /// The last entry at or below the key.
     pub fn greatest_to(&self, key: u128) -> Option<T>
         ensures { result ≡ last_to T.rank key self.now.items }
     {
-        greatest_to(&self.rows, key)
+        greatest_to(&self.rows, self.last, key)
     }
 
     /// The first entry, from the first at or above the key on, that weighs as much as `least` or
@@ -143,6 +157,6 @@ impl<T: RowEntry> Rows<T> {
             self.old.items }
         ensures unchanged { self.new ≡ self.old }
     {
-        least_weighing(&mut self.rows, measure, key, least)
+        least_weighing(&mut self.rows, self.last, measure, key, least)
     }
 }

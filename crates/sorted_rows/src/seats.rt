@@ -8,7 +8,7 @@ use crate::entries::RowEntry;
 use crate::row::{ROW, Row};
 
 /// The row where the key belongs.
-pub fn seat_of<T: RowEntry>(rows: &[Row<T>], key: u128) -> usize
+fn seat_of<T: RowEntry>(rows: &[Row<T>], key: u128) -> usize
     requires laid { IsLaid T.rank rows.now }
     requires some { 0 < length rows.now }
     ensures within { result < length rows.now }
@@ -27,6 +27,39 @@ pub fn seat_of<T: RowEntry>(rows: &[Row<T>], key: u128) -> usize
         }
     }
     low.saturating_sub(1)
+}
+
+/// Whether the key belongs in this row, which may be none of the list's.
+fn belongs<T: RowEntry>(rows: &[Row<T>], seat: usize, key: u128) -> bool
+    requires laid { IsLaid T.rank rows.now }
+    ensures within { IsTrue result → seat < length rows.now }
+    ensures seat { IsTrue result → IsSeat T.rank key rows.now seat }
+    ensures first { IsTrue result → (d : T) → 0 < seat
+        → T.rank (slice_index_or (slice_index_or rows.now seat []) 0 d) ≤ key }
+{
+    if seat >= rows.len() {
+        return false;
+    }
+    if seat > 0 && key < rows[seat].first() {
+        return false;
+    }
+    seat + 1 == rows.len() || key < rows[seat + 1].first()
+}
+
+/// The row where the key belongs. It is searched for only where it isn't the one that the list was
+/// last at.
+pub fn seat_near<T: RowEntry>(rows: &[Row<T>], last: usize, key: u128) -> usize
+    requires laid { IsLaid T.rank rows.now }
+    requires some { 0 < length rows.now }
+    ensures within { result < length rows.now }
+    ensures seat { IsSeat T.rank key rows.now result }
+    ensures first { (d : T) → 0 < result
+        → T.rank (slice_index_or (slice_index_or rows.now result []) 0 d) ≤ key }
+{
+    if belongs(rows, last, key) {
+        return last;
+    }
+    seat_of(rows, key)
 }
 
 /// Puts an entry in its row, which may be full then.
@@ -77,7 +110,7 @@ pub fn split<T: RowEntry>(rows: &mut Vec<Row<T>>, at: usize, spare: &mut Vec<Row
 }
 
 /// Puts an entry at its place. It may take one spare row.
-pub fn put<T: RowEntry>(rows: &mut Vec<Row<T>>, spare: &mut Vec<Row<T>>, entry: T)
+pub fn put<T: RowEntry>(rows: &mut Vec<Row<T>>, spare: &mut Vec<Row<T>>, last: usize, entry: T)
     requires laid { IsLaid T.rank rows.old.items }
     requires short { AreShort rows.old.items }
     requires room { vec_len rows.old < vec_capacity rows.old }
@@ -96,7 +129,7 @@ pub fn put<T: RowEntry>(rows: &mut Vec<Row<T>>, spare: &mut Vec<Row<T>>, entry: 
         start(rows, spare, entry);
         return;
     }
-    let seat = seat_of(rows, entry.key());
+    let seat = seat_near(rows, last, entry.key());
     insert_in(rows, seat, entry);
     if rows[seat].len() == ROW {
         split(rows, seat, spare);
@@ -203,7 +236,12 @@ fn goes_with(here: usize, beside: usize) -> bool
 }
 
 /// Takes out the entry with this key.
-pub fn take<T: RowEntry>(rows: &mut Vec<Row<T>>, spare: &mut Vec<Row<T>>, key: u128) -> T
+pub fn take<T: RowEntry>(
+    rows: &mut Vec<Row<T>>,
+    spare: &mut Vec<Row<T>>,
+    last: usize,
+    key: u128,
+) -> T
     requires laid { IsLaid T.rank rows.old.items }
     requires short { AreShort rows.old.items }
     requires spare { All (λ r. r ≡ []) spare.old.items }
@@ -219,21 +257,21 @@ pub fn take<T: RowEntry>(rows: &mut Vec<Row<T>>, spare: &mut Vec<Row<T>>, key: u
     ensures capacity { vec_capacity rows.new ≡ vec_capacity rows.old }
     ensures spare_capacity { vec_capacity spare.new ≡ vec_capacity spare.old }
 {
-    let seat = seat_of(rows, key);
+    let seat = seat_near(rows, last, key);
     let entry = remove_in(rows, seat, key);
     settle(rows, seat, spare);
     entry
 }
 
 /// The first entry at or above the key.
-pub fn least_from<T: RowEntry>(rows: &[Row<T>], key: u128) -> Option<T>
+pub fn least_from<T: RowEntry>(rows: &[Row<T>], last: usize, key: u128) -> Option<T>
     requires laid { IsLaid T.rank rows.now }
     ensures { result ≡ first_from T.rank key (entries_in rows.now) }
 {
     if rows.is_empty() {
         return None;
     }
-    let seat = seat_of(rows, key);
+    let seat = seat_near(rows, last, key);
     let row = &rows[seat];
     let at = row.below(key);
     if at < row.len() {
@@ -247,14 +285,14 @@ pub fn least_from<T: RowEntry>(rows: &[Row<T>], key: u128) -> Option<T>
 }
 
 /// The last entry at or below the key.
-pub fn greatest_to<T: RowEntry>(rows: &[Row<T>], key: u128) -> Option<T>
+pub fn greatest_to<T: RowEntry>(rows: &[Row<T>], last: usize, key: u128) -> Option<T>
     requires laid { IsLaid T.rank rows.now }
     ensures { result ≡ last_to T.rank key (entries_in rows.now) }
 {
     if rows.is_empty() {
         return None;
     }
-    let seat = seat_of(rows, key);
+    let seat = seat_near(rows, last, key);
     let row = &rows[seat];
     let upper = row.up_to(key);
     if upper == 0 {

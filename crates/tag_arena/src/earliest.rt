@@ -76,6 +76,7 @@ fn earliest_fit<D: Deed>(
     ensures unchanged { rising.new ≡ rising.old }
 {
     let units = request.units(quantum)?;
+    rising.go_to(start, u64::MAX);
     if let Some(range) = last_by(slots, rising, start) {
         if let Some(base) = probes.least_in(request, quantum, range, start) {
             return Some(Fit { range, base });

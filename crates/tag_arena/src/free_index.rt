@@ -125,6 +125,15 @@ impl<D: Deed> FreeIndex<D> {
         Ok(())
     }
 
+    /// Goes to where a range lies by base and by length. It is for speed alone: the calls that follow
+    /// there need no search for its rows.
+    fn go_to(&mut self, range: HeldRange)
+        ensures unchanged { self.new ≡ self.old }
+    {
+        self.rising.go_to(range.base(), range.len());
+        self.sizes.go_to(range.len(), range.base());
+    }
+
     /// A range becomes free: it is the newest. It takes no memory.
     pub fn insert(&mut self, deed: Stored<D>)
         requires absent { All (λ r. r.range.base ≢ deed.range.base) self.old.ranges }
@@ -363,6 +372,7 @@ impl<D: Deed> FreeIndex<D> {
         ensures merges { Merges span deed self.old.ranges result self.new.ranges }
         ensures rest { self.new ≡ record self.old { ranges = self.new.ranges } }
     {
+        self.go_to(held_range_of(&deed));
         let range = deed.range();
         let left = self.take_left(span.base(), range.base());
         let right = self.take_right(range.end(), span.end());
@@ -450,6 +460,7 @@ impl<D: Deed> FreeIndex<D> {
         ensures len { length self.new.ranges ≤ length self.old.ranges + 1 }
         ensures ticks { self.old.ticks ≤ self.new.ticks + 2 }
     {
+        self.go_to(range);
         // For their clauses: each of these ranges has units.
         let _ = range.end();
         let _ = self.len();

@@ -94,6 +94,14 @@ impl OrderedIndex {
         Ok(())
     }
 
+    /// Goes to where the key of two numbers belongs. It is for speed alone: the calls that follow
+    /// near the key need no search for its row.
+    pub fn go_to(&mut self, major: u64, minor: u64)
+        ensures unchanged { self.new ≡ self.old }
+    {
+        self.rows.go_to(key_of(major, minor));
+    }
+
     /// Puts in the entry of a free range, where it is kept.
     pub fn enter(&mut self, slot: usize, tag: SlotTag)
         requires room { HasRoomForOne self.old.kept self.old.items self.old.room }

@@ -41,6 +41,7 @@ pub fn best_fit<D: Deed>(
     ensures unchanged { sizes.new ≡ sizes.old }
 {
     let units = request.units(quantum)?;
+    sizes.go_to(units, 0);
     if request.align == 0 && request.nocross == 0 {
         best_by_length(slots, sizes, quantum, request, units, probes)
     } else {

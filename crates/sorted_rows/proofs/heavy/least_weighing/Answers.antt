@@ -2,4 +2,4 @@ use Rattle.sorted_rows.proofs.RowLemmas.{rises_at}
 use Rattle.sorted_rows.proofs.heavy.least_weighing.Goals as goal
 
 pub below-at-requires : goal.below-at-requires
-below-at-requires g c = rises_at g.T.RowEntry.rank c.args.rows.now c.seat_of-seat.result _ c.seat_of-seat.ensures.within c.requires.laid.rises
+below-at-requires g c = rises_at g.T.RowEntry.rank c.args.rows.now c.seat_near-seat.result _ c.seat_near-seat.ensures.within c.requires.laid.rises

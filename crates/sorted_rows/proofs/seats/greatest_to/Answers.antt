@@ -6,14 +6,14 @@ use Rattle.sorted_rows.proofs.LastLemmas.{last_here, last_none}
 use Rattle.sorted_rows.proofs.seats.greatest_to.Goals as goal
 
 pub up_to-upper-requires : goal.up_to-upper-requires
-up_to-upper-requires g c = subst (Rises g.T.RowEntry.rank) (sym c.index-rows-seat.is) (rises_at g.T.RowEntry.rank c.args.rows.now c.seat_of-seat.result _ c.seat_of-seat.ensures.within c.requires.laid.rises)
+up_to-upper-requires g c = subst (Rises g.T.RowEntry.rank) (sym c.index-rows-seat.is) (rises_at g.T.RowEntry.rank c.args.rows.now c.seat_near-seat.result _ c.seat_near-seat.ensures.within c.requires.laid.rises)
 
 pub returns-then-upper-eq0 : goal.returns-then-upper-eq0
 returns-then-upper-eq0 g c =
-    let e = c.index-rows-seat.is ∙ get_or_default c.args.rows.now c.seat_of-seat.result _ [] c.seat_of-seat.ensures.within in
-    last_none g.T.RowEntry.rank c.args.key c.args.rows.now c.seat_of-seat.result c.up_to-upper.result c.index-rows-seat.result c.requires.laid c.seat_of-seat.ensures.within e c.seat_of-seat.ensures.seat c.up_to-upper.ensures (omega arith) (λ d h. rw e (c.seat_of-seat.ensures.first d h))
+    let e = c.index-rows-seat.is ∙ get_or_default c.args.rows.now c.seat_near-seat.result _ [] c.seat_near-seat.ensures.within in
+    last_none g.T.RowEntry.rank c.args.key c.args.rows.now c.seat_near-seat.result c.up_to-upper.result c.index-rows-seat.result c.requires.laid c.seat_near-seat.ensures.within e c.seat_near-seat.ensures.seat c.up_to-upper.ensures (omega arith) (λ d h. rw e (c.seat_near-seat.ensures.first d h))
 
 pub returns : goal.returns
 returns g c =
-    let e = c.index-rows-seat.is ∙ get_or_default c.args.rows.now c.seat_of-seat.result _ [] c.seat_of-seat.ensures.within in
-    last_here g.T.RowEntry.rank c.args.key c.args.rows.now c.seat_of-seat.result c.up_to-upper.result c.index-rows-seat.result c.get.result c.seat_of-seat.ensures.within e c.seat_of-seat.ensures.seat c.up_to-upper.ensures (omega arith) c.get.ensures
+    let e = c.index-rows-seat.is ∙ get_or_default c.args.rows.now c.seat_near-seat.result _ [] c.seat_near-seat.ensures.within in
+    last_here g.T.RowEntry.rank c.args.key c.args.rows.now c.seat_near-seat.result c.up_to-upper.result c.index-rows-seat.result c.get.result c.seat_near-seat.ensures.within e c.seat_near-seat.ensures.seat c.up_to-upper.ensures (omega arith) c.get.ensures
