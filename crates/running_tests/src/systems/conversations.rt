@@ -19,6 +19,7 @@ use tag_arena::Policy;
 #[test]
 fn running_rows(rt: HostRuntime) {
     of_roots(&rt);
+    of_incarnations(&rt);
     of_constraints(&rt);
     of_policies(&rt);
     of_caches(&rt);
@@ -92,6 +93,28 @@ fn of_roots<R: Abort + Wait + AllocGlobal>(rt: &R) {
             ("hello 1 2", "welcome 1 2"),
             ("hello 2 1", "welcome 2 1"),
             ("lease 2 1 1 p 4", "granted 2 1 1 p 1 4"),
+        ],
+    );
+}
+
+// A hello of a lower incarnation is refused, and changes nothing: neither the incarnation, nor its
+// last number, nor a lease. Nor is a request of another incarnation served, or of a client that
+// never said hello.
+fn of_incarnations<R: Abort + Wait + AllocGlobal>(rt: &R) {
+    talk(
+        rt,
+        &["root m 0 64 1 best 0"],
+        &[
+            ("hello 1 2", "welcome 1 2"),
+            ("hello 1 1", "old 1 2"),
+            ("lease 1 2 1 m 60", "granted 1 2 1 m 0 60"),
+            ("hello 1 1", "old 1 2"),
+            ("lease 1 1 1 m 4", "old 1 2"),
+            ("lease 1 3 1 m 4", "old 1 2"),
+            ("release 1 1 2 m 0", "old 1 2"),
+            ("lease 2 1 1 m 4", "old 2 0"),
+            ("release 2 1 1 m 0", "old 2 0"),
+            ("lease 1 2 2 m 8", "refused 1 2 2 nofit"),
         ],
     );
 }

@@ -22,7 +22,8 @@ fn repeats_are_told(rt: HostRuntime) -> Result<(), Fail> {
 }
 
 // Each line with its answer, and whether it is settled by that. What comes again is another line in
-// part: it is answered as the first one was.
+// part: it is answered as the first one was. A number before the last one, or beyond the next, is
+// told the last one.
 fn repeated<N: Name, R: Abort + Wait + AllocGlobal>(rt: &R, ground: Ground, setup: Setup)
     requires { ground ≡ N.table }
 {
@@ -36,6 +37,12 @@ fn repeated<N: Name, R: Abort + Wait + AllocGlobal>(rt: &R, ground: Ground, setu
         ("lease 1 1 2 m 5", "refused 1 1 2 nofit", true),
         ("lease 1 1 2 m 4", "refused 1 1 2 nofit", false),
         ("release 1 1 3 m 1", "refused 1 1 3 notyours", true),
+        ("lease 1 1 1 m 4", "stale 1 1 1 3", false),
+        ("lease 1 1 2 z 4", "stale 1 1 2 3", false),
+        ("release 1 1 1 m 0", "stale 1 1 1 3", false),
+        ("release 1 1 2 z 0", "stale 1 1 2 3", false),
+        ("release 1 1 5 m 0", "gap 1 1 5 3", false),
+        ("release 1 1 5 z 0", "gap 1 1 5 3", false),
         ("release 1 1 4 m 0", "released 1 1 4", true),
         ("release 1 1 4 m 0", "released 1 1 4", false),
         ("lease 1 1 5 z 4", "refused 1 1 5 noarena", true),
