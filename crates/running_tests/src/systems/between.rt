@@ -1,7 +1,7 @@
 //! Between the steps of a request no lock is held.
 ghost use Rattle.std.specs.Prelude.{◌≡◌};
 
-use super::{ask, cpu, line, made, retire, root, shut};
+use super::{ask, child, cpu, line, made, retire, root, shut};
 use arena_tree::Setup;
 use deed_table::{Ground, Name};
 use lease_proto::Reply;
@@ -76,11 +76,13 @@ fn released<N: Name, R: Abort + Wait + AllocGlobal>(
 fn no_lock_between_steps(rt: HostRuntime) -> Result<(), Fail> {
     let mut setup = Setup::new(rt.alloc());
     root(&rt, &mut setup, "d", 0, 256, Policy::Best, 5);
+    child(&rt, &mut setup, "e", "d");
     served_between::<Brand, _>(&rt, Ground::new(rt.alloc())?, setup);
     Ok(())
 }
 
-// A lease by a new slab, a release into the magazines, a lease that is carved, one that is refused.
+// Lines, and how many steps each has: a lease by a new slab, one that is carved, one that is
+// refused, one that imports, and what comes back of them.
 fn served_between<N: Name, R: Abort + Wait + AllocGlobal>(rt: &R, ground: Ground, setup: Setup)
     requires { ground ≡ N.table }
 {
@@ -95,21 +97,24 @@ fn served_between<N: Name, R: Abort + Wait + AllocGlobal>(rt: &R, ground: Ground
         other: &other,
         asked: &asked,
     };
-    let texts = [
-        "hello 1 1",
-        "lease 1 1 1 d 1",
-        "lease 1 1 1 d 1",
-        "lease 1 1 2 d 40",
-        "lease 1 1 3 d 256",
-        "release 1 1 4 z 0",
+    let rows = [
+        ("hello 1 1", 2),
+        ("lease 1 1 1 d 1", 7),
+        ("lease 1 1 1 d 1", 1),
+        ("lease 1 1 2 d 40", 3),
+        ("lease 1 1 3 d 256", 3),
+        ("release 1 1 4 z 0", 1),
+        ("lease 1 1 5 e 6", 5),
+        ("hello 1 2", 9),
     ];
-    for text in texts {
+    let mut steps: u64 = 0;
+    for (text, count) in &rows {
         match system.request(rt, &mut one, &gate, &line(rt, text)) {
-            Ok(_) => {}
+            Ok(_) => steps = count.saturating_add(steps),
             Err(RequestStopped) => panic!(rt; "stopped"),
         }
+        assert_eq!(rt; asked.load(Ordering::SeqCst), steps.saturating_mul(2));
     }
-    assert!(rt; asked.load(Ordering::SeqCst) >= 24);
     retire(rt, &system, one);
     retire(rt, &system, other.into_inner());
     shut(rt, system, &[(0, 256)]);

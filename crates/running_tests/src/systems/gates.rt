@@ -1,7 +1,7 @@
 //! Requests that a gate holds or stops.
 ghost use Rattle.std.specs.Prelude.{◌≡◌};
 
-use super::{ask, cpu, line, made, retire, root, same, shut, stuck};
+use super::{ask, child, cpu, line, made, retire, root, same, shut, stuck};
 use arena_tree::Setup;
 use deed_table::{Ground, Name};
 use lease_threads::{Cpu, EventName, Gate, NextStep, Pass, RequestStopped, System};
@@ -199,86 +199,176 @@ fn taken_up<N: Name, R: Abort + Wait + AllocGlobal>(
     shut(rt, system, &[(0, 64)]);
 }
 
-/// What a CPU holds before each step of a lease: the look, the pop, the swap for a full magazine,
-/// the chunk, the carve of a slab, the slab, the settle.
-const HELD_AT: [u128; 7] = [0, 0, 0, 0, 0, 16, 1];
-
-#[test]
-fn drain_step(rt: HostRuntime) -> Result<(), Fail> {
-    for turn in 0..7 {
-        let mut setup = Setup::new(rt.alloc());
-        root(&rt, &mut setup, "d", 0, 64, Policy::Instant, 5);
-        lease_stopped::<Brand, _>(&rt, Ground::new(rt.alloc())?, setup, turn);
-    }
-    for turn in 0..2 {
-        let mut setup = Setup::new(rt.alloc());
-        root(&rt, &mut setup, "d", 0, 64, Policy::Instant, 5);
-        release_stopped::<Brand, _>(&rt, Ground::new(rt.alloc())?, setup, turn);
-    }
-    Ok(())
+/// A line that a gate stops, before each of its steps in turn.
+#[derive(Drop)]
+struct Halting<'a> {
+    /// Lines that are answered before it.
+    before: &'a [(&'a str, &'a str)],
+    text: &'a str,
+    /// How many units the CPU holds before each step.
+    held: &'a [u128],
+    /// What another CPU is asked then, and is answered.
+    then: (&'a str, &'a str),
 }
 
-fn lease_stopped<N: Name, R: Abort + Wait + AllocGlobal>(
+// A lease by a new slab: the look, the pop, the swap for a full magazine, the chunk, the carve of a
+// slab, the slab, the settle. A release: the release, the push.
+#[test]
+fn drain_step(rt: HostRuntime) {
+    let hello = ("hello 1 1", "welcome 1 1");
+    let lease = ("lease 1 1 1 d 1", "granted 1 1 1 d 0 1");
+    let release = ("release 1 1 2 d 0", "released 1 1 2");
+    let leased = [hello, lease];
+    let of_lease = Halting {
+        before: &leased[..1],
+        text: lease.0,
+        held: &[0, 0, 0, 0, 0, 16, 1],
+        then: lease,
+    };
+    stop_at_each(&rt, &of_lease);
+    let of_release = Halting {
+        before: &leased,
+        text: release.0,
+        held: &[0, 1],
+        then: release,
+    };
+    stop_at_each(&rt, &of_release);
+}
+
+// A lease that imports: the look, the two carves, the span that is added, the settle. Then a
+// release, and a sweep, whose import goes back by a second free.
+#[test]
+fn import_step(rt: HostRuntime) {
+    let hello = ("hello 1 1", "welcome 1 1");
+    let lease = ("lease 1 1 1 b 6", "granted 1 1 1 b 0 6");
+    let release = ("release 1 1 2 b 0", "released 1 1 2");
+    let restart = ("hello 1 2", "welcome 1 2");
+    let leased = [hello, lease];
+    let of_lease = Halting {
+        before: &leased[..1],
+        text: lease.0,
+        held: &[0, 0, 0, 16, 6],
+        then: lease,
+    };
+    stop_at_each(&rt, &of_lease);
+    let of_release = Halting {
+        before: &leased,
+        text: release.0,
+        held: &[0, 6, 16],
+        then: release,
+    };
+    stop_at_each(&rt, &of_release);
+    let of_sweep = Halting {
+        before: &leased,
+        text: restart.0,
+        held: &[0, 0, 6, 16, 0],
+        then: restart,
+    };
+    stop_at_each(&rt, &of_sweep);
+}
+
+// What would be refused is stopped, before its settle last: then nothing is settled, and the same
+// number is still free for a lease.
+#[test]
+fn refusal_step(rt: HostRuntime) {
+    let rows: [(&str, &[u128]); 4] = [
+        ("lease 1 1 1 d 65", &[0, 0, 0]),
+        ("lease 1 1 1 d 0", &[0, 0, 0]),
+        ("lease 1 1 1 z 1", &[0, 0]),
+        ("release 1 1 1 d 0", &[0]),
+    ];
+    for (text, held) in &rows {
+        let row = Halting {
+            before: &[("hello 1 1", "welcome 1 1")],
+            text,
+            held,
+            then: ("lease 1 1 1 d 1", "granted 1 1 1 d 0 1"),
+        };
+        stop_at_each(&rt, &row);
+    }
+}
+
+// Each step in a system of its own: an arena with caches, and one that imports of it.
+fn stop_at_each<R: Abort + Wait + AllocGlobal>(rt: &R, row: &Halting) {
+    for turn in 0..row.held.len() {
+        let mut setup = Setup::new(rt.alloc());
+        root(rt, &mut setup, "d", 0, 64, Policy::Instant, 5);
+        child(rt, &mut setup, "b", "d");
+        let ground = Ground::new(rt.alloc()).expect(rt, "a table");
+        stop_at::<Brand, _>(rt, ground, setup, row, turn);
+    }
+}
+
+fn stop_at<N: Name, R: Abort + Wait + AllocGlobal>(
     rt: &R,
     ground: Ground,
     setup: Setup,
+    row: &Halting,
     turn: usize,
 )
     requires { ground ≡ N.table }
 {
     let system: System<N> = made(rt, ground, setup);
     let mut one = cpu(rt, &system, 0);
-    ask(rt, &system, &mut one, "hello 1 1", "welcome 1 1");
-    let lease = "lease 1 1 1 d 1";
-    let held = HELD_AT.get(turn).expect(rt, "a step");
-    stop(rt, &system, &mut one, lease, turn as u64, *held);
-    taken_up(rt, system, one, lease, "granted 1 1 1 d 0 1");
+    for (text, wanted) in row.before {
+        ask(rt, &system, &mut one, text, wanted);
+    }
+    let held = row.held.get(turn).expect(rt, "a step");
+    stop(rt, &system, &mut one, row.text, turn as u64, *held);
+    let (text, wanted) = row.then;
+    taken_up(rt, system, one, text, wanted);
 }
 
-// Before the release nothing is held, and before the push the chunk.
-fn release_stopped<N: Name, R: Abort + Wait + AllocGlobal>(
-    rt: &R,
-    ground: Ground,
-    setup: Setup,
-    turn: u64,
-)
-    requires { ground ≡ N.table }
-{
-    let system: System<N> = made(rt, ground, setup);
-    let mut one = cpu(rt, &system, 0);
-    ask(rt, &system, &mut one, "hello 1 1", "welcome 1 1");
-    ask(
-        rt,
-        &system,
-        &mut one,
-        "lease 1 1 1 d 1",
-        "granted 1 1 1 d 0 1",
-    );
-    let release = "release 1 1 2 d 0";
-    stop(rt, &system, &mut one, release, turn, u128::from(turn));
-    taken_up(rt, system, one, release, "released 1 1 2");
-}
-
-/// What a stopped request left in the hand is placed before the next line is served: else there
-/// would be no room for it.
+/// What a stopped request left in the hand is placed before the next line is served, and before a
+/// reaping: else there would be no room for it.
 #[test]
 fn hand_is_placed_first(rt: HostRuntime) -> Result<(), Fail> {
     let mut setup = Setup::new(rt.alloc());
-    root(&rt, &mut setup, "m", 0, 64, Policy::Best, 0);
+    root(&rt, &mut setup, "d", 0, 64, Policy::Instant, 5);
     placed_first::<Brand, _>(&rt, Ground::new(rt.alloc())?, setup);
     Ok(())
 }
 
+// The hand holds all but the slab of another CPU, which the reaping finds.
 fn placed_first<N: Name, R: Abort + Wait + AllocGlobal>(rt: &R, ground: Ground, setup: Setup)
     requires { ground ≡ N.table }
 {
     let system: System<N> = made(rt, ground, setup);
     let mut one = cpu(rt, &system, 0);
+    leave_slab(rt, &system);
     ask(rt, &system, &mut one, "hello 1 1", "welcome 1 1");
-    let lease = "lease 1 1 1 m 64";
-    stop(rt, &system, &mut one, lease, 2, 64);
-    ask(rt, &system, &mut one, lease, "granted 1 1 1 m 0 64");
-    assert!(rt; one.units() == 0);
+    let lease = "lease 1 1 1 d 48";
+    stop(rt, &system, &mut one, lease, 2, 48);
+    ask(rt, &system, &mut one, lease, "granted 1 1 1 d 16 48");
+    assert_eq!(rt; one.units(), 0);
+    let release = "release 1 1 2 d 16";
+    stop(rt, &system, &mut one, release, 1, 48);
+    ask(rt, &system, &mut one, "hello 1 2", "welcome 1 2");
+    assert_eq!(rt; one.units(), 0);
+    stop(rt, &system, &mut one, "lease 1 2 1 d 48", 2, 48);
+    assert_eq!(rt; system.reap(rt, &mut one, 0, 1024), 16);
+    assert_eq!(rt; one.units(), 0);
+    ask(
+        rt,
+        &system,
+        &mut one,
+        "lease 1 2 1 d 64",
+        "granted 1 2 1 d 0 64",
+    );
     retire(rt, &system, one);
     shut(rt, system, &[(0, 64)]);
+}
+
+// Another CPU leases a unit and releases it, and is retired: a slab is left, with no chunk out.
+fn leave_slab<N: Name, R: Abort + Wait + AllocGlobal>(rt: &R, system: &System<N>) {
+    let mut two = cpu(rt, system, 1);
+    let rows = [
+        ("hello 2 1", "welcome 2 1"),
+        ("lease 2 1 1 d 1", "granted 2 1 1 d 0 1"),
+        ("release 2 1 2 d 0", "released 2 1 2"),
+    ];
+    for (text, wanted) in &rows {
+        ask(rt, system, &mut two, text, wanted);
+    }
+    retire(rt, system, two);
 }

@@ -1,4 +1,4 @@
-use Rattle.running_tests.proofs.systems.orders.gates_in_order.Given as goal
+use Rattle.running_tests.proofs.systems.orders.by_steps.Given as goal
 
 -- the table that was just made
 abbrev pub ghosts-in_order : goal.ghosts-in_order
