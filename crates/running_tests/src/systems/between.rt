@@ -110,7 +110,7 @@ fn served_between<N: Name, R: Abort + Wait + AllocGlobal>(rt: &R, ground: Ground
     let mut steps: u64 = 0;
     for (text, count) in &rows {
         match system.request(rt, &mut one, &gate, &line(rt, text)) {
-            Ok(_) => steps = count.saturating_add(steps),
+            Ok(_) => steps = steps.saturating_add(*count),
             Err(RequestStopped) => panic!(rt; "stopped"),
         }
         assert_eq!(rt; asked.load(Ordering::SeqCst), steps.saturating_mul(2));

@@ -215,56 +215,60 @@ struct Halting<'a> {
 // slab, the slab, the settle. A release: the release, the push.
 #[test]
 fn drain_step(rt: HostRuntime) {
-    let hello = ("hello 1 1", "welcome 1 1");
-    let lease = ("lease 1 1 1 d 1", "granted 1 1 1 d 0 1");
-    let release = ("release 1 1 2 d 0", "released 1 1 2");
-    let leased = [hello, lease];
-    let of_lease = Halting {
-        before: &leased[..1],
-        text: lease.0,
+    let lease = Halting {
+        before: &[("hello 1 1", "welcome 1 1")],
+        text: "lease 1 1 1 d 1",
         held: &[0, 0, 0, 0, 0, 16, 1],
-        then: lease,
+        then: ("lease 1 1 1 d 1", "granted 1 1 1 d 0 1"),
     };
-    stop_at_each(&rt, &of_lease);
-    let of_release = Halting {
-        before: &leased,
-        text: release.0,
+    stop_at_each(&rt, &lease);
+    let release = Halting {
+        before: &[
+            ("hello 1 1", "welcome 1 1"),
+            ("lease 1 1 1 d 1", "granted 1 1 1 d 0 1"),
+        ],
+        text: "release 1 1 2 d 0",
         held: &[0, 1],
-        then: release,
+        then: ("release 1 1 2 d 0", "released 1 1 2"),
     };
-    stop_at_each(&rt, &of_release);
+    stop_at_each(&rt, &release);
 }
 
-// A lease that imports: the look, the two carves, the span that is added, the settle. Then a
-// release, and a sweep, whose import goes back by a second free.
+// A lease that imports: the look, the two carves, the span that is added, the settle.
 #[test]
 fn import_step(rt: HostRuntime) {
-    let hello = ("hello 1 1", "welcome 1 1");
-    let lease = ("lease 1 1 1 b 6", "granted 1 1 1 b 0 6");
-    let release = ("release 1 1 2 b 0", "released 1 1 2");
-    let restart = ("hello 1 2", "welcome 1 2");
-    let leased = [hello, lease];
-    let of_lease = Halting {
-        before: &leased[..1],
-        text: lease.0,
+    let lease = Halting {
+        before: &[("hello 1 1", "welcome 1 1")],
+        text: "lease 1 1 1 b 6",
         held: &[0, 0, 0, 16, 6],
-        then: lease,
+        then: ("lease 1 1 1 b 6", "granted 1 1 1 b 0 6"),
     };
-    stop_at_each(&rt, &of_lease);
-    let of_release = Halting {
-        before: &leased,
-        text: release.0,
+    stop_at_each(&rt, &lease);
+}
+
+// A release, and a sweep, of a lease whose import goes back by a second free.
+#[test]
+fn return_step(rt: HostRuntime) {
+    let release = Halting {
+        before: &[
+            ("hello 1 1", "welcome 1 1"),
+            ("lease 1 1 1 b 6", "granted 1 1 1 b 0 6"),
+        ],
+        text: "release 1 1 2 b 0",
         held: &[0, 6, 16],
-        then: release,
+        then: ("release 1 1 2 b 0", "released 1 1 2"),
     };
-    stop_at_each(&rt, &of_release);
-    let of_sweep = Halting {
-        before: &leased,
-        text: restart.0,
+    stop_at_each(&rt, &release);
+    let sweep = Halting {
+        before: &[
+            ("hello 1 1", "welcome 1 1"),
+            ("lease 1 1 1 b 6", "granted 1 1 1 b 0 6"),
+        ],
+        text: "hello 1 2",
         held: &[0, 0, 6, 16, 0],
-        then: restart,
+        then: ("hello 1 2", "welcome 1 2"),
     };
-    stop_at_each(&rt, &of_sweep);
+    stop_at_each(&rt, &sweep);
 }
 
 // What would be refused is stopped, before its settle last: then nothing is settled, and the same
