@@ -4,9 +4,10 @@
 //! `systems::conversations` has setups with lines and what they are answered, the same as of a
 //! script (`running_rows`); `rows` has lines and their answers, asked of two CPUs in turn, and how
 //! a system ends; `gates` has requests that a gate holds or stops, in two threads; `orders` the
-//! steps of requests; `between` what is free between them; `repeats` which lines are settled and
-//! which come again; `soak` has four workers for ten seconds, after which no two leases overlap and
-//! each root comes back whole.
+//! steps of requests, imports, exchanges and changes of magazines among them; `between` what is
+//! free between steps, and how many there are; `repeats` which lines are settled and which come
+//! again; `soak` has four workers for ten seconds, after which no two leases overlap and each root
+//! comes back whole.
 #![tactic(auto)]
 
 #[cfg(test)]

@@ -181,7 +181,7 @@ fn stop<N: Name, R: Abort + Wait>(
     assert_eq!(rt; cpu.units(), units);
 }
 
-// A CPU fails, what it has is placed, and another one is asked the same.
+// A CPU fails, what it has is placed, and another one is asked a line.
 fn taken_up<N: Name, R: Abort + Wait + AllocGlobal>(
     rt: &R,
     system: System<N>,
