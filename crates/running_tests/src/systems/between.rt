@@ -81,6 +81,23 @@ fn no_lock_between_steps(rt: HostRuntime) -> Result<(), Fail> {
     Ok(())
 }
 
+// Asks a line that has so many steps. Between them the other CPU is asked two lines each.
+fn ask_between<N: Name, R: Abort + Wait + AllocGlobal>(
+    rt: &R,
+    gate: &Between<N, R>,
+    one: &mut Cpu<N>,
+    text: &str,
+    steps: u64,
+) {
+    let before = gate.asked.load(Ordering::SeqCst);
+    match gate.system.request(rt, one, gate, &line(rt, text)) {
+        Ok(_) => {}
+        Err(RequestStopped) => panic!(rt; "stopped"),
+    }
+    let after = gate.asked.load(Ordering::SeqCst);
+    assert_eq!(rt; after, before.saturating_add(steps.saturating_mul(2)));
+}
+
 // Lines, and how many steps each has: a lease by a new slab, one that is carved, one that is
 // refused, one that imports, and what comes back of them.
 fn served_between<N: Name, R: Abort + Wait + AllocGlobal>(rt: &R, ground: Ground, setup: Setup)
@@ -107,13 +124,8 @@ fn served_between<N: Name, R: Abort + Wait + AllocGlobal>(rt: &R, ground: Ground
         ("lease 1 1 5 e 6", 5),
         ("hello 1 2", 9),
     ];
-    let mut steps: u64 = 0;
-    for (text, count) in &rows {
-        match system.request(rt, &mut one, &gate, &line(rt, text)) {
-            Ok(_) => steps = steps.saturating_add(*count),
-            Err(RequestStopped) => panic!(rt; "stopped"),
-        }
-        assert_eq!(rt; asked.load(Ordering::SeqCst), steps.saturating_mul(2));
+    for (text, steps) in &rows {
+        ask_between(rt, &gate, &mut one, text, *steps);
     }
     retire(rt, &system, one);
     retire(rt, &system, other.into_inner());
