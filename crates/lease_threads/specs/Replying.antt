@@ -90,7 +90,7 @@ IsForeign arenas (kept.Granted arena base len) terms =
 IsForeign arenas kept.Released terms = ⊥
 IsForeign arenas (kept.Refused why) terms = ⊥
 
--- what the receipt of the request is told as: by what it says, or, where that is foreign, by `again`
+-- what the request's receipt is told as: by what it says, or, where that is foreign, by `again`
 abbrev pub IsToldAs : List TreeArena → RequestId → ReceiptState → Reply → Option ReceiptState
     → Type 0
 IsToldAs arenas id v r (Some w) = (w ≡ v) × TellsSettled arenas id v.reply r
