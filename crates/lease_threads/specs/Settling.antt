@@ -66,21 +66,19 @@ abbrev pub IsBadLease : List TreeArena → LeaseLine → Type 0
 IsBadLease arenas l = (arena : ℕ) × (index_in l.arena arenas ≡ Some arena)
     × (¬ IsGood (quantum_in (nodes_of arenas) arena) (demand_of l))
 
--- a lease is refused so: for the name of its arena just where no arena has that, as bad just where
--- that arena takes no such request, and else for want of a fit or for the leases of its client
+-- a lease is refused so: for the name of its arena just where no arena has that, as bad only where
+-- that arena takes no such request, and for want of a fit only where it takes it
 abbrev pub MayRefuseLease : List TreeArena → LeaseLine → Refusal → Type 0
 MayRefuseLease arenas l refusal.NoArena = index_in l.arena arenas ≡ None
 MayRefuseLease arenas l refusal.BadRequest = IsBadLease arenas l
 MayRefuseLease arenas l refusal.NoFit = IsGoodLease arenas l
-MayRefuseLease arenas l refusal.Leases = IsGoodLease arenas l
+MayRefuseLease arenas l refusal.Leases = index_in l.arena arenas ≢ None
 MayRefuseLease arenas l refusal.NotYours = ⊥
 
--- settled by units of the arena that it names, for what it asks of that arena, which takes such a
--- request, or refused
+-- settled by units of the arena that it names, for what it asks of that arena, or refused
 abbrev pub SettlesLease : List TreeArena → LeaseLine → KeptReply → Option Terms → Type 0
 SettlesLease arenas l (kept.Granted arena base len) terms =
     (index_in l.arena arenas ≡ Some arena)
-    × IsGood (quantum_in (nodes_of arenas) arena) (demand_of l)
     × (terms
     ≡ Some (record { quantum = quantum_in (nodes_of arenas) arena; request = demand_of l }))
 SettlesLease arenas l kept.Released terms = ⊥

@@ -2,7 +2,7 @@
 //! segment that isn't placed stays in the CPU's hand.
 ghost use Rattle.std.specs.Prelude.{◌≡◌, ◌≢◌, ◌<◌, None, Err, true, false, length, Option};
 ghost use Rattle.std.specs.Prelude.{IfOk, IfErr, OnErr};
-ghost use Rattle.deed_core.specs.Request.{Fits, IsGood, IsPlain};
+ghost use Rattle.deed_core.specs.Request.{Fits, IsPlain};
 ghost use Rattle.deed_core.specs.Tag.{Tag};
 ghost use Rattle.arena_tree.specs.Chains.{quantum_in};
 ghost use Rattle.arena_tree.specs.Trees.{nodes_of};
@@ -21,8 +21,8 @@ use std::sync::Wait;
 
 /// Why a request got no segment.
 pub(crate) enum Unserved {
-    /// Nothing that it may use fits. No part calls a request bad that is good for its arena.
-    NoFit,
+    /// The parts refuse it: nothing that it may use fits, or it is bad.
+    Refused,
     /// Out of memory, or a part refused a segment, which is in the hand.
     Again,
     /// The gate said Stop.
@@ -42,7 +42,6 @@ impl<N: Name> System<N> {
         request: &Request,
     ) -> Result<Segment<SeatDeed<N>>, Unserved>
         requires within { arena < length self.now.arenas }
-        requires good { IsGood (quantum_in (nodes_of self.now.arenas) arena) request.now }
         requires hand { cpu.old.hand ≡ None }
         ensures arena { IfOk result (λ t. t.arena ≡ arena) }
         ensures fits { IfOk result (λ t. Fits (quantum_in (nodes_of self.now.arenas) arena)
@@ -92,7 +91,7 @@ impl<N: Name> System<N> {
         *steps = running.steps;
         match carved {
             Ok(segment) => Ok(segment),
-            Err(CarveFault::NoFit | CarveFault::BadRequest) => Err(Unserved::NoFit),
+            Err(CarveFault::NoFit | CarveFault::BadRequest) => Err(Unserved::Refused),
             Err(CarveFault::NoMemory) => Err(Unserved::Again),
             Err(CarveFault::Stopped) => Err(stop_or_again(steps)),
         }
@@ -132,7 +131,7 @@ impl<N: Name> System<N> {
         *steps = running.steps;
         match allocated {
             Ok(segment) => Ok(segment),
-            Err(ClimbFault::NoFit | ClimbFault::BadRequest) => Err(Unserved::NoFit),
+            Err(ClimbFault::NoFit | ClimbFault::BadRequest) => Err(Unserved::Refused),
             Err(ClimbFault::NoMemory) => Err(Unserved::Again),
             Err(ClimbFault::Stuck(segment)) => {
                 cpu.hold(segment);

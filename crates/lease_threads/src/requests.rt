@@ -197,12 +197,13 @@ impl<N: Name> System<N> {
             return self.refuse(rt, gate, steps, id, Refusal::NoArena);
         };
         let request = demand_of(lease);
-        if !request.is_good(quantum_of(self.tree(), arena)) {
-            return self.refuse(rt, gate, steps, id, Refusal::BadRequest);
-        }
         match self.serve(rt, cpu, gate, steps, arena, &request) {
             Ok(segment) => self.grant(rt, cpu, gate, steps, id, arena, &request, segment),
-            Err(Unserved::NoFit) => self.refuse(rt, gate, steps, id, Refusal::NoFit),
+            Err(Unserved::Refused) => {
+                let is_good = request.is_good(quantum_of(self.tree(), arena));
+                let why = if is_good { Refusal::NoFit } else { Refusal::BadRequest };
+                self.refuse(rt, gate, steps, id, why)
+            }
             Err(Unserved::Again) => Ok(again(id)),
             Err(Unserved::Stopped) => Err(RequestStopped),
         }
