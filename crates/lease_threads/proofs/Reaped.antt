@@ -1,5 +1,5 @@
 -- What a reaping that was gone through comes to.
-use Rattle.std.proofs.Common.{◌≡◌, ◌∙◌, ℕ, List, Result, Ok, Err, Option, Some, None, subst, refl}
+use Rattle.std.proofs.Common.{◌≡◌, ◌∙◌, ℕ, List, Option, Some, subst}
 use Rattle.deed_core.specs.Tag.{Tag}
 use Rattle.arena_tree.specs.Chains.{Node}
 use Rattle.arena_tree.specs.declared.levels.Level.{Level}
@@ -8,11 +8,8 @@ use Rattle.arena_tree.specs.Events.{Event, AnswerTo}
 use Rattle.arena_tree.specs.Sound.{Sound}
 use Rattle.arena_tree.specs.Trees.{nodes_of, ChainFrom}
 use Rattle.arena_tree.specs.Plans.{Plan, Done, Ask, Step, Path, Ran}
-use Rattle.quantum_cache.specs.declared.emptying_faults.EmptyingFault.{EmptyingFault}
-use Rattle.quantum_cache.specs.declared.reaps.Reaping.{Reaping}
-use Rattle.quantum_cache.specs.Drains.{tag_emptying_fault}
 use Rattle.quantum_cache.specs.Reaps.{ReapEnd, reap_arena_plan}
-use Rattle.lease_threads.specs.Reaping.{EndsSoundly, HasReaped, ReapsSoundly, unplaced_hand}
+use Rattle.lease_threads.specs.Reaping.{EndsSoundly, HasReaped, ReapsSoundly}
 
 path_ends : {S A : Type 0} (step : S → (e : Event) → AnswerTo e → S → Type 0) (tree : S → List Node) (count rounds : S → ℕ) (nodes : List Node) (p : Plan A) (s t : S) (a : A) → tree s ≡ nodes → Path (Step step tree count rounds) p s t a → EndsSoundly nodes p a
 path_ends step tree count rounds nodes (Done b) s t a is d = d.1

@@ -6,6 +6,6 @@ use Rattle.lease_threads.specs.declared.lists.Unserved.TheVariants.{Refused, Aga
 
 -- where it is refused, the hand is empty
 abbrev pub LeavesHand : Unserved → Option Tag → Type 0
-LeavesHand (Refused why) hand = hand ≡ None
+LeavesHand Refused hand = hand ≡ None
 LeavesHand Again hand = Unit {0}
 LeavesHand Stopped hand = Unit {0}

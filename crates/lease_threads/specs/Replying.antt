@@ -1,5 +1,6 @@
 -- What a line may be answered, as far as can be told where nothing is known of the book.
-use Rattle.std.specs.Prelude.{◌≡◌, ◌≢◌, ℕ, ◌+◌, ◌*◌, ◌<◌, List, Option, Some, None, slice_get}
+use Rattle.std.specs.Prelude.{◌≡◌, ◌≢◌, ℕ, ◌+◌, ◌*◌, ◌<◌, List, Option, Some, None}
+use Rattle.std.specs.Prelude.{length, slice_get}
 use Rattle.lease_terms.specs.Requests.{RequestId}
 use Rattle.arena_tree.specs.declared.limits.TheConstants.{MOST_ARENAS, MOST_SPANS}
 use Rattle.arena_tree.specs.declared.trees.TreeArena.{TreeArena}
@@ -18,6 +19,11 @@ use Rattle.lease_proto.specs.declared.lines.Line.TheVariants as lines
 use Rattle.lease_proto.specs.declared.lines.HelloLine.{HelloLine}
 use Rattle.lease_proto.specs.declared.replies.Reply.{Reply}
 use Rattle.lease_proto.specs.declared.replies.Reply.TheVariants as reply
+
+-- nothing came of the request
+abbrev pub again_of : RequestId → Reply
+again_of id = reply.Again
+    (record { client = id.client; incarnation = id.incarnation; number = id.number })
 
 -- the root of the mark of a system's book: the one after those of all arenas
 abbrev pub mark_root : ℕ
@@ -77,6 +83,32 @@ pub record IsSettledBy (arenas : List TreeArena) (id : RequestId) (r : Reply) (v
   pub tells : TellsSettled arenas id v.reply r
   pub quantum : IsByQuantum arenas v.reply v.terms
 
+-- a grant that a system of these arenas can't have made: none of them has its number and quantum
+abbrev pub IsForeign : List TreeArena → KeptReply → Option Terms → Type 0
+IsForeign arenas (kept.Granted arena base len) terms =
+    arena < length arenas → ¬ IsByQuantum arenas (kept.Granted arena base len) terms
+IsForeign arenas kept.Released terms = ⊥
+IsForeign arenas (kept.Refused why) terms = ⊥
+
+-- what the request's receipt is told as: by what it says, or, where that is foreign, by `again`
+abbrev pub IsToldAs : List TreeArena → RequestId → ReceiptState → Reply → Option ReceiptState
+    → Type 0
+IsToldAs arenas id v r (Some w) = (w ≡ v) × TellsSettled arenas id v.reply r
+IsToldAs arenas id v r None = IsForeign arenas v.reply v.terms × (r ≡ again_of id)
+
+-- what the book's answer to the request is told as, by its cases
+abbrev pub TellsAnswer : {D : Type 0} → List TreeArena → RequestId → Answer D
+    → Reply → Option ReceiptState → Type 0
+TellsAnswer arenas id (answer.Kept v) r w = IsToldAs arenas id v r w
+TellsAnswer arenas id (answer.Refused v) r w = IsToldAs arenas id v r w
+TellsAnswer arenas id (answer.Old current) r w =
+    (r ≡ reply.Old (record { client = id.client; current = current })) × (w ≡ None)
+TellsAnswer arenas id (answer.Stale last) r w =
+    (r ≡ reply.Stale (record { id = id; last = last })) × (w ≡ None)
+TellsAnswer arenas id (answer.Gap last) r w =
+    (r ≡ reply.Gap (record { id = id; last = last })) × (w ≡ None)
+TellsAnswer arenas id answer.Again r w = (r ≡ again_of id) × (w ≡ None)
+
 abbrev pub IsReplyTo : List TreeArena → RequestId → Reply → Option ReceiptState → Type 0
 IsReplyTo arenas id r (Some v) = IsSettledBy arenas id r v
 IsReplyTo arenas id r None = IsUnsettledTo id r
@@ -88,6 +120,12 @@ IsGreeting h (reply.Old o) = (o.client ≡ h.client) × (h.incarnation < o.curre
 IsGreeting h (reply.Again a) =
     (a.client ≡ h.client) × (a.incarnation ≡ h.incarnation) × (a.number ≡ 0)
 IsGreeting h _ = ⊥
+
+-- the reply to a hello that isn't taken
+abbrev pub late_reply : HelloLine → HelloFault → Reply
+late_reply h (fault.Old current) = reply.Old (record { client = h.client; current = current })
+late_reply h fault.NoMemory =
+    reply.Again (record { client = h.client; incarnation = h.incarnation; number = 0 })
 
 -- what a line is answered, with a receipt just where something was settled
 abbrev pub IsAnswerTo : List TreeArena → Line → Reply → Option ReceiptState → Type 0

@@ -1,6 +1,7 @@
 -- How a line that isn't a repeat is settled.
-use Rattle.std.specs.Prelude.{◌≡◌, ◌≢◌, ◌⊎◌, List, Option, Some, None}
+use Rattle.std.specs.Prelude.{◌≡◌, ◌≢◌, ℕ, List, Option, Some, None}
 use Rattle.deed_core.specs.Tag.{Tag}
+use Rattle.deed_core.specs.Request.{IsGood}
 use Rattle.deed_core.specs.declared.requests.Request.{Request}
 use Rattle.lease_terms.specs.declared.refusals.Refusal.{Refusal}
 use Rattle.lease_terms.specs.declared.refusals.Refusal.TheVariants as refusal
@@ -19,8 +20,6 @@ use Rattle.lease_proto.specs.declared.lines.LeaseLine.{LeaseLine}
 use Rattle.lease_proto.specs.declared.lines.Op.{Op}
 use Rattle.lease_proto.specs.declared.lines.Op.TheVariants as op
 use Rattle.lease_proto.specs.declared.lines.ReleaseLine.{ReleaseLine}
-use Rattle.lease_threads.specs.declared.lists.Unserved.{Unserved}
-use Rattle.lease_threads.specs.declared.lists.Unserved.TheVariants.{Refused, Again, Stopped}
 
 -- what a lease asks of its arena
 abbrev pub demand_of : LeaseLine → Request
@@ -51,11 +50,30 @@ new_receipt answer.Again = None
 abbrev pub IsRefusalReceipt : Refusal → ReceiptState → Type 0
 IsRefusalReceipt why v = v.reply ≡ kept.Refused why
 
--- a lease is refused so: for the name of its arena just where no arena has that
+-- a refusal that a system finds itself: `leases` and `notyours` are for its book to find
+abbrev pub IsSystemRefusal : Refusal → Type 0
+IsSystemRefusal refusal.Leases = ⊥
+IsSystemRefusal refusal.NotYours = ⊥
+IsSystemRefusal _ = Unit {0}
+
+-- an arena has the lease's name, and takes such a request
+abbrev pub IsGoodLease : List TreeArena → LeaseLine → Type 0
+IsGoodLease arenas l = (arena : ℕ) × (index_in l.arena arenas ≡ Some arena)
+    × IsGood (quantum_in (nodes_of arenas) arena) (demand_of l)
+
+-- an arena has the lease's name, and takes no such request
+abbrev pub IsBadLease : List TreeArena → LeaseLine → Type 0
+IsBadLease arenas l = (arena : ℕ) × (index_in l.arena arenas ≡ Some arena)
+    × (¬ IsGood (quantum_in (nodes_of arenas) arena) (demand_of l))
+
+-- a lease is refused so: for the name of its arena just where no arena has that, as bad only where
+-- that arena takes no such request, and for want of a fit only where it takes it
 abbrev pub MayRefuseLease : List TreeArena → LeaseLine → Refusal → Type 0
 MayRefuseLease arenas l refusal.NoArena = index_in l.arena arenas ≡ None
+MayRefuseLease arenas l refusal.BadRequest = IsBadLease arenas l
+MayRefuseLease arenas l refusal.NoFit = IsGoodLease arenas l
+MayRefuseLease arenas l refusal.Leases = index_in l.arena arenas ≢ None
 MayRefuseLease arenas l refusal.NotYours = ⊥
-MayRefuseLease arenas l _ = index_in l.arena arenas ≢ None
 
 -- settled by units of the arena that it names, for what it asks of that arena, or refused
 abbrev pub SettlesLease : List TreeArena → LeaseLine → KeptReply → Option Terms → Type 0
@@ -87,9 +105,3 @@ abbrev pub IsSettledAsAsked : List TreeArena → Line → Option ReceiptState �
 IsSettledAsAsked arenas (lines.Hello h) v = ⊥
 IsSettledAsAsked arenas (lines.Request id o) (Some v) = Settles arenas o v
 IsSettledAsAsked arenas (lines.Request id o) None = ⊥
-
--- a lease that got no segment is refused for want of one that fits, or as a bad request
-abbrev pub IsUnservedSo : Unserved → Type 0
-IsUnservedSo (Refused why) = (why ≡ refusal.NoFit) ⊎ (why ≡ refusal.BadRequest)
-IsUnservedSo Again = Unit {0}
-IsUnservedSo Stopped = Unit {0}

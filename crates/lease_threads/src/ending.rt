@@ -1,9 +1,8 @@
 //! How the parts and the book of a system are ended.
 ghost use Rattle.std.specs.Prelude.{◌≡◌, [], IfErr};
 
-use crate::marked_books::MarkedBook;
 use crate::systems::System;
-use deed_table::{Name, close};
+use deed_table::Name;
 use std::sync::Mutex;
 
 /// Ends a system with no root of an arena, and closes the root of its book's mark, or hands it back
@@ -21,7 +20,7 @@ pub(crate) fn end_parts<N: Name>(system: System<N>) -> Result<(), System<N>>
     if !parts.end_arenas() {
         return Err(System { parts, roots, book });
     }
-    match end_book(book.into_inner()) {
+    match book.into_inner().end() {
         Ok(()) => {
             parts.end();
             roots.destroy_empty();
@@ -32,17 +31,5 @@ pub(crate) fn end_parts<N: Name>(system: System<N>) -> Result<(), System<N>>
             roots,
             book: Mutex::new(book),
         }),
-    }
-}
-
-// Ends a book of no leases, and closes the root of its mark.
-fn end_book<N: Name>(book: MarkedBook<N>) -> Result<(), MarkedBook<N>> {
-    let MarkedBook { book, mark } = book;
-    match book.close() {
-        Ok(deed) => match close(mark, deed) {
-            Ok(_) => Ok(()),
-            Err(_) => unreachable!(),
-        },
-        Err(book) => Err(MarkedBook { book, mark }),
     }
 }

@@ -8,7 +8,6 @@ ghost use Rattle.arena_tree.specs.Chains.{quantum_in};
 ghost use Rattle.arena_tree.specs.Trees.{nodes_of};
 ghost use Rattle.locked_parts.specs.Gates.{MayStop};
 ghost use Rattle.lease_threads.specs.Hands.{LeavesHand};
-ghost use Rattle.lease_threads.specs.Settling.{IsUnservedSo};
 ghost use Rattle.locked_parts.specs.Kinds.{AreForSame};
 
 use crate::cpus::Cpu;
@@ -16,15 +15,14 @@ use crate::systems::System;
 use arena_tree::{CarveFault, ClimbFault, ReturnFault};
 use deed_core::{Request, Segment};
 use deed_table::{Name, SeatDeed};
-use lease_terms::Refusal;
 use locked_parts::{Gate, RequestStopped, Running, StepCount};
 use quantum_cache::{alloc, free, xalloc};
 use std::sync::Wait;
 
 /// Why a request got no segment.
 pub(crate) enum Unserved {
-    /// It is refused so.
-    Refused(Refusal),
+    /// The parts refuse it: nothing that it may use fits, or it is bad.
+    Refused,
     /// Out of memory, or a part refused a segment, which is in the hand.
     Again,
     /// The gate said Stop.
@@ -52,7 +50,6 @@ impl<N: Name> System<N> {
         ensures magazines { AreForSame cpu.old.caches cpu.new.caches }
         ensures hand { IfOk result (λ _. cpu.new.hand ≡ None) }
         ensures refused { IfErr result (λ why. LeavesHand why cpu.new.hand) }
-        ensures words { IfErr result IsUnservedSo }
         ensures stopped { result ≡ Err Unserved.Stopped → MayStop G.may_stop gate.now }
     {
         if request.is_constrained() {
@@ -80,7 +77,6 @@ impl<N: Name> System<N> {
         ensures magazines { AreForSame cpu.old.caches cpu.new.caches }
         ensures hand { IfOk result (λ _. cpu.new.hand ≡ None) }
         ensures refused { IfErr result (λ why. LeavesHand why cpu.new.hand) }
-        ensures words { IfErr result IsUnservedSo }
         ensures stopped { result ≡ Err Unserved.Stopped → MayStop G.may_stop gate.now }
     {
         let mut running = Running {
@@ -95,8 +91,7 @@ impl<N: Name> System<N> {
         *steps = running.steps;
         match carved {
             Ok(segment) => Ok(segment),
-            Err(CarveFault::BadRequest) => Err(Unserved::Refused(Refusal::BadRequest)),
-            Err(CarveFault::NoFit) => Err(Unserved::Refused(Refusal::NoFit)),
+            Err(CarveFault::NoFit | CarveFault::BadRequest) => Err(Unserved::Refused),
             Err(CarveFault::NoMemory) => Err(Unserved::Again),
             Err(CarveFault::Stopped) => Err(stop_or_again(steps)),
         }
@@ -121,7 +116,6 @@ impl<N: Name> System<N> {
         ensures magazines { AreForSame cpu.old.caches cpu.new.caches }
         ensures hand { IfOk result (λ _. cpu.new.hand ≡ None) }
         ensures refused { IfErr result (λ why. LeavesHand why cpu.new.hand) }
-        ensures words { IfErr result IsUnservedSo }
         ensures stopped { result ≡ Err Unserved.Stopped → MayStop G.may_stop gate.now }
     {
         let chain = self.parts.tree().chain(arena);
@@ -137,8 +131,7 @@ impl<N: Name> System<N> {
         *steps = running.steps;
         match allocated {
             Ok(segment) => Ok(segment),
-            Err(ClimbFault::BadRequest) => Err(Unserved::Refused(Refusal::BadRequest)),
-            Err(ClimbFault::NoFit) => Err(Unserved::Refused(Refusal::NoFit)),
+            Err(ClimbFault::NoFit | ClimbFault::BadRequest) => Err(Unserved::Refused),
             Err(ClimbFault::NoMemory) => Err(Unserved::Again),
             Err(ClimbFault::Stuck(segment)) => {
                 cpu.hold(segment);
@@ -208,7 +201,6 @@ impl<N: Name> System<N> {
 fn stop_or_again(steps: &StepCount) -> Unserved
     ensures said { result ≡ Unserved.Stopped → steps.now.noted ≡ true }
     ensures never_refused { (hand : Option Tag) → LeavesHand result hand }
-    ensures unserved { IsUnservedSo result }
 {
     if steps.noted {
         Unserved::Stopped

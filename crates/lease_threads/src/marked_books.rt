@@ -10,12 +10,13 @@ ghost use Rattle.lease_book.specs.Calls.{IsGranted, IsRefused, IsReleased, IsSwe
 ghost use Rattle.lease_book.specs.Entry.{Hello};
 ghost use Rattle.lease_book.specs.declared.books.TheConstants.{MOST_LEASES};
 ghost use Rattle.lease_terms.specs.Requests.{RequestId};
-ghost use Rattle.lease_threads.specs.Replying.{IsReceiptOf, IsBookAnswerTo, IsLateHello};
-ghost use Rattle.lease_threads.specs.Settling.{IsGrantReceipt, IsRefusalReceipt, new_receipt};
+ghost use Rattle.lease_threads.specs.Replying.{IsReceiptOf, IsBookAnswerTo, IsLateHello, mark_root};
+ghost use Rattle.lease_threads.specs.Settling.{IsGrantReceipt, IsRefusalReceipt, IsSystemRefusal};
+ghost use Rattle.lease_threads.specs.Settling.{new_receipt};
 
 use arena_tree::{MOST_ARENAS, MOST_SPANS};
 use deed_core::{Request, Segment};
-use deed_table::{Name, Root, SeatDeed};
+use deed_table::{Name, Root, SeatDeed, close};
 use lease_book::{Answer, Book, HelloFault, KeptReply, NotLeased, Receipt};
 use lease_proto::HelloLine;
 use lease_terms::{ClientId, Quantity, Refusal, RequestId};
@@ -24,10 +25,11 @@ use std::marker::Model;
 /// The number of the root of the book's mark: the one after those of all arenas.
 pub(crate) const MARK: u32 = (MOST_ARENAS * MOST_SPANS) as u32;
 
-/// The book, with the root of its mark, which has that number.
+/// The book, with the root of its mark, which has that number. Its calls alone reach the book: what
+/// it finds itself, as that a lease isn't the client's, no other code can settle.
 pub(crate) struct MarkedBook<N: Name> {
-    pub(crate) book: Book<SeatDeed<N>>,
-    pub(crate) mark: Root<N>,
+    book: Book<SeatDeed<N>>,
+    mark: Root<N>,
 }
 
 impl<N: Name> Model for MarkedBook<N> {
@@ -43,6 +45,26 @@ impl<N: Name> Model for MarkedBook<N> {
 }
 
 impl<N: Name> MarkedBook<N> {
+    /// The book with this mark, and the root of that.
+    pub(crate) fn new(book: Book<SeatDeed<N>>, mark: Root<N>) -> MarkedBook<N>
+        requires { (book.mark ≡ mark) × (mark.root ≡ mark_root) }
+        ensures { result ≡ book }
+    {
+        MarkedBook { book, mark }
+    }
+
+    /// Ends a book of no leases, and closes the root of its mark.
+    pub(crate) fn end(self) -> Result<(), MarkedBook<N>> {
+        let MarkedBook { book, mark } = self;
+        match book.close() {
+            Ok(deed) => match close(mark, deed) {
+                Ok(_) => Ok(()),
+                Err(_) => unreachable!(),
+            },
+            Err(book) => Err(MarkedBook { book, mark }),
+        }
+    }
+
     /// Takes a hello.
     pub(crate) fn hello(&mut self, hello: &HelloLine) -> Result<(), HelloFault>
         ensures event { OnOk result
@@ -94,8 +116,9 @@ impl<N: Name> MarkedBook<N> {
         look.answer()
     }
 
-    /// Settles a request by a refusal.
+    /// Settles a request by a refusal that the book didn't find.
     pub(crate) fn refuse(&mut self, id: RequestId, why: Refusal) -> Answer<SeatDeed<N>>
+        requires { IsSystemRefusal why }
         ensures receipt { IsBookAnswerTo id result }
         ensures new { IfSome (new_receipt result) (IsRefusalReceipt why) }
         ensures event { IsAnswer self.old self.new id

@@ -143,10 +143,7 @@ fn open_book<N: Name>(alloc: Global, rest: &mut Opener<N>) -> Result<MarkedBook<
     requires { (rest.old.first ≡ mark_root) × (0 < rest.old.left) }
 {
     let (mark, deed) = rest.open_root(Range::new(0, 1).unwrap())?;
-    Ok(MarkedBook {
-        book: Book::new(alloc, deed),
-        mark,
-    })
+    Ok(MarkedBook::new(Book::new(alloc, deed), mark))
 }
 
 // Room for so many arenas of a system and for a root of each.

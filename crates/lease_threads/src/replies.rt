@@ -1,6 +1,8 @@
 //! The replies to a client's lines.
-ghost use Rattle.std.specs.Prelude.{◌≡◌, ◌≢◌, None, Some, IfSome, true, false};
-ghost use Rattle.lease_threads.specs.Replying.{TellsSettled, IsUnsettledTo, IsReplyTo};
+ghost use Rattle.std.specs.Prelude.{◌≡◌, ◌≢◌, None, Some, IfNone, IfSome, true, false};
+ghost use Rattle.lease_book.specs.Receipts.{IsEarned};
+ghost use Rattle.lease_threads.specs.Replying.{TellsSettled, IsUnsettledTo, IsReplyTo, IsToldAs};
+ghost use Rattle.lease_threads.specs.Replying.{TellsAnswer, IsForeign, again_of, late_reply};
 ghost use Rattle.lease_threads.specs.Replying.{IsByQuantum, IsLateHello};
 ghost use Rattle.lease_threads.specs.Replying.{IsReceiptOf, IsBookAnswerTo, IsGreeting, IsAgain};
 ghost use Rattle.lease_threads.specs.Settling.{new_receipt};
@@ -29,6 +31,7 @@ pub type Told<N> = LineAnswer<Receipt<SeatDeed<N>>>;
 pub(crate) fn again_to(id: RequestId) -> Reply
     ensures unsettled { IsUnsettledTo id result }
     ensures again { IsAgain result }
+    ensures exactly { result ≡ again_of id }
 {
     Reply::Again(Again {
         client: id.client,
@@ -41,6 +44,7 @@ pub(crate) fn again_to(id: RequestId) -> Reply
 pub(crate) fn hello_again(hello: &HelloLine) -> Reply
     ensures greeting { IsGreeting hello.now result }
     ensures again { IsAgain result }
+    ensures exactly { result ≡ late_reply hello.now HelloFault.NoMemory }
 {
     Reply::Again(Again {
         client: hello.client,
@@ -52,7 +56,8 @@ pub(crate) fn hello_again(hello: &HelloLine) -> Reply
 /// The reply to a hello that the book didn't take.
 pub(crate) fn not_welcome(hello: &HelloLine, fault: HelloFault) -> Reply
     requires { IsLateHello hello.now.incarnation fault }
-    ensures { IsGreeting hello.now result }
+    ensures greeting { IsGreeting hello.now result }
+    ensures exactly { result ≡ late_reply hello.now fault }
 {
     match fault {
         HelloFault::Old(current) => Reply::Old(Old {
@@ -65,8 +70,10 @@ pub(crate) fn not_welcome(hello: &HelloLine, fault: HelloFault) -> Reply
 
 // The reply that was settled; None where no arena has the number and the quantum.
 fn settled(tree: &Tree, id: RequestId, kept: KeptReply, terms: Option<Terms>) -> Option<Reply>
+    requires { IsEarned kept terms }
     ensures tells { IfSome result (TellsSettled tree.now id kept) }
     ensures quantum { IfSome result (λ _. IsByQuantum tree.now kept terms) }
+    ensures none { IfNone result (IsForeign tree.now kept terms) }
 {
     match kept {
         KeptReply::Granted { arena, base, len } => {
@@ -114,6 +121,7 @@ pub(crate) fn again<N: Name>(id: RequestId) -> Told<N>
     ensures unsettled { IsUnsettledTo id result.reply }
     ensures receipt { result.receipt ≡ None }
     ensures again { IsAgain result.reply }
+    ensures exactly { result.reply ≡ again_of id }
     ensures old { result.is_new ≡ false }
 {
     unsettled(again_to(id))
@@ -128,6 +136,7 @@ pub(crate) fn told<N: Name>(
 ) -> Told<N>
     requires { IsReceiptOf id receipt }
     ensures told { IsReplyTo tree.now id result.reply result.receipt }
+    ensures exactly { IsToldAs tree.now id receipt result.reply result.receipt }
     ensures new { result.is_new ≡ true → (is_new ≡ true) × (result.receipt ≡ Some receipt) }
 {
     match settled(tree, id, receipt.reply(), receipt.terms()) {
@@ -144,6 +153,7 @@ pub(crate) fn told<N: Name>(
 pub(crate) fn answered<N: Name>(tree: &Tree, id: RequestId, answer: Answer<SeatDeed<N>>) -> Told<N>
     requires { IsBookAnswerTo id answer }
     ensures told { IsReplyTo tree.now id result.reply result.receipt }
+    ensures exactly { TellsAnswer tree.now id answer result.reply result.receipt }
     ensures new { result.is_new ≡ true
         → (result.receipt ≢ None) × (new_receipt answer ≡ result.receipt) }
 {

@@ -9,7 +9,8 @@ ghost use Rattle.lease_threads.specs.Replying.{IsAnswerTo, IsReplyTo, IsGreeting
 ghost use Rattle.lease_threads.specs.Replying.{IsReceiptOf, IsBookAnswerTo, IsLateHello};
 ghost use Rattle.lease_threads.specs.Settling as settling;
 ghost use Rattle.lease_threads.specs.Settling.{IsGrantReceipt, IsRefusalReceipt, IsSettledAsAsked};
-ghost use Rattle.lease_threads.specs.Settling.{SettlesLease, SettlesRelease, new_receipt};
+ghost use Rattle.lease_threads.specs.Settling.{SettlesLease, SettlesRelease, IsSystemRefusal};
+ghost use Rattle.lease_threads.specs.Settling.{new_receipt};
 ghost use Rattle.lease_book.specs.Receipts.{ReceiptState};
 ghost use Rattle.locked_parts.specs.Kinds.{AreForSame};
 
@@ -198,7 +199,11 @@ impl<N: Name> System<N> {
         let request = demand_of(lease);
         match self.serve(rt, cpu, gate, steps, arena, &request) {
             Ok(segment) => self.grant(rt, cpu, gate, steps, id, arena, &request, segment),
-            Err(Unserved::Refused(why)) => self.refuse(rt, gate, steps, id, why),
+            Err(Unserved::Refused) => {
+                let is_good = request.is_good(quantum_of(self.tree(), arena));
+                let why = if is_good { Refusal::NoFit } else { Refusal::BadRequest };
+                self.refuse(rt, gate, steps, id, why)
+            }
             Err(Unserved::Again) => Ok(again(id)),
             Err(Unserved::Stopped) => Err(RequestStopped),
         }
@@ -211,7 +216,7 @@ impl<N: Name> System<N> {
         self.book.lock(rt).look(id)
     }
 
-    // Settles a new request by a refusal.
+    // Settles a new request by a refusal that the book didn't find.
     fn refuse<R: Wait, G: Gate>(
         &self,
         rt: &R,
@@ -220,6 +225,7 @@ impl<N: Name> System<N> {
         id: RequestId,
         why: Refusal,
     ) -> Result<Told<N>, RequestStopped>
+        requires { IsSystemRefusal why }
         ensures told { IfOk result (λ r. IsReplyTo self.now.arenas id r.reply r.receipt) }
         ensures new { IfOk result (λ r. r.is_new ≡ true → (v : ReceiptState)
             × (r.receipt ≡ Some v) × IsRefusalReceipt why v) }
@@ -231,6 +237,7 @@ impl<N: Name> System<N> {
     }
 
     fn settle_refusal<R: Wait>(&self, rt: &R, id: RequestId, why: Refusal) -> Answer<SeatDeed<N>>
+        requires { IsSystemRefusal why }
         ensures receipt { IsBookAnswerTo id result }
         ensures new { IfSome (new_receipt result) (IsRefusalReceipt why) }
     {

@@ -99,8 +99,8 @@ impl<T: RowEntry> Rows<T> {
         Ok(())
     }
 
-    /// Goes to where the key belongs. It is for speed alone: the calls that follow near the key need
-    /// no search for its row.
+    /// Goes to where the key belongs. It is for speed alone: the calls that follow near the key
+    /// need no search for its row.
     pub fn go_to(&mut self, key: u128)
         ensures unchanged { self.new ≡ self.old }
     {

@@ -125,8 +125,8 @@ impl<D: Deed> FreeIndex<D> {
         Ok(())
     }
 
-    /// Goes to where a range lies by base and by length. It is for speed alone: the calls that follow
-    /// there need no search for its rows.
+    /// Goes to where a range lies by base and by length. It is for speed alone: the calls that
+    /// follow there need no search for its rows.
     fn go_to(&mut self, range: HeldRange)
         ensures unchanged { self.new ≡ self.old }
     {

@@ -16,9 +16,9 @@ use std::alloc::{AllocError, Global};
 use stock::plain_stock;
 
 impl World<PlainDeed> {
-    /// The world of a setup: all its spans are free, and so many CPUs, 1 to `MOST_CPUS`, have nothing
-    /// to do, each with empty caches of its own. Nothing was said or leased yet, and there is no
-    /// client: `add_client` adds one.
+    /// The world of a setup: all its spans are free, and so many CPUs, 1 to `MOST_CPUS`, have
+    /// nothing to do, each with empty caches of its own. Nothing was said or leased yet, and there
+    /// is no client: `add_client` adds one.
     pub fn new(alloc: Global, setup: &Setup, cpus: usize) -> Result<World<PlainDeed>, AllocError>
         requires some { 0 < cpus }
         requires few { cpus ≤ MOST_CPUS }

@@ -18,9 +18,6 @@ returns-in-Err-Stopped-None-clause-stopped g c =
 pub returns-in-Ok-clause-magazines : goal.returns-in-Ok-clause-magazines
 returns-in-Ok-clause-magazines g c = ran_leaves _ _ _ _ (λ s. map (λ (r : KindRoundsState). r.kind) s.caches.now.items) (λ s t e x d. d.2) _ _ _ _ c.alloc-allocated.ensures.ran ∙ ap (λ (s : CpuState). map (λ (r : KindRoundsState). r.kind) s.caches) c.cpu.view_is
 
-pub returns-in-Err-BadRequest-clause-magazines : goal.returns-in-Err-BadRequest-clause-magazines
-returns-in-Err-BadRequest-clause-magazines g c = ran_leaves _ _ _ _ (λ s. map (λ (r : KindRoundsState). r.kind) s.caches.now.items) (λ s t e x d. d.2) _ _ _ _ c.alloc-allocated.ensures.ran ∙ ap (λ (s : CpuState). map (λ (r : KindRoundsState). r.kind) s.caches) c.cpu.view_is
-
 pub returns-in-Err-NoFit-clause-magazines : goal.returns-in-Err-NoFit-clause-magazines
 returns-in-Err-NoFit-clause-magazines g c = ran_leaves _ _ _ _ (λ s. map (λ (r : KindRoundsState). r.kind) s.caches.now.items) (λ s t e x d. d.2) _ _ _ _ c.alloc-allocated.ensures.ran ∙ ap (λ (s : CpuState). map (λ (r : KindRoundsState). r.kind) s.caches) c.cpu.view_is
 
