@@ -1,5 +1,4 @@
 mod Receipts
 mod Runs
-mod Ends
 mod Spans
 mod Reaped

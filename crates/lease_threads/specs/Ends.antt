@@ -1,8 +1,10 @@
 -- A system that comes to its end, and what is left of one that doesn't.
-use Rattle.std.specs.Prelude.{◌≡◌, ℕ, ◌++◌, List, Option, slice_get}
+use Rattle.std.specs.Prelude.{◌≡◌, ℕ, ◌/◌, ◌++◌, List, [], ◌∷◌, Option, None, slice_get}
 use Rattle.std.specs.Option.{option_map}
 use Rattle.deed_core.specs.Extent.{Extent}
+use Rattle.deed_core.specs.Holding.{Holding}
 use Rattle.deed_core.specs.Tag.{Tag}
+use Rattle.arena_tree.specs.declared.limits.TheConstants.{MOST_SPANS}
 use Rattle.arena_tree.specs.declared.trees.TreeArena.{TreeArena}
 use Rattle.lease_threads.specs.Systems.{SystemState, root_ranges}
 use Rattle.lease_threads.specs.declared.shutting.ShutFault.{ShutFault}
@@ -27,3 +29,12 @@ IsLeftOf s (Stuck h) = (h.system.arenas ≡ s.arenas) × (all_ranges h ≡ root_
 -- the name of the arena with this number
 abbrev pub name_at : List TreeArena → ℕ → Option (List ℕ)
 name_at arenas id = option_map (λ x. x.name) (slice_get arenas id)
+
+-- the number of the arena that owns the span of this root
+abbrev pub owner_of : Holding → ℕ
+owner_of r = r.root / MOST_SPANS
+
+-- the name of the arena that owns the span of the first of these roots
+abbrev pub first_name : List TreeArena → List Holding → Option (List ℕ)
+first_name arenas [] = None
+first_name arenas (r ∷ rest) = name_at arenas (owner_of r)

@@ -5,7 +5,7 @@ ghost use Rattle.std.specs.Prelude.{vec_len, vec_capacity};
 ghost use Rattle.lease_threads.specs.Systems.{root_ranges};
 
 use crate::cpus::Cpu;
-use crate::systems::{OwnedRoot, System};
+use crate::systems::{System, owner_of};
 use deed_core::{Range, Route, Segment, insert_reserved};
 use deed_table::{Name, Root, close};
 use locked_parts::LockedParts;
@@ -52,14 +52,15 @@ fn close_first<N: Name, R: Wait>(
     ensures closed { result ≡ true → (cpu.new.hand ≡ None)
         × (length system.new.roots + 1 ≡ length system.old.roots) }
 {
-    let OwnedRoot { arena, root } = system.roots.remove(0);
+    let root = system.roots.remove(0);
+    let arena = owner_of(&root);
     match close_root(rt, &system.parts, arena, root, cpu) {
         Ok(range) => {
             closed.push_reserved(range);
             true
         }
         Err(root) => {
-            insert_reserved(&mut system.roots, 0, OwnedRoot { arena, root });
+            insert_reserved(&mut system.roots, 0, root);
             false
         }
     }

@@ -7,7 +7,6 @@ use std::sync::Mutex;
 
 /// Ends a system with no root of an arena, and closes the root of its book's mark, or hands it back
 /// where a deed lies in it or a lease stands.
-#[tactic(auto, using(crate::proofs::Ends::mapped_none))]
 pub(crate) fn end_parts<N: Name>(system: System<N>) -> Result<(), System<N>>
     requires { system.roots ≡ [] }
     ensures { IfErr result (λ same. same ≡ system) }

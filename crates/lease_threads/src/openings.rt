@@ -10,7 +10,7 @@ ghost use Rattle.locked_parts.specs.News.{AreSetUp};
 ghost use Rattle.lease_threads.specs.Replying.{mark_root};
 
 use crate::marked_books::{MARK, MarkedBook};
-use crate::systems::{OwnedRoot, System};
+use crate::systems::System;
 use arena_tree::{OwnedSpan, Setup, Tree};
 use deed_core::Range;
 use deed_table::{Ground, Name, Opener, Root};
@@ -150,7 +150,7 @@ fn open_book<N: Name>(alloc: Global, rest: &mut Opener<N>) -> Result<MarkedBook<
 struct Room<N: Name> {
     count: usize,
     arenas: Vec<LockedArena<N>>,
-    roots: Vec<OwnedRoot<N>>,
+    roots: Vec<Root<N>>,
 }
 
 impl<N: Name> Model for Room<N> {
@@ -221,32 +221,28 @@ impl<N: Name> Room<N> {
 fn lock_all<N: Name>(
     mut made: Vec<NewArena<N>>,
     arenas: &mut Vec<LockedArena<N>>,
-    roots: &mut Vec<OwnedRoot<N>>,
+    roots: &mut Vec<Root<N>>,
 )
     requires arenas { vec_len arenas.old + vec_len made ≤ vec_capacity arenas.old }
     requires roots { vec_len roots.old + vec_len made ≤ vec_capacity roots.old }
-    ensures { map (λ r. r.root) roots.new.items
-        ≡ map (λ r. r.root) roots.old.items ++ roots_of made.items }
+    ensures { roots.new.items ≡ roots.old.items ++ roots_of made.items }
 {
-    let mut arena: u32 = 0;
     while !made.is_empty() {
         let (locked, root) = made.remove(0).lock();
         arenas.push_reserved(locked);
-        push_root(roots, arena, root);
-        arena = arena.saturating_add(1);
+        push_root(roots, root);
     }
     made.destroy_empty();
 }
 
 // Adds the root, if there is one.
-fn push_root<N: Name>(roots: &mut Vec<OwnedRoot<N>>, arena: u32, root: Option<Root<N>>)
+fn push_root<N: Name>(roots: &mut Vec<Root<N>>, root: Option<Root<N>>)
     requires { vec_len roots.old < vec_capacity roots.old }
-    ensures roots { map (λ r. r.root) roots.new.items
-        ≡ map (λ r. r.root) roots.old.items ++ option_to_list root }
+    ensures roots { roots.new.items ≡ roots.old.items ++ option_to_list root }
     ensures len { vec_len roots.new ≤ vec_len roots.old + 1 }
     ensures room { vec_capacity roots.new ≡ vec_capacity roots.old }
 {
     if let Some(root) = root {
-        roots.push_reserved(OwnedRoot { arena, root });
+        roots.push_reserved(root);
     }
 }

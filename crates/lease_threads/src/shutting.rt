@@ -1,12 +1,12 @@
 //! The end of a system.
 ghost use Rattle.std.specs.Prelude.{◌≡◌, [], IfOk, IfErr, IfSome, IfNone, Some, None, true};
-ghost use Rattle.lease_threads.specs.Ends.{all_ranges, IsLeftOf, name_at};
+ghost use Rattle.lease_threads.specs.Ends.{all_ranges, IsLeftOf, name_at, first_name};
 ghost use Rattle.lease_threads.specs.Systems.{SystemState, root_ranges};
 
 use crate::closing::close_roots;
 use crate::cpus::Cpu;
 use crate::ending::end_parts;
-use crate::systems::System;
+use crate::systems::{System, owner_of};
 use deed_core::{Range, Segment};
 use deed_table::{Name, SeatDeed};
 use lease_terms::ArenaName;
@@ -49,12 +49,14 @@ impl<N: Name> Halted<N> {
     /// The arena where the end stopped: that of the segment, or else the first whose root isn't
     /// closed.
     pub fn stopped_at(&self) -> Option<ArenaName>
-        ensures { IfSome self.now.segment (λ t.
+        ensures segment { IfSome self.now.segment (λ t.
             result ≡ name_at self.now.system.arenas t.arena) }
+        ensures root { IfNone self.now.segment
+            (result ≡ first_name self.now.system.arenas self.now.system.roots) }
     {
         let arena = match &self.cpu.hand {
             Some(segment) => segment.arena(),
-            None => self.system.roots.first()?.arena,
+            None => owner_of(self.system.roots.first()?),
         };
         self.system.name_of(arena)
     }

@@ -1,19 +1,23 @@
 //! The system: what stands beside the locks, and what stands under them.
 ghost use Rattle.std.specs.Prelude.{◌≡◌};
+ghost use Rattle.arena_tree.specs.declared.limits.TheConstants.{MOST_SPANS};
+ghost use Rattle.lease_threads.specs.Ends as ends;
 ghost use Rattle.lease_threads.specs.Ends.{name_at};
 
 use crate::marked_books::MarkedBook;
-use arena_tree::Tree;
+use arena_tree::{MOST_SPANS, Tree};
 use deed_table::{Name, Root};
 use lease_terms::ArenaName;
 use locked_parts::LockedParts;
 use std::marker::Model;
 use std::sync::Mutex;
 
-/// The root of a span that the arena with this number owns.
-pub(crate) struct OwnedRoot<N: Name> {
-    pub(crate) arena: u32,
-    pub(crate) root: Root<N>,
+/// The number of the arena that owns the span of this root: each has as many root numbers as it may
+/// own spans.
+pub(crate) fn owner_of<N: Name>(root: &Root<N>) -> u32
+    ensures { result ≡ ends.owner_of root.now }
+{
+    root.number() / MOST_SPANS as u32
 }
 
 /// Arenas with their quantum caches, and the book of their leases, each part under a lock of its
@@ -21,18 +25,17 @@ pub(crate) struct OwnedRoot<N: Name> {
 /// up, and the roots that they own. It is never dropped: `shut` ends it.
 pub struct System<N: Name> {
     pub(crate) parts: LockedParts<N>,
-    pub(crate) roots: Vec<OwnedRoot<N>>,
+    pub(crate) roots: Vec<Root<N>>,
     pub(crate) book: Mutex<MarkedBook<N>>,
 }
 
 impl<N: Name> Model for System<N> {
-    ghost use Rattle.std.specs.Prelude.{map};
     ghost use Rattle.lease_threads.specs.Systems.{SystemState};
 
     ghost Value = { SystemState };
 
     ghost view = { λ s.
-        record { arenas = s.parts.arenas; roots = map (λ r. r.root) s.roots.items } };
+        record { arenas = s.parts.arenas; roots = s.roots.items } };
 }
 
 impl<N: Name> System<N> {
