@@ -201,7 +201,11 @@ impl<N: Name> System<N> {
             Ok(segment) => self.grant(rt, cpu, gate, steps, id, arena, &request, segment),
             Err(Unserved::Refused) => {
                 let is_good = request.is_good(quantum_of(self.tree(), arena));
-                let why = if is_good { Refusal::NoFit } else { Refusal::BadRequest };
+                let why = if is_good {
+                    Refusal::NoFit
+                } else {
+                    Refusal::BadRequest
+                };
                 self.refuse(rt, gate, steps, id, why)
             }
             Err(Unserved::Again) => Ok(again(id)),
