@@ -11,7 +11,7 @@ use Rattle.arena_tree.specs.declared.part_faults.AddCarveFault.TheVariants as ad
 use Rattle.arena_tree.specs.declared.part_faults.ReturnFault.TheVariants as returning
 use Rattle.arena_tree.specs.Chains.{amount_of}
 use Rattle.arena_tree.specs.Plans.{Plan, Done, then, Handles}
-use Rattle.arena_tree.specs.Events.{hand_left, hand_of_answer, freed_back, added_back}
+use Rattle.arena_tree.specs.Events.{hand_left, hand_of_answer, segment_of_free, segment_of_add}
 use Rattle.arena_tree.specs.Climbs.{ReturnEnd, ClimbEnd, return_plan, on_free, memory_refusal, on_add, on_import, on_carve, climb_plan, climb_left, return_left}
 use Rattle.arena_tree.proofs.Paths.{handles_then}
 
@@ -20,7 +20,7 @@ pub handles_return : (chain : List Level) (t : Tag) → Handles return_left (ret
 handles_return [] t = refl
 handles_return (l ∷ up) t = (refl, freed (handles_return up))
   where
-    freed : ((w : Tag) → Handles return_left (return_plan up w) (Some w)) → (x : Result (Option Tag) (FreeFault Tag)) → Handles return_left (on_free (return_plan up) x) (hand_of_answer (λ f. Some (freed_back f)) x)
+    freed : ((w : Tag) → Handles return_left (return_plan up w) (Some w)) → (x : Result (Option Tag) (FreeFault Tag)) → Handles return_left (on_free (return_plan up) x) (hand_of_answer (λ f. Some (segment_of_free f)) x)
     freed again (Ok None) = refl
     freed again (Ok (Some w)) = again w
     freed again (Err (freeing.BadFree x)) = refl
@@ -34,7 +34,7 @@ handles_refused chain t = handles_then return_left climb_left (return_plan chain
     ends (Err (returning.Stuck x)) = refl
     ends (Err (returning.Stopped x)) = refl
 
-handles_added : (up : List Level) (x : Result Tag (AddCarveFault Tag)) → Handles climb_left (on_add up x) (hand_left (λ f. Some (added_back f)) x)
+handles_added : (up : List Level) (x : Result Tag (AddCarveFault Tag)) → Handles climb_left (on_add up x) (hand_left (λ f. Some (segment_of_add f)) x)
 handles_added up (Ok t) = refl
 handles_added up (Err (adding.NoMemory t)) = handles_refused up t
 handles_added up (Err (adding.Overlaps t)) = refl

@@ -19,7 +19,7 @@ use Rattle.arena_tree.specs.Plans.{Plan, Done, Ask, then, Step, Path, Ran, Gives
 use Rattle.arena_tree.specs.Events.{Event, AnswerTo, Carve, Free, AddCarve}
 use Rattle.arena_tree.specs.Sound.{Sound, SoundCarve}
 use Rattle.arena_tree.specs.Climbs.{ReturnEnd, ClimbEnd, return_plan, on_free, memory_refusal, on_add, on_import, on_carve, climb_plan}
-use Rattle.arena_tree.specs.Told.{AnsweredEvent, Tells, told_by, no_fit, no_fits, NoneFits, IsNoFit, WasRefused, IsTakenBack, OnlyTakenBack, WasTakenIn, RanOut, WasStopped, ClimbTold, ReturnTold}
+use Rattle.arena_tree.specs.Told.{AnsweredEvent, Tells, answers_along, no_fit, no_fits, NoneFits, IsNoFit, WasRefused, IsTakenBack, OnlyTakenBack, WasTakenIn, RanOut, WasStopped, ClimbTold, ReturnTold}
 use Rattle.arena_tree.specs.Laws.{ClimbTells, ReturnTells, NoFitIsTold}
 use Rattle.arena_tree.proofs.Amounts.{chain_above}
 
@@ -42,12 +42,12 @@ tells_own nodes post (Ask e f) told before w = λ x s. tells_own nodes post (f x
 
 module _ {S : Type 0} (step : S → (e : Event) → AnswerTo e → S → Type 0) (tree : S → List Node) (count : S → ℕ) (rounds : S → ℕ) where
   path_tells : {A : Type 0} (post : List AnsweredEvent → A → Type 0) (nodes : List Node) (p : Plan A) (s t : S) (a : A) (told : List AnsweredEvent) → nodes ≡ tree s → (d : Path (Step step tree count rounds) p s t a) → Tells nodes post p told
-      → post (told_by (Step step tree count rounds) p s t a d told) a
+      → post (answers_along (Step step tree count rounds) p s t a d told) a
   path_tells post nodes (Done b) s t a told n d w = subst (post told) d.1 w
   path_tells post nodes (Ask e f) s t a told n d w = path_tells post nodes (f d.1) d.0 t a (answered e d.1 ∷ told) (n ∙ sym d.2.same_tree) d.3 (w d.1 (subst (λ ns. Sound ns e d.1) (sym n) d.2.sound))
 
   -- what is so of each list of sound answers is so of the one that was gone through
-  pub ran_tells : {A : Type 0} (post : List AnsweredEvent → A → Type 0) (p : Plan A) (s t : S) (a : A) → (r : Ran step tree count rounds p s t a) → Tells (tree s) post p [] → post (told_by (Step step tree count rounds) p s t a r.path []) a
+  pub ran_tells : {A : Type 0} (post : List AnsweredEvent → A → Type 0) (p : Plan A) (s t : S) (a : A) → (r : Ran step tree count rounds p s t a) → Tells (tree s) post p [] → post (answers_along (Step step tree count rounds) p s t a r.path []) a
   ran_tells post p s t a r w = path_tells post (tree s) p s t a [] refl r.path w
 
 -- what follows is so

@@ -81,30 +81,30 @@ BeginsWith (Push arena cache given) hand = hand ≡ Some given
 BeginsWith (Change arena cache size) hand = Unit {0}
 
 -- the segment that a refusal hands back, by what was refused
-abbrev pub freed_back : FreeFault Tag → Tag
-freed_back (freeing.BadFree t) = t
-freed_back (freeing.Stopped t) = t
+abbrev pub segment_of_free : FreeFault Tag → Tag
+segment_of_free (freeing.BadFree t) = t
+segment_of_free (freeing.Stopped t) = t
 
-abbrev pub added_back : AddCarveFault Tag → Tag
-added_back (adding.Overlaps t) = t
-added_back (adding.NotAligned t) = t
-added_back (adding.NoMemory t) = t
-added_back (adding.Stopped t) = t
+abbrev pub segment_of_add : AddCarveFault Tag → Tag
+segment_of_add (adding.Overlaps t) = t
+segment_of_add (adding.NotAligned t) = t
+segment_of_add (adding.NoMemory t) = t
+segment_of_add (adding.Stopped t) = t
 
-abbrev pub put_back : SlabPutFault Tag → Tag
-put_back (putting.NotMine t) = t
-put_back (putting.AtHome t) = t
-put_back (putting.Stopped t) = t
+abbrev pub segment_of_put : SlabPutFault Tag → Tag
+segment_of_put (putting.NotMine t) = t
+segment_of_put (putting.AtHome t) = t
+segment_of_put (putting.Stopped t) = t
 
-abbrev pub slab_back : SlabAddFault Tag → Tag
-slab_back (slabbing.WrongSize t) = t
-slab_back (slabbing.Overlaps t) = t
-slab_back (slabbing.NoMemory t) = t
-slab_back (slabbing.Stopped t) = t
+abbrev pub segment_of_slab_add : SlabAddFault Tag → Tag
+segment_of_slab_add (slabbing.WrongSize t) = t
+segment_of_slab_add (slabbing.Overlaps t) = t
+segment_of_slab_add (slabbing.NoMemory t) = t
+segment_of_slab_add (slabbing.Stopped t) = t
 
-abbrev pub pushed_back : PushFault Tag → Tag
-pushed_back (pushing.NoRoom t) = t
-pushed_back (pushing.Stopped t) = t
+abbrev pub segment_of_push : PushFault Tag → Tag
+segment_of_push (pushing.NoRoom t) = t
+segment_of_push (pushing.Stopped t) = t
 
 -- the hand after a call that gives a segment, or hands one back
 abbrev pub hand_left : {E : Type 0} → (E → Option Tag) → Result Tag E → Option Tag
@@ -124,16 +124,16 @@ hand_of_fault back (Err e) = back e
 -- the hand after it
 abbrev pub hand_after : (e : Event) → AnswerTo e → Option Tag → Option Tag
 hand_after (Carve arena request) a hand = hand_left (λ _. None) a
-hand_after (Free given) a hand = hand_of_answer (λ f. Some (freed_back f)) a
-hand_after (AddCarve child given size) a hand = hand_left (λ f. Some (added_back f)) a
+hand_after (Free given) a hand = hand_of_answer (λ f. Some (segment_of_free f)) a
+hand_after (AddCarve child given size) a hand = hand_left (λ f. Some (segment_of_add f)) a
 hand_after (SlabTake arena cache) a hand = hand_of_answer (λ _. None) a
-hand_after (SlabPut given) a hand = hand_of_fault (λ f. Some (put_back f)) a
-hand_after (SlabAdd arena cache given) a hand = hand_left (λ f. Some (slab_back f)) a
+hand_after (SlabPut given) a hand = hand_of_fault (λ f. Some (segment_of_put f)) a
+hand_after (SlabAdd arena cache given) a hand = hand_left (λ f. Some (segment_of_slab_add f)) a
 hand_after (SlabReap arena cache) a hand = hand_of_answer (λ _. None) a
 hand_after (SwapFull arena cache) a hand = hand
 hand_after (SwapEmpty arena cache) a hand = hand
 hand_after (SwapFresh arena cache) a hand = hand
 hand_after (DepotReap arena cache) a hand = hand_of_answer (λ _. None) a
 hand_after (Pop arena cache) a hand = hand_of_answer (λ _. None) a
-hand_after (Push arena cache given) a hand = hand_of_fault (λ f. Some (pushed_back f)) a
+hand_after (Push arena cache given) a hand = hand_of_fault (λ f. Some (segment_of_push f)) a
 hand_after (Change arena cache size) a hand = hand

@@ -11,8 +11,8 @@ use Rattle.arena_tree.specs.declared.part_faults.Stopped.{Stopped}
 use Rattle.arena_tree.specs.Chains.{Node, IsGrant, IsCachedChunk, source_of, quantum_in}
 use Rattle.arena_tree.specs.Events.{Event, AnswerTo, Carve, Free, AddCarve, SlabTake, SlabPut}
 use Rattle.arena_tree.specs.Events.{SlabAdd, SlabReap, SwapFull, SwapEmpty, SwapFresh, DepotReap}
-use Rattle.arena_tree.specs.Events.{Pop, Push, Change, freed_back, added_back, put_back, slab_back}
-use Rattle.arena_tree.specs.Events.{pushed_back}
+use Rattle.arena_tree.specs.Events.{Pop, Push, Change, segment_of_free, segment_of_add}
+use Rattle.arena_tree.specs.Events.{segment_of_put, segment_of_slab_add, segment_of_push}
 
 -- what is carved fits; a request is bad just where no arena of this quantum takes it
 abbrev pub SoundCarve : List Node → ℕ → Request → Result Tag CarveFault → Type 0
@@ -48,20 +48,20 @@ SoundTake nodes arena cache a = IfOk a (λ o. IfSome o (IsCachedChunk nodes aren
 -- the segment that a refusal hands back is the one that was given
 abbrev pub Sound : List Node → (e : Event) → AnswerTo e → Type 0
 Sound nodes (Carve arena request) a = SoundCarve nodes arena request a
-Sound nodes (Free given) a = IfOk a (IsFreed nodes given) × IfErr a (λ f. freed_back f ≡ given)
+Sound nodes (Free given) a = IfOk a (IsFreed nodes given) × IfErr a (λ f. segment_of_free f ≡ given)
 Sound nodes (AddCarve child given size) a = IfOk a (IsFirstOf nodes child given size)
-    × IfErr a (λ f. added_back f ≡ given)
+    × IfErr a (λ f. segment_of_add f ≡ given)
 Sound nodes (SlabTake arena cache) a = SoundTake nodes arena cache a
-Sound nodes (SlabPut given) a = IfErr a (λ f. put_back f ≡ given)
+Sound nodes (SlabPut given) a = IfErr a (λ f. segment_of_put f ≡ given)
 Sound nodes (SlabAdd arena cache given) a = IfOk a (IsCachedChunk nodes arena cache)
-    × IfErr a (λ f. slab_back f ≡ given)
+    × IfErr a (λ f. segment_of_slab_add f ≡ given)
 Sound nodes (SlabReap arena cache) a = IfOk a (λ o. IfSome o (IsSlabSpan nodes arena))
 Sound nodes (SwapFull arena cache) a = Unit {0}
 Sound nodes (SwapEmpty arena cache) a = Unit {0}
 Sound nodes (SwapFresh arena cache) a = Unit {0}
 Sound nodes (DepotReap arena cache) a = SoundTake nodes arena cache a
 Sound nodes (Pop arena cache) a = SoundTake nodes arena cache a
-Sound nodes (Push arena cache given) a = IfErr a (λ f. pushed_back f ≡ given)
+Sound nodes (Push arena cache given) a = IfErr a (λ f. segment_of_push f ≡ given)
 Sound nodes (Change arena cache size) a = Unit {0}
 
 -- a round less, where there is one

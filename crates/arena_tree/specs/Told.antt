@@ -32,11 +32,11 @@ Tells nodes post (Ask e f) told = (x : AnswerTo e) → Sound nodes e x
     → Tells nodes post (f x) (record { event = e; answer = x } ∷ told)
 
 -- all that was answered along a path, the last first, before what was answered by then
-abbrev pub told_by : {S A : Type 0} (step : S → (e : Event) → AnswerTo e → S → Type 0) (p : Plan A)
-    (s t : S) (a : A) → Path step p s t a → List AnsweredEvent → List AnsweredEvent
-told_by step (Done b) s t a d told = told
-told_by step (Ask e f) s t a d told =
-    told_by step (f d.1) d.0 t a d.3 (record { event = e; answer = d.1 } ∷ told)
+abbrev pub answers_along : {S A : Type 0} (step : S → (e : Event) → AnswerTo e → S → Type 0)
+    (p : Plan A) (s t : S) (a : A) → Path step p s t a → List AnsweredEvent → List AnsweredEvent
+answers_along step (Done b) s t a d told = told
+answers_along step (Ask e f) s t a d told =
+    answers_along step (f d.1) d.0 t a d.3 (record { event = e; answer = d.1 } ∷ told)
 
 -- an arena was asked to carve so many units, and nothing fitted
 abbrev pub no_fit : ℕ → ℕ → AnsweredEvent

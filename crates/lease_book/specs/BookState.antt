@@ -42,12 +42,13 @@ account_in c book = account_or_nobody c (find (λ a. c == a.client) book.account
 abbrev pub segments : List Lease → List Tag
 segments leases = map (λ l. l.segment) leases
 
-abbrev pub leased_by : List Account → List Tag
-leased_by accounts = flat_map (λ a. segments a.leases) accounts
+-- the segments of these accounts' leases
+abbrev pub segments_leased : List Account → List Tag
+segments_leased accounts = flat_map (λ a. segments a.leases) accounts
 
 -- all segments that are leased
 abbrev pub leased_segments : BookState → List Tag
-leased_segments book = leased_by book.accounts
+leased_segments book = segments_leased book.accounts
 
 -- its clients, in order of first hello
 abbrev pub clients_in : BookState → List ℕ
@@ -59,7 +60,7 @@ weight_of_leases f book c = sum_by f (segments (account_in c book).leases)
 
 -- all segments whose grants no later entry took away
 abbrev pub leased_in : List Entry → List Tag
-leased_in entries = leased_by (map (account entries) (clients_of entries))
+leased_in entries = segments_leased (map (account entries) (clients_of entries))
 
 -- what a segment counts in an arena
 abbrev pub units_of_arena : ℕ → Tag → ℕ

@@ -10,7 +10,7 @@ use Rattle.lease_proto.specs.declared.operators.ServedLine.TheVariants as served
 use Rattle.lease_proto.specs.Operators.{served_of}
 use Rattle.lease_proto.specs.Operators as reading
 use Rattle.lease_book.specs.BookState.{leased_segments, units_of_arena}
-use Rattle.lease_machine.specs.Picture.{Picture, IsPicture, held_outside, owned_by}
+use Rattle.lease_machine.specs.Picture.{Picture, IsPicture, held_outside, owned_spans}
 use Rattle.lease_machine.specs.Operators.{sums_in}
 use Rattle.lease_machine.specs.Machine.{AnswersLine}
 use Rattle.lease_machine.specs.Laws.{PicturesStay, SetupStays, UnitsHaveOneHome, LeasesAreApart, AuditTellsLeases, AuditIsWhole, AuditIsTold}
@@ -21,7 +21,7 @@ pictures_stay old new (Ok line ∷ frames) text is run = pictures_stay run.2 new
 pictures_stay old new (Err fault ∷ frames) text is run = pictures_stay old new frames run.0 is run.2
 
 pub setup_stays : SetupStays
-setup_stays old new [] text run = record { tree = ap (λ (d : Picture). d.tree) run.1; owned = ap (λ (d : Picture). map owned_by d.spaces) run.1 }
+setup_stays old new [] text run = record { tree = ap (λ (d : Picture). d.tree) run.1; owned = ap (λ (d : Picture). map owned_spans d.spaces) run.1 }
 setup_stays old new (Ok line ∷ frames) text run =
     let rest = setup_stays run.2 new frames run.1 run.5 in
     let first = (run.3).setup in

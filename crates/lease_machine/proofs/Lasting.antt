@@ -8,7 +8,7 @@ use Rattle.deed_core.specs.Holding.{Holding}
 use Rattle.deed_core.specs.Request.{plain_of}
 use Rattle.deed_core.specs.Tag.{Tag}
 use Rattle.deed_core.specs.declared.requests.Request.{Request}
-use Rattle.lease_machine.specs.Picture.{owned_by}
+use Rattle.lease_machine.specs.Picture.{owned_spans}
 use Rattle.local_calls.specs.Runs.{RunsTo, SoundStep}
 use Rattle.local_parts.proofs.LawProofs.{path_keeps_same}
 use Rattle.local_parts.specs.OwnSteps.{OnExchange, SwapsEmpty, SwapsFresh, SwapsFull}
@@ -179,11 +179,11 @@ does_last old (Change k c size) a new does = elim does [
 pub run_lasts : {A : Type 0} (arenas : List TreeArena) (p : Plan A) (old new : LocalState) (a : A) → RunsTo arenas p old new a → all_last new.spaces ≡ all_last old.spaces
 run_lasts {A} arenas p old new a path = path_keeps_same A LocalState (List Lasts) (λ s. all_last s.spaces) (SoundStep (nodes_of arenas)) (λ s t e x step. does_last s e x t step.step.does) p old new a path
 
-owned_last : (spaces : List SpaceState) → map owned_by spaces ≡ map (λ (l : Lasts). l.owned) (all_last spaces)
+owned_last : (spaces : List SpaceState) → map owned_spans spaces ≡ map (λ (l : Lasts). l.owned) (all_last spaces)
 owned_last [] = refl
-owned_last (s ∷ spaces) = ap (λ xs. owned_by s ∷ xs) (owned_last spaces)
+owned_last (s ∷ spaces) = ap (λ xs. owned_spans s ∷ xs) (owned_last spaces)
 
-pub owned_stay : (old new : List SpaceState) → all_last new ≡ all_last old → map owned_by new ≡ map owned_by old
+pub owned_stay : (old new : List SpaceState) → all_last new ≡ all_last old → map owned_spans new ≡ map owned_spans old
 owned_stay old new same = owned_last new ∙ (ap (map (λ (l : Lasts). l.owned)) same ∙ sym (owned_last old))
 
 -- a depot stood with the size that it has

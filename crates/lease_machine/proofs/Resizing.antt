@@ -21,7 +21,7 @@ use Rattle.lease_proto.specs.declared.operators.MagazineSize.{MagazineSize}
 use Rattle.lease_proto.specs.declared.operators.MagazineSize.TheVariants as size
 use Rattle.lease_proto.specs.Cpus.{IsCpu}
 use Rattle.lease_proto.specs.Operators.{rounds_named}
-use Rattle.lease_machine.specs.Picture.{Picture, IsPicture, IsShapedIn, SameSetup, held_outside, owned_by}
+use Rattle.lease_machine.specs.Picture.{Picture, IsPicture, IsShapedIn, SameSetup, held_outside, owned_spans}
 use Rattle.lease_machine.specs.Operators.{with_depot_by, with_depots_by, after_rise}
 use Rattle.lease_machine.specs.StepLaws.{ResizesKeep}
 use Rattle.lease_machine.proofs.Ticking.{sums_same, maps_same, with_sizes}
@@ -177,7 +177,7 @@ module _ (m : ℕ) (taken : IsSize m) where
     }
 
     setup_stays : SameSetup d (record d { spaces = spaces_then d.spaces index s at })
-    setup_stays = record { tree = refl; owned = map_set_same owned_by d.spaces index s (risen s) at refl }
+    setup_stays = record { tree = refl; owned = map_set_same owned_spans d.spaces index s (risen s) at refl }
 
 is_size : (z : MagazineSize) → IsSize (rounds_named z)
 is_size size.Three = inl refl

@@ -12,7 +12,7 @@ use Rattle.lease_book.specs.Reports.{report_of}
 use Rattle.std.specs.List.{flat_map}
 use Rattle.std.specs.Prelude.{map}
 use Rattle.lease_machine.specs.Picture.{Picture, IsPicture}
-use Rattle.lease_machine.specs.Operators.{arenas_told, client_told, with_cpu}
+use Rattle.lease_machine.specs.Operators.{audit_texts_of, client_text_of, with_cpu}
 use Rattle.lease_machine.specs.Machine.{AnswersLine, LeaseStep}
 use Rattle.lease_machine.specs.AnswerLaws.{reply_bytes}
 use Rattle.lease_machine.specs.StepLaws.{FaultsAreAnswered, KnownAreAnswered, OldHellosAreAnswered, AuditsAreAnswered, ClientsAreTold, CpusAreSelected, VainResizesAreAnswered}
@@ -40,12 +40,12 @@ old_hellos_are_answered d line h is read below =
 
 pub audits_are_answered : AuditsAreAnswered
 audits_are_answered d line is read =
-    let text = arenas_told d d.tree d.spaces in
+    let text = audit_texts_of d d.tree d.spaces in
     (text, d, stays d is line _ read text (inl (refl, refl)))
 
 pub clients_are_told : ClientsAreTold
 clients_are_told d line is read =
-    let text = flat_map client_told (map report_of d.book.accounts) in
+    let text = flat_map client_text_of (map report_of d.book.accounts) in
     (text, d, stays d is line _ read text (inl (refl, refl)))
 
 pub cpus_are_selected : CpusAreSelected

@@ -16,7 +16,7 @@ use Rattle.lease_proto.specs.declared.faults.LineFault.{LineFault}
 use Rattle.lease_proto.specs.declared.operators.ServedLine.{ServedLine}
 use Rattle.lease_proto.specs.Cpus.{IsCpu}
 use Rattle.lease_proto.specs.Reports.{ok_text}
-use Rattle.lease_machine.specs.Picture.{Picture, IsPicture, IsShapedIn, held_outside, owned_by}
+use Rattle.lease_machine.specs.Picture.{Picture, IsPicture, IsShapedIn, held_outside, owned_spans}
 use Rattle.lease_machine.specs.Operators.{with_depot_by, with_depots_by}
 use Rattle.lease_machine.specs.Machine.{AnswersLine}
 use Rattle.lease_machine.specs.StepLaws.{TicksAreAnswered, TicksKeep}
@@ -122,7 +122,7 @@ module _ (d : Picture) (is : IsPicture d) where
   }
 
 pub ticks_keep : TicksKeep
-ticks_keep d is = (picture_stays d is, record { tree = refl; owned = maps_same ticked owned_by (λ s. refl) d.spaces })
+ticks_keep d is = (picture_stays d is, record { tree = refl; owned = maps_same ticked owned_spans (λ s. refl) d.spaces })
 
 pub ticks_are_answered : TicksAreAnswered
 ticks_are_answered d line is read = (
@@ -130,7 +130,7 @@ ticks_are_answered d line is read = (
   after d is,
   record {
     answer = subst (λ (y : Result ServedLine LineFault). AnswersLine d y ok_text (after d is)) (sym read) (inl (refl, refl));
-    setup = record { tree = refl; owned = maps_same ticked owned_by (λ s. refl) d.spaces };
+    setup = record { tree = refl; owned = maps_same ticked owned_spans (λ s. refl) d.spaces };
     picture = picture_stays d is;
   },
 )

@@ -12,7 +12,7 @@ use Rattle.lease_proto.specs.Faults.{error_text}
 use Rattle.lease_proto.specs.Frames.{Frame}
 use Rattle.lease_server.specs.Serving.{ServesLines}
 use Rattle.lease_machine.specs.Picture.{Picture, IsPicture, SameSetup, held_outside}
-use Rattle.lease_machine.specs.Operators.{sums_in, arenas_told}
+use Rattle.lease_machine.specs.Operators.{sums_in, audit_texts_of}
 use Rattle.lease_machine.specs.Machine.{LeaseStep}
 
 -- these frames were answered with this text, one after another
@@ -46,7 +46,7 @@ LeasesAreApart = (d : Picture) → IsPicture d
 -- changes
 abbrev pub AuditIsTold : Type 0
 AuditIsTold = (old new : Picture) (text : List ℕ) → LeaseStep old (codes "audit") text new
-    → ((text ≡ arenas_told old old.tree old.spaces) ⊎ (text ≡ error_text Memory)) × (new ≡ old)
+    → ((text ≡ audit_texts_of old old.tree old.spaces) ⊎ (text ≡ error_text Memory)) × (new ≡ old)
 
 -- what an audit calls leased is the sum of the book's leases
 abbrev pub AuditTellsLeases : Type 0

@@ -160,11 +160,11 @@ audit_line name x = record {
 }
 
 -- a line for each arena, in order of setup
-abbrev pub arenas_told : Picture → List TreeArena → List SpaceState → List ℕ
-arenas_told d [] spaces = []
-arenas_told d (x ∷ tree) [] = []
-arenas_told d (x ∷ tree) (s ∷ spaces) =
-    audit_text (audit_line x.name (sums_in d s)) ++ arenas_told d tree spaces
+abbrev pub audit_texts_of : Picture → List TreeArena → List SpaceState → List ℕ
+audit_texts_of d [] spaces = []
+audit_texts_of d (x ∷ tree) [] = []
+audit_texts_of d (x ∷ tree) (s ∷ spaces) =
+    audit_text (audit_line x.name (sums_in d s)) ++ audit_texts_of d tree spaces
 
 abbrev pub client_line : ClientReport → ClientLine
 client_line r = record {
@@ -175,8 +175,8 @@ client_line r = record {
 }
 
 -- a line for a client
-abbrev pub client_told : ClientReport → List ℕ
-client_told r = client_text (client_line r)
+abbrev pub client_text_of : ClientReport → List ℕ
+client_text_of r = client_text (client_line r)
 
 -- the answer to an operator's line
 abbrev pub Performs : OperatorLine → Picture → List ℕ → Picture → Type 0
@@ -188,9 +188,9 @@ Performs operator.Tick old text new =
 Performs (operator.Resize r) old text new = Resizes r.arena (rounds_named r.size) old text new
 Performs operator.Reap old text new =
     (units : ℕ) × (text ≡ reaped_text (record { units = units })) × ReapsAll units old new
-Performs operator.Audit old text new = (text ≡ arenas_told old old.tree old.spaces) × (new ≡ old)
+Performs operator.Audit old text new = (text ≡ audit_texts_of old old.tree old.spaces) × (new ≡ old)
 Performs operator.Clients old text new =
-    (text ≡ flat_map client_told (map report_of old.book.accounts)) × (new ≡ old)
+    (text ≡ flat_map client_text_of (map report_of old.book.accounts)) × (new ≡ old)
 
 -- What is left out of memory: a line that moves nothing but by what it makes first moves nothing.
 -- No CPU asks for memory that is there when it is selected, nor one that never was when it goes

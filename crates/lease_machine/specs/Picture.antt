@@ -105,13 +105,13 @@ pub record HoldsInHand (t : Tag) (d : Picture) : Type 0 where
   pub cpus : AreCpus d.spaces d.cpus d.selected
 
 -- the spans that an arena owns
-abbrev pub owned_by : SpaceState → List Holding
-owned_by s = s.arena.owned
+abbrev pub owned_spans : SpaceState → List Holding
+owned_spans s = s.arena.owned
 
 -- the arenas are those that were set up, with the spans that they own
 pub record SameSetup (old new : Picture) : Type 0 where
   pub tree : new.tree ≡ old.tree
-  pub owned : map owned_by new.spaces ≡ map owned_by old.spaces
+  pub owned : map owned_spans new.spaces ≡ map owned_spans old.spaces
 
 -- at most the book changed
 abbrev pub BookAlone : Picture → Picture → Type 0

@@ -28,7 +28,7 @@ pub fn picture_laws()
     ensures cpu { FreshCpuFits }
 {}
 
-/// After any lines each unit is in one home, and no two leases of one space overlap.
+/// After any lines each unit is in one home, and no two leases overlap whose arenas have one top.
 pub fn home_laws()
     ensures stay { PicturesStay }
     ensures setup { SetupStays }

@@ -2,6 +2,7 @@ pub mod ByteLemmas
 pub mod FrameLemmas
 pub mod LawProofs
 pub mod WordLemmas
+pub mod SentenceLemmas
 pub mod GrammarLemmas
 pub mod LineLemmas
 pub mod ReadLemmas

@@ -2,11 +2,11 @@
 ghost use Rattle.std.specs.Prelude.{◌≡◌, ℕ, List, [], ◌∷◌, Ok, Err, MatchOption, MatchResult};
 ghost use Rattle.lease_proto.specs.Grammar.{word_at, end_at};
 ghost use Rattle.lease_proto.specs.Values.{name_in};
-ghost use Rattle.lease_proto.specs.Words.{words_left, parts_of};
+ghost use Rattle.lease_proto.specs.Words.{words_left, words_behind, parts_of};
 ghost use Rattle.lease_proto.specs.Words as spec;
 
 use crate::faults::LineFault;
-use lease_terms::{ArenaName, is_word};
+use lease_terms::{ArenaName, is_word_byte};
 use memchr::memchr;
 use std::marker::Model;
 
@@ -20,16 +20,18 @@ pub fn name(word: &[u8]) -> Result<ArenaName, LineFault>
     }
 }
 
-/// The words of a line that are left to read. A contract sees them as a list.
+/// The words of a line that are left to read. A contract sees them as a list. Each is cut once: the
+/// next one is at hand, and what is behind it isn't cut yet.
 #[derive(Drop)]
 pub struct Words<'a> {
+    word: Option<&'a [u8]>,
     rest: Option<&'a [u8]>,
 }
 
 impl<'a> Model for Words<'a> {
     ghost Value = { List (List ℕ) };
 
-    ghost view = { λ w. words_left w.rest };
+    ghost view = { λ w. words_left w.word w.rest };
 }
 
 impl<'a> Words<'a> {
@@ -37,14 +39,48 @@ impl<'a> Words<'a> {
     pub(crate) fn new(line: &'a [u8]) -> Self
         ensures { result ≡ parts_of line.now }
     {
-        Words { rest: Some(line) }
+        match memchr(b' ', line) {
+            Some(i) => Words {
+                word: Some(&line[..i]),
+                rest: Some(&line[i + 1..]),
+            },
+            None => Words {
+                word: Some(line),
+                rest: None,
+            },
+        }
+    }
+
+    /// The words of what is behind a word that was cut.
+    fn behind(rest: Option<&'a [u8]>) -> Self
+        ensures { result ≡ words_behind rest.entry }
+    {
+        match rest {
+            Some(rest) => Words::new(rest),
+            None => Words {
+                word: None,
+                rest: None,
+            },
+        }
     }
 
     /// The same words, to look ahead.
     pub fn ahead(&self) -> Words<'a>
         ensures { result ≡ self.now }
     {
-        Words { rest: self.rest }
+        Words {
+            word: self.word,
+            rest: self.rest,
+        }
+    }
+
+    /// The next word, which stays.
+    pub fn first(&self) -> Option<&'a [u8]>
+        ensures { MatchOption result
+            (self.now ≡ [])
+            (λ word. (rest : List (List ℕ)) × (self.now ≡ word.now ∷ rest)) }
+    {
+        self.word
     }
 
     /// The next word.
@@ -53,17 +89,9 @@ impl<'a> Words<'a> {
             ((self.old ≡ []) × (self.new ≡ []))
             (λ word. self.old ≡ word.now ∷ self.new) }
     {
-        let rest = self.rest?;
-        match memchr(b' ', rest) {
-            Some(i) => {
-                self.rest = Some(&rest[i + 1..]);
-                Some(&rest[..i])
-            }
-            None => {
-                self.rest = None;
-                Some(rest)
-            }
-        }
+        let word = self.word?;
+        *self = Words::behind(self.rest);
+        Some(word)
     }
 
     /// The next word, where the line has to have one: `BadLine` where it has none left.
@@ -79,22 +107,27 @@ impl<'a> Words<'a> {
     pub fn end(&self) -> Result<(), LineFault>
         ensures { result ≡ end_at self.now }
     {
-        match self.ahead().next() {
+        match self.first() {
             Some(_) => Err(LineFault::BadLine),
             None => Ok(()),
         }
     }
 }
 
-/// Whether a line is words with one space between them.
+/// Whether a line is words with one space between them. It looks at its bytes alone: the words are
+/// found when they are cut.
 pub fn is_sentence(line: &[u8]) -> bool
     ensures { result ≡ spec.is_sentence line.now }
 {
-    let mut words = Words::new(line);
-    while let Some(word) = words.next() {
-        if !is_word(word) {
+    let mut inside = false;
+    for byte in line {
+        if is_word_byte(*byte) {
+            inside = true;
+        } else if inside && *byte == b' ' {
+            inside = false;
+        } else {
             return false;
         }
     }
-    true
+    inside
 }

@@ -28,10 +28,11 @@ pub fn words(line: &[u8]) -> Result<Words<'_>, LineFault>
 pub fn option<'a>(words: &mut Words<'a>, key: &[u8]) -> Option<&'a [u8]>
     ensures { option_at key.now words.old ≡ (option_copied result, words.new) }
 {
-    let mut ahead = words.ahead();
-    if ahead.next() != Some(key) {
+    if words.first() != Some(key) {
         return None;
     }
+    let mut ahead = words.ahead();
+    ahead.next()?;
     let value = ahead.next()?;
     *words = ahead;
     Some(value)

@@ -88,7 +88,8 @@ fn is_letter(byte: u8) -> bool
     byte.is_ascii_lowercase()
 }
 
-fn is_word_byte(byte: u8) -> bool
+/// Whether a byte may stand in a word.
+pub fn is_word_byte(byte: u8) -> bool
     ensures { result ≡ spec.is_word_byte byte }
 {
     is_letter(byte) || byte.is_ascii_digit()

@@ -8,7 +8,7 @@ use Rattle.deed_core.specs.declared.segments.Route.TheVariants.{Cached}
 use Rattle.deed_core.proofs.LawProofs.{rounds_once}
 use Rattle.arena_tree.specs.declared.trees.TreeArena.{TreeArena}
 use Rattle.arena_tree.specs.Chains.{Node, IsCachedChunk, quantum_in, source_of}
-use Rattle.arena_tree.specs.Events.{slab_back}
+use Rattle.arena_tree.specs.Events.{segment_of_slab_add}
 use Rattle.arena_tree.specs.declared.part_faults.SlabAddFault.{SlabAddFault}
 use Rattle.arena_tree.specs.Stops.{refuses_by, slab_stops}
 use Rattle.arena_tree.specs.Trees.{nodes_of}
@@ -46,6 +46,6 @@ cached_given nodes arena number k None is chunk = tt
 cached_given nodes arena number k (Some t) is chunk = cached_chunk nodes arena number k t is chunk
 
 pub slab_goes : (nodes : List Node) (arena number : ℕ) (k : CacheKind) (span : Tag) (r : Result Tag (SlabAddFault Tag)) → (k.arena ≡ arena) × (k.number ≡ number) × (0 < k.quantum) × (quantum_in nodes arena ≡ k.quantum) → IfOk r (IsOfKind k)
-    → IfErr r (λ f. (slab_back f ≡ span) × (slab_stops f ≡ false)) → (IfOk r (IsCachedChunk nodes arena number) × IfErr r (λ f. slab_back f ≡ span)) × (refuses_by slab_stops r ≡ false)
+    → IfErr r (λ f. (segment_of_slab_add f ≡ span) × (slab_stops f ≡ false)) → (IfOk r (IsCachedChunk nodes arena number) × IfErr r (λ f. segment_of_slab_add f ≡ span)) × (refuses_by slab_stops r ≡ false)
 slab_goes nodes arena number k span (Ok t) is chunk back = ((cached_chunk nodes arena number k t is chunk, tt), refl)
 slab_goes nodes arena number k span (Err f) is chunk back = ((tt, back.0), back.1)

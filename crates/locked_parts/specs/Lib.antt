@@ -5,3 +5,4 @@ pub mod Swaps
 pub mod Walks
 pub mod States
 pub mod Answers
+pub mod Refusals

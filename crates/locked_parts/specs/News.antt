@@ -34,7 +34,7 @@ pub record NewArenaState : Type 0 where
   pub root : Option Holding
 
 -- it is the arena of this number as it was set up
-pub record IsSetUp (arenas : List TreeArena) (id : ℕ) (a : NewArenaState) : Type 0 where
+pub record IsMadeAsSet (arenas : List TreeArena) (id : ℕ) (a : NewArenaState) : Type 0 where
   pub arena : (x : TreeArena) × (slice_get arenas id ≡ Some x) × (a.id ≡ id)
       × (a.quantum ≡ x.quantum) × (a.policy ≡ x.policy) × (a.source ≡ x.source)
   pub kinds : map (λ c. c.kind) a.caches
@@ -43,4 +43,4 @@ pub record IsSetUp (arenas : List TreeArena) (id : ℕ) (a : NewArenaState) : Ty
 
 -- and each of these is the one of its index
 pub record AreSetUp (arenas : List TreeArena) (made : List NewArenaState) : Type 0 where
-  pub each : (k : ℕ) (a : NewArenaState) → slice_get made k ≡ Some a → IsSetUp arenas k a
+  pub each : (k : ℕ) (a : NewArenaState) → slice_get made k ≡ Some a → IsMadeAsSet arenas k a

@@ -2,12 +2,14 @@
 //! alone, so that each event looks whether it is the arena that is meant.
 ghost use Rattle.std.specs.Prelude.{◌≡◌, ◌<◌, ◌≤◌, ◌↔◌, List, [], Some, Ok, IsOk, OnErr, IfOk};
 ghost use Rattle.std.specs.Prelude.{IfErr};
+ghost use Rattle.tag_arena.specs.Calls.{IsTagged};
 ghost use Rattle.deed_core.specs.Request.{rounding_of, plain_of};
 ghost use Rattle.tag_arena.specs.Outcomes.{CarveOf, ImportOf, FreeOf, RemoveOf};
 ghost use Rattle.std.specs.Option.{option_map};
 ghost use Rattle.arena_tree.specs.Chains.{Node, quantum_in, source_of};
 ghost use Rattle.arena_tree.specs.Events.{Carve, Free, AddCarve};
 ghost use Rattle.locked_parts.specs.Answers.{AnswersSoundly};
+ghost use Rattle.locked_parts.specs.Refusals.{CarvesNone, ImportsNone};
 
 use arena_tree::{AddCarveFault, CarveFault, FreeFault};
 use deed_core::{Request, Route, Segment};
@@ -53,6 +55,8 @@ impl<N: Name> ArenaPart<N> {
             → AnswersSoundly nodes (Carve id request.now) result }
         ensures event { IfOk result (λ t.
             CarveOf self.old.arena request.now (Ok t) self.new.arena) }
+        ensures refused { IfErr result (λ f. self.old.arena.id ≡ id
+            → self.old.arena.quantum ≡ quantum → CarvesNone self.old.arena request.now f) }
         ensures unchanged { OnErr result (self.new ≡ self.old) }
     {
         if !request.is_good(quantum) {
@@ -80,6 +84,8 @@ impl<N: Name> ArenaPart<N> {
             → AnswersSoundly nodes (Free segment) result }
         ensures event { IfOk result (λ back.
             FreeOf self.old.arena segment (Ok back) self.new.arena) }
+        ensures refused { OnErr result (self.old.source ≡ source
+            → ¬ IsTagged self.old.arena segment) }
         ensures unchanged { OnErr result (self.new ≡ self.old) }
     {
         if self.source != source {
@@ -107,6 +113,9 @@ impl<N: Name> ArenaPart<N> {
             → AnswersSoundly nodes (AddCarve id span size) result }
         ensures event { IfOk result (λ t.
             ImportOf self.old.arena span (plain_of size) (Ok t) self.new.arena) }
+        ensures refused { IfErr result (λ f. self.old.source ≡ Some span.arena
+            → self.old.arena.id ≡ id → self.old.arena.quantum ≡ quantum
+            → ImportsNone self.old.arena span f) }
         ensures unchanged { OnErr result (self.new ≡ self.old) }
     {
         if self.source != Some(span.arena()) {

@@ -9,11 +9,10 @@ ghost use Rattle.locked_parts.specs.Answers.{AnswersSoundly};
 
 use crate::kinds::quantum_of;
 use crate::parts::LockedParts;
-use crate::slab_parts::{add_slab, reap_slab, take_chunk};
+use crate::slab_parts::{add_slab, put_chunk, reap_slab, take_chunk};
 use arena_tree::{AddCarveFault, CarveFault, FreeFault, SlabAddFault, SlabPutFault, Stopped, Tree};
 use deed_core::{Request, Route, Segment};
 use deed_table::{Name, SeatDeed};
-use slab_layer::PutFault;
 use std::sync::Wait;
 
 pub(crate) fn carve_in<N: Name, R: Wait>(
@@ -110,14 +109,14 @@ pub(crate) fn slab_put_in<N: Name, R: Wait>(
     let Route::Cached(number) = segment.route() else {
         return Err(SlabPutFault::NotMine(segment));
     };
+    let Some(kind) = parts.kind(segment.arena(), number) else {
+        return Err(SlabPutFault::NotMine(segment));
+    };
     let Some(locked) = parts.cache(segment.arena(), number) else {
         return Err(SlabPutFault::NotMine(segment));
     };
-    match locked.slab.lock(rt).put(segment) {
-        Ok(()) => Ok(()),
-        Err(PutFault::NotMine(segment)) => Err(SlabPutFault::NotMine(segment)),
-        Err(PutFault::AtHome(segment)) => Err(SlabPutFault::AtHome(segment)),
-    }
+    let mut slab = locked.slab.lock(rt);
+    put_chunk(&mut slab, &kind, segment)
 }
 
 pub(crate) fn slab_add_in<N: Name, R: Wait>(

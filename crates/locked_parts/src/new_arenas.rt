@@ -3,7 +3,7 @@ ghost use Rattle.std.specs.Prelude.{◌≡◌, ◌+◌, ◌-◌, ◌<◌, ◌≤
 ghost use Rattle.std.specs.Option.{option_map, option_to_list};
 ghost use Rattle.arena_tree.specs.declared.limits.TheConstants.{MOST_SPANS};
 ghost use Rattle.tag_arena.specs.Outcomes.{KeepsSetup};
-ghost use Rattle.locked_parts.specs.News.{IsArenaOf, IsSetUp};
+ghost use Rattle.locked_parts.specs.News.{IsArenaOf, IsMadeAsSet};
 
 use crate::arena_parts::ArenaPart;
 use crate::kinds::cache_count;
@@ -61,7 +61,7 @@ impl<N: Name> NewArena<N> {
         requires left { MOST_SPANS ≤ numbers.old.left }
         ensures root { IfOk result (λ a. a.root
             ≡ option_map (λ r. record { root = numbers.old.first; range = r }) span) }
-        ensures set_up { IfOk result (IsSetUp tree.now id) }
+        ensures set_up { IfOk result (IsMadeAsSet tree.now id) }
         ensures first { OnOk result (numbers.new.first ≡ numbers.old.first + MOST_SPANS) }
         ensures left { OnOk result (numbers.new.left ≡ numbers.old.left - MOST_SPANS) }
     {

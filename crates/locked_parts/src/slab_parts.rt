@@ -2,17 +2,18 @@
 ghost use Rattle.std.specs.Prelude.{◌≡◌, ◌↔◌, All, IsTrue, false, IfSome, IfOk, IfErr, Ok, Some};
 ghost use Rattle.std.specs.Prelude.{OnErr};
 ghost use Rattle.std.specs.Prelude.{IfNone};
-ghost use Rattle.slab_layer.specs.Calls.{TakeOf, AddOf, ReapOf};
+ghost use Rattle.slab_layer.specs.Calls.{TakeOf, PutOf, AddOf, ReapOf};
 ghost use Rattle.slab_layer.specs.Slab.{IsAllOut, IsComplete};
-ghost use Rattle.arena_tree.specs.Events.{slab_back};
+ghost use Rattle.arena_tree.specs.Events.{segment_of_put, segment_of_slab_add};
 ghost use Rattle.locked_parts.specs.Answers.{IsSpanOfKind};
 ghost use Rattle.locked_parts.specs.Kinds.{IsOfKind, AreSlabsOf};
-ghost use Rattle.arena_tree.specs.Stops.{slab_stops};
+ghost use Rattle.locked_parts.specs.Refusals.{PutsNone, AddsNone};
+ghost use Rattle.arena_tree.specs.Stops.{put_stops, slab_stops};
 
 use crate::kinds::CacheKind;
-use arena_tree::SlabAddFault;
+use arena_tree::{SlabAddFault, SlabPutFault};
 use deed_core::{Deed, Segment};
-use slab_layer::{AddFault, SlabCache};
+use slab_layer::{AddFault, PutFault, SlabCache};
 
 // Whether the cache is that.
 fn is_kind<D: Deed>(slab: &SlabCache<D>, kind: &CacheKind) -> bool
@@ -34,6 +35,28 @@ pub(crate) fn take_chunk<D: Deed>(slab: &mut SlabCache<D>, kind: &CacheKind) -> 
     slab.take()
 }
 
+/// Takes a chunk back.
+pub(crate) fn put_chunk<D: Deed>(
+    slab: &mut SlabCache<D>,
+    kind: &CacheKind,
+    segment: Segment<D>,
+) -> Result<(), SlabPutFault<Segment<D>>>
+    ensures event { IfOk result (λ u. PutOf slab.old segment (Ok u) slab.new) }
+    ensures refused { IfErr result (λ f. AreSlabsOf kind.now slab.old
+        → PutsNone slab.old segment f slab.new) }
+    ensures handed_back { IfErr result (λ f. (segment_of_put f ≡ segment) × (put_stops f ≡ false)) }
+    ensures unchanged { OnErr result (slab.new ≡ slab.old) }
+{
+    if !is_kind(slab, kind) {
+        return Err(SlabPutFault::NotMine(segment));
+    }
+    match slab.put(segment) {
+        Ok(()) => Ok(()),
+        Err(PutFault::NotMine(segment)) => Err(SlabPutFault::NotMine(segment)),
+        Err(PutFault::AtHome(segment)) => Err(SlabPutFault::AtHome(segment)),
+    }
+}
+
 /// Makes a slab of a span, and takes its first chunk.
 pub(crate) fn add_slab<D: Deed>(
     slab: &mut SlabCache<D>,
@@ -43,7 +66,10 @@ pub(crate) fn add_slab<D: Deed>(
     requires { IsSpanOfKind kind.now span }
     ensures chunk { IfOk result (IsOfKind kind.now) }
     ensures event { IfOk result (λ t. AddOf slab.old span (Ok t) slab.new) }
-    ensures handed_back { IfErr result (λ f. (slab_back f ≡ span) × (slab_stops f ≡ false)) }
+    ensures refused { IfErr result (λ f. AreSlabsOf kind.now slab.old
+        → AddsNone slab.old span f slab.new) }
+    ensures handed_back { IfErr result (λ f. (segment_of_slab_add f ≡ span)
+        × (slab_stops f ≡ false)) }
     ensures unchanged { OnErr result (slab.new ≡ slab.old) }
 {
     if !is_kind(slab, kind) {

@@ -11,7 +11,7 @@ use Rattle.arena_tree.specs.declared.part_faults.SwapFullFault.TheVariants as fu
 use Rattle.arena_tree.specs.declared.part_faults.SlabAddFault.{SlabAddFault}
 use Rattle.arena_tree.specs.declared.part_faults.SlabAddFault.TheVariants as slabbing
 use Rattle.arena_tree.specs.declared.part_faults.Stopped.{Stopped}
-use Rattle.arena_tree.specs.Events.{hand_left, hand_of_answer, slab_back}
+use Rattle.arena_tree.specs.Events.{hand_left, hand_of_answer, segment_of_slab_add}
 use Rattle.arena_tree.specs.Plans.{Plan, Done, then, or_else, Handles}
 use Rattle.arena_tree.specs.Climbs.{ClimbEnd, climb_plan, climb_left}
 use Rattle.arena_tree.proofs.LawProofs.{handles_then, handles_refused, handles_climb}
@@ -64,7 +64,7 @@ handles_chunk : (arena cache : ℕ) → Handles stage_left (take_chunk arena cac
 unfolding take_chunk
 handles_chunk arena cache = (refl, handles_take)
 
-handles_slab : (chain : List Level) (x : Result Tag (SlabAddFault Tag)) → Handles climb_left (on_slab_add chain x) (hand_left (λ f. Some (slab_back f)) x)
+handles_slab : (chain : List Level) (x : Result Tag (SlabAddFault Tag)) → Handles climb_left (on_slab_add chain x) (hand_left (λ f. Some (segment_of_slab_add f)) x)
 handles_slab chain (Ok t) = refl
 handles_slab chain (Err (slabbing.WrongSize t)) = refl
 handles_slab chain (Err (slabbing.Overlaps t)) = refl

@@ -14,7 +14,7 @@ use Rattle.arena_tree.specs.declared.part_faults.SwapEmptyFault.{SwapEmptyFault}
 use Rattle.arena_tree.specs.declared.part_faults.SwapEmptyFault.TheVariants as emptying
 use Rattle.arena_tree.specs.declared.part_faults.SwapFreshFault.{SwapFreshFault}
 use Rattle.arena_tree.specs.declared.part_faults.SwapFreshFault.TheVariants as freshing
-use Rattle.arena_tree.specs.Events.{hand_of_fault, pushed_back, put_back}
+use Rattle.arena_tree.specs.Events.{hand_of_fault, segment_of_push, segment_of_put}
 use Rattle.arena_tree.specs.Plans.{Plan, then, Handles}
 use Rattle.arena_tree.specs.Climbs.{ReturnEnd, return_left}
 use Rattle.arena_tree.proofs.LawProofs.{handles_then, handles_return}
@@ -40,7 +40,7 @@ handles_push : (arena cache : ℕ) (t : Tag) → Handles placing_left (push_roun
 unfolding push_round
 handles_push arena cache t = (refl, done)
   where
-    done : (x : Result (Unit {0}) (PushFault Tag)) → hand_of_fault (λ f. Some (pushed_back f)) x ≡ placing_left (on_push x)
+    done : (x : Result (Unit {0}) (PushFault Tag)) → hand_of_fault (λ f. Some (segment_of_push f)) x ≡ placing_left (on_push x)
     done (Ok u) = refl
     done (Err (pushing.NoRoom x)) = refl
     done (Err (pushing.Stopped x)) = refl
@@ -79,7 +79,7 @@ pub handles_put : (t : Tag) → Handles return_left (put_chunk t) (Some t)
 unfolding put_chunk
 handles_put t = (refl, done)
   where
-    done : (x : Result (Unit {0}) (SlabPutFault Tag)) → hand_of_fault (λ f. Some (put_back f)) x ≡ return_left (on_slab_put x)
+    done : (x : Result (Unit {0}) (SlabPutFault Tag)) → hand_of_fault (λ f. Some (segment_of_put f)) x ≡ return_left (on_slab_put x)
     done (Ok u) = refl
     done (Err (putting.NotMine x)) = refl
     done (Err (putting.AtHome x)) = refl

@@ -6,8 +6,8 @@
 //! a system ends; `gates` has requests that a gate holds or stops, in two threads; `orders` the
 //! steps of requests, imports, exchanges and changes of magazines among them; `between` what is
 //! free between steps, and how many there are; `repeats` which lines are settled and which come
-//! again; `soak` has four workers for ten seconds, after which no two leases overlap and each root
-//! comes back whole.
+//! again; `settles` a lease that another CPU's line comes before; `soak` has four workers for ten
+//! seconds, after which no two leases overlap and each root comes back whole.
 #![tactic(auto)]
 
 #[cfg(test)]

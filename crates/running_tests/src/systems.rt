@@ -7,6 +7,7 @@ mod gates;
 mod orders;
 mod repeats;
 mod rows;
+mod settles;
 mod soak;
 
 use arena_tree::{NewChild, NewRoot, Setting, Setup};

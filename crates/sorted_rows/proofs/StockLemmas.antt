@@ -5,7 +5,7 @@ use Rattle.sorted_rows.specs.Stocked.{IsStocked}
 
 module _ {X : Type 0} (rank : X → ℕ) where
   -- more room, where there are rows for it
-  pub more_room : (rows spare : Vec (List X)) (len room more : ℕ) → room ≤ more → IsStocked rank rows spare len room → more ≤ 16 * (vec_len rows + vec_len spare - 1) → IsStocked rank rows spare len more
+  pub more_room : (rows spare : Vec (List X)) (len room more : ℕ) → room ≤ more → IsStocked rank rows spare len room → more ≤ 48 * (vec_len rows + vec_len spare - 1) → IsStocked rank rows spare len more
   more_room rows spare len room more grows s enough = record {
     laid = s.laid;
     short = s.short;

@@ -12,6 +12,6 @@ module _ {X : Type 0} (rank : X → ℕ) where
     pub counted : len ≡ length (entries_in rows.items)
     pub within : len ≤ room
     pub empty : All (λ r. r ≡ []) spare.items
-    pub enough : room ≤ 16 * (vec_len rows + vec_len spare - 1)
+    pub enough : room ≤ 48 * (vec_len rows + vec_len spare - 1)
     pub rows_hold : vec_len rows + vec_len spare ≤ vec_capacity rows
     pub spare_holds : vec_len rows + vec_len spare ≤ vec_capacity spare

@@ -6,13 +6,13 @@ ghost use Rattle.sorted_rows.specs.Weights.{weighs, first_heavy_from};
 
 use crate::entries::RowEntry;
 use crate::row::Row;
-use crate::seats::seat_near;
+use crate::seats::{Spot, seat_near};
 
 /// The first, from the first at or above the key on, that weighs as much as `least` or more.
 #[tactic(auto, using(crate::proofs::HeavyLemmas::found_heavy))]
 pub fn least_weighing<T: RowEntry>(
     rows: &mut [Row<T>],
-    last: usize,
+    last: Spot,
     measure: T::Measure,
     key: u128,
     least: u64,
@@ -28,7 +28,7 @@ pub fn least_weighing<T: RowEntry>(
     let seat = seat_near(rows, last, key);
     let row = &rows[seat];
     if !row.is_light(measure, least) {
-        let at = row.below(key);
+        let at = row.below_near(key, last.place);
         if let Some(entry) = row.heavy(measure, at, least) {
             return Some(entry);
         }

@@ -1,19 +1,19 @@
 //! A strictly sorted list, kept as short sorted rows: for the free ranges of an arena by length and
 //! base, by base, and for its spans. It stands on nothing of ours.
 //!
-//! A row has at most 64 entries in a vector of its own, with the key of its first at hand, and the
+//! A row has at most 192 entries in a vector of its own, with the key of its first at hand, and the
 //! greatest weight by one measure, the last by which the whole row was searched in vain:
 //!
 //! ```text
-//!   rows:   [ 3 5 8 9 .. ]  [ 40 41 .. ]  [ 77 80 .. ]      two neighbours have more than 32
+//!   rows:   [ 3 5 8 9 .. ]  [ 40 41 .. ]  [ 77 80 .. ]      two neighbours have more than 96
 //!   first:    3               40            77
 //!   spare:  [ ] [ ]                                         a row for each that a split may need
 //! ```
 //!
 //! An entry is found by two binary searches, of which the first, for its row, falls away near the
-//! key that `Rows::go_to` was given last. A row that comes to 64 is halved; neighbours with 32
-//! or fewer together are put together. So with n entries an insert moves at most 95 entries, where
-//! it halves a row, a remove at most 63, and each n / 16 rows' headers; no call is recursive. Once
+//! key that `Rows::go_to` was given last. A row that comes to 192 is halved; neighbours with 96
+//! or fewer together are put together. So with n entries an insert moves at most 287 entries, where
+//! it halves a row, a remove at most 191, and each n / 48 rows' headers; no call is recursive. Once
 //! `Rows::reserve` has made room, `insert` and `remove` take no memory and can't fail: a spare row
 //! is there for each split.
 //!

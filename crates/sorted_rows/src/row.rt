@@ -1,5 +1,5 @@
-//! One row of a list: a short vector with room for 64 entries.
-ghost use Rattle.std.specs.Prelude.{◌≡◌, ◌+◌, ◌<◌, ◌≤◌, [], ◌++◌, length, take, drop, insert};
+//! One row of a list: a short vector with room for 192 entries.
+ghost use Rattle.std.specs.Prelude.{◌≡◌, ◌+◌, ◌-◌, ◌<◌, ◌≤◌, [], ◌++◌, length, take, drop, insert};
 ghost use Rattle.std.specs.Prelude.{remove, slice_index_or, max, IfOk, IfErr, OnErr, IsTrue};
 ghost use Rattle.std.specs.Prelude.{IfSome, Some, None};
 ghost use Rattle.std.specs.List.{find};
@@ -11,7 +11,7 @@ use std::alloc::{AllocError, Global};
 use std::marker::Model;
 
 /// The greatest number of entries in a row.
-pub const ROW: usize = 64;
+pub const ROW: usize = 192;
 
 /// A row: its entries, with the key of the first at hand, and the greatest weight by the measure
 /// by which all of it was last searched in vain. A contract sees its entries.
@@ -32,7 +32,7 @@ impl<T: RowEntry> Model for Row<T> {
 
     ghost view = { λ r. r.items.items };
 
-    ghost invariant = { λ r. (vec_len r.items ≤ 64) × (64 ≤ vec_capacity r.items)
+    ghost invariant = { λ r. (vec_len r.items ≤ 192) × (192 ≤ vec_capacity r.items)
         × FirstIs T.rank r.first r.items.items
         × (r.top ≡ greatest_weight (T.weight r.measure) r.items.items) };
 }
@@ -54,7 +54,7 @@ impl<T: RowEntry> Row<T> {
     /// How many entries it has.
     pub fn len(&self) -> usize
         ensures len { result ≡ length self.now }
-        ensures bound { result ≤ 64 }
+        ensures bound { result ≤ 192 }
     {
         self.items.len()
     }
@@ -121,20 +121,71 @@ impl<T: RowEntry> Row<T> {
     }
 
     /// How many entries stand below the key.
-    pub fn below(&self, key: u128) -> usize
+    fn below(&self, key: u128) -> usize
         requires { Rises T.rank self.now }
         ensures { IsRankAt T.rank key self.now result }
     {
         below_in(&self.items, key)
     }
 
+    /// Whether the entry before the place, if there is one, is below the key.
+    fn is_above(&self, key: u128, place: usize) -> bool
+        requires { place ≤ length self.now }
+        ensures { IsTrue result → (d : T) → 0 < place
+            → T.rank (slice_index_or self.now (place - 1) d) < key }
+    {
+        place == 0 || self.items[place - 1].key() < key
+    }
+
+    /// Whether the entry at the place, if there is one, isn't below the key.
+    fn is_up_to(&self, key: u128, place: usize) -> bool
+        requires { place ≤ length self.now }
+        ensures { IsTrue result → (d : T) → place < length self.now
+            → key ≤ T.rank (slice_index_or self.now place d) }
+    {
+        place == self.items.len() || self.items[place].key() >= key
+    }
+
+    /// Whether so many entries stand below the key.
+    fn is_place(&self, key: u128, place: usize) -> bool
+        requires { Rises T.rank self.now }
+        ensures { IsTrue result → IsRankAt T.rank key self.now place }
+    {
+        if place > self.items.len() {
+            return false;
+        }
+        if !self.is_above(key, place) {
+            return false;
+        }
+        self.is_up_to(key, place)
+    }
+
+    /// How many entries stand below the key. They are searched through only where they aren't as
+    /// many as `near`, nor one more or less.
+    pub fn below_near(&self, key: u128, near: usize) -> usize
+        requires { Rises T.rank self.now }
+        ensures { IsRankAt T.rank key self.now result }
+    {
+        let near = near.min(self.items.len());
+        if self.is_place(key, near) {
+            return near;
+        }
+        if near > 0 && self.is_place(key, near - 1) {
+            return near - 1;
+        }
+        if self.is_place(key, near + 1) {
+            return near + 1;
+        }
+        self.below(key)
+    }
+
     /// How many entries stand at the key or below it.
     #[tactic(auto, using(crate::proofs::LastLemmas::places_up_to))]
-    pub fn up_to(&self, key: u128) -> usize
+    pub fn up_to(&self, key: u128, near: usize) -> usize
         requires { Rises T.rank self.now }
         ensures { IsRankAt T.rank (key + 1) self.now result }
     {
-        let at = self.below(key);
+        let at = self.below_near(key, near);
         if at < self.len() && self.get(at).key() == key {
             at + 1
         } else {
@@ -145,7 +196,7 @@ impl<T: RowEntry> Row<T> {
     #[tactic(auto, using(crate::proofs::WeightLemmas::top_inserted))]
     pub fn insert(&mut self, at: usize, entry: T)
         requires at { at ≤ length self.old }
-        requires room { length self.old < 64 }
+        requires room { length self.old < 192 }
         ensures { self.new ≡ insert self.old at entry }
     {
         match self.items.insert(at, entry) {
@@ -175,10 +226,10 @@ impl<T: RowEntry> Row<T> {
 
     /// Moves the upper half of a full row to an empty one.
     pub fn split(&mut self, high: &mut Row<T>)
-        requires full { length self.old ≡ 64 }
+        requires full { length self.old ≡ 192 }
         requires empty { high.old ≡ [] }
-        ensures low { self.new ≡ take 32 self.old }
-        ensures high { high.new ≡ drop 32 self.old }
+        ensures low { self.new ≡ take 96 self.old }
+        ensures high { high.new ≡ drop 96 self.old }
     {
         match high.items.extend_from_slice(&self.items[ROW / 2..]) {
             Ok(()) => {}
@@ -194,7 +245,7 @@ impl<T: RowEntry> Row<T> {
     /// Moves all entries of the next row here.
     #[tactic(auto, using(crate::proofs::WeightLemmas::tops_joined))]
     pub fn join(&mut self, next: &mut Row<T>)
-        requires room { length self.old + length next.old ≤ 64 }
+        requires room { length self.old + length next.old ≤ 192 }
         ensures items { self.new ≡ self.old ++ next.old }
         ensures next { next.new ≡ [] }
     {

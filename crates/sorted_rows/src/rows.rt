@@ -8,7 +8,7 @@ ghost use Rattle.sorted_rows.specs.Weights.{first_heavy_from};
 use crate::entries::RowEntry;
 use crate::heavy::least_weighing;
 use crate::row::Row;
-use crate::seats::{greatest_to, least_from, put, seat_near, take};
+use crate::seats::{Spot, greatest_to, least_from, put, spot_near, take};
 use std::alloc::{AllocError, Global};
 use std::marker::Model;
 
@@ -20,8 +20,8 @@ pub struct Rows<T: RowEntry> {
     spare: Vec<Row<T>>,
     len: usize,
     room: usize,
-    /// The row that it was last at, if that is still there: where a search looks first.
-    last: usize,
+    /// Where it was last at, if that is still there: where a search looks first.
+    last: Spot,
 }
 
 impl<T: RowEntry> Model for Rows<T> {
@@ -48,7 +48,7 @@ impl<T: RowEntry> Rows<T> {
             spare: Vec::new(alloc),
             len: 0,
             room: 0,
-            last: 0,
+            last: Spot { seat: 0, place: 0 },
         }
     }
 
@@ -78,7 +78,7 @@ impl<T: RowEntry> Rows<T> {
         if room <= self.room {
             return Ok(());
         }
-        let wanted = room.div_ceil(16) + 1;
+        let wanted = room.div_ceil(48) + 1;
         let rows = self.rows.len();
         let spare = self.spare.len();
         if rows + spare < wanted {
@@ -100,14 +100,14 @@ impl<T: RowEntry> Rows<T> {
     }
 
     /// Goes to where the key belongs. It is for speed alone: the calls that follow near the key
-    /// need no search for its row.
+    /// need no search for its row, nor in the row where they come to its place or to the next.
     pub fn go_to(&mut self, key: u128)
         ensures unchanged { self.new ≡ self.old }
     {
         if self.rows.is_empty() {
             return;
         }
-        self.last = seat_near(&self.rows, self.last, key);
+        self.last = spot_near(&self.rows, self.last, key);
     }
 
     /// Puts in an entry whose key isn't there, where there is room. It never fails.

@@ -1,11 +1,19 @@
 //! Rows of one list: where a key belongs, and how rows are edited, split and joined.
 ghost use Rattle.std.specs.Prelude.{◌≡◌, ◌≢◌, ◌+◌, ◌<◌, ◌≤◌, ℕ, suc, [], ◌∷◌, length, All, Any};
 ghost use Rattle.std.specs.Prelude.{IsTrue, ◌⊎◌, ◌↔◌, slice_index_or, vec_len, vec_capacity};
-ghost use Rattle.sorted_rows.specs.Order.{PutsIn, TakesOut, StandsAtKey, first_from, last_to};
+ghost use Rattle.sorted_rows.specs.Order.{PutsIn, TakesOut, StandsAtKey, IsRankAt, first_from};
+ghost use Rattle.sorted_rows.specs.Order.{last_to};
 ghost use Rattle.sorted_rows.specs.Layout.{entries_in, AreShort, IsLaid, IsLoose, IsSeat};
 
 use crate::entries::RowEntry;
 use crate::row::{ROW, Row};
+
+/// A row of a list, and a place in it: where the list was last at, if that is still there.
+#[derive(Clone, Copy, Debug)]
+pub struct Spot {
+    pub seat: usize,
+    pub place: usize,
+}
 
 /// The row where the key belongs.
 fn seat_of<T: RowEntry>(rows: &[Row<T>], key: u128) -> usize
@@ -48,7 +56,7 @@ fn belongs<T: RowEntry>(rows: &[Row<T>], seat: usize, key: u128) -> bool
 
 /// The row where the key belongs. It is searched for only where it isn't the one that the list was
 /// last at.
-pub fn seat_near<T: RowEntry>(rows: &[Row<T>], last: usize, key: u128) -> usize
+pub fn seat_near<T: RowEntry>(rows: &[Row<T>], last: Spot, key: u128) -> usize
     requires laid { IsLaid T.rank rows.now }
     requires some { 0 < length rows.now }
     ensures within { result < length rows.now }
@@ -56,14 +64,27 @@ pub fn seat_near<T: RowEntry>(rows: &[Row<T>], last: usize, key: u128) -> usize
     ensures first { (d : T) → 0 < result
         → T.rank (slice_index_or (slice_index_or rows.now result []) 0 d) ≤ key }
 {
-    if belongs(rows, last, key) {
-        return last;
+    if belongs(rows, last.seat, key) {
+        return last.seat;
     }
     seat_of(rows, key)
 }
 
+/// Where the key belongs.
+pub fn spot_near<T: RowEntry>(rows: &[Row<T>], last: Spot, key: u128) -> Spot
+    requires laid { IsLaid T.rank rows.now }
+    requires some { 0 < length rows.now }
+    ensures seat { IsSeat T.rank key rows.now result.seat }
+    ensures place { IsRankAt T.rank key (slice_index_or rows.now result.seat []) result.place }
+{
+    let seat = seat_near(rows, last, key);
+    let row = &rows[seat];
+    let place = row.below_near(key, last.place);
+    Spot { seat, place }
+}
+
 /// Puts an entry in its row, which may be full then.
-pub fn insert_in<T: RowEntry>(rows: &mut Vec<Row<T>>, seat: usize, entry: T)
+pub fn insert_in<T: RowEntry>(rows: &mut Vec<Row<T>>, seat: usize, near: usize, entry: T)
     requires laid { IsLaid T.rank rows.old.items }
     requires within { seat < vec_len rows.old }
     requires seat { IsSeat T.rank (T.rank entry) rows.old.items seat }
@@ -71,12 +92,12 @@ pub fn insert_in<T: RowEntry>(rows: &mut Vec<Row<T>>, seat: usize, entry: T)
     requires absent { All (λ x. T.rank x ≢ T.rank entry) (entries_in rows.old.items) }
     ensures laid { IsLaid T.rank rows.new.items }
     ensures items { PutsIn T.rank entry (entries_in rows.old.items) (entries_in rows.new.items) }
-    ensures others { (k : ℕ) → k ≢ seat → length (slice_index_or rows.new.items k []) < 64 }
+    ensures others { (k : ℕ) → k ≢ seat → length (slice_index_or rows.new.items k []) < 192 }
     ensures len { vec_len rows.new ≡ vec_len rows.old }
     ensures capacity { vec_capacity rows.new ≡ vec_capacity rows.old }
 {
     let row = &mut rows[seat];
-    let at = row.below(entry.key());
+    let at = row.below_near(entry.key(), near);
     row.insert(at, entry);
 }
 
@@ -84,8 +105,8 @@ pub fn insert_in<T: RowEntry>(rows: &mut Vec<Row<T>>, seat: usize, entry: T)
 pub fn split<T: RowEntry>(rows: &mut Vec<Row<T>>, at: usize, spare: &mut Vec<Row<T>>)
     requires laid { IsLaid T.rank rows.old.items }
     requires within { at < vec_len rows.old }
-    requires full { length (slice_index_or rows.old.items at []) ≡ 64 }
-    requires others { (k : ℕ) → k ≢ at → length (slice_index_or rows.old.items k []) < 64 }
+    requires full { length (slice_index_or rows.old.items at []) ≡ 192 }
+    requires others { (k : ℕ) → k ≢ at → length (slice_index_or rows.old.items k []) < 192 }
     requires room { vec_len rows.old < vec_capacity rows.old }
     requires spare { All (λ r. r ≡ []) spare.old.items }
     requires some { 0 < vec_len spare.old }
@@ -110,7 +131,7 @@ pub fn split<T: RowEntry>(rows: &mut Vec<Row<T>>, at: usize, spare: &mut Vec<Row
 }
 
 /// Puts an entry at its place. It may take one spare row.
-pub fn put<T: RowEntry>(rows: &mut Vec<Row<T>>, spare: &mut Vec<Row<T>>, last: usize, entry: T)
+pub fn put<T: RowEntry>(rows: &mut Vec<Row<T>>, spare: &mut Vec<Row<T>>, last: Spot, entry: T)
     requires laid { IsLaid T.rank rows.old.items }
     requires short { AreShort rows.old.items }
     requires room { vec_len rows.old < vec_capacity rows.old }
@@ -130,7 +151,7 @@ pub fn put<T: RowEntry>(rows: &mut Vec<Row<T>>, spare: &mut Vec<Row<T>>, last: u
         return;
     }
     let seat = seat_near(rows, last, entry.key());
-    insert_in(rows, seat, entry);
+    insert_in(rows, seat, last.place, entry);
     if rows[seat].len() == ROW {
         split(rows, seat, spare);
     }
@@ -156,7 +177,7 @@ fn start<T: RowEntry>(rows: &mut Vec<Row<T>>, spare: &mut Vec<Row<T>>, entry: T)
 }
 
 /// Takes an entry out of its row, which may be empty then.
-fn remove_in<T: RowEntry>(rows: &mut Vec<Row<T>>, seat: usize, key: u128) -> T
+fn remove_in<T: RowEntry>(rows: &mut Vec<Row<T>>, seat: usize, near: usize, key: u128) -> T
     requires laid { IsLaid T.rank rows.old.items }
     requires short { AreShort rows.old.items }
     requires within { seat < vec_len rows.old }
@@ -171,7 +192,7 @@ fn remove_in<T: RowEntry>(rows: &mut Vec<Row<T>>, seat: usize, key: u128) -> T
     ensures capacity { vec_capacity rows.new ≡ vec_capacity rows.old }
 {
     let row = &mut rows[seat];
-    let at = row.below(key);
+    let at = row.below_near(key, near);
     row.remove(at)
 }
 
@@ -182,7 +203,7 @@ fn merge<T: RowEntry>(rows: &mut Vec<Row<T>>, at: usize, spare: &mut Vec<Row<T>>
     requires short { AreShort rows.old.items }
     requires within { at + 1 < vec_len rows.old }
     requires total { length (slice_index_or rows.old.items at [])
-        + length (slice_index_or rows.old.items (suc at) []) < 64 }
+        + length (slice_index_or rows.old.items (suc at) []) < 192 }
     requires spare { All (λ r. r ≡ []) spare.old.items }
     requires room { vec_len spare.old < vec_capacity spare.old }
     ensures laid { IsLaid T.rank rows.new.items }
@@ -229,8 +250,8 @@ fn settle<T: RowEntry>(rows: &mut Vec<Row<T>>, at: usize, spare: &mut Vec<Row<T>
 
 /// Whether a row of this many entries is put together with a neighbor.
 fn goes_with(here: usize, beside: usize) -> bool
-    requires { (here ≤ 64) × (beside ≤ 64) }
-    ensures { IsTrue result ↔ ((here ≡ 0) ⊎ (here + beside ≤ 32)) }
+    requires { (here ≤ 192) × (beside ≤ 192) }
+    ensures { IsTrue result ↔ ((here ≡ 0) ⊎ (here + beside ≤ 96)) }
 {
     here == 0 || here + beside <= ROW / 2
 }
@@ -239,7 +260,7 @@ fn goes_with(here: usize, beside: usize) -> bool
 pub fn take<T: RowEntry>(
     rows: &mut Vec<Row<T>>,
     spare: &mut Vec<Row<T>>,
-    last: usize,
+    last: Spot,
     key: u128,
 ) -> T
     requires laid { IsLaid T.rank rows.old.items }
@@ -258,13 +279,13 @@ pub fn take<T: RowEntry>(
     ensures spare_capacity { vec_capacity spare.new ≡ vec_capacity spare.old }
 {
     let seat = seat_near(rows, last, key);
-    let entry = remove_in(rows, seat, key);
+    let entry = remove_in(rows, seat, last.place, key);
     settle(rows, seat, spare);
     entry
 }
 
 /// The first entry at or above the key.
-pub fn least_from<T: RowEntry>(rows: &[Row<T>], last: usize, key: u128) -> Option<T>
+pub fn least_from<T: RowEntry>(rows: &[Row<T>], last: Spot, key: u128) -> Option<T>
     requires laid { IsLaid T.rank rows.now }
     ensures { result ≡ first_from T.rank key (entries_in rows.now) }
 {
@@ -273,7 +294,7 @@ pub fn least_from<T: RowEntry>(rows: &[Row<T>], last: usize, key: u128) -> Optio
     }
     let seat = seat_near(rows, last, key);
     let row = &rows[seat];
-    let at = row.below(key);
+    let at = row.below_near(key, last.place);
     if at < row.len() {
         Some(row.get(at))
     } else if seat + 1 < rows.len() {
@@ -285,7 +306,7 @@ pub fn least_from<T: RowEntry>(rows: &[Row<T>], last: usize, key: u128) -> Optio
 }
 
 /// The last entry at or below the key.
-pub fn greatest_to<T: RowEntry>(rows: &[Row<T>], last: usize, key: u128) -> Option<T>
+pub fn greatest_to<T: RowEntry>(rows: &[Row<T>], last: Spot, key: u128) -> Option<T>
     requires laid { IsLaid T.rank rows.now }
     ensures { result ≡ last_to T.rank key (entries_in rows.now) }
 {
@@ -294,7 +315,7 @@ pub fn greatest_to<T: RowEntry>(rows: &[Row<T>], last: usize, key: u128) -> Opti
     }
     let seat = seat_near(rows, last, key);
     let row = &rows[seat];
-    let upper = row.up_to(key);
+    let upper = row.up_to(key, last.place);
     if upper == 0 {
         return None;
     }

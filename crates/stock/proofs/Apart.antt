@@ -1,5 +1,5 @@
--- No two segments of one space overlap that are out: a unit of an arena is out or exported once, so
--- two ways up to one arena begin at one segment.
+-- No two segments that are out overlap where their arenas have one top: a unit of an arena is out
+-- or exported once, so two ways up to one arena begin at one segment.
 use Rattle.std.proofs.Common.{◌≡◌, ◌≢◌, ◌⊎◌, ℕ, suc, zero, ◌+◌, ◌<◌, ◌≤◌, Bool, true, false, refl, subst, ap, ◌∙◌, inl, inr, List, [], ◌∷◌, All, map, get_or, ltb, Some, None, arith}
 use Rattle.std.specs.Prelude.{slice_get, sum_by}
 use Rattle.std.proofs.lemmas.Bool.Decides.{nat_tests}
@@ -115,7 +115,7 @@ module _ (spaces : List SpaceState) (out : List Tag) (accounted : IsAccounted sp
   top_below _ _ (root k s at none) = omega arith
   top_below _ _ (child k p top s at source up) = omega (arith, top_below p top up, (accounted.stock k s at).before p source)
 
-  -- two owners in arenas of one space, of which the arena with the greater number is climbed from
+  -- two owners in arenas with one top, of which the arena with the greater number is climbed from
   abbrev Meet : ℕ → ℕ → ℕ → Type 0
   Meet top a b = (x y : Owner) → Owns a x → Owns b y → Differ x y → Above b x → Above a y → HasTop spaces a top → HasTop spaces b top → ⊥
 

@@ -23,7 +23,7 @@ use Rattle.stock.specs.Stocks.{IsStock}
 use Rattle.stock.specs.Steps.{OnArena}
 use Rattle.stock.specs.Endings.{IsBare, IsReaped, IsReapedCache}
 use Rattle.stock.specs.Setups.{plan_for, plans_for, IsNewCache, IsNewSpace, AreDeedsOf, deeds_owned, unused_arena, IsUnused, IsSetUpFrom}
-use Rattle.stock.specs.Owning.{owned_in, AreOwnedOrLeft}
+use Rattle.stock.specs.Owning.{weight_owned, AreOwnedOrLeft}
 
 -- the last is the first of the list turned round
 pub popped : {X : Type 0} (old new : List X) (x : X) → old ≡ new ++ x ∷ [] → reverse old ≡ x ∷ reverse new
@@ -101,7 +101,7 @@ module _ (setup : SetupState) (all : List Holding) (rounds : ℕ) where
         caches = (all_at (IsNewSpace rounds) spaces k s new at).caches;
       };
       owned = λ k s at. ap (λ (os : List Holding). os ++ deeds_owned k setup.spans all) (sym (owns_none k s at));
-      same = λ f. (let none = sum_none (owned_in f) spaces (λ k s at. ap (sum_by f) (owns_none k s at)) in omega (arith, none));
+      same = λ f. (let none = sum_none (weight_owned f) spaces (λ k s at. ap (sum_by f) (owns_none k s at)) in omega (arith, none));
       apart = λ i j a b lt x y.
           let one : get_or setup.spans i b ≡ a = get_or_from_slice_get setup.spans i a b x in
           let two : get_or setup.spans j b ≡ b = get_or_from_slice_get setup.spans j b b y in
@@ -165,9 +165,9 @@ module _ (setup : SetupState) (all : List Holding) (rounds : ℕ) where
         | inr other ↦ there_owned k s other.0 other.1
       ];
       same = λ f.
-          let set_is = sum_set (owned_in f) old o.arena on.space (with_arena on.arena on.space) on.at in
+          let set_is = sum_set (weight_owned f) old o.arena on.space (with_arena on.arena on.space) on.at in
           let grows : sum_by f on.arena.owned ≡ sum_by f on.space.arena.owned + f h = ap (sum_by f) more_owned ∙ sum_by_push f on.space.arena.owned h in
-          let after = ap (sum_by (owned_in f)) on.after in
+          let after = ap (sum_by (weight_owned f)) on.after in
           omega (arith, is.same f, set_is, grows, after, sum_by-cons f h rest);
       apart = λ i j a b lt x y. is.apart (suc i) (suc j) a b (omega (arith, lt)) x y;
       clear = λ k j s p at there same. elim (written old o.arena k (with_arena on.arena on.space) s (at_new k s at)) [
@@ -202,11 +202,11 @@ module _ (old new : List SpaceState) (k : ℕ) (P : ArenaState → ArenaState �
   pub stay_reaped : All IsReaped old → All IsReaped new
   stay_reaped all = subst (λ (xs : List SpaceState). All IsReaped xs) (sym on.after) (All-set IsReaped old k (with_arena on.arena on.space) (all_at IsReaped old k on.space all on.at) all)
 
-  pub owns_less : (h : Holding) → ((s t : SpaceState) → slice_get old k ≡ Some s → slice_get new k ≡ Some t → Loses s.arena.owned t.arena.owned h) → (f : Holding → ℕ) → sum_by (owned_in f) old ≡ sum_by (owned_in f) new + f h
+  pub owns_less : (h : Holding) → ((s t : SpaceState) → slice_get old k ≡ Some s → slice_get new k ≡ Some t → Loses s.arena.owned t.arena.owned h) → (f : Holding → ℕ) → sum_by (weight_owned f) old ≡ sum_by (weight_owned f) new + f h
   owns_less h loses f =
       let less : sum_by f on.space.arena.owned ≡ sum_by f on.arena.owned + f h = loses on.space (with_arena on.arena on.space) on.at there_now f in
-      let set_is = sum_set (owned_in f) old k on.space (with_arena on.arena on.space) on.at in
-      omega (arith, less, set_is, ap (sum_by (owned_in f)) on.after)
+      let set_is = sum_set (weight_owned f) old k on.space (with_arena on.arena on.space) on.at in
+      omega (arith, less, set_is, ap (sum_by (weight_owned f)) on.after)
 
 -- a list's members, each weighing one
 pub each_one : (hs : List Holding) → sum_by (λ (h : Holding). 1) hs ≡ length hs
@@ -218,5 +218,5 @@ front_nil : {X : Type 0} (xs ys : List X) → xs ++ ys ≡ [] → xs ≡ []
 front_nil [] ys e = refl
 front_nil (x ∷ xs) ys e = absurd (let no : x ∷ (xs ++ ys) ≡ [] = e in cc)
 
-pub bare_owns_none : (spaces : List SpaceState) → All IsBare spaces → (f : Holding → ℕ) → sum_by (owned_in f) spaces ≡ 0
-bare_owns_none spaces bare f = sum_none (owned_in f) spaces (λ k s at. ap (sum_by f) (front_nil s.arena.owned (map (λ (t : Tag). t.holding) s.arena.imported) (all_at IsBare spaces k s bare at).spans))
+pub bare_owns_none : (spaces : List SpaceState) → All IsBare spaces → (f : Holding → ℕ) → sum_by (weight_owned f) spaces ≡ 0
+bare_owns_none spaces bare f = sum_none (weight_owned f) spaces (λ k s at. ap (sum_by f) (front_nil s.arena.owned (map (λ (t : Tag). t.holding) s.arena.imported) (all_at IsBare spaces k s bare at).spans))

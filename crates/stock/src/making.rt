@@ -12,7 +12,7 @@ ghost use Rattle.stock.specs.Accounts.{Accounts, Frames};
 ghost use Rattle.stock.specs.Steps.{OnArena};
 ghost use Rattle.stock.specs.Endings.{IsReaped, IsTakenOutAt, OthersAreSame};
 ghost use Rattle.stock.specs.Setups.{AreDeedsOf, IsSetUpFrom, IsNewSpace, plans_for};
-ghost use Rattle.stock.specs.Owning.{owned_in, AreOwnedOrLeft};
+ghost use Rattle.stock.specs.Owning.{weight_owned, AreOwnedOrLeft};
 
 use crate::setups::StockSetup;
 use crate::stocks::Stock;
@@ -109,7 +109,7 @@ impl<D: Deed> StockSetup<D> {
     /// Ends what has only spans, all of them free, and gives their deeds.
     fn give_back(self, deeds: &mut Vec<D>)
         requires bare { All IsReaped self }
-        requires room { sum_by (owned_in (λ h. 1)) self + vec_len deeds.old
+        requires room { sum_by (weight_owned (λ h. 1)) self + vec_len deeds.old
             ≤ vec_capacity deeds.old }
         ensures deeds { AreOwnedOrLeft (map D.holding deeds.new.items) self
             (map D.holding deeds.old.items) }
@@ -129,13 +129,13 @@ impl<D: Deed> Stock<D> {
     /// Takes all owned spans of an arena out that are wholly free, and gives their deeds.
     fn take_out(&mut self, arena: usize, deeds: &mut Vec<D>)
         requires within { arena < length self.old }
-        requires room { sum_by (owned_in (λ h. 1)) self.old + vec_len deeds.old
+        requires room { sum_by (weight_owned (λ h. 1)) self.old + vec_len deeds.old
             ≤ vec_capacity deeds.old }
         ensures taken { IsTakenOutAt self.new arena }
         ensures others { OthersAreSame arena self.old self.new }
         ensures reaped { All IsReaped self.old → All IsReaped self.new }
-        ensures deeds { (f : Holding → ℕ) → sum_by (owned_in f) self.old
-            + sum_by f (map D.holding deeds.old.items) ≡ sum_by (owned_in f) self.new
+        ensures deeds { (f : Holding → ℕ) → sum_by (weight_owned f) self.old
+            + sum_by f (map D.holding deeds.old.items) ≡ sum_by (weight_owned f) self.new
             + sum_by f (map D.holding deeds.new.items) }
         ensures frame { Frames self.old [] self.new [] }
         ensures fixed { plans_of self.new ≡ plans_of self.old }

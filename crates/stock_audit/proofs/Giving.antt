@@ -30,7 +30,7 @@ use Rattle.stock_audit.proofs.Placing.{unit_adds_up, held_weigh}
 use Rattle.stock_audit.proofs.Exporting.{weighs_here, weighs_there}
 use Rattle.stock_audit.proofs.Climbing.{part_of_exported, exported_in_spans, source_stands, spans_are_of_source}
 use Rattle.stock_audit.proofs.Tops.{top_is_root, tops_stand}
-use Rattle.stock_audit.proofs.WholeSpaces.{space_unit_adds_up}
+use Rattle.stock_audit.proofs.ChainSums.{chain_unit_adds_up}
 use Rattle.stock_audit.proofs.Reaching.{never_both}
 
 module _ (spaces : List SpaceState) (out : Outside) (a : IsAccountedFor spaces out) (u : ℕ) where
@@ -132,12 +132,12 @@ module _ (old new : List SpaceState) (before after : Outside) (o : IsAccountedFo
     | inr more ↦ absurd (never_both new after n u r others mine both b k y own.0 there over (omega (arith, more)) own.1 (top_stays old new g.steps.fixed k r up) mine_here)
   ]
 
-  -- it is a unit of the space, and was one
-  was_in_space : 0 < sum_by (weight_where (is_under (tops_stand old before o).0 r) (λ x. sum_but_exported (Old x))) old
-  was_in_space =
+  -- it is a unit under the top, and was one
+  was_under_top : 0 < sum_by (weight_where (is_under (tops_stand old before o).0 r) (λ x. sum_but_exported (Old x))) old
+  was_under_top =
       let top = top_is_root old k r up in
       let later = now old new g.steps.fixed r top.0 top.1 in
-      let all = space_unit_adds_up old before o (tops_stand old before o).0 (tops_stand old before o).1 r top.0 top.1 top.2 u in
+      let all = chain_unit_adds_up old before o (tops_stand old before o).0 (tops_stand old before o).1 r top.0 top.1 top.2 u in
       let mine_all = unit_adds_up new after n k own.0 own.1 u in
       omega (
         arith,
@@ -210,7 +210,7 @@ module _ (old new : List SpaceState) (before after : Outside) (o : IsAccountedFo
 
   pub was_reachable : IsReachable old before k s u
   was_reachable =
-      let found = sum_some (weight_where (is_under (tops_stand old before o).0 r) (λ x. sum_but_exported (Old x))) old was_in_space in
+      let found = sum_some (weight_where (is_under (tops_stand old before o).0 r) (λ x. sum_but_exported (Old x))) old was_under_top in
       let part = either_some (is_under (tops_stand old before o).0 r found.1) (sum_but_exported (Old found.1)) found.3 in
       let later = now old new g.steps.fixed found.0 found.1 found.2 in
       let id = (o.parts found.0 found.1 found.2).id in

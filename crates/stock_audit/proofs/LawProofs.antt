@@ -5,7 +5,7 @@ pub use Rattle.stock_audit.proofs.Keeping.{fresh_is_accounted, accounted_balance
 pub use Rattle.stock_audit.proofs.Exporting.{exported_is_children, allocated_is_out}
 pub use Rattle.stock_audit.proofs.Climbing.{child_is_exported, spans_are_of_source, out_never_overlaps}
 pub use Rattle.stock_audit.proofs.Tops.{tops_stand}
-pub use Rattle.stock_audit.proofs.WholeSpaces.{space_unit_adds_up, space_adds_up}
+pub use Rattle.stock_audit.proofs.ChainSums.{chain_unit_adds_up, chain_adds_up}
 pub use Rattle.stock_audit.proofs.Reaching.{free_is_not_out, reachable_is_not_held}
 pub use Rattle.stock_audit.proofs.Giving.{free_above_is_free, given_was_reachable, given_fitted_in}
 pub use Rattle.stock_audit.proofs.OffChain.{no_step_off_chain, off_chain_then, arena_step_off_chain, cache_step_off_chain}

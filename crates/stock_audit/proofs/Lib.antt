@@ -4,7 +4,7 @@ mod Placing
 mod Exporting
 mod Climbing
 mod Tops
-mod WholeSpaces
+mod ChainSums
 mod Reaching
 mod Giving
 mod OffChain

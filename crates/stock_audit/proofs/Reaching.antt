@@ -1,4 +1,4 @@
--- What an arena may serve a request with is nowhere else in its space.
+-- What an arena may serve a request with is nowhere else under its top.
 use Rattle.std.proofs.Common.{◌≡◌, ℕ, ◌+◌, ◌<◌, ◌≤◌, Bool, true, false, cond, nat_eq, Some, None, inl, inr, sym, subst, ap, ◌∙◌, List, ◌++◌, All, arith}
 use Rattle.std.specs.Prelude.{slice_get, sum_by, flat_map}
 use Rattle.std.proofs.lemmas.Bool.Decides.{nat_tests}
@@ -21,7 +21,7 @@ use Rattle.stock_audit.specs.Laws.{FreeIsNotOut, ReachableIsNotHeld}
 use Rattle.stock_audit.proofs.Placing.{held_weigh}
 use Rattle.stock_audit.proofs.Exporting.{weighs_here}
 use Rattle.stock_audit.proofs.Tops.{next_up, one_top, top_is_root, tops_stand}
-use Rattle.stock_audit.proofs.WholeSpaces.{space_unit_adds_up}
+use Rattle.stock_audit.proofs.ChainSums.{chain_unit_adds_up}
 
 -- where a unit is free that is free for an arena
 free_stands : (spaces : List SpaceState) (u k top : ℕ) → IsFreeFor spaces u k → HasTop spaces k top
@@ -41,12 +41,12 @@ either_counted : (b : Bool) (m n all : ℕ) → m + n ≤ all → cond b m 0 + c
 either_counted true m n all le = le
 either_counted false m n all le = omega arith
 
--- two weights that are in different homes of each arena aren't both in one space
+-- two weights that are in different homes of each arena aren't both under one top
 module _ (spaces : List SpaceState) (out : Outside) (a : IsAccountedFor spaces out) (u r : ℕ) (f g : SpaceState → ℕ) (apart : (s : SpaceState) → f s + g s ≤ sum_but_exported (unit_of_arena u spaces out s)) where
   abbrev tops : ℕ → ℕ
   tops = (tops_stand spaces out a).0
 
-  -- an arena of the space is counted
+  -- an arena under the top is counted
   counted : (h : SpaceState → ℕ) (k : ℕ) (s : SpaceState) → slice_get spaces k ≡ Some s → HasTop spaces k r → h s ≤ sum_by (weight_where (is_under tops r) h) spaces
   counted h k s at up =
       let own : tops k ≡ r = one_top spaces k (tops k) r ((tops_stand spaces out a).1 k s at) up in
@@ -63,7 +63,7 @@ module _ (spaces : List SpaceState) (out : Outside) (a : IsAccountedFor spaces o
   pub never_both : (j k : ℕ) (s x : SpaceState) → slice_get spaces j ≡ Some s → HasTop spaces j r → 0 < f s → slice_get spaces k ≡ Some x → HasTop spaces k r → 0 < g x → ⊥
   never_both j k s x at up some there over more =
       let first = top_is_root spaces j r up in
-      let all = space_unit_adds_up spaces out a tops (tops_stand spaces out a).1 r first.0 first.1 first.2 u in
+      let all = chain_unit_adds_up spaces out a tops (tops_stand spaces out a).1 r first.0 first.1 first.2 u in
       omega (arith, all.0, all.1, both_fit, counted f j s at up, some, counted g k x there over, more)
 
 module _ (spaces : List SpaceState) (out : Outside) (a : IsAccountedFor spaces out) (k top u : ℕ) where
@@ -80,7 +80,7 @@ module _ (spaces : List SpaceState) (out : Outside) (a : IsAccountedFor spaces o
     (counts_the_unit u t.holding.range).1.1 has,
   )
 
-  -- what weighs of an arena of the space is in no segment among these
+  -- what weighs of an arena under the top is in no segment among these
   none_among : (f : SpaceState → ℕ) (ts : List Tag) → ((s : SpaceState) → f s + among ts s ≤ sum_but_exported (unit_of_arena u spaces out s)) → (b : ℕ) (s : SpaceState) → slice_get spaces b ≡ Some s → HasTop spaces b top
       → 0 < f s → All (λ t. HasTop spaces t.arena top → ¬ Covers t.holding.range u) ts
   none_among f ts apart b s at up some = all_from (λ t. HasTop spaces t.arena top → ¬ Covers t.holding.range u) ts

@@ -129,10 +129,10 @@ abbrev pub OutNeverOverlaps : Type 0
 OutNeverOverlaps = (spaces : List SpaceState) (out : Outside) → IsAccountedFor spaces out
     → AllPairs (ApartUpChain spaces) (segments_out out)
 
--- over all arenas of one space, each unit of the spans at the top is in one home, and any other
--- in none
-abbrev pub SpaceUnitAddsUp : Type 0
-SpaceUnitAddsUp = (spaces : List SpaceState) (out : Outside) → IsAccountedFor spaces out
+-- over a top arena and all that import from it, each unit of the spans at the top is in one home,
+-- and any other in none
+abbrev pub ChainUnitAddsUp : Type 0
+ChainUnitAddsUp = (spaces : List SpaceState) (out : Outside) → IsAccountedFor spaces out
     → (top : ℕ → ℕ) → AreTops spaces top → (r : ℕ) (root : SpaceState)
     → slice_get spaces r ≡ Some root → root.source ≡ None → (u : ℕ)
     → (sum_by (weight_where (is_under top r)
@@ -140,8 +140,8 @@ SpaceUnitAddsUp = (spaces : List SpaceState) (out : Outside) → IsAccountedFor 
     ≡ covering_held u (spans_of root.arena)) × (covering_held u (spans_of root.arena) ≤ 1)
 
 -- so the sums of all of them, but what they exported, add up to the units of those spans
-abbrev pub SpaceAddsUp : Type 0
-SpaceAddsUp = (spaces : List SpaceState) (out : Outside) → IsAccountedFor spaces out
+abbrev pub ChainAddsUp : Type 0
+ChainAddsUp = (spaces : List SpaceState) (out : Outside) → IsAccountedFor spaces out
     → (top : ℕ → ℕ) → AreTops spaces top → (r : ℕ) (root : SpaceState)
     → slice_get spaces r ≡ Some root → root.source ≡ None
     → sum_by (weight_where (is_under top r)
@@ -153,7 +153,7 @@ abbrev pub TopsStand : Type 0
 TopsStand = (spaces : List SpaceState) (out : Outside) → IsAccountedFor spaces out
     → (top : ℕ → ℕ) × AreTops spaces top
 
--- a unit that an arena may carve or import is in no segment that is out of an arena of its space
+-- a unit that an arena may carve or import is in no segment that is out of an arena with its top
 abbrev pub FreeIsNotOut : Type 0
 FreeIsNotOut = (spaces : List SpaceState) (out : Outside) → IsAccountedFor spaces out
     → (k top u : ℕ) → IsFreeFor spaces u k → HasTop spaces k top

@@ -6,7 +6,7 @@ ghost use Rattle.stock_audit.specs.Laws.{HandStepsKeep, SwapsKeep, PopsKeep, Pus
 ghost use Rattle.stock_audit.specs.Laws.{ChangesKeep, LeasesKeep, ReleasesKeep, CpusKeep};
 ghost use Rattle.stock_audit.specs.Laws.{ChildIsExported, ExportedIsChildren, AllocatedIsOut};
 ghost use Rattle.stock_audit.specs.Laws.{SpansAreOfSource, OutNeverOverlaps};
-ghost use Rattle.stock_audit.specs.Laws.{SpaceUnitAddsUp, SpaceAddsUp, TopsStand};
+ghost use Rattle.stock_audit.specs.Laws.{ChainUnitAddsUp, ChainAddsUp, TopsStand};
 ghost use Rattle.stock_audit.specs.Laws.{FreeIsNotOut, ReachableIsNotHeld};
 ghost use Rattle.stock_audit.specs.Laws.{FreeAboveIsFree, GivenWasReachable, GivenFittedIn};
 ghost use Rattle.stock_audit.specs.Laws.{NoStepOffChain, OffChainThen};
@@ -52,12 +52,12 @@ pub fn chain_laws()
     ensures apart { OutNeverOverlaps }
 {}
 
-/// Over a whole space, which is an arena with all that import from it, directly or not: each unit
-/// is in one home of one arena, and what an arena may serve a request with is nowhere else.
-pub fn space_laws()
+/// Over a top arena and all that import from it, directly or not: each unit is in one home of one
+/// arena, and what an arena may serve a request with is nowhere else.
+pub fn chain_sum_laws()
     ensures tops { TopsStand }
-    ensures home { SpaceUnitAddsUp }
-    ensures lengths { SpaceAddsUp }
+    ensures home { ChainUnitAddsUp }
+    ensures lengths { ChainAddsUp }
     ensures free { FreeIsNotOut }
     ensures reachable { ReachableIsNotHeld }
 {}

@@ -5,7 +5,7 @@ use Rattle.std.proofs.lemmas.List.{append-nil, append_assoc}
 use Rattle.arena_tree.specs.declared.trees.TreeArena.{TreeArena}
 use Rattle.stock.specs.Spaces.{SpaceState}
 use Rattle.lease_proto.specs.Reports.{audit_text}
-use Rattle.lease_machine.specs.Operators.{audit_line, arenas_told, sums_in}
+use Rattle.lease_machine.specs.Operators.{audit_line, audit_texts_of, sums_in}
 use Rattle.lease_machine.specs.Picture.{Picture}
 
 -- the lines of the first n arenas
@@ -29,7 +29,7 @@ told_more d (suc n) (y ∷ tree) (z ∷ spaces) x s at here =
     ap (λ (ls : List ℕ). audit_text (audit_line y.name (sums_in d z)) ++ ls) (told_more d n tree spaces x s at here)
     ∙ sym (append_assoc (audit_text (audit_line y.name (sums_in d z))) (first_told d n tree spaces) (audit_text (audit_line x.name (sums_in d s))))
 
-pub told_all : (d : Picture) (n : ℕ) (tree : List TreeArena) (spaces : List SpaceState) → n ≡ length tree → first_told d n tree spaces ≡ arenas_told d tree spaces
+pub told_all : (d : Picture) (n : ℕ) (tree : List TreeArena) (spaces : List SpaceState) → n ≡ length tree → first_told d n tree spaces ≡ audit_texts_of d tree spaces
 told_all d zero [] spaces whole = refl
 told_all d zero (x ∷ tree) spaces whole = absurd (omega (arith, whole))
 told_all d (suc n) [] spaces whole = refl

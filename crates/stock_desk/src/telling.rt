@@ -10,7 +10,8 @@ ghost use Rattle.arena_tree.specs.declared.trees.TreeArena.{TreeArena};
 ghost use Rattle.stock.specs.Spaces.{SpaceState};
 ghost use Rattle.local_parts.specs.Cpus.{arena_rounds};
 ghost use Rattle.lease_proto.specs.Reports.{audit_text};
-ghost use Rattle.lease_machine.specs.Operators.{audit_line, arenas_told, client_told, sums_in};
+ghost use Rattle.lease_machine.specs.Operators.{audit_line, audit_texts_of, client_text_of};
+ghost use Rattle.lease_machine.specs.Operators.{sums_in};
 ghost use Rattle.lease_machine.specs.Picture.{Picture, IsPicture};
 ghost use Rattle.stock_desk.specs.Parting.{HasParts};
 
@@ -34,7 +35,7 @@ pub(crate) fn audit(
     requires { (d : Picture) × IsPicture d × HasParts tree.now stock.now cpus.now book.now d }
     ensures ok { OnOk result ((d : Picture) → IsPicture d
         → HasParts tree.now stock.now cpus.now book.now d
-        → out.new.items ≡ out.old.items ++ arenas_told d d.tree d.spaces) }
+        → out.new.items ≡ out.old.items ++ audit_texts_of d d.tree d.spaces) }
     ensures begun { OnErr result (StartsWith out.new.items out.old.items) }
 {
     for arena in 0..tree.len() as u32 {
@@ -97,7 +98,7 @@ fn rounds_of(cpus: &[Cpu], arena: usize) -> u128
 /// Appends a line for each client, in order of first hello.
 pub(crate) fn clients(book: &Book<PlainDeed>, out: &mut Vec<u8>) -> Result<(), AllocError>
     ensures ok { OnOk result (out.new.items
-        ≡ out.old.items ++ flat_map client_told (map report_of book.now.accounts)) }
+        ≡ out.old.items ++ flat_map client_text_of (map report_of book.now.accounts)) }
     ensures begun { OnErr result (StartsWith out.new.items out.old.items) }
 {
     for index in 0..book.clients() {
@@ -111,7 +112,7 @@ pub(crate) fn clients(book: &Book<PlainDeed>, out: &mut Vec<u8>) -> Result<(), A
 
 /// Appends the line that tells of a client.
 fn tell_client(report: &ClientReport, out: &mut Vec<u8>) -> Result<(), AllocError>
-    ensures ok { OnOk result (out.new.items ≡ out.old.items ++ client_told report.now) }
+    ensures ok { OnOk result (out.new.items ≡ out.old.items ++ client_text_of report.now) }
     ensures unchanged { OnErr result (out.new.items ≡ out.old.items) }
 {
     let line = ClientLine {

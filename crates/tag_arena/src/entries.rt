@@ -35,7 +35,6 @@ impl RowEntry for IndexEntry {
 
     fn weight(&self, measure: Measure) -> u64 {
         match measure {
-            Measure::Nothing => 0,
             Measure::Length => self.minor,
             Measure::Reach(grid) => {
                 // An entry of sizes is of a range, which no bound changes.
@@ -50,6 +49,6 @@ impl RowEntry for IndexEntry {
     }
 
     fn first_measure() -> Measure {
-        Measure::Nothing
+        Measure::Length
     }
 }

@@ -125,13 +125,12 @@ impl<D: Deed> FreeIndex<D> {
         Ok(())
     }
 
-    /// Goes to where a range lies by base and by length. It is for speed alone: the calls that
-    /// follow there need no search for its rows.
+    /// Goes to where a range lies by base. It is for speed alone: the calls that follow there need
+    /// no search in the order of bases.
     fn go_to(&mut self, range: HeldRange)
         ensures unchanged { self.new ≡ self.old }
     {
         self.rising.go_to(range.base(), range.len());
-        self.sizes.go_to(range.len(), range.base());
     }
 
     /// A range becomes free: it is the newest. It takes no memory.

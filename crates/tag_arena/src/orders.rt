@@ -95,7 +95,7 @@ impl OrderedIndex {
     }
 
     /// Goes to where the key of two numbers belongs. It is for speed alone: the calls that follow
-    /// near the key need no search for its row.
+    /// near the key need no search, or none for its row.
     pub fn go_to(&mut self, major: u64, minor: u64)
         ensures unchanged { self.new ≡ self.old }
     {

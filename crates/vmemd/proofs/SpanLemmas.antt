@@ -17,7 +17,7 @@ use Rattle.stock.specs.Setups.{deeds_owned, numbered_deeds, plan_for, plans_for}
 use Rattle.stock.specs.Spaces.{SpaceState, SpacePlan, plan_of, plans_of}
 use Rattle.lease_proto.specs.declared.lines.LeaseLine.{LeaseLine}
 use Rattle.lease_machine.specs.Machine.{demand_of}
-use Rattle.lease_machine.specs.Picture.{Picture, SameSetup, owned_by}
+use Rattle.lease_machine.specs.Picture.{Picture, SameSetup, owned_spans}
 use Rattle.lease_machine.specs.RoomLaws.{NamesArena}
 use Rattle.vmemd.specs.Desks.{IsDeskOf}
 use Rattle.vmemd.specs.Laws.{FitsInSpan}
@@ -53,9 +53,9 @@ span_there made desk last l is same f =
     ap (λ (ps : List SpacePlan). slice_get ps k) is.opened.stock.plans ∙ slice_get_mapped plan_for made.arenas k f.arena f.here in
     let first = mapped plan_of desk.spaces k (plan_for f.arena) planned in
     let owns_first : first.0.arena.owned ≡ deeds_owned k made.spans (numbered_deeds 0 made.spans) = ap (λ (a : ArenaState). a.owned) (is.opened.stock.unused k first.0 first.1).arena in
-    let owned : slice_get (map owned_by last.spaces) k ≡ Some first.0.arena.owned =
-    ap (λ (os : List (List Holding)). slice_get os k) same.owned ∙ slice_get_mapped owned_by desk.spaces k first.0 first.1 in
-    let now = mapped owned_by last.spaces k first.0.arena.owned owned in
+    let owned : slice_get (map owned_spans last.spaces) k ≡ Some first.0.arena.owned =
+    ap (λ (os : List (List Holding)). slice_get os k) same.owned ∙ slice_get_mapped owned_spans desk.spaces k first.0 first.1 in
+    let now = mapped owned_spans last.spaces k first.0.arena.owned owned in
     let at : slice_get made.spans f.owned.0 ≡ Some f.span = slice_get-get_or made.spans f.owned.0 f.span f.owned.1 ∙ ap Some f.owned.2 in
     let span = span_owned k made.spans 0 f.owned.0 f.span at refl in
     let stands : slice_get now.0.arena.owned span.0 ≡ Some span.1 = ap (λ (os : List Holding). slice_get os span.0) (sym now.2 ∙ owns_first) ∙ span.2 in

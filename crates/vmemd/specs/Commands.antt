@@ -73,12 +73,12 @@ abbrev pub IsAskedFor : ErrorKind → Type 0
 IsAskedFor of = (of ≡ kind.DisplayHelp) ⊎ (of ≡ kind.DisplayVersion)
 
 -- a text that was asked for, or one of a mistake
-abbrev pub IsTold : Error → WordsFault → Type 0
-IsTold error (Asked text) = IsAskedFor (kind_of error)
-IsTold error (Mistaken text) = (kind_of error ≢ kind.DisplayHelp)
+abbrev pub ShowsError : Error → WordsFault → Type 0
+ShowsError error (Asked text) = IsAskedFor (kind_of error)
+ShowsError error (Mistaken text) = (kind_of error ≢ kind.DisplayHelp)
     × (kind_of error ≢ kind.DisplayVersion) × (kind_of error ≢ kind.OutOfMemory)
-IsTold error NotText = ⊥
-IsTold error Memory = Unit {0}
+ShowsError error NotText = ⊥
+ShowsError error Memory = Unit {0}
 
 -- by the faults that clap finds in words, of which there may be none: what they are told
 abbrev pub FailsWords : Kinds → WordsFault → Type 0

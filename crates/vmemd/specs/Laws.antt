@@ -29,7 +29,7 @@ use Rattle.lease_proto.specs.Faults.{error_text}
 use Rattle.lease_proto.specs.Frames.{Frame}
 use Rattle.lease_proto.specs.Operators.{served_of}
 use Rattle.lease_machine.specs.Picture.{Picture, held_outside}
-use Rattle.lease_machine.specs.Operators.{sums_in, arenas_told}
+use Rattle.lease_machine.specs.Operators.{sums_in, audit_texts_of}
 use Rattle.lease_machine.specs.Machine.{LeaseStep, demand_of}
 use Rattle.lease_machine.specs.Laws.{Runs}
 use Rattle.lease_machine.specs.AnswerLaws.{reply_bytes, IsUnkept, IsRequestLine, AreOfOthers}
@@ -83,7 +83,7 @@ ScriptUnitsHaveOneHome = (last : Picture) → Script last → (k : ℕ) (s : Spa
 -- changes
 abbrev pub ScriptAuditIsTold : Type 0
 ScriptAuditIsTold = (old new : Picture) (text : List ℕ) → AnswersNext old (codes "audit") text new
-    → ((text ≡ arenas_told old old.tree old.spaces) ⊎ (text ≡ error_text Memory)) × (new ≡ old)
+    → ((text ≡ audit_texts_of old old.tree old.spaces) ⊎ (text ≡ error_text Memory)) × (new ≡ old)
 
 -- what it calls leased are the book's leases, and its numbers add up to the arena's units
 abbrev pub ScriptAuditIsWhole : Type 0

@@ -3,7 +3,7 @@
 ghost use Rattle.std.specs.Prelude.{◌≡◌, ◌≢◌, [], IfOk, IfErr, OnOk, false, map};
 ghost use Rattle.clap.specs.Words.{app_of, fault_of, kind_of, rule_of, subcommand_of};
 ghost use Rattle.clap.specs.Words.{subcommand_rows_of};
-ghost use Rattle.vmemd.specs.Commands.{program, script_words, FailsWords, IsGivenBy, IsTold};
+ghost use Rattle.vmemd.specs.Commands.{program, script_words, FailsWords, IsGivenBy, ShowsError};
 ghost use Rattle.vmemd.specs.Commands.{required_word, workers_word};
 ghost use Rattle.vmemd.specs.declared.commands.TheConstants.{MOST_WORKERS};
 ghost use Rattle.lease_proto.specs.declared.limits.TheConstants.{MOST_CPUS};
@@ -317,7 +317,7 @@ fn given<'a>(matches: &ArgMatches<'a>) -> GivenWords<'a>
 
 fn words_fault(alloc: Global, error: Error) -> WordsFault
     ensures memory { kind_of error ≡ ErrorKind.OutOfMemory → result ≡ WordsFault.Memory }
-    ensures told { IsTold error result }
+    ensures told { ShowsError error result }
 {
     if error.kind() == ErrorKind::OutOfMemory {
         return WordsFault::Memory;

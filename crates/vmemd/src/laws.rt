@@ -6,8 +6,8 @@ ghost use Rattle.vmemd.specs.Laws.{ScriptRepeatsFit, ScriptFirstLeaseIsServed, S
 ghost use Rattle.vmemd.specs.Laws.{ScriptReturnedIsWhole, ScriptEmptiedIsWhole};
 
 /// Whatever setup lines are taken, and whatever lines the desk that they open answers then: after
-/// each of them no two leases of one space overlap, each unit is in one home, and an audit tells
-/// all of them. What `run_script` writes is such a script.
+/// each of them no two leases overlap whose arenas have one top, each unit is in one home, and an
+/// audit tells all of them. What `run_script` writes is such a script.
 pub fn script_laws()
     ensures split { ScriptsSplit }
     ensures apart { ScriptLeasesStayApart }

@@ -1,4 +1,4 @@
--- No two segments that clients hold have a unit of a space in common.
+-- No two segments that clients hold of arenas with one top have a unit in common.
 use Rattle.std.proofs.Common.{◌≡◌, ◌≢◌, ◌⊎◌, ℕ, zero, suc, ◌+◌, ◌<◌, ◌≤◌, ◌==◌, Bool, true, false, ◌||◌, List, [], ◌∷◌, ◌++◌, get_or, Some, None, refl, sym, subst, ap, ◌∙◌, inl, inr, arith}
 use Rattle.std.specs.Prelude.{slice_get, if◌then◌else◌, sum_by}
 use Rattle.std.specs.Str.{bytes_eq}
@@ -128,9 +128,9 @@ module _ (w : WorldState) (is : IsWorld w) (top unit : ℕ) (s t : HeldSegment) 
   abbrev told_weight : Tag → ℕ
   told_weight x = weight s.arena t.arena unit (told_segment (arena_name w.names) x)
 
-  -- what weighs something is in the space and has the unit
-  in_space : (x : Tag) → 0 < told_weight x → HasTop w.stock x.arena top × Covers x.holding.range unit
-  in_space x some =
+  -- what weighs something is under the top and has the unit
+  under_top : (x : Tag) → 0 < told_weight x → HasTop w.stock x.arena top × Covers x.holding.range unit
+  under_top x some =
       let is_some = weight_some s.arena t.arena unit (told_segment (arena_name w.names) x) some in
       let home : HasTop w.stock x.arena top = elim is_some.0 [
         | inl a ↦ subst (λ (k : ℕ). HasTop w.stock k top) (sym (is.names x.arena first.index first.named.within (a ∙ sym first.named.is))) first.under
@@ -157,7 +157,7 @@ module _ (w : WorldState) (is : IsWorld w) (top unit : ℕ) (s t : HeldSegment) 
 
       apart : (i j : ℕ) (x y : Tag) → i < j → slice_get out i ≡ Some x → slice_get out j ≡ Some y → 0 < told_weight x → told_weight y ≡ 0
       apart i j x y before here there some = nothing (told_weight y) (λ more.
-          pair i j x y before here there top (in_space x some).0 (in_space y more).0 unit (in_space x some).1 (in_space y more).1)
+          pair i j x y before here there top (under_top x some).0 (under_top y more).0 unit (under_top x some).1 (under_top y more).1)
 
   one_leased : sum_by told_weight (leased_segments w.book) ≤ 1
   one_leased = omega (arith, one_out, sum_by-append told_weight (in_hands w.hands) (leased_segments w.book ++ all_own_rounds w.caches), sum_by-append told_weight (leased_segments w.book) (all_own_rounds w.caches))

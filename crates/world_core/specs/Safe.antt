@@ -63,15 +63,15 @@ HoldsLeases w c = (f : HeldSegment → ℕ)
     → sum_by f c.held
     ≤ sum_by (weight_in (arena_name w.names) c.incarnation f) (leases_of c.id w.entries)
 
--- the segment that a client holds is of an arena of the space with this top, and has the unit
+-- the segment that a client holds is of an arena with this top, and has the unit
 pub record CoversIn (w : WorldState) (top unit : ℕ) (s : HeldSegment) : Type 0 where
   pub index : ℕ
   pub named : IsNamed w index s.arena
   pub under : HasTop w.stock index top
   pub has : Covers (record { base = s.base; len = s.len }) unit
 
--- no unit of a space is in two segments that clients hold: the two are one, at one index of one
--- client's list
+-- no unit is in two segments that clients hold of arenas with one top: the two are one, at one
+-- index of one client's list
 abbrev pub HeldApart : WorldState → Type 0
 HeldApart w = (top unit : ℕ) (c d i j : ℕ) (x y : ClientState) (s t : HeldSegment)
     → slice_get w.clients c ≡ Some x → slice_get x.held i ≡ Some s
@@ -88,8 +88,8 @@ SettlesIt id reply = ⊥
 -- All units are accounted for, each stands in one home, and what an arena exported are the spans
 -- of those that import from it. A CPU's loaded magazine has at most its size, and its previous one
 -- none or as many. The book is what is read off its entries. Each grant was asked for and fits.
--- Clients hold what is leased to them, and no unit of a space is in two segments that they hold.
--- And any two replies that settle one request are equal.
+-- Clients hold what is leased to them, and no unit is in two segments that they hold of arenas with
+-- one top. And any two replies that settle one request are equal.
 pub record Safe (w : WorldState) : Type 0 where
   pub parts : IsAccountedFor w.stock (outside_of w)
   pub homes : (k : ℕ) (s : SpaceState) → slice_get w.stock k ≡ Some s → (unit : ℕ)

@@ -99,6 +99,82 @@ fn reaped<N: Name, R: Abort + Wait + AllocGlobal>(rt: &R, ground: Ground, setup:
     shut(rt, system, &[(0, 64)]);
 }
 
+/// A size rises where it is greater, past others too, and nothing else does.
+#[test]
+fn sizes_rise(rt: HostRuntime) -> Result<(), Fail> {
+    let mut setup = Setup::new(rt.alloc());
+    root(&rt, &mut setup, "d", 0, 64, Policy::Instant, 5);
+    risen::<Brand, _>(&rt, Ground::new(rt.alloc())?, setup);
+    Ok(())
+}
+
+fn risen<N: Name, R: Abort + Wait + AllocGlobal>(rt: &R, ground: Ground, setup: Setup)
+    requires { ground ≡ N.table }
+{
+    let system: System<N> = made(rt, ground, setup);
+    assert!(rt; system.resize(rt, 0, 15));
+    assert!(rt; !system.resize(rt, 0, 15));
+    assert!(rt; !system.resize(rt, 0, 7));
+    assert!(rt; system.resize(rt, 0, 31));
+    assert!(rt; !system.resize(rt, 0, 15));
+    shut(rt, system, &[(0, 64)]);
+}
+
+/// The depot of a second arena has a full magazine. It isn't reaped before a tick, and is after
+/// one, which begins an interval that doesn't need it.
+#[test]
+fn reap_second(rt: HostRuntime) -> Result<(), Fail> {
+    let mut setup = Setup::new(rt.alloc());
+    root(&rt, &mut setup, "c", 0, 64, Policy::Instant, 5);
+    root(&rt, &mut setup, "d", 64, 64, Policy::Instant, 5);
+    second_reaped::<Brand, _>(&rt, Ground::new(rt.alloc())?, setup);
+    Ok(())
+}
+
+// Of the seven rounds that come back, the depot gets three for the last one's sake.
+fn second_reaped<N: Name, R: Abort + Wait + AllocGlobal>(rt: &R, ground: Ground, setup: Setup)
+    requires { ground ≡ N.table }
+{
+    let system: System<N> = made(rt, ground, setup);
+    let mut one = cpu(rt, &system, 0);
+    let mut two = cpu(rt, &system, 1);
+    let rows = [
+        ("hello 1 1", "welcome 1 1"),
+        ("lease 1 1 1 d 1", "granted 1 1 1 d 64 1"),
+        ("lease 1 1 2 d 1", "granted 1 1 2 d 65 1"),
+        ("lease 1 1 3 d 1", "granted 1 1 3 d 66 1"),
+        ("lease 1 1 4 d 1", "granted 1 1 4 d 67 1"),
+        ("lease 1 1 5 d 1", "granted 1 1 5 d 68 1"),
+        ("lease 1 1 6 d 1", "granted 1 1 6 d 69 1"),
+        ("lease 1 1 7 d 1", "granted 1 1 7 d 70 1"),
+        ("release 1 1 8 d 64", "released 1 1 8"),
+        ("release 1 1 9 d 65", "released 1 1 9"),
+        ("release 1 1 10 d 66", "released 1 1 10"),
+        ("release 1 1 11 d 67", "released 1 1 11"),
+        ("release 1 1 12 d 68", "released 1 1 12"),
+        ("release 1 1 13 d 69", "released 1 1 13"),
+        ("release 1 1 14 d 70", "released 1 1 14"),
+    ];
+    for (text, wanted) in &rows {
+        ask(rt, &system, &mut one, text, wanted);
+    }
+    assert!(rt; one.units() == 4);
+    retire(rt, &system, one);
+    assert!(rt; system.reap(rt, &mut two, 1, 1024) == 0);
+    system.tick(rt);
+    assert!(rt; system.reap(rt, &mut two, 0, 1024) == 0);
+    assert!(rt; system.reap(rt, &mut two, 1, 1024) == 16);
+    ask(
+        rt,
+        &system,
+        &mut two,
+        "lease 1 1 15 d 64",
+        "granted 1 1 15 d 64 64",
+    );
+    retire(rt, &system, two);
+    shut(rt, system, &[(0, 64), (64, 64)]);
+}
+
 #[test]
 fn shut_whole(rt: HostRuntime) -> Result<(), Fail> {
     let mut setup = Setup::new(rt.alloc());

@@ -1,5 +1,5 @@
 use Rattle.sorted_rows.proofs.RowLemmas.{rises_at}
 use Rattle.sorted_rows.proofs.heavy.least_weighing.Goals as goal
 
-pub below-at-requires : goal.below-at-requires
-below-at-requires g c = rises_at g.T.RowEntry.rank c.args.rows.now c.seat_near-seat.result _ c.seat_near-seat.ensures.within c.requires.laid.rises
+pub below_near-at-requires : goal.below_near-at-requires
+below_near-at-requires g c = rises_at g.T.RowEntry.rank c.args.rows.now c.seat_near-seat.result _ c.seat_near-seat.ensures.within c.requires.laid.rises

@@ -9,10 +9,10 @@ returns-clause-laid g c =
     let within : c.args.at < length c.args.rows.now.items = omega arith in
     let row = c.index_mut-low.result.now in
     let e = c.index_mut-low.ensures.value ∙ get_or_default c.args.rows.now.items c.args.at _ [] within in
-    let full : length row ≡ 64 = ap length e ∙ c.requires.full in
-    let parts = ap (λ xs. xs ++ c.split.new.high) c.split.ensures.low ∙ (ap (λ xs. take 32 row ++ xs) c.split.ensures.high ∙ take-append-drop 32 row) in
-    let low = ap length c.split.ensures.low ∙ length-take-le 32 row (omega arith) in
-    let high : length c.split.new.high ≡ 32 = omega (arith, ap length c.split.ensures.high, length-drop 32 row) in
+    let full : length row ≡ 192 = ap length e ∙ c.requires.full in
+    let parts = ap (λ xs. xs ++ c.split.new.high) c.split.ensures.low ∙ (ap (λ xs. take 96 row ++ xs) c.split.ensures.high ∙ take-append-drop 96 row) in
+    let low = ap length c.split.ensures.low ∙ length-take-le 96 row (omega arith) in
+    let high : length c.split.new.high ≡ 96 = omega (arith, ap length c.split.ensures.high, length-drop 96 row) in
     (laid_split g.T.RowEntry.rank c.args.rows.now.items _ c.args.at row _ _ c.requires.laid within e parts low high c.in-Ok.ensures.items c.requires.others).0
 
 pub returns-clause-short : goal.returns-clause-short
@@ -20,10 +20,10 @@ returns-clause-short g c =
     let within : c.args.at < length c.args.rows.now.items = omega arith in
     let row = c.index_mut-low.result.now in
     let e = c.index_mut-low.ensures.value ∙ get_or_default c.args.rows.now.items c.args.at _ [] within in
-    let full : length row ≡ 64 = ap length e ∙ c.requires.full in
-    let parts = ap (λ xs. xs ++ c.split.new.high) c.split.ensures.low ∙ (ap (λ xs. take 32 row ++ xs) c.split.ensures.high ∙ take-append-drop 32 row) in
-    let low = ap length c.split.ensures.low ∙ length-take-le 32 row (omega arith) in
-    let high : length c.split.new.high ≡ 32 = omega (arith, ap length c.split.ensures.high, length-drop 32 row) in
+    let full : length row ≡ 192 = ap length e ∙ c.requires.full in
+    let parts = ap (λ xs. xs ++ c.split.new.high) c.split.ensures.low ∙ (ap (λ xs. take 96 row ++ xs) c.split.ensures.high ∙ take-append-drop 96 row) in
+    let low = ap length c.split.ensures.low ∙ length-take-le 96 row (omega arith) in
+    let high : length c.split.new.high ≡ 96 = omega (arith, ap length c.split.ensures.high, length-drop 96 row) in
     (laid_split g.T.RowEntry.rank c.args.rows.now.items _ c.args.at row _ _ c.requires.laid within e parts low high c.in-Ok.ensures.items c.requires.others).2
 
 pub returns-clause-items : goal.returns-clause-items
@@ -31,10 +31,10 @@ returns-clause-items g c =
     let within : c.args.at < length c.args.rows.now.items = omega arith in
     let row = c.index_mut-low.result.now in
     let e = c.index_mut-low.ensures.value ∙ get_or_default c.args.rows.now.items c.args.at _ [] within in
-    let full : length row ≡ 64 = ap length e ∙ c.requires.full in
-    let parts = ap (λ xs. xs ++ c.split.new.high) c.split.ensures.low ∙ (ap (λ xs. take 32 row ++ xs) c.split.ensures.high ∙ take-append-drop 32 row) in
-    let low = ap length c.split.ensures.low ∙ length-take-le 32 row (omega arith) in
-    let high : length c.split.new.high ≡ 32 = omega (arith, ap length c.split.ensures.high, length-drop 32 row) in
+    let full : length row ≡ 192 = ap length e ∙ c.requires.full in
+    let parts = ap (λ xs. xs ++ c.split.new.high) c.split.ensures.low ∙ (ap (λ xs. take 96 row ++ xs) c.split.ensures.high ∙ take-append-drop 96 row) in
+    let low = ap length c.split.ensures.low ∙ length-take-le 96 row (omega arith) in
+    let high : length c.split.new.high ≡ 96 = omega (arith, ap length c.split.ensures.high, length-drop 96 row) in
     (laid_split g.T.RowEntry.rank c.args.rows.now.items _ c.args.at row _ _ c.requires.laid within e parts low high c.in-Ok.ensures.items c.requires.others).1
 
 pub returns-clause-spare : goal.returns-clause-spare

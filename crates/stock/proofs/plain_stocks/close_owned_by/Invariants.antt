@@ -2,7 +2,7 @@ use Rattle.std.proofs.Common.{◌≡◌, [], All}
 use Rattle.std.specs.Prelude.{sum_by}
 use Rattle.stock.specs.Accounts.{Accounts}
 use Rattle.stock.specs.Endings.{IsReaped, OthersAreSame}
-use Rattle.stock.specs.Owning.{owned_in}
+use Rattle.stock.specs.Owning.{weight_owned}
 use Rattle.stock.specs.Spaces.{plans_of}
 use Rattle.stock.proofs.plain_stocks.close_owned_by.Given as goal
 
@@ -15,4 +15,4 @@ invariant-loop-deed l = record {
 }
 
 abbrev pub decreases-loop-deed : goal.decreases-loop-deed
-decreases-loop-deed l = sum_by (owned_in (λ h. 1)) l.stock
+decreases-loop-deed l = sum_by (weight_owned (λ h. 1)) l.stock

@@ -6,7 +6,7 @@ use Rattle.tag_arena.specs.declared.faults.ArenaFault.{ArenaFault}
 use Rattle.arena_tree.specs.declared.trees.TreeArena.{TreeArena}
 use Rattle.lease_terms.specs.declared.refusals.Refusal.TheVariants as why
 use Rattle.lease_machine.specs.Machine.{NewLease}
-use Rattle.lease_machine.specs.Picture.{Picture, IsPicture, owned_by}
+use Rattle.lease_machine.specs.Picture.{Picture, IsPicture, owned_spans}
 use Rattle.stock_desk.specs.Supplies.{SupplyState, picture_with}
 use Rattle.stock_desk.specs.Takings.{TakesFrom, IsUnserved, IsMissed}
 use Rattle.stock_desk.proofs.BookMoves.{held_of, refused_is_picture}
@@ -57,7 +57,7 @@ returns-in-Err-BadRequest-clause-setup c =
     let before = picture_with c.args.book.now c.args.supply.now in
     let here = slice_get_some c.args.supply.now.tree c.args.arena c.requires.within in
     let bad = subst (λ (f : ArenaFault). TakesFrom c.args.arena here.0 c.demand_of.result (Err f) before (picture_with c.args.book.now c.take.new.self)) c.in-Err-BadRequest.field-0-is (c.in-Err-BadRequest.ensures c.args.book.now here.0 (held_of before c.requires.picture) here.1) in
-    record { tree = ap (λ (d : Picture). d.tree) bad.1; owned = ap (λ (d : Picture). map owned_by d.spaces) bad.1 }
+    record { tree = ap (λ (d : Picture). d.tree) bad.1; owned = ap (λ (d : Picture). map owned_spans d.spaces) bad.1 }
 
 pub returns-in-Err-BadRequest-clause-step : goal.returns-in-Err-BadRequest-clause-step
 returns-in-Err-BadRequest-clause-step c =

@@ -1,7 +1,7 @@
 use Rattle.std.proofs.Common.{◌≡◌, ◌++◌, ◌∙◌, ap, refl, sym, subst, List, ℕ}
 use Rattle.lease_proto.specs.declared.operators.OperatorLine.{OperatorLine}
 use Rattle.lease_proto.specs.declared.operators.OperatorLine.TheVariants as operator
-use Rattle.lease_machine.specs.Operators.{LeavesOff, arenas_told}
+use Rattle.lease_machine.specs.Operators.{LeavesOff, audit_texts_of}
 use Rattle.lease_machine.specs.Picture.{NumberedCpu}
 use Rattle.stock_desk.specs.Operating.{IsPerformed}
 use Rattle.stock_desk.specs.Supplies.{SupplyState, picture_with}
@@ -24,7 +24,7 @@ returns-in-Audit-clause-ok c =
     let d = picture_with c.args.book.now c.args.supply.now in
     on_ok c.audit.result _ _
     (λ told. (
-      arenas_told d d.tree d.spaces,
+      audit_texts_of d d.tree d.spaces,
       told d c.requires.picture
           (record {
             arenas = ap (λ (s : SupplyState). s.tree) (sym c.supply.view_is);
@@ -32,6 +32,6 @@ returns-in-Audit-clause-ok c =
             made = ap (λ (s : SupplyState). s.cpus) (sym c.supply.view_is) ∙ sym c.as_slice.ensures.value;
             ledger = refl;
           }),
-      subst (λ (o : OperatorLine). IsPerformed o d (arenas_told d d.tree d.spaces) d) (sym c.in-Audit.is) (record { performs = (refl, refl); kept = keeps_none d c.requires.picture }),
+      subst (λ (o : OperatorLine). IsPerformed o d (audit_texts_of d d.tree d.spaces) d) (sym c.in-Audit.is) (record { performs = (refl, refl); kept = keeps_none d c.requires.picture }),
     ))
     c.audit.ensures.ok

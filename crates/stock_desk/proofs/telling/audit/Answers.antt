@@ -5,7 +5,7 @@ use Rattle.deed_core.proofs.LawProofs.{slice_get_some}
 use Rattle.arena_tree.specs.declared.trees.TreeArena.{TreeArena}
 use Rattle.stock.specs.Spaces.{SpaceState}
 use Rattle.lease_proto.specs.Reports.{audit_text}
-use Rattle.lease_machine.specs.Operators.{audit_line, arenas_told, sums_in}
+use Rattle.lease_machine.specs.Operators.{audit_line, audit_texts_of, sums_in}
 use Rattle.stock_desk.proofs.Audited.{first_told, told_more, told_all}
 use Rattle.stock_desk.proofs.Balances.{same_length, starts_through, always_on_err}
 use Rattle.stock_desk.proofs.telling.audit.Goals as goal
@@ -36,4 +36,4 @@ returns-clause-ok c d is parts =
     let whole : c.loop-arena.arena ≡ length c.args.tree.now = omega (arith, count, few) in
     c.loop-arena.invariant d is parts
     ∙ ap (λ z. c.args.out.now.items ++ z) (told_all d c.loop-arena.arena c.args.tree.now c.args.stock.now whole
-    ∙ ap (λ (t : List TreeArena). arenas_told d t c.args.stock.now) (sym parts.arenas) ∙ ap (λ (z : List SpaceState). arenas_told d d.tree z) (sym parts.stock))
+    ∙ ap (λ (t : List TreeArena). audit_texts_of d t c.args.stock.now) (sym parts.arenas) ∙ ap (λ (z : List SpaceState). audit_texts_of d d.tree z) (sym parts.stock))

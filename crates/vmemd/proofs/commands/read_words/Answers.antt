@@ -6,7 +6,7 @@ use Rattle.clap.specs.declared.error.kind.ErrorKind.TheVariants as kind
 use Rattle.clap.proofs.OnLiterals.{clap_on_literals}
 use Rattle.vmemd.specs.declared.commands.WordsFault.{WordsFault}
 use Rattle.vmemd.specs.declared.commands.WordsFault.TheVariants.{Asked, Mistaken, NotText, Memory}
-use Rattle.vmemd.specs.Commands.{program, script_words, FailsWords, IsGivenBy, IsTold}
+use Rattle.vmemd.specs.Commands.{program, script_words, FailsWords, IsGivenBy, ShowsError}
 use Rattle.vmemd.proofs.commands.read_words.Goals as goal
 
 is_taken : takes program script_words ≡ true
@@ -22,7 +22,7 @@ unfolding clap_on_literals
 is_known = refl
 
 -- what is told of one of these faults
-told : (kinds : Kinds) (error : Error) (fault : WordsFault) → HasKind kinds error → IsTold error fault → FailsWords kinds fault
+told : (kinds : Kinds) (error : Error) (fault : WordsFault) → HasKind kinds error → ShowsError error fault → FailsWords kinds fault
 told kinds error (Asked text) (inl memory) (inl help) = let bad : kind.OutOfMemory ≡ kind.DisplayHelp = sym memory ∙ help in absurd (cc)
 told kinds error (Asked text) (inl memory) (inr version) = let bad : kind.OutOfMemory ≡ kind.DisplayVersion = sym memory ∙ version in absurd (cc)
 told kinds error (Asked text) (inr among) (inl help) = inl (subst (λ k. IsAmong k kinds) help among)

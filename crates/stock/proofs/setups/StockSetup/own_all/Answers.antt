@@ -8,7 +8,7 @@ use Rattle.tag_arena.specs.ArenaState.{OnQuantum}
 use Rattle.arena_tree.specs.declared.setups.OwnedSpan.{OwnedSpan}
 use Rattle.stock.specs.Spaces.{SpaceState}
 use Rattle.stock.specs.Endings.{IsReaped}
-use Rattle.stock.specs.Owning.{owned_in}
+use Rattle.stock.specs.Owning.{weight_owned}
 use Rattle.stock.proofs.Owning.{IsOwning, begun, drop_here, popped, some_left, turned, span_within, span_of_root, span_on_grid, range_here, clear_here, owned_more, owned_whole, owning_is_reaped}
 use Rattle.stock.proofs.setups.StockSetup.own_all.Goals as goal
 
@@ -76,7 +76,7 @@ pub returns-in-Err-clause-deeds : goal.returns-in-Err-clause-deeds
 returns-in-Err-clause-deeds g c f =
     let is = c.loop-span.invariant.is c.requires.unused.0 c.requires.unused.1 in
     let back : c.push_reserved.new.self.items ≡ c.loop-span.deeds.items = grind (arith, common_steps) in
-    let spaces = ap (sum_by (owned_in f)) c.in-Err.ensures.unchanged in
+    let spaces = ap (sum_by (weight_owned f)) c.in-Err.ensures.unchanged in
     let left = ap (λ xs. sum_by f (map g.D.Deed.holding xs)) back in
     omega (arith, is.same f, turned g.D.Deed.holding c.args.deeds.now.items f, turned g.D.Deed.holding c.loop-span.deeds.items f, spaces, left)
 

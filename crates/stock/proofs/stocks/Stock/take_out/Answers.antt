@@ -6,7 +6,7 @@ use Rattle.deed_core.proofs.LawProofs.{slice_get_one}
 use Rattle.tag_arena.specs.Outcomes.{RemoveOf}
 use Rattle.stock.specs.Spaces.{with_arena}
 use Rattle.stock.specs.Endings.{IsTakenOut}
-use Rattle.stock.specs.Owning.{owned_in}
+use Rattle.stock.specs.Owning.{weight_owned}
 use Rattle.stock.proofs.Owning.{others_stay, there_now, stay_reaped, owns_less, each_one, same_there}
 use Rattle.stock.proofs.stocks.Stock.take_out.Goals as goal
 
@@ -57,4 +57,4 @@ pub returns-clause-deeds : goal.returns-clause-deeds
 returns-clause-deeds g c f =
     let on = c.in_default.ensures.removed in
     let same = same_there c.loop-deed.self c.remove_owned.new.self c.args.arena on.space on.arena on.at on.after on.does.1 in
-    omega (arith, c.loop-deed.invariant.same f, ap (sum_by (owned_in f)) same)
+    omega (arith, c.loop-deed.invariant.same f, ap (sum_by (weight_owned f)) same)

@@ -1,5 +1,5 @@
--- Over a whole space each unit is in one home of one arena: what an arena exported are its children's
--- spans, so the spans of all but the top cancel.
+-- Over a top arena and all that import from it each unit is in one home of one arena: what an arena
+-- exported are its children's spans, so the spans of all but the top cancel.
 use Rattle.std.proofs.Common.{◌≡◌, ◌≢◌, ℕ, ◌+◌, Bool, true, false, cond, nat_eq, Option, Some, None, refl, sym, ap, ◌∙◌, List, [], ◌∷◌, arith}
 use Rattle.std.specs.Prelude.{slice_get, sum_by}
 use Rattle.std.proofs.lemmas.Bool.Decides.{nat_tests}
@@ -15,7 +15,7 @@ use Rattle.stock_audit.specs.Outside.{Outside}
 use Rattle.stock_audit.specs.Audits.{sums_of_arena}
 use Rattle.stock_audit.specs.Accounted.{IsAccountedFor}
 use Rattle.stock_audit.specs.Chains.{AreTops, is_under, is_source, is_child_of, children_of, spans_of_children, sum_but_exported, unit_of_arena}
-use Rattle.stock_audit.specs.Laws.{SpaceUnitAddsUp, SpaceAddsUp}
+use Rattle.stock_audit.specs.Laws.{ChainUnitAddsUp, ChainAddsUp}
 use Rattle.stock_audit.proofs.Placing.{audit_adds_up, unit_adds_up}
 use Rattle.stock_audit.proofs.Exporting.{exported_is_children}
 use Rattle.stock_audit.proofs.Climbing.{source_stands}
@@ -143,8 +143,8 @@ module _ (spaces : List SpaceState) (out : Outside) (a : IsAccountedFor spaces o
         root_weighs x at none,
       )
 
-pub space_unit_adds_up : SpaceUnitAddsUp
-space_unit_adds_up spaces out a top tops r x at none u =
+pub chain_unit_adds_up : ChainUnitAddsUp
+chain_unit_adds_up spaces out a top tops r x at none u =
     (cancels spaces out a top tops r (covers_held u) (λ s. sum_but_exported (unit_of_arena u spaces out s)) each x at none, (unit_adds_up spaces out a r x at u).1)
   where
     each : (k : ℕ) (s : SpaceState) → slice_get spaces k ≡ Some s → sum_but_exported (unit_of_arena u spaces out s) + sum_by (covers_held u) (spans_of_children s.arena.id spaces) ≡ covering_held u (spans_of s.arena)
@@ -155,8 +155,8 @@ space_unit_adds_up spaces out a top tops r x at none u =
       ap (λ i. sum_by (covers_held u) (spans_of_children i spaces)) (a.parts k s there).id,
     )
 
-pub space_adds_up : SpaceAddsUp
-space_adds_up spaces out a top tops r x at none = cancels spaces out a top tops r units_in (λ s. sum_but_exported (sums_of_arena spaces out s)) each x at none
+pub chain_adds_up : ChainAddsUp
+chain_adds_up spaces out a top tops r x at none = cancels spaces out a top tops r units_in (λ s. sum_but_exported (sums_of_arena spaces out s)) each x at none
   where
     each : (k : ℕ) (s : SpaceState) → slice_get spaces k ≡ Some s → sum_but_exported (sums_of_arena spaces out s) + sum_by units_in (spans_of_children s.arena.id spaces) ≡ units_held (spans_of s.arena)
     each k s there = omega (
