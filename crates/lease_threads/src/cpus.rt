@@ -98,6 +98,18 @@ impl<N: Name> Cpu<N> {
         }
     }
 
+    /// Takes what is left of a climb, if anything is, into the empty hand.
+    pub(crate) fn hold_left(&mut self, left: Option<Segment<SeatDeed<N>>>)
+        requires { self.old.hand ≡ None }
+        ensures { self.new
+            ≡ record { number = self.old.number; hand = left; caches = self.old.caches } }
+    {
+        match left {
+            Some(segment) => self.hold(segment),
+            None => {}
+        }
+    }
+
     /// Whether no round is left in its magazines.
     pub(crate) fn is_drained(&self) -> bool
         ensures { IsTrue result ↔ All (λ r. BothEmpty r.cpu) self.now.caches }

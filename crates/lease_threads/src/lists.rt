@@ -5,9 +5,10 @@ ghost use Rattle.std.specs.Prelude.{IfOk, IfErr, OnErr};
 ghost use Rattle.deed_core.specs.Request.{Fits, IsPlain};
 ghost use Rattle.deed_core.specs.Tag.{Tag};
 ghost use Rattle.arena_tree.specs.Chains.{quantum_in};
+ghost use Rattle.arena_tree.specs.Climbs.{climb_left};
 ghost use Rattle.arena_tree.specs.Trees.{nodes_of};
 ghost use Rattle.locked_parts.specs.Gates.{MayStop};
-ghost use Rattle.lease_threads.specs.Hands.{LeavesHand};
+ghost use Rattle.lease_threads.specs.Hands.{LeavesHand, stop_told, carve_told, climb_told};
 ghost use Rattle.locked_parts.specs.Kinds.{AreForSame};
 
 use crate::cpus::Cpu;
@@ -91,9 +92,7 @@ impl<N: Name> System<N> {
         *steps = running.steps;
         match carved {
             Ok(segment) => Ok(segment),
-            Err(CarveFault::NoFit | CarveFault::BadRequest) => Err(Unserved::Refused),
-            Err(CarveFault::NoMemory) => Err(Unserved::Again),
-            Err(CarveFault::Stopped) => Err(stop_or_again(steps)),
+            Err(fault) => Err(after_carve(fault, steps)),
         }
     }
 
@@ -131,17 +130,11 @@ impl<N: Name> System<N> {
         *steps = running.steps;
         match allocated {
             Ok(segment) => Ok(segment),
-            Err(ClimbFault::NoFit | ClimbFault::BadRequest) => Err(Unserved::Refused),
-            Err(ClimbFault::NoMemory) => Err(Unserved::Again),
-            Err(ClimbFault::Stuck(segment)) => {
-                cpu.hold(segment);
-                Err(Unserved::Again)
+            Err(fault) => {
+                let why = after_climb(&fault, steps);
+                cpu.hold_left(left_of(fault));
+                Err(why)
             }
-            Err(ClimbFault::Stopped(Some(segment))) => {
-                cpu.hold(segment);
-                Err(stop_or_again(steps))
-            }
-            Err(ClimbFault::Stopped(None)) => Err(stop_or_again(steps)),
         }
     }
 
@@ -199,6 +192,7 @@ impl<N: Name> System<N> {
 
 // A stop that the gate said; any other comes to nothing.
 fn stop_or_again(steps: &StepCount) -> Unserved
+    ensures exactly { result ≡ stop_told steps.now.noted }
     ensures said { result ≡ Unserved.Stopped → steps.now.noted ≡ true }
     ensures never_refused { (hand : Option Tag) → LeavesHand result hand }
 {
@@ -206,5 +200,47 @@ fn stop_or_again(steps: &StepCount) -> Unserved
         Unserved::Stopped
     } else {
         Unserved::Again
+    }
+}
+
+// What a request comes to where its carve gave nothing.
+fn after_carve(fault: CarveFault, steps: &StepCount) -> Unserved
+    ensures exactly { result ≡ carve_told fault steps.now.noted }
+    ensures said { result ≡ Unserved.Stopped → steps.now.noted ≡ true }
+    ensures leaves { LeavesHand result None }
+{
+    match fault {
+        CarveFault::NoFit => Unserved::Refused,
+        CarveFault::BadRequest => Unserved::Refused,
+        CarveFault::NoMemory => Unserved::Again,
+        CarveFault::Stopped => stop_or_again(steps),
+    }
+}
+
+// What a request comes to where its climb gave nothing.
+fn after_climb<N: Name>(fault: &ClimbFault<Segment<SeatDeed<N>>>, steps: &StepCount) -> Unserved
+    ensures exactly { result ≡ climb_told fault.now steps.now.noted }
+    ensures said { result ≡ Unserved.Stopped → steps.now.noted ≡ true }
+    ensures leaves { LeavesHand result (climb_left (Err fault.now)) }
+{
+    match fault {
+        ClimbFault::NoFit => Unserved::Refused,
+        ClimbFault::BadRequest => Unserved::Refused,
+        ClimbFault::NoMemory => Unserved::Again,
+        ClimbFault::Stuck(_) => Unserved::Again,
+        ClimbFault::Stopped(_) => stop_or_again(steps),
+    }
+}
+
+// The segment that a climb didn't place.
+fn left_of<N: Name>(fault: ClimbFault<Segment<SeatDeed<N>>>) -> Option<Segment<SeatDeed<N>>>
+    ensures { result ≡ climb_left (Err fault) }
+{
+    match fault {
+        ClimbFault::NoFit => None,
+        ClimbFault::BadRequest => None,
+        ClimbFault::NoMemory => None,
+        ClimbFault::Stuck(segment) => Some(segment),
+        ClimbFault::Stopped(hand) => hand,
     }
 }

@@ -40,7 +40,8 @@ impl<N: Name> System<N> {
         ensures reaped { arena < length self.now.arenas
             → KeepsHand cpu.old.hand cpu.new.hand result
             ⊎ ReapsSoundly self.now.arenas arena limit result cpu.new.hand }
-        ensures no_arena { length self.now.arenas ≤ arena → result ≡ 0 }
+        ensures no_arena { length self.now.arenas ≤ arena → (result ≡ 0)
+            × ((cpu.new.hand ≡ None) ⊎ KeepsHand cpu.old.hand cpu.new.hand result) }
     {
         let mut steps = StepCount::new(cpu.number());
         match self.place_hand(rt, cpu, &OpenGate, &mut steps) {
@@ -56,7 +57,8 @@ impl<N: Name> System<N> {
         ensures magazines { AreForSame cpu.old.caches cpu.new.caches }
         ensures reaped { arena < length self.now.arenas
             → ReapsSoundly self.now.arenas arena limit result cpu.new.hand }
-        ensures no_arena { length self.now.arenas ≤ arena → result ≡ 0 }
+        ensures no_arena { length self.now.arenas ≤ arena
+            → (result ≡ 0) × (cpu.new.hand ≡ None) }
     {
         if arena as usize >= self.parts.tree().len() {
             return 0;

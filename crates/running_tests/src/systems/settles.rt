@@ -40,11 +40,11 @@ fn late<N: Name, R: Abort + Wait + AllocGlobal>(
     rt: &R,
     gate: &BeforeSettle<N, R>,
     one: &mut Cpu<N>,
-    wanted: &str,
+    row: &(&str, &str),
 ) {
-    match gate.system.answer(rt, one, gate, &line(rt, LEASE)) {
+    match gate.system.answer(rt, one, gate, &line(rt, row.0)) {
         Ok(told) => {
-            same(rt, &told.reply, wanted);
+            same(rt, &told.reply, row.1);
             assert!(rt; !told.is_new, "settled twice");
         }
         Err(RequestStopped) => panic!(rt; "stopped"),
@@ -57,9 +57,9 @@ const LEASE: &str = "lease 1 1 1 m 4";
 /// The lease of the second CPU is settled first: its segment is the one that both are told.
 #[test]
 fn one_request_twice(rt: HostRuntime) -> Result<(), Fail> {
-    let granted = "granted 1 1 1 m 4 4";
+    let granted = (LEASE, "granted 1 1 1 m 4 4");
     let then = ("lease 1 1 2 m 4", "granted 1 1 2 m 0 4");
-    settled(&rt, (LEASE, granted), granted, then);
+    settled(&rt, &[granted, granted, then]);
     Ok(())
 }
 
@@ -68,34 +68,27 @@ fn one_request_twice(rt: HostRuntime) -> Result<(), Fail> {
 fn hello_before_settle(rt: HostRuntime) -> Result<(), Fail> {
     let hello = ("hello 1 2", "welcome 1 2");
     let then = ("lease 1 2 1 m 8", "granted 1 2 1 m 0 8");
-    settled(&rt, hello, "old 1 2", then);
+    settled(&rt, &[hello, (LEASE, "old 1 2"), then]);
     Ok(())
 }
 
-// What the other CPU is asked before the settle, how the lease is answered then, and what comes
-// after.
-fn settled<R: Abort + Wait + AllocGlobal>(
-    rt: &R,
-    before: (&str, &str),
-    wanted: &str,
-    then: (&str, &str),
-) {
+// What the other CPU is asked before the settle, the lease, and what comes after.
+fn settled<R: Abort + Wait + AllocGlobal>(rt: &R, rows: &[(&str, &str); 3]) {
     let mut setup = Setup::new(rt.alloc());
     root(rt, &mut setup, "m", 0, 8, Policy::Best, 0);
     let ground = Ground::new(rt.alloc()).expect(rt, "a table");
-    settled_in::<Brand, _>(rt, ground, setup, before, wanted, then);
+    settled_in::<Brand, _>(rt, ground, setup, rows);
 }
 
 fn settled_in<N: Name, R: Abort + Wait + AllocGlobal>(
     rt: &R,
     ground: Ground,
     setup: Setup,
-    before: (&str, &str),
-    wanted: &str,
-    then: (&str, &str),
+    rows: &[(&str, &str); 3],
 )
     requires { ground ≡ N.table }
 {
+    let [before, asked, then] = rows;
     let system: System<N> = made(rt, ground, setup);
     let mut one = cpu(rt, &system, 0);
     let other = Mutex::new(cpu(rt, &system, 1));
@@ -107,7 +100,7 @@ fn settled_in<N: Name, R: Abort + Wait + AllocGlobal>(
         text: before.0,
         wanted: before.1,
     };
-    late(rt, &gate, &mut one, wanted);
+    late(rt, &gate, &mut one, asked);
     ask(rt, &system, &mut one, then.0, then.1);
     let two = other.into_inner();
     assert_eq!(rt; two.units(), 0);

@@ -1,5 +1,6 @@
-use Rattle.std.proofs.Common.{map, ap, ◌∙◌, sym}
+use Rattle.std.proofs.Common.{map, ap, ◌∙◌, sym, subst}
 use Rattle.locked_parts.specs.Kinds.{KindRoundsState}
+use Rattle.lease_threads.specs.Hands.{LeavesHand}
 use Rattle.lease_threads.specs.Systems.{CpuState}
 use Rattle.lease_threads.proofs.Runs.{ran_leaves, stop_said, same_fault}
 use Rattle.lease_threads.proofs.systems.System.allocate.Goals as goal
@@ -7,28 +8,16 @@ use Rattle.lease_threads.proofs.systems.System.allocate.Goals as goal
 pub shape_of-cpu-inside : goal.shape_of-cpu-inside
 shape_of-cpu-inside g c = sym (ran_leaves _ _ _ _ (λ s. s.caches.ghost_name) (λ s t e x d. d.1) _ _ _ _ c.alloc-allocated.ensures.ran)
 
-pub returns-in-Err-Stopped-Some-clause-stopped : goal.returns-in-Err-Stopped-Some-clause-stopped
-returns-in-Err-Stopped-Some-clause-stopped g c =
-    λ is. stop_said g.G.Gate.may_stop (λ s. s.gate.now) (λ s. s.steps.noted) _ _ _ _ (λ s t e x d. d.0) _ _ _ _ c.alloc-allocated.ensures.ran c.anew.ensures (c.stop_or_again.ensures.said (same_fault _ _ is))
+pub returns-in-Err-clause-stopped : goal.returns-in-Err-clause-stopped
+returns-in-Err-clause-stopped g c =
+    λ is. stop_said g.G.Gate.may_stop (λ s. s.gate.now) (λ s. s.steps.noted) _ _ _ _ (λ s t e x d. d.0) _ _ _ _ c.alloc-allocated.ensures.ran c.anew.ensures (c.after_climb-why.ensures.said (same_fault _ _ is))
 
-pub returns-in-Err-Stopped-None-clause-stopped : goal.returns-in-Err-Stopped-None-clause-stopped
-returns-in-Err-Stopped-None-clause-stopped g c =
-    λ is. stop_said g.G.Gate.may_stop (λ s. s.gate.now) (λ s. s.steps.noted) _ _ _ _ (λ s t e x d. d.0) _ _ _ _ c.alloc-allocated.ensures.ran c.anew.ensures (c.stop_or_again-in-Err-Stopped-None.ensures.said (same_fault _ _ is))
+pub returns-in-Err-clause-refused : goal.returns-in-Err-clause-refused
+returns-in-Err-clause-refused g c =
+    subst (LeavesHand c.after_climb-why.result) (sym (ap (λ (s : CpuState). s.hand) c.hold_left.ensures ∙ c.left_of.ensures)) c.after_climb-why.ensures.leaves
 
 pub returns-in-Ok-clause-magazines : goal.returns-in-Ok-clause-magazines
 returns-in-Ok-clause-magazines g c = ran_leaves _ _ _ _ (λ s. map (λ (r : KindRoundsState). r.kind) s.caches.now.items) (λ s t e x d. d.2) _ _ _ _ c.alloc-allocated.ensures.ran ∙ ap (λ (s : CpuState). map (λ (r : KindRoundsState). r.kind) s.caches) c.cpu.view_is
 
-pub returns-in-Err-NoFit-clause-magazines : goal.returns-in-Err-NoFit-clause-magazines
-returns-in-Err-NoFit-clause-magazines g c = ran_leaves _ _ _ _ (λ s. map (λ (r : KindRoundsState). r.kind) s.caches.now.items) (λ s t e x d. d.2) _ _ _ _ c.alloc-allocated.ensures.ran ∙ ap (λ (s : CpuState). map (λ (r : KindRoundsState). r.kind) s.caches) c.cpu.view_is
-
-pub returns-in-Err-NoMemory-clause-magazines : goal.returns-in-Err-NoMemory-clause-magazines
-returns-in-Err-NoMemory-clause-magazines g c = ran_leaves _ _ _ _ (λ s. map (λ (r : KindRoundsState). r.kind) s.caches.now.items) (λ s t e x d. d.2) _ _ _ _ c.alloc-allocated.ensures.ran ∙ ap (λ (s : CpuState). map (λ (r : KindRoundsState). r.kind) s.caches) c.cpu.view_is
-
-pub returns-in-Err-Stuck-clause-magazines : goal.returns-in-Err-Stuck-clause-magazines
-returns-in-Err-Stuck-clause-magazines g c = ap (λ (s : CpuState). map (λ (r : KindRoundsState). r.kind) s.caches) c.hold.ensures ∙ ran_leaves _ _ _ _ (λ s. map (λ (r : KindRoundsState). r.kind) s.caches.now.items) (λ s t e x d. d.2) _ _ _ _ c.alloc-allocated.ensures.ran ∙ ap (λ (s : CpuState). map (λ (r : KindRoundsState). r.kind) s.caches) c.cpu.view_is
-
-pub returns-in-Err-Stopped-Some-clause-magazines : goal.returns-in-Err-Stopped-Some-clause-magazines
-returns-in-Err-Stopped-Some-clause-magazines g c = ap (λ (s : CpuState). map (λ (r : KindRoundsState). r.kind) s.caches) c.hold-in-Err-Stopped-Some.ensures ∙ ran_leaves _ _ _ _ (λ s. map (λ (r : KindRoundsState). r.kind) s.caches.now.items) (λ s t e x d. d.2) _ _ _ _ c.alloc-allocated.ensures.ran ∙ ap (λ (s : CpuState). map (λ (r : KindRoundsState). r.kind) s.caches) c.cpu.view_is
-
-pub returns-in-Err-Stopped-None-clause-magazines : goal.returns-in-Err-Stopped-None-clause-magazines
-returns-in-Err-Stopped-None-clause-magazines g c = ran_leaves _ _ _ _ (λ s. map (λ (r : KindRoundsState). r.kind) s.caches.now.items) (λ s t e x d. d.2) _ _ _ _ c.alloc-allocated.ensures.ran ∙ ap (λ (s : CpuState). map (λ (r : KindRoundsState). r.kind) s.caches) c.cpu.view_is
+pub returns-in-Err-clause-magazines : goal.returns-in-Err-clause-magazines
+returns-in-Err-clause-magazines g c = ap (λ (s : CpuState). map (λ (r : KindRoundsState). r.kind) s.caches) c.hold_left.ensures ∙ ran_leaves _ _ _ _ (λ s. map (λ (r : KindRoundsState). r.kind) s.caches.now.items) (λ s t e x d. d.2) _ _ _ _ c.alloc-allocated.ensures.ran ∙ ap (λ (s : CpuState). map (λ (r : KindRoundsState). r.kind) s.caches) c.cpu.view_is
