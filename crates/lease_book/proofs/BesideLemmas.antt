@@ -1,11 +1,13 @@
 -- The leases of a client, and the bases that stand beside them.
-use Rattle.std.proofs.Common.{◌≡◌, ℕ, zero, suc, ◌+◌, ◌<◌, ◌≤◌, Bool, true, false, cond, nat_eq, lt-ltb, List, [], ◌∷◌, ◌++◌, length, take, drop, map, get_or, slice_get, Some, None, position, refl, sym, ap, subst, ◌∙◌, arith}
+use Rattle.std.proofs.Common.{◌≡◌, ℕ, zero, suc, ◌+◌, ◌<◌, ◌≤◌, Bool, true, false, cond, nat_eq, lt-ltb, List, [], ◌∷◌, ◌++◌, length, take, drop, map, All, get_or, slice_get, Some, None, position, refl, sym, ap, subst, ◌∙◌, arith}
 use Rattle.std.specs.List.{remove, position_or_len}
 use Rattle.std.proofs.lemmas.Bool.{and_right, ne_eqb, le-ltb}
 use Rattle.std.proofs.lemmas.List.{get_or_default, length-map, map-append, take-map, drop-map}
+use Rattle.std.proofs.lemmas.List.Elements.{All-append, All-take, All-drop}
 use Rattle.std.proofs.lemmas.Option.{slice_get_read}
 use Rattle.std.proofs.lemmas.List.Sums.{position_or_len_is}
 use Rattle.lease_book.specs.Account.{Lease, is_lease, bases_of}
+use Rattle.lease_book.specs.Shelf.{AreStored}
 use Rattle.lease_book.proofs.BoxLemmas.{removed, value_at}
 
 pub remove_bases : (ls : List Lease) (k : ℕ) → remove (bases_of ls) k ≡ bases_of (remove ls k)
@@ -64,9 +66,21 @@ found_nowhere test (x ∷ xs) k past before =
 pub taken_lists : {X : Type 0} (f : X → Lease) (xs ys : List X) (ls : List Lease) (k : ℕ) → map f xs ≡ ls → ys ≡ remove xs k → map f ys ≡ remove ls k
 taken_lists f xs ys ls k view is = ap (map f) is ∙ sym (removed f xs k) ∙ ap (λ (ms : List Lease). remove ms k) view
 
-pub taken_bases : {X : Type 0} (f : X → Lease) (bs cs : List ℕ) (xs ys : List X) (k : ℕ) → bs ≡ bases_of (map f xs) → cs ≡ remove bs k → ys ≡ remove xs k → cs ≡ bases_of (map f ys)
+taken_bases : {X : Type 0} (f : X → Lease) (bs cs : List ℕ) (xs ys : List X) (k : ℕ) → bs ≡ bases_of (map f xs) → cs ≡ remove bs k → ys ≡ remove xs k → cs ≡ bases_of (map f ys)
 taken_bases f bs cs xs ys k same are is =
     are ∙ ap (λ (ds : List ℕ). remove ds k) same ∙ remove_bases (map f xs) k ∙ ap bases_of (sym (taken_lists f xs ys (map f xs) k refl is))
+
+taken_newer : {X : Type 0} (f : X → Lease) (least : ℕ) (xs ys : List X) (k : ℕ) → All (λ (l : Lease). least ≤ l.incarnation) (map f xs) → ys ≡ remove xs k → All (λ (l : Lease). least ≤ l.incarnation) (map f ys)
+taken_newer f least xs ys k newer is =
+    let P : Lease → Type 0 = λ l. least ≤ l.incarnation in
+    subst (All P) (sym (taken_lists f xs ys (map f xs) k refl is))
+    (All-append P (take k (map f xs)) (drop (suc k) (map f xs)) (All-take P k (map f xs) newer) (All-drop P (suc k) (map f xs) newer))
+
+pub taken_stored : {X : Type 0} (f : X → Lease) (bs cs : List ℕ) (least : ℕ) (xs ys : List X) (k : ℕ) → AreStored bs least (map f xs) → cs ≡ remove bs k → ys ≡ remove xs k → AreStored cs least (map f ys)
+taken_stored f bs cs least xs ys k stored are is = record {
+  beside = taken_bases f bs cs xs ys k stored.beside are is;
+  from_least = taken_newer f least xs ys k stored.from_least is;
+}
 
 pub taken_lease : {X : Type 0} (f : X → Lease) (xs : List X) (ls : List Lease) (k : ℕ) (x : X) (l : Lease) → map f xs ≡ ls → k < length ls → x ≡ get_or xs k x → l ≡ f x → slice_get ls k ≡ Some l
 taken_lease f xs ls k x l view within at is =

@@ -1,8 +1,8 @@
 -- The index of the first member that passes a test.
 use Rattle.std.proofs.Common.{eq-eqb, one-add, ◌≡◌, ℕ, ◌+◌, ◌<◌, ◌≤◌, Bool, true, false, cond, not, nat_eq, nat_lt, List, [], ◌∷◌, length, All, Option, Some, None, IfSome, slice_get, get_or, position, refl, sym, ap, subst, ◌∙◌, arith}
-use Rattle.std.specs.List.{find, remove, position_or_len}
-use Rattle.std.proofs.lemmas.Bool.{and_from, and_left, and_parts, ltb-true, ltb-false, ne_eqb, eqb-true}
-use Rattle.std.proofs.lemmas.List.Folds.{find_at}
+use Rattle.std.specs.List.{find, list_any, remove, position_or_len}
+use Rattle.std.proofs.lemmas.Bool.{le-ltb, and_from, and_left, and_parts, ltb-true, ltb-false, ne_eqb, eqb-true}
+use Rattle.std.proofs.lemmas.List.Folds.{find_at, list_any_none}
 use Rattle.std.proofs.lemmas.List.Sums.{position_or_len_is, fails_before_first}
 use Rattle.std.proofs.lemmas.Option.{slice_get_past, get_or_from_slice_get}
 use Rattle.lease_book.specs.Account.{Lease, is_lease, is_older, without_first}
@@ -92,6 +92,10 @@ pub head_first : (l : Lease) (ls : List Lease) → IsFirst (is_lease l.incarnati
 head_first l ls =
     first_of_place (is_lease l.incarnation l.segment.arena l.segment.holding.range.base) (l ∷ ls) 0
     (position_or_len_is (is_lease l.incarnation l.segment.arena l.segment.holding.range.base) (l ∷ ls) 0 l (omega arith) (λ j below. absurd (omega arith)) (λ within. is_own l)) (omega arith)
+
+-- none of the leases is older than the least incarnation
+pub none_before : (i least : ℕ) (ls : List Lease) → i ≤ least → All (λ (l : Lease). least ≤ l.incarnation) ls → list_any (is_older i) ls ≡ false
+none_before i least ls low newer = list_any_none (is_older i) ls (λ k d within. le-ltb (get_or ls k d).incarnation i (omega (arith, low, newer k d within)))
 
 -- no lease is of an older incarnation
 pub none_older : (i : ℕ) (ls : List Lease) → position (is_older i) ls ≡ None → All (λ (l : Lease). i ≤ l.incarnation) ls

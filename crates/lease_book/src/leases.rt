@@ -1,6 +1,6 @@
 //! The leases of one client, in order of grant.
 ghost use Rattle.std.specs.Prelude.{◌≡◌, ◌+◌, ◌*◌, ◌^◌, ◌<◌, ◌≤◌, [], ◌∷◌, ◌++◌, length, OnOk};
-ghost use Rattle.std.specs.Prelude.{OnErr, IfErr, Some, slice_get, position, sum_by};
+ghost use Rattle.std.specs.Prelude.{OnErr, IfErr, Some, slice_get, position, sum_by, All};
 ghost use Rattle.std.specs.Prelude.{map, box_value};
 ghost use Rattle.std.specs.List.{list_any, remove};
 ghost use Rattle.lease_terms.specs.declared.values.TheConstants.{LARGEST};
@@ -103,20 +103,24 @@ impl<D: Deed> Held<D> {
 /// The leases of one client, and beside them the base of each. A search reads the bases, which lie
 /// closer together, and looks at a lease only where its base is the one that is asked for. Each
 /// lease lies in a box, so that those after one that is taken out move down by a few bytes each.
+/// No lease is of an incarnation before `least`: so whether one is older needs no search while the
+/// client goes on in one incarnation.
 pub(crate) struct Leases<D: Deed> {
     held: Vec<Box<Held<D>>>,
     bases: Vec<u64>,
+    least: u64,
 }
 
 impl<D: Deed> Model for Leases<D> {
-    ghost use Rattle.std.specs.Prelude.{◌≡◌, List, map, box_value};
-    ghost use Rattle.lease_book.specs.Account.{Lease, bases_of};
+    ghost use Rattle.std.specs.Prelude.{List, map, box_value};
+    ghost use Rattle.lease_book.specs.Account.{Lease};
+    ghost use Rattle.lease_book.specs.Shelf.{AreStored};
 
     ghost Value = { List Lease };
 
     ghost view = { λ l. map box_value l.held.items };
 
-    ghost invariant = { λ l. l.bases.items ≡ bases_of (map box_value l.held.items) };
+    ghost invariant = { λ l. AreStored l.bases.items l.least (map box_value l.held.items) };
 }
 
 impl<D: Deed> Leases<D> {
@@ -126,6 +130,7 @@ impl<D: Deed> Leases<D> {
         Leases {
             held: Vec::new(alloc),
             bases: Vec::new(alloc),
+            least: 0,
         }
     }
 
@@ -148,10 +153,12 @@ impl<D: Deed> Leases<D> {
             return Err(held.into_segment());
         };
         let base = held.segment.range().base();
+        let least = self.least_with(held.incarnation);
         match Box::new(*self.held.allocator(), held) {
             Ok(boxed) => {
                 self.bases.push_reserved(base);
                 self.held.push_reserved(boxed);
+                self.least = least;
                 Ok(())
             }
             Err(failed) => Err(failed.value.into_segment()),
@@ -176,7 +183,21 @@ impl<D: Deed> Leases<D> {
     pub(crate) fn has_older(&self, incarnation: Ordinal) -> bool
         ensures { result ≡ list_any (is_older incarnation) self.now }
     {
-        any_older(&self.held, incarnation)
+        self.least < incarnation.get() && any_older(&self.held, incarnation)
+    }
+
+    // What no lease's incarnation is below, nor this one: as great as can be.
+    fn least_with(&self, incarnation: Ordinal) -> u64
+        ensures own { result ≤ incarnation }
+        ensures others { All (λ (l : Lease). result ≤ l.incarnation) self.now }
+    {
+        if incarnation.get() <= self.least {
+            return incarnation.get();
+        }
+        match self.older(incarnation) {
+            Some(_) => self.least,
+            None => incarnation.get(),
+        }
     }
 
     /// Takes the lease at an index out.
@@ -209,6 +230,7 @@ impl<D: Deed> Leases<D> {
         let Leases {
             held,
             bases: _bases,
+            least: _least,
         } = self;
         held.destroy_empty();
     }
