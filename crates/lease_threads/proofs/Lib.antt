@@ -1,4 +1,5 @@
 mod Receipts
 mod Runs
+mod Goods
 mod Spans
 mod Reaped

@@ -5,18 +5,18 @@ use Rattle.deed_core.specs.Tag.{Tag}
 use Rattle.arena_tree.specs.Chains.{Node}
 use Rattle.arena_tree.specs.Events.{AnswerTo}
 use Rattle.arena_tree.specs.Plans.{Plan, Done, Ask}
-use Rattle.arena_tree.specs.Sound.{Sound}
 use Rattle.arena_tree.specs.Trees.{nodes_of, ChainFrom}
 use Rattle.arena_tree.specs.declared.levels.Level.{Level}
 use Rattle.arena_tree.specs.declared.trees.TreeArena.{TreeArena}
+use Rattle.locked_parts.specs.Answers.{AnswersSoundly}
 use Rattle.quantum_cache.specs.declared.emptying_faults.EmptyingFault.{EmptyingFault}
 use Rattle.quantum_cache.specs.declared.emptying_faults.EmptyingFault.TheVariants.{Stuck, Stopped}
 use Rattle.quantum_cache.specs.Reaps.{ReapEnd, reap_arena_plan}
 
--- some sound answers of the parts lead the list of steps to this end
+-- some sound answers of the parts, none of them a Stop, lead the list of steps to this end
 abbrev pub EndsSoundly : {A : Type 0} → List Node → Plan A → A → Type 0
 EndsSoundly nodes (Done b) a = b ≡ a
-EndsSoundly nodes (Ask e f) a = (x : AnswerTo e) × Sound nodes e x × EndsSoundly nodes (f x) a
+EndsSoundly nodes (Ask e f) a = (x : AnswerTo e) × AnswersSoundly nodes e x × EndsSoundly nodes (f x) a
 
 -- the segment that wasn't placed
 abbrev pub unplaced_hand : EmptyingFault Tag → Option Tag

@@ -67,12 +67,13 @@ IsBadLease arenas l = (arena : ℕ) × (index_in l.arena arenas ≡ Some arena)
     × (¬ IsGood (quantum_in (nodes_of arenas) arena) (demand_of l))
 
 -- a lease is refused so: for the name of its arena just where no arena has that, as bad only where
--- that arena takes no such request, and for want of a fit only where it takes it
+-- that arena takes no such request, and for want of a fit, or for the leases that its client has
+-- already, only where it takes it
 abbrev pub MayRefuseLease : List TreeArena → LeaseLine → Refusal → Type 0
 MayRefuseLease arenas l refusal.NoArena = index_in l.arena arenas ≡ None
 MayRefuseLease arenas l refusal.BadRequest = IsBadLease arenas l
 MayRefuseLease arenas l refusal.NoFit = IsGoodLease arenas l
-MayRefuseLease arenas l refusal.Leases = index_in l.arena arenas ≢ None
+MayRefuseLease arenas l refusal.Leases = IsGoodLease arenas l
 MayRefuseLease arenas l refusal.NotYours = ⊥
 
 -- settled by units of the arena that it names, for what it asks of that arena, or refused

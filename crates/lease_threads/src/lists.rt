@@ -1,8 +1,8 @@
 //! The lists of steps of `quantum_cache`, over the parts of a system as one CPU reaches them. A
 //! segment that isn't placed stays in the CPU's hand.
 ghost use Rattle.std.specs.Prelude.{◌≡◌, ◌≢◌, ◌<◌, None, Err, true, false, length, Option};
-ghost use Rattle.std.specs.Prelude.{IfOk, IfErr, OnErr};
-ghost use Rattle.deed_core.specs.Request.{Fits, IsPlain};
+ghost use Rattle.std.specs.Prelude.{IfOk, IfErr, OnOk, OnErr};
+ghost use Rattle.deed_core.specs.Request.{Fits, IsGood, IsPlain};
 ghost use Rattle.deed_core.specs.Tag.{Tag};
 ghost use Rattle.arena_tree.specs.Chains.{quantum_in};
 ghost use Rattle.arena_tree.specs.Climbs.{climb_left};
@@ -47,6 +47,8 @@ impl<N: Name> System<N> {
         ensures arena { IfOk result (λ t. t.arena ≡ arena) }
         ensures fits { IfOk result (λ t. Fits (quantum_in (nodes_of self.now.arenas) arena)
             request.now t.holding.range.base t.holding.range.len) }
+        ensures good { OnOk result
+            (IsGood (quantum_in (nodes_of self.now.arenas) arena) request.now) }
         ensures number { cpu.new.number ≡ cpu.old.number }
         ensures magazines { AreForSame cpu.old.caches cpu.new.caches }
         ensures hand { IfOk result (λ _. cpu.new.hand ≡ None) }
@@ -74,6 +76,8 @@ impl<N: Name> System<N> {
         ensures arena { IfOk result (λ t. t.arena ≡ arena) }
         ensures fits { IfOk result (λ t. Fits (quantum_in (nodes_of self.now.arenas) arena)
             request.now t.holding.range.base t.holding.range.len) }
+        ensures good { OnOk result
+            (IsGood (quantum_in (nodes_of self.now.arenas) arena) request.now) }
         ensures number { cpu.new.number ≡ cpu.old.number }
         ensures magazines { AreForSame cpu.old.caches cpu.new.caches }
         ensures hand { IfOk result (λ _. cpu.new.hand ≡ None) }
@@ -111,6 +115,8 @@ impl<N: Name> System<N> {
         ensures arena { IfOk result (λ t. t.arena ≡ arena) }
         ensures fits { IfOk result (λ t. Fits (quantum_in (nodes_of self.now.arenas) arena)
             request.now t.holding.range.base t.holding.range.len) }
+        ensures good { OnOk result
+            (IsGood (quantum_in (nodes_of self.now.arenas) arena) request.now) }
         ensures number { cpu.new.number ≡ cpu.old.number }
         ensures magazines { AreForSame cpu.old.caches cpu.new.caches }
         ensures hand { IfOk result (λ _. cpu.new.hand ≡ None) }
@@ -129,7 +135,11 @@ impl<N: Name> System<N> {
         let allocated = alloc(&mut running, chain, request.size);
         *steps = running.steps;
         match allocated {
-            Ok(segment) => Ok(segment),
+            Ok(segment) => {
+                // For its clause: a segment has units, so some were asked for.
+                let _ = segment.range();
+                Ok(segment)
+            }
             Err(fault) => {
                 let why = after_climb(&fault, steps);
                 cpu.hold_left(left_of(fault));

@@ -109,6 +109,7 @@ impl StepCount {
         ensures noted { self.new.noted ≡ true
             → (self.old.noted ≡ true) ⊎ MayStop G.may_stop gate.now }
         ensures stops { result ≡ true → MayStop G.may_stop gate.now }
+        ensures kept { result ≡ true → self.new.noted ≡ true }
     {
         let step = NextStep {
             cpu: self.cpu,

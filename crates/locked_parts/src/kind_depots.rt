@@ -1,9 +1,8 @@
 //! A depot as its lock keeps it, and its exchanges with a CPU.
 ghost use Rattle.std.specs.Prelude.{◌≡◌, ◌≢◌, ◌<◌, ◌↔◌, [], Some, Err, IsOk, IfSome, IfErr};
-ghost use Rattle.std.specs.Prelude.{◌≤◌, true, false, IfNone, OnOk};
+ghost use Rattle.std.specs.Prelude.{◌≤◌, true, false, None, OnOk};
 ghost use Rattle.magazine_layer.specs.Magazines.{IsSize, BothFull};
 ghost use Rattle.magazine_layer.specs.Depots.{new_depot, after_tick, after_resize, depot_rounds};
-ghost use Rattle.magazine_layer.specs.Depots.{CanReap};
 ghost use Rattle.magazine_layer.specs.Calls.{DepotReapOf, ResizeOf};
 ghost use Rattle.locked_parts.specs.Kinds.{IsOfKind};
 ghost use Rattle.locked_parts.specs.Swaps.{GivesFull, GivesEmpty, TakesFull};
@@ -178,9 +177,10 @@ impl<D: Deed> KindDepot<D> {
     /// The same of the depot of this quantum cache; another has none.
     pub(crate) fn reap_of(&mut self, kind: &CacheKind) -> Option<Segment<D>>
         ensures chunk { IfSome result (IsOfKind kind.now) }
-        ensures event { IfSome result (λ t.
-            DepotReapOf self.old.depot (Some t) self.new.depot) }
-        ensures none { IfNone result (self.old.kind ≡ kind.now → ¬ CanReap self.old.depot) }
+        ensures reaped { self.old.kind ≡ kind.now
+            → DepotReapOf self.old.depot result self.new.depot }
+        ensures other { self.old.kind ≢ kind.now → (result ≡ None) × (self.new ≡ self.old) }
+        ensures kind { self.new.kind ≡ self.old.kind }
     {
         if !self.kind.is(kind) {
             return None;

@@ -109,14 +109,11 @@ pub(crate) fn slab_put_in<N: Name, R: Wait>(
     let Route::Cached(number) = segment.route() else {
         return Err(SlabPutFault::NotMine(segment));
     };
-    let Some(kind) = parts.kind(segment.arena(), number) else {
-        return Err(SlabPutFault::NotMine(segment));
-    };
     let Some(locked) = parts.cache(segment.arena(), number) else {
         return Err(SlabPutFault::NotMine(segment));
     };
     let mut slab = locked.slab.lock(rt);
-    put_chunk(&mut slab, &kind, segment)
+    put_chunk(&mut slab, segment)
 }
 
 pub(crate) fn slab_add_in<N: Name, R: Wait>(

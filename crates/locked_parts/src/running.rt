@@ -1,7 +1,8 @@
 //! The parts of a system as one CPU reaches them: each event of a shared part takes that part's
 //! lock, and no other, and calls one method on what it finds there. Before each event the gate is
 //! asked.
-ghost use Rattle.std.specs.Prelude.{◌≡◌};
+ghost use Rattle.std.specs.Prelude.{◌≡◌, true};
+ghost use Rattle.arena_tree.specs.Stops.{is_stopped};
 ghost use Rattle.arena_tree.specs.Trees.{nodes_of};
 ghost use Rattle.locked_parts.specs.Gates.{NotesStops};
 ghost use Rattle.locked_parts.specs.Kinds.{AreForSame, count_of_rounds};
@@ -38,7 +39,8 @@ impl<N: Name, R: Wait, G: Gate> Parts<Segment<SeatDeed<N>>> for Running<'_, N, R
     ghost step = { λ s e a t.
         NotesStops G.may_stop s.gate.now t.gate.now s.steps.noted t.steps.noted
         × (t.caches.ghost_name ≡ s.caches.ghost_name)
-        × AreForSame s.caches.now.items t.caches.now.items };
+        × AreForSame s.caches.now.items t.caches.now.items
+        × (is_stopped e a ≡ true → t.steps.noted ≡ true) };
 
     ghost tree = { λ s. nodes_of s.parts.now.arenas };
 

@@ -1,4 +1,5 @@
-//! The events of a slab cache under its lock. Each looks whether it is the cache that is meant.
+//! The events of a slab cache under its lock. Each looks whether it is the cache that is meant; what
+//! is put back tells that by itself.
 ghost use Rattle.std.specs.Prelude.{◌≡◌, ◌↔◌, All, IsTrue, false, IfSome, IfOk, IfErr, Ok, Some};
 ghost use Rattle.std.specs.Prelude.{OnErr};
 ghost use Rattle.std.specs.Prelude.{IfNone};
@@ -38,18 +39,13 @@ pub(crate) fn take_chunk<D: Deed>(slab: &mut SlabCache<D>, kind: &CacheKind) -> 
 /// Takes a chunk back.
 pub(crate) fn put_chunk<D: Deed>(
     slab: &mut SlabCache<D>,
-    kind: &CacheKind,
     segment: Segment<D>,
 ) -> Result<(), SlabPutFault<Segment<D>>>
     ensures event { IfOk result (λ u. PutOf slab.old segment (Ok u) slab.new) }
-    ensures refused { IfErr result (λ f. AreSlabsOf kind.now slab.old
-        → PutsNone slab.old segment f slab.new) }
+    ensures refused { IfErr result (λ f. PutsNone slab.old segment f slab.new) }
     ensures handed_back { IfErr result (λ f. (segment_of_put f ≡ segment) × (put_stops f ≡ false)) }
     ensures unchanged { OnErr result (slab.new ≡ slab.old) }
 {
-    if !is_kind(slab, kind) {
-        return Err(SlabPutFault::NotMine(segment));
-    }
     match slab.put(segment) {
         Ok(()) => Ok(()),
         Err(PutFault::NotMine(segment)) => Err(SlabPutFault::NotMine(segment)),

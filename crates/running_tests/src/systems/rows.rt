@@ -99,7 +99,7 @@ fn reaped<N: Name, R: Abort + Wait + AllocGlobal>(rt: &R, ground: Ground, setup:
     shut(rt, system, &[(0, 64)]);
 }
 
-/// A size rises where it is greater, past others too, and nothing else does.
+/// A size rises where it is greater, past others too; one that isn't changes nothing.
 #[test]
 fn sizes_rise(rt: HostRuntime) -> Result<(), Fail> {
     let mut setup = Setup::new(rt.alloc());
@@ -120,8 +120,8 @@ fn risen<N: Name, R: Abort + Wait + AllocGlobal>(rt: &R, ground: Ground, setup: 
     shut(rt, system, &[(0, 64)]);
 }
 
-/// The depot of a second arena has a full magazine. It isn't reaped before a tick, and is after
-/// one, which begins an interval that doesn't need it.
+/// The depot of a second arena's second cache has a full magazine. It isn't reaped before a tick,
+/// also where it is asked twice, and is after one, which begins an interval that doesn't need it.
 #[test]
 fn reap_second(rt: HostRuntime) -> Result<(), Fail> {
     let mut setup = Setup::new(rt.alloc());
@@ -140,26 +140,27 @@ fn second_reaped<N: Name, R: Abort + Wait + AllocGlobal>(rt: &R, ground: Ground,
     let mut two = cpu(rt, &system, 1);
     let rows = [
         ("hello 1 1", "welcome 1 1"),
-        ("lease 1 1 1 d 1", "granted 1 1 1 d 64 1"),
-        ("lease 1 1 2 d 1", "granted 1 1 2 d 65 1"),
-        ("lease 1 1 3 d 1", "granted 1 1 3 d 66 1"),
-        ("lease 1 1 4 d 1", "granted 1 1 4 d 67 1"),
-        ("lease 1 1 5 d 1", "granted 1 1 5 d 68 1"),
-        ("lease 1 1 6 d 1", "granted 1 1 6 d 69 1"),
-        ("lease 1 1 7 d 1", "granted 1 1 7 d 70 1"),
+        ("lease 1 1 1 d 2", "granted 1 1 1 d 64 2"),
+        ("lease 1 1 2 d 2", "granted 1 1 2 d 66 2"),
+        ("lease 1 1 3 d 2", "granted 1 1 3 d 68 2"),
+        ("lease 1 1 4 d 2", "granted 1 1 4 d 70 2"),
+        ("lease 1 1 5 d 2", "granted 1 1 5 d 72 2"),
+        ("lease 1 1 6 d 2", "granted 1 1 6 d 74 2"),
+        ("lease 1 1 7 d 2", "granted 1 1 7 d 76 2"),
         ("release 1 1 8 d 64", "released 1 1 8"),
-        ("release 1 1 9 d 65", "released 1 1 9"),
-        ("release 1 1 10 d 66", "released 1 1 10"),
-        ("release 1 1 11 d 67", "released 1 1 11"),
-        ("release 1 1 12 d 68", "released 1 1 12"),
-        ("release 1 1 13 d 69", "released 1 1 13"),
-        ("release 1 1 14 d 70", "released 1 1 14"),
+        ("release 1 1 9 d 66", "released 1 1 9"),
+        ("release 1 1 10 d 68", "released 1 1 10"),
+        ("release 1 1 11 d 70", "released 1 1 11"),
+        ("release 1 1 12 d 72", "released 1 1 12"),
+        ("release 1 1 13 d 74", "released 1 1 13"),
+        ("release 1 1 14 d 76", "released 1 1 14"),
     ];
     for (text, wanted) in &rows {
         ask(rt, &system, &mut one, text, wanted);
     }
-    assert!(rt; one.units() == 4);
+    assert!(rt; one.units() == 8);
     retire(rt, &system, one);
+    assert!(rt; system.reap(rt, &mut two, 1, 1024) == 0);
     assert!(rt; system.reap(rt, &mut two, 1, 1024) == 0);
     system.tick(rt);
     assert!(rt; system.reap(rt, &mut two, 0, 1024) == 0);

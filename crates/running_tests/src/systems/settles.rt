@@ -35,7 +35,7 @@ impl<N: Name, R: Abort + Wait + AllocGlobal> Gate for BeforeSettle<'_, N, R> {
 }
 
 // Asks a lease that another CPU's line comes before: it isn't settled by this, is answered so, and
-// its segment is free again.
+// the hand is empty.
 fn late<N: Name, R: Abort + Wait + AllocGlobal>(
     rt: &R,
     gate: &BeforeSettle<N, R>,
@@ -60,6 +60,18 @@ fn one_request_twice(rt: HostRuntime) -> Result<(), Fail> {
     let granted = (LEASE, "granted 1 1 1 m 4 4");
     let then = ("lease 1 1 2 m 4", "granted 1 1 2 m 0 4");
     settled(&rt, &[granted, granted, then]);
+    Ok(())
+}
+
+/// A release of that number is refused first: the lease gets its answer.
+#[test]
+fn refusal_before_settle(rt: HostRuntime) -> Result<(), Fail> {
+    let refused = "refused 1 1 1 notyours";
+    let then = ("lease 1 1 2 m 4", "granted 1 1 2 m 0 4");
+    settled(
+        &rt,
+        &[("release 1 1 1 m 0", refused), (LEASE, refused), then],
+    );
     Ok(())
 }
 

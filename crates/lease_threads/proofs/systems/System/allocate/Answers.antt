@@ -1,7 +1,9 @@
-use Rattle.std.proofs.Common.{map, ap, ◌∙◌, sym, subst}
+use Rattle.std.proofs.Common.{◌<◌, map, ap, ◌∙◌, sym, subst}
+use Rattle.deed_core.specs.Extent.{Extent}
 use Rattle.locked_parts.specs.Kinds.{KindRoundsState}
 use Rattle.lease_threads.specs.Hands.{LeavesHand}
 use Rattle.lease_threads.specs.Systems.{CpuState}
+use Rattle.lease_threads.proofs.Goods.{plain_good, served_some}
 use Rattle.lease_threads.proofs.Runs.{ran_leaves, stop_said, same_fault}
 use Rattle.lease_threads.proofs.systems.System.allocate.Goals as goal
 
@@ -21,3 +23,7 @@ returns-in-Ok-clause-magazines g c = ran_leaves _ _ _ _ (λ s. map (λ (r : Kind
 
 pub returns-in-Err-clause-magazines : goal.returns-in-Err-clause-magazines
 returns-in-Err-clause-magazines g c = ap (λ (s : CpuState). map (λ (r : KindRoundsState). r.kind) s.caches) c.hold_left.ensures ∙ ran_leaves _ _ _ _ (λ s. map (λ (r : KindRoundsState). r.kind) s.caches.now.items) (λ s t e x d. d.2) _ _ _ _ c.alloc-allocated.ensures.ran ∙ ap (λ (s : CpuState). map (λ (r : KindRoundsState). r.kind) s.caches) c.cpu.view_is
+
+pub returns-in-Ok-clause-good : goal.returns-in-Ok-clause-good
+returns-in-Ok-clause-good g c =
+    plain_good _ _ c.requires.plain (served_some _ _ _ _ c.in-Ok.ensures.granted (subst (λ (e : Extent). 0 < e.len) c.range.ensures.value c.range.ensures.range.some))
