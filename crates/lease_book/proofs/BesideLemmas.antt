@@ -7,7 +7,7 @@ use Rattle.std.proofs.lemmas.List.Elements.{All-append, All-take, All-drop}
 use Rattle.std.proofs.lemmas.Option.{slice_get_read}
 use Rattle.std.proofs.lemmas.List.Sums.{position_or_len_is}
 use Rattle.lease_book.specs.Account.{Lease, is_lease, bases_of}
-use Rattle.lease_book.specs.Shelf.{AreStored}
+use Rattle.lease_book.specs.Shelf.{AreLeasesStored}
 use Rattle.lease_book.proofs.BoxLemmas.{removed, value_at}
 
 pub remove_bases : (ls : List Lease) (k : ℕ) → remove (bases_of ls) k ≡ bases_of (remove ls k)
@@ -76,7 +76,7 @@ taken_newer f least xs ys k newer is =
     subst (All P) (sym (taken_lists f xs ys (map f xs) k refl is))
     (All-append P (take k (map f xs)) (drop (suc k) (map f xs)) (All-take P k (map f xs) newer) (All-drop P (suc k) (map f xs) newer))
 
-pub taken_stored : {X : Type 0} (f : X → Lease) (bs cs : List ℕ) (least : ℕ) (xs ys : List X) (k : ℕ) → AreStored bs least (map f xs) → cs ≡ remove bs k → ys ≡ remove xs k → AreStored cs least (map f ys)
+pub taken_stored : {X : Type 0} (f : X → Lease) (bs cs : List ℕ) (least : ℕ) (xs ys : List X) (k : ℕ) → AreLeasesStored bs least (map f xs) → cs ≡ remove bs k → ys ≡ remove xs k → AreLeasesStored cs least (map f ys)
 taken_stored f bs cs least xs ys k stored are is = record {
   beside = taken_bases f bs cs xs ys k stored.beside are is;
   from_least = taken_newer f least xs ys k stored.from_least is;

@@ -12,7 +12,7 @@ use Rattle.lease_book.specs.Entry.{Settlement, Entry, Hello, Settled, Swept, Gra
 use Rattle.lease_book.specs.Account.{Lease, Account, number_of, is_lease, without_first, lease_of, granted_request, leases_after}
 use Rattle.lease_book.specs.Shelf.{account_with, update_at, standing_of, with_standing, with_leases}
 use Rattle.lease_book.specs.History.{incarnation, clients_of, kept_of, account, IsProper}
-use Rattle.lease_book.specs.BookState.{BookState, HasHistory, Enters, nobody, account_or_nobody, account_in, segments, segments_leased, leased_segments}
+use Rattle.lease_book.specs.BookState.{BookState, HasHistory, Enters, nobody, account_or_nobody, account_in, segments, segments_of_accounts, leased_segments}
 use Rattle.lease_book.specs.Answers.{receipt, IsNew}
 use Rattle.lease_book.specs.Calls.{IsFound, IsGranted, IsRefused, IsReleased, IsEnded}
 use Rattle.lease_book.specs.declared.accounts.Standing.{Standing}
@@ -30,7 +30,7 @@ use Rattle.std.proofs.lemmas.List.{map-append}
 use Rattle.lease_book.proofs.HistoryLemmas.{has, account_is, account_unknown, find_known}
 use Rattle.lease_book.proofs.EntryLemmas.{entered, among, map_others, settled_others, settled_own, swept_others, swept_own, hello_others, hello_same, hello_above, changed_none, changed_twice}
 use Rattle.lease_book.proofs.PlaceLemmas.{IsFirst, is_lease_says, head_first}
-use Rattle.lease_book.proofs.WeightLemmas.{sum_by-segments, sum_by-segments_leased}
+use Rattle.lease_book.proofs.WeightLemmas.{sum_by-segments, sum_by-segments_of_accounts}
 
 -- changes that do the same to the member at the index
 pub changed_alike : {X : Type 0} (xs : List X) (i : ℕ) (x : X) (f g : X → X) → slice_get xs i ≡ Some x → f x ≡ g x → update_at xs i f ≡ update_at xs i g
@@ -73,39 +73,39 @@ some_of (Some x) is holds = holds
 
 -- What is leased.
 
-pub leased_standing : (accounts : List Account) (i : ℕ) (s : Standing) → segments_leased (update_at accounts i (with_standing s)) ≡ segments_leased accounts
+pub leased_standing : (accounts : List Account) (i : ℕ) (s : Standing) → segments_of_accounts (update_at accounts i (with_standing s)) ≡ segments_of_accounts accounts
 leased_standing [] i s = refl
 leased_standing (a ∷ accounts) zero s = refl
 leased_standing (a ∷ accounts) (suc i) s = ap (λ ts. segments a.leases ++ ts) (leased_standing accounts i s)
 
 pub leased_changed : (f : Tag → ℕ) (accounts : List Account) (i : ℕ) (a : Account) (h : Account → Account) → slice_get accounts i ≡ Some a
-    → sum_by f (segments_leased (update_at accounts i h)) + sum_by f (segments a.leases) ≡ sum_by f (segments_leased accounts) + sum_by f (segments (h a).leases)
+    → sum_by f (segments_of_accounts (update_at accounts i h)) + sum_by f (segments a.leases) ≡ sum_by f (segments_of_accounts accounts) + sum_by f (segments (h a).leases)
 leased_changed f [] i a h at = absurd (cc)
 leased_changed f (b ∷ accounts) zero a h at =
     let is : b ≡ a = cc in
-    let old : sum_by f (segments_leased (b ∷ accounts)) ≡ sum_by f (segments b.leases) + sum_by f (segments_leased accounts) = sum_by-segments_leased f b accounts in
-    let now : sum_by f (segments_leased (h b ∷ accounts)) ≡ sum_by f (segments (h b).leases) + sum_by f (segments_leased accounts) = sum_by-segments_leased f (h b) accounts in
+    let old : sum_by f (segments_of_accounts (b ∷ accounts)) ≡ sum_by f (segments b.leases) + sum_by f (segments_of_accounts accounts) = sum_by-segments_of_accounts f b accounts in
+    let now : sum_by f (segments_of_accounts (h b ∷ accounts)) ≡ sum_by f (segments (h b).leases) + sum_by f (segments_of_accounts accounts) = sum_by-segments_of_accounts f (h b) accounts in
     let one : sum_by f (segments b.leases) ≡ sum_by f (segments a.leases) = ap (λ (x : Account). sum_by f (segments x.leases)) is in
     let other : sum_by f (segments (h b).leases) ≡ sum_by f (segments (h a).leases) = ap (λ (x : Account). sum_by f (segments (h x).leases)) is in
     omega (arith, old, now, one, other)
 leased_changed f (b ∷ accounts) (suc i) a h at =
-    let rest : sum_by f (segments_leased (update_at accounts i h)) + sum_by f (segments a.leases) ≡ sum_by f (segments_leased accounts) + sum_by f (segments (h a).leases) = leased_changed f accounts i a h at in
-    let old : sum_by f (segments_leased (b ∷ accounts)) ≡ sum_by f (segments b.leases) + sum_by f (segments_leased accounts) = sum_by-segments_leased f b accounts in
-    let now : sum_by f (segments_leased (b ∷ update_at accounts i h)) ≡ sum_by f (segments b.leases) + sum_by f (segments_leased (update_at accounts i h)) = sum_by-segments_leased f b (update_at accounts i h) in
+    let rest : sum_by f (segments_of_accounts (update_at accounts i h)) + sum_by f (segments a.leases) ≡ sum_by f (segments_of_accounts accounts) + sum_by f (segments (h a).leases) = leased_changed f accounts i a h at in
+    let old : sum_by f (segments_of_accounts (b ∷ accounts)) ≡ sum_by f (segments b.leases) + sum_by f (segments_of_accounts accounts) = sum_by-segments_of_accounts f b accounts in
+    let now : sum_by f (segments_of_accounts (b ∷ update_at accounts i h)) ≡ sum_by f (segments b.leases) + sum_by f (segments_of_accounts (update_at accounts i h)) = sum_by-segments_of_accounts f b (update_at accounts i h) in
     omega (arith, rest, old, now)
 
-pub gains_lease : (accounts : List Account) (i : ℕ) (a : Account) (x : Lease) → slice_get accounts i ≡ Some a → Gains (segments_leased accounts) (segments_leased (update_at accounts i (with_leases (λ ls. ls ++ x ∷ [])))) x.segment
+pub gains_lease : (accounts : List Account) (i : ℕ) (a : Account) (x : Lease) → slice_get accounts i ≡ Some a → Gains (segments_of_accounts accounts) (segments_of_accounts (update_at accounts i (with_leases (λ ls. ls ++ x ∷ [])))) x.segment
 gains_lease accounts i a x at f =
-    let change : sum_by f (segments_leased (update_at accounts i (with_leases (λ ls. ls ++ x ∷ [])))) + sum_by f (segments a.leases) ≡ sum_by f (segments_leased accounts) + sum_by f (segments (a.leases ++ x ∷ [])) =
+    let change : sum_by f (segments_of_accounts (update_at accounts i (with_leases (λ ls. ls ++ x ∷ [])))) + sum_by f (segments a.leases) ≡ sum_by f (segments_of_accounts accounts) + sum_by f (segments (a.leases ++ x ∷ [])) =
     leased_changed f accounts i a (with_leases (λ ls. ls ++ x ∷ [])) at in
     let more : sum_by f (segments (a.leases ++ x ∷ [])) ≡ sum_by f (segments a.leases) + f x.segment =
     sum_by-segments f (a.leases ++ x ∷ []) ∙ sum_by_push (λ (l : Lease). f l.segment) a.leases x ∙ ap (λ (n : ℕ). n + f x.segment) (sym (sum_by-segments f a.leases)) in
     omega (arith, change, more)
 
 pub loses_lease : (accounts : List Account) (i k : ℕ) (a : Account) (x : Lease) → slice_get accounts i ≡ Some a → slice_get a.leases k ≡ Some x
-    → Loses (segments_leased accounts) (segments_leased (update_at accounts i (with_leases (λ ls. remove ls k)))) x.segment
+    → Loses (segments_of_accounts accounts) (segments_of_accounts (update_at accounts i (with_leases (λ ls. remove ls k)))) x.segment
 loses_lease accounts i k a x at there f =
-    let change : sum_by f (segments_leased (update_at accounts i (with_leases (λ ls. remove ls k)))) + sum_by f (segments a.leases) ≡ sum_by f (segments_leased accounts) + sum_by f (segments (remove a.leases k)) =
+    let change : sum_by f (segments_of_accounts (update_at accounts i (with_leases (λ ls. remove ls k)))) + sum_by f (segments a.leases) ≡ sum_by f (segments_of_accounts accounts) + sum_by f (segments (remove a.leases k)) =
     leased_changed f accounts i a (with_leases (λ ls. remove ls k)) at in
     let less : sum_by f (segments a.leases) ≡ sum_by f (segments (remove a.leases k)) + f x.segment =
     sum_by-segments f a.leases ∙ sym (sum_by-remove (λ (l : Lease). f l.segment) a.leases k x (slice_get_within a.leases k x there))
@@ -224,7 +224,7 @@ refuses old now id index why k r found fresh told is_kept is_receipt mark after 
       new = fresh;
       receipt = is_receipt ∙ ap (receipt old id) is_kept;
       entry = settles old now id index (Refuse why) found fresh told tt mark after';
-      leases = ap segments_leased after' ∙ leased_standing old.accounts index (record { incarnation = id.incarnation; kept = Some (kept_settlement id.number (Refuse why)) });
+      leases = ap segments_of_accounts after' ∙ leased_standing old.accounts index (record { incarnation = id.incarnation; kept = Some (kept_settlement id.number (Refuse why)) });
     }
 
 pub grants : (old now : BookState) (mid : List Account) (id : RequestId) (index : ℕ) (t : Tag) (terms : Terms) (k : Kept) (r : ReceiptState) → IsFound old id.client index
@@ -238,7 +238,7 @@ grants old now mid id index t terms k r found fresh told meets room is_kept is_r
     after ∙ ap (λ (y : Kept). update_at mid index (with_standing (record { incarnation = id.incarnation; kept = Some y }))) is_kept in
     let both : now.accounts ≡ update_at old.accounts index (settled_as id (Grant t terms)) =
     after' ∙ ap (λ (xs : List Account). update_at xs index (with_standing s)) leased_mid ∙ changed_twice old.accounts index (with_leases (λ ls. ls ++ lease_of id t ∷ [])) (with_standing s) in
-    let stands : leased_segments now ≡ segments_leased (update_at old.accounts index (with_leases (λ ls. ls ++ lease_of id t ∷ []))) = ap segments_leased after' ∙ leased_standing mid index s ∙ ap segments_leased leased_mid in
+    let stands : leased_segments now ≡ segments_of_accounts (update_at old.accounts index (with_leases (λ ls. ls ++ lease_of id t ∷ []))) = ap segments_of_accounts after' ∙ leased_standing mid index s ∙ ap segments_of_accounts leased_mid in
     record {
       new = fresh;
       room = room;
@@ -264,7 +264,7 @@ releases old now mid id arena base index at l k r found fresh told in_range firs
     let entered_as : now.accounts ≡ update_at old.accounts index (settled_as id (Return arena base)) =
     both ∙ changed_alike old.accounts index a (λ b. with_standing s (with_leases (λ ls. remove ls at) b)) (settled_as id (Return arena base)) found.at
     (ap (λ (ls : List Lease). with_standing s (with_leases (λ x. ls) a)) (sym first.left)) in
-    let stands : leased_segments now ≡ segments_leased (update_at old.accounts index (with_leases (λ ls. remove ls at))) = ap segments_leased after' ∙ leased_standing mid index s ∙ ap segments_leased taken_mid in
+    let stands : leased_segments now ≡ segments_of_accounts (update_at old.accounts index (with_leases (λ ls. remove ls at))) = ap segments_of_accounts after' ∙ leased_standing mid index s ∙ ap segments_of_accounts taken_mid in
     record {
       granted = l.number;
       new = fresh;
@@ -283,7 +283,7 @@ pub ends_lease : (old now : BookState) (c index at : ℕ) (l : Lease) → IsFoun
 ends_lease old now c index at l found first here mark after = record {
   lease = first.found ∙ here;
   entry = ends old now c l.incarnation l.segment.arena l.segment.holding.range.base index at l (first.found ∙ here) found first mark after;
-  leases = λ f. loses_lease old.accounts index at (account_in c old) l found.at here f ∙ ap (λ (xs : List Account). sum_by f (segments_leased xs) + f l.segment) (sym after);
+  leases = λ f. loses_lease old.accounts index at (account_in c old) l found.at here f ∙ ap (λ (xs : List Account). sum_by f (segments_of_accounts xs) + f l.segment) (sym after);
 }
 
 -- a reply that grants a range, told of the segment with it
@@ -434,5 +434,5 @@ greeted_first before old accounts c i is none client ordinal after had =
     (goes_on (Hello c i) old now enters (subst HasHistory is had), enters)
 
 -- what is leased stays where an incarnation or a reply is written
-pub leased_at : (before old : BookState) (accounts : List Account) (place : ℕ) (s : Standing) → before ≡ old → accounts ≡ update_at before.accounts place (with_standing s) → segments_leased accounts ≡ leased_segments old
-leased_at before old accounts place s is after = ap segments_leased after ∙ leased_standing before.accounts place s ∙ ap leased_segments is
+pub leased_at : (before old : BookState) (accounts : List Account) (place : ℕ) (s : Standing) → before ≡ old → accounts ≡ update_at before.accounts place (with_standing s) → segments_of_accounts accounts ≡ leased_segments old
+leased_at before old accounts place s is after = ap segments_of_accounts after ∙ leased_standing before.accounts place s ∙ ap leased_segments is

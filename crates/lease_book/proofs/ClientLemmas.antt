@@ -11,12 +11,12 @@ use Rattle.lease_book.specs.Receipts.{Kept, IsEarned}
 use Rattle.lease_book.specs.Entry.{Settlement, Grant, Return, Refuse, Entry, Hello, Settled, Swept, subject_of, kept_settlement, kept_reply_of, terms_of}
 use Rattle.lease_book.specs.Account.{Lease, Account, is_lease, without_first, lease_of, granted_request, leases_after}
 use Rattle.lease_book.specs.History.{incarnation, leases_of, clients_of, kept_of, outcome_of, account, IsProper, AreOrderly}
-use Rattle.lease_book.specs.BookState.{BookState, IsHistory, HasHistory, Enters, account_in, clients_in, weight_of_leases, segments, segments_leased, leased_segments}
+use Rattle.lease_book.specs.BookState.{BookState, IsHistory, HasHistory, Enters, account_in, clients_in, weight_of_leases, segments, segments_of_accounts, leased_segments}
 use Rattle.lease_book.specs.ClientLaws.{EnteredChanges, LeasesAreTheClients, IsReplyInRange, IsInBounds, BooksAreInBounds}
 use Rattle.lease_book.specs.declared.books.TheConstants.{MOST_LEASES}
 use Rattle.lease_book.proofs.HistoryLemmas.{has, account_is, account_unknown}
 use Rattle.lease_book.proofs.EntryLemmas.{distinct_clients, settled_others, settled_own, swept_others, swept_own, hello_others, hello_same, hello_above}
-use Rattle.lease_book.proofs.WeightLemmas.{sum_by-segments_leased}
+use Rattle.lease_book.proofs.WeightLemmas.{sum_by-segments_of_accounts}
 use Rattle.lease_book.proofs.NumberLemmas.{last_outcome, outcome_entry}
 use Rattle.lease_book.proofs.EachLemmas.{each_push, all_of_each, each_is}
 use Rattle.lease_book.proofs.LeaseLemmas.{WasGranted, granted}
@@ -139,17 +139,17 @@ clients_are es book h = ap (map (λ (a : Account). a.client)) h.accounts ∙ cli
 clients_apart : (book : BookState) → HasHistory book → IsDistinct nat_eq (clients_in book)
 clients_apart book had = subst (IsDistinct nat_eq) (sym (clients_are had.0 book had.1)) (distinct_clients had.0)
 
-sum_of_clients : (f : Tag → ℕ) (es : List Entry) (cs : List ℕ) → sum_by (λ c. sum_by f (segments (leases_of c es))) cs ≡ sum_by f (segments_leased (map (account es) cs))
+sum_of_clients : (f : Tag → ℕ) (es : List Entry) (cs : List ℕ) → sum_by (λ c. sum_by f (segments (leases_of c es))) cs ≡ sum_by f (segments_of_accounts (map (account es) cs))
 sum_of_clients f es [] = refl
 sum_of_clients f es (c ∷ cs) =
-    omega (arith, sum_of_clients f es cs, sum_by-cons (λ c. sum_by f (segments (leases_of c es))) c cs, sum_by-segments_leased f (account es c) (map (account es) cs))
+    omega (arith, sum_of_clients f es cs, sum_by-cons (λ c. sum_by f (segments (leases_of c es))) c cs, sum_by-segments_of_accounts f (account es c) (map (account es) cs))
 
 leases_of_all : (book : BookState) (f : Tag → ℕ) → HasHistory book → sum_by (weight_of_leases f book) (clients_in book) ≡ sum_by f (leased_segments book)
 leases_of_all book f had =
     let es : List Entry = had.0 in
     ap (sum_by (weight_of_leases f book)) (clients_are es book had.1)
     ∙ (λ j. sum_by (λ c. sum_by f (segments (account_is es book c had.1 j).leases)) (clients_of es))
-    ∙ sum_of_clients f es (clients_of es) ∙ ap (λ (xs : List Account). sum_by f (segments_leased xs)) (sym had.1.accounts)
+    ∙ sum_of_clients f es (clients_of es) ∙ ap (λ (xs : List Account). sum_by f (segments_of_accounts xs)) (sym had.1.accounts)
 
 -- a client that the book doesn't know has no lease
 weighs_nothing : (book : BookState) (f : Tag → ℕ) → HasHistory book → (c : ℕ) → has c (clients_in book) ≡ false → weight_of_leases f book c ≡ 0

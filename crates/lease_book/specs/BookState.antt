@@ -43,12 +43,12 @@ abbrev pub segments : List Lease → List Tag
 segments leases = map (λ l. l.segment) leases
 
 -- the segments of these accounts' leases
-abbrev pub segments_leased : List Account → List Tag
-segments_leased accounts = flat_map (λ a. segments a.leases) accounts
+abbrev pub segments_of_accounts : List Account → List Tag
+segments_of_accounts accounts = flat_map (λ a. segments a.leases) accounts
 
 -- all segments that are leased
 abbrev pub leased_segments : BookState → List Tag
-leased_segments book = segments_leased book.accounts
+leased_segments book = segments_of_accounts book.accounts
 
 -- its clients, in order of first hello
 abbrev pub clients_in : BookState → List ℕ
@@ -60,7 +60,7 @@ weight_of_leases f book c = sum_by f (segments (account_in c book).leases)
 
 -- all segments whose grants no later entry took away
 abbrev pub leased_in : List Entry → List Tag
-leased_in entries = segments_leased (map (account entries) (clients_of entries))
+leased_in entries = segments_of_accounts (map (account entries) (clients_of entries))
 
 -- what a segment counts in an arena
 abbrev pub units_of_arena : ℕ → Tag → ℕ

@@ -11,7 +11,7 @@ use Rattle.lease_terms.specs.declared.values.TheConstants.{LAST_CLIENT}
 
 -- the leases of a client as they are stored: the base of each stands beside it, and none is of an
 -- incarnation before the least
-pub record AreStored (bases : List ℕ) (least : ℕ) (leases : List Lease) : Type 0 where
+pub record AreLeasesStored (bases : List ℕ) (least : ℕ) (leases : List Lease) : Type 0 where
   pub beside : bases ≡ bases_of leases
   pub from_least : All (λ (l : Lease). least ≤ l.incarnation) leases
 

@@ -61,7 +61,7 @@ impl<D: Deed> Model for Accounts<D> {
 impl<D: Deed> Accounts<D> {
     ghost use Rattle.lease_book.specs.Shelf.{account_with, update_at, standing_of, with_standing};
     ghost use Rattle.lease_book.specs.Shelf.{with_leases};
-    ghost use Rattle.lease_book.specs.BookState.{segments_leased, units_of_arena};
+    ghost use Rattle.lease_book.specs.BookState.{segments_of_accounts, units_of_arena};
     ghost use Rattle.lease_book.specs.Reports.{report_of};
 
     pub(crate) fn new(alloc: Global) -> Accounts<D>
@@ -188,8 +188,8 @@ impl<D: Deed> Accounts<D> {
             (λ i. IfSome (slice_get self.old i) (λ a. 0 < length a.leases)) }
         ensures own { IfSome result (λ i. IfSome (slice_get self.old i)
             (λ a. find (λ b. a.client == b.client) self.old ≡ Some a)) }
-        ensures some { IfSome result (λ _. segments_leased self.old ≢ []) }
-        ensures none { IfNone result (segments_leased self.old ≡ []) }
+        ensures some { IfSome result (λ _. segments_of_accounts self.old ≢ []) }
+        ensures none { IfNone result (segments_of_accounts self.old ≡ []) }
     {
         let index = first_leased(&self.leases, self.empty)?;
         self.empty = index;
@@ -221,14 +221,14 @@ impl<D: Deed> Accounts<D> {
 
     /// The units of the arena that are leased.
     pub(crate) fn units(&self, arena: u32) -> u128
-        ensures { result ≡ sum_by (units_of_arena arena) (segments_leased self.now) }
+        ensures { result ≡ sum_by (units_of_arena arena) (segments_of_accounts self.now) }
     {
         units_of(&self.leases, arena)
     }
 
     /// Ends accounts that have no leases.
     pub(crate) fn close(self)
-        requires { segments_leased self ≡ [] }
+        requires { segments_of_accounts self ≡ [] }
     {
         let Accounts {
             clients: _clients,

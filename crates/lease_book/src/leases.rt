@@ -114,13 +114,13 @@ pub(crate) struct Leases<D: Deed> {
 impl<D: Deed> Model for Leases<D> {
     ghost use Rattle.std.specs.Prelude.{List, map, box_value};
     ghost use Rattle.lease_book.specs.Account.{Lease};
-    ghost use Rattle.lease_book.specs.Shelf.{AreStored};
+    ghost use Rattle.lease_book.specs.Shelf.{AreLeasesStored};
 
     ghost Value = { List Lease };
 
     ghost view = { λ l. map box_value l.held.items };
 
-    ghost invariant = { λ l. AreStored l.bases.items l.least (map box_value l.held.items) };
+    ghost invariant = { λ l. AreLeasesStored l.bases.items l.least (map box_value l.held.items) };
 }
 
 impl<D: Deed> Leases<D> {
@@ -186,7 +186,7 @@ impl<D: Deed> Leases<D> {
         self.least < incarnation.get() && any_older(&self.held, incarnation)
     }
 
-    // What no lease's incarnation is below, nor this one: as great as can be.
+    // What no lease's incarnation is below, nor this one.
     fn least_with(&self, incarnation: Ordinal) -> u64
         ensures own { result ≤ incarnation }
         ensures others { All (λ (l : Lease). result ≤ l.incarnation) self.now }

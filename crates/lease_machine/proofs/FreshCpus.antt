@@ -17,7 +17,7 @@ use Rattle.stock_audit.specs.Accounted.{IsOwnIn, IsAccountedFor}
 use Rattle.stock_audit.proofs.LawProofs.{fresh_is_accounted, cpus_keep}
 use Rattle.local_parts.specs.Cpus.{CacheIndexes, IsCpuOf, own_index, own_indexes, row_indexes, indexes_from, new_own}
 use Rattle.lease_proto.specs.Cpus.{IsCpu}
-use Rattle.lease_book.specs.BookState.{leased_segments, segments_leased}
+use Rattle.lease_book.specs.BookState.{leased_segments, segments_of_accounts}
 use Rattle.lease_machine.specs.Picture.{NumberedCpu, Picture, IsPicture, IsShapedIn, is_cpu, caches_of, fresh_cpu, held_outside}
 use Rattle.lease_machine.specs.CpuLaws.{FreshIsPicture, SelectedIsPicture, FreshCpuFits}
 
@@ -194,7 +194,7 @@ selected_is_picture d n is in_range = by (list_any (is_cpu n) d.cpus) refl
 pub fresh_is_picture : FreshIsPicture
 fresh_is_picture tree spaces book is_tree plans accounted history =
     let none : book.accounts ≡ [] = history.accounts in
-    let leases : leased_segments book ≡ [] = ap segments_leased none in
+    let leases : leased_segments book ≡ [] = ap segments_of_accounts none in
     let c : NumberedCpu = fresh_cpu 0 spaces in
     let caches : List OwnCacheState = caches_of c ++ [] in
     let own : All (IsOwnIn spaces) caches = subst (λ (os : List OwnCacheState). All (IsOwnIn spaces) os) (sym (append-nil (caches_of c))) (fresh_own spaces 0 accounted.stock) in

@@ -31,7 +31,7 @@ use Rattle.lease_proto.specs.Frames.{with_line_feed}
 use Rattle.lease_book.specs.Entry.{Hello}
 use Rattle.lease_book.specs.Receipts.{Kept}
 use Rattle.lease_book.specs.Account.{Account}
-use Rattle.lease_book.specs.BookState.{BookState, account_in, account_or_nobody, leased_segments, segments_leased}
+use Rattle.lease_book.specs.BookState.{BookState, account_in, account_or_nobody, leased_segments, segments_of_accounts}
 use Rattle.lease_book.proofs.LawProofs.{entered_changes}
 use Rattle.lease_machine.specs.Picture.{Picture, IsPicture, Finds}
 use Rattle.lease_machine.specs.Moves.{HasBaseUp}
@@ -173,7 +173,7 @@ module _ (start : Picture) (is : IsPicture start) (empty : start.book.accounts �
   none_there c = ap (λ (xs : List Account). account_or_nobody c (find (λ a. c == a.client) xs)) empty
 
   nothing_leased : leased_segments start.book ≡ []
-  nothing_leased = ap segments_leased empty
+  nothing_leased = ap segments_of_accounts empty
 
   -- where nothing is leased, nothing is swept
   no_sweeps : (c : ℕ) (ts : List Tag) (old new : Picture) → leased_segments old.book ≡ [] → Sweeps c ts old new → new ≡ old

@@ -17,7 +17,7 @@ mod refusals;
 mod requests;
 mod values;
 
-pub use names::{ArenaName, LONGEST_NAME, is_name, is_word, is_word_byte, name_law};
+pub use names::{ArenaName, LONGEST_NAME, is_name, is_word_byte, name_law};
 pub use refusals::Refusal;
 pub use requests::RequestId;
 pub use values::{ClientId, LARGEST, LAST_CLIENT, Ordinal, Quantity, range_law};

@@ -71,7 +71,7 @@ pub fn is_name(text: &[u8]) -> bool
 }
 
 /// Whether these bytes are a word: one or more of the letters a to z and the digits.
-pub fn is_word(text: &[u8]) -> bool
+fn is_word(text: &[u8]) -> bool
     ensures { result ≡ spec.is_word text.now }
 {
     for byte in text {

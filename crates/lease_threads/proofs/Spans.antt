@@ -18,7 +18,7 @@ use Rattle.deed_core.specs.Holding.{Holding}
 use Rattle.deed_core.proofs.LawProofs.{pushed}
 use Rattle.arena_tree.specs.Settings.{SetupState, IsSetup}
 use Rattle.arena_tree.specs.declared.trees.TreeArena.{TreeArena}
-use Rattle.locked_parts.specs.News.{NewArenaState, IsMadeAsSet, AreSetUp}
+use Rattle.locked_parts.specs.News.{NewArenaState, IsMadeAsSet, AreMadeAsSet}
 use Rattle.arena_tree.specs.declared.limits.TheConstants.{MOST_SPANS}
 
 rising : (spans : List OwnedSpan) → AllAdjacentBelow (λ x y. x.arena < y.arena) spans (length spans) → OneSpanEach spans
@@ -85,7 +85,7 @@ all_taken setup index count is from all within =
     low left = (let owned = is.owned index nothing left in slice_get_within setup.arenas (slice_index_or setup.spans index nothing).arena owned.0 owned.1.here)
 
 -- one more arena was opened as it is set up
-pub made_more : (arenas : List TreeArena) (made new : List NewArenaState) (o : NewArenaState) (id : ℕ) → length made ≡ id → new ≡ made ++ o ∷ [] → AreSetUp arenas made → IsMadeAsSet arenas id o → AreSetUp arenas new
+pub made_more : (arenas : List TreeArena) (made new : List NewArenaState) (o : NewArenaState) (id : ℕ) → length made ≡ id → new ≡ made ++ o ∷ [] → AreMadeAsSet arenas made → IsMadeAsSet arenas id o → AreMadeAsSet arenas new
 made_more arenas made new o id is more all this = record {
   each = λ k a at. elim (pushed made k o a (subst (λ (l : List NewArenaState). slice_get l k ≡ Some a) more at)) [
     | inl last ↦ subst (λ (n : ℕ). IsMadeAsSet arenas n a) (sym (last.0 ∙ is)) (subst (IsMadeAsSet arenas id) (sym last.1) this)
@@ -93,7 +93,7 @@ made_more arenas made new o id is more all this = record {
   ];
 }
 
-pub none_made : (arenas : List TreeArena) (made : List NewArenaState) → made ≡ [] → AreSetUp arenas made
+pub none_made : (arenas : List TreeArena) (made : List NewArenaState) → made ≡ [] → AreMadeAsSet arenas made
 none_made arenas made none = record {
   each = λ k a at. absurd (let e : None ≡ Some a = ap (λ (l : List NewArenaState). slice_get l k) (sym none) ∙ at in cc);
 }

@@ -16,7 +16,8 @@ use Rattle.quantum_cache.specs.Reaps.{ReapEnd, reap_arena_plan}
 -- some sound answers of the parts, none of them a Stop, lead the list of steps to this end
 abbrev pub EndsSoundly : {A : Type 0} → List Node → Plan A → A → Type 0
 EndsSoundly nodes (Done b) a = b ≡ a
-EndsSoundly nodes (Ask e f) a = (x : AnswerTo e) × AnswersSoundly nodes e x × EndsSoundly nodes (f x) a
+EndsSoundly nodes (Ask e f) a = (x : AnswerTo e) × AnswersSoundly nodes e x
+    × EndsSoundly nodes (f x) a
 
 -- the segment that wasn't placed
 abbrev pub unplaced_hand : EmptyingFault Tag → Option Tag

@@ -6,7 +6,7 @@ ghost use Rattle.std.specs.Prelude.{vec_len, vec_capacity};
 ghost use Rattle.arena_tree.specs.declared.limits.TheConstants.{MOST_ARENAS, MOST_SPANS};
 ghost use Rattle.lease_threads.specs.Openings.{OneSpanEach, IsSystemOf, RefusesSystem, root_of};
 ghost use Rattle.lease_threads.specs.Openings.{roots_of, new_root, AreFrom};
-ghost use Rattle.locked_parts.specs.News.{AreSetUp};
+ghost use Rattle.locked_parts.specs.News.{AreMadeAsSet};
 ghost use Rattle.lease_threads.specs.Replying.{mark_root};
 
 use crate::marked_books::{MARK, MarkedBook};
@@ -88,7 +88,7 @@ fn open_all<N: Name>(
     requires one { OneSpanEach setup.now.spans }
     requires all { (rest.first ≡ 0) × (mark_root < rest.left) }
     ensures count { IfOk result (λ r. vec_len r.0 ≡ length setup.now.arenas) }
-    ensures set_up { IfOk result (λ r. AreSetUp setup.now.arenas r.0.items) }
+    ensures set_up { IfOk result (λ r. AreMadeAsSet setup.now.arenas r.0.items) }
     ensures roots { IfOk result (λ r. roots_of r.0.items ≡ map root_of setup.now.spans) }
 {
     let mut numbers = rest.share(u64::from(MARK))?;
@@ -118,7 +118,7 @@ fn open_each<N: Name>(
     requires room { length setup.now.arenas ≤ vec_capacity made.old }
     requires numbers { (numbers.old.first ≡ 0) × (MOST_ARENAS * MOST_SPANS ≤ numbers.old.left) }
     ensures count { OnOk result (vec_len made.new ≡ length setup.now.arenas) }
-    ensures set_up { OnOk result (AreSetUp setup.now.arenas made.new.items) }
+    ensures set_up { OnOk result (AreMadeAsSet setup.now.arenas made.new.items) }
     ensures roots { OnOk result (roots_of made.new.items ≡ map root_of setup.now.spans) }
 {
     let mut index = 0;
@@ -189,7 +189,7 @@ impl<N: Name> Room<N> {
         book: MarkedBook<N>,
     ) -> System<N>
         requires room { vec_len made ≤ self }
-        requires set_up { AreSetUp tree made.items }
+        requires set_up { AreMadeAsSet tree made.items }
         ensures arenas { result.arenas ≡ tree }
         ensures roots { result.roots ≡ roots_of made.items }
     {

@@ -42,5 +42,5 @@ pub record IsMadeAsSet (arenas : List TreeArena) (id : ℕ) (a : NewArenaState) 
   pub slabs : All (HasSlabsOf arenas id) a.caches
 
 -- and each of these is the one of its index
-pub record AreSetUp (arenas : List TreeArena) (made : List NewArenaState) : Type 0 where
+pub record AreMadeAsSet (arenas : List TreeArena) (made : List NewArenaState) : Type 0 where
   pub each : (k : ℕ) (a : NewArenaState) → slice_get made k ≡ Some a → IsMadeAsSet arenas k a

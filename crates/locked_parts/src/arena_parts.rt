@@ -69,7 +69,7 @@ impl<N: Name> ArenaPart<N> {
             Ok(segment) => Ok(segment),
             Err(ArenaFault::NoFit) => Err(CarveFault::NoFit),
             Err(ArenaFault::NoMemory) => Err(CarveFault::NoMemory),
-            Err(ArenaFault::BadRequest) => Err(CarveFault::NoMemory),
+            Err(ArenaFault::BadRequest) => unreachable!(),
         }
     }
 

@@ -1,5 +1,5 @@
-//! The events of a slab cache under its lock. Each looks whether it is the cache that is meant; what
-//! is put back tells that by itself.
+//! The events of a slab cache under its lock. Each looks whether it is the cache that is meant;
+//! what is put back tells that by itself.
 ghost use Rattle.std.specs.Prelude.{◌≡◌, ◌↔◌, All, IsTrue, false, IfSome, IfOk, IfErr, Ok, Some};
 ghost use Rattle.std.specs.Prelude.{OnErr};
 ghost use Rattle.std.specs.Prelude.{IfNone};

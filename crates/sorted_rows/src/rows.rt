@@ -100,7 +100,7 @@ impl<T: RowEntry> Rows<T> {
     }
 
     /// Goes to where the key belongs. It is for speed alone: the calls that follow near the key
-    /// need no search for its row, nor in the row where they come to its place or to the next.
+    /// need no search for its row, nor in the row where they come to its place or to one beside it.
     pub fn go_to(&mut self, key: u128)
         ensures unchanged { self.new ≡ self.old }
     {

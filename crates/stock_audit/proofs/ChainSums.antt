@@ -15,7 +15,7 @@ use Rattle.stock_audit.specs.Outside.{Outside}
 use Rattle.stock_audit.specs.Audits.{sums_of_arena}
 use Rattle.stock_audit.specs.Accounted.{IsAccountedFor}
 use Rattle.stock_audit.specs.Chains.{AreTops, is_under, is_source, is_child_of, children_of, spans_of_children, sum_but_exported, unit_of_arena}
-use Rattle.stock_audit.specs.Laws.{ChainUnitAddsUp, ChainAddsUp}
+use Rattle.stock_audit.specs.Laws.{UnderTopUnitAddsUp, UnderTopAddsUp}
 use Rattle.stock_audit.proofs.Placing.{audit_adds_up, unit_adds_up}
 use Rattle.stock_audit.proofs.Exporting.{exported_is_children}
 use Rattle.stock_audit.proofs.Climbing.{source_stands}
@@ -143,7 +143,7 @@ module _ (spaces : List SpaceState) (out : Outside) (a : IsAccountedFor spaces o
         root_weighs x at none,
       )
 
-pub chain_unit_adds_up : ChainUnitAddsUp
+pub chain_unit_adds_up : UnderTopUnitAddsUp
 chain_unit_adds_up spaces out a top tops r x at none u =
     (cancels spaces out a top tops r (covers_held u) (λ s. sum_but_exported (unit_of_arena u spaces out s)) each x at none, (unit_adds_up spaces out a r x at u).1)
   where
@@ -155,7 +155,7 @@ chain_unit_adds_up spaces out a top tops r x at none u =
       ap (λ i. sum_by (covers_held u) (spans_of_children i spaces)) (a.parts k s there).id,
     )
 
-pub chain_adds_up : ChainAddsUp
+pub chain_adds_up : UnderTopAddsUp
 chain_adds_up spaces out a top tops r x at none = cancels spaces out a top tops r units_in (λ s. sum_but_exported (sums_of_arena spaces out s)) each x at none
   where
     each : (k : ℕ) (s : SpaceState) → slice_get spaces k ≡ Some s → sum_but_exported (sums_of_arena spaces out s) + sum_by units_in (spans_of_children s.arena.id spaces) ≡ units_held (spans_of s.arena)

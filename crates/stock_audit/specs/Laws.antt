@@ -131,8 +131,8 @@ OutNeverOverlaps = (spaces : List SpaceState) (out : Outside) → IsAccountedFor
 
 -- over a top arena and all that import from it, each unit of the spans at the top is in one home,
 -- and any other in none
-abbrev pub ChainUnitAddsUp : Type 0
-ChainUnitAddsUp = (spaces : List SpaceState) (out : Outside) → IsAccountedFor spaces out
+abbrev pub UnderTopUnitAddsUp : Type 0
+UnderTopUnitAddsUp = (spaces : List SpaceState) (out : Outside) → IsAccountedFor spaces out
     → (top : ℕ → ℕ) → AreTops spaces top → (r : ℕ) (root : SpaceState)
     → slice_get spaces r ≡ Some root → root.source ≡ None → (u : ℕ)
     → (sum_by (weight_where (is_under top r)
@@ -140,8 +140,8 @@ ChainUnitAddsUp = (spaces : List SpaceState) (out : Outside) → IsAccountedFor 
     ≡ covering_held u (spans_of root.arena)) × (covering_held u (spans_of root.arena) ≤ 1)
 
 -- so the sums of all of them, but what they exported, add up to the units of those spans
-abbrev pub ChainAddsUp : Type 0
-ChainAddsUp = (spaces : List SpaceState) (out : Outside) → IsAccountedFor spaces out
+abbrev pub UnderTopAddsUp : Type 0
+UnderTopAddsUp = (spaces : List SpaceState) (out : Outside) → IsAccountedFor spaces out
     → (top : ℕ → ℕ) → AreTops spaces top → (r : ℕ) (root : SpaceState)
     → slice_get spaces r ≡ Some root → root.source ≡ None
     → sum_by (weight_where (is_under top r)

@@ -6,7 +6,7 @@ ghost use Rattle.stock_audit.specs.Laws.{HandStepsKeep, SwapsKeep, PopsKeep, Pus
 ghost use Rattle.stock_audit.specs.Laws.{ChangesKeep, LeasesKeep, ReleasesKeep, CpusKeep};
 ghost use Rattle.stock_audit.specs.Laws.{ChildIsExported, ExportedIsChildren, AllocatedIsOut};
 ghost use Rattle.stock_audit.specs.Laws.{SpansAreOfSource, OutNeverOverlaps};
-ghost use Rattle.stock_audit.specs.Laws.{ChainUnitAddsUp, ChainAddsUp, TopsStand};
+ghost use Rattle.stock_audit.specs.Laws.{UnderTopUnitAddsUp, UnderTopAddsUp, TopsStand};
 ghost use Rattle.stock_audit.specs.Laws.{FreeIsNotOut, ReachableIsNotHeld};
 ghost use Rattle.stock_audit.specs.Laws.{FreeAboveIsFree, GivenWasReachable, GivenFittedIn};
 ghost use Rattle.stock_audit.specs.Laws.{NoStepOffChain, OffChainThen};
@@ -56,8 +56,8 @@ pub fn chain_laws()
 /// arena, and what an arena may serve a request with is nowhere else.
 pub fn chain_sum_laws()
     ensures tops { TopsStand }
-    ensures home { ChainUnitAddsUp }
-    ensures lengths { ChainAddsUp }
+    ensures home { UnderTopUnitAddsUp }
+    ensures lengths { UnderTopAddsUp }
     ensures free { FreeIsNotOut }
     ensures reachable { ReachableIsNotHeld }
 {}

@@ -13,7 +13,7 @@ use Rattle.stock.specs.Endings.{IsReaped, IsReapedCache}
 use Rattle.stock.specs.Setups.{IsSetUpFrom, IsNewCache, plans_for}
 use Rattle.stock.specs.Spaces.{SpaceState}
 use Rattle.stock.specs.OwnCaches.{all_own_rounds}
-use Rattle.lease_book.specs.BookState.{BookState, IsHistory, segments_leased}
+use Rattle.lease_book.specs.BookState.{BookState, IsHistory, segments_of_accounts}
 use Rattle.lease_machine.specs.Picture.{NumberedCpu, Picture, IsPicture, caches_of, fresh_cpu}
 use Rattle.lease_machine.specs.RoomLaws.{NothingIsKept}
 use Rattle.lease_machine.proofs.LawProofs.{fresh_is_picture, fresh_cpu_fits}
@@ -39,7 +39,7 @@ module _ (setup : SetupState) (deeds : List Holding) (spaces : List SpaceState) 
 
     pub begins_unused : NothingIsKept (begun cpus)
     begins_unused = record {
-      leases = ap segments_leased history.accounts;
+      leases = ap segments_of_accounts history.accounts;
       rounds = ap (λ (cs : List NumberedCpu). all_own_rounds (flat_map caches_of cs)) one ∙ ap all_own_rounds (append-nil (caches_of (fresh_cpu 0 spaces))) ∙ fresh_cpu_fits.none spaces 0;
       reaped = all_reaped;
     }

@@ -6,7 +6,7 @@ use Rattle.sorted_rows.specs.Order.{PutsIn, TakesOut}
 use Rattle.tag_arena.specs.declared.entries.IndexEntry.{IndexEntry}
 use Rattle.tag_arena.specs.declared.orders.Order.{Order}
 use Rattle.tag_arena.specs.declared.reaches.Measure.{Measure}
-use Rattle.tag_arena.specs.declared.reaches.Measure.TheVariants.{Length, Reach}
+use Rattle.tag_arena.specs.declared.reaches.Measure.TheVariants.{Minor, Reach}
 use Rattle.tag_arena.specs.declared.orders.Order.TheVariants.{Rising, Sizes, Lists}
 use Rattle.tag_arena.specs.FreeTags.{FreeTag, tag_at}
 use Rattle.tag_arena.specs.Reach.{reach_of}
@@ -18,7 +18,7 @@ rank_of e = e.major * 2 ^ 64 + e.minor
 -- what an entry weighs: the second number of its key, which is its length in the rising order, or
 -- the reach of its range in the order of sizes
 abbrev pub weight_of : Measure → IndexEntry → ℕ
-weight_of Length e = e.minor
+weight_of Minor e = e.minor
 weight_of (Reach g) e = reach_of g (min e.minor (2 ^ 62)) (min (e.major + e.minor) (2 ^ 62))
 
 -- by base, with the length as what an entry weighs; by length, then base; by list, then from the

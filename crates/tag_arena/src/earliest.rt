@@ -43,7 +43,7 @@ fn earliest_behind<D: Deed>(
     ensures unchanged { rising.new ≡ rising.old }
 {
     let mut from = first;
-    while let Some(entry) = rising.first_weighing(Measure::Length, from, 0, units) {
+    while let Some(entry) = rising.first_weighing(Measure::Minor, from, 0, units) {
         let range = slots.tag(entry.slot).range();
         if let Some(base) = probes.least_in(request, quantum, range, start) {
             return Some(Fit { range, base });

@@ -35,7 +35,7 @@ impl RowEntry for IndexEntry {
 
     fn weight(&self, measure: Measure) -> u64 {
         match measure {
-            Measure::Length => self.minor,
+            Measure::Minor => self.minor,
             Measure::Reach(grid) => {
                 // An entry of sizes is of a range, which no bound changes.
                 let end = self.major.saturating_add(self.minor);
@@ -49,6 +49,6 @@ impl RowEntry for IndexEntry {
     }
 
     fn first_measure() -> Measure {
-        Measure::Length
+        Measure::Minor
     }
 }

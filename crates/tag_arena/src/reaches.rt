@@ -84,7 +84,7 @@ impl Grid {
 pub enum Measure {
     /// By the second number of the key: the length, in the rising order. Each row keeps it from the
     /// first on, so that no search of `next` has to weigh all ranges.
-    Length,
+    Minor,
     /// By how many units can stand so in the range, in the order of sizes.
     Reach(Grid),
 }

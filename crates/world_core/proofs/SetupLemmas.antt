@@ -16,7 +16,7 @@ use Rattle.lease_proto.specs.declared.lines.Line.{Line}
 use Rattle.lease_proto.specs.declared.replies.Reply.{Reply}
 use Rattle.lease_book.specs.Account.{Account}
 use Rattle.lease_book.specs.Entry.{Entry}
-use Rattle.lease_book.specs.BookState.{BookState, IsHistory, segments_leased, leased_segments}
+use Rattle.lease_book.specs.BookState.{BookState, IsHistory, segments_of_accounts, leased_segments}
 use Rattle.lease_client.specs.ClientState.{ClientState, silent_client}
 use Rattle.lease_history.specs.Known.{IsKnown}
 use Rattle.lease_history.proofs.LawProofs.{clients_begin_known}
@@ -39,7 +39,7 @@ no_caches = record { owned = refl; order = λ i j cpu o p less mine here yours t
 made : (stock : List SpaceState) (names : List (List ℕ)) (failed : List Bool) (book : BookState) → IsStock stock → Accounts stock [] → length names ≡ length stock → length names ≤ 2 ^ 32 → AreNames names
     → IsHistory [] book → IsWorld (record { stock = stock; names = names; hands = []; tasks = []; failed = failed; owners = []; caches = []; book = book; entries = []; clients = []; requests = []; replies = [] })
 made stock names failed book sound balances named few apart empty = record {
-  parts = subst (λ (accounts : List Account). IsAccountedFor stock (outside (in_hands []) (segments_leased accounts) [])) (sym empty.accounts)
+  parts = subst (λ (accounts : List Account). IsAccountedFor stock (outside (in_hands []) (segments_of_accounts accounts) [])) (sym empty.accounts)
       (fresh_is_accounted stock (record { stock = sound; accounts = balances }));
   named = named;
   few = few;

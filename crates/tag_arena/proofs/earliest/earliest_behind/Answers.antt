@@ -7,7 +7,7 @@ use Rattle.tag_arena.specs.Place.{ServesIn}
 use Rattle.tag_arena.specs.FreeTags.{ranges_by_age}
 use Rattle.tag_arena.specs.Orders.{rank_of, weight_of, entry_of}
 use Rattle.tag_arena.specs.declared.orders.Order.TheVariants.{Rising}
-use Rattle.tag_arena.specs.declared.reaches.Measure.TheVariants.{Length}
+use Rattle.tag_arena.specs.declared.reaches.Measure.TheVariants.{Minor}
 use Rattle.tag_arena.proofs.Listing.{Some-injective}
 use Rattle.tag_arena.proofs.Indexing.{range_is_free}
 use Rattle.tag_arena.proofs.Lasting.{all_ranges}
@@ -26,8 +26,8 @@ tag-requires g c =
     let rises = subst (Rises rank_of) same c.first_weighing.ensures.rises in
     let from : ℕ = c.loop-entry.from in
     let e = c.in-Some.entry in
-    let met = subst (λ l. first_heavy_from rank_of (weight_of Length) (from * 2 ^ 64 + 0) c.args.units l ≡ Some e) same (sym c.first_weighing.ensures.first ∙ c.in-Some.is) in
-    let first = is_heavy rank_of (weight_of Length) (from * 2 ^ 64 + 0) c.args.units items rises e met in
+    let met = subst (λ l. first_heavy_from rank_of (weight_of Minor) (from * 2 ^ 64 + 0) c.args.units l ≡ Some e) same (sym c.first_weighing.ensures.first ∙ c.in-Some.is) in
+    let first = is_heavy rank_of (weight_of Minor) (from * 2 ^ 64 + 0) c.args.units items rises e met in
     let w = m.from e (first.place, first.within, first.here) in
     (w.0, w.1)
 
@@ -42,8 +42,8 @@ returns-in-Some-least_in-clause-least g c =
     let rises = subst (Rises rank_of) same c.first_weighing.ensures.rises in
     let from : ℕ = c.loop-entry.from in
     let e = c.in-Some.entry in
-    let met = subst (λ l. first_heavy_from rank_of (weight_of Length) (from * 2 ^ 64 + 0) c.args.units l ≡ Some e) same (sym c.first_weighing.ensures.first ∙ c.in-Some.is) in
-    let first = is_heavy rank_of (weight_of Length) (from * 2 ^ 64 + 0) c.args.units items rises e met in
+    let met = subst (λ l. first_heavy_from rank_of (weight_of Minor) (from * 2 ^ 64 + 0) c.args.units l ≡ Some e) same (sym c.first_weighing.ensures.first ∙ c.in-Some.is) in
+    let first = is_heavy rank_of (weight_of Minor) (from * 2 ^ 64 + 0) c.args.units items rises e met in
     let w = m.from e (first.place, first.within, first.here) in
     let t = c.tag.result in
     let at = sym c.tag.ensures in
@@ -81,8 +81,8 @@ loop-entry-smaller g c =
     let rises = subst (Rises rank_of) same c.first_weighing.ensures.rises in
     let from : ℕ = c.loop-entry.from in
     let e = c.in-Some.entry in
-    let met = subst (λ l. first_heavy_from rank_of (weight_of Length) (from * 2 ^ 64 + 0) c.args.units l ≡ Some e) same (sym c.first_weighing.ensures.first ∙ c.in-Some.is) in
-    let first = is_heavy rank_of (weight_of Length) (from * 2 ^ 64 + 0) c.args.units items rises e met in
+    let met = subst (λ l. first_heavy_from rank_of (weight_of Minor) (from * 2 ^ 64 + 0) c.args.units l ≡ Some e) same (sym c.first_weighing.ensures.first ∙ c.in-Some.is) in
+    let first = is_heavy rank_of (weight_of Minor) (from * 2 ^ 64 + 0) c.args.units items rises e met in
     let w = m.from e (first.place, first.within, first.here) in
     let t = c.tag.result in
     let at = sym c.tag.ensures in
@@ -97,7 +97,7 @@ loop-entry-smaller g c =
     let rank = ap rank_of is in
     let top = (are e.slot t at).range.below in
     let next : ℕ = (c.base-from.result + 1) * 2 ^ 64 + 0 in
-    heavy_grows rank_of (weight_of Length) (from * 2 ^ 64 + 0) c.args.units items rises e next first (omega (arith, base, rank, top))
+    heavy_grows rank_of (weight_of Minor) (from * 2 ^ 64 + 0) c.args.units items rises e next first (omega (arith, base, rank, top))
 
 pub loop-entry-preserved : goal.loop-entry-preserved
 loop-entry-preserved g c =
@@ -110,8 +110,8 @@ loop-entry-preserved g c =
     let rises = subst (Rises rank_of) same c.first_weighing.ensures.rises in
     let from : ℕ = c.loop-entry.from in
     let e = c.in-Some.entry in
-    let met = subst (λ l. first_heavy_from rank_of (weight_of Length) (from * 2 ^ 64 + 0) c.args.units l ≡ Some e) same (sym c.first_weighing.ensures.first ∙ c.in-Some.is) in
-    let first = is_heavy rank_of (weight_of Length) (from * 2 ^ 64 + 0) c.args.units items rises e met in
+    let met = subst (λ l. first_heavy_from rank_of (weight_of Minor) (from * 2 ^ 64 + 0) c.args.units l ≡ Some e) same (sym c.first_weighing.ensures.first ∙ c.in-Some.is) in
+    let first = is_heavy rank_of (weight_of Minor) (from * 2 ^ 64 + 0) c.args.units items rises e met in
     let w = m.from e (first.place, first.within, first.here) in
     let t = c.tag.result in
     let at = sym c.tag.ensures in
@@ -138,6 +138,6 @@ returns-clause-least g c =
     let units = c.requires.units in
     let same = ap (λ s. s.items) c.loop-entry.invariant.kept in
     let rises = subst (Rises rank_of) same c.first_weighing.ensures.rises in
-    let none = subst (λ l. first_heavy_from rank_of (weight_of Length) (from * 2 ^ 64 + 0) c.args.units l ≡ None) same (sym c.first_weighing.ensures.first ∙ c.in_default.is) in
+    let none = subst (λ l. first_heavy_from rank_of (weight_of Minor) (from * 2 ^ 64 + 0) c.args.units l ≡ None) same (sym c.first_weighing.ensures.first ∙ c.in_default.is) in
     earliest_none (ranges_by_age tags) (all_ranges c.requires.tags.0 tags c.requires.tags.1) c.requires.apart c.args.quantum c.args.request.now c.args.start from c.loop-entry.invariant.below
     (λ r h low. let short = light_behind c.args.units from c.requires.tags.0 items tags c.requires.mirrors rises c.requires.tags.1 none r h low in omega (arith, short, units))
