@@ -1,8 +1,6 @@
 pub mod EachLemmas
 pub mod Pigeons
 pub mod PlaceLemmas
-pub mod BesideLemmas
-pub mod BoxLemmas
 pub mod ShelfLemmas
 pub mod WeightLemmas
 pub mod HistoryLemmas

@@ -1,6 +1,6 @@
 -- What a book has on a client.
 use Rattle.std.specs.Prelude.{ℕ, ◌==◌, ◌&&◌, Bool, nat_lt, if◌then◌else◌, List, [], ◌∷◌, ◌++◌}
-use Rattle.std.specs.Prelude.{map, Option, Some, None}
+use Rattle.std.specs.Prelude.{Option, Some, None}
 use Rattle.deed_core.specs.Tag.{Tag}
 use Rattle.lease_terms.specs.Requests.{RequestId}
 use Rattle.lease_book.specs.Receipts.{Kept}
@@ -27,6 +27,10 @@ number_of (Some k) = k.number
 abbrev pub last_number : Account → ℕ
 last_number a = number_of a.kept
 
+-- whether it is a lease of the incarnation and of this arena
+abbrev pub is_of : ℕ → ℕ → Lease → Bool
+is_of incarnation arena l = (incarnation == l.incarnation) && (arena == l.segment.arena)
+
 -- whether it is a lease of the incarnation with this arena and base
 abbrev pub is_lease : ℕ → ℕ → ℕ → Lease → Bool
 is_lease incarnation arena base l =
@@ -36,10 +40,6 @@ is_lease incarnation arena base l =
 -- whether it is a lease of an incarnation before this one
 abbrev pub is_older : ℕ → Lease → Bool
 is_older incarnation l = nat_lt l.incarnation incarnation
-
--- the base of each lease's segment
-abbrev pub bases_of : List Lease → List ℕ
-bases_of leases = map (λ l. l.segment.holding.range.base) leases
 
 -- the list without the first member that passes the test
 abbrev pub without_first : {X : Type 0} → (X → Bool) → List X → List X

@@ -4,16 +4,14 @@ use Rattle.std.specs.Prelude.{nat_eq, ◌≡◌, ℕ, suc, zero, ◌≤◌, List
 use Rattle.std.specs.Map.{keys_of}
 use Rattle.std.specs.List.{IsDistinct}
 use Rattle.lease_terms.specs.Ranges.{IsClient}
-use Rattle.lease_book.specs.Account.{Lease, Account, bases_of}
+use Rattle.lease_book.specs.Account.{Lease, Account}
 use Rattle.lease_book.specs.declared.accounts.Standing.{Standing}
 use Rattle.lease_book.specs.declared.books.TheConstants.{MOST_LEASES}
 use Rattle.lease_terms.specs.declared.values.TheConstants.{LAST_CLIENT}
 
--- the leases of a client as they are stored: the base of each stands beside it, and none is of an
--- incarnation before the least
-pub record AreLeasesStored (bases : List ℕ) (least : ℕ) (leases : List Lease) : Type 0 where
-  pub beside : bases ≡ bases_of leases
-  pub from_least : All (λ (l : Lease). least ≤ l.incarnation) leases
+-- none of the leases is of an incarnation before the least
+abbrev pub AreFrom : (least : ℕ) → List Lease → Type 0
+AreFrom least leases = All (λ (l : Lease). least ≤ l.incarnation) leases
 
 -- an account, of its parts
 abbrev pub account_with : ℕ → Standing → List Lease → Account

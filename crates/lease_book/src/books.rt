@@ -312,9 +312,17 @@ impl<D: Deed> Book<D> {
     fn seek(&self, id: RequestId) -> Look<D>
         ensures { IsLook self.now (account_in id.client self.now) id result }
     {
-        let Some((_, standing)) = self.account(id.client) else {
-            return Look::Old(Quantity::ZERO);
-        };
+        match self.account(id.client) {
+            Some((_, standing)) => self.look_by(standing, id),
+            None => Look::Old(Quantity::ZERO),
+        }
+    }
+
+    /// The same, by what is kept of the client.
+    fn look_by(&self, standing: Standing, id: RequestId) -> Look<D>
+        requires { standing_of (account_in id.client self.now) ≡ standing }
+        ensures { IsLook self.now (account_in id.client self.now) id result }
+    {
         if id.incarnation.get() != standing.incarnation.get() {
             return Look::Old(standing.incarnation.quantity());
         }
@@ -349,12 +357,12 @@ impl<D: Deed> Book<D> {
         ensures answer { IfErr result (IsAnswer self.now self.now id (λ _. ⊥) ⊥) }
     {
         id.check();
-        match self.seek(id).answer() {
+        let Some((index, standing)) = self.account(id.client) else {
+            return Err(Answer::Old(Quantity::ZERO));
+        };
+        match self.look_by(standing, id).answer() {
             Some(answer) => Err(answer),
-            None => match self.account(id.client) {
-                Some((index, _)) => Ok(index),
-                None => unreachable!(),
-            },
+            None => Ok(index),
         }
     }
 }

@@ -1,10 +1,9 @@
 //! The leases of one client, in order of grant.
 ghost use Rattle.std.specs.Prelude.{◌≡◌, ◌+◌, ◌*◌, ◌^◌, ◌<◌, ◌≤◌, [], ◌∷◌, ◌++◌, length, OnOk};
-ghost use Rattle.std.specs.Prelude.{OnErr, IfErr, Some, slice_get, position, sum_by, All};
-ghost use Rattle.std.specs.Prelude.{map, box_value};
+ghost use Rattle.std.specs.Prelude.{OnErr, IfOk, IfErr, Some, slice_get, position, sum_by, All};
 ghost use Rattle.std.specs.List.{list_any, remove};
 ghost use Rattle.lease_terms.specs.declared.values.TheConstants.{LARGEST};
-ghost use Rattle.lease_book.specs.Account.{Lease, is_lease, is_older, lease_of, bases_of};
+ghost use Rattle.lease_book.specs.Account.{Lease, is_lease, is_of, is_older, lease_of};
 ghost use Rattle.lease_book.specs.Account.{granted_request};
 ghost use Rattle.lease_book.specs.BookState.{units_of_lease};
 ghost use Rattle.lease_book.specs.declared.books.TheConstants.{MOST_LEASES};
@@ -45,12 +44,11 @@ impl<D: Deed> Held<D> {
         }
     }
 
-    fn is_lease(&self, id: RequestId, arena: u32, base: Quantity) -> bool
-        ensures { result ≡ is_lease id.incarnation arena base self.now }
+    /// Whether it is of the request's incarnation and of this arena.
+    fn is_of(&self, id: RequestId, arena: u32) -> bool
+        ensures { result ≡ is_of id.incarnation arena self.now }
     {
-        id.incarnation.get() == self.incarnation.get()
-            && arena == self.segment.arena()
-            && base.get() == self.segment.range().base()
+        id.incarnation.get() == self.incarnation.get() && arena == self.segment.arena()
     }
 
     fn is_older(&self, incarnation: Ordinal) -> bool
@@ -100,27 +98,83 @@ impl<D: Deed> Held<D> {
     }
 }
 
-/// The leases of one client, and beside them the base of each. A search reads the bases, which lie
-/// closer together, and looks at a lease only where its base is the one that is asked for. Each
-/// lease lies in a box, so that those after one that is taken out move down by a few bytes each.
-/// No lease is of an incarnation before `least`: so whether one is older needs no search while the
-/// client goes on in one incarnation.
+/// A lease in a box, so that in a list those after one that is taken out move down by a few bytes
+/// each. Beside the box stands the base: a search for a lease reads the bases, which lie close
+/// together, and looks into a box only where its base is the one that is asked for.
+struct BoxedLease<D: Deed> {
+    base: u64,
+    held: Box<Held<D>>,
+}
+
+impl<D: Deed> Model for BoxedLease<D> {
+    ghost use Rattle.std.specs.Prelude.{◌≡◌, box_value};
+    ghost use Rattle.lease_book.specs.Account.{Lease};
+
+    ghost Value = { Lease };
+
+    ghost view = { λ b. box_value b.held };
+
+    ghost invariant = { λ b. b.base ≡ (box_value b.held).segment.holding.range.base };
+}
+
+impl<D: Deed> BoxedLease<D> {
+    /// `Err` is out of memory.
+    fn new(alloc: Global, held: Held<D>) -> Result<BoxedLease<D>, Segment<D>>
+        ensures value { IfOk result (λ boxed. boxed ≡ held) }
+        ensures handed_back { IfErr result (λ s. s ≡ held.segment) }
+    {
+        let base = held.segment.range().base();
+        match Box::new(alloc, held) {
+            Ok(held) => Ok(BoxedLease { base, held }),
+            Err(failed) => Err(failed.value.into_segment()),
+        }
+    }
+
+    fn is_lease(&self, id: RequestId, arena: u32, base: Quantity) -> bool
+        ensures { result ≡ is_lease id.incarnation arena base self.now }
+    {
+        self.base == base.get() && self.held.is_of(id, arena)
+    }
+
+    fn is_older(&self, incarnation: Ordinal) -> bool
+        ensures { result ≡ is_older incarnation self.now }
+    {
+        self.held.is_older(incarnation)
+    }
+
+    fn units(&self, arena: u32) -> u64
+        ensures value { result ≡ units_of_lease arena self.now }
+        ensures bound { result ≤ LARGEST }
+    {
+        self.held.units(arena)
+    }
+
+    /// The lease out of its box.
+    fn into_held(self) -> Held<D>
+        ensures { result ≡ self }
+    {
+        let BoxedLease { base: _, held } = self;
+        Box::into_inner(held)
+    }
+}
+
+/// The leases of one client. None is of an incarnation before `least`: so whether one is older
+/// needs no search while the client goes on in one incarnation.
 pub(crate) struct Leases<D: Deed> {
-    held: Vec<Box<Held<D>>>,
-    bases: Vec<u64>,
+    held: Vec<BoxedLease<D>>,
     least: u64,
 }
 
 impl<D: Deed> Model for Leases<D> {
-    ghost use Rattle.std.specs.Prelude.{List, map, box_value};
+    ghost use Rattle.std.specs.Prelude.{List};
     ghost use Rattle.lease_book.specs.Account.{Lease};
-    ghost use Rattle.lease_book.specs.Shelf.{AreLeasesStored};
+    ghost use Rattle.lease_book.specs.Shelf.{AreFrom};
 
     ghost Value = { List Lease };
 
-    ghost view = { λ l. map box_value l.held.items };
+    ghost view = { λ l. l.held.items };
 
-    ghost invariant = { λ l. AreLeasesStored l.bases.items l.least (map box_value l.held.items) };
+    ghost invariant = { λ l. AreFrom l.least l.held.items };
 }
 
 impl<D: Deed> Leases<D> {
@@ -129,7 +183,6 @@ impl<D: Deed> Leases<D> {
     {
         Leases {
             held: Vec::new(alloc),
-            bases: Vec::new(alloc),
             least: 0,
         }
     }
@@ -146,30 +199,21 @@ impl<D: Deed> Leases<D> {
         ensures unchanged { OnErr result (self.new ≡ self.old) }
         ensures handed_back { IfErr result (λ s. s ≡ held.segment) }
     {
-        let Ok(()) = self.bases.reserve(1) else {
-            return Err(held.into_segment());
-        };
         let Ok(()) = self.held.reserve(1) else {
             return Err(held.into_segment());
         };
-        let base = held.segment.range().base();
         let least = self.least_with(held.incarnation);
-        match Box::new(*self.held.allocator(), held) {
-            Ok(boxed) => {
-                self.bases.push_reserved(base);
-                self.held.push_reserved(boxed);
-                self.least = least;
-                Ok(())
-            }
-            Err(failed) => Err(failed.value.into_segment()),
-        }
+        let boxed = BoxedLease::new(*self.held.allocator(), held)?;
+        self.held.push_reserved(boxed);
+        self.least = least;
+        Ok(())
     }
 
     /// Where the first lease of the request's incarnation with this arena and base stands.
     pub(crate) fn position(&self, id: RequestId, arena: u32, base: Quantity) -> Option<usize>
         ensures { result ≡ position (is_lease id.incarnation arena base) self.now }
     {
-        first_beside(&self.bases, &self.held, id, arena, base)
+        first_lease(&self.held, id, arena, base)
     }
 
     /// Where the first lease of an incarnation before this one stands.
@@ -206,8 +250,7 @@ impl<D: Deed> Leases<D> {
         ensures lease { slice_get self.old index ≡ Some result }
         ensures rest { self.new ≡ remove self.old index }
     {
-        self.bases.remove(index);
-        Box::into_inner(self.held.remove(index))
+        self.held.remove(index).into_held()
     }
 
     /// The units of the arena that are leased.
@@ -229,42 +272,31 @@ impl<D: Deed> Leases<D> {
     {
         let Leases {
             held,
-            bases: _bases,
             least: _least,
         } = self;
         held.destroy_empty();
     }
 }
 
-/// Where the first lease of the request's incarnation with this arena and base stands, by the bases
-/// of all.
-fn first_beside<D: Deed>(
-    bases: &[u64],
-    held: &[Box<Held<D>>],
+fn first_lease<D: Deed>(
+    held: &[BoxedLease<D>],
     id: RequestId,
     arena: u32,
     base: Quantity,
 ) -> Option<usize>
-    requires { bases.now ≡ bases_of (map box_value held.now) }
-    ensures { result ≡ position (is_lease id.incarnation arena base) (map box_value held.now) }
+    ensures { result ≡ position (is_lease id.incarnation arena base) held.now }
 {
-    let asked = base.get();
-    for (index, at) in bases.iter().enumerate() {
-        if *at == asked && held[index].is_lease(id, arena, base) {
-            return Some(index);
-        }
-    }
-    None
+    held.iter().position(|one| one.is_lease(id, arena, base))
 }
 
-fn first_older<D: Deed>(held: &[Box<Held<D>>], incarnation: Ordinal) -> Option<usize>
-    ensures { result ≡ position (λ one. is_older incarnation (box_value one)) held.now }
+fn first_older<D: Deed>(held: &[BoxedLease<D>], incarnation: Ordinal) -> Option<usize>
+    ensures { result ≡ position (is_older incarnation) held.now }
 {
     held.iter().position(|one| one.is_older(incarnation))
 }
 
-fn any_older<D: Deed>(held: &[Box<Held<D>>], incarnation: Ordinal) -> bool
-    ensures { result ≡ list_any (λ one. is_older incarnation (box_value one)) held.now }
+fn any_older<D: Deed>(held: &[BoxedLease<D>], incarnation: Ordinal) -> bool
+    ensures { result ≡ list_any (is_older incarnation) held.now }
 {
     held.iter().any(|one| one.is_older(incarnation))
 }

@@ -1,11 +1,9 @@
 -- Which bytes are served.
-use Rattle.std.proofs.Common.{◌≡◌, ℕ, ◌≤◌, ◌+◌, true, false, List, [], ◌∷◌, length, Some, Result, Ok, refl, sym, ◌∙◌, ap, subst, inl, inr, codes, decimal, arith}
+use Rattle.std.proofs.Common.{◌≡◌, ℕ, ◌≤◌, true, false, List, [], ◌∷◌, length, Ok, refl, sym, ◌∙◌, ap, subst, inl, inr, codes, decimal, arith}
 use Rattle.std.proofs.lemmas.List.{length-append}
 use Rattle.std.proofs.lemmas.Bool.{cases_Bool, and_parts, and_from, le-leb, le-ltb}
 use Rattle.std.specs.List.{join_with_byte, list_all}
-use Rattle.lease_terms.specs.declared.names.TheConstants.{LONGEST_NAME}
-use Rattle.lease_terms.specs.Names.{is_word, is_name}
-use Rattle.lease_proto.specs.declared.faults.LineFault.{LineFault}
+use Rattle.lease_terms.specs.Names.{is_word}
 use Rattle.lease_proto.specs.declared.limits.TheConstants.{LONGEST_LINE, LAST_CPU}
 use Rattle.lease_proto.specs.declared.lines.Line.{Line}
 use Rattle.lease_proto.specs.declared.lines.Line.TheVariants.{Hello, Request}
@@ -19,7 +17,7 @@ use Rattle.lease_proto.specs.Words.{number_in, is_sentence}
 use Rattle.lease_proto.specs.Cpus.{IsCpu, cpu_in}
 use Rattle.lease_proto.specs.Values.{◌>>=◌, words_of}
 use Rattle.lease_proto.specs.Grammar.{end_at, line_of, line_in, line_of_first}
-use Rattle.lease_proto.specs.Texts.{first_word, sentence, spaced_text}
+use Rattle.lease_proto.specs.Texts.{first_word, sentence}
 use Rattle.lease_proto.specs.Operators.{cpu_line_in, size_in, size_word, resize_in, alone_in, operator_in, is_operator_word, operator_word, operator_words, operator_text, IsOperator, served_of, served_in, ClientsAreServed, OperatorsAreServed}
 use Rattle.lease_proto.proofs.WordLemmas.{numbers}
 use Rattle.lease_proto.proofs.ReadLemmas.{step, told, named, number_within_says, word_step, end_step, name_step, words_says, join_with_byte-sentence}

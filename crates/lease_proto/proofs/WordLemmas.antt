@@ -1,13 +1,16 @@
 -- Lemmas on words and numbers.
-use Rattle.std.proofs.Common.{◌^◌, ◌≡◌, ◌≢◌, ◌==◌, ℕ, ◌≤◌, ◌<◌, ◌+◌, ◌-◌, ◌*◌, true, false, cond, List, [], ◌∷◌, ◌++◌, length, take, drop, get_or, Some, None, refl, sym, ◌∙◌, ap, arith, zero, suc, inl, inr, take-append-drop, decimal, rules, nat_le}
+use Rattle.std.proofs.Common.{◌^◌, ◌≡◌, ◌≢◌, ◌==◌, ℕ, ◌≤◌, ◌<◌, ◌+◌, ◌-◌, ◌*◌, Bool, true, false, cond, nat_lt, position, List, [], ◌∷◌, ◌++◌, length, take, drop, get_or, Some, None, refl, sym, ◌∙◌, ap, arith, zero, suc, inl, inr, take-append-drop, decimal, rules, nat_le}
 use Rattle.std.proofs.lemmas.List.{drop_more, take_rest, length-take, get_or-take}
-use Rattle.std.proofs.lemmas.Bool.{lt-leb, le-leb, leb-true, ne_eqb, eq-eqb, cases_Bool, and_parts, cases_eq, and_from}
+use Rattle.std.proofs.lemmas.Bool.{lt-leb, le-leb, leb-true, ne_eqb, eq-eqb, cases_Bool, and_parts, cases_eq, and_from, eqb-true, ltb-false}
 use Rattle.std.proofs.lemmas.List.Elements.{All-from_recursion}
 use Rattle.std.proofs.lemmas.List.Splits.{slice_split_at, slice_split_none}
 use Rattle.std.specs.List.{AllByRecursion}
 use Rattle.std.specs.Char.{is_ascii_digit}
 use Rattle.std.specs.Str.{all_ascii_digits}
 use Rattle.std.proofs.lemmas.Str.Parse.{IsNumeralModel, numerals_by_fold}
+use Rattle.std.specs.List.{position_or_len}
+use Rattle.std.proofs.lemmas.List.Quantifiers.{position-Some}
+use Rattle.std.proofs.lemmas.List.Sums.{fails_before_first}
 use Rattle.std.proofs.lemmas.Fmt.{decimal-digits_value, digits_decimal, digits_value-decimal, decimal_nonempty, first_decimal, decimal_digit}
 use Rattle.lease_terms.specs.declared.values.TheConstants.{LARGEST}
 use Rattle.lease_proto.specs.Words.{digits_from, number_in, parts_of, NumbersAreDecimal}
@@ -25,6 +28,26 @@ digits_over n (b ∷ bs) over =
 spaceless : (xs : List ℕ) → ((k : ℕ) → k < length xs → get_or xs k 0 ≢ 32) → AllByRecursion (λ x. (x == 32) ≡ false) xs
 spaceless [] none = tt
 spaceless (x ∷ xs) none = (ne_eqb x 32 (none 0 (omega arith)), spaceless xs (λ k below. none (suc k) (omega arith)))
+
+-- what is no space by a test
+no_space : (xs : List ℕ) (k : ℕ) → (get_or xs k 0 == 32) ≡ false → get_or xs k 0 ≢ 32
+no_space xs k fails is = absurd (cc (sym fails ∙ eq-eqb _ _ is))
+
+-- what a search for the first space says of the line
+pub space_there : (line : List ℕ) (i : ℕ) → position (λ b. b == 32) line ≡ Some i
+    → (i < length line) × (get_or line i 0 ≡ 32) × ((k : ℕ) → k < i → get_or line k 0 ≢ 32)
+space_there line i found =
+    let is = position-Some (λ b. b == 32) line i 0 found in
+    (is.0, eqb-true _ _ is.1, λ k below. no_space line k (is.2 k below))
+
+pub space_nowhere : (line : List ℕ) → position (λ b. b == 32) line ≡ None → (k : ℕ) → k < length line → get_or line k 0 ≢ 32
+space_nowhere line none k within =
+    let past : length line ≤ position_or_len (λ b. b == 32) line = by (nat_lt (position_or_len (λ b. b == 32) line) (length line)) refl none in
+    no_space line k (fails_before_first (λ b. b == 32) line k 0 (omega (arith, past, within)))
+  where
+    by : (t : Bool) → nat_lt (position_or_len (λ b. b == 32) line) (length line) ≡ t → cond t (Some (position_or_len (λ b. b == 32) line)) None ≡ None → length line ≤ position_or_len (λ b. b == 32) line
+    by true less at = absurd (cc)
+    by false less at = ltb-false _ _ less
 
 -- a line with no space is one part
 pub parts_of-one : (line : List ℕ) → ((k : ℕ) → k < length line → get_or line k 0 ≢ 32) → parts_of line ≡ line ∷ []

@@ -1,5 +1,6 @@
 //! Words, and lines as words with one space between them.
-ghost use Rattle.std.specs.Prelude.{◌≡◌, ℕ, List, [], ◌∷◌, Ok, Err, MatchOption, MatchResult};
+ghost use Rattle.std.specs.Prelude.{◌≡◌, ◌==◌, ℕ, List, [], ◌∷◌, Ok, Err, MatchOption, MatchResult};
+ghost use Rattle.std.specs.Prelude.{position};
 ghost use Rattle.lease_proto.specs.Grammar.{word_at, end_at};
 ghost use Rattle.lease_proto.specs.Values.{name_in};
 ghost use Rattle.lease_proto.specs.Words.{words_left, words_behind, parts_of};
@@ -7,7 +8,6 @@ ghost use Rattle.lease_proto.specs.Words as spec;
 
 use crate::faults::LineFault;
 use lease_terms::{ArenaName, is_word_byte};
-use memchr::memchr;
 use std::marker::Model;
 
 /// The name that a word is, or `BadLine` where it is none.
@@ -39,7 +39,7 @@ impl<'a> Words<'a> {
     pub(crate) fn new(line: &'a [u8]) -> Self
         ensures { result ≡ parts_of line.now }
     {
-        match memchr(b' ', line) {
+        match first_space(line) {
             Some(i) => Words {
                 word: Some(&line[..i]),
                 rest: Some(&line[i + 1..]),
@@ -112,6 +112,13 @@ impl<'a> Words<'a> {
             None => Ok(()),
         }
     }
+}
+
+/// Where the first space stands. Words are short, so that a byte after the other is looked at.
+fn first_space(line: &[u8]) -> Option<usize>
+    ensures { result ≡ position (λ byte. byte == 32) line.now }
+{
+    line.iter().position(|byte| *byte == b' ')
 }
 
 /// Whether a line is words with one space between them. It looks at its bytes alone: the words are

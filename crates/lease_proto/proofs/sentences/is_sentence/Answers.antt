@@ -1,4 +1,4 @@
-use Rattle.std.proofs.Common.{Bool, ◌≡◌, ◌+◌, ◌∙◌, sym, drop, subst, arith}
+use Rattle.std.proofs.Common.{Bool, ◌≡◌, ◌∙◌, sym, drop, subst, arith}
 use Rattle.lease_proto.specs.Words.{is_sentence}
 use Rattle.lease_proto.proofs.SentenceLemmas.{goes_on, sentence_begun, goes_ended, past_byte, past_space, no_word_begun, no_space_behind}
 use Rattle.lease_proto.proofs.sentences.is_sentence.Goals as goal

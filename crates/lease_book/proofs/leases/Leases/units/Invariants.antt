@@ -1,11 +1,10 @@
 use Rattle.std.proofs.Common.{◌≡◌, ◌*◌, ◌≤◌, sum_by, take}
-use Rattle.std.specs.Box.{box_value}
 use Rattle.lease_terms.specs.declared.values.TheConstants.{LARGEST}
 use Rattle.lease_book.specs.BookState.{units_of_lease}
 use Rattle.lease_book.proofs.leases.Leases.units.Given as goal
 
 abbrev pub invariant-loop-held : goal.invariant-loop-held
 invariant-loop-held g l = record {
-  total : l.units ≡ sum_by (λ held. units_of_lease l.arena (box_value held)) (take l.held-index l.held-items);
+  total : l.units ≡ sum_by (units_of_lease l.arena) (take l.held-index l.held-items);
   small : l.units ≤ l.held-index * LARGEST;
 }
